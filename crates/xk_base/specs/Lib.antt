@@ -1,0 +1,4 @@
+pub mod Access
+pub mod Frames
+pub mod ProgramFile
+pub mod Words

@@ -1,0 +1,95 @@
+//! Kinds of access to memory, what a page allows, and why an instruction can't go on.
+ghost use Rattle.std.specs.Prelude.{◌≡◌};
+ghost use Rattle.xk_base.specs.Access.{IsPerm, code_of};
+
+use std::marker::Model;
+
+/// What an instruction does at an address.
+#[derive(Clone, Copy, Debug, PartialEq, Eq)]
+pub enum Access {
+    Fetch,
+    Load,
+    Store,
+}
+
+/// The rights R, W, X and U, each given or not.
+#[derive(Clone, Copy, Debug, PartialEq, Eq)]
+pub struct Rights {
+    pub read: bool,
+    pub write: bool,
+    pub execute: bool,
+    /// Whether user code has the other three.
+    pub user: bool,
+}
+
+/// The rights of a page: R or X is among them, and W only with R
+/// (RISC-V Privileged ISA, Sv39: the other combinations name no leaf, or are reserved).
+#[derive(Clone, Copy, Debug, PartialEq, Eq)]
+pub struct Perm {
+    rights: Rights,
+}
+
+impl Model for Perm {
+    ghost use Rattle.xk_base.specs.declared.access.Rights.{Rights};
+
+    ghost Value = { Rights };
+
+    ghost use Rattle.xk_base.specs.Access.{IsPerm};
+
+    ghost view = { λ p. p.rights };
+
+    ghost invariant = { λ p. IsPerm p.rights };
+
+    ghost inverse = { λ r. record { rights = r } };
+}
+
+impl Perm {
+    /// A page's rights.
+    pub fn new(rights: Rights) -> Perm
+        requires { IsPerm rights }
+        ensures { result ≡ rights }
+    {
+        Perm { rights }
+    }
+
+    /// Each of the rights.
+    pub fn rights(self) -> Rights
+        ensures value { result ≡ self }
+        ensures sound { IsPerm self }
+    {
+        self.rights
+    }
+}
+
+/// Why an instruction can't go on (RISC-V Privileged ISA, "Supervisor Cause Register").
+///
+/// An environment call from user mode, cause 8, is no fault and isn't among them.
+#[derive(Clone, Copy, Debug, PartialEq, Eq)]
+pub enum Cause {
+    TargetMisaligned,
+    IllegalInstruction,
+    Breakpoint,
+    LoadMisaligned,
+    StoreMisaligned,
+    FetchPageFault,
+    LoadPageFault,
+    StorePageFault,
+}
+
+impl Cause {
+    /// The cause's number in the `scause` register.
+    pub fn code(self) -> u8
+        ensures { result ≡ code_of self }
+    {
+        match self {
+            Cause::TargetMisaligned => 0,
+            Cause::IllegalInstruction => 2,
+            Cause::Breakpoint => 3,
+            Cause::LoadMisaligned => 4,
+            Cause::StoreMisaligned => 6,
+            Cause::FetchPageFault => 12,
+            Cause::LoadPageFault => 13,
+            Cause::StorePageFault => 15,
+        }
+    }
+}
