@@ -1,0 +1,4 @@
+pub mod Fitting
+pub mod Flags
+pub mod Numbers
+pub mod Walks
