@@ -1,0 +1,5 @@
+pub mod Layout
+pub mod Table
+pub mod Memory
+pub mod Registers
+pub mod Step

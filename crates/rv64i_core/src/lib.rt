@@ -1,0 +1,32 @@
+//! The instructions of RV64I: their words, the registers, and what an instruction does over any memory.
+//!
+//! The base set alone, as the RISC-V Unprivileged ISA has it (chapters "RV32I Base Integer Instruction Set"
+//! and "RV64I Base Integer Instruction Set"). [`decode`] and [`encode`] go between words and [`Instr`],
+//! [`execute`] makes one instruction over a [`UserMemory`], and [`FlatMemory`] is the plainest of those.
+//! What an instruction means is written in `specs/`: the fields of a word in `Layout`, the table of
+//! instructions in `Table`, memory in `Memory`, registers in `Registers`, and the function `instr` in `Step`.
+#![tactic(auto)]
+
+mod access_width;
+mod decoding;
+mod encoding;
+mod execution;
+mod flat_memory;
+mod instruction;
+mod layout;
+mod operands;
+mod registers;
+#[cfg(test)]
+mod tests;
+mod user_memory;
+mod values;
+
+pub use access_width::Width;
+pub use decoding::decode;
+pub use encoding::encode;
+pub use execution::{Stop, execute};
+pub use flat_memory::FlatMemory;
+pub use instruction::{BranchOp, ImmOp, Instr, LoadOp, RegOp, ShiftOp, StoreOp, WordOp};
+pub use operands::{Imm12, Imm20, Shift5, Shift6};
+pub use registers::Regs;
+pub use user_memory::UserMemory;
