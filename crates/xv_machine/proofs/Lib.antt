@@ -1,0 +1,3 @@
+pub mod Boot
+pub mod FlatBytes
+pub mod Steps

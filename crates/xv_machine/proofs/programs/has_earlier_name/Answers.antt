@@ -1,0 +1,15 @@
+use Rattle.std.proofs.Common.{◌≡◌, ◌∙◌, true, false, sym, ap, rules}
+use Rattle.std.specs.Prelude.{is_some}
+use Rattle.xk_base.proofs.Least.{least_below-zero, least_below-next, least_below-found}
+use Rattle.xv_machine.specs.Programs.{same_name}
+use Rattle.xv_machine.proofs.programs.has_earlier_name.Goals as goal
+
+pub loop-k-init : goal.loop-k-init
+loop-k-init c = least_below-zero (same_name c.args.programs.now c.args.i)
+
+pub returns-then-have_one_name : goal.returns-then-have_one_name
+returns-then-have_one_name c =
+    sym (ap is_some (least_below-found _ _ _ c.loop-k.invariant (sym c.have_one_name.ensures ∙ c.if-have_one_name.true) c.loop-k-test.true))
+
+pub loop-k-preserved : goal.loop-k-preserved
+loop-k-preserved c = least_below-next _ _ c.loop-k.invariant (sym c.have_one_name.ensures ∙ c.if-have_one_name.false)

@@ -1,0 +1,10 @@
+pub mod Calls
+pub mod First
+pub mod FlatProcess
+pub mod Machine
+pub mod Own
+pub mod Programs
+pub mod Run
+pub mod State
+pub mod Step
+pub mod View

@@ -1,0 +1,352 @@
+//! Small programs, event by event, and programs that a machine refuses.
+use crate::{Config, Event, Machine, Outcome};
+use std::alloc::{AllocError, Global};
+use std::process::Abort;
+use std::test::Fail;
+use xk_base::{BootError, Cause, ExecError, Pid, Program};
+
+const SMALL: Config = Config {
+    frames: 16,
+    trace: 0,
+};
+
+// The numbers of a program header, and the instructions behind it.
+#[derive(Clone, Copy)]
+struct Image<'a> {
+    phnum: u16,
+    vaddr: u64,
+    memsz: u64,
+    entry: u64,
+    words: &'a [u32],
+}
+
+// An ELF file of one segment.
+fn file_of(alloc: Global, image: &Image<'_>) -> Result<Vec<u8>, AllocError> {
+    let filesz = image.words.len() as u64 * 4;
+    let mut file = Vec::new(alloc);
+    file.extend_from_slice(&[0x7F, 0x45, 0x4C, 0x46, 2, 1, 1, 0, 0, 0, 0, 0, 0, 0, 0, 0])?;
+    file.extend_from_slice(&[2, 0, 243, 0, 1, 0, 0, 0])?;
+    file.extend_from_slice(&image.entry.to_le_bytes())?;
+    file.extend_from_slice(&64u64.to_le_bytes())?;
+    file.extend_from_slice(&[0; 12])?;
+    file.extend_from_slice(&[64, 0, 56, 0])?;
+    file.extend_from_slice(&image.phnum.to_le_bytes())?;
+    file.extend_from_slice(&[0; 6])?;
+    file.extend_from_slice(&[1, 0, 0, 0, 5, 0, 0, 0])?;
+    for field in [120, image.vaddr, image.vaddr, filesz, image.memsz, 1] {
+        file.extend_from_slice(&field.to_le_bytes())?;
+    }
+    for word in image.words {
+        file.extend_from_slice(&word.to_le_bytes())?;
+    }
+    Ok(file)
+}
+
+// The file of a program that stands at address 0.
+fn plain(alloc: Global, words: &[u32]) -> Result<Vec<u8>, AllocError> {
+    let image = Image {
+        phnum: 1,
+        vaddr: 0,
+        memsz: words.len() as u64 * 4,
+        entry: 0,
+        words,
+    };
+    file_of(alloc, &image)
+}
+
+fn program(alloc: Global, name: &[u8], bytes: Vec<u8>) -> Result<Program, AllocError> {
+    Ok(Program {
+        name: Vec::from_slice(alloc, name)?,
+        bytes,
+    })
+}
+
+// A machine whose `init` is this file.
+fn boot(alloc: Global, file: Vec<u8>) -> Result<Machine, BootError> {
+    let mut programs = Vec::with_capacity(alloc, 1)?;
+    let init = program(alloc, b"init", file)?;
+    programs.push(init).map_err(|_| BootError::Memory)?;
+    Machine::boot(alloc, SMALL, programs)
+}
+
+// Why no machine comes of programs of these names, whose files are empty.
+fn refusal(alloc: Global, config: Config, names: &[&[u8]]) -> Result<Option<BootError>, Fail> {
+    let mut programs = Vec::new(alloc);
+    for name in names {
+        programs.push(program(alloc, name, Vec::new(alloc))?)?;
+    }
+    Ok(Machine::boot(alloc, config, programs).err())
+}
+
+// Sends Run once for each outcome that is wanted.
+fn expect_run(rt: &impl Abort, machine: &mut Machine, wanted: &[Outcome]) {
+    for outcome in wanted {
+        assert_eq!(rt; machine.event(Event::Run), *outcome);
+    }
+}
+
+#[test]
+fn three_instructions_exit(rt: HostRuntime) -> Result<(), Fail> {
+    let pid = Pid::new(1);
+    let other = Pid::new(2);
+    let file = plain(rt.alloc(), &[0x0020_0893, 0x0000_0513, 0x0000_0073])?;
+    let mut machine = boot(rt.alloc(), file)?;
+    assert_eq!(rt; machine.current(), None);
+    assert_eq!(rt; machine.halted(), None);
+    expect_run(
+        &rt,
+        &mut machine,
+        &[Outcome::Turn { pid }, Outcome::Stepped { pid }],
+    );
+    assert_eq!(rt; machine.current(), Some(pid));
+    let Some(regs) = machine.registers(pid) else {
+        return Err(Fail::from("process 1 is live"));
+    };
+    assert_eq!(rt; (regs.pc, regs.x[16], regs.x[9]), (4, 2, 0));
+    assert!(rt; machine.registers(other).is_none());
+    for (address, byte) in [
+        (0, Some(0x93)),
+        (8, Some(0x73)),
+        (12, Some(0)),
+        (65_535, Some(0)),
+        (65_536, None),
+        (u64::MAX, None),
+    ] {
+        assert_eq!(rt; machine.peek(pid, address), byte, "at {address}");
+    }
+    assert_eq!(rt; machine.peek(other, 0), None);
+    expect_run(
+        &rt,
+        &mut machine,
+        &[
+            Outcome::Stepped { pid },
+            Outcome::Exited { pid, status: 0 },
+            Outcome::Halted,
+            Outcome::Halted,
+        ],
+    );
+    assert_eq!(rt; machine.halted(), Some(0));
+    assert_eq!(rt; machine.current(), None);
+    assert!(rt; machine.registers(pid).is_none());
+    assert_eq!(rt; machine.peek(pid, 0), None);
+    Ok(())
+}
+
+#[test]
+fn getpid_then_an_illegal_word(rt: HostRuntime) -> Result<(), Fail> {
+    let pid = Pid::new(1);
+    let mut machine = boot(rt.alloc(), plain(rt.alloc(), &[0x00B0_0893, 0x0000_0073])?)?;
+    expect_run(
+        &rt,
+        &mut machine,
+        &[
+            Outcome::Turn { pid },
+            Outcome::Stepped { pid },
+            Outcome::Called {
+                pid,
+                number: 11,
+                value: 1,
+            },
+            Outcome::Faulted {
+                pid,
+                cause: Cause::IllegalInstruction,
+            },
+            Outcome::Halted,
+        ],
+    );
+    assert_eq!(rt; machine.halted(), Some(-1));
+    Ok(())
+}
+
+#[test]
+fn exit_tells_its_status(rt: HostRuntime) -> Result<(), Fail> {
+    let pid = Pid::new(1);
+    // `li a7, 2`, then `li a0, 7` or `li a0, -1`, then `ecall`.
+    for (word, status) in [(0x0070_0513, 7), (0xFFF0_0513, -1)] {
+        let mut machine = boot(
+            rt.alloc(),
+            plain(rt.alloc(), &[0x0020_0893, word, 0x0000_0073])?,
+        )?;
+        expect_run(
+            &rt,
+            &mut machine,
+            &[
+                Outcome::Turn { pid },
+                Outcome::Stepped { pid },
+                Outcome::Stepped { pid },
+                Outcome::Exited { pid, status },
+            ],
+        );
+        assert_eq!(rt; machine.halted(), Some(status));
+    }
+    Ok(())
+}
+
+#[test]
+fn another_number_answers_minus_one(rt: HostRuntime) -> Result<(), Fail> {
+    let pid = Pid::new(1);
+    // `li a7, 99` or `li a7, -2`, then `ecall`.
+    for (word, number) in [(0x0630_0893, 99), (0xFFE0_0893, -2)] {
+        let mut machine = boot(rt.alloc(), plain(rt.alloc(), &[word, 0x0000_0073])?)?;
+        expect_run(
+            &rt,
+            &mut machine,
+            &[
+                Outcome::Turn { pid },
+                Outcome::Stepped { pid },
+                Outcome::Called {
+                    pid,
+                    number,
+                    value: -1,
+                },
+            ],
+        );
+        let Some(regs) = machine.registers(pid) else {
+            return Err(Fail::from("process 1 is live"));
+        };
+        assert_eq!(rt; (regs.pc, regs.x[9]), (8, u64::MAX));
+    }
+    Ok(())
+}
+
+#[test]
+fn lists_of_programs_are_refused(rt: HostRuntime) -> Result<(), Fail> {
+    let alloc = rt.alloc();
+    for (frames, trace) in [(15, 0), (32_769, 0), (16, 65_537)] {
+        let config = Config { frames, trace };
+        assert_eq!(rt; refusal(alloc, config, &[])?, Some(BootError::BadConfig));
+    }
+    assert_eq!(rt; refusal(alloc, SMALL, &[])?, Some(BootError::NoInit));
+    assert_eq!(rt; refusal(alloc, SMALL, &[b"sh"])?, Some(BootError::NoInit));
+    assert_eq!(rt;
+        refusal(alloc, SMALL, &[b"init", b"init"])?,
+        Some(BootError::BadPrograms(1))
+    );
+    let bad: [&[u8]; 5] = [b"", b"fifteen_letters", b"a/b", b"a\0b", b"console"];
+    for name in bad {
+        assert_eq!(rt;
+            refusal(alloc, SMALL, &[b"sh", name, name])?,
+            Some(BootError::BadPrograms(1))
+        );
+    }
+    assert_eq!(rt;
+        refusal(alloc, SMALL, &[b"fourteen_bytes"])?,
+        Some(BootError::NoInit)
+    );
+    Ok(())
+}
+
+#[test]
+fn program_64_is_one_too_many(rt: HostRuntime) -> Result<(), Fail> {
+    let mut programs = Vec::new(rt.alloc());
+    for i in 0..65u8 {
+        programs.push(program(
+            rt.alloc(),
+            &[b'a' + i % 26, b'a' + i / 26],
+            Vec::new(rt.alloc()),
+        )?)?;
+    }
+    assert_eq!(rt;
+        Machine::boot(rt.alloc(), SMALL, programs).err(),
+        Some(BootError::BadPrograms(64))
+    );
+    Ok(())
+}
+
+#[test]
+fn the_file_of_init_is_refused(rt: HostRuntime) -> Result<(), Fail> {
+    let alloc = rt.alloc();
+    let short = Vec::from_slice(alloc, b"ELF")?;
+    assert_eq!(rt;
+        boot(alloc, short).err(),
+        Some(BootError::Init(ExecError::NotElf))
+    );
+    let long = vec![in alloc; 0u8; 1_048_577]?;
+    assert_eq!(rt; boot(alloc, long).err(), Some(BootError::BadPrograms(0)));
+    for (phnum, vaddr, memsz, error) in [
+        (1, 0, 65_536, None),
+        (1, 61_440, 4096, None),
+        (1, 61_440, 4097, Some(ExecError::NoFrames)),
+        (1, 0, 65_537, Some(ExecError::NoFrames)),
+        (1, 1, 4096, Some(ExecError::BadSegment(0))),
+        (0, 0, 12, Some(ExecError::BadSegment(0))),
+        (2, 0, 12, Some(ExecError::BadSegment(0))),
+    ] {
+        let words = &[0x0020_0893, 0x0000_0513, 0x0000_0073];
+        let file = file_of(
+            alloc,
+            &Image {
+                phnum,
+                vaddr,
+                memsz,
+                entry: 0,
+                words,
+            },
+        )?;
+        assert_eq!(rt;
+            boot(alloc, file).err(),
+            error.map(BootError::Init),
+            "{phnum} {vaddr} {memsz}"
+        );
+    }
+    Ok(())
+}
+
+#[test]
+fn the_entry_loses_its_two_lowest_bits(rt: HostRuntime) -> Result<(), Fail> {
+    let pid = Pid::new(1);
+    for (entry, pc) in [(0, 0), (3, 0), (6, 4), (u64::MAX, u64::MAX - 3)] {
+        let words = &[0x0000_0013, 0x0000_0013];
+        let file = file_of(
+            rt.alloc(),
+            &Image {
+                phnum: 1,
+                vaddr: 0,
+                memsz: 8,
+                entry,
+                words,
+            },
+        )?;
+        let machine = boot(rt.alloc(), file)?;
+        let Some(regs) = machine.registers(pid) else {
+            return Err(Fail::from("process 1 is live"));
+        };
+        assert_eq!(rt; regs.pc, pc);
+        assert!(rt; regs.x == [0; 31]);
+    }
+    Ok(())
+}
+
+#[test]
+fn outcomes_are_lines_of_a_trace(rt: HostRuntime) -> Result<(), Fail> {
+    let pid = Pid::new(1);
+    for (outcome, line) in [
+        (Outcome::Stepped { pid }, "step 1"),
+        (
+            Outcome::Called {
+                pid,
+                number: 99,
+                value: -1,
+            },
+            "call 1 99 -1",
+        ),
+        (Outcome::Exited { pid, status: -7 }, "exit 1 -7"),
+        (
+            Outcome::Faulted {
+                pid,
+                cause: Cause::StorePageFault,
+            },
+            "fault 1 15",
+        ),
+        (
+            Outcome::Turn {
+                pid: Pid::new(2_147_483_647),
+            },
+            "turn 2147483647",
+        ),
+        (Outcome::Halted, "halted"),
+    ] {
+        assert_eq!(rt; format!(in rt.alloc(); "{outcome}")?.as_str(), line);
+    }
+    Ok(())
+}
