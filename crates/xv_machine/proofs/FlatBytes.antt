@@ -5,7 +5,7 @@ use Rattle.std.proofs.lemmas.Bool.{cases_lt}
 use Rattle.std.proofs.lemmas.Bool.Decides.{nat_tests}
 use Rattle.std.proofs.lemmas.Option.{slice_get-get_or, slice_get_cases}
 use Rattle.std.proofs.lemmas.Grind.{common_steps}
-use Rattle.rv64i_core.specs.declared.registers.Regs.{Regs}
+use Rattle.rv64i_core.specs.Registers.{Registers}
 use Rattle.rv64i_core.specs.Memory.{Cell, flat}
 use Rattle.xv_machine.specs.declared.machine.Phase.{Phase}
 use Rattle.xv_machine.specs.declared.machine.Phase.TheVariants.{Ready, Running, Halted}
@@ -42,7 +42,7 @@ live-some true (Halted status) l is = cc
 live-some false phase l is = cc
 
 -- the byte at an address of a live process
-pub byte_of-live : (w : World) (phase : Phase) (regs : Regs) (bytes : List ℕ) (pid address : ℕ) → world_in phase regs bytes ≡ w → is_some (live w.state pid) ≡ true → byte_of w pid address ≡ slice_get bytes address
+pub byte_of-live : (w : World) (phase : Phase) (regs : Registers) (bytes : List ℕ) (pid address : ℕ) → world_in phase regs bytes ≡ w → is_some (live w.state pid) ≡ true → byte_of w pid address ≡ slice_get bytes address
 byte_of-live w phase regs bytes pid address is alive =
     let l : Live = record { regs = regs; bytes = bytes } in
     let Alive : World → Type 0 = λ v. is_some (live v.state pid) ≡ true in

@@ -1,8 +1,7 @@
 -- What a step of process 1 leaves.
 use Rattle.std.proofs.Common.{◌≡◌, ℕ, List, Option, None, Some, Bool, true, false, cond, eqb, refl, sym, ap, subst}
 use Rattle.std.specs.Prelude.{ℤ, pos, negsuc, IsSome, MatchOption}
-use Rattle.rv64i_core.specs.declared.registers.Regs.{Regs}
-use Rattle.rv64i_core.specs.Registers.{reg}
+use Rattle.rv64i_core.specs.Registers.{Registers, reg}
 use Rattle.rv64i_core.specs.Step.{Step, Next, Ecall, Fault, instr}
 use Rattle.xv_machine.specs.declared.event.Outcome.{Outcome}
 use Rattle.xv_machine.specs.declared.machine.Phase.{Phase}
@@ -40,7 +39,7 @@ own-agrees v = after_instruction-agrees v (instr v.regs v.memory)
 no_value : false ≡ true → ⊥
 no_value is = cc
 
-next-is : (answer : Answer) (next : Option View) (regs : Regs) (bytes : List ℕ) → Agree answer next → NextIs next (seen 1 regs bytes) → view (world_in (phase_after (outcome_of 1 answer)) regs bytes).state 1 ≡ next
+next-is : (answer : Answer) (next : Option View) (regs : Registers) (bytes : List ℕ) → Agree answer next → NextIs next (seen 1 regs bytes) → view (world_in (phase_after (outcome_of 1 answer)) regs bytes).state 1 ≡ next
 next-is Stepped None regs bytes some is = absurd (no_value some)
 next-is Stepped (Some v) regs bytes some is = ap Some (sym is)
 next-is (Called number value) None regs bytes some is = absurd (no_value some)
@@ -55,7 +54,7 @@ turns-are (Exited status) = refl
 turns-are (Faulted cause) = refl
 
 -- a step answers and leaves what `own` says
-step_of : (regs : Regs) (bytes : List ℕ) (regs' : Regs) (bytes' : List ℕ) → NextIs (own (seen 1 regs bytes)).next (seen 1 regs' bytes')
+step_of : (regs : Registers) (bytes : List ℕ) (regs' : Registers) (bytes' : List ℕ) → NextIs (own (seen 1 regs bytes)).next (seen 1 regs' bytes')
     → StepOf (world_in Running regs bytes) 1 (outcome_of 1 (own (seen 1 regs bytes)).answer) (world_in (phase_after (outcome_of 1 (own (seen 1 regs bytes)).answer)) regs' bytes')
 step_of regs bytes regs' bytes' is =
     let before = seen 1 regs bytes in
@@ -68,7 +67,7 @@ step_of regs bytes regs' bytes' is =
     }
 
 -- Run, with process 1 current
-pub run_happens : (w : World) (phase : Phase) (pid : ℕ) (regs : Regs) (bytes : List ℕ) (outcome : Outcome) (phase' : Phase) (regs' : Regs) (bytes' : List ℕ)
+pub run_happens : (w : World) (phase : Phase) (pid : ℕ) (regs : Registers) (bytes : List ℕ) (outcome : Outcome) (phase' : Phase) (regs' : Registers) (bytes' : List ℕ)
     → world_in phase regs bytes ≡ w → phase ≡ Running → pid ≡ 1
     → outcome ≡ outcome_of pid (own (seen pid regs bytes)).answer
     → NextIs (own (seen pid regs bytes)).next (seen pid regs' bytes')

@@ -1,6 +1,6 @@
 -- What the fields of a machine stand for.
 use Rattle.std.specs.Prelude.{◌≡◌, ℕ, ◌%◌, List, Option, None, Some, negsuc}
-use Rattle.rv64i_core.specs.declared.registers.Regs.{Regs}
+use Rattle.rv64i_core.specs.Registers.{Registers}
 use Rattle.xv_machine.specs.declared.event.Outcome.{Outcome}
 use Rattle.xv_machine.specs.declared.event.Outcome.TheVariants.{Exited, Faulted}
 use Rattle.xv_machine.specs.declared.machine.Machine.TheInside.{Inside}
@@ -19,15 +19,11 @@ turns_in Ready = record { current = None; halted = None }
 turns_in Running = record { current = Some 1; halted = None }
 turns_in (Halted status) = record { current = None; halted = Some status }
 
-abbrev pub world_in : Phase → Regs → List ℕ → World
+abbrev pub world_in : Phase → Registers → List ℕ → World
 world_in phase regs bytes = record { state = record { init = live_in phase (record { regs = regs; bytes = bytes }) }; turns = turns_in phase }
 
 abbrev pub world_of : Inside → World
 world_of m = world_in m.phase m.regs m.memory
-
--- the pc is a multiple of 4
-abbrev pub IsWhole : Inside → Type 0
-IsWhole m = m.regs.pc % 4 ≡ 0
 
 -- the phase that a step of process 1 leaves
 abbrev pub phase_after : Outcome → Phase

@@ -1,10 +1,10 @@
 -- What a machine stands for: its one process, while that is live, and who runs.
 use Rattle.std.specs.Prelude.{ℕ, ℤ, List, Option}
-use Rattle.rv64i_core.specs.declared.registers.Regs.{Regs}
+use Rattle.rv64i_core.specs.Registers.{Registers}
 
 -- a live process: its registers, and the bytes of its memory from address 0 on, all of which it may read, write and execute
 pub record Live : Type 0 where
-  pub regs : Regs
+  pub regs : Registers
   pub bytes : List ℕ
 
 -- pid 1, while it is live

@@ -13,8 +13,7 @@ pub const FLAT_BYTES: usize = 65_536;
 #[tactic(auto, unfolding(crate::specs::FlatProcess::loaded_flat))]
 pub(crate) fn load(file: &[u8], memory: &mut FlatMemory) -> Result<Regs, ExecError>
     requires { memory.old ≡ replicate FLAT_BYTES 0 }
-    ensures loaded { MatchResult result (λ regs. loaded_flat file.now ≡ Ok (record { regs = regs; bytes = memory.new })) (λ e. loaded_flat file.now ≡ Err e) }
-    ensures aligned { IfOk result (λ regs. regs.pc % 4 ≡ 0) }
+    ensures { MatchResult result (λ regs. loaded_flat file.now ≡ Ok (record { regs = regs; bytes = memory.new })) (λ e. loaded_flat file.now ≡ Err e) }
 {
     let header = read_header(file)?;
     if header.phnum != 1 {

@@ -66,11 +66,9 @@ impl Model for Machine {
 
     ghost Value = { World };
 
-    ghost use Rattle.xv_machine.specs.Machine.{world_of, IsWhole};
+    ghost use Rattle.xv_machine.specs.Machine.{world_of};
 
     ghost view = { world_of };
-
-    ghost invariant = { IsWhole };
 }
 
 impl Machine {

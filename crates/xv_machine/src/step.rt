@@ -1,5 +1,5 @@
 //! One step of a process, on its registers and its memory.
-ghost use Rattle.std.specs.Prelude.{◌≡◌, ◌%◌};
+ghost use Rattle.std.specs.Prelude.{◌≡◌};
 ghost use Rattle.xv_machine.specs.Own.{NextIs};
 ghost use Rattle.xv_machine.specs.Run.{outcome_of};
 ghost use Rattle.xv_machine.specs.Step.{own, past_ecall};
@@ -33,7 +33,6 @@ fn c_int(register: u64) -> i32
 fn call(pid: Pid, regs: &mut Regs, memory: &FlatMemory) -> Outcome
     ensures answer { result ≡ outcome_of pid (perform (c_int (reg regs.old 17)) (seen pid regs.old memory.now)).answer }
     ensures next { NextIs (perform (c_int (reg regs.old 17)) (seen pid regs.old memory.now)).next (seen pid regs.new memory.now) }
-    ensures pc { regs.new.pc ≡ regs.old.pc }
 {
     let number = c_int(regs.read(Reg::new(A7)));
     let value = match number {
@@ -53,15 +52,13 @@ fn call(pid: Pid, regs: &mut Regs, memory: &FlatMemory) -> Outcome
 /// One step of the process.
 #[tactic(auto, unfolding(crate::specs::Step::own))]
 pub(crate) fn step(pid: Pid, regs: &mut Regs, memory: &mut FlatMemory) -> Outcome
-    requires { regs.old.pc % 4 ≡ 0 }
     ensures answer { result ≡ outcome_of pid (own (seen pid regs.old memory.old)).answer }
     ensures next { NextIs (own (seen pid regs.old memory.old)).next (seen pid regs.new memory.new) }
-    ensures aligned { regs.new.pc % 4 ≡ 0 }
 {
     match execute(regs, memory) {
         Stop::Next => Outcome::Stepped { pid },
         Stop::Ecall => {
-            regs.pc = regs.pc.wrapping_add(4);
+            regs.set_pc(regs.pc().wrapping_add(4));
             call(pid, regs, memory)
         }
         Stop::Fault(cause) => Outcome::Faulted { pid, cause },

@@ -1,9 +1,10 @@
 //! Small programs, event by event, and programs that a machine refuses.
 use crate::{Config, Event, Machine, Outcome};
+use rv64i_core::Regs;
 use std::alloc::{AllocError, Global};
 use std::process::Abort;
 use std::test::Fail;
-use xk_base::{BootError, Cause, ExecError, Pid, Program};
+use xk_base::{BootError, Cause, ExecError, Pid, Program, Reg};
 
 const SMALL: Config = Config {
     frames: 16,
@@ -102,7 +103,10 @@ fn three_instructions_exit(rt: HostRuntime) -> Result<(), Fail> {
     let Some(regs) = machine.registers(pid) else {
         return Err(Fail::from("process 1 is live"));
     };
-    assert_eq!(rt; (regs.pc, regs.x[16], regs.x[9]), (4, 2, 0));
+    assert_eq!(rt;
+        (regs.pc(), regs.read(Reg::new(17)), regs.read(Reg::new(10))),
+        (4, 2, 0)
+    );
     assert!(rt; machine.registers(other).is_none());
     for (address, byte) in [
         (0, Some(0x93)),
@@ -204,7 +208,7 @@ fn another_number_answers_minus_one(rt: HostRuntime) -> Result<(), Fail> {
         let Some(regs) = machine.registers(pid) else {
             return Err(Fail::from("process 1 is live"));
         };
-        assert_eq!(rt; (regs.pc, regs.x[9]), (8, u64::MAX));
+        assert_eq!(rt; (regs.pc(), regs.read(Reg::new(10))), (8, u64::MAX));
     }
     Ok(())
 }
@@ -311,8 +315,8 @@ fn the_entry_loses_its_two_lowest_bits(rt: HostRuntime) -> Result<(), Fail> {
         let Some(regs) = machine.registers(pid) else {
             return Err(Fail::from("process 1 is live"));
         };
-        assert_eq!(rt; regs.pc, pc);
-        assert!(rt; regs.x == [0; 31]);
+        assert_eq!(rt; regs, Regs::new(pc / 4 * 4));
+        assert_eq!(rt; regs.pc(), pc);
     }
     Ok(())
 }

@@ -11,7 +11,7 @@ returns-in_err-memory c =
 pub returns-in_err-regs : goal.returns-in_err-regs
 returns-in_err-regs c =
     let p = err_from_is_err_and c.from_residual-in_err-regs.result c.from_residual-in_err-regs.ensures.1 in
-    rw (p.1, p.2, c.in_err-regs.ensures.loaded) (inl refl)
+    rw (p.1, p.2, c.in_err-regs.ensures) (inl refl)
 
 pub returns : goal.returns
-returns c = rw c.in_ok-regs.ensures.loaded (inl refl)
+returns c = rw c.in_ok-regs.ensures (inl refl)
