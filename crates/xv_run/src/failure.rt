@@ -29,7 +29,7 @@ pub enum Failure {
 
 impl Failure {
     /// The status that the process ends with.
-    pub fn status(&self) -> u8 {
+    pub(crate) fn status(&self) -> u8 {
         match self {
             Failure::Words => 1,
             Failure::CannotBeRead(_)

@@ -37,7 +37,7 @@ fn failed(error: &io::Error, path: String) -> Failure {
 }
 
 /// The bytes of a file of the host, of which it reads one more than a program file may have at most.
-pub fn read_program<R: Files + AllocGlobal>(rt: &R, path: String) -> Result<Vec<u8>, Failure> {
+pub(crate) fn read_program<R: Files + AllocGlobal>(rt: &R, path: String) -> Result<Vec<u8>, Failure> {
     let file = match fs::open(rt, path.as_str()) {
         Ok(file) => file,
         Err(error) => return Err(failed(&error, path)),

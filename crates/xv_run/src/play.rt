@@ -23,7 +23,7 @@ fn boot(alloc: Global, file: Vec<u8>) -> Result<Machine, Failure> {
 }
 
 /// Boots a machine from the file, and lets it run until it halts. Each outcome is a line of `out`.
-pub fn play<W: Write>(alloc: Global, file: Vec<u8>, out: &mut W) -> Result<(), Failure> {
+pub(crate) fn play<W: Write>(alloc: Global, file: Vec<u8>, out: &mut W) -> Result<(), Failure> {
     let mut machine = boot(alloc, file)?;
     for _ in 0..u64::MAX {
         let outcome = machine.event(Event::Run);
