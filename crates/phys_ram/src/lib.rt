@@ -1,0 +1,120 @@
+//! RAM: a list of frames of 4,096 bytes.
+//!
+//! Contracts see RAM as the list of its frames, and a frame as the list of its bytes. Each call that
+//! writes changes one frame, or one word of it, and says that all others stay. `Frame` f is the
+//! physical page at [`RAM_BASE`](xk_base::limits::RAM_BASE)` + 4096 * f`.
+#![tactic(auto)]
+
+ghost use Rattle.std.specs.Prelude.{◌≡◌, ◌<◌, length, set, replicate, IfOk, IfErr};
+ghost use Rattle.phys_ram.specs.Ram.{frame_at, word_at, zero_frame, IsFrameCount, IsRefused, WordWritten};
+
+#[cfg(test)]
+mod tests;
+
+use byteorder::{ByteOrder, LittleEndian};
+use std::alloc::Global;
+use std::marker::Model;
+use xk_base::limits::{FRAMES_MAX, FRAMES_MIN};
+use xk_base::{BootError, Frame};
+
+/// The machine's memory.
+#[derive(Drop)]
+pub struct Ram {
+    frames: Vec<[u8; 4096]>,
+}
+
+impl Model for Ram {
+    ghost use Rattle.std.specs.Prelude.{List, ℕ, length};
+    ghost use Rattle.phys_ram.specs.Ram.{IsFrameCount};
+
+    ghost Value = { List (List ℕ) };
+
+    ghost view = { λ r. r.frames.items };
+
+    ghost invariant = { λ r. IsFrameCount (length r.frames.items) };
+}
+
+impl Ram {
+    ghost use Rattle.std.specs.Borrow.{sem};
+    ghost use Rattle.phys_ram.specs.Lending.{LendsFrame};
+
+    /// RAM of `n` frames of zeros. All of it is asked of the host at once.
+    ///
+    /// Errors: `BadConfig` exactly where `n` is not in
+    /// [`FRAMES_MIN`](xk_base::limits::FRAMES_MIN)..=[`FRAMES_MAX`](xk_base::limits::FRAMES_MAX),
+    /// else `Memory` where the host has too little memory.
+    pub fn new(alloc: Global, n: u32) -> Result<Ram, BootError>
+        ensures zeros { IfOk result (λ ram. ram ≡ replicate n zero_frame) }
+        ensures range { IfOk result (λ _. IsFrameCount n) }
+        ensures refused { IfErr result (IsRefused n) }
+    {
+        if n < FRAMES_MIN || n > FRAMES_MAX {
+            return Err(BootError::BadConfig);
+        }
+        let frames = vec![in alloc; [0; 4096]; n as usize]?;
+        Ok(Ram { frames })
+    }
+
+    /// How many frames there are.
+    pub fn frames(&self) -> u32
+        ensures value { result ≡ length self.now }
+        ensures range { IsFrameCount result }
+    {
+        self.frames.len() as u32
+    }
+
+    /// The bytes of a frame.
+    pub fn frame(&self, f: Frame) -> &[u8; 4096]
+        requires { f < length self.now }
+        ensures { result.now ≡ frame_at self.now f }
+    {
+        &self.frames[f.index()]
+    }
+
+    /// The bytes of a frame, to be written. All other frames stay.
+    pub fn frame_mut(&mut self, f: Frame) -> &mut [u8; 4096]
+        requires { f < length self.old }
+        ensures* writes_back { sem 𝓛 (LendsFrame self.entry f result) }
+        ensures value { result.now ≡ frame_at self.old f }
+    {
+        &mut self.frames[f.index()]
+    }
+
+    /// Word `i` of a frame, below 512: the number, little-endian, in its eight bytes from byte `8 * i` on.
+    pub fn read_u64(&self, f: Frame, i: usize) -> u64
+        requires frame_in { f < length self.now }
+        requires word_in { i < 512 }
+        ensures { result ≡ word_at self.now f i }
+    {
+        LittleEndian::read_u64(&self.frames[f.index()][8 * i..])
+    }
+
+    /// Writes a number, little-endian, into word `i` of a frame, below 512. Nothing else changes.
+    pub fn write_u64(&mut self, f: Frame, i: usize, v: u64)
+        requires frame_in { f < length self.old }
+        requires word_in { i < 512 }
+        ensures { WordWritten self.old self.new f i v }
+    {
+        let frame = &mut self.frames[f.index()];
+        LittleEndian::write_u64(&mut frame[8 * i..8 * i + 8], v);
+    }
+
+    /// Copies all bytes of the frame `from` into the frame `to`. All other frames stay.
+    pub fn copy_frame(&mut self, from: Frame, to: Frame)
+        requires from_in { from < length self.old }
+        requires to_in { to < length self.old }
+        ensures { self.new ≡ set self.old to (frame_at self.old from) }
+    {
+        let from = from.index();
+        self.frames.copy_within(from..from + 1, to.index());
+    }
+
+    /// Makes all bytes of a frame 0. All other frames stay.
+    pub fn zero_frame(&mut self, f: Frame)
+        requires { f < length self.old }
+        ensures { self.new ≡ set self.old f zero_frame }
+    {
+        let frame = &mut self.frames[f.index()];
+        frame.fill(0);
+    }
+}
