@@ -1,14 +1,13 @@
 -- What a write of eight bytes leaves of the words in a frame.
-use Rattle.std.proofs.Common.{◌≡◌, ◌≢◌, ℕ, zero, suc, ◌+◌, ◌*◌, ◌^◌, ◌<◌, ◌≤◌, List, [], ◌∷◌, ◌++◌, length, take, drop, set, get_or, slice_index, replicate, ◌-◌, inl, inr, refl, sym, ap, ◌∙◌, subst, arith, rules}
-use Rattle.std.proofs.lemmas.List.{get_or-set_same, get_or-set_other, get_or-drop, get_or_append_left, get_or-append_right, get_or-take, length-append, length-take-le, length-take, length-drop, drop_at, drop_all, drop-drop, append-nil, places, length-set, same_lists, get_or-replicate, get_or_past, length-replicate}
-use Rattle.std.proofs.lemmas.Bool.{cases_lt, cases_eq}
+use Rattle.std.proofs.Common.{◌≡◌, ◌≢◌, ℕ, zero, suc, ◌+◌, ◌*◌, ◌^◌, ◌<◌, ◌≤◌, List, [], ◌++◌, length, take, drop, set, get_or, replicate, ◌-◌, inl, inr, refl, sym, ap, ◌∙◌, arith}
+use Rattle.std.proofs.lemmas.List.{get_or-set_same, get_or-set_other, get_or-drop, get_or_append_left, get_or-append_right, get_or-take, length-append, length-take-le, length-take, length-drop, drop_at, drop_all, drop-drop, append-nil, length-set, same_lists, get_or-replicate, get_or_past, length-replicate}
+use Rattle.std.proofs.lemmas.Bool.{cases_lt}
 use Rattle.byteorder.specs.Endian.{little_from, little_number, little_bytes}
-use Rattle.byteorder.specs.Numbers.{little_number-reads_back, length-bytes_low_first, little_from-append}
+use Rattle.byteorder.specs.Numbers.{little_number-reads_back, length-bytes_low_first}
 use borrow.Rule.Slice.PartMut.{put_mid, mid_of}
 use Rattle.std.specs.Array.{AllZipBelow}
 use Rattle.std.specs.List.{copy_within}
 use Rattle.std.proofs.Math.Seq.{paste, paste-zero, paste-suc}
-use Rattle.xk_base.specs.declared.limits.TheConstants.{FRAMES_MIN, FRAMES_MAX, PAGE_BYTES}
 use Rattle.xk_base.specs.Words.{le}
 use Rattle.xk_base.proofs.Words.{little_number-le}
 use Rattle.phys_ram.specs.Ram.{frame_at, word_at, zero_frame, OthersStay, WordWritten}
@@ -70,11 +69,11 @@ beside : (i j : ℕ) (bytes frame : List ℕ) → length bytes ≡ 8 → 8 * i �
 beside i j bytes frame eight fits apart =
     little_from-same 0 8 (drop (8 * j) (replaced (8 * i) bytes frame)) (drop (8 * j) frame)
     (λ k lo hi. get_or-drop (8 * j) (replaced (8 * i) bytes frame) k 0
-        ∙ (elim (cases_lt j i) [
-            | inl lt ↦ below (8 * i) (8 * j + k) bytes frame (omega arith) fits
-            | inr ge ↦ above (8 * i) (8 * j + k) bytes frame eight (omega (arith, apart)) fits
-        ])
-        ∙ sym (get_or-drop (8 * j) frame k 0))
+    ∙ (elim (cases_lt j i) [
+      | inl lt ↦ below (8 * i) (8 * j + k) bytes frame (omega arith) fits
+      | inr ge ↦ above (8 * i) (8 * j + k) bytes frame eight (omega (arith, apart)) fits
+    ])
+    ∙ sym (get_or-drop (8 * j) frame k 0))
 
 -- ---- one frame replaced
 
@@ -82,9 +81,9 @@ pub others_stay-set : (ram : List (List ℕ)) (f : ℕ) (frame : List ℕ) → O
 others_stay-set ram f frame =
     let others : (g : ℕ) → g ≢ f → frame_at (set ram f frame) g ≡ frame_at ram g = λ g apart. get_or-set_other ram f g frame [] apart in
     record {
-        count = length-set ram f frame;
-        others = others;
-        words = λ g i apart. word_at-same ram (set ram f frame) g i (others g apart);
+      count = length-set ram f frame;
+      others = others;
+      words = λ g i apart. word_at-same ram (set ram f frame) g i (others g apart);
     }
 
 word_at-set : (ram : List (List ℕ)) (f i : ℕ) (frame : List ℕ) → f < length ram → word_at (set ram f frame) f i ≡ little_number 8 (drop (8 * i) frame)
@@ -99,24 +98,22 @@ word_written-set ram f i v bytes frame inside is whole made small =
     let eight : length bytes ≡ 8 = ap length made ∙ length-bytes_low_first 0 8 v in
     let was : (j : ℕ) → little_number 8 (drop (8 * j) frame) ≡ word_at ram f j = λ j. ap (λ fr. little_number 8 (drop (8 * j) fr)) is ∙ sym (word_at-number ram f j) in
     record {
-        stay = others_stay-set ram f (replaced (8 * i) bytes frame);
-        here = word_at-set ram f i (replaced (8 * i) bytes frame) inside ∙ here i v bytes frame made small fits;
-        beside = λ j apart. word_at-set ram f j (replaced (8 * i) bytes frame) inside ∙ beside i j bytes frame eight fits apart ∙ was j;
-        before = λ k low. ap (λ fr. get_or fr k 0) new ∙ below (8 * i) k bytes frame low fits ∙ ap (λ fr. get_or fr k 0) is;
-        after = λ k past. ap (λ fr. get_or fr k 0) new ∙ above (8 * i) k bytes frame eight past fits ∙ ap (λ fr. get_or fr k 0) is;
-        size = ap length new ∙ length-replaced (8 * i) bytes frame eight whole ∙ ap length is;
+      stay = others_stay-set ram f (replaced (8 * i) bytes frame);
+      here = word_at-set ram f i (replaced (8 * i) bytes frame) inside ∙ here i v bytes frame made small fits;
+      beside = λ j apart. word_at-set ram f j (replaced (8 * i) bytes frame) inside ∙ beside i j bytes frame eight fits apart ∙ was j;
+      before = λ k low. ap (λ fr. get_or fr k 0) new ∙ below (8 * i) k bytes frame low fits ∙ ap (λ fr. get_or fr k 0) is;
+      after = λ k past. ap (λ fr. get_or fr k 0) new ∙ above (8 * i) k bytes frame eight past fits ∙ ap (λ fr. get_or fr k 0) is;
+      size = ap length new ∙ length-replaced (8 * i) bytes frame eight whole ∙ ap length is;
     }
 
 -- the same, as a write through a slice of the frame leaves it
-pub word_written-put : (items old : List (List ℕ)) (at f i v n : ℕ) (buf frame : List ℕ) → items ≡ old → at ≡ f → f < length old → frame ≡ get_or items at [] → 8 * i + 8 ≤ length frame → n ≡ 8
-    → buf ≡ little_bytes 8 v ++ drop 8 (mid_of (8 * i) n frame) → v < 256 ^ 8 → WordWritten old (set items at (put_mid (8 * i) n frame buf)) f i v
-word_written-put items old at f i v n buf frame same place inside is fits eight made small =
+pub word_written-put : (ram : List (List ℕ)) (f i v n : ℕ) (buf frame : List ℕ) → f < length ram → frame ≡ frame_at ram f → 8 * i + 8 ≤ length frame → n ≡ 8
+    → buf ≡ little_bytes 8 v ++ drop 8 (mid_of (8 * i) n frame) → v < 256 ^ 8 → WordWritten ram (set ram f (put_mid (8 * i) n frame buf)) f i v
+word_written-put ram f i v n buf frame inside is fits eight made small =
     let none : drop 8 (mid_of (8 * i) n frame) ≡ [] = drop_all 8 (mid_of (8 * i) n frame) (simp length-take (omega arith)) in
     let bytes : buf ≡ little_bytes 8 v = made ∙ ap (λ r. little_bytes 8 v ++ r) none ∙ append-nil (little_bytes 8 v) in
     let rest : drop n (drop (8 * i) frame) ≡ drop (8 * i + 8) frame = ap (λ k. drop k (drop (8 * i) frame)) eight ∙ drop-drop 8 (8 * i) frame in
-    let read : frame ≡ frame_at old f = is ∙ ap (λ r. get_or r at []) same ∙ ap (λ k. get_or old k []) place in
-    let w = word_written-set old f i v buf frame inside read (omega (arith, fits)) bytes small in
-    rw (same, place, rest) w
+    rw rest (word_written-set ram f i v buf frame inside is (omega (arith, fits)) bytes small)
 
 -- ---- zeros
 
@@ -138,8 +135,8 @@ unfolding zero_frame
 word_at-zero ram g j e =
     word_at-number ram g j ∙ ap (λ fr. little_number 8 (drop (8 * j) fr)) e ∙ zeros-number 0 8 (drop (8 * j) (replicate 4096 0)) (λ k. get_or-drop (8 * j) (replicate 4096 0) k 0 ∙ zero-at (8 * j + k))
   where
-  zero-at : (k : ℕ) → get_or {A = ℕ} (replicate 4096 0) k 0 ≡ 0
-  zero-at k = elim (cases_lt k 4096) [ inl lt ↦ get_or-replicate 4096 k 0 0 lt | inr ge ↦ get_or_past (replicate 4096 0) k 0 (simp length-replicate ge) ]
+    zero-at : (k : ℕ) → get_or {A = ℕ} (replicate 4096 0) k 0 ≡ 0
+    zero-at k = elim (cases_lt k 4096) [ inl lt ↦ get_or-replicate 4096 k 0 0 lt | inr ge ↦ get_or_past (replicate 4096 0) k 0 (simp length-replicate ge) ]
 
 -- one frame copied over another
 pub copy_within-one : (ram : List (List ℕ)) (from to : ℕ) → from < length ram → to < length ram → copy_within ram from (from + 1) to ≡ set ram to (frame_at ram from)

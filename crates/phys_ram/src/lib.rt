@@ -86,7 +86,7 @@ impl Ram {
         requires word_in { i < 512 }
         ensures { result ≡ word_at self.now f i }
     {
-        LittleEndian::read_u64(&self.frames[f.index()][8 * i..])
+        LittleEndian::read_u64(&self.frame(f)[8 * i..])
     }
 
     /// Writes a number, little-endian, into word `i` of a frame, below 512. Nothing else changes.
@@ -95,8 +95,7 @@ impl Ram {
         requires word_in { i < 512 }
         ensures { WordWritten self.old self.new f i v }
     {
-        let frame = &mut self.frames[f.index()];
-        LittleEndian::write_u64(&mut frame[8 * i..8 * i + 8], v);
+        LittleEndian::write_u64(&mut self.frame_mut(f)[8 * i..8 * i + 8], v);
     }
 
     /// Copies all bytes of the frame `from` into the frame `to`. All other frames stay.
@@ -114,7 +113,6 @@ impl Ram {
         requires { f < length self.old }
         ensures { self.new ≡ set self.old f zero_frame }
     {
-        let frame = &mut self.frames[f.index()];
-        frame.fill(0);
+        self.frame_mut(f).fill(0);
     }
 }

@@ -22,7 +22,10 @@ fn words_are_little_endian_in_their_frame_alone(rt: HostRuntime) -> Result<(), F
     let mut ram = Ram::new(rt.alloc(), 16)?;
     let (first, last) = (Frame::new(0), Frame::new(15));
     ram.write_u64(last, 511, 0x2000_00D7);
-    assert_eq!(rt; &ram.frame(last)[4088..], [0xD7, 0, 0, 0x20, 0, 0, 0, 0].as_slice());
+    assert_eq!(rt;
+        &ram.frame(last)[4088..],
+        [0xD7, 0, 0, 0x20, 0, 0, 0, 0].as_slice()
+    );
     assert_eq!(rt; ram.read_u64(last, 511), 0x2000_00D7);
     assert_eq!(rt; ram.read_u64(last, 510), 0);
     assert_eq!(rt; ram.read_u64(first, 511), 0);

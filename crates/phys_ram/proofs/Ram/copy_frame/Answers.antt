@@ -1,6 +1,5 @@
-use Rattle.std.proofs.Common.{◌≡◌, ℕ, ◌+◌, ◌<◌, List, length, set, refl, ap, ◌∙◌, arith}
+use Rattle.std.proofs.Common.{◌≡◌, ◌+◌, ◌<◌, length, refl, ap, ◌∙◌, arith}
 use Rattle.std.specs.List.{copy_within}
-use Rattle.phys_ram.specs.Ram.{frame_at}
 use Rattle.phys_ram.proofs.Words.{copy_within-one}
 use Rattle.phys_ram.proofs.Ram.copy_frame.Goals as goal
 
