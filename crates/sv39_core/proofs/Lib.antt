@@ -1,0 +1,7 @@
+pub mod Gathered
+pub mod Listings
+pub mod Owned
+pub mod Places
+pub mod Tree
+pub mod Walks
+pub mod Words

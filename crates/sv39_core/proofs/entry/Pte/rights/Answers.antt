@@ -1,0 +1,13 @@
+use Rattle.std.proofs.Common.{rules, ◌≡◌, ◌≢◌, ℕ, ◌+◌, ◌-◌, ◌*◌, ◌/◌, ◌%◌, ◌^◌, ◌<◌, ◌≤◌, Bool, true, false, cond, eqb, refl, sym, ap, ◌∙◌, arith}
+use Rattle.xk_base.specs.declared.access.Rights.{Rights}
+use Rattle.sv39_core.specs.Sv39.{flag, entry_of, is_usable, page_number, rights_of, leaf_word, table_word}
+use Rattle.sv39_core.proofs.Words.{flag-has}
+use Rattle.sv39_core.proofs.entry.Pte.rights.Goals as goal
+
+pub returns : goal.returns
+returns c =
+    let r = c.has.ensures ∙ flag-has c.args.self 1 in
+    let w = c.has-2.ensures ∙ flag-has c.args.self 2 in
+    let x = c.has-3.ensures ∙ flag-has c.args.self 3 in
+    let u = c.has-4.ensures ∙ flag-has c.args.self 4 in
+    λ i. record { read = r i; write = w i; execute = x i; user = u i }

@@ -1,0 +1,3 @@
+pub mod Listed
+pub mod Sv39
+pub mod Tree

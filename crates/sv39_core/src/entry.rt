@@ -1,0 +1,187 @@
+//! Page-table entries.
+ghost use Rattle.std.specs.Prelude.{⊤, ◌≡◌, ◌==◌, ◌≤◌, [], ◌∷◌, codes};
+ghost use Rattle.std.specs.Int.RustNames.{bit_and};
+ghost use Rattle.xk_base.specs.declared.limits.TheConstants.{FRAMES_MAX};
+ghost use Rattle.sv39_core.specs.Sv39.{entry_of, is_usable, page_number, rights_of, bit_if, leaf_word, table_word};
+
+use bitflags::{Flag, Flags, bitflag_items};
+use std::marker::Model;
+use xk_base::limits::{PAGE_BYTES, RAM_BASE};
+use xk_base::{Frame, Perm, Rights};
+
+/// The bits of an entry below its page number.
+#[derive(Clone, Copy, PartialEq, Eq, Debug)]
+pub(crate) struct PteFlags(u64);
+
+bitflag_items! {
+    impl PteFlags: u64 {
+        const VALID = 1;
+        const READ = 2;
+        const WRITE = 4;
+        const EXECUTE = 8;
+        const USER = 16;
+        const GLOBAL = 32;
+        const ACCESSED = 64;
+        const DIRTY = 128;
+    }
+}
+
+impl Flags for PteFlags {
+    type Bits = u64;
+
+    ghost exact = { ⊤ };
+
+    ghost table = { (codes "VALID", 1) ∷ (codes "READ", 2) ∷ (codes "WRITE", 4) ∷ (codes "EXECUTE", 8) ∷ (codes "USER", 16) ∷ (codes "GLOBAL", 32) ∷ (codes "ACCESSED", 64) ∷ (codes "DIRTY", 128) ∷ [] };
+
+    ghost set_of = { λ p. p.0 };
+
+    fn flags<'a>() -> &'a [Flag<PteFlags>] {
+        PteFlags::FLAGS
+    }
+
+    fn bits(&self) -> u64 {
+        self.0
+    }
+
+    fn from_bits_retain(bits: u64) -> PteFlags {
+        PteFlags(bits)
+    }
+}
+
+/// What an entry says.
+#[derive(Clone, Copy)]
+pub enum Entry {
+    /// Nothing: a walk that comes here faults.
+    Invalid,
+    /// The walk goes on in the table in this frame.
+    Table(Frame),
+    /// A page: its frame and its rights, and whether A and D are set.
+    Leaf(Frame, Perm, bool, bool),
+}
+
+/// An entry of a page table, as its 64 bits.
+#[derive(Clone, Copy, Debug, PartialEq, Eq)]
+pub struct Pte {
+    word: u64,
+}
+
+impl Model for Pte {
+    ghost use Rattle.std.specs.Prelude.{ℕ};
+
+    ghost Value = { ℕ };
+
+    ghost view = { λ p. p.word };
+
+    ghost inverse = { λ w. record { word = w } };
+}
+
+/// The physical page of frame 0.
+const FIRST_PAGE: u64 = RAM_BASE / PAGE_BYTES;
+
+fn bits_if(set: bool, flags: PteFlags) -> u64
+    requires { flags.0 ≤ 128 }
+    ensures value { result ≡ bit_if set flags.0 }
+    ensures small { result ≤ 128 }
+{
+    if set { flags.bits() } else { 0 }
+}
+
+impl Pte {
+    /// The entry of these 64 bits.
+    pub fn from_bits(bits: u64) -> Pte
+        ensures { result ≡ bits }
+    {
+        Pte { word: bits }
+    }
+
+    /// Its 64 bits.
+    pub fn bits(self) -> u64
+        ensures { result ≡ self }
+    {
+        self.word
+    }
+
+    /// The entry that leads to the table in a frame: V alone is set.
+    pub fn table(frame: Frame) -> Pte
+        ensures { result ≡ table_word frame }
+    {
+        Pte {
+            word: ((FIRST_PAGE + u64::from(frame.number())) << 10) + PteFlags::VALID.bits(),
+        }
+    }
+
+    /// The leaf of a page in a frame, with V, A and D set.
+    pub fn leaf(frame: Frame, perm: Perm) -> Pte
+        ensures { result ≡ leaf_word frame perm }
+    {
+        let rights = perm.rights();
+        let flags = PteFlags::VALID.bits()
+            + bits_if(rights.read, PteFlags::READ)
+            + bits_if(rights.write, PteFlags::WRITE)
+            + bits_if(rights.execute, PteFlags::EXECUTE)
+            + bits_if(rights.user, PteFlags::USER)
+            + PteFlags::ACCESSED.bits()
+            + PteFlags::DIRTY.bits();
+        let page = FIRST_PAGE + u64::from(frame.number());
+        Pte {
+            word: (page << 10) + flags,
+        }
+    }
+
+    fn has(self, flags: PteFlags) -> bool
+        ensures { result ≡ (bit_and self flags.0 == flags.0) }
+    {
+        PteFlags::from_bits_retain(self.bits()).contains(flags)
+    }
+
+    fn rights(self) -> Rights
+        ensures { result ≡ rights_of self }
+    {
+        Rights {
+            read: self.has(PteFlags::READ),
+            write: self.has(PteFlags::WRITE),
+            execute: self.has(PteFlags::EXECUTE),
+            user: self.has(PteFlags::USER),
+        }
+    }
+
+    fn page(self) -> u64
+        ensures { result ≡ page_number self }
+    {
+        (self.bits() >> 10) % (1 << 44)
+    }
+
+    fn is_usable(self, frames: u32) -> bool
+        ensures { result ≡ is_usable frames self }
+    {
+        let valid = self.has(PteFlags::VALID);
+        let read = self.has(PteFlags::READ);
+        let write = self.has(PteFlags::WRITE);
+        let page = self.page();
+        let frame = page.saturating_sub(FIRST_PAGE);
+        valid
+            & (!write | read)
+            & (self.bits() >> 54 == 0)
+            & (FIRST_PAGE <= page)
+            & (frame < u64::from(frames))
+    }
+
+    /// What the entry says, where RAM has so many frames.
+    pub(crate) fn entry(self, frames: u32) -> Entry
+        requires { frames ≤ FRAMES_MAX }
+        ensures { result ≡ entry_of frames self }
+    {
+        if !self.is_usable(frames) {
+            return Entry::Invalid;
+        }
+        let frame = Frame::new((self.page() - FIRST_PAGE) as u32);
+        let rights = self.rights();
+        let leaf = rights.read | rights.execute;
+        if leaf {
+            let accessed = self.has(PteFlags::ACCESSED);
+            let dirty = self.has(PteFlags::DIRTY);
+            return Entry::Leaf(frame, Perm::new(rights), accessed, dirty);
+        }
+        Entry::Table(frame)
+    }
+}

@@ -1,0 +1,14 @@
+//! Sv39: page-table entries, and the walk from a virtual address to a frame
+//! (RISC-V Privileged ISA, "Sv39: Page-Based 39-bit Virtual-Memory System").
+//!
+//! The walk, the image that a tree of tables stands for and the frames that the tree is made of are
+//! defined by the same look-ups of entries, in this crate's `specs/`.
+#![tactic(auto)]
+
+mod entry;
+#[cfg(test)]
+mod tests;
+mod walking;
+
+pub use entry::{Entry, Pte};
+pub use walking::{read_entry, split, walk};

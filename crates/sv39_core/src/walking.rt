@@ -1,0 +1,77 @@
+//! The walk from a virtual address to a frame.
+ghost use Rattle.std.specs.Prelude.{◌≡◌, ◌<◌, ◌/◌, ◌%◌, ◌^◌, [], ◌∷◌, length, true, false, Some, None, MatchResult, MatchOption};
+ghost use Rattle.sv39_core.specs.Sv39.{entry_at, given, is_canonical, permits, walked, page_fault};
+
+use crate::entry::{Entry, Pte};
+use phys_ram::Ram;
+use xk_base::{Access, Cause, Frame, Rights};
+
+/// Entry `i`, below 512, of the table in a frame.
+pub fn read_entry(ram: &Ram, table: Frame, i: usize) -> Entry
+    requires table_in { table < length ram.now }
+    requires entry_in { i < 512 }
+    ensures { result ≡ entry_at ram.now table i }
+{
+    Pte::from_bits(ram.read_u64(table, i)).entry(ram.frames())
+}
+
+/// The three indexes of a virtual address, the root's first. None exactly where the address isn't
+/// canonical: where its bits 63 to 39 don't all equal its bit 38.
+pub fn split(va: u64) -> Option<[usize; 3]>
+    ensures { MatchOption result (is_canonical va ≡ false) (λ is. (is_canonical va ≡ true) × (is ≡ va / 2 ^ 30 % 512 ∷ va / 2 ^ 21 % 512 ∷ va / 2 ^ 12 % 512 ∷ [])) }
+{
+    let sign = (va >> 38) % 2;
+    if va >> 39 != ((1 << 25) - 1) * sign {
+        return None;
+    }
+    Some([
+        (va >> 30) as usize % 512,
+        (va >> 21) as usize % 512,
+        (va >> 12) as usize % 512,
+    ])
+}
+
+fn permits(access: Access, rights: Rights, accessed: bool, dirty: bool) -> bool
+    ensures { result ≡ permits access (given rights accessed dirty) }
+{
+    rights.user
+        && match access {
+            Access::Fetch => accessed && rights.execute,
+            Access::Load => accessed && rights.read,
+            Access::Store => accessed && dirty && rights.write,
+        }
+}
+
+fn page_fault(access: Access) -> Cause
+    ensures { result ≡ page_fault access }
+{
+    match access {
+        Access::Fetch => Cause::FetchPageFault,
+        Access::Load => Cause::LoadPageFault,
+        Access::Store => Cause::StorePageFault,
+    }
+}
+
+/// The frame, and the offset in it, that an access to a virtual address reaches through the tables
+/// below a root; or the page fault of the access's kind.
+pub fn walk(ram: &Ram, root: Frame, va: u64, access: Access) -> Result<(Frame, usize), Cause>
+    requires { root < length ram.now }
+    ensures { MatchResult result (λ to. walked ram.now root va access ≡ Some (to.0, to.1)) (λ cause. (walked ram.now root va access ≡ None) × (cause ≡ page_fault access)) }
+{
+    let Some(indexes) = split(va) else {
+        return Err(page_fault(access));
+    };
+    let Entry::Table(upper) = read_entry(ram, root, indexes[0]) else {
+        return Err(page_fault(access));
+    };
+    let Entry::Table(lower) = read_entry(ram, upper, indexes[1]) else {
+        return Err(page_fault(access));
+    };
+    let Entry::Leaf(frame, perm, accessed, dirty) = read_entry(ram, lower, indexes[2]) else {
+        return Err(page_fault(access));
+    };
+    if !permits(access, perm.rights(), accessed, dirty) {
+        return Err(page_fault(access));
+    }
+    Ok((frame, (va % 4096) as usize))
+}
