@@ -1,10 +1,10 @@
 -- The walk, one level at a time.
-use Rattle.std.proofs.Common.{◌≡◌, ◌≢◌, ℕ, zero, suc, ◌+◌, ◌-◌, ◌*◌, ◌/◌, ◌%◌, ◌^◌, ◌<◌, ◌≤◌, Bool, true, false, cond, List, Option, Some, None, length, refl, sym, ap, ◌∙◌, arith}
+use Rattle.std.proofs.Common.{◌≡◌, ℕ, ◌/◌, ◌%◌, Bool, true, false, cond, List, Some, None, refl, ap, ◌∙◌, arith}
 use Rattle.xk_base.specs.declared.access.Rights.{Rights}
 use Rattle.xk_base.specs.declared.access.Access.{Access}
 use Rattle.sv39_core.specs.declared.entry.Entry.{Entry}
 use Rattle.sv39_core.specs.declared.entry.Entry.TheVariants.{Invalid, Table, Leaf}
-use Rattle.sv39_core.specs.Sv39.{entry_of, entry_at, table_of, below, table_at, last, page_entry, is_canonical, allowed, permits, walked}
+use Rattle.sv39_core.specs.Sv39.{entry_at, table_of, below, table_at, last, page_entry, is_canonical, allowed, walked}
 
 top_index : (va : ℕ) → va / 4096 % 134217728 / 512 / 512 % 512 ≡ va / 1073741824 % 512
 top_index va = omega arith

@@ -70,7 +70,6 @@ fn an_address_that_is_not_canonical_faults(rt: HostRuntime) -> Result<(), Fail> 
 
 #[test]
 fn leaves_of_frame_0_have_their_bits(rt: HostRuntime) -> Result<(), Fail> {
-    let mut ram = Ram::new(rt.alloc(), 16)?;
     let at = Frame::new(15);
     for (write, bits, low) in [(true, 0x2000_00D7, 0xD7), (false, 0x2000_00DB, 0xDB)] {
         let perm = Perm::new(Rights {
@@ -82,6 +81,7 @@ fn leaves_of_frame_0_have_their_bits(rt: HostRuntime) -> Result<(), Fail> {
         let leaf = Pte::leaf(Frame::new(0), perm);
         assert_eq!(rt; leaf.bits(), bits);
         assert_eq!(rt; Pte::from_bits(bits), leaf);
+        let mut ram = Ram::new(rt.alloc(), 16)?;
         ram.write_u64(at, 0, leaf.bits());
         assert_eq!(rt;
             &ram.frame(at)[..8],

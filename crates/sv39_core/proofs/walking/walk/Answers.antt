@@ -1,7 +1,6 @@
-use Rattle.std.proofs.Common.{rules, ◌≡◌, ◌≢◌, ℕ, ◌+◌, ◌-◌, ◌*◌, ◌/◌, ◌%◌, ◌^◌, ◌<◌, ◌≤◌, ◌||◌, Bool, true, false, cond, eqb, Some, None, length, get_or, refl, sym, ap, ◌∙◌, arith}
-use Rattle.xk_base.specs.declared.access.Rights.{Rights}
-use Rattle.sv39_core.specs.Sv39.{given, flag, entry_of, entry_at, table_of, is_usable, page_number, rights_of, leaf_word, table_word, is_canonical, walked, allowed, permits}
-use Rattle.sv39_core.proofs.Words.{flag-has, entry_of-unusable, entry_of-as_leaf, entry_of-as_table, usable-inside, entry_of-table}
+use Rattle.std.proofs.Common.{◌%◌, cond, Some, None, get_or, sym, ap, ◌∙◌}
+use Rattle.sv39_core.specs.Sv39.{given, entry_at, table_of, allowed, permits}
+use Rattle.sv39_core.proofs.Words.{entry_of-table}
 use Rattle.sv39_core.proofs.Walks.{walked-not_canonical, walked-no_upper, walked-no_lower, walked-last, table_of-none, allowed-none}
 use Rattle.sv39_core.proofs.walking.walk.Goals as goal
 

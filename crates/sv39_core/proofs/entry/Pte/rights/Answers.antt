@@ -1,6 +1,4 @@
-use Rattle.std.proofs.Common.{rules, ◌≡◌, ◌≢◌, ℕ, ◌+◌, ◌-◌, ◌*◌, ◌/◌, ◌%◌, ◌^◌, ◌<◌, ◌≤◌, Bool, true, false, cond, eqb, refl, sym, ap, ◌∙◌, arith}
-use Rattle.xk_base.specs.declared.access.Rights.{Rights}
-use Rattle.sv39_core.specs.Sv39.{flag, entry_of, is_usable, page_number, rights_of, leaf_word, table_word}
+use Rattle.std.proofs.Common.{◌∙◌}
 use Rattle.sv39_core.proofs.Words.{flag-has}
 use Rattle.sv39_core.proofs.entry.Pte.rights.Goals as goal
 

@@ -1,0 +1,2 @@
+pub mod FreeList
+pub mod Trades
