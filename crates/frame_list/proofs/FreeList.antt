@@ -1,67 +1,183 @@
--- How the free frames change.
-use Rattle.std.proofs.Common.{rules, ◌≡◌, ◌≢◌, ℕ, ◌+◌, ◌-◌, ◌*◌, ◌<◌, ◌≤◌, List, [], ◌∷◌, length, take, set, get_or, refl, sym, ap, ◌∙◌, arith}
-use Rattle.std.proofs.lemmas.List.{get_or_read, get_or-set_same, get_or-set_other, length-set, length-take-le}
+-- How the list of free frames changes.
+use Rattle.std.proofs.Common.{◌≡◌, ◌≢◌, ℕ, zero, suc, ◌+◌, ◌-◌, ◌<◌, ◌≤◌, List, [], ◌∷◌, length, Option, Some, None, refl, sym, ap, ◌∙◌, subst, add-one, arith}
 use Rattle.xk_base.specs.Frames.{copies, SameFrames, Once}
-use Rattle.xk_base.proofs.Frames.{length-once-but, Once-less, Once-more, SameFrames-take, SameFrames-put}
-use Rattle.phys_ram.specs.Ram.{frame_at, zero_frame, OthersStay}
-use Rattle.frame_list.specs.Pool.{free_in, Good}
-use Rattle.std.specs.Vec.{with_item}
+use Rattle.xk_base.specs.declared.limits.TheConstants.{FRAMES_MAX}
+use Rattle.xk_base.proofs.Frames.{at, at-same, copies-nil, copies-cons, length-once-but, Once-less, Once-more, Once-first, Once-apart}
+use Rattle.phys_ram.specs.Ram.{word_at, OthersStay, WordWritten}
 use Rattle.frame_list.specs.declared.Pool.{Pool}
+use Rattle.frame_list.specs.Pool.{link, next, chain, free_in, IsChain, Good}
 
--- the pool without its last frame
-pub fewer : (pool : Pool) (ram : List (List ℕ)) → Good pool ram → (pool.count ≡ 0 → ⊥) → (f : ℕ) → f ≡ get_or pool.places.items (pool.count - 1) f
-    → (ram' : List (List ℕ)) → SameFrames (free_in pool ram) (f ∷ free_in record { places = pool.places; count = pool.count - 1 } ram')
-unfolding free_in
-fewer pool ram good some f is ram' =
-    let n = pool.count - 1 in
-    let inside : n < length pool.places.items = omega (arith, good.count_in, some) in
-    let one : n + 1 ≡ pool.count = omega (arith, some) in
-    let same = SameFrames-take pool.places.items n f inside (get_or_read pool.places.items n f inside is 0) in
-    rw one at same
+-- ---- the list
 
-pub Good-fewer : (pool : Pool) (ram : List (List ℕ)) → Good pool ram → (pool.count ≡ 0 → ⊥) → (f : ℕ) → f ≡ get_or pool.places.items (pool.count - 1) f
-    → (ram' : List (List ℕ)) → length ram' ≡ length ram → Good record { places = pool.places; count = pool.count - 1 } ram'
-Good-fewer pool ram good some f is ram' size =
-    let once = Once-less (length ram) f _ _ (fewer pool ram good some f is ram') good.frames in
+-- the list depends on the first words of its own frames alone
+chain-kept : (ram ram' : List (List ℕ)) (first : Option ℕ) (n : ℕ) → ((f : ℕ) → 1 ≤ copies f (chain ram first n) → word_at ram' f 0 ≡ word_at ram f 0) → chain ram' first n ≡ chain ram first n
+chain-kept ram ram' first zero same = refl
+chain-kept ram ram' None (suc n) same = refl
+chain-kept ram ram' (Some f) (suc n) same =
+    let rest = chain ram (next ram f) n in
+    let here : next ram' f ≡ next ram f = ap link (same f (omega (arith, copies-cons f f rest, at-same f))) in
+    ap (λ o. f ∷ chain ram' o n) here ∙ ap (λ fs. f ∷ fs) (chain-kept ram ram' (next ram f) n (λ g has. same g (omega (arith, copies-cons g f rest, has))))
+
+IsChain-kept : (ram ram' : List (List ℕ)) (first : Option ℕ) (fs : List ℕ) → ((f : ℕ) → 1 ≤ copies f fs → word_at ram' f 0 ≡ word_at ram f 0) → IsChain ram first fs → IsChain ram' first fs
+IsChain-kept ram ram' None [] same is = tt
+IsChain-kept ram ram' None (g ∷ gs) same is = absurd is
+IsChain-kept ram ram' (Some f) [] same is = absurd is
+IsChain-kept ram ram' (Some f) (g ∷ gs) same is =
+    let word : word_at ram' f 0 ≡ word_at ram f 0 = same f (omega (arith, copies-cons f g gs, at-same f, ap (at f) is.0)) in
+    (is.0, subst (λ o. IsChain ram' o gs) (sym (ap link word)) (IsChain-kept ram ram' (next ram f) gs (λ h has. same h (omega (arith, copies-cons h g gs, has))) is.1))
+
+pub chain-none : (ram : List (List ℕ)) (first : Option ℕ) (n : ℕ) → first ≡ None → chain ram first n ≡ []
+chain-none ram first zero e = refl
+chain-none ram None (suc n) e = refl
+chain-none ram (Some f) (suc n) e = absurd (cc)
+
+-- a list's first frame, and the rest
+record Split (ram : List (List ℕ)) (first : Option ℕ) (n f : ℕ) : Type 0 where
+  more : ℕ
+  count : n ≡ suc more
+  list : chain ram first n ≡ f ∷ chain ram (next ram f) more
+  rest : IsChain ram (next ram f) (chain ram (next ram f) more)
+
+split : (ram : List (List ℕ)) (first : Option ℕ) (n f : ℕ) → first ≡ Some f → IsChain ram first (chain ram first n) → Split ram first n f
+split ram None n f e is = absurd (cc)
+split ram (Some g) zero f e is = absurd is
+split ram (Some g) (suc m) f e is =
+    let same : g ≡ f = cc in
     record {
-        frames = rw size once;
-        count_in = omega (arith, good.count_in);
-        place_for_each = good.place_for_each ∙ sym size;
-        small = omega (arith, good.small, size);
+      more = m;
+      count = refl;
+      list = ap (λ y. y ∷ chain ram (next ram y) m) same;
+      rest = subst (λ y. IsChain ram (next ram y) (chain ram (next ram y) m)) same is.1;
     }
 
--- there is a place for a frame that is not free
-pub has_place : (pool : Pool) (ram : List (List ℕ)) → Good pool ram → (f : ℕ) → f < length ram → copies f (free_in pool ram) ≡ 0 → pool.count < length pool.places.items
-unfolding free_in
-has_place pool ram good f inside apart =
-    let long = length-take-le pool.count pool.places.items good.count_in in
-    omega (arith, length-once-but (length ram) f (free_in pool ram) good.frames inside apart, long, good.place_for_each)
+-- a list that leads to a frame holds it
+first-in : (ram : List (List ℕ)) (first : Option ℕ) (fs : List ℕ) (f : ℕ) → first ≡ Some f → IsChain ram first fs → 1 ≤ copies f fs
+first-in ram None fs f e is = absurd (cc)
+first-in ram (Some g) [] f e is = absurd is
+first-in ram (Some g) (h ∷ hs) f e is =
+    let same : g ≡ f = cc in
+    omega (arith, copies-cons f h hs, at-same f, ap (at f) (sym same ∙ is.0))
 
-pub more : (pool : Pool) (ram : List (List ℕ)) → Good pool ram → (f : ℕ) → pool.count < length pool.places.items
-    → SameFrames (free_in record { places = with_item pool.places pool.count f; count = pool.count + 1 } ram) (f ∷ free_in pool ram)
-unfolding free_in
-more pool ram good f place = SameFrames-put pool.places.items pool.count f place
+-- ---- the first frame is taken
 
-pub Good-more : (pool : Pool) (ram : List (List ℕ)) → Good pool ram → (f : ℕ) → f < length ram → copies f (free_in pool ram) ≡ 0
-    → Good record { places = with_item pool.places pool.count f; count = pool.count + 1 } ram
-Good-more pool ram good f inside apart =
-    let place = has_place pool ram good f inside apart in
+-- the pool without its first frame
+abbrev pub but_first : Pool → Option ℕ → Pool
+but_first pool after = record { first = after; count = pool.count - 1 }
+
+link-small : (word most : ℕ) → ((g : ℕ) → link word ≡ Some g → g < most) → word ≤ most
+link-small zero most small = omega arith
+link-small (suc g) most small = let below = small g refl in omega arith
+
+-- what the first frame leads to is a frame of RAM
+next-inside : (pool : Pool) (ram : List (List ℕ)) (f g : ℕ) → Good pool ram → pool.first ≡ Some f → next ram f ≡ Some g → g < FRAMES_MAX
+unfolding free_in
+next-inside pool ram f g good is leads =
+    let s = split ram pool.first pool.count f is good.whole in
+    let held = first-in ram (next ram f) (chain ram (next ram f) s.more) g leads s.rest in
+    omega (arith, good.frames.inside g (omega (arith, ap (copies g) s.list, copies-cons g f (chain ram (next ram f) s.more), held)), good.small)
+
+pub next-small : (pool : Pool) (ram : List (List ℕ)) (f : ℕ) → Good pool ram → pool.first ≡ Some f → word_at ram f 0 ≤ FRAMES_MAX
+next-small pool ram f good is = link-small (word_at ram f 0) FRAMES_MAX (λ g leads. next-inside pool ram f g good is leads)
+
+pub first-inside : (pool : Pool) (ram : List (List ℕ)) (f : ℕ) → Good pool ram → pool.first ≡ Some f → f < length ram
+first-inside pool ram f good is = good.frames.inside f (omega (arith, first-in ram pool.first (free_in pool ram) f is good.whole))
+
+pub first-counted : (pool : Pool) (ram : List (List ℕ)) (f : ℕ) → Good pool ram → pool.first ≡ Some f → 1 ≤ pool.count
+unfolding free_in
+first-counted pool ram f good is = let s = split ram pool.first pool.count f is good.whole in omega (arith, s.count)
+
+-- the rest of the list stays, whatever happens to the first frame
+pub rest-kept : (pool : Pool) (ram ram' : List (List ℕ)) (f : ℕ) → Good pool ram → pool.first ≡ Some f → OthersStay ram ram' f → free_in pool ram ≡ f ∷ free_in (but_first pool (next ram f)) ram'
+unfolding free_in
+rest-kept pool ram ram' f good is stay =
+    let s = split ram pool.first pool.count f is good.whole in
+    let apart = Once-apart (length ram) f (free_in pool ram) (chain ram (next ram f) s.more) (record { each = λ x. ap (copies x) s.list }) good.frames in
+    let fewer : pool.count - 1 ≡ s.more = omega (arith, s.count) in
+    s.list
+    ∙ ap (λ fs. f ∷ fs) (sym (chain-kept ram ram' (next ram f) s.more (λ g has. stay.words g 0 (λ e. omega (arith, has, apart, ap (λ y. copies y (chain ram (next ram f) s.more)) e)))))
+    ∙ ap (λ n. f ∷ chain ram' (next ram f) n) (sym fewer)
+
+pub Good-but_first : (pool : Pool) (ram ram' : List (List ℕ)) (f : ℕ) → Good pool ram → pool.first ≡ Some f → OthersStay ram ram' f → Good (but_first pool (next ram f)) ram'
+unfolding free_in
+Good-but_first pool ram ram' f good is stay =
+    let s = split ram pool.first pool.count f is good.whole in
+    let list = rest-kept pool ram ram' f good is stay in
+    let rest = free_in (but_first pool (next ram f)) ram' in
+    let same : SameFrames (free_in pool ram) (f ∷ rest) = record { each = λ x. ap (copies x) list } in
+    let apart = Once-apart (length ram) f (free_in pool ram) rest same good.frames in
+    let tail : chain ram (next ram f) s.more ≡ rest = cc (s.list, list) in
     record {
-        frames = Once-more (length ram) f _ _ (more pool ram good f place) inside apart good.frames;
-        count_in = omega (arith, place, length-set pool.places.items pool.count f);
-        place_for_each = length-set pool.places.items pool.count f ∙ good.place_for_each;
-        small = good.small;
+      frames = subst (λ n. Once n rest) (sym stay.count) (Once-less (length ram) f (free_in pool ram) rest same good.frames);
+      whole = IsChain-kept ram ram' (next ram f) rest (λ g has. stay.words g 0 (λ e. omega (arith, has, apart, ap (λ y. copies y rest) e))) (subst (λ fs. IsChain ram (next ram f) fs) tail s.rest);
+      counted = omega (arith, good.counted, ap length list);
+      small = omega (arith, good.small, stay.count);
     }
 
--- a write to a frame that is not free leaves the free frames
+-- ---- a frame is put first
+
+-- the pool with a frame put first
+abbrev pub with_first : Pool → ℕ → Pool
+with_first pool f = record { first = Some f; count = pool.count + 1 }
+
+-- the frames that were free are, and the one put first
+pub first-put : (pool : Pool) (ram ram' : List (List ℕ)) (f w : ℕ) → WordWritten ram ram' f 0 w → link w ≡ pool.first → copies f (free_in pool ram) ≡ 0 → free_in (with_first pool f) ram' ≡ f ∷ free_in pool ram
+unfolding free_in
+first-put pool ram ram' f w put leads apart =
+    let after : next ram' f ≡ pool.first = ap link put.here ∙ leads in
+    ap (chain ram' (Some f)) (add-one pool.count)
+    ∙ ap (λ o. f ∷ chain ram' o pool.count) after
+    ∙ ap (λ fs. f ∷ fs) (chain-kept ram ram' pool.first pool.count (λ g has. put.stay.words g 0 (λ e. omega (arith, has, apart, ap (λ y. copies y (free_in pool ram)) e))))
+
+pub Good-with_first : (pool : Pool) (ram ram' : List (List ℕ)) (f w : ℕ) → Good pool ram → f < length ram → WordWritten ram ram' f 0 w → link w ≡ pool.first → copies f (free_in pool ram) ≡ 0 → Good (with_first pool f) ram'
+Good-with_first pool ram ram' f w good inside put leads apart =
+    let list = first-put pool ram ram' f w put leads apart in
+    let after : next ram' f ≡ pool.first = ap link put.here ∙ leads in
+    let old : IsChain ram' pool.first (free_in pool ram) = IsChain-kept ram ram' pool.first (free_in pool ram) (λ g has. put.stay.words g 0 (λ e. omega (arith, has, apart, ap (λ y. copies y (free_in pool ram)) e))) good.whole in
+    let new : IsChain ram' (Some f) (f ∷ free_in pool ram) = (refl, subst (λ o. IsChain ram' o (free_in pool ram)) (sym after) old) in
+    record {
+      frames = subst (λ n. Once n (free_in (with_first pool f) ram')) (sym put.stay.count) (Once-more (length ram) f (free_in (with_first pool f) ram') (free_in pool ram) (record { each = λ x. ap (copies x) list }) inside apart good.frames);
+      whole = subst (λ fs. IsChain ram' (Some f) fs) (sym list) new;
+      counted = omega (arith, good.counted, ap length list);
+      small = omega (arith, good.small, put.stay.count);
+    }
+
+-- while a frame isn't free, fewer are free than RAM has
+pub not-all-free : (pool : Pool) (ram : List (List ℕ)) (f : ℕ) → Good pool ram → f < length ram → copies f (free_in pool ram) ≡ 0 → pool.count < FRAMES_MAX
+not-all-free pool ram f good inside apart = omega (arith, length-once-but (length ram) f (free_in pool ram) good.frames inside apart, good.counted, good.small)
+
+-- ---- RAM changes elsewhere
+
+-- where the free frames keep their first words, they stay the free frames
+pub free_in-kept : (pool : Pool) (ram ram' : List (List ℕ)) → ((f : ℕ) → 1 ≤ copies f (free_in pool ram) → word_at ram' f 0 ≡ word_at ram f 0) → free_in pool ram' ≡ free_in pool ram
+unfolding free_in
+free_in-kept pool ram ram' same = chain-kept ram ram' pool.first pool.count same
+
+pub Good-kept : (pool : Pool) (ram ram' : List (List ℕ)) → Good pool ram → length ram' ≡ length ram → ((f : ℕ) → 1 ≤ copies f (free_in pool ram) → word_at ram' f 0 ≡ word_at ram f 0) → Good pool ram'
+Good-kept pool ram ram' good count same =
+    let list = free_in-kept pool ram ram' same in
+    record {
+      frames = rw (count, list) good.frames;
+      whole = rw list (IsChain-kept ram ram' pool.first (free_in pool ram) same good.whole);
+      counted = ap length list ∙ good.counted;
+      small = omega (arith, good.small, count);
+    }
+
+words-elsewhere : (pool : Pool) (ram ram' : List (List ℕ)) (f : ℕ) → OthersStay ram ram' f → copies f (free_in pool ram) ≡ 0 → (g : ℕ) → 1 ≤ copies g (free_in pool ram) → word_at ram' g 0 ≡ word_at ram g 0
+words-elsewhere pool ram ram' f stay apart g has = stay.words g 0 (λ e. omega (arith, has, apart, ap (λ y. copies y (free_in pool ram)) e))
+
+-- a write to a frame that isn't free leaves the free frames
 pub free_in-written : (pool : Pool) (ram ram' : List (List ℕ)) (f : ℕ) → Good pool ram → OthersStay ram ram' f → copies f (free_in pool ram) ≡ 0 → free_in pool ram' ≡ free_in pool ram
-unfolding free_in
-free_in-written pool ram ram' f good stay free = refl
+free_in-written pool ram ram' f good stay apart = free_in-kept pool ram ram' (words-elsewhere pool ram ram' f stay apart)
 
 pub Good-written : (pool : Pool) (ram ram' : List (List ℕ)) (f : ℕ) → Good pool ram → OthersStay ram ram' f → copies f (free_in pool ram) ≡ 0 → Good pool ram'
-Good-written pool ram ram' f good stay free = record {
-    frames = rw (stay.count, free_in-written pool ram ram' f good stay free) good.frames;
-    count_in = good.count_in;
-    place_for_each = good.place_for_each ∙ sym stay.count;
-    small = omega (arith, good.small, stay.count);
+Good-written pool ram ram' f good stay apart = Good-kept pool ram ram' good stay.count (words-elsewhere pool ram ram' f stay apart)
+
+-- no frame is free in an empty list
+pub Good-empty : (ram : List (List ℕ)) → length ram ≤ FRAMES_MAX → Good (record { first = None; count = 0 }) ram
+unfolding free_in
+Good-empty ram small = record {
+  frames = record { inside = λ x p. absurd (omega (arith, copies-nil x)); once = λ x. omega (arith, copies-nil x) };
+  whole = tt;
+  counted = refl;
+  small = small;
 }

@@ -3,7 +3,7 @@ use Rattle.std.proofs.Common.{◌≡◌, ◌≢◌, ℕ, ◌+◌, ◌<◌, ◌�
 use Rattle.std.proofs.lemmas.List.{length-append}
 use Rattle.xk_base.specs.Frames.{copies, SameFrames, Once}
 use Rattle.xk_base.proofs.Frames.{at, at-same, at-other, copies-nil, copies-one, copies-append, same-cons, length-same, length-once, Once-first}
-use Rattle.phys_ram.specs.Ram.{frame_at, zero_frame}
+use Rattle.phys_ram.specs.Ram.{frame_at, zero_frame, OthersStay}
 use Rattle.frame_list.specs.declared.Pool.{Pool}
 use Rattle.frame_list.specs.Pool.{free_in, Good}
 use Rattle.frame_list.specs.Traded.{Traded, Taken, Given, Untouched}
@@ -33,6 +33,13 @@ given-first pool pool' ram ram' f good' count same others = record {
   frames = λ x. omega (arith, same-cons x f (free_in pool' ram') (free_in pool ram) same, copies-one x f, copies-nil x);
   others = λ g free none. others g (λ e. omega (arith, copies-one g f, none, ap (λ y. at y f) e, at-same f));
 }
+
+-- the same, where the free frames are a list, and f alone may have changed
+pub taken-list : (pool pool' : Pool) (ram ram' : List (List ℕ)) (f : ℕ) → Good pool ram → Good pool' ram' → free_in pool ram ≡ f ∷ free_in pool' ram' → OthersStay ram ram' f → frame_at ram' f ≡ zero_frame → Taken pool ram pool' ram' f
+taken-list pool pool' ram ram' f good good' list stay zeros = taken-first pool pool' ram ram' f good good' stay.count (record { each = λ x. ap (copies x) list }) zeros stay.others
+
+pub given-list : (pool pool' : Pool) (ram ram' : List (List ℕ)) (f : ℕ) → Good pool' ram' → free_in pool' ram' ≡ f ∷ free_in pool ram → OthersStay ram ram' f → Given pool ram pool' ram' f
+given-list pool pool' ram ram' f good' list stay = given-first pool pool' ram ram' f good' stay.count (record { each = λ x. ap (copies x) list }) stay.others
 
 -- the frame that is taken was free, and no longer is
 pub taken-free : (pool pool' : Pool) (ram ram' : List (List ℕ)) (f : ℕ) → Taken pool ram pool' ram' f → SameFrames (free_in pool ram) (f ∷ free_in pool' ram')

@@ -23,7 +23,11 @@ fn sixteen_frames_are_taken_and_two_given_back(rt: HostRuntime) -> Result<(), Fa
     pool.give(&mut ram, three);
     pool.give(&mut ram, nine);
     assert_eq!(rt; pool.free(), 2);
+    assert_eq!(rt; &ram.frame(nine)[..8], [4, 0, 0, 0, 0, 0, 0, 0].as_slice());
+    assert_eq!(rt; ram.read_u64(three, 0), 0);
     assert_eq!(rt; pool.take(&mut ram), Some(nine));
     assert_eq!(rt; pool.take(&mut ram), Some(three));
+    assert_eq!(rt; ram.read_u64(nine, 0), 0);
+    assert_eq!(rt; ram.read_u64(three, 0), 0);
     Ok(())
 }

@@ -1,15 +1,15 @@
-use Rattle.std.proofs.Common.{rules, refl, arith}
-use Rattle.frame_list.proofs.FreeList.{has_place, more, Good-more}
-use Rattle.frame_list.proofs.Trades.{given-first}
+use Rattle.std.proofs.Common.{rules, ◌<◌, arith}
+use Rattle.frame_list.proofs.FreeList.{not-all-free, with_first, first-put, Good-with_first}
+use Rattle.frame_list.proofs.Trades.{given-list}
 use Rattle.frame_list.proofs.Pool.give.Goals as goal
 
-pub index_mut-requires : goal.index_mut-requires
-index_mut-requires c = omega (arith, has_place _ _ c.requires.good _ c.requires.inside c.requires.not_free, c.args.self.now.places.ok.0)
-
 pub overflow_add-self : goal.overflow_add-self
-overflow_add-self c = let good = c.requires.good in search (rules, good.count_in, good.place_for_each, good.small)
+overflow_add-self c = let few = not-all-free c.args.self.now c.args.ram.now c.args.f c.requires.good c.requires.inside c.requires.not_free in search (rules, few)
 
 pub returns : goal.returns
 returns c =
-    given-first c.args.self.now _ c.args.ram.now c.args.ram.now c.args.f (Good-more _ _ c.requires.good _ c.requires.inside c.requires.not_free) refl
-    (more _ _ c.requires.good _ (has_place _ _ c.requires.good _ c.requires.inside c.requires.not_free)) (λ g apart. refl)
+    let pool = c.args.self.now in
+    let ram = c.args.ram.now in
+    let put = c.write_u64.ensures in
+    given-list pool (with_first pool c.args.f) ram c.write_u64.new.self c.args.f (Good-with_first pool ram c.write_u64.new.self c.args.f c.link_to.result c.requires.good c.requires.inside put c.link_to.ensures c.requires.not_free)
+    (first-put pool ram c.write_u64.new.self c.args.f c.link_to.result put c.link_to.ensures c.requires.not_free) put.stay

@@ -1,28 +1,32 @@
-use Rattle.std.proofs.Common.{rules, ◌≡◌, ◌≢◌, ℕ, ◌+◌, ◌-◌, ◌*◌, ◌<◌, ◌≤◌, List, [], ◌∷◌, length, take, set, get_or, refl, sym, ap, ◌∙◌, arith}
-use Rattle.std.proofs.lemmas.List.{get_or_read, get_or-set_same, get_or-set_other, length-set, length-take-le}
-use Rattle.xk_base.specs.Frames.{copies, SameFrames, Once}
-use Rattle.xk_base.proofs.Frames.{copies-nil, copies-rising, Once-rising, length-once, Once-less, Once-more, Once-first, Once-apart, SameFrames-take, SameFrames-put}
-use Rattle.phys_ram.specs.Ram.{frame_at, zero_frame}
-use Rattle.frame_list.specs.Pool.{free_in, Good}
+use Rattle.std.proofs.Common.{◌≡◌, ◌≢◌, ℕ, ◌+◌, ◌<◌, ◌≤◌, Some, None, length, inl, inr, sym, ap, ◌∙◌, arith}
+use Rattle.std.proofs.lemmas.Bool.{cases_eq}
+use Rattle.xk_base.specs.Frames.{copies}
+use Rattle.xk_base.proofs.Frames.{at, at-same, at-other, copies-nil, copies-one}
+use Rattle.frame_list.specs.Pool.{free_in}
+use Rattle.frame_list.proofs.FreeList.{Good-empty}
 use Rattle.frame_list.proofs.Pool.new.Goals as goal
 
-pub returns-clause-good : goal.returns-clause-good
+pub loop-number-init : goal.loop-number-init
 unfolding free_in
-returns-clause-good c =
-    let n : c.frames-n.result ≡ length c.args.ram.now = c.frames-n.ensures.value in
-    let long : length c.loop-number.places.items ≡ c.frames-n.result = omega (arith, c.loop-number.invariant.places, c.loop-number.places.ok.0) in
-    let rises : (k : ℕ) → k < c.frames-n.result → get_or c.loop-number.places.items k 0 ≡ k = λ k h. c.loop-number.invariant.each k (omega (arith, h, c.loop-number-test.false)) in
-    record {
-        frames = rw (← n) (Once-rising c.loop-number.places.items c.frames-n.result (omega (arith, long)) rises);
-        count_in = omega (arith, long);
-        place_for_each = long ∙ n;
-        small = omega (arith, n, c.frames-n.ensures.range);
-    }
+loop-number-init c = record {
+  good = Good-empty c.args.ram.now (omega (arith, c.frames-n.ensures.value, c.frames-n.ensures.range.1));
+  frames = sym c.frames-n.ensures.value;
+  free = λ f low. absurd (omega arith);
+  rest = λ f high. copies-nil f;
+}
 
-pub returns-clause-all_free : goal.returns-clause-all_free
-unfolding free_in
-returns-clause-all_free c f inside =
-    let n : c.frames-n.result ≡ length c.args.ram.now = c.frames-n.ensures.value in
-    let long : length c.loop-number.places.items ≡ c.frames-n.result = omega (arith, c.loop-number.invariant.places, c.loop-number.places.ok.0) in
-    let rises : (k : ℕ) → k < c.frames-n.result → get_or c.loop-number.places.items k 0 ≡ k = λ k h. c.loop-number.invariant.each k (omega (arith, h, c.loop-number-test.false)) in
-    (copies-rising c.loop-number.places.items c.frames-n.result (omega (arith, long)) rises f).0 (omega (arith, inside, n))
+pub loop-number-preserved : goal.loop-number-preserved
+loop-number-preserved c =
+    let was = c.loop-number.invariant in
+    let given = c.give.ensures in
+    let put = c.new.result in
+    let number : put ≡ c.loop-number.number = c.new.ensures in
+    record {
+      good = given.good;
+      frames = given.count ∙ was.frames;
+      free = λ f low. elim (cases_eq f put) [
+        | inl e ↦ omega (arith, given.frames f, copies-nil f, copies-one f put, ap (at f) (sym e), at-same f, was.rest f (omega (arith, e, number)))
+        | inr ne ↦ omega (arith, given.frames f, copies-nil f, copies-one f put, at-other f put ne, was.free f (omega (arith, ne, number, low)))
+      ];
+      rest = λ f high. omega (arith, given.frames f, copies-nil f, copies-one f put, at-other f put (λ e. omega (arith, e, number, high)), was.rest f (omega (arith, high)));
+    }

@@ -1,26 +1,29 @@
-use Rattle.std.proofs.Common.{◌≡◌, [], take, length, refl, ap, ◌∙◌, arith}
-use Rattle.std.proofs.lemmas.List.{get_or-set_same, get_or-set_other, length-set}
-use Rattle.xk_base.proofs.Frames.{Once-first}
-use Rattle.phys_ram.specs.Ram.{zero_frame}
-use Rattle.frame_list.specs.Pool.{free_in}
-use Rattle.frame_list.proofs.FreeList.{fewer, Good-fewer}
-use Rattle.frame_list.proofs.Trades.{taken-first}
+use Rattle.std.proofs.Common.{◌≡◌, ◌<◌, [], Some, length, ap, ◌∙◌, arith}
+use Rattle.std.proofs.lemmas.List.{get_or-set_same}
+use Rattle.phys_ram.specs.Ram.{zero_frame, word_at, OthersStay}
+use Rattle.phys_ram.proofs.Words.{others_stay-set}
+use Rattle.frame_list.specs.Pool.{link, next}
+use Rattle.frame_list.specs.Traded.{Taken}
+use Rattle.frame_list.proofs.FreeList.{next-small, first-inside, but_first, rest-kept, Good-but_first}
+use Rattle.frame_list.proofs.Trades.{taken-list}
 use Rattle.frame_list.proofs.Pool.take.Goals as goal
 
-pub returns-then-self-eq0-clause-none : goal.returns-then-self-eq0-clause-none
-unfolding free_in
-returns-then-self-eq0-clause-none c = (ap (λ n. take n c.args.self.now.places.items) c.if-self-eq0.true, record { same_pool = refl; same_ram = refl })
+pub read_u64-requires-clause-frame_in : goal.read_u64-requires-clause-frame_in
+read_u64-requires-clause-frame_in c = first-inside c.args.self.now c.args.ram.now c.in_ok-f.f c.requires (c.in_ok-f.was {u = tt})
+
+pub linked-rest-requires : goal.linked-rest-requires
+linked-rest-requires c = omega (arith, c.read_u64.ensures, next-small c.args.self.now c.args.ram.now c.in_ok-f.f c.requires (c.in_ok-f.was {u = tt}))
 
 pub zero_frame-requires : goal.zero_frame-requires
-zero_frame-requires c =
-    let same = fewer c.args.self.now c.args.ram.now c.requires c.if-self-eq0.false _ c.index-f.ensures c.args.ram.now in
-    Once-first _ _ _ _ same c.requires.frames
+zero_frame-requires c = first-inside c.args.self.now c.args.ram.now c.in_ok-f.f c.requires (c.in_ok-f.was {u = tt})
 
 pub returns-clause-taken : goal.returns-clause-taken
 returns-clause-taken c =
-    let same = fewer c.args.self.now c.args.ram.now c.requires c.if-self-eq0.false _ c.index-f.ensures c.zero_frame.new.self in
-    let inside = Once-first _ _ _ _ same c.requires.frames in
-    let count : length c.zero_frame.new.self ≡ length c.args.ram.now = ap length c.zero_frame.ensures ∙ length-set c.args.ram.now _ zero_frame in
-    taken-first _ _ c.args.ram.now c.zero_frame.new.self c.index-f.result.now c.requires (Good-fewer _ _ c.requires c.if-self-eq0.false _ c.index-f.ensures _ count) count same
-    (rw c.zero_frame.ensures (get_or-set_same c.args.ram.now c.index-f.result.now zero_frame [] inside))
-    (λ g apart. rw c.zero_frame.ensures (get_or-set_other c.args.ram.now c.index-f.result.now g zero_frame [] apart))
+    let pool = c.args.self.now in
+    let ram = c.args.ram.now in
+    let f = c.in_ok-f.f in
+    let is : pool.first ≡ Some f = c.in_ok-f.was {u = tt} in
+    let inside : f < length ram = first-inside pool ram f c.requires is in
+    let after : c.linked-rest.result ≡ next ram f = c.linked-rest.ensures ∙ ap link c.read_u64.ensures in
+    let stay = others_stay-set ram f zero_frame in
+    rw (after, c.zero_frame.ensures) (taken-list pool (but_first pool (next ram f)) ram _ f c.requires (Good-but_first pool ram _ f c.requires is stay) (rest-kept pool ram _ f c.requires is stay) stay (get_or-set_same ram f zero_frame [] inside))
