@@ -8,6 +8,15 @@ use Rattle.pipe_core.specs.declared.TheConstants.{END_COUNT_MAX}
 use Rattle.pipe_core.specs.Pipe.{IsPipe, pipe_in, new_pipe, Becomes, IsPlaced, values_below, ring_byte, with_readers, with_writers, with_more, without_first}
 use Rattle.pipe_core.proofs.Values.{front, length_values, values-add, values-same, values_take}
 
+-- how many bytes a pipe has
+pub length-bytes : (ram : List (List ℕ)) (f : ℕ) → length (pipe_in ram f).bytes ≡ word_at ram f 3
+unfolding pipe_in
+length-bytes ram f = length_values (word_at ram f 3) (ring_byte (frame_at ram f) (word_at ram f 2))
+
+-- a pipe is within its limits
+pub bytes_fit : (ram : List (List ℕ)) (f : ℕ) → IsPipe ram f → length (pipe_in ram f).bytes ≤ PIPE_BYTES
+bytes_fit ram f p = omega (arith, length-bytes ram f, p.count)
+
 -- two changes of one frame
 pub stay_on : (a b c : List (List ℕ)) (f : ℕ) → OthersStay a b f → OthersStay b c f → OthersStay a c f
 stay_on a b c f s t = record {
@@ -177,16 +186,12 @@ pulls old mid new f n p le v w =
       stay = stay;
     }
 
-count_is : (ram : List (List ℕ)) (f : ℕ) → length (pipe_in ram f).bytes ≡ word_at ram f 3
-unfolding pipe_in
-count_is ram f = length_values (word_at ram f 3) (ring_byte (frame_at ram f) (word_at ram f 2))
-
 -- ---- the same, of numbers that were read
 
 pub pushes_to : (old mid new : List (List ℕ)) (f n first count from : ℕ) (frame0 frame bytes : List ℕ) → IsPipe old f → mid ≡ set old f frame → first ≡ word_at old f 2 → count ≡ length (pipe_in old f).bytes → n ≡ min (length bytes) (PIPE_BYTES - count)
     → frame0 ≡ frame_at old f → from ≡ (first + count) % PIPE_BYTES → IsPlaced frame0 frame from (take n bytes) → WordWritten mid new f 3 (count + n) → Becomes old new f (with_more (take n bytes) (pipe_in old f))
 pushes_to old mid new f n first count from frame0 frame bytes p e one two room here place put w =
-    let three : count ≡ word_at old f 3 = two ∙ count_is old f in
+    let three : count ≡ word_at old f 3 = two ∙ length-bytes old f in
     let whole : length (take n bytes) ≡ n = length-take-le n bytes (omega (arith, room)) in
     let put1 = rw here at put in
     let put2 = rw place at put1 in
@@ -199,7 +204,7 @@ pushes_to old mid new f n first count from frame0 frame bytes p e one two room h
 pub pulls_to : (old mid new : List (List ℕ)) (f n first count : ℕ) → IsPipe old f → first ≡ word_at old f 2 → count ≡ length (pipe_in old f).bytes → n ≤ count
     → WordWritten old mid f 2 ((first + n) % PIPE_BYTES) → WordWritten mid new f 3 (count - n) → Becomes old new f (without_first n (pipe_in old f))
 pulls_to old mid new f n first count p one two le v w =
-    let three : count ≡ word_at old f 3 = two ∙ count_is old f in
+    let three : count ≡ word_at old f 3 = two ∙ length-bytes old f in
     let v1 = rw one at v in
     let w1 = rw three at w in
     pulls old mid new f n p (omega (arith, le, three)) v1 w1
@@ -208,6 +213,6 @@ pub pulls_bytes : (ram : List (List ℕ)) (f n first count len : ℕ) (frame xs 
     → xs ++ ys ≡ take n (pipe_in ram f).bytes ++ ys
 unfolding pipe_in
 pulls_bytes ram f n first count len frame xs ys one two le at cut is =
-    let three : count ≡ word_at ram f 3 = two ∙ count_is ram f in
+    let three : count ≡ word_at ram f 3 = two ∙ length-bytes ram f in
     ap (λ zs. zs ++ ys) (is ∙ ap (λ m. values_below m (ring_byte frame first)) cut ∙ ap (λ a. values_below n (ring_byte frame a)) one ∙ ap (λ r. values_below n (ring_byte r (word_at ram f 2))) at
     ∙ sym (front n (word_at ram f 3) (ring_byte (frame_at ram f) (word_at ram f 2)) (omega (arith, le, three))).0)
