@@ -1,0 +1,55 @@
+-- Reading a list one by one, with what was read so far.
+use Rattle.std.proofs.Common.{◌≡◌, ℕ, List, [], ◌∷◌, ◌++◌, Result, Ok, Err, Option, Some, None, refl, sym, ap, ◌∙◌, append_assoc, append-nil}
+use Rattle.uasm_core.specs.declared.error.AsmErrorKind.{AsmErrorKind}
+use Rattle.uasm_core.specs.Statement.{each, joined, put_behind, ◌>>=◌}
+use Rattle.uasm_core.specs.Views.{text_behind}
+
+abbrev pub each_onto : {A B : Type 0} → (A → Result B AsmErrorKind) → List B → List A → Result (List B) AsmErrorKind
+each_onto f bs [] = Ok bs
+each_onto f bs (a ∷ others) = f a >>= λ b. each_onto f (bs ++ b ∷ []) others
+
+abbrev pub onto : {B : Type 0} → List B → Result (List B) AsmErrorKind → Result (List B) AsmErrorKind
+onto bs (Ok cs) = Ok (bs ++ cs)
+onto bs (Err e) = Err e
+
+step : {B : Type 0} (bs : List B) (b : B) (r : Result (List B) AsmErrorKind) → onto (bs ++ b ∷ []) r ≡ onto bs (r >>= λ cs. Ok (b ∷ cs))
+step bs b (Ok cs) = ap Ok (append_assoc bs (b ∷ []) cs)
+step bs b (Err e) = refl
+
+pub each_onto-onto : {A B : Type 0} (f : A → Result B AsmErrorKind) (bs : List B) (xs : List A) → each_onto f bs xs ≡ onto bs (each f xs)
+each_onto-onto f bs [] = ap Ok (sym (append-nil bs))
+each_onto-onto f bs (a ∷ others) =
+    elim (f a) as (λ r. (r >>= λ b. each_onto f (bs ++ b ∷ []) others) ≡ onto bs (r >>= λ b. each f others >>= λ cs. Ok (b ∷ cs))) [
+      | Ok b ↦ each_onto-onto f (bs ++ b ∷ []) others ∙ step bs b (each f others)
+      | Err e ↦ refl
+    ]
+
+onto_nothing : {B : Type 0} (r : Result (List B) AsmErrorKind) → onto [] r ≡ r
+onto_nothing (Ok cs) = refl
+onto_nothing (Err e) = refl
+
+pub each_onto_nothing : {A B : Type 0} (f : A → Result B AsmErrorKind) (xs : List A) → each_onto f [] xs ≡ each f xs
+each_onto_nothing f xs = each_onto-onto f [] xs ∙ onto_nothing (each f xs)
+
+pub text_behind_nothing : (text : Option (List ℕ)) → text_behind [] text ≡ text
+text_behind_nothing (Some t) = refl
+text_behind_nothing None = refl
+
+-- each part spelled in turn, behind these bytes
+abbrev pub put_each : {A : Type 0} → (A → Result (List ℕ) AsmErrorKind) → List ℕ → List A → Result (List ℕ) AsmErrorKind
+put_each f bytes [] = Ok bytes
+put_each f bytes (a ∷ others) = put_behind bytes (f a) >>= λ more. put_each f more others
+
+joined_behind : (bytes b : List ℕ) (r : Result (List (List ℕ)) AsmErrorKind)
+    → put_behind (bytes ++ b) (r >>= λ bs. Ok (joined bs)) ≡ put_behind bytes ((r >>= λ bs. Ok (b ∷ bs)) >>= λ bs. Ok (joined bs))
+joined_behind bytes b (Ok bs) = ap Ok (append_assoc bytes b (joined bs))
+joined_behind bytes b (Err e) = refl
+
+pub put_each-put_behind : {A : Type 0} (f : A → Result (List ℕ) AsmErrorKind) (bytes : List ℕ) (xs : List A)
+    → put_each f bytes xs ≡ put_behind bytes (each f xs >>= λ bs. Ok (joined bs))
+put_each-put_behind f bytes [] = ap Ok (sym (append-nil bytes))
+put_each-put_behind f bytes (a ∷ others) =
+    elim (f a) as (λ r. (put_behind bytes r >>= λ more. put_each f more others) ≡ put_behind bytes ((r >>= λ b. each f others >>= λ bs. Ok (b ∷ bs)) >>= λ bs. Ok (joined bs))) [
+      | Ok b ↦ put_each-put_behind f (bytes ++ b) others ∙ joined_behind bytes b (each f others)
+      | Err e ↦ refl
+    ]

@@ -1,0 +1,13 @@
+pub mod Pieces
+pub mod Digits
+pub mod Table
+pub mod Each
+pub mod OneMore
+pub mod Appended
+pub mod Sections
+pub mod Steps
+pub mod Passes
+pub mod Sizes
+pub mod Lines
+pub mod Loads
+pub mod Whole

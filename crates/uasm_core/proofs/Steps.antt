@@ -1,0 +1,32 @@
+-- One line more in the first pass.
+use Rattle.std.proofs.Common.{◌≡◌, ℕ, ◌+◌, ◌<◌, List, [], ◌∷◌, ◌++◌, length, Option, Result, Ok, Err, refl, sym, ap, ◌∙◌, Bor, get_or, map, drop, add-one, drop-cons}
+use Rattle.uasm_core.specs.declared.error.AsmError.{AsmError}
+use Rattle.uasm_core.specs.declared.error.AsmError.TheVariants as error
+use Rattle.uasm_core.specs.Places.{Place}
+use Rattle.uasm_core.specs.Views.{Fails}
+use Rattle.uasm_core.specs.Written.{Placed, Fault, ◌>>=◌, placed, all_placed, label_place, behind}
+
+same : (ps : List Placed) (n : ℕ) (labels : List ℕ → Option Place) (at : Place) (source : List ℕ)
+    → n ≡ length ps → labels ≡ label_place ps → placed (length ps + 1) (label_place ps) at source ≡ placed (n + 1) labels at source
+same ps n labels at source e l = ap (λ (m : ℕ). placed (m + 1) (label_place ps) at source) (sym e) ∙ ap (λ (f : List ℕ → Option Place). placed (n + 1) f at source) (sym l)
+
+pub more : (ps : List Placed) (n : ℕ) (labels : List ℕ → Option Place) (at : Place) (source : List ℕ) (others : List (List ℕ)) (p : Placed) (next : Place) (whole : Result (List Placed) Fault)
+    → n ≡ length ps → labels ≡ label_place ps → placed (n + 1) labels at source ≡ Ok p → next ≡ behind p.statement at
+    → all_placed ps at (source ∷ others) ≡ whole → all_placed (ps ++ p ∷ []) next others ≡ whole
+more ps n labels at source others p next whole e l h b w =
+    ap (λ (q : Place). all_placed (ps ++ p ∷ []) q others) b
+    ∙ sym (ap (λ (r : Result Placed Fault). r >>= λ p. all_placed (ps ++ p ∷ []) (behind p.statement at) others) (same ps n labels at source e l ∙ h))
+    ∙ w
+
+pub fails_more : (x : AsmError) (ps : List Placed) (n : ℕ) (labels : List ℕ → Option Place) (at : Place) (source : List ℕ) (others : List (List ℕ)) (whole : Result (List Placed) Fault)
+    → n ≡ length ps → labels ≡ label_place ps → Fails x (placed (n + 1) labels at source)
+    → all_placed ps at (source ∷ others) ≡ whole → Fails x whole
+fails_more error.Memory ps n labels at source others whole e l h w = tt
+fails_more (error.At line kind) ps n labels at source others whole e l h w =
+    sym w ∙ ap (λ (r : Result Placed Fault). r >>= λ p. all_placed (ps ++ p ∷ []) (behind p.statement at) others) (same ps n labels at source e l ∙ h)
+
+pub drop_here : (xs : List (Bor (List ℕ))) (i : ℕ) (d : Bor (List ℕ)) (source : List ℕ) → i < length xs → source ≡ (get_or xs i d).now
+    → map (λ b. b.now) (drop i xs) ≡ source ∷ map (λ b. b.now) (drop (i + 1) xs)
+drop_here xs i d source lt e =
+    let cons : drop i xs ≡ get_or xs i d ∷ drop (i + 1) xs = rw add-one (drop-cons xs i d lt) in
+    ap (map (λ b. b.now)) cons ∙ ap (λ (s : List ℕ). s ∷ map (λ b. b.now) (drop (i + 1) xs)) (sym e)

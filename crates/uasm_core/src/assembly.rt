@@ -1,0 +1,46 @@
+//! From a source to a file.
+ghost use Rattle.std.specs.Prelude.{◌≡◌, IfOk};
+ghost use Rattle.uasm_core.specs.Written.{addresses, entry_of};
+ghost use Rattle.uasm_core.specs.FileFormat.{file_of};
+ghost use Rattle.uasm_core.specs.Meaning.{Assembles};
+ghost use Rattle.uasm_core.specs.Views.{Stands, places_of};
+
+use crate::elf::elf_file;
+use crate::error::AsmError;
+use crate::labels::{LabelPlaces, find};
+use crate::placing::place_all;
+use crate::spelling::spell_all;
+use crate::statement::lines;
+use std::alloc::Global;
+
+/// The address of the label _start, else 0.
+fn entry(labels: &LabelPlaces<'_>, text_len: u32) -> u64
+    ensures { result ≡ entry_of (addresses text_len (places_of labels.now)) }
+{
+    match find(labels, b"_start") {
+        Some(place) => place.address(text_len),
+        None => 0,
+    }
+}
+
+/// Assembles a source into an ELF-64 file that loads as the program that the source means.
+///
+/// # Errors
+///
+/// `Memory` where the host has too little memory. Else `At` with the first refusal: the first pass goes by lines,
+/// and in a line a duplicate label comes before an unknown word, that before a bad operand, and that before a
+/// number outside its range or a file past its limit; if it finds none, the second pass goes by lines, and finds
+/// unknown labels and distances outside their range.
+pub fn assemble(alloc: Global, source: &str) -> Result<Vec<u8>, AsmError>
+    // The very file, or the first refusal, unless memory ran out.
+    ensures exact { Stands (λ v. v.items) result (file_of source.now) }
+
+    // It loads as a program that the source means.
+    ensures loads { IfOk result (λ v. Assembles source.now v.items) }
+{
+    let lines = lines(alloc, source)?;
+    let listing = place_all(alloc, &lines)?;
+    let out = spell_all(alloc, &listing.lines, &listing.labels, listing.text_len)?;
+    let entry = entry(&listing.labels, listing.text_len);
+    Ok(elf_file(alloc, &out, entry)?)
+}

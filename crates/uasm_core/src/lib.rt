@@ -1,0 +1,29 @@
+//! A two-pass assembler for RV64I: from a source of text to an ELF-64 program file.
+//!
+//! The first pass reads each line and places it behind the lines before it, in text or in data. The second pass
+//! spells each line's bytes, by the addresses of the labels. The language stands in `specs/`: words and registers
+//! in `WordTable`, a line's parts in `Line`, what a line asks for in `Statement`, both passes in `Written`, the
+//! file in `FileFormat`, and what all this means for a reader in `Meaning`.
+#![tactic(auto)]
+
+mod assembly;
+mod bytes;
+mod elf;
+mod error;
+mod labels;
+mod name;
+mod numeral;
+mod operands;
+mod parts;
+mod place;
+mod placing;
+mod scan;
+mod spelling;
+mod statement;
+#[cfg(test)]
+mod tests;
+mod text;
+mod words;
+
+pub use assembly::assemble;
+pub use error::{AsmError, AsmErrorKind};

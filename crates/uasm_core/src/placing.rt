@@ -1,0 +1,156 @@
+//! The first pass: each line with its place.
+ghost use Rattle.std.specs.Prelude.{◌≡◌, ◌≤◌, ◌<◌, ◌^◌, ◌+◌, List, [], ℕ, map, length, IfOk, IfSome, if◌then◌else◌, nat_lt, Some, None, sum_by, nat_eq, IfErr, IfNone, false};
+ghost use Rattle.std.specs.Option.{option_map};
+ghost use Rattle.uasm_core.specs.Views.{Stands, seen, error_at};
+ghost use Rattle.uasm_core.specs.Views.{places_of, with_label_of};
+ghost use Rattle.uasm_core.specs.declared.error.AsmError.TheVariants as error;
+ghost use Rattle.uasm_core.specs.Statement.{size_of, datum_size};
+ghost use Rattle.uasm_core.specs.Views.{statement as statement_seen, datum as datum_seen};
+ghost use Rattle.uasm_core.specs.Written.{placed, all_placed, behind, end_of, label_place, is_taken};
+ghost use Rattle.uasm_core.specs.Places.{start, is_past_limit};
+ghost use Rattle.xk_base.specs.declared.limits.TheConstants.{PROGRAM_BYTES};
+
+use crate::error::{AsmError, AsmErrorKind, Refusal};
+use crate::labels::{LabelPlaces, add, find, no_labels};
+use crate::parts::parts_of;
+use crate::place::Place;
+use crate::statement::{Datum, Statement, asked};
+use std::alloc::Global;
+use xk_base::limits::PROGRAM_BYTES;
+
+/// A line that was read.
+#[derive(Drop)]
+pub(crate) struct Placed<'a> {
+    pub line: usize,
+    pub label: Option<&'a [u8]>,
+    pub place: Place,
+    pub next: Place,
+    pub statement: Statement<'a>,
+}
+
+/// All lines, the places of their labels, and the length of their text.
+#[derive(Drop)]
+pub(crate) struct Listing<'a> {
+    pub lines: Vec<Placed<'a>>,
+    pub labels: LabelPlaces<'a>,
+    pub text_len: u32,
+}
+
+fn datum_len(d: &Datum<'_>) -> u64
+    ensures value { result ≡ datum_size (datum_seen d.now) }
+    ensures range { (1 ≤ result) × (result ≤ 8) }
+{
+    match d {
+        Datum::Byte(_) => 1,
+        Datum::Word(_) => 4,
+        Datum::Dword(_) | Datum::Address(_) => 8,
+    }
+}
+
+/// How many bytes these values have, of which there are no more than a file may have bytes.
+fn values_len(values: &[Datum<'_>]) -> u64
+    requires { length values.now ≤ PROGRAM_BYTES }
+    ensures value { result ≡ sum_by datum_size (map datum_seen values.now) }
+    ensures range { result < 2 ^ 32 }
+{
+    let mut n = 0;
+    for d in values {
+        n += datum_len(d);
+    }
+    n
+}
+
+/// How many bytes a statement spells; none where they are more than a file may have.
+fn size(statement: &Statement<'_>) -> Option<u64>
+    ensures value { IfSome result (λ n. (n ≡ size_of (statement_seen statement.now)) × (n < 2 ^ 32)) }
+    ensures long { IfNone result (PROGRAM_BYTES < size_of (statement_seen statement.now)) }
+{
+    match statement {
+        Statement::Empty | Statement::Switch(_) => Some(0),
+        Statement::One(_) | Statement::BranchTo(..) | Statement::JumpTo(..) => Some(4),
+        Statement::Two(..) | Statement::LoadAddress(..) => Some(8),
+        Statement::Values(values) if values.len() <= PROGRAM_BYTES => Some(values_len(values)),
+        Statement::Text(text) if text.len() <= PROGRAM_BYTES => Some(text.len() as u64),
+        Statement::Space(n) => Some(u64::from(*n)),
+        _ => None,
+    }
+}
+
+/// The place behind a statement, if a file may be so long.
+fn place_behind(at: Place, statement: &Statement<'_>) -> Option<Place>
+    ensures { result ≡ (let next = behind (statement_seen statement.now) at in if is_past_limit next then None else Some next) }
+{
+    match statement {
+        Statement::Switch(to) => Some(at.switched(*to)),
+        _ => at.grown(size(statement)?),
+    }
+}
+
+/// What is wrong, with the line's number.
+pub(crate) fn at_line(line: usize, refusal: Refusal) -> AsmError
+    ensures { result ≡ error_at line refusal }
+{
+    match refusal {
+        Refusal::NoMemory => AsmError::Memory,
+        Refusal::Kind(kind) => AsmError::At { line, kind },
+    }
+}
+
+/// Whether the label stands already.
+fn is_known<'a>(labels: &LabelPlaces<'a>, label: Option<&'a [u8]>) -> bool
+    ensures { result ≡ is_taken (option_map (λ b. b.now) label.entry) (places_of labels.now) }
+{
+    match label {
+        Some(l) => find(labels, l).is_some(),
+        None => false,
+    }
+}
+
+fn enter<'a>(labels: &mut LabelPlaces<'a>, label: Option<&'a [u8]>, at: Place) -> Result<(), AsmError>
+    ensures value { IfOk result (λ _. places_of labels.new ≡ with_label_of (option_map (λ b. b.now) label.entry) at (places_of labels.old)) }
+    ensures memory { IfErr result (λ e. e ≡ error.Memory) }
+{
+    match label {
+        Some(l) => Ok(add(labels, l, at)?),
+        None => Ok(()),
+    }
+}
+
+fn place_line<'a>(alloc: Global, labels: &mut LabelPlaces<'a>, line: usize, at: Place, source: &'a [u8]) -> Result<Placed<'a>, AsmError>
+    ensures value { Stands seen result (placed line (places_of labels.old) at source.now) }
+    ensures fresh { IfOk result (λ p. is_taken (seen p).label (places_of labels.old) ≡ false) }
+    ensures place { IfOk result (λ p. p.place ≡ at) }
+    ensures next { IfOk result (λ p. p.next ≡ behind (seen p).statement at) }
+    ensures labels { IfOk result (λ p. places_of labels.new ≡ with_label_of (seen p).label at (places_of labels.old)) }
+{
+    let parts = parts_of(alloc, source)?;
+    if is_known(labels, parts.label) {
+        return Err(AsmError::At { line, kind: AsmErrorKind::DuplicateLabel });
+    }
+    let statement = match asked(alloc, at.section(), &parts) {
+        Ok(s) => s,
+        Err(r) => return Err(at_line(line, r)),
+    };
+    let Some(next) = place_behind(at, &statement) else {
+        return Err(AsmError::At { line, kind: AsmErrorKind::OutOfRange });
+    };
+    enter(labels, parts.label, at)?;
+    Ok(Placed { line, label: parts.label, place: at, next, statement })
+}
+
+/// All lines with their places.
+pub(crate) fn place_all<'a>(alloc: Global, lines: &[&'a str]) -> Result<Listing<'a>, AsmError>
+    ensures value { Stands (λ v. map seen v.lines.items) result (all_placed [] start (map (λ l. l.now) lines.now)) }
+    ensures labels { IfOk result (λ v. places_of v.labels ≡ label_place (map seen v.lines.items)) }
+    ensures text_len { IfOk result (λ v. v.text_len ≡ (end_of (map seen v.lines.items) start).text_len) }
+{
+    let mut found = Vec::new(alloc);
+    let mut labels = no_labels(alloc);
+    let mut at = Place::start();
+    for (i, line) in lines.iter().enumerate() {
+        let one = place_line(alloc, &mut labels, i + 1, at, line.as_bytes())?;
+        at = one.next;
+        found.push(one)?;
+    }
+    Ok(Listing { lines: found, labels, text_len: at.text_len() })
+}

@@ -1,0 +1,440 @@
+//! What a line asks for.
+ghost use Rattle.std.specs.Prelude.{◌≡◌, ◌≤◌, ◌<◌, ◌^◌, ◌∷◌, ◌++◌, [], List, ℕ, map, IfOk, IfSome, Some, None, Ok, Err, drop};
+ghost use Rattle.std.specs.Str.Lines.{lines as lines_in};
+ghost use Rattle.uasm_core.specs.Views.{Gives, Answers, parts as parts_seen};
+ghost use Rattle.uasm_core.specs.Statement.{statement as statement_meant, statement_of, ranged, low_bits, alone as alone_in, li_code as li_code_in, Code, size_of, datum_size, given as given_in, datum as datum_in, bit_count, GivenNumber, each, values as values_in, stands_in as stands};
+ghost use Rattle.uasm_core.specs.declared.words.Form.TheVariants as form;
+ghost use Rattle.uasm_core.specs.Views.{statement as seen, given as given_seen, datum as datum_seen};
+
+use crate::error::{AsmErrorKind, Refusal};
+use crate::name::Name;
+use crate::numeral::Number;
+use crate::operands::{immediate, indirect, label, number, one, register, register_label, register_number, registers, three, two};
+use crate::parts::{Parts, is_label};
+use crate::text::text;
+use crate::words::{Form, Section, Width, form_named};
+use rv64i_core::instr::{BranchOp, ImmOp, Imm12, Imm20, Instr, LoadOp, RegOp, Shift5, Shift6, ShiftOp, StoreOp, WordOp};
+use std::alloc::{AllocError, Global};
+use xk_base::Reg;
+
+/// A value of data: a number of some width, or the address of a label.
+#[derive(Drop)]
+pub(crate) enum Datum<'a> {
+    Byte(u8),
+    Word(u32),
+    Dword(u64),
+    Address(Name<'a>),
+}
+
+/// A line without its label.
+#[derive(Drop)]
+pub(crate) enum Statement<'a> {
+    Empty,
+    Switch(Section),
+    One(Instr),
+    Two(Instr, Instr),
+    BranchTo(BranchOp, Reg, Reg, Name<'a>),
+    JumpTo(Reg, Name<'a>),
+    LoadAddress(Reg, Name<'a>),
+    Values(Vec<Datum<'a>>),
+    Text(Vec<u8>),
+    Space(u32),
+}
+
+/// The lines of the source.
+pub(crate) fn lines(alloc: Global, source: &str) -> Result<Vec<&str>, AllocError>
+    ensures { IfOk result (λ v. map (λ l. l.now) v.items ≡ lines_in source.now) }
+{
+    source.lines().collect(alloc)
+}
+
+/// The number, where it fits twelve bits with its sign.
+fn twelve_bits(n: &Number) -> Result<Imm12, AsmErrorKind>
+    ensures { result ≡ ranged 2048 2047 n.now (low_bits 12 n.now) }
+{
+    if n.is_within(2048, 2047) {
+        Ok(Imm12::new(n.low_bits(12) as u16))
+    } else {
+        Err(AsmErrorKind::OutOfRange)
+    }
+}
+
+/// The number, where it fits twenty bits.
+fn twenty_bits(n: &Number) -> Result<Imm20, AsmErrorKind>
+    ensures { result ≡ ranged 0 0xFFFFF n.now (low_bits 20 n.now) }
+{
+    if n.is_within(0, 0xFFFFF) {
+        Ok(Imm20::new(n.low_bits(20) as u32))
+    } else {
+        Err(AsmErrorKind::OutOfRange)
+    }
+}
+
+/// The number, where it is a shift of 64 bits.
+fn six_bits(n: &Number) -> Result<Shift6, AsmErrorKind>
+    ensures { result ≡ ranged 0 63 n.now (low_bits 6 n.now) }
+{
+    if n.is_within(0, 63) {
+        Ok(Shift6::new(n.low_bits(6) as u8))
+    } else {
+        Err(AsmErrorKind::OutOfRange)
+    }
+}
+
+/// The number, where it is a shift of 32 bits.
+fn five_bits(n: &Number) -> Result<Shift5, AsmErrorKind>
+    ensures { result ≡ ranged 0 31 n.now (low_bits 5 n.now) }
+{
+    if n.is_within(0, 31) {
+        Ok(Shift5::new(n.low_bits(5) as u8))
+    } else {
+        Err(AsmErrorKind::OutOfRange)
+    }
+}
+
+fn register_statement<'a>(op: RegOp, operands: &[&[u8]]) -> Result<Statement<'a>, Refusal>
+    ensures { Answers seen result (statement_of (form.Register op) (map (λ b. b.now) operands.now)) }
+{
+    let (d, s, t) = registers(operands)?;
+    Ok(Statement::One(Instr::Op { op, rd: d, rs1: s, rs2: t }))
+}
+
+fn register_word_statement<'a>(op: WordOp, operands: &[&[u8]]) -> Result<Statement<'a>, Refusal>
+    ensures { Answers seen result (statement_of (form.RegisterWord op) (map (λ b. b.now) operands.now)) }
+{
+    let (d, s, t) = registers(operands)?;
+    Ok(Statement::One(Instr::OpW { op, rd: d, rs1: s, rs2: t }))
+}
+
+fn immediate_statement<'a>(op: ImmOp, operands: &[&[u8]]) -> Result<Statement<'a>, Refusal>
+    ensures { Answers seen result (statement_of (form.Immediate op) (map (λ b. b.now) operands.now)) }
+{
+    let (d, s, n) = immediate(operands)?;
+    Ok(Statement::One(Instr::OpImm { op, rd: d, rs1: s, imm: twelve_bits(&n)? }))
+}
+
+fn add_word_statement<'a>(operands: &[&[u8]]) -> Result<Statement<'a>, Refusal>
+    ensures { Answers seen result (statement_of form.AddImmediateWord (map (λ b. b.now) operands.now)) }
+{
+    let (d, s, n) = immediate(operands)?;
+    Ok(Statement::One(Instr::AddImmW { rd: d, rs1: s, imm: twelve_bits(&n)? }))
+}
+
+fn shift_statement<'a>(op: ShiftOp, operands: &[&[u8]]) -> Result<Statement<'a>, Refusal>
+    ensures { Answers seen result (statement_of (form.Shift op) (map (λ b. b.now) operands.now)) }
+{
+    let (d, s, n) = immediate(operands)?;
+    Ok(Statement::One(Instr::ShiftImm { op, rd: d, rs1: s, places: six_bits(&n)? }))
+}
+
+fn shift_word_statement<'a>(op: ShiftOp, operands: &[&[u8]]) -> Result<Statement<'a>, Refusal>
+    ensures { Answers seen result (statement_of (form.ShiftWord op) (map (λ b. b.now) operands.now)) }
+{
+    let (d, s, n) = immediate(operands)?;
+    Ok(Statement::One(Instr::ShiftImmW { op, rd: d, rs1: s, places: five_bits(&n)? }))
+}
+
+fn load_statement<'a>(op: LoadOp, operands: &[&[u8]]) -> Result<Statement<'a>, Refusal>
+    ensures { Answers seen result (statement_of (form.Load op) (map (λ b. b.now) operands.now)) }
+{
+    let (d, s, n) = indirect(operands)?;
+    Ok(Statement::One(Instr::Load { op, rd: d, rs1: s, imm: twelve_bits(&n)? }))
+}
+
+fn store_statement<'a>(op: StoreOp, operands: &[&[u8]]) -> Result<Statement<'a>, Refusal>
+    ensures { Answers seen result (statement_of (form.Store op) (map (λ b. b.now) operands.now)) }
+{
+    let (t, s, n) = indirect(operands)?;
+    Ok(Statement::One(Instr::Store { op, rs1: s, rs2: t, imm: twelve_bits(&n)? }))
+}
+
+fn jump_register_statement<'a>(operands: &[&[u8]]) -> Result<Statement<'a>, Refusal>
+    ensures { Answers seen result (statement_of form.JumpRegister (map (λ b. b.now) operands.now)) }
+{
+    let (d, s, n) = indirect(operands)?;
+    Ok(Statement::One(Instr::Jalr { rd: d, rs1: s, imm: twelve_bits(&n)? }))
+}
+
+fn branch_statement<'a>(op: BranchOp, operands: &[&'a [u8]]) -> Result<Statement<'a>, Refusal>
+    ensures { Answers seen result (statement_of (form.Branch op) (map (λ b. b.now) operands.now)) }
+{
+    let (s, t, l) = three(operands)?;
+    let s = register(s)?;
+    let t = register(t)?;
+    Ok(Statement::BranchTo(op, s, t, label(l)?))
+}
+
+fn jump_statement<'a>(operands: &[&'a [u8]]) -> Result<Statement<'a>, Refusal>
+    ensures { Answers seen result (statement_of form.Jump (map (λ b. b.now) operands.now)) }
+{
+    let (d, l) = register_label(operands)?;
+    Ok(Statement::JumpTo(d, l))
+}
+
+fn load_upper_statement<'a>(operands: &[&[u8]]) -> Result<Statement<'a>, Refusal>
+    ensures { Answers seen result (statement_of form.LoadUpper (map (λ b. b.now) operands.now)) }
+{
+    let (d, n) = register_number(operands)?;
+    Ok(Statement::One(Instr::Lui { rd: d, imm: twenty_bits(&n)? }))
+}
+
+fn add_upper_statement<'a>(operands: &[&[u8]]) -> Result<Statement<'a>, Refusal>
+    ensures { Answers seen result (statement_of form.AddUpper (map (λ b. b.now) operands.now)) }
+{
+    let (d, n) = register_number(operands)?;
+    Ok(Statement::One(Instr::Auipc { rd: d, imm: twenty_bits(&n)? }))
+}
+
+fn fence_statement<'a>(operands: &[&[u8]]) -> Result<Statement<'a>, Refusal>
+    ensures { Answers seen result (statement_of form.Fence (map (λ b. b.now) operands.now)) }
+{
+    alone(operands, Instr::Fence { rd: Reg::new(0), rs1: Reg::new(0), imm: Imm12::new(0xFF) })
+}
+
+fn nothing_statement<'a>(operands: &[&[u8]]) -> Result<Statement<'a>, Refusal>
+    ensures { Answers seen result (statement_of form.Nothing (map (λ b. b.now) operands.now)) }
+{
+    alone(operands, Instr::OpImm { op: ImmOp::Addi, rd: Reg::new(0), rs1: Reg::new(0), imm: Imm12::new(0) })
+}
+
+fn return_statement<'a>(operands: &[&[u8]]) -> Result<Statement<'a>, Refusal>
+    ensures { Answers seen result (statement_of form.Return (map (λ b. b.now) operands.now)) }
+{
+    alone(operands, Instr::Jalr { rd: Reg::new(0), rs1: Reg::new(1), imm: Imm12::new(0) })
+}
+
+fn move_statement<'a>(operands: &[&[u8]]) -> Result<Statement<'a>, Refusal>
+    ensures { Answers seen result (statement_of form.Move (map (λ b. b.now) operands.now)) }
+{
+    let (d, s) = two(operands)?;
+    let d = register(d)?;
+    let s = register(s)?;
+    Ok(Statement::One(Instr::OpImm { op: ImmOp::Addi, rd: d, rs1: s, imm: Imm12::new(0) }))
+}
+
+fn jump_always_statement<'a>(operands: &[&'a [u8]]) -> Result<Statement<'a>, Refusal>
+    ensures { Answers seen result (statement_of form.JumpAlways (map (λ b. b.now) operands.now)) }
+{
+    let l = label(one(operands)?)?;
+    Ok(Statement::JumpTo(Reg::new(0), l))
+}
+
+fn call_statement<'a>(operands: &[&'a [u8]]) -> Result<Statement<'a>, Refusal>
+    ensures { Answers seen result (statement_of form.Call (map (λ b. b.now) operands.now)) }
+{
+    let l = label(one(operands)?)?;
+    Ok(Statement::JumpTo(Reg::new(1), l))
+}
+
+fn load_address_statement<'a>(operands: &[&'a [u8]]) -> Result<Statement<'a>, Refusal>
+    ensures { Answers seen result (statement_of form.LoadAddress (map (λ b. b.now) operands.now)) }
+{
+    let (d, l) = register_label(operands)?;
+    Ok(Statement::LoadAddress(d, l))
+}
+
+fn switch_statement<'a>(op: Section, operands: &[&[u8]]) -> Result<Statement<'a>, Refusal>
+    ensures { Answers seen result (statement_of (form.Switch op) (map (λ b. b.now) operands.now)) }
+{
+    match operands {
+        [] => Ok(Statement::Switch(op)),
+        _ => Err(Refusal::Kind(AsmErrorKind::BadOperand)),
+    }
+}
+
+fn space_statement<'a>(operands: &[&[u8]]) -> Result<Statement<'a>, Refusal>
+    ensures { Answers seen result (statement_of form.Space (map (λ b. b.now) operands.now)) }
+{
+    let n = number(one(operands)?)?;
+    if n.is_within(0, 65536) {
+        Ok(Statement::Space(n.low_bits(17) as u32))
+    } else {
+        Err(Refusal::Kind(AsmErrorKind::OutOfRange))
+    }
+}
+
+/// Lui, and addiw where the low part isn't 0; or addi alone.
+fn li_code<'a>(d: Reg, n: &Number) -> Statement<'a>
+    ensures { seen result ≡ Code (li_code_in d n.now) }
+{
+    let m = n.low_bits(32);
+    let upper = Imm20::new(((m + 2048) / 4096 % 0x10_0000) as u32);
+    let lower = (m % 4096) as u16;
+    if n.is_within(2048, 2047) {
+        Statement::One(Instr::OpImm { op: ImmOp::Addi, rd: d, rs1: Reg::new(0), imm: Imm12::new(n.low_bits(12) as u16) })
+    } else if lower == 0 {
+        Statement::One(Instr::Lui { rd: d, imm: upper })
+    } else {
+        Statement::Two(Instr::Lui { rd: d, imm: upper }, Instr::AddImmW { rd: d, rs1: d, imm: Imm12::new(lower) })
+    }
+}
+
+fn load_number_statement<'a>(operands: &[&[u8]]) -> Result<Statement<'a>, Refusal>
+    ensures { Answers seen result (statement_of form.LoadNumber (map (λ b. b.now) operands.now)) }
+{
+    let (d, n) = register_number(operands)?;
+    if n.is_within(0x8000_0000, 0x7FFF_FFFF) {
+        Ok(li_code(d, &n))
+    } else {
+        Err(Refusal::Kind(AsmErrorKind::OutOfRange))
+    }
+}
+
+fn text_statement<'a>(alloc: Global, operands: &[&[u8]]) -> Result<Statement<'a>, Refusal>
+    ensures { Answers seen result (statement_of form.Text (map (λ b. b.now) operands.now)) }
+{
+    let mut t = text(alloc, one(operands)?)?;
+    t.push(0)?;
+    Ok(Statement::Text(t))
+}
+
+/// An instruction without operands.
+fn alone<'a>(operands: &[&[u8]], i: Instr) -> Result<Statement<'a>, Refusal>
+    ensures { Answers seen result (alone_in (map (λ b. b.now) operands.now) i) }
+{
+    match operands {
+        [] => Ok(Statement::One(i)),
+        _ => Err(Refusal::Kind(AsmErrorKind::BadOperand)),
+    }
+}
+
+/// A value as it is given, before its range is tested.
+#[derive(Drop)]
+enum Given<'a> {
+    Number(Number),
+    Label(Name<'a>),
+}
+
+fn read_value<'a>(width: Width, bytes: &'a [u8]) -> Result<Given<'a>, AsmErrorKind>
+    ensures { Gives given_seen result (given_in width bytes.now) }
+{
+    if matches!(width, Width::Dword) && is_label(bytes) {
+        Ok(Given::Label(Name::new(bytes)))
+    } else {
+        Ok(Given::Number(number(bytes)?))
+    }
+}
+
+fn bits(width: Width) -> u32
+    ensures { result ≡ bit_count width }
+{
+    match width {
+        Width::Byte => 8,
+        Width::Word => 32,
+        Width::Dword => 64,
+    }
+}
+
+fn known<'a>(width: Width, n: &Number) -> Result<Datum<'a>, AsmErrorKind>
+    ensures { Gives datum_seen result (datum_in width (GivenNumber n.now)) }
+{
+    let k = bits(width);
+    let half = 1u64 << (k - 1);
+    if !n.is_within(half, half + (half - 1)) {
+        return Err(AsmErrorKind::OutOfRange);
+    }
+    let low = n.low_bits(k);
+    Ok(match width {
+        Width::Byte => Datum::Byte(low as u8),
+        Width::Word => Datum::Word(low as u32),
+        Width::Dword => Datum::Dword(low),
+    })
+}
+
+fn stored_value<'a>(width: Width, given: &Given<'a>) -> Result<Datum<'a>, AsmErrorKind>
+    ensures { Gives datum_seen result (datum_in width (given_seen given.now)) }
+{
+    match given {
+        Given::Number(n) => known(width, n),
+        Given::Label(l) => Ok(Datum::Address(Name::new(l.bytes()))),
+    }
+}
+
+fn all_given<'a>(alloc: Global, width: Width, operands: &[&'a [u8]]) -> Result<Vec<Given<'a>>, Refusal>
+    ensures { Answers (λ v. map given_seen v.items) result (each (given_in width) (map (λ b. b.now) operands.now)) }
+{
+    let mut found = Vec::new(alloc);
+    for o in operands {
+        found.push(read_value(width, *o)?)?;
+    }
+    Ok(found)
+}
+
+fn all_data<'a>(alloc: Global, width: Width, values: &[Given<'a>]) -> Result<Vec<Datum<'a>>, Refusal>
+    ensures { Answers (λ v. map datum_seen v.items) result (each (datum_in width) (map given_seen values.now)) }
+{
+    let mut found = Vec::new(alloc);
+    for g in values {
+        found.push(stored_value(width, g)?)?;
+    }
+    Ok(found)
+}
+
+fn values_statement<'a>(alloc: Global, width: Width, operands: &[&'a [u8]]) -> Result<Statement<'a>, Refusal>
+    ensures { Answers seen result (statement_of (form.Values width) (map (λ b. b.now) operands.now)) }
+{
+    if operands.is_empty() {
+        return Err(Refusal::Kind(AsmErrorKind::BadOperand));
+    }
+    let values = all_given(alloc, width, operands)?;
+    Ok(Statement::Values(all_data(alloc, width, &values)?))
+}
+
+/// What a word with these operands asks for.
+fn formed<'a>(alloc: Global, form: Form, operands: &[&'a [u8]]) -> Result<Statement<'a>, Refusal>
+    ensures { Answers seen result (statement_of form (map (λ b. b.now) operands.now)) }
+{
+    match form {
+        Form::Register(op) => register_statement(op, operands),
+        Form::RegisterWord(op) => register_word_statement(op, operands),
+        Form::Immediate(op) => immediate_statement(op, operands),
+        Form::AddImmediateWord => add_word_statement(operands),
+        Form::Shift(op) => shift_statement(op, operands),
+        Form::ShiftWord(op) => shift_word_statement(op, operands),
+        Form::Load(op) => load_statement(op, operands),
+        Form::Store(op) => store_statement(op, operands),
+        Form::Branch(op) => branch_statement(op, operands),
+        Form::JumpRegister => jump_register_statement(operands),
+        Form::Jump => jump_statement(operands),
+        Form::LoadUpper => load_upper_statement(operands),
+        Form::AddUpper => add_upper_statement(operands),
+        Form::Fence => fence_statement(operands),
+        Form::Ecall => alone(operands, Instr::Ecall),
+        Form::Ebreak => alone(operands, Instr::Ebreak),
+        Form::Nothing => nothing_statement(operands),
+        Form::Move => move_statement(operands),
+        Form::JumpAlways => jump_always_statement(operands),
+        Form::Call => call_statement(operands),
+        Form::Return => return_statement(operands),
+        Form::LoadAddress => load_address_statement(operands),
+        Form::LoadNumber => load_number_statement(operands),
+        Form::Switch(to) => switch_statement(to, operands),
+        Form::Values(width) => values_statement(alloc, width, operands),
+        Form::Text => text_statement(alloc, operands),
+        Form::Space => space_statement(operands),
+    }
+}
+
+/// Whether a word stands in a section: data words in .data, instructions in .text.
+fn stands_in(form: Form, section: Section) -> bool
+    ensures { result ≡ stands form section }
+{
+    match form {
+        Form::Switch(_) => true,
+        Form::Values(_) | Form::Text | Form::Space => matches!(section, Section::Data),
+        _ => matches!(section, Section::Text),
+    }
+}
+
+/// What a line asks for.
+pub(crate) fn asked<'a>(alloc: Global, section: Section, parts: &Parts<'a>) -> Result<Statement<'a>, Refusal>
+    ensures { Answers seen result (statement_meant section (parts_seen parts.now)) }
+{
+    if parts.word.is_empty() && parts.operands.is_empty() {
+        return Ok(Statement::Empty);
+    }
+    match form_named(parts.word) {
+        Some(form) if stands_in(form, section) => formed(alloc, form, &parts.operands),
+        _ => Err(Refusal::Kind(AsmErrorKind::UnknownWord)),
+    }
+}
