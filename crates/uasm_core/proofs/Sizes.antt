@@ -4,8 +4,8 @@ use Rattle.std.specs.Prelude.{Option, Some, None, sum_by}
 use Rattle.xk_base.specs.Words.{le_bytes}
 use Rattle.xk_base.proofs.Words.{length-le_bytes}
 use Rattle.rv64i_core.specs.Table.{word}
-use Rattle.rv64i_core.specs.declared.instr.Instr.{Instr}
-use Rattle.rv64i_core.specs.declared.instr.Instr.TheVariants.{Branch, Jal}
+use Rattle.rv64i_core.specs.declared.instruction.Instr.{Instr}
+use Rattle.rv64i_core.specs.declared.instruction.Instr.TheVariants.{Branch, Jal}
 use Rattle.uasm_core.specs.declared.error.AsmErrorKind.{AsmErrorKind}
 use Rattle.uasm_core.specs.Statement.{Statement, Empty, Switch, Code, BranchTo, JumpTo, LoadAddress, Bytes, Datum, Known, Address, Labels, size_of, datum_size, spelled, datum_bytes, address_of, distance, code_bytes, joined, each, ◌>>=◌}
 

@@ -3,11 +3,11 @@ use Rattle.std.specs.Prelude.{◌≡◌, ℕ, ◌+◌, ◌-◌, ◌*◌, ◌/◌
 use Rattle.std.specs.List.{flat_map}
 use Rattle.xk_base.specs.Words.{le_bytes}
 use Rattle.rv64i_core.specs.Table.{word}
-use Rattle.rv64i_core.specs.declared.instr.Instr.{Instr}
-use Rattle.rv64i_core.specs.declared.instr.Instr.TheVariants.{Lui, Auipc, Jal, Jalr, Branch, Load, Store, OpImm, ShiftImm, Op, AddImmW, ShiftImmW, OpW, Fence, Ecall, Ebreak}
-use Rattle.rv64i_core.specs.declared.instr.BranchOp.{BranchOp}
-use Rattle.rv64i_core.specs.declared.instr.ImmOp.{ImmOp}
-use Rattle.rv64i_core.specs.declared.instr.ImmOp.TheVariants.{Addi}
+use Rattle.rv64i_core.specs.declared.instruction.Instr.{Instr}
+use Rattle.rv64i_core.specs.declared.instruction.Instr.TheVariants.{Lui, Auipc, Jal, Jalr, Branch, Load, Store, OpImm, ShiftImm, Op, AddImmW, ShiftImmW, OpW, Fence, Ecall, Ebreak}
+use Rattle.rv64i_core.specs.declared.instruction.BranchOp.{BranchOp}
+use Rattle.rv64i_core.specs.declared.instruction.ImmOp.{ImmOp}
+use Rattle.rv64i_core.specs.declared.instruction.ImmOp.TheVariants.{Addi}
 use Rattle.uasm_core.specs.declared.error.AsmErrorKind.{AsmErrorKind}
 use Rattle.uasm_core.specs.declared.error.AsmErrorKind.TheVariants.{UnknownWord, BadOperand, OutOfRange, UnknownLabel}
 use Rattle.uasm_core.specs.declared.words.Section.{Section}

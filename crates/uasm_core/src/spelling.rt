@@ -16,8 +16,8 @@ use crate::numeral::Number;
 use crate::placing::{Placed, at_line};
 use crate::statement::{Datum, Statement};
 use crate::words::Section;
-use rv64i_core::encode::encode;
-use rv64i_core::instr::{BranchOp, ImmOp, Imm12, Imm20, Instr};
+use rv64i_core::encode;
+use rv64i_core::{BranchOp, ImmOp, Imm12, Imm20, Instr};
 use std::alloc::{AllocError, Global};
 use xk_base::Reg;
 

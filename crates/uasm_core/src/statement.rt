@@ -13,7 +13,7 @@ use crate::operands::{immediate, indirect, label, number, one, register, registe
 use crate::parts::{Parts, is_label};
 use crate::text::text;
 use crate::words::{Form, Section, Width, form_named};
-use rv64i_core::instr::{BranchOp, ImmOp, Imm12, Imm20, Instr, LoadOp, RegOp, Shift5, Shift6, ShiftOp, StoreOp, WordOp};
+use rv64i_core::{BranchOp, ImmOp, Imm12, Imm20, Instr, LoadOp, RegOp, Shift5, Shift6, ShiftOp, StoreOp, WordOp};
 use std::alloc::{AllocError, Global};
 use xk_base::Reg;
 

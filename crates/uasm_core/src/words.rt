@@ -2,7 +2,7 @@
 ghost use Rattle.std.specs.Prelude.{◌≡◌, map};
 ghost use Rattle.uasm_core.specs.Line.{looked_up as entry_of, form_of, register_of};
 
-use rv64i_core::instr::{BranchOp, ImmOp, LoadOp, RegOp, ShiftOp, StoreOp, WordOp};
+use rv64i_core::{BranchOp, ImmOp, LoadOp, RegOp, ShiftOp, StoreOp, WordOp};
 use xk_base::Reg;
 
 /// A section of the program.
