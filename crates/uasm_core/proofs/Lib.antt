@@ -3,11 +3,12 @@ pub mod Digits
 pub mod Table
 pub mod Each
 pub mod OneMore
+pub mod Once
 pub mod Appended
 pub mod Sections
 pub mod Steps
 pub mod Passes
 pub mod Sizes
 pub mod Lines
-pub mod Loads
 pub mod Whole
+pub mod Loads

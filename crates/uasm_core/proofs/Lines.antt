@@ -6,7 +6,8 @@ use Rattle.std.proofs.lemmas.Bool.{ltb-false}
 use Rattle.xk_base.specs.declared.limits.TheConstants.{PROGRAM_BYTES}
 use Rattle.uasm_core.specs.declared.words.Section.{Section}
 use Rattle.uasm_core.specs.declared.words.Section.TheVariants.{Text, Data}
-use Rattle.uasm_core.specs.Places.{Place, start, grown, address, file_len}
+use Rattle.uasm_core.specs.declared.place.Place.{Place}
+use Rattle.uasm_core.specs.Places.{start, grown, address, file_len}
 use Rattle.uasm_core.specs.Statement.{Statement, Empty, Switch, Code, BranchTo, JumpTo, LoadAddress, Bytes, Labels, spelled, size_of}
 use Rattle.uasm_core.specs.Written.{Placed, is_label_of, label_place, behind, end_of, addresses, SectionBytes, all_placed, all_spelled, no_bytes, program_of}
 use Rattle.uasm_core.specs.Meaning.{ProgramLine, Follow, after_bytes, is_same, bytes_in, addresses_of, as_list, Means}

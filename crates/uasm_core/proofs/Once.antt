@@ -2,7 +2,7 @@
 use Rattle.std.proofs.Common.{◌≡◌, ℕ, Bool, true, false, cond, List, [], ◌∷◌, ◌++◌, Option, Some, None, refl, sym, ap, ◌∙◌, subst}
 use Rattle.std.specs.Str.{bytes_eq}
 use Rattle.std.specs.Option.{is_some}
-use Rattle.uasm_core.specs.Places.{Place}
+use Rattle.uasm_core.specs.declared.place.Place.{Place}
 use Rattle.uasm_core.specs.Written.{Placed, label_place, is_label_of, is_taken}
 use Rattle.std.proofs.lemmas.Slice.Eq.{bytes_eq-Decides}
 use Rattle.uasm_core.proofs.OneMore.{or_else, label_more, none_of}

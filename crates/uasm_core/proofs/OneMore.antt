@@ -4,7 +4,7 @@ use Rattle.std.specs.Str.{bytes_eq}
 use Rattle.std.specs.Option.{is_some}
 use Rattle.std.proofs.Math.Path.{fun_ext}
 use Rattle.std.proofs.lemmas.Slice.Eq.{bytes_eq-Decides}
-use Rattle.uasm_core.specs.Places.{Place}
+use Rattle.uasm_core.specs.declared.place.Place.{Place}
 use Rattle.uasm_core.specs.Written.{is_label_of}
 use Rattle.uasm_core.specs.Views.{with_label_of}
 use Rattle.uasm_core.specs.Written.{Placed, label_place, is_taken, end_of, behind}

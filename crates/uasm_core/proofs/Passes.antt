@@ -5,7 +5,8 @@ use Rattle.uasm_core.specs.declared.error.AsmErrorKind.TheVariants.{DuplicateLab
 use Rattle.uasm_core.specs.declared.words.Section.{Section}
 use Rattle.uasm_core.specs.declared.words.Section.TheVariants.{Text, Data}
 use Rattle.uasm_core.specs.Line.{parts_of}
-use Rattle.uasm_core.specs.Places.{Place, is_past_limit, address}
+use Rattle.uasm_core.specs.declared.place.Place.{Place}
+use Rattle.uasm_core.specs.Places.{is_past_limit, address}
 use Rattle.uasm_core.specs.Statement.{Statement, statement, Labels, spelled}
 use Rattle.uasm_core.specs.Written.{Placed, Fault, ◌>>=◌, on_line, placed, all_placed, label_place, is_taken, behind, SectionBytes, put_end, put_in, all_spelled}
 use Rattle.uasm_core.specs.Meaning.{ProgramLine, is_same, bytes_in}

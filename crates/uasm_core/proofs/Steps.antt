@@ -2,7 +2,7 @@
 use Rattle.std.proofs.Common.{◌≡◌, ℕ, ◌+◌, ◌<◌, List, [], ◌∷◌, ◌++◌, length, Option, Result, Ok, Err, refl, sym, ap, ◌∙◌, Bor, get_or, map, drop, add-one, drop-cons}
 use Rattle.uasm_core.specs.declared.error.AsmError.{AsmError}
 use Rattle.uasm_core.specs.declared.error.AsmError.TheVariants as error
-use Rattle.uasm_core.specs.Places.{Place}
+use Rattle.uasm_core.specs.declared.place.Place.{Place}
 use Rattle.uasm_core.specs.Views.{Fails}
 use Rattle.uasm_core.specs.Written.{Placed, Fault, ◌>>=◌, placed, all_placed, label_place, behind}
 

@@ -1,27 +1,66 @@
 -- Both passes, joined.
-use Rattle.std.proofs.Common.{◌≡◌, ℕ, List, [], ◌∷◌, Result, Ok, Err, refl, sym, ap, subst, ◌∙◌}
-use Rattle.std.specs.Prelude.{unwrap_or, Option}
+use Rattle.std.proofs.Common.{◌≡◌, ℕ, ◌+◌, ◌^◌, ◌<◌, ◌≤◌, List, [], ◌∷◌, length, Option, Result, Ok, Err, refl, sym, ap, subst, ◌∙◌, arith}
 use Rattle.std.specs.Str.Lines.{lines}
-use Rattle.uasm_core.specs.Places.{Place}
-use Rattle.uasm_core.specs.Written.{Placed, Fault, SectionBytes, Program, ◌>>=◌, all_placed, all_spelled, label_place, addresses, start, end_of, no_bytes, written, file_of, elf_of}
-
-abbrev second : List Placed → Result Program Fault
-second ps =
-    let text = (end_of ps start).text in
-    let labels = addresses text (label_place ps) in
-    all_spelled labels text no_bytes ps >>= λ r. Ok (record { text = r.in_text; data_bytes = r.in_data; entry = unwrap_or (labels (95 ∷ 115 ∷ 116 ∷ 97 ∷ 114 ∷ 116 ∷ [])) 0 })
+use Rattle.xk_base.specs.declared.limits.TheConstants.{PROGRAM_BYTES}
+use Rattle.uasm_core.specs.declared.place.Place.{Place}
+use Rattle.uasm_core.specs.Places.{start, headers_len}
+use Rattle.uasm_core.specs.Written.{Placed, Fault, SectionBytes, Program, ◌>>=◌, all_placed, all_spelled, label_place, addresses, end_of, no_bytes, second_pass, program_of, entry_of}
+use Rattle.uasm_core.specs.FileFormat.{file_of, elf_of}
+use Rattle.uasm_core.specs.Meaning.{Assembles}
+use Rattle.uasm_core.proofs.Lines.{Known, known}
+use Rattle.uasm_core.proofs.Loads.{whole_file}
 
 pub refused_first : (source : List ℕ) (e : Fault) → all_placed [] start (lines source) ≡ Err e → file_of source ≡ Err e
-refused_first source e h = ap (λ (x : Result (List Placed) Fault). (x >>= second) >>= λ p. Ok (elf_of p)) h
+refused_first source e h = ap (λ (x : Result (List Placed) Fault). (x >>= second_pass) >>= λ p. Ok (elf_of p)) h
 
-abbrev of_second : ℕ → (List ℕ → Option Place) → Result SectionBytes Fault → Result (List ℕ) Fault
-of_second text places x = (x >>= λ r. let p : Program = record { text = r.in_text; data_bytes = r.in_data; entry = unwrap_or (addresses text places (95 ∷ 115 ∷ 116 ∷ 97 ∷ 114 ∷ 116 ∷ [])) 0 } in let w : Result Program Fault = Ok p in w) >>= λ p. Ok (elf_of p)
+-- the file where the second pass gives this
+abbrev pub of_second : ℕ → (List ℕ → Option Place) → Result SectionBytes Fault → Result (List ℕ) Fault
+of_second text_len places x = (x >>= λ r. let w : Result Program Fault = Ok (program_of text_len places r) in w) >>= λ p. Ok (elf_of p)
 
-pub by_second : (source : List ℕ) (ps : List Placed) (text : ℕ) (places : List ℕ → Option Place) (x : Result SectionBytes Fault)
-    → all_placed [] start (lines source) ≡ Ok ps → text ≡ (end_of ps start).text → places ≡ label_place ps
-    → all_spelled (addresses text places) text no_bytes ps ≡ x → file_of source ≡ of_second text places x
-by_second source ps text places x h t l s =
-    ap (λ (y : Result (List Placed) Fault). (y >>= second) >>= λ p. Ok (elf_of p)) h
+pub by_second : (source : List ℕ) (ps : List Placed) (text_len : ℕ) (places : List ℕ → Option Place) (x : Result SectionBytes Fault)
+    → all_placed [] start (lines source) ≡ Ok ps → text_len ≡ (end_of ps start).text_len → places ≡ label_place ps
+    → all_spelled (addresses text_len places) text_len no_bytes ps ≡ x → file_of source ≡ of_second text_len places x
+by_second source ps text_len places x h t l s =
+    ap (λ (y : Result (List Placed) Fault). (y >>= second_pass) >>= λ p. Ok (elf_of p)) h
     ∙ ap (λ (n : ℕ). of_second n (label_place ps) (all_spelled (addresses n (label_place ps)) n no_bytes ps)) (sym t)
-    ∙ ap (λ (f : List ℕ → Option Place). of_second text f (all_spelled (addresses text f) text no_bytes ps)) (sym l)
-    ∙ ap (of_second text places) s
+    ∙ ap (λ (f : List ℕ → Option Place). of_second text_len f (all_spelled (addresses text_len f) text_len no_bytes ps)) (sym l)
+    ∙ ap (of_second text_len places) s
+
+-- what is known of what the second pass gives
+pub known_second : (source : List ℕ) (ps : List Placed) (text_len : ℕ) (places : List ℕ → Option Place) (r : SectionBytes)
+    → all_placed [] start (lines source) ≡ Ok ps → text_len ≡ (end_of ps start).text_len → places ≡ label_place ps
+    → all_spelled (addresses text_len places) text_len no_bytes ps ≡ Ok r → Known source ps r text_len
+known_second source ps text_len places r h t l s =
+    known source ps r text_len h t (ap (λ (f : List ℕ → Option Place). all_spelled (addresses text_len f) text_len no_bytes ps) (sym l) ∙ s)
+
+-- each section is short
+pub lengths : (source : List ℕ) (ps : List Placed) (r : SectionBytes) (len : ℕ) → Known source ps r len → (length r.in_text < 2 ^ 32) × (length r.in_data < 2 ^ 32)
+lengths source ps r len k =
+    let a = k.text_len in
+    let b = k.data_len in
+    let c = k.short in
+    (omega (arith, a, b, c), omega (arith, a, b, c))
+
+-- the file of what the second pass gives loads as a program that the source means
+pub assembles : (source : List ℕ) (ps : List Placed) (r : SectionBytes) (len entry : ℕ) → Known source ps r len
+    → entry ≡ entry_of (addresses len (label_place ps)) → entry < 2 ^ 64
+    → Assembles source (elf_of (program_of len (label_place ps) r))
+assembles source ps r len entry k e small =
+    let short = lengths source ps r len k in
+    let whole = whole_file r.in_text r.in_data (entry_of (addresses len (label_place ps))) (subst (λ (x : ℕ). x < 2 ^ 64) e small) short.0 short.1 in
+    let a = k.text_len in
+    let b = k.data_len in
+    let c = k.short in
+    record {
+      program = program_of len (label_place ps) r;
+      means = k.means;
+      loads = whole.loads;
+      short = bounded r.in_text r.in_data (end_of ps start) _ whole.size a b c
+    }
+  where
+    bounded : (text data_bytes : List ℕ) (at : Place) (n : ℕ) → n ≡ headers_len (length text) (length data_bytes) + length text + length data_bytes
+        → length text ≡ at.text_len → length data_bytes ≡ at.data_len → headers_len at.text_len at.data_len + at.text_len + at.data_len ≤ PROGRAM_BYTES → n ≤ PROGRAM_BYTES
+    bounded text data_bytes at n size a b c =
+        let same : headers_len (length text) (length data_bytes) + length text + length data_bytes ≡ headers_len at.text_len at.data_len + at.text_len + at.data_len
+            = ap (λ (x : ℕ). headers_len x (length data_bytes) + x + length data_bytes) a ∙ ap (λ (x : ℕ). headers_len at.text_len x + at.text_len + x) b in
+        subst (λ (x : ℕ). x ≤ PROGRAM_BYTES) (sym (size ∙ same)) c

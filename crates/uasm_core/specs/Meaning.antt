@@ -10,7 +10,8 @@ use Rattle.uasm_core.specs.declared.words.Section.{Section}
 use Rattle.uasm_core.specs.declared.words.Section.TheVariants.{Text, Data}
 use Rattle.uasm_core.specs.Line.{parts_of}
 use Rattle.uasm_core.specs.Statement.{Statement, Switch, Labels, statement, spelled}
-use Rattle.uasm_core.specs.Places.{Place, start, grown, address, base_of}
+use Rattle.uasm_core.specs.declared.place.Place.{Place}
+use Rattle.uasm_core.specs.Places.{start, grown, address, base_of}
 use Rattle.uasm_core.specs.Written.{Program, is_label_of, entry_of}
 
 -- A line of a program: its label, where it stands, what it asks for, and the bytes that this spells.

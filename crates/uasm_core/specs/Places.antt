@@ -2,13 +2,9 @@
 use Rattle.std.specs.Prelude.{ℕ, ◌+◌, ◌*◌, Bool, nat_lt, ◌==◌, if◌then◌else◌}
 use Rattle.xk_base.specs.declared.limits.TheConstants.{PROGRAM_BYTES}
 use Rattle.xk_base.specs.ProgramFile.{page_up}
+use Rattle.uasm_core.specs.declared.place.Place.{Place}
 use Rattle.uasm_core.specs.declared.words.Section.{Section}
 use Rattle.uasm_core.specs.declared.words.Section.TheVariants.{Text, Data}
-
-pub record Place : Type 0 where
-  pub section : Section
-  pub text_len : ℕ
-  pub data_len : ℕ
 
 -- where the first line stands
 abbrev pub start : Place

@@ -25,7 +25,7 @@ use Rattle.uasm_core.specs.declared.statement.Given as code_given
 use Rattle.uasm_core.specs.declared.statement.Given.TheVariants as given_variant
 use Rattle.uasm_core.specs.Line as line
 use Rattle.uasm_core.specs.Line.{text_from}
-use Rattle.uasm_core.specs.Places.{Place}
+use Rattle.uasm_core.specs.declared.place.Place.{Place}
 use Rattle.uasm_core.specs.Statement as meant_line
 use Rattle.uasm_core.specs.Written as meant
 use Rattle.uasm_core.specs.Written.{Fault, SectionBytes}

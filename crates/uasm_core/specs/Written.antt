@@ -7,7 +7,8 @@ use Rattle.uasm_core.specs.declared.error.AsmErrorKind.{AsmErrorKind}
 use Rattle.uasm_core.specs.declared.error.AsmErrorKind.TheVariants.{OutOfRange, DuplicateLabel}
 use Rattle.uasm_core.specs.declared.words.Section.{Section}
 use Rattle.uasm_core.specs.declared.words.Section.TheVariants.{Text, Data}
-use Rattle.uasm_core.specs.Places.{Place, start, grown, address, is_past_limit}
+use Rattle.uasm_core.specs.declared.place.Place.{Place}
+use Rattle.uasm_core.specs.Places.{start, grown, address, is_past_limit}
 use Rattle.uasm_core.specs.Line.{parts_of}
 use Rattle.uasm_core.specs.Statement.{Statement, Switch, statement, size_of, Labels, spelled}
 

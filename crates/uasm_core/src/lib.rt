@@ -17,6 +17,7 @@ mod operands;
 mod parts;
 mod place;
 mod placing;
+mod program_end;
 mod scan;
 mod spelling;
 mod statement;

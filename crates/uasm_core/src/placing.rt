@@ -14,6 +14,7 @@ use crate::error::{AsmError, AsmErrorKind, Refusal};
 use crate::labels::{LabelPlaces, add, find, no_labels};
 use crate::parts::parts_of;
 use crate::place::Place;
+use crate::program_end::ProgramEnd;
 use crate::statement::{Datum, Statement, asked};
 use std::alloc::Global;
 use xk_base::limits::PROGRAM_BYTES;
@@ -21,19 +22,19 @@ use xk_base::limits::PROGRAM_BYTES;
 /// A line that was read.
 #[derive(Drop)]
 pub(crate) struct Placed<'a> {
-    pub line: usize,
-    pub label: Option<&'a [u8]>,
-    pub place: Place,
-    pub next: Place,
-    pub statement: Statement<'a>,
+    pub(crate) line: usize,
+    pub(crate) label: Option<&'a [u8]>,
+    pub(crate) place: Place,
+    pub(crate) next: ProgramEnd,
+    pub(crate) statement: Statement<'a>,
 }
 
 /// All lines, the places of their labels, and the length of their text.
 #[derive(Drop)]
 pub(crate) struct Listing<'a> {
-    pub lines: Vec<Placed<'a>>,
-    pub labels: LabelPlaces<'a>,
-    pub text_len: u32,
+    pub(crate) lines: Vec<Placed<'a>>,
+    pub(crate) labels: LabelPlaces<'a>,
+    pub(crate) text_len: u32,
 }
 
 fn datum_len(d: &Datum<'_>) -> u64
@@ -76,13 +77,13 @@ fn size(statement: &Statement<'_>) -> Option<u64>
     }
 }
 
-/// The place behind a statement, if a file may be so long.
-fn place_behind(at: Place, statement: &Statement<'_>) -> Option<Place>
-    ensures { result ≡ (let next = behind (statement_seen statement.now) at in if is_past_limit next then None else Some next) }
+/// The end behind a statement, if a file may be so long.
+fn end_behind(end: &ProgramEnd, statement: &Statement<'_>) -> Option<ProgramEnd>
+    ensures { result ≡ (let next = behind (statement_seen statement.now) end.now in if is_past_limit next then None else Some next) }
 {
     match statement {
-        Statement::Switch(to) => Some(at.switched(*to)),
-        _ => at.grown(size(statement)?),
+        Statement::Switch(to) => Some(end.switched(*to)),
+        _ => end.grown(size(statement)?),
     }
 }
 
@@ -116,26 +117,28 @@ fn enter<'a>(labels: &mut LabelPlaces<'a>, label: Option<&'a [u8]>, at: Place) -
     }
 }
 
-fn place_line<'a>(alloc: Global, labels: &mut LabelPlaces<'a>, line: usize, at: Place, source: &'a [u8]) -> Result<Placed<'a>, AsmError>
-    ensures value { Stands seen result (placed line (places_of labels.old) at source.now) }
+/// Line `line`, which stands at the end of the program so far.
+fn place_line<'a>(alloc: Global, labels: &mut LabelPlaces<'a>, line: usize, end: &ProgramEnd, source: &'a [u8]) -> Result<Placed<'a>, AsmError>
+    ensures value { Stands seen result (placed line (places_of labels.old) end.now source.now) }
     ensures fresh { IfOk result (λ p. is_taken (seen p).label (places_of labels.old) ≡ false) }
-    ensures place { IfOk result (λ p. p.place ≡ at) }
-    ensures next { IfOk result (λ p. p.next ≡ behind (seen p).statement at) }
-    ensures labels { IfOk result (λ p. places_of labels.new ≡ with_label_of (seen p).label at (places_of labels.old)) }
+    ensures place { IfOk result (λ p. p.place ≡ end.now) }
+    ensures next { IfOk result (λ p. p.next ≡ behind (seen p).statement end.now) }
+    ensures labels { IfOk result (λ p. places_of labels.new ≡ with_label_of (seen p).label end.now (places_of labels.old)) }
 {
     let parts = parts_of(alloc, source)?;
     if is_known(labels, parts.label) {
         return Err(AsmError::At { line, kind: AsmErrorKind::DuplicateLabel });
     }
-    let statement = match asked(alloc, at.section(), &parts) {
+    let place = end.place();
+    let statement = match asked(alloc, place.section, &parts) {
         Ok(s) => s,
         Err(r) => return Err(at_line(line, r)),
     };
-    let Some(next) = place_behind(at, &statement) else {
+    let Some(next) = end_behind(end, &statement) else {
         return Err(AsmError::At { line, kind: AsmErrorKind::OutOfRange });
     };
-    enter(labels, parts.label, at)?;
-    Ok(Placed { line, label: parts.label, place: at, next, statement })
+    enter(labels, parts.label, place)?;
+    Ok(Placed { line, label: parts.label, place, next, statement })
 }
 
 /// All lines with their places.
@@ -146,11 +149,11 @@ pub(crate) fn place_all<'a>(alloc: Global, lines: &[&'a str]) -> Result<Listing<
 {
     let mut found = Vec::new(alloc);
     let mut labels = no_labels(alloc);
-    let mut at = Place::start();
+    let mut end = ProgramEnd::start();
     for (i, line) in lines.iter().enumerate() {
-        let one = place_line(alloc, &mut labels, i + 1, at, line.as_bytes())?;
-        at = one.next;
+        let one = place_line(alloc, &mut labels, i + 1, &end, line.as_bytes())?;
+        end = one.next;
         found.push(one)?;
     }
-    Ok(Listing { lines: found, labels, text_len: at.text_len() })
+    Ok(Listing { lines: found, labels, text_len: end.place().text_len })
 }

@@ -165,7 +165,7 @@ fn spell_line<'a>(out: &mut Output, labels: &LabelPlaces<'a>, text_len: u32, lin
     ensures { Stands (λ _. bytes_in out.new) result (spelled_line (addresses text_len (places_of labels.now)) text_len (bytes_in out.old) (seen line.now)) }
 {
     let at = line.place.address(text_len);
-    match put_section(out, line.place.section(), labels, text_len, at, &line.statement) {
+    match put_section(out, line.place.section, labels, text_len, at, &line.statement) {
         Ok(()) => Ok(()),
         Err(r) => Err(at_line(line.line, r)),
     }

@@ -1,7 +1,8 @@
 use Rattle.std.proofs.Common.{◌≡◌, ◌+◌, ◌<◌, ℕ, List, [], ◌∷◌, ◌++◌, map, drop, length, Option, Bool, false, refl, sym, ap, ◌∙◌, arith, length-append, add-one, drop-cons, rules}
 use Rattle.std.proofs.lemmas.List.{map-append, length-map}
 use Rattle.std.proofs.lemmas.Result.{err_from_is_err_and}
-use Rattle.uasm_core.specs.Places.{Place, start}
+use Rattle.uasm_core.specs.declared.place.Place.{Place}
+use Rattle.uasm_core.specs.Places.{start}
 use Rattle.uasm_core.specs.Views.{seen}
 use Rattle.uasm_core.specs.Views.{places_of}
 use Rattle.uasm_core.specs.Views.{with_label_of}
@@ -11,7 +12,7 @@ use Rattle.uasm_core.proofs.OneMore.{with_more, end_more}
 use Rattle.uasm_core.proofs.placing.place_all.Goals as goal
 
 pub loop-i-init : goal.loop-i-init
-loop-i-init c = rw c.new-found.ensures.items (record { lines = ap (λ (a : Place). meant.all_placed [] a (map (λ b. b.now) c.args.lines.now)) c.start-at.ensures; count = refl; labels = c.no_labels-labels.ensures; end = c.start-at.ensures })
+loop-i-init c = rw c.new-found.ensures.items (record { lines = ap (λ (a : Place). meant.all_placed [] a (map (λ b. b.now) c.args.lines.now)) c.start-end.ensures; count = refl; labels = c.no_labels-labels.ensures; ends = c.start-end.ensures })
 
 pub loop-i-preserved : goal.loop-i-preserved
 loop-i-preserved c =
@@ -22,14 +23,14 @@ loop-i-preserved c =
     let items : map seen c.push.new.self.items ≡ ps ++ one ∷ [] = ap (map seen) c.in_ok-push.ensures.items ∙ map-append seen c.loop-i.found.items (c.in_ok-one.one ∷ []) in
     let fresh : meant.is_taken one.label (meant.label_place ps) ≡ false = ap (λ (f : List ℕ → Option Place). meant.is_taken one.label f) (sym c.loop-i.invariant.labels) ∙ c.in_ok-one.ensures.fresh in
     rw items (record {
-      lines = more ps c.loop-i.i _ c.loop-i.at c.as_bytes.result.now _ one _ _ count c.loop-i.invariant.labels c.in_ok-one.ensures.value c.in_ok-one.ensures.next (ap (λ (ls : List (List ℕ)). meant.all_placed ps c.loop-i.at ls) (sym here) ∙ c.loop-i.invariant.lines);
+      lines = more ps c.loop-i.i _ c.loop-i.end c.as_bytes.result.now _ one _ _ count c.loop-i.invariant.labels c.in_ok-one.ensures.value c.in_ok-one.ensures.next (ap (λ (ls : List (List ℕ)). meant.all_placed ps c.loop-i.end ls) (sym here) ∙ c.loop-i.invariant.lines);
       count = omega (arith, ap length c.in_ok-push.ensures.items, length-append c.loop-i.found.items (c.in_ok-one.one ∷ []), c.loop-i.invariant.count);
       labels =
         c.in_ok-one.ensures.labels
         ∙ ap (λ (a : Place). with_label_of one.label a (places_of c.loop-i.labels)) (sym c.in_ok-one.ensures.place)
         ∙ ap (λ (f : List ℕ → Option Place). with_label_of one.label one.place f) c.loop-i.invariant.labels
         ∙ with_more ps one fresh;
-      end = c.in_ok-one.ensures.next ∙ ap (λ (a : Place). meant.behind one.statement a) (sym c.in_ok-one.ensures.place) ∙ sym (end_more ps one start)
+      ends = c.in_ok-one.ensures.next ∙ ap (λ (a : Place). meant.behind one.statement a) (sym c.in_ok-one.ensures.place) ∙ sym (end_more ps one start)
     })
 
 pub returns-in_err-one-clause-value : goal.returns-in_err-one-clause-value
@@ -38,4 +39,4 @@ returns-in_err-one-clause-value c =
     let count : c.loop-i.i ≡ length ps = rw length-map (sym c.loop-i.invariant.count) in
     let here : map (λ b. b.now) (drop c.loop-i.i c.args.lines.now) ≡ c.as_bytes.result.now ∷ map (λ b. b.now) (drop (c.loop-i.i + 1) c.args.lines.now) = drop_here c.args.lines.now c.loop-i.i _ c.as_bytes.result.now (omega arith) c.as_bytes.ensures.value in
     let p = err_from_is_err_and c.from_residual.result c.from_residual.ensures.1 in
-    rw (p.1, p.2) (fails_more c.in_err-one.field-0.0 ps c.loop-i.i _ c.loop-i.at c.as_bytes.result.now _ _ count c.loop-i.invariant.labels c.in_err-one.ensures.value (ap (λ (ls : List (List ℕ)). meant.all_placed ps c.loop-i.at ls) (sym here) ∙ c.loop-i.invariant.lines))
+    rw (p.1, p.2) (fails_more c.in_err-one.field-0.0 ps c.loop-i.i _ c.loop-i.end c.as_bytes.result.now _ _ count c.loop-i.invariant.labels c.in_err-one.ensures.value (ap (λ (ls : List (List ℕ)). meant.all_placed ps c.loop-i.end ls) (sym here) ∙ c.loop-i.invariant.lines))

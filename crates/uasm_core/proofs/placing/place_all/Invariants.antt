@@ -3,13 +3,14 @@ use Rattle.uasm_core.specs.Views.{seen}
 use Rattle.uasm_core.specs.Views.{places_of}
 use Rattle.uasm_core.specs.Written as meant
 use Rattle.uasm_core.specs.Written.{all_placed, label_place, end_of}
-use Rattle.uasm_core.specs.Places.{Place, start}
+use Rattle.uasm_core.specs.declared.place.Place.{Place}
+use Rattle.uasm_core.specs.Places.{start}
 use Rattle.uasm_core.proofs.placing.place_all.Given as goal
 
 abbrev pub invariant-loop-i : goal.invariant-loop-i
 invariant-loop-i l = record {
-  lines : all_placed (map seen l.found.items) l.at (map (λ b. b.now) (drop l.i l.lines)) ≡ all_placed [] start (map (λ b. b.now) l.lines);
+  lines : all_placed (map seen l.found.items) l.end (map (λ b. b.now) (drop l.i l.lines)) ≡ all_placed [] start (map (λ b. b.now) l.lines);
   count : length l.found.items ≡ l.i;
   labels : places_of l.labels ≡ label_place (map seen l.found.items);
-  end : l.at ≡ end_of (map seen l.found.items) start
+  ends : l.end ≡ end_of (map seen l.found.items) start
 }
