@@ -12,3 +12,4 @@ pub mod Sizes
 pub mod Lines
 pub mod Whole
 pub mod Loads
+pub mod Limit

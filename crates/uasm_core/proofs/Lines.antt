@@ -103,7 +103,7 @@ one_more : (t : Bool) (label : Option (List ℕ)) (len : ℕ) (at : Place) (ps :
     → others ≡ as_list (option_map (address len) (label_place ps name))
     → cond t (address len at ∷ others) others ≡ as_list (option_map (address len) (cond t (Some at) (label_place ps name)))
 one_more true label len at ps others name e free h =
-    ap (λ (as : List ℕ). address len at ∷ as) (h ∙ ap (λ (o : Option Place). as_list (option_map (address len) o)) (free e))
+    ap (λ (found : List ℕ). address len at ∷ found) (h ∙ ap (λ (o : Option Place). as_list (option_map (address len) o)) (free e))
 one_more false label len at ps others name e free h = h
 
 -- the lines with a name are those of the map: none or one

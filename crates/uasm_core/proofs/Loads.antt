@@ -2,6 +2,7 @@
 use Rattle.std.proofs.Common.{◌≡◌, ℕ, zero, suc, ◌+◌, ◌*◌, ◌/◌, ◌%◌, ◌^◌, ◌<◌, ◌≤◌, Bool, true, false, cond, List, [], ◌∷◌, ◌++◌, length, take, drop, Option, Some, None, Result, Ok, Err, refl, sym, ap, ◌∙◌, subst, arith, length-append, append-nil}
 use Rattle.std.specs.Prelude.{not, ◌==◌, ◌&&◌, ◌||◌, nat_lt, nat_le, nat_eq}
 use Rattle.std.specs.List.{starts_with}
+use Rattle.std.proofs.Math.Dec.{eqb-suc-zero}
 use Rattle.std.proofs.Math.Nat.{pow-suc, div-lt_iff_lt-mul}
 use Rattle.std.proofs.Math.Seq.{take-append_seam, take-length, drop-append_seam, drop-append-add}
 use Rattle.std.proofs.lemmas.Bool.{le-ltb, le-leb}
@@ -139,36 +140,58 @@ puts_second front before bytes at flags m h e rights address same =
         ∙ take-length bytes ∙ sym same
     })
 
--- a file that loads as its program, and how long it is
-pub record Whole (p : Program) : Type 0 where
-  pub loads : LoadsAs (elf_of p) p
-  pub size : length (elf_of p) ≡ headers_len (length p.text) (length p.data_bytes) + length p.text + length p.data_bytes
+-- The file of a program, by whether text and data have no bytes.
 
-abbrev program : List ℕ → List ℕ → ℕ → Program
+abbrev pub layout : (no_text no_data : Bool) (text data_bytes : List ℕ) (entry : ℕ) → List ℕ
+layout no_text no_data text data_bytes entry =
+    let phnum = cond no_text 0 1 + cond no_data 0 1 in
+    let off = 64 + 56 * phnum in
+    file_header entry phnum
+    ++ cond no_text [] (segment_header text_flags off 0 (length text))
+    ++ cond no_data [] (segment_header data_flags (off + length text) (page_up (length text)) (length data_bytes))
+    ++ text ++ data_bytes
+
+abbrev pub program : List ℕ → List ℕ → ℕ → Program
 program text data_bytes entry = record { text = text; data_bytes = data_bytes; entry = entry }
 
-nothing : (entry : ℕ) → entry < 2 ^ 64 → Whole (program [] [] entry)
+laid_out : (no_text no_data : Bool) (text data_bytes : List ℕ) (entry : ℕ) → (length text == 0) ≡ no_text → (length data_bytes == 0) ≡ no_data
+    → elf_of (program text data_bytes entry) ≡ layout no_text no_data text data_bytes entry
+laid_out no_text no_data text data_bytes entry t d =
+    ap (λ (a : Bool). layout a (length data_bytes == 0) text data_bytes entry) t
+    ∙ ap (λ (b : Bool). layout no_text b text data_bytes entry) d
+
+some : (x : ℕ) (xs : List ℕ) → (length (x ∷ xs) == 0) ≡ false
+some x xs = eqb-suc-zero (length xs)
+
+count_some : (x : ℕ) (xs : List ℕ) → header_count (length (x ∷ xs)) ≡ 1
+count_some x xs = ap (λ (b : Bool). let n : ℕ = cond b 0 1 in n) (some x xs)
+
+-- a file that loads as a program, and how long it is
+pub record Whole (p : Program) (file : List ℕ) : Type 0 where
+  pub loads : LoadsAs file p
+  pub size : length file ≡ headers_len (length p.text) (length p.data_bytes) + length p.text + length p.data_bytes
+
+nothing : (entry : ℕ) → entry < 2 ^ 64 → Whole (program [] [] entry) (layout true true [] [] entry)
 nothing entry e = record {
   loads = record {
     header = header_with entry 0;
     segments = [];
     has_header = header_is entry 0 [] e (omega arith);
-    has_segments = none (elf_of (program [] [] entry)) entry;
+    has_segments = none (layout true true [] [] entry) entry;
     begins = refl;
     puts = tt
   };
   size = refl
 }
 
--- one section, text or data, at 0
-text_alone : (t : ℕ) (ts : List ℕ) (entry : ℕ) → entry < 2 ^ 64 → length (t ∷ ts) < 2 ^ 32 → Whole (program (t ∷ ts) [] entry)
+text_alone : (t : ℕ) (ts : List ℕ) (entry : ℕ) → entry < 2 ^ 64 → length (t ∷ ts) < 2 ^ 32 → Whole (program (t ∷ ts) [] entry) (layout false true (t ∷ ts) [] entry)
 text_alone t ts entry e small =
-    let p = program (t ∷ ts) [] entry in
     let n = length (t ∷ ts) in
-    let file = elf_of p in
+    let file = layout false true (t ∷ ts) [] entry in
     let rest = (t ∷ ts) ++ [] in
     let front = file_header entry 1 ++ segment_header text_flags 120 0 n in
-    let some : 1 ≤ n = omega arith in
+    let count = count_some t ts in
+    let positive : 1 ≤ n = omega arith in
     let size : length file ≡ 120 + n = length-append front rest ∙ ap (λ (k : ℕ). 120 + k) (ap length (append-nil (t ∷ ts))) in
     let h = first_is entry 1 text_flags 120 0 n rest (omega arith) (omega arith) (omega arith) (omega arith) in
     let long : 120 ≤ length file = omega (arith, size) in
@@ -178,20 +201,21 @@ text_alone t ts entry e small =
         header = header_with entry 1;
         segments = segment (whole text_flags 120 0 n) ∷ [];
         has_header = header_is entry 1 (segment_header text_flags 120 0 n ++ rest) e (omega arith);
-        has_segments = one file entry (whole text_flags 120 0 n) h (loaded_is text_flags 120 0 n some) long fine;
+        has_segments = one file entry (whole text_flags 120 0 n) h (loaded_is text_flags 120 0 n positive) long fine;
         begins = refl;
         puts = (puts_first front (t ∷ ts) [] 0 text_flags _ (whole text_flags 120 0 n) refl refl refl refl, tt)
       };
-      size = omega (arith, size)
+      size = omega (arith, size, count)
     }
 
-data_alone : (d : ℕ) (ds : List ℕ) (entry : ℕ) → entry < 2 ^ 64 → length (d ∷ ds) < 2 ^ 32 → Whole (program [] (d ∷ ds) entry)
+-- data alone: it stands at 0 too
+data_alone : (d : ℕ) (ds : List ℕ) (entry : ℕ) → entry < 2 ^ 64 → length (d ∷ ds) < 2 ^ 32 → Whole (program [] (d ∷ ds) entry) (layout true false [] (d ∷ ds) entry)
 data_alone d ds entry e small =
-    let p = program [] (d ∷ ds) entry in
     let n = length (d ∷ ds) in
-    let file = elf_of p in
+    let file = layout true false [] (d ∷ ds) entry in
     let front = file_header entry 1 ++ segment_header data_flags 120 0 n in
-    let some : 1 ≤ n = omega arith in
+    let count = count_some d ds in
+    let positive : 1 ≤ n = omega arith in
     let size : length file ≡ 120 + n = length-append front (d ∷ ds) in
     let h = first_is entry 1 data_flags 120 0 n (d ∷ ds) (omega arith) (omega arith) (omega arith) (omega arith) in
     let long : 120 ≤ length file = omega (arith, size) in
@@ -201,24 +225,27 @@ data_alone d ds entry e small =
         header = header_with entry 1;
         segments = segment (whole data_flags 120 0 n) ∷ [];
         has_header = header_is entry 1 (segment_header data_flags 120 0 n ++ (d ∷ ds)) e (omega arith);
-        has_segments = one file entry (whole data_flags 120 0 n) h (loaded_is data_flags 120 0 n some) long fine;
+        has_segments = one file entry (whole data_flags 120 0 n) h (loaded_is data_flags 120 0 n positive) long fine;
         begins = refl;
         puts = (puts_second front [] (d ∷ ds) 0 data_flags _ (whole data_flags 120 0 n) refl refl refl refl, tt)
       };
-      size = omega (arith, size)
+      size = omega (arith, size, count)
     }
 
-both : (t : ℕ) (ts : List ℕ) (d : ℕ) (ds : List ℕ) (entry : ℕ) → entry < 2 ^ 64 → length (t ∷ ts) < 2 ^ 32 → length (d ∷ ds) < 2 ^ 32 → Whole (program (t ∷ ts) (d ∷ ds) entry)
+-- text at 0, and data at the page behind it
+both : (t : ℕ) (ts : List ℕ) (d : ℕ) (ds : List ℕ) (entry : ℕ) → entry < 2 ^ 64 → length (t ∷ ts) < 2 ^ 32 → length (d ∷ ds) < 2 ^ 32
+    → Whole (program (t ∷ ts) (d ∷ ds) entry) (layout false false (t ∷ ts) (d ∷ ds) entry)
 both t ts d ds entry e small1 small2 =
-    let p = program (t ∷ ts) (d ∷ ds) entry in
     let n = length (t ∷ ts) in
     let m = length (d ∷ ds) in
     let base = page_up n in
-    let file = elf_of p in
+    let file = layout false false (t ∷ ts) (d ∷ ds) entry in
     let front = file_header entry 2 ++ segment_header text_flags 176 0 n ++ segment_header data_flags (176 + n) base m in
     let bytes = (t ∷ ts) ++ (d ∷ ds) in
-    let some1 : 1 ≤ n = omega arith in
-    let some2 : 1 ≤ m = omega arith in
+    let count1 = count_some t ts in
+    let count2 = count_some d ds in
+    let positive1 : 1 ≤ n = omega arith in
+    let positive2 : 1 ≤ m = omega arith in
     let sum : length bytes ≡ n + m = length-append (t ∷ ts) (d ∷ ds) in
     let size : length file ≡ 176 + (n + m) = length-append front bytes ∙ ap (λ (k : ℕ). 176 + k) sum in
     let h1 = first_is entry 2 text_flags 176 0 n (segment_header data_flags (176 + n) base m ++ bytes) (omega arith) (omega arith) (omega arith) (omega arith) in
@@ -231,18 +258,23 @@ both t ts d ds entry e small1 small2 =
         segments = segment (whole text_flags 176 0 n) ∷ segment (whole data_flags (176 + n) base m) ∷ [];
         has_header = header_is entry 2 (segment_header text_flags 176 0 n ++ segment_header data_flags (176 + n) base m ++ bytes) e (omega arith);
         has_segments = two file entry (whole text_flags 176 0 n) (whole data_flags (176 + n) base m) h1 h2
-            (loaded_is text_flags 176 0 n some1) (loaded_is data_flags (176 + n) base m some2) (omega (arith, size)) (omega (arith, size)) fine1 fine2;
+            (loaded_is text_flags 176 0 n positive1) (loaded_is data_flags (176 + n) base m positive2) (omega (arith, size)) (omega (arith, size)) fine1 fine2;
         begins = refl;
         puts =
           (puts_first front (t ∷ ts) (d ∷ ds) 0 text_flags _ (whole text_flags 176 0 n) refl refl refl refl,
            puts_second front (t ∷ ts) (d ∷ ds) base data_flags _ (whole data_flags (176 + n) base m) refl refl refl refl,
            tt)
       };
-      size = omega (arith, size)
+      size = omega (arith, size, count1, count2)
     }
 
-pub whole_file : (text data_bytes : List ℕ) (entry : ℕ) → entry < 2 ^ 64 → length text < 2 ^ 32 → length data_bytes < 2 ^ 32 → Whole (program text data_bytes entry)
+-- the file of every program
+pub whole_file : (text data_bytes : List ℕ) (entry : ℕ) → entry < 2 ^ 64 → length text < 2 ^ 32 → length data_bytes < 2 ^ 32
+    → Whole (program text data_bytes entry) (elf_of (program text data_bytes entry))
 whole_file [] [] entry e small1 small2 = nothing entry e
-whole_file (t ∷ ts) [] entry e small1 small2 = text_alone t ts entry e small1
-whole_file [] (d ∷ ds) entry e small1 small2 = data_alone d ds entry e small2
-whole_file (t ∷ ts) (d ∷ ds) entry e small1 small2 = both t ts d ds entry e small1 small2
+whole_file (t ∷ ts) [] entry e small1 small2 =
+    subst (λ (file : List ℕ). Whole (program (t ∷ ts) [] entry) file) (sym (laid_out false true (t ∷ ts) [] entry (some t ts) refl)) (text_alone t ts entry e small1)
+whole_file [] (d ∷ ds) entry e small1 small2 =
+    subst (λ (file : List ℕ). Whole (program [] (d ∷ ds) entry) file) (sym (laid_out true false [] (d ∷ ds) entry refl (some d ds))) (data_alone d ds entry e small2)
+whole_file (t ∷ ts) (d ∷ ds) entry e small1 small2 =
+    subst (λ (file : List ℕ). Whole (program (t ∷ ts) (d ∷ ds) entry) file) (sym (laid_out false false (t ∷ ts) (d ∷ ds) entry (some t ts) (some d ds))) (both t ts d ds entry e small1 small2)

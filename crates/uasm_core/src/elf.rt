@@ -82,7 +82,8 @@ fn put_program_header(file: &mut Vec<u8>, flags: u32, extent: &Extent) -> Result
     if extent.size == 0 {
         return Ok(());
     }
-    put_segment_header(file, flags, extent)
+    put_segment_header(file, flags, extent)?;
+    Ok(())
 }
 
 /// The file: headers, text and data.

@@ -48,17 +48,31 @@ fn datum_len(d: &Datum<'_>) -> u64
     }
 }
 
-/// How many bytes these values have, of which there are no more than a file may have bytes.
-fn values_len(values: &[Datum<'_>]) -> u64
-    requires { length values.now ≤ PROGRAM_BYTES }
-    ensures value { result ≡ sum_by datum_size (map datum_seen values.now) }
-    ensures range { result < 2 ^ 32 }
+/// How many bytes these values have; none where they are more than a file may have.
+#[tactic(auto, using(crate::proofs::Limit::values_long))]
+fn values_len(values: &[Datum<'_>]) -> Option<u64>
+    ensures value { IfSome result (λ n. (n ≡ sum_by datum_size (map datum_seen values.now)) × (n < 2 ^ 32)) }
+    ensures long { IfNone result (PROGRAM_BYTES < sum_by datum_size (map datum_seen values.now)) }
 {
+    if values.len() > PROGRAM_BYTES {
+        return None;
+    }
     let mut n = 0;
     for d in values {
         n += datum_len(d);
     }
-    n
+    Some(n)
+}
+
+/// How many bytes a text has; none where they are more than a file may have.
+fn text_len(text: &[u8]) -> Option<u64>
+    ensures value { IfSome result (λ n. (n ≡ length text.now) × (n < 2 ^ 32)) }
+    ensures long { IfNone result (PROGRAM_BYTES < length text.now) }
+{
+    if text.len() > PROGRAM_BYTES {
+        return None;
+    }
+    Some(text.len() as u64)
 }
 
 /// How many bytes a statement spells; none where they are more than a file may have.
@@ -70,10 +84,9 @@ fn size(statement: &Statement<'_>) -> Option<u64>
         Statement::Empty | Statement::Switch(_) => Some(0),
         Statement::One(_) | Statement::BranchTo(..) | Statement::JumpTo(..) => Some(4),
         Statement::Two(..) | Statement::LoadAddress(..) => Some(8),
-        Statement::Values(values) if values.len() <= PROGRAM_BYTES => Some(values_len(values)),
-        Statement::Text(text) if text.len() <= PROGRAM_BYTES => Some(text.len() as u64),
+        Statement::Values(values) => values_len(values),
+        Statement::Text(text) => text_len(text),
         Statement::Space(n) => Some(u64::from(*n)),
-        _ => None,
     }
 }
 
