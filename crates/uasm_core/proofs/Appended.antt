@@ -4,6 +4,7 @@ use Rattle.std.proofs.lemmas.Bool.{ne_eqb}
 use Rattle.xk_base.specs.Words.{le_bytes}
 use Rattle.uasm_core.specs.FileFormat.{segment_header, program_header, to_be_loaded}
 
+-- eight lists one behind another
 behind_all : (file a b c d e f g h : List ℕ) → file ++ a ++ b ++ c ++ d ++ e ++ f ++ g ++ h ≡ file ++ (a ++ b ++ c ++ d ++ e ++ f ++ g ++ h)
 behind_all file a b c d e f g h = simp append_assoc
 

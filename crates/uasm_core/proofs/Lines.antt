@@ -36,10 +36,12 @@ follow labels len at (line ∷ others) (p ∷ ps) (bs ∷ bss) f s =
     (record { stands = f.0.place; labelled = f.0.label; asks = f.0.asks; writes = ap (λ (a : Place). spelled labels (address len a) p.statement) (sym f.0.place) ∙ s.0 },
      subst (λ (a : Place). Follow labels len a others (lines_of ps bss)) next (follow labels len (behind p.statement at) others ps bss f.1 s.1))
 
+-- bytes make text longer where they stand in it
 grown_text : (section : Section) (at : Place) (n : ℕ) (bs rest : List ℕ) → length bs ≡ n → (grown section n at).text_len + length rest ≡ at.text_len + length (or_skipped Text bs section rest)
 grown_text Text at n bs rest e = let both = length-append bs rest in omega (arith, e, both)
 grown_text Data at n bs rest e = refl
 
+-- a switch makes it no longer
 switch_text : (section : Section) (at : Place) (bs rest : List ℕ) → length bs ≡ 0 → at.text_len + length rest ≡ at.text_len + length (or_skipped Text bs section rest)
 switch_text Text at bs rest e = let both = length-append bs rest in omega (arith, e, both)
 switch_text Data at bs rest e = refl
@@ -54,10 +56,12 @@ more_text (JumpTo rd l) at bs rest e = grown_text at.section at _ bs rest e
 more_text (LoadAddress rd l) at bs rest e = grown_text at.section at _ bs rest e
 more_text (Bytes ds) at bs rest e = grown_text at.section at _ bs rest e
 
+-- bytes make data longer where they stand in it
 grown_data : (section : Section) (at : Place) (n : ℕ) (bs rest : List ℕ) → length bs ≡ n → (grown section n at).data_len + length rest ≡ at.data_len + length (or_skipped Data bs section rest)
 grown_data Text at n bs rest e = refl
 grown_data Data at n bs rest e = let both = length-append bs rest in omega (arith, e, both)
 
+-- a switch makes it no longer
 switch_data : (section : Section) (at : Place) (bs rest : List ℕ) → length bs ≡ 0 → at.data_len + length rest ≡ at.data_len + length (or_skipped Data bs section rest)
 switch_data Text at bs rest e = refl
 switch_data Data at bs rest e = let both = length-append bs rest in omega (arith, e, both)
@@ -121,6 +125,7 @@ pub record Known (source : List ℕ) (ps : List Placed) (r : SectionBytes) (len 
   pub data_len : length r.in_data ≡ (end_of ps start).data_len
   pub short : file_len (end_of ps start) ≤ PROGRAM_BYTES
 
+-- both passes give all of it
 pub known : (source : List ℕ) (ps : List Placed) (r : SectionBytes) (len : ℕ)
     → all_placed [] start (lines source) ≡ Ok ps → len ≡ (end_of ps start).text_len
     → all_spelled (addresses len (label_place ps)) len no_bytes ps ≡ Ok r → Known source ps r len

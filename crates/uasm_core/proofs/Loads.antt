@@ -20,6 +20,7 @@ use Rattle.uasm_core.specs.Written.{Program}
 use Rattle.uasm_core.specs.FileFormat.{elf_of, file_header, segment_header, text_flags, data_flags}
 use Rattle.uasm_core.specs.Meaning.{Puts, LoadsAs, Stretch, text_rights, data_rights}
 
+-- without its lowest byte a number has one byte less
 quotient : (x n : ℕ) → x < 256 ^ suc n → x / 256 < 256 ^ n
 quotient x n h = (div-lt_iff_lt-mul {k = 256} {x = x} {y = 256 ^ n} (omega arith)).1 (subst (λ (k : ℕ). x < k) (pow-suc 256 n) h)
 
@@ -30,20 +31,25 @@ le-le_bytes (suc n) x h = let rest = le-le_bytes n (x / 256) (quotient x n h) in
 
 -- The file header.
 
+-- the test for a file header
 elf_by : (file : List ℕ) → 64 ≤ length file → starts_with nat_eq file (0x7F ∷ 0x45 ∷ 0x4C ∷ 0x46 ∷ []) ≡ true → is_elf file ≡ true
 unfolding is_elf
 elf_by file long magic = rw (le-leb 64 (length file) long, magic) refl
 
+-- the header, where the test passes
 header_by : (file : List ℕ) (h : Header) → is_elf file ≡ true → elf.file_header file ≡ h → header_of file ≡ Ok h
 header_by file h is e = ap (λ (b : Bool). let r : Result Header ExecError = cond b (Ok (elf.file_header file)) (Err NotElf) in r) is ∙ ap (λ (x : Header). let r : Result Header ExecError = Ok x in r) e
 
+-- a header of this project's files: the program headers stand behind it
 abbrev pub header_with : (entry phnum : ℕ) → Header
 header_with entry phnum = record { entry = entry; phoff = 64; phnum = phnum }
 
+-- its fields are read as they were written
 fields : (entry phnum : ℕ) (rest : List ℕ) → entry < 2 ^ 64 → phnum < 2 ^ 16 → elf.file_header (file_header entry phnum ++ rest) ≡ header_with entry phnum
 unfolding elf.file_header
 fields entry phnum rest e n = ap (λ (x : ℕ). header_with x (le (le_bytes 2 phnum))) (le-le_bytes 8 entry e) ∙ ap (λ (x : ℕ). header_with entry x) (le-le_bytes 2 phnum n)
 
+-- the header of a file that begins so
 header_is : (entry phnum : ℕ) (rest : List ℕ) → entry < 2 ^ 64 → phnum < 2 ^ 16 → header_of (file_header entry phnum ++ rest) ≡ Ok (header_with entry phnum)
 header_is entry phnum rest e n =
     header_by (file_header entry phnum ++ rest) (header_with entry phnum)
@@ -56,9 +62,11 @@ header_is entry phnum rest e n =
 abbrev pub made : (kind flags off vaddr filesz memsz : ℕ) → ProgramHeader
 made kind flags off vaddr filesz memsz = record { kind = kind; flags = flags; off = off; vaddr = vaddr; filesz = filesz; memsz = memsz }
 
+-- the header of a segment with all its bytes in the file
 abbrev pub whole : (flags off vaddr size : ℕ) → ProgramHeader
 whole flags off vaddr size = made 1 flags off vaddr size size
 
+-- its fields are read as they were written
 by_fields : (flags off vaddr size : ℕ) → flags < 2 ^ 32 → off < 2 ^ 64 → vaddr < 2 ^ 64 → size < 2 ^ 64
     → made 1 (le (le_bytes 4 flags)) (le (le_bytes 8 off)) (le (le_bytes 8 vaddr)) (le (le_bytes 8 size)) (le (le_bytes 8 size)) ≡ whole flags off vaddr size
 by_fields flags off vaddr size f o v s =
@@ -79,6 +87,7 @@ second_is : (entry phnum flags off vaddr size flags2 off2 vaddr2 size2 : ℕ) (r
 unfolding program_header
 second_is entry phnum flags off vaddr size flags2 off2 vaddr2 size2 rest f o v s = by_fields flags2 off2 vaddr2 size2 f o v s
 
+-- nothing and false
 and_false : (b : Bool) → (b && false) ≡ false
 and_false true = refl
 and_false false = refl
@@ -89,20 +98,24 @@ unfolding is_bad
 good len size flags off vaddr n page above inside below =
     rw (page, le-ltb n n (omega arith), le-ltb vaddr (page_up size) above, le-ltb len (off + n) inside, le-ltb SIZE_LIMIT (vaddr + n) below) (and_false (nat_lt 0 n))
 
+-- a segment with bytes is loaded
 loaded_is : (flags off vaddr n : ℕ) → 1 ≤ n → is_loaded (whole flags off vaddr n) ≡ true
 loaded_is flags off vaddr n h = le-leb 1 n h
 
 -- Segments.
 
+-- a file with no program header has no segment
 none : (file : List ℕ) (entry : ℕ) → segments_of file (header_with entry 0) ≡ Ok []
 unfolding least_below
 none file entry = refl
 
+-- a file with one
 one : (file : List ℕ) (entry : ℕ) (h : ProgramHeader) → program_header file 64 ≡ h → is_loaded h ≡ true → 120 ≤ length file → is_bad (length file) 0 h ≡ false
     → segments_of file (header_with entry 1) ≡ Ok (segment h ∷ [])
 unfolding least_below is_refused_after
 one file entry h e loaded long fine = rw (e, loaded, le-ltb (length file) 120 long, fine) refl
 
+-- a file with two
 two : (file : List ℕ) (entry : ℕ) (h1 h2 : ProgramHeader) → program_header file 64 ≡ h1 → program_header file 120 ≡ h2 → is_loaded h1 ≡ true → is_loaded h2 ≡ true
     → 120 ≤ length file → 176 ≤ length file → is_bad (length file) 0 h1 ≡ false → is_bad (length file) (h1.vaddr + h1.memsz) h2 ≡ false
     → segments_of file (header_with entry 2) ≡ Ok (segment h1 ∷ segment h2 ∷ [])
@@ -151,18 +164,22 @@ layout no_text no_data text data_bytes entry =
     ++ cond no_data [] (segment_header data_flags (off + length text) (page_up (length text)) (length data_bytes))
     ++ text ++ data_bytes
 
+-- a program of these parts
 abbrev pub program : List ℕ → List ℕ → ℕ → Program
 program text data_bytes entry = record { text = text; data_bytes = data_bytes; entry = entry }
 
+-- each file is laid out so
 laid_out : (no_text no_data : Bool) (text data_bytes : List ℕ) (entry : ℕ) → (length text == 0) ≡ no_text → (length data_bytes == 0) ≡ no_data
     → elf_of (program text data_bytes entry) ≡ layout no_text no_data text data_bytes entry
 laid_out no_text no_data text data_bytes entry t d =
     ap (λ (a : Bool). layout a (length data_bytes == 0) text data_bytes entry) t
     ∙ ap (λ (b : Bool). layout no_text b text data_bytes entry) d
 
+-- a list with an element has elements
 some : (x : ℕ) (xs : List ℕ) → (length (x ∷ xs) == 0) ≡ false
 some x xs = eqb-suc-zero (length xs)
 
+-- and so its section has a header
 count_some : (x : ℕ) (xs : List ℕ) → header_count (length (x ∷ xs)) ≡ 1
 count_some x xs = ap (λ (b : Bool). let n : ℕ = cond b 0 1 in n) (some x xs)
 
@@ -171,6 +188,7 @@ pub record Whole (p : Program) (file : List ℕ) : Type 0 where
   pub loads : LoadsAs file p
   pub size : length file ≡ headers_len (length p.text) (length p.data_bytes) + length p.text + length p.data_bytes
 
+-- a file with no section
 nothing : (entry : ℕ) → entry < 2 ^ 64 → Whole (program [] [] entry) (layout true true [] [] entry)
 nothing entry e = record {
   loads = record {
@@ -184,6 +202,7 @@ nothing entry e = record {
   size = refl
 }
 
+-- text alone, at 0
 text_alone : (t : ℕ) (ts : List ℕ) (entry : ℕ) → entry < 2 ^ 64 → length (t ∷ ts) < 2 ^ 32 → Whole (program (t ∷ ts) [] entry) (layout false true (t ∷ ts) [] entry)
 text_alone t ts entry e small =
     let n = length (t ∷ ts) in
@@ -262,8 +281,7 @@ both t ts d ds entry e small1 small2 =
         begins = refl;
         puts =
           (puts_first front (t ∷ ts) (d ∷ ds) 0 text_flags _ (whole text_flags 176 0 n) refl refl refl refl,
-           puts_second front (t ∷ ts) (d ∷ ds) base data_flags _ (whole data_flags (176 + n) base m) refl refl refl refl,
-           tt)
+           (puts_second front (t ∷ ts) (d ∷ ds) base data_flags _ (whole data_flags (176 + n) base m) refl refl refl refl, tt))
       };
       size = omega (arith, size, count1, count2)
     }

@@ -30,10 +30,12 @@ later (Some m) f p at g more h e = ap is_some (more m ∙ ap (λ (o : Option Pla
     nothing : is_some (or_else None false at) ≡ false
     nothing = refl
 
+-- neither of two is there
 parted : (b : Bool) (x : Place) (o : Option Place) → is_some (cond b (Some x) o) ≡ false → (b ≡ false) × (is_some o ≡ false)
 parted true x o h = absurd (let no_way : ⊥ = cc in no_way)
 parted false x o h = (refl, h)
 
+-- a label that isn't taken by a line and those behind it
 untaken : (q p : Option (List ℕ)) (at : Place) (f : List ℕ → Option Place) → is_taken p (λ l. cond (is_label_of q l) (Some at) (f l)) ≡ false
     → (is_taken p f ≡ false) × ((l : List ℕ) → q ≡ Some l → is_label_of p l ≡ false)
 untaken q None at f h = (refl, λ l e. refl)

@@ -19,10 +19,12 @@ pub record IsOf (at : Place) (line : List ℕ) (p : Placed) : Type 0 where
   pub asks : statement at.section (parts_of line) ≡ Ok p.statement
   pub short : is_past_limit (behind p.statement at) ≡ false
 
+-- what was taken wasn't too long
 by_len : (c : Bool) (n : ℕ) (p q : Placed) → (let r : Result Placed Fault = cond c (Err (n, OutOfRange)) (Ok q) in r) ≡ Ok p → (q ≡ p) × (c ≡ false)
 by_len true n p q h = absurd (let no_way : ⊥ = cc in no_way)
 by_len false n p q h = (cc, refl)
 
+-- what was taken is what was asked for
 asked : (r : Result Statement AsmErrorKind) (n : ℕ) (at : Place) (label : Option (List ℕ)) (p : Placed)
     → (on_line n r >>= λ s. cond (is_past_limit (behind s at)) (Err (n, OutOfRange)) (Ok (record { line = n; label = label; place = at; statement = s }))) ≡ Ok p
     → (p.place ≡ at) × (p.label ≡ label) × (r ≡ Ok p.statement) × (is_past_limit (behind p.statement at) ≡ false)
@@ -35,10 +37,12 @@ asked (Ok s) n at label p h =
      ap (λ (x : Placed). let r : Result Statement AsmErrorKind = Ok x.statement in r) e,
      ap (λ (x : Placed). is_past_limit (behind x.statement at)) (sym e) ∙ both.1)
 
+-- what was taken has a new label
 fresh : (b : Bool) (n : ℕ) (r : Result Placed Fault) (p : Placed) → cond b (Err (n, DuplicateLabel)) r ≡ Ok p → (b ≡ false) × (r ≡ Ok p)
 fresh true n r p h = absurd (let no_way : ⊥ = cc in no_way)
 fresh false n r p h = (refl, h)
 
+-- what the first pass takes of one line
 placed_is : (n : ℕ) (f : List ℕ → Option Place) (at : Place) (line : List ℕ) (p : Placed) → placed n f at line ≡ Ok p → IsOf at line p × (is_taken p.label f ≡ false)
 placed_is n f at line p h =
     let a = fresh (is_taken (parts_of line).label f) n _ p h in
@@ -52,9 +56,11 @@ From at [] (p ∷ ps) = ⊥
 From at (line ∷ others) [] = ⊥
 From at (line ∷ others) (p ∷ ps) = IsOf at line p × From (behind p.statement at) others ps
 
+-- these lines, and behind them those of the source
 abbrev pub Found : List Placed → Place → List (List ℕ) → List Placed → Type 0
 Found ps at ls qs = (rest : List Placed) × (qs ≡ ps ++ rest) × From at ls rest × Distinct qs
 
+-- one line more
 found_next : (r : Result Placed Fault) (ps : List Placed) (at : Place) (line : List ℕ) (others : List (List ℕ)) (qs : List Placed)
     → ((p : Placed) → r ≡ Ok p → IsOf at line p × Distinct (ps ++ p ∷ []))
     → ((p : Placed) → all_placed (ps ++ p ∷ []) (behind p.statement at) others ≡ Ok qs → Distinct (ps ++ p ∷ []) → Found (ps ++ p ∷ []) (behind p.statement at) others qs)
@@ -89,6 +95,7 @@ Spelled labels len [] (bs ∷ bss) = ⊥
 Spelled labels len (p ∷ ps) [] = ⊥
 Spelled labels len (p ∷ ps) (bs ∷ bss) = (spelled labels (address len p.place) p.statement ≡ Ok bs) × Spelled labels len ps bss
 
+-- what was spelled, and behind it the bytes of these lines
 abbrev pub Behind : Labels → ℕ → List Placed → SectionBytes → SectionBytes → Type 0
 Behind labels len ps old new =
     (bss : List (List ℕ)) × Spelled labels len ps bss
@@ -98,6 +105,7 @@ Behind labels len ps old new =
 abbrev pub or_skipped : Section → List ℕ → Section → List ℕ → List ℕ
 or_skipped section bs here rest = cond (is_same section here) (bs ++ rest) rest
 
+-- a line's bytes in front of those of the others
 put_front : (section : Section) (labels : Labels) (len : ℕ) (p : Placed) (ps : List Placed) (old new : SectionBytes) (bs : List ℕ)
     → p.place.section ≡ section → spelled labels (address len p.place) p.statement ≡ Ok bs
     → Behind labels len ps (put_end section bs old) new → Behind labels len (p ∷ ps) old new
@@ -114,6 +122,7 @@ put_front Data labels len p ps old new bs s e b =
      b.2 ∙ ap (λ (x : Section). old.in_text ++ or_skipped Text bs x text) (sym s),
      b.3 ∙ append_assoc old.in_data bs data_bytes ∙ ap (λ (x : Section). old.in_data ++ or_skipped Data bs x data_bytes) (sym s))
 
+-- one line more
 spelled_next : (r : Result (List ℕ) AsmErrorKind) (labels : Labels) (len : ℕ) (p : Placed) (ps : List Placed) (old new : SectionBytes)
     → spelled labels (address len p.place) p.statement ≡ r
     → ((next : SectionBytes) → all_spelled labels len next ps ≡ Ok new → Behind labels len ps next new)

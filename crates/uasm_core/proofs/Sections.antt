@@ -8,6 +8,7 @@ use Rattle.uasm_core.specs.Views.{Answers}
 use Rattle.uasm_core.specs.Statement.{put_behind}
 use Rattle.uasm_core.specs.Written.{SectionBytes, put_in}
 
+-- behind text
 pub in_text : {U : Type 0} (r : Result U Refusal) (x : Result (List ℕ) AsmErrorKind) (o : SectionBytes) (new : List ℕ)
     → Answers (λ _. new) r (put_behind o.in_text x) → Answers (λ _. record { in_text = new; in_data = o.in_data }) r (put_in Text o x)
 in_text (Ok u) (Ok bs) o new h =
@@ -18,6 +19,7 @@ in_text (Err NoMemory) x o new h = tt
 in_text (Err (Kind k)) (Ok bs) o new h = cc
 in_text (Err (Kind k)) (Err e) o new h = let same : e ≡ k = cc in ap Err same
 
+-- behind data
 pub in_data : {U : Type 0} (r : Result U Refusal) (x : Result (List ℕ) AsmErrorKind) (o : SectionBytes) (new : List ℕ)
     → Answers (λ _. new) r (put_behind o.in_data x) → Answers (λ _. record { in_text = o.in_text; in_data = new }) r (put_in Data o x)
 in_data (Ok u) (Ok bs) o new h =

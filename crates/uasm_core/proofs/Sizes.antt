@@ -30,10 +30,12 @@ by_numbers : (r : Result ℕ AsmErrorKind) (g : ℕ → Result ℕ AsmErrorKind)
 by_numbers (Err k) g f n bs len h = absurd (let no_way : ⊥ = cc in no_way)
 by_numbers (Ok to) g f n bs len h = by_number (g to) f n bs len h
 
+-- a value
 datum_len : (labels : Labels) (d : Datum) (bs : List ℕ) → datum_bytes labels d ≡ Ok bs → length bs ≡ datum_size d
 datum_len labels (Known known) bs h = let e : known ≡ bs = cc in sym (ap length e)
 datum_len labels (Address l) bs h = by_number (address_of labels l) (λ a. le_bytes 8 a) 8 bs (λ a. length-le_bytes 8 a) h
 
+-- one value more
 one_more : (r : Result (List ℕ) AsmErrorKind) (q : Result (List (List ℕ)) AsmErrorKind) (n m : ℕ) (bss : List (List ℕ))
     → ((bs : List ℕ) → r ≡ Ok bs → length bs ≡ n) → ((others : List (List ℕ)) → q ≡ Ok others → length (joined others) ≡ m)
     → (r >>= λ b. q >>= λ bs. Ok (b ∷ bs)) ≡ Ok bss → length (joined bss) ≡ n + m
@@ -47,19 +49,23 @@ one_more (Ok b) (Ok others) n m bss first rest h =
     let same : length (joined (b ∷ others)) ≡ length (joined bss) = ap (λ (ls : List (List ℕ)). length (joined ls)) e in
     omega (arith, x, y, both, same)
 
+-- all values
 data_len : (labels : Labels) (ds : List Datum) (bss : List (List ℕ)) → each (datum_bytes labels) ds ≡ Ok bss → length (joined bss) ≡ sum_by datum_size ds
 data_len labels [] bss h = let e : [] ≡ bss = cc in sym (ap (λ (ls : List (List ℕ)). length (joined ls)) e)
 data_len labels (d ∷ ds) bss h =
     let more : length (joined bss) ≡ datum_size d + sum_by datum_size ds = one_more (datum_bytes labels d) (each (datum_bytes labels) ds) (datum_size d) (sum_by datum_size ds) bss (datum_len labels d) (data_len labels ds) h in
     more ∙ sym (sum_by-cons datum_size d ds)
 
+-- their bytes, joined
 values_len : (labels : Labels) (ds : List Datum) (r : Result (List (List ℕ)) AsmErrorKind) (bs : List ℕ) → each (datum_bytes labels) ds ≡ r → (r >>= λ bss. Ok (joined bss)) ≡ Ok bs → length bs ≡ sum_by datum_size ds
 values_len labels ds (Err k) bs e h = absurd (let no_way : ⊥ = cc in no_way)
 values_len labels ds (Ok bss) bs e h = let same : joined bss ≡ bs = cc in sym (ap length same) ∙ data_len labels ds bss e
 
+-- the two words of an address
 abbrev address_code : ℕ → ℕ → List ℕ
 address_code rd m = code_bytes (Auipc rd (upper m) ∷ OpImm Addi rd rd (lower m) ∷ [])
 
+-- each statement
 pub length-spelled : (labels : Labels) (at : ℕ) (s : Statement) (bs : List ℕ) → spelled labels at s ≡ Ok bs → length bs ≡ size_of s
 length-spelled labels at Empty bs h = let e : [] ≡ bs = cc in sym (ap length e)
 length-spelled labels at (Switch to) bs h = let e : [] ≡ bs = cc in sym (ap length e)

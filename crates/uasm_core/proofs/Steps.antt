@@ -6,10 +6,12 @@ use Rattle.uasm_core.specs.declared.place.Place.{Place}
 use Rattle.uasm_core.specs.Views.{Fails}
 use Rattle.uasm_core.specs.Written.{Placed, Fault, ◌>>=◌, placed, all_placed, label_place, behind}
 
+-- the line is placed the same by equal labels
 same : (ps : List Placed) (n : ℕ) (labels : List ℕ → Option Place) (at : Place) (source : List ℕ)
     → n ≡ length ps → labels ≡ label_place ps → placed (length ps + 1) (label_place ps) at source ≡ placed (n + 1) labels at source
 same ps n labels at source e l = ap (λ (m : ℕ). placed (m + 1) (label_place ps) at source) (sym e) ∙ ap (λ (f : List ℕ → Option Place). placed (n + 1) f at source) (sym l)
 
+-- a line that is taken
 pub more : (ps : List Placed) (n : ℕ) (labels : List ℕ → Option Place) (at : Place) (source : List ℕ) (others : List (List ℕ)) (p : Placed) (next : Place) (whole : Result (List Placed) Fault)
     → n ≡ length ps → labels ≡ label_place ps → placed (n + 1) labels at source ≡ Ok p → next ≡ behind p.statement at
     → all_placed ps at (source ∷ others) ≡ whole → all_placed (ps ++ p ∷ []) next others ≡ whole
@@ -18,6 +20,7 @@ more ps n labels at source others p next whole e l h b w =
     ∙ sym (ap (λ (r : Result Placed Fault). r >>= λ p. all_placed (ps ++ p ∷ []) (behind p.statement at) others) (same ps n labels at source e l ∙ h))
     ∙ w
 
+-- a line that is refused
 pub fails_more : (x : AsmError) (ps : List Placed) (n : ℕ) (labels : List ℕ → Option Place) (at : Place) (source : List ℕ) (others : List (List ℕ)) (whole : Result (List Placed) Fault)
     → n ≡ length ps → labels ≡ label_place ps → Fails x (placed (n + 1) labels at source)
     → all_placed ps at (source ∷ others) ≡ whole → Fails x whole
@@ -25,6 +28,7 @@ fails_more error.Memory ps n labels at source others whole e l h w = tt
 fails_more (error.At line kind) ps n labels at source others whole e l h w =
     sym w ∙ ap (λ (r : Result Placed Fault). r >>= λ p. all_placed (ps ++ p ∷ []) (behind p.statement at) others) (same ps n labels at source e l ∙ h)
 
+-- the next line of those that are left
 pub drop_here : (xs : List (Bor (List ℕ))) (i : ℕ) (d : Bor (List ℕ)) (source : List ℕ) → i < length xs → source ≡ (get_or xs i d).now
     → map (λ b. b.now) (drop i xs) ≡ source ∷ map (λ b. b.now) (drop (i + 1) xs)
 drop_here xs i d source lt e =

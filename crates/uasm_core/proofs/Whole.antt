@@ -10,6 +10,7 @@ use Rattle.uasm_core.specs.Meaning.{Assembles}
 use Rattle.uasm_core.proofs.Lines.{Known, known}
 use Rattle.uasm_core.proofs.Loads.{whole_file}
 
+-- what the first pass refuses
 pub refused_first : (source : List ℕ) (e : Fault) → all_placed [] start (lines source) ≡ Err e → file_of source ≡ Err e
 refused_first source e h = ap (λ (x : Result (List Placed) Fault). (x >>= second_pass) >>= λ p. Ok (elf_of p)) h
 
@@ -17,6 +18,7 @@ refused_first source e h = ap (λ (x : Result (List Placed) Fault). (x >>= secon
 abbrev pub of_second : ℕ → (List ℕ → Option Place) → Result SectionBytes Fault → Result (List ℕ) Fault
 of_second text_len places x = (x >>= λ r. let w : Result Program Fault = Ok (program_of text_len places r) in w) >>= λ p. Ok (elf_of p)
 
+-- what the second pass gives, where the first found these lines
 pub by_second : (source : List ℕ) (ps : List Placed) (text_len : ℕ) (places : List ℕ → Option Place) (x : Result SectionBytes Fault)
     → all_placed [] start (lines source) ≡ Ok ps → text_len ≡ (end_of ps start).text_len → places ≡ label_place ps
     → all_spelled (addresses text_len places) text_len no_bytes ps ≡ x → file_of source ≡ of_second text_len places x

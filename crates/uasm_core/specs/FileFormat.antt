@@ -11,12 +11,15 @@ use Rattle.uasm_core.specs.Written.{Program, Fault, ◌>>=◌, written}
 abbrev pub identification : List ℕ
 identification = 0x7F ∷ 0x45 ∷ 0x4C ∷ 0x46 ∷ 2 ∷ 1 ∷ 1 ∷ 0 ∷ 0 ∷ 0 ∷ 0 ∷ 0 ∷ 0 ∷ 0 ∷ 0 ∷ 0 ∷ []
 
+-- the type of a file that can be run
 abbrev pub executable_file : ℕ
 executable_file = 2
 
+-- the number of RISC-V among the machines
 abbrev pub machine_risc_v : ℕ
 machine_risc_v = 243
 
+-- the version of the format
 abbrev pub current_version : ℕ
 current_version = 1
 
@@ -56,6 +59,7 @@ program_header flags off vaddr size = if size == 0 then [] else segment_header f
 
 -- The file: headers, text, data.
 
+-- a section with no bytes has no program header
 abbrev pub elf_of : Program → List ℕ
 elf_of p =
     let text_len = length p.text in

@@ -52,11 +52,13 @@ underscore = 95
 
 -- Where a byte stands: outside a text in quotes, in it, or behind a backslash in it.
 
+-- it stands outside a text in quotes
 abbrev pub is_outside : Quote → Bool
 is_outside Outside = true
 is_outside Inside = false
 is_outside Escaped = false
 
+-- where the byte behind b stands, if b stands there
 abbrev pub after : Quote → ℕ → Quote
 after Outside b = if b == quote_mark then Inside else Outside
 after Inside b = if b == quote_mark then Outside else if b == backslash then Escaped else Inside
@@ -99,9 +101,11 @@ is_name_byte b = is_letter b || is_decimal b
 abbrev pub is_word_byte : ℕ → Bool
 is_word_byte b = is_name_byte b || b == full_stop
 
+-- without the blanks at the front
 abbrev pub without_front_blanks : List ℕ → List ℕ
 without_front_blanks bs = drop (prefix_len is_blank bs) bs
 
+-- without the blanks at both ends
 abbrev pub trimmed : List ℕ → List ℕ
 trimmed bs = let front = without_front_blanks bs in take (length front - suffix_len is_blank front) front
 
@@ -111,6 +115,7 @@ is_label bs = is_letter (slice_index bs 0) && list_all is_name_byte bs
 
 -- The parts of a line.
 
+-- a label, if there is one, a word and its operands
 pub record Parts : Type 0 where
   pub label : Option (List ℕ)
   -- nothing where the line has no word
@@ -132,10 +137,12 @@ unlabelled label bs =
 unfoldable pub label_end : List ℕ → Option ℕ
 label_end code = let n = prefix_len is_name_byte code in if is_label (take n code) && slice_index code n == colon then Some n else None
 
+-- the parts of a line whose label ends there
 abbrev pub parts_by : List ℕ → Option ℕ → Parts
 parts_by code (Some n) = unlabelled (Some (take n code)) (drop (n + 1) code)
 parts_by code None = unlabelled None code
 
+-- the parts of a line, without its comment
 abbrev pub parts_of : List ℕ → Parts
 parts_of line = let code = without_front_blanks (code_from Outside line) in parts_by code (label_end code)
 
@@ -166,12 +173,15 @@ digits_of base bs = if nat_lt 0 (length bs) && list_all (λ b. is_digit b base) 
 abbrev pub magnitude_of : List ℕ → Option ℕ
 magnitude_of bs = if starts_with nat_eq bs (codes "0x") then digits_of 16 (drop 2 bs) else digits_of 10 bs
 
+-- a number with its sign
 abbrev pub signed : Bool → ℕ → Number
 signed negative n = record { negative = negative; magnitude = n }
 
+-- it begins with a minus sign
 abbrev pub has_sign : List ℕ → Bool
 has_sign bs = starts_with nat_eq bs (codes "-")
 
+-- what stands behind the minus sign, if there is one
 abbrev pub without_sign : List ℕ → List ℕ
 without_sign bs = if has_sign bs then drop 1 bs else bs
 
@@ -191,6 +201,7 @@ place_of bs =
 abbrev pub escape_of : ℕ → Option ℕ
 escape_of b = if b == 110 then Some line_feed else if b == 116 then Some tab else if b == 48 then Some 0 else if b == backslash then Some backslash else if b == quote_mark then Some quote_mark else None
 
+-- a byte in front of the text
 abbrev pub with_front : ℕ → Option (List ℕ) → Option (List ℕ)
 with_front b text = option_map (λ t. b ∷ t) text
 
@@ -201,6 +212,7 @@ text_from Outside (b ∷ bs) = None
 text_from Inside (b ∷ bs) = if b == quote_mark then text_from Outside bs else if b == backslash then text_from Escaped bs else with_front b (text_from Inside bs)
 text_from Escaped (b ∷ bs) = elim (escape_of b) [ Some c ↦ with_front c (text_from Inside bs) | None ↦ None ]
 
+-- the text in quotes, which is all there is
 abbrev pub text_of : List ℕ → Option (List ℕ)
 text_of [] = None
 text_of (b ∷ bs) = if b == quote_mark then text_from Inside bs else None

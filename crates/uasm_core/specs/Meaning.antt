@@ -41,6 +41,7 @@ Follow labels text_len at (line ∷ others) [] = ⊥
 Follow labels text_len at (line ∷ others) (l ∷ ls) =
     Spells labels text_len at line l × Follow labels text_len (after_bytes l.statement l.bytes at) others ls
 
+-- they are one section
 abbrev pub is_same : Section → Section → Bool
 is_same Text Text = true
 is_same Text Data = false
@@ -57,6 +58,7 @@ abbrev pub addresses_of : ℕ → List ProgramLine → List ℕ → List ℕ
 addresses_of text_len [] name = []
 addresses_of text_len (l ∷ ls) name = if is_label_of l.label name then address text_len l.place ∷ addresses_of text_len ls name else addresses_of text_len ls name
 
+-- none or one
 abbrev pub as_list : Option ℕ → List ℕ
 as_list (Some a) = a ∷ []
 as_list None = []
@@ -79,9 +81,11 @@ pub record Stretch : Type 0 where
   pub rights : Rights
   pub bytes : List ℕ
 
+-- read and execute
 abbrev pub text_rights : Rights
 text_rights = record { read = true; write = false; execute = true; user = true }
 
+-- read and write
 abbrev pub data_rights : Rights
 data_rights = record { read = true; write = true; execute = false; user = true }
 
@@ -102,6 +106,7 @@ pub record Puts (file : List ℕ) (s : Segment) (m : Stretch) : Type 0 where
   pub from_file : s.filesz ≡ length m.bytes
   pub bytes : take s.filesz (drop s.off file) ≡ m.bytes
 
+-- the segments put these stretches, in order, and no other
 abbrev pub AllPut : List ℕ → List Segment → List Stretch → Type 0
 AllPut file [] [] = Unit {0}
 AllPut file [] (m ∷ ms) = ⊥

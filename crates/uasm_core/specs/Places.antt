@@ -31,9 +31,11 @@ address text_len p = base_of p.section text_len + offset_in p.section p
 
 -- Sizes in the file (ELF-64 Object File Format).
 
+-- bytes of the file header
 abbrev pub file_header_bytes : ℕ
 file_header_bytes = 64
 
+-- bytes of a program header
 abbrev pub program_header_bytes : ℕ
 program_header_bytes = 56
 

@@ -30,6 +30,7 @@ pub data Datum : Type 0 where
   Known : (bytes : List ℕ) → Datum
   Address : (label : List ℕ) → Datum
 
+-- what a line asks for: nothing, another section, instructions, a branch or jump to a label, a label's address in a register, or bytes
 pub data Statement : Type 0 where
   Empty : Statement
   Switch : (to : Section) → Statement
@@ -57,21 +58,26 @@ from_to a b = if nat_le a b then signed false (b - a) else signed true (a - b)
 abbrev pub upper : ℕ → ℕ
 upper m = (m + 2048) / 4096 % 2 ^ 20
 
+-- the low 12 bits
 abbrev pub lower : ℕ → ℕ
 lower m = m % 4096
 
 -- Operands.
 
+-- what was found; else the operand is bad
 abbrev pub or_bad : {A : Type 0} → Option A → Result A AsmErrorKind
 or_bad (Some x) = Ok x
 or_bad None = Err BadOperand
 
+-- the register of that name
 abbrev pub register : List ℕ → Result ℕ AsmErrorKind
 register bs = or_bad (register_of bs)
 
+-- the number that the operand writes
 abbrev pub number : List ℕ → Result Number AsmErrorKind
 number bs = or_bad (number_of bs)
 
+-- the label that the operand is, by its form
 abbrev pub label : List ℕ → Result (List ℕ) AsmErrorKind
 label bs = if is_label bs then Ok bs else Err BadOperand
 
@@ -79,24 +85,29 @@ label bs = if is_label bs then Ok bs else Err BadOperand
 abbrev pub ranged : {A : Type 0} → ℕ → ℕ → Number → A → Result A AsmErrorKind
 ranged low high n value = if is_within low high n then Ok value else Err OutOfRange
 
+-- one operand
 abbrev pub one : List (List ℕ) → Result (List ℕ) AsmErrorKind
 one (a ∷ []) = Ok a
 one _ = Err BadOperand
 
+-- two operands
 abbrev pub two : List (List ℕ) → Result (List ℕ × List ℕ) AsmErrorKind
 two (a ∷ b ∷ []) = Ok (a, b)
 two _ = Err BadOperand
 
+-- three operands
 abbrev pub three : List (List ℕ) → Result (List ℕ × List ℕ × List ℕ) AsmErrorKind
 three (a ∷ b ∷ c ∷ []) = Ok (a, b, c)
 three _ = Err BadOperand
 
+-- an instruction with no operands
 abbrev pub alone : List (List ℕ) → Instr → Result Statement AsmErrorKind
 alone [] i = Ok (Code (i ∷ []))
 alone _ i = Err BadOperand
 
 -- Forms.
 
+-- three registers
 abbrev pub registers : List (List ℕ) → Result (ℕ × ℕ × ℕ) AsmErrorKind
 registers os = do
   o ← three os
@@ -124,6 +135,7 @@ indirect os = do
   s ← register p.1
   Ok (d, s, n)
 
+-- a register and a number
 abbrev pub register_number : List (List ℕ) → Result (ℕ × Number) AsmErrorKind
 register_number os = do
   o ← two os
@@ -131,6 +143,7 @@ register_number os = do
   n ← number o.1
   Ok (d, n)
 
+-- a register and a label
 abbrev pub register_label : List (List ℕ) → Result (ℕ × List ℕ) AsmErrorKind
 register_label os = do
   o ← two os
@@ -138,6 +151,7 @@ register_label os = do
   l ← label o.1
   Ok (d, l)
 
+-- addi from x0 where the number fits twelve bits; else lui, and addiw where the low part isn't 0
 abbrev pub li_code : ℕ → Number → List Instr
 li_code d n =
     let m = low_bits 32 n in
@@ -145,6 +159,7 @@ li_code d n =
     else if lower m == 0 then Lui d (upper m) ∷ []
     else Lui d (upper m) ∷ AddImmW d d (lower m) ∷ []
 
+-- how many bits a value has
 abbrev pub bit_count : Width → ℕ
 bit_count width.Byte = 8
 bit_count width.Word = 32
@@ -155,13 +170,16 @@ abbrev pub datum_form : Width → List ℕ → Bool
 datum_form width.Dword bs = is_label bs
 datum_form _ bs = false
 
+-- a value as it is written: a number, or a label
 pub data Given : Type 0 where
   GivenNumber : (n : Number) → Given
   GivenLabel : (label : List ℕ) → Given
 
+-- a label where the width allows one, else a number
 abbrev pub given : Width → List ℕ → Result Given AsmErrorKind
 given w bs = if datum_form w bs then Ok (GivenLabel bs) else (number bs >>= λ n. Ok (GivenNumber n))
 
+-- each of a list, or the first refusal
 abbrev pub each : {A B : Type 0} → (A → Result B AsmErrorKind) → List A → Result (List B) AsmErrorKind
 each f [] = Ok []
 each f (a ∷ others) = do
@@ -169,6 +187,7 @@ each f (a ∷ others) = do
   bs ← each f others
   Ok (b ∷ bs)
 
+-- a value in its range
 abbrev pub datum : Width → Given → Result Datum AsmErrorKind
 datum w (GivenLabel l) = Ok (Address l)
 datum w (GivenNumber n) = let k = bit_count w in ranged (2 ^ (k - 1)) (2 ^ k - 1) n (Known (le_bytes (k / 8) (low_bits k n)))
@@ -181,6 +200,7 @@ values w (o ∷ os) = do
   ds ← each (datum w) gs
   Ok (Bytes ds)
 
+-- what a word with these operands asks for
 abbrev pub statement_of : Form → List (List ℕ) → Result Statement AsmErrorKind
 statement_of (form.Register op) os = registers os >>= λ r. Ok (Code (Op op r.0 r.1 r.2 ∷ []))
 statement_of (form.RegisterWord op) os = registers os >>= λ r. Ok (Code (OpW op r.0 r.1 r.2 ∷ []))
@@ -231,6 +251,7 @@ stands_in form.Space Text = false
 stands_in _ Text = true
 stands_in _ Data = false
 
+-- what a line asks for in a section: nothing where it is empty
 abbrev pub statement : Section → Parts → Result Statement AsmErrorKind
 statement section p =
     if nat_eq (length p.word) 0 && nat_eq (length p.operands) 0 then Ok Empty
@@ -238,10 +259,12 @@ statement section p =
 
 -- Sizes, and bytes by the labels' addresses.
 
+-- how many bytes a value has
 abbrev pub datum_size : Datum → ℕ
 datum_size (Known bs) = length bs
 datum_size (Address l) = 8
 
+-- how many bytes a statement spells
 abbrev pub size_of : Statement → ℕ
 size_of Empty = 0
 size_of (Switch to) = 0
@@ -251,12 +274,15 @@ size_of (JumpTo d l) = 4
 size_of (LoadAddress d l) = 8
 size_of (Bytes ds) = sum_by datum_size ds
 
+-- a map from labels to addresses
 abbrev pub Labels : Type 0
 Labels = List ℕ → Option ℕ
 
+-- the address of a label
 abbrev pub address_of : Labels → List ℕ → Result ℕ AsmErrorKind
 address_of labels l = elim (labels l) [ Some a ↦ Ok a | None ↦ Err UnknownLabel ]
 
+-- the words of instructions, the lowest byte of each first
 abbrev pub code_bytes : List Instr → List ℕ
 code_bytes is = flat_map (λ i. le_bytes 4 (word i)) is
 
@@ -266,13 +292,16 @@ distance k from to =
     let d = from_to from to in
     if (low_bits 1 d == 0) && is_within (2 ^ k) (2 ^ k - 1) d then Ok (low_bits (k + 1) d / 2) else Err OutOfRange
 
+-- the bytes of a value
 abbrev pub datum_bytes : Labels → Datum → Result (List ℕ) AsmErrorKind
 datum_bytes labels (Known bs) = Ok bs
 datum_bytes labels (Address l) = address_of labels l >>= λ a. Ok (le_bytes 8 a)
 
+-- lists one behind another
 abbrev pub joined : {A : Type 0} → List (List A) → List A
 joined ls = flat_map (λ l. l) ls
 
+-- the bytes of values, in order
 abbrev pub values_bytes : Labels → List Datum → Result (List ℕ) AsmErrorKind
 values_bytes labels ds = each (datum_bytes labels) ds >>= λ bs. Ok (joined bs)
 

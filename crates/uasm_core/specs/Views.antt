@@ -60,19 +60,23 @@ error_at n (Kind k) = error.At n k
 
 -- Parts of a line, and statements, without where their names lie in memory.
 
+-- the parts of a line
 abbrev pub parts : code_parts.Parts → line.Parts
 parts p = record { label = option_map (λ b. b.now) p.label; word = p.word.now; operands = map (λ b. b.now) p.operands.items }
 
+-- a value as it is written
 abbrev pub given : code_given.Given → meant_line.Given
 given (given_variant.Number n) = meant_line.GivenNumber n
 given (given_variant.Label l) = meant_line.GivenLabel l
 
+-- a value
 abbrev pub datum : code_datum.Datum → meant_line.Datum
 datum (datum_variant.Byte n) = meant_line.Known (le_bytes 1 n)
 datum (datum_variant.Word n) = meant_line.Known (le_bytes 4 n)
 datum (datum_variant.Dword n) = meant_line.Known (le_bytes 8 n)
 datum (datum_variant.Address l) = meant_line.Address l
 
+-- what a line asks for
 abbrev pub statement : code_statement.Statement → meant_line.Statement
 statement variant.Empty = meant_line.Empty
 statement (variant.Switch to) = meant_line.Switch to
@@ -85,9 +89,11 @@ statement (variant.Values v) = meant_line.Bytes (map datum v.items)
 statement (variant.Text t) = meant_line.Bytes (meant_line.Known t.items ∷ [])
 statement (variant.Space n) = meant_line.Bytes (meant_line.Known (replicate n 0) ∷ [])
 
+-- a line that was read
 abbrev pub seen : code_placed.Placed → meant.Placed
 seen p = record { line = p.line; label = option_map (λ b. b.now) p.label; place = p.place; statement = statement p.statement }
 
+-- what was spelled
 abbrev pub bytes_in : code_output.Output → SectionBytes
 bytes_in o = record { in_text = o.text.items; in_data = o.data_bytes.items }
 
@@ -97,6 +103,7 @@ bytes_in o = record { in_text = o.text.items; in_data = o.data_bytes.items }
 abbrev pub places_of : LabelPlaces → List ℕ → Option Place
 places_of m l = get_by (λ k. slice_cmp nat_cmp l k.now) m.places
 
+-- no label stands anywhere
 abbrev pub no_label : List ℕ → Option Place
 no_label l = None
 
@@ -104,6 +111,7 @@ no_label l = None
 abbrev pub with_label : List ℕ → Place → (List ℕ → Option Place) → List ℕ → Option Place
 with_label m at f l = if bytes_eq m l then Some at else f l
 
+-- a line's label more, if it has one
 abbrev pub with_label_of : Option (List ℕ) → Place → (List ℕ → Option Place) → List ℕ → Option Place
 with_label_of (Some m) at f l = with_label m at f l
 with_label_of None at f l = f l

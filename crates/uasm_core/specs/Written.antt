@@ -33,6 +33,7 @@ abbrev pub ◌>>=◌ : {A B : Type 0} → Result A Fault → (A → Result B Fau
 (Ok x) >>= f = f x
 (Err e) >>= f = Err e
 
+-- a refusal, with its line's number
 abbrev pub on_line : {A : Type 0} → ℕ → Result A AsmErrorKind → Result A Fault
 on_line n (Ok x) = Ok x
 on_line n (Err k) = Err (n, k)
@@ -49,6 +50,7 @@ abbrev pub label_place : List Placed → List ℕ → Option Place
 label_place [] l = None
 label_place (p ∷ ps) l = if is_label_of p.label l then Some p.place else label_place ps l
 
+-- the line's label stands already
 abbrev pub is_taken : Option (List ℕ) → (List ℕ → Option Place) → Bool
 is_taken (Some l) labels = is_some (labels l)
 is_taken None labels = false
@@ -81,6 +83,7 @@ pub record SectionBytes : Type 0 where
   pub in_text : List ℕ
   pub in_data : List ℕ
 
+-- bytes at the end of a section
 abbrev pub put_end : Section → List ℕ → SectionBytes → SectionBytes
 put_end Text bs r = record r { in_text = r.in_text ++ bs }
 put_end Data bs r = record r { in_data = r.in_data ++ bs }
@@ -94,15 +97,18 @@ put_in section r (Err e) = Err e
 abbrev pub spelled_line : Labels → ℕ → SectionBytes → Placed → Result SectionBytes Fault
 spelled_line labels text_len r p = on_line p.line (put_in p.place.section r (spelled labels (address text_len p.place) p.statement))
 
+-- what was spelled so far, and behind it the lines that are left
 abbrev pub all_spelled : Labels → ℕ → SectionBytes → List Placed → Result SectionBytes Fault
 all_spelled labels text_len r [] = Ok r
 all_spelled labels text_len r (p ∷ ps) = spelled_line labels text_len r p >>= λ s. all_spelled labels text_len s ps
 
+-- nothing spelled yet
 abbrev pub no_bytes : SectionBytes
 no_bytes = record { in_text = []; in_data = [] }
 
 -- Both passes.
 
+-- the bytes of text and of data, and the address of the first instruction
 pub record Program : Type 0 where
   pub text : List ℕ
   pub data_bytes : List ℕ
@@ -112,6 +118,7 @@ pub record Program : Type 0 where
 abbrev pub entry_of : Labels → ℕ
 entry_of labels = unwrap_or (labels (codes "_start")) 0
 
+-- the program of these bytes, where labels stand at these places
 abbrev pub program_of : ℕ → (List ℕ → Option Place) → SectionBytes → Program
 program_of text_len places r = record { text = r.in_text; data_bytes = r.in_data; entry = entry_of (addresses text_len places) }
 
@@ -121,5 +128,6 @@ second_pass ps =
     let text_len = (end_of ps start).text_len in
     all_spelled (addresses text_len (label_place ps)) text_len no_bytes ps >>= λ r. Ok (program_of text_len (label_place ps) r)
 
+-- what the source asks for
 abbrev pub written : List ℕ → Result Program Fault
 written source = all_placed [] start (lines source) >>= second_pass

@@ -96,3 +96,20 @@ fn the_farthest_branch_back(rt: HostRuntime) -> Result<(), Fail> {
     assert!(rt; assemble(rt.alloc(), &too_far) == Err(AsmError::At { line: 1027, kind: AsmErrorKind::OutOfRange }));
     Ok(())
 }
+
+#[test]
+fn refusals_are_printed(rt: HostRuntime) -> Result<(), Fail> {
+    let shown = [
+        (AsmErrorKind::UnknownWord, "line 7: UnknownWord"),
+        (AsmErrorKind::BadOperand, "line 7: BadOperand"),
+        (AsmErrorKind::OutOfRange, "line 7: OutOfRange"),
+        (AsmErrorKind::DuplicateLabel, "line 7: DuplicateLabel"),
+        (AsmErrorKind::UnknownLabel, "line 7: UnknownLabel"),
+    ];
+    for (kind, text) in shown {
+        let error = AsmError::At { line: 7, kind };
+        let printed = format!(in rt.alloc(); "{error}")?;
+        assert_eq!(rt; printed.as_str(), text);
+    }
+    Ok(())
+}

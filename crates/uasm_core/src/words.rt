@@ -53,7 +53,7 @@ pub(crate) enum Form {
 }
 
 /// Each word with its form.
-pub(crate) const WORDS: [(&[u8], Form); 66] = [
+const WORDS: [(&[u8], Form); 66] = [
     (b"add", Form::Register(RegOp::Add)),
     (b"sub", Form::Register(RegOp::Sub)),
     (b"sll", Form::Register(RegOp::Sll)),
@@ -123,7 +123,7 @@ pub(crate) const WORDS: [(&[u8], Form); 66] = [
 ];
 
 /// Each name of a register with its number.
-pub(crate) const REGISTERS: [(&[u8], u8); 65] = [
+const REGISTERS: [(&[u8], u8); 65] = [
     (b"x0", 0),
     (b"x1", 1),
     (b"x2", 2),

@@ -3,7 +3,11 @@ use crate::AsmErrorKind;
 use crate::AsmErrorKind::{BadOperand, DuplicateLabel, OutOfRange, UnknownLabel, UnknownWord};
 
 /// A source, how many bytes its file has, and its last bytes.
-pub(crate) const ACCEPTED: [(&str, usize, &[u8]); 31] = [
+pub(crate) const ACCEPTED: [(&str, usize, &[u8]); 34] = [
+    // Whole sources.
+    ("li a7, 2\nli a0, 0\necall", 132, &[0x93, 0x08, 0x20, 0x00, 0x13, 0x05, 0x00, 0x00, 0x73, 0x00, 0x00, 0x00]),
+    ("li a0, 0x12345", 128, &[0x37, 0x25, 0x01, 0x00, 0x1B, 0x05, 0x55, 0x34]),
+    ("la a0, x\n.data\nx: .byte 7", 185, &[0x17, 0x15, 0x00, 0x00, 0x13, 0x05, 0x05, 0x00, 0x07]),
     // Lines end at a line feed; a carriage return before it is dropped.
     ("", 64, &[]),
     ("\r\n\n", 64, &[]),
@@ -48,7 +52,7 @@ pub(crate) const ACCEPTED: [(&str, usize, &[u8]); 31] = [
 ];
 
 /// A source, the line that is refused, and why.
-pub(crate) const REFUSED: [(&str, usize, AsmErrorKind); 115] = [
+pub(crate) const REFUSED: [(&str, usize, AsmErrorKind); 116] = [
     // A carriage return elsewhere is a byte like others.
     ("nop\r", 1, BadOperand),
     ("\r", 1, UnknownWord),
@@ -166,6 +170,7 @@ pub(crate) const REFUSED: [(&str, usize, AsmErrorKind); 115] = [
     ("addi a9, a0, 5000", 1, BadOperand),
     // The first pass comes first.
     ("j x\nfoo", 2, UnknownWord),
+    ("j x", 1, UnknownLabel),
     ("j x\nj y", 1, UnknownLabel),
     ("nop\nla a0, nowhere", 2, UnknownLabel),
     (".data\n.dword 1, a0", 2, UnknownLabel),
