@@ -1,5 +1,5 @@
 -- A source that both passes take means its program.
-use Rattle.std.proofs.Common.{◌≡◌, ℕ, ◌+◌, ◌≤◌, Bool, true, false, cond, List, [], ◌∷◌, ◌++◌, length, Option, Some, None, Ok, refl, sym, ap, ◌∙◌, subst, arith, length-append}
+use Rattle.std.proofs.Common.{◌≡◌, ℕ, ◌+◌, ◌≤◌, Bool, true, false, cond, List, [], ◌∷◌, length, Option, Some, None, Ok, refl, sym, ap, ◌∙◌, subst, arith, length-append}
 use Rattle.std.specs.Option.{option_map}
 use Rattle.std.specs.Str.Lines.{lines}
 use Rattle.std.proofs.lemmas.Bool.{ltb-false}
@@ -10,7 +10,7 @@ use Rattle.uasm_core.specs.declared.place.Place.{Place}
 use Rattle.uasm_core.specs.Places.{start, grown, address, file_len}
 use Rattle.uasm_core.specs.Statement.{Statement, Empty, Switch, Code, BranchTo, JumpTo, LoadAddress, Bytes, Labels, spelled, size_of}
 use Rattle.uasm_core.specs.Written.{Placed, is_label_of, label_place, behind, end_of, addresses, SectionBytes, all_placed, all_spelled, no_bytes, program_of}
-use Rattle.uasm_core.specs.Meaning.{ProgramLine, Follow, after_bytes, is_same, bytes_in, addresses_of, as_list, Means}
+use Rattle.uasm_core.specs.Meaning.{Follow, after_bytes, bytes_in, addresses_of, as_list, Means}
 use Rattle.uasm_core.proofs.Sizes.{length-spelled}
 use Rattle.uasm_core.proofs.Once.{Distinct, nowhere}
 use Rattle.uasm_core.proofs.Passes.{From, Spelled, lines_of, or_skipped, all_found, all_spelled_is}
@@ -32,9 +32,10 @@ follow labels len at [] (p ∷ ps) bss f s = absurd f
 follow labels len at (line ∷ others) [] bss f s = absurd f
 follow labels len at (line ∷ others) (p ∷ ps) [] f s = absurd s
 follow labels len at (line ∷ others) (p ∷ ps) (bs ∷ bss) f s =
-    let next : behind p.statement at ≡ after_bytes p.statement bs at = behind_bytes p.statement bs at (length-spelled labels (address len p.place) p.statement bs s.0) in
-    (record { stands = f.0.place; labelled = f.0.label; asks = f.0.asks; writes = ap (λ (a : Place). spelled labels (address len a) p.statement) (sym f.0.place) ∙ s.0 },
-     subst (λ (a : Place). Follow labels len a others (lines_of ps bss)) next (follow labels len (behind p.statement at) others ps bss f.1 s.1))
+    let next : behind p.statement at ≡ after_bytes p.statement bs at = behind_bytes p.statement bs at (length-spelled labels (address len p.place) p.statement bs s.0) in (
+      record { stands = f.0.place; labelled = f.0.label; asks = f.0.asks; writes = ap (λ (a : Place). spelled labels (address len a) p.statement) (sym f.0.place) ∙ s.0 },
+      subst (λ (a : Place). Follow labels len a others (lines_of ps bss)) next (follow labels len (behind p.statement at) others ps bss f.1 s.1),
+    )
 
 -- bytes make text longer where they stand in it
 grown_text : (section : Section) (at : Place) (n : ℕ) (bs rest : List ℕ) → length bs ≡ n → (grown section n at).text_len + length rest ≡ at.text_len + length (or_skipped Text bs section rest)
@@ -88,9 +89,10 @@ ends labels len at (line ∷ others) (p ∷ ps) (bs ∷ bss) f s =
     let here : p.place ≡ at = f.0.place in
     let rest = ends labels len (behind p.statement at) others ps bss f.1 s.1 in
     let text = bytes_in Text (lines_of ps bss) in
-    let data_bytes = bytes_in Data (lines_of ps bss) in
-    (ap (λ (a : Place). (end_of ps (behind p.statement a)).text_len) here ∙ rest.0 ∙ more_text p.statement at bs text size ∙ ap (λ (a : Place). at.text_len + length (or_skipped Text bs a.section text)) (sym here),
-     ap (λ (a : Place). (end_of ps (behind p.statement a)).data_len) here ∙ rest.1 ∙ more_data p.statement at bs data_bytes size ∙ ap (λ (a : Place). at.data_len + length (or_skipped Data bs a.section data_bytes)) (sym here))
+    let data_bytes = bytes_in Data (lines_of ps bss) in (
+      ap (λ (a : Place). (end_of ps (behind p.statement a)).text_len) here ∙ rest.0 ∙ more_text p.statement at bs text size ∙ ap (λ (a : Place). at.text_len + length (or_skipped Text bs a.section text)) (sym here),
+      ap (λ (a : Place). (end_of ps (behind p.statement a)).data_len) here ∙ rest.1 ∙ more_data p.statement at bs data_bytes size ∙ ap (λ (a : Place). at.data_len + length (or_skipped Data bs a.section data_bytes)) (sym here),
+    )
 
 -- the file isn't too long
 short : (at : Place) (ls : List (List ℕ)) (ps : List Placed) → From at ls ps → file_len at ≤ PROGRAM_BYTES → file_len (end_of ps at) ≤ PROGRAM_BYTES
@@ -147,9 +149,9 @@ known source ps r len h e s =
         in_text = b.2;
         in_data = b.3;
         one_line_each = λ name. ap (λ (n : ℕ). addresses_of n (lines_of ps bss) name) (sym len_is) ∙ one_each labels len ps bss name found.3 b.1;
-        begins = refl
+        begins = refl;
       };
       text_len = text_len;
       data_len = data_len;
-      short = short start (lines source) ps from (omega arith)
+      short = short start (lines source) ps from (omega arith);
     }

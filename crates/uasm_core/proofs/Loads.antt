@@ -1,16 +1,15 @@
 -- The file of a program loads as that program.
-use Rattle.std.proofs.Common.{◌≡◌, ℕ, zero, suc, ◌+◌, ◌*◌, ◌/◌, ◌%◌, ◌^◌, ◌<◌, ◌≤◌, Bool, true, false, cond, List, [], ◌∷◌, ◌++◌, length, take, drop, Option, Some, None, Result, Ok, Err, refl, sym, ap, ◌∙◌, subst, arith, length-append, append-nil}
-use Rattle.std.specs.Prelude.{not, ◌==◌, ◌&&◌, ◌||◌, nat_lt, nat_le, nat_eq}
+use Rattle.std.proofs.Common.{◌≡◌, ℕ, zero, suc, ◌+◌, ◌*◌, ◌/◌, ◌%◌, ◌^◌, ◌<◌, ◌≤◌, Bool, true, false, cond, List, [], ◌∷◌, ◌++◌, length, take, Result, Ok, Err, refl, sym, ap, ◌∙◌, subst, arith, length-append, append-nil}
+use Rattle.std.specs.Prelude.{◌==◌, ◌&&◌, nat_lt, nat_eq}
 use Rattle.std.specs.List.{starts_with}
 use Rattle.std.proofs.Math.Dec.{eqb-suc-zero}
 use Rattle.std.proofs.Math.Nat.{pow-suc, div-lt_iff_lt-mul}
 use Rattle.std.proofs.Math.Seq.{take-append_seam, take-length, drop-append_seam, drop-append-add}
 use Rattle.std.proofs.lemmas.Bool.{le-ltb, le-leb}
 use Rattle.xk_base.specs.Words.{le, le_bytes, least_below}
-use Rattle.xk_base.specs.declared.limits.TheConstants.{SIZE_LIMIT, PROGRAM_BYTES}
+use Rattle.xk_base.specs.declared.limits.TheConstants.{SIZE_LIMIT}
 use Rattle.xk_base.specs.declared.program.Header.{Header}
 use Rattle.xk_base.specs.declared.program.ProgramHeader.{ProgramHeader}
-use Rattle.xk_base.specs.declared.program.Segment.{Segment}
 use Rattle.xk_base.specs.declared.errors.ExecError.{ExecError}
 use Rattle.xk_base.specs.declared.errors.ExecError.TheVariants.{NotElf}
 use Rattle.xk_base.specs.ProgramFile as elf
@@ -18,7 +17,7 @@ use Rattle.xk_base.specs.ProgramFile.{page_up, is_elf, header_of, program_header
 use Rattle.uasm_core.specs.Places.{header_count, headers_len}
 use Rattle.uasm_core.specs.Written.{Program}
 use Rattle.uasm_core.specs.FileFormat.{elf_of, file_header, segment_header, text_flags, data_flags}
-use Rattle.uasm_core.specs.Meaning.{Puts, LoadsAs, Stretch, text_rights, data_rights}
+use Rattle.uasm_core.specs.Meaning.{Puts, LoadsAs, Stretch}
 
 -- without its lowest byte a number has one byte less
 quotient : (x n : ℕ) → x < 256 ^ suc n → x / 256 < 256 ^ n
@@ -53,8 +52,8 @@ fields entry phnum rest e n = ap (λ (x : ℕ). header_with x (le (le_bytes 2 ph
 header_is : (entry phnum : ℕ) (rest : List ℕ) → entry < 2 ^ 64 → phnum < 2 ^ 16 → header_of (file_header entry phnum ++ rest) ≡ Ok (header_with entry phnum)
 header_is entry phnum rest e n =
     header_by (file_header entry phnum ++ rest) (header_with entry phnum)
-        (elf_by (file_header entry phnum ++ rest) (let long = length-append (file_header entry phnum) rest in omega (arith, long)) refl)
-        (fields entry phnum rest e n)
+    (elf_by (file_header entry phnum ++ rest) (let long = length-append (file_header entry phnum) rest in omega (arith, long)) refl)
+    (fields entry phnum rest e n)
 
 -- Program headers.
 
@@ -135,7 +134,7 @@ puts_first front bytes others at flags m h e rights address same =
       rights = rights;
       size = ap length (sym same);
       from_file = ap length (sym same);
-      bytes = ap (take (length bytes)) (drop-append_seam front (bytes ++ others)) ∙ take-append_seam bytes others ∙ sym same
+      bytes = ap (take (length bytes)) (drop-append_seam front (bytes ++ others)) ∙ take-append_seam bytes others ∙ sym same;
     })
 
 -- those behind them
@@ -149,8 +148,8 @@ puts_second front before bytes at flags m h e rights address same =
       size = ap length (sym same);
       from_file = ap length (sym same);
       bytes =
-        ap (take (length bytes)) (drop-append-add front (before ++ bytes) (length before) ∙ drop-append_seam before bytes)
-        ∙ take-length bytes ∙ sym same
+          ap (take (length bytes)) (drop-append-add front (before ++ bytes) (length before) ∙ drop-append_seam before bytes)
+          ∙ take-length bytes ∙ sym same;
     })
 
 -- The file of a program, by whether text and data have no bytes.
@@ -197,9 +196,9 @@ nothing entry e = record {
     has_header = header_is entry 0 [] e (omega arith);
     has_segments = none (layout true true [] [] entry) entry;
     begins = refl;
-    puts = tt
+    puts = tt;
   };
-  size = refl
+  size = refl;
 }
 
 -- text alone, at 0
@@ -222,9 +221,9 @@ text_alone t ts entry e small =
         has_header = header_is entry 1 (segment_header text_flags 120 0 n ++ rest) e (omega arith);
         has_segments = one file entry (whole text_flags 120 0 n) h (loaded_is text_flags 120 0 n positive) long fine;
         begins = refl;
-        puts = (puts_first front (t ∷ ts) [] 0 text_flags _ (whole text_flags 120 0 n) refl refl refl refl, tt)
+        puts = (puts_first front (t ∷ ts) [] 0 text_flags _ (whole text_flags 120 0 n) refl refl refl refl, tt);
       };
-      size = omega (arith, size, count)
+      size = omega (arith, size, count);
     }
 
 -- data alone: it stands at 0 too
@@ -246,9 +245,9 @@ data_alone d ds entry e small =
         has_header = header_is entry 1 (segment_header data_flags 120 0 n ++ (d ∷ ds)) e (omega arith);
         has_segments = one file entry (whole data_flags 120 0 n) h (loaded_is data_flags 120 0 n positive) long fine;
         begins = refl;
-        puts = (puts_second front [] (d ∷ ds) 0 data_flags _ (whole data_flags 120 0 n) refl refl refl refl, tt)
+        puts = (puts_second front [] (d ∷ ds) 0 data_flags _ (whole data_flags 120 0 n) refl refl refl refl, tt);
       };
-      size = omega (arith, size, count)
+      size = omega (arith, size, count);
     }
 
 -- text at 0, and data at the page behind it
@@ -279,11 +278,12 @@ both t ts d ds entry e small1 small2 =
         has_segments = two file entry (whole text_flags 176 0 n) (whole data_flags (176 + n) base m) h1 h2
             (loaded_is text_flags 176 0 n positive1) (loaded_is data_flags (176 + n) base m positive2) (omega (arith, size)) (omega (arith, size)) fine1 fine2;
         begins = refl;
-        puts =
-          (puts_first front (t ∷ ts) (d ∷ ds) 0 text_flags _ (whole text_flags 176 0 n) refl refl refl refl,
-           (puts_second front (t ∷ ts) (d ∷ ds) base data_flags _ (whole data_flags (176 + n) base m) refl refl refl refl, tt))
+        puts = (
+          puts_first front (t ∷ ts) (d ∷ ds) 0 text_flags _ (whole text_flags 176 0 n) refl refl refl refl,
+          (puts_second front (t ∷ ts) (d ∷ ds) base data_flags _ (whole data_flags (176 + n) base m) refl refl refl refl, tt),
+        );
       };
-      size = omega (arith, size, count1, count2)
+      size = omega (arith, size, count1, count2);
     }
 
 -- the file of every program

@@ -32,10 +32,12 @@ asked (Err k) n at label p h = absurd (let no_way : ⊥ = cc in no_way)
 asked (Ok s) n at label p h =
     let q : Placed = record { line = n; label = label; place = at; statement = s } in
     let both = by_len (is_past_limit (behind s at)) n p q h in
-    let e : q ≡ p = both.0 in
-    (sym (ap (λ (x : Placed). x.place) e), sym (ap (λ (x : Placed). x.label) e),
-     ap (λ (x : Placed). let r : Result Statement AsmErrorKind = Ok x.statement in r) e,
-     ap (λ (x : Placed). is_past_limit (behind x.statement at)) (sym e) ∙ both.1)
+    let e : q ≡ p = both.0 in (
+      sym (ap (λ (x : Placed). x.place) e),
+      sym (ap (λ (x : Placed). x.label) e),
+      ap (λ (x : Placed). let r : Result Statement AsmErrorKind = Ok x.statement in r) e,
+      ap (λ (x : Placed). is_past_limit (behind x.statement at)) (sym e) ∙ both.1,
+    )
 
 -- what was taken has a new label
 fresh : (b : Bool) (n : ℕ) (r : Result Placed Fault) (p : Placed) → cond b (Err (n, DuplicateLabel)) r ≡ Ok p → (b ≡ false) × (r ≡ Ok p)
@@ -78,9 +80,9 @@ all_found [] ps at qs h d =
     ([], sym e ∙ sym (append-nil ps), tt, (let P : List Placed → Type 0 = Distinct in subst P e d))
 all_found (line ∷ others) ps at qs h d =
     found_next (placed (length ps + 1) (label_place ps) at line) ps at line others qs
-        (λ p e. let is = placed_is (length ps + 1) (label_place ps) at line p e in (is.0, distinct_more ps p d is.1))
-        (λ p e c. all_found others (ps ++ p ∷ []) (behind p.statement at) qs e c)
-        h
+    (λ p e. let is = placed_is (length ps + 1) (label_place ps) at line p e in (is.0, distinct_more ps p d is.1))
+    (λ p e c. all_found others (ps ++ p ∷ []) (behind p.statement at) qs e c)
+    h
 
 -- lines that spell these bytes
 abbrev pub lines_of : List Placed → List (List ℕ) → List ProgramLine
@@ -111,16 +113,20 @@ put_front : (section : Section) (labels : Labels) (len : ℕ) (p : Placed) (ps :
     → Behind labels len ps (put_end section bs old) new → Behind labels len (p ∷ ps) old new
 put_front Text labels len p ps old new bs s e b =
     let text = bytes_in Text (lines_of ps b.0) in
-    let data_bytes = bytes_in Data (lines_of ps b.0) in
-    (bs ∷ b.0, (e, b.1),
-     b.2 ∙ append_assoc old.in_text bs text ∙ ap (λ (x : Section). old.in_text ++ or_skipped Text bs x text) (sym s),
-     b.3 ∙ ap (λ (x : Section). old.in_data ++ or_skipped Data bs x data_bytes) (sym s))
+    let data_bytes = bytes_in Data (lines_of ps b.0) in (
+      bs ∷ b.0,
+      (e, b.1),
+      b.2 ∙ append_assoc old.in_text bs text ∙ ap (λ (x : Section). old.in_text ++ or_skipped Text bs x text) (sym s),
+      b.3 ∙ ap (λ (x : Section). old.in_data ++ or_skipped Data bs x data_bytes) (sym s),
+    )
 put_front Data labels len p ps old new bs s e b =
     let text = bytes_in Text (lines_of ps b.0) in
-    let data_bytes = bytes_in Data (lines_of ps b.0) in
-    (bs ∷ b.0, (e, b.1),
-     b.2 ∙ ap (λ (x : Section). old.in_text ++ or_skipped Text bs x text) (sym s),
-     b.3 ∙ append_assoc old.in_data bs data_bytes ∙ ap (λ (x : Section). old.in_data ++ or_skipped Data bs x data_bytes) (sym s))
+    let data_bytes = bytes_in Data (lines_of ps b.0) in (
+      bs ∷ b.0,
+      (e, b.1),
+      b.2 ∙ ap (λ (x : Section). old.in_text ++ or_skipped Text bs x text) (sym s),
+      b.3 ∙ append_assoc old.in_data bs data_bytes ∙ ap (λ (x : Section). old.in_data ++ or_skipped Data bs x data_bytes) (sym s),
+    )
 
 -- one line more
 spelled_next : (r : Result (List ℕ) AsmErrorKind) (labels : Labels) (len : ℕ) (p : Placed) (ps : List Placed) (old new : SectionBytes)

@@ -1,6 +1,6 @@
 -- A statement spells as many bytes as its size says.
 use Rattle.std.proofs.Common.{◌≡◌, ℕ, ◌+◌, ◌*◌, List, [], ◌∷◌, length, Result, Ok, Err, refl, sym, ap, ◌∙◌, arith, length-append}
-use Rattle.std.specs.Prelude.{Option, Some, None, sum_by}
+use Rattle.std.specs.Prelude.{sum_by}
 use Rattle.xk_base.specs.Words.{le_bytes}
 use Rattle.xk_base.proofs.Words.{length-le_bytes}
 use Rattle.rv64i_core.specs.Table.{word}

@@ -1,5 +1,5 @@
 -- One line more in the first pass.
-use Rattle.std.proofs.Common.{◌≡◌, ℕ, ◌+◌, ◌<◌, List, [], ◌∷◌, ◌++◌, length, Option, Result, Ok, Err, refl, sym, ap, ◌∙◌, Bor, get_or, map, drop, add-one, drop-cons}
+use Rattle.std.proofs.Common.{◌≡◌, ℕ, ◌+◌, ◌<◌, List, [], ◌∷◌, ◌++◌, length, Option, Result, Ok, sym, ap, ◌∙◌, Bor, get_or, map, drop, add-one, drop-cons}
 use Rattle.uasm_core.specs.declared.error.AsmError.{AsmError}
 use Rattle.uasm_core.specs.declared.error.AsmError.TheVariants as error
 use Rattle.uasm_core.specs.declared.place.Place.{Place}

@@ -1,5 +1,5 @@
 -- Both passes, joined.
-use Rattle.std.proofs.Common.{◌≡◌, ℕ, ◌+◌, ◌^◌, ◌<◌, ◌≤◌, List, [], ◌∷◌, length, Option, Result, Ok, Err, refl, sym, ap, subst, ◌∙◌, arith}
+use Rattle.std.proofs.Common.{◌≡◌, ℕ, ◌+◌, ◌^◌, ◌<◌, ◌≤◌, List, [], length, Option, Result, Ok, Err, sym, ap, subst, ◌∙◌, arith}
 use Rattle.std.specs.Str.Lines.{lines}
 use Rattle.xk_base.specs.declared.limits.TheConstants.{PROGRAM_BYTES}
 use Rattle.uasm_core.specs.declared.place.Place.{Place}
@@ -57,12 +57,12 @@ assembles source ps r len entry k e small =
       program = program_of len (label_place ps) r;
       means = k.means;
       loads = whole.loads;
-      short = bounded r.in_text r.in_data (end_of ps start) _ whole.size a b c
+      short = bounded r.in_text r.in_data (end_of ps start) _ whole.size a b c;
     }
   where
     bounded : (text data_bytes : List ℕ) (at : Place) (n : ℕ) → n ≡ headers_len (length text) (length data_bytes) + length text + length data_bytes
         → length text ≡ at.text_len → length data_bytes ≡ at.data_len → headers_len at.text_len at.data_len + at.text_len + at.data_len ≤ PROGRAM_BYTES → n ≤ PROGRAM_BYTES
     bounded text data_bytes at n size a b c =
         let same : headers_len (length text) (length data_bytes) + length text + length data_bytes ≡ headers_len at.text_len at.data_len + at.text_len + at.data_len
-            = ap (λ (x : ℕ). headers_len x (length data_bytes) + x + length data_bytes) a ∙ ap (λ (x : ℕ). headers_len at.text_len x + at.text_len + x) b in
+        = ap (λ (x : ℕ). headers_len x (length data_bytes) + x + length data_bytes) a ∙ ap (λ (x : ℕ). headers_len at.text_len x + at.text_len + x) b in
         subst (λ (x : ℕ). x ≤ PROGRAM_BYTES) (sym (size ∙ same)) c

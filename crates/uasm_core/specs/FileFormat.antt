@@ -1,5 +1,5 @@
 -- The ELF-64 file of a program (ELF-64 Object File Format; the machine's number is RISC-V's).
-use Rattle.std.specs.Prelude.{ℕ, ◌+◌, ◌==◌, if◌then◌else◌, List, [], ◌∷◌, ◌++◌, length, Result, Ok, Err}
+use Rattle.std.specs.Prelude.{ℕ, ◌+◌, ◌==◌, if◌then◌else◌, List, [], ◌∷◌, ◌++◌, length, Result, Ok}
 use Rattle.xk_base.specs.Words.{le_bytes}
 use Rattle.uasm_core.specs.declared.words.Section.TheVariants.{Text, Data}
 use Rattle.uasm_core.specs.Places.{base_of, file_header_bytes, program_header_bytes, header_count, headers_len}

@@ -1,9 +1,8 @@
 -- A line of the source: its label, its word and the word's operands, each as bytes; and what a register's
 -- name and a number stand for.
-use Rattle.std.specs.Prelude.{codes, ℕ, ◌+◌, ◌-◌, ◌*◌, ◌^◌, ◌<◌, min, Bool, true, false, not, ◌&&◌, ◌||◌, ◌==◌, nat_eq, nat_lt, nat_le, if◌then◌else◌, List, [], ◌∷◌, ◌++◌, length, take, drop, map, slice_index, fold, Option, Some, None}
-use Rattle.std.specs.List.{find, take_while, prefix_len, suffix_len, list_all, starts_with}
+use Rattle.std.specs.Prelude.{codes, ℕ, ◌+◌, ◌-◌, ◌*◌, ◌^◌, min, Bool, true, false, not, ◌&&◌, ◌||◌, ◌==◌, nat_eq, nat_lt, nat_le, if◌then◌else◌, List, [], ◌∷◌, length, take, drop, map, slice_index, fold, Option, Some, None}
+use Rattle.std.specs.List.{prefix_len, suffix_len, list_all, starts_with}
 use Rattle.std.specs.Option.{option_map}
-
 use Rattle.std.specs.Str.{bytes_eq}
 use Rattle.std.specs.Char.{digit_value, is_digit}
 use Rattle.uasm_core.specs.declared.words.Form.{Form}

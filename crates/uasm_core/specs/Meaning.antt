@@ -1,5 +1,5 @@
 -- What an assembled file is, said without the two passes: the source means a program, and the file loads as it.
-use Rattle.std.specs.Prelude.{◌≡◌, ℕ, ◌≤◌, Bool, true, false, if◌then◌else◌, ◌==◌, List, [], ◌∷◌, ◌++◌, length, take, drop, Option, Some, None, Result, Ok, Err}
+use Rattle.std.specs.Prelude.{◌≡◌, ℕ, ◌≤◌, Bool, true, false, if◌then◌else◌, List, [], ◌∷◌, ◌++◌, length, take, drop, Option, Some, None, Ok}
 use Rattle.std.specs.Str.Lines.{lines}
 use Rattle.xk_base.specs.declared.limits.TheConstants.{PROGRAM_BYTES}
 use Rattle.xk_base.specs.declared.access.Rights.{Rights}

@@ -1,12 +1,11 @@
 -- What a line asks for: instructions, or bytes of data, some of them known only by the labels' addresses.
-use Rattle.std.specs.Prelude.{◌≡◌, ℕ, ◌+◌, ◌-◌, ◌*◌, ◌/◌, ◌%◌, ◌^◌, Bool, true, false, not, ◌&&◌, ◌||◌, ◌==◌, nat_eq, nat_lt, nat_le, if◌then◌else◌, List, [], ◌∷◌, ◌++◌, length, map, replicate, Option, Some, None, Result, Ok, Err, sum_by}
+use Rattle.std.specs.Prelude.{ℕ, ◌+◌, ◌-◌, ◌*◌, ◌/◌, ◌%◌, ◌^◌, Bool, true, false, ◌&&◌, ◌==◌, nat_eq, nat_le, if◌then◌else◌, List, [], ◌∷◌, ◌++◌, length, replicate, Option, Some, None, Result, Ok, Err, sum_by}
 use Rattle.std.specs.List.{flat_map}
 use Rattle.xk_base.specs.Words.{le_bytes}
 use Rattle.rv64i_core.specs.Table.{word}
 use Rattle.rv64i_core.specs.declared.instruction.Instr.{Instr}
 use Rattle.rv64i_core.specs.declared.instruction.Instr.TheVariants.{Lui, Auipc, Jal, Jalr, Branch, Load, Store, OpImm, ShiftImm, Op, AddImmW, ShiftImmW, OpW, Fence, Ecall, Ebreak}
 use Rattle.rv64i_core.specs.declared.instruction.BranchOp.{BranchOp}
-use Rattle.rv64i_core.specs.declared.instruction.ImmOp.{ImmOp}
 use Rattle.rv64i_core.specs.declared.instruction.ImmOp.TheVariants.{Addi}
 use Rattle.uasm_core.specs.declared.error.AsmErrorKind.{AsmErrorKind}
 use Rattle.uasm_core.specs.declared.error.AsmErrorKind.TheVariants.{UnknownWord, BadOperand, OutOfRange, UnknownLabel}

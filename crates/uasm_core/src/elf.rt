@@ -1,5 +1,5 @@
 //! The ELF-64 file of a program (ELF-64 Object File Format).
-ghost use Rattle.std.specs.Prelude.{◌≡◌, ◌++◌, ◌<◌, ◌≤◌, ◌^◌, OnOk, IfOk, length};
+ghost use Rattle.std.specs.Prelude.{◌≡◌, ◌++◌, ◌<◌, ◌^◌, OnOk, IfOk, length};
 ghost use Rattle.uasm_core.specs.FileFormat as format;
 ghost use Rattle.uasm_core.specs.FileFormat.{elf_of};
 ghost use Rattle.xk_base.specs.Words.{le_bytes};
@@ -94,9 +94,21 @@ pub(crate) fn elf_file(alloc: Global, out: &Output, entry: u64) -> Result<Vec<u8
     let text_len = out.text.len() as u64;
     let data_len = out.data_bytes.len() as u64;
     let off = headers_len(text_len, data_len);
-    let text = Extent { off, vaddr: 0, size: text_len };
-    let data = Extent { off: off + text_len, vaddr: data_base(text_len), size: data_len };
-    let mut file = file_header(alloc, entry, header_count(text_len) + header_count(data_len))?;
+    let text = Extent {
+        off,
+        vaddr: 0,
+        size: text_len,
+    };
+    let data = Extent {
+        off: off + text_len,
+        vaddr: data_base(text_len),
+        size: data_len,
+    };
+    let mut file = file_header(
+        alloc,
+        entry,
+        header_count(text_len) + header_count(data_len),
+    )?;
     put_program_header(&mut file, TEXT_FLAGS, &text)?;
     put_program_header(&mut file, DATA_FLAGS, &data)?;
     file.extend_from_slice(&out.text)?;

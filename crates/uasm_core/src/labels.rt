@@ -16,7 +16,9 @@ pub(crate) struct LabelPlaces<'a> {
 pub(crate) fn no_labels<'a>(alloc: Global) -> LabelPlaces<'a>
     ensures { places_of result ≡ no_label }
 {
-    LabelPlaces { places: BTreeMap::new(alloc) }
+    LabelPlaces {
+        places: BTreeMap::new(alloc),
+    }
 }
 
 /// Where a label stands.
@@ -27,7 +29,11 @@ pub(crate) fn find<'a>(labels: &LabelPlaces<'a>, name: &'a [u8]) -> Option<Place
 }
 
 /// One label more.
-pub(crate) fn add<'a>(labels: &mut LabelPlaces<'a>, name: &'a [u8], place: Place) -> Result<(), AllocFailed<(&'a [u8], Place)>>
+pub(crate) fn add<'a>(
+    labels: &mut LabelPlaces<'a>,
+    name: &'a [u8],
+    place: Place,
+) -> Result<(), AllocFailed<(&'a [u8], Place)>>
     ensures { OnOk result (places_of labels.new ≡ with_label name.now place (places_of labels.old)) }
 {
     labels.places.insert(name, place)?;

@@ -1,10 +1,9 @@
 //! Numbers as the source writes them.
-ghost use Rattle.std.specs.Prelude.{◌≡◌, ◌≤◌, ◌<◌, ◌^◌, ◌+◌, ◌*◌, ◌-◌, List, ℕ, length, drop, IsTrue, MatchOption, None, Some, min, ◌&&◌, nat_lt, not, IsSomeAnd};
-ghost use Rattle.std.specs.List.{list_all, prefix_len};
+ghost use Rattle.std.specs.Prelude.{◌≡◌, ◌≤◌, ◌<◌, ◌^◌, length, IsTrue, min};
+ghost use Rattle.std.specs.List.{list_all};
 ghost use Rattle.std.specs.Char.{digit_value, is_digit};
 ghost use Rattle.uasm_core.specs.Line.{digits_of, magnitude_of, number_in, number_of, has_sign, without_sign};
 ghost use Rattle.uasm_core.specs.Statement.{is_within as within, low_bits as low_bits_of};
-ghost use Rattle.uasm_core.specs.declared.numeral.Number.{Number};
 
 /// A number with its sign. From 2^64 on its size is not told exactly.
 #[derive(Clone, Copy)]
@@ -110,6 +109,10 @@ impl Number {
     {
         let part = 1u128 << k;
         let low = self.magnitude % part;
-        (if self.negative { (part - low) % part } else { low }) as u64
+        (if self.negative {
+            (part - low) % part
+        } else {
+            low
+        }) as u64
     }
 }

@@ -28,7 +28,11 @@ pub(crate) fn number(bytes: &[u8]) -> Result<Number, AsmErrorKind>
 pub(crate) fn label<'a>(bytes: &'a [u8]) -> Result<Name<'a>, AsmErrorKind>
     ensures { result ≡ label_in bytes.now }
 {
-    if is_label(bytes) { Ok(Name::new(bytes)) } else { Err(AsmErrorKind::BadOperand) }
+    if is_label(bytes) {
+        Ok(Name::new(bytes))
+    } else {
+        Err(AsmErrorKind::BadOperand)
+    }
 }
 
 /// One operand.
@@ -52,7 +56,9 @@ pub(crate) fn two<'a>(operands: &[&'a [u8]]) -> Result<(&'a [u8], &'a [u8]), Asm
 }
 
 /// Three operands.
-pub(crate) fn three<'a>(operands: &[&'a [u8]]) -> Result<(&'a [u8], &'a [u8], &'a [u8]), AsmErrorKind>
+pub(crate) fn three<'a>(
+    operands: &[&'a [u8]],
+) -> Result<(&'a [u8], &'a [u8], &'a [u8]), AsmErrorKind>
     ensures { Gives (λ r. (r.0.now, r.1.now, r.2.now)) result (three_of (map (λ b. b.now) operands.now)) }
 {
     match operands {

@@ -1,11 +1,10 @@
 //! The parts of a line.
-ghost use Rattle.std.specs.Prelude.{◌≡◌, ◌≤◌, ◌<◌, ◌^◌, ◌+◌, ◌*◌, List, ℕ, length, map, take, drop, IsTrue, MatchOption, None, Some, min, IfOk, IfSome, ◌&&◌, ◌==◌, not};
+ghost use Rattle.std.specs.Prelude.{◌≡◌, ◌≤◌, ◌<◌, length, map, IfOk, IfSome, ◌&&◌, ◌==◌, not};
 ghost use Rattle.std.specs.Option.{option_map};
 ghost use Rattle.uasm_core.specs.Views.{parts, Gives};
 ghost use Rattle.uasm_core.specs.Statement.{or_bad};
 ghost use Rattle.std.specs.List.{prefix_len, suffix_len, list_all};
-ghost use Rattle.std.specs.Char.{digit_value};
-ghost use Rattle.uasm_core.specs.Line.{is_blank as blank, is_letter as letter, is_name_byte as name_byte, is_word_byte as word_byte, is_label as label_of, without_front_blanks, trimmed, place_of, code_from, digits_of, number_in, after, label_end, is_outside, pieces_from, operands_of, unlabelled, parts_of as parts_in};
+ghost use Rattle.uasm_core.specs.Line.{is_blank as blank, is_letter as letter, is_name_byte as name_byte, is_word_byte as word_byte, is_label as label_of, without_front_blanks, trimmed, place_of, code_from, after, label_end, is_outside, pieces_from, operands_of, unlabelled, parts_of as parts_in};
 ghost use Rattle.uasm_core.specs.declared.scan.Quote.TheVariants.{Outside};
 
 use crate::error::AsmErrorKind;
@@ -180,7 +179,11 @@ pub(crate) struct Parts<'a> {
 }
 
 /// The word and the operands in the bytes behind the label.
-fn behind_label<'a>(alloc: Global, label: Option<&'a [u8]>, bytes: &'a [u8]) -> Result<Parts<'a>, AllocError>
+fn behind_label<'a>(
+    alloc: Global,
+    label: Option<&'a [u8]>,
+    bytes: &'a [u8],
+) -> Result<Parts<'a>, AllocError>
     ensures { IfOk result (λ p. parts p ≡ unlabelled (option_map (λ b. b.now) label.entry) bytes.now) }
 {
     let code = without_blanks(bytes);

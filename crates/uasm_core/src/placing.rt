@@ -1,5 +1,5 @@
 //! The first pass: each line with its place.
-ghost use Rattle.std.specs.Prelude.{◌≡◌, ◌≤◌, ◌<◌, ◌^◌, ◌+◌, List, [], ℕ, map, length, IfOk, IfSome, if◌then◌else◌, nat_lt, Some, None, sum_by, nat_eq, IfErr, IfNone, false};
+ghost use Rattle.std.specs.Prelude.{◌≡◌, ◌≤◌, ◌<◌, ◌^◌, [], map, length, IfOk, IfSome, if◌then◌else◌, Some, None, sum_by, IfErr, IfNone, false};
 ghost use Rattle.std.specs.Option.{option_map};
 ghost use Rattle.uasm_core.specs.Views.{Stands, seen, error_at};
 ghost use Rattle.uasm_core.specs.Views.{places_of, with_label_of};
@@ -120,7 +120,11 @@ fn is_known<'a>(labels: &LabelPlaces<'a>, label: Option<&'a [u8]>) -> bool
     }
 }
 
-fn enter<'a>(labels: &mut LabelPlaces<'a>, label: Option<&'a [u8]>, at: Place) -> Result<(), AsmError>
+fn enter<'a>(
+    labels: &mut LabelPlaces<'a>,
+    label: Option<&'a [u8]>,
+    at: Place,
+) -> Result<(), AsmError>
     ensures value { IfOk result (λ _. places_of labels.new ≡ with_label_of (option_map (λ b. b.now) label.entry) at (places_of labels.old)) }
     ensures memory { IfErr result (λ e. e ≡ error.Memory) }
 {
@@ -131,7 +135,13 @@ fn enter<'a>(labels: &mut LabelPlaces<'a>, label: Option<&'a [u8]>, at: Place) -
 }
 
 /// Line `line`, which stands at the end of the program so far.
-fn place_line<'a>(alloc: Global, labels: &mut LabelPlaces<'a>, line: usize, end: &ProgramEnd, source: &'a [u8]) -> Result<Placed<'a>, AsmError>
+fn place_line<'a>(
+    alloc: Global,
+    labels: &mut LabelPlaces<'a>,
+    line: usize,
+    end: &ProgramEnd,
+    source: &'a [u8],
+) -> Result<Placed<'a>, AsmError>
     ensures value { Stands seen result (placed line (places_of labels.old) end.now source.now) }
     ensures fresh { IfOk result (λ p. is_taken (seen p).label (places_of labels.old) ≡ false) }
     ensures place { IfOk result (λ p. p.place ≡ end.now) }
@@ -140,7 +150,10 @@ fn place_line<'a>(alloc: Global, labels: &mut LabelPlaces<'a>, line: usize, end:
 {
     let parts = parts_of(alloc, source)?;
     if is_known(labels, parts.label) {
-        return Err(AsmError::At { line, kind: AsmErrorKind::DuplicateLabel });
+        return Err(AsmError::At {
+            line,
+            kind: AsmErrorKind::DuplicateLabel,
+        });
     }
     let place = end.place();
     let statement = match asked(alloc, place.section, &parts) {
@@ -148,10 +161,19 @@ fn place_line<'a>(alloc: Global, labels: &mut LabelPlaces<'a>, line: usize, end:
         Err(r) => return Err(at_line(line, r)),
     };
     let Some(next) = end_behind(end, &statement) else {
-        return Err(AsmError::At { line, kind: AsmErrorKind::OutOfRange });
+        return Err(AsmError::At {
+            line,
+            kind: AsmErrorKind::OutOfRange,
+        });
     };
     enter(labels, parts.label, place)?;
-    Ok(Placed { line, label: parts.label, place, next, statement })
+    Ok(Placed {
+        line,
+        label: parts.label,
+        place,
+        next,
+        statement,
+    })
 }
 
 /// All lines with their places.
@@ -168,5 +190,9 @@ pub(crate) fn place_all<'a>(alloc: Global, lines: &[&'a str]) -> Result<Listing<
         end = one.next;
         found.push(one)?;
     }
-    Ok(Listing { lines: found, labels, text_len: end.place().text_len })
+    Ok(Listing {
+        lines: found,
+        labels,
+        text_len: end.place().text_len,
+    })
 }

@@ -34,7 +34,13 @@ impl ProgramEnd {
     pub(crate) fn start() -> ProgramEnd
         ensures { result ≡ first }
     {
-        ProgramEnd { place: Place { section: Section::Text, text_len: 0, data_len: 0 } }
+        ProgramEnd {
+            place: Place {
+                section: Section::Text,
+                text_len: 0,
+                data_len: 0,
+            },
+        }
     }
 
     /// The place.
@@ -49,7 +55,12 @@ impl ProgramEnd {
         ensures value { result ≡ record self.now { section = to } }
         ensures short { is_past_limit result ≡ false }
     {
-        ProgramEnd { place: Place { section: to, ..self.place } }
+        ProgramEnd {
+            place: Place {
+                section: to,
+                ..self.place
+            },
+        }
     }
 
     /// The end behind `n` bytes more, if the file isn't longer than a program file may be then.
@@ -66,7 +77,11 @@ impl ProgramEnd {
         if headers_len(text_len, data_len) + text_len + data_len > PROGRAM_BYTES as u64 {
             return None;
         }
-        let place = Place { section: self.place.section, text_len: text_len as u32, data_len: data_len as u32 };
+        let place = Place {
+            section: self.place.section,
+            text_len: text_len as u32,
+            data_len: data_len as u32,
+        };
         Some(ProgramEnd { place })
     }
 }

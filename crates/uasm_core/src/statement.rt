@@ -1,19 +1,24 @@
 //! What a line asks for.
-ghost use Rattle.std.specs.Prelude.{◌≡◌, ◌≤◌, ◌<◌, ◌^◌, ◌∷◌, ◌++◌, [], List, ℕ, map, IfOk, IfSome, Some, None, Ok, Err, drop};
+ghost use Rattle.std.specs.Prelude.{◌≡◌, map, IfOk};
 ghost use Rattle.std.specs.Str.Lines.{lines as lines_in};
 ghost use Rattle.uasm_core.specs.Views.{Gives, Answers, parts as parts_seen};
-ghost use Rattle.uasm_core.specs.Statement.{statement as statement_meant, statement_of, ranged, low_bits, alone as alone_in, li_code as li_code_in, Code, size_of, datum_size, given as given_in, datum as datum_in, bit_count, GivenNumber, each, values as values_in, stands_in as stands};
+ghost use Rattle.uasm_core.specs.Statement.{statement as statement_meant, statement_of, ranged, low_bits, alone as alone_in, li_code as li_code_in, Code, given as given_in, datum as datum_in, bit_count, GivenNumber, each, stands_in as stands};
 ghost use Rattle.uasm_core.specs.declared.words.Form.TheVariants as form;
 ghost use Rattle.uasm_core.specs.Views.{statement as seen, given as given_seen, datum as datum_seen};
 
 use crate::error::{AsmErrorKind, Refusal};
 use crate::name::Name;
 use crate::numeral::Number;
-use crate::operands::{immediate, indirect, label, number, one, register, register_label, register_number, registers, three, two};
+use crate::operands::{
+    immediate, indirect, label, number, one, register, register_label, register_number, registers,
+    three, two,
+};
 use crate::parts::{Parts, is_label};
 use crate::text::text;
 use crate::words::{Form, Section, Width, form_named};
-use rv64i_core::{BranchOp, ImmOp, Imm12, Imm20, Instr, LoadOp, RegOp, Shift5, Shift6, ShiftOp, StoreOp, WordOp};
+use rv64i_core::{
+    BranchOp, Imm12, Imm20, ImmOp, Instr, LoadOp, RegOp, Shift5, Shift6, ShiftOp, StoreOp, WordOp,
+};
 use std::alloc::{AllocError, Global};
 use xk_base::Reg;
 
@@ -96,63 +101,106 @@ fn register_statement<'a>(op: RegOp, operands: &[&[u8]]) -> Result<Statement<'a>
     ensures { Answers seen result (statement_of (form.Register op) (map (λ b. b.now) operands.now)) }
 {
     let (d, s, t) = registers(operands)?;
-    Ok(Statement::One(Instr::Op { op, rd: d, rs1: s, rs2: t }))
+    Ok(Statement::One(Instr::Op {
+        op,
+        rd: d,
+        rs1: s,
+        rs2: t,
+    }))
 }
 
 fn register_word_statement<'a>(op: WordOp, operands: &[&[u8]]) -> Result<Statement<'a>, Refusal>
     ensures { Answers seen result (statement_of (form.RegisterWord op) (map (λ b. b.now) operands.now)) }
 {
     let (d, s, t) = registers(operands)?;
-    Ok(Statement::One(Instr::OpW { op, rd: d, rs1: s, rs2: t }))
+    Ok(Statement::One(Instr::OpW {
+        op,
+        rd: d,
+        rs1: s,
+        rs2: t,
+    }))
 }
 
 fn immediate_statement<'a>(op: ImmOp, operands: &[&[u8]]) -> Result<Statement<'a>, Refusal>
     ensures { Answers seen result (statement_of (form.Immediate op) (map (λ b. b.now) operands.now)) }
 {
     let (d, s, n) = immediate(operands)?;
-    Ok(Statement::One(Instr::OpImm { op, rd: d, rs1: s, imm: twelve_bits(&n)? }))
+    Ok(Statement::One(Instr::OpImm {
+        op,
+        rd: d,
+        rs1: s,
+        imm: twelve_bits(&n)?,
+    }))
 }
 
 fn add_word_statement<'a>(operands: &[&[u8]]) -> Result<Statement<'a>, Refusal>
     ensures { Answers seen result (statement_of form.AddImmediateWord (map (λ b. b.now) operands.now)) }
 {
     let (d, s, n) = immediate(operands)?;
-    Ok(Statement::One(Instr::AddImmW { rd: d, rs1: s, imm: twelve_bits(&n)? }))
+    Ok(Statement::One(Instr::AddImmW {
+        rd: d,
+        rs1: s,
+        imm: twelve_bits(&n)?,
+    }))
 }
 
 fn shift_statement<'a>(op: ShiftOp, operands: &[&[u8]]) -> Result<Statement<'a>, Refusal>
     ensures { Answers seen result (statement_of (form.Shift op) (map (λ b. b.now) operands.now)) }
 {
     let (d, s, n) = immediate(operands)?;
-    Ok(Statement::One(Instr::ShiftImm { op, rd: d, rs1: s, places: six_bits(&n)? }))
+    Ok(Statement::One(Instr::ShiftImm {
+        op,
+        rd: d,
+        rs1: s,
+        places: six_bits(&n)?,
+    }))
 }
 
 fn shift_word_statement<'a>(op: ShiftOp, operands: &[&[u8]]) -> Result<Statement<'a>, Refusal>
     ensures { Answers seen result (statement_of (form.ShiftWord op) (map (λ b. b.now) operands.now)) }
 {
     let (d, s, n) = immediate(operands)?;
-    Ok(Statement::One(Instr::ShiftImmW { op, rd: d, rs1: s, places: five_bits(&n)? }))
+    Ok(Statement::One(Instr::ShiftImmW {
+        op,
+        rd: d,
+        rs1: s,
+        places: five_bits(&n)?,
+    }))
 }
 
 fn load_statement<'a>(op: LoadOp, operands: &[&[u8]]) -> Result<Statement<'a>, Refusal>
     ensures { Answers seen result (statement_of (form.Load op) (map (λ b. b.now) operands.now)) }
 {
     let (d, s, n) = indirect(operands)?;
-    Ok(Statement::One(Instr::Load { op, rd: d, rs1: s, imm: twelve_bits(&n)? }))
+    Ok(Statement::One(Instr::Load {
+        op,
+        rd: d,
+        rs1: s,
+        imm: twelve_bits(&n)?,
+    }))
 }
 
 fn store_statement<'a>(op: StoreOp, operands: &[&[u8]]) -> Result<Statement<'a>, Refusal>
     ensures { Answers seen result (statement_of (form.Store op) (map (λ b. b.now) operands.now)) }
 {
     let (t, s, n) = indirect(operands)?;
-    Ok(Statement::One(Instr::Store { op, rs1: s, rs2: t, imm: twelve_bits(&n)? }))
+    Ok(Statement::One(Instr::Store {
+        op,
+        rs1: s,
+        rs2: t,
+        imm: twelve_bits(&n)?,
+    }))
 }
 
 fn jump_register_statement<'a>(operands: &[&[u8]]) -> Result<Statement<'a>, Refusal>
     ensures { Answers seen result (statement_of form.JumpRegister (map (λ b. b.now) operands.now)) }
 {
     let (d, s, n) = indirect(operands)?;
-    Ok(Statement::One(Instr::Jalr { rd: d, rs1: s, imm: twelve_bits(&n)? }))
+    Ok(Statement::One(Instr::Jalr {
+        rd: d,
+        rs1: s,
+        imm: twelve_bits(&n)?,
+    }))
 }
 
 fn branch_statement<'a>(op: BranchOp, operands: &[&'a [u8]]) -> Result<Statement<'a>, Refusal>
@@ -175,32 +223,60 @@ fn load_upper_statement<'a>(operands: &[&[u8]]) -> Result<Statement<'a>, Refusal
     ensures { Answers seen result (statement_of form.LoadUpper (map (λ b. b.now) operands.now)) }
 {
     let (d, n) = register_number(operands)?;
-    Ok(Statement::One(Instr::Lui { rd: d, imm: twenty_bits(&n)? }))
+    Ok(Statement::One(Instr::Lui {
+        rd: d,
+        imm: twenty_bits(&n)?,
+    }))
 }
 
 fn add_upper_statement<'a>(operands: &[&[u8]]) -> Result<Statement<'a>, Refusal>
     ensures { Answers seen result (statement_of form.AddUpper (map (λ b. b.now) operands.now)) }
 {
     let (d, n) = register_number(operands)?;
-    Ok(Statement::One(Instr::Auipc { rd: d, imm: twenty_bits(&n)? }))
+    Ok(Statement::One(Instr::Auipc {
+        rd: d,
+        imm: twenty_bits(&n)?,
+    }))
 }
 
 fn fence_statement<'a>(operands: &[&[u8]]) -> Result<Statement<'a>, Refusal>
     ensures { Answers seen result (statement_of form.Fence (map (λ b. b.now) operands.now)) }
 {
-    alone(operands, Instr::Fence { rd: Reg::new(0), rs1: Reg::new(0), imm: Imm12::new(0xFF) })
+    alone(
+        operands,
+        Instr::Fence {
+            rd: Reg::new(0),
+            rs1: Reg::new(0),
+            imm: Imm12::new(0xFF),
+        },
+    )
 }
 
 fn nothing_statement<'a>(operands: &[&[u8]]) -> Result<Statement<'a>, Refusal>
     ensures { Answers seen result (statement_of form.Nothing (map (λ b. b.now) operands.now)) }
 {
-    alone(operands, Instr::OpImm { op: ImmOp::Addi, rd: Reg::new(0), rs1: Reg::new(0), imm: Imm12::new(0) })
+    alone(
+        operands,
+        Instr::OpImm {
+            op: ImmOp::Addi,
+            rd: Reg::new(0),
+            rs1: Reg::new(0),
+            imm: Imm12::new(0),
+        },
+    )
 }
 
 fn return_statement<'a>(operands: &[&[u8]]) -> Result<Statement<'a>, Refusal>
     ensures { Answers seen result (statement_of form.Return (map (λ b. b.now) operands.now)) }
 {
-    alone(operands, Instr::Jalr { rd: Reg::new(0), rs1: Reg::new(1), imm: Imm12::new(0) })
+    alone(
+        operands,
+        Instr::Jalr {
+            rd: Reg::new(0),
+            rs1: Reg::new(1),
+            imm: Imm12::new(0),
+        },
+    )
 }
 
 fn move_statement<'a>(operands: &[&[u8]]) -> Result<Statement<'a>, Refusal>
@@ -209,7 +285,12 @@ fn move_statement<'a>(operands: &[&[u8]]) -> Result<Statement<'a>, Refusal>
     let (d, s) = two(operands)?;
     let d = register(d)?;
     let s = register(s)?;
-    Ok(Statement::One(Instr::OpImm { op: ImmOp::Addi, rd: d, rs1: s, imm: Imm12::new(0) }))
+    Ok(Statement::One(Instr::OpImm {
+        op: ImmOp::Addi,
+        rd: d,
+        rs1: s,
+        imm: Imm12::new(0),
+    }))
 }
 
 fn jump_always_statement<'a>(operands: &[&'a [u8]]) -> Result<Statement<'a>, Refusal>
@@ -261,11 +342,23 @@ fn li_code<'a>(d: Reg, n: &Number) -> Statement<'a>
     let upper = Imm20::new(((m + 2048) / 4096 % 0x10_0000) as u32);
     let lower = (m % 4096) as u16;
     if n.is_within(2048, 2047) {
-        Statement::One(Instr::OpImm { op: ImmOp::Addi, rd: d, rs1: Reg::new(0), imm: Imm12::new(n.low_bits(12) as u16) })
+        Statement::One(Instr::OpImm {
+            op: ImmOp::Addi,
+            rd: d,
+            rs1: Reg::new(0),
+            imm: Imm12::new(n.low_bits(12) as u16),
+        })
     } else if lower == 0 {
         Statement::One(Instr::Lui { rd: d, imm: upper })
     } else {
-        Statement::Two(Instr::Lui { rd: d, imm: upper }, Instr::AddImmW { rd: d, rs1: d, imm: Imm12::new(lower) })
+        Statement::Two(
+            Instr::Lui { rd: d, imm: upper },
+            Instr::AddImmW {
+                rd: d,
+                rs1: d,
+                imm: Imm12::new(lower),
+            },
+        )
     }
 }
 
@@ -350,7 +443,11 @@ fn stored_value<'a>(width: Width, given: &Given<'a>) -> Result<Datum<'a>, AsmErr
     }
 }
 
-fn all_given<'a>(alloc: Global, width: Width, operands: &[&'a [u8]]) -> Result<Vec<Given<'a>>, Refusal>
+fn all_given<'a>(
+    alloc: Global,
+    width: Width,
+    operands: &[&'a [u8]],
+) -> Result<Vec<Given<'a>>, Refusal>
     ensures { Answers (λ v. map given_seen v.items) result (each (given_in width) (map (λ b. b.now) operands.now)) }
 {
     let mut found = Vec::new(alloc);
@@ -360,7 +457,11 @@ fn all_given<'a>(alloc: Global, width: Width, operands: &[&'a [u8]]) -> Result<V
     Ok(found)
 }
 
-fn all_data<'a>(alloc: Global, width: Width, values: &[Given<'a>]) -> Result<Vec<Datum<'a>>, Refusal>
+fn all_data<'a>(
+    alloc: Global,
+    width: Width,
+    values: &[Given<'a>],
+) -> Result<Vec<Datum<'a>>, Refusal>
     ensures { Answers (λ v. map datum_seen v.items) result (each (datum_in width) (map given_seen values.now)) }
 {
     let mut found = Vec::new(alloc);
@@ -370,7 +471,11 @@ fn all_data<'a>(alloc: Global, width: Width, values: &[Given<'a>]) -> Result<Vec
     Ok(found)
 }
 
-fn values_statement<'a>(alloc: Global, width: Width, operands: &[&'a [u8]]) -> Result<Statement<'a>, Refusal>
+fn values_statement<'a>(
+    alloc: Global,
+    width: Width,
+    operands: &[&'a [u8]],
+) -> Result<Statement<'a>, Refusal>
     ensures { Answers seen result (statement_of (form.Values width) (map (λ b. b.now) operands.now)) }
 {
     if operands.is_empty() {
@@ -427,7 +532,11 @@ fn stands_in(form: Form, section: Section) -> bool
 }
 
 /// What a line asks for.
-pub(crate) fn asked<'a>(alloc: Global, section: Section, parts: &Parts<'a>) -> Result<Statement<'a>, Refusal>
+pub(crate) fn asked<'a>(
+    alloc: Global,
+    section: Section,
+    parts: &Parts<'a>,
+) -> Result<Statement<'a>, Refusal>
     ensures { Answers seen result (statement_meant section (parts_seen parts.now)) }
 {
     if parts.word.is_empty() && parts.operands.is_empty() {

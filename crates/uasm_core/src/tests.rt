@@ -9,7 +9,8 @@ use std::alloc::{AllocError, Global};
 use std::test::Fail;
 
 /// A whole program: it opens the console and writes `hi`.
-const HELLO: &str = "_start:\n  la a0, name\n  li a1, 1\n  li a7, 15\n  ecall\n  la a1, msg\n  li a2, 3\n  li a7, 16\n  ecall\n  li a0, 0\n  li a7, 2\n  ecall\n.data\nname: .asciz \"console\"\nmsg: .asciz \"hi\\n\"\n";
+const HELLO: &str =
+    "_start:\n  la a0, name\n  li a1, 1\n  li a7, 15\n  ecall\n  la a1, msg\n  li a2, 3\n  li a7, 16\n  ecall\n  li a0, 0\n  li a7, 2\n  ecall\n.data\nname: .asciz \"console\"\nmsg: .asciz \"hi\\n\"\n";
 
 /// Its file: headers worked by hand from the format, text and data made by GNU as, ld and objcopy.
 const HELLO_FILE: [u8; 240] = [
@@ -71,7 +72,14 @@ fn lines_that_are_taken(rt: HostRuntime) -> Result<(), Fail> {
 fn lines_that_are_refused(rt: HostRuntime) -> Result<(), Fail> {
     for (source, line, kind) in &REFUSED {
         let answer = assemble(rt.alloc(), source);
-        assert!(rt; answer == Err(AsmError::At { line: *line, kind: *kind }), "{source}");
+        assert!(rt;
+            answer
+                == Err(AsmError::At {
+                    line: *line,
+                    kind: *kind
+                }),
+            "{source}"
+        );
     }
     Ok(())
 }
@@ -93,7 +101,13 @@ fn the_farthest_branch_back(rt: HostRuntime) -> Result<(), Fail> {
     let file = assemble(rt.alloc(), &farthest)?;
     assert!(rt; file.ends_with(&[0x63, 0x80, 0x62, 0x80]));
     let too_far = with_branch_back(rt.alloc(), 1025)?;
-    assert!(rt; assemble(rt.alloc(), &too_far) == Err(AsmError::At { line: 1027, kind: AsmErrorKind::OutOfRange }));
+    assert!(rt;
+        assemble(rt.alloc(), &too_far)
+            == Err(AsmError::At {
+                line: 1027,
+                kind: AsmErrorKind::OutOfRange
+            })
+    );
     Ok(())
 }
 

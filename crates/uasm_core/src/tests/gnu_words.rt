@@ -108,9 +108,15 @@ pub(crate) const SPELLED: [(&str, &[u32]); 113] = [
     ("x: nop\nblt s0, t2, x", &[0x00000013, 0xFE744EE3]),
     ("bge s0, t2, x\nx: bge s0, t2, x", &[0x00745263, 0x00745063]),
     ("x: nop\nbge s0, t2, x", &[0x00000013, 0xFE745EE3]),
-    ("bltu s0, t2, x\nx: bltu s0, t2, x", &[0x00746263, 0x00746063]),
+    (
+        "bltu s0, t2, x\nx: bltu s0, t2, x",
+        &[0x00746263, 0x00746063],
+    ),
     ("x: nop\nbltu s0, t2, x", &[0x00000013, 0xFE746EE3]),
-    ("bgeu s0, t2, x\nx: bgeu s0, t2, x", &[0x00747263, 0x00747063]),
+    (
+        "bgeu s0, t2, x\nx: bgeu s0, t2, x",
+        &[0x00747263, 0x00747063],
+    ),
     ("x: nop\nbgeu s0, t2, x", &[0x00000013, 0xFE747EE3]),
     ("jal s0, x\nnop\nx:", &[0x0080046F, 0x00000013]),
     ("x: nop\njal s0, x", &[0x00000013, 0xFFDFF46F]),

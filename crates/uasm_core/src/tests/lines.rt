@@ -5,20 +5,46 @@ use crate::AsmErrorKind::{BadOperand, DuplicateLabel, OutOfRange, UnknownLabel, 
 /// A source, how many bytes its file has, and its last bytes.
 pub(crate) const ACCEPTED: [(&str, usize, &[u8]); 34] = [
     // Whole sources.
-    ("li a7, 2\nli a0, 0\necall", 132, &[0x93, 0x08, 0x20, 0x00, 0x13, 0x05, 0x00, 0x00, 0x73, 0x00, 0x00, 0x00]),
-    ("li a0, 0x12345", 128, &[0x37, 0x25, 0x01, 0x00, 0x1B, 0x05, 0x55, 0x34]),
-    ("la a0, x\n.data\nx: .byte 7", 185, &[0x17, 0x15, 0x00, 0x00, 0x13, 0x05, 0x05, 0x00, 0x07]),
+    (
+        "li a7, 2\nli a0, 0\necall",
+        132,
+        &[
+            0x93, 0x08, 0x20, 0x00, 0x13, 0x05, 0x00, 0x00, 0x73, 0x00, 0x00, 0x00,
+        ],
+    ),
+    (
+        "li a0, 0x12345",
+        128,
+        &[0x37, 0x25, 0x01, 0x00, 0x1B, 0x05, 0x55, 0x34],
+    ),
+    (
+        "la a0, x\n.data\nx: .byte 7",
+        185,
+        &[0x17, 0x15, 0x00, 0x00, 0x13, 0x05, 0x05, 0x00, 0x07],
+    ),
     // Lines end at a line feed; a carriage return before it is dropped.
     ("", 64, &[]),
     ("\r\n\n", 64, &[]),
-    ("nop\r\nnop", 128, &[0x13, 0x00, 0x00, 0x00, 0x13, 0x00, 0x00, 0x00]),
+    (
+        "nop\r\nnop",
+        128,
+        &[0x13, 0x00, 0x00, 0x00, 0x13, 0x00, 0x00, 0x00],
+    ),
     ("nop\n", 124, &[0x13, 0x00, 0x00, 0x00]),
     // Blanks are free between parts.
     ("\t x:\tadd\ta0 ,\ts1,t6 ", 124, &[0x33, 0x85, 0xF4, 0x01]),
     ("lb a2 ,\t-2048 ( gp )", 124, &[0x03, 0x86, 0x01, 0x80]),
     // A comment begins outside a text in quotes alone.
-    (".data\n.asciz \"a#b\" # c \"d", 124, &[0x61, 0x23, 0x62, 0x00]),
-    (".data\n.asciz \"a\\\"#b\"", 125, &[0x61, 0x22, 0x23, 0x62, 0x00]),
+    (
+        ".data\n.asciz \"a#b\" # c \"d",
+        124,
+        &[0x61, 0x23, 0x62, 0x00],
+    ),
+    (
+        ".data\n.asciz \"a\\\"#b\"",
+        125,
+        &[0x61, 0x22, 0x23, 0x62, 0x00],
+    ),
     ("# café", 64, &[]),
     // A label may have the name of a word or of a register.
     ("add: j add", 124, &[0x6F, 0x00, 0x00, 0x00]),
@@ -26,8 +52,16 @@ pub(crate) const ACCEPTED: [(&str, usize, &[u8]); 34] = [
     ("_: j _", 124, &[0x6F, 0x00, 0x00, 0x00]),
     ("nop:", 64, &[]),
     // On a line that switches sections it names the place before the switch.
-    ("nop\nx: .data\n.dword x", 188, &[0x04, 0x00, 0x00, 0x00, 0x00, 0x00, 0x00, 0x00]),
-    ("nop\n.data\nx: .dword x", 188, &[0x00, 0x10, 0x00, 0x00, 0x00, 0x00, 0x00, 0x00]),
+    (
+        "nop\nx: .data\n.dword x",
+        188,
+        &[0x04, 0x00, 0x00, 0x00, 0x00, 0x00, 0x00, 0x00],
+    ),
+    (
+        "nop\n.data\nx: .dword x",
+        188,
+        &[0x00, 0x10, 0x00, 0x00, 0x00, 0x00, 0x00, 0x00],
+    ),
     // Nothing need stand between a word and its operands.
     (".data\n.asciz\"x\"", 122, &[0x78, 0x00]),
     // Numbers.
@@ -35,20 +69,59 @@ pub(crate) const ACCEPTED: [(&str, usize, &[u8]); 34] = [
     ("li a0, 007", 124, &[0x13, 0x05, 0x70, 0x00]),
     ("li a0, 0xfF", 124, &[0x13, 0x05, 0xF0, 0x0F]),
     ("li a0, -0x10", 124, &[0x13, 0x05, 0x00, 0xFF]),
-    ("li x0, 5000", 128, &[0x37, 0x10, 0x00, 0x00, 0x1B, 0x00, 0x80, 0x38]),
+    (
+        "li x0, 5000",
+        128,
+        &[0x37, 0x10, 0x00, 0x00, 0x1B, 0x00, 0x80, 0x38],
+    ),
     // Values of data.
     (".data\n.byte -128, 255, 1", 123, &[0x80, 0xFF, 0x01]),
-    (".data\n.word -2147483648, 4294967295", 128, &[0x00, 0x00, 0x00, 0x80, 0xFF, 0xFF, 0xFF, 0xFF]),
-    (".data\n.dword -9223372036854775808, 18446744073709551615", 136, &[0x00, 0x00, 0x00, 0x00, 0x00, 0x00, 0x00, 0x80, 0xFF, 0xFF, 0xFF, 0xFF, 0xFF, 0xFF, 0xFF, 0xFF]),
-    (".data\n.space 0\n.space 65536", 65656, &[0x00, 0x00, 0x00, 0x00, 0x00, 0x00, 0x00, 0x00]),
-    (".data\n.asciz \"\\n\\t\\0\\\\\\\"a,b\"", 129, &[0x0A, 0x09, 0x00, 0x5C, 0x22, 0x61, 0x2C, 0x62, 0x00]),
+    (
+        ".data\n.word -2147483648, 4294967295",
+        128,
+        &[0x00, 0x00, 0x00, 0x80, 0xFF, 0xFF, 0xFF, 0xFF],
+    ),
+    (
+        ".data\n.dword -9223372036854775808, 18446744073709551615",
+        136,
+        &[
+            0x00, 0x00, 0x00, 0x00, 0x00, 0x00, 0x00, 0x80, 0xFF, 0xFF, 0xFF, 0xFF, 0xFF, 0xFF,
+            0xFF, 0xFF,
+        ],
+    ),
+    (
+        ".data\n.space 0\n.space 65536",
+        65656,
+        &[0x00, 0x00, 0x00, 0x00, 0x00, 0x00, 0x00, 0x00],
+    ),
+    (
+        ".data\n.asciz \"\\n\\t\\0\\\\\\\"a,b\"",
+        129,
+        &[0x0A, 0x09, 0x00, 0x5C, 0x22, 0x61, 0x2C, 0x62, 0x00],
+    ),
     (".data\n.asciz \"é\"", 123, &[0xC3, 0xA9, 0x00]),
     // A file of 1,048,576 bytes.
-    (".data\n.space 65536\n.space 65536\n.space 65536\n.space 65536\n.space 65536\n.space 65536\n.space 65536\n.space 65536\n.space 65536\n.space 65536\n.space 65536\n.space 65536\n.space 65536\n.space 65536\n.space 65536\n.space 65416", 1048576, &[0x00, 0x00, 0x00, 0x00, 0x00, 0x00, 0x00, 0x00]),
+    (
+        ".data\n.space 65536\n.space 65536\n.space 65536\n.space 65536\n.space 65536\n.space 65536\n.space 65536\n.space 65536\n.space 65536\n.space 65536\n.space 65536\n.space 65536\n.space 65536\n.space 65536\n.space 65536\n.space 65416",
+        1048576,
+        &[0x00, 0x00, 0x00, 0x00, 0x00, 0x00, 0x00, 0x00],
+    ),
     // The farthest branch and jump, and an address past both.
-    ("nop\nbeq t0, t1, x\n.data\n.byte 0, 0\nx:", 186, &[0xE3, 0x8F, 0x62, 0x7E, 0x00, 0x00]),
-    ("jal ra, x\n.data\n.space 65536\n.space 65536\n.space 65536\n.space 65536\n.space 65536\n.space 65536\n.space 65536\n.space 65536\n.space 65536\n.space 65536\n.space 65536\n.space 65536\n.space 65536\n.space 65536\n.space 65536\n.space 61438\nx: .word 0x7FFFF0EF", 1044662, &[0xEF, 0xF0, 0xFF, 0x7F]),
-    ("la a0, x\n.data\n.space 65536\n.space 65536\n.space 65536\n.space 65536\n.space 65536\n.space 65536\n.space 65536\n.space 65536\n.space 65536\n.space 65536\n.space 65536\n.space 65536\n.space 65536\n.space 65536\n.space 65536\n.space 61440\nx:", 1044664, &[0x00, 0x00, 0x00, 0x00, 0x00, 0x00, 0x00, 0x00]),
+    (
+        "nop\nbeq t0, t1, x\n.data\n.byte 0, 0\nx:",
+        186,
+        &[0xE3, 0x8F, 0x62, 0x7E, 0x00, 0x00],
+    ),
+    (
+        "jal ra, x\n.data\n.space 65536\n.space 65536\n.space 65536\n.space 65536\n.space 65536\n.space 65536\n.space 65536\n.space 65536\n.space 65536\n.space 65536\n.space 65536\n.space 65536\n.space 65536\n.space 65536\n.space 65536\n.space 61438\nx: .word 0x7FFFF0EF",
+        1044662,
+        &[0xEF, 0xF0, 0xFF, 0x7F],
+    ),
+    (
+        "la a0, x\n.data\n.space 65536\n.space 65536\n.space 65536\n.space 65536\n.space 65536\n.space 65536\n.space 65536\n.space 65536\n.space 65536\n.space 65536\n.space 65536\n.space 65536\n.space 65536\n.space 65536\n.space 65536\n.space 61440\nx:",
+        1044664,
+        &[0x00, 0x00, 0x00, 0x00, 0x00, 0x00, 0x00, 0x00],
+    ),
 ];
 
 /// A source, the line that is refused, and why.
@@ -176,10 +249,22 @@ pub(crate) const REFUSED: [(&str, usize, AsmErrorKind); 116] = [
     (".data\n.dword 1, a0", 2, UnknownLabel),
     ("beq a0, a1, x\nj y\n.data\nx:", 1, OutOfRange),
     // A byte too many.
-    (".data\n.space 65536\n.space 65536\n.space 65536\n.space 65536\n.space 65536\n.space 65536\n.space 65536\n.space 65536\n.space 65536\n.space 65536\n.space 65536\n.space 65536\n.space 65536\n.space 65536\n.space 65536\n.space 65417", 17, OutOfRange),
-    ("nop\n.data\n.space 65536\n.space 65536\n.space 65536\n.space 65536\n.space 65536\n.space 65536\n.space 65536\n.space 65536\n.space 65536\n.space 65536\n.space 65536\n.space 65536\n.space 65536\n.space 65536\n.space 65536\n.space 65356\n.byte 1", 19, OutOfRange),
+    (
+        ".data\n.space 65536\n.space 65536\n.space 65536\n.space 65536\n.space 65536\n.space 65536\n.space 65536\n.space 65536\n.space 65536\n.space 65536\n.space 65536\n.space 65536\n.space 65536\n.space 65536\n.space 65536\n.space 65417",
+        17,
+        OutOfRange,
+    ),
+    (
+        "nop\n.data\n.space 65536\n.space 65536\n.space 65536\n.space 65536\n.space 65536\n.space 65536\n.space 65536\n.space 65536\n.space 65536\n.space 65536\n.space 65536\n.space 65536\n.space 65536\n.space 65536\n.space 65536\n.space 65356\n.byte 1",
+        19,
+        OutOfRange,
+    ),
     // Odd distances, and distances one step too far.
     ("j x\n.data\n.byte 1\nx:", 1, OutOfRange),
     ("beq a0, a1, x\n.data\nx:", 1, OutOfRange),
-    ("jal ra, x\n.data\n.space 65536\n.space 65536\n.space 65536\n.space 65536\n.space 65536\n.space 65536\n.space 65536\n.space 65536\n.space 65536\n.space 65536\n.space 65536\n.space 65536\n.space 65536\n.space 65536\n.space 65536\n.space 61440\nx:", 1, OutOfRange),
+    (
+        "jal ra, x\n.data\n.space 65536\n.space 65536\n.space 65536\n.space 65536\n.space 65536\n.space 65536\n.space 65536\n.space 65536\n.space 65536\n.space 65536\n.space 65536\n.space 65536\n.space 65536\n.space 65536\n.space 65536\n.space 61440\nx:",
+        1,
+        OutOfRange,
+    ),
 ];

@@ -16,11 +16,11 @@ elf_file-requires c =
     let text_len = c.in_ok-listing.listing.text_len in
     let places = places_of c.in_ok-listing.listing.labels in
     let first : all_placed [] start (lines c.args.source.now) ≡ Ok ps =
-        ap (λ (ls : List (List ℕ)). all_placed [] start ls) (sym (c.in_ok-lines.ensures) ∙ ap (map (λ b. b.now)) (sym c.deref.ensures.value)) ∙ c.in_ok-listing.ensures.value in
+    ap (λ (ls : List (List ℕ)). all_placed [] start ls) (sym (c.in_ok-lines.ensures) ∙ ap (map (λ b. b.now)) (sym c.deref.ensures.value)) ∙ c.in_ok-listing.ensures.value in
     let second : all_spelled (addresses text_len places) text_len no_bytes ps ≡ Ok (bytes_in c.in_ok-out.out) =
-        ap (λ (ps : List meant.Placed). all_spelled (addresses text_len places) text_len no_bytes ps) (ap (map seen) (sym c.deref-2.ensures.value)) ∙ c.in_ok-out.ensures in
+    ap (λ (ps : List meant.Placed). all_spelled (addresses text_len places) text_len no_bytes ps) (ap (map seen) (sym c.deref-2.ensures.value)) ∙ c.in_ok-out.ensures in
     lengths c.args.source.now ps (bytes_in c.in_ok-out.out) text_len
-        (known_second c.args.source.now ps text_len places (bytes_in c.in_ok-out.out) first c.in_ok-listing.ensures.text_len c.in_ok-listing.ensures.labels second)
+    (known_second c.args.source.now ps text_len places (bytes_in c.in_ok-out.out) first c.in_ok-listing.ensures.text_len c.in_ok-listing.ensures.labels second)
 
 pub returns-clause-exact : goal.returns-clause-exact
 returns-clause-exact c =
@@ -28,10 +28,10 @@ returns-clause-exact c =
     let text_len = c.in_ok-listing.listing.text_len in
     let places = places_of c.in_ok-listing.listing.labels in
     by_second c.args.source.now ps text_len places (Ok (bytes_in c.in_ok-out.out))
-        (ap (λ (ls : List (List ℕ)). all_placed [] start ls) (sym (c.in_ok-lines.ensures) ∙ ap (map (λ b. b.now)) (sym c.deref.ensures.value)) ∙ c.in_ok-listing.ensures.value)
-        c.in_ok-listing.ensures.text_len
-        c.in_ok-listing.ensures.labels
-        (ap (λ (ps : List meant.Placed). all_spelled (addresses text_len places) text_len no_bytes ps) (ap (map seen) (sym c.deref-2.ensures.value)) ∙ c.in_ok-out.ensures)
+    (ap (λ (ls : List (List ℕ)). all_placed [] start ls) (sym (c.in_ok-lines.ensures) ∙ ap (map (λ b. b.now)) (sym c.deref.ensures.value)) ∙ c.in_ok-listing.ensures.value)
+    c.in_ok-listing.ensures.text_len
+    c.in_ok-listing.ensures.labels
+    (ap (λ (ps : List meant.Placed). all_spelled (addresses text_len places) text_len no_bytes ps) (ap (map seen) (sym c.deref-2.ensures.value)) ∙ c.in_ok-out.ensures)
     ∙ ap (λ (e : ℕ). let p : Program = record { text = c.in_ok-out.out.text.items; data_bytes = c.in_ok-out.out.data_bytes.items; entry = e } in let r : Result (List ℕ) Fault = Ok (elf_of p) in r) (sym c.entry-entry.ensures)
     ∙ ap Ok (sym c.in_ok-elf_file.ensures)
 
@@ -41,14 +41,14 @@ returns-clause-loads c =
     let text_len = c.in_ok-listing.listing.text_len in
     let places = places_of c.in_ok-listing.listing.labels in
     let first : all_placed [] start (lines c.args.source.now) ≡ Ok ps =
-        ap (λ (ls : List (List ℕ)). all_placed [] start ls) (sym (c.in_ok-lines.ensures) ∙ ap (map (λ b. b.now)) (sym c.deref.ensures.value)) ∙ c.in_ok-listing.ensures.value in
+    ap (λ (ls : List (List ℕ)). all_placed [] start ls) (sym (c.in_ok-lines.ensures) ∙ ap (map (λ b. b.now)) (sym c.deref.ensures.value)) ∙ c.in_ok-listing.ensures.value in
     let second : all_spelled (addresses text_len places) text_len no_bytes ps ≡ Ok (bytes_in c.in_ok-out.out) =
-        ap (λ (ps : List meant.Placed). all_spelled (addresses text_len places) text_len no_bytes ps) (ap (map seen) (sym c.deref-2.ensures.value)) ∙ c.in_ok-out.ensures in
+    ap (λ (ps : List meant.Placed). all_spelled (addresses text_len places) text_len no_bytes ps) (ap (map seen) (sym c.deref-2.ensures.value)) ∙ c.in_ok-out.ensures in
     let entry : c.entry-entry.result ≡ entry_of (addresses text_len (label_place ps)) =
-        c.entry-entry.ensures ∙ ap (λ (f : List ℕ → Option Place). entry_of (addresses text_len f)) c.in_ok-listing.ensures.labels in
+    c.entry-entry.ensures ∙ ap (λ (f : List ℕ → Option Place). entry_of (addresses text_len f)) c.in_ok-listing.ensures.labels in
     let same : c.in_ok-elf_file.field-0.items ≡ elf_of (program_of text_len (label_place ps) (bytes_in c.in_ok-out.out)) =
-        c.in_ok-elf_file.ensures ∙ ap (λ (e : ℕ). let p : Program = record { text = c.in_ok-out.out.text.items; data_bytes = c.in_ok-out.out.data_bytes.items; entry = e } in elf_of p) entry in
+    c.in_ok-elf_file.ensures ∙ ap (λ (e : ℕ). let p : Program = record { text = c.in_ok-out.out.text.items; data_bytes = c.in_ok-out.out.data_bytes.items; entry = e } in elf_of p) entry in
     subst (λ (file : List ℕ). Assembles c.args.source.now file) (sym same)
-        (assembles c.args.source.now ps (bytes_in c.in_ok-out.out) text_len c.entry-entry.result
-            (known_second c.args.source.now ps text_len places (bytes_in c.in_ok-out.out) first c.in_ok-listing.ensures.text_len c.in_ok-listing.ensures.labels second)
-            entry c.entry-entry.type_inv)
+    (assembles c.args.source.now ps (bytes_in c.in_ok-out.out) text_len c.entry-entry.result
+    (known_second c.args.source.now ps text_len places (bytes_in c.in_ok-out.out) first c.in_ok-listing.ensures.text_len c.in_ok-listing.ensures.labels second)
+    entry c.entry-entry.type_inv)

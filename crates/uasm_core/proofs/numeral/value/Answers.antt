@@ -1,7 +1,5 @@
-use Rattle.std.proofs.Common.{◌≡◌, ◌+◌, ◌*◌, ◌^◌, ◌<◌, ◌≤◌, ℕ, length, get_or, take, arith, sym, ap, ◌∙◌}
-use Rattle.std.specs.Char.{digit_value}
-use Rattle.uasm_core.specs.Line.{number_in}
-use Rattle.uasm_core.proofs.Digits.{IsCapped, capped_below, capped_past, bounded}
+use Rattle.std.proofs.Common.{◌<◌, length, arith}
+use Rattle.uasm_core.proofs.Digits.{capped_below, capped_past, bounded}
 use Rattle.uasm_core.proofs.numeral.value.Goals as goal
 use Rattle.uasm_core.proofs.numeral.value.Goals.{then-n-lt-CAP, else-n-lt-CAP}
 

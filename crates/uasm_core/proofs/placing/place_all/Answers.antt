@@ -1,4 +1,4 @@
-use Rattle.std.proofs.Common.{◌≡◌, ◌+◌, ◌<◌, ℕ, List, [], ◌∷◌, ◌++◌, map, drop, length, Option, Bool, false, refl, sym, ap, ◌∙◌, arith, length-append, add-one, drop-cons, rules}
+use Rattle.std.proofs.Common.{◌≡◌, ◌+◌, ℕ, List, [], ◌∷◌, ◌++◌, map, drop, length, Option, false, refl, sym, ap, ◌∙◌, arith, length-append}
 use Rattle.std.proofs.lemmas.List.{map-append, length-map}
 use Rattle.std.proofs.lemmas.Result.{err_from_is_err_and}
 use Rattle.uasm_core.specs.declared.place.Place.{Place}
@@ -26,11 +26,11 @@ loop-i-preserved c =
       lines = more ps c.loop-i.i _ c.loop-i.end c.as_bytes.result.now _ one _ _ count c.loop-i.invariant.labels c.in_ok-one.ensures.value c.in_ok-one.ensures.next (ap (λ (ls : List (List ℕ)). meant.all_placed ps c.loop-i.end ls) (sym here) ∙ c.loop-i.invariant.lines);
       count = omega (arith, ap length c.in_ok-push.ensures.items, length-append c.loop-i.found.items (c.in_ok-one.one ∷ []), c.loop-i.invariant.count);
       labels =
-        c.in_ok-one.ensures.labels
-        ∙ ap (λ (a : Place). with_label_of one.label a (places_of c.loop-i.labels)) (sym c.in_ok-one.ensures.place)
-        ∙ ap (λ (f : List ℕ → Option Place). with_label_of one.label one.place f) c.loop-i.invariant.labels
-        ∙ with_more ps one fresh;
-      ends = c.in_ok-one.ensures.next ∙ ap (λ (a : Place). meant.behind one.statement a) (sym c.in_ok-one.ensures.place) ∙ sym (end_more ps one start)
+          c.in_ok-one.ensures.labels
+          ∙ ap (λ (a : Place). with_label_of one.label a (places_of c.loop-i.labels)) (sym c.in_ok-one.ensures.place)
+          ∙ ap (λ (f : List ℕ → Option Place). with_label_of one.label one.place f) c.loop-i.invariant.labels
+          ∙ with_more ps one fresh;
+      ends = c.in_ok-one.ensures.next ∙ ap (λ (a : Place). meant.behind one.statement a) (sym c.in_ok-one.ensures.place) ∙ sym (end_more ps one start);
     })
 
 pub returns-in_err-one-clause-value : goal.returns-in_err-one-clause-value

@@ -1,9 +1,7 @@
-use Rattle.std.proofs.Common.{◌≡◌, ◌≤◌, ◌^◌, ℕ, List, map, drop, length, []}
+use Rattle.std.proofs.Common.{◌≡◌, map, drop, length, []}
 use Rattle.uasm_core.specs.Views.{seen}
 use Rattle.uasm_core.specs.Views.{places_of}
-use Rattle.uasm_core.specs.Written as meant
 use Rattle.uasm_core.specs.Written.{all_placed, label_place, end_of}
-use Rattle.uasm_core.specs.declared.place.Place.{Place}
 use Rattle.uasm_core.specs.Places.{start}
 use Rattle.uasm_core.proofs.placing.place_all.Given as goal
 
@@ -12,5 +10,5 @@ invariant-loop-i l = record {
   lines : all_placed (map seen l.found.items) l.end (map (λ b. b.now) (drop l.i l.lines)) ≡ all_placed [] start (map (λ b. b.now) l.lines);
   count : length l.found.items ≡ l.i;
   labels : places_of l.labels ≡ label_place (map seen l.found.items);
-  ends : l.end ≡ end_of (map seen l.found.items) start
+  ends : l.end ≡ end_of (map seen l.found.items) start;
 }
