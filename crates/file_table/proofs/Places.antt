@@ -1,15 +1,15 @@
 -- Places of the table of open files.
-use Rattle.std.proofs.Common.{◌≡◌, ◌≢◌, ℕ, ◌+◌, ◌<◌, ◌≤◌, List, [], ◌∷◌, length, get_or, set, Option, Some, None, inl, inr, refl, arith, true, false, ap, sym, ◌∙◌, replicate}
+use Rattle.std.proofs.Common.{◌≡◌, ℕ, ◌+◌, ◌<◌, ◌≤◌, List, [], ◌∷◌, length, get_or, set, Option, Some, None, inl, inr, arith, true, ap, sym, ◌∙◌, replicate}
 use Rattle.std.proofs.Common.{length-set}
 use Rattle.std.specs.Prelude.{is_some, is_none, count_by, position, nat_lt, cond}
 use Rattle.std.specs.List.{position_or_len}
 use Rattle.std.proofs.lemmas.List.Sums.{sum_by-cons}
-use Rattle.std.proofs.lemmas.List.{get_or-set_same, get_or-set_other, get_or_past, set_past}
+use Rattle.std.proofs.lemmas.List.{get_or-set_same, get_or-set_other, set_past}
 use Rattle.std.proofs.lemmas.Bool.{cases_lt, cases_eq}
 use Rattle.std.proofs.lemmas.Bool.Decides.{nat_tests}
 use Rattle.file_table.specs.declared.open_file.TheConstants.{SHARERS_MAX}
 use Rattle.file_table.specs.declared.open_file.Entry.{Entry}
-use Rattle.file_table.specs.OpenFiles.{IsTable, entry_at}
+use Rattle.file_table.specs.OpenFiles.{IsTable}
 
 -- ---- a table that isn't full has a free place
 

@@ -1,5 +1,5 @@
 -- What a descriptor names: a process's table is a map from descriptors to open files.
-use Rattle.std.specs.Prelude.{◌≡◌, ℕ, List, Option, None, Some, get_or, set, position, replicate, is_none, IsSome}
+use Rattle.std.specs.Prelude.{ℕ, List, Option, None, get_or, set, position, replicate, is_none}
 use Rattle.xk_base.specs.declared.limits.TheConstants.{NOFILE}
 
 -- the open file that a descriptor names, if it is in use

@@ -19,15 +19,9 @@ pub enum End {
 pub enum Target {
     Console,
     /// A program's file, by its place in the program table, and the offset of the next byte.
-    Program {
-        program: usize,
-        offset: u64,
-    },
+    Program { program: usize, offset: u64 },
     /// An end of the pipe in a frame.
-    Pipe {
-        frame: Frame,
-        end: End,
-    },
+    Pipe { frame: Frame, end: End },
 }
 
 /// An open file: what it stands for, and what may be done with it.

@@ -5,34 +5,32 @@ use xk_base::limits::{NOFILE, OPEN_FILES};
 use xk_base::{Fd, Frame};
 
 #[test]
-fn a_shared_program_file_has_one_offset_and_is_closed_twice(rt: HostRuntime) -> Result<(), Fail> {
+fn a_shared_file_has_one_offset_and_closes_with_its_last_name(rt: HostRuntime) -> Result<(), Fail> {
     let mut files = Files::new(rt.alloc())?;
     assert_eq!(rt; files.in_use(), 0);
-    let program = files.open_program(3);
-    let console = files.open_console(true, true);
-    assert_eq!(rt; files.in_use(), 2);
-    assert!(rt; program != console);
-
-    files.share(program);
-    files.move_to(program, 5);
-    files.move_to(console, 7);
-    assert_eq!(rt; files.offset(program), 5);
-    assert_eq!(rt; files.offset(console), 0);
+    let file = files.open_program(3);
+    files.share(file);
+    files.move_to(file, 5);
+    assert_eq!(rt; files.offset(file), 5);
+    let target = Target::Program {
+        program: 3,
+        offset: 5,
+    };
     let kind = OpenFile {
-        target: Target::Program {
-            program: 3,
-            offset: 5,
-        },
+        target,
         read: true,
         write: false,
     };
-    assert_eq!(rt; files.kind(program), kind);
+    assert_eq!(rt; files.kind(file), kind);
 
-    assert!(rt; !files.close(program));
-    assert_eq!(rt; files.in_use(), 2);
-    assert!(rt; files.close(program));
+    let first = files.close(file);
+    assert!(rt; !first);
     assert_eq!(rt; files.in_use(), 1);
-    assert!(rt; files.open_console(false, true) == program, "the lowest place is free again");
+    let last = files.close(file);
+    assert!(rt; last);
+    assert_eq!(rt; files.in_use(), 0);
+    let again = files.open_console(false, true);
+    assert!(rt; again == file, "the lowest place is free again");
     Ok(())
 }
 
@@ -41,9 +39,17 @@ fn each_end_of_a_pipe_is_an_open_file(rt: HostRuntime) -> Result<(), Fail> {
     let mut files = Files::new(rt.alloc())?;
     let frame = Frame::new(9);
     for (end, read, write) in [(End::Reading, true, false), (End::Writing, false, true)] {
+        assert!(rt; files.in_use() < OPEN_FILES);
         let file = files.open_pipe(frame, end);
         let target = Target::Pipe { frame, end };
-        assert_eq!(rt; files.kind(file), OpenFile { target, read, write });
+        assert_eq!(rt;
+            files.kind(file),
+            OpenFile {
+                target,
+                read,
+                write
+            }
+        );
     }
     assert_eq!(rt; files.in_use(), 2);
     Ok(())
