@@ -1,0 +1,7 @@
+use Rattle.std.proofs.Common.{ap}
+use Rattle.proc_table.specs.declared.process.Process.{Process}
+use Rattle.proc_table.proofs.Pids.{table_at}
+use Rattle.proc_table.proofs.table.Table.zombie.Goals as goal
+
+pub invariant_of-self : goal.invariant_of-self
+invariant_of-self c = table_at _ c.args.slot c.index.result.now c.in-Some.p c.ended.result c.self.invariant c.requires.within c.index.ensures c.in-Some.is (ap (λ (x : Process). x.pid) c.ended.ensures)

@@ -1,0 +1,6 @@
+pub mod Channels
+pub mod Processes
+pub mod Slots
+pub mod Turns
+pub mod Reaping
+pub mod Lending

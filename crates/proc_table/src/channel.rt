@@ -1,0 +1,31 @@
+//! What a process sleeps on.
+ghost use Rattle.std.specs.Prelude.{◌≡◌};
+ghost use Rattle.proc_table.specs.Channels.{same_channel};
+
+use xk_base::{Frame, Pid};
+
+/// What a process sleeps on until it is woken (xv6 book, "Sleep and wakeup").
+#[derive(Clone, Copy, Debug, PartialEq, Eq)]
+pub enum Channel {
+    /// The end of a child of this process.
+    Children(Pid),
+    /// Bytes in the pipe of this frame.
+    Bytes(Frame),
+    /// Room in the pipe of this frame.
+    Room(Frame),
+    /// A tick of the clock.
+    Clock,
+    /// Committed keys of the console.
+    Keys,
+    /// Room among the bytes that the console has to send.
+    Sending,
+}
+
+impl Channel {
+    /// Whether the two are one channel.
+    pub(crate) fn is(&self, other: &Channel) -> bool
+        ensures { result ≡ same_channel self.now other.now }
+    {
+        self == other
+    }
+}

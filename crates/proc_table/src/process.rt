@@ -1,0 +1,216 @@
+//! A process, as the table keeps it.
+ghost use Rattle.std.specs.Prelude.{◌≡◌};
+ghost use Rattle.proc_table.specs.Channels.{is_on, without};
+ghost use Rattle.proc_table.specs.Processes.{is_runnable, is_child_of, is_zombie, is_marked, status_of, call_of, has_pid, woken, killed, given, asleep, ended, in_call};
+
+use crate::channel::Channel;
+use xk_base::Pid;
+
+/// A kernel call that isn't over.
+#[derive(Clone, Copy, Debug, PartialEq, Eq)]
+pub struct Call {
+    /// Its number.
+    pub number: i32,
+    /// Its arguments, as the registers a0, a1 and a2 held them.
+    pub a0: u64,
+    pub a1: u64,
+    pub a2: u64,
+    /// How many bytes it has moved.
+    pub moved: u64,
+    /// The clock when it began.
+    pub clock: u32,
+}
+
+/// Whether a process lives.
+#[derive(Clone, Copy, Debug, PartialEq, Eq)]
+pub enum State {
+    /// Its kill mark, the call that it is in, and the channel that it sleeps on.
+    Live {
+        marked: bool,
+        call: Option<Call>,
+        channel: Option<Channel>,
+    },
+    /// It has ended with this status, for which nobody has waited yet.
+    Zombie { status: i32 },
+}
+
+/// A process in a slot.
+#[derive(Clone, Copy, Debug, PartialEq, Eq)]
+pub struct Process {
+    pub pid: Pid,
+    /// The process that may wait for it; the first process has none.
+    pub parent: Option<Pid>,
+    pub state: State,
+}
+
+/// Whether this is what it sleeps on.
+fn is_on(channel: &Option<Channel>, on: &Channel) -> bool
+    ensures { result ≡ is_on on.now channel.now }
+{
+    match channel {
+        None => false,
+        Some(c) => c.is(on),
+    }
+}
+
+/// What a process sleeps on once those who sleep on `on` are woken.
+fn without(channel: Option<Channel>, on: Channel) -> Option<Channel>
+    ensures { result ≡ without on channel }
+{
+    if is_on(&channel, &on) { None } else { channel }
+}
+
+impl Process {
+    pub(crate) fn has_pid(&self, pid: Pid) -> bool
+        ensures { result ≡ has_pid pid self.now }
+    {
+        self.pid.number() == pid.number()
+    }
+
+    pub(crate) fn is_child_of(&self, parent: Pid) -> bool
+        ensures { result ≡ is_child_of parent self.now }
+    {
+        match self.parent {
+            None => false,
+            Some(p) => p.number() == parent.number(),
+        }
+    }
+
+    pub(crate) fn is_zombie(&self) -> bool
+        ensures { result ≡ is_zombie self.now }
+    {
+        match self.state {
+            State::Live { marked: _, call: _, channel: _ } => false,
+            State::Zombie { status: _ } => true,
+        }
+    }
+
+    /// Live, and not asleep.
+    pub(crate) fn is_runnable(&self) -> bool
+        ensures { result ≡ is_runnable self.now }
+    {
+        match self.state {
+            State::Live { marked: _, call: _, channel } => channel.is_none(),
+            State::Zombie { status: _ } => false,
+        }
+    }
+
+    pub(crate) fn is_marked(&self) -> bool
+        ensures { result ≡ is_marked self.now }
+    {
+        match self.state {
+            State::Live { marked, call: _, channel: _ } => marked,
+            State::Zombie { status: _ } => false,
+        }
+    }
+
+    pub(crate) fn status(&self) -> Option<i32>
+        ensures { result ≡ status_of self.now }
+    {
+        match self.state {
+            State::Live { marked: _, call: _, channel: _ } => None,
+            State::Zombie { status } => Some(status),
+        }
+    }
+
+    pub(crate) fn call(&self) -> Option<Call>
+        ensures { result ≡ call_of self.now }
+    {
+        match self.state {
+            State::Live { marked: _, call, channel: _ } => call,
+            State::Zombie { status: _ } => None,
+        }
+    }
+
+    /// The process, awake if it sleeps on the channel.
+    pub(crate) fn woken(&self, on: Channel) -> Process
+        ensures { result ≡ woken on self.now }
+    {
+        match self.state {
+            State::Live { marked, call, channel } => Process {
+                state: State::Live {
+                    marked,
+                    call,
+                    channel: without(channel, on),
+                },
+                ..*self
+            },
+            State::Zombie { status: _ } => *self,
+        }
+    }
+
+    /// The process, marked and awake if it lives.
+    pub(crate) fn killed(&self) -> Process
+        ensures { result ≡ killed self.now }
+    {
+        match self.state {
+            State::Live { marked: _, call, channel: _ } => Process {
+                state: State::Live {
+                    marked: true,
+                    call,
+                    channel: None,
+                },
+                ..*self
+            },
+            State::Zombie { status: _ } => *self,
+        }
+    }
+
+    /// The process, asleep if it lives.
+    pub(crate) fn asleep(&self, on: Channel) -> Process
+        ensures { result ≡ asleep on self.now }
+    {
+        match self.state {
+            State::Live { marked, call, channel: _ } => Process {
+                state: State::Live {
+                    marked,
+                    call,
+                    channel: Some(on),
+                },
+                ..*self
+            },
+            State::Zombie { status: _ } => *self,
+        }
+    }
+
+    /// The process, in this call if it lives.
+    pub(crate) fn in_call(&self, call: Option<Call>) -> Process
+        ensures { result ≡ in_call call self.now }
+    {
+        match self.state {
+            State::Live { marked, call: _, channel } => Process {
+                state: State::Live {
+                    marked,
+                    call,
+                    channel,
+                },
+                ..*self
+            },
+            State::Zombie { status: _ } => *self,
+        }
+    }
+
+    /// The process, ended.
+    pub(crate) fn ended(&self, status: i32) -> Process
+        ensures { result ≡ ended status self.now }
+    {
+        Process {
+            state: State::Zombie { status },
+            ..*self
+        }
+    }
+
+    /// The process, as a child of `to` if it was one of `from`.
+    pub(crate) fn given(&self, from: Pid, to: Pid) -> Process
+        ensures { result ≡ given from to self.now }
+    {
+        if self.is_child_of(from) {
+            Process {
+                parent: Some(to),
+                ..*self
+            }
+        } else {
+            *self
+        }
+    }
+}
