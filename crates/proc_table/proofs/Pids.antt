@@ -1,11 +1,11 @@
 -- Pids through the changes of a table.
-use Rattle.std.proofs.Common.{◌≡◌, ◌≢◌, ℕ, ◌+◌, ◌<◌, ◌≤◌, List, length, set, map, get_or, replicate, Option, Some, None, inl, inr, refl, sym, ap, ◌∙◌, arith, ◌⊎◌}
+use Rattle.std.proofs.Common.{◌≡◌, ℕ, ◌+◌, ◌<◌, ◌≤◌, List, length, set, map, get_or, replicate, Option, Some, None, inl, inr, refl, sym, ap, ◌∙◌, arith}
 use Rattle.std.specs.Prelude.{option_map}
 use Rattle.std.proofs.lemmas.Bool.{cases_lt, cases_eq}
 use Rattle.std.proofs.lemmas.List.{get_or-set_same, get_or-set_other, get_or_past, get_or-map, get_or-replicate, length-map, length-replicate, set_past}
 use Rattle.proc_table.specs.declared.process.Process.{Process}
-use Rattle.proc_table.specs.Slots.{Slots, ArePids, IsTable, no_process}
-use Rattle.std.proofs.Common.{length-set, take, drop, ◌++◌, true, false, Bool, cond}
+use Rattle.proc_table.specs.Slots.{Slots, ArePids, IsTable}
+use Rattle.std.proofs.Common.{length-set}
 use Rattle.std.specs.Prelude.{◌^◌}
 use Rattle.std.proofs.lemmas.List.{get_or_read}
 
@@ -21,36 +21,42 @@ pub record Keeps (xs ys : List (Option Process)) : Type 0 where
 
 pub pids_kept : (xs ys : List (Option Process)) (n : ℕ) → Keeps xs ys → ArePids xs n → ArePids ys n
 pids_kept xs ys n k a = record {
-    apart = λ i j p q at bt e. let u = k.same i p at in let v = k.same j q bt in a.apart i j u.0 v.0 u.1 v.1 (u.2 ∙ e ∙ sym v.2);
-    below = λ i p at. let u = k.same i p at in let lt : u.0.pid < n = a.below i u.0 u.1 in omega (arith, lt, u.2);
+  apart = λ i j p q at bt e. let u = k.same i p at in let v = k.same j q bt in a.apart i j u.0 v.0 u.1 v.1 (u.2 ∙ e ∙ sym v.2);
+  below = λ i p at. let u = k.same i p at in let lt : u.0.pid < n = a.below i u.0 u.1 in omega (arith, lt, u.2);
 }
 
 -- one slot
 pub pids_at : (xs : List (Option Process)) (n i : ℕ) (p q : Process) → get_or xs i None ≡ Some p → p.pid ≡ q.pid → ArePids xs n → ArePids (set xs i (Some q)) n
-pids_at xs n i p q here same = pids_kept xs (set xs i (Some q)) n (record { same = λ j r at. elim (cases_eq j i) [
+pids_at xs n i p q here same = pids_kept xs (set xs i (Some q)) n (record {
+  same = λ j r at. elim (cases_eq j i) [
     | inl e ↦ elim (cases_lt i (length xs)) [
       | inl lt ↦ let is : Some q ≡ Some r = sym (get_or-set_same xs i (Some q) None lt) ∙ ap (λ k. get_or (set xs i (Some q)) k None) (sym e) ∙ at in
           let one : q ≡ r = cc in (p, ap (λ k. get_or xs k None) e ∙ here, same ∙ ap (λ (x : Process). x.pid) one)
       | inr ge ↦ none_is p _ (sym (get_or_past xs i None ge) ∙ here)
     ]
     | inr ne ↦ (r, sym (get_or-set_other xs i j (Some q) None ne) ∙ at, refl)
-  ] })
+  ];
+})
 
 pub pids_emptied : (xs : List (Option Process)) (n i : ℕ) → ArePids xs n → ArePids (set xs i None) n
-pids_emptied xs n i = pids_kept xs (set xs i None) n (record { same = λ j r at. elim (cases_eq j i) [
+pids_emptied xs n i = pids_kept xs (set xs i None) n (record {
+  same = λ j r at. elim (cases_eq j i) [
     | inl e ↦ elim (cases_lt i (length xs)) [
       | inl lt ↦ none_is r _ (sym (get_or-set_same xs i None None lt) ∙ ap (λ k. get_or (set xs i None) k None) (sym e) ∙ at)
       | inr ge ↦ (r, ap (λ ys. get_or ys j None) (sym (set_past xs i None ge)) ∙ at, refl)
     ]
     | inr ne ↦ (r, sym (get_or-set_other xs i j None None ne) ∙ at, refl)
-  ] })
+  ];
+})
 
 -- every slot
 pub pids_each : (f : Process → Process) → ((p : Process) → (f p).pid ≡ p.pid) → (xs : List (Option Process)) (n : ℕ) → ArePids xs n → ArePids (map (option_map f) xs) n
-pids_each f keeps xs n = pids_kept xs (map (option_map f) xs) n (record { same = λ j r at. elim (cases_lt j (length xs)) [
+pids_each f keeps xs n = pids_kept xs (map (option_map f) xs) n (record {
+  same = λ j r at. elim (cases_lt j (length xs)) [
     | inl lt ↦ at_place j (get_or xs j None) refl r (sym (get_or-map (option_map f) xs j None None lt) ∙ at)
     | inr ge ↦ none_is r _ (sym (get_or_past (map (option_map f) xs) j None (omega (arith, ge, length-map xs (option_map f)))) ∙ at)
-  ] })
+  ];
+})
   where
     at_place : (j : ℕ) (o : Option Process) → get_or xs j None ≡ o → (r : Process) → option_map f o ≡ Some r → (p : Process) × (get_or xs j None ≡ Some p) × (p.pid ≡ r.pid)
     at_place j None is r e = none_is r _ e
@@ -59,21 +65,21 @@ pids_each f keeps xs n = pids_kept xs (map (option_map f) xs) n (record { same =
 -- a new process
 pub pids_more : (xs : List (Option Process)) (n i : ℕ) (q : Process) → q.pid ≡ n → ArePids xs n → ArePids (set xs i (Some q)) (n + 1)
 pids_more xs n i q new a = record {
-    apart = λ j k p r at bt e. elim (cases_eq j i) [
-      | inl je ↦ elim (cases_eq k i) [
-        | inl ke ↦ je ∙ sym ke
-        | inr kn ↦ let lt = a.below k r (sym (get_or-set_other xs i k (Some q) None kn) ∙ bt) in absurd (omega (arith, lt, e, new, pid_there j p je at))
-      ]
-      | inr jn ↦ elim (cases_eq k i) [
-        | inl ke ↦ let lt = a.below j p (sym (get_or-set_other xs i j (Some q) None jn) ∙ at) in absurd (omega (arith, lt, e, new, pid_there k r ke bt))
-        | inr kn ↦ a.apart j k p r (sym (get_or-set_other xs i j (Some q) None jn) ∙ at) (sym (get_or-set_other xs i k (Some q) None kn) ∙ bt) e
-      ]
-    ];
-    below = λ j p at. elim (cases_eq j i) [
-      | inl je ↦ omega (arith, new, pid_there j p je at)
-      | inr jn ↦ omega (arith, a.below j p (sym (get_or-set_other xs i j (Some q) None jn) ∙ at))
-    ];
-  }
+  apart = λ j k p r at bt e. elim (cases_eq j i) [
+    | inl je ↦ elim (cases_eq k i) [
+      | inl ke ↦ je ∙ sym ke
+      | inr kn ↦ let lt = a.below k r (sym (get_or-set_other xs i k (Some q) None kn) ∙ bt) in absurd (omega (arith, lt, e, new, pid_there j p je at))
+    ]
+    | inr jn ↦ elim (cases_eq k i) [
+      | inl ke ↦ let lt = a.below j p (sym (get_or-set_other xs i j (Some q) None jn) ∙ at) in absurd (omega (arith, lt, e, new, pid_there k r ke bt))
+      | inr kn ↦ a.apart j k p r (sym (get_or-set_other xs i j (Some q) None jn) ∙ at) (sym (get_or-set_other xs i k (Some q) None kn) ∙ bt) e
+    ]
+  ];
+  below = λ j p at. elim (cases_eq j i) [
+    | inl je ↦ omega (arith, new, pid_there j p je at)
+    | inr jn ↦ omega (arith, a.below j p (sym (get_or-set_other xs i j (Some q) None jn) ∙ at))
+  ];
+}
   where
     pid_there : (j : ℕ) (p : Process) → j ≡ i → get_or (set xs i (Some q)) j None ≡ Some p → p.pid ≡ q.pid
     pid_there j p e at = elim (cases_lt i (length xs)) [
@@ -87,9 +93,9 @@ pids_more xs n i q new a = record {
 
 pub pids_none : (m n : ℕ) → ArePids (replicate m None) n
 pids_none m n = record {
-    apart = λ i j p q at bt e. none_is p _ (sym (empty m i) ∙ at);
-    below = λ i p at. none_is p _ (sym (empty m i) ∙ at);
-  }
+  apart = λ i j p q at bt e. none_is p _ (sym (empty m i) ∙ at);
+  below = λ i p at. none_is p _ (sym (empty m i) ∙ at);
+}
   where
     empty : (m i : ℕ) → get_or (replicate m None) i None ≡ nobody
     empty m i = elim (cases_lt i m) [ inl lt ↦ get_or-replicate m i None None lt | inr ge ↦ get_or_past (replicate m None) i None (omega (arith, ge, length-replicate m nobody)) ]

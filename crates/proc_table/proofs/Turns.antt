@@ -1,5 +1,5 @@
 -- Which slots come next.
-use Rattle.std.proofs.Common.{◌≡◌, ◌≢◌, ℕ, ◌+◌, ◌-◌, ◌%◌, ◌<◌, ◌≤◌, Bool, true, false, List, get_or, Option, Some, None, inl, inr, refl, sym, ap, ◌∙◌, arith}
+use Rattle.std.proofs.Common.{◌≡◌, ◌≢◌, ℕ, ◌+◌, ◌%◌, ◌<◌, ◌≤◌, Bool, true, false, List, get_or, Option, Some, None, inl, inr, sym, ap, ◌∙◌, arith}
 use Rattle.std.proofs.lemmas.Bool.{cases_lt}
 use Rattle.proc_table.specs.declared.process.Process.{Process}
 use Rattle.proc_table.specs.Turns.{IsNearest, place_is_runnable, distance}
@@ -22,11 +22,14 @@ apart : (b : Bool) → b ≡ true → b ≡ false → (X : Type 0) → X
 apart b t f X = let no : true ≡ false = sym t ∙ f in absurd (cc)
 
 pub nearest_here : (places : List (Option Process)) (last step : ℕ) → last < 64 → step < 64 → Passed places last step → place_is_runnable (get_or places ((last + 1 + step) % 64) None) ≡ true → IsNearest places last (Some ((last + 1 + step) % 64))
-nearest_here places last step a b passed here =
-    (omega arith, here, λ k lt runs. elim (cases_lt (distance last k) step) [
-      | inl before ↦ apart (place_is_runnable (get_or places k None)) runs (ap (λ j. place_is_runnable (get_or places j None)) (sym (slot_of_step last k a lt)) ∙ passed (distance last k) before) _
-      | inr ge ↦ omega (arith, step_of_slot last step a b)
-    ])
+nearest_here places last step a b passed here = (
+  omega arith,
+  here,
+  λ k lt runs. elim (cases_lt (distance last k) step) [
+    | inl before ↦ apart (place_is_runnable (get_or places k None)) runs (ap (λ j. place_is_runnable (get_or places j None)) (sym (slot_of_step last k a lt)) ∙ passed (distance last k) before) _
+    | inr ge ↦ omega (arith, step_of_slot last step a b)
+  ],
+)
 
 pub nobody : (places : List (Option Process)) (last : ℕ) → last < 64 → Passed places last 64 → IsNearest places last None
 nobody places last a passed k lt = ap (λ j. place_is_runnable (get_or places j None)) (sym (slot_of_step last k a lt)) ∙ passed (distance last k) (after_lt last k)

@@ -51,9 +51,9 @@ pid_of place = option_map_or (λ p. p.pid) place 0
 abbrev pub IsLeastEnded : List (Option Process) → ℕ → ℕ → Option ℕ → Type 0
 IsLeastEnded places parent n None = (k : ℕ) → k < n → place_has_ended parent (get_or places k None) ≡ false
 IsLeastEnded places parent n (Some slot) =
-  (slot < n)
-  × (place_has_ended parent (get_or places slot None) ≡ true)
-  × ((k : ℕ) → k < n → place_has_ended parent (get_or places k None) ≡ true → pid_of (get_or places slot None) ≤ pid_of (get_or places k None))
+    (slot < n)
+    × (place_has_ended parent (get_or places slot None) ≡ true)
+    × ((k : ℕ) → k < n → place_has_ended parent (get_or places k None) ≡ true → pid_of (get_or places slot None) ≤ pid_of (get_or places k None))
 
 -- the slot's pid is below the one of the other slot, if there is another
 abbrev pub is_first : List (Option Process) → ℕ → Option ℕ → Bool

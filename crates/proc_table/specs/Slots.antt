@@ -1,5 +1,5 @@
 -- The process table, as its callers see it.
-use Rattle.std.specs.Prelude.{◌≡◌, ℕ, ◌+◌, ◌-◌, ◌<◌, ◌≤◌, ℤ, Bool, true, false, nat_le, if◌then◌else◌, List, Option, Some, None, IsSome, IsTrue, is_none, length, get_or, set, map, option_map, position, replicate}
+use Rattle.std.specs.Prelude.{◌≡◌, ℕ, ◌+◌, ◌-◌, ◌<◌, ◌≤◌, ℤ, Bool, false, nat_le, if◌then◌else◌, List, Option, Some, None, IsSome, IsTrue, is_none, length, get_or, set, map, option_map, position, replicate}
 use Rattle.std.specs.Option.{option_map_or}
 use Rattle.xk_base.specs.declared.limits.TheConstants.{NPROC, PID_MAX}
 use Rattle.file_table.specs.Named.{none_named}

@@ -17,9 +17,9 @@ distance last slot = (slot + (NPROC - 1) - last) % NPROC
 abbrev pub IsNearest : List (Option Process) → ℕ → Option ℕ → Type 0
 IsNearest places last None = (k : ℕ) → k < NPROC → place_is_runnable (get_or places k None) ≡ false
 IsNearest places last (Some slot) =
-  (slot < NPROC)
-  × (place_is_runnable (get_or places slot None) ≡ true)
-  × ((k : ℕ) → k < NPROC → place_is_runnable (get_or places k None) ≡ true → distance last slot ≤ distance last k)
+    (slot < NPROC)
+    × (place_is_runnable (get_or places slot None) ≡ true)
+    × ((k : ℕ) → k < NPROC → place_is_runnable (get_or places k None) ≡ true → distance last slot ≤ distance last k)
 
 -- the turn of one slot brings each other runnable process nearer to its own
 abbrev pub BringsNearer : Slots → ℕ → Type 0

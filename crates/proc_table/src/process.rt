@@ -31,7 +31,9 @@ pub enum State {
         channel: Option<Channel>,
     },
     /// It has ended with this status, for which nobody has waited yet.
-    Zombie { status: i32 },
+    Zombie {
+        status: i32,
+    },
 }
 
 /// A process in a slot.
@@ -80,7 +82,11 @@ impl Process {
         ensures { result ≡ is_zombie self.now }
     {
         match self.state {
-            State::Live { marked: _, call: _, channel: _ } => false,
+            State::Live {
+                marked: _,
+                call: _,
+                channel: _,
+            } => false,
             State::Zombie { status: _ } => true,
         }
     }
@@ -90,7 +96,11 @@ impl Process {
         ensures { result ≡ is_runnable self.now }
     {
         match self.state {
-            State::Live { marked: _, call: _, channel } => channel.is_none(),
+            State::Live {
+                marked: _,
+                call: _,
+                channel,
+            } => channel.is_none(),
             State::Zombie { status: _ } => false,
         }
     }
@@ -99,7 +109,11 @@ impl Process {
         ensures { result ≡ is_marked self.now }
     {
         match self.state {
-            State::Live { marked, call: _, channel: _ } => marked,
+            State::Live {
+                marked,
+                call: _,
+                channel: _,
+            } => marked,
             State::Zombie { status: _ } => false,
         }
     }
@@ -108,7 +122,11 @@ impl Process {
         ensures { result ≡ status_of self.now }
     {
         match self.state {
-            State::Live { marked: _, call: _, channel: _ } => None,
+            State::Live {
+                marked: _,
+                call: _,
+                channel: _,
+            } => None,
             State::Zombie { status } => Some(status),
         }
     }
@@ -117,7 +135,11 @@ impl Process {
         ensures { result ≡ call_of self.now }
     {
         match self.state {
-            State::Live { marked: _, call, channel: _ } => call,
+            State::Live {
+                marked: _,
+                call,
+                channel: _,
+            } => call,
             State::Zombie { status: _ } => None,
         }
     }
@@ -127,7 +149,11 @@ impl Process {
         ensures { result ≡ woken on self.now }
     {
         match self.state {
-            State::Live { marked, call, channel } => Process {
+            State::Live {
+                marked,
+                call,
+                channel,
+            } => Process {
                 state: State::Live {
                     marked,
                     call,
@@ -144,7 +170,11 @@ impl Process {
         ensures { result ≡ killed self.now }
     {
         match self.state {
-            State::Live { marked: _, call, channel: _ } => Process {
+            State::Live {
+                marked: _,
+                call,
+                channel: _,
+            } => Process {
                 state: State::Live {
                     marked: true,
                     call,
@@ -161,7 +191,11 @@ impl Process {
         ensures { result ≡ asleep on self.now }
     {
         match self.state {
-            State::Live { marked, call, channel: _ } => Process {
+            State::Live {
+                marked,
+                call,
+                channel: _,
+            } => Process {
                 state: State::Live {
                     marked,
                     call,
@@ -178,7 +212,11 @@ impl Process {
         ensures { result ≡ in_call call self.now }
     {
         match self.state {
-            State::Live { marked, call: _, channel } => Process {
+            State::Live {
+                marked,
+                call: _,
+                channel,
+            } => Process {
                 state: State::Live {
                     marked,
                     call,

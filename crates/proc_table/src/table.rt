@@ -231,7 +231,12 @@ impl Table {
         ensures { OnReaped self.old self.new parent result }
     {
         let Some(slot) = least_ended(self.places.as_slice(), parent) else {
-            if self.places.as_slice().iter().any(|place| is_child(place, parent)) {
+            if self
+                .places
+                .as_slice()
+                .iter()
+                .any(|place| is_child(place, parent))
+            {
                 return Reaped::NoneYet;
             }
             return Reaped::NoChild;
@@ -310,13 +315,10 @@ impl Table {
         ensures within { IfSome result (λ slot. slot < NPROC) }
         ensures in_order { IsTable self.now }
     {
-        self.places
-            .as_slice()
-            .iter()
-            .position(|place| match place {
-                None => false,
-                Some(p) => p.has_pid(pid),
-            })
+        self.places.as_slice().iter().position(|place| match place {
+            None => false,
+            Some(p) => p.has_pid(pid),
+        })
     }
 
     /// The pid of the process in a slot.

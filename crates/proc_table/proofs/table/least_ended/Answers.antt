@@ -1,5 +1,5 @@
-use Rattle.std.proofs.Common.{◌≡◌, arith}
-use Rattle.proc_table.proofs.Ended.{least_same, least_later, least_first, inside}
+use Rattle.std.proofs.Common.{arith}
+use Rattle.proc_table.proofs.Ended.{inside}
 use Rattle.proc_table.proofs.table.least_ended.Goals as goal
 
 pub comes_first-requires-clause-other : goal.comes_first-requires-clause-other

@@ -1,4 +1,4 @@
-use Rattle.std.proofs.Common.{◌≡◌, ◌<◌, length, set, map, arith, refl}
+use Rattle.std.proofs.Common.{arith, refl}
 use Rattle.std.specs.Prelude.{option_map}
 use Rattle.proc_table.specs.Processes.{given}
 use Rattle.proc_table.proofs.Pids.{table_each}

@@ -1,4 +1,4 @@
-use Rattle.std.proofs.Common.{ap, refl, ◌∙◌, arith}
+use Rattle.std.proofs.Common.{arith}
 use Rattle.proc_table.proofs.Pids.{table_new}
 use Rattle.proc_table.proofs.table.Table.spawn.Goals as goal
 

@@ -1,0 +1,24 @@
+-- Which slots are held, by what was told of them.
+use Rattle.std.proofs.Common.{◌≡◌, ℕ, true, Option, Some, None, refl}
+use Rattle.std.specs.Prelude.{IsTrue, IsSome, option_map}
+use Rattle.std.proofs.lemmas.List.Quantifiers.{position-Some}
+use Rattle.proc_table.specs.declared.process.Process.{Process}
+use Rattle.proc_table.specs.Processes.{status_of}
+use Rattle.proc_table.specs.Slots.{Slots, IsHeld, IsLiveAt, slot_of, place_at, place_has_pid, place_is_live, status_at}
+
+-- only a process has a pid
+has_one : (pid : ℕ) (place : Option Process) → place_has_pid pid place ≡ true → IsSome place
+has_one pid None h = h
+has_one pid (Some p) h = refl
+
+-- a process that is found is in its slot
+pub found_is_held : (t : Slots) (pid slot : ℕ) → slot_of t pid ≡ Some slot → IsHeld t slot
+found_is_held t pid slot found = has_one pid (place_at t slot) (position-Some (place_has_pid pid) t.places slot None found).1
+
+-- a process without a status lives
+lives : (place : Option Process) → option_map status_of place ≡ Some None → IsTrue (place_is_live place)
+lives None h = absurd (cc)
+lives (Some p) h = let none : status_of p ≡ None = cc in rw none refl
+
+pub unended_is_live : (t : Slots) (slot : ℕ) → status_at t slot ≡ Some None → IsLiveAt t slot
+unended_is_live t slot told = lives (place_at t slot) told
