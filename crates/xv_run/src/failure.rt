@@ -2,6 +2,7 @@
 use std::alloc::{AllocError, AllocFailed};
 use std::io;
 use thiserror::Error;
+use uasm_core::AsmError;
 use xk_base::BootError;
 
 /// Why a run ends early.
@@ -16,6 +17,12 @@ pub enum Failure {
     /// The FILE of this name has more bytes than a program file may have.
     #[error("{0}: too long")]
     TooLong(String),
+    /// The FILE of this name is to be assembled, and isn't UTF-8.
+    #[error("{0}: not text")]
+    NotText(String),
+    /// The FILE of this name can't be assembled.
+    #[error("{0}: {1}")]
+    Assembly(String, AsmError),
     /// The machine doesn't boot from the FILE.
     #[error("boot: {0}")]
     Boot(BootError),
@@ -34,6 +41,8 @@ impl Failure {
             Failure::Words => 1,
             Failure::CannotBeRead(_)
             | Failure::TooLong(_)
+            | Failure::NotText(_)
+            | Failure::Assembly(..)
             | Failure::Boot(_)
             | Failure::OutOfMemory => 2,
             Failure::Write => 5,

@@ -1,32 +1,14 @@
-//! Program files: the one that is built in, and those of the host.
+//! Programs: the one that is built in, and those of the host's files.
 use crate::failure::Failure;
+use std::alloc::Global;
 use std::fs;
 use std::io::{self, ErrorKind, Read};
 use std::rt::Files;
+use uasm_core::{AsmError, assemble};
 use xk_base::limits::PROGRAM_BYTES;
 
-/// An ELF file of one segment, at address 0, with the instructions `li a7, 2`, `li a0, 0` and `ecall`.
-#[rattlefmt::skip]
-pub const THREE_INSTRUCTIONS: [u8; 132] = [
-    // The file header: magic, 64 bits, little-endian, version 1, then padding;
-    0x7F, 0x45, 0x4C, 0x46, 2, 1, 1, 0, 0, 0, 0, 0, 0, 0, 0, 0,
-    // type 2 (executable), machine 243 (RISC-V), version 1, entry 0,
-    2, 0, 243, 0, 1, 0, 0, 0, 0, 0, 0, 0, 0, 0, 0, 0,
-    // program headers at 64, no section headers,
-    64, 0, 0, 0, 0, 0, 0, 0, 0, 0, 0, 0, 0, 0, 0, 0,
-    // no flags, headers of 64 and 56 bytes, one program header, no section header.
-    0, 0, 0, 0, 64, 0, 56, 0, 1, 0, 0, 0, 0, 0, 0, 0,
-    // The program header: type 1 (load), flags R and X, file offset 120,
-    1, 0, 0, 0, 5, 0, 0, 0, 120, 0, 0, 0, 0, 0, 0, 0,
-    // virtual and physical address 0,
-    0, 0, 0, 0, 0, 0, 0, 0, 0, 0, 0, 0, 0, 0, 0, 0,
-    // 12 bytes in the file and in memory,
-    12, 0, 0, 0, 0, 0, 0, 0, 12, 0, 0, 0, 0, 0, 0, 0,
-    // alignment 1.
-    1, 0, 0, 0, 0, 0, 0, 0,
-    // The instructions.
-    0x93, 0x08, 0x20, 0x00, 0x13, 0x05, 0x00, 0x00, 0x73, 0x00, 0x00, 0x00,
-];
+/// A program that exits at once.
+const THREE_INSTRUCTIONS: &str = "li a7, 2\nli a0, 0\necall\n";
 
 // What a failed call on a file comes to.
 fn failed(error: &io::Error, path: String) -> Failure {
@@ -36,16 +18,49 @@ fn failed(error: &io::Error, path: String) -> Failure {
     }
 }
 
-/// The bytes of a file of the host, of which it reads one more than a program file may have at most.
-pub(crate) fn read_program<R: Files + AllocGlobal>(rt: &R, path: String) -> Result<Vec<u8>, Failure> {
+// The program file of a source.
+fn assembled(alloc: Global, source: &str, path: String) -> Result<Vec<u8>, Failure> {
+    match assemble(alloc, source) {
+        Ok(file) => Ok(file),
+        Err(AsmError::Memory) => Err(Failure::OutOfMemory),
+        Err(error) => Err(Failure::Assembly(path, error)),
+    }
+}
+
+/// The file of the program that is built in.
+pub(crate) fn built_in(alloc: Global) -> Result<Vec<u8>, Failure> {
+    let name = String::from_str(alloc, "three instructions")?;
+    assembled(alloc, THREE_INSTRUCTIONS, name)
+}
+
+// The bytes of a file of the host, of which it reads one more than a program file may have at most.
+fn read_file<R: Files + AllocGlobal>(rt: &R, path: String) -> Result<(Vec<u8>, String), Failure> {
     let file = match fs::open(rt, path.as_str()) {
         Ok(file) => file,
         Err(error) => return Err(failed(&error, path)),
     };
     let mut bytes = Vec::new(rt.alloc());
     match file.take(PROGRAM_BYTES as u64 + 1).read_to_end(&mut bytes) {
-        Ok(count) if count <= PROGRAM_BYTES => Ok(bytes),
+        Ok(count) if count <= PROGRAM_BYTES => Ok((bytes, path)),
         Ok(_) => Err(Failure::TooLong(path)),
         Err(error) => Err(failed(&error, path)),
+    }
+}
+
+/// The program file that a file of the host holds: its bytes, or, where its name ends in `.s`, what the
+/// assembler makes of its text.
+pub(crate) fn program_at<R: Files + AllocGlobal>(rt: &R, path: String) -> Result<Vec<u8>, Failure> {
+    let (bytes, path) = read_file(rt, path)?;
+    program_of(rt.alloc(), bytes, path)
+}
+
+/// The program file of these bytes, which stand under this name.
+pub(crate) fn program_of(alloc: Global, bytes: Vec<u8>, path: String) -> Result<Vec<u8>, Failure> {
+    if !path.as_str().ends_with(".s") {
+        return Ok(bytes);
+    }
+    match std::str::from_utf8(bytes.as_slice()) {
+        Ok(source) => assembled(alloc, source, path),
+        Err(_) => Err(Failure::NotText(path)),
     }
 }

@@ -1,9 +1,9 @@
 //! Runs a program on the machine, and prints what comes of each event.
 //!
 //! Without arguments it runs a program of three instructions, which exits at once. With one FILE it
-//! runs that ELF file. Each event's outcome is a line on standard output. What goes wrong is a line on
-//! standard error, and the status says what it was: 1 the words, 2 the file or the boot or want of
-//! memory, 5 standard output.
+//! runs that ELF file, or, where its name ends in `.s`, what the assembler makes of its text. Each
+//! event's outcome is a line on standard output. What goes wrong is a line on standard error, and the
+//! status says what it was: 1 the words, 2 the file or the boot or want of memory, 5 standard output.
 #![tactic(auto)]
 
 mod failure;
@@ -13,7 +13,7 @@ mod play;
 mod tests;
 
 use crate::failure::Failure;
-use crate::input::{THREE_INSTRUCTIONS, read_program};
+use crate::input::{built_in, program_at};
 use crate::play::play;
 use std::io::BufWriter;
 use std::process::ExitCode;
@@ -25,12 +25,12 @@ fn program<R: Env + Files + AllocGlobal>(rt: &R) -> Result<Vec<u8>, Failure> {
     let mut words = env::args(rt)?;
     let _own_name = words.next();
     let Some(path) = words.next() else {
-        return Ok(Vec::from_slice(rt.alloc(), &THREE_INSTRUCTIONS)?);
+        return built_in(rt.alloc());
     };
     if words.next().is_some() {
         return Err(Failure::Words);
     }
-    read_program(rt, path)
+    program_at(rt, path)
 }
 
 fn run<R: Env + Files + Print + AllocGlobal>(rt: &R) -> Result<(), Failure> {

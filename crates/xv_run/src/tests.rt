@@ -1,6 +1,6 @@
 //! What a run prints, and how it ends early.
 use crate::failure::Failure;
-use crate::input::THREE_INSTRUCTIONS;
+use crate::input::{built_in, program_of};
 use crate::play::play;
 use std::io::{self, ErrorKind, Write};
 use std::test::Fail;
@@ -27,10 +27,67 @@ impl Write for Narrow {
     }
 }
 
+// The file of the program that is built in.
+fn built(rt: &HostRuntime) -> Result<Vec<u8>, Fail> {
+    match built_in(rt.alloc()) {
+        Ok(file) => Ok(file),
+        Err(_failure) => Err(Fail::from("it can be assembled")),
+    }
+}
+
+#[test]
+fn the_built_in_program_is_an_elf_file(rt: HostRuntime) -> Result<(), Fail> {
+    #[rattlefmt::skip]
+    let wanted: [u8; 132] = [
+        // The file header: magic, 64 bits, little-endian, version 1, then padding;
+        0x7F, 0x45, 0x4C, 0x46, 2, 1, 1, 0, 0, 0, 0, 0, 0, 0, 0, 0,
+        // type 2 (executable), machine 243 (RISC-V), version 1, entry 0,
+        2, 0, 243, 0, 1, 0, 0, 0, 0, 0, 0, 0, 0, 0, 0, 0,
+        // program headers at 64, no section headers,
+        64, 0, 0, 0, 0, 0, 0, 0, 0, 0, 0, 0, 0, 0, 0, 0,
+        // no flags, headers of 64 and 56 bytes, one program header, no section header.
+        0, 0, 0, 0, 64, 0, 56, 0, 1, 0, 0, 0, 0, 0, 0, 0,
+        // The program header: type 1 (load), flags R and X, file offset 120,
+        1, 0, 0, 0, 5, 0, 0, 0, 120, 0, 0, 0, 0, 0, 0, 0,
+        // virtual and physical address 0,
+        0, 0, 0, 0, 0, 0, 0, 0, 0, 0, 0, 0, 0, 0, 0, 0,
+        // 12 bytes in the file and in memory,
+        12, 0, 0, 0, 0, 0, 0, 0, 12, 0, 0, 0, 0, 0, 0, 0,
+        // alignment 1.
+        1, 0, 0, 0, 0, 0, 0, 0,
+        // The instructions.
+        0x93, 0x08, 0x20, 0x00, 0x13, 0x05, 0x00, 0x00, 0x73, 0x00, 0x00, 0x00,
+    ];
+    assert_eq!(rt; built(&rt)?.as_slice(), wanted.as_slice());
+    Ok(())
+}
+
+#[test]
+fn a_name_that_ends_in_s_is_assembled(rt: HostRuntime) -> Result<(), Fail> {
+    let alloc = rt.alloc();
+    for (name, text, line) in [
+        ("a.s", b"nop\nfoo\n".as_slice(), "a.s: line 2: UnknownWord"),
+        ("b.s", b"nop\n\xFF".as_slice(), "b.s: not text"),
+    ] {
+        let bytes = Vec::from_slice(alloc, text)?;
+        let Err(failure) = program_of(alloc, bytes, String::from_str(alloc, name)?) else {
+            return Err(Fail::from("it is no program"));
+        };
+        assert_eq!(rt; format!(in alloc; "{failure}")?.as_str(), line);
+        assert_eq!(rt; failure.status(), 2);
+    }
+    let bytes = Vec::from_slice(alloc, b"li a7, 2\nli a0, 0\necall\n")?;
+    let Ok(file) = program_of(alloc, bytes, String::from_str(alloc, "c.s")?) else {
+        return Err(Fail::from("it can be assembled"));
+    };
+    assert_eq!(rt; file.as_slice(), built(&rt)?.as_slice());
+    Ok(())
+}
+
 #[test]
 fn each_outcome_is_a_line(rt: HostRuntime) -> Result<(), Fail> {
     let mut out = Vec::new(rt.alloc());
-    let file = Vec::from_slice(rt.alloc(), &THREE_INSTRUCTIONS)?;
+    let file = built(&rt)?;
     assert!(rt; play(rt.alloc(), file, &mut out).is_ok());
     assert_eq!(rt;
         out.as_slice(),
@@ -42,11 +99,11 @@ fn each_outcome_is_a_line(rt: HostRuntime) -> Result<(), Fail> {
 #[test]
 fn a_writer_that_fails_ends_the_run(rt: HostRuntime) -> Result<(), Fail> {
     for room in 0..37 {
-        let file = Vec::from_slice(rt.alloc(), &THREE_INSTRUCTIONS)?;
+        let file = built(&rt)?;
         let result = play(rt.alloc(), file, &mut Narrow { room });
         assert!(rt; matches!(result, Err(Failure::Write)), "{room}");
     }
-    let file = Vec::from_slice(rt.alloc(), &THREE_INSTRUCTIONS)?;
+    let file = built(&rt)?;
     assert!(rt; play(rt.alloc(), file, &mut Narrow { room: 37 }).is_ok());
     Ok(())
 }
