@@ -27,13 +27,13 @@ unfolding least_below
 none_below test zero e k lt = absurd (omega (arith, lt))
 none_below test (suc n) e k lt = last (least_below test n) refl (test n) refl e (λ none below. none_below test n none k below)
   where
-  last : (o : Option ℕ) → least_below test n ≡ o → (b : Bool) → test n ≡ b → or_here o b n ≡ None → (least_below test n ≡ None → k < n → test k ≡ false) → test k ≡ false
-  last (Some i) is b t e rest = absurd (cc)
-  last None is true t e rest = absurd (cc)
-  last None is false t e rest = elim (cases_eq k n) [
-    | inl same ↦ ap test same ∙ t
-    | inr other ↦ rest is (omega (arith, lt, other))
-  ]
+    last : (o : Option ℕ) → least_below test n ≡ o → (b : Bool) → test n ≡ b → or_here o b n ≡ None → (least_below test n ≡ None → k < n → test k ≡ false) → test k ≡ false
+    last (Some i) is b t e rest = absurd (cc)
+    last None is true t e rest = absurd (cc)
+    last None is false t e rest = elim (cases_eq k n) [
+      | inl same ↦ ap test same ∙ t
+      | inr other ↦ rest is (omega (arith, lt, other))
+    ]
 
 -- no number is below 0
 pub least_below-zero : (test : ℕ → Bool) → least_below test 0 ≡ None
