@@ -43,3 +43,11 @@ fn a_frame_is_written_copied_and_cleared(rt: HostRuntime) -> Result<(), Fail> {
     assert_eq!(rt; ram.frame(to)[4095], 0xAA);
     Ok(())
 }
+
+#[test]
+fn a_growth_that_the_host_refuses_is_want_of_memory(rt: HostRuntime) {
+    match Ram::new(rt.alloc(), 16) {
+        Ok(ram) => assert_eq!(rt; ram.frames(), 16),
+        Err(error) => assert_eq!(rt; error, BootError::Memory),
+    }
+}

@@ -1,5 +1,5 @@
 //! The walk from a virtual address to a frame.
-ghost use Rattle.std.specs.Prelude.{◌≡◌, ◌<◌, ◌/◌, ◌%◌, ◌^◌, [], ◌∷◌, length, true, false, Some, None, MatchResult, MatchOption};
+ghost use Rattle.std.specs.Prelude.{◌≡◌, ◌<◌, ◌/◌, ◌%◌, ◌^◌, [], ◌∷◌, length, true, false, Some, None, IfOk, MatchResult, MatchOption};
 ghost use Rattle.sv39_core.specs.Sv39.{entry_at, given, is_canonical, permits, walked, page_fault};
 
 use crate::entry::{Entry, Pte};
@@ -52,11 +52,12 @@ fn page_fault(access: Access) -> Cause
     }
 }
 
-/// The frame, and the offset in it, that an access to a virtual address reaches through the tables
-/// below a root; or the page fault of the access's kind.
+/// The frame, and the offset in it (below 4096), that an access to a virtual address reaches through
+/// the tables below a root. Otherwise the page fault of the access's kind.
 pub fn walk(ram: &Ram, root: Frame, va: u64, access: Access) -> Result<(Frame, usize), Cause>
     requires { root < length ram.now }
-    ensures { MatchResult result (λ to. walked ram.now root va access ≡ Some (to.0, to.1)) (λ cause. (walked ram.now root va access ≡ None) × (cause ≡ page_fault access)) }
+    ensures walked { MatchResult result (λ to. walked ram.now root va access ≡ Some (to.0, to.1)) (λ cause. (walked ram.now root va access ≡ None) × (cause ≡ page_fault access)) }
+    ensures inside { IfOk result (λ to. (to.0 < length ram.now) × (to.1 < 2 ^ 12)) }
 {
     let Some(indexes) = split(va) else {
         return Err(page_fault(access));
