@@ -1,4 +1,4 @@
-use Rattle.std.proofs.Common.{rules, ◌<◌, arith}
+use Rattle.std.proofs.Common.{rules}
 use Rattle.frame_list.proofs.FreeList.{not-all-free, with_first, first-put, Good-with_first}
 use Rattle.frame_list.proofs.Trades.{given-list}
 use Rattle.frame_list.proofs.Pool.give.Goals as goal

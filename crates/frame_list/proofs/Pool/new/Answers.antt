@@ -1,6 +1,5 @@
-use Rattle.std.proofs.Common.{◌≡◌, ◌≢◌, ℕ, ◌+◌, ◌<◌, ◌≤◌, Some, None, length, inl, inr, sym, ap, ◌∙◌, arith}
+use Rattle.std.proofs.Common.{◌≡◌, inl, inr, sym, ap, ◌∙◌, arith}
 use Rattle.std.proofs.lemmas.Bool.{cases_eq}
-use Rattle.xk_base.specs.Frames.{copies}
 use Rattle.xk_base.proofs.Frames.{at, at-same, at-other, copies-nil, copies-one}
 use Rattle.frame_list.specs.Pool.{free_in}
 use Rattle.frame_list.proofs.FreeList.{Good-empty}

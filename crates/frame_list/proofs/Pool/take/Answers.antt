@@ -1,9 +1,8 @@
 use Rattle.std.proofs.Common.{◌≡◌, ◌<◌, [], Some, length, ap, ◌∙◌, arith}
 use Rattle.std.proofs.lemmas.List.{get_or-set_same}
-use Rattle.phys_ram.specs.Ram.{zero_frame, word_at, OthersStay}
+use Rattle.phys_ram.specs.Ram.{zero_frame}
 use Rattle.phys_ram.proofs.Words.{others_stay-set}
 use Rattle.frame_list.specs.Pool.{link, next}
-use Rattle.frame_list.specs.Traded.{Taken}
 use Rattle.frame_list.proofs.FreeList.{next-small, first-inside, but_first, rest-kept, Good-but_first}
 use Rattle.frame_list.proofs.Trades.{taken-list}
 use Rattle.frame_list.proofs.Pool.take.Goals as goal

@@ -1,4 +1,4 @@
-use Rattle.std.proofs.Common.{◌≡◌, ◌≢◌, ℕ, arith}
+use Rattle.std.proofs.Common.{◌≢◌, arith}
 use Rattle.frame_list.proofs.Trades.{untouched-none, given-other}
 use Rattle.frame_list.proofs.tests.sixteen_frames_are_taken_and_two_given_back.Goals as goal
 
