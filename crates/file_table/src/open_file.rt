@@ -46,8 +46,8 @@ impl OpenFile {
     {
         match self.target {
             Target::Console => 0,
-            Target::Program { program: _, offset } => offset,
-            Target::Pipe { frame: _, end: _ } => 0,
+            Target::Program { offset, .. } => offset,
+            Target::Pipe { .. } => 0,
         }
     }
 
@@ -57,11 +57,11 @@ impl OpenFile {
     {
         match self.target {
             Target::Console => self,
-            Target::Program { program, offset: _ } => OpenFile {
+            Target::Program { program, .. } => OpenFile {
                 target: Target::Program { program, offset },
                 ..self
             },
-            Target::Pipe { frame: _, end: _ } => self,
+            Target::Pipe { .. } => self,
         }
     }
 }

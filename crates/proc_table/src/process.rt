@@ -82,12 +82,8 @@ impl Process {
         ensures { result ≡ is_zombie self.now }
     {
         match self.state {
-            State::Live {
-                marked: _,
-                call: _,
-                channel: _,
-            } => false,
-            State::Zombie { status: _ } => true,
+            State::Live { .. } => false,
+            State::Zombie { .. } => true,
         }
     }
 
@@ -96,12 +92,8 @@ impl Process {
         ensures { result ≡ is_runnable self.now }
     {
         match self.state {
-            State::Live {
-                marked: _,
-                call: _,
-                channel,
-            } => channel.is_none(),
-            State::Zombie { status: _ } => false,
+            State::Live { channel, .. } => channel.is_none(),
+            State::Zombie { .. } => false,
         }
     }
 
@@ -109,12 +101,8 @@ impl Process {
         ensures { result ≡ is_marked self.now }
     {
         match self.state {
-            State::Live {
-                marked,
-                call: _,
-                channel: _,
-            } => marked,
-            State::Zombie { status: _ } => false,
+            State::Live { marked, .. } => marked,
+            State::Zombie { .. } => false,
         }
     }
 
@@ -122,11 +110,7 @@ impl Process {
         ensures { result ≡ status_of self.now }
     {
         match self.state {
-            State::Live {
-                marked: _,
-                call: _,
-                channel: _,
-            } => None,
+            State::Live { .. } => None,
             State::Zombie { status } => Some(status),
         }
     }
@@ -135,12 +119,8 @@ impl Process {
         ensures { result ≡ call_of self.now }
     {
         match self.state {
-            State::Live {
-                marked: _,
-                call,
-                channel: _,
-            } => call,
-            State::Zombie { status: _ } => None,
+            State::Live { call, .. } => call,
+            State::Zombie { .. } => None,
         }
     }
 
@@ -161,7 +141,7 @@ impl Process {
                 },
                 ..*self
             },
-            State::Zombie { status: _ } => *self,
+            State::Zombie { .. } => *self,
         }
     }
 
@@ -170,11 +150,7 @@ impl Process {
         ensures { result ≡ killed self.now }
     {
         match self.state {
-            State::Live {
-                marked: _,
-                call,
-                channel: _,
-            } => Process {
+            State::Live { call, .. } => Process {
                 state: State::Live {
                     marked: true,
                     call,
@@ -182,7 +158,7 @@ impl Process {
                 },
                 ..*self
             },
-            State::Zombie { status: _ } => *self,
+            State::Zombie { .. } => *self,
         }
     }
 
@@ -191,11 +167,7 @@ impl Process {
         ensures { result ≡ asleep on self.now }
     {
         match self.state {
-            State::Live {
-                marked,
-                call,
-                channel: _,
-            } => Process {
+            State::Live { marked, call, .. } => Process {
                 state: State::Live {
                     marked,
                     call,
@@ -203,7 +175,7 @@ impl Process {
                 },
                 ..*self
             },
-            State::Zombie { status: _ } => *self,
+            State::Zombie { .. } => *self,
         }
     }
 
@@ -212,11 +184,7 @@ impl Process {
         ensures { result ≡ in_call call self.now }
     {
         match self.state {
-            State::Live {
-                marked,
-                call: _,
-                channel,
-            } => Process {
+            State::Live { marked, channel, .. } => Process {
                 state: State::Live {
                     marked,
                     call,
@@ -224,7 +192,7 @@ impl Process {
                 },
                 ..*self
             },
-            State::Zombie { status: _ } => *self,
+            State::Zombie { .. } => *self,
         }
     }
 
