@@ -27,6 +27,7 @@ before_end [] h = h
 before_end (None ∷ xs) h = omega arith
 before_end (Some x ∷ xs) h = omega (arith, one_more x xs, one_on x xs, before_end xs (omega (arith, h, one_more x xs)))
 
+-- where fewer files are open than there are places, a place is free
 pub place_is_there : {X : Type 0} (xs : List (Option X)) → count_by is_some xs < length xs → position is_none xs ≡ None → ⊥
 place_is_there xs h e = let lt : nat_lt (position_or_len is_none xs) (length xs) ≡ true = grind (arith, nat_tests, before_end xs h) in
     let is : position is_none xs ≡ Some (position_or_len is_none xs) = ap (λ b. cond b (Some (position_or_len is_none xs)) None) lt in

@@ -28,12 +28,15 @@ mapped : (f : Entry → Entry) (o : Option Entry) → IsSome o → IsSome (optio
 mapped f None is = is
 mapped f (Some e) is = refl
 
+-- a file that was just opened
 pub opened_is_open : (old new : List (Option Entry)) (file : ℕ) (f : OpenFile) → lowest_place old ≡ Some file → new ≡ with_opened file f old → IsOpen new file
 opened_is_open old new file f low is = ap is_some (ap (λ xs. get_or xs file None) is ∙ get_or-set_same old file (Some (record { file = f; count = 1 })) None (position-Some is_none old file None low).0)
 
+-- after one more descriptor names a file
 pub shared_stays_open : (old new : List (Option Entry)) (shared file : ℕ) → IsOpen old file → new ≡ with_sharer shared old → IsOpen new file
 shared_stays_open old new shared file is e = along _ _ (ap (λ xs. get_or xs file None) (sym e)) (set_keeps_open old shared file _ (mapped once_more _) is)
 
+-- after an offset is moved
 pub moved_stays_open : (old new : List (Option Entry)) (moved offset file : ℕ) → IsOpen old file → new ≡ with_offset moved offset old → IsOpen new file
 moved_stays_open old new moved offset file is e = along _ _ (ap (λ xs. get_or xs file None) (sym e)) (set_keeps_open old moved file _ (mapped (entry_moved offset) _) is)
 
@@ -42,5 +45,6 @@ not_last : (o : Option Entry) → option_map is_last o ≡ Some false → IsSome
 not_last None e = absurd (cc)
 not_last (Some x) e = let more : is_last x ≡ false = cc in rw more refl
 
+-- after a close that was not the last
 pub shared_survives_close : (old new : List (Option Entry)) (closed file : ℕ) → IsOpen old file → option_map is_last (entry_at old closed) ≡ Some false → new ≡ without_sharer closed old → IsOpen new file
 shared_survives_close old new closed file is more e = along _ _ (ap (λ xs. get_or xs file None) (sym e)) (set_keeps_open old closed file _ (λ _. not_last _ more) is)

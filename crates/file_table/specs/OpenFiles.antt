@@ -25,6 +25,7 @@ abbrev pub pipe_file : ℕ → End → OpenFile
 pipe_file frame Reading = record { target = Pipe frame Reading; read = true; write = false }
 pipe_file frame Writing = record { target = Pipe frame Writing; read = false; write = true }
 
+-- the offset of a target, case by case
 abbrev pub target_offset : Target → ℕ
 target_offset Console = 0
 target_offset (Program program offset) = offset
@@ -34,6 +35,7 @@ target_offset (Pipe frame end) = 0
 abbrev pub offset_of : OpenFile → ℕ
 offset_of f = target_offset f.target
 
+-- a target with its next byte at the offset, case by case
 abbrev pub target_moved : ℕ → Target → Target
 target_moved offset Console = Console
 target_moved offset (Program program before) = Program program offset
@@ -45,6 +47,7 @@ moved_to offset f = record f { target = target_moved offset f.target }
 
 -- ---- the table
 
+-- what stands in a place
 abbrev pub entry_at : List (Option Entry) → ℕ → Option Entry
 entry_at files file = get_or files file None
 
@@ -52,9 +55,11 @@ entry_at files file = get_or files file None
 abbrev pub IsOpen : List (Option Entry) → ℕ → Type 0
 IsOpen files file = IsSome (entry_at files file)
 
+-- an entry without its count
 abbrev pub entry_file : Entry → OpenFile
 entry_file e = e.file
 
+-- an entry without its open file
 abbrev pub entry_count : Entry → ℕ
 entry_count e = e.count
 
@@ -93,6 +98,7 @@ with_opened file f files = set files file (Some (record { file = f; count = 1 })
 abbrev pub once_more : Entry → Entry
 once_more e = record e { count = e.count + 1 }
 
+-- one descriptor more names the open file of this name
 abbrev pub with_sharer : ℕ → List (Option Entry) → List (Option Entry)
 with_sharer file files = set files file (option_map once_more (entry_at files file))
 
@@ -100,6 +106,7 @@ with_sharer file files = set files file (option_map once_more (entry_at files fi
 abbrev pub entry_moved : ℕ → Entry → Entry
 entry_moved offset e = record e { file = moved_to offset e.file }
 
+-- the open file of this name has its next byte at the offset
 abbrev pub with_offset : ℕ → ℕ → List (Option Entry) → List (Option Entry)
 with_offset file offset files = set files file (option_map (entry_moved offset) (entry_at files file))
 
@@ -111,5 +118,6 @@ is_last e = nat_eq e.count 1
 abbrev pub once_less : Entry → Option Entry
 once_less e = cond (is_last e) None (Some (record e { count = e.count - 1 }))
 
+-- one descriptor fewer names the open file of this name
 abbrev pub without_sharer : ℕ → List (Option Entry) → List (Option Entry)
 without_sharer file files = set files file (option_and_then once_less (entry_at files file))

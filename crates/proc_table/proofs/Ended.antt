@@ -52,6 +52,7 @@ least_first xs parent n (Some s) h here is_so =
       ],
     )
 
+-- the slot that was found lies within the table
 pub inside : (xs : List (Option Process)) (parent n : ℕ) (o : Option ℕ) → IsLeastEnded xs parent n o → n ≤ length xs → ForSome o (λ k. k < length xs)
 inside xs parent n None h le k e = absurd (no_way e)
   where

@@ -20,5 +20,6 @@ lives : (place : Option Process) → option_map status_of place ≡ Some None �
 lives None h = absurd (cc)
 lives (Some p) h = let none : status_of p ≡ None = cc in rw none refl
 
+-- a slot whose process is told to have no status holds a live one
 pub unended_is_live : (t : Slots) (slot : ℕ) → status_at t slot ≡ Some None → IsLiveAt t slot
 unended_is_live t slot told = lives (place_at t slot) told

@@ -9,9 +9,11 @@ use Rattle.std.proofs.Common.{length-set}
 use Rattle.std.specs.Prelude.{◌^◌}
 use Rattle.std.proofs.lemmas.List.{get_or_read}
 
+-- nothing is no process
 none_is : (p : Process) (X : Type 0) → None ≡ Some p → X
 none_is p X e = let no_way : ⊥ = cc in absurd no_way
 
+-- no process, at its type
 abbrev nobody : Option Process
 nobody = None
 
@@ -19,6 +21,7 @@ nobody = None
 pub record Keeps (xs ys : List (Option Process)) : Type 0 where
   pub same : (i : ℕ) (q : Process) → get_or ys i None ≡ Some q → (p : Process) × (get_or xs i None ≡ Some p) × (p.pid ≡ q.pid)
 
+-- a change that keeps each pid in its slot
 pub pids_kept : (xs ys : List (Option Process)) (n : ℕ) → Keeps xs ys → ArePids xs n → ArePids ys n
 pids_kept xs ys n k a = record {
   apart = λ i j p q at bt e. let u = k.same i p at in let v = k.same j q bt in a.apart i j u.0 v.0 u.1 v.1 (u.2 ∙ e ∙ sym v.2);
@@ -38,6 +41,7 @@ pids_at xs n i p q here same = pids_kept xs (set xs i (Some q)) n (record {
   ];
 })
 
+-- one slot is emptied
 pub pids_emptied : (xs : List (Option Process)) (n i : ℕ) → ArePids xs n → ArePids (set xs i None) n
 pids_emptied xs n i = pids_kept xs (set xs i None) n (record {
   same = λ j r at. elim (cases_eq j i) [
@@ -91,6 +95,7 @@ pids_more xs n i q new a = record {
         none_there : (j : ℕ) (p : Process) → j ≡ i → get_or (set xs i (Some q)) j None ≡ Some p → length xs ≤ i → get_or xs i None ≡ Some p
         none_there j p e at ge = ap (λ ys. get_or ys i None) (sym (set_past xs i (Some q) ge)) ∙ ap (λ k. get_or (set xs i (Some q)) k None) (sym e) ∙ at
 
+-- no slot is held
 pub pids_none : (m n : ℕ) → ArePids (replicate m None) n
 pids_none m n = record {
   apart = λ i j p q at bt e. none_is p _ (sym (empty m i) ∙ at);
@@ -100,6 +105,7 @@ pids_none m n = record {
     empty : (m i : ℕ) → get_or (replicate m None) i None ≡ nobody
     empty m i = elim (cases_lt i m) [ inl lt ↦ get_or-replicate m i None None lt | inr ge ↦ get_or_past (replicate m None) i None (omega (arith, ge, length-replicate m nobody)) ]
 
+-- a table in which one process changed, but for its pid
 pub table_at : (t : Slots) (i : ℕ) (x : Option Process) (p q : Process) → IsTable t → i < 64 → x ≡ get_or t.places i x → x ≡ Some p → q.pid ≡ p.pid → IsTable (record t { places = set t.places i (Some q) })
 table_at t i x p q is within read some same = record {
   places = length-set t.places i (Some q) ∙ is.places;
@@ -110,6 +116,7 @@ table_at t i x p q is within read some same = record {
   pids = pids_at t.places t.next i p q (sym (get_or_read t.places i x (omega (arith, is.places, within)) read None) ∙ some) (sym same) is.pids;
 }
 
+-- a table in which all processes changed, but for their pids
 pub table_each : (t : Slots) (f : Process → Process) (ys : List (Option Process)) → IsTable t → ((p : Process) → (f p).pid ≡ p.pid) → ys ≡ map (option_map f) t.places → IsTable (record t { places = ys })
 table_each t f ys is keeps e = record {
   places = ap length e ∙ length-map t.places (option_map f) ∙ is.places;
@@ -120,6 +127,7 @@ table_each t f ys is keeps e = record {
   pids = rw e (pids_each f keeps t.places t.next is.pids);
 }
 
+-- a table with a new process of the next pid
 pub table_new : (t : Slots) (i : ℕ) (q : Process) (d : List (Option ℕ)) → IsTable t → q.pid ≡ t.next → t.next < 2 ^ 31 → IsTable (record t { places = set t.places i (Some q); descriptors = set t.descriptors i d; next = t.next + 1 })
 table_new t i q d is new room = record {
   places = length-set t.places i (Some q) ∙ is.places;

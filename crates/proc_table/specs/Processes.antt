@@ -7,16 +7,20 @@ use Rattle.proc_table.specs.declared.process.State.TheVariants.{Live, Zombie}
 use Rattle.proc_table.specs.declared.process.Process.{Process}
 use Rattle.proc_table.specs.Channels.{without}
 
+-- the process has this pid
 abbrev pub has_pid : ℕ → Process → Bool
 has_pid pid p = nat_eq p.pid pid
 
+-- this is the parent, if there is one
 abbrev pub is_parent : ℕ → Option ℕ → Bool
 is_parent parent None = false
 is_parent parent (Some p) = nat_eq p parent
 
+-- the process is a child of this one
 abbrev pub is_child_of : ℕ → Process → Bool
 is_child_of parent p = is_parent parent p.parent
 
+-- the status of a zombie
 abbrev pub state_status : State → Option ℤ
 state_status (Live marked call channel) = None
 state_status (Zombie status) = Some status
@@ -25,12 +29,15 @@ state_status (Zombie status) = Some status
 abbrev pub status_of : Process → Option ℤ
 status_of p = state_status p.state
 
+-- it has ended
 abbrev pub is_zombie : Process → Bool
 is_zombie p = is_some (status_of p)
 
+-- it has not ended
 abbrev pub is_live : Process → Bool
 is_live p = is_none (status_of p)
 
+-- the kill mark of a live process
 abbrev pub state_mark : State → Bool
 state_mark (Live marked call channel) = marked
 state_mark (Zombie status) = false
@@ -39,6 +46,7 @@ state_mark (Zombie status) = false
 abbrev pub is_marked : Process → Bool
 is_marked p = state_mark p.state
 
+-- the call of a live process
 abbrev pub state_call : State → Option Call
 state_call (Live marked call channel) = call
 state_call (Zombie status) = None
@@ -47,6 +55,7 @@ state_call (Zombie status) = None
 abbrev pub call_of : Process → Option Call
 call_of p = state_call p.state
 
+-- the channel of a live process
 abbrev pub state_channel : State → Option Channel
 state_channel (Live marked call channel) = channel
 state_channel (Zombie status) = None
@@ -55,6 +64,7 @@ state_channel (Zombie status) = None
 abbrev pub channel_of : Process → Option Channel
 channel_of p = state_channel p.state
 
+-- live, and on no channel
 abbrev pub state_runnable : State → Bool
 state_runnable (Live marked call channel) = is_none channel
 state_runnable (Zombie status) = false
@@ -65,6 +75,7 @@ is_runnable p = state_runnable p.state
 
 -- ---- changes. A zombie neither sleeps, wakes nor is marked
 
+-- the channel is left, if it is this one
 abbrev pub state_woken : Channel → State → State
 state_woken on (Live marked call channel) = Live marked call (without on channel)
 state_woken on (Zombie status) = Zombie status
@@ -73,6 +84,7 @@ state_woken on (Zombie status) = Zombie status
 abbrev pub woken : Channel → Process → Process
 woken on p = record p { state = state_woken on p.state }
 
+-- the mark is set, and the channel left
 abbrev pub state_killed : State → State
 state_killed (Live marked call channel) = Live true call None
 state_killed (Zombie status) = Zombie status
@@ -81,6 +93,7 @@ state_killed (Zombie status) = Zombie status
 abbrev pub killed : Process → Process
 killed p = record p { state = state_killed p.state }
 
+-- the channel is entered
 abbrev pub state_asleep : Channel → State → State
 state_asleep on (Live marked call channel) = Live marked call (Some on)
 state_asleep on (Zombie status) = Zombie status
@@ -89,6 +102,7 @@ state_asleep on (Zombie status) = Zombie status
 abbrev pub asleep : Channel → Process → Process
 asleep on p = record p { state = state_asleep on p.state }
 
+-- the call is noted
 abbrev pub state_in_call : Option Call → State → State
 state_in_call call (Live marked before channel) = Live marked call channel
 state_in_call call (Zombie status) = Zombie status
@@ -101,6 +115,7 @@ in_call call p = record p { state = state_in_call call p.state }
 abbrev pub ended : ℤ → Process → Process
 ended status p = record p { state = Zombie status }
 
+-- the second, in place of the first
 abbrev pub parent_given : ℕ → ℕ → Option ℕ → Option ℕ
 parent_given from to parent = if is_parent from parent then Some to else parent
 

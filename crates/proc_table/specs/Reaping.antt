@@ -8,6 +8,7 @@ use Rattle.proc_table.specs.declared.table.Reaped.TheVariants.{NoChild, NoneYet,
 use Rattle.proc_table.specs.Processes.{is_child_of, is_zombie, status_of}
 use Rattle.proc_table.specs.Slots.{Slots, Holds, emptied_at}
 
+-- a child of this process is in the place
 abbrev pub place_is_child : ℕ → Option Process → Bool
 place_is_child parent place = option_map_or (is_child_of parent) place false
 
@@ -15,6 +16,7 @@ place_is_child parent place = option_map_or (is_child_of parent) place false
 abbrev pub HasChild : Slots → ℕ → Type 0
 HasChild t parent = IsTrue (list_any (place_is_child parent) t.places)
 
+-- no process is its child
 abbrev pub HasNoChild : Slots → ℕ → Type 0
 HasNoChild t parent = (slot : ℕ) (p : Process) → Holds t slot p → is_child_of parent p ≡ false
 
@@ -41,9 +43,11 @@ OnReaped old new parent (Gone pid status) = TakesLeast old new parent pid status
 
 -- ---- slot by slot, as a search finds it
 
+-- a zombie child of this process is in the place
 abbrev pub place_has_ended : ℕ → Option Process → Bool
 place_has_ended parent place = option_map_or (λ p. is_child_of parent p && is_zombie p) place false
 
+-- the pid in the place; 0, which is no pid, where it is free
 abbrev pub pid_of : Option Process → ℕ
 pid_of place = option_map_or (λ p. p.pid) place 0
 

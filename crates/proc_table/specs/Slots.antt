@@ -14,9 +14,11 @@ pub record Slots : Type 0 where
   pub next : ℕ
   pub last : ℕ
 
+-- what stands in a slot
 abbrev pub place_at : Slots → ℕ → Option Process
 place_at t slot = get_or t.places slot None
 
+-- this process is in the slot
 abbrev pub Holds : Slots → ℕ → Process → Type 0
 Holds t slot p = place_at t slot ≡ Some p
 
@@ -24,6 +26,7 @@ Holds t slot p = place_at t slot ≡ Some p
 abbrev pub IsHeld : Slots → ℕ → Type 0
 IsHeld t slot = IsSome (place_at t slot)
 
+-- a live process is in the place
 abbrev pub place_is_live : Option Process → Bool
 place_is_live place = option_map_or is_live place false
 
@@ -33,27 +36,35 @@ IsLiveAt t slot = IsTrue (place_is_live (place_at t slot))
 
 -- ---- what is told of a slot
 
+-- the pid of a process
 abbrev pub process_pid : Process → ℕ
 process_pid p = p.pid
 
+-- the parent of a process
 abbrev pub process_parent : Process → Option ℕ
 process_parent p = p.parent
 
+-- the pid in a slot
 abbrev pub pid_at : Slots → ℕ → Option ℕ
 pid_at t slot = option_map process_pid (place_at t slot)
 
+-- the parent of the process in a slot, if it has one
 abbrev pub parent_at : Slots → ℕ → Option (Option ℕ)
 parent_at t slot = option_map process_parent (place_at t slot)
 
+-- whether the process in a slot is marked
 abbrev pub mark_at : Slots → ℕ → Option Bool
 mark_at t slot = option_map is_marked (place_at t slot)
 
+-- the status of the process in a slot, if it has ended
 abbrev pub status_at : Slots → ℕ → Option (Option ℤ)
 status_at t slot = option_map status_of (place_at t slot)
 
+-- the call of the process in a slot, if it is in one
 abbrev pub call_at : Slots → ℕ → Option (Option Call)
 call_at t slot = option_map call_of (place_at t slot)
 
+-- the descriptors of a slot
 abbrev pub descriptors_at : Slots → ℕ → List (Option ℕ)
 descriptors_at t slot = get_or t.descriptors slot none_named
 
@@ -87,6 +98,7 @@ pub record IsTable (t : Slots) : Type 0 where
   pub next : t.next ≤ PID_MAX + 1
   pub pids : ArePids t.places t.next
 
+-- the process of this pid is in the place
 abbrev pub place_has_pid : ℕ → Option Process → Bool
 place_has_pid pid place = option_map_or (has_pid pid) place false
 

@@ -6,6 +6,7 @@ use Rattle.proc_table.specs.declared.process.Process.{Process}
 use Rattle.proc_table.specs.Processes.{is_runnable}
 use Rattle.proc_table.specs.Slots.{Slots}
 
+-- a runnable process is in the place
 abbrev pub place_is_runnable : Option Process → Bool
 place_is_runnable place = option_map_or is_runnable place false
 
