@@ -1,5 +1,5 @@
 -- Places in a program: a section, and how many bytes of text and of data stand before it.
-use Rattle.std.specs.Prelude.{ℕ, ◌+◌, ◌*◌, Bool, nat_lt, ◌==◌, if◌then◌else◌}
+use Rattle.std.specs.Prelude.{ℕ, ◌+◌, ◌*◌, Bool, nat_lt, ◌==◌, if◌then◌else◌, Option, None, Some}
 use Rattle.xk_base.specs.declared.limits.TheConstants.{PROGRAM_BYTES}
 use Rattle.xk_base.specs.ProgramFile.{page_up}
 use Rattle.uasm_core.specs.declared.place.Place.{Place}
@@ -54,3 +54,7 @@ file_len p = headers_len p.text_len p.data_len + p.text_len + p.data_len
 -- the file would be longer than a program file may be
 abbrev pub is_past_limit : Place → Bool
 is_past_limit p = nat_lt PROGRAM_BYTES (file_len p)
+
+-- the place, unless the file would be too long
+abbrev pub within_limit : Place → Option Place
+within_limit p = if is_past_limit p then None else Some p

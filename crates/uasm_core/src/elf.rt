@@ -63,7 +63,10 @@ struct Extent {
 /// A segment's header: type, flags, place in the file, virtual and physical address, size in the file and in
 /// memory, and alignment.
 fn put_segment_header(file: &mut Vec<u8>, flags: u32, extent: &Extent) -> Result<(), AllocError>
-    ensures { OnOk result (file.new.items ≡ file.old.items ++ le_bytes 4 format.to_be_loaded ++ le_bytes 4 flags ++ le_bytes 8 extent.now.off ++ le_bytes 8 extent.now.vaddr ++ le_bytes 8 extent.now.vaddr ++ le_bytes 8 extent.now.size ++ le_bytes 8 extent.now.size ++ le_bytes 8 1) }
+    ensures { OnOk result (file.new.items ≡ file.old.items
+        ++ le_bytes 4 format.to_be_loaded ++ le_bytes 4 flags
+        ++ le_bytes 8 extent.now.off ++ le_bytes 8 extent.now.vaddr ++ le_bytes 8 extent.now.vaddr
+        ++ le_bytes 8 extent.now.size ++ le_bytes 8 extent.now.size ++ le_bytes 8 1) }
 {
     put_u32(file, TO_BE_LOADED)?;
     put_u32(file, flags)?;
@@ -77,7 +80,8 @@ fn put_segment_header(file: &mut Vec<u8>, flags: u32, extent: &Extent) -> Result
 
 /// The header of a segment, if it has bytes.
 fn put_program_header(file: &mut Vec<u8>, flags: u32, extent: &Extent) -> Result<(), AllocError>
-    ensures { OnOk result (file.new.items ≡ file.old.items ++ format.program_header flags extent.now.off extent.now.vaddr extent.now.size) }
+    ensures { OnOk result (file.new.items ≡ file.old.items
+        ++ format.program_header flags extent.now.off extent.now.vaddr extent.now.size) }
 {
     if extent.size == 0 {
         return Ok(());
@@ -89,7 +93,11 @@ fn put_program_header(file: &mut Vec<u8>, flags: u32, extent: &Extent) -> Result
 /// The file: headers, text and data.
 pub(crate) fn elf_file(alloc: Global, out: &Output, entry: u64) -> Result<Vec<u8>, AllocError>
     requires { (length out.now.text.items < 2 ^ 32) × (length out.now.data_bytes.items < 2 ^ 32) }
-    ensures { IfOk result (λ v. v.items ≡ elf_of (record { text = out.now.text.items; data_bytes = out.now.data_bytes.items; entry = entry })) }
+    ensures { IfOk result (λ v. v.items ≡ elf_of (record {
+      text = out.now.text.items;
+      data_bytes = out.now.data_bytes.items;
+      entry = entry;
+    })) }
 {
     let text_len = out.text.len() as u64;
     let data_len = out.data_bytes.len() as u64;

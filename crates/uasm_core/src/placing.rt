@@ -1,5 +1,5 @@
 //! The first pass: each line with its place.
-ghost use Rattle.std.specs.Prelude.{◌≡◌, ◌≤◌, ◌<◌, ◌^◌, [], map, length, IfOk, IfSome, if◌then◌else◌, Some, None, sum_by, IfErr, IfNone, false};
+ghost use Rattle.std.specs.Prelude.{◌≡◌, ◌≤◌, ◌<◌, ◌^◌, [], map, length, IfOk, IfSome, sum_by, IfErr, IfNone, false};
 ghost use Rattle.std.specs.Option.{option_map};
 ghost use Rattle.uasm_core.specs.Views.{Stands, seen, error_at};
 ghost use Rattle.uasm_core.specs.Views.{places_of, with_label_of};
@@ -7,7 +7,7 @@ ghost use Rattle.uasm_core.specs.declared.error.AsmError.TheVariants as error;
 ghost use Rattle.uasm_core.specs.Statement.{size_of, datum_size};
 ghost use Rattle.uasm_core.specs.Views.{statement as statement_seen, datum as datum_seen};
 ghost use Rattle.uasm_core.specs.Written.{placed, all_placed, behind, end_of, label_place, is_taken};
-ghost use Rattle.uasm_core.specs.Places.{start, is_past_limit};
+ghost use Rattle.uasm_core.specs.Places.{start, within_limit};
 ghost use Rattle.xk_base.specs.declared.limits.TheConstants.{PROGRAM_BYTES};
 
 use crate::error::{AsmError, AsmErrorKind, Refusal};
@@ -92,7 +92,7 @@ fn size(statement: &Statement<'_>) -> Option<u64>
 
 /// The end behind a statement, if a file may be so long.
 fn end_behind(end: &ProgramEnd, statement: &Statement<'_>) -> Option<ProgramEnd>
-    ensures { result ≡ (let next = behind (statement_seen statement.now) end.now in if is_past_limit next then None else Some next) }
+    ensures { result ≡ within_limit (behind (statement_seen statement.now) end.now) }
 {
     match statement {
         Statement::Switch(to) => Some(end.switched(*to)),
@@ -125,7 +125,8 @@ fn enter<'a>(
     label: Option<&'a [u8]>,
     at: Place,
 ) -> Result<(), AsmError>
-    ensures value { IfOk result (λ _. places_of labels.new ≡ with_label_of (option_map (λ b. b.now) label.entry) at (places_of labels.old)) }
+    ensures value { IfOk result (λ _. places_of labels.new
+        ≡ with_label_of (option_map (λ b. b.now) label.entry) at (places_of labels.old)) }
     ensures memory { IfErr result (λ e. e ≡ error.Memory) }
 {
     match label {
@@ -146,7 +147,8 @@ fn place_line<'a>(
     ensures fresh { IfOk result (λ p. is_taken (seen p).label (places_of labels.old) ≡ false) }
     ensures place { IfOk result (λ p. p.place ≡ end.now) }
     ensures next { IfOk result (λ p. p.next ≡ behind (seen p).statement end.now) }
-    ensures labels { IfOk result (λ p. places_of labels.new ≡ with_label_of (seen p).label end.now (places_of labels.old)) }
+    ensures labels { IfOk result (λ p. places_of labels.new
+        ≡ with_label_of (seen p).label end.now (places_of labels.old)) }
 {
     let parts = parts_of(alloc, source)?;
     if is_known(labels, parts.label) {
@@ -178,7 +180,8 @@ fn place_line<'a>(
 
 /// All lines with their places.
 pub(crate) fn place_all<'a>(alloc: Global, lines: &[&'a str]) -> Result<Listing<'a>, AsmError>
-    ensures value { Stands (λ v. map seen v.lines.items) result (all_placed [] start (map (λ l. l.now) lines.now)) }
+    ensures value { Stands (λ v. map seen v.lines.items) result
+        (all_placed [] start (map (λ l. l.now) lines.now)) }
     ensures labels { IfOk result (λ v. places_of v.labels ≡ label_place (map seen v.lines.items)) }
     ensures text_len { IfOk result (λ v. v.text_len ≡ (end_of (map seen v.lines.items) start).text_len) }
 {

@@ -1,6 +1,6 @@
 //! Where a program ends, as far as it was read.
-ghost use Rattle.std.specs.Prelude.{◌≡◌, ◌<◌, ◌^◌, false, None, Some, if◌then◌else◌};
-ghost use Rattle.uasm_core.specs.Places.{start as first, grown as grown_by, is_past_limit};
+ghost use Rattle.std.specs.Prelude.{◌≡◌, ◌<◌, ◌^◌, false};
+ghost use Rattle.uasm_core.specs.Places.{start as first, grown as grown_by, is_past_limit, within_limit};
 
 use crate::place::{Place, headers_len};
 use crate::words::Section;
@@ -66,7 +66,7 @@ impl ProgramEnd {
     /// The end behind `n` bytes more, if the file isn't longer than a program file may be then.
     pub(crate) fn grown(&self, n: u64) -> Option<ProgramEnd>
         requires { n < 2 ^ 32 }
-        ensures { result ≡ (let next = grown_by self.now.section n self.now in if is_past_limit next then None else Some next) }
+        ensures { result ≡ within_limit (grown_by self.now.section n self.now) }
     {
         let mut text_len = u64::from(self.place.text_len);
         let mut data_len = u64::from(self.place.data_len);

@@ -90,7 +90,9 @@ fn put_datum<'a>(
     text_len: u32,
     d: &Datum<'a>,
 ) -> Result<(), Refusal>
-    ensures { Answers (λ _. out.new.items) result (put_behind out.old.items (datum_bytes (addresses text_len (places_of labels.now)) (datum_seen d.now))) }
+    ensures { Answers (λ _. out.new.items) result
+        (put_behind out.old.items
+        (datum_bytes (addresses text_len (places_of labels.now)) (datum_seen d.now))) }
 {
     match d {
         Datum::Byte(n) => put_u8(out, *n)?,
@@ -110,7 +112,10 @@ fn put_values<'a>(
     text_len: u32,
     values: &[Datum<'a>],
 ) -> Result<(), Refusal>
-    ensures { Answers (λ _. out.new.items) result (put_behind out.old.items (values_bytes (addresses text_len (places_of labels.now)) (map datum_seen values.now))) }
+    ensures { Answers (λ _. out.new.items) result
+        (put_behind out.old.items
+        (values_bytes (addresses text_len (places_of labels.now))
+        (map datum_seen values.now))) }
 {
     for d in values {
         put_datum(out, labels, text_len, d)?;
@@ -128,7 +133,10 @@ fn put_branch<'a>(
     rs2: Reg,
     name: &'a [u8],
 ) -> Result<(), Refusal>
-    ensures { Answers (λ _. out.new.items) result (put_behind out.old.items (spelled (addresses text_len (places_of labels.now)) at (BranchTo op rs1 rs2 name.now))) }
+    ensures { Answers (λ _. out.new.items) result
+        (put_behind out.old.items
+        (spelled (addresses text_len (places_of labels.now)) at
+        (BranchTo op rs1 rs2 name.now))) }
 {
     let to = target(labels, text_len, name)?;
     let d = distance(12, at, to)?;
@@ -152,7 +160,9 @@ fn put_jump<'a>(
     rd: Reg,
     name: &'a [u8],
 ) -> Result<(), Refusal>
-    ensures { Answers (λ _. out.new.items) result (put_behind out.old.items (spelled (addresses text_len (places_of labels.now)) at (JumpTo rd name.now))) }
+    ensures { Answers (λ _. out.new.items) result
+        (put_behind out.old.items
+        (spelled (addresses text_len (places_of labels.now)) at (JumpTo rd name.now))) }
 {
     let to = target(labels, text_len, name)?;
     let d = distance(20, at, to)?;
@@ -174,7 +184,10 @@ fn put_address<'a>(
     rd: Reg,
     name: &'a [u8],
 ) -> Result<(), Refusal>
-    ensures { Answers (λ _. out.new.items) result (put_behind out.old.items (spelled (addresses text_len (places_of labels.now)) at (LoadAddress rd name.now))) }
+    ensures { Answers (λ _. out.new.items) result
+        (put_behind out.old.items
+        (spelled (addresses text_len (places_of labels.now)) at
+        (LoadAddress rd name.now))) }
 {
     let to = target(labels, text_len, name)?;
     let m = from_to(at, to).low_bits(32);
@@ -205,7 +218,10 @@ fn put_statement<'a>(
     at: u64,
     statement: &Statement<'a>,
 ) -> Result<(), Refusal>
-    ensures { Answers (λ _. out.new.items) result (put_behind out.old.items (spelled (addresses text_len (places_of labels.now)) at (statement_seen statement.now))) }
+    ensures { Answers (λ _. out.new.items) result
+        (put_behind out.old.items
+        (spelled (addresses text_len (places_of labels.now)) at
+        (statement_seen statement.now))) }
 {
     match statement {
         Statement::Empty | Statement::Switch(_) => Ok(()),
@@ -241,7 +257,10 @@ fn put_section<'a>(
     at: u64,
     statement: &Statement<'a>,
 ) -> Result<(), Refusal>
-    ensures { Answers (λ _. bytes_in out.new) result (put_in section (bytes_in out.old) (spelled (addresses text_len (places_of labels.now)) at (statement_seen statement.now))) }
+    ensures { Answers (λ _. bytes_in out.new) result
+        (put_in section (bytes_in out.old)
+        (spelled (addresses text_len (places_of labels.now)) at
+        (statement_seen statement.now))) }
 {
     match section {
         Section::Text => put_statement(&mut out.text, labels, text_len, at, statement),
@@ -255,7 +274,9 @@ fn spell_line<'a>(
     text_len: u32,
     line: &Placed<'a>,
 ) -> Result<(), AsmError>
-    ensures { Stands (λ _. bytes_in out.new) result (spelled_line (addresses text_len (places_of labels.now)) text_len (bytes_in out.old) (seen line.now)) }
+    ensures { Stands (λ _. bytes_in out.new) result
+        (spelled_line (addresses text_len (places_of labels.now)) text_len (bytes_in out.old)
+        (seen line.now)) }
 {
     let at = line.place.address(text_len);
     match put_section(
@@ -278,7 +299,8 @@ pub(crate) fn spell_all<'a>(
     labels: &LabelPlaces<'a>,
     text_len: u32,
 ) -> Result<Output, AsmError>
-    ensures { Stands bytes_in result (all_spelled (addresses text_len (places_of labels.now)) text_len no_bytes (map seen lines.now)) }
+    ensures { Stands bytes_in result (all_spelled (addresses text_len (places_of labels.now)) text_len
+        no_bytes (map seen lines.now)) }
 {
     let mut out = Output {
         text: Vec::new(alloc),

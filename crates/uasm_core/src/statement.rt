@@ -448,7 +448,8 @@ fn all_given<'a>(
     width: Width,
     operands: &[&'a [u8]],
 ) -> Result<Vec<Given<'a>>, Refusal>
-    ensures { Answers (λ v. map given_seen v.items) result (each (given_in width) (map (λ b. b.now) operands.now)) }
+    ensures { Answers (λ v. map given_seen v.items) result
+        (each (given_in width) (map (λ b. b.now) operands.now)) }
 {
     let mut found = Vec::new(alloc);
     for o in operands {
@@ -462,7 +463,8 @@ fn all_data<'a>(
     width: Width,
     values: &[Given<'a>],
 ) -> Result<Vec<Datum<'a>>, Refusal>
-    ensures { Answers (λ v. map datum_seen v.items) result (each (datum_in width) (map given_seen values.now)) }
+    ensures { Answers (λ v. map datum_seen v.items) result
+        (each (datum_in width) (map given_seen values.now)) }
 {
     let mut found = Vec::new(alloc);
     for g in values {
