@@ -1,4 +1,5 @@
 pub mod Access
 pub mod Frames
+pub mod Image
 pub mod ProgramFile
 pub mod Words

@@ -1,0 +1,14 @@
+pub mod Half
+pub mod Steps
+pub mod Prices
+pub mod Paths
+pub mod Trades
+pub mod Mapping
+pub mod Empties
+pub mod Clearing
+pub mod Freeing
+pub mod Growing
+pub mod PriceTo
+pub mod Grown
+pub mod Pages
+pub mod Copies

@@ -1,0 +1,51 @@
+use Rattle.std.proofs.Common.{◌<◌, None, cond, refl, sym, ap, ◌∙◌, arith}
+use Rattle.std.specs.FinMap.{get}
+use Rattle.sv39_core.proofs.Words.{ltb-no}
+use Rattle.sv39_core.specs.Tree.{page_at}
+use Rattle.sv39_core.proofs.Places.{root-inside}
+use Rattle.sv39_core.proofs.Gathered.{gathered-get}
+use Rattle.addr_space.proofs.Prices.{page-got}
+use Rattle.addr_space.proofs.Trades.{space-counts}
+use Rattle.addr_space.proofs.Mapping.{small-counts}
+use Rattle.addr_space.proofs.Copies.{copied-none, copied-step, copied-all, room-for}
+use Rattle.addr_space.proofs.Space.copy.Goals as goal
+
+pub overflow_add-self : goal.overflow_add-self
+overflow_add-self c = omega (arith, small-counts c.args.ram.now c.args.self.now c.requires.belongs.whole, c.requires.belongs.good.small)
+
+pub returns-then-free-self-clause-refused : goal.returns-then-free-self-clause-refused
+returns-then-free-self-clause-refused c = (omega (arith, c.if-free-self.true, c.free.ensures c.args.ram.now c.requires.belongs.good, space-counts c.args.ram.now c.args.self.now c.requires.belongs.whole), refl, refl)
+
+pub pages-init : goal.pages-init
+pages-init c =
+    (copied-none c.args.pool.now c.empty.new.pool c.args.ram.now c.empty.new.ram c.args.self.now c.in-Ok.child c.requires.belongs c.in-Ok.ensures.made c.in-Ok.ensures.image
+    (omega (arith, c.if-free-self.false, c.free.ensures c.args.ram.now c.requires.belongs.good, space-counts c.args.ram.now c.args.self.now c.requires.belongs.whole))).0
+
+pub next_page-requires-clause-root_in : goal.next_page-requires-clause-root_in
+next_page-requires-clause-root_in c = root-inside c.pages.ram c.args.self.now.root c.pages.invariant.whole.tree
+
+pub copy_page-requires-clause-absent : goal.copy_page-requires-clause-absent
+copy_page-requires-clause-absent c =
+    let inv = c.pages.invariant in
+    let small : c.in-Some.v < 67108864 = c.in-Some.ensures.some.0 in
+    sym (page-got c.pages.ram c.pages.child.root c.in-Some.v small) ∙ ap (λ m. get m c.in-Some.v) inv.pages ∙ gathered-get (page_at c.empty.new.ram c.args.self.now.root) c.pages.from c.in-Some.v
+    ∙ ap (λ b. cond b (page_at c.empty.new.ram c.args.self.now.root c.in-Some.v) None) (ltb-no c.in-Some.v c.pages.from c.in-Some.ensures.some.1)
+
+pub copy_page-requires-clause-room : goal.copy_page-requires-clause-room
+copy_page-requires-clause-room c page =
+    let s = c.in-Some.ensures.some in
+    room-for c.empty.new.pool c.pages.pool c.empty.new.ram c.pages.ram c.in-Ok.child c.args.self.now c.pages.child c.pages.from c.in-Some.v s.2.0 page c.pages.invariant s.1 s.0 s.2.1 s.3
+
+pub pages-preserved : goal.pages-preserved
+pages-preserved c =
+    let s = c.in-Some.ensures.some in
+    copied-step c.empty.new.pool c.pages.pool c.copy_page.new.pool c.empty.new.ram c.pages.ram c.copy_page.new.ram c.in-Ok.child c.args.self.now c.pages.child c.copy_page.new.child c.pages.from c.in-Some.v s.2.0 c.pages.invariant c.copy_page.ensures.changed c.copy_page.ensures.image s.1 s.0 s.2.1 s.3
+
+pub returns-clause-image : goal.returns-clause-image
+returns-clause-image c =
+    let start = copied-none c.args.pool.now c.empty.new.pool c.args.ram.now c.empty.new.ram c.args.self.now c.in-Ok.child c.requires.belongs c.in-Ok.ensures.made c.in-Ok.ensures.image
+    (omega (arith, c.if-free-self.false, c.free.ensures c.args.ram.now c.requires.belongs.good, space-counts c.args.ram.now c.args.self.now c.requires.belongs.whole)) in
+    (copied-all c.args.pool.now c.empty.new.pool c.pages.pool c.args.ram.now c.empty.new.ram c.pages.ram c.args.self.now c.in-Ok.child c.pages.child c.pages.from c.in-Ok.ensures.made start.1 c.pages.invariant c.in_default-next_page.ensures.none).1
+
+pub returns-clause-fits : goal.returns-clause-fits
+returns-clause-fits c = omega (arith, c.if-free-self.false, c.free.ensures c.args.ram.now c.requires.belongs.good, space-counts c.args.ram.now c.args.self.now c.requires.belongs.whole)

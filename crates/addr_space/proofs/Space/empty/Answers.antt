@@ -1,0 +1,8 @@
+use Rattle.addr_space.proofs.Empties.{made-empty}
+use Rattle.addr_space.proofs.Space.empty.Goals as goal
+
+pub returns-clause-made : goal.returns-clause-made
+returns-clause-made c = (made-empty c.args.pool.now c.take.new.self c.args.ram.now c.take.new.ram c.in-Some.root c.requires.good c.in-Some.ensures.taken).0
+
+pub returns-clause-image : goal.returns-clause-image
+returns-clause-image c = (made-empty c.args.pool.now c.take.new.self c.args.ram.now c.take.new.ram c.in-Some.root c.requires.good c.in-Some.ensures.taken).1

@@ -1,0 +1,22 @@
+use Rattle.std.proofs.Common.{sym, ◌∙◌, subst}
+use Rattle.addr_space.specs.Space.{Usual}
+use Rattle.addr_space.proofs.Paths.{leaves-after}
+use Rattle.addr_space.proofs.Freeing.{page-freed}
+use Rattle.addr_space.proofs.Space.free_page.Goals.{After-free_upper-upper}
+use Rattle.addr_space.proofs.Space.free_page.Goals as goal
+
+pub free_lower-lower-requires-clause-usual : goal.free_lower-lower-requires-clause-usual
+free_lower-lower-requires-clause-usual c = leaves-after c.args.ram.now c.free_leaf.new.ram c.args.self.now.root c.args.v c.requires.belongs.whole.leaves c.free_leaf.ensures.freed.beside (subst (λ e. Usual e) (sym c.free_leaf.ensures.gone) tt)
+
+pub overflow_sub-self-2 : goal.overflow_sub-self-2
+overflow_sub-self-2 c =
+    (page-freed c.args.pool.now c.free_leaf.new.pool c.free_lower-lower.new.pool c.free_upper-upper.new.pool c.args.ram.now c.free_leaf.new.ram c.free_lower-lower.new.ram c.free_upper-upper.new.ram c.args.self.now c.args.v c.free_lower-lower.result c.free_upper-upper.result c.requires.belongs
+    c.free_leaf.ensures.freed c.free_lower-lower.ensures.freed c.free_upper-upper.ensures.freed c.free_leaf.ensures.gone c.free_leaf.ensures.pages c.free_lower-lower.ensures.entries c.free_upper-upper.ensures.entries c.free_upper-upper.ensures.lowers c.free_lower-lower.ensures.full c.free_upper-upper.ensures.full).0
+
+pub returns-clause-changed : goal.returns-clause-changed
+returns-clause-changed c =
+    (page-freed c.args.pool.now c.free_leaf.new.pool c.free_lower-lower.new.pool c.free_upper-upper.new.pool c.args.ram.now c.free_leaf.new.ram c.free_lower-lower.new.ram c.free_upper-upper.new.ram c.args.self.now c.args.v c.free_lower-lower.result c.free_upper-upper.result c.requires.belongs
+    c.free_leaf.ensures.freed c.free_lower-lower.ensures.freed c.free_upper-upper.ensures.freed c.free_leaf.ensures.gone c.free_leaf.ensures.pages c.free_lower-lower.ensures.entries c.free_upper-upper.ensures.entries c.free_upper-upper.ensures.lowers c.free_lower-lower.ensures.full c.free_upper-upper.ensures.full).1
+
+pub returns-clause-others : goal.returns-clause-others
+returns-clause-others c u ne = c.free_upper-upper.ensures.image u ∙ c.free_lower-lower.ensures.image u ∙ c.free_leaf.ensures.image u ne

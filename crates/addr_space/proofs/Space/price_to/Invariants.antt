@@ -1,0 +1,19 @@
+use Rattle.std.proofs.Common.{◌≡◌, ◌+◌, ◌*◌, ◌/◌, ◌%◌, ◌<◌, ◌≤◌, ◌-◌, None}
+use Rattle.xk_base.specs.declared.access.Rights.{Rights}
+use Rattle.sv39_core.specs.Sv39.{table_at}
+use Rattle.sv39_core.specs.Tree.{pages_of}
+use Rattle.addr_space.specs.Changes.{zeroed, with_absent}
+use Rattle.addr_space.proofs.Growing.{cost}
+use Rattle.addr_space.proofs.Space.price_to.Given as goal
+
+abbrev pub invariant-pages : goal.invariant-pages
+invariant-pages l = record {
+  from : l.first ≤ l.v;
+  in_range : l.v ≤ l.last;
+  small : l.count ≤ 3 * (l.v - l.first);
+  aligned : l.v < l.last → l.first < l.v → table_at l.ram l.self.root 2 (l.v / 512) ≡ None → l.v % 512 ≡ 0;
+  count : (perm : Rights) → cost (with_absent (pages_of l.ram l.self.root) l.first (l.v - l.first) (zeroed perm)) l.size ≡ cost (pages_of l.ram l.self.root) l.size + l.count;
+}
+
+abbrev pub decreases-pages : goal.decreases-pages
+decreases-pages l = l.last - l.v

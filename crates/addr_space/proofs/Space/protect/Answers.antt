@@ -1,0 +1,48 @@
+use Rattle.std.proofs.Common.{◌≡◌, ◌+◌, ◌*◌, ◌/◌, ◌%◌, Some, false, sym, ap, ◌∙◌, subst, arith}
+use Rattle.phys_ram.specs.Ram.{frame_at, WordWritten}
+use Rattle.sv39_core.specs.declared.entry.Entry.TheVariants.{Leaf}
+use Rattle.sv39_core.specs.Sv39.{page_entry, leaf_word}
+use Rattle.sv39_core.specs.Tree.{page_of, page_at}
+use Rattle.addr_space.specs.Space.{image_of}
+use Rattle.addr_space.specs.Changes.{protected}
+use Rattle.xk_base.specs.Image.{with_page}
+use Rattle.sv39_core.proofs.Places.{root-inside, table-owned}
+use Rattle.addr_space.proofs.Clearing.{entry-page}
+use Rattle.addr_space.proofs.Pages.{perm-changed, perm-image, page-is}
+use Rattle.xk_base.specs.declared.access.Rights.{Rights}
+use Rattle.addr_space.proofs.Copies.{leaf-allowed, some-is}
+use Rattle.addr_space.proofs.Space.protect.Goals.{After-write_u64}
+use Rattle.addr_space.proofs.Space.protect.Goals as goal
+
+pub lower_table-requires-clause-root_in : goal.lower_table-requires-clause-root_in
+lower_table-requires-clause-root_in c = root-inside c.args.ram.now c.args.self.now.root c.requires.whole.tree
+
+pub read_entry-requires-clause-table_in : goal.read_entry-requires-clause-table_in
+read_entry-requires-clause-table_in c = c.requires.whole.tree.once.inside c.in-Some.lower (table-owned c.args.ram.now c.args.self.now.root 2 (c.number-v.result / 512) c.in-Some.lower c.requires.whole.tree (omega arith) (sym c.in-Some.ensures))
+
+pub write_u64-requires-clause-frame_in : goal.write_u64-requires-clause-frame_in
+write_u64-requires-clause-frame_in c = c.requires.whole.tree.once.inside c.in-Some.lower (table-owned c.args.ram.now c.args.self.now.root 2 (c.number-v.result / 512) c.in-Some.lower c.requires.whole.tree (omega arith) (sym c.in-Some.ensures))
+
+-- the rights without U
+abbrev without_user : Rights → Rights
+without_user r = record { read = r.read; write = r.write; execute = r.execute; user = false }
+
+put : (c : After-write_u64) → WordWritten c.args.ram.now c.write_u64.new.self c.in-Some.lower (c.number-v.result % 512) (leaf_word c.in-Leaf.frame (record { read = c.in-Leaf.perm.read; write = c.in-Leaf.perm.write; execute = c.in-Leaf.perm.execute; user = false }))
+put c = subst (λ w. WordWritten c.args.ram.now c.write_u64.new.self c.in-Some.lower (c.number-v.result % 512) w) (c.bits.ensures ∙ c.leaf.ensures ∙ ap (leaf_word c.in-Leaf.frame) (c.new-kept.ensures ∙ ap without_user c.rights-rights.ensures.value)) c.write_u64.ensures
+
+entry : (c : After-write_u64) → page_entry c.args.ram.now c.args.self.now.root (512 * (c.number-v.result / 512) + c.number-v.result % 512) ≡ Leaf c.in-Leaf.frame c.in-Leaf.perm c.in-Leaf.field-2 c.in-Leaf.field-3
+entry c = entry-page c.args.ram.now c.args.self.now.root (c.number-v.result / 512) c.in-Some.lower (c.number-v.result % 512) (omega arith) (sym c.in-Some.ensures) ∙ sym c.in-Leaf.ensures
+
+pub returns-clause-changed : goal.returns-clause-changed
+returns-clause-changed c pool b =
+    perm-changed pool c.args.ram.now c.write_u64.new.self c.args.self.now c.in-Some.lower (c.number-v.result % 512) (c.number-v.result / 512) c.in-Leaf.frame c.in-Leaf.perm _ c.in-Leaf.field-2 c.in-Leaf.field-3 b (sym c.in-Some.ensures) (omega arith) (sym c.in-Leaf.ensures) (put c)
+    (leaf-allowed c.args.ram.now c.args.self.now.root _ c.in-Leaf.frame c.in-Leaf.perm c.in-Leaf.field-2 c.in-Leaf.field-3 (entry c)) c.number.ensures.range
+
+pub returns-clause-image : goal.returns-clause-image
+returns-clause-image c page there =
+    let v : 512 * (c.number-v.result / 512) + c.number-v.result % 512 ≡ c.args.vpn = omega (arith, c.number-v.ensures.value) in
+    let image = perm-image c.args.ram.now c.write_u64.new.self c.args.self.now c.in-Some.lower (c.number-v.result % 512) (c.number-v.result / 512) c.in-Leaf.frame c.in-Leaf.perm (record { read = c.in-Leaf.perm.read; write = c.in-Leaf.perm.write; execute = c.in-Leaf.perm.execute; user = false }) c.in-Leaf.field-2 c.in-Leaf.field-3 c.requires.whole (sym c.in-Some.ensures) (omega arith) (sym c.in-Leaf.ensures) (put c)
+    (leaf-allowed c.args.ram.now c.args.self.now.root _ c.in-Leaf.frame c.in-Leaf.perm c.in-Leaf.field-2 c.in-Leaf.field-3 (entry c)) c.number.ensures.range in
+    let is_page : Some (record { perm = c.in-Leaf.perm; bytes = frame_at c.args.ram.now c.in-Leaf.frame }) ≡ Some page = sym (page-is c.args.ram.now c.args.self.now _ c.in-Leaf.frame c.in-Leaf.perm c.in-Leaf.field-2 c.in-Leaf.field-3 c.requires.whole (entry c)) ∙ ap (page_at c.args.ram.now c.args.self.now.root) v ∙ there in
+    let same : record { perm = c.in-Leaf.perm; bytes = frame_at c.args.ram.now c.in-Leaf.frame } ≡ page = some-is _ page is_page in
+    image ∙ ap (λ u. with_page (image_of c.args.ram.now c.args.self.now) u (protected (record { perm = c.in-Leaf.perm; bytes = frame_at c.args.ram.now c.in-Leaf.frame }))) v ∙ ap (λ p. with_page (image_of c.args.ram.now c.args.self.now) c.args.vpn (protected p)) same

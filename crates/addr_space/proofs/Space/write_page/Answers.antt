@@ -1,0 +1,43 @@
+use Rattle.std.proofs.Common.{◌≡◌, ℕ, ◌+◌, ◌-◌, ◌<◌, List, length, take, drop, ◌++◌, set, Some, refl, sym, ap, ◌∙◌, arith}
+use Rattle.phys_ram.specs.Ram.{frame_at}
+use Rattle.sv39_core.specs.Tree.{frame_of, page_of, page_at}
+use Rattle.addr_space.specs.Space.{image_of}
+use Rattle.addr_space.specs.Changes.{overwritten}
+use Rattle.xk_base.specs.Image.{with_page}
+use Rattle.sv39_core.proofs.Places.{root-inside, page-owned}
+use Rattle.addr_space.proofs.Pages.{bytes-changed, bytes-image, page-is}
+use Rattle.addr_space.proofs.Copies.{set-stays, set-here, some-is}
+use borrow.Rule.Slice.PartMut.{post_of, Post-is}
+use Rattle.addr_space.proofs.Space.write_page.Goals as goal
+
+pub entry_of_page-requires-clause-root_in : goal.entry_of_page-requires-clause-root_in
+entry_of_page-requires-clause-root_in c = root-inside c.args.ram.now c.args.self.now.root c.requires.whole.tree
+
+pub frame_mut-page-requires : goal.frame_mut-page-requires
+frame_mut-page-requires c = c.requires.whole.tree.once.inside c.in-Leaf.frame (page-owned c.args.ram.now c.args.self.now.root c.number.result c.in-Leaf.frame c.requires.whole.tree (ap frame_of (sym c.in-Leaf.ensures)))
+
+pub returns-clause-changed : goal.returns-clause-changed
+returns-clause-changed c pool b = bytes-changed pool c.args.ram.now _ c.args.self.now c.number.result c.in-Leaf.frame c.in-Leaf.field-1 c.in-Leaf.field-2 c.in-Leaf.field-3 b (sym c.in-Leaf.ensures) (set-stays c.args.ram.now _ c.in-Leaf.frame _ refl)
+
+pub returns-clause-image : goal.returns-clause-image
+returns-clause-image c page there =
+    let ram = c.args.ram.now in
+    let f = c.in-Leaf.frame in
+    let old = frame_at ram f in
+    let at = c.args.at in
+    let bytes = c.args.bytes.now in
+    let inside : f < length ram = c.requires.whole.tree.once.inside f (page-owned ram c.args.self.now.root c.number.result f c.requires.whole.tree (ap frame_of (sym c.in-Leaf.ensures))) in
+    let new : List ℕ = take at c.frame_mut-page.result.now ++ (c.copy_from_slice.new.self ++ post_of at (at + length bytes - at) c.frame_mut-page.result.now) in
+    let is_new : new ≡ take at old ++ (bytes ++ drop (at + length bytes) old) =
+    ap (λ xs. take at xs ++ (c.copy_from_slice.new.self ++ post_of at (at + length bytes - at) xs)) c.frame_mut-page.ensures.value
+    ∙ ap (λ ys. take at old ++ (ys ++ post_of at (at + length bytes - at) old)) c.copy_from_slice.ensures.after
+    ∙ ap (λ zs. take at old ++ (bytes ++ zs)) (Post-is at (at + length bytes) old (omega arith)) in
+    let stay = set-stays ram (set ram f new) f new refl in
+    let image = bytes-image ram (set ram f new) c.args.self.now c.number.result f c.in-Leaf.field-1 c.in-Leaf.field-2 c.in-Leaf.field-3 c.requires.whole (sym c.in-Leaf.ensures) stay in
+    let v : c.number.result ≡ c.args.vpn = c.number.ensures.value in
+    let is_page : Some (record { perm = c.in-Leaf.field-1; bytes = old }) ≡ Some page = sym (page-is ram c.args.self.now c.number.result f c.in-Leaf.field-1 c.in-Leaf.field-2 c.in-Leaf.field-3 c.requires.whole (sym c.in-Leaf.ensures)) ∙ ap (page_at ram c.args.self.now.root) v ∙ there in
+    let same = some-is (record { perm = c.in-Leaf.field-1; bytes = old }) page is_page in
+    image
+    ∙ ap (λ b. with_page (image_of ram c.args.self.now) c.number.result (record { perm = c.in-Leaf.field-1; bytes = b })) (set-here ram (set ram f new) f new refl inside ∙ is_new)
+    ∙ ap (λ u. with_page (image_of ram c.args.self.now) u (overwritten (record { perm = c.in-Leaf.field-1; bytes = old }) at bytes)) v
+    ∙ ap (λ p. with_page (image_of ram c.args.self.now) c.args.vpn (overwritten p at bytes)) same

@@ -1,0 +1,47 @@
+-- Frames that go between the pool and a holder.
+use Rattle.std.proofs.Common.{◌≡◌, ◌≢◌, ℕ, ◌+◌, ◌≤◌, List, ◌++◌, length, refl, sym, ◌∙◌, arith}
+use Rattle.std.proofs.lemmas.List.{length-append}
+use Rattle.xk_base.specs.Frames.{copies, SameFrames}
+use Rattle.xk_base.proofs.Frames.{at-other, copies-one, length-once}
+use Rattle.xk_base.specs.declared.access.Rights.{Rights}
+use Rattle.phys_ram.specs.Ram.{frame_at}
+use Rattle.frame_list.specs.declared.Pool.{Pool}
+use Rattle.frame_list.specs.Pool.{free_in, Good}
+use Rattle.addr_space.specs.declared.Space.{Space}
+use Rattle.sv39_core.specs.Tree.{owned, IsTree}
+use Rattle.addr_space.specs.Steps.{Holds, SameImage, PageAdded}
+use Rattle.xk_base.specs.Image.{price}
+use Rattle.addr_space.specs.Space.{image_of, frames_of, IsSpace, Belongs, Changed}
+use Rattle.frame_list.specs.Traded.{Traded, Given}
+use Rattle.frame_list.proofs.Trades.{trade-lengths}
+use Rattle.addr_space.proofs.Prices.{length-owned, length-kinds}
+
+pub holds-of : (pool : Pool) (ram : List (List ℕ)) (space : Space) → Belongs pool ram space → Holds pool ram space.root
+holds-of pool ram space b = record { good = b.good; tree = b.whole.tree; apart = b.apart }
+
+pub trade-image : (pool pool' : Pool) (ram ram' : List (List ℕ)) (root : ℕ) → SameImage pool ram pool' ram' root → Traded pool ram pool' ram' (owned ram root) (owned ram' root)
+trade-image pool pool' ram ram' root s = record { good = s.holds.good; count = s.count; frames = s.frames; others = s.others }
+
+pub trade-added : (pool pool' : Pool) (ram ram' : List (List ℕ)) (root v : ℕ) (perm : Rights) → PageAdded pool ram pool' ram' root v perm → Traded pool ram pool' ram' (owned ram root) (owned ram' root)
+trade-added pool pool' ram ram' root v perm a = record { good = a.holds.good; count = a.count; frames = a.frames; others = a.others }
+
+-- another frame than the one given back keeps its bytes
+pub given-others : (pool pool' : Pool) (ram ram' : List (List ℕ)) (f : ℕ) → Given pool ram pool' ram' f → (g : ℕ) → g ≢ f → copies g (free_in pool ram) ≡ 0 → frame_at ram' g ≡ frame_at ram g
+given-others pool pool' ram ram' f given g ne free = given.others g free (copies-one g f ∙ at-other g f ne)
+
+pub space-price : (ram : List (List ℕ)) (space : Space) → IsSpace ram space → price (image_of ram space) ≡ length (frames_of ram space)
+space-price ram space is = sym (length-owned ram space.root space.size is.tree is.full)
+
+pub space-counts : (ram : List (List ℕ)) (space : Space) → IsSpace ram space → price (image_of ram space) ≡ space.tables + space.pages
+space-counts ram space is = omega (arith, space-price ram space is, length-kinds ram space.root, is.pages, is.tables)
+
+-- the price and the free frames
+pub free-after : (pool pool' : Pool) (ram ram' : List (List ℕ)) (space space' : Space) → Belongs pool ram space → Changed pool ram space pool' ram' space' → length (free_in pool' ram') + price (image_of ram' space') ≡ length (free_in pool ram) + price (image_of ram space)
+free-after pool pool' ram ram' space space' b c =
+    omega (arith, trade-lengths pool pool' ram ram' (frames_of ram space) (frames_of ram' space') c.traded, space-price ram space b.whole, space-price ram' space' c.whole)
+
+pub belongs-after : (pool pool' : Pool) (ram ram' : List (List ℕ)) (space space' : Space) → Belongs pool ram space → Changed pool ram space pool' ram' space' → Belongs pool' ram' space'
+belongs-after pool pool' ram ram' space space' b c = record { good = c.traded.good; whole = c.whole; apart = λ f. omega (arith, c.traded.frames f, b.apart f) }
+
+pub few : (ram : List (List ℕ)) (root : ℕ) → IsTree ram root → length (owned ram root) ≤ length ram
+few ram root tree = length-once (length ram) (owned ram root) tree.once

@@ -1,0 +1,14 @@
+use Rattle.std.proofs.Common.{◌≡◌, ◌∙◌, subst}
+use Rattle.phys_ram.specs.Ram.{WordWritten}
+use Rattle.sv39_core.specs.Sv39.{table_word}
+use Rattle.addr_space.proofs.hang.Goals as goal
+
+pub returns : goal.returns
+returns c =
+    let e : c.bits.result ≡ table_word c.in-Some.frame = c.bits.ensures ∙ c.table.ensures in
+    record {
+      mid = c.take.new.ram;
+      taken = c.in-Some.ensures.taken;
+      put = subst (λ v. WordWritten c.take.new.ram c.write_u64.new.self c.args.table c.args.i v) e c.write_u64.ensures;
+      small = c.number.ensures.range;
+    }

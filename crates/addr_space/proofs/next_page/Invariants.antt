@@ -1,0 +1,14 @@
+use Rattle.std.proofs.Common.{◌≡◌, ℕ, ◌<◌, ◌≤◌, ◌-◌, None}
+use Rattle.sv39_core.specs.Sv39.{page_entry}
+use Rattle.sv39_core.specs.Tree.{frame_of}
+use Rattle.addr_space.proofs.next_page.Given as goal
+
+abbrev pub invariant-pages : goal.invariant-pages
+invariant-pages l = record {
+  from : l.from ≤ l.v;
+  in_range : l.v ≤ 67108864;
+  none : (u : ℕ) → l.from ≤ u → u < l.v → frame_of (page_entry l.ram l.root u) ≡ None;
+}
+
+abbrev pub decreases-pages : goal.decreases-pages
+decreases-pages l = 67108864 - l.v

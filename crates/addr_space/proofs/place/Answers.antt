@@ -1,0 +1,16 @@
+use Rattle.std.proofs.Common.{◌≡◌, ◌∙◌, subst}
+use Rattle.phys_ram.specs.Ram.{WordWritten}
+use Rattle.sv39_core.specs.Sv39.{leaf_word}
+use Rattle.addr_space.proofs.place.Goals as goal
+
+pub returns-clause-placed : goal.returns-clause-placed
+returns-clause-placed c =
+    let e : c.bits.result ≡ leaf_word c.in-Some.frame c.args.perm = c.bits.ensures ∙ c.leaf.ensures in (
+      c.in-Some.frame,
+      record {
+        mid = c.take.new.ram;
+        taken = c.in-Some.ensures.taken;
+        put = subst (λ v. WordWritten c.take.new.ram c.write_u64.new.self c.args.table c.args.i v) e c.write_u64.ensures;
+        small = c.number.ensures.range;
+      },
+    )

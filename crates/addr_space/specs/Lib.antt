@@ -1,0 +1,3 @@
+pub mod Space
+pub mod Changes
+pub mod Steps

@@ -1,0 +1,625 @@
+// Address spaces.
+#![tactic(auto)]
+
+ghost use Rattle.std.specs.Prelude.{◌≡◌, ◌≢◌, ℕ, ◌+◌, ◌*◌, ◌/◌, ◌%◌, ◌^◌, ◌<◌, ◌≤◌, length, Some, None, true, IfOk, IfErr, IfSome, IfNone, List, [], ◌-◌, option_map, false, take, drop};
+ghost use Rattle.xk_base.specs.Frames.{copies};
+ghost use Rattle.frame_list.specs.Pool.{free_in, Good};
+ghost use Rattle.sv39_core.specs.Sv39.{table_at, page_entry, entry_at, table_of};
+ghost use Rattle.xk_base.specs.Access.{IsPerm};
+ghost use Rattle.xk_base.specs.declared.access.Rights.{Rights};
+ghost use Rattle.xk_base.specs.Image.{Page, price, with_page, no_pages};
+ghost use Rattle.addr_space.specs.Changes.{zeroed, grown, perm_of_page, shrunk, protected, overwritten};
+ghost use Rattle.addr_space.specs.Steps.{Hanging, Placing, Holds, SameImage, PageAdded, missing, rise, Beside, Cleared, Freed};
+ghost use Rattle.sv39_core.specs.Tree.{page_at, pages_of, page_frames, frame_of};
+ghost use Rattle.addr_space.specs.Space.{image_of, Belongs, Changed, Unchanged, Made, IsSpace, Usual, frames_of};
+ghost use Rattle.frame_list.specs.Traded.{Traded};
+ghost use Rattle.std.specs.FinMap.{len};
+ghost use Rattle.sv39_core.specs.declared.entry.Entry.TheVariants.{Invalid};
+
+use frame_list::Pool;
+use phys_ram::Ram;
+use sv39_core::{Entry, Pte, read_entry};
+use xk_base::{Frame, NoFrames, Perm, Rights, Vpn};
+
+/// The pages of a process, as tables in frames.
+#[derive(Drop)]
+pub struct Space {
+    root: Frame,
+    size: u64,
+    pages: u32,
+    tables: u32,
+}
+
+impl Space {
+    /// A space without pages.
+    pub fn empty(pool: &mut Pool, ram: &mut Ram) -> Result<Space, NoFrames>
+        requires good { Good pool.old ram.old }
+        ensures made { IfOk result (λ space. Made pool.old ram.old pool.new ram.new space) }
+        ensures image { IfOk result (λ space. image_of ram.new space ≡ no_pages) }
+        ensures refused { IfErr result (λ _. (length (free_in pool.old ram.old) ≡ 0) × (pool.new ≡ pool.old) × (ram.new ≡ ram.old)) }
+    {
+        let Some(root) = pool.take(ram) else {
+            return Err(NoFrames);
+        };
+        Ok(Space {
+            root,
+            size: 0,
+            pages: 0,
+            tables: 1,
+        })
+    }
+
+    /// The frame of the uppermost table.
+    pub fn root(&self) -> Frame
+        ensures { result ≡ self.now.root }
+    {
+        self.root
+    }
+
+    /// The size in bytes.
+    pub fn size(&self) -> u64
+        ensures { result ≡ self.now.size }
+    {
+        self.size
+    }
+
+    /// How many pages there are.
+    pub fn pages(&self) -> u32
+        ensures { (ram : List (List ℕ)) → IsSpace ram self.now → result ≡ len (pages_of ram self.now.root) }
+    {
+        self.pages
+    }
+
+    /// What a process may do with a page; none where there is no page.
+    pub fn perm(&self, ram: &Ram, vpn: Vpn) -> Option<Perm>
+        requires whole { IsSpace ram.now self.now }
+        ensures { result ≡ option_map perm_of_page (page_at ram.now self.now.root vpn) }
+    {
+        let Entry::Leaf(_, perm, _, _) = entry_of_page(ram, self.root, vpn.number() as usize) else {
+            return None;
+        };
+        Some(perm)
+    }
+}
+
+/// The entry of a page.
+fn entry_of_page(ram: &Ram, root: Frame, v: usize) -> Entry
+    requires root_in { root < length ram.now }
+    requires page { v < 2 ^ 26 }
+    ensures { result ≡ page_entry ram.now root v }
+{
+    let Entry::Table(upper) = read_entry(ram, root, v / 262144) else {
+        return Entry::Invalid;
+    };
+    let Entry::Table(lower) = read_entry(ram, upper, v / 512 % 512) else {
+        return Entry::Invalid;
+    };
+    read_entry(ram, lower, v % 512)
+}
+
+/// Takes a free frame and hangs it, a table of zeros, into an entry of a table.
+fn hang(pool: &mut Pool, ram: &mut Ram, table: Frame, i: usize) -> Frame
+    requires good { Good pool.old ram.old }
+    requires some_free { 0 < length (free_in pool.old ram.old) }
+    requires table_in { table < length ram.old }
+    requires entry_in { i < 512 }
+    ensures { Hanging pool.old ram.old pool.new ram.new table i result }
+{
+    let Some(frame) = pool.take(ram) else {
+        unreachable!();
+    };
+    ram.write_u64(table, i, Pte::table(frame).bits());
+    let _ = frame.number();
+    frame
+}
+
+/// The upper table of an index, made where there is none.
+fn upper_for(pool: &mut Pool, ram: &mut Ram, root: Frame, v: usize) -> Frame
+    requires holds { Holds pool.old ram.old root }
+    requires page { v < 2 ^ 26 }
+    requires room { table_at ram.old root 1 (v / 262144) ≡ None → 0 < length (free_in pool.old ram.old) }
+    ensures same { SameImage pool.old ram.old pool.new ram.new root }
+    ensures beside { Beside ram.old ram.new root v }
+    ensures found { table_at ram.new root 1 (v / 262144) ≡ Some result }
+    ensures lowers { (p : ℕ) → table_at ram.new root 2 p ≡ table_at ram.old root 2 p }
+    ensures left { length (free_in pool.old ram.old) ≤ length (free_in pool.new ram.new) + missing (table_at ram.old root 1 (v / 262144)) }
+{
+    let i = v / 262144;
+    if let Entry::Table(table) = read_entry(ram, root, i) {
+        return table;
+    }
+    hang(pool, ram, root, i)
+}
+
+/// The lower table of a page, made where there is none.
+fn lower_for(pool: &mut Pool, ram: &mut Ram, root: Frame, upper: Frame, v: usize) -> Frame
+    requires holds { Holds pool.old ram.old root }
+    requires page { v < 2 ^ 26 }
+    requires upper_is { table_at ram.old root 1 (v / 262144) ≡ Some upper }
+    requires room { table_at ram.old root 2 (v / 512) ≡ None → 0 < length (free_in pool.old ram.old) }
+    ensures same { SameImage pool.old ram.old pool.new ram.new root }
+    ensures beside { Beside ram.old ram.new root v }
+    ensures found { table_at ram.new root 2 (v / 512) ≡ Some result }
+    ensures left { length (free_in pool.old ram.old) ≤ length (free_in pool.new ram.new) + missing (table_at ram.old root 2 (v / 512)) }
+{
+    let _ = root.number();
+    if let Entry::Table(table) = read_entry(ram, upper, v / 512 % 512) {
+        return table;
+    }
+    hang(pool, ram, upper, v / 512 % 512)
+}
+
+/// Takes a free frame as the page of an entry of a table.
+fn place(pool: &mut Pool, ram: &mut Ram, table: Frame, i: usize, perm: Perm)
+    requires good { Good pool.old ram.old }
+    requires some_free { 0 < length (free_in pool.old ram.old) }
+    requires table_in { table < length ram.old }
+    requires entry_in { i < 512 }
+    ensures allowed { IsPerm perm }
+    ensures placed { (g : ℕ) × Placing pool.old ram.old pool.new ram.new table i g perm }
+{
+    let Some(frame) = pool.take(ram) else {
+        unreachable!();
+    };
+    ram.write_u64(table, i, Pte::leaf(frame, perm).bits());
+    let _ = (frame.number(), perm.rights());
+}
+
+/// How many frames a page would take.
+fn frames_for(ram: &Ram, root: Frame, v: usize) -> u32
+    requires root_in { root < length ram.now }
+    requires page { v < 2 ^ 26 }
+    ensures { result ≡ rise ram.now root v }
+{
+    let Entry::Table(upper) = read_entry(ram, root, v / 262144) else {
+        return 3;
+    };
+    let Entry::Table(_) = read_entry(ram, upper, v / 512 % 512) else {
+        return 2;
+    };
+    1
+}
+
+impl Space {
+    /// Maps a page of zeros.
+    pub fn map_zeroed(
+        &mut self,
+        pool: &mut Pool,
+        ram: &mut Ram,
+        vpn: Vpn,
+        perm: Perm,
+    ) -> Result<(), NoFrames>
+        requires belongs { Belongs pool.old ram.old self.old }
+        requires absent { page_at ram.old self.old.root vpn ≡ None }
+        ensures changed { IfOk result (λ _. Changed pool.old ram.old self.old pool.new ram.new self.new) }
+        ensures image { IfOk result (λ _. image_of ram.new self.new ≡ with_page (image_of ram.old self.old) vpn (zeroed perm)) }
+        ensures fits { IfOk result (λ _. price (with_page (image_of ram.old self.old) vpn (zeroed perm)) ≤ price (image_of ram.old self.old) + length (free_in pool.old ram.old)) }
+        ensures refused { IfErr result (λ _. (price (image_of ram.old self.old) + length (free_in pool.old ram.old) < price (with_page (image_of ram.old self.old) vpn (zeroed perm))) × Unchanged pool.old ram.old self.old pool.new ram.new self.new) }
+    {
+        let v = vpn.number() as usize;
+        let needed = frames_for(ram, self.root, v);
+        if pool.free() < needed {
+            return Err(NoFrames);
+        }
+        let upper = upper_for(pool, ram, self.root, v);
+        let lower = lower_for(pool, ram, self.root, upper, v);
+        place(pool, ram, lower, v % 512, perm);
+        self.pages += 1;
+        self.tables += needed - 1;
+        Ok(())
+    }
+}
+
+/// Makes an entry of a table blank and gives back the frame that it led to.
+fn clear(pool: &mut Pool, ram: &mut Ram, table: Frame, i: usize, frame: Frame)
+    requires good { Good pool.old ram.old }
+    requires table_in { table < length ram.old }
+    requires table_taken { copies table (free_in pool.old ram.old) ≡ 0 }
+    requires entry_in { i < 512 }
+    requires frame_in { frame < length ram.old }
+    requires frame_taken { copies frame (free_in pool.old ram.old) ≡ 0 }
+    ensures { Cleared pool.old ram.old pool.new ram.new table i frame }
+{
+    ram.write_u64(table, i, 0);
+    pool.give(ram, frame);
+}
+
+/// The upper table on the way to a page.
+fn upper_table(ram: &Ram, root: Frame, v: usize) -> Option<Frame>
+    requires root_in { root < length ram.now }
+    requires page { v < 2 ^ 26 }
+    ensures { result ≡ table_at ram.now root 1 (v / 262144) }
+{
+    let Entry::Table(upper) = read_entry(ram, root, v / 262144) else {
+        return None;
+    };
+    Some(upper)
+}
+
+/// The lower table on the way to a page.
+fn lower_table(ram: &Ram, root: Frame, v: usize) -> Option<Frame>
+    requires root_in { root < length ram.now }
+    requires page { v < 2 ^ 26 }
+    ensures { result ≡ table_at ram.now root 2 (v / 512) }
+{
+    let Entry::Table(upper) = read_entry(ram, root, v / 262144) else {
+        return None;
+    };
+    let Entry::Table(lower) = read_entry(ram, upper, v / 512 % 512) else {
+        return None;
+    };
+    Some(lower)
+}
+
+/// Whether an entry of a table leads to a page.
+fn has_page(ram: &Ram, table: Frame) -> bool
+    requires table_in { table < length ram.now }
+    ensures none { result ≡ false → (k : ℕ) → k < 512 → frame_of (entry_at ram.now table k) ≡ None }
+    ensures some { result ≡ true → (k : ℕ) × (f : ℕ) × (k < 512) × (frame_of (entry_at ram.now table k) ≡ Some f) }
+{
+    for i in 0..512 {
+        if let Entry::Leaf(..) = read_entry(ram, table, i) {
+            return true;
+        }
+    }
+    false
+}
+
+/// Whether an entry of a table leads to a table.
+fn has_table(ram: &Ram, table: Frame) -> bool
+    requires table_in { table < length ram.now }
+    ensures none { result ≡ false → (k : ℕ) → k < 512 → table_of (entry_at ram.now table k) ≡ None }
+    ensures some { result ≡ true → (k : ℕ) × (f : ℕ) × (k < 512) × (table_of (entry_at ram.now table k) ≡ Some f) }
+{
+    for i in 0..512 {
+        if let Entry::Table(_) = read_entry(ram, table, i) {
+            return true;
+        }
+    }
+    false
+}
+
+/// Frees a page, but not the tables on the way to it.
+fn free_leaf(pool: &mut Pool, ram: &mut Ram, root: Frame, v: usize)
+    requires holds { Holds pool.old ram.old root }
+    requires page { v < 2 ^ 26 }
+    requires there { (f : ℕ) × (frame_of (page_entry ram.old root v) ≡ Some f) }
+    ensures freed { Freed pool.old ram.old pool.new ram.new root v 1 }
+    ensures gone { page_entry ram.new root v ≡ Invalid }
+    ensures pages { length (page_frames ram.old root) ≡ 1 + length (page_frames ram.new root) }
+    ensures image { (u : ℕ) → (u ≡ v → ⊥) → page_at ram.new root u ≡ page_at ram.old root u }
+{
+    let Some(lower) = lower_table(ram, root, v) else {
+        unreachable!();
+    };
+    let Entry::Leaf(frame, ..) = read_entry(ram, lower, v % 512) else {
+        unreachable!();
+    };
+    clear(pool, ram, lower, v % 512, frame);
+}
+
+/// Frees the lower table on the way to a page where it maps nothing; how many frames that gave.
+fn free_lower(pool: &mut Pool, ram: &mut Ram, root: Frame, v: usize) -> u32
+    requires holds { Holds pool.old ram.old root }
+    requires page { v < 2 ^ 26 }
+    requires usual { (u : ℕ) → Usual (page_entry ram.old root u) }
+    ensures freed { Freed pool.old ram.old pool.new ram.new root v result }
+    ensures few { result ≤ 1 }
+    ensures full { (f : ℕ) → table_at ram.new root 2 (v / 512) ≡ Some f → (i : ℕ) × (g : ℕ) × (i < 512) × (frame_of (page_entry ram.new root (512 * (v / 512) + i)) ≡ Some g) }
+    ensures entries { (u : ℕ) → page_entry ram.new root u ≡ page_entry ram.old root u }
+    ensures image { (u : ℕ) → page_at ram.new root u ≡ page_at ram.old root u }
+{
+    let Some(upper) = upper_table(ram, root, v) else {
+        return 0;
+    };
+    let Some(lower) = lower_table(ram, root, v) else {
+        return 0;
+    };
+    if has_page(ram, lower) {
+        return 0;
+    }
+    clear(pool, ram, upper, v / 512 % 512, lower);
+    1
+}
+
+/// Frees the upper table on the way to a page where it maps nothing; how many frames that gave.
+fn free_upper(pool: &mut Pool, ram: &mut Ram, root: Frame, v: usize) -> u32
+    requires holds { Holds pool.old ram.old root }
+    requires page { v < 2 ^ 26 }
+    ensures freed { Freed pool.old ram.old pool.new ram.new root v result }
+    ensures few { result ≤ 1 }
+    ensures full { (f : ℕ) → table_at ram.new root 1 (v / 262144) ≡ Some f → (i : ℕ) × (g : ℕ) × (i < 512) × (table_at ram.new root 2 (512 * (v / 262144) + i) ≡ Some g) }
+    ensures lowers { (p : ℕ) → table_at ram.new root 2 p ≡ table_at ram.old root 2 p }
+    ensures entries { (u : ℕ) → page_entry ram.new root u ≡ page_entry ram.old root u }
+    ensures image { (u : ℕ) → page_at ram.new root u ≡ page_at ram.old root u }
+{
+    let Some(upper) = upper_table(ram, root, v) else {
+        return 0;
+    };
+    if has_table(ram, upper) {
+        return 0;
+    }
+    clear(pool, ram, root, v / 262144, upper);
+    1
+}
+
+/// The least page from a place on.
+fn next_page(ram: &Ram, root: Frame, from: usize) -> Option<usize>
+    requires root_in { root < length ram.now }
+    requires from_in { from ≤ 2 ^ 26 }
+    ensures some { IfSome result (λ v. (v < 2 ^ 26) × (from ≤ v) × ((f : ℕ) × (frame_of (page_entry ram.now root v) ≡ Some f)) × ((u : ℕ) → from ≤ u → u < v → frame_of (page_entry ram.now root u) ≡ None)) }
+    ensures none { IfNone result ((u : ℕ) → from ≤ u → u < 2 ^ 26 → frame_of (page_entry ram.now root u) ≡ None) }
+{
+    let mut v = from;
+    'pages: while v < 67108864 {
+        let Some(_) = upper_table(ram, root, v) else {
+            v = (v / 262144 + 1) * 262144;
+            continue 'pages;
+        };
+        let Some(_) = lower_table(ram, root, v) else {
+            v = (v / 512 + 1) * 512;
+            continue 'pages;
+        };
+        if let Entry::Leaf(..) = entry_of_page(ram, root, v) {
+            return Some(v);
+        }
+        v += 1;
+    }
+    None
+}
+
+impl Space {
+    /// Frees a page, and each table that then maps nothing.
+    fn free_page(&mut self, pool: &mut Pool, ram: &mut Ram, v: usize)
+        requires belongs { Belongs pool.old ram.old self.old }
+        requires page { v < 2 ^ 26 }
+        requires there { (f : ℕ) × (frame_of (page_entry ram.old self.old.root v) ≡ Some f) }
+        ensures changed { Changed pool.old ram.old self.old pool.new ram.new self.new }
+        ensures size { self.new.size ≡ self.old.size }
+        ensures fewer { self.old.pages ≡ 1 + self.new.pages }
+        ensures others { (u : ℕ) → (u ≡ v → ⊥) → page_at ram.new self.old.root u ≡ page_at ram.old self.old.root u }
+    {
+        free_leaf(pool, ram, self.root, v);
+        let lower = free_lower(pool, ram, self.root, v);
+        let upper = free_upper(pool, ram, self.root, v);
+        self.pages -= 1;
+        self.tables -= lower + upper;
+    }
+
+    /// Frees each page from a place on, and each table that then maps nothing.
+    fn free_from(&mut self, pool: &mut Pool, ram: &mut Ram, first: usize)
+        requires belongs { Belongs pool.old ram.old self.old }
+        requires first_in { first ≤ 2 ^ 26 }
+        ensures changed { Changed pool.old ram.old self.old pool.new ram.new self.new }
+        ensures size { self.new.size ≡ self.old.size }
+        ensures below { (u : ℕ) → u < first → page_at ram.new self.old.root u ≡ page_at ram.old self.old.root u }
+        ensures above { (u : ℕ) → first ≤ u → u < 2 ^ 26 → frame_of (page_entry ram.new self.old.root u) ≡ None }
+    {
+        'pages: while let Some(v) = next_page(ram, self.root, first) {
+            self.free_page(pool, ram, v);
+        }
+    }
+
+    /// Makes the size smaller.
+    pub fn shrink(&mut self, pool: &mut Pool, ram: &mut Ram, size: u64)
+        requires belongs { Belongs pool.old ram.old self.old }
+        requires less { size ≤ self.old.size }
+        requires limit { size ≤ 2 ^ 38 - 8192 }
+        ensures changed { Changed pool.old ram.old self.old pool.new ram.new self.new }
+        ensures image { image_of ram.new self.new ≡ shrunk (image_of ram.old self.old) size }
+    {
+        let first = ((size + 4095) / 4096) as usize;
+        self.free_from(pool, ram, first);
+        self.size = size;
+    }
+
+    /// Gives back all frames.
+    pub fn drop_all(mut self, pool: &mut Pool, ram: &mut Ram)
+        requires belongs { Belongs pool.old ram.old self }
+        ensures { Traded pool.old ram.old pool.new ram.new (frames_of ram.old self) [] }
+    {
+        self.free_from(pool, ram, 0);
+        pool.give(ram, self.root);
+    }
+}
+
+impl Space {
+    /// How many frames a growth to a size would take.
+    pub fn price_to(&self, ram: &Ram, size: u64) -> u32
+        requires whole { IsSpace ram.now self.now }
+        requires more { self.now.size ≤ size }
+        requires limit { size ≤ 2 ^ 38 - 8192 }
+        ensures { (perm : Rights) → price (grown (image_of ram.now self.now) size perm) ≡ price (image_of ram.now self.now) + result }
+    {
+        let first = ((self.size + 4095) / 4096) as usize;
+        let last = ((size + 4095) / 4096) as usize;
+        let mut v = first;
+        let mut count: u32 = 0;
+        'pages: while v < last {
+            let Some(_) = lower_table(ram, self.root, v) else {
+                let end = ((v / 512 + 1) * 512).min(last);
+                count += new_upper(ram, self.root, v, first) + 1 + (end - v) as u32;
+                v = end;
+                continue 'pages;
+            };
+            count += new_page(ram, self.root, v);
+            v += 1;
+        }
+        count
+    }
+
+    /// Makes the size greater, with pages of zeros where there are none.
+    pub fn grow(
+        &mut self,
+        pool: &mut Pool,
+        ram: &mut Ram,
+        size: u64,
+        perm: Perm,
+    ) -> Result<(), NoFrames>
+        requires belongs { Belongs pool.old ram.old self.old }
+        requires more { self.old.size ≤ size }
+        requires limit { size ≤ 2 ^ 38 - 8192 }
+        ensures changed { IfOk result (λ _. Changed pool.old ram.old self.old pool.new ram.new self.new) }
+        ensures image { IfOk result (λ _. image_of ram.new self.new ≡ grown (image_of ram.old self.old) size perm) }
+        ensures fits { IfOk result (λ _. price (grown (image_of ram.old self.old) size perm) ≤ price (image_of ram.old self.old) + length (free_in pool.old ram.old)) }
+        ensures refused { IfErr result (λ _. (price (image_of ram.old self.old) + length (free_in pool.old ram.old) < price (grown (image_of ram.old self.old) size perm)) × Unchanged pool.old ram.old self.old pool.new ram.new self.new) }
+    {
+        let needed = self.price_to(ram, size);
+        if pool.free() < needed {
+            return Err(NoFrames);
+        }
+        let first = ((self.size + 4095) / 4096) as u32;
+        let last = ((size + 4095) / 4096) as u32;
+        for v in first..last {
+            let vpn = Vpn::new(v);
+            if let None = self.perm(ram, vpn) {
+                let Ok(()) = self.map_zeroed(pool, ram, vpn, perm) else {
+                    unreachable!();
+                };
+            }
+        }
+        self.size = size;
+        Ok(())
+    }
+}
+
+/// Whether a growth from a place on needs an upper table at a page.
+fn new_upper(ram: &Ram, root: Frame, v: usize, first: usize) -> u32
+    requires root_in { root < length ram.now }
+    requires page { v < 2 ^ 26 }
+    ensures few { result ≤ 1 }
+    ensures there { table_at ram.now root 1 (v / 262144) ≢ None → result ≡ 0 }
+    ensures later { (v ≡ first → ⊥) → (v % 262144 ≡ 0 → ⊥) → result ≡ 0 }
+    ensures new { table_at ram.now root 1 (v / 262144) ≡ None → (v ≢ first → v % 262144 ≡ 0) → result ≡ 1 }
+{
+    if let Some(_) = upper_table(ram, root, v) {
+        return 0;
+    }
+    if v == first {
+        return 1;
+    }
+    if v % 262144 == 0 {
+        return 1;
+    }
+    0
+}
+
+/// Whether a growth needs a page.
+fn new_page(ram: &Ram, root: Frame, v: usize) -> u32
+    requires root_in { root < length ram.now }
+    requires page { v < 2 ^ 26 }
+    ensures few { result ≤ 1 }
+    ensures there { (f : ℕ) → frame_of (page_entry ram.now root v) ≡ Some f → result ≡ 0 }
+    ensures new { frame_of (page_entry ram.now root v) ≡ None → result ≡ 1 }
+{
+    if let Entry::Leaf(..) = entry_of_page(ram, root, v) {
+        return 0;
+    }
+    1
+}
+
+impl Space {
+    /// A new space with the same image.
+    pub fn copy(&self, pool: &mut Pool, ram: &mut Ram) -> Result<Space, NoFrames>
+        requires belongs { Belongs pool.old ram.old self.now }
+        ensures made { IfOk result (λ child. Made pool.old ram.old pool.new ram.new child) }
+        ensures image { IfOk result (λ child. image_of ram.new child ≡ image_of ram.old self.now) }
+        ensures fits { IfOk result (λ _. price (image_of ram.old self.now) ≤ length (free_in pool.old ram.old)) }
+        ensures refused { IfErr result (λ _. (length (free_in pool.old ram.old) < price (image_of ram.old self.now)) × (pool.new ≡ pool.old) × (ram.new ≡ ram.old)) }
+    {
+        if pool.free() < self.tables + self.pages {
+            return Err(NoFrames);
+        }
+        let Ok(mut child) = Space::empty(pool, ram) else {
+            unreachable!();
+        };
+        let mut from = 0;
+        'pages: while let Some(v) = next_page(ram, self.root, from) {
+            self.copy_page(pool, ram, &mut child, v);
+            from = v + 1;
+        }
+        child.size = self.size;
+        Ok(child)
+    }
+
+    /// Copies a page into another space, where there is none.
+    fn copy_page(&self, pool: &mut Pool, ram: &mut Ram, child: &mut Space, v: usize)
+        requires whole { IsSpace ram.old self.now }
+        requires belongs { Belongs pool.old ram.old child.old }
+        requires apart { (f : ℕ) → 1 ≤ copies f (frames_of ram.old self.now) → copies f (free_in pool.old ram.old) + copies f (frames_of ram.old child.old) ≡ 0 }
+        requires page { v < 2 ^ 26 }
+        requires there { (f : ℕ) × (frame_of (page_entry ram.old self.now.root v) ≡ Some f) }
+        requires absent { page_at ram.old child.old.root v ≡ None }
+        requires room { (page : Page) → price (with_page (image_of ram.old child.old) v page) ≤ price (image_of ram.old child.old) + length (free_in pool.old ram.old) }
+        ensures changed { Changed pool.old ram.old child.old pool.new ram.new child.new }
+        ensures image { (page : Page) → page_at ram.old self.now.root v ≡ Some page → image_of ram.new child.new ≡ with_page (image_of ram.old child.old) v page }
+    {
+        let Entry::Leaf(source, perm, ..) = entry_of_page(ram, self.root, v) else {
+            unreachable!();
+        };
+        let Ok(()) = child.map_zeroed(pool, ram, Vpn::new(v as u32), perm) else {
+            unreachable!();
+        };
+        let Entry::Leaf(target, ..) = entry_of_page(ram, child.root, v) else {
+            unreachable!();
+        };
+        ram.copy_frame(source, target);
+    }
+}
+
+impl Space {
+    /// Keeps the process from a page.
+    pub fn protect(&self, ram: &mut Ram, vpn: Vpn)
+        requires whole { IsSpace ram.old self.now }
+        requires there { (page : Page) × (page_at ram.old self.now.root vpn ≡ Some page) }
+        ensures changed { (pool : Pool) → Belongs pool ram.old self.now → Changed pool ram.old self.now pool ram.new self.now }
+        ensures image { (page : Page) → page_at ram.old self.now.root vpn ≡ Some page → image_of ram.new self.now ≡ with_page (image_of ram.old self.now) vpn (protected page) }
+    {
+        let v = vpn.number() as usize;
+        let Some(lower) = lower_table(ram, self.root, v) else {
+            unreachable!();
+        };
+        let Entry::Leaf(frame, perm, ..) = read_entry(ram, lower, v % 512) else {
+            unreachable!();
+        };
+        let _ = frame.number();
+        let rights = perm.rights();
+        let kept = Perm::new(Rights {
+            read: rights.read,
+            write: rights.write,
+            execute: rights.execute,
+            user: false,
+        });
+        ram.write_u64(lower, v % 512, Pte::leaf(frame, kept).bits());
+    }
+
+    /// Reads bytes of a page.
+    pub fn read_page(&self, ram: &Ram, vpn: Vpn, at: usize, out: &mut [u8])
+        requires whole { IsSpace ram.now self.now }
+        requires there { (page : Page) × (page_at ram.now self.now.root vpn ≡ Some page) }
+        requires fits { at + length out.old ≤ 4096 }
+        ensures { (page : Page) → page_at ram.now self.now.root vpn ≡ Some page → out.new ≡ take (length out.old) (drop at page.bytes) }
+    {
+        let Entry::Leaf(frame, ..) = entry_of_page(ram, self.root, vpn.number() as usize) else {
+            unreachable!();
+        };
+        let bytes = ram.frame(frame);
+        let n = out.len();
+        out.copy_from_slice(&bytes[at..at + n]);
+    }
+
+    /// Writes bytes of a page.
+    pub fn write_page(&self, ram: &mut Ram, vpn: Vpn, at: usize, bytes: &[u8])
+        requires whole { IsSpace ram.old self.now }
+        requires there { (page : Page) × (page_at ram.old self.now.root vpn ≡ Some page) }
+        requires fits { at + length bytes.now ≤ 4096 }
+        ensures changed { (pool : Pool) → Belongs pool ram.old self.now → Changed pool ram.old self.now pool ram.new self.now }
+        ensures image { (page : Page) → page_at ram.old self.now.root vpn ≡ Some page → image_of ram.new self.now ≡ with_page (image_of ram.old self.now) vpn (overwritten page at bytes.now) }
+    {
+        let Entry::Leaf(frame, ..) = entry_of_page(ram, self.root, vpn.number() as usize) else {
+            unreachable!();
+        };
+        let page = ram.frame_mut(frame);
+        page[at..at + bytes.len()].copy_from_slice(bytes);
+    }
+}
