@@ -9,9 +9,8 @@ use Rattle.frame_list.specs.Pool.{free_in}
 use Rattle.addr_space.specs.declared.Space.{Space}
 use Rattle.xk_base.specs.Image.{Page, Image, price, with_page}
 use Rattle.addr_space.specs.Changes.{zeroed, with_absent, perm_of_page}
-use Rattle.sv39_core.specs.Tree.{page_at, pages_of}
+use Rattle.sv39_core.specs.Tree.{pages_of}
 use Rattle.addr_space.specs.Space.{image_of, Belongs, Changed}
-use Rattle.addr_space.proofs.Prices.{page-got}
 use Rattle.addr_space.proofs.Growing.{cost, later-more}
 use Rattle.addr_space.proofs.PriceTo.{cost-size}
 use Rattle.addr_space.proofs.Trades.{free-after, belongs-after}
@@ -46,11 +45,11 @@ absent-step pages m first v page b ge is some =
 
 pub no-refusal : (pool0 pool1 : Pool) (ram0 ram1 : List (List ℕ)) (s0 s1 : Space) (size v first last need free : ℕ) (perm : Rights) → Belongs pool0 ram0 s0 → Changed pool0 ram0 s0 pool1 ram1 s1
     → pages_of ram1 s0.root ≡ with_absent (pages_of ram0 s0.root) first (v - first) (zeroed perm) → first ≤ v → v < last → last ≤ 67108864
-    → cost (with_absent (pages_of ram0 s0.root) first (last - first) (zeroed perm)) size ≡ price (image_of ram0 s0) + need → need ≤ free → free ≡ length (free_in pool0 ram0) → page_at ram1 s1.root v ≡ None
+    → cost (with_absent (pages_of ram0 s0.root) first (last - first) (zeroed perm)) size ≡ price (image_of ram0 s0) + need → need ≤ free → free ≡ length (free_in pool0 ram0) → get (pages_of ram1 s1.root) v ≡ None
     → price (image_of ram1 s1) + length (free_in pool1 ram1) < price (with_page (image_of ram1 s1) v (zeroed perm)) → ⊥
 no-refusal pool0 pool1 ram0 ram1 s0 s1 size v first last need free perm b c pages ge lt small price_to enough free_is none refused =
     let is : pages_of ram1 s1.root ≡ with_absent (pages_of ram0 s0.root) first (v - first) (zeroed perm) = ap (pages_of ram1) c.root ∙ pages in
-    let next = absent-step (pages_of ram0 s0.root) (pages_of ram1 s1.root) first v (zeroed perm) false ge is (ap is_some (page-got ram1 s1.root v (omega arith) ∙ none)) in
+    let next = absent-step (pages_of ram0 s0.root) (pages_of ram1 s1.root) first v (zeroed perm) false ge is (ap is_some none) in
     let total : v + 1 - first + (last - (v + 1)) ≡ last - first = omega arith in
     let more = later-more (pages_of ram0 s0.root) first (v + 1 - first) (last - (v + 1)) size (zeroed perm) (omega arith) in
     omega (arith, refused, free-after pool0 pool1 ram0 ram1 s0 s1 b c, free_is, enough, price_to, more, ap (λ m. cost m s1.size) next, cost-size (with_absent (pages_of ram0 s0.root) first (v + 1 - first) (zeroed perm)) s1.size size, ap (λ n. cost (with_absent (pages_of ram0 s0.root) first n (zeroed perm)) size) total)
@@ -72,10 +71,10 @@ pub so_far-none : (pool : Pool) (ram : List (List ℕ)) (s : Space) (first : ℕ
 so_far-none pool ram s first perm b = record { belongs = b; changed = changed-none pool ram s b; size = refl; pages = absent-start (pages_of ram s.root) first (zeroed perm) }
 
 pub so_far-new : (pool0 pool1 pool2 : Pool) (ram0 ram1 ram2 : List (List ℕ)) (s0 s1 s2 : Space) (first v : ℕ) (perm : Rights) → SoFar pool0 ram0 s0 first perm v pool1 ram1 s1 → Changed pool1 ram1 s1 pool2 ram2 s2
-    → image_of ram2 s2 ≡ with_page (image_of ram1 s1) v (zeroed perm) → page_at ram1 s1.root v ≡ None → first ≤ v → v < 67108864 → SoFar pool0 ram0 s0 first perm (v + 1) pool2 ram2 s2
+    → image_of ram2 s2 ≡ with_page (image_of ram1 s1) v (zeroed perm) → get (pages_of ram1 s1.root) v ≡ None → first ≤ v → v < 67108864 → SoFar pool0 ram0 s0 first perm (v + 1) pool2 ram2 s2
 so_far-new pool0 pool1 pool2 ram0 ram1 ram2 s0 s1 s2 first v perm so c image none ge small =
     let is : pages_of ram1 s1.root ≡ with_absent (pages_of ram0 s0.root) first (v - first) (zeroed perm) = ap (pages_of ram1) so.changed.root ∙ so.pages in
-    let next = absent-step (pages_of ram0 s0.root) (pages_of ram1 s1.root) first v (zeroed perm) false ge is (ap is_some (page-got ram1 s1.root v small ∙ none)) in
+    let next = absent-step (pages_of ram0 s0.root) (pages_of ram1 s1.root) first v (zeroed perm) false ge is (ap is_some none) in
     record {
       belongs = belongs-after pool1 pool2 ram1 ram2 s1 s2 so.belongs c;
       changed = changed-join pool0 pool1 pool2 ram0 ram1 ram2 s0 s1 s2 so.changed c;
@@ -83,9 +82,9 @@ so_far-new pool0 pool1 pool2 ram0 ram1 ram2 s0 s1 s2 first v perm so c image non
       pages = ap (pages_of ram2) (sym (c.root ∙ so.changed.root)) ∙ ap image_pages image ∙ sym next;
     }
 
-pub so_far-same : (pool0 pool1 : Pool) (ram0 ram1 : List (List ℕ)) (s0 s1 : Space) (first v : ℕ) (perm : Rights) → SoFar pool0 ram0 s0 first perm v pool1 ram1 s1 → is_some (page_at ram1 s1.root v) ≡ true → first ≤ v → v < 67108864
+pub so_far-same : (pool0 pool1 : Pool) (ram0 ram1 : List (List ℕ)) (s0 s1 : Space) (first v : ℕ) (perm : Rights) → SoFar pool0 ram0 s0 first perm v pool1 ram1 s1 → is_some (get (pages_of ram1 s1.root) v) ≡ true → first ≤ v → v < 67108864
     → SoFar pool0 ram0 s0 first perm (v + 1) pool1 ram1 s1
 so_far-same pool0 pool1 ram0 ram1 s0 s1 first v perm so some ge small =
     let is : pages_of ram1 s1.root ≡ with_absent (pages_of ram0 s0.root) first (v - first) (zeroed perm) = ap (pages_of ram1) so.changed.root ∙ so.pages in
-    let next = absent-step (pages_of ram0 s0.root) (pages_of ram1 s1.root) first v (zeroed perm) true ge is (ap is_some (page-got ram1 s1.root v small) ∙ some) in
+    let next = absent-step (pages_of ram0 s0.root) (pages_of ram1 s1.root) first v (zeroed perm) true ge is some in
     record { belongs = so.belongs; changed = so.changed; size = so.size; pages = ap (pages_of ram1) (sym so.changed.root) ∙ sym next }

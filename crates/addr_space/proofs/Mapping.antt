@@ -1,6 +1,7 @@
 -- A space with a page more.
-use Rattle.std.proofs.Common.{◌≡◌, ℕ, ◌+◌, ◌-◌, ◌<◌, ◌≤◌, true, List, length, None, refl, sym, ap, subst, arith}
+use Rattle.std.proofs.Common.{◌≡◌, ℕ, ◌+◌, ◌-◌, ◌<◌, ◌≤◌, true, List, length, None, refl, sym, ap, ◌∙◌, subst, arith}
 use Rattle.xk_base.specs.declared.access.Rights.{Rights}
+use Rattle.std.specs.FinMap.{get}
 use Rattle.frame_list.specs.declared.Pool.{Pool}
 use Rattle.sv39_core.specs.declared.entry.Entry.TheVariants.{Leaf}
 use Rattle.sv39_core.specs.Sv39.{page_entry}
@@ -10,9 +11,13 @@ use Rattle.addr_space.specs.Changes.{zeroed}
 use Rattle.sv39_core.specs.Tree.{page_at, pages_of, frame_of}
 use Rattle.addr_space.specs.Steps.{PageAdded, rise, Beside}
 use Rattle.addr_space.specs.Space.{image_of, IsSpace, Changed, Usual}
-use Rattle.addr_space.proofs.Prices.{price-rise, pages-more, length-owned, length-kinds}
+use Rattle.addr_space.proofs.Prices.{page-got, price-rise, pages-more, length-owned, length-kinds}
 use Rattle.addr_space.proofs.Paths.{full-after, leaves-after}
 use Rattle.addr_space.proofs.Trades.{trade-added, space-counts, few}
+
+-- a page that the map doesn't have, no walk reaches
+pub absent-at : (ram : List (List ℕ)) (root v : ℕ) → v < 67108864 → get (pages_of ram root) v ≡ None → page_at ram root v ≡ None
+absent-at ram root v small none = sym (page-got ram root v small) ∙ none
 
 -- the same space with other counts
 abbrev pub counted : Space → ℕ → ℕ → Space

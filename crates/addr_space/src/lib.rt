@@ -13,7 +13,7 @@ ghost use Rattle.addr_space.specs.Steps.{Hanging, Placing, Holds, SameImage, Pag
 ghost use Rattle.sv39_core.specs.Tree.{page_at, pages_of, page_frames, frame_of};
 ghost use Rattle.addr_space.specs.Space.{image_of, Belongs, Changed, Unchanged, Made, IsSpace, Usual, frames_of};
 ghost use Rattle.frame_list.specs.Traded.{Traded};
-ghost use Rattle.std.specs.FinMap.{len};
+ghost use Rattle.std.specs.FinMap.{get, len};
 ghost use Rattle.sv39_core.specs.declared.entry.Entry.TheVariants.{Invalid};
 
 use frame_list::Pool;
@@ -72,10 +72,19 @@ impl Space {
 
     /// What a process may do with a page; none where there is no page.
     pub fn perm(&self, ram: &Ram, vpn: Vpn) -> Option<Perm>
-        requires whole { IsSpace ram.now self.now }
-        ensures { result ≡ option_map perm_of_page (page_at ram.now self.now.root vpn) }
+        requires { IsSpace ram.now self.now }
+        ensures { result ≡ option_map perm_of_page (get (image_of ram.now self.now).pages vpn) }
     {
-        let Entry::Leaf(_, perm, _, _) = entry_of_page(ram, self.root, vpn.number() as usize) else {
+        self.perm_at(ram, vpn.number() as usize)
+    }
+
+    /// What a page allows, by its number.
+    fn perm_at(&self, ram: &Ram, v: usize) -> Option<Perm>
+        requires whole { IsSpace ram.now self.now }
+        requires page { v < 2 ^ 26 }
+        ensures { result ≡ option_map perm_of_page (page_at ram.now self.now.root v) }
+    {
+        let Entry::Leaf(_, perm, _, _) = entry_of_page(ram, self.root, v) else {
             return None;
         };
         Some(perm)
@@ -190,7 +199,7 @@ impl Space {
         perm: Perm,
     ) -> Result<(), NoFrames>
         requires belongs { Belongs pool.old ram.old self.old }
-        requires absent { page_at ram.old self.old.root vpn ≡ None }
+        requires absent { get (image_of ram.old self.old).pages vpn ≡ None }
         ensures changed { IfOk result (λ _. Changed pool.old ram.old self.old pool.new ram.new self.new) }
         ensures image { IfOk result (λ _. image_of ram.new self.new ≡ with_page (image_of ram.old self.old) vpn (zeroed perm)) }
         ensures fits { IfOk result (λ _. price (with_page (image_of ram.old self.old) vpn (zeroed perm)) ≤ price (image_of ram.old self.old) + length (free_in pool.old ram.old)) }
@@ -549,7 +558,7 @@ impl Space {
         requires apart { (f : ℕ) → 1 ≤ copies f (frames_of ram.old self.now) → copies f (free_in pool.old ram.old) + copies f (frames_of ram.old child.old) ≡ 0 }
         requires page { v < 2 ^ 26 }
         requires there { (f : ℕ) × (frame_of (page_entry ram.old self.now.root v) ≡ Some f) }
-        requires absent { page_at ram.old child.old.root v ≡ None }
+        requires absent { get (image_of ram.old child.old).pages v ≡ None }
         requires room { (page : Page) → price (with_page (image_of ram.old child.old) v page) ≤ price (image_of ram.old child.old) + length (free_in pool.old ram.old) }
         ensures changed { Changed pool.old ram.old child.old pool.new ram.new child.new }
         ensures image { (page : Page) → page_at ram.old self.now.root v ≡ Some page → image_of ram.new child.new ≡ with_page (image_of ram.old child.old) v page }

@@ -1,10 +1,9 @@
-use Rattle.std.proofs.Common.{◌<◌, None, cond, refl, sym, ap, ◌∙◌, arith}
+use Rattle.std.proofs.Common.{None, cond, refl, sym, ap, ◌∙◌, arith}
 use Rattle.std.specs.FinMap.{get}
 use Rattle.sv39_core.proofs.Words.{ltb-no}
 use Rattle.sv39_core.specs.Tree.{page_at}
 use Rattle.sv39_core.proofs.Places.{root-inside}
 use Rattle.sv39_core.proofs.Gathered.{gathered-get}
-use Rattle.addr_space.proofs.Prices.{page-got}
 use Rattle.addr_space.proofs.Trades.{space-counts}
 use Rattle.addr_space.proofs.Mapping.{small-counts}
 use Rattle.addr_space.proofs.Copies.{copied-none, copied-step, copied-all, room-for}
@@ -27,8 +26,7 @@ next_page-requires-clause-root_in c = root-inside c.pages.ram c.args.self.now.ro
 pub copy_page-requires-clause-absent : goal.copy_page-requires-clause-absent
 copy_page-requires-clause-absent c =
     let inv = c.pages.invariant in
-    let small : c.in-Some.v < 67108864 = c.in-Some.ensures.some.0 in
-    sym (page-got c.pages.ram c.pages.child.root c.in-Some.v small) ∙ ap (λ m. get m c.in-Some.v) inv.pages ∙ gathered-get (page_at c.empty.new.ram c.args.self.now.root) c.pages.from c.in-Some.v
+    ap (λ m. get m c.in-Some.v) inv.pages ∙ gathered-get (page_at c.empty.new.ram c.args.self.now.root) c.pages.from c.in-Some.v
     ∙ ap (λ b. cond b (page_at c.empty.new.ram c.args.self.now.root c.in-Some.v) None) (ltb-no c.in-Some.v c.pages.from c.in-Some.ensures.some.1)
 
 pub copy_page-requires-clause-room : goal.copy_page-requires-clause-room

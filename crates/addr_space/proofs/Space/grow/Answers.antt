@@ -1,5 +1,6 @@
 use Rattle.std.proofs.Common.{◌≡◌, ◌+◌, ◌-◌, ◌/◌, ◌<◌, sym, ap, ◌∙◌, subst, arith}
-use Rattle.sv39_core.specs.Tree.{page_at, pages_of}
+use Rattle.std.specs.FinMap.{get}
+use Rattle.sv39_core.specs.Tree.{pages_of}
 use Rattle.addr_space.specs.Changes.{zeroed, with_absent}
 use Rattle.addr_space.proofs.Grown.{perm-none, perm-some, no-refusal, SoFar, so_far-none, so_far-new, so_far-same}
 use Rattle.addr_space.proofs.Space.grow.Goals.{in-None+in-Ok, in_default}
@@ -14,7 +15,7 @@ unreachable-requires c =
     let v : c.new-vpn.result ≡ c.loop-v.v = c.new-vpn.ensures in
     no-refusal c.args.pool.now c.loop-v.pool c.args.ram.now c.loop-v.ram c.args.self.now c.loop-v.self c.args.size c.new-vpn.result ((c.args.self.now.size + 4095) / 4096) ((c.args.size + 4095) / 4096) c.price_to-needed.result c.free.result c.args.perm c.requires.belongs inv.changed
     (inv.pages ∙ ap (λ x. with_absent (pages_of c.args.ram.now c.args.self.now.root) ((c.args.self.now.size + 4095) / 4096) (x - (c.args.self.now.size + 4095) / 4096) (zeroed c.args.perm)) (sym v)) (omega (arith, v, c.loop-v.auto.v)) (omega (arith, v, c.loop-v-test.true)) (omega (arith, c.requires.limit))
-    (c.price_to-needed.ensures c.args.perm) c.if-free-needed.false (c.free.ensures c.args.ram.now c.requires.belongs.good) (perm-none (page_at c.loop-v.ram c.loop-v.self.root c.new-vpn.result) (sym c.in-None.ensures)) c.in_default-map_zeroed.ensures.refused.0
+    (c.price_to-needed.ensures c.args.perm) c.if-free-needed.false (c.free.ensures c.args.ram.now c.requires.belongs.good) (perm-none (get (pages_of c.loop-v.ram c.loop-v.self.root) c.new-vpn.result) (sym c.in-None.ensures)) c.in_default-map_zeroed.ensures.refused.0
 
 pub loop-v-preserved : goal.loop-v-preserved
 loop-v-preserved c =
@@ -26,11 +27,11 @@ loop-v-preserved c =
       | in-None+in-Ok w ↦
           let next : SoFar c.args.pool.now c.args.ram.now c.args.self.now first c.args.perm (c.new-vpn.result + 1) w.map_zeroed.new.pool w.map_zeroed.new.ram w.map_zeroed.new.self =
           so_far-new c.args.pool.now c.loop-v.pool w.map_zeroed.new.pool c.args.ram.now c.loop-v.ram w.map_zeroed.new.ram c.args.self.now c.loop-v.self w.map_zeroed.new.self first c.new-vpn.result c.args.perm old w.in-Ok.ensures.changed w.in-Ok.ensures.image
-          (perm-none (page_at c.loop-v.ram c.loop-v.self.root c.new-vpn.result) (sym w.in-None.ensures)) (omega (arith, v, c.loop-v.auto.v)) (omega (arith, v, small)) in
+          (perm-none (get (pages_of c.loop-v.ram c.loop-v.self.root) c.new-vpn.result) (sym w.in-None.ensures)) (omega (arith, v, c.loop-v.auto.v)) (omega (arith, v, small)) in
           rw (w.self-is, w.pool-is, w.ram-is, sym v) next
       | in_default w ↦
           let next : SoFar c.args.pool.now c.args.ram.now c.args.self.now first c.args.perm (c.new-vpn.result + 1) c.loop-v.pool c.loop-v.ram c.loop-v.self =
           so_far-same c.args.pool.now c.loop-v.pool c.args.ram.now c.loop-v.ram c.args.self.now c.loop-v.self first c.new-vpn.result c.args.perm old
-          (perm-some (page_at c.loop-v.ram c.loop-v.self.root c.new-vpn.result) (λ e. w.in_default.not-None (c.perm.ensures ∙ e))) (omega (arith, v, c.loop-v.auto.v)) (omega (arith, v, small)) in
+          (perm-some (get (pages_of c.loop-v.ram c.loop-v.self.root) c.new-vpn.result) (λ e. w.in_default.not-None (c.perm.ensures ∙ e))) (omega (arith, v, c.loop-v.auto.v)) (omega (arith, v, small)) in
           rw (w.self-is, w.pool-is, w.ram-is, sym v) next
     ]

@@ -8,7 +8,7 @@ use Rattle.addr_space.specs.Changes.{zeroed}
 use Rattle.sv39_core.proofs.Places.{root-inside, table-owned}
 use Rattle.addr_space.proofs.Steps.{place-page, same-then-added, absent-after}
 use Rattle.addr_space.proofs.Paths.{beside-join, place-beside}
-use Rattle.addr_space.proofs.Mapping.{costs, mapped, image-more, small-counts, needs-some}
+use Rattle.addr_space.proofs.Mapping.{absent-at, costs, mapped, image-more, small-counts, needs-some}
 use Rattle.addr_space.proofs.Space.map_zeroed.Goals.{After-self-2-1, After-free}
 use Rattle.addr_space.proofs.Space.map_zeroed.Goals as goal
 
@@ -21,7 +21,7 @@ need-is c = c.frames_for-needed.ensures ∙ ap (rise c.args.ram.now c.args.self.
 pub returns-then-free-needed-clause-refused : goal.returns-then-free-needed-clause-refused
 returns-then-free-needed-clause-refused c =
     let e : c.frames_for-needed.result ≡ rise c.args.ram.now c.args.self.now.root c.args.vpn = c.frames_for-needed.ensures ∙ ap (rise c.args.ram.now c.args.self.now.root) c.number-v.ensures.value in
-    let cost = costs c.args.ram.now c.args.self.now c.args.vpn c.frames_for-needed.result (zeroed c.args.perm) c.requires.belongs.whole c.number-v.ensures.range c.requires.absent e in
+    let cost = costs c.args.ram.now c.args.self.now c.args.vpn c.frames_for-needed.result (zeroed c.args.perm) c.requires.belongs.whole c.number-v.ensures.range (absent-at c.args.ram.now c.args.self.now.root c.args.vpn c.number-v.ensures.range c.requires.absent) e in
     (omega (arith, cost, c.if-free-needed.true, c.free.ensures c.args.ram.now c.requires.belongs.good), record { same_pool = refl; same_ram = refl; same_space = refl })
 
 -- the free frames suffice
@@ -82,7 +82,7 @@ came c =
     let is : n ≡ c.args.vpn = c.number-v.ensures.value in
     let same1 = c.upper_for-upper.ensures.same in
     let same2 = c.lower_for-lower.ensures.same in
-    let absent : page_at c.args.ram.now root (512 * (n / 512) + n % 512) ≡ None = ap (page_at c.args.ram.now root) (v ∙ is) ∙ c.requires.absent in
+    let absent : page_at c.args.ram.now root (512 * (n / 512) + n % 512) ≡ None = ap (page_at c.args.ram.now root) (v ∙ is) ∙ (absent-at c.args.ram.now c.args.self.now.root c.args.vpn c.number-v.ensures.range c.requires.absent) in
     let none = absent-after c.args.ram.now c.lower_for-lower.new.ram root (512 * (n / 512) + n % 512) (same2.image (512 * (n / 512) + n % 512) ∙ same1.image (512 * (n / 512) + n % 512)) absent in
     let added = place-page c.lower_for-lower.new.pool c.place.new.pool c.lower_for-lower.new.ram c.place.new.ram root c.lower_for-lower.result (n % 512) c.place.ensures.placed.0 (n / 512) c.args.perm same2.holds c.place.ensures.placed.1 c.place.ensures.allowed (omega arith) c.lower_for-lower.ensures.found none in
     let whole = same-then-added _ _ _ _ _ _ root (512 * (n / 512) + n % 512) c.args.perm same1 (same-then-added _ _ _ _ _ _ root (512 * (n / 512) + n % 512) c.args.perm same2 added) in
@@ -99,7 +99,7 @@ pub returns-clause-changed : goal.returns-clause-changed
 returns-clause-changed c =
     let all = came c in
     let e : c.frames_for-needed.result ≡ rise c.args.ram.now c.args.self.now.root c.args.vpn = c.frames_for-needed.ensures ∙ ap (rise c.args.ram.now c.args.self.now.root) c.number-v.ensures.value in
-    mapped _ _ c.args.ram.now c.place.new.ram c.args.self.now c.args.vpn c.place.ensures.placed.0 c.frames_for-needed.result c.args.perm c.requires.belongs.whole c.number-v.ensures.range c.requires.absent e all.added all.beside all.there
+    mapped _ _ c.args.ram.now c.place.new.ram c.args.self.now c.args.vpn c.place.ensures.placed.0 c.frames_for-needed.result c.args.perm c.requires.belongs.whole c.number-v.ensures.range (absent-at c.args.ram.now c.args.self.now.root c.args.vpn c.number-v.ensures.range c.requires.absent) e all.added all.beside all.there
 
 pub returns-clause-image : goal.returns-clause-image
 returns-clause-image c = image-more _ _ c.args.ram.now c.place.new.ram c.args.self.now c.args.vpn (c.args.self.now.pages + 1) (c.args.self.now.tables + (c.frames_for-needed.result - 1)) c.args.perm (came c).added
@@ -107,5 +107,5 @@ returns-clause-image c = image-more _ _ c.args.ram.now c.place.new.ram c.args.se
 pub returns-clause-fits : goal.returns-clause-fits
 returns-clause-fits c =
     let e : c.frames_for-needed.result ≡ rise c.args.ram.now c.args.self.now.root c.args.vpn = c.frames_for-needed.ensures ∙ ap (rise c.args.ram.now c.args.self.now.root) c.number-v.ensures.value in
-    let cost = costs c.args.ram.now c.args.self.now c.args.vpn c.frames_for-needed.result (zeroed c.args.perm) c.requires.belongs.whole c.number-v.ensures.range c.requires.absent e in
+    let cost = costs c.args.ram.now c.args.self.now c.args.vpn c.frames_for-needed.result (zeroed c.args.perm) c.requires.belongs.whole c.number-v.ensures.range (absent-at c.args.ram.now c.args.self.now.root c.args.vpn c.number-v.ensures.range c.requires.absent) e in
     omega (arith, cost, c.if-free-needed.false, c.free.ensures c.args.ram.now c.requires.belongs.good)

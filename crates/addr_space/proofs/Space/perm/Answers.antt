@@ -1,5 +1,11 @@
-use Rattle.sv39_core.proofs.Places.{root-inside}
+use Rattle.std.proofs.Common.{sym, ap, ◌∙◌}
+use Rattle.std.specs.Prelude.{option_map}
+use Rattle.sv39_core.specs.Tree.{page_at}
+use Rattle.addr_space.specs.Changes.{perm_of_page}
+use Rattle.addr_space.proofs.Prices.{page-got}
 use Rattle.addr_space.proofs.Space.perm.Goals as goal
 
-pub entry_of_page-requires-clause-root_in : goal.entry_of_page-requires-clause-root_in
-entry_of_page-requires-clause-root_in c = root-inside c.args.ram.now c.args.self.now.root c.requires.whole.tree
+pub returns : goal.returns
+returns c =
+    c.perm_at.ensures ∙ ap (λ v. option_map perm_of_page (page_at c.args.ram.now c.args.self.now.root v)) c.number.ensures.value
+    ∙ ap (option_map perm_of_page) (sym (page-got c.args.ram.now c.args.self.now.root c.args.vpn c.number.ensures.range))
