@@ -1,10 +1,19 @@
-// Address spaces.
+//! Address spaces: the memory of a process, as Sv39 page tables in RAM
+//! (RISC-V Privileged ISA, "Sv39: Page-Based 39-bit Virtual-Memory System").
+//!
+//! A [`Space`] is the root of a tree of tables, a size and two counts; all else stands in RAM. Contracts
+//! see, in this crate's `specs/`, the image that it stands for (a finite map from page numbers to rights
+//! and bytes, and the size), and the frames that it owns. A space owns exactly as many frames as its
+//! image's `price`: the root, each table that leads to a page, and the pages. A call that takes frames
+//! refuses exactly where the price would rise by more than the free frames, and then changes nothing.
+//! Each call moves frames between the free ones and its own space alone, and leaves all others' bytes.
 #![tactic(auto)]
 
 ghost use Rattle.std.specs.Prelude.{◌≡◌, ◌≢◌, ℕ, ◌+◌, ◌*◌, ◌/◌, ◌%◌, ◌^◌, ◌<◌, ◌≤◌, length, Some, None, true, IfOk, IfErr, IfSome, IfNone, List, [], ◌-◌, option_map, false, take, drop};
 ghost use Rattle.xk_base.specs.Frames.{copies};
 ghost use Rattle.frame_list.specs.Pool.{free_in, Good};
 ghost use Rattle.sv39_core.specs.Sv39.{table_at, page_entry, entry_at, table_of};
+ghost use Rattle.xk_base.specs.declared.limits.TheConstants.{SIZE_LIMIT};
 ghost use Rattle.xk_base.specs.Access.{IsPerm};
 ghost use Rattle.xk_base.specs.declared.access.Rights.{Rights};
 ghost use Rattle.xk_base.specs.Image.{Page, price, with_page, no_pages};
@@ -19,19 +28,29 @@ ghost use Rattle.sv39_core.specs.declared.entry.Entry.TheVariants.{Invalid};
 use frame_list::Pool;
 use phys_ram::Ram;
 use sv39_core::{Entry, Pte, read_entry};
+#[cfg(test)]
+mod tests;
+
 use xk_base::{Frame, NoFrames, Perm, Rights, Vpn};
 
-/// The pages of a process, as tables in frames.
+/// The memory of a process: its pages as tables in frames of RAM, and its size in bytes.
+///
+/// It holds no memory of the host, and its frames are lost unless it is given back by
+/// [`drop_all`](Space::drop_all).
 #[derive(Drop)]
 pub struct Space {
     root: Frame,
     size: u64,
+    /// How many pages there are.
     pages: u32,
+    /// How many tables there are, the root among them.
     tables: u32,
 }
 
 impl Space {
-    /// A space without pages.
+    /// A space without pages, of size 0. It takes one frame, for its root.
+    ///
+    /// Errors: `NoFrames` exactly where no frame is free.
     pub fn empty(pool: &mut Pool, ram: &mut Ram) -> Result<Space, NoFrames>
         requires good { Good pool.old ram.old }
         ensures made { IfOk result (λ space. Made pool.old ram.old pool.new ram.new space) }
@@ -49,14 +68,14 @@ impl Space {
         })
     }
 
-    /// The frame of the uppermost table.
+    /// The frame of the root, the uppermost table: what the `satp` register names.
     pub fn root(&self) -> Frame
         ensures { result ≡ self.now.root }
     {
         self.root
     }
 
-    /// The size in bytes.
+    /// The size in bytes. Pages may be absent below it, and present above it.
     pub fn size(&self) -> u64
         ensures { result ≡ self.now.size }
     {
@@ -70,7 +89,7 @@ impl Space {
         self.pages
     }
 
-    /// What a process may do with a page; none where there is no page.
+    /// What a page allows; none where there is no page.
     pub fn perm(&self, ram: &Ram, vpn: Vpn) -> Option<Perm>
         requires { IsSpace ram.now self.now }
         ensures { result ≡ option_map perm_of_page (get (image_of ram.now self.now).pages vpn) }
@@ -190,7 +209,10 @@ fn frames_for(ram: &Ram, root: Frame, v: usize) -> u32
 }
 
 impl Space {
-    /// Maps a page of zeros.
+    /// Maps a page of zeros where there is none. The size stays.
+    ///
+    /// Errors: `NoFrames` exactly where the image with the page costs more than the image and the free
+    /// frames; then nothing is changed.
     pub fn map_zeroed(
         &mut self,
         pool: &mut Pool,
@@ -409,11 +431,12 @@ impl Space {
         }
     }
 
-    /// Makes the size smaller.
+    /// Makes the size smaller: frees each page from the rounded-up new size on, and each table that
+    /// then leads to no page. The page that the new size ends in keeps its bytes, also those past it.
     pub fn shrink(&mut self, pool: &mut Pool, ram: &mut Ram, size: u64)
         requires belongs { Belongs pool.old ram.old self.old }
         requires less { size ≤ self.old.size }
-        requires limit { size ≤ 2 ^ 38 - 8192 }
+        requires limit { size ≤ SIZE_LIMIT }
         ensures changed { Changed pool.old ram.old self.old pool.new ram.new self.new }
         ensures image { image_of ram.new self.new ≡ shrunk (image_of ram.old self.old) size }
     {
@@ -422,7 +445,7 @@ impl Space {
         self.size = size;
     }
 
-    /// Gives back all frames.
+    /// Gives back all frames of the space.
     pub fn drop_all(mut self, pool: &mut Pool, ram: &mut Ram)
         requires belongs { Belongs pool.old ram.old self }
         ensures { Traded pool.old ram.old pool.new ram.new (frames_of ram.old self) [] }
@@ -433,11 +456,14 @@ impl Space {
 }
 
 impl Space {
-    /// How many frames a growth to a size would take.
+    /// How many frames a growth to a size takes, up to
+    /// [`SIZE_LIMIT`](xk_base::limits::SIZE_LIMIT), whatever rights the new pages get.
+    ///
+    /// Where a table is absent, all of its pages are counted at once.
     pub fn price_to(&self, ram: &Ram, size: u64) -> u32
         requires whole { IsSpace ram.now self.now }
         requires more { self.now.size ≤ size }
-        requires limit { size ≤ 2 ^ 38 - 8192 }
+        requires limit { size ≤ SIZE_LIMIT }
         ensures { (perm : Rights) → price (grown (image_of ram.now self.now) size perm) ≡ price (image_of ram.now self.now) + result }
     {
         let first = ((self.size + 4095) / 4096) as usize;
@@ -457,7 +483,12 @@ impl Space {
         count
     }
 
-    /// Makes the size greater, with pages of zeros where there are none.
+    /// Makes the size greater, up to [`SIZE_LIMIT`](xk_base::limits::SIZE_LIMIT): from the rounded-up
+    /// old size up to the new one, a page of zeros with these rights comes wherever there is none. Each
+    /// page that is there stays as it is.
+    ///
+    /// Errors: `NoFrames` exactly where the grown image costs more than the image and the free frames;
+    /// then nothing is changed.
     pub fn grow(
         &mut self,
         pool: &mut Pool,
@@ -467,7 +498,7 @@ impl Space {
     ) -> Result<(), NoFrames>
         requires belongs { Belongs pool.old ram.old self.old }
         requires more { self.old.size ≤ size }
-        requires limit { size ≤ 2 ^ 38 - 8192 }
+        requires limit { size ≤ SIZE_LIMIT }
         ensures changed { IfOk result (λ _. Changed pool.old ram.old self.old pool.new ram.new self.new) }
         ensures image { IfOk result (λ _. image_of ram.new self.new ≡ grown (image_of ram.old self.old) size perm) }
         ensures fits { IfOk result (λ _. price (grown (image_of ram.old self.old) size perm) ≤ price (image_of ram.old self.old) + length (free_in pool.old ram.old)) }
@@ -487,7 +518,7 @@ impl Space {
                 };
             }
         }
-        self.size = size;
+        self.size = size; // all its pages are there
         Ok(())
     }
 }
@@ -528,7 +559,10 @@ fn new_page(ram: &Ram, root: Frame, v: usize) -> u32
 }
 
 impl Space {
-    /// A new space with the same image.
+    /// A new space with the same image, in frames of its own.
+    ///
+    /// Errors: `NoFrames` exactly where the image costs more than the free frames; then nothing is
+    /// changed.
     pub fn copy(&self, pool: &mut Pool, ram: &mut Ram) -> Result<Space, NoFrames>
         requires belongs { Belongs pool.old ram.old self.now }
         ensures made { IfOk result (λ child. Made pool.old ram.old pool.new ram.new child) }
@@ -577,7 +611,7 @@ impl Space {
 }
 
 impl Space {
-    /// Keeps the process from a page.
+    /// Takes the right U from a page, so that user code can't reach it.
     pub fn protect(&self, ram: &mut Ram, vpn: Vpn)
         requires whole { IsSpace ram.old self.now }
         requires there { (page : Page) × (page_at ram.old self.now.root vpn ≡ Some page) }
@@ -602,7 +636,7 @@ impl Space {
         ram.write_u64(lower, v % 512, Pte::leaf(frame, kept).bits());
     }
 
-    /// Reads bytes of a page.
+    /// Reads bytes of a page from place `at` on, as many as `out` holds, within the page.
     pub fn read_page(&self, ram: &Ram, vpn: Vpn, at: usize, out: &mut [u8])
         requires whole { IsSpace ram.now self.now }
         requires there { (page : Page) × (page_at ram.now self.now.root vpn ≡ Some page) }
@@ -617,7 +651,7 @@ impl Space {
         out.copy_from_slice(&bytes[at..at + n]);
     }
 
-    /// Writes bytes of a page.
+    /// Writes bytes into a page from place `at` on, within the page. The others stay.
     pub fn write_page(&self, ram: &mut Ram, vpn: Vpn, at: usize, bytes: &[u8])
         requires whole { IsSpace ram.old self.now }
         requires there { (page : Page) × (page_at ram.old self.now.root vpn ≡ Some page) }
