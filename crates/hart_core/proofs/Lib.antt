@@ -1,0 +1,5 @@
+pub mod Seen
+pub mod Stores
+pub mod Caches
+pub mod Ends
+pub mod Saved

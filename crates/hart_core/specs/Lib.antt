@@ -1,0 +1,5 @@
+pub mod UserMemory
+pub mod Translations
+pub mod Trapframe
+pub mod Steps
+pub mod Lending
