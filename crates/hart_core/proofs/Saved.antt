@@ -1,7 +1,8 @@
 -- The registers that a frame holds.
-use Rattle.std.proofs.Common.{◌≡◌, ◌≢◌, ℕ, zero, suc, ◌+◌, ◌<◌, ◌≤◌, ◌%◌, List, [], ◌∷◌, length, get_or, set, inl, inr, refl, sym, ap, ◌∙◌, arith}
+use Rattle.std.proofs.Common.{◌≡◌, ◌≢◌, ℕ, zero, suc, ◌+◌, ◌-◌, cond, eqb, ◌<◌, ◌≤◌, ◌%◌, List, [], ◌∷◌, length, get_or, set, inl, inr, refl, sym, ap, ◌∙◌, arith}
 use Rattle.std.proofs.lemmas.List.{same_lists, get_or-set_same, get_or-set_other, length-set, length-replicate}
 use Rattle.std.proofs.lemmas.Bool.{cases_eq}
+use Rattle.sv39_core.proofs.Words.{eqb-no}
 use Rattle.phys_ram.specs.Ram.{word_at, OthersStay, WordWritten}
 use Rattle.rv64i_core.specs.Registers.{Registers, reg, put, fresh}
 use Rattle.hart_core.specs.Trapframe.{words_from, saved}
@@ -20,6 +21,17 @@ any-default [] k d e h = absurd (omega arith)
 any-default (x ∷ xs) zero d e h = refl
 any-default (x ∷ xs) (suc k) d e h = any-default xs k d e (omega arith)
 
+-- xk stands in place k - 1 of the list
+reg-suc : (regs : Registers) (k : ℕ) → reg regs (suc k) ≡ get_or regs.x k 0
+reg-suc regs k =
+    let less : suc k - 1 ≡ k = omega arith in
+    ap (λ b. cond b 0 (get_or regs.x (suc k - 1) 0)) (eqb-no (suc k) 0 (λ e. omega arith)) ∙ ap (λ j. get_or regs.x j 0) less
+
+put-suc : (regs : Registers) (i v : ℕ) → put regs (suc i) v ≡ record { x = set regs.x i v; pc = regs.pc }
+put-suc regs i v =
+    let less : suc i - 1 ≡ i = omega arith in
+    ap (λ b. cond b regs (record { x = set regs.x (suc i - 1) v; pc = regs.pc })) (eqb-no (suc i) 0 (λ e. omega arith)) ∙ ap (λ j. record { x = set regs.x j v; pc = regs.pc }) less
+
 -- words 1 to i - 1 of a frame are registers, and word 0 is the pc
 pub record HoldsBelow (ram : List (List ℕ)) (f : ℕ) (regs : Registers) (i : ℕ) : Type 0 where
   pub pc : word_at ram f 0 ≡ regs.pc
@@ -34,7 +46,7 @@ unfolding saved
 saved-reg ram f regs i h all zero lt = refl
 saved-reg ram f regs i h all (suc k) lt =
     let at : 1 + k ≡ suc k = omega arith in
-    words-at ram f 1 31 k 0 (omega arith) ∙ ap (word_at ram f) at ∙ h.words (suc k) (omega arith) (omega (arith, lt, all))
+    reg-suc (record { x = words_from ram f 1 31; pc = word_at ram f 0 }) k ∙ words-at ram f 1 31 k 0 (omega arith) ∙ ap (word_at ram f) at ∙ h.words (suc k) (omega arith) (omega (arith, lt, all))
 
 pub saved-is : (ram : List (List ℕ)) (f : ℕ) (regs : Registers) (i : ℕ) → HoldsBelow ram f regs i → 32 ≤ i → length regs.x ≡ 31 → saved ram f ≡ regs
 unfolding saved
@@ -43,7 +55,7 @@ saved-is ram f regs i h all long =
     let xs : words_from ram f 1 31 ≡ regs.x = same_lists (words_from ram f 1 31) regs.x (length-words ram f 1 31 ∙ sym long) (λ k d less.
         let lt : k < 31 = omega (arith, length-words ram f 1 31, less) in
         let at : 1 + k ≡ suc k = omega arith in
-        words-at ram f 1 31 k d lt ∙ ap (word_at ram f) at ∙ h.words (suc k) (omega arith) (omega (arith, lt, all)) ∙ any-default regs.x k 0 d (omega (arith, long, lt))) in
+        words-at ram f 1 31 k d lt ∙ ap (word_at ram f) at ∙ h.words (suc k) (omega arith) (omega (arith, lt, all)) ∙ reg-suc regs k ∙ any-default regs.x k 0 d (omega (arith, long, lt))) in
     λ i. record { x = xs i; pc = pc i }
 
 -- ---- a save, word by word
@@ -80,17 +92,20 @@ put-words : (regs : Registers) (i v k : ℕ) → length regs.x ≡ 31 → 1 ≤ 
 put-words regs zero v k long low high from = absurd (omega arith)
 put-words regs (suc i) v zero long low high from = absurd (omega arith)
 put-words regs (suc i) v (suc k) long low high from = (
-  λ e. let same : k ≡ i = omega arith in ap (λ j. get_or (set regs.x i v) j 0) same ∙ get_or-set_same regs.x i v 0 (omega (arith, long, high)),
-  λ ne. get_or-set_other regs.x i k v 0 (λ e. ne (ap suc e)),
+  λ e. let same : k ≡ i = omega arith in now ∙ ap (λ j. get_or (set regs.x i v) j 0) same ∙ get_or-set_same regs.x i v 0 (omega (arith, long, high)),
+  λ ne. now ∙ get_or-set_other regs.x i k v 0 (λ e. ne (ap suc e)) ∙ sym (reg-suc regs k),
 )
+  where
+  now : reg (put regs (suc i) v) (suc k) ≡ get_or (set regs.x i v) k 0
+  now = ap (λ (r : Registers). reg r (suc k)) (put-suc regs i v) ∙ reg-suc (record { x = set regs.x i v; pc = regs.pc }) k
 
 length-put : (regs : Registers) (i v : ℕ) → 1 ≤ i → length (put regs i v).x ≡ length regs.x
 length-put regs zero v low = absurd (omega arith)
-length-put regs (suc i) v low = length-set regs.x i v
+length-put regs (suc i) v low = ap (λ (r : Registers). length r.x) (put-suc regs i v) ∙ length-set regs.x i v
 
 pc-put : (regs : Registers) (i v : ℕ) → 1 ≤ i → (put regs i v).pc ≡ regs.pc
 pc-put regs zero v low = absurd (omega arith)
-pc-put regs (suc i) v low = refl
+pc-put regs (suc i) v low = ap (λ (r : Registers). r.pc) (put-suc regs i v)
 
 pub restored-more : (ram : List (List ℕ)) (f : ℕ) (regs new : Registers) (i v : ℕ) → RestoredBelow ram f regs i → 1 ≤ i → i < 32 → new ≡ put regs i v → v ≡ word_at ram f i → RestoredBelow ram f new (i + 1)
 restored-more ram f regs new i v r low high put_is is = record {
