@@ -3,7 +3,7 @@ use Rattle.std.specs.Prelude.{◌≡◌, ℕ, ◌^◌, ◌≤◌, ◌<◌, false
 use Rattle.std.specs.Ordering.{nat_cmp}
 use Rattle.std.specs.FinMap.{FinMap}
 use Rattle.xk_base.specs.Frames.{Once}
-use Rattle.xk_base.specs.declared.access.Rights.{Rights}
+use Rattle.xk_base.specs.Image.{Page}
 use Rattle.phys_ram.specs.Ram.{frame_at, word_at}
 use Rattle.sv39_core.specs.declared.entry.Entry.{Entry}
 use Rattle.sv39_core.specs.declared.entry.Entry.TheVariants.{Invalid, Table, Leaf}
@@ -11,16 +11,6 @@ use Rattle.sv39_core.specs.Sv39.{flag, given, table_at, page_entry}
 use Rattle.sv39_core.specs.Listed.{listed, gathered}
 
 -- ---- the image
-
--- a page of a process: what it allows, and its bytes
-pub record Page : Type 0 where
-  pub perm : Rights
-  pub bytes : List ℕ
-
--- the pages of a process by their numbers, and its size in bytes
-pub record Image : Type 0 where
-  pub pages : FinMap nat_cmp Page
-  pub size : ℕ
 
 abbrev pub page_of : List (List ℕ) → Entry → Option Page
 page_of ram (Leaf f r a d) = Some (record { perm = given r a d; bytes = frame_at ram f })
