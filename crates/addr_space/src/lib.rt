@@ -28,6 +28,7 @@ ghost use Rattle.sv39_core.specs.declared.entry.Entry.TheVariants.{Invalid};
 use frame_list::Pool;
 use phys_ram::Ram;
 use sv39_core::{Entry, Pte, read_entry};
+
 #[cfg(test)]
 mod tests;
 

@@ -184,7 +184,11 @@ impl Process {
         ensures { result ≡ in_call call self.now }
     {
         match self.state {
-            State::Live { marked, channel, .. } => Process {
+            State::Live {
+                marked,
+                channel,
+                ..
+            } => Process {
                 state: State::Live {
                     marked,
                     call,
