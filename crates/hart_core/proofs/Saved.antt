@@ -1,5 +1,5 @@
 -- The registers that a frame holds.
-use Rattle.std.proofs.Common.{◌≡◌, ◌≢◌, ℕ, zero, suc, ◌+◌, ◌-◌, cond, eqb, ◌<◌, ◌≤◌, ◌%◌, List, [], ◌∷◌, length, get_or, set, inl, inr, refl, sym, ap, ◌∙◌, arith}
+use Rattle.std.proofs.Common.{◌≡◌, ◌≢◌, ℕ, zero, suc, ◌+◌, ◌-◌, cond, ◌<◌, ◌≤◌, List, [], ◌∷◌, length, get_or, set, inl, inr, refl, sym, ap, ◌∙◌, arith}
 use Rattle.std.proofs.lemmas.List.{same_lists, get_or-set_same, get_or-set_other, length-set, length-replicate}
 use Rattle.std.proofs.lemmas.Bool.{cases_eq}
 use Rattle.sv39_core.proofs.Words.{eqb-no}
@@ -53,9 +53,9 @@ unfolding saved
 saved-is ram f regs i h all long =
     let pc = h.pc in
     let xs : words_from ram f 1 31 ≡ regs.x = same_lists (words_from ram f 1 31) regs.x (length-words ram f 1 31 ∙ sym long) (λ k d less.
-        let lt : k < 31 = omega (arith, length-words ram f 1 31, less) in
-        let at : 1 + k ≡ suc k = omega arith in
-        words-at ram f 1 31 k d lt ∙ ap (word_at ram f) at ∙ h.words (suc k) (omega arith) (omega (arith, lt, all)) ∙ reg-suc regs k ∙ any-default regs.x k 0 d (omega (arith, long, lt))) in
+    let lt : k < 31 = omega (arith, length-words ram f 1 31, less) in
+    let at : 1 + k ≡ suc k = omega arith in
+    words-at ram f 1 31 k d lt ∙ ap (word_at ram f) at ∙ h.words (suc k) (omega arith) (omega (arith, lt, all)) ∙ reg-suc regs k ∙ any-default regs.x k 0 d (omega (arith, long, lt))) in
     λ i. record { x = xs i; pc = pc i }
 
 -- ---- a save, word by word
@@ -69,14 +69,14 @@ saved-first old ram f regs v w is = record { stay = w.stay; holds = record { pc 
 
 pub saved-more : (old ram ram' : List (List ℕ)) (f : ℕ) (regs : Registers) (i v : ℕ) → SavedBelow old ram f regs i → 1 ≤ i → WordWritten ram ram' f i v → v ≡ reg regs i → SavedBelow old ram' f regs (i + 1)
 saved-more old ram ram' f regs i v s low w is = record {
-    stay = record { count = w.stay.count ∙ s.stay.count; others = λ g ne. w.stay.others g ne ∙ s.stay.others g ne; words = λ g k ne. w.stay.words g k ne ∙ s.stay.words g k ne };
-    holds = record {
-      pc = w.beside 0 (λ e. omega arith) ∙ s.holds.pc;
-      words = λ k from h. elim (cases_eq k i) [
-        | inl e ↦ ap (word_at ram' f) e ∙ w.here ∙ is ∙ ap (reg regs) (sym e)
-        | inr ne ↦ w.beside k ne ∙ s.holds.words k from (omega (arith, ne))
-      ];
-    };
+  stay = record { count = w.stay.count ∙ s.stay.count; others = λ g ne. w.stay.others g ne ∙ s.stay.others g ne; words = λ g k ne. w.stay.words g k ne ∙ s.stay.words g k ne };
+  holds = record {
+    pc = w.beside 0 (λ e. omega arith) ∙ s.holds.pc;
+    words = λ k from h. elim (cases_eq k i) [
+      | inl e ↦ ap (word_at ram' f) e ∙ w.here ∙ is ∙ ap (reg regs) (sym e)
+      | inr ne ↦ w.beside k ne ∙ s.holds.words k from (omega (arith, ne))
+    ];
+  };
 }
 
 -- ---- a restore, register by register
@@ -96,8 +96,8 @@ put-words regs (suc i) v (suc k) long low high from = (
   λ ne. now ∙ get_or-set_other regs.x i k v 0 (λ e. ne (ap suc e)) ∙ sym (reg-suc regs k),
 )
   where
-  now : reg (put regs (suc i) v) (suc k) ≡ get_or (set regs.x i v) k 0
-  now = ap (λ (r : Registers). reg r (suc k)) (put-suc regs i v) ∙ reg-suc (record { x = set regs.x i v; pc = regs.pc }) k
+    now : reg (put regs (suc i) v) (suc k) ≡ get_or (set regs.x i v) k 0
+    now = ap (λ (r : Registers). reg r (suc k)) (put-suc regs i v) ∙ reg-suc (record { x = set regs.x i v; pc = regs.pc }) k
 
 length-put : (regs : Registers) (i v : ℕ) → 1 ≤ i → length (put regs i v).x ≡ length regs.x
 length-put regs zero v low = absurd (omega arith)
@@ -109,12 +109,12 @@ pc-put regs (suc i) v low = ap (λ (r : Registers). r.pc) (put-suc regs i v)
 
 pub restored-more : (ram : List (List ℕ)) (f : ℕ) (regs new : Registers) (i v : ℕ) → RestoredBelow ram f regs i → 1 ≤ i → i < 32 → new ≡ put regs i v → v ≡ word_at ram f i → RestoredBelow ram f new (i + 1)
 restored-more ram f regs new i v r low high put_is is = record {
-    long = ap (λ (n : Registers). length n.x) put_is ∙ length-put regs i v low ∙ r.long;
-    holds = record {
-      pc = r.holds.pc ∙ sym (pc-put regs i v low) ∙ sym (ap (λ (n : Registers). n.pc) put_is);
-      words = λ k from h. elim (cases_eq k i) [
-        | inl e ↦ ap (word_at ram f) e ∙ sym is ∙ sym ((put-words regs i v k r.long low high from).0 e) ∙ sym (ap (λ (n : Registers). reg n k) put_is)
-        | inr ne ↦ r.holds.words k from (omega (arith, ne)) ∙ sym ((put-words regs i v k r.long low high from).1 ne) ∙ sym (ap (λ (n : Registers). reg n k) put_is)
-      ];
-    };
+  long = ap (λ (n : Registers). length n.x) put_is ∙ length-put regs i v low ∙ r.long;
+  holds = record {
+    pc = r.holds.pc ∙ sym (pc-put regs i v low) ∙ sym (ap (λ (n : Registers). n.pc) put_is);
+    words = λ k from h. elim (cases_eq k i) [
+      | inl e ↦ ap (word_at ram f) e ∙ sym is ∙ sym ((put-words regs i v k r.long low high from).0 e) ∙ sym (ap (λ (n : Registers). reg n k) put_is)
+      | inr ne ↦ r.holds.words k from (omega (arith, ne)) ∙ sym ((put-words regs i v k r.long low high from).1 ne) ∙ sym (ap (λ (n : Registers). reg n k) put_is)
+    ];
+  };
 }
