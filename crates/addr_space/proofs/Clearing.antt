@@ -1,5 +1,5 @@
 -- A frame of a space is given back: the entry that led to it is made blank.
-use Rattle.std.proofs.Common.{◌≡◌, ◌≢◌, ℕ, zero, suc, ◌+◌, ◌*◌, ◌/◌, ◌%◌, ◌^◌, ◌<◌, ◌≤◌, Bool, List, ◌∷◌, length, Option, Some, None, refl, sym, ap, ◌∙◌, subst, arith}
+use Rattle.std.proofs.Common.{◌≡◌, ◌≢◌, ℕ, zero, suc, ◌+◌, ◌*◌, ◌/◌, ◌%◌, ◌^◌, ◌<◌, ◌≤◌, Bool, List, ◌∷◌, length, Some, None, refl, sym, ap, ◌∙◌, subst, arith}
 use Rattle.xk_base.specs.Frames.{copies, SameFrames, Once}
 use Rattle.xk_base.specs.declared.access.Rights.{Rights}
 use Rattle.xk_base.proofs.Frames.{length-same, at, at-same, copies-cons, same-cons, Once-less}

@@ -4,7 +4,7 @@ use Rattle.std.proofs.lemmas.Bool.{cases_eq}
 use Rattle.std.specs.Ordering.{nat_cmp}
 use Rattle.std.specs.FinMap.{FinMap, empty, insert, get, get-insert, same_map, nat_cmp-IsAntisymmetric}
 use Rattle.std.specs.Cmp.{nat_cmp_total}
-use Rattle.std.proofs.lemmas.List.{get_or-set_same, get_or-set_other, length-set}
+use Rattle.std.proofs.lemmas.List.{get_or-set_same}
 use Rattle.xk_base.specs.Frames.{copies, Once}
 use Rattle.xk_base.proofs.Frames.{copies-nil}
 use Rattle.xk_base.specs.declared.access.Rights.{Rights}
@@ -127,7 +127,8 @@ copied-step pool0 pool1 pool2 ram0 ram1 ram2 child0 self child1 child2 from v f 
       room = omega (arith, so.room, free-after pool1 pool2 ram1 ram2 child1 child2 so.belongs c);
     }
 
-same-price : (ram ram' : List (List ℕ)) (space : Space) → ((v : ℕ) → page_at ram' space.root v ≡ page_at ram space.root v) → pages_of ram' space.root ≡ pages_of ram space.root
+-- the pages are the same where each is
+pub same-price : (ram ram' : List (List ℕ)) (space : Space) → ((v : ℕ) → page_at ram' space.root v ≡ page_at ram space.root v) → pages_of ram' space.root ≡ pages_of ram space.root
 unfolding pages_of
 same-price ram ram' space same = gathered-same (page_at ram space.root) (page_at ram' space.root) (2 ^ 26) same
 
@@ -200,6 +201,10 @@ pub no-leaf : (ram : List (List ℕ)) (e : Entry) (page : Page) → page_of ram 
 no-leaf ram Invalid page h never = absurd (cc)
 no-leaf ram (Table f) page h never = absurd (cc)
 no-leaf ram (Leaf f p a d) page h never = never f p a d refl
+
+-- a page of the map is the one that a walk reaches
+pub there-at : (ram : List (List ℕ)) (root v n : ℕ) (page : Page) → v < 67108864 → n ≡ v → get (pages_of ram root) v ≡ Some page → page_at ram root n ≡ Some page
+there-at ram root v n page small e there = ap (page_at ram root) e ∙ sym (page-got ram root v small) ∙ there
 
 perm_or : Rights → Option Page → Rights
 perm_or p None = p

@@ -3,7 +3,7 @@ use Rattle.std.proofs.Common.{◌≡◌, ℕ, zero, suc, ◌+◌, ◌/◌, ◌%�
 use Rattle.std.proofs.lemmas.Bool.{cases_eq}
 use Rattle.std.specs.FinMap.{empty}
 use Rattle.xk_base.specs.Frames.{copies}
-use Rattle.xk_base.proofs.Frames.{at, at-same, at-le, at-other, copies-nil, copies-one, same-cons}
+use Rattle.xk_base.proofs.Frames.{at, at-le, at-other, copies-nil, copies-one, same-cons}
 use Rattle.phys_ram.proofs.Words.{word_at-zero}
 use Rattle.frame_list.specs.declared.Pool.{Pool}
 use Rattle.frame_list.specs.Pool.{free_in, Good}

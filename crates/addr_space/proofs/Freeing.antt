@@ -8,7 +8,7 @@ use Rattle.xk_base.proofs.Frames.{at, at-same, copies-nil, copies-one, same-cons
 use Rattle.sv39_core.proofs.Places.{page-place}
 use Rattle.addr_space.proofs.Empties.{listed-none}
 use Rattle.frame_list.specs.declared.Pool.{Pool}
-use Rattle.frame_list.specs.Pool.{free_in, Good}
+use Rattle.frame_list.specs.Pool.{free_in}
 use Rattle.frame_list.specs.Traded.{Given, Traded}
 use Rattle.sv39_core.specs.declared.entry.Entry.{Entry}
 use Rattle.sv39_core.specs.declared.entry.Entry.TheVariants.{Invalid, Table, Leaf}

@@ -1,11 +1,10 @@
 -- The root's entries for the upper half of the addresses stay clear.
 use Rattle.std.proofs.Common.{◌≡◌, ℕ, ◌<◌, ◌≤◌, false, List, Some, inl, inr, refl, sym, ap, ◌∙◌, arith}
 use Rattle.std.proofs.lemmas.Bool.{cases_eq}
-use Rattle.xk_base.specs.Frames.{copies}
 use Rattle.phys_ram.specs.Ram.{frame_at, word_at, WordWritten}
 use Rattle.phys_ram.proofs.Words.{word_at-same}
 use Rattle.sv39_core.specs.Sv39.{flag, table_at}
-use Rattle.sv39_core.specs.Tree.{owned, IsTree}
+use Rattle.sv39_core.specs.Tree.{IsTree}
 use Rattle.sv39_core.proofs.Places.{spot-of, table-owned}
 use Rattle.sv39_core.proofs.Owned.{Kept}
 

@@ -1,4 +1,5 @@
 pub mod Half
+pub mod Isolation
 pub mod Steps
 pub mod Prices
 pub mod Paths

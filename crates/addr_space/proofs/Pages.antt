@@ -1,6 +1,6 @@
 -- A page's bytes or permissions are written.
-use Rattle.std.proofs.Common.{◌≡◌, ◌≢◌, ℕ, zero, suc, ◌+◌, ◌-◌, ◌*◌, ◌/◌, ◌%◌, ◌^◌, ◌<◌, ◌≤◌, ◌||◌, ◌&&◌, Bool, true, false, not, cond, eqb, leb, ltb, List, ◌∷◌, ◌++◌, length, Option, Some, None, inl, inr, refl, sym, ap, ◌∙◌, subst, arith}
-use Rattle.std.proofs.lemmas.Bool.{false≢true, cases_eq}
+use Rattle.std.proofs.Common.{◌≡◌, ◌≢◌, ℕ, zero, suc, ◌+◌, ◌*◌, ◌/◌, ◌%◌, ◌^◌, ◌<◌, ◌≤◌, Bool, true, List, ◌∷◌, ◌++◌, length, Option, Some, None, inl, inr, refl, sym, ap, ◌∙◌, subst, arith}
+use Rattle.std.proofs.lemmas.Bool.{cases_eq}
 use Rattle.xk_base.specs.Frames.{copies, Once}
 use Rattle.xk_base.specs.declared.access.Rights.{Rights}
 use Rattle.phys_ram.specs.Ram.{frame_at, word_at, OthersStay, WordWritten}
@@ -8,8 +8,8 @@ use Rattle.phys_ram.proofs.Words.{word_at-same}
 use Rattle.frame_list.specs.declared.Pool.{Pool}
 use Rattle.frame_list.specs.Pool.{free_in}
 use Rattle.frame_list.proofs.FreeList.{free_in-written, Good-written}
-use Rattle.sv39_core.specs.declared.entry.Entry.TheVariants.{Invalid, Table, Leaf}
-use Rattle.sv39_core.specs.Sv39.{given, flag, page_number, is_usable, entry_of, entry_at, table_of, below, table_at, last, page_entry, leaf_word}
+use Rattle.sv39_core.specs.declared.entry.Entry.TheVariants.{Leaf}
+use Rattle.sv39_core.specs.Sv39.{given, entry_of, entry_at, table_of, below, table_at, last, page_entry, leaf_word}
 use Rattle.xk_base.specs.Access.{is_perm}
 use Rattle.sv39_core.proofs.Words.{entry_of-leaf_word}
 use Rattle.addr_space.specs.declared.Space.{Space}

@@ -1,6 +1,6 @@
 -- The steps by which a page comes into a space: a frame is taken, and a word of a table is written.
-use Rattle.std.proofs.Common.{◌≡◌, ◌≢◌, ℕ, zero, suc, ◌+◌, ◌*◌, ◌^◌, ◌<◌, ◌≤◌, true, false, cond, ltb, List, ◌∷◌, length, Option, Some, None, inl, inr, refl, sym, ap, ◌∙◌, arith}
-use Rattle.std.proofs.lemmas.Bool.{cases_lt, cases_eq}
+use Rattle.std.proofs.Common.{◌≡◌, ◌≢◌, ℕ, suc, ◌+◌, ◌*◌, ◌^◌, ◌<◌, ◌≤◌, true, cond, ltb, List, ◌∷◌, length, Option, Some, None, inl, inr, refl, sym, ap, ◌∙◌, arith}
+use Rattle.std.proofs.lemmas.Bool.{cases_eq}
 use Rattle.xk_base.specs.Frames.{copies, SameFrames}
 use Rattle.xk_base.specs.declared.access.Rights.{Rights}
 use Rattle.xk_base.proofs.Frames.{length-same, at, at-same, copies-nil, same-cons, Once-more}
@@ -16,16 +16,15 @@ use Rattle.sv39_core.proofs.Gathered.{gathered-get, tie-yes, tie-no}
 use Rattle.sv39_core.specs.declared.entry.Entry.{Entry}
 use Rattle.sv39_core.specs.declared.entry.Entry.TheVariants.{Invalid, Table, Leaf}
 use Rattle.sv39_core.specs.Sv39.{entry_of, table_of, table_at, page_entry, leaf_word, table_word}
-use Rattle.sv39_core.proofs.Words.{entry_of-zero, entry_of-table_word, entry_of-leaf_word, ltb-yes, ltb-no, eqb-yes, eqb-no}
+use Rattle.sv39_core.proofs.Words.{entry_of-zero, entry_of-table_word, entry_of-leaf_word, ltb-yes}
 use Rattle.xk_base.specs.Access.{is_perm}
 use Rattle.xk_base.specs.Image.{Page}
 use Rattle.sv39_core.specs.Tree.{page_of, page_at, pages_of, frame_of, owned, IsTree}
 use Rattle.addr_space.specs.Steps.{Holds, SameImage, Hanging, Placing, PageAdded}
-use Rattle.std.specs.Ordering.{nat_cmp, eq_by_cmp}
-use Rattle.std.specs.FinMap.{FinMap, insert, get, get-empty, get-insert, same_map, nat_cmp-IsAntisymmetric}
-use Rattle.std.specs.Cmp.{nat_cmp_total, unsigned_tied}
-use Rattle.sv39_core.specs.Listed.{gathered, insert_some}
-use Rattle.sv39_core.proofs.Tree.{Hung, hung-here, hung-others, hung-pages, leaf-tables, leaf-here, leaf-others}
+use Rattle.std.specs.FinMap.{insert, get, get-insert, same_map, nat_cmp-IsAntisymmetric}
+use Rattle.std.specs.Cmp.{nat_cmp_total}
+use Rattle.sv39_core.specs.Listed.{gathered}
+use Rattle.sv39_core.proofs.Tree.{Hung, hung-here, hung-others, hung-pages, leaf-here, leaf-others}
 use Rattle.sv39_core.proofs.Places.{lower-place, spot-of, table-owned, page-apart}
 use Rattle.sv39_core.proofs.Owned.{Kept, kept-tables, kept-pages, kept-image, kept-owned, page_of-same, hung-owned-upper, hung-owned-lower, leaf-owned}
 

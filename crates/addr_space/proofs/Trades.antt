@@ -1,8 +1,7 @@
 -- Frames that go between the pool and a holder.
-use Rattle.std.proofs.Common.{◌≡◌, ◌≢◌, ℕ, ◌+◌, ◌≤◌, List, ◌++◌, length, refl, sym, ◌∙◌, arith}
-use Rattle.std.proofs.lemmas.List.{length-append}
-use Rattle.xk_base.specs.Frames.{copies, SameFrames}
-use Rattle.xk_base.proofs.Frames.{at-other, copies-one, length-once}
+use Rattle.std.proofs.Common.{◌≡◌, ◌≢◌, ℕ, ◌+◌, ◌≤◌, List, length, sym, ◌∙◌, arith}
+use Rattle.xk_base.specs.Frames.{copies}
+use Rattle.xk_base.proofs.Frames.{at-other, copies-nil, copies-one, length-once}
 use Rattle.xk_base.specs.declared.access.Rights.{Rights}
 use Rattle.phys_ram.specs.Ram.{frame_at}
 use Rattle.frame_list.specs.declared.Pool.{Pool}
@@ -11,7 +10,7 @@ use Rattle.addr_space.specs.declared.Space.{Space}
 use Rattle.sv39_core.specs.Tree.{owned, IsTree}
 use Rattle.addr_space.specs.Steps.{Holds, SameImage, PageAdded}
 use Rattle.xk_base.specs.Image.{price}
-use Rattle.addr_space.specs.Space.{image_of, frames_of, IsSpace, Belongs, Changed}
+use Rattle.addr_space.specs.Space.{image_of, frames_of, IsSpace, Belongs, Changed, Made}
 use Rattle.frame_list.specs.Traded.{Traded, Given}
 use Rattle.frame_list.proofs.Trades.{trade-lengths}
 use Rattle.addr_space.proofs.Prices.{length-owned, length-kinds}
@@ -42,6 +41,10 @@ free-after pool pool' ram ram' space space' b c =
 
 pub belongs-after : (pool pool' : Pool) (ram ram' : List (List ℕ)) (space space' : Space) → Belongs pool ram space → Changed pool ram space pool' ram' space' → Belongs pool' ram' space'
 belongs-after pool pool' ram ram' space space' b c = record { good = c.traded.good; whole = c.whole; apart = λ f. omega (arith, c.traded.frames f, b.apart f) }
+
+-- a new space belongs to the pool that it came from
+pub belongs-made : (pool pool' : Pool) (ram ram' : List (List ℕ)) (space : Space) → Good pool ram → Made pool ram pool' ram' space → Belongs pool' ram' space
+belongs-made pool pool' ram ram' space good made = record { good = made.traded.good; whole = made.whole; apart = λ f. omega (arith, made.traded.frames f, copies-nil f, good.frames.once f) }
 
 pub few : (ram : List (List ℕ)) (root : ℕ) → IsTree ram root → length (owned ram root) ≤ length ram
 few ram root tree = length-once (length ram) (owned ram root) tree.once

@@ -2,12 +2,13 @@
 use Rattle.std.specs.Prelude.{◌≡◌, ℕ, ◌+◌, ◌*◌, ◌≤◌, ◌<◌, true, List, [], Some, length}
 use Rattle.xk_base.specs.Frames.{copies}
 use Rattle.xk_base.specs.Image.{Image}
+use Rattle.xk_base.specs.declared.access.Access.{Access}
 use Rattle.frame_list.specs.declared.Pool.{Pool}
 use Rattle.frame_list.specs.Pool.{free_in, Good}
 use Rattle.frame_list.specs.Traded.{Traded}
 use Rattle.sv39_core.specs.declared.entry.Entry.{Entry}
 use Rattle.sv39_core.specs.declared.entry.Entry.TheVariants.{Invalid, Table, Leaf}
-use Rattle.sv39_core.specs.Sv39.{table_at, page_entry}
+use Rattle.sv39_core.specs.Sv39.{table_at, page_entry, walked}
 use Rattle.sv39_core.specs.Tree.{pages_of, frame_of, uppers, lowers, page_frames, owned, IsTree}
 use Rattle.addr_space.specs.declared.Space.{Space}
 
@@ -64,3 +65,21 @@ pub record Unchanged (pool : Pool) (ram : List (List ℕ)) (space : Space) (pool
   pub same_pool : pool' ≡ pool
   pub same_ram : ram' ≡ ram
   pub same_space : space' ≡ space
+
+-- ---- all other spaces
+
+-- a space that has none of the free frames and none of `mine`
+pub record IsStranger (pool : Pool) (ram : List (List ℕ)) (mine : List ℕ) (other : Space) : Type 0 where
+  pub whole : IsSpace ram other
+  pub apart : (f : ℕ) → 1 ≤ copies f (frames_of ram other) → copies f (free_in pool ram) + copies f mine ≡ 0
+
+-- a space is as it was: its image, its frames, and where each access leads
+pub record Spared (ram ram' : List (List ℕ)) (other : Space) : Type 0 where
+  pub whole : IsSpace ram' other
+  pub image : image_of ram' other ≡ image_of ram other
+  pub frames : frames_of ram' other ≡ frames_of ram other
+  pub walks : (va : ℕ) (access : Access) → walked ram' other.root va access ≡ walked ram other.root va access
+
+-- a call on the owner of `mine` spares every space of another owner
+abbrev pub SparesOthers : Pool → List (List ℕ) → List ℕ → List (List ℕ) → Type 0
+SparesOthers pool ram mine ram' = (other : Space) → IsStranger pool ram mine other → Spared ram ram' other

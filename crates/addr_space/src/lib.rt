@@ -20,7 +20,7 @@ ghost use Rattle.xk_base.specs.Image.{Page, price, with_page, no_pages};
 ghost use Rattle.addr_space.specs.Changes.{zeroed, grown, perm_of_page, shrunk, protected, overwritten};
 ghost use Rattle.addr_space.specs.Steps.{Hanging, Placing, Holds, SameImage, PageAdded, missing, rise, Beside, Cleared, Freed};
 ghost use Rattle.sv39_core.specs.Tree.{page_at, pages_of, page_frames, frame_of};
-ghost use Rattle.addr_space.specs.Space.{image_of, Belongs, Changed, Unchanged, Made, IsSpace, Usual, frames_of};
+ghost use Rattle.addr_space.specs.Space.{image_of, Belongs, Changed, Unchanged, Made, IsSpace, Usual, frames_of, SparesOthers};
 ghost use Rattle.frame_list.specs.Traded.{Traded};
 ghost use Rattle.std.specs.FinMap.{get, len};
 ghost use Rattle.sv39_core.specs.declared.entry.Entry.TheVariants.{Invalid};
@@ -56,6 +56,7 @@ impl Space {
         requires good { Good pool.old ram.old }
         ensures made { IfOk result (λ space. Made pool.old ram.old pool.new ram.new space) }
         ensures image { IfOk result (λ space. image_of ram.new space ≡ no_pages) }
+        ensures others { IfOk result (λ _. SparesOthers pool.old ram.old [] ram.new) }
         ensures refused { IfErr result (λ _. (length (free_in pool.old ram.old) ≡ 0) × (pool.new ≡ pool.old) × (ram.new ≡ ram.old)) }
     {
         let Some(root) = pool.take(ram) else {
@@ -225,6 +226,7 @@ impl Space {
         requires absent { get (image_of ram.old self.old).pages vpn ≡ None }
         ensures changed { IfOk result (λ _. Changed pool.old ram.old self.old pool.new ram.new self.new) }
         ensures image { IfOk result (λ _. image_of ram.new self.new ≡ with_page (image_of ram.old self.old) vpn (zeroed perm)) }
+        ensures others { IfOk result (λ _. SparesOthers pool.old ram.old (frames_of ram.old self.old) ram.new) }
         ensures fits { IfOk result (λ _. price (with_page (image_of ram.old self.old) vpn (zeroed perm)) ≤ price (image_of ram.old self.old) + length (free_in pool.old ram.old)) }
         ensures refused { IfErr result (λ _. (price (image_of ram.old self.old) + length (free_in pool.old ram.old) < price (with_page (image_of ram.old self.old) vpn (zeroed perm))) × Unchanged pool.old ram.old self.old pool.new ram.new self.new) }
     {
@@ -440,6 +442,7 @@ impl Space {
         requires limit { size ≤ SIZE_LIMIT }
         ensures changed { Changed pool.old ram.old self.old pool.new ram.new self.new }
         ensures image { image_of ram.new self.new ≡ shrunk (image_of ram.old self.old) size }
+        ensures others { SparesOthers pool.old ram.old (frames_of ram.old self.old) ram.new }
     {
         let first = ((size + 4095) / 4096) as usize;
         self.free_from(pool, ram, first);
@@ -449,7 +452,8 @@ impl Space {
     /// Gives back all frames of the space.
     pub fn drop_all(mut self, pool: &mut Pool, ram: &mut Ram)
         requires belongs { Belongs pool.old ram.old self }
-        ensures { Traded pool.old ram.old pool.new ram.new (frames_of ram.old self) [] }
+        ensures traded { Traded pool.old ram.old pool.new ram.new (frames_of ram.old self) [] }
+        ensures others { SparesOthers pool.old ram.old (frames_of ram.old self) ram.new }
     {
         self.free_from(pool, ram, 0);
         pool.give(ram, self.root);
@@ -502,6 +506,7 @@ impl Space {
         requires limit { size ≤ SIZE_LIMIT }
         ensures changed { IfOk result (λ _. Changed pool.old ram.old self.old pool.new ram.new self.new) }
         ensures image { IfOk result (λ _. image_of ram.new self.new ≡ grown (image_of ram.old self.old) size perm) }
+        ensures others { IfOk result (λ _. SparesOthers pool.old ram.old (frames_of ram.old self.old) ram.new) }
         ensures fits { IfOk result (λ _. price (grown (image_of ram.old self.old) size perm) ≤ price (image_of ram.old self.old) + length (free_in pool.old ram.old)) }
         ensures refused { IfErr result (λ _. (price (image_of ram.old self.old) + length (free_in pool.old ram.old) < price (grown (image_of ram.old self.old) size perm)) × Unchanged pool.old ram.old self.old pool.new ram.new self.new) }
     {
@@ -568,6 +573,7 @@ impl Space {
         requires belongs { Belongs pool.old ram.old self.now }
         ensures made { IfOk result (λ child. Made pool.old ram.old pool.new ram.new child) }
         ensures image { IfOk result (λ child. image_of ram.new child ≡ image_of ram.old self.now) }
+        ensures others { IfOk result (λ _. SparesOthers pool.old ram.old [] ram.new) }
         ensures fits { IfOk result (λ _. price (image_of ram.old self.now) ≤ length (free_in pool.old ram.old)) }
         ensures refused { IfErr result (λ _. (length (free_in pool.old ram.old) < price (image_of ram.old self.now)) × (pool.new ≡ pool.old) × (ram.new ≡ ram.old)) }
     {
@@ -615,9 +621,9 @@ impl Space {
     /// Takes the right U from a page, so that user code can't reach it.
     pub fn protect(&self, ram: &mut Ram, vpn: Vpn)
         requires whole { IsSpace ram.old self.now }
-        requires there { (page : Page) × (page_at ram.old self.now.root vpn ≡ Some page) }
+        requires there { (page : Page) × (get (image_of ram.old self.now).pages vpn ≡ Some page) }
         ensures changed { (pool : Pool) → Belongs pool ram.old self.now → Changed pool ram.old self.now pool ram.new self.now }
-        ensures image { (page : Page) → page_at ram.old self.now.root vpn ≡ Some page → image_of ram.new self.now ≡ with_page (image_of ram.old self.now) vpn (protected page) }
+        ensures image { (page : Page) → get (image_of ram.old self.now).pages vpn ≡ Some page → image_of ram.new self.now ≡ with_page (image_of ram.old self.now) vpn (protected page) }
     {
         let v = vpn.number() as usize;
         let Some(lower) = lower_table(ram, self.root, v) else {
@@ -640,9 +646,9 @@ impl Space {
     /// Reads bytes of a page from place `at` on, as many as `out` holds, within the page.
     pub fn read_page(&self, ram: &Ram, vpn: Vpn, at: usize, out: &mut [u8])
         requires whole { IsSpace ram.now self.now }
-        requires there { (page : Page) × (page_at ram.now self.now.root vpn ≡ Some page) }
+        requires there { (page : Page) × (get (image_of ram.now self.now).pages vpn ≡ Some page) }
         requires fits { at + length out.old ≤ 4096 }
-        ensures { (page : Page) → page_at ram.now self.now.root vpn ≡ Some page → out.new ≡ take (length out.old) (drop at page.bytes) }
+        ensures { (page : Page) → get (image_of ram.now self.now).pages vpn ≡ Some page → out.new ≡ take (length out.old) (drop at page.bytes) }
     {
         let Entry::Leaf(frame, ..) = entry_of_page(ram, self.root, vpn.number() as usize) else {
             unreachable!();
@@ -655,10 +661,10 @@ impl Space {
     /// Writes bytes into a page from place `at` on, within the page. The others stay.
     pub fn write_page(&self, ram: &mut Ram, vpn: Vpn, at: usize, bytes: &[u8])
         requires whole { IsSpace ram.old self.now }
-        requires there { (page : Page) × (page_at ram.old self.now.root vpn ≡ Some page) }
+        requires there { (page : Page) × (get (image_of ram.old self.now).pages vpn ≡ Some page) }
         requires fits { at + length bytes.now ≤ 4096 }
         ensures changed { (pool : Pool) → Belongs pool ram.old self.now → Changed pool ram.old self.now pool ram.new self.now }
-        ensures image { (page : Page) → page_at ram.old self.now.root vpn ≡ Some page → image_of ram.new self.now ≡ with_page (image_of ram.old self.now) vpn (overwritten page at bytes.now) }
+        ensures image { (page : Page) → get (image_of ram.old self.now).pages vpn ≡ Some page → image_of ram.new self.now ≡ with_page (image_of ram.old self.now) vpn (overwritten page at bytes.now) }
     {
         let Entry::Leaf(frame, ..) = entry_of_page(ram, self.root, vpn.number() as usize) else {
             unreachable!();

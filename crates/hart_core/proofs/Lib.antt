@@ -3,3 +3,4 @@ pub mod Stores
 pub mod Caches
 pub mod Ends
 pub mod Saved
+pub mod Empty

@@ -3,7 +3,8 @@ use Rattle.std.proofs.Common.{◌≡◌, ◌≢◌, ℕ, zero, suc, ◌+◌, ◌
 use Rattle.std.proofs.lemmas.List.{same_lists, get_or-set_same, get_or-set_other, length-set, length-replicate}
 use Rattle.std.proofs.lemmas.Bool.{cases_eq}
 use Rattle.sv39_core.proofs.Words.{eqb-no}
-use Rattle.phys_ram.specs.Ram.{word_at, OthersStay, WordWritten}
+use Rattle.std.specs.Prelude.{slice_index}
+use Rattle.phys_ram.specs.Ram.{frame_at, word_at, OthersStay, WordWritten}
 use Rattle.rv64i_core.specs.Registers.{Registers, reg, put, fresh}
 use Rattle.hart_core.specs.Trapframe.{words_from, saved}
 
@@ -62,13 +63,15 @@ saved-is ram f regs i h all long =
 
 pub record SavedBelow (old ram : List (List ℕ)) (f : ℕ) (regs : Registers) (i : ℕ) : Type 0 where
   pub stay : OthersStay old ram f
+  pub rest : (k : ℕ) → 256 ≤ k → slice_index (frame_at ram f) k ≡ slice_index (frame_at old f) k
   pub holds : HoldsBelow ram f regs i
 
 pub saved-first : (old ram : List (List ℕ)) (f : ℕ) (regs : Registers) (v : ℕ) → WordWritten old ram f 0 v → v ≡ regs.pc → SavedBelow old ram f regs 1
-saved-first old ram f regs v w is = record { stay = w.stay; holds = record { pc = w.here ∙ is; words = λ k low h. absurd (omega arith) } }
+saved-first old ram f regs v w is = record { stay = w.stay; rest = λ k ge. w.after k (omega arith); holds = record { pc = w.here ∙ is; words = λ k low h. absurd (omega arith) } }
 
-pub saved-more : (old ram ram' : List (List ℕ)) (f : ℕ) (regs : Registers) (i v : ℕ) → SavedBelow old ram f regs i → 1 ≤ i → WordWritten ram ram' f i v → v ≡ reg regs i → SavedBelow old ram' f regs (i + 1)
-saved-more old ram ram' f regs i v s low w is = record {
+pub saved-more : (old ram ram' : List (List ℕ)) (f : ℕ) (regs : Registers) (i v : ℕ) → SavedBelow old ram f regs i → 1 ≤ i → i < 32 → WordWritten ram ram' f i v → v ≡ reg regs i → SavedBelow old ram' f regs (i + 1)
+saved-more old ram ram' f regs i v s low high w is = record {
+  rest = λ k ge. w.after k (omega arith) ∙ s.rest k ge;
   stay = record { count = w.stay.count ∙ s.stay.count; others = λ g ne. w.stay.others g ne ∙ s.stay.others g ne; words = λ g k ne. w.stay.words g k ne ∙ s.stay.words g k ne };
   holds = record {
     pc = w.beside 0 (λ e. omega arith) ∙ s.holds.pc;

@@ -1,8 +1,13 @@
-//! Trapframes, `satp`, and what is kept in one place of the cache.
+//! Trapframes, `satp`, tables without pages, and what is kept in one place of the cache.
+ghost use Rattle.std.specs.Prelude.{◌≡◌, Some, replicate};
+ghost use Rattle.phys_ram.specs.Ram.{zero_frame};
+ghost use Rattle.hart_core.specs.Steps.{FitsHart};
+
 use crate::{Cache, Hart};
 use phys_ram::Ram;
+use rv64i_core::Stop;
 use std::test::Fail;
-use xk_base::{Access, Frame, Reg, Vpn};
+use xk_base::{Access, Cause, Frame, Reg, Vpn};
 
 #[test]
 fn a_trapframe_holds_the_pc_first_and_then_the_registers(rt: HostRuntime) -> Result<(), Fail> {
@@ -55,5 +60,26 @@ fn page_67_takes_the_place_of_page_3(rt: HostRuntime) -> Result<(), Fail> {
     assert_eq!(rt; cache.cached(other), Some(Frame::new(11)));
     cache.forget(other);
     assert_eq!(rt; cache.cached(other), None);
+    Ok(())
+}
+
+// A step over tables of zeros, whose root is frame 4.
+fn step_without_pages(hart: &mut Hart, ram: &mut Ram) -> Stop
+    requires root { hart.old.root ≡ Some 4 }
+    requires zeros { ram.old ≡ replicate 16 zero_frame }
+    requires fits { FitsHart ram.old hart.old.root hart.old.cache }
+{
+    hart.step(ram)
+}
+
+#[test]
+fn a_page_that_is_not_there_is_not_kept(rt: HostRuntime) -> Result<(), Fail> {
+    let mut ram = Ram::new(rt.alloc(), 16)?;
+    let mut hart = Hart::new();
+    hart.switch(Frame::new(4));
+    let stop = step_without_pages(&mut hart, &mut ram);
+    assert_eq!(rt; stop, Stop::Fault(Cause::FetchPageFault));
+    assert_eq!(rt; hart.cached(Vpn::new(0)), None);
+    assert_eq!(rt; hart.regs().pc(), 0);
     Ok(())
 }

@@ -1,4 +1,4 @@
-use Rattle.std.proofs.Common.{None, cond, refl, sym, ap, ◌∙◌, arith}
+use Rattle.std.proofs.Common.{None, cond, refl, ap, ◌∙◌, arith}
 use Rattle.std.specs.FinMap.{get}
 use Rattle.sv39_core.proofs.Words.{ltb-no}
 use Rattle.sv39_core.specs.Tree.{page_at}
@@ -7,6 +7,7 @@ use Rattle.sv39_core.proofs.Gathered.{gathered-get}
 use Rattle.addr_space.proofs.Trades.{space-counts}
 use Rattle.addr_space.proofs.Mapping.{small-counts}
 use Rattle.addr_space.proofs.Copies.{copied-none, copied-step, copied-all, room-for}
+use Rattle.addr_space.proofs.Isolation.{spared}
 use Rattle.addr_space.proofs.Space.copy.Goals as goal
 
 pub overflow_add-self : goal.overflow_add-self
@@ -47,3 +48,9 @@ returns-clause-image c =
 
 pub returns-clause-fits : goal.returns-clause-fits
 returns-clause-fits c = omega (arith, c.if-free-self.false, c.free.ensures c.args.ram.now c.requires.belongs.good, space-counts c.args.ram.now c.args.self.now c.requires.belongs.whole)
+
+pub returns-clause-others : goal.returns-clause-others
+returns-clause-others c other s =
+    let start = copied-none c.args.pool.now c.empty.new.pool c.args.ram.now c.empty.new.ram c.args.self.now c.in-Ok.child c.requires.belongs c.in-Ok.ensures.made c.in-Ok.ensures.image
+    (omega (arith, c.if-free-self.false, c.free.ensures c.args.ram.now c.requires.belongs.good, space-counts c.args.ram.now c.args.self.now c.requires.belongs.whole)) in
+    spared _ _ _ _ _ _ other (copied-all c.args.pool.now c.empty.new.pool c.pages.pool c.args.ram.now c.empty.new.ram c.pages.ram c.args.self.now c.in-Ok.child c.pages.child c.pages.from c.in-Ok.ensures.made start.1 c.pages.invariant c.in_default-next_page.ensures.none).0.traded s

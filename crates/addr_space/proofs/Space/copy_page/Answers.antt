@@ -5,7 +5,7 @@ use Rattle.addr_space.specs.Changes.{zeroed}
 use Rattle.xk_base.specs.Image.{with_page}
 use Rattle.addr_space.specs.Space.{image_of}
 use Rattle.sv39_core.proofs.Places.{root-inside, page-owned}
-use Rattle.addr_space.proofs.Copies.{came-page, no-leaf, page-copied, leaf-allowed}
+use Rattle.addr_space.proofs.Copies.{came-page, no-leaf, page-copied}
 use Rattle.addr_space.proofs.Space.copy_page.Goals as goal
 
 pub entry_of_page-requires-clause-root_in : goal.entry_of_page-requires-clause-root_in

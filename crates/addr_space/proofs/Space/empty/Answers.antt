@@ -1,4 +1,5 @@
 use Rattle.addr_space.proofs.Empties.{made-empty}
+use Rattle.addr_space.proofs.Isolation.{spared}
 use Rattle.addr_space.proofs.Space.empty.Goals as goal
 
 pub returns-clause-made : goal.returns-clause-made
@@ -6,3 +7,6 @@ returns-clause-made c = (made-empty c.args.pool.now c.take.new.self c.args.ram.n
 
 pub returns-clause-image : goal.returns-clause-image
 returns-clause-image c = (made-empty c.args.pool.now c.take.new.self c.args.ram.now c.take.new.ram c.in-Some.root c.requires.good c.in-Some.ensures.taken).1
+
+pub returns-clause-others : goal.returns-clause-others
+returns-clause-others c other s = spared _ _ _ _ _ _ other (made-empty c.args.pool.now c.take.new.self c.args.ram.now c.take.new.ram c.in-Some.root c.requires.good c.in-Some.ensures.taken).0.traded s

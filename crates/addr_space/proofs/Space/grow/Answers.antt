@@ -3,6 +3,7 @@ use Rattle.std.specs.FinMap.{get}
 use Rattle.sv39_core.specs.Tree.{pages_of}
 use Rattle.addr_space.specs.Changes.{zeroed, with_absent}
 use Rattle.addr_space.proofs.Grown.{perm-none, perm-some, no-refusal, SoFar, so_far-none, so_far-new, so_far-same}
+use Rattle.addr_space.proofs.Isolation.{spared}
 use Rattle.addr_space.proofs.Space.grow.Goals.{in-None+in-Ok, in_default}
 use Rattle.addr_space.proofs.Space.grow.Goals as goal
 
@@ -35,3 +36,6 @@ loop-v-preserved c =
           (perm-some (get (pages_of c.loop-v.ram c.loop-v.self.root) c.new-vpn.result) (λ e. w.in_default.not-None (c.perm.ensures ∙ e))) (omega (arith, v, c.loop-v.auto.v)) (omega (arith, v, small)) in
           rw (w.self-is, w.pool-is, w.ram-is, sym v) next
     ]
+
+pub returns-clause-others : goal.returns-clause-others
+returns-clause-others c other s = spared _ _ _ _ _ _ other c.loop-v.invariant.changed.traded s

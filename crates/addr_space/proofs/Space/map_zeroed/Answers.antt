@@ -9,6 +9,8 @@ use Rattle.sv39_core.proofs.Places.{root-inside, table-owned}
 use Rattle.addr_space.proofs.Steps.{place-page, same-then-added, absent-after}
 use Rattle.addr_space.proofs.Paths.{beside-join, place-beside}
 use Rattle.addr_space.proofs.Mapping.{absent-at, costs, mapped, image-more, small-counts, needs-some}
+use Rattle.addr_space.proofs.Isolation.{spared}
+use Rattle.addr_space.proofs.Trades.{trade-added}
 use Rattle.addr_space.proofs.Space.map_zeroed.Goals.{After-self-2-1, After-free}
 use Rattle.addr_space.proofs.Space.map_zeroed.Goals as goal
 
@@ -109,3 +111,6 @@ returns-clause-fits c =
     let e : c.frames_for-needed.result ≡ rise c.args.ram.now c.args.self.now.root c.args.vpn = c.frames_for-needed.ensures ∙ ap (rise c.args.ram.now c.args.self.now.root) c.number-v.ensures.value in
     let cost = costs c.args.ram.now c.args.self.now c.args.vpn c.frames_for-needed.result (zeroed c.args.perm) c.requires.belongs.whole c.number-v.ensures.range (absent-at c.args.ram.now c.args.self.now.root c.args.vpn c.number-v.ensures.range c.requires.absent) e in
     omega (arith, cost, c.if-free-needed.false, c.free.ensures c.args.ram.now c.requires.belongs.good)
+
+pub returns-clause-others : goal.returns-clause-others
+returns-clause-others c other s = spared _ _ _ _ _ _ other (trade-added c.args.pool.now c.place.new.pool c.args.ram.now c.place.new.ram c.args.self.now.root c.args.vpn c.args.perm (came c).added) s

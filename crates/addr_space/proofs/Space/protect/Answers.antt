@@ -1,7 +1,7 @@
-use Rattle.std.proofs.Common.{◌≡◌, ◌+◌, ◌*◌, ◌/◌, ◌%◌, Some, false, sym, ap, ◌∙◌, subst, arith}
+use Rattle.std.proofs.Common.{None, ◌≡◌, ◌+◌, ◌*◌, ◌/◌, ◌%◌, Some, false, sym, ap, ◌∙◌, subst, arith}
 use Rattle.phys_ram.specs.Ram.{frame_at, WordWritten}
 use Rattle.sv39_core.specs.declared.entry.Entry.TheVariants.{Leaf}
-use Rattle.sv39_core.specs.Sv39.{page_entry, leaf_word}
+use Rattle.sv39_core.specs.Sv39.{table_at, last, page_entry, leaf_word}
 use Rattle.sv39_core.specs.Tree.{page_of, page_at}
 use Rattle.addr_space.specs.Space.{image_of}
 use Rattle.addr_space.specs.Changes.{protected}
@@ -10,7 +10,8 @@ use Rattle.sv39_core.proofs.Places.{root-inside, table-owned}
 use Rattle.addr_space.proofs.Clearing.{entry-page}
 use Rattle.addr_space.proofs.Pages.{perm-changed, perm-image, page-is}
 use Rattle.xk_base.specs.declared.access.Rights.{Rights}
-use Rattle.addr_space.proofs.Copies.{leaf-allowed, some-is}
+use Rattle.addr_space.proofs.Prices.{page-got}
+use Rattle.addr_space.proofs.Copies.{no-leaf, there-at, leaf-allowed, some-is}
 use Rattle.addr_space.proofs.Space.protect.Goals.{After-write_u64}
 use Rattle.addr_space.proofs.Space.protect.Goals as goal
 
@@ -43,6 +44,23 @@ returns-clause-image c page there =
     let v : 512 * (c.number-v.result / 512) + c.number-v.result % 512 ≡ c.args.vpn = omega (arith, c.number-v.ensures.value) in
     let image = perm-image c.args.ram.now c.write_u64.new.self c.args.self.now c.in-Some.lower (c.number-v.result % 512) (c.number-v.result / 512) c.in-Leaf.frame c.in-Leaf.perm (record { read = c.in-Leaf.perm.read; write = c.in-Leaf.perm.write; execute = c.in-Leaf.perm.execute; user = false }) c.in-Leaf.field-2 c.in-Leaf.field-3 c.requires.whole (sym c.in-Some.ensures) (omega arith) (sym c.in-Leaf.ensures) (put c)
     (leaf-allowed c.args.ram.now c.args.self.now.root _ c.in-Leaf.frame c.in-Leaf.perm c.in-Leaf.field-2 c.in-Leaf.field-3 (entry c)) c.number.ensures.range in
-    let is_page : Some (record { perm = c.in-Leaf.perm; bytes = frame_at c.args.ram.now c.in-Leaf.frame }) ≡ Some page = sym (page-is c.args.ram.now c.args.self.now _ c.in-Leaf.frame c.in-Leaf.perm c.in-Leaf.field-2 c.in-Leaf.field-3 c.requires.whole (entry c)) ∙ ap (page_at c.args.ram.now c.args.self.now.root) v ∙ there in
+    let is_page : Some (record { perm = c.in-Leaf.perm; bytes = frame_at c.args.ram.now c.in-Leaf.frame }) ≡ Some page = sym (page-is c.args.ram.now c.args.self.now _ c.in-Leaf.frame c.in-Leaf.perm c.in-Leaf.field-2 c.in-Leaf.field-3 c.requires.whole (entry c)) ∙ ap (page_at c.args.ram.now c.args.self.now.root) v ∙ sym (page-got c.args.ram.now c.args.self.now.root c.args.vpn c.number-v.ensures.range) ∙ there in
     let same : record { perm = c.in-Leaf.perm; bytes = frame_at c.args.ram.now c.in-Leaf.frame } ≡ page = some-is _ page is_page in
     image ∙ ap (λ u. with_page (image_of c.args.ram.now c.args.self.now) u (protected (record { perm = c.in-Leaf.perm; bytes = frame_at c.args.ram.now c.in-Leaf.frame }))) v ∙ ap (λ p. with_page (image_of c.args.ram.now c.args.self.now) c.args.vpn (protected p)) same
+
+pub unreachable-requires : goal.unreachable-requires
+unreachable-requires c =
+    let ram = c.args.ram.now in
+    let root = c.args.self.now.root in
+    let gone : table_at ram root 2 (c.number-v.result / 512) ≡ None = sym c.lower_table.ensures ∙ c.in_default.is in
+    let w : None ≡ Some c.requires.there.0 = sym (ap (λ t. page_of ram (last ram t (c.number-v.result % 512))) gone) ∙ there-at ram root c.args.vpn c.number-v.result c.requires.there.0 c.number-v.ensures.range c.number-v.ensures.value c.requires.there.1 in
+    absurd (cc)
+
+pub unreachable-requires-in_default-read_entry : goal.unreachable-requires-in_default-read_entry
+unreachable-requires-in_default-read_entry c =
+    let ram = c.args.ram.now in
+    let root = c.args.self.now.root in
+    let found : table_at ram root 2 (c.number-v.result / 512) ≡ Some c.in-Some.lower = sym c.in-Some.ensures in
+    no-leaf ram c.read_entry.result c.requires.there.0
+    (ap (page_of ram) c.read_entry.ensures ∙ sym (ap (λ t. page_of ram (last ram t (c.number-v.result % 512))) found) ∙ there-at ram root c.args.vpn c.number-v.result c.requires.there.0 c.number-v.ensures.range c.number-v.ensures.value c.requires.there.1)
+    c.in_default-read_entry.not-Leaf

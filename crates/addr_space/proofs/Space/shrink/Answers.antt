@@ -1,6 +1,7 @@
 use Rattle.std.proofs.Common.{◌≡◌, ◌+◌, ◌/◌, ap, ◌∙◌, arith}
 use Rattle.sv39_core.specs.Tree.{pages_of}
 use Rattle.addr_space.proofs.Freeing.{pages-below}
+use Rattle.addr_space.proofs.Isolation.{spared}
 use Rattle.addr_space.proofs.Space.shrink.Goals as goal
 
 pub returns-clause-image : goal.returns-clause-image
@@ -8,3 +9,6 @@ returns-clause-image c =
     let root : c.free_from.new.self.root ≡ c.args.self.now.root = c.free_from.ensures.changed.root in
     ap (λ r. record { pages = pages_of c.free_from.new.ram r; size = c.args.size }) root
     ∙ ap (λ m. record { pages = m; size = c.args.size }) (pages-below c.args.ram.now c.free_from.new.ram c.args.self.now.root ((c.args.size + 4095) / 4096) (omega (arith, c.requires.limit)) c.free_from.ensures.below c.free_from.ensures.above)
+
+pub returns-clause-others : goal.returns-clause-others
+returns-clause-others c other s = spared _ _ _ _ _ _ other c.free_from.ensures.changed.traded s

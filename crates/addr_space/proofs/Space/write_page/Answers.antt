@@ -6,7 +6,8 @@ use Rattle.addr_space.specs.Changes.{overwritten}
 use Rattle.xk_base.specs.Image.{with_page}
 use Rattle.sv39_core.proofs.Places.{root-inside, page-owned}
 use Rattle.addr_space.proofs.Pages.{bytes-changed, bytes-image, page-is}
-use Rattle.addr_space.proofs.Copies.{set-stays, set-here, some-is}
+use Rattle.addr_space.proofs.Prices.{page-got}
+use Rattle.addr_space.proofs.Copies.{no-leaf, there-at, set-stays, set-here, some-is}
 use borrow.Rule.Slice.PartMut.{post_of, Post-is}
 use Rattle.addr_space.proofs.Space.write_page.Goals as goal
 
@@ -35,9 +36,15 @@ returns-clause-image c page there =
     let stay = set-stays ram (set ram f new) f new refl in
     let image = bytes-image ram (set ram f new) c.args.self.now c.number.result f c.in-Leaf.field-1 c.in-Leaf.field-2 c.in-Leaf.field-3 c.requires.whole (sym c.in-Leaf.ensures) stay in
     let v : c.number.result ≡ c.args.vpn = c.number.ensures.value in
-    let is_page : Some (record { perm = c.in-Leaf.field-1; bytes = old }) ≡ Some page = sym (page-is ram c.args.self.now c.number.result f c.in-Leaf.field-1 c.in-Leaf.field-2 c.in-Leaf.field-3 c.requires.whole (sym c.in-Leaf.ensures)) ∙ ap (page_at ram c.args.self.now.root) v ∙ there in
+    let is_page : Some (record { perm = c.in-Leaf.field-1; bytes = old }) ≡ Some page = sym (page-is ram c.args.self.now c.number.result f c.in-Leaf.field-1 c.in-Leaf.field-2 c.in-Leaf.field-3 c.requires.whole (sym c.in-Leaf.ensures)) ∙ ap (page_at ram c.args.self.now.root) v ∙ sym (page-got ram c.args.self.now.root c.args.vpn c.number.ensures.range) ∙ there in
     let same = some-is (record { perm = c.in-Leaf.field-1; bytes = old }) page is_page in
     image
     ∙ ap (λ b. with_page (image_of ram c.args.self.now) c.number.result (record { perm = c.in-Leaf.field-1; bytes = b })) (set-here ram (set ram f new) f new refl inside ∙ is_new)
     ∙ ap (λ u. with_page (image_of ram c.args.self.now) u (overwritten (record { perm = c.in-Leaf.field-1; bytes = old }) at bytes)) v
     ∙ ap (λ p. with_page (image_of ram c.args.self.now) c.args.vpn (overwritten p at bytes)) same
+
+pub unreachable-requires : goal.unreachable-requires
+unreachable-requires c =
+    let root = c.args.self.now.root in
+    no-leaf c.args.ram.now c.entry_of_page.result c.requires.there.0
+    (ap (page_of c.args.ram.now) c.entry_of_page.ensures ∙ there-at c.args.ram.now root c.args.vpn c.number.result c.requires.there.0 c.number.ensures.range c.number.ensures.value c.requires.there.1) c.in_default.not-Leaf
