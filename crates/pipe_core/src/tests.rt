@@ -36,6 +36,7 @@ fn the_frame_has_four_words_and_then_the_ring(rt: HostRuntime) -> Result<(), Fai
     let f = Frame::new(15);
     make(&mut ram, f);
     assert_eq!(rt; push(&mut ram, f, &[0x61, 0x62, 0x63]), 3);
+    assert_eq!(rt; readers(&ram, f), 1);
     add_reader(&mut ram, f);
     let mut out = [0];
     assert_eq!(rt; pull(&mut ram, f, &mut out), 1);
