@@ -15,10 +15,17 @@ use Rattle.addr_space.proofs.Growing.{cost, later-more}
 use Rattle.addr_space.proofs.PriceTo.{cost-size}
 use Rattle.addr_space.proofs.Trades.{free-after, belongs-after}
 use Rattle.addr_space.proofs.Freeing.{changed-none, changed-join}
+use Rattle.addr_space.specs.Translations.{TranslationsStay}
+use Rattle.addr_space.proofs.Translations.{stays-none, stays-join}
 
 pub perm-none : (o : Option Page) → option_map perm_of_page o ≡ None → o ≡ None
 perm-none None e = refl
 perm-none (Some p) e = absurd (cc)
+
+-- a page that allows something is there
+pub perm-there : (o : Option Page) (p : Rights) → option_map perm_of_page o ≡ Some p → (page : Page) × (o ≡ Some page)
+perm-there None p e = absurd (cc)
+perm-there (Some page) p e = (page, refl)
 
 pub perm-some : (o : Option Page) → (option_map perm_of_page o ≡ None → ⊥) → is_some o ≡ true
 perm-some None ne = absurd (ne refl)
@@ -66,13 +73,14 @@ pub record SoFar (pool0 : Pool) (ram0 : List (List ℕ)) (s0 : Space) (first : �
   pub changed : Changed pool0 ram0 s0 pool ram s
   pub size : s.size ≡ s0.size
   pub pages : pages_of ram s0.root ≡ with_absent (pages_of ram0 s0.root) first (v - first) (zeroed perm)
+  pub translations : TranslationsStay ram0 ram s0.root
 
 pub so_far-none : (pool : Pool) (ram : List (List ℕ)) (s : Space) (first : ℕ) (perm : Rights) → Belongs pool ram s → SoFar pool ram s first perm first pool ram s
-so_far-none pool ram s first perm b = record { belongs = b; changed = changed-none pool ram s b; size = refl; pages = absent-start (pages_of ram s.root) first (zeroed perm) }
+so_far-none pool ram s first perm b = record { belongs = b; changed = changed-none pool ram s b; size = refl; pages = absent-start (pages_of ram s.root) first (zeroed perm); translations = stays-none ram s.root }
 
 pub so_far-new : (pool0 pool1 pool2 : Pool) (ram0 ram1 ram2 : List (List ℕ)) (s0 s1 s2 : Space) (first v : ℕ) (perm : Rights) → SoFar pool0 ram0 s0 first perm v pool1 ram1 s1 → Changed pool1 ram1 s1 pool2 ram2 s2
-    → image_of ram2 s2 ≡ with_page (image_of ram1 s1) v (zeroed perm) → get (pages_of ram1 s1.root) v ≡ None → first ≤ v → v < 67108864 → SoFar pool0 ram0 s0 first perm (v + 1) pool2 ram2 s2
-so_far-new pool0 pool1 pool2 ram0 ram1 ram2 s0 s1 s2 first v perm so c image none ge small =
+    → image_of ram2 s2 ≡ with_page (image_of ram1 s1) v (zeroed perm) → TranslationsStay ram1 ram2 s1.root → get (pages_of ram1 s1.root) v ≡ None → first ≤ v → v < 67108864 → SoFar pool0 ram0 s0 first perm (v + 1) pool2 ram2 s2
+so_far-new pool0 pool1 pool2 ram0 ram1 ram2 s0 s1 s2 first v perm so c image stay none ge small =
     let is : pages_of ram1 s1.root ≡ with_absent (pages_of ram0 s0.root) first (v - first) (zeroed perm) = ap (pages_of ram1) so.changed.root ∙ so.pages in
     let next = absent-step (pages_of ram0 s0.root) (pages_of ram1 s1.root) first v (zeroed perm) false ge is (ap is_some none) in
     record {
@@ -80,6 +88,7 @@ so_far-new pool0 pool1 pool2 ram0 ram1 ram2 s0 s1 s2 first v perm so c image non
       changed = changed-join pool0 pool1 pool2 ram0 ram1 ram2 s0 s1 s2 so.changed c;
       size = ap image_size image ∙ so.size;
       pages = ap (pages_of ram2) (sym (c.root ∙ so.changed.root)) ∙ ap image_pages image ∙ sym next;
+      translations = stays-join ram0 ram1 ram2 s0.root s1.root so.changed.root so.translations stay;
     }
 
 pub so_far-same : (pool0 pool1 : Pool) (ram0 ram1 : List (List ℕ)) (s0 s1 : Space) (first v : ℕ) (perm : Rights) → SoFar pool0 ram0 s0 first perm v pool1 ram1 s1 → is_some (get (pages_of ram1 s1.root) v) ≡ true → first ≤ v → v < 67108864
@@ -87,4 +96,4 @@ pub so_far-same : (pool0 pool1 : Pool) (ram0 ram1 : List (List ℕ)) (s0 s1 : Sp
 so_far-same pool0 pool1 ram0 ram1 s0 s1 first v perm so some ge small =
     let is : pages_of ram1 s1.root ≡ with_absent (pages_of ram0 s0.root) first (v - first) (zeroed perm) = ap (pages_of ram1) so.changed.root ∙ so.pages in
     let next = absent-step (pages_of ram0 s0.root) (pages_of ram1 s1.root) first v (zeroed perm) true ge is some in
-    record { belongs = so.belongs; changed = so.changed; size = so.size; pages = ap (pages_of ram1) (sym so.changed.root) ∙ sym next }
+    record { belongs = so.belongs; changed = so.changed; size = so.size; pages = ap (pages_of ram1) (sym so.changed.root) ∙ sym next; translations = so.translations }

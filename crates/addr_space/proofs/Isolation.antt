@@ -1,27 +1,49 @@
 -- A change of one space leaves every other as it was.
-use Rattle.std.proofs.Common.{◌≡◌, ℕ, ◌/◌, ◌%◌, ◌^◌, List, None, cond, ap, arith}
-use Rattle.xk_base.specs.declared.access.Access.{Access}
+use Rattle.std.proofs.Common.{ℕ, ◌+◌, ◌<◌, ◌≤◌, ◌⊎◌, List, inl, inr, ap, arith}
+use Rattle.std.proofs.lemmas.Bool.{cases_lt}
+use Rattle.xk_base.specs.Frames.{copies}
 use Rattle.frame_list.specs.declared.Pool.{Pool}
+use Rattle.frame_list.specs.Pool.{free_in, Good}
 use Rattle.frame_list.specs.Traded.{Traded}
-use Rattle.sv39_core.specs.Sv39.{is_canonical, allowed, walked}
-use Rattle.sv39_core.specs.Tree.{IsTree}
 use Rattle.sv39_core.proofs.Owned.{Kept, kept-pages, kept-image, kept-owned}
 use Rattle.addr_space.specs.declared.Space.{Space}
-use Rattle.addr_space.specs.Space.{IsStranger, Spared}
+use Rattle.addr_space.specs.Space.{frames_of, IsSpace, Belongs, IsStranger, Spared, Isolation}
 use Rattle.addr_space.proofs.Copies.{space-kept, same-price}
+use Rattle.addr_space.proofs.Translations.{walks-same}
 
--- where all frames of a tree keep their bytes, each walk stays
-kept-walk : (ram ram' : List (List ℕ)) (root va : ℕ) (access : Access) → IsTree ram root → Kept ram ram' root → walked ram' root va access ≡ walked ram root va access
-unfolding walked
-kept-walk ram ram' root va access tree kept = ap (λ e. cond (is_canonical va) (allowed access e (va % 2 ^ 12)) None) (kept-pages ram ram' root tree kept (va / 2 ^ 12 % 2 ^ 27))
+-- a space whose frames keep their bytes is as it was
+pub frames-kept : (ram ram' : List (List ℕ)) (space : Space) → IsSpace ram space → Kept ram ram' space.root → Spared ram ram' space
+frames-kept ram ram' space is kept = record {
+  whole = space-kept ram ram' space is kept;
+  image = ap (λ m. record { pages = m; size = space.size }) (same-price ram ram' space (kept-image ram ram' space.root is.tree kept));
+  frames = kept-owned ram ram' space.root is.tree kept;
+  walks = walks-same ram ram' space.root (kept-pages ram ram' space.root is.tree kept);
+}
+
+pub is-isolated : Isolation
+is-isolated ram ram' space is count bytes = frames-kept ram ram' space is (record { count = count; bytes = bytes })
 
 -- frames that go between the free ones and one owner leave the spaces that have none of them
 pub spared : (pool pool' : Pool) (ram ram' : List (List ℕ)) (mine mine' : List ℕ) (other : Space) → Traded pool ram pool' ram' mine mine' → IsStranger pool ram mine other → Spared ram ram' other
 spared pool pool' ram ram' mine mine' other t s =
-    let kept : Kept ram ram' other.root = record { count = t.count; bytes = λ f own. t.others f (omega (arith, s.apart f own)) (omega (arith, s.apart f own)) } in
-    record {
-      whole = space-kept ram ram' other s.whole kept;
-      image = ap (λ m. record { pages = m; size = other.size }) (same-price ram ram' other (kept-image ram ram' other.root s.whole.tree kept));
-      frames = kept-owned ram ram' other.root s.whole.tree kept;
-      walks = λ va access. kept-walk ram ram' other.root va access s.whole.tree kept;
-    }
+    frames-kept ram ram' other s.whole (record { count = t.count; bytes = λ f own. t.others f (omega (arith, s.apart f own)) (omega (arith, s.apart f own)) })
+
+-- ---- several owners
+
+-- two spaces of one pool that share no frame are strangers
+pub strangers : (pool : Pool) (ram : List (List ℕ)) (space other : Space) → Belongs pool ram space → Belongs pool ram other → ((f : ℕ) → copies f (frames_of ram space) + copies f (frames_of ram other) ≤ 1) → IsStranger pool ram (frames_of ram space) other
+strangers pool ram space other b o apart = record { whole = o.whole; apart = λ f own. omega (arith, own, o.apart f, apart f) }
+
+-- a stranger stays one
+pub stranger-after : (pool pool' : Pool) (ram ram' : List (List ℕ)) (mine mine' : List ℕ) (other : Space) → Traded pool ram pool' ram' mine mine' → IsStranger pool ram mine other → IsStranger pool' ram' mine' other
+stranger-after pool pool' ram ram' mine mine' other t s =
+    let same = spared pool pool' ram ram' mine mine' other t s in
+    record { whole = same.whole; apart = λ f own. omega (arith, t.frames f, s.apart f (omega (arith, own, ap (copies f) same.frames))) }
+
+-- a stranger belongs to the pool
+pub stranger-belongs : (pool : Pool) (ram : List (List ℕ)) (mine : List ℕ) (other : Space) → Good pool ram → IsStranger pool ram mine other → Belongs pool ram other
+stranger-belongs pool ram mine other good s = record { good = good; whole = s.whole; apart = λ f. by f (cases_lt 0 (copies f (frames_of ram other))) }
+  where
+    by : (f : ℕ) → (0 < copies f (frames_of ram other)) ⊎ (copies f (frames_of ram other) ≤ 0) → copies f (free_in pool ram) + copies f (frames_of ram other) ≤ 1
+    by f (inl own) = omega (arith, s.apart f own, s.whole.tree.once.once f)
+    by f (inr none) = omega (arith, none, good.frames.once f)

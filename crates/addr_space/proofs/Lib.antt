@@ -1,4 +1,5 @@
 pub mod Half
+pub mod Translations
 pub mod Isolation
 pub mod Steps
 pub mod Prices
@@ -13,3 +14,6 @@ pub mod PriceTo
 pub mod Grown
 pub mod Pages
 pub mod Copies
+pub mod PlainPrice
+pub mod InPlace
+pub mod Parts

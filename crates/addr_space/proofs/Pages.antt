@@ -32,7 +32,7 @@ pub record SameTables (ram ram' : List (List ℕ)) (root : ℕ) : Type 0 where
   pub count : length ram' ≡ length ram
   pub half : Half ram' root
 
-still-tables : (ram ram' : List (List ℕ)) (root : ℕ) → length ram' ≡ length ram → ((l p f : ℕ) → l ≤ 2 → table_at ram root l p ≡ Some f → frame_at ram' f ≡ frame_at ram f) → (l p : ℕ) → l ≤ 2 → table_at ram' root l p ≡ table_at ram root l p
+pub still-tables : (ram ram' : List (List ℕ)) (root : ℕ) → length ram' ≡ length ram → ((l p f : ℕ) → l ≤ 2 → table_at ram root l p ≡ Some f → frame_at ram' f ≡ frame_at ram f) → (l p : ℕ) → l ≤ 2 → table_at ram' root l p ≡ table_at ram root l p
 still-tables ram ram' root count kept zero zero le = refl
 still-tables ram ram' root count kept zero (suc p) le = refl
 still-tables ram ram' root count kept (suc l) p le =
@@ -42,7 +42,7 @@ still-tables ram ram' root count kept (suc l) p le =
     step None i h = refl
     step (Some f) i h = ap table_of (ap (λ n. entry_of n (word_at ram' f i)) count ∙ ap (entry_of (length ram)) (word_at-same ram ram' f i (h f refl)))
 
-still-entries : (ram ram' : List (List ℕ)) (root : ℕ) → length ram' ≡ length ram → ((l p f : ℕ) → l ≤ 2 → table_at ram root l p ≡ Some f → frame_at ram' f ≡ frame_at ram f) → (v : ℕ) → page_entry ram' root v ≡ page_entry ram root v
+pub still-entries : (ram ram' : List (List ℕ)) (root : ℕ) → length ram' ≡ length ram → ((l p f : ℕ) → l ≤ 2 → table_at ram root l p ≡ Some f → frame_at ram' f ≡ frame_at ram f) → (v : ℕ) → page_entry ram' root v ≡ page_entry ram root v
 still-entries ram ram' root count kept v =
     ap (λ t. last ram' t (v % 512)) (still-tables ram ram' root count kept 2 (v / 512) (omega arith)) ∙ step (table_at ram root 2 (v / 512)) (v % 512) (λ f e. kept 2 (v / 512) f (omega arith) e)
   where
@@ -50,7 +50,7 @@ still-entries ram ram' root count kept v =
     step None i h = refl
     step (Some f) i h = ap (λ n. entry_of n (word_at ram' f i)) count ∙ ap (entry_of (length ram)) (word_at-same ram ram' f i (h f refl))
 
-same-owned : (ram ram' : List (List ℕ)) (root : ℕ) → SameTables ram ram' root → owned ram' root ≡ owned ram root
+pub same-owned : (ram ram' : List (List ℕ)) (root : ℕ) → SameTables ram ram' root → owned ram' root ≡ owned ram root
 unfolding owned uppers lowers page_frames
 same-owned ram ram' root s =
     let u : uppers ram' root ≡ uppers ram root = listed-same (table_at ram' root 1) (table_at ram root 1) 256 (λ k h. s.tables 1 k (omega arith)) in
@@ -58,7 +58,7 @@ same-owned ram ram' root s =
     let p : page_frames ram' root ≡ page_frames ram root = listed-same (λ v. frame_of (page_entry ram' root v)) (λ v. frame_of (page_entry ram root v)) (2 ^ 26) (λ k h. s.frames k) in
     ap (λ a. root ∷ (a ++ (lowers ram' root ++ page_frames ram' root))) u ∙ ap (λ a. root ∷ (uppers ram root ++ (a ++ page_frames ram' root))) l ∙ ap (λ a. root ∷ (uppers ram root ++ (lowers ram root ++ a))) p
 
-same-pages : (ram ram' : List (List ℕ)) (root : ℕ) → SameTables ram ram' root → page_frames ram' root ≡ page_frames ram root
+pub same-pages : (ram ram' : List (List ℕ)) (root : ℕ) → SameTables ram ram' root → page_frames ram' root ≡ page_frames ram root
 unfolding page_frames
 same-pages ram ram' root s = listed-same (λ v. frame_of (page_entry ram' root v)) (λ v. frame_of (page_entry ram root v)) (2 ^ 26) (λ k h. s.frames k)
 
@@ -102,7 +102,7 @@ pub record Written (pool : Pool) (ram ram' : List (List ℕ)) (space : Space) (v
   pub changed : Changed pool ram space pool ram' space
   pub image : image_of ram' space ≡ with_page (image_of ram space) v page
 
-kept-but : (ram ram' : List (List ℕ)) (root v g : ℕ) (perm : Rights) (a d : Bool) → IsTree ram root → page_entry ram root v ≡ Leaf g perm a d → OthersStay ram ram' g → (l p f : ℕ) → l ≤ 2 → table_at ram root l p ≡ Some f → frame_at ram' f ≡ frame_at ram f
+pub kept-but : (ram ram' : List (List ℕ)) (root v g : ℕ) (perm : Rights) (a d : Bool) → IsTree ram root → page_entry ram root v ≡ Leaf g perm a d → OthersStay ram ram' g → (l p f : ℕ) → l ≤ 2 → table_at ram root l p ≡ Some f → frame_at ram' f ≡ frame_at ram f
 kept-but ram ram' root v g perm a d tree leaf stay l p f le e = stay.others f (λ is. page-apart ram root v g l p tree (ap frame_of leaf) le (e ∙ ap Some is))
 
 -- a leaf whose bits A and D are set gives all of its rights
@@ -142,13 +142,13 @@ pub page-written : (pool : Pool) (ram ram' : List (List ℕ)) (space : Space) (v
 page-written pool ram ram' space v g perm a d b leaf stay = record { changed = bytes-changed pool ram ram' space v g perm a d b leaf stay; image = bytes-image ram ram' space v g perm a d b.whole leaf stay }
 
 -- the permissions of a page are written
-record Rewritten (ram ram' : List (List ℕ)) (root f i p g : ℕ) (perm perm' : Rights) (a d : Bool) : Type 0 where
-  tables : (l q : ℕ) → l ≤ 2 → table_at ram' root l q ≡ table_at ram root l q
-  was : page_entry ram root (512 * p + i) ≡ Leaf g perm a d
-  here : page_entry ram' root (512 * p + i) ≡ Leaf g perm' true true
-  others : (u : ℕ) → u ≢ 512 * p + i → page_entry ram' root u ≡ page_entry ram root u
+pub record Rewritten (ram ram' : List (List ℕ)) (root f i p g : ℕ) (perm perm' : Rights) (a d : Bool) : Type 0 where
+  pub tables : (l q : ℕ) → l ≤ 2 → table_at ram' root l q ≡ table_at ram root l q
+  pub was : page_entry ram root (512 * p + i) ≡ Leaf g perm a d
+  pub here : page_entry ram' root (512 * p + i) ≡ Leaf g perm' true true
+  pub others : (u : ℕ) → u ≢ 512 * p + i → page_entry ram' root u ≡ page_entry ram root u
 
-rewritten : (ram ram' : List (List ℕ)) (root f i p g : ℕ) (perm perm' : Rights) (a d : Bool) → IsTree ram root → table_at ram root 2 p ≡ Some f → i < 512 → entry_at ram f i ≡ Leaf g perm a d → WordWritten ram ram' f i (leaf_word g perm') → is_perm perm' ≡ true → g < 32768
+pub rewritten : (ram ram' : List (List ℕ)) (root f i p g : ℕ) (perm perm' : Rights) (a d : Bool) → IsTree ram root → table_at ram root 2 p ≡ Some f → i < 512 → entry_at ram f i ≡ Leaf g perm a d → WordWritten ram ram' f i (leaf_word g perm') → is_perm perm' ≡ true → g < 32768
     → Rewritten ram ram' root f i p g perm perm' a d
 rewritten ram ram' root f i p g perm perm' a d tree found inside leaf put ok small =
     let spot = spot-of ram root 2 p f tree (omega arith) found in

@@ -1,6 +1,6 @@
 -- The steps of a price: a run of pages without a table, and one page in a table.
-use Rattle.std.proofs.Common.{◌≡◌, ◌≢◌, ℕ, suc, ◌+◌, ◌-◌, ◌*◌, ◌/◌, ◌%◌, ◌<◌, ◌≤◌, true, cond, is_some, List, Option, Some, None, inl, inr, refl, sym, ap, ◌∙◌, arith}
-use Rattle.std.proofs.lemmas.Bool.{cases_eq}
+use Rattle.std.proofs.Common.{◌≡◌, ◌≢◌, ℕ, zero, suc, ◌+◌, ◌-◌, ◌*◌, ◌/◌, ◌%◌, ◌<◌, ◌≤◌, true, cond, is_some, List, Option, Some, None, inl, inr, refl, sym, ap, ◌∙◌, arith}
+use Rattle.std.proofs.lemmas.Bool.{cases_eq, cases_lt}
 use Rattle.std.specs.Ordering.{nat_cmp}
 use Rattle.std.specs.FinMap.{FinMap, get}
 use Rattle.sv39_core.specs.declared.entry.Entry.{Entry}
@@ -10,7 +10,7 @@ use Rattle.xk_base.specs.Image.{Page, price}
 use Rattle.addr_space.specs.Changes.{with_absent}
 use Rattle.sv39_core.specs.Tree.{page_of, pages_of, frame_of, IsTree}
 use Rattle.addr_space.specs.Space.{NoneEmpty}
-use Rattle.sv39_core.proofs.Places.{below-some}
+use Rattle.sv39_core.proofs.Places.{below-some, no-lower}
 use Rattle.addr_space.proofs.Prices.{lower-test, upper-test, page-got}
 use Rattle.addr_space.proofs.Growing.{low, high, cost, high-old, high-new, cost-run, cost-one, absent-there}
 
@@ -78,6 +78,27 @@ price-run ram root first v end size need page tree full ge lt group small none a
     (λ p off. later (λ e. omega (arith, e, p)) (λ z. off (ap (λ x. x % 262144) at ∙ z)))
     (λ e a. new (sym (ap (λ x. table_at ram root 1 (x / 262144)) at) ∙ e) (λ ne. sym (ap (λ x. x % 262144) at) ∙ a (omega (arith, ge, ne)))) in
     omega (arith, run, last, ap (λ m. cost (with_absent (pages_of ram root) first m page) size) total)
+
+-- a run of pages without an upper table: so many lower tables, and the upper one once
+pub price-span : (fuel : ℕ) (ram : List (List ℕ)) (root first v end size need : ℕ) (page : Page) → IsTree ram root → NoneEmpty ram root → first ≤ v → v < end → end ≤ 512 * (v / 512 + fuel) → end ≤ (v / 262144 + 1) * 262144 → end ≤ 67108864
+    → table_at ram root 1 (v / 262144) ≡ None → (first < v → v % 512 ≡ 0)
+    → ((v ≡ first → ⊥) → (v % 262144 ≡ 0 → ⊥) → need ≡ 0) → ((v ≢ first → v % 262144 ≡ 0) → need ≡ 1)
+    → cost (with_absent (pages_of ram root) first (end - first) page) size ≡ cost (with_absent (pages_of ram root) first (v - first) page) size + (need + ((end - 1) / 512 - v / 512 + 1) + (end - v))
+price-span zero ram root first v end size need page tree full ge lt few group small none aligned later new = absurd (omega (arith, lt, few))
+price-span (suc fuel) ram root first v end size need page tree full ge lt few group small none aligned later new =
+    let mid = (v / 512 + 1) * 512 in
+    elim (cases_lt mid end) [
+      | inl more ↦
+          let one = price-run ram root first v mid size need page tree full ge (omega arith) (omega arith) (omega (arith, more, small)) (no-lower ram root v none) aligned (λ ne. absurd (ne none)) later (λ e. new) in
+          let same : mid / 262144 ≡ v / 262144 = omega (arith, more, group) in
+          let next : mid / 512 ≡ v / 512 + 1 = omega arith in
+          let rest = price-span fuel ram root first mid end size 0 page tree full (omega (arith, ge)) more (omega (arith, few, next)) (omega (arith, group, same)) small (ap (table_at ram root 1) same ∙ none) (λ p. omega arith) (λ a b. refl) (λ a. absurd (omega (arith, more, group, a (λ e. omega (arith, e, ge))))) in
+          omega (arith, one, rest, next, more)
+      | inr whole ↦
+          let one = price-run ram root first v end size need page tree full ge lt whole small (no-lower ram root v none) aligned (λ ne. absurd (ne none)) later (λ e. new) in
+          let same : (end - 1) / 512 ≡ v / 512 = omega (arith, whole, lt) in
+          omega (arith, one, same)
+    ]
 
 pub price-one : (ram : List (List ℕ)) (root first v size need f : ℕ) (page : Page) → IsTree ram root → NoneEmpty ram root → first ≤ v → v < 67108864 → table_at ram root 2 (v / 512) ≡ Some f
     → ((g : ℕ) → frame_of (page_entry ram root v) ≡ Some g → need ≡ 0) → (frame_of (page_entry ram root v) ≡ None → need ≡ 1)

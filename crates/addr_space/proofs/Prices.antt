@@ -172,7 +172,7 @@ abbrev one_if : Bool → ℕ
 one_if b = cond b 1 0
 
 -- one number more passes a test
-how_many-more : (n : ℕ) (p q : ℕ → Bool) (t : ℕ) → t < n → q t ≡ true → ((k : ℕ) → k < n → k ≢ t → q k ≡ p k) → how_many n q ≡ how_many n p + cond (p t) 0 1
+pub how_many-more : (n : ℕ) (p q : ℕ → Bool) (t : ℕ) → t < n → q t ≡ true → ((k : ℕ) → k < n → k ≢ t → q k ≡ p k) → how_many n q ≡ how_many n p + cond (p t) 0 1
 unfolding count_below
 how_many-more zero p q t lt new others = absurd (omega arith)
 how_many-more (suc n) p q t lt new others =

@@ -1,5 +1,5 @@
 -- Frames that go between the pool and a holder.
-use Rattle.std.proofs.Common.{◌≡◌, ◌≢◌, ℕ, ◌+◌, ◌≤◌, List, length, sym, ◌∙◌, arith}
+use Rattle.std.proofs.Common.{◌≡◌, ◌≢◌, ℕ, zero, suc, ◌+◌, ◌^◌, ◌≤◌, List, length, Option, Some, None, sym, ◌∙◌, arith}
 use Rattle.xk_base.specs.Frames.{copies}
 use Rattle.xk_base.proofs.Frames.{at-other, copies-nil, copies-one, length-once}
 use Rattle.xk_base.specs.declared.access.Rights.{Rights}
@@ -7,7 +7,9 @@ use Rattle.phys_ram.specs.Ram.{frame_at}
 use Rattle.frame_list.specs.declared.Pool.{Pool}
 use Rattle.frame_list.specs.Pool.{free_in, Good}
 use Rattle.addr_space.specs.declared.Space.{Space}
-use Rattle.sv39_core.specs.Tree.{owned, IsTree}
+use Rattle.sv39_core.specs.Listed.{push_some, listed}
+use Rattle.sv39_core.specs.Sv39.{table_at, page_entry}
+use Rattle.sv39_core.specs.Tree.{frame_of, uppers, lowers, page_frames, owned, IsTree}
 use Rattle.addr_space.specs.Steps.{Holds, SameImage, PageAdded}
 use Rattle.xk_base.specs.Image.{price}
 use Rattle.addr_space.specs.Space.{image_of, frames_of, IsSpace, Belongs, Changed, Made}
@@ -48,3 +50,29 @@ belongs-made pool pool' ram ram' space good made = record { good = made.traded.g
 
 pub few : (ram : List (List ℕ)) (root : ℕ) → IsTree ram root → length (owned ram root) ≤ length ram
 few ram root tree = length-once (length ram) (owned ram root) tree.once
+
+-- the size plays no part
+pub belongs-resized : (pool : Pool) (ram : List (List ℕ)) (space : Space) (size : ℕ) → Belongs pool ram space → Belongs pool ram (record space { size = size })
+belongs-resized pool ram space size b = record {
+  good = b.good;
+  whole = record { tree = b.whole.tree; full = b.whole.full; leaves = b.whole.leaves; pages = b.whole.pages; tables = b.whole.tables };
+  apart = b.apart;
+}
+
+-- whatever RAM is, a tree has room for so many frames
+listed-few : (f : ℕ → Option ℕ) (n : ℕ) → length (listed f n) ≤ n
+unfolding listed
+listed-few f zero = omega arith
+listed-few f (suc n) = one (f n) (listed f n) (listed-few f n)
+  where
+    one : (o : Option ℕ) (xs : List ℕ) → length xs ≤ n → length (push_some o xs) ≤ suc n
+    one None xs le = omega (arith, le)
+    one (Some x) xs le = omega (arith, le)
+
+pub counts-few : (ram : List (List ℕ)) (space : Space) → IsSpace ram space → space.tables + space.pages ≤ 2 ^ 27
+unfolding uppers lowers page_frames
+counts-few ram space is =
+    let high = listed-few (table_at ram space.root 1) 256 in
+    let low = listed-few (table_at ram space.root 2) (2 ^ 17) in
+    let leaves = listed-few (λ v. frame_of (page_entry ram space.root v)) (2 ^ 26) in
+    omega (arith, is.pages, is.tables, high, low, leaves)

@@ -1,3 +1,6 @@
 pub mod Space
+pub mod Translations
 pub mod Changes
+pub mod PlainPrice
+pub mod InPlace
 pub mod Steps

@@ -2,15 +2,16 @@
 use Rattle.std.specs.Prelude.{◌≡◌, ℕ, ◌+◌, ◌*◌, ◌≤◌, ◌<◌, true, List, [], Some, length}
 use Rattle.xk_base.specs.Frames.{copies}
 use Rattle.xk_base.specs.Image.{Image}
-use Rattle.xk_base.specs.declared.access.Access.{Access}
+use Rattle.phys_ram.specs.Ram.{frame_at}
 use Rattle.frame_list.specs.declared.Pool.{Pool}
 use Rattle.frame_list.specs.Pool.{free_in, Good}
 use Rattle.frame_list.specs.Traded.{Traded}
 use Rattle.sv39_core.specs.declared.entry.Entry.{Entry}
 use Rattle.sv39_core.specs.declared.entry.Entry.TheVariants.{Invalid, Table, Leaf}
-use Rattle.sv39_core.specs.Sv39.{table_at, page_entry, walked}
+use Rattle.sv39_core.specs.Sv39.{table_at, page_entry}
 use Rattle.sv39_core.specs.Tree.{pages_of, frame_of, uppers, lowers, page_frames, owned, IsTree}
 use Rattle.addr_space.specs.declared.Space.{Space}
+use Rattle.addr_space.specs.Translations.{WalksStay}
 
 -- ---- one space
 
@@ -78,8 +79,14 @@ pub record Spared (ram ram' : List (List ℕ)) (other : Space) : Type 0 where
   pub whole : IsSpace ram' other
   pub image : image_of ram' other ≡ image_of ram other
   pub frames : frames_of ram' other ≡ frames_of ram other
-  pub walks : (va : ℕ) (access : Access) → walked ram' other.root va access ≡ walked ram other.root va access
+  pub walks : WalksStay ram ram' other.root
 
 -- a call on the owner of `mine` spares every space of another owner
 abbrev pub SparesOthers : Pool → List (List ℕ) → List ℕ → List (List ℕ) → Type 0
 SparesOthers pool ram mine ram' = (other : Space) → IsStranger pool ram mine other → Spared ram ram' other
+
+-- ---- laws
+
+-- a space whose frames keep their bytes is spared, whatever is written to other frames
+abbrev pub Isolation : Type 0
+Isolation = (ram ram' : List (List ℕ)) (space : Space) → IsSpace ram space → length ram' ≡ length ram → ((f : ℕ) → 1 ≤ copies f (frames_of ram space) → frame_at ram' f ≡ frame_at ram f) → Spared ram ram' space

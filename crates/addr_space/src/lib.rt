@@ -16,19 +16,24 @@ ghost use Rattle.sv39_core.specs.Sv39.{table_at, page_entry, entry_at, table_of}
 ghost use Rattle.xk_base.specs.declared.limits.TheConstants.{SIZE_LIMIT};
 ghost use Rattle.xk_base.specs.Access.{IsPerm};
 ghost use Rattle.xk_base.specs.declared.access.Rights.{Rights};
-ghost use Rattle.xk_base.specs.Image.{Page, price, with_page, no_pages};
+ghost use Rattle.xk_base.specs.Image.{Page, price, with_page, no_pages, page_count};
+ghost use Rattle.addr_space.specs.PlainPrice.{plain_price};
 ghost use Rattle.addr_space.specs.Changes.{zeroed, grown, perm_of_page, shrunk, protected, overwritten};
+ghost use Rattle.addr_space.specs.InPlace.{WrittenInPlace};
+ghost use Rattle.xk_base.specs.Bytes.{write_image};
 ghost use Rattle.addr_space.specs.Steps.{Hanging, Placing, Holds, SameImage, PageAdded, missing, rise, Beside, Cleared, Freed};
 ghost use Rattle.sv39_core.specs.Tree.{page_at, pages_of, page_frames, frame_of};
-ghost use Rattle.addr_space.specs.Space.{image_of, Belongs, Changed, Unchanged, Made, IsSpace, Usual, frames_of, SparesOthers};
+ghost use Rattle.addr_space.specs.Space.{image_of, Belongs, Changed, Unchanged, Made, IsSpace, Usual, frames_of, SparesOthers, Isolation};
+ghost use Rattle.addr_space.specs.Translations.{TranslationsStay, WalksStay, WalksStayBelow, WalksStayBeside};
 ghost use Rattle.frame_list.specs.Traded.{Traded};
 ghost use Rattle.std.specs.FinMap.{get, len};
-ghost use Rattle.sv39_core.specs.declared.entry.Entry.TheVariants.{Invalid};
+ghost use Rattle.sv39_core.specs.declared.entry.Entry.TheVariants.{Invalid, Leaf};
 
 use frame_list::Pool;
 use phys_ram::Ram;
 use sv39_core::{Entry, Pte, read_entry};
 
+mod across;
 #[cfg(test)]
 mod tests;
 
@@ -55,6 +60,7 @@ impl Space {
     pub fn empty(pool: &mut Pool, ram: &mut Ram) -> Result<Space, NoFrames>
         requires good { Good pool.old ram.old }
         ensures made { IfOk result (λ space. Made pool.old ram.old pool.new ram.new space) }
+        ensures belongs { IfOk result (λ space. Belongs pool.new ram.new space) }
         ensures image { IfOk result (λ space. image_of ram.new space ≡ no_pages) }
         ensures others { IfOk result (λ _. SparesOthers pool.old ram.old [] ram.new) }
         ensures refused { IfErr result (λ _. (length (free_in pool.old ram.old) ≡ 0) × (pool.new ≡ pool.old) × (ram.new ≡ ram.old)) }
@@ -89,6 +95,16 @@ impl Space {
         ensures { (ram : List (List ℕ)) → IsSpace ram self.now → result ≡ len (pages_of ram self.now.root) }
     {
         self.pages
+    }
+
+    /// How many frames the space owns: its image's price. As many a [`copy`](Space::copy) takes.
+    pub fn price(&self) -> u32
+        requires { (ram : List (List ℕ)) × IsSpace ram self.now }
+        ensures owned { (ram : List (List ℕ)) → IsSpace ram self.now → result ≡ length (frames_of ram self.now) }
+        ensures price { (ram : List (List ℕ)) → IsSpace ram self.now → result ≡ price (image_of ram self.now) }
+        ensures plain { (ram : List (List ℕ)) → IsSpace ram self.now → result ≡ plain_price (image_of ram self.now) }
+    {
+        self.tables + self.pages
     }
 
     /// What a page allows; none where there is no page.
@@ -210,6 +226,21 @@ fn frames_for(ram: &Ram, root: Frame, v: usize) -> u32
     1
 }
 
+/// Adds a page of zeros where there is none, and the tables that are missing on the way to it.
+fn add_page(pool: &mut Pool, ram: &mut Ram, root: Frame, v: usize, perm: Perm)
+    requires holds { Holds pool.old ram.old root }
+    requires page { v < 2 ^ 26 }
+    requires absent { page_at ram.old root v ≡ None }
+    requires room { rise ram.old root v ≤ length (free_in pool.old ram.old) }
+    ensures added { PageAdded pool.old ram.old pool.new ram.new root v perm }
+    ensures beside { Beside ram.old ram.new root v }
+    ensures there { (g : ℕ) × (page_entry ram.new root v ≡ Leaf g perm true true) }
+{
+    let upper = upper_for(pool, ram, root, v);
+    let lower = lower_for(pool, ram, root, upper, v);
+    place(pool, ram, lower, v % 512, perm);
+}
+
 impl Space {
     /// Maps a page of zeros where there is none. The size stays.
     ///
@@ -225,7 +256,9 @@ impl Space {
         requires belongs { Belongs pool.old ram.old self.old }
         requires absent { get (image_of ram.old self.old).pages vpn ≡ None }
         ensures changed { IfOk result (λ _. Changed pool.old ram.old self.old pool.new ram.new self.new) }
+        ensures belongs { IfOk result (λ _. Belongs pool.new ram.new self.new) }
         ensures image { IfOk result (λ _. image_of ram.new self.new ≡ with_page (image_of ram.old self.old) vpn (zeroed perm)) }
+        ensures translations { IfOk result (λ _. TranslationsStay ram.old ram.new self.old.root) }
         ensures others { IfOk result (λ _. SparesOthers pool.old ram.old (frames_of ram.old self.old) ram.new) }
         ensures fits { IfOk result (λ _. price (with_page (image_of ram.old self.old) vpn (zeroed perm)) ≤ price (image_of ram.old self.old) + length (free_in pool.old ram.old)) }
         ensures refused { IfErr result (λ _. (price (image_of ram.old self.old) + length (free_in pool.old ram.old) < price (with_page (image_of ram.old self.old) vpn (zeroed perm))) × Unchanged pool.old ram.old self.old pool.new ram.new self.new) }
@@ -235,9 +268,7 @@ impl Space {
         if pool.free() < needed {
             return Err(NoFrames);
         }
-        let upper = upper_for(pool, ram, self.root, v);
-        let lower = lower_for(pool, ram, self.root, upper, v);
-        place(pool, ram, lower, v % 512, perm);
+        add_page(pool, ram, self.root, v, perm);
         self.pages += 1;
         self.tables += needed - 1;
         Ok(())
@@ -285,28 +316,31 @@ fn lower_table(ram: &Ram, root: Frame, v: usize) -> Option<Frame>
     Some(lower)
 }
 
-/// Whether an entry of a table leads to a page.
-fn has_page(ram: &Ram, table: Frame) -> bool
+/// Whether an entry of a table leads to a page. It looks from entry `from` on, and then at those before
+/// it: where pages are freed in order, the next one is found at once.
+fn has_page(ram: &Ram, table: Frame, from: usize) -> bool
     requires table_in { table < length ram.now }
+    requires from_in { from < 512 }
     ensures none { result ≡ false → (k : ℕ) → k < 512 → frame_of (entry_at ram.now table k) ≡ None }
     ensures some { result ≡ true → (k : ℕ) × (f : ℕ) × (k < 512) × (frame_of (entry_at ram.now table k) ≡ Some f) }
 {
     for i in 0..512 {
-        if let Entry::Leaf(..) = read_entry(ram, table, i) {
+        if let Entry::Leaf(..) = read_entry(ram, table, (from + i) % 512) {
             return true;
         }
     }
     false
 }
 
-/// Whether an entry of a table leads to a table.
-fn has_table(ram: &Ram, table: Frame) -> bool
+/// Whether an entry of a table leads to a table, looked for as [`has_page`] does.
+fn has_table(ram: &Ram, table: Frame, from: usize) -> bool
     requires table_in { table < length ram.now }
+    requires from_in { from < 512 }
     ensures none { result ≡ false → (k : ℕ) → k < 512 → table_of (entry_at ram.now table k) ≡ None }
     ensures some { result ≡ true → (k : ℕ) × (f : ℕ) × (k < 512) × (table_of (entry_at ram.now table k) ≡ Some f) }
 {
     for i in 0..512 {
-        if let Entry::Table(_) = read_entry(ram, table, i) {
+        if let Entry::Table(_) = read_entry(ram, table, (from + i) % 512) {
             return true;
         }
     }
@@ -349,7 +383,7 @@ fn free_lower(pool: &mut Pool, ram: &mut Ram, root: Frame, v: usize) -> u32
     let Some(lower) = lower_table(ram, root, v) else {
         return 0;
     };
-    if has_page(ram, lower) {
+    if has_page(ram, lower, v % 512) {
         return 0;
     }
     clear(pool, ram, upper, v / 512 % 512, lower);
@@ -370,11 +404,28 @@ fn free_upper(pool: &mut Pool, ram: &mut Ram, root: Frame, v: usize) -> u32
     let Some(upper) = upper_table(ram, root, v) else {
         return 0;
     };
-    if has_table(ram, upper) {
+    if has_table(ram, upper, v / 512 % 512) {
         return 0;
     }
     clear(pool, ram, root, v / 262144, upper);
     1
+}
+
+/// The least entry of a table, from one on, that leads to a page; 512 where there is none.
+fn next_leaf(ram: &Ram, table: Frame, from: usize) -> usize
+    requires table_in { table < length ram.now }
+    requires from_in { from < 512 }
+    ensures ahead { from ≤ result }
+    ensures bound { result ≤ 512 }
+    ensures none { (k : ℕ) → from ≤ k → k < result → frame_of (entry_at ram.now table k) ≡ None }
+    ensures found { result < 512 → (f : ℕ) × (frame_of (entry_at ram.now table result) ≡ Some f) }
+{
+    for i in from..512 {
+        if let Entry::Leaf(..) = read_entry(ram, table, i) {
+            return i;
+        }
+    }
+    512
 }
 
 /// The least page from a place on.
@@ -390,14 +441,15 @@ fn next_page(ram: &Ram, root: Frame, from: usize) -> Option<usize>
             v = (v / 262144 + 1) * 262144;
             continue 'pages;
         };
-        let Some(_) = lower_table(ram, root, v) else {
+        let Some(lower) = lower_table(ram, root, v) else {
             v = (v / 512 + 1) * 512;
             continue 'pages;
         };
-        if let Entry::Leaf(..) = entry_of_page(ram, root, v) {
+        let i = next_leaf(ram, lower, v % 512);
+        v = v / 512 * 512 + i;
+        if i < 512 {
             return Some(v);
         }
-        v += 1;
     }
     None
 }
@@ -411,6 +463,8 @@ impl Space {
         ensures changed { Changed pool.old ram.old self.old pool.new ram.new self.new }
         ensures size { self.new.size ≡ self.old.size }
         ensures fewer { self.old.pages ≡ 1 + self.new.pages }
+        ensures gone { page_entry ram.new self.old.root v ≡ Invalid }
+        ensures entries { (u : ℕ) → (u ≡ v → ⊥) → page_entry ram.new self.old.root u ≡ page_entry ram.old self.old.root u }
         ensures others { (u : ℕ) → (u ≡ v → ⊥) → page_at ram.new self.old.root u ≡ page_at ram.old self.old.root u }
     {
         free_leaf(pool, ram, self.root, v);
@@ -426,11 +480,14 @@ impl Space {
         requires first_in { first ≤ 2 ^ 26 }
         ensures changed { Changed pool.old ram.old self.old pool.new ram.new self.new }
         ensures size { self.new.size ≡ self.old.size }
+        ensures entries { (u : ℕ) → u < first → page_entry ram.new self.old.root u ≡ page_entry ram.old self.old.root u }
         ensures below { (u : ℕ) → u < first → page_at ram.new self.old.root u ≡ page_at ram.old self.old.root u }
         ensures above { (u : ℕ) → first ≤ u → u < 2 ^ 26 → frame_of (page_entry ram.new self.old.root u) ≡ None }
     {
-        'pages: while let Some(v) = next_page(ram, self.root, first) {
+        let mut from = first;
+        'pages: while let Some(v) = next_page(ram, self.root, from) {
             self.free_page(pool, ram, v);
+            from = v + 1;
         }
     }
 
@@ -441,7 +498,9 @@ impl Space {
         requires less { size ≤ self.old.size }
         requires limit { size ≤ SIZE_LIMIT }
         ensures changed { Changed pool.old ram.old self.old pool.new ram.new self.new }
+        ensures belongs { Belongs pool.new ram.new self.new }
         ensures image { image_of ram.new self.new ≡ shrunk (image_of ram.old self.old) size }
+        ensures walks { WalksStayBelow (4096 * page_count size) ram.old ram.new self.old.root }
         ensures others { SparesOthers pool.old ram.old (frames_of ram.old self.old) ram.new }
     {
         let first = ((size + 4095) / 4096) as usize;
@@ -476,9 +535,15 @@ impl Space {
         let mut v = first;
         let mut count: u32 = 0;
         'pages: while v < last {
+            let Some(_) = upper_table(ram, self.root, v) else {
+                let end = ((v / 262144 + 1) * 262144).min(last);
+                count += 1 + tables_for(v, end) + (end - v) as u32;
+                v = end;
+                continue 'pages;
+            };
             let Some(_) = lower_table(ram, self.root, v) else {
                 let end = ((v / 512 + 1) * 512).min(last);
-                count += new_upper(ram, self.root, v, first) + 1 + (end - v) as u32;
+                count += 1 + (end - v) as u32;
                 v = end;
                 continue 'pages;
             };
@@ -505,7 +570,9 @@ impl Space {
         requires more { self.old.size ≤ size }
         requires limit { size ≤ SIZE_LIMIT }
         ensures changed { IfOk result (λ _. Changed pool.old ram.old self.old pool.new ram.new self.new) }
+        ensures belongs { IfOk result (λ _. Belongs pool.new ram.new self.new) }
         ensures image { IfOk result (λ _. image_of ram.new self.new ≡ grown (image_of ram.old self.old) size perm) }
+        ensures translations { IfOk result (λ _. TranslationsStay ram.old ram.new self.old.root) }
         ensures others { IfOk result (λ _. SparesOthers pool.old ram.old (frames_of ram.old self.old) ram.new) }
         ensures fits { IfOk result (λ _. price (grown (image_of ram.old self.old) size perm) ≤ price (image_of ram.old self.old) + length (free_in pool.old ram.old)) }
         ensures refused { IfErr result (λ _. (price (image_of ram.old self.old) + length (free_in pool.old ram.old) < price (grown (image_of ram.old self.old) size perm)) × Unchanged pool.old ram.old self.old pool.new ram.new self.new) }
@@ -529,25 +596,13 @@ impl Space {
     }
 }
 
-/// Whether a growth from a place on needs an upper table at a page.
-fn new_upper(ram: &Ram, root: Frame, v: usize, first: usize) -> u32
-    requires root_in { root < length ram.now }
-    requires page { v < 2 ^ 26 }
-    ensures few { result ≤ 1 }
-    ensures there { table_at ram.now root 1 (v / 262144) ≢ None → result ≡ 0 }
-    ensures later { (v ≡ first → ⊥) → (v % 262144 ≡ 0 → ⊥) → result ≡ 0 }
-    ensures new { table_at ram.now root 1 (v / 262144) ≡ None → (v ≢ first → v % 262144 ≡ 0) → result ≡ 1 }
+/// How many lower tables the pages from `v` to below `end` take where there is none.
+fn tables_for(v: usize, end: usize) -> u32
+    requires some { v < end }
+    requires page { end ≤ 2 ^ 26 }
+    ensures { result ≡ (end - 1) / 512 - v / 512 + 1 }
 {
-    if let Some(_) = upper_table(ram, root, v) {
-        return 0;
-    }
-    if v == first {
-        return 1;
-    }
-    if v % 262144 == 0 {
-        return 1;
-    }
-    0
+    ((end - 1) / 512 - v / 512 + 1) as u32
 }
 
 /// Whether a growth needs a page.
@@ -572,12 +627,13 @@ impl Space {
     pub fn copy(&self, pool: &mut Pool, ram: &mut Ram) -> Result<Space, NoFrames>
         requires belongs { Belongs pool.old ram.old self.now }
         ensures made { IfOk result (λ child. Made pool.old ram.old pool.new ram.new child) }
+        ensures belongs { IfOk result (λ child. Belongs pool.new ram.new child) }
         ensures image { IfOk result (λ child. image_of ram.new child ≡ image_of ram.old self.now) }
         ensures others { IfOk result (λ _. SparesOthers pool.old ram.old [] ram.new) }
         ensures fits { IfOk result (λ _. price (image_of ram.old self.now) ≤ length (free_in pool.old ram.old)) }
         ensures refused { IfErr result (λ _. (length (free_in pool.old ram.old) < price (image_of ram.old self.now)) × (pool.new ≡ pool.old) × (ram.new ≡ ram.old)) }
     {
-        if pool.free() < self.tables + self.pages {
+        if pool.free() < self.price() {
             return Err(NoFrames);
         }
         let Ok(mut child) = Space::empty(pool, ram) else {
@@ -624,6 +680,8 @@ impl Space {
         requires there { (page : Page) × (get (image_of ram.old self.now).pages vpn ≡ Some page) }
         ensures changed { (pool : Pool) → Belongs pool ram.old self.now → Changed pool ram.old self.now pool ram.new self.now }
         ensures image { (page : Page) → get (image_of ram.old self.now).pages vpn ≡ Some page → image_of ram.new self.now ≡ with_page (image_of ram.old self.now) vpn (protected page) }
+        ensures others { (pool : Pool) → Belongs pool ram.old self.now → SparesOthers pool ram.old (frames_of ram.old self.now) ram.new }
+        ensures walks { WalksStayBeside vpn ram.old ram.new self.now.root }
     {
         let v = vpn.number() as usize;
         let Some(lower) = lower_table(ram, self.root, v) else {
@@ -665,6 +723,10 @@ impl Space {
         requires fits { at + length bytes.now ≤ 4096 }
         ensures changed { (pool : Pool) → Belongs pool ram.old self.now → Changed pool ram.old self.now pool ram.new self.now }
         ensures image { (page : Page) → get (image_of ram.old self.now).pages vpn ≡ Some page → image_of ram.new self.now ≡ with_page (image_of ram.old self.now) vpn (overwritten page at bytes.now) }
+        ensures others { (pool : Pool) → Belongs pool ram.old self.now → SparesOthers pool ram.old (frames_of ram.old self.now) ram.new }
+        ensures walks { WalksStay ram.old ram.new self.now.root }
+        ensures written { image_of ram.new self.now ≡ write_image (image_of ram.old self.now) (4096 * vpn + at) bytes.now }
+        ensures in_place { WrittenInPlace ram.old ram.new self.now }
     {
         let Entry::Leaf(frame, ..) = entry_of_page(ram, self.root, vpn.number() as usize) else {
             unreachable!();
@@ -673,3 +735,9 @@ impl Space {
         page[at..at + bytes.len()].copy_from_slice(bytes);
     }
 }
+
+/// The law of isolation, for writes of every kind: a space whose frames keep their bytes keeps its
+/// tables, its image, its list of frames, and where each access leads. It does nothing.
+pub fn law_of_isolation()
+    ensures { Isolation }
+{}

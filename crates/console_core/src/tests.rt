@@ -85,7 +85,7 @@ fn bytes_are_sent_in_order(rt: HostRuntime) -> Result<(), Fail> {
 }
 
 #[test]
-fn refused_memory_is_told_as_memory(rt: HostRuntime) {
+fn a_growth_that_the_host_refuses_is_want_of_memory(rt: HostRuntime) {
     match Console::new(rt.alloc()) {
         Ok(mut console) => assert!(rt; console.committed() == 0 && console.send().is_none()),
         Err(error) => assert_eq!(rt; error, BootError::Memory),

@@ -2,7 +2,7 @@
 use crate::{Descriptors, End, Files, OpenFile, Target};
 use std::test::Fail;
 use xk_base::limits::{NOFILE, OPEN_FILES};
-use xk_base::{Fd, Frame};
+use xk_base::{BootError, Fd, Frame};
 
 #[test]
 fn a_shared_file_has_one_offset_and_closes_with_its_last_name(rt: HostRuntime) -> Result<(), Fail> {
@@ -83,4 +83,12 @@ fn the_lowest_free_descriptor_is_taken(rt: HostRuntime) -> Result<(), Fail> {
     assert_eq!(rt; descriptors.take(Fd::new(5)), file);
     assert_eq!(rt; descriptors.lowest(), Some(Fd::new(5)));
     Ok(())
+}
+
+#[test]
+fn a_growth_that_the_host_refuses_is_want_of_memory(rt: HostRuntime) {
+    match Files::new(rt.alloc()) {
+        Ok(files) => assert_eq!(rt; files.in_use(), 0),
+        Err(error) => assert_eq!(rt; error, BootError::Memory),
+    }
 }

@@ -7,7 +7,7 @@ use crate::{Call, Channel, Reaped, Table};
 use file_table::Files;
 use std::test::Fail;
 use xk_base::limits::{NPROC, PID_MAX};
-use xk_base::{Fd, Frame, NoSlot, Pid};
+use xk_base::{BootError, Fd, Frame, NoSlot, Pid};
 
 /// The slot of the live process of this pid.
 #[tactic(auto, using(crate::proofs::Held::found_is_held, crate::proofs::Held::unended_is_live))]
@@ -169,4 +169,12 @@ fn a_slot_tells_what_it_was_told(rt: HostRuntime) -> Result<(), Fail> {
     assert_eq!(rt; table.descriptors(slot).get(fd), Some(file));
     assert_eq!(rt; table.find(two), Some(slot));
     Ok(())
+}
+
+#[test]
+fn a_growth_that_the_host_refuses_is_want_of_memory(rt: HostRuntime) {
+    match Table::new(rt.alloc(), Pid::new(1)) {
+        Ok(table) => assert_eq!(rt; table.find(Pid::new(1)), None),
+        Err(error) => assert_eq!(rt; error, BootError::Memory),
+    }
 }

@@ -1,3 +1,5 @@
+pub mod Bytes
 pub mod Frames
 pub mod Least
+mod LoadedRows
 pub mod Words

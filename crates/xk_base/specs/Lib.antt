@@ -1,5 +1,9 @@
 pub mod Access
+pub mod Bytes
+pub mod Codes
 pub mod Frames
+pub mod Gathered
 pub mod Image
+pub mod Loaded
 pub mod ProgramFile
 pub mod Words

@@ -1,5 +1,5 @@
 -- Words on numbers and lists that several crates are said with.
-use Rattle.std.specs.Prelude.{ℕ, zero, suc, ◌+◌, ◌*◌, ◌/◌, ◌%◌, Bool, true, false, if◌then◌else◌, List, [], ◌∷◌, Option, None, Some}
+use Rattle.std.specs.Prelude.{ℕ, zero, suc, ◌+◌, ◌*◌, ◌/◌, ◌%◌, Bool, if◌then◌else◌, List, [], ◌∷◌, Option, None, Some}
 
 -- the number that bytes write, the lowest first
 abbrev pub le : List ℕ → ℕ

@@ -1,3 +1,7 @@
 pub mod Boot
-pub mod FlatBytes
+pub mod Frames
+pub mod Images
+pub mod Laid
+pub mod Loads
+pub mod Prices
 pub mod Steps

@@ -28,6 +28,6 @@ done number value v = goes_on (Called number value) (record v { regs = put v.reg
 unfoldable pub perform : ℤ → View → Own
 perform (negsuc k) v = done (negsuc k) minus_one v
 perform (pos n) v =
-    if n == 2 then gone (Exited (c_int (reg v.regs A0)))
+    if n == 2 then gone (Exited (c_int (reg v.regs A0))) v
     else if n == 11 then done (pos n) (pos v.pid) v
     else done (pos n) minus_one v

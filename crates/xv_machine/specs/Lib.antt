@@ -1,10 +1,12 @@
 pub mod Calls
+pub mod Codes
 pub mod First
-pub mod FlatProcess
+pub mod Loaded
 pub mod Machine
 pub mod Own
 pub mod Programs
 pub mod Run
+pub mod Sound
 pub mod State
 pub mod Step
 pub mod View

@@ -1,6 +1,7 @@
--- What one step of a process comes to: what it answers, and what it leaves to the process itself.
-use Rattle.std.specs.Prelude.{◌≡◌, ℕ, ℤ, negsuc, Option, None, Some}
+-- What one step of a process comes to: what it answers, and what it leaves.
+use Rattle.std.specs.Prelude.{◌≡◌, ℕ, ℤ, ◌+◌, negsuc, Option, None, Some}
 use Rattle.xk_base.specs.declared.access.Cause.{Cause}
+use Rattle.xk_base.specs.Image.{price}
 use Rattle.xv_machine.specs.View.{View}
 
 pub data Answer : Type 0 where
@@ -26,16 +27,13 @@ pub record Own : Type 0 where
   pub answer : Answer
   -- the process's next view; none where it is gone
   pub next : Option View
+  -- how many frames are free after it
+  pub free : ℕ
 
 -- the process goes on so
 abbrev pub goes_on : Answer → View → Own
-goes_on answer v = record { answer = answer; next = Some v }
+goes_on answer v = record { answer = answer; next = Some v; free = v.free }
 
--- the process is gone
-abbrev pub gone : Answer → Own
-gone answer = record { answer = answer; next = None }
-
--- the next view, where there is one
-abbrev pub NextIs : Option View → View → Type 0
-NextIs None v = Unit {0}
-NextIs (Some next) v = next ≡ v
+-- the process is gone, and with it all its frames: those of its image, and the trapframe
+abbrev pub gone : Answer → View → Own
+gone answer v = record { answer = answer; next = None; free = v.free + (price v.image + 1) }

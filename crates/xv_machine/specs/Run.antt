@@ -31,12 +31,13 @@ turns_after pid answer = record { current = stays_current pid (gone_with answer)
 
 -- ---- one step of the current process
 
--- its answer and its next view are functions of what it saw before
+-- its answer, its next view and the free frames are functions of what it saw before
 pub record StepOf (w : World) (pid : ℕ) (outcome : Outcome) (t : World) : Type 0 where
   pub before : View
   pub was : view w.state pid ≡ Some before
   pub answer : outcome ≡ outcome_of pid (own before).answer
   pub next : view t.state pid ≡ (own before).next
+  pub free : t.state.free ≡ (own before).free
   pub turns : t.turns ≡ turns_after pid (own before).answer
 
 -- ---- the other cases

@@ -1,12 +1,14 @@
 //! The machine.
-ghost use Rattle.std.specs.Prelude.{◌≡◌, is_some};
+ghost use Rattle.std.specs.Prelude.{◌≡◌, ◌≤◌, is_some};
 ghost use Rattle.xv_machine.specs.Machine as left;
 
 use crate::event::{Event, Outcome};
-use crate::load::{FLAT_BYTES, load};
+use crate::load::load;
+use crate::memories::Memories;
 use crate::programs::{first_refused, init_program};
 use crate::step::step;
-use rv64i_core::{FlatMemory, Regs};
+use hart_core::Hart;
+use rv64i_core::Regs;
 use std::alloc::Global;
 use std::marker::Model;
 use xk_base::limits::{FRAMES_MAX, FRAMES_MIN, TRACE_MAX};
@@ -57,25 +59,33 @@ fn phase_after(outcome: &Outcome) -> Phase
 #[derive(Drop)]
 pub struct Machine {
     phase: Phase,
-    regs: Regs,
-    memory: FlatMemory,
+    hart: Hart,
+    memories: Memories,
 }
 
 impl Model for Machine {
     ghost use Rattle.xv_machine.specs.State.{World};
+    ghost use Rattle.xv_machine.specs.Codes.{world_code};
 
     ghost Value = { World };
 
-    ghost use Rattle.xv_machine.specs.Machine.{world_of};
+    ghost coded = { world_code };
+
+    ghost use Rattle.xv_machine.specs.Machine.{world_of, IsMachine};
 
     ghost view = { world_of };
+
+    ghost invariant = { IsMachine };
 }
 
 impl Machine {
+    ghost use Rattle.std.specs.Prelude.{◌≡◌, ◌≤◌, is_some, IfOk};
+    ghost use Rattle.xk_base.specs.declared.limits.TheConstants.{FRAMES_MIN, FRAMES_MAX};
     ghost use Rattle.xv_machine.specs.Run.{Happens};
+    ghost use Rattle.xv_machine.specs.Sound.{IsSound};
     ghost use Rattle.xv_machine.specs.View.{live, registers_of, byte_of};
     ghost use Rattle.xv_machine.specs.First.{first, first_loaded, Boots};
-    ghost use Rattle.xv_machine.specs.FlatProcess.{loaded_flat};
+    ghost use Rattle.xv_machine.specs.Loaded.{loaded};
 
     /// A machine whose process 1 runs the program called `init`, and waits for its turn.
     ///
@@ -86,9 +96,11 @@ impl Machine {
     /// 64 before it, or a name that is empty, longer than 14 bytes, holds a slash or a zero byte, is
     /// `console` or an earlier one's, or a file of more than 1,048,576 bytes; [`BootError::NoInit`] where
     /// no program is called `init`; [`BootError::Memory`] where the host has too little memory;
-    /// [`BootError::Init`] with the refusal of `init`'s file.
+    /// [`BootError::Init`] with the refusal of `init`'s file, or with `NoFrames` where the price of its
+    /// image and 1 are more than the frames.
     pub fn boot(alloc: Global, config: Config, programs: Vec<Program>) -> Result<Machine, BootError>
-        ensures { Boots result (first config programs.items) }
+        ensures boots { Boots config.frames result (first config programs.items) }
+        ensures sound { IfOk result IsSound }
     {
         if config.is_refused() {
             return Err(BootError::BadConfig);
@@ -99,25 +111,30 @@ impl Machine {
         let Some(init) = init_program(&programs) else {
             return Err(BootError::NoInit);
         };
-        Machine::start(alloc, init.bytes.as_slice())
+        Machine::start(alloc, config.frames, init.bytes.as_slice())
     }
 
     // A machine whose process 1 is made of this file.
-    fn start(alloc: Global, file: &[u8]) -> Result<Machine, BootError>
-        ensures { Boots result (first_loaded (loaded_flat file.now)) }
+    fn start(alloc: Global, frames: u32, file: &[u8]) -> Result<Machine, BootError>
+        requires few { FRAMES_MIN ≤ frames }
+        requires many { frames ≤ FRAMES_MAX }
+        ensures boots { Boots frames result (first_loaded frames (loaded file.now)) }
+        ensures sound { IfOk result IsSound }
     {
-        let mut memory = FlatMemory::new(alloc, FLAT_BYTES)?;
-        let regs = load(file, &mut memory)?;
+        let mut memories = Memories::new(alloc, frames)?;
+        load(&mut memories, file)?;
         Ok(Machine {
             phase: Phase::Ready,
-            regs,
-            memory,
+            hart: Hart::new(),
+            memories,
         })
     }
 
     /// What comes of an event.
     pub fn event(&mut self, event: Event) -> Outcome
-        ensures { Happens self.old event result self.new }
+        ensures happens { Happens self.old event result self.new }
+        ensures sound { IsSound self.new }
+        ensures frames { self.new.frames.count ≡ self.old.frames.count }
     {
         match event {
             Event::Run => self.run(),
@@ -126,17 +143,20 @@ impl Machine {
 
     // Process 1 takes its turn, or makes a step; a machine without it does nothing.
     fn run(&mut self) -> Outcome
-        ensures { Happens self.old Event.Run result self.new }
+        ensures happens { Happens self.old Event.Run result self.new }
+        ensures sound { IsSound self.new }
+        ensures frames { self.new.frames.count ≡ self.old.frames.count }
     {
         let pid = Pid::new(1);
         match self.phase {
             Phase::Halted(_) => Outcome::Halted,
             Phase::Ready => {
+                self.memories.resume(&mut self.hart);
                 self.phase = Phase::Running;
                 Outcome::Turn { pid }
             }
             Phase::Running => {
-                let outcome = step(pid, &mut self.regs, &mut self.memory);
+                let outcome = step(pid, &mut self.hart, &mut self.memories);
                 self.phase = phase_after(&outcome);
                 outcome
             }
@@ -157,17 +177,28 @@ impl Machine {
         if !self.is_live(pid) {
             return None;
         }
-        Some(self.regs)
+        match self.phase {
+            Phase::Ready => Some(self.memories.saved_registers(&self.hart)),
+            _ => Some(*self.hart.regs()),
+        }
     }
 
-    /// The byte at an address of a live process's memory.
+    /// The byte at an address of a live process's memory, whatever its page allows; none where there is
+    /// no page.
     pub fn peek(&self, pid: Pid, address: u64) -> Option<u8>
         ensures { result ≡ byte_of self.now pid address }
     {
         if !self.is_live(pid) {
             return None;
         }
-        self.memory.byte(address)
+        self.memories.byte(address)
+    }
+
+    /// How many frames of RAM are free.
+    pub fn free_frames(&self) -> u32
+        ensures { result ≡ self.now.state.free }
+    {
+        self.memories.free()
     }
 
     /// The pid of the current process.

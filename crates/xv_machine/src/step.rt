@@ -1,14 +1,18 @@
-//! One step of a process, on its registers and its memory.
-ghost use Rattle.std.specs.Prelude.{◌≡◌};
-ghost use Rattle.xv_machine.specs.Own.{NextIs};
-ghost use Rattle.xv_machine.specs.Run.{outcome_of};
-ghost use Rattle.xv_machine.specs.Step.{own, past_ecall};
+//! One step of process 1.
+ghost use Rattle.std.specs.Prelude.{◌≡◌, ◌+◌, length};
+ghost use Rattle.frame_list.specs.Pool.{free_in};
+ghost use Rattle.rv64i_core.specs.Registers.{reg, put, with_pc, after};
+ghost use Rattle.xk_base.specs.Image.{price};
 ghost use Rattle.xv_machine.specs.Calls.{c_int, word, perform};
-ghost use Rattle.xv_machine.specs.View.{seen};
-ghost use Rattle.rv64i_core.specs.Registers.{reg, put};
+ghost use Rattle.xv_machine.specs.Machine.{IsWhole, Stands, Left, image_in, seen};
+ghost use Rattle.xv_machine.specs.Run.{outcome_of};
+ghost use Rattle.xv_machine.specs.Step.{own};
+ghost use Rattle.xv_machine.specs.declared.machine.Phase.TheVariants as phases;
 
 use crate::event::Outcome;
-use rv64i_core::{FlatMemory, Regs, Stop, execute};
+use crate::memories::Memories;
+use hart_core::Hart;
+use rv64i_core::Stop;
 use xk_base::{Pid, Reg};
 
 /// The numbers of the calls (xv6, `syscall.h`).
@@ -28,39 +32,72 @@ fn c_int(register: u64) -> i32
     ((register & 0xffff_ffff) as u32).cast_signed()
 }
 
+// The process is gone, and its frames are free.
+fn remove(hart: &mut Hart, memories: &mut Memories)
+    requires whole { IsWhole memories.old }
+    requires stands { Stands phases.Running hart.old memories.old.ram memories.old.held }
+    ensures whole { IsWhole memories.new }
+    ensures empty { memories.new.held ≡ None }
+    ensures count { length memories.new.ram ≡ length memories.old.ram }
+    ensures free { length (free_in memories.new.pool memories.new.ram) ≡ length (free_in memories.old.pool memories.old.ram) + (price (image_in memories.old.ram memories.old.held) + 1) }
+{
+    hart.leave();
+    memories.remove();
+}
+
 // The call that the registers ask for; the pc is past the ECALL.
 #[tactic(auto, unfolding(crate::specs::Calls::perform))]
-fn call(pid: Pid, regs: &mut Regs, memory: &FlatMemory) -> Outcome
-    ensures answer { result ≡ outcome_of pid (perform (c_int (reg regs.old 17)) (seen pid regs.old memory.now)).answer }
-    ensures next { NextIs (perform (c_int (reg regs.old 17)) (seen pid regs.old memory.now)).next (seen pid regs.new memory.now) }
+fn call(pid: Pid, hart: &mut Hart, memories: &mut Memories) -> Outcome
+    requires whole { IsWhole memories.old }
+    requires stands { Stands phases.Running hart.old memories.old.ram memories.old.held }
+    ensures answer { result ≡ outcome_of pid (perform (c_int (reg hart.old.regs 17)) (seen pid hart.old.regs memories.old)).answer }
+    ensures left { Left (perform (c_int (reg hart.old.regs 17)) (seen pid hart.old.regs memories.old)) pid result memories.old hart.new memories.new }
 {
-    let number = c_int(regs.read(Reg::new(A7)));
+    let number = c_int(hart.regs().read(Reg::new(A7)));
     let value = match number {
         EXIT => {
-            return Outcome::Exited {
-                pid,
-                status: c_int(regs.read(Reg::new(A0))),
-            };
+            let status = c_int(hart.regs().read(Reg::new(A0)));
+            remove(hart, memories);
+            return Outcome::Exited { pid, status };
         }
         GETPID => i64::from(pid.number()),
         _ => -1,
     };
-    regs.write(Reg::new(A0), value.cast_unsigned());
+    answer_with(hart, value);
     Outcome::Called { pid, number, value }
 }
 
-/// One step of the process.
-#[tactic(auto, unfolding(crate::specs::Step::own))]
-pub(crate) fn step(pid: Pid, regs: &mut Regs, memory: &mut FlatMemory) -> Outcome
-    ensures answer { result ≡ outcome_of pid (own (seen pid regs.old memory.old)).answer }
-    ensures next { NextIs (own (seen pid regs.old memory.old)).next (seen pid regs.new memory.new) }
+// Moves the pc past the ECALL.
+fn pass_ecall(hart: &mut Hart)
+    ensures { hart.new ≡ record hart.old { regs = with_pc hart.old.regs (after hart.old.regs) } }
 {
-    match execute(regs, memory) {
+    let regs = hart.regs_mut();
+    regs.set_pc(regs.pc().wrapping_add(4));
+}
+
+// Puts a call's answer into its register.
+fn answer_with(hart: &mut Hart, value: i64)
+    ensures { hart.new ≡ record hart.old { regs = put hart.old.regs A0 (word value) } }
+{
+    hart.regs_mut().write(Reg::new(A0), value.cast_unsigned());
+}
+
+/// One step of the process.
+pub(crate) fn step(pid: Pid, hart: &mut Hart, memories: &mut Memories) -> Outcome
+    requires whole { IsWhole memories.old }
+    requires stands { Stands phases.Running hart.old memories.old.ram memories.old.held }
+    ensures answer { result ≡ outcome_of pid (own (seen pid hart.old.regs memories.old)).answer }
+    ensures left { Left (own (seen pid hart.old.regs memories.old)) pid result memories.old hart.new memories.new }
+{
+    match memories.step(hart) {
         Stop::Next => Outcome::Stepped { pid },
         Stop::Ecall => {
-            regs.set_pc(regs.pc().wrapping_add(4));
-            call(pid, regs, memory)
+            pass_ecall(hart);
+            call(pid, hart, memories)
         }
-        Stop::Fault(cause) => Outcome::Faulted { pid, cause },
+        Stop::Fault(cause) => {
+            remove(hart, memories);
+            Outcome::Faulted { pid, cause }
+        }
     }
 }

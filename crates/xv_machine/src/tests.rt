@@ -94,6 +94,7 @@ fn three_instructions_exit(rt: HostRuntime) -> Result<(), Fail> {
     let mut machine = boot(rt.alloc(), file)?;
     assert_eq!(rt; machine.current(), None);
     assert_eq!(rt; machine.halted(), None);
+    assert_eq!(rt; machine.free_frames(), 11);
     expect_run(
         &rt,
         &mut machine,
@@ -112,8 +113,9 @@ fn three_instructions_exit(rt: HostRuntime) -> Result<(), Fail> {
         (0, Some(0x93)),
         (8, Some(0x73)),
         (12, Some(0)),
-        (65_535, Some(0)),
-        (65_536, None),
+        (4095, Some(0)),
+        (4096, None),
+        (1 << 38, None),
         (u64::MAX, None),
     ] {
         assert_eq!(rt; machine.peek(pid, address), byte, "at {address}");
@@ -130,6 +132,7 @@ fn three_instructions_exit(rt: HostRuntime) -> Result<(), Fail> {
         ],
     );
     assert_eq!(rt; machine.halted(), Some(0));
+    assert_eq!(rt; machine.free_frames(), 16);
     assert_eq!(rt; machine.current(), None);
     assert!(rt; machine.registers(pid).is_none());
     assert_eq!(rt; machine.peek(pid, 0), None);
@@ -159,6 +162,7 @@ fn getpid_then_an_illegal_word(rt: HostRuntime) -> Result<(), Fail> {
         ],
     );
     assert_eq!(rt; machine.halted(), Some(-1));
+    assert_eq!(rt; machine.free_frames(), 16);
     Ok(())
 }
 
@@ -267,14 +271,16 @@ fn the_file_of_init_is_refused(rt: HostRuntime) -> Result<(), Fail> {
     );
     let long = vec![in alloc; 0u8; 1_048_577]?;
     assert_eq!(rt; boot(alloc, long).err(), Some(BootError::BadPrograms(0)));
+    // The price of 16 pages is 19, and of 12 it is 15: the trapframe is the 16th frame.
     for (phnum, vaddr, memsz, error) in [
-        (1, 0, 65_536, None),
-        (1, 61_440, 4096, None),
-        (1, 61_440, 4097, Some(ExecError::NoFrames)),
-        (1, 0, 65_537, Some(ExecError::NoFrames)),
+        (1, 0, 49_152, None),
+        (1, 45_056, 4096, None),
+        (1, 45_056, 4097, Some(ExecError::NoFrames)),
+        (1, 0, 49_153, Some(ExecError::NoFrames)),
+        (1, 0, 65_536, Some(ExecError::NoFrames)),
         (1, 1, 4096, Some(ExecError::BadSegment(0))),
-        (0, 0, 12, Some(ExecError::BadSegment(0))),
-        (2, 0, 12, Some(ExecError::BadSegment(0))),
+        (0, 0, 12, None),
+        (2, 0, 12, Some(ExecError::BadSegment(1))),
     ] {
         let words = &[0x0020_0893, 0x0000_0513, 0x0000_0073];
         let file = file_of(
@@ -293,6 +299,156 @@ fn the_file_of_init_is_refused(rt: HostRuntime) -> Result<(), Fail> {
             "{phnum} {vaddr} {memsz}"
         );
     }
+    Ok(())
+}
+
+// Lays a second program header behind the first, and both segments' bytes behind them: text at 0, and
+// four bytes at 8192, which may be written. The page between them belongs to the second.
+fn two_segments(alloc: Global, words: &[u32]) -> Result<Vec<u8>, AllocError> {
+    let image = Image {
+        phnum: 2,
+        vaddr: 0,
+        memsz: words.len() as u64 * 4,
+        entry: 0,
+        words: &[],
+    };
+    let mut file = file_of(alloc, &image)?;
+    let filesz = words.len() as u64 * 4;
+    file.truncate(64);
+    for (flags, off, vaddr, filesz, memsz) in [
+        (5, 176, 0, filesz, filesz),
+        (6, 176 + filesz, 8192, 4, 5000),
+    ] {
+        file.extend_from_slice(&[1, 0, 0, 0, flags, 0, 0, 0])?;
+        for field in [off, vaddr, vaddr, filesz, memsz, 1] {
+            file.extend_from_slice(&field.to_le_bytes())?;
+        }
+    }
+    for word in words {
+        file.extend_from_slice(&word.to_le_bytes())?;
+    }
+    file.extend_from_slice(b"data")?;
+    Ok(file)
+}
+
+#[test]
+fn two_segments_and_the_page_between_them(rt: HostRuntime) -> Result<(), Fail> {
+    let pid = Pid::new(1);
+    // `lui a0, 1`, `sb a0, 0(a0)`, `lbu a1, 0(a0)`, `jalr x0, 0(a0)`: the page between is read and
+    // written, and not executed.
+    let file = two_segments(
+        rt.alloc(),
+        &[0x0000_1537, 0x00A5_0023, 0x0005_4583, 0x0005_0067],
+    )?;
+    let mut machine = boot(rt.alloc(), file)?;
+    // Root, two tables, four pages, trapframe.
+    assert_eq!(rt; machine.free_frames(), 8);
+    for (address, byte) in [
+        (0, Some(0x37)),
+        (16, Some(0)),
+        (4096, Some(0)),
+        (8191, Some(0)),
+        (8192, Some(b'd')),
+        (8195, Some(b'a')),
+        (8196, Some(0)),
+        (16_383, Some(0)),
+        (16_384, None),
+    ] {
+        assert_eq!(rt; machine.peek(pid, address), byte, "at {address}");
+    }
+    expect_run(
+        &rt,
+        &mut machine,
+        &[
+            Outcome::Turn { pid },
+            Outcome::Stepped { pid },
+            Outcome::Stepped { pid },
+            Outcome::Stepped { pid },
+            Outcome::Stepped { pid },
+            Outcome::Faulted {
+                pid,
+                cause: Cause::FetchPageFault,
+            },
+        ],
+    );
+    assert_eq!(rt; machine.free_frames(), 16);
+    Ok(())
+}
+
+#[test]
+fn a_load_beyond_the_lower_half_faults(rt: HostRuntime) -> Result<(), Fail> {
+    let pid = Pid::new(1);
+    // `li a0, 1`, `slli a0, a0, 38`, `ld a1, 0(a0)`.
+    let file = plain(rt.alloc(), &[0x0010_0513, 0x0265_1513, 0x0005_3583])?;
+    let mut machine = boot(rt.alloc(), file)?;
+    expect_run(
+        &rt,
+        &mut machine,
+        &[
+            Outcome::Turn { pid },
+            Outcome::Stepped { pid },
+            Outcome::Stepped { pid },
+            Outcome::Faulted {
+                pid,
+                cause: Cause::LoadPageFault,
+            },
+        ],
+    );
+    Ok(())
+}
+
+// What comes of the last of these words, each other of which is one done instruction.
+fn last_outcome(alloc: Global, words: &[u32]) -> Result<Outcome, BootError> {
+    let mut machine = boot(alloc, plain(alloc, words)?)?;
+    let mut last = machine.event(Event::Run);
+    for _ in words {
+        last = machine.event(Event::Run);
+    }
+    Ok(last)
+}
+
+#[test]
+fn accesses_that_a_page_does_not_allow(rt: HostRuntime) -> Result<(), Fail> {
+    let pid = Pid::new(1);
+    let cases: [(&[u32], Cause); 9] = [
+        // `sb x0, 0(x0)`: the text may not be written.
+        (&[0x0000_0023], Cause::StorePageFault),
+        // `lui a0, 1`, `sb x0, 0(a0)`: no page.
+        (&[0x0000_1537, 0x0005_0023], Cause::StorePageFault),
+        // `lui a0, 1`, `lb a0, 0(a0)`: no page.
+        (&[0x0000_1537, 0x0005_0503], Cause::LoadPageFault),
+        // `jalr x0, 2(x0)`.
+        (&[0x0020_0067], Cause::TargetMisaligned),
+        // `lui a0, 3`, `ld a1, -31(a0)`: at 0x2FE1.
+        (&[0x0000_3537, 0xFE15_3583], Cause::LoadMisaligned),
+        // `lui a0, 3`, `sw a1, -30(a0)`: at 0x2FE2.
+        (&[0x0000_3537, 0xFEB5_2123], Cause::StoreMisaligned),
+        // A word that is no instruction here, and `ebreak`.
+        (&[0xC000_2573], Cause::IllegalInstruction),
+        (&[0x0010_0073], Cause::Breakpoint),
+        // `lui a0, 2`, `jalr x0, 0(a0)`, and then the fetch from there.
+        (&[0x0000_2537, 0x0005_0067, 0], Cause::FetchPageFault),
+    ];
+    for (words, cause) in cases {
+        let outcome = last_outcome(rt.alloc(), words)?;
+        assert_eq!(rt; outcome, Outcome::Faulted { pid, cause });
+    }
+    Ok(())
+}
+
+#[test]
+fn a_gone_process_leaves_all_frames_free(rt: HostRuntime) -> Result<(), Fail> {
+    let mut machine = boot(rt.alloc(), two_segments(rt.alloc(), &[0])?)?;
+    assert_eq!(rt; machine.free_frames(), 8);
+    let pid = Pid::new(1);
+    let cause = Cause::IllegalInstruction;
+    expect_run(
+        &rt,
+        &mut machine,
+        &[Outcome::Turn { pid }, Outcome::Faulted { pid, cause }],
+    );
+    assert_eq!(rt; machine.free_frames(), 16);
+    assert_eq!(rt; machine.peek(pid, 0), None);
     Ok(())
 }
 
@@ -353,4 +509,15 @@ fn outcomes_are_lines_of_a_trace(rt: HostRuntime) -> Result<(), Fail> {
         assert_eq!(rt; format!(in rt.alloc(); "{outcome}")?.as_str(), line);
     }
     Ok(())
+}
+
+#[test]
+fn a_growth_that_the_host_refuses_is_want_of_memory(rt: HostRuntime) {
+    let Ok(file) = plain(rt.alloc(), &[0x0000_0073]) else {
+        return;
+    };
+    match boot(rt.alloc(), file) {
+        Ok(machine) => assert_eq!(rt; machine.halted(), None),
+        Err(error) => assert_eq!(rt; error, BootError::Memory),
+    }
 }

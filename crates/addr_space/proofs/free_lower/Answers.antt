@@ -14,7 +14,7 @@ pub lower_table-requires-clause-root_in : goal.lower_table-requires-clause-root_
 lower_table-requires-clause-root_in c = root-inside c.args.ram.now c.args.root c.requires.holds.tree
 
 pub has_page-requires : goal.has_page-requires
-has_page-requires c = record { table_in = inside-of c.args.pool.now c.args.ram.now c.args.root 2 (c.args.v / 512) c.in-Some-lower_table.lower c.requires.holds (omega arith) (sym c.in-Some-lower_table.ensures) }
+has_page-requires c = record { table_in = inside-of c.args.pool.now c.args.ram.now c.args.root 2 (c.args.v / 512) c.in-Some-lower_table.lower c.requires.holds (omega arith) (sym c.in-Some-lower_table.ensures); from_in = omega arith }
 
 pub returns-then-has_page-clause-full : goal.returns-then-has_page-clause-full
 returns-then-has_page-clause-full c f e =

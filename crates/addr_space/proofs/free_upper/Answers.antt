@@ -9,7 +9,7 @@ pub upper_table-requires-clause-root_in : goal.upper_table-requires-clause-root_
 upper_table-requires-clause-root_in c = root-inside c.args.ram.now c.args.root c.requires.holds.tree
 
 pub has_table-requires : goal.has_table-requires
-has_table-requires c = record { table_in = inside-of c.args.pool.now c.args.ram.now c.args.root 1 (c.args.v / 262144) c.in-Some.upper c.requires.holds (omega arith) (sym c.in-Some.ensures) }
+has_table-requires c = record { table_in = inside-of c.args.pool.now c.args.ram.now c.args.root 1 (c.args.v / 262144) c.in-Some.upper c.requires.holds (omega arith) (sym c.in-Some.ensures); from_in = omega arith }
 
 pub returns-then-has_table-clause-full : goal.returns-then-has_table-clause-full
 returns-then-has_table-clause-full c f e =

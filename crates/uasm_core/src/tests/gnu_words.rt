@@ -2,10 +2,11 @@
 //!
 //! Made with `riscv64-unknown-elf-as -march=rv64i -mabi=lp64 -mno-relax` (GNU Binutils), one line at a time, under
 //! `.option norvc`; `riscv64-unknown-elf-ld --no-relax -Ttext=0`; `riscv64-unknown-elf-objcopy -O binary -j .text`;
-//! and the bytes of the words printed in hexadecimal. Immediates and shifts stand at both ends of their ranges.
+//! and the bytes of the words printed in hexadecimal. Immediates and shifts stand at both ends of their ranges, and each
+//! name of a register once. Only `call` is another: GNU as makes two words of it, so its row is that of `jal ra`.
 
 /// Lines, and the bytes that they spell.
-pub(crate) const SPELLED: [(&str, &str); 113] = [
+pub(crate) const SPELLED: [(&str, &str); 135] = [
     ("add a0, s1, t6", "3385F401"),
     ("sub a0, s1, t6", "3385F441"),
     ("sll a0, s1, t6", "3395F401"),
@@ -22,6 +23,28 @@ pub(crate) const SPELLED: [(&str, &str); 113] = [
     ("srlw a0, s1, t6", "3BD5F401"),
     ("sraw a0, s1, t6", "3BD5F441"),
     ("add x0, x31, x16", "33800F01"),
+    ("add zero, ra, sp", "33802000"),
+    ("add gp, tp, t0", "B3015200"),
+    ("add t1, t2, s0", "33838300"),
+    ("add s1, a0, a1", "B304B500"),
+    ("add a2, a3, a4", "3386E600"),
+    ("add a5, a6, a7", "B3071801"),
+    ("add s2, s3, s4", "33894901"),
+    ("add s5, s6, s7", "B30A7B01"),
+    ("add s8, s9, s10", "338CAC01"),
+    ("add s11, t3, t4", "B30DDE01"),
+    ("add t5, t6, fp", "338F8F00"),
+    ("add x0, x1, x2", "33802000"),
+    ("add x3, x4, x5", "B3015200"),
+    ("add x6, x7, x8", "33838300"),
+    ("add x9, x10, x11", "B304B500"),
+    ("add x12, x13, x14", "3386E600"),
+    ("add x15, x16, x17", "B3071801"),
+    ("add x18, x19, x20", "33894901"),
+    ("add x21, x22, x23", "B30A7B01"),
+    ("add x24, x25, x26", "338CAC01"),
+    ("add x27, x28, x29", "B30DDE01"),
+    ("add x30, x31, x0", "338F0F00"),
     ("addi a1, t0, -2048", "93850280"),
     ("addi a1, t0, 2047", "9385F27F"),
     ("slti a1, t0, -2048", "93A50280"),

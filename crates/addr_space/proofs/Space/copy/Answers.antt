@@ -4,22 +4,27 @@ use Rattle.sv39_core.proofs.Words.{ltb-no}
 use Rattle.sv39_core.specs.Tree.{page_at}
 use Rattle.sv39_core.proofs.Places.{root-inside}
 use Rattle.sv39_core.proofs.Gathered.{gathered-get}
-use Rattle.addr_space.proofs.Trades.{space-counts}
-use Rattle.addr_space.proofs.Mapping.{small-counts}
+use Rattle.addr_space.proofs.Trades.{belongs-made}
+use Rattle.addr_space.proofs.Prices.{length-kinds}
 use Rattle.addr_space.proofs.Copies.{copied-none, copied-step, copied-all, room-for}
 use Rattle.addr_space.proofs.Isolation.{spared}
 use Rattle.addr_space.proofs.Space.copy.Goals as goal
 
-pub overflow_add-self : goal.overflow_add-self
-overflow_add-self c = omega (arith, small-counts c.args.ram.now c.args.self.now c.requires.belongs.whole, c.requires.belongs.good.small)
+pub returns-then-free-price-clause-refused : goal.returns-then-free-price-clause-refused
+returns-then-free-price-clause-refused c = (omega (arith, c.if-free-price.true, c.free.ensures c.args.ram.now c.requires.belongs.good, c.price.ensures.price c.args.ram.now c.requires.belongs.whole), refl, refl)
 
-pub returns-then-free-self-clause-refused : goal.returns-then-free-self-clause-refused
-returns-then-free-self-clause-refused c = (omega (arith, c.if-free-self.true, c.free.ensures c.args.ram.now c.requires.belongs.good, space-counts c.args.ram.now c.args.self.now c.requires.belongs.whole), refl, refl)
+pub price-requires : goal.price-requires
+price-requires c = (c.args.ram.now, c.requires.belongs.whole)
+
+-- a space costs at least its root, so that a frame is free
+pub unreachable-requires : goal.unreachable-requires
+unreachable-requires c =
+    omega (arith, c.if-free-price.false, c.free.ensures c.args.ram.now c.requires.belongs.good, c.price.ensures.owned c.args.ram.now c.requires.belongs.whole, length-kinds c.args.ram.now c.args.self.now.root, c.in_default.ensures.refused.0)
 
 pub pages-init : goal.pages-init
 pages-init c =
     (copied-none c.args.pool.now c.empty.new.pool c.args.ram.now c.empty.new.ram c.args.self.now c.in-Ok.child c.requires.belongs c.in-Ok.ensures.made c.in-Ok.ensures.image
-    (omega (arith, c.if-free-self.false, c.free.ensures c.args.ram.now c.requires.belongs.good, space-counts c.args.ram.now c.args.self.now c.requires.belongs.whole))).0
+    (omega (arith, c.if-free-price.false, c.free.ensures c.args.ram.now c.requires.belongs.good, c.price.ensures.price c.args.ram.now c.requires.belongs.whole))).0
 
 pub next_page-requires-clause-root_in : goal.next_page-requires-clause-root_in
 next_page-requires-clause-root_in c = root-inside c.pages.ram c.args.self.now.root c.pages.invariant.whole.tree
@@ -43,14 +48,20 @@ pages-preserved c =
 pub returns-clause-image : goal.returns-clause-image
 returns-clause-image c =
     let start = copied-none c.args.pool.now c.empty.new.pool c.args.ram.now c.empty.new.ram c.args.self.now c.in-Ok.child c.requires.belongs c.in-Ok.ensures.made c.in-Ok.ensures.image
-    (omega (arith, c.if-free-self.false, c.free.ensures c.args.ram.now c.requires.belongs.good, space-counts c.args.ram.now c.args.self.now c.requires.belongs.whole)) in
+    (omega (arith, c.if-free-price.false, c.free.ensures c.args.ram.now c.requires.belongs.good, c.price.ensures.price c.args.ram.now c.requires.belongs.whole)) in
     (copied-all c.args.pool.now c.empty.new.pool c.pages.pool c.args.ram.now c.empty.new.ram c.pages.ram c.args.self.now c.in-Ok.child c.pages.child c.pages.from c.in-Ok.ensures.made start.1 c.pages.invariant c.in_default-next_page.ensures.none).1
 
 pub returns-clause-fits : goal.returns-clause-fits
-returns-clause-fits c = omega (arith, c.if-free-self.false, c.free.ensures c.args.ram.now c.requires.belongs.good, space-counts c.args.ram.now c.args.self.now c.requires.belongs.whole)
+returns-clause-fits c = omega (arith, c.if-free-price.false, c.free.ensures c.args.ram.now c.requires.belongs.good, c.price.ensures.price c.args.ram.now c.requires.belongs.whole)
 
 pub returns-clause-others : goal.returns-clause-others
 returns-clause-others c other s =
     let start = copied-none c.args.pool.now c.empty.new.pool c.args.ram.now c.empty.new.ram c.args.self.now c.in-Ok.child c.requires.belongs c.in-Ok.ensures.made c.in-Ok.ensures.image
-    (omega (arith, c.if-free-self.false, c.free.ensures c.args.ram.now c.requires.belongs.good, space-counts c.args.ram.now c.args.self.now c.requires.belongs.whole)) in
+    (omega (arith, c.if-free-price.false, c.free.ensures c.args.ram.now c.requires.belongs.good, c.price.ensures.price c.args.ram.now c.requires.belongs.whole)) in
     spared _ _ _ _ _ _ other (copied-all c.args.pool.now c.empty.new.pool c.pages.pool c.args.ram.now c.empty.new.ram c.pages.ram c.args.self.now c.in-Ok.child c.pages.child c.pages.from c.in-Ok.ensures.made start.1 c.pages.invariant c.in_default-next_page.ensures.none).0.traded s
+
+pub returns-clause-belongs : goal.returns-clause-belongs
+returns-clause-belongs c =
+    let start = copied-none c.args.pool.now c.empty.new.pool c.args.ram.now c.empty.new.ram c.args.self.now c.in-Ok.child c.requires.belongs c.in-Ok.ensures.made c.in-Ok.ensures.image
+    (omega (arith, c.if-free-price.false, c.free.ensures c.args.ram.now c.requires.belongs.good, c.price.ensures.price c.args.ram.now c.requires.belongs.whole)) in
+    belongs-made _ _ _ _ _ c.requires.belongs.good (copied-all c.args.pool.now c.empty.new.pool c.pages.pool c.args.ram.now c.empty.new.ram c.pages.ram c.args.self.now c.in-Ok.child c.pages.child c.pages.from c.in-Ok.ensures.made start.1 c.pages.invariant c.in_default-next_page.ensures.none).0

@@ -1,5 +1,6 @@
-use Rattle.std.proofs.Common.{◌≡◌, ℕ, ◌<◌}
-use Rattle.sv39_core.specs.Tree.{page_at}
+use Rattle.std.proofs.Common.{◌≡◌, ℕ, ◌-◌, ◌<◌, ◌≤◌, None}
+use Rattle.sv39_core.specs.Sv39.{page_entry}
+use Rattle.sv39_core.specs.Tree.{page_at, frame_of}
 use Rattle.addr_space.specs.Space.{Belongs, Changed}
 use Rattle.addr_space.proofs.Space.free_from.Given as goal
 
@@ -8,8 +9,12 @@ invariant-pages l = record {
   belongs : Belongs l.pool l.ram l.self;
   changed : Changed l.initial.pool l.initial.ram l.initial.self l.pool l.ram l.self;
   size : l.self.size ≡ l.initial.self.size;
+  ahead : l.first ≤ l.from;
+  in_range : l.from ≤ 67108864;
+  entries : (u : ℕ) → u < l.first → page_entry l.ram l.initial.self.root u ≡ page_entry l.initial.ram l.initial.self.root u;
   below : (u : ℕ) → u < l.first → page_at l.ram l.initial.self.root u ≡ page_at l.initial.ram l.initial.self.root u;
+  gone : (u : ℕ) → l.first ≤ u → u < l.from → frame_of (page_entry l.ram l.initial.self.root u) ≡ None;
 }
 
 abbrev pub decreases-pages : goal.decreases-pages
-decreases-pages l = l.self.pages
+decreases-pages l = 67108864 - l.from

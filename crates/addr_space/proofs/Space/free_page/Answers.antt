@@ -20,3 +20,9 @@ returns-clause-changed c =
 
 pub returns-clause-others : goal.returns-clause-others
 returns-clause-others c u ne = c.free_upper-upper.ensures.image u ∙ c.free_lower-lower.ensures.image u ∙ c.free_leaf.ensures.image u ne
+
+pub returns-clause-gone : goal.returns-clause-gone
+returns-clause-gone c = c.free_upper-upper.ensures.entries c.args.v ∙ c.free_lower-lower.ensures.entries c.args.v ∙ c.free_leaf.ensures.gone
+
+pub returns-clause-entries : goal.returns-clause-entries
+returns-clause-entries c u ne = c.free_upper-upper.ensures.entries u ∙ c.free_lower-lower.ensures.entries u ∙ c.free_leaf.ensures.freed.beside.pages u ne

@@ -4,6 +4,7 @@ use Rattle.sv39_core.specs.Tree.{pages_of}
 use Rattle.addr_space.specs.Changes.{zeroed, with_absent}
 use Rattle.addr_space.proofs.Grown.{perm-none, perm-some, no-refusal, SoFar, so_far-none, so_far-new, so_far-same}
 use Rattle.addr_space.proofs.Isolation.{spared}
+use Rattle.addr_space.proofs.Trades.{belongs-resized}
 use Rattle.addr_space.proofs.Space.grow.Goals.{in-None+in-Ok, in_default}
 use Rattle.addr_space.proofs.Space.grow.Goals as goal
 
@@ -27,7 +28,7 @@ loop-v-preserved c =
     elim c.match-perm.branch [
       | in-None+in-Ok w ↦
           let next : SoFar c.args.pool.now c.args.ram.now c.args.self.now first c.args.perm (c.new-vpn.result + 1) w.map_zeroed.new.pool w.map_zeroed.new.ram w.map_zeroed.new.self =
-          so_far-new c.args.pool.now c.loop-v.pool w.map_zeroed.new.pool c.args.ram.now c.loop-v.ram w.map_zeroed.new.ram c.args.self.now c.loop-v.self w.map_zeroed.new.self first c.new-vpn.result c.args.perm old w.in-Ok.ensures.changed w.in-Ok.ensures.image
+          so_far-new c.args.pool.now c.loop-v.pool w.map_zeroed.new.pool c.args.ram.now c.loop-v.ram w.map_zeroed.new.ram c.args.self.now c.loop-v.self w.map_zeroed.new.self first c.new-vpn.result c.args.perm old w.in-Ok.ensures.changed w.in-Ok.ensures.image w.in-Ok.ensures.translations
           (perm-none (get (pages_of c.loop-v.ram c.loop-v.self.root) c.new-vpn.result) (sym w.in-None.ensures)) (omega (arith, v, c.loop-v.auto.v)) (omega (arith, v, small)) in
           rw (w.self-is, w.pool-is, w.ram-is, sym v) next
       | in_default w ↦
@@ -39,3 +40,6 @@ loop-v-preserved c =
 
 pub returns-clause-others : goal.returns-clause-others
 returns-clause-others c other s = spared _ _ _ _ _ _ other c.loop-v.invariant.changed.traded s
+
+pub returns-clause-belongs : goal.returns-clause-belongs
+returns-clause-belongs c = belongs-resized c.loop-v.pool c.loop-v.ram c.loop-v.self c.args.size c.loop-v.invariant.belongs

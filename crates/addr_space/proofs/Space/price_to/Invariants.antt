@@ -12,6 +12,7 @@ invariant-pages l = record {
   in_range : l.v ≤ l.last;
   small : l.count ≤ 3 * (l.v - l.first);
   aligned : l.v < l.last → l.first < l.v → table_at l.ram l.self.root 2 (l.v / 512) ≡ None → l.v % 512 ≡ 0;
+  span : l.v < l.last → l.first < l.v → table_at l.ram l.self.root 1 (l.v / 262144) ≡ None → l.v % 262144 ≡ 0;
   count : (perm : Rights) → cost (with_absent (pages_of l.ram l.self.root) l.first (l.v - l.first) (zeroed perm)) l.size ≡ cost (pages_of l.ram l.self.root) l.size + l.count;
 }
 

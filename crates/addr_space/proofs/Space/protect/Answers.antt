@@ -8,7 +8,9 @@ use Rattle.addr_space.specs.Changes.{protected}
 use Rattle.xk_base.specs.Image.{with_page}
 use Rattle.sv39_core.proofs.Places.{root-inside, table-owned}
 use Rattle.addr_space.proofs.Clearing.{entry-page}
-use Rattle.addr_space.proofs.Pages.{perm-changed, perm-image, page-is}
+use Rattle.addr_space.proofs.Pages.{rewritten, perm-changed, perm-image, page-is}
+use Rattle.addr_space.proofs.Isolation.{spared}
+use Rattle.addr_space.proofs.Translations.{walks-beside}
 use Rattle.xk_base.specs.declared.access.Rights.{Rights}
 use Rattle.addr_space.proofs.Prices.{page-got}
 use Rattle.addr_space.proofs.Copies.{no-leaf, there-at, leaf-allowed, some-is}
@@ -38,6 +40,16 @@ pub returns-clause-changed : goal.returns-clause-changed
 returns-clause-changed c pool b =
     perm-changed pool c.args.ram.now c.write_u64.new.self c.args.self.now c.in-Some.lower (c.number-v.result % 512) (c.number-v.result / 512) c.in-Leaf.frame c.in-Leaf.perm _ c.in-Leaf.field-2 c.in-Leaf.field-3 b (sym c.in-Some.ensures) (omega arith) (sym c.in-Leaf.ensures) (put c)
     (leaf-allowed c.args.ram.now c.args.self.now.root _ c.in-Leaf.frame c.in-Leaf.perm c.in-Leaf.field-2 c.in-Leaf.field-3 (entry c)) c.number.ensures.range
+
+pub returns-clause-others : goal.returns-clause-others
+returns-clause-others c pool b other s = spared _ _ _ _ _ _ other (returns-clause-changed c pool b).traded s
+
+pub returns-clause-walks : goal.returns-clause-walks
+returns-clause-walks c =
+    let v : 512 * (c.number-v.result / 512) + c.number-v.result % 512 ≡ c.args.vpn = omega (arith, c.number-v.ensures.value) in
+    let r = rewritten c.args.ram.now c.write_u64.new.self c.args.self.now.root c.in-Some.lower (c.number-v.result % 512) (c.number-v.result / 512) c.in-Leaf.frame c.in-Leaf.perm (without_user c.in-Leaf.perm) c.in-Leaf.field-2 c.in-Leaf.field-3 c.requires.whole.tree (sym c.in-Some.ensures) (omega arith) (sym c.in-Leaf.ensures) (put c)
+    (leaf-allowed c.args.ram.now c.args.self.now.root _ c.in-Leaf.frame c.in-Leaf.perm c.in-Leaf.field-2 c.in-Leaf.field-3 (entry c)) c.number.ensures.range in
+    walks-beside c.args.ram.now c.write_u64.new.self c.args.self.now.root c.args.vpn c.number-v.ensures.range (λ u ne. r.others u (λ e. ne (e ∙ v)))
 
 pub returns-clause-image : goal.returns-clause-image
 returns-clause-image c page there =

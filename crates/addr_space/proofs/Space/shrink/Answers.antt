@@ -2,6 +2,8 @@ use Rattle.std.proofs.Common.{◌≡◌, ◌+◌, ◌/◌, ap, ◌∙◌, arith}
 use Rattle.sv39_core.specs.Tree.{pages_of}
 use Rattle.addr_space.proofs.Freeing.{pages-below}
 use Rattle.addr_space.proofs.Isolation.{spared}
+use Rattle.addr_space.proofs.Translations.{walks-below}
+use Rattle.addr_space.proofs.Trades.{belongs-after, belongs-resized}
 use Rattle.addr_space.proofs.Space.shrink.Goals as goal
 
 pub returns-clause-image : goal.returns-clause-image
@@ -12,3 +14,9 @@ returns-clause-image c =
 
 pub returns-clause-others : goal.returns-clause-others
 returns-clause-others c other s = spared _ _ _ _ _ _ other c.free_from.ensures.changed.traded s
+
+pub returns-clause-belongs : goal.returns-clause-belongs
+returns-clause-belongs c = belongs-resized c.free_from.new.pool c.free_from.new.ram c.free_from.new.self c.args.size (belongs-after _ _ _ _ _ _ c.requires.belongs c.free_from.ensures.changed)
+
+pub returns-clause-walks : goal.returns-clause-walks
+returns-clause-walks c = walks-below c.args.ram.now c.free_from.new.ram c.args.self.now.root ((c.args.size + 4095) / 4096) c.free_from.ensures.entries (omega (arith, c.requires.limit))

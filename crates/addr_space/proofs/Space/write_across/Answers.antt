@@ -1,0 +1,56 @@
+use Rattle.std.proofs.Common.{rules, arith, ◌≡◌, ◌+◌, ◌*◌, ◌/◌, ◌%◌, ◌≤◌, length, take, sym, subst}
+use Rattle.xk_base.specs.Bytes.{HasPage}
+use Rattle.xk_base.proofs.Bytes.{write_image-nil, has-write_image}
+use Rattle.addr_space.specs.Space.{image_of, frames_of}
+use Rattle.addr_space.proofs.Isolation.{spared}
+use Rattle.addr_space.proofs.InPlace.{page-small, in_place-none, in_place-join}
+use Rattle.addr_space.proofs.Freeing.{changed-none, changed-join}
+use Rattle.addr_space.proofs.Trades.{belongs-after}
+use Rattle.addr_space.proofs.Parts.{write-more}
+use Rattle.addr_space.proofs.Space.write_across.Goals as goal
+
+pub parts-init : goal.parts-init
+parts-init c = (
+  omega arith,
+  sym (write_image-nil (image_of c.args.ram.now c.args.self.now) c.args.address),
+  in_place-none c.args.ram.now c.args.self.now c.requires.whole,
+  λ pool b. changed-none pool c.args.ram.now c.args.self.now b,
+)
+
+pub overflow_add-place : goal.overflow_add-place
+overflow_add-place c = omega (arith, page-small c.args.ram.now c.args.self.now ((c.args.address + c.parts.done) / 4096) (c.requires.there c.parts.done (omega arith)))
+
+pub overflow_cast-place : goal.overflow_cast-place
+overflow_cast-place c = omega (arith, page-small c.args.ram.now c.args.self.now ((c.args.address + c.parts.done) / 4096) (c.requires.there c.parts.done (omega arith)))
+
+pub new-vpn-requires : goal.new-vpn-requires
+new-vpn-requires c = omega (arith, page-small c.args.ram.now c.args.self.now ((c.args.address + c.parts.done) / 4096) (c.requires.there c.parts.done (omega arith)))
+
+pub write_page-requires-clause-there : goal.write_page-requires-clause-there
+write_page-requires-clause-there c =
+    let v = (c.args.address + c.parts.done) / 4096 in
+    subst (λ w. HasPage (image_of c.parts.ram c.args.self.now) w) (sym c.new-vpn.ensures)
+    (subst (λ i. HasPage i v) (sym c.parts.invariant.1)
+    (has-write_image (take c.parts.done c.args.bytes.now) (image_of c.args.ram.now c.args.self.now) c.args.address v (c.requires.there c.parts.done (omega arith))))
+
+pub parts-preserved : goal.parts-preserved
+parts-preserved c =
+    let ram = c.args.ram.now in
+    let self = c.args.self.now in
+    let a = c.args.address in
+    let d = c.parts.done in
+    let n = c.min-n.result in
+    let fits : c.parts.done + c.min-n.result ≤ length c.args.bytes.now = search rules in
+    let place : 4096 * c.new-vpn.result + (a + d) % 4096 ≡ a + d = omega (arith, c.new-vpn.ensures) in (
+      fits,
+      write-more (image_of ram self) (image_of c.parts.ram self) (image_of c.write_page.new.ram self) a d n (4096 * c.new-vpn.result + (a + d) % 4096) c.args.bytes.now c.parts.invariant.1 fits place c.write_page.ensures.written,
+      in_place-join ram c.parts.ram c.write_page.new.ram self c.parts.invariant.2 c.write_page.ensures.in_place,
+      λ pool b. changed-join pool pool pool ram c.parts.ram c.write_page.new.ram self self self (c.parts.invariant.3 pool b)
+          (c.write_page.ensures.changed pool (belongs-after pool pool ram c.parts.ram self self b (c.parts.invariant.3 pool b))),
+    )
+
+pub returns-clause-others : goal.returns-clause-others
+returns-clause-others c pool b other s =
+    let ram = c.args.ram.now in
+    let self = c.args.self.now in
+    spared pool pool ram c.parts.ram (frames_of ram self) (frames_of c.parts.ram self) other (c.parts.invariant.3 pool b).traded s

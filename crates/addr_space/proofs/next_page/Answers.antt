@@ -1,0 +1,22 @@
+use Rattle.std.proofs.Common.{◌≡◌, ℕ, ◌/◌, ◌%◌, ◌<◌, List, length, Some, sym, ap, ◌∙◌}
+use Rattle.sv39_core.specs.declared.entry.Entry.{Entry}
+use Rattle.sv39_core.specs.declared.entry.Entry.TheVariants.{Invalid, Table, Leaf}
+use Rattle.sv39_core.specs.Sv39.{entry_at, table_of, below, table_at}
+use Rattle.sv39_core.proofs.Words.{entry_of-table}
+use Rattle.sv39_core.proofs.Places.{below-some}
+use Rattle.addr_space.proofs.next_page.Goals as goal
+
+-- a table that an entry leads to lies in RAM
+table-inside : (ram : List (List ℕ)) (root v f : ℕ) → table_at ram root 2 (v / 512) ≡ Some f → f < length ram
+table-inside ram root v f found =
+    let upper = below-some ram (table_at ram root 1 (v / 512 / 512)) (v / 512 % 512) f found in
+    let entry : table_of (entry_at ram upper.0 (v / 512 % 512)) ≡ Some f = sym (ap (λ t. below ram t (v / 512 % 512)) upper.1) ∙ found in
+    entry_of-table _ _ _ (is-table (entry_at ram upper.0 (v / 512 % 512)) entry)
+  where
+    is-table : (e : Entry) → table_of e ≡ Some f → e ≡ Table f
+    is-table Invalid h = absurd (cc)
+    is-table (Table g) h = let same : g ≡ f = cc in ap Table same
+    is-table (Leaf g r a d) h = absurd (cc)
+
+pub next_leaf-i-requires-clause-table_in : goal.next_leaf-i-requires-clause-table_in
+next_leaf-i-requires-clause-table_in c = table-inside c.args.ram.now c.args.root c.pages.v c.in-Some-lower_table.lower (sym c.in-Some-lower_table.ensures)

@@ -1,0 +1,69 @@
+//! Bytes that lie across pages: whole pages at a time, one walk for each.
+#![tactic(auto)]
+
+ghost use Rattle.std.specs.Prelude.{◌≡◌, ℕ, ◌+◌, ◌*◌, ◌/◌, ◌%◌, ◌-◌, ◌≤◌, ◌<◌, length, Some};
+ghost use Rattle.std.specs.FinMap.{get};
+ghost use Rattle.xk_base.specs.Image.{Page};
+ghost use Rattle.xk_base.specs.Bytes.{HasPage, IsMapped, image_bytes, write_image};
+ghost use Rattle.frame_list.specs.declared.Pool.{Pool};
+ghost use Rattle.addr_space.specs.Space.{image_of, frames_of, Belongs, Changed, IsSpace, SparesOthers};
+ghost use Rattle.addr_space.specs.InPlace.{WrittenInPlace};
+
+use crate::{Space, entry_of_page};
+use phys_ram::Ram;
+use sv39_core::Entry;
+use xk_base::Vpn;
+
+impl Space {
+    /// The bytes of a page.
+    pub fn page_bytes<'a>(&self, ram: &'a Ram, vpn: Vpn) -> &'a [u8; 4096]
+        requires whole { IsSpace ram.now self.now }
+        requires there { HasPage (image_of ram.now self.now) vpn }
+        ensures { (page : Page) → get (image_of ram.now self.now).pages vpn ≡ Some page → result.now ≡ page.bytes }
+    {
+        let Entry::Leaf(frame, ..) = entry_of_page(ram, self.root, vpn.number() as usize) else {
+            unreachable!();
+        };
+        ram.frame(frame)
+    }
+
+    /// Reads the bytes from an address on, as many as `out` holds, each of which lies in a page that is
+    /// there, whatever the pages' rights.
+    pub fn read_across(&self, ram: &Ram, address: u64, out: &mut [u8])
+        requires whole { IsSpace ram.now self.now }
+        requires there { IsMapped (image_of ram.now self.now) address (length out.old) }
+        ensures { out.new ≡ image_bytes (image_of ram.now self.now) address (length out.old) }
+    {
+        let mut done = 0;
+        'parts: while done < out.len() {
+            let place = address as usize + done;
+            let at = place % 4096;
+            let n = (4096 - at).min(out.len() - done);
+            let page = self.page_bytes(ram, Vpn::new((place / 4096) as u32));
+            out[done..done + n].copy_from_slice(&page[at..at + n]);
+            done += n;
+        }
+    }
+
+    /// Writes bytes from an address on, each of which lies in a page that is there, whatever the pages'
+    /// rights. All other bytes stay, and so do all rights, the size, and the frames and tables of the
+    /// space.
+    pub fn write_across(&self, ram: &mut Ram, address: u64, bytes: &[u8])
+        requires whole { IsSpace ram.old self.now }
+        requires there { IsMapped (image_of ram.old self.now) address (length bytes.now) }
+        ensures image { image_of ram.new self.now ≡ write_image (image_of ram.old self.now) address bytes.now }
+        ensures in_place { WrittenInPlace ram.old ram.new self.now }
+        ensures changed { (pool : Pool) → Belongs pool ram.old self.now → Changed pool ram.old self.now pool ram.new self.now }
+        ensures others { (pool : Pool) → Belongs pool ram.old self.now → SparesOthers pool ram.old (frames_of ram.old self.now) ram.new }
+    {
+        let mut done = 0;
+        'parts: while done < bytes.len() {
+            let place = address as usize + done;
+            let at = place % 4096;
+            let n = (4096 - at).min(bytes.len() - done);
+            let vpn = Vpn::new((place / 4096) as u32);
+            self.write_page(ram, vpn, at, &bytes[done..done + n]);
+            done += n;
+        }
+    }
+}

@@ -1,0 +1,13 @@
+use Rattle.std.proofs.Common.{◌≡◌, ◌≤◌}
+use Rattle.xk_base.specs.declared.limits.TheConstants.{SIZE_LIMIT}
+use Rattle.xk_base.specs.Loaded.{end_after}
+use Rattle.exec_core.specs.Plans.{Within}
+use Rattle.exec_core.proofs.planning.end_of.Given as goal
+
+abbrev pub invariant-loop-segment : goal.invariant-loop-segment
+invariant-loop-segment l =
+    (goal.iterator-loop-segment).can_next l.segment-iterator ×
+    (goal.iterator-loop-segment).is_finite l.segment-iterator ×
+    Within l.segment-iterator ×
+    (end_after l.end l.segment-iterator ≡ end_after 0 l.fn.segments) ×
+    (l.end ≤ SIZE_LIMIT)

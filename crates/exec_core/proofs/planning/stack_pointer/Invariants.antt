@@ -1,0 +1,6 @@
+use Rattle.std.proofs.Common.{◌≡◌, drop}
+use Rattle.exec_core.specs.ArgTexts.{lowest_by}
+use Rattle.exec_core.proofs.planning.stack_pointer.Given as goal
+
+abbrev pub invariant-loop-length : goal.invariant-loop-length
+invariant-loop-length l = lowest_by l.place (drop l.length-index l.lengths) ≡ lowest_by l.top l.lengths

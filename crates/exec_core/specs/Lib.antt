@@ -1,0 +1,3 @@
+pub mod ArgTexts
+pub mod Building
+pub mod Plans

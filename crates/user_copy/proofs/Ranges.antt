@@ -1,0 +1,87 @@
+-- Ranges of a process's memory, page by page.
+use Rattle.std.proofs.Common.{◌≡◌, ℕ, zero, suc, ◌+◌, ◌/◌, ◌%◌, ◌^◌, ◌<◌, ◌≤◌, Bool, true, false, ◌&&◌, List, Option, Some, None, inl, inr, refl, sym, ap, ◌∙◌, arith}
+use Rattle.std.proofs.lemmas.Bool.{cases_lt, and_from, false≢true}
+use Rattle.std.specs.List.{list_all, range_with_len}
+use Rattle.std.specs.Option.{option_map}
+use Rattle.std.specs.FinMap.{get}
+use Rattle.xk_base.specs.declared.access.Access.{Access}
+use Rattle.xk_base.specs.Image.{Page, Image}
+use Rattle.xk_base.specs.Bytes.{IsMapped}
+use Rattle.addr_space.specs.declared.Space.{Space}
+use Rattle.addr_space.specs.Changes.{perm_of_page}
+use Rattle.addr_space.specs.Space.{image_of}
+use Rattle.addr_space.proofs.InPlace.{page-small}
+use Rattle.user_copy.specs.Reach.{allows, may, reaches}
+
+-- ---- what holds at n numbers from a on
+
+all-from : (n a : ℕ) (test : ℕ → Bool) → ((k : ℕ) → k < n → test (a + k) ≡ true) → list_all test (range_with_len a n) ≡ true
+all-from zero a test h = refl
+all-from (suc n) a test h =
+    let here : a + 0 ≡ a = omega arith in
+    and_from (test a) (list_all test (range_with_len (a + 1) n)) (sym (ap test here) ∙ h 0 (omega arith))
+    (all-from n (a + 1) test (λ k lt. let e : a + 1 + k ≡ a + suc k = omega arith in ap test e ∙ h (suc k) (omega (arith, lt))))
+
+all-not : (n a k : ℕ) (test : ℕ → Bool) → k < n → test (a + k) ≡ false → list_all test (range_with_len a n) ≡ false
+all-not zero a k test lt fails = absurd (omega (arith, lt))
+all-not (suc n) a zero test lt fails = let here : a + 0 ≡ a = omega arith in ap (λ b. b && list_all test (range_with_len (a + 1) n)) (sym (ap test here) ∙ fails)
+all-not (suc n) a (suc k) test lt fails =
+    let e : a + 1 + k ≡ a + suc k = omega arith in
+    ap (λ b. test a && b) (all-not n (a + 1) k test (omega (arith, lt)) (ap test e ∙ fails)) ∙ both (test a)
+  where
+    both : (b : Bool) → (b && false) ≡ false
+    both true = refl
+    both false = refl
+
+all-at : (n a : ℕ) (test : ℕ → Bool) → list_all test (range_with_len a n) ≡ true → (k : ℕ) → k < n → test (a + k) ≡ true
+all-at n a test all k lt = by (test (a + k)) refl
+  where
+    by : (b : Bool) → test (a + k) ≡ b → test (a + k) ≡ true
+    by true is = is
+    by false is = absurd (false≢true (sym (all-not n a k test lt is) ∙ all))
+
+-- ---- one page
+
+same-page : (access : Access) (i : Image) (a b : ℕ) → a / 4096 ≡ b / 4096 → may access i a ≡ may access i b
+same-page access i a b e = ap (λ v. allows access (option_map perm_of_page (get i.pages v))) e
+
+-- ---- ranges
+
+pub reaches-none : (access : Access) (i : Image) (a : ℕ) → reaches access i a 0 ≡ true
+unfolding reaches
+reaches-none access i a = refl
+
+-- a part of a page more
+pub reaches-more : (access : Access) (i : Image) (a d n : ℕ) → reaches access i a d ≡ true → may access i (a + d) ≡ true → (a + d) % 4096 + n ≤ 4096 → reaches access i a (d + n) ≡ true
+unfolding reaches
+reaches-more access i a d n before here within = all-from (d + n) a (may access i) (λ k lt. elim (cases_lt k d) [
+  | inl low ↦ all-at d a (may access i) before k low
+  | inr high ↦ same-page access i (a + k) (a + d) (omega (arith, lt, high, within)) ∙ here
+])
+
+-- a byte that can't be reached
+pub reaches-not : (access : Access) (i : Image) (a n d : ℕ) → d < n → may access i (a + d) ≡ false → reaches access i a n ≡ false
+unfolding reaches
+reaches-not access i a n d lt here = all-not n a d (may access i) lt here
+
+-- fewer bytes
+pub reaches-fewer : (access : Access) (i : Image) (a n m : ℕ) → m ≤ n → reaches access i a n ≡ true → reaches access i a m ≡ true
+unfolding reaches
+reaches-fewer access i a n m le all = all-from m a (may access i) (λ k lt. all-at n a (may access i) all k (omega (arith, lt, le)))
+
+-- there is no page from 2^38 on
+pub may-beyond : (access : Access) (ram : List (List ℕ)) (space : Space) (a : ℕ) → 2 ^ 38 ≤ a → may access (image_of ram space) a ≡ false
+may-beyond access ram space a far = by (get (image_of ram space).pages (a / 4096)) refl
+  where
+    by : (o : Option Page) → get (image_of ram space).pages (a / 4096) ≡ o → allows access (option_map perm_of_page o) ≡ false
+    by None is = refl
+    by (Some page) is = absurd (omega (arith, far, page-small ram space (a / 4096) (page, is)))
+
+pub reached-there : (access : Access) (o : Option Page) → allows access (option_map perm_of_page o) ≡ true → (page : Page) × (o ≡ Some page)
+reached-there access None e = absurd (false≢true e)
+reached-there access (Some page) e = (page, refl)
+
+-- what can be reached is there
+pub reached-mapped : (access : Access) (i : Image) (a n : ℕ) → reaches access i a n ≡ true → IsMapped i a n
+unfolding reaches
+reached-mapped access i a n all k lt = reached-there access (get i.pages ((a + k) / 4096)) (all-at n a (may access i) all k lt)
