@@ -1,5 +1,5 @@
 -- The first state, or the first refusal, stage by stage.
-use Rattle.std.proofs.Common.{◌≡◌, ℕ, ◌+◌, ◌-◌, ◌*◌, ◌/◌, ◌<◌, ◌≤◌, List, Option, None, Some, Result, Ok, Err, Bool, true, false, cond, ltb, sym, ◌∙◌, ap, subst, refl, inl, inr, arith}
+use Rattle.std.proofs.Common.{◌≡◌, ℕ, ◌+◌, ◌-◌, ◌<◌, List, Option, None, Some, Result, Ok, Err, Bool, true, false, cond, ltb, sym, ◌∙◌, ap, subst, refl, inl, inr, arith}
 use Rattle.std.proofs.lemmas.Bool.{lt-ltb, le-ltb}
 use Rattle.xk_base.specs.declared.errors.ExecError.{ExecError}
 use Rattle.xk_base.specs.declared.errors.ExecError.TheVariants.{NoFrames}
@@ -12,7 +12,7 @@ use Rattle.xk_base.specs.Image.{price}
 use Rattle.xk_base.specs.Loaded.{segments_image}
 use Rattle.xk_base.specs.ProgramFile.{header_of, segments_of}
 use Rattle.xv_machine.specs.declared.machine.Config.{Config}
-use Rattle.xv_machine.specs.First.{first, first_state, first_loaded, first_init, first_programs, is_bad_config, Starts, Boots}
+use Rattle.xv_machine.specs.First.{first, first_loaded, first_init, first_programs, is_bad_config, Boots}
 use Rattle.xv_machine.specs.Loaded.{first_regs, with_segments, with_header, loaded}
 use Rattle.xv_machine.specs.Programs.{first_bad, init_of}
 use Rattle.xv_machine.specs.State.{Live, State, World}

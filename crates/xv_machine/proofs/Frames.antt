@@ -1,13 +1,13 @@
 -- Frames that go between the free ones and process 1, and those that stay.
-use Rattle.std.proofs.Common.{◌≡◌, ◌≢◌, ℕ, zero, suc, ◌+◌, ◌*◌, ◌/◌, ◌^◌, ◌%◌, ◌<◌, ◌≤◌, List, [], ◌∷◌, ◌++◌, length, Option, Some, None, inl, inr, refl, sym, ap, ◌∙◌, subst, arith, append_assoc}
+use Rattle.std.proofs.Common.{◌≡◌, ℕ, zero, suc, ◌+◌, ◌*◌, ◌/◌, ◌^◌, ◌%◌, ◌<◌, ◌≤◌, List, [], ◌∷◌, ◌++◌, length, Option, Some, None, inl, inr, refl, sym, ap, ◌∙◌, subst, arith, append_assoc}
 use Rattle.std.proofs.lemmas.List.{length-append}
 use Rattle.std.proofs.lemmas.Bool.{cases_lt, cases_eq}
-use Rattle.xk_base.specs.Frames.{copies, Once, SameFrames}
+use Rattle.xk_base.specs.Frames.{copies}
 use Rattle.std.specs.Prelude.{option_map, slice_index}
 use Rattle.std.specs.Ordering.{nat_cmp}
 use Rattle.std.specs.FinMap.{FinMap, get, get-empty}
-use Rattle.xk_base.specs.Image.{Page, Image, price}
-use Rattle.xk_base.proofs.Frames.{at, at-same, at-other, copies-nil, copies-one, copies-cons, copies-append, length-all}
+use Rattle.xk_base.specs.Image.{Page, price}
+use Rattle.xk_base.proofs.Frames.{at-same, copies-nil, copies-one, copies-cons, copies-append, length-all}
 use Rattle.phys_ram.specs.Ram.{frame_at, word_at, OthersStay}
 use Rattle.phys_ram.proofs.Words.{word_at-same}
 use Rattle.rv64i_core.specs.Registers.{Registers}
@@ -15,12 +15,12 @@ use Rattle.frame_list.specs.declared.Pool.{Pool}
 use Rattle.frame_list.specs.Pool.{free_in, Good}
 use Rattle.frame_list.specs.Traded.{Traded, Taken, Given}
 use Rattle.frame_list.proofs.FreeList.{free_in-kept, Good-kept, free_in-written, Good-written}
-use Rattle.frame_list.proofs.Trades.{trade-none, trade-join, trade-more, trade-same, trade-lengths}
+use Rattle.frame_list.proofs.Trades.{trade-join, trade-more, trade-same, trade-lengths}
 use Rattle.sv39_core.specs.Sv39.{table_at, page_entry}
 use Rattle.sv39_core.specs.Tree.{uppers, lowers, page_frames, pages_of, owned, frame_of, IsTree}
 use Rattle.sv39_core.proofs.Listings.{listed-same}
 use Rattle.addr_space.specs.declared.Space.{Space}
-use Rattle.addr_space.specs.Space.{image_of, frames_of as space_frames, IsSpace, NoneEmpty, Usual, Belongs, Made}
+use Rattle.addr_space.specs.Space.{image_of, frames_of as space_frames, IsSpace, Usual, Belongs}
 use Rattle.addr_space.proofs.Trades.{space-price}
 use Rattle.rv64i_core.specs.Step.{Step, Next, Ecall, Fault, state_after}
 use Rattle.hart_core.specs.declared.hart.Hart.{Hart}

@@ -1,5 +1,5 @@
 -- Images that are said by rights of pages and bytes at addresses, through growth and writes.
-use Rattle.std.proofs.Common.{◌≡◌, ◌≢◌, ℕ, zero, suc, ◌+◌, ◌-◌, ◌*◌, ◌/◌, ◌%◌, ◌^◌, ◌<◌, ◌≤◌, Bool, true, false, cond, ltb, leb, eqb, ◌&&◌, List, [], ◌∷◌, ◌++◌, length, map, replicate, set, get_or, Option, Some, None, is_some, inl, inr, refl, sym, ap, ◌∙◌, arith}
+use Rattle.std.proofs.Common.{◌≡◌, ◌≢◌, ℕ, zero, suc, ◌+◌, ◌-◌, ◌*◌, ◌/◌, ◌%◌, ◌<◌, ◌≤◌, Bool, true, false, cond, ltb, leb, eqb, ◌&&◌, List, [], ◌∷◌, length, map, replicate, set, get_or, Option, Some, None, inl, inr, refl, sym, ap, ◌∙◌, arith}
 use Rattle.std.specs.Option.{option_map}
 use Rattle.std.specs.List.{range_with_len}
 use Rattle.std.proofs.lemmas.Bool.{cases_lt, cases_eq, lt-leb}
@@ -7,10 +7,9 @@ use Rattle.std.specs.Ordering.{nat_cmp}
 use Rattle.std.specs.FinMap.{FinMap, insert, get, get-insert, same_map, nat_cmp-IsAntisymmetric}
 use Rattle.std.specs.Cmp.{nat_cmp_total}
 use Rattle.xk_base.specs.declared.access.Rights.{Rights}
-use Rattle.xk_base.specs.Gathered.{gathered}
-use Rattle.xk_base.specs.Image.{Page, Image, with_page, page_count, no_pages}
-use Rattle.xk_base.specs.Bytes.{HasPage, put_in, put_byte, write_image}
-use Rattle.xk_base.specs.Loaded.{over, zeros, addresses, page_by, image_by}
+use Rattle.xk_base.specs.Image.{Page, Image, with_page, page_count}
+use Rattle.xk_base.specs.Bytes.{put_in, put_byte, write_image}
+use Rattle.xk_base.specs.Loaded.{over, addresses, page_by, image_by}
 use Rattle.phys_ram.specs.Ram.{zero_frame}
 use Rattle.sv39_core.proofs.Words.{ltb-yes, ltb-no, leb-yes, eqb-yes, eqb-no}
 use Rattle.sv39_core.proofs.Gathered.{gathered-get, tie-yes, tie-no}

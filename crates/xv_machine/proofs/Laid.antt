@@ -1,5 +1,5 @@
 -- The image that is built segment by segment is the one that the file gives.
-use Rattle.std.proofs.Common.{◌≡◌, ◌≢◌, ℕ, zero, suc, ◌+◌, ◌-◌, ◌*◌, ◌/◌, ◌^◌, ◌<◌, ◌≤◌, Bool, true, false, cond, ltb, List, [], ◌∷◌, length, take, drop, Option, Some, None, inl, inr, refl, sym, ap, ◌∙◌, subst, arith}
+use Rattle.std.proofs.Common.{◌≡◌, ℕ, ◌+◌, ◌-◌, ◌*◌, ◌/◌, ◌^◌, ◌<◌, ◌≤◌, cond, ltb, List, [], ◌∷◌, length, take, drop, Option, Some, None, inl, inr, refl, sym, ap, ◌∙◌, subst, arith}
 use Rattle.std.proofs.lemmas.List.{length-take}
 use Rattle.std.specs.Option.{option_map}
 use Rattle.std.proofs.lemmas.Bool.{cases_lt}
@@ -8,8 +8,8 @@ use Rattle.xk_base.specs.declared.access.Rights.{Rights}
 use Rattle.xk_base.specs.declared.limits.TheConstants.{SIZE_LIMIT}
 use Rattle.xk_base.specs.declared.program.Segment.{Segment}
 use Rattle.xk_base.specs.Gathered.{gathered}
-use Rattle.xk_base.specs.ProgramFile.{page_up, Fit}
-use Rattle.xk_base.specs.Image.{Page, Image, page_count, no_pages, price}
+use Rattle.xk_base.specs.ProgramFile.{Fit}
+use Rattle.xk_base.specs.Image.{Image, page_count, no_pages, price}
 use Rattle.xk_base.specs.Bytes.{HasPage, IsMapped, write_image}
 use Rattle.xk_base.specs.Loaded.{over, zeros, page_by, image_by, end_after, perm_at, file_bytes, segments_over, segments_image}
 use Rattle.frame_list.specs.declared.Pool.{Pool}

@@ -1,5 +1,5 @@
 -- Process 1, made out of a program file.
-use Rattle.std.proofs.Common.{◌≡◌, ℕ, ◌+◌, ◌*◌, ◌/◌, ◌%◌, ◌<◌, List, [], ◌∷◌, length, Option, Some, None, Result, Ok, Err, refl, sym, ap, ◌∙◌, subst, arith}
+use Rattle.std.proofs.Common.{◌≡◌, ℕ, ◌+◌, ◌*◌, ◌/◌, ◌%◌, ◌<◌, List, [], ◌∷◌, length, Option, Some, None, Ok, Err, sym, ap, ◌∙◌, subst, arith}
 use Rattle.xk_base.specs.declared.errors.BootError.TheVariants.{Init}
 use Rattle.xk_base.specs.declared.errors.ExecError.{ExecError}
 use Rattle.xk_base.specs.declared.errors.ExecError.TheVariants.{NoFrames}

@@ -1,6 +1,6 @@
 -- What a step of process 1 leaves.
-use Rattle.std.proofs.Common.{◌≡◌, ℕ, ◌+◌, List, length, Option, Some, None, Bool, true, false, cond, eqb, refl, sym, ap, subst, ◌∙◌, arith}
-use Rattle.std.specs.Prelude.{ℤ, pos, negsuc, option_map}
+use Rattle.std.proofs.Common.{◌≡◌, ℕ, ◌+◌, List, length, Option, Some, None, refl, sym, ap, subst, ◌∙◌, arith}
+use Rattle.std.specs.Prelude.{ℤ, option_map}
 use Rattle.xk_base.specs.declared.access.Cause.{Cause}
 use Rattle.xk_base.specs.Image.{Image, price}
 use Rattle.rv64i_core.specs.Registers.{Registers, reg, with_pc, after}
@@ -12,16 +12,16 @@ use Rattle.hart_core.specs.declared.hart.Hart.{Hart}
 use Rattle.xv_machine.specs.declared.event.Outcome.{Outcome}
 use Rattle.xv_machine.specs.declared.event.Outcome.TheVariants as outcomes
 use Rattle.xv_machine.specs.declared.machine.Phase.{Phase}
-use Rattle.xv_machine.specs.declared.machine.Phase.TheVariants.{Ready, Running, Halted}
+use Rattle.xv_machine.specs.declared.machine.Phase.TheVariants.{Running, Halted}
 use Rattle.xv_machine.specs.declared.memories.Held.{Held}
 use Rattle.xv_machine.specs.declared.memories.Memories.{Memories}
-use Rattle.xv_machine.specs.Calls.{A0, A7, c_int, perform, done}
+use Rattle.xv_machine.specs.Calls.{A7, c_int, perform}
 use Rattle.xv_machine.specs.Machine.{image_in, live_in, turns_in, world_in, Stands, IsWhole, seen, phase_after, Left}
 use Rattle.xv_machine.specs.Own.{Own, Answer, Stepped, Called, Exited, Faulted, minus_one, gone_with, goes_on, gone}
 use Rattle.xv_machine.specs.Run.{RunHappens, StepOf, outcome_of, turns_after}
 use Rattle.xv_machine.specs.State.{World}
 use Rattle.xv_machine.specs.Step.{own, after_instruction, past_ecall}
-use Rattle.xv_machine.specs.View.{View, view_of, view}
+use Rattle.xv_machine.specs.View.{View, view_of}
 
 -- ---- how the instruction ends
 

@@ -1,7 +1,7 @@
 -- The kernel calls, row by row (the xv6 book, "System calls"; numbers are those of xv6's syscall.h).
 use Rattle.std.specs.Prelude.{ℕ, ℤ, pos, negsuc, ◌%◌, ◌^◌, if◌then◌else◌, ◌==◌}
 use Rattle.std.specs.Int.{cast_signed, cast_unsigned, w32, w64}
-use Rattle.rv64i_core.specs.Registers.{Registers, reg, put}
+use Rattle.rv64i_core.specs.Registers.{reg, put}
 use Rattle.xv_machine.specs.View.{View}
 use Rattle.xv_machine.specs.Own.{Own, Called, Exited, minus_one, goes_on, gone}
 

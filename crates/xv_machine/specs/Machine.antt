@@ -2,7 +2,6 @@
 use Rattle.std.specs.Prelude.{◌≡◌, ℕ, ◌+◌, ◌%◌, ◌<◌, ◌≤◌, List, [], ◌∷◌, ◌++◌, length, Option, None, Some, option_map}
 use Rattle.rv64i_core.specs.Registers.{Registers}
 use Rattle.phys_ram.specs.Ram.{word_at}
-use Rattle.frame_list.specs.declared.Pool.{Pool}
 use Rattle.frame_list.specs.Pool.{free_in, Good}
 use Rattle.sv39_core.specs.Tree.{uppers, lowers, page_frames}
 use Rattle.xk_base.specs.Frames.{copies}
@@ -18,7 +17,7 @@ use Rattle.xv_machine.specs.declared.memories.Memories.{Memories}
 use Rattle.xv_machine.specs.declared.machine.Machine.TheInside.{Inside}
 use Rattle.xv_machine.specs.declared.machine.Phase.{Phase}
 use Rattle.xv_machine.specs.declared.machine.Phase.TheVariants.{Ready, Running, Halted}
-use Rattle.xv_machine.specs.State.{Live, Turns, Owned, Frames, World}
+use Rattle.xv_machine.specs.State.{Live, Turns, Owned, World}
 use Rattle.xv_machine.specs.View.{View, view_of}
 use Rattle.xv_machine.specs.Own.{Own, minus_one}
 

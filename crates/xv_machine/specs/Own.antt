@@ -1,5 +1,5 @@
 -- What one step of a process comes to: what it answers, and what it leaves.
-use Rattle.std.specs.Prelude.{◌≡◌, ℕ, ℤ, ◌+◌, negsuc, Option, None, Some}
+use Rattle.std.specs.Prelude.{ℕ, ℤ, ◌+◌, negsuc, Option, None, Some}
 use Rattle.xk_base.specs.declared.access.Cause.{Cause}
 use Rattle.xk_base.specs.Image.{price}
 use Rattle.xv_machine.specs.View.{View}

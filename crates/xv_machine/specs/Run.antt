@@ -6,7 +6,7 @@ use Rattle.xv_machine.specs.declared.event.Outcome.{Outcome}
 use Rattle.xv_machine.specs.declared.event.Outcome.TheVariants as outcomes
 use Rattle.xv_machine.specs.State.{World, Turns}
 use Rattle.xv_machine.specs.View.{View, view}
-use Rattle.xv_machine.specs.Own.{Own, Answer, Stepped, Called, Exited, Faulted, gone_with}
+use Rattle.xv_machine.specs.Own.{Answer, Stepped, Called, Exited, Faulted, gone_with}
 use Rattle.xv_machine.specs.Step.{own}
 
 -- what the machine answers where a process's step answers so

@@ -1,9 +1,9 @@
 -- What a process can see of the state.
-use Rattle.std.specs.Prelude.{ℕ, ◌/◌, ◌%◌, List, Option, None, Some, if◌then◌else◌, ◌==◌, slice_index}
+use Rattle.std.specs.Prelude.{ℕ, ◌/◌, ◌%◌, Option, None, Some, if◌then◌else◌, ◌==◌, slice_index}
 use Rattle.std.specs.Option.{option_map}
 use Rattle.std.specs.FinMap.{get}
 use Rattle.rv64i_core.specs.Registers.{Registers}
-use Rattle.xk_base.specs.Image.{Page, Image}
+use Rattle.xk_base.specs.Image.{Image}
 use Rattle.xv_machine.specs.State.{Live, State, World}
 
 pub record View : Type 0 where

@@ -1,4 +1,3 @@
-use Rattle.std.proofs.Common.{◌≡◌, List}
 use Rattle.xv_machine.proofs.Laid.{Partly}
 use Rattle.xv_machine.proofs.load.build.Given as goal
 

@@ -1,4 +1,4 @@
-use Rattle.std.proofs.Common.{◌≡◌, sym}
+use Rattle.std.proofs.Common.{sym}
 use Rattle.std.proofs.lemmas.Result.{err_from_is_err_and}
 use Rattle.xv_machine.proofs.Loads.{load-no_header, load-no_segments, load-no_trapframe, load-no_space, load-done, load-whole, load-even}
 use Rattle.xv_machine.proofs.load.load.Goals as goal

@@ -1,4 +1,4 @@
-use Rattle.std.proofs.Common.{◌≡◌, ◌∙◌, true, false, sym, ap, rules}
+use Rattle.std.proofs.Common.{◌∙◌, sym, ap}
 use Rattle.std.specs.Prelude.{is_some}
 use Rattle.xk_base.proofs.Least.{least_below-zero, least_below-next, least_below-found}
 use Rattle.xv_machine.specs.Programs.{same_name}

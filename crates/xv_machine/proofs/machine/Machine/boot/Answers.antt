@@ -1,4 +1,4 @@
-use Rattle.std.proofs.Common.{◌≡◌, ◌∙◌, Option, Some, None, Bool, false, sym, ap, refl}
+use Rattle.std.proofs.Common.{◌≡◌, ◌∙◌, Some, None, sym, ap, refl}
 use Rattle.std.specs.Option.{option_copied}
 use Rattle.xv_machine.proofs.Boot.{boots_as, first-bad_config, first-bad_programs, first-no_init, first-init}
 use Rattle.xv_machine.specs.First.{first_loaded}

@@ -1,6 +1,4 @@
-use Rattle.std.proofs.Common.{◌≡◌, ◌≤◌, sym, ap, ◌∙◌}
-use Rattle.xv_machine.specs.Machine.{image_in}
-use Rattle.xv_machine.specs.View.{byte_at}
+use Rattle.std.proofs.Common.{sym}
 use Rattle.xv_machine.proofs.Frames.{high-byte, no-byte}
 use Rattle.xv_machine.proofs.memories.Memories.byte.Goals as goal
 

@@ -1,4 +1,4 @@
-use Rattle.std.proofs.Common.{◌≡◌, ◌∙◌, length, ap, arith}
+use Rattle.std.proofs.Common.{length, ap, arith}
 use Rattle.std.proofs.lemmas.List.{length-replicate}
 use Rattle.phys_ram.specs.Ram.{zero_frame}
 use Rattle.xv_machine.proofs.Frames.{new-whole, new-free}

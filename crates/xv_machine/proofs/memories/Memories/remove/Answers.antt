@@ -1,4 +1,4 @@
-use Rattle.std.proofs.Common.{◌≡◌, ◌+◌, ◌<◌, length, sym, ◌∙◌, arith}
+use Rattle.std.proofs.Common.{sym, ◌∙◌, arith}
 use Rattle.xv_machine.proofs.Frames.{whole-as, whole-none, price-as, belongs-of, trapframe-inside, trapframe-free, removed-whole, removed-free}
 use Rattle.xv_machine.proofs.memories.Memories.remove.Goals as goal
 

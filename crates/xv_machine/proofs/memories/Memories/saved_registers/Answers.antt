@@ -1,4 +1,3 @@
-use Rattle.std.proofs.Common.{◌<◌, length}
 use Rattle.xv_machine.proofs.Frames.{whole-as, trapframe-inside}
 use Rattle.xv_machine.proofs.memories.Memories.saved_registers.Goals as goal
 

@@ -1,10 +1,10 @@
-use Rattle.std.proofs.Common.{◌≡◌, ℕ, List, length, ap, sym, subst, ◌∙◌}
+use Rattle.std.proofs.Common.{◌≡◌, ap, sym, subst, ◌∙◌}
 use Rattle.rv64i_core.specs.Step.{instr, stop_of, regs_after}
 use Rattle.sv39_core.specs.Tree.{IsTree}
 use Rattle.hart_core.specs.UserMemory.{user, user_at}
 use Rattle.hart_core.specs.Steps.{root_of, Stepped}
 use Rattle.xv_machine.specs.Machine.{image_in}
-use Rattle.xv_machine.proofs.Frames.{Runs, runs-of, runs-root, user-is, After, after-of}
+use Rattle.xv_machine.proofs.Frames.{runs-of, runs-root, user-is, After, after-of}
 use Rattle.xv_machine.proofs.memories.Memories.step.Goals as goal
 
 -- what the hart sees is the image
