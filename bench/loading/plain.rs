@@ -14,6 +14,6 @@ fn main() {
     let words = env::args().count();
     let file = vec![1u8; 1_048_576];
     let mut frames = vec![[0u8; 4096]; 1024];
-    let loaded = if words > 1 { copies(&file, &mut frames, words > 2, 10_000) } else { 0 };
+    let loaded = if words > 1 { copies(&file, &mut frames, words > 2, 2_000) } else { 0 };
     println!("{loaded}");
 }

@@ -1,21 +1,12 @@
 -- A world as data, so that it can be what a machine stands for.
-use Rattle.std.specs.Prelude.{ℕ, ℤ, Bool, List, Option, refl}
-use Rattle.std.specs.Ordering.{nat_cmp}
-use Rattle.std.specs.FinMap.{FinMap, code}
-use Rattle.std.specs.Coded.{Coded, code_by, coded×, coded_ℕ, coded_ℤ, coded_bool, coded_list, coded_option}
-use Rattle.xk_base.specs.Image.{Page, Image}
+use Rattle.std.specs.Prelude.{ℕ, ℤ, List, Option, refl}
+use Rattle.std.specs.Coded.{Coded, code_by, coded×, coded_ℕ, coded_ℤ, coded_list, coded_option}
+use Rattle.xk_base.specs.Codes.{image_code}
+use Rattle.xk_base.specs.Image.{Image}
 use Rattle.xv_machine.specs.State.{Live, State, Turns, Owned, Frames, World}
 
 abbrev pub list_code : Coded (List ℕ)
 list_code = coded_list coded_ℕ
-
-abbrev pub page_code : Coded Page
-page_code = code_by ((Bool × Bool) × ((Bool × Bool) × List ℕ)) (coded× (coded× coded_bool coded_bool) (coded× (coded× coded_bool coded_bool) list_code))
-    (λ p. ((p.perm.read, p.perm.write), ((p.perm.execute, p.perm.user), p.bytes)))
-    (λ t. record { perm = record { read = t.0.0; write = t.0.1; execute = t.1.0.0; user = t.1.0.1 }; bytes = t.1.1 }) (λ _. refl)
-
-abbrev pub image_code : Coded Image
-image_code = code_by (FinMap nat_cmp Page × ℕ) (coded× (code coded_ℕ page_code) coded_ℕ) (λ i. (i.pages, i.size)) (λ t. record { pages = t.0; size = t.1 }) (λ _. refl)
 
 abbrev pub live_code : Coded Live
 live_code = code_by ((List ℕ × ℕ) × Image) (coded× (coded× list_code coded_ℕ) image_code) (λ l. ((l.regs.x, l.regs.pc), l.image)) (λ t. record { regs = record { x = t.0.0; pc = t.0.1 }; image = t.1 }) (λ _. refl)
