@@ -1,7 +1,8 @@
 -- A change of one space leaves every other as it was.
-use Rattle.std.proofs.Common.{ℕ, ◌+◌, ◌<◌, ◌≤◌, ◌⊎◌, List, inl, inr, ap, arith}
+use Rattle.std.proofs.Common.{ℕ, ◌+◌, ◌<◌, ◌≤◌, ◌⊎◌, List, [], inl, inr, ap, arith}
 use Rattle.std.proofs.lemmas.Bool.{cases_lt}
 use Rattle.xk_base.specs.Frames.{copies}
+use Rattle.xk_base.proofs.Frames.{copies-nil}
 use Rattle.frame_list.specs.declared.Pool.{Pool}
 use Rattle.frame_list.specs.Pool.{free_in, Good}
 use Rattle.frame_list.specs.Traded.{Traded}
@@ -47,3 +48,9 @@ stranger-belongs pool ram mine other good s = record { good = good; whole = s.wh
     by : (f : ℕ) → (0 < copies f (frames_of ram other)) ⊎ (copies f (frames_of ram other) ≤ 0) → copies f (free_in pool ram) + copies f (frames_of ram other) ≤ 1
     by f (inl own) = omega (arith, s.apart f own, s.whole.tree.once.once f)
     by f (inr none) = omega (arith, none, good.frames.once f)
+
+-- where a new owner gets frames that were free, a space that belonged to the pool still does
+pub belongs-apart : (pool pool' : Pool) (ram ram' : List (List ℕ)) (mine : List ℕ) (other : Space) → Belongs pool ram other → Traded pool ram pool' ram' [] mine → Belongs pool' ram' other
+belongs-apart pool pool' ram ram' mine other b t =
+    let stranger : IsStranger pool ram [] other = record { whole = b.whole; apart = λ f own. omega (arith, own, b.apart f, copies-nil f) } in
+    stranger-belongs pool' ram' mine other t.good (stranger-after pool pool' ram ram' [] mine other t stranger)

@@ -54,6 +54,7 @@ impl Space {
         ensures image { image_of ram.new self.now ≡ write_image (image_of ram.old self.now) address bytes.now }
         ensures in_place { WrittenInPlace ram.old ram.new self.now }
         ensures changed { (pool : Pool) → Belongs pool ram.old self.now → Changed pool ram.old self.now pool ram.new self.now }
+        ensures belongs { (pool : Pool) → Belongs pool ram.old self.now → Belongs pool ram.new self.now }
         ensures others { (pool : Pool) → Belongs pool ram.old self.now → SparesOthers pool ram.old (frames_of ram.old self.now) ram.new }
     {
         let mut done = 0;

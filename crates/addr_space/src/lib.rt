@@ -37,6 +37,7 @@ mod across;
 #[cfg(test)]
 mod tests;
 
+use xk_base::limits::VPN_END;
 use xk_base::{Frame, NoFrames, Perm, Rights, Vpn};
 
 /// The memory of a process: its pages as tables in frames of RAM, and its size in bytes.
@@ -436,7 +437,7 @@ fn next_page(ram: &Ram, root: Frame, from: usize) -> Option<usize>
     ensures none { IfNone result ((u : ℕ) → from ≤ u → u < 2 ^ 26 → frame_of (page_entry ram.now root u) ≡ None) }
 {
     let mut v = from;
-    'pages: while v < 67108864 {
+    'pages: while v < VPN_END as usize {
         let Some(_) = upper_table(ram, root, v) else {
             v = (v / 262144 + 1) * 262144;
             continue 'pages;
@@ -628,6 +629,7 @@ impl Space {
         requires belongs { Belongs pool.old ram.old self.now }
         ensures made { IfOk result (λ child. Made pool.old ram.old pool.new ram.new child) }
         ensures belongs { IfOk result (λ child. Belongs pool.new ram.new child) }
+        ensures original { IfOk result (λ _. Belongs pool.new ram.new self.now) }
         ensures image { IfOk result (λ child. image_of ram.new child ≡ image_of ram.old self.now) }
         ensures others { IfOk result (λ _. SparesOthers pool.old ram.old [] ram.new) }
         ensures fits { IfOk result (λ _. price (image_of ram.old self.now) ≤ length (free_in pool.old ram.old)) }
@@ -679,6 +681,7 @@ impl Space {
         requires whole { IsSpace ram.old self.now }
         requires there { (page : Page) × (get (image_of ram.old self.now).pages vpn ≡ Some page) }
         ensures changed { (pool : Pool) → Belongs pool ram.old self.now → Changed pool ram.old self.now pool ram.new self.now }
+        ensures belongs { (pool : Pool) → Belongs pool ram.old self.now → Belongs pool ram.new self.now }
         ensures image { (page : Page) → get (image_of ram.old self.now).pages vpn ≡ Some page → image_of ram.new self.now ≡ with_page (image_of ram.old self.now) vpn (protected page) }
         ensures others { (pool : Pool) → Belongs pool ram.old self.now → SparesOthers pool ram.old (frames_of ram.old self.now) ram.new }
         ensures walks { WalksStayBeside vpn ram.old ram.new self.now.root }
@@ -722,6 +725,7 @@ impl Space {
         requires there { (page : Page) × (get (image_of ram.old self.now).pages vpn ≡ Some page) }
         requires fits { at + length bytes.now ≤ 4096 }
         ensures changed { (pool : Pool) → Belongs pool ram.old self.now → Changed pool ram.old self.now pool ram.new self.now }
+        ensures belongs { (pool : Pool) → Belongs pool ram.old self.now → Belongs pool ram.new self.now }
         ensures image { (page : Page) → get (image_of ram.old self.now).pages vpn ≡ Some page → image_of ram.new self.now ≡ with_page (image_of ram.old self.now) vpn (overwritten page at bytes.now) }
         ensures others { (pool : Pool) → Belongs pool ram.old self.now → SparesOthers pool ram.old (frames_of ram.old self.now) ram.new }
         ensures walks { WalksStay ram.old ram.new self.now.root }

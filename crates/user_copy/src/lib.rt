@@ -19,13 +19,14 @@ ghost use Rattle.user_copy.specs.Reach.{allows, reaches, text_length};
 use addr_space::Space;
 use byteorder::{ByteOrder, LittleEndian};
 use phys_ram::Ram;
+use xk_base::limits::{PAGE_BYTES, VPN_END};
 use xk_base::{Access, BadAddress, Perm, Vpn};
 
 #[cfg(test)]
 mod tests;
 
 /// The first address behind the last page that a process may have.
-const ADDRESS_END: u64 = 0x40_0000_0000;
+const ADDRESS_END: u64 = VPN_END as u64 * PAGE_BYTES;
 
 /// Where a byte lies: its page, and how far behind the page's first byte.
 #[derive(Clone, Copy)]
@@ -128,6 +129,7 @@ pub fn copy_out(space: &Space, ram: &mut Ram, address: u64, bytes: &[u8]) -> Res
     ensures copied { IfOk result (λ _. image_of ram.new space.now ≡ write_image (image_of ram.old space.now) address bytes.now) }
     ensures in_place { IfOk result (λ _. WrittenInPlace ram.old ram.new space.now) }
     ensures changed { IfOk result (λ _. (pool : Pool) → Belongs pool ram.old space.now → Changed pool ram.old space.now pool ram.new space.now) }
+    ensures belongs { IfOk result (λ _. (pool : Pool) → Belongs pool ram.old space.now → Belongs pool ram.new space.now) }
     ensures others { IfOk result (λ _. (pool : Pool) → Belongs pool ram.old space.now → SparesOthers pool ram.old (frames_of ram.old space.now) ram.new) }
     ensures refused { IfErr result (λ _. (reaches Store (image_of ram.old space.now) address (length bytes.now) ≡ false) × (ram.new ≡ ram.old)) }
 {

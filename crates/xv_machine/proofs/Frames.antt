@@ -21,6 +21,7 @@ use Rattle.sv39_core.specs.Tree.{uppers, lowers, page_frames, pages_of, owned, f
 use Rattle.sv39_core.proofs.Listings.{listed-same}
 use Rattle.addr_space.specs.declared.Space.{Space}
 use Rattle.addr_space.specs.Space.{image_of, frames_of as space_frames, IsSpace, Usual, Belongs}
+use Rattle.addr_space.proofs.Prices.{length-kinds, pages-count}
 use Rattle.addr_space.proofs.Trades.{space-price}
 use Rattle.rv64i_core.specs.Step.{Step, Next, Ecall, Fault, state_after}
 use Rattle.hart_core.specs.declared.hart.Hart.{Hart}
@@ -34,7 +35,7 @@ use Rattle.xv_machine.specs.declared.machine.Phase.{Phase}
 use Rattle.xv_machine.specs.declared.machine.Phase.TheVariants.{Running}
 use Rattle.xv_machine.specs.Machine.{image_in, owned_in, used_in, WholeSpace, IsWhole, Stands, live_in, world_in}
 use Rattle.xv_machine.specs.View.{byte_at}
-use Rattle.xv_machine.specs.Sound.{frames_of, cost, IsSound}
+use Rattle.xv_machine.specs.Sound.{frames_of, cost, page_frames as owned_pages, table_frames as owned_tables, pages_of as pages_in, tables_of as tables_in, IsSound}
 
 -- ---- all frames of process 1
 
@@ -48,6 +49,17 @@ frames-used ram (Some h) =
 pub length-used : (phase : Phase) (regs : Registers) (ram : List (List ℕ)) (held : Option Held) → WholeSpace ram held → length (used_in ram held) ≡ cost (live_in phase regs ram held)
 length-used phase regs ram None whole = refl
 length-used phase regs ram (Some h) whole = omega (arith, space-price ram h.space whole)
+
+-- each of its frames is listed for what it is
+pub length-pages : (phase : Phase) (regs : Registers) (ram : List (List ℕ)) (held : Option Held) → length (owned_pages (owned_in ram held)) ≡ pages_in (live_in phase regs ram held)
+length-pages phase regs ram None = refl
+length-pages phase regs ram (Some h) = pages-count ram h.space.root
+
+pub length-tables : (phase : Phase) (regs : Registers) (ram : List (List ℕ)) (held : Option Held) → WholeSpace ram held → length (owned_tables (owned_in ram held)) ≡ tables_in (live_in phase regs ram held)
+length-tables phase regs ram None whole = refl
+length-tables phase regs ram (Some h) whole =
+    let root = h.space.root in
+    omega (arith, space-price ram h.space whole, length-kinds ram root, pages-count ram root, length-append (uppers ram root) (lowers ram root))
 
 -- no frame is lost
 pub all-frames : (m : Memories) → IsWhole m → length (free_in m.pool m.ram) + length (used_in m.ram m.held) ≡ length m.ram
@@ -74,6 +86,8 @@ sound-of phase regs m whole =
       inside = λ f ge. ap (λ xs. copies f (free_in m.pool m.ram) + copies f xs) list ∙ whole.inside f ge;
       free = refl;
       used = ap length list ∙ many;
+      pages = length-pages phase regs m.ram m.held;
+      tables = length-tables phase regs m.ram m.held whole.space;
       all = omega (arith, many, all-frames m whole);
     }
 

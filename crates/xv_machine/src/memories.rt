@@ -18,7 +18,11 @@ use hart_core::Hart;
 use phys_ram::Ram;
 use rv64i_core::{Regs, Stop};
 use std::alloc::Global;
+use xk_base::limits::{PAGE_BYTES, VPN_END};
 use xk_base::{BootError, Frame, Vpn};
+
+/// The first address behind the last page that a process may have.
+const ADDRESS_END: u64 = VPN_END as u64 * PAGE_BYTES;
 
 /// The memory of a live process, and the frame in which its registers are saved.
 #[derive(Drop)]
@@ -85,7 +89,7 @@ impl Memories {
         requires { IsWhole self.now }
         ensures { result ≡ byte_at (image_in self.now.ram self.now.held) address }
     {
-        if address >= 1 << 38 {
+        if address >= ADDRESS_END {
             return None;
         }
         let Some(held) = &self.held else {

@@ -7,7 +7,7 @@ use Rattle.sv39_core.proofs.Gathered.{gathered-get}
 use Rattle.addr_space.proofs.Trades.{belongs-made}
 use Rattle.addr_space.proofs.Prices.{length-kinds}
 use Rattle.addr_space.proofs.Copies.{copied-none, copied-step, copied-all, room-for}
-use Rattle.addr_space.proofs.Isolation.{spared}
+use Rattle.addr_space.proofs.Isolation.{spared, belongs-apart}
 use Rattle.addr_space.proofs.Space.copy.Goals as goal
 
 pub returns-then-free-price-clause-refused : goal.returns-then-free-price-clause-refused
@@ -65,3 +65,11 @@ returns-clause-belongs c =
     let start = copied-none c.args.pool.now c.empty.new.pool c.args.ram.now c.empty.new.ram c.args.self.now c.in-Ok.child c.requires.belongs c.in-Ok.ensures.made c.in-Ok.ensures.image
     (omega (arith, c.if-free-price.false, c.free.ensures c.args.ram.now c.requires.belongs.good, c.price.ensures.price c.args.ram.now c.requires.belongs.whole)) in
     belongs-made _ _ _ _ _ c.requires.belongs.good (copied-all c.args.pool.now c.empty.new.pool c.pages.pool c.args.ram.now c.empty.new.ram c.pages.ram c.args.self.now c.in-Ok.child c.pages.child c.pages.from c.in-Ok.ensures.made start.1 c.pages.invariant c.in_default-next_page.ensures.none).0
+
+-- the original has none of the free frames, and so none of the copy's
+pub returns-clause-original : goal.returns-clause-original
+returns-clause-original c =
+    let start = copied-none c.args.pool.now c.empty.new.pool c.args.ram.now c.empty.new.ram c.args.self.now c.in-Ok.child c.requires.belongs c.in-Ok.ensures.made c.in-Ok.ensures.image
+    (omega (arith, c.if-free-price.false, c.free.ensures c.args.ram.now c.requires.belongs.good, c.price.ensures.price c.args.ram.now c.requires.belongs.whole)) in
+    let traded = (copied-all c.args.pool.now c.empty.new.pool c.pages.pool c.args.ram.now c.empty.new.ram c.pages.ram c.args.self.now c.in-Ok.child c.pages.child c.pages.from c.in-Ok.ensures.made start.1 c.pages.invariant c.in_default-next_page.ensures.none).0.traded in
+    belongs-apart _ _ _ _ _ c.args.self.now c.requires.belongs traded

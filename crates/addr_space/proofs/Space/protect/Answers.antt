@@ -10,6 +10,7 @@ use Rattle.sv39_core.proofs.Places.{root-inside, table-owned}
 use Rattle.addr_space.proofs.Clearing.{entry-page}
 use Rattle.addr_space.proofs.Pages.{rewritten, perm-changed, perm-image, page-is}
 use Rattle.addr_space.proofs.Isolation.{spared}
+use Rattle.addr_space.proofs.Trades.{belongs-after}
 use Rattle.addr_space.proofs.Translations.{walks-beside}
 use Rattle.xk_base.specs.declared.access.Rights.{Rights}
 use Rattle.addr_space.proofs.Prices.{page-got}
@@ -40,6 +41,9 @@ pub returns-clause-changed : goal.returns-clause-changed
 returns-clause-changed c pool b =
     perm-changed pool c.args.ram.now c.write_u64.new.self c.args.self.now c.in-Some.lower (c.number-v.result % 512) (c.number-v.result / 512) c.in-Leaf.frame c.in-Leaf.perm _ c.in-Leaf.field-2 c.in-Leaf.field-3 b (sym c.in-Some.ensures) (omega arith) (sym c.in-Leaf.ensures) (put c)
     (leaf-allowed c.args.ram.now c.args.self.now.root _ c.in-Leaf.frame c.in-Leaf.perm c.in-Leaf.field-2 c.in-Leaf.field-3 (entry c)) c.number.ensures.range
+
+pub returns-clause-belongs : goal.returns-clause-belongs
+returns-clause-belongs c pool b = belongs-after _ _ _ _ _ _ b (returns-clause-changed c pool b)
 
 pub returns-clause-others : goal.returns-clause-others
 returns-clause-others c pool b other s = spared _ _ _ _ _ _ other (returns-clause-changed c pool b).traded s

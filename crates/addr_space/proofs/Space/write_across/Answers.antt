@@ -49,6 +49,9 @@ parts-preserved c =
           (c.write_page.ensures.changed pool (belongs-after pool pool ram c.parts.ram self self b (c.parts.invariant.3 pool b))),
     )
 
+pub returns-clause-belongs : goal.returns-clause-belongs
+returns-clause-belongs c pool b = belongs-after pool pool c.args.ram.now c.parts.ram c.args.self.now c.args.self.now b (c.parts.invariant.3 pool b)
+
 pub returns-clause-others : goal.returns-clause-others
 returns-clause-others c pool b other s =
     let ram = c.args.ram.now in

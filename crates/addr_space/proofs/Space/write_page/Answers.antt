@@ -7,6 +7,7 @@ use Rattle.xk_base.specs.Image.{Page, with_page}
 use Rattle.sv39_core.proofs.Places.{root-inside, page-owned}
 use Rattle.addr_space.proofs.Pages.{bytes-changed, bytes-image, page-is, still-entries, kept-but}
 use Rattle.addr_space.proofs.Isolation.{spared}
+use Rattle.addr_space.proofs.Trades.{belongs-after}
 use Rattle.addr_space.proofs.Translations.{walks-same}
 use Rattle.addr_space.proofs.Prices.{page-got}
 use Rattle.addr_space.proofs.Copies.{no-leaf, there-at, set-stays, set-here, some-is}
@@ -23,6 +24,9 @@ frame_mut-page-requires c = c.requires.whole.tree.once.inside c.in-Leaf.frame (p
 
 pub returns-clause-changed : goal.returns-clause-changed
 returns-clause-changed c pool b = bytes-changed pool c.args.ram.now _ c.args.self.now c.number.result c.in-Leaf.frame c.in-Leaf.field-1 c.in-Leaf.field-2 c.in-Leaf.field-3 b (sym c.in-Leaf.ensures) (set-stays c.args.ram.now _ c.in-Leaf.frame _ refl)
+
+pub returns-clause-belongs : goal.returns-clause-belongs
+returns-clause-belongs c pool b = belongs-after _ _ _ _ _ _ b (returns-clause-changed c pool b)
 
 pub returns-clause-others : goal.returns-clause-others
 returns-clause-others c pool b other s = spared _ _ _ _ _ _ other (returns-clause-changed c pool b).traded s

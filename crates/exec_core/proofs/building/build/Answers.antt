@@ -95,6 +95,9 @@ returns-clause-made c =
     let m4 = made-then c.args.pool.now c.map_stack.new.pool c.map_stack.new.pool c.args.ram.now c.map_stack.new.ram c.lay_texts.new.ram c.map_stack.new.space c.map_stack.new.space m3 c4 in
     made-then c.args.pool.now c.map_stack.new.pool c.map_stack.new.pool c.args.ram.now c.lay_texts.new.ram c.lay_pointers.new.ram c.map_stack.new.space c.map_stack.new.space m4 (c.lay_pointers.ensures.changed c.map_stack.new.pool b4)
 
+pub returns-clause-belongs : goal.returns-clause-belongs
+returns-clause-belongs c = belongs-made c.args.pool.now c.map_stack.new.pool c.args.ram.now c.lay_pointers.new.ram c.map_stack.new.space c.requires.good (returns-clause-made c)
+
 pub returns-clause-image : goal.returns-clause-image
 returns-clause-image c =
     let i = c.plan.inside in
@@ -112,3 +115,8 @@ returns-clause-fits c =
     let i = c.plan.inside in
     let cost : price c.args.plan.image ≡ price_first (i.guard + 2) = sym (ap (λ l. price (loaded_image l)) c.plan.view_is) ∙ plan-price i.file.now i.segments i.guard i.args.now i.start.sp c.plan.invariant in
     omega (arith, cost, c.free.ensures c.args.ram.now c.requires.good, c.from.ensures, c.price.ensures, c.if-from-price.false)
+
+pub returns-clause-limit : goal.returns-clause-limit
+returns-clause-limit c =
+    let limit = room-limit c.args.pool.now c.args.ram.now c.plan.inside.guard c.requires.good (omega (arith, c.free.ensures c.args.ram.now c.requires.good, c.from.ensures, c.price.ensures, c.if-from-price.false)) in
+    omega (arith, c.map_stack.ensures.size, limit)

@@ -1,0 +1,14 @@
+-- Runs join, and a step of a run from boot is isolated.
+use Rattle.std.proofs.Common.{[], ◌∷◌, subst}
+use Rattle.kcall_core.specs.Run.{World, IsRun, StepOf}
+use Rattle.kcall_core.specs.Worlds.{RunsJoin, Isolated}
+use Rattle.kcall_core.proofs.Two.{own_step}
+
+pub runs_join : RunsJoin
+runs_join w m t [] fs one more = subst (λ (x : World). IsRun x fs t) one more
+runs_join w m t (e ∷ es) fs one more = (one.0, one.1, runs_join one.0 m t es fs one.2 more)
+
+pub isolated : Isolated
+isolated frames trace programs es w t p o boot is happens =
+    let h : StepOf w p o t = own_step p w t o w.turns.halted w.turns.current happens is.1 is.2 in
+    (h.before, h.was, h.answer, h.state, h.turns)

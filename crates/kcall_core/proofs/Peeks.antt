@@ -1,0 +1,38 @@
+-- A byte of an image.
+use Rattle.std.proofs.Common.{◌≡◌, ℕ, zero, suc, ◌/◌, ◌%◌, List, [], ◌∷◌, get_or, take, drop, Option, Some, None, refl, sym, ap, ◌∙◌}
+use Rattle.std.specs.Prelude.{option_map, slice_index}
+use Rattle.std.specs.FinMap.{get}
+use Rattle.xk_base.specs.declared.access.Rights.{Rights}
+use Rattle.xk_base.specs.Image.{Page, Image}
+use Rattle.addr_space.specs.Changes.{perm_of_page}
+use Rattle.kcall_core.specs.Holdings.{byte_of}
+
+pub byte-none : (image : Image) (va : ℕ) → get image.pages (va / 4096) ≡ None → byte_of image va ≡ None
+byte-none image va e = ap (option_map (λ (page : Page). slice_index page.bytes (va % 4096))) e
+
+first : (xs : List ℕ) → get_or (take 1 xs) 0 0 ≡ get_or xs 0 0
+first [] = refl
+first (x ∷ xs) = refl
+
+at-drop : (xs : List ℕ) (i : ℕ) → get_or (drop i xs) 0 0 ≡ get_or xs i 0
+at-drop xs zero = refl
+at-drop [] (suc i) = refl
+at-drop (x ∷ xs) (suc i) = at-drop xs i
+
+pub byte-some : (image : Image) (va : ℕ) (page : Page) (out : List ℕ) → get image.pages (va / 4096) ≡ Some page → out ≡ take 1 (drop (va % 4096) page.bytes) → byte_of image va ≡ Some (get_or out 0 0)
+byte-some image va page out e read =
+    ap (option_map (λ (p : Page). slice_index p.bytes (va % 4096))) e ∙ ap Some (sym (ap (λ l. get_or l 0 0) read ∙ first (drop (va % 4096) page.bytes) ∙ at-drop page.bytes (va % 4096)))
+
+pub no-page : (o : Option Page) → option_map perm_of_page o ≡ None → o ≡ None
+no-page None e = refl
+no-page (Some page) e = absurd (no e)
+  where
+    no : Some page.perm ≡ None → ⊥
+    no h = cc
+
+pub some-page : (o : Option Page) (perm : Rights) → option_map perm_of_page o ≡ Some perm → (page : Page) × (o ≡ Some page)
+some-page None perm e = absurd (no e)
+  where
+    no : None ≡ Some perm → ⊥
+    no h = cc
+some-page (Some page) perm e = (page, refl)

@@ -1,0 +1,60 @@
+-- A hart goes on with the tables of a slot whose space changes.
+use Rattle.std.proofs.Common.{◌≡◌, ℕ, ◌+◌, ◌*◌, List, set, get_or, Some, None, Result, Ok, Err, IfOk, IfErr, sym, ap, ◌∙◌, subst}
+use Rattle.std.proofs.lemmas.List.{get_or-set_same}
+use Rattle.xk_base.specs.declared.errors.NoFrames.{NoFrames}
+use Rattle.sv39_core.specs.Sv39.{walked}
+use Rattle.addr_space.specs.Space.{Changed, Unchanged}
+use Rattle.addr_space.specs.Translations.{TranslationsStay}
+use Rattle.addr_space.specs.declared.Space.{Space}
+use Rattle.hart_core.specs.Steps.{FitsHart}
+use Rattle.hart_core.specs.Translations.{Fits, nothing}
+use Rattle.hart_core.proofs.Caches.{fits_root}
+use Rattle.hart_core.specs.declared.translation_cache.Cache.{Cache}
+use Rattle.hart_core.specs.declared.hart.Hart.{Hart}
+use Rattle.kcall_core.specs.Memories.{RunsIn}
+use Rattle.kcall_core.specs.declared.memories.Memory.{Memory}
+use Rattle.kcall_core.specs.declared.memories.Memories.{Memories}
+use Rattle.kcall_core.proofs.Changes.{Stands}
+
+same-some : {X : Type 0} (x y : X) → Some x ≡ Some y → x ≡ y
+same-some x y e = cc
+
+-- what is kept stays true as long as each present translation stays
+fits-on : (ram ram' : List (List ℕ)) (root : ℕ) (cache : Cache) → TranslationsStay ram ram' root → Fits ram root cache → Fits ram' root cache
+fits-on ram ram' root cache stay fits = record {
+  each = λ i access allowed. (
+    (fits.each i access allowed).0,
+    λ offset lt. stay (4096 * (get_or cache.places i nothing).page + offset) access ((get_or cache.places i nothing).frame, offset) ((fits.each i access allowed).1 offset lt),
+  );
+}
+
+pub runs-on : {old : Memories} {i : ℕ} {m : Memory} (new : Memories) (space' : Space) → Stands old i m → space'.root ≡ m.space.root → TranslationsStay old.ram new.ram m.space.root → new.each.items ≡ set old.each.items i (Some (record { space = space'; trapframe = m.trapframe }))
+    → (hart : Hart) → RunsIn old i hart → RunsIn new i hart
+runs-on {old} {i} {m} new space' s root stay each hart r =
+    let same : m ≡ r.memory = same-some m r.memory (sym s.is ∙ r.is) in
+    let fits : Fits old.ram m.space.root hart.cache = subst (λ (x : Memory). Fits old.ram x.space.root hart.cache) (sym same) r.fits in
+    record {
+      memory = record { space = space'; trapframe = m.trapframe };
+      is = ap (λ l. get_or l i None) each ∙ get_or-set_same old.each.items i (Some (record { space = space'; trapframe = m.trapframe })) None s.inside;
+      root = r.root ∙ ap (λ (x : Memory). Some x.space.root) (sym same) ∙ ap Some (sym root);
+      fits = subst (λ (x : ℕ). Fits new.ram x hart.cache) (sym root) (fits-on old.ram new.ram m.space.root hart.cache stay fits);
+    }
+
+-- where RAM is the same, each translation stays
+pub same-translations : (ram ram' : List (List ℕ)) (root : ℕ) → ram' ≡ ram → TranslationsStay ram ram' root
+same-translations ram ram' root e va access place is = ap (λ r. walked r root va access) e ∙ is
+
+-- a growth, done or refused
+pub grown-runs : {old : Memories} {i : ℕ} {m : Memory} (refusal : Type 0) (new : Memories) (space' : Space) → Stands old i m → (r : Result (Unit {0}) NoFrames) → IfOk r (λ _. Changed old.pool old.ram m.space new.pool new.ram space') → IfOk r (λ _. TranslationsStay old.ram new.ram m.space.root)
+    → IfErr r (λ _. refusal × Unchanged old.pool old.ram m.space new.pool new.ram space') → new.each.items ≡ set old.each.items i (Some (record { space = space'; trapframe = m.trapframe })) → (hart : Hart) → RunsIn old i hart → RunsIn new i hart
+grown-runs {old} {i} {m} refusal new space' s (Ok u) changed stay refused each hart r = runs-on new space' s changed.root stay each hart r
+grown-runs {old} {i} {m} refusal new space' s (Err e) changed stay refused each hart r = runs-on new space' s (ap (λ (x : Space). x.root) refused.1.same_space) (same-translations old.ram new.ram m.space.root refused.1.same_ram) each hart r
+
+-- a hart that was switched to the slot's tables
+pub switched-runs : {old : Memories} {i : ℕ} {m : Memory} (new : Memories) (space' : Space) → Stands old i m → new.each.items ≡ set old.each.items i (Some (record { space = space'; trapframe = m.trapframe })) → (hart : Hart) → hart.root ≡ Some space'.root → FitsHart new.ram hart.root hart.cache → RunsIn new i hart
+switched-runs {old} {i} {m} new space' s each hart root fits = record {
+  memory = record { space = space'; trapframe = m.trapframe };
+  is = ap (λ l. get_or l i None) each ∙ get_or-set_same old.each.items i (Some (record { space = space'; trapframe = m.trapframe })) None s.inside;
+  root = root;
+  fits = fits_root new.ram hart.root space'.root hart.cache root fits;
+}

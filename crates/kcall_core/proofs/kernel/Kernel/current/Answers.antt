@@ -1,0 +1,20 @@
+use Rattle.std.proofs.Common.{refl, sym, ap, ◌∙◌, subst, Some, None}
+use Rattle.std.specs.Prelude.{IsSome, option_map}
+use Rattle.kcall_core.specs.Kernel.{pid_now}
+use Rattle.kcall_core.proofs.States.{slot-inside}
+use Rattle.kcall_core.proofs.Stops.{now-slot}
+use Rattle.kcall_core.proofs.Chosen.{pid-told}
+use Rattle.kcall_core.proofs.kernel.Kernel.current.Goals as goal
+
+pub pid-requires-clause-within : goal.pid-requires-clause-within
+pid-requires-clause-within c =
+    let now = c.requires.1.current c.in-Some.slot c.in-Some.is in
+    slot-inside c.args.self.now c.requires.0 c.requires.1 c.in-Some.slot now.process now.is
+
+pub pid-requires-clause-held : goal.pid-requires-clause-held
+pid-requires-clause-held c = subst (λ o. IsSome o) (sym (c.requires.1.current c.in-Some.slot c.in-Some.is).is) refl
+
+pub returns : goal.returns
+returns c =
+    ap Some (sym (pid-told c.args.self.now c.in-Some.slot c.pid.result (sym (now-slot c.in-Some.slot c.requires.1 c.in-Some.is)) c.pid.ensures))
+    ∙ sym (ap (option_map (λ _. pid_now c.args.self.now)) c.in-Some.is)

@@ -1,0 +1,7 @@
+use Rattle.std.proofs.Common.{refl}
+use Rattle.kcall_core.proofs.Stops.{entered-state}
+use Rattle.kcall_core.proofs.kernel.Kernel.enter.Goals as goal
+
+pub returns-clause-state : goal.returns-clause-state
+returns-clause-state c =
+    entered-state c.args.self.now _ c.args.hart.now c.restore.new.hart c.args.slot c.requires.live.0 c.requires.sound c.requires.stopped c.requires.live.1 c.restore.ensures.regs refl refl refl (record { files = refl; console = refl; programs = refl; clock = refl })

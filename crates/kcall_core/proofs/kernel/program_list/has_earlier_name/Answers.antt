@@ -1,0 +1,16 @@
+use Rattle.std.proofs.Common.{◌∙◌, sym, ap, map}
+use Rattle.std.specs.Prelude.{is_some}
+use Rattle.xk_base.proofs.Least.{least_below-zero, least_below-next, least_below-found}
+use Rattle.kcall_core.specs.State.{named_file}
+use Rattle.kcall_core.specs.Programs.{same_name}
+use Rattle.kcall_core.proofs.kernel.program_list.has_earlier_name.Goals as goal
+
+pub loop-k-init : goal.loop-k-init
+loop-k-init c = least_below-zero (same_name (map named_file c.args.programs.now) c.args.i)
+
+pub returns-then-have_one_name : goal.returns-then-have_one_name
+returns-then-have_one_name c =
+    sym (ap is_some (least_below-found _ _ _ c.loop-k.invariant (sym c.have_one_name.ensures ∙ c.if-have_one_name.true) c.loop-k-test.true))
+
+pub loop-k-preserved : goal.loop-k-preserved
+loop-k-preserved c = least_below-next _ _ c.loop-k.invariant (sym c.have_one_name.ensures ∙ c.if-have_one_name.false)

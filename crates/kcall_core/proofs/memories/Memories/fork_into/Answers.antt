@@ -1,0 +1,52 @@
+use Rattle.std.proofs.Common.{◌≤◌, [], ◌∷◌, length, refl, sym, ap, ◌∙◌, subst, arith}
+use Rattle.xk_base.specs.Frames.{copies}
+use Rattle.xk_base.specs.Image.{Image, price}
+use Rattle.xk_base.specs.declared.limits.TheConstants.{SIZE_LIMIT}
+use Rattle.frame_list.specs.Pool.{free_in}
+use Rattle.frame_list.specs.Traded.{Traded}
+use Rattle.frame_list.proofs.Trades.{trade-join}
+use Rattle.kcall_core.specs.Memories.{free_of}
+use Rattle.kcall_core.proofs.Changes.{there-below, vacant-below, there-some, stands, image-seen, cost-seen, same-if}
+use Rattle.kcall_core.proofs.Births.{untraded, taken-apart, taken-length, there-stands, beside-belongs, beside-image, born}
+use Rattle.kcall_core.proofs.memories.Memories.fork_into.Goals as goal
+
+pub returns-in_default-clause-refused : goal.returns-in_default-clause-refused
+unfolding free_of
+returns-in_default-clause-refused c =
+    let found = there-stands _ _ c.requires.sound c.requires.there in
+    let none = c.in_default.ensures.none in
+    (omega (arith, cost-seen found.1, ap length none.0), same-if c.args.self.now _ c.requires.sound (untraded _ _ _ _ [] c.requires.sound.good none.1.same_pool none.1.same_ram) refl refl)
+
+pub index-requires : goal.index-requires
+index-requires c = there-below _ _ c.requires.there
+
+pub unreachable-requires : goal.unreachable-requires
+unreachable-requires c = there-some _ _ c.index.result.now c.requires.there c.index.ensures c.in_default-index.is
+
+pub copy-requires : goal.copy-requires
+copy-requires c =
+    record { belongs = beside-belongs (stands c.index.result.now c.in-Some-index.memory c.requires.sound c.requires.there c.index.ensures c.in-Some-index.is) c.in-Some.ensures.taken }
+
+pub give-requires-clause-not_free : goal.give-requires-clause-not_free
+give-requires-clause-not_free c =
+    let r = c.in_default-copy.ensures.refused in
+    ap (λ p. copies c.in-Some.trapframe (free_in p c.copy.new.ram)) r.1 ∙ ap (λ m. copies c.in-Some.trapframe (free_in c.take.new.self m)) r.2 ∙ taken-apart c.requires.sound.good c.in-Some.ensures.taken
+
+pub returns-in_default-copy-clause-refused : goal.returns-in_default-copy-clause-refused
+unfolding free_of
+returns-in_default-copy-clause-refused c =
+    let s = stands c.index.result.now c.in-Some-index.memory c.requires.sound c.requires.there c.index.ensures c.in-Some-index.is in
+    let r = c.in_default-copy.ensures.refused in
+    let t = c.in-Some.trapframe in
+    let taken = c.in-Some.ensures.taken in
+    let back : Traded c.args.self.now.pool c.args.self.now.ram c.give.new.self c.give.new.ram [] [] =
+    trade-join _ _ _ _ _ _ [] (t ∷ []) [] taken.traded (trade-join _ _ _ _ _ _ (t ∷ []) (t ∷ []) [] (untraded _ _ _ _ (t ∷ []) taken.traded.good r.1 r.2) c.give.ensures) in
+    (omega (arith, cost-seen s, ap price (beside-image s taken), r.0, taken-length taken), same-if c.args.self.now _ c.requires.sound back refl refl)
+
+pub index_mut-requires : goal.index_mut-requires
+index_mut-requires c = vacant-below _ _ c.requires.vacant
+
+pub returns-clause-copied : goal.returns-clause-copied
+returns-clause-copied c =
+    let s = stands c.index.result.now c.in-Some-index.memory c.requires.sound c.requires.there c.index.ensures c.in-Some-index.is in
+    born _ c.in-Some.trapframe c.in-Ok.space _ c.requires.sound c.requires.vacant c.in-Some.ensures.taken c.in-Ok.ensures.made (c.in-Ok.ensures.image ∙ beside-image s c.in-Some.ensures.taken ∙ sym (image-seen s)) (subst (λ (n : Image). n.size ≤ SIZE_LIMIT) (sym (image-seen s)) (c.requires.sound.memories c.args.from c.in-Some-index.memory s.is).size) refl refl

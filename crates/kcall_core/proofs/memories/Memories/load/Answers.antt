@@ -1,0 +1,40 @@
+use Rattle.std.proofs.Common.{◌≡◌, ℕ, ◌+◌, ◌<◌, ◌≤◌, [], ◌∷◌, length, refl, sym, ap, ◌∙◌, subst, arith}
+use Rattle.xk_base.specs.Frames.{copies}
+use Rattle.xk_base.specs.Image.{Image}
+use Rattle.xk_base.specs.declared.limits.TheConstants.{SIZE_LIMIT}
+use Rattle.frame_list.specs.Pool.{free_in}
+use Rattle.frame_list.specs.Traded.{Traded}
+use Rattle.frame_list.proofs.Trades.{trade-join}
+use Rattle.kcall_core.specs.Memories.{free_of}
+use Rattle.kcall_core.proofs.Changes.{vacant-below, same-if}
+use Rattle.kcall_core.proofs.Births.{untraded, taken-apart, taken-length, born}
+use Rattle.kcall_core.proofs.memories.Memories.load.Goals as goal
+
+pub returns-in_default-clause-refused : goal.returns-in_default-clause-refused
+unfolding free_of
+returns-in_default-clause-refused c =
+    let none = c.in_default.ensures.none in
+    (refl, omega (arith, ap length none.0), same-if c.args.self.now _ c.requires.sound (untraded _ _ _ _ [] c.requires.sound.good none.1.same_pool none.1.same_ram) refl refl)
+
+pub index_mut-requires : goal.index_mut-requires
+index_mut-requires c = vacant-below _ _ c.requires.vacant
+
+pub give-requires-clause-not_free : goal.give-requires-clause-not_free
+give-requires-clause-not_free c =
+    let r = c.in-Err.ensures.refused in
+    ap (λ p. copies c.in-Some.trapframe (free_in p c.build.new.ram)) r.2 ∙ ap (λ m. copies c.in-Some.trapframe (free_in c.take.new.self m)) r.3 ∙ taken-apart c.requires.sound.good c.in-Some.ensures.taken
+
+pub returns-in-Ok-clause-loaded : goal.returns-in-Ok-clause-loaded
+returns-in-Ok-clause-loaded c =
+    let r = c.in-Ok.ensures in
+    born _ c.in-Some.trapframe c.in-Ok.space c.args.plan.image c.requires.sound c.requires.vacant c.in-Some.ensures.taken r.made r.image (subst (λ n. n ≤ SIZE_LIMIT) (ap (λ (i : Image). i.size) r.image) r.limit) refl refl
+
+pub returns-in-Err-clause-refused : goal.returns-in-Err-clause-refused
+unfolding free_of
+returns-in-Err-clause-refused c =
+    let r = c.in-Err.ensures.refused in
+    let t = c.in-Some.trapframe in
+    let taken = c.in-Some.ensures.taken in
+    let back : Traded c.args.self.now.pool c.args.self.now.ram c.give.new.self c.give.new.ram [] [] =
+    trade-join _ _ _ _ _ _ [] (t ∷ []) [] taken.traded (trade-join _ _ _ _ _ _ (t ∷ []) (t ∷ []) [] (untraded _ _ _ _ (t ∷ []) taken.traded.good r.2 r.3) c.give.ensures) in
+    (r.0, omega (arith, r.1, taken-length taken), same-if c.args.self.now _ c.requires.sound back refl refl)

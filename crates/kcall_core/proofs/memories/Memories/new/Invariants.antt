@@ -1,0 +1,5 @@
+use Rattle.std.proofs.Common.{◌≡◌, replicate, None}
+use Rattle.kcall_core.proofs.memories.Memories.new.Given as goal
+
+abbrev pub invariant-slots : goal.invariant-slots
+invariant-slots l = l.each.items ≡ replicate l.counter None

@@ -1,0 +1,189 @@
+-- What a sleeper waits for, and what an event has to wake (the xv6 book, "Sleep and wakeup").
+use Rattle.std.specs.Prelude.{◌≡◌, ℕ, ◌+◌, ◌-◌, ◌%◌, Bool, true, false, cond, not, ◌||◌, Option, None, Some, ℤ, pos, negsuc, nat_eq, nat_lt, nat_le, length, is_some, find, ◌⊎◌, ◌≢◌, ◌↔◌, IsSome}
+use Rattle.std.specs.List.{list_any}
+use Rattle.std.specs.FinMap.{FinMap, get, keys}
+use Rattle.std.specs.Ordering.{nat_cmp}
+use Rattle.xk_base.specs.declared.limits.TheConstants.{NOFILE, PIPE_BYTES, SEND_BYTES}
+use Rattle.pipe_core.specs.Pipe.{Pipe}
+use Rattle.file_table.specs.declared.open_file.Target.{Target}
+use Rattle.file_table.specs.declared.open_file.Target.TheVariants.{Console as Terminal, Program as File, Pipe as Pipe_end}
+use Rattle.proc_table.specs.declared.process.Call.{Call}
+use Rattle.kcall_core.specs.Words.{CLOCK_ROUND, c_int}
+use Rattle.kcall_core.specs.Processes.{Live, Alive, Zombie}
+use Rattle.console_core.specs.Lists.{Console}
+use Rattle.file_table.specs.declared.open_file.OpenFile.{OpenFile}
+use Rattle.kcall_core.specs.State.{State, live}
+use Rattle.kcall_core.specs.View.{View, view, view_of, child_of, or_gone}
+use Rattle.kcall_core.specs.Calls.{Row, Wait, Read, Write, Sleep, row_of, has_status}
+use Rattle.kcall_core.specs.Updates.{end_of, changed_state, alone_state, mark, waited_state, forked_state, gone_state}
+use Rattle.kcall_core.specs.Quiet.{pipe_at}
+use Rattle.kcall_core.specs.WellFormed.{WellFormed}
+use Rattle.kcall_core.specs.RowLaws.{FilesLeft}
+use Rattle.kcall_core.specs.Ready.{ready}
+use Rattle.kcall_core.specs.Turns.{Sleeps}
+use Rattle.kcall_core.specs.Run.{World, Outcome, Ticked}
+use Rattle.kcall_core.specs.Wakes.{NoReadySleeper, WakesWhereDue, IsInCall, IsEnd}
+
+-- What xv6 calls a channel, on which a process sleeps, stands here for what has to come before the process may go on
+pub data Condition : Type 0 where
+  -- it waits for nothing
+  Nothing : Condition
+  -- a child of this process
+  Child_of : (pid : ℕ) → Condition
+  -- bytes in a pipe, room in a pipe
+  Bytes : (pipe : ℕ) → Condition
+  Room : (pipe : ℕ) → Condition
+  -- the clock, so many ticks from a time on
+  Time : (since ticks : ℕ) → Condition
+  -- a line of keys, room to send
+  Keys : Condition
+  Sending : Condition
+
+abbrev pub has_bytes : Pipe → Bool
+has_bytes x = nat_lt 0 (length x.bytes) || nat_eq x.writers 0
+
+abbrev pub has_room : Pipe → Bool
+has_room x = nat_lt (length x.bytes) PIPE_BYTES || nat_eq x.readers 0
+
+-- who waits for it may go on
+abbrev pub is_open : State → Condition → Bool
+is_open s Nothing = true
+is_open s (Child_of p) = is_some (find (λ r. has_status (child_of p (get s.processes r))) (keys s.processes)) || not (list_any (λ r. is_some (child_of p (get s.processes r))) (keys s.processes))
+is_open s (Bytes i) = has_bytes (or_gone (get s.pipes i))
+is_open s (Room i) = has_room (or_gone (get s.pipes i))
+is_open s (Time since ticks) = nat_le ticks ((s.clock + CLOCK_ROUND - since) % CLOCK_ROUND)
+is_open s Keys = nat_lt 0 (length s.console.committed)
+is_open s Sending = nat_lt (length s.console.to_send) SEND_BYTES
+
+abbrev pub read_channel : Option Target → Condition
+read_channel None = Nothing
+read_channel (Some Terminal) = Keys
+read_channel (Some (File program offset)) = Nothing
+read_channel (Some (Pipe_end i end)) = Bytes i
+
+abbrev pub write_channel : Option Target → Condition
+write_channel None = Nothing
+write_channel (Some Terminal) = Sending
+write_channel (Some (File program offset)) = Nothing
+write_channel (Some (Pipe_end i end)) = Room i
+
+-- what the descriptor of this number is on
+abbrev pub target_at : State → Live → ℤ → Option Target
+target_at s l (pos d) = cond (nat_lt d NOFILE) (end_of s (get l.descriptors d)) None
+target_at s l (negsuc k) = None
+
+abbrev pub sleep_channel : Call → ℤ → Condition
+sleep_channel c (pos n) = Time c.clock n
+sleep_channel c (negsuc k) = Nothing
+
+abbrev pub row_channel : State → ℕ → Live → Call → Option Row → Condition
+row_channel s p l c (Some Wait) = Child_of p
+row_channel s p l c (Some Read) = read_channel (target_at s l (c_int c.a0))
+row_channel s p l c (Some Write) = write_channel (target_at s l (c_int c.a0))
+row_channel s p l c (Some Sleep) = sleep_channel c (c_int c.a0)
+row_channel s p l c _ = Nothing
+
+abbrev pub call_channel : State → ℕ → Live → Option Call → Condition
+call_channel s p l None = Nothing
+call_channel s p l (Some c) = row_channel s p l c (row_of c.number)
+
+-- what process p, which is l, waits for
+abbrev pub waits_for : State → ℕ → Live → Condition
+waits_for s p l = call_channel s p l l.call
+
+-- What an event has to do with the sleepers. A process that goes on sleeping waits for what it waited for; where a channel
+-- opens nobody sleeps on it; nobody sleeps whose kill mark is new; who falls asleep isn't ready
+pub record WakesEnough (w t : World) : Type 0 where
+  pub same : (q : ℕ) (m : Live) → Sleeps t.turns q → live t.state q ≡ Some m → (v : View) → view t.state q ≡ Some v
+      → ((l : Live) × (live w.state q ≡ Some l) × Sleeps w.turns q × (waits_for t.state q m ≡ waits_for w.state q l)) ⊎ (ready v ≡ false)
+  pub opened : (c : Condition) → is_open w.state c ≡ false → is_open t.state c ≡ true → (q : ℕ) (m : Live) → live t.state q ≡ Some m → waits_for t.state q m ≡ c → ¬ Sleeps t.turns q
+  pub marked : (q : ℕ) (l m : Live) → live w.state q ≡ Some l → live t.state q ≡ Some m → l.killed ≡ false → m.killed ≡ true → ¬ Sleeps t.turns q
+
+-- waking so many is enough
+abbrev pub WakesSuffice : Type 0
+WakesSuffice = (w t : World) → NoReadySleeper w → WakesEnough w t → NoReadySleeper t
+
+-- a process is ready exactly where it is marked, or what it waits for has come
+abbrev pub ReadyIsOpen : Type 0
+ReadyIsOpen = (s : State) (p : ℕ) (l : Live) → ready (view_of s p l) ≡ (l.killed || is_open s (waits_for s p l))
+
+-- ---- what each update may make come: whoever waits for something else sleeps on
+
+abbrev pub OpensOnly : State → State → (Condition → Type 0) → Type 0
+OpensOnly s t may = (c : Condition) → is_open s c ≡ false → is_open t c ≡ true → may c
+
+abbrev pub IsOfPipe : ℕ → Condition → Type 0
+IsOfPipe i c = (c ≡ Bytes i) ⊎ (c ≡ Room i)
+
+abbrev pub IsOfConsole : Condition → Type 0
+IsOfConsole c = (c ≡ Keys) ⊎ (c ≡ Sending)
+
+abbrev pub IsTime : Condition → Type 0
+IsTime c = (since : ℕ) × (ticks : ℕ) × (c ≡ Time since ticks)
+
+-- rows that change only their process, the console and the free frames
+abbrev pub OpensAlone : Type 0
+OpensAlone = (s : State) (p : ℕ) (l m : Live) (console : Console) (free : ℕ) → get s.processes p ≡ Some (Alive l) → m.parent ≡ l.parent → OpensOnly s (alone_state p m console free s) IsOfConsole
+
+-- and leave the console as it is, or change an open file
+abbrev pub OpensNothing : Type 0
+OpensNothing =
+    (s : State) (p : ℕ) (l m : Live) (files : FinMap nat_cmp OpenFile) (free : ℕ) → get s.processes p ≡ Some (Alive l) → m.parent ≡ l.parent
+    → OpensOnly s (changed_state p m files s.pipes s.console free s) (λ c. ⊥)
+
+-- reads and writes of pipe i, dup and close on it: all other pipes stay
+abbrev pub OpensPipe : Type 0
+OpensPipe =
+    (s : State) (p : ℕ) (l m : Live) (i : ℕ) (files : FinMap nat_cmp OpenFile) (pipes : FinMap nat_cmp Pipe) (free : ℕ) → get s.processes p ≡ Some (Alive l) → m.parent ≡ l.parent
+    → ((j : ℕ) → j ≢ i → get pipes j ≡ get s.pipes j)
+    → OpensOnly s (changed_state p m files pipes s.console free s) (IsOfPipe i)
+
+-- a mark
+abbrev pub OpensMarked : Type 0
+OpensMarked = (s : State) (q : ℕ) → OpensOnly s (mark q s) (λ c. ⊥)
+
+-- a wait that takes a zombie of p
+abbrev pub OpensReaped : Type 0
+OpensReaped =
+    (s : State) (p q : ℕ) (l m : Live) (status : ℤ) → get s.processes p ≡ Some (Alive l) → m.parent ≡ l.parent → get s.processes q ≡ Some (Zombie (Some p) status)
+    → OpensOnly s (waited_state p m q s) (λ c. c ≡ Child_of p)
+
+-- a tick; a key, or a byte that is sent
+abbrev pub OpensTick : Type 0
+OpensTick = (s : State) (clock : ℕ) → OpensOnly s (record s { clock = clock }) IsTime
+
+abbrev pub OpensConsole : Type 0
+OpensConsole = (s : State) (console : Console) → OpensOnly s (record s { console = console }) IsOfConsole
+
+-- a new process: nothing
+abbrev pub OpensForked : Type 0
+OpensForked = (frames : ℕ) (s : State) (p : ℕ) (l : Live) → WellFormed frames s → get s.processes p ≡ Some (Alive l) → OpensOnly s (forked_state p l s) (λ c. ⊥)
+
+-- the end of p: its parent's and process 1's children, and the pipes that p was on
+abbrev pub MayOpenAtEnd : State → ℕ → Live → Condition → Type 0
+MayOpenAtEnd s p l c = ((q : ℕ) × (c ≡ Child_of q) × ((l.parent ≡ Some q) ⊎ (q ≡ 1) ⊎ (q ≡ p))) ⊎ ((j : ℕ) × (e : ℕ) × IsOfPipe j c × (pipe_at s p e ≡ Some j))
+
+abbrev pub OpensGone : Type 0
+OpensGone =
+    (frames : ℕ) (s : State) (p : ℕ) (l : Live) (status : ℤ) (files : FinMap nat_cmp OpenFile) → WellFormed frames s → get s.processes p ≡ Some (Alive l) → FilesLeft s (gone_state p l status files s)
+    → OpensOnly s (gone_state p l status files s) (MayOpenAtEnd s p l)
+
+-- ---- waking by conditions is waking where it is due
+
+-- it counts ticks and there was one, or it is process 1 in wait and a process went
+abbrev pub WakesAnyway : ℕ → View → Outcome → Type 0
+WakesAnyway q v o = (IsInCall 13 v × (o ≡ Ticked)) ⊎ ((q ≡ 1) × IsInCall 3 v × IsEnd o)
+
+-- Of the sleepers those wake who are newly marked, who wait for one of the conditions that came, or who wake anyway. Each condition that opened came, and each that came is open
+pub record WakesByConditions (w : World) (o : Outcome) (t : World) (came : Condition → Bool) : Type 0 where
+  pub live_before : (q : ℕ) → Sleeps w.turns q → IsSome (live w.state q)
+  pub same : (q : ℕ) (l m : Live) → Sleeps w.turns q → live w.state q ≡ Some l → live t.state q ≡ Some m → waits_for t.state q m ≡ waits_for w.state q l
+  pub marks_stay : (q : ℕ) (l m : Live) → live w.state q ≡ Some l → live t.state q ≡ Some m → l.killed ≡ true → m.killed ≡ true
+  pub opened : (c : Condition) → is_open w.state c ≡ false → is_open t.state c ≡ true → came c ≡ true
+  pub open_now : (c : Condition) → came c ≡ true → is_open t.state c ≡ true
+  pub woken :
+      (q : ℕ) (l m : Live) → Sleeps w.turns q → live w.state q ≡ Some l → live t.state q ≡ Some m
+      → (¬ Sleeps t.turns q) ↔ ((came (waits_for w.state q l) ≡ true) ⊎ ((l.killed ≡ false) × (m.killed ≡ true)) ⊎ WakesAnyway q (view_of t.state q m) o)
+
+abbrev pub ConditionsSuffice : Type 0
+ConditionsSuffice = (w t : World) (o : Outcome) (came : Condition → Bool) → NoReadySleeper w → WakesByConditions w o t came → WakesWhereDue w o t

@@ -1,0 +1,147 @@
+-- The state that the kernel and its hart stand for, and when the two are sound.
+use Rattle.std.specs.Prelude.{◌≡◌, ℕ, suc, ◌+◌, ◌-◌, nat_le, nat_lt, ℤ, pos, negsuc, true, false, cond, List, map, Option, Some, None, IsSome, get_or}
+use Rattle.std.specs.Ordering.{nat_cmp}
+use Rattle.std.specs.FinMap.{FinMap}
+use Rattle.xk_base.specs.Gathered.{gathered}
+use Rattle.xk_base.specs.declared.limits.TheConstants.{NPROC, NOFILE, OPEN_FILES, SIZE_LIMIT}
+use Rattle.xk_base.specs.Image.{Image, price}
+use Rattle.xk_base.specs.declared.access.Rights.{Rights}
+use Rattle.rv64i_core.specs.Registers.{Registers}
+use Rattle.hart_core.specs.Translations.{nothing_kept}
+use Rattle.hart_core.specs.declared.hart.Hart.{Hart}
+use Rattle.file_table.specs.OpenFiles.{file_at}
+use Rattle.proc_table.specs.Processes.{status_of, is_marked, call_of, newborn}
+use Rattle.proc_table.specs.Slots.{place_at, descriptors_at, IsTable}
+use Rattle.proc_table.specs.declared.process.Process.{Process}
+use Rattle.kcall_core.specs.Words.{is_this}
+use Rattle.kcall_core.specs.Processes as meaning
+use Rattle.kcall_core.specs.Processes.{Live, Alive, Zombie}
+use Rattle.kcall_core.specs.State.{State, named_file}
+use Rattle.kcall_core.specs.Calls.{with_a0}
+use Rattle.kcall_core.specs.Updates.{set_live}
+use Rattle.kcall_core.specs.ByPid.{by_pid}
+use Rattle.kcall_core.specs.Holdings.{Held, held_at, HasMemory}
+use Rattle.kcall_core.specs.Memories as memories
+use Rattle.kcall_core.specs.Memories.{each_of, pipes_of, free_of, RunsIn}
+use Rattle.kcall_core.specs.declared.kernel.Kernel.{Kernel}
+
+-- ---- a process
+
+-- the open files that descriptors name, by the descriptors' numbers
+abbrev pub descriptor_map : List (Option ℕ) → FinMap nat_cmp ℕ
+descriptor_map descriptors = gathered (λ d. get_or descriptors d None) NOFILE
+
+abbrev pub live_of : Process → List (Option ℕ) → Held → Registers → Live
+live_of p descriptors held regs = record {
+  regs = regs;
+  image = held.image;
+  descriptors = descriptor_map descriptors;
+  parent = p.parent;
+  killed = is_marked p;
+  call = call_of p;
+}
+
+abbrev pub by_status : Option ℕ → Live → Option ℤ → meaning.Process
+by_status parent live None = Alive live
+by_status parent live (Some status) = Zombie parent status
+
+-- what a process of the table means: a live one with its memory and its registers, or a zombie
+abbrev pub process_of : Process → List (Option ℕ) → Held → Registers → meaning.Process
+process_of p descriptors held regs = by_status p.parent (live_of p descriptors held regs) (status_of p)
+
+-- ---- the state
+
+-- the registers of the process in a slot: the hart's while it runs, else those in its trapframe
+abbrev pub regs_at : Kernel → Hart → ℕ → Registers
+regs_at k h slot = cond (is_this slot k.current) h.regs (held_at (each_of k.memories) slot).saved
+
+abbrev pub entry_of : Kernel → Hart → ℕ → Option Process → Option (ℕ × meaning.Process)
+entry_of k h slot None = None
+entry_of k h slot (Some p) = Some (p.pid, process_of p (descriptors_at k.table slot) (held_at (each_of k.memories) slot) (regs_at k h slot))
+
+-- the process in a slot, with its pid
+abbrev pub entry_at : Kernel → Hart → ℕ → Option (ℕ × meaning.Process)
+entry_at k h slot = entry_of k h slot (place_at k.table slot)
+
+unfoldable pub state_of : Kernel → Hart → State
+state_of k h = record {
+  processes = by_pid (entry_at k h) NPROC;
+  files = gathered (file_at k.files) OPEN_FILES;
+  pipes = pipes_of k.memories;
+  console = k.console;
+  clock = k.clock;
+  next_pid = k.table.next;
+  free = free_of k.memories;
+  programs = map named_file k.programs.items;
+}
+
+-- ---- the process that runs
+
+-- a process runs
+abbrev pub IsRunning : Kernel → Type 0
+IsRunning k = IsSome k.current
+
+abbrev pub or_zero : Option ℕ → ℕ
+or_zero None = 0
+or_zero (Some slot) = slot
+
+-- the process in a place that has one
+abbrev pub or_nobody : Option Process → Process
+or_nobody None = newborn 0 None
+or_nobody (Some p) = p
+
+-- its slot, its place in the table, its pid, and what it is
+abbrev pub slot_now : Kernel → ℕ
+slot_now k = or_zero k.current
+
+abbrev pub place_now : Kernel → Process
+place_now k = or_nobody (place_at k.table (slot_now k))
+
+abbrev pub pid_now : Kernel → ℕ
+pid_now k = (place_now k).pid
+
+abbrev pub live_now : Kernel → Hart → Live
+live_now k h = live_of (place_now k) (descriptors_at k.table (slot_now k)) (held_at (each_of k.memories) (slot_now k)) h.regs
+
+-- ---- soundness
+
+-- the process in a slot is live, and the hart runs it
+pub record IsCurrent (k : Kernel) (h : Hart) (slot : ℕ) : Type 0 where
+  pub process : Process
+  pub is : place_at k.table slot ≡ Some process
+  pub live : status_of process ≡ None
+  pub runs : RunsIn k.memories slot h
+
+-- each frame has one owner; the table is whole; a live process has a memory, and nothing else has; the hart runs the current process, and none where there is none
+pub record IsSound (k : Kernel) (h : Hart) : Type 0 where
+  pub memories : memories.IsSound k.memories
+  pub table : IsTable k.table
+  pub lives : (slot : ℕ) (p : Process) → place_at k.table slot ≡ Some p → status_of p ≡ None → HasMemory (each_of k.memories) slot
+  pub ended : (slot : ℕ) (p : Process) (status : ℤ) → place_at k.table slot ≡ Some p → status_of p ≡ Some status → get_or (each_of k.memories) slot None ≡ None
+  pub vacant : (slot : ℕ) → place_at k.table slot ≡ None → get_or (each_of k.memories) slot None ≡ None
+  pub current : (slot : ℕ) → k.current ≡ Some slot → IsCurrent k h slot
+  pub idle : k.current ≡ None → (h.root ≡ None) × (h.cache ≡ nothing_kept)
+
+-- ---- growth
+
+-- what a process may do with the pages that it grows by
+abbrev pub data_rights : Rights
+data_rights = record { read = true; write = true; execute = false; user = true }
+
+-- t is u but for the free frames: of those that s had, the image that came after took what it costs more than the one before
+pub record IsRepriced (s : State) (before after : Image) (u t : State) : Type 0 where
+  pub state : t ≡ record u { free = t.free }
+  pub free : t.free + price after ≡ s.free + price before
+
+-- ---- sbrk
+
+-- the size after n bytes more, or fewer; none below 0 or above the limit
+abbrev pub resized : ℕ → ℤ → Option ℕ
+resized size (pos n) = cond (nat_le (size + n) SIZE_LIMIT) (Some (size + n)) None
+resized size (negsuc k) = cond (nat_lt k size) (Some (size - suc k)) None
+
+-- the process that ran has this image now, and the size that it had in a0
+abbrev pub IsResized : Kernel → Hart → Kernel → Hart → Image → Type 0
+IsResized k h k' h' image =
+    let live = live_now k h in
+    IsRepriced (state_of k h) live.image image (set_live (pid_now k) (record live { image = image; regs = with_a0 live.regs live.image.size }) (state_of k h)) (state_of k' h')

@@ -1,0 +1,343 @@
+-- What each step does to the state: for each kind of step and each row of the call table, which update of the state before is the state after.
+-- So a kernel's code is right where it makes these updates; it needs no view.
+use Rattle.std.specs.Prelude.{◌≡◌, ◌≢◌, ℕ, ◌+◌, ◌-◌, ◌++◌, ℤ, pos, Bool, false, true, cond, List, length, take, Option, None, Some, IsSome, nat_eq, nat_le, not, ◌&&◌, ◌<◌, ◌≤◌}
+use Rattle.std.specs.FinMap.{FinMap, get, insert, remove, keys}
+use Rattle.std.specs.List.{list_any}
+use Rattle.std.specs.Ordering.{nat_cmp}
+use Rattle.xk_base.specs.declared.limits.TheConstants.{NOFILE, PIPE_BYTES}
+use Rattle.xk_base.specs.declared.access.Cause.{Cause}
+use Rattle.xk_base.specs.Words.{le_bytes}
+use Rattle.xk_base.specs.Bytes.{image_bytes, write_image}
+use Rattle.xk_base.specs.Image.{Image, price}
+use Rattle.xk_base.specs.Loaded.{Loaded}
+use Rattle.rv64i_core.specs.Registers.{Registers, with_pc, after}
+use Rattle.rv64i_core.specs.Memory.{Store}
+use Rattle.rv64i_core.specs.Step.{Next, Ecall, Fault, instr}
+use Rattle.hart_core.specs.UserMemory.{user, write_image as with_store}
+use Rattle.pipe_core.specs.Pipe.{Pipe, new_pipe, with_more, without_first}
+use Rattle.console_core.specs.Lists.{Console, IsWithinLimits}
+use Rattle.file_table.specs.declared.open_file.End.{End}
+use Rattle.file_table.specs.declared.open_file.End.TheVariants.{Reading, Writing}
+use Rattle.file_table.specs.declared.open_file.Target.{Target}
+use Rattle.file_table.specs.declared.open_file.Target.TheVariants.{Program as File, Pipe as Pipe_end}
+use Rattle.file_table.specs.declared.open_file.OpenFile.{OpenFile}
+use Rattle.proc_table.specs.declared.process.Call.{Call}
+use Rattle.kcall_core.specs.Words.{c_int, minus_one}
+use Rattle.kcall_core.specs.Buffers.{readable, writable}
+use Rattle.kcall_core.specs.PipeEnds.{there, fit, joined, parted, is_given_up}
+use Rattle.kcall_core.specs.Processes.{Live, Alive, Zombie}
+use Rattle.kcall_core.specs.State.{State}
+use Rattle.kcall_core.specs.View.{Descriptor, view_of, show, numbered, least_on_file, least_on_pipe, or_else}
+use Rattle.kcall_core.specs.Own.{Own, Answer, Exited, Faulted, gone_with}
+use Rattle.kcall_core.specs.Calls.{perform, done, waits, gone, running, fork, cannot_fork, wait, least_zombie, killed_by, read, read_file, must_wait, write, open_at, piped, dup_at, close_at}
+use Rattle.kcall_core.specs.Step.{own, call_begun}
+use Rattle.kcall_core.specs.Updates.{set_pipe, set_file, mark, changed_state, own_state, alone_state, piped_state, filed_state, with_named, with_closed, with_bytes, with_answer, in_call, stepped, started, forked_state, gone_state, waited_state, remove_zombie, settled, waited, kill_state, killer}
+use Rattle.kcall_core.specs.Quiet.{file_at, pipe_at, pipe_of_target}
+use Rattle.kcall_core.specs.WellFormed.{WellFormed}
+use Rattle.kcall_core.specs.Run.{StateAfter}
+
+-- process p is live, and is l
+abbrev pub IsLive : State → ℕ → Live → Type 0
+IsLive s p l = get s.processes p ≡ Some (Alive l)
+
+-- a step of it comes to o, and t is the state after
+abbrev pub After : State → ℕ → Live → Own → State → Type 0
+After s p l o t = StateAfter s (view_of s p l) o t
+
+-- it runs: it isn't marked, and in no call
+abbrev pub IsRunning : Live → Type 0
+IsRunning l = (l.killed ≡ false) × (l.call ≡ None)
+
+-- ---- what a step begins with
+
+-- an instruction that is done changes the process's registers, and by a store its image
+abbrev pub InstructionLaw : Type 0
+InstructionLaw =
+    (s : State) (p : ℕ) (l : Live) (r : Registers) (st : Option Store)
+    → IsLive s p l → IsRunning l → instr l.regs (user l.image) ≡ Next r st
+    → After s p l (own (view_of s p l)) (own_state p (stepped r st l) s)
+
+-- past its ECALL, with the call in progress
+abbrev pub begun_live : State → ℕ → Live → Live
+begun_live s p l = record l { regs = with_pc l.regs (after l.regs); call = Some (call_begun (view_of s p l)) }
+
+abbrev pub begun_state : ℕ → Live → State → State
+begun_state p l s = own_state p (begun_live s p l) s
+
+-- an ECALL: the call is begun, and its row is done in the same step
+abbrev pub EcallLaw : Type 0
+EcallLaw =
+    (s : State) (p : ℕ) (l : Live) → IsLive s p l → IsRunning l → instr l.regs (user l.image) ≡ Ecall
+    → (own (view_of s p l) ≡ perform (call_begun (view_of s p l)) (view_of (begun_state p l s) p (begun_live s p l)))
+    × ((o : Own) (t : State) → After (begun_state p l s) p (begun_live s p l) o t → After s p l o t)
+
+-- a call in progress goes on by its row
+abbrev pub ResumeLaw : Type 0
+ResumeLaw = (s : State) (p : ℕ) (l : Live) (c : Call) → l.killed ≡ false → l.call ≡ Some c → own (view_of s p l) ≡ perform c (view_of s p l)
+
+-- a marked process ends with -1, and so does one whose instruction faults
+abbrev pub EndLaw : Type 0
+EndLaw =
+    (s : State) (p : ℕ) (l : Live)
+    → (l.killed ≡ true → own (view_of s p l) ≡ gone (Exited minus_one) (view_of s p l))
+    × ((cause : Cause) → IsRunning l → instr l.regs (user l.image) ≡ Fault cause → own (view_of s p l) ≡ gone (Faulted cause) (view_of s p l))
+
+-- ---- rows that change only the process, the console and the free frames: all refusals, getpid, uptime, sleep, sbrk, reads and writes of the console and of nothing, and a wait that waits
+
+abbrev pub AnswerLaw : Type 0
+AnswerLaw =
+    (s : State) (p : ℕ) (l : Live) (c : Call) (value : ℤ) (image : Image) (console : Console) (free : ℕ) → IsLive s p l
+    → After s p l (done c value (record (view_of s p l) { image = image; console = console; free = free })) (alone_state p (with_answer value (record l { image = image })) console free s)
+
+abbrev pub WaitingLaw : Type 0
+WaitingLaw =
+    (s : State) (p : ℕ) (l : Live) (c : Call) (moved : ℕ) (image : Image) (console : Console) (free : ℕ) → IsLive s p l
+    → After s p l (waits c moved (record (view_of s p l) { image = image; console = console; free = free })) (alone_state p (in_call (record c { moved = moved }) (record l { image = image })) console free s)
+
+-- exec: the new image and its first registers
+abbrev pub ExecLaw : Type 0
+ExecLaw =
+    (s : State) (p : ℕ) (l : Live) (c : Call) (new : Loaded) → IsLive s p l
+    → After s p l (done c (pos new.argc) (running new (view_of s p l))) (alone_state p (with_answer (pos new.argc) (started new l)) s.console (s.free + price l.image - price new.image) s)
+
+-- ---- rows that make, end, wait for or mark a process
+
+abbrev pub ForkLaw : Type 0
+ForkLaw =
+    (frames : ℕ) (s : State) (p : ℕ) (l : Live) (c : Call) → WellFormed frames s → IsLive s p l → cannot_fork (view_of s p l) ≡ false
+    → After s p l (fork c (view_of s p l)) (forked_state p l s)
+
+-- the open files of t are those of s that a live process still names
+pub record FilesLeft (s t : State) : Type 0 where
+  pub stay : (q d g : ℕ) → file_at t q d ≡ Some g → get t.files g ≡ get s.files g
+  pub named : (g : ℕ) → IsSome (get t.files g) → (q : ℕ) × (d : ℕ) × (file_at t q d ≡ Some g)
+
+-- exit, a fault, a kill
+abbrev pub GoneLaw : Type 0
+GoneLaw =
+    (frames : ℕ) (s : State) (p : ℕ) (l : Live) (answer : Answer) (status : ℤ) (files : FinMap nat_cmp OpenFile) → WellFormed frames s → IsLive s p l → gone_with answer ≡ Some status
+    → FilesLeft s (gone_state p l status files s)
+    → After s p l (gone answer (view_of s p l)) (gone_state p l status files s)
+
+-- wait, where q is the least zombie: its status is told, and its slot is free
+abbrev pub ReapLaw : Type 0
+ReapLaw =
+    (s : State) (p q : ℕ) (l : Live) (c : Call) (status : ℤ) → IsLive s p l → get s.processes q ≡ Some (Zombie (Some p) status)
+    → (not (nat_eq c.a0 0) && not (writable l.image c.a0 4)) ≡ false → least_zombie (view_of s p l) ≡ Some q
+    → After s p l (wait c (view_of s p l)) (waited_state p (waited c q status l) q s)
+
+abbrev pub KillLaw : Type 0
+KillLaw =
+    (s : State) (p q : ℕ) (l : Live) (c : Call) → IsLive s p l → not (list_any (nat_eq q) (keys s.processes)) ≡ false
+    → After s p l (killed_by c (view_of s p l) q) (kill_state p (killer p q l) q s)
+
+-- ---- rows on an open file
+
+-- p's descriptor d is on this end of pipe i, which is x; k is p's least descriptor on that pipe
+pub record OnPipe (s : State) (p : ℕ) (l : Live) (d : ℕ) (i k : ℕ) (end : End) (x : Pipe) : Type 0 where
+  pub was : get s.processes p ≡ Some (Alive l)
+  pub below : d < NOFILE
+  pub file : ℕ
+  pub named_file : get l.descriptors d ≡ Some file
+  pub read : Bool
+  pub write : Bool
+  pub opened : get s.files file ≡ Some (record { read = read; write = write; target = Pipe_end i end })
+  pub pipe : get s.pipes i ≡ Some x
+  pub names : least_on_pipe (numbered s l) i ≡ Some k
+
+-- the buffer of n bytes is there, n above 0
+abbrev pub IsBuffer : Call → (ℕ → Bool) → ℕ → Type 0
+IsBuffer c is_there n = (c_int c.a2 ≡ pos n) × (nat_eq n 0 ≡ false) × (is_there n ≡ true)
+
+-- read from a pipe: it takes what is there, or waits
+abbrev pub PipeReadLaw : Type 0
+PipeReadLaw =
+    (s : State) (p : ℕ) (l : Live) (c : Call) (d i k n : ℕ) (x : Pipe) (on : OnPipe s p l d i k Reading x)
+    → on.read ≡ true → c_int c.a0 ≡ pos d → IsBuffer c (writable l.image c.a1) n
+    → (must_wait x ≡ false → After s p l (read c (view_of s p l)) (piped_state p (with_answer (pos (there x n)) (with_bytes c.a1 (take (there x n) x.bytes) l)) i (without_first (there x n) x) s))
+    × (must_wait x ≡ true → After s p l (read c (view_of s p l)) (own_state p (in_call (record c { moved = 0 }) l) s))
+
+-- how far a write to a pipe has come after a step, and the pipe then
+abbrev pub now_moved : Call → Pipe → ℕ → ℕ
+now_moved c x n = c.moved + fit x (n - c.moved)
+
+abbrev pub written : Call → Live → Pipe → ℕ → Pipe
+written c l x n = with_more (image_bytes l.image (c.a1 + c.moved) (fit x (n - c.moved))) x
+
+-- write to a pipe: as many bytes as fit; it is done when all are in, and it fails when nobody reads any more
+abbrev pub PipeWriteLaw : Type 0
+PipeWriteLaw =
+    (s : State) (p : ℕ) (l : Live) (c : Call) (d i k n : ℕ) (x : Pipe) (on : OnPipe s p l d i k Writing x)
+    → on.write ≡ true → c_int c.a0 ≡ pos d → IsBuffer c (readable l.image c.a1) n
+    → (nat_eq x.readers 0 ≡ true → After s p l (write c (view_of s p l)) (own_state p (with_answer minus_one l) s))
+    × (nat_eq x.readers 0 ≡ false → nat_le n (now_moved c x n) ≡ true → After s p l (write c (view_of s p l)) (piped_state p (with_answer (pos n) l) i (written c l x n) s))
+    × (nat_eq x.readers 0 ≡ false → nat_le n (now_moved c x n) ≡ false → After s p l (write c (view_of s p l)) (piped_state p (in_call (record c { moved = now_moved c x n }) l) i (written c l x n) s))
+
+-- the name that p has for its open file f
+abbrev pub name_of_file : State → Live → ℕ → ℕ
+name_of_file s l f = or_else (least_on_file (numbered s l) f) f
+
+-- read from a program's file: the bytes are taken, and the offset moves on
+abbrev pub FileReadLaw : Type 0
+FileReadLaw =
+    (s : State) (p : ℕ) (l : Live) (c : Call) (d f program offset : ℕ) (r w : Bool) (bytes : List ℕ) → IsLive s p l → d < NOFILE → get l.descriptors d ≡ Some f
+    → get s.files f ≡ Some (record { read = r; write = w; target = File program offset })
+    → After s p l (read_file c (view_of s p l) (name_of_file s l f) bytes)
+    (filed_state p (with_answer (pos (length bytes)) (with_bytes c.a1 bytes l)) f (record { read = r; write = w; target = File program (offset + length bytes) }) s)
+
+-- no process names the open file; none is on the pipe
+abbrev pub NobodyNames : State → ℕ → Type 0
+NobodyNames s f = (q d : ℕ) → file_at s q d ≢ Some f
+
+abbrev pub NobodyHas : State → ℕ → Type 0
+NobodyHas s j = (q d : ℕ) → pipe_at s q d ≢ Some j
+
+-- open: the free descriptor k names a new open file, which is the console or a program's
+abbrev pub OpenLaw : Type 0
+OpenLaw =
+    (s : State) (p : ℕ) (l : Live) (c : Call) (k f : ℕ) (read write : Bool) (target : Target) → IsLive s p l → k < NOFILE → get l.descriptors k ≡ None
+    → NobodyNames s f → pipe_of_target target ≡ None
+    → After s p l (open_at c (view_of s p l) (Some k) (Some (read, write, show s target)))
+    (filed_state p (with_answer (pos k) (with_named k f l)) f (record { read = read; write = write; target = target }) s)
+
+-- pipe: the free descriptors r and w name the two ends of a new pipe
+abbrev pub PipeLaw : Type 0
+PipeLaw =
+    (s : State) (p : ℕ) (l : Live) (c : Call) (r w f g i : ℕ) → IsLive s p l → r < NOFILE → w < NOFILE → r ≢ w → f ≢ g → get l.descriptors r ≡ None → get l.descriptors w ≡ None
+    → NobodyNames s f → NobodyNames s g → NobodyHas s i
+    → After s p l (piped c (view_of s p l) r (Some w))
+    (changed_state p (with_answer (pos 0) (with_bytes c.a0 (le_bytes 4 r ++ le_bytes 4 w) (with_named w g (with_named r f l))))
+    (insert (insert s.files f (record { read = true; write = false; target = Pipe_end i Reading })) g (record { read = false; write = true; target = Pipe_end i Writing }))
+    (insert s.pipes i new_pipe) s.console (s.free - 1) s)
+
+-- dup: the free descriptor k names what descriptor j names, which is the console or a program's file
+abbrev pub DupLaw : Type 0
+DupLaw =
+    (s : State) (p : ℕ) (l : Live) (c : Call) (j k f : ℕ) (x : OpenFile) (d : Descriptor) → IsLive s p l → j < NOFILE → get l.descriptors j ≡ Some f → get l.descriptors k ≡ None
+    → get s.files f ≡ Some x → pipe_of_target x.target ≡ None → (view_of s p l).descriptors j ≡ Some d
+    → After s p l (dup_at c (view_of s p l) j d (Some k)) (own_state p (with_answer (pos k) (with_named k f l)) s)
+
+-- or an end of a pipe: one descriptor more is on it
+abbrev pub DupPipeLaw : Type 0
+DupPipeLaw =
+    (s : State) (p : ℕ) (l : Live) (c : Call) (j k i n : ℕ) (end : End) (x : Pipe) (d : Descriptor) (on : OnPipe s p l j i n end x) → get l.descriptors k ≡ None
+    → (view_of s p l).descriptors j ≡ Some d
+    → After s p l (dup_at c (view_of s p l) j d (Some k)) (piped_state p (with_answer (pos k) (with_named k on.file l)) i (joined x end 1) s)
+
+-- close: descriptor k is free, and an open file that nobody names any more is given up
+abbrev pub closed_state : ℕ → Live → ℕ → FinMap nat_cmp OpenFile → FinMap nat_cmp Pipe → (freed : ℕ) → State → State
+closed_state p l k files pipes freed s = changed_state p (with_answer (pos 0) (with_closed k l)) files pipes s.console (s.free + freed) s
+
+abbrev pub CloseLaw : Type 0
+CloseLaw =
+    (frames : ℕ) (s : State) (p : ℕ) (l : Live) (c : Call) (k f : ℕ) (x : OpenFile) (d : Descriptor) (files : FinMap nat_cmp OpenFile) → WellFormed frames s → IsLive s p l
+    → k < NOFILE → get l.descriptors k ≡ Some f → get s.files f ≡ Some x → pipe_of_target x.target ≡ None → (view_of s p l).descriptors k ≡ Some d
+    → FilesLeft s (closed_state p l k files s.pipes 0 s)
+    → After s p l (close_at c (view_of s p l) k d) (closed_state p l k files s.pipes 0 s)
+
+-- or an end of a pipe: one descriptor fewer is on it, and a pipe that nobody is on any more gives its frame back
+abbrev pub ClosePipeLaw : Type 0
+ClosePipeLaw =
+    (frames : ℕ) (s : State) (p : ℕ) (l : Live) (c : Call) (k i n : ℕ) (end : End) (x : Pipe) (d : Descriptor) (files : FinMap nat_cmp OpenFile) (on : OnPipe s p l k i n end x) → WellFormed frames s
+    → (view_of s p l).descriptors k ≡ Some d
+    → FilesLeft s (closed_state p l k files (settled i (parted x end 1) s.pipes) (cond (is_given_up (parted x end 1)) 1 0) s)
+    → After s p l (close_at c (view_of s p l) k d) (closed_state p l k files (settled i (parted x end 1) s.pipes) (cond (is_given_up (parted x end 1)) 1 0) s)
+
+-- ---- well-formed states stay so
+
+abbrev pub WellForked : Type 0
+WellForked =
+    (frames : ℕ) (s : State) (p : ℕ) (l : Live) → WellFormed frames s → IsLive s p l → price l.image + 1 ≤ s.free
+    → WellFormed frames (forked_state p l s)
+
+abbrev pub WellGone : Type 0
+WellGone =
+    (frames : ℕ) (s : State) (p : ℕ) (l : Live) (status : ℤ) (files : FinMap nat_cmp OpenFile) → WellFormed frames s → IsLive s p l
+    → FilesLeft s (gone_state p l status files s)
+    → WellFormed frames (gone_state p l status files s)
+
+-- the zombie q is waited for
+abbrev pub WellReaped : Type 0
+WellReaped =
+    (frames : ℕ) (s : State) (p q : ℕ) (status : ℤ) → WellFormed frames s → get s.processes q ≡ Some (Zombie (Some p) status)
+    → WellFormed frames (remove_zombie q s)
+
+-- a process changes itself and the console: the frames that its image takes more are taken from the free ones
+abbrev pub WellAlone : Type 0
+WellAlone =
+    (frames : ℕ) (s : State) (p : ℕ) (l : Live) (r : Registers) (image : Image) (c : Option Call) (killed : Bool) (console : Console) (free : ℕ) → WellFormed frames s → IsLive s p l
+    → free + (price image + 1) ≡ s.free + (price l.image + 1) → IsWithinLimits console
+    → WellFormed frames (alone_state p (record l { regs = r; image = image; call = c; killed = killed }) console free s)
+
+-- writing to memory takes no frame
+abbrev pub WritesTakeNothing : Type 0
+WritesTakeNothing = (image : Image) (a : ℕ) (bytes : List ℕ) → price (write_image image a bytes) ≡ price image
+
+-- nor does a store
+abbrev pub StoresTakeNothing : Type 0
+StoresTakeNothing = (image : Image) (st : Store) → price (with_store image st) ≡ price image
+
+-- a pipe has other bytes, and the same counts
+abbrev pub WellPiped : Type 0
+WellPiped =
+    (frames : ℕ) (s : State) (i : ℕ) (x y : Pipe) → WellFormed frames s → get s.pipes i ≡ Some x → y.readers ≡ x.readers → y.writers ≡ x.writers → length y.bytes ≤ PIPE_BYTES
+    → WellFormed frames (set_pipe i y s)
+
+-- a program's file has another offset
+abbrev pub WellMoved : Type 0
+WellMoved =
+    (frames : ℕ) (s : State) (f program offset moved : ℕ) (r w : Bool) → WellFormed frames s → get s.files f ≡ Some (record { read = r; write = w; target = File program offset })
+    → WellFormed frames (set_file f (record { read = r; write = w; target = File program moved }) s)
+
+-- a process is marked
+abbrev pub WellMarked : Type 0
+WellMarked = (frames : ℕ) (s : State) (q : ℕ) → WellFormed frames s → WellFormed frames (mark q s)
+
+-- p's record after a row on descriptors: they are these, and parent and price stay
+abbrev pub HasTable : Live → Live → FinMap nat_cmp ℕ → Type 0
+HasTable l m descriptors = (m.parent ≡ l.parent) × (price m.image ≡ price l.image) × (m.descriptors ≡ descriptors)
+
+-- open, dup, close and pipe
+abbrev pub WellOpened : Type 0
+WellOpened =
+    (frames : ℕ) (s : State) (p : ℕ) (l m : Live) (k f : ℕ) (x : OpenFile) → WellFormed frames s → IsLive s p l → k < NOFILE → get l.descriptors k ≡ None
+    → NobodyNames s f → pipe_of_target x.target ≡ None → HasTable l m (insert l.descriptors k f)
+    → WellFormed frames (filed_state p m f x s)
+
+abbrev pub WellDup : Type 0
+WellDup =
+    (frames : ℕ) (s : State) (p : ℕ) (l m : Live) (j k f : ℕ) (x : OpenFile) → WellFormed frames s → IsLive s p l → k < NOFILE → get l.descriptors k ≡ None
+    → get l.descriptors j ≡ Some f → get s.files f ≡ Some x → pipe_of_target x.target ≡ None → HasTable l m (insert l.descriptors k f)
+    → WellFormed frames (own_state p m s)
+
+abbrev pub WellDupPipe : Type 0
+WellDupPipe =
+    (frames : ℕ) (s : State) (p : ℕ) (l m : Live) (j k i n : ℕ) (end : End) (x : Pipe) (on : OnPipe s p l j i n end x) → WellFormed frames s → k < NOFILE → get l.descriptors k ≡ None
+    → HasTable l m (insert l.descriptors k on.file)
+    → WellFormed frames (piped_state p m i (joined x end 1) s)
+
+abbrev pub WellClosed : Type 0
+WellClosed =
+    (frames : ℕ) (s : State) (p : ℕ) (l m : Live) (k f : ℕ) (x : OpenFile) (files : FinMap nat_cmp OpenFile) → WellFormed frames s → IsLive s p l → k < NOFILE → get l.descriptors k ≡ Some f
+    → get s.files f ≡ Some x → pipe_of_target x.target ≡ None → HasTable l m (remove l.descriptors k)
+    → FilesLeft s (changed_state p m files s.pipes s.console (s.free + 0) s)
+    → WellFormed frames (changed_state p m files s.pipes s.console (s.free + 0) s)
+
+abbrev pub WellClosedPipe : Type 0
+WellClosedPipe =
+    (frames : ℕ) (s : State) (p : ℕ) (l m : Live) (k i n : ℕ) (end : End) (x : Pipe) (files : FinMap nat_cmp OpenFile) (on : OnPipe s p l k i n end x) → WellFormed frames s
+    → HasTable l m (remove l.descriptors k)
+    → FilesLeft s (changed_state p m files (settled i (parted x end 1) s.pipes) s.console (s.free + cond (is_given_up (parted x end 1)) 1 0) s)
+    → WellFormed frames (changed_state p m files (settled i (parted x end 1) s.pipes) s.console (s.free + cond (is_given_up (parted x end 1)) 1 0) s)
+
+abbrev pub WellMadePipe : Type 0
+WellMadePipe =
+    (frames : ℕ) (s : State) (p : ℕ) (l m : Live) (r w f g i : ℕ) → WellFormed frames s → IsLive s p l → r < NOFILE → w < NOFILE → r ≢ w → f ≢ g → get l.descriptors r ≡ None → get l.descriptors w ≡ None
+    → NobodyNames s f → NobodyNames s g → NobodyHas s i → get s.pipes i ≡ None → 0 < s.free → HasTable l m (insert (insert l.descriptors r f) w g)
+    → WellFormed frames (changed_state p m
+    (insert (insert s.files f (record { read = true; write = false; target = Pipe_end i Reading })) g (record { read = false; write = true; target = Pipe_end i Writing }))
+    (insert s.pipes i new_pipe) s.console (s.free - 1) s)
+
+-- a tick, a key, a byte that is sent
+abbrev pub WellOutside : Type 0
+WellOutside = (frames : ℕ) (s : State) (clock : ℕ) (console : Console) → WellFormed frames s → IsWithinLimits console → WellFormed frames (record s { clock = clock; console = console })

@@ -1,0 +1,211 @@
+-- Runs of the machine: lists of events, with what each gives, that lead from one state to another.
+use Rattle.std.specs.Prelude.{◌≡◌, ◌≢◌, ℕ, zero, suc, ℤ, ◌+◌, ◌%◌, ◌⊎◌, Bool, true, false, cond, List, [], ◌∷◌, ◌++◌, map, replicate, drop, Option, None, Some, IsSome, MatchOption, flat_map, nat_eq, Contains}
+use Rattle.std.specs.FinMap.{get, keys}
+use Rattle.std.specs.List.{list_any}
+use Rattle.xk_base.specs.declared.limits.TheConstants.{SEND_BYTES}
+use Rattle.console_core.specs.Lists.{Console}
+use Rattle.console_core.specs.Keys.{line}
+use Rattle.kcall_core.specs.Words.{CLOCK_ROUND}
+use Rattle.kcall_core.specs.State.{State}
+use Rattle.kcall_core.specs.Turns.{Turns, Sleeps, HasSlot, IsLowestFree}
+use Rattle.kcall_core.specs.View.{View, view}
+use Rattle.kcall_core.specs.Own.{Own, Left, Answer, Stepped, Called, Blocked, Exited, Faulted, gone_with}
+use Rattle.kcall_core.specs.Step.{own}
+use Rattle.kcall_core.specs.Quiet.{file_at, pipe_at, Quiet}
+
+-- what a machine stands for, but for its trace
+pub record World : Type 0 where
+  pub state : State
+  pub turns : Turns
+
+pub data Event : Type 0 where
+  -- one step of the current process, or a turn
+  Run : Event
+  -- the timer interrupts
+  Tick : Event
+  -- a key is typed
+  Key : (byte : ℕ) → Event
+  -- the terminal can take a byte
+  Send : Event
+
+pub data Outcome : Type 0 where
+  Step_of : (pid : ℕ) → Answer → Outcome
+  Turn : (pid : ℕ) → Outcome
+  Idle : Outcome
+  Ticked : Outcome
+  Typed : (echo : List ℕ) → Outcome
+  Sent : Option ℕ → Outcome
+  Halted : Outcome
+
+-- ---- the turn part
+
+-- sleepers may wake, and no process falls asleep
+abbrev pub OnlyWake : Turns → Turns → Type 0
+OnlyWake before after = (p : ℕ) → Sleeps after p → Sleeps before p
+
+-- but for sleepers that wake, the turn part is this
+abbrev pub IsButWoken : Turns → Turns → Type 0
+IsButWoken turns after = (after ≡ record turns { sleepers = after.sleepers }) × OnlyWake turns after
+
+abbrev pub stays_current : ℕ → Answer → Option ℕ
+stays_current p Stepped = Some p
+stays_current p (Called number value) = Some p
+stays_current p (Blocked number) = None
+stays_current p (Exited status) = None
+stays_current p (Faulted cause) = None
+
+abbrev pub halts_with : ℕ → Answer → Option ℤ
+halts_with p answer = cond (nat_eq p 1) (gone_with answer) None
+
+abbrev pub IsBlocked : Answer → Type 0
+IsBlocked answer = (number : ℤ) × (answer ≡ Blocked number)
+
+-- The turn part after a step of p. Slots stay held, but a zombie that is waited for gives up its slot, and a newborn takes the lowest free one
+pub record TurnsAfter (before : Turns) (p : ℕ) (o : Own) (after : Turns) : Type 0 where
+  pub last : after.last ≡ before.last
+  pub current : after.current ≡ stays_current p o.answer
+  pub halted : after.halted ≡ halts_with p o.answer
+  pub held : (q : ℕ) → Contains o.left.pids q → IsSome (get before.slots q) → get after.slots q ≡ get before.slots q
+  pub given_up : (q : ℕ) → ¬ Contains o.left.pids q → get after.slots q ≡ None
+  pub newborn : MatchOption o.child (Unit {0}) (λ c. ((slot : ℕ) × HasSlot after c.pid slot × IsLowestFree before slot) × ¬ Sleeps after c.pid)
+  pub blocked : IsBlocked o.answer → Sleeps after p
+  pub awake : (q : ℕ) → Sleeps after q → Sleeps before q ⊎ ((q ≡ p) × IsBlocked o.answer)
+
+-- ---- what the step leaves to all
+
+-- The state holds what `own` leaves, also where no process is left to see it; the clock and the programs stay
+pub record IsLeft (left : Left) (s t : State) : Type 0 where
+  pub console : t.console ≡ left.console
+  pub pids : keys t.processes ≡ left.pids
+  pub next_pid : t.next_pid ≡ left.next_pid
+  pub free : t.free ≡ left.free
+  pub clock : t.clock ≡ s.clock
+  pub programs : t.programs ≡ s.programs
+
+-- ---- which open file each descriptor names
+
+pub record FilesAfter (s : State) (p : ℕ) (o : Own) (t : State) : Type 0 where
+  -- a descriptor that stays in use names the same open file, on the same pipe
+  pub same_file : (q d f g : ℕ) → file_at s q d ≡ Some f → file_at t q d ≡ Some g → f ≡ g
+  pub same_pipe : (q d f g : ℕ) → pipe_at s q d ≡ Some f → pipe_at t q d ≡ Some g → f ≡ g
+  -- a newborn's descriptors name its parent's open files
+  pub newborn : MatchOption o.child (Unit {0}) (λ c. (d : ℕ) → file_at t c.pid d ≡ file_at s p d)
+  -- an open file that p named with no descriptor, and a pipe, are new: no other process names them
+  pub new_file : (q d e f : ℕ) → file_at t p d ≡ Some f → ((k : ℕ) → file_at s p k ≢ Some f) → file_at t q e ≡ Some f → q ≡ p
+  pub new_pipe : (q d e f : ℕ) → pipe_at t p d ≡ Some f → ((k : ℕ) → pipe_at s p k ≢ Some f) → pipe_at t q e ≡ Some f → q ≡ p
+
+-- ---- one step of the current process
+
+abbrev pub IsNewbornOf : Own → ℕ → Type 0
+IsNewbornOf o q = MatchOption o.child ⊥ (λ c. q ≡ c.pid)
+
+-- The state t after a step of the process of view v in the state s, which comes to o
+pub record StateAfter (s : State) (v : View) (o : Own) (t : State) : Type 0 where
+  -- its own view, and that of a process that it made
+  pub next : view t v.pid ≡ o.next
+  pub newborn : MatchOption o.child (Unit {0}) (λ c. view t c.pid ≡ Some c)
+  -- every other live process stays live, and sees of the step only that; nobody else comes to life
+  pub others : Quiet s v o t
+  pub no_more : (q : ℕ) → IsSome (view t q) → (q ≡ v.pid) ⊎ IsSome (view s q) ⊎ IsNewbornOf o q
+  -- what all see
+  pub left : IsLeft o.left s t
+  pub files : FilesAfter s v.pid o t
+
+-- process p makes the step that its view tells
+pub record StepOf (w : World) (p : ℕ) (outcome : Outcome) (t : World) : Type 0 where
+  pub before : View
+  pub was : view w.state p ≡ Some before
+  pub answer : outcome ≡ Step_of p (own before).answer
+  pub state : StateAfter w.state before (own before) t.state
+  pub turns : TurnsAfter w.turns p (own before) t.turns
+
+-- ---- the other events
+
+-- p becomes current, and its slot the last one run; or nothing changes. That p may run, and is the nearest, is said in `Wakes`
+abbrev pub TurnTaken : World → Outcome → World → Type 0
+TurnTaken w (Turn p) t = (slot : ℕ) × HasSlot w.turns p slot × IsSome (view w.state p) × (t ≡ record w { turns = record w.turns { current = Some p; last = slot } })
+TurnTaken w Idle t = t ≡ w
+TurnTaken w _ t = ⊥
+
+abbrev pub first_sent : List ℕ → Option ℕ
+first_sent [] = None
+first_sent (b ∷ bs) = Some b
+
+abbrev pub sent : Console → Console
+sent c = record c { to_send = drop 1 c.to_send }
+
+abbrev pub HaltedRun : World → Outcome → World → Type 0
+HaltedRun w outcome t = (outcome ≡ Halted) × (t ≡ w)
+
+-- by the status of pid 1, where it is gone, and by the current process
+abbrev pub RunHappens : World → Option ℤ → Option ℕ → Outcome → World → Type 0
+RunHappens w (Some status) current outcome t = HaltedRun w outcome t
+RunHappens w None (Some p) outcome t = StepOf w p outcome t
+RunHappens w None None outcome t = TurnTaken w outcome t
+
+abbrev pub TickHappens : World → Option ℤ → Outcome → World → Type 0
+TickHappens w (Some status) outcome t = HaltedRun w outcome t
+TickHappens w None outcome t =
+    (outcome ≡ Ticked)
+    × (t.state ≡ record w.state { clock = (w.state.clock + 1) % CLOCK_ROUND })
+    × IsButWoken (record w.turns { current = None }) t.turns
+
+abbrev pub KeyHappens : World → Option ℤ → ℕ → Outcome → World → Type 0
+KeyHappens w (Some status) b outcome t = HaltedRun w outcome t
+KeyHappens w None b outcome t =
+    (outcome ≡ Typed (line w.state.console b).1)
+    × (t.state ≡ record w.state { console = (line w.state.console b).0 })
+    × IsButWoken w.turns t.turns
+
+abbrev pub SendHappens : World → Outcome → World → Type 0
+SendHappens w outcome t =
+    (outcome ≡ Sent (first_sent w.state.console.to_send))
+    × (t.state ≡ record w.state { console = sent w.state.console })
+    × IsButWoken w.turns t.turns
+
+-- The event may give this outcome and lead from w to t. Which sleepers wake, and whose turn it is, is said in `Wakes`; both together are `Promised`
+abbrev pub Happens : World → Event → Outcome → World → Type 0
+Happens w Run outcome t = RunHappens w w.turns.halted w.turns.current outcome t
+Happens w Tick outcome t = TickHappens w w.turns.halted outcome t
+Happens w (Key b) outcome t = KeyHappens w w.turns.halted b outcome t
+Happens w Send outcome t = SendHappens w outcome t
+
+-- the list of events and outcomes leads from w to t
+abbrev pub IsRun : World → List (Event × Outcome) → World → Type 0
+IsRun w [] t = t ≡ w
+IsRun w (e ∷ es) t = (mid : World) × Happens w e.0 e.1 mid × IsRun mid es t
+
+-- ---- what comes out of a run
+
+abbrev pub bytes_out : Outcome → List ℕ
+bytes_out (Typed echo) = echo
+bytes_out (Sent (Some b)) = b ∷ []
+bytes_out _ = []
+
+abbrev pub out : List (Event × Outcome) → List ℕ
+out es = flat_map (λ e. bytes_out e.1) es
+
+-- ---- the rounds of `drive`
+
+abbrev pub key_events : List ℕ → List Event
+key_events [] = []
+key_events (b ∷ bs) = Key b ∷ []
+
+-- a key, if one is left; then turns of work; then a tick, and room for what is to be sent
+abbrev pub round : (quantum : ℕ) → (keys : List ℕ) → List Event
+round quantum keys = key_events keys ++ replicate quantum Run ++ Tick ∷ replicate SEND_BYTES Send
+
+-- pid 1 goes
+abbrev pub halts : Outcome → Bool
+halts (Step_of pid (Exited status)) = nat_eq pid 1
+halts (Step_of pid (Faulted cause)) = nat_eq pid 1
+halts _ = false
+
+-- whole rounds, none of which begins on a halted machine or past the number of rounds, up to where none may begin
+abbrev pub Planned : (rounds quantum : ℕ) (keys : List ℕ) (halted : Bool) → List (Event × Outcome) → Type 0
+Planned rounds quantum keys true list = list ≡ []
+Planned zero quantum keys false list = list ≡ []
+Planned (suc rounds) quantum keys false list =
+    (now : List (Event × Outcome)) × (later : List (Event × Outcome)) × (list ≡ now ++ later)
+    × (map (λ e. e.0) now ≡ round quantum keys)
+    × Planned rounds quantum (drop 1 keys) (list_any (λ e. halts e.1) now) later

@@ -1,0 +1,109 @@
+-- No lost wake-up, and turns (the xv6 book, "Sleep and wakeup" and "Code: Scheduling"): what a machine promises of each event beside `Happens`.
+use Rattle.std.specs.Prelude.{◌≡◌, ◌≢◌, ℕ, ◌≤◌, ◌⊎◌, ◌↔◌, ℤ, pos, Bool, true, false, cond, List, [], ◌∷◌, Ok, None, Some, IsSome, ◌<◌, ◌-◌, ◌+◌}
+use Rattle.xk_base.specs.declared.limits.TheConstants.{NPROC}
+use Rattle.proc_table.specs.declared.process.Call.{Call}
+use Rattle.proc_table.specs.Turns.{distance}
+use Rattle.kcall_core.specs.View.{View, view}
+use Rattle.kcall_core.specs.Own.{Answer, Blocked, gone_with}
+use Rattle.kcall_core.specs.Step.{own}
+use Rattle.kcall_core.specs.Ready.{ready}
+use Rattle.kcall_core.specs.Turns.{Sleeps, HasSlot}
+use Rattle.kcall_core.specs.State.{ProgramFile}
+use Rattle.kcall_core.specs.WellFormed.{HasSlots}
+use Rattle.kcall_core.specs.First.{first}
+use Rattle.kcall_core.specs.Run.{World, Event, Run, Outcome, Step_of, Turn, Idle, Ticked, Happens}
+
+-- live, and not a sleeper
+abbrev pub IsRunnable : World → ℕ → Type 0
+IsRunnable w p = IsSome (view w.state p) × ¬ Sleeps w.turns p
+
+-- no sleeper could go on
+abbrev pub NoReadySleeper : World → Type 0
+NoReadySleeper w = (p : ℕ) (v : View) → Sleeps w.turns p → view w.state p ≡ Some v → ready v ≡ false
+
+-- it is in the kernel call of this number
+abbrev pub IsInCall : ℕ → View → Type 0
+IsInCall n v = (c : Call) × (v.call ≡ Some c) × (c.number ≡ pos n)
+
+-- a process went
+abbrev pub IsEnd : Outcome → Type 0
+IsEnd o = (p : ℕ) × (answer : Answer) × (o ≡ Step_of p answer) × IsSome (gone_with answer)
+
+-- A sleeper stops being one exactly where it is ready afterwards, or counts ticks (call 13, sleep) and there was one, or is pid 1 in wait (call 3) and a process went
+abbrev pub WakesWhereDue : World → Outcome → World → Type 0
+WakesWhereDue w o t =
+    (p : ℕ) (v : View) → Sleeps w.turns p → view t.state p ≡ Some v
+    → (¬ Sleeps t.turns p) ↔ ((ready v ≡ true) ⊎ (IsInCall 13 v × (o ≡ Ticked)) ⊎ ((p ≡ 1) × IsInCall 3 v × IsEnd o))
+
+-- the turn goes to the nearest of those who may run
+abbrev pub IsNearest : World → ℕ → Type 0
+IsNearest w p = (q i j : ℕ) → IsRunnable w q → HasSlot w.turns p i → HasSlot w.turns q j → distance w.turns.last i ≤ distance w.turns.last j
+
+-- where nothing runs, Run answers `Idle` exactly where no process may run, and else gives the turn to the nearest
+abbrev pub TakesNearest : World → Event → Outcome → Type 0
+TakesNearest w e o =
+    e ≡ Run → w.turns.halted ≡ None → w.turns.current ≡ None
+    → ((o ≡ Idle) ↔ ((p : ℕ) → ¬ IsRunnable w p)) × ((p : ℕ) → o ≡ Turn p → IsRunnable w p × IsNearest w p)
+
+-- All that a machine promises of an event: what happens, who wakes, and whose turn it is
+abbrev pub Promised : World → Event → Outcome → World → Type 0
+Promised w e o t = Happens w e o t × WakesWhereDue w o t × TakesNearest w e o
+
+-- the list of events and outcomes leads from w to t, and each of them keeps what is promised
+abbrev pub IsPromised : World → List (Event × Outcome) → World → Type 0
+IsPromised w [] t = t ≡ w
+IsPromised w (e ∷ es) t = (mid : World) × Promised w e.0 e.1 mid × IsPromised mid es t
+
+-- ---- laws
+
+-- a process whose step leaves it asleep could not go on
+abbrev pub BlocksUnready : Type 0
+BlocksUnready = (v n : View) (number : ℤ) → (own v).answer ≡ Blocked number → (own v).next ≡ Some n → ready n ≡ false
+
+-- where the wake-ups are those that are due, no ready process sleeps after the event
+abbrev pub NoLostWakeUp : Type 0
+NoLostWakeUp = (w t : World) (e : Event) (o : Outcome) → Happens w e o t → WakesWhereDue w o t → NoReadySleeper t
+
+-- so at no time after boot does a ready process sleep
+abbrev pub NeverLost : Type 0
+NeverLost =
+    (frames trace : ℕ) (programs : List ProgramFile) (w t : World) (es : List (Event × Outcome)) → first frames trace programs ≡ Ok w → IsPromised w es t
+    → NoReadySleeper t
+
+-- a process that may run, and doesn't run now, may run after any event
+abbrev pub StaysRunnable : Type 0
+StaysRunnable = (w t : World) (e : Event) (o : Outcome) (p : ℕ) → Happens w e o t → IsRunnable w p → w.turns.current ≢ Some p → IsRunnable t p
+
+-- each event keeps the slots: after boot they are so (`FirstSlots`), and so they stay
+abbrev pub SlotsStay : Type 0
+SlotsStay = (w t : World) (e : Event) (o : Outcome) → Happens w e o t → TakesNearest w e o → HasSlots w.state w.turns → HasSlots t.state t.turns
+
+-- the turn of one process brings each other one that may run nearer to its own
+abbrev pub ComesNearer : Type 0
+ComesNearer =
+    (w t : World) (p q i : ℕ) → Happens w Run (Turn q) t → TakesNearest w Run (Turn q) → w.turns.halted ≡ None → w.turns.current ≡ None
+    → HasSlots w.state w.turns → IsRunnable w p → q ≢ p → HasSlot w.turns p i
+    → distance t.turns.last i < distance w.turns.last i
+
+abbrev pub IsNear : Type 0
+IsNear = (last slot : ℕ) → distance last slot ≤ NPROC - 1
+
+abbrev pub is_turn : Outcome → Bool
+is_turn (Turn p) = true
+is_turn _ = false
+
+-- how many turns are given
+abbrev pub turns_taken : List (Event × Outcome) → ℕ
+turns_taken [] = 0
+turns_taken (e ∷ es) = cond (is_turn e.1) 1 0 + turns_taken es
+
+-- p has no turn
+abbrev pub HasNoTurn : ℕ → List (Event × Outcome) → Type 0
+HasNoTurn p [] = Unit {0}
+HasNoTurn p (e ∷ es) = (e.1 ≢ Turn p) × HasNoTurn p es
+
+-- While a process that may run waits for its turn, no more turns of others are given than it is slots away; so its turn comes after at most 63
+abbrev pub WaitsAtMost : Type 0
+WaitsAtMost =
+    (w t : World) (es : List (Event × Outcome)) (p i : ℕ) → IsPromised w es t → HasSlots w.state w.turns → IsRunnable w p → w.turns.current ≢ Some p → HasSlot w.turns p i
+    → HasNoTurn p es → turns_taken es ≤ distance w.turns.last i

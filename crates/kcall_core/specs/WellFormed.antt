@@ -1,0 +1,98 @@
+-- What holds of every state that the machine can be in.
+use Rattle.std.specs.Prelude.{◌≡◌, ◌≢◌, ℕ, zero, suc, ◌+◌, ◌%◌, ◌^◌, ◌<◌, ◌≤◌, ◌⊎◌, ℤ, pos, All, false, Option, None, Some, IsSome, length}
+use Rattle.std.specs.FinMap.{get, len}
+use Rattle.xk_base.specs.declared.limits.TheConstants.{NOFILE, NPROC, PID_MAX, VPN_END, PIPE_BYTES, CONSOLE_BYTES, SEND_BYTES}
+use Rattle.xk_base.specs.Image.{Page, price}
+use Rattle.pipe_core.specs.Pipe.{Pipe}
+use Rattle.file_table.specs.declared.open_file.End.{End}
+use Rattle.file_table.specs.declared.open_file.End.TheVariants.{Reading, Writing}
+use Rattle.file_table.specs.declared.open_file.OpenFile.{OpenFile}
+use Rattle.file_table.specs.declared.open_file.Target.TheVariants.{Pipe as Pipe_end}
+use Rattle.kcall_core.specs.PipeEnds.{is_given_up}
+use Rattle.kcall_core.specs.Processes.{Process, Live, Alive, Zombie}
+use Rattle.kcall_core.specs.State.{State, live}
+use Rattle.kcall_core.specs.View.{numbered}
+use Rattle.kcall_core.specs.Tables.{ends}
+use Rattle.kcall_core.specs.Quiet.{file_at}
+use Rattle.kcall_core.specs.Updates.{parent_of}
+use Rattle.kcall_core.specs.Turns.{Turns, HasSlot, Sleeps}
+use Rattle.proc_table.specs.declared.process.Call.{Call}
+
+-- f 0 + f 1 + .. + f (n - 1)
+unfoldable pub sum_below : ℕ → (ℕ → ℕ) → ℕ
+sum_below zero f = 0
+sum_below (suc n) f = sum_below n f + f n
+
+-- how many descriptors of a process are on an end of pipe i
+abbrev pub on : State → ℕ → End → Option Process → ℕ
+on s i end None = 0
+on s i end (Some (Alive l)) = ends (numbered s l) i end
+on s i end (Some (Zombie parent status)) = 0
+
+-- how many frames a process has
+abbrev pub cost : Option Process → ℕ
+cost None = 0
+cost (Some (Alive l)) = price l.image + 1
+cost (Some (Zombie parent status)) = 0
+
+-- over all processes
+abbrev pub over_all : State → (Option Process → ℕ) → ℕ
+over_all s f = sum_below s.next_pid (λ p. f (get s.processes p))
+
+-- A process's parent is another, and is live or pid 1; pid 1 has none
+pub record HasParent (s : State) (p : ℕ) (x : Process) : Type 0 where
+  pub parent : ℕ
+  pub is : parent_of x ≡ Some parent
+  pub other : parent ≢ p
+  pub there : IsSome (live s parent) ⊎ (parent ≡ 1)
+
+pub record WellFormed (frames : ℕ) (s : State) : Type 0 where
+  -- pids are given once, upwards from 1; pid 1 stays
+  pub pids : (p : ℕ) → IsSome (get s.processes p) → (1 ≤ p) × (p < s.next_pid)
+  pub first : (x : Process) × (get s.processes 1 ≡ Some x) × (parent_of x ≡ None)
+  pub parents : (p : ℕ) (x : Process) → get s.processes p ≡ Some x → (p ≡ 1) ⊎ HasParent s p x
+  -- a descriptor in use is below NOFILE and names an open file, an end of a pipe names a pipe
+  pub descriptors : (p d f : ℕ) → file_at s p d ≡ Some f → (d < NOFILE) × IsSome (get s.files f)
+  pub ends : (f i : ℕ) (x : OpenFile) (end : End) → get s.files f ≡ Some x → x.target ≡ Pipe_end i end → IsSome (get s.pipes i)
+  -- an open file is named
+  pub named : (f : ℕ) → IsSome (get s.files f) → (p : ℕ) × (d : ℕ) × (file_at s p d ≡ Some f)
+  -- a pipe's counts are the numbers of descriptors on its ends, and are not both 0
+  pub readers : (i : ℕ) (x : Pipe) → get s.pipes i ≡ Some x → x.readers ≡ over_all s (on s i Reading)
+  pub writers : (i : ℕ) (x : Pipe) → get s.pipes i ≡ Some x → x.writers ≡ over_all s (on s i Writing)
+  pub held : (i : ℕ) (x : Pipe) → get s.pipes i ≡ Some x → is_given_up x ≡ false
+  -- no frame is lost
+  pub counted : s.free + over_all s cost + len s.pipes ≡ frames
+  -- what is bounded
+  pub pipe_bytes : (i : ℕ) (x : Pipe) → get s.pipes i ≡ Some x → length x.bytes ≤ PIPE_BYTES
+  pub keys : length s.console.committed + length s.console.uncommitted ≤ CONSOLE_BYTES
+  pub to_send : length s.console.to_send ≤ SEND_BYTES
+
+-- ---- bounds of numbers
+
+-- a call in progress is one that may wait: wait, read, sleep, write
+abbrev pub MayWait : ℤ → Type 0
+MayWait number = (number ≡ pos 3) ⊎ (number ≡ pos 5) ⊎ (number ≡ pos 13) ⊎ (number ≡ pos 16)
+
+-- registers of 64 bits, a pc that is a multiple of 4, pages of 4,096 bytes below the upper half of Sv39's addresses
+pub record IsBoundedProcess (l : Live) : Type 0 where
+  pub registers : length l.regs.x ≡ 31
+  pub words : All (λ x. x < 2 ^ 64) l.regs.x
+  pub pc : (l.regs.pc < 2 ^ 64) × (l.regs.pc % 4 ≡ 0)
+  pub pages : (page : ℕ) (x : Page) → get l.image.pages page ≡ Some x → (page < VPN_END) × (length x.bytes ≡ 4096)
+  pub call : (c : Call) → l.call ≡ Some c → MayWait c.number
+
+-- a clock of 32 bits, pids up to 2^31 - 1, at most 64 of them in use
+pub record InBounds (s : State) : Type 0 where
+  pub clock : s.clock < 2 ^ 32
+  pub next_pid : s.next_pid ≤ PID_MAX + 1
+  pub pids : len s.processes ≤ NPROC
+  pub live : (p : ℕ) (l : Live) → live s p ≡ Some l → IsBoundedProcess l
+
+-- each process has a slot of its own, and nobody else has one; the process that runs is live and doesn't sleep
+pub record HasSlots (s : State) (turns : Turns) : Type 0 where
+  pub some : (p : ℕ) → IsSome (get s.processes p) → IsSome (get turns.slots p)
+  pub only : (p slot : ℕ) → HasSlot turns p slot → IsSome (get s.processes p)
+  pub below : (p slot : ℕ) → HasSlot turns p slot → slot < NPROC
+  pub last : turns.last < NPROC
+  pub current : (p : ℕ) → turns.current ≡ Some p → IsSome (live s p) × ¬ Sleeps turns p
+  pub apart : (p q slot : ℕ) → HasSlot turns p slot → HasSlot turns q slot → p ≡ q

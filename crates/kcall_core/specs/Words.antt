@@ -1,0 +1,54 @@
+-- Small words on numbers that the rest is said with.
+use Rattle.std.specs.Prelude.{ℕ, zero, suc, ◌%◌, ◌^◌, Bool, true, false, cond, ◌&&◌, Option, None, Some, ℤ, negsuc, nat_eq}
+use Rattle.std.specs.Int.{cast_signed, cast_unsigned, w32, w64}
+
+-- ---- registers by the calling convention (RISC-V Calling Conventions, "Integer Register Convention")
+
+-- the stack pointer
+abbrev pub SP : ℕ
+SP = 2
+
+-- the arguments of a kernel call; the first one's register takes its answer
+abbrev pub A0 : ℕ
+A0 = 10
+
+abbrev pub A1 : ℕ
+A1 = 11
+
+abbrev pub A2 : ℕ
+A2 = 12
+
+-- the number of a kernel call
+abbrev pub A7 : ℕ
+A7 = 17
+
+-- a C int: the low 32 bits of a register, read as signed
+abbrev pub c_int : ℕ → ℤ
+c_int x = cast_signed w32 (x % 2 ^ 32)
+
+-- the register that holds a value: two's complement in 64 bits
+abbrev pub word : ℤ → ℕ
+word z = cast_unsigned w64 z
+
+abbrev pub minus_one : ℤ
+minus_one = negsuc 0
+
+-- the clock counts ticks modulo this
+abbrev pub CLOCK_ROUND : ℕ
+CLOCK_ROUND = 2 ^ 32
+
+-- ---- functions of numbers
+
+-- whether each number below n passes a test
+unfoldable pub all_below : ℕ → (ℕ → Bool) → Bool
+all_below zero passes = true
+all_below (suc n) passes = all_below n passes && passes n
+
+-- whether there is a number, and it is n
+abbrev pub is_this : ℕ → Option ℕ → Bool
+is_this n None = false
+is_this n (Some k) = nat_eq k n
+
+-- the function that gives a for k, and what it gave before for all others
+abbrev pub with_value : {A : Type 0} → (ℕ → A) → ℕ → A → ℕ → A
+with_value f k a q = cond (nat_eq q k) a (f q)

@@ -1,0 +1,206 @@
+-- Isolation, as laws over runs.
+use Rattle.std.specs.Prelude.{◌≡◌, ℕ, ℤ, pos, Bool, List, [], ◌∷◌, ◌++◌, false, replicate, Option, None, Some, IsSome, Ok, option_map, ◌⊎◌, ◌≢◌, ◌+◌, ◌%◌}
+use Rattle.std.specs.FinMap.{get}
+use Rattle.kcall_core.specs.State.{ProgramFile, State}
+use Rattle.xk_base.specs.Image.{Page, Image}
+use Rattle.xk_base.specs.Loaded.{Loaded, loaded}
+use Rattle.pipe_core.specs.Pipe.{Pipe}
+use Rattle.console_core.specs.Lists.{Console}
+use Rattle.file_table.specs.declared.open_file.End.{End}
+use Rattle.kcall_core.specs.Processes.{Child}
+use Rattle.kcall_core.specs.View.{View, Descriptor, Shown, Shown_terminal, Shown_file, Shown_pipe, view, pipe_name, or_gone}
+use Rattle.kcall_core.specs.Own.{Own, Called, Blocked, goes_on}
+use Rattle.kcall_core.specs.Ready.{ready}
+use Rattle.kcall_core.specs.Calls.{Exec, row_of}
+use Rattle.kcall_core.specs.Step.{own, call_in}
+use Rattle.kcall_core.specs.Buffers.{text_at, texts_at, no_slashes}
+use Rattle.kcall_core.specs.Programs.{program_named}
+use Rattle.xk_base.specs.declared.limits.TheConstants.{MAXPATH, MAXARG, ARG_BYTES}
+use Rattle.proc_table.specs.declared.process.Call.{Call}
+use Rattle.kcall_core.specs.Run.{World, Event, Run, Tick, Key, Send, Outcome, Step_of, Halted, Happens, IsRun, StateAfter, TurnsAfter, sent}
+use Rattle.console_core.specs.Keys.{line}
+use Rattle.kcall_core.specs.Words.{CLOCK_ROUND}
+use Rattle.kcall_core.specs.First.{first}
+
+-- ---- the part of a view that other events may change
+
+-- of a descriptor: the offset of its file, or the bytes and counts of its pipe
+pub data Part : Type 0 where
+  Nothing_shared : Part
+  Offset : ℕ → Part
+  Content : Pipe → Part
+
+abbrev pub shared_part : Option Descriptor → Part
+shared_part None = Nothing_shared
+shared_part (Some d) = of_shown d.shown
+  where
+    of_shown : Shown → Part
+    of_shown Shown_terminal = Nothing_shared
+    of_shown (Shown_file program offset) = Offset offset
+    of_shown (Shown_pipe name end pipe) = Content pipe
+
+pub record Shared : Type 0 where
+  pub console : Console
+  pub clock : ℕ
+  pub pids : List ℕ
+  pub next_pid : ℕ
+  pub free : ℕ
+  pub children : ℕ → Option Child
+  pub killed : Bool
+  pub parts : ℕ → Part
+
+abbrev pub shared : View → Shared
+shared v = record {
+  console = v.console;
+  clock = v.clock;
+  pids = v.pids;
+  next_pid = v.next_pid;
+  free = v.free;
+  children = v.children;
+  killed = v.killed;
+  parts = λ d. shared_part (v.descriptors d);
+}
+
+-- ---- one process's steps in a run
+
+abbrev pub IsStepOf : ℕ → World → Event → Type 0
+IsStepOf p w e = (e ≡ Run) × (w.turns.halted ≡ None) × (w.turns.current ≡ Some p)
+
+-- a run without a step of p
+abbrev pub Others : ℕ → World → List (Event × Outcome) → World → Type 0
+Others p w [] t = t ≡ w
+Others p w (e ∷ es) t = (mid : World) × Happens w e.0 e.1 mid × (¬ IsStepOf p w e.0) × Others p mid es t
+
+-- what p sees as a step of it begins, what comes of the step, and what p sees then
+pub record Moment : Type 0 where
+  pub before : View
+  pub outcome : Outcome
+  pub after : Option View
+
+-- The steps of p in a run from w, each after events of any kind and number that aren't its own, until it is gone
+abbrev pub Course : ℕ → World → List Moment → Type 0
+Course p w [] = Unit {0}
+Course p w (m ∷ ms) =
+    (start : World) × (end : World) × (events : List (Event × Outcome))
+    × Others p w events start
+    × (view start.state p ≡ Some m.before)
+    × IsStepOf p start Run
+    × Happens start Run m.outcome end
+    × (view end.state p ≡ m.after)
+    × (IsSome m.after ⊎ (ms ≡ []))
+    × Course p end ms
+
+-- R holds at each place that both lists have
+abbrev pub AllBoth : (Moment → Moment → Type 0) → List Moment → List Moment → Type 0
+AllBoth R [] ns = Unit {0}
+AllBoth R (m ∷ ms) [] = Unit {0}
+AllBoth R (m ∷ ms) (n ∷ ns) = R m n × AllBoth R ms ns
+
+-- Two worlds in which p sees the same at first, and the same of what is shared as each of its steps begins, give its steps the same outcomes, and the same views before and after, whatever else they hold
+abbrev pub TwoWorlds : Type 0
+TwoWorlds =
+    (p : ℕ) (v w : World) (ms ns : List Moment) → IsSome (view v.state p) → view v.state p ≡ view w.state p → Course p v ms → Course p w ns
+    → AllBoth (λ m n. shared m.before ≡ shared n.before) ms ns → AllBoth (λ m n. m ≡ n) ms ns
+
+-- what of a view only the process's own steps change
+abbrev pub SameRest : View → View → Type 0
+SameRest v w = (v.pid ≡ w.pid) × (v.regs ≡ w.regs) × (v.image ≡ w.image) × (v.call ≡ w.call) × (v.programs ≡ w.programs)
+
+-- a descriptor without what is shared: a file's offset, a pipe's bytes and counts
+abbrev pub bare_shown : Shown → Shown
+bare_shown Shown_terminal = Shown_terminal
+bare_shown (Shown_file program offset) = Shown_file program 0
+bare_shown (Shown_pipe name end pipe) = Shown_pipe name end (or_gone None)
+
+abbrev pub bare : Option Descriptor → Option Descriptor
+bare None = None
+bare (Some d) = Some (record d { shown = bare_shown d.shown })
+
+-- the same descriptors, but for what is shared
+abbrev pub SameDescriptors : View → View → Type 0
+SameDescriptors v w = (d : ℕ) → bare (v.descriptors d) ≡ bare (w.descriptors d)
+
+-- After an event that is no step of p, p is live still, its registers, image, call and programs are as they were, and its descriptors but for what is shared
+abbrev pub OthersKeep : Type 0
+OthersKeep =
+    (p : ℕ) (v : View) (w t : World) (e : Event) (o : Outcome) → Happens w e o t → ¬ IsStepOf p w e → view w.state p ≡ Some v
+    → (u : View) × (view t.state p ≡ Some u) × SameRest u v × SameDescriptors u v
+
+-- what every process sees of an event that is no step: a tick changes the clock, a key and a byte that is sent the console, a turn nothing; a byte is sent on a halted machine too
+abbrev pub seen_outside : Event → View → View
+seen_outside Run v = v
+seen_outside Tick v = record v { clock = (v.clock + 1) % CLOCK_ROUND }
+seen_outside (Key b) v = record v { console = (line v.console b).0 }
+seen_outside Send v = record v { console = sent v.console }
+
+abbrev pub OutsideSteps : Type 0
+OutsideSteps =
+    (p : ℕ) (v : View) (w t : World) (e : Event) (o : Outcome) → Happens w e o t → (w.turns.halted ≡ None) ⊎ (e ≡ Send) → (e ≡ Run → w.turns.current ≡ None) → view w.state p ≡ Some v
+    → view t.state p ≡ Some (seen_outside e v)
+
+-- `ready` is no more than it has to be: a process whose step left it waiting in n, and that isn't ready in m, to which only what others do has led, waits again, and its step changes nothing
+abbrev pub UnreadyWaits : Type 0
+UnreadyWaits =
+    (s : State) (p : ℕ) (v n m : View) (number : ℤ) → (own v).answer ≡ Blocked number → (own v).next ≡ Some n → view s p ≡ Some m → SameRest m n → SameDescriptors m n
+    → ready m ≡ false → own m ≡ goes_on (Blocked number) m
+
+-- on a halted machine only a byte may be sent
+abbrev pub HaltedStays : Type 0
+HaltedStays = (w t : World) (e : Event) (o : Outcome) → Happens w e o t → IsSome w.turns.halted → e ≢ Send → (o ≡ Halted) × (t ≡ w)
+
+-- ---- no byte that another process left
+
+-- a page that the step added
+abbrev pub IsNewPage : View → View → ℕ → Page → Type 0
+IsNewPage v n page x = (get v.image.pages page ≡ None) × (get n.image.pages page ≡ Some x)
+
+-- The call c was an exec that is done: the image is what the program that its path names makes of the texts that it was given
+abbrev pub IsExecOf : Call → View → Own → Image → Type 0
+IsExecOf c v o image =
+    (path : List ℕ) × (texts : List (List ℕ)) × (p : ProgramFile) × (l : Loaded)
+    × (row_of c.number ≡ Some Exec) × (text_at MAXPATH v.image c.a0 ≡ Some path)
+    × (program_named (no_slashes path) v.programs ≡ Some p) × (texts_at MAXARG ARG_BYTES v.image c.a1 ≡ Some texts)
+    × (loaded p.bytes texts ≡ Ok l) × (image ≡ l.image) × (o.answer ≡ Called c.number (pos l.argc))
+
+-- the step's own call was such an exec
+abbrev pub HasExeced : View → Own → Image → Type 0
+HasExeced v o image = IsExecOf (call_in v) v o image
+
+abbrev pub NewPagesAreZeros : View → View → Type 0
+NewPagesAreZeros v n = (page : ℕ) (x : Page) → IsNewPage v n page x → x.bytes ≡ replicate 4096 0
+
+-- After an exec the image is that of the program that was named, with the texts that were given; else each new page is zeros
+abbrev pub NoOldPage : Type 0
+NoOldPage = (v n : View) → (own v).next ≡ Some n → HasExeced v (own v) n.image ⊎ NewPagesAreZeros v n
+
+-- a pipe of the next view that no descriptor of the former was on
+abbrev pub IsNewPipe : View → View → Pipe → Type 0
+IsNewPipe v n x =
+    (d : ℕ) × (name : ℕ) × (end : End)
+    × (option_map (λ y. y.shown) (n.descriptors d) ≡ Some (Shown_pipe name end x))
+    × ((e : ℕ) → pipe_name (n.descriptors e) ≡ Some name → v.descriptors e ≡ None)
+
+-- A new pipe is empty
+abbrev pub NoOldPipe : Type 0
+NoOldPipe = (s : State) (p : ℕ) (v n : View) → view s p ≡ Some v → (own v).next ≡ Some n → (x : Pipe) → IsNewPipe v n x → x.bytes ≡ []
+
+-- The image of a new process is its parent's
+abbrev pub NoOldChild : Type 0
+NoOldChild = (s : State) (p : ℕ) (v c : View) → view s p ≡ Some v → (own v).child ≡ Some c → c.image ≡ v.image
+
+-- ---- from boot
+
+-- the machine may be in this world after these events, with these outcomes
+abbrev pub IsFromBoot : (frames trace : ℕ) → List ProgramFile → List (Event × Outcome) → World → Type 0
+IsFromBoot frames trace programs es t = (w : World) × (first frames trace programs ≡ Ok w) × IsRun w es t
+
+-- runs join
+abbrev pub RunsJoin : Type 0
+RunsJoin = (w m t : World) (es fs : List (Event × Outcome)) → IsRun w es m → IsRun m fs t → IsRun w (es ++ fs) t
+
+-- What stands of a step of p from boot: it answers as `own` of what p sees says; p's view, a newborn's first one, every other process's, what the state holds, its open files and its turn part are then what `own` says (`StateAfter`, `TurnsAfter`)
+abbrev pub Isolated : Type 0
+Isolated =
+    (frames trace : ℕ) (programs : List ProgramFile) (es : List (Event × Outcome)) (w t : World) (p : ℕ) (o : Outcome)
+    → IsFromBoot frames trace programs es w → IsStepOf p w Run → Happens w Run o t
+    → (v : View) × (view w.state p ≡ Some v) × (o ≡ Step_of p (own v).answer) × StateAfter w.state v (own v) t.state × TurnsAfter w.turns p (own v) t.turns

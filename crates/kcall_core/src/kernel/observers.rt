@@ -1,0 +1,126 @@
+//! What observers of a kernel are told of its processes.
+ghost use Rattle.std.specs.Prelude.{◌≡◌, None, IfSome, IfNone, option_map};
+ghost use Rattle.hart_core.specs.declared.hart.Hart.{Hart};
+ghost use Rattle.proc_table.specs.Slots.{IsTable};
+ghost use Rattle.kcall_core.specs.Words.{is_this};
+ghost use Rattle.kcall_core.specs.State.{live};
+ghost use Rattle.kcall_core.specs.Observers.{IsLiveIn, registers_of, byte_at, child_at, seen, shown};
+ghost use Rattle.kcall_core.specs.Kernel.{state_of, IsSound, pid_now};
+
+use crate::kernel::Kernel;
+use hart_core::Hart;
+use rv64i_core::Regs;
+use xk_base::Pid;
+
+/// What a parent may know of a child.
+#[derive(Clone, Copy, Debug, PartialEq, Eq)]
+pub enum ChildState {
+    /// It lives.
+    Running,
+    /// It has ended with this status, for which its parent has not waited yet.
+    Status(i32),
+}
+
+impl ChildState {
+    /// What a parent knows of a child that ended with this status, or with none yet.
+    fn of(status: Option<i32>) -> ChildState
+        ensures { shown result ≡ seen status }
+    {
+        match status {
+            None => ChildState::Running,
+            Some(status) => ChildState::Status(status),
+        }
+    }
+}
+
+/// Whether a process has this parent.
+fn is_parent(parent: Option<Pid>, pid: Pid) -> bool
+    ensures { result ≡ is_this pid parent }
+{
+    match parent {
+        None => false,
+        Some(parent) => parent.number() == pid.number(),
+    }
+}
+
+impl Kernel {
+    /// The slot of the live process of this pid.
+    fn find_live(&self, pid: Pid) -> Option<usize>
+        requires { IsTable self.now.table }
+        ensures found { IfSome result (IsLiveIn self.now pid) }
+        ensures none { IfNone result ((hart : Hart) → live (state_of self.now hart) pid ≡ None) }
+    {
+        let Some(slot) = self.table.find(pid) else {
+            return None;
+        };
+        if self.table.status(slot).is_some() {
+            return None;
+        }
+        Some(slot)
+    }
+
+    /// Whether the process in a slot runs.
+    fn runs_in(&self, slot: usize) -> bool
+        ensures { result ≡ is_this slot self.now.current }
+    {
+        match self.current {
+            None => false,
+            Some(current) => current == slot,
+        }
+    }
+
+    /// The pid of the process that runs, if one does.
+    pub fn current(&self) -> Option<Pid>
+        requires { (hart : Hart) × IsSound self.now hart }
+        ensures { result ≡ option_map (λ _. pid_now self.now) self.now.current }
+    {
+        let Some(slot) = self.current else {
+            return None;
+        };
+        Some(self.table.pid(slot))
+    }
+
+    /// The registers of a live process; `None` for any other pid.
+    pub fn registers(&self, hart: &Hart, pid: Pid) -> Option<Regs>
+        requires { IsSound self.now hart.now }
+        ensures { result ≡ registers_of (state_of self.now hart.now) pid }
+    {
+        let Some(slot) = self.find_live(pid) else {
+            return None;
+        };
+        if self.runs_in(slot) {
+            return Some(*hart.regs());
+        }
+        Some(self.memories.registers(slot))
+    }
+
+    /// The byte at an address of a live process, whatever its page allows. `None` for any other pid, and
+    /// for an address without a page.
+    pub fn peek(&self, pid: Pid, va: u64) -> Option<u8>
+        requires { (hart : Hart) × IsSound self.now hart }
+        ensures { (hart : Hart) → result ≡ byte_at (state_of self.now hart) pid va }
+    {
+        let Some(slot) = self.find_live(pid) else {
+            return None;
+        };
+        self.memories.peek(slot, va)
+    }
+
+    /// Whether a child of a live process lives, or with which status it ended. `None` where there is no
+    /// such process, or no such child of it.
+    pub fn child_state(&self, pid: Pid, child: Pid) -> Option<ChildState>
+        requires { (hart : Hart) × IsSound self.now hart }
+        ensures { (hart : Hart) → option_map shown result ≡ child_at (state_of self.now hart) pid child }
+    {
+        let Some(_) = self.find_live(pid) else {
+            return None;
+        };
+        let Some(slot) = self.table.find(child) else {
+            return None;
+        };
+        if !is_parent(self.table.parent(slot), pid) {
+            return None;
+        }
+        Some(ChildState::of(self.table.status(slot)))
+    }
+}
