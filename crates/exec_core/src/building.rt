@@ -74,7 +74,6 @@ fn map_stack(space: &mut Space, pool: &mut Pool, ram: &mut Ram, guard: u64)
     requires room { price (grown (image_of ram.old space.old) (4096 * (guard + 2)) stack) ≤ price (image_of ram.old space.old) + length (free_in pool.old ram.old) }
     ensures changed { Changed pool.old ram.old space.old pool.new ram.new space.new }
     ensures image { image_of ram.new space.new ≡ with_stack (image_of ram.old space.old) guard }
-    ensures size { space.new.size ≡ 4096 * (guard + 2) }
 {
     let Ok(()) = space.grow(pool, ram, PAGE_BYTES * (guard + 2), stack_perm()) else {
         unreachable!();
@@ -139,9 +138,9 @@ pub fn build(
     ensures made { IfOk result (λ r. Made pool.old ram.old pool.new ram.new r.0) }
     ensures belongs { IfOk result (λ r. Belongs pool.new ram.new r.0) }
     ensures image { IfOk result (λ r. image_of ram.new r.0 ≡ plan.entry.image) }
-    ensures limit { IfOk result (λ r. r.0.size ≤ SIZE_LIMIT) }
     ensures start { IfOk result (λ r. r.1 ≡ record { pc = plan.entry.pc; sp = plan.entry.sp; argc = plan.entry.argc }) }
     ensures others { IfOk result (λ _. SparesOthers pool.old ram.old [] ram.new) }
+    ensures limit { IfOk result (λ _. plan.entry.image.size ≤ SIZE_LIMIT) }
     ensures fits { IfOk result (λ _. price plan.entry.image ≤ length (free_in pool.old ram.old)) }
     ensures refused { IfErr result (λ e. (e ≡ NoFrames) × (length (free_in pool.old ram.old) < price plan.entry.image) × (pool.new ≡ pool.old) × (ram.new ≡ ram.old)) }
 {

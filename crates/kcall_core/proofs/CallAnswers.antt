@@ -1,5 +1,5 @@
 -- A call that is answered at once, by the code and by the laws.
-use Rattle.std.proofs.Common.{◌≡◌, ℕ, ◌%◌, ◌^◌, ◌-◌, ◌≤◌, ◌<◌, false, cond, get_or, Some, None, subst, inl, inr, refl, sym, ap, ◌∙◌, arith}
+use Rattle.std.proofs.Common.{◌≡◌, ℕ, ◌^◌, ◌-◌, ◌<◌, cond, Some, None, subst, inl, inr, refl, sym, ap, ◌∙◌}
 use Rattle.std.specs.Prelude.{ℤ, pos, Option}
 use Rattle.std.specs.FinMap.{FinMap, get, insert, same_map, nat_cmp-IsAntisymmetric}
 use Rattle.std.specs.Cmp.{nat_cmp_total}
@@ -9,7 +9,7 @@ use Rattle.rv64i_core.specs.Registers.{Registers, reg, with_pc, after}
 use Rattle.rv64i_core.specs.Step.{Ecall, instr}
 use Rattle.hart_core.specs.UserMemory.{user}
 use Rattle.hart_core.specs.declared.hart.Hart.{Hart}
-use Rattle.proc_table.specs.Slots.{place_at, descriptors_at}
+use Rattle.proc_table.specs.Slots.{descriptors_at}
 use Rattle.proc_table.specs.declared.process.Call.{Call}
 use Rattle.proc_table.specs.declared.process.Process.{Process}
 use Rattle.kcall_core.specs.Words.{A7, c_int, minus_one, is_this, word}

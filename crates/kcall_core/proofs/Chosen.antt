@@ -1,5 +1,5 @@
 -- A turn: the slot that runs next is noted, and nothing else of the state is another.
-use Rattle.std.proofs.Common.{◌≡◌, ℕ, ◌<◌, Bool, true, false, List, get_or, Option, Some, None, IsSome, refl, sym, ap, ◌∙◌, subst}
+use Rattle.std.proofs.Common.{◌≡◌, ℕ, ◌<◌, true, false, Option, Some, None, refl, sym, ap, ◌∙◌, subst}
 use Rattle.std.specs.Prelude.{option_map}
 use Rattle.xk_base.specs.declared.limits.TheConstants.{NPROC}
 use Rattle.hart_core.specs.declared.hart.Hart.{Hart}

@@ -57,6 +57,8 @@ pub mod States
 pub mod Stops
 pub mod Answered
 pub mod Chosen
+pub mod UserBytes
+pub mod Written
 pub mod Replaced
 pub mod After
 pub mod AfterChange
@@ -84,3 +86,10 @@ pub mod ByConditions
 pub mod NoProcess
 pub mod Observed
 pub mod CallAnswers
+pub mod Arguments
+pub mod Asking
+pub mod ExecSteps
+pub mod Starting
+pub mod ExecRow
+pub mod Adopted
+pub mod Closed

@@ -1,5 +1,5 @@
 -- A kernel without processes: what it stands for, and that it is sound.
-use Rattle.std.proofs.Common.{◌≡◌, ℕ, zero, suc, ◌<◌, List, map, length, replicate, get_or, subst, Option, Some, None, refl, sym, ap, ◌∙◌, arith}
+use Rattle.std.proofs.Common.{◌≡◌, ℕ, zero, suc, map, replicate, get_or, subst, Option, None, refl, sym, ap, ◌∙◌, arith}
 use Rattle.std.specs.Prelude.{option_map}
 use Rattle.std.proofs.lemmas.List.{length-replicate}
 use Rattle.std.specs.FinMap.{empty}
@@ -11,7 +11,6 @@ use Rattle.console_core.specs.Lists.{empty_console}
 use Rattle.file_table.specs.Named.{none_named}
 use Rattle.file_table.specs.OpenFiles.{none_open, file_at, entry_file}
 use Rattle.file_table.specs.declared.open_file.Entry.{Entry}
-use Rattle.proc_table.specs.Processes.{status_of}
 use Rattle.proc_table.specs.Slots.{Slots, place_at, no_process, IsTable}
 use Rattle.proc_table.specs.declared.process.Process.{Process}
 use Rattle.kcall_core.specs.State.{named_file}

@@ -1,6 +1,6 @@
 -- What stands in a slot is what the state has under its pid.
-use Rattle.std.proofs.Common.{Bool, ◌≡◌, ◌≢◌, ℕ, ◌<◌, ◌≤◌, true, false, cond, List, length, get_or, Option, Some, None, IsSome, inl, inr, refl, sym, ap, ◌∙◌, arith, nat_lt}
-use Rattle.std.specs.Prelude.{ℤ, position, option_map, nat_eq, is_some}
+use Rattle.std.proofs.Common.{Bool, ◌≡◌, ℕ, ◌<◌, ◌≤◌, true, false, cond, length, Option, Some, None, inl, inr, refl, sym, ap, ◌∙◌, arith, nat_lt}
+use Rattle.std.specs.Prelude.{ℤ, option_map, is_some}
 use Rattle.std.specs.List.{position_or_len}
 use Rattle.std.specs.FinMap.{get}
 use Rattle.std.proofs.lemmas.Bool.{cases_lt, eq-eqb}
@@ -8,15 +8,12 @@ use Rattle.std.proofs.lemmas.Bool.Decides.{eqb_tells, nat_tests}
 use Rattle.std.proofs.lemmas.List.{get_or_past}
 use Rattle.std.proofs.lemmas.List.Sums.{fails_before_first}
 use Rattle.std.proofs.lemmas.List.Quantifiers.{position-Some}
-use Rattle.xk_base.specs.declared.limits.TheConstants.{NPROC}
 use Rattle.hart_core.specs.declared.hart.Hart.{Hart}
 use Rattle.proc_table.specs.Processes.{status_of}
 use Rattle.proc_table.specs.Slots.{Slots, place_at, descriptors_at, place_has_pid, slot_of, status_at, parent_at, process_parent, IsTable}
 use Rattle.proc_table.specs.declared.process.Process.{Process}
-use Rattle.kcall_core.specs.Processes as meaning
-use Rattle.kcall_core.specs.Processes.{Live, Alive, Zombie, Running, Status}
+use Rattle.kcall_core.specs.Processes.{Live, Running, Status}
 use Rattle.kcall_core.specs.State.{live, live_part}
-use Rattle.kcall_core.specs.ByPid.{by_pid}
 use Rattle.kcall_core.specs.Holdings.{held_at, HasMemory, byte_of}
 use Rattle.kcall_core.specs.Memories.{each_of}
 use Rattle.kcall_core.specs.View.{child_of}

@@ -1,82 +1,98 @@
--- The space in a slot is given back once another one is made.
-use Rattle.std.proofs.Common.{◌≡◌, ◌≢◌, ℕ, ◌+◌, ◌%◌, ◌<◌, ◌≤◌, List, [], ◌∷◌, ◌++◌, length, set, get_or, Option, Some, None, refl, sym, ap, ◌∙◌, subst, arith}
-use Rattle.xk_base.specs.Frames.{copies, SameFrames}
+-- A slot's space is replaced by one that was made beside it.
+use Rattle.std.proofs.Common.{◌≡◌, ℕ, ◌+◌, ◌%◌, ◌≤◌, List, [], ◌∷◌, set, get_or, Some, None, refl, sym, ap, ◌∙◌, subst, arith}
+use Rattle.xk_base.specs.Frames.{copies}
 use Rattle.xk_base.specs.Image.{Image}
 use Rattle.xk_base.specs.declared.limits.TheConstants.{SIZE_LIMIT}
-use Rattle.xk_base.proofs.Frames.{at, at-same, copies-nil, copies-cons, copies-append}
+use Rattle.xk_base.proofs.Frames.{copies-nil, copies-cons}
+use Rattle.phys_ram.specs.Ram.{frame_at}
 use Rattle.frame_list.specs.declared.Pool.{Pool}
 use Rattle.frame_list.specs.Pool.{free_in}
 use Rattle.frame_list.specs.Traded.{Traded}
-use Rattle.frame_list.proofs.Trades.{trade-join, trade-more, trade-same}
 use Rattle.addr_space.specs.Space as space
-use Rattle.addr_space.specs.Space.{image_of, Belongs, Made, Spared, SparesOthers}
+use Rattle.addr_space.specs.Space.{image_of, Belongs, Made, Spared}
 use Rattle.addr_space.specs.declared.Space.{Space}
+use Rattle.addr_space.proofs.Isolation.{spared}
 use Rattle.rv64i_core.specs.Registers.{Registers}
 use Rattle.hart_core.specs.Trapframe.{saved}
-use Rattle.kcall_core.specs.Holdings.{Held, or_nothing, held_at, with_image}
+use Rattle.kcall_core.specs.Holdings.{Held, held_at, with_image}
 use Rattle.kcall_core.specs.Memories.{held_in, frames_of, IsMemory, each_of, SlotChanges}
 use Rattle.kcall_core.specs.declared.memories.Memory.{Memory}
 use Rattle.kcall_core.specs.declared.memories.Memories.{Memories}
 use Rattle.kcall_core.proofs.Frames.{saved-same, slot-free, Stays, stays-if}
-use Rattle.kcall_core.proofs.Changes.{Stands, trapframe-apart, held-seen, slot-changes, trade-first}
+use Rattle.kcall_core.proofs.Changes.{Stands, slot-changes, trapframe-apart, held-seen}
 
 same-some : {X : Type 0} (x y : X) → Some x ≡ Some y → x ≡ y
 same-some x y e = cc
 
-module _ {old : Memories} {i : ℕ} {m : Memory} {pool1 : Pool} {ram1 : List (List ℕ)} {made : Space} (s : Stands old i m) (first : Made old.pool old.ram pool1 ram1 made) where
-  -- the old space is still there
-  pub old-stays : Stays old.ram ram1 (Some m)
-  old-stays =
-      subst (Stays old.ram ram1) s.is
-      (stays-if old.pool pool1 old.ram ram1 [] (space.frames_of ram1 made) (get_or old.each.items i None) first.traded (s.sound.memories i) (λ f has. omega (arith, slot-free s.sound f i, has, copies-nil f)))
+module _ {old : Memories} {i : ℕ} {m : Memory} {pool1 : Pool} {ram1 : List (List ℕ)} {n : Space} (s : Stands old i m) (made : Made old.pool old.ram pool1 ram1 n) where
+  stays : Stays old.ram ram1 (Some m)
+  stays = subst (Stays old.ram ram1) s.is (stays-if old.pool pool1 old.ram ram1 [] (space.frames_of ram1 n) (get_or old.each.items i None) made.traded (s.sound.memories i) (λ f has. omega (arith, slot-free s.sound f i, has, copies-nil f)))
 
-  old-frames : space.frames_of ram1 m.space ≡ space.frames_of old.ram m.space
-  old-frames = tail-same m.trapframe (space.frames_of ram1 m.space) (space.frames_of old.ram m.space) old-stays.frames
-    where
-      tail-same : (t : ℕ) (xs ys : List ℕ) → t ∷ xs ≡ t ∷ ys → xs ≡ ys
-      tail-same t xs ys e = cc
+  -- the old space has as many places for a frame as before
+  same-own : (f : ℕ) → copies f (space.frames_of ram1 m.space) ≡ copies f (space.frames_of old.ram m.space)
+  same-own f = omega (arith, ap (copies f) stays.frames, copies-cons f m.trapframe (space.frames_of old.ram m.space), copies-cons f m.trapframe (space.frames_of ram1 m.space))
 
-  slot-few : (f : ℕ) → copies f (free_in old.pool old.ram) + (at f m.trapframe + copies f (space.frames_of old.ram m.space)) ≤ 1
-  slot-few f = omega (arith, slot-free s.sound f i, ap (λ o. copies f (frames_of old.ram o)) s.is, copies-cons f m.trapframe (space.frames_of old.ram m.space))
+  -- what is free or the slot's is so once
+  once : (f : ℕ) → copies f (free_in old.pool old.ram) + copies f (m.trapframe ∷ space.frames_of old.ram m.space) ≤ 1
+  once f = omega (arith, slot-free s.sound f i, ap (λ o. copies f (frames_of old.ram o)) s.is)
 
   pub old-belongs : Belongs pool1 ram1 m.space
   old-belongs = record {
-    good = first.traded.good;
-    whole = (old-stays.memory m refl).space;
-    apart = λ f. omega (arith, slot-few f, ap (copies f) old-frames, first.traded.frames f, copies-nil f);
+    good = made.traded.good;
+    whole = (stays.memory m refl).space;
+    apart = λ f. omega (arith, once f, same-own f, copies-cons f m.trapframe (space.frames_of old.ram m.space), made.traded.frames f, copies-nil f);
   }
 
-  module _ {pool2 : Pool} {ram2 : List (List ℕ)} (second : Traded pool1 ram1 pool2 ram2 (space.frames_of ram1 m.space) []) (others : SparesOthers pool1 ram1 (space.frames_of ram1 m.space) ram2) where
-    -- the new space is spared
-    pub new-spared : Spared ram1 ram2 made
-    new-spared = others made (record { whole = first.whole; apart = λ f has. omega (arith, slot-few f, ap (copies f) old-frames, first.traded.frames f, copies-nil f, has) })
+  module _ {pool2 : Pool} {ram2 : List (List ℕ)} (dropped : Traded pool1 ram1 pool2 ram2 (space.frames_of ram1 m.space) []) where
+    new-stays : Spared ram1 ram2 n
+    new-stays = spared pool1 pool2 ram1 ram2 (space.frames_of ram1 m.space) [] n dropped (record {
+      whole = made.whole;
+      apart = λ f has. omega (arith, has, once f, same-own f, copies-cons f m.trapframe (space.frames_of old.ram m.space), made.traded.frames f, copies-nil f);
+    })
 
-    both-traded : Traded old.pool old.ram pool2 ram2 (space.frames_of old.ram m.space) (space.frames_of ram2 made)
-    both-traded =
-        let was = space.frames_of old.ram m.space in
-        let came = space.frames_of ram1 made in
-        let one : Traded old.pool old.ram pool1 ram1 was (came ++ was) =
-        trade-same old.pool pool1 old.ram ram1 ([] ++ was) (came ++ was) was (came ++ was) (record { each = λ f. refl }) (record { each = λ f. refl }) (trade-more old.pool pool1 old.ram ram1 [] came was first.traded) in
-        let two : Traded pool1 ram1 pool2 ram2 (came ++ was) (space.frames_of ram2 made) =
-        trade-same pool1 pool2 ram1 ram2 (space.frames_of ram1 m.space ++ came) ([] ++ came) (came ++ was) (space.frames_of ram2 made)
-        (record { each = λ f. omega (arith, copies-append f came was, copies-append f (space.frames_of ram1 m.space) came, ap (copies f) old-frames) })
-        (record { each = λ f. ap (copies f) new-spared.frames })
-        (trade-more pool1 pool2 ram1 ram2 (space.frames_of ram1 m.space) [] came second) in
-        trade-join old.pool pool1 pool2 old.ram ram1 ram2 was (came ++ was) (space.frames_of ram2 made) one two
+    all-traded : Traded old.pool old.ram pool2 ram2 (m.trapframe ∷ space.frames_of old.ram m.space) (m.trapframe ∷ space.frames_of ram2 n)
+    all-traded = record {
+      good = dropped.good;
+      count = dropped.count ∙ made.traded.count;
+      frames = λ f. omega (
+        arith,
+        made.traded.frames f,
+        dropped.frames f,
+        same-own f,
+        ap (copies f) new-stays.frames,
+        copies-nil f,
+        copies-cons f m.trapframe (space.frames_of old.ram m.space),
+        copies-cons f m.trapframe (space.frames_of ram2 n),
+      );
+      others = λ f free own.
+          let first : frame_at ram1 f ≡ frame_at old.ram f = made.traded.others f free (copies-nil f) in
+          let none : copies f (space.frames_of old.ram m.space) ≡ 0 = omega (arith, own, copies-cons f m.trapframe (space.frames_of old.ram m.space)) in
+          dropped.others f (omega (arith, made.traded.frames f, free, copies-nil f)) (same-own f ∙ none) ∙ first;
+    }
 
-pub replaced : {old : Memories} {i : ℕ} {m : Memory} {pool1 : Pool} {ram1 : List (List ℕ)} {made : Space} (new : Memories) (image : Image) (s : Stands old i m) → (first : Made old.pool old.ram pool1 ram1 made) → image_of ram1 made ≡ image → made.size ≤ SIZE_LIMIT
-    → Traded pool1 ram1 new.pool new.ram (space.frames_of ram1 m.space) [] → SparesOthers pool1 ram1 (space.frames_of ram1 m.space) new.ram
-    → new.each.items ≡ set old.each.items i (Some (record { space = made; trapframe = m.trapframe })) → new.pipes.items ≡ old.pipes.items → SlotChanges old new i (Some (with_image image (held_at (each_of old) i)))
-replaced {old} {i} {m} {pool1} {ram1} {made} new image s first is limit second others each pipes =
-    let after : Memory = record { space = made; trapframe = m.trapframe } in
-    let spared = new-spared s first second others in
-    let traded = both-traded s first second others in
-    let apart = trapframe-apart s in
-    let registers : saved new.ram m.trapframe ≡ saved old.ram m.trapframe = saved-same old.ram new.ram m.trapframe (traded.others m.trapframe apart.0 apart.1) in
-    let whole : IsMemory new.ram after = record { space = spared.whole; size = limit; aligned = ap (λ (r : Registers). r.pc % 4) registers ∙ (s.sound.memories i m s.is).aligned } in
-    let mine : Traded old.pool old.ram new.pool new.ram (frames_of old.ram (get_or old.each.items i None)) (frames_of new.ram (Some after)) =
-    subst (λ o. Traded old.pool old.ram new.pool new.ram (frames_of old.ram o) (frames_of new.ram (Some after))) (sym s.is) (trade-first old.pool new.pool old.ram new.ram (space.frames_of old.ram m.space) (space.frames_of new.ram made) m.trapframe traded) in
-    let changes = slot-changes old new i (Some after) s.sound s.inside mine (λ n e. subst (IsMemory new.ram) (same-some after n e) whole) each pipes in
-    let picture : image_of new.ram made ≡ image = spared.image ∙ is in
-    let seen : held_in new.ram (Some after) ≡ Some (with_image image (record { image = image_of old.ram m.space; saved = saved old.ram m.trapframe })) = λ k. Some (record { image = picture k; saved = registers k }) in
-    subst (λ h. SlotChanges old new i h) (seen ∙ ap (λ h. Some (with_image image h)) (sym (held-seen s))) changes
+    same-registers : saved ram2 m.trapframe ≡ saved old.ram m.trapframe
+    same-registers =
+        let apart = trapframe-apart s in
+        let first : frame_at ram1 m.trapframe ≡ frame_at old.ram m.trapframe = made.traded.others m.trapframe apart.0 (copies-nil m.trapframe) in
+        saved-same old.ram ram2 m.trapframe (dropped.others m.trapframe (omega (arith, made.traded.frames m.trapframe, apart.0, copies-nil m.trapframe)) (same-own m.trapframe ∙ apart.1) ∙ first)
+
+    whole : n.size ≤ SIZE_LIMIT → IsMemory ram2 (record { space = n; trapframe = m.trapframe })
+    whole limit = record { space = new-stays.whole; size = limit; aligned = ap (λ (r : Registers). r.pc % 4) same-registers ∙ (s.sound.memories i m s.is).aligned }
+
+    pub new-image : (image : Image) → image_of ram1 n ≡ image → image_of ram2 n ≡ image
+    new-image image is = new-stays.image ∙ is
+
+    pub space-replaced : (new : Memories) (image : Image) → image_of ram1 n ≡ image → image.size ≤ SIZE_LIMIT → new.pool ≡ pool2 → new.ram ≡ ram2
+        → new.each.items ≡ set old.each.items i (Some (record { space = n; trapframe = m.trapframe })) → new.pipes.items ≡ old.pipes.items → SlotChanges old new i (Some (with_image image (held_at (each_of old) i)))
+    space-replaced new image is limit same-pool same-ram each pipes =
+        let after : Memory = record { space = n; trapframe = m.trapframe } in
+        let traded : Traded old.pool old.ram new.pool new.ram (frames_of old.ram (get_or old.each.items i None)) (frames_of new.ram (Some after)) =
+        subst (λ p. Traded old.pool old.ram p new.ram (frames_of old.ram (get_or old.each.items i None)) (frames_of new.ram (Some after))) (sym same-pool)
+        (subst (λ r. Traded old.pool old.ram pool2 r (frames_of old.ram (get_or old.each.items i None)) (frames_of r (Some after))) (sym same-ram)
+        (subst (λ o. Traded old.pool old.ram pool2 ram2 (frames_of old.ram o) (frames_of ram2 (Some after))) (sym s.is) all-traded)) in
+        let memory : IsMemory new.ram after = subst (λ r. IsMemory r after) (sym same-ram) (whole (subst (λ (x : Image). x.size ≤ SIZE_LIMIT) (sym is) limit)) in
+        let changes = slot-changes old new i (Some after) s.sound s.inside traded (λ x e. subst (IsMemory new.ram) (same-some after x e) memory) each pipes in
+        let shown : image_of new.ram n ≡ image = ap (λ r. image_of r n) same-ram ∙ new-image image is in
+        let registers : saved new.ram m.trapframe ≡ saved old.ram m.trapframe = ap (λ r. saved r m.trapframe) same-ram ∙ same-registers in
+        let seen : held_in new.ram (Some after) ≡ Some (with_image image (record { image = image_of old.ram m.space; saved = saved old.ram m.trapframe })) = λ k. Some (record { image = shown k; saved = registers k }) in
+        subst (λ h. SlotChanges old new i h) (seen ∙ ap (λ (h : Held). Some (with_image image h)) (sym (held-seen s))) changes

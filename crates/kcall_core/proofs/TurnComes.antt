@@ -1,16 +1,18 @@
 -- The turn of a process that may run comes.
-use Rattle.std.proofs.Common.{◌≡◌, ◌≢◌, ℕ, ◌<◌, ◌≤◌, ◌+◌, Bool, false, cond, [], ◌∷◌, refl, ap, sym, ◌∙◌, subst, arith}
-use Rattle.std.specs.Prelude.{Option, None, Some, ℤ}
+use Rattle.std.proofs.Common.{◌≡◌, ◌≢◌, ℕ, ◌<◌, ◌≤◌, ◌+◌, ◌-◌, Bool, false, cond, List, [], ◌∷◌, refl, ap, sym, ◌∙◌, subst, arith}
+use Rattle.std.specs.Prelude.{Option, None, Some, IsSome, ℤ}
 use Rattle.std.specs.FinMap.{get}
+use Rattle.xk_base.specs.declared.limits.TheConstants.{NPROC}
 use Rattle.proc_table.specs.Turns.{distance}
 use Rattle.kcall_core.specs.Own.{Answer, Stepped, Called, Blocked, Exited, Faulted}
 use Rattle.kcall_core.specs.Step.{own}
 use Rattle.kcall_core.specs.Turns.{Turns, HasSlot}
 use Rattle.kcall_core.specs.WellFormed.{HasSlots}
 use Rattle.kcall_core.specs.Run.{World, Event, Run, Tick, Key, Send, Outcome, Turn, Idle, Step_of, Ticked, Typed, Sent, Halted, Happens, RunHappens, TickHappens, KeyHappens, TurnTaken, StepOf, IsButWoken, stays_current}
-use Rattle.kcall_core.specs.Wakes.{TakesNearest, IsRunnable, is_turn, turns_taken, WaitsAtMost}
+use Rattle.kcall_core.specs.Wakes.{TakesNearest, IsRunnable, IsPromised, is_turn, turns_taken, WaitsAtMost, TurnComes}
 use Rattle.kcall_core.proofs.NoLost.{stays_runnable}
-use Rattle.kcall_core.proofs.Nearer.{comes_nearer}
+use Rattle.kcall_core.proofs.Nearer.{comes_nearer, is_near}
+use Rattle.kcall_core.proofs.FirstWell.{first_slots}
 use Rattle.kcall_core.proofs.KeepsSlots.{slots_stay, kept_slot, process_seen}
 
 same_number : (a b : ℕ) → Some a ≡ Some b → a ≡ b
@@ -103,3 +105,22 @@ waits_at_most w t (e ∷ es) p i run slots can idle mine none =
     let one : ℕ = cond (is_turn e.1) 1 0 in let n : ℕ = turns_taken es in let a : ℕ = distance mid.turns.last i in let b : ℕ = distance w.turns.last i in
     let x : n ≤ a = more in let y : one + a ≤ b = still.nearer in
     let goal : one + n ≤ b = omega arith in goal
+
+-- ---- from boot
+
+slots_along : (w t : World) (es : List (Event × Outcome)) → HasSlots w.state w.turns → IsPromised w es t → HasSlots t.state t.turns
+slots_along w t [] slots run = subst (λ (u : World). HasSlots u.state u.turns) (sym run) slots
+slots_along w t (e ∷ es) slots run = slots_along run.0 t es (slots_stay w run.0 e.0 e.1 run.1.0 run.1.2 slots) run.2
+
+some_slot : (o : Option ℕ) → IsSome o → (slot : ℕ) × (o ≡ Some slot)
+some_slot None h = let no : ⊥ = cc in absurd no
+some_slot (Some slot) h = (slot, refl)
+
+pub turn_comes : TurnComes
+turn_comes frames trace programs w m t es fs p boot run more can idle none =
+    let slots : HasSlots m.state m.turns = slots_along w m es (first_slots frames trace programs w boot) run in
+    let mine = some_slot (get m.turns.slots p) (slots.some p (process_seen m.state p (get m.state.processes p) can.0)) in
+    let n : ℕ = turns_taken fs in let d : ℕ = distance m.turns.last mine.0 in
+    let far : n ≤ d = waits_at_most m t fs p mine.0 more slots can idle mine.1 none in
+    let near : d ≤ NPROC - 1 = is_near m.turns.last mine.0 in
+    let goal : n ≤ NPROC - 1 = omega arith in goal

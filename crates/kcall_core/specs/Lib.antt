@@ -28,3 +28,4 @@ pub mod Codes
 pub mod Starts
 pub mod NewKernel
 pub mod Observers
+pub mod Execs

@@ -102,8 +102,14 @@ abbrev pub HasNoTurn : ℕ → List (Event × Outcome) → Type 0
 HasNoTurn p [] = Unit {0}
 HasNoTurn p (e ∷ es) = (e.1 ≢ Turn p) × HasNoTurn p es
 
--- While a process that may run waits for its turn, no more turns of others are given than it is slots away; so its turn comes after at most 63
+-- While a process that may run waits for its turn, no more turns of others are given than it is slots away
 abbrev pub WaitsAtMost : Type 0
 WaitsAtMost =
     (w t : World) (es : List (Event × Outcome)) (p i : ℕ) → IsPromised w es t → HasSlots w.state w.turns → IsRunnable w p → w.turns.current ≢ Some p → HasSlot w.turns p i
     → HasNoTurn p es → turns_taken es ≤ distance w.turns.last i
+
+-- So at any time after boot: whoever may run has its turn after at most 63 turns of others
+abbrev pub TurnComes : Type 0
+TurnComes =
+    (frames trace : ℕ) (programs : List ProgramFile) (w m t : World) (es fs : List (Event × Outcome)) (p : ℕ) → first frames trace programs ≡ Ok w → IsPromised w es m → IsPromised m fs t
+    → IsRunnable m p → m.turns.current ≢ Some p → HasNoTurn p fs → turns_taken fs ≤ NPROC - 1

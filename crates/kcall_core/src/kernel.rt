@@ -19,8 +19,12 @@ ghost use Rattle.kcall_core.specs.Kernel.{state_of, IsSound, IsRunning, slot_now
 
 mod booting;
 mod calls;
+mod children;
+mod exec_call;
+mod going;
 mod observers;
 mod program_list;
+mod starting;
 #[cfg(test)]
 mod tests;
 

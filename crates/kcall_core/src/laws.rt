@@ -8,7 +8,7 @@
 //! - Isolation and runs: [`two_worlds`], [`runs_join`], [`isolated`], [`others_keep`],
 //!   [`outside_steps`], [`halted_stays`], [`no_old_page`], [`no_old_pipe`], [`no_old_child`].
 //! - Sleeping and waking: [`no_lost_wake_up`], [`never_lost`], [`stays_runnable`], [`comes_nearer`],
-//!   [`is_near`], [`first_slots`], [`slots_stay`], [`waits_at_most`],
+//!   [`is_near`], [`first_slots`], [`slots_stay`], [`waits_at_most`], [`turn_comes`],
 //!   [`blocks_unready`], [`unready_waits`], [`wakes_enough`], [`conditions_suffice`], [`ready_is_open`].
 //! - What each update may make come: [`opens_alone`], [`opens_nothing`], [`opens_pipe`],
 //!   [`opens_marked`], [`opens_reaped`], [`opens_forked`], [`opens_gone`], [`opens_tick`],
@@ -24,7 +24,7 @@
 ghost use Rattle.kcall_core.specs.Conditions.{WakesSuffice, ConditionsSuffice, ReadyIsOpen, OpensAlone, OpensNothing, OpensPipe, OpensMarked, OpensReaped, OpensForked, OpensGone, OpensTick, OpensConsole};
 ghost use Rattle.kcall_core.specs.First.{FirstWell, FirstSlots};
 ghost use Rattle.kcall_core.specs.RowLaws.{InstructionLaw, EcallLaw, ResumeLaw, EndLaw, AnswerLaw, WaitingLaw, ExecLaw, ForkLaw, GoneLaw, ReapLaw, KillLaw, PipeReadLaw, PipeWriteLaw, FileReadLaw, OpenLaw, PipeLaw, DupLaw, DupPipeLaw, CloseLaw, ClosePipeLaw, WellForked, WellGone, WellReaped, WellAlone, WellPiped, WellMoved, WellMarked, WritesTakeNothing, StoresTakeNothing, WellOpened, WellDup, WellDupPipe, WellClosed, WellClosedPipe, WellMadePipe, WellOutside};
-ghost use Rattle.kcall_core.specs.Wakes.{NoLostWakeUp, NeverLost, StaysRunnable, SlotsStay, WaitsAtMost, ComesNearer, IsNear, BlocksUnready};
+ghost use Rattle.kcall_core.specs.Wakes.{NoLostWakeUp, NeverLost, StaysRunnable, SlotsStay, WaitsAtMost, TurnComes, ComesNearer, IsNear, BlocksUnready};
 ghost use Rattle.kcall_core.specs.Worlds.{TwoWorlds, RunsJoin, Isolated, OthersKeep, OutsideSteps, HaltedStays, UnreadyWaits, NoOldPage, NoOldPipe, NoOldChild};
 
 /// What a process does and sees follows from what it saw and from what is shared with it, whatever
@@ -94,9 +94,15 @@ pub fn first_slots()
     ensures { FirstSlots }
 {}
 
-/// While a process that may run waits for its turn, at most 63 turns of others come first.
+/// While a process that may run waits for its turn, no more turns of others are given than its slot is
+/// away.
 pub fn waits_at_most()
     ensures { WaitsAtMost }
+{}
+
+/// From boot on, whoever may run has its turn after at most 63 turns of others.
+pub fn turn_comes()
+    ensures { TurnComes }
 {}
 
 /// A process that may run, and doesn't run now, may run after any event.

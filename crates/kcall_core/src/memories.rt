@@ -10,7 +10,6 @@ ghost use Rattle.std.specs.Prelude.{◌≡◌, ◌≢◌, ℕ, ◌+◌, ◌*◌,
 ghost use Rattle.xk_base.specs.declared.limits.TheConstants.{NPROC, SIZE_LIMIT, PIPE_BYTES};
 ghost use Rattle.std.specs.FinMap.{empty, get};
 ghost use Rattle.xk_base.specs.Image.{price};
-ghost use Rattle.xk_base.specs.declared.errors.ExecError.TheVariants as exec_error;
 ghost use Rattle.phys_ram.specs.Ram.{IsRefused};
 ghost use Rattle.addr_space.specs.Changes.{grown, shrunk};
 ghost use Rattle.rv64i_core.specs.Registers.{fresh};
@@ -18,18 +17,22 @@ ghost use Rattle.pipe_core.specs.Pipe.{new_pipe, with_more, without_first};
 ghost use Rattle.kcall_core.specs.Holdings.{Held, nothing_held, held_at, HasMemory, IsVacant, with_image, with_saved, cost, byte_of, pipe_named};
 ghost use Rattle.kcall_core.specs.Memories.{each_of, pipes_of, free_of, IsSound, RunsIn, SlotChanges, PipeChanges, Same, Steps};
 
+mod arguments;
+mod copies;
+mod loading;
+#[cfg(test)]
+mod program_tests;
 #[cfg(test)]
 mod tests;
 
 use addr_space::Space;
-use exec_core::{Entry, ExecPlan, build};
 use frame_list::Pool;
 use hart_core::Hart;
 use phys_ram::Ram;
 use rv64i_core::{Regs, Stop};
 use std::alloc::Global;
 use xk_base::limits::{NPROC, VPN_END};
-use xk_base::{BootError, ExecError, Frame, NoFrames, Perm, Vpn};
+use xk_base::{BootError, Frame, NoFrames, Perm, Vpn};
 
 /// The memory of a process: its space, and the frame in which its registers lie while it doesn't run.
 #[derive(Drop)]
@@ -114,68 +117,6 @@ impl Memories {
         };
         self.each[slot] = Some(Memory { space, trapframe });
         Ok(())
-    }
-
-    /// Gives a vacant slot the memory of a planned program, and a trapframe of zeros. Tells with which
-    /// registers the program starts.
-    ///
-    /// Errors: `NoFrames` exactly where fewer frames are free than that costs; then nothing is changed.
-    pub fn load(&mut self, slot: usize, plan: ExecPlan<'_>) -> Result<Entry, ExecError>
-        requires sound { IsSound self.old }
-        requires vacant { IsVacant (each_of self.old) slot }
-        ensures loaded { IfOk result (λ _. SlotChanges self.old self.new slot (Some (record { image = plan.entry.image; saved = fresh 0 }))) }
-        ensures start { IfOk result (λ entry. entry ≡ record { pc = plan.entry.pc; sp = plan.entry.sp; argc = plan.entry.argc }) }
-        ensures refused { IfErr result (λ e. (e ≡ exec_error.NoFrames) × (free_of self.old < price plan.entry.image + 1) × Same self.old self.new) }
-    {
-        let Some(trapframe) = self.pool.take(&mut self.ram) else {
-            return Err(ExecError::NoFrames);
-        };
-        match build(plan, &mut self.pool, &mut self.ram) {
-            Ok((space, entry)) => {
-                self.each[slot] = Some(Memory { space, trapframe });
-                Ok(entry)
-            }
-            Err(refusal) => {
-                self.pool.give(&mut self.ram, trapframe);
-                Err(refusal)
-            }
-        }
-    }
-
-    /// Puts the memory of a planned program in place of a slot's image; the registers in the trapframe stay.
-    /// The old image is given back once the new one is made. The hart that runs there goes to the new tables.
-    ///
-    /// Errors: `NoFrames` exactly where fewer frames are free than the new image costs; then nothing is
-    /// changed.
-    pub fn replace(
-        &mut self,
-        slot: usize,
-        plan: ExecPlan<'_>,
-        hart: &mut Hart,
-    ) -> Result<Entry, ExecError>
-        requires sound { IsSound self.old }
-        requires there { HasMemory (each_of self.old) slot }
-        ensures replaced { IfOk result (λ _. SlotChanges self.old self.new slot (Some (with_image plan.entry.image (held_at (each_of self.old) slot)))) }
-        ensures runs { IfOk result (λ _. RunsIn self.new slot hart.new) }
-        ensures regs { hart.new.regs ≡ hart.old.regs }
-        ensures start { IfOk result (λ entry. entry ≡ record { pc = plan.entry.pc; sp = plan.entry.sp; argc = plan.entry.argc }) }
-        ensures refused { IfErr result (λ e. (e ≡ exec_error.NoFrames) × (free_of self.old < price plan.entry.image) × Same self.old self.new × (hart.new ≡ hart.old)) }
-    {
-        let (space, entry) = match build(plan, &mut self.pool, &mut self.ram) {
-            Ok(made) => made,
-            Err(refusal) => return Err(refusal),
-        };
-        let Some(memory) = self.each[slot].take() else {
-            unreachable!();
-        };
-        let Memory {
-            space: old,
-            trapframe,
-        } = memory;
-        old.drop_all(&mut self.pool, &mut self.ram);
-        hart.switch(space.root());
-        self.each[slot] = Some(Memory { space, trapframe });
-        Ok(entry)
     }
 
     /// Gives back all frames of a slot.

@@ -1,5 +1,6 @@
-use Rattle.std.proofs.Common.{◌≡◌, ◌+◌, ◌*◌, length, refl, sym, ap, ◌∙◌, arith}
+use Rattle.std.proofs.Common.{◌≡◌, ◌+◌, ◌*◌, ◌/◌, length, refl, sym, ap, ◌∙◌, arith}
 use Rattle.xk_base.specs.Image.{price}
+use Rattle.xk_base.specs.Loaded.{end_after, program_image}
 use Rattle.addr_space.specs.Space.{image_of}
 use Rattle.addr_space.proofs.Trades.{free-after, belongs-after, belongs-made}
 use Rattle.exec_core.specs.Building.{price_first, with_stack, with_texts}
@@ -117,6 +118,13 @@ returns-clause-fits c =
     omega (arith, cost, c.free.ensures c.args.ram.now c.requires.good, c.from.ensures, c.price.ensures, c.if-from-price.false)
 
 pub returns-clause-limit : goal.returns-clause-limit
+unfolding program_image
 returns-clause-limit c =
-    let limit = room-limit c.args.pool.now c.args.ram.now c.plan.inside.guard c.requires.good (omega (arith, c.free.ensures c.args.ram.now c.requires.good, c.from.ensures, c.price.ensures, c.if-from-price.false)) in
-    omega (arith, c.map_stack.ensures.size, limit)
+    let i = c.plan.inside in
+    let size : c.args.plan.image.size ≡ 4096 * ((end_after 0 i.segments + 4095) / 4096) + 8192 = sym (ap (λ l. (loaded_image l).size) c.plan.view_is) in
+    omega (
+      arith,
+      size,
+      c.plan.invariant.behind,
+      room-limit c.args.pool.now c.args.ram.now i.guard c.requires.good (omega (arith, c.free.ensures c.args.ram.now c.requires.good, c.from.ensures, c.price.ensures, c.if-from-price.false)),
+    )

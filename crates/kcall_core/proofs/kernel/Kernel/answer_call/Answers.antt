@@ -1,4 +1,4 @@
-use Rattle.std.proofs.Common.{refl, ap, ◌∙◌}
+use Rattle.std.proofs.Common.{ap, ◌∙◌}
 use Rattle.hart_core.specs.declared.hart.Hart.{Hart}
 use Rattle.rv64i_core.specs.Registers.{with_pc, after}
 use Rattle.kcall_core.specs.Calls.{with_a0}

@@ -1,9 +1,6 @@
-use Rattle.std.proofs.Common.{◌≡◌, ℕ, refl, sym, ap, ◌∙◌, subst, arith}
-use Rattle.std.specs.Prelude.{IsSome, pos}
-use Rattle.rv64i_core.specs.Registers.{with_pc, after}
-use Rattle.kcall_core.specs.Calls.{with_a0}
-use Rattle.kcall_core.specs.Updates.{set_live}
-use Rattle.kcall_core.specs.Kernel.{state_of, pid_now, live_now}
+use Rattle.std.proofs.Common.{◌≡◌, refl, sym, ◌∙◌, subst, arith}
+use Rattle.std.specs.Prelude.{IsSome}
+use Rattle.kcall_core.specs.Kernel.{pid_now}
 use Rattle.kcall_core.proofs.States.{slot-inside}
 use Rattle.kcall_core.proofs.CallAnswers.{live-is, getpid-own, word-small}
 use Rattle.kcall_core.proofs.Stops.{now-slot}

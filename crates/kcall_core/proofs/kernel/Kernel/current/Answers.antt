@@ -1,4 +1,4 @@
-use Rattle.std.proofs.Common.{refl, sym, ap, ◌∙◌, subst, Some, None}
+use Rattle.std.proofs.Common.{refl, sym, ap, ◌∙◌, subst, Some}
 use Rattle.std.specs.Prelude.{IsSome, option_map}
 use Rattle.kcall_core.specs.Kernel.{pid_now}
 use Rattle.kcall_core.proofs.States.{slot-inside}

@@ -1,4 +1,4 @@
-use Rattle.std.proofs.Common.{Some, sym, ◌∙◌, subst, refl, IsSome}
+use Rattle.std.proofs.Common.{sym, ◌∙◌, subst, refl, IsSome}
 use Rattle.kcall_core.proofs.Observed.{slot-found, status-told, none-told, missing-live, ended-live}
 use Rattle.kcall_core.proofs.kernel.Kernel.find_live.Goals as goal
 

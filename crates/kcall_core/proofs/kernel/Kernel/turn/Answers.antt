@@ -1,8 +1,8 @@
-use Rattle.std.proofs.Common.{◌≡◌, ℕ, ◌<◌, get_or, Some, None, refl, sym, ap, ◌∙◌, subst}
-use Rattle.std.specs.Prelude.{IsSome, option_map}
-use Rattle.proc_table.specs.Slots.{Slots, place_at, process_pid}
+use Rattle.std.proofs.Common.{◌≡◌, get_or, None, refl, sym, ap, ◌∙◌, subst}
+use Rattle.std.specs.Prelude.{IsSome}
+use Rattle.proc_table.specs.Slots.{Slots, place_at}
 use Rattle.proc_table.specs.Turns.{IsNearest}
-use Rattle.kcall_core.specs.Kernel.{or_zero, or_nobody, slot_now, pid_now}
+use Rattle.kcall_core.specs.Kernel.{or_zero, slot_now}
 use Rattle.kcall_core.proofs.Chosen.{chosen, noted-sound, noted-state, pid-told}
 use Rattle.kcall_core.proofs.kernel.Kernel.turn.Goals as goal
 

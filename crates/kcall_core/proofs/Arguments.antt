@@ -1,0 +1,124 @@
+-- The argument texts that a memory holds, one after another.
+use Rattle.std.proofs.Common.{◌≡◌, ◌≢◌, ℕ, zero, suc, ◌+◌, ◌-◌, ◌<◌, ◌≤◌, cond, List, [], ◌∷◌, ◌++◌, length, Option, Some, None, Result, Ok, Err, refl, sym, ap, ◌∙◌, arith, inl, inr}
+use Rattle.std.specs.Prelude.{option_map, if◌then◌else◌, nat_lt}
+use Rattle.std.proofs.lemmas.Bool.{cases_lt, eq-eqb, ne_eqb}
+use Rattle.std.proofs.lemmas.List.{append_assoc, append-nil, length-append}
+use Rattle.xk_base.specs.Image.{Image}
+use Rattle.xk_base.specs.declared.limits.TheConstants.{MAXARG, ARG_BYTES}
+use Rattle.xk_base.specs.declared.errors.ExecError.{ExecError}
+use Rattle.xk_base.specs.declared.errors.ExecError.TheVariants.{TooManyArgs, ArgsTooLong}
+use Rattle.sv39_core.proofs.Words.{ltb-no}
+use Rattle.exec_core.specs.ArgTexts.{terminated, push_refusal}
+use Rattle.kcall_core.specs.Buffers.{text_at, texts_at, texts_from, with_text, pointer_at}
+
+-- these texts, and then the others
+abbrev pub behind : List (List ℕ) → Option (List (List ℕ)) → Option (List (List ℕ))
+behind texts others = option_map (λ rest. texts ++ rest) others
+
+module _ (i : Image) (limit at : ℕ) where
+  from-none : (more : ℕ) → pointer_at i at ≡ None → texts_at more limit i at ≡ None
+  unfolding texts_at
+  from-none zero none = ap (λ o. texts_from o (λ p. None)) none
+  from-none (suc more) none = ap (λ o. texts_from o (λ p. with_text (text_at limit i p) (texts_at more limit i (at + 8)))) none
+
+  from-null : (more p : ℕ) → pointer_at i at ≡ Some p → p ≡ 0 → texts_at more limit i at ≡ Some []
+  unfolding texts_at
+  from-null zero p is null = ap (λ o. texts_from o (λ q. None)) is ∙ ap (λ b. cond b (Some []) None) (eq-eqb p 0 null)
+  from-null (suc more) p is null =
+      ap (λ o. texts_from o (λ q. with_text (text_at limit i q) (texts_at more limit i (at + 8)))) is
+      ∙ ap (λ b. cond b (Some []) (with_text (text_at limit i p) (texts_at more limit i (at + 8)))) (eq-eqb p 0 null)
+
+  from-more : (p : ℕ) → pointer_at i at ≡ Some p → p ≢ 0 → texts_at 0 limit i at ≡ None
+  unfolding texts_at
+  from-more p is some = ap (λ o. texts_from o (λ q. None)) is ∙ ap (λ b. cond b (Some []) None) (ne_eqb p 0 some)
+
+  from-text : (more p : ℕ) → pointer_at i at ≡ Some p → p ≢ 0 → texts_at (suc more) limit i at ≡ with_text (text_at limit i p) (texts_at more limit i (at + 8))
+  unfolding texts_at
+  from-text more p is some =
+      ap (λ o. texts_from o (λ q. with_text (text_at limit i q) (texts_at more limit i (at + 8)))) is
+      ∙ ap (λ b. cond b (Some []) (with_text (text_at limit i p) (texts_at more limit i (at + 8)))) (ne_eqb p 0 some)
+
+-- ---- all of them, where some are read already
+
+-- `texts` are read, and `more` texts more may be, from `at` on
+pub record Reading (whole : Option (List (List ℕ))) (i : Image) (texts : List (List ℕ)) (more at : ℕ) : Type 0 where
+  pub texts_read : whole ≡ behind texts (texts_at more ARG_BYTES i at)
+  pub count : length texts + more ≡ MAXARG
+
+no-some : {X : Type 0} (x : X) → None ≡ Some x → ⊥
+no-some x e = cc
+
+same-some : {X : Type 0} (x y : X) → Some x ≡ Some y → x ≡ y
+same-some x y e = cc
+
+all-here : (texts : List (List ℕ)) → behind texts (Some []) ≡ Some texts
+all-here texts = ap Some (append-nil texts)
+
+one-behind : (texts : List (List ℕ)) (text : List ℕ) (o : Option (List (List ℕ))) → behind texts (with_text (Some text) o) ≡ behind (texts ++ text ∷ []) o
+one-behind texts text None = refl
+one-behind texts text (Some rest) = ap Some (sym (append_assoc texts (text ∷ []) rest))
+
+-- a text is refused where there is room for one more: all are too long
+pub push-long : (texts : List (List ℕ)) (text : List ℕ) (e : ExecError) → length texts < MAXARG → push_refusal texts text ≡ Err e → ARG_BYTES < length (terminated (texts ++ text ∷ []))
+push-long texts text e few refused = elim (cases_lt ARG_BYTES (length (terminated (texts ++ text ∷ [])))) [
+  | inl long ↦ long
+  | inr short ↦ absurd (no-err (sym (fits short) ∙ refused))
+]
+  where
+    done : Result (Unit {0}) ExecError
+    done = Ok tt
+
+    no-err : done ≡ Err e → ⊥
+    no-err is = cc
+
+    fits : length (terminated (texts ++ text ∷ [])) ≤ ARG_BYTES → push_refusal texts text ≡ done
+    fits short =
+        ap (λ b. if b then Err TooManyArgs else if nat_lt ARG_BYTES (length (terminated (texts ++ text ∷ []))) then Err ArgsTooLong else Ok tt) (ne_eqb (length texts) MAXARG (λ is. absurd (omega (arith, is, few))))
+        ∙ ap (λ b. if b then Err ArgsTooLong else Ok tt) (ltb-no ARG_BYTES (length (terminated (texts ++ text ∷ []))) short)
+
+longer : (xs ys : List (List ℕ)) → length (terminated xs) ≤ length (terminated (xs ++ ys))
+longer [] ys = omega arith
+longer (x ∷ xs) ys = omega (arith, longer xs ys, length-append (x ++ 0 ∷ []) (terminated xs), length-append (x ++ 0 ∷ []) (terminated (xs ++ ys)))
+
+module _ {whole : Option (List (List ℕ))} {i : Image} {texts : List (List ℕ)} {more at : ℕ} (r : Reading whole i texts more at) where
+  -- the pointer can't be read
+  pub no-pointer : pointer_at i at ≡ None → (xs : List (List ℕ)) → whole ≡ Some xs → ARG_BYTES < length (terminated xs)
+  no-pointer none xs is = absurd (no-some xs (sym (r.texts_read ∙ ap (behind texts) (from-none i ARG_BYTES at more none)) ∙ is))
+
+  -- a null pointer
+  pub all-read : (p : ℕ) → pointer_at i at ≡ Some p → p ≡ 0 → whole ≡ Some texts
+  all-read p is null = r.texts_read ∙ ap (behind texts) (from-null i ARG_BYTES at more p is null) ∙ all-here texts
+
+  -- one text too many
+  pub too-many : (p : ℕ) → more ≡ 0 → pointer_at i at ≡ Some p → p ≢ 0 → (xs : List (List ℕ)) → whole ≡ Some xs → ARG_BYTES < length (terminated xs)
+  too-many p none is some xs e = absurd (no-some xs (sym (r.texts_read ∙ ap (behind texts) (ap (λ n. texts_at n ARG_BYTES i at) none ∙ from-more i ARG_BYTES at p is some)) ∙ e))
+
+  next : (p : ℕ) → 0 < more → pointer_at i at ≡ Some p → p ≢ 0 → whole ≡ behind texts (with_text (text_at ARG_BYTES i p) (texts_at (more - 1) ARG_BYTES i (at + 8)))
+  next p lt is some =
+      let e : more ≡ suc (more - 1) = omega (arith, lt) in
+      r.texts_read ∙ ap (behind texts) (ap (λ n. texts_at n ARG_BYTES i at) e ∙ from-text i ARG_BYTES at (more - 1) p is some)
+
+  -- the text can't be read
+  pub no-text : (p : ℕ) → 0 < more → pointer_at i at ≡ Some p → p ≢ 0 → text_at ARG_BYTES i p ≡ None → (xs : List (List ℕ)) → whole ≡ Some xs → ARG_BYTES < length (terminated xs)
+  no-text p lt is some none xs e = absurd (no-some xs (sym (next p lt is some ∙ ap (λ o. behind texts (with_text o (texts_at (more - 1) ARG_BYTES i (at + 8)))) none) ∙ e))
+
+  taken : (p : ℕ) (text : List ℕ) → 0 < more → pointer_at i at ≡ Some p → p ≢ 0 → text_at ARG_BYTES i p ≡ Some text → whole ≡ behind (texts ++ text ∷ []) (texts_at (more - 1) ARG_BYTES i (at + 8))
+  taken p text lt is some there = next p lt is some ∙ ap (λ o. behind texts (with_text o (texts_at (more - 1) ARG_BYTES i (at + 8)))) there ∙ one-behind texts text (texts_at (more - 1) ARG_BYTES i (at + 8))
+
+  -- one text more is read
+  pub reading-next : (p : ℕ) (text : List ℕ) (texts' : List (List ℕ)) (more' at' : ℕ) → 0 < more → pointer_at i at ≡ Some p → p ≢ 0 → text_at ARG_BYTES i p ≡ Some text → texts' ≡ texts ++ text ∷ [] → more' + 1 ≡ more → at' ≡ at + 8
+      → Reading whole i texts' more' at'
+  reading-next p text texts' more' at' lt is some there added fewer on =
+      let e : more - 1 ≡ more' = omega (arith, fewer) in
+      record {
+        texts_read = taken p text lt is some there ∙ (λ j. behind (sym added j) (texts_at (e j) ARG_BYTES i (sym on j)));
+        count = omega (arith, ap length added, length-append texts (text ∷ []), r.count, fewer);
+      }
+
+  -- the texts are too long together
+  pub too-long : (p : ℕ) (text : List ℕ) → 0 < more → pointer_at i at ≡ Some p → p ≢ 0 → text_at ARG_BYTES i p ≡ Some text → ARG_BYTES < length (terminated (texts ++ text ∷ [])) → (xs : List (List ℕ)) → whole ≡ Some xs → ARG_BYTES < length (terminated xs)
+  too-long p text lt is some there long xs e = by (texts_at (more - 1) ARG_BYTES i (at + 8)) (sym (taken p text lt is some there) ∙ e)
+    where
+      by : (o : Option (List (List ℕ))) → behind (texts ++ text ∷ []) o ≡ Some xs → ARG_BYTES < length (terminated xs)
+      by None is = absurd (no-some xs is)
+      by (Some rest) is = omega (arith, long, longer (texts ++ text ∷ []) rest, ap (λ ys. length (terminated ys)) (same-some _ _ is))

@@ -1,0 +1,46 @@
+use Rattle.std.proofs.Common.{◌≡◌, ◌+◌, refl, sym, ap, ◌∙◌, subst}
+use Rattle.std.specs.Prelude.{IsSome}
+use Rattle.std.proofs.lemmas.Int.{to_z-of_z}
+use Rattle.xk_base.specs.Image.{price}
+use Rattle.kcall_core.specs.RowLaws.{IsLive}
+use Rattle.kcall_core.specs.Updates.{give_frames, end_process, orphans}
+use Rattle.kcall_core.specs.Kernel.{state_of, pid_now, live_now, IsSound, IsRunning}
+use Rattle.kcall_core.proofs.States.{slot-inside}
+use Rattle.kcall_core.proofs.Stops.{now-slot}
+use Rattle.kcall_core.proofs.Chosen.{pid-told}
+use Rattle.kcall_core.proofs.CallAnswers.{live-is}
+use Rattle.kcall_core.proofs.Closed.{gone-closed, keeps-parent}
+use Rattle.kcall_core.proofs.kernel.Kernel.go_closed.Goals as goal
+
+pub pid-pid-requires-clause-within : goal.pid-pid-requires-clause-within
+pid-pid-requires-clause-within c =
+    let now = c.requires.sound.current c.in-Some.slot c.in-Some.is in
+    slot-inside c.args.self.now c.args.hart.now c.requires.sound c.in-Some.slot now.process now.is
+
+pub pid-pid-requires-clause-held : goal.pid-pid-requires-clause-held
+pid-pid-requires-clause-held c = subst (λ o. IsSome o) (sym (c.requires.sound.current c.in-Some.slot c.in-Some.is).is) refl
+
+pub end-requires-clause-sound : goal.end-requires-clause-sound
+end-requires-clause-sound c = c.orphan.ensures.sound c.args.hart.now c.requires.sound
+
+pub end-requires-clause-running : goal.end-requires-clause-running
+end-requires-clause-running c = subst (λ o. IsSome o) (sym c.orphan.ensures.current) c.requires.running
+
+pub returns-clause-state : goal.returns-clause-state
+returns-clause-state c =
+    let k = c.args.self.now in
+    let h = c.args.hart.now in
+    let k1 = c.orphan.new.self in
+    let s = state_of k h in
+    let p = pid_now k in
+    let told : p ≡ c.pid-pid.result = pid-told k c.in-Some.slot c.pid-pid.result (sym (now-slot c.in-Some.slot c.requires.sound c.in-Some.is)) c.pid-pid.ensures in
+    let sound1 : IsSound k1 h = c.orphan.ensures.sound h c.requires.sound in
+    let runs1 : IsRunning k1 = subst (λ o. IsSome o) (sym c.orphan.ensures.current) c.requires.running in
+    let state1 : state_of k1 h ≡ orphans p s = c.orphan.ensures.state h ∙ ap (λ n. orphans n s) (sym told) in
+    let pid1 : pid_now k1 ≡ p = c.orphan.ensures.pid h c.requires.sound c.requires.running in
+    let is1 : IsLive (orphans p s) p (live_now k1 h) = subst (λ t. IsLive t p (live_now k1 h)) state1 (subst (λ n. IsLive (state_of k1 h) n (live_now k1 h)) pid1 (live-is k1 h sound1 runs1)) in
+    let live1 : live_now k1 h ≡ live_now k h = keeps-parent s p (live_now k h) (live_now k1 h) (live-is k h c.requires.sound c.requires.running) c.requires.parent is1 in
+    let status = to_z-of_z _ c.args.status c.ranges.status in
+    c.end.ensures.state
+    ∙ (λ t. give_frames (price (live1 t).image + 1) (end_process (pid1 t) (live1 t).parent (status t) (state1 t)))
+    ∙ gone-closed s (live_now k h) c.requires.closed p c.args.status

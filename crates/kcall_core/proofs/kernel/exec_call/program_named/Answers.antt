@@ -1,0 +1,14 @@
+use Rattle.std.proofs.Common.{rules, ◌≡◌, ap, ◌∙◌}
+use Rattle.std.specs.Prelude.{find, option_copied, option_map, bytes_eq}
+use Rattle.std.proofs.lemmas.Iterator.{YieldsList-from_slice}
+use Rattle.std.proofs.lemmas.Iterator.Search.{find_from_yields_List}
+use Rattle.xk_base.specs.declared.program.Program.{Program}
+use Rattle.kcall_core.specs.State.{named_file}
+use Rattle.kcall_core.proofs.Asking.{found-among}
+use Rattle.kcall_core.proofs.kernel.exec_call.program_named.Goals as goal
+
+pub returns : goal.returns
+returns c =
+    let found : option_copied c.find.result ≡ find (λ (p : Program). bytes_eq p.name.items c.args.name.now) c.args.programs.now =
+    find_from_yields_List (λ (p : Program). bytes_eq p.name.items c.args.name.now) _ _ _ c.find.ensures.ran (YieldsList-from_slice c.args.programs.now cc) (λ x b q k. search rules) in
+    ap (option_map named_file) found ∙ found-among c.args.name.now c.args.programs.now

@@ -1,0 +1,120 @@
+//! The call exec: a process goes on with another program.
+ghost use Rattle.std.specs.Prelude.{◌≡◌, ℕ, ◌%◌, ◌^◌, ◌-◌, ◌<◌, ◌≤◌, List, Some, None, IfSome, IfNone, map, option_copied, option_map};
+ghost use Rattle.xk_base.specs.Image.{price};
+ghost use Rattle.xk_base.specs.Loaded.{Loaded};
+ghost use Rattle.rv64i_core.specs.Registers.{put, with_pc};
+ghost use Rattle.kcall_core.specs.Words.{SP, A1};
+ghost use Rattle.kcall_core.specs.Buffers.{no_slashes};
+ghost use Rattle.kcall_core.specs.Programs.{program_named};
+ghost use Rattle.kcall_core.specs.State.{named_file};
+ghost use Rattle.kcall_core.specs.Calls.{with_a0};
+ghost use Rattle.kcall_core.specs.Updates.{set_live, started};
+ghost use Rattle.kcall_core.specs.Execs.{asked};
+ghost use Rattle.kcall_core.specs.Holdings.{held_at, HasMemory, with_image};
+ghost use Rattle.kcall_core.specs.Memories as memory;
+ghost use Rattle.kcall_core.specs.Memories.{each_of, free_of, RunsIn, SlotChanges, Same};
+ghost use Rattle.kcall_core.specs.Kernel.{state_of, IsSound, IsRunning, pid_now, live_now, IsRepriced};
+
+use crate::kernel::{Kernel, put_answer};
+use crate::memories::Memories;
+use exec_core::{Entry, plan};
+use hart_core::Hart;
+use xk_base::limits::MAXPATH;
+use xk_base::{Program, Reg};
+
+/// A name without its leading slashes.
+fn without_slashes(name: &[u8]) -> &[u8]
+    ensures { result.now ≡ no_slashes name.now }
+{
+    let Some(first) = name.iter().position(|byte| *byte != b'/') else {
+        return &[];
+    };
+    &name[first..]
+}
+
+/// The program of a name.
+pub(crate) fn program_named<'a>(programs: &'a [Program], name: &[u8]) -> Option<&'a Program>
+    ensures { option_map named_file (option_copied result) ≡ program_named name.now (map named_file programs.now) }
+{
+    programs
+        .iter()
+        .find(|program| program.name.as_slice() == name)
+}
+
+/// Gives a hart the registers with which a program starts. All others stay.
+fn start_program(hart: &mut Hart, start: Entry)
+    requires { start.pc % 4 ≡ 0 }
+    ensures { hart.new ≡ record hart.old { regs = with_a0 (with_pc (put (put hart.old.regs SP start.sp) A1 start.sp) start.pc) start.argc } }
+{
+    let regs = hart.regs_mut();
+    regs.write(Reg::new(2), start.sp);
+    regs.write(Reg::new(11), start.sp);
+    regs.set_pc(start.pc);
+    regs.write(Reg::new(10), start.argc);
+}
+
+/// Replaces the image of a slot by the program that its process asks for, and tells with which registers
+/// that starts. None where there is no such program, or it costs more than the free frames; then nothing
+/// is changed.
+fn replace_as_asked(
+    memories: &mut Memories,
+    programs: &[Program],
+    slot: usize,
+    path: u64,
+    pointers: u64,
+    hart: &mut Hart,
+) -> Option<Entry>
+    requires sound { memory.IsSound memories.old }
+    requires there { HasMemory (each_of memories.old) slot }
+    ensures started { IfSome result (λ start. (l : Loaded) × (asked (map named_file programs.now) (held_at (each_of memories.old) slot).image path pointers ≡ Some l) × (start ≡ record { pc = l.pc; sp = l.sp; argc = l.argc }) × (l.pc % 4 ≡ 0) × (price l.image ≤ free_of memories.old) × SlotChanges memories.old memories.new slot (Some (with_image l.image (held_at (each_of memories.old) slot))) × RunsIn memories.new slot hart.new) }
+    ensures regs { hart.new.regs ≡ hart.old.regs }
+    ensures refused { IfNone result (((l : Loaded) → asked (map named_file programs.now) (held_at (each_of memories.old) slot).image path pointers ≡ Some l → free_of memories.old < price l.image) × Same memories.old memories.new × (hart.new ≡ hart.old)) }
+{
+    let mut name = [0; MAXPATH];
+    let Ok(len) = memories.fetch_text(slot, path, &mut name) else {
+        return None;
+    };
+    let Some(args) = memories.fetch_args(slot, pointers) else {
+        return None;
+    };
+    let Some(program) = program_named(programs, without_slashes(&name[..len])) else {
+        return None;
+    };
+    let Ok(plan) = plan(&program.bytes, &args) else {
+        return None;
+    };
+    let Ok(start) = memories.replace(slot, plan, hart) else {
+        return None;
+    };
+    Some(start)
+}
+
+impl Kernel {
+    /// The call exec: the process that runs goes on with the program that it asks for, by the addresses of
+    /// a path and of pointers to texts, and a0 takes the number of texts. Where there is no such program,
+    /// or it costs more than the free frames, a0 takes -1, and nothing else changes.
+    fn exec(&mut self, hart: &mut Hart, path: u64, pointers: u64)
+        requires sound { IsSound self.old hart.old }
+        requires running { IsRunning self.old }
+        ensures sound { IsSound self.new hart.new }
+        ensures started { let s = state_of self.old hart.old in let live = live_now self.old hart.old in (l : Loaded) → asked s.programs live.image path pointers ≡ Some l → price l.image ≤ s.free → IsRepriced s live.image l.image (set_live (pid_now self.old) (record (started l live) { regs = with_a0 (started l live).regs l.argc }) s) (state_of self.new hart.new) }
+        ensures too_dear { let s = state_of self.old hart.old in let live = live_now self.old hart.old in (l : Loaded) → asked s.programs live.image path pointers ≡ Some l → s.free < price l.image → state_of self.new hart.new ≡ set_live (pid_now self.old) (record live { regs = with_a0 live.regs (2 ^ 64 - 1) }) s }
+        ensures refused { let s = state_of self.old hart.old in let live = live_now self.old hart.old in asked s.programs live.image path pointers ≡ None → state_of self.new hart.new ≡ set_live (pid_now self.old) (record live { regs = with_a0 live.regs (2 ^ 64 - 1) }) s }
+    {
+        let Some(slot) = self.current else {
+            unreachable!();
+        };
+        let Some(start) = replace_as_asked(
+            &mut self.memories,
+            &self.programs,
+            slot,
+            path,
+            pointers,
+            hart,
+        ) else {
+            put_answer(hart, u64::MAX);
+            return;
+        };
+        start_program(hart, start);
+    }
+}

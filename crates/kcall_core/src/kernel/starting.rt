@@ -1,0 +1,93 @@
+//! The first process.
+ghost use Rattle.std.specs.Prelude.{◌≡◌, ℕ, ◌+◌, ◌%◌, ◌≤◌, [], ◌∷◌, Some, Ok, IsSome, IfOk, IfErr, map};
+ghost use Rattle.xk_base.specs.Image.{price};
+ghost use Rattle.xk_base.specs.Loaded.{Loaded, loaded};
+ghost use Rattle.rv64i_core.specs.Registers.{fresh, put};
+ghost use Rattle.kcall_core.specs.Words.{SP, A0, A1};
+ghost use Rattle.kcall_core.specs.Programs.{init_name, init_of, program_bytes};
+ghost use Rattle.kcall_core.specs.State.{named_file};
+ghost use Rattle.kcall_core.specs.Starts.{IsBlank, init_loaded, start_refusal, started_state};
+ghost use Rattle.kcall_core.specs.Holdings.{IsVacant};
+ghost use Rattle.kcall_core.specs.Memories as memory;
+ghost use Rattle.kcall_core.specs.Memories.{each_of, free_of, SlotChanges, Same};
+ghost use Rattle.kcall_core.specs.Kernel.{state_of, IsSound};
+
+use crate::kernel::Kernel;
+use crate::kernel::exec_call::program_named;
+use crate::memories::Memories;
+use exec_core::{ArgList, Entry, plan};
+use hart_core::Hart;
+use rv64i_core::Regs;
+use xk_base::{ExecError, NoFrames, Program, Reg};
+
+/// The registers of the first process: all 0, but for the stack pointer, the arguments and the pc.
+fn first_regs(start: Entry) -> Regs
+    requires { start.pc % 4 ≡ 0 }
+    ensures { result ≡ put (put (put (fresh start.pc) SP start.sp) A0 start.argc) A1 start.sp }
+{
+    let mut regs = Regs::new(start.pc);
+    regs.write(Reg::new(2), start.sp);
+    regs.write(Reg::new(10), start.argc);
+    regs.write(Reg::new(11), start.sp);
+    regs
+}
+
+/// The argument texts of the first process: its name alone.
+fn first_args() -> ArgList
+    ensures { result ≡ init_name ∷ [] }
+{
+    let mut args = ArgList::new();
+    let Ok(()) = args.push(b"init".as_slice()) else {
+        unreachable!();
+    };
+    args
+}
+
+/// Gives slot 0 the image of the program `init`, and a trapframe of zeros; tells with which registers the
+/// program starts. A refusal changes nothing.
+#[tactic(auto, unfolding(crate::specs::Programs::init_of))]
+fn load_first(memories: &mut Memories, programs: &[Program]) -> Result<Entry, ExecError>
+    requires sound { memory.IsSound memories.old }
+    requires vacant { IsVacant (each_of memories.old) 0 }
+    requires program { IsSome (init_of (map named_file programs.now)) }
+    ensures loaded { IfOk result (λ start. (l : Loaded) × (loaded (program_bytes (init_of (map named_file programs.now))) (init_name ∷ []) ≡ Ok l) × (start ≡ record { pc = l.pc; sp = l.sp; argc = l.argc }) × (l.pc % 4 ≡ 0) × (price l.image + 1 ≤ free_of memories.old) × SlotChanges memories.old memories.new 0 (Some (record { image = l.image; saved = fresh 0 }))) }
+    ensures refused { IfErr result (λ e. (start_refusal (free_of memories.old) (loaded (program_bytes (init_of (map named_file programs.now))) (init_name ∷ [])) ≡ Some e) × Same memories.old memories.new) }
+{
+    let Some(program) = program_named(programs, b"init".as_slice()) else {
+        unreachable!();
+    };
+    let args = first_args();
+    match plan(&program.bytes, &args) {
+        Ok(plan) => match memories.load_into(0, plan) {
+            Ok(start) => Ok(start),
+            Err(NoFrames) => Err(ExecError::NoFrames),
+        },
+        Err(refusal) => Err(refusal),
+    }
+}
+
+impl Kernel {
+    /// Makes the first process, pid 1, of the program `init`, with its name as the one argument text. It
+    /// takes slot 0, and doesn't run yet.
+    ///
+    /// # Errors
+    ///
+    /// The refusal of [`plan`], else [`ExecError::NoFrames`] exactly where the image's price and a frame
+    /// for the registers exceed the free frames. Then nothing is changed.
+    pub fn start(&mut self, hart: &mut Hart) -> Result<(), ExecError>
+        requires sound { IsSound self.old hart.old }
+        requires blank { IsBlank self.old }
+        requires program { IsSome (init_of (state_of self.old hart.old).programs) }
+        ensures sound { IsSound self.new hart.new }
+        ensures started { IfOk result (λ _. (l : Loaded) × (init_loaded (state_of self.old hart.old) ≡ Ok l) × (price l.image + 1 ≤ (state_of self.old hart.old).free) × (state_of self.new hart.new ≡ started_state l (state_of self.old hart.old))) }
+        ensures refused { IfErr result (λ e. (start_refusal (state_of self.old hart.old).free (init_loaded (state_of self.old hart.old)) ≡ Some e) × (state_of self.new hart.new ≡ state_of self.old hart.old) × (hart.new ≡ hart.old)) }
+    {
+        let start = load_first(&mut self.memories, &self.programs)?;
+        let Ok((slot, _)) = self.table.spawn(None) else {
+            unreachable!();
+        };
+        *hart.regs_mut() = first_regs(start);
+        self.memories.save(slot, hart);
+        Ok(())
+    }
+}

@@ -1,0 +1,91 @@
+//! What the kernel reads from a process's memory, and what it writes to it.
+//!
+//! It reads where user code may read, and writes where user code may write: `readable`, `writable`,
+//! `text_at` and `pointer_at` of `specs/Buffers.antt`.
+ghost use Rattle.std.specs.Prelude.{◌≡◌, ℕ, ◌+◌, ◌^◌, ◌<◌, ◌≤◌, true, false, length, take, drop, Some, None, IfOk, IfErr};
+ghost use Rattle.xk_base.specs.Bytes.{image_bytes, write_image};
+ghost use Rattle.kcall_core.specs.Buffers.{readable, writable, text_at, pointer_at};
+ghost use Rattle.kcall_core.specs.Holdings.{held_at, HasMemory, with_image};
+ghost use Rattle.kcall_core.specs.Memories.{each_of, free_of, IsSound, RunsIn, SlotChanges, Same};
+
+use crate::memories::Memories;
+use hart_core::Hart;
+use xk_base::BadAddress;
+
+impl Memories {
+    /// Copies bytes from the memory of a slot, as many as `out` holds.
+    ///
+    /// Errors: `BadAddress` exactly where user code may not read one of them; then `out` is as it was.
+    pub fn copy_in(&self, slot: usize, address: u64, out: &mut [u8]) -> Result<(), BadAddress>
+        requires sound { IsSound self.now }
+        requires there { HasMemory (each_of self.now) slot }
+        ensures fine { IfOk result (λ _. readable (held_at (each_of self.now) slot).image address (length out.old) ≡ true) }
+        ensures copied { IfOk result (λ _. out.new ≡ image_bytes (held_at (each_of self.now) slot).image address (length out.old)) }
+        ensures refused { IfErr result (λ _. (readable (held_at (each_of self.now) slot).image address (length out.old) ≡ false) × (out.new ≡ out.old)) }
+    {
+        let Some(memory) = &self.each[slot] else {
+            unreachable!();
+        };
+        user_copy::copy_in(&memory.space, &self.ram, address, out)
+    }
+
+    /// Copies bytes to the memory of a slot. What a hart keeps of the slot's translations stays true, and
+    /// as many frames are free as before.
+    ///
+    /// Errors: `BadAddress` exactly where user code may not write one of them; then nothing is changed.
+    pub fn copy_out(&mut self, slot: usize, address: u64, bytes: &[u8]) -> Result<(), BadAddress>
+        requires sound { IsSound self.old }
+        requires there { HasMemory (each_of self.old) slot }
+        ensures fine { IfOk result (λ _. writable (held_at (each_of self.old) slot).image address (length bytes.now) ≡ true) }
+        ensures written { IfOk result (λ _. let held = held_at (each_of self.old) slot in SlotChanges self.old self.new slot (Some (with_image (write_image held.image address bytes.now) held))) }
+        ensures free { free_of self.new ≡ free_of self.old }
+        ensures runs { (hart : Hart) → RunsIn self.old slot hart → RunsIn self.new slot hart }
+        ensures refused { IfErr result (λ _. (writable (held_at (each_of self.old) slot).image address (length bytes.now) ≡ false) × Same self.old self.new) }
+    {
+        let Some(memory) = &self.each[slot] else {
+            unreachable!();
+        };
+        user_copy::copy_out(&memory.space, &mut self.ram, address, bytes)
+    }
+
+    /// The number in eight bytes of the memory of a slot, little-endian. It lies below the
+    /// last address that a page may have.
+    ///
+    /// Errors: `BadAddress` exactly where user code may not read one of them.
+    pub fn fetch_u64(&self, slot: usize, address: u64) -> Result<u64, BadAddress>
+        requires sound { IsSound self.now }
+        requires there { HasMemory (each_of self.now) slot }
+        ensures low { IfOk result (λ _. address + 8 ≤ 2 ^ 38) }
+        ensures number { IfOk result (λ n. pointer_at (held_at (each_of self.now) slot).image address ≡ Some n) }
+        ensures refused { IfErr result (λ _. pointer_at (held_at (each_of self.now) slot).image address ≡ None) }
+    {
+        let Some(memory) = &self.each[slot] else {
+            unreachable!();
+        };
+        user_copy::fetch_u64(&memory.space, &self.ram, address)
+    }
+
+    /// Copies a text from the memory of a slot to the front of `text`, without its zero byte, and tells how
+    /// many bytes it has. With its zero byte it has at most as many as `text`, whose rest stays.
+    ///
+    /// Errors: `BadAddress` exactly where there is no such text that user code may read; then `text` is as
+    /// it was.
+    pub fn fetch_text(
+        &self,
+        slot: usize,
+        address: u64,
+        text: &mut [u8],
+    ) -> Result<usize, BadAddress>
+        requires sound { IsSound self.now }
+        requires there { HasMemory (each_of self.now) slot }
+        ensures short { IfOk result (λ n. n < length text.old) }
+        ensures found { IfOk result (λ n. text_at (length text.old) (held_at (each_of self.now) slot).image address ≡ Some (take n text.new)) }
+        ensures rest { IfOk result (λ n. drop n text.new ≡ drop n text.old) }
+        ensures refused { IfErr result (λ _. (text_at (length text.old) (held_at (each_of self.now) slot).image address ≡ None) × (text.new ≡ text.old)) }
+    {
+        let Some(memory) = &self.each[slot] else {
+            unreachable!();
+        };
+        user_copy::fetch_text(&memory.space, &self.ram, address, text)
+    }
+}

@@ -1,0 +1,79 @@
+//! A planned program becomes the memory of a slot.
+ghost use Rattle.std.specs.Prelude.{◌≡◌, ℕ, ◌+◌, ◌<◌, ◌≤◌, Some, IfOk, IfErr};
+ghost use Rattle.xk_base.specs.Image.{price};
+ghost use Rattle.rv64i_core.specs.Registers.{fresh};
+ghost use Rattle.kcall_core.specs.Holdings.{held_at, HasMemory, IsVacant, with_image};
+ghost use Rattle.kcall_core.specs.Memories.{each_of, free_of, IsSound, RunsIn, SlotChanges, Same};
+
+use crate::memories::{Memories, Memory};
+use exec_core::{Entry, ExecPlan, build};
+use hart_core::Hart;
+use xk_base::NoFrames;
+
+impl Memories {
+    /// Gives a vacant slot the image of a planned program, and a trapframe of zeros; tells with which
+    /// registers the program starts.
+    ///
+    /// Errors: `NoFrames` exactly where the image's price and the trapframe exceed the free frames; then
+    /// nothing is changed.
+    pub fn load_into(&mut self, slot: usize, plan: ExecPlan<'_>) -> Result<Entry, NoFrames>
+        requires sound { IsSound self.old }
+        requires vacant { IsVacant (each_of self.old) slot }
+        ensures start { IfOk result (λ start. start ≡ record { pc = plan.entry.pc; sp = plan.entry.sp; argc = plan.entry.argc }) }
+        ensures loaded { IfOk result (λ _. SlotChanges self.old self.new slot (Some (record { image = plan.entry.image; saved = fresh 0 }))) }
+        ensures fits { IfOk result (λ _. price plan.entry.image + 1 ≤ free_of self.old) }
+        ensures refused { IfErr result (λ _. (free_of self.old < price plan.entry.image + 1) × Same self.old self.new) }
+    {
+        let Some(trapframe) = self.pool.take(&mut self.ram) else {
+            return Err(NoFrames);
+        };
+        let Ok((space, start)) = build(plan, &mut self.pool, &mut self.ram) else {
+            self.pool.give(&mut self.ram, trapframe);
+            return Err(NoFrames);
+        };
+        self.each[slot] = Some(Memory { space, trapframe });
+        Ok(start)
+    }
+
+    /// Replaces the image of a slot by that of a planned program, and tells with which registers the
+    /// program starts. The hart goes to the new tables before the old ones are given back, and keeps its
+    /// registers; the trapframe stays as it is.
+    ///
+    /// Both images are held for a moment: the new one's frames all come from the free ones.
+    ///
+    /// Errors: `NoFrames` exactly where the new image's price exceeds the free frames; then nothing is
+    /// changed.
+    pub fn replace(
+        &mut self,
+        slot: usize,
+        plan: ExecPlan<'_>,
+        hart: &mut Hart,
+    ) -> Result<Entry, NoFrames>
+        requires sound { IsSound self.old }
+        requires there { HasMemory (each_of self.old) slot }
+        ensures start { IfOk result (λ start. start ≡ record { pc = plan.entry.pc; sp = plan.entry.sp; argc = plan.entry.argc }) }
+        ensures replaced { IfOk result (λ _. SlotChanges self.old self.new slot (Some (with_image plan.entry.image (held_at (each_of self.old) slot)))) }
+        ensures fits { IfOk result (λ _. price plan.entry.image ≤ free_of self.old) }
+        ensures runs { IfOk result (λ _. RunsIn self.new slot hart.new) }
+        ensures regs { hart.new.regs ≡ hart.old.regs }
+        ensures refused { IfErr result (λ _. (free_of self.old < price plan.entry.image) × Same self.old self.new × (hart.new ≡ hart.old)) }
+    {
+        let Ok((new, start)) = build(plan, &mut self.pool, &mut self.ram) else {
+            return Err(NoFrames);
+        };
+        let Some(memory) = self.each[slot].take() else {
+            unreachable!();
+        };
+        hart.switch(new.root());
+        let Memory {
+            space: old,
+            trapframe,
+        } = memory;
+        old.drop_all(&mut self.pool, &mut self.ram);
+        self.each[slot] = Some(Memory {
+            space: new,
+            trapframe,
+        });
+        Ok(start)
+    }
+}
