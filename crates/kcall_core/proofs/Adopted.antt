@@ -99,7 +99,7 @@ module _ (k k' : Kernel) (f : Process → Process) (F : meaning.Process → mean
   all-changed : (h : Hart) (q : ℕ) → get (by_pid (entry_at k' h) NPROC) q ≡ option_map F (get (by_pid (entry_at k h) NPROC) q)
   all-changed h q = by_pid-each F (entry_at k h) (entry_at k' h) NPROC q (entry h)
 
-  changed-state : (h : Hart) (processes : FinMap nat_cmp meaning.Process) → ((q : ℕ) → option_map F (get (by_pid (entry_at k h) NPROC) q) ≡ get processes q) → state_of k' h ≡ record (state_of k h) { processes = processes }
+  pub changed-state : (h : Hart) (processes : FinMap nat_cmp meaning.Process) → ((q : ℕ) → option_map F (get (by_pid (entry_at k h) NPROC) q) ≡ get processes q) → state_of k' h ≡ record (state_of k h) { processes = processes }
   unfolding state_of
   changed-state h processes are =
       let same : by_pid (entry_at k' h) NPROC ≡ processes = same_map nat_cmp_total nat_cmp-IsAntisymmetric (by_pid (entry_at k' h) NPROC) processes (λ q. all-changed h q ∙ are q) in
@@ -128,7 +128,7 @@ module _ (k k' : Kernel) (f : Process → Process) (F : meaning.Process → mean
       by None is e = is
       by (Some x) is e = absurd (none-some (f x) (sym e))
 
-  changed-sound : (h : Hart) → IsSound k h → IsSound k' h
+  pub changed-sound : (h : Hart) → IsSound k h → IsSound k' h
   changed-sound h sound = subst (λ n. IsSound n h) (sym rest) (record {
     memories = sound.memories;
     table = subst IsTable (sym table) (table_each k.table f (map (option_map f) k.table.places) sound.table pids refl);
@@ -176,7 +176,7 @@ woken-status on x = by x.state
     by (Live_state marked call channel) = refl
     by (Zombie_state status) = refl
 
-same-all : {X : Type 0} (o : Option X) → option_map (λ x. x) o ≡ o
+pub same-all : {X : Type 0} (o : Option X) → option_map (λ x. x) o ≡ o
 same-all None = refl
 same-all (Some x) = refl
 

@@ -18,7 +18,7 @@ use Rattle.kcall_core.specs.Calls.{done, waits, with_a0, running}
 use Rattle.kcall_core.specs.Step.{own, unless_killed, going_on, after_instruction, call_begun}
 use Rattle.kcall_core.specs.Updates.{own_state, alone_state, with_answer, in_call, stepped, started}
 use Rattle.kcall_core.specs.Run.{StateAfter, FilesAfter}
-use Rattle.kcall_core.specs.RowLaws.{After, IsRunning, InstructionLaw, EcallLaw, ResumeLaw, EndLaw, AnswerLaw, WaitingLaw, ExecLaw, begun_live, begun_state}
+use Rattle.kcall_core.specs.RowLaws.{After, IsBetweenCalls, InstructionLaw, EcallLaw, ResumeLaw, EndLaw, AnswerLaw, WaitingLaw, ExecLaw, begun_live, begun_state}
 use Rattle.kcall_core.specs.Quiet.{file_at, pipe_at, pipe_of_file}
 use Rattle.kcall_core.proofs.Begun.{same_file_at, same_view_of, quiet_begun, ecall_own}
 use Rattle.kcall_core.proofs.Change.{alone, after_alone, view_alone, done_is, waits_is}
@@ -61,7 +61,7 @@ exec s p l c new was =
 
 -- ---- what a step begins with
 
-begins : (s : State) (p : ℕ) (l : Live) → IsRunning l → (st : Step) → instr l.regs (user l.image) ≡ st → own (view_of s p l) ≡ after_instruction (view_of s p l) st
+pub begins : (s : State) (p : ℕ) (l : Live) → IsBetweenCalls l → (st : Step) → instr l.regs (user l.image) ≡ st → own (view_of s p l) ≡ after_instruction (view_of s p l) st
 unfolding own view_of
 begins s p l runs st is = ap (unless_killed (view_of s p l)) runs.0 ∙ ap (going_on (view_of s p l)) runs.1 ∙ ap (after_instruction (view_of s p l)) is
 

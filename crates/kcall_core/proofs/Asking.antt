@@ -57,17 +57,23 @@ lowest-below : (texts : List (List ℕ)) (top : ℕ) → lowest top (text_places
 lowest-below [] top = omega arith
 lowest-below (text ∷ later) top = omega (arith, lowest-below later (down top (length text + 1)), length-append (text ++ 0 ∷ []) (terminated later), length-append text (0 ∷ []))
 
-texts-fit : (file : List ℕ) (header : Header) (texts : List (List ℕ)) (segments : List Segment) (l : Loaded) → with_texts file header texts segments ≡ Ok l → (l.pc % 4 ≡ 0) × (length (terminated texts) ≤ ARG_BYTES)
+-- each text takes a byte at least
+few : (texts : List (List ℕ)) → length texts ≤ length (terminated texts)
+few [] = omega arith
+few (text ∷ later) = omega (arith, few later, length-append (text ++ 0 ∷ []) (terminated later), length-append text (0 ∷ []))
+
+texts-fit : (file : List ℕ) (header : Header) (texts : List (List ℕ)) (segments : List Segment) (l : Loaded) → with_texts file header texts segments ≡ Ok l → (l.pc % 4 ≡ 0) × (length (terminated texts) ≤ ARG_BYTES) × (l.argc ≡ length texts)
 texts-fit file header texts segments l e =
     let s = page_up (end_after 0 segments) in
     let sp = stack_pointer (s + 8192) texts in
     let r = picked (nat_lt sp (s + 4096)) (record { image = program_image file segments texts; pc = aligned header.entry; sp = sp; argc = length texts }) l e in (
       sym (ap (λ (x : Loaded). x.pc % 4) r.1) ∙ omega arith,
       omega (arith, ltb-false sp (s + 4096) r.0, lowest-below texts (s + 8192)),
+      sym (ap (λ (x : Loaded). x.argc) r.1),
     )
 
 -- a program that is loaded starts at a multiple of 4, and its texts fit
-pub loaded-fits : (file : List ℕ) (texts : List (List ℕ)) (l : Loaded) → loaded file texts ≡ Ok l → (l.pc % 4 ≡ 0) × (length (terminated texts) ≤ ARG_BYTES)
+pub loaded-fits : (file : List ℕ) (texts : List (List ℕ)) (l : Loaded) → loaded file texts ≡ Ok l → (l.pc % 4 ≡ 0) × (length (terminated texts) ≤ ARG_BYTES) × (l.argc ≡ length texts)
 loaded-fits file texts l e =
     let header = bound (header_of file) (λ h. segments_of file h >>= with_texts file h texts) l e in
     let segments = bound (segments_of file header.0) (with_texts file header.0 texts) l header.2 in
@@ -113,3 +119,10 @@ asks-of programs image path pointers l e = by-name (text_at MAXPATH image path) 
     by-name : (n : Option (List ℕ)) → text_at MAXPATH image path ≡ n → (t : Option (List (List ℕ))) → texts_at MAXARG ARG_BYTES image pointers ≡ t → asked_path programs t n ≡ Some l → Asks programs image path pointers l
     by-name None n t is same = absurd (no-some l same)
     by-name (Some name) n t is same = by-program name n t is (program_named (no_slashes name) programs) refl same
+
+-- the texts of a program that is asked for are few
+pub asked-few : (programs : List ProgramFile) (image : Image) (path pointers : ℕ) (l : Loaded) → asked programs image path pointers ≡ Some l → l.argc ≤ ARG_BYTES
+asked-few programs image path pointers l is =
+    let a = asks-of programs image path pointers l is in
+    let f = loaded-fits a.program.bytes a.texts l a.loaded_is in
+    omega (arith, f.1, f.2, few a.texts)

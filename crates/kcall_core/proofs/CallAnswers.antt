@@ -1,99 +1,188 @@
--- A call that is answered at once, by the code and by the laws.
-use Rattle.std.proofs.Common.{◌≡◌, ℕ, ◌^◌, ◌-◌, ◌<◌, cond, Some, None, subst, inl, inr, refl, sym, ap, ◌∙◌}
-use Rattle.std.specs.Prelude.{ℤ, pos, Option}
-use Rattle.std.specs.FinMap.{FinMap, get, insert, same_map, nat_cmp-IsAntisymmetric}
-use Rattle.std.specs.Cmp.{nat_cmp_total}
-use Rattle.std.specs.Ordering.{nat_cmp}
-use Rattle.std.proofs.lemmas.Bool.{eq-eqb, cases_eq}
-use Rattle.rv64i_core.specs.Registers.{Registers, reg, with_pc, after}
-use Rattle.rv64i_core.specs.Step.{Ecall, instr}
-use Rattle.hart_core.specs.UserMemory.{user}
+-- What a call of the process that runs comes to: at its first step, and where it goes on.
+use Rattle.std.proofs.Common.{◌≡◌, ℕ, Bool, true, false, cond, not, ◌&&◌, ◌||◌, length, Option, Some, None, refl, sym, ap, ◌∙◌, subst}
+use Rattle.std.specs.Prelude.{ℤ, is_some}
+use Rattle.rv64i_core.specs.Registers.{reg, with_pc, after}
+use Rattle.rv64i_core.specs.Step.{Step, Ecall, instr}
 use Rattle.hart_core.specs.declared.hart.Hart.{Hart}
-use Rattle.proc_table.specs.Slots.{descriptors_at}
+use Rattle.hart_core.specs.UserMemory.{user}
 use Rattle.proc_table.specs.declared.process.Call.{Call}
-use Rattle.proc_table.specs.declared.process.Process.{Process}
-use Rattle.kcall_core.specs.Words.{A7, c_int, minus_one, is_this, word}
-use Rattle.kcall_core.specs.Processes.{Live, Alive}
+use Rattle.kcall_core.specs.Words.{A0, A1, A2, A7, c_int}
+use Rattle.kcall_core.specs.Processes.{Live}
 use Rattle.kcall_core.specs.State.{State}
-use Rattle.kcall_core.specs.View.{view_of}
+use Rattle.kcall_core.specs.View.{View, view_of}
 use Rattle.kcall_core.specs.Own.{Own}
-use Rattle.kcall_core.specs.Calls.{perform, done, with_a0, row_of}
-use Rattle.kcall_core.specs.Step.{own, call_begun}
-use Rattle.kcall_core.specs.Updates.{set_live, alone_state, with_answer}
+use Rattle.kcall_core.specs.Calls.{row_of, perform, done, refused}
+use Rattle.kcall_core.specs.Step.{own, call_begun, call_or_begun, call_in, begun}
+use Rattle.kcall_core.specs.Built.{is_built, is_ecall, is_unbuilt, perform_so_far, own_so_far}
+use Rattle.kcall_core.specs.Updates.{own_state, with_answer}
 use Rattle.kcall_core.specs.RowLaws as laws
-use Rattle.kcall_core.specs.RowLaws.{IsLive, After, begun_live, begun_state}
-use Rattle.kcall_core.specs.Holdings.{held_at}
-use Rattle.kcall_core.specs.Memories.{each_of}
-use Rattle.kcall_core.specs.Kernel.{process_of, live_of, by_status, or_nobody, state_of, IsSound, IsRunning, slot_now, place_now, pid_now, live_now}
+use Rattle.kcall_core.specs.RowLaws.{IsLive, begun_live, begun_state}
+use Rattle.kcall_core.specs.Kernel.{state_of, IsSound, IsRunning, pid_now, live_now}
+use Rattle.kcall_core.specs.Whole.{IsWhole}
+use Rattle.kcall_core.specs.Makes.{Makes, view_now, answer_of}
 use Rattle.kcall_core.specs.declared.kernel.Kernel.{Kernel}
-use Rattle.kcall_core.proofs.Maps.{get_same, get_other}
+use Rattle.kcall_core.specs.declared.call_end.CallEnd.{CallEnd}
+use Rattle.kcall_core.proofs.SetLive.{view-set_live}
 use Rattle.kcall_core.proofs.Alone as law
-use Rattle.kcall_core.proofs.Decoding.{is_getpid, is_none_of_them}
-use Rattle.kcall_core.proofs.States.{running}
-use Rattle.kcall_core.proofs.Observed.{entry-held}
-use Rattle.kcall_core.proofs.Answered.{answered-same}
+use Rattle.kcall_core.proofs.InCall.{calling, moved, is-in-call}
+use Rattle.kcall_core.proofs.Turned.{live-is}
+use Rattle.kcall_core.proofs.AloneMakes.{OnlyItself, only-pid, only-whole, answer-makes, begun-makes}
 
--- what is put in twice stands as it was put in last
-insert_twice : {X : Type 0} (m : FinMap nat_cmp X) (k : ℕ) (x y : X) → insert (insert m k x) k y ≡ insert m k y
-insert_twice m k x y = same_map nat_cmp_total nat_cmp-IsAntisymmetric (insert (insert m k x) k y) (insert m k y) (λ q. elim (cases_eq q k) [
-  | inl e ↦ ap (get (insert (insert m k x) k y)) e ∙ get_same (insert m k x) k y ∙ sym (ap (get (insert m k y)) e ∙ get_same m k y)
-  | inr apart ↦ get_other (insert m k x) k y q apart ∙ get_other m k x q apart ∙ sym (get_other m k y q apart)
-])
+-- ---- a step on a call, in this kernel
 
--- the process that runs is live in the state
-pub live-is : (k : Kernel) (h : Hart) → IsSound k h → IsRunning k → IsLive (state_of k h) (pid_now k) (live_now k h)
-live-is k h sound runs =
-    let r = running k h sound runs in
-    let i = slot_now k in
-    let p = r.is.process in
-    let files = descriptors_at k.table i in
-    let held = held_at (each_of k.memories) i in
-    let place : p ≡ place_now k = ap or_nobody (sym r.is.is) in
-    ap (λ (q : Process). get (state_of k h).processes q.pid) (sym place)
-    ∙ entry-held k h sound.table i p r.is.is
-    ∙ ap (λ b. Some (process_of p files held (cond b h.regs held.saved))) (ap (is_this i) r.current ∙ eq-eqb i i refl)
-    ∙ ap (λ o. Some (by_status p.parent (live_of p files held h.regs) o)) r.is.live
-    ∙ ap (λ (q : Process). Some (Alive (live_of q files held h.regs))) place
+-- its three parts: the kill mark, the call in progress, and the instruction at the pc
+abbrev step-on : View → Bool → Option Call → Step → Own
+step-on v killed call step =
+    cond (not killed && (is_some call || is_ecall step) && not (is_built (row_of (call_or_begun v call).number)))
+    (refused (call_or_begun v call) (cond (is_some call) v (begun v)))
+    (own v)
 
--- a call that is done at once, with this answer
-pub done-own : (s : State) (p : ℕ) (l : Live) (value : ℤ) → IsLive s p l → laws.IsRunning l → instr l.regs (user l.image) ≡ Ecall
-    → perform (call_begun (view_of s p l)) (view_of (begun_state p l s) p (begun_live s p l)) ≡ done (call_begun (view_of s p l)) value (view_of (begun_state p l s) p (begun_live s p l))
-    → After s p l (own (view_of s p l)) (set_live p (record l { regs = with_a0 (with_pc l.regs (after l.regs)) (word value) }) s)
+so-far : (v : View) → own_so_far v ≡ step-on v v.killed v.call (instr v.regs (user v.image))
+unfolding is_unbuilt
+so-far v = refl
+
+turned : {A : Type 0} (b : Bool) (x y : A) → cond (not b) x y ≡ cond b y x
+turned true x y = refl
+turned false x y = refl
+
+-- a call in progress goes on by its row
+pub resumed-so-far : (s : State) (p : ℕ) (l : Live) (c : Call) → l.killed ≡ false → l.call ≡ Some c → own_so_far (view_of s p l) ≡ perform_so_far c (view_of s p l)
 unfolding view_of
-done-own s p l value live runs is comes =
-    let begun = begun_live s p l in
-    let t = begun_state p l s in
-    let c = call_begun (view_of s p l) in
-    let regs = with_a0 (with_pc l.regs (after l.regs)) (word value) in
-    let law_ecall = law.ecall s p l live runs is in
-    let answered : After t p begun (done c value (view_of t p begun)) (alone_state p (with_answer value begun) s.console s.free t) =
-    law.answer t p begun c value l.image s.console s.free (get_same s.processes p (Alive begun)) in
-    let same : alone_state p (with_answer value begun) s.console s.free t ≡ set_live p (record l { regs = regs }) s =
-    (λ i. record s { processes = insert_twice s.processes p (Alive begun) (Alive (record l { regs = regs; call = None })) i })
-    ∙ ap (λ (o : Option Call). set_live p (record l { regs = regs; call = o }) s) (sym runs.1) in
-    subst (After s p l (own (view_of s p l))) same
-    (law_ecall.1 (own (view_of s p l)) (alone_state p (with_answer value begun) s.console s.free t)
-    (subst (λ (o : Own). After t p begun o (alone_state p (with_answer value begun) s.console s.free t)) (sym (law_ecall.0 ∙ comes)) answered))
+resumed-so-far s p l c unmarked busy =
+    let v = view_of s p l in
+    let step = instr l.regs (user l.image) in
+    let built = is_built (row_of c.number) in
+    so-far v
+    ∙ ap (λ killed. step-on v killed l.call step) unmarked
+    ∙ ap (λ call. step-on v false call step) busy
+    ∙ ap (λ o. cond (not built) (refused c v) o) (law.resume s p l c unmarked busy)
+    ∙ turned built (refused c v) (perform c v)
 
--- a hart with other registers, beside the same kernel
-pub answered-hart : (k : Kernel) (h h' : Hart) (regs : Registers) → IsSound k h → IsRunning k → h' ≡ record h { regs = regs } → IsSound k h' × (state_of k h' ≡ set_live (pid_now k) (record (live_now k h) { regs = regs }) (state_of k h))
-answered-hart k h h' regs sound runs e =
-    answered-same k k h h' regs sound runs (record { sound = sound.memories; each = refl; pipes = refl; free = refl; runs = λ slot hart r. r }) refl refl (record { files = refl; console = refl; programs = refl; clock = refl }) e
-
-module _ (s : State) (p : ℕ) (l : Live) (t : State) (value : ℕ) (live : IsLive s p l) (runs : laws.IsRunning l) (is : instr l.regs (user l.image) ≡ Ecall) (after_it : t ≡ set_live p (record l { regs = with_a0 (with_pc l.regs (after l.regs)) value }) s) where
-  told-own : (z : ℤ) → word z ≡ value → perform (call_begun (view_of s p l)) (view_of (begun_state p l s) p (begun_live s p l)) ≡ done (call_begun (view_of s p l)) z (view_of (begun_state p l s) p (begun_live s p l))
-      → After s p l (own (view_of s p l)) t
-  told-own z told comes =
-      subst (After s p l (own (view_of s p l))) (ap (λ n. set_live p (record l { regs = with_a0 (with_pc l.regs (after l.regs)) n }) s) told ∙ sym after_it) (done-own s p l z live runs is comes)
-
-  pub getpid-own : c_int (reg l.regs A7) ≡ pos 11 → word (pos p) ≡ value → After s p l (own (view_of s p l)) t
+module _ (s : State) (p : ℕ) (l : Live) (was : IsLive s p l) where
+  -- what the process sees once its call has begun
+  begun-view : view_of (begun_state p l s) p (begun_live s p l) ≡ begun (view_of s p l)
   unfolding view_of
-  getpid-own number told = told-own (pos p) told (is_getpid (call_begun (view_of s p l)) (view_of (begun_state p l s) p (begun_live s p l)) number)
+  begun-view = view-set_live s p l (begun_live s p l) was refl p (begun_live s p l)
 
-  pub nothing-own : row_of (c_int (reg l.regs A7)) ≡ None → value ≡ 2 ^ 64 - 1 → After s p l (own (view_of s p l)) t
+  -- an ECALL begins a call, which goes on by its row
+  pub begun-so-far : laws.IsBetweenCalls l → instr l.regs (user l.image) ≡ Ecall → own_so_far (view_of s p l) ≡ perform_so_far (call_begun (view_of s p l)) (view_of (begun_state p l s) p (begun_live s p l))
   unfolding view_of
-  nothing-own number told = told-own minus_one (sym told) (is_none_of_them (call_begun (view_of s p l)) (view_of (begun_state p l s) p (begun_live s p l)) number)
+  begun-so-far runs is =
+      let v = view_of s p l in
+      let c = call_begun v in
+      let seen = view_of (begun_state p l s) p (begun_live s p l) in
+      let built = is_built (row_of c.number) in
+      so-far v
+      ∙ ap (λ killed. step-on v killed l.call (instr l.regs (user l.image))) runs.0
+      ∙ ap (λ call. step-on v false call (instr l.regs (user l.image))) runs.1
+      ∙ ap (λ step. step-on v false None step) is
+      ∙ ap (λ w. cond (not built) (refused c w) (own v)) (sym begun-view)
+      ∙ ap (λ o. cond (not built) (refused c seen) o) (law.ecall s p l was runs is).0
+      ∙ turned built (refused c seen) (perform c seen)
 
--- a pid in a register
-pub word-small : (n : ℕ) → n < 2 ^ 32 → word (pos n) ≡ n
-word-small n lt = refl
+-- ---- a call that is done at once
+
+-- what `done` leaves of a kernel
+pub record IsDone (k : Kernel) (h : Hart) (value : ℤ) (k' : Kernel) (h' : Hart) : Type 0 where
+  pub sound : IsSound k' h'
+  pub kernel : k' ≡ calling None k
+  pub state : state_of k' h' ≡ own_state (pid_now k) (with_answer value (live_now k h)) (state_of k h)
+
+pub done-at-once : {k : Kernel} {h : Hart} {k' : Kernel} {h' : Hart} {value : ℤ} (c : Call) (told : ℤ) → value ≡ told → IsWhole k h → IsRunning k → IsDone k h value k' h' → Makes k h (done c told (view_now k h)) k' h'
+done-at-once {k} {h} {k'} {h'} {value} c told is whole runs x =
+    answer-makes k h k' h' c value (done c told (view_now k h)) whole runs (record {
+      sound = x.sound;
+      table = ap (λ (y : Kernel). y.table) x.kernel;
+      current = ap (λ (y : Kernel). y.current) x.kernel;
+      files = ap (λ (y : Kernel). y.files) x.kernel;
+      frames = ap (λ (y : Kernel). length y.memories.ram) x.kernel;
+      state = x.state;
+      paid = refl;
+    }) (ap (λ z. done c z (view_now k h)) (sym is))
+
+-- ---- a call that begins
+
+-- what `begin` leaves of a kernel
+pub record HasBegun (k : Kernel) (h : Hart) (c : Call) (k' : Kernel) (h' : Hart) : Type 0 where
+  pub sound : IsSound k' h'
+  pub kernel : k' ≡ calling (Some c) k
+  pub call : c ≡ call_begun (view_now k h)
+  pub live : live_now k' h' ≡ begun_live (state_of k h) (pid_now k) (live_now k h)
+  pub state : state_of k' h' ≡ begun_state (pid_now k) (live_now k h) (state_of k h)
+
+-- the call that the registers ask for
+abbrev asked : Kernel → Hart → Call
+asked k h = record { number = c_int (reg h.regs A7); a0 = reg h.regs A0; a1 = reg h.regs A1; a2 = reg h.regs A2; moved = 0; clock = k.clock }
+
+pub asked-begun : (k : Kernel) (h : Hart) (c : Call) → c ≡ asked k h → c ≡ call_begun (view_now k h)
+unfolding view_of state_of
+asked-begun k h c is = is
+
+pub has-begun : (k : Kernel) (h : Hart) (c : Call) (k' : Kernel) (h' : Hart) → IsSound k h → IsRunning k → k' ≡ calling (Some c) k → h' ≡ moved (with_pc h.regs (after h.regs)) h → c ≡ call_begun (view_now k h) → HasBegun k h c k' h'
+has-begun k h c k' h' sound runs kernel hart call =
+    let l = live_now k h in
+    let regs = with_pc h.regs (after h.regs) in
+    let x = is-in-call k h (Some c) regs k' h' sound runs kernel hart in
+    record {
+      sound = x.sound;
+      kernel = kernel;
+      call = call;
+      live = x.live ∙ ap (λ (d : Call). record l { regs = regs; call = Some d }) call;
+      state = x.state ∙ ap (λ (d : Call). own_state (pid_now k) (record l { regs = regs; call = Some d }) (state_of k h)) call;
+    }
+
+module _ {k : Kernel} {h : Hart} {c : Call} {k' : Kernel} {h' : Hart} (whole : IsWhole k h) (runs : IsRunning k) (x : HasBegun k h c k' h') where
+  begun-itself : OnlyItself k h k' h'
+  unfolding view_of
+  begun-itself = record {
+    regs = with_pc (live_now k h).regs (after (live_now k h).regs);
+    image = (live_now k h).image;
+    call = Some c;
+    free = (state_of k h).free;
+    sound = x.sound;
+    table = ap (λ (y : Kernel). y.table) x.kernel;
+    current = ap (λ (y : Kernel). y.current) x.kernel;
+    files = ap (λ (y : Kernel). y.files) x.kernel;
+    frames = ap (λ (y : Kernel). length y.memories.ram) x.kernel;
+    state = x.state ∙ ap (λ (d : Call). own_state (pid_now k) (record (live_now k h) { regs = with_pc (live_now k h).regs (after (live_now k h).regs); call = Some d }) (state_of k h)) (sym x.call);
+    paid = refl;
+  }
+
+  pub begun-whole : IsWhole k' h'
+  begun-whole = only-whole whole runs begun-itself
+
+  view-begun : view_now k' h' ≡ view_of (begun_state (pid_now k) (live_now k h) (state_of k h)) (pid_now k) (begun_live (state_of k h) (pid_now k) (live_now k h))
+  view-begun = let pid = only-pid whole runs begun-itself in λ i. view_of (x.state i) (pid i) (x.live i)
+
+  -- what the row of the call comes to is what the step comes to
+  pub begun-row : laws.IsBetweenCalls (live_now k h) → instr (live_now k h).regs (user (live_now k h).image) ≡ Ecall → perform_so_far c (view_now k' h') ≡ own_so_far (view_now k h)
+  begun-row unmarked is =
+      ap (λ (d : Call). perform_so_far d (view_now k' h')) x.call
+      ∙ ap (perform_so_far (call_begun (view_now k h))) view-begun
+      ∙ sym (begun-so-far (state_of k h) (pid_now k) (live_now k h) (live-is k h whole.sound runs) unmarked is)
+
+  pub begun-made : {k'' : Kernel} {h'' : Hart} → laws.IsBetweenCalls (live_now k h) → instr (live_now k h).regs (user (live_now k h).image) ≡ Ecall → Makes k' h' (perform_so_far c (view_now k' h')) k'' h'' → Makes k h (own_so_far (view_now k h)) k'' h''
+  begun-made {k''} {h''} unmarked is made =
+      begun-makes k h k' h' k'' h'' (own_so_far (view_now k h)) whole runs begun-itself x.state (subst (λ o. Makes k' h' o k'' h'') (begun-row unmarked is) made)
+
+  -- and it answers so
+  pub begun-answer : (end : CallEnd) → laws.IsBetweenCalls (live_now k h) → instr (live_now k h).regs (user (live_now k h).image) ≡ Ecall → (perform_so_far c (view_now k' h')).answer ≡ answer_of c.number end
+      → (own_so_far (view_now k h)).answer ≡ answer_of (call_in (view_now k h)).number end
+  unfolding view_of
+  begun-answer end unmarked is told =
+      ap (λ (o : Own). o.answer) (sym (begun-row unmarked is)) ∙ told
+      ∙ ap (λ (d : Call). answer_of d.number end) x.call
+      ∙ ap (λ (o : Option Call). answer_of (call_or_begun (view_now k h) o).number end) (sym unmarked.1)
+
+-- ---- a call that goes on
+
+module _ (k : Kernel) (h : Hart) {c : Call} (unmarked : (live_now k h).killed ≡ false) (busy : (live_now k h).call ≡ Some c) where
+  resumed-row : own_so_far (view_now k h) ≡ perform_so_far c (view_now k h)
+  resumed-row = resumed-so-far (state_of k h) (pid_now k) (live_now k h) c unmarked busy
+
+  pub resumed-made : {k' : Kernel} {h' : Hart} → Makes k h (perform_so_far c (view_now k h)) k' h' → Makes k h (own_so_far (view_now k h)) k' h'
+  resumed-made {k'} {h'} = subst (λ o. Makes k h o k' h') (sym resumed-row)
+
+  pub resumed-answer : (end : CallEnd) → (perform_so_far c (view_now k h)).answer ≡ answer_of c.number end → (own_so_far (view_now k h)).answer ≡ answer_of (call_in (view_now k h)).number end
+  unfolding view_of
+  resumed-answer end told = ap (λ (o : Own). o.answer) resumed-row ∙ told ∙ ap (λ (o : Option Call). answer_of (call_or_begun (view_now k h) o).number end) (sym busy)

@@ -1,10 +1,13 @@
 -- No step shows a byte that another process left in a page.
 use Rattle.std.proofs.Common.{◌≡◌, ◌≢◌, ℕ, zero, suc, ◌+◌, ◌-◌, ◌/◌, ◌%◌, ◌++◌, Bool, true, false, cond, not, ◌&&◌, ◌||◌, List, [], ◌∷◌, length, refl, ap, sym, ◌∙◌, inl, inr, ◌⊎◌, replicate, take, drop}
 use Rattle.std.specs.Prelude.{Option, None, Some, ℤ, pos, negsuc, nat_eq, nat_lt, nat_le, is_some, slice_get, Result, Ok, Err}
-use Rattle.std.specs.FinMap.{FinMap, get, insert, contains_key, get-retain_keys, nat_cmp-IsAntisymmetric}
+use Rattle.std.specs.FinMap.{FinMap, get, insert}
 use Rattle.std.specs.Ordering.{nat_cmp}
 use Rattle.std.proofs.lemmas.Bool.Decides.{eqb_tells}
 use Rattle.xk_base.specs.Image.{Image, Page, price, page_count}
+use Rattle.phys_ram.specs.Ram.{zero_frame}
+use Rattle.addr_space.specs.Changes.{zeroed, with_absent}
+use Rattle.sv39_core.proofs.Gathered.{gathered-get}
 use Rattle.rv64i_core.specs.Memory.{Store}
 use Rattle.xk_base.specs.Loaded.{Loaded, loaded}
 use Rattle.xk_base.specs.declared.errors.ExecError.{ExecError}
@@ -12,7 +15,7 @@ use Rattle.rv64i_core.specs.Step.{Step, Next, Ecall, Fault, instr}
 use Rattle.hart_core.specs.UserMemory.{write_image as with_store, written_page, write_pages, user}
 use Rattle.xk_base.specs.declared.limits.TheConstants.{SIZE_LIMIT, MAXARG, ARG_BYTES, MAXPATH}
 use Rattle.kcall_core.specs.Words.{CLOCK_ROUND, minus_one, c_int}
-use Rattle.kcall_core.specs.Buffers.{readable, writable, text_at, texts_at, no_slashes, with_pages, or_zero_page, zero_page, grown, shrunk}
+use Rattle.kcall_core.specs.Buffers.{readable, writable, text_at, texts_at, no_slashes, data_rights, grown, shrunk}
 use Rattle.xk_base.specs.Bytes.{write_image}
 use Rattle.proc_table.specs.declared.process.Call.{Call}
 use Rattle.kcall_core.specs.View.{View, Descriptor, Shown, Shown_terminal, Shown_file, Shown_pipe}
@@ -74,39 +77,27 @@ store_absent i st q absent = insert_absent i.pages (st.address / 4096) (get i.pa
 
 -- ---- growing
 
-page_stays : (b : Bool) (page : ℕ) (m : FinMap nat_cmp Page) (q : ℕ) (y : Page) → contains_key m page ≡ b → get m q ≡ Some y → get (or_zero_page b page m) q ≡ Some y
-page_stays true page m q y e is = is
-page_stays false page m q y e is = get_other m page zero_page q apart ∙ is
-  where
-    apart : q ≢ page
-    apart h = let t : contains_key m page ≡ true = ap is_some (ap (get m) (sym h) ∙ is) in let no : ⊥ = cc in no
-
-pages_stay : (n page : ℕ) (m : FinMap nat_cmp Page) (q : ℕ) (y : Page) → get m q ≡ Some y → get (with_pages n page m) q ≡ Some y
-unfolding with_pages
-pages_stay zero page m q y is = is
-pages_stay (suc n) page m q y is = pages_stay n (page + 1) (or_zero_page (contains_key m page) page m) q y (page_stays (contains_key m page) page m q y refl is)
-
-new_page : (b : Bool) (page : ℕ) (m : FinMap nat_cmp Page) (q : ℕ) → get m q ≡ None → (get (or_zero_page b page m) q ≡ None) ⊎ (get (or_zero_page b page m) q ≡ Some zero_page)
-new_page true page m q is = inl is
-new_page false page m q is = elim (eqb_tells q page) [
-  | inl h ↦ inr (ap (get (insert m page zero_page)) h.1 ∙ get_same m page zero_page)
-  | inr h ↦ inl (get_other m page zero_page q h.1 ∙ is)
+added : (b : Bool) (m : FinMap nat_cmp Page) (v : ℕ) (page : Page) (q : ℕ) (x : Page) → get (cond b m (insert m v page)) q ≡ Some x → (get m q ≡ Some x) ⊎ (x ≡ page)
+added true m v page q x is = inl is
+added false m v page q x is = elim (eqb_tells q v) [
+  | inl h ↦ inr (some_page x page (sym is ∙ ap (get (insert m v page)) h.1 ∙ get_same m v page))
+  | inr h ↦ inl (sym (get_other m v page q h.1) ∙ is)
 ]
 
-grown_zero : (n page : ℕ) (m : FinMap nat_cmp Page) (q : ℕ) (x : Page) → get m q ≡ None → get (with_pages n page m) q ≡ Some x → x ≡ zero_page
-unfolding with_pages
-grown_zero zero page m q x none is = let no : ⊥ = cc in absurd no
-grown_zero (suc n) page m q x none is = elim (new_page (contains_key m page) page m q none) [
-  | inl still ↦ grown_zero n (page + 1) (or_zero_page (contains_key m page) page m) q x still is
-  | inr new ↦ some_page x zero_page (sym is ∙ pages_stay n (page + 1) (or_zero_page (contains_key m page) page m) q zero_page new)
+grown_page : (m : FinMap nat_cmp Page) (first n : ℕ) (page : Page) (q : ℕ) (x : Page) → get m q ≡ None → get (with_absent m first n page) q ≡ Some x → x ≡ page
+unfolding with_absent
+grown_page m first zero page q x none is = let no : ⊥ = cc in absurd no
+grown_page m first (suc n) page q x none is = elim (added (is_some (get (with_absent m first n page) (first + n))) (with_absent m first n page) (first + n) page q x is) [
+  | inl before ↦ grown_page m first n page q x none before
+  | inr new ↦ new
 ]
 
-zeros : zero_page.bytes ≡ replicate 4096 0
-unfolding zero_page
+zeros : (zeroed data_rights).bytes ≡ replicate 4096 0
+unfolding zero_frame
 zeros = refl
 
 pub grown_clean : (i : Image) (size : ℕ) → NewPagesZero i (grown i size)
-grown_clean i size page x none is = ap (λ (y : Page). y.bytes) (grown_zero (page_count size - page_count i.size) (page_count i.size) i.pages page x none is) ∙ zeros
+grown_clean i size page x none is = ap (λ (y : Page). y.bytes) (grown_page i.pages (page_count i.size) (page_count size - page_count i.size) (zeroed data_rights) page x none is) ∙ zeros
 
 -- ---- a step whose next view has no page more
 
@@ -150,7 +141,7 @@ clean_shrink c v size = clean_view c v _ (λ page none. shrunk_none page none) (
     cut false o e = refl
 
     shrunk_none : (page : ℕ) → get v.image.pages page ≡ None → get (shrunk v.image size).pages page ≡ None
-    shrunk_none page none = get-retain_keys v.image.pages (λ k. nat_lt k (page_count size)) page (λ x e. ap (λ (k : ℕ). nat_lt k (page_count size)) (sym (nat_cmp-IsAntisymmetric page x e))) ∙ cut (nat_lt page (page_count size)) (get v.image.pages page) none
+    shrunk_none page none = gathered-get (get v.image.pages) (page_count size) page ∙ cut (nat_lt page (page_count size)) (get v.image.pages page) none
 
 module _ (c : Call) (v : View) (row : row_of c.number ≡ Some Exec) (path : List ℕ) (texts : List (List ℕ)) (p : ProgramFile) (read : text_at MAXPATH v.image c.a0 ≡ Some path) (found : program_named (no_slashes path) v.programs ≡ Some p) (given : texts_at MAXARG ARG_BYTES v.image c.a1 ≡ Some texts) where
   loaded_row : (l : Loaded) → loaded p.bytes texts ≡ Ok l → (b : Bool) → Clean c v (unless b c v (λ _. done c (pos l.argc) (running l v)))

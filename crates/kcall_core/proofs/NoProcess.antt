@@ -30,7 +30,7 @@ no-one = None
 nobody : (i : ℕ) → place_at (no_process 1) i ≡ None
 nobody i = get_or-same None NPROC i
 
-none-by-pid : {X : Type 0} (f : ℕ → Option (ℕ × X)) (n : ℕ) → ((i : ℕ) → f i ≡ None) → by_pid f n ≡ empty
+pub none-by-pid : {X : Type 0} (f : ℕ → Option (ℕ × X)) (n : ℕ) → ((i : ℕ) → f i ≡ None) → by_pid f n ≡ empty
 unfolding by_pid
 none-by-pid f zero none = refl
 none-by-pid f (suc n) none = ap (put (by_pid f n)) (none n) ∙ none-by-pid f n none

@@ -142,6 +142,7 @@ pipe-changes old new f b sound inside traded is each pipes =
         cost-count (keeps_pipe old.pipes.items f) (pipe_in old.ram f),
         ap pipe_cost (gathered-get (pipe_at old.ram old.pipes.items) FRAMES_MAX f ∙ ap (λ k. cond k (pipe_at old.ram old.pipes.items f) None) (ltb-yes f FRAMES_MAX small)),
       );
+      frames = traded.count;
       runs = λ j hart r. record {
         memory = r.memory;
         is = ap (λ l. get_or l j None) each ∙ r.is;

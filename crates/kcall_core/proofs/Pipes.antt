@@ -129,7 +129,7 @@ view-set_pipe s i k x p l is = λ j. record (view_of s p l) { descriptors = (ap 
 
 -- ---- a read from a pipe that has bytes
 
-least_there : (t : Table) (i d : ℕ) → d < NOFILE → pipe_name (t d) ≡ Some i → (k : Option ℕ) → least_on_pipe t i ≡ k → is_some k ≡ true
+pub least_there : (t : Table) (i d : ℕ) → d < NOFILE → pipe_name (t d) ≡ Some i → (k : Option ℕ) → least_on_pipe t i ≡ k → is_some k ≡ true
 least_there t i d below on None e =
     let no_pass : is_this i (pipe_name (t d)) ≡ false = none_passes NOFILE (λ x. is_this i (pipe_name (t x))) e d below in
     let pass : is_this i (pipe_name (t d)) ≡ true = ap (is_this i) on ∙ eq-eqb i i refl in

@@ -163,7 +163,7 @@ entered-state k k' h h' i p sound stopped is regs memories table current rest =
 
 -- ---- ended
 
-read-some : {X : Type 0} (xs : List (Option X)) (i : ℕ) (x : X) → get_or xs i None ≡ Some x → get_or xs i (Some x) ≡ Some x
+pub read-some : {X : Type 0} (xs : List (Option X)) (i : ℕ) (x : X) → get_or xs i None ≡ Some x → get_or xs i (Some x) ≡ Some x
 read-some [] i x e = refl
 read-some (y ∷ ys) zero x e = e
 read-some (y ∷ ys) (suc i) x e = read-some ys i x e

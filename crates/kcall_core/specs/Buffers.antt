@@ -1,12 +1,12 @@
 -- What the kernel reads from a process's memory, what it writes to it, and how memory grows and shrinks
 -- (the xv6 book, "Code: exec", "Code: System call arguments", and "Code: sbrk" for growth).
 -- The kernel reads where user code may read, and writes where user code may write.
-use Rattle.std.specs.Prelude.{ℕ, zero, suc, ◌+◌, ◌-◌, Bool, true, false, cond, List, [], ◌∷◌, replicate, Option, None, Some, nat_eq, nat_lt, option_map}
-use Rattle.std.specs.FinMap.{FinMap, contains_key, insert, retain_keys}
-use Rattle.std.specs.Ordering.{nat_cmp}
+use Rattle.std.specs.Prelude.{ℕ, zero, suc, ◌+◌, Bool, true, false, cond, List, [], ◌∷◌, Option, None, Some, nat_eq, option_map}
 use Rattle.xk_base.specs.Words.{le}
-use Rattle.xk_base.specs.Image.{Page, Image, page_count}
+use Rattle.xk_base.specs.Image.{Image}
 use Rattle.xk_base.specs.Bytes.{image_bytes}
+use Rattle.xk_base.specs.declared.access.Rights.{Rights}
+use Rattle.addr_space.specs.Changes.{grown as grown_with, shrunk as shrunk_to}
 use Rattle.rv64i_core.specs.Memory.{Cell}
 use Rattle.hart_core.specs.UserMemory.{user}
 use Rattle.kcall_core.specs.Words.{all_below}
@@ -67,23 +67,14 @@ no_slashes (b ∷ bs) = cond (nat_eq b 47) (no_slashes bs) (b ∷ bs)
 
 -- ---- a larger and a smaller size
 
--- a page that a process has grown by: it may be read and written, and holds zeros
-unfoldable pub zero_page : Page
-zero_page = record { perm = record { read = true; write = true; execute = false; user = true }; bytes = replicate 4096 0 }
+-- what a process may do with the pages that it grows by
+abbrev pub data_rights : Rights
+data_rights = record { read = true; write = true; execute = false; user = true }
 
-abbrev pub or_zero_page : Bool → ℕ → FinMap nat_cmp Page → FinMap nat_cmp Page
-or_zero_page true page m = m
-or_zero_page false page m = insert m page zero_page
-
--- the n pages from `page` on are there, as they were or else with zeros
-unfoldable pub with_pages : (n : ℕ) (page : ℕ) → FinMap nat_cmp Page → FinMap nat_cmp Page
-with_pages zero page m = m
-with_pages (suc n) page m = with_pages n (page + 1) (or_zero_page (contains_key m page) page m)
-
--- the image at a larger size: all pages that the larger size needs and the smaller one did not are there
+-- the image at a larger size: the pages that the larger size needs and the smaller one did not are there, with zeros where there were none
 abbrev pub grown : Image → ℕ → Image
-grown i size = record { pages = with_pages (page_count size - page_count i.size) (page_count i.size) i.pages; size = size }
+grown i size = grown_with i size data_rights
 
 -- the image at a smaller size: the pages that it doesn't need are gone, and a page that it ends in keeps its bytes
 abbrev pub shrunk : Image → ℕ → Image
-shrunk i size = record { pages = retain_keys i.pages (λ page. nat_lt page (page_count size)); size = size }
+shrunk i size = shrunk_to i size

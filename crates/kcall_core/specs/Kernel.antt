@@ -1,11 +1,10 @@
 -- The state that the kernel and its hart stand for, and when the two are sound.
-use Rattle.std.specs.Prelude.{◌≡◌, ℕ, suc, ◌+◌, ◌-◌, nat_le, nat_lt, ℤ, pos, negsuc, true, false, cond, List, map, Option, Some, None, IsSome, get_or}
+use Rattle.std.specs.Prelude.{◌≡◌, ℕ, suc, ◌+◌, ◌-◌, ◌<◌, nat_le, nat_lt, ℤ, pos, negsuc, cond, List, map, length, Option, Some, None, IsSome, get_or}
 use Rattle.std.specs.Ordering.{nat_cmp}
 use Rattle.std.specs.FinMap.{FinMap}
 use Rattle.xk_base.specs.Gathered.{gathered}
 use Rattle.xk_base.specs.declared.limits.TheConstants.{NPROC, NOFILE, OPEN_FILES, SIZE_LIMIT}
 use Rattle.xk_base.specs.Image.{Image, price}
-use Rattle.xk_base.specs.declared.access.Rights.{Rights}
 use Rattle.rv64i_core.specs.Registers.{Registers}
 use Rattle.hart_core.specs.Translations.{nothing_kept}
 use Rattle.hart_core.specs.declared.hart.Hart.{Hart}
@@ -14,10 +13,10 @@ use Rattle.proc_table.specs.Processes.{status_of, is_marked, call_of, newborn}
 use Rattle.proc_table.specs.Slots.{place_at, descriptors_at, IsTable}
 use Rattle.proc_table.specs.declared.process.Process.{Process}
 use Rattle.kcall_core.specs.Words.{is_this}
+use Rattle.kcall_core.specs.Buffers.{grown, shrunk}
 use Rattle.kcall_core.specs.Processes as meaning
 use Rattle.kcall_core.specs.Processes.{Live, Alive, Zombie}
 use Rattle.kcall_core.specs.State.{State, named_file}
-use Rattle.kcall_core.specs.Calls.{with_a0}
 use Rattle.kcall_core.specs.Updates.{set_live}
 use Rattle.kcall_core.specs.ByPid.{by_pid}
 use Rattle.kcall_core.specs.Holdings.{Held, held_at, HasMemory}
@@ -75,11 +74,19 @@ state_of k h = record {
   programs = map named_file k.programs.items;
 }
 
+-- how many frames RAM has
+abbrev pub frame_count : Kernel → ℕ
+frame_count k = length k.memories.ram
+
 -- ---- the process that runs
 
 -- a process runs
 abbrev pub IsRunning : Kernel → Type 0
 IsRunning k = IsSome k.current
+
+-- none does
+abbrev pub IsStopped : Kernel → Type 0
+IsStopped k = k.current ≡ None
 
 abbrev pub or_zero : Option ℕ → ℕ
 or_zero None = 0
@@ -105,6 +112,10 @@ live_now k h = live_of (place_now k) (descriptors_at k.table (slot_now k)) (held
 
 -- ---- soundness
 
+-- the hart uses no tables, and keeps nothing of any
+abbrev pub IsIdle : Hart → Type 0
+IsIdle h = (h.root ≡ None) × (h.cache ≡ nothing_kept)
+
 -- the process in a slot is live, and the hart runs it
 pub record IsCurrent (k : Kernel) (h : Hart) (slot : ℕ) : Type 0 where
   pub process : Process
@@ -120,13 +131,9 @@ pub record IsSound (k : Kernel) (h : Hart) : Type 0 where
   pub ended : (slot : ℕ) (p : Process) (status : ℤ) → place_at k.table slot ≡ Some p → status_of p ≡ Some status → get_or (each_of k.memories) slot None ≡ None
   pub vacant : (slot : ℕ) → place_at k.table slot ≡ None → get_or (each_of k.memories) slot None ≡ None
   pub current : (slot : ℕ) → k.current ≡ Some slot → IsCurrent k h slot
-  pub idle : k.current ≡ None → (h.root ≡ None) × (h.cache ≡ nothing_kept)
+  pub idle : IsStopped k → IsIdle h
 
 -- ---- growth
-
--- what a process may do with the pages that it grows by
-abbrev pub data_rights : Rights
-data_rights = record { read = true; write = true; execute = false; user = true }
 
 -- t is u but for the free frames: of those that s had, the image that came after took what it costs more than the one before
 pub record IsRepriced (s : State) (before after : Image) (u t : State) : Type 0 where
@@ -140,8 +147,18 @@ abbrev pub resized : ℕ → ℤ → Option ℕ
 resized size (pos n) = cond (nat_le (size + n) SIZE_LIMIT) (Some (size + n)) None
 resized size (negsuc k) = cond (nat_lt k size) (Some (size - suc k)) None
 
--- the process that ran has this image now, and the size that it had in a0
-abbrev pub IsResized : Kernel → Hart → Kernel → Hart → Image → Type 0
-IsResized k h k' h' image =
-    let live = live_now k h in
-    IsRepriced (state_of k h) live.image image (set_live (pid_now k) (record live { image = image; regs = with_a0 live.regs live.image.size }) (state_of k h)) (state_of k' h')
+-- the image at another size
+abbrev pub at_size : Image → ℕ → Image
+at_size image size = cond (nat_lt size image.size) (shrunk image size) (grown image size)
+
+-- the image that comes after costs more than the one before and the free frames
+abbrev pub IsTooDear : Kernel → Image → Image → Type 0
+IsTooDear k before after = price before + free_of k.memories < price after
+
+-- The process that runs has this image now: of the free frames it took what the image costs more, and nothing else is another
+pub record HasImage (k : Kernel) (h : Hart) (image : Image) (k' : Kernel) (h' : Hart) : Type 0 where
+  pub sound : IsSound k' h'
+  pub kernel : k' ≡ record k { memories = k'.memories }
+  pub live : live_now k' h' ≡ record (live_now k h) { image = image }
+  pub state : IsRepriced (state_of k h) (live_now k h).image image (set_live (pid_now k) (record (live_now k h) { image = image }) (state_of k h)) (state_of k' h')
+  pub frames : frame_count k' ≡ frame_count k

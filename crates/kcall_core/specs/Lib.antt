@@ -29,3 +29,8 @@ pub mod Starts
 pub mod NewKernel
 pub mod Observers
 pub mod Execs
+pub mod Machine
+pub mod Whole
+pub mod Makes
+pub mod Built
+pub mod Closings

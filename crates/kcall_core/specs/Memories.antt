@@ -108,6 +108,7 @@ pub record SlotChanges (old new : Memories) (slot : ℕ) (after : Option Held) :
   pub each : each_of new ≡ set (each_of old) slot after
   pub pipes : pipes_of new ≡ pipes_of old
   pub free : free_of new + cost after ≡ free_of old + cost (get_or (each_of old) slot None)
+  pub frames : length new.ram ≡ length old.ram
   pub runs : (other : ℕ) (hart : Hart) → other ≢ slot → RunsIn old other hart → RunsIn new other hart
 
 -- the pipe that a frame keeps is another, or it keeps none: all memories, all other pipes and each hart stay, no frame is lost
@@ -116,6 +117,7 @@ pub record PipeChanges (old new : Memories) (f : ℕ) (after : Option Pipe) : Ty
   pub each : each_of new ≡ each_of old
   pub pipes : pipes_of new ≡ with_pipe f after (pipes_of old)
   pub free : free_of new + pipe_cost after ≡ free_of old + pipe_cost (get (pipes_of old) f)
+  pub frames : length new.ram ≡ length old.ram
   pub runs : (slot : ℕ) (hart : Hart) → RunsIn old slot hart → RunsIn new slot hart
 
 -- nothing that can be seen is another
@@ -124,6 +126,7 @@ pub record Same (old new : Memories) : Type 0 where
   pub each : each_of new ≡ each_of old
   pub pipes : pipes_of new ≡ pipes_of old
   pub free : free_of new ≡ free_of old
+  pub frames : length new.ram ≡ length old.ram
   pub runs : (slot : ℕ) (hart : Hart) → RunsIn old slot hart → RunsIn new slot hart
 
 -- ---- one instruction

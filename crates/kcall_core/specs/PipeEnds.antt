@@ -13,6 +13,11 @@ there p n = min n (length p.bytes)
 abbrev pub fit : Pipe → ℕ → ℕ
 fit p n = min n (PIPE_BYTES - length p.bytes)
 
+-- how many descriptors are on an end
+abbrev pub count_on : End → Pipe → ℕ
+count_on Reading p = p.readers
+count_on Writing p = p.writers
+
 -- n descriptors more on an end
 abbrev pub joined : Pipe → End → ℕ → Pipe
 joined p Reading n = record p { readers = p.readers + n }

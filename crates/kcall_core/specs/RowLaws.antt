@@ -44,9 +44,9 @@ IsLive s p l = get s.processes p ≡ Some (Alive l)
 abbrev pub After : State → ℕ → Live → Own → State → Type 0
 After s p l o t = StateAfter s (view_of s p l) o t
 
--- it runs: it isn't marked, and in no call
-abbrev pub IsRunning : Live → Type 0
-IsRunning l = (l.killed ≡ false) × (l.call ≡ None)
+-- its next step is an instruction: it isn't marked, and it is in no call
+abbrev pub IsBetweenCalls : Live → Type 0
+IsBetweenCalls l = (l.killed ≡ false) × (l.call ≡ None)
 
 -- ---- what a step begins with
 
@@ -54,7 +54,7 @@ IsRunning l = (l.killed ≡ false) × (l.call ≡ None)
 abbrev pub InstructionLaw : Type 0
 InstructionLaw =
     (s : State) (p : ℕ) (l : Live) (r : Registers) (st : Option Store)
-    → IsLive s p l → IsRunning l → instr l.regs (user l.image) ≡ Next r st
+    → IsLive s p l → IsBetweenCalls l → instr l.regs (user l.image) ≡ Next r st
     → After s p l (own (view_of s p l)) (own_state p (stepped r st l) s)
 
 -- past its ECALL, with the call in progress
@@ -67,7 +67,7 @@ begun_state p l s = own_state p (begun_live s p l) s
 -- an ECALL: the call is begun, and its row is done in the same step
 abbrev pub EcallLaw : Type 0
 EcallLaw =
-    (s : State) (p : ℕ) (l : Live) → IsLive s p l → IsRunning l → instr l.regs (user l.image) ≡ Ecall
+    (s : State) (p : ℕ) (l : Live) → IsLive s p l → IsBetweenCalls l → instr l.regs (user l.image) ≡ Ecall
     → (own (view_of s p l) ≡ perform (call_begun (view_of s p l)) (view_of (begun_state p l s) p (begun_live s p l)))
     × ((o : Own) (t : State) → After (begun_state p l s) p (begun_live s p l) o t → After s p l o t)
 
@@ -80,7 +80,7 @@ abbrev pub EndLaw : Type 0
 EndLaw =
     (s : State) (p : ℕ) (l : Live)
     → (l.killed ≡ true → own (view_of s p l) ≡ gone (Exited minus_one) (view_of s p l))
-    × ((cause : Cause) → IsRunning l → instr l.regs (user l.image) ≡ Fault cause → own (view_of s p l) ≡ gone (Faulted cause) (view_of s p l))
+    × ((cause : Cause) → IsBetweenCalls l → instr l.regs (user l.image) ≡ Fault cause → own (view_of s p l) ≡ gone (Faulted cause) (view_of s p l))
 
 -- ---- rows that change only the process, the console and the free frames: all refusals, getpid, uptime, sleep, sbrk, reads and writes of the console and of nothing, and a wait that waits
 

@@ -1,20 +1,30 @@
 -- The first process: what it is made of, and when it can't be made.
-use Rattle.std.specs.Prelude.{◌≡◌, ℕ, ◌+◌, ◌-◌, cond, [], ◌∷◌, Option, None, Some, Result, Ok, Err, nat_lt}
-use Rattle.std.specs.FinMap.{insert}
+use Rattle.std.specs.Prelude.{◌≡◌, ℕ, ◌+◌, cond, [], ◌∷◌, Option, None, Some, Result, Ok, Err, nat_lt}
+use Rattle.std.specs.FinMap.{empty}
 use Rattle.xk_base.specs.declared.errors.ExecError.{ExecError}
 use Rattle.xk_base.specs.declared.errors.ExecError.TheVariants.{NoFrames}
 use Rattle.xk_base.specs.Image.{price}
 use Rattle.xk_base.specs.Loaded.{Loaded, loaded}
+use Rattle.console_core.specs.Lists.{empty_console}
+use Rattle.file_table.specs.OpenFiles.{none_open}
 use Rattle.proc_table.specs.Slots.{no_process}
 use Rattle.kcall_core.specs.Programs.{init_name, init_of, program_bytes}
-use Rattle.kcall_core.specs.Processes.{Alive}
 use Rattle.kcall_core.specs.State.{State}
-use Rattle.kcall_core.specs.First.{first_process}
+use Rattle.kcall_core.specs.First.{first_state, first_turns}
+use Rattle.kcall_core.specs.Run.{World}
+use Rattle.kcall_core.specs.Memories.{pipes_of, free_of}
+use Rattle.kcall_core.specs.Kernel.{frame_count, IsStopped}
 use Rattle.kcall_core.specs.declared.kernel.Kernel.{Kernel}
 
--- no process was ever made
-abbrev pub IsBlank : Kernel → Type 0
-IsBlank k = (k.table ≡ no_process 1) × (k.current ≡ None)
+-- a kernel as it is made: no process, no open file and no pipe yet, nothing typed and no tick, and all frames of RAM are free
+pub record IsBlank (k : Kernel) : Type 0 where
+  pub table : k.table ≡ no_process 1
+  pub current : IsStopped k
+  pub files : k.files ≡ none_open
+  pub pipes : pipes_of k.memories ≡ empty
+  pub console : k.console ≡ empty_console
+  pub clock : k.clock ≡ 0
+  pub free : free_of k.memories ≡ frame_count k
 
 -- the program `init` with its name as the one text
 abbrev pub init_loaded : State → Result Loaded ExecError
@@ -25,10 +35,6 @@ abbrev pub start_refusal : (free : ℕ) → Result Loaded ExecError → Option E
 start_refusal free (Err e) = Some e
 start_refusal free (Ok l) = cond (nat_lt free (price l.image + 1)) (Some NoFrames) None
 
--- pid 1 is there, and its frames are taken
-abbrev pub started_state : Loaded → State → State
-started_state l s = record s {
-  processes = insert s.processes 1 (Alive (first_process l));
-  next_pid = 2;
-  free = s.free - price l.image - 1;
-}
+-- the world after: pid 1 has the frames that it costs, and the first turn
+abbrev pub started_world : Loaded → State → World
+started_world l s = record { state = first_state s.free s.programs l; turns = first_turns }

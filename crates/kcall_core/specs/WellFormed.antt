@@ -1,22 +1,21 @@
 -- What holds of every state that the machine can be in.
-use Rattle.std.specs.Prelude.{◌≡◌, ◌≢◌, ℕ, zero, suc, ◌+◌, ◌%◌, ◌^◌, ◌<◌, ◌≤◌, ◌⊎◌, ℤ, pos, All, false, Option, None, Some, IsSome, length}
+use Rattle.std.specs.Prelude.{◌≡◌, ◌≢◌, ℕ, zero, suc, ◌+◌, ◌<◌, ◌≤◌, ◌⊎◌, false, Option, None, Some, IsSome, length}
 use Rattle.std.specs.FinMap.{get, len}
-use Rattle.xk_base.specs.declared.limits.TheConstants.{NOFILE, NPROC, PID_MAX, VPN_END, PIPE_BYTES, CONSOLE_BYTES, SEND_BYTES}
-use Rattle.xk_base.specs.Image.{Page, price}
+use Rattle.xk_base.specs.declared.limits.TheConstants.{NOFILE, NPROC, PIPE_BYTES, CONSOLE_BYTES, SEND_BYTES}
+use Rattle.xk_base.specs.Image.{price}
 use Rattle.pipe_core.specs.Pipe.{Pipe}
 use Rattle.file_table.specs.declared.open_file.End.{End}
 use Rattle.file_table.specs.declared.open_file.End.TheVariants.{Reading, Writing}
 use Rattle.file_table.specs.declared.open_file.OpenFile.{OpenFile}
 use Rattle.file_table.specs.declared.open_file.Target.TheVariants.{Pipe as Pipe_end}
 use Rattle.kcall_core.specs.PipeEnds.{is_given_up}
-use Rattle.kcall_core.specs.Processes.{Process, Live, Alive, Zombie}
+use Rattle.kcall_core.specs.Processes.{Process, Alive, Zombie}
 use Rattle.kcall_core.specs.State.{State, live}
 use Rattle.kcall_core.specs.View.{numbered}
 use Rattle.kcall_core.specs.Tables.{ends}
 use Rattle.kcall_core.specs.Quiet.{file_at}
 use Rattle.kcall_core.specs.Updates.{parent_of}
 use Rattle.kcall_core.specs.Turns.{Turns, HasSlot, Sleeps}
-use Rattle.proc_table.specs.declared.process.Call.{Call}
 
 -- f 0 + f 1 + .. + f (n - 1)
 unfoldable pub sum_below : ℕ → (ℕ → ℕ) → ℕ
@@ -67,26 +66,7 @@ pub record WellFormed (frames : ℕ) (s : State) : Type 0 where
   pub keys : length s.console.committed + length s.console.uncommitted ≤ CONSOLE_BYTES
   pub to_send : length s.console.to_send ≤ SEND_BYTES
 
--- ---- bounds of numbers
-
--- a call in progress is one that may wait: wait, read, sleep, write
-abbrev pub MayWait : ℤ → Type 0
-MayWait number = (number ≡ pos 3) ⊎ (number ≡ pos 5) ⊎ (number ≡ pos 13) ⊎ (number ≡ pos 16)
-
--- registers of 64 bits, a pc that is a multiple of 4, pages of 4,096 bytes below the upper half of Sv39's addresses
-pub record IsBoundedProcess (l : Live) : Type 0 where
-  pub registers : length l.regs.x ≡ 31
-  pub words : All (λ x. x < 2 ^ 64) l.regs.x
-  pub pc : (l.regs.pc < 2 ^ 64) × (l.regs.pc % 4 ≡ 0)
-  pub pages : (page : ℕ) (x : Page) → get l.image.pages page ≡ Some x → (page < VPN_END) × (length x.bytes ≡ 4096)
-  pub call : (c : Call) → l.call ≡ Some c → MayWait c.number
-
--- a clock of 32 bits, pids up to 2^31 - 1, at most 64 of them in use
-pub record InBounds (s : State) : Type 0 where
-  pub clock : s.clock < 2 ^ 32
-  pub next_pid : s.next_pid ≤ PID_MAX + 1
-  pub pids : len s.processes ≤ NPROC
-  pub live : (p : ℕ) (l : Live) → live s p ≡ Some l → IsBoundedProcess l
+-- ---- slots
 
 -- each process has a slot of its own, and nobody else has one; the process that runs is live and doesn't sleep
 pub record HasSlots (s : State) (turns : Turns) : Type 0 where

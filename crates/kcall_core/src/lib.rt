@@ -5,8 +5,10 @@
 //! stand for a state of these definitions, and each of its calls is a change of that state.
 #![tactic(auto)]
 
+mod call_end;
 mod kernel;
 pub mod laws;
 mod memories;
 
+pub use call_end::CallEnd;
 pub use kernel::{ChildState, Kernel};

@@ -20,6 +20,7 @@ ghost use Rattle.kcall_core.specs.Memories.{each_of, pipes_of, free_of, IsSound,
 mod arguments;
 mod copies;
 mod loading;
+mod piping;
 #[cfg(test)]
 mod program_tests;
 #[cfg(test)]
@@ -62,6 +63,7 @@ impl Memories {
         ensures each { IfOk result (λ m. each_of m ≡ replicate NPROC None) }
         ensures pipes { IfOk result (λ m. pipes_of m ≡ empty) }
         ensures free { IfOk result (λ m. free_of m ≡ frames) }
+        ensures frames { IfOk result (λ m. length m.ram ≡ frames) }
         ensures refused { IfErr result (IsRefused frames) }
     {
         let mut ram = Ram::new(alloc, frames)?;

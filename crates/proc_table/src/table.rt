@@ -322,6 +322,7 @@ impl Table {
     }
 
     /// The pid of the process in a slot.
+    #[inline(always)]
     pub fn pid(&self, slot: usize) -> Pid
         requires within { slot < NPROC }
         requires held { IsHeld self.now slot }
@@ -340,6 +341,7 @@ impl Table {
     }
 
     /// Whether the kill mark of the process in a slot is set.
+    #[inline(always)]
     pub fn marked(&self, slot: usize) -> bool
         requires within { slot < NPROC }
         requires held { IsHeld self.now slot }
@@ -358,6 +360,7 @@ impl Table {
     }
 
     /// The kernel call that the process in a slot is in; `None` where it is in none.
+    #[inline(always)]
     pub fn progress(&self, slot: usize) -> Option<Call>
         requires within { slot < NPROC }
         requires held { IsHeld self.now slot }
@@ -396,6 +399,7 @@ impl Table {
     }
 
     /// The process in a slot.
+    #[inline(always)]
     fn process(&self, slot: usize) -> Process
         requires within { slot < NPROC }
         requires held { IsHeld self.now slot }

@@ -1,7 +1,7 @@
-pub mod Boot
+pub mod Owned
+pub mod Counted
+pub mod Fitting
 pub mod Frames
-pub mod Images
-pub mod Laid
-pub mod Loads
-pub mod Prices
-pub mod Steps
+pub mod SoFar
+pub mod Runs
+pub mod Starts

@@ -1,27 +1,26 @@
--- A world as data, so that it can be what a machine stands for.
-use Rattle.std.specs.Prelude.{ℕ, ℤ, List, Option, refl}
-use Rattle.std.specs.Coded.{Coded, code_by, coded×, coded_ℕ, coded_ℤ, coded_list, coded_option}
-use Rattle.xk_base.specs.Codes.{image_code}
-use Rattle.xk_base.specs.Image.{Image}
-use Rattle.xv_machine.specs.State.{Live, State, Turns, Owned, Frames, World}
+-- What a machine stands for, as data.
+use Rattle.std.specs.Prelude.{ℕ, List, refl}
+use Rattle.std.specs.FinMap.{FinMap, code}
+use Rattle.std.specs.Ordering.{nat_cmp}
+use Rattle.std.specs.Coded.{Coded, code_by, coded×, coded_ℕ, coded_list}
+use Rattle.kcall_core.specs.Codes.{world_code}
+use Rattle.kcall_core.specs.Run.{World}
+use Rattle.xv_machine.specs.Meaning.{Owned, Frames, Meaning}
 
 abbrev pub list_code : Coded (List ℕ)
 list_code = coded_list coded_ℕ
 
-abbrev pub live_code : Coded Live
-live_code = code_by ((List ℕ × ℕ) × Image) (coded× (coded× list_code coded_ℕ) image_code) (λ l. ((l.regs.x, l.regs.pc), l.image)) (λ t. record { regs = record { x = t.0.0; pc = t.0.1 }; image = t.1 }) (λ _. refl)
+abbrev pub places_code : Coded (FinMap nat_cmp ℕ)
+places_code = code coded_ℕ coded_ℕ
 
-abbrev pub state_code : Coded State
-state_code = code_by (Option Live × ℕ) (coded× (coded_option live_code) coded_ℕ) (λ s. (s.init, s.free)) (λ t. record { init = t.0; free = t.1 }) (λ _. refl)
-
-abbrev pub turns_code : Coded Turns
-turns_code = code_by (Option ℕ × Option ℤ) (coded× (coded_option coded_ℕ) (coded_option coded_ℤ)) (λ s. (s.current, s.halted)) (λ t. record { current = t.0; halted = t.1 }) (λ _. refl)
+abbrev pub levels_code : Coded (FinMap nat_cmp ℕ × (FinMap nat_cmp ℕ × FinMap nat_cmp ℕ))
+levels_code = coded× places_code (coded× places_code places_code)
 
 abbrev pub owned_code : Coded Owned
-owned_code = code_by (ℕ × (List ℕ × List ℕ)) (coded× coded_ℕ (coded× list_code list_code)) (λ o. (o.trapframe, (o.tables, o.pages))) (λ t. record { trapframe = t.0; tables = t.1.0; pages = t.1.1 }) (λ _. refl)
+owned_code = code_by (ℕ × (ℕ × (FinMap nat_cmp ℕ × (FinMap nat_cmp ℕ × FinMap nat_cmp ℕ)))) (coded× coded_ℕ (coded× coded_ℕ levels_code)) (λ o. (o.trapframe, (o.root, (o.uppers, (o.lowers, o.pages))))) (λ t. record { trapframe = t.0; root = t.1.0; uppers = t.1.1.0; lowers = t.1.1.1.0; pages = t.1.1.1.1 }) (λ _. refl)
 
 abbrev pub frames_code : Coded Frames
-frames_code = code_by (ℕ × (List ℕ × Option Owned)) (coded× coded_ℕ (coded× list_code (coded_option owned_code))) (λ f. (f.count, (f.free, f.init))) (λ t. record { count = t.0; free = t.1.0; init = t.1.1 }) (λ _. refl)
+frames_code = code_by (ℕ × (List ℕ × FinMap nat_cmp Owned)) (coded× coded_ℕ (coded× list_code (code coded_ℕ owned_code))) (λ f. (f.count, (f.free, f.owned))) (λ t. record { count = t.0; free = t.1.0; owned = t.1.1 }) (λ _. refl)
 
-abbrev pub world_code : Coded World
-world_code = code_by (State × (Turns × Frames)) (coded× state_code (coded× turns_code frames_code)) (λ w. (w.state, (w.turns, w.frames))) (λ t. record { state = t.0; turns = t.1.0; frames = t.1.1 }) (λ _. refl)
+abbrev pub meaning_code : Coded Meaning
+meaning_code = code_by (World × Frames) (coded× world_code frames_code) (λ m. (m.world, m.frames)) (λ t. record { world = t.0; frames = t.1 }) (λ _. refl)

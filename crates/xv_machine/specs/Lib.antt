@@ -1,12 +1,7 @@
-pub mod Calls
+pub mod Boots
 pub mod Codes
-pub mod First
-pub mod Loaded
+pub mod Events
 pub mod Machine
-pub mod Own
-pub mod Programs
-pub mod Run
+pub mod Meaning
 pub mod Sound
-pub mod State
-pub mod Step
-pub mod View
+pub mod Unbuilt

@@ -16,13 +16,17 @@ pub enum Outcome {
     Stepped { pid: Pid },
     /// The process made a kernel call, which is done and answered `value`.
     Called { pid: Pid, number: i32, value: i64 },
+    /// The process waits in the call of this number: it sleeps until what it waits for may have come.
+    Blocked { pid: Pid, number: i32 },
     /// The process is gone, by a call of its own or a kill.
     Exited { pid: Pid, status: i32 },
     /// The process is gone: its instruction can't be done.
     Faulted { pid: Pid, cause: Cause },
     /// The process became the current one.
     Turn { pid: Pid },
-    /// Process 1 is gone: nothing happened, and nothing will.
+    /// No process may run: all that live are asleep.
+    Idle,
+    /// Process 1 is gone: nothing happened, and no process runs again.
     Halted,
 }
 
@@ -38,6 +42,10 @@ impl fmt::Display for Outcome {
                 let pid = pid.number();
                 write!(f, "call {pid} {number} {value}")
             }
+            Outcome::Blocked { pid, number } => {
+                let pid = pid.number();
+                write!(f, "block {pid} {number}")
+            }
             Outcome::Exited { pid, status } => {
                 let pid = pid.number();
                 write!(f, "exit {pid} {status}")
@@ -51,6 +59,7 @@ impl fmt::Display for Outcome {
                 let pid = pid.number();
                 write!(f, "turn {pid}")
             }
+            Outcome::Idle => write!(f, "idle"),
             Outcome::Halted => write!(f, "halted"),
         }
     }

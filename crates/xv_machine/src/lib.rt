@@ -1,19 +1,19 @@
 //! The machine: events go in, outcomes come out.
 //!
 //! A [`Machine`] is booted from program files, of which one is called `init`, and then takes events
-//! one by one. What a step of a process answers and leaves is a function of what that process sees:
-//! `own`, in `specs/Step.antt`. What an event does is said in `specs/Run.antt`, the first state in
-//! `specs/First.antt`, and whose each frame of RAM is in `specs/Sound.antt`.
+//! one by one. It is a kernel and the hart that runs its processes, and stands for a world of
+//! `kcall_core` (`world_of` of its `specs/Machine.antt`). What an event does there, who wakes and whose
+//! turn it is, is `Promised` of its `specs/Wakes.antt`, but that a call which isn't built yet answers -1
+//! (`specs/Unbuilt.antt`); the first world is `first` of its `specs/First.antt`. Whose each frame of RAM
+//! is, is said in `specs/Sound.antt`.
 #![tactic(auto)]
 
 mod event;
-mod load;
 mod machine;
-mod memories;
-mod programs;
 mod step;
 #[cfg(test)]
 mod tests;
 
 pub use event::{Event, Outcome};
+pub use kcall_core::ChildState;
 pub use machine::{Config, Machine};

@@ -1,13 +1,14 @@
 //! The machine.
-ghost use Rattle.std.specs.Prelude.{◌≡◌, ◌≤◌, is_some};
-ghost use Rattle.xv_machine.specs.Machine as left;
+ghost use Rattle.std.specs.Prelude.{◌≡◌, is_some, map};
+ghost use Rattle.kcall_core.specs.State.{named_file};
+ghost use Rattle.kcall_core.specs.Programs.{init_of};
+ghost use Rattle.xv_machine.specs.Boots.{or_no_init};
+ghost use Rattle.xv_machine.specs.Events.{halted_by};
 
 use crate::event::{Event, Outcome};
-use crate::load::load;
-use crate::memories::Memories;
-use crate::programs::{first_refused, init_program};
 use crate::step::step;
 use hart_core::Hart;
+use kcall_core::{ChildState, Kernel};
 use rv64i_core::Regs;
 use std::alloc::Global;
 use std::marker::Model;
@@ -19,73 +20,97 @@ use xk_base::{BootError, Pid, Program};
 pub struct Config {
     /// Frames of RAM, 16 to 32,768.
     pub frames: u32,
-    /// Notes that the trace keeps, at most 65,536.
+    /// Notes that the trace is to keep, at most 65,536. There is no trace yet: only the range is tested.
     pub trace: u32,
 }
 
 impl Config {
-    ghost use Rattle.xv_machine.specs.First.{is_bad_config};
+    ghost use Rattle.std.specs.Prelude.{◌||◌, nat_lt};
+    ghost use Rattle.xk_base.specs.declared.limits.TheConstants.{FRAMES_MIN, FRAMES_MAX, TRACE_MAX};
 
     // Whether a number is out of its range.
     fn is_refused(&self) -> bool
-        ensures { result ≡ is_bad_config self.now }
+        ensures { result ≡ (nat_lt self.now.frames FRAMES_MIN || nat_lt FRAMES_MAX self.now.frames || nat_lt TRACE_MAX self.now.trace) }
     {
         (self.frames < FRAMES_MIN) | (self.frames > FRAMES_MAX) | (self.trace > TRACE_MAX)
     }
 }
 
-#[derive(Clone, Copy)]
-enum Phase {
-    /// Process 1 is live, and no process is current.
-    Ready,
-    /// Process 1 is current.
-    Running,
-    /// Process 1 is gone, with this status.
-    Halted(i32),
+// Whether a program is called `init`.
+fn has_init(programs: &[Program]) -> bool
+    ensures { result ≡ is_some (init_of (map named_file programs.now)) }
+{
+    programs
+        .iter()
+        .find(|program| program.name.as_slice() == b"init".as_slice())
+        .is_some()
 }
 
-// The phase in which a step of process 1 leaves the machine.
-fn phase_after(outcome: &Outcome) -> Phase
-    ensures { result ≡ left.phase_after outcome.now }
+// Why there is no machine where there is no kernel: that `init` is missing comes before want of memory.
+fn refusal(error: BootError, has_init: bool) -> BootError
+    ensures { result ≡ or_no_init has_init error }
 {
-    match *outcome {
-        Outcome::Exited { status, .. } => Phase::Halted(status),
-        Outcome::Faulted { .. } => Phase::Halted(-1),
-        _ => Phase::Running,
+    match error {
+        BootError::Memory => {
+            if has_init {
+                BootError::Memory
+            } else {
+                BootError::NoInit
+            }
+        }
+        other => other,
     }
 }
 
-/// A machine with one process.
+// The status with which process 1 goes, where it does.
+fn halted_by(outcome: &Outcome) -> Option<i32>
+    ensures { result ≡ halted_by outcome.now }
+{
+    match *outcome {
+        Outcome::Exited { pid, status } if pid.number() == 1 => Some(status),
+        Outcome::Faulted { pid, .. } if pid.number() == 1 => Some(-1),
+        _ => None,
+    }
+}
+
+/// A machine: a kernel, and the hart that runs its processes.
 #[derive(Drop)]
 pub struct Machine {
-    phase: Phase,
+    kernel: Kernel,
     hart: Hart,
-    memories: Memories,
+    /// The status with which process 1 went, after which nothing runs.
+    halted: Option<i32>,
 }
 
 impl Model for Machine {
-    ghost use Rattle.xv_machine.specs.State.{World};
-    ghost use Rattle.xv_machine.specs.Codes.{world_code};
+    ghost use Rattle.xv_machine.specs.Meaning.{Meaning};
+    ghost use Rattle.xv_machine.specs.Codes.{meaning_code};
 
-    ghost Value = { World };
+    ghost Value = { Meaning };
 
-    ghost coded = { world_code };
+    ghost coded = { meaning_code };
 
-    ghost use Rattle.xv_machine.specs.Machine.{world_of, IsMachine};
+    ghost use Rattle.xv_machine.specs.Machine.{meaning_of, IsMachine};
 
-    ghost view = { world_of };
+    ghost view = { meaning_of };
 
     ghost invariant = { IsMachine };
 }
 
 impl Machine {
-    ghost use Rattle.std.specs.Prelude.{◌≡◌, ◌≤◌, is_some, IfOk};
-    ghost use Rattle.xk_base.specs.declared.limits.TheConstants.{FRAMES_MIN, FRAMES_MAX};
-    ghost use Rattle.xv_machine.specs.Run.{Happens};
+    ghost use Rattle.std.specs.Prelude.{◌≡◌, true, None, IfOk, is_some, length, map, option_map};
+    ghost use Rattle.kcall_core.specs.State.{named_file};
+    ghost use Rattle.hart_core.specs.declared.hart.Hart.{Hart};
+    ghost use Rattle.kcall_core.specs.Programs.{init_of};
+    ghost use Rattle.kcall_core.specs.Starts.{IsBlank};
+    ghost use Rattle.kcall_core.specs.Kernel as kernels;
+    ghost use Rattle.kcall_core.specs.First.{first, first_init};
+    ghost use Rattle.kcall_core.specs.Run as runs;
+    ghost use Rattle.kcall_core.specs.Observers.{registers_of, byte_at, child_at, shown};
+    ghost use Rattle.xv_machine.specs.Boots.{Boots};
+    ghost use Rattle.xv_machine.specs.Events.{event_of, outcome_of};
     ghost use Rattle.xv_machine.specs.Sound.{IsSound};
-    ghost use Rattle.xv_machine.specs.View.{live, registers_of, byte_of};
-    ghost use Rattle.xv_machine.specs.First.{first, first_loaded, Boots};
-    ghost use Rattle.xv_machine.specs.Loaded.{loaded};
+    ghost use Rattle.xv_machine.specs.Unbuilt.{PromisedSoFar};
 
     /// A machine whose process 1 runs the program called `init`, and waits for its turn.
     ///
@@ -99,40 +124,48 @@ impl Machine {
     /// [`BootError::Init`] with the refusal of `init`'s file, or with `NoFrames` where the price of its
     /// image and 1 are more than the frames.
     pub fn boot(alloc: Global, config: Config, programs: Vec<Program>) -> Result<Machine, BootError>
-        ensures boots { Boots config.frames result (first config programs.items) }
+        ensures boots { Boots config.frames result (first config.frames config.trace (map named_file programs.items)) }
         ensures sound { IfOk result IsSound }
     {
         if config.is_refused() {
             return Err(BootError::BadConfig);
         }
-        if let Some(index) = first_refused(&programs) {
-            return Err(BootError::BadPrograms(index));
+        let has_init = has_init(&programs);
+        match Kernel::new(alloc, config.frames, programs) {
+            Ok(kernel) => {
+                if has_init {
+                    Machine::start(kernel)
+                } else {
+                    Err(BootError::NoInit)
+                }
+            }
+            Err(error) => Err(refusal(error, has_init)),
         }
-        let Some(init) = init_program(&programs) else {
-            return Err(BootError::NoInit);
-        };
-        Machine::start(alloc, config.frames, init.bytes.as_slice())
     }
 
-    // A machine whose process 1 is made of this file.
-    fn start(alloc: Global, frames: u32, file: &[u8]) -> Result<Machine, BootError>
-        requires few { FRAMES_MIN ≤ frames }
-        requires many { frames ≤ FRAMES_MAX }
-        ensures boots { Boots frames result (first_loaded frames (loaded file.now)) }
+    // A machine with this kernel, which has no process yet.
+    fn start(mut kernel: Kernel) -> Result<Machine, BootError>
+        requires blank { IsBlank kernel }
+        requires sound { (hart : Hart) → kernels.IsIdle hart → kernels.IsSound kernel hart }
+        requires program { is_some (init_of (map named_file kernel.programs.items)) ≡ true }
+        ensures boots { let programs = map named_file kernel.programs.items in Boots (length kernel.memories.ram) result (first_init (length kernel.memories.ram) programs (init_of programs)) }
         ensures sound { IfOk result IsSound }
     {
-        let mut memories = Memories::new(alloc, frames)?;
-        load(&mut memories, file)?;
-        Ok(Machine {
-            phase: Phase::Ready,
-            hart: Hart::new(),
-            memories,
-        })
+        let mut hart = Hart::new();
+        match kernel.start(&mut hart) {
+            Ok(()) => Ok(Machine {
+                kernel,
+                hart,
+                halted: None,
+            }),
+            Err(refusal) => Err(BootError::Init(refusal)),
+        }
     }
 
     /// What comes of an event.
+    #[inline(always)]
     pub fn event(&mut self, event: Event) -> Outcome
-        ensures happens { Happens self.old event result self.new }
+        ensures promised { PromisedSoFar self.old.world (event_of event) (outcome_of result) self.new.world }
         ensures sound { IsSound self.new }
         ensures frames { self.new.frames.count ≡ self.old.frames.count }
     {
@@ -141,83 +174,79 @@ impl Machine {
         }
     }
 
-    // Process 1 takes its turn, or makes a step; a machine without it does nothing.
+    // The process that runs makes a step; where none runs, the next has its turn.
+    #[inline(always)]
     fn run(&mut self) -> Outcome
-        ensures happens { Happens self.old Event.Run result self.new }
+        ensures promised { PromisedSoFar self.old.world runs.Run (outcome_of result) self.new.world }
         ensures sound { IsSound self.new }
         ensures frames { self.new.frames.count ≡ self.old.frames.count }
     {
-        let pid = Pid::new(1);
-        match self.phase {
-            Phase::Halted(_) => Outcome::Halted,
-            Phase::Ready => {
-                self.memories.resume(&mut self.hart);
-                self.phase = Phase::Running;
-                Outcome::Turn { pid }
-            }
-            Phase::Running => {
-                let outcome = step(pid, &mut self.hart, &mut self.memories);
-                self.phase = phase_after(&outcome);
-                outcome
-            }
-        }
+        let Some(pid) = self.kernel.current() else {
+            return self.turn();
+        };
+        let outcome = step(&mut self.kernel, &mut self.hart, pid);
+        self.halted = halted_by(&outcome);
+        outcome
     }
 
-    // Whether the pid is that of a live process: process 1 is the only one.
-    fn is_live(&self, pid: Pid) -> bool
-        ensures { result ≡ is_some (live self.now.state pid) }
+    // The next process has its turn, unless process 1 is gone.
+    #[cold]
+    fn turn(&mut self) -> Outcome
+        requires stopped { self.old.world.turns.current ≡ None }
+        ensures promised { PromisedSoFar self.old.world runs.Run (outcome_of result) self.new.world }
+        ensures sound { IsSound self.new }
+        ensures frames { self.new.frames.count ≡ self.old.frames.count }
     {
-        !matches!(self.phase, Phase::Halted(_)) && pid.number() == 1
+        if self.halted.is_some() {
+            return Outcome::Halted;
+        }
+        let Some(pid) = self.kernel.turn(&mut self.hart) else {
+            return Outcome::Idle;
+        };
+        Outcome::Turn { pid }
     }
 
-    /// The registers of a live process.
+    /// The registers of a live process; `None` for any other pid.
     pub fn registers(&self, pid: Pid) -> Option<Regs>
-        ensures { result ≡ registers_of self.now pid }
+        ensures { result ≡ registers_of self.now.world.state pid }
     {
-        if !self.is_live(pid) {
-            return None;
-        }
-        match self.phase {
-            Phase::Ready => Some(self.memories.saved_registers(&self.hart)),
-            _ => Some(*self.hart.regs()),
-        }
+        self.kernel.registers(&self.hart, pid)
     }
 
-    /// The byte at an address of a live process's memory, whatever its page allows; none where there is
-    /// no page.
+    /// The byte at an address of a live process's memory, whatever its page allows; `None` for any other
+    /// pid, and where there is no page.
     pub fn peek(&self, pid: Pid, address: u64) -> Option<u8>
-        ensures { result ≡ byte_of self.now pid address }
+        ensures { result ≡ byte_at self.now.world.state pid address }
     {
-        if !self.is_live(pid) {
-            return None;
-        }
-        self.memories.byte(address)
+        self.kernel.peek(pid, address)
+    }
+
+    /// Whether a child of a live process lives, or with which status it ended; `None` where there is no
+    /// such process, or no such child of it.
+    pub fn child_state(&self, pid: Pid, child: Pid) -> Option<ChildState>
+        ensures { option_map shown result ≡ child_at self.now.world.state pid child }
+    {
+        self.kernel.child_state(pid, child)
     }
 
     /// How many frames of RAM are free.
     pub fn free_frames(&self) -> u32
-        ensures { result ≡ self.now.state.free }
+        ensures { result ≡ self.now.world.state.free }
     {
-        self.memories.free()
+        self.kernel.free_frames()
     }
 
     /// The pid of the current process.
     pub fn current(&self) -> Option<Pid>
-        ensures { result ≡ self.now.turns.current }
+        ensures { result ≡ self.now.world.turns.current }
     {
-        match self.phase {
-            Phase::Running => Some(Pid::new(1)),
-            _ => None,
-        }
+        self.kernel.current()
     }
 
     /// The status with which process 1 went.
     pub fn halted(&self) -> Option<i32>
-        ensures { result ≡ self.now.turns.halted }
+        ensures { result ≡ self.now.world.turns.halted }
     {
-        match self.phase {
-            Phase::Halted(status) => Some(status),
-            _ => None,
-        }
+        self.halted
     }
 }

@@ -1,103 +1,82 @@
-//! One step of process 1.
-ghost use Rattle.std.specs.Prelude.{◌≡◌, ◌+◌, length};
-ghost use Rattle.frame_list.specs.Pool.{free_in};
-ghost use Rattle.rv64i_core.specs.Registers.{reg, put, with_pc, after};
-ghost use Rattle.xk_base.specs.Image.{price};
-ghost use Rattle.xv_machine.specs.Calls.{c_int, word, perform};
-ghost use Rattle.xv_machine.specs.Machine.{IsWhole, Stands, Left, image_in, seen};
-ghost use Rattle.xv_machine.specs.Run.{outcome_of};
-ghost use Rattle.xv_machine.specs.Step.{own};
-ghost use Rattle.xv_machine.specs.declared.machine.Phase.TheVariants as phases;
+//! One step of the process that runs.
+ghost use Rattle.std.specs.Prelude.{◌≡◌};
+ghost use Rattle.kcall_core.specs.Words.{c_int};
+ghost use Rattle.kcall_core.specs.Built.{own_so_far};
+ghost use Rattle.kcall_core.specs.RowLaws as laws;
+ghost use Rattle.kcall_core.specs.Run.{Step_of};
+ghost use Rattle.kcall_core.specs.Kernel.{IsRunning, pid_now, live_now};
+ghost use Rattle.kcall_core.specs.Whole.{IsWhole};
+ghost use Rattle.kcall_core.specs.Makes.{Makes, view_now, answer_of};
+ghost use Rattle.xv_machine.specs.Events.{outcome_of};
 
 use crate::event::Outcome;
-use crate::memories::Memories;
 use hart_core::Hart;
+use kcall_core::{CallEnd, Kernel};
 use rv64i_core::Stop;
 use xk_base::{Pid, Reg};
 
-/// The numbers of the calls (xv6, `syscall.h`).
-const EXIT: i32 = 2;
+/// The register of a call's number, a7 (RISC-V calling convention).
+const CALL_NUMBER: u8 = 17;
 
-const GETPID: i32 = 11;
-
-// The registers of a call's first argument and answer, and of its number (RISC-V calling convention).
-const A0: u8 = 10;
-
-const A7: u8 = 17;
-
-// A C int: the low 32 bits of a register, read as signed.
+/// A C int: the low 32 bits of a register, read as signed.
 fn c_int(register: u64) -> i32
     ensures { result ≡ c_int register }
 {
-    ((register & 0xffff_ffff) as u32).cast_signed()
+    ((register % (1 << 32)) as u32).cast_signed()
 }
 
-// The process is gone, and its frames are free.
-fn remove(hart: &mut Hart, memories: &mut Memories)
-    requires whole { IsWhole memories.old }
-    requires stands { Stands phases.Running hart.old memories.old.ram memories.old.held }
-    ensures whole { IsWhole memories.new }
-    ensures empty { memories.new.held ≡ None }
-    ensures count { length memories.new.ram ≡ length memories.old.ram }
-    ensures free { length (free_in memories.new.pool memories.new.ram) ≡ length (free_in memories.old.pool memories.old.ram) + (price (image_in memories.old.ram memories.old.held) + 1) }
+/// The outcome of a step in which a call of this number ends so.
+fn call_outcome(pid: Pid, number: i32, end: CallEnd) -> Outcome
+    ensures { outcome_of result ≡ Step_of pid (answer_of number end) }
 {
-    hart.leave();
-    memories.remove();
+    match end {
+        CallEnd::Done(value) => Outcome::Called { pid, number, value },
+        CallEnd::Wait => Outcome::Blocked { pid, number },
+        CallEnd::Gone(status) => Outcome::Exited { pid, status },
+    }
 }
 
-// The call that the registers ask for; the pc is past the ECALL.
-#[tactic(auto, unfolding(crate::specs::Calls::perform))]
-fn call(pid: Pid, hart: &mut Hart, memories: &mut Memories) -> Outcome
-    requires whole { IsWhole memories.old }
-    requires stands { Stands phases.Running hart.old memories.old.ram memories.old.held }
-    ensures answer { result ≡ outcome_of pid (perform (c_int (reg hart.old.regs 17)) (seen pid hart.old.regs memories.old)).answer }
-    ensures left { Left (perform (c_int (reg hart.old.regs 17)) (seen pid hart.old.regs memories.old)) pid result memories.old hart.new memories.new }
+/// The instruction at the pc.
+#[inline(always)]
+fn instruction(kernel: &mut Kernel, hart: &mut Hart, pid: Pid) -> Outcome
+    requires whole { IsWhole kernel.old hart.old }
+    requires running { IsRunning kernel.old }
+    requires between_calls { laws.IsBetweenCalls (live_now kernel.old hart.old) }
+    requires pid { pid ≡ pid_now kernel.old }
+    ensures made { Makes kernel.old hart.old (own_so_far (view_now kernel.old hart.old)) kernel.new hart.new }
+    ensures answer { outcome_of result ≡ Step_of pid (own_so_far (view_now kernel.old hart.old)).answer }
 {
-    let number = c_int(hart.regs().read(Reg::new(A7)));
-    let value = match number {
-        EXIT => {
-            let status = c_int(hart.regs().read(Reg::new(A0)));
-            remove(hart, memories);
-            return Outcome::Exited { pid, status };
-        }
-        GETPID => i64::from(pid.number()),
-        _ => -1,
-    };
-    answer_with(hart, value);
-    Outcome::Called { pid, number, value }
-}
-
-// Moves the pc past the ECALL.
-fn pass_ecall(hart: &mut Hart)
-    ensures { hart.new ≡ record hart.old { regs = with_pc hart.old.regs (after hart.old.regs) } }
-{
-    let regs = hart.regs_mut();
-    regs.set_pc(regs.pc().wrapping_add(4));
-}
-
-// Puts a call's answer into its register.
-fn answer_with(hart: &mut Hart, value: i64)
-    ensures { hart.new ≡ record hart.old { regs = put hart.old.regs A0 (word value) } }
-{
-    hart.regs_mut().write(Reg::new(A0), value.cast_unsigned());
-}
-
-/// One step of the process.
-pub(crate) fn step(pid: Pid, hart: &mut Hart, memories: &mut Memories) -> Outcome
-    requires whole { IsWhole memories.old }
-    requires stands { Stands phases.Running hart.old memories.old.ram memories.old.held }
-    ensures answer { result ≡ outcome_of pid (own (seen pid hart.old.regs memories.old)).answer }
-    ensures left { Left (own (seen pid hart.old.regs memories.old)) pid result memories.old hart.new memories.new }
-{
-    match memories.step(hart) {
+    match kernel.step(hart) {
         Stop::Next => Outcome::Stepped { pid },
         Stop::Ecall => {
-            pass_ecall(hart);
-            call(pid, hart, memories)
+            let number = c_int(hart.regs().read(Reg::new(CALL_NUMBER)));
+            let end = kernel.call(hart);
+            call_outcome(pid, number, end)
         }
         Stop::Fault(cause) => {
-            remove(hart, memories);
+            kernel.exit(hart, -1);
             Outcome::Faulted { pid, cause }
         }
     }
+}
+
+/// One step of the process that runs: it ends where it is marked, goes on with the call that it is in,
+/// and does the instruction at the pc where it is in none.
+#[inline(always)]
+pub(crate) fn step(kernel: &mut Kernel, hart: &mut Hart, pid: Pid) -> Outcome
+    requires whole { IsWhole kernel.old hart.old }
+    requires running { IsRunning kernel.old }
+    requires pid { pid ≡ pid_now kernel.old }
+    ensures made { Makes kernel.old hart.old (own_so_far (view_now kernel.old hart.old)) kernel.new hart.new }
+    ensures answer { outcome_of result ≡ Step_of pid (own_so_far (view_now kernel.old hart.old)).answer }
+{
+    if kernel.marked() {
+        kernel.exit(hart, -1);
+        return Outcome::Exited { pid, status: -1 };
+    }
+    let Some(number) = kernel.in_call() else {
+        return instruction(kernel, hart, pid);
+    };
+    let end = kernel.resume(hart);
+    call_outcome(pid, number, end)
 }

@@ -1,6 +1,5 @@
 //! Small programs, event by event, and programs that a machine refuses.
 use crate::{Config, Event, Machine, Outcome};
-use rv64i_core::Regs;
 use std::alloc::{AllocError, Global};
 use std::process::Abort;
 use std::test::Fail;
@@ -94,7 +93,8 @@ fn three_instructions_exit(rt: HostRuntime) -> Result<(), Fail> {
     let mut machine = boot(rt.alloc(), file)?;
     assert_eq!(rt; machine.current(), None);
     assert_eq!(rt; machine.halted(), None);
-    assert_eq!(rt; machine.free_frames(), 11);
+    // Root, two tables, text, guard page, stack, trapframe.
+    assert_eq!(rt; machine.free_frames(), 9);
     expect_run(
         &rt,
         &mut machine,
@@ -106,7 +106,7 @@ fn three_instructions_exit(rt: HostRuntime) -> Result<(), Fail> {
     };
     assert_eq!(rt;
         (regs.pc(), regs.read(Reg::new(17)), regs.read(Reg::new(10))),
-        (4, 2, 0)
+        (4, 2, 1)
     );
     assert!(rt; machine.registers(other).is_none());
     for (address, byte) in [
@@ -114,7 +114,9 @@ fn three_instructions_exit(rt: HostRuntime) -> Result<(), Fail> {
         (8, Some(0x73)),
         (12, Some(0)),
         (4095, Some(0)),
-        (4096, None),
+        (4096, Some(0)),
+        (12_287, Some(0)),
+        (12_288, None),
         (1 << 38, None),
         (u64::MAX, None),
     ] {
@@ -271,12 +273,12 @@ fn the_file_of_init_is_refused(rt: HostRuntime) -> Result<(), Fail> {
     );
     let long = vec![in alloc; 0u8; 1_048_577]?;
     assert_eq!(rt; boot(alloc, long).err(), Some(BootError::BadPrograms(0)));
-    // The price of 16 pages is 19, and of 12 it is 15: the trapframe is the 16th frame.
+    // With guard page and stack 10 pages are 12, whose price is 15: the trapframe is the 16th frame.
     for (phnum, vaddr, memsz, error) in [
-        (1, 0, 49_152, None),
-        (1, 45_056, 4096, None),
-        (1, 45_056, 4097, Some(ExecError::NoFrames)),
-        (1, 0, 49_153, Some(ExecError::NoFrames)),
+        (1, 0, 40_960, None),
+        (1, 36_864, 4096, None),
+        (1, 36_864, 4097, Some(ExecError::NoFrames)),
+        (1, 0, 40_961, Some(ExecError::NoFrames)),
         (1, 0, 65_536, Some(ExecError::NoFrames)),
         (1, 1, 4096, Some(ExecError::BadSegment(0))),
         (0, 0, 12, None),
@@ -341,8 +343,8 @@ fn two_segments_and_the_page_between_them(rt: HostRuntime) -> Result<(), Fail> {
         &[0x0000_1537, 0x00A5_0023, 0x0005_4583, 0x0005_0067],
     )?;
     let mut machine = boot(rt.alloc(), file)?;
-    // Root, two tables, four pages, trapframe.
-    assert_eq!(rt; machine.free_frames(), 8);
+    // Root, two tables, four pages, guard page, stack, trapframe.
+    assert_eq!(rt; machine.free_frames(), 6);
     for (address, byte) in [
         (0, Some(0x37)),
         (16, Some(0)),
@@ -352,7 +354,9 @@ fn two_segments_and_the_page_between_them(rt: HostRuntime) -> Result<(), Fail> {
         (8195, Some(b'a')),
         (8196, Some(0)),
         (16_383, Some(0)),
-        (16_384, None),
+        (16_384, Some(0)),
+        (24_575, Some(0)),
+        (24_576, None),
     ] {
         assert_eq!(rt; machine.peek(pid, address), byte, "at {address}");
     }
@@ -410,13 +414,17 @@ fn last_outcome(alloc: Global, words: &[u32]) -> Result<Outcome, BootError> {
 #[test]
 fn accesses_that_a_page_does_not_allow(rt: HostRuntime) -> Result<(), Fail> {
     let pid = Pid::new(1);
-    let cases: [(&[u32], Cause); 9] = [
+    let cases: [(&[u32], Cause); 11] = [
         // `sb x0, 0(x0)`: the text may not be written.
         (&[0x0000_0023], Cause::StorePageFault),
-        // `lui a0, 1`, `sb x0, 0(a0)`: no page.
+        // `lui a0, 1`, `sb x0, 0(a0)`: the guard page.
         (&[0x0000_1537, 0x0005_0023], Cause::StorePageFault),
-        // `lui a0, 1`, `lb a0, 0(a0)`: no page.
+        // `lui a0, 1`, `lb a0, 0(a0)`: the guard page.
         (&[0x0000_1537, 0x0005_0503], Cause::LoadPageFault),
+        // `lui a0, 3`, `sb x0, 0(a0)`: no page.
+        (&[0x0000_3537, 0x0005_0023], Cause::StorePageFault),
+        // `lui a0, 3`, `lb a0, 0(a0)`: no page.
+        (&[0x0000_3537, 0x0005_0503], Cause::LoadPageFault),
         // `jalr x0, 2(x0)`.
         (&[0x0020_0067], Cause::TargetMisaligned),
         // `lui a0, 3`, `ld a1, -31(a0)`: at 0x2FE1.
@@ -426,7 +434,7 @@ fn accesses_that_a_page_does_not_allow(rt: HostRuntime) -> Result<(), Fail> {
         // A word that is no instruction here, and `ebreak`.
         (&[0xC000_2573], Cause::IllegalInstruction),
         (&[0x0010_0073], Cause::Breakpoint),
-        // `lui a0, 2`, `jalr x0, 0(a0)`, and then the fetch from there.
+        // `lui a0, 2`, `jalr x0, 0(a0)`, and then the fetch from the stack.
         (&[0x0000_2537, 0x0005_0067, 0], Cause::FetchPageFault),
     ];
     for (words, cause) in cases {
@@ -439,7 +447,7 @@ fn accesses_that_a_page_does_not_allow(rt: HostRuntime) -> Result<(), Fail> {
 #[test]
 fn a_gone_process_leaves_all_frames_free(rt: HostRuntime) -> Result<(), Fail> {
     let mut machine = boot(rt.alloc(), two_segments(rt.alloc(), &[0])?)?;
-    assert_eq!(rt; machine.free_frames(), 8);
+    assert_eq!(rt; machine.free_frames(), 6);
     let pid = Pid::new(1);
     let cause = Cause::IllegalInstruction;
     expect_run(
@@ -471,8 +479,109 @@ fn the_entry_loses_its_two_lowest_bits(rt: HostRuntime) -> Result<(), Fail> {
         let Some(regs) = machine.registers(pid) else {
             return Err(Fail::from("process 1 is live"));
         };
-        assert_eq!(rt; regs, Regs::new(pc / 4 * 4));
         assert_eq!(rt; regs.pc(), pc);
+    }
+    Ok(())
+}
+
+#[test]
+fn process_1_starts_with_its_name_on_the_stack(rt: HostRuntime) -> Result<(), Fail> {
+    let pid = Pid::new(1);
+    let machine = boot(rt.alloc(), plain(rt.alloc(), &[0x0000_0073])?)?;
+    let Some(regs) = machine.registers(pid) else {
+        return Err(Fail::from("process 1 is live"));
+    };
+    // The text at the highest multiple of 16 below the stack's end, and two pointers below it.
+    for (number, value) in [(0, 0), (1, 0), (2, 12_256), (10, 1), (11, 12_256), (17, 0)] {
+        assert_eq!(rt; regs.read(Reg::new(number)), value, "register {number}");
+    }
+    assert_eq!(rt; regs.pc(), 0);
+    for (address, bytes) in [
+        (12_256, b"\xF0\x2F\0\0\0\0\0\0".as_slice()),
+        (12_264, b"\0\0\0\0\0\0\0\0".as_slice()),
+        (12_272, b"init\0".as_slice()),
+    ] {
+        for (at, byte) in (address..).zip(bytes) {
+            assert_eq!(rt; machine.peek(pid, at), Some(*byte), "at {at}");
+        }
+    }
+    Ok(())
+}
+
+#[test]
+fn exec_goes_on_with_another_program(rt: HostRuntime) -> Result<(), Fail> {
+    let pid = Pid::new(1);
+    let alloc = rt.alloc();
+    // `li a7, 7`, `li a0, 12`, `ecall`, and the text `two`; a1 points to the first argument as it stands.
+    let first = plain(alloc, &[0x0070_0893, 0x00C0_0513, 0x0000_0073, 0x006F_7774])?;
+    // `li a7, 2`, `ecall`.
+    let second = plain(alloc, &[0x0020_0893, 0x0000_0073])?;
+    let mut programs = Vec::new(alloc);
+    programs.push(program(alloc, b"init", first)?)?;
+    programs.push(program(alloc, b"two", second)?)?;
+    let config = Config {
+        frames: 17,
+        trace: 0,
+    };
+    let mut machine = Machine::boot(alloc, config, programs)?;
+    let called = Outcome::Called {
+        pid,
+        number: 7,
+        value: 1,
+    };
+    expect_run(
+        &rt,
+        &mut machine,
+        &[
+            Outcome::Turn { pid },
+            Outcome::Stepped { pid },
+            Outcome::Stepped { pid },
+            called,
+        ],
+    );
+    assert_eq!(rt; machine.free_frames(), 10);
+    assert_eq!(rt; machine.peek(pid, 12), Some(0));
+    let exited = Outcome::Exited { pid, status: 1 };
+    expect_run(
+        &rt,
+        &mut machine,
+        &[Outcome::Stepped { pid }, exited, Outcome::Halted],
+    );
+    assert_eq!(rt; machine.free_frames(), 17);
+    Ok(())
+}
+
+#[test]
+fn sbrk_grows_and_shrinks(rt: HostRuntime) -> Result<(), Fail> {
+    let pid = Pid::new(1);
+    // `li a7, 12`, `lui a0, 1`, `ecall`, `sd x0, 0(a0)`, `lui a0, -1`, `ecall`, `sd x0, -8(a0)`.
+    #[rattlefmt::skip]
+    let words = [0x00C0_0893, 0x0000_1537, 0x0000_0073, 0x0005_3023, 0xFFFF_F537, 0x0000_0073, 0xFE05_3C23];
+    let mut machine = boot(rt.alloc(), plain(rt.alloc(), &words)?)?;
+    let answers = |value| Outcome::Called {
+        pid,
+        number: 12,
+        value,
+    };
+    let stepped = Outcome::Stepped { pid };
+    expect_run(
+        &rt,
+        &mut machine,
+        &[Outcome::Turn { pid }, stepped, stepped, answers(12_288)],
+    );
+    assert_eq!(rt; machine.free_frames(), 8);
+    expect_run(&rt, &mut machine, &[stepped, stepped, answers(16_384)]);
+    assert_eq!(rt; machine.free_frames(), 9);
+    let cause = Cause::StorePageFault;
+    expect_run(&rt, &mut machine, &[Outcome::Faulted { pid, cause }]);
+    Ok(())
+}
+
+#[test]
+fn process_1_is_nobodys_child(rt: HostRuntime) -> Result<(), Fail> {
+    let machine = boot(rt.alloc(), plain(rt.alloc(), &[0x0000_0073])?)?;
+    for (pid, child) in [(1, 1), (1, 2), (2, 1)] {
+        assert_eq!(rt; machine.child_state(Pid::new(pid), Pid::new(child)), None);
     }
     Ok(())
 }
@@ -490,6 +599,7 @@ fn outcomes_are_lines_of_a_trace(rt: HostRuntime) -> Result<(), Fail> {
             },
             "call 1 99 -1",
         ),
+        (Outcome::Blocked { pid, number: 5 }, "block 1 5"),
         (Outcome::Exited { pid, status: -7 }, "exit 1 -7"),
         (
             Outcome::Faulted {
@@ -504,6 +614,7 @@ fn outcomes_are_lines_of_a_trace(rt: HostRuntime) -> Result<(), Fail> {
             },
             "turn 2147483647",
         ),
+        (Outcome::Idle, "idle"),
         (Outcome::Halted, "halted"),
     ] {
         assert_eq!(rt; format!(in rt.alloc(); "{outcome}")?.as_str(), line);

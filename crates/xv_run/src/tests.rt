@@ -1,4 +1,6 @@
 //! What a run prints, and how it ends early.
+mod calls;
+
 use crate::failure::Failure;
 use crate::input::{built_in, program_of};
 use crate::play::play;

@@ -1,11 +1,10 @@
 //! The kernel before its first process.
 ghost use Rattle.std.specs.Prelude.{◌≡◌, None, IfOk, IfErr, map};
 ghost use Rattle.hart_core.specs.declared.hart.Hart.{Hart};
-ghost use Rattle.hart_core.specs.Translations.{nothing_kept};
 ghost use Rattle.kcall_core.specs.State.{named_file};
 ghost use Rattle.kcall_core.specs.NewKernel.{are_refused, empty_state, refusal, or_memory};
 ghost use Rattle.kcall_core.specs.Starts.{IsBlank};
-ghost use Rattle.kcall_core.specs.Kernel.{state_of, IsSound};
+ghost use Rattle.kcall_core.specs.Kernel.{frame_count, IsIdle, state_of, IsSound};
 
 use crate::kernel::Kernel;
 use crate::kernel::program_list::first_refused;
@@ -37,8 +36,9 @@ impl Kernel {
     /// little memory. The programs are then dropped.
     pub fn new(alloc: Global, frames: u32, programs: Vec<Program>) -> Result<Kernel, BootError>
         ensures blank { IfOk result IsBlank }
-        ensures sound { IfOk result (λ k. (hart : Hart) → hart.root ≡ None → hart.cache ≡ nothing_kept → IsSound k hart) }
+        ensures sound { IfOk result (λ k. (hart : Hart) → IsIdle hart → IsSound k hart) }
         ensures state { IfOk result (λ k. (hart : Hart) → state_of k hart ≡ empty_state frames (map named_file programs.items)) }
+        ensures frames { IfOk result (λ k. frame_count k ≡ frames) }
         ensures made { IfOk result (λ k. refusal frames (map named_file programs.items) ≡ None) }
         ensures refused { IfErr result (λ e. e ≡ or_memory (refusal frames (map named_file programs.items))) }
     {

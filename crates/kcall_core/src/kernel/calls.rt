@@ -1,20 +1,44 @@
-//! Calls of the process that runs: what each comes to, as the laws of the call table want it.
-ghost use Rattle.std.specs.Prelude.{◌≡◌, ◌≢◌, true, false, IsSome, None, ◌-◌, ◌^◌, pos, is_some};
+//! Kernel calls of the process that runs (the xv6 book, "Code: Calling system calls").
+//!
+//! A call begins at its ECALL and is in progress from then on, until it is done. Where it has to wait it
+//! stays in progress, and goes on by the same row of the call table when its process runs again.
+ghost use Rattle.std.specs.Prelude.{◌≡◌, pos, false, None, Some, IsSome, option_map};
 ghost use Rattle.rv64i_core.specs.Registers.{reg, with_pc, after};
 ghost use Rattle.rv64i_core.specs.Step.{Ecall, instr};
+ghost use Rattle.hart_core.specs.declared.hart.Hart.{Hart};
 ghost use Rattle.hart_core.specs.UserMemory.{user};
-ghost use Rattle.kcall_core.specs.Words.{A7, c_int};
-ghost use Rattle.kcall_core.specs.Calls.{with_a0, row_of};
-ghost use Rattle.kcall_core.specs.View.{view_of};
-ghost use Rattle.kcall_core.specs.Step.{own};
-ghost use Rattle.kcall_core.specs.Updates.{set_live};
+ghost use Rattle.proc_table.specs.Processes as process;
+ghost use Rattle.proc_table.specs.Slots.{changed_at};
+ghost use Rattle.proc_table.specs.declared.process.Call.{Call};
+ghost use Rattle.kcall_core.specs.Words.{A0, A1, A2, A7, c_int, word, minus_one};
+ghost use Rattle.kcall_core.specs.Calls.{with_a0, getpid, refused};
+ghost use Rattle.kcall_core.specs.Step.{call_in, call_begun};
+ghost use Rattle.kcall_core.specs.Built.{perform_so_far, own_so_far};
 ghost use Rattle.kcall_core.specs.RowLaws as laws;
-ghost use Rattle.kcall_core.specs.RowLaws.{After};
-ghost use Rattle.kcall_core.specs.Kernel.{state_of, IsSound, IsRunning, pid_now, live_now};
+ghost use Rattle.kcall_core.specs.RowLaws.{begun_live, begun_state};
+ghost use Rattle.kcall_core.specs.Updates.{own_state, with_answer};
+ghost use Rattle.kcall_core.specs.Kernel.{state_of, IsSound, IsRunning, slot_now, pid_now, live_now};
+ghost use Rattle.kcall_core.specs.Whole.{IsWhole};
+ghost use Rattle.kcall_core.specs.Makes.{Makes, view_now, answer_of};
+ghost use Rattle.kcall_core.specs.declared.call_end.CallEnd.TheVariants.{Done};
 
+use crate::call_end::CallEnd;
 use crate::kernel::{Kernel, put_answer};
 use hart_core::Hart;
+use proc_table::Call;
 use xk_base::Reg;
+
+/// The numbers of the calls, from here on (xv6's `syscall.h`): exit,
+const EXIT: i32 = 2;
+
+/// exec,
+const EXEC: i32 = 7;
+
+/// getpid,
+const GETPID: i32 = 11;
+
+/// and sbrk.
+const SBRK: i32 = 12;
 
 /// A hart goes past its ECALL.
 fn pass_call(hart: &mut Hart)
@@ -24,90 +48,169 @@ fn pass_call(hart: &mut Hart)
     hart.regs_mut().set_pc(next);
 }
 
-/// The number of the call that a process asks for: a C int in a7.
-fn asked_number(hart: &Hart) -> i32
-    ensures { result ≡ c_int (reg hart.now.regs A7) }
+/// A C int: the low 32 bits of a register, read as signed.
+pub(crate) fn c_int(register: u64) -> i32
+    ensures { result ≡ c_int register }
 {
-    let word = hart.regs().read(Reg::new(17));
-    ((word % (1 << 32)) as u32).cast_signed()
+    ((register % (1 << 32)) as u32).cast_signed()
 }
 
-/// Whether the call table has a row of this number.
-#[tactic(auto, unfolding(crate::specs::Calls::row_of))]
-fn has_row(number: i32) -> bool
-    ensures { result ≡ is_some (row_of number) }
+/// The call that a process asks for: its number is in a7, its arguments in a0 to a2.
+fn asked_call(hart: &Hart, clock: u32) -> Call
+    ensures { result ≡ record { number = c_int (reg hart.now.regs A7); a0 = reg hart.now.regs A0; a1 = reg hart.now.regs A1; a2 = reg hart.now.regs A2; moved = 0; clock = clock } }
 {
-    match number {
-        1 | 2 | 3 | 4 | 5 | 6 | 7 | 10 | 11 | 12 | 13 | 14 | 15 | 16 | 21 => true,
-        _ => false,
+    let regs = hart.regs();
+    Call {
+        number: c_int(regs.read(Reg::new(17))),
+        a0: regs.read(Reg::new(10)),
+        a1: regs.read(Reg::new(11)),
+        a2: regs.read(Reg::new(12)),
+        moved: 0,
+        clock,
     }
 }
 
 impl Kernel {
-    /// The process that runs goes past its ECALL, and a0 takes the answer.
-    fn answer_call(&self, hart: &mut Hart, value: u64)
-        requires sound { IsSound self.now hart.old }
-        requires running { IsRunning self.now }
-        ensures sound { IsSound self.now hart.new }
-        ensures state { let live = live_now self.now hart.old in state_of self.now hart.new ≡ set_live (pid_now self.now) (record live { regs = with_a0 (with_pc live.regs (after live.regs)) value }) (state_of self.now hart.old) }
+    /// The call that the ECALL at the pc asks for. The process goes past it, and the call is in progress.
+    fn begin(&mut self, hart: &mut Hart) -> Call
+        requires whole { IsWhole self.old hart.old }
+        requires running { IsRunning self.old }
+        ensures whole { IsWhole self.new hart.new }
+        ensures call { result ≡ call_begun (view_now self.old hart.old) }
+        ensures kernel { self.new ≡ record self.old { table = changed_at (slot_now self.old) (process.in_call (Some result)) self.old.table } }
+        ensures live { live_now self.new hart.new ≡ begun_live (state_of self.old hart.old) (pid_now self.old) (live_now self.old hart.old) }
+        ensures state { state_of self.new hart.new ≡ begun_state (pid_now self.old) (live_now self.old hart.old) (state_of self.old hart.old) }
     {
+        let Some(slot) = self.current else {
+            unreachable!();
+        };
+        let call = asked_call(hart, self.clock);
         pass_call(hart);
-        put_answer(hart, value);
+        self.table.set_progress(slot, Some(call));
+        call
     }
 
-    /// The calls that ask for nothing but the process: getpid, and each number that the call table lacks,
-    /// which answers -1. What they answer and leave is what the process's view tells. Whether the number is
-    /// one of these; where it isn't, nothing is changed.
-    fn call_simple(&self, hart: &mut Hart) -> bool
-        requires sound { IsSound self.now hart.old }
-        requires running { IsRunning self.now }
-        requires unmarked { laws.IsRunning (live_now self.now hart.old) }
-        requires ecall { let live = live_now self.now hart.old in instr live.regs (user live.image) ≡ Ecall }
-        ensures sound { IsSound self.now hart.new }
-        ensures own { result ≡ true → let s = state_of self.now hart.old in let live = live_now self.now hart.old in After s (pid_now self.now) live (own (view_of s (pid_now self.now) live)) (state_of self.now hart.new) }
-        ensures other { result ≡ false → hart.new ≡ hart.old }
-        ensures which { let number = c_int (reg (live_now self.now hart.old).regs A7) in result ≡ false → IsSome (row_of number) × (number ≢ pos 11) }
+    /// The call in progress is done, and a0 takes its answer.
+    pub(crate) fn done(&mut self, hart: &mut Hart, value: i64) -> CallEnd
+        requires sound { IsSound self.old hart.old }
+        requires running { IsRunning self.old }
+        ensures sound { IsSound self.new hart.new }
+        ensures end { result ≡ Done value }
+        ensures kernel { self.new ≡ record self.old { table = changed_at (slot_now self.old) (process.in_call None) self.old.table } }
+        ensures hart { hart.new ≡ record hart.old { regs = with_a0 hart.old.regs (word value) } }
+        ensures state { state_of self.new hart.new ≡ own_state (pid_now self.old) (with_answer value (live_now self.old hart.old)) (state_of self.old hart.old) }
     {
-        let number = asked_number(hart);
-        if !has_row(number) {
-            self.call_nothing(hart);
-            return true;
-        }
-        if number == 11 {
-            self.call_getpid(hart);
-            return true;
-        }
-        false
+        let Some(slot) = self.current else {
+            unreachable!();
+        };
+        self.table.set_progress(slot, None);
+        put_answer(hart, value.cast_unsigned());
+        CallEnd::Done(value)
     }
 
-    /// Call 11, getpid, from its ECALL on: what it answers and leaves is what the process's view tells.
-    fn call_getpid(&self, hart: &mut Hart)
-        requires sound { IsSound self.now hart.old }
-        requires running { IsRunning self.now }
-        requires unmarked { laws.IsRunning (live_now self.now hart.old) }
-        requires ecall { let live = live_now self.now hart.old in instr live.regs (user live.image) ≡ Ecall }
-        requires number { c_int (reg (live_now self.now hart.old).regs A7) ≡ pos 11 }
-        ensures sound { IsSound self.now hart.new }
-        ensures own { let s = state_of self.now hart.old in let live = live_now self.now hart.old in After s (pid_now self.now) live (own (view_of s (pid_now self.now) live)) (state_of self.now hart.new) }
+    /// A call is refused: the answer is -1, and nothing else changes.
+    fn refuse(&mut self, hart: &mut Hart) -> CallEnd
+        requires whole { IsWhole self.old hart.old }
+        requires running { IsRunning self.old }
+        ensures made { (call : Call) → Makes self.old hart.old (refused call (view_now self.old hart.old)) self.new hart.new }
+        ensures end { result ≡ Done minus_one }
+    {
+        self.done(hart, -1)
+    }
+
+    /// The call getpid: the answer is the pid of the process that runs.
+    fn getpid(&mut self, hart: &mut Hart) -> CallEnd
+        requires whole { IsWhole self.old hart.old }
+        requires running { IsRunning self.old }
+        ensures made { (call : Call) → Makes self.old hart.old (getpid call (view_now self.old hart.old)) self.new hart.new }
+        ensures end { result ≡ Done (pos (pid_now self.old)) }
     {
         let Some(slot) = self.current else {
             unreachable!();
         };
         let pid = self.table.pid(slot);
-        self.answer_call(hart, u64::from(pid.number()));
+        self.done(hart, i64::from(pid.number()))
     }
 
-    /// A call whose number the call table lacks, from its ECALL on: it answers -1, and what it leaves is
-    /// what the process's view tells.
-    fn call_nothing(&self, hart: &mut Hart)
-        requires sound { IsSound self.now hart.old }
-        requires running { IsRunning self.now }
-        requires unmarked { laws.IsRunning (live_now self.now hart.old) }
-        requires ecall { let live = live_now self.now hart.old in instr live.regs (user live.image) ≡ Ecall }
-        requires number { row_of (c_int (reg (live_now self.now hart.old).regs A7)) ≡ None }
-        ensures sound { IsSound self.now hart.new }
-        ensures own { let s = state_of self.now hart.old in let live = live_now self.now hart.old in After s (pid_now self.now) live (own (view_of s (pid_now self.now) live)) (state_of self.now hart.new) }
+    /// One step of the call in progress, by its row of the call table.
+    fn perform(&mut self, hart: &mut Hart, call: &Call) -> CallEnd
+        requires whole { IsWhole self.old hart.old }
+        requires running { IsRunning self.old }
+        requires unmarked { (live_now self.old hart.old).killed ≡ false }
+        requires in_call { (live_now self.old hart.old).call ≡ Some call.now }
+        ensures made { Makes self.old hart.old (perform_so_far call.now (view_now self.old hart.old)) self.new hart.new }
+        ensures answer { (perform_so_far call.now (view_now self.old hart.old)).answer ≡ answer_of call.now.number result }
     {
-        self.answer_call(hart, u64::MAX);
+        match call.number {
+            EXIT => {
+                let status = c_int(call.a0);
+                self.exit(hart, status);
+                CallEnd::Gone(status)
+            }
+            EXEC => self.exec(hart, call),
+            GETPID => self.getpid(hart),
+            SBRK => self.sbrk(hart, call),
+            _ => self.refuse(hart),
+        }
+    }
+
+    /// The call that the ECALL at the pc of the process that runs begins, and its first step.
+    #[cold]
+    pub fn call(&mut self, hart: &mut Hart) -> CallEnd
+        requires whole { IsWhole self.old hart.old }
+        requires running { IsRunning self.old }
+        requires between_calls { laws.IsBetweenCalls (live_now self.old hart.old) }
+        requires ecall { let live = live_now self.old hart.old in instr live.regs (user live.image) ≡ Ecall }
+        ensures made { Makes self.old hart.old (own_so_far (view_now self.old hart.old)) self.new hart.new }
+        ensures answer { let v = view_now self.old hart.old in (own_so_far v).answer ≡ answer_of (call_in v).number result }
+    {
+        let call = self.begin(hart);
+        self.perform(hart, &call)
+    }
+
+    /// Whether the kill mark of the process that runs is set.
+    #[inline(always)]
+    pub fn marked(&self) -> bool
+        requires sound { (hart : Hart) × IsSound self.now hart }
+        requires running { IsRunning self.now }
+        ensures { (hart : Hart) → result ≡ (live_now self.now hart).killed }
+    {
+        let Some(slot) = self.current else {
+            unreachable!();
+        };
+        self.table.marked(slot)
+    }
+
+    /// The number of the call that the process that runs is in; `None` where it is in none.
+    #[inline(always)]
+    pub fn in_call(&self) -> Option<i32>
+        requires sound { (hart : Hart) × IsSound self.now hart }
+        requires running { IsRunning self.now }
+        ensures { (hart : Hart) → result ≡ option_map (λ (call : Call). call.number) (live_now self.now hart).call }
+    {
+        let Some(slot) = self.current else {
+            unreachable!();
+        };
+        let call = self.table.progress(slot)?;
+        Some(call.number)
+    }
+
+    /// One more step of the call that the process that runs is in.
+    #[cold]
+    pub fn resume(&mut self, hart: &mut Hart) -> CallEnd
+        requires whole { IsWhole self.old hart.old }
+        requires running { IsRunning self.old }
+        requires unmarked { (live_now self.old hart.old).killed ≡ false }
+        requires in_call { IsSome (live_now self.old hart.old).call }
+        ensures made { Makes self.old hart.old (own_so_far (view_now self.old hart.old)) self.new hart.new }
+        ensures answer { let v = view_now self.old hart.old in (own_so_far v).answer ≡ answer_of (call_in v).number result }
+    {
+        let Some(slot) = self.current else {
+            unreachable!();
+        };
+        let Some(call) = self.table.progress(slot) else {
+            unreachable!();
+        };
+        self.perform(hart, &call)
     }
 }

@@ -1,5 +1,5 @@
 //! The call exec: a process goes on with another program.
-ghost use Rattle.std.specs.Prelude.{◌≡◌, ℕ, ◌%◌, ◌^◌, ◌-◌, ◌<◌, ◌≤◌, List, Some, None, IfSome, IfNone, map, option_copied, option_map};
+ghost use Rattle.std.specs.Prelude.{◌≡◌, ◌%◌, ◌<◌, ◌≤◌, false, Some, IfSome, IfNone, map, option_copied, option_map};
 ghost use Rattle.xk_base.specs.Image.{price};
 ghost use Rattle.xk_base.specs.Loaded.{Loaded};
 ghost use Rattle.rv64i_core.specs.Registers.{put, with_pc};
@@ -7,18 +7,21 @@ ghost use Rattle.kcall_core.specs.Words.{SP, A1};
 ghost use Rattle.kcall_core.specs.Buffers.{no_slashes};
 ghost use Rattle.kcall_core.specs.Programs.{program_named};
 ghost use Rattle.kcall_core.specs.State.{named_file};
-ghost use Rattle.kcall_core.specs.Calls.{with_a0};
-ghost use Rattle.kcall_core.specs.Updates.{set_live, started};
+ghost use Rattle.kcall_core.specs.Calls.{exec};
 ghost use Rattle.kcall_core.specs.Execs.{asked};
 ghost use Rattle.kcall_core.specs.Holdings.{held_at, HasMemory, with_image};
 ghost use Rattle.kcall_core.specs.Memories as memory;
 ghost use Rattle.kcall_core.specs.Memories.{each_of, free_of, RunsIn, SlotChanges, Same};
-ghost use Rattle.kcall_core.specs.Kernel.{state_of, IsSound, IsRunning, pid_now, live_now, IsRepriced};
+ghost use Rattle.kcall_core.specs.Kernel.{IsRunning, live_now};
+ghost use Rattle.kcall_core.specs.Whole.{IsWhole};
+ghost use Rattle.kcall_core.specs.Makes.{Makes, view_now, answer_of};
 
-use crate::kernel::{Kernel, put_answer};
+use crate::call_end::CallEnd;
+use crate::kernel::Kernel;
 use crate::memories::Memories;
 use exec_core::{Entry, plan};
 use hart_core::Hart;
+use proc_table::Call;
 use xk_base::limits::MAXPATH;
 use xk_base::{Program, Reg};
 
@@ -44,13 +47,12 @@ pub(crate) fn program_named<'a>(programs: &'a [Program], name: &[u8]) -> Option<
 /// Gives a hart the registers with which a program starts. All others stay.
 fn start_program(hart: &mut Hart, start: Entry)
     requires { start.pc % 4 ≡ 0 }
-    ensures { hart.new ≡ record hart.old { regs = with_a0 (with_pc (put (put hart.old.regs SP start.sp) A1 start.sp) start.pc) start.argc } }
+    ensures { hart.new ≡ record hart.old { regs = with_pc (put (put hart.old.regs SP start.sp) A1 start.sp) start.pc } }
 {
     let regs = hart.regs_mut();
     regs.write(Reg::new(2), start.sp);
     regs.write(Reg::new(11), start.sp);
     regs.set_pc(start.pc);
-    regs.write(Reg::new(10), start.argc);
 }
 
 /// Replaces the image of a slot by the program that its process asks for, and tells with which registers
@@ -91,15 +93,16 @@ fn replace_as_asked(
 
 impl Kernel {
     /// The call exec: the process that runs goes on with the program that it asks for, by the addresses of
-    /// a path and of pointers to texts, and a0 takes the number of texts. Where there is no such program,
-    /// or it costs more than the free frames, a0 takes -1, and nothing else changes.
-    fn exec(&mut self, hart: &mut Hart, path: u64, pointers: u64)
-        requires sound { IsSound self.old hart.old }
+    /// a path and of pointers to texts; the answer is the number of texts. Where a byte of them can't be read,
+    /// no program has the name, its file can't be loaded, or its memory costs more than the free frames, the
+    /// answer is -1, and nothing else changes.
+    pub(crate) fn exec(&mut self, hart: &mut Hart, call: &Call) -> CallEnd
+        requires whole { IsWhole self.old hart.old }
         requires running { IsRunning self.old }
-        ensures sound { IsSound self.new hart.new }
-        ensures started { let s = state_of self.old hart.old in let live = live_now self.old hart.old in (l : Loaded) → asked s.programs live.image path pointers ≡ Some l → price l.image ≤ s.free → IsRepriced s live.image l.image (set_live (pid_now self.old) (record (started l live) { regs = with_a0 (started l live).regs l.argc }) s) (state_of self.new hart.new) }
-        ensures too_dear { let s = state_of self.old hart.old in let live = live_now self.old hart.old in (l : Loaded) → asked s.programs live.image path pointers ≡ Some l → s.free < price l.image → state_of self.new hart.new ≡ set_live (pid_now self.old) (record live { regs = with_a0 live.regs (2 ^ 64 - 1) }) s }
-        ensures refused { let s = state_of self.old hart.old in let live = live_now self.old hart.old in asked s.programs live.image path pointers ≡ None → state_of self.new hart.new ≡ set_live (pid_now self.old) (record live { regs = with_a0 live.regs (2 ^ 64 - 1) }) s }
+        requires unmarked { (live_now self.old hart.old).killed ≡ false }
+        requires in_call { (live_now self.old hart.old).call ≡ Some call.now }
+        ensures made { Makes self.old hart.old (exec call.now (view_now self.old hart.old)) self.new hart.new }
+        ensures answer { (exec call.now (view_now self.old hart.old)).answer ≡ answer_of call.now.number result }
     {
         let Some(slot) = self.current else {
             unreachable!();
@@ -108,13 +111,13 @@ impl Kernel {
             &mut self.memories,
             &self.programs,
             slot,
-            path,
-            pointers,
+            call.a0,
+            call.a1,
             hart,
         ) else {
-            put_answer(hart, u64::MAX);
-            return;
+            return self.done(hart, -1);
         };
         start_program(hart, start);
+        self.done(hart, start.argc.cast_signed())
     }
 }

@@ -1,11 +1,19 @@
 //! A process goes.
 ghost use Rattle.std.specs.Prelude.{◌≡◌, ◌≢◌, Some, None};
 ghost use Rattle.std.specs.FinMap.{empty};
+ghost use Rattle.proc_table.specs.Processes.{given, ended};
+ghost use Rattle.proc_table.specs.Slots.{each_changed, changed_at};
+ghost use Rattle.kcall_core.specs.Own.{Answer, gone_with};
+ghost use Rattle.kcall_core.specs.Calls.{gone};
 ghost use Rattle.kcall_core.specs.Updates.{gone_state};
-ghost use Rattle.kcall_core.specs.Kernel.{state_of, IsSound, IsRunning, pid_now, live_now};
+ghost use Rattle.kcall_core.specs.Kernel.{frame_count, IsStopped, state_of, IsSound, IsRunning, slot_now, pid_now, live_now};
+ghost use Rattle.kcall_core.specs.Whole.{IsWhole};
+ghost use Rattle.kcall_core.specs.Makes.{Makes, view_now};
 
 use crate::kernel::Kernel;
 use hart_core::Hart;
+use proc_table::Channel;
+use xk_base::Pid;
 
 impl Kernel {
     /// The process that runs ends with a status, where it has no descriptor in use and isn't its own
@@ -16,7 +24,10 @@ impl Kernel {
         requires closed { (live_now self.old hart.old).descriptors ≡ empty }
         requires parent { (live_now self.old hart.old).parent ≢ Some (pid_now self.old) }
         ensures sound { IsSound self.new hart.new }
-        ensures stopped { self.new.current ≡ None }
+        ensures stopped { IsStopped self.new }
+        ensures table { self.new.table ≡ changed_at (slot_now self.old) (ended status) (each_changed (given (pid_now self.old) 1) self.old.table) }
+        ensures files { self.new.files ≡ self.old.files }
+        ensures frames { frame_count self.new ≡ frame_count self.old }
         ensures state { let s = state_of self.old hart.old in state_of self.new hart.new ≡ gone_state (pid_now self.old) (live_now self.old hart.old) status s.files s }
     {
         let Some(slot) = self.current else {
@@ -25,5 +36,23 @@ impl Kernel {
         let pid = self.table.pid(slot);
         self.orphan(pid);
         self.end(hart, status);
+    }
+
+    /// The process that runs ends with a status: its descriptors are closed, its children go to pid 1, its
+    /// frames are free, and its parent and pid 1 wake where they wait for a child.
+    #[cold]
+    pub fn exit(&mut self, hart: &mut Hart, status: i32)
+        requires whole { IsWhole self.old hart.old }
+        requires running { IsRunning self.old }
+        ensures made { (answer : Answer) → gone_with answer ≡ Some status → Makes self.old hart.old (gone answer (view_now self.old hart.old)) self.new hart.new }
+    {
+        let Some(slot) = self.current else {
+            unreachable!();
+        };
+        let parent = self.table.parent(slot);
+        self.close_all();
+        self.go_closed(hart, status);
+        self.wake_parent(parent);
+        self.wake(Channel::Children(Pid::new(1)));
     }
 }

@@ -1,11 +1,12 @@
 //! What observers of a kernel are told of its processes.
-ghost use Rattle.std.specs.Prelude.{◌≡◌, None, IfSome, IfNone, option_map};
+ghost use Rattle.std.specs.Prelude.{◌≡◌, ℤ, Option, None, IfSome, IfNone, option_map};
 ghost use Rattle.hart_core.specs.declared.hart.Hart.{Hart};
 ghost use Rattle.proc_table.specs.Slots.{IsTable};
 ghost use Rattle.kcall_core.specs.Words.{is_this};
 ghost use Rattle.kcall_core.specs.State.{live};
 ghost use Rattle.kcall_core.specs.Observers.{IsLiveIn, registers_of, byte_at, child_at, seen, shown};
-ghost use Rattle.kcall_core.specs.Kernel.{state_of, IsSound, pid_now};
+ghost use Rattle.kcall_core.specs.Kernel.{state_of, IsSound};
+ghost use Rattle.kcall_core.specs.Machine.{turns_of};
 
 use crate::kernel::Kernel;
 use hart_core::Hart;
@@ -70,9 +71,10 @@ impl Kernel {
     }
 
     /// The pid of the process that runs, if one does.
+    #[inline(always)]
     pub fn current(&self) -> Option<Pid>
         requires { (hart : Hart) × IsSound self.now hart }
-        ensures { result ≡ option_map (λ _. pid_now self.now) self.now.current }
+        ensures { (halted : Option ℤ) → result ≡ (turns_of self.now halted).current }
     {
         let Some(slot) = self.current else {
             return None;

@@ -1,16 +1,18 @@
 //! The first process.
-ghost use Rattle.std.specs.Prelude.{◌≡◌, ℕ, ◌+◌, ◌%◌, ◌≤◌, [], ◌∷◌, Some, Ok, IsSome, IfOk, IfErr, map};
+ghost use Rattle.std.specs.Prelude.{◌≡◌, ℕ, ◌+◌, ◌%◌, ◌≤◌, [], ◌∷◌, Some, None, Ok, IsSome, IfOk, IfErr, map};
 ghost use Rattle.xk_base.specs.Image.{price};
 ghost use Rattle.xk_base.specs.Loaded.{Loaded, loaded};
 ghost use Rattle.rv64i_core.specs.Registers.{fresh, put};
 ghost use Rattle.kcall_core.specs.Words.{SP, A0, A1};
 ghost use Rattle.kcall_core.specs.Programs.{init_name, init_of, program_bytes};
 ghost use Rattle.kcall_core.specs.State.{named_file};
-ghost use Rattle.kcall_core.specs.Starts.{IsBlank, init_loaded, start_refusal, started_state};
+ghost use Rattle.kcall_core.specs.Starts.{IsBlank, init_loaded, start_refusal, started_world};
 ghost use Rattle.kcall_core.specs.Holdings.{IsVacant};
 ghost use Rattle.kcall_core.specs.Memories as memory;
 ghost use Rattle.kcall_core.specs.Memories.{each_of, free_of, SlotChanges, Same};
-ghost use Rattle.kcall_core.specs.Kernel.{state_of, IsSound};
+ghost use Rattle.kcall_core.specs.Kernel.{frame_count, state_of, IsSound};
+ghost use Rattle.kcall_core.specs.Machine.{world_of};
+ghost use Rattle.kcall_core.specs.Whole.{IsWhole};
 
 use crate::kernel::Kernel;
 use crate::kernel::exec_call::program_named;
@@ -79,8 +81,10 @@ impl Kernel {
         requires blank { IsBlank self.old }
         requires program { IsSome (init_of (state_of self.old hart.old).programs) }
         ensures sound { IsSound self.new hart.new }
-        ensures started { IfOk result (λ _. (l : Loaded) × (init_loaded (state_of self.old hart.old) ≡ Ok l) × (price l.image + 1 ≤ (state_of self.old hart.old).free) × (state_of self.new hart.new ≡ started_state l (state_of self.old hart.old))) }
-        ensures refused { IfErr result (λ e. (start_refusal (state_of self.old hart.old).free (init_loaded (state_of self.old hart.old)) ≡ Some e) × (state_of self.new hart.new ≡ state_of self.old hart.old) × (hart.new ≡ hart.old)) }
+        ensures whole { IfOk result (λ _. IsWhole self.new hart.new) }
+        ensures started { let s = state_of self.old hart.old in IfOk result (λ _. (l : Loaded) × (init_loaded s ≡ Ok l) × (price l.image + 1 ≤ s.free) × (world_of self.new hart.new None ≡ started_world l s)) }
+        ensures refused { let s = state_of self.old hart.old in IfErr result (λ e. (start_refusal s.free (init_loaded s) ≡ Some e) × IsBlank self.new × (world_of self.new hart.new None ≡ world_of self.old hart.old None) × (hart.new ≡ hart.old)) }
+        ensures frames { frame_count self.new ≡ frame_count self.old }
     {
         let start = load_first(&mut self.memories, &self.programs)?;
         let Ok((slot, _)) = self.table.spawn(None) else {

@@ -1,37 +1,35 @@
-use Rattle.std.proofs.Common.{ap, refl}
-use Rattle.rv64i_core.specs.Step.{instr}
-use Rattle.hart_core.specs.UserMemory.{user}
-use Rattle.hart_core.specs.declared.hart.Hart.{Hart}
-use Rattle.xv_machine.specs.Machine.{image_in}
-use Rattle.xv_machine.proofs.Steps.{step-next, step-ecall, step-fault}
+use Rattle.std.proofs.Common.{rules, ap, sym, ◌∙◌, refl, w32}
+use Rattle.std.proofs.lemmas.Int.{to_z-of_z}
+use Rattle.kcall_core.specs.Makes.{answer_of}
+use Rattle.kcall_core.specs.Own.{Exited}
+use Rattle.kcall_core.specs.Run.{Step_of}
+use Rattle.kcall_core.specs.Words.{minus_one}
+use Rattle.xv_machine.specs.Events.{outcome_of}
+use Rattle.xv_machine.proofs.SoFar.{ends-marked, marked-answer, resume-answer, call-is, call-missing}
 use Rattle.xv_machine.proofs.step.step.Goals as goal
 
-pub returns-in-Next-clause-answer : goal.returns-in-Next-clause-answer
-returns-in-Next-clause-answer c =
-    (step-next c.args.pid c.args.hart.now c.step.new.hart c.args.memories.now c.step.new.self (instr c.args.hart.now.regs (user (image_in c.args.memories.now.ram c.args.memories.now.held))) refl
-    c.in-Next.ensures.stop c.in-Next.ensures.regs c.in-Next.ensures.image c.in-Next.ensures.free c.in-Next.ensures.whole c.in-Next.ensures.stands c.in-Next.ensures.count).0
+pub returns-then-marked-clause-made : goal.returns-then-marked-clause-made
+returns-then-marked-clause-made c =
+    ends-marked c.args.kernel.now c.exit.new.self c.args.hart.now c.exit.new.hart (sym (c.marked.ensures c.args.hart.now) ∙ c.if-marked.true) (c.exit.ensures.made (Exited minus_one) refl)
 
-pub returns-in-Next-clause-left : goal.returns-in-Next-clause-left
-returns-in-Next-clause-left c =
-    (step-next c.args.pid c.args.hart.now c.step.new.hart c.args.memories.now c.step.new.self (instr c.args.hart.now.regs (user (image_in c.args.memories.now.ram c.args.memories.now.held))) refl
-    c.in-Next.ensures.stop c.in-Next.ensures.regs c.in-Next.ensures.image c.in-Next.ensures.free c.in-Next.ensures.whole c.in-Next.ensures.stands c.in-Next.ensures.count).1
+pub returns-then-marked-clause-answer : goal.returns-then-marked-clause-answer
+returns-then-marked-clause-answer c =
+    sym (ap (Step_of c.args.pid) (marked-answer c.args.kernel.now c.exit.new.self c.args.hart.now c.exit.new.hart (sym (c.marked.ensures c.args.hart.now) ∙ c.if-marked.true)))
 
-pub returns-in-Ecall-clause-answer : goal.returns-in-Ecall-clause-answer
-returns-in-Ecall-clause-answer c =
-    (step-ecall c.args.pid c.args.hart.now c.step.new.hart c.pass_ecall.new.hart c.call.new.hart c.args.memories.now c.step.new.self c.call.new.memories c.call.result (instr c.args.hart.now.regs (user (image_in c.args.memories.now.ram c.args.memories.now.held))) refl
-    c.in-Ecall.ensures.stop c.in-Ecall.ensures.regs c.in-Ecall.ensures.image c.in-Ecall.ensures.free c.in-Ecall.ensures.count (ap (λ (h : Hart). h.regs) c.pass_ecall.ensures) c.call.ensures.answer c.call.ensures.left).0
+pub instruction-requires-clause-between_calls : goal.instruction-requires-clause-between_calls
+instruction-requires-clause-between_calls c = (
+  sym (c.marked.ensures c.args.hart.now) ∙ c.if-marked.false,
+  call-missing c.args.kernel.now c.args.hart.now (sym (c.in_call.ensures c.args.hart.now) ∙ c.in_default.is),
+)
 
-pub returns-in-Ecall-clause-left : goal.returns-in-Ecall-clause-left
-returns-in-Ecall-clause-left c =
-    (step-ecall c.args.pid c.args.hart.now c.step.new.hart c.pass_ecall.new.hart c.call.new.hart c.args.memories.now c.step.new.self c.call.new.memories c.call.result (instr c.args.hart.now.regs (user (image_in c.args.memories.now.ram c.args.memories.now.held))) refl
-    c.in-Ecall.ensures.stop c.in-Ecall.ensures.regs c.in-Ecall.ensures.image c.in-Ecall.ensures.free c.in-Ecall.ensures.count (ap (λ (h : Hart). h.regs) c.pass_ecall.ensures) c.call.ensures.answer c.call.ensures.left).1
+pub resume-end-requires-clause-unmarked : goal.resume-end-requires-clause-unmarked
+resume-end-requires-clause-unmarked c = sym (c.marked.ensures c.args.hart.now) ∙ c.if-marked.false
 
-pub returns-in-Fault-clause-answer : goal.returns-in-Fault-clause-answer
-returns-in-Fault-clause-answer c =
-    (step-fault c.args.pid c.args.hart.now c.remove.new.hart c.args.memories.now c.step.new.self c.remove.new.memories c.in-Fault.cause (instr c.args.hart.now.regs (user (image_in c.args.memories.now.ram c.args.memories.now.held))) refl
-    c.in-Fault.ensures.stop c.in-Fault.ensures.image c.in-Fault.ensures.free c.in-Fault.ensures.count c.remove.ensures.whole c.remove.ensures.empty c.remove.ensures.count c.remove.ensures.free).0
+pub resume-end-requires-clause-in_call : goal.resume-end-requires-clause-in_call
+resume-end-requires-clause-in_call c =
+    call-is c.args.kernel.now c.args.hart.now c.in-Some.number (sym (c.in_call.ensures c.args.hart.now) ∙ c.in-Some.is)
 
-pub returns-in-Fault-clause-left : goal.returns-in-Fault-clause-left
-returns-in-Fault-clause-left c =
-    (step-fault c.args.pid c.args.hart.now c.remove.new.hart c.args.memories.now c.step.new.self c.remove.new.memories c.in-Fault.cause (instr c.args.hart.now.regs (user (image_in c.args.memories.now.ram c.args.memories.now.held))) refl
-    c.in-Fault.ensures.stop c.in-Fault.ensures.image c.in-Fault.ensures.free c.in-Fault.ensures.count c.remove.ensures.whole c.remove.ensures.empty c.remove.ensures.count c.remove.ensures.free).1
+pub returns-clause-answer : goal.returns-clause-answer
+returns-clause-answer c =
+    resume-answer c.args.kernel.now c.args.hart.now c.args.pid c.in-Some.number c.resume-end.result (outcome_of c.call_outcome.result) (sym c.in-Some.is ∙ c.in_call.ensures c.args.hart.now) c.resume-end.ensures.answer
+    (c.call_outcome.ensures ∙ ap (λ n. Step_of c.args.pid (answer_of n c.resume-end.result)) (to_z-of_z w32 c.in-Some.number (search rules)))

@@ -1,6 +1,7 @@
 use Rattle.std.proofs.Common.{refl, sym, ap, ◌∙◌, subst, Some}
 use Rattle.std.specs.Prelude.{IsSome, option_map}
 use Rattle.kcall_core.specs.Kernel.{pid_now}
+use Rattle.kcall_core.specs.Machine.{turns_of}
 use Rattle.kcall_core.proofs.States.{slot-inside}
 use Rattle.kcall_core.proofs.Stops.{now-slot}
 use Rattle.kcall_core.proofs.Chosen.{pid-told}
@@ -15,6 +16,11 @@ pub pid-requires-clause-held : goal.pid-requires-clause-held
 pid-requires-clause-held c = subst (λ o. IsSome o) (sym (c.requires.1.current c.in-Some.slot c.in-Some.is).is) refl
 
 pub returns : goal.returns
-returns c =
+unfolding turns_of
+returns c halted =
     ap Some (sym (pid-told c.args.self.now c.in-Some.slot c.pid.result (sym (now-slot c.in-Some.slot c.requires.1 c.in-Some.is)) c.pid.ensures))
     ∙ sym (ap (option_map (λ _. pid_now c.args.self.now)) c.in-Some.is)
+
+pub returns-in_default : goal.returns-in_default
+unfolding turns_of
+returns-in_default c halted = sym (ap (option_map (λ _. pid_now c.args.self.now)) c.in_default.is)

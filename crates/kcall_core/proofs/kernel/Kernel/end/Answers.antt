@@ -4,7 +4,7 @@ use Rattle.proc_table.specs.Processes.{ended}
 use Rattle.proc_table.specs.Slots.{changed_at}
 use Rattle.hart_core.specs.declared.hart.Hart.{Hart}
 use Rattle.kcall_core.proofs.States.{slot-inside}
-use Rattle.kcall_core.proofs.Stops.{now-has, live-place, ended-sound, ended-state}
+use Rattle.kcall_core.proofs.Stops.{now-has, now-slot, live-place, ended-sound, ended-state}
 use Rattle.kcall_core.proofs.kernel.Kernel.end.Goals as goal
 
 pub give_back-requires-clause-there : goal.give_back-requires-clause-there
@@ -31,3 +31,11 @@ returns-clause-state c =
     let status = to_z-of_z _ c.args.status c.ranges.status in
     let table = c.zombie.ensures ∙ ap (λ z. changed_at c.in-Some.slot (ended z) c.args.self.now.table) status in
     ended-state (record c.args.self.now { memories = c.give_back.new.self; table = c.zombie.new.self; current = None }) c.leave.new.self c.args.status c.requires.sound c.in-Some.is c.give_back.ensures table refl (record { files = refl; console = refl; programs = refl; clock = refl })
+
+pub returns-clause-table : goal.returns-clause-table
+returns-clause-table c =
+    let status = to_z-of_z _ c.args.status c.ranges.status in
+    c.zombie.ensures ∙ ap (λ z. changed_at c.in-Some.slot (ended z) c.args.self.now.table) status ∙ ap (λ n. changed_at n (ended c.args.status) c.args.self.now.table) (now-slot c.in-Some.slot c.requires.sound c.in-Some.is)
+
+pub returns-clause-frames : goal.returns-clause-frames
+returns-clause-frames c = c.give_back.ensures.frames

@@ -1,68 +1,55 @@
 use Rattle.std.proofs.Common.{map, refl, subst}
 use Rattle.kcall_core.specs.State.{named_file}
 use Rattle.kcall_core.proofs.Stops.{now-has, now-slot}
-use Rattle.kcall_core.proofs.ExecSteps.{Replaced, Unreplaced, exec-sound, exec-becomes, exec-fits, exec-there, refused-both, refused-dear}
+use Rattle.kcall_core.proofs.ExecSteps.{Replaced, Unreplaced, exec-prepared, exec-count, exec-made, exec-answer, refused-prepared, refused-made, refused-answer}
 use Rattle.kcall_core.proofs.kernel.Kernel.exec.Goals as goal
 
 pub replace_as_asked-requires-clause-there : goal.replace_as_asked-requires-clause-there
-replace_as_asked-requires-clause-there c = now-has c.in-Some.slot c.requires.sound c.in-Some.is
+replace_as_asked-requires-clause-there c = now-has c.in-Some.slot c.requires.whole.sound c.in-Some.is
 
-pub returns-in_default-replace_as_asked-clause-sound : goal.returns-in_default-replace_as_asked-clause-sound
-returns-in_default-replace_as_asked-clause-sound c =
-    let slot = now-slot c.in-Some.slot c.requires.sound c.in-Some.is in
-    let first = subst (λ p. Unreplaced c.args.self.now.memories c.replace_as_asked.new.memories (map named_file p) c.in-Some.slot c.args.path c.args.pointers c.args.hart.now c.replace_as_asked.new.hart) c.deref.ensures.value c.in_default-replace_as_asked.ensures.refused in
-    let done = subst (λ n. Unreplaced c.args.self.now.memories c.replace_as_asked.new.memories (map named_file c.args.self.now.programs.items) n c.args.path c.args.pointers c.args.hart.now c.replace_as_asked.new.hart) slot first in
-    (refused-both c.args.self.now (record c.args.self.now { memories = c.replace_as_asked.new.memories }) c.args.hart.now c.replace_as_asked.new.hart c.put_answer.new.hart c.args.path c.args.pointers c.requires.sound c.requires.running refl refl (record { files = refl; console = refl; programs = refl; clock = refl }) 18446744073709551615 done c.put_answer.ensures).0
+pub done-requires-clause-sound : goal.done-requires-clause-sound
+done-requires-clause-sound c =
+    let slot = now-slot c.in-Some.slot c.requires.whole.sound c.in-Some.is in
+    let first = subst (λ p. Unreplaced c.args.self.now.memories c.replace_as_asked.new.memories (map named_file p) c.in-Some.slot c.args.call.now.a0 c.args.call.now.a1 c.args.hart.now c.replace_as_asked.new.hart) c.deref.ensures.value c.in_default-replace_as_asked.ensures.refused in
+    let not = subst (λ n. Unreplaced c.args.self.now.memories c.replace_as_asked.new.memories (map named_file c.args.self.now.programs.items) n c.args.call.now.a0 c.args.call.now.a1 c.args.hart.now c.replace_as_asked.new.hart) slot first in
+    (refused-prepared c.args.self.now c.args.hart.now c.replace_as_asked.new.hart c.replace_as_asked.new.memories c.args.call.now c.requires.whole c.requires.running not).sound
 
-pub returns-in_default-replace_as_asked-clause-started : goal.returns-in_default-replace_as_asked-clause-started
-returns-in_default-replace_as_asked-clause-started c l is fits =
-    let slot = now-slot c.in-Some.slot c.requires.sound c.in-Some.is in
-    let first = subst (λ p. Unreplaced c.args.self.now.memories c.replace_as_asked.new.memories (map named_file p) c.in-Some.slot c.args.path c.args.pointers c.args.hart.now c.replace_as_asked.new.hart) c.deref.ensures.value c.in_default-replace_as_asked.ensures.refused in
-    let done = subst (λ n. Unreplaced c.args.self.now.memories c.replace_as_asked.new.memories (map named_file c.args.self.now.programs.items) n c.args.path c.args.pointers c.args.hart.now c.replace_as_asked.new.hart) slot first in
-    refused-dear c.args.self.now (record c.args.self.now { memories = c.replace_as_asked.new.memories }) c.args.hart.now c.replace_as_asked.new.hart c.put_answer.new.hart c.args.path c.args.pointers c.requires.sound c.requires.running refl refl (record { files = refl; console = refl; programs = refl; clock = refl }) 18446744073709551615 done c.put_answer.ensures l is fits
+pub returns-in_default-replace_as_asked-clause-made : goal.returns-in_default-replace_as_asked-clause-made
+returns-in_default-replace_as_asked-clause-made c =
+    let slot = now-slot c.in-Some.slot c.requires.whole.sound c.in-Some.is in
+    let first = subst (λ p. Unreplaced c.args.self.now.memories c.replace_as_asked.new.memories (map named_file p) c.in-Some.slot c.args.call.now.a0 c.args.call.now.a1 c.args.hart.now c.replace_as_asked.new.hart) c.deref.ensures.value c.in_default-replace_as_asked.ensures.refused in
+    let not = subst (λ n. Unreplaced c.args.self.now.memories c.replace_as_asked.new.memories (map named_file c.args.self.now.programs.items) n c.args.call.now.a0 c.args.call.now.a1 c.args.hart.now c.replace_as_asked.new.hart) slot first in
+    refused-made c.args.self.now c.args.hart.now c.replace_as_asked.new.hart c.replace_as_asked.new.memories c.args.call.now c.requires.whole c.requires.running not c.done.new.self c.done.new.hart _ refl (record { sound = c.done.ensures.sound; kernel = c.done.ensures.kernel; state = c.done.ensures.state })
 
-pub returns-in_default-replace_as_asked-clause-too_dear : goal.returns-in_default-replace_as_asked-clause-too_dear
-returns-in_default-replace_as_asked-clause-too_dear c l is dear =
-    let slot = now-slot c.in-Some.slot c.requires.sound c.in-Some.is in
-    let first = subst (λ p. Unreplaced c.args.self.now.memories c.replace_as_asked.new.memories (map named_file p) c.in-Some.slot c.args.path c.args.pointers c.args.hart.now c.replace_as_asked.new.hart) c.deref.ensures.value c.in_default-replace_as_asked.ensures.refused in
-    let done = subst (λ n. Unreplaced c.args.self.now.memories c.replace_as_asked.new.memories (map named_file c.args.self.now.programs.items) n c.args.path c.args.pointers c.args.hart.now c.replace_as_asked.new.hart) slot first in
-    (refused-both c.args.self.now (record c.args.self.now { memories = c.replace_as_asked.new.memories }) c.args.hart.now c.replace_as_asked.new.hart c.put_answer.new.hart c.args.path c.args.pointers c.requires.sound c.requires.running refl refl (record { files = refl; console = refl; programs = refl; clock = refl }) 18446744073709551615 done c.put_answer.ensures).1
+pub returns-in_default-replace_as_asked-clause-answer : goal.returns-in_default-replace_as_asked-clause-answer
+returns-in_default-replace_as_asked-clause-answer c =
+    let slot = now-slot c.in-Some.slot c.requires.whole.sound c.in-Some.is in
+    let first = subst (λ p. Unreplaced c.args.self.now.memories c.replace_as_asked.new.memories (map named_file p) c.in-Some.slot c.args.call.now.a0 c.args.call.now.a1 c.args.hart.now c.replace_as_asked.new.hart) c.deref.ensures.value c.in_default-replace_as_asked.ensures.refused in
+    let not = subst (λ n. Unreplaced c.args.self.now.memories c.replace_as_asked.new.memories (map named_file c.args.self.now.programs.items) n c.args.call.now.a0 c.args.call.now.a1 c.args.hart.now c.replace_as_asked.new.hart) slot first in
+    refused-answer c.args.self.now c.args.hart.now c.replace_as_asked.new.hart c.replace_as_asked.new.memories c.args.call.now c.requires.whole c.requires.running not c.done.result _ refl c.done.ensures.end
 
-pub returns-in_default-replace_as_asked-clause-refused : goal.returns-in_default-replace_as_asked-clause-refused
-returns-in_default-replace_as_asked-clause-refused c none =
-    let slot = now-slot c.in-Some.slot c.requires.sound c.in-Some.is in
-    let first = subst (λ p. Unreplaced c.args.self.now.memories c.replace_as_asked.new.memories (map named_file p) c.in-Some.slot c.args.path c.args.pointers c.args.hart.now c.replace_as_asked.new.hart) c.deref.ensures.value c.in_default-replace_as_asked.ensures.refused in
-    let done = subst (λ n. Unreplaced c.args.self.now.memories c.replace_as_asked.new.memories (map named_file c.args.self.now.programs.items) n c.args.path c.args.pointers c.args.hart.now c.replace_as_asked.new.hart) slot first in
-    (refused-both c.args.self.now (record c.args.self.now { memories = c.replace_as_asked.new.memories }) c.args.hart.now c.replace_as_asked.new.hart c.put_answer.new.hart c.args.path c.args.pointers c.requires.sound c.requires.running refl refl (record { files = refl; console = refl; programs = refl; clock = refl }) 18446744073709551615 done c.put_answer.ensures).1
-
-pub returns-clause-sound : goal.returns-clause-sound
-returns-clause-sound c =
-    let slot = now-slot c.in-Some.slot c.requires.sound c.in-Some.is in
+pub done-requires-2-clause-sound : goal.done-requires-2-clause-sound
+done-requires-2-clause-sound c =
+    let slot = now-slot c.in-Some.slot c.requires.whole.sound c.in-Some.is in
     let start = c.in-Some-replace_as_asked.start in
-    let first = subst (λ p. Replaced c.args.self.now.memories c.replace_as_asked.new.memories (map named_file p) c.in-Some.slot c.args.path c.args.pointers start c.replace_as_asked.new.hart) c.deref.ensures.value c.in-Some-replace_as_asked.ensures.started in
-    let done = subst (λ n. Replaced c.args.self.now.memories c.replace_as_asked.new.memories (map named_file c.args.self.now.programs.items) n c.args.path c.args.pointers start c.replace_as_asked.new.hart) slot first in
-    exec-sound c.args.self.now (record c.args.self.now { memories = c.replace_as_asked.new.memories }) c.args.hart.now c.replace_as_asked.new.hart c.start_program.new.hart c.args.path c.args.pointers c.requires.sound c.requires.running refl refl (record { files = refl; console = refl; programs = refl; clock = refl }) start done c.replace_as_asked.ensures.regs c.start_program.ensures
+    let first = subst (λ p. Replaced c.args.self.now.memories c.replace_as_asked.new.memories (map named_file p) c.in-Some.slot c.args.call.now.a0 c.args.call.now.a1 start c.replace_as_asked.new.hart) c.deref.ensures.value c.in-Some-replace_as_asked.ensures.started in
+    let to = subst (λ n. Replaced c.args.self.now.memories c.replace_as_asked.new.memories (map named_file c.args.self.now.programs.items) n c.args.call.now.a0 c.args.call.now.a1 start c.replace_as_asked.new.hart) slot first in
+    (exec-prepared c.args.self.now c.args.hart.now c.replace_as_asked.new.hart c.replace_as_asked.new.memories c.args.call.now c.requires.whole c.requires.running start c.start_program.new.hart to c.replace_as_asked.ensures.regs c.start_program.ensures).sound
 
-pub returns-clause-started : goal.returns-clause-started
-returns-clause-started c l is fits =
-    let slot = now-slot c.in-Some.slot c.requires.sound c.in-Some.is in
+pub returns-clause-made : goal.returns-clause-made
+returns-clause-made c =
+    let slot = now-slot c.in-Some.slot c.requires.whole.sound c.in-Some.is in
     let start = c.in-Some-replace_as_asked.start in
-    let first = subst (λ p. Replaced c.args.self.now.memories c.replace_as_asked.new.memories (map named_file p) c.in-Some.slot c.args.path c.args.pointers start c.replace_as_asked.new.hart) c.deref.ensures.value c.in-Some-replace_as_asked.ensures.started in
-    let done = subst (λ n. Replaced c.args.self.now.memories c.replace_as_asked.new.memories (map named_file c.args.self.now.programs.items) n c.args.path c.args.pointers start c.replace_as_asked.new.hart) slot first in
-    exec-becomes c.args.self.now (record c.args.self.now { memories = c.replace_as_asked.new.memories }) c.args.hart.now c.replace_as_asked.new.hart c.start_program.new.hart c.args.path c.args.pointers c.requires.sound c.requires.running refl refl (record { files = refl; console = refl; programs = refl; clock = refl }) start done c.replace_as_asked.ensures.regs c.start_program.ensures l is
+    let first = subst (λ p. Replaced c.args.self.now.memories c.replace_as_asked.new.memories (map named_file p) c.in-Some.slot c.args.call.now.a0 c.args.call.now.a1 start c.replace_as_asked.new.hart) c.deref.ensures.value c.in-Some-replace_as_asked.ensures.started in
+    let to = subst (λ n. Replaced c.args.self.now.memories c.replace_as_asked.new.memories (map named_file c.args.self.now.programs.items) n c.args.call.now.a0 c.args.call.now.a1 start c.replace_as_asked.new.hart) slot first in
+    let count = exec-count c.args.self.now c.args.hart.now c.replace_as_asked.new.hart c.replace_as_asked.new.memories c.args.call.now c.requires.whole c.requires.running start c.start_program.new.hart to c.replace_as_asked.ensures.regs c.start_program.ensures c.cast_signed.result c.cast_signed.ensures in
+    exec-made c.args.self.now c.args.hart.now c.replace_as_asked.new.hart c.replace_as_asked.new.memories c.args.call.now c.requires.whole c.requires.running start c.start_program.new.hart to c.replace_as_asked.ensures.regs c.start_program.ensures c.done-2.new.self c.done-2.new.hart _ count (record { sound = c.done-2.ensures.sound; kernel = c.done-2.ensures.kernel; state = c.done-2.ensures.state })
 
-pub returns-clause-too_dear : goal.returns-clause-too_dear
-returns-clause-too_dear c l is dear =
-    let slot = now-slot c.in-Some.slot c.requires.sound c.in-Some.is in
+pub returns-clause-answer : goal.returns-clause-answer
+returns-clause-answer c =
+    let slot = now-slot c.in-Some.slot c.requires.whole.sound c.in-Some.is in
     let start = c.in-Some-replace_as_asked.start in
-    let first = subst (λ p. Replaced c.args.self.now.memories c.replace_as_asked.new.memories (map named_file p) c.in-Some.slot c.args.path c.args.pointers start c.replace_as_asked.new.hart) c.deref.ensures.value c.in-Some-replace_as_asked.ensures.started in
-    let done = subst (λ n. Replaced c.args.self.now.memories c.replace_as_asked.new.memories (map named_file c.args.self.now.programs.items) n c.args.path c.args.pointers start c.replace_as_asked.new.hart) slot first in
-    exec-fits c.args.self.now (record c.args.self.now { memories = c.replace_as_asked.new.memories }) c.args.hart.now c.replace_as_asked.new.hart c.start_program.new.hart c.args.path c.args.pointers c.requires.sound c.requires.running refl refl (record { files = refl; console = refl; programs = refl; clock = refl }) start done c.replace_as_asked.ensures.regs c.start_program.ensures l is dear
-
-pub returns-clause-refused : goal.returns-clause-refused
-returns-clause-refused c none =
-    let slot = now-slot c.in-Some.slot c.requires.sound c.in-Some.is in
-    let start = c.in-Some-replace_as_asked.start in
-    let first = subst (λ p. Replaced c.args.self.now.memories c.replace_as_asked.new.memories (map named_file p) c.in-Some.slot c.args.path c.args.pointers start c.replace_as_asked.new.hart) c.deref.ensures.value c.in-Some-replace_as_asked.ensures.started in
-    let done = subst (λ n. Replaced c.args.self.now.memories c.replace_as_asked.new.memories (map named_file c.args.self.now.programs.items) n c.args.path c.args.pointers start c.replace_as_asked.new.hart) slot first in
-    exec-there c.args.self.now (record c.args.self.now { memories = c.replace_as_asked.new.memories }) c.args.hart.now c.replace_as_asked.new.hart c.start_program.new.hart c.args.path c.args.pointers c.requires.sound c.requires.running refl refl (record { files = refl; console = refl; programs = refl; clock = refl }) start done c.replace_as_asked.ensures.regs c.start_program.ensures none
+    let first = subst (λ p. Replaced c.args.self.now.memories c.replace_as_asked.new.memories (map named_file p) c.in-Some.slot c.args.call.now.a0 c.args.call.now.a1 start c.replace_as_asked.new.hart) c.deref.ensures.value c.in-Some-replace_as_asked.ensures.started in
+    let to = subst (λ n. Replaced c.args.self.now.memories c.replace_as_asked.new.memories (map named_file c.args.self.now.programs.items) n c.args.call.now.a0 c.args.call.now.a1 start c.replace_as_asked.new.hart) slot first in
+    let count = exec-count c.args.self.now c.args.hart.now c.replace_as_asked.new.hart c.replace_as_asked.new.memories c.args.call.now c.requires.whole c.requires.running start c.start_program.new.hart to c.replace_as_asked.ensures.regs c.start_program.ensures c.cast_signed.result c.cast_signed.ensures in
+    exec-answer c.args.self.now c.args.hart.now c.replace_as_asked.new.hart c.replace_as_asked.new.memories c.args.call.now c.requires.whole c.requires.running start c.start_program.new.hart to c.replace_as_asked.ensures.regs c.start_program.ensures c.done-2.result _ count c.done-2.ensures.end

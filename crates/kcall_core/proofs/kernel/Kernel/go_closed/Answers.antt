@@ -1,14 +1,17 @@
-use Rattle.std.proofs.Common.{◌≡◌, ◌+◌, refl, sym, ap, ◌∙◌, subst}
+use Rattle.std.proofs.Common.{◌≡◌, ◌+◌, length, refl, sym, ap, ◌∙◌, subst}
 use Rattle.std.specs.Prelude.{IsSome}
 use Rattle.std.proofs.lemmas.Int.{to_z-of_z}
 use Rattle.xk_base.specs.Image.{price}
 use Rattle.kcall_core.specs.RowLaws.{IsLive}
 use Rattle.kcall_core.specs.Updates.{give_frames, end_process, orphans}
-use Rattle.kcall_core.specs.Kernel.{state_of, pid_now, live_now, IsSound, IsRunning}
+use Rattle.kcall_core.specs.Kernel.{state_of, or_zero, slot_now, pid_now, live_now, IsSound, IsRunning}
+use Rattle.kcall_core.specs.declared.kernel.Kernel.{Kernel}
+use Rattle.proc_table.specs.Processes.{given, ended}
+use Rattle.proc_table.specs.Slots.{each_changed, changed_at}
 use Rattle.kcall_core.proofs.States.{slot-inside}
 use Rattle.kcall_core.proofs.Stops.{now-slot}
 use Rattle.kcall_core.proofs.Chosen.{pid-told}
-use Rattle.kcall_core.proofs.CallAnswers.{live-is}
+use Rattle.kcall_core.proofs.Turned.{live-is}
 use Rattle.kcall_core.proofs.Closed.{gone-closed, keeps-parent}
 use Rattle.kcall_core.proofs.kernel.Kernel.go_closed.Goals as goal
 
@@ -44,3 +47,17 @@ returns-clause-state c =
     c.end.ensures.state
     ∙ (λ t. give_frames (price (live1 t).image + 1) (end_process (pid1 t) (live1 t).parent (status t) (state1 t)))
     ∙ gone-closed s (live_now k h) c.requires.closed p c.args.status
+
+pub returns-clause-table : goal.returns-clause-table
+returns-clause-table c =
+    let k = c.args.self.now in
+    let told : pid_now k ≡ c.pid-pid.result = pid-told k c.in-Some.slot c.pid-pid.result (sym (now-slot c.in-Some.slot c.requires.sound c.in-Some.is)) c.pid-pid.ensures in
+    c.end.ensures.table
+    ∙ (λ i. changed_at (or_zero (c.orphan.ensures.current i)) (ended (to_z-of_z _ c.args.status c.ranges.status i)) (c.orphan.ensures.table i))
+    ∙ ap (λ n. changed_at (slot_now k) (ended c.args.status) (each_changed (given n 1) k.table)) (sym told)
+
+pub returns-clause-files : goal.returns-clause-files
+returns-clause-files c = c.end.ensures.files ∙ ap (λ (n : Kernel). n.files) c.orphan.ensures.rest
+
+pub returns-clause-frames : goal.returns-clause-frames
+returns-clause-frames c = c.end.ensures.frames ∙ ap (λ (n : Kernel). length n.memories.ram) c.orphan.ensures.rest

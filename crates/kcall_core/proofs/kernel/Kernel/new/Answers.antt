@@ -1,10 +1,21 @@
-use Rattle.std.proofs.Common.{refl, ap, ◌∙◌}
+use Rattle.std.proofs.Common.{refl, sym, ap, ◌∙◌}
 use Rattle.proc_table.specs.Slots.{no_process}
 use Rattle.kcall_core.proofs.NoProcess.{new-state, new-sound}
 use Rattle.kcall_core.proofs.kernel.Kernel.new.Goals as goal
 
+pub returns-clause-blank : goal.returns-clause-blank
+returns-clause-blank c = record {
+  table = c.in-Ok-new.ensures.made ∙ ap no_process c.new-2.ensures;
+  current = refl;
+  files = c.in-Ok-new-2.ensures.made;
+  pipes = c.in-Ok.ensures.pipes;
+  console = c.in-Ok-new-3.ensures.ok;
+  clock = refl;
+  free = c.in-Ok.ensures.free ∙ sym c.in-Ok.ensures.frames;
+}
+
 pub returns-clause-sound : goal.returns-clause-sound
-returns-clause-sound c = λ hart root cache. new-sound _ hart (c.in-Ok-new.ensures.made ∙ ap no_process c.new-2.ensures) refl c.in-Ok.ensures.sound c.in-Ok.ensures.each root cache
+returns-clause-sound c = λ hart idle. new-sound _ hart (c.in-Ok-new.ensures.made ∙ ap no_process c.new-2.ensures) refl c.in-Ok.ensures.sound c.in-Ok.ensures.each idle.0 idle.1
 
 pub returns-clause-state : goal.returns-clause-state
 returns-clause-state c = λ hart. new-state _ hart (c.in-Ok-new.ensures.made ∙ ap no_process c.new-2.ensures) c.args.frames c.in-Ok-new-2.ensures.made c.in-Ok-new-3.ensures.ok refl c.in-Ok.ensures.pipes c.in-Ok.ensures.free

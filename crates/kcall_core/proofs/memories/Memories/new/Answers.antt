@@ -24,3 +24,6 @@ pub returns-clause-free : goal.returns-clause-free
 unfolding free_of
 returns-clause-free c =
     all-free c.in-Ok.pool c.new-2.new.ram c.in-Ok.ensures.good c.in-Ok.ensures.all_free ∙ c.in-Ok.ensures.frames ∙ ap length c.in_ok-ram.ensures.zeros ∙ length-replicate c.args.frames zero_frame
+
+pub returns-clause-frames : goal.returns-clause-frames
+returns-clause-frames c = c.in-Ok.ensures.frames ∙ ap length c.in_ok-ram.ensures.zeros ∙ length-replicate c.args.frames zero_frame

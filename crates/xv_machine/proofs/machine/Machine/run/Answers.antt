@@ -1,20 +1,38 @@
-use Rattle.std.proofs.Common.{subst}
-use Rattle.xv_machine.specs.Sound.{IsSound}
-use Rattle.xv_machine.specs.declared.machine.Phase.TheVariants.{Running}
+use Rattle.std.proofs.Common.{sym, ◌∙◌, None}
+use Rattle.xv_machine.specs.Events.{outcome_of, halted_by}
 use Rattle.xv_machine.proofs.Frames.{sound-of}
-use Rattle.xv_machine.proofs.Steps.{run_happens}
+use Rattle.xv_machine.proofs.Runs.{current-pid, not-halted, count-is, now-frames, now-promised, run-step, run-ends}
 use Rattle.xv_machine.proofs.machine.Machine.run.Goals as goal
 
-pub returns-in-Halted-clause-sound : goal.returns-in-Halted-clause-sound
-returns-in-Halted-clause-sound c = subst IsSound c.self.view_is (sound-of c.self.inside.phase c.self.inside.hart.regs c.self.inside.memories c.self.invariant.0)
+pub step-outcome-requires-clause-running : goal.step-outcome-requires-clause-running
+step-outcome-requires-clause-running c = (current-pid c.self.inside.kernel c.in-Some.pid (sym (c.current.ensures None) ∙ c.in-Some.is)).0
 
-pub returns-in-Ready-clause-sound : goal.returns-in-Ready-clause-sound
-returns-in-Ready-clause-sound c = sound-of Running c.resume.new.hart.regs c.self.inside.memories c.self.invariant.0
+pub step-outcome-requires-clause-pid : goal.step-outcome-requires-clause-pid
+step-outcome-requires-clause-pid c = (current-pid c.self.inside.kernel c.in-Some.pid (sym (c.current.ensures None) ∙ c.in-Some.is)).1
 
-pub returns-in-Running-clause-happens : goal.returns-in-Running-clause-happens
-returns-in-Running-clause-happens c =
-    run_happens c.args.self.now c.self.inside.phase c.phase_after-self-inside.result c.self.inside.hart c.step-outcome.new.hart c.self.inside.memories c.step-outcome.new.memories c.new-pid.result c.step-outcome.result
-    c.self.view_is c.in-Running.is c.new-pid.ensures c.self.invariant.1 c.step-outcome.ensures.answer c.step-outcome.ensures.left c.phase_after-self-inside.ensures
+pub invariant_of-self : goal.invariant_of-self
+invariant_of-self c =
+    let i = c.self.inside in
+    record {
+      whole = c.step-outcome.ensures.made.whole;
+      halted = run-ends i.kernel c.step-outcome.new.kernel i.hart c.step-outcome.new.hart i.halted c.halted_by-self-inside.result c.in-Some.pid c.step-outcome.result c.self.invariant.whole (sym (c.current.ensures None) ∙ c.in-Some.is) c.self.invariant.halted
+          c.step-outcome.ensures.made c.step-outcome.ensures.answer c.halted_by-self-inside.ensures;
+    }
 
-pub returns-in-Running-clause-sound : goal.returns-in-Running-clause-sound
-returns-in-Running-clause-sound c = sound-of c.phase_after-self-inside.result c.step-outcome.new.hart.regs c.step-outcome.new.memories c.step-outcome.ensures.left.whole
+pub returns-clause-promised : goal.returns-clause-promised
+returns-clause-promised c =
+    let i = c.self.inside in
+    let now = current-pid i.kernel c.in-Some.pid (sym (c.current.ensures None) ∙ c.in-Some.is) in
+    now-promised i.kernel i.hart i.halted c.args.self.now c.self.view_is c.step-outcome.new.kernel c.step-outcome.new.hart (halted_by c.step-outcome.result) (outcome_of c.step-outcome.result) c.halted_by-self-inside.result
+    (not-halted i.kernel i.hart i.halted c.self.invariant.halted now.0) c.halted_by-self-inside.ensures
+    (run-step i.kernel c.step-outcome.new.kernel i.hart c.step-outcome.new.hart c.in-Some.pid c.step-outcome.result c.self.invariant.whole now.0 now.1 c.step-outcome.ensures.made c.step-outcome.ensures.answer)
+
+pub returns-clause-sound : goal.returns-clause-sound
+returns-clause-sound c =
+    let i = c.self.inside in
+    sound-of c.step-outcome.new.kernel c.step-outcome.new.hart c.halted_by-self-inside.result c.step-outcome.ensures.made.whole
+    (run-ends i.kernel c.step-outcome.new.kernel i.hart c.step-outcome.new.hart i.halted c.halted_by-self-inside.result c.in-Some.pid c.step-outcome.result c.self.invariant.whole (sym (c.current.ensures None) ∙ c.in-Some.is) c.self.invariant.halted
+    c.step-outcome.ensures.made c.step-outcome.ensures.answer c.halted_by-self-inside.ensures)
+
+pub returns-clause-frames : goal.returns-clause-frames
+returns-clause-frames c = count-is c.step-outcome.new.kernel ∙ c.step-outcome.ensures.made.frames ∙ now-frames c.self.inside.kernel c.self.inside.hart c.self.inside.halted c.args.self.now c.self.view_is

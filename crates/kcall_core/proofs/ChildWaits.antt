@@ -1,0 +1,114 @@
+-- Who waits for a child is in the call wait, and waits for its own.
+use Rattle.std.proofs.Common.{◌≡◌, ℕ, Bool, true, false, cond, not, ◌&&◌, ◌||◌, List, [], ◌∷◌, Option, None, Some, refl, ap, sym, ◌∙◌}
+use Rattle.std.specs.Prelude.{ℤ, pos, negsuc, option_map, nat_eq, find}
+use Rattle.std.specs.List.{list_all}
+use Rattle.std.proofs.lemmas.Bool.{eqb-true}
+use Rattle.file_table.specs.declared.open_file.Target.{Target}
+use Rattle.file_table.specs.declared.open_file.Target.TheVariants.{Console as Terminal, Program as File, Pipe as Pipe_end}
+use Rattle.proc_table.specs.declared.process.Call.{Call}
+use Rattle.kcall_core.specs.Words.{c_int}
+use Rattle.kcall_core.specs.Processes.{Live}
+use Rattle.kcall_core.specs.State.{State}
+use Rattle.kcall_core.specs.View.{view_of}
+use Rattle.kcall_core.specs.Calls.{Row, Wait, Read, Sleep, Write, table, row_of}
+use Rattle.kcall_core.specs.Ready.{ready}
+use Rattle.kcall_core.specs.Wakes.{IsInCall}
+use Rattle.kcall_core.specs.Conditions.{Child_of, is_open, read_channel, write_channel, target_at, sleep_channel, row_channel, call_channel, waits_for}
+use Rattle.kcall_core.proofs.Wakes.{ready_is}
+
+-- ---- its number is 3
+
+abbrev is_wait : Row → Bool
+is_wait Wait = true
+is_wait _ = false
+
+abbrev is_three : ℕ × Row → Bool
+is_three e = not (is_wait e.1) || nat_eq e.0 3
+
+second : (a b : Bool) → (a && b) ≡ true → b ≡ true
+second true b e = e
+second false b e = let no : ⊥ = cc in absurd no
+
+first : (a b : Bool) → (a && b) ≡ true → a ≡ true
+first true b e = refl
+first false b e = let no : ⊥ = cc in absurd no
+
+found-three : (es : List (ℕ × Row)) (n : ℕ) → list_all is_three es ≡ true → option_map (λ (e : ℕ × Row). e.1) (find (λ e. nat_eq e.0 n) es) ≡ Some Wait → n ≡ 3
+found-three [] n all e = let no : ⊥ = cc in absurd no
+found-three (x ∷ es) n all e = by (λ rest. found-three es n (second (is_three x) (list_all is_three es) all) rest) (nat_eq x.0 n) refl
+  where
+    three : (r : Row) → r ≡ Wait → (not (is_wait r) || nat_eq x.0 3) ≡ true → nat_eq x.0 3 ≡ true
+    three r is t = sym (ap (λ (q : Row). not (is_wait q) || nat_eq x.0 3) is) ∙ t
+
+    by : (option_map (λ (e : ℕ × Row). e.1) (find (λ e. nat_eq e.0 n) es) ≡ Some Wait → n ≡ 3) → (b : Bool) → nat_eq x.0 n ≡ b → n ≡ 3
+    by later true same =
+        let found : Some x.1 ≡ Some Wait = sym (ap (λ (b : Bool). option_map (λ (e : ℕ × Row). e.1) (cond b (Some x) (find (λ e. nat_eq e.0 n) es))) same) ∙ e in
+        let row : x.1 ≡ Wait = cc in
+        sym (eqb-true x.0 n same) ∙ eqb-true x.0 3 (three x.1 row (first (is_three x) (list_all is_three es) all))
+    by later false same = later (sym (ap (λ (b : Bool). option_map (λ (e : ℕ × Row). e.1) (cond b (Some x) (find (λ e. nat_eq e.0 n) es))) same) ∙ e)
+
+wait-number : (z : ℤ) → row_of z ≡ Some Wait → z ≡ pos 3
+unfolding row_of
+wait-number (pos n) e = ap pos (found-three table n refl e)
+wait-number (negsuc k) e = let no : ⊥ = cc in absurd no
+
+wait-row : (z : ℤ) → z ≡ pos 3 → row_of z ≡ Some Wait
+unfolding row_of
+wait-row z e = ap row_of e
+
+-- ---- what it waits for
+
+no-read : (t : Option Target) (a : ℕ) → read_channel t ≡ Child_of a → ⊥
+no-read None a e = cc
+no-read (Some Terminal) a e = cc
+no-read (Some (File program offset)) a e = cc
+no-read (Some (Pipe_end i end)) a e = cc
+
+no-write : (t : Option Target) (a : ℕ) → write_channel t ≡ Child_of a → ⊥
+no-write None a e = cc
+no-write (Some Terminal) a e = cc
+no-write (Some (File program offset)) a e = cc
+no-write (Some (Pipe_end i end)) a e = cc
+
+no-sleep : (c : Call) (z : ℤ) (a : ℕ) → sleep_channel c z ≡ Child_of a → ⊥
+no-sleep c (pos n) a e = cc
+no-sleep c (negsuc k) a e = cc
+
+module _ (s : State) (q : ℕ) (m : Live) where
+  -- a call that waits for a child
+  abbrev pub InWait : Type 0
+  InWait = (c : Call) × (m.call ≡ Some c) × (c.number ≡ pos 3)
+
+  by-row : (a : ℕ) (c : Call) (r : Option Row) → row_channel s q m c r ≡ Child_of a → (r ≡ Some Wait) × (q ≡ a)
+  by-row a c (Some Wait) e = (refl, cc)
+  by-row a c (Some Read) e = absurd (no-read (target_at s m (c_int c.a0)) a e)
+  by-row a c (Some Write) e = absurd (no-write (target_at s m (c_int c.a0)) a e)
+  by-row a c (Some Sleep) e = absurd (no-sleep c (c_int c.a0) a e)
+  by-row a c r e = let no : ⊥ = cc in absurd no
+
+  by-call : (a : ℕ) (o : Option Call) → m.call ≡ o → call_channel s q m o ≡ Child_of a → (q ≡ a) × InWait
+  by-call a None is e = let no : ⊥ = cc in absurd no
+  by-call a (Some c) is e = let (row, same) = by-row a c (row_of c.number) e in (same, (c, is, wait-number c.number row))
+
+  pub waits-for-child : (a : ℕ) → waits_for s q m ≡ Child_of a → (q ≡ a) × InWait
+  waits-for-child a e = by-call a m.call refl e
+
+  pub waits-in-wait : InWait → waits_for s q m ≡ Child_of q
+  waits-in-wait (c, is, number) = ap (call_channel s q m) is ∙ ap (row_channel s q m c) (wait-row c.number number)
+
+  -- seen in its view, also in another state
+  pub is-in-wait : (t : State) (n : Live) → n.call ≡ m.call → InWait → IsInCall 3 (view_of t q n)
+  unfolding view_of
+  is-in-wait t n same (c, is, number) = (c, same ∙ is, number)
+
+  pub in-wait : (t : State) (n : Live) → n.call ≡ m.call → IsInCall 3 (view_of t q n) → InWait
+  unfolding view_of
+  in-wait t n same (c, is, number) = (c, sym same ∙ is, number)
+
+  -- who isn't ready waits for what is shut
+  pub shut : ready (view_of s q m) ≡ false → is_open s (waits_for s q m) ≡ false
+  shut e = either m.killed (is_open s (waits_for s q m)) (sym (ready_is s q m) ∙ e)
+    where
+      either : (a b : Bool) → (a || b) ≡ false → b ≡ false
+      either true b f = let no : ⊥ = cc in absurd no
+      either false b f = f

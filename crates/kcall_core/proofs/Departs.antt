@@ -1,0 +1,60 @@
+-- What a process that goes leaves in the kernel: the state without it, and who wakes.
+use Rattle.std.specs.Prelude.{◌≡◌, ◌≢◌, ℕ, ◌||◌, Bool, false, nat_eq, ℤ, Option, Some, None, option_map, length}
+use Rattle.std.specs.FinMap.{FinMap}
+use Rattle.std.specs.Ordering.{nat_cmp}
+use Rattle.hart_core.specs.declared.hart.Hart.{Hart}
+use Rattle.pipe_core.specs.Pipe.{Pipe}
+use Rattle.file_table.specs.OpenFiles as files
+use Rattle.file_table.specs.declared.open_file.OpenFile.{OpenFile}
+use Rattle.proc_table.specs.Processes.{status_of, channel_of}
+use Rattle.proc_table.specs.Slots.{Slots, Holds, place_at}
+use Rattle.proc_table.specs.declared.channel.Channel.{Channel}
+use Rattle.proc_table.specs.declared.channel.Channel.TheVariants as on
+use Rattle.proc_table.specs.declared.process.Process.{Process}
+pub use Rattle.kcall_core.specs.Closings.{last_closes, closes_wake, unless_woken}
+use Rattle.kcall_core.specs.Words.{is_this}
+use Rattle.kcall_core.specs.Updates.{gone_state}
+use Rattle.kcall_core.specs.RowLaws.{FilesLeft}
+use Rattle.kcall_core.specs.Kernel.{state_of, IsSound, slot_now, pid_now, live_now}
+use Rattle.kcall_core.specs.Whole.{AreCounted}
+use Rattle.kcall_core.specs.declared.kernel.Kernel.{Kernel}
+
+-- ---- who wakes
+
+-- what the turns see of a process: its pid, and what it sleeps on
+abbrev pub seat : Process → ℕ × Option Channel
+seat p = (p.pid, channel_of p)
+
+abbrev pub seat_woken : (Channel → Bool) → Process → ℕ × Option Channel
+seat_woken wakes p = (p.pid, unless_woken wakes (channel_of p))
+
+-- In each slot but this one the process stays, and it wakes exactly where it sleeps on one of these channels
+abbrev pub OthersWake : ℕ → (Channel → Bool) → Slots → Slots → Type 0
+OthersWake slot wakes t u = (j : ℕ) → j ≢ slot → option_map seat (place_at u j) ≡ option_map (seat_woken wakes) (place_at t j)
+
+-- ---- which channels an end wakes
+
+-- a process of this parent that goes wakes its parent and pid 1, where they wait for a child
+abbrev pub family_wakes : (parent : Option ℕ) → Channel → Bool
+family_wakes parent (on.Children q) = is_this q parent || nat_eq q 1
+family_wakes parent _ = false
+
+abbrev pub end_wakes : (parent : Option ℕ) → FinMap nat_cmp Pipe → FinMap nat_cmp Pipe → Channel → Bool
+end_wakes parent m n channel = closes_wake m n channel || family_wakes parent channel
+
+-- ---- all of it
+
+-- The process that ran is gone with a status, and those wake that sleep on one of these channels
+pub record Departs (k : Kernel) (h : Hart) (k' : Kernel) (h' : Hart) (status : ℤ) (left : FinMap nat_cmp OpenFile) (wakes : Channel → Bool) : Type 0 where
+  pub sound : IsSound k' h'
+  pub stopped : k'.current ≡ None
+  pub frames : length k'.memories.ram ≡ length k.memories.ram
+  pub state : state_of k' h' ≡ gone_state (pid_now k) (live_now k h) status left (state_of k h)
+  pub named : FilesLeft (state_of k h) (gone_state (pid_now k) (live_now k h) status left (state_of k h))
+  pub files : files.IsTable k'.files
+  pub counted : AreCounted k'.files k'.table
+  pub last : k'.table.last ≡ k.table.last
+  -- its own slot holds the zombie
+  pub own : (p : Process) × Holds k'.table (slot_now k) p × (p.pid ≡ pid_now k) × (status_of p ≡ Some status)
+  pub others : OthersWake (slot_now k) wakes k.table k'.table
+  pub exactly : (channel : Channel) → wakes channel ≡ end_wakes (live_now k h).parent (state_of k h).pipes (state_of k' h').pipes channel

@@ -1,0 +1,225 @@
+-- Who has a slot and who sleeps once the process that ran is gone.
+use Rattle.std.proofs.Common.{◌≡◌, ◌≢◌, ℕ, Bool, true, false, cond, Option, Some, None, inl, inr, refl, sym, ap, ◌∙◌, subst}
+use Rattle.std.specs.Prelude.{ℤ, option_map, IsSome, Contains}
+use Rattle.std.specs.FinMap.{FinMap, get, keys}
+use Rattle.std.specs.FinSet.{contains}
+use Rattle.std.specs.Ordering.{nat_cmp}
+use Rattle.std.proofs.lemmas.Bool.{cases_eq}
+use Rattle.xk_base.specs.declared.limits.TheConstants.{NPROC}
+use Rattle.hart_core.specs.declared.hart.Hart.{Hart}
+use Rattle.file_table.specs.declared.open_file.OpenFile.{OpenFile}
+use Rattle.proc_table.specs.declared.channel.Channel.{Channel}
+use Rattle.proc_table.specs.declared.process.State as table
+use Rattle.proc_table.specs.declared.process.State.TheVariants.{Live as Live_state, Zombie as Zombie_state}
+use Rattle.proc_table.specs.declared.process.Process.{Process}
+use Rattle.proc_table.specs.Processes.{status_of, state_status, channel_of, state_channel}
+use Rattle.proc_table.specs.Slots.{place_at, descriptors_at, process_pid, pid_at}
+use Rattle.kcall_core.specs.State.{live}
+use Rattle.kcall_core.specs.Turns.{Sleeps}
+use Rattle.kcall_core.specs.Own.{Answer, Stepped, Called, Blocked, Exited, Faulted, gone_with}
+use Rattle.kcall_core.specs.Calls.{gone}
+use Rattle.kcall_core.specs.Run.{TurnsAfter, IsBlocked, stays_current, halts_with}
+use Rattle.kcall_core.specs.Holdings.{held_at}
+use Rattle.kcall_core.specs.Memories.{each_of}
+use Rattle.kcall_core.specs.Kernel.{state_of, IsRunning, or_nobody, slot_now, pid_now, live_of, regs_at}
+use Rattle.kcall_core.specs.Machine.{slot_entry, slots_of, sleepers_below, turns_of}
+use Rattle.kcall_core.specs.Whole.{IsWhole}
+use Rattle.kcall_core.specs.Makes.{view_now}
+use Rattle.kcall_core.specs.View.{view_of}
+use Rattle.kcall_core.specs.declared.kernel.Kernel.{Kernel}
+use Rattle.kcall_core.proofs.ByPid.{none}
+use Rattle.kcall_core.proofs.States.{none-some, Running, running}
+use Rattle.kcall_core.proofs.Observed.{entry-held, live-held}
+use Rattle.kcall_core.proofs.KeepsSlots.{is_listed}
+use Rattle.kcall_core.proofs.Turned.{sleeps-is, sleeps-from, awake-is, slots-same, sleeper-lives, not-both}
+use Rattle.kcall_core.proofs.Departs.{seat, unless_woken, seat_woken, Departs}
+
+-- ---- a process of the table
+
+-- a zombie doesn't sleep
+zombie-awake : (x : Process) (status : ℤ) → status_of x ≡ Some status → channel_of x ≡ None
+zombie-awake x status e = by x.state e
+  where
+    by : (s : table.State) → state_status s ≡ Some status → state_channel s ≡ None
+    by (Live_state marked call channel) f = absurd (none-some status f)
+    by (Zombie_state other) f = refl
+
+-- the turn part's sleepers are the table's
+pub asleep : (k : Kernel) (halted : Option ℤ) (q : ℕ) → Sleeps (turns_of k halted) q → contains (sleepers_below k.table NPROC) q ≡ true
+unfolding turns_of
+asleep k halted q e = e
+
+pub sleeps : (k : Kernel) (halted : Option ℤ) (q : ℕ) → contains (sleepers_below k.table NPROC) q ≡ true → Sleeps (turns_of k halted) q
+unfolding turns_of
+sleeps k halted q e = e
+
+-- whether process 1 is gone says nothing of who sleeps
+pub same-sleepers : (k : Kernel) (a b : Option ℤ) (q : ℕ) → Sleeps (turns_of k a) q → Sleeps (turns_of k b) q
+unfolding turns_of
+same-sleepers k a b q e = e
+
+-- the pid in a place is in what the turns see of it
+pid-seen : (o : Option Process) → option_map process_pid o ≡ option_map (λ (e : ℕ × Option Channel). e.0) (option_map seat o)
+pid-seen None = refl
+pid-seen (Some p) = refl
+
+pid-woken : (wakes : Channel → Bool) (o : Option Process) → option_map (λ (e : ℕ × Option Channel). e.0) (option_map (seat_woken wakes) o) ≡ option_map process_pid o
+pid-woken wakes None = refl
+pid-woken wakes (Some p) = refl
+
+module _ (k k' : Kernel) (h h' : Hart) (status : ℤ) (left : FinMap nat_cmp OpenFile) (wakes : Channel → Bool) (whole : IsWhole k h) (runs : IsRunning k) (d : Departs k h k' h' status left wakes) where
+  now : Running k h
+  now = running k h whole.sound runs
+
+  own-pid : now.is.process.pid ≡ pid_now k
+  own-pid = ap (λ (o : Option Process). (or_nobody o).pid) (sym now.is.is)
+
+  -- ---- places
+
+  -- what has become of a process in another slot
+  abbrev Became : Process → Process → Type 0
+  Became x y = (y.pid ≡ x.pid) × (channel_of y ≡ unless_woken wakes (channel_of x))
+
+  same-seat : (x y : Process) → Some (seat y) ≡ Some (seat_woken wakes x) → Became x y
+  same-seat x y e = let same : seat y ≡ seat_woken wakes x = cc in (ap (λ (z : ℕ × Option Channel). z.0) same, ap (λ (z : ℕ × Option Channel). z.1) same)
+
+  place-after : (j : ℕ) → j ≢ slot_now k → (x : Process) → place_at k.table j ≡ Some x → (y : Process) × (place_at k'.table j ≡ Some y) × Became x y
+  place-after j other x is = by (place_at k'.table j) refl (d.others j other ∙ ap (option_map (seat_woken wakes)) is)
+    where
+      by : (o : Option Process) → place_at k'.table j ≡ o → option_map seat o ≡ Some (seat_woken wakes x) → (y : Process) × (place_at k'.table j ≡ Some y) × Became x y
+      by None at e = absurd (none-some (seat_woken wakes x) e)
+      by (Some y) at e = (y, at, same-seat x y e)
+
+  place-before : (j : ℕ) → j ≢ slot_now k → (y : Process) → place_at k'.table j ≡ Some y → (x : Process) × (place_at k.table j ≡ Some x) × Became x y
+  place-before j other y is = by (place_at k.table j) refl (sym (ap (option_map seat) is) ∙ d.others j other)
+    where
+      by : (o : Option Process) → place_at k.table j ≡ o → Some (seat y) ≡ option_map (seat_woken wakes) o → (x : Process) × (place_at k.table j ≡ Some x) × Became x y
+      by None at e = absurd (none-some (seat y) (sym e))
+      by (Some x) at e = (x, at, same-seat x y e)
+
+  same-slots : slots_of k'.table ≡ slots_of k.table
+  same-slots = slots-same k.table k'.table (λ j. elim (cases_eq j (slot_now k)) [
+    | inl e ↦
+        let (q, at, pid, over) = d.own in
+        ap (pid_at k'.table) e ∙ ap (option_map process_pid) at ∙ ap Some (pid ∙ sym own-pid) ∙ sym (ap (pid_at k.table) e ∙ ap (option_map process_pid) now.is.is)
+    | inr other ↦ pid-seen (place_at k'.table j) ∙ ap (option_map (λ (e : ℕ × Option Channel). e.0)) (d.others j other) ∙ pid-woken wakes (place_at k.table j)
+  ])
+
+  -- ---- sleepers
+
+  -- who sleeps before the step isn't the process that runs
+  pub record Sleeper (q : ℕ) : Type 0 where
+    pub slot : ℕ
+    pub process : Process
+    pub channel : Channel
+    pub at : place_at k.table slot ≡ Some process
+    pub pid : process.pid ≡ q
+    pub on : channel_of process ≡ Some channel
+    pub elsewhere : slot ≢ slot_now k
+    pub other : q ≢ pid_now k
+
+  awake-here : (x : Process) (c : Channel) → place_at k.table (slot_now k) ≡ Some x → channel_of x ≡ Some c → ⊥
+  awake-here x c at on = none-some c (sym (whole.awake (slot_now k) x now.current at) ∙ on)
+
+  pub sleeper-in : (j : ℕ) (x : Process) (c : Channel) → place_at k.table j ≡ Some x → channel_of x ≡ Some c → Sleeper x.pid
+  sleeper-in j x c at on =
+      let elsewhere : j ≢ slot_now k = λ e. awake-here x c (sym (ap (place_at k.table) e) ∙ at) on in
+      record {
+        slot = j;
+        process = x;
+        channel = c;
+        at = at;
+        pid = refl;
+        on = on;
+        elsewhere = elsewhere;
+        other = λ e. elsewhere (whole.sound.table.pids.apart j (slot_now k) x now.is.process at now.is.is (e ∙ sym own-pid));
+      }
+
+  pub sleeper : (q : ℕ) → Sleeps (turns_of k None) q → Sleeper q
+  sleeper q e =
+      let (j, x, c, at, pid, on) = sleeps-from k.table whole.sound.table q (asleep k None q e) in
+      subst Sleeper pid (sleeper-in j x c at on)
+
+  -- it is live
+  pub sleeper-live : (q : ℕ) (z : Sleeper q) → live (state_of k h) q ≡ Some (live_of z.process (descriptors_at k.table z.slot) (held_at (each_of k.memories) z.slot) (regs_at k h z.slot))
+  sleeper-live q z = ap (live (state_of k h)) (sym z.pid) ∙ live-held k h whole.sound.table z.slot z.process z.at (sleeper-lives z.process z.channel z.on)
+
+  -- it wakes where its channel is one of those
+  pub woken-wakes : (halted : Option ℤ) (q : ℕ) (z : Sleeper q) → ¬ Sleeps (turns_of k' halted) q → wakes z.channel ≡ true
+  woken-wakes halted q z up = by (wakes z.channel) refl
+    where
+      by : (b : Bool) → wakes z.channel ≡ b → b ≡ true
+      by true e = refl
+      by false e =
+          let (y, at, (pid, on)) = place-after z.slot z.elsewhere z.process z.at in
+          let still : channel_of y ≡ Some z.channel = on ∙ ap (unless_woken wakes) z.on ∙ ap (λ (b : Bool). cond b None (Some z.channel)) e in
+          absurd (up (sleeps k' halted q (subst (λ (n : ℕ). contains (sleepers_below k'.table NPROC) n ≡ true) (pid ∙ z.pid) (sleeps-is k'.table d.sound.table z.slot y z.channel at still))))
+
+  pub wakes-woken : (halted : Option ℤ) (q : ℕ) (z : Sleeper q) → wakes z.channel ≡ true → ¬ Sleeps (turns_of k' halted) q
+  wakes-woken halted q z e does =
+      let (y, at, (pid, on)) = place-after z.slot z.elsewhere z.process z.at in
+      let up : channel_of y ≡ None = on ∙ ap (unless_woken wakes) z.on ∙ ap (λ (b : Bool). cond b None (Some z.channel)) e in
+      not-both (asleep k' halted q does) (ap (contains (sleepers_below k'.table NPROC)) (sym (pid ∙ z.pid)) ∙ awake-is k'.table d.sound.table z.slot y at up)
+
+  -- who sleeps in a slot after the step slept there before, on the same channel
+  pub slept : (j : ℕ) (y : Process) (c : Channel) → place_at k'.table j ≡ Some y → channel_of y ≡ Some c → (x : Process) × (place_at k.table j ≡ Some x) × (y.pid ≡ x.pid) × (channel_of x ≡ Some c)
+  slept j y c at on = elim (cases_eq j (slot_now k)) [
+    | inl e ↦
+        let (z, here, pid, over) = d.own in
+        let one : Some y ≡ Some z = sym at ∙ ap (place_at k'.table) e ∙ here in
+        let same : y ≡ z = cc in
+        absurd (none-some c (sym (ap channel_of same ∙ zombie-awake z status over) ∙ on))
+    | inr other ↦
+        let (x, was, (pid, became)) = place-before j other y at in
+        (x, was, pid, still (channel_of x) (sym became ∙ on))
+  ]
+    where
+      kept : (b : Bool) (a : Channel) → cond b None (Some a) ≡ Some c → Some a ≡ Some c
+      kept true a e = absurd (none-some c e)
+      kept false a e = e
+
+      still : (o : Option Channel) → unless_woken wakes o ≡ Some c → o ≡ Some c
+      still None e = absurd (none-some c e)
+      still (Some a) e = kept (wakes a) a e
+
+  pub slept-before : (halted : Option ℤ) (q : ℕ) → Sleeps (turns_of k' halted) q → Sleeps (turns_of k None) q
+  slept-before halted q e =
+      let (j, y, c, at, pid, on) = sleeps-from k'.table d.sound.table q (asleep k' halted q e) in
+      let (x, was, same, before) = slept j y c at on in
+      sleeps k None q (subst (λ (n : ℕ). contains (sleepers_below k.table NPROC) n ≡ true) (sym same ∙ pid) (sleeps-is k.table whole.sound.table j x c was before))
+
+  -- ---- the turn part
+
+  stays-no-more : (answer : Answer) → gone_with answer ≡ Some status → stays_current (pid_now k) answer ≡ None
+  stays-no-more Stepped e = absurd (none-some status e)
+  stays-no-more (Called number value) e = absurd (none-some status e)
+  stays-no-more (Blocked number) e = absurd (none-some status e)
+  stays-no-more (Exited other) e = refl
+  stays-no-more (Faulted cause) e = refl
+
+  not-blocked : (answer : Answer) → gone_with answer ≡ Some status → IsBlocked answer → ⊥
+  not-blocked answer e (number, is) = none-some status (sym (ap gone_with is) ∙ e)
+
+  unlisted-slot : (q : ℕ) → ¬ Contains (keys (state_of k h).processes) q → get (slots_of k.table) q ≡ None
+  unfolding slots_of
+  unlisted-slot q unlisted = none (λ j. slot_entry j (place_at k.table j)) NPROC q (λ j e below at same. by j e (place_at k.table j) refl at same)
+    where
+      by : (j : ℕ) (e : ℕ × ℕ) (o : Option Process) → place_at k.table j ≡ o → slot_entry j o ≡ Some e → q ≡ e.0 → ⊥
+      by j e None is at same = none-some e at
+      by j e (Some x) is at same =
+          let entry : (x.pid, j) ≡ e = cc in
+          let pid : x.pid ≡ q = ap (λ (z : ℕ × ℕ). z.0) entry ∙ sym same in
+          unlisted (is_listed (state_of k h).processes q (subst (λ (n : ℕ). IsSome (get (state_of k h).processes n)) pid (subst (λ o. IsSome o) (sym (entry-held k h whole.sound.table j x is)) refl)))
+
+  pub gone-turns : (answer : Answer) → gone_with answer ≡ Some status → TurnsAfter (turns_of k None) (pid_now k) (gone answer (view_now k h)) (turns_of k' (halts_with (pid_now k) answer))
+  unfolding turns_of view_of
+  gone-turns answer ends = record {
+    last = d.last;
+    current = ap (option_map (λ _. pid_now k')) d.stopped ∙ sym (stays-no-more answer ends);
+    halted = refl;
+    held = λ q listed some. ap (λ m. get m q) same-slots;
+    given_up = λ q unlisted. ap (λ m. get m q) same-slots ∙ unlisted-slot q unlisted;
+    newborn = tt;
+    blocked = λ e. absurd (not-blocked answer ends e);
+    awake = λ q e. inl (slept-before (halts_with (pid_now k) answer) q e);
+  }

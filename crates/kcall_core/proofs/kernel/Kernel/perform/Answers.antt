@@ -1,0 +1,53 @@
+use Rattle.std.proofs.Common.{rules, Some, sym, ap, ◌∙◌, subst}
+use Rattle.std.specs.Int.{w32}
+use Rattle.std.proofs.lemmas.Int.{to_z-of_z}
+use Rattle.kcall_core.specs.Words.{c_int}
+use Rattle.kcall_core.specs.View.{view_of}
+use Rattle.kcall_core.specs.Own.{Own, Exited}
+use Rattle.kcall_core.specs.Makes.{Makes, view_now, answer_of}
+use Rattle.kcall_core.proofs.BuiltRows.{exit-row, exec-row, getpid-row, sbrk-row, IsOther, other-row}
+use Rattle.kcall_core.proofs.kernel.Kernel.perform.Goals as goal
+
+pub returns-in-2-clause-made : goal.returns-in-2-clause-made
+returns-in-2-clause-made c =
+    subst (λ o. Makes c.args.self.now c.args.hart.now o c.exit.new.self c.exit.new.hart) (sym (exit-row c.args.call.now (view_now c.args.self.now c.args.hart.now) (search rules)))
+    (c.exit.ensures.made (Exited (c_int c.args.call.now.a0)) (ap Some (sym (to_z-of_z w32 c.c_int-status.result (record { sfits = c.c_int-status.type_inv }) ∙ c.c_int-status.ensures))))
+
+pub returns-in-2-clause-answer : goal.returns-in-2-clause-answer
+returns-in-2-clause-answer c =
+    ap (λ (o : Own). o.answer) (exit-row c.args.call.now (view_now c.args.self.now c.args.hart.now) (search rules))
+    ∙ ap Exited (sym (to_z-of_z w32 c.c_int-status.result (record { sfits = c.c_int-status.type_inv }) ∙ c.c_int-status.ensures))
+
+pub returns-in-7-clause-made : goal.returns-in-7-clause-made
+returns-in-7-clause-made c =
+    subst (λ o. Makes c.args.self.now c.args.hart.now o c.exec.new.self c.exec.new.hart) (sym (exec-row c.args.call.now (view_now c.args.self.now c.args.hart.now) (search rules))) c.exec.ensures.made
+
+pub returns-in-7-clause-answer : goal.returns-in-7-clause-answer
+returns-in-7-clause-answer c = ap (λ (o : Own). o.answer) (exec-row c.args.call.now (view_now c.args.self.now c.args.hart.now) (search rules)) ∙ c.exec.ensures.answer
+
+pub returns-in-12-clause-made : goal.returns-in-12-clause-made
+returns-in-12-clause-made c =
+    subst (λ o. Makes c.args.self.now c.args.hart.now o c.sbrk.new.self c.sbrk.new.hart) (sym (sbrk-row c.args.call.now (view_now c.args.self.now c.args.hart.now) (search rules))) c.sbrk.ensures.made
+
+pub returns-in-12-clause-answer : goal.returns-in-12-clause-answer
+returns-in-12-clause-answer c = ap (λ (o : Own). o.answer) (sbrk-row c.args.call.now (view_now c.args.self.now c.args.hart.now) (search rules)) ∙ c.sbrk.ensures.answer
+
+pub returns-in-11-clause-made : goal.returns-in-11-clause-made
+returns-in-11-clause-made c =
+    subst (λ o. Makes c.args.self.now c.args.hart.now o c.getpid.new.self c.getpid.new.hart) (sym (getpid-row c.args.call.now (view_now c.args.self.now c.args.hart.now) (search rules)))
+    (c.getpid.ensures.made c.args.call.now)
+
+pub returns-in-11-clause-answer : goal.returns-in-11-clause-answer
+unfolding view_of
+returns-in-11-clause-answer c =
+    ap (λ (o : Own). o.answer) (getpid-row c.args.call.now (view_now c.args.self.now c.args.hart.now) (search rules)) ∙ ap (answer_of c.args.call.now.number) (sym c.getpid.ensures.end)
+
+pub returns-in_default-clause-made : goal.returns-in_default-clause-made
+returns-in_default-clause-made c =
+    let other : IsOther c.args.call.now.number = record { exit = search rules; exec = search rules; getpid = search rules; sbrk = search rules } in
+    subst (λ o. Makes c.args.self.now c.args.hart.now o c.refuse.new.self c.refuse.new.hart) (sym (other-row c.args.call.now (view_now c.args.self.now c.args.hart.now) other)) (c.refuse.ensures.made c.args.call.now)
+
+pub returns-in_default-clause-answer : goal.returns-in_default-clause-answer
+returns-in_default-clause-answer c =
+    let other : IsOther c.args.call.now.number = record { exit = search rules; exec = search rules; getpid = search rules; sbrk = search rules } in
+    ap (λ (o : Own). o.answer) (other-row c.args.call.now (view_now c.args.self.now c.args.hart.now) other) ∙ ap (answer_of c.args.call.now.number) (sym c.refuse.ensures.end)

@@ -1,0 +1,48 @@
+-- What a step of the process that runs does to the kernel: it comes to what `own` says, and nothing else happens.
+use Rattle.std.specs.Prelude.{◌≡◌, ℤ, Some, None}
+use Rattle.std.specs.FinMap.{get}
+use Rattle.hart_core.specs.declared.hart.Hart.{Hart}
+use Rattle.kcall_core.specs.Processes.{Zombie}
+use Rattle.kcall_core.specs.View.{View, view_of}
+use Rattle.kcall_core.specs.Own.{Own, Answer, Called, Blocked, Exited, gone_with}
+use Rattle.kcall_core.specs.RowLaws.{After}
+use Rattle.kcall_core.specs.Run.{Step_of, TurnsAfter, halts_with}
+use Rattle.kcall_core.specs.Wakes.{WakesWhereDue}
+use Rattle.kcall_core.specs.Kernel.{frame_count, state_of, IsRunning, pid_now, live_now}
+use Rattle.kcall_core.specs.Machine.{turns_of, world_of}
+use Rattle.kcall_core.specs.Whole.{IsWhole}
+use Rattle.kcall_core.specs.declared.kernel.Kernel.{Kernel}
+use Rattle.kcall_core.specs.declared.call_end.CallEnd.{CallEnd}
+use Rattle.kcall_core.specs.declared.call_end.CallEnd.TheVariants.{Done, Wait, Gone}
+
+-- what the process that runs sees
+abbrev pub view_now : Kernel → Hart → View
+view_now k h = view_of (state_of k h) (pid_now k) (live_now k h)
+
+-- The process that runs has made a step, and it came to o: the state, who runs and sleeps, and who wakes are as they have to be
+pub record Makes (k : Kernel) (h : Hart) (o : Own) (k' : Kernel) (h' : Hart) : Type 0 where
+  pub whole : IsWhole k' h'
+  pub state : After (state_of k h) (pid_now k) (live_now k h) o (state_of k' h')
+  pub turns : TurnsAfter (turns_of k None) (pid_now k) o (turns_of k' (halts_with (pid_now k) o.answer))
+  pub wakes : WakesWhereDue (world_of k h None) (Step_of (pid_now k) o.answer) (world_of k' h' (halts_with (pid_now k) o.answer))
+  -- where the process is gone, its status is kept for its parent
+  pub kept : (status : ℤ) → gone_with o.answer ≡ Some status → get (state_of k' h').processes (pid_now k) ≡ Some (Zombie (live_now k h).parent status)
+  pub frames : frame_count k' ≡ frame_count k
+
+-- nothing that can be seen is another
+pub record Stays (k : Kernel) (h : Hart) (k' : Kernel) (h' : Hart) : Type 0 where
+  pub whole : IsWhole k' h'
+  pub world : world_of k' h' None ≡ world_of k h None
+  pub frames : frame_count k' ≡ frame_count k
+
+-- the process that ran runs, and is as it was
+pub record StillRuns (k : Kernel) (h : Hart) (k' : Kernel) (h' : Hart) : Type 0 where
+  pub running : IsRunning k'
+  pub pid : pid_now k' ≡ pid_now k
+  pub live : live_now k' h' ≡ live_now k h
+
+-- what a step answers in which the call of this number ends so
+abbrev pub answer_of : (number : ℤ) → CallEnd → Answer
+answer_of number (Done value) = Called number value
+answer_of number Wait = Blocked number
+answer_of number (Gone status) = Exited status

@@ -1,0 +1,87 @@
+//! The call sbrk: the memory of a process grows and shrinks (the xv6 book, "Code: sbrk").
+ghost use Rattle.std.specs.Prelude.{◌≡◌, ◌≤◌, true, false, Some, IfSome};
+ghost use Rattle.xk_base.specs.declared.limits.TheConstants.{SIZE_LIMIT};
+ghost use Rattle.kcall_core.specs.Buffers.{data_rights, grown};
+ghost use Rattle.kcall_core.specs.Calls.{sbrk};
+ghost use Rattle.kcall_core.specs.Kernel.{resized, at_size, IsRunning, IsSound, IsTooDear, HasImage, live_now};
+ghost use Rattle.kcall_core.specs.Whole.{IsWhole};
+ghost use Rattle.kcall_core.specs.Makes.{Makes, view_now, answer_of};
+
+use crate::call_end::CallEnd;
+use crate::kernel::Kernel;
+use crate::kernel::calls::c_int;
+use hart_core::Hart;
+use proc_table::Call;
+use xk_base::limits::SIZE_LIMIT;
+use xk_base::{Perm, Rights};
+
+/// The size after a call of sbrk; `None` where it would be below 0 or above the limit.
+fn resized(size: u64, n: i32) -> Option<u64>
+    requires { size ≤ SIZE_LIMIT }
+    ensures value { result ≡ resized size n }
+    ensures limit { IfSome result (λ new. new ≤ SIZE_LIMIT) }
+{
+    if n < 0 {
+        return size.checked_sub(u64::from(n.unsigned_abs()));
+    }
+    let new = size + n as u64;
+    if new > SIZE_LIMIT { None } else { Some(new) }
+}
+
+/// What a process may do with the pages that it grows by.
+fn data_rights() -> Perm
+    ensures { result ≡ data_rights }
+{
+    Perm::new(Rights {
+        read: true,
+        write: true,
+        execute: false,
+        user: true,
+    })
+}
+
+impl Kernel {
+    /// The image of the process that runs becomes greater, by pages of zeros, or smaller. Whether it does:
+    /// not where the greater image costs more than the one that is there and the free frames.
+    fn resize(&mut self, hart: &mut Hart, size: u64) -> bool
+        requires sound { IsSound self.old hart.old }
+        requires running { IsRunning self.old }
+        requires limit { size ≤ SIZE_LIMIT }
+        ensures resized { result ≡ true → HasImage self.old hart.old (at_size (live_now self.old hart.old).image size) self.new hart.new }
+        ensures refused { result ≡ false → let image = (live_now self.old hart.old).image in (image.size ≤ size) × IsTooDear self.old image (grown image size) × HasImage self.old hart.old image self.new hart.new }
+    {
+        let Some(slot) = self.current else {
+            unreachable!();
+        };
+        if size < self.memories.size(slot) {
+            self.memories.shrink(slot, size, hart);
+            return true;
+        }
+        self.memories.grow(slot, size, data_rights()).is_ok()
+    }
+
+    /// The call sbrk: the image of the process that runs grows by `n` bytes, or shrinks by `-n`, where `n`
+    /// is its first argument; the answer is the size that it had. Where the size would be below 0 or above
+    /// [`SIZE_LIMIT`](xk_base::limits::SIZE_LIMIT), or the image would cost more than the one that is there
+    /// and the free frames, the answer is -1, and nothing else changes.
+    pub(crate) fn sbrk(&mut self, hart: &mut Hart, call: &Call) -> CallEnd
+        requires whole { IsWhole self.old hart.old }
+        requires running { IsRunning self.old }
+        requires unmarked { (live_now self.old hart.old).killed ≡ false }
+        requires in_call { (live_now self.old hart.old).call ≡ Some call.now }
+        ensures made { Makes self.old hart.old (sbrk call.now (view_now self.old hart.old)) self.new hart.new }
+        ensures answer { (sbrk call.now (view_now self.old hart.old)).answer ≡ answer_of call.now.number result }
+    {
+        let Some(slot) = self.current else {
+            unreachable!();
+        };
+        let old = self.memories.size(slot);
+        let Some(size) = resized(old, c_int(call.a0)) else {
+            return self.done(hart, -1);
+        };
+        if !self.resize(hart, size) {
+            return self.done(hart, -1);
+        }
+        self.done(hart, old.cast_signed())
+    }
+}

@@ -1,0 +1,59 @@
+-- What the frames of all slots come to, by pid.
+use Rattle.std.proofs.Common.{◌≡◌, ◌≢◌, ℕ, zero, suc, ◌+◌, ◌<◌, List, [], ◌∷◌, length, get_or, Option, Some, None, refl, ap, ◌∙◌, arith}
+use Rattle.std.specs.Prelude.{option_map}
+use Rattle.std.specs.Ordering.{nat_cmp}
+use Rattle.std.specs.FinMap.{FinMap, get, insert, get-empty}
+use Rattle.xk_base.specs.Frames.{copies}
+use Rattle.xk_base.proofs.Frames.{copies-nil, copies-append}
+use Rattle.kcall_core.specs.ByPid.{by_pid, put}
+use Rattle.kcall_core.specs.WellFormed.{sum_below}
+use Rattle.kcall_core.specs.Memories.{joined}
+use Rattle.kcall_core.proofs.ByPid.{none}
+use Rattle.kcall_core.proofs.Maps.{get_same, get_other}
+use Rattle.kcall_core.proofs.Sums.{sum_change}
+
+-- ---- sums
+
+sum-zeros : (n : ℕ) (f : ℕ → ℕ) → ((k : ℕ) → f k ≡ 0) → sum_below n f ≡ 0
+unfolding sum_below
+sum-zeros zero f h = refl
+sum-zeros (suc n) f h = omega (arith, sum-zeros n f h, h n)
+
+-- the first term apart
+sum-front : (n : ℕ) (f : ℕ → ℕ) → sum_below (suc n) f ≡ f 0 + sum_below n (λ k. f (suc k))
+unfolding sum_below
+sum-front zero f = omega arith
+sum-front (suc n) f = omega (arith, sum-front n f)
+
+-- how often a frame stands in lists that are joined
+pub joined-sum : (x : ℕ) (lists : List (List ℕ)) → copies x (joined lists) ≡ sum_below (length lists) (λ k. copies x (get_or lists k []))
+unfolding joined sum_below
+joined-sum x [] = copies-nil x
+joined-sum x (xs ∷ rest) = omega (arith, copies-append x xs (joined rest), joined-sum x rest, sum-front (length rest) (λ k. copies x (get_or (xs ∷ rest) k [])))
+
+-- ---- by slot, and by pid
+
+module _ {X : Type 0} (value : Option X → ℕ) (nothing : value None ≡ 0) where
+  -- a pid that has nothing yet gets this
+  sum-put : (m : FinMap nat_cmp X) (next p : ℕ) (x : X) → p < next → get m p ≡ None → sum_below next (λ q. value (get (insert m p x) q)) ≡ sum_below next (λ q. value (get m q)) + value (Some x)
+  sum-put m next p x lt free =
+      let change = sum_change next p (λ q. value (get (insert m p x) q)) (λ q. value (get m q)) lt (λ q ne. ap value (get_other m p x q ne)) in
+      let was : value (get m p) ≡ 0 = ap value free ∙ nothing in
+      let is : value (get (insert m p x) p) ≡ value (Some x) = ap value (get_same m p x) in
+      omega (arith, change, was, is)
+
+  -- one slot more
+  slot-sum : (g : ℕ → Option (ℕ × X)) (n next : ℕ) → ((j : ℕ) (e : ℕ × X) → g j ≡ Some e → e.0 < next) → ((i j : ℕ) (e f : ℕ × X) → g i ≡ Some e → g j ≡ Some f → i ≢ j → e.0 ≢ f.0)
+      → sum_below next (λ p. value (get (by_pid g n) p)) ≡ sum_below n (λ j. value (option_map (λ (e : ℕ × X). e.1) (g j))) → (o : Option (ℕ × X)) → g n ≡ o
+      → sum_below next (λ p. value (get (put (by_pid g n) o) p)) ≡ sum_below n (λ j. value (option_map (λ (e : ℕ × X). e.1) (g j))) + value (option_map (λ (e : ℕ × X). e.1) o)
+  slot-sum g n next below apart before None is = omega (arith, before, nothing)
+  slot-sum g n next below apart before (Some e) is =
+      let free : get (by_pid g n) e.0 ≡ None = none g n e.0 (λ j f lt at. apart n j e f is at (λ same. absurd (omega (arith, lt, same)))) in
+      omega (arith, before, sum-put (by_pid g n) next e.0 e.1 (below n e is) free)
+
+  -- the sum over all pids is that over all slots, where no pid stands in two slots
+  pub by_pid-sum : (g : ℕ → Option (ℕ × X)) (n next : ℕ) → ((j : ℕ) (e : ℕ × X) → g j ≡ Some e → e.0 < next) → ((i j : ℕ) (e f : ℕ × X) → g i ≡ Some e → g j ≡ Some f → i ≢ j → e.0 ≢ f.0)
+      → sum_below next (λ p. value (get (by_pid g n) p)) ≡ sum_below n (λ j. value (option_map (λ (e : ℕ × X). e.1) (g j)))
+  unfolding by_pid sum_below
+  by_pid-sum g zero next below apart = sum-zeros next (λ p. value (get (by_pid g 0) p)) (λ p. ap value (get-empty nat_cmp p) ∙ nothing)
+  by_pid-sum g (suc n) next below apart = slot-sum g n next below apart (by_pid-sum g n next below apart) (g n) refl

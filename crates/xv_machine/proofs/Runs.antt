@@ -1,0 +1,229 @@
+-- What a run of the machine leaves: whether it is halted, and what is promised of it.
+use Rattle.std.proofs.Common.{◌≡◌, ◌≢◌, ℕ, Bool, true, false, cond, length, Option, Some, None, inl, inr, refl, sym, ap, ◌∙◌, subst, nat_eq}
+use Rattle.std.specs.Prelude.{ℤ, IsSome, is_some, option_map}
+use Rattle.std.proofs.lemmas.Bool.Decides.{eqb_tells}
+use Rattle.hart_core.specs.declared.hart.Hart.{Hart}
+use Rattle.std.specs.FinMap.{get}
+use Rattle.kcall_core.specs.Processes.{Process, Alive, Zombie}
+use Rattle.kcall_core.specs.Updates.{parent_of}
+use Rattle.kcall_core.specs.State.{State, live}
+use Rattle.kcall_core.specs.View.{view, view_of}
+use Rattle.kcall_core.specs.Own.{Answer, Stepped, Called, Blocked, Exited, Faulted, gone_with}
+use Rattle.kcall_core.specs.Built.{own_so_far}
+use Rattle.kcall_core.specs.Run as runs
+use Rattle.kcall_core.specs.Run.{World, Step_of, TurnTaken, halts_with, stays_current}
+use Rattle.kcall_core.specs.Wakes.{IsRunnable, IsNearest}
+use Rattle.kcall_core.specs.Kernel.{state_of, IsRunning, pid_now, live_now}
+use Rattle.kcall_core.specs.Machine.{turns_of, world_of}
+use Rattle.kcall_core.specs.Whole.{IsWhole}
+use Rattle.kcall_core.specs.Makes.{Makes, view_now}
+use Rattle.kcall_core.specs.declared.kernel.Kernel.{Kernel}
+use Rattle.kcall_core.proofs.Promises.{turn-promised, idle-promised, halted-promised}
+use Rattle.kcall_core.proofs.States.{none-some}
+use Rattle.kcall_core.proofs.Turned.{live-is}
+use Rattle.xv_machine.specs.declared.event.Outcome.{Outcome}
+use Rattle.xv_machine.specs.declared.event.Outcome.TheVariants as outcomes
+use Rattle.xv_machine.specs.Events.{outcome_of, halted_by}
+use Rattle.xv_machine.specs.Machine.{meaning_of, frames_in}
+use Rattle.xv_machine.specs.Meaning.{Meaning}
+use Rattle.xv_machine.specs.Sound.{IsHalted, IsSound}
+use Rattle.xv_machine.specs.Unbuilt.{PromisedSoFar, PromisedUnless, step_is_unbuilt}
+use Rattle.xv_machine.proofs.Frames.{sound-of}
+use Rattle.xv_machine.proofs.SoFar.{stays-there, step-so-far}
+
+none-of : {X Y : Type 0} (f : X → Y) (o : Option X) → option_map f o ≡ None → o ≡ None
+none-of f None e = refl
+none-of f (Some x) e = absurd (none-some (f x) (sym e))
+
+some-of : {X Y : Type 0} (f : X → Y) (o : Option X) → IsSome (option_map f o) → IsSome o
+some-of f None e = e
+some-of f (Some x) e = refl
+
+some-value : {X : Type 0} (o : Option X) → IsSome o → (x : X) × (o ≡ Some x)
+some-value None e = let no : ⊥ = cc in absurd no
+some-value (Some x) e = (x, refl)
+
+gone-stops : (p : ℕ) (a : Answer) (status : ℤ) → gone_with a ≡ Some status → stays_current p a ≡ None
+gone-stops p Stepped status e = absurd (none-some status e)
+gone-stops p (Called number value) status e = absurd (none-some status e)
+gone-stops p (Blocked number) status e = absurd (none-some status e)
+gone-stops p (Exited s) status e = refl
+gone-stops p (Faulted cause) status e = refl
+
+-- ---- a step
+
+same-step : (p q : ℕ) (a b : Answer) → Step_of p a ≡ Step_of q b → (p ≡ q) × (a ≡ b)
+same-step p q a b e = let x : p ≡ q = cc in let y : a ≡ b = cc in (x, y)
+
+goes-on : (p : ℕ) (a b : Answer) → a ≡ b → gone_with a ≡ None → None ≡ halts_with p b
+goes-on p a b same none = sym (ap (λ o. cond (nat_eq p 1) o None) (sym (ap gone_with same) ∙ none) ∙ neither (nat_eq p 1))
+  where
+    neither : (t : Bool) → cond {A = Option ℤ} t None None ≡ None
+    neither true = refl
+    neither false = refl
+
+-- the status that the machine keeps is that with which process 1 went
+pub halts-as : (outcome : Outcome) (p : ℕ) (a : Answer) → outcome_of outcome ≡ Step_of p a → halted_by outcome ≡ halts_with p a
+halts-as (outcomes.Stepped q) p a e = goes-on p Stepped a (same-step q p Stepped a e).1 refl
+halts-as (outcomes.Called q number value) p a e = goes-on p (Called number value) a (same-step q p (Called number value) a e).1 refl
+halts-as (outcomes.Blocked q number) p a e = goes-on p (Blocked number) a (same-step q p (Blocked number) a e).1 refl
+halts-as (outcomes.Exited q status) p a e = let s = same-step q p (Exited status) a e in λ i. halts_with (s.0 i) (s.1 i)
+halts-as (outcomes.Faulted q cause) p a e = let s = same-step q p (Faulted cause) a e in λ i. halts_with (s.0 i) (s.1 i)
+halts-as (outcomes.Turn q) p a e = let no : ⊥ = cc in absurd no
+halts-as outcomes.Idle p a e = let no : ⊥ = cc in absurd no
+halts-as outcomes.Halted p a e = let no : ⊥ = cc in absurd no
+
+-- process 1 has no parent
+first-parent : (k : Kernel) (h : Hart) → IsWhole k h → IsRunning k → pid_now k ≡ 1 → (live_now k h).parent ≡ None
+first-parent k h whole runs is = by whole.well.first.0 (sym whole.well.first.1 ∙ ap (get (state_of k h).processes) (sym is) ∙ live-is k h whole.sound runs) whole.well.first.2
+  where
+    by : (x : Process) → Some x ≡ Some (Alive (live_now k h)) → parent_of x ≡ None → (live_now k h).parent ≡ None
+    by x same none = let e : x ≡ Alive (live_now k h) = cc in sym (ap parent_of e) ∙ none
+
+module _ (k k' : Kernel) (h h' : Hart) (whole : IsWhole k h) (runs : IsRunning k) (made : Makes k h (own_so_far (view_now k h)) k' h') (first : IsSome (live (state_of k h) 1)) where
+  -- process 1 made the step
+  first-halts : pid_now k ≡ 1 → (o : Option ℤ) → gone_with (own_so_far (view_now k h)).answer ≡ o → IsHalted (state_of k' h') (turns_of k' o) o
+  unfolding turns_of view_of
+  first-halts is None stays =
+      let next : IsSome (view (state_of k' h') (pid_now k)) = ap is_some made.state.next ∙ stays-there (view_now k h) stays in
+      subst (λ p. IsSome (live (state_of k' h') p)) is (some-of (view_of (state_of k' h') (pid_now k)) (live (state_of k' h') (pid_now k)) next)
+  first-halts is (Some status) gone = (
+    ap (get (state_of k' h').processes) (sym is) ∙ made.kept status gone ∙ ap (λ parent. Some (Zombie parent status)) (first-parent k h whole runs is),
+    made.turns.current ∙ gone-stops (pid_now k) (own_so_far (view_now k h)).answer status gone,
+  )
+
+  -- another process did
+  other-halts : pid_now k ≢ 1 → IsSome (live (state_of k' h') 1)
+  unfolding view_of
+  other-halts other =
+      let was = some-value (live (state_of k h) 1) first in
+      let seen : view (state_of k h) 1 ≡ Some (view_of (state_of k h) 1 was.0) = ap (option_map (view_of (state_of k h) 1)) was.1 in
+      let sees = made.state.others 1 (view_of (state_of k h) 1 was.0) (λ e. other (sym e)) seen in
+      some-of (view_of (state_of k' h') 1) (live (state_of k' h') 1) (ap is_some sees)
+
+  pub halts-after : let status = halts_with (pid_now k) (own_so_far (view_now k h)).answer in IsHalted (state_of k' h') (turns_of k' status) status
+  halts-after = elim (eqb_tells (pid_now k) 1) [
+    | inl is ↦ subst (λ o. IsHalted (state_of k' h') (turns_of k' o) o) (sym (ap (λ b. cond b (gone_with (own_so_far (view_now k h)).answer) None) is.0)) (first-halts is.1 (gone_with (own_so_far (view_now k h)).answer) refl)
+    | inr other ↦ subst (λ o. IsHalted (state_of k' h') (turns_of k' o) o) (sym (ap (λ b. cond b (gone_with (own_so_far (view_now k h)).answer) None) other.0)) (other-halts other.1)
+  ]
+
+-- who runs, runs on a machine that isn't halted
+pub not-halted : (k : Kernel) (h : Hart) (halted : Option ℤ) → IsHalted (state_of k h) (turns_of k halted) halted → IsRunning k → halted ≡ None
+unfolding turns_of
+not-halted k h None end runs = refl
+not-halted k h (Some status) end runs = absurd (no k.current runs end.1)
+  where
+    no : (o : Option ℕ) → IsSome o → option_map (λ _. pid_now k) o ≡ None → ⊥
+    no None some none = let e : false ≡ true = some in let bad : ⊥ = cc in bad
+    no (Some i) some none = none-some (pid_now k) (sym none)
+
+-- a step, with what the machine answers and keeps
+pub run-step : (k k' : Kernel) (h h' : Hart) (pid : ℕ) (outcome : Outcome) → IsWhole k h → IsRunning k → pid ≡ pid_now k → Makes k h (own_so_far (view_now k h)) k' h' → outcome_of outcome ≡ Step_of pid (own_so_far (view_now k h)).answer
+    → PromisedSoFar (world_of k h None) runs.Run (outcome_of outcome) (world_of k' h' (halted_by outcome))
+run-step k k' h h' pid outcome whole now is made answer =
+    let told : outcome_of outcome ≡ Step_of (pid_now k) (own_so_far (view_now k h)).answer = answer ∙ ap (λ p. Step_of p (own_so_far (view_now k h)).answer) is in
+    let promised = step-so-far k k' h h' whole now made in
+    subst (λ o. PromisedSoFar (world_of k h None) runs.Run o (world_of k' h' (halted_by outcome))) (sym told)
+    (subst (λ s. PromisedSoFar (world_of k h None) runs.Run (Step_of (pid_now k) (own_so_far (view_now k h)).answer) (world_of k' h' s)) (sym (halts-as outcome (pid_now k) (own_so_far (view_now k h)).answer told)) promised)
+
+pub run-halts : (k k' : Kernel) (h h' : Hart) (pid : ℕ) (outcome : Outcome) → IsWhole k h → IsRunning k → IsSome (live (state_of k h) 1) → pid ≡ pid_now k → Makes k h (own_so_far (view_now k h)) k' h' → outcome_of outcome ≡ Step_of pid (own_so_far (view_now k h)).answer
+    → IsHalted (state_of k' h') (turns_of k' (halted_by outcome)) (halted_by outcome)
+run-halts k k' h h' pid outcome whole now first is made answer =
+    let told : outcome_of outcome ≡ Step_of (pid_now k) (own_so_far (view_now k h)).answer = answer ∙ ap (λ p. Step_of p (own_so_far (view_now k h)).answer) is in
+    subst (λ s. IsHalted (state_of k' h') (turns_of k' s) s) (sym (halts-as outcome (pid_now k) (own_so_far (view_now k h)).answer told)) (halts-after k k' h h' whole now made first)
+
+-- ---- no step
+
+module _ (k : Kernel) (h : Hart) (whole : IsWhole k h) (stopped : k.current ≡ None) where
+  nobody : option_map (λ (i : ℕ). pid_now k) k.current ≡ None
+  nobody = ap (option_map (λ (i : ℕ). pid_now k)) stopped
+
+  pub run-turn : (k' : Kernel) (h' : Hart) (pid : ℕ) → TurnTaken (world_of k h None) (runs.Turn pid) (world_of k' h' None) → IsRunnable (world_of k h None) pid × IsNearest (world_of k h None) pid
+      → PromisedSoFar (world_of k h None) runs.Run (runs.Turn pid) (world_of k' h' None)
+  unfolding turns_of
+  run-turn k' h' pid taken near =
+      subst (λ c. PromisedUnless (step_is_unbuilt (world_of k h None) c) (world_of k h None) runs.Run (runs.Turn pid) (world_of k' h' None)) (sym nobody) (turn-promised k k' h h' whole stopped pid taken near.0 near.1)
+
+  pub run-idle : (k' : Kernel) (h' : Hart) → world_of k' h' None ≡ world_of k h None → ((p : ℕ) → ¬ IsRunnable (world_of k h None) p) → PromisedSoFar (world_of k h None) runs.Run runs.Idle (world_of k' h' None)
+  unfolding turns_of
+  run-idle k' h' same none =
+      subst (λ c. PromisedUnless (step_is_unbuilt (world_of k h None) c) (world_of k h None) runs.Run runs.Idle (world_of k' h' None)) (sym nobody) (idle-promised k k' h h' whole stopped same none)
+
+  pub run-halted : (status : ℤ) → PromisedSoFar (world_of k h (Some status)) runs.Run runs.Halted (world_of k h (Some status))
+  unfolding turns_of
+  run-halted status =
+      subst (λ c. PromisedUnless (step_is_unbuilt (world_of k h (Some status)) c) (world_of k h (Some status)) runs.Run runs.Halted (world_of k h (Some status))) (sym nobody) (halted-promised k h status whole)
+
+-- process 1 lives after a turn
+pub first-stays : (k k' : Kernel) (h h' : Hart) → (world_of k' h' None).state ≡ (world_of k h None).state → IsSome (live (state_of k h) 1) → IsSome (live (state_of k' h') 1)
+first-stays k k' h h' same first = ap (λ (s : State). is_some (live s 1)) same ∙ first
+
+-- ---- at the machine's own calls
+
+pub current-pid : (k : Kernel) (pid : ℕ) → (turns_of k None).current ≡ Some pid → IsRunning k × (pid ≡ pid_now k)
+unfolding turns_of
+current-pid k pid told = by k.current told
+  where
+    same : (a b : ℕ) → Some a ≡ Some b → b ≡ a
+    same a b e = cc
+
+    by : (o : Option ℕ) → option_map (λ (i : ℕ). pid_now k) o ≡ Some pid → IsSome o × (pid ≡ pid_now k)
+    by None e = absurd (none-some pid e)
+    by (Some i) e = (refl, same (pid_now k) pid e)
+
+pub count-is : (k : Kernel) → (frames_in k).count ≡ length k.memories.ram
+unfolding frames_in
+count-is k = refl
+
+pub nothing-kept : (o : Option ℤ) → is_some o ≡ false → o ≡ None
+nothing-kept None e = refl
+nothing-kept (Some x) e = let no : ⊥ = cc in absurd no
+
+module _ (k : Kernel) (h : Hart) (halted : Option ℤ) (now : Meaning) (is : meaning_of (record { kernel = k; hart = h; halted = halted }) ≡ now) where
+  pub now-stopped : now.world.turns.current ≡ None → k.current ≡ None
+  unfolding turns_of
+  now-stopped stopped = none-of (λ (i : ℕ). pid_now k) k.current (ap (λ (m : Meaning). m.world.turns.current) is ∙ stopped)
+
+  pub now-sound : IsWhole k h → IsHalted (state_of k h) (turns_of k halted) halted → IsSound now
+  now-sound whole end = subst IsSound is (sound-of k h halted whole end)
+
+  pub now-frames : length k.memories.ram ≡ now.frames.count
+  unfolding frames_in
+  now-frames = ap (λ (m : Meaning). m.frames.count) is
+
+  -- a machine that isn't halted
+  pub now-promised : (k' : Kernel) (h' : Hart) (kept : Option ℤ) (outcome : runs.Outcome) (after : Option ℤ) → halted ≡ None → after ≡ kept → PromisedSoFar (world_of k h None) runs.Run outcome (world_of k' h' kept) → PromisedSoFar now.world runs.Run outcome (world_of k' h' after)
+  now-promised k' h' kept outcome after none same promised =
+      let at_world : PromisedSoFar now.world runs.Run outcome (world_of k' h' kept) =
+      subst (λ (m : Meaning). PromisedSoFar m.world runs.Run outcome (world_of k' h' kept)) is
+      (subst (λ s. PromisedSoFar (world_of k h s) runs.Run outcome (world_of k' h' kept)) (sym none) promised) in
+      subst (λ s. PromisedSoFar now.world runs.Run outcome (world_of k' h' s)) (sym same) at_world
+
+  -- one that is
+  pub now-over : IsWhole k h → k.current ≡ None → is_some halted ≡ true → PromisedSoFar now.world runs.Run runs.Halted now.world
+  now-over whole stopped some =
+      let status = some-value halted some in
+      subst (λ (m : Meaning). PromisedSoFar m.world runs.Run runs.Halted m.world) is
+      (subst (λ s. PromisedSoFar (world_of k h s) runs.Run runs.Halted (world_of k h s)) (sym status.1) (run-halted k h whole stopped status.0))
+
+-- process 1 lives on a machine that isn't halted
+pub first-lives : (k : Kernel) (h : Hart) (halted : Option ℤ) → IsHalted (state_of k h) (turns_of k halted) halted → halted ≡ None → IsSome (live (state_of k h) 1)
+first-lives k h halted end none = subst (λ s. IsHalted (state_of k h) (turns_of k s) s) none end
+
+pub still-lives : (k : Kernel) (h : Hart) (halted : Option ℤ) → halted ≡ None → IsSome (live (state_of k h) 1) → IsHalted (state_of k h) (turns_of k halted) halted
+still-lives k h halted none lives = subst (λ s. IsHalted (state_of k h) (turns_of k s) s) (sym none) lives
+
+-- and still does after a turn
+pub lives-on : (k k' : Kernel) (h h' : Hart) (halted : Option ℤ) → halted ≡ None → (world_of k' h' None).state ≡ (world_of k h None).state → IsHalted (state_of k h) (turns_of k halted) halted → IsHalted (state_of k' h') (turns_of k' halted) halted
+lives-on k k' h h' halted none same end = still-lives k' h' halted none (first-stays k k' h h' same (first-lives k h halted end none))
+
+-- whether the machine is halted after a step
+pub run-ends : (k k' : Kernel) (h h' : Hart) (halted after : Option ℤ) (pid : ℕ) (outcome : Outcome) → IsWhole k h → (turns_of k None).current ≡ Some pid → IsHalted (state_of k h) (turns_of k halted) halted → Makes k h (own_so_far (view_now k h)) k' h'
+    → outcome_of outcome ≡ Step_of pid (own_so_far (view_now k h)).answer → after ≡ halted_by outcome → IsHalted (state_of k' h') (turns_of k' after) after
+run-ends k k' h h' halted after pid outcome whole current end made answer kept =
+    let now = current-pid k pid current in
+    subst (λ s. IsHalted (state_of k' h') (turns_of k' s) s) (sym kept) (run-halts k k' h h' pid outcome whole now.0 (first-lives k h halted end (not-halted k h halted end now.0)) now.1 made answer)
+
+pub kept-is : (k : Kernel) (halted : Option ℤ) → halted ≡ (turns_of k halted).halted
+unfolding turns_of
+kept-is k halted = refl

@@ -1,0 +1,200 @@
+-- What boot answers, stage by stage.
+use Rattle.std.proofs.Common.{◌≡◌, ℕ, ◌+◌, ◌≤◌, Bool, true, false, cond, ◌||◌, List, [], ◌∷◌, Option, None, Some, Result, Ok, Err, inl, inr, ◌⊎◌, refl, sym, ap, ◌∙◌, subst, arith, nat_lt}
+use Rattle.std.specs.Prelude.{IsSome, is_some, option_map}
+use Rattle.std.proofs.lemmas.Bool.{le-ltb}
+use Rattle.xk_base.specs.declared.limits.TheConstants.{FRAMES_MIN, FRAMES_MAX, TRACE_MAX}
+use Rattle.xk_base.specs.declared.errors.ExecError.{ExecError}
+use Rattle.xk_base.specs.declared.errors.ExecError.TheVariants.{NoFrames}
+use Rattle.xk_base.specs.declared.errors.BootError.{BootError}
+use Rattle.xk_base.specs.declared.errors.BootError.TheVariants.{BadConfig, BadPrograms, NoInit, Memory, Init}
+use Rattle.xk_base.specs.Image.{price}
+use Rattle.xk_base.specs.Loaded.{Loaded, loaded}
+use Rattle.std.specs.Prelude.{length, map}
+use Rattle.std.specs.FinMap.{empty}
+use Rattle.rv64i_core.specs.Registers.{fresh}
+use Rattle.hart_core.specs.Translations.{nothing_kept}
+use Rattle.hart_core.specs.declared.hart.Hart.{Hart}
+use Rattle.kcall_core.specs.Processes.{Alive}
+use Rattle.kcall_core.specs.Kernel.{state_of}
+use Rattle.kcall_core.specs.declared.kernel.Kernel.{Kernel}
+use Rattle.kcall_core.proofs.Maps.{get_same}
+use Rattle.kcall_core.specs.State.{ProgramFile, State, named_file, live, live_part}
+use Rattle.kcall_core.specs.Programs.{first_bad, init_of, init_name, program_bytes, program_named}
+use Rattle.std.specs.Prelude.{find, bytes_eq}
+use Rattle.xk_base.specs.declared.program.Program.{Program}
+use Rattle.kcall_core.proofs.Asking.{found-among}
+use Rattle.kcall_core.specs.First.{first, first_programs, first_init, first_loaded, first_state, first_turns, first_process}
+use Rattle.kcall_core.specs.NewKernel.{refusal, or_memory, empty_state}
+use Rattle.kcall_core.specs.Run.{World}
+use Rattle.kcall_core.specs.Starts.{IsBlank, init_loaded, start_refusal, started_world}
+use Rattle.kcall_core.proofs.States.{none-some}
+use Rattle.xv_machine.specs.Boots.{Boots, or_no_init}
+use Rattle.xv_machine.specs.Meaning.{Meaning}
+
+-- a number of the configuration is out of its range
+abbrev pub is_bad_config : (frames trace : ℕ) → Bool
+is_bad_config frames trace = nat_lt frames FRAMES_MIN || nat_lt FRAMES_MAX frames || nat_lt TRACE_MAX trace
+
+few : (a b c : Bool) → (a || b || c) ≡ false → (a || b) ≡ false
+few true b c e = e
+few false true c e = e
+few false false c e = refl
+
+module _ (frames trace : ℕ) (programs : List ProgramFile) where
+  pub first-bad : is_bad_config frames trace ≡ true → first frames trace programs ≡ Err BadConfig
+  unfolding first
+  first-bad bad = ap (λ b. cond b (Err BadConfig) (first_programs frames programs (first_bad programs))) bad
+
+  first-good : is_bad_config frames trace ≡ false → (o : Option ℕ) → first_bad programs ≡ o → first frames trace programs ≡ first_programs frames programs o
+  unfolding first
+  first-good good o is = ap (λ b. cond b (Err BadConfig) (first_programs frames programs (first_bad programs))) good ∙ ap (first_programs frames programs) is
+
+  module _ (good : is_bad_config frames trace ≡ false) where
+    refusal-is : refusal frames programs ≡ option_map BadPrograms (first_bad programs)
+    refusal-is = ap (λ b. cond b (Some BadConfig) (option_map BadPrograms (first_bad programs))) (few (nat_lt frames FRAMES_MIN) (nat_lt FRAMES_MAX frames) (nat_lt TRACE_MAX trace) good)
+
+    -- why there is no kernel
+    pub no-kernel : (e : BootError) → e ≡ or_memory (refusal frames programs) → ((first_bad programs ≡ None) × (e ≡ Memory)) ⊎ ((i : ℕ) × (first_bad programs ≡ Some i) × (e ≡ BadPrograms i))
+    no-kernel e is = by (first_bad programs) refl
+      where
+        by : (o : Option ℕ) → first_bad programs ≡ o → ((first_bad programs ≡ None) × (e ≡ Memory)) ⊎ ((i : ℕ) × (first_bad programs ≡ Some i) × (e ≡ BadPrograms i))
+        by None bad = inl (bad, is ∙ ap or_memory (refusal-is ∙ ap (option_map BadPrograms) bad))
+        by (Some i) bad = inr (i, bad, is ∙ ap or_memory (refusal-is ∙ ap (option_map BadPrograms) bad))
+
+    -- there is one
+    pub none-bad : refusal frames programs ≡ None → first_bad programs ≡ None
+    none-bad made = by (first_bad programs) (sym refusal-is ∙ made)
+      where
+        by : (o : Option ℕ) → option_map BadPrograms o ≡ None → o ≡ None
+        by None e = refl
+        by (Some i) e = absurd (none-some (BadPrograms i) (sym e))
+
+    pub first-is : first_bad programs ≡ None → first frames trace programs ≡ first_init frames programs (init_of programs)
+    first-is bad = first-good good None bad
+
+    pub first-bad_programs : (i : ℕ) → first_bad programs ≡ Some i → first frames trace programs ≡ Err (BadPrograms i)
+    first-bad_programs i bad = first-good good (Some i) bad
+
+    pub first-no_init : first_bad programs ≡ None → is_some (init_of programs) ≡ false → first frames trace programs ≡ Err NoInit
+    first-no_init bad missing = first-is bad ∙ ap (first_init frames programs) (by (init_of programs) missing)
+      where
+        by : (o : Option ProgramFile) → is_some o ≡ false → o ≡ None
+        by None e = refl
+        by (Some p) e = let no : ⊥ = cc in absurd no
+
+-- ---- the file of init
+
+module _ (frames : ℕ) (programs : List ProgramFile) where
+  file-loaded : (o : Option ProgramFile) → is_some o ≡ true → first_init frames programs o ≡ first_loaded frames programs (loaded (program_bytes o) (init_name ∷ []))
+  file-loaded None e = let no : ⊥ = cc in absurd no
+  file-loaded (Some p) e = refl
+
+  module _ (there : is_some (init_of programs) ≡ true) where
+    pub first-loaded : (r : Result Loaded ExecError) → loaded (program_bytes (init_of programs)) (init_name ∷ []) ≡ r → first_init frames programs (init_of programs) ≡ first_loaded frames programs r
+    first-loaded r is = file-loaded (init_of programs) there ∙ ap (first_loaded frames programs) is
+
+    -- want of memory may come wherever a program was to be loaded
+    pub boots-memory : Boots frames (Err Memory) (first_init frames programs (init_of programs))
+    boots-memory = subst (Boots frames (Err Memory)) (sym (first-loaded (loaded (program_bytes (init_of programs)) (init_name ∷ [])) refl)) (by (loaded (program_bytes (init_of programs)) (init_name ∷ [])))
+      where
+        either : (b : Bool) (w : World) → Boots frames (Err Memory) (cond b (Err (Init NoFrames)) (Ok w))
+        either true w = inr refl
+        either false w = inr refl
+
+        by : (r : Result Loaded ExecError) → Boots frames (Err Memory) (first_loaded frames programs r)
+        by (Err e) = inr refl
+        by (Ok l) = either (nat_lt frames (price l.image + 1)) (record { state = first_state frames programs l; turns = first_turns })
+
+-- ---- no kernel
+
+pub boots-no_kernel : (frames trace : ℕ) (programs : List ProgramFile) (e answer : BootError) (has : Bool) → is_bad_config frames trace ≡ false → e ≡ or_memory (refusal frames programs) → is_some (init_of programs) ≡ has → answer ≡ or_no_init has e
+    → Boots frames (Err answer) (first frames trace programs)
+boots-no_kernel frames trace programs e answer has good is there told = elim (no-kernel frames trace programs good e is) [
+  | inl memory ↦ wanting has there memory.0 (told ∙ ap (or_no_init has) memory.1)
+  | inr bad ↦ subst (Boots frames (Err answer)) (sym (first-bad_programs frames trace programs good bad.0 bad.1)) (ap Err (told ∙ ap (or_no_init has) bad.2))
+]
+  where
+    wanting : (b : Bool) → is_some (init_of programs) ≡ b → first_bad programs ≡ None → answer ≡ or_no_init b Memory → Boots frames (Err answer) (first frames trace programs)
+    wanting true found none same =
+        subst (λ x. Boots frames (Err x) (first frames trace programs)) (sym same) (subst (Boots frames (Err Memory)) (sym (first-is frames trace programs good none)) (boots-memory frames programs found))
+    wanting false missing none same = subst (Boots frames (Err answer)) (sym (first-no_init frames trace programs good none missing)) (ap Err same)
+
+-- ---- a kernel
+
+any_hart : Hart
+any_hart = record { regs = fresh 0; root = None; cache = nothing_kept }
+
+-- it has the programs that it was made of
+pub programs-same : (k : Kernel) (frames : ℕ) (programs : List ProgramFile) → ((hart : Hart) → state_of k hart ≡ empty_state frames programs) → map named_file k.programs.items ≡ programs
+unfolding state_of
+programs-same k frames programs is = ap (λ (s : State). s.programs) (is any_hart)
+
+pub boots-kernel : (k : Kernel) (frames trace : ℕ) (programs : List ProgramFile) (result : Result Meaning BootError) → is_bad_config frames trace ≡ false → refusal frames programs ≡ None
+    → length k.memories.ram ≡ frames → map named_file k.programs.items ≡ programs
+    → Boots (length k.memories.ram) result (first_init (length k.memories.ram) (map named_file k.programs.items) (init_of (map named_file k.programs.items))) → Boots frames result (first frames trace programs)
+boots-kernel k frames trace programs result good made count same boots =
+    subst (Boots frames result) (sym (first-is frames trace programs good (none-bad frames trace programs good made)))
+    (subst (λ n. Boots n result (first_init n programs (init_of programs))) count (subst (λ ps. Boots (length k.memories.ram) result (first_init (length k.memories.ram) ps (init_of ps))) same boots))
+
+-- what its state tells
+pub kernel-free : (k : Kernel) (h : Hart) → IsBlank k → (state_of k h).free ≡ length k.memories.ram
+unfolding state_of
+kernel-free k h blank = blank.free
+
+pub kernel-programs : (k : Kernel) (h : Hart) → (state_of k h).programs ≡ map named_file k.programs.items
+unfolding state_of
+kernel-programs k h = refl
+
+pub kernel-init : (k : Kernel) (h : Hart) → is_some (init_of (map named_file k.programs.items)) ≡ true → IsSome (init_of (state_of k h).programs)
+unfolding state_of
+kernel-init k h there = there
+
+-- process 1 is live after it started
+pub started-lives : (w : World) (l : Loaded) (s : State) → w ≡ started_world l s → IsSome (live w.state 1)
+started-lives w l s is = ap (λ (v : World). is_some (live v.state 1)) is ∙ ap (λ o. is_some (live_part o)) (get_same empty 1 (Alive (first_process l)))
+
+-- ---- the first process
+
+module _ (frames : ℕ) (programs : List ProgramFile) (s : State) (free : s.free ≡ frames) (same : s.programs ≡ programs) (there : is_some (init_of programs) ≡ true) where
+  loads : (r : Result Loaded ExecError) → init_loaded s ≡ r → loaded (program_bytes (init_of programs)) (init_name ∷ []) ≡ r
+  loads r is = ap (λ ps. loaded (program_bytes (init_of ps)) (init_name ∷ [])) (sym same) ∙ is
+
+  -- it is there
+  pub boots-started : (l : Loaded) (m : Meaning) → init_loaded s ≡ Ok l → price l.image + 1 ≤ s.free → m.world ≡ started_world l s → m.frames.count ≡ frames → Boots frames (Ok m) (first_init frames programs (init_of programs))
+  boots-started l m is enough world count =
+      let low : nat_lt frames (price l.image + 1) ≡ false = le-ltb frames (price l.image + 1) (omega (arith, enough, free)) in
+      let w : World = record { state = first_state frames programs l; turns = first_turns } in
+      let first_is : first_init frames programs (init_of programs) ≡ Ok w = first-loaded frames programs there (Ok l) (loads (Ok l) is) ∙ ap (λ b. cond b (Err (Init NoFrames)) (Ok w)) low in
+      let now : m.world ≡ w = world ∙ (λ i. record { state = first_state (free i) (same i) l; turns = first_turns }) in
+      subst (Boots frames (Ok m)) (sym first_is) (inl (now, count))
+
+  -- it is refused
+  pub boots-refused : (e : ExecError) → start_refusal s.free (init_loaded s) ≡ Some e → Boots frames (Err (Init e)) (first_init frames programs (init_of programs))
+  boots-refused e refused = by (init_loaded s) refl (sym (ap (λ n. start_refusal n (init_loaded s)) free) ∙ refused)
+    where
+      same-error : (a b : ExecError) → Some a ≡ Some b → a ≡ b
+      same-error a b e = cc
+
+      either : (b : Bool) (w : World) → cond {A = Option ExecError} b (Some NoFrames) None ≡ Some e → cond {A = Result World BootError} b (Err (Init NoFrames)) (Ok w) ≡ Err (Init e)
+      either true w is = ap (λ x. Err (Init x)) (same-error NoFrames e is)
+      either false w is = absurd (none-some e is)
+
+      why : (r : Result Loaded ExecError) → start_refusal frames r ≡ Some e → first_loaded frames programs r ≡ Err (Init e)
+      why (Err x) is = ap (λ y. Err (Init y)) (same-error x e is)
+      why (Ok l) is = either (nat_lt frames (price l.image + 1)) (record { state = first_state frames programs l; turns = first_turns }) is
+
+      by : (r : Result Loaded ExecError) → init_loaded s ≡ r → start_refusal frames (init_loaded s) ≡ Some e → Boots frames (Err (Init e)) (first_init frames programs (init_of programs))
+      by r is told =
+          let first_is : first_init frames programs (init_of programs) ≡ Err (Init e) = first-loaded frames programs there r (loads r is) ∙ why r (ap (start_refusal frames) (sym is) ∙ told) in
+          subst (Boots frames (Err (Init e))) (sym first_is) (inl refl)
+
+-- ---- the programs
+
+-- a program is called init
+pub init-among : (programs : List Program) → is_some (find (λ (p : Program). bytes_eq p.name.items init_name) programs) ≡ is_some (init_of (map named_file programs))
+unfolding init_of
+init-among programs = by (find (λ (p : Program). bytes_eq p.name.items init_name) programs) (found-among init_name programs)
+  where
+    by : (o : Option Program) → option_map named_file o ≡ program_named init_name (map named_file programs) → is_some o ≡ is_some (program_named init_name (map named_file programs))
+    by None e = ap is_some e
+    by (Some p) e = ap is_some e

@@ -1,0 +1,7 @@
+use Rattle.std.proofs.Common.{ap, ◌∙◌}
+use Rattle.kcall_core.specs.Observers.{child_at}
+use Rattle.xv_machine.specs.Meaning.{Meaning}
+use Rattle.xv_machine.proofs.machine.Machine.child_state.Goals as goal
+
+pub returns : goal.returns
+returns c = c.child_state.ensures c.self.inside.hart ∙ ap (λ (m : Meaning). child_at m.world.state c.args.pid c.args.child) c.self.view_is

@@ -1,0 +1,25 @@
+-- What boot answers.
+use Rattle.std.specs.Prelude.{◌≡◌, ◌⊎◌, ℕ, Bool, cond, Result, Ok, Err}
+use Rattle.xk_base.specs.declared.errors.BootError.{BootError}
+use Rattle.xk_base.specs.declared.errors.BootError.TheVariants.{BadConfig, BadPrograms, NoInit, Memory, Init}
+use Rattle.kcall_core.specs.Run.{World}
+use Rattle.xv_machine.specs.Meaning.{Meaning}
+
+-- that `init` is missing comes before want of memory
+abbrev pub or_no_init : (has_init : Bool) → BootError → BootError
+or_no_init has_init Memory = cond has_init Memory NoInit
+or_no_init has_init e = e
+
+-- the machine stands for this world, in RAM of so many frames
+abbrev pub Starts : ℕ → World → Result Meaning BootError → Type 0
+Starts frames w (Err e) = ⊥
+Starts frames w (Ok m) = (m.world ≡ w) × (m.frames.count ≡ frames)
+
+-- the first world, or the first refusal; want of memory can come only where the programs were found good, and one is `init`
+abbrev pub Boots : ℕ → Result Meaning BootError → Result World BootError → Type 0
+Boots frames result (Err BadConfig) = result ≡ Err BadConfig
+Boots frames result (Err (BadPrograms i)) = result ≡ Err (BadPrograms i)
+Boots frames result (Err NoInit) = result ≡ Err NoInit
+Boots frames result (Err Memory) = result ≡ Err Memory
+Boots frames result (Err (Init e)) = (result ≡ Err (Init e)) ⊎ (result ≡ Err Memory)
+Boots frames result (Ok w) = Starts frames w result ⊎ (result ≡ Err Memory)

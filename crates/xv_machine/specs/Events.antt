@@ -1,0 +1,28 @@
+-- The events and the outcomes of the machine, in the words of runs.
+use Rattle.std.specs.Prelude.{ℤ, cond, nat_eq, Option, None, Some}
+use Rattle.kcall_core.specs.Words.{minus_one}
+use Rattle.kcall_core.specs.Own as answers
+use Rattle.kcall_core.specs.Run as runs
+use Rattle.xv_machine.specs.declared.event.Event.{Event}
+use Rattle.xv_machine.specs.declared.event.Event.TheVariants.{Run}
+use Rattle.xv_machine.specs.declared.event.Outcome.{Outcome}
+use Rattle.xv_machine.specs.declared.event.Outcome.TheVariants.{Stepped, Called, Blocked, Exited, Faulted, Turn, Idle, Halted}
+
+abbrev pub event_of : Event → runs.Event
+event_of Run = runs.Run
+
+abbrev pub outcome_of : Outcome → runs.Outcome
+outcome_of (Stepped pid) = runs.Step_of pid answers.Stepped
+outcome_of (Called pid number value) = runs.Step_of pid (answers.Called number value)
+outcome_of (Blocked pid number) = runs.Step_of pid (answers.Blocked number)
+outcome_of (Exited pid status) = runs.Step_of pid (answers.Exited status)
+outcome_of (Faulted pid cause) = runs.Step_of pid (answers.Faulted cause)
+outcome_of (Turn pid) = runs.Turn pid
+outcome_of Idle = runs.Idle
+outcome_of Halted = runs.Halted
+
+-- the status with which process 1 goes, where it does
+abbrev pub halted_by : Outcome → Option ℤ
+halted_by (Exited pid status) = cond (nat_eq pid 1) (Some status) None
+halted_by (Faulted pid cause) = cond (nat_eq pid 1) (Some minus_one) None
+halted_by _ = None
