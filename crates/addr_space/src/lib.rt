@@ -578,8 +578,8 @@ impl Space {
         ensures fits { IfOk result (λ _. price (grown (image_of ram.old self.old) size perm) ≤ price (image_of ram.old self.old) + length (free_in pool.old ram.old)) }
         ensures refused { IfErr result (λ _. (price (image_of ram.old self.old) + length (free_in pool.old ram.old) < price (grown (image_of ram.old self.old) size perm)) × Unchanged pool.old ram.old self.old pool.new ram.new self.new) }
     {
-        let needed = self.price_to(ram, size);
-        if pool.free() < needed {
+        let extra = self.price_to(ram, size);
+        if pool.free() < extra {
             return Err(NoFrames);
         }
         let first = ((self.size + 4095) / 4096) as u32;

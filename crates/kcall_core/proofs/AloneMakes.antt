@@ -19,7 +19,7 @@ use Rattle.proc_table.specs.declared.process.Process.{Process}
 use Rattle.proc_table.specs.declared.process.State as table
 use Rattle.proc_table.specs.declared.process.State.TheVariants as table_state
 use Rattle.console_core.specs.Lists.{Console}
-use Rattle.kcall_core.specs.Words.{word, minus_one}
+use Rattle.kcall_core.specs.Words.{word, minus_one, or_zero}
 use Rattle.kcall_core.specs.Processes.{Live, Alive, Zombie}
 use Rattle.kcall_core.specs.State.{State}
 use Rattle.kcall_core.specs.View.{view_of}
@@ -30,7 +30,7 @@ use Rattle.kcall_core.specs.Updates.{alone_state, with_answer}
 use Rattle.kcall_core.specs.Run.{Step_of, TurnsAfter, IsBlocked, stays_current, halts_with}
 use Rattle.kcall_core.specs.Wakes.{WakesWhereDue}
 use Rattle.kcall_core.specs.RowLaws.{After, begun_live, begun_state}
-use Rattle.kcall_core.specs.Kernel.{state_of, IsSound, IsRunning, or_nobody, or_zero, slot_now, place_now, pid_now, live_now}
+use Rattle.kcall_core.specs.Kernel.{state_of, IsSound, IsRunning, or_nobody, slot_now, place_now, pid_now, live_now}
 use Rattle.kcall_core.specs.Machine.{sleepers_below, turns_of, world_of}
 use Rattle.kcall_core.specs.Whole.{IsWhole}
 use Rattle.kcall_core.specs.Makes.{Makes, view_now}

@@ -20,11 +20,12 @@ use Rattle.proc_table.specs.declared.channel.Channel.TheVariants as on
 use Rattle.proc_table.specs.declared.process.State as table
 use Rattle.proc_table.specs.declared.process.State.TheVariants.{Live as Live_state, Zombie as Zombie_state}
 use Rattle.proc_table.specs.declared.process.Process.{Process}
+use Rattle.kcall_core.specs.Words.{or_zero}
 use Rattle.kcall_core.specs.Processes.{Live, Alive}
 use Rattle.kcall_core.specs.State.{State}
 use Rattle.kcall_core.specs.Updates.{changed_state, fewer_on_all, freed_on_all, gone_state}
 use Rattle.kcall_core.specs.RowLaws.{FilesLeft}
-use Rattle.kcall_core.specs.Kernel.{descriptor_map, state_of, IsSound, IsRunning, or_zero, slot_now, pid_now, live_now, or_nobody}
+use Rattle.kcall_core.specs.Kernel.{descriptor_map, state_of, IsSound, IsRunning, slot_now, pid_now, live_now, or_nobody}
 use Rattle.kcall_core.specs.Own.{Answer, gone_with}
 use Rattle.kcall_core.specs.Calls.{gone}
 use Rattle.kcall_core.specs.Makes.{view_now, Makes}

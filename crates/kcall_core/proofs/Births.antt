@@ -19,8 +19,9 @@ use Rattle.addr_space.specs.declared.Space.{Space}
 use Rattle.rv64i_core.specs.Registers.{Registers, fresh}
 use Rattle.hart_core.specs.Trapframe.{saved}
 use Rattle.pipe_core.specs.Pipe.{pipe_in}
+use Rattle.kcall_core.specs.Words.{count_if}
 use Rattle.kcall_core.specs.Holdings.{Held, or_nothing, HasMemory, IsVacant}
-use Rattle.kcall_core.specs.Memories.{held_in, keeps_pipe, pipe_at, frames_of, joined, process_frames, count_if, IsMemory, IsAccounted, IsSound, each_of, SlotChanges}
+use Rattle.kcall_core.specs.Memories.{held_in, keeps_pipe, pipe_at, frames_of, joined, process_frames, IsMemory, IsAccounted, IsSound, each_of, SlotChanges}
 use Rattle.kcall_core.specs.declared.memories.Memory.{Memory}
 use Rattle.kcall_core.specs.declared.memories.Memories.{Memories}
 use Rattle.kcall_core.proofs.Frames.{saved-zero, slot-free, Stays, stays-if}

@@ -13,7 +13,7 @@ use Rattle.kcall_core.specs.View.{view_of}
 use Rattle.kcall_core.specs.Calls.{Row, Wait, Read, Sleep, Write, table, row_of}
 use Rattle.kcall_core.specs.Ready.{ready}
 use Rattle.kcall_core.specs.Wakes.{IsInCall}
-use Rattle.kcall_core.specs.Conditions.{Child_of, is_open, read_channel, write_channel, target_at, sleep_channel, row_channel, call_channel, waits_for}
+use Rattle.kcall_core.specs.Conditions.{Child_of, is_open, read_waits_for, write_waits_for, target_at, sleep_waits_for, row_waits_for, call_waits_for, waits_for}
 use Rattle.kcall_core.proofs.Wakes.{ready_is}
 
 -- ---- its number is 3
@@ -58,19 +58,19 @@ wait-row z e = ap row_of e
 
 -- ---- what it waits for
 
-no-read : (t : Option Target) (a : ℕ) → read_channel t ≡ Child_of a → ⊥
+no-read : (t : Option Target) (a : ℕ) → read_waits_for t ≡ Child_of a → ⊥
 no-read None a e = cc
 no-read (Some Terminal) a e = cc
 no-read (Some (File program offset)) a e = cc
 no-read (Some (Pipe_end i end)) a e = cc
 
-no-write : (t : Option Target) (a : ℕ) → write_channel t ≡ Child_of a → ⊥
+no-write : (t : Option Target) (a : ℕ) → write_waits_for t ≡ Child_of a → ⊥
 no-write None a e = cc
 no-write (Some Terminal) a e = cc
 no-write (Some (File program offset)) a e = cc
 no-write (Some (Pipe_end i end)) a e = cc
 
-no-sleep : (c : Call) (z : ℤ) (a : ℕ) → sleep_channel c z ≡ Child_of a → ⊥
+no-sleep : (c : Call) (z : ℤ) (a : ℕ) → sleep_waits_for c z ≡ Child_of a → ⊥
 no-sleep c (pos n) a e = cc
 no-sleep c (negsuc k) a e = cc
 
@@ -79,14 +79,14 @@ module _ (s : State) (q : ℕ) (m : Live) where
   abbrev pub InWait : Type 0
   InWait = (c : Call) × (m.call ≡ Some c) × (c.number ≡ pos 3)
 
-  by-row : (a : ℕ) (c : Call) (r : Option Row) → row_channel s q m c r ≡ Child_of a → (r ≡ Some Wait) × (q ≡ a)
+  by-row : (a : ℕ) (c : Call) (r : Option Row) → row_waits_for s q m c r ≡ Child_of a → (r ≡ Some Wait) × (q ≡ a)
   by-row a c (Some Wait) e = (refl, cc)
   by-row a c (Some Read) e = absurd (no-read (target_at s m (c_int c.a0)) a e)
   by-row a c (Some Write) e = absurd (no-write (target_at s m (c_int c.a0)) a e)
   by-row a c (Some Sleep) e = absurd (no-sleep c (c_int c.a0) a e)
   by-row a c r e = let no : ⊥ = cc in absurd no
 
-  by-call : (a : ℕ) (o : Option Call) → m.call ≡ o → call_channel s q m o ≡ Child_of a → (q ≡ a) × InWait
+  by-call : (a : ℕ) (o : Option Call) → m.call ≡ o → call_waits_for s q m o ≡ Child_of a → (q ≡ a) × InWait
   by-call a None is e = let no : ⊥ = cc in absurd no
   by-call a (Some c) is e = let (row, same) = by-row a c (row_of c.number) e in (same, (c, is, wait-number c.number row))
 
@@ -94,7 +94,7 @@ module _ (s : State) (q : ℕ) (m : Live) where
   waits-for-child a e = by-call a m.call refl e
 
   pub waits-in-wait : InWait → waits_for s q m ≡ Child_of q
-  waits-in-wait (c, is, number) = ap (call_channel s q m) is ∙ ap (row_channel s q m c) (wait-row c.number number)
+  waits-in-wait (c, is, number) = ap (call_waits_for s q m) is ∙ ap (row_waits_for s q m c) (wait-row c.number number)
 
   -- seen in its view, also in another state
   pub is-in-wait : (t : State) (n : Live) → n.call ≡ m.call → InWait → IsInCall 3 (view_of t q n)

@@ -11,7 +11,8 @@ use Rattle.kcall_core.specs.Words.{is_this}
 use Rattle.kcall_core.specs.Processes.{Live, Alive, Zombie}
 use Rattle.kcall_core.specs.State.{State}
 use Rattle.kcall_core.specs.RowLaws.{IsLive}
-use Rattle.kcall_core.specs.Updates.{orphan, orphans, given_to, end_of, fewer_on, freed_on, fewer_on_all, freed_on_all, gone_state, give_frames, end_process}
+use Rattle.kcall_core.specs.Quiet.{end_of}
+use Rattle.kcall_core.specs.Updates.{orphan, orphans, given_to, fewer_on, freed_on, fewer_on_all, freed_on_all, gone_state, give_frames, end_process}
 use Rattle.kcall_core.proofs.Orphans.{get-orphans}
 
 module _ (s : State) (l : Live) (closed : l.descriptors ≡ empty) where

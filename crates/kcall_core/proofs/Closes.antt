@@ -20,8 +20,8 @@ use Rattle.kcall_core.specs.Processes.{Live}
 use Rattle.kcall_core.specs.State.{State}
 use Rattle.kcall_core.specs.View.{Table, Descriptor, Shown, Shown_terminal, Shown_file, Shown_pipe, named, numbered, rename, descriptor_at, descriptor_on, show, or_gone, or_else, pipe_name, shown_pipe_name, least_on_pipe}
 use Rattle.kcall_core.specs.Tables.{on_end, shown_on_end, is_end, ends, all_closed, changed, names_given_up, pipes_given_up}
-use Rattle.kcall_core.specs.Quiet.{pipe_of_file, pipe_of_open, pipe_of_target}
-use Rattle.kcall_core.specs.Updates.{end_of, target_of_open, settled, fewer_at, fewer_on, freed_at, freed_on, fewer_on_all, freed_on_all}
+use Rattle.kcall_core.specs.Quiet.{pipe_of_file, pipe_of_open, pipe_of_target, end_of, target_of_open}
+use Rattle.kcall_core.specs.Updates.{settled, fewer_at, fewer_on, freed_at, freed_on, fewer_on_all, freed_on_all}
 use Rattle.kcall_core.proofs.Maps.{get_at}
 use Rattle.kcall_core.proofs.Least.{least_passes, least_least, none_passes}
 use Rattle.kcall_core.proofs.Names.{named_at}

@@ -18,8 +18,8 @@ use Rattle.kcall_core.specs.Processes.{Live}
 use Rattle.kcall_core.specs.State.{State}
 use Rattle.kcall_core.specs.View.{numbered, descriptor_at, descriptor_on}
 use Rattle.kcall_core.specs.Tables.{on_end, is_end}
-use Rattle.kcall_core.specs.Updates.{end_of, target_of_open, more_at, more_on, more_on_all}
-use Rattle.kcall_core.specs.Quiet.{pipe_of_file, pipe_of_open, pipe_of_target}
+use Rattle.kcall_core.specs.Updates.{more_at, more_on, more_on_all}
+use Rattle.kcall_core.specs.Quiet.{pipe_of_file, pipe_of_open, pipe_of_target, end_of, target_of_open}
 use Rattle.kcall_core.proofs.Maps.{get_at}
 
 -- ---- whether a target is an end of pipe j

@@ -12,12 +12,11 @@ use Rattle.kcall_core.specs.PipeEnds.{is_given_up}
 use Rattle.file_table.specs.declared.open_file.OpenFile.{OpenFile}
 use Rattle.file_table.specs.declared.open_file.Target.{Target}
 use Rattle.file_table.specs.declared.open_file.Target.TheVariants.{Console as Terminal, Program as File, Pipe as Pipe_end}
-use Rattle.kcall_core.specs.Processes.{Process, Alive, Live, Zombie}
+use Rattle.kcall_core.specs.Processes.{Process, Alive, Live, Zombie, parent_of}
 use Rattle.kcall_core.specs.State.{State, live, live_part}
 use Rattle.kcall_core.specs.View.{numbered}
 use Rattle.kcall_core.specs.Tables.{ends, on_end}
 use Rattle.kcall_core.specs.Quiet.{file_of, pipe_at, pipe_of_file, pipe_of_open, pipe_of_target}
-use Rattle.kcall_core.specs.Updates.{parent_of}
 use Rattle.kcall_core.specs.WellFormed.{WellFormed, over_all, on}
 use Rattle.kcall_core.proofs.Frame.{OtherHas}
 use Rattle.kcall_core.proofs.Sums.{sum_term, sum_terms}

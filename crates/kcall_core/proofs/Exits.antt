@@ -15,11 +15,11 @@ use Rattle.proc_table.specs.declared.process.Process.{Process}
 use Rattle.proc_table.specs.declared.process.State as table
 use Rattle.proc_table.specs.declared.process.State.TheVariants.{Live as Live_state, Zombie as Zombie_state}
 use Rattle.kcall_core.specs.Processes as meaning
-use Rattle.kcall_core.specs.Processes.{Live, Alive}
+use Rattle.kcall_core.specs.Processes.{Live, Alive, parent_of}
 use Rattle.kcall_core.specs.Own.{Answer, gone_with}
 use Rattle.kcall_core.specs.Calls.{gone}
 use Rattle.kcall_core.specs.RowLaws.{IsLive, FilesLeft}
-use Rattle.kcall_core.specs.Updates.{parent_of, fewer_on_all, freed_on_all, gone_state}
+use Rattle.kcall_core.specs.Updates.{fewer_on_all, freed_on_all, gone_state}
 use Rattle.kcall_core.specs.Kernel.{state_of, IsSound, IsRunning, or_nobody, slot_now, pid_now, live_now}
 use Rattle.kcall_core.specs.Whole.{IsWhole}
 use Rattle.kcall_core.specs.Makes.{Makes, view_now}

@@ -19,6 +19,7 @@ use Rattle.file_table.specs.declared.open_file.Entry.{Entry}
 use Rattle.proc_table.specs.Processes.{channel_of, newborn}
 use Rattle.proc_table.specs.Slots.{Slots, place_at, descriptors_at, no_process, with_new}
 use Rattle.proc_table.specs.declared.process.Process.{Process}
+use Rattle.kcall_core.specs.Words.{or_zero}
 use Rattle.kcall_core.specs.Words.{is_this}
 use Rattle.kcall_core.specs.State.{ProgramFile, named_file}
 use Rattle.kcall_core.specs.First.{first_state, first_turns}
@@ -29,7 +30,7 @@ use Rattle.kcall_core.specs.Starts.{IsBlank, init_loaded, started_world}
 use Rattle.kcall_core.specs.Memories.{free_of}
 use Rattle.kcall_core.specs.Wakes.{NoReadySleeper}
 use Rattle.kcall_core.specs.Kernel.{state_of, pid_now, IsSound}
-use Rattle.kcall_core.specs.Whole.{named_in, or_none, AreCounted, IsWhole}
+use Rattle.kcall_core.specs.Whole.{named_in, AreCounted, IsWhole}
 use Rattle.kcall_core.specs.declared.kernel.Kernel.{Kernel}
 use Rattle.kcall_core.proofs.Births.{get_or-same}
 use Rattle.kcall_core.proofs.ByPid.{by_pid-insert}
@@ -115,7 +116,7 @@ module _ (t : Slots) (first : HoldsFirst t) where
 
   first-counted : AreCounted none_open t
   first-counted = record {
-    counts = λ file. ap (λ o. or_none (option_map entry_count o)) (get_or-same None OPEN_FILES file) ∙ sym (never-named file NPROC);
+    counts = λ file. ap (λ o. or_zero (option_map entry_count o)) (get_or-same None OPEN_FILES file) ∙ sym (never-named file NPROC);
     lists = λ slot below. ap length (first.closed slot) ∙ length-replicate NOFILE unused;
     closed = λ slot e. first.closed slot;
   }

@@ -10,7 +10,7 @@ use Rattle.kcall_core.specs.Words.{is_this, with_value}
 use Rattle.pipe_core.specs.Pipe.{Pipe}
 use Rattle.file_table.specs.declared.open_file.End.TheVariants.{Reading, Writing}
 use Rattle.kcall_core.specs.PipeEnds.{joined}
-use Rattle.kcall_core.specs.Processes.{Process, Alive, Live, Child, Running, Status, Zombie}
+use Rattle.kcall_core.specs.Processes.{Process, Alive, Live, Child, Running, Status, Zombie, parent_of}
 use Rattle.proc_table.specs.declared.process.Call.{Call}
 use Rattle.kcall_core.specs.State.{State, live, live_part}
 use Rattle.kcall_core.specs.View.{View, named, numbered, descriptor_at, view, view_of, child_of, or_gone}
@@ -18,7 +18,7 @@ use Rattle.kcall_core.specs.Own.{Own, Called, goes_on}
 use Rattle.kcall_core.specs.Tables.{doubled, ends}
 use Rattle.kcall_core.specs.Calls.{fork, forked, cannot_fork, unless}
 use Rattle.kcall_core.specs.Quiet.{Quiet, pipe_at, pipe_of_file, file_of}
-use Rattle.kcall_core.specs.Updates.{forking, forked_child, forked_state, parent_of}
+use Rattle.kcall_core.specs.Updates.{forking, forked_child, forked_state}
 use Rattle.kcall_core.proofs.Maps.{get_at, get_same, get_other, keys_push}
 use Rattle.kcall_core.proofs.SetLive.{same_child, same_keys, live-set_live_there}
 use Rattle.kcall_core.proofs.Tell.{Leaves, quiet_from, own_table_tells}

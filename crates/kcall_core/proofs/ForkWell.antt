@@ -15,12 +15,12 @@ use Rattle.kcall_core.specs.PipeEnds.{joined, is_given_up}
 use Rattle.file_table.specs.declared.open_file.OpenFile.{OpenFile}
 use Rattle.file_table.specs.declared.open_file.Target.{Target}
 use Rattle.file_table.specs.declared.open_file.Target.TheVariants.{Console as Terminal, Program as File, Pipe as Pipe_end}
-use Rattle.kcall_core.specs.Processes.{Process, Alive, Zombie, Live}
+use Rattle.kcall_core.specs.Processes.{Process, Alive, Zombie, Live, parent_of}
 use Rattle.kcall_core.specs.State.{State, live, live_part}
 use Rattle.kcall_core.specs.View.{numbered}
 use Rattle.kcall_core.specs.Tables.{ends}
-use Rattle.kcall_core.specs.Quiet.{file_at, file_of}
-use Rattle.kcall_core.specs.Updates.{forked_state, forking, forked_child, parent_of, more_on_all, more_on, more_at, end_of}
+use Rattle.kcall_core.specs.Quiet.{file_at, file_of, end_of}
+use Rattle.kcall_core.specs.Updates.{forked_state, forking, forked_child, more_on_all, more_on, more_at}
 use Rattle.kcall_core.specs.WellFormed.{WellFormed, HasParent, over_all, on, cost, sum_below}
 use Rattle.kcall_core.proofs.Maps.{get_same, get_other}
 use Rattle.kcall_core.proofs.Counts.{plus, hits, among, hits_at, get-more_on_all}

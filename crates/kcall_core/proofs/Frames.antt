@@ -21,8 +21,9 @@ use Rattle.hart_core.specs.Trapframe.{saved, words_from}
 use Rattle.hart_core.specs.Translations.{Fits, nothing}
 use Rattle.hart_core.specs.declared.translation_cache.Cache.{Cache}
 use Rattle.pipe_core.specs.Pipe.{IsPipe, pipe_in, ring_byte, values_below}
+use Rattle.kcall_core.specs.Words.{count_if}
 use Rattle.kcall_core.specs.Holdings.{cost}
-use Rattle.kcall_core.specs.Memories.{held_in, keeps_pipe, pipe_at, frames_of, process_frames, count_if, owners, IsMemory, IsAccounted}
+use Rattle.kcall_core.specs.Memories.{held_in, keeps_pipe, pipe_at, frames_of, process_frames, owners, IsMemory, IsAccounted}
 use Rattle.kcall_core.specs.declared.memories.Memory.{Memory}
 use Rattle.kcall_core.proofs.Lists.{gathered-same}
 use Rattle.kcall_core.proofs.Joined.{joined-has, joined-two}

@@ -13,14 +13,14 @@ use Rattle.pipe_core.specs.Pipe.{Pipe}
 use Rattle.file_table.specs.declared.open_file.End.TheVariants.{Reading, Writing}
 use Rattle.kcall_core.specs.PipeEnds.{parted, is_given_up}
 use Rattle.file_table.specs.declared.open_file.OpenFile.{OpenFile}
-use Rattle.kcall_core.specs.Processes.{Process, Alive, Live, Child, Running, Status, Zombie}
+use Rattle.kcall_core.specs.Processes.{Process, Alive, Live, Child, Running, Status, Zombie, parent_of}
 use Rattle.kcall_core.specs.State.{State, live, live_part}
 use Rattle.kcall_core.specs.View.{Table, named, numbered, view, view_of, child_of, or_gone}
 use Rattle.kcall_core.specs.Own.{Answer, gone_with}
 use Rattle.kcall_core.specs.Tables.{all_closed, ends}
 use Rattle.kcall_core.specs.Calls.{gone}
 use Rattle.kcall_core.specs.Quiet.{Quiet, pipe_at, pipe_of_file, file_of, seen_children, or_child, same_child}
-use Rattle.kcall_core.specs.Updates.{gone_state, orphans, orphan, parent_of, given_to}
+use Rattle.kcall_core.specs.Updates.{gone_state, orphans, orphan, given_to}
 use Rattle.kcall_core.proofs.Maps.{get_at, get_same, keys_insert}
 use Rattle.kcall_core.proofs.Frame.{Tells, OtherHas, OtherNames}
 use Rattle.kcall_core.proofs.Tell.{Leaves, quiet_from}

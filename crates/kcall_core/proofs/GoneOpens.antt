@@ -19,11 +19,11 @@ use Rattle.kcall_core.specs.State.{State, live, live_part}
 use Rattle.kcall_core.specs.View.{child_of, or_gone}
 use Rattle.kcall_core.specs.Own.{Exited}
 use Rattle.kcall_core.specs.Calls.{Row, Fork, Exit, Wait, Pipe_row, Read, Kill, Exec, Dup, Getpid, Sbrk, Sleep, Uptime, Open, Write, Close, row_of, has_status}
-use Rattle.kcall_core.specs.Quiet.{file_of}
-use Rattle.kcall_core.specs.Updates.{end_of, target_of_open, gone_state, given_to, orphan, orphans}
+use Rattle.kcall_core.specs.Quiet.{file_of, end_of, target_of_open}
+use Rattle.kcall_core.specs.Updates.{gone_state, given_to, orphan, orphans}
 use Rattle.kcall_core.specs.WellFormed.{WellFormed}
 use Rattle.kcall_core.specs.RowLaws.{IsLive, FilesLeft}
-use Rattle.kcall_core.specs.Conditions.{Condition, Nothing, Child_of, Bytes, Room, Time, Keys, Sending, is_open, has_bytes, has_room, read_channel, write_channel, target_at, row_channel, call_channel, waits_for, MayOpenAtEnd}
+use Rattle.kcall_core.specs.Conditions.{Condition, Nothing, Child_of, Bytes, Room, Time, Keys, Sending, is_open, has_bytes, has_room, read_waits_for, write_waits_for, target_at, row_waits_for, call_waits_for, waits_for, MayOpenAtEnd}
 use Rattle.kcall_core.specs.Whole.{is_for}
 use Rattle.kcall_core.proofs.Maps.{get_same}
 use Rattle.kcall_core.proofs.Steps.{or_false}
@@ -130,11 +130,11 @@ module _ (frames : ℕ) (s : State) (p : ℕ) (l : Live) (status : ℤ) (files :
     same_target (pos d) = ap (λ o. cond (nat_lt d NOFILE) o None) (same_end d (get m.descriptors d) refl)
     same_target (negsuc k) = refl
 
-    same_row : (c : Call) (r : Option Row) → row_channel dead q (away m) c r ≡ row_channel s q m c r
+    same_row : (c : Call) (r : Option Row) → row_waits_for dead q (away m) c r ≡ row_waits_for s q m c r
     same_row c None = refl
     same_row c (Some Wait) = refl
-    same_row c (Some Read) = ap read_channel (same_target (c_int c.a0))
-    same_row c (Some Write) = ap write_channel (same_target (c_int c.a0))
+    same_row c (Some Read) = ap read_waits_for (same_target (c_int c.a0))
+    same_row c (Some Write) = ap write_waits_for (same_target (c_int c.a0))
     same_row c (Some Sleep) = refl
     same_row c (Some Fork) = refl
     same_row c (Some Exit) = refl
@@ -148,7 +148,7 @@ module _ (frames : ℕ) (s : State) (p : ℕ) (l : Live) (status : ℤ) (files :
     same_row c (Some Open) = refl
     same_row c (Some Close) = refl
 
-    same_call : (o : Option Call) → call_channel dead q (away m) o ≡ call_channel s q m o
+    same_call : (o : Option Call) → call_waits_for dead q (away m) o ≡ call_waits_for s q m o
     same_call None = refl
     same_call (Some c) = same_row c (row_of c.number)
 

@@ -16,12 +16,12 @@ use Rattle.kcall_core.specs.PipeEnds.{parted, is_given_up}
 use Rattle.file_table.specs.declared.open_file.OpenFile.{OpenFile}
 use Rattle.file_table.specs.declared.open_file.Target.{Target}
 use Rattle.file_table.specs.declared.open_file.Target.TheVariants.{Console as Terminal, Program as File, Pipe as Pipe_end}
-use Rattle.kcall_core.specs.Processes.{Process, Alive, Zombie, Live}
+use Rattle.kcall_core.specs.Processes.{Process, Alive, Zombie, Live, parent_of}
 use Rattle.kcall_core.specs.State.{State, live, live_part}
 use Rattle.kcall_core.specs.View.{numbered}
 use Rattle.kcall_core.specs.Tables.{ends}
-use Rattle.kcall_core.specs.Quiet.{file_at, file_of, pipe_at, pipe_of_file, pipe_of_open, pipe_of_target}
-use Rattle.kcall_core.specs.Updates.{gone_state, orphans, orphan, given_to, parent_of, fewer_on_all, freed_on_all, fewer_on, freed_on, fewer_at, freed_at, end_of, target_of_open}
+use Rattle.kcall_core.specs.Quiet.{file_at, file_of, pipe_at, pipe_of_file, pipe_of_open, pipe_of_target, end_of, target_of_open}
+use Rattle.kcall_core.specs.Updates.{gone_state, orphans, orphan, given_to, fewer_on_all, freed_on_all, fewer_on, freed_on, fewer_at, freed_at}
 use Rattle.kcall_core.specs.WellFormed.{WellFormed, HasParent, over_all, on, cost}
 use Rattle.kcall_core.proofs.Maps.{get_same, get_other}
 use Rattle.kcall_core.proofs.Counts.{hits, hits_at}

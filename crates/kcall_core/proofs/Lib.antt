@@ -72,6 +72,7 @@ pub mod TurnComes
 pub mod NoLost
 pub mod WellLaws
 mod Rows
+mod WaitsOn
 pub mod Descriptors
 pub mod WellSteps
 pub mod NewBytes

@@ -18,6 +18,7 @@ use Rattle.file_table.specs.declared.open_file.OpenFile.{OpenFile}
 use Rattle.proc_table.specs.Processes.{status_of}
 use Rattle.proc_table.specs.Slots.{Slots, place_at, place_is_live, descriptors_at, slot_of}
 use Rattle.proc_table.specs.declared.process.Process.{Process}
+use Rattle.kcall_core.specs.Words.{or_zero}
 use Rattle.kcall_core.specs.Words.{is_this}
 use Rattle.kcall_core.specs.State.{live}
 use Rattle.kcall_core.specs.Quiet as quiet
@@ -25,7 +26,7 @@ use Rattle.kcall_core.specs.Quiet.{file_of}
 use Rattle.kcall_core.specs.RowLaws.{FilesLeft}
 use Rattle.kcall_core.specs.WellFormed.{sum_below}
 use Rattle.kcall_core.specs.Kernel.{descriptor_map, state_of, IsSound}
-use Rattle.kcall_core.specs.Whole.{named_in, namings, or_none, AreCounted}
+use Rattle.kcall_core.specs.Whole.{named_in, namings, AreCounted}
 use Rattle.kcall_core.specs.declared.kernel.Kernel.{Kernel}
 use Rattle.kcall_core.proofs.Counts.{one}
 use Rattle.kcall_core.proofs.Closes.{count_some}
@@ -133,11 +134,11 @@ file-inside files file x table is = elim (cases_lt file OPEN_FILES) [
 ]
 
 -- an open file that is counted is there
-pub counted-entry : (files : List (Option Entry)) (file : ℕ) → 1 ≤ or_none (count_at files file) → (e : Entry) × (entry_at files file ≡ Some e)
+pub counted-entry : (files : List (Option Entry)) (file : ℕ) → 1 ≤ or_zero (count_at files file) → (e : Entry) × (entry_at files file ≡ Some e)
 counted-entry files file many = by (entry_at files file) refl
   where
     by : (o : Option Entry) → entry_at files file ≡ o → (e : Entry) × (entry_at files file ≡ Some e)
-    by None is = absurd (omega (arith, many, ap (λ o. or_none (option_map entry_count o)) is))
+    by None is = absurd (omega (arith, many, ap (λ o. or_zero (option_map entry_count o)) is))
     by (Some e) is = (e, is)
 
 -- Open files are those that a live process names, where none that is there is another than before
@@ -145,7 +146,7 @@ pub files-left : (k k' : Kernel) (h h' : Hart) → IsSound k' h' → AreCounted 
 files-left k k' h h' sound counted table kept = record {
   stay = λ q d g names.
       let at = names-slot k' h' sound q d g names in
-      let many : 1 ≤ or_none (count_at k'.files g) = omega (arith, counted.counts g, named-counts k'.table at.0 d g at.1 at.2 at.3) in
+      let many : 1 ≤ or_zero (count_at k'.files g) = omega (arith, counted.counts g, named-counts k'.table at.0 d g at.1 at.2 at.3) in
       let e = counted-entry k'.files g many in
       let now : file_at k'.files g ≡ Some e.0.file = ap (option_map entry_file) e.1 in
       let inside = file-inside k'.files g e.0.file table now in
@@ -175,7 +176,7 @@ files-left k k' h h' sound counted table kept = record {
     by : (g : ℕ) (o : Option Entry) → entry_at k'.files g ≡ o → IsSome (cond (ltb g OPEN_FILES) (file_at k'.files g) None) → (q : ℕ) × (d : ℕ) × (quiet.file_at (state_of k' h') q d ≡ Some g)
     by g None is there = absurd (cond-none (ltb g OPEN_FILES) (file_at k'.files g) (ap (option_map entry_file) is) there)
     by g (Some e) is there =
-        let many : 1 ≤ namings k'.table g = omega (arith, counted.counts g, (table.counts g e is).0, ap (λ o. or_none (option_map entry_count o)) is) in
+        let many : 1 ≤ namings k'.table g = omega (arith, counted.counts g, (table.counts g e is).0, ap (λ o. or_zero (option_map entry_count o)) is) in
         let n = counts-named k'.table g many in
         live_by n.0 n.1 g n.2 n.4 n.3 (place_is_live (place_at k'.table n.0)) refl
 
@@ -220,12 +221,12 @@ module _ (files : List (Option Entry)) (g : ℕ) (table : IsTable files) (e : En
   fewer-other f ne = get_or-set_other files g f (option_and_then once_less (entry_at files g)) None ne
 
   -- what is left of an entry
-  less-count : or_none (option_map entry_count (once_less e)) + 1 ≡ e.count
+  less-count : or_zero (option_map entry_count (once_less e)) + 1 ≡ e.count
   less-count = by (nat_eq e.count 1) refl
     where
-      by : (b : Bool) → nat_eq e.count 1 ≡ b → or_none (option_map entry_count (cond (nat_eq e.count 1) None (Some (record e { count = e.count - 1 })))) + 1 ≡ e.count
-      by true one = ap (λ b. or_none (option_map entry_count (cond b None (Some (record e { count = e.count - 1 })))) + 1) one ∙ sym (eqb-true e.count 1 one)
-      by false more = ap (λ b. or_none (option_map entry_count (cond b None (Some (record e { count = e.count - 1 })))) + 1) more ∙ omega (arith, (table.counts g e is).0)
+      by : (b : Bool) → nat_eq e.count 1 ≡ b → or_zero (option_map entry_count (cond (nat_eq e.count 1) None (Some (record e { count = e.count - 1 })))) + 1 ≡ e.count
+      by true one = ap (λ b. or_zero (option_map entry_count (cond b None (Some (record e { count = e.count - 1 })))) + 1) one ∙ sym (eqb-true e.count 1 one)
+      by false more = ap (λ b. or_zero (option_map entry_count (cond b None (Some (record e { count = e.count - 1 })))) + 1) more ∙ omega (arith, (table.counts g e is).0)
 
   less-some : (x : Entry) → once_less e ≡ Some x → (x.file ≡ e.file) × (x.count + 1 ≡ e.count) × (e.count ≢ 1)
   less-some x is' = by (nat_eq e.count 1) refl is'
@@ -264,22 +265,22 @@ module _ (files : List (Option Entry)) (g : ℕ) (table : IsTable files) (e : En
     ];
   }
 
-  pub fewer-count : (f : ℕ) → or_none (count_at (without_sharer g files) f) + one (is_this f (Some g)) ≡ or_none (count_at files f)
+  pub fewer-count : (f : ℕ) → or_zero (count_at (without_sharer g files) f) + one (is_this f (Some g)) ≡ or_zero (count_at files f)
   fewer-count f = elim (cases_eq f g) [
-    | inl same ↦ ap (λ n. or_none (count_at (without_sharer g files) n) + one (is_this n (Some g))) same ∙ here ∙ sym (ap (λ n. or_none (count_at files n)) same)
-    | inr ne ↦ omega (arith, ap (λ o. or_none (option_map entry_count o)) (fewer-other f ne), ap one (not-this ne))
+    | inl same ↦ ap (λ n. or_zero (count_at (without_sharer g files) n) + one (is_this n (Some g))) same ∙ here ∙ sym (ap (λ n. or_zero (count_at files n)) same)
+    | inr ne ↦ omega (arith, ap (λ o. or_zero (option_map entry_count o)) (fewer-other f ne), ap one (not-this ne))
   ]
     where
       not-this : f ≢ g → is_this f (Some g) ≡ false
       not-this ne = elim (eqb_tells g f) [ inl h ↦ absurd (ne (sym h.1)) | inr h ↦ h.0 ]
 
-      here : or_none (count_at (without_sharer g files) g) + one (is_this g (Some g)) ≡ or_none (count_at files g)
+      here : or_zero (count_at (without_sharer g files) g) + one (is_this g (Some g)) ≡ or_zero (count_at files g)
       here = omega (
         arith,
-        ap (λ o. or_none (option_map entry_count o)) fewer-here,
+        ap (λ o. or_zero (option_map entry_count o)) fewer-here,
         less-count,
         ap one (eq-eqb g g refl),
-        ap (λ o. or_none (option_map entry_count o)) is,
+        ap (λ o. or_zero (option_map entry_count o)) is,
       )
 
 -- the counts are right again

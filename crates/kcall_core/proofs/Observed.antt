@@ -18,7 +18,7 @@ use Rattle.kcall_core.specs.Holdings.{held_at, HasMemory, byte_of}
 use Rattle.kcall_core.specs.Memories.{each_of}
 use Rattle.kcall_core.specs.View.{child_of}
 use Rattle.kcall_core.specs.Words.{is_this}
-use Rattle.kcall_core.specs.Observers.{IsLiveIn, registers_of, byte_in, byte_at, if_live, child_at, seen}
+use Rattle.kcall_core.specs.Observers.{IsLiveIn, registers_of, byte_in, byte_at, if_live, child_at, child_seen}
 use Rattle.kcall_core.specs.Kernel.{live_of, by_status, process_of, regs_at, entry_of, entry_at, state_of, IsSound}
 use Rattle.kcall_core.specs.declared.kernel.Kernel.{Kernel}
 use Rattle.kcall_core.proofs.ByPid.{found, none}
@@ -116,7 +116,7 @@ module _ (k : Kernel) (h : Hart) (table : IsTable k.table) where
   pub child-missing : (pid q : ℕ) → slot_of k.table q ≡ None → child_of pid (get (state_of k h).processes q) ≡ None
   child-missing pid q is = ap (child_of pid) (pid-missing q is)
 
-  pub child-held : (pid q i : ℕ) (parent : Option ℕ) (r : Option ℤ) → slot_of k.table q ≡ Some i → parent_at k.table i ≡ Some parent → status_at k.table i ≡ Some r → child_of pid (get (state_of k h).processes q) ≡ cond (is_this pid parent) (Some (seen r)) None
+  pub child-held : (pid q i : ℕ) (parent : Option ℕ) (r : Option ℤ) → slot_of k.table q ≡ Some i → parent_at k.table i ≡ Some parent → status_at k.table i ≡ Some r → child_of pid (get (state_of k h).processes q) ≡ cond (is_this pid parent) (Some (child_seen r)) None
   child-held pid q i parent r is told told_status =
       let f = slot-found k.table q i is in
       let l = live_of f.0 (descriptors_at k.table i) (held_at (each_of k.memories) i) (regs_at k h i) in
@@ -124,7 +124,7 @@ module _ (k : Kernel) (h : Hart) (table : IsTable k.table) where
       ∙ ap (λ o. child_of pid (Some (by_status f.0.parent l o))) (status-told k.table i f.0 r f.1 told_status)
       ∙ by r f.0.parent l (parent-told k.table i f.0 parent f.1 told) (parent-told k.table i f.0 parent f.1 told)
     where
-      by : (o : Option ℤ) (own : Option ℕ) (l : Live) → own ≡ parent → l.parent ≡ parent → child_of pid (Some (by_status own l o)) ≡ cond (is_this pid parent) (Some (seen o)) None
+      by : (o : Option ℤ) (own : Option ℕ) (l : Live) → own ≡ parent → l.parent ≡ parent → child_of pid (Some (by_status own l o)) ≡ cond (is_this pid parent) (Some (child_seen o)) None
       by None own l e its = ap (λ o. cond (is_this pid o) (Some Running) None) its
       by (Some status) own l e its = ap (λ o. cond (is_this pid o) (Some (Status status)) None) e
 

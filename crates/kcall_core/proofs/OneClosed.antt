@@ -17,16 +17,17 @@ use Rattle.file_table.specs.declared.open_file.OpenFile.{OpenFile}
 use Rattle.file_table.specs.declared.open_file.Target.{Target}
 use Rattle.file_table.specs.declared.open_file.Target.TheVariants.{Console as Terminal, Program as File, Pipe as Pipe_end}
 use Rattle.proc_table.specs.Slots.{Slots, place_at, place_is_live, descriptors_at, each_changed}
+use Rattle.kcall_core.specs.Words.{or_zero}
 use Rattle.kcall_core.specs.PipeEnds.{count_on, parted, is_given_up}
 use Rattle.kcall_core.specs.View.{numbered, or_gone, least_on_pipe, pipe_name, descriptor_at, descriptor_on}
 use Rattle.kcall_core.specs.Tables.{on_end, is_end}
-use Rattle.kcall_core.specs.Quiet.{pipe_of_target}
-use Rattle.kcall_core.specs.Updates.{end_of, target_of_open, fewer_on, fewer_at, freed_on, freed_at, settled, changed_state, with_closed}
+use Rattle.kcall_core.specs.Quiet.{pipe_of_target, end_of, target_of_open}
+use Rattle.kcall_core.specs.Updates.{fewer_on, fewer_at, freed_on, freed_at, settled, changed_state, with_closed}
 use Rattle.kcall_core.specs.WellFormed.{WellFormed, on, over_all}
 use Rattle.kcall_core.specs.RowLaws.{IsLive, FilesLeft, OnPipe}
 use Rattle.kcall_core.specs.Holdings.{pipe_cost}
 use Rattle.kcall_core.specs.Memories.{pipes_of, free_of, PipeChanges}
-use Rattle.kcall_core.specs.Kernel.{state_of, IsSound, or_zero, slot_now, pid_now, live_now}
+use Rattle.kcall_core.specs.Kernel.{state_of, IsSound, slot_now, pid_now, live_now}
 use Rattle.kcall_core.specs.Whole.{AreCounted}
 use Rattle.kcall_core.specs.Closings.{closes_wake, woken_by, IsClosing, target_now, Closes}
 use Rattle.kcall_core.specs.declared.kernel.Kernel.{Kernel}

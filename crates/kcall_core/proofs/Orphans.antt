@@ -7,9 +7,9 @@ use Rattle.std.specs.Ordering.{nat_cmp, eq_by_cmp}
 use Rattle.std.specs.Cmp.{unsigned_tied, nat_cmp_total}
 use Rattle.std.proofs.lemmas.Bool.Decides.{eqb_tells}
 use Rattle.kcall_core.specs.Words.{is_this}
-use Rattle.kcall_core.specs.Processes.{Process, Alive, Zombie}
+use Rattle.kcall_core.specs.Processes.{Process, Alive, Zombie, parent_of}
 use Rattle.kcall_core.specs.State.{State}
-use Rattle.kcall_core.specs.Updates.{change, orphan, orphans, parent_of, given_to}
+use Rattle.kcall_core.specs.Updates.{change, orphan, orphans, given_to}
 use Rattle.kcall_core.proofs.Maps.{get_at, keys_insert}
 
 module _ (f : Process → Process) (again : (x : Process) → f (f x) ≡ f x) where

@@ -18,8 +18,9 @@ use Rattle.frame_list.proofs.Trades.{trade-lengths, trade-join}
 use Rattle.sv39_core.proofs.Gathered.{tie-yes, tie-no, gathered-get, same_pages}
 use Rattle.sv39_core.proofs.Words.{ltb-yes}
 use Rattle.pipe_core.specs.Pipe.{Pipe, IsPipe, Becomes, pipe_in}
+use Rattle.kcall_core.specs.Words.{count_if}
 use Rattle.kcall_core.specs.Holdings.{pipe_cost, with_pipe, or_new, pipe_named}
-use Rattle.kcall_core.specs.Memories.{held_in, keeps_pipe, pipe_at, frames_of, joined, process_frames, count_if, IsAccounted, IsSound, each_of, pipes_of, free_of, PipeChanges}
+use Rattle.kcall_core.specs.Memories.{held_in, keeps_pipe, pipe_at, frames_of, joined, process_frames, IsAccounted, IsSound, each_of, pipes_of, free_of, PipeChanges}
 use Rattle.kcall_core.specs.declared.memories.Memory.{Memory}
 use Rattle.kcall_core.specs.declared.memories.Memories.{Memories}
 use Rattle.kcall_core.proofs.Lists.{map-same, set-read}

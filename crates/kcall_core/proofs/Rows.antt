@@ -1,23 +1,30 @@
 -- Worked rows of the call table and of the console, computed from the definitions: a wrong row there fails a lemma here.
 -- The views are of a process in a call; what its memory costs, and which of its buffers are there, is given.
-use Rattle.std.proofs.Common.{◌≡◌, ℕ, ◌^◌, ◌-◌, ◌+◌, true, false, Bool, cond, List, [], ◌∷◌, refl, ap, length, replicate}
-use Rattle.std.specs.Prelude.{Option, None, Some, pos, negsuc, option_map, nat_eq, nat_lt}
+use Rattle.std.proofs.Common.{◌≡◌, ℕ, ◌^◌, ◌-◌, ◌+◌, true, false, not, ◌&&◌, ◌||◌, Bool, cond, List, [], ◌∷◌, refl, ap, ◌∙◌, length, replicate}
+use Rattle.std.specs.Prelude.{Option, None, Some, Result, Ok, Err, pos, negsuc, option_map, nat_eq, nat_lt, codes}
+use Rattle.xk_base.specs.declared.limits.TheConstants.{MAXPATH, MAXARG, ARG_BYTES, SIZE_LIMIT}
+use Rattle.xk_base.specs.declared.errors.ExecError.{ExecError}
 use Rattle.xk_base.specs.Words.{least_below, count_below}
 use Rattle.xk_base.specs.Image.{Image, price}
+use Rattle.xk_base.specs.Bytes.{image_bytes, write_image}
+use Rattle.xk_base.specs.Loaded.{Loaded, loaded}
 use Rattle.rv64i_core.specs.Registers.{reg, fresh}
 use Rattle.pipe_core.specs.Pipe.{Pipe, new_pipe}
 use Rattle.console_core.specs.Lists.{Console, empty_console}
 use Rattle.console_core.specs.Keys.{line}
+use Rattle.console_core.specs.Reads.{pulled}
 use Rattle.file_table.specs.declared.open_file.End.TheVariants.{Reading, Writing}
 use Rattle.proc_table.specs.declared.process.Call.{Call}
 use Rattle.kcall_core.specs.Words.{A0}
-use Rattle.kcall_core.specs.Buffers.{readable}
+use Rattle.kcall_core.specs.Buffers.{readable, writable, text_at, texts_at, no_slashes, grown, shrunk}
 use Rattle.kcall_core.specs.Processes.{Running, Status}
 use Rattle.kcall_core.specs.View.{View, Table, Descriptor, Shown_terminal, Shown_pipe, Shown_file, named}
-use Rattle.kcall_core.specs.Own.{Called, Blocked, Exited}
-use Rattle.kcall_core.specs.Calls.{row_of, perform_row, perform, fork, forked, cannot_fork, unless, moving, write_to}
+use Rattle.kcall_core.specs.Own.{Own, Called, Blocked, Exited, Stepped}
+use Rattle.kcall_core.specs.Calls.{row_of, perform_row, perform, fork, forked, cannot_fork, unless, moving, read_from, write_to, piped_from, open_path, done, reaped, least_zombie, running, exec_loaded, exec_program, exec_path}
 use Rattle.kcall_core.specs.Step.{own}
 use Rattle.kcall_core.specs.Ready.{ready}
+use Rattle.kcall_core.specs.Tables.{lowest_free}
+use Rattle.kcall_core.specs.Run.{Run, Tick, Key, Send, Step_of, Typed, Sent, round, out}
 
 -- a call that has just begun
 abbrev call : ℕ → ℕ → ℕ → ℕ → Call
@@ -130,6 +137,23 @@ module _ (image : Image) where
   unfolding own perform perform_row row_of in_call
   kill_99 = refl
 
+  kill_minus_1 : (own (in_call (call 6 (minus 1) 0 0))).answer ≡ Called (pos 6) (negsuc 0)
+  unfolding own perform perform_row row_of in_call
+  kill_minus_1 = refl
+
+  -- a process that kills itself is answered still, and is marked
+  kill_itself : (own (in_call (call 6 1 0 0))).answer ≡ Called (pos 6) (pos 0)
+  unfolding own perform perform_row row_of in_call
+  kill_itself = refl
+
+  is_marked : Option View → Bool
+  is_marked None = false
+  is_marked (Some v) = v.killed
+
+  kill_itself_marks : is_marked (own (in_call (call 6 1 0 0))).next ≡ true
+  unfolding own perform perform_row row_of in_call is_marked
+  kill_itself_marks = refl
+
   -- a process that is marked ends
   marked_ends : (own (record (in_call (call 6 1 0 0)) { killed = true })).answer ≡ Exited (negsuc 0)
   unfolding own in_call
@@ -164,6 +188,10 @@ module _ (image : Image) where
   unfolding own perform perform_row row_of in_call family
   wait_running = refl
 
+  free_of : Option View → ℕ
+  free_of None = 0
+  free_of (Some v) = v.free
+
   -- ---- fork and exit, of a process that costs 7 frames
 
   module _ (priced : price image ≡ 6) where
@@ -178,6 +206,12 @@ module _ (image : Image) where
     fork_13 : (own (record (in_call (call 1 0 0 0)) { free = 13 })).answer ≡ Called (pos 1) (pos 2)
     unfolding own perform perform_row row_of in_call
     fork_13 = fork_by (record (in_call (call 1 0 0 0)) { free = 13 }) false (ap (λ (n : ℕ). nat_lt 13 (n + 1)) priced)
+
+    fork_leaves_6 : free_of (own (record (in_call (call 1 0 0 0)) { free = 13 })).next ≡ 6
+    unfolding own perform perform_row row_of in_call free_of
+    fork_leaves_6 =
+        ap (λ (b : Bool). free_of (unless b (call 1 0 0 0) (record (in_call (call 1 0 0 0)) { free = 13 }) (λ _. forked (call 1 0 0 0) (record (in_call (call 1 0 0 0)) { free = 13 }))).next) (ap (λ (n : ℕ). nat_lt 13 (n + 1)) priced)
+        ∙ ap (λ (n : ℕ). 13 - (n + 1)) priced
 
     fork_6 : (own (record (in_call (call 1 0 0 0)) { free = 6 })).answer ≡ Called (pos 1) (negsuc 0)
     unfolding own perform perform_row row_of in_call
@@ -237,10 +271,6 @@ module _ (image : Image) where
 
   -- ---- dup and close: counts, frames, and names
 
-  free_of : Option View → ℕ
-  free_of None = 0
-  free_of (Some v) = v.free
-
   close_one_end : free_of (own (record (in_call (call 21 0 0 0)) { descriptors = ends_of new_pipe })).next ≡ 9
   unfolding own perform perform_row row_of in_call new_pipe count_below least_below named free_of
   close_one_end = refl
@@ -264,6 +294,313 @@ module _ (image : Image) where
   dup_counts : writers_of (at_place (own (record (in_call (call 10 1 0 0)) { descriptors = ends_of new_pipe })).next 0) ≡ 2
   unfolding own perform perform_row row_of in_call least_below named new_pipe writers_of at_place
   dup_counts = refl
+
+  -- descriptors 0 and 1 are on the same open file, a read end whose pipe nobody writes: closing one keeps it, under the other's name; closing that one too gives it up, and the pipe's frame is free
+  abbrev reading : ℕ → ℕ → ℕ → Descriptor
+  reading file pipe readers = record { file = file; read = true; write = false; shown = Shown_pipe pipe Reading (record { bytes = []; readers = readers; writers = 0 }) }
+
+  abbrev twice : Table
+  twice = λ d. cond (nat_lt d 2) (Some (reading 0 0 2)) None
+
+  abbrev once : Table
+  once = λ d. cond (nat_eq d 1) (Some (reading 1 1 1)) None
+
+  dup_shares : at_place (own (record (in_call (call 10 1 0 0)) { descriptors = once })).next 0 ≡ Some (reading 0 0 2)
+  unfolding own perform perform_row row_of in_call least_below named at_place
+  dup_shares = refl
+
+  dup_keeps : at_place (own (record (in_call (call 10 1 0 0)) { descriptors = once })).next 1 ≡ Some (reading 0 0 2)
+  unfolding own perform perform_row row_of in_call least_below named at_place
+  dup_keeps = refl
+
+  close_shared : at_place (own (record (in_call (call 21 0 0 0)) { descriptors = twice })).next 1 ≡ Some (reading 1 1 1)
+  unfolding own perform perform_row row_of in_call count_below least_below named at_place
+  close_shared = refl
+
+  close_shared_frees : free_of (own (record (in_call (call 21 0 0 0)) { descriptors = twice })).next ≡ 9
+  unfolding own perform perform_row row_of in_call count_below least_below named free_of
+  close_shared_frees = refl
+
+  close_other : at_place (own (record (in_call (call 21 1 0 0)) { descriptors = once })).next 1 ≡ None
+  unfolding own perform perform_row row_of in_call count_below least_below named at_place
+  close_other = refl
+
+  close_other_answer : (own (record (in_call (call 21 1 0 0)) { descriptors = once })).answer ≡ Called (pos 21) (pos 0)
+  unfolding own perform perform_row row_of in_call
+  close_other_answer = refl
+
+  close_other_frees : free_of (own (record (in_call (call 21 1 0 0)) { descriptors = once })).next ≡ 10
+  unfolding own perform perform_row row_of in_call count_below least_below named free_of
+  close_other_frees = refl
+
+  -- a pipe for which 8 bytes aren't there; one for which no frame is free; one that is made
+  making : ℕ → Bool → Own
+  making free there = unless (not there || nat_eq free 0) (call 4 0 0 0) (record (in_call (call 4 0 0 0)) { free = free }) (λ _. piped_from (call 4 0 0 0) (record (in_call (call 4 0 0 0)) { free = free }) (lowest_free (λ d. None)))
+
+  pipe_nowhere : writable image 0 8 ≡ false → (own (in_call (call 4 0 0 0))).answer ≡ Called (pos 4) (negsuc 0)
+  unfolding own perform perform_row row_of in_call making least_below
+  pipe_nowhere absent = ap (λ (b : Bool). (making 9 b).answer) absent
+
+  pipe_no_frame : writable image 0 8 ≡ true → (own (record (in_call (call 4 0 0 0)) { free = 0 })).answer ≡ Called (pos 4) (negsuc 0)
+  unfolding own perform perform_row row_of in_call making least_below
+  pipe_no_frame there = ap (λ (b : Bool). (making 0 b).answer) there
+
+  pipe_made : writable image 0 8 ≡ true → (own (in_call (call 4 0 0 0))).answer ≡ Called (pos 4) (pos 0)
+  unfolding own perform perform_row row_of in_call making least_below
+  pipe_made there = ap (λ (b : Bool). (making 9 b).answer) there
+
+  pipe_takes_1 : writable image 0 8 ≡ true → free_of (own (in_call (call 4 0 0 0))).next ≡ 8
+  unfolding own perform perform_row row_of in_call making least_below free_of
+  pipe_takes_1 there = ap (λ (b : Bool). free_of (making 9 b).next) there
+
+  -- ---- open
+
+  -- the console with mode 2: to read and to write; with 1: to write
+  opening : ℕ → Option (List ℕ) → Own
+  opening mode path = open_path (call 15 0 mode 0) (in_call (call 15 0 mode 0)) path
+
+  opened_both : text_at MAXPATH image 0 ≡ Some (codes "console") → at_place (own (in_call (call 15 0 2 0))).next 0 ≡ Some (record { file = 0; read = true; write = true; shown = Shown_terminal })
+  unfolding own perform perform_row row_of in_call opening no_slashes least_below named at_place
+  opened_both given = ap (λ (path : Option (List ℕ)). at_place (opening 2 path).next 0) given
+
+  opened_to_write : text_at MAXPATH image 0 ≡ Some (codes "/console") → at_place (own (in_call (call 15 0 1 0))).next 0 ≡ Some (record { file = 0; read = false; write = true; shown = Shown_terminal })
+  unfolding own perform perform_row row_of in_call opening no_slashes least_below named at_place
+  opened_to_write given = ap (λ (path : Option (List ℕ)). at_place (opening 1 path).next 0) given
+
+  opened_not : text_at MAXPATH image 0 ≡ Some (codes "console") → (own (in_call (call 15 0 3 0))).answer ≡ Called (pos 15) (negsuc 0)
+  unfolding own perform perform_row row_of in_call opening no_slashes least_below named
+  opened_not given = ap (λ (path : Option (List ℕ)). (opening 3 path).answer) given
+
+  -- ---- reads and writes: which bytes come and go, and where
+
+  image_of : Option View → Image
+  image_of None = image
+  image_of (Some v) = v.image
+
+  console_of : Option View → Console
+  console_of None = empty_console
+  console_of (Some v) = v.console
+
+  -- descriptor 0 is on the program `a`, whose file is `hello`, at offset 2
+  file_reader : View
+  unfolding in_call
+  file_reader = record (in_call (call 5 0 8192 9)) {
+    descriptors = λ d. cond (nat_eq d 0) (Some (record { file = 0; read = true; write = false; shown = Shown_file 0 2 })) None;
+    programs = (record { name = codes "a"; bytes = codes "hello" }) ∷ [];
+  }
+
+  reading_file : Bool → Own
+  reading_file there = moving (call 5 0 8192 9) file_reader there (pos 9) (λ n. read_from (call 5 0 8192 9) file_reader n 0 (Shown_file 0 2))
+
+  module _ (there : writable image 8192 9 ≡ true) where
+    file_rest : image_of (own file_reader).next ≡ write_image image 8192 (codes "llo")
+    unfolding own perform perform_row row_of in_call file_reader reading_file image_of
+    file_rest = ap (λ (b : Bool). image_of (reading_file b).next) there
+
+    file_answer : (own file_reader).answer ≡ Called (pos 5) (pos 3)
+    unfolding own perform perform_row row_of in_call file_reader reading_file
+    file_answer = ap (λ (b : Bool). (reading_file b).answer) there
+
+    file_offset : at_place (own file_reader).next 0 ≡ Some (record { file = 0; read = true; write = false; shown = Shown_file 0 5 })
+    unfolding own perform perform_row row_of in_call file_reader reading_file at_place
+    file_offset = ap (λ (b : Bool). at_place (reading_file b).next 0) there
+
+  -- descriptor 0 is on the console; a call on 40 bytes at 8192 that has moved so many
+  terminal_call : ℕ → ℕ → Call
+  terminal_call number moved = record (call number 0 8192 40) { moved = moved }
+
+  at_terminal : ℕ → ℕ → List ℕ → View
+  at_terminal number moved committed = record (in_call (terminal_call number moved)) {
+    descriptors = λ d. cond (nat_eq d 0) (Some (record { file = 0; read = true; write = true; shown = Shown_terminal })) None;
+    console = record empty_console { committed = committed };
+  }
+
+  reading_line : ℕ → List ℕ → Bool → Own
+  reading_line moved committed there = moving (terminal_call 5 moved) (at_terminal 5 moved committed) there (pos 40) (λ n. read_from (terminal_call 5 moved) (at_terminal 5 moved committed) n 0 Shown_terminal)
+
+  writing_line : ℕ → Bool → Own
+  writing_line moved there = moving (terminal_call 16 moved) (at_terminal 16 moved []) there (pos 40) (λ n. write_to (terminal_call 16 moved) (at_terminal 16 moved []) n Shown_terminal)
+
+  -- a read that has 2 bytes goes on behind them; its line's end makes 4. Without an end it waits, with 3
+  module _ (there : writable image 8192 40 ≡ true) where
+    line_rest : image_of (own (at_terminal 5 2 (codes "c\n"))).next ≡ write_image image 8194 (codes "c\n")
+    unfolding own perform perform_row row_of in_call terminal_call at_terminal reading_line image_of
+    line_rest = ap (λ (b : Bool). image_of (reading_line 2 (codes "c\n") b).next) there
+
+    line_answer : (own (at_terminal 5 2 (codes "c\n"))).answer ≡ Called (pos 5) (pos 4)
+    unfolding own perform perform_row row_of in_call terminal_call at_terminal reading_line
+    line_answer = ap (λ (b : Bool). (reading_line 2 (codes "c\n") b).answer) there
+
+    line_waits : (own (at_terminal 5 2 (codes "c"))).answer ≡ Blocked (pos 5)
+    unfolding own perform perform_row row_of in_call terminal_call at_terminal reading_line
+    line_waits = ap (λ (b : Bool). (reading_line 2 (codes "c") b).answer) there
+
+    line_moved : moved_of (own (at_terminal 5 2 (codes "c"))).next ≡ Some 3
+    unfolding own perform perform_row row_of in_call terminal_call at_terminal reading_line moved_of
+    line_moved = ap (λ (b : Bool). moved_of (reading_line 2 (codes "c") b).next) there
+
+    -- with room for one byte more it takes one of two, and is over
+    line_room : image_of (own (at_terminal 5 39 (codes "cd"))).next ≡ write_image image 8231 (codes "c")
+    unfolding own perform perform_row row_of in_call terminal_call at_terminal reading_line image_of
+    line_room = ap (λ (b : Bool). image_of (reading_line 39 (codes "cd") b).next) there
+
+    -- byte 4, where nothing is read before it, is taken, and ends the read with 0
+    line_end : (own (at_terminal 5 0 (4 ∷ []))).answer ≡ Called (pos 5) (pos 0)
+    unfolding own perform perform_row row_of in_call terminal_call at_terminal reading_line
+    line_end = ap (λ (b : Bool). (reading_line 0 (4 ∷ []) b).answer) there
+
+  -- a write of 40 bytes: bytes 0 to 31 go first, and it waits; where they are sent, bytes 32 to 39 go, and it is done
+  module _ (there : readable image 8192 40 ≡ true) where
+    sends_32 : (console_of (own (at_terminal 16 0 [])).next).to_send ≡ image_bytes image 8192 32
+    unfolding own perform perform_row row_of in_call terminal_call at_terminal writing_line console_of
+    sends_32 = ap (λ (b : Bool). (console_of (writing_line 0 b).next).to_send) there
+
+    waits_at_32 : (own (at_terminal 16 0 [])).answer ≡ Blocked (pos 16)
+    unfolding own perform perform_row row_of in_call terminal_call at_terminal writing_line
+    waits_at_32 = ap (λ (b : Bool). (writing_line 0 b).answer) there
+
+    sends_8 : (console_of (own (at_terminal 16 32 [])).next).to_send ≡ image_bytes image 8224 8
+    unfolding own perform perform_row row_of in_call terminal_call at_terminal writing_line console_of
+    sends_8 = ap (λ (b : Bool). (console_of (writing_line 32 b).next).to_send) there
+
+    wrote_40 : (own (at_terminal 16 32 [])).answer ≡ Called (pos 16) (pos 40)
+    unfolding own perform perform_row row_of in_call terminal_call at_terminal writing_line
+    wrote_40 = ap (λ (b : Bool). (writing_line 32 b).answer) there
+
+  -- ---- reads of a pipe: what is there; nothing yet; nothing any more
+
+  reader : List ℕ → ℕ → View
+  reader bytes writers = record (in_call (call 5 0 8192 10)) { descriptors = ends_of (record { bytes = bytes; readers = 1; writers = writers }) }
+
+  reading_pipe : List ℕ → ℕ → Bool → Own
+  reading_pipe bytes writers there = moving (call 5 0 8192 10) (reader bytes writers) there (pos 10) (λ n. read_from (call 5 0 8192 10) (reader bytes writers) n 0 (Shown_pipe 0 Reading (record { bytes = bytes; readers = 1; writers = writers })))
+
+  module _ (there : writable image 8192 10 ≡ true) where
+    pipe_bytes : image_of (own (reader (codes "xy") 1)).next ≡ write_image image 8192 (codes "xy")
+    unfolding own perform perform_row row_of in_call reader reading_pipe image_of
+    pipe_bytes = ap (λ (b : Bool). image_of (reading_pipe (codes "xy") 1 b).next) there
+
+    pipe_answer : (own (reader (codes "xy") 1)).answer ≡ Called (pos 5) (pos 2)
+    unfolding own perform perform_row row_of in_call reader reading_pipe
+    pipe_answer = ap (λ (b : Bool). (reading_pipe (codes "xy") 1 b).answer) there
+
+    pipe_left : at_place (own (reader (codes "xy") 1)).next 0 ≡ Some (record { file = 0; read = true; write = false; shown = Shown_pipe 0 Reading new_pipe })
+    unfolding own perform perform_row row_of in_call reader reading_pipe at_place new_pipe
+    pipe_left = ap (λ (b : Bool). at_place (reading_pipe (codes "xy") 1 b).next 0) there
+
+    pipe_waits : (own (reader [] 1)).answer ≡ Blocked (pos 5)
+    unfolding own perform perform_row row_of in_call reader reading_pipe
+    pipe_waits = ap (λ (b : Bool). (reading_pipe [] 1 b).answer) there
+
+    pipe_ends : (own (reader [] 0)).answer ≡ Called (pos 5) (pos 0)
+    unfolding own perform perform_row row_of in_call reader reading_pipe
+    pipe_ends = ap (λ (b : Bool). (reading_pipe [] 0 b).answer) there
+
+  -- ---- wait with an address: the status goes there, and the address is tested first
+
+  waiting_at : Bool → Own
+  waiting_at there = unless (not (nat_eq 8192 0) && not there) (call 3 8192 0 0) (family 8192) (λ _. reaped (call 3 8192 0 0) (family 8192) (least_zombie (family 8192)))
+
+  wait_tells : writable image 8192 4 ≡ true → image_of (own (family 8192)).next ≡ write_image image 8192 (30 ∷ 0 ∷ 0 ∷ 0 ∷ [])
+  unfolding own perform perform_row row_of in_call family waiting_at image_of
+  wait_tells there = ap (λ (b : Bool). image_of (waiting_at b).next) there
+
+  wait_nowhere : writable image 8192 4 ≡ false → (own (family 8192)).answer ≡ Called (pos 3) (negsuc 0)
+  unfolding own perform perform_row row_of in_call family waiting_at
+  wait_nowhere absent = ap (λ (b : Bool). (waiting_at b).answer) absent
+
+  -- ---- open of a program's file
+
+  abbrev with_a : View → View
+  with_a v = record v { programs = (record { name = codes "a"; bytes = codes "hello" }) ∷ [] }
+
+  opening_a : ℕ → Option (List ℕ) → Own
+  opening_a mode path = open_path (call 15 0 mode 0) (with_a (in_call (call 15 0 mode 0))) path
+
+  opened_file : text_at MAXPATH image 0 ≡ Some (codes "//a") → at_place (own (with_a (in_call (call 15 0 0 0)))).next 0 ≡ Some (record { file = 0; read = true; write = false; shown = Shown_file 0 0 })
+  unfolding own perform perform_row row_of in_call opening_a no_slashes least_below named at_place
+  opened_file given = ap (λ (path : Option (List ℕ)). at_place (opening_a 0 path).next 0) given
+
+  opened_file_to_write : text_at MAXPATH image 0 ≡ Some (codes "a") → (own (with_a (in_call (call 15 0 1 0)))).answer ≡ Called (pos 15) (negsuc 0)
+  unfolding own perform perform_row row_of in_call opening_a no_slashes least_below named
+  opened_file_to_write given = ap (λ (path : Option (List ℕ)). (opening_a 1 path).answer) given
+
+  opened_unknown : text_at MAXPATH image 0 ≡ Some (codes "b") → (own (with_a (in_call (call 15 0 0 0)))).answer ≡ Called (pos 15) (negsuc 0)
+  unfolding own perform perform_row row_of in_call opening_a no_slashes least_below named
+  opened_unknown given = ap (λ (path : Option (List ℕ)). (opening_a 0 path).answer) given
+
+  -- ---- exec of `a`, with no text: what it makes of the file is given
+
+  abbrev executing : View
+  executing = with_a (in_call (call 7 0 64 0))
+
+  module _ (l : Loaded) (path : text_at MAXPATH image 0 ≡ Some (codes "a")) (texts : texts_at MAXARG ARG_BYTES image 64 ≡ Some []) where
+    -- what is asked of the step, where `a` is loaded so
+    exec_as : {X : Type 0} (asked : Own → X) (r : Result Loaded ExecError) → loaded (codes "hello") [] ≡ r → asked (own executing) ≡ asked (exec_loaded (call 7 0 64 0) executing r)
+    unfolding own perform perform_row row_of in_call no_slashes
+    exec_as asked r is =
+        ap (λ (o : Option (List ℕ)). asked (exec_path (call 7 0 64 0) executing o)) path
+        ∙ ap (λ (o : Option (List (List ℕ))). asked (exec_program (call 7 0 64 0) executing o (Some (record { name = codes "a"; bytes = codes "hello" })))) texts
+        ∙ ap (λ (o : Result Loaded ExecError). asked (exec_loaded (call 7 0 64 0) executing o)) is
+
+    exec_bad : (e : ExecError) → loaded (codes "hello") [] ≡ Err e → (own executing).answer ≡ Called (pos 7) (negsuc 0)
+    exec_bad e is = exec_as (λ o. o.answer) (Err e) is
+
+    exec_dear : price l.image ≡ 10 → loaded (codes "hello") [] ≡ Ok l → (own executing).answer ≡ Called (pos 7) (negsuc 0)
+    unfolding in_call
+    exec_dear costs is = exec_as (λ o. o.answer) (Ok l) is ∙ ap (λ (n : ℕ). (unless (nat_lt 9 n) (call 7 0 64 0) executing (λ _. done (call 7 0 64 0) (pos l.argc) (running l executing))).answer) costs
+
+    module _ (costs : price l.image ≡ 8) (is : loaded (codes "hello") [] ≡ Ok l) where
+      exec_by : {X : Type 0} (asked : Own → X) → asked (own executing) ≡ asked (done (call 7 0 64 0) (pos l.argc) (running l executing))
+      unfolding in_call
+      exec_by asked = exec_as asked (Ok l) is ∙ ap (λ (n : ℕ). asked (unless (nat_lt 9 n) (call 7 0 64 0) executing (λ _. done (call 7 0 64 0) (pos l.argc) (running l executing)))) costs
+
+      exec_answer : (own executing).answer ≡ Called (pos 7) (pos l.argc)
+      exec_answer = exec_by (λ o. o.answer)
+
+      exec_image : image_of (own executing).next ≡ l.image
+      unfolding image_of
+      exec_image = exec_by (λ o. image_of o.next)
+
+      exec_frees : price image ≡ 6 → free_of (own executing).next ≡ 7
+      unfolding in_call free_of
+      exec_frees old = exec_by (λ o. free_of o.next) ∙ ap (λ (n : ℕ). 9 + n - price l.image) old ∙ ap (λ (n : ℕ). 15 - n) costs
+
+  -- ---- sbrk from 3 pages: one more, with 9 free frames and with none; one fewer
+
+  abbrev sizing : ℕ → ℕ → View
+  sizing n free = record (in_call (call 12 n 0 0)) { image = record image { size = 12288 }; free = free }
+
+  module _ (old : price (record image { size = 12288 }) ≡ 6) (new : price (grown (record image { size = 12288 }) 16384) ≡ 7) where
+    one_frame : price (grown (record image { size = 12288 }) 16384) - price (record image { size = 12288 }) ≡ 1
+    one_frame = ap (λ (n : ℕ). n - price (record image { size = 12288 })) new ∙ ap (λ (n : ℕ). 7 - n) old
+
+    growing : ℕ → ℕ → Own
+    growing free n = unless (nat_lt SIZE_LIMIT 16384 || nat_lt free n) (call 12 4096 0 0) (sizing 4096 free) (λ _. done (call 12 4096 0 0) (pos 12288) (record (sizing 4096 free) { image = grown (record image { size = 12288 }) 16384; free = free - n }))
+
+    grows : (own (sizing 4096 9)).answer ≡ Called (pos 12) (pos 12288)
+    unfolding own perform perform_row row_of in_call growing
+    grows = ap (λ (n : ℕ). (growing 9 n).answer) one_frame
+
+    grows_by_1 : free_of (own (sizing 4096 9)).next ≡ 8
+    unfolding own perform perform_row row_of in_call growing free_of
+    grows_by_1 = ap (λ (n : ℕ). free_of (growing 9 n).next) one_frame
+
+    grows_not : (own (sizing 4096 0)).answer ≡ Called (pos 12) (negsuc 0)
+    unfolding own perform perform_row row_of in_call growing
+    grows_not = ap (λ (n : ℕ). (growing 0 n).answer) one_frame
+
+  shrinks : (own (sizing (minus 4096) 9)).answer ≡ Called (pos 12) (pos 12288)
+  unfolding own perform perform_row row_of in_call
+  shrinks = refl
+
+  shrinks_to : image_of (own (sizing (minus 4096) 9)).next ≡ shrunk (record image { size = 12288 }) 8192
+  unfolding own perform perform_row row_of in_call image_of
+  shrinks_to = refl
+
+  below_0 : (own (sizing (minus 12289) 9)).answer ≡ Called (pos 12) (negsuc 0)
+  unfolding own perform perform_row row_of in_call
+  below_0 = refl
 
 -- ---- the console: what keys leave and show
 
@@ -290,3 +627,37 @@ erases = refl
 full : length (typed empty_console (replicate 129 97)).0.committed ≡ 128
 unfolding typed
 full = refl
+
+-- and the last one shows nothing
+full_echo : (line (typed empty_console (replicate 128 97)).0 97).1 ≡ []
+unfolding typed
+full_echo = refl
+
+-- ---- what a read takes of `b` and Enter, of `a` and Ctrl-D, of Ctrl-D where nothing was read before and where something was
+
+takes_line : pulled true 10 (codes "b\n") ≡ record { taken = codes "b\n"; ended = true; left = [] }
+takes_line = refl
+
+leaves_end : pulled true 10 (97 ∷ 4 ∷ []) ≡ record { taken = 97 ∷ []; ended = true; left = 4 ∷ [] }
+leaves_end = refl
+
+takes_end : pulled true 10 (4 ∷ []) ≡ record { taken = []; ended = true; left = [] }
+takes_end = refl
+
+leaves_end_later : pulled false 10 (4 ∷ []) ≡ record { taken = []; ended = true; left = 4 ∷ [] }
+leaves_end_later = refl
+
+-- no line's end yet
+takes_all : pulled true 10 (codes "ab") ≡ record { taken = codes "ab"; ended = false; left = [] }
+takes_all = refl
+
+-- ---- rounds, and what a run shows
+
+round_2 : round 2 (5 ∷ 6 ∷ []) ≡ Key 5 ∷ Run ∷ Run ∷ Tick ∷ replicate 32 Send
+round_2 = refl
+
+round_without_key : round 2 [] ≡ Run ∷ Run ∷ Tick ∷ replicate 32 Send
+round_without_key = refl
+
+shown : out ((Key 97, Typed (97 ∷ [])) ∷ (Run, Step_of 1 Stepped) ∷ (Send, Sent (Some 104)) ∷ (Send, Sent None) ∷ []) ≡ 97 ∷ 104 ∷ []
+shown = refl

@@ -9,11 +9,11 @@ use Rattle.xk_base.specs.Image.{Image, price}
 use Rattle.file_table.specs.declared.open_file.End.{End}
 use Rattle.file_table.specs.declared.open_file.End.TheVariants.{Reading, Writing}
 use Rattle.console_core.specs.Lists.{Console}
-use Rattle.kcall_core.specs.Processes.{Process, Alive, Live}
+use Rattle.kcall_core.specs.Processes.{Process, Alive, Live, parent_of}
 use Rattle.proc_table.specs.declared.process.Call.{Call}
 use Rattle.kcall_core.specs.State.{State, live, live_part}
 use Rattle.kcall_core.specs.Quiet.{file_at, file_of}
-use Rattle.kcall_core.specs.Updates.{changed_state, parent_of}
+use Rattle.kcall_core.specs.Updates.{changed_state}
 use Rattle.kcall_core.specs.WellFormed.{WellFormed, HasParent, over_all, on, cost}
 use Rattle.kcall_core.proofs.Maps.{get_same, get_other}
 use Rattle.kcall_core.proofs.Sums.{sum_same, sum_change}

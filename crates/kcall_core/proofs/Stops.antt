@@ -16,13 +16,13 @@ use Rattle.proc_table.specs.Slots.{Slots, place_at, descriptors_at, place_is_liv
 use Rattle.proc_table.specs.declared.process.Process.{Process}
 use Rattle.proc_table.proofs.Pids.{table_at}
 use Rattle.kcall_core.specs.State.{named_file}
-use Rattle.kcall_core.specs.Words.{is_this}
+use Rattle.kcall_core.specs.Words.{is_this, or_zero}
 use Rattle.kcall_core.specs.Processes.{Zombie}
 use Rattle.kcall_core.specs.ByPid.{by_pid}
 use Rattle.kcall_core.specs.Updates.{give_frames, end_process}
 use Rattle.kcall_core.specs.Holdings.{Held, or_nothing, held_at, HasMemory, with_saved, cost}
 use Rattle.kcall_core.specs.Memories.{each_of, pipes_of, free_of, SlotChanges}
-use Rattle.kcall_core.specs.Kernel.{process_of, regs_at, entry_of, entry_at, state_of, or_zero, or_nobody, slot_now, place_now, pid_now, live_now, IsCurrent, IsSound}
+use Rattle.kcall_core.specs.Kernel.{process_of, regs_at, entry_of, entry_at, state_of, or_nobody, slot_now, place_now, pid_now, live_now, IsCurrent, IsSound}
 use Rattle.kcall_core.specs.declared.kernel.Kernel.{Kernel}
 use Rattle.kcall_core.proofs.ByPid.{by_pid-same}
 use Rattle.kcall_core.proofs.Changes.{some-inside}

@@ -19,13 +19,13 @@ use Rattle.proc_table.specs.declared.process.State.TheVariants as table_state
 use Rattle.kcall_core.specs.Processes as meaning
 use Rattle.kcall_core.specs.Processes.{Alive}
 use Rattle.kcall_core.specs.State.{live}
-use Rattle.kcall_core.specs.Words.{is_this}
+use Rattle.kcall_core.specs.Words.{is_this, or_zero}
 use Rattle.kcall_core.specs.RowLaws.{IsLive}
 use Rattle.kcall_core.specs.ByPid.{by_pid, put}
 use Rattle.kcall_core.specs.Holdings.{held_at}
 use Rattle.kcall_core.specs.Memories.{each_of}
 use Rattle.kcall_core.specs.WellFormed.{HasSlots}
-use Rattle.kcall_core.specs.Kernel.{live_of, by_status, process_of, entry_at, state_of, or_zero, or_nobody, slot_now, place_now, pid_now, live_now, IsSound, IsRunning}
+use Rattle.kcall_core.specs.Kernel.{live_of, by_status, process_of, entry_at, state_of, or_nobody, slot_now, place_now, pid_now, live_now, IsSound, IsRunning}
 use Rattle.kcall_core.specs.Machine.{slot_entry, slots_of, sleeper_in, with_sleeper, sleepers_below, turns_of}
 use Rattle.kcall_core.specs.Whole.{IsWhole}
 use Rattle.kcall_core.specs.declared.kernel.Kernel.{Kernel}

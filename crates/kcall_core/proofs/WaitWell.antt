@@ -6,10 +6,10 @@ use Rattle.std.proofs.lemmas.Bool.{eq-eqb}
 use Rattle.std.proofs.lemmas.Bool.Decides.{eqb_tells}
 use Rattle.file_table.specs.declared.open_file.End.{End}
 use Rattle.file_table.specs.declared.open_file.End.TheVariants.{Reading, Writing}
-use Rattle.kcall_core.specs.Processes.{Process, Zombie}
+use Rattle.kcall_core.specs.Processes.{Process, Zombie, parent_of}
 use Rattle.kcall_core.specs.State.{State, live, live_part}
 use Rattle.kcall_core.specs.Quiet.{file_at, file_of}
-use Rattle.kcall_core.specs.Updates.{parent_of, remove_zombie}
+use Rattle.kcall_core.specs.Updates.{remove_zombie}
 use Rattle.kcall_core.specs.WellFormed.{WellFormed, HasParent, over_all, on, cost}
 use Rattle.kcall_core.proofs.Maps.{get_without}
 use Rattle.kcall_core.proofs.Sums.{sum_same}

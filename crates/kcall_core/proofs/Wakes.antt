@@ -14,8 +14,8 @@ use Rattle.kcall_core.specs.View.{View, view_of, named, numbered, rename, descri
 use Rattle.kcall_core.specs.Calls.{Row, Fork, Exit, Wait, Pipe_row, Read, Kill, Exec, Dup, Getpid, Sbrk, Sleep, Uptime, Open, Write, Close, row_of, in_use}
 use Rattle.kcall_core.specs.Ready.{ready, call_ready, row_ready, on_shown, can_read, can_write, has_slept}
 use Rattle.kcall_core.specs.Run.{World}
-use Rattle.kcall_core.specs.Updates.{end_of, target_of_open}
-use Rattle.kcall_core.specs.Conditions.{WakesSuffice, ReadyIsOpen, is_open, read_channel, write_channel, target_at, sleep_channel, row_channel, call_channel, waits_for, WakesEnough}
+use Rattle.kcall_core.specs.Quiet.{end_of, target_of_open}
+use Rattle.kcall_core.specs.Conditions.{WakesSuffice, ReadyIsOpen, is_open, read_waits_for, write_waits_for, target_at, sleep_waits_for, row_waits_for, call_waits_for, waits_for, WakesEnough}
 use Rattle.kcall_core.specs.Wakes.{NoReadySleeper}
 
 module _ (s : State) (p : ℕ) (l : Live) where
@@ -24,58 +24,58 @@ module _ (s : State) (p : ℕ) (l : Live) where
 
   -- ---- by the open file
 
-  read_target : (r w : Bool) (g : ℕ) (y : Target) → on_shown (can_read (view_of s p l)) (option_map (rename (numbered s l)) (descriptor_on s g (Some (record { read = r; write = w; target = y })))) ≡ is_open s (read_channel (Some y))
+  read_target : (r w : Bool) (g : ℕ) (y : Target) → on_shown (can_read (view_of s p l)) (option_map (rename (numbered s l)) (descriptor_on s g (Some (record { read = r; write = w; target = y })))) ≡ is_open s (read_waits_for (Some y))
   unfolding view_of
   read_target r w g Terminal = refl
   read_target r w g (File program offset) = refl
   read_target r w g (Pipe_end i end) = refl
 
-  read_place : (o : Option ℕ) → on_shown (can_read (view_of s p l)) (option_map (rename (numbered s l)) (descriptor_at s o)) ≡ is_open s (read_channel (end_of s o))
+  read_place : (o : Option ℕ) → on_shown (can_read (view_of s p l)) (option_map (rename (numbered s l)) (descriptor_at s o)) ≡ is_open s (read_waits_for (end_of s o))
   read_place None = refl
   read_place (Some g) = by (get s.files g)
     where
-      by : (x : Option OpenFile) → on_shown (can_read (view_of s p l)) (option_map (rename (numbered s l)) (descriptor_on s g x)) ≡ is_open s (read_channel (target_of_open x))
+      by : (x : Option OpenFile) → on_shown (can_read (view_of s p l)) (option_map (rename (numbered s l)) (descriptor_on s g x)) ≡ is_open s (read_waits_for (target_of_open x))
       by None = refl
       by (Some x) = read_target x.read x.write g x.target
 
-  write_target : (r w : Bool) (g : ℕ) (y : Target) → on_shown (can_write (view_of s p l)) (option_map (rename (numbered s l)) (descriptor_on s g (Some (record { read = r; write = w; target = y })))) ≡ is_open s (write_channel (Some y))
+  write_target : (r w : Bool) (g : ℕ) (y : Target) → on_shown (can_write (view_of s p l)) (option_map (rename (numbered s l)) (descriptor_on s g (Some (record { read = r; write = w; target = y })))) ≡ is_open s (write_waits_for (Some y))
   unfolding view_of
   write_target r w g Terminal = refl
   write_target r w g (File program offset) = refl
   write_target r w g (Pipe_end i end) = refl
 
-  write_place : (o : Option ℕ) → on_shown (can_write (view_of s p l)) (option_map (rename (numbered s l)) (descriptor_at s o)) ≡ is_open s (write_channel (end_of s o))
+  write_place : (o : Option ℕ) → on_shown (can_write (view_of s p l)) (option_map (rename (numbered s l)) (descriptor_at s o)) ≡ is_open s (write_waits_for (end_of s o))
   write_place None = refl
   write_place (Some g) = by (get s.files g)
     where
-      by : (x : Option OpenFile) → on_shown (can_write (view_of s p l)) (option_map (rename (numbered s l)) (descriptor_on s g x)) ≡ is_open s (write_channel (target_of_open x))
+      by : (x : Option OpenFile) → on_shown (can_write (view_of s p l)) (option_map (rename (numbered s l)) (descriptor_on s g x)) ≡ is_open s (write_waits_for (target_of_open x))
       by None = refl
       by (Some x) = write_target x.read x.write g x.target
 
-  read_in_range : (d : ℕ) (b : Bool) → on_shown (can_read (view_of s p l)) (cond b (option_map (rename (numbered s l)) (numbered s l d)) None) ≡ is_open s (read_channel (cond b (end_of s (get l.descriptors d)) None))
+  read_in_range : (d : ℕ) (b : Bool) → on_shown (can_read (view_of s p l)) (cond b (option_map (rename (numbered s l)) (numbered s l d)) None) ≡ is_open s (read_waits_for (cond b (end_of s (get l.descriptors d)) None))
   read_in_range d true = read_place (get l.descriptors d)
   read_in_range d false = refl
 
-  write_in_range : (d : ℕ) (b : Bool) → on_shown (can_write (view_of s p l)) (cond b (option_map (rename (numbered s l)) (numbered s l d)) None) ≡ is_open s (write_channel (cond b (end_of s (get l.descriptors d)) None))
+  write_in_range : (d : ℕ) (b : Bool) → on_shown (can_write (view_of s p l)) (cond b (option_map (rename (numbered s l)) (numbered s l d)) None) ≡ is_open s (write_waits_for (cond b (end_of s (get l.descriptors d)) None))
   write_in_range d true = write_place (get l.descriptors d)
   write_in_range d false = refl
 
-  read_number : (z : ℤ) → on_shown (can_read (view_of s p l)) (in_use (view_of s p l) z) ≡ is_open s (read_channel (target_at s l z))
+  read_number : (z : ℤ) → on_shown (can_read (view_of s p l)) (in_use (view_of s p l) z) ≡ is_open s (read_waits_for (target_at s l z))
   unfolding view_of named
   read_number (pos d) = read_in_range d (nat_lt d NOFILE)
   read_number (negsuc k) = refl
 
-  write_number : (z : ℤ) → on_shown (can_write (view_of s p l)) (in_use (view_of s p l) z) ≡ is_open s (write_channel (target_at s l z))
+  write_number : (z : ℤ) → on_shown (can_write (view_of s p l)) (in_use (view_of s p l) z) ≡ is_open s (write_waits_for (target_at s l z))
   unfolding view_of named
   write_number (pos d) = write_in_range d (nat_lt d NOFILE)
   write_number (negsuc k) = refl
 
-  sleep_number : (c : Call) (z : ℤ) → has_slept (view_of s p l) c z ≡ is_open s (sleep_channel c z)
+  sleep_number : (c : Call) (z : ℤ) → has_slept (view_of s p l) c z ≡ is_open s (sleep_waits_for c z)
   unfolding view_of
   sleep_number c (pos n) = refl
   sleep_number c (negsuc k) = refl
 
-  row_is : (c : Call) (r : Option Row) → row_ready (view_of s p l) c r ≡ is_open s (row_channel s p l c r)
+  row_is : (c : Call) (r : Option Row) → row_ready (view_of s p l) c r ≡ is_open s (row_waits_for s p l c r)
   unfolding view_of
   row_is c None = refl
   row_is c (Some Wait) = refl
@@ -94,7 +94,7 @@ module _ (s : State) (p : ℕ) (l : Live) where
   row_is c (Some Open) = refl
   row_is c (Some Close) = refl
 
-  call_is : (o : Option Call) → call_ready (view_of s p l) o ≡ is_open s (call_channel s p l o)
+  call_is : (o : Option Call) → call_ready (view_of s p l) o ≡ is_open s (call_waits_for s p l o)
   call_is None = refl
   call_is (Some c) = row_is c (row_of c.number)
 

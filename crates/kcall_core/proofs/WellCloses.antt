@@ -18,8 +18,8 @@ use Rattle.kcall_core.specs.PipeEnds.{parted, is_given_up}
 use Rattle.kcall_core.specs.Processes.{Process, Alive, Live, Zombie}
 use Rattle.kcall_core.specs.State.{State, live_part}
 use Rattle.kcall_core.specs.Tables.{is_end}
-use Rattle.kcall_core.specs.Quiet.{file_at, file_of, pipe_of_target, pipe_of_file, pipe_of_open}
-use Rattle.kcall_core.specs.Updates.{changed_state, end_of, target_of_open, settled}
+use Rattle.kcall_core.specs.Quiet.{file_at, file_of, pipe_of_target, pipe_of_file, pipe_of_open, end_of, target_of_open}
+use Rattle.kcall_core.specs.Updates.{changed_state, settled}
 use Rattle.kcall_core.specs.WellFormed.{WellFormed, over_all, on, sum_below}
 use Rattle.kcall_core.specs.RowLaws.{HasTable, NobodyNames, NobodyHas, OnPipe, FilesLeft, WellClosed, WellClosedPipe, WellMadePipe}
 use Rattle.kcall_core.proofs.Maps.{get_same, get_other, get_without}

@@ -18,8 +18,8 @@ use Rattle.kcall_core.specs.PipeEnds.{joined, is_given_up}
 use Rattle.kcall_core.specs.Processes.{Alive, Live}
 use Rattle.kcall_core.specs.State.{State, live_part}
 use Rattle.kcall_core.specs.Tables.{is_end}
-use Rattle.kcall_core.specs.Quiet.{file_at, file_of, pipe_of_target}
-use Rattle.kcall_core.specs.Updates.{changed_state, own_state, piped_state, filed_state, end_of, target_of_open}
+use Rattle.kcall_core.specs.Quiet.{file_at, file_of, pipe_of_target, end_of, target_of_open}
+use Rattle.kcall_core.specs.Updates.{changed_state, own_state, piped_state, filed_state}
 use Rattle.kcall_core.specs.WellFormed.{WellFormed, over_all, on}
 use Rattle.kcall_core.specs.RowLaws.{HasTable, NobodyNames, OnPipe, WellOpened, WellDup, WellDupPipe}
 use Rattle.kcall_core.proofs.Maps.{get_same, get_other}

@@ -14,12 +14,11 @@ use Rattle.file_table.specs.declared.open_file.End.TheVariants.{Reading, Writing
 use Rattle.file_table.specs.declared.open_file.OpenFile.{OpenFile}
 use Rattle.file_table.specs.declared.open_file.Target.TheVariants.{Pipe as Pipe_end}
 use Rattle.kcall_core.specs.PipeEnds.{is_given_up}
-use Rattle.kcall_core.specs.Processes.{Process, Alive, Live, Zombie}
+use Rattle.kcall_core.specs.Processes.{Process, Alive, Live, Zombie, parent_of}
 use Rattle.kcall_core.specs.State.{State, live, live_part}
 use Rattle.kcall_core.specs.View.{numbered}
 use Rattle.kcall_core.specs.Tables.{ends}
-use Rattle.kcall_core.specs.Quiet.{file_at, file_of}
-use Rattle.kcall_core.specs.Updates.{end_of, target_of_open, parent_of}
+use Rattle.kcall_core.specs.Quiet.{file_at, file_of, end_of, target_of_open}
 use Rattle.kcall_core.specs.WellFormed.{WellFormed, over_all, on, cost, sum_below}
 use Rattle.kcall_core.proofs.Maps.{get_same, get_other, get_without}
 use Rattle.kcall_core.proofs.Counts.{hits, hits_at, one}

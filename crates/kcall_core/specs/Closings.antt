@@ -20,7 +20,8 @@ use Rattle.proc_table.specs.declared.process.State as table
 use Rattle.proc_table.specs.declared.process.State.TheVariants.{Live as Live_state, Zombie as Zombie_state}
 use Rattle.kcall_core.specs.PipeEnds.{count_on}
 use Rattle.kcall_core.specs.View.{or_gone}
-use Rattle.kcall_core.specs.Updates.{end_of, fewer_on, freed_on, fewer_on_all, freed_on_all, changed_state, with_closed}
+use Rattle.kcall_core.specs.Quiet.{end_of}
+use Rattle.kcall_core.specs.Updates.{fewer_on, freed_on, fewer_on_all, freed_on_all, changed_state, with_closed}
 use Rattle.kcall_core.specs.WellFormed.{WellFormed}
 use Rattle.kcall_core.specs.Kernel.{frame_count, state_of, IsSound, IsRunning, pid_now, live_now}
 use Rattle.kcall_core.specs.Whole.{AreCounted}

@@ -15,8 +15,8 @@ use Rattle.file_table.specs.declared.open_file.OpenFile.{OpenFile}
 use Rattle.kcall_core.specs.State.{State, live}
 use Rattle.kcall_core.specs.View.{View, view, view_of, child_of, or_gone}
 use Rattle.kcall_core.specs.Calls.{Row, Wait, Read, Write, Sleep, row_of, has_status}
-use Rattle.kcall_core.specs.Updates.{end_of, changed_state, alone_state, mark, waited_state, forked_state, gone_state}
-use Rattle.kcall_core.specs.Quiet.{pipe_at}
+use Rattle.kcall_core.specs.Updates.{changed_state, alone_state, mark, waited_state, forked_state, gone_state, kill_state}
+use Rattle.kcall_core.specs.Quiet.{file_at, pipe_at, end_of, target_of_open}
 use Rattle.kcall_core.specs.WellFormed.{WellFormed}
 use Rattle.kcall_core.specs.RowLaws.{FilesLeft}
 use Rattle.kcall_core.specs.Ready.{ready}
@@ -24,7 +24,7 @@ use Rattle.kcall_core.specs.Turns.{Sleeps}
 use Rattle.kcall_core.specs.Run.{World, Outcome, Ticked}
 use Rattle.kcall_core.specs.Wakes.{NoReadySleeper, WakesWhereDue, IsInCall, IsEnd}
 
--- What xv6 calls a channel, on which a process sleeps, stands here for what has to come before the process may go on
+-- What has to come before a process that waits may go on
 pub data Condition : Type 0 where
   -- it waits for nothing
   Nothing : Condition
@@ -55,44 +55,49 @@ is_open s (Time since ticks) = nat_le ticks ((s.clock + CLOCK_ROUND - since) % C
 is_open s Keys = nat_lt 0 (length s.console.committed)
 is_open s Sending = nat_lt (length s.console.to_send) SEND_BYTES
 
-abbrev pub read_channel : Option Target → Condition
-read_channel None = Nothing
-read_channel (Some Terminal) = Keys
-read_channel (Some (File program offset)) = Nothing
-read_channel (Some (Pipe_end i end)) = Bytes i
+-- what a read waits for on this target
+abbrev pub read_waits_for : Option Target → Condition
+read_waits_for None = Nothing
+read_waits_for (Some Terminal) = Keys
+read_waits_for (Some (File program offset)) = Nothing
+read_waits_for (Some (Pipe_end i end)) = Bytes i
 
-abbrev pub write_channel : Option Target → Condition
-write_channel None = Nothing
-write_channel (Some Terminal) = Sending
-write_channel (Some (File program offset)) = Nothing
-write_channel (Some (Pipe_end i end)) = Room i
+-- and a write
+abbrev pub write_waits_for : Option Target → Condition
+write_waits_for None = Nothing
+write_waits_for (Some Terminal) = Sending
+write_waits_for (Some (File program offset)) = Nothing
+write_waits_for (Some (Pipe_end i end)) = Room i
 
 -- what the descriptor of this number is on
 abbrev pub target_at : State → Live → ℤ → Option Target
 target_at s l (pos d) = cond (nat_lt d NOFILE) (end_of s (get l.descriptors d)) None
 target_at s l (negsuc k) = None
 
-abbrev pub sleep_channel : Call → ℤ → Condition
-sleep_channel c (pos n) = Time c.clock n
-sleep_channel c (negsuc k) = Nothing
+-- what sleep waits for
+abbrev pub sleep_waits_for : Call → ℤ → Condition
+sleep_waits_for c (pos n) = Time c.clock n
+sleep_waits_for c (negsuc k) = Nothing
 
-abbrev pub row_channel : State → ℕ → Live → Call → Option Row → Condition
-row_channel s p l c (Some Wait) = Child_of p
-row_channel s p l c (Some Read) = read_channel (target_at s l (c_int c.a0))
-row_channel s p l c (Some Write) = write_channel (target_at s l (c_int c.a0))
-row_channel s p l c (Some Sleep) = sleep_channel c (c_int c.a0)
-row_channel s p l c _ = Nothing
+-- what process p, which is l, waits for in the call c of this row
+abbrev pub row_waits_for : State → ℕ → Live → Call → Option Row → Condition
+row_waits_for s p l c (Some Wait) = Child_of p
+row_waits_for s p l c (Some Read) = read_waits_for (target_at s l (c_int c.a0))
+row_waits_for s p l c (Some Write) = write_waits_for (target_at s l (c_int c.a0))
+row_waits_for s p l c (Some Sleep) = sleep_waits_for c (c_int c.a0)
+row_waits_for s p l c _ = Nothing
 
-abbrev pub call_channel : State → ℕ → Live → Option Call → Condition
-call_channel s p l None = Nothing
-call_channel s p l (Some c) = row_channel s p l c (row_of c.number)
+-- and in its call
+abbrev pub call_waits_for : State → ℕ → Live → Option Call → Condition
+call_waits_for s p l None = Nothing
+call_waits_for s p l (Some c) = row_waits_for s p l c (row_of c.number)
 
 -- what process p, which is l, waits for
 abbrev pub waits_for : State → ℕ → Live → Condition
-waits_for s p l = call_channel s p l l.call
+waits_for s p l = call_waits_for s p l l.call
 
--- What an event has to do with the sleepers. A process that goes on sleeping waits for what it waited for; where a channel
--- opens nobody sleeps on it; nobody sleeps whose kill mark is new; who falls asleep isn't ready
+-- What an event has to do with the sleepers. A process that goes on sleeping waits for what it waited for; where a condition
+-- comes nobody sleeps who waits for it; nobody sleeps whose kill mark is new; who falls asleep isn't ready
 pub record WakesEnough (w t : World) : Type 0 where
   pub same : (q : ℕ) (m : Live) → Sleeps t.turns q → live t.state q ≡ Some m → (v : View) → view t.state q ≡ Some v
       → ((l : Live) × (live w.state q ≡ Some l) × Sleeps w.turns q × (waits_for t.state q m ≡ waits_for w.state q l)) ⊎ (ready v ≡ false)
@@ -167,6 +172,29 @@ abbrev pub OpensGone : Type 0
 OpensGone =
     (frames : ℕ) (s : State) (p : ℕ) (l : Live) (status : ℤ) (files : FinMap nat_cmp OpenFile) → WellFormed frames s → get s.processes p ≡ Some (Alive l) → FilesLeft s (gone_state p l status files s)
     → OpensOnly s (gone_state p l status files s) (MayOpenAtEnd s p l)
+
+-- ---- what no update changes: what everybody else waits for, and marks
+
+-- each process but p that is live in s and in t waits in t for what it waited for in s, and is marked where it was
+abbrev pub OthersWaitOn : State → ℕ → State → Type 0
+OthersWaitOn s p t = (q : ℕ) (l m : Live) → q ≢ p → live s q ≡ Some l → live t q ≡ Some m → (waits_for t q m ≡ waits_for s q l) × (l.killed ≡ true → m.killed ≡ true)
+
+-- each open file that a process other than p names is on what it was on
+abbrev pub KeepsTargets : State → ℕ → FinMap nat_cmp OpenFile → Type 0
+KeepsTargets s p files = (q d f : ℕ) → q ≢ p → file_at s q d ≡ Some f → target_of_open (get files f) ≡ target_of_open (get s.files f)
+
+-- It is so after each update of a live process p: p changes with the open files, pipes, the console and the free frames, where the open files of others are on what they
+-- were on, or are those that somebody still names; p kills q; p takes the zombie q; p forks; p goes. A tick, a key and a byte that is sent leave what anybody waits for
+abbrev pub WaitsStay : Type 0
+WaitsStay =
+    (frames : ℕ) (s : State) (p : ℕ) (l : Live) → WellFormed frames s → get s.processes p ≡ Some (Alive l)
+    → ((m : Live) (files : FinMap nat_cmp OpenFile) (pipes : FinMap nat_cmp Pipe) (console : Console) (free : ℕ)
+    → KeepsTargets s p files ⊎ FilesLeft s (changed_state p m files pipes console free s) → OthersWaitOn s p (changed_state p m files pipes console free s))
+    × ((m : Live) (q : ℕ) → OthersWaitOn s p (kill_state p m q s))
+    × ((m : Live) (q : ℕ) → OthersWaitOn s p (waited_state p m q s))
+    × OthersWaitOn s p (forked_state p l s)
+    × ((status : ℤ) (files : FinMap nat_cmp OpenFile) → FilesLeft s (gone_state p l status files s) → OthersWaitOn s p (gone_state p l status files s))
+    × ((clock : ℕ) (console : Console) (q : ℕ) (m : Live) → waits_for (record s { clock = clock; console = console }) q m ≡ waits_for s q m)
 
 -- ---- waking by conditions is waking where it is due
 

@@ -12,7 +12,7 @@ use Rattle.file_table.specs.OpenFiles.{file_at}
 use Rattle.proc_table.specs.Processes.{status_of, is_marked, call_of, newborn}
 use Rattle.proc_table.specs.Slots.{place_at, descriptors_at, IsTable}
 use Rattle.proc_table.specs.declared.process.Process.{Process}
-use Rattle.kcall_core.specs.Words.{is_this}
+use Rattle.kcall_core.specs.Words.{is_this, or_zero}
 use Rattle.kcall_core.specs.Buffers.{grown, shrunk}
 use Rattle.kcall_core.specs.Processes as meaning
 use Rattle.kcall_core.specs.Processes.{Live, Alive, Zombie}
@@ -30,6 +30,7 @@ use Rattle.kcall_core.specs.declared.kernel.Kernel.{Kernel}
 abbrev pub descriptor_map : List (Option ℕ) → FinMap nat_cmp ℕ
 descriptor_map descriptors = gathered (λ d. get_or descriptors d None) NOFILE
 
+-- a live process: what the table keeps of it, with its descriptors, its memory and its registers
 abbrev pub live_of : Process → List (Option ℕ) → Held → Registers → Live
 live_of p descriptors held regs = record {
   regs = regs;
@@ -62,6 +63,7 @@ entry_of k h slot (Some p) = Some (p.pid, process_of p (descriptors_at k.table s
 abbrev pub entry_at : Kernel → Hart → ℕ → Option (ℕ × meaning.Process)
 entry_at k h slot = entry_of k h slot (place_at k.table slot)
 
+-- the state that the kernel's fields stand for, with the hart's registers as those of the process that runs
 unfoldable pub state_of : Kernel → Hart → State
 state_of k h = record {
   processes = by_pid (entry_at k h) NPROC;
@@ -88,25 +90,24 @@ IsRunning k = IsSome k.current
 abbrev pub IsStopped : Kernel → Type 0
 IsStopped k = k.current ≡ None
 
-abbrev pub or_zero : Option ℕ → ℕ
-or_zero None = 0
-or_zero (Some slot) = slot
-
 -- the process in a place that has one
 abbrev pub or_nobody : Option Process → Process
 or_nobody None = newborn 0 None
 or_nobody (Some p) = p
 
--- its slot, its place in the table, its pid, and what it is
+-- its slot
 abbrev pub slot_now : Kernel → ℕ
 slot_now k = or_zero k.current
 
+-- its place in the table
 abbrev pub place_now : Kernel → Process
 place_now k = or_nobody (place_at k.table (slot_now k))
 
+-- its pid
 abbrev pub pid_now : Kernel → ℕ
 pid_now k = (place_now k).pid
 
+-- and what it is
 abbrev pub live_now : Kernel → Hart → Live
 live_now k h = live_of (place_now k) (descriptors_at k.table (slot_now k)) (held_at (each_of k.memories) (slot_now k)) h.regs
 

@@ -17,6 +17,7 @@ use Rattle.hart_core.specs.Translations.{Fits}
 use Rattle.hart_core.specs.UserMemory.{user, write_image}
 use Rattle.hart_core.specs.declared.hart.Hart.{Hart}
 use Rattle.pipe_core.specs.Pipe.{Pipe, IsPipe, pipe_in}
+use Rattle.kcall_core.specs.Words.{count_if}
 use Rattle.kcall_core.specs.Holdings.{Held, held_at, with_image, cost, pipe_cost, with_pipe}
 use Rattle.kcall_core.specs.declared.memories.Memory.{Memory}
 use Rattle.kcall_core.specs.declared.memories.Memories.{Memories}
@@ -63,10 +64,6 @@ joined (xs ∷ rest) = xs ++ joined rest
 -- the frames of all processes
 abbrev pub process_frames : List (List ℕ) → List (Option Memory) → List ℕ
 process_frames ram each = joined (map (frames_of ram) each)
-
--- 1 where it is so
-abbrev pub count_if : Bool → ℕ
-count_if b = cond b 1 0
 
 -- how many owners and roles frame f has: free, a place in the memory of a process, a pipe
 abbrev pub owners : Pool → List (List ℕ) → List (Option Memory) → List Bool → ℕ → ℕ

@@ -39,9 +39,9 @@ abbrev pub child_at : State → ℕ → ℕ → Option Child
 child_at s p q = if_live (live s p) (child_of p (get s.processes q))
 
 -- a child, by the status with which it ended
-abbrev pub seen : Option ℤ → Child
-seen None = meaning.Running
-seen (Some status) = meaning.Status status
+abbrev pub child_seen : Option ℤ → Child
+child_seen None = meaning.Running
+child_seen (Some status) = meaning.Status status
 
 abbrev pub shown : ChildState → Child
 shown Running = meaning.Running

@@ -22,6 +22,11 @@ pub data Process : Type 0 where
   Alive : Live → Process
   Zombie : (parent : Option ℕ) (status : ℤ) → Process
 
+-- the process that may wait for it
+abbrev pub parent_of : Process → Option ℕ
+parent_of (Alive l) = l.parent
+parent_of (Zombie parent status) = parent
+
 -- what a parent sees of a child
 pub data Child : Type 0 where
   Running : Child

@@ -38,6 +38,15 @@ pipe_of_file s (Some file) = pipe_of_open (get s.files file)
 abbrev pub pipe_at : State → ℕ → ℕ → Option ℕ
 pipe_at s p d = pipe_of_file s (file_at s p d)
 
+abbrev pub target_of_open : Option OpenFile → Option Target
+target_of_open None = None
+target_of_open (Some f) = Some f.target
+
+-- what the open file that a descriptor names is on
+abbrev pub end_of : State → Option ℕ → Option Target
+end_of s None = None
+end_of s (Some file) = target_of_open (get s.files file)
+
 -- another process than p names the open file, is on the pipe
 abbrev pub OtherNames : State → ℕ → ℕ → Type 0
 OtherNames s p f = (q : ℕ) × (d : ℕ) × (q ≢ p) × (file_at s q d ≡ Some f)

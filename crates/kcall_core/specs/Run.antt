@@ -1,5 +1,5 @@
 -- Runs of the machine: lists of events, with what each gives, that lead from one state to another.
-use Rattle.std.specs.Prelude.{◌≡◌, ◌≢◌, ℕ, zero, suc, ℤ, ◌+◌, ◌%◌, ◌⊎◌, Bool, true, false, cond, List, [], ◌∷◌, ◌++◌, map, replicate, drop, Option, None, Some, IsSome, MatchOption, flat_map, nat_eq, Contains}
+use Rattle.std.specs.Prelude.{◌≡◌, ◌≢◌, ℕ, zero, suc, ℤ, ◌+◌, ◌%◌, ◌⊎◌, Bool, true, false, cond, List, [], ◌∷◌, ◌++◌, map, replicate, drop, Option, None, Some, IsSome, is_some, MatchOption, flat_map, nat_eq, Contains}
 use Rattle.std.specs.FinMap.{get, keys}
 use Rattle.std.specs.List.{list_any}
 use Rattle.xk_base.specs.declared.limits.TheConstants.{SEND_BYTES}
@@ -13,11 +13,12 @@ use Rattle.kcall_core.specs.Own.{Own, Left, Answer, Stepped, Called, Blocked, Ex
 use Rattle.kcall_core.specs.Step.{own}
 use Rattle.kcall_core.specs.Quiet.{file_at, pipe_at, Quiet}
 
--- what a machine stands for, but for its trace
+-- what a machine stands for: the state of its kernel, and whose turn it is
 pub record World : Type 0 where
   pub state : State
   pub turns : Turns
 
+-- what happens to a machine
 pub data Event : Type 0 where
   -- one step of the current process, or a turn
   Run : Event
@@ -28,13 +29,20 @@ pub data Event : Type 0 where
   -- the terminal can take a byte
   Send : Event
 
+-- what the machine answers
 pub data Outcome : Type 0 where
+  -- this process made a step, with this answer
   Step_of : (pid : ℕ) → Answer → Outcome
+  -- it has the turn now
   Turn : (pid : ℕ) → Outcome
+  -- no process may run
   Idle : Outcome
   Ticked : Outcome
+  -- what the console showed for the key
   Typed : (echo : List ℕ) → Outcome
+  -- the byte that left, if there was one
   Sent : Option ℕ → Outcome
+  -- pid 1 has gone
   Halted : Outcome
 
 -- ---- the turn part
@@ -47,6 +55,7 @@ OnlyWake before after = (p : ℕ) → Sleeps after p → Sleeps before p
 abbrev pub IsButWoken : Turns → Turns → Type 0
 IsButWoken turns after = (after ≡ record turns { sleepers = after.sleepers }) × OnlyWake turns after
 
+-- who runs after this answer of process p: p, unless it waits or is gone
 abbrev pub stays_current : ℕ → Answer → Option ℕ
 stays_current p Stepped = Some p
 stays_current p (Called number value) = Some p
@@ -54,8 +63,19 @@ stays_current p (Blocked number) = None
 stays_current p (Exited status) = None
 stays_current p (Faulted cause) = None
 
-abbrev pub halts_with : ℕ → Answer → Option ℤ
-halts_with p answer = cond (nat_eq p 1) (gone_with answer) None
+-- this status, where p is process 1
+abbrev pub of_first : (p : ℕ) → Option ℤ → Option ℤ
+of_first p None = None
+of_first p (Some status) = cond (nat_eq p 1) (Some status) None
+
+-- the status with which the machine is halted by a step of p that answers so
+abbrev pub halts_with : (p : ℕ) → Answer → Option ℤ
+halts_with p answer = of_first p (gone_with answer)
+
+-- the status with which process 1 goes, where it does
+abbrev pub halted_by : Outcome → Option ℤ
+halted_by (Step_of p answer) = halts_with p answer
+halted_by _ = None
 
 abbrev pub IsBlocked : Answer → Type 0
 IsBlocked answer = (number : ℤ) × (answer ≡ Blocked number)
@@ -84,6 +104,7 @@ pub record IsLeft (left : Left) (s t : State) : Type 0 where
 
 -- ---- which open file each descriptor names
 
+-- The open files and pipes that descriptors name after a step of p, which comes to o, by the kernel's own numbers
 pub record FilesAfter (s : State) (p : ℕ) (o : Own) (t : State) : Type 0 where
   -- a descriptor that stays in use names the same open file, on the same pipe
   pub same_file : (q d f g : ℕ) → file_at s q d ≡ Some f → file_at t q d ≡ Some g → f ≡ g
@@ -185,7 +206,7 @@ bytes_out _ = []
 abbrev pub out : List (Event × Outcome) → List ℕ
 out es = flat_map (λ e. bytes_out e.1) es
 
--- ---- the rounds of `drive`
+-- ---- the rounds that a driver plays
 
 abbrev pub key_events : List ℕ → List Event
 key_events [] = []
@@ -195,12 +216,6 @@ key_events (b ∷ bs) = Key b ∷ []
 abbrev pub round : (quantum : ℕ) → (keys : List ℕ) → List Event
 round quantum keys = key_events keys ++ replicate quantum Run ++ Tick ∷ replicate SEND_BYTES Send
 
--- pid 1 goes
-abbrev pub halts : Outcome → Bool
-halts (Step_of pid (Exited status)) = nat_eq pid 1
-halts (Step_of pid (Faulted cause)) = nat_eq pid 1
-halts _ = false
-
 -- whole rounds, none of which begins on a halted machine or past the number of rounds, up to where none may begin
 abbrev pub Planned : (rounds quantum : ℕ) (keys : List ℕ) (halted : Bool) → List (Event × Outcome) → Type 0
 Planned rounds quantum keys true list = list ≡ []
@@ -208,4 +223,4 @@ Planned zero quantum keys false list = list ≡ []
 Planned (suc rounds) quantum keys false list =
     (now : List (Event × Outcome)) × (later : List (Event × Outcome)) × (list ≡ now ++ later)
     × (map (λ e. e.0) now ≡ round quantum keys)
-    × Planned rounds quantum (drop 1 keys) (list_any (λ e. halts e.1) now) later
+    × Planned rounds quantum (drop 1 keys) (list_any (λ e. is_some (halted_by e.1)) now) later

@@ -22,8 +22,9 @@ use Rattle.proc_table.specs.declared.process.Call.{Call}
 use Rattle.kcall_core.specs.Words.{SP, A1, is_this, word}
 use Rattle.kcall_core.specs.PipeEnds.{joined, parted, is_given_up}
 use Rattle.kcall_core.specs.Calls.{with_a0}
-use Rattle.kcall_core.specs.Processes.{Process, Live, Alive, Zombie}
+use Rattle.kcall_core.specs.Processes.{Process, Live, Alive, Zombie, parent_of}
 use Rattle.kcall_core.specs.State.{State}
+use Rattle.kcall_core.specs.Quiet.{end_of}
 
 -- process p, which is live, is now this
 abbrev pub set_live : ℕ → Live → State → State
@@ -60,10 +61,6 @@ abbrev pub marked : Process → Process
 marked (Alive l) = Alive (record l { killed = true })
 marked (Zombie parent status) = Zombie parent status
 
-abbrev pub parent_of : Process → Option ℕ
-parent_of (Alive l) = l.parent
-parent_of (Zombie parent status) = parent
-
 abbrev pub given_to : ℕ → Process → Process
 given_to p (Alive l) = Alive (record l { parent = Some p })
 given_to p (Zombie parent status) = Zombie (Some p) status
@@ -86,15 +83,6 @@ abbrev pub end_process : ℕ → Option ℕ → ℤ → State → State
 end_process p parent status s = record s { processes = insert s.processes p (Zombie parent status) }
 
 -- ---- the counts of a pipe
-
-abbrev pub target_of_open : Option OpenFile → Option Target
-target_of_open None = None
-target_of_open (Some f) = Some f.target
-
--- what a descriptor's open file is
-abbrev pub end_of : State → Option ℕ → Option Target
-end_of s None = None
-end_of s (Some file) = target_of_open (get s.files file)
 
 -- one descriptor more on the open file with this target: the pipes after it
 abbrev pub more_at : ℕ → End → FinMap nat_cmp Pipe → Option Pipe → FinMap nat_cmp Pipe

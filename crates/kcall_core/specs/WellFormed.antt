@@ -9,12 +9,11 @@ use Rattle.file_table.specs.declared.open_file.End.TheVariants.{Reading, Writing
 use Rattle.file_table.specs.declared.open_file.OpenFile.{OpenFile}
 use Rattle.file_table.specs.declared.open_file.Target.TheVariants.{Pipe as Pipe_end}
 use Rattle.kcall_core.specs.PipeEnds.{is_given_up}
-use Rattle.kcall_core.specs.Processes.{Process, Alive, Zombie}
+use Rattle.kcall_core.specs.Processes.{Process, Alive, Zombie, parent_of}
 use Rattle.kcall_core.specs.State.{State, live}
 use Rattle.kcall_core.specs.View.{numbered}
 use Rattle.kcall_core.specs.Tables.{ends}
 use Rattle.kcall_core.specs.Quiet.{file_at}
-use Rattle.kcall_core.specs.Updates.{parent_of}
 use Rattle.kcall_core.specs.Turns.{Turns, HasSlot, Sleeps}
 
 -- f 0 + f 1 + .. + f (n - 1)

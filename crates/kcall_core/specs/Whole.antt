@@ -12,6 +12,7 @@ use Rattle.proc_table.specs.Slots.{Slots, Holds, place_at, place_is_live, descri
 use Rattle.proc_table.specs.declared.channel.Channel.{Channel}
 use Rattle.proc_table.specs.declared.channel.Channel.TheVariants as on
 use Rattle.proc_table.specs.declared.process.Process.{Process}
+use Rattle.kcall_core.specs.Words.{or_zero}
 use Rattle.kcall_core.specs.Words.{is_this}
 use Rattle.kcall_core.specs.Processes.{Live}
 use Rattle.kcall_core.specs.State.{live}
@@ -32,13 +33,9 @@ named_in descriptors file = count_below (λ d. is_this file (named_by descriptor
 abbrev pub namings : Slots → ℕ → ℕ
 namings t file = sum_below NPROC (λ slot. named_in (descriptors_at t slot) file)
 
-abbrev pub or_none : Option ℕ → ℕ
-or_none None = 0
-or_none (Some count) = count
-
 -- each open file counts the descriptors that name it, and only live processes have descriptors in use
 pub record AreCounted (files : List (Option Entry)) (t : Slots) : Type 0 where
-  pub counts : (file : ℕ) → or_none (count_at files file) ≡ namings t file
+  pub counts : (file : ℕ) → or_zero (count_at files file) ≡ namings t file
   pub lists : (slot : ℕ) → slot < NPROC → length (descriptors_at t slot) ≡ NOFILE
   pub closed : (slot : ℕ) → place_is_live (place_at t slot) ≡ false → descriptors_at t slot ≡ none_named
 

@@ -37,6 +37,15 @@ minus_one = negsuc 0
 abbrev pub CLOCK_ROUND : ℕ
 CLOCK_ROUND = 2 ^ 32
 
+-- the number, and 0 where there is none
+abbrev pub or_zero : Option ℕ → ℕ
+or_zero None = 0
+or_zero (Some number) = number
+
+-- 1 where it is so
+abbrev pub count_if : Bool → ℕ
+count_if b = cond b 1 0
+
 -- ---- functions of numbers
 
 -- whether each number below n passes a test

@@ -154,7 +154,7 @@ HaltedStays = (w t : World) (e : Event) (o : Outcome) → Happens w e o t → Is
 abbrev pub IsNewPage : View → View → ℕ → Page → Type 0
 IsNewPage v n page x = (get v.image.pages page ≡ None) × (get n.image.pages page ≡ Some x)
 
--- The call c was an exec that is done: the image is what the program that its path names makes of the texts that it was given
+-- The call c is exec, and the image is what the program that its path names makes of the texts that it was given
 abbrev pub IsExecOf : Call → View → Own → Image → Type 0
 IsExecOf c v o image =
     (path : List ℕ) × (texts : List (List ℕ)) × (p : ProgramFile) × (l : Loaded)
@@ -162,16 +162,22 @@ IsExecOf c v o image =
     × (program_named (no_slashes path) v.programs ≡ Some p) × (texts_at MAXARG ARG_BYTES v.image c.a1 ≡ Some texts)
     × (loaded p.bytes texts ≡ Ok l) × (image ≡ l.image) × (o.answer ≡ Called c.number (pos l.argc))
 
--- the step's own call was such an exec
+-- the call that the step is on, one in progress or one that an ECALL begins, is such an exec
 abbrev pub HasExeced : View → Own → Image → Type 0
 HasExeced v o image = IsExecOf (call_in v) v o image
 
 abbrev pub NewPagesAreZeros : View → View → Type 0
 NewPagesAreZeros v n = (page : ℕ) (x : Page) → IsNewPage v n page x → x.bytes ≡ replicate 4096 0
 
--- After an exec the image is that of the program that was named, with the texts that were given; else each new page is zeros
+-- the call c was an exec that succeeded
+abbrev pub IsExecDone : Call → Own → Type 0
+IsExecDone c o = (k : ℕ) × (row_of c.number ≡ Some Exec) × (o.answer ≡ Called c.number (pos k))
+
+-- After an exec that succeeded the image is that of the program that was named, with the texts that were given; after any other step each new page holds zeros
 abbrev pub NoOldPage : Type 0
-NoOldPage = (v n : View) → (own v).next ≡ Some n → HasExeced v (own v) n.image ⊎ NewPagesAreZeros v n
+NoOldPage =
+    (v n : View) → (own v).next ≡ Some n
+    → (IsExecDone (call_in v) (own v) → HasExeced v (own v) n.image) × (¬ IsExecDone (call_in v) (own v) → NewPagesAreZeros v n)
 
 -- a pipe of the next view that no descriptor of the former was on
 abbrev pub IsNewPipe : View → View → Pipe → Type 0

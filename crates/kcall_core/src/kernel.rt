@@ -33,10 +33,12 @@ mod going;
 mod growth;
 mod observers;
 mod program_list;
+mod registers;
 mod starting;
 #[cfg(test)]
 mod tests;
 
+use crate::kernel::registers::FIRST_ARGUMENT;
 use crate::memories::Memories;
 use console_core::Console;
 use file_table::Files;
@@ -64,12 +66,12 @@ pub struct Kernel {
 fn put_answer(hart: &mut Hart, value: u64)
     ensures { hart.new ≡ record hart.old { regs = with_a0 hart.old.regs value } }
 {
-    hart.regs_mut().write(Reg::new(10), value);
+    hart.regs_mut().write(Reg::new(FIRST_ARGUMENT), value);
 }
 
 impl Kernel {
-    /// One instruction of the process that runs. Where it isn't done, since it is an ECALL or can't be,
-    /// nothing that can be seen is another.
+    /// One instruction of the process that runs. Where it is an ECALL or faults, nothing that can be seen
+    /// is another.
     #[inline(always)]
     pub fn step(&mut self, hart: &mut Hart) -> Stop
         requires whole { IsWhole self.old hart.old }

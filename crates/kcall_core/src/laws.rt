@@ -12,7 +12,7 @@
 //!   [`blocks_unready`], [`unready_waits`], [`wakes_enough`], [`conditions_suffice`], [`ready_is_open`].
 //! - What each update may make come: [`opens_alone`], [`opens_nothing`], [`opens_pipe`],
 //!   [`opens_marked`], [`opens_reaped`], [`opens_forked`], [`opens_gone`], [`opens_tick`],
-//!   [`opens_console`].
+//!   [`opens_console`]. What none changes: [`waits_stay`].
 //! - What a step begins with: [`instruction`], [`ecall`], [`resume`], [`end`].
 //! - What each row does to the state: [`answer`], [`waiting`], [`exec`], [`fork`], [`gone`],
 //!   [`reap`], [`kill`], [`pipe_read`], [`pipe_write`], [`file_read`], [`open`], [`pipe`],
@@ -21,7 +21,7 @@
 //!   [`well_piped`], [`well_moved`], [`well_marked`], [`writes_take_nothing`],
 //!   [`stores_take_nothing`], [`well_opened`], [`well_dup`], [`well_dup_pipe`], [`well_closed`],
 //!   [`well_closed_pipe`], [`well_made_pipe`], [`first_well`], [`well_outside`].
-ghost use Rattle.kcall_core.specs.Conditions.{WakesSuffice, ConditionsSuffice, ReadyIsOpen, OpensAlone, OpensNothing, OpensPipe, OpensMarked, OpensReaped, OpensForked, OpensGone, OpensTick, OpensConsole};
+ghost use Rattle.kcall_core.specs.Conditions.{WakesSuffice, ConditionsSuffice, ReadyIsOpen, OpensAlone, OpensNothing, OpensPipe, OpensMarked, OpensReaped, OpensForked, OpensGone, OpensTick, OpensConsole, WaitsStay};
 ghost use Rattle.kcall_core.specs.First.{FirstWell, FirstSlots};
 ghost use Rattle.kcall_core.specs.RowLaws.{InstructionLaw, EcallLaw, ResumeLaw, EndLaw, AnswerLaw, WaitingLaw, ExecLaw, ForkLaw, GoneLaw, ReapLaw, KillLaw, PipeReadLaw, PipeWriteLaw, FileReadLaw, OpenLaw, PipeLaw, DupLaw, DupPipeLaw, CloseLaw, ClosePipeLaw, WellForked, WellGone, WellReaped, WellAlone, WellPiped, WellMoved, WellMarked, WritesTakeNothing, StoresTakeNothing, WellOpened, WellDup, WellDupPipe, WellClosed, WellClosedPipe, WellMadePipe, WellOutside};
 ghost use Rattle.kcall_core.specs.Wakes.{NoLostWakeUp, NeverLost, StaysRunnable, SlotsStay, WaitsAtMost, TurnComes, ComesNearer, IsNear, BlocksUnready};
@@ -59,7 +59,7 @@ pub fn halted_stays()
     ensures { HaltedStays }
 {}
 
-/// After an exec the image is the program's; after any other step each new page holds zeros.
+/// After an exec that succeeded the image is that of the program that it named; after any other step each new page holds zeros.
 pub fn no_old_page()
     ensures { NoOldPage }
 {}
@@ -188,6 +188,12 @@ pub fn opens_tick()
 /// A key, or a byte that is sent: only what the console gives.
 pub fn opens_console()
     ensures { OpensConsole }
+{}
+
+/// After each of these updates everybody but the process that stepped waits for what it waited for, and is
+/// marked where it was.
+pub fn waits_stay()
+    ensures { WaitsStay }
 {}
 
 /// An instruction that is done.

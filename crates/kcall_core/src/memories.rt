@@ -229,7 +229,7 @@ impl Memories {
             return None;
         }
         let vpn = Vpn::new((va / 4096) as u32);
-        let Some(_) = memory.space.perm(&self.ram, vpn) else {
+        let Some(_perm) = memory.space.perm(&self.ram, vpn) else {
             return None;
         };
         let mut byte = [0];

@@ -38,7 +38,7 @@ pub const PIPE_BYTES: usize = 512;
 /// Bytes of a path, with its zero byte.
 pub const MAXPATH: usize = 128;
 
-/// Argument texts of a program.
+/// Argument texts of a program: xv6's `MAXARG` is 32, since it counts the null pointer behind them too.
 pub const MAXARG: usize = 31;
 
 /// Bytes of all argument texts together, with their zero bytes.

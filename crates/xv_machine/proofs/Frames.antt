@@ -21,6 +21,7 @@ use Rattle.hart_core.specs.declared.hart.Hart.{Hart}
 use Rattle.proc_table.specs.Processes.{status_of}
 use Rattle.proc_table.specs.Slots.{place_at, slot_of, descriptors_at}
 use Rattle.proc_table.specs.declared.process.Process.{Process}
+use Rattle.kcall_core.specs.Words.{count_if}
 use Rattle.kcall_core.specs.ByPid.{by_pid}
 use Rattle.kcall_core.specs.Processes.{Live}
 use Rattle.kcall_core.specs.State.{live}
@@ -42,7 +43,7 @@ use Rattle.kcall_core.proofs.Turned.{has-slots}
 use Rattle.xv_machine.specs.Machine.{owned_by, owned_entry, owned_at, frames_in}
 use Rattle.xv_machine.specs.Meaning.{Owned}
 use Rattle.xv_machine.specs.Sound as machine
-use Rattle.xv_machine.specs.Sound.{frames_of, count_if, uses, FitsImage, HasFrames, IsHalted}
+use Rattle.xv_machine.specs.Sound.{frames_of, uses, FitsImage, HasFrames, IsHalted}
 use Rattle.xv_machine.proofs.Counted.{gathered-counted}
 use Rattle.xv_machine.proofs.Fitting.{fits-image}
 use Rattle.xv_machine.proofs.Owned.{joined-sum, by_pid-sum}

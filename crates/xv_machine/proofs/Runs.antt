@@ -4,14 +4,13 @@ use Rattle.std.specs.Prelude.{ℤ, IsSome, is_some, option_map}
 use Rattle.std.proofs.lemmas.Bool.Decides.{eqb_tells}
 use Rattle.hart_core.specs.declared.hart.Hart.{Hart}
 use Rattle.std.specs.FinMap.{get}
-use Rattle.kcall_core.specs.Processes.{Process, Alive, Zombie}
-use Rattle.kcall_core.specs.Updates.{parent_of}
+use Rattle.kcall_core.specs.Processes.{Process, Alive, Zombie, parent_of}
 use Rattle.kcall_core.specs.State.{State, live}
 use Rattle.kcall_core.specs.View.{view, view_of}
 use Rattle.kcall_core.specs.Own.{Answer, Stepped, Called, Blocked, Exited, Faulted, gone_with}
 use Rattle.kcall_core.specs.Built.{own_so_far}
 use Rattle.kcall_core.specs.Run as runs
-use Rattle.kcall_core.specs.Run.{World, Step_of, TurnTaken, halts_with, stays_current}
+use Rattle.kcall_core.specs.Run.{World, Step_of, TurnTaken, of_first, halts_with, stays_current}
 use Rattle.kcall_core.specs.Wakes.{IsRunnable, IsNearest}
 use Rattle.kcall_core.specs.Kernel.{state_of, IsRunning, pid_now, live_now}
 use Rattle.kcall_core.specs.Machine.{turns_of, world_of}
@@ -52,26 +51,18 @@ gone-stops p (Faulted cause) status e = refl
 
 -- ---- a step
 
-same-step : (p q : ℕ) (a b : Answer) → Step_of p a ≡ Step_of q b → (p ≡ q) × (a ≡ b)
-same-step p q a b e = let x : p ≡ q = cc in let y : a ≡ b = cc in (x, y)
-
-goes-on : (p : ℕ) (a b : Answer) → a ≡ b → gone_with a ≡ None → None ≡ halts_with p b
-goes-on p a b same none = sym (ap (λ o. cond (nat_eq p 1) o None) (sym (ap gone_with same) ∙ none) ∙ neither (nat_eq p 1))
-  where
-    neither : (t : Bool) → cond {A = Option ℤ} t None None ≡ None
-    neither true = refl
-    neither false = refl
-
 -- the status that the machine keeps is that with which process 1 went
 pub halts-as : (outcome : Outcome) (p : ℕ) (a : Answer) → outcome_of outcome ≡ Step_of p a → halted_by outcome ≡ halts_with p a
-halts-as (outcomes.Stepped q) p a e = goes-on p Stepped a (same-step q p Stepped a e).1 refl
-halts-as (outcomes.Called q number value) p a e = goes-on p (Called number value) a (same-step q p (Called number value) a e).1 refl
-halts-as (outcomes.Blocked q number) p a e = goes-on p (Blocked number) a (same-step q p (Blocked number) a e).1 refl
-halts-as (outcomes.Exited q status) p a e = let s = same-step q p (Exited status) a e in λ i. halts_with (s.0 i) (s.1 i)
-halts-as (outcomes.Faulted q cause) p a e = let s = same-step q p (Faulted cause) a e in λ i. halts_with (s.0 i) (s.1 i)
-halts-as (outcomes.Turn q) p a e = let no : ⊥ = cc in absurd no
-halts-as outcomes.Idle p a e = let no : ⊥ = cc in absurd no
-halts-as outcomes.Halted p a e = let no : ⊥ = cc in absurd no
+halts-as outcome p a e = ap runs.halted_by e
+
+-- whether p is process 1
+first-is : (p : ℕ) (o : Option ℤ) → nat_eq p 1 ≡ true → of_first p o ≡ o
+first-is p None e = refl
+first-is p (Some status) e = ap (λ b. cond b (Some status) None) e
+
+first-not : (p : ℕ) (o : Option ℤ) → nat_eq p 1 ≡ false → of_first p o ≡ None
+first-not p None e = refl
+first-not p (Some status) e = ap (λ b. cond b (Some status) None) e
 
 -- process 1 has no parent
 first-parent : (k : Kernel) (h : Hart) → IsWhole k h → IsRunning k → pid_now k ≡ 1 → (live_now k h).parent ≡ None
@@ -103,8 +94,8 @@ module _ (k k' : Kernel) (h h' : Hart) (whole : IsWhole k h) (runs : IsRunning k
 
   pub halts-after : let status = halts_with (pid_now k) (own_so_far (view_now k h)).answer in IsHalted (state_of k' h') (turns_of k' status) status
   halts-after = elim (eqb_tells (pid_now k) 1) [
-    | inl is ↦ subst (λ o. IsHalted (state_of k' h') (turns_of k' o) o) (sym (ap (λ b. cond b (gone_with (own_so_far (view_now k h)).answer) None) is.0)) (first-halts is.1 (gone_with (own_so_far (view_now k h)).answer) refl)
-    | inr other ↦ subst (λ o. IsHalted (state_of k' h') (turns_of k' o) o) (sym (ap (λ b. cond b (gone_with (own_so_far (view_now k h)).answer) None) other.0)) (other-halts other.1)
+    | inl is ↦ subst (λ o. IsHalted (state_of k' h') (turns_of k' o) o) (sym (first-is (pid_now k) (gone_with (own_so_far (view_now k h)).answer) is.0)) (first-halts is.1 (gone_with (own_so_far (view_now k h)).answer) refl)
+    | inr other ↦ subst (λ o. IsHalted (state_of k' h') (turns_of k' o) o) (sym (first-not (pid_now k) (gone_with (own_so_far (view_now k h)).answer) other.0)) (other-halts other.1)
   ]
 
 -- who runs, runs on a machine that isn't halted

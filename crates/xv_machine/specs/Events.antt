@@ -1,6 +1,5 @@
 -- The events and the outcomes of the machine, in the words of runs.
-use Rattle.std.specs.Prelude.{ℤ, cond, nat_eq, Option, None, Some}
-use Rattle.kcall_core.specs.Words.{minus_one}
+use Rattle.std.specs.Prelude.{ℤ, Option}
 use Rattle.kcall_core.specs.Own as answers
 use Rattle.kcall_core.specs.Run as runs
 use Rattle.xv_machine.specs.declared.event.Event.{Event}
@@ -23,6 +22,4 @@ outcome_of Halted = runs.Halted
 
 -- the status with which process 1 goes, where it does
 abbrev pub halted_by : Outcome → Option ℤ
-halted_by (Exited pid status) = cond (nat_eq pid 1) (Some status) None
-halted_by (Faulted pid cause) = cond (nat_eq pid 1) (Some minus_one) None
-halted_by _ = None
+halted_by outcome = runs.halted_by (outcome_of outcome)

@@ -1,8 +1,9 @@
 -- What is true of a machine after boot and after each event. Each frame of RAM is free, or has exactly one owner, who has it for one thing.
-use Rattle.std.specs.Prelude.{◌≡◌, ℕ, ℤ, ◌+◌, ◌*◌, ◌^◌, ◌<◌, ◌≤◌, Bool, cond, List, [], ◌∷◌, ◌++◌, length, Option, Some, None, IsSome, is_some}
+use Rattle.std.specs.Prelude.{◌≡◌, ℕ, ℤ, ◌+◌, ◌*◌, ◌^◌, ◌<◌, ◌≤◌, Bool, List, [], ◌∷◌, ◌++◌, length, Option, Some, None, IsSome, is_some}
 use Rattle.std.specs.FinMap.{get, len, values}
 use Rattle.xk_base.specs.Frames.{copies}
 use Rattle.xk_base.specs.Image.{Image, some_below, price}
+use Rattle.kcall_core.specs.Words.{count_if}
 use Rattle.kcall_core.specs.Processes.{Live, Zombie}
 use Rattle.kcall_core.specs.State.{State, live}
 use Rattle.kcall_core.specs.Turns.{Turns}
@@ -16,10 +17,6 @@ use Rattle.xv_machine.specs.Meaning.{Owned, Frames, Meaning}
 abbrev pub frames_of : Option Owned → List ℕ
 frames_of None = []
 frames_of (Some o) = o.trapframe ∷ (o.root ∷ (values o.uppers ++ (values o.lowers ++ values o.pages)))
-
--- 1 where it is so
-abbrev pub count_if : Bool → ℕ
-count_if b = cond b 1 0
 
 -- how many owners and uses frame f has: it is free, a process has it for something, a pipe lies in it
 abbrev pub uses : State → Frames → ℕ → ℕ

@@ -5,7 +5,7 @@ use Rattle.kcall_core.specs.View.{View, view}
 use Rattle.kcall_core.specs.Own.{Called}
 use Rattle.kcall_core.specs.Step.{call_in}
 use Rattle.kcall_core.specs.Built.{is_unbuilt, own_so_far}
-use Rattle.kcall_core.specs.Run.{World, Event, Outcome, Step_of, StateAfter, TurnsAfter}
+use Rattle.kcall_core.specs.Run.{World, Event, Run, Outcome, Step_of, StateAfter, TurnsAfter}
 use Rattle.kcall_core.specs.Wakes.{WakesWhereDue, Promised}
 
 abbrev pub if_seen : Option View → Bool
@@ -17,11 +17,12 @@ abbrev pub step_is_unbuilt : World → Option ℕ → Bool
 step_is_unbuilt w None = false
 step_is_unbuilt w (Some p) = if_seen (view w.state p)
 
--- the next step of the process that runs is on a call that isn't built
-abbrev pub meets_unbuilt : World → Bool
-meets_unbuilt w = step_is_unbuilt w w.turns.current
+-- the event is a step of the process that runs, on a call that isn't built
+abbrev pub meets_unbuilt : World → Event → Bool
+meets_unbuilt w Run = step_is_unbuilt w w.turns.current
+meets_unbuilt w _ = false
 
--- process p makes that step
+-- process p makes that step, which answers -1
 pub record Refuses (w : World) (p : ℕ) (outcome : Outcome) (t : World) : Type 0 where
   pub before : View
   pub was : view w.state p ≡ Some before
@@ -40,4 +41,4 @@ PromisedUnless false w e outcome t = Promised w e outcome t
 PromisedUnless true w e outcome t = RefusesNow w w.turns.current outcome t
 
 abbrev pub PromisedSoFar : World → Event → Outcome → World → Type 0
-PromisedSoFar w e outcome t = PromisedUnless (meets_unbuilt w) w e outcome t
+PromisedSoFar w e outcome t = PromisedUnless (meets_unbuilt w e) w e outcome t

@@ -1,5 +1,7 @@
 //! What a run prints, and how it ends early.
 mod calls;
+mod files;
+mod scene;
 
 use crate::failure::Failure;
 use crate::input::{built_in, program_of};

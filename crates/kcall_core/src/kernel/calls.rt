@@ -23,21 +23,22 @@ ghost use Rattle.kcall_core.specs.Makes.{Makes, view_now, answer_of};
 ghost use Rattle.kcall_core.specs.declared.call_end.CallEnd.TheVariants.{Done};
 
 use crate::call_end::CallEnd;
+use crate::kernel::registers::{CALL_NUMBER, FIRST_ARGUMENT, SECOND_ARGUMENT, THIRD_ARGUMENT};
 use crate::kernel::{Kernel, put_answer};
 use hart_core::Hart;
 use proc_table::Call;
 use xk_base::Reg;
 
-/// The numbers of the calls, from here on (xv6's `syscall.h`): exit,
+/// The number of the call exit (xv6's `syscall.h`, as for the others).
 const EXIT: i32 = 2;
 
-/// exec,
+/// The number of the call exec.
 const EXEC: i32 = 7;
 
-/// getpid,
+/// The number of the call getpid.
 const GETPID: i32 = 11;
 
-/// and sbrk.
+/// The number of the call sbrk.
 const SBRK: i32 = 12;
 
 /// A hart goes past its ECALL.
@@ -61,10 +62,10 @@ fn asked_call(hart: &Hart, clock: u32) -> Call
 {
     let regs = hart.regs();
     Call {
-        number: c_int(regs.read(Reg::new(17))),
-        a0: regs.read(Reg::new(10)),
-        a1: regs.read(Reg::new(11)),
-        a2: regs.read(Reg::new(12)),
+        number: c_int(regs.read(Reg::new(CALL_NUMBER))),
+        a0: regs.read(Reg::new(FIRST_ARGUMENT)),
+        a1: regs.read(Reg::new(SECOND_ARGUMENT)),
+        a2: regs.read(Reg::new(THIRD_ARGUMENT)),
         moved: 0,
         clock,
     }

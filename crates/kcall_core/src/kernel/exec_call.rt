@@ -18,6 +18,7 @@ ghost use Rattle.kcall_core.specs.Makes.{Makes, view_now, answer_of};
 
 use crate::call_end::CallEnd;
 use crate::kernel::Kernel;
+use crate::kernel::registers::{SECOND_ARGUMENT, STACK_POINTER};
 use crate::memories::Memories;
 use exec_core::{Entry, plan};
 use hart_core::Hart;
@@ -50,8 +51,8 @@ fn start_program(hart: &mut Hart, start: Entry)
     ensures { hart.new ≡ record hart.old { regs = with_pc (put (put hart.old.regs SP start.sp) A1 start.sp) start.pc } }
 {
     let regs = hart.regs_mut();
-    regs.write(Reg::new(2), start.sp);
-    regs.write(Reg::new(11), start.sp);
+    regs.write(Reg::new(STACK_POINTER), start.sp);
+    regs.write(Reg::new(SECOND_ARGUMENT), start.sp);
     regs.set_pc(start.pc);
 }
 
@@ -94,8 +95,9 @@ fn replace_as_asked(
 impl Kernel {
     /// The call exec: the process that runs goes on with the program that it asks for, by the addresses of
     /// a path and of pointers to texts; the answer is the number of texts. Where a byte of them can't be read,
-    /// no program has the name, its file can't be loaded, or its memory costs more than the free frames, the
-    /// answer is -1, and nothing else changes.
+    /// the path has more than 128 bytes with its zero byte, there are more than 31 texts or the texts don't
+    /// fit into the stack page, no program has the name, its file can't be loaded, or its memory costs more
+    /// than the free frames, the answer is -1, and nothing else changes.
     pub(crate) fn exec(&mut self, hart: &mut Hart, call: &Call) -> CallEnd
         requires whole { IsWhole self.old hart.old }
         requires running { IsRunning self.old }

@@ -4,7 +4,7 @@ ghost use Rattle.hart_core.specs.declared.hart.Hart.{Hart};
 ghost use Rattle.proc_table.specs.Slots.{IsTable};
 ghost use Rattle.kcall_core.specs.Words.{is_this};
 ghost use Rattle.kcall_core.specs.State.{live};
-ghost use Rattle.kcall_core.specs.Observers.{IsLiveIn, registers_of, byte_at, child_at, seen, shown};
+ghost use Rattle.kcall_core.specs.Observers.{IsLiveIn, registers_of, byte_at, child_at, child_seen, shown};
 ghost use Rattle.kcall_core.specs.Kernel.{state_of, IsSound};
 ghost use Rattle.kcall_core.specs.Machine.{turns_of};
 
@@ -25,7 +25,7 @@ pub enum ChildState {
 impl ChildState {
     /// What a parent knows of a child that ended with this status, or with none yet.
     fn of(status: Option<i32>) -> ChildState
-        ensures { shown result ≡ seen status }
+        ensures { shown result ≡ child_seen status }
     {
         match status {
             None => ChildState::Running,

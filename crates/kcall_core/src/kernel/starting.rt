@@ -16,6 +16,7 @@ ghost use Rattle.kcall_core.specs.Whole.{IsWhole};
 
 use crate::kernel::Kernel;
 use crate::kernel::exec_call::program_named;
+use crate::kernel::registers::{FIRST_ARGUMENT, SECOND_ARGUMENT, STACK_POINTER};
 use crate::memories::Memories;
 use exec_core::{ArgList, Entry, plan};
 use hart_core::Hart;
@@ -28,9 +29,9 @@ fn first_regs(start: Entry) -> Regs
     ensures { result ≡ put (put (put (fresh start.pc) SP start.sp) A0 start.argc) A1 start.sp }
 {
     let mut regs = Regs::new(start.pc);
-    regs.write(Reg::new(2), start.sp);
-    regs.write(Reg::new(10), start.argc);
-    regs.write(Reg::new(11), start.sp);
+    regs.write(Reg::new(STACK_POINTER), start.sp);
+    regs.write(Reg::new(FIRST_ARGUMENT), start.argc);
+    regs.write(Reg::new(SECOND_ARGUMENT), start.sp);
     regs
 }
 

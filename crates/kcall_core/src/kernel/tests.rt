@@ -54,3 +54,11 @@ fn refusals_stand_in_their_order(rt: HostRuntime) -> Result<(), Fail> {
     assert_eq!(rt; refusal(rt.alloc(), 16, &[one, other]), None);
     Ok(())
 }
+
+#[test]
+fn a_growth_that_the_host_refuses_is_want_of_memory(rt: HostRuntime) {
+    match refusal(rt.alloc(), 16, &[b"init".as_slice()]) {
+        None => {}
+        Some(error) => assert_eq!(rt; error, BootError::Memory),
+    }
+}

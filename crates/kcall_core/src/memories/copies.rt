@@ -48,8 +48,8 @@ impl Memories {
         user_copy::copy_out(&memory.space, &mut self.ram, address, bytes)
     }
 
-    /// The number in eight bytes of the memory of a slot, little-endian. It lies below the
-    /// last address that a page may have.
+    /// The number in eight bytes of the memory of a slot, little-endian. Where it answers, the bytes end at
+    /// or below 2^38.
     ///
     /// Errors: `BadAddress` exactly where user code may not read one of them.
     pub fn fetch_u64(&self, slot: usize, address: u64) -> Result<u64, BadAddress>

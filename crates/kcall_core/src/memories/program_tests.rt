@@ -58,3 +58,28 @@ fn a_program_is_loaded_read_written_and_replaced(rt: HostRuntime) -> Result<(), 
     assert_eq!(rt; memories.free(), 32);
     Ok(())
 }
+
+#[test]
+fn ranges_with_one_bad_byte_are_refused(rt: HostRuntime) -> Result<(), Fail> {
+    // The text is page 0, the guard page is page 1, and the stack, page 2, is the last.
+    let file = small_program(rt)?;
+    let mut args = ArgList::new();
+    args.push(b"init".as_slice())?;
+    let mut memories = Memories::new(rt.alloc(), 32)?;
+    memories.load_into(0, plan(&file, &args)?)?;
+    let mut one = [0; 1];
+    let mut two = [0; 2];
+    assert!(rt; memories.copy_in(0, 0x0FFF, &mut one).is_ok());
+    assert!(rt; memories.copy_in(0, 0x0FFF, &mut two).is_err());
+    assert!(rt; memories.copy_in(0, 0x2FFF, &mut one).is_ok());
+    assert!(rt; memories.copy_in(0, 0x2FFF, &mut two).is_err());
+    assert!(rt; memories.copy_in(0, u64::MAX, &mut two).is_err());
+    let Err(BadAddress) = memories.copy_out(0, 0x0FFF, &one) else {
+        return Err(Fail::from("the last byte of the text may not be written"));
+    };
+    let Err(BadAddress) = memories.copy_out(0, 0x2FFC, &[1; 8]) else {
+        return Err(Fail::from("four of the bytes lie behind the stack"));
+    };
+    assert_eq!(rt; memories.free(), 25);
+    Ok(())
+}

@@ -1,179 +1,31 @@
-//! Kernel calls, made by programs that the assembler makes.
+//! Kernel calls, and instructions that fault.
+use super::scene::{EXIT, Scene, called, exited, faulted, file_of, patched, stepped, turn};
 use std::alloc::Global;
 use std::test::Fail;
-use uasm_core::assemble;
-use xk_base::{BootError, Cause, ExecError, Pid, Program, Reg};
-use xv_machine::{Config, Event, Machine, Outcome};
-
-// Process 1.
-fn first() -> Pid {
-    Pid::new(1)
-}
-
-// The file that the assembler makes of a source.
-fn file_of(alloc: Global, source: &str) -> Result<Vec<u8>, Fail> {
-    match assemble(alloc, source) {
-        Ok(file) => Ok(file),
-        Err(_refusal) => Err(Fail::from("the source can be assembled")),
-    }
-}
-
-// A machine whose `init` is this file, and which has another program `b`.
-fn boot_both(
-    alloc: Global,
-    frames: u32,
-    init: Vec<u8>,
-    other: Vec<u8>,
-) -> Result<Machine, BootError> {
-    let mut programs = Vec::new(alloc);
-    for (name, bytes) in [(b"init".as_slice(), init), (b"b".as_slice(), other)] {
-        let Ok(name) = Vec::from_slice(alloc, name) else {
-            return Err(BootError::Memory);
-        };
-        let Ok(()) = programs.push(Program { name, bytes }) else {
-            return Err(BootError::Memory);
-        };
-    }
-    Machine::boot(alloc, Config { frames, trace: 0 }, programs)
-}
-
-// A machine whose `init` is this file.
-fn boot(alloc: Global, frames: u32, init: Vec<u8>) -> Result<Machine, BootError> {
-    boot_both(alloc, frames, init, Vec::new(alloc))
-}
-
-// A machine whose `init` the assembler makes of this source.
-fn boot_source(alloc: Global, frames: u32, source: &str) -> Result<Machine, Fail> {
-    Ok(boot(alloc, frames, file_of(alloc, source)?)?)
-}
-
-// Lets the machine run to the next outcome that is no turn and no done instruction.
-fn next_outcome(machine: &mut Machine) -> Outcome {
-    for _ in 0..10_000 {
-        let outcome = machine.event(Event::Run);
-        if !matches!(outcome, Outcome::Turn { .. } | Outcome::Stepped { .. }) {
-            return outcome;
-        }
-    }
-    Outcome::Idle
-}
-
-fn called(number: i32, value: i64) -> Outcome {
-    Outcome::Called {
-        pid: first(),
-        number,
-        value,
-    }
-}
-
-fn faulted(cause: Cause) -> Outcome {
-    Outcome::Faulted {
-        pid: first(),
-        cause,
-    }
-}
-
-// The file with other bytes from a place on.
-fn patched(alloc: Global, file: &[u8], at: usize, bytes: &[u8]) -> Result<Vec<u8>, Fail> {
-    let mut after = Vec::with_capacity(alloc, file.len())?;
-    after.extend_from_slice(&file[..at.min(file.len())])?;
-    after.extend_from_slice(bytes)?;
-    let behind = at.saturating_add(bytes.len());
-    if behind <= file.len() {
-        after.extend_from_slice(&file[behind..])?;
-    }
-    Ok(after)
-}
-
-// The program that exits at once with status 0.
-const EXIT: &str = "li a7, 2\nli a0, 0\necall\n";
+use xk_base::{Cause, Reg};
+use xv_machine::Outcome;
 
 #[test]
 fn a_program_of_one_page_costs_seven_frames(rt: HostRuntime) -> Result<(), Fail> {
-    let mut machine = boot_source(rt.alloc(), 16, EXIT)?;
-    assert_eq!(rt; machine.free_frames(), 9);
-    for outcome in [
-        Outcome::Turn { pid: first() },
-        Outcome::Stepped { pid: first() },
-        Outcome::Stepped { pid: first() },
-        Outcome::Exited {
-            pid: first(),
-            status: 0,
-        },
-        Outcome::Halted,
-    ] {
-        assert_eq!(rt; machine.event(Event::Run), outcome);
-    }
-    assert_eq!(rt; machine.free_frames(), 16);
-    assert_eq!(rt; machine.halted(), Some(0));
+    let mut scene = Scene::of_source(rt.alloc(), 16, EXIT)?;
+    assert_eq!(rt; scene.free_frames(), 9);
+    scene.run(
+        &rt,
+        &[turn(), stepped(), stepped(), exited(0), Outcome::Halted],
+    );
+    assert_eq!(rt; scene.free_frames(), 16);
+    assert_eq!(rt; scene.halted(), Some(0));
     Ok(())
 }
 
 #[test]
 fn init_finds_its_name_on_the_stack(rt: HostRuntime) -> Result<(), Fail> {
-    let machine = boot_source(rt.alloc(), 16, EXIT)?;
-    for (address, bytes) in [
-        (0x2FF0, b"init\0".as_slice()),
-        (0x2FE0, b"\xF0\x2F\0\0\0\0\0\0\0\0\0\0\0\0\0\0".as_slice()),
-    ] {
-        for (at, byte) in (address..).zip(bytes) {
-            assert_eq!(rt; machine.peek(first(), at), Some(*byte), "at {at}");
-        }
-    }
-    let Some(regs) = machine.registers(first()) else {
-        return Err(Fail::from("process 1 is live"));
-    };
-    assert_eq!(rt; (regs.pc(), regs.read(Reg::new(2))), (0, 0x2FE0));
-    assert_eq!(rt;
-        (regs.read(Reg::new(10)), regs.read(Reg::new(11))),
-        (1, 0x2FE0)
-    );
-    Ok(())
-}
-
-#[test]
-fn boots_that_are_refused(rt: HostRuntime) -> Result<(), Fail> {
-    let alloc = rt.alloc();
-    let none = Machine::boot(
-        alloc,
-        Config {
-            frames: 15,
-            trace: 0,
-        },
-        Vec::new(alloc),
-    );
-    assert_eq!(rt; none.err(), Some(BootError::BadConfig));
-    for (first, second, refusal) in [
-        ("init", "init", BootError::BadPrograms(1)),
-        ("sh", "b", BootError::NoInit),
-    ] {
-        let mut programs = Vec::new(alloc);
-        for name in [first, second] {
-            programs.push(Program {
-                name: Vec::from_slice(alloc, name.as_bytes())?,
-                bytes: Vec::new(alloc),
-            })?;
-        }
-        let booted = Machine::boot(
-            alloc,
-            Config {
-                frames: 16,
-                trace: 0,
-            },
-            programs,
-        );
-        assert_eq!(rt; booted.err(), Some(refusal));
-    }
-    let short = Vec::from_slice(alloc, b"ELF")?;
-    assert_eq!(rt;
-        boot(alloc, 16, short).err(),
-        Some(BootError::Init(ExecError::NotElf))
-    );
-    let large = patched(alloc, &file_of(alloc, EXIT)?, 104, &65_536u64.to_le_bytes())?;
-    assert_eq!(rt;
-        boot(alloc, 16, large).err(),
-        Some(BootError::Init(ExecError::NoFrames))
-    );
+    let scene = Scene::of_source(rt.alloc(), 16, EXIT)?;
+    scene.peek_from(&rt, 0x2FF0, b"init\0");
+    scene.peek_from(&rt, 0x2FE0, b"\xF0\x2F\0\0\0\0\0\0\0\0\0\0\0\0\0\0");
+    assert_eq!(rt; (scene.pc(), scene.sp()), (Some(0), Some(0x2FE0)));
+    assert_eq!(rt; scene.register(Reg::new(10)), Some(1));
+    assert_eq!(rt; scene.register(Reg::new(11)), Some(0x2FE0));
     Ok(())
 }
 
@@ -181,11 +33,11 @@ fn boots_that_are_refused(rt: HostRuntime) -> Result<(), Fail> {
 fn memory_grows_and_shrinks_by_its_price(rt: HostRuntime) -> Result<(), Fail> {
     // 512 pages fill one table of the lowest level; the next page asks for another.
     let source = "li a7, 12\nli a0, 2084864\necall\nli a0, 4096\necall\nli a0, -4096\necall\n";
-    let mut machine = boot_source(rt.alloc(), 1024, source)?;
-    assert_eq!(rt; machine.free_frames(), 1017);
+    let mut scene = Scene::of_source(rt.alloc(), 1024, source)?;
+    assert_eq!(rt; scene.free_frames(), 1017);
     for (value, free) in [(12_288, 508), (2_097_152, 506), (2_101_248, 508)] {
-        assert_eq!(rt; next_outcome(&mut machine), called(12, value));
-        assert_eq!(rt; machine.free_frames(), free);
+        assert_eq!(rt; scene.next_outcome(), called(12, value));
+        assert_eq!(rt; scene.free_frames(), free);
     }
     Ok(())
 }
@@ -195,27 +47,27 @@ fn a_refused_growth_changes_nothing(rt: HostRuntime) -> Result<(), Fail> {
     // Nine pages are free: ten are one too many. The last of nine can be written, and the next not.
     let source = "li a7, 12\nli a0, 40960\necall\nli a0, 36864\necall\nsb a0, 0(a0)\n\
                   li a1, 49152\nsb a1, -1(a1)\nsb a1, 0(a1)\n";
-    let mut machine = boot_source(rt.alloc(), 16, source)?;
-    assert_eq!(rt; next_outcome(&mut machine), called(12, -1));
-    assert_eq!(rt; machine.free_frames(), 9);
-    assert_eq!(rt; machine.peek(first(), 12_288), None);
-    assert_eq!(rt; next_outcome(&mut machine), called(12, 12_288));
-    assert_eq!(rt; machine.free_frames(), 0);
-    assert_eq!(rt; next_outcome(&mut machine), faulted(Cause::StorePageFault));
-    assert_eq!(rt; machine.free_frames(), 16);
+    let mut scene = Scene::of_source(rt.alloc(), 16, source)?;
+    assert_eq!(rt; scene.next_outcome(), called(12, -1));
+    assert_eq!(rt; scene.free_frames(), 9);
+    assert_eq!(rt; scene.peek(12_288), None);
+    assert_eq!(rt; scene.next_outcome(), called(12, 12_288));
+    assert_eq!(rt; scene.free_frames(), 0);
+    assert_eq!(rt; scene.next_outcome(), faulted(Cause::StorePageFault));
+    assert_eq!(rt; scene.free_frames(), 16);
     Ok(())
 }
 
 #[test]
 fn memory_can_be_given_up_whole(rt: HostRuntime) -> Result<(), Fail> {
     let source = "li a7, 12\nli a0, 0\necall\nli a0, -12289\necall\nli a0, -12288\necall\n";
-    let mut machine = boot_source(rt.alloc(), 16, source)?;
-    assert_eq!(rt; next_outcome(&mut machine), called(12, 12_288));
-    assert_eq!(rt; next_outcome(&mut machine), called(12, -1));
-    assert_eq!(rt; next_outcome(&mut machine), called(12, 12_288));
+    let mut scene = Scene::of_source(rt.alloc(), 16, source)?;
+    assert_eq!(rt; scene.next_outcome(), called(12, 12_288));
+    assert_eq!(rt; scene.next_outcome(), called(12, -1));
+    assert_eq!(rt; scene.next_outcome(), called(12, 12_288));
     // The root and the trapframe are left.
-    assert_eq!(rt; machine.free_frames(), 14);
-    assert_eq!(rt; machine.event(Event::Run), faulted(Cause::FetchPageFault));
+    assert_eq!(rt; scene.free_frames(), 14);
+    assert_eq!(rt; scene.event(), faulted(Cause::FetchPageFault));
     Ok(())
 }
 
@@ -224,22 +76,33 @@ fn memory_can_be_given_up_whole(rt: HostRuntime) -> Result<(), Fail> {
 const EXEC_B: &str =
     "li t0, 98\nsd t0, -16(sp)\naddi a0, sp, -16\naddi a1, sp, 8\nli a7, 7\necall\nebreak\n";
 
+// A machine whose `init` asks for `b`: one word that is no instruction, in a segment of so many bytes.
+fn exec_of(alloc: Global, size: u64) -> Result<Scene, Fail> {
+    let one = patched(alloc, &file_of(alloc, "nop\n")?, 120, &[0; 4])?;
+    let other = patched(alloc, &one, 104, &size.to_le_bytes())?;
+    Ok(Scene::of_both(alloc, 16, file_of(alloc, EXEC_B)?, other)?)
+}
+
 #[test]
 fn exec_asks_for_the_new_price_beside_the_old_image(rt: HostRuntime) -> Result<(), Fail> {
-    let alloc = rt.alloc();
     for (size, answer, free, cause) in [
-        (16_384u64, 0, 6, Cause::IllegalInstruction),
+        (16_384, 0, 6, Cause::IllegalInstruction),
         (20_480, -1, 9, Cause::Breakpoint),
     ] {
-        // One word that is no instruction, in a segment of so many bytes.
-        let one = patched(alloc, &file_of(alloc, "nop\n")?, 120, &[0; 4])?;
-        let other = patched(alloc, &one, 104, &size.to_le_bytes())?;
-        let mut machine = boot_both(alloc, 16, file_of(alloc, EXEC_B)?, other)?;
-        assert_eq!(rt; machine.free_frames(), 9);
-        assert_eq!(rt; next_outcome(&mut machine), called(7, answer));
-        assert_eq!(rt; machine.free_frames(), free);
-        assert_eq!(rt; next_outcome(&mut machine), faulted(cause));
-        assert_eq!(rt; machine.free_frames(), 16);
+        let mut scene = exec_of(rt.alloc(), size)?;
+        assert_eq!(rt; scene.free_frames(), 9);
+        assert_eq!(rt; scene.next_outcome(), called(7, answer));
+        assert_eq!(rt; scene.free_frames(), free);
+        assert_eq!(rt; scene.next_outcome(), faulted(cause));
+        assert_eq!(rt; scene.free_frames(), 16);
+    }
+    Ok(())
+}
+
+// Adds a text so many times.
+fn push_times(source: &mut String, text: &str, count: usize) -> Result<(), Fail> {
+    for _ in 0..count {
+        source.push_str(text)?;
     }
     Ok(())
 }
@@ -250,57 +113,81 @@ fn asking(alloc: Global, texts: usize, bytes: usize) -> Result<Vec<u8>, Fail> {
         alloc,
         "la a0, name\nla a1, texts\nli a7, 7\necall\nebreak\n.data\nname: .asciz \"/b\"\ntext: .asciz \"",
     )?;
-    for _ in 0..bytes {
-        source.push_str("x")?;
-    }
+    push_times(&mut source, "x", bytes)?;
     source.push_str("\"\ntexts:\n")?;
-    for _ in 0..texts {
-        source.push_str(".dword text\n")?;
-    }
+    push_times(&mut source, ".dword text\n", texts)?;
     source.push_str(".dword 0\n")?;
     file_of(alloc, source.as_str())
 }
 
+// A machine of 64 frames with this program.
+fn ask(alloc: Global, texts: usize, bytes: usize) -> Result<Scene, Fail> {
+    let other = file_of(alloc, "nop\nj b\nb: ebreak\n")?;
+    Ok(Scene::of_both(alloc, 64, asking(alloc, texts, bytes)?, other)?)
+}
+
 #[test]
 fn exec_passes_up_to_31_texts(rt: HostRuntime) -> Result<(), Fail> {
-    let alloc = rt.alloc();
-    for (texts, bytes, answer) in [
-        (31, 1, 31),
-        (32, 1, -1),
-        (1, 4095, -1),
-        (1, 4070, 1),
-        (0, 1, 0),
+    // The stack has room for one text of 4,079 bytes and its two pointers.
+    for (texts, bytes, answer, sp) in [
+        (31, 1, 31, 12_288 - 31 * 16 - 256),
+        (1, 4070, 1, 12_288 - 4080 - 16),
+        (0, 1, 0, 12_288 - 16),
     ] {
-        let other = file_of(alloc, "nop\nj b\nb: ebreak\n")?;
-        let mut machine = boot_both(alloc, 64, asking(alloc, texts, bytes)?, other)?;
+        let mut scene = ask(rt.alloc(), texts, bytes)?;
         assert_eq!(rt;
-            next_outcome(&mut machine),
+            scene.next_outcome(),
             called(7, answer),
             "{texts} of {bytes}"
         );
-        let Some(regs) = machine.registers(first()) else {
-            return Err(Fail::from("process 1 is live"));
-        };
-        if answer == -1 {
-            // The next instruction is the one behind the ECALL.
-            assert_eq!(rt; machine.event(Event::Run), faulted(Cause::Breakpoint));
-        } else {
-            assert_eq!(rt;
-                (regs.pc(), regs.read(Reg::new(10))),
-                (0, answer.cast_unsigned())
-            );
-            assert_eq!(rt; regs.read(Reg::new(2)), regs.read(Reg::new(11)));
-        }
-        if texts == 0 {
-            assert_eq!(rt; regs.read(Reg::new(2)), 12_288 - 16);
-        }
+        assert_eq!(rt; (scene.pc(), scene.sp()), (Some(0), Some(sp)));
+        assert_eq!(rt; scene.register(Reg::new(10)), Some(answer.cast_unsigned()));
+        assert_eq!(rt; scene.register(Reg::new(11)), Some(sp));
     }
     Ok(())
 }
 
 #[test]
+fn exec_lays_31_texts_on_the_stack(rt: HostRuntime) -> Result<(), Fail> {
+    let mut scene = ask(rt.alloc(), 31, 1)?;
+    assert_eq!(rt; scene.next_outcome(), called(7, 31));
+    // The first pointer and its text.
+    scene.peek_from(&rt, 11_536, b"\xF0\x2F\0\0\0\0\0\0");
+    scene.peek_from(&rt, 0x2FF0, b"x\0");
+    // The last pointer, the pointer 0 behind it, and the last text.
+    scene.peek_from(
+        &rt,
+        11_536 + 30 * 8,
+        b"\x10\x2E\0\0\0\0\0\0\0\0\0\0\0\0\0\0",
+    );
+    scene.peek_from(&rt, 0x2E10, b"x\0");
+    Ok(())
+}
+
+#[test]
+fn exec_of_too_many_or_too_long_texts_changes_nothing(rt: HostRuntime) -> Result<(), Fail> {
+    // Text, data of one page or of two, guard page and stack.
+    for (texts, bytes, free, sp) in [(32, 1, 56, 16_384 - 32), (1, 4095, 55, 20_480 - 32)] {
+        let mut scene = ask(rt.alloc(), texts, bytes)?;
+        assert_eq!(rt; (scene.free_frames(), scene.sp()), (free, Some(sp)));
+        assert_eq!(rt; scene.next_outcome(), called(7, -1), "{texts} of {bytes}");
+        assert_eq!(rt; (scene.free_frames(), scene.sp()), (free, Some(sp)));
+        // The next instruction is the one behind the ECALL.
+        assert_eq!(rt; scene.event(), faulted(Cause::Breakpoint));
+    }
+    Ok(())
+}
+
+// A machine of 64 frames whose `init` sets a0 and a1 by these words, asks for exec and breaks off.
+fn exec_with(alloc: Global, words: &str) -> Result<Scene, Fail> {
+    let mut source = String::from_str(alloc, words)?;
+    source.push_str("li a7, 7\necall\nebreak\n")?;
+    let init = file_of(alloc, source.as_str())?;
+    Ok(Scene::of_both(alloc, 64, init, file_of(alloc, EXIT)?)?)
+}
+
+#[test]
 fn exec_of_what_cannot_be_read_is_refused(rt: HostRuntime) -> Result<(), Fail> {
-    let alloc = rt.alloc();
     for words in [
         // No program `c`.
         "li t0, 99\nsd t0, -16(sp)\naddi a0, sp, -16\naddi a1, sp, 8\n",
@@ -315,20 +202,39 @@ fn exec_of_what_cannot_be_read_is_refused(rt: HostRuntime) -> Result<(), Fail> {
         // A text in the guard page.
         "li t0, 98\nsd t0, -16(sp)\naddi a0, sp, -16\nli t1, 4096\nsd t1, -32(sp)\nsd x0, -24(sp)\naddi a1, sp, -32\n",
     ] {
-        let mut source = String::from_str(alloc, words)?;
-        source.push_str("li a7, 7\necall\nebreak\n")?;
-        let init = file_of(alloc, source.as_str())?;
-        let mut machine = boot_both(alloc, 64, init, file_of(alloc, EXIT)?)?;
-        assert_eq!(rt; next_outcome(&mut machine), called(7, -1), "{words}");
-        assert_eq!(rt; machine.free_frames(), 57);
-        assert_eq!(rt; machine.event(Event::Run), faulted(Cause::Breakpoint));
+        let mut scene = exec_with(rt.alloc(), words)?;
+        assert_eq!(rt; scene.next_outcome(), called(7, -1), "{words}");
+        assert_eq!(rt; scene.free_frames(), 57);
+        assert_eq!(rt; scene.event(), faulted(Cause::Breakpoint));
     }
+    Ok(())
+}
+
+// A program of a whole page of text whose last byte is the letter `b`. It asks for exec with the path
+// that begins there, and then breaks off.
+fn across_text(alloc: Global) -> Result<Vec<u8>, Fail> {
+    let mut source = String::from_str(
+        alloc,
+        "li a0, 4095\naddi a1, sp, 8\nli a7, 7\necall\nebreak\n",
+    )?;
+    push_times(&mut source, "nop\n", 1017)?;
+    source.push_str("lui x0, 0x62000\n")?;
+    file_of(alloc, source.as_str())
+}
+
+#[test]
+fn exec_of_a_path_that_runs_into_the_guard_page_is_refused(rt: HostRuntime) -> Result<(), Fail> {
+    let init = across_text(rt.alloc())?;
+    let mut scene = Scene::of_both(rt.alloc(), 64, init, file_of(rt.alloc(), EXIT)?)?;
+    assert_eq!(rt; (scene.peek(4095), scene.peek(4096)), (Some(b'b'), Some(0)));
+    assert_eq!(rt; scene.next_outcome(), called(7, -1));
+    assert_eq!(rt; scene.free_frames(), 57);
+    assert_eq!(rt; scene.event(), faulted(Cause::Breakpoint));
     Ok(())
 }
 
 #[test]
 fn instructions_that_fault(rt: HostRuntime) -> Result<(), Fail> {
-    let alloc = rt.alloc();
     for (source, steps, cause) in [
         (
             "li a0, 1\nslli a0, a0, 38\nld a1, 0(a0)\n",
@@ -343,101 +249,21 @@ fn instructions_that_fault(rt: HostRuntime) -> Result<(), Fail> {
         ("ebreak\n", 0, Cause::Breakpoint),
         ("lui a0, 2\njr: jalr x0, 0(a0)\n", 2, Cause::FetchPageFault),
     ] {
-        let mut machine = boot_source(alloc, 16, source)?;
-        assert_eq!(rt; machine.event(Event::Run), Outcome::Turn { pid: first() });
-        for _ in 0..steps {
-            assert_eq!(rt;
-                machine.event(Event::Run),
-                Outcome::Stepped { pid: first() },
-                "{source}"
-            );
-        }
-        assert_eq!(rt; machine.event(Event::Run), faulted(cause), "{source}");
-        assert_eq!(rt; machine.halted(), Some(-1));
-        assert_eq!(rt; machine.event(Event::Run), Outcome::Halted);
+        let mut scene = Scene::of_source(rt.alloc(), 16, source)?;
+        assert_eq!(rt; scene.event(), turn());
+        assert_eq!(rt; scene.steps(), (steps, faulted(cause)), "{source}");
+        assert_eq!(rt; scene.halted(), Some(-1));
+        assert_eq!(rt; scene.event(), Outcome::Halted);
     }
+    Ok(())
+}
+
+#[test]
+fn reading_a_counter_faults(rt: HostRuntime) -> Result<(), Fail> {
     // `csrr a0, cycle` is no instruction here.
-    let counter = patched(
-        alloc,
-        &file_of(alloc, "nop\n")?,
-        120,
-        &0xC000_2573u32.to_le_bytes(),
-    )?;
-    let mut machine = boot(alloc, 16, counter)?;
-    assert_eq!(rt;
-        next_outcome(&mut machine),
-        faulted(Cause::IllegalInstruction)
-    );
-    Ok(())
-}
-
-#[test]
-fn a_file_that_is_cut_is_refused(rt: HostRuntime) -> Result<(), Fail> {
-    let alloc = rt.alloc();
-    let file = file_of(alloc, EXIT)?;
-    assert_eq!(rt; file.len(), 132);
-    for length in 0..=file.len() {
-        let refusal = if length < 64 {
-            Some(BootError::Init(ExecError::NotElf))
-        } else if length < 132 {
-            Some(BootError::Init(ExecError::BadSegment(0)))
-        } else {
-            None
-        };
-        let cut = Vec::from_slice(alloc, &file[..length])?;
-        assert_eq!(rt; boot(alloc, 16, cut).err(), refusal, "{length}");
-    }
-    Ok(())
-}
-
-#[test]
-fn headers_that_are_refused(rt: HostRuntime) -> Result<(), Fail> {
-    let alloc = rt.alloc();
-    let file = file_of(alloc, EXIT)?;
-    let numbers: [(usize, &[u8], u16); 5] = [
-        // 65,535 program headers; the table of them at the highest address.
-        (56, &[255, 255], 1),
-        (32, &[255; 8], 0),
-        // 13 bytes in the file, where 12 are in memory; an address of 1.
-        (96, &[13, 0, 0, 0, 0, 0, 0, 0], 0),
-        (80, &[1, 0, 0, 0, 0, 0, 0, 0], 0),
-        // A file of 12 bytes for a memory of 11.
-        (104, &[11, 0, 0, 0, 0, 0, 0, 0], 0),
-    ];
-    for (at, bytes, header) in numbers {
-        let other = patched(alloc, &file, at, bytes)?;
-        assert_eq!(rt;
-            boot(alloc, 16, other).err(),
-            Some(BootError::Init(ExecError::BadSegment(header))),
-            "at {at}"
-        );
-    }
-    // A page whose end is 2^64.
-    let top = patched(alloc, &file, 80, &(u64::MAX - 4095).to_le_bytes())?;
-    let page = patched(alloc, &top, 104, &4096u64.to_le_bytes())?;
-    assert_eq!(rt;
-        boot(alloc, 16, page).err(),
-        Some(BootError::Init(ExecError::BadSegment(0)))
-    );
-    Ok(())
-}
-
-#[test]
-fn a_program_without_pages(rt: HostRuntime) -> Result<(), Fail> {
-    let alloc = rt.alloc();
-    let file = patched(alloc, &file_of(alloc, EXIT)?, 96, &[0; 16])?;
-    let mut machine = boot(alloc, 16, file)?;
-    // The guard page and the stack alone.
-    assert_eq!(rt;
-        (machine.peek(first(), 8191), machine.peek(first(), 8192)),
-        (Some(0), None)
-    );
-    assert_eq!(rt; next_outcome(&mut machine), faulted(Cause::FetchPageFault));
-    let odd = patched(alloc, &file_of(alloc, EXIT)?, 24, &[3])?;
-    let booted = boot(alloc, 16, odd)?;
-    let Some(regs) = booted.registers(first()) else {
-        return Err(Fail::from("process 1 is live"));
-    };
-    assert_eq!(rt; regs.pc(), 0);
+    let word = 0xC000_2573u32.to_le_bytes();
+    let counter = patched(rt.alloc(), &file_of(rt.alloc(), "nop\n")?, 120, &word)?;
+    let mut scene = Scene::of_file(rt.alloc(), counter)?;
+    assert_eq!(rt; scene.next_outcome(), faulted(Cause::IllegalInstruction));
     Ok(())
 }

@@ -15,9 +15,9 @@ pub unreachable-requires : goal.unreachable-requires
 unreachable-requires c =
     let inv = c.loop-v.invariant in
     let v : c.new-vpn.result ≡ c.loop-v.v = c.new-vpn.ensures in
-    no-refusal c.args.pool.now c.loop-v.pool c.args.ram.now c.loop-v.ram c.args.self.now c.loop-v.self c.args.size c.new-vpn.result ((c.args.self.now.size + 4095) / 4096) ((c.args.size + 4095) / 4096) c.price_to-needed.result c.free.result c.args.perm c.requires.belongs inv.changed
+    no-refusal c.args.pool.now c.loop-v.pool c.args.ram.now c.loop-v.ram c.args.self.now c.loop-v.self c.args.size c.new-vpn.result ((c.args.self.now.size + 4095) / 4096) ((c.args.size + 4095) / 4096) c.price_to-extra.result c.free.result c.args.perm c.requires.belongs inv.changed
     (inv.pages ∙ ap (λ x. with_absent (pages_of c.args.ram.now c.args.self.now.root) ((c.args.self.now.size + 4095) / 4096) (x - (c.args.self.now.size + 4095) / 4096) (zeroed c.args.perm)) (sym v)) (omega (arith, v, c.loop-v.auto.v)) (omega (arith, v, c.loop-v-test.true)) (omega (arith, c.requires.limit))
-    (c.price_to-needed.ensures c.args.perm) c.if-free-needed.false (c.free.ensures c.args.ram.now c.requires.belongs.good) (perm-none (get (pages_of c.loop-v.ram c.loop-v.self.root) c.new-vpn.result) (sym c.in-None.ensures)) c.in_default-map_zeroed.ensures.refused.0
+    (c.price_to-extra.ensures c.args.perm) c.if-free-extra.false (c.free.ensures c.args.ram.now c.requires.belongs.good) (perm-none (get (pages_of c.loop-v.ram c.loop-v.self.root) c.new-vpn.result) (sym c.in-None.ensures)) c.in_default-map_zeroed.ensures.refused.0
 
 pub loop-v-preserved : goal.loop-v-preserved
 loop-v-preserved c =

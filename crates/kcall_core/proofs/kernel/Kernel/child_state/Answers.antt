@@ -3,7 +3,7 @@ use Rattle.std.specs.Prelude.{IsSome, option_map}
 use Rattle.std.specs.FinMap.{get}
 use Rattle.kcall_core.specs.View.{child_of}
 use Rattle.kcall_core.specs.Kernel.{state_of}
-use Rattle.kcall_core.specs.Observers.{if_live, seen}
+use Rattle.kcall_core.specs.Observers.{if_live, child_seen}
 use Rattle.proc_table.specs.Processes.{status_of}
 use Rattle.kcall_core.proofs.Observed.{slot-found, child-told, child-missing, child-held}
 use Rattle.kcall_core.proofs.kernel.Kernel.child_state.Goals as goal
@@ -22,7 +22,7 @@ returns-then-not-is_parent c = λ hart.
     let k = c.args.self.now in
     sym (child-told k hart c.requires.1.table c.args.pid c.in-Some.field-0 c.in-Some.ensures.found c.args.child
     ∙ child-held k hart c.requires.1.table c.args.pid c.args.child c.in-Some-find.slot c.parent.result (status_of (slot-found k.table c.args.child c.in-Some-find.slot (sym c.find.ensures.value ∙ c.in-Some-find.is)).0) (sym c.find.ensures.value ∙ c.in-Some-find.is) c.parent.ensures (ap (option_map status_of) (slot-found k.table c.args.child c.in-Some-find.slot (sym c.find.ensures.value ∙ c.in-Some-find.is)).1)
-    ∙ ap (λ b. cond b (Some (seen (status_of (slot-found k.table c.args.child c.in-Some-find.slot (sym c.find.ensures.value ∙ c.in-Some-find.is)).0))) None) (sym c.is_parent.ensures ∙ c.if-not-is_parent.true))
+    ∙ ap (λ b. cond b (Some (child_seen (status_of (slot-found k.table c.args.child c.in-Some-find.slot (sym c.find.ensures.value ∙ c.in-Some-find.is)).0))) None) (sym c.is_parent.ensures ∙ c.if-not-is_parent.true))
 
 pub returns : goal.returns
 returns c = λ hart.
@@ -30,4 +30,4 @@ returns c = λ hart.
     ap Some c.of.ensures
     ∙ sym (child-told k hart c.requires.1.table c.args.pid c.in-Some.field-0 c.in-Some.ensures.found c.args.child
     ∙ child-held k hart c.requires.1.table c.args.pid c.args.child c.in-Some-find.slot c.parent.result c.status.result (sym c.find.ensures.value ∙ c.in-Some-find.is) c.parent.ensures c.status.ensures
-    ∙ ap (λ b. cond b (Some (seen c.status.result)) None) (sym c.is_parent.ensures ∙ c.if-not-is_parent.false))
+    ∙ ap (λ b. cond b (Some (child_seen c.status.result)) None) (sym c.is_parent.ensures ∙ c.if-not-is_parent.false))

@@ -2,9 +2,10 @@ use Rattle.std.proofs.Common.{◌≡◌, ◌+◌, length, refl, sym, ap, ◌∙�
 use Rattle.std.specs.Prelude.{IsSome}
 use Rattle.std.proofs.lemmas.Int.{to_z-of_z}
 use Rattle.xk_base.specs.Image.{price}
+use Rattle.kcall_core.specs.Words.{or_zero}
 use Rattle.kcall_core.specs.RowLaws.{IsLive}
 use Rattle.kcall_core.specs.Updates.{give_frames, end_process, orphans}
-use Rattle.kcall_core.specs.Kernel.{state_of, or_zero, slot_now, pid_now, live_now, IsSound, IsRunning}
+use Rattle.kcall_core.specs.Kernel.{state_of, slot_now, pid_now, live_now, IsSound, IsRunning}
 use Rattle.kcall_core.specs.declared.kernel.Kernel.{Kernel}
 use Rattle.proc_table.specs.Processes.{given, ended}
 use Rattle.proc_table.specs.Slots.{each_changed, changed_at}

@@ -40,6 +40,6 @@ pub returns : goal.returns
 returns c =
     let s = stands c.index.result.now c.in-Some.memory c.requires.sound c.requires.there c.index.ensures c.in-Some.is in
     let pages = (image_of c.args.self.now.ram c.in-Some.memory.space).pages in
-    let found = some-page (get pages c.new-vpn.result) c.in-Some-perm.field-0 (sym c.perm.ensures ∙ c.in-Some-perm.is) in
+    let found = some-page (get pages c.new-vpn.result) c.in-Some-perm._perm (sym c.perm.ensures ∙ c.in-Some-perm.is) in
     let there : get pages (c.args.va / 4096) ≡ Some found.0 = ap (get pages) (sym c.new-vpn.ensures) ∙ found.1 in
     sym (ap (λ i. byte_of i c.args.va) (image-seen s) ∙ byte-some (image_of c.args.self.now.ram c.in-Some.memory.space) c.args.va found.0 c.read_page.new.out there (c.read_page.ensures found.0 found.1))

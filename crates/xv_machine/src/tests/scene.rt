@@ -1,0 +1,224 @@
+//! Files of small programs, and the machines that tests ask.
+use crate::{ChildState, Config, Event, Machine, Outcome};
+use std::alloc::{AllocError, Global};
+use std::process::Abort;
+use std::test::Fail;
+use xk_base::{BootError, Pid, Program, Reg};
+
+pub(super) const SMALL: Config = Config {
+    frames: 16,
+    trace: 0,
+};
+
+/// The numbers of a program header, and the instructions behind it.
+#[derive(Clone, Copy)]
+pub(super) struct Image<'a> {
+    pub(super) phnum: u16,
+    pub(super) vaddr: u64,
+    pub(super) memsz: u64,
+    pub(super) entry: u64,
+    pub(super) words: &'a [u32],
+}
+
+// An ELF header up to the entry: magic, 64 bits, little-endian, version 1; type 2 (executable), machine
+// 243 (RISC-V), version 1.
+const BEFORE_ENTRY: &[u8] = b"\x7FELF\x02\x01\x01\0\0\0\0\0\0\0\0\0\x02\0\xF3\0\x01\0\0\0";
+
+// Behind the entry: program headers from 64 on, no section headers, no flags, headers of 64 and 56 bytes.
+const BEHIND_ENTRY: &[u8] = b"\x40\0\0\0\0\0\0\0\0\0\0\0\0\0\0\0\0\0\0\0\x40\0\x38\0";
+
+// An ELF header.
+fn file_header(alloc: Global, phnum: u16, entry: u64) -> Result<Vec<u8>, AllocError> {
+    let mut file = Vec::from_slice(alloc, BEFORE_ENTRY)?;
+    file.extend_from_slice(&entry.to_le_bytes())?;
+    file.extend_from_slice(BEHIND_ENTRY)?;
+    file.extend_from_slice(&phnum.to_le_bytes())?;
+    file.extend_from_slice(b"\0\0\0\0\0\0")?;
+    Ok(file)
+}
+
+// Adds a program header: flags, and the offset, two addresses, two sizes and the alignment.
+fn push_segment(file: &mut Vec<u8>, flags: u8, fields: [u64; 6]) -> Result<(), AllocError> {
+    file.extend_from_slice(&[1, 0, 0, 0, flags, 0, 0, 0])?;
+    for field in fields {
+        file.extend_from_slice(&field.to_le_bytes())?;
+    }
+    Ok(())
+}
+
+fn push_words(file: &mut Vec<u8>, words: &[u32]) -> Result<(), AllocError> {
+    for word in words {
+        file.extend_from_slice(&word.to_le_bytes())?;
+    }
+    Ok(())
+}
+
+/// An ELF file of one segment.
+pub(super) fn file_of(alloc: Global, image: &Image<'_>) -> Result<Vec<u8>, AllocError> {
+    let size = image.words.len() as u64 * 4;
+    let mut file = file_header(alloc, image.phnum, image.entry)?;
+    let fields = [120, image.vaddr, image.vaddr, size, image.memsz, 1];
+    push_segment(&mut file, 5, fields)?;
+    push_words(&mut file, image.words)?;
+    Ok(file)
+}
+
+/// The file of a program that stands at address 0.
+pub(super) fn plain(alloc: Global, words: &[u32]) -> Result<Vec<u8>, AllocError> {
+    let image = Image {
+        phnum: 1,
+        vaddr: 0,
+        memsz: words.len() as u64 * 4,
+        entry: 0,
+        words,
+    };
+    file_of(alloc, &image)
+}
+
+/// A file of two segments: text at 0, and four bytes at 8192, which may be written. The page between
+/// them belongs to the second.
+pub(super) fn two_segments(alloc: Global, words: &[u32]) -> Result<Vec<u8>, AllocError> {
+    let size = words.len() as u64 * 4;
+    let mut file = file_header(alloc, 2, 0)?;
+    push_segment(&mut file, 5, [176, 0, 0, size, size, 1])?;
+    push_segment(&mut file, 6, [176 + size, 8192, 8192, 4, 5000, 1])?;
+    push_words(&mut file, words)?;
+    file.extend_from_slice(b"data")?;
+    Ok(file)
+}
+
+pub(super) fn program(alloc: Global, name: &[u8], bytes: Vec<u8>) -> Result<Program, AllocError> {
+    let name = Vec::from_slice(alloc, name)?;
+    Ok(Program { name, bytes })
+}
+
+// The programs of a machine that has this one alone.
+fn alone(alloc: Global, init: Vec<u8>) -> Result<Vec<Program>, AllocError> {
+    let mut programs = Vec::new(alloc);
+    programs.push(program(alloc, b"init", init)?)?;
+    Ok(programs)
+}
+
+/// Process 1.
+pub(super) fn first() -> Pid {
+    Pid::new(1)
+}
+
+/// Why no machine comes of these programs.
+pub(super) fn refusal_of(
+    alloc: Global,
+    config: Config,
+    programs: Vec<Program>,
+) -> Option<BootError> {
+    Machine::boot(alloc, config, programs).err()
+}
+
+/// A machine, which tests ask about process 1. No method has a contract: what a machine promises stays out of
+/// the proofs of the tests.
+#[derive(Drop)]
+pub(super) struct Scene {
+    machine: Machine,
+}
+
+impl Scene {
+    /// A machine of these programs.
+    pub(super) fn new(
+        alloc: Global,
+        config: Config,
+        programs: Vec<Program>,
+    ) -> Result<Scene, BootError> {
+        let machine = Machine::boot(alloc, config, programs)?;
+        Ok(Scene { machine })
+    }
+
+    /// A machine of 16 frames whose `init` is this file.
+    pub(super) fn of_file(alloc: Global, file: Vec<u8>) -> Result<Scene, BootError> {
+        match alone(alloc, file) {
+            Ok(programs) => Scene::new(alloc, SMALL, programs),
+            Err(_) => Err(BootError::Memory),
+        }
+    }
+
+    /// A machine of 16 frames whose `init` is these instructions.
+    pub(super) fn of_words(alloc: Global, words: &[u32]) -> Result<Scene, BootError> {
+        match plain(alloc, words) {
+            Ok(file) => Scene::of_file(alloc, file),
+            Err(_) => Err(BootError::Memory),
+        }
+    }
+
+    // What comes of a Run.
+    fn event(&mut self) -> Outcome {
+        self.machine.event(Event::Run)
+    }
+
+    /// Sends Run once for each outcome that is wanted.
+    pub(super) fn run(&mut self, rt: &impl Abort, wanted: &[Outcome]) {
+        for (i, outcome) in wanted.iter().enumerate() {
+            assert_eq!(rt; self.event(), *outcome, "event {i}");
+        }
+    }
+
+    /// Sends Run so many times and once more, and tells what came last.
+    pub(super) fn last(&mut self, others: usize) -> Outcome {
+        for _ in 0..others {
+            self.event();
+        }
+        self.event()
+    }
+
+    pub(super) fn free_frames(&self) -> u32 {
+        self.machine.free_frames()
+    }
+
+    pub(super) fn current(&self) -> Option<Pid> {
+        self.machine.current()
+    }
+
+    pub(super) fn halted(&self) -> Option<i32> {
+        self.machine.halted()
+    }
+
+    pub(super) fn child_state(&self, pid: Pid, child: Pid) -> Option<ChildState> {
+        self.machine.child_state(pid, child)
+    }
+
+    pub(super) fn has_registers(&self, pid: Pid) -> bool {
+        self.machine.registers(pid).is_some()
+    }
+
+    pub(super) fn peek(&self, pid: Pid, address: u64) -> Option<u8> {
+        self.machine.peek(pid, address)
+    }
+
+    /// Compares bytes of process 1.
+    pub(super) fn peek_all(&self, rt: &impl Abort, wanted: &[(u64, Option<u8>)]) {
+        for (address, byte) in wanted {
+            assert_eq!(rt; self.peek(first(), *address), *byte, "at {address}");
+        }
+    }
+
+    /// Compares the bytes of process 1 from an address on.
+    pub(super) fn peek_from(&self, rt: &impl Abort, address: u64, wanted: &[u8]) {
+        for (i, byte) in wanted.iter().enumerate() {
+            let at = address.wrapping_add(i as u64);
+            assert_eq!(rt; self.peek(first(), at), Some(*byte), "at {at}");
+        }
+    }
+
+    /// The pc of process 1.
+    pub(super) fn pc(&self) -> Option<u64> {
+        Some(self.machine.registers(first())?.pc())
+    }
+
+    /// Compares registers of process 1.
+    pub(super) fn registers(&self, rt: &impl Abort, wanted: &[(Reg, u64)]) -> Result<(), Fail> {
+        let Some(regs) = self.machine.registers(first()) else {
+            return Err(Fail::from("process 1 is live"));
+        };
+        for (number, value) in wanted {
+            assert_eq!(rt; regs.read(*number), *value, "{number:?}");
+        }
+        Ok(())
+    }
+}
