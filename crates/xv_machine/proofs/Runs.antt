@@ -215,6 +215,11 @@ run-ends k k' h h' halted after pid outcome whole current end made answer kept =
     let now = current-pid k pid current in
     subst (λ s. IsHalted (state_of k' h') (turns_of k' s) s) (sym kept) (run-halts k k' h h' pid outcome whole now.0 (first-lives k h halted end (not-halted k h halted end now.0)) now.1 made answer)
 
+-- after an instruction that is done the status of process 1 is as it was: none
+pub stepped-keeps : (k : Kernel) (h : Hart) (halted : Option ℤ) (pid p : ℕ) (outcome : Outcome) → outcome ≡ Outcome.Stepped p → (turns_of k None).current ≡ Some pid → IsHalted (state_of k h) (turns_of k halted) halted → halted ≡ halted_by outcome
+stepped-keeps k h halted pid p outcome is current end =
+    not-halted k h halted end (current-pid k pid current).0 ∙ sym (ap halted_by is)
+
 pub kept-is : (k : Kernel) (halted : Option ℤ) → halted ≡ (turns_of k halted).halted
 unfolding turns_of
 kept-is k halted = refl

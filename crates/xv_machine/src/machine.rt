@@ -185,6 +185,10 @@ impl Machine {
             return self.turn();
         };
         let outcome = step(&mut self.kernel, &mut self.hart, pid);
+        if let Outcome::Stepped { .. } = outcome {
+            // The status stays: there is none while a process runs.
+            return outcome;
+        }
         self.halted = halted_by(&outcome);
         outcome
     }

@@ -1,7 +1,7 @@
 use Rattle.std.proofs.Common.{sym, ◌∙◌, None}
 use Rattle.xv_machine.specs.Events.{outcome_of, halted_by}
 use Rattle.xv_machine.proofs.Frames.{sound-of}
-use Rattle.xv_machine.proofs.Runs.{current-pid, not-halted, count-is, now-frames, now-promised, run-step, run-ends}
+use Rattle.xv_machine.proofs.Runs.{current-pid, not-halted, count-is, now-frames, now-promised, run-step, run-ends, stepped-keeps}
 use Rattle.xv_machine.proofs.machine.Machine.run.Goals as goal
 
 pub step-outcome-requires-clause-running : goal.step-outcome-requires-clause-running
@@ -10,8 +10,38 @@ step-outcome-requires-clause-running c = (current-pid c.self.inside.kernel c.in-
 pub step-outcome-requires-clause-pid : goal.step-outcome-requires-clause-pid
 step-outcome-requires-clause-pid c = (current-pid c.self.inside.kernel c.in-Some.pid (sym (c.current.ensures None) ∙ c.in-Some.is)).1
 
+-- an instruction that is done: the machine wasn't halted before, and the status stays
 pub invariant_of-self : goal.invariant_of-self
 invariant_of-self c =
+    let i = c.self.inside in
+    record {
+      whole = c.step-outcome.ensures.made.whole;
+      halted = run-ends i.kernel c.step-outcome.new.kernel i.hart c.step-outcome.new.hart i.halted i.halted c.in-Some.pid c.step-outcome.result c.self.invariant.whole (sym (c.current.ensures None) ∙ c.in-Some.is) c.self.invariant.halted
+          c.step-outcome.ensures.made c.step-outcome.ensures.answer (stepped-keeps i.kernel i.hart i.halted c.in-Some.pid c.in-Stepped.pid c.step-outcome.result c.in-Stepped.is (sym (c.current.ensures None) ∙ c.in-Some.is) c.self.invariant.halted);
+    }
+
+pub returns-in-Stepped-clause-promised : goal.returns-in-Stepped-clause-promised
+returns-in-Stepped-clause-promised c =
+    let i = c.self.inside in
+    let current = sym (c.current.ensures None) ∙ c.in-Some.is in
+    let now = current-pid i.kernel c.in-Some.pid current in
+    now-promised i.kernel i.hart i.halted c.args.self.now c.self.view_is c.step-outcome.new.kernel c.step-outcome.new.hart (halted_by c.step-outcome.result) (outcome_of c.step-outcome.result) i.halted
+    (not-halted i.kernel i.hart i.halted c.self.invariant.halted now.0) (stepped-keeps i.kernel i.hart i.halted c.in-Some.pid c.in-Stepped.pid c.step-outcome.result c.in-Stepped.is current c.self.invariant.halted)
+    (run-step i.kernel c.step-outcome.new.kernel i.hart c.step-outcome.new.hart c.in-Some.pid c.step-outcome.result c.self.invariant.whole now.0 now.1 c.step-outcome.ensures.made c.step-outcome.ensures.answer)
+
+pub returns-in-Stepped-clause-sound : goal.returns-in-Stepped-clause-sound
+returns-in-Stepped-clause-sound c =
+    let i = c.self.inside in
+    let current = sym (c.current.ensures None) ∙ c.in-Some.is in
+    sound-of c.step-outcome.new.kernel c.step-outcome.new.hart i.halted c.step-outcome.ensures.made.whole
+    (run-ends i.kernel c.step-outcome.new.kernel i.hart c.step-outcome.new.hart i.halted i.halted c.in-Some.pid c.step-outcome.result c.self.invariant.whole current c.self.invariant.halted
+    c.step-outcome.ensures.made c.step-outcome.ensures.answer (stepped-keeps i.kernel i.hart i.halted c.in-Some.pid c.in-Stepped.pid c.step-outcome.result c.in-Stepped.is current c.self.invariant.halted))
+
+pub returns-in-Stepped-clause-frames : goal.returns-in-Stepped-clause-frames
+returns-in-Stepped-clause-frames c = count-is c.step-outcome.new.kernel ∙ c.step-outcome.ensures.made.frames ∙ now-frames c.self.inside.kernel c.self.inside.hart c.self.inside.halted c.args.self.now c.self.view_is
+
+pub invariant_of-self-2 : goal.invariant_of-self-2
+invariant_of-self-2 c =
     let i = c.self.inside in
     record {
       whole = c.step-outcome.ensures.made.whole;
