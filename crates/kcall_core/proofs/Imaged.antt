@@ -45,7 +45,7 @@ where-err (Err x) holds is = holds
 
 module _ (k : Kernel) (h : Hart) (sound : IsSound k h) (runs : IsRunning k) where
   -- the memory in its slot has another image
-  image-changed : (m : Memories) (h' : Hart) (image : Image) → SlotChanges k.memories m (slot_now k) (Some (with_image image (held_at (each_of k.memories) (slot_now k)))) → RunsIn m (slot_now k) h' → h'.regs ≡ h.regs
+  pub image-changed : (m : Memories) (h' : Hart) (image : Image) → SlotChanges k.memories m (slot_now k) (Some (with_image image (held_at (each_of k.memories) (slot_now k)))) → RunsIn m (slot_now k) h' → h'.regs ≡ h.regs
       → HasImage k h image (record k { memories = m }) h'
   image-changed m h' image changes on regs =
       let k' : Kernel = record k { memories = m } in

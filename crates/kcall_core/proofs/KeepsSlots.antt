@@ -35,13 +35,13 @@ equal_numbers = record {
     apart x y other = elim (eqb_tells y x) [ inl e ↦ absurd (other (sym e.1)) | inr e ↦ e.0 ]
 
 -- q is listed where it is in the map
-listed : {X : Type 0} (m : FinMap nat_cmp X) (q : ℕ) → has q (keys m) ≡ is_some (get m q)
+pub listed : {X : Type 0} (m : FinMap nat_cmp X) (q : ℕ) → has q (keys m) ≡ is_some (get m q)
 listed m q = sym (contains_key-keys m q ∙ ap (λ (f : ℕ → Bool). list_any f (keys m)) (fun_ext (λ k. unsigned_tied q k)))
 
 pub is_listed : {X : Type 0} (m : FinMap nat_cmp X) (q : ℕ) → IsSome (get m q) → Contains (keys m) q
 is_listed m q there = Contains-from_any (λ x y e. eqb-true x y e) q (keys m) (listed m q ∙ there)
 
-not_listed : {X : Type 0} (m : FinMap nat_cmp X) (q : ℕ) → get m q ≡ None → ¬ Contains (keys m) q
+pub not_listed : {X : Type 0} (m : FinMap nat_cmp X) (q : ℕ) → get m q ≡ None → ¬ Contains (keys m) q
 not_listed m q none among = let no : true ≡ false = sym (list_any-from_Contains equal_numbers q (keys m) among) ∙ listed m q ∙ ap is_some none in let bad : ⊥ = cc in bad
 
 -- ---- views

@@ -70,7 +70,7 @@ module _ (s : State) (p q : ℕ) (old : Live) (was : get s.processes p ≡ Some 
   alive (Some (Alive l)) m e = let same : l ≡ m = cc in ap (λ (x : Live). Some (Alive x)) same
   alive (Some (Zombie parent status)) m e = let no : ⊥ = cc in absurd no
 
-  live_after : (r : ℕ) (m : Live) → live before r ≡ Some m → live after r ≡ Some (record m { killed = m.killed || is_this r (Some q) })
+  pub live_after : (r : ℕ) (m : Live) → live before r ≡ Some m → live after r ≡ Some (record m { killed = m.killed || is_this r (Some q) })
   live_after r m is =
       ap live_part (process_at r)
       ∙ ap (λ (o : Option Process). live_part (cond (nat_eq r q) (option_map marked o) o)) (alive (get before.processes r) m is)

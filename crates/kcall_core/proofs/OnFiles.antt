@@ -52,48 +52,48 @@ module _ (s : State) (p : ℕ) (l : Live) (d i k : ℕ) (end : End) (x : Pipe) (
 
 -- ---- read
 
-module _ (s : State) (p : ℕ) (l : Live) (c : Call) (d i k n : ℕ) (x : Pipe) (on : OnPipe s p l d i k Reading x) (reads : on.read ≡ true) (fd : c_int c.a0 ≡ pos d) (buffer : IsBuffer c (writable l.image c.a1) n) where
-  read_is : read c (view_of s p l) ≡ read_pipe c (view_of s p l) k x n
+module _ (s : State) (p : ℕ) (l : Live) (c : Call) (d i k n : ℕ) (end : End) (x : Pipe) (on : OnPipe s p l d i k end x) (reads : on.read ≡ true) (fd : c_int c.a0 ≡ pos d) (buffer : IsBuffer c (writable l.image c.a1) n) where
+  pub read_is : read c (view_of s p l) ≡ read_pipe c (view_of s p l) k x n
   unfolding view_of
   read_is =
       ap (λ (z : ℤ). read_on c (view_of s p l) (in_use (view_of s p l) z)) fd
-      ∙ ap (read_on c (view_of s p l)) (pipes.the_descriptor s p l d i k Reading x on)
-      ∙ ap (λ (b : Bool). unless (not b) c (view_of s p l) (λ _. moving c (view_of s p l) (writable l.image c.a1 (length_of_int (c_int c.a2))) (c_int c.a2) (λ m. read_from c (view_of s p l) m (or_else (least_on_file (numbered s l) on.file) on.file) (Shown_pipe k Reading x)))) reads
-      ∙ ap (λ (z : ℤ). moving c (view_of s p l) (writable l.image c.a1 (length_of_int z)) z (λ m. read_from c (view_of s p l) m (or_else (least_on_file (numbered s l) on.file) on.file) (Shown_pipe k Reading x))) buffer.0
+      ∙ ap (read_on c (view_of s p l)) (pipes.the_descriptor s p l d i k end x on)
+      ∙ ap (λ (b : Bool). unless (not b) c (view_of s p l) (λ _. moving c (view_of s p l) (writable l.image c.a1 (length_of_int (c_int c.a2))) (c_int c.a2) (λ m. read_from c (view_of s p l) m (or_else (least_on_file (numbered s l) on.file) on.file) (Shown_pipe k end x)))) reads
+      ∙ ap (λ (z : ℤ). moving c (view_of s p l) (writable l.image c.a1 (length_of_int z)) z (λ m. read_from c (view_of s p l) m (or_else (least_on_file (numbered s l) on.file) on.file) (Shown_pipe k end x))) buffer.0
       ∙ ap (λ (b : Bool). unless_nothing b c (view_of s p l) (λ _. unless (not (writable l.image c.a1 n)) c (view_of s p l) (λ _. read_pipe c (view_of s p l) k x n))) buffer.1
       ∙ ap (λ (b : Bool). unless (not b) c (view_of s p l) (λ _. read_pipe c (view_of s p l) k x n)) buffer.2
 
   abbrev taken_view : View
   taken_view = record (view_of s p l) { image = write_image l.image c.a1 (take (there x n) x.bytes); descriptors = change_pipe k (without_first (there x n) x) (view_of s p l).descriptors }
 
-  read_takes : must_wait x ≡ false → After s p l (read c (view_of s p l)) (piped_state p (with_answer (pos (there x n)) (with_bytes c.a1 (take (there x n) x.bytes) l)) i (without_first (there x n) x) s)
+  pub read_takes : must_wait x ≡ false → After s p l (read c (view_of s p l)) (piped_state p (with_answer (pos (there x n)) (with_bytes c.a1 (take (there x n) x.bytes) l)) i (without_first (there x n) x) s)
   unfolding view_of
   read_takes bytes =
-      piped_after s p l d i k Reading x on (without_first (there x n) x) (with_a0 l.regs (word (pos (there x n)))) (write_image l.image c.a1 (take (there x n) x.bytes)) None (Called c.number (pos (there x n))) refl (read c (view_of s p l))
+      piped_after s p l d i k end x on (without_first (there x n) x) (with_a0 l.regs (word (pos (there x n)))) (write_image l.image c.a1 (take (there x n) x.bytes)) None (Called c.number (pos (there x n))) refl (read c (view_of s p l))
       (read_is ∙ ap (λ (b : Bool). cond b (waits c 0 (view_of s p l)) (done c (pos (there x n)) taken_view)) bytes
-      ∙ ap (goes_on (Called c.number (pos (there x n)))) (pipes.piped_view s p l d i k Reading x on (without_first (there x n) x) (with_a0 l.regs (word (pos (there x n)))) (write_image l.image c.a1 (take (there x n) x.bytes)) None))
+      ∙ ap (goes_on (Called c.number (pos (there x n)))) (pipes.piped_view s p l d i k end x on (without_first (there x n) x) (with_a0 l.regs (word (pos (there x n)))) (write_image l.image c.a1 (take (there x n) x.bytes)) None))
 
-  read_waits : must_wait x ≡ true → After s p l (read c (view_of s p l)) (own_state p (in_call (record c { moved = 0 }) l) s)
+  pub read_waits : must_wait x ≡ true → After s p l (read c (view_of s p l)) (own_state p (in_call (record c { moved = 0 }) l) s)
   unfolding view_of
   read_waits none = by_own s (own_state p (in_call (record c { moved = 0 }) l) s) (view_of s p l) (read c (view_of s p l)) (waits c 0 (view_of s p l))
       (read_is ∙ ap (λ (b : Bool). cond b (waits c 0 (view_of s p l)) (done c (pos (there x n)) taken_view)) none)
       (waiting s p l c 0 l.image s.console s.free on.was)
 
 pub pipe_read : PipeReadLaw
-pipe_read s p l c d i k n x on reads fd buffer = (read_takes s p l c d i k n x on reads fd buffer, read_waits s p l c d i k n x on reads fd buffer)
+pipe_read s p l c d i k n end x on reads fd buffer = (read_takes s p l c d i k n end x on reads fd buffer, read_waits s p l c d i k n end x on reads fd buffer)
 
 -- ---- write
 
 pub pipe_write : PipeWriteLaw
 unfolding view_of
-pipe_write s p l c d i k n x on writes fd buffer = (
+pipe_write s p l c d i k n end x on writes fd buffer = (
   λ broken. by_own s (own_state p (with_answer minus_one l) s) (view_of s p l) (write c (view_of s p l)) (done c minus_one (view_of s p l))
-      (pipes.write_broken s p l d i k x on c n fd writes buffer.0 buffer.1 buffer.2 broken)
+      (pipes.write_broken s p l d i k end x on c n fd writes buffer.0 buffer.1 buffer.2 broken)
       (answer s p l c minus_one l.image s.console s.free on.was),
-  λ read over. piped_after s p l d i k Writing x on (written c l x n) (with_a0 l.regs (word (pos n))) l.image None (Called c.number (pos n)) refl (write c (view_of s p l))
-      (pipes.write_done s p l d i k x on c n fd writes buffer.0 buffer.1 buffer.2 read over),
-  λ read over. piped_after s p l d i k Writing x on (written c l x n) l.regs l.image (Some (record c { moved = now_moved c x n })) (Blocked c.number) refl (write c (view_of s p l))
-      (pipes.write_waits s p l d i k x on c n fd writes buffer.0 buffer.1 buffer.2 read over),
+  λ read over. piped_after s p l d i k end x on (written c l x n) (with_a0 l.regs (word (pos n))) l.image None (Called c.number (pos n)) refl (write c (view_of s p l))
+      (pipes.write_done s p l d i k end x on c n fd writes buffer.0 buffer.1 buffer.2 read over),
+  λ read over. piped_after s p l d i k end x on (written c l x n) l.regs l.image (Some (record c { moved = now_moved c x n })) (Blocked c.number) refl (write c (view_of s p l))
+      (pipes.write_waits s p l d i k end x on c n fd writes buffer.0 buffer.1 buffer.2 read over),
 )
 
 -- ---- a program's file

@@ -9,7 +9,6 @@ use Rattle.kcall_core.specs.Words.{c_int, word, minus_one}
 use Rattle.kcall_core.specs.Buffers.{readable}
 use Rattle.pipe_core.specs.Pipe.{Pipe, with_more}
 use Rattle.file_table.specs.declared.open_file.End.{End}
-use Rattle.file_table.specs.declared.open_file.End.TheVariants.{Writing}
 use Rattle.kcall_core.specs.PipeEnds.{fit}
 use Rattle.file_table.specs.declared.open_file.OpenFile.{OpenFile}
 use Rattle.kcall_core.specs.Processes.{Live}
@@ -72,7 +71,7 @@ module _ (s : State) (p : ℕ) (old : Live) (d i k : ℕ) (end : End) (x : Pipe)
 
 -- ---- write
 
-module _ (s : State) (p : ℕ) (old : Live) (d i k : ℕ) (x : Pipe) (on : OnPipe s p old d i k Writing x) (c : Call) (n : ℕ)
+module _ (s : State) (p : ℕ) (old : Live) (d i k : ℕ) (end : End) (x : Pipe) (on : OnPipe s p old d i k end x) (c : Call) (n : ℕ)
     (fd : c_int c.a0 ≡ pos d) (writes : on.write ≡ true) (count : c_int c.a2 ≡ pos n) (some : nat_eq n 0 ≡ false) (room : readable old.image c.a1 n ≡ true) where
   abbrev pub moved : ℕ
   moved = c.moved + fit x (n - c.moved)
@@ -84,31 +83,41 @@ module _ (s : State) (p : ℕ) (old : Live) (d i k : ℕ) (x : Pipe) (on : OnPip
   unfolding view_of
   write_own =
       ap (λ (z : ℤ). write_on c (view_of s p old) (in_use (view_of s p old) z)) fd
-      ∙ ap (write_on c (view_of s p old)) (the_descriptor s p old d i k Writing x on)
-      ∙ ap (λ (b : Bool). unless (not b) c (view_of s p old) (λ _. moving c (view_of s p old) (readable old.image c.a1 (length_of_int (c_int c.a2))) (c_int c.a2) (λ m. write_to c (view_of s p old) m (Shown_pipe k Writing x)))) writes
-      ∙ ap (λ (z : ℤ). moving c (view_of s p old) (readable old.image c.a1 (length_of_int z)) z (λ m. write_to c (view_of s p old) m (Shown_pipe k Writing x))) count
+      ∙ ap (write_on c (view_of s p old)) (the_descriptor s p old d i k end x on)
+      ∙ ap (λ (b : Bool). unless (not b) c (view_of s p old) (λ _. moving c (view_of s p old) (readable old.image c.a1 (length_of_int (c_int c.a2))) (c_int c.a2) (λ m. write_to c (view_of s p old) m (Shown_pipe k end x)))) writes
+      ∙ ap (λ (z : ℤ). moving c (view_of s p old) (readable old.image c.a1 (length_of_int z)) z (λ m. write_to c (view_of s p old) m (Shown_pipe k end x))) count
       ∙ ap (λ (b : Bool). unless_nothing b c (view_of s p old) (λ _. unless (not (readable old.image c.a1 n)) c (view_of s p old) (λ _. write_pipe c (view_of s p old) k x n))) some
       ∙ ap (λ (b : Bool). unless (not b) c (view_of s p old) (λ _. write_pipe c (view_of s p old) k x n)) room
 
-  abbrev table_written : View
+  abbrev pub table_written : View
   table_written = record (view_of s p old) { descriptors = change_pipe k pipe_written (view_of s p old).descriptors }
 
   -- nobody reads any more
   pub write_broken : nat_eq x.readers 0 ≡ true → write c (view_of s p old) ≡ done c minus_one (view_of s p old)
   write_broken none = write_own ∙ ap (λ (b : Bool). unless b c (view_of s p old) (λ _. done_at c n moved table_written)) none
 
+  -- all bytes are in
+  pub write_ends : nat_eq x.readers 0 ≡ false → nat_le n moved ≡ true → write c (view_of s p old) ≡ done c (pos n) table_written
+  write_ends read over =
+      write_own ∙ ap (λ (b : Bool). unless b c (view_of s p old) (λ _. done_at c n moved table_written)) read
+      ∙ ap (λ (b : Bool). cond b (done c (pos n) table_written) (waits c moved table_written)) over
+
+  -- some aren't yet
+  pub write_goes_on : nat_eq x.readers 0 ≡ false → nat_le n moved ≡ false → write c (view_of s p old) ≡ waits c moved table_written
+  write_goes_on read over =
+      write_own ∙ ap (λ (b : Bool). unless b c (view_of s p old) (λ _. done_at c n moved table_written)) read
+      ∙ ap (λ (b : Bool). cond b (done c (pos n) table_written) (waits c moved table_written)) over
+
   pub write_done : nat_eq x.readers 0 ≡ false → nat_le n moved ≡ true
-      → write c (view_of s p old) ≡ goes_on (Called c.number (pos n)) (view_of (pipe_state s p old d i k Writing x on pipe_written (with_a0 old.regs (word (pos n))) old.image None) p (pipe_live s p old d i k Writing x on pipe_written (with_a0 old.regs (word (pos n))) old.image None))
+      → write c (view_of s p old) ≡ goes_on (Called c.number (pos n)) (view_of (pipe_state s p old d i k end x on pipe_written (with_a0 old.regs (word (pos n))) old.image None) p (pipe_live s p old d i k end x on pipe_written (with_a0 old.regs (word (pos n))) old.image None))
   unfolding view_of
   write_done read over =
-      write_own ∙ ap (λ (b : Bool). unless b c (view_of s p old) (λ _. done_at c n moved table_written)) read
-      ∙ ap (λ (b : Bool). cond b (done c (pos n) table_written) (waits c moved table_written)) over
-      ∙ ap (goes_on (Called c.number (pos n))) (piped_view s p old d i k Writing x on pipe_written (with_a0 old.regs (word (pos n))) old.image None)
+      write_ends read over
+      ∙ ap (goes_on (Called c.number (pos n))) (piped_view s p old d i k end x on pipe_written (with_a0 old.regs (word (pos n))) old.image None)
 
   pub write_waits : nat_eq x.readers 0 ≡ false → nat_le n moved ≡ false
-      → write c (view_of s p old) ≡ goes_on (Blocked c.number) (view_of (pipe_state s p old d i k Writing x on pipe_written old.regs old.image (Some (record c { moved = moved }))) p (pipe_live s p old d i k Writing x on pipe_written old.regs old.image (Some (record c { moved = moved }))))
+      → write c (view_of s p old) ≡ goes_on (Blocked c.number) (view_of (pipe_state s p old d i k end x on pipe_written old.regs old.image (Some (record c { moved = moved }))) p (pipe_live s p old d i k end x on pipe_written old.regs old.image (Some (record c { moved = moved }))))
   unfolding view_of
   write_waits read over =
-      write_own ∙ ap (λ (b : Bool). unless b c (view_of s p old) (λ _. done_at c n moved table_written)) read
-      ∙ ap (λ (b : Bool). cond b (done c (pos n) table_written) (waits c moved table_written)) over
-      ∙ ap (goes_on (Blocked c.number)) (piped_view s p old d i k Writing x on pipe_written old.regs old.image (Some (record c { moved = moved })))
+      write_goes_on read over
+      ∙ ap (goes_on (Blocked c.number)) (piped_view s p old d i k end x on pipe_written old.regs old.image (Some (record c { moved = moved })))

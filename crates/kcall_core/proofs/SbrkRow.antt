@@ -34,7 +34,7 @@ row-answer k h sound i is old size limit value told =
 
 module _ (k : Kernel) (h : Hart) (c : Call) {mid : Kernel} {hm : Hart} where
   -- the view with its own image, and as many frames free
-  kept : HasImage k h (live_now k h).image mid hm → refused c (view_now k h) ≡ done c minus_one (record (view_now k h) { image = (live_now k h).image; free = (state_of mid hm).free })
+  pub kept : HasImage k h (live_now k h).image mid hm → refused c (view_now k h) ≡ done c minus_one (record (view_now k h) { image = (live_now k h).image; free = (state_of mid hm).free })
   unfolding view_of
   kept has =
       let free : (state_of k h).free ≡ (state_of mid hm).free = omega (arith, has.state.free) in

@@ -81,24 +81,57 @@ pub record Alone (k k' : Kernel) (i : ℕ) : Type 0 where
 pub not-this : (i j : ℕ) (o : Option ℕ) → o ≡ Some i → j ≢ i → is_this j o ≡ false
 not-this i j o is ne = ap (is_this j) is ∙ elim (eqb_tells i j) [ inl h ↦ absurd (ne (sym h.1)) | inr h ↦ h.0 ]
 
-pub alone-entries : (k k' : Kernel) (h h' : Hart) (i : ℕ) → Alone k k' i → (j : ℕ) → j ≢ i → entry_at k' h' j ≡ entry_at k h j
-alone-entries k k' h h' i a j ne =
-    let held : held_at (each_of k'.memories) j ≡ held_at (each_of k.memories) j = ap or_nothing (a.each j ne) in
-    let regs : regs_at k' h' j ≡ regs_at k h j =
-    ap (λ b. cond b h'.regs (held_at (each_of k'.memories) j).saved) (a.runs j ne) ∙ ap (λ (x : Held). x.saved) held ∙ sym (ap (λ b. cond b h.regs (held_at (each_of k.memories) j).saved) (a.ran j ne)) in
-    ap (entry_of k' h' j) (a.places j ne) ∙ under (place_at k.table j) held regs (a.files j ne)
+-- every slot but i stands for what it stood for, whoever runs
+pub record Beside (k k' : Kernel) (h h' : Hart) (i : ℕ) : Type 0 where
+  pub places : (j : ℕ) → j ≢ i → place_at k'.table j ≡ place_at k.table j
+  pub files : (j : ℕ) → j ≢ i → descriptors_at k'.table j ≡ descriptors_at k.table j
+  pub each : (j : ℕ) → j ≢ i → get_or (each_of k'.memories) j None ≡ get_or (each_of k.memories) j None
+  pub regs : (j : ℕ) → j ≢ i → regs_at k' h' j ≡ regs_at k h j
+
+-- none of the others ran, and none runs
+alone-beside : (k k' : Kernel) (h h' : Hart) (i : ℕ) → Alone k k' i → Beside k k' h h' i
+alone-beside k k' h h' i a = record {
+  places = a.places;
+  files = a.files;
+  each = a.each;
+  regs = λ j ne.
+      ap (λ b. cond b h'.regs (held_at (each_of k'.memories) j).saved) (a.runs j ne) ∙ ap (λ o. (or_nothing o).saved) (a.each j ne)
+      ∙ sym (ap (λ b. cond b h.regs (held_at (each_of k.memories) j).saved) (a.ran j ne));
+}
+
+-- or the one that ran runs on, on the same hart
+pub current-beside : (k k' : Kernel) (h : Hart) (i : ℕ) → k'.current ≡ k.current → ((j : ℕ) → j ≢ i → place_at k'.table j ≡ place_at k.table j) → ((j : ℕ) → j ≢ i → descriptors_at k'.table j ≡ descriptors_at k.table j)
+    → ((j : ℕ) → j ≢ i → get_or (each_of k'.memories) j None ≡ get_or (each_of k.memories) j None) → Beside k k' h h i
+current-beside k k' h i current places files each = record { places = places; files = files; each = each; regs = λ j ne. (λ t. cond (is_this j (current t)) h.regs (or_nothing (each j ne t)).saved) }
+
+beside-entries : (k k' : Kernel) (h h' : Hart) (i : ℕ) → Beside k k' h h' i → (j : ℕ) → j ≢ i → entry_at k' h' j ≡ entry_at k h j
+beside-entries k k' h h' i a j ne = ap (entry_of k' h' j) (a.places j ne) ∙ under (place_at k.table j) (ap or_nothing (a.each j ne)) (a.regs j ne) (a.files j ne)
   where
     under : (o : Option Process) → held_at (each_of k'.memories) j ≡ held_at (each_of k.memories) j → regs_at k' h' j ≡ regs_at k h j → descriptors_at k'.table j ≡ descriptors_at k.table j → entry_of k' h' j o ≡ entry_of k h j o
     under None held regs files = refl
     under (Some p) held regs files = λ t. Some (p.pid, process_of p (files t) (held t) (regs t))
 
+pub alone-entries : (k k' : Kernel) (h h' : Hart) (i : ℕ) → Alone k k' i → (j : ℕ) → j ≢ i → entry_at k' h' j ≡ entry_at k h j
+alone-entries k k' h h' i a = beside-entries k k' h h' i (alone-beside k k' h h' i a)
+
 -- slot i, which has a process, now stands for another process of the same pid
-pub slot-state : (k k' : Kernel) (h h' : Hart) (i : ℕ) (p : Process) (x : meaning.Process) → IsSound k h → place_at k.table i ≡ Some p → Alone k k' i → entry_at k' h' i ≡ Some (p.pid, x) → by_pid (entry_at k' h') NPROC ≡ insert (by_pid (entry_at k h) NPROC) p.pid x
-slot-state k k' h h' i p x sound is a here =
+pub slot-anew : (k k' : Kernel) (h h' : Hart) (i : ℕ) (p : Process) (x : meaning.Process) → IsSound k h → place_at k.table i ≡ Some p → Beside k k' h h' i → entry_at k' h' i ≡ Some (p.pid, x) → by_pid (entry_at k' h') NPROC ≡ insert (by_pid (entry_at k h) NPROC) p.pid x
+slot-anew k k' h h' i p x sound is a here =
     by_pid-insert (entry_at k h) (entry_at k' h') 64 i p.pid x (slot-inside k h sound i p is) here
-    (λ j lt ne. alone-entries k k' h h' i a j ne)
+    (λ j lt ne. beside-entries k k' h h' i a j ne)
     (λ e at. let found = entry-pid k h i (place_at k.table i) e at in found.2 ∙ ap (λ o. (or_nobody o).pid) (sym found.1 ∙ is))
     (λ j e lt ne at same. pids-apart k h sound i p is j e ne at same)
+
+pub slot-state : (k k' : Kernel) (h h' : Hart) (i : ℕ) (p : Process) (x : meaning.Process) → IsSound k h → place_at k.table i ≡ Some p → Alone k k' i → entry_at k' h' i ≡ Some (p.pid, x) → by_pid (entry_at k' h') NPROC ≡ insert (by_pid (entry_at k h) NPROC) p.pid x
+slot-state k k' h h' i p x sound is a here = slot-anew k k' h h' i p x sound is (alone-beside k k' h h' i a) here
+
+-- slot i, which was vacant, now stands for a process of the next pid
+pub slot-born : (k k' : Kernel) (h h' : Hart) (i : ℕ) (x : meaning.Process) → IsSound k h → i < 64 → place_at k.table i ≡ None → Beside k k' h h' i → entry_at k' h' i ≡ Some (k.table.next, x) → by_pid (entry_at k' h') NPROC ≡ insert (by_pid (entry_at k h) NPROC) k.table.next x
+slot-born k k' h h' i x sound below vacant a here =
+    by_pid-insert (entry_at k h) (entry_at k' h') 64 i k.table.next x below here
+    (λ j lt ne. beside-entries k k' h h' i a j ne)
+    (λ e at. absurd (none-some e (sym (ap (entry_of k h i) vacant) ∙ at)))
+    (λ j e lt ne at same. let f = entry-pid k h j (place_at k.table j) e at in omega (arith, f.2, same, sound.table.pids.below j f.0 f.1))
 
 -- a live process of the table, with its memory and registers
 alive : (p : Process) (files : List (Option ℕ)) (held : Held) (regs : Registers) → status_of p ≡ None → process_of p files held regs ≡ Alive (live_of p files held regs)

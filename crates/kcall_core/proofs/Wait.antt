@@ -64,7 +64,7 @@ module _ (s : State) (p q : ℕ) (old : Live) (was : get s.processes p ≡ Some 
   live_there (Some (Alive l)) m e f = let no : ⊥ = cc in no
   live_there (Some (Zombie a b)) m e f = let no : ⊥ = cc in no
 
-  stays : (m : ℕ) (l : Live) → m ≢ p → live s m ≡ Some l → live after m ≡ live s m
+  pub stays : (m : ℕ) (l : Live) → m ≢ p → live s m ≡ Some l → live after m ≡ live s m
   stays m l other is = ap live_part (process_at m) ∙ elim (eqb_tells m q) [
     | inl h ↦ absurd (live_there (get s.processes m) l is (ap (get s.processes) h.1 ∙ zombie))
     | inr h ↦ ap (λ (b : Bool). live_part (cond b None (get (insert s.processes p (Alive waited)) m))) h.0 ∙ live-set_live_there s p old waited was refl m other

@@ -8,6 +8,7 @@ use Rattle.pipe_core.specs.Pipe.{Pipe}
 use Rattle.console_core.specs.Lists.{Console}
 use Rattle.file_table.specs.declared.open_file.OpenFile.{OpenFile}
 use Rattle.file_table.specs.declared.open_file.Target.{Target}
+use Rattle.file_table.specs.declared.open_file.Target.TheVariants.{Console as Terminal, Program as File, Pipe as Pipe_end}
 use Rattle.proc_table.specs.declared.process.Call.{Call}
 use Rattle.kcall_core.specs.Words.{c_int}
 use Rattle.kcall_core.specs.Processes.{Process, Live, Alive, Zombie}
@@ -17,31 +18,49 @@ use Rattle.kcall_core.specs.Calls.{Row, Fork, Exit, Wait, Pipe_row, Read, Kill, 
 use Rattle.kcall_core.specs.Updates.{marked, own_state, changed_state, kill_state, waited_state, forking, forked_child, forked_state, gone_state}
 use Rattle.kcall_core.specs.WellFormed.{WellFormed}
 use Rattle.kcall_core.specs.RowLaws.{FilesLeft}
-use Rattle.kcall_core.specs.Conditions.{read_waits_for, write_waits_for, target_at, row_waits_for, call_waits_for, waits_for, OthersWaitOn, KeepsTargets, WaitsStay}
+use Rattle.kcall_core.specs.Conditions.{read_waits_for, write_waits_for, target_at, row_waits_for, call_waits_for, waits_for, OthersWaitOn, at_start, KeepsTargets, WaitsStay}
 use Rattle.kcall_core.proofs.Maps.{get_other, get_without}
 use Rattle.kcall_core.proofs.Orphans.{get-change}
 use Rattle.kcall_core.proofs.Enough.{alive_part}
 use Rattle.kcall_core.proofs.Fork.{live_some}
 use Rattle.kcall_core.proofs.GoneOpens as gone
 
+-- ---- how far a file was read is nothing that anybody waits for
+
+start-read : (o : Option Target) → read_waits_for o ≡ read_waits_for (at_start o)
+start-read None = refl
+start-read (Some Terminal) = refl
+start-read (Some (File program offset)) = refl
+start-read (Some (Pipe_end i end)) = refl
+
+start-write : (o : Option Target) → write_waits_for o ≡ write_waits_for (at_start o)
+start-write None = refl
+start-write (Some Terminal) = refl
+start-write (Some (File program offset)) = refl
+start-write (Some (Pipe_end i end)) = refl
+
+start-cond : (b : Bool) (x y : Option Target) → at_start x ≡ at_start y → at_start (cond b x None) ≡ at_start (cond b y None)
+start-cond true x y e = e
+start-cond false x y e = refl
+
 -- ---- one process: its call and its descriptors are the same, and its open files are on the same
 
-module _ (s t : State) (q : ℕ) (l m : Live) (calls : m.call ≡ l.call) (descriptors : m.descriptors ≡ l.descriptors) (targets : (d f : ℕ) → get l.descriptors d ≡ Some f → target_of_open (get t.files f) ≡ target_of_open (get s.files f)) where
-  same_end : (d : ℕ) (o : Option ℕ) → get l.descriptors d ≡ o → end_of t o ≡ end_of s o
+module _ (s t : State) (q : ℕ) (l m : Live) (calls : m.call ≡ l.call) (descriptors : m.descriptors ≡ l.descriptors) (targets : (d f : ℕ) → get l.descriptors d ≡ Some f → at_start (target_of_open (get t.files f)) ≡ at_start (target_of_open (get s.files f))) where
+  same_end : (d : ℕ) (o : Option ℕ) → get l.descriptors d ≡ o → at_start (end_of t o) ≡ at_start (end_of s o)
   same_end d None e = refl
   same_end d (Some f) e = targets d f e
 
-  same_target : (z : ℤ) → target_at t m z ≡ target_at s l z
+  same_target : (z : ℤ) → at_start (target_at t m z) ≡ at_start (target_at s l z)
   same_target (pos d) =
-      ap (λ (named : FinMap nat_cmp ℕ). cond (nat_lt d NOFILE) (end_of t (get named d)) None) descriptors
-      ∙ ap (λ (o : Option Target). cond (nat_lt d NOFILE) o None) (same_end d (get l.descriptors d) refl)
+      ap (λ (named : FinMap nat_cmp ℕ). at_start (cond (nat_lt d NOFILE) (end_of t (get named d)) None)) descriptors
+      ∙ start-cond (nat_lt d NOFILE) (end_of t (get l.descriptors d)) (end_of s (get l.descriptors d)) (same_end d (get l.descriptors d) refl)
   same_target (negsuc k) = refl
 
   same_row : (c : Call) (r : Option Row) → row_waits_for t q m c r ≡ row_waits_for s q l c r
   same_row c None = refl
   same_row c (Some Wait) = refl
-  same_row c (Some Read) = ap read_waits_for (same_target (c_int c.a0))
-  same_row c (Some Write) = ap write_waits_for (same_target (c_int c.a0))
+  same_row c (Some Read) = start-read (target_at t m (c_int c.a0)) ∙ ap read_waits_for (same_target (c_int c.a0)) ∙ sym (start-read (target_at s l (c_int c.a0)))
+  same_row c (Some Write) = start-write (target_at t m (c_int c.a0)) ∙ ap write_waits_for (same_target (c_int c.a0)) ∙ sym (start-write (target_at s l (c_int c.a0)))
   same_row c (Some Sleep) = refl
   same_row c (Some Fork) = refl
   same_row c (Some Exit) = refl
@@ -97,7 +116,7 @@ module _ (s : State) (p : ℕ) (m : Live) (files : FinMap nat_cmp OpenFile) (pip
 
   kept : KeepsTargets s p files ⊎ FilesLeft s after → KeepsTargets s p files
   kept (inl targets) = targets
-  kept (inr left) = λ q d f other named. ap target_of_open (left.stay q d f (ap (λ (o : Option Live). file_of o d) (live-other q other) ∙ named))
+  kept (inr left) = λ q d f other named. ap (λ o. at_start (target_of_open o)) (left.stay q d f (ap (λ (o : Option Live). file_of o d) (live-other q other) ∙ named))
 
   changed : KeepsTargets s p files ⊎ FilesLeft s after → OthersWaitOn s p after
   changed either = others s after p (kept either) (λ q l n other was is. spared-same l n (sym was ∙ sym (live-other q other) ∙ is))

@@ -5,15 +5,22 @@ use Rattle.hart_core.specs.UserMemory.{user}
 use Rattle.proc_table.specs.declared.process.Call.{Call}
 use Rattle.kcall_core.specs.View.{View}
 use Rattle.kcall_core.specs.Own.{Own}
-use Rattle.kcall_core.specs.Calls.{Row, Exit, Exec, Getpid, Sbrk, row_of, perform, refused}
+use Rattle.kcall_core.specs.Calls.{Row, Fork, Exit, Wait, Kill, Exec, Dup, Getpid, Sbrk, Sleep, Uptime, Close, row_of, perform, refused}
 use Rattle.kcall_core.specs.Step.{own, call_in, begun}
 
 abbrev pub is_built : Option Row → Bool
 is_built None = true
+is_built (Some Fork) = true
 is_built (Some Exit) = true
+is_built (Some Wait) = true
+is_built (Some Kill) = true
 is_built (Some Exec) = true
+is_built (Some Dup) = true
 is_built (Some Getpid) = true
 is_built (Some Sbrk) = true
+is_built (Some Sleep) = true
+is_built (Some Uptime) = true
+is_built (Some Close) = true
 is_built _ = false
 
 -- one step of a call in progress, in this kernel

@@ -179,9 +179,16 @@ OpensGone =
 abbrev pub OthersWaitOn : State → ℕ → State → Type 0
 OthersWaitOn s p t = (q : ℕ) (l m : Live) → q ≢ p → live s q ≡ Some l → live t q ≡ Some m → (waits_for t q m ≡ waits_for s q l) × (l.killed ≡ true → m.killed ≡ true)
 
+-- a target, without how far it was read: nobody waits on a program's file, wherever its next byte is
+abbrev pub at_start : Option Target → Option Target
+at_start None = None
+at_start (Some Terminal) = Some Terminal
+at_start (Some (File program offset)) = Some (File program 0)
+at_start (Some (Pipe_end i end)) = Some (Pipe_end i end)
+
 -- each open file that a process other than p names is on what it was on
 abbrev pub KeepsTargets : State → ℕ → FinMap nat_cmp OpenFile → Type 0
-KeepsTargets s p files = (q d f : ℕ) → q ≢ p → file_at s q d ≡ Some f → target_of_open (get files f) ≡ target_of_open (get s.files f)
+KeepsTargets s p files = (q d f : ℕ) → q ≢ p → file_at s q d ≡ Some f → at_start (target_of_open (get files f)) ≡ at_start (target_of_open (get s.files f))
 
 -- It is so after each update of a live process p: p changes with the open files, pipes, the console and the free frames, where the open files of others are on what they
 -- were on, or are those that somebody still names; p kills q; p takes the zombie q; p forks; p goes. A tick, a key and a byte that is sent leave what anybody waits for

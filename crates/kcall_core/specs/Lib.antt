@@ -34,3 +34,8 @@ pub mod Whole
 pub mod Makes
 pub mod Built
 pub mod Closings
+pub mod Ticks
+pub mod Moves
+pub mod Sharings
+pub mod Forks
+pub mod Kills

@@ -152,7 +152,7 @@ IsBuffer c is_there n = (c_int c.a2 ≡ pos n) × (nat_eq n 0 ≡ false) × (is_
 -- read from a pipe: it takes what is there, or waits
 abbrev pub PipeReadLaw : Type 0
 PipeReadLaw =
-    (s : State) (p : ℕ) (l : Live) (c : Call) (d i k n : ℕ) (x : Pipe) (on : OnPipe s p l d i k Reading x)
+    (s : State) (p : ℕ) (l : Live) (c : Call) (d i k n : ℕ) (end : End) (x : Pipe) (on : OnPipe s p l d i k end x)
     → on.read ≡ true → c_int c.a0 ≡ pos d → IsBuffer c (writable l.image c.a1) n
     → (must_wait x ≡ false → After s p l (read c (view_of s p l)) (piped_state p (with_answer (pos (there x n)) (with_bytes c.a1 (take (there x n) x.bytes) l)) i (without_first (there x n) x) s))
     × (must_wait x ≡ true → After s p l (read c (view_of s p l)) (own_state p (in_call (record c { moved = 0 }) l) s))
@@ -167,7 +167,7 @@ written c l x n = with_more (image_bytes l.image (c.a1 + c.moved) (fit x (n - c.
 -- write to a pipe: as many bytes as fit; it is done when all are in, and it fails when nobody reads any more
 abbrev pub PipeWriteLaw : Type 0
 PipeWriteLaw =
-    (s : State) (p : ℕ) (l : Live) (c : Call) (d i k n : ℕ) (x : Pipe) (on : OnPipe s p l d i k Writing x)
+    (s : State) (p : ℕ) (l : Live) (c : Call) (d i k n : ℕ) (end : End) (x : Pipe) (on : OnPipe s p l d i k end x)
     → on.write ≡ true → c_int c.a0 ≡ pos d → IsBuffer c (readable l.image c.a1) n
     → (nat_eq x.readers 0 ≡ true → After s p l (write c (view_of s p l)) (own_state p (with_answer minus_one l) s))
     × (nat_eq x.readers 0 ≡ false → nat_le n (now_moved c x n) ≡ true → After s p l (write c (view_of s p l)) (piped_state p (with_answer (pos n) l) i (written c l x n) s))

@@ -28,13 +28,21 @@ mod booting;
 mod calls;
 mod children;
 mod closing;
+mod descriptors;
+mod file_calls;
 mod exec_call;
+mod forking;
 mod going;
 mod growth;
+mod killing;
 mod observers;
+mod piping;
 mod program_list;
 mod registers;
+mod sharing;
 mod starting;
+mod ticks;
+mod waiting;
 #[cfg(test)]
 mod tests;
 
@@ -94,6 +102,8 @@ impl Kernel {
         ensures sound { IsSound self.new hart.new }
         ensures stopped { IsStopped self.new }
         ensures state { state_of self.new hart.new ≡ state_of self.old hart.old }
+        ensures rest { self.new ≡ record self.old { memories = self.new.memories; current = None } }
+        ensures frames { frame_count self.new ≡ frame_count self.old }
     {
         let Some(slot) = self.current else {
             unreachable!();

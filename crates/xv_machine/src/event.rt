@@ -7,6 +7,8 @@ use xk_base::{Cause, Pid};
 pub enum Event {
     /// The current process makes one step; where there is none, the next process has its turn.
     Run,
+    /// The timer interrupts: the clock counts one tick, sleepers on the clock wake, and nobody runs.
+    Tick,
 }
 
 /// What came of an event.
@@ -26,6 +28,8 @@ pub enum Outcome {
     Turn { pid: Pid },
     /// No process may run: all that live are asleep.
     Idle,
+    /// The clock has counted a tick.
+    Ticked,
     /// Process 1 is gone: nothing happened, and no process runs again.
     Halted,
 }
@@ -60,6 +64,7 @@ impl fmt::Display for Outcome {
                 write!(f, "turn {pid}")
             }
             Outcome::Idle => write!(f, "idle"),
+            Outcome::Ticked => write!(f, "tick"),
             Outcome::Halted => write!(f, "halted"),
         }
     }

@@ -171,6 +171,7 @@ impl Machine {
     {
         match event {
             Event::Run => self.run(),
+            Event::Tick => self.tick(),
         }
     }
 
@@ -208,6 +209,19 @@ impl Machine {
             return Outcome::Idle;
         };
         Outcome::Turn { pid }
+    }
+
+    // The clock counts a tick, unless process 1 is gone.
+    fn tick(&mut self) -> Outcome
+        ensures promised { PromisedSoFar self.old.world runs.Tick (outcome_of result) self.new.world }
+        ensures sound { IsSound self.new }
+        ensures frames { self.new.frames.count ≡ self.old.frames.count }
+    {
+        if self.halted.is_some() {
+            return Outcome::Halted;
+        }
+        self.kernel.tick(&mut self.hart);
+        Outcome::Ticked
     }
 
     /// The registers of a live process; `None` for any other pid.

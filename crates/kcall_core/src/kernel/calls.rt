@@ -16,30 +16,51 @@ ghost use Rattle.kcall_core.specs.Step.{call_in, call_begun};
 ghost use Rattle.kcall_core.specs.Built.{perform_so_far, own_so_far};
 ghost use Rattle.kcall_core.specs.RowLaws as laws;
 ghost use Rattle.kcall_core.specs.RowLaws.{begun_live, begun_state};
-ghost use Rattle.kcall_core.specs.Updates.{own_state, with_answer};
-ghost use Rattle.kcall_core.specs.Kernel.{state_of, IsSound, IsRunning, slot_now, pid_now, live_now};
+ghost use Rattle.kcall_core.specs.Updates.{own_state, with_answer, in_call};
+ghost use Rattle.kcall_core.specs.Kernel.{frame_count, state_of, IsSound, IsRunning, IsStopped, slot_now, pid_now, live_now};
 ghost use Rattle.kcall_core.specs.Whole.{IsWhole};
 ghost use Rattle.kcall_core.specs.Makes.{Makes, view_now, answer_of};
-ghost use Rattle.kcall_core.specs.declared.call_end.CallEnd.TheVariants.{Done};
+ghost use Rattle.kcall_core.specs.declared.call_end.CallEnd.TheVariants.{Done, Wait};
 
 use crate::call_end::CallEnd;
 use crate::kernel::registers::{CALL_NUMBER, FIRST_ARGUMENT, SECOND_ARGUMENT, THIRD_ARGUMENT};
 use crate::kernel::{Kernel, put_answer};
 use hart_core::Hart;
-use proc_table::Call;
+use proc_table::{Call, Channel};
 use xk_base::Reg;
 
-/// The number of the call exit (xv6's `syscall.h`, as for the others).
+/// The number of the call fork (xv6's `syscall.h`, as for the others).
+const FORK: i32 = 1;
+
+/// The number of the call exit.
 const EXIT: i32 = 2;
+
+/// The number of the call wait.
+const WAIT: i32 = 3;
+
+/// The number of the call kill.
+const KILL: i32 = 6;
 
 /// The number of the call exec.
 const EXEC: i32 = 7;
+
+/// The number of the call dup.
+const DUP: i32 = 10;
 
 /// The number of the call getpid.
 const GETPID: i32 = 11;
 
 /// The number of the call sbrk.
 const SBRK: i32 = 12;
+
+/// The number of the call sleep.
+const SLEEP: i32 = 13;
+
+/// The number of the call uptime.
+const UPTIME: i32 = 14;
+
+/// The number of the call close.
+const CLOSE: i32 = 21;
 
 /// A hart goes past its ECALL.
 fn pass_call(hart: &mut Hart)
@@ -69,6 +90,13 @@ fn asked_call(hart: &Hart, clock: u32) -> Call
         moved: 0,
         clock,
     }
+}
+
+/// The call, once it has moved so many bytes.
+pub(crate) fn with_moved(call: &Call, moved: u64) -> Call
+    ensures { result ≡ record call.now { moved = moved } }
+{
+    Call { moved, ..*call }
 }
 
 impl Kernel {
@@ -109,8 +137,29 @@ impl Kernel {
         CallEnd::Done(value)
     }
 
+    /// The process that runs sleeps on a channel, in this call.
+    pub(crate) fn block(&mut self, hart: &mut Hart, call: Call, channel: Channel) -> CallEnd
+        requires sound { IsSound self.old hart.old }
+        requires running { IsRunning self.old }
+        ensures sound { IsSound self.new hart.new }
+        ensures end { result ≡ Wait }
+        ensures stopped { IsStopped self.new }
+        ensures table { self.new.table ≡ changed_at (slot_now self.old) (process.asleep channel) (changed_at (slot_now self.old) (process.in_call (Some call)) self.old.table) }
+        ensures files { self.new.files ≡ self.old.files }
+        ensures frames { frame_count self.new ≡ frame_count self.old }
+        ensures state { state_of self.new hart.new ≡ own_state (pid_now self.old) (in_call call (live_now self.old hart.old)) (state_of self.old hart.old) }
+    {
+        let Some(slot) = self.current else {
+            unreachable!();
+        };
+        self.table.set_progress(slot, Some(call));
+        self.table.sleep(slot, channel);
+        self.suspend(hart);
+        CallEnd::Wait
+    }
+
     /// A call is refused: the answer is -1, and nothing else changes.
-    fn refuse(&mut self, hart: &mut Hart) -> CallEnd
+    pub(crate) fn refuse(&mut self, hart: &mut Hart) -> CallEnd
         requires whole { IsWhole self.old hart.old }
         requires running { IsRunning self.old }
         ensures made { (call : Call) → Makes self.old hart.old (refused call (view_now self.old hart.old)) self.new hart.new }
@@ -143,14 +192,21 @@ impl Kernel {
         ensures answer { (perform_so_far call.now (view_now self.old hart.old)).answer ≡ answer_of call.now.number result }
     {
         match call.number {
+            FORK => self.fork(hart),
             EXIT => {
                 let status = c_int(call.a0);
                 self.exit(hart, status);
                 CallEnd::Gone(status)
             }
+            WAIT => self.wait(hart, call),
+            KILL => self.kill(hart, call),
             EXEC => self.exec(hart, call),
+            DUP => self.dup(hart, call),
             GETPID => self.getpid(hart),
             SBRK => self.sbrk(hart, call),
+            SLEEP => self.sleep(hart, call),
+            UPTIME => self.uptime(hart),
+            CLOSE => self.close(hart, call),
             _ => self.refuse(hart),
         }
     }

@@ -43,7 +43,7 @@ impl Memories {
     }
 
     /// Whether no descriptor is on an end of a pipe.
-    fn is_closed(&self, frame: Frame, end: End) -> bool
+    pub fn is_closed(&self, frame: Frame, end: End) -> bool
         requires sound { IsSound self.now }
         requires there { IsSome (get (pipes_of self.now) frame) }
         ensures { result ≡ nat_eq (count_on end (pipe_named (pipes_of self.now) frame)) 0 }

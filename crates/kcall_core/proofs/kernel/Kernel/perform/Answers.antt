@@ -3,10 +3,18 @@ use Rattle.std.specs.Int.{w32}
 use Rattle.std.proofs.lemmas.Int.{to_z-of_z}
 use Rattle.kcall_core.specs.Words.{c_int}
 use Rattle.kcall_core.specs.View.{view_of}
+use Rattle.kcall_core.specs.Kernel.{state_of}
 use Rattle.kcall_core.specs.Own.{Own, Exited}
 use Rattle.kcall_core.specs.Makes.{Makes, view_now, answer_of}
-use Rattle.kcall_core.proofs.BuiltRows.{exit-row, exec-row, getpid-row, sbrk-row, IsOther, other-row}
+use Rattle.kcall_core.proofs.BuiltRows.{fork-row, exit-row, wait-row, kill-row, exec-row, getpid-row, sbrk-row, sleep-row, uptime-row, close-row, dup-row, IsOther, other-row}
 use Rattle.kcall_core.proofs.kernel.Kernel.perform.Goals as goal
+
+pub returns-in-1-clause-made : goal.returns-in-1-clause-made
+returns-in-1-clause-made c =
+    subst (λ o. Makes c.args.self.now c.args.hart.now o c.fork.new.self c.fork.new.hart) (sym (fork-row c.args.call.now (view_now c.args.self.now c.args.hart.now) (search rules))) (c.fork.ensures.made c.args.call.now)
+
+pub returns-in-1-clause-answer : goal.returns-in-1-clause-answer
+returns-in-1-clause-answer c = ap (λ (o : Own). o.answer) (fork-row c.args.call.now (view_now c.args.self.now c.args.hart.now) (search rules)) ∙ c.fork.ensures.answer c.args.call.now
 
 pub returns-in-2-clause-made : goal.returns-in-2-clause-made
 returns-in-2-clause-made c =
@@ -17,6 +25,20 @@ pub returns-in-2-clause-answer : goal.returns-in-2-clause-answer
 returns-in-2-clause-answer c =
     ap (λ (o : Own). o.answer) (exit-row c.args.call.now (view_now c.args.self.now c.args.hart.now) (search rules))
     ∙ ap Exited (sym (to_z-of_z w32 c.c_int-status.result (record { sfits = c.c_int-status.type_inv }) ∙ c.c_int-status.ensures))
+
+pub returns-in-3-clause-made : goal.returns-in-3-clause-made
+returns-in-3-clause-made c =
+    subst (λ o. Makes c.args.self.now c.args.hart.now o c.wait.new.self c.wait.new.hart) (sym (wait-row c.args.call.now (view_now c.args.self.now c.args.hart.now) (search rules))) c.wait.ensures.made
+
+pub returns-in-3-clause-answer : goal.returns-in-3-clause-answer
+returns-in-3-clause-answer c = ap (λ (o : Own). o.answer) (wait-row c.args.call.now (view_now c.args.self.now c.args.hart.now) (search rules)) ∙ c.wait.ensures.answer
+
+pub returns-in-6-clause-made : goal.returns-in-6-clause-made
+returns-in-6-clause-made c =
+    subst (λ o. Makes c.args.self.now c.args.hart.now o c.kill.new.self c.kill.new.hart) (sym (kill-row c.args.call.now (view_now c.args.self.now c.args.hart.now) (search rules))) c.kill.ensures.made
+
+pub returns-in-6-clause-answer : goal.returns-in-6-clause-answer
+returns-in-6-clause-answer c = ap (λ (o : Own). o.answer) (kill-row c.args.call.now (view_now c.args.self.now c.args.hart.now) (search rules)) ∙ c.kill.ensures.answer
 
 pub returns-in-7-clause-made : goal.returns-in-7-clause-made
 returns-in-7-clause-made c =
@@ -32,6 +54,37 @@ returns-in-12-clause-made c =
 pub returns-in-12-clause-answer : goal.returns-in-12-clause-answer
 returns-in-12-clause-answer c = ap (λ (o : Own). o.answer) (sbrk-row c.args.call.now (view_now c.args.self.now c.args.hart.now) (search rules)) ∙ c.sbrk.ensures.answer
 
+pub returns-in-13-clause-made : goal.returns-in-13-clause-made
+returns-in-13-clause-made c =
+    subst (λ o. Makes c.args.self.now c.args.hart.now o c.sleep.new.self c.sleep.new.hart) (sym (sleep-row c.args.call.now (view_now c.args.self.now c.args.hart.now) (search rules))) c.sleep.ensures.made
+
+pub returns-in-13-clause-answer : goal.returns-in-13-clause-answer
+returns-in-13-clause-answer c = ap (λ (o : Own). o.answer) (sleep-row c.args.call.now (view_now c.args.self.now c.args.hart.now) (search rules)) ∙ c.sleep.ensures.answer
+
+pub returns-in-14-clause-made : goal.returns-in-14-clause-made
+returns-in-14-clause-made c =
+    subst (λ o. Makes c.args.self.now c.args.hart.now o c.uptime.new.self c.uptime.new.hart) (sym (uptime-row c.args.call.now (view_now c.args.self.now c.args.hart.now) (search rules)))
+    (c.uptime.ensures.made c.args.call.now)
+
+pub returns-in-14-clause-answer : goal.returns-in-14-clause-answer
+unfolding view_of state_of
+returns-in-14-clause-answer c =
+    ap (λ (o : Own). o.answer) (uptime-row c.args.call.now (view_now c.args.self.now c.args.hart.now) (search rules)) ∙ ap (answer_of c.args.call.now.number) (sym c.uptime.ensures.end)
+
+pub returns-in-21-clause-made : goal.returns-in-21-clause-made
+returns-in-21-clause-made c =
+    subst (λ o. Makes c.args.self.now c.args.hart.now o c.close.new.self c.close.new.hart) (sym (close-row c.args.call.now (view_now c.args.self.now c.args.hart.now) (search rules))) c.close.ensures.made
+
+pub returns-in-21-clause-answer : goal.returns-in-21-clause-answer
+returns-in-21-clause-answer c = ap (λ (o : Own). o.answer) (close-row c.args.call.now (view_now c.args.self.now c.args.hart.now) (search rules)) ∙ c.close.ensures.answer
+
+pub returns-in-10-clause-made : goal.returns-in-10-clause-made
+returns-in-10-clause-made c =
+    subst (λ o. Makes c.args.self.now c.args.hart.now o c.dup.new.self c.dup.new.hart) (sym (dup-row c.args.call.now (view_now c.args.self.now c.args.hart.now) (search rules))) c.dup.ensures.made
+
+pub returns-in-10-clause-answer : goal.returns-in-10-clause-answer
+returns-in-10-clause-answer c = ap (λ (o : Own). o.answer) (dup-row c.args.call.now (view_now c.args.self.now c.args.hart.now) (search rules)) ∙ c.dup.ensures.answer
+
 pub returns-in-11-clause-made : goal.returns-in-11-clause-made
 returns-in-11-clause-made c =
     subst (λ o. Makes c.args.self.now c.args.hart.now o c.getpid.new.self c.getpid.new.hart) (sym (getpid-row c.args.call.now (view_now c.args.self.now c.args.hart.now) (search rules)))
@@ -44,10 +97,10 @@ returns-in-11-clause-answer c =
 
 pub returns-in_default-clause-made : goal.returns-in_default-clause-made
 returns-in_default-clause-made c =
-    let other : IsOther c.args.call.now.number = record { exit = search rules; exec = search rules; getpid = search rules; sbrk = search rules } in
+    let other : IsOther c.args.call.now.number = record { fork = search rules; exit = search rules; wait = search rules; kill = search rules; exec = search rules; dup = search rules; getpid = search rules; sbrk = search rules; sleep = search rules; uptime = search rules; close = search rules } in
     subst (λ o. Makes c.args.self.now c.args.hart.now o c.refuse.new.self c.refuse.new.hart) (sym (other-row c.args.call.now (view_now c.args.self.now c.args.hart.now) other)) (c.refuse.ensures.made c.args.call.now)
 
 pub returns-in_default-clause-answer : goal.returns-in_default-clause-answer
 returns-in_default-clause-answer c =
-    let other : IsOther c.args.call.now.number = record { exit = search rules; exec = search rules; getpid = search rules; sbrk = search rules } in
+    let other : IsOther c.args.call.now.number = record { fork = search rules; exit = search rules; wait = search rules; kill = search rules; exec = search rules; dup = search rules; getpid = search rules; sbrk = search rules; sleep = search rules; uptime = search rules; close = search rules } in
     ap (λ (o : Own). o.answer) (other-row c.args.call.now (view_now c.args.self.now c.args.hart.now) other) ∙ ap (answer_of c.args.call.now.number) (sym c.refuse.ensures.end)

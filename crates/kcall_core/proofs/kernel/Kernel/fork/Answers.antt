@@ -1,0 +1,88 @@
+use Rattle.std.proofs.Common.{◌≡◌, pos, sym, ap, ◌∙◌, subst, arith, w64}
+use Rattle.std.proofs.lemmas.Int.{to_z-of_z}
+use Rattle.file_table.specs.Named.{named_by}
+use Rattle.proc_table.specs.Slots.{descriptors_at}
+use Rattle.kcall_core.specs.Own.{Own, Called}
+use Rattle.kcall_core.specs.Makes.{answer_of}
+use Rattle.kcall_core.specs.Kernel.{state_of, slot_now}
+use Rattle.kcall_core.specs.Forks.{IsHanded}
+use Rattle.kcall_core.proofs.States.{slot-inside}
+use Rattle.kcall_core.proofs.Stops.{now-slot}
+use Rattle.kcall_core.proofs.Imaged.{image-makes}
+use Rattle.kcall_core.proofs.FreeSlot.{slot-for}
+use Rattle.kcall_core.proofs.ForkMakes.{fork-makes, fork-answer}
+use Rattle.kcall_core.proofs.Handing.{handed-none, handed-on, next-may}
+use Rattle.kcall_core.proofs.Handed.{barren-has, barren-row, done-has, handed-born}
+use Rattle.kcall_core.proofs.kernel.Kernel.fork.Goals as goal
+
+pub done-requires-clause-sound : goal.done-requires-clause-sound
+done-requires-clause-sound c = (barren-has c.requires.whole c.requires.running c.bear.new.self c.in_default-bear.ensures.refused).sound
+
+pub returns-in_default-bear-clause-made : goal.returns-in_default-bear-clause-made
+returns-in_default-bear-clause-made c call =
+    let b = c.in_default-bear.ensures.refused in
+    image-makes c.args.self.now c.args.hart.now c.requires.whole c.requires.running (barren-has c.requires.whole c.requires.running c.bear.new.self b) c.done.new.self c.done.new.hart _ c.done.ensures.sound c.done.ensures.kernel c.done.ensures.state call _
+    (barren-row c.requires.whole c.requires.running c.bear.new.self b call)
+
+pub returns-in_default-bear-clause-answer : goal.returns-in_default-bear-clause-answer
+returns-in_default-bear-clause-answer c call =
+    ap (λ (o : Own). o.answer) (barren-row c.requires.whole c.requires.running c.bear.new.self c.in_default-bear.ensures.refused call) ∙ sym (ap (answer_of call.number) c.done.ensures.end)
+
+pub loop-number-init : goal.loop-number-init
+loop-number-init c =
+    let b = c.in-Some-bear.ensures.born in
+    let new = slot-for c.args.self.now c.args.hart.now c.requires.whole.sound c.in-Some-bear.child.slot b.free in
+    handed-none c.requires.whole c.requires.running c.in-Some-bear.child.slot new c.in-Some-bear.child.pid c.bear.new.self b
+
+pub hand_down-requires-clause-from : goal.hand_down-requires-clause-from
+hand_down-requires-clause-from c =
+    let now = c.requires.whole.sound.current c.in-Some.slot c.in-Some.is in
+    slot-inside c.args.self.now c.args.hart.now c.requires.whole.sound c.in-Some.slot now.process now.is
+
+pub hand_down-requires-clause-may : goal.hand_down-requires-clause-may
+hand_down-requires-clause-may c file used =
+    let b = c.in-Some-bear.ensures.born in
+    let new = slot-for c.args.self.now c.args.hart.now c.requires.whole.sound c.in-Some-bear.child.slot b.free in
+    let fd : c.new.result ≡ c.loop-number.number = omega (arith, c.new.ensures, c.loop-number-test.true) in
+    let from : c.in-Some.slot ≡ slot_now c.args.self.now = now-slot c.in-Some.slot c.requires.whole.sound c.in-Some.is in
+    next-may c.requires.whole c.requires.running c.in-Some-bear.child.slot new c.loop-number.number _ c.loop-number.invariant (omega (arith, c.loop-number-test.true)) file
+    (sym (λ t. named_by (descriptors_at c.loop-number.self.table (from t)) (fd t)) ∙ used)
+
+pub loop-number-preserved : goal.loop-number-preserved
+loop-number-preserved c =
+    let b = c.in-Some-bear.ensures.born in
+    let new = slot-for c.args.self.now c.args.hart.now c.requires.whole.sound c.in-Some-bear.child.slot b.free in
+    handed-on c.requires.whole c.requires.running c.in-Some-bear.child.slot new c.loop-number.number c.new.result c.in-Some.slot _ c.hand_down.new.self c.loop-number.invariant (omega (arith, c.loop-number-test.true))
+    (omega (arith, c.new.ensures, c.loop-number-test.true)) (now-slot c.in-Some.slot c.requires.whole.sound c.in-Some.is) c.hand_down.ensures.kept c.hand_down.ensures.shared
+
+pub save_child-requires-clause-there : goal.save_child-requires-clause-there
+save_child-requires-clause-there c =
+    let b = c.in-Some-bear.ensures.born in
+    let new = slot-for c.args.self.now c.args.hart.now c.requires.whole.sound c.in-Some-bear.child.slot b.free in
+    let all : c.loop-number.number ≡ 16 = omega (arith, c.loop-number-test.false, c.loop-number.auto.number-end) in
+    let x = subst (λ n. IsHanded c.args.self.now c.args.hart.now c.in-Some-bear.child.slot n c.loop-number.self) all c.loop-number.invariant in
+    let value = to_z-of_z w64 c.from.result (record { sfits = c.from.type_inv }) ∙ c.from.ensures ∙ ap pos (c.number.ensures.value ∙ b.named) in
+    done-has c.requires.whole c.requires.running c.in-Some-bear.child.slot new _ x _ value c.done-end.new.self c.done-end.new.hart
+    (record { sound = c.done-end.ensures.sound; kernel = c.done-end.ensures.kernel; state = c.done-end.ensures.state }) c.done-end.ensures.hart
+
+pub returns-clause-made : goal.returns-clause-made
+returns-clause-made c call =
+    let b = c.in-Some-bear.ensures.born in
+    let new = slot-for c.args.self.now c.args.hart.now c.requires.whole.sound c.in-Some-bear.child.slot b.free in
+    let all : c.loop-number.number ≡ 16 = omega (arith, c.loop-number-test.false, c.loop-number.auto.number-end) in
+    let x = subst (λ n. IsHanded c.args.self.now c.args.hart.now c.in-Some-bear.child.slot n c.loop-number.self) all c.loop-number.invariant in
+    let value = to_z-of_z w64 c.from.result (record { sfits = c.from.type_inv }) ∙ c.from.ensures ∙ ap pos (c.number.ensures.value ∙ b.named) in
+    fork-makes c.requires.whole c.requires.running (handed-born c.requires.whole c.requires.running c.in-Some-bear.child.slot new _ x _ value c.done-end.new.self c.done-end.new.hart
+    (record { sound = c.done-end.ensures.sound; kernel = c.done-end.ensures.kernel; state = c.done-end.ensures.state }) c.done-end.ensures.hart c.save_child.new.self c.save_child.ensures.saved c.save_child.ensures.rest) call
+
+pub returns-clause-answer : goal.returns-clause-answer
+unfolding state_of
+returns-clause-answer c call =
+    let b = c.in-Some-bear.ensures.born in
+    let new = slot-for c.args.self.now c.args.hart.now c.requires.whole.sound c.in-Some-bear.child.slot b.free in
+    let all : c.loop-number.number ≡ 16 = omega (arith, c.loop-number-test.false, c.loop-number.auto.number-end) in
+    let x = subst (λ n. IsHanded c.args.self.now c.args.hart.now c.in-Some-bear.child.slot n c.loop-number.self) all c.loop-number.invariant in
+    let value = to_z-of_z w64 c.from.result (record { sfits = c.from.type_inv }) ∙ c.from.ensures ∙ ap pos (c.number.ensures.value ∙ b.named) in
+    fork-answer c.requires.whole c.requires.running (handed-born c.requires.whole c.requires.running c.in-Some-bear.child.slot new _ x _ value c.done-end.new.self c.done-end.new.hart
+    (record { sound = c.done-end.ensures.sound; kernel = c.done-end.ensures.kernel; state = c.done-end.ensures.state }) c.done-end.ensures.hart c.save_child.new.self c.save_child.ensures.saved c.save_child.ensures.rest) call
+    ∙ ap (Called call.number) (sym value) ∙ ap (answer_of call.number) (sym c.done-end.ensures.end)

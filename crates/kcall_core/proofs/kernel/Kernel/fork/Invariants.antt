@@ -1,0 +1,5 @@
+use Rattle.kcall_core.specs.Forks.{IsHanded}
+use Rattle.kcall_core.proofs.kernel.Kernel.fork.Given as goal
+
+abbrev pub invariant-loop-number : goal.invariant-loop-number
+invariant-loop-number l = IsHanded l.fn.self l.fn.hart l.child.slot l.number l.self

@@ -1,0 +1,5 @@
+use Rattle.kcall_core.proofs.MovingRows.{reads-pipe}
+use Rattle.kcall_core.proofs.kernel.Kernel.read_from.Goals as goal
+
+pub read_pipe-requires-clause-reads : goal.read_pipe-requires-clause-reads
+read_pipe-requires-clause-reads c = reads-pipe c.requires.whole c.requires.running c.requires.file c.requires.reads c.in-Pipe.is

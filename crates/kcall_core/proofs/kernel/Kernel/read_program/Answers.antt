@@ -1,0 +1,62 @@
+use Rattle.std.proofs.Common.{◌≡◌, pos, sym, ap, ◌∙◌, subst, w64, length, take, drop, map, refl, arith}
+use Rattle.std.specs.Prelude.{slice_get}
+use Rattle.std.proofs.lemmas.Int.{to_z_pos}
+use Rattle.std.proofs.lemmas.List.{take_all}
+use Rattle.xk_base.specs.Bytes.{write_image}
+use Rattle.kcall_core.specs.Buffers.{writable}
+use Rattle.kcall_core.specs.Holdings.{held_at}
+use Rattle.kcall_core.specs.Memories.{each_of}
+use Rattle.kcall_core.specs.Own.{Called}
+use Rattle.kcall_core.specs.Programs.{program_bytes}
+use Rattle.kcall_core.specs.State.{named_file}
+use Rattle.kcall_core.specs.Kernel.{state_of}
+use Rattle.kcall_core.specs.Makes.{answer_of}
+use Rattle.kcall_core.proofs.Stops.{now-slot}
+use Rattle.kcall_core.proofs.PipeRest.{writable-fewer}
+use Rattle.kcall_core.proofs.FileReads.{slot-memory, few, is-open, file-sound, file-answer, file-done}
+use Rattle.kcall_core.proofs.kernel.Kernel.read_program.Goals as goal
+
+pub put_front-requires-clause-there : goal.put_front-requires-clause-there
+put_front-requires-clause-there c = slot-memory c.requires.whole c.requires.slot
+
+pub put_front-requires-clause-writable : goal.put_front-requires-clause-writable
+unfolding state_of
+put_front-requires-clause-writable c =
+    let are = c.file_rest-bytes.ensures.bytes ∙ ap (λ xs. take c.args.n (drop c.args.offset (program_bytes (slice_get (map named_file xs) c.args.program)))) c.deref.ensures.value in
+    let slot = now-slot c.args.slot c.requires.whole.sound c.requires.slot in
+    ap (λ i. writable (held_at (each_of c.args.self.now.memories) i).image c.args.call.now.a1 (length c.file_rest-bytes.result.now)) slot
+    ∙ writable-fewer _ c.args.call.now.a1 c.args.n (length c.file_rest-bytes.result.now) (few c.requires.whole c.requires.running c.requires.file c.requires.reads c.args.program c.args.offset c.requires.target c.file_rest-bytes.result.now are) c.requires.file.buffer.2
+
+pub move_to-requires : goal.move_to-requires
+unfolding state_of
+move_to-requires c =
+    let are = c.file_rest-bytes.ensures.bytes ∙ ap (λ xs. take c.args.n (drop c.args.offset (program_bytes (slice_get (map named_file xs) c.args.program)))) c.deref.ensures.value in
+    is-open c.requires.whole c.requires.running c.requires.file c.requires.reads c.args.program c.args.offset c.requires.target c.file_rest-bytes.result.now are
+
+pub done-requires-clause-sound : goal.done-requires-clause-sound
+unfolding state_of
+done-requires-clause-sound c =
+    let are = c.file_rest-bytes.ensures.bytes ∙ ap (λ xs. take c.args.n (drop c.args.offset (program_bytes (slice_get (map named_file xs) c.args.program)))) c.deref.ensures.value in
+    let slot = now-slot c.args.slot c.requires.whole.sound c.requires.slot in
+    file-sound c.requires.whole c.requires.running c.requires.file c.requires.reads c.args.program c.args.offset c.requires.target c.file_rest-bytes.result.now are
+    c.put_front.new.self _ ((λ i. write_image (held_at (each_of c.args.self.now.memories) (slot i)).image c.args.call.now.a1 (take_all (length c.file_rest-bytes.result.now) c.file_rest-bytes.result.now (omega arith) i))) c.args.slot slot c.put_front.ensures.written c.put_front.ensures.free c.put_front.ensures.runs
+    _ (λ i. record c.args.self.now { memories = c.put_front.new.self; files = c.move_to.ensures i })
+
+pub returns-clause-made : goal.returns-clause-made
+unfolding state_of
+returns-clause-made c =
+    let are = c.file_rest-bytes.ensures.bytes ∙ ap (λ xs. take c.args.n (drop c.args.offset (program_bytes (slice_get (map named_file xs) c.args.program)))) c.deref.ensures.value in
+    let slot = now-slot c.args.slot c.requires.whole.sound c.requires.slot in
+    file-done c.requires.whole c.requires.running c.requires.file c.requires.reads c.args.program c.args.offset c.requires.target c.file_rest-bytes.result.now are
+    c.put_front.new.self _ ((λ i. write_image (held_at (each_of c.args.self.now.memories) (slot i)).image c.args.call.now.a1 (take_all (length c.file_rest-bytes.result.now) c.file_rest-bytes.result.now (omega arith) i))) c.args.slot slot c.put_front.ensures.written c.put_front.ensures.free c.put_front.ensures.runs
+    _ (λ i. record c.args.self.now { memories = c.put_front.new.self; files = c.move_to.ensures i })
+    c.done.new.self c.done.new.hart _ (to_z_pos w64 (length c.file_rest-bytes.result.now) (omega (arith, c.requires.size, few c.requires.whole c.requires.running c.requires.file c.requires.reads c.args.program c.args.offset c.requires.target c.file_rest-bytes.result.now are)))
+    (record { sound = c.done.ensures.sound; kernel = c.done.ensures.kernel; state = c.done.ensures.state })
+
+pub returns-clause-answer : goal.returns-clause-answer
+unfolding state_of
+returns-clause-answer c =
+    let are = c.file_rest-bytes.ensures.bytes ∙ ap (λ xs. take c.args.n (drop c.args.offset (program_bytes (slice_get (map named_file xs) c.args.program)))) c.deref.ensures.value in
+    file-answer c.requires.whole c.requires.running c.requires.file c.requires.reads c.args.program c.args.offset c.requires.target c.file_rest-bytes.result.now are
+    ∙ ap (Called c.args.call.now.number) (sym (to_z_pos w64 (length c.file_rest-bytes.result.now) (omega (arith, c.requires.size, few c.requires.whole c.requires.running c.requires.file c.requires.reads c.args.program c.args.offset c.requires.target c.file_rest-bytes.result.now are))))
+    ∙ ap (answer_of c.args.call.now.number) (sym c.done.ensures.end)

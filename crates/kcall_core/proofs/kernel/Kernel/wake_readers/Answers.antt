@@ -1,0 +1,15 @@
+use Rattle.std.proofs.Common.{◌≡◌, Bool, true, false, ap, ◌∙◌, cond, ◌&&◌, refl, arith, inl, inr}
+use Rattle.std.specs.Prelude.{nat_lt}
+use Rattle.std.proofs.lemmas.Bool.{le-ltb}
+use Rattle.proc_table.specs.Channels.{same_channel}
+use Rattle.proc_table.specs.declared.channel.Channel.TheVariants as on
+use Rattle.kcall_core.specs.Moves.{wakes_readers}
+use Rattle.kcall_core.proofs.Woken.{each-none, each-woken}
+use Rattle.kcall_core.proofs.PipeWrites.{none-came, some-came}
+use Rattle.kcall_core.proofs.kernel.Kernel.wake_readers.Goals as goal
+
+pub returns-then-count-eq0-clause-table : goal.returns-then-count-eq0-clause-table
+returns-then-count-eq0-clause-table c = each-none (wakes_readers c.args.frame c.args.count) c.args.self.now.table (λ d. none-came c.args.frame c.args.count d c.if-count-eq0.true)
+
+pub returns-clause-table : goal.returns-clause-table
+returns-clause-table c = c.wake.ensures.table ∙ each-woken (wakes_readers c.args.frame c.args.count) (on.Bytes c.args.frame) c.args.self.now.table (λ d. some-came c.args.frame c.args.count d c.if-count-eq0.false)

@@ -1,0 +1,18 @@
+use Rattle.std.proofs.Common.{◌≡◌, sym, ap, ◌∙◌, subst}
+use Rattle.kcall_core.specs.Own.{Own}
+use Rattle.kcall_core.specs.Makes.{Makes, answer_of}
+use Rattle.kcall_core.proofs.MovingRows.{writes-pipe, program-refused}
+use Rattle.kcall_core.proofs.kernel.Kernel.write_to.Goals as goal
+
+pub write_pipe-requires-clause-writes : goal.write_pipe-requires-clause-writes
+write_pipe-requires-clause-writes c = writes-pipe c.requires.whole c.requires.running c.requires.file.1 c.requires.writes c.in-Pipe.is
+
+pub returns-in-Program-clause-made : goal.returns-in-Program-clause-made
+returns-in-Program-clause-made c built =
+    subst (λ (o : Own). Makes c.args.self.now c.args.hart.now o c.refuse-in-Program.new.self c.refuse-in-Program.new.hart)
+    (sym (program-refused c.in-Program.program c.in-Program.offset c.requires.whole c.requires.running c.requires.file.1 c.requires.writes c.in-Program.is)) (c.refuse-in-Program.ensures.made c.args.call.now)
+
+pub returns-in-Program-clause-answer : goal.returns-in-Program-clause-answer
+returns-in-Program-clause-answer c built =
+    ap (λ (o : Own). o.answer) (program-refused c.in-Program.program c.in-Program.offset c.requires.whole c.requires.running c.requires.file.1 c.requires.writes c.in-Program.is)
+    ∙ ap (answer_of c.args.call.now.number) (sym c.refuse-in-Program.ensures.end)

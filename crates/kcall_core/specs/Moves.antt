@@ -1,0 +1,71 @@
+-- Bytes that move from a pipe to the memory of a slot.
+use Rattle.std.specs.Prelude.{◌≡◌, ◌≢◌, ℕ, ◌<◌, Some, length, set, pos, ℤ, Bool, true, ◌&&◌, nat_lt}
+use Rattle.std.specs.FinMap.{get, insert}
+use Rattle.xk_base.specs.declared.limits.TheConstants.{NOFILE}
+use Rattle.xk_base.specs.Image.{Image}
+use Rattle.hart_core.specs.declared.hart.Hart.{Hart}
+use Rattle.pipe_core.specs.Pipe.{Pipe}
+use Rattle.file_table.specs.declared.open_file.End.{End}
+use Rattle.file_table.specs.declared.open_file.OpenFile.{OpenFile}
+use Rattle.file_table.specs.declared.open_file.Target.TheVariants.{Console}
+use Rattle.proc_table.specs.Channels.{same_channel}
+use Rattle.proc_table.specs.declared.channel.Channel.{Channel}
+use Rattle.proc_table.specs.declared.channel.Channel.TheVariants as on
+use Rattle.proc_table.specs.declared.process.Call.{Call}
+use Rattle.kcall_core.specs.Words.{c_int}
+use Rattle.kcall_core.specs.Buffers.{readable, writable}
+use Rattle.kcall_core.specs.Holdings.{held_at, with_image}
+use Rattle.kcall_core.specs.Memories.{each_of, pipes_of, free_of, IsSound, RunsIn}
+use Rattle.kcall_core.specs.RowLaws.{OnPipe, IsBuffer}
+use Rattle.kcall_core.specs.Kernel as kernel
+use Rattle.kcall_core.specs.Kernel.{state_of, pid_now, live_now}
+use Rattle.kcall_core.specs.declared.kernel.Kernel.{Kernel}
+use Rattle.kcall_core.specs.declared.memories.Memories.{Memories}
+
+-- the pipe that a frame keeps is another, and so is the image in a slot: all else stays, and no frame is taken or given back
+pub record Moves (old new : Memories) (slot : ℕ) (image : Image) (f : ℕ) (pipe : Pipe) : Type 0 where
+  pub sound : IsSound new
+  pub each : each_of new ≡ set (each_of old) slot (Some (with_image image (held_at (each_of old) slot)))
+  pub pipes : pipes_of new ≡ insert (pipes_of old) f pipe
+  pub free : free_of new ≡ free_of old
+  pub frames : length new.ram ≡ length old.ram
+  pub runs : (other : ℕ) (hart : Hart) → RunsIn old other hart → RunsIn new other hart
+
+-- the call reads from the pipe in a frame, n bytes at most, and all of its buffer is there
+pub record ReadsPipe (k : Kernel) (h : Hart) (c : Call) (f n : ℕ) : Type 0 where
+  pub fd : ℕ
+  pub name : ℕ
+  pub end : End
+  pub pipe : Pipe
+  pub on : OnPipe (state_of k h) (pid_now k) (live_now k h) fd f name end pipe
+  pub reads : on.read ≡ true
+  pub number : c_int c.a0 ≡ pos fd
+  pub buffer : IsBuffer c (writable (live_now k h).image c.a1) n
+
+-- the call writes to the pipe in a frame, n bytes in all, and all of its buffer is there
+pub record WritesPipe (k : Kernel) (h : Hart) (c : Call) (f n : ℕ) : Type 0 where
+  pub fd : ℕ
+  pub name : ℕ
+  pub end : End
+  pub pipe : Pipe
+  pub on : OnPipe (state_of k h) (pid_now k) (live_now k h) fd f name end pipe
+  pub writes : on.write ≡ true
+  pub number : c_int c.a0 ≡ pos fd
+  pub buffer : IsBuffer c (readable (live_now k h).image c.a1) n
+
+-- those wake who wait for bytes in a pipe, where so many came and these aren't 0
+abbrev pub wakes_readers : ℕ → ℕ → Channel → Bool
+wakes_readers f count channel = nat_lt 0 count && same_channel channel (on.Bytes f)
+
+-- the call is on an open file, which is x, and asks for n bytes, all of which are there in its buffer
+pub record OnFile (k : Kernel) (h : Hart) (c : Call) (file : ℕ) (x : OpenFile) (is_there : ℕ → Bool) (n : ℕ) : Type 0 where
+  pub fd : ℕ
+  pub below : fd < NOFILE
+  pub number : c_int c.a0 ≡ pos fd
+  pub named_file : get (live_now k h).descriptors fd ≡ Some file
+  pub opened : get (state_of k h).files file ≡ Some x
+  pub buffer : IsBuffer c is_there n
+
+-- the call is on no terminal (on which reads and writes aren't built yet)
+abbrev pub OnNoTerminal : Kernel → Hart → Call → Type 0
+OnNoTerminal k h c = (fd file : ℕ) (x : OpenFile) → fd < NOFILE → c_int c.a0 ≡ pos fd → get (live_now k h).descriptors fd ≡ Some file → get (state_of k h).files file ≡ Some x → x.target ≢ Console

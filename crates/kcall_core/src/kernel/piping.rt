@@ -1,0 +1,87 @@
+//! Reads and writes of pipes (xv6's `pipe.c`; the xv6 book, "Code: Pipes").
+ghost use Rattle.std.specs.Prelude.{◌≡◌, ◌-◌, ◌<◌, Some, pos, false};
+ghost use Rattle.hart_core.specs.declared.hart.Hart.{Hart};
+ghost use Rattle.proc_table.specs.Slots.{each_changed};
+ghost use Rattle.kcall_core.specs.Calls.{read, write};
+ghost use Rattle.kcall_core.specs.Closings.{woken_by};
+ghost use Rattle.kcall_core.specs.Kernel.{IsRunning, IsSound, live_now};
+ghost use Rattle.kcall_core.specs.Whole.{IsWhole};
+ghost use Rattle.kcall_core.specs.Makes.{Makes, view_now, answer_of};
+ghost use Rattle.kcall_core.specs.Moves.{ReadsPipe, WritesPipe, wakes_readers};
+
+use crate::call_end::CallEnd;
+use crate::kernel::Kernel;
+use crate::kernel::calls::with_moved;
+use file_table::End;
+use hart_core::Hart;
+use proc_table::{Call, Channel};
+use xk_base::Frame;
+
+/// How many of a call's `n` bytes it hasn't moved yet.
+fn left_of(call: &Call, n: usize) -> usize
+    ensures { result ≡ n - call.now.moved }
+{
+    (n as u64).saturating_sub(call.moved) as usize
+}
+
+impl Kernel {
+    /// One step of a read from a pipe: the answer is how many bytes it took, which are all that are there
+    /// but at most `n`. It waits while there is none and somebody may still write.
+    pub(crate) fn read_pipe(&mut self, hart: &mut Hart, call: &Call, slot: usize, frame: Frame, n: usize) -> CallEnd
+        requires whole { IsWhole self.old hart.old }
+        requires running { IsRunning self.old }
+        requires slot { self.old.current ≡ Some slot }
+        requires unmarked { (live_now self.old hart.old).killed ≡ false }
+        requires in_call { (live_now self.old hart.old).call ≡ Some call.now }
+        requires row { call.now.number ≡ pos 5 }
+        requires reads { ReadsPipe self.old hart.old call.now frame n }
+        ensures made { Makes self.old hart.old (read call.now (view_now self.old hart.old)) self.new hart.new }
+        ensures answer { (read call.now (view_now self.old hart.old)).answer ≡ answer_of call.now.number result }
+    {
+        if self.memories.must_wait(frame) {
+            return self.block(hart, with_moved(call, 0), Channel::Bytes(frame));
+        }
+        let count = self.memories.pull_to(frame, slot, call.a1, n);
+        self.wake(Channel::Room(frame));
+        self.done(hart, count as i64)
+    }
+
+    /// Those wake who wait for bytes in a pipe, where so many came and these aren't none.
+    fn wake_readers(&mut self, frame: Frame, count: usize)
+        ensures sound { (hart : Hart) → IsSound self.old hart → IsSound self.new hart }
+        ensures table { self.new.table ≡ each_changed (woken_by (wakes_readers frame count)) self.old.table }
+        ensures rest { self.new ≡ record self.old { table = self.new.table } }
+    {
+        if count == 0 {
+            return;
+        }
+        self.wake(Channel::Bytes(frame));
+    }
+
+    /// One step of a write to a pipe: as many bytes as fit go in. It is done when all `n` are in, it waits
+    /// for room until then, and it fails where nobody can read any more.
+    pub(crate) fn write_pipe(&mut self, hart: &mut Hart, call: &Call, slot: usize, frame: Frame, n: usize) -> CallEnd
+        requires whole { IsWhole self.old hart.old }
+        requires running { IsRunning self.old }
+        requires slot { self.old.current ≡ Some slot }
+        requires unmarked { (live_now self.old hart.old).killed ≡ false }
+        requires in_call { (live_now self.old hart.old).call ≡ Some call.now }
+        requires row { call.now.number ≡ pos 16 }
+        requires size { n < 2147483648 }
+        requires writes { WritesPipe self.old hart.old call.now frame n }
+        ensures made { Makes self.old hart.old (write call.now (view_now self.old hart.old)) self.new hart.new }
+        ensures answer { (write call.now (view_now self.old hart.old)).answer ≡ answer_of call.now.number result }
+    {
+        if self.memories.is_closed(frame, End::Reading) {
+            return self.refuse(hart);
+        }
+        let left = left_of(call, n);
+        let count = self.memories.push_from(frame, slot, call.a1.wrapping_add(call.moved), left);
+        self.wake_readers(frame, count);
+        let moved = call.moved + count as u64;
+        if moved >= n as u64 {
+            return self.done(hart, n as i64);
+        }
+        self.block(hart, with_moved(call, moved), Channel::Room(frame))
+    }
+}

@@ -1,0 +1,78 @@
+//! The call wait (the xv6 book, "Code: Wait, exit, and kill").
+ghost use Rattle.std.specs.Prelude.{◌≡◌, true, false, pos, Some, nat_eq, ◌||◌};
+ghost use Rattle.hart_core.specs.declared.hart.Hart.{Hart};
+ghost use Rattle.kcall_core.specs.Buffers.{writable};
+ghost use Rattle.kcall_core.specs.Calls.{wait};
+ghost use Rattle.kcall_core.specs.Updates.{told_image};
+ghost use Rattle.kcall_core.specs.Holdings.{held_at};
+ghost use Rattle.kcall_core.specs.Memories.{each_of};
+ghost use Rattle.kcall_core.specs.Kernel.{IsSound, IsRunning, HasImage, live_now};
+ghost use Rattle.kcall_core.specs.Whole.{IsWhole};
+ghost use Rattle.kcall_core.specs.Makes.{Makes, view_now, answer_of};
+
+use crate::call_end::CallEnd;
+use crate::kernel::Kernel;
+use crate::kernel::calls::with_moved;
+use hart_core::Hart;
+use proc_table::{Call, Channel, Reaped};
+
+/// How many bytes a status has.
+const STATUS_BYTES: usize = 4;
+
+impl Kernel {
+    /// Whether the process in a slot, which runs, may be told a status at an address. At 0 it is told
+    /// nothing.
+    fn may_tell(&self, slot: usize, address: u64) -> bool
+        requires sound { (hart : Hart) × IsSound self.now hart }
+        requires current { self.now.current ≡ Some slot }
+        ensures { result ≡ (nat_eq address 0 || writable (held_at (each_of self.now.memories) slot).image address 4) }
+    {
+        (address == 0) | self.memories.may_write(slot, address, STATUS_BYTES)
+    }
+
+    /// Stores a status at an address of the process in a slot, which runs, where the address isn't 0.
+    fn tell(&mut self, slot: usize, address: u64, status: i32)
+        requires sound { (hart : Hart) × IsSound self.old hart }
+        requires current { self.old.current ≡ Some slot }
+        requires fits { (nat_eq address 0 || writable (held_at (each_of self.old.memories) slot).image address 4) ≡ true }
+        ensures { (hart : Hart) → IsSound self.old hart → HasImage self.old hart (told_image address status (live_now self.old hart).image) self.new hart }
+    {
+        if address == 0 {
+            return;
+        }
+        let bytes = status.cast_unsigned().to_le_bytes();
+        let Ok(()) = self.memories.copy_out(slot, address, &bytes) else {
+            unreachable!();
+        };
+    }
+
+    /// The call wait: the child of least pid among those that have ended is gone, its status stands at the
+    /// address that the first argument says, where that isn't 0, and the answer is its pid. Where none has
+    /// ended the call waits. Without a child, or where the status couldn't be stored, the answer is -1,
+    /// and nothing else changes.
+    pub(crate) fn wait(&mut self, hart: &mut Hart, call: &Call) -> CallEnd
+        requires whole { IsWhole self.old hart.old }
+        requires running { IsRunning self.old }
+        requires unmarked { (live_now self.old hart.old).killed ≡ false }
+        requires in_call { (live_now self.old hart.old).call ≡ Some call.now }
+        requires row { call.now.number ≡ pos 3 }
+        ensures made { Makes self.old hart.old (wait call.now (view_now self.old hart.old)) self.new hart.new }
+        ensures answer { (wait call.now (view_now self.old hart.old)).answer ≡ answer_of call.now.number result }
+    {
+        let Some(slot) = self.current else {
+            unreachable!();
+        };
+        if !self.may_tell(slot, call.a0) {
+            return self.done(hart, -1);
+        }
+        let pid = self.table.pid(slot);
+        match self.table.reap(pid) {
+            Reaped::NoChild => self.done(hart, -1),
+            Reaped::NoneYet => self.block(hart, with_moved(call, 0), Channel::Children(pid)),
+            Reaped::Gone { pid: child, status } => {
+                self.tell(slot, call.a0, status);
+                self.done(hart, i64::from(child.number()))
+            }
+        }
+    }
+}
