@@ -1,4 +1,4 @@
--- Each run of the machine keeps all that is promised of it: a step, a turn, nothing to do, and nothing after the end.
+-- Each event keeps all that is promised of it: a step, a turn, nothing to do, a tick, and nothing after the end.
 use Rattle.std.proofs.Common.{◌≡◌, ℕ, Some, None, inl, inr, ◌⊎◌, refl, sym, ap, ◌∙◌, subst}
 use Rattle.std.specs.Prelude.{ℤ, option_map, true, false}
 use Rattle.std.specs.Ordering.{nat_cmp}
@@ -9,7 +9,7 @@ use Rattle.kcall_core.specs.View.{view, view_of}
 use Rattle.kcall_core.specs.Own.{Answer}
 use Rattle.kcall_core.specs.Ready.{ready}
 use Rattle.kcall_core.specs.Step.{own}
-use Rattle.kcall_core.specs.Run.{World, Run, Outcome, Step_of, Turn, Idle, Ticked, Halted, RunHappens, TurnTaken, StepOf, halts_with}
+use Rattle.kcall_core.specs.Run.{World, Event, Run, Tick, Outcome, Step_of, Turn, Idle, Ticked, Halted, Happens, RunHappens, TickHappens, TurnTaken, StepOf, halts_with}
 use Rattle.kcall_core.specs.Wakes.{IsRunnable, IsNearest, NoReadySleeper, IsInCall, IsEnd, WakesWhereDue, Promised}
 use Rattle.kcall_core.specs.Kernel.{state_of, IsSound, IsRunning, pid_now}
 use Rattle.kcall_core.specs.Machine.{turns_of, world_of}
@@ -115,11 +115,21 @@ halted-end q a e = cc
 halted-tick : Halted ≡ Ticked → ⊥
 halted-tick e = cc
 
-pub halted-promised : (k : Kernel) (h : Hart) (status : ℤ) → IsWhole k h → Promised (world_of k h (Some status)) Run Halted (world_of k h (Some status))
+-- on a machine that is halted nothing happens
+pub halted-promised : (k : Kernel) (h : Hart) (status : ℤ) (e : Event) → IsWhole k h → Happens (world_of k h (Some status)) e Halted (world_of k h (Some status)) → Promised (world_of k h (Some status)) e Halted (world_of k h (Some status))
 unfolding turns_of
-halted-promised k h status whole =
+halted-promised k h status e whole happens =
     let w = world_of k h (Some status) in (
-      (refl, refl),
+      happens,
       none-wakes w w Halted refl refl whole.unready halted-tick (λ end. halted-end end.0 end.1 end.2),
-      λ e halted idle. absurd (none-some status (sym halted)),
+      λ run halted idle. absurd (none-some status (sym halted)),
     )
+
+-- ---- a tick
+
+tick-run : Tick ≡ Run → ⊥
+tick-run e = cc
+
+pub tick-promised : (k k' : Kernel) (h h' : Hart) → TickHappens (world_of k h None) None Ticked (world_of k' h' None) → WakesWhereDue (world_of k h None) Ticked (world_of k' h' None) → Promised (world_of k h None) Tick Ticked (world_of k' h' None)
+unfolding turns_of
+tick-promised k k' h h' happens wakes = (happens, wakes, λ e halted idle. absurd (tick-run e))

@@ -5,19 +5,19 @@ use Rattle.std.proofs.lemmas.Bool.Decides.{eqb_tells}
 use Rattle.hart_core.specs.declared.hart.Hart.{Hart}
 use Rattle.std.specs.FinMap.{get}
 use Rattle.kcall_core.specs.Processes.{Process, Alive, Zombie, parent_of}
-use Rattle.kcall_core.specs.State.{State, live}
+use Rattle.kcall_core.specs.State.{State, live, live_part}
 use Rattle.kcall_core.specs.View.{view, view_of}
 use Rattle.kcall_core.specs.Own.{Answer, Stepped, Called, Blocked, Exited, Faulted, gone_with}
 use Rattle.kcall_core.specs.Built.{own_so_far}
 use Rattle.kcall_core.specs.Run as runs
-use Rattle.kcall_core.specs.Run.{World, Step_of, TurnTaken, of_first, halts_with, stays_current}
-use Rattle.kcall_core.specs.Wakes.{IsRunnable, IsNearest}
+use Rattle.kcall_core.specs.Run.{World, Step_of, TurnTaken, TickHappens, of_first, halts_with, stays_current}
+use Rattle.kcall_core.specs.Wakes.{IsRunnable, IsNearest, WakesWhereDue}
 use Rattle.kcall_core.specs.Kernel.{state_of, IsRunning, pid_now, live_now}
 use Rattle.kcall_core.specs.Machine.{turns_of, world_of}
 use Rattle.kcall_core.specs.Whole.{IsWhole}
 use Rattle.kcall_core.specs.Makes.{Makes, view_now}
 use Rattle.kcall_core.specs.declared.kernel.Kernel.{Kernel}
-use Rattle.kcall_core.proofs.Promises.{turn-promised, idle-promised, halted-promised}
+use Rattle.kcall_core.proofs.Promises.{turn-promised, idle-promised, halted-promised, tick-promised}
 use Rattle.kcall_core.proofs.States.{none-some}
 use Rattle.kcall_core.proofs.Turned.{live-is}
 use Rattle.xv_machine.specs.declared.event.Outcome.{Outcome}
@@ -143,7 +143,16 @@ module _ (k : Kernel) (h : Hart) (whole : IsWhole k h) (stopped : k.current ≡ 
   pub run-halted : (status : ℤ) → PromisedSoFar (world_of k h (Some status)) runs.Run runs.Halted (world_of k h (Some status))
   unfolding turns_of
   run-halted status =
-      subst (λ c. PromisedUnless (step_is_unbuilt (world_of k h (Some status)) c) (world_of k h (Some status)) runs.Run runs.Halted (world_of k h (Some status))) (sym nobody) (halted-promised k h status whole)
+      subst (λ c. PromisedUnless (step_is_unbuilt (world_of k h (Some status)) c) (world_of k h (Some status)) runs.Run runs.Halted (world_of k h (Some status))) (sym nobody) (halted-promised k h status runs.Run whole (refl, refl))
+
+-- a tick
+pub run-tick : (k k' : Kernel) (h h' : Hart) → TickHappens (world_of k h None) None runs.Ticked (world_of k' h' None) → WakesWhereDue (world_of k h None) runs.Ticked (world_of k' h' None)
+    → PromisedSoFar (world_of k h None) runs.Tick runs.Ticked (world_of k' h' None)
+run-tick k k' h h' happens wakes = tick-promised k k' h h' happens wakes
+
+tick-halted : (k : Kernel) (h : Hart) → IsWhole k h → (status : ℤ) → PromisedSoFar (world_of k h (Some status)) runs.Tick runs.Halted (world_of k h (Some status))
+unfolding turns_of
+tick-halted k h whole status = halted-promised k h status runs.Tick whole (refl, refl)
 
 -- process 1 lives after a turn
 pub first-stays : (k k' : Kernel) (h h' : Hart) → (world_of k' h' None).state ≡ (world_of k h None).state → IsSome (live (state_of k h) 1) → IsSome (live (state_of k' h') 1)
@@ -183,19 +192,26 @@ module _ (k : Kernel) (h : Hart) (halted : Option ℤ) (now : Meaning) (is : mea
   now-frames = ap (λ (m : Meaning). m.frames.count) is
 
   -- a machine that isn't halted
-  pub now-promised : (k' : Kernel) (h' : Hart) (kept : Option ℤ) (outcome : runs.Outcome) (after : Option ℤ) → halted ≡ None → after ≡ kept → PromisedSoFar (world_of k h None) runs.Run outcome (world_of k' h' kept) → PromisedSoFar now.world runs.Run outcome (world_of k' h' after)
-  now-promised k' h' kept outcome after none same promised =
-      let at_world : PromisedSoFar now.world runs.Run outcome (world_of k' h' kept) =
-      subst (λ (m : Meaning). PromisedSoFar m.world runs.Run outcome (world_of k' h' kept)) is
-      (subst (λ s. PromisedSoFar (world_of k h s) runs.Run outcome (world_of k' h' kept)) (sym none) promised) in
-      subst (λ s. PromisedSoFar now.world runs.Run outcome (world_of k' h' s)) (sym same) at_world
+  pub now-promised : (event : runs.Event) (k' : Kernel) (h' : Hart) (kept : Option ℤ) (outcome : runs.Outcome) (after : Option ℤ) → halted ≡ None → after ≡ kept → PromisedSoFar (world_of k h None) event outcome (world_of k' h' kept)
+      → PromisedSoFar now.world event outcome (world_of k' h' after)
+  now-promised event k' h' kept outcome after none same promised =
+      let at_world : PromisedSoFar now.world event outcome (world_of k' h' kept) =
+      subst (λ (m : Meaning). PromisedSoFar m.world event outcome (world_of k' h' kept)) is
+      (subst (λ s. PromisedSoFar (world_of k h s) event outcome (world_of k' h' kept)) (sym none) promised) in
+      subst (λ s. PromisedSoFar now.world event outcome (world_of k' h' s)) (sym same) at_world
 
   -- one that is
-  pub now-over : IsWhole k h → k.current ≡ None → is_some halted ≡ true → PromisedSoFar now.world runs.Run runs.Halted now.world
-  now-over whole stopped some =
+  over : (event : runs.Event) → is_some halted ≡ true → ((status : ℤ) → PromisedSoFar (world_of k h (Some status)) event runs.Halted (world_of k h (Some status))) → PromisedSoFar now.world event runs.Halted now.world
+  over event some promised =
       let status = some-value halted some in
-      subst (λ (m : Meaning). PromisedSoFar m.world runs.Run runs.Halted m.world) is
-      (subst (λ s. PromisedSoFar (world_of k h s) runs.Run runs.Halted (world_of k h s)) (sym status.1) (run-halted k h whole stopped status.0))
+      subst (λ (m : Meaning). PromisedSoFar m.world event runs.Halted m.world) is
+      (subst (λ s. PromisedSoFar (world_of k h s) event runs.Halted (world_of k h s)) (sym status.1) (promised status.0))
+
+  pub now-over : IsWhole k h → k.current ≡ None → is_some halted ≡ true → PromisedSoFar now.world runs.Run runs.Halted now.world
+  now-over whole stopped some = over runs.Run some (run-halted k h whole stopped)
+
+  pub tick-over : IsWhole k h → is_some halted ≡ true → PromisedSoFar now.world runs.Tick runs.Halted now.world
+  tick-over whole some = over runs.Tick some (tick-halted k h whole)
 
 -- process 1 lives on a machine that isn't halted
 pub first-lives : (k : Kernel) (h : Hart) (halted : Option ℤ) → IsHalted (state_of k h) (turns_of k halted) halted → halted ≡ None → IsSome (live (state_of k h) 1)
@@ -204,7 +220,10 @@ first-lives k h halted end none = subst (λ s. IsHalted (state_of k h) (turns_of
 pub still-lives : (k : Kernel) (h : Hart) (halted : Option ℤ) → halted ≡ None → IsSome (live (state_of k h) 1) → IsHalted (state_of k h) (turns_of k halted) halted
 still-lives k h halted none lives = subst (λ s. IsHalted (state_of k h) (turns_of k s) s) (sym none) lives
 
--- and still does after a turn
+-- and still does after a turn or a tick, which leave the processes
+pub lives-on-by : (k k' : Kernel) (h h' : Hart) (halted : Option ℤ) → halted ≡ None → (state_of k' h').processes ≡ (state_of k h).processes → IsHalted (state_of k h) (turns_of k halted) halted → IsHalted (state_of k' h') (turns_of k' halted) halted
+lives-on-by k k' h h' halted none same end = still-lives k' h' halted none (ap (λ ps. is_some (live_part (get ps 1))) same ∙ first-lives k h halted end none)
+
 pub lives-on : (k k' : Kernel) (h h' : Hart) (halted : Option ℤ) → halted ≡ None → (world_of k' h' None).state ≡ (world_of k h None).state → IsHalted (state_of k h) (turns_of k halted) halted → IsHalted (state_of k' h') (turns_of k' halted) halted
 lives-on k k' h h' halted none same end = still-lives k' h' halted none (first-stays k k' h h' same (first-lives k h halted end none))
 

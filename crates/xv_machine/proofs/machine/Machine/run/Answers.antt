@@ -1,4 +1,5 @@
 use Rattle.std.proofs.Common.{sym, ◌∙◌, None}
+use Rattle.kcall_core.specs.Run as runs
 use Rattle.xv_machine.specs.Events.{outcome_of, halted_by}
 use Rattle.xv_machine.proofs.Frames.{sound-of}
 use Rattle.xv_machine.proofs.Runs.{current-pid, not-halted, count-is, now-frames, now-promised, run-step, run-ends, stepped-keeps}
@@ -25,7 +26,7 @@ returns-in-Stepped-clause-promised c =
     let i = c.self.inside in
     let current = sym (c.current.ensures None) ∙ c.in-Some.is in
     let now = current-pid i.kernel c.in-Some.pid current in
-    now-promised i.kernel i.hart i.halted c.args.self.now c.self.view_is c.step-outcome.new.kernel c.step-outcome.new.hart (halted_by c.step-outcome.result) (outcome_of c.step-outcome.result) i.halted
+    now-promised i.kernel i.hart i.halted c.args.self.now c.self.view_is runs.Run c.step-outcome.new.kernel c.step-outcome.new.hart (halted_by c.step-outcome.result) (outcome_of c.step-outcome.result) i.halted
     (not-halted i.kernel i.hart i.halted c.self.invariant.halted now.0) (stepped-keeps i.kernel i.hart i.halted c.in-Some.pid c.in-Stepped.pid c.step-outcome.result c.in-Stepped.is current c.self.invariant.halted)
     (run-step i.kernel c.step-outcome.new.kernel i.hart c.step-outcome.new.hart c.in-Some.pid c.step-outcome.result c.self.invariant.whole now.0 now.1 c.step-outcome.ensures.made c.step-outcome.ensures.answer)
 
@@ -53,7 +54,7 @@ pub returns-clause-promised : goal.returns-clause-promised
 returns-clause-promised c =
     let i = c.self.inside in
     let now = current-pid i.kernel c.in-Some.pid (sym (c.current.ensures None) ∙ c.in-Some.is) in
-    now-promised i.kernel i.hart i.halted c.args.self.now c.self.view_is c.step-outcome.new.kernel c.step-outcome.new.hart (halted_by c.step-outcome.result) (outcome_of c.step-outcome.result) c.halted_by-self-inside.result
+    now-promised i.kernel i.hart i.halted c.args.self.now c.self.view_is runs.Run c.step-outcome.new.kernel c.step-outcome.new.hart (halted_by c.step-outcome.result) (outcome_of c.step-outcome.result) c.halted_by-self-inside.result
     (not-halted i.kernel i.hart i.halted c.self.invariant.halted now.0) c.halted_by-self-inside.ensures
     (run-step i.kernel c.step-outcome.new.kernel i.hart c.step-outcome.new.hart c.in-Some.pid c.step-outcome.result c.self.invariant.whole now.0 now.1 c.step-outcome.ensures.made c.step-outcome.ensures.answer)
 

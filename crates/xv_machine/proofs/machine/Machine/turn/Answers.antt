@@ -21,7 +21,7 @@ returns-in_default-clause-promised c =
     let i = c.self.inside in
     let none = nothing-kept i.halted (sym c.is_some.ensures ∙ c.if-is_some.false) in
     let stopped = now-stopped i.kernel i.hart i.halted c.args.self.now c.self.view_is c.requires.stopped in
-    now-promised i.kernel i.hart i.halted c.args.self.now c.self.view_is c.turn.new.self c.turn.new.hart None runs.Idle i.halted none none
+    now-promised i.kernel i.hart i.halted c.args.self.now c.self.view_is runs.Run c.turn.new.self c.turn.new.hart None runs.Idle i.halted none none
     (run-idle i.kernel i.hart c.self.invariant.whole stopped c.turn.new.self c.turn.new.hart c.in_default.ensures.stays c.in_default.ensures.idle)
 
 pub returns-in_default-clause-sound : goal.returns-in_default-clause-sound
@@ -37,7 +37,7 @@ returns-clause-promised c =
     let i = c.self.inside in
     let none = nothing-kept i.halted (sym c.is_some.ensures ∙ c.if-is_some.false) in
     let stopped = now-stopped i.kernel i.hart i.halted c.args.self.now c.self.view_is c.requires.stopped in
-    now-promised i.kernel i.hart i.halted c.args.self.now c.self.view_is c.turn.new.self c.turn.new.hart None (runs.Turn c.in-Some.pid) i.halted none none
+    now-promised i.kernel i.hart i.halted c.args.self.now c.self.view_is runs.Run c.turn.new.self c.turn.new.hart None (runs.Turn c.in-Some.pid) i.halted none none
     (run-turn i.kernel i.hart c.self.invariant.whole stopped c.turn.new.self c.turn.new.hart c.in-Some.pid c.in-Some.ensures.turn c.in-Some.ensures.nearest)
 
 pub returns-clause-sound : goal.returns-clause-sound
