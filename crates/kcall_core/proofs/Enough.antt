@@ -51,7 +51,7 @@ module _ (frames : ℕ) (s : State) (h : WellFormed frames s) where
   parent_below : (p : ℕ) (x : Process) → get s.processes p ≡ Some x → parent_of x ≢ Some s.next_pid
   parent_below p x is e = elim (h.parents p x is) [
     | inl one ↦
-        let first = h.first in
+        let first = h.first p (ap is_some is) in
         let same : Some x ≡ Some first.0 = sym is ∙ ap (get s.processes) one ∙ first.1 in
         let same_process : x ≡ first.0 = cc in
         let none : parent_of x ≡ None = ap parent_of same_process ∙ first.2 in
@@ -62,7 +62,7 @@ module _ (frames : ℕ) (s : State) (h : WellFormed frames s) where
         let is_next : q ≡ s.next_pid = cc in
         let below : q < s.next_pid = elim has.there [
           | inl alive ↦ (h.pids q (there_if (get s.processes q) alive)).1
-          | inr one ↦ let b : 1 < s.next_pid = (h.pids 1 (ap is_some (h.first.1))).1 in let q1 : q ≡ 1 = one in omega arith
+          | inr one ↦ let b : 1 < s.next_pid = (h.pids 1 (ap is_some (h.first p (ap is_some is)).1)).1 in let q1 : q ≡ 1 = one in omega arith
         ] in
         omega arith
   ]
@@ -133,7 +133,7 @@ module _ (frames : ℕ) (s : State) (h : WellFormed frames s) where
     no_own_parent : (x : Process) → get s.processes p ≡ Some x → parent_of x ≢ Some p
     no_own_parent x is_x e = elim (h.parents p x is_x) [
       | inl one ↦
-          let first = h.first in
+          let first = h.first p (ap is_some is_x) in
           let same : Some x ≡ Some first.0 = sym is_x ∙ ap (get s.processes) one ∙ first.1 in
           let same_process : x ≡ first.0 = cc in
           let none : parent_of x ≡ None = ap parent_of same_process ∙ first.2 in

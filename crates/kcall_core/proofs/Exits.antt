@@ -1,6 +1,6 @@
 -- The process that runs closes its descriptors and ends.
 use Rattle.std.proofs.Common.{◌≡◌, ◌≢◌, ℕ, Bool, cond, length, Option, Some, None, inl, inr, refl, sym, ap, ◌∙◌, subst, arith}
-use Rattle.std.specs.Prelude.{ℤ}
+use Rattle.std.specs.Prelude.{ℤ, is_some}
 use Rattle.std.specs.FinMap.{get, get-empty, empty}
 use Rattle.std.specs.Ordering.{nat_cmp}
 use Rattle.sv39_core.proofs.Words.{ltb-no}
@@ -79,7 +79,7 @@ not-own-parent {k} {h} closing own =
     let live : IsLive s (pid_now k) (live_now k h) = live-is k h closing.sound closing.running in
     elim (closing.well.parents (pid_now k) (Alive (live_now k h)) live) [
       | inl one ↦
-          let first = closing.well.first in
+          let first = closing.well.first (pid_now k) (ap is_some live) in
           let same : Some first.0 ≡ Some (Alive (live_now k h)) = sym first.1 ∙ sym (ap (get s.processes) one) ∙ live in
           none-some (pid_now k) (sym first.2 ∙ parent-same first.0 (live_now k h) same ∙ own)
       | inr has ↦ has.other (some-same has.parent (pid_now k) (sym has.is ∙ own))

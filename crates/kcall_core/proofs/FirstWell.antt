@@ -73,7 +73,7 @@ module _ (frames : ℕ) (programs : List ProgramFile) (l : Loaded) (enough : pri
   pub state_well : WellFormed frames s
   state_well = record {
     pids = λ p there. let e : p ≡ 1 = only p there in (omega arith, omega arith);
-    first = (Alive first_live, here, refl);
+    first = λ p there. (Alive first_live, here, refl);
     parents = λ p x is. inl (only p (ap is_some is));
     descriptors = λ p d f h. absurd (nothing_named p d f h);
     ends = λ f i x end is on. absurd (nothing_open f x is);

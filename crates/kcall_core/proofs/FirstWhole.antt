@@ -12,6 +12,7 @@ use Rattle.xk_base.specs.Image.{price}
 use Rattle.xk_base.specs.Loaded.{Loaded}
 use Rattle.xk_base.specs.declared.limits.TheConstants.{NPROC, NOFILE, OPEN_FILES}
 use Rattle.hart_core.specs.declared.hart.Hart.{Hart}
+use Rattle.console_core.specs.Lists.{Console, IsWithinLimits}
 use Rattle.file_table.specs.Named.{named_by, none_named}
 use Rattle.file_table.specs.OpenFiles as files
 use Rattle.file_table.specs.OpenFiles.{none_open, count_at, entry_count}
@@ -26,7 +27,7 @@ use Rattle.kcall_core.specs.First.{first_state, first_turns}
 use Rattle.kcall_core.specs.WellFormed.{WellFormed, sum_below}
 use Rattle.kcall_core.specs.Machine.{slot_entry, slots_of, sleeper_in, with_sleeper, sleepers_below, turns_of, world_of}
 use Rattle.kcall_core.specs.Run.{World}
-use Rattle.kcall_core.specs.Starts.{IsBlank, init_loaded, started_world}
+use Rattle.kcall_core.specs.Starts.{HasNoProcess, init_loaded, started_world}
 use Rattle.kcall_core.specs.Memories.{free_of}
 use Rattle.kcall_core.specs.Wakes.{NoReadySleeper}
 use Rattle.kcall_core.specs.Kernel.{state_of, pid_now, IsSound}
@@ -35,6 +36,7 @@ use Rattle.kcall_core.specs.declared.kernel.Kernel.{Kernel}
 use Rattle.kcall_core.proofs.Births.{get_or-same}
 use Rattle.kcall_core.proofs.ByPid.{by_pid-insert}
 use Rattle.kcall_core.proofs.FirstWell.{state_well}
+use Rattle.kcall_core.proofs.WellLaws as well
 use Rattle.kcall_core.proofs.NoProcess.{none-by-pid}
 use Rattle.kcall_core.proofs.Starting.{Begins}
 
@@ -50,6 +52,12 @@ unused = None
 
 abbrev no-entry : Option Entry
 no-entry = None
+
+-- nobody sleeps where no place has a sleeper
+pub none-asleep : (t : Slots) → ((j : ℕ) → sleeper_in (place_at t j) ≡ None) → (n : ℕ) → sleepers_below t n ≡ set.empty
+unfolding sleepers_below
+none-asleep t none zero = refl
+none-asleep t none (suc n) = ap (λ o. with_sleeper o (sleepers_below t n)) (none n) ∙ none-asleep t none n
 
 -- ---- a table with process 1 in slot 0, and nobody else
 
@@ -88,9 +96,7 @@ module _ (t : Slots) (first : HoldsFirst t) where
   ]
 
   no-sleepers : (n : ℕ) → sleepers_below t n ≡ set.empty
-  unfolding sleepers_below
-  no-sleepers zero = refl
-  no-sleepers (suc n) = ap (λ o. with_sleeper o (sleepers_below t n)) (no-sleeper n) ∙ no-sleepers n
+  no-sleepers n = none-asleep t no-sleeper n
 
   only-slot : slots_of t ≡ insert empty 1 0
   unfolding slots_of
@@ -101,7 +107,9 @@ module _ (t : Slots) (first : HoldsFirst t) where
       (λ j e below ne at same. none-some e at)
       ∙ ap (λ m. insert m 1 0) (none-by-pid (λ j. None) 64 (λ j. refl))
 
-  -- no descriptor is in use
+-- ---- a table in which no descriptor is in use
+
+module _ (t : Slots) (closed : (j : ℕ) → descriptors_at t j ≡ none_named) where
   unnamed : (file n : ℕ) → count_below (λ d. is_this file (named_by none_named d)) n ≡ 0
   unfolding count_below
   unnamed file zero = refl
@@ -112,13 +120,13 @@ module _ (t : Slots) (first : HoldsFirst t) where
   never-named : (file n : ℕ) → sum_below n (λ slot. named_in (descriptors_at t slot) file) ≡ 0
   unfolding sum_below
   never-named file zero = refl
-  never-named file (suc n) = omega (arith, never-named file n, ap (λ fs. named_in fs file) (first.closed n), unnamed file NOFILE)
+  never-named file (suc n) = omega (arith, never-named file n, ap (λ fs. named_in fs file) (closed n), unnamed file NOFILE)
 
-  first-counted : AreCounted none_open t
-  first-counted = record {
+  pub none-counted : AreCounted none_open t
+  none-counted = record {
     counts = λ file. ap (λ o. or_zero (option_map entry_count o)) (get_or-same None OPEN_FILES file) ∙ sym (never-named file NPROC);
-    lists = λ slot below. ap length (first.closed slot) ∙ length-replicate NOFILE unused;
-    closed = λ slot e. first.closed slot;
+    lists = λ slot below. ap length (closed slot) ∙ length-replicate NOFILE unused;
+    closed = λ slot e. closed slot;
   }
 
 -- an empty table of open files
@@ -130,7 +138,8 @@ none-open-table = record {
 
 -- ---- the kernel
 
-module _ (k : Kernel) (h : Hart) (l : Loaded) (frames : ℕ) (programs : List ProgramFile) (first : HoldsFirst k.table) (stopped : k.current ≡ None) (state : state_of k h ≡ first_state frames programs l) where
+module _ (k : Kernel) (h : Hart) (l : Loaded) (frames : ℕ) (programs : List ProgramFile) (console : Console) (clock : ℕ) (first : HoldsFirst k.table) (stopped : k.current ≡ None)
+    (state : state_of k h ≡ record (first_state frames programs l) { console = console; clock = clock }) where
   turns-first : turns_of k None ≡ first_turns
   unfolding turns_of
   turns-first =
@@ -139,7 +148,7 @@ module _ (k : Kernel) (h : Hart) (l : Loaded) (frames : ℕ) (programs : List Pr
       let current = ap (option_map (λ (_ : ℕ). pid_now k)) stopped in
       λ t. record { slots = slots t; sleepers = sleepers t; last = first.last t; current = current t; halted = None }
 
-  pub first-world : world_of k h None ≡ record { state = first_state frames programs l; turns = first_turns }
+  pub first-world : world_of k h None ≡ record { state = record (first_state frames programs l) { console = console; clock = clock }; turns = first_turns }
   first-world = λ t. record { state = state t; turns = turns-first t }
 
   nobody-waits : NoReadySleeper (world_of k h None)
@@ -147,12 +156,12 @@ module _ (k : Kernel) (h : Hart) (l : Loaded) (frames : ℕ) (programs : List Pr
       let no : true ≡ false = sym asleep ∙ ap (λ (w : World). contains w.turns.sleepers p) first-world ∙ contains-empty nat_cmp p in
       let bad : ⊥ = cc in absurd bad
 
-  pub first-whole : IsSound k h → k.files ≡ none_open → price l.image + 1 ≤ frames → length k.memories.ram ≡ frames → IsWhole k h
-  first-whole sound opened fits long = record {
+  pub first-whole : IsSound k h → k.files ≡ none_open → price l.image + 1 ≤ frames → length k.memories.ram ≡ frames → IsWithinLimits console → IsWhole k h
+  first-whole sound opened fits long within = record {
     sound = sound;
-    well = subst (λ n. WellFormed n (state_of k h)) (sym long) (subst (WellFormed frames) (sym state) (state_well frames programs l fits));
+    well = subst (λ n. WellFormed n (state_of k h)) (sym long) (subst (WellFormed frames) (sym state) (well.outside frames (first_state frames programs l) clock console (state_well frames programs l fits) within));
     files = subst files.IsTable (sym opened) none-open-table;
-    counted = subst (λ fs. AreCounted fs k.table) (sym opened) (first-counted k.table first);
+    counted = subst (λ fs. AreCounted fs k.table) (sym opened) (none-counted k.table first.closed);
     channels = λ slot p m channel held is asleep. absurd (none-some channel (sym (all-awake k.table first slot p held) ∙ asleep));
     awake = λ slot p runs held. all-awake k.table first slot p held;
     unready = nobody-waits;
@@ -164,9 +173,9 @@ module _ {k k' : Kernel} {h h' : Hart} {l : Loaded} (begins : Begins k h k' h' l
   first-there : HoldsFirst k'.table
   first-there = subst HoldsFirst (sym begins.table) holds-first
 
-  pub begun-whole : IsBlank k → price l.image + 1 ≤ free_of k.memories → IsWhole k' h'
-  begun-whole blank fits = first-whole k' h' l (free_of k.memories) (map named_file k.programs.items) first-there begins.current begins.state begins.sound begins.files fits (begins.frames ∙ sym blank.free)
+  pub begun-whole : HasNoProcess k → IsWithinLimits k.console → price l.image + 1 ≤ free_of k.memories → IsWhole k' h'
+  begun-whole nobody within fits = first-whole k' h' l (free_of k.memories) (map named_file k.programs.items) k.console k.clock first-there begins.current begins.state begins.sound begins.files fits (begins.frames ∙ sym nobody.free) within
 
   pub begun-world : price l.image + 1 ≤ free_of k.memories → init_loaded (state_of k h) ≡ Ok l → (m : Loaded) × (init_loaded (state_of k h) ≡ Ok m) × (price m.image + 1 ≤ (state_of k h).free) × (world_of k' h' None ≡ started_world m (state_of k h))
   unfolding state_of
-  begun-world fits is = (l, is, fits, first-world k' h' l (free_of k.memories) (map named_file k.programs.items) first-there begins.current begins.state)
+  begun-world fits is = (l, is, fits, first-world k' h' l (free_of k.memories) (map named_file k.programs.items) k.console k.clock first-there begins.current begins.state)

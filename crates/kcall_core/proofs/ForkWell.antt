@@ -140,9 +140,12 @@ module _ (frames : ℕ) (s : State) (h : WellFormed frames s) (p : ℕ) (old : L
         ]
   ]
 
-  first_stays : (x : Process) × (get after.processes 1 ≡ Some x) × (parent_of x ≡ None)
-  first_stays =
-      let f = h.first in
+  first_is : (x : Process) × (get s.processes 1 ≡ Some x) × (parent_of x ≡ None)
+  first_is = h.first p (ap is_some was)
+
+  first_stays : (q : ℕ) → IsSome (get after.processes q) → (x : Process) × (get after.processes 1 ≡ Some x) × (parent_of x ≡ None)
+  first_stays q alive =
+      let f = first_is in
       let new : 1 ≢ s.next_pid = fresh 1 (ap is_some f.1) in
       let x = some_of (get after.processes 1) (some_there 1 new ∙ ap is_some f.1) in
       let y = before 1 x.0 new x.1 in
@@ -150,7 +153,7 @@ module _ (frames : ℕ) (s : State) (h : WellFormed frames s) (p : ℕ) (old : L
 
   pids_stay : (q : ℕ) → IsSome (get after.processes q) → (1 ≤ q) × (q < s.next_pid + 1)
   pids_stay q e = elim (eqb_tells q s.next_pid) [
-    | inl new ↦ let same : q ≡ s.next_pid = new.1 in let b : 1 < s.next_pid = (h.pids 1 (ap is_some (h.first.1))).1 in (omega arith, omega arith)
+    | inl new ↦ let same : q ≡ s.next_pid = new.1 in let b : 1 < s.next_pid = (h.pids 1 (ap is_some first_is.1)).1 in (omega arith, omega arith)
     | inr old_one ↦ let r = h.pids q (sym (some_there q old_one.1) ∙ e) in let a : 1 ≤ q = r.0 in let b : q < s.next_pid = r.1 in (a, omega arith)
   ]
 

@@ -254,11 +254,10 @@ module _ (frames : ℕ) (s : State) (h : WellFormed frames s) (p : ℕ) (old : L
       some_there_other : (q : ℕ) → q ≢ p → is_some (get after.processes q) ≡ is_some (get s.processes q)
       some_there_other q apart = some_there q
 
-  first_stays : (x : Process) × (get after.processes 1 ≡ Some x) × (parent_of x ≡ None)
-  first_stays = elim (eqb_tells 1 p) [
-    | inl e ↦ (zombie, ap (get after.processes) e.1 ∙ here, ap parent_of (one_of (Alive old) (h.first.0) (sym was ∙ sym (ap (get s.processes) e.1) ∙ h.first.1)) ∙ h.first.2)
+  first_stays : (q : ℕ) → IsSome (get after.processes q) → (x : Process) × (get after.processes 1 ≡ Some x) × (parent_of x ≡ None)
+  first_stays q alive = let f = h.first p (ap is_some was) in elim (eqb_tells 1 p) [
+    | inl e ↦ (zombie, ap (get after.processes) e.1 ∙ here, ap parent_of (one_of (Alive old) f.0 (sym was ∙ sym (ap (get s.processes) e.1) ∙ f.1)) ∙ f.2)
     | inr e ↦
-        let f = h.first in
         let stays : orphan p f.0 ≡ f.0 = ap (λ (o : Option ℕ). cond (is_this p o) (given_to 1 f.0) f.0) f.2 in
         (f.0, there 1 e.1 ∙ ap (option_map (orphan p)) f.1 ∙ ap Some stays, f.2)
   ]

@@ -146,6 +146,7 @@ pub mod Sharing
 pub mod DupMakes
 pub mod Lowest
 pub mod TickMakes
+pub mod Deserted
 pub mod KillMakes
 pub mod Zombies
 pub mod WaitMakes

@@ -63,21 +63,24 @@ module _ (k : Kernel) (h : Hart) (table : k.table ≡ no_process 1) where
   vacant : (i : ℕ) → place_at k.table i ≡ None
   vacant i = ap (λ (t : Slots). place_at t i) table ∙ nobody i
 
-  pub new-state : (frames : ℕ) → k.files ≡ none_open → k.console ≡ empty_console → k.clock ≡ 0 → pipes_of k.memories ≡ empty → free_of k.memories ≡ frames → state_of k h ≡ empty_state frames (map named_file k.programs.items)
+  pub no-process-state : (frames : ℕ) → k.files ≡ none_open → pipes_of k.memories ≡ empty → free_of k.memories ≡ frames → state_of k h ≡ record (empty_state frames (map named_file k.programs.items)) { console = k.console; clock = k.clock }
   unfolding state_of
-  new-state frames files console clock pipes free =
+  no-process-state frames files pipes free =
       let processes : by_pid (entry_at k h) NPROC ≡ empty = none-by-pid (entry_at k h) NPROC (λ i. ap (entry_of k h i) (vacant i)) in
       let opened : gathered (file_at k.files) OPEN_FILES ≡ empty = ap (λ fs. gathered (file_at fs) OPEN_FILES) files ∙ none-gathered (file_at none_open) OPEN_FILES no-file in
       λ t. record {
         processes = processes t;
         files = opened t;
         pipes = pipes t;
-        console = console t;
-        clock = clock t;
+        console = k.console;
+        clock = k.clock;
         next_pid = (table t).next;
         free = free t;
         programs = map named_file k.programs.items;
       }
+
+  pub new-state : (frames : ℕ) → k.files ≡ none_open → k.console ≡ empty_console → k.clock ≡ 0 → pipes_of k.memories ≡ empty → free_of k.memories ≡ frames → state_of k h ≡ empty_state frames (map named_file k.programs.items)
+  new-state frames files console clock pipes free = no-process-state frames files pipes free ∙ (λ t. record (empty_state frames (map named_file k.programs.items)) { console = console t; clock = clock t })
 
   pub new-sound : k.current ≡ None → memories.IsSound k.memories → each_of k.memories ≡ replicate NPROC None → h.root ≡ None → h.cache ≡ nothing_kept → IsSound k h
   new-sound stopped sound each root cache =

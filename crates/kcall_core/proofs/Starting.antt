@@ -22,7 +22,7 @@ use Rattle.kcall_core.specs.State.{State, named_file}
 use Rattle.kcall_core.specs.ByPid.{by_pid}
 use Rattle.kcall_core.specs.First.{first_regs, first_process, first_state}
 use Rattle.kcall_core.specs.NewKernel.{empty_state}
-use Rattle.kcall_core.specs.Starts.{IsBlank}
+use Rattle.kcall_core.specs.Starts.{HasNoProcess}
 use Rattle.kcall_core.specs.Holdings.{Held, or_nothing, held_at, HasMemory, IsVacant, with_saved, cost}
 use Rattle.kcall_core.specs.Memories as memories
 use Rattle.kcall_core.specs.Memories.{held_in, each_of, pipes_of, free_of, SlotChanges, Same}
@@ -32,7 +32,7 @@ use Rattle.kcall_core.specs.declared.kernel.Kernel.{Kernel}
 use Rattle.kcall_core.proofs.ByPid.{by_pid-insert, by_pid-same}
 use Rattle.kcall_core.proofs.Births.{get_or-same}
 use Rattle.kcall_core.proofs.Lists.{set-twice}
-use Rattle.kcall_core.proofs.NoProcess.{new-state}
+use Rattle.kcall_core.proofs.NoProcess.{no-process-state}
 use Rattle.kcall_core.proofs.Stops.{Rest}
 
 none-some : {X : Type 0} (x : X) → None ≡ Some x → ⊥
@@ -58,7 +58,7 @@ pub record Filled (old new : Memories) (l : Loaded) : Type 0 where
   pub free : free_of new + (price l.image + 1) ≡ free_of old
   pub frames : length new.ram ≡ length old.ram
 
-pub vacant-slot : {k : Kernel} {h : Hart} → IsSound k h → IsBlank k → (j : ℕ) → get_or (each_of k.memories) j None ≡ None
+pub vacant-slot : {k : Kernel} {h : Hart} → IsSound k h → HasNoProcess k → (j : ℕ) → get_or (each_of k.memories) j None ≡ None
 vacant-slot {k} {h} sound blank j = sound.vacant j (ap (λ (t : Slots). place_at t j) blank.table ∙ get_or-same None NPROC j)
 
 pub filled : {old middle new : Memories} {l : Loaded} (regs : Registers) → 0 < length (each_of old) → get_or (each_of old) 0 None ≡ None → SlotChanges old middle 0 (Some (record { image = l.image; saved = fresh 0 }))
@@ -74,7 +74,7 @@ filled {old} {middle} {new} {l} regs lt vacant first second is =
       frames = second.frames ∙ first.frames;
     }
 
-module _ (k k' : Kernel) (h h' : Hart) (l : Loaded) (sound : IsSound k h) (blank : IsBlank k) (lt : 0 < length (each_of k.memories)) (changes : Filled k.memories k'.memories l) (table : k'.table ≡ with_new 0 None k.table) (current : k'.current ≡ k.current) where
+module _ (k k' : Kernel) (h h' : Hart) (l : Loaded) (sound : IsSound k h) (blank : HasNoProcess k) (lt : 0 < length (each_of k.memories)) (changes : Filled k.memories k'.memories l) (table : k'.table ≡ with_new 0 None k.table) (current : k'.current ≡ k.current) where
   was-none : (j : ℕ) → place_at k.table j ≡ None
   was-none j = ap (λ (t : Slots). place_at t j) blank.table ∙ get_or-same None NPROC j
 
@@ -161,13 +161,13 @@ each-length : (m : Memories) → memories.IsSound m → length (each_of m) ≡ N
 unfolding each_of
 each-length m sound = length-map m.each.items (held_in m.ram) ∙ sound.slots
 
-pub blank-vacant : {k : Kernel} {h : Hart} → IsSound k h → IsBlank k → IsVacant (each_of k.memories) 0
+pub blank-vacant : {k : Kernel} {h : Hart} → IsSound k h → HasNoProcess k → IsVacant (each_of k.memories) 0
 blank-vacant {k} {h} sound blank = (omega (arith, each-length k.memories sound.memories), vacant-slot sound blank 0)
 
 same-some : {X : Type 0} (x y : X) → Some x ≡ Some y → x ≡ y
 same-some x y e = cc
 
-pub slot-zero : (k : Kernel) (slot : ℕ) → IsBlank k → slot_for_new k.table ≡ Some slot → slot ≡ 0
+pub slot-zero : (k : Kernel) (slot : ℕ) → HasNoProcess k → slot_for_new k.table ≡ Some slot → slot ≡ 0
 slot-zero k slot blank is = same-some slot 0 (sym is ∙ ap slot_for_new blank.table)
 
 -- slot 0 has a memory once it is filled
@@ -180,20 +180,20 @@ first-has {k} {h} middle slot x sound changes zero-slot =
 -- what the start leaves
 pub record Begins (k : Kernel) (h : Hart) (k' : Kernel) (h' : Hart) (l : Loaded) : Type 0 where
   pub sound : IsSound k' h'
-  pub state : state_of k' h' ≡ first_state (free_of k.memories) (map named_file k.programs.items) l
+  pub state : state_of k' h' ≡ record (first_state (free_of k.memories) (map named_file k.programs.items) l) { console = k.console; clock = k.clock }
   pub table : k'.table ≡ with_new 0 None (no_process 1)
   pub current : k'.current ≡ None
   pub files : k'.files ≡ none_open
   pub frames : length k'.memories.ram ≡ length k.memories.ram
 
-pub begins : {k k' : Kernel} {h h' : Hart} {middle : Memories} {slot : ℕ} (l : Loaded) (regs : Registers) → IsSound k h → IsBlank k → SlotChanges k.memories middle 0 (Some (record { image = l.image; saved = fresh 0 }))
+pub begins : {k k' : Kernel} {h h' : Hart} {middle : Memories} {slot : ℕ} (l : Loaded) (regs : Registers) → IsSound k h → HasNoProcess k → SlotChanges k.memories middle 0 (Some (record { image = l.image; saved = fresh 0 }))
     → SlotChanges middle k'.memories slot (Some (with_saved regs (held_at (each_of middle) slot))) → slot ≡ 0 → regs ≡ first_regs l → k'.table ≡ with_new slot None k.table → k'.current ≡ k.current → h'.root ≡ h.root → h'.cache ≡ h.cache → Rest k k'
     → Begins k h k' h' l
 begins {k} {k'} {h} {h'} {middle} {slot} l regs sound blank first second zero-slot is table current root cache rest =
     let lt : 0 < length (each_of k.memories) = omega (arith, each-length k.memories sound.memories) in
     let changes : Filled k.memories k'.memories l = filled regs lt (vacant-slot sound blank 0) first (subst (λ n. SlotChanges middle k'.memories n (Some (with_saved regs (held_at (each_of middle) n)))) zero-slot second) is in
     let made : k'.table ≡ with_new 0 None k.table = table ∙ ap (λ n. with_new n None k.table) zero-slot in
-    let before : state_of k h ≡ empty_state (free_of k.memories) (map named_file k.programs.items) = new-state k h blank.table (free_of k.memories) blank.files blank.console blank.clock blank.pipes refl in
+    let before : state_of k h ≡ record (empty_state (free_of k.memories) (map named_file k.programs.items)) { console = k.console; clock = k.clock } = no-process-state k h blank.table (free_of k.memories) blank.files blank.pipes refl in
     record {
       sound = started-sound k k' h h' l sound blank lt changes made current root cache;
       state = started-is k k' h h' l sound blank lt changes made current rest ∙ ap (started_state l) before;
@@ -204,7 +204,7 @@ begins {k} {k'} {h} {h'} {middle} {slot} l regs sound blank first second zero-sl
     }
 
 -- nothing is changed that can be seen
-pub same-state : (k k' : Kernel) (h : Hart) → IsBlank k → Same k.memories k'.memories → k'.table ≡ k.table → Rest k k' → state_of k' h ≡ state_of k h
+pub same-state : (k k' : Kernel) (h : Hart) → HasNoProcess k → Same k.memories k'.memories → k'.table ≡ k.table → Rest k k' → state_of k' h ≡ state_of k h
 unfolding state_of
 same-state k k' h blank same table rest =
     let none : (j : ℕ) → place_at k.table j ≡ None = λ j. ap (λ (t : Slots). place_at t j) blank.table ∙ get_or-same None NPROC j in

@@ -78,9 +78,9 @@ module _ (frames : ℕ) (s : State) (h : WellFormed frames s) (p : ℕ) (old : L
         })
       ]
 
-  first_stays : (x : Process) × (get after.processes 1 ≡ Some x) × (parent_of x ≡ None)
-  first_stays =
-      let f = h.first in
+  first_stays : (q : ℕ) → IsSome (get after.processes q) → (x : Process) × (get after.processes 1 ≡ Some x) × (parent_of x ≡ None)
+  first_stays q alive =
+      let f = h.first p (ap is_some was) in
       let x = some_of (get after.processes 1) (some_there 1 ∙ ap is_some f.1) in
       let y = before 1 x.0 x.1 in
       let same : y.0 ≡ f.0 = one_of y.0 f.0 (sym y.1 ∙ f.1) in

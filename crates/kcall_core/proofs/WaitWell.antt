@@ -55,7 +55,7 @@ module _ (frames : ℕ) (s : State) (h : WellFormed frames s) (q p : ℕ) (statu
 
   one_stays : 1 ≢ q
   one_stays e =
-      let f = h.first in
+      let f = h.first q (ap is_some zombie) in
       let same : Some f.0 ≡ Some (Zombie (Some p) status) = sym f.1 ∙ ap (get s.processes) e ∙ zombie in
       let parents : Some (parent_of f.0) ≡ Some (Some p) = ap (option_map parent_of) same in
       let none : parent_of f.0 ≡ None = f.2 in
@@ -70,7 +70,7 @@ module _ (frames : ℕ) (s : State) (h : WellFormed frames s) (q p : ℕ) (statu
   pub reaped_well : WellFormed frames after
   reaped_well = record {
     pids = λ r e. let x = some_of (get after.processes r) e in h.pids r (ap is_some (before r x.0 x.1));
-    first = (h.first.0, there 1 one_stays ∙ h.first.1, h.first.2);
+    first = λ r e. let f = h.first q (ap is_some zombie) in (f.0, there 1 one_stays ∙ f.1, f.2);
     parents = parents_stay;
     descriptors = λ r d f e. h.descriptors r d f (sym (same_file r d) ∙ e);
     ends = h.ends;

@@ -231,9 +231,9 @@ module _ (frames : ℕ) (s : State) (q : ℕ) (h : WellFormed frames s) where
       let y = some_of (get s.processes r) (sym (kept_some r) ∙ ap is_some is) in
       (y.0, y.1, unwrap (parent_of x) (parent_of y.0) (sym (ap (option_map parent_of) is) ∙ parent_at r ∙ ap (option_map parent_of) y.1))
 
-  first_kept : (x : Process) × (get hurt.processes 1 ≡ Some x) × (parent_of x ≡ None)
-  first_kept =
-      let f = h.first in
+  first_kept : (p : ℕ) → IsSome (get hurt.processes p) → (x : Process) × (get hurt.processes 1 ≡ Some x) × (parent_of x ≡ None)
+  first_kept p there =
+      let f = h.first p (sym (kept_some p) ∙ there) in
       let x = some_of (get hurt.processes 1) (kept_some 1 ∙ ap is_some f.1) in
       (x.0, x.1, unwrap (parent_of x.0) None (sym (ap (option_map parent_of) x.1) ∙ parent_at 1 ∙ ap (option_map parent_of) f.1 ∙ ap Some f.2))
 

@@ -146,9 +146,9 @@ module _ (frames : ℕ) (s t : State) (h : WellFormed frames s) (p : ℕ) (l m :
       let y = some_of (get s.processes q) (sym (some_same q) ∙ ap is_some is) in
       (y.0, y.1, unwrap (parent_of x) (parent_of y.0) (sym (ap (option_map parent_of) is) ∙ parent_same q ∙ ap (option_map parent_of) y.1))
 
-  first_same : (x : Process) × (get t.processes 1 ≡ Some x) × (parent_of x ≡ None)
-  first_same =
-      let f = h.first in
+  first_same : (q : ℕ) → IsSome (get t.processes q) → (x : Process) × (get t.processes 1 ≡ Some x) × (parent_of x ≡ None)
+  first_same q there =
+      let f = h.first q (sym (some_same q) ∙ there) in
       let x = some_of (get t.processes 1) (some_same 1 ∙ ap is_some f.1) in
       (x.0, x.1, unwrap (parent_of x.0) None (sym (ap (option_map parent_of) x.1) ∙ parent_same 1 ∙ ap (option_map parent_of) f.1 ∙ ap Some f.2))
 

@@ -16,15 +16,19 @@ use Rattle.kcall_core.specs.Memories.{pipes_of, free_of}
 use Rattle.kcall_core.specs.Kernel.{frame_count, IsStopped}
 use Rattle.kcall_core.specs.declared.kernel.Kernel.{Kernel}
 
--- a kernel as it is made: no process, no open file and no pipe yet, nothing typed and no tick, and all frames of RAM are free
-pub record IsBlank (k : Kernel) : Type 0 where
+-- a kernel before its first process: no process, no open file and no pipe yet, and all frames of RAM are free. Keys may have been typed, and the clock may have counted ticks
+pub record HasNoProcess (k : Kernel) : Type 0 where
   pub table : k.table ≡ no_process 1
   pub current : IsStopped k
   pub files : k.files ≡ none_open
   pub pipes : pipes_of k.memories ≡ empty
+  pub free : free_of k.memories ≡ frame_count k
+
+-- a kernel as it is made: nothing is typed, and no tick was counted
+pub record IsBlank (k : Kernel) : Type 0 where
+  pub nobody : HasNoProcess k
   pub console : k.console ≡ empty_console
   pub clock : k.clock ≡ 0
-  pub free : free_of k.memories ≡ frame_count k
 
 -- the program `init` with its name as the one text
 abbrev pub init_loaded : State → Result Loaded ExecError
@@ -35,6 +39,6 @@ abbrev pub start_refusal : (free : ℕ) → Result Loaded ExecError → Option E
 start_refusal free (Err e) = Some e
 start_refusal free (Ok l) = cond (nat_lt free (price l.image + 1)) (Some NoFrames) None
 
--- the world after: pid 1 has the frames that it costs, and the first turn
+-- the world after: pid 1 has the frames that it costs, and the first turn; the console and the clock stay
 abbrev pub started_world : Loaded → State → World
-started_world l s = record { state = first_state s.free s.programs l; turns = first_turns }
+started_world l s = record { state = record (first_state s.free s.programs l) { console = s.console; clock = s.clock }; turns = first_turns }

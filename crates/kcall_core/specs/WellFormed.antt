@@ -45,9 +45,9 @@ pub record HasParent (s : State) (p : ℕ) (x : Process) : Type 0 where
   pub there : IsSome (live s parent) ⊎ (parent ≡ 1)
 
 pub record WellFormed (frames : ℕ) (s : State) : Type 0 where
-  -- pids are given once, upwards from 1; pid 1 stays
+  -- pids are given once, upwards from 1; where there is a process, pid 1 is there, and has no parent
   pub pids : (p : ℕ) → IsSome (get s.processes p) → (1 ≤ p) × (p < s.next_pid)
-  pub first : (x : Process) × (get s.processes 1 ≡ Some x) × (parent_of x ≡ None)
+  pub first : (p : ℕ) → IsSome (get s.processes p) → (x : Process) × (get s.processes 1 ≡ Some x) × (parent_of x ≡ None)
   pub parents : (p : ℕ) (x : Process) → get s.processes p ≡ Some x → (p ≡ 1) ⊎ HasParent s p x
   -- a descriptor in use is below NOFILE and names an open file, an end of a pipe names a pipe
   pub descriptors : (p d f : ℕ) → file_at s p d ≡ Some f → (d < NOFILE) × IsSome (get s.files f)

@@ -21,6 +21,7 @@ ghost use Rattle.kcall_core.specs.Run.{Turn, TurnTaken};
 ghost use Rattle.kcall_core.specs.Wakes.{IsRunnable, IsNearest};
 ghost use Rattle.kcall_core.specs.Kernel.{frame_count, IsStopped, state_of, IsSound, IsRunning, slot_now, pid_now, live_now};
 ghost use Rattle.kcall_core.specs.Machine.{world_of};
+ghost use Rattle.kcall_core.specs.Starts.{HasNoProcess};
 ghost use Rattle.kcall_core.specs.Whole.{IsWhole};
 ghost use Rattle.kcall_core.specs.Makes.{Makes, Stays, StillRuns, view_now};
 
@@ -166,6 +167,7 @@ impl Kernel {
         ensures nearest { IfSome result (λ pid. IsRunnable (world_of self.old hart.old None) pid × IsNearest (world_of self.old hart.old None) pid) }
         ensures idle { IfNone result ((p : ℕ) → ¬ IsRunnable (world_of self.old hart.old None) p) }
         ensures stays { IfNone result (world_of self.new hart.new None ≡ world_of self.old hart.old None) }
+        ensures nobody { HasNoProcess self.old → IfNone result (HasNoProcess self.new) }
         ensures frames { frame_count self.new ≡ frame_count self.old }
     {
         let Some(slot) = self.table.next_turn() else {

@@ -66,7 +66,9 @@ first-not p (Some status) e = ap (λ b. cond b (Some status) None) e
 
 -- process 1 has no parent
 first-parent : (k : Kernel) (h : Hart) → IsWhole k h → IsRunning k → pid_now k ≡ 1 → (live_now k h).parent ≡ None
-first-parent k h whole runs is = by whole.well.first.0 (sym whole.well.first.1 ∙ ap (get (state_of k h).processes) (sym is) ∙ live-is k h whole.sound runs) whole.well.first.2
+first-parent k h whole runs is =
+    let first = whole.well.first (pid_now k) (ap is_some (live-is k h whole.sound runs)) in
+    by first.0 (sym first.1 ∙ ap (get (state_of k h).processes) (sym is) ∙ live-is k h whole.sound runs) first.2
   where
     by : (x : Process) → Some x ≡ Some (Alive (live_now k h)) → parent_of x ≡ None → (live_now k h).parent ≡ None
     by x same none = let e : x ≡ Alive (live_now k h) = cc in sym (ap parent_of e) ∙ none

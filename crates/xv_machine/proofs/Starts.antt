@@ -26,6 +26,7 @@ use Rattle.kcall_core.proofs.Asking.{found-among}
 use Rattle.kcall_core.specs.First.{first, first_programs, first_init, first_loaded, first_state, first_turns, first_process}
 use Rattle.kcall_core.specs.NewKernel.{refusal, or_memory, empty_state}
 use Rattle.kcall_core.specs.Run.{World}
+use Rattle.console_core.specs.Lists.{empty_console}
 use Rattle.kcall_core.specs.Starts.{IsBlank, init_loaded, start_refusal, started_world}
 use Rattle.kcall_core.proofs.States.{none-some}
 use Rattle.xv_machine.specs.Boots.{Boots, or_no_init}
@@ -139,7 +140,15 @@ boots-kernel k frames trace programs result good made count same boots =
 -- what its state tells
 pub kernel-free : (k : Kernel) (h : Hart) → IsBlank k → (state_of k h).free ≡ length k.memories.ram
 unfolding state_of
-kernel-free k h blank = blank.free
+kernel-free k h blank = blank.nobody.free
+
+pub kernel-console : (k : Kernel) (h : Hart) → IsBlank k → (state_of k h).console ≡ empty_console
+unfolding state_of
+kernel-console k h blank = blank.console
+
+pub kernel-clock : (k : Kernel) (h : Hart) → IsBlank k → (state_of k h).clock ≡ 0
+unfolding state_of
+kernel-clock k h blank = blank.clock
 
 pub kernel-programs : (k : Kernel) (h : Hart) → (state_of k h).programs ≡ map named_file k.programs.items
 unfolding state_of
@@ -160,12 +169,12 @@ module _ (frames : ℕ) (programs : List ProgramFile) (s : State) (free : s.free
   loads r is = ap (λ ps. loaded (program_bytes (init_of ps)) (init_name ∷ [])) (sym same) ∙ is
 
   -- it is there
-  pub boots-started : (l : Loaded) (m : Meaning) → init_loaded s ≡ Ok l → price l.image + 1 ≤ s.free → m.world ≡ started_world l s → m.frames.count ≡ frames → Boots frames (Ok m) (first_init frames programs (init_of programs))
-  boots-started l m is enough world count =
+  pub boots-started : s.console ≡ empty_console → s.clock ≡ 0 → (l : Loaded) (m : Meaning) → init_loaded s ≡ Ok l → price l.image + 1 ≤ s.free → m.world ≡ started_world l s → m.frames.count ≡ frames → Boots frames (Ok m) (first_init frames programs (init_of programs))
+  boots-started console clock l m is enough world count =
       let low : nat_lt frames (price l.image + 1) ≡ false = le-ltb frames (price l.image + 1) (omega (arith, enough, free)) in
       let w : World = record { state = first_state frames programs l; turns = first_turns } in
       let first_is : first_init frames programs (init_of programs) ≡ Ok w = first-loaded frames programs there (Ok l) (loads (Ok l) is) ∙ ap (λ b. cond b (Err (Init NoFrames)) (Ok w)) low in
-      let now : m.world ≡ w = world ∙ (λ i. record { state = first_state (free i) (same i) l; turns = first_turns }) in
+      let now : m.world ≡ w = world ∙ (λ i. record { state = record (first_state (free i) (same i) l) { console = console i; clock = clock i }; turns = first_turns }) in
       subst (Boots frames (Ok m)) (sym first_is) (inl (now, count))
 
   -- it is refused

@@ -104,6 +104,7 @@ impl Machine {
     ghost use Rattle.kcall_core.specs.Programs.{init_of};
     ghost use Rattle.kcall_core.specs.Starts.{IsBlank};
     ghost use Rattle.kcall_core.specs.Kernel as kernels;
+    ghost use Rattle.kcall_core.specs.Whole.{IsWhole};
     ghost use Rattle.kcall_core.specs.First.{first, first_init};
     ghost use Rattle.kcall_core.specs.Run as runs;
     ghost use Rattle.kcall_core.specs.Observers.{registers_of, byte_at, child_at, shown};
@@ -146,7 +147,7 @@ impl Machine {
     // A machine with this kernel, which has no process yet.
     fn start(mut kernel: Kernel) -> Result<Machine, BootError>
         requires blank { IsBlank kernel }
-        requires sound { (hart : Hart) → kernels.IsIdle hart → kernels.IsSound kernel hart }
+        requires whole { (hart : Hart) → kernels.IsIdle hart → IsWhole kernel hart }
         requires program { is_some (init_of (map named_file kernel.programs.items)) ≡ true }
         ensures boots { let programs = map named_file kernel.programs.items in Boots (length kernel.memories.ram) result (first_init (length kernel.memories.ram) programs (init_of programs)) }
         ensures sound { IfOk result IsSound }

@@ -5,6 +5,7 @@ ghost use Rattle.kcall_core.specs.State.{named_file};
 ghost use Rattle.kcall_core.specs.NewKernel.{are_refused, empty_state, refusal, or_memory};
 ghost use Rattle.kcall_core.specs.Starts.{IsBlank};
 ghost use Rattle.kcall_core.specs.Kernel.{frame_count, IsIdle, state_of, IsSound};
+ghost use Rattle.kcall_core.specs.Whole.{IsWhole};
 
 use crate::kernel::Kernel;
 use crate::kernel::program_list::first_refused;
@@ -24,7 +25,7 @@ fn are_refused(frames: u32) -> bool
 }
 
 impl Kernel {
-    /// A kernel without processes, over RAM of so many frames, all of them free. It is sound beside each
+    /// A kernel without processes, over RAM of so many frames, all of them free. It is whole beside each
     /// hart that uses no tables.
     ///
     /// # Errors
@@ -37,6 +38,7 @@ impl Kernel {
     pub fn new(alloc: Global, frames: u32, programs: Vec<Program>) -> Result<Kernel, BootError>
         ensures blank { IfOk result IsBlank }
         ensures sound { IfOk result (λ k. (hart : Hart) → IsIdle hart → IsSound k hart) }
+        ensures whole { IfOk result (λ k. (hart : Hart) → IsIdle hart → IsWhole k hart) }
         ensures state { IfOk result (λ k. (hart : Hart) → state_of k hart ≡ empty_state frames (map named_file programs.items)) }
         ensures frames { IfOk result (λ k. frame_count k ≡ frames) }
         ensures made { IfOk result (λ k. refusal frames (map named_file programs.items) ≡ None) }

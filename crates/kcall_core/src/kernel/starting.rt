@@ -6,11 +6,11 @@ ghost use Rattle.rv64i_core.specs.Registers.{fresh, put};
 ghost use Rattle.kcall_core.specs.Words.{SP, A0, A1};
 ghost use Rattle.kcall_core.specs.Programs.{init_name, init_of, program_bytes};
 ghost use Rattle.kcall_core.specs.State.{named_file};
-ghost use Rattle.kcall_core.specs.Starts.{IsBlank, init_loaded, start_refusal, started_world};
+ghost use Rattle.kcall_core.specs.Starts.{HasNoProcess, init_loaded, start_refusal, started_world};
 ghost use Rattle.kcall_core.specs.Holdings.{IsVacant};
 ghost use Rattle.kcall_core.specs.Memories as memory;
 ghost use Rattle.kcall_core.specs.Memories.{each_of, free_of, SlotChanges, Same};
-ghost use Rattle.kcall_core.specs.Kernel.{frame_count, state_of, IsSound};
+ghost use Rattle.kcall_core.specs.Kernel.{frame_count, state_of, IsStopped};
 ghost use Rattle.kcall_core.specs.Machine.{world_of};
 ghost use Rattle.kcall_core.specs.Whole.{IsWhole};
 
@@ -78,13 +78,13 @@ impl Kernel {
     /// The refusal of [`plan`], else [`ExecError::NoFrames`] exactly where the image's price and a frame
     /// for the registers exceed the free frames. Then nothing is changed.
     pub fn start(&mut self, hart: &mut Hart) -> Result<(), ExecError>
-        requires sound { IsSound self.old hart.old }
-        requires blank { IsBlank self.old }
+        requires whole { IsWhole self.old hart.old }
+        requires nobody { HasNoProcess self.old }
         requires program { IsSome (init_of (state_of self.old hart.old).programs) }
-        ensures sound { IsSound self.new hart.new }
-        ensures whole { IfOk result (λ _. IsWhole self.new hart.new) }
+        ensures whole { IsWhole self.new hart.new }
+        ensures stopped { IsStopped self.new }
         ensures started { let s = state_of self.old hart.old in IfOk result (λ _. (l : Loaded) × (init_loaded s ≡ Ok l) × (price l.image + 1 ≤ s.free) × (world_of self.new hart.new None ≡ started_world l s)) }
-        ensures refused { let s = state_of self.old hart.old in IfErr result (λ e. (start_refusal s.free (init_loaded s) ≡ Some e) × IsBlank self.new × (world_of self.new hart.new None ≡ world_of self.old hart.old None) × (hart.new ≡ hart.old)) }
+        ensures refused { let s = state_of self.old hart.old in IfErr result (λ e. (start_refusal s.free (init_loaded s) ≡ Some e) × HasNoProcess self.new × (world_of self.new hart.new None ≡ world_of self.old hart.old None) × (hart.new ≡ hart.old)) }
         ensures frames { frame_count self.new ≡ frame_count self.old }
     {
         let start = load_first(&mut self.memories, &self.programs)?;

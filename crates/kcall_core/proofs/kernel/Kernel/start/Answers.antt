@@ -13,10 +13,11 @@ use Rattle.kcall_core.specs.Kernel.{state_of}
 use Rattle.kcall_core.specs.Machine.{turns_of}
 use Rattle.kcall_core.proofs.Starting.{blank-vacant, slot-zero, first-has, Begins, begins, same-state}
 use Rattle.kcall_core.proofs.FirstWhole.{begun-whole, begun-world}
+use Rattle.kcall_core.proofs.Deserted.{console-within, no-process-whole, refused-nobody, refused-sound}
 use Rattle.kcall_core.proofs.kernel.Kernel.start.Goals as goal
 
 pub load_first-requires-clause-vacant : goal.load_first-requires-clause-vacant
-load_first-requires-clause-vacant c = blank-vacant c.requires.sound c.requires.blank
+load_first-requires-clause-vacant c = blank-vacant c.requires.whole.sound c.requires.nobody
 
 pub load_first-requires-clause-program : goal.load_first-requires-clause-program
 unfolding state_of
@@ -29,33 +30,31 @@ returns-in_err-start-clause-refused c =
     let r = c.in_err-start.ensures.refused in
     rw (p.1, p.2) (
       subst (λ ps. start_refusal (free_of c.args.self.now.memories) (loaded (program_bytes (init_of (map named_file ps))) (init_name ∷ [])) ≡ Some c.in_err-start.field-0.0) c.deref.ensures.value r.0,
-      record {
-        table = c.requires.blank.table;
-        current = c.requires.blank.current;
-        files = c.requires.blank.files;
-        pipes = r.1.pipes ∙ c.requires.blank.pipes;
-        console = c.requires.blank.console;
-        clock = c.requires.blank.clock;
-        free = r.1.free ∙ c.requires.blank.free ∙ sym r.1.frames;
-      },
+      refused-nobody c.args.self.now c.load_first.new.memories c.requires.nobody r.1,
       (λ i. record {
-        state = same-state c.args.self.now (record c.args.self.now { memories = c.load_first.new.memories }) c.args.hart.now c.requires.blank r.1 refl (record { files = refl; console = refl; programs = refl; clock = refl }) i;
+        state = same-state c.args.self.now (record c.args.self.now { memories = c.load_first.new.memories }) c.args.hart.now c.requires.nobody r.1 refl (record { files = refl; console = refl; programs = refl; clock = refl }) i;
         turns = turns_of c.args.self.now None;
       }),
       refl,
     )
 
-pub save-requires-clause-there : goal.save-requires-clause-there
-save-requires-clause-there c = first-has c.load_first.new.memories c.in-Ok.slot _ c.requires.sound c.in_ok-start.ensures.loaded.5 (slot-zero c.args.self.now c.in-Ok.slot c.requires.blank c.in-Ok.ensures.slot.0)
+pub returns-in_err-start-clause-whole : goal.returns-in_err-start-clause-whole
+returns-in_err-start-clause-whole c =
+    let same = c.in_err-start.ensures.refused.1 in
+    no-process-whole (record c.args.self.now { memories = c.load_first.new.memories }) (refused-nobody c.args.self.now c.load_first.new.memories c.requires.nobody same) c.args.hart.now
+    (refused-sound c.args.self.now c.args.hart.now c.load_first.new.memories c.requires.whole.sound c.requires.nobody same) (console-within c.args.self.now c.args.hart.now c.requires.whole)
 
-pub returns-clause-sound : goal.returns-clause-sound
-returns-clause-sound c =
+pub save-requires-clause-there : goal.save-requires-clause-there
+save-requires-clause-there c = first-has c.load_first.new.memories c.in-Ok.slot _ c.requires.whole.sound c.in_ok-start.ensures.loaded.5 (slot-zero c.args.self.now c.in-Ok.slot c.requires.nobody c.in-Ok.ensures.slot.0)
+
+pub returns-clause-stopped : goal.returns-clause-stopped
+returns-clause-stopped c =
     let st = c.in_ok-start.ensures.loaded in
     let k' = record c.args.self.now { memories = c.save.new.self; table = c.spawn.new.self } in
     let regs : c.first_regs.result ≡ first_regs st.0 = c.first_regs.ensures ∙ ap (λ (e : Entry). put (put (put (fresh e.pc) SP e.sp) A0 e.argc) A1 e.sp) st.2 in
     let b : Begins c.args.self.now c.args.hart.now k' (record c.args.hart.now { regs = c.first_regs.result }) st.0 =
-    begins st.0 c.first_regs.result c.requires.sound c.requires.blank st.5 c.save.ensures.saved (slot-zero c.args.self.now c.in-Ok.slot c.requires.blank c.in-Ok.ensures.slot.0) regs c.in-Ok.ensures.made refl refl refl (record { files = refl; console = refl; programs = refl; clock = refl }) in
-    b.sound
+    begins st.0 c.first_regs.result c.requires.whole.sound c.requires.nobody st.5 c.save.ensures.saved (slot-zero c.args.self.now c.in-Ok.slot c.requires.nobody c.in-Ok.ensures.slot.0) regs c.in-Ok.ensures.made refl refl refl (record { files = refl; console = refl; programs = refl; clock = refl }) in
+    b.current
 
 pub returns-clause-whole : goal.returns-clause-whole
 returns-clause-whole c =
@@ -63,8 +62,8 @@ returns-clause-whole c =
     let k' = record c.args.self.now { memories = c.save.new.self; table = c.spawn.new.self } in
     let regs : c.first_regs.result ≡ first_regs st.0 = c.first_regs.ensures ∙ ap (λ (e : Entry). put (put (put (fresh e.pc) SP e.sp) A0 e.argc) A1 e.sp) st.2 in
     let b : Begins c.args.self.now c.args.hart.now k' (record c.args.hart.now { regs = c.first_regs.result }) st.0 =
-    begins st.0 c.first_regs.result c.requires.sound c.requires.blank st.5 c.save.ensures.saved (slot-zero c.args.self.now c.in-Ok.slot c.requires.blank c.in-Ok.ensures.slot.0) regs c.in-Ok.ensures.made refl refl refl (record { files = refl; console = refl; programs = refl; clock = refl }) in
-    begun-whole b c.requires.blank st.4
+    begins st.0 c.first_regs.result c.requires.whole.sound c.requires.nobody st.5 c.save.ensures.saved (slot-zero c.args.self.now c.in-Ok.slot c.requires.nobody c.in-Ok.ensures.slot.0) regs c.in-Ok.ensures.made refl refl refl (record { files = refl; console = refl; programs = refl; clock = refl }) in
+    begun-whole b c.requires.nobody (console-within c.args.self.now c.args.hart.now c.requires.whole) st.4
 
 pub returns-clause-started : goal.returns-clause-started
 unfolding state_of
@@ -73,7 +72,7 @@ returns-clause-started c =
     let k' = record c.args.self.now { memories = c.save.new.self; table = c.spawn.new.self } in
     let regs : c.first_regs.result ≡ first_regs st.0 = c.first_regs.ensures ∙ ap (λ (e : Entry). put (put (put (fresh e.pc) SP e.sp) A0 e.argc) A1 e.sp) st.2 in
     let b : Begins c.args.self.now c.args.hart.now k' (record c.args.hart.now { regs = c.first_regs.result }) st.0 =
-    begins st.0 c.first_regs.result c.requires.sound c.requires.blank st.5 c.save.ensures.saved (slot-zero c.args.self.now c.in-Ok.slot c.requires.blank c.in-Ok.ensures.slot.0) regs c.in-Ok.ensures.made refl refl refl (record { files = refl; console = refl; programs = refl; clock = refl }) in
+    begins st.0 c.first_regs.result c.requires.whole.sound c.requires.nobody st.5 c.save.ensures.saved (slot-zero c.args.self.now c.in-Ok.slot c.requires.nobody c.in-Ok.ensures.slot.0) regs c.in-Ok.ensures.made refl refl refl (record { files = refl; console = refl; programs = refl; clock = refl }) in
     begun-world b st.4 (subst (λ ps. loaded (program_bytes (init_of (map named_file ps))) (init_name ∷ []) ≡ Ok st.0) c.deref.ensures.value st.1)
 
 pub returns-clause-frames : goal.returns-clause-frames
