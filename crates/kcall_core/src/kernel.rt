@@ -54,6 +54,7 @@ use file_table::Files;
 use hart_core::Hart;
 pub use observers::ChildState;
 use proc_table::Table;
+pub use program_list::first_refused;
 use rv64i_core::Stop;
 use xk_base::{Perm, Pid, Program, Reg, Rights};
 

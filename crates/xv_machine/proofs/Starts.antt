@@ -29,7 +29,7 @@ use Rattle.kcall_core.specs.Run.{World}
 use Rattle.console_core.specs.Lists.{empty_console}
 use Rattle.kcall_core.specs.Starts.{IsBlank, init_loaded, start_refusal, started_world}
 use Rattle.kcall_core.proofs.States.{none-some}
-use Rattle.xv_machine.specs.Boots.{Boots, or_no_init}
+use Rattle.xv_machine.specs.Boots.{Boots, without_init}
 use Rattle.xv_machine.specs.Meaning.{Meaning}
 
 -- a number of the configuration is out of its range
@@ -108,17 +108,21 @@ module _ (frames : ℕ) (programs : List ProgramFile) where
 
 -- ---- no kernel
 
-pub boots-no_kernel : (frames trace : ℕ) (programs : List ProgramFile) (e answer : BootError) (has : Bool) → is_bad_config frames trace ≡ false → e ≡ or_memory (refusal frames programs) → is_some (init_of programs) ≡ has → answer ≡ or_no_init has e
-    → Boots frames (Err answer) (first frames trace programs)
-boots-no_kernel frames trace programs e answer has good is there told = elim (no-kernel frames trace programs good e is) [
-  | inl memory ↦ wanting has there memory.0 (told ∙ ap (or_no_init has) memory.1)
-  | inr bad ↦ subst (Boots frames (Err answer)) (sym (first-bad_programs frames trace programs good bad.0 bad.1)) (ap Err (told ∙ ap (or_no_init has) bad.2))
+pub boots-no_kernel : (frames trace : ℕ) (programs : List ProgramFile) (e : BootError) → is_bad_config frames trace ≡ false → e ≡ or_memory (refusal frames programs) → is_some (init_of programs) ≡ true → Boots frames (Err e) (first frames trace programs)
+boots-no_kernel frames trace programs e good is there = elim (no-kernel frames trace programs good e is) [
+  | inl memory ↦ subst (λ x. Boots frames (Err x) (first frames trace programs)) (sym memory.1) (subst (Boots frames (Err Memory)) (sym (first-is frames trace programs good memory.0)) (boots-memory frames programs there))
+  | inr bad ↦ subst (Boots frames (Err e)) (sym (first-bad_programs frames trace programs good bad.0 bad.1)) (ap Err bad.2)
 ]
+
+-- ---- no `init`
+
+pub boots-without_init : (frames trace : ℕ) (programs : List ProgramFile) (answer : BootError) → is_bad_config frames trace ≡ false → is_some (init_of programs) ≡ false → answer ≡ without_init (first_bad programs)
+    → Boots frames (Err answer) (first frames trace programs)
+boots-without_init frames trace programs answer good missing told = by (first_bad programs) refl
   where
-    wanting : (b : Bool) → is_some (init_of programs) ≡ b → first_bad programs ≡ None → answer ≡ or_no_init b Memory → Boots frames (Err answer) (first frames trace programs)
-    wanting true found none same =
-        subst (λ x. Boots frames (Err x) (first frames trace programs)) (sym same) (subst (Boots frames (Err Memory)) (sym (first-is frames trace programs good none)) (boots-memory frames programs found))
-    wanting false missing none same = subst (Boots frames (Err answer)) (sym (first-no_init frames trace programs good none missing)) (ap Err same)
+    by : (o : Option ℕ) → first_bad programs ≡ o → Boots frames (Err answer) (first frames trace programs)
+    by None bad = subst (Boots frames (Err answer)) (sym (first-no_init frames trace programs good bad missing)) (ap Err (told ∙ ap without_init bad))
+    by (Some i) bad = subst (Boots frames (Err answer)) (sym (first-bad_programs frames trace programs good i bad)) (ap Err (told ∙ ap without_init bad))
 
 -- ---- a kernel
 

@@ -1,14 +1,14 @@
 //! The machine.
 ghost use Rattle.std.specs.Prelude.{◌≡◌, is_some, map};
 ghost use Rattle.kcall_core.specs.State.{named_file};
-ghost use Rattle.kcall_core.specs.Programs.{init_of};
-ghost use Rattle.xv_machine.specs.Boots.{or_no_init};
+ghost use Rattle.kcall_core.specs.Programs.{first_bad, init_of};
+ghost use Rattle.xv_machine.specs.Boots.{without_init};
 ghost use Rattle.xv_machine.specs.Events.{halted_by};
 
 use crate::event::{Event, Outcome};
 use crate::step::step;
 use hart_core::Hart;
-use kcall_core::{ChildState, Kernel};
+use kcall_core::{ChildState, Kernel, first_refused};
 use rv64i_core::Regs;
 use std::alloc::Global;
 use std::marker::Model;
@@ -46,19 +46,13 @@ fn has_init(programs: &[Program]) -> bool
         .is_some()
 }
 
-// Why there is no machine where there is no kernel: that `init` is missing comes before want of memory.
-fn refusal(error: BootError, has_init: bool) -> BootError
-    ensures { result ≡ or_no_init has_init error }
+// Why there is no machine of programs of which none is called `init`.
+fn without_init(programs: &[Program]) -> BootError
+    ensures { result ≡ without_init (first_bad (map named_file programs.now)) }
 {
-    match error {
-        BootError::Memory => {
-            if has_init {
-                BootError::Memory
-            } else {
-                BootError::NoInit
-            }
-        }
-        other => other,
+    match first_refused(programs) {
+        Some(index) => BootError::BadPrograms(index),
+        None => BootError::NoInit,
     }
 }
 
@@ -131,16 +125,12 @@ impl Machine {
         if config.is_refused() {
             return Err(BootError::BadConfig);
         }
-        let has_init = has_init(&programs);
+        if !has_init(&programs) {
+            return Err(without_init(&programs));
+        }
         match Kernel::new(alloc, config.frames, programs) {
-            Ok(kernel) => {
-                if has_init {
-                    Machine::start(kernel)
-                } else {
-                    Err(BootError::NoInit)
-                }
-            }
-            Err(error) => Err(refusal(error, has_init)),
+            Ok(kernel) => Machine::start(kernel),
+            Err(error) => Err(error),
         }
     }
 

@@ -56,8 +56,10 @@ fn is_refused(programs: &[Program], i: usize) -> bool
         | (program.bytes.len() > PROGRAM_BYTES)
 }
 
-/// The least index of a program that is refused.
-pub(crate) fn first_refused(programs: &[Program]) -> Option<usize>
+/// The least index of a program that no kernel is made with: one that has 64 before it, or a name that is
+/// empty, longer than 14 bytes, holds a slash or a zero byte, is `console` or an earlier one's, or a file of
+/// more than 1,048,576 bytes. It takes no memory of the host.
+pub fn first_refused(programs: &[Program]) -> Option<usize>
     ensures { result ≡ first_bad (map named_file programs.now) }
 {
     for i in 0..programs.len() {
