@@ -1,4 +1,4 @@
--- What is true of a kernel and its hart from the first process on, before and after each step and turn.
+-- What is true of a kernel and its hart from the making of the kernel on, before and after each step, turn and tick.
 use Rattle.std.specs.Prelude.{◌≡◌, ℕ, ◌<◌, Bool, true, false, List, Option, Some, None, length, nat_eq}
 use Rattle.xk_base.specs.declared.limits.TheConstants.{NPROC, NOFILE}
 use Rattle.xk_base.specs.Words.{count_below}

@@ -1,9 +1,9 @@
 //! The kernel: the processes, their memories, open files, the console and the clock.
 //!
-//! What a kernel and its hart stand for is one world, `world_of` of `specs/Machine.antt`. From `start` on
-//! `IsWhole` of `specs/Whole.antt` is true of them before and after each step and turn; observers and private
-//! calls ask for a part of it, `IsSound`, and say which state comes after. That a step of a process comes to what the call table
-//! says is `Makes` of `specs/Makes.antt`.
+//! What a kernel and its hart stand for is one world, `world_of` of `specs/Machine.antt`. From `new` on
+//! `IsWhole` of `specs/Whole.antt` is true of them before and after each step, turn and tick. Observers and
+//! private calls ask for a part of it, `IsSound`, and say which state comes after. That a step of a process
+//! comes to what the call table says is `Makes` of `specs/Makes.antt`.
 ghost use Rattle.std.specs.Prelude.{◌≡◌, ◌≢◌, ℕ, ◌+◌, Some, None, IfSome, IfNone};
 ghost use Rattle.xk_base.specs.Image.{price};
 ghost use Rattle.proc_table.specs.Processes.{status_of, ended};
