@@ -71,7 +71,12 @@ pub mod KeepsSlots
 pub mod TurnComes
 pub mod NoLost
 pub mod WellLaws
+pub mod WorkedViews
 mod Rows
+mod RowsOfProcesses
+mod RowsOfFiles
+mod RowsOfEvents
+mod RowsOfBoot
 mod WaitsOn
 pub mod Descriptors
 pub mod WellSteps

@@ -1,21 +1,20 @@
 -- Worked rows of the call table and of the console, computed from the definitions: a wrong row there fails a lemma here.
 -- The views are of a process in a call; what its memory costs, and which of its buffers are there, is given.
 use Rattle.std.proofs.Common.{◌≡◌, ℕ, ◌^◌, ◌-◌, ◌+◌, true, false, not, ◌&&◌, ◌||◌, Bool, cond, List, [], ◌∷◌, refl, ap, ◌∙◌, length, replicate}
-use Rattle.std.specs.Prelude.{Option, None, Some, Result, Ok, Err, pos, negsuc, option_map, nat_eq, nat_lt, codes}
+use Rattle.std.specs.Prelude.{Option, None, Some, Result, Ok, Err, pos, negsuc, nat_eq, nat_lt, codes}
 use Rattle.xk_base.specs.declared.limits.TheConstants.{MAXPATH, MAXARG, ARG_BYTES, SIZE_LIMIT}
 use Rattle.xk_base.specs.declared.errors.ExecError.{ExecError}
 use Rattle.xk_base.specs.Words.{least_below, count_below}
 use Rattle.xk_base.specs.Image.{Image, price}
 use Rattle.xk_base.specs.Bytes.{image_bytes, write_image}
 use Rattle.xk_base.specs.Loaded.{Loaded, loaded}
-use Rattle.rv64i_core.specs.Registers.{reg, fresh}
-use Rattle.pipe_core.specs.Pipe.{Pipe, new_pipe}
+use Rattle.pipe_core.specs.Pipe.{new_pipe}
 use Rattle.console_core.specs.Lists.{Console, empty_console}
 use Rattle.console_core.specs.Keys.{line}
 use Rattle.console_core.specs.Reads.{pulled}
 use Rattle.file_table.specs.declared.open_file.End.TheVariants.{Reading, Writing}
 use Rattle.proc_table.specs.declared.process.Call.{Call}
-use Rattle.kcall_core.specs.Words.{A0}
+use Rattle.kcall_core.proofs.WorkedViews.{call, minus, in_call, ends_of, a0_after, is_marked, pids_of, free_of, moved_of, at_place, writers_of, image_of, console_of}
 use Rattle.kcall_core.specs.Buffers.{readable, writable, text_at, texts_at, no_slashes, grown, shrunk}
 use Rattle.kcall_core.specs.Processes.{Running, Status}
 use Rattle.kcall_core.specs.View.{View, Table, Descriptor, Shown_terminal, Shown_pipe, Shown_file, named}
@@ -26,136 +25,103 @@ use Rattle.kcall_core.specs.Ready.{ready}
 use Rattle.kcall_core.specs.Tables.{lowest_free}
 use Rattle.kcall_core.specs.Run.{Run, Tick, Key, Send, Step_of, Typed, Sent, round, out}
 
--- a call that has just begun
-abbrev call : ℕ → ℕ → ℕ → ℕ → Call
-call number a0 a1 a2 = record { number = pos number; a0 = a0; a1 = a1; a2 = a2; moved = 0; clock = 0 }
-
-abbrev minus : ℕ → ℕ
-minus n = 2 ^ 64 - n
-
 module _ (image : Image) where
-  -- process 1 alone, in this call, with 9 frames free
-  unfoldable in_call : Call → View
-  in_call c = record {
-    pid = 1;
-    regs = fresh 0;
-    image = image;
-    call = Some c;
-    killed = false;
-    descriptors = λ d. None;
-    children = λ q. None;
-    console = empty_console;
-    pids = 1 ∷ [];
-    clock = 0;
-    next_pid = 2;
-    free = 9;
-    programs = [];
-  }
-
   -- ---- numbers and arguments
 
-  getpid : (own (in_call (call 11 0 0 0))).answer ≡ Called (pos 11) (pos 1)
+  getpid : (own (in_call image (call 11 0 0 0))).answer ≡ Called (pos 11) (pos 1)
   unfolding own perform perform_row row_of in_call
   getpid = refl
 
-  exit_7 : (own (in_call (call 2 7 0 0))).answer ≡ Exited (pos 7)
+  exit_7 : (own (in_call image (call 2 7 0 0))).answer ≡ Exited (pos 7)
   unfolding own perform perform_row row_of in_call
   exit_7 = refl
 
   -- numbers that are no call
-  call_8 : (own (in_call (call 8 0 0 0))).answer ≡ Called (pos 8) (negsuc 0)
+  call_8 : (own (in_call image (call 8 0 0 0))).answer ≡ Called (pos 8) (negsuc 0)
   unfolding own perform perform_row row_of in_call
   call_8 = refl
 
-  call_99 : (own (in_call (call 99 0 0 0))).answer ≡ Called (pos 99) (negsuc 0)
+  call_99 : (own (in_call image (call 99 0 0 0))).answer ≡ Called (pos 99) (negsuc 0)
   unfolding own perform perform_row row_of in_call
   call_99 = refl
 
-  a0_after : Option View → ℕ
-  a0_after None = 0
-  a0_after (Some v) = reg v.regs A0
-
   -- -1 in a register is 2^64 - 1
-  minus_one_in_a0 : a0_after (own (in_call (call 99 0 0 0))).next ≡ 2 ^ 64 - 1
+  minus_one_in_a0 : a0_after (own (in_call image (call 99 0 0 0))).next ≡ 2 ^ 64 - 1
   unfolding own perform perform_row row_of in_call a0_after
   minus_one_in_a0 = refl
 
   -- read on descriptor 16; close of one that isn't in use
-  read_16 : (own (in_call (call 5 16 0 1))).answer ≡ Called (pos 5) (negsuc 0)
+  read_16 : (own (in_call image (call 5 16 0 1))).answer ≡ Called (pos 5) (negsuc 0)
   unfolding own perform perform_row row_of in_call
   read_16 = refl
 
-  close_free : (own (in_call (call 21 0 0 0))).answer ≡ Called (pos 21) (negsuc 0)
+  close_free : (own (in_call image (call 21 0 0 0))).answer ≡ Called (pos 21) (negsuc 0)
   unfolding own perform perform_row row_of in_call
   close_free = refl
 
   -- ---- sleep, uptime, kill
 
-  sleep_2 : (own (in_call (call 13 2 0 0))).answer ≡ Blocked (pos 13)
+  sleep_2 : (own (in_call image (call 13 2 0 0))).answer ≡ Blocked (pos 13)
   unfolding own perform perform_row row_of in_call
   sleep_2 = refl
 
   -- two ticks later, also where the clock went round
-  slept_2 : (own (record (in_call (call 13 2 0 0)) { clock = 2 })).answer ≡ Called (pos 13) (pos 0)
+  slept_2 : (own (record (in_call image (call 13 2 0 0)) { clock = 2 })).answer ≡ Called (pos 13) (pos 0)
   unfolding own perform perform_row row_of in_call
   slept_2 = refl
 
-  slept_round : (own (record (in_call (record (call 13 2 0 0) { clock = 2 ^ 32 - 1 })) { clock = 1 })).answer ≡ Called (pos 13) (pos 0)
+  slept_round : (own (record (in_call image (record (call 13 2 0 0) { clock = 2 ^ 32 - 1 })) { clock = 1 })).answer ≡ Called (pos 13) (pos 0)
   unfolding own perform perform_row row_of in_call
   slept_round = refl
 
-  ready_after : ready (record (in_call (call 13 2 0 0)) { clock = 2 }) ≡ true
+  ready_after : ready (record (in_call image (call 13 2 0 0)) { clock = 2 }) ≡ true
   unfolding ready row_of in_call
   ready_after = refl
 
-  ready_before : ready (record (in_call (call 13 2 0 0)) { clock = 1 }) ≡ false
+  ready_before : ready (record (in_call image (call 13 2 0 0)) { clock = 1 }) ≡ false
   unfolding ready row_of in_call
   ready_before = refl
 
   -- a size that is above the limit still is refused
-  sbrk_from_above : (own (record (in_call (call 12 (minus 1) 0 0)) { image = record image { size = 2 ^ 38 } })).answer ≡ Called (pos 12) (negsuc 0)
+  sbrk_from_above : (own (record (in_call image (call 12 (minus 1) 0 0)) { image = record image { size = 2 ^ 38 } })).answer ≡ Called (pos 12) (negsuc 0)
   unfolding own perform perform_row row_of in_call
   sbrk_from_above = refl
 
-  sleep_below_0 : (own (in_call (call 13 (minus 5) 0 0))).answer ≡ Called (pos 13) (pos 0)
+  sleep_below_0 : (own (in_call image (call 13 (minus 5) 0 0))).answer ≡ Called (pos 13) (pos 0)
   unfolding own perform perform_row row_of in_call
   sleep_below_0 = refl
 
-  uptime_2 : (own (record (in_call (call 14 0 0 0)) { clock = 2 })).answer ≡ Called (pos 14) (pos 2)
+  uptime_2 : (own (record (in_call image (call 14 0 0 0)) { clock = 2 })).answer ≡ Called (pos 14) (pos 2)
   unfolding own perform perform_row row_of in_call
   uptime_2 = refl
 
-  kill_1 : (own (in_call (call 6 1 0 0))).marked ≡ Some 1
+  kill_1 : (own (in_call image (call 6 1 0 0))).marked ≡ Some 1
   unfolding own perform perform_row row_of in_call
   kill_1 = refl
 
-  kill_0 : (own (in_call (call 6 0 0 0))).answer ≡ Called (pos 6) (negsuc 0)
+  kill_0 : (own (in_call image (call 6 0 0 0))).answer ≡ Called (pos 6) (negsuc 0)
   unfolding own perform perform_row row_of in_call
   kill_0 = refl
 
-  kill_99 : (own (in_call (call 6 99 0 0))).answer ≡ Called (pos 6) (negsuc 0)
+  kill_99 : (own (in_call image (call 6 99 0 0))).answer ≡ Called (pos 6) (negsuc 0)
   unfolding own perform perform_row row_of in_call
   kill_99 = refl
 
-  kill_minus_1 : (own (in_call (call 6 (minus 1) 0 0))).answer ≡ Called (pos 6) (negsuc 0)
+  kill_minus_1 : (own (in_call image (call 6 (minus 1) 0 0))).answer ≡ Called (pos 6) (negsuc 0)
   unfolding own perform perform_row row_of in_call
   kill_minus_1 = refl
 
   -- a process that kills itself is answered still, and is marked
-  kill_itself : (own (in_call (call 6 1 0 0))).answer ≡ Called (pos 6) (pos 0)
+  kill_itself : (own (in_call image (call 6 1 0 0))).answer ≡ Called (pos 6) (pos 0)
   unfolding own perform perform_row row_of in_call
   kill_itself = refl
 
-  is_marked : Option View → Bool
-  is_marked None = false
-  is_marked (Some v) = v.killed
-
-  kill_itself_marks : is_marked (own (in_call (call 6 1 0 0))).next ≡ true
+  kill_itself_marks : is_marked (own (in_call image (call 6 1 0 0))).next ≡ true
   unfolding own perform perform_row row_of in_call is_marked
   kill_itself_marks = refl
 
   -- a process that is marked ends
-  marked_ends : (own (record (in_call (call 6 1 0 0)) { killed = true })).answer ≡ Exited (negsuc 0)
+  marked_ends : (own (record (in_call image (call 6 1 0 0)) { killed = true })).answer ≡ Exited (negsuc 0)
   unfolding own in_call
   marked_ends = refl
 
@@ -163,14 +129,10 @@ module _ (image : Image) where
 
   family : ℕ → View
   unfolding in_call
-  family a = record (in_call (call 3 a 0 0)) {
+  family a = record (in_call image (call 3 a 0 0)) {
     pids = 1 ∷ 2 ∷ 3 ∷ 4 ∷ [];
     children = λ q. cond (nat_eq q 2) (Some Running) (cond (nat_eq q 3) (Some (Status (pos 30))) (cond (nat_eq q 4) (Some (Status (pos 40))) None));
   }
-
-  pids_of : Option View → List ℕ
-  pids_of None = []
-  pids_of (Some v) = v.pids
 
   wait_least : (own (family 0)).answer ≡ Called (pos 3) (pos 3)
   unfolding own perform perform_row row_of in_call family
@@ -180,7 +142,7 @@ module _ (image : Image) where
   unfolding own perform perform_row row_of in_call family pids_of
   slot_is_free = refl
 
-  wait_alone : (own (in_call (call 3 0 0 0))).answer ≡ Called (pos 3) (negsuc 0)
+  wait_alone : (own (in_call image (call 3 0 0 0))).answer ≡ Called (pos 3) (negsuc 0)
   unfolding own perform perform_row row_of in_call
   wait_alone = refl
 
@@ -188,14 +150,10 @@ module _ (image : Image) where
   unfolding own perform perform_row row_of in_call family
   wait_running = refl
 
-  free_of : Option View → ℕ
-  free_of None = 0
-  free_of (Some v) = v.free
-
   -- ---- fork and exit, of a process that costs 7 frames
 
   module _ (priced : price image ≡ 6) where
-    exit_frees : (own (in_call (call 2 7 0 0))).left.free ≡ 16
+    exit_frees : (own (in_call image (call 2 7 0 0))).left.free ≡ 16
     unfolding own perform perform_row row_of in_call count_below
     exit_frees = ap (λ (n : ℕ). 9 + n + 1 + 0) priced
 
@@ -203,43 +161,34 @@ module _ (image : Image) where
     fork_by v true e = ap (λ (b : Bool). (unless b (call 1 0 0 0) v (λ _. forked (call 1 0 0 0) v)).answer) e
     fork_by v false e = ap (λ (b : Bool). (unless b (call 1 0 0 0) v (λ _. forked (call 1 0 0 0) v)).answer) e
 
-    fork_13 : (own (record (in_call (call 1 0 0 0)) { free = 13 })).answer ≡ Called (pos 1) (pos 2)
+    fork_13 : (own (record (in_call image (call 1 0 0 0)) { free = 13 })).answer ≡ Called (pos 1) (pos 2)
     unfolding own perform perform_row row_of in_call
-    fork_13 = fork_by (record (in_call (call 1 0 0 0)) { free = 13 }) false (ap (λ (n : ℕ). nat_lt 13 (n + 1)) priced)
+    fork_13 = fork_by (record (in_call image (call 1 0 0 0)) { free = 13 }) false (ap (λ (n : ℕ). nat_lt 13 (n + 1)) priced)
 
-    fork_leaves_6 : free_of (own (record (in_call (call 1 0 0 0)) { free = 13 })).next ≡ 6
+    fork_leaves_6 : free_of (own (record (in_call image (call 1 0 0 0)) { free = 13 })).next ≡ 6
     unfolding own perform perform_row row_of in_call free_of
     fork_leaves_6 =
-        ap (λ (b : Bool). free_of (unless b (call 1 0 0 0) (record (in_call (call 1 0 0 0)) { free = 13 }) (λ _. forked (call 1 0 0 0) (record (in_call (call 1 0 0 0)) { free = 13 }))).next) (ap (λ (n : ℕ). nat_lt 13 (n + 1)) priced)
+        ap (λ (b : Bool). free_of (unless b (call 1 0 0 0) (record (in_call image (call 1 0 0 0)) { free = 13 }) (λ _. forked (call 1 0 0 0) (record (in_call image (call 1 0 0 0)) { free = 13 }))).next) (ap (λ (n : ℕ). nat_lt 13 (n + 1)) priced)
         ∙ ap (λ (n : ℕ). 13 - (n + 1)) priced
 
-    fork_6 : (own (record (in_call (call 1 0 0 0)) { free = 6 })).answer ≡ Called (pos 1) (negsuc 0)
+    fork_6 : (own (record (in_call image (call 1 0 0 0)) { free = 6 })).answer ≡ Called (pos 1) (negsuc 0)
     unfolding own perform perform_row row_of in_call
-    fork_6 = fork_by (record (in_call (call 1 0 0 0)) { free = 6 }) true (ap (λ (n : ℕ). nat_lt 6 (n + 1)) priced)
+    fork_6 = fork_by (record (in_call image (call 1 0 0 0)) { free = 6 }) true (ap (λ (n : ℕ). nat_lt 6 (n + 1)) priced)
 
   -- 64 pids in use; pids used up
-  fork_full : (own (record (in_call (call 1 0 0 0)) { free = 500; pids = replicate 64 1 })).answer ≡ Called (pos 1) (negsuc 0)
+  fork_full : (own (record (in_call image (call 1 0 0 0)) { free = 500; pids = replicate 64 1 })).answer ≡ Called (pos 1) (negsuc 0)
   unfolding own perform perform_row row_of in_call
   fork_full = refl
 
-  fork_no_pid : (own (record (in_call (call 1 0 0 0)) { free = 500; next_pid = 2 ^ 31 })).answer ≡ Called (pos 1) (negsuc 0)
+  fork_no_pid : (own (record (in_call image (call 1 0 0 0)) { free = 500; next_pid = 2 ^ 31 })).answer ≡ Called (pos 1) (negsuc 0)
   unfolding own perform perform_row row_of in_call
   fork_no_pid = refl
 
   -- ---- pipes
 
-  -- descriptor 0 is on the read end of a pipe, and 1 on its write end
-  abbrev ends_of : Pipe → Table
-  ends_of x = λ d. cond (nat_eq d 0) (Some (record { file = 0; read = true; write = false; shown = Shown_pipe 0 Reading x }))
-      (cond (nat_eq d 1) (Some (record { file = 1; read = false; write = true; shown = Shown_pipe 0 Writing x })) None)
-
-  moved_of : Option View → Option ℕ
-  moved_of None = None
-  moved_of (Some v) = option_map (λ (c : Call). c.moved) v.call
-
   writer : View
   unfolding in_call
-  writer = record (in_call (call 16 1 0 513)) { descriptors = ends_of new_pipe }
+  writer = record (in_call image (call 16 1 0 513)) { descriptors = ends_of new_pipe }
 
   -- a write of 513 bytes: 512 are in, and it waits
   module _ (there : readable image 0 513 ≡ true) where
@@ -257,41 +206,33 @@ module _ (image : Image) where
     broken = ap (λ (b : Bool). (moving (call 16 1 0 513) (record writer { descriptors = ends_of (record { bytes = []; readers = 0; writers = 1 }) }) b (pos 513) (λ n. write_to (call 16 1 0 513) (record writer { descriptors = ends_of (record { bytes = []; readers = 0; writers = 1 }) }) n (Shown_pipe 0 Writing (record { bytes = []; readers = 0; writers = 1 })))).answer) there
 
   -- n below 0; n 0 is done at once, whatever the buffer; a read end isn't written
-  write_minus_1 : (own (record (in_call (call 16 1 0 (minus 1))) { descriptors = ends_of new_pipe })).answer ≡ Called (pos 16) (negsuc 0)
+  write_minus_1 : (own (record (in_call image (call 16 1 0 (minus 1))) { descriptors = ends_of new_pipe })).answer ≡ Called (pos 16) (negsuc 0)
   unfolding own perform perform_row row_of in_call
   write_minus_1 = refl
 
-  write_0 : (own (record (in_call (call 16 1 (minus 1) 0)) { descriptors = ends_of new_pipe })).answer ≡ Called (pos 16) (pos 0)
+  write_0 : (own (record (in_call image (call 16 1 (minus 1) 0)) { descriptors = ends_of new_pipe })).answer ≡ Called (pos 16) (pos 0)
   unfolding own perform perform_row row_of in_call
   write_0 = refl
 
-  write_read_end : (own (record (in_call (call 16 0 0 1)) { descriptors = ends_of new_pipe })).answer ≡ Called (pos 16) (negsuc 0)
+  write_read_end : (own (record (in_call image (call 16 0 0 1)) { descriptors = ends_of new_pipe })).answer ≡ Called (pos 16) (negsuc 0)
   unfolding own perform perform_row row_of in_call
   write_read_end = refl
 
   -- ---- dup and close: counts, frames, and names
 
-  close_one_end : free_of (own (record (in_call (call 21 0 0 0)) { descriptors = ends_of new_pipe })).next ≡ 9
+  close_one_end : free_of (own (record (in_call image (call 21 0 0 0)) { descriptors = ends_of new_pipe })).next ≡ 9
   unfolding own perform perform_row row_of in_call new_pipe count_below least_below named free_of
   close_one_end = refl
 
-  close_last_end : free_of (own (record (in_call (call 21 1 0 0)) { descriptors = ends_of (record { bytes = []; readers = 0; writers = 1 }) })).next ≡ 10
+  close_last_end : free_of (own (record (in_call image (call 21 1 0 0)) { descriptors = ends_of (record { bytes = []; readers = 0; writers = 1 }) })).next ≡ 10
   unfolding own perform perform_row row_of in_call count_below least_below named free_of
   close_last_end = refl
 
-  dup_lowest : (own (record (in_call (call 10 1 0 0)) { descriptors = ends_of new_pipe })).answer ≡ Called (pos 10) (pos 2)
+  dup_lowest : (own (record (in_call image (call 10 1 0 0)) { descriptors = ends_of new_pipe })).answer ≡ Called (pos 10) (pos 2)
   unfolding own perform perform_row row_of in_call least_below
   dup_lowest = refl
 
-  at_place : Option View → ℕ → Option Descriptor
-  at_place None d = None
-  at_place (Some v) d = v.descriptors d
-
-  writers_of : Option Descriptor → ℕ
-  writers_of None = 0
-  writers_of (Some d) = elim d.shown [ Shown_terminal ↦ 0 | Shown_file program offset ↦ 0 | Shown_pipe name end pipe ↦ pipe.writers ]
-
-  dup_counts : writers_of (at_place (own (record (in_call (call 10 1 0 0)) { descriptors = ends_of new_pipe })).next 0) ≡ 2
+  dup_counts : writers_of (at_place (own (record (in_call image (call 10 1 0 0)) { descriptors = ends_of new_pipe })).next 0) ≡ 2
   unfolding own perform perform_row row_of in_call least_below named new_pipe writers_of at_place
   dup_counts = refl
 
@@ -305,51 +246,51 @@ module _ (image : Image) where
   abbrev once : Table
   once = λ d. cond (nat_eq d 1) (Some (reading 1 1 1)) None
 
-  dup_shares : at_place (own (record (in_call (call 10 1 0 0)) { descriptors = once })).next 0 ≡ Some (reading 0 0 2)
+  dup_shares : at_place (own (record (in_call image (call 10 1 0 0)) { descriptors = once })).next 0 ≡ Some (reading 0 0 2)
   unfolding own perform perform_row row_of in_call least_below named at_place
   dup_shares = refl
 
-  dup_keeps : at_place (own (record (in_call (call 10 1 0 0)) { descriptors = once })).next 1 ≡ Some (reading 0 0 2)
+  dup_keeps : at_place (own (record (in_call image (call 10 1 0 0)) { descriptors = once })).next 1 ≡ Some (reading 0 0 2)
   unfolding own perform perform_row row_of in_call least_below named at_place
   dup_keeps = refl
 
-  close_shared : at_place (own (record (in_call (call 21 0 0 0)) { descriptors = twice })).next 1 ≡ Some (reading 1 1 1)
+  close_shared : at_place (own (record (in_call image (call 21 0 0 0)) { descriptors = twice })).next 1 ≡ Some (reading 1 1 1)
   unfolding own perform perform_row row_of in_call count_below least_below named at_place
   close_shared = refl
 
-  close_shared_frees : free_of (own (record (in_call (call 21 0 0 0)) { descriptors = twice })).next ≡ 9
+  close_shared_frees : free_of (own (record (in_call image (call 21 0 0 0)) { descriptors = twice })).next ≡ 9
   unfolding own perform perform_row row_of in_call count_below least_below named free_of
   close_shared_frees = refl
 
-  close_other : at_place (own (record (in_call (call 21 1 0 0)) { descriptors = once })).next 1 ≡ None
+  close_other : at_place (own (record (in_call image (call 21 1 0 0)) { descriptors = once })).next 1 ≡ None
   unfolding own perform perform_row row_of in_call count_below least_below named at_place
   close_other = refl
 
-  close_other_answer : (own (record (in_call (call 21 1 0 0)) { descriptors = once })).answer ≡ Called (pos 21) (pos 0)
+  close_other_answer : (own (record (in_call image (call 21 1 0 0)) { descriptors = once })).answer ≡ Called (pos 21) (pos 0)
   unfolding own perform perform_row row_of in_call
   close_other_answer = refl
 
-  close_other_frees : free_of (own (record (in_call (call 21 1 0 0)) { descriptors = once })).next ≡ 10
+  close_other_frees : free_of (own (record (in_call image (call 21 1 0 0)) { descriptors = once })).next ≡ 10
   unfolding own perform perform_row row_of in_call count_below least_below named free_of
   close_other_frees = refl
 
   -- a pipe for which 8 bytes aren't there; one for which no frame is free; one that is made
   making : ℕ → Bool → Own
-  making free there = unless (not there || nat_eq free 0) (call 4 0 0 0) (record (in_call (call 4 0 0 0)) { free = free }) (λ _. piped_from (call 4 0 0 0) (record (in_call (call 4 0 0 0)) { free = free }) (lowest_free (λ d. None)))
+  making free there = unless (not there || nat_eq free 0) (call 4 0 0 0) (record (in_call image (call 4 0 0 0)) { free = free }) (λ _. piped_from (call 4 0 0 0) (record (in_call image (call 4 0 0 0)) { free = free }) (lowest_free (λ d. None)))
 
-  pipe_nowhere : writable image 0 8 ≡ false → (own (in_call (call 4 0 0 0))).answer ≡ Called (pos 4) (negsuc 0)
+  pipe_nowhere : writable image 0 8 ≡ false → (own (in_call image (call 4 0 0 0))).answer ≡ Called (pos 4) (negsuc 0)
   unfolding own perform perform_row row_of in_call making least_below
   pipe_nowhere absent = ap (λ (b : Bool). (making 9 b).answer) absent
 
-  pipe_no_frame : writable image 0 8 ≡ true → (own (record (in_call (call 4 0 0 0)) { free = 0 })).answer ≡ Called (pos 4) (negsuc 0)
+  pipe_no_frame : writable image 0 8 ≡ true → (own (record (in_call image (call 4 0 0 0)) { free = 0 })).answer ≡ Called (pos 4) (negsuc 0)
   unfolding own perform perform_row row_of in_call making least_below
   pipe_no_frame there = ap (λ (b : Bool). (making 0 b).answer) there
 
-  pipe_made : writable image 0 8 ≡ true → (own (in_call (call 4 0 0 0))).answer ≡ Called (pos 4) (pos 0)
+  pipe_made : writable image 0 8 ≡ true → (own (in_call image (call 4 0 0 0))).answer ≡ Called (pos 4) (pos 0)
   unfolding own perform perform_row row_of in_call making least_below
   pipe_made there = ap (λ (b : Bool). (making 9 b).answer) there
 
-  pipe_takes_1 : writable image 0 8 ≡ true → free_of (own (in_call (call 4 0 0 0))).next ≡ 8
+  pipe_takes_1 : writable image 0 8 ≡ true → free_of (own (in_call image (call 4 0 0 0))).next ≡ 8
   unfolding own perform perform_row row_of in_call making least_below free_of
   pipe_takes_1 there = ap (λ (b : Bool). free_of (making 9 b).next) there
 
@@ -357,34 +298,26 @@ module _ (image : Image) where
 
   -- the console with mode 2: to read and to write; with 1: to write
   opening : ℕ → Option (List ℕ) → Own
-  opening mode path = open_path (call 15 0 mode 0) (in_call (call 15 0 mode 0)) path
+  opening mode path = open_path (call 15 0 mode 0) (in_call image (call 15 0 mode 0)) path
 
-  opened_both : text_at MAXPATH image 0 ≡ Some (codes "console") → at_place (own (in_call (call 15 0 2 0))).next 0 ≡ Some (record { file = 0; read = true; write = true; shown = Shown_terminal })
+  opened_both : text_at MAXPATH image 0 ≡ Some (codes "console") → at_place (own (in_call image (call 15 0 2 0))).next 0 ≡ Some (record { file = 0; read = true; write = true; shown = Shown_terminal })
   unfolding own perform perform_row row_of in_call opening no_slashes least_below named at_place
   opened_both given = ap (λ (path : Option (List ℕ)). at_place (opening 2 path).next 0) given
 
-  opened_to_write : text_at MAXPATH image 0 ≡ Some (codes "/console") → at_place (own (in_call (call 15 0 1 0))).next 0 ≡ Some (record { file = 0; read = false; write = true; shown = Shown_terminal })
+  opened_to_write : text_at MAXPATH image 0 ≡ Some (codes "/console") → at_place (own (in_call image (call 15 0 1 0))).next 0 ≡ Some (record { file = 0; read = false; write = true; shown = Shown_terminal })
   unfolding own perform perform_row row_of in_call opening no_slashes least_below named at_place
   opened_to_write given = ap (λ (path : Option (List ℕ)). at_place (opening 1 path).next 0) given
 
-  opened_not : text_at MAXPATH image 0 ≡ Some (codes "console") → (own (in_call (call 15 0 3 0))).answer ≡ Called (pos 15) (negsuc 0)
+  opened_not : text_at MAXPATH image 0 ≡ Some (codes "console") → (own (in_call image (call 15 0 3 0))).answer ≡ Called (pos 15) (negsuc 0)
   unfolding own perform perform_row row_of in_call opening no_slashes least_below named
   opened_not given = ap (λ (path : Option (List ℕ)). (opening 3 path).answer) given
 
   -- ---- reads and writes: which bytes come and go, and where
 
-  image_of : Option View → Image
-  image_of None = image
-  image_of (Some v) = v.image
-
-  console_of : Option View → Console
-  console_of None = empty_console
-  console_of (Some v) = v.console
-
   -- descriptor 0 is on the program `a`, whose file is `hello`, at offset 2
   file_reader : View
   unfolding in_call
-  file_reader = record (in_call (call 5 0 8192 9)) {
+  file_reader = record (in_call image (call 5 0 8192 9)) {
     descriptors = λ d. cond (nat_eq d 0) (Some (record { file = 0; read = true; write = false; shown = Shown_file 0 2 })) None;
     programs = (record { name = codes "a"; bytes = codes "hello" }) ∷ [];
   }
@@ -410,7 +343,7 @@ module _ (image : Image) where
   terminal_call number moved = record (call number 0 8192 40) { moved = moved }
 
   at_terminal : ℕ → ℕ → List ℕ → View
-  at_terminal number moved committed = record (in_call (terminal_call number moved)) {
+  at_terminal number moved committed = record (in_call image (terminal_call number moved)) {
     descriptors = λ d. cond (nat_eq d 0) (Some (record { file = 0; read = true; write = true; shown = Shown_terminal })) None;
     console = record empty_console { committed = committed };
   }
@@ -470,7 +403,7 @@ module _ (image : Image) where
   -- ---- reads of a pipe: what is there; nothing yet; nothing any more
 
   reader : List ℕ → ℕ → View
-  reader bytes writers = record (in_call (call 5 0 8192 10)) { descriptors = ends_of (record { bytes = bytes; readers = 1; writers = writers }) }
+  reader bytes writers = record (in_call image (call 5 0 8192 10)) { descriptors = ends_of (record { bytes = bytes; readers = 1; writers = writers }) }
 
   reading_pipe : List ℕ → ℕ → Bool → Own
   reading_pipe bytes writers there = moving (call 5 0 8192 10) (reader bytes writers) there (pos 10) (λ n. read_from (call 5 0 8192 10) (reader bytes writers) n 0 (Shown_pipe 0 Reading (record { bytes = bytes; readers = 1; writers = writers })))
@@ -515,24 +448,24 @@ module _ (image : Image) where
   with_a v = record v { programs = (record { name = codes "a"; bytes = codes "hello" }) ∷ [] }
 
   opening_a : ℕ → Option (List ℕ) → Own
-  opening_a mode path = open_path (call 15 0 mode 0) (with_a (in_call (call 15 0 mode 0))) path
+  opening_a mode path = open_path (call 15 0 mode 0) (with_a (in_call image (call 15 0 mode 0))) path
 
-  opened_file : text_at MAXPATH image 0 ≡ Some (codes "//a") → at_place (own (with_a (in_call (call 15 0 0 0)))).next 0 ≡ Some (record { file = 0; read = true; write = false; shown = Shown_file 0 0 })
+  opened_file : text_at MAXPATH image 0 ≡ Some (codes "//a") → at_place (own (with_a (in_call image (call 15 0 0 0)))).next 0 ≡ Some (record { file = 0; read = true; write = false; shown = Shown_file 0 0 })
   unfolding own perform perform_row row_of in_call opening_a no_slashes least_below named at_place
   opened_file given = ap (λ (path : Option (List ℕ)). at_place (opening_a 0 path).next 0) given
 
-  opened_file_to_write : text_at MAXPATH image 0 ≡ Some (codes "a") → (own (with_a (in_call (call 15 0 1 0)))).answer ≡ Called (pos 15) (negsuc 0)
+  opened_file_to_write : text_at MAXPATH image 0 ≡ Some (codes "a") → (own (with_a (in_call image (call 15 0 1 0)))).answer ≡ Called (pos 15) (negsuc 0)
   unfolding own perform perform_row row_of in_call opening_a no_slashes least_below named
   opened_file_to_write given = ap (λ (path : Option (List ℕ)). (opening_a 1 path).answer) given
 
-  opened_unknown : text_at MAXPATH image 0 ≡ Some (codes "b") → (own (with_a (in_call (call 15 0 0 0)))).answer ≡ Called (pos 15) (negsuc 0)
+  opened_unknown : text_at MAXPATH image 0 ≡ Some (codes "b") → (own (with_a (in_call image (call 15 0 0 0)))).answer ≡ Called (pos 15) (negsuc 0)
   unfolding own perform perform_row row_of in_call opening_a no_slashes least_below named
   opened_unknown given = ap (λ (path : Option (List ℕ)). (opening_a 0 path).answer) given
 
   -- ---- exec of `a`, with no text: what it makes of the file is given
 
   abbrev executing : View
-  executing = with_a (in_call (call 7 0 64 0))
+  executing = with_a (in_call image (call 7 0 64 0))
 
   module _ (l : Loaded) (path : text_at MAXPATH image 0 ≡ Some (codes "a")) (texts : texts_at MAXARG ARG_BYTES image 64 ≡ Some []) where
     -- what is asked of the step, where `a` is loaded so
@@ -569,7 +502,7 @@ module _ (image : Image) where
   -- ---- sbrk from 3 pages: one more, with 9 free frames and with none; one fewer
 
   abbrev sizing : ℕ → ℕ → View
-  sizing n free = record (in_call (call 12 n 0 0)) { image = record image { size = 12288 }; free = free }
+  sizing n free = record (in_call image (call 12 n 0 0)) { image = record image { size = 12288 }; free = free }
 
   module _ (old : price (record image { size = 12288 }) ≡ 6) (new : price (grown (record image { size = 12288 }) 16384) ≡ 7) where
     one_frame : price (grown (record image { size = 12288 }) 16384) - price (record image { size = 12288 }) ≡ 1

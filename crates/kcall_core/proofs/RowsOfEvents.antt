@@ -1,0 +1,299 @@
+-- Worked cases of the events: a tick, a key, a byte to be sent, on a machine that goes on and on one that is halted; slots and turns; rounds, and what a run shows.
+-- Processes, open files, pipes and slots are any.
+use Rattle.std.proofs.Common.{◌≡◌, ◌≢◌, ℕ, ◌^◌, ◌-◌, ◌<◌, ◌≤◌, true, false, ◌||◌, Bool, List, [], ◌∷◌, ◌++◌, refl, ap, sym, ◌∙◌, subst, arith, length, replicate, map, take}
+use Rattle.std.specs.Prelude.{Option, None, Some, pos, negsuc, is_some, drop, codes}
+use Rattle.std.specs.Ordering.{nat_cmp}
+use Rattle.std.specs.FinMap.{FinMap}
+use Rattle.std.specs.FinSet.{FinSet, contains}
+use Rattle.std.specs.List.{list_any}
+use Rattle.std.proofs.Math.Seq.{take-append_seam, drop-append_seam}
+use Rattle.std.proofs.lemmas.List.{append-nil, map-append, length-map}
+use Rattle.std.proofs.lemmas.List.Folds.{list_any-append}
+use Rattle.xk_base.specs.declared.access.Cause.TheVariants.{LoadPageFault}
+use Rattle.pipe_core.specs.Pipe.{Pipe}
+use Rattle.console_core.specs.Lists.{Console, empty_console}
+use Rattle.file_table.specs.declared.open_file.OpenFile.{OpenFile}
+use Rattle.proc_table.specs.Turns.{distance}
+use Rattle.kcall_core.specs.Processes.{Process}
+use Rattle.kcall_core.specs.State.{State}
+use Rattle.kcall_core.specs.Turns.{Turns, HasSlot, IsFreeSlot, IsLowestFree}
+use Rattle.kcall_core.specs.Own.{Stepped, Called, Blocked, Exited, Faulted}
+use Rattle.kcall_core.specs.Run.{World, Event, Run, Tick, Key, Send, Outcome, Step_of, Turn, Idle, Ticked, Typed, Sent, Halted, Happens, Planned, round, out, halted_by, stays_current}
+use Rattle.kcall_core.specs.Wakes.{IsRunnable, TakesNearest}
+
+-- ---- a world with these parts
+
+module _ (processes : FinMap nat_cmp Process) (files : FinMap nat_cmp OpenFile) (pipes : FinMap nat_cmp Pipe) (slots : FinMap nat_cmp ℕ) (asleep fewer : FinSet nat_cmp) (wakes : (p : ℕ) → contains fewer p ≡ true → contains asleep p ≡ true) where
+  stated : (clock : ℕ) → Console → State
+  stated clock console = record { processes = processes; files = files; pipes = pipes; console = console; clock = clock; next_pid = 4; free = 9; programs = [] }
+
+  turned : (current : Option ℕ) → FinSet nat_cmp → Turns
+  turned current sleepers = record { slots = slots; sleepers = sleepers; last = 5; current = current; halted = None }
+
+  -- process 1 runs, and whoever is in `asleep` sleeps
+  at : (clock : ℕ) → Console → World
+  at clock console = record { state = stated clock console; turns = turned (Some 1) asleep }
+
+  -- the same, halted
+  ended : World
+  ended = record { state = stated 7 empty_console; turns = record (turned None asleep) { halted = Some (pos 0) } }
+
+  -- ---- Tick: nobody runs, and sleepers may wake
+
+  tick : Happens (at 7 empty_console) Tick Ticked (record { state = stated 8 empty_console; turns = turned None fewer })
+  unfolding at stated turned
+  tick = (refl, refl, (refl, wakes))
+
+  -- the clock goes round
+  tick_round : Happens (at (2 ^ 32 - 1) empty_console) Tick Ticked (record { state = stated 0 empty_console; turns = turned None asleep })
+  unfolding at stated turned
+  tick_round = (refl, refl, (refl, λ p is. is))
+
+  module _ (o : Outcome) (t : World) (h : Happens (at 7 empty_console) Tick o t) where
+    ticked : o ≡ Ticked
+    unfolding at stated turned
+    ticked = h.0
+
+    tick_clock : t.state.clock ≡ 8
+    unfolding at stated turned
+    tick_clock = ap (λ (s : State). s.clock) h.1
+
+    tick_processes : t.state.processes ≡ processes
+    unfolding at stated turned
+    tick_processes = ap (λ (s : State). s.processes) h.1
+
+    tick_current : t.turns.current ≡ None
+    unfolding at stated turned
+    tick_current = ap (λ (u : Turns). u.current) h.2.0
+
+    tick_last : t.turns.last ≡ 5
+    unfolding at stated turned
+    tick_last = ap (λ (u : Turns). u.last) h.2.0
+
+    tick_slots : t.turns.slots ≡ slots
+    unfolding at stated turned
+    tick_slots = ap (λ (u : Turns). u.slots) h.2.0
+
+    tick_sleepers : (p : ℕ) → contains t.turns.sleepers p ≡ true → contains asleep p ≡ true
+    unfolding at stated turned
+    tick_sleepers = h.2.1
+
+  -- ---- Key: the console takes it and shows it; who runs goes on
+
+  -- `a` is shown; Enter shows byte 10 and commits; Ctrl-U takes two bytes back; key 0 does nothing
+  abbrev typed : (committed uncommitted : List ℕ) → Console
+  typed committed uncommitted = record { committed = committed; uncommitted = uncommitted; to_send = [] }
+
+  key_a : Happens (at 7 empty_console) (Key 97) (Typed (97 ∷ [])) (record { state = stated 7 (typed [] (codes "a")); turns = turned (Some 1) asleep })
+  unfolding at stated turned
+  key_a = (refl, refl, (refl, λ p is. is))
+
+  key_enter : Happens (at 7 (typed [] (codes "ab"))) (Key 13) (Typed (10 ∷ [])) (record { state = stated 7 (typed (codes "ab\n") []); turns = turned (Some 1) fewer })
+  unfolding at stated turned
+  key_enter = (refl, refl, (refl, wakes))
+
+  key_erase_line : Happens (at 7 (typed [] (codes "ab"))) (Key 21) (Typed (8 ∷ 32 ∷ 8 ∷ 8 ∷ 32 ∷ 8 ∷ [])) (at 7 empty_console)
+  unfolding at stated turned
+  key_erase_line = (refl, refl, (refl, λ p is. is))
+
+  key_0 : Happens (at 7 (typed [] (codes "ab"))) (Key 0) (Typed []) (at 7 (typed [] (codes "ab")))
+  unfolding at stated turned
+  key_0 = (refl, refl, (refl, λ p is. is))
+
+  module _ (o : Outcome) (t : World) (h : Happens (at 7 empty_console) (Key 97) o t) where
+    key_echo : o ≡ Typed (97 ∷ [])
+    unfolding at stated turned
+    key_echo = h.0
+
+    key_state : t.state ≡ stated 7 (typed [] (codes "a"))
+    unfolding at stated turned
+    key_state = h.1
+
+    key_current : t.turns.current ≡ Some 1
+    unfolding at stated turned
+    key_current = ap (λ (u : Turns). u.current) h.2.0
+
+    key_sleepers : (p : ℕ) → contains t.turns.sleepers p ≡ true → contains asleep p ≡ true
+    unfolding at stated turned
+    key_sleepers = h.2.1
+
+  -- ---- Send: the first byte leaves
+
+  abbrev to_send : List ℕ → Console
+  to_send bytes = record { committed = codes "x"; uncommitted = []; to_send = bytes }
+
+  send_0 : Happens (at 7 (to_send (0 ∷ 104 ∷ 105 ∷ []))) Send (Sent (Some 0)) (record { state = stated 7 (to_send (104 ∷ 105 ∷ [])); turns = turned (Some 1) fewer })
+  unfolding at stated turned
+  send_0 = (refl, refl, (refl, wakes))
+
+  send_32 : Happens (at 7 (to_send (32 ∷ []))) Send (Sent (Some 32)) (at 7 (to_send []))
+  unfolding at stated turned
+  send_32 = (refl, refl, (refl, λ p is. is))
+
+  send_none : Happens (at 7 (to_send [])) Send (Sent None) (at 7 (to_send []))
+  unfolding at stated turned
+  send_none = (refl, refl, (refl, λ p is. is))
+
+  module _ (o : Outcome) (t : World) (h : Happens (at 7 (to_send (0 ∷ 104 ∷ 105 ∷ []))) Send o t) where
+    sent_0 : o ≡ Sent (Some 0)
+    unfolding at stated turned
+    sent_0 = h.0
+
+    sent_state : t.state ≡ stated 7 (to_send (104 ∷ 105 ∷ []))
+    unfolding at stated turned
+    sent_state = h.1
+
+    sent_current : t.turns.current ≡ Some 1
+    unfolding at stated turned
+    sent_current = ap (λ (u : Turns). u.current) h.2.0
+
+    sent_sleepers : (p : ℕ) → contains t.turns.sleepers p ≡ true → contains asleep p ≡ true
+    unfolding at stated turned
+    sent_sleepers = h.2.1
+
+  -- ---- a halted machine: Run, Tick and Key change nothing, and Send works
+
+  ended_run : Happens ended Run Halted ended
+  unfolding ended turned
+  ended_run = (refl, refl)
+
+  ended_tick : Happens ended Tick Halted ended
+  unfolding ended turned
+  ended_tick = (refl, refl)
+
+  ended_key : Happens ended (Key 97) Halted ended
+  unfolding ended turned
+  ended_key = (refl, refl)
+
+  ended_send : Happens (record ended { state = stated 7 (to_send (104 ∷ [])) }) Send (Sent (Some 104)) (record ended { state = stated 7 (to_send []) })
+  unfolding ended stated turned
+  ended_send = (refl, refl, (refl, λ p is. is))
+
+  ended_stays : (o : Outcome) (t : World) → Happens ended Tick o t → (o ≡ Halted) × (t ≡ ended)
+  unfolding ended turned
+  ended_stays o t h = h
+
+-- ---- who runs after a step, and which step halts the machine
+
+runs_on : map (stays_current 3) (Stepped ∷ Called (pos 1) (pos 0) ∷ Blocked (pos 3) ∷ Exited (pos 0) ∷ Faulted LoadPageFault ∷ []) ≡ Some 3 ∷ Some 3 ∷ None ∷ None ∷ None ∷ []
+runs_on = refl
+
+halting : map halted_by (Step_of 1 Stepped ∷ Step_of 1 (Blocked (pos 3)) ∷ Step_of 1 (Exited (pos 7)) ∷ Step_of 1 (Faulted LoadPageFault) ∷ Step_of 2 (Exited (pos 7)) ∷ Step_of 2 (Faulted LoadPageFault) ∷ Idle ∷ Halted ∷ [])
+    ≡ None ∷ None ∷ Some (pos 7) ∷ Some (negsuc 0) ∷ None ∷ None ∷ None ∷ None ∷ []
+halting = refl
+
+-- ---- slots: slots 0 and 1 are held, and 2 is free, and so are some above it
+
+module _ (t : Turns) (p q : ℕ) (first : HasSlot t p 0) (second : HasSlot t q 1) (free : IsFreeSlot t 2) where
+  not_0 : (k : ℕ) → IsFreeSlot t k → k ≢ 0
+  not_0 k is e = is p (first ∙ ap Some (sym e))
+
+  not_1 : (k : ℕ) → IsFreeSlot t k → k ≢ 1
+  not_1 k is e = is q (second ∙ ap Some (sym e))
+
+  lowest_is_2 : IsLowestFree t 2
+  lowest_is_2 = (omega arith, free, λ k is. let a : k ≢ 0 = not_0 k is in let b : k ≢ 1 = not_1 k is in omega arith)
+
+  lowest_is_only : (slot : ℕ) → IsLowestFree t slot → slot ≡ 2
+  lowest_is_only slot (below, is, least) = let a : slot ≢ 0 = not_0 slot is in let b : slot ≢ 1 = not_1 slot is in let c : slot ≤ 2 = least 2 free in omega arith
+
+-- with all 64 slots held there is none
+no_lowest : (t : Turns) → ((k : ℕ) → k < 64 → (p : ℕ) × HasSlot t p k) → (slot : ℕ) → IsLowestFree t slot → ⊥
+no_lowest t held slot (below, is, least) = let h = held slot below in is h.0 h.1
+
+-- ---- turns go upwards, and round from slot 63 to slot 0; who had the last turn comes last
+
+distances : distance 62 63 ∷ distance 63 0 ∷ distance 62 0 ∷ distance 0 1 ∷ distance 0 63 ∷ distance 3 2 ∷ distance 0 0 ∷ distance 63 63 ∷ [] ≡ 0 ∷ 0 ∷ 1 ∷ 0 ∷ 62 ∷ 62 ∷ 63 ∷ 63 ∷ []
+distances = refl
+
+-- slot 62 had the last turn, and p in slot 63 and q in slot 0 may run: the turn isn't q's
+past_the_last : (w : World) (p q : ℕ) → w.turns.last ≡ 62 → w.turns.halted ≡ None → w.turns.current ≡ None → IsRunnable w p → IsRunnable w q → HasSlot w.turns p 63 → HasSlot w.turns q 0
+    → TakesNearest w Run (Turn q) → ⊥
+past_the_last w p q last halted current p_may q_may p_has q_has takes =
+    let near : distance w.turns.last 0 ≤ distance w.turns.last 63 = let is = (takes refl halted current).1 q refl in is.1 p 0 63 p_may q_has p_has in
+    let numbers : 1 ≤ 0 = subst (λ (n : ℕ). distance n 0 ≤ distance n 63) last near in omega arith
+
+-- ---- rounds
+
+-- the events of a list
+abbrev events : List (Event × Outcome) → List Event
+events list = map (λ e. e.0) list
+
+-- the list halts the machine
+abbrev halts : List (Event × Outcome) → Bool
+halts list = list_any (λ e. is_some (halted_by e.1)) list
+
+-- events that each give nothing
+abbrev quiet : List Event → List (Event × Outcome)
+quiet es = map (λ e. (e, Idle)) es
+
+abbrev sends : List Event
+sends = replicate 32 Send
+
+-- two keys in two rounds; a third one is left
+two_keys : Planned 2 1 (7 ∷ 8 ∷ 9 ∷ []) false (quiet (Key 7 ∷ Run ∷ Tick ∷ sends ++ Key 8 ∷ Run ∷ Tick ∷ sends))
+two_keys = (quiet (Key 7 ∷ Run ∷ Tick ∷ sends), quiet (Key 8 ∷ Run ∷ Tick ∷ sends), refl, refl, (quiet (Key 8 ∷ Run ∷ Tick ∷ sends), [], refl, refl, refl))
+
+-- one key: the second round has none
+one_key : Planned 2 1 (7 ∷ []) false (quiet (Key 7 ∷ Run ∷ Tick ∷ sends ++ Run ∷ Tick ∷ sends))
+one_key = (quiet (Key 7 ∷ Run ∷ Tick ∷ sends), quiet (Run ∷ Tick ∷ sends), refl, refl, (quiet (Run ∷ Tick ∷ sends), [], refl, refl, refl))
+
+-- process 1 faults in the first round, which is played to its end and is the last one
+abbrev faulting : List (Event × Outcome)
+faulting = (Key 7, Typed (7 ∷ [])) ∷ (Run, Step_of 1 (Faulted LoadPageFault)) ∷ (Tick, Halted) ∷ map (λ e. (e, Sent None)) sends
+
+fault : Planned 2 1 (7 ∷ 8 ∷ []) false faulting
+fault = (faulting, [], refl, refl, refl)
+
+-- a fault of process 2 isn't
+abbrev other_faulting : List (Event × Outcome)
+other_faulting = (Key 7, Typed (7 ∷ [])) ∷ (Run, Step_of 2 (Faulted LoadPageFault)) ∷ (Tick, Ticked) ∷ map (λ e. (e, Sent None)) sends
+
+other_fault : Planned 2 1 (7 ∷ 8 ∷ []) false (other_faulting ++ quiet (Key 8 ∷ Run ∷ Tick ∷ sends))
+other_fault = (other_faulting, quiet (Key 8 ∷ Run ∷ Tick ∷ sends), refl, refl, (quiet (Key 8 ∷ Run ∷ Tick ∷ sends), [], refl, refl, refl))
+
+-- and no other list is planned: what is planned has just these events
+
+none_left : (quantum : ℕ) (keys : List ℕ) (halted : Bool) (list : List (Event × Outcome)) → Planned 0 quantum keys halted list → list ≡ []
+none_left quantum keys true list h = h
+none_left quantum keys false list h = h
+
+one_round : (quantum : ℕ) (keys : List ℕ) (list : List (Event × Outcome)) → Planned 1 quantum keys false list → events list ≡ round quantum keys
+one_round quantum keys list (now, later, is, played, rest) = ap events (is ∙ ap (λ (l : List (Event × Outcome)). now ++ l) (none_left quantum (drop 1 keys) (halts now) later rest) ∙ append-nil now) ∙ played
+
+left_false : (a b : Bool) → (a || b) ≡ false → a ≡ false
+left_false true b e = e
+left_false false b e = refl
+
+two_rounds : (quantum : ℕ) (keys : List ℕ) (list : List (Event × Outcome)) → halts list ≡ false → Planned 2 quantum keys false list → events list ≡ round quantum keys ++ round quantum (drop 1 keys)
+two_rounds quantum keys list on (now, later, is, played, rest) =
+    let goes_on : halts now ≡ false = left_false (halts now) (halts later) (sym (list_any-append (λ (e : Event × Outcome). is_some (halted_by e.1)) now later) ∙ ap halts (sym is) ∙ on) in
+    let second : events later ≡ round quantum (drop 1 keys) = one_round quantum (drop 1 keys) later (subst (λ (b : Bool). Planned 1 quantum (drop 1 keys) b later) goes_on rest) in
+    ap events is ∙ map-append (λ (e : Event × Outcome). e.0) now later ∙ ap (λ (es : List Event). es ++ events later) played ∙ ap (λ (es : List Event). round quantum keys ++ es) second
+
+one_key_only : (list : List (Event × Outcome)) → halts list ≡ false → Planned 2 1 (7 ∷ []) false list → events list ≡ Key 7 ∷ Run ∷ Tick ∷ sends ++ Run ∷ Tick ∷ sends
+one_key_only list on h = two_rounds 1 (7 ∷ []) list on h
+
+two_keys_only : (list : List (Event × Outcome)) → halts list ≡ false → Planned 2 1 (7 ∷ 8 ∷ []) false list → events list ≡ Key 7 ∷ Run ∷ Tick ∷ sends ++ Key 8 ∷ Run ∷ Tick ∷ sends
+two_keys_only list on h = two_rounds 1 (7 ∷ 8 ∷ []) list on h
+
+-- nothing is planned behind a round that halts
+fault_ends : (more : List (Event × Outcome)) → Planned 2 1 (7 ∷ 8 ∷ []) false (faulting ++ more) → more ≡ []
+fault_ends more (now, later, is, played, rest) =
+    let long : length now ≡ 35 = sym (length-map now (λ (e : Event × Outcome). e.0)) ∙ ap length played in
+    let same : now ≡ faulting = sym (take-append_seam now later) ∙ ap (λ (n : ℕ). take n (now ++ later)) long ∙ ap (take 35) (sym is) ∙ take-append_seam faulting more in
+    let behind : later ≡ more = sym (drop-append_seam now later) ∙ ap (λ (n : ℕ). drop n (now ++ later)) long ∙ ap (drop 35) (sym is) ∙ drop-append_seam faulting more in
+    sym behind ∙ subst (λ (b : Bool). Planned 1 1 (8 ∷ []) b later) (ap halts same) rest
+
+-- none where none may begin, or on a machine that is halted
+none_allowed : Planned 0 1 (7 ∷ []) false []
+none_allowed = refl
+
+halted_before : (list : List (Event × Outcome)) → Planned 2 1 (7 ∷ []) true list → list ≡ []
+halted_before list h = h
+
+-- ---- what a run shows: echoes and bytes that were sent, byte 0 too
+
+shows : out ((Key 97, Typed (97 ∷ [])) ∷ (Send, Sent (Some 0)) ∷ (Run, Turn 2) ∷ (Send, Sent (Some 32)) ∷ (Send, Sent None) ∷ (Key 21, Typed (8 ∷ 32 ∷ 8 ∷ [])) ∷ (Tick, Ticked) ∷ (Run, Step_of 2 (Exited (pos 7))) ∷ (Run, Idle) ∷ (Run, Halted) ∷ [])
+    ≡ 97 ∷ 0 ∷ 32 ∷ 8 ∷ 32 ∷ 8 ∷ []
+shows = refl
