@@ -34,7 +34,8 @@ use Rattle.kcall_core.specs.declared.kernel.Kernel.{Kernel}
 use Rattle.kcall_core.proofs.States.{none-some, running}
 use Rattle.kcall_core.proofs.Turned.{sleeps-is, sleeps-from, same-some, live-is}
 use Rattle.kcall_core.proofs.OnePlace.{ItsPlace, place-slots, changed-place, in-call-lives, asleep-lives, asleep-channel, place-join}
-use Rattle.kcall_core.proofs.OneStep.{ItsStep, place-is, place-lives, sleeper-apart, live-here, stays-well, stays-counted, channel-other, stays-wakes, no-slot, none-ready, none-born}
+use Rattle.kcall_core.proofs.OneStep.{ItsStep, place-is, place-lives, sleeper-apart, live-here, stays-well, stays-counted, channel-other, stays-wakes, no-slot, none-born}
+use Rattle.kcall_core.proofs.Sleepers.{none-ready}
 use Rattle.kcall_core.proofs.Alone.{waiting}
 use Rattle.kcall_core.proofs.AloneMakes.{KeepsAll}
 

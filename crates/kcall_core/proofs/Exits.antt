@@ -32,18 +32,12 @@ use Rattle.kcall_core.proofs.Observed.{parent-told}
 use Rattle.kcall_core.proofs.Namings.{files-left}
 use Rattle.kcall_core.proofs.AllClosed.{same-pid}
 use Rattle.kcall_core.proofs.OthersWake.{others-mapped, end_in}
+use Rattle.kcall_core.proofs.Woken.{woken-channel}
 use Rattle.kcall_core.proofs.Bared.{IsBared, IsEndedIn, ended-counted, end-makes}
 
 -- what is whole may close its descriptors
 pub whole-closing : {k : Kernel} {h : Hart} → IsWhole k h → IsRunning k → IsClosing k h
 whole-closing whole runs = record { sound = whole.sound; running = runs; well = whole.well; files = whole.files; counted = whole.counted }
-
-woken_by-channel : (wakes : Channel → Bool) (p : Process) → channel_of (woken_by wakes p) ≡ unless_woken wakes (channel_of p)
-woken_by-channel wakes p = by p.state
-  where
-    by : (s : table.State) → state_channel (state_woken_by wakes s) ≡ unless_woken wakes (state_channel s)
-    by (Live_state marked call channel) = refl
-    by (Zombie_state status) = refl
 
 module _ {k k1 : Kernel} {h : Hart} (all : ClosesFrom k h 0 k1) where
   none-left : (d : ℕ) → get (live_now k1 h).descriptors d ≡ None
@@ -62,7 +56,7 @@ module _ {k k1 : Kernel} {h : Hart} (all : ClosesFrom k h 0 k1) where
     frames = all.remains.frames;
     others =
         let wakes = closes_wake (state_of k h).pipes (state_of k1 h).pipes in
-        others-mapped wakes (woken_by wakes) k.table k1.table (λ p. refl) (woken_by-channel wakes) all.remains.places;
+        others-mapped wakes (woken_by wakes) k.table k1.table (λ p. refl) (woken-channel wakes) all.remains.places;
     none = none-left;
     state = all.state;
     pipes = all.pipes;

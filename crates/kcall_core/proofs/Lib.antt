@@ -110,6 +110,7 @@ pub mod PipeEdges
 pub mod AllClosed
 pub mod Turned
 pub mod OnePlace
+pub mod Sleepers
 pub mod OneStep
 pub mod AloneMakes
 pub mod AloneWaits

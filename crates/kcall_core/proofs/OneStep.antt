@@ -174,17 +174,6 @@ module _ (k : Kernel) (h : Hart) (k' : Kernel) (h' : Hart) (after : Process) (wh
       by (Some slot) e = let f = slot-from k.table whole.sound.table slot q e in
           absurd (absent (is_listed s.processes q (ap is_some (ap (get s.processes) (sym f.2) ∙ entry-held k h whole.sound.table slot f.0 f.1))))
 
-decide : (b : Bool) → (b ≡ true → ⊥) → b ≡ false
-decide true h = absurd (h refl)
-decide false h = refl
-
--- where those wake that have to, and whoever falls asleep isn't ready, no sleeper is ready
-pub none-ready : (w t : World) (o : Outcome) → WakesWhereDue w o t → ((q : ℕ) → Sleeps t.turns q → Sleeps w.turns q ⊎ ((v : View) → view t.state q ≡ Some v → ready v ≡ false)) → NoReadySleeper t
-none-ready w t o due was q v asleep see = elim (was q asleep) [
-  | inl before ↦ decide (ready v) (λ yes. (due q v before see).1 (inl yes) asleep)
-  | inr shut ↦ shut v see
-]
-
 -- where no process is made, none is newborn
 pub none-born : (before after : Turns) (c : Option View) → c ≡ None → MatchOption c (Unit {0}) (λ c. ((slot : ℕ) × HasSlot after c.pid slot × IsLowestFree before slot) × ¬ Sleeps after c.pid)
 none-born before after None e = tt

@@ -13,7 +13,7 @@ use Rattle.proc_table.specs.declared.channel.Channel.{Channel}
 use Rattle.proc_table.specs.declared.process.Process.{Process}
 use Rattle.proc_table.specs.declared.process.State as table
 use Rattle.proc_table.specs.declared.process.State.TheVariants.{Live as Live_state, Zombie as Zombie_state}
-use Rattle.proc_table.specs.Processes.{status_of, state_status, woken, state_woken}
+use Rattle.proc_table.specs.Processes.{status_of, state_status, channel_of, state_channel, woken, state_woken}
 use Rattle.proc_table.specs.Slots.{Slots, place_at, place_is_live, each_changed}
 use Rattle.kcall_core.specs.ByPid.{by_pid}
 use Rattle.kcall_core.specs.Closings.{unless_woken, state_woken_by, woken_by}
@@ -62,6 +62,14 @@ woken-twice first then_on both is p = ap (λ s. record p { state = s }) (by p.st
 
     by : (s : table.State) → state_woken_by then_on (state_woken_by first s) ≡ state_woken_by both s
     by (Live_state marked call channel) = ap (Live_state marked call) (left channel)
+    by (Zombie_state status) = refl
+
+-- who sleeps on one of them sleeps no more
+pub woken-channel : (wakes : Channel → Bool) (p : Process) → channel_of (woken_by wakes p) ≡ unless_woken wakes (channel_of p)
+woken-channel wakes p = by p.state
+  where
+    by : (s : table.State) → state_channel (state_woken_by wakes s) ≡ unless_woken wakes (state_channel s)
+    by (Live_state marked call channel) = refl
     by (Zombie_state status) = refl
 
 pub woken_by-status : (wakes : Channel → Bool) (p : Process) → status_of (woken_by wakes p) ≡ status_of p
