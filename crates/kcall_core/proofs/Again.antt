@@ -1,7 +1,7 @@
 -- A process that waits, and isn't ready, waits again and changes nothing.
 use Rattle.std.proofs.Common.{◌≡◌, ℕ, suc, ◌<◌, ◌≤◌, ◌+◌, ◌-◌, ◌%◌, ◌++◌, Bool, true, false, cond, not, ◌&&◌, ◌||◌, List, [], ◌∷◌, length, refl, ap, sym, ◌∙◌, subst, arith, inl, inr, lt-ltb}
 use Rattle.std.specs.Prelude.{Option, None, Some, ℤ, pos, negsuc, nat_eq, nat_lt, nat_le, is_some, min, slice_get, take, drop, option_map}
-use Rattle.std.proofs.lemmas.Bool.{eq-eqb, ltb-true}
+use Rattle.std.proofs.lemmas.Bool.{eq-eqb, ltb-true, or_parts}
 use Rattle.std.proofs.lemmas.Bool.Decides.{leb_tells}
 use Rattle.std.proofs.lemmas.List.{append-nil, length-take}
 use Rattle.xk_base.specs.declared.limits.TheConstants.{PIPE_BYTES, SEND_BYTES}
@@ -32,10 +32,6 @@ use Rattle.kcall_core.proofs.Writes.{writable_written}
 abbrev pub Again : View → ℤ → Type 0
 Again n k = (s : State) (p : ℕ) (m : View) → view s p ≡ Some m → SameRest m n → SameDescriptors m n → ready m ≡ false → own m ≡ goes_on (Blocked k) m
 
-neither : (a b : Bool) → (a || b) ≡ false → (a ≡ false) × (b ≡ false)
-neither true b e = let no : ⊥ = cc in absurd no
-neither false b e = (refl, e)
-
 not_false : (b : Bool) → not b ≡ false → b ≡ true
 not_false true e = refl
 not_false false e = let no : ⊥ = cc in absurd no
@@ -65,7 +61,7 @@ unfolding ready
 falls_waits r c moved u row h k n a e s p m see rest same shut =
     let now : Call = record c { moved = moved } in
     let is : record u { call = Some now } ≡ n = one_of (record u { call = Some now }) n e in
-    let parts = neither m.killed (call_ready m m.call) shut in
+    let parts = or_parts m.killed (call_ready m m.call) shut in
     let busy : m.call ≡ Some now = rest.3 ∙ sym (ap (λ (x : View). x.call) is) in
     let unready : row_ready m now (Some r) ≡ false = sym (ap (row_ready m now) row) ∙ sym (ap (call_ready m) busy) ∙ parts.1 in
     let number : c.number ≡ k = number_of c.number k a in
@@ -182,7 +178,7 @@ read_again c m e n x on reads size some there shows =
 
 empty_pipe : (pipe : Pipe) → (nat_lt 0 (length pipe.bytes) || nat_eq pipe.writers 0) ≡ false → must_wait pipe ≡ true
 empty_pipe pipe e =
-    let parts = neither (nat_lt 0 (length pipe.bytes)) (nat_eq pipe.writers 0) e in
+    let parts = or_parts (nat_lt 0 (length pipe.bytes)) (nat_eq pipe.writers 0) e in
     let low : length pipe.bytes ≤ 0 = not_under 0 (length pipe.bytes) parts.0 in
     let none : length pipe.bytes ≡ 0 = omega arith in
     λ i. eq-eqb (length pipe.bytes) 0 none i && not (parts.1 i)
@@ -298,7 +294,7 @@ module _ (c : Call) (m : View) (n : ℕ) (more : nat_le n c.moved ≡ false) whe
 
   full_pipe : (name : ℕ) (pipe : Pipe) → (nat_lt (length pipe.bytes) PIPE_BYTES || nat_eq pipe.readers 0) ≡ false → change_pipe name pipe m.descriptors ≡ m.descriptors → write_pipe c m name pipe n ≡ waits c c.moved m
   full_pipe name pipe full same =
-      let parts = neither (nat_lt (length pipe.bytes) PIPE_BYTES) (nat_eq pipe.readers 0) full in
+      let parts = or_parts (nat_lt (length pipe.bytes) PIPE_BYTES) (nat_eq pipe.readers 0) full in
       ap (λ (b : Bool). unless b c m (λ _. done_at c n (c.moved + fit pipe (n - c.moved)) (record m { descriptors = change_pipe name (with_more (next_bytes c m (fit pipe (n - c.moved))) pipe) m.descriptors }))) parts.1
       ∙ ap (λ (k : ℕ). done_at c n (c.moved + k) (record m { descriptors = change_pipe name (with_more (next_bytes c m k) pipe) m.descriptors })) (no_room (n - c.moved) (length pipe.bytes) PIPE_BYTES parts.0)
       ∙ (λ i. done_at c n (zero_more c.moved i) (record m { descriptors = change_pipe name (record pipe { bytes = append-nil pipe.bytes i }) m.descriptors }))

@@ -2,7 +2,7 @@
 use Rattle.std.proofs.Common.{◌≡◌, ℕ, Bool, true, false, cond, not, ◌&&◌, ◌||◌, List, [], ◌∷◌, Option, None, Some, refl, ap, sym, ◌∙◌}
 use Rattle.std.specs.Prelude.{ℤ, pos, negsuc, option_map, nat_eq, find}
 use Rattle.std.specs.List.{list_all}
-use Rattle.std.proofs.lemmas.Bool.{eqb-true}
+use Rattle.std.proofs.lemmas.Bool.{eqb-true, and_parts, or_parts}
 use Rattle.file_table.specs.declared.open_file.Target.{Target}
 use Rattle.file_table.specs.declared.open_file.Target.TheVariants.{Console as Terminal, Program as File, Pipe as Pipe_end}
 use Rattle.proc_table.specs.declared.process.Call.{Call}
@@ -25,17 +25,9 @@ is_wait _ = false
 abbrev is_three : ℕ × Row → Bool
 is_three e = not (is_wait e.1) || nat_eq e.0 3
 
-second : (a b : Bool) → (a && b) ≡ true → b ≡ true
-second true b e = e
-second false b e = let no : ⊥ = cc in absurd no
-
-first : (a b : Bool) → (a && b) ≡ true → a ≡ true
-first true b e = refl
-first false b e = let no : ⊥ = cc in absurd no
-
 found-three : (es : List (ℕ × Row)) (n : ℕ) → list_all is_three es ≡ true → option_map (λ (e : ℕ × Row). e.1) (find (λ e. nat_eq e.0 n) es) ≡ Some Wait → n ≡ 3
 found-three [] n all e = let no : ⊥ = cc in absurd no
-found-three (x ∷ es) n all e = by (λ rest. found-three es n (second (is_three x) (list_all is_three es) all) rest) (nat_eq x.0 n) refl
+found-three (x ∷ es) n all e = by (λ rest. found-three es n (and_parts (is_three x) (list_all is_three es) all).1 rest) (nat_eq x.0 n) refl
   where
     three : (r : Row) → r ≡ Wait → (not (is_wait r) || nat_eq x.0 3) ≡ true → nat_eq x.0 3 ≡ true
     three r is t = sym (ap (λ (q : Row). not (is_wait q) || nat_eq x.0 3) is) ∙ t
@@ -44,7 +36,7 @@ found-three (x ∷ es) n all e = by (λ rest. found-three es n (second (is_three
     by later true same =
         let found : Some x.1 ≡ Some Wait = sym (ap (λ (b : Bool). option_map (λ (e : ℕ × Row). e.1) (cond b (Some x) (find (λ e. nat_eq e.0 n) es))) same) ∙ e in
         let row : x.1 ≡ Wait = cc in
-        sym (eqb-true x.0 n same) ∙ eqb-true x.0 3 (three x.1 row (first (is_three x) (list_all is_three es) all))
+        sym (eqb-true x.0 n same) ∙ eqb-true x.0 3 (three x.1 row (and_parts (is_three x) (list_all is_three es) all).0)
     by later false same = later (sym (ap (λ (b : Bool). option_map (λ (e : ℕ × Row). e.1) (cond b (Some x) (find (λ e. nat_eq e.0 n) es))) same) ∙ e)
 
 wait-number : (z : ℤ) → row_of z ≡ Some Wait → z ≡ pos 3
@@ -107,8 +99,4 @@ module _ (s : State) (q : ℕ) (m : Live) where
 
   -- who isn't ready waits for what is shut
   pub shut : ready (view_of s q m) ≡ false → is_open s (waits_for s q m) ≡ false
-  shut e = either m.killed (is_open s (waits_for s q m)) (sym (ready_is s q m) ∙ e)
-    where
-      either : (a b : Bool) → (a || b) ≡ false → b ≡ false
-      either true b f = let no : ⊥ = cc in absurd no
-      either false b f = f
+  shut e = (or_parts m.killed (is_open s (waits_for s q m)) (sym (ready_is s q m) ∙ e)).1

@@ -5,7 +5,7 @@ use Rattle.std.specs.List.{list_any, find}
 use Rattle.std.specs.FinMap.{FinMap, get, keys, contains_key-keys}
 use Rattle.std.specs.Ordering.{nat_cmp, eq_by_cmp}
 use Rattle.std.specs.Cmp.{unsigned_tied}
-use Rattle.std.proofs.lemmas.Bool.{eq-eqb, eqb-true}
+use Rattle.std.proofs.lemmas.Bool.{eq-eqb, eqb-true, or_left, or_right, or_cases, and_parts}
 use Rattle.xk_base.specs.declared.limits.TheConstants.{NOFILE, PIPE_BYTES}
 use Rattle.pipe_core.specs.Pipe.{Pipe}
 use Rattle.file_table.specs.declared.open_file.OpenFile.{OpenFile}
@@ -35,21 +35,6 @@ use Rattle.kcall_core.proofs.Openings.{opens_gone}
 use Rattle.kcall_core.proofs.Departs.{last_closes, closes_wake, end_wakes}
 
 -- ---- truth values
-
-or_left : (a b : Bool) → a ≡ true → (a || b) ≡ true
-or_left a b e = λ i. e i || b
-
-or_right : (a b : Bool) → b ≡ true → (a || b) ≡ true
-or_right true b e = refl
-or_right false b e = e
-
-either : (a b : Bool) → (a || b) ≡ true → (a ≡ true) ⊎ (b ≡ true)
-either true b e = inl refl
-either false b e = inr e
-
-second : (a b : Bool) → (a && b) ≡ true → b ≡ true
-second true b e = e
-second false b e = let no : ⊥ = cc in absurd no
 
 -- shut before and open after: for that the second has to have come
 comes : (a x y : Bool) → (a || x) ≡ false → (a || y) ≡ true → (not x && y) ≡ true
@@ -90,7 +75,7 @@ found_some test (q ∷ ks) k e f = by (λ later. found_some test ks k later f) (
 
     by : (list_any (eq_by_cmp nat_cmp k) ks ≡ true → is_some (find test ks) ≡ true) → (b : Bool) → test q ≡ b → is_some (cond b (Some q) (find test ks)) ≡ true
     by rest true is = refl
-    by rest false is = elim (either (nat_eq k q) (list_any (eq_by_cmp nat_cmp k) ks) (ap (λ (b : Bool). b || list_any (eq_by_cmp nat_cmp k) ks) (sym (unsigned_tied k q)) ∙ e)) [
+    by rest false is = elim (or_cases (nat_eq k q) (list_any (eq_by_cmp nat_cmp k) ks) (ap (λ (b : Bool). b || list_any (eq_by_cmp nat_cmp k) ks) (sym (unsigned_tied k q)) ∙ e)) [
       | inl same ↦ absurd (differ (here same) is)
       | inr later ↦ rest later
     ]
@@ -190,12 +175,12 @@ module _ (frames : ℕ) (s : State) (p : ℕ) (l : Live) (status : ℤ) (files :
 
   -- who is woken may go on, or is pid 1 that waits for a child
   pub wakes-due : (c : Condition) → end_wakes_for l.parent s.pipes dead.pipes c ≡ true → (is_open dead c ≡ true) ⊎ (c ≡ Child_of 1)
-  wakes-due (Child_of q) e = elim (either (is_this q l.parent) (nat_eq q 1) e) [
+  wakes-due (Child_of q) e = elim (or_cases (is_this q l.parent) (nat_eq q 1) e) [
     | inl mine ↦ inl (zombie_comes q (this_is q l.parent mine))
     | inr one ↦ inr (ap Child_of (eqb-true q 1 one))
   ]
-  wakes-due (Bytes i) e = inl (or_right _ _ (second (not (nat_eq (or_gone (get s.pipes i)).writers 0)) (nat_eq (or_gone (get dead.pipes i)).writers 0) e))
-  wakes-due (Room i) e = inl (or_right _ _ (second (not (nat_eq (or_gone (get s.pipes i)).readers 0)) (nat_eq (or_gone (get dead.pipes i)).readers 0) e))
+  wakes-due (Bytes i) e = inl (or_right _ _ (and_parts (not (nat_eq (or_gone (get s.pipes i)).writers 0)) (nat_eq (or_gone (get dead.pipes i)).writers 0) e).1)
+  wakes-due (Room i) e = inl (or_right _ _ (and_parts (not (nat_eq (or_gone (get s.pipes i)).readers 0)) (nat_eq (or_gone (get dead.pipes i)).readers 0) e).1)
   wakes-due Nothing e = let no : ⊥ = cc in absurd no
   wakes-due (Time since ticks) e = let no : ⊥ = cc in absurd no
   wakes-due Keys e = let no : ⊥ = cc in absurd no

@@ -5,7 +5,7 @@ use Rattle.std.specs.Ordering.{nat_cmp}
 use Rattle.std.specs.Cmp.{nat_cmp_total}
 use Rattle.std.specs.List.{list_any}
 use Rattle.std.specs.FinMap.{FinMap, get, insert, keys, same_map, nat_cmp-IsAntisymmetric}
-use Rattle.std.proofs.lemmas.Bool.{cases_eq, eq-eqb}
+use Rattle.std.proofs.lemmas.Bool.{cases_eq, eq-eqb, false_from_ne_true, or_right}
 use Rattle.std.proofs.lemmas.Bool.Decides.{eqb_tells}
 use Rattle.std.proofs.lemmas.List.{get_or-set_same, get_or-set_other}
 use Rattle.xk_base.specs.declared.limits.TheConstants.{NPROC}
@@ -260,14 +260,6 @@ or-after true false l e = λ i. Some (Alive (record l { killed = e i }))
 or-after false true l e = refl
 or-after false false l e = λ i. Some (Alive (record l { killed = e i }))
 
-is-true : (a b : Bool) → b ≡ true → (a || b) ≡ true
-is-true true b e = refl
-is-true false b e = e
-
-decide : (b : Bool) → (b ≡ true → ⊥) → b ≡ false
-decide true never = absurd (never refl)
-decide false never = refl
-
 -- who marks q and is done is done and marks q
 either-order : (m : FinMap nat_cmp meaning.Process) (p q : ℕ) (l : Live) → (nat_eq q p ≡ true → l.killed ≡ true)
     → insert (change marked q m (get m q)) p (Alive l) ≡ change marked q (insert m p (Alive l)) (get (insert m p (Alive l)) q)
@@ -364,14 +356,14 @@ module _ {k : Kernel} {h : Hart} (q slot : ℕ) (whole : IsWhole k h) (runs : Is
   -- nothing else comes
   stays-shut : (r : ℕ) (a : Live) → is_open s (waits_for s r a) ≡ false → is_open t (waits_for s r a) ≡ false
   stays-shut r a shut =
-      let still : is_open (own_state p next s) (waits_for s r a) ≡ false = decide (is_open (own_state p next s) (waits_for s r a)) (λ yes. opens_nothing s p l next s.files s.free was refl (waits_for s r a) shut yes) in
-      decide (is_open t (waits_for s r a)) (λ yes. opens_marked (own_state p next s) q (waits_for s r a) still yes)
+      let still : is_open (own_state p next s) (waits_for s r a) ≡ false = false_from_ne_true (is_open (own_state p next s) (waits_for s r a)) (λ yes. opens_nothing s p l next s.files s.free was refl (waits_for s r a) shut yes) in
+      false_from_ne_true (is_open t (waits_for s r a)) (λ yes. opens_marked (own_state p next s) q (waits_for s r a) still yes)
 
   module _ (k' : Kernel) (h' : Hart) (done : IsDone mid h (pos 0) k' h') where
     state-after : state_of k' h' ≡ t
     state-after =
         done.state ∙ (λ i. own_state (mid-pid i) (with_answer (pos 0) (mid-live i)) (state1 i))
-        ∙ ap (λ m. record (own_state p next s) { processes = m }) (either-order s.processes p q next (λ e. is-true l.killed (nat_eq q p) e))
+        ∙ ap (λ m. record (own_state p next s) { processes = m }) (either-order s.processes p q next (λ e. or_right l.killed (nat_eq q p) e))
 
     place : ItsPlace mid.table k'.table (slot_now k) (marker q (place_now k)) (in_call None (marker q (place_now k)))
     place =

@@ -3,7 +3,7 @@ use Rattle.std.proofs.Common.{◌≡◌, ℕ, suc, ◌+◌, ◌-◌, ◌%◌, �
 use Rattle.std.specs.Prelude.{Option, None, Some, IsSome, is_some, ℤ, pos, negsuc, nat_eq, nat_lt, nat_le, slice_get, filter, Result, Ok, Err}
 use Rattle.std.specs.List.{list_any}
 use Rattle.std.specs.Int.{cast_unsigned, w32}
-use Rattle.std.proofs.lemmas.Bool.{eqb-true}
+use Rattle.std.proofs.lemmas.Bool.{eqb-true, or_cases, or_right}
 use Rattle.xk_base.specs.declared.limits.TheConstants.{SIZE_LIMIT, MAXARG, ARG_BYTES, MAXPATH}
 use Rattle.xk_base.specs.declared.errors.ExecError.{ExecError}
 use Rattle.xk_base.specs.Image.{Image, price}
@@ -38,18 +38,10 @@ pub record Sound (v : View) (o : Own) : Type 0 where
   pub left : gone_with o.answer ≡ None → IsSome o.next
   pub pids : (q : ℕ) → has q o.left.pids ≡ true → (has q v.pids ≡ true) ⊎ IsNewbornOf o q
 
-either : (a b : Bool) → (a || b) ≡ true → (a ≡ true) ⊎ (b ≡ true)
-either true b e = inl refl
-either false b e = inr e
-
-or_right : (a b : Bool) → b ≡ true → (a || b) ≡ true
-or_right true b e = refl
-or_right false b e = e
-
 -- one pid more at the end
 has_more : (q n : ℕ) (xs : List ℕ) → has q (xs ++ n ∷ []) ≡ true → (has q xs ≡ true) ⊎ (q ≡ n)
-has_more q n [] e = elim (either (nat_eq q n) false e) [ inl h ↦ inr (eqb-true q n h) | inr h ↦ let no : ⊥ = cc in absurd no ]
-has_more q n (x ∷ xs) e = elim (either (nat_eq q x) (has q (xs ++ n ∷ [])) e) [
+has_more q n [] e = elim (or_cases (nat_eq q n) false e) [ inl h ↦ inr (eqb-true q n h) | inr h ↦ let no : ⊥ = cc in absurd no ]
+has_more q n (x ∷ xs) e = elim (or_cases (nat_eq q x) (has q (xs ++ n ∷ [])) e) [
   | inl h ↦ inl (λ i. h i || has q xs)
   | inr h ↦ elim (has_more q n xs h) [ inl g ↦ inl (or_right (nat_eq q x) (has q xs) g) | inr g ↦ inr g ]
 ]
@@ -60,7 +52,7 @@ has_fewer q keep [] e = e
 has_fewer q keep (x ∷ xs) e = by (keep x) (λ h. or_right (nat_eq q x) (has q xs) (has_fewer q keep xs h)) e
   where
     by : (b : Bool) → (has q (filter keep xs) ≡ true → (nat_eq q x || has q xs) ≡ true) → has q (cond b (x ∷ filter keep xs) (filter keep xs)) ≡ true → (nat_eq q x || has q xs) ≡ true
-    by true rest h = elim (either (nat_eq q x) (has q (filter keep xs)) h) [ inl g ↦ (λ i. g i || has q xs) | inr g ↦ rest g ]
+    by true rest h = elim (or_cases (nat_eq q x) (has q (filter keep xs)) h) [ inl g ↦ (λ i. g i || has q xs) | inr g ↦ rest g ]
     by false rest h = rest h
 
 -- ---- every row

@@ -3,7 +3,7 @@ use Rattle.std.proofs.Common.{◌≡◌, ℕ, ◌-◌, ◌≤◌, ◌&&◌, ◌|
 use Rattle.std.specs.Prelude.{nat_eq}
 use Rattle.std.specs.Ordering.{nat_cmp}
 use Rattle.std.specs.FinMap.{FinMap, get, insert, remove}
-use Rattle.std.proofs.lemmas.Bool.{eq-eqb, eqb-true}
+use Rattle.std.proofs.lemmas.Bool.{eq-eqb, eqb-true, and_parts}
 use Rattle.std.proofs.lemmas.Bool.Decides.{eqb_tells}
 use Rattle.sv39_core.proofs.Gathered.{same_pages}
 use Rattle.pipe_core.specs.Pipe.{Pipe}
@@ -59,17 +59,9 @@ remainder-count y e = by (is_given_up y) refl e
     zero-is : (n : ℕ) → nat_eq n 0 ≡ true → 0 ≡ n
     zero-is n z = sym (eqb-true n 0 z)
 
-    first : (a b : Bool) → (a && b) ≡ true → a ≡ true
-    first true b p = refl
-    first false b p = p
-
-    second : (a b : Bool) → (a && b) ≡ true → b ≡ true
-    second true b p = p
-    second false b p = let no : ⊥ = cc in absurd no
-
     by : (b : Bool) → is_given_up y ≡ b → (e : End) → count_on e (or_gone (cond b None (Some y))) ≡ count_on e y
-    by true none Reading = zero-is y.readers (first (nat_eq y.readers 0) (nat_eq y.writers 0) none)
-    by true none Writing = zero-is y.writers (second (nat_eq y.readers 0) (nat_eq y.writers 0) none)
+    by true none Reading = zero-is y.readers (and_parts (nat_eq y.readers 0) (nat_eq y.writers 0) none).0
+    by true none Writing = zero-is y.writers (and_parts (nat_eq y.readers 0) (nat_eq y.writers 0) none).1
     by false none e = refl
 
 abbrev same_end : End → End → Bool

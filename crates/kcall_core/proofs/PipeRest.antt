@@ -1,6 +1,6 @@
 -- What of a buffer is left, from a place in it on.
 use Rattle.std.proofs.Common.{◌≡◌, ℕ, zero, suc, ◌+◌, ◌-◌, ◌*◌, ◌^◌, ◌<◌, ◌≤◌, Bool, true, false, ◌&&◌, get_or, Option, Some, None, IsSome, inl, inr, refl, sym, ap, ◌∙◌, subst, arith}
-use Rattle.std.proofs.lemmas.Bool.{cases_lt}
+use Rattle.std.proofs.lemmas.Bool.{cases_lt, and_parts}
 use Rattle.std.proofs.lemmas.Bool.Decides.{eqb_tells}
 use Rattle.xk_base.specs.Image.{Image}
 use Rattle.xk_base.specs.declared.access.Access.TheVariants.{Load}
@@ -17,15 +17,11 @@ use Rattle.kcall_core.specs.declared.memories.Memories.{Memories}
 use Rattle.kcall_core.proofs.Changes.{each-at}
 use Rattle.kcall_core.proofs.UserBytes.{reaches-readable}
 
-both : (a b : Bool) → (a && b) ≡ true → (a ≡ true) × (b ≡ true)
-both true b e = (refl, e)
-both false b e = let no : ⊥ = cc in absurd no
-
 all-at : (n : ℕ) (f : ℕ → Bool) → all_below n f ≡ true → (k : ℕ) → k < n → f k ≡ true
 unfolding all_below
 all-at zero f all k lt = absurd (omega (arith, lt))
 all-at (suc n) f all k lt =
-    let e = both (all_below n f) (f n) all in
+    let e = and_parts (all_below n f) (f n) all in
     elim (eqb_tells k n) [
       | inl same ↦ ap f same.1 ∙ e.1
       | inr other ↦ all-at n f e.0 k (omega (arith, lt, other.1))

@@ -2,7 +2,7 @@
 use Rattle.std.proofs.Common.{◌≡◌, ◌≢◌, ℕ, ◌+◌, ◌-◌, ◌*◌, ◌%◌, ◌^◌, ◌≤◌, ◌<◌, ◌||◌, ◌&&◌, ◌++◌, Bool, true, false, cond, length, min, get_or, set, subst, Option, Some, None, inl, inr, refl, sym, ap, ◌∙◌, arith}
 use Rattle.std.specs.Prelude.{ℤ, pos, IsSome, nat_eq, nat_lt, nat_le}
 use Rattle.std.specs.FinMap.{get, insert}
-use Rattle.std.proofs.lemmas.Bool.{cases_lt, cases_eq, eq-eqb, lt-ltb, le-ltb, le-leb, lt-leb}
+use Rattle.std.proofs.lemmas.Bool.{cases_lt, cases_eq, eq-eqb, lt-ltb, le-ltb, le-leb, lt-leb, or_parts}
 use Rattle.std.proofs.lemmas.Bool.Decides.{eqb_tells}
 use Rattle.std.proofs.lemmas.List.{length-append, set-get_or}
 use Rattle.std.proofs.lemmas.List.FromFn.{length-map-range_with_len}
@@ -53,10 +53,6 @@ use Rattle.kcall_core.proofs.CallAnswers.{IsDone}
 use Rattle.kcall_core.proofs.Prepared.{over}
 use Rattle.kcall_core.proofs.Midway.{WakeOn, Midway, IsAsleep, midway-done, midway-sleeps}
 use Rattle.kcall_core.proofs.Moved.{moved-sound, moved-midway, sleeps-unready}
-
-neither : (a b : Bool) → (a || b) ≡ false → (a ≡ false) × (b ≡ false)
-neither true b e = let no : ⊥ = cc in absurd no
-neither false b e = (refl, e)
 
 above : (a b : ℕ) → nat_lt a b ≡ false → b ≤ a
 above a b e = elim (cases_lt a b) [ inl less ↦ absurd (clash (lt-ltb a b less) e) | inr more ↦ more ]
@@ -150,7 +146,7 @@ module _ {k : Kernel} {h : Hart} {c : Call} {f n : ℕ} (whole : IsWhole k h) (r
 
   bytes-came : has_bytes x.pipe ≡ false → has_bytes after ≡ nat_lt 0 count
   bytes-came shut =
-      let e = neither (nat_lt 0 (length x.pipe.bytes)) (nat_eq x.pipe.writers 0) shut in
+      let e = or_parts (nat_lt 0 (length x.pipe.bytes)) (nat_eq x.pipe.writers 0) shut in
       let none = above 0 (length x.pipe.bytes) e.0 in
       let size : length after.bytes ≡ count = omega (arith, none, size-after) in
       (λ i. nat_lt 0 (size i) || e.1 i) ∙ or-false (nat_lt 0 count)
@@ -161,7 +157,7 @@ module _ {k : Kernel} {h : Hart} {c : Call} {f n : ℕ} (whole : IsWhole k h) (r
 
   room-stays : has_room x.pipe ≡ false → has_room after ≡ false
   room-stays shut =
-      let e = neither (nat_lt (length x.pipe.bytes) PIPE_BYTES) (nat_eq x.pipe.readers 0) shut in
+      let e = or_parts (nat_lt (length x.pipe.bytes) PIPE_BYTES) (nat_eq x.pipe.readers 0) shut in
       let full = above (length x.pipe.bytes) PIPE_BYTES e.0 in
       (λ i. le-ltb (length after.bytes) PIPE_BYTES (omega (arith, full, size-after)) i || e.1 i)
 

@@ -27,7 +27,7 @@ use Rattle.kcall_core.specs.declared.kernel.Kernel.{Kernel}
 use Rattle.kcall_core.proofs.States.{none-some}
 use Rattle.kcall_core.proofs.Observed.{live-held}
 use Rattle.kcall_core.proofs.Turned.{sleeps-is, sleeps-from, awake-is, sleeper-lives, not-both, same-some}
-use Rattle.kcall_core.proofs.Wakes.{ready_is}
+use Rattle.kcall_core.proofs.Wakes.{ready_is, view_is}
 
 -- A process that sleeps, in its slot, on its channel
 pub record Sleeper (k : Kernel) (q : ℕ) : Type 0 where
@@ -84,10 +84,6 @@ sleeper k is_table q e = let (j, y, c, at, named, on-it) = sleeps-from k.table i
 its-live : (k : Kernel) (h : Hart) → IsTable k.table → (q : ℕ) (z : Sleeper k q) → live (state_of k h) q ≡ Some (live_of z.process (descriptors_at k.table z.slot) (held_at (each_of k.memories) z.slot) (regs_at k h z.slot))
 its-live k h is_table q z = ap (live (state_of k h)) (sym z.named) ∙ live-held k h is_table z.slot z.process z.at (sleeper-lives z.process z.channel z.on-it)
 
-some-live : (s : State) (q : ℕ) (o : Option Live) (v : View) → option_map (view_of s q) o ≡ Some v → (m : Live) × (o ≡ Some m) × (view_of s q m ≡ v)
-some-live s q None v e = absurd (none-some v e)
-some-live s q (Some m) v e = (m, refl, same-some (view_of s q m) v e)
-
 -- where those wake that have to, and whoever falls asleep isn't ready, no sleeper is ready
 pub none-ready : (w t : World) (o : Outcome) → WakesWhereDue w o t → ((q : ℕ) → Sleeps t.turns q → Sleeps w.turns q ⊎ ((v : View) → view t.state q ≡ Some v → ready v ≡ false)) → NoReadySleeper t
 none-ready w t o due was q v asleep see = elim (was q asleep) [
@@ -110,7 +106,7 @@ module _ {k : Kernel} {h : Hart} {k' : Kernel} {h' : Hart} {o : Outcome} {p : �
   exactly q v z asleep see =
       let was = its-live k h whole.sound.table q z in
       let l = live_of z.process (descriptors_at k.table z.slot) (held_at (each_of k.memories) z.slot) (regs_at k h z.slot) in
-      let (m, is, same) = some-live t q (live t q) v see in
+      let (m, is, same) = view_is t q (live t q) v see in
       let shut = or_parts l.killed (is_open s (waits_for s q l)) (sym (ready_is s q l) ∙ whole.unready q (view_of s q l) asleep (ap (option_map (view_of s q)) was)) in
       let its : is_for (waits_for s q l) z.channel ≡ true = subst (λ (n : ℕ). is_for (waits_for s n l) z.channel ≡ true) z.named (whole.channels z.slot z.process l z.channel z.at (ap (live s) z.named ∙ was) z.on-it) in
       subst (λ (u : View). (wakes q z.channel ≡ true) ↔ ((ready u ≡ true) ⊎ (IsInCall 13 u × (o ≡ Ticked)) ⊎ ((q ≡ 1) × IsInCall 3 u × IsEnd o))) same (x.due q z l m was is its shut.0 shut.1)
@@ -163,7 +159,7 @@ module _ {k : Kernel} {h : Hart} {k' : Kernel} {h' : Hart} {o : Outcome} {p : �
 
   its-view : (q : ℕ) (v : View) → q ≡ p → IsSome falls → view t q ≡ Some v → ready v ≡ false
   its-view q v e asleep see =
-      let (m, is, same) = some-live t q (live t q) v see in
+      let (m, is, same) = view_is t q (live t q) v see in
       let (c, is-on) = the-channel falls asleep in
       sym (ap ready same) ∙ ap (λ (n : ℕ). ready (view_of t n m)) e ∙ (x.itself c m is-on (sym (ap (live t) e) ∙ is)).1
     where

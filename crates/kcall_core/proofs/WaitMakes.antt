@@ -5,7 +5,7 @@ use Rattle.std.specs.Int.{cast_unsigned, w32}
 use Rattle.std.specs.Ordering.{nat_cmp}
 use Rattle.std.specs.Cmp.{nat_cmp_total}
 use Rattle.std.specs.FinMap.{FinMap, get, insert, remove, keys, same_map, nat_cmp-IsAntisymmetric}
-use Rattle.std.proofs.lemmas.Bool.{cases_eq, eq-eqb}
+use Rattle.std.proofs.lemmas.Bool.{cases_eq, eq-eqb, false_from_ne_true}
 use Rattle.std.proofs.lemmas.Bool.Decides.{eqb_tells}
 use Rattle.std.proofs.lemmas.List.{get_or-set_same, get_or-set_other}
 use Rattle.std.proofs.Math.ListN.{length-set}
@@ -61,10 +61,6 @@ use Rattle.kcall_core.proofs.Making.{Itself, Others, SlotsAfter, made}
 use Rattle.kcall_core.proofs.Zombies.{zombie-is, least-is}
 
 -- ---- the ended child is gone
-
-decide : (b : Bool) → (b ≡ true → ⊥) → b ≡ false
-decide true never = absurd (never refl)
-decide false never = refl
 
 abbrev no-process : Option Process
 no-process = None
@@ -240,7 +236,7 @@ module _ {k : Kernel} {h : Hart} (q : ℕ) (status : ℤ) (whole : IsWhole k h) 
 
     stays-shut : (r : ℕ) (a : Live) → r ≢ p → is_open s (waits_for s r a) ≡ false → is_open t (waits_for s r a) ≡ false
     stays-shut r a ne shut =
-        decide (is_open t (waits_for s r a)) (λ opens. ne (waits-for-child s r a p (opens_reaped s p q l next status was refl zombie (waits_for s r a) shut opens)).0)
+        false_from_ne_true (is_open t (waits_for s r a)) (λ opens. ne (waits-for-child s r a p (opens_reaped s p q l next status was refl zombie (waits_for s r a) shut opens)).0)
 
     no-more : get t.processes q ≡ None
     no-more = get_without (insert s.processes p (Alive next)) q q ∙ ap (λ (b : Bool). cond b None (get (insert s.processes p (Alive next)) q)) (eq-eqb q q refl)

@@ -2,6 +2,7 @@
 use Rattle.std.proofs.Common.{◌≡◌, ℕ, Bool, true, false, cond, ◌||◌, refl, ap, sym, ◌∙◌, inl, inr}
 use Rattle.std.specs.Prelude.{Option, None, Some, ℤ, pos, negsuc, option_map, nat_lt}
 use Rattle.std.specs.FinMap.{get}
+use Rattle.std.proofs.lemmas.Bool.{or_parts, false_from_ne_true}
 use Rattle.xk_base.specs.declared.limits.TheConstants.{NOFILE}
 use Rattle.kcall_core.specs.Words.{c_int}
 use Rattle.file_table.specs.declared.open_file.OpenFile.{OpenFile}
@@ -108,17 +109,10 @@ module _ (s : State) (p : ℕ) (l : Live) where
 some_view : (a b : View) → Some a ≡ Some b → a ≡ b
 some_view a b e = cc
 
-view_is : (s : State) (q : ℕ) (o : Option Live) (v : View) → option_map (view_of s q) o ≡ Some v → (m : Live) × (o ≡ Some m) × (view_of s q m ≡ v)
+-- who is seen is live
+pub view_is : (s : State) (q : ℕ) (o : Option Live) (v : View) → option_map (view_of s q) o ≡ Some v → (m : Live) × (o ≡ Some m) × (view_of s q m ≡ v)
 view_is s q None v e = let no : ⊥ = cc in absurd no
 view_is s q (Some m) v e = (m, refl, some_view (view_of s q m) v e)
-
-neither : (a b : Bool) → (a || b) ≡ false → (a ≡ false) × (b ≡ false)
-neither true b h = let no : ⊥ = cc in absurd no
-neither false b h = (refl, h)
-
-decide : (b : Bool) → (b ≡ true → ⊥) → b ≡ false
-decide true h = absurd (h refl)
-decide false h = refl
 
 pub none_ready : (w t : World) → NoReadySleeper w → WakesEnough w t → NoReadySleeper t
 none_ready w t before h q v sleeps is =
@@ -129,9 +123,9 @@ none_ready w t before h q v sleeps is =
       | inl was ↦
           let l : Live = was.0 in
           let old : (l.killed || is_open w.state (waits_for w.state q l)) ≡ false = sym (ready_is w.state q l) ∙ before q (view_of w.state q l) was.2 (ap (option_map (view_of w.state q)) was.1) in
-          let parts = neither l.killed (is_open w.state (waits_for w.state q l)) old in
-          let unmarked : m.killed ≡ false = decide m.killed (λ e. h.marked q l m was.1 here.1 parts.0 e sleeps) in
-          let shut : is_open t.state (waits_for t.state q m) ≡ false = decide (is_open t.state (waits_for t.state q m)) (λ e. h.opened (waits_for t.state q m) (ap (is_open w.state) was.3 ∙ parts.1) e q m here.1 refl sleeps) in
+          let parts = or_parts l.killed (is_open w.state (waits_for w.state q l)) old in
+          let unmarked : m.killed ≡ false = false_from_ne_true m.killed (λ e. h.marked q l m was.1 here.1 parts.0 e sleeps) in
+          let shut : is_open t.state (waits_for t.state q m) ≡ false = false_from_ne_true (is_open t.state (waits_for t.state q m)) (λ e. h.opened (waits_for t.state q m) (ap (is_open w.state) was.3 ∙ parts.1) e q m here.1 refl sleeps) in
           sym (ap ready here.2) ∙ ready_is t.state q m ∙ (λ i. unmarked i || shut i)
     ]
 
