@@ -34,10 +34,11 @@ use Rattle.kcall_core.specs.declared.kernel.Kernel.{Kernel}
 use Rattle.kcall_core.proofs.States.{none-some, running}
 use Rattle.kcall_core.proofs.Turned.{sleeps-is, sleeps-from, same-some, live-is}
 use Rattle.kcall_core.proofs.OnePlace.{ItsPlace, place-slots, changed-place, in-call-lives, asleep-lives, asleep-channel, place-join}
-use Rattle.kcall_core.proofs.OneStep.{ItsStep, place-is, place-lives, sleeper-apart, live-here, stays-well, stays-counted, channel-other, stays-wakes, no-slot, none-born}
+use Rattle.kcall_core.proofs.WhoRuns.{place-is, place-lives}
+use Rattle.kcall_core.proofs.StepSlots.{SlotsAfter, KeepsAll, slots-kept}
+use Rattle.kcall_core.proofs.OneStep.{ItsStep, sleeper-apart, live-here, stays-well, stays-counted, channel-other, stays-wakes}
 use Rattle.kcall_core.proofs.Sleepers.{none-ready}
 use Rattle.kcall_core.proofs.Alone.{waiting}
-use Rattle.kcall_core.proofs.AloneMakes.{KeepsAll}
 
 -- The process that runs sleeps from now on, with these registers, this image and this call in progress, on a channel of what the call waits for; nothing else of the kernel is another, but the free frames
 pub record OnlyWaits (k : Kernel) (h : Hart) (k' : Kernel) (h' : Hart) : Type 0 where
@@ -162,9 +163,9 @@ module _ {k : Kernel} {h : Hart} {k' : Kernel} {h' : Hart} (whole : IsWhole k h)
       last = waiting-step.place.last;
       current = ap (option_map (λ _. pid_now k')) x.current ∙ ap (stays_current (pid_now k)) (sym blocked);
       halted = refl;
-      held = λ q among some. ap (λ m. get m q) (place-slots waiting-step.place);
-      given_up = λ q absent. no-slot k h k' h' sleeper whole runs waiting-step q (subst (λ pids. ¬ Contains pids q) keeps.pids absent);
-      newborn = none-born (turns_of k None) (turns_of k' (halts_with (pid_now k) o.answer)) o.child keeps.child;
+      held = slots.held;
+      given_up = slots.given_up;
+      newborn = slots.newborn;
       blocked = λ _. now-asleep;
       awake = λ q asleep. elim (slept-or-ran q asleep) [ inl before ↦ inl before | inr ran ↦ inr (ran, (number, blocked)) ];
     };
@@ -172,6 +173,9 @@ module _ {k : Kernel} {h : Hart} {k' : Kernel} {h' : Hart} (whole : IsWhole k h)
     kept = λ status is. absurd (none-some status (sym keeps.stays ∙ is));
     frames = x.frames;
   }
+    where
+      slots : SlotsAfter k k' o
+      slots = slots-kept k h k' o whole.sound.table (place-slots waiting-step.place) keeps
 
 -- ---- a call that waits
 

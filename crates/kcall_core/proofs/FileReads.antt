@@ -49,7 +49,7 @@ use Rattle.kcall_core.proofs.Decoding.{read_case}
 use Rattle.kcall_core.proofs.OnFiles.{file_read}
 use Rattle.kcall_core.proofs.WellLaws as well
 use Rattle.kcall_core.proofs.WellSteps as steps
-use Rattle.kcall_core.proofs.AloneMakes.{KeepsAll}
+use Rattle.kcall_core.proofs.StepSlots.{KeepsAll}
 use Rattle.kcall_core.proofs.CallAnswers.{IsDone}
 use Rattle.kcall_core.proofs.Midway.{Midway, midway-done}
 use Rattle.kcall_core.proofs.Moved.{nobody, still}

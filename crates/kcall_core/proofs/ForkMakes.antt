@@ -36,12 +36,13 @@ use Rattle.kcall_core.proofs.Observed.{entry-held}
 use Rattle.kcall_core.proofs.KeepsSlots.{is_listed}
 use Rattle.kcall_core.proofs.Turned.{slot-is, slot-from, awake-is, not-both, same-some, live-is}
 use Rattle.kcall_core.proofs.OnePlace.{in-call-channel}
-use Rattle.kcall_core.proofs.OneStep.{place-is}
+use Rattle.kcall_core.proofs.WhoRuns.{place-is}
 use Rattle.kcall_core.proofs.Openings.{opens_forked}
 use Rattle.kcall_core.proofs.WaitsOn.{waits_stay}
 use Rattle.kcall_core.proofs.WellLaws as well
 use Rattle.kcall_core.proofs.Family.{fork_law}
-use Rattle.kcall_core.proofs.Making.{Itself, Others, SlotsAfter, made}
+use Rattle.kcall_core.proofs.StepSlots.{SlotsAfter, no-slot}
+use Rattle.kcall_core.proofs.Making.{Itself, Others, made}
 
 -- The process that runs has a child in a slot that was free, the lowest; it has its answer. The slots, the pids and the frames suffice
 pub record IsBorn (k : Kernel) (h : Hart) (k' : Kernel) (h' : Hart) (child : ℕ) : Type 0 where
@@ -160,20 +161,13 @@ module _ {k : Kernel} {h : Hart} {k' : Kernel} {h' : Hart} {child : ℕ} (whole 
   unfolding turns_of view_of state_of
   slots = record {
     held = λ q among some. by q (get (slots_of k.table) q) refl some;
-    given_up = λ q absent. none q absent (get (slots_of k'.table) q) refl;
+    given_up = λ q absent. no-slot k' h' x.sound.table q (λ among. absent (subst (λ pids. Contains pids q) (ap (λ (u : State). keys u.processes) x.state ∙ laws.left.pids) among));
     newborn = subst (λ (o : Own). MatchOption o.child (Unit {0}) (λ d. ((slot : ℕ) × (get (slots_of k'.table) d.pid ≡ Some slot) × IsLowestFree (turns_of k None) slot) × ¬ (contains (sleepers_below k'.table NPROC) d.pid ≡ true))) (sym row) born;
   }
     where
       by : (q : ℕ) (o : Option ℕ) → get (slots_of k.table) q ≡ o → IsSome o → get (slots_of k'.table) q ≡ get (slots_of k.table) q
       by q None e some = let no : ⊥ = cc in absurd no
       by q (Some j) e some = kept-slot q j e ∙ sym e
-
-      none : (q : ℕ) → ¬ Contains (fork c v).left.pids q → (o : Option ℕ) → get (slots_of k'.table) q ≡ o → o ≡ None
-      none q absent None e = refl
-      none q absent (Some j) e =
-          let (y, at, named, below) = slot-from k'.table x.sound.table j q e in
-          absurd (absent (subst (λ pids. Contains pids q) (ap (λ (u : State). keys u.processes) x.state ∙ laws.left.pids)
-          (is_listed (state_of k' h').processes q (ap is_some (ap (get (state_of k' h').processes) (sym named) ∙ entry-held k' h' x.sound.table j y at)))))
 
       born : ((slot : ℕ) × (get (slots_of k'.table) s.next_pid ≡ Some slot) × IsLowestFree (turns_of k None) slot) × ¬ (contains (sleepers_below k'.table NPROC) s.next_pid ≡ true)
       born =

@@ -32,6 +32,7 @@ use Rattle.kcall_core.proofs.States.{none-some, Running, running}
 use Rattle.kcall_core.proofs.Observed.{entry-held, live-held}
 use Rattle.kcall_core.proofs.KeepsSlots.{is_listed}
 use Rattle.kcall_core.proofs.Turned.{sleeps-is, sleeps-from, awake-is, slots-same, sleeper-lives, not-both}
+use Rattle.kcall_core.proofs.StepSlots.{no-slot}
 use Rattle.kcall_core.proofs.Departs.{seat, unless_woken, seat_woken, Departs}
 
 -- ---- a process of the table
@@ -200,17 +201,6 @@ module _ (k k' : Kernel) (h h' : Hart) (status : ℤ) (left : FinMap nat_cmp Ope
   not-blocked : (answer : Answer) → gone_with answer ≡ Some status → IsBlocked answer → ⊥
   not-blocked answer e (number, is) = none-some status (sym (ap gone_with is) ∙ e)
 
-  unlisted-slot : (q : ℕ) → ¬ Contains (keys (state_of k h).processes) q → get (slots_of k.table) q ≡ None
-  unfolding slots_of
-  unlisted-slot q unlisted = none (λ j. slot_entry j (place_at k.table j)) NPROC q (λ j e below at same. by j e (place_at k.table j) refl at same)
-    where
-      by : (j : ℕ) (e : ℕ × ℕ) (o : Option Process) → place_at k.table j ≡ o → slot_entry j o ≡ Some e → q ≡ e.0 → ⊥
-      by j e None is at same = none-some e at
-      by j e (Some x) is at same =
-          let entry : (x.pid, j) ≡ e = cc in
-          let pid : x.pid ≡ q = ap (λ (z : ℕ × ℕ). z.0) entry ∙ sym same in
-          unlisted (is_listed (state_of k h).processes q (subst (λ (n : ℕ). IsSome (get (state_of k h).processes n)) pid (subst (λ o. IsSome o) (sym (entry-held k h whole.sound.table j x is)) refl)))
-
   pub gone-turns : (answer : Answer) → gone_with answer ≡ Some status → TurnsAfter (turns_of k None) (pid_now k) (gone answer (view_now k h)) (turns_of k' (halts_with (pid_now k) answer))
   unfolding turns_of view_of
   gone-turns answer ends = record {
@@ -218,7 +208,7 @@ module _ (k k' : Kernel) (h h' : Hart) (status : ℤ) (left : FinMap nat_cmp Ope
     current = ap (option_map (λ _. pid_now k')) d.stopped ∙ sym (stays-no-more answer ends);
     halted = refl;
     held = λ q listed some. ap (λ m. get m q) same-slots;
-    given_up = λ q unlisted. ap (λ m. get m q) same-slots ∙ unlisted-slot q unlisted;
+    given_up = λ q unlisted. ap (λ m. get m q) same-slots ∙ no-slot k h whole.sound.table q unlisted;
     newborn = tt;
     blocked = λ e. absurd (not-blocked answer ends e);
     awake = λ q e. inl (slept-before (halts_with (pid_now k) answer) q e);

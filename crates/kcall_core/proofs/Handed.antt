@@ -39,7 +39,7 @@ use Rattle.kcall_core.proofs.Maps.{get_same, get_other}
 use Rattle.kcall_core.proofs.Namings.{named-seen}
 use Rattle.kcall_core.proofs.States.{none-some, Running, running, not-this, slot-born, slot-anew, current-beside}
 use Rattle.kcall_core.proofs.OnePlace.{ItsPlace, changed-place, place-counted, in-call-lives}
-use Rattle.kcall_core.proofs.OneStep.{place-is, place-lives}
+use Rattle.kcall_core.proofs.WhoRuns.{place-is, place-lives}
 use Rattle.kcall_core.proofs.Imaged.{image-kept}
 use Rattle.kcall_core.proofs.SbrkRow.{kept}
 use Rattle.kcall_core.proofs.CallAnswers.{IsDone}

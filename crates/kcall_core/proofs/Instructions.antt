@@ -43,7 +43,8 @@ use Rattle.kcall_core.proofs.States.{running, Goes, goes-sound, goes-state, chan
 use Rattle.kcall_core.proofs.Turned.{live-is}
 use Rattle.kcall_core.proofs.WellLaws.{stores_take_nothing}
 use Rattle.kcall_core.proofs.Alone.{begins, instruction}
-use Rattle.kcall_core.proofs.AloneMakes.{OnlyItself, KeepsAll, only-makes}
+use Rattle.kcall_core.proofs.StepSlots.{KeepsAll}
+use Rattle.kcall_core.proofs.AloneMakes.{OnlyItself, only-makes}
 
 -- the process after a step
 abbrev pub after_step : Step → Live → Live

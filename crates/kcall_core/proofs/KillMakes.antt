@@ -33,6 +33,7 @@ use Rattle.kcall_core.specs.Run.{IsBlocked, halts_with}
 use Rattle.kcall_core.specs.Updates.{mark, marked, change, kill_state, killer, own_state, with_answer}
 use Rattle.kcall_core.specs.WellFormed.{WellFormed}
 use Rattle.kcall_core.specs.RowLaws.{IsLive, After}
+use Rattle.kcall_core.specs.Closings.{unless_woken}
 use Rattle.kcall_core.specs.Conditions.{is_open, waits_for, OthersWaitOn}
 use Rattle.kcall_core.specs.Holdings.{Held, held_at}
 use Rattle.kcall_core.specs.Memories.{each_of}
@@ -52,7 +53,8 @@ use Rattle.kcall_core.proofs.Observed.{slot-found, entry-held, pid-missing}
 use Rattle.kcall_core.proofs.KeepsSlots.{is_listed, listed}
 use Rattle.kcall_core.proofs.Turned.{slots-same, slot-from, live-is, same-some, not-both}
 use Rattle.kcall_core.proofs.OnePlace.{ItsPlace, changed-place, place-counted, place-slots, in-call-lives, in-call-channel}
-use Rattle.kcall_core.proofs.OneStep.{place-is, place-lives, now-is, none-born}
+use Rattle.kcall_core.proofs.WhoRuns.{place-is, place-lives, now-is}
+use Rattle.kcall_core.proofs.StepSlots.{KeepsAll, same-pid, slots-kept}
 use Rattle.kcall_core.proofs.Gone.{turn}
 use Rattle.kcall_core.proofs.Kill as step
 use Rattle.kcall_core.proofs.Family as family
@@ -61,8 +63,8 @@ use Rattle.kcall_core.proofs.WaitsOn.{waits_stay}
 use Rattle.kcall_core.proofs.WellLaws as well
 use Rattle.kcall_core.proofs.WellSteps as steps
 use Rattle.kcall_core.proofs.CallAnswers.{IsDone}
-use Rattle.kcall_core.proofs.AloneMakes.{KeepsAll}
-use Rattle.kcall_core.proofs.Making.{Itself, Others, SlotsAfter, made}
+use Rattle.kcall_core.proofs.Sleepers.{changed-stays, changed-slept}
+use Rattle.kcall_core.proofs.Making.{Itself, Others, made}
 
 -- ---- the row
 
@@ -136,9 +138,6 @@ marked_again : (x : meaning.Process) → marked (marked x) ≡ marked x
 marked_again (Alive l) = refl
 marked_again (Zombie parent status) = refl
 
-abbrev no-channel : Option Channel
-no-channel = None
-
 -- marked, if it has this pid
 abbrev pub marker : ℕ → Process → Process
 marker q x = cond (nat_eq x.pid q) (killed x) x
@@ -157,12 +156,20 @@ marker-status q x = by (nat_eq x.pid q)
     by true = killed-status x
     by false = refl
 
-marker-channel : (q : ℕ) (x : Process) → channel_of (marker q x) ≡ cond (nat_eq x.pid q) None (channel_of x)
+marker-channel : (q : ℕ) (x : Process) → channel_of (marker q x) ≡ unless_woken (λ c. nat_eq x.pid q) (channel_of x)
 marker-channel q x = by (nat_eq x.pid q)
   where
-    by : (b : Bool) → channel_of (cond b (killed x) x) ≡ cond b None (channel_of x)
-    by true = killed-awake x
-    by false = refl
+    awake : (o : Option Channel) → None ≡ unless_woken (λ c. true) o
+    awake None = refl
+    awake (Some c) = refl
+
+    asleep : (o : Option Channel) → o ≡ unless_woken (λ c. false) o
+    asleep None = refl
+    asleep (Some c) = refl
+
+    by : (b : Bool) → channel_of (cond b (killed x) x) ≡ unless_woken (λ c. b) (channel_of x)
+    by true = killed-awake x ∙ awake (channel_of x)
+    by false = asleep (channel_of x)
 
 module _ {k : Kernel} {h : Hart} (q slot : ℕ) (sound : IsSound k h) (at : slot_of k.table q ≡ Some slot) where
   abbrev pub k1 : Kernel
@@ -388,11 +395,7 @@ module _ {k : Kernel} {h : Hart} (q slot : ℕ) (whole : IsWhole k h) (runs : Is
     now-awake : channel_of (in_call None (marker q (place_now k))) ≡ None
     now-awake =
         in-call-channel None (marker q (place_now k)) ∙ marker-channel q (place_now k)
-        ∙ ap (cond (nat_eq (place_now k).pid q) None) (whole.awake (slot_now k) (place_now k) (running k h whole.sound runs).current (place-is k h whole.sound runs)) ∙ none-both (nat_eq (place_now k).pid q)
-      where
-        none-both : (b : Bool) → cond b no-channel no-channel ≡ no-channel
-        none-both true = refl
-        none-both false = refl
+        ∙ ap (unless_woken (λ c. nat_eq (place_now k).pid q)) (whole.awake (slot_now k) (place_now k) (running k h whole.sound runs).current (place-is k h whole.sound runs))
 
     itself : Itself k h k' h' None
     itself = record {
@@ -406,8 +409,8 @@ module _ {k : Kernel} {h : Hart} (q slot : ℕ) (whole : IsWhole k h) (runs : Is
 
     others : Others k h k' h' (λ r d. nat_eq r q)
     others = record {
-      stays = λ j x d ne is on-it. (marker q x, others-place j ne ∙ ap (option_map (marker q)) is, marker-pid q x, marker-channel q x ∙ ap (cond (nat_eq x.pid q) None) on-it);
-      slept = slept;
+      stays = λ j x d ne is on-it. changed-stays (λ r d. nat_eq r q) (marker q) (marker-pid q) (marker-channel q) (others-place j ne) x d is on-it;
+      slept = λ j y d ne is on-it. changed-slept (λ r d. nat_eq r q) (marker q) (marker-pid q) (marker-channel q) (others-place j ne) y d is on-it;
       waits = subst (OthersWaitOn s p) (sym state-after) ((waits_stay (frame_count k) s p l whole.well was).1 next q);
       due = λ r a m d apart before after for-d unmarked shut.
           let now : live t r ≡ Some m = ap (λ (u : State). live u r) (sym state-after) ∙ after in
@@ -418,41 +421,8 @@ module _ {k : Kernel} {h : Hart} (q slot : ℕ) (whole : IsWhole k h) (runs : Is
         or-no true = refl
         or-no false = refl
 
-        kept : (b : Bool) (o : Option Channel) (d : Channel) → cond b None o ≡ Some d → o ≡ Some d
-        kept true o d e = absurd (none-some d e)
-        kept false o d e = e
-
-        slept : (j : ℕ) (y : Process) (d : Channel) → j ≢ slot_now k → place_at k'.table j ≡ Some y → channel_of y ≡ Some d → (x : Process) × (place_at k.table j ≡ Some x) × (y.pid ≡ x.pid) × (channel_of x ≡ Some d)
-        slept j y d ne is on-it = by (place_at k.table j) refl (sym (others-place j ne) ∙ is)
-          where
-            by : (o : Option Process) → place_at k.table j ≡ o → option_map (marker q) o ≡ Some y → (x : Process) × (place_at k.table j ≡ Some x) × (y.pid ≡ x.pid) × (channel_of x ≡ Some d)
-            by None had e = absurd (none-some y e)
-            by (Some x) had e =
-                let same : marker q x ≡ y = same-some (marker q x) y e in
-                (x, had, ap (λ (r : Process). r.pid) (sym same) ∙ marker-pid q x, kept (nat_eq x.pid q) (channel_of x) d (sym (marker-channel q x) ∙ ap channel_of same ∙ on-it))
-
     keeps-slots : slots_of k'.table ≡ slots_of k.table
-    keeps-slots = place-slots place ∙ slots-same k.table mid.table (λ j. ap (option_map process_pid) (place1 j) ∙ same-pid (place_at k.table j))
-      where
-        same-pid : (o : Option Process) → option_map process_pid (option_map (marker q) o) ≡ option_map process_pid o
-        same-pid None = refl
-        same-pid (Some x) = ap Some (marker-pid q x)
-
-    no-slot : (r : ℕ) → ¬ Contains (keys s.processes) r → get (slots_of k'.table) r ≡ None
-    no-slot r absent = ap (λ n. get n r) keeps-slots ∙ by (get (slots_of k.table) r) refl
-      where
-        by : (a : Option ℕ) → get (slots_of k.table) r ≡ a → a ≡ None
-        by None e = refl
-        by (Some j) e = let f = slot-from k.table whole.sound.table j r e in
-            absurd (absent (is_listed s.processes r (ap is_some (ap (get s.processes) (sym f.2) ∙ entry-held k h whole.sound.table j f.0 f.1))))
-
-    slots : SlotsAfter k k' (killed_by c (view_now k h) q)
-    unfolding turns_of
-    slots = record {
-      held = λ r among some. ap (λ n. get n r) keeps-slots;
-      given_up = λ r absent. no-slot r (subst (λ pids. ¬ Contains pids r) keeps.pids absent);
-      newborn = none-born (turns_of k None) (turns_of k' (halts_with p (killed_by c (view_now k h) q).answer)) (killed_by c (view_now k h) q).child keeps.child;
-    }
+    keeps-slots = place-slots place ∙ slots-same k.table mid.table (λ j. ap (option_map process_pid) (place1 j) ∙ same-pid (marker q) (marker-pid q) (place_at k.table j))
 
     not-blocked : IsBlocked (killed_by c (view_now k h) q).answer → ⊥
     not-blocked (n, is) = let e : Called c.number (pos 0) ≡ Blocked n = sym killed-answer ∙ is in cc
@@ -467,7 +437,7 @@ module _ {k : Kernel} {h : Hart} (q slot : ℕ) (whole : IsWhole k h) (runs : Is
       last = place.last;
       itself = itself;
       others = others;
-      slots = slots;
+      slots = slots-kept k h k' (killed_by c (view_now k h) q) whole.sound.table keeps-slots keeps;
       after = subst (After s p l (killed_by c (view_now k h) q)) (sym state-after) law;
       alive = keeps.stays;
       blocked = λ is. absurd (not-blocked is);

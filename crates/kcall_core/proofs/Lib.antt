@@ -110,6 +110,8 @@ pub mod PipeEdges
 pub mod AllClosed
 pub mod Turned
 pub mod OnePlace
+pub mod StepSlots
+pub mod WhoRuns
 pub mod Sleepers
 pub mod OneStep
 pub mod AloneMakes

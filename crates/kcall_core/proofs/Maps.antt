@@ -7,7 +7,7 @@ use Rattle.std.specs.Cmp.{IsTotalOrder, nat_cmp_total, unsigned_tied, nat_cmp_is
 use Rattle.std.specs.Prelude.{nat_eq}
 use Rattle.std.specs.declared.cmp.Ordering.TheVariants.{Less, Equal, Greater}
 use Rattle.std.proofs.Common.{inl, inr}
-use Rattle.std.proofs.lemmas.Bool.{eq-eqb}
+use Rattle.std.proofs.lemmas.Bool.{cases_eq, eq-eqb}
 use Rattle.std.proofs.lemmas.Bool.Decides.{eqb_tells}
 use Rattle.std.specs.FinMap.{FinMap, get, insert, remove, from_sorted, keys, entries, entries_sorted, get-entries, entries-insert, get-insert, get-remove, get-from_sorted, entries-from_sorted, same_map, nat_cmp-IsAntisymmetric}
 use Rattle.std.specs.FinMap.Entries.{find, put, is_sorted, below_all, by_order, where_key, is_sorted-where_key, find-where_key}
@@ -131,3 +131,10 @@ module _ {X : Type 0} (m : FinMap nat_cmp X) (k : ℕ) where
 
 pub get_without : {X : Type 0} (m : FinMap nat_cmp X) (k q : ℕ) → get (remove m k) q ≡ cond (nat_eq q k) None (get m q)
 get_without m k q = get-remove nat_cmp_total m k q ∙ ap (λ b. cond b None (get m q)) (unsigned_tied q k)
+
+-- what is put in twice stands as it was put in last
+pub insert-twice : {X : Type 0} (m : FinMap nat_cmp X) (k : ℕ) (x y : X) → insert (insert m k x) k y ≡ insert m k y
+insert-twice m k x y = same_map nat_cmp_total nat_cmp-IsAntisymmetric (insert (insert m k x) k y) (insert m k y) (λ q. elim (cases_eq q k) [
+  | inl e ↦ ap (get (insert (insert m k x) k y)) e ∙ get_same (insert m k x) k y ∙ sym (ap (get (insert m k y)) e ∙ get_same m k y)
+  | inr apart ↦ get_other (insert m k x) k y q apart ∙ get_other m k x q apart ∙ sym (get_other m k y q apart)
+])

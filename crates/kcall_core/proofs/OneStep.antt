@@ -44,17 +44,6 @@ use Rattle.kcall_core.proofs.OnePlace.{ItsPlace, place-slots, place-counted}
 waits-same : (s : State) (p : ℕ) (m : Live) (console : Console) (free : ℕ) (q : ℕ) (l : Live) → waits_for (alone_state p m console free s) q l ≡ waits_for s q l
 waits-same s p m console free q l = refl
 
--- its place
-pub place-is : (k : Kernel) (h : Hart) → IsSound k h → IsRunning k → place_at k.table (slot_now k) ≡ Some (place_now k)
-place-is k h sound runs = let r = running k h sound runs in r.is.is ∙ ap Some (ap or_nobody (sym r.is.is))
-
-pub place-lives : (k : Kernel) (h : Hart) → IsSound k h → IsRunning k → status_of (place_now k) ≡ None
-place-lives k h sound runs = let r = running k h sound runs in ap status_of (sym (ap or_nobody (sym r.is.is))) ∙ r.is.live
-
--- what it is, by the state
-pub now-is : (k : Kernel) (h : Hart) (l : Live) → IsSound k h → IsRunning k → IsLive (state_of k h) (pid_now k) l → live_now k h ≡ l
-now-is k h l sound runs is = let e : Some (Alive (live_now k h)) ≡ Some (Alive l) = sym (live-is k h sound runs) ∙ is in cc
-
 -- ---- a step
 
 -- what the records above have in common
@@ -162,19 +151,5 @@ module _ (k : Kernel) (h : Hart) (k' : Kernel) (h' : Hart) (after : Process) (wh
 
   -- ---- the slots
 
-  keeps-slots : slots_of k'.table ≡ slots_of k.table
+  pub keeps-slots : slots_of k'.table ≡ slots_of k.table
   keeps-slots = place-slots x.place
-
-  -- who isn't there has no slot
-  pub no-slot : (q : ℕ) → ¬ Contains (keys s.processes) q → get (slots_of k'.table) q ≡ None
-  no-slot q absent = ap (λ m. get m q) keeps-slots ∙ by (get (slots_of k.table) q) refl
-    where
-      by : (o : Option ℕ) → get (slots_of k.table) q ≡ o → o ≡ None
-      by None e = refl
-      by (Some slot) e = let f = slot-from k.table whole.sound.table slot q e in
-          absurd (absent (is_listed s.processes q (ap is_some (ap (get s.processes) (sym f.2) ∙ entry-held k h whole.sound.table slot f.0 f.1))))
-
--- where no process is made, none is newborn
-pub none-born : (before after : Turns) (c : Option View) → c ≡ None → MatchOption c (Unit {0}) (λ c. ((slot : ℕ) × HasSlot after c.pid slot × IsLowestFree before slot) × ¬ Sleeps after c.pid)
-none-born before after None e = tt
-none-born before after (Some v) e = absurd (none-some v (sym e))

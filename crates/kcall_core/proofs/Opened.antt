@@ -45,7 +45,7 @@ use Rattle.kcall_core.proofs.WellOpens.{well_opened}
 use Rattle.kcall_core.proofs.Putting.{put-sound, put-state}
 use Rattle.kcall_core.proofs.Sharing.{put-here, put-other, one-more}
 use Rattle.kcall_core.proofs.Midway.{Midway, midway-done}
-use Rattle.kcall_core.proofs.AloneMakes.{KeepsAll}
+use Rattle.kcall_core.proofs.StepSlots.{KeepsAll}
 use Rattle.kcall_core.proofs.CallAnswers.{IsDone}
 use Rattle.kcall_core.proofs.Least.{least_passes}
 use Rattle.kcall_core.proofs.Lowest.{least-position}

@@ -48,7 +48,7 @@ use Rattle.kcall_core.proofs.Decoding.{is_write}
 use Rattle.kcall_core.proofs.PipeCalls as pipes
 use Rattle.kcall_core.proofs.OnFiles.{pipe_write}
 use Rattle.kcall_core.proofs.PipeRest.{readable-rest, readable-low}
-use Rattle.kcall_core.proofs.AloneMakes.{KeepsAll}
+use Rattle.kcall_core.proofs.StepSlots.{KeepsAll}
 use Rattle.kcall_core.proofs.CallAnswers.{IsDone}
 use Rattle.kcall_core.proofs.Prepared.{over}
 use Rattle.kcall_core.proofs.Midway.{WakeOn, Midway, IsAsleep, midway-done, midway-sleeps}

@@ -49,7 +49,8 @@ use Rattle.kcall_core.proofs.Observed.{entry-held}
 use Rattle.kcall_core.proofs.KeepsSlots.{is_listed, not_listed}
 use Rattle.kcall_core.proofs.Turned.{slot-from, sleeper-lives, live-is, same-some, not-both}
 use Rattle.kcall_core.proofs.OnePlace.{ItsPlace, changed-place, place-counted, place-slots, in-call-lives, in-call-channel}
-use Rattle.kcall_core.proofs.OneStep.{place-is, place-lives, none-born}
+use Rattle.kcall_core.proofs.WhoRuns.{place-is, place-lives}
+use Rattle.kcall_core.proofs.StepSlots.{SlotsAfter, none-born, has-entry}
 use Rattle.kcall_core.proofs.Wait as step
 use Rattle.kcall_core.proofs.Family as family
 use Rattle.kcall_core.proofs.Openings.{opens_reaped}
@@ -57,7 +58,7 @@ use Rattle.kcall_core.proofs.ChildWaits.{waits-for-child}
 use Rattle.kcall_core.proofs.WaitsOn.{waits_stay}
 use Rattle.kcall_core.proofs.WellLaws as well
 use Rattle.kcall_core.proofs.CallAnswers.{IsDone}
-use Rattle.kcall_core.proofs.Making.{Itself, Others, SlotsAfter, made}
+use Rattle.kcall_core.proofs.Making.{Itself, Others, made}
 use Rattle.kcall_core.proofs.Zombies.{zombie-is, least-is}
 
 -- ---- the ended child is gone
@@ -314,10 +315,8 @@ module _ {k : Kernel} {h : Hart} (q : ℕ) (status : ℤ) (whole : IsWhole k h) 
             by : (a : Option ℕ) → get (slots_of k.table) r ≡ a → nat_eq r q ≡ false → a ≡ None
             by None e ne = refl
             by (Some j) e ne =
-                let f = slot-from k.table whole.sound.table j r e in
-                let had : is_some (get s.processes r) ≡ true = ap is_some (ap (get s.processes) (sym f.2) ∙ entry-held k h whole.sound.table j f.0 f.1) in
                 absurd (absent (is_listed t.processes r (ap is_some (get_without (insert s.processes p (Alive next)) q r ∙ ap (λ (b : Bool). cond b None (get (insert s.processes p (Alive next)) r)) ne ∙ get_at s.processes p (Alive next) r)
-                ∙ some-other (nat_eq r p) (get s.processes r) had)))
+                ∙ some-other (nat_eq r p) (get s.processes r) (has-entry k h whole.sound.table r j e))))
 
         slots : SlotsAfter k k' (wait c (view_now k h))
         unfolding turns_of

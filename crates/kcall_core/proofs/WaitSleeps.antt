@@ -23,7 +23,7 @@ use Rattle.kcall_core.proofs.Maps.{get_same}
 use Rattle.kcall_core.proofs.Turned.{live-is}
 use Rattle.kcall_core.proofs.Alone as law
 use Rattle.kcall_core.proofs.Decoding.{is_wait}
-use Rattle.kcall_core.proofs.AloneMakes.{KeepsAll}
+use Rattle.kcall_core.proofs.StepSlots.{KeepsAll}
 use Rattle.kcall_core.proofs.Midway.{IsAsleep, midway-sleeps}
 use Rattle.kcall_core.proofs.Moved.{still, sleeps-unready}
 
