@@ -182,14 +182,16 @@ module _ {k : Kernel} {h : Hart} {k' : Kernel} {h' : Hart} {child : ℕ} (whole 
   pub fork-makes : Makes k h (fork c v) k' h'
   unfolding turns_of
   fork-makes = made whole runs (record {
-    sound = x.sound;
-    well = subst (WellFormed (frame_count k)) (sym x.state) (well.forked (frame_count k) s p l whole.well was (fits (price l.image + 1) s.free x.room));
-    files = x.files;
-    counted = x.counted;
-    frames = x.frames;
+    leaves = record {
+      sound = x.sound;
+      well = subst (WellFormed (frame_count k)) (sym x.state) (well.forked (frame_count k) s p l whole.well was (fits (price l.image + 1) s.free x.room));
+      files = x.files;
+      counted = x.counted;
+      frames = x.frames;
+      itself = itself;
+      others = others;
+    };
     last = x.last;
-    itself = itself;
-    others = others;
     slots = slots;
     after = subst (After s p l (fork c v)) (sym x.state) laws;
     alive = ap (λ (o : Own). gone_with o.answer) row;

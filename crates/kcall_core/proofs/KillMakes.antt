@@ -429,14 +429,16 @@ module _ {k : Kernel} {h : Hart} (q slot : ℕ) (whole : IsWhole k h) (runs : Is
 
     pub kill-makes : Makes k h (killed_by c (view_now k h) q) k' h'
     kill-makes = made whole runs (record {
-      sound = done.sound;
-      well = subst (WellFormed (frame_count k)) (sym state-after) well-after;
-      files = subst files.IsTable (sym (ap (λ (y : Kernel). y.files) done.kernel)) whole.files;
-      counted = subst (λ f. AreCounted f k'.table) (sym (ap (λ (y : Kernel). y.files) done.kernel)) (place-counted place counted1);
-      frames = ap (λ (y : Kernel). length y.memories.ram) done.kernel;
+      leaves = record {
+        sound = done.sound;
+        well = subst (WellFormed (frame_count k)) (sym state-after) well-after;
+        files = subst files.IsTable (sym (ap (λ (y : Kernel). y.files) done.kernel)) whole.files;
+        counted = subst (λ f. AreCounted f k'.table) (sym (ap (λ (y : Kernel). y.files) done.kernel)) (place-counted place counted1);
+        frames = ap (λ (y : Kernel). length y.memories.ram) done.kernel;
+        itself = itself;
+        others = others;
+      };
       last = place.last;
-      itself = itself;
-      others = others;
       slots = slots-kept k h k' (killed_by c (view_now k h) q) whole.sound.table keeps-slots keeps;
       after = subst (After s p l (killed_by c (view_now k h) q)) (sym state-after) law;
       alive = keeps.stays;

@@ -113,9 +113,8 @@ pub mod OnePlace
 pub mod StepSlots
 pub mod WhoRuns
 pub mod Sleepers
-pub mod OneStep
+pub mod Making
 pub mod AloneMakes
-pub mod AloneWaits
 pub mod Departs
 pub mod ChildWaits
 pub mod GoneOpens
@@ -136,7 +135,6 @@ pub mod Promises
 pub mod Exits
 pub mod Blocked
 pub mod SleepRow
-pub mod Making
 pub mod Filing
 pub mod PipeOpens
 pub mod CloseMakes

@@ -331,14 +331,16 @@ module _ {k : Kernel} {h : Hart} (q : ℕ) (status : ℤ) (whole : IsWhole k h) 
 
         pub wait-makes : Makes k h (wait c (view_now k h)) k' h'
         wait-makes = made whole runs (record {
-          sound = done.sound;
-          well = subst (WellFormed (frame_count k)) (sym state-after) well-after;
-          files = subst files.IsTable (sym same-files) whole.files;
-          counted = subst (λ f. AreCounted f k'.table) (sym same-files) (place-counted place counted1);
-          frames = ap (λ (y : Kernel). length y.memories.ram) done.kernel ∙ has.frames;
+          leaves = record {
+            sound = done.sound;
+            well = subst (WellFormed (frame_count k)) (sym state-after) well-after;
+            files = subst files.IsTable (sym same-files) whole.files;
+            counted = subst (λ f. AreCounted f k'.table) (sym same-files) (place-counted place counted1);
+            frames = ap (λ (y : Kernel). length y.memories.ram) done.kernel ∙ has.frames;
+            itself = itself;
+            others = others;
+          };
           last = place.last;
-          itself = itself;
-          others = others;
           slots = slots;
           after = subst (After s p l (wait c (view_now k h))) (sym state-after) its-law;
           alive = keeps.1;
