@@ -96,7 +96,3 @@ module _ (s : State) (q : ℕ) (m : Live) where
   pub in-wait : (t : State) (n : Live) → n.call ≡ m.call → IsInCall 3 (view_of t q n) → InWait
   unfolding view_of
   in-wait t n same (c, is, number) = (c, sym same ∙ is, number)
-
-  -- who isn't ready waits for what is shut
-  pub shut : ready (view_of s q m) ≡ false → is_open s (waits_for s q m) ≡ false
-  shut e = (or_parts m.killed (is_open s (waits_for s q m)) (sym (ready_is s q m) ∙ e)).1

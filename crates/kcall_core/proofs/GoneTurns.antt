@@ -33,6 +33,7 @@ use Rattle.kcall_core.proofs.Observed.{entry-held, live-held}
 use Rattle.kcall_core.proofs.KeepsSlots.{is_listed}
 use Rattle.kcall_core.proofs.Turned.{sleeps-is, sleeps-from, awake-is, slots-same, sleeper-lives, not-both}
 use Rattle.kcall_core.proofs.StepSlots.{no-slot}
+use Rattle.kcall_core.proofs.Sleepers.{elsewhere, on-it-still}
 use Rattle.kcall_core.proofs.Departs.{seat, unless_woken, seat_woken, Departs}
 
 -- ---- a process of the table
@@ -44,20 +45,6 @@ zombie-awake x status e = by x.state e
     by : (s : table.State) → state_status s ≡ Some status → state_channel s ≡ None
     by (Live_state marked call channel) f = absurd (none-some status f)
     by (Zombie_state other) f = refl
-
--- the turn part's sleepers are the table's
-pub asleep : (k : Kernel) (halted : Option ℤ) (q : ℕ) → Sleeps (turns_of k halted) q → contains (sleepers_below k.table NPROC) q ≡ true
-unfolding turns_of
-asleep k halted q e = e
-
-pub sleeps : (k : Kernel) (halted : Option ℤ) (q : ℕ) → contains (sleepers_below k.table NPROC) q ≡ true → Sleeps (turns_of k halted) q
-unfolding turns_of
-sleeps k halted q e = e
-
--- whether process 1 is gone says nothing of who sleeps
-pub same-sleepers : (k : Kernel) (a b : Option ℤ) (q : ℕ) → Sleeps (turns_of k a) q → Sleeps (turns_of k b) q
-unfolding turns_of
-same-sleepers k a b q e = e
 
 -- the pid in a place is in what the turns see of it
 pid-seen : (o : Option Process) → option_map process_pid o ≡ option_map (λ (e : ℕ × Option Channel). e.0) (option_map seat o)
@@ -108,59 +95,11 @@ module _ (k k' : Kernel) (h h' : Hart) (status : ℤ) (left : FinMap nat_cmp Ope
 
   -- ---- sleepers
 
-  -- who sleeps before the step isn't the process that runs
-  pub record Sleeper (q : ℕ) : Type 0 where
-    pub slot : ℕ
-    pub process : Process
-    pub channel : Channel
-    pub at : place_at k.table slot ≡ Some process
-    pub pid : process.pid ≡ q
-    pub on : channel_of process ≡ Some channel
-    pub elsewhere : slot ≢ slot_now k
-    pub other : q ≢ pid_now k
-
-  awake-here : (x : Process) (c : Channel) → place_at k.table (slot_now k) ≡ Some x → channel_of x ≡ Some c → ⊥
-  awake-here x c at on = none-some c (sym (whole.awake (slot_now k) x now.current at) ∙ on)
-
-  pub sleeper-in : (j : ℕ) (x : Process) (c : Channel) → place_at k.table j ≡ Some x → channel_of x ≡ Some c → Sleeper x.pid
-  sleeper-in j x c at on =
-      let elsewhere : j ≢ slot_now k = λ e. awake-here x c (sym (ap (place_at k.table) e) ∙ at) on in
-      record {
-        slot = j;
-        process = x;
-        channel = c;
-        at = at;
-        pid = refl;
-        on = on;
-        elsewhere = elsewhere;
-        other = λ e. elsewhere (whole.sound.table.pids.apart j (slot_now k) x now.is.process at now.is.is (e ∙ sym own-pid));
-      }
-
-  pub sleeper : (q : ℕ) → Sleeps (turns_of k None) q → Sleeper q
-  sleeper q e =
-      let (j, x, c, at, pid, on) = sleeps-from k.table whole.sound.table q (asleep k None q e) in
-      subst Sleeper pid (sleeper-in j x c at on)
-
-  -- it is live
-  pub sleeper-live : (q : ℕ) (z : Sleeper q) → live (state_of k h) q ≡ Some (live_of z.process (descriptors_at k.table z.slot) (held_at (each_of k.memories) z.slot) (regs_at k h z.slot))
-  sleeper-live q z = ap (live (state_of k h)) (sym z.pid) ∙ live-held k h whole.sound.table z.slot z.process z.at (sleeper-lives z.process z.channel z.on)
-
-  -- it wakes where its channel is one of those
-  pub woken-wakes : (halted : Option ℤ) (q : ℕ) (z : Sleeper q) → ¬ Sleeps (turns_of k' halted) q → wakes z.channel ≡ true
-  woken-wakes halted q z up = by (wakes z.channel) refl
-    where
-      by : (b : Bool) → wakes z.channel ≡ b → b ≡ true
-      by true e = refl
-      by false e =
-          let (y, at, (pid, on)) = place-after z.slot z.elsewhere z.process z.at in
-          let still : channel_of y ≡ Some z.channel = on ∙ ap (unless_woken wakes) z.on ∙ ap (λ (b : Bool). cond b None (Some z.channel)) e in
-          absurd (up (sleeps k' halted q (subst (λ (n : ℕ). contains (sleepers_below k'.table NPROC) n ≡ true) (pid ∙ z.pid) (sleeps-is k'.table d.sound.table z.slot y z.channel at still))))
-
-  pub wakes-woken : (halted : Option ℤ) (q : ℕ) (z : Sleeper q) → wakes z.channel ≡ true → ¬ Sleeps (turns_of k' halted) q
-  wakes-woken halted q z e does =
-      let (y, at, (pid, on)) = place-after z.slot z.elsewhere z.process z.at in
-      let up : channel_of y ≡ None = on ∙ ap (unless_woken wakes) z.on ∙ ap (λ (b : Bool). cond b None (Some z.channel)) e in
-      not-both (asleep k' halted q does) (ap (contains (sleepers_below k'.table NPROC)) (sym (pid ∙ z.pid)) ∙ awake-is k'.table d.sound.table z.slot y at up)
+  -- who slept in a slot sleeps on there, but where it wakes
+  pub stays : (j : ℕ) (x : Process) (c : Channel) → place_at k.table j ≡ Some x → channel_of x ≡ Some c → (y : Process) × (place_at k'.table j ≡ Some y) × (y.pid ≡ x.pid) × (channel_of y ≡ cond (wakes c) None (Some c))
+  stays j x c at on =
+      let (y, is, (pid, became)) = place-after j (elsewhere whole runs j x c at on) x at in
+      (y, is, pid, became ∙ ap (unless_woken wakes) on)
 
   -- who sleeps in a slot after the step slept there before, on the same channel
   pub slept : (j : ℕ) (y : Process) (c : Channel) → place_at k'.table j ≡ Some y → channel_of y ≡ Some c → (x : Process) × (place_at k.table j ≡ Some x) × (y.pid ≡ x.pid) × (channel_of x ≡ Some c)
@@ -172,22 +111,8 @@ module _ (k k' : Kernel) (h h' : Hart) (status : ℤ) (left : FinMap nat_cmp Ope
         absurd (none-some c (sym (ap channel_of same ∙ zombie-awake z status over) ∙ on))
     | inr other ↦
         let (x, was, (pid, became)) = place-before j other y at in
-        (x, was, pid, still (channel_of x) (sym became ∙ on))
+        (x, was, pid, on-it-still wakes (channel_of x) c (sym became ∙ on))
   ]
-    where
-      kept : (b : Bool) (a : Channel) → cond b None (Some a) ≡ Some c → Some a ≡ Some c
-      kept true a e = absurd (none-some c e)
-      kept false a e = e
-
-      still : (o : Option Channel) → unless_woken wakes o ≡ Some c → o ≡ Some c
-      still None e = absurd (none-some c e)
-      still (Some a) e = kept (wakes a) a e
-
-  pub slept-before : (halted : Option ℤ) (q : ℕ) → Sleeps (turns_of k' halted) q → Sleeps (turns_of k None) q
-  slept-before halted q e =
-      let (j, y, c, at, pid, on) = sleeps-from k'.table d.sound.table q (asleep k' halted q e) in
-      let (x, was, same, before) = slept j y c at on in
-      sleeps k None q (subst (λ (n : ℕ). contains (sleepers_below k.table NPROC) n ≡ true) (sym same ∙ pid) (sleeps-is k.table whole.sound.table j x c was before))
 
   -- ---- the turn part
 
@@ -201,9 +126,9 @@ module _ (k k' : Kernel) (h h' : Hart) (status : ℤ) (left : FinMap nat_cmp Ope
   not-blocked : (answer : Answer) → gone_with answer ≡ Some status → IsBlocked answer → ⊥
   not-blocked answer e (number, is) = none-some status (sym (ap gone_with is) ∙ e)
 
-  pub gone-turns : (answer : Answer) → gone_with answer ≡ Some status → TurnsAfter (turns_of k None) (pid_now k) (gone answer (view_now k h)) (turns_of k' (halts_with (pid_now k) answer))
+  pub gone-turns : (answer : Answer) → gone_with answer ≡ Some status → ((q : ℕ) → contains (sleepers_below k'.table NPROC) q ≡ true → contains (sleepers_below k.table NPROC) q ≡ true) → TurnsAfter (turns_of k None) (pid_now k) (gone answer (view_now k h)) (turns_of k' (halts_with (pid_now k) answer))
   unfolding turns_of view_of
-  gone-turns answer ends = record {
+  gone-turns answer ends slept-on = record {
     last = d.last;
     current = ap (option_map (λ _. pid_now k')) d.stopped ∙ sym (stays-no-more answer ends);
     halted = refl;
@@ -211,5 +136,5 @@ module _ (k k' : Kernel) (h h' : Hart) (status : ℤ) (left : FinMap nat_cmp Ope
     given_up = λ q unlisted. ap (λ m. get m q) same-slots ∙ no-slot k h whole.sound.table q unlisted;
     newborn = tt;
     blocked = λ e. absurd (not-blocked answer ends e);
-    awake = λ q e. inl (slept-before (halts_with (pid_now k) answer) q e);
+    awake = λ q e. inl (slept-on q e);
   }

@@ -20,11 +20,11 @@ use Rattle.kcall_core.specs.Closings.{unless_woken}
 use Rattle.kcall_core.specs.Conditions.{is_open, waits_for}
 use Rattle.kcall_core.specs.Holdings.{held_at}
 use Rattle.kcall_core.specs.Memories.{each_of}
-use Rattle.kcall_core.specs.Kernel.{state_of, IsSound, live_of, regs_at}
+use Rattle.kcall_core.specs.Kernel.{state_of, IsSound, IsRunning, or_nobody, slot_now, pid_now, live_of, regs_at}
 use Rattle.kcall_core.specs.Machine.{sleepers_below, turns_of, world_of}
 use Rattle.kcall_core.specs.Whole.{IsWhole, SleepOnTheirChannels, is_for}
 use Rattle.kcall_core.specs.declared.kernel.Kernel.{Kernel}
-use Rattle.kcall_core.proofs.States.{none-some}
+use Rattle.kcall_core.proofs.States.{none-some, running}
 use Rattle.kcall_core.proofs.Observed.{live-held}
 use Rattle.kcall_core.proofs.Turned.{sleeps-is, sleeps-from, awake-is, sleeper-lives, not-both, same-some}
 use Rattle.kcall_core.proofs.Wakes.{ready_is, view_is}
@@ -51,6 +51,15 @@ pub record Sleeping (k : Kernel) (h : Hart) (k' : Kernel) (h' : Hart) (o : Outco
 
 -- ---- a place whose process is changed, so that it may wake but not fall asleep
 
+-- who sleeps on slept
+pub on-it-still : (wakes : Channel → Bool) (o : Option Channel) (c : Channel) → unless_woken wakes o ≡ Some c → o ≡ Some c
+on-it-still wakes None c e = absurd (none-some c e)
+on-it-still wakes (Some d) c e = by (wakes d) e
+  where
+    by : (b : Bool) → cond b None (Some d) ≡ Some c → Some d ≡ Some c
+    by true e = absurd (none-some c e)
+    by false e = e
+
 module _ (wakes : ℕ → Channel → Bool) (f : Process → Process) (pids : (y : Process) → (f y).pid ≡ y.pid) (channels : (y : Process) → channel_of (f y) ≡ unless_woken (wakes y.pid) (channel_of y)) {a b : Option Process} (changed : b ≡ option_map f a) where
   pub changed-stays : (y : Process) (c : Channel) → a ≡ Some y → channel_of y ≡ Some c → (z : Process) × (b ≡ Some z) × (z.pid ≡ y.pid) × (channel_of z ≡ cond (wakes y.pid c) None (Some c))
   changed-stays y c at on-it = (f y, changed ∙ ap (option_map f) at, pids y, channels y ∙ ap (unless_woken (wakes y.pid)) on-it)
@@ -58,19 +67,11 @@ module _ (wakes : ℕ → Channel → Bool) (f : Process → Process) (pids : (y
   pub changed-slept : (z : Process) (c : Channel) → b ≡ Some z → channel_of z ≡ Some c → (y : Process) × (a ≡ Some y) × (z.pid ≡ y.pid) × (channel_of y ≡ Some c)
   changed-slept z c at on-it = by a refl (sym changed ∙ at)
     where
-      kept : (w : Channel → Bool) (u : Option Channel) → unless_woken w u ≡ Some c → u ≡ Some c
-      kept w None e = absurd (none-some c e)
-      kept w (Some d) e = inner (w d) e
-        where
-          inner : (x : Bool) → cond x None (Some d) ≡ Some c → Some d ≡ Some c
-          inner true e = absurd (none-some c e)
-          inner false e = e
-
       by : (o : Option Process) → a ≡ o → option_map f o ≡ Some z → (y : Process) × (a ≡ Some y) × (z.pid ≡ y.pid) × (channel_of y ≡ Some c)
       by None was e = absurd (none-some z e)
       by (Some y) was e =
           let same : f y ≡ z = same-some (f y) z e in
-          (y, was, ap (λ (r : Process). r.pid) (sym same) ∙ pids y, kept (wakes y.pid) (channel_of y) (sym (channels y) ∙ ap channel_of same ∙ on-it))
+          (y, was, ap (λ (r : Process). r.pid) (sym same) ∙ pids y, on-it-still (wakes y.pid) (channel_of y) c (sym (channels y) ∙ ap channel_of same ∙ on-it))
 
 -- ---- one kernel
 
@@ -83,6 +84,16 @@ sleeper k is_table q e = let (j, y, c, at, named, on-it) = sleeps-from k.table i
 -- it is live
 its-live : (k : Kernel) (h : Hart) → IsTable k.table → (q : ℕ) (z : Sleeper k q) → live (state_of k h) q ≡ Some (live_of z.process (descriptors_at k.table z.slot) (held_at (each_of k.memories) z.slot) (regs_at k h z.slot))
 its-live k h is_table q z = ap (live (state_of k h)) (sym z.named) ∙ live-held k h is_table z.slot z.process z.at (sleeper-lives z.process z.channel z.on-it)
+
+-- it isn't the process that runs
+module _ {k : Kernel} {h : Hart} (whole : IsWhole k h) (runs : IsRunning k) where
+  pub elsewhere : (j : ℕ) (y : Process) (c : Channel) → place_at k.table j ≡ Some y → channel_of y ≡ Some c → j ≢ slot_now k
+  elsewhere j y c at on-it e = none-some c (sym (whole.awake (slot_now k) y (running k h whole.sound runs).current (sym (ap (place_at k.table) e) ∙ at)) ∙ on-it)
+
+  pub another : (q : ℕ) → Sleeper k q → q ≢ pid_now k
+  another q z e =
+      let now = running k h whole.sound runs in
+      elsewhere z.slot z.process z.channel z.at z.on-it (whole.sound.table.pids.apart z.slot (slot_now k) z.process now.is.process z.at now.is.is (z.named ∙ e ∙ ap (λ (o : Option Process). (or_nobody o).pid) now.is.is))
 
 -- where those wake that have to, and whoever falls asleep isn't ready, no sleeper is ready
 pub none-ready : (w t : World) (o : Outcome) → WakesWhereDue w o t → ((q : ℕ) → Sleeps t.turns q → Sleeps w.turns q ⊎ ((v : View) → view t.state q ≡ Some v → ready v ≡ false)) → NoReadySleeper t
