@@ -14,7 +14,7 @@ use Rattle.kcall_core.specs.Calls.{Row, Wait, Read, Sleep, Write, table, row_of}
 use Rattle.kcall_core.specs.Ready.{ready}
 use Rattle.kcall_core.specs.Wakes.{IsInCall}
 use Rattle.kcall_core.specs.Conditions.{Child_of, is_open, read_waits_for, write_waits_for, target_at, sleep_waits_for, row_waits_for, call_waits_for, waits_for}
-use Rattle.kcall_core.proofs.Wakes.{ready_is}
+use Rattle.kcall_core.proofs.RowNumbers.{row-number}
 
 -- ---- its number is 3
 
@@ -22,27 +22,8 @@ abbrev is_wait : Row → Bool
 is_wait Wait = true
 is_wait _ = false
 
-abbrev is_three : ℕ × Row → Bool
-is_three e = not (is_wait e.1) || nat_eq e.0 3
-
-found-three : (es : List (ℕ × Row)) (n : ℕ) → list_all is_three es ≡ true → option_map (λ (e : ℕ × Row). e.1) (find (λ e. nat_eq e.0 n) es) ≡ Some Wait → n ≡ 3
-found-three [] n all e = let no : ⊥ = cc in absurd no
-found-three (x ∷ es) n all e = by (λ rest. found-three es n (and_parts (is_three x) (list_all is_three es) all).1 rest) (nat_eq x.0 n) refl
-  where
-    three : (r : Row) → r ≡ Wait → (not (is_wait r) || nat_eq x.0 3) ≡ true → nat_eq x.0 3 ≡ true
-    three r is t = sym (ap (λ (q : Row). not (is_wait q) || nat_eq x.0 3) is) ∙ t
-
-    by : (option_map (λ (e : ℕ × Row). e.1) (find (λ e. nat_eq e.0 n) es) ≡ Some Wait → n ≡ 3) → (b : Bool) → nat_eq x.0 n ≡ b → n ≡ 3
-    by later true same =
-        let found : Some x.1 ≡ Some Wait = sym (ap (λ (b : Bool). option_map (λ (e : ℕ × Row). e.1) (cond b (Some x) (find (λ e. nat_eq e.0 n) es))) same) ∙ e in
-        let row : x.1 ≡ Wait = cc in
-        sym (eqb-true x.0 n same) ∙ eqb-true x.0 3 (three x.1 row (and_parts (is_three x) (list_all is_three es) all).0)
-    by later false same = later (sym (ap (λ (b : Bool). option_map (λ (e : ℕ × Row). e.1) (cond b (Some x) (find (λ e. nat_eq e.0 n) es))) same) ∙ e)
-
 wait-number : (z : ℤ) → row_of z ≡ Some Wait → z ≡ pos 3
-unfolding row_of
-wait-number (pos n) e = ap pos (found-three table n refl e)
-wait-number (negsuc k) e = let no : ⊥ = cc in absurd no
+wait-number = row-number is_wait Wait 3 refl refl
 
 wait-row : (z : ℤ) → z ≡ pos 3 → row_of z ≡ Some Wait
 unfolding row_of

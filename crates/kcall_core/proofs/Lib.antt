@@ -116,6 +116,7 @@ pub mod Sleepers
 pub mod Making
 pub mod AloneMakes
 pub mod Departs
+pub mod RowNumbers
 pub mod ChildWaits
 pub mod GoneOpens
 pub mod GoneTurns
@@ -151,6 +152,7 @@ pub mod Putting
 pub mod Sharing
 pub mod DupMakes
 pub mod Lowest
+pub mod TickWaits
 pub mod TickMakes
 pub mod Deserted
 pub mod KillMakes
