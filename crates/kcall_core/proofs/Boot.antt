@@ -1,12 +1,21 @@
--- Runs join, and a step of a run from boot is isolated.
+-- Runs join, and so do promised ones, which are runs; and a step of a run from boot is isolated.
 use Rattle.std.proofs.Common.{[], ◌∷◌, subst}
 use Rattle.kcall_core.specs.Run.{World, IsRun, StepOf}
+use Rattle.kcall_core.specs.Wakes.{IsPromised, PromisedRunsJoin, PromisedIsRun}
 use Rattle.kcall_core.specs.Worlds.{RunsJoin, Isolated}
 use Rattle.kcall_core.proofs.Two.{own_step}
 
 pub runs_join : RunsJoin
 runs_join w m t [] fs one more = subst (λ (x : World). IsRun x fs t) one more
 runs_join w m t (e ∷ es) fs one more = (one.0, one.1, runs_join one.0 m t es fs one.2 more)
+
+pub promised_runs_join : PromisedRunsJoin
+promised_runs_join w m t [] fs one more = subst (λ (x : World). IsPromised x fs t) one more
+promised_runs_join w m t (e ∷ es) fs one more = (one.0, one.1, promised_runs_join one.0 m t es fs one.2 more)
+
+pub promised_is_run : PromisedIsRun
+promised_is_run w t [] es = es
+promised_is_run w t (e ∷ es) run = (run.0, run.1.0, promised_is_run run.0 t es run.2)
 
 pub isolated : Isolated
 isolated frames trace programs es w t p o boot is happens =

@@ -1,5 +1,5 @@
 -- No lost wake-up, and turns (the xv6 book, "Sleep and wakeup" and "Code: Scheduling"): what a machine promises of each event beside `Happens`.
-use Rattle.std.specs.Prelude.{◌≡◌, ◌≢◌, ℕ, ◌≤◌, ◌⊎◌, ◌↔◌, ℤ, pos, Bool, true, false, cond, List, [], ◌∷◌, Ok, None, Some, IsSome, ◌<◌, ◌-◌, ◌+◌}
+use Rattle.std.specs.Prelude.{◌≡◌, ◌≢◌, ℕ, ◌≤◌, ◌⊎◌, ◌↔◌, ℤ, pos, Bool, true, false, cond, List, [], ◌∷◌, ◌++◌, Ok, None, Some, IsSome, ◌<◌, ◌-◌, ◌+◌}
 use Rattle.xk_base.specs.declared.limits.TheConstants.{NPROC}
 use Rattle.proc_table.specs.declared.process.Call.{Call}
 use Rattle.proc_table.specs.Turns.{distance}
@@ -11,7 +11,7 @@ use Rattle.kcall_core.specs.Turns.{Sleeps, HasSlot}
 use Rattle.kcall_core.specs.State.{ProgramFile}
 use Rattle.kcall_core.specs.WellFormed.{HasSlots}
 use Rattle.kcall_core.specs.First.{first}
-use Rattle.kcall_core.specs.Run.{World, Event, Run, Outcome, Step_of, Turn, Idle, Ticked, Happens}
+use Rattle.kcall_core.specs.Run.{World, Event, Run, Outcome, Step_of, Turn, Idle, Ticked, Happens, IsRun}
 
 -- live, and not a sleeper
 abbrev pub IsRunnable : World → ℕ → Type 0
@@ -55,6 +55,13 @@ IsPromised w [] t = t ≡ w
 IsPromised w (e ∷ es) t = (mid : World) × Promised w e.0 e.1 mid × IsPromised mid es t
 
 -- ---- laws
+
+-- promised runs join, and are runs
+abbrev pub PromisedRunsJoin : Type 0
+PromisedRunsJoin = (w m t : World) (es fs : List (Event × Outcome)) → IsPromised w es m → IsPromised m fs t → IsPromised w (es ++ fs) t
+
+abbrev pub PromisedIsRun : Type 0
+PromisedIsRun = (w t : World) (es : List (Event × Outcome)) → IsPromised w es t → IsRun w es t
 
 -- a process whose step leaves it asleep could not go on
 abbrev pub BlocksUnready : Type 0

@@ -1,5 +1,13 @@
 use Rattle.kcall_core.proofs.laws.isolated.Goals as goal
-use Rattle.kcall_core.proofs.Boot as law
+use Rattle.kcall_core.proofs.Boot as in-boot
+use Rattle.kcall_core.proofs.Kept as in-kept
+use Rattle.kcall_core.proofs.Outside as in-outside
 
-pub returns : goal.returns
-returns c = law.isolated
+pub returns-clause-isolated : goal.returns-clause-isolated
+returns-clause-isolated c = in-boot.isolated
+
+pub returns-clause-others_keep : goal.returns-clause-others_keep
+returns-clause-others_keep c = in-kept.others_keep
+
+pub returns-clause-outside_steps : goal.returns-clause-outside_steps
+returns-clause-outside_steps c = in-outside.outside_steps

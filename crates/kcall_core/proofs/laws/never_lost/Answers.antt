@@ -1,5 +1,16 @@
 use Rattle.kcall_core.proofs.laws.never_lost.Goals as goal
-use Rattle.kcall_core.proofs.NoLost as law
+use Rattle.kcall_core.proofs.Again as in-again
+use Rattle.kcall_core.proofs.Asleep as in-asleep
+use Rattle.kcall_core.proofs.NoLost as in-no-lost
 
-pub returns : goal.returns
-returns c = law.never_lost
+pub returns-clause-never_lost : goal.returns-clause-never_lost
+returns-clause-never_lost c = in-no-lost.never_lost
+
+pub returns-clause-no_lost_wake_up : goal.returns-clause-no_lost_wake_up
+returns-clause-no_lost_wake_up c = in-no-lost.no_lost_wake_up
+
+pub returns-clause-blocks_unready : goal.returns-clause-blocks_unready
+returns-clause-blocks_unready c = in-asleep.blocks_unready
+
+pub returns-clause-unready_waits : goal.returns-clause-unready_waits
+returns-clause-unready_waits c = in-again.unready_waits

@@ -1,5 +1,9 @@
 use Rattle.kcall_core.proofs.laws.slots_stay.Goals as goal
-use Rattle.kcall_core.proofs.KeepsSlots as law
+use Rattle.kcall_core.proofs.FirstWell as in-first-well
+use Rattle.kcall_core.proofs.KeepsSlots as in-keeps-slots
 
-pub returns : goal.returns
-returns c = law.slots_stay
+pub returns-clause-slots_stay : goal.returns-clause-slots_stay
+returns-clause-slots_stay c = in-keeps-slots.slots_stay
+
+pub returns-clause-first_slots : goal.returns-clause-first_slots
+returns-clause-first_slots c = in-first-well.first_slots

@@ -1,5 +1,0 @@
-use Rattle.kcall_core.proofs.laws.close.Goals as goal
-use Rattle.kcall_core.proofs.Descriptors as law
-
-pub returns : goal.returns
-returns c = law.close_law

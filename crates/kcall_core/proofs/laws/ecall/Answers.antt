@@ -1,5 +1,0 @@
-use Rattle.kcall_core.proofs.laws.ecall.Goals as goal
-use Rattle.kcall_core.proofs.Alone as law
-
-pub returns : goal.returns
-returns c = law.ecall

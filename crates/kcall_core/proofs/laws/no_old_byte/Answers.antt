@@ -1,0 +1,12 @@
+use Rattle.kcall_core.proofs.laws.no_old_byte.Goals as goal
+use Rattle.kcall_core.proofs.CleanPages as in-clean-pages
+use Rattle.kcall_core.proofs.NewBytes as in-new-bytes
+
+pub returns-clause-no_old_page : goal.returns-clause-no_old_page
+returns-clause-no_old_page c = in-clean-pages.no_old_page
+
+pub returns-clause-no_old_pipe : goal.returns-clause-no_old_pipe
+returns-clause-no_old_pipe c = in-new-bytes.no_old_pipe
+
+pub returns-clause-no_old_child : goal.returns-clause-no_old_child
+returns-clause-no_old_child c = in-new-bytes.no_old_child

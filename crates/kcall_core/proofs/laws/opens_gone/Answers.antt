@@ -1,5 +1,0 @@
-use Rattle.kcall_core.proofs.laws.opens_gone.Goals as goal
-use Rattle.kcall_core.proofs.Openings as law
-
-pub returns : goal.returns
-returns c = law.opens_gone

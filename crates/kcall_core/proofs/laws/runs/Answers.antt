@@ -1,0 +1,15 @@
+use Rattle.kcall_core.proofs.laws.runs.Goals as goal
+use Rattle.kcall_core.proofs.Boot as in-boot
+use Rattle.kcall_core.proofs.Outside as in-outside
+
+pub returns-clause-runs_join : goal.returns-clause-runs_join
+returns-clause-runs_join c = in-boot.runs_join
+
+pub returns-clause-promised_runs_join : goal.returns-clause-promised_runs_join
+returns-clause-promised_runs_join c = in-boot.promised_runs_join
+
+pub returns-clause-promised_is_run : goal.returns-clause-promised_is_run
+returns-clause-promised_is_run c = in-boot.promised_is_run
+
+pub returns-clause-halted_stays : goal.returns-clause-halted_stays
+returns-clause-halted_stays c = in-outside.halted_stays

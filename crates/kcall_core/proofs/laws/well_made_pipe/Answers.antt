@@ -1,5 +1,0 @@
-use Rattle.kcall_core.proofs.laws.well_made_pipe.Goals as goal
-use Rattle.kcall_core.proofs.WellCloses as law
-
-pub returns : goal.returns
-returns c = law.well_made_pipe

@@ -1,5 +1,0 @@
-use Rattle.kcall_core.proofs.laws.well_piped.Goals as goal
-use Rattle.kcall_core.proofs.WellSteps as law
-
-pub returns : goal.returns
-returns c = law.well_piped
