@@ -5,10 +5,11 @@ use Rattle.std.proofs.lemmas.Bool.Decides.{eqb_tells}
 use Rattle.std.specs.FinMap.{get}
 use Rattle.xk_base.specs.Image.{Image, price}
 use Rattle.rv64i_core.specs.Registers.{Registers, put, with_pc, after}
-use Rattle.rv64i_core.specs.Step.{Step, Next, Fault, instr}
-use Rattle.hart_core.specs.UserMemory.{user, write_image as with_store}
+use Rattle.rv64i_core.specs.Step.{Step, Next, Fault}
+use Rattle.hart_core.specs.UserMemory.{write_image as with_store}
 use Rattle.console_core.specs.Lists.{Console}
 use Rattle.proc_table.specs.declared.process.Call.{Call}
+use Rattle.kcall_core.specs.Instruction.{next_instruction}
 use Rattle.kcall_core.specs.Words.{SP, A1, word}
 use Rattle.kcall_core.specs.Processes.{Alive, Live}
 use Rattle.kcall_core.specs.State.{State, live_part}
@@ -61,7 +62,7 @@ exec s p l c new was =
 
 -- ---- what a step begins with
 
-pub begins : (s : State) (p : ℕ) (l : Live) → IsBetweenCalls l → (st : Step) → instr l.regs (user l.image) ≡ st → own (view_of s p l) ≡ after_instruction (view_of s p l) st
+pub begins : (s : State) (p : ℕ) (l : Live) → IsBetweenCalls l → (st : Step) → next_instruction l.regs l.image ≡ st → own (view_of s p l) ≡ after_instruction (view_of s p l) st
 unfolding own view_of
 begins s p l runs st is = ap (unless_killed (view_of s p l)) runs.0 ∙ ap (going_on (view_of s p l)) runs.1 ∙ ap (after_instruction (view_of s p l)) is
 

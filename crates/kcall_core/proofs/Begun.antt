@@ -6,8 +6,8 @@ use Rattle.std.proofs.lemmas.Bool.Decides.{eqb_tells}
 use Rattle.xk_base.specs.declared.limits.TheConstants.{NOFILE}
 use Rattle.xk_base.specs.Words.{least_below}
 use Rattle.rv64i_core.specs.Registers.{Registers}
-use Rattle.rv64i_core.specs.Step.{Ecall, instr}
-use Rattle.hart_core.specs.UserMemory.{user}
+use Rattle.rv64i_core.specs.Step.{Ecall}
+use Rattle.kcall_core.specs.Instruction.{next_instruction}
 use Rattle.kcall_core.specs.Processes.{Alive, Live, Status}
 use Rattle.proc_table.specs.declared.process.Call.{Call}
 use Rattle.kcall_core.specs.State.{State, live, live_part}
@@ -74,7 +74,7 @@ module _ (s : State) (p : ℕ) (old : Live) (was : get s.processes p ≡ Some (A
   abbrev pub began : Live
   began = record old { regs = past; call = Some the_call }
 
-  pub ecall_own : old.call ≡ None → instr old.regs (user old.image) ≡ Ecall → own (view_of s p old) ≡ perform the_call (view_of (set_live p began s) p began)
+  pub ecall_own : old.call ≡ None → next_instruction old.regs old.image ≡ Ecall → own (view_of s p old) ≡ perform the_call (view_of (set_live p began s) p began)
   unfolding own view_of
   ecall_own idle is =
       ap (unless_killed (view_of s p old)) unmarked ∙ ap (going_on (view_of s p old)) idle ∙ ap (after_instruction (view_of s p old)) is

@@ -2,10 +2,10 @@
 use Rattle.std.proofs.Common.{◌≡◌, ℕ, Bool, true, false, cond, not, ◌&&◌, ◌||◌, length, Option, Some, None, refl, sym, ap, ◌∙◌, subst}
 use Rattle.std.specs.Prelude.{ℤ, is_some}
 use Rattle.rv64i_core.specs.Registers.{reg, with_pc, after}
-use Rattle.rv64i_core.specs.Step.{Step, Ecall, instr}
+use Rattle.rv64i_core.specs.Step.{Step, Ecall}
 use Rattle.hart_core.specs.declared.hart.Hart.{Hart}
-use Rattle.hart_core.specs.UserMemory.{user}
 use Rattle.proc_table.specs.declared.process.Call.{Call}
+use Rattle.kcall_core.specs.Instruction.{next_instruction}
 use Rattle.kcall_core.specs.Words.{A0, A1, A2, A7, c_int}
 use Rattle.kcall_core.specs.Processes.{Live}
 use Rattle.kcall_core.specs.State.{State}
@@ -37,7 +37,7 @@ step-on v killed call step =
     (refused (call_or_begun v call) (cond (is_some call) v (begun v)))
     (own v)
 
-so-far : (v : View) → own_so_far v ≡ step-on v v.killed v.call (instr v.regs (user v.image))
+so-far : (v : View) → own_so_far v ≡ step-on v v.killed v.call (next_instruction v.regs v.image)
 unfolding is_unbuilt
 so-far v = refl
 
@@ -50,7 +50,7 @@ pub resumed-so-far : (s : State) (p : ℕ) (l : Live) (c : Call) → l.killed �
 unfolding view_of
 resumed-so-far s p l c unmarked busy =
     let v = view_of s p l in
-    let step = instr l.regs (user l.image) in
+    let step = next_instruction l.regs l.image in
     let built = is_built (row_of c.number) in
     so-far v
     ∙ ap (λ killed. step-on v killed l.call step) unmarked
@@ -65,7 +65,7 @@ module _ (s : State) (p : ℕ) (l : Live) (was : IsLive s p l) where
   begun-view = view-set_live s p l (begun_live s p l) was refl p (begun_live s p l)
 
   -- an ECALL begins a call, which goes on by its row
-  pub begun-so-far : laws.IsBetweenCalls l → instr l.regs (user l.image) ≡ Ecall → own_so_far (view_of s p l) ≡ perform_so_far (call_begun (view_of s p l)) (view_of (begun_state p l s) p (begun_live s p l))
+  pub begun-so-far : laws.IsBetweenCalls l → next_instruction l.regs l.image ≡ Ecall → own_so_far (view_of s p l) ≡ perform_so_far (call_begun (view_of s p l)) (view_of (begun_state p l s) p (begun_live s p l))
   unfolding view_of
   begun-so-far runs is =
       let v = view_of s p l in
@@ -73,8 +73,8 @@ module _ (s : State) (p : ℕ) (l : Live) (was : IsLive s p l) where
       let seen = view_of (begun_state p l s) p (begun_live s p l) in
       let built = is_built (row_of c.number) in
       so-far v
-      ∙ ap (λ killed. step-on v killed l.call (instr l.regs (user l.image))) runs.0
-      ∙ ap (λ call. step-on v false call (instr l.regs (user l.image))) runs.1
+      ∙ ap (λ killed. step-on v killed l.call (next_instruction l.regs l.image)) runs.0
+      ∙ ap (λ call. step-on v false call (next_instruction l.regs l.image)) runs.1
       ∙ ap (λ step. step-on v false None step) is
       ∙ ap (λ w. cond (not built) (refused c w) (own v)) (sym begun-view)
       ∙ ap (λ o. cond (not built) (refused c seen) o) (law.ecall s p l was runs is).0
@@ -155,18 +155,18 @@ module _ {k : Kernel} {h : Hart} {c : Call} {k' : Kernel} {h' : Hart} (whole : I
   view-begun = let pid = only-pid whole runs begun-itself in λ i. view_of (x.state i) (pid i) (x.live i)
 
   -- what the row of the call comes to is what the step comes to
-  pub begun-row : laws.IsBetweenCalls (live_now k h) → instr (live_now k h).regs (user (live_now k h).image) ≡ Ecall → perform_so_far c (view_now k' h') ≡ own_so_far (view_now k h)
+  pub begun-row : laws.IsBetweenCalls (live_now k h) → next_instruction (live_now k h).regs (live_now k h).image ≡ Ecall → perform_so_far c (view_now k' h') ≡ own_so_far (view_now k h)
   begun-row unmarked is =
       ap (λ (d : Call). perform_so_far d (view_now k' h')) x.call
       ∙ ap (perform_so_far (call_begun (view_now k h))) view-begun
       ∙ sym (begun-so-far (state_of k h) (pid_now k) (live_now k h) (live-is k h whole.sound runs) unmarked is)
 
-  pub begun-made : {k'' : Kernel} {h'' : Hart} → laws.IsBetweenCalls (live_now k h) → instr (live_now k h).regs (user (live_now k h).image) ≡ Ecall → Makes k' h' (perform_so_far c (view_now k' h')) k'' h'' → Makes k h (own_so_far (view_now k h)) k'' h''
+  pub begun-made : {k'' : Kernel} {h'' : Hart} → laws.IsBetweenCalls (live_now k h) → next_instruction (live_now k h).regs (live_now k h).image ≡ Ecall → Makes k' h' (perform_so_far c (view_now k' h')) k'' h'' → Makes k h (own_so_far (view_now k h)) k'' h''
   begun-made {k''} {h''} unmarked is made =
       begun-makes k h k' h' k'' h'' (own_so_far (view_now k h)) whole runs begun-itself x.state (subst (λ o. Makes k' h' o k'' h'') (begun-row unmarked is) made)
 
   -- and it answers so
-  pub begun-answer : (end : CallEnd) → laws.IsBetweenCalls (live_now k h) → instr (live_now k h).regs (user (live_now k h).image) ≡ Ecall → (perform_so_far c (view_now k' h')).answer ≡ answer_of c.number end
+  pub begun-answer : (end : CallEnd) → laws.IsBetweenCalls (live_now k h) → next_instruction (live_now k h).regs (live_now k h).image ≡ Ecall → (perform_so_far c (view_now k' h')).answer ≡ answer_of c.number end
       → (own_so_far (view_now k h)).answer ≡ answer_of (call_in (view_now k h)).number end
   unfolding view_of
   begun-answer end unmarked is told =

@@ -11,9 +11,10 @@ use Rattle.sv39_core.proofs.Gathered.{gathered-get}
 use Rattle.rv64i_core.specs.Memory.{Store}
 use Rattle.xk_base.specs.Loaded.{Loaded, loaded}
 use Rattle.xk_base.specs.declared.errors.ExecError.{ExecError}
-use Rattle.rv64i_core.specs.Step.{Step, Next, Ecall, Fault, instr}
-use Rattle.hart_core.specs.UserMemory.{write_image as with_store, written_page, write_pages, user}
+use Rattle.rv64i_core.specs.Step.{Step, Next, Ecall, Fault}
+use Rattle.hart_core.specs.UserMemory.{write_image as with_store, written_page, write_pages}
 use Rattle.xk_base.specs.declared.limits.TheConstants.{SIZE_LIMIT, MAXARG, ARG_BYTES, MAXPATH}
+use Rattle.kcall_core.specs.Instruction.{next_instruction}
 use Rattle.kcall_core.specs.Words.{CLOCK_ROUND, minus_one, c_int}
 use Rattle.kcall_core.specs.Buffers.{readable, writable, text_at, texts_at, no_slashes, data_rights, grown, shrunk}
 use Rattle.xk_base.specs.Bytes.{write_image}
@@ -369,7 +370,7 @@ module _ (v : View) where
   instruction_clean (Fault cause) = clean_gone (call_begun v) v (gone (Faulted cause) v) refl
 
   going_clean : (o : Option Call) → Clean (call_or_begun v o) v (going_on v o)
-  going_clean None = instruction_clean (instr v.regs (user v.image))
+  going_clean None = instruction_clean (next_instruction v.regs v.image)
   going_clean (Some c) = perform_clean c v
 
   unless_clean : (b : Bool) → Clean (call_in v) v (unless_killed v b)

@@ -2,14 +2,14 @@
 use Rattle.std.proofs.Common.{◌≡◌, ◌≢◌, ℕ, suc, ◌+◌, ◌-◌, Bool, true, false, cond, not, ◌||◌, List, refl}
 use Rattle.std.specs.Prelude.{Option, None, Some, ℤ, pos, negsuc, nat_eq, nat_lt, nat_le, Result, Ok, Err}
 use Rattle.xk_base.specs.declared.limits.TheConstants.{SIZE_LIMIT, MAXARG, ARG_BYTES, MAXPATH}
+use Rattle.kcall_core.specs.Instruction.{next_instruction}
 use Rattle.kcall_core.specs.Words.{c_int, minus_one}
 use Rattle.kcall_core.specs.Buffers.{writable, grown, text_at, texts_at, no_slashes}
 use Rattle.kcall_core.specs.Tables.{lowest_free, lowest_free_above}
 use Rattle.xk_base.specs.Image.{price}
 use Rattle.xk_base.specs.Loaded.{loaded, Loaded}
-use Rattle.rv64i_core.specs.Step.{Next, Ecall, Fault, Step, instr}
+use Rattle.rv64i_core.specs.Step.{Next, Ecall, Fault, Step}
 use Rattle.xk_base.specs.declared.errors.ExecError.{ExecError}
-use Rattle.hart_core.specs.UserMemory.{user}
 use Rattle.kcall_core.specs.Calls.{Row, Fork, Exit, Wait, Pipe_row, Read, Kill, Exec, Dup, Getpid, Sbrk, Sleep, Uptime, Open, Write, Close, row_of, perform, perform_row, unless, done, gone, wait, read, moving, unless_nothing, write, sleep, fork, forked, cannot_fork, piped, piped_from, make_pipe, kill_pid, killed_by, exec_loaded, exec_program, exec_path, running, dup_at, dup_on, dup_number, close_at, close_on, close_number, sbrk_by, shrink_to, open_at, open_path, opened_as, what_is_named}
 use Rattle.proc_table.specs.declared.process.Call.{Call}
 use Rattle.kcall_core.specs.State.{ProgramFile}
@@ -158,7 +158,7 @@ module _ (Q : View → ℤ → Type 0) where
       instruction_falls alive (Fault cause) = gone_never (Faulted cause) v (λ k a. let no : ⊥ = cc in no)
 
       going_falls : v.killed ≡ false → (o : Option Call) → v.call ≡ o → Falls Q (going_on v o)
-      going_falls alive None e = instruction_falls alive (instr v.regs (user v.image))
+      going_falls alive None e = instruction_falls alive (next_instruction v.regs v.image)
       going_falls alive (Some c) e = perform_falls c v alive
 
       unless_falls : (b : Bool) → v.killed ≡ b → Falls Q (unless_killed v b)

@@ -7,10 +7,10 @@ use Rattle.std.specs.Ordering.{nat_cmp}
 use Rattle.std.proofs.lemmas.Bool.{cases_eq}
 use Rattle.rv64i_core.specs.Registers.{Registers}
 use Rattle.rv64i_core.specs.Memory.{Store}
-use Rattle.rv64i_core.specs.Step.{Step, Next, Ecall, Fault, instr, stop_of, regs_after, state_after}
+use Rattle.rv64i_core.specs.Step.{Step, Next, Ecall, Fault, stop_of, regs_after, state_after}
 use Rattle.rv64i_core.specs.declared.execution.Stop.{Stop}
 use Rattle.rv64i_core.specs.declared.execution.Stop.TheVariants as stops
-use Rattle.hart_core.specs.UserMemory.{user, write_image as with_store}
+use Rattle.hart_core.specs.UserMemory.{write_image as with_store}
 use Rattle.hart_core.specs.declared.hart.Hart.{Hart}
 use Rattle.xk_base.specs.Image.{Image, price}
 use Rattle.proc_table.specs.declared.channel.Channel.{Channel}
@@ -19,6 +19,7 @@ use Rattle.proc_table.specs.declared.process.State as table
 use Rattle.proc_table.specs.declared.process.State.TheVariants as table_state
 use Rattle.proc_table.specs.Processes.{channel_of, call_of, state_call, state_in_call, in_call}
 use Rattle.proc_table.specs.Slots.{Slots, Holds, place_at, descriptors_at, changed_at}
+use Rattle.kcall_core.specs.Instruction.{next_instruction}
 use Rattle.kcall_core.specs.Processes.{Live, Alive}
 use Rattle.kcall_core.specs.State.{State, live}
 use Rattle.kcall_core.specs.View.{View, view, view_of}
@@ -126,7 +127,7 @@ same-pids : (v : View) (r : Registers) (st : Option Store) → (stored v r st).p
 same-pids v r None = refl
 same-pids v r (Some st) = refl
 
-module _ (k : Kernel) (m : Memories) (h h' : Hart) (r : Registers) (st : Option Store) (whole : IsWhole k h) (runs : IsRunning k) (free : laws.IsBetweenCalls (live_now k h)) (is : instr (live_now k h).regs (user (live_now k h).image) ≡ Next r st)
+module _ (k : Kernel) (m : Memories) (h h' : Hart) (r : Registers) (st : Option Store) (whole : IsWhole k h) (runs : IsRunning k) (free : laws.IsBetweenCalls (live_now k h)) (is : next_instruction (live_now k h).regs (live_now k h).image ≡ Next r st)
     (frames : length m.ram ≡ length k.memories.ram) (sound : IsSound (record k { memories = m }) h') (same : state_of (record k { memories = m }) h' ≡ set_live (pid_now k) (after_step (Next r st) (live_now k h)) (state_of k h)) where
   itself : OnlyItself k h (record k { memories = m }) h'
   itself =

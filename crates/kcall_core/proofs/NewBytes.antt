@@ -6,13 +6,13 @@ use Rattle.std.specs.Int.{cast_unsigned, w32}
 use Rattle.std.proofs.lemmas.Bool.Decides.{eqb_tells}
 use Rattle.xk_base.specs.declared.limits.TheConstants.{NOFILE, SIZE_LIMIT, MAXPATH, MAXARG, ARG_BYTES}
 use Rattle.xk_base.specs.declared.errors.ExecError.{ExecError}
+use Rattle.kcall_core.specs.Instruction.{next_instruction}
 use Rattle.kcall_core.specs.State.{ProgramFile, State, live}
 use Rattle.xk_base.specs.Words.{le_bytes}
 use Rattle.xk_base.specs.Image.{Image, price}
 use Rattle.xk_base.specs.Bytes.{write_image}
 use Rattle.xk_base.specs.Loaded.{Loaded, loaded}
-use Rattle.rv64i_core.specs.Step.{Step, Next, Ecall, Fault, instr}
-use Rattle.hart_core.specs.UserMemory.{user}
+use Rattle.rv64i_core.specs.Step.{Step, Next, Ecall, Fault}
 use Rattle.pipe_core.specs.Pipe.{Pipe, new_pipe, with_more, without_first}
 use Rattle.console_core.specs.Reads.{Pulled, pulled}
 use Rattle.file_table.specs.declared.open_file.End.{End}
@@ -425,7 +425,7 @@ module _ (v : View) (low : (d : ℕ) → IsSome (v.descriptors d) → d < NOFILE
   instruction_fine (Fault cause) = fine_gone v (gone (Faulted cause) v) refl refl
 
   going_fine : (o : Option Call) → Fine v (going_on v o)
-  going_fine None = instruction_fine (instr v.regs (user v.image))
+  going_fine None = instruction_fine (next_instruction v.regs v.image)
   going_fine (Some c) = perform_fine c v low
 
   unless_fine : (b : Bool) → Fine v (unless_killed v b)

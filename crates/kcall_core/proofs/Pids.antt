@@ -12,11 +12,11 @@ use Rattle.xk_base.specs.Words.{le_bytes}
 use Rattle.xk_base.specs.Loaded.{Loaded, loaded}
 use Rattle.rv64i_core.specs.Registers.{Registers}
 use Rattle.rv64i_core.specs.Memory.{Store}
-use Rattle.rv64i_core.specs.Step.{Step, Next, Ecall, Fault, instr}
-use Rattle.hart_core.specs.UserMemory.{user}
+use Rattle.rv64i_core.specs.Step.{Step, Next, Ecall, Fault}
 use Rattle.pipe_core.specs.Pipe.{without_first, with_more}
 use Rattle.console_core.specs.Reads.{Pulled, pulled}
 use Rattle.proc_table.specs.declared.process.Call.{Call}
+use Rattle.kcall_core.specs.Instruction.{next_instruction}
 use Rattle.kcall_core.specs.Words.{CLOCK_ROUND, minus_one, c_int}
 use Rattle.kcall_core.specs.Buffers.{readable, writable, text_at, texts_at, no_slashes, grown, shrunk}
 use Rattle.kcall_core.specs.PipeEnds.{there, fit}
@@ -239,7 +239,7 @@ module _ (v : View) where
   instruction_sound (Fault cause) = gone_row (call_begun v) v (Faulted cause) refl
 
   going_sound : (o : Option Call) → Sound v (going_on v o)
-  going_sound None = instruction_sound (instr v.regs (user v.image))
+  going_sound None = instruction_sound (next_instruction v.regs v.image)
   going_sound (Some c) = perform_sound c v
 
   unless_sound : (b : Bool) → Sound v (unless_killed v b)

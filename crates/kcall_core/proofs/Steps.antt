@@ -4,8 +4,8 @@ use Rattle.std.specs.Prelude.{Option, None, Some, ℤ, pos, option_map, slice_in
 use Rattle.std.specs.FinMap.{get}
 use Rattle.rv64i_core.specs.Registers.{Registers}
 use Rattle.xk_base.specs.Image.{Image}
-use Rattle.rv64i_core.specs.Step.{Step, Next, Ecall, instr}
-use Rattle.hart_core.specs.UserMemory.{user}
+use Rattle.rv64i_core.specs.Step.{Step, Next, Ecall}
+use Rattle.kcall_core.specs.Instruction.{next_instruction}
 use Rattle.kcall_core.specs.Words.{word, c_int}
 use Rattle.kcall_core.specs.Processes.{Alive, Live}
 use Rattle.proc_table.specs.declared.process.Call.{Call}
@@ -56,15 +56,15 @@ module _ (s : State) (p : ℕ) (old : Live) (was : get s.processes p ≡ Some (A
 -- ---- an instruction that changes registers alone
 
 module _ (s : State) (p : ℕ) (old : Live) (was : get s.processes p ≡ Some (Alive old)) (unmarked : old.killed ≡ false) (idle : old.call ≡ None) where
-  steps : (st : Step) → instr old.regs (user old.image) ≡ st → own (view_of s p old) ≡ after_instruction (view_of s p old) st
+  steps : (st : Step) → next_instruction old.regs old.image ≡ st → own (view_of s p old) ≡ after_instruction (view_of s p old) st
   unfolding own view_of
   steps st is = ap (unless_killed (view_of s p old)) unmarked ∙ ap (going_on (view_of s p old)) idle ∙ ap (after_instruction (view_of s p old)) is
 
-  pub stepped_own : (r : Registers) → instr old.regs (user old.image) ≡ Next r None → own (view_of s p old) ≡ goes_on Stepped (view_of s p (record old { regs = r }))
+  pub stepped_own : (r : Registers) → next_instruction old.regs old.image ≡ Next r None → own (view_of s p old) ≡ goes_on Stepped (view_of s p (record old { regs = r }))
   unfolding view_of
   stepped_own r is = steps (Next r None) is
 
-  pub stepped_quiet : (r : Registers) → instr old.regs (user old.image) ≡ Next r None → Quiet s (view_of s p old) (own (view_of s p old)) (set_live p (record old { regs = r }) s)
+  pub stepped_quiet : (r : Registers) → next_instruction old.regs old.image ≡ Next r None → Quiet s (view_of s p old) (own (view_of s p old)) (set_live p (record old { regs = r }) s)
   stepped_quiet r is = subst (λ (o : Own). Quiet s (view_of s p old) o (set_live p (record old { regs = r }) s)) (sym (stepped_own r is))
       (quiet_from s (set_live p (record old { regs = r }) s) (view_of s p old) (goes_on Stepped (view_of s p (record old { regs = r }))) (leaves_live s p old was r old.image old.call old.killed Stepped refl))
 
@@ -73,7 +73,7 @@ module _ (s : State) (p : ℕ) (old : Live) (was : get s.processes p ≡ Some (A
   unfoldable pub after_getpid : Live
   after_getpid = record old { regs = with_a0 (record old.regs { pc = (old.regs.pc + 4) % 2 ^ 64 }) (word (pos p)); call = None }
 
-  pub getpid_own : instr old.regs (user old.image) ≡ Ecall → c_int (slice_index old.regs.x 16) ≡ pos 11 → own (view_of s p old) ≡ goes_on (Called (c_int (slice_index old.regs.x 16)) (pos p)) (view_of s p after_getpid)
+  pub getpid_own : next_instruction old.regs old.image ≡ Ecall → c_int (slice_index old.regs.x 16) ≡ pos 11 → own (view_of s p old) ≡ goes_on (Called (c_int (slice_index old.regs.x 16)) (pos p)) (view_of s p after_getpid)
   unfolding view_of perform perform_row row_of after_getpid
   getpid_own is number =
       steps Ecall is

@@ -1,8 +1,8 @@
 -- Which calls this kernel makes. A call that isn't built yet is refused, as one whose number no row has.
 use Rattle.std.specs.Prelude.{Bool, true, false, cond, not, ◌&&◌, ◌||◌, Option, None, Some, is_some}
-use Rattle.rv64i_core.specs.Step.{Step, Next, Ecall, Fault, instr}
-use Rattle.hart_core.specs.UserMemory.{user}
+use Rattle.rv64i_core.specs.Step.{Step, Next, Ecall, Fault}
 use Rattle.proc_table.specs.declared.process.Call.{Call}
+use Rattle.kcall_core.specs.Instruction.{next_instruction}
 use Rattle.kcall_core.specs.View.{View}
 use Rattle.kcall_core.specs.Own.{Own}
 use Rattle.kcall_core.specs.Calls.{Row, Fork, Exit, Wait, Kill, Exec, Dup, Getpid, Sbrk, Sleep, Uptime, Close, row_of, perform, refused}
@@ -38,7 +38,7 @@ in_progress v = cond (is_some v.call) v (begun v)
 
 -- the next step of the process is on a call that isn't built: one that it begins, or is in
 unfoldable pub is_unbuilt : View → Bool
-is_unbuilt v = not v.killed && (is_some v.call || is_ecall (instr v.regs (user v.image))) && not (is_built (row_of (call_in v).number))
+is_unbuilt v = not v.killed && (is_some v.call || is_ecall (next_instruction v.regs v.image)) && not (is_built (row_of (call_in v).number))
 
 -- one step of a process, in this kernel
 abbrev pub own_so_far : View → Own

@@ -12,6 +12,7 @@ pub mod View
 pub mod Own
 pub mod Tables
 pub mod Calls
+pub mod Instruction
 pub mod Step
 pub mod Quiet
 pub mod Ready

@@ -10,13 +10,14 @@ use Rattle.frame_list.specs.Pool.{free_in, Good}
 use Rattle.addr_space.specs.Space as space
 use Rattle.addr_space.specs.Space.{image_of, IsSpace}
 use Rattle.rv64i_core.specs.Registers.{Registers}
-use Rattle.rv64i_core.specs.Step.{Step, instr, stop_of, regs_after, state_after}
+use Rattle.rv64i_core.specs.Step.{Step, stop_of, regs_after, state_after}
 use Rattle.rv64i_core.specs.declared.execution.Stop.{Stop}
 use Rattle.hart_core.specs.Trapframe.{saved}
 use Rattle.hart_core.specs.Translations.{Fits}
 use Rattle.hart_core.specs.UserMemory.{user, write_image}
 use Rattle.hart_core.specs.declared.hart.Hart.{Hart}
 use Rattle.pipe_core.specs.Pipe.{Pipe, IsPipe, pipe_in}
+use Rattle.kcall_core.specs.Instruction.{next_instruction}
 use Rattle.kcall_core.specs.Words.{count_if}
 use Rattle.kcall_core.specs.Holdings.{Held, held_at, with_image, cost, pipe_cost, with_pipe}
 use Rattle.kcall_core.specs.declared.memories.Memory.{Memory}
@@ -130,7 +131,7 @@ pub record Same (old new : Memories) : Type 0 where
 
 -- what the instruction at the pc is, for the process in a slot
 abbrev pub step_in : Memories → ℕ → Registers → Step
-step_in m slot regs = instr regs (user (held_at (each_of m) slot).image)
+step_in m slot regs = next_instruction regs (held_at (each_of m) slot).image
 
 -- a hart has made one instruction for the process in a slot, on the memory that user code sees of its image
 pub record Steps (old new : Memories) (slot : ℕ) (hart hart' : Hart) (stop : Stop) : Type 0 where

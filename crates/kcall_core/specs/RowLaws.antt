@@ -12,8 +12,8 @@ use Rattle.xk_base.specs.Image.{Image, price}
 use Rattle.xk_base.specs.Loaded.{Loaded}
 use Rattle.rv64i_core.specs.Registers.{Registers, with_pc, after}
 use Rattle.rv64i_core.specs.Memory.{Store}
-use Rattle.rv64i_core.specs.Step.{Next, Ecall, Fault, instr}
-use Rattle.hart_core.specs.UserMemory.{user, write_image as with_store}
+use Rattle.rv64i_core.specs.Step.{Next, Ecall, Fault}
+use Rattle.hart_core.specs.UserMemory.{write_image as with_store}
 use Rattle.pipe_core.specs.Pipe.{Pipe, new_pipe, with_more, without_first}
 use Rattle.console_core.specs.Lists.{Console, IsWithinLimits}
 use Rattle.file_table.specs.declared.open_file.End.{End}
@@ -22,6 +22,7 @@ use Rattle.file_table.specs.declared.open_file.Target.{Target}
 use Rattle.file_table.specs.declared.open_file.Target.TheVariants.{Program as File, Pipe as Pipe_end}
 use Rattle.file_table.specs.declared.open_file.OpenFile.{OpenFile}
 use Rattle.proc_table.specs.declared.process.Call.{Call}
+use Rattle.kcall_core.specs.Instruction.{next_instruction}
 use Rattle.kcall_core.specs.Words.{c_int, minus_one}
 use Rattle.kcall_core.specs.Buffers.{readable, writable}
 use Rattle.kcall_core.specs.PipeEnds.{there, fit, joined, parted, is_given_up}
@@ -54,7 +55,7 @@ IsBetweenCalls l = (l.killed ≡ false) × (l.call ≡ None)
 abbrev pub InstructionLaw : Type 0
 InstructionLaw =
     (s : State) (p : ℕ) (l : Live) (r : Registers) (st : Option Store)
-    → IsLive s p l → IsBetweenCalls l → instr l.regs (user l.image) ≡ Next r st
+    → IsLive s p l → IsBetweenCalls l → next_instruction l.regs l.image ≡ Next r st
     → After s p l (own (view_of s p l)) (own_state p (stepped r st l) s)
 
 -- past its ECALL, with the call in progress
@@ -67,7 +68,7 @@ begun_state p l s = own_state p (begun_live s p l) s
 -- an ECALL: the call is begun, and its row is done in the same step
 abbrev pub EcallLaw : Type 0
 EcallLaw =
-    (s : State) (p : ℕ) (l : Live) → IsLive s p l → IsBetweenCalls l → instr l.regs (user l.image) ≡ Ecall
+    (s : State) (p : ℕ) (l : Live) → IsLive s p l → IsBetweenCalls l → next_instruction l.regs l.image ≡ Ecall
     → (own (view_of s p l) ≡ perform (call_begun (view_of s p l)) (view_of (begun_state p l s) p (begun_live s p l)))
     × ((o : Own) (t : State) → After (begun_state p l s) p (begun_live s p l) o t → After s p l o t)
 
@@ -80,7 +81,7 @@ abbrev pub EndLaw : Type 0
 EndLaw =
     (s : State) (p : ℕ) (l : Live)
     → (l.killed ≡ true → own (view_of s p l) ≡ gone (Exited minus_one) (view_of s p l))
-    × ((cause : Cause) → IsBetweenCalls l → instr l.regs (user l.image) ≡ Fault cause → own (view_of s p l) ≡ gone (Faulted cause) (view_of s p l))
+    × ((cause : Cause) → IsBetweenCalls l → next_instruction l.regs l.image ≡ Fault cause → own (view_of s p l) ≡ gone (Faulted cause) (view_of s p l))
 
 -- ---- rows that change only the process, the console and the free frames: all refusals, getpid, uptime, sleep, sbrk, reads and writes of the console and of nothing, and a wait that waits
 

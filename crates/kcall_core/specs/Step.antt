@@ -2,9 +2,10 @@
 use Rattle.std.specs.Prelude.{Bool, true, false, Option, None, Some}
 use Rattle.rv64i_core.specs.Registers.{Registers, reg, with_pc, after}
 use Rattle.rv64i_core.specs.Memory.{Store}
-use Rattle.rv64i_core.specs.Step.{Step, Next, Ecall, Fault, instr}
-use Rattle.hart_core.specs.UserMemory.{user, write_image as with_store}
+use Rattle.rv64i_core.specs.Step.{Step, Next, Ecall, Fault}
+use Rattle.hart_core.specs.UserMemory.{write_image as with_store}
 use Rattle.proc_table.specs.declared.process.Call.{Call}
+use Rattle.kcall_core.specs.Instruction.{next_instruction}
 use Rattle.kcall_core.specs.Words.{A0, A1, A2, A7, c_int, minus_one}
 use Rattle.kcall_core.specs.View.{View}
 use Rattle.kcall_core.specs.Own.{Own, Stepped, Exited, Faulted, goes_on}
@@ -46,7 +47,7 @@ after_instruction v (Fault cause) = gone (Faulted cause) v
 -- a call in progress goes on; else the instruction at the pc is done
 abbrev pub going_on : View → Option Call → Own
 going_on v (Some c) = perform c v
-going_on v None = after_instruction v (instr v.regs (user v.image))
+going_on v None = after_instruction v (next_instruction v.regs v.image)
 
 -- a process that is marked ends
 abbrev pub unless_killed : View → Bool → Own

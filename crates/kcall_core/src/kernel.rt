@@ -10,9 +10,9 @@ ghost use Rattle.proc_table.specs.Processes.{status_of, ended};
 ghost use Rattle.proc_table.specs.Slots.{place_at, changed_at};
 ghost use Rattle.hart_core.specs.declared.hart.Hart.{Hart};
 ghost use Rattle.proc_table.specs.declared.process.Process.{Process};
-ghost use Rattle.rv64i_core.specs.Step.{instr, stop_of};
+ghost use Rattle.rv64i_core.specs.Step.{stop_of};
 ghost use Rattle.rv64i_core.specs.declared.execution.Stop.TheVariants as stops;
-ghost use Rattle.hart_core.specs.UserMemory.{user};
+ghost use Rattle.kcall_core.specs.Instruction.{next_instruction};
 ghost use Rattle.kcall_core.specs.Calls.{with_a0};
 ghost use Rattle.kcall_core.specs.Updates.{give_frames, end_process};
 ghost use Rattle.kcall_core.specs.Step.{own};
@@ -87,7 +87,7 @@ impl Kernel {
         requires whole { IsWhole self.old hart.old }
         requires running { IsRunning self.old }
         requires between_calls { laws.IsBetweenCalls (live_now self.old hart.old) }
-        ensures stop { let live = live_now self.old hart.old in result ≡ stop_of (instr live.regs (user live.image)) }
+        ensures stop { let live = live_now self.old hart.old in result ≡ stop_of (next_instruction live.regs live.image) }
         ensures done { result ≡ stops.Next → Makes self.old hart.old (own (view_now self.old hart.old)) self.new hart.new }
         ensures stays { result ≢ stops.Next → Stays self.old hart.old self.new hart.new }
         ensures same { result ≢ stops.Next → StillRuns self.old hart.old self.new hart.new }

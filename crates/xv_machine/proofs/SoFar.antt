@@ -3,11 +3,11 @@ use Rattle.std.proofs.Common.{◌≡◌, ◌≢◌, ℕ, Bool, true, false, cond
 use Rattle.std.specs.Prelude.{ℤ, IsSome, is_some, option_map}
 use Rattle.xk_base.specs.declared.access.Cause.{Cause}
 use Rattle.rv64i_core.specs.Registers.{reg}
-use Rattle.rv64i_core.specs.Step.{Step, Next, Ecall, Fault, instr, stop_of}
+use Rattle.rv64i_core.specs.Step.{Step, Next, Ecall, Fault, stop_of}
 use Rattle.rv64i_core.specs.declared.execution.Stop.TheVariants as stops
-use Rattle.hart_core.specs.UserMemory.{user}
 use Rattle.hart_core.specs.declared.hart.Hart.{Hart}
 use Rattle.proc_table.specs.declared.process.Call.{Call}
+use Rattle.kcall_core.specs.Instruction.{next_instruction}
 use Rattle.kcall_core.specs.Words.{A7, c_int, minus_one}
 use Rattle.kcall_core.specs.View.{View, view_of}
 use Rattle.kcall_core.specs.Own.{Own, Stepped, Exited, Faulted, gone_with}
@@ -87,34 +87,34 @@ module _ (k : Kernel) (h : Hart) where
   unfolding is_unbuilt view_of
   marked-built marked =
       let v = view_now k h in
-      first-false (not (live_now k h).killed) (is_some v.call || is_ecall (instr v.regs (user v.image))) (not (is_built (row_of (call_in v).number))) (ap not marked)
+      first-false (not (live_now k h).killed) (is_some v.call || is_ecall (next_instruction v.regs v.image)) (not (is_built (row_of (call_in v).number))) (ap not marked)
 
   pub marked-own : (live_now k h).killed ≡ true → own_so_far (view_now k h) ≡ gone (Exited minus_one) (view_now k h)
   marked-own marked = built-own (view_now k h) (marked-built marked) ∙ (end (state_of k h) (pid_now k) (live_now k h)).0 marked
 
   module _ (free : laws.IsBetweenCalls (live_now k h)) where
     -- an instruction that is no ECALL
-    plain-built : stop_of (instr (live_now k h).regs (user (live_now k h).image)) ≢ stops.Ecall → is_unbuilt (view_now k h) ≡ false
+    plain-built : stop_of (next_instruction (live_now k h).regs (live_now k h).image) ≢ stops.Ecall → is_unbuilt (view_now k h) ≡ false
     unfolding is_unbuilt view_of
     plain-built other =
         let v = view_now k h in
-        middle (not v.killed) (is_some v.call || is_ecall (instr v.regs (user v.image))) (not (is_built (row_of (call_in v).number)))
-        (neither (is_some v.call) (is_ecall (instr v.regs (user v.image))) (ap is_some free.1) (no-ecall (instr v.regs (user v.image)) other))
+        middle (not v.killed) (is_some v.call || is_ecall (next_instruction v.regs v.image)) (not (is_built (row_of (call_in v).number)))
+        (neither (is_some v.call) (is_ecall (next_instruction v.regs v.image)) (ap is_some free.1) (no-ecall (next_instruction v.regs v.image) other))
 
-    pub plain-own : stop_of (instr (live_now k h).regs (user (live_now k h).image)) ≢ stops.Ecall → own_so_far (view_now k h) ≡ own (view_now k h)
+    pub plain-own : stop_of (next_instruction (live_now k h).regs (live_now k h).image) ≢ stops.Ecall → own_so_far (view_now k h) ≡ own (view_now k h)
     plain-own other = built-own (view_now k h) (plain-built other)
 
-    pub next-answer : stop_of (instr (live_now k h).regs (user (live_now k h).image)) ≡ stops.Next → (own (view_now k h)).answer ≡ Stepped
-    next-answer next = by (instr (live_now k h).regs (user (live_now k h).image)) refl next
+    pub next-answer : stop_of (next_instruction (live_now k h).regs (live_now k h).image) ≡ stops.Next → (own (view_now k h)).answer ≡ Stepped
+    next-answer next = by (next_instruction (live_now k h).regs (live_now k h).image) refl next
       where
-        by : (s : Step) → instr (live_now k h).regs (user (live_now k h).image) ≡ s → stop_of s ≡ stops.Next → (own (view_now k h)).answer ≡ Stepped
+        by : (s : Step) → next_instruction (live_now k h).regs (live_now k h).image ≡ s → stop_of s ≡ stops.Next → (own (view_now k h)).answer ≡ Stepped
         by (Next r st) is e = ap (λ (o : Own). o.answer) (begins (state_of k h) (pid_now k) (live_now k h) free (Next r st) is)
         by Ecall is e = let no : ⊥ = cc in absurd no
         by (Fault cause) is e = let no : ⊥ = cc in absurd no
 
-    pub fault-own : (cause : Cause) → stop_of (instr (live_now k h).regs (user (live_now k h).image)) ≡ stops.Fault cause → own_so_far (view_now k h) ≡ gone (Faulted cause) (view_now k h)
+    pub fault-own : (cause : Cause) → stop_of (next_instruction (live_now k h).regs (live_now k h).image) ≡ stops.Fault cause → own_so_far (view_now k h) ≡ gone (Faulted cause) (view_now k h)
     fault-own cause e =
-        plain-own (λ ecall. fault-ecall cause (sym e ∙ ecall)) ∙ (end (state_of k h) (pid_now k) (live_now k h)).1 cause free (is-fault (instr (live_now k h).regs (user (live_now k h).image)) cause e)
+        plain-own (λ ecall. fault-ecall cause (sym e ∙ ecall)) ∙ (end (state_of k h) (pid_now k) (live_now k h)).1 cause free (is-fault (next_instruction (live_now k h).regs (live_now k h).image) cause e)
 
   -- the number of the call that a step is on
   pub begun-number : (live_now k h).call ≡ None → (call_in (view_now k h)).number ≡ c_int (reg h.regs A7)
@@ -198,7 +198,7 @@ module _ (k k' : Kernel) (h h' : Hart) where
   marked-answer marked = ap (λ (o : Own). o.answer) (marked-own k h marked)
 
 -- its instruction faults, which leaves the kernel as it was, and it ends
-pub ends-faulted : (k mid k' : Kernel) (h hart h' : Hart) (cause : Cause) → IsWhole k h → IsRunning k → laws.IsBetweenCalls (live_now k h) → stops.Fault cause ≡ stop_of (instr (live_now k h).regs (user (live_now k h).image)) → Stays k h mid hart
+pub ends-faulted : (k mid k' : Kernel) (h hart h' : Hart) (cause : Cause) → IsWhole k h → IsRunning k → laws.IsBetweenCalls (live_now k h) → stops.Fault cause ≡ stop_of (next_instruction (live_now k h).regs (live_now k h).image) → Stays k h mid hart
     → Makes mid hart (gone (Faulted cause) (view_now mid hart)) k' h' → Makes k h (own_so_far (view_now k h)) k' h'
 ends-faulted k mid k' h hart h' cause whole runs free stop stays made =
     let from : Makes k h (gone (Faulted cause) (view_now mid hart)) k' h' = makes-from k mid h hart whole.sound runs stays (gone (Faulted cause) (view_now mid hart)) k' h' made in

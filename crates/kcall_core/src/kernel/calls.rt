@@ -4,12 +4,12 @@
 //! stays in progress, and goes on by the same row of the call table when its process runs again.
 ghost use Rattle.std.specs.Prelude.{◌≡◌, pos, false, None, Some, IsSome, option_map};
 ghost use Rattle.rv64i_core.specs.Registers.{reg, with_pc, after};
-ghost use Rattle.rv64i_core.specs.Step.{Ecall, instr};
+ghost use Rattle.rv64i_core.specs.Step.{Ecall};
 ghost use Rattle.hart_core.specs.declared.hart.Hart.{Hart};
-ghost use Rattle.hart_core.specs.UserMemory.{user};
 ghost use Rattle.proc_table.specs.Processes as process;
 ghost use Rattle.proc_table.specs.Slots.{changed_at};
 ghost use Rattle.proc_table.specs.declared.process.Call.{Call};
+ghost use Rattle.kcall_core.specs.Instruction.{next_instruction};
 ghost use Rattle.kcall_core.specs.Words.{A0, A1, A2, A7, c_int, word, minus_one};
 ghost use Rattle.kcall_core.specs.Calls.{with_a0, getpid, refused};
 ghost use Rattle.kcall_core.specs.Step.{call_in, call_begun};
@@ -217,7 +217,7 @@ impl Kernel {
         requires whole { IsWhole self.old hart.old }
         requires running { IsRunning self.old }
         requires between_calls { laws.IsBetweenCalls (live_now self.old hart.old) }
-        requires ecall { let live = live_now self.old hart.old in instr live.regs (user live.image) ≡ Ecall }
+        requires ecall { let live = live_now self.old hart.old in next_instruction live.regs live.image ≡ Ecall }
         ensures made { Makes self.old hart.old (own_so_far (view_now self.old hart.old)) self.new hart.new }
         ensures answer { let v = view_now self.old hart.old in (own_so_far v).answer ≡ answer_of (call_in v).number result }
     {
