@@ -21,7 +21,7 @@ use Rattle.proc_table.proofs.Pids.{table_each}
 use Rattle.kcall_core.specs.State.{named_file}
 use Rattle.kcall_core.specs.Words.{is_this, or_zero}
 use Rattle.kcall_core.specs.Processes as meaning
-use Rattle.kcall_core.specs.Processes.{Live, Alive, Zombie, parent_of}
+use Rattle.kcall_core.specs.Processes.{Live, parent_of}
 use Rattle.kcall_core.specs.ByPid.{by_pid, put}
 use Rattle.kcall_core.specs.Updates.{orphan, orphans, given_to}
 use Rattle.kcall_core.specs.Holdings.{Held, held_at}

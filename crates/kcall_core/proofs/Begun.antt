@@ -15,7 +15,7 @@ use Rattle.kcall_core.specs.View.{View, view, view_of}
 use Rattle.kcall_core.specs.Own.{Own, gone_with}
 use Rattle.kcall_core.specs.Calls.{perform}
 use Rattle.kcall_core.specs.Step.{own, unless_killed, going_on, after_instruction, call_begun}
-use Rattle.kcall_core.specs.Quiet.{Quiet, seen, seen_table, seen_descriptor, seen_children, or_child, left_at, file_at, file_of, pipe_at, pipe_of_file, is_same, meets_on_file, meets_on_pipe}
+use Rattle.kcall_core.specs.Quiet.{Quiet, seen, seen_descriptor, seen_children, or_child, left_at, file_at, file_of, pipe_at, pipe_of_file, is_same}
 use Rattle.kcall_core.specs.Quiet as quiet
 use Rattle.kcall_core.specs.Updates.{set_live}
 use Rattle.kcall_core.proofs.SetLive.{view-set_live, same_child, live-set_live_here, live-set_live_there}

@@ -1,9 +1,9 @@
 -- Waking by conditions is waking where it is due.
-use Rattle.std.proofs.Common.{◌≡◌, ℕ, Bool, true, false, ◌||◌, refl, ap, sym, ◌∙◌, subst, inl, inr, ◌⊎◌}
+use Rattle.std.proofs.Common.{◌≡◌, ℕ, Bool, true, false, refl, ap, sym, ◌∙◌, subst, inl, inr, ◌⊎◌}
 use Rattle.std.specs.Prelude.{Option, None, Some, IsSome, option_map}
 use Rattle.std.proofs.lemmas.Bool.{or_parts, or_left, or_right, or_cases}
 use Rattle.kcall_core.specs.Processes.{Live}
-use Rattle.kcall_core.specs.State.{State, live}
+use Rattle.kcall_core.specs.State.{live}
 use Rattle.kcall_core.specs.View.{View, view_of}
 use Rattle.kcall_core.specs.Ready.{ready}
 use Rattle.kcall_core.specs.Turns.{Sleeps}

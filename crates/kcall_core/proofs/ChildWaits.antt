@@ -1,8 +1,6 @@
 -- Who waits for a child is in the call wait, and waits for its own.
-use Rattle.std.proofs.Common.{◌≡◌, ℕ, Bool, true, false, cond, not, ◌&&◌, ◌||◌, List, [], ◌∷◌, Option, None, Some, refl, ap, sym, ◌∙◌}
-use Rattle.std.specs.Prelude.{ℤ, pos, negsuc, option_map, nat_eq, find}
-use Rattle.std.specs.List.{list_all}
-use Rattle.std.proofs.lemmas.Bool.{eqb-true, and_parts, or_parts}
+use Rattle.std.proofs.Common.{◌≡◌, ℕ, Bool, true, false, Option, None, Some, refl, ap, sym, ◌∙◌}
+use Rattle.std.specs.Prelude.{ℤ, pos, negsuc}
 use Rattle.file_table.specs.declared.open_file.Target.{Target}
 use Rattle.file_table.specs.declared.open_file.Target.TheVariants.{Console as Terminal, Program as File, Pipe as Pipe_end}
 use Rattle.proc_table.specs.declared.process.Call.{Call}
@@ -10,10 +8,9 @@ use Rattle.kcall_core.specs.Words.{c_int}
 use Rattle.kcall_core.specs.Processes.{Live}
 use Rattle.kcall_core.specs.State.{State}
 use Rattle.kcall_core.specs.View.{view_of}
-use Rattle.kcall_core.specs.Calls.{Row, Wait, Read, Sleep, Write, table, row_of}
-use Rattle.kcall_core.specs.Ready.{ready}
+use Rattle.kcall_core.specs.Calls.{Row, Wait, Read, Sleep, Write, row_of}
 use Rattle.kcall_core.specs.Wakes.{IsInCall}
-use Rattle.kcall_core.specs.Conditions.{Child_of, is_open, read_waits_for, write_waits_for, target_at, sleep_waits_for, row_waits_for, call_waits_for, waits_for}
+use Rattle.kcall_core.specs.Conditions.{Child_of, read_waits_for, write_waits_for, target_at, sleep_waits_for, row_waits_for, call_waits_for, waits_for}
 use Rattle.kcall_core.proofs.RowNumbers.{row-number}
 
 -- ---- its number is 3

@@ -1,5 +1,5 @@
 -- The process that runs closes its descriptors and ends.
-use Rattle.std.proofs.Common.{◌≡◌, ◌≢◌, ℕ, Bool, cond, length, Option, Some, None, inl, inr, refl, sym, ap, ◌∙◌, subst, arith}
+use Rattle.std.proofs.Common.{◌≡◌, ◌≢◌, ℕ, cond, length, Option, Some, None, inl, inr, refl, sym, ap, ◌∙◌, subst, arith}
 use Rattle.std.specs.Prelude.{ℤ, is_some}
 use Rattle.std.specs.FinMap.{get, get-empty, empty}
 use Rattle.std.specs.Ordering.{nat_cmp}
@@ -7,13 +7,10 @@ use Rattle.sv39_core.proofs.Words.{ltb-no}
 use Rattle.sv39_core.proofs.Gathered.{same_pages}
 use Rattle.hart_core.specs.declared.hart.Hart.{Hart}
 use Rattle.file_table.specs.OpenFiles.{IsTable, file_at}
-use Rattle.proc_table.specs.Processes.{channel_of, state_channel, given, woken, ended}
+use Rattle.proc_table.specs.Processes.{given, woken, ended}
 use Rattle.proc_table.specs.Slots.{place_at, parent_at, each_changed, changed_at}
-use Rattle.proc_table.specs.declared.channel.Channel.{Channel}
 use Rattle.proc_table.specs.declared.channel.Channel.TheVariants as on
 use Rattle.proc_table.specs.declared.process.Process.{Process}
-use Rattle.proc_table.specs.declared.process.State as table
-use Rattle.proc_table.specs.declared.process.State.TheVariants.{Live as Live_state, Zombie as Zombie_state}
 use Rattle.kcall_core.specs.Processes as meaning
 use Rattle.kcall_core.specs.Processes.{Live, Alive, parent_of}
 use Rattle.kcall_core.specs.Own.{Answer, gone_with}
@@ -23,7 +20,7 @@ use Rattle.kcall_core.specs.Updates.{fewer_on_all, freed_on_all, gone_state}
 use Rattle.kcall_core.specs.Kernel.{state_of, IsSound, IsRunning, or_nobody, slot_now, pid_now, live_now}
 use Rattle.kcall_core.specs.Whole.{IsWhole}
 use Rattle.kcall_core.specs.Makes.{Makes, view_now}
-use Rattle.kcall_core.specs.Closings.{unless_woken, state_woken_by, closes_wake, woken_by, parent_woken, IsClosing, ClosesFrom}
+use Rattle.kcall_core.specs.Closings.{closes_wake, woken_by, parent_woken, IsClosing, ClosesFrom}
 use Rattle.kcall_core.specs.declared.kernel.Kernel.{Kernel}
 use Rattle.kcall_core.proofs.Turned.{live-is}
 use Rattle.kcall_core.proofs.States.{none-some}

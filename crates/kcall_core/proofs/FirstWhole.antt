@@ -15,7 +15,7 @@ use Rattle.hart_core.specs.declared.hart.Hart.{Hart}
 use Rattle.console_core.specs.Lists.{Console, IsWithinLimits}
 use Rattle.file_table.specs.Named.{named_by, none_named}
 use Rattle.file_table.specs.OpenFiles as files
-use Rattle.file_table.specs.OpenFiles.{none_open, count_at, entry_count}
+use Rattle.file_table.specs.OpenFiles.{none_open, entry_count}
 use Rattle.file_table.specs.declared.open_file.Entry.{Entry}
 use Rattle.proc_table.specs.Processes.{channel_of, newborn}
 use Rattle.proc_table.specs.Slots.{Slots, place_at, descriptors_at, no_process, with_new}

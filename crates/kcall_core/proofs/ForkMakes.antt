@@ -32,8 +32,6 @@ use Rattle.kcall_core.specs.Makes.{Makes, view_now}
 use Rattle.kcall_core.specs.declared.kernel.Kernel.{Kernel}
 use Rattle.kcall_core.proofs.Maps.{get_other}
 use Rattle.kcall_core.proofs.States.{none-some, running}
-use Rattle.kcall_core.proofs.Observed.{entry-held}
-use Rattle.kcall_core.proofs.KeepsSlots.{is_listed}
 use Rattle.kcall_core.proofs.Turned.{slot-is, slot-from, awake-is, not-both, same-some, live-is}
 use Rattle.kcall_core.proofs.OnePlace.{in-call-channel}
 use Rattle.kcall_core.proofs.WhoRuns.{place-is}

@@ -13,7 +13,7 @@ use Rattle.frame_list.specs.Pool.{free_in}
 use Rattle.frame_list.specs.Traded.{Traded}
 use Rattle.sv39_core.specs.Sv39.{walked}
 use Rattle.addr_space.specs.Space as space
-use Rattle.addr_space.specs.Space.{image_of, Spared, Belongs}
+use Rattle.addr_space.specs.Space.{Spared}
 use Rattle.addr_space.proofs.Isolation.{spared}
 use Rattle.addr_space.proofs.Trades.{space-price}
 use Rattle.rv64i_core.specs.Registers.{Registers, fresh}

@@ -1,7 +1,7 @@
 -- Who has a slot and who sleeps once the process that ran is gone.
-use Rattle.std.proofs.Common.{◌≡◌, ◌≢◌, ℕ, Bool, true, false, cond, Option, Some, None, inl, inr, refl, sym, ap, ◌∙◌, subst}
-use Rattle.std.specs.Prelude.{ℤ, option_map, IsSome, Contains}
-use Rattle.std.specs.FinMap.{FinMap, get, keys}
+use Rattle.std.proofs.Common.{◌≡◌, ◌≢◌, ℕ, Bool, true, cond, Option, Some, None, inl, inr, refl, sym, ap, ◌∙◌}
+use Rattle.std.specs.Prelude.{ℤ, option_map}
+use Rattle.std.specs.FinMap.{FinMap, get}
 use Rattle.std.specs.FinSet.{contains}
 use Rattle.std.specs.Ordering.{nat_cmp}
 use Rattle.std.proofs.lemmas.Bool.{cases_eq}
@@ -13,25 +13,18 @@ use Rattle.proc_table.specs.declared.process.State as table
 use Rattle.proc_table.specs.declared.process.State.TheVariants.{Live as Live_state, Zombie as Zombie_state}
 use Rattle.proc_table.specs.declared.process.Process.{Process}
 use Rattle.proc_table.specs.Processes.{status_of, state_status, channel_of, state_channel}
-use Rattle.proc_table.specs.Slots.{place_at, descriptors_at, process_pid, pid_at}
-use Rattle.kcall_core.specs.State.{live}
-use Rattle.kcall_core.specs.Turns.{Sleeps}
+use Rattle.proc_table.specs.Slots.{place_at, process_pid, pid_at}
 use Rattle.kcall_core.specs.Own.{Answer, Stepped, Called, Blocked, Exited, Faulted, gone_with}
 use Rattle.kcall_core.specs.Calls.{gone}
 use Rattle.kcall_core.specs.Run.{TurnsAfter, IsBlocked, stays_current, halts_with}
-use Rattle.kcall_core.specs.Holdings.{held_at}
-use Rattle.kcall_core.specs.Memories.{each_of}
-use Rattle.kcall_core.specs.Kernel.{state_of, IsRunning, or_nobody, slot_now, pid_now, live_of, regs_at}
-use Rattle.kcall_core.specs.Machine.{slot_entry, slots_of, sleepers_below, turns_of}
+use Rattle.kcall_core.specs.Kernel.{IsRunning, or_nobody, slot_now, pid_now}
+use Rattle.kcall_core.specs.Machine.{slots_of, sleepers_below, turns_of}
 use Rattle.kcall_core.specs.Whole.{IsWhole}
 use Rattle.kcall_core.specs.Makes.{view_now}
 use Rattle.kcall_core.specs.View.{view_of}
 use Rattle.kcall_core.specs.declared.kernel.Kernel.{Kernel}
-use Rattle.kcall_core.proofs.ByPid.{none}
 use Rattle.kcall_core.proofs.States.{none-some, Running, running}
-use Rattle.kcall_core.proofs.Observed.{entry-held, live-held}
-use Rattle.kcall_core.proofs.KeepsSlots.{is_listed}
-use Rattle.kcall_core.proofs.Turned.{sleeps-is, sleeps-from, awake-is, slots-same, sleeper-lives, not-both}
+use Rattle.kcall_core.proofs.Turned.{slots-same}
 use Rattle.kcall_core.proofs.StepSlots.{no-slot}
 use Rattle.kcall_core.proofs.Sleepers.{elsewhere, on-it-still}
 use Rattle.kcall_core.proofs.Departs.{seat, unless_woken, seat_woken, Departs}

@@ -1,6 +1,6 @@
 -- The row kill, as the code goes through it: the process of a pid is marked and awake, whatever it slept on, and the call is done.
 use Rattle.std.proofs.Common.{◌≡◌, ◌≢◌, ℕ, ◌<◌, ◌||◌, not, Bool, true, false, cond, List, set, length, subst, Option, Some, None, inl, inr, refl, sym, ap, ◌∙◌, arith}
-use Rattle.std.specs.Prelude.{ℤ, pos, negsuc, is_some, is_none, option_map, nat_eq, Contains}
+use Rattle.std.specs.Prelude.{ℤ, pos, negsuc, is_some, is_none, option_map, nat_eq}
 use Rattle.std.specs.Ordering.{nat_cmp}
 use Rattle.std.specs.Cmp.{nat_cmp_total}
 use Rattle.std.specs.List.{list_any}
@@ -29,7 +29,7 @@ use Rattle.kcall_core.specs.Own.{Own, Called, Blocked}
 use Rattle.kcall_core.specs.Calls.{kill, kill_pid, killed_by, refused, done, unless}
 use Rattle.kcall_core.specs.Kills.{asked_pid}
 use Rattle.kcall_core.specs.ByPid.{by_pid}
-use Rattle.kcall_core.specs.Run.{IsBlocked, halts_with}
+use Rattle.kcall_core.specs.Run.{IsBlocked}
 use Rattle.kcall_core.specs.Updates.{mark, marked, change, kill_state, killer, own_state, with_answer}
 use Rattle.kcall_core.specs.WellFormed.{WellFormed}
 use Rattle.kcall_core.specs.RowLaws.{IsLive, After}
@@ -38,7 +38,7 @@ use Rattle.kcall_core.specs.Conditions.{is_open, waits_for, OthersWaitOn}
 use Rattle.kcall_core.specs.Holdings.{Held, held_at}
 use Rattle.kcall_core.specs.Memories.{each_of}
 use Rattle.kcall_core.specs.Kernel.{frame_count, process_of, regs_at, entry_of, entry_at, state_of, IsSound, IsRunning, or_nobody, slot_now, place_now, pid_now, live_now}
-use Rattle.kcall_core.specs.Machine.{slots_of, turns_of}
+use Rattle.kcall_core.specs.Machine.{slots_of}
 use Rattle.kcall_core.specs.Whole.{IsWhole, AreCounted}
 use Rattle.kcall_core.specs.Makes.{Makes, view_now}
 use Rattle.kcall_core.specs.declared.kernel.Kernel.{Kernel}
@@ -50,8 +50,8 @@ use Rattle.kcall_core.proofs.States.{none-some, entry-pid, slot-inside, running}
 use Rattle.kcall_core.proofs.Stops.{read-some}
 use Rattle.kcall_core.proofs.Chosen.{noted}
 use Rattle.kcall_core.proofs.Observed.{slot-found, entry-held, pid-missing}
-use Rattle.kcall_core.proofs.KeepsSlots.{is_listed, listed}
-use Rattle.kcall_core.proofs.Turned.{slots-same, slot-from, live-is, same-some, not-both}
+use Rattle.kcall_core.proofs.KeepsSlots.{listed}
+use Rattle.kcall_core.proofs.Turned.{slots-same, live-is, same-some, not-both}
 use Rattle.kcall_core.proofs.OnePlace.{ItsPlace, changed-place, place-counted, place-slots, in-call-lives, in-call-channel}
 use Rattle.kcall_core.proofs.WhoRuns.{place-is, place-lives, now-is}
 use Rattle.kcall_core.proofs.StepSlots.{KeepsAll, same-pid, slots-kept}

@@ -1,5 +1,5 @@
 -- The tests of read and write, in their order, and what an open file is on.
-use Rattle.std.proofs.Common.{◌≡◌, ◌≢◌, ℕ, ◌<◌, Bool, true, false, cond, not, Option, Some, None, inl, inr, refl, sym, ap, ◌∙◌, subst}
+use Rattle.std.proofs.Common.{◌≡◌, ◌≢◌, ℕ, ◌<◌, Bool, true, false, not, Option, Some, None, refl, sym, ap, ◌∙◌, subst}
 use Rattle.std.specs.Prelude.{ℤ, pos, negsuc, IsSome, is_some, option_map, nat_eq}
 use Rattle.std.specs.FinMap.{get}
 use Rattle.hart_core.specs.declared.hart.Hart.{Hart}
@@ -14,10 +14,10 @@ use Rattle.kcall_core.specs.Words.{c_int}
 use Rattle.kcall_core.specs.Buffers.{readable, writable}
 use Rattle.kcall_core.specs.Processes.{Live}
 use Rattle.kcall_core.specs.State.{State}
-use Rattle.kcall_core.specs.View.{View, Descriptor, view_of, named, numbered, rename, rename_shown, show, descriptor_at, descriptor_on, least_on_pipe, pipe_name}
+use Rattle.kcall_core.specs.View.{View, Descriptor, view_of, numbered, rename, rename_shown, show, descriptor_at, descriptor_on, least_on_pipe, pipe_name}
 use Rattle.kcall_core.specs.Own.{Own}
 use Rattle.kcall_core.specs.Calls.{read, read_on, read_from, write, write_on, write_to, in_use, moving, unless, unless_nothing, length_of_int, done, refused}
-use Rattle.kcall_core.specs.RowLaws.{IsLive, OnPipe}
+use Rattle.kcall_core.specs.RowLaws.{OnPipe}
 use Rattle.kcall_core.specs.Kernel.{state_of, IsRunning, pid_now, live_now}
 use Rattle.kcall_core.specs.Whole.{IsWhole}
 use Rattle.kcall_core.specs.Makes.{view_now}
@@ -26,7 +26,7 @@ use Rattle.kcall_core.specs.declared.kernel.Kernel.{Kernel}
 use Rattle.kcall_core.proofs.Turned.{live-is}
 use Rattle.kcall_core.proofs.Names.{named_at}
 use Rattle.kcall_core.proofs.Pipes.{least_there}
-use Rattle.kcall_core.proofs.Decoding.{read_case, write_case}
+use Rattle.kcall_core.proofs.Decoding.{write_case}
 use Rattle.kcall_core.proofs.UsedDescriptor.{InUse}
 
 -- ---- the tests

@@ -1,12 +1,11 @@
 -- A free descriptor of the process that runs names a new open file, which is no pipe.
-use Rattle.std.proofs.Common.{◌≡◌, ◌≢◌, ℕ, ◌+◌, ◌<◌, ◌≤◌, Bool, true, false, cond, ltb, List, length, get_or, set, position, subst, Option, Some, None, IsSome, inl, inr, refl, sym, ap, ◌∙◌, arith}
+use Rattle.std.proofs.Common.{◌≡◌, ◌≢◌, ℕ, ◌+◌, ◌<◌, Bool, true, false, cond, ltb, List, length, get_or, set, subst, Option, Some, None, IsSome, inl, inr, refl, sym, ap, ◌∙◌, arith}
 use Rattle.std.specs.Prelude.{option_map, is_none, pos}
 use Rattle.std.specs.FinMap.{get, insert}
 use Rattle.std.proofs.lemmas.Bool.{cases_eq, eq-eqb}
 use Rattle.std.proofs.lemmas.Bool.Decides.{eqb_tells}
 use Rattle.std.proofs.lemmas.List.{length-set, get_or-set_same, get_or-set_other}
 use Rattle.xk_base.specs.declared.limits.TheConstants.{OPEN_FILES}
-use Rattle.xk_base.specs.Gathered.{gathered}
 use Rattle.sv39_core.proofs.Gathered.{same_pages}
 use Rattle.sv39_core.proofs.Words.{ltb-yes}
 use Rattle.hart_core.specs.declared.hart.Hart.{Hart}
@@ -28,13 +27,13 @@ use Rattle.kcall_core.specs.View.{view_of, show}
 use Rattle.kcall_core.specs.Own.{Own}
 use Rattle.kcall_core.specs.Calls.{open_at}
 use Rattle.kcall_core.specs.Makes.{Makes, view_now}
-use Rattle.kcall_core.specs.RowLaws.{After, IsLive, NobodyNames}
+use Rattle.kcall_core.specs.RowLaws.{After, NobodyNames}
 use Rattle.kcall_core.specs.WellFormed.{WellFormed}
 use Rattle.kcall_core.specs.Kernel.{frame_count, state_of, IsSound, IsRunning, slot_now, pid_now, live_now}
-use Rattle.kcall_core.specs.Whole.{IsWhole, AreCounted, namings}
+use Rattle.kcall_core.specs.Whole.{IsWhole, AreCounted}
 use Rattle.kcall_core.specs.declared.kernel.Kernel.{Kernel}
 use Rattle.kcall_core.proofs.Counts.{one}
-use Rattle.kcall_core.proofs.Maps.{get_at, get_same, get_other}
+use Rattle.kcall_core.proofs.Maps.{get_at, get_other}
 use Rattle.kcall_core.proofs.Namings.{named-seen, files-seen}
 use Rattle.kcall_core.proofs.States.{slot-inside}
 use Rattle.kcall_core.proofs.Stops.{live-place}

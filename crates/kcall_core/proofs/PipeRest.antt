@@ -1,16 +1,15 @@
 -- What of a buffer is left, from a place in it on.
-use Rattle.std.proofs.Common.{◌≡◌, ℕ, zero, suc, ◌+◌, ◌-◌, ◌*◌, ◌^◌, ◌<◌, ◌≤◌, Bool, true, false, ◌&&◌, get_or, Option, Some, None, IsSome, inl, inr, refl, sym, ap, ◌∙◌, subst, arith}
+use Rattle.std.proofs.Common.{◌≡◌, ℕ, zero, suc, ◌+◌, ◌-◌, ◌^◌, ◌<◌, ◌≤◌, Bool, true, false, ◌&&◌, get_or, Option, Some, None, IsSome, inl, inr, refl, sym, ap, ◌∙◌, subst, arith}
 use Rattle.std.proofs.lemmas.Bool.{cases_lt, and_parts}
 use Rattle.std.proofs.lemmas.Bool.Decides.{eqb_tells}
 use Rattle.xk_base.specs.Image.{Image}
 use Rattle.xk_base.specs.declared.access.Access.TheVariants.{Load}
 use Rattle.addr_space.specs.Space.{image_of}
 use Rattle.hart_core.specs.UserMemory.{user}
-use Rattle.user_copy.specs.Reach.{reaches}
 use Rattle.user_copy.proofs.Ranges.{reaches-not, may-beyond}
 use Rattle.kcall_core.specs.Words.{all_below}
 use Rattle.kcall_core.specs.Buffers.{may_read, may_write, readable, writable}
-use Rattle.kcall_core.specs.Holdings.{Held, held_at, or_nothing, HasMemory}
+use Rattle.kcall_core.specs.Holdings.{held_at, or_nothing, HasMemory}
 use Rattle.kcall_core.specs.Memories.{each_of, held_in}
 use Rattle.kcall_core.specs.declared.memories.Memory.{Memory}
 use Rattle.kcall_core.specs.declared.memories.Memories.{Memories}

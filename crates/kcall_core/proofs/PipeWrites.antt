@@ -1,8 +1,8 @@
 -- A write to a pipe, as the code goes through it.
-use Rattle.std.proofs.Common.{◌≡◌, ◌≢◌, ℕ, ◌+◌, ◌-◌, ◌*◌, ◌%◌, ◌^◌, ◌≤◌, ◌<◌, ◌||◌, ◌&&◌, ◌++◌, Bool, true, false, cond, length, min, get_or, set, subst, Option, Some, None, inl, inr, refl, sym, ap, ◌∙◌, arith}
+use Rattle.std.proofs.Common.{◌≡◌, ◌≢◌, ℕ, ◌+◌, ◌-◌, ◌%◌, ◌^◌, ◌≤◌, ◌<◌, ◌||◌, ◌&&◌, Bool, true, false, cond, length, get_or, set, subst, Option, Some, None, inl, inr, refl, sym, ap, ◌∙◌, arith}
 use Rattle.std.specs.Prelude.{ℤ, pos, IsSome, nat_eq, nat_lt, nat_le}
 use Rattle.std.specs.FinMap.{get, insert}
-use Rattle.std.proofs.lemmas.Bool.{cases_lt, cases_eq, eq-eqb, lt-ltb, le-ltb, le-leb, lt-leb, or_parts}
+use Rattle.std.proofs.lemmas.Bool.{cases_lt, eq-eqb, lt-ltb, le-ltb, le-leb, lt-leb, or_parts}
 use Rattle.std.proofs.lemmas.Bool.Decides.{eqb_tells}
 use Rattle.std.proofs.lemmas.List.{length-append, set-get_or}
 use Rattle.std.proofs.lemmas.List.FromFn.{length-map-range_with_len}
@@ -11,27 +11,25 @@ use Rattle.xk_base.specs.Image.{Image}
 use Rattle.xk_base.specs.Bytes.{image_bytes, image_byte}
 use Rattle.hart_core.specs.declared.hart.Hart.{Hart}
 use Rattle.pipe_core.specs.Pipe.{Pipe, with_more}
-use Rattle.file_table.specs.declared.open_file.OpenFile.{OpenFile}
 use Rattle.proc_table.specs.Channels.{same_channel}
 use Rattle.proc_table.specs.Slots.{each_changed}
 use Rattle.proc_table.specs.declared.channel.Channel.{Channel}
 use Rattle.proc_table.specs.declared.channel.Channel.TheVariants as on
 use Rattle.proc_table.specs.declared.process.Call.{Call}
-use Rattle.kcall_core.specs.Words.{c_int, minus_one, all_below}
+use Rattle.kcall_core.specs.Words.{all_below}
 use Rattle.kcall_core.specs.Buffers.{readable}
 use Rattle.kcall_core.specs.PipeEnds.{fit}
 use Rattle.kcall_core.specs.Processes.{Live, Alive}
 use Rattle.kcall_core.specs.State.{State, live, live_part}
 use Rattle.kcall_core.specs.View.{View, view_of, or_gone}
 use Rattle.kcall_core.specs.Own.{Own, Called, Blocked}
-use Rattle.kcall_core.specs.Step.{own}
 use Rattle.kcall_core.specs.Ready.{ready}
 use Rattle.kcall_core.specs.Calls.{row_of, write, done, waits, refused}
 use Rattle.kcall_core.specs.Quiet.{target_of_open, end_of}
-use Rattle.kcall_core.specs.Updates.{changed_state, with_answer}
+use Rattle.kcall_core.specs.Updates.{changed_state}
 use Rattle.kcall_core.specs.Updates as update
 use Rattle.kcall_core.specs.Conditions.{has_bytes, has_room, write_waits_for, row_waits_for, target_at, waits_for}
-use Rattle.kcall_core.specs.RowLaws.{IsLive, After, now_moved, written}
+use Rattle.kcall_core.specs.RowLaws.{After, now_moved, written}
 use Rattle.kcall_core.specs.Closings.{woken_by}
 use Rattle.kcall_core.specs.Holdings.{held_at, or_nothing, or_new, pipe_named, pipe_cost, HasMemory}
 use Rattle.kcall_core.specs.Memories.{each_of, pipes_of, PipeChanges}

@@ -16,7 +16,7 @@ use Rattle.proc_table.specs.declared.process.Process.{Process}
 use Rattle.kcall_core.specs.State.{named_file}
 use Rattle.kcall_core.specs.Words.{is_this, or_zero}
 use Rattle.kcall_core.specs.Processes as meaning
-use Rattle.kcall_core.specs.Processes.{Live, Alive, Zombie}
+use Rattle.kcall_core.specs.Processes.{Alive}
 use Rattle.kcall_core.specs.ByPid.{by_pid}
 use Rattle.kcall_core.specs.Updates.{set_live}
 use Rattle.kcall_core.specs.Holdings.{Held, or_nothing, held_at, HasMemory}

@@ -1,49 +1,20 @@
 -- Who waits for ticks is in the call sleep, and sleeps on the clock's channel.
-use Rattle.std.proofs.Common.{◌≡◌, ◌≢◌, ℕ, ◌+◌, ◌%◌, ◌||◌, ◌&&◌, not, Bool, true, false, cond, List, [], ◌∷◌, length, subst, Option, Some, None, inl, inr, ◌⊎◌, refl, sym, ap, ◌∙◌}
-use Rattle.std.specs.Prelude.{ℤ, pos, negsuc, IsSome, is_some, option_map, nat_eq, find}
-use Rattle.std.specs.List.{list_all}
-use Rattle.std.specs.FinMap.{get}
-use Rattle.std.specs.FinSet.{contains}
-use Rattle.std.proofs.lemmas.Bool.{and_parts, eqb-true}
-use Rattle.xk_base.specs.declared.limits.TheConstants.{NPROC}
-use Rattle.hart_core.specs.declared.hart.Hart.{Hart}
-use Rattle.file_table.specs.OpenFiles as files
+use Rattle.std.proofs.Common.{◌≡◌, ℕ, Bool, true, false, Option, Some, None, refl, sym, ap, ◌∙◌}
+use Rattle.std.specs.Prelude.{ℤ, pos, negsuc}
 use Rattle.file_table.specs.declared.open_file.Target.{Target}
 use Rattle.file_table.specs.declared.open_file.Target.TheVariants.{Console as Terminal, Program as File, Pipe as Pipe_end}
 use Rattle.proc_table.specs.Channels.{same_channel}
-use Rattle.proc_table.specs.Processes.{channel_of, woken}
-use Rattle.proc_table.specs.Slots.{Slots, place_at, place_is_live, descriptors_at, process_pid, pid_at, each_changed}
 use Rattle.proc_table.specs.declared.channel.Channel.{Channel}
 use Rattle.proc_table.specs.declared.channel.Channel.TheVariants as on
 use Rattle.proc_table.specs.declared.process.Call.{Call}
-use Rattle.proc_table.specs.declared.process.Process.{Process}
-use Rattle.kcall_core.specs.Words.{CLOCK_ROUND, c_int}
+use Rattle.kcall_core.specs.Words.{c_int}
 use Rattle.kcall_core.specs.Processes.{Live}
-use Rattle.kcall_core.specs.State.{State, live}
-use Rattle.kcall_core.specs.View.{View, view, view_of}
-use Rattle.kcall_core.specs.Ready.{ready}
-use Rattle.kcall_core.specs.Calls.{Row, Wait, Read, Write, Sleep, table, row_of}
-use Rattle.kcall_core.specs.Turns.{Sleeps}
-use Rattle.kcall_core.specs.Run.{Outcome, Ticked, Step_of, TickHappens}
-use Rattle.kcall_core.specs.Wakes.{WakesWhereDue, IsInCall, IsEnd}
-use Rattle.kcall_core.specs.WellFormed.{WellFormed}
-use Rattle.kcall_core.specs.Closings.{unless_woken, woken_by}
-use Rattle.kcall_core.specs.Conditions.{Condition, Nothing, Child_of, Bytes, Room, Time, Keys, Sending, is_open, read_waits_for, write_waits_for, sleep_waits_for, target_at, row_waits_for, call_waits_for, waits_for, IsTime}
-use Rattle.kcall_core.specs.Holdings.{held_at}
-use Rattle.kcall_core.specs.Memories.{each_of}
-use Rattle.kcall_core.specs.Kernel.{frame_count, state_of, IsSound, pid_now, live_of, regs_at}
-use Rattle.kcall_core.specs.Machine.{slots_of, sleepers_below, turns_of, world_of}
-use Rattle.kcall_core.specs.Whole.{IsWhole, AreCounted, namings, is_for}
-use Rattle.kcall_core.specs.declared.kernel.Kernel.{Kernel}
-use Rattle.kcall_core.proofs.States.{none-some}
-use Rattle.kcall_core.proofs.Observed.{live-held}
-use Rattle.kcall_core.proofs.Turned.{slots-same, sleeps-is, sleeps-from, awake-is, sleeper-lives, not-both, same-some}
-use Rattle.kcall_core.proofs.Wakes.{ready_is}
-use Rattle.kcall_core.proofs.Openings.{opens_tick}
-use Rattle.kcall_core.proofs.Woken.{woken-channel, place-each, live-woken, each-woken}
-use Rattle.kcall_core.proofs.StepSlots.{same-pid}
-use Rattle.kcall_core.proofs.Sleepers.{Sleeping, changed-stays, changed-slept, slept-before, wakes-due, on-channels, unready}
-use Rattle.kcall_core.proofs.WellLaws as well
+use Rattle.kcall_core.specs.State.{State}
+use Rattle.kcall_core.specs.View.{View, view_of}
+use Rattle.kcall_core.specs.Calls.{Row, Read, Write, Sleep, row_of}
+use Rattle.kcall_core.specs.Wakes.{IsInCall}
+use Rattle.kcall_core.specs.Conditions.{Condition, Time, read_waits_for, write_waits_for, sleep_waits_for, target_at, row_waits_for, call_waits_for, waits_for, IsTime}
+use Rattle.kcall_core.specs.Whole.{is_for}
 use Rattle.kcall_core.proofs.RowNumbers.{row-number}
 
 abbrev is_sleep : Row → Bool

@@ -45,9 +45,8 @@ use Rattle.kcall_core.proofs.Maps.{get_at, get_other, get_without}
 use Rattle.kcall_core.proofs.ByPid.{by_pid-remove}
 use Rattle.kcall_core.proofs.States.{none-some, entry-pid, slot-inside, running}
 use Rattle.kcall_core.proofs.Chosen.{noted}
-use Rattle.kcall_core.proofs.Observed.{entry-held}
 use Rattle.kcall_core.proofs.KeepsSlots.{is_listed, not_listed}
-use Rattle.kcall_core.proofs.Turned.{slot-from, sleeper-lives, live-is, same-some, not-both}
+use Rattle.kcall_core.proofs.Turned.{sleeper-lives, live-is, same-some, not-both}
 use Rattle.kcall_core.proofs.OnePlace.{ItsPlace, changed-place, place-counted, place-slots, in-call-lives, in-call-channel}
 use Rattle.kcall_core.proofs.WhoRuns.{place-is, place-lives}
 use Rattle.kcall_core.proofs.StepSlots.{SlotsAfter, none-born, has-entry}

@@ -11,7 +11,7 @@ use Rattle.kcall_core.specs.View.{view_of}
 use Rattle.kcall_core.specs.Own.{Own, Blocked}
 use Rattle.kcall_core.specs.Calls.{wait, waits, row_of}
 use Rattle.kcall_core.specs.Ready.{ready}
-use Rattle.kcall_core.specs.Updates.{remove_zombie, told_image, waited, waited_state, own_state, changed_state, set_live, with_answer}
+use Rattle.kcall_core.specs.Updates.{changed_state}
 use Rattle.kcall_core.specs.Updates as update
 use Rattle.kcall_core.specs.RowLaws.{After}
 use Rattle.kcall_core.specs.Conditions.{row_waits_for, waits_for}

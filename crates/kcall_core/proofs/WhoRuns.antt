@@ -1,5 +1,5 @@
 -- The process that runs: its place in the table, and what it is by the state.
-use Rattle.std.proofs.Common.{◌≡◌, ℕ, Option, Some, None, sym, ap, ◌∙◌}
+use Rattle.std.proofs.Common.{◌≡◌, Some, None, sym, ap, ◌∙◌}
 use Rattle.hart_core.specs.declared.hart.Hart.{Hart}
 use Rattle.proc_table.specs.Processes.{status_of}
 use Rattle.proc_table.specs.Slots.{place_at}
