@@ -168,9 +168,10 @@ module _ {k : Kernel} {h : Hart} {k' : Kernel} {h' : Hart} {child : ℕ} (whole 
       by q (Some j) e some = kept-slot q j e ∙ sym e
 
       born : ((slot : ℕ) × (get (slots_of k'.table) s.next_pid ≡ Some slot) × IsLowestFree (turns_of k None) slot) × ¬ (contains (sleepers_below k'.table NPROC) s.next_pid ≡ true)
-      born =
-          ((child, slot-is k'.table x.sound.table child (newborn k.table.next (Some p)) x.newborn, x.lowest),
-          λ sleeps. not-both sleeps (awake-is k'.table x.sound.table child (newborn k.table.next (Some p)) x.newborn refl))
+      born = (
+        (child, slot-is k'.table x.sound.table child (newborn k.table.next (Some p)) x.newborn, x.lowest),
+        λ sleeps. not-both sleeps (awake-is k'.table x.sound.table child (newborn k.table.next (Some p)) x.newborn refl),
+      )
 
   -- and it answers the child's pid
   pub fork-answer : (fork c v).answer ≡ Called c.number (pos s.next_pid)

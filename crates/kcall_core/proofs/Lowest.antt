@@ -41,9 +41,9 @@ lowest-shown {k} {h} {slot} whole runs is inside =
     let ds = descriptors_at k.table slot in
     lowest_free_is (frame_count k) (state_of k h) whole.well (pid_now k) (live_now k h) (live-is k h whole.sound runs)
     ∙ least_congr NOFILE (λ d. is_none (get (live_now k h).descriptors d)) (λ d. is_none (get_or ds d None)) (λ d below. ap is_none (
-      named-seen (descriptors_at k.table (slot_now k)) d
-      ∙ ap (λ b. cond b (named_by (descriptors_at k.table (slot_now k)) d) None) (ltb-yes d 16 below)
-      ∙ ap (λ n. named_by (descriptors_at k.table n) d) (sym (now-slot slot whole.sound is))))
+    named-seen (descriptors_at k.table (slot_now k)) d
+    ∙ ap (λ b. cond b (named_by (descriptors_at k.table (slot_now k)) d) None) (ltb-yes d 16 below)
+    ∙ ap (λ n. named_by (descriptors_at k.table n) d) (sym (now-slot slot whole.sound is))))
     ∙ least-position ds 16 (whole.counted.lists slot inside)
 
 -- it is free

@@ -97,4 +97,3 @@ module _ (k : Kernel) (h : Hart) (slot : ℕ) (sound : IsSound k h) (is : k.curr
         tested true fits
         ∙ ap (reaped c (view_now k h)) (find-none (λ r. has_status (child_of p (get s.processes r))) (keys s.processes) (none-ended k h p sound.table none))
         ∙ ap (λ b. cond b (waits c 0 (view_now k h)) (refused c (view_now k h))) (some-child k h p sound.table has)
-

@@ -201,4 +201,3 @@ returns-clause-answer c built =
     let source = in-use-as there.0 c.kind-kind.result there.1 c.kind-kind.ensures in
     let number = sym asked ∙ fd.0 in
     c.write_to.ensures.answer (built c.in-Some-used_descriptor.fd c.in-Some-get.file c.kind-kind.result fd.1 number source.used source.opened)
-
