@@ -10,7 +10,6 @@ use Rattle.file_table.specs.OpenFiles.{IsTable, file_at}
 use Rattle.proc_table.specs.Processes.{given, woken, ended}
 use Rattle.proc_table.specs.Slots.{place_at, parent_at, each_changed, changed_at}
 use Rattle.proc_table.specs.declared.channel.Channel.TheVariants as on
-use Rattle.proc_table.specs.declared.process.Process.{Process}
 use Rattle.kcall_core.specs.Processes as meaning
 use Rattle.kcall_core.specs.Processes.{Live, Alive, parent_of}
 use Rattle.kcall_core.specs.Own.{Answer, gone_with}

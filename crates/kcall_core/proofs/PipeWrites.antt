@@ -20,7 +20,7 @@ use Rattle.kcall_core.specs.Words.{all_below}
 use Rattle.kcall_core.specs.Buffers.{readable}
 use Rattle.kcall_core.specs.PipeEnds.{fit}
 use Rattle.kcall_core.specs.Processes.{Live, Alive}
-use Rattle.kcall_core.specs.State.{State, live, live_part}
+use Rattle.kcall_core.specs.State.{State, live_part}
 use Rattle.kcall_core.specs.View.{View, view_of, or_gone}
 use Rattle.kcall_core.specs.Own.{Own, Called, Blocked}
 use Rattle.kcall_core.specs.Ready.{ready}

@@ -30,8 +30,8 @@ mod calls;
 mod children;
 mod closing;
 mod descriptors;
-mod file_calls;
 mod exec_call;
+mod file_calls;
 mod forking;
 mod going;
 mod growth;
@@ -42,10 +42,10 @@ mod program_list;
 mod registers;
 mod sharing;
 mod starting;
-mod ticks;
-mod waiting;
 #[cfg(test)]
 mod tests;
+mod ticks;
+mod waiting;
 
 use crate::kernel::registers::FIRST_ARGUMENT;
 use crate::memories::Memories;

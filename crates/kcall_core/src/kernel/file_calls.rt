@@ -48,7 +48,14 @@ fn file_rest(programs: &[Program], program: usize, offset: u64, n: usize) -> &[u
 
 impl Kernel {
     /// One step of a write of `n` bytes, all of which are in the buffer, to an open file that may be written.
-    fn write_to(&mut self, hart: &mut Hart, call: &Call, slot: usize, kind: &OpenFile, n: usize) -> CallEnd
+    fn write_to(
+        &mut self,
+        hart: &mut Hart,
+        call: &Call,
+        slot: usize,
+        kind: &OpenFile,
+        n: usize,
+    ) -> CallEnd
         requires whole { IsWhole self.old hart.old }
         requires running { IsRunning self.old }
         requires slot { self.old.current ≡ Some slot }
@@ -105,7 +112,17 @@ impl Kernel {
 
     /// A read of `n` bytes at most, for which the buffer has room, from a program's file: the answer is how many
     /// were left in it.
-    fn read_program(&mut self, hart: &mut Hart, call: &Call, slot: usize, file: FileId, kind: &OpenFile, program: usize, offset: u64, n: usize) -> CallEnd
+    fn read_program(
+        &mut self,
+        hart: &mut Hart,
+        call: &Call,
+        slot: usize,
+        file: FileId,
+        kind: &OpenFile,
+        program: usize,
+        offset: u64,
+        n: usize,
+    ) -> CallEnd
         requires whole { IsWhole self.old hart.old }
         requires running { IsRunning self.old }
         requires slot { self.old.current ≡ Some slot }
@@ -124,7 +141,15 @@ impl Kernel {
     }
 
     /// One step of a read of `n` bytes at most, for which the buffer has room, from an open file that may be read.
-    fn read_from(&mut self, hart: &mut Hart, call: &Call, slot: usize, file: FileId, kind: &OpenFile, n: usize) -> CallEnd
+    fn read_from(
+        &mut self,
+        hart: &mut Hart,
+        call: &Call,
+        slot: usize,
+        file: FileId,
+        kind: &OpenFile,
+        n: usize,
+    ) -> CallEnd
         requires whole { IsWhole self.old hart.old }
         requires running { IsRunning self.old }
         requires slot { self.old.current ≡ Some slot }
@@ -139,7 +164,9 @@ impl Kernel {
     {
         match kind.target {
             Target::Console => self.refuse(hart),
-            Target::Program { program, offset } => self.read_program(hart, call, slot, file, kind, program, offset, n),
+            Target::Program { program, offset } => self.read_program(
+                hart, call, slot, file, kind, program, offset, n,
+            ),
             Target::Pipe { frame, .. } => self.read_pipe(hart, call, slot, frame, n),
         }
     }

@@ -27,7 +27,14 @@ fn left_of(call: &Call, n: usize) -> usize
 impl Kernel {
     /// One step of a read from a pipe: the answer is how many bytes it took, which are all that are there
     /// but at most `n`. It waits while there is none and somebody may still write.
-    pub(crate) fn read_pipe(&mut self, hart: &mut Hart, call: &Call, slot: usize, frame: Frame, n: usize) -> CallEnd
+    pub(crate) fn read_pipe(
+        &mut self,
+        hart: &mut Hart,
+        call: &Call,
+        slot: usize,
+        frame: Frame,
+        n: usize,
+    ) -> CallEnd
         requires whole { IsWhole self.old hart.old }
         requires running { IsRunning self.old }
         requires slot { self.old.current ≡ Some slot }
@@ -60,7 +67,14 @@ impl Kernel {
 
     /// One step of a write to a pipe: as many bytes as fit go in. It is done when all `n` are in, it waits
     /// for room until then, and it fails where nobody can read any more.
-    pub(crate) fn write_pipe(&mut self, hart: &mut Hart, call: &Call, slot: usize, frame: Frame, n: usize) -> CallEnd
+    pub(crate) fn write_pipe(
+        &mut self,
+        hart: &mut Hart,
+        call: &Call,
+        slot: usize,
+        frame: Frame,
+        n: usize,
+    ) -> CallEnd
         requires whole { IsWhole self.old hart.old }
         requires running { IsRunning self.old }
         requires slot { self.old.current ≡ Some slot }
@@ -76,7 +90,9 @@ impl Kernel {
             return self.refuse(hart);
         }
         let left = left_of(call, n);
-        let count = self.memories.push_from(frame, slot, call.a1.wrapping_add(call.moved), left);
+        let count = self
+            .memories
+            .push_from(frame, slot, call.a1.wrapping_add(call.moved), left);
         self.wake_readers(frame, count);
         let moved = call.moved + count as u64;
         if moved >= n as u64 {

@@ -1,5 +1,4 @@
-use Rattle.std.proofs.Common.{◌≡◌, pos, sym, ap, ◌∙◌, subst, w32, true, false, refl, Some, None, arith}
-use Rattle.std.specs.Prelude.{nat_eq}
+use Rattle.std.proofs.Common.{pos, sym, ap, ◌∙◌, subst, w32, refl}
 use Rattle.std.proofs.lemmas.Int.{to_z-of_z}
 use Rattle.std.proofs.lemmas.Bool.{ne_eqb}
 use Rattle.file_table.specs.Named.{named_by}

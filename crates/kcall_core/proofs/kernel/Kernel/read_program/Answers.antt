@@ -1,4 +1,4 @@
-use Rattle.std.proofs.Common.{◌≡◌, pos, sym, ap, ◌∙◌, subst, w64, length, take, drop, map, refl, arith}
+use Rattle.std.proofs.Common.{sym, ap, ◌∙◌, w64, length, take, drop, map, arith}
 use Rattle.std.specs.Prelude.{slice_get}
 use Rattle.std.proofs.lemmas.Int.{to_z_pos}
 use Rattle.std.proofs.lemmas.List.{take_all}

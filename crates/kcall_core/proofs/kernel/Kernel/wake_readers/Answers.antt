@@ -1,7 +1,4 @@
-use Rattle.std.proofs.Common.{◌≡◌, Bool, true, false, ap, ◌∙◌, cond, ◌&&◌, refl, arith, inl, inr}
-use Rattle.std.specs.Prelude.{nat_lt}
-use Rattle.std.proofs.lemmas.Bool.{le-ltb}
-use Rattle.proc_table.specs.Channels.{same_channel}
+use Rattle.std.proofs.Common.{◌∙◌}
 use Rattle.proc_table.specs.declared.channel.Channel.TheVariants as on
 use Rattle.kcall_core.specs.Moves.{wakes_readers}
 use Rattle.kcall_core.proofs.Woken.{each-none, each-woken}

@@ -1,5 +1,5 @@
-use Rattle.std.proofs.Common.{◌≡◌, ◌+◌, pos, sym, ap, ◌∙◌, subst, w64, true, false, refl, arith}
-use Rattle.std.specs.Prelude.{nat_eq, nat_le}
+use Rattle.std.proofs.Common.{◌+◌, sym, ap, ◌∙◌, subst, w64, refl, arith}
+use Rattle.std.specs.Prelude.{nat_eq}
 use Rattle.std.proofs.lemmas.Int.{to_z_pos}
 use Rattle.file_table.specs.declared.open_file.End.TheVariants.{Reading}
 use Rattle.proc_table.specs.declared.process.Call.{Call}

@@ -1,4 +1,4 @@
-use Rattle.std.proofs.Common.{◌≡◌, sym, ap, ◌∙◌, subst}
+use Rattle.std.proofs.Common.{sym, ap, ◌∙◌, subst}
 use Rattle.kcall_core.specs.Own.{Own}
 use Rattle.kcall_core.specs.Makes.{Makes, answer_of}
 use Rattle.kcall_core.proofs.MovingRows.{writes-pipe, program-refused}
