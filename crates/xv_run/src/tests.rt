@@ -1,8 +1,12 @@
 //! What a run prints, and how it ends early.
 mod calls;
 mod files;
+mod kills;
+mod processes;
 mod scene;
+mod waits;
 
+use self::scene::file_of;
 use crate::failure::Failure;
 use crate::input::{built_in, program_of};
 use crate::play::play;
@@ -97,6 +101,48 @@ fn each_outcome_is_a_line(rt: HostRuntime) -> Result<(), Fail> {
         out.as_slice(),
         b"turn 1\nstep 1\nstep 1\nexit 1 0\nhalted\n".as_slice()
     );
+    Ok(())
+}
+
+// What a run of this source prints.
+fn played(rt: &HostRuntime, source: &str) -> Result<Vec<u8>, Fail> {
+    let mut out = Vec::new(rt.alloc());
+    let file = file_of(rt.alloc(), source)?;
+    match play(rt.alloc(), file, &mut out) {
+        Ok(()) => Ok(out),
+        Err(_failure) => Err(Fail::from("it can be played")),
+    }
+}
+
+#[test]
+fn the_timer_ticks_where_all_are_asleep(rt: HostRuntime) -> Result<(), Fail> {
+    // Sleeps for two ticks, and exits.
+    let out = played(&rt, "li a7, 13\nli a0, 2\necall\nli a7, 2\necall\n")?;
+    assert_eq!(rt;
+        out.as_slice(),
+        b"turn 1\nstep 1\nstep 1\nblock 1 13\nidle\ntick\nturn 1\nblock 1 13\nidle\ntick\n\
+          turn 1\ncall 1 13 0\nstep 1\nexit 1 0\nhalted\n"
+            .as_slice()
+    );
+    Ok(())
+}
+
+#[test]
+fn the_timer_ticks_after_a_thousand_runs(rt: HostRuntime) -> Result<(), Fail> {
+    // The parent loops until the child kills it. Then the child loops.
+    let source = "li a7, 1\necall\nparent: bne a0, x0, parent\n\
+                  li a7, 6\nli a0, 1\necall\nchild: j child\n";
+    let mut wanted = String::new(rt.alloc());
+    wanted.push_str("turn 1\nstep 1\ncall 1 1 2\n")?;
+    for _ in 0..997 {
+        wanted.push_str("step 1\n")?;
+    }
+    wanted.push_str("tick\nturn 2\nstep 2\nstep 2\nstep 2\ncall 2 6 0\n")?;
+    for _ in 0..995 {
+        wanted.push_str("step 2\n")?;
+    }
+    wanted.push_str("tick\nturn 1\nexit 1 -1\nhalted\n")?;
+    assert!(rt; played(&rt, source)?.as_slice() == wanted.as_str().as_bytes());
     Ok(())
 }
 

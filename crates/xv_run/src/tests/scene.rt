@@ -3,12 +3,21 @@ use std::alloc::{AllocError, Global};
 use std::process::Abort;
 use std::test::Fail;
 use uasm_core::assemble;
+use xk_base::limits::PID_MAX;
 use xk_base::{BootError, Cause, Pid, Program, Reg};
-use xv_machine::{Config, Event, Machine, Outcome};
+use xv_machine::{ChildState, Config, Event, Machine, Outcome};
 
 /// Process 1.
 pub(super) fn first() -> Pid {
     Pid::new(1)
+}
+
+// The process of this number; process 1 where no process can have it.
+fn process(number: u32) -> Pid {
+    if number == 0 || number > PID_MAX {
+        return first();
+    }
+    Pid::new(number)
 }
 
 pub(super) fn turn() -> Outcome {
@@ -89,8 +98,12 @@ pub(super) fn two_programs(
     Ok(programs)
 }
 
-/// A machine, which tests ask about process 1. No method has a contract: what a machine promises stays
-/// out of the proofs of the tests.
+/// A part of a story: so many times these outcomes, as [`Scene::meet_all`] has them, and then so many
+/// frames are free.
+pub(super) type Part = (usize, &'static str, u32);
+
+/// A machine, which tests ask about process 1, or about another by its pid. No method has a contract:
+/// what a machine promises stays out of the proofs of the tests.
 #[derive(Drop)]
 pub(super) struct Scene {
     machine: Machine,
@@ -136,6 +149,48 @@ impl Scene {
         self.machine.event(Event::Run)
     }
 
+    /// What comes of a Tick.
+    pub(super) fn tick(&mut self) -> Outcome {
+        self.machine.event(Event::Tick)
+    }
+
+    // Sends a Tick where the outcome `tick` is wanted, and else a Run, and compares what comes of it.
+    fn meet<R: Abort + AllocGlobal>(&mut self, rt: &R, wanted: &str) -> Result<(), AllocError> {
+        let outcome = match wanted {
+            "tick" => self.tick(),
+            _ => self.event(),
+        };
+        assert_eq!(rt; format!(in rt.alloc(); "{outcome}")?.as_str(), wanted);
+        Ok(())
+    }
+
+    /// Compares outcomes, which are lines of a trace with a comma and a space between them.
+    pub(super) fn meet_all<R: Abort + AllocGlobal>(
+        &mut self,
+        rt: &R,
+        wanted: &str,
+    ) -> Result<(), AllocError> {
+        for line in wanted.split(", ") {
+            self.meet(rt, line)?;
+        }
+        Ok(())
+    }
+
+    /// Compares each outcome of a story, and the free frames after each part.
+    pub(super) fn tell<R: Abort + AllocGlobal>(
+        &mut self,
+        rt: &R,
+        story: &[Part],
+    ) -> Result<(), AllocError> {
+        for (times, outcomes, free) in story {
+            for _ in 0..*times {
+                self.meet_all(rt, outcomes)?;
+            }
+            assert_eq!(rt; self.free_frames(), *free, "after {outcomes}");
+        }
+        Ok(())
+    }
+
     /// Sends Run once for each outcome that is wanted.
     pub(super) fn run(&mut self, rt: &impl Abort, wanted: &[Outcome]) {
         for (i, outcome) in wanted.iter().enumerate() {
@@ -174,8 +229,16 @@ impl Scene {
         self.machine.halted()
     }
 
+    pub(super) fn child_state(&self, pid: u32, child: u32) -> Option<ChildState> {
+        self.machine.child_state(process(pid), process(child))
+    }
+
     pub(super) fn peek(&self, address: u64) -> Option<u8> {
-        self.machine.peek(first(), address)
+        self.peek_of(1, address)
+    }
+
+    pub(super) fn peek_of(&self, pid: u32, address: u64) -> Option<u8> {
+        self.machine.peek(process(pid), address)
     }
 
     /// Compares the bytes from an address on.
@@ -191,7 +254,11 @@ impl Scene {
     }
 
     pub(super) fn register(&self, reg: Reg) -> Option<u64> {
-        Some(self.machine.registers(first())?.read(reg))
+        self.register_of(1, reg)
+    }
+
+    pub(super) fn register_of(&self, pid: u32, reg: Reg) -> Option<u64> {
+        Some(self.machine.registers(process(pid))?.read(reg))
     }
 
     pub(super) fn sp(&self) -> Option<u64> {
