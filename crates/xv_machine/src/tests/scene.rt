@@ -152,6 +152,11 @@ impl Scene {
         self.machine.event(Event::Run)
     }
 
+    /// What comes of a Tick.
+    pub(super) fn tick(&mut self) -> Outcome {
+        self.machine.event(Event::Tick)
+    }
+
     /// Sends Run once for each outcome that is wanted.
     pub(super) fn run(&mut self, rt: &impl Abort, wanted: &[Outcome]) {
         for (i, outcome) in wanted.iter().enumerate() {
@@ -165,6 +170,29 @@ impl Scene {
             self.event();
         }
         self.event()
+    }
+
+    /// Lets the machine run to the next outcome that is no turn and no done instruction.
+    pub(super) fn next_outcome(&mut self) -> Outcome {
+        for _ in 0..1_000 {
+            let outcome = self.event();
+            if !matches!(outcome, Outcome::Turn { .. } | Outcome::Stepped { .. }) {
+                return outcome;
+            }
+        }
+        Outcome::Idle
+    }
+
+    /// Compares the next outcomes but for turns and done instructions: each is a call, of this pid and of
+    /// this number, which answers this.
+    pub(super) fn calls(&mut self, rt: &impl Abort, wanted: &[(u32, i32, i64)]) {
+        for call in wanted {
+            let found = match self.next_outcome() {
+                Outcome::Called { pid, number, value } => Some((pid.number(), number, value)),
+                _ => None,
+            };
+            assert_eq!(rt; found, Some(*call));
+        }
     }
 
     pub(super) fn free_frames(&self) -> u32 {
