@@ -13,8 +13,7 @@ TOP = pathlib.Path(__file__).resolve().parent.parent
 
 
 class Edit:
-    """An edit: its pairs of texts, the functions that it turns, and all places that it takes, which are those and its lines."""
-
+    """An edit: its pairs of texts, the functions that it turns, and the places that it takes, which are those and its lines."""
     def __init__(self, crate, path, sources):
         self.name, self.pairs, said = f"{crate}/{path.name}", [], {}
         lines = re.findall(r"^(file|old|new|turns): ?(.*)", path.read_text(encoding="utf-8"), re.M)
@@ -50,11 +49,11 @@ def function_at(crate, file, text, at):
     found = header.match(lines[top])
     if not found or found[1] + "}" in lines[top:at]:
         raise ValueError(f"line {at + 1} of {file} is in no function: a line 'turns:' must name one")
-    path = [crate, *(it for it in file.removesuffix(".rt").split("/")[1:] if it not in ("lib", "main"))]
-    if found[1]:
+    if found[1]:  # the type's module may be another one than the file's
         impl = re.match(r"impl(?:<.*?>)? (?:(.*) for )?(\w+)", next(it for it in lines[top::-1] if it.startswith("impl")))
-        path.append(impl[2] + "".join(re.findall(r"\w+", impl[1] or "")))
-    return "::".join([*path, found[2]])
+        return "::".join([crate, impl[2] + "".join(re.findall(r"\w+", impl[1] or "")), found[2]])
+    modules = [it for it in file.removesuffix(".rt").split("/")[1:] if it not in ("lib", "main")]
+    return "::".join([crate, *modules, found[2]])
 
 
 def copy(crate, room):
@@ -82,19 +81,20 @@ def check(folder, texts):
 def open_goals(crate, function, sources, said):
     """What the check says of a function, and the goals that are open in its own proof, but for conditions of its calls."""
     rest = function.removeprefix(f"{crate}::")
-    verdict = re.search(f"^fn {re.escape(function)}: (.*)", said, re.M)
-    if not verdict or verdict[1] in ("no holes", "proved"):
+    module = "(?:[a-z_0-9]+::)*" if rest[0].isupper() else ""
+    verdict = re.search(f"^fn {crate}::({module}{re.escape(rest)}): (.*)", said, re.M)
+    if not verdict or verdict[2] in ("no holes", "proved"):
         return "STILL PROVED" if verdict else "NOT READ", set()
-    proofs = re.escape(f"Rattle.{crate}.proofs.{rest.replace('::', '.')}.")
-    goals = set(re.findall(f"`{proofs}\\w+\\.([^`]*)`", verdict[1]))
-    goals.update(re.findall(r"`([^`\s]+)`", verdict[1].partition("did not prove ")[2].partition(";")[0]))
+    proofs = re.escape(f"Rattle.{crate}.proofs.{verdict[1].replace('::', '.')}.")
+    goals = set(re.findall(f"`{proofs}\\w+\\.([^`]*)`", verdict[2]))
+    goals.update(re.findall(r"`([^`\s]+)`", verdict[2].partition("did not prove ")[2].partition(";")[0]))
     for file, line, goal in re.findall(r"^note: (src/\S+?):(\d+):\S+ it is not proved .*?\(`(\S*)`", said, re.M):
         if function_at(crate, file, sources[file], int(line) - 1) == function:
             goals.add(goal)
     # a condition of a call, and an answer that names what the edit took away, say nothing of the contract
-    folder = re.escape(f"./proofs/{rest.replace('::', '/')}/")
+    folder = re.escape(f"./proofs/{verdict[1].replace('::', '/')}/")
     named = re.findall(f"^{folder}\\w+\\.antt:\\S+ error: `([^`]*)`: .*(?:has no field|is not in scope|has no `)", said, re.M)
-    return f"REFUSED FOR ITS FORM ALONE ({verdict[1][:200]})", {it for it in goals if "-requires" not in it} - set(named)
+    return f"REFUSED FOR ITS FORM ALONE ({verdict[2][:200]})", {it for it in goals if "-requires" not in it} - set(named)
 
 
 def try_all(crate, edits, folder, sources):
@@ -128,8 +128,7 @@ def try_all(crate, edits, folder, sources):
 def main(words):
     names, count, bad = [it for it in words if it != "--must-fail"], 0, 0
     for home in sorted((TOP / "crates").iterdir()):
-        crate = home.name
-        folder = home / "must-fail" if "--must-fail" in words else TOP / "wrong-bodies" / crate
+        crate, folder = home.name, home / "must-fail" if "--must-fail" in words else TOP / "wrong-bodies" / home.name
         paths = [it for it in sorted(folder.glob("*.edit")) if not names or crate in names or f"{crate}/{it.name}" in names]
         sources = {str(it.relative_to(home)): it.read_text(encoding="utf-8") for it in home.glob("src/**/*.rt")}
         edits, count = [], count + len(paths)
