@@ -30,22 +30,22 @@ mod calls;
 mod children;
 mod closing;
 mod descriptors;
-mod exec_call;
+mod exec;
+mod exit;
 mod file_calls;
-mod forking;
-mod going;
-mod growth;
-mod killing;
+mod fork;
+mod kill;
 mod observers;
 mod piping;
 mod program_list;
 mod registers;
+mod sbrk;
 mod sharing;
 mod starting;
 #[cfg(test)]
 mod tests;
 mod ticks;
-mod waiting;
+mod wait;
 
 use crate::kernel::registers::FIRST_ARGUMENT;
 use crate::memories::Memories;

@@ -15,7 +15,7 @@ ghost use Rattle.kcall_core.specs.Machine.{world_of};
 ghost use Rattle.kcall_core.specs.Whole.{IsWhole};
 
 use crate::kernel::Kernel;
-use crate::kernel::exec_call::program_named;
+use crate::kernel::exec::program_named;
 use crate::kernel::registers::{FIRST_ARGUMENT, SECOND_ARGUMENT, STACK_POINTER};
 use crate::memories::Memories;
 use exec_core::{ArgList, Entry, plan};

@@ -2,7 +2,7 @@ use Rattle.std.proofs.Common.{rules, ◌≡◌, ◌≢◌, ℕ, ◌-◌, ◌<◌
 use Rattle.std.specs.Prelude.{slice_index}
 use Rattle.std.proofs.lemmas.List.{length-drop, take_all}
 use Rattle.kcall_core.proofs.Asking.{slashes-gone, slashes-only}
-use Rattle.kcall_core.proofs.kernel.exec_call.without_slashes.Goals as goal
+use Rattle.kcall_core.proofs.kernel.exec.without_slashes.Goals as goal
 
 pub returns-in_default : goal.returns-in_default
 returns-in_default c =

@@ -8,7 +8,7 @@ use Rattle.kcall_core.specs.Memories.{each_of}
 use Rattle.kcall_core.proofs.Births.{untraded}
 use Rattle.kcall_core.proofs.Changes.{same-if}
 use Rattle.kcall_core.proofs.Asking.{Asks, asks-given, asks-of, loaded-fits}
-use Rattle.kcall_core.proofs.kernel.exec_call.replace_as_asked.Goals as goal
+use Rattle.kcall_core.proofs.kernel.exec.replace_as_asked.Goals as goal
 
 pub returns-in_default-fetch_args-clause-refused : goal.returns-in_default-fetch_args-clause-refused
 returns-in_default-fetch_args-clause-refused c = (
