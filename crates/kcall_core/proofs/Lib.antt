@@ -77,6 +77,8 @@ mod RowsOfProcesses
 mod RowsOfFiles
 mod RowsOfEvents
 mod RowsOfBoot
+mod RowsOfSteps
+mod RowsOfBytes
 mod WaitsOn
 pub mod Descriptors
 pub mod WellSteps

@@ -14,12 +14,13 @@ use Rattle.console_core.specs.Keys.{line}
 use Rattle.console_core.specs.Reads.{pulled}
 use Rattle.file_table.specs.declared.open_file.End.TheVariants.{Reading, Writing}
 use Rattle.proc_table.specs.declared.process.Call.{Call}
-use Rattle.kcall_core.proofs.WorkedViews.{call, minus, in_call, ends_of, a0_after, is_marked, pids_of, free_of, moved_of, at_place, writers_of, image_of, console_of}
+use Rattle.kcall_core.proofs.WorkedViews.{pc_of, reg_of, call, minus, in_call, ends_of, a0_after, is_marked, pids_of, free_of, moved_of, at_place, writers_of, image_of, console_of}
+use Rattle.kcall_core.specs.Words.{word}
 use Rattle.kcall_core.specs.Buffers.{readable, writable, text_at, texts_at, no_slashes, grown, shrunk}
 use Rattle.kcall_core.specs.Processes.{Running, Status}
 use Rattle.kcall_core.specs.View.{View, Table, Descriptor, Shown_terminal, Shown_pipe, Shown_file, named}
 use Rattle.kcall_core.specs.Own.{Own, Called, Blocked, Exited, Stepped}
-use Rattle.kcall_core.specs.Calls.{row_of, perform_row, perform, fork, forked, cannot_fork, unless, moving, read_from, write_to, piped_from, open_path, done, reaped, least_zombie, running, exec_loaded, exec_program, exec_path}
+use Rattle.kcall_core.specs.Calls.{row_of, perform_row, perform, fork, forked, cannot_fork, unless, moving, read_from, write_to, piped_from, done, reaped, least_zombie, running, exec_loaded, exec_program, exec_path}
 use Rattle.kcall_core.specs.Step.{own}
 use Rattle.kcall_core.specs.Ready.{ready}
 use Rattle.kcall_core.specs.Tables.{lowest_free}
@@ -31,6 +32,10 @@ module _ (image : Image) where
   getpid : (own (in_call image (call 11 0 0 0))).answer ≡ Called (pos 11) (pos 1)
   unfolding own perform perform_row row_of in_call
   getpid = refl
+
+  getpid_7 : (own (record (in_call image (call 11 0 0 0)) { pid = 7 })).answer ≡ Called (pos 11) (pos 7)
+  unfolding own perform perform_row row_of in_call
+  getpid_7 = refl
 
   exit_7 : (own (in_call image (call 2 7 0 0))).answer ≡ Exited (pos 7)
   unfolding own perform perform_row row_of in_call
@@ -65,14 +70,10 @@ module _ (image : Image) where
   unfolding own perform perform_row row_of in_call
   sleep_2 = refl
 
-  -- two ticks later, also where the clock went round
+  -- two ticks later
   slept_2 : (own (record (in_call image (call 13 2 0 0)) { clock = 2 })).answer ≡ Called (pos 13) (pos 0)
   unfolding own perform perform_row row_of in_call
   slept_2 = refl
-
-  slept_round : (own (record (in_call image (record (call 13 2 0 0) { clock = 2 ^ 32 - 1 })) { clock = 1 })).answer ≡ Called (pos 13) (pos 0)
-  unfolding own perform perform_row row_of in_call
-  slept_round = refl
 
   ready_after : ready (record (in_call image (call 13 2 0 0)) { clock = 2 }) ≡ true
   unfolding ready row_of in_call
@@ -86,10 +87,6 @@ module _ (image : Image) where
   sbrk_from_above : (own (record (in_call image (call 12 (minus 1) 0 0)) { image = record image { size = 2 ^ 38 } })).answer ≡ Called (pos 12) (negsuc 0)
   unfolding own perform perform_row row_of in_call
   sbrk_from_above = refl
-
-  sleep_below_0 : (own (in_call image (call 13 (minus 5) 0 0))).answer ≡ Called (pos 13) (pos 0)
-  unfolding own perform perform_row row_of in_call
-  sleep_below_0 = refl
 
   uptime_2 : (own (record (in_call image (call 14 0 0 0)) { clock = 2 })).answer ≡ Called (pos 14) (pos 2)
   unfolding own perform perform_row row_of in_call
@@ -142,6 +139,11 @@ module _ (image : Image) where
   unfolding own perform perform_row row_of in_call family pids_of
   slot_is_free = refl
 
+  -- nothing is written where the address is 0
+  wait_writes_nothing : image_of (own (family 0)).next ≡ image
+  unfolding own perform perform_row row_of in_call family image_of
+  wait_writes_nothing = refl
+
   wait_alone : (own (in_call image (call 3 0 0 0))).answer ≡ Called (pos 3) (negsuc 0)
   unfolding own perform perform_row row_of in_call
   wait_alone = refl
@@ -171,19 +173,6 @@ module _ (image : Image) where
         ap (λ (b : Bool). free_of (unless b (call 1 0 0 0) (record (in_call image (call 1 0 0 0)) { free = 13 }) (λ _. forked (call 1 0 0 0) (record (in_call image (call 1 0 0 0)) { free = 13 }))).next) (ap (λ (n : ℕ). nat_lt 13 (n + 1)) priced)
         ∙ ap (λ (n : ℕ). 13 - (n + 1)) priced
 
-    fork_6 : (own (record (in_call image (call 1 0 0 0)) { free = 6 })).answer ≡ Called (pos 1) (negsuc 0)
-    unfolding own perform perform_row row_of in_call
-    fork_6 = fork_by (record (in_call image (call 1 0 0 0)) { free = 6 }) true (ap (λ (n : ℕ). nat_lt 6 (n + 1)) priced)
-
-  -- 64 pids in use; pids used up
-  fork_full : (own (record (in_call image (call 1 0 0 0)) { free = 500; pids = replicate 64 1 })).answer ≡ Called (pos 1) (negsuc 0)
-  unfolding own perform perform_row row_of in_call
-  fork_full = refl
-
-  fork_no_pid : (own (record (in_call image (call 1 0 0 0)) { free = 500; next_pid = 2 ^ 31 })).answer ≡ Called (pos 1) (negsuc 0)
-  unfolding own perform perform_row row_of in_call
-  fork_no_pid = refl
-
   -- ---- pipes
 
   writer : View
@@ -205,18 +194,11 @@ module _ (image : Image) where
     unfolding own perform perform_row row_of in_call writer
     broken = ap (λ (b : Bool). (moving (call 16 1 0 513) (record writer { descriptors = ends_of (record { bytes = []; readers = 0; writers = 1 }) }) b (pos 513) (λ n. write_to (call 16 1 0 513) (record writer { descriptors = ends_of (record { bytes = []; readers = 0; writers = 1 }) }) n (Shown_pipe 0 Writing (record { bytes = []; readers = 0; writers = 1 })))).answer) there
 
-  -- n below 0; n 0 is done at once, whatever the buffer; a read end isn't written
-  write_minus_1 : (own (record (in_call image (call 16 1 0 (minus 1))) { descriptors = ends_of new_pipe })).answer ≡ Called (pos 16) (negsuc 0)
-  unfolding own perform perform_row row_of in_call
-  write_minus_1 = refl
+  -- n 0 is done at once, whatever the buffer
 
   write_0 : (own (record (in_call image (call 16 1 (minus 1) 0)) { descriptors = ends_of new_pipe })).answer ≡ Called (pos 16) (pos 0)
   unfolding own perform perform_row row_of in_call
   write_0 = refl
-
-  write_read_end : (own (record (in_call image (call 16 0 0 1)) { descriptors = ends_of new_pipe })).answer ≡ Called (pos 16) (negsuc 0)
-  unfolding own perform perform_row row_of in_call
-  write_read_end = refl
 
   -- ---- dup and close: counts, frames, and names
 
@@ -274,17 +256,9 @@ module _ (image : Image) where
   unfolding own perform perform_row row_of in_call count_below least_below named free_of
   close_other_frees = refl
 
-  -- a pipe for which 8 bytes aren't there; one for which no frame is free; one that is made
+  -- a pipe that is made
   making : ℕ → Bool → Own
   making free there = unless (not there || nat_eq free 0) (call 4 0 0 0) (record (in_call image (call 4 0 0 0)) { free = free }) (λ _. piped_from (call 4 0 0 0) (record (in_call image (call 4 0 0 0)) { free = free }) (lowest_free (λ d. None)))
-
-  pipe_nowhere : writable image 0 8 ≡ false → (own (in_call image (call 4 0 0 0))).answer ≡ Called (pos 4) (negsuc 0)
-  unfolding own perform perform_row row_of in_call making least_below
-  pipe_nowhere absent = ap (λ (b : Bool). (making 9 b).answer) absent
-
-  pipe_no_frame : writable image 0 8 ≡ true → (own (record (in_call image (call 4 0 0 0)) { free = 0 })).answer ≡ Called (pos 4) (negsuc 0)
-  unfolding own perform perform_row row_of in_call making least_below
-  pipe_no_frame there = ap (λ (b : Bool). (making 0 b).answer) there
 
   pipe_made : writable image 0 8 ≡ true → (own (in_call image (call 4 0 0 0))).answer ≡ Called (pos 4) (pos 0)
   unfolding own perform perform_row row_of in_call making least_below
@@ -293,24 +267,6 @@ module _ (image : Image) where
   pipe_takes_1 : writable image 0 8 ≡ true → free_of (own (in_call image (call 4 0 0 0))).next ≡ 8
   unfolding own perform perform_row row_of in_call making least_below free_of
   pipe_takes_1 there = ap (λ (b : Bool). free_of (making 9 b).next) there
-
-  -- ---- open
-
-  -- the console with mode 2: to read and to write; with 1: to write
-  opening : ℕ → Option (List ℕ) → Own
-  opening mode path = open_path (call 15 0 mode 0) (in_call image (call 15 0 mode 0)) path
-
-  opened_both : text_at MAXPATH image 0 ≡ Some (codes "console") → at_place (own (in_call image (call 15 0 2 0))).next 0 ≡ Some (record { file = 0; read = true; write = true; shown = Shown_terminal })
-  unfolding own perform perform_row row_of in_call opening no_slashes least_below named at_place
-  opened_both given = ap (λ (path : Option (List ℕ)). at_place (opening 2 path).next 0) given
-
-  opened_to_write : text_at MAXPATH image 0 ≡ Some (codes "/console") → at_place (own (in_call image (call 15 0 1 0))).next 0 ≡ Some (record { file = 0; read = false; write = true; shown = Shown_terminal })
-  unfolding own perform perform_row row_of in_call opening no_slashes least_below named at_place
-  opened_to_write given = ap (λ (path : Option (List ℕ)). at_place (opening 1 path).next 0) given
-
-  opened_not : text_at MAXPATH image 0 ≡ Some (codes "console") → (own (in_call image (call 15 0 3 0))).answer ≡ Called (pos 15) (negsuc 0)
-  unfolding own perform perform_row row_of in_call opening no_slashes least_below named
-  opened_not given = ap (λ (path : Option (List ℕ)). (opening 3 path).answer) given
 
   -- ---- reads and writes: which bytes come and go, and where
 
@@ -442,25 +398,8 @@ module _ (image : Image) where
   unfolding own perform perform_row row_of in_call family waiting_at
   wait_nowhere absent = ap (λ (b : Bool). (waiting_at b).answer) absent
 
-  -- ---- open of a program's file
-
   abbrev with_a : View → View
   with_a v = record v { programs = (record { name = codes "a"; bytes = codes "hello" }) ∷ [] }
-
-  opening_a : ℕ → Option (List ℕ) → Own
-  opening_a mode path = open_path (call 15 0 mode 0) (with_a (in_call image (call 15 0 mode 0))) path
-
-  opened_file : text_at MAXPATH image 0 ≡ Some (codes "//a") → at_place (own (with_a (in_call image (call 15 0 0 0)))).next 0 ≡ Some (record { file = 0; read = true; write = false; shown = Shown_file 0 0 })
-  unfolding own perform perform_row row_of in_call opening_a no_slashes least_below named at_place
-  opened_file given = ap (λ (path : Option (List ℕ)). at_place (opening_a 0 path).next 0) given
-
-  opened_file_to_write : text_at MAXPATH image 0 ≡ Some (codes "a") → (own (with_a (in_call image (call 15 0 1 0)))).answer ≡ Called (pos 15) (negsuc 0)
-  unfolding own perform perform_row row_of in_call opening_a no_slashes least_below named
-  opened_file_to_write given = ap (λ (path : Option (List ℕ)). (opening_a 1 path).answer) given
-
-  opened_unknown : text_at MAXPATH image 0 ≡ Some (codes "b") → (own (with_a (in_call image (call 15 0 0 0)))).answer ≡ Called (pos 15) (negsuc 0)
-  unfolding own perform perform_row row_of in_call opening_a no_slashes least_below named
-  opened_unknown given = ap (λ (path : Option (List ℕ)). (opening_a 0 path).answer) given
 
   -- ---- exec of `a`, with no text: what it makes of the file is given
 
@@ -499,6 +438,59 @@ module _ (image : Image) where
       unfolding in_call free_of
       exec_frees old = exec_by (λ o. free_of o.next) ∙ ap (λ (n : ℕ). 9 + n - price l.image) old ∙ ap (λ (n : ℕ). 15 - n) costs
 
+      -- registers: the entry, the stack, and where the texts' addresses lie
+      exec_pc : pc_of (own executing).next ≡ l.pc
+      unfolding in_call pc_of
+      exec_pc = exec_by (λ o. pc_of o.next)
+
+      exec_sp : reg_of 2 (own executing).next ≡ l.sp
+      unfolding in_call reg_of
+      exec_sp = exec_by (λ o. reg_of 2 o.next)
+
+      exec_a1 : reg_of 11 (own executing).next ≡ l.sp
+      unfolding in_call reg_of
+      exec_a1 = exec_by (λ o. reg_of 11 o.next)
+
+      exec_a0 : reg_of 10 (own executing).next ≡ word (pos l.argc)
+      unfolding in_call reg_of
+      exec_a0 = exec_by (λ o. reg_of 10 o.next)
+
+    -- exactly as many frames as the new image takes are free
+    module _ (costs : price l.image ≡ 9) (is : loaded (codes "hello") [] ≡ Ok l) where
+      fits_by : {X : Type 0} (asked : Own → X) → asked (own executing) ≡ asked (done (call 7 0 64 0) (pos l.argc) (running l executing))
+      unfolding in_call
+      fits_by asked = exec_as asked (Ok l) is ∙ ap (λ (n : ℕ). asked (unless (nat_lt 9 n) (call 7 0 64 0) executing (λ _. done (call 7 0 64 0) (pos l.argc) (running l executing)))) costs
+
+      exec_fits : (own executing).answer ≡ Called (pos 7) (pos l.argc)
+      exec_fits = fits_by (λ o. o.answer)
+
+      exec_fits_frees : price image ≡ 6 → free_of (own executing).next ≡ 6
+      unfolding in_call free_of
+      exec_fits_frees old = fits_by (λ o. free_of o.next) ∙ ap (λ (n : ℕ). 9 + n - price l.image) old ∙ ap (λ (n : ℕ). 15 - n) costs
+
+  -- a path that isn't there, texts that aren't, a name that no program has, and slashes before one
+  exec_no_path : text_at MAXPATH image 0 ≡ None → (own executing).answer ≡ Called (pos 7) (negsuc 0)
+  unfolding own perform perform_row row_of in_call
+  exec_no_path given = ap (λ (o : Option (List ℕ)). (exec_path (call 7 0 64 0) executing o).answer) given
+
+  exec_no_texts : text_at MAXPATH image 0 ≡ Some (codes "a") → texts_at MAXARG ARG_BYTES image 64 ≡ None → (own executing).answer ≡ Called (pos 7) (negsuc 0)
+  unfolding own perform perform_row row_of in_call no_slashes
+  exec_no_texts path texts =
+      ap (λ (o : Option (List ℕ)). (exec_path (call 7 0 64 0) executing o).answer) path
+      ∙ ap (λ (o : Option (List (List ℕ))). (exec_program (call 7 0 64 0) executing o (Some (record { name = codes "a"; bytes = codes "hello" }))).answer) texts
+
+  exec_unknown : text_at MAXPATH image 0 ≡ Some (codes "c") → texts_at MAXARG ARG_BYTES image 64 ≡ Some [] → (own executing).answer ≡ Called (pos 7) (negsuc 0)
+  unfolding own perform perform_row row_of in_call no_slashes
+  exec_unknown path texts =
+      ap (λ (o : Option (List ℕ)). (exec_path (call 7 0 64 0) executing o).answer) path
+      ∙ ap (λ (o : Option (List (List ℕ))). (exec_program (call 7 0 64 0) executing o None).answer) texts
+
+  exec_slashes : text_at MAXPATH image 0 ≡ Some (codes "//a") → texts_at MAXARG ARG_BYTES image 64 ≡ Some [] → own executing ≡ exec_loaded (call 7 0 64 0) executing (loaded (codes "hello") [])
+  unfolding own perform perform_row row_of in_call no_slashes
+  exec_slashes path texts =
+      ap (λ (o : Option (List ℕ)). exec_path (call 7 0 64 0) executing o) path
+      ∙ ap (λ (o : Option (List (List ℕ))). exec_program (call 7 0 64 0) executing o (Some (record { name = codes "a"; bytes = codes "hello" }))) texts
+
   -- ---- sbrk from 3 pages: one more, with 9 free frames and with none; one fewer
 
   abbrev sizing : ℕ → ℕ → View
@@ -531,9 +523,9 @@ module _ (image : Image) where
   unfolding own perform perform_row row_of in_call image_of
   shrinks_to = refl
 
-  below_0 : (own (sizing (minus 12289) 9)).answer ≡ Called (pos 12) (negsuc 0)
-  unfolding own perform perform_row row_of in_call
-  below_0 = refl
+  shrinks_frees : price (record image { size = 12288 }) ≡ 7 → price (shrunk (record image { size = 12288 }) 8192) ≡ 6 → free_of (own (sizing (minus 4096) 9)).next ≡ 10
+  unfolding own perform perform_row row_of in_call free_of
+  shrinks_frees before after = ap (λ (n : ℕ). 9 + n - price (shrunk (record image { size = 12288 }) 8192)) before ∙ ap (λ (n : ℕ). 16 - n) after
 
 -- ---- the console: what keys leave and show
 

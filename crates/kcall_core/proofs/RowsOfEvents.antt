@@ -1,7 +1,7 @@
 -- Worked cases of the events: a tick, a key, a byte to be sent, on a machine that goes on and on one that is halted; slots and turns; rounds, and what a run shows.
 -- Processes, open files, pipes and slots are any.
-use Rattle.std.proofs.Common.{◌≡◌, ◌≢◌, ℕ, ◌^◌, ◌-◌, ◌<◌, ◌≤◌, true, false, ◌||◌, Bool, List, [], ◌∷◌, ◌++◌, refl, ap, sym, ◌∙◌, subst, arith, length, replicate, map, take}
-use Rattle.std.specs.Prelude.{Option, None, Some, pos, negsuc, is_some, drop, codes}
+use Rattle.std.proofs.Common.{inl, inr, ◌≡◌, ◌≢◌, ℕ, ◌^◌, ◌-◌, ◌<◌, ◌≤◌, true, false, ◌||◌, Bool, List, [], ◌∷◌, ◌++◌, refl, ap, sym, ◌∙◌, subst, arith, length, replicate, map, take}
+use Rattle.std.specs.Prelude.{IsSome, MatchOption, Contains, Option, None, Some, pos, negsuc, is_some, drop, codes}
 use Rattle.std.specs.Ordering.{nat_cmp}
 use Rattle.std.specs.FinMap.{FinMap}
 use Rattle.std.specs.FinSet.{FinSet, contains}
@@ -16,10 +16,14 @@ use Rattle.file_table.specs.declared.open_file.OpenFile.{OpenFile}
 use Rattle.proc_table.specs.Turns.{distance}
 use Rattle.kcall_core.specs.Processes.{Process}
 use Rattle.kcall_core.specs.State.{State}
-use Rattle.kcall_core.specs.Turns.{Turns, HasSlot, IsFreeSlot, IsLowestFree}
-use Rattle.kcall_core.specs.Own.{Stepped, Called, Blocked, Exited, Faulted}
-use Rattle.kcall_core.specs.Run.{World, Event, Run, Tick, Key, Send, Outcome, Step_of, Turn, Idle, Ticked, Typed, Sent, Halted, Happens, Planned, round, out, halted_by, stays_current}
-use Rattle.kcall_core.specs.Wakes.{IsRunnable, TakesNearest}
+use Rattle.kcall_core.specs.Turns.{Turns, Sleeps, HasSlot, IsFreeSlot, IsLowestFree}
+use Rattle.kcall_core.specs.Own.{Own, Stepped, Called, Blocked, Exited, Faulted}
+use Rattle.kcall_core.specs.Run.{TurnsAfter, World, Event, Run, Tick, Key, Send, Outcome, Step_of, Turn, Idle, Ticked, Typed, Sent, Halted, Happens, Planned, round, out, halted_by, stays_current}
+use Rattle.kcall_core.specs.Wakes.{IsRunnable, TakesNearest, WakesWhereDue}
+use Rattle.kcall_core.specs.Ready.{ready}
+use Rattle.kcall_core.specs.View.{View, view}
+use Rattle.proc_table.specs.declared.process.Call.{Call}
+use Rattle.kcall_core.proofs.WorkedViews.{call}
 
 -- ---- a world with these parts
 
@@ -197,9 +201,47 @@ module _ (t : Turns) (p q : ℕ) (first : HasSlot t p 0) (second : HasSlot t q 1
   lowest_is_only : (slot : ℕ) → IsLowestFree t slot → slot ≡ 2
   lowest_is_only slot (below, is, least) = let a : slot ≢ 0 = not_0 slot is in let b : slot ≢ 1 = not_1 slot is in let c : slot ≤ 2 = least 2 free in omega arith
 
+none_has : (slot : ℕ) → None ≡ Some slot → ⊥
+none_has slot e = cc
+
 -- with all 64 slots held there is none
 no_lowest : (t : Turns) → ((k : ℕ) → k < 64 → (p : ℕ) × HasSlot t p k) → (slot : ℕ) → IsLowestFree t slot → ⊥
 no_lowest t held slot (below, is, least) = let h = held slot below in is h.0 h.1
+
+-- a newborn takes it, and doesn't sleep
+module _ (before after : Turns) (p q r : ℕ) (o : Own) (c : View) (made : o.child ≡ Some c) (h : TurnsAfter before r o after) where
+  abbrev Born : Option View → Type 0
+  Born child = MatchOption child (Unit {0}) (λ c. ((slot : ℕ) × HasSlot after c.pid slot × IsLowestFree before slot) × ¬ Sleeps after c.pid)
+
+  newborn_slot : HasSlot before p 0 → HasSlot before q 1 → IsFreeSlot before 2 → HasSlot after c.pid 2
+  newborn_slot first second free =
+      let born : Born (Some c) = subst Born made h.newborn in let (slot, has, lowest) = born.0 in has ∙ ap Some (lowest_is_only before p q first second free slot lowest)
+
+  newborn_runs : Sleeps after c.pid → ⊥
+  newborn_runs = let born : Born (Some c) = subst Born made h.newborn in born.1
+
+-- who waits sleeps then, and nobody runs; who goes on runs; the turn isn't another's; slots stay, and the pid that was waited for has none
+module _ (before after : Turns) (r : ℕ) (o : Own) (h : TurnsAfter before r o after) where
+  blocked_sleeps : o.answer ≡ Blocked (pos 3) → Sleeps after r
+  blocked_sleeps is = h.blocked (pos 3, is)
+
+  blocked_stops : o.answer ≡ Blocked (pos 3) → after.current ≡ None
+  blocked_stops is = h.current ∙ ap (stays_current r) is
+
+  called_runs : o.answer ≡ Called (pos 3) (pos 2) → after.current ≡ Some r
+  called_runs is = h.current ∙ ap (stays_current r) is
+
+  same_last : after.last ≡ before.last
+  same_last = h.last
+
+  same_slot : (q : ℕ) → Contains o.left.pids q → HasSlot before q 5 → HasSlot after q 5
+  same_slot q there has = h.held q there (subst IsSome (sym has) refl) ∙ has
+
+  slot_given_up : (q : ℕ) → ¬ Contains o.left.pids q → (slot : ℕ) → ¬ HasSlot after q slot
+  slot_given_up q gone slot has = none_has slot (sym (h.given_up q gone) ∙ has)
+
+  nobody_else_sleeps : (q : ℕ) → q ≢ r → Sleeps after q → Sleeps before q
+  nobody_else_sleeps q apart sleeps = elim (h.awake q sleeps) [ inl was ↦ was | inr own ↦ absurd (apart own.0) ]
 
 -- ---- turns go upwards, and round from slot 63 to slot 0; who had the last turn comes last
 
@@ -212,6 +254,37 @@ past_the_last : (w : World) (p q : ℕ) → w.turns.last ≡ 62 → w.turns.halt
 past_the_last w p q last halted current p_may q_may p_has q_has takes =
     let near : distance w.turns.last 0 ≤ distance w.turns.last 63 = let is = (takes refl halted current).1 q refl in is.1 p 0 63 p_may q_has p_has in
     let numbers : 1 ≤ 0 = subst (λ (n : ℕ). distance n 0 ≤ distance n 63) last near in omega arith
+
+-- a process that may run has a turn: the machine isn't idle
+not_idle : (w : World) (p : ℕ) → w.turns.halted ≡ None → w.turns.current ≡ None → IsRunnable w p → TakesNearest w Run Idle → ⊥
+not_idle w p halted current may takes = let is = (takes refl halted current).0 in is.0 refl p may
+
+same_call : (a b : Call) → Some a ≡ Some b → a ≡ b
+same_call a b e = cc
+
+-- ---- who wakes
+
+module _ (w t : World) (o : Outcome) (due : WakesWhereDue w o t) (p : ℕ) (v : View) (asleep : Sleeps w.turns p) (sees : view t.state p ≡ Some v) where
+  -- who could go on; who counts ticks, at each tick
+  ready_wakes : ready v ≡ true → ¬ Sleeps t.turns p
+  ready_wakes is = (due p v asleep sees).1 (inl is)
+
+  counter_wakes : v.call ≡ Some (call 13 5 0 0) → o ≡ Ticked → ¬ Sleeps t.turns p
+  counter_wakes is tick = (due p v asleep sees).1 (inr (inl ((call 13 5 0 0, is, refl), tick)))
+
+  -- process 1 in wait, where any process ends
+  first_wakes : p ≡ 1 → v.call ≡ Some (call 3 0 0 0) → o ≡ Step_of 7 (Faulted LoadPageFault) → ¬ Sleeps t.turns p
+  first_wakes one is ends = (due p v asleep sees).1 (inr (inr (one, (call 3 0 0 0, is, refl), (7, Faulted LoadPageFault, ends, refl))))
+
+  -- nobody else: another process in wait, whose child still runs, sleeps on, whatever happens
+  other_sleeps : p ≡ 2 → ready v ≡ false → v.call ≡ Some (call 3 0 0 0) → (¬ Sleeps t.turns p) → ⊥
+  other_sleeps two unready is woken = elim ((due p v asleep sees).0 woken) [
+    | inl could ↦ let bad : false ≡ true = sym unready ∙ could in let contradiction : ⊥ = cc in contradiction
+    | inr rest ↦ elim rest [
+      | inl counts ↦ let (c, call_is, number) = counts.0 in let same : pos 3 ≡ pos 13 = ap (λ (c : Call). c.number) (same_call (call 3 0 0 0) c (sym is ∙ call_is)) ∙ number in let contradiction : ⊥ = cc in contradiction
+      | inr first ↦ let numbers : ◌≡◌ {A = ℕ} 2 1 = sym two ∙ first.0 in let contradiction : ⊥ = cc in contradiction
+    ]
+  ]
 
 -- ---- rounds
 

@@ -282,10 +282,6 @@ module _ (image : Image) where
     unfolding in_call opener no_slashes least_below named at_place
     console_0 = opened (codes "console") given 0
 
-    console_1 : at_place (own (opener 1 (used 0))).next 0 ≡ Some (record { file = 0; read = false; write = true; shown = Shown_terminal })
-    unfolding in_call opener no_slashes least_below named at_place
-    console_1 = opened (codes "console") given 1
-
     console_2 : at_place (own (opener 2 (used 0))).next 0 ≡ Some (record { file = 0; read = true; write = true; shown = Shown_terminal })
     unfolding in_call opener no_slashes least_below named at_place
     console_2 = opened (codes "console") given 2
@@ -305,6 +301,10 @@ module _ (image : Image) where
     console_16_used : (own (opener 0 (used 16))).answer ≡ Called (pos 15) (negsuc 0)
     unfolding in_call opener no_slashes least_below
     console_16_used = opened_answer (codes "console") given 0 (used 16)
+
+  console_1 : text_at MAXPATH image 0 ≡ Some (codes "/console") → at_place (own (opener 1 (used 0))).next 0 ≡ Some (record { file = 0; read = false; write = true; shown = Shown_terminal })
+  unfolding in_call opener no_slashes least_below named at_place
+  console_1 given = opened (codes "/console") given 1
 
   first_program : text_at MAXPATH image 0 ≡ Some (codes "a") → at_place (own (opener 0 (used 0))).next 0 ≡ Some (record { file = 0; read = true; write = false; shown = Shown_file 0 0 })
   unfolding in_call opener no_slashes least_below named at_place

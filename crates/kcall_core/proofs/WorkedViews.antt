@@ -97,3 +97,15 @@ pid_of (Some v) = v.pid
 unfoldable pub next_pid_of : Option View → ℕ
 next_pid_of None = 0
 next_pid_of (Some v) = v.next_pid
+
+unfoldable pub reg_of : ℕ → Option View → ℕ
+reg_of r None = 0
+reg_of r (Some v) = reg v.regs r
+
+unfoldable pub pc_of : Option View → ℕ
+pc_of None = 0
+pc_of (Some v) = v.regs.pc
+
+unfoldable pub call_of : Option View → Option Call
+call_of None = None
+call_of (Some v) = v.call
