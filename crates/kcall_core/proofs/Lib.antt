@@ -79,6 +79,7 @@ mod RowsOfEvents
 mod RowsOfBoot
 mod RowsOfSteps
 mod RowsOfBytes
+mod RowsOfMemory
 mod WaitsOn
 pub mod Descriptors
 pub mod WellSteps

@@ -1,11 +1,12 @@
 -- Worked cases of boot: the limits by their values, configurations and programs at them, and the first state of a machine.
-use Rattle.std.proofs.Common.{◌≡◌, ℕ, ◌^◌, ◌-◌, ◌+◌, true, false, Bool, cond, List, [], ◌∷◌, refl, ap, replicate, map}
+use Rattle.std.proofs.Common.{length, ◌≡◌, ℕ, ◌^◌, ◌-◌, ◌+◌, true, false, Bool, cond, List, [], ◌∷◌, refl, ap, replicate, map}
 use Rattle.std.specs.Prelude.{None, Some, Result, Ok, Err, nat_lt, codes}
 use Rattle.xk_base.specs.declared.limits.TheConstants.{MAXPATH, MAXARG, ARG_BYTES, NOFILE, OPEN_FILES, NPROC, PID_MAX, PIPE_BYTES, CONSOLE_BYTES, SEND_BYTES, SIZE_LIMIT, FRAMES_MIN, FRAMES_MAX, TRACE_MAX, PROGRAMS_MAX, NAME_MAX, PROGRAM_BYTES}
 use Rattle.xk_base.specs.declared.errors.ExecError.{ExecError}
 use Rattle.xk_base.specs.declared.errors.ExecError.TheVariants.{NoFrames}
 use Rattle.xk_base.specs.declared.errors.BootError.{BootError}
 use Rattle.xk_base.specs.declared.errors.BootError.TheVariants.{BadConfig, BadPrograms, NoInit, Init}
+use Rattle.std.specs.List.{range_with_len}
 use Rattle.xk_base.specs.Image.{price}
 use Rattle.xk_base.specs.Loaded.{Loaded, loaded}
 use Rattle.xk_base.specs.Words.{least_below}
@@ -59,6 +60,28 @@ named_twice = refl
 first_of_two : first_bad (empty_file (codes "a") ∷ empty_file [] ∷ empty_file (codes "console") ∷ []) ≡ Some 1
 unfolding first_bad is_bad_program least_below
 first_of_two = refl
+
+-- 64 programs with names of their own are good, and the 65th isn't
+abbrev so_many : ℕ → List ProgramFile
+so_many n = map (λ k. empty_file ((97 + k) ∷ [])) (range_with_len 0 n)
+
+programs_64 : first_bad (so_many 64) ≡ None
+unfolding first_bad is_bad_program least_below
+programs_64 = refl
+
+programs_65 : first_bad (so_many 65) ≡ Some 64
+unfolding first_bad is_bad_program least_below
+programs_65 = refl
+
+-- a file of 1,048,576 bytes is good, and one of a byte more isn't
+module _ (bytes : List ℕ) where
+  file_max : length bytes ≡ 1048576 → is_bad_program (record { name = codes "a"; bytes = bytes } ∷ []) 0 ≡ false
+  unfolding is_bad_program least_below
+  file_max long = ap (λ (n : ℕ). nat_lt PROGRAM_BYTES n) long
+
+  file_too_long : length bytes ≡ 1048577 → is_bad_program (record { name = codes "a"; bytes = bytes } ∷ []) 0 ≡ true
+  unfolding is_bad_program least_below
+  file_too_long long = ap (λ (n : ℕ). nat_lt PROGRAM_BYTES n) long
 
 -- the program of a name, and none
 second_found : program_named (codes "b") (empty_file (codes "a") ∷ empty_file (codes "b") ∷ []) ≡ Some (empty_file (codes "b"))

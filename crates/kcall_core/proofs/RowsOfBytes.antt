@@ -4,13 +4,14 @@ use Rattle.std.proofs.Common.{◌≡◌, ℕ, true, false, Bool, cond, List, [],
 use Rattle.std.specs.Prelude.{None, Some, pos, nat_eq, nat_lt, codes}
 use Rattle.xk_base.specs.Image.{Image}
 use Rattle.xk_base.specs.Bytes.{image_bytes, write_image}
+use Rattle.xk_base.specs.Words.{least_below, count_below}
 use Rattle.pipe_core.specs.Pipe.{Pipe}
 use Rattle.console_core.specs.Lists.{Console, empty_console}
 use Rattle.console_core.specs.Keys.{line}
 use Rattle.file_table.specs.declared.open_file.End.TheVariants.{Reading, Writing}
 use Rattle.proc_table.specs.declared.process.Call.{Call}
 use Rattle.kcall_core.specs.Buffers.{readable, writable}
-use Rattle.kcall_core.specs.View.{View, Table, Descriptor, Shown_terminal, Shown_pipe, Shown_file}
+use Rattle.kcall_core.specs.View.{named, View, Table, Descriptor, Shown_terminal, Shown_pipe, Shown_file}
 use Rattle.kcall_core.specs.Own.{Own, Called, Blocked}
 use Rattle.kcall_core.specs.Calls.{row_of, perform_row, perform, moving, read_from, write_to}
 use Rattle.kcall_core.specs.Step.{own}
@@ -125,6 +126,29 @@ module _ (image : Image) where
     pipe_full : (own (pipe_view (asked_for 16 1 2 0) (replicate 512 0))).answer ≡ Blocked (pos 16)
     unfolding own perform perform_row row_of in_call asked_for pipe_view writing_if
     pipe_full = ap (λ (b : Bool). (writing_if 2 0 (replicate 512 0) b).answer) there
+
+  -- ---- two pipes: descriptor 2 is on another one, which a read, a dup and a close leave as it is
+
+  abbrev other_end : Descriptor
+  other_end = record { file = 2; read = true; write = false; shown = Shown_pipe 2 Reading (pipe_of (codes "z")) }
+
+  two_pipes : Call → View
+  two_pipes c = record (in_call image c) { descriptors = λ d. cond (nat_eq d 2) (Some other_end) (ends_of (pipe_of (codes "xy")) d) }
+
+  reading_one : Bool → Own
+  reading_one there = moving (asked_for 5 0 1 0) (two_pipes (asked_for 5 0 1 0)) there (pos 1) (λ k. read_from (asked_for 5 0 1 0) (two_pipes (asked_for 5 0 1 0)) k 0 (Shown_pipe 0 Reading (pipe_of (codes "xy"))))
+
+  other_stays : writable image 8192 1 ≡ true → at_place (own (two_pipes (asked_for 5 0 1 0))).next 2 ≡ Some other_end
+  unfolding own perform perform_row row_of in_call asked_for two_pipes reading_one at_place
+  other_stays there = ap (λ (b : Bool). at_place (reading_one b).next 2) there
+
+  other_after_dup : at_place (own (two_pipes (call 10 1 0 0))).next 2 ≡ Some other_end
+  unfolding own perform perform_row row_of in_call two_pipes at_place least_below named
+  other_after_dup = refl
+
+  other_after_close : at_place (own (two_pipes (call 21 1 0 0))).next 2 ≡ Some other_end
+  unfolding own perform perform_row row_of in_call two_pipes at_place least_below named count_below
+  other_after_close = refl
 
   -- ---- the console
 

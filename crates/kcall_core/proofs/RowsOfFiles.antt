@@ -206,6 +206,17 @@ module _ (image : Image) where
   unfolding own perform perform_row row_of in_call with_table three answer_of
   write_file = refl
 
+  -- nor where a descriptor on it let writes through
+  file_to_write : View
+  file_to_write = with_table (λ d. Some (record { file = 0; read = true; write = true; shown = Shown_file 0 0 })) (call 16 2 8192 10)
+
+  writing_file : Bool → Own
+  writing_file there = moving (call 16 2 8192 10) file_to_write there (pos 10) (λ n. write_to (call 16 2 8192 10) file_to_write n (Shown_file 0 0))
+
+  write_file_on : readable image 8192 10 ≡ true → (own file_to_write).answer ≡ Called (pos 16) (negsuc 0)
+  unfolding own perform perform_row row_of in_call with_table file_to_write writing_file
+  write_file_on there = ap (λ (b : Bool). (writing_file b).answer) there
+
   -- the mode is tested before n
   read_0_write_end : answer_of 5 1 0 ≡ Called (pos 5) (negsuc 0)
   unfolding own perform perform_row row_of in_call with_table three answer_of

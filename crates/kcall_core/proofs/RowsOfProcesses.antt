@@ -125,6 +125,11 @@ module _ (image : Image) where
   unfolding own perform perform_row row_of in_call with_zombie
   kill_other = refl
 
+  -- pid 0 is refused by itself, and not for being free
+  kill_0 : (own (record (in_call image (call 6 0 0 0)) { pids = 0 ∷ 1 ∷ [] })).answer ≡ Called (pos 6) (negsuc 0)
+  unfolding own perform perform_row row_of in_call
+  kill_0 = refl
+
   -- a pid is in use until its zombie is waited for
   wait_zombie : pids_of (own (with_zombie (call 3 0 0 0))).next ≡ 1 ∷ []
   unfolding own perform perform_row row_of in_call with_zombie pids_of
