@@ -1,5 +1,5 @@
 //! A process, as the table keeps it.
-ghost use Rattle.std.specs.Prelude.{◌≡◌};
+ghost use Rattle.std.specs.Prelude.{◌≡◌, false};
 ghost use Rattle.proc_table.specs.Channels.{is_on, without};
 ghost use Rattle.proc_table.specs.Processes.{is_runnable, is_child_of, is_zombie, is_marked, status_of, call_of, has_pid, woken, killed, given, asleep, ended, in_call};
 
@@ -121,6 +121,16 @@ impl Process {
         match self.state {
             State::Live { call, .. } => call,
             State::Zombie { .. } => None,
+        }
+    }
+
+    /// Whether it sleeps on the channel. Where it doesn't, waking the channel changes nothing.
+    pub(crate) fn sleeps_on(&self, on: &Channel) -> bool
+        ensures { result ≡ false → woken on.now self.now ≡ self.now }
+    {
+        match &self.state {
+            State::Live { channel, .. } => is_on(channel, on),
+            State::Zombie { .. } => false,
         }
     }
 

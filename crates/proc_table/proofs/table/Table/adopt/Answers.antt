@@ -7,7 +7,7 @@ use Rattle.proc_table.proofs.table.Table.adopt.Goals as goal
 
 pub loop-place-preserved : goal.loop-place-preserved
 loop-place-preserved c =
-    change_more (option_map (given c.args.from c.args.to)) c.deref_mut-place-items.result.now c.loop-place.place-items c.loop-place.place-index c.place-item.result c.given.result (omega (arith, c.loop-place-test.true)) c.loop-place.invariant c.place-item.is c.given.ensures
+    change_more (option_map (given c.args.from c.args.to)) c.deref_mut-place-items.result.now c.loop-place.place-items c.loop-place.place-index c.place-item.result c.give_place.new.place (omega (arith, c.loop-place-test.true)) c.loop-place.invariant c.place-item.is c.give_place.ensures
 
 pub invariant_of-self : goal.invariant_of-self
 invariant_of-self c = table_each _ (given c.args.from c.args.to) _ c.self.invariant (λ p. refl)

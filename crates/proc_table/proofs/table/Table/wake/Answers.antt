@@ -7,7 +7,7 @@ use Rattle.proc_table.proofs.table.Table.wake.Goals as goal
 
 pub loop-place-preserved : goal.loop-place-preserved
 loop-place-preserved c =
-    change_more (option_map (woken c.args.channel)) c.deref_mut-place-items.result.now c.loop-place.place-items c.loop-place.place-index c.place-item.result c.woken.result (omega (arith, c.loop-place-test.true)) c.loop-place.invariant c.place-item.is c.woken.ensures
+    change_more (option_map (woken c.args.channel)) c.deref_mut-place-items.result.now c.loop-place.place-items c.loop-place.place-index c.place-item.result c.wake_place.new.place (omega (arith, c.loop-place-test.true)) c.loop-place.invariant c.place-item.is c.wake_place.ensures
 
 pub invariant_of-self : goal.invariant_of-self
 invariant_of-self c = table_each _ (woken c.args.channel) _ c.self.invariant (λ p. refl)
