@@ -1,5 +1,7 @@
 //! Processes that are copies of one another: their pids, slots, turns, frames and bytes.
 use super::scene::Scene;
+use std::alloc::AllocError;
+use std::process::Abort;
 use std::test::Fail;
 use xk_base::Reg;
 
@@ -82,6 +84,33 @@ fn memory_is_zero_again_whoever_had_it(rt: HostRuntime) -> Result<(), Fail> {
     Ok(())
 }
 
+// Process 1 forks 63 times; two instructions are behind each fork.
+fn fork_63<R: Abort + AllocGlobal>(rt: &R, scene: &mut Scene) -> Result<(), AllocError> {
+    for pid in 2..=64 {
+        let fork = format!(in rt.alloc(); "call 1 1 {pid}, step 1, step 1")?;
+        scene.meet_all(rt, fork.as_str())?;
+    }
+    Ok(())
+}
+
+// The processes 3 to 64 have their turns, and a tick comes at once.
+fn pass_62<R: Abort + AllocGlobal>(rt: &R, scene: &mut Scene) -> Result<(), AllocError> {
+    for pid in 3..=64 {
+        let turn = format!(in rt.alloc(); "turn {pid}, tick")?;
+        scene.meet_all(rt, turn.as_str())?;
+    }
+    Ok(())
+}
+
+// The processes 2 to 64 have their turns, and do an instruction each.
+fn step_63<R: Abort + AllocGlobal>(rt: &R, scene: &mut Scene) -> Result<(), AllocError> {
+    for pid in 2..=64 {
+        let turn = format!(in rt.alloc(); "turn {pid}, step {pid}, tick")?;
+        scene.meet_all(rt, turn.as_str())?;
+    }
+    Ok(())
+}
+
 #[test]
 fn sixty_four_processes_are_the_most(rt: HostRuntime) -> Result<(), Fail> {
     // Forks until it is refused, and once more; waits, and forks. The children exit at once.
@@ -89,10 +118,7 @@ fn sixty_four_processes_are_the_most(rt: HostRuntime) -> Result<(), Fail> {
                   li a7, 3\nli a0, 0\necall\nli a7, 1\necall\nchild: li a7, 2\necall\n";
     let mut scene = Scene::of_source(rt.alloc(), 512, source)?;
     scene.tell(&rt, &[(1, "turn 1, step 1", 505)])?;
-    for pid in 2..=64 {
-        let fork = format!(in rt.alloc(); "call 1 1 {pid}, step 1, step 1")?;
-        scene.meet_all(&rt, fork.as_str())?;
-    }
+    fork_63(&rt, &mut scene)?;
     scene.tell(
         &rt,
         &[
@@ -100,10 +126,7 @@ fn sixty_four_processes_are_the_most(rt: HostRuntime) -> Result<(), Fail> {
             (1, "tick, turn 2, step 2, step 2, exit 2 0", 71),
         ],
     )?;
-    for pid in 3..=64 {
-        let turn = format!(in rt.alloc(); "turn {pid}, tick")?;
-        scene.meet_all(&rt, turn.as_str())?;
-    }
+    pass_62(&rt, &mut scene)?;
     scene.tell(
         &rt,
         &[
@@ -177,16 +200,13 @@ fn turns_go_round_by_slots(rt: HostRuntime) -> Result<(), Fail> {
     let source = "li a7, 1\nagain: ecall\nbeq a0, x0, loop\nbge a0, x0, again\nloop: j loop\n";
     let mut scene = Scene::of_source(rt.alloc(), 512, source)?;
     scene.tell(&rt, &[(1, "turn 1, step 1", 505)])?;
-    for pid in 2..=64 {
-        let fork = format!(in rt.alloc(); "call 1 1 {pid}, step 1, step 1")?;
-        scene.meet_all(&rt, fork.as_str())?;
-    }
+    fork_63(&rt, &mut scene)?;
     scene.tell(&rt, &[(1, "call 1 1 -1, step 1, step 1, tick", 64)])?;
-    for place in 1..=65 {
-        let pid = place % 64 + 1;
-        let turn = format!(in rt.alloc(); "turn {pid}, step {pid}, tick")?;
-        scene.meet_all(&rt, turn.as_str())?;
-    }
+    step_63(&rt, &mut scene)?;
+    scene.tell(
+        &rt,
+        &[(1, "turn 1, step 1, tick, turn 2, step 2, tick", 64)],
+    )?;
     Ok(())
 }
 
