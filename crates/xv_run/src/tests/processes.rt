@@ -6,7 +6,7 @@ use std::test::Fail;
 use xk_base::Reg;
 
 // The temporary register t1, and the register of an answer, a0.
-const T1: u8 = 6;
+const TEMPORARY: u8 = 6;
 
 const A0: u8 = 10;
 
@@ -72,7 +72,7 @@ fn memory_is_zero_again_whoever_had_it(rt: HostRuntime) -> Result<(), Fail> {
             (1, "step 1", 24),
         ],
     )?;
-    assert_eq!(rt; scene.register(Reg::new(T1)), Some(0));
+    assert_eq!(rt; scene.register(Reg::new(TEMPORARY)), Some(0));
     scene.peek_from(&rt, 0x3000, &[0; 4096]);
     scene.tell(
         &rt,
@@ -232,7 +232,7 @@ fn each_process_loads_its_own_byte(rt: HostRuntime) -> Result<(), Fail> {
     for pid in [1, 2, 1, 2, 1, 2] {
         let turn = format!(in rt.alloc(); "turn {pid}, step {pid}, step {pid}, step {pid}, tick")?;
         scene.meet_all(&rt, turn.as_str())?;
-        assert_eq!(rt; scene.register_of(pid, Reg::new(T1)), Some(u64::from(pid)));
+        assert_eq!(rt; scene.register_of(pid, Reg::new(TEMPORARY)), Some(u64::from(pid)));
     }
     Ok(())
 }
