@@ -1,5 +1,5 @@
 -- The owned frames are as many as the image's price.
-use Rattle.std.proofs.Common.{◌≡◌, ◌≢◌, ℕ, zero, suc, ◌+◌, ◌*◌, ◌/◌, ◌%◌, ◌^◌, ◌<◌, ◌||◌, Bool, true, false, cond, ltb, is_some, List, ◌++◌, length, Option, Some, None, inl, inr, refl, sym, ap, ◌∙◌, arith}
+use Rattle.std.proofs.Common.{◌≡◌, ◌≢◌, ℕ, zero, suc, ◌+◌, ◌-◌, ◌*◌, ◌/◌, ◌%◌, ◌^◌, ◌<◌, ◌≤◌, ◌||◌, Bool, true, false, cond, ltb, is_some, List, ◌++◌, length, Option, Some, None, inl, inr, refl, sym, ap, ◌∙◌, arith}
 use Rattle.std.proofs.lemmas.List.{length-append}
 use Rattle.std.proofs.lemmas.Bool.{cases_lt, cases_eq, false≢true}
 use Rattle.std.specs.Ordering.{nat_cmp}
@@ -39,7 +39,31 @@ how_many-same (suc n) p q h =
     let rest : how_many n p ≡ how_many n q = how_many-same n p q (λ k lt. h k (omega arith)) in
     ap (λ b. how_many n p + cond b 1 0) here ∙ ap (λ m. m + cond (q n) 1 0) rest
 
-len-gathered : (f : ℕ → Option Page) (n : ℕ) → len (gathered f n) ≡ how_many n (λ k. is_some (f k))
+-- a count never falls
+how_many-rises : (n k : ℕ) (p : ℕ → Bool) → how_many n p ≤ how_many (n + k) p
+unfolding count_below
+how_many-rises n zero p = let at : n + 0 ≡ n = omega arith in omega (arith, ap (λ m. how_many m p) at)
+how_many-rises n (suc k) p =
+    let at : n + suc k ≡ suc (n + k) = omega arith in
+    omega (arith, ap (λ m. how_many m p) at, how_many-rises n k p)
+
+-- where a count is the same at two places, nothing is found between them
+pub how_many-end : (n k : ℕ) (p : ℕ → Bool) → how_many (n + k) p ≡ how_many n p → (u : ℕ) → n ≤ u → u < n + k → p u ≡ false
+unfolding count_below
+how_many-end n zero p e u ge lt = absurd (omega (arith, ge, lt))
+how_many-end n (suc k) p e u ge lt =
+    let at : n + suc k ≡ suc (n + k) = omega arith in
+    let total : how_many (n + k) p + cond (p (n + k)) 1 0 ≡ how_many n p = sym (ap (λ m. how_many m p) at) ∙ e in
+    elim (cases_eq u (n + k)) [
+      | inl same ↦ ap p same ∙ none (p (n + k)) (omega (arith, total, how_many-rises n k p))
+      | inr ne ↦ how_many-end n k p (omega (arith, total, how_many-rises n k p)) u ge (omega (arith, lt, ne))
+    ]
+  where
+    none : (b : Bool) → ◌≡◌ {A = ℕ} (cond b 1 0) 0 → b ≡ false
+    none true h = absurd (omega (arith, h))
+    none false h = refl
+
+pub len-gathered : (f : ℕ → Option Page) (n : ℕ) → len (gathered f n) ≡ how_many n (λ k. is_some (f k))
 unfolding gathered count_below
 len-gathered f zero = len-empty nat_cmp Page
 len-gathered f (suc n) = one (f n) (gathered f n) (how_many n (λ k. is_some (f k))) (ap is_some (gathered-get f n n ∙ ap (λ b. cond b (f n) None) (ltb-no n n (omega arith)))) (len-gathered f n)
@@ -155,6 +179,24 @@ pub pages-count : (ram : List (List ℕ)) (root : ℕ) → length (page_frames r
 unfolding page_frames pages_of
 pages-count ram root =
     length-listed (λ v. frame_of (page_entry ram root v)) (2 ^ 26) ∙ how_many-same (2 ^ 26) (λ v. is_some (frame_of (page_entry ram root v))) (λ v. is_some (page_at ram root v)) (λ v lt. sym (same-page ram (page_entry ram root v))) ∙ sym (len-gathered (page_at ram root) (2 ^ 26))
+
+none-of-is : (o : Option ℕ) → is_some o ≡ false → o ≡ None
+none-of-is None e = refl
+none-of-is (Some f) e = absurd (false≢true (sym e))
+
+-- where all pages are counted below a place, none is left from there on
+pub page-end : (ram : List (List ℕ)) (root from : ℕ) → from ≤ 67108864 → length (page_frames ram root) ≡ how_many from (λ v. is_some (frame_of (page_entry ram root v))) → (u : ℕ) → from ≤ u → u < 67108864 → frame_of (page_entry ram root u) ≡ None
+unfolding page_frames
+page-end ram root from inside all u ge lt =
+    let end : from + (67108864 - from) ≡ 67108864 = omega (arith, inside) in
+    let counted = length-listed (λ v. frame_of (page_entry ram root v)) (2 ^ 26) in
+    none-of-is (frame_of (page_entry ram root u))
+    (how_many-end from (67108864 - from) (λ v. is_some (frame_of (page_entry ram root v))) (ap (λ n. how_many n (λ v. is_some (frame_of (page_entry ram root v)))) end ∙ sym counted ∙ all) u ge (omega (arith, lt, end)))
+
+-- where no page is counted, there is none
+pub page-none-counted : (ram : List (List ℕ)) (root : ℕ) → length (page_frames ram root) ≡ 0 → (u : ℕ) → u < 67108864 → frame_of (page_entry ram root u) ≡ None
+unfolding count_below
+page-none-counted ram root none u lt = page-end ram root 0 (omega arith) none u (omega arith) lt
 
 -- a space owns as many frames as its image's price
 pub length-owned : (ram : List (List ℕ)) (root size : ℕ) → IsTree ram root → NoneEmpty ram root → length (owned ram root) ≡ price (record { pages = pages_of ram root; size = size })

@@ -455,6 +455,20 @@ fn next_page(ram: &Ram, root: Frame, from: usize) -> Option<usize>
     None
 }
 
+/// The least page from a place on, which is looked for only where `none_left` is false.
+fn page_left(ram: &Ram, root: Frame, from: usize, none_left: bool) -> Option<usize>
+    requires root_in { root < length ram.now }
+    requires from_in { from ≤ 2 ^ 26 }
+    requires none_left { none_left ≡ true → (u : ℕ) → from ≤ u → u < 2 ^ 26 → frame_of (page_entry ram.now root u) ≡ None }
+    ensures some { IfSome result (λ v. (v < 2 ^ 26) × (from ≤ v) × ((f : ℕ) × (frame_of (page_entry ram.now root v) ≡ Some f)) × ((u : ℕ) → from ≤ u → u < v → frame_of (page_entry ram.now root u) ≡ None)) }
+    ensures none { IfNone result ((u : ℕ) → from ≤ u → u < 2 ^ 26 → frame_of (page_entry ram.now root u) ≡ None) }
+{
+    if none_left {
+        return None;
+    }
+    next_page(ram, root, from)
+}
+
 impl Space {
     /// Frees a page, and each table that then maps nothing.
     fn free_page(&mut self, pool: &mut Pool, ram: &mut Ram, v: usize)
@@ -486,7 +500,7 @@ impl Space {
         ensures above { (u : ℕ) → first ≤ u → u < 2 ^ 26 → frame_of (page_entry ram.new self.old.root u) ≡ None }
     {
         let mut from = first;
-        'pages: while let Some(v) = next_page(ram, self.root, from) {
+        'pages: while let Some(v) = page_left(ram, self.root, from, self.pages == 0) {
             self.free_page(pool, ram, v);
             from = v + 1;
         }
