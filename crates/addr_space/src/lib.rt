@@ -656,7 +656,7 @@ impl Space {
             unreachable!();
         };
         let mut from = 0;
-        'pages: while let Some(v) = next_page(ram, self.root, from) {
+        'pages: while let Some(v) = page_left(ram, self.root, from, child.pages == self.pages) {
             self.copy_page(pool, ram, &mut child, v);
             from = v + 1;
         }

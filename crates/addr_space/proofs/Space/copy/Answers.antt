@@ -1,4 +1,5 @@
 use Rattle.std.proofs.Common.{None, cond, refl, ap, ◌∙◌, arith}
+use Rattle.std.proofs.lemmas.Bool.{eqb-true}
 use Rattle.std.specs.FinMap.{get}
 use Rattle.sv39_core.proofs.Words.{ltb-no}
 use Rattle.sv39_core.specs.Tree.{page_at}
@@ -6,7 +7,7 @@ use Rattle.sv39_core.proofs.Places.{root-inside}
 use Rattle.sv39_core.proofs.Gathered.{gathered-get}
 use Rattle.addr_space.proofs.Trades.{belongs-made}
 use Rattle.addr_space.proofs.Prices.{length-kinds}
-use Rattle.addr_space.proofs.Copies.{copied-none, copied-step, copied-all, room-for}
+use Rattle.addr_space.proofs.Copies.{copied-none, copied-step, copied-all, copied-end, room-for}
 use Rattle.addr_space.proofs.Isolation.{spared, belongs-apart}
 use Rattle.addr_space.proofs.Space.copy.Goals as goal
 
@@ -26,8 +27,13 @@ pages-init c =
     (copied-none c.args.pool.now c.empty.new.pool c.args.ram.now c.empty.new.ram c.args.self.now c.in-Ok.child c.requires.belongs c.in-Ok.ensures.made c.in-Ok.ensures.image
     (omega (arith, c.if-free-price.false, c.free.ensures c.args.ram.now c.requires.belongs.good, c.price.ensures.price c.args.ram.now c.requires.belongs.whole))).0
 
-pub next_page-requires-clause-root_in : goal.next_page-requires-clause-root_in
-next_page-requires-clause-root_in c = root-inside c.pages.ram c.args.self.now.root c.pages.invariant.whole.tree
+pub page_left-requires-clause-root_in : goal.page_left-requires-clause-root_in
+page_left-requires-clause-root_in c = root-inside c.pages.ram c.args.self.now.root c.pages.invariant.whole.tree
+
+-- the copy has as many pages as the original, so that none is left
+pub page_left-requires-clause-none_left : goal.page_left-requires-clause-none_left
+page_left-requires-clause-none_left c same u ge lt =
+    copied-end c.empty.new.pool c.pages.pool c.empty.new.ram c.pages.ram c.in-Ok.child c.args.self.now c.pages.child c.pages.from c.pages.invariant (eqb-true _ _ same) u ge lt
 
 pub copy_page-requires-clause-absent : goal.copy_page-requires-clause-absent
 copy_page-requires-clause-absent c =
@@ -49,7 +55,7 @@ pub returns-clause-image : goal.returns-clause-image
 returns-clause-image c =
     let start = copied-none c.args.pool.now c.empty.new.pool c.args.ram.now c.empty.new.ram c.args.self.now c.in-Ok.child c.requires.belongs c.in-Ok.ensures.made c.in-Ok.ensures.image
     (omega (arith, c.if-free-price.false, c.free.ensures c.args.ram.now c.requires.belongs.good, c.price.ensures.price c.args.ram.now c.requires.belongs.whole)) in
-    (copied-all c.args.pool.now c.empty.new.pool c.pages.pool c.args.ram.now c.empty.new.ram c.pages.ram c.args.self.now c.in-Ok.child c.pages.child c.pages.from c.in-Ok.ensures.made start.1 c.pages.invariant c.in_default-next_page.ensures.none).1
+    (copied-all c.args.pool.now c.empty.new.pool c.pages.pool c.args.ram.now c.empty.new.ram c.pages.ram c.args.self.now c.in-Ok.child c.pages.child c.pages.from c.in-Ok.ensures.made start.1 c.pages.invariant c.in_default-page_left.ensures.none).1
 
 pub returns-clause-fits : goal.returns-clause-fits
 returns-clause-fits c = omega (arith, c.if-free-price.false, c.free.ensures c.args.ram.now c.requires.belongs.good, c.price.ensures.price c.args.ram.now c.requires.belongs.whole)
@@ -58,18 +64,18 @@ pub returns-clause-others : goal.returns-clause-others
 returns-clause-others c other s =
     let start = copied-none c.args.pool.now c.empty.new.pool c.args.ram.now c.empty.new.ram c.args.self.now c.in-Ok.child c.requires.belongs c.in-Ok.ensures.made c.in-Ok.ensures.image
     (omega (arith, c.if-free-price.false, c.free.ensures c.args.ram.now c.requires.belongs.good, c.price.ensures.price c.args.ram.now c.requires.belongs.whole)) in
-    spared _ _ _ _ _ _ other (copied-all c.args.pool.now c.empty.new.pool c.pages.pool c.args.ram.now c.empty.new.ram c.pages.ram c.args.self.now c.in-Ok.child c.pages.child c.pages.from c.in-Ok.ensures.made start.1 c.pages.invariant c.in_default-next_page.ensures.none).0.traded s
+    spared _ _ _ _ _ _ other (copied-all c.args.pool.now c.empty.new.pool c.pages.pool c.args.ram.now c.empty.new.ram c.pages.ram c.args.self.now c.in-Ok.child c.pages.child c.pages.from c.in-Ok.ensures.made start.1 c.pages.invariant c.in_default-page_left.ensures.none).0.traded s
 
 pub returns-clause-belongs : goal.returns-clause-belongs
 returns-clause-belongs c =
     let start = copied-none c.args.pool.now c.empty.new.pool c.args.ram.now c.empty.new.ram c.args.self.now c.in-Ok.child c.requires.belongs c.in-Ok.ensures.made c.in-Ok.ensures.image
     (omega (arith, c.if-free-price.false, c.free.ensures c.args.ram.now c.requires.belongs.good, c.price.ensures.price c.args.ram.now c.requires.belongs.whole)) in
-    belongs-made _ _ _ _ _ c.requires.belongs.good (copied-all c.args.pool.now c.empty.new.pool c.pages.pool c.args.ram.now c.empty.new.ram c.pages.ram c.args.self.now c.in-Ok.child c.pages.child c.pages.from c.in-Ok.ensures.made start.1 c.pages.invariant c.in_default-next_page.ensures.none).0
+    belongs-made _ _ _ _ _ c.requires.belongs.good (copied-all c.args.pool.now c.empty.new.pool c.pages.pool c.args.ram.now c.empty.new.ram c.pages.ram c.args.self.now c.in-Ok.child c.pages.child c.pages.from c.in-Ok.ensures.made start.1 c.pages.invariant c.in_default-page_left.ensures.none).0
 
 -- the original has none of the free frames, and so none of the copy's
 pub returns-clause-original : goal.returns-clause-original
 returns-clause-original c =
     let start = copied-none c.args.pool.now c.empty.new.pool c.args.ram.now c.empty.new.ram c.args.self.now c.in-Ok.child c.requires.belongs c.in-Ok.ensures.made c.in-Ok.ensures.image
     (omega (arith, c.if-free-price.false, c.free.ensures c.args.ram.now c.requires.belongs.good, c.price.ensures.price c.args.ram.now c.requires.belongs.whole)) in
-    let traded = (copied-all c.args.pool.now c.empty.new.pool c.pages.pool c.args.ram.now c.empty.new.ram c.pages.ram c.args.self.now c.in-Ok.child c.pages.child c.pages.from c.in-Ok.ensures.made start.1 c.pages.invariant c.in_default-next_page.ensures.none).0.traded in
+    let traded = (copied-all c.args.pool.now c.empty.new.pool c.pages.pool c.args.ram.now c.empty.new.ram c.pages.ram c.args.self.now c.in-Ok.child c.pages.child c.pages.from c.in-Ok.ensures.made start.1 c.pages.invariant c.in_default-page_left.ensures.none).0.traded in
     belongs-apart _ _ _ _ _ c.args.self.now c.requires.belongs traded
