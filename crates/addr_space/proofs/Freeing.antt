@@ -133,6 +133,20 @@ none-of : (o : Option ℕ) → ((k : ℕ) → o ≡ Some k → ⊥) → o ≡ No
 none-of None never = refl
 none-of (Some k) never = absurd (never k refl)
 
+-- where no page is left after one went, no lower table is
+pub no-lowers : (ram ram' : List (List ℕ)) (root v : ℕ) → IsTree ram' root → NoneEmpty ram root → Beside ram ram' root v
+    → ((f : ℕ) → table_at ram' root 2 (v / 512) ≡ Some f → (i : ℕ) × (g : ℕ) × (i < 512) × (frame_of (page_entry ram' root (512 * (v / 512) + i)) ≡ Some g))
+    → ((u : ℕ) → u < 67108864 → frame_of (page_entry ram' root u) ≡ None) → (p : ℕ) → table_at ram' root 2 p ≡ None
+no-lowers ram ram' root v tree full beside low none p = none-of (table_at ram' root 2 p) (λ f e. elim (cases_eq p (v / 512)) [
+  | inl same ↦ let r = low f (ap (table_at ram' root 2) (sym same) ∙ e) in clash (512 * (v / 512) + r.0) r.1 r.3
+  | inr ne ↦
+      let r = full.lowers p f (sym (beside.lowers p ne) ∙ e) in
+      clash (512 * p + r.0) r.1 (ap frame_of (beside.pages (512 * p + r.0) (λ is. ne (omega (arith, is, r.2)))) ∙ r.3)
+])
+  where
+    clash : (u g : ℕ) → frame_of (page_entry ram' root u) ≡ Some g → ⊥
+    clash u g e = let w : None ≡ Some g = sym (none u (page-place ram' root u g tree e)) ∙ e in absurd (cc)
+
 -- where no page is left, the root alone is
 pub only-root : (ram : List (List ℕ)) (root : ℕ) → IsTree ram root → NoneEmpty ram root → ((u : ℕ) → u < 67108864 → frame_of (page_entry ram root u) ≡ None) → owned ram root ≡ root ∷ []
 unfolding owned uppers lowers page_frames

@@ -318,13 +318,18 @@ fn lower_table(ram: &Ram, root: Frame, v: usize) -> Option<Frame>
 }
 
 /// Whether an entry of a table leads to a page. It looks from entry `from` on, and then at those before
-/// it: where pages are freed in order, the next one is found at once.
-fn has_page(ram: &Ram, table: Frame, from: usize) -> bool
+/// it: where pages are freed in order, the next one is found at once. Where `none_left` is true, no
+/// entry does, and it looks at none.
+fn has_page(ram: &Ram, table: Frame, from: usize, none_left: bool) -> bool
     requires table_in { table < length ram.now }
     requires from_in { from < 512 }
+    requires none_left { none_left ≡ true → (k : ℕ) → k < 512 → frame_of (entry_at ram.now table k) ≡ None }
     ensures none { result ≡ false → (k : ℕ) → k < 512 → frame_of (entry_at ram.now table k) ≡ None }
     ensures some { result ≡ true → (k : ℕ) × (f : ℕ) × (k < 512) × (frame_of (entry_at ram.now table k) ≡ Some f) }
 {
+    if none_left {
+        return false;
+    }
     for i in 0..512 {
         if let Entry::Leaf(..) = read_entry(ram, table, (from + i) % 512) {
             return true;
@@ -334,12 +339,16 @@ fn has_page(ram: &Ram, table: Frame, from: usize) -> bool
 }
 
 /// Whether an entry of a table leads to a table, looked for as [`has_page`] does.
-fn has_table(ram: &Ram, table: Frame, from: usize) -> bool
+fn has_table(ram: &Ram, table: Frame, from: usize, none_left: bool) -> bool
     requires table_in { table < length ram.now }
     requires from_in { from < 512 }
+    requires none_left { none_left ≡ true → (k : ℕ) → k < 512 → table_of (entry_at ram.now table k) ≡ None }
     ensures none { result ≡ false → (k : ℕ) → k < 512 → table_of (entry_at ram.now table k) ≡ None }
     ensures some { result ≡ true → (k : ℕ) × (f : ℕ) × (k < 512) × (table_of (entry_at ram.now table k) ≡ Some f) }
 {
+    if none_left {
+        return false;
+    }
     for i in 0..512 {
         if let Entry::Table(_) = read_entry(ram, table, (from + i) % 512) {
             return true;
@@ -367,11 +376,13 @@ fn free_leaf(pool: &mut Pool, ram: &mut Ram, root: Frame, v: usize)
     clear(pool, ram, lower, v % 512, frame);
 }
 
-/// Frees the lower table on the way to a page where it maps nothing; how many frames that gave.
-fn free_lower(pool: &mut Pool, ram: &mut Ram, root: Frame, v: usize) -> u32
+/// Frees the lower table on the way to a page where it maps nothing; how many frames that gave. It
+/// isn't searched where `none_left` tells that the space has no page left.
+fn free_lower(pool: &mut Pool, ram: &mut Ram, root: Frame, v: usize, none_left: bool) -> u32
     requires holds { Holds pool.old ram.old root }
     requires page { v < 2 ^ 26 }
     requires usual { (u : ℕ) → Usual (page_entry ram.old root u) }
+    requires none_left { none_left ≡ true → (u : ℕ) → u < 2 ^ 26 → frame_of (page_entry ram.old root u) ≡ None }
     ensures freed { Freed pool.old ram.old pool.new ram.new root v result }
     ensures few { result ≤ 1 }
     ensures full { (f : ℕ) → table_at ram.new root 2 (v / 512) ≡ Some f → (i : ℕ) × (g : ℕ) × (i < 512) × (frame_of (page_entry ram.new root (512 * (v / 512) + i)) ≡ Some g) }
@@ -384,17 +395,19 @@ fn free_lower(pool: &mut Pool, ram: &mut Ram, root: Frame, v: usize) -> u32
     let Some(lower) = lower_table(ram, root, v) else {
         return 0;
     };
-    if has_page(ram, lower, v % 512) {
+    if has_page(ram, lower, v % 512, none_left) {
         return 0;
     }
     clear(pool, ram, upper, v / 512 % 512, lower);
     1
 }
 
-/// Frees the upper table on the way to a page where it maps nothing; how many frames that gave.
-fn free_upper(pool: &mut Pool, ram: &mut Ram, root: Frame, v: usize) -> u32
+/// Frees the upper table on the way to a page where it maps nothing; how many frames that gave. It
+/// isn't searched where `none_left` tells that the space has no lower table left.
+fn free_upper(pool: &mut Pool, ram: &mut Ram, root: Frame, v: usize, none_left: bool) -> u32
     requires holds { Holds pool.old ram.old root }
     requires page { v < 2 ^ 26 }
+    requires none_left { none_left ≡ true → (p : ℕ) → table_at ram.old root 2 p ≡ None }
     ensures freed { Freed pool.old ram.old pool.new ram.new root v result }
     ensures few { result ≤ 1 }
     ensures full { (f : ℕ) → table_at ram.new root 1 (v / 262144) ≡ Some f → (i : ℕ) × (g : ℕ) × (i < 512) × (table_at ram.new root 2 (512 * (v / 262144) + i) ≡ Some g) }
@@ -405,7 +418,7 @@ fn free_upper(pool: &mut Pool, ram: &mut Ram, root: Frame, v: usize) -> u32
     let Some(upper) = upper_table(ram, root, v) else {
         return 0;
     };
-    if has_table(ram, upper, v / 512 % 512) {
+    if has_table(ram, upper, v / 512 % 512, none_left) {
         return 0;
     }
     clear(pool, ram, root, v / 262144, upper);
@@ -482,9 +495,10 @@ impl Space {
         ensures entries { (u : ℕ) → (u ≡ v → ⊥) → page_entry ram.new self.old.root u ≡ page_entry ram.old self.old.root u }
         ensures others { (u : ℕ) → (u ≡ v → ⊥) → page_at ram.new self.old.root u ≡ page_at ram.old self.old.root u }
     {
+        let last = self.pages == 1;
         free_leaf(pool, ram, self.root, v);
-        let lower = free_lower(pool, ram, self.root, v);
-        let upper = free_upper(pool, ram, self.root, v);
+        let lower = free_lower(pool, ram, self.root, v, last);
+        let upper = free_upper(pool, ram, self.root, v, last);
         self.pages -= 1;
         self.tables -= lower + upper;
     }

@@ -1,4 +1,4 @@
-use Rattle.std.proofs.Common.{◌≡◌, ◌+◌, ◌*◌, ◌/◌, ◌%◌, Some, None, sym, ap, ◌∙◌, subst, arith}
+use Rattle.std.proofs.Common.{◌≡◌, ℕ, ◌+◌, ◌*◌, ◌/◌, ◌%◌, ◌<◌, true, Some, None, sym, ap, ◌∙◌, subst, arith}
 use Rattle.sv39_core.specs.Sv39.{entry_at, table_at}
 use Rattle.sv39_core.specs.Tree.{frame_of}
 use Rattle.addr_space.specs.Space.{Usual}
@@ -14,7 +14,11 @@ pub lower_table-requires-clause-root_in : goal.lower_table-requires-clause-root_
 lower_table-requires-clause-root_in c = root-inside c.args.ram.now c.args.root c.requires.holds.tree
 
 pub has_page-requires : goal.has_page-requires
-has_page-requires c = record { table_in = inside-of c.args.pool.now c.args.ram.now c.args.root 2 (c.args.v / 512) c.in-Some-lower_table.lower c.requires.holds (omega arith) (sym c.in-Some-lower_table.ensures); from_in = omega arith }
+has_page-requires c = record { table_in = inside-of c.args.pool.now c.args.ram.now c.args.root 2 (c.args.v / 512) c.in-Some-lower_table.lower c.requires.holds (omega arith) (sym c.in-Some-lower_table.ensures); from_in = omega arith; none_left = no-page }
+  where
+    no-page : c.args.none_left ≡ true → (k : ℕ) → k < 512 → frame_of (entry_at c.args.ram.now c.in-Some-lower_table.lower k) ≡ None
+    no-page none k lt =
+        sym (ap frame_of (entry-page c.args.ram.now c.args.root (c.args.v / 512) c.in-Some-lower_table.lower k lt (sym c.in-Some-lower_table.ensures))) ∙ c.requires.none_left none (512 * (c.args.v / 512) + k) (omega (arith, lt, c.requires.page))
 
 pub returns-then-has_page-clause-full : goal.returns-then-has_page-clause-full
 returns-then-has_page-clause-full c f e =

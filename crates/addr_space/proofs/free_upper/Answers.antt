@@ -1,5 +1,5 @@
-use Rattle.std.proofs.Common.{◌≡◌, ◌/◌, Some, None, refl, sym, ◌∙◌, arith}
-use Rattle.sv39_core.specs.Sv39.{entry_at, table_at}
+use Rattle.std.proofs.Common.{◌≡◌, ℕ, ◌+◌, ◌*◌, ◌/◌, ◌<◌, true, Some, None, refl, sym, ◌∙◌, arith}
+use Rattle.sv39_core.specs.Sv39.{entry_at, table_of, table_at}
 use Rattle.sv39_core.proofs.Places.{root-inside, upper-entry}
 use Rattle.addr_space.proofs.Clearing.{TableGone, upper-gone, inside-of, taken-of, entry-lower, table-is, freed-upper}
 use Rattle.addr_space.proofs.free_upper.Goals.{After-clear}
@@ -9,7 +9,11 @@ pub upper_table-requires-clause-root_in : goal.upper_table-requires-clause-root_
 upper_table-requires-clause-root_in c = root-inside c.args.ram.now c.args.root c.requires.holds.tree
 
 pub has_table-requires : goal.has_table-requires
-has_table-requires c = record { table_in = inside-of c.args.pool.now c.args.ram.now c.args.root 1 (c.args.v / 262144) c.in-Some.upper c.requires.holds (omega arith) (sym c.in-Some.ensures); from_in = omega arith }
+has_table-requires c = record { table_in = inside-of c.args.pool.now c.args.ram.now c.args.root 1 (c.args.v / 262144) c.in-Some.upper c.requires.holds (omega arith) (sym c.in-Some.ensures); from_in = omega arith; none_left = no-table }
+  where
+    no-table : c.args.none_left ≡ true → (k : ℕ) → k < 512 → table_of (entry_at c.args.ram.now c.in-Some.upper k) ≡ None
+    no-table none k lt =
+        sym (entry-lower c.args.ram.now c.args.root (c.args.v / 262144) c.in-Some.upper k lt (sym c.in-Some.ensures)) ∙ c.requires.none_left none (512 * (c.args.v / 262144) + k)
 
 pub returns-then-has_table-clause-full : goal.returns-then-has_table-clause-full
 returns-then-has_table-clause-full c f e =

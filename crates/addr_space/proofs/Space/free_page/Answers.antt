@@ -1,12 +1,28 @@
-use Rattle.std.proofs.Common.{sym, ◌∙◌, subst}
+use Rattle.std.proofs.Common.{◌≡◌, ℕ, ◌<◌, true, None, sym, ap, ◌∙◌, subst, arith}
+use Rattle.std.proofs.lemmas.Bool.{eqb-true}
 use Rattle.addr_space.specs.Space.{Usual}
-use Rattle.addr_space.proofs.Paths.{leaves-after}
-use Rattle.addr_space.proofs.Freeing.{page-freed}
+use Rattle.sv39_core.specs.Sv39.{page_entry}
+use Rattle.sv39_core.specs.Tree.{frame_of}
+use Rattle.addr_space.proofs.Paths.{leaves-after, beside-join}
+use Rattle.addr_space.proofs.Prices.{page-none-counted}
+use Rattle.addr_space.proofs.Freeing.{page-freed, no-lowers}
 use Rattle.addr_space.proofs.Space.free_page.Goals.{After-free_upper-upper}
 use Rattle.addr_space.proofs.Space.free_page.Goals as goal
 
 pub free_lower-lower-requires-clause-usual : goal.free_lower-lower-requires-clause-usual
 free_lower-lower-requires-clause-usual c = leaves-after c.args.ram.now c.free_leaf.new.ram c.args.self.now.root c.args.v c.requires.belongs.whole.leaves c.free_leaf.ensures.freed.beside (subst (λ e. Usual e) (sym c.free_leaf.ensures.gone) tt)
+
+-- the only page went, so that none is left
+pub free_lower-lower-requires-clause-none_left : goal.free_lower-lower-requires-clause-none_left
+free_lower-lower-requires-clause-none_left c last u lt =
+    page-none-counted c.free_leaf.new.ram c.args.self.now.root (omega (arith, c.free_leaf.ensures.pages, c.requires.belongs.whole.pages, eqb-true _ _ last)) u lt
+
+pub free_upper-upper-requires-clause-none_left : goal.free_upper-upper-requires-clause-none_left
+free_upper-upper-requires-clause-none_left c last p =
+    let root = c.args.self.now.root in
+    no-lowers c.args.ram.now c.free_lower-lower.new.ram root c.args.v c.free_lower-lower.ensures.freed.holds.tree c.requires.belongs.whole.full
+    (beside-join c.args.ram.now c.free_leaf.new.ram c.free_lower-lower.new.ram root c.args.v c.free_leaf.ensures.freed.beside c.free_lower-lower.ensures.freed.beside) c.free_lower-lower.ensures.full
+    (λ u lt. ap frame_of (c.free_lower-lower.ensures.entries u) ∙ page-none-counted c.free_leaf.new.ram root (omega (arith, c.free_leaf.ensures.pages, c.requires.belongs.whole.pages, eqb-true _ _ last)) u lt) p
 
 pub overflow_sub-self-2 : goal.overflow_sub-self-2
 overflow_sub-self-2 c =
