@@ -232,7 +232,10 @@ fn each_process_loads_its_own_byte(rt: HostRuntime) -> Result<(), Fail> {
     for pid in [1, 2, 1, 2, 1, 2] {
         let turn = format!(in rt.alloc(); "turn {pid}, step {pid}, step {pid}, step {pid}, tick")?;
         scene.meet_all(&rt, turn.as_str())?;
-        assert_eq!(rt; scene.register_of(pid, Reg::new(TEMPORARY)), Some(u64::from(pid)));
+        assert_eq!(rt;
+            scene.register_of(pid, Reg::new(TEMPORARY)),
+            Some(u64::from(pid))
+        );
     }
     Ok(())
 }
