@@ -1,7 +1,6 @@
-use Rattle.std.proofs.Common.{◌≡◌, ℕ, ◌<◌, true, None, sym, ap, ◌∙◌, subst, arith}
+use Rattle.std.proofs.Common.{sym, ap, ◌∙◌, subst, arith}
 use Rattle.std.proofs.lemmas.Bool.{eqb-true}
 use Rattle.addr_space.specs.Space.{Usual}
-use Rattle.sv39_core.specs.Sv39.{page_entry}
 use Rattle.sv39_core.specs.Tree.{frame_of}
 use Rattle.addr_space.proofs.Paths.{leaves-after, beside-join}
 use Rattle.addr_space.proofs.Prices.{page-none-counted}
