@@ -1,4 +1,4 @@
--- Bytes that move from a pipe to the memory of a slot.
+-- Bytes that move between open files and the memory of a slot: what a read or a write is on, and what a move leaves.
 use Rattle.std.specs.Prelude.{◌≡◌, ◌≢◌, ℕ, ◌<◌, Some, length, set, pos, ℤ, Bool, true, ◌&&◌, nat_lt}
 use Rattle.std.specs.FinMap.{get, insert}
 use Rattle.xk_base.specs.declared.limits.TheConstants.{NOFILE}

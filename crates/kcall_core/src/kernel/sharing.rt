@@ -44,6 +44,7 @@ impl Kernel {
         };
         self.memories.join(at.frame, at.end);
     }
+
     /// A free descriptor of a slot names a program's file from now on, which is opened to be read from its
     /// first byte on.
     pub(crate) fn open_program_at(&mut self, slot: usize, fd: Fd, program: usize) -> FileId
