@@ -1,5 +1,6 @@
 -- A process is made: its slot, its memory and its descriptors, one after another.
 use Rattle.std.specs.Prelude.{◌≡◌, ◌≢◌, ℕ, ◌+◌, ◌<◌, ◌⊎◌, cond, nat_lt, None, Some, length, set}
+use Rattle.xk_base.specs.declared.limits.TheConstants.{NPROC}
 use Rattle.xk_base.specs.Image.{price}
 use Rattle.rv64i_core.specs.Registers.{fresh}
 use Rattle.hart_core.specs.declared.hart.Hart.{Hart}
@@ -17,7 +18,7 @@ use Rattle.kcall_core.specs.declared.kernel.Kernel.{Kernel}
 -- the process that runs has a child in the slot for a new process, with a copy of its memory, and without descriptors
 pub record Bears (k : Kernel) (slot pid : ℕ) (k' : Kernel) : Type 0 where
   pub free : slot_for_new k.table ≡ Some slot
-  pub below : slot < 64
+  pub below : slot < NPROC
   pub named : pid ≡ k.table.next
   pub table : k'.table ≡ with_new slot (Some (pid_now k)) k.table
   pub memories : SlotChanges k.memories k'.memories slot (Some (with_saved (fresh 0) (held_at (each_of k.memories) (slot_now k))))

@@ -1,9 +1,11 @@
 -- An open file gets one descriptor more: what becomes of the memories, and of the kernel.
 use Rattle.std.specs.Prelude.{◌≡◌, ℕ, ◌<◌, Some, IsSome, set}
 use Rattle.std.specs.FinMap.{get}
+use Rattle.pipe_core.specs.declared.TheConstants.{END_COUNT_MAX}
 use Rattle.file_table.specs.Named.{with_named}
 use Rattle.file_table.specs.OpenFiles.{entry_at, file_at, count_at, with_sharer}
 use Rattle.file_table.specs.declared.open_file.OpenFile.{OpenFile}
+use Rattle.file_table.specs.declared.open_file.TheConstants.{SHARERS_MAX}
 use Rattle.file_table.specs.declared.open_file.End.{End}
 use Rattle.file_table.specs.declared.open_file.Target.{Target}
 use Rattle.file_table.specs.declared.open_file.Target.TheVariants.{Console as Terminal, Program as File, Pipe as Pipe_end}
@@ -24,9 +26,9 @@ Joins (Pipe_end i end) old new = PipeChanges old new i (Some (joined (pipe_named
 pub record MayShare (k : Kernel) (file : ℕ) : Type 0 where
   pub sound : IsSound k.memories
   pub opened : IsSome (entry_at k.files file)
-  pub room : (n : ℕ) → count_at k.files file ≡ Some n → n < 4096
+  pub room : (n : ℕ) → count_at k.files file ≡ Some n → n < SHARERS_MAX
   pub there : (x : OpenFile) (i : ℕ) (end : End) → file_at k.files file ≡ Some x → x.target ≡ Pipe_end i end → IsSome (get (pipes_of k.memories) i)
-  pub ends : (x : OpenFile) (i : ℕ) (end : End) → file_at k.files file ≡ Some x → x.target ≡ Pipe_end i end → count_on end (pipe_named (pipes_of k.memories) i) < 4096
+  pub ends : (x : OpenFile) (i : ℕ) (end : End) → file_at k.files file ≡ Some x → x.target ≡ Pipe_end i end → count_on end (pipe_named (pipes_of k.memories) i) < END_COUNT_MAX
 
 -- A descriptor of a slot, which was free, names the open file, which counts one more; so does the end of a pipe that it is
 pub record IsShared (k : Kernel) (slot fd file : ℕ) (k' : Kernel) : Type 0 where
