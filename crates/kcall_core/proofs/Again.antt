@@ -13,20 +13,22 @@ use Rattle.file_table.specs.declared.open_file.End.{End}
 use Rattle.proc_table.specs.declared.process.Call.{Call}
 use Rattle.kcall_core.specs.Words.{CLOCK_ROUND, c_int, minus_one}
 use Rattle.kcall_core.specs.Buffers.{writable, readable}
-use Rattle.kcall_core.specs.PipeEnds.{fit, there as there_in}
+use Rattle.kcall_core.specs.PipeEnds.{fit, there as there_in, must_wait}
 use Rattle.kcall_core.specs.Programs.{program_bytes}
-use Rattle.kcall_core.specs.Processes.{Live}
+use Rattle.kcall_core.specs.Processes.{Live, status_of}
 use Rattle.kcall_core.specs.State.{State, live}
 use Rattle.kcall_core.specs.View.{View, Descriptor, Shown, Shown_terminal, Shown_file, Shown_pipe, view, view_of}
 use Rattle.kcall_core.specs.Own.{Own, Blocked, goes_on}
 use Rattle.kcall_core.specs.Tables.{advance, change_pipe, changed, change_shown}
-use Rattle.kcall_core.specs.Calls.{Row, Wait, Read, Write, Sleep, row_of, perform, perform_row, unless, refused, done, waits, reaped, told, status_of, without_child, least_zombie, has_child, wait, read, read_on, read_from, read_line, must_wait, moving, unless_nothing, write, write_on, write_to, write_terminal, write_pipe, done_at, next_bytes, room_to_send, in_use, length_of_int, sleep, sleep_for}
+use Rattle.kcall_core.specs.Calls.{Row, Wait, Read, Write, Sleep, row_of, refused, done, waits, least_zombie, has_child}
 use Rattle.kcall_core.specs.Step.{own, unless_killed, going_on}
-use Rattle.kcall_core.specs.Ready.{ready, call_ready, row_ready, on_shown, can_read, can_write, has_slept}
+use Rattle.kcall_core.specs.Ready.{ready, call_ready, row_ready, on_shown, can_read, can_write, has_slept, in_use}
 use Rattle.kcall_core.specs.Worlds.{SameRest, SameDescriptors, bare, bare_shown, UnreadyWaits}
 use Rattle.kcall_core.proofs.Falls.{Falls, falls_done, falls_unless, falls_moving, falls_cond, own_falls}
 use Rattle.kcall_core.proofs.SamePipe.{shown_of, unchanged_by}
 use Rattle.kcall_core.proofs.Writes.{writable_written}
+use Rattle.kcall_core.proofs.RowParts.{perform_parts, perform_row, unless, reaped, told, without_child, wait_parts, read_parts, read_on, read_from, read_line, moving, unless_nothing, write_parts, write_on, write_to, write_terminal, write_pipe, done_at, next_bytes, room_to_send, length_of_int, sleep_parts, sleep_for}
+use Rattle.kcall_core.proofs.RowsByParts.{perform_same}
 
 -- whoever is in such a view, and is not ready, waits again
 abbrev pub Again : View → ℤ → Type 0
@@ -47,8 +49,8 @@ stays c m e = λ i. goes_on (Blocked c.number) (record m { call = sym e i })
 
 -- its row is what its step does
 by_perform : (c : Call) (r : Row) (m : View) → m.killed ≡ false → m.call ≡ Some c → row_of c.number ≡ Some r → own m ≡ perform_row c m (Some r)
-unfolding own perform
-by_perform c r m alive busy row = ap (unless_killed m) alive ∙ ap (going_on m) busy ∙ ap (perform_row c m) row
+unfolding own perform_parts
+by_perform c r m alive busy row = ap (unless_killed m) alive ∙ ap (going_on m) busy ∙ perform_same c m ∙ ap (perform_row c m) row
 
 abbrev Waits_on : Row → Call → View → Type 0
 Waits_on r c u =
@@ -74,19 +76,19 @@ falls_waits r c moved u row h k n a e s p m see rest same shut =
 
 -- ---- the rows
 
-is_wait : (c : Call) (m : View) → perform_row c m (Some Wait) ≡ wait c m
+is_wait : (c : Call) (m : View) → perform_row c m (Some Wait) ≡ wait_parts c m
 unfolding perform_row
 is_wait c m = refl
 
-is_read : (c : Call) (m : View) → perform_row c m (Some Read) ≡ read c m
+is_read : (c : Call) (m : View) → perform_row c m (Some Read) ≡ read_parts c m
 unfolding perform_row
 is_read c m = refl
 
-is_write : (c : Call) (m : View) → perform_row c m (Some Write) ≡ write c m
+is_write : (c : Call) (m : View) → perform_row c m (Some Write) ≡ write_parts c m
 unfolding perform_row
 is_write c m = refl
 
-is_sleep : (c : Call) (m : View) → perform_row c m (Some Sleep) ≡ sleep c m
+is_sleep : (c : Call) (m : View) → perform_row c m (Some Sleep) ≡ sleep_parts c m
 unfolding perform_row
 is_sleep c m = refl
 
@@ -115,7 +117,7 @@ module _ (c : Call) (v : View) (alive : v.killed ≡ false) where
           ∙ ap (λ (b : Bool). unless b (record c { moved = 0 }) m (λ _. reaped (record c { moved = 0 }) m (least_zombie m))) there
           ∙ no_zombie (record c { moved = 0 }) m (least_zombie m) shut
 
-  wait_row : row_of c.number ≡ Some Wait → Falls Again (wait c v)
+  wait_row : row_of c.number ≡ Some Wait → Falls Again (wait_parts c v)
   wait_row row = falls_unless Again (not (nat_eq c.a0 0) && not (writable v.image c.a0 4)) c v (λ _. reaped c v (least_zombie v)) (λ there. wait_by row there (least_zombie v))
 
 -- ---- numbers

@@ -15,16 +15,18 @@ use Rattle.kcall_core.specs.Processes.{Alive, Live}
 use Rattle.kcall_core.specs.State.{State, live_part}
 use Rattle.kcall_core.specs.View.{View, view, view_of, named, numbered}
 use Rattle.kcall_core.specs.Own.{Own, Answer, Stepped, Called, Blocked, goes_on, gone_with}
-use Rattle.kcall_core.specs.Calls.{done, waits, with_a0, running}
+use Rattle.kcall_core.specs.Calls.{done, waits, with_a0}
 use Rattle.kcall_core.specs.Step.{own, unless_killed, going_on, after_instruction, call_begun}
 use Rattle.kcall_core.specs.Updates.{own_state, alone_state, with_answer, in_call, stepped, started}
 use Rattle.kcall_core.specs.Run.{StateAfter, FilesAfter}
-use Rattle.kcall_core.specs.RowLaws.{After, IsBetweenCalls, InstructionLaw, EcallLaw, ResumeLaw, EndLaw, AnswerLaw, WaitingLaw, ExecLaw, begun_live, begun_state}
+use Rattle.kcall_core.specs.RowLaws.{After, IsBetweenCalls, InstructionLaw, EcallLaw, ResumeLaw, EndLaw, AnswerLaw, WaitingLaw, begun_live, begun_state}
 use Rattle.kcall_core.specs.Quiet.{file_at, pipe_at, pipe_of_file}
 use Rattle.kcall_core.proofs.Begun.{same_file_at, same_view_of, quiet_begun, ecall_own}
 use Rattle.kcall_core.proofs.Change.{alone, after_alone, view_alone, done_is, waits_is}
 use Rattle.kcall_core.proofs.Tell.{own_table_tells}
 use Rattle.kcall_core.proofs.AfterChange.{after_same_files}
+use Rattle.kcall_core.proofs.RowParts.{running}
+use Rattle.kcall_core.proofs.PartLaws.{ExecPart}
 
 module _ (s : State) (p : ℕ) (old : Live) (was : get s.processes p ≡ Some (Alive old)) (r : Registers) (i : Image) (c : Option Call) (k : Bool) (console : Console) (free : ℕ) where
   pub alone_law : (a : Answer) → gone_with a ≡ None → StateAfter s (view_of s p old) (goes_on a (view_of (after_alone s p old was r i c k console free) p (alone s p old was r i c k console free))) (after_alone s p old was r i c k console free)
@@ -52,7 +54,7 @@ waiting s p l c moved image console free was =
     (waits_is s p l was c image console free moved)
     (alone_law s p l was l.regs image (Some (record c { moved = moved })) l.killed console free (Blocked c.number) refl)
 
-pub exec : ExecLaw
+pub exec : ExecPart
 unfolding view_of
 exec s p l c new was =
     by_own s (alone_state p (with_answer (pos new.argc) (started new l)) s.console (s.free + price l.image - price new.image) s) (view_of s p l) (done c (pos new.argc) (running new (view_of s p l)))

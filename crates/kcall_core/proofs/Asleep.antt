@@ -9,12 +9,12 @@ use Rattle.xk_base.specs.Bytes.{write_image, image_byte}
 use Rattle.kcall_core.specs.Buffers.{writable, readable}
 use Rattle.kcall_core.specs.Tables.{advance, change_pipe, changed, change_shown}
 use Rattle.pipe_core.specs.Pipe.{Pipe, without_first, with_more}
-use Rattle.kcall_core.specs.PipeEnds.{fit, there}
+use Rattle.kcall_core.specs.PipeEnds.{fit, there, must_wait}
 use Rattle.console_core.specs.Reads.{Pulled, pulled, up_to, first_bytes, line_length}
 use Rattle.std.proofs.lemmas.Option.{slice_get_cases}
 use Rattle.std.proofs.lemmas.List.{drop_all}
 use Rattle.std.proofs.lemmas.List.FromFn.{length-map-range_with_len}
-use Rattle.kcall_core.specs.Calls.{room_to_send, Row, Wait, Read, Sleep, Write, row_of, refused, done, waits, reaped, least_zombie, has_child, wait, read, read_on, read_from, read_line, must_wait, moving, write, write_on, write_to, done_at, next_bytes, in_use, length_of_int, sleep_for, told, status_of, without_child}
+use Rattle.kcall_core.specs.Calls.{Row, Wait, Read, Sleep, Write, row_of, refused, done, waits, least_zombie, has_child}
 use Rattle.proc_table.specs.declared.process.Call.{Call}
 use Rattle.kcall_core.specs.View.{View, Descriptor, Shown, Shown_terminal, Shown_file, Shown_pipe}
 use Rattle.kcall_core.specs.Own.{Own}
@@ -22,7 +22,9 @@ use Rattle.kcall_core.specs.Wakes.{BlocksUnready}
 use Rattle.kcall_core.specs.Step.{own}
 use Rattle.kcall_core.specs.Programs.{program_bytes}
 use Rattle.kcall_core.proofs.Falls.{Falls, falls_done, falls_unless, falls_moving, falls_cond, own_falls}
-use Rattle.kcall_core.specs.Ready.{ready, row_ready, on_shown, can_read, can_write, has_slept}
+use Rattle.kcall_core.specs.Ready.{ready, row_ready, on_shown, can_read, can_write, has_slept, in_use}
+use Rattle.kcall_core.specs.Processes.{status_of}
+use Rattle.kcall_core.proofs.RowParts.{room_to_send, reaped, wait_parts, read_parts, read_on, read_from, read_line, moving, write_parts, write_on, write_to, done_at, next_bytes, length_of_int, sleep_for, told, without_child}
 
 -- a step that ends in sleep ends in a view that isn't ready
 abbrev Unready : View → ℤ → Type 0
@@ -106,7 +108,7 @@ module _ (c : Call) (v : View) (alive : v.killed ≡ false) where
   wait_by is None e = falls_cond Unready (has_child v) (waits c 0 v) (refused c v)
       (λ child. row_waits 0 v Wait alive is (λ i. is_some (e i) || not (child i))) (λ _. falls_done Unready c minus_one v)
 
-  wait_row : row_of c.number ≡ Some Wait → Sleeps_unready (wait c v)
+  wait_row : row_of c.number ≡ Some Wait → Sleeps_unready (wait_parts c v)
   wait_row is = falls_unless Unready (not (nat_eq c.a0 0) && not (writable v.image c.a0 4)) c v (λ _. reaped c v (least_zombie v)) (λ _. wait_by is (least_zombie v) refl)
 
   -- ---- read
@@ -153,7 +155,7 @@ module _ (c : Call) (v : View) (alive : v.killed ≡ false) where
         falls_unless Unready (not d.read) c v (λ _. moving c v (writable v.image c.a1 (length_of_int (c_int c.a2))) (c_int c.a2) (λ n. read_from c v n d.file d.shown))
         (λ _. falls_moving Unready c v (writable v.image c.a1 (length_of_int (c_int c.a2))) (c_int c.a2) (λ n. read_from c v n d.file d.shown) (λ m _ _ _. read_by m d d.shown on refl))
 
-    read_row : Sleeps_unready (read c v)
+    read_row : Sleeps_unready (read_parts c v)
     read_row = read_on_row (in_use v (c_int c.a0)) refl
 
   -- ---- write
@@ -216,7 +218,7 @@ module _ (c : Call) (v : View) (alive : v.killed ≡ false) where
         falls_unless Unready (not d.write) c v (λ _. moving c v (readable v.image c.a1 (length_of_int (c_int c.a2))) (c_int c.a2) (λ m. write_to c v m d.shown))
         (λ _. falls_moving Unready c v (readable v.image c.a1 (length_of_int (c_int c.a2))) (c_int c.a2) (λ m. write_to c v m d.shown) (λ m e _ _. subst (λ (k : ℕ). Sleeps_unready (write_to c v k d.shown)) (ap length_of_int e) (write_by d d.shown on refl)))
 
-    write_row : Sleeps_unready (write c v)
+    write_row : Sleeps_unready (write_parts c v)
     write_row = write_on_row (in_use v (c_int c.a0)) refl
 
   -- ---- sleep

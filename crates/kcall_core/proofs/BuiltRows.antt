@@ -8,6 +8,7 @@ use Rattle.kcall_core.specs.View.{View}
 use Rattle.kcall_core.specs.Own.{Exited}
 use Rattle.kcall_core.specs.Calls.{Row, table, row_of, perform, refused, gone, fork, wait, kill, exec, dup, getpid, sbrk, sleep, uptime, close}
 use Rattle.kcall_core.specs.Built.{is_built, perform_so_far}
+use Rattle.kcall_core.proofs.RowsByParts.{exit_same}
 use Rattle.kcall_core.proofs.Decoding.{is_fork, is_exit, is_wait, is_kill, is_exec, is_dup, is_getpid, is_sbrk, is_sleep, is_uptime, is_close, is_none_of_them}
 
 module _ (c : Call) (v : View) where
@@ -20,7 +21,7 @@ module _ (c : Call) (v : View) where
 
   pub exit-row : c.number ≡ pos 2 → perform_so_far c v ≡ gone (Exited (c_int c.a0)) v
   unfolding row_of
-  exit-row is = by_number (pos 2) is ∙ is_exit c v is
+  exit-row is = by_number (pos 2) is ∙ is_exit c v is ∙ exit_same c v
 
   pub wait-row : c.number ≡ pos 3 → perform_so_far c v ≡ wait c v
   unfolding row_of

@@ -1,5 +1,5 @@
 -- No step shows a byte that another process left in a page.
-use Rattle.std.proofs.Common.{◌≡◌, ◌≢◌, ℕ, zero, suc, ◌+◌, ◌-◌, ◌/◌, ◌%◌, ◌++◌, Bool, true, false, cond, not, ◌&&◌, ◌||◌, List, [], ◌∷◌, length, refl, ap, sym, ◌∙◌, inl, inr, ◌⊎◌, replicate, take, drop}
+use Rattle.std.proofs.Common.{◌≡◌, ◌≢◌, ℕ, zero, suc, ◌+◌, ◌-◌, ◌/◌, ◌%◌, ◌++◌, Bool, true, false, cond, not, ◌&&◌, ◌||◌, List, [], ◌∷◌, length, refl, ap, sym, ◌∙◌, inl, inr, ◌⊎◌, replicate, take, drop, subst}
 use Rattle.std.specs.Prelude.{Option, None, Some, ℤ, pos, negsuc, nat_eq, nat_lt, nat_le, is_some, slice_get, Result, Ok, Err}
 use Rattle.std.specs.FinMap.{FinMap, get, insert}
 use Rattle.std.specs.Ordering.{nat_cmp}
@@ -21,12 +21,12 @@ use Rattle.xk_base.specs.Bytes.{write_image}
 use Rattle.proc_table.specs.declared.process.Call.{Call}
 use Rattle.kcall_core.specs.View.{View, Descriptor, Shown, Shown_terminal, Shown_file, Shown_pipe}
 use Rattle.kcall_core.specs.Own.{Own, Stepped, Called, Exited, Faulted}
-use Rattle.kcall_core.specs.Calls.{Row, Fork, Exit, Wait, Pipe_row, Read, Kill, Exec, Dup, Getpid, Sbrk, Sleep, Uptime, Open, Write, Close, row_of, perform, perform_row, answered, gone, done, refused, waits, unless, unless_nothing, moving, length_of_int, reaped, least_zombie, has_child, without_child, status_of, piped, piped_from, with_pipe, read_on, read_from, must_wait, write_on, write_to, done_at, next_bytes, in_use, kill_pid, killed_by, exec_program, exec_path, dup_at, dup_on, dup_number, close_at, close_on, close_number, sbrk_by, grow_to, shrink_to, exec_loaded, running, sleep_for, open_at, open_path, opened_as, what_is_named, fork, forked, cannot_fork, with_child, room_to_send}
+use Rattle.kcall_core.specs.Calls.{Row, Fork, Exit, Wait, Pipe_row, Read, Kill, Exec, Dup, Getpid, Sbrk, Sleep, Uptime, Open, Write, Close, row_of, answered, gone, done, refused, waits, least_zombie, has_child}
 use Rattle.kcall_core.specs.Programs.{program_bytes, program_named}
 use Rattle.kcall_core.specs.Step.{own, unless_killed, going_on, after_instruction, call_begun, call_or_begun, call_in, begun}
 use Rattle.xk_base.specs.Words.{le_bytes}
 use Rattle.kcall_core.specs.Tables.{lowest_free, lowest_free_above, advance, change_pipe, with_copy, one_more_on, one_less_on, without_descriptor, with_descriptor, pipes_given_up}
-use Rattle.kcall_core.specs.PipeEnds.{there, fit}
+use Rattle.kcall_core.specs.PipeEnds.{there, fit, must_wait}
 use Rattle.pipe_core.specs.Pipe.{without_first, with_more}
 use Rattle.console_core.specs.Reads.{Pulled, pulled}
 use Rattle.kcall_core.specs.State.{ProgramFile}
@@ -36,6 +36,10 @@ use Rattle.kcall_core.specs.Worlds.{IsExecOf, IsExecDone, NewPagesAreZeros, NoOl
 use Rattle.xk_base.specs.Bytes.{put_in, put_byte}
 use Rattle.xk_base.specs.Gathered.{insert_some}
 use Rattle.kcall_core.proofs.Maps.{get_same, get_other}
+use Rattle.kcall_core.specs.Processes.{status_of}
+use Rattle.kcall_core.specs.Ready.{in_use}
+use Rattle.kcall_core.proofs.RowParts.{perform_parts, perform_row, unless, unless_nothing, moving, length_of_int, reaped, without_child, piped, piped_from, with_pipe, read_on, read_from, write_on, write_to, done_at, next_bytes, kill_pid, killed_by, exec_program, exec_path, dup_at, dup_on, dup_number, close_at, close_on, close_number, sbrk_by, grow_to, shrink_to, exec_loaded, running, sleep_for, open_at, open_path, opened_as, kind_named, fork_parts, forked, cannot_fork, with_child, room_to_send}
+use Rattle.kcall_core.proofs.RowsByParts.{perform_same}
 
 same_view : (a b : View) → Some a ≡ Some b → a ≡ b
 same_view a b e = cc
@@ -324,9 +328,9 @@ module _ (c : Call) (v : View) where
 
   open_row : (o : Option (List ℕ)) → Zeroed v (open_path c v o)
   open_row None = refusal
-  open_row (Some path) = open_to (lowest_free v.descriptors) (opened_as (what_is_named (no_slashes path) v) (c_int c.a1))
+  open_row (Some path) = open_to (lowest_free v.descriptors) (opened_as (kind_named (no_slashes path) v) (c_int c.a1))
 
-  fork_row : Zeroed v (fork c v)
+  fork_row : Zeroed v (fork_parts c v)
   fork_row = zeroed_unless (cannot_fork v) c v (λ _. forked c v) (zeroed_same v (answered (pos v.next_pid) (with_child v)) refl (forked c v) refl)
 
   other : (r : Option Row) → row_of c.number ≡ r → is_exec r ≡ false → Zeroed v (perform_row c v r) → Clean c v (perform_row c v r)
@@ -351,8 +355,8 @@ module _ (c : Call) (v : View) where
   by_row (Some Write) e = other (Some Write) e refl (write_on_row (in_use v (c_int c.a0)))
   by_row (Some Close) e = other (Some Close) e refl (close_row (c_int c.a0))
 
-  pub perform_clean : Clean c v (perform c v)
-  unfolding perform
+  pub perform_clean : Clean c v (perform_parts c v)
+  unfolding perform_parts
   perform_clean = by_row (row_of c.number) refl
 
 -- ---- a step
@@ -366,12 +370,12 @@ module _ (v : View) where
   instruction_clean (Next r None) = stepped_clean (after_instruction v (Next r None)) refl (zeroed_same v (record v { regs = r }) refl (after_instruction v (Next r None)) refl)
   instruction_clean (Next r (Some st)) = stepped_clean (after_instruction v (Next r (Some st))) refl
       (zeroed_view v (record v { regs = r; image = with_store v.image st }) (λ page none. store_absent v.image st page none) (after_instruction v (Next r (Some st))) refl)
-  instruction_clean Ecall = perform_clean (call_begun v) (begun v)
+  instruction_clean Ecall = subst (Clean (call_begun v) (begun v)) (sym (perform_same (call_begun v) (begun v))) (perform_clean (call_begun v) (begun v))
   instruction_clean (Fault cause) = clean_gone (call_begun v) v (gone (Faulted cause) v) refl
 
   going_clean : (o : Option Call) → Clean (call_or_begun v o) v (going_on v o)
   going_clean None = instruction_clean (next_instruction v.regs v.image)
-  going_clean (Some c) = perform_clean c v
+  going_clean (Some c) = subst (Clean c v) (sym (perform_same c v)) (perform_clean c v)
 
   unless_clean : (b : Bool) → Clean (call_in v) v (unless_killed v b)
   unless_clean true = clean_gone (call_in v) v (gone (Exited minus_one) v) refl

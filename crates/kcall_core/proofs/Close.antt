@@ -15,7 +15,7 @@ use Rattle.kcall_core.specs.State.{State, live_part}
 use Rattle.kcall_core.specs.View.{View, Table, Descriptor, named, numbered, descriptor_at, or_gone, view_of, file_name, pipe_name}
 use Rattle.kcall_core.specs.Own.{Own, Called}
 use Rattle.kcall_core.specs.Tables.{without_descriptor, one_less_on, change_pipes, pipes_given_up}
-use Rattle.kcall_core.specs.Calls.{close_at, with_a0}
+use Rattle.kcall_core.specs.Calls.{with_a0}
 use Rattle.kcall_core.specs.Quiet.{Quiet, pipe_at, pipe_of_file, is_same}
 use Rattle.kcall_core.specs.Updates.{changed_state}
 use Rattle.kcall_core.proofs.Maps.{get_without}
@@ -24,6 +24,7 @@ use Rattle.kcall_core.proofs.Tell.{quiet_from}
 use Rattle.kcall_core.proofs.Names.{Alike, alike_named, named_alike, bare}
 use Rattle.kcall_core.proofs.Became.{became, changed_tells, changed_spares}
 use Rattle.kcall_core.proofs.Change.{view_changed, leaves_changed, leaving}
+use Rattle.kcall_core.proofs.RowParts.{close_at}
 
 -- ---- a table without a place, named from names
 

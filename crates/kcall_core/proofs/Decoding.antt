@@ -13,93 +13,97 @@ use Rattle.kcall_core.specs.Buffers.{readable, writable, text_at, texts_at, no_s
 use Rattle.kcall_core.specs.Programs.{program_named}
 use Rattle.kcall_core.specs.Processes.{Alive, Live}
 use Rattle.kcall_core.specs.View.{View, Descriptor, view_of, numbered, rename, descriptor_at, descriptor_on}
-use Rattle.kcall_core.specs.Own.{Own, Exited}
+use Rattle.kcall_core.specs.Own.{Own}
 use Rattle.kcall_core.specs.Tables.{lowest_free, lowest_free_above}
-use Rattle.kcall_core.specs.Calls.{row_of, perform, perform_row, refused, fork, gone, wait, make_pipe, piped, piped_from, read, read_on, read_from, kill, kill_pid, killed_by, exec, exec_path, exec_program, exec_loaded, dup, dup_number, dup_on, dup_at, getpid, sbrk, sleep, uptime, open_file, open_path, open_at, opened_as, what_is_named, write, write_on, write_to, close, close_number, close_on, close_at, unless, unless_nothing, moving, length_of_int, in_use}
+use Rattle.kcall_core.specs.Calls.{row_of, perform, refused, fork, wait, make_pipe, read, kill, exec, dup, getpid, sbrk, sleep, uptime, open_file, write, close, Row, row, exit}
 use Rattle.kcall_core.specs.Quiet.{file_of}
 use Rattle.kcall_core.specs.WellFormed.{WellFormed}
 use Rattle.kcall_core.proofs.Least.{least_congr}
 use Rattle.kcall_core.proofs.Names.{named_at}
+use Rattle.kcall_core.specs.Ready.{in_use}
+use Rattle.kcall_core.proofs.RowParts.{piped, piped_from, read_on, read_from, kill_pid, killed_by, exec_path, exec_program, exec_loaded, dup_number, dup_on, dup_at, open_path, open_at, opened_as, kind_named, write_on, write_to, close_number, close_on, close_at, unless, unless_nothing, moving, length_of_int}
+use Rattle.kcall_core.specs.Lines.{◌>>=◌, ◌or◌}
+use Rattle.kcall_core.proofs.RowsByParts.{dup_same, close_same, read_same, write_same, open_same, pipe_same, kill_same, exec_same}
 
 -- ---- which row
 
 module _ (c : Call) (v : View) where
-  by_number : (number : ℤ) → c.number ≡ number → perform c v ≡ perform_row c v (row_of number)
+  by_number : (number : ℤ) → c.number ≡ number → perform c v ≡ ((row_of number or refused c v) >>= (λ r. row r c v))
   unfolding perform
-  by_number number is = ap (λ (z : ℤ). perform_row c v (row_of z)) is
+  by_number number is = ap (λ (z : ℤ). (row_of z or refused c v) >>= (λ r. row r c v)) is
 
   pub is_fork : c.number ≡ pos 1 → perform c v ≡ fork c v
-  unfolding perform_row row_of
+  unfolding row row_of ◌>>=◌ ◌or◌
   is_fork is = by_number (pos 1) is
 
-  pub is_exit : c.number ≡ pos 2 → perform c v ≡ gone (Exited (c_int c.a0)) v
-  unfolding perform_row row_of
+  pub is_exit : c.number ≡ pos 2 → perform c v ≡ exit c v
+  unfolding row row_of ◌>>=◌ ◌or◌
   is_exit is = by_number (pos 2) is
 
   pub is_wait : c.number ≡ pos 3 → perform c v ≡ wait c v
-  unfolding perform_row row_of
+  unfolding row row_of ◌>>=◌ ◌or◌
   is_wait is = by_number (pos 3) is
 
   pub is_pipe : c.number ≡ pos 4 → perform c v ≡ make_pipe c v
-  unfolding perform_row row_of
+  unfolding row row_of ◌>>=◌ ◌or◌
   is_pipe is = by_number (pos 4) is
 
   pub is_read : c.number ≡ pos 5 → perform c v ≡ read c v
-  unfolding perform_row row_of
+  unfolding row row_of ◌>>=◌ ◌or◌
   is_read is = by_number (pos 5) is
 
   pub is_kill : c.number ≡ pos 6 → perform c v ≡ kill c v
-  unfolding perform_row row_of
+  unfolding row row_of ◌>>=◌ ◌or◌
   is_kill is = by_number (pos 6) is
 
   pub is_exec : c.number ≡ pos 7 → perform c v ≡ exec c v
-  unfolding perform_row row_of
+  unfolding row row_of ◌>>=◌ ◌or◌
   is_exec is = by_number (pos 7) is
 
   pub is_dup : c.number ≡ pos 10 → perform c v ≡ dup c v
-  unfolding perform_row row_of
+  unfolding row row_of ◌>>=◌ ◌or◌
   is_dup is = by_number (pos 10) is
 
   pub is_getpid : c.number ≡ pos 11 → perform c v ≡ getpid c v
-  unfolding perform_row row_of
+  unfolding row row_of ◌>>=◌ ◌or◌
   is_getpid is = by_number (pos 11) is
 
   pub is_sbrk : c.number ≡ pos 12 → perform c v ≡ sbrk c v
-  unfolding perform_row row_of
+  unfolding row row_of ◌>>=◌ ◌or◌
   is_sbrk is = by_number (pos 12) is
 
   pub is_sleep : c.number ≡ pos 13 → perform c v ≡ sleep c v
-  unfolding perform_row row_of
+  unfolding row row_of ◌>>=◌ ◌or◌
   is_sleep is = by_number (pos 13) is
 
   pub is_uptime : c.number ≡ pos 14 → perform c v ≡ uptime c v
-  unfolding perform_row row_of
+  unfolding row row_of ◌>>=◌ ◌or◌
   is_uptime is = by_number (pos 14) is
 
   pub is_open : c.number ≡ pos 15 → perform c v ≡ open_file c v
-  unfolding perform_row row_of
+  unfolding row row_of ◌>>=◌ ◌or◌
   is_open is = by_number (pos 15) is
 
   pub is_write : c.number ≡ pos 16 → perform c v ≡ write c v
-  unfolding perform_row row_of
+  unfolding row row_of ◌>>=◌ ◌or◌
   is_write is = by_number (pos 16) is
 
   pub is_close : c.number ≡ pos 21 → perform c v ≡ close c v
-  unfolding perform_row row_of
+  unfolding row row_of ◌>>=◌ ◌or◌
   is_close is = by_number (pos 21) is
 
   pub is_none_of_them : row_of c.number ≡ None → perform c v ≡ refused c v
-  unfolding perform perform_row
-  is_none_of_them none = ap (perform_row c v) none
+  unfolding perform ◌>>=◌ ◌or◌
+  is_none_of_them none = ap (λ (o : Option Row). (o or refused c v) >>= (λ r. row r c v)) none
 
   -- ---- which case
 
   module _ (d : Descriptor) (fd : ℕ) (n : ℕ) (is_fd : c_int c.a0 ≡ pos fd) (used : v.descriptors fd ≡ Some d) where
     pub dup_case : dup c v ≡ dup_at c v fd d (lowest_free v.descriptors)
-    dup_case = ap (dup_number c v) is_fd ∙ ap (dup_on c v fd) used
+    dup_case = dup_same c v ∙ ap (dup_number c v) is_fd ∙ ap (dup_on c v fd) used
 
     pub close_case : close c v ≡ close_at c v fd d
-    close_case = ap (close_number c v) is_fd ∙ ap (close_on c v fd) used
+    close_case = close_same c v ∙ ap (close_number c v) is_fd ∙ ap (close_on c v fd) used
 
     found : in_use v (c_int c.a0) ≡ Some d
     found = ap (in_use v) is_fd ∙ used
@@ -113,29 +117,29 @@ module _ (c : Call) (v : View) where
 
       pub read_case : d.read ≡ true → writable v.image c.a1 n ≡ true → read c v ≡ read_from c v n d.file d.shown
       read_case reads there =
-          ap (read_on c v) found
+          read_same c v ∙ ap (read_on c v) found
           ∙ ap (λ (b : Bool). unless (not b) c v (λ _. moving c v (writable v.image c.a1 (length_of_int (c_int c.a2))) (c_int c.a2) (λ m. read_from c v m d.file d.shown))) reads
           ∙ by_count (writable v.image c.a1) (λ m. read_from c v m d.file d.shown) there
 
       pub write_case : d.write ≡ true → readable v.image c.a1 n ≡ true → write c v ≡ write_to c v n d.shown
       write_case writes there =
-          ap (write_on c v) found
+          write_same c v ∙ ap (write_on c v) found
           ∙ ap (λ (b : Bool). unless (not b) c v (λ _. moving c v (readable v.image c.a1 (length_of_int (c_int c.a2))) (c_int c.a2) (λ m. write_to c v m d.shown))) writes
           ∙ by_count (readable v.image c.a1) (λ m. write_to c v m d.shown) there
 
-  pub open_case : (path : List ℕ) → text_at MAXPATH v.image c.a0 ≡ Some path → open_file c v ≡ open_at c v (lowest_free v.descriptors) (opened_as (what_is_named (no_slashes path) v) (c_int c.a1))
-  open_case path is = ap (open_path c v) is
+  pub open_case : (path : List ℕ) → text_at MAXPATH v.image c.a0 ≡ Some path → open_file c v ≡ open_at c v (lowest_free v.descriptors) (opened_as (kind_named (no_slashes path) v) (c_int c.a1))
+  open_case path is = open_same c v ∙ ap (open_path c v) is
 
   pub pipe_case : (r : ℕ) → (not (writable v.image c.a0 8) || nat_eq v.free 0) ≡ false → lowest_free v.descriptors ≡ Some r → make_pipe c v ≡ piped c v r (lowest_free_above v.descriptors r)
-  pipe_case r room least = ap (λ (b : Bool). unless b c v (λ _. piped_from c v (lowest_free v.descriptors))) room ∙ ap (piped_from c v) least
+  pipe_case r room least = pipe_same c v ∙ ap (λ (b : Bool). unless b c v (λ _. piped_from c v (lowest_free v.descriptors))) room ∙ ap (piped_from c v) least
 
   pub kill_case : (q : ℕ) → c_int c.a0 ≡ pos q → nat_eq q 0 ≡ false → kill c v ≡ killed_by c v q
-  kill_case q is some = ap (kill_pid c v) is ∙ ap (λ (b : Bool). unless b c v (λ _. killed_by c v q)) some
+  kill_case q is some = kill_same c v ∙ ap (kill_pid c v) is ∙ ap (λ (b : Bool). unless b c v (λ _. killed_by c v q)) some
 
   pub exec_case : (path : List ℕ) (texts : List (List ℕ)) (program : ProgramFile) → text_at MAXPATH v.image c.a0 ≡ Some path → texts_at MAXARG ARG_BYTES v.image c.a1 ≡ Some texts
       → program_named (no_slashes path) v.programs ≡ Some program → exec c v ≡ exec_loaded c v (loaded program.bytes texts)
   exec_case path texts program is args named_so =
-      ap (exec_path c v) is
+      exec_same c v ∙ ap (exec_path c v) is
       ∙ ap (λ (t : Option (List (List ℕ))). exec_program c v t (program_named (no_slashes path) v.programs)) args
       ∙ ap (exec_program c v (Some texts)) named_so
 

@@ -21,12 +21,12 @@ use Rattle.kcall_core.specs.Processes.{Alive, Live}
 use Rattle.kcall_core.specs.State.{State, live, live_part}
 use Rattle.kcall_core.specs.View.{Table, Descriptor, Shown, Shown_terminal, Shown_file, Shown_pipe, view_of, named, numbered, rename, rename_shown, descriptor_at, descriptor_on, show, or_gone, or_else, least_on_file}
 use Rattle.kcall_core.specs.Own.{Called, goes_on}
-use Rattle.kcall_core.specs.Calls.{with_a0, dup_at, close_at}
+use Rattle.kcall_core.specs.Calls.{with_a0}
 use Rattle.kcall_core.specs.Tables.{one_more_on, one_less_on, change_pipes, changed, change_shown, ends, on_end, is_end, names_given_up, pipes_given_up}
 use Rattle.kcall_core.specs.Quiet.{file_at, pipe_at, file_of, pipe_of_file, pipe_of_open, pipe_of_target, OtherNames, OtherHas}
 use Rattle.kcall_core.specs.Updates.{changed_state, with_answer, with_named, with_closed, settled}
 use Rattle.kcall_core.specs.WellFormed.{WellFormed}
-use Rattle.kcall_core.specs.RowLaws.{After, OnPipe, FilesLeft, DupLaw, DupPipeLaw, CloseLaw, ClosePipeLaw, closed_state}
+use Rattle.kcall_core.specs.RowLaws.{After, OnPipe, FilesLeft, closed_state}
 use Rattle.kcall_core.proofs.Maps.{get_same, get_other, get_without}
 use Rattle.kcall_core.proofs.Names.{named_at}
 use Rattle.kcall_core.proofs.After.{OldOrNew}
@@ -40,6 +40,8 @@ use Rattle.kcall_core.proofs.Enough.{pipe_there, can_go}
 use Rattle.kcall_core.proofs.Closes.{count_some, on_an_end, name_of_pipe}
 use Rattle.kcall_core.proofs.Dup as dups
 use Rattle.kcall_core.proofs.Close as closes
+use Rattle.kcall_core.proofs.RowParts.{dup_at, close_at}
+use Rattle.kcall_core.proofs.PartLaws.{DupPart, DupPipePart, ClosePart, ClosePipePart}
 
 inside : (a b : ℕ) → Some a ≡ Some b → a ≡ b
 inside a b e = cc
@@ -100,13 +102,13 @@ module _ (s : State) (p : ℕ) (l : Live) (c : Call) (j k f : ℕ) (d : Descript
         (dups.dup_spares s p l was c j k f below source unused d seen pipes spared)
         dup_keep (λ q e g i a b. b) dup_from)
 
-pub dup_law : DupLaw
+pub dup_law : DupPart
 dup_law s p l c j k f x d was below source unused opened no_pipe seen =
     dup_after s p l c j k f d s.pipes was below source unused seen
     (ap (λ (y : Shown). one_more_on y (named (numbered s l))) (shown_is s p l j f x d below source opened seen) ∙ more_none s p l j f x d below source opened seen x.target no_pipe (named (numbered s l)))
     (λ i h. refl)
 
-pub dup_pipe_law : DupPipeLaw
+pub dup_pipe_law : DupPipePart
 dup_pipe_law s p l c j k i n end x d on unused seen =
     dup_after s p l c j k on.file d (insert s.pipes i (joined x end 1)) on.was on.below on.named_file unused seen
     (ap (λ (y : Descriptor). one_more_on y.shown (named (numbered s l))) (same_descriptor d (record { file = or_else (least_on_file (numbered s l) on.file) on.file; read = on.read; write = on.write; shown = Shown_pipe n end x }) (sym seen ∙ the_descriptor s p l j i n end x on)) ∙ more_here s l i n end x on.names)
@@ -227,7 +229,7 @@ same_table t = fun_ext (λ e. by (t e))
     by None = refl
     by (Some x) = λ i. Some (record x { shown = same_shown x.shown i })
 
-pub close_law : CloseLaw
+pub close_law : ClosePart
 close_law frames s p l c k f x d files well was below source opened no_pipe seen left =
     close_after frames s p l c k d (λ n y. y) files s.pipes 0 well was left
     (ap (λ (y : Shown). one_less_on y (named (numbered s l))) (shown_is s p l k f x d below source opened seen) ∙ less_none s p l k f x d below source opened seen x.target no_pipe (named (numbered s l)) ∙ ap named (same_table (numbered s l)))
@@ -392,5 +394,5 @@ module _ (frames : ℕ) (s : State) (p : ℕ) (l : Live) (k i n : ℕ) (end : En
         (λ e j other below h. became j (λ same. held_by_others (other.0, other.1, other.2, other.3 ∙ ap Some same)))
         (λ j other h. apart_pipe j (λ same. h k on.below (k_on_pipe ∙ sym (ap Some same))))
 
-pub close_pipe_law : ClosePipeLaw
+pub close_pipe_law : ClosePipePart
 close_pipe_law frames s p l c k i n end x d files on well seen left = close_pipe_after frames s p l k i n end x on well c d files seen left

@@ -1,7 +1,7 @@
 -- A kernel without a process is whole: nothing is open, nobody sleeps, and all frames are free. A tick leaves it so.
-use Rattle.std.proofs.Common.{◌≡◌, ℕ, zero, suc, ◌∷◌, ◌+◌, ◌<◌, ◌≤◌, true, false, length, replicate, map, get_or, Some, None, refl, sym, ap, ◌∙◌, subst, arith}
+use Rattle.std.proofs.Common.{◌≡◌, ℕ, zero, suc, ◌∷◌, true, false, length, replicate, map, get_or, Some, None, refl, sym, ap, ◌∙◌, subst, arith}
 use Rattle.std.specs.Prelude.{List, Option, option_map, IsSome, is_some}
-use Rattle.std.specs.FinMap.{get, get-empty, empty, len, len-empty}
+use Rattle.std.specs.FinMap.{get, get-empty, len-empty}
 use Rattle.std.specs.FinSet as set
 use Rattle.std.specs.FinSet.{contains, contains-empty}
 use Rattle.std.specs.Ordering.{nat_cmp}
@@ -23,7 +23,7 @@ use Rattle.kcall_core.specs.Starts.{HasNoProcess}
 use Rattle.kcall_core.specs.Quiet.{file_at, file_of}
 use Rattle.kcall_core.specs.WellFormed.{WellFormed, over_all, cost, sum_below}
 use Rattle.kcall_core.specs.Wakes.{NoReadySleeper}
-use Rattle.kcall_core.specs.Memories.{each_of, pipes_of, free_of, Same}
+use Rattle.kcall_core.specs.Memories.{pipes_of, free_of, Same}
 use Rattle.kcall_core.specs.Kernel.{frame_count, state_of, IsSound}
 use Rattle.kcall_core.specs.Machine.{sleeper_in, sleepers_below, turns_of, world_of}
 use Rattle.kcall_core.specs.Whole.{AreCounted, IsWhole}

@@ -16,7 +16,7 @@ use Rattle.kcall_core.specs.State.{State, live, live_part}
 use Rattle.kcall_core.specs.View.{Table, Descriptor, named, numbered, rename, descriptor_at, descriptor_on, show, or_gone, view_of}
 use Rattle.kcall_core.specs.Own.{Own, Called, goes_on}
 use Rattle.kcall_core.specs.Tables.{with_copy, one_more_on}
-use Rattle.kcall_core.specs.Calls.{dup_at, with_a0}
+use Rattle.kcall_core.specs.Calls.{with_a0}
 use Rattle.kcall_core.specs.Quiet.{Quiet, file_at, file_of, pipe_at, pipe_of_file, pipe_of_open, pipe_of_target, offset_left, pipe_left, shown_offset, shown_pipe}
 use Rattle.kcall_core.specs.Updates.{changed_state}
 use Rattle.kcall_core.proofs.Maps.{get_at, get_other}
@@ -24,6 +24,7 @@ use Rattle.kcall_core.proofs.Frame.{Tells, Spares, OtherNames, open_offset, targ
 use Rattle.kcall_core.proofs.Tell.{quiet_from}
 use Rattle.kcall_core.proofs.Names.{named_at, named_copy}
 use Rattle.kcall_core.proofs.Change.{view_changed, leaves_changed}
+use Rattle.kcall_core.proofs.RowParts.{dup_at}
 
 -- ---- a table with more descriptors tells what p's descriptors were on
 

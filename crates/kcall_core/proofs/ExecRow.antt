@@ -1,5 +1,5 @@
 -- The row of exec, by the program that is asked for.
-use Rattle.std.proofs.Common.{◌≡◌, ℕ, List, Option, Some, None, Result, Ok, Err, refl}
+use Rattle.std.proofs.Common.{◌≡◌, ℕ, List, Option, Some, None, Result, Ok, Err, refl, ◌∙◌}
 use Rattle.std.specs.Prelude.{pos, nat_lt}
 use Rattle.xk_base.specs.declared.limits.TheConstants.{MAXPATH, MAXARG, ARG_BYTES}
 use Rattle.xk_base.specs.declared.errors.ExecError.{ExecError}
@@ -11,8 +11,10 @@ use Rattle.kcall_core.specs.Programs.{program_named}
 use Rattle.kcall_core.specs.State.{ProgramFile}
 use Rattle.kcall_core.specs.View.{View}
 use Rattle.kcall_core.specs.Own.{Own}
-use Rattle.kcall_core.specs.Calls.{exec, exec_path, exec_program, exec_loaded, running, unless, done, refused}
+use Rattle.kcall_core.specs.Calls.{exec, done, refused}
 use Rattle.kcall_core.specs.Execs.{asked, asked_path, asked_program, if_loaded}
+use Rattle.kcall_core.proofs.RowParts.{exec_path, exec_program, exec_loaded, running, unless}
+use Rattle.kcall_core.proofs.RowsByParts.{exec_same}
 
 abbrev pub exec_asked : Call → View → Option Loaded → Own
 exec_asked c v None = refused c v
@@ -34,4 +36,4 @@ module _ (c : Call) (v : View) where
 
   -- the row says what `asked` does
   pub exec-is : exec c v ≡ exec_asked c v (asked v.programs v.image c.a0 c.a1)
-  exec-is = by-path (text_at MAXPATH v.image c.a0)
+  exec-is = exec_same c v ∙ by-path (text_at MAXPATH v.image c.a0)

@@ -17,7 +17,7 @@ use Rattle.kcall_core.specs.Words.{SP, A1, minus_one}
 use Rattle.kcall_core.specs.State.{ProgramFile, named_file}
 use Rattle.kcall_core.specs.View.{View, view_of}
 use Rattle.kcall_core.specs.Own.{Own, Called}
-use Rattle.kcall_core.specs.Calls.{exec, running, done, refused, unless}
+use Rattle.kcall_core.specs.Calls.{exec, done, refused}
 use Rattle.kcall_core.specs.Updates.{started, own_state, with_answer}
 use Rattle.kcall_core.specs.Execs.{asked}
 use Rattle.kcall_core.specs.Holdings.{held_at, with_image}
@@ -33,6 +33,7 @@ use Rattle.kcall_core.proofs.States.{runs-same}
 use Rattle.kcall_core.proofs.ExecRow.{exec_asked, exec-is}
 use Rattle.kcall_core.proofs.Asking.{asked-few}
 use Rattle.kcall_core.proofs.Prepared.{Prepared, over, prepared-anew, prepared-same, prepared-makes}
+use Rattle.kcall_core.proofs.RowParts.{running, unless}
 
 -- the memories now hold the program that was asked for, and the hart uses its tables
 abbrev pub Replaced : Memories → Memories → List ProgramFile → (slot path pointers : ℕ) → Entry → Hart → Type 0

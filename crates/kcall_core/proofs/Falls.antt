@@ -1,5 +1,5 @@
 -- What stands of every step that ends in sleep, from the four rows that may wait.
-use Rattle.std.proofs.Common.{◌≡◌, ◌≢◌, ℕ, suc, ◌+◌, ◌-◌, Bool, true, false, cond, not, ◌||◌, List, refl}
+use Rattle.std.proofs.Common.{◌≡◌, ◌≢◌, ℕ, suc, ◌+◌, ◌-◌, Bool, true, false, cond, not, ◌||◌, List, refl, subst, sym}
 use Rattle.std.specs.Prelude.{Option, None, Some, ℤ, pos, negsuc, nat_eq, nat_lt, nat_le, Result, Ok, Err}
 use Rattle.xk_base.specs.declared.limits.TheConstants.{SIZE_LIMIT, MAXARG, ARG_BYTES, MAXPATH}
 use Rattle.kcall_core.specs.Instruction.{next_instruction}
@@ -10,7 +10,7 @@ use Rattle.xk_base.specs.Image.{price}
 use Rattle.xk_base.specs.Loaded.{loaded, Loaded}
 use Rattle.rv64i_core.specs.Step.{Next, Ecall, Fault, Step}
 use Rattle.xk_base.specs.declared.errors.ExecError.{ExecError}
-use Rattle.kcall_core.specs.Calls.{Row, Fork, Exit, Wait, Pipe_row, Read, Kill, Exec, Dup, Getpid, Sbrk, Sleep, Uptime, Open, Write, Close, row_of, perform, perform_row, unless, done, gone, wait, read, moving, unless_nothing, write, sleep, fork, forked, cannot_fork, piped, piped_from, make_pipe, kill_pid, killed_by, exec_loaded, exec_program, exec_path, running, dup_at, dup_on, dup_number, close_at, close_on, close_number, sbrk_by, shrink_to, open_at, open_path, opened_as, what_is_named}
+use Rattle.kcall_core.specs.Calls.{Row, Fork, Exit, Wait, Pipe_row, Read, Kill, Exec, Dup, Getpid, Sbrk, Sleep, Uptime, Open, Write, Close, row_of, done, gone}
 use Rattle.proc_table.specs.declared.process.Call.{Call}
 use Rattle.kcall_core.specs.State.{ProgramFile}
 use Rattle.kcall_core.specs.View.{View, Descriptor, Shown}
@@ -18,6 +18,8 @@ use Rattle.kcall_core.specs.Own.{Own, Blocked, Called, Exited, Faulted, Answer}
 use Rattle.std.specs.List.{list_any}
 use Rattle.kcall_core.specs.Step.{own, unless_killed, going_on, after_instruction, call_begun, begun}
 use Rattle.kcall_core.specs.Programs.{program_named}
+use Rattle.kcall_core.proofs.RowParts.{perform_parts, perform_row, unless, wait_parts, read_parts, moving, unless_nothing, write_parts, sleep_parts, fork_parts, forked, cannot_fork, piped, piped_from, pipe_parts, kill_pid, killed_by, exec_loaded, exec_program, exec_path, running, dup_at, dup_on, dup_number, close_at, close_on, close_number, sbrk_by, shrink_to, open_at, open_path, opened_as, kind_named}
+use Rattle.kcall_core.proofs.RowsByParts.{perform_same}
 
 -- a step that ends in sleep in the call of this number ends in a view of which Q holds
 abbrev pub Falls : (View → ℤ → Type 0) → Own → Type 0
@@ -56,7 +58,7 @@ module _ (Q : View → ℤ → Type 0) where
   gone_never a v h k n e f = absurd (h k e)
 
   module _ (c : Call) (v : View) where
-    fork_row : Falls Q (fork c v)
+    fork_row : Falls Q (fork_parts c v)
     fork_row = falls_unless (cannot_fork v) c v (λ _. forked c v) (λ _. called (forked c v) c.number (pos v.next_pid) refl)
 
     pipe_by : (r : ℕ) (o : Option ℕ) → Falls Q (piped c v r o)
@@ -67,7 +69,7 @@ module _ (Q : View → ℤ → Type 0) where
     pipe_from None = falls_done c minus_one v
     pipe_from (Some r) = pipe_by r (lowest_free_above v.descriptors r)
 
-    pipe_row : Falls Q (make_pipe c v)
+    pipe_row : Falls Q (pipe_parts c v)
     pipe_row = falls_unless (not (writable v.image c.a0 8) || nat_eq v.free 0) c v (λ _. piped_from c v (lowest_free v.descriptors)) (λ _. pipe_from (lowest_free v.descriptors))
 
     kill_by : (z : ℤ) → Falls Q (kill_pid c v z)
@@ -122,9 +124,9 @@ module _ (Q : View → ℤ → Type 0) where
 
     open_by : (o : Option (List ℕ)) → Falls Q (open_path c v o)
     open_by None = falls_done c minus_one v
-    open_by (Some path) = open_to (lowest_free v.descriptors) (opened_as (what_is_named (no_slashes path) v) (c_int c.a1))
+    open_by (Some path) = open_to (lowest_free v.descriptors) (opened_as (kind_named (no_slashes path) v) (c_int c.a1))
 
-  module _ (wait_row : Waiting Q Wait wait) (read_row : Waiting Q Read read) (write_row : Waiting Q Write write) (sleep_row : Waiting Q Sleep sleep) where
+  module _ (wait_row : Waiting Q Wait wait_parts) (read_row : Waiting Q Read read_parts) (write_row : Waiting Q Write write_parts) (sleep_row : Waiting Q Sleep sleep_parts) where
     module _ (c : Call) (v : View) (alive : v.killed ≡ false) where
       by_row : (r : Option Row) → row_of c.number ≡ r → Falls Q (perform_row c v r)
       unfolding perform_row
@@ -145,8 +147,8 @@ module _ (Q : View → ℤ → Type 0) where
       by_row (Some Write) e = write_row c v alive e
       by_row (Some Close) e = close_by c v (c_int c.a0)
 
-      pub perform_falls : Falls Q (perform c v)
-      unfolding perform
+      pub perform_falls : Falls Q (perform_parts c v)
+      unfolding perform_parts
       perform_falls = by_row (row_of c.number) refl
 
     -- ---- a step
@@ -154,12 +156,12 @@ module _ (Q : View → ℤ → Type 0) where
     module _ (v : View) where
       instruction_falls : v.killed ≡ false → (st : Step) → Falls Q (after_instruction v st)
       instruction_falls alive (Next r st) = λ k n a e. let no : ⊥ = cc in absurd no
-      instruction_falls alive Ecall = perform_falls (call_begun v) (begun v) alive
+      instruction_falls alive Ecall = subst (Falls Q) (sym (perform_same (call_begun v) (begun v))) (perform_falls (call_begun v) (begun v) alive)
       instruction_falls alive (Fault cause) = gone_never (Faulted cause) v (λ k a. let no : ⊥ = cc in no)
 
       going_falls : v.killed ≡ false → (o : Option Call) → v.call ≡ o → Falls Q (going_on v o)
       going_falls alive None e = instruction_falls alive (next_instruction v.regs v.image)
-      going_falls alive (Some c) e = perform_falls c v alive
+      going_falls alive (Some c) e = subst (Falls Q) (sym (perform_same c v)) (perform_falls c v alive)
 
       unless_falls : (b : Bool) → v.killed ≡ b → Falls Q (unless_killed v b)
       unless_falls true e = gone_never (Exited minus_one) v (λ k a. let no : ⊥ = cc in no)

@@ -11,14 +11,14 @@ use Rattle.kcall_core.specs.Processes.{Process, Alive, Live, Zombie}
 use Rattle.kcall_core.specs.State.{State, live, live_part}
 use Rattle.kcall_core.specs.View.{View, view, view_of}
 use Rattle.kcall_core.specs.Own.{Own, Answer, Called, goes_on, gone_with}
-use Rattle.kcall_core.specs.Calls.{fork, gone, wait, least_zombie, killed_by, cannot_fork}
+use Rattle.kcall_core.specs.Calls.{fork, gone, wait, least_zombie}
 use Rattle.kcall_core.specs.Quiet.{file_at, pipe_at, file_of, pipe_of_file, pipe_of_open, OtherNames}
 use Rattle.kcall_core.specs.Updates.{forking, forked_child, forked_state, gone_state, waited_state, waited, kill_state, killer, own_state, marked, orphan, orphans, given_to}
 use Rattle.kcall_core.specs.Words.{is_this}
 use Rattle.kcall_core.specs.Buffers.{writable}
 use Rattle.kcall_core.specs.WellFormed.{WellFormed}
 use Rattle.kcall_core.specs.Run.{StateAfter, FilesAfter, IsNewbornOf}
-use Rattle.kcall_core.specs.RowLaws.{After, ForkLaw, FilesLeft, GoneLaw, ReapLaw, KillLaw}
+use Rattle.kcall_core.specs.RowLaws.{After, FilesLeft, GoneLaw, ReapLaw}
 use Rattle.kcall_core.proofs.Maps.{get_same, get_other, get_without}
 use Rattle.kcall_core.proofs.SetLive.{live-set_live_there}
 use Rattle.kcall_core.proofs.After.{files_after, state_after}
@@ -28,6 +28,8 @@ use Rattle.kcall_core.proofs.Fork as forks
 use Rattle.kcall_core.proofs.Gone as goes
 use Rattle.kcall_core.proofs.Wait as reaps
 use Rattle.kcall_core.proofs.Kill as kills
+use Rattle.kcall_core.proofs.RowParts.{killed_by, cannot_fork}
+use Rattle.kcall_core.proofs.PartLaws.{ForkPart, KillPart}
 
 by_own : (s t : State) (v : View) (o u : Own) → o ≡ u → StateAfter s v u t → StateAfter s v o t
 by_own s t v o u same h = subst (λ (x : Own). StateAfter s v x t) (sym same) h
@@ -122,7 +124,7 @@ module _ (frames : ℕ) (s : State) (p : ℕ) (l : Live) (c : Call) (well : Well
       (fork_no_more (forks.fork_answer s p l was c (can_fork frames s well l)) refl)
       (fork_files (forks.fork_answer s p l was c (can_fork frames s well l)) refl))
 
-pub fork_law : ForkLaw
+pub fork_law : ForkPart
 fork_law frames s p l c well was able = fork_after frames s p l c well was able
 
 -- ---- exit
@@ -304,5 +306,5 @@ module _ (s : State) (p q : ℕ) (l : Live) (c : Call) (was : get s.processes p 
       (state_after s hurt (view_of s p l) kill_own (kills.kill_leaves s p q l was c) (kills.view_killer s p q l was c) tt (kill_no_more kill_own)
       (files_after s hurt p kill_own refl (λ r d g other h. sym (hurt_other r d other) ∙ h) (λ d f g a b. inside f g (sym a ∙ sym (hurt_mine d) ∙ b)) (λ r d f j a b. b) (λ d f h. inl (d, sym (hurt_mine d) ∙ h))))
 
-pub kill_law : KillLaw
+pub kill_law : KillPart
 kill_law s p q l c was known = kill_after s p q l c was known

@@ -17,7 +17,7 @@ use Rattle.kcall_core.specs.State.{State, live_part}
 use Rattle.kcall_core.specs.View.{View, Table, Descriptor, Shown, Shown_terminal, Shown_file, Shown_pipe, named, numbered, rename, rename_shown, or_else, file_name, pipe_name, descriptor_at, descriptor_on, view_of, shown_pipe_name}
 use Rattle.kcall_core.specs.Own.{Own, Called, goes_on}
 use Rattle.kcall_core.specs.Tables.{advance, advanced, advance_shown}
-use Rattle.kcall_core.specs.Calls.{read_file, with_a0}
+use Rattle.kcall_core.specs.Calls.{with_a0}
 use Rattle.kcall_core.specs.Quiet.{Quiet, file_at, file_of}
 use Rattle.kcall_core.specs.Updates.{changed_state}
 use Rattle.kcall_core.proofs.Maps.{get_at, get_other}
@@ -25,6 +25,7 @@ use Rattle.kcall_core.proofs.Frame.{Spares, kind}
 use Rattle.kcall_core.proofs.Tell.{quiet_from, own_table_tells}
 use Rattle.kcall_core.proofs.Names.{choice, same_names}
 use Rattle.kcall_core.proofs.Change.{view_changed, leaves_changed}
+use Rattle.kcall_core.proofs.RowParts.{read_file}
 
 file_stays : (f n : ℕ) (o : Option Descriptor) → file_name (advanced f n o) ≡ file_name o
 file_stays f n None = refl

@@ -25,7 +25,7 @@ use Rattle.kcall_core.specs.Programs.{program_bytes}
 use Rattle.kcall_core.specs.State.{State}
 use Rattle.kcall_core.specs.View.{View, view_of, numbered, rename_shown, show}
 use Rattle.kcall_core.specs.Own.{Own, Called}
-use Rattle.kcall_core.specs.Calls.{read, read_from, read_file}
+use Rattle.kcall_core.specs.Calls.{read}
 use Rattle.kcall_core.specs.Quiet.{target_of_open}
 use Rattle.kcall_core.specs.Updates.{changed_state, filed_state, set_file, with_answer, with_bytes}
 use Rattle.kcall_core.specs.Conditions.{at_start}
@@ -52,6 +52,7 @@ use Rattle.kcall_core.proofs.CallAnswers.{IsDone}
 use Rattle.kcall_core.proofs.Midway.{Midway, midway-done}
 use Rattle.kcall_core.proofs.Moved.{nobody, still}
 use Rattle.kcall_core.proofs.MovingRows.{shown-at, shown-there}
+use Rattle.kcall_core.proofs.RowParts.{read_from, read_file}
 
 -- ---- the table of open files, with another offset
 

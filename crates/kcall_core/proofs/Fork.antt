@@ -16,7 +16,7 @@ use Rattle.kcall_core.specs.State.{State, live, live_part}
 use Rattle.kcall_core.specs.View.{View, named, numbered, descriptor_at, view, view_of, child_of, or_gone}
 use Rattle.kcall_core.specs.Own.{Own, Called, goes_on}
 use Rattle.kcall_core.specs.Tables.{doubled, ends}
-use Rattle.kcall_core.specs.Calls.{fork, forked, cannot_fork, unless}
+use Rattle.kcall_core.specs.Calls.{fork}
 use Rattle.kcall_core.specs.Quiet.{Quiet, pipe_at, pipe_of_file, file_of}
 use Rattle.kcall_core.specs.Updates.{forking, forked_child, forked_state}
 use Rattle.kcall_core.proofs.Maps.{get_at, get_same, get_other, keys_push}
@@ -26,6 +26,8 @@ use Rattle.kcall_core.proofs.Steps.{or_false}
 use Rattle.kcall_core.proofs.Ends.{named_doubled}
 use Rattle.kcall_core.proofs.Became.{became}
 use Rattle.kcall_core.proofs.Counts.{plus, among, get-more_on_all, more_on_none}
+use Rattle.kcall_core.proofs.RowParts.{forked, cannot_fork, unless}
+use Rattle.kcall_core.proofs.RowsByParts.{fork_same}
 
 -- what has to be known of a state for a process of it to fork
 pub record CanFork (s : State) (l : Live) : Type 0 where
@@ -138,7 +140,8 @@ module _ (s : State) (p : ℕ) (old : Live) (was : get s.processes p ≡ Some (A
       → fork c (view_of s p old) ≡ record (goes_on (Called c.number (pos s.next_pid)) (view_of after p parent)) { child = Some (view_of after s.next_pid child) }
   unfolding view_of
   fork_own able =
-      ap (λ (b : Bool). unless b c (view_of s p old) (λ _. forked c (view_of s p old))) able
+      fork_same c (view_of s p old)
+      ∙ ap (λ (b : Bool). unless b c (view_of s p old) (λ _. forked c (view_of s p old))) able
       ∙ (λ i. let v : View = record (view_of after p parent) {
         descriptors = shown_after parent (λ d. refl) i;
         children = λ r. own_children r i;

@@ -18,7 +18,7 @@ use Rattle.kcall_core.specs.Processes.{Live, Alive}
 use Rattle.kcall_core.specs.State.{State, live, live_part}
 use Rattle.kcall_core.specs.View.{View, view_of}
 use Rattle.kcall_core.specs.Own.{Own, Called, Blocked, gone_with}
-use Rattle.kcall_core.specs.Calls.{fork, forked, cannot_fork, slots_are_full, unless}
+use Rattle.kcall_core.specs.Calls.{fork}
 use Rattle.kcall_core.specs.Run.{IsBlocked}
 use Rattle.kcall_core.specs.Turns.{IsLowestFree}
 use Rattle.kcall_core.specs.WellFormed.{WellFormed}
@@ -41,6 +41,8 @@ use Rattle.kcall_core.proofs.WellLaws as well
 use Rattle.kcall_core.proofs.Family.{fork_law}
 use Rattle.kcall_core.proofs.StepSlots.{SlotsAfter, no-slot}
 use Rattle.kcall_core.proofs.Making.{Itself, Others, made}
+use Rattle.kcall_core.proofs.RowParts.{forked, cannot_fork, slots_are_full, unless}
+use Rattle.kcall_core.proofs.RowsByParts.{fork_same}
 
 -- The process that runs has a child in a slot that was free, the lowest; it has its answer. The slots, the pids and the frames suffice
 pub record IsBorn (k : Kernel) (h : Hart) (k' : Kernel) (h' : Hart) (child : ℕ) : Type 0 where
@@ -81,7 +83,7 @@ module _ {k : Kernel} {h : Hart} {k' : Kernel} {h' : Hart} {child : ℕ} (whole 
   able = (λ i. x.slots i || x.pids i || x.room i)
 
   row : fork c v ≡ forked c v
-  row = ap (λ b. unless b c v (λ _. forked c v)) able
+  row = fork_same c v ∙ ap (λ b. unless b c v (λ _. forked c v)) able
 
   abbrev t : State
   t = forked_state p l s

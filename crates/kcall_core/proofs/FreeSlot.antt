@@ -15,7 +15,6 @@ use Rattle.proc_table.specs.declared.process.Process.{Process}
 use Rattle.kcall_core.specs.ByPid.{by_pid, put}
 use Rattle.kcall_core.specs.Processes as meaning
 use Rattle.kcall_core.specs.View.{view_of}
-use Rattle.kcall_core.specs.Calls.{slots_are_full}
 use Rattle.kcall_core.specs.Turns.{IsFreeSlot, IsLowestFree}
 use Rattle.kcall_core.specs.Kernel.{state_of, entry_of, entry_at, IsSound}
 use Rattle.kcall_core.specs.Machine.{turns_of}
@@ -27,6 +26,7 @@ use Rattle.kcall_core.proofs.Lowest.{least-position}
 use Rattle.kcall_core.proofs.Room.{count-few}
 use Rattle.kcall_core.proofs.States.{none-some, entry-pid}
 use Rattle.kcall_core.proofs.Turned.{slot-is, slot-from, not-both}
+use Rattle.kcall_core.proofs.RowParts.{slots_are_full}
 
 -- ---- as many pids as slots that are held
 

@@ -14,11 +14,11 @@ use Rattle.proc_table.specs.declared.channel.Channel.{Channel}
 use Rattle.proc_table.specs.declared.channel.Channel.TheVariants as on
 use Rattle.kcall_core.specs.PipeEnds.{is_given_up}
 use Rattle.kcall_core.specs.Words.{is_this, c_int}
-use Rattle.kcall_core.specs.Processes.{Process, Live, Alive, Zombie, Status}
+use Rattle.kcall_core.specs.Processes.{Process, Live, Alive, Zombie, Status, has_status}
 use Rattle.kcall_core.specs.State.{State, live, live_part}
 use Rattle.kcall_core.specs.View.{child_of, or_gone}
 use Rattle.kcall_core.specs.Own.{Exited}
-use Rattle.kcall_core.specs.Calls.{Row, Fork, Exit, Wait, Pipe_row, Read, Kill, Exec, Dup, Getpid, Sbrk, Sleep, Uptime, Open, Write, Close, row_of, has_status}
+use Rattle.kcall_core.specs.Calls.{Row, Fork, Exit, Wait, Pipe_row, Read, Kill, Exec, Dup, Getpid, Sbrk, Sleep, Uptime, Open, Write, Close, row_of}
 use Rattle.kcall_core.specs.Quiet.{file_of, end_of, target_of_open}
 use Rattle.kcall_core.specs.Updates.{gone_state, given_to, orphan, orphans}
 use Rattle.kcall_core.specs.WellFormed.{WellFormed}

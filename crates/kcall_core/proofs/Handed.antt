@@ -25,7 +25,7 @@ use Rattle.kcall_core.specs.Processes.{Live, Alive}
 use Rattle.kcall_core.specs.State.{State, named_file}
 use Rattle.kcall_core.specs.View.{view_of}
 use Rattle.kcall_core.specs.ByPid.{by_pid}
-use Rattle.kcall_core.specs.Calls.{fork, forked, cannot_fork, slots_are_full, unless, done, with_a0}
+use Rattle.kcall_core.specs.Calls.{fork, done, with_a0}
 use Rattle.kcall_core.specs.Updates.{forked_state, forking, forked_child, with_answer}
 use Rattle.kcall_core.specs.Holdings.{Held, cost, or_nothing, held_at, HasMemory, with_saved}
 use Rattle.kcall_core.specs.Memories.{each_of, pipes_of, free_of, SlotChanges}
@@ -46,6 +46,8 @@ use Rattle.kcall_core.proofs.CallAnswers.{IsDone}
 use Rattle.kcall_core.proofs.FreeSlot.{IsForNew, no-slot}
 use Rattle.kcall_core.proofs.ForkMakes.{IsBorn}
 use Rattle.kcall_core.proofs.Handing.{apart}
+use Rattle.kcall_core.proofs.RowParts.{forked, cannot_fork, slots_are_full, unless}
+use Rattle.kcall_core.proofs.RowsByParts.{fork_same}
 
 -- ---- no child
 
@@ -71,7 +73,7 @@ module _ {k : Kernel} {h : Hart} (whole : IsWhole k h) (runs : IsRunning k) (k1 
   ]
 
   pub barren-row : (c : Call) → fork c (view_now k h) ≡ done c minus_one (record (view_now k h) { image = (live_now k h).image; free = (state_of k1 h).free })
-  barren-row c = ap (λ d. unless d c (view_now k h) (λ _. forked c (view_now k h))) cannot ∙ kept k h c barren-has
+  barren-row c = fork_same c (view_now k h) ∙ ap (λ d. unless d c (view_now k h) (λ _. forked c (view_now k h))) cannot ∙ kept k h c barren-has
 
 -- ---- a child
 

@@ -9,7 +9,7 @@ use Rattle.proc_table.specs.declared.process.Call.{Call}
 use Rattle.kcall_core.specs.State.{State, live, live_part}
 use Rattle.kcall_core.specs.View.{view, view_of, child_of}
 use Rattle.kcall_core.specs.Own.{Own, Called, goes_on}
-use Rattle.kcall_core.specs.Calls.{killed_by, done, unless, with_a0}
+use Rattle.kcall_core.specs.Calls.{done, with_a0}
 use Rattle.kcall_core.specs.Quiet.{Quiet}
 use Rattle.kcall_core.specs.Updates.{kill_state, own_state, marked}
 use Rattle.kcall_core.proofs.Maps.{get_same}
@@ -17,6 +17,7 @@ use Rattle.kcall_core.proofs.SetLive.{same_child, same_keys, live-set_live_there
 use Rattle.kcall_core.proofs.Tell.{Leaves, quiet_from, own_table_tells}
 use Rattle.kcall_core.proofs.Gone.{turn}
 use Rattle.kcall_core.proofs.Orphans.{get-change, keys-change}
+use Rattle.kcall_core.proofs.RowParts.{killed_by, unless}
 
 marked_again : (x : Process) → marked (marked x) ≡ marked x
 marked_again (Alive l) = refl

@@ -26,7 +26,7 @@ use Rattle.kcall_core.specs.Processes.{Live, Alive, Zombie}
 use Rattle.kcall_core.specs.State.{State, live}
 use Rattle.kcall_core.specs.View.{View, view_of}
 use Rattle.kcall_core.specs.Own.{Own, Called, Blocked}
-use Rattle.kcall_core.specs.Calls.{kill, kill_pid, killed_by, refused, done, unless}
+use Rattle.kcall_core.specs.Calls.{kill, refused, done}
 use Rattle.kcall_core.specs.Kills.{asked_pid}
 use Rattle.kcall_core.specs.ByPid.{by_pid}
 use Rattle.kcall_core.specs.Run.{IsBlocked}
@@ -65,6 +65,8 @@ use Rattle.kcall_core.proofs.WellSteps as steps
 use Rattle.kcall_core.proofs.CallAnswers.{IsDone}
 use Rattle.kcall_core.proofs.Sleepers.{changed-stays, changed-slept}
 use Rattle.kcall_core.proofs.Making.{Itself, Others, made}
+use Rattle.kcall_core.proofs.RowParts.{kill_pid, killed_by, unless}
+use Rattle.kcall_core.proofs.RowsByParts.{kill_same}
 
 -- ---- the row
 
@@ -87,12 +89,12 @@ by-number c v (negsuc k) e = refl
 
 module _ (c : Call) (v : View) (z : ℤ) (asked : z ≡ c_int c.a0) where
   pub none-row : asked_pid z ≡ None → kill c v ≡ refused c v
-  none-row e = by-number c v (c_int c.a0) (ap asked_pid (sym asked) ∙ e)
+  none-row e = kill_same c v ∙ by-number c v (c_int c.a0) (ap asked_pid (sym asked) ∙ e)
 
   pub pid-row : (q : ℕ) → asked_pid z ≡ Some q → kill c v ≡ killed_by c v q
   pid-row q e =
       let r = asked-is (c_int c.a0) q (ap asked_pid (sym asked) ∙ e) in
-      ap (kill_pid c v) r.0 ∙ ap (λ b. unless b c v (λ _. killed_by c v q)) r.1
+      kill_same c v ∙ ap (kill_pid c v) r.0 ∙ ap (λ b. unless b c v (λ _. killed_by c v q)) r.1
 
 -- which pids are in use
 in-use : (k : Kernel) (h : Hart) (q : ℕ) (o : Option ℕ) → IsTable k.table → slot_of k.table q ≡ o → list_any (nat_eq q) (keys (state_of k h).processes) ≡ is_some o

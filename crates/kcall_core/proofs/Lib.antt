@@ -169,3 +169,7 @@ pub mod PipeWrites
 pub mod MovingRows
 pub mod FileReads
 pub mod Opened
+pub mod RowParts
+pub mod RowsByParts
+pub mod PartLaws
+pub mod RowLawsHold

@@ -16,7 +16,7 @@ use Rattle.kcall_core.specs.Processes.{Live}
 use Rattle.kcall_core.specs.State.{State}
 use Rattle.kcall_core.specs.View.{View, Descriptor, view_of, numbered, rename, rename_shown, show, descriptor_at, descriptor_on, least_on_pipe, pipe_name}
 use Rattle.kcall_core.specs.Own.{Own}
-use Rattle.kcall_core.specs.Calls.{read, read_on, read_from, write, write_on, write_to, in_use, moving, unless, unless_nothing, length_of_int, done, refused}
+use Rattle.kcall_core.specs.Calls.{read, write, done, refused}
 use Rattle.kcall_core.specs.RowLaws.{OnPipe}
 use Rattle.kcall_core.specs.Kernel.{state_of, IsRunning, pid_now, live_now}
 use Rattle.kcall_core.specs.Whole.{IsWhole}
@@ -28,6 +28,9 @@ use Rattle.kcall_core.proofs.Names.{named_at}
 use Rattle.kcall_core.proofs.Pipes.{least_there}
 use Rattle.kcall_core.proofs.Decoding.{write_case}
 use Rattle.kcall_core.proofs.UsedDescriptor.{InUse}
+use Rattle.kcall_core.specs.Ready.{in_use}
+use Rattle.kcall_core.proofs.RowParts.{read_on, read_from, write_on, write_to, moving, unless, unless_nothing, length_of_int}
+use Rattle.kcall_core.proofs.RowsByParts.{read_same, write_same}
 
 -- ---- the tests
 
@@ -36,10 +39,10 @@ unused-in v (pos d) none = none d refl
 unused-in v (negsuc k) none = refl
 
 pub read-unused : (c : Call) (v : View) → ((d : ℕ) → c_int c.a0 ≡ pos d → v.descriptors d ≡ None) → read c v ≡ refused c v
-read-unused c v none = ap (read_on c v) (unused-in v (c_int c.a0) none)
+read-unused c v none = read_same c v ∙ ap (read_on c v) (unused-in v (c_int c.a0) none)
 
 pub write-unused : (c : Call) (v : View) → ((d : ℕ) → c_int c.a0 ≡ pos d → v.descriptors d ≡ None) → write c v ≡ refused c v
-write-unused c v none = ap (write_on c v) (unused-in v (c_int c.a0) none)
+write-unused c v none = write_same c v ∙ ap (write_on c v) (unused-in v (c_int c.a0) none)
 
 moving-below : (c : Call) (v : View) (b : Bool) (z : ℤ) (go : ℕ → Own) → ((n : ℕ) → z ≢ pos n) → moving c v b z go ≡ refused c v
 moving-below c v b (pos n) go none = absurd (none n refl)
@@ -82,14 +85,14 @@ module _ {k : Kernel} {h : Hart} (c : Call) {fd file : ℕ} {x : OpenFile} (whol
   found = ap (in_use v) number ∙ seen
 
   pub read-shut : x.read ≡ false → read c v ≡ refused c v
-  read-shut shut = ap (read_on c v) found ∙ ap (λ (b : Bool). unless (not b) c v (λ _. moving c v (writable v.image c.a1 (length_of_int (c_int c.a2))) (c_int c.a2) (λ n. read_from c v n shown.file shown.shown))) shut
+  read-shut shut = read_same c v ∙ ap (read_on c v) found ∙ ap (λ (b : Bool). unless (not b) c v (λ _. moving c v (writable v.image c.a1 (length_of_int (c_int c.a2))) (c_int c.a2) (λ n. read_from c v n shown.file shown.shown))) shut
 
   pub write-shut : x.write ≡ false → write c v ≡ refused c v
-  write-shut shut = ap (write_on c v) found ∙ ap (λ (b : Bool). unless (not b) c v (λ _. moving c v (readable v.image c.a1 (length_of_int (c_int c.a2))) (c_int c.a2) (λ n. write_to c v n shown.shown))) shut
+  write-shut shut = write_same c v ∙ ap (write_on c v) found ∙ ap (λ (b : Bool). unless (not b) c v (λ _. moving c v (readable v.image c.a1 (length_of_int (c_int c.a2))) (c_int c.a2) (λ n. write_to c v n shown.shown))) shut
 
   module _ (reads : x.read ≡ true) where
     asked : read c v ≡ moving c v (writable v.image c.a1 (length_of_int (c_int c.a2))) (c_int c.a2) (λ n. read_from c v n shown.file shown.shown)
-    asked = ap (read_on c v) found ∙ ap (λ (b : Bool). unless (not b) c v (λ _. moving c v (writable v.image c.a1 (length_of_int (c_int c.a2))) (c_int c.a2) (λ n. read_from c v n shown.file shown.shown))) reads
+    asked = read_same c v ∙ ap (read_on c v) found ∙ ap (λ (b : Bool). unless (not b) c v (λ _. moving c v (writable v.image c.a1 (length_of_int (c_int c.a2))) (c_int c.a2) (λ n. read_from c v n shown.file shown.shown))) reads
 
     pub read-below : ((n : ℕ) → c_int c.a2 ≢ pos n) → read c v ≡ refused c v
     read-below none = asked ∙ moving-below c v (writable v.image c.a1 (length_of_int (c_int c.a2))) (c_int c.a2) (λ n. read_from c v n shown.file shown.shown) none
@@ -103,7 +106,7 @@ module _ {k : Kernel} {h : Hart} (c : Call) {fd file : ℕ} {x : OpenFile} (whol
 
   module _ (writes : x.write ≡ true) where
     asked-to : write c v ≡ moving c v (readable v.image c.a1 (length_of_int (c_int c.a2))) (c_int c.a2) (λ n. write_to c v n shown.shown)
-    asked-to = ap (write_on c v) found ∙ ap (λ (b : Bool). unless (not b) c v (λ _. moving c v (readable v.image c.a1 (length_of_int (c_int c.a2))) (c_int c.a2) (λ n. write_to c v n shown.shown))) writes
+    asked-to = write_same c v ∙ ap (write_on c v) found ∙ ap (λ (b : Bool). unless (not b) c v (λ _. moving c v (readable v.image c.a1 (length_of_int (c_int c.a2))) (c_int c.a2) (λ n. write_to c v n shown.shown))) writes
 
     pub write-below : ((n : ℕ) → c_int c.a2 ≢ pos n) → write c v ≡ refused c v
     write-below none = asked-to ∙ moving-below c v (readable v.image c.a1 (length_of_int (c_int c.a2))) (c_int c.a2) (λ n. write_to c v n shown.shown) none

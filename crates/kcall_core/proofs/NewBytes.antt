@@ -1,5 +1,5 @@
 -- A pipe that a step shows for the first time is empty, and a new process has its parent's image.
-use Rattle.std.proofs.Common.{◌≡◌, ℕ, suc, ◌<◌, ◌+◌, ◌-◌, ◌%◌, ◌++◌, Bool, true, false, cond, not, ◌&&◌, ◌||◌, List, [], length, refl, ap, sym, ◌∙◌, take, drop, inl, inr}
+use Rattle.std.proofs.Common.{◌≡◌, ℕ, suc, ◌<◌, ◌+◌, ◌-◌, ◌%◌, ◌++◌, Bool, true, false, cond, not, ◌&&◌, ◌||◌, List, [], length, refl, ap, sym, ◌∙◌, take, drop, inl, inr, subst}
 use Rattle.std.specs.Prelude.{Option, None, Some, ℤ, pos, negsuc, nat_eq, nat_lt, nat_le, IsSome, is_some, is_none, option_map, slice_get, Result, Ok, Err}
 use Rattle.std.specs.List.{list_any}
 use Rattle.std.specs.Int.{cast_unsigned, w32}
@@ -20,18 +20,21 @@ use Rattle.file_table.specs.declared.open_file.End.TheVariants.{Reading, Writing
 use Rattle.proc_table.specs.declared.process.Call.{Call}
 use Rattle.kcall_core.specs.Words.{CLOCK_ROUND, c_int, minus_one, with_value}
 use Rattle.kcall_core.specs.Buffers.{readable, writable, text_at, texts_at, no_slashes, grown, shrunk}
-use Rattle.kcall_core.specs.PipeEnds.{there, fit}
+use Rattle.kcall_core.specs.PipeEnds.{there, fit, must_wait}
 use Rattle.kcall_core.specs.Programs.{program_bytes, program_named}
-use Rattle.kcall_core.specs.Processes.{Live}
+use Rattle.kcall_core.specs.Processes.{Live, status_of}
 use Rattle.kcall_core.specs.View.{View, Table, Descriptor, numbered, Shown, Shown_terminal, Shown_file, Shown_pipe, view_of, named, rename, rename_shown, pipe_name, shown_pipe_name}
 use Rattle.kcall_core.specs.Own.{Own, Exited, Faulted}
 use Rattle.kcall_core.specs.Tables.{lowest_free, lowest_free_above, with_descriptor, without_descriptor, with_copy, change_pipes, changed, change_pipe, advance, advanced, one_more_on, one_less_on, pipes_given_up}
-use Rattle.kcall_core.specs.Calls.{Row, Fork, Exit, Wait, Pipe_row, Read, Kill, Exec, Dup, Getpid, Sbrk, Sleep, Uptime, Open, Write, Close, row_of, perform, perform_row, answered, gone, done, refused, waits, unless, unless_nothing, moving, length_of_int, reaped, least_zombie, has_child, without_child, status_of, piped, piped_from, with_pipe, read_on, read_from, must_wait, write_on, write_to, done_at, next_bytes, in_use, kill_pid, killed_by, exec_program, exec_path, dup_at, dup_on, dup_number, close_at, close_on, close_number, sbrk_by, shrink_to, exec_loaded, running, sleep_for, open_at, open_path, opened_as, what_is_named, fork, forked, cannot_fork, with_child, room_to_send, Named, The_console, A_program, Nothing}
+use Rattle.kcall_core.specs.Calls.{Row, Fork, Exit, Wait, Pipe_row, Read, Kill, Exec, Dup, Getpid, Sbrk, Sleep, Uptime, Open, Write, Close, row_of, answered, gone, done, refused, waits, least_zombie, has_child}
 use Rattle.kcall_core.specs.Step.{own, unless_killed, going_on, after_instruction, call_begun, begun, stored}
 use Rattle.kcall_core.specs.Worlds.{IsNewPipe, NoOldPipe, NoOldChild}
 use Rattle.std.proofs.lemmas.Bool.{eq-eqb, ltb-true}
 use Rattle.kcall_core.proofs.Least.{least_passes}
 use Rattle.kcall_core.proofs.Names.{named_at}
+use Rattle.kcall_core.specs.Ready.{in_use}
+use Rattle.kcall_core.proofs.RowParts.{perform_parts, perform_row, unless, unless_nothing, moving, length_of_int, reaped, without_child, piped, piped_from, with_pipe, read_on, read_from, write_on, write_to, done_at, next_bytes, kill_pid, killed_by, exec_program, exec_path, dup_at, dup_on, dup_number, close_at, close_on, close_number, sbrk_by, shrink_to, exec_loaded, running, sleep_for, open_at, open_path, opened_as, kind_named, fork_parts, forked, cannot_fork, with_child, room_to_send, Named, The_console, A_program, Nothing}
+use Rattle.kcall_core.proofs.RowsByParts.{perform_same}
 
 abbrev Fine : View → Own → Type 0
 Fine v o = ((n : View) → o.next ≡ Some n → (x : Pipe) → IsNewPipe v n x → x.bytes ≡ []) × ((c : View) → o.child ≡ Some c → c.image ≡ v.image)
@@ -266,7 +269,7 @@ module _ (c : Call) (v : View) where
   sleep_row (negsuc k) = fine_done (pos 0) v (λ d e. e)
   sleep_row (pos n) = either (nat_lt ((v.clock + CLOCK_ROUND - c.clock) % CLOCK_ROUND) n) (waits c 0 v) (done c (pos 0) v) (fine_waits 0 v (λ d e. e)) (fine_done (pos 0) v (λ d e. e))
 
-  fork_row : Fine v (fork c v)
+  fork_row : Fine v (fork_parts c v)
   fork_row = fine_unless (cannot_fork v) (λ _. forked c v) ((λ n e. made.0 n e), λ child is. ap (λ (o : Option View). image_of o) (sym is))
     where
       image_of : Option View → Image
@@ -311,7 +314,7 @@ module _ (c : Call) (v : View) where
 
   open_row : (o : Option (List ℕ)) → Fine v (open_path c v o)
   open_row None = refusal
-  open_row (Some path) = open_to (lowest_free v.descriptors) (opened_as (what_is_named (no_slashes path) v) (c_int c.a1)) (λ r w shown e. no_pipe (what_is_named (no_slashes path) v) (c_int c.a1) r w shown e)
+  open_row (Some path) = open_to (lowest_free v.descriptors) (opened_as (kind_named (no_slashes path) v) (c_int c.a1)) (λ r w shown e. no_pipe (kind_named (no_slashes path) v) (c_int c.a1) r w shown e)
 
   -- pipe: both ends are on an empty one
   piped_row : (r : ℕ) (o : Option ℕ) → Fine v (piped c v r o)
@@ -411,8 +414,8 @@ module _ (c : Call) (v : View) where
     by_row (Some Write) = write_on_row (in_use v (c_int c.a0))
     by_row (Some Close) = close_row (c_int c.a0)
 
-    perform_fine : Fine v (perform c v)
-    unfolding perform
+    perform_fine : Fine v (perform_parts c v)
+    unfolding perform_parts
     perform_fine = by_row (row_of c.number)
 
 -- ---- a step
@@ -421,12 +424,12 @@ module _ (v : View) (low : (d : ℕ) → IsSome (v.descriptors d) → d < NOFILE
   instruction_fine : (st : Step) → Fine v (after_instruction v st)
   instruction_fine (Next r None) = fine_by v (stored v r None) (after_instruction v (Next r None)) refl refl (λ d e. e)
   instruction_fine (Next r (Some st)) = fine_by v (stored v r (Some st)) (after_instruction v (Next r (Some st))) refl refl (λ d e. e)
-  instruction_fine Ecall = perform_fine (call_begun v) (begun v) low
+  instruction_fine Ecall = subst (Fine (begun v)) (sym (perform_same (call_begun v) (begun v))) (perform_fine (call_begun v) (begun v) low)
   instruction_fine (Fault cause) = fine_gone v (gone (Faulted cause) v) refl refl
 
   going_fine : (o : Option Call) → Fine v (going_on v o)
   going_fine None = instruction_fine (next_instruction v.regs v.image)
-  going_fine (Some c) = perform_fine c v low
+  going_fine (Some c) = subst (Fine v) (sym (perform_same c v)) (perform_fine c v low)
 
   unless_fine : (b : Bool) → Fine v (unless_killed v b)
   unless_fine true = fine_gone v (gone (Exited minus_one) v) refl refl

@@ -20,7 +20,7 @@ use Rattle.kcall_core.specs.State.{State, live_part}
 use Rattle.kcall_core.specs.View.{Table, Descriptor, Shown_pipe, named, numbered, descriptor_at, descriptor_on, show, or_gone, view_of, file_name, pipe_name, shown_pipe_name}
 use Rattle.kcall_core.specs.Own.{Own, Called, goes_on}
 use Rattle.kcall_core.specs.Tables.{with_descriptor}
-use Rattle.kcall_core.specs.Calls.{open_at, piped, with_a0}
+use Rattle.kcall_core.specs.Calls.{with_a0}
 use Rattle.kcall_core.specs.Quiet.{Quiet, file_at, file_of, pipe_at, pipe_of_file, pipe_of_open, pipe_of_target}
 use Rattle.kcall_core.specs.Updates.{changed_state}
 use Rattle.kcall_core.proofs.Maps.{get_at, get_same, get_other}
@@ -29,6 +29,7 @@ use Rattle.kcall_core.proofs.Tell.{quiet_from}
 use Rattle.kcall_core.proofs.Dup.{wider_tells}
 use Rattle.kcall_core.proofs.Opens.{named_new_alone, named_pair}
 use Rattle.kcall_core.proofs.Change.{view_changed, leaves_changed}
+use Rattle.kcall_core.proofs.RowParts.{open_at, piped}
 
 -- no process names the open file
 abbrev pub Unnamed : State → ℕ → Type 0

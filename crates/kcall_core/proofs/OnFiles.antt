@@ -18,16 +18,16 @@ use Rattle.file_table.specs.declared.open_file.Target.TheVariants.{Console as Te
 use Rattle.proc_table.specs.declared.process.Call.{Call}
 use Rattle.kcall_core.specs.Words.{c_int, minus_one, word}
 use Rattle.kcall_core.specs.Buffers.{writable}
-use Rattle.kcall_core.specs.PipeEnds.{there}
+use Rattle.kcall_core.specs.PipeEnds.{there, must_wait}
 use Rattle.kcall_core.specs.Processes.{Alive, Live}
 use Rattle.kcall_core.specs.State.{State, live_part}
 use Rattle.kcall_core.specs.View.{View, view_of, named, numbered, or_else, least_on_file, Shown_pipe, show, shown_pipe_name}
 use Rattle.kcall_core.specs.Own.{Own, Answer, Called, Blocked, goes_on, gone_with}
-use Rattle.kcall_core.specs.Calls.{with_a0, done, waits, read, read_on, read_from, read_pipe, read_file, must_wait, moving, unless, unless_nothing, length_of_int, in_use, write, open_at, piped}
+use Rattle.kcall_core.specs.Calls.{with_a0, done, waits, read, write}
 use Rattle.kcall_core.specs.Tables.{change_pipe}
 use Rattle.kcall_core.specs.Quiet.{file_at, pipe_of_file, pipe_of_open, pipe_of_target}
 use Rattle.kcall_core.specs.Updates.{changed_state, own_state, piped_state, filed_state, with_answer, in_call, with_named, with_bytes}
-use Rattle.kcall_core.specs.RowLaws.{After, OnPipe, IsBuffer, PipeReadLaw, now_moved, written, PipeWriteLaw, name_of_file, FileReadLaw, NobodyNames, NobodyHas, OpenLaw, PipeLaw}
+use Rattle.kcall_core.specs.RowLaws.{After, OnPipe, IsBuffer, PipeReadLaw, now_moved, written, PipeWriteLaw, name_of_file, NobodyNames, NobodyHas}
 use Rattle.kcall_core.proofs.Maps.{get_same, get_other}
 use Rattle.kcall_core.proofs.Tell.{own_table_tells}
 use Rattle.kcall_core.proofs.After.{OldOrNew}
@@ -36,6 +36,10 @@ use Rattle.kcall_core.proofs.Alone.{answer, waiting, by_own}
 use Rattle.kcall_core.proofs.PipeCalls as pipes
 use Rattle.kcall_core.proofs.FileRead as files
 use Rattle.kcall_core.proofs.NewFiles as news
+use Rattle.kcall_core.specs.Ready.{in_use}
+use Rattle.kcall_core.proofs.RowParts.{read_on, read_from, read_pipe, read_file, moving, unless, unless_nothing, length_of_int, open_at, piped}
+use Rattle.kcall_core.proofs.RowsByParts.{read_same}
+use Rattle.kcall_core.proofs.PartLaws.{FileReadPart, OpenPart, PipePart}
 
 -- ---- a pipe that p is on is y now
 
@@ -56,7 +60,8 @@ module _ (s : State) (p : ℕ) (l : Live) (c : Call) (d i k n : ℕ) (end : End)
   pub read_is : read c (view_of s p l) ≡ read_pipe c (view_of s p l) k x n
   unfolding view_of
   read_is =
-      ap (λ (z : ℤ). read_on c (view_of s p l) (in_use (view_of s p l) z)) fd
+      read_same c (view_of s p l)
+      ∙ ap (λ (z : ℤ). read_on c (view_of s p l) (in_use (view_of s p l) z)) fd
       ∙ ap (read_on c (view_of s p l)) (pipes.the_descriptor s p l d i k end x on)
       ∙ ap (λ (b : Bool). unless (not b) c (view_of s p l) (λ _. moving c (view_of s p l) (writable l.image c.a1 (length_of_int (c_int c.a2))) (c_int c.a2) (λ m. read_from c (view_of s p l) m (or_else (least_on_file (numbered s l) on.file) on.file) (Shown_pipe k end x)))) reads
       ∙ ap (λ (z : ℤ). moving c (view_of s p l) (writable l.image c.a1 (length_of_int z)) z (λ m. read_from c (view_of s p l) m (or_else (least_on_file (numbered s l) on.file) on.file) (Shown_pipe k end x))) buffer.0
@@ -98,7 +103,7 @@ pipe_write s p l c d i k n end x on writes fd buffer = (
 
 -- ---- a program's file
 
-pub file_read : FileReadLaw
+pub file_read : FileReadPart
 unfolding view_of
 file_read s p l c d f program offset r w bytes was below named_file opened =
     by_own s (files.after s p l was c d f program offset r w bytes below named_file opened) (view_of s p l) (read_file c (view_of s p l) (name_of_file s l f) bytes)
@@ -159,7 +164,7 @@ module _ (s : State) (p : ℕ) (l : Live) (c : Call) (k f : ℕ) (reads writes :
       (news.open_spares s p l was c k f below unused nobody reads writes target (shows_no_pipe s target no_pipe))
       open_keep open_targets open_from)
 
-pub open_law : OpenLaw
+pub open_law : OpenPart
 open_law s p l c k f reads writes target was below unused nobody no_pipe = open_after s p l c k f reads writes target was below unused nobody no_pipe
 
 -- ---- pipe
@@ -236,5 +241,5 @@ module _ (s : State) (p : ℕ) (l : Live) (c : Call) (r w f g i : ℕ) (was : ge
       (news.pipe_spares s p l was c r w f g i below_r below_w distinct distinct_files unused_r unused_w nobody_f nobody_g nobody_i)
       pipe_keep pipe_targets pipe_from)
 
-pub pipe_law : PipeLaw
+pub pipe_law : PipePart
 pipe_law s p l c r w f g i was below_r below_w distinct distinct_files unused_r unused_w nobody_f nobody_g nobody_i = pipe_after s p l c r w f g i was below_r below_w distinct distinct_files unused_r unused_w nobody_f nobody_g nobody_i

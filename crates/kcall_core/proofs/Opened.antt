@@ -25,7 +25,6 @@ use Rattle.kcall_core.specs.Conditions.{at_start}
 use Rattle.proc_table.specs.declared.process.Call.{Call}
 use Rattle.kcall_core.specs.View.{view_of, show}
 use Rattle.kcall_core.specs.Own.{Own}
-use Rattle.kcall_core.specs.Calls.{open_at}
 use Rattle.kcall_core.specs.Makes.{Makes, view_now}
 use Rattle.kcall_core.specs.RowLaws.{After, NobodyNames}
 use Rattle.kcall_core.specs.WellFormed.{WellFormed}
@@ -50,6 +49,7 @@ use Rattle.kcall_core.proofs.Least.{least_passes}
 use Rattle.kcall_core.proofs.Lowest.{least-position}
 use Rattle.kcall_core.proofs.OnFiles.{open_law}
 use Rattle.kcall_core.proofs.Moved.{nobody, still}
+use Rattle.kcall_core.proofs.RowParts.{open_at}
 
 abbrev no-file : Option OpenFile
 no-file = None

@@ -8,10 +8,9 @@ use Rattle.std.proofs.lemmas.Bool.Decides.{eqb_tells}
 use Rattle.pipe_core.specs.Pipe.{Pipe}
 use Rattle.console_core.specs.Lists.{Console}
 use Rattle.file_table.specs.declared.open_file.OpenFile.{OpenFile}
-use Rattle.kcall_core.specs.Processes.{Process, Live, Alive, Zombie, Child, Running, Status}
+use Rattle.kcall_core.specs.Processes.{Process, Live, Alive, Zombie, Child, Running, Status, has_status}
 use Rattle.kcall_core.specs.State.{State}
 use Rattle.kcall_core.specs.View.{child_of, or_gone}
-use Rattle.kcall_core.specs.Calls.{has_status}
 use Rattle.kcall_core.specs.Updates.{changed_state, mark, marked, waited_state, forked_state, gone_state, orphan, orphans, given_to}
 use Rattle.kcall_core.specs.Conditions.{Nothing, Child_of, Bytes, Room, Time, Keys, Sending, is_open, has_bytes, has_room, OpensOnly, OpensAlone, OpensNothing, OpensPipe, OpensMarked, OpensReaped, OpensTick, OpensConsole, OpensForked, OpensGone, MayOpenAtEnd}
 use Rattle.kcall_core.proofs.SetLive.{same_child, same_keys}

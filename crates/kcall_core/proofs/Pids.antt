@@ -1,5 +1,5 @@
 -- What a step leaves of the pids, and whether a process is left.
-use Rattle.std.proofs.Common.{◌≡◌, ℕ, suc, ◌+◌, ◌-◌, ◌%◌, ◌++◌, Bool, true, false, cond, not, ◌&&◌, ◌||◌, List, [], ◌∷◌, length, refl, ap, sym, ◌∙◌, inl, inr, ◌⊎◌, take, drop}
+use Rattle.std.proofs.Common.{◌≡◌, ℕ, suc, ◌+◌, ◌-◌, ◌%◌, ◌++◌, Bool, true, false, cond, not, ◌&&◌, ◌||◌, List, [], ◌∷◌, length, refl, ap, sym, ◌∙◌, inl, inr, ◌⊎◌, take, drop, subst}
 use Rattle.std.specs.Prelude.{Option, None, Some, IsSome, is_some, ℤ, pos, negsuc, nat_eq, nat_lt, nat_le, slice_get, filter, Result, Ok, Err}
 use Rattle.std.specs.List.{list_any}
 use Rattle.std.specs.Int.{cast_unsigned, w32}
@@ -19,15 +19,19 @@ use Rattle.proc_table.specs.declared.process.Call.{Call}
 use Rattle.kcall_core.specs.Instruction.{next_instruction}
 use Rattle.kcall_core.specs.Words.{CLOCK_ROUND, minus_one, c_int}
 use Rattle.kcall_core.specs.Buffers.{readable, writable, text_at, texts_at, no_slashes, grown, shrunk}
-use Rattle.kcall_core.specs.PipeEnds.{there, fit}
+use Rattle.kcall_core.specs.PipeEnds.{there, fit, must_wait}
 use Rattle.kcall_core.specs.Programs.{program_bytes, program_named}
 use Rattle.kcall_core.specs.State.{ProgramFile}
 use Rattle.kcall_core.specs.View.{View, Descriptor, Shown, Shown_terminal, Shown_file, Shown_pipe}
 use Rattle.kcall_core.specs.Own.{Own, Answer, Exited, Faulted, gone_with}
 use Rattle.kcall_core.specs.Tables.{lowest_free, lowest_free_above, advance, change_pipe, with_copy, one_more_on, one_less_on, without_descriptor, with_descriptor, pipes_given_up}
-use Rattle.kcall_core.specs.Calls.{Row, Fork, Exit, Wait, Pipe_row, Read, Kill, Exec, Dup, Getpid, Sbrk, Sleep, Uptime, Open, Write, Close, row_of, perform, perform_row, answered, gone, done, refused, waits, unless, unless_nothing, moving, length_of_int, reaped, least_zombie, has_child, without_child, status_of, piped, piped_from, with_pipe, read_on, read_from, must_wait, write_on, write_to, done_at, next_bytes, in_use, kill_pid, killed_by, exec_program, exec_path, dup_at, dup_on, dup_number, close_at, close_on, close_number, sbrk_by, shrink_to, exec_loaded, running, sleep_for, open_at, open_path, opened_as, what_is_named, fork, forked, cannot_fork, room_to_send}
+use Rattle.kcall_core.specs.Calls.{Row, Fork, Exit, Wait, Pipe_row, Read, Kill, Exec, Dup, Getpid, Sbrk, Sleep, Uptime, Open, Write, Close, row_of, answered, gone, done, refused, waits, least_zombie, has_child}
 use Rattle.kcall_core.specs.Step.{own, unless_killed, going_on, after_instruction, call_begun, begun, stored}
 use Rattle.kcall_core.specs.Run.{IsNewbornOf}
+use Rattle.kcall_core.specs.Processes.{status_of}
+use Rattle.kcall_core.specs.Ready.{in_use}
+use Rattle.kcall_core.proofs.RowParts.{perform_parts, perform_row, unless, unless_nothing, moving, length_of_int, reaped, without_child, piped, piped_from, with_pipe, read_on, read_from, write_on, write_to, done_at, next_bytes, kill_pid, killed_by, exec_program, exec_path, dup_at, dup_on, dup_number, close_at, close_on, close_number, sbrk_by, shrink_to, exec_loaded, running, sleep_for, open_at, open_path, opened_as, kind_named, fork_parts, forked, cannot_fork, room_to_send}
+use Rattle.kcall_core.proofs.RowsByParts.{perform_same}
 
 -- q is among the pids
 abbrev pub has : ℕ → List ℕ → Bool
@@ -198,9 +202,9 @@ module _ (c : Call) (v : View) where
 
   open_row : (o : Option (List ℕ)) → Sound v (open_path c v o)
   open_row None = refusal
-  open_row (Some path) = open_to (lowest_free v.descriptors) (opened_as (what_is_named (no_slashes path) v) (c_int c.a1))
+  open_row (Some path) = open_to (lowest_free v.descriptors) (opened_as (kind_named (no_slashes path) v) (c_int c.a1))
 
-  fork_row : Sound v (fork c v)
+  fork_row : Sound v (fork_parts c v)
   fork_row = sound_unless (cannot_fork v) (λ _. forked c v) (record { left = λ _. refl; pids = λ q h. has_more q v.next_pid v.pids h })
 
   by_row : (r : Option Row) → row_of c.number ≡ r → Sound v (perform_row c v r)
@@ -222,8 +226,8 @@ module _ (c : Call) (v : View) where
   by_row (Some Write) e = write_on_row (in_use v (c_int c.a0))
   by_row (Some Close) e = close_row (c_int c.a0)
 
-  pub perform_sound : Sound v (perform c v)
-  unfolding perform
+  pub perform_sound : Sound v (perform_parts c v)
+  unfolding perform_parts
   perform_sound = by_row (row_of c.number) refl
 
 -- ---- a step
@@ -235,12 +239,12 @@ module _ (v : View) where
       same_pids : (r : Registers) (st : Option Store) → (stored v r st).pids ≡ v.pids
       same_pids r None = refl
       same_pids r (Some st) = refl
-  instruction_sound Ecall = let h = perform_sound (call_begun v) (begun v) in record { left = h.left; pids = h.pids }
+  instruction_sound Ecall = let h = subst (Sound (begun v)) (sym (perform_same (call_begun v) (begun v))) (perform_sound (call_begun v) (begun v)) in record { left = h.left; pids = h.pids }
   instruction_sound (Fault cause) = gone_row (call_begun v) v (Faulted cause) refl
 
   going_sound : (o : Option Call) → Sound v (going_on v o)
   going_sound None = instruction_sound (next_instruction v.regs v.image)
-  going_sound (Some c) = perform_sound c v
+  going_sound (Some c) = subst (Sound v) (sym (perform_same c v)) (perform_sound c v)
 
   unless_sound : (b : Bool) → Sound v (unless_killed v b)
   unless_sound true = gone_row (call_begun v) v (Exited minus_one) refl

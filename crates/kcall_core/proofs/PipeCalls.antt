@@ -17,7 +17,7 @@ use Rattle.kcall_core.specs.State.{State, live_part}
 use Rattle.kcall_core.specs.View.{View, Shown_pipe, named, numbered, rename, or_else, or_gone, descriptor_at, descriptor_on, least_on_file, view_of}
 use Rattle.kcall_core.specs.Own.{Own, Answer, Called, Blocked, goes_on, gone_with}
 use Rattle.kcall_core.specs.Tables.{change_pipe}
-use Rattle.kcall_core.specs.Calls.{write, write_on, write_to, write_pipe, done_at, next_bytes, unless_nothing, done, waits, in_use, moving, unless, with_a0, length_of_int}
+use Rattle.kcall_core.specs.Calls.{write, done, waits, with_a0}
 use Rattle.kcall_core.specs.Quiet.{Quiet, pipe_at, pipe_of_file, file_of, pipe_of_open}
 use Rattle.kcall_core.specs.RowLaws.{OnPipe}
 use Rattle.kcall_core.specs.Updates.{changed_state}
@@ -26,6 +26,9 @@ use Rattle.kcall_core.proofs.Frame.{Spares}
 use Rattle.kcall_core.proofs.Tell.{quiet_from, own_table_tells}
 use Rattle.kcall_core.proofs.Pipes.{numbered_set, named_change}
 use Rattle.kcall_core.proofs.Change.{view_changed, leaves_changed}
+use Rattle.kcall_core.specs.Ready.{in_use}
+use Rattle.kcall_core.proofs.RowParts.{write_on, write_to, write_pipe, done_at, next_bytes, unless_nothing, moving, unless, length_of_int}
+use Rattle.kcall_core.proofs.RowsByParts.{write_same}
 
 module _ (s : State) (p : ℕ) (old : Live) (d i k : ℕ) (end : End) (x : Pipe) (on : OnPipe s p old d i k end x) where
   -- as p sees it
@@ -82,7 +85,8 @@ module _ (s : State) (p : ℕ) (old : Live) (d i k : ℕ) (end : End) (x : Pipe)
   pub write_own : write c (view_of s p old) ≡ write_pipe c (view_of s p old) k x n
   unfolding view_of
   write_own =
-      ap (λ (z : ℤ). write_on c (view_of s p old) (in_use (view_of s p old) z)) fd
+      write_same c (view_of s p old)
+      ∙ ap (λ (z : ℤ). write_on c (view_of s p old) (in_use (view_of s p old) z)) fd
       ∙ ap (write_on c (view_of s p old)) (the_descriptor s p old d i k end x on)
       ∙ ap (λ (b : Bool). unless (not b) c (view_of s p old) (λ _. moving c (view_of s p old) (readable old.image c.a1 (length_of_int (c_int c.a2))) (c_int c.a2) (λ m. write_to c (view_of s p old) m (Shown_pipe k end x)))) writes
       ∙ ap (λ (z : ℤ). moving c (view_of s p old) (readable old.image c.a1 (length_of_int z)) z (λ m. write_to c (view_of s p old) m (Shown_pipe k end x))) count

@@ -12,7 +12,7 @@ use Rattle.kcall_core.specs.Buffers.{writable}
 use Rattle.xk_base.specs.Bytes.{write_image}
 use Rattle.pipe_core.specs.Pipe.{Pipe, without_first}
 use Rattle.file_table.specs.declared.open_file.End.TheVariants.{Reading}
-use Rattle.kcall_core.specs.PipeEnds.{there}
+use Rattle.kcall_core.specs.PipeEnds.{there, must_wait}
 use Rattle.file_table.specs.declared.open_file.OpenFile.{OpenFile}
 use Rattle.file_table.specs.declared.open_file.Target.{Target}
 use Rattle.file_table.specs.declared.open_file.Target.TheVariants.{Console as Terminal, Program as File, Pipe as Pipe_end}
@@ -22,7 +22,7 @@ use Rattle.kcall_core.specs.State.{State, live, live_part}
 use Rattle.kcall_core.specs.View.{Table, Descriptor, Shown, Shown_terminal, Shown_file, Shown_pipe, named, numbered, rename, rename_shown, or_else, or_gone, show, descriptor_at, descriptor_on, least_on_pipe, least_on_file, file_name, pipe_name, view_of}
 use Rattle.kcall_core.specs.Own.{Own, Called, goes_on}
 use Rattle.kcall_core.specs.Tables.{change_pipe, changed, change_shown}
-use Rattle.kcall_core.specs.Calls.{read, read_on, read_from, read_pipe, must_wait, unless_nothing, done, in_use, moving, unless, waits, with_a0, length_of_int}
+use Rattle.kcall_core.specs.Calls.{read, done, waits, with_a0}
 use Rattle.kcall_core.specs.Quiet.{Quiet, pipe_at, pipe_of_file, file_of, pipe_of_open}
 use Rattle.kcall_core.specs.Updates.{set_live, set_pipe}
 use Rattle.kcall_core.proofs.Maps.{get_at, get_other}
@@ -31,6 +31,9 @@ use Rattle.kcall_core.proofs.Frame.{Spares}
 use Rattle.kcall_core.proofs.Tell.{Leaves, own_table_tells, quiet_from}
 use Rattle.kcall_core.proofs.Steps.{or_false}
 use Rattle.kcall_core.proofs.Least.{least_passes, none_passes}
+use Rattle.kcall_core.specs.Ready.{in_use}
+use Rattle.kcall_core.proofs.RowParts.{read_on, read_from, read_pipe, unless_nothing, moving, unless, length_of_int}
+use Rattle.kcall_core.proofs.RowsByParts.{read_same}
 
 pub file_name_kept : (f : ℕ → Pipe → Pipe) (d : Option Descriptor) → file_name (changed f d) ≡ file_name d
 file_name_kept f None = refl
@@ -166,7 +169,8 @@ module _ (s : State) (p : ℕ) (old : Live) (was : get s.processes p ≡ Some (A
   pub read_own : read c (view_of s p old) ≡ read_pipe c (view_of s p old) k x n
   unfolding view_of
   read_own =
-      ap (λ (z : ℤ). read_on c (view_of s p old) (in_use (view_of s p old) z)) fd
+      read_same c (view_of s p old)
+      ∙ ap (λ (z : ℤ). read_on c (view_of s p old) (in_use (view_of s p old) z)) fd
       ∙ ap (read_on c (view_of s p old)) the_descriptor
       ∙ ap (λ (z : ℤ). moving c (view_of s p old) (writable old.image c.a1 (length_of_int z)) z (λ m. read_from c (view_of s p old) m (or_else (least_on_file (numbered s old) f) f) (Shown_pipe k Reading x))) count
       ∙ ap (λ (b : Bool). unless_nothing b c (view_of s p old) (λ _. unless (not (writable old.image c.a1 n)) c (view_of s p old) (λ _. read_pipe c (view_of s p old) k x n))) some

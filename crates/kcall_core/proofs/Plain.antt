@@ -12,7 +12,7 @@ use Rattle.kcall_core.specs.Buffers.{grown, shrunk}
 use Rattle.xk_base.specs.Bytes.{write_image}
 use Rattle.console_core.specs.Lists.{Console}
 use Rattle.console_core.specs.Reads.{Pulled}
-use Rattle.kcall_core.specs.Calls.{room_to_send, row_of, perform, perform_row, refused, done, waits, with_a0, unless, uptime, sleep, sleep_for, sbrk, sbrk_by, shrink_to, exec_loaded, running, read_line, write_terminal, next_bytes, getpid}
+use Rattle.kcall_core.specs.Calls.{row_of, perform, refused, done, waits, with_a0, uptime, sleep, sbrk, getpid}
 use Rattle.kcall_core.specs.Processes.{Alive, Live}
 use Rattle.proc_table.specs.declared.process.Call.{Call}
 use Rattle.kcall_core.specs.State.{State}
@@ -20,6 +20,8 @@ use Rattle.kcall_core.specs.View.{View, view_of}
 use Rattle.kcall_core.specs.Own.{Own, Called, Blocked, goes_on}
 use Rattle.kcall_core.specs.Quiet.{Quiet}
 use Rattle.kcall_core.proofs.Change.{view_alone, quiet_alone, alone, after_alone, answered_live, waiting_live, after_done, after_wait, done_is, waits_is, done_quiet, waits_quiet}
+use Rattle.kcall_core.proofs.RowParts.{room_to_send, perform_row, unless, sleep_for, sbrk_by, shrink_to, exec_loaded, running, read_line, write_terminal, next_bytes, perform_parts}
+use Rattle.kcall_core.proofs.RowsByParts.{sleep_same, sbrk_same, uptime_same, getpid_same, perform_same}
 
 module _ (s : State) (p : ℕ) (old : Live) (was : get s.processes p ≡ Some (Alive old)) (c : Call) where
   abbrev v : View
@@ -62,28 +64,28 @@ module _ (s : State) (p : ℕ) (old : Live) (was : get s.processes p ≡ Some (A
   refused_quiet o is = answers_quiet minus_one o is
 
   pub unknown_refused : row_of c.number ≡ None → perform c (view_of s p old) ≡ refused c (view_of s p old)
-  unfolding perform perform_row
-  unknown_refused none = ap (perform_row c (view_of s p old)) none
+  unfolding perform_parts perform_row
+  unknown_refused none = perform_same c (view_of s p old) ∙ ap (perform_row c (view_of s p old)) none
 
   pub uptime_answers : uptime c (view_of s p old) ≡ done c (pos s.clock) (view_of s p old)
   unfolding view_of
-  uptime_answers = refl
+  uptime_answers = uptime_same c (view_of s p old)
 
   pub getpid_answers : getpid c (view_of s p old) ≡ done c (pos p) (view_of s p old)
   unfolding view_of
-  getpid_answers = refl
+  getpid_answers = getpid_same c (view_of s p old)
 
   -- sleep, by whether the time is over
   pub sleep_below : (k : ℕ) → c_int c.a0 ≡ negsuc k → sleep c (view_of s p old) ≡ done c (pos 0) (view_of s p old)
-  sleep_below k n = ap (sleep_for c (view_of s p old)) n
+  sleep_below k n = sleep_same c (view_of s p old) ∙ ap (sleep_for c (view_of s p old)) n
 
   pub sleep_over : (n : ℕ) → c_int c.a0 ≡ pos n → nat_lt ((s.clock + CLOCK_ROUND - c.clock) % CLOCK_ROUND) n ≡ false → sleep c (view_of s p old) ≡ done c (pos 0) (view_of s p old)
   unfolding view_of
-  sleep_over n e over = ap (sleep_for c (view_of s p old)) e ∙ ap (λ (b : Bool). cond b (waits c 0 (view_of s p old)) (done c (pos 0) (view_of s p old))) over
+  sleep_over n e over = sleep_same c (view_of s p old) ∙ ap (sleep_for c (view_of s p old)) e ∙ ap (λ (b : Bool). cond b (waits c 0 (view_of s p old)) (done c (pos 0) (view_of s p old))) over
 
   pub sleep_waits : (n : ℕ) → c_int c.a0 ≡ pos n → nat_lt ((s.clock + CLOCK_ROUND - c.clock) % CLOCK_ROUND) n ≡ true → sleep c (view_of s p old) ≡ waits c 0 (view_of s p old)
   unfolding view_of
-  sleep_waits n e over = ap (sleep_for c (view_of s p old)) e ∙ ap (λ (b : Bool). cond b (waits c 0 (view_of s p old)) (done c (pos 0) (view_of s p old))) over
+  sleep_waits n e over = sleep_same c (view_of s p old) ∙ ap (sleep_for c (view_of s p old)) e ∙ ap (λ (b : Bool). cond b (waits c 0 (view_of s p old)) (done c (pos 0) (view_of s p old))) over
 
   -- ---- sbrk
 
@@ -105,7 +107,8 @@ module _ (s : State) (p : ℕ) (old : Live) (was : get s.processes p ≡ Some (A
       → sbrk c (view_of s p old) ≡ goes_on (Called c.number (pos old.image.size)) (view_of (state_resized (grown old.image (old.image.size + n)) (s.free - (price (grown old.image (old.image.size + n)) - price old.image))) p (resized (grown old.image (old.image.size + n)) (s.free - (price (grown old.image (old.image.size + n)) - price old.image))))
   unfolding view_of
   grow_own n e can =
-      ap (sbrk_by c (view_of s p old)) e
+      sbrk_same c (view_of s p old)
+      ∙ ap (sbrk_by c (view_of s p old)) e
       ∙ ap (λ (b : Bool). unless b c (view_of s p old) (λ _. done c (pos old.image.size) (record (view_of s p old) { image = grown old.image (old.image.size + n); free = s.free - (price (grown old.image (old.image.size + n)) - price old.image) }))) can
       ∙ resized_is (grown old.image (old.image.size + n)) (s.free - (price (grown old.image (old.image.size + n)) - price old.image))
 
@@ -113,7 +116,8 @@ module _ (s : State) (p : ℕ) (old : Live) (was : get s.processes p ≡ Some (A
       → sbrk c (view_of s p old) ≡ goes_on (Called c.number (pos old.image.size)) (view_of (state_resized (shrunk old.image (old.image.size - suc k)) (s.free + price old.image - price (shrunk old.image (old.image.size - suc k)))) p (resized (shrunk old.image (old.image.size - suc k)) (s.free + price old.image - price (shrunk old.image (old.image.size - suc k)))))
   unfolding view_of
   shrink_own k e can =
-      ap (sbrk_by c (view_of s p old)) e
+      sbrk_same c (view_of s p old)
+      ∙ ap (sbrk_by c (view_of s p old)) e
       ∙ ap (λ (b : Bool). unless b c (view_of s p old) (λ _. shrink_to c (view_of s p old) (old.image.size - suc k))) can
       ∙ resized_is (shrunk old.image (old.image.size - suc k)) (s.free + price old.image - price (shrunk old.image (old.image.size - suc k)))
 

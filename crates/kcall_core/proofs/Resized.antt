@@ -13,8 +13,9 @@ use Rattle.proc_table.specs.declared.process.Call.{Call}
 use Rattle.kcall_core.specs.Buffers.{data_rights, grown, shrunk}
 use Rattle.kcall_core.specs.View.{View}
 use Rattle.kcall_core.specs.Own.{Own}
-use Rattle.kcall_core.specs.Calls.{done, refused, unless, grow_to, shrink_to, sbrk_by}
+use Rattle.kcall_core.specs.Calls.{done, refused}
 use Rattle.kcall_core.specs.Kernel.{resized, at_size}
+use Rattle.kcall_core.proofs.RowParts.{unless, grow_to, shrink_to, sbrk_by}
 
 -- ---- prices
 

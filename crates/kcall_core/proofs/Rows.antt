@@ -20,59 +20,62 @@ use Rattle.kcall_core.specs.Buffers.{readable, writable, text_at, texts_at, no_s
 use Rattle.kcall_core.specs.Processes.{Running, Status}
 use Rattle.kcall_core.specs.View.{View, Table, Descriptor, Shown_terminal, Shown_pipe, Shown_file, named}
 use Rattle.kcall_core.specs.Own.{Own, Called, Blocked, Exited, Stepped}
-use Rattle.kcall_core.specs.Calls.{row_of, perform_row, perform, fork, forked, cannot_fork, unless, moving, read_from, write_to, piped_from, done, reaped, least_zombie, running, exec_loaded, exec_program, exec_path}
+use Rattle.kcall_core.specs.Calls.{row_of, perform, done, least_zombie, row, close, dup, kill, read, sbrk, sleep, wait, write}
 use Rattle.kcall_core.specs.Step.{own}
 use Rattle.kcall_core.specs.Ready.{ready}
 use Rattle.kcall_core.specs.Tables.{lowest_free}
 use Rattle.kcall_core.specs.Run.{Run, Tick, Key, Send, Step_of, Typed, Sent, round, out}
+use Rattle.kcall_core.proofs.RowParts.{perform_row, forked, cannot_fork, unless, moving, read_from, write_to, piped_from, reaped, running, exec_loaded, exec_program, exec_path, perform_parts, fork_parts}
+use Rattle.kcall_core.specs.Lines.{◌>>=◌, ◌>>◌, ◌or◌, ◌when◌}
+use Rattle.kcall_core.proofs.RowsByParts.{by_parts}
 
 module _ (image : Image) where
   -- ---- numbers and arguments
 
   getpid : (own (in_call image (call 11 0 0 0))).answer ≡ Called (pos 11) (pos 1)
-  unfolding own perform perform_row row_of in_call
+  unfolding own in_call perform row row_of ◌>>=◌ ◌or◌
   getpid = refl
 
   getpid_7 : (own (record (in_call image (call 11 0 0 0)) { pid = 7 })).answer ≡ Called (pos 11) (pos 7)
-  unfolding own perform perform_row row_of in_call
+  unfolding own in_call perform row row_of ◌>>=◌ ◌or◌
   getpid_7 = refl
 
   exit_7 : (own (in_call image (call 2 7 0 0))).answer ≡ Exited (pos 7)
-  unfolding own perform perform_row row_of in_call
+  unfolding own in_call perform row row_of ◌>>=◌ ◌or◌
   exit_7 = refl
 
   -- numbers that are no call
   call_8 : (own (in_call image (call 8 0 0 0))).answer ≡ Called (pos 8) (negsuc 0)
-  unfolding own perform perform_row row_of in_call
+  unfolding own in_call perform row row_of ◌>>=◌ ◌or◌
   call_8 = refl
 
   call_99 : (own (in_call image (call 99 0 0 0))).answer ≡ Called (pos 99) (negsuc 0)
-  unfolding own perform perform_row row_of in_call
+  unfolding own in_call perform row row_of ◌>>=◌ ◌or◌
   call_99 = refl
 
   -- -1 in a register is 2^64 - 1
   minus_one_in_a0 : a0_after (own (in_call image (call 99 0 0 0))).next ≡ 2 ^ 64 - 1
-  unfolding own perform perform_row row_of in_call a0_after
+  unfolding own in_call a0_after perform row row_of ◌>>=◌ ◌or◌
   minus_one_in_a0 = refl
 
   -- read on descriptor 16; close of one that isn't in use
   read_16 : (own (in_call image (call 5 16 0 1))).answer ≡ Called (pos 5) (negsuc 0)
-  unfolding own perform perform_row row_of in_call
+  unfolding own in_call perform row row_of read ◌>>=◌ ◌>>◌ ◌when◌ ◌or◌
   read_16 = refl
 
   close_free : (own (in_call image (call 21 0 0 0))).answer ≡ Called (pos 21) (negsuc 0)
-  unfolding own perform perform_row row_of in_call
+  unfolding own in_call perform row row_of close ◌>>=◌ ◌>>◌ ◌when◌ ◌or◌
   close_free = refl
 
   -- ---- sleep, uptime, kill
 
   sleep_2 : (own (in_call image (call 13 2 0 0))).answer ≡ Blocked (pos 13)
-  unfolding own perform perform_row row_of in_call
+  unfolding own in_call perform row row_of sleep ◌>>=◌ ◌>>◌ ◌when◌ ◌or◌
   sleep_2 = refl
 
   -- two ticks later
   slept_2 : (own (record (in_call image (call 13 2 0 0)) { clock = 2 })).answer ≡ Called (pos 13) (pos 0)
-  unfolding own perform perform_row row_of in_call
+  unfolding own in_call perform row row_of sleep ◌>>=◌ ◌>>◌ ◌when◌ ◌or◌
   slept_2 = refl
 
   ready_after : ready (record (in_call image (call 13 2 0 0)) { clock = 2 }) ≡ true
@@ -85,36 +88,36 @@ module _ (image : Image) where
 
   -- a size that is above the limit still is refused
   sbrk_from_above : (own (record (in_call image (call 12 (minus 1) 0 0)) { image = record image { size = 2 ^ 38 } })).answer ≡ Called (pos 12) (negsuc 0)
-  unfolding own perform perform_row row_of in_call
+  unfolding own in_call perform row row_of sbrk ◌>>=◌ ◌>>◌ ◌when◌ ◌or◌
   sbrk_from_above = refl
 
   uptime_2 : (own (record (in_call image (call 14 0 0 0)) { clock = 2 })).answer ≡ Called (pos 14) (pos 2)
-  unfolding own perform perform_row row_of in_call
+  unfolding own in_call perform row row_of ◌>>=◌ ◌or◌
   uptime_2 = refl
 
   kill_1 : (own (in_call image (call 6 1 0 0))).marked ≡ Some 1
-  unfolding own perform perform_row row_of in_call
+  unfolding own in_call perform row row_of kill ◌>>=◌ ◌>>◌ ◌when◌ ◌or◌
   kill_1 = refl
 
   kill_0 : (own (in_call image (call 6 0 0 0))).answer ≡ Called (pos 6) (negsuc 0)
-  unfolding own perform perform_row row_of in_call
+  unfolding own in_call perform row row_of kill ◌>>=◌ ◌>>◌ ◌when◌ ◌or◌
   kill_0 = refl
 
   kill_99 : (own (in_call image (call 6 99 0 0))).answer ≡ Called (pos 6) (negsuc 0)
-  unfolding own perform perform_row row_of in_call
+  unfolding own in_call perform row row_of kill ◌>>=◌ ◌>>◌ ◌when◌ ◌or◌
   kill_99 = refl
 
   kill_minus_1 : (own (in_call image (call 6 (minus 1) 0 0))).answer ≡ Called (pos 6) (negsuc 0)
-  unfolding own perform perform_row row_of in_call
+  unfolding own in_call perform row row_of kill ◌>>=◌ ◌>>◌ ◌when◌ ◌or◌
   kill_minus_1 = refl
 
   -- a process that kills itself is answered still, and is marked
   kill_itself : (own (in_call image (call 6 1 0 0))).answer ≡ Called (pos 6) (pos 0)
-  unfolding own perform perform_row row_of in_call
+  unfolding own in_call perform row row_of kill ◌>>=◌ ◌>>◌ ◌when◌ ◌or◌
   kill_itself = refl
 
   kill_itself_marks : is_marked (own (in_call image (call 6 1 0 0))).next ≡ true
-  unfolding own perform perform_row row_of in_call is_marked
+  unfolding own in_call is_marked perform row row_of kill ◌>>=◌ ◌>>◌ ◌when◌ ◌or◌
   kill_itself_marks = refl
 
   -- a process that is marked ends
@@ -132,46 +135,46 @@ module _ (image : Image) where
   }
 
   wait_least : (own (family 0)).answer ≡ Called (pos 3) (pos 3)
-  unfolding own perform perform_row row_of in_call family
+  unfolding own in_call family perform row row_of wait ◌>>=◌ ◌>>◌ ◌when◌ ◌or◌
   wait_least = refl
 
   slot_is_free : pids_of (own (family 0)).next ≡ 1 ∷ 2 ∷ 4 ∷ []
-  unfolding own perform perform_row row_of in_call family pids_of
+  unfolding own in_call family pids_of perform row row_of wait ◌>>=◌ ◌>>◌ ◌when◌ ◌or◌
   slot_is_free = refl
 
   -- nothing is written where the address is 0
   wait_writes_nothing : image_of (own (family 0)).next ≡ image
-  unfolding own perform perform_row row_of in_call family image_of
+  unfolding own in_call family image_of perform row row_of wait ◌>>=◌ ◌>>◌ ◌when◌ ◌or◌
   wait_writes_nothing = refl
 
   wait_alone : (own (in_call image (call 3 0 0 0))).answer ≡ Called (pos 3) (negsuc 0)
-  unfolding own perform perform_row row_of in_call
+  unfolding own in_call perform row row_of wait ◌>>=◌ ◌>>◌ ◌when◌ ◌or◌
   wait_alone = refl
 
   wait_running : (own (record (family 0) { children = λ q. cond (nat_eq q 2) (Some Running) None })).answer ≡ Blocked (pos 3)
-  unfolding own perform perform_row row_of in_call family
+  unfolding own in_call family perform row row_of wait ◌>>=◌ ◌>>◌ ◌when◌ ◌or◌
   wait_running = refl
 
   -- ---- fork and exit, of a process that costs 7 frames
 
   module _ (priced : price image ≡ 6) where
     exit_frees : (own (in_call image (call 2 7 0 0))).left.free ≡ 16
-    unfolding own perform perform_row row_of in_call count_below
-    exit_frees = ap (λ (n : ℕ). 9 + n + 1 + 0) priced
+    unfolding own perform_parts perform_row row_of in_call count_below
+    exit_frees = by_parts (λ (o : Own). o.left.free) _ _ (ap (λ (n : ℕ). 9 + n + 1 + 0) priced)
 
-    fork_by : (v : View) (b : Bool) → cannot_fork v ≡ b → (fork (call 1 0 0 0) v).answer ≡ cond b (Called (pos 1) (negsuc 0)) (Called (pos 1) (pos v.next_pid))
+    fork_by : (v : View) (b : Bool) → cannot_fork v ≡ b → (fork_parts (call 1 0 0 0) v).answer ≡ cond b (Called (pos 1) (negsuc 0)) (Called (pos 1) (pos v.next_pid))
     fork_by v true e = ap (λ (b : Bool). (unless b (call 1 0 0 0) v (λ _. forked (call 1 0 0 0) v)).answer) e
     fork_by v false e = ap (λ (b : Bool). (unless b (call 1 0 0 0) v (λ _. forked (call 1 0 0 0) v)).answer) e
 
     fork_13 : (own (record (in_call image (call 1 0 0 0)) { free = 13 })).answer ≡ Called (pos 1) (pos 2)
-    unfolding own perform perform_row row_of in_call
-    fork_13 = fork_by (record (in_call image (call 1 0 0 0)) { free = 13 }) false (ap (λ (n : ℕ). nat_lt 13 (n + 1)) priced)
+    unfolding own perform_parts perform_row row_of in_call
+    fork_13 = by_parts (λ (o : Own). o.answer) _ _ (fork_by (record (in_call image (call 1 0 0 0)) { free = 13 }) false (ap (λ (n : ℕ). nat_lt 13 (n + 1)) priced))
 
     fork_leaves_6 : free_of (own (record (in_call image (call 1 0 0 0)) { free = 13 })).next ≡ 6
-    unfolding own perform perform_row row_of in_call free_of
-    fork_leaves_6 =
+    unfolding own perform_parts perform_row row_of in_call free_of
+    fork_leaves_6 = by_parts (λ (o : Own). free_of o.next) _ _ (
         ap (λ (b : Bool). free_of (unless b (call 1 0 0 0) (record (in_call image (call 1 0 0 0)) { free = 13 }) (λ _. forked (call 1 0 0 0) (record (in_call image (call 1 0 0 0)) { free = 13 }))).next) (ap (λ (n : ℕ). nat_lt 13 (n + 1)) priced)
-        ∙ ap (λ (n : ℕ). 13 - (n + 1)) priced
+        ∙ ap (λ (n : ℕ). 13 - (n + 1)) priced)
 
   -- ---- pipes
 
@@ -182,40 +185,40 @@ module _ (image : Image) where
   -- a write of 513 bytes: 512 are in, and it waits
   module _ (there : readable image 0 513 ≡ true) where
     blocks : (own writer).answer ≡ Blocked (pos 16)
-    unfolding own perform perform_row row_of in_call writer new_pipe
-    blocks = ap (λ (b : Bool). (moving (call 16 1 0 513) writer b (pos 513) (λ n. write_to (call 16 1 0 513) writer n (Shown_pipe 0 Writing new_pipe))).answer) there
+    unfolding own perform_parts perform_row row_of in_call writer new_pipe
+    blocks = by_parts (λ (o : Own). o.answer) _ _ (ap (λ (b : Bool). (moving (call 16 1 0 513) writer b (pos 513) (λ n. write_to (call 16 1 0 513) writer n (Shown_pipe 0 Writing new_pipe))).answer) there)
 
     moves_512 : moved_of (own writer).next ≡ Some 512
-    unfolding own perform perform_row row_of in_call writer new_pipe moved_of
-    moves_512 = ap (λ (b : Bool). moved_of (moving (call 16 1 0 513) writer b (pos 513) (λ n. write_to (call 16 1 0 513) writer n (Shown_pipe 0 Writing new_pipe))).next) there
+    unfolding own perform_parts perform_row row_of in_call writer new_pipe moved_of
+    moves_512 = by_parts (λ (o : Own). moved_of o.next) _ _ (ap (λ (b : Bool). moved_of (moving (call 16 1 0 513) writer b (pos 513) (λ n. write_to (call 16 1 0 513) writer n (Shown_pipe 0 Writing new_pipe))).next) there)
 
     -- nobody reads any more
     broken : (own (record writer { descriptors = ends_of (record { bytes = []; readers = 0; writers = 1 }) })).answer ≡ Called (pos 16) (negsuc 0)
-    unfolding own perform perform_row row_of in_call writer
-    broken = ap (λ (b : Bool). (moving (call 16 1 0 513) (record writer { descriptors = ends_of (record { bytes = []; readers = 0; writers = 1 }) }) b (pos 513) (λ n. write_to (call 16 1 0 513) (record writer { descriptors = ends_of (record { bytes = []; readers = 0; writers = 1 }) }) n (Shown_pipe 0 Writing (record { bytes = []; readers = 0; writers = 1 })))).answer) there
+    unfolding own perform_parts perform_row row_of in_call writer
+    broken = by_parts (λ (o : Own). o.answer) _ _ (ap (λ (b : Bool). (moving (call 16 1 0 513) (record writer { descriptors = ends_of (record { bytes = []; readers = 0; writers = 1 }) }) b (pos 513) (λ n. write_to (call 16 1 0 513) (record writer { descriptors = ends_of (record { bytes = []; readers = 0; writers = 1 }) }) n (Shown_pipe 0 Writing (record { bytes = []; readers = 0; writers = 1 })))).answer) there)
 
   -- n 0 is done at once, whatever the buffer
 
   write_0 : (own (record (in_call image (call 16 1 (minus 1) 0)) { descriptors = ends_of new_pipe })).answer ≡ Called (pos 16) (pos 0)
-  unfolding own perform perform_row row_of in_call
+  unfolding own in_call perform row row_of write ◌>>=◌ ◌>>◌ ◌when◌ ◌or◌
   write_0 = refl
 
   -- ---- dup and close: counts, frames, and names
 
   close_one_end : free_of (own (record (in_call image (call 21 0 0 0)) { descriptors = ends_of new_pipe })).next ≡ 9
-  unfolding own perform perform_row row_of in_call new_pipe count_below least_below named free_of
+  unfolding own in_call new_pipe count_below least_below named free_of perform row row_of close ◌>>=◌ ◌>>◌ ◌when◌ ◌or◌
   close_one_end = refl
 
   close_last_end : free_of (own (record (in_call image (call 21 1 0 0)) { descriptors = ends_of (record { bytes = []; readers = 0; writers = 1 }) })).next ≡ 10
-  unfolding own perform perform_row row_of in_call count_below least_below named free_of
+  unfolding own in_call count_below least_below named free_of perform row row_of close ◌>>=◌ ◌>>◌ ◌when◌ ◌or◌
   close_last_end = refl
 
   dup_lowest : (own (record (in_call image (call 10 1 0 0)) { descriptors = ends_of new_pipe })).answer ≡ Called (pos 10) (pos 2)
-  unfolding own perform perform_row row_of in_call least_below
+  unfolding own in_call least_below perform row row_of dup ◌>>=◌ ◌>>◌ ◌when◌ ◌or◌
   dup_lowest = refl
 
   dup_counts : writers_of (at_place (own (record (in_call image (call 10 1 0 0)) { descriptors = ends_of new_pipe })).next 0) ≡ 2
-  unfolding own perform perform_row row_of in_call least_below named new_pipe writers_of at_place
+  unfolding own in_call least_below named new_pipe writers_of at_place perform row row_of dup ◌>>=◌ ◌>>◌ ◌when◌ ◌or◌
   dup_counts = refl
 
   -- descriptors 0 and 1 are on the same open file, a read end whose pipe nobody writes: closing one keeps it, under the other's name; closing that one too gives it up, and the pipe's frame is free
@@ -229,31 +232,31 @@ module _ (image : Image) where
   once = λ d. cond (nat_eq d 1) (Some (reading 1 1 1)) None
 
   dup_shares : at_place (own (record (in_call image (call 10 1 0 0)) { descriptors = once })).next 0 ≡ Some (reading 0 0 2)
-  unfolding own perform perform_row row_of in_call least_below named at_place
+  unfolding own in_call least_below named at_place perform row row_of dup ◌>>=◌ ◌>>◌ ◌when◌ ◌or◌
   dup_shares = refl
 
   dup_keeps : at_place (own (record (in_call image (call 10 1 0 0)) { descriptors = once })).next 1 ≡ Some (reading 0 0 2)
-  unfolding own perform perform_row row_of in_call least_below named at_place
+  unfolding own in_call least_below named at_place perform row row_of dup ◌>>=◌ ◌>>◌ ◌when◌ ◌or◌
   dup_keeps = refl
 
   close_shared : at_place (own (record (in_call image (call 21 0 0 0)) { descriptors = twice })).next 1 ≡ Some (reading 1 1 1)
-  unfolding own perform perform_row row_of in_call count_below least_below named at_place
+  unfolding own in_call count_below least_below named at_place perform row row_of close ◌>>=◌ ◌>>◌ ◌when◌ ◌or◌
   close_shared = refl
 
   close_shared_frees : free_of (own (record (in_call image (call 21 0 0 0)) { descriptors = twice })).next ≡ 9
-  unfolding own perform perform_row row_of in_call count_below least_below named free_of
+  unfolding own in_call count_below least_below named free_of perform row row_of close ◌>>=◌ ◌>>◌ ◌when◌ ◌or◌
   close_shared_frees = refl
 
   close_other : at_place (own (record (in_call image (call 21 1 0 0)) { descriptors = once })).next 1 ≡ None
-  unfolding own perform perform_row row_of in_call count_below least_below named at_place
+  unfolding own in_call count_below least_below named at_place perform row row_of close ◌>>=◌ ◌>>◌ ◌when◌ ◌or◌
   close_other = refl
 
   close_other_answer : (own (record (in_call image (call 21 1 0 0)) { descriptors = once })).answer ≡ Called (pos 21) (pos 0)
-  unfolding own perform perform_row row_of in_call
+  unfolding own in_call perform row row_of close ◌>>=◌ ◌>>◌ ◌when◌ ◌or◌
   close_other_answer = refl
 
   close_other_frees : free_of (own (record (in_call image (call 21 1 0 0)) { descriptors = once })).next ≡ 10
-  unfolding own perform perform_row row_of in_call count_below least_below named free_of
+  unfolding own in_call count_below least_below named free_of perform row row_of close ◌>>=◌ ◌>>◌ ◌when◌ ◌or◌
   close_other_frees = refl
 
   -- a pipe that is made
@@ -261,12 +264,12 @@ module _ (image : Image) where
   making free there = unless (not there || nat_eq free 0) (call 4 0 0 0) (record (in_call image (call 4 0 0 0)) { free = free }) (λ _. piped_from (call 4 0 0 0) (record (in_call image (call 4 0 0 0)) { free = free }) (lowest_free (λ d. None)))
 
   pipe_made : writable image 0 8 ≡ true → (own (in_call image (call 4 0 0 0))).answer ≡ Called (pos 4) (pos 0)
-  unfolding own perform perform_row row_of in_call making least_below
-  pipe_made there = ap (λ (b : Bool). (making 9 b).answer) there
+  unfolding own perform_parts perform_row row_of in_call making least_below
+  pipe_made there = by_parts (λ (o : Own). o.answer) _ _ (ap (λ (b : Bool). (making 9 b).answer) there)
 
   pipe_takes_1 : writable image 0 8 ≡ true → free_of (own (in_call image (call 4 0 0 0))).next ≡ 8
-  unfolding own perform perform_row row_of in_call making least_below free_of
-  pipe_takes_1 there = ap (λ (b : Bool). free_of (making 9 b).next) there
+  unfolding own perform_parts perform_row row_of in_call making least_below free_of
+  pipe_takes_1 there = by_parts (λ (o : Own). free_of o.next) _ _ (ap (λ (b : Bool). free_of (making 9 b).next) there)
 
   -- ---- reads and writes: which bytes come and go, and where
 
@@ -283,16 +286,16 @@ module _ (image : Image) where
 
   module _ (there : writable image 8192 9 ≡ true) where
     file_rest : image_of (own file_reader).next ≡ write_image image 8192 (codes "llo")
-    unfolding own perform perform_row row_of in_call file_reader reading_file image_of
-    file_rest = ap (λ (b : Bool). image_of (reading_file b).next) there
+    unfolding own perform_parts perform_row row_of in_call file_reader reading_file image_of
+    file_rest = by_parts (λ (o : Own). image_of o.next) _ _ (ap (λ (b : Bool). image_of (reading_file b).next) there)
 
     file_answer : (own file_reader).answer ≡ Called (pos 5) (pos 3)
-    unfolding own perform perform_row row_of in_call file_reader reading_file
-    file_answer = ap (λ (b : Bool). (reading_file b).answer) there
+    unfolding own perform_parts perform_row row_of in_call file_reader reading_file
+    file_answer = by_parts (λ (o : Own). o.answer) _ _ (ap (λ (b : Bool). (reading_file b).answer) there)
 
     file_offset : at_place (own file_reader).next 0 ≡ Some (record { file = 0; read = true; write = false; shown = Shown_file 0 5 })
-    unfolding own perform perform_row row_of in_call file_reader reading_file at_place
-    file_offset = ap (λ (b : Bool). at_place (reading_file b).next 0) there
+    unfolding own perform_parts perform_row row_of in_call file_reader reading_file at_place
+    file_offset = by_parts (λ (o : Own). at_place o.next 0) _ _ (ap (λ (b : Bool). at_place (reading_file b).next 0) there)
 
   -- descriptor 0 is on the console; a call on 40 bytes at 8192 that has moved so many
   terminal_call : ℕ → ℕ → Call
@@ -313,48 +316,48 @@ module _ (image : Image) where
   -- a read that has 2 bytes goes on behind them; its line's end makes 4. Without an end it waits, with 3
   module _ (there : writable image 8192 40 ≡ true) where
     line_rest : image_of (own (at_terminal 5 2 (codes "c\n"))).next ≡ write_image image 8194 (codes "c\n")
-    unfolding own perform perform_row row_of in_call terminal_call at_terminal reading_line image_of
-    line_rest = ap (λ (b : Bool). image_of (reading_line 2 (codes "c\n") b).next) there
+    unfolding own perform_parts perform_row row_of in_call terminal_call at_terminal reading_line image_of
+    line_rest = by_parts (λ (o : Own). image_of o.next) _ _ (ap (λ (b : Bool). image_of (reading_line 2 (codes "c\n") b).next) there)
 
     line_answer : (own (at_terminal 5 2 (codes "c\n"))).answer ≡ Called (pos 5) (pos 4)
-    unfolding own perform perform_row row_of in_call terminal_call at_terminal reading_line
-    line_answer = ap (λ (b : Bool). (reading_line 2 (codes "c\n") b).answer) there
+    unfolding own perform_parts perform_row row_of in_call terminal_call at_terminal reading_line
+    line_answer = by_parts (λ (o : Own). o.answer) _ _ (ap (λ (b : Bool). (reading_line 2 (codes "c\n") b).answer) there)
 
     line_waits : (own (at_terminal 5 2 (codes "c"))).answer ≡ Blocked (pos 5)
-    unfolding own perform perform_row row_of in_call terminal_call at_terminal reading_line
-    line_waits = ap (λ (b : Bool). (reading_line 2 (codes "c") b).answer) there
+    unfolding own perform_parts perform_row row_of in_call terminal_call at_terminal reading_line
+    line_waits = by_parts (λ (o : Own). o.answer) _ _ (ap (λ (b : Bool). (reading_line 2 (codes "c") b).answer) there)
 
     line_moved : moved_of (own (at_terminal 5 2 (codes "c"))).next ≡ Some 3
-    unfolding own perform perform_row row_of in_call terminal_call at_terminal reading_line moved_of
-    line_moved = ap (λ (b : Bool). moved_of (reading_line 2 (codes "c") b).next) there
+    unfolding own perform_parts perform_row row_of in_call terminal_call at_terminal reading_line moved_of
+    line_moved = by_parts (λ (o : Own). moved_of o.next) _ _ (ap (λ (b : Bool). moved_of (reading_line 2 (codes "c") b).next) there)
 
     -- with room for one byte more it takes one of two, and is over
     line_room : image_of (own (at_terminal 5 39 (codes "cd"))).next ≡ write_image image 8231 (codes "c")
-    unfolding own perform perform_row row_of in_call terminal_call at_terminal reading_line image_of
-    line_room = ap (λ (b : Bool). image_of (reading_line 39 (codes "cd") b).next) there
+    unfolding own perform_parts perform_row row_of in_call terminal_call at_terminal reading_line image_of
+    line_room = by_parts (λ (o : Own). image_of o.next) _ _ (ap (λ (b : Bool). image_of (reading_line 39 (codes "cd") b).next) there)
 
     -- byte 4, where nothing is read before it, is taken, and ends the read with 0
     line_end : (own (at_terminal 5 0 (4 ∷ []))).answer ≡ Called (pos 5) (pos 0)
-    unfolding own perform perform_row row_of in_call terminal_call at_terminal reading_line
-    line_end = ap (λ (b : Bool). (reading_line 0 (4 ∷ []) b).answer) there
+    unfolding own perform_parts perform_row row_of in_call terminal_call at_terminal reading_line
+    line_end = by_parts (λ (o : Own). o.answer) _ _ (ap (λ (b : Bool). (reading_line 0 (4 ∷ []) b).answer) there)
 
   -- a write of 40 bytes: bytes 0 to 31 go first, and it waits; where they are sent, bytes 32 to 39 go, and it is done
   module _ (there : readable image 8192 40 ≡ true) where
     sends_32 : (console_of (own (at_terminal 16 0 [])).next).to_send ≡ image_bytes image 8192 32
-    unfolding own perform perform_row row_of in_call terminal_call at_terminal writing_line console_of
-    sends_32 = ap (λ (b : Bool). (console_of (writing_line 0 b).next).to_send) there
+    unfolding own perform_parts perform_row row_of in_call terminal_call at_terminal writing_line console_of
+    sends_32 = by_parts (λ (o : Own). (console_of o.next).to_send) _ _ (ap (λ (b : Bool). (console_of (writing_line 0 b).next).to_send) there)
 
     waits_at_32 : (own (at_terminal 16 0 [])).answer ≡ Blocked (pos 16)
-    unfolding own perform perform_row row_of in_call terminal_call at_terminal writing_line
-    waits_at_32 = ap (λ (b : Bool). (writing_line 0 b).answer) there
+    unfolding own perform_parts perform_row row_of in_call terminal_call at_terminal writing_line
+    waits_at_32 = by_parts (λ (o : Own). o.answer) _ _ (ap (λ (b : Bool). (writing_line 0 b).answer) there)
 
     sends_8 : (console_of (own (at_terminal 16 32 [])).next).to_send ≡ image_bytes image 8224 8
-    unfolding own perform perform_row row_of in_call terminal_call at_terminal writing_line console_of
-    sends_8 = ap (λ (b : Bool). (console_of (writing_line 32 b).next).to_send) there
+    unfolding own perform_parts perform_row row_of in_call terminal_call at_terminal writing_line console_of
+    sends_8 = by_parts (λ (o : Own). (console_of o.next).to_send) _ _ (ap (λ (b : Bool). (console_of (writing_line 32 b).next).to_send) there)
 
     wrote_40 : (own (at_terminal 16 32 [])).answer ≡ Called (pos 16) (pos 40)
-    unfolding own perform perform_row row_of in_call terminal_call at_terminal writing_line
-    wrote_40 = ap (λ (b : Bool). (writing_line 32 b).answer) there
+    unfolding own perform_parts perform_row row_of in_call terminal_call at_terminal writing_line
+    wrote_40 = by_parts (λ (o : Own). o.answer) _ _ (ap (λ (b : Bool). (writing_line 32 b).answer) there)
 
   -- ---- reads of a pipe: what is there; nothing yet; nothing any more
 
@@ -366,24 +369,24 @@ module _ (image : Image) where
 
   module _ (there : writable image 8192 10 ≡ true) where
     pipe_bytes : image_of (own (reader (codes "xy") 1)).next ≡ write_image image 8192 (codes "xy")
-    unfolding own perform perform_row row_of in_call reader reading_pipe image_of
-    pipe_bytes = ap (λ (b : Bool). image_of (reading_pipe (codes "xy") 1 b).next) there
+    unfolding own perform_parts perform_row row_of in_call reader reading_pipe image_of
+    pipe_bytes = by_parts (λ (o : Own). image_of o.next) _ _ (ap (λ (b : Bool). image_of (reading_pipe (codes "xy") 1 b).next) there)
 
     pipe_answer : (own (reader (codes "xy") 1)).answer ≡ Called (pos 5) (pos 2)
-    unfolding own perform perform_row row_of in_call reader reading_pipe
-    pipe_answer = ap (λ (b : Bool). (reading_pipe (codes "xy") 1 b).answer) there
+    unfolding own perform_parts perform_row row_of in_call reader reading_pipe
+    pipe_answer = by_parts (λ (o : Own). o.answer) _ _ (ap (λ (b : Bool). (reading_pipe (codes "xy") 1 b).answer) there)
 
     pipe_left : at_place (own (reader (codes "xy") 1)).next 0 ≡ Some (record { file = 0; read = true; write = false; shown = Shown_pipe 0 Reading new_pipe })
-    unfolding own perform perform_row row_of in_call reader reading_pipe at_place new_pipe
-    pipe_left = ap (λ (b : Bool). at_place (reading_pipe (codes "xy") 1 b).next 0) there
+    unfolding own perform_parts perform_row row_of in_call reader reading_pipe at_place new_pipe
+    pipe_left = by_parts (λ (o : Own). at_place o.next 0) _ _ (ap (λ (b : Bool). at_place (reading_pipe (codes "xy") 1 b).next 0) there)
 
     pipe_waits : (own (reader [] 1)).answer ≡ Blocked (pos 5)
-    unfolding own perform perform_row row_of in_call reader reading_pipe
-    pipe_waits = ap (λ (b : Bool). (reading_pipe [] 1 b).answer) there
+    unfolding own perform_parts perform_row row_of in_call reader reading_pipe
+    pipe_waits = by_parts (λ (o : Own). o.answer) _ _ (ap (λ (b : Bool). (reading_pipe [] 1 b).answer) there)
 
     pipe_ends : (own (reader [] 0)).answer ≡ Called (pos 5) (pos 0)
-    unfolding own perform perform_row row_of in_call reader reading_pipe
-    pipe_ends = ap (λ (b : Bool). (reading_pipe [] 0 b).answer) there
+    unfolding own perform_parts perform_row row_of in_call reader reading_pipe
+    pipe_ends = by_parts (λ (o : Own). o.answer) _ _ (ap (λ (b : Bool). (reading_pipe [] 0 b).answer) there)
 
   -- ---- wait with an address: the status goes there, and the address is tested first
 
@@ -391,12 +394,12 @@ module _ (image : Image) where
   waiting_at there = unless (not (nat_eq 8192 0) && not there) (call 3 8192 0 0) (family 8192) (λ _. reaped (call 3 8192 0 0) (family 8192) (least_zombie (family 8192)))
 
   wait_tells : writable image 8192 4 ≡ true → image_of (own (family 8192)).next ≡ write_image image 8192 (30 ∷ 0 ∷ 0 ∷ 0 ∷ [])
-  unfolding own perform perform_row row_of in_call family waiting_at image_of
-  wait_tells there = ap (λ (b : Bool). image_of (waiting_at b).next) there
+  unfolding own perform_parts perform_row row_of in_call family waiting_at image_of
+  wait_tells there = by_parts (λ (o : Own). image_of o.next) _ _ (ap (λ (b : Bool). image_of (waiting_at b).next) there)
 
   wait_nowhere : writable image 8192 4 ≡ false → (own (family 8192)).answer ≡ Called (pos 3) (negsuc 0)
-  unfolding own perform perform_row row_of in_call family waiting_at
-  wait_nowhere absent = ap (λ (b : Bool). (waiting_at b).answer) absent
+  unfolding own perform_parts perform_row row_of in_call family waiting_at
+  wait_nowhere absent = by_parts (λ (o : Own). o.answer) _ _ (ap (λ (b : Bool). (waiting_at b).answer) absent)
 
   abbrev with_a : View → View
   with_a v = record v { programs = (record { name = codes "a"; bytes = codes "hello" }) ∷ [] }
@@ -409,11 +412,11 @@ module _ (image : Image) where
   module _ (l : Loaded) (path : text_at MAXPATH image 0 ≡ Some (codes "a")) (texts : texts_at MAXARG ARG_BYTES image 64 ≡ Some []) where
     -- what is asked of the step, where `a` is loaded so
     exec_as : {X : Type 0} (asked : Own → X) (r : Result Loaded ExecError) → loaded (codes "hello") [] ≡ r → asked (own executing) ≡ asked (exec_loaded (call 7 0 64 0) executing r)
-    unfolding own perform perform_row row_of in_call no_slashes
-    exec_as asked r is =
+    unfolding own perform_parts perform_row row_of in_call no_slashes
+    exec_as asked r is = by_parts (λ (o : Own). asked o) _ _ (
         ap (λ (o : Option (List ℕ)). asked (exec_path (call 7 0 64 0) executing o)) path
         ∙ ap (λ (o : Option (List (List ℕ))). asked (exec_program (call 7 0 64 0) executing o (Some (record { name = codes "a"; bytes = codes "hello" })))) texts
-        ∙ ap (λ (o : Result Loaded ExecError). asked (exec_loaded (call 7 0 64 0) executing o)) is
+        ∙ ap (λ (o : Result Loaded ExecError). asked (exec_loaded (call 7 0 64 0) executing o)) is)
 
     exec_bad : (e : ExecError) → loaded (codes "hello") [] ≡ Err e → (own executing).answer ≡ Called (pos 7) (negsuc 0)
     exec_bad e is = exec_as (λ o. o.answer) (Err e) is
@@ -470,26 +473,26 @@ module _ (image : Image) where
 
   -- a path that isn't there, texts that aren't, a name that no program has, and slashes before one
   exec_no_path : text_at MAXPATH image 0 ≡ None → (own executing).answer ≡ Called (pos 7) (negsuc 0)
-  unfolding own perform perform_row row_of in_call
-  exec_no_path given = ap (λ (o : Option (List ℕ)). (exec_path (call 7 0 64 0) executing o).answer) given
+  unfolding own perform_parts perform_row row_of in_call
+  exec_no_path given = by_parts (λ (o : Own). o.answer) _ _ (ap (λ (o : Option (List ℕ)). (exec_path (call 7 0 64 0) executing o).answer) given)
 
   exec_no_texts : text_at MAXPATH image 0 ≡ Some (codes "a") → texts_at MAXARG ARG_BYTES image 64 ≡ None → (own executing).answer ≡ Called (pos 7) (negsuc 0)
-  unfolding own perform perform_row row_of in_call no_slashes
-  exec_no_texts path texts =
+  unfolding own perform_parts perform_row row_of in_call no_slashes
+  exec_no_texts path texts = by_parts (λ (o : Own). o.answer) _ _ (
       ap (λ (o : Option (List ℕ)). (exec_path (call 7 0 64 0) executing o).answer) path
-      ∙ ap (λ (o : Option (List (List ℕ))). (exec_program (call 7 0 64 0) executing o (Some (record { name = codes "a"; bytes = codes "hello" }))).answer) texts
+      ∙ ap (λ (o : Option (List (List ℕ))). (exec_program (call 7 0 64 0) executing o (Some (record { name = codes "a"; bytes = codes "hello" }))).answer) texts)
 
   exec_unknown : text_at MAXPATH image 0 ≡ Some (codes "c") → texts_at MAXARG ARG_BYTES image 64 ≡ Some [] → (own executing).answer ≡ Called (pos 7) (negsuc 0)
-  unfolding own perform perform_row row_of in_call no_slashes
-  exec_unknown path texts =
+  unfolding own perform_parts perform_row row_of in_call no_slashes
+  exec_unknown path texts = by_parts (λ (o : Own). o.answer) _ _ (
       ap (λ (o : Option (List ℕ)). (exec_path (call 7 0 64 0) executing o).answer) path
-      ∙ ap (λ (o : Option (List (List ℕ))). (exec_program (call 7 0 64 0) executing o None).answer) texts
+      ∙ ap (λ (o : Option (List (List ℕ))). (exec_program (call 7 0 64 0) executing o None).answer) texts)
 
   exec_slashes : text_at MAXPATH image 0 ≡ Some (codes "//a") → texts_at MAXARG ARG_BYTES image 64 ≡ Some [] → own executing ≡ exec_loaded (call 7 0 64 0) executing (loaded (codes "hello") [])
-  unfolding own perform perform_row row_of in_call no_slashes
-  exec_slashes path texts =
+  unfolding own perform_parts perform_row row_of in_call no_slashes
+  exec_slashes path texts = by_parts (λ (o : Own). o) _ _ (
       ap (λ (o : Option (List ℕ)). exec_path (call 7 0 64 0) executing o) path
-      ∙ ap (λ (o : Option (List (List ℕ))). exec_program (call 7 0 64 0) executing o (Some (record { name = codes "a"; bytes = codes "hello" }))) texts
+      ∙ ap (λ (o : Option (List (List ℕ))). exec_program (call 7 0 64 0) executing o (Some (record { name = codes "a"; bytes = codes "hello" }))) texts)
 
   -- ---- sbrk from 3 pages: one more, with 9 free frames and with none; one fewer
 
@@ -504,28 +507,28 @@ module _ (image : Image) where
     growing free n = unless (nat_lt SIZE_LIMIT 16384 || nat_lt free n) (call 12 4096 0 0) (sizing 4096 free) (λ _. done (call 12 4096 0 0) (pos 12288) (record (sizing 4096 free) { image = grown (record image { size = 12288 }) 16384; free = free - n }))
 
     grows : (own (sizing 4096 9)).answer ≡ Called (pos 12) (pos 12288)
-    unfolding own perform perform_row row_of in_call growing
-    grows = ap (λ (n : ℕ). (growing 9 n).answer) one_frame
+    unfolding own perform_parts perform_row row_of in_call growing
+    grows = by_parts (λ (o : Own). o.answer) _ _ (ap (λ (n : ℕ). (growing 9 n).answer) one_frame)
 
     grows_by_1 : free_of (own (sizing 4096 9)).next ≡ 8
-    unfolding own perform perform_row row_of in_call growing free_of
-    grows_by_1 = ap (λ (n : ℕ). free_of (growing 9 n).next) one_frame
+    unfolding own perform_parts perform_row row_of in_call growing free_of
+    grows_by_1 = by_parts (λ (o : Own). free_of o.next) _ _ (ap (λ (n : ℕ). free_of (growing 9 n).next) one_frame)
 
     grows_not : (own (sizing 4096 0)).answer ≡ Called (pos 12) (negsuc 0)
-    unfolding own perform perform_row row_of in_call growing
-    grows_not = ap (λ (n : ℕ). (growing 0 n).answer) one_frame
+    unfolding own perform_parts perform_row row_of in_call growing
+    grows_not = by_parts (λ (o : Own). o.answer) _ _ (ap (λ (n : ℕ). (growing 0 n).answer) one_frame)
 
   shrinks : (own (sizing (minus 4096) 9)).answer ≡ Called (pos 12) (pos 12288)
-  unfolding own perform perform_row row_of in_call
+  unfolding own in_call perform row row_of sbrk ◌>>=◌ ◌>>◌ ◌when◌ ◌or◌
   shrinks = refl
 
   shrinks_to : image_of (own (sizing (minus 4096) 9)).next ≡ shrunk (record image { size = 12288 }) 8192
-  unfolding own perform perform_row row_of in_call image_of
+  unfolding own in_call image_of perform row row_of sbrk ◌>>=◌ ◌>>◌ ◌when◌ ◌or◌
   shrinks_to = refl
 
   shrinks_frees : price (record image { size = 12288 }) ≡ 7 → price (shrunk (record image { size = 12288 }) 8192) ≡ 6 → free_of (own (sizing (minus 4096) 9)).next ≡ 10
-  unfolding own perform perform_row row_of in_call free_of
-  shrinks_frees before after = ap (λ (n : ℕ). 9 + n - price (shrunk (record image { size = 12288 }) 8192)) before ∙ ap (λ (n : ℕ). 16 - n) after
+  unfolding own perform_parts perform_row row_of in_call free_of
+  shrinks_frees before after = by_parts (λ (o : Own). free_of o.next) _ _ (ap (λ (n : ℕ). 9 + n - price (shrunk (record image { size = 12288 }) 8192)) before ∙ ap (λ (n : ℕ). 16 - n) after)
 
 -- ---- the console: what keys leave and show
 

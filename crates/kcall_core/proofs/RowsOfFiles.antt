@@ -13,9 +13,12 @@ use Rattle.kcall_core.specs.Buffers.{writable, readable, text_at, no_slashes}
 use Rattle.kcall_core.specs.View.{View, Table, Descriptor, Shown_terminal, Shown_pipe, Shown_file, named}
 use Rattle.kcall_core.specs.Tables.{lowest_free, lowest_free_above}
 use Rattle.kcall_core.specs.Own.{Own, Answer, Called}
-use Rattle.kcall_core.specs.Calls.{row_of, perform_row, perform, unless, moving, read_from, write_to, piped_from, open_path}
+use Rattle.kcall_core.specs.Calls.{row_of, perform, row, close, dup, read, write}
 use Rattle.kcall_core.specs.Step.{own}
 use Rattle.kcall_core.proofs.WorkedViews.{call, minus, in_call, ends_of, free_of, at_place, image_of}
+use Rattle.kcall_core.proofs.RowParts.{perform_row, unless, moving, read_from, write_to, piped_from, open_path, perform_parts}
+use Rattle.kcall_core.specs.Lines.{◌>>=◌, ◌>>◌, ◌or◌, ◌when◌}
+use Rattle.kcall_core.proofs.RowsByParts.{by_parts}
 
 -- ---- tables with so many descriptors in use, all on one open file
 
@@ -88,101 +91,101 @@ module _ (image : Image) where
   module _ (there : writable image 0 8 ≡ true) where
     -- the last free frame, and none
     pipe_frame : (own (piping (used 0) 1)).answer ≡ Called (pos 4) (pos 0)
-    unfolding own perform perform_row row_of in_call piping piping_if least_below
-    pipe_frame = ap (λ (b : Bool). (piping_if (used 0) 1 b).answer) there
+    unfolding own perform_parts perform_row row_of in_call piping piping_if least_below
+    pipe_frame = by_parts (λ (o : Own). o.answer) _ _ (ap (λ (b : Bool). (piping_if (used 0) 1 b).answer) there)
 
     pipe_takes_frame : free_of (own (piping (used 0) 1)).next ≡ 0
-    unfolding own perform perform_row row_of in_call piping piping_if least_below free_of
-    pipe_takes_frame = ap (λ (b : Bool). free_of (piping_if (used 0) 1 b).next) there
+    unfolding own perform_parts perform_row row_of in_call piping piping_if least_below free_of
+    pipe_takes_frame = by_parts (λ (o : Own). free_of o.next) _ _ (ap (λ (b : Bool). free_of (piping_if (used 0) 1 b).next) there)
 
     pipe_no_frame : (own (piping (used 0) 0)).answer ≡ Called (pos 4) (negsuc 0)
-    unfolding own perform perform_row row_of in_call piping piping_if least_below
-    pipe_no_frame = ap (λ (b : Bool). (piping_if (used 0) 0 b).answer) there
+    unfolding own perform_parts perform_row row_of in_call piping piping_if least_below
+    pipe_no_frame = by_parts (λ (o : Own). o.answer) _ _ (ap (λ (b : Bool). (piping_if (used 0) 0 b).answer) there)
 
     -- its two numbers, 4 bytes each, the read end's first
     pipe_bytes : image_of (own (piping (used 0) 1)).next ≡ write_image image 0 (0 ∷ 0 ∷ 0 ∷ 0 ∷ 1 ∷ 0 ∷ 0 ∷ 0 ∷ [])
-    unfolding own perform perform_row row_of in_call piping piping_if least_below image_of
-    pipe_bytes = ap (λ (b : Bool). image_of (piping_if (used 0) 1 b).next) there
+    unfolding own perform_parts perform_row row_of in_call piping piping_if least_below image_of
+    pipe_bytes = by_parts (λ (o : Own). image_of o.next) _ _ (ap (λ (b : Bool). image_of (piping_if (used 0) 1 b).next) there)
 
     pipe_read_end : at_place (own (piping (used 0) 1)).next 0 ≡ Some (record { file = 0; read = true; write = false; shown = Shown_pipe 0 Reading new_pipe })
-    unfolding own perform perform_row row_of in_call piping piping_if least_below named at_place
-    pipe_read_end = ap (λ (b : Bool). at_place (piping_if (used 0) 1 b).next 0) there
+    unfolding own perform_parts perform_row row_of in_call piping piping_if least_below named at_place
+    pipe_read_end = by_parts (λ (o : Own). at_place o.next 0) _ _ (ap (λ (b : Bool). at_place (piping_if (used 0) 1 b).next 0) there)
 
     pipe_write_end : at_place (own (piping (used 0) 1)).next 1 ≡ Some (record { file = 1; read = false; write = true; shown = Shown_pipe 0 Writing (record { bytes = []; readers = 1; writers = 1 }) })
-    unfolding own perform perform_row row_of in_call piping piping_if least_below named at_place new_pipe
-    pipe_write_end = ap (λ (b : Bool). at_place (piping_if (used 0) 1 b).next 1) there
+    unfolding own perform_parts perform_row row_of in_call piping piping_if least_below named at_place new_pipe
+    pipe_write_end = by_parts (λ (o : Own). at_place o.next 1) _ _ (ap (λ (b : Bool). at_place (piping_if (used 0) 1 b).next 1) there)
 
     pipe_rest : at_place (own (piping (used 0) 1)).next 2 ≡ None
-    unfolding own perform perform_row row_of in_call piping piping_if least_below named at_place
-    pipe_rest = ap (λ (b : Bool). at_place (piping_if (used 0) 1 b).next 2) there
+    unfolding own perform_parts perform_row row_of in_call piping piping_if least_below named at_place
+    pipe_rest = by_parts (λ (o : Own). at_place o.next 2) _ _ (ap (λ (b : Bool). at_place (piping_if (used 0) 1 b).next 2) there)
 
     -- with holes at 3 and 9
     pipe_holes : image_of (own (piping (but 3 9) 1)).next ≡ write_image image 0 (3 ∷ 0 ∷ 0 ∷ 0 ∷ 9 ∷ 0 ∷ 0 ∷ 0 ∷ [])
-    unfolding own perform perform_row row_of in_call piping piping_if least_below image_of
-    pipe_holes = ap (λ (b : Bool). image_of (piping_if (but 3 9) 1 b).next) there
+    unfolding own perform_parts perform_row row_of in_call piping piping_if least_below image_of
+    pipe_holes = by_parts (λ (o : Own). image_of o.next) _ _ (ap (λ (b : Bool). image_of (piping_if (but 3 9) 1 b).next) there)
 
     -- 14 descriptors in use: 14 and 15 are the last ones
     pipe_14_used : image_of (own (piping (used 14) 9)).next ≡ write_image image 0 (14 ∷ 0 ∷ 0 ∷ 0 ∷ 15 ∷ 0 ∷ 0 ∷ 0 ∷ [])
-    unfolding own perform perform_row row_of in_call piping piping_if least_below image_of
-    pipe_14_used = ap (λ (b : Bool). image_of (piping_if (used 14) 9 b).next) there
+    unfolding own perform_parts perform_row row_of in_call piping piping_if least_below image_of
+    pipe_14_used = by_parts (λ (o : Own). image_of o.next) _ _ (ap (λ (b : Bool). image_of (piping_if (used 14) 9 b).next) there)
 
     pipe_15_used : (own (piping (used 15) 9)).answer ≡ Called (pos 4) (negsuc 0)
-    unfolding own perform perform_row row_of in_call piping piping_if least_below
-    pipe_15_used = ap (λ (b : Bool). (piping_if (used 15) 9 b).answer) there
+    unfolding own perform_parts perform_row row_of in_call piping piping_if least_below
+    pipe_15_used = by_parts (λ (o : Own). o.answer) _ _ (ap (λ (b : Bool). (piping_if (used 15) 9 b).answer) there)
 
     pipe_15_takes_nothing : free_of (own (piping (used 15) 9)).next ≡ 9
-    unfolding own perform perform_row row_of in_call piping piping_if least_below free_of
-    pipe_15_takes_nothing = ap (λ (b : Bool). free_of (piping_if (used 15) 9 b).next) there
+    unfolding own perform_parts perform_row row_of in_call piping piping_if least_below free_of
+    pipe_15_takes_nothing = by_parts (λ (o : Own). free_of o.next) _ _ (ap (λ (b : Bool). free_of (piping_if (used 15) 9 b).next) there)
 
     pipe_16_used : (own (piping (used 16) 9)).answer ≡ Called (pos 4) (negsuc 0)
-    unfolding own perform perform_row row_of in_call piping piping_if least_below
-    pipe_16_used = ap (λ (b : Bool). (piping_if (used 16) 9 b).answer) there
+    unfolding own perform_parts perform_row row_of in_call piping piping_if least_below
+    pipe_16_used = by_parts (λ (o : Own). o.answer) _ _ (ap (λ (b : Bool). (piping_if (used 16) 9 b).answer) there)
 
   pipe_not_there : writable image 0 8 ≡ false → (own (piping (used 0) 9)).answer ≡ Called (pos 4) (negsuc 0)
-  unfolding own perform perform_row row_of in_call piping piping_if least_below
-  pipe_not_there absent = ap (λ (b : Bool). (piping_if (used 0) 9 b).answer) absent
+  unfolding own perform_parts perform_row row_of in_call piping piping_if least_below
+  pipe_not_there absent = by_parts (λ (o : Own). o.answer) _ _ (ap (λ (b : Bool). (piping_if (used 0) 9 b).answer) absent)
 
   -- ---- dup and close
 
   dup_15_used : (own (with_table (used 15) (call 10 3 0 0))).answer ≡ Called (pos 10) (pos 15)
-  unfolding own perform perform_row row_of in_call with_table least_below
+  unfolding own in_call with_table least_below perform row row_of dup ◌>>=◌ ◌>>◌ ◌when◌ ◌or◌
   dup_15_used = refl
 
   dup_16_used : (own (with_table (used 16) (call 10 3 0 0))).answer ≡ Called (pos 10) (negsuc 0)
-  unfolding own perform perform_row row_of in_call with_table least_below
+  unfolding own in_call with_table least_below perform row row_of dup ◌>>=◌ ◌>>◌ ◌when◌ ◌or◌
   dup_16_used = refl
 
   dup_hole : (own (with_table (but 3 9) (call 10 15 0 0))).answer ≡ Called (pos 10) (pos 3)
-  unfolding own perform perform_row row_of in_call with_table least_below
+  unfolding own in_call with_table least_below perform row row_of dup ◌>>=◌ ◌>>◌ ◌when◌ ◌or◌
   dup_hole = refl
 
   dup_free : (own (with_table (but 3 9) (call 10 3 0 0))).answer ≡ Called (pos 10) (negsuc 0)
-  unfolding own perform perform_row row_of in_call with_table least_below
+  unfolding own in_call with_table least_below perform row row_of dup ◌>>=◌ ◌>>◌ ◌when◌ ◌or◌
   dup_free = refl
 
   dup_minus_1 : (own (with_table (used 3) (call 10 (minus 1) 0 0))).answer ≡ Called (pos 10) (negsuc 0)
-  unfolding own perform perform_row row_of in_call with_table least_below
+  unfolding own in_call with_table least_below perform row row_of dup ◌>>=◌ ◌>>◌ ◌when◌ ◌or◌
   dup_minus_1 = refl
 
   dup_16 : (own (with_table (used 3) (call 10 16 0 0))).answer ≡ Called (pos 10) (negsuc 0)
-  unfolding own perform perform_row row_of in_call with_table least_below
+  unfolding own in_call with_table least_below perform row row_of dup ◌>>=◌ ◌>>◌ ◌when◌ ◌or◌
   dup_16 = refl
 
   close_minus_1 : (own (with_table (used 3) (call 21 (minus 1) 0 0))).answer ≡ Called (pos 21) (negsuc 0)
-  unfolding own perform perform_row row_of in_call with_table
+  unfolding own in_call with_table perform row row_of close ◌>>=◌ ◌>>◌ ◌when◌ ◌or◌
   close_minus_1 = refl
 
   close_16 : (own (with_table (used 16) (call 21 16 0 0))).answer ≡ Called (pos 21) (negsuc 0)
-  unfolding own perform perform_row row_of in_call with_table
+  unfolding own in_call with_table perform row row_of close ◌>>=◌ ◌>>◌ ◌when◌ ◌or◌
   close_16 = refl
 
   close_15 : (own (with_table (used 16) (call 21 15 0 0))).answer ≡ Called (pos 21) (pos 0)
-  unfolding own perform perform_row row_of in_call with_table
+  unfolding own in_call with_table perform row row_of close ◌>>=◌ ◌>>◌ ◌when◌ ◌or◌
   close_15 = refl
 
   -- only the low 32 bits count
   dup_low_bits : (own (with_table (used 3) (call 10 (2 ^ 32 + 2) 0 0))).answer ≡ Called (pos 10) (pos 3)
-  unfolding own perform perform_row row_of in_call with_table least_below
+  unfolding own in_call with_table least_below perform row row_of dup ◌>>=◌ ◌>>◌ ◌when◌ ◌or◌
   dup_low_bits = refl
 
   -- ---- which descriptor may be read and written, and in which order read and write test: the descriptor, the mode, n, the buffer
@@ -195,15 +198,15 @@ module _ (image : Image) where
   answer_of number d n = (own (with_table three (call number d 8192 n))).answer
 
   read_write_end : answer_of 5 1 10 ≡ Called (pos 5) (negsuc 0)
-  unfolding own perform perform_row row_of in_call with_table three answer_of
+  unfolding own in_call with_table three answer_of perform row row_of read ◌>>=◌ ◌>>◌ ◌when◌ ◌or◌
   read_write_end = refl
 
   write_read_end : answer_of 16 0 10 ≡ Called (pos 16) (negsuc 0)
-  unfolding own perform perform_row row_of in_call with_table three answer_of
+  unfolding own in_call with_table three answer_of perform row row_of write ◌>>=◌ ◌>>◌ ◌when◌ ◌or◌
   write_read_end = refl
 
   write_file : answer_of 16 2 10 ≡ Called (pos 16) (negsuc 0)
-  unfolding own perform perform_row row_of in_call with_table three answer_of
+  unfolding own in_call with_table three answer_of perform row row_of write ◌>>=◌ ◌>>◌ ◌when◌ ◌or◌
   write_file = refl
 
   -- nor where a descriptor on it let writes through
@@ -214,38 +217,38 @@ module _ (image : Image) where
   writing_file there = moving (call 16 2 8192 10) file_to_write there (pos 10) (λ n. write_to (call 16 2 8192 10) file_to_write n (Shown_file 0 0))
 
   write_file_on : readable image 8192 10 ≡ true → (own file_to_write).answer ≡ Called (pos 16) (negsuc 0)
-  unfolding own perform perform_row row_of in_call with_table file_to_write writing_file
-  write_file_on there = ap (λ (b : Bool). (writing_file b).answer) there
+  unfolding own perform_parts perform_row row_of in_call with_table file_to_write writing_file
+  write_file_on there = by_parts (λ (o : Own). o.answer) _ _ (ap (λ (b : Bool). (writing_file b).answer) there)
 
   -- the mode is tested before n
   read_0_write_end : answer_of 5 1 0 ≡ Called (pos 5) (negsuc 0)
-  unfolding own perform perform_row row_of in_call with_table three answer_of
+  unfolding own in_call with_table three answer_of perform row row_of read ◌>>=◌ ◌>>◌ ◌when◌ ◌or◌
   read_0_write_end = refl
 
   write_0_read_end : answer_of 16 0 0 ≡ Called (pos 16) (negsuc 0)
-  unfolding own perform perform_row row_of in_call with_table three answer_of
+  unfolding own in_call with_table three answer_of perform row row_of write ◌>>=◌ ◌>>◌ ◌when◌ ◌or◌
   write_0_read_end = refl
 
   -- n is tested before the buffer
   read_0 : answer_of 5 0 0 ≡ Called (pos 5) (pos 0)
-  unfolding own perform perform_row row_of in_call with_table three answer_of
+  unfolding own in_call with_table three answer_of perform row row_of read ◌>>=◌ ◌>>◌ ◌when◌ ◌or◌
   read_0 = refl
 
   read_minus_1 : answer_of 5 0 (minus 1) ≡ Called (pos 5) (negsuc 0)
-  unfolding own perform perform_row row_of in_call with_table three answer_of
+  unfolding own in_call with_table three answer_of perform row row_of read ◌>>=◌ ◌>>◌ ◌when◌ ◌or◌
   read_minus_1 = refl
 
   write_minus_1 : answer_of 16 1 (minus 1) ≡ Called (pos 16) (negsuc 0)
-  unfolding own perform perform_row row_of in_call with_table three answer_of
+  unfolding own in_call with_table three answer_of perform row row_of write ◌>>=◌ ◌>>◌ ◌when◌ ◌or◌
   write_minus_1 = refl
 
   -- descriptors that are no number of one, or not in use, whatever n is
   read_free : map (λ d. answer_of 5 d 0) (3 ∷ 15 ∷ 16 ∷ 99 ∷ (minus 1) ∷ []) ≡ map (λ d. Called (pos 5) (negsuc 0)) (3 ∷ 15 ∷ 16 ∷ 99 ∷ (minus 1) ∷ [])
-  unfolding own perform perform_row row_of in_call with_table three answer_of
+  unfolding own in_call with_table three answer_of perform row row_of read ◌>>=◌ ◌>>◌ ◌when◌ ◌or◌
   read_free = refl
 
   write_free : map (λ d. answer_of 16 d 0) (3 ∷ 15 ∷ 16 ∷ 99 ∷ (minus 1) ∷ []) ≡ map (λ d. Called (pos 16) (negsuc 0)) (3 ∷ 15 ∷ 16 ∷ 99 ∷ (minus 1) ∷ [])
-  unfolding own perform perform_row row_of in_call with_table three answer_of
+  unfolding own in_call with_table three answer_of perform row row_of write ◌>>=◌ ◌>>◌ ◌when◌ ◌or◌
   write_free = refl
 
   -- a buffer that isn't there
@@ -254,16 +257,16 @@ module _ (image : Image) where
       (λ n. read_from (call 5 0 8192 10) (with_table three (call 5 0 8192 10)) n 0 (Shown_pipe 0 Reading (record { bytes = codes "xy"; readers = 1; writers = 1 })))
 
   read_nowhere : writable image 8192 10 ≡ false → answer_of 5 0 10 ≡ Called (pos 5) (negsuc 0)
-  unfolding own perform perform_row row_of in_call with_table three answer_of reading_if
-  read_nowhere absent = ap (λ (b : Bool). (reading_if b).answer) absent
+  unfolding own perform_parts perform_row row_of in_call with_table three answer_of reading_if
+  read_nowhere absent = by_parts (λ (o : Own). o.answer) _ _ (ap (λ (b : Bool). (reading_if b).answer) absent)
 
   writing_if : Bool → Own
   writing_if there = moving (call 16 1 8192 10) (with_table three (call 16 1 8192 10)) there (pos 10)
       (λ n. write_to (call 16 1 8192 10) (with_table three (call 16 1 8192 10)) n (Shown_pipe 0 Writing (record { bytes = codes "xy"; readers = 1; writers = 1 })))
 
   write_nowhere : readable image 8192 10 ≡ false → answer_of 16 1 10 ≡ Called (pos 16) (negsuc 0)
-  unfolding own perform perform_row row_of in_call with_table three answer_of writing_if
-  write_nowhere absent = ap (λ (b : Bool). (writing_if b).answer) absent
+  unfolding own perform_parts perform_row row_of in_call with_table three answer_of writing_if
+  write_nowhere absent = by_parts (λ (o : Own). o.answer) _ _ (ap (λ (b : Bool). (writing_if b).answer) absent)
 
   -- ---- open: the console's modes, the programs by their places, and names that nothing has
 
@@ -281,12 +284,12 @@ module _ (image : Image) where
   module _ (name : List ℕ) (given : text_at MAXPATH image 0 ≡ Some name) where
     -- what descriptor 0 is then
     opened : (mode : ℕ) → (at_place (own (opener mode (used 0))).next 0) ≡ at_place (open_path (call 15 0 mode 0) (opener mode (used 0)) (Some name)).next 0
-    unfolding own perform perform_row row_of in_call opener at_place
-    opened mode = opens (λ o. at_place o.next 0) mode (used 0) name given
+    unfolding own perform_parts perform_row row_of in_call opener at_place
+    opened mode = by_parts (λ (o : Own). (at_place o.next 0)) _ _ (opens (λ o. at_place o.next 0) mode (used 0) name given)
 
     opened_answer : (mode : ℕ) (t : Table) → (own (opener mode t)).answer ≡ (open_path (call 15 0 mode 0) (opener mode t) (Some name)).answer
-    unfolding own perform perform_row row_of in_call opener
-    opened_answer mode t = opens (λ o. o.answer) mode t name given
+    unfolding own perform_parts perform_row row_of in_call opener
+    opened_answer mode t = by_parts (λ (o : Own). o.answer) _ _ (opens (λ o. o.answer) mode t name given)
 
   module _ (given : text_at MAXPATH image 0 ≡ Some (codes "console")) where
     console_0 : at_place (own (opener 0 (used 0))).next 0 ≡ Some (record { file = 0; read = true; write = false; shown = Shown_terminal })
@@ -359,5 +362,5 @@ module _ (image : Image) where
   no_empty_name given = opened_answer (codes "/") given 0 (used 0)
 
   no_path : text_at MAXPATH image 0 ≡ None → (own (opener 0 (used 0))).answer ≡ Called (pos 15) (negsuc 0)
-  unfolding own perform perform_row row_of in_call opener
-  no_path given = ap (λ (path : Option (List ℕ)). (open_path (call 15 0 0 0) (opener 0 (used 0)) path).answer) given
+  unfolding own perform_parts perform_row row_of in_call opener
+  no_path given = by_parts (λ (o : Own). o.answer) _ _ (ap (λ (path : Option (List ℕ)). (open_path (call 15 0 0 0) (opener 0 (used 0)) path).answer) given)

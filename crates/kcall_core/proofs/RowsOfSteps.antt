@@ -14,11 +14,12 @@ use Rattle.kcall_core.specs.Processes.{Child, Running, Status}
 use Rattle.kcall_core.specs.State.{State}
 use Rattle.kcall_core.specs.View.{View, Table, Descriptor, Shown_terminal, Shown_pipe, Shown_file}
 use Rattle.kcall_core.specs.Own.{Stepped, Called, Blocked, Exited, Faulted, gone_with}
-use Rattle.kcall_core.specs.Calls.{row_of, perform_row, perform}
+use Rattle.kcall_core.specs.Calls.{row_of, perform, row, close, kill, sleep}
 use Rattle.kcall_core.specs.Step.{own, call_begun, after_instruction}
 use Rattle.kcall_core.specs.Ready.{ready}
 use Rattle.kcall_core.specs.Quiet.{seen, seen_descriptor}
 use Rattle.kcall_core.proofs.WorkedViews.{call, minus, in_call, ends_of, a0_after, pc_of, call_of}
+use Rattle.kcall_core.specs.Lines.{◌>>=◌, ◌>>◌, ◌or◌, ◌when◌}
 
 module _ (image : Image) where
   -- ---- an ECALL begins the call in a7 with a0 to a2, and moves the pc by 4
@@ -42,32 +43,32 @@ module _ (image : Image) where
 
   -- getpid in one step; the pc is past the ECALL, and no call is in progress
   asks_pid : (after_instruction (asking 11 0 0 0) Ecall).answer ≡ Called (pos 11) (pos 1)
-  unfolding perform perform_row row_of asking in_call
+  unfolding asking in_call perform row row_of ◌>>=◌ ◌or◌
   asks_pid = refl
 
   asks_pc : pc_of (after_instruction (asking 11 0 0 0) Ecall).next ≡ 44
-  unfolding perform perform_row row_of asking in_call pc_of
+  unfolding asking in_call pc_of perform row row_of ◌>>=◌ ◌or◌
   asks_pc = refl
 
   asks_a0 : a0_after (after_instruction (asking 11 7 0 0) Ecall).next ≡ 1
-  unfolding perform perform_row row_of asking in_call a0_after
+  unfolding asking in_call a0_after perform row row_of ◌>>=◌ ◌or◌
   asks_a0 = refl
 
   asks_done : call_of (after_instruction (asking 11 0 0 0) Ecall).next ≡ None
-  unfolding perform perform_row row_of asking in_call call_of
+  unfolding asking in_call call_of perform row row_of ◌>>=◌ ◌or◌
   asks_done = refl
 
   -- sleep(2) waits: the pc is past the ECALL, and the call is in progress since clock 9
   sleeps_pc : pc_of (after_instruction (asking 13 2 0 0) Ecall).next ≡ 44
-  unfolding perform perform_row row_of asking in_call pc_of
+  unfolding asking in_call pc_of perform row row_of sleep ◌>>=◌ ◌>>◌ ◌when◌ ◌or◌
   sleeps_pc = refl
 
   sleeps_since : call_of (after_instruction (asking 13 2 0 0) Ecall).next ≡ Some (record { number = pos 13; a0 = 2; a1 = 0; a2 = 0; moved = 0; clock = 9 })
-  unfolding perform perform_row row_of asking in_call call_of
+  unfolding asking in_call call_of perform row row_of sleep ◌>>=◌ ◌>>◌ ◌when◌ ◌or◌
   sleeps_since = refl
 
   sleeps_a0 : a0_after (after_instruction (asking 13 2 0 0) Ecall).next ≡ 2
-  unfolding perform perform_row row_of asking in_call a0_after
+  unfolding asking in_call a0_after perform row row_of sleep ◌>>=◌ ◌>>◌ ◌when◌ ◌or◌
   sleeps_a0 = refl
 
   -- an instruction that is done, and one that faults
@@ -104,12 +105,12 @@ module _ (image : Image) where
   -- exit closes both ends, and the last close of an end is told too
   exit_closes : (own (record (in_call image (call 2 0 0 0)) { descriptors = ends_of (record { bytes = []; readers = 2; writers = 1 }) })).left.descriptors 0
       ≡ Some (record { file = 0; read = true; write = false; shown = Shown_pipe 0 Reading (record { bytes = []; readers = 1; writers = 0 }) })
-  unfolding own perform perform_row row_of in_call count_below
+  unfolding own in_call count_below perform row row_of ◌>>=◌ ◌or◌
   exit_closes = refl
 
   close_is_told : (own (record (in_call image (call 21 1 0 0)) { descriptors = ends_of new_pipe })).left.descriptors 1
       ≡ Some (record { file = 1; read = false; write = true; shown = Shown_pipe 0 Writing (record { bytes = []; readers = 1; writers = 0 }) })
-  unfolding own perform perform_row row_of in_call new_pipe
+  unfolding own in_call new_pipe perform row row_of close ◌>>=◌ ◌>>◌ ◌when◌ ◌or◌
   close_is_told = refl
 
   -- ---- whether a process that waits could go on
@@ -184,22 +185,22 @@ module _ (image : Image) where
 
     -- its parent, which is 4, sees the status, and nothing of the grandchild
     parent_sees : after_exit 4 (child_2 Running) 2 ∷ after_exit 4 (child_2 Running) 3 ∷ [] ≡ Some (Status (pos 7)) ∷ None ∷ []
-    unfolding seen own perform perform_row row_of in_call watcher leaver after_exit
+    unfolding seen own in_call watcher leaver after_exit perform row row_of ◌>>=◌ ◌>>◌ ◌when◌ ◌or◌
     parent_sees = refl
 
     -- process 1, whose child it isn't, has the child 3 now
     first_sees : after_exit 1 no_child 2 ∷ after_exit 1 no_child 3 ∷ [] ≡ None ∷ Some Running ∷ []
-    unfolding seen own perform perform_row row_of in_call watcher leaver after_exit
+    unfolding seen own in_call watcher leaver after_exit perform row row_of ◌>>=◌ ◌>>◌ ◌when◌ ◌or◌
     first_sees = refl
 
     -- process 1, whose child it is, sees both
     first_parent_sees : after_exit 1 (child_2 Running) 2 ∷ after_exit 1 (child_2 Running) 3 ∷ [] ≡ Some (Status (pos 7)) ∷ Some Running ∷ []
-    unfolding seen own perform perform_row row_of in_call watcher leaver after_exit
+    unfolding seen own in_call watcher leaver after_exit perform row row_of ◌>>=◌ ◌>>◌ ◌when◌ ◌or◌
     first_parent_sees = refl
 
     -- nobody else sees anything of it
     other_sees : after_exit 4 no_child 2 ∷ after_exit 4 no_child 3 ∷ [] ≡ None ∷ None ∷ []
-    unfolding seen own perform perform_row row_of in_call watcher leaver after_exit
+    unfolding seen own in_call watcher leaver after_exit perform row row_of ◌>>=◌ ◌>>◌ ◌when◌ ◌or◌
     other_sees = refl
 
     -- process 1 kills 2: 2 is marked, and 3 isn't; who was marked is marked still
@@ -207,7 +208,7 @@ module _ (image : Image) where
     marks p before = (seen s (watcher 1 (child_2 Running)) (own (record (watcher 1 (child_2 Running)) { call = Some (call 6 2 0 0) })) (record (watcher p no_child) { killed = before })).killed
 
     marked_seen : marks 2 false ∷ marks 3 false ∷ marks 3 true ∷ [] ≡ true ∷ false ∷ true ∷ []
-    unfolding seen own perform perform_row row_of in_call watcher marks
+    unfolding seen own in_call watcher marks perform row row_of kill ◌>>=◌ ◌>>◌ ◌when◌ ◌or◌
     marked_seen = refl
 
   -- an offset and a pipe that both are on are those that the step left; others stay

@@ -16,6 +16,7 @@ use Rattle.kcall_core.specs.Makes.{view_now}
 use Rattle.kcall_core.specs.declared.kernel.Kernel.{Kernel}
 use Rattle.kcall_core.proofs.Stops.{now-slot}
 use Rattle.kcall_core.proofs.Resized.{sbrk-outside, sbrk-resized, sbrk-too-dear}
+use Rattle.kcall_core.proofs.RowsByParts.{sbrk_same}
 
 -- the size that the code comes to
 pub row-size : (k : Kernel) (h : Hart) (sound : IsSound k h) (i : ℕ) → k.current ≡ Some i → (c : Call) (old : ℕ) → old ≡ (held_at (each_of k.memories) i).image.size → (n : ℤ) → n ≡ c_int c.a0 → (found new : Option ℕ) → found ≡ resized old n → found ≡ new
@@ -44,19 +45,19 @@ module _ (k : Kernel) (h : Hart) (c : Call) {mid : Kernel} {hm : Hart} where
   pub row-outside : HasImage k h (live_now k h).image mid hm → resized (live_now k h).image.size (c_int c.a0) ≡ None
       → sbrk c (view_now k h) ≡ done c minus_one (record (view_now k h) { image = (live_now k h).image; free = (state_of mid hm).free })
   unfolding view_of
-  row-outside has none = sbrk-outside c (view_now k h) (c_int c.a0) none ∙ kept has
+  row-outside has none = sbrk_same c (view_now k h) ∙ sbrk-outside c (view_now k h) (c_int c.a0) none ∙ kept has
 
   module _ (size : ℕ) (is : resized (live_now k h).image.size (c_int c.a0) ≡ Some size) (limit : size ≤ SIZE_LIMIT) where
     -- the frames don't suffice
     pub row-too-dear : (live_now k h).image.size ≤ size → IsTooDear k (live_now k h).image (grown (live_now k h).image size) → HasImage k h (live_now k h).image mid hm
         → sbrk c (view_now k h) ≡ done c minus_one (record (view_now k h) { image = (live_now k h).image; free = (state_of mid hm).free })
     unfolding view_of state_of
-    row-too-dear more dear has = sbrk-too-dear c (view_now k h) (c_int c.a0) size is limit more dear ∙ kept has
+    row-too-dear more dear has = sbrk_same c (view_now k h) ∙ sbrk-too-dear c (view_now k h) (c_int c.a0) size is limit more dear ∙ kept has
 
     -- or they do
     pub row-resized : (value : ℤ) → value ≡ pos (live_now k h).image.size → HasImage k h (at_size (live_now k h).image size) mid hm
         → sbrk c (view_now k h) ≡ done c value (record (view_now k h) { image = at_size (live_now k h).image size; free = (state_of mid hm).free })
     unfolding view_of
     row-resized value told has =
-        sbrk-resized c (view_now k h) (c_int c.a0) size (state_of mid hm).free is limit has.state.free
+        sbrk_same c (view_now k h) ∙ sbrk-resized c (view_now k h) (c_int c.a0) size (state_of mid hm).free is limit has.state.free
         ∙ ap (λ z. done c z (record (view_now k h) { image = at_size (live_now k h).image size; free = (state_of mid hm).free })) (sym told)

@@ -12,12 +12,14 @@ use Rattle.proc_table.specs.declared.process.Call.{Call}
 use Rattle.kcall_core.specs.State.{State, live, live_part}
 use Rattle.kcall_core.specs.View.{view, view_of}
 use Rattle.kcall_core.specs.Own.{Own, Answer, Stepped, Called, goes_on, gone_with}
-use Rattle.kcall_core.specs.Calls.{perform, perform_row, row_of, with_a0}
+use Rattle.kcall_core.specs.Calls.{row_of, with_a0}
 use Rattle.kcall_core.specs.Step.{own, unless_killed, going_on, after_instruction, call_begun, begun}
 use Rattle.kcall_core.specs.Quiet.{Quiet, seen_children}
 use Rattle.kcall_core.specs.Updates.{set_live}
 use Rattle.kcall_core.proofs.SetLive.{view-set_live, live-set_live_here, live-set_live_there, same_child, same_keys}
 use Rattle.kcall_core.proofs.Tell.{Leaves, own_table_tells, quiet_from}
+use Rattle.kcall_core.proofs.RowParts.{perform_row, perform_parts}
+use Rattle.kcall_core.proofs.RowsByParts.{perform_same}
 
 pub or_false : (b : Bool) → b ≡ (b || false)
 or_false true = refl
@@ -74,7 +76,7 @@ module _ (s : State) (p : ℕ) (old : Live) (was : get s.processes p ≡ Some (A
   after_getpid = record old { regs = with_a0 (record old.regs { pc = (old.regs.pc + 4) % 2 ^ 64 }) (word (pos p)); call = None }
 
   pub getpid_own : next_instruction old.regs old.image ≡ Ecall → c_int (slice_index old.regs.x 16) ≡ pos 11 → own (view_of s p old) ≡ goes_on (Called (c_int (slice_index old.regs.x 16)) (pos p)) (view_of s p after_getpid)
-  unfolding view_of perform perform_row row_of after_getpid
+  unfolding view_of perform_parts perform_row row_of after_getpid
   getpid_own is number =
-      steps Ecall is
+      steps Ecall is ∙ perform_same (call_begun (view_of s p old)) (begun (view_of s p old))
       ∙ ap (λ (n : ℤ). perform_row (call_begun (view_of s p old)) (begun (view_of s p old)) (row_of n)) number

@@ -10,12 +10,12 @@ use Rattle.kcall_core.specs.Words.{word}
 use Rattle.xk_base.specs.Words.{le_bytes}
 use Rattle.xk_base.specs.Bytes.{write_image}
 use Rattle.kcall_core.specs.Buffers.{writable}
-use Rattle.kcall_core.specs.Processes.{Process, Alive, Live, Status, Zombie}
+use Rattle.kcall_core.specs.Processes.{Process, Alive, Live, Status, Zombie, status_of}
 use Rattle.proc_table.specs.declared.process.Call.{Call}
 use Rattle.kcall_core.specs.State.{State, live, live_part}
 use Rattle.kcall_core.specs.View.{View, view_of, child_of}
 use Rattle.kcall_core.specs.Own.{Own, Called, goes_on}
-use Rattle.kcall_core.specs.Calls.{wait, reaped, least_zombie, told, without_child, status_of, done, unless, with_a0}
+use Rattle.kcall_core.specs.Calls.{wait, least_zombie, done, with_a0}
 use Rattle.kcall_core.specs.Quiet.{Quiet}
 use Rattle.kcall_core.specs.Updates.{waited_state, told_image}
 use Rattle.kcall_core.proofs.Maps.{get_without, keys_remove}
@@ -23,6 +23,8 @@ use Rattle.kcall_core.proofs.SetLive.{same_child, same_keys, live-set_live_there
 use Rattle.kcall_core.proofs.Tell.{Leaves, quiet_from, own_table_tells}
 use Rattle.kcall_core.proofs.Steps.{or_false}
 use Rattle.kcall_core.proofs.Gone.{not_this}
+use Rattle.kcall_core.proofs.RowParts.{reaped, told, without_child, unless}
+use Rattle.kcall_core.proofs.RowsByParts.{wait_same}
 
 told_is : (b : Bool) (i : Image) (v : View) → cond b v (record v { image = i }) ≡ record v { image = cond b v.image i }
 told_is true i v = refl
@@ -81,7 +83,8 @@ module _ (s : State) (p q : ℕ) (old : Live) (was : get s.processes p ≡ Some 
       → wait c (view_of s p old) ≡ goes_on (Called c.number (pos q)) (view_of after p waited)
   unfolding view_of
   wait_own room least =
-      ap (λ (b : Bool). unless b c (view_of s p old) (λ _. reaped c (view_of s p old) (least_zombie (view_of s p old)))) room
+      wait_same c (view_of s p old)
+      ∙ ap (λ (b : Bool). unless b c (view_of s p old) (λ _. reaped c (view_of s p old) (least_zombie (view_of s p old)))) room
       ∙ ap (reaped c (view_of s p old)) least
       ∙ ap (λ (z : ℤ). done c (pos q) (told c.a0 z (without_child q (view_of s p old)))) its_status
       ∙ ap (done c (pos q)) (told_is (nat_eq c.a0 0) (write_image old.image c.a0 (le_bytes 4 (cast_unsigned w32 status))) (without_child q (view_of s p old)))

@@ -14,7 +14,7 @@ use Rattle.proc_table.specs.declared.process.Call.{Call}
 use Rattle.kcall_core.specs.Buffers.{writable}
 use Rattle.kcall_core.specs.State.{State}
 use Rattle.kcall_core.specs.View.{View, view_of, child_of}
-use Rattle.kcall_core.specs.Calls.{wait, reaped, least_zombie, has_status, refused, waits, unless}
+use Rattle.kcall_core.specs.Calls.{wait, least_zombie, refused, waits}
 use Rattle.kcall_core.specs.Updates.{told_image}
 use Rattle.kcall_core.specs.Holdings.{held_at, with_image}
 use Rattle.kcall_core.specs.Memories.{each_of, RunsIn, SlotChanges}
@@ -26,6 +26,9 @@ use Rattle.kcall_core.proofs.States.{running}
 use Rattle.kcall_core.proofs.Stops.{now-slot}
 use Rattle.kcall_core.proofs.Imaged.{image-changed, image-same}
 use Rattle.kcall_core.proofs.Zombies.{find-none, any-none, none-seen, none-ended, some-child}
+use Rattle.kcall_core.specs.Processes.{has_status}
+use Rattle.kcall_core.proofs.RowParts.{reaped, unless}
+use Rattle.kcall_core.proofs.RowsByParts.{wait_same}
 
 -- ---- the status is stored
 
@@ -63,7 +66,7 @@ both-not true b = refl
 both-not false b = refl
 
 by-test : (v : View) (c : Call) (b : Bool) → (nat_eq c.a0 0 || writable v.image c.a0 4) ≡ b → wait c v ≡ unless (not b) c v (λ _. reaped c v (least_zombie v))
-by-test v c b e = ap (λ x. unless x c v (λ _. reaped c v (least_zombie v))) (both-not (nat_eq c.a0 0) (writable v.image c.a0 4) ∙ ap not e)
+by-test v c b e = wait_same c v ∙ ap (λ x. unless x c v (λ _. reaped c v (least_zombie v))) (both-not (nat_eq c.a0 0) (writable v.image c.a0 4) ∙ ap not e)
 
 module _ (k : Kernel) (h : Hart) (slot : ℕ) (sound : IsSound k h) (is : k.current ≡ Some slot) (c : Call) where
   pub tested : (b : Bool) → (nat_eq c.a0 0 || writable (held_at (each_of k.memories) slot).image c.a0 4) ≡ b

@@ -12,8 +12,8 @@ use Rattle.kcall_core.specs.Processes.{Live}
 use Rattle.proc_table.specs.declared.process.Call.{Call}
 use Rattle.kcall_core.specs.State.{State, live}
 use Rattle.kcall_core.specs.View.{View, view_of, named, numbered, rename, descriptor_at, descriptor_on}
-use Rattle.kcall_core.specs.Calls.{Row, Fork, Exit, Wait, Pipe_row, Read, Kill, Exec, Dup, Getpid, Sbrk, Sleep, Uptime, Open, Write, Close, row_of, in_use}
-use Rattle.kcall_core.specs.Ready.{ready, call_ready, row_ready, on_shown, can_read, can_write, has_slept}
+use Rattle.kcall_core.specs.Calls.{Row, Fork, Exit, Wait, Pipe_row, Read, Kill, Exec, Dup, Getpid, Sbrk, Sleep, Uptime, Open, Write, Close, row_of}
+use Rattle.kcall_core.specs.Ready.{ready, call_ready, row_ready, on_shown, can_read, can_write, has_slept, in_use}
 use Rattle.kcall_core.specs.Run.{World}
 use Rattle.kcall_core.specs.Quiet.{end_of, target_of_open}
 use Rattle.kcall_core.specs.Conditions.{WakesSuffice, ReadyIsOpen, is_open, read_waits_for, write_waits_for, target_at, sleep_waits_for, row_waits_for, call_waits_for, waits_for, WakesEnough}

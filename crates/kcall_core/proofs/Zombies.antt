@@ -16,10 +16,9 @@ use Rattle.proc_table.specs.Slots.{Slots, place_at, descriptors_at, slot_of, IsT
 use Rattle.proc_table.specs.Reaping.{HasChild, HasNoChild, HasNoneEnded, TakesLeast, place_is_child}
 use Rattle.proc_table.specs.declared.process.Process.{Process}
 use Rattle.kcall_core.specs.Words.{is_this}
-use Rattle.kcall_core.specs.Processes.{Zombie, Child}
+use Rattle.kcall_core.specs.Processes.{Zombie, Child, has_status}
 use Rattle.kcall_core.specs.State.{State}
 use Rattle.kcall_core.specs.View.{child_of}
-use Rattle.kcall_core.specs.Calls.{has_status}
 use Rattle.kcall_core.specs.Observers.{child_seen}
 use Rattle.kcall_core.specs.Holdings.{Held, held_at}
 use Rattle.kcall_core.specs.Memories.{each_of}

@@ -1,31 +1,51 @@
--- The kernel calls, row by row (the xv6 book, "Operating system interfaces", and the sections named below; the numbers are those of xv6's syscall.h).
--- Each row is a function of the call in progress, which has its number, its arguments and how far it has come, and of the caller's view.
-use Rattle.std.specs.Prelude.{ℕ, suc, ◌+◌, ◌-◌, ◌%◌, Bool, true, false, cond, not, ◌&&◌, ◌||◌, List, [], ◌∷◌, ◌++◌, length, take, drop, min, Option, None, Some, Result, Ok, Err, ℤ, pos, negsuc, nat_eq, nat_lt, nat_le, is_some, option_map, filter, slice_get, find, bytes_eq}
+-- The kernel calls, a row each: what one step of a call in progress comes to. In a row, c is the call (its number, its arguments a0, a1 and a2,
+-- the bytes moved and the clock at entry), and v the caller's view. How to read one, top down:
+--   E when t      the step ends by E where the test t holds
+--   x ← o or E    x is what o has; where it has nothing, the step ends by E
+-- (`when` and `or` are defined in Lines.) An E is `refused` (-1, and nothing else changes), `waits k v'` (it sleeps, k bytes are moved, the view is v') or `done a v'` (it answers a, the view is v').
+-- Numbers of calls are those of xv6's syscall.h, sections those of the xv6 book. An argument is a C int where it is read by `c_int`, else 64 bits.
+use Rattle.std.specs.Prelude.{ℕ, ◌+◌, ◌-◌, ◌%◌, ◌+ℤ◌, Bool, true, false, not, ◌&&◌, ◌||◌, if◌then◌else◌, List, [], ◌∷◌, ◌++◌, length, take, drop, min, Option, None, Some, ℤ, pos, negsuc, ◌==◌, nat_eq, nat_lt, nat_le, is_some, option_map, filter, find, slice_get, bytes_eq}
 use Rattle.std.specs.List.{list_any}
 use Rattle.std.specs.Int.{cast_unsigned, w32}
-use Rattle.xk_base.specs.declared.limits.TheConstants.{NPROC, PID_MAX, MAXPATH, MAXARG, ARG_BYTES, SIZE_LIMIT, SEND_BYTES}
-use Rattle.xk_base.specs.declared.errors.ExecError.{ExecError}
-use Rattle.kcall_core.specs.State.{ProgramFile}
+use Rattle.xk_base.specs.declared.limits.TheConstants.{NPROC, PID_MAX, MAXPATH, MAXARG, ARG_BYTES, SIZE_LIMIT, PIPE_BYTES, SEND_BYTES}
 use Rattle.xk_base.specs.Words.{le_bytes}
 use Rattle.xk_base.specs.Image.{price}
 use Rattle.xk_base.specs.Bytes.{image_bytes, write_image}
-use Rattle.xk_base.specs.Loaded.{Loaded, loaded}
+use Rattle.xk_base.specs.Loaded.{loaded}
 use Rattle.rv64i_core.specs.Registers.{Registers, put, with_pc}
-use Rattle.pipe_core.specs.Pipe.{Pipe, new_pipe, with_more, without_first}
-use Rattle.console_core.specs.Lists.{Console}
-use Rattle.console_core.specs.Reads.{Pulled, pulled}
+use Rattle.pipe_core.specs.Pipe.{new_pipe, with_more, without_first}
+use Rattle.console_core.specs.Reads.{pulled}
 use Rattle.file_table.specs.declared.open_file.End.TheVariants.{Reading, Writing}
 use Rattle.proc_table.specs.declared.process.Call.{Call}
 use Rattle.kcall_core.specs.Words.{SP, A0, A1, CLOCK_ROUND, c_int, word, minus_one, with_value}
 use Rattle.kcall_core.specs.Buffers.{readable, writable, text_at, texts_at, no_slashes, grown, shrunk}
-use Rattle.kcall_core.specs.PipeEnds.{there, fit}
-use Rattle.kcall_core.specs.Processes.{Child, Running, Status}
-use Rattle.kcall_core.specs.Programs.{console_name, program_bytes, program_named}
+use Rattle.kcall_core.specs.Processes.{Running, has_status, status_of}
+use Rattle.kcall_core.specs.Programs.{console_name, program_bytes, program_named, place_of}
 use Rattle.kcall_core.specs.View.{View, Descriptor, Shown, Shown_terminal, Shown_file, Shown_pipe}
+use Rattle.kcall_core.specs.Lines.{◌>>=◌, ◌>>◌, ◌when◌, ◌or◌, natural, result_of}
 use Rattle.kcall_core.specs.Own.{Own, Answer, Called, Blocked, Exited, left_by, goes_on}
 use Rattle.kcall_core.specs.Tables.{lowest_free, lowest_free_above, with_descriptor, without_descriptor, with_copy, change_pipe, advance, one_more_on, one_less_on, doubled, all_closed, pipes_given_up}
 
--- ---- answers
+-- ---- what rows ask of a view
+
+-- the child with the least pid among those that are gone
+abbrev pub least_zombie : View → Option ℕ
+least_zombie v = find (λ pid. has_status (v.children pid)) v.pids
+
+abbrev pub has_child : View → Bool
+has_child v = list_any (λ pid. is_some (v.children pid)) v.pids
+
+-- what a name names: the console, or a program's file, from its first byte on
+abbrev pub what_is_named : List ℕ → View → Option Shown
+what_is_named name v = if bytes_eq console_name name then Some Shown_terminal else option_map (λ place. Shown_file place 0) (place_of name v.programs 0)
+
+-- a program's file can only be read
+abbrev pub has_mode : Shown → ℕ → Bool
+has_mode Shown_terminal mode = nat_le mode 2
+has_mode (Shown_file program offset) mode = mode == 0
+has_mode (Shown_pipe name end pipe) mode = false
+
+-- ---- how a step ends
 
 abbrev pub with_a0 : Registers → ℕ → Registers
 with_a0 r value = put r A0 value
@@ -34,17 +54,7 @@ with_a0 r value = put r A0 value
 abbrev pub answered : ℤ → View → View
 answered value v = record v { regs = with_a0 v.regs (word value); call = None }
 
-abbrev pub done : Call → ℤ → View → Own
-done c value v = goes_on (Called c.number value) (answered value v)
-
-abbrev pub refused : Call → View → Own
-refused c v = done c minus_one v
-
--- the call waits, having moved so many bytes
-abbrev pub waits : Call → ℕ → View → Own
-waits c moved v = goes_on (Blocked c.number) (record v { call = Some (record c { moved = moved }) })
-
--- The process is gone: each of its descriptors is closed, and its frames are free, with those of the pipes that nobody names any more
+-- the process is gone: each of its descriptors is closed, and its frames are free, with those of the pipes that nobody names any more
 abbrev pub gone : Answer → View → Own
 gone answer v =
     let closed = all_closed v.descriptors in
@@ -56,334 +66,204 @@ gone answer v =
       marked = None;
     }
 
--- refused where the test holds, else as the row goes on
-abbrev pub unless : Bool → Call → View → (Unit {0} → Own) → Own
-unless true c v go = refused c v
-unless false c v go = go tt
-
--- ---- fork ("Processes and memory"): the child has the same image, registers and open files
-
-abbrev pub slots_are_full : View → Bool
-slots_are_full v = nat_le NPROC (length v.pids)
-
-abbrev pub cannot_fork : View → Bool
-cannot_fork v = slots_are_full v || nat_lt PID_MAX v.next_pid || nat_lt v.free (price v.image + 1)
-
--- the caller, once its child is there
-abbrev pub with_child : View → View
-with_child v = record v {
-  pids = v.pids ++ v.next_pid ∷ [];
-  next_pid = v.next_pid + 1;
-  free = v.free - (price v.image + 1);
-  children = with_value v.children v.next_pid (Some Running);
-  descriptors = doubled v.descriptors;
-}
-
--- a child's first view, from its parent's next one
-abbrev pub newborn : ℕ → View → View
-newborn pid v = record v { pid = pid; regs = with_a0 v.regs 0; children = λ q. None; killed = false; call = None }
-
-abbrev pub forked : Call → View → Own
-forked c v =
-    let parent = answered (pos v.next_pid) (with_child v) in
-    record (goes_on (Called c.number (pos v.next_pid)) parent) { child = Some (newborn v.next_pid parent) }
-
-abbrev pub fork : Call → View → Own
-fork c v = unless (cannot_fork v) c v (λ _. forked c v)
-
--- ---- wait ("Code: Wait, exit, and kill")
-
-abbrev pub has_status : Option Child → Bool
-has_status None = false
-has_status (Some Running) = false
-has_status (Some (Status status)) = true
-
-abbrev pub status_of : Option Child → ℤ
-status_of None = pos 0
-status_of (Some Running) = pos 0
-status_of (Some (Status status)) = status
-
--- the child with the least pid among those that are gone
-abbrev pub least_zombie : View → Option ℕ
-least_zombie v = find (λ q. has_status (v.children q)) v.pids
-
-abbrev pub has_child : View → Bool
-has_child v = list_any (λ q. is_some (v.children q)) v.pids
-
--- the status goes to address a, where a isn't 0
-abbrev pub told : ℕ → ℤ → View → View
-told a status v = cond (nat_eq a 0) v (record v { image = write_image v.image a (le_bytes 4 (cast_unsigned w32 status)) })
-
-abbrev pub without_child : ℕ → View → View
-without_child q v = record v { pids = filter (λ p. not (nat_eq p q)) v.pids; children = with_value v.children q None }
-
-abbrev pub reaped : Call → View → Option ℕ → Own
-reaped c v (Some q) = done c (pos q) (told c.a0 (status_of (v.children q)) (without_child q v))
-reaped c v None = cond (has_child v) (waits c 0 v) (refused c v)
-
-abbrev pub wait : Call → View → Own
-wait c v = unless (not (nat_eq c.a0 0) && not (writable v.image c.a0 4)) c v (λ _. reaped c v (least_zombie v))
-
--- ---- pipe ("Code: Pipes")
-
--- r is the lowest free descriptor, w the lowest above it
-abbrev pub with_pipe : ℕ → ℕ → View → View
-with_pipe r w v = record v {
-  descriptors = with_descriptor w (record { file = w; read = false; write = true; shown = Shown_pipe r Writing new_pipe }) (with_descriptor r (record { file = r; read = true; write = false; shown = Shown_pipe r Reading new_pipe }) v.descriptors);
-  free = v.free - 1;
-}
-
-abbrev pub piped : Call → View → ℕ → Option ℕ → Own
-piped c v r None = refused c v
-piped c v r (Some w) = done c (pos 0) (record (with_pipe r w v) { image = write_image v.image c.a0 (le_bytes 4 r ++ le_bytes 4 w) })
-
-abbrev pub piped_from : Call → View → Option ℕ → Own
-piped_from c v None = refused c v
-piped_from c v (Some r) = piped c v r (lowest_free_above v.descriptors r)
-
-abbrev pub make_pipe : Call → View → Own
-make_pipe c v = unless (not (writable v.image c.a0 8) || nat_eq v.free 0) c v (λ _. piped_from c v (lowest_free v.descriptors))
-
--- ---- what read and write have in common
-
--- the descriptor of this number, if it is in use
-abbrev pub in_use : View → ℤ → Option Descriptor
-in_use v (pos d) = v.descriptors d
-in_use v (negsuc k) = None
-
--- done at once where there is nothing to move
-abbrev pub unless_nothing : Bool → Call → View → (Unit {0} → Own) → Own
-unless_nothing true c v go = done c (pos 0) v
-unless_nothing false c v go = go tt
-
--- The tests of read and write, in their order: n below 0 is refused, n 0 is done at once, then all n bytes at the buffer have to be there
-abbrev pub moving : Call → View → (is_there : Bool) → (n : ℤ) → (ℕ → Own) → Own
-moving c v is_there (negsuc k) go = refused c v
-moving c v is_there (pos n) go = unless_nothing (nat_eq n 0) c v (λ _. unless (not is_there) c v (λ _. go n))
-
-abbrev pub length_of_int : ℤ → ℕ
-length_of_int (pos n) = n
-length_of_int (negsuc k) = 0
-
--- ---- read
-
-abbrev pub read_file : Call → View → ℕ → List ℕ → Own
-read_file c v file bytes =
-    done c (pos (length bytes)) (record v { image = write_image v.image c.a1 bytes; descriptors = advance file (length bytes) v.descriptors })
-
--- nothing to read yet, but somebody may still write
-abbrev pub must_wait : Pipe → Bool
-must_wait pipe = nat_eq (length pipe.bytes) 0 && not (nat_eq pipe.writers 0)
-
-abbrev pub read_pipe : Call → View → ℕ → Pipe → ℕ → Own
-read_pipe c v name pipe n =
-    cond (must_wait pipe) (waits c 0 v)
-    (let k = there pipe n in
-    done c (pos k) (record v { image = write_image v.image c.a1 (take k pipe.bytes); descriptors = change_pipe name (without_first k pipe) v.descriptors }))
-
-abbrev pub read_line : Call → View → Pulled → Own
-read_line c v p =
-    let moved = c.moved + length p.taken in
-    let after = record v { image = write_image v.image (c.a1 + c.moved) p.taken; console = record v.console { committed = p.left } } in
-    cond p.ended (done c (pos moved) after) (waits c moved after)
-
-abbrev pub read_from : Call → View → ℕ → ℕ → Shown → Own
-read_from c v n file Shown_terminal = read_line c v (pulled (nat_eq c.moved 0) (n - c.moved) v.console.committed)
-read_from c v n file (Shown_file program offset) = read_file c v file (take n (drop offset (program_bytes (slice_get v.programs program))))
-read_from c v n file (Shown_pipe name end pipe) = read_pipe c v name pipe n
-
-abbrev pub read_on : Call → View → Option Descriptor → Own
-read_on c v None = refused c v
-read_on c v (Some d) =
-    unless (not d.read) c v (λ _.
-    moving c v (writable v.image c.a1 (length_of_int (c_int c.a2))) (c_int c.a2) (λ n. read_from c v n d.file d.shown))
-
-abbrev pub read : Call → View → Own
-read c v = read_on c v (in_use v (c_int c.a0))
-
--- how many of n bytes there is room for among the bytes to be sent
-abbrev pub room_to_send : Console → ℕ → ℕ
-room_to_send c n = min n (SEND_BYTES - length c.to_send)
-
--- ---- write
-
--- done once all n bytes are moved
-abbrev pub done_at : Call → ℕ → ℕ → View → Own
-done_at c n moved v = cond (nat_le n moved) (done c (pos n) v) (waits c moved v)
-
--- the next k bytes of the buffer
-abbrev pub next_bytes : Call → View → ℕ → List ℕ
-next_bytes c v k = image_bytes v.image (c.a1 + c.moved) k
-
-abbrev pub write_pipe : Call → View → ℕ → Pipe → ℕ → Own
-write_pipe c v name pipe n =
-    unless (nat_eq pipe.readers 0) c v (λ _.
-    let k = fit pipe (n - c.moved) in
-    done_at c n (c.moved + k) (record v { descriptors = change_pipe name (with_more (next_bytes c v k) pipe) v.descriptors }))
-
-abbrev pub write_terminal : Call → View → ℕ → Own
-write_terminal c v n =
-    let k = room_to_send v.console (n - c.moved) in
-    done_at c n (c.moved + k) (record v { console = record v.console { to_send = v.console.to_send ++ next_bytes c v k } })
-
-abbrev pub write_to : Call → View → ℕ → Shown → Own
-write_to c v n Shown_terminal = write_terminal c v n
-write_to c v n (Shown_file program offset) = refused c v
-write_to c v n (Shown_pipe name end pipe) = write_pipe c v name pipe n
-
-abbrev pub write_on : Call → View → Option Descriptor → Own
-write_on c v None = refused c v
-write_on c v (Some d) =
-    unless (not d.write) c v (λ _.
-    moving c v (readable v.image c.a1 (length_of_int (c_int c.a2))) (c_int c.a2) (λ n. write_to c v n d.shown))
-
-abbrev pub write : Call → View → Own
-write c v = write_on c v (in_use v (c_int c.a0))
-
--- ---- kill ("Code: Wait, exit, and kill")
-
-abbrev pub killed_by : Call → View → ℕ → Own
-killed_by c v pid =
-    unless (not (list_any (nat_eq pid) v.pids)) c v (λ _.
-    record (done c (pos 0) (record v { killed = v.killed || nat_eq pid v.pid })) { marked = Some pid })
-
-abbrev pub kill_pid : Call → View → ℤ → Own
-kill_pid c v (negsuc k) = refused c v
-kill_pid c v (pos pid) = unless (nat_eq pid 0) c v (λ _. killed_by c v pid)
-
-abbrev pub kill : Call → View → Own
-kill c v = kill_pid c v (c_int c.a0)
-
--- ---- exec ("Code: exec")
-
--- the caller runs the new image from its entry
-abbrev pub running : Loaded → View → View
-running l v = record v {
-  image = l.image;
-  regs = with_pc (put (put v.regs SP l.sp) A1 l.sp) l.pc;
-  free = v.free + price v.image - price l.image;
-}
-
-abbrev pub exec_loaded : Call → View → Result Loaded ExecError → Own
-exec_loaded c v (Err e) = refused c v
-exec_loaded c v (Ok l) = unless (nat_lt v.free (price l.image)) c v (λ _. done c (pos l.argc) (running l v))
-
-abbrev pub exec_program : Call → View → Option (List (List ℕ)) → Option ProgramFile → Own
-exec_program c v None program = refused c v
-exec_program c v (Some texts) None = refused c v
-exec_program c v (Some texts) (Some program) = exec_loaded c v (loaded program.bytes texts)
-
-abbrev pub exec_path : Call → View → Option (List ℕ) → Own
-exec_path c v None = refused c v
-exec_path c v (Some path) = exec_program c v (texts_at MAXARG ARG_BYTES v.image c.a1) (program_named (no_slashes path) v.programs)
-
-abbrev pub exec : Call → View → Own
-exec c v = exec_path c v (text_at MAXPATH v.image c.a0)
-
--- ---- dup, close
-
-abbrev pub dup_at : Call → View → ℕ → Descriptor → Option ℕ → Own
-dup_at c v j d None = refused c v
-dup_at c v j d (Some k) = done c (pos k) (record v { descriptors = with_copy k j (one_more_on d.shown v.descriptors) })
-
-abbrev pub dup_on : Call → View → ℕ → Option Descriptor → Own
-dup_on c v j None = refused c v
-dup_on c v j (Some d) = dup_at c v j d (lowest_free v.descriptors)
-
-abbrev pub dup_number : Call → View → ℤ → Own
-dup_number c v (negsuc k) = refused c v
-dup_number c v (pos j) = dup_on c v j (v.descriptors j)
-
-abbrev pub dup : Call → View → Own
-dup c v = dup_number c v (c_int c.a0)
-
--- a closed descriptor is still told as it is after the step
-abbrev pub close_at : Call → View → ℕ → Descriptor → Own
-close_at c v k d =
-    let closed = one_less_on d.shown v.descriptors in
-    let after = done c (pos 0) (record v { descriptors = without_descriptor k closed; free = v.free + pipes_given_up closed }) in
-    record after { left = record after.left { descriptors = closed } }
-
-abbrev pub close_on : Call → View → ℕ → Option Descriptor → Own
-close_on c v k None = refused c v
-close_on c v k (Some d) = close_at c v k d
-
-abbrev pub close_number : Call → View → ℤ → Own
-close_number c v (negsuc k) = refused c v
-close_number c v (pos k) = close_on c v k (v.descriptors k)
-
-abbrev pub close : Call → View → Own
-close c v = close_number c v (c_int c.a0)
-
--- ---- getpid, sbrk ("Code: sbrk"), sleep, uptime
-
-abbrev pub getpid : Call → View → Own
-getpid c v = done c (pos v.pid) v
-
-abbrev pub grow_to : Call → View → ℕ → Own
-grow_to c v size =
-    let image = grown v.image size in
-    let frames = price image - price v.image in
-    unless (nat_lt SIZE_LIMIT size || nat_lt v.free frames) c v (λ _.
-    done c (pos v.image.size) (record v { image = image; free = v.free - frames }))
-
-abbrev pub shrink_to : Call → View → ℕ → Own
-shrink_to c v size =
-    let image = shrunk v.image size in
-    done c (pos v.image.size) (record v { image = image; free = v.free + price v.image - price image })
-
--- the new size is refused where it is below 0 or above the limit, whichever way it goes
-abbrev pub sbrk_by : Call → View → ℤ → Own
-sbrk_by c v (pos n) = grow_to c v (v.image.size + n)
-sbrk_by c v (negsuc k) = unless (nat_le v.image.size k || nat_lt SIZE_LIMIT (v.image.size - suc k)) c v (λ _. shrink_to c v (v.image.size - suc k))
-
-abbrev pub sbrk : Call → View → Own
-sbrk c v = sbrk_by c v (c_int c.a0)
-
-abbrev pub sleep_for : Call → View → ℤ → Own
-sleep_for c v (negsuc k) = done c (pos 0) v
-sleep_for c v (pos n) = cond (nat_lt ((v.clock + CLOCK_ROUND - c.clock) % CLOCK_ROUND) n) (waits c 0 v) (done c (pos 0) v)
-
-abbrev pub sleep : Call → View → Own
-sleep c v = sleep_for c v (c_int c.a0)
-
-abbrev pub uptime : Call → View → Own
-uptime c v = done c (pos v.clock) v
-
--- ---- open
-
-pub data Named : Type 0 where
-  The_console : Named
-  A_program : (place : ℕ) → Named
-  Nothing : Named
-
--- the place of the first program with this name
-abbrev pub place_of : List ℕ → List ProgramFile → ℕ → Named
-place_of name [] k = Nothing
-place_of name (p ∷ ps) k = cond (bytes_eq p.name name) (A_program k) (place_of name ps (k + 1))
-
-abbrev pub what_is_named : List ℕ → View → Named
-what_is_named name v = cond (bytes_eq console_name name) The_console (place_of name v.programs 0)
-
--- mode 0 reads, 1 writes, 2 does both
-abbrev pub opened_as : Named → ℤ → Option (Bool × Bool × Shown)
-opened_as The_console (pos mode) = cond (nat_lt 2 mode) None (Some (not (nat_eq mode 1), not (nat_eq mode 0), Shown_terminal))
-opened_as The_console (negsuc k) = None
-opened_as (A_program place) (pos mode) = cond (nat_eq mode 0) (Some (true, false, Shown_file place 0)) None
-opened_as (A_program place) (negsuc k) = None
-opened_as Nothing mode = None
-
-abbrev pub open_at : Call → View → Option ℕ → Option (Bool × Bool × Shown) → Own
-open_at c v None what = refused c v
-open_at c v (Some k) None = refused c v
-open_at c v (Some k) (Some (read, write, shown)) = done c (pos k) (record v { descriptors = with_descriptor k (record { file = k; read = read; write = write; shown = shown }) v.descriptors })
-
-abbrev pub open_path : Call → View → Option (List ℕ) → Own
-open_path c v None = refused c v
-open_path c v (Some path) = open_at c v (lowest_free v.descriptors) (opened_as (what_is_named (no_slashes path) v) (c_int c.a1))
-
-abbrev pub open_file : Call → View → Own
-open_file c v = open_path c v (text_at MAXPATH v.image c.a0)
+module _ (c : Call) where
+  -- the call is done: the answer is in a0, and no call is in progress
+  abbrev pub done : ℤ → View → Own
+  done value v = goes_on (Called c.number value) (answered value v)
+
+  -- the process sleeps in the call, which has moved so many bytes
+  abbrev pub waits : ℕ → View → Own
+  waits moved v = goes_on (Blocked c.number) (record v { call = Some (record c { moved = moved }) })
+
+  module _ (v : View) where
+    -- the answer is -1, and nothing else changes
+    abbrev pub refused : Own
+    refused = done minus_one v
+
+    -- ---- 1 fork() ("Processes and memory"): the child has the same image, registers and open files
+
+    unfoldable pub fork : Own
+    fork = do
+      refused when nat_le NPROC (length v.pids)  -- no free slot
+      refused when nat_lt PID_MAX v.next_pid  -- next pid over 2^31 - 1
+      refused when nat_lt v.free (price v.image + 1)  -- price + 1 exceeds free
+      let parent = answered (pos v.next_pid) (record v {
+        pids = v.pids ++ v.next_pid ∷ [];
+        next_pid = v.next_pid + 1;
+        free = v.free - (price v.image + 1);
+        children = with_value v.children v.next_pid (Some Running);
+        descriptors = doubled v.descriptors;
+      })
+      let newborn : View = record parent { pid = v.next_pid; regs = with_a0 parent.regs 0; children = λ q. None; killed = false; call = None }
+      record (goes_on (Called c.number (pos v.next_pid)) parent) { child = Some newborn }
+
+    -- ---- 2 exit(status) ("Code: Wait, exit, and kill")
+
+    abbrev pub exit : Own
+    exit = gone (Exited (c_int c.a0)) v
+
+    -- ---- 3 wait(a) ("Code: Wait, exit, and kill")
+
+    unfoldable pub wait : Own
+    wait = do
+      refused when not (c.a0 == 0) && not (writable v.image c.a0 4)
+      refused when not (has_child v)  -- no child
+      zombie ← least_zombie v or waits 0 v  -- by pid
+      let status = le_bytes 4 (cast_unsigned w32 (status_of (v.children zombie)))
+      done (pos zombie) (record v {
+        image = if c.a0 == 0 then v.image else write_image v.image c.a0 status;
+        pids = filter (λ pid. not (pid == zombie)) v.pids;
+        children = with_value v.children zombie None;
+      })
+
+    -- ---- 4 pipe(a) ("Pipes", "Code: Pipes")
+
+    unfoldable pub make_pipe : Own
+    make_pipe = do
+      refused when not (writable v.image c.a0 8)
+      r ← lowest_free v.descriptors or refused
+      w ← lowest_free_above v.descriptors r or refused  -- fewer than 2 free descriptors
+      refused when v.free == 0  -- no free frame
+      let reading : Descriptor = record { file = r; read = true; write = false; shown = Shown_pipe r Reading new_pipe }
+      let writing : Descriptor = record { file = w; read = false; write = true; shown = Shown_pipe r Writing new_pipe }
+      done (pos 0) (record v {
+        image = write_image v.image c.a0 (le_bytes 4 r ++ le_bytes 4 w);
+        descriptors = with_descriptor w writing (with_descriptor r reading v.descriptors);
+        free = v.free - 1;
+      })
+
+    -- ---- 5 read(fd, a, n) ("I/O and File descriptors", "Code: Pipes", "Code: Console input")
+
+    unfoldable pub read : Own
+    read = do
+      fd ← natural (c_int c.a0) or refused
+      d ← v.descriptors fd or refused  -- not in use
+      refused when not d.read  -- its mode forbids it
+      n ← natural (c_int c.a2) or refused  -- n below 0
+      done (pos 0) v when n == 0
+      refused when not (writable v.image c.a1 n)
+      elim d.shown [
+        | Shown_file program offset ↦ do
+          let bytes = take n (drop offset (program_bytes (slice_get v.programs program)))
+          done (pos (length bytes)) (record v { image = write_image v.image c.a1 bytes; descriptors = advance d.file (length bytes) v.descriptors })
+        | Shown_pipe name end pipe ↦ do
+          waits 0 v when (length pipe.bytes == 0) && not (pipe.writers == 0)
+          let k = min n (length pipe.bytes)
+          done (pos k) (record v { image = write_image v.image c.a1 (take k pipe.bytes); descriptors = change_pipe name (without_first k pipe) v.descriptors })
+        | Shown_terminal ↦ do
+          let line = pulled (c.moved == 0) (n - c.moved) v.console.committed
+          let k = c.moved + length line.taken
+          let after = record v { image = write_image v.image (c.a1 + c.moved) line.taken; console = record v.console { committed = line.left } }
+          if line.ended then done (pos k) after else waits k after
+      ]
+
+    -- ---- 6 kill(pid) ("Code: Wait, exit, and kill")
+
+    unfoldable pub kill : Own
+    kill = do
+      pid ← natural (c_int c.a0) or refused
+      refused when pid == 0  -- pid below 1
+      refused when not (list_any (λ p. pid == p) v.pids)  -- not in use
+      record (done (pos 0) (record v { killed = v.killed || (pid == v.pid) })) { marked = Some pid }
+
+    -- ---- 7 exec(path, argv) ("Code: exec")
+
+    unfoldable pub exec : Own
+    exec = do
+      path ← text_at MAXPATH v.image c.a0 or refused  -- path bad
+      texts ← texts_at MAXARG ARG_BYTES v.image c.a1 or refused  -- a pointer or text bad, or too many
+      program ← program_named (no_slashes path) v.programs or refused  -- unknown
+      l ← result_of (loaded program.bytes texts) or refused  -- an ExecError
+      refused when nat_lt v.free (price l.image)  -- its whole price, while the old image is held
+      done (pos l.argc) (record v {
+        image = l.image;
+        regs = with_pc (put (put v.regs SP l.sp) A1 l.sp) l.pc;
+        free = v.free + price v.image - price l.image;
+      })
+
+    -- ---- 10 dup(fd) ("I/O and File descriptors")
+
+    unfoldable pub dup : Own
+    dup = do
+      fd ← natural (c_int c.a0) or refused
+      d ← v.descriptors fd or refused  -- not in use
+      to ← lowest_free v.descriptors or refused  -- no free descriptor
+      done (pos to) (record v { descriptors = with_copy to fd (one_more_on d.shown v.descriptors) })
+
+    -- ---- 11 getpid() ("Operating system interfaces")
+
+    abbrev pub getpid : Own
+    getpid = done (pos v.pid) v
+
+    -- ---- 12 sbrk(n) ("Code: sbrk"): new pages hold zeros and may be read and written
+
+    unfoldable pub sbrk : Own
+    sbrk = do
+      size ← natural (pos v.image.size +ℤ c_int c.a0) or refused  -- below 0
+      refused when nat_lt SIZE_LIMIT size  -- over 2^38 - 8192
+      let image = if nat_lt size v.image.size then shrunk v.image size else grown v.image size
+      refused when nat_le v.image.size size && nat_lt v.free (price image - price v.image)  -- the price of the growth exceeds free
+      done (pos v.image.size) (record v { image = image; free = v.free + price v.image - price image })
+
+    -- ---- 13 sleep(n) ("Operating system interfaces")
+
+    unfoldable pub sleep : Own
+    sleep = do
+      n ← natural (c_int c.a0) or done (pos 0) v  -- n below 0
+      if nat_lt ((v.clock + CLOCK_ROUND - c.clock) % CLOCK_ROUND) n then waits 0 v else done (pos 0) v
+
+    -- ---- 14 uptime()
+
+    abbrev pub uptime : Own
+    uptime = done (pos v.clock) v
+
+    -- ---- 15 open(path, mode) ("I/O and File descriptors"): mode 0 reads, 1 writes, 2 does both
+
+    unfoldable pub open_file : Own
+    open_file = do
+      path ← text_at MAXPATH v.image c.a0 or refused  -- path bad
+      shown ← what_is_named (no_slashes path) v or refused  -- no such name
+      mode ← natural (c_int c.a1) or refused
+      refused when not (has_mode shown mode)  -- mode not allowed
+      fd ← lowest_free v.descriptors or refused  -- no free descriptor
+      let opened : Descriptor = record { file = fd; read = not (mode == 1); write = not (mode == 0); shown = shown }
+      done (pos fd) (record v { descriptors = with_descriptor fd opened v.descriptors })
+
+    -- ---- 16 write(fd, a, n) ("I/O and File descriptors", "Code: Pipes")
+
+    unfoldable pub write : Own
+    write = do
+      fd ← natural (c_int c.a0) or refused
+      d ← v.descriptors fd or refused  -- not in use
+      refused when not d.write  -- its mode forbids it
+      n ← natural (c_int c.a2) or refused  -- n below 0
+      done (pos 0) v when n == 0
+      refused when not (readable v.image c.a1 n)
+      elim d.shown [
+        | Shown_file program offset ↦ refused
+        | Shown_pipe name end pipe ↦ do
+          refused when pipe.readers == 0
+          let k = min (n - c.moved) (PIPE_BYTES - length pipe.bytes)
+          let bytes = image_bytes v.image (c.a1 + c.moved) k
+          let after = record v { descriptors = change_pipe name (with_more bytes pipe) v.descriptors }
+          if nat_le n (c.moved + k) then done (pos n) after else waits (c.moved + k) after
+        | Shown_terminal ↦ do
+          let k = min (n - c.moved) (SEND_BYTES - length v.console.to_send)
+          let bytes = image_bytes v.image (c.a1 + c.moved) k
+          let after = record v { console = record v.console { to_send = v.console.to_send ++ bytes } }
+          if nat_le n (c.moved + k) then done (pos n) after else waits (c.moved + k) after
+      ]
+
+    -- ---- 21 close(fd) ("I/O and File descriptors")
+
+    -- a descriptor that is closed is still told as it is after the step
+    unfoldable pub close : Own
+    close = do
+      fd ← natural (c_int c.a0) or refused
+      d ← v.descriptors fd or refused  -- not in use
+      let closed = one_less_on d.shown v.descriptors
+      let after = done (pos 0) (record v { descriptors = without_descriptor fd closed; free = v.free + pipes_given_up closed })
+      record after { left = record after.left { descriptors = closed } }
 
 -- ---- the table
 
@@ -412,24 +292,25 @@ unfoldable pub row_of : ℤ → Option Row
 row_of (pos n) = option_map (λ e. e.1) (find (λ e. nat_eq e.0 n) table)
 row_of (negsuc k) = None
 
-unfoldable pub perform_row : Call → View → Option Row → Own
-perform_row c v None = refused c v
-perform_row c v (Some Fork) = fork c v
-perform_row c v (Some Exit) = gone (Exited (c_int c.a0)) v
-perform_row c v (Some Wait) = wait c v
-perform_row c v (Some Pipe_row) = make_pipe c v
-perform_row c v (Some Read) = read c v
-perform_row c v (Some Kill) = kill c v
-perform_row c v (Some Exec) = exec c v
-perform_row c v (Some Dup) = dup c v
-perform_row c v (Some Getpid) = getpid c v
-perform_row c v (Some Sbrk) = sbrk c v
-perform_row c v (Some Sleep) = sleep c v
-perform_row c v (Some Uptime) = uptime c v
-perform_row c v (Some Open) = open_file c v
-perform_row c v (Some Write) = write c v
-perform_row c v (Some Close) = close c v
+unfoldable pub row : Row → Call → View → Own
+row Fork c v = fork c v
+row Exit c v = exit c v
+row Wait c v = wait c v
+row Pipe_row c v = make_pipe c v
+row Read c v = read c v
+row Kill c v = kill c v
+row Exec c v = exec c v
+row Dup c v = dup c v
+row Getpid c v = getpid c v
+row Sbrk c v = sbrk c v
+row Sleep c v = sleep c v
+row Uptime c v = uptime c v
+row Open c v = open_file c v
+row Write c v = write c v
+row Close c v = close c v
 
--- one step of a call in progress
+-- one step of a call in progress; a number that no row has is refused
 unfoldable pub perform : Call → View → Own
-perform c v = perform_row c v (row_of c.number)
+perform c v = do
+  r ← row_of c.number or refused c v
+  row r c v

@@ -9,12 +9,12 @@ use Rattle.file_table.specs.declared.open_file.Target.{Target}
 use Rattle.file_table.specs.declared.open_file.Target.TheVariants.{Console as Terminal, Program as File, Pipe as Pipe_end}
 use Rattle.proc_table.specs.declared.process.Call.{Call}
 use Rattle.kcall_core.specs.Words.{CLOCK_ROUND, c_int}
-use Rattle.kcall_core.specs.Processes.{Live, Alive, Zombie}
+use Rattle.kcall_core.specs.Processes.{Live, Alive, Zombie, has_status}
 use Rattle.console_core.specs.Lists.{Console}
 use Rattle.file_table.specs.declared.open_file.OpenFile.{OpenFile}
 use Rattle.kcall_core.specs.State.{State, live}
 use Rattle.kcall_core.specs.View.{View, view, view_of, child_of, or_gone}
-use Rattle.kcall_core.specs.Calls.{Row, Wait, Read, Write, Sleep, row_of, has_status}
+use Rattle.kcall_core.specs.Calls.{Row, Wait, Read, Write, Sleep, row_of}
 use Rattle.kcall_core.specs.Updates.{changed_state, alone_state, mark, waited_state, forked_state, gone_state, kill_state}
 use Rattle.kcall_core.specs.Quiet.{file_at, pipe_at, end_of, target_of_open}
 use Rattle.kcall_core.specs.WellFormed.{WellFormed}

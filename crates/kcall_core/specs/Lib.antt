@@ -10,6 +10,7 @@ pub mod Processes
 pub mod State
 pub mod View
 pub mod Own
+pub mod Lines
 pub mod Tables
 pub mod Calls
 pub mod Instruction

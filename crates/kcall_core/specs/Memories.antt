@@ -14,7 +14,7 @@ use Rattle.rv64i_core.specs.Step.{Step, stop_of, regs_after, state_after}
 use Rattle.rv64i_core.specs.declared.execution.Stop.{Stop}
 use Rattle.hart_core.specs.Trapframe.{saved}
 use Rattle.hart_core.specs.Translations.{Fits}
-use Rattle.hart_core.specs.UserMemory.{user, write_image}
+use Rattle.hart_core.specs.UserMemory.{write_image}
 use Rattle.hart_core.specs.declared.hart.Hart.{Hart}
 use Rattle.pipe_core.specs.Pipe.{Pipe, IsPipe, pipe_in}
 use Rattle.kcall_core.specs.Instruction.{next_instruction}

@@ -1,5 +1,5 @@
 -- Bytes that move between open files and the memory of a slot: what a read or a write is on, and what a move leaves.
-use Rattle.std.specs.Prelude.{◌≡◌, ◌≢◌, ℕ, ◌<◌, Some, length, set, pos, ℤ, Bool, true, ◌&&◌, nat_lt}
+use Rattle.std.specs.Prelude.{◌≡◌, ◌≢◌, ℕ, ◌<◌, Some, length, set, pos, Bool, true, ◌&&◌, nat_lt}
 use Rattle.std.specs.FinMap.{get, insert}
 use Rattle.xk_base.specs.declared.limits.TheConstants.{NOFILE}
 use Rattle.xk_base.specs.Image.{Image}
@@ -17,7 +17,6 @@ use Rattle.kcall_core.specs.Buffers.{readable, writable}
 use Rattle.kcall_core.specs.Holdings.{held_at, with_image}
 use Rattle.kcall_core.specs.Memories.{each_of, pipes_of, free_of, IsSound, RunsIn}
 use Rattle.kcall_core.specs.RowLaws.{OnPipe, IsBuffer}
-use Rattle.kcall_core.specs.Kernel as kernel
 use Rattle.kcall_core.specs.Kernel.{state_of, pid_now, live_now}
 use Rattle.kcall_core.specs.declared.kernel.Kernel.{Kernel}
 use Rattle.kcall_core.specs.declared.memories.Memories.{Memories}

@@ -1,5 +1,5 @@
 -- The ends of a pipe: how many descriptors are on each, and how many bytes can be moved (the xv6 book, "Code: Pipes").
-use Rattle.std.specs.Prelude.{ℕ, ◌+◌, ◌-◌, Bool, length, min, nat_eq, ◌&&◌}
+use Rattle.std.specs.Prelude.{ℕ, ◌+◌, ◌-◌, Bool, length, min, nat_eq, not, ◌&&◌}
 use Rattle.xk_base.specs.declared.limits.TheConstants.{PIPE_BYTES}
 use Rattle.pipe_core.specs.Pipe.{Pipe}
 use Rattle.file_table.specs.declared.open_file.End.{End}
@@ -31,3 +31,7 @@ parted p Writing n = record p { writers = p.writers - n }
 -- no descriptor is on it any more
 abbrev pub is_given_up : Pipe → Bool
 is_given_up p = nat_eq p.readers 0 && nat_eq p.writers 0
+
+-- nothing to read yet, but somebody may still write
+abbrev pub must_wait : Pipe → Bool
+must_wait pipe = nat_eq (length pipe.bytes) 0 && not (nat_eq pipe.writers 0)

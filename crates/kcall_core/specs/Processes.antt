@@ -1,5 +1,5 @@
 -- Processes (the xv6 book, "Process overview"). A process is live, or a zombie: it has ended, and its parent has not waited for it yet.
-use Rattle.std.specs.Prelude.{ℕ, ℤ, Bool, Option}
+use Rattle.std.specs.Prelude.{ℕ, ℤ, pos, Bool, true, false, Option, None, Some}
 use Rattle.std.specs.FinMap.{FinMap}
 use Rattle.std.specs.Ordering.{nat_cmp}
 use Rattle.xk_base.specs.Image.{Image}
@@ -31,3 +31,13 @@ parent_of (Zombie parent status) = parent
 pub data Child : Type 0 where
   Running : Child
   Status : ℤ → Child
+
+abbrev pub has_status : Option Child → Bool
+has_status None = false
+has_status (Some Running) = false
+has_status (Some (Status status)) = true
+
+abbrev pub status_of : Option Child → ℤ
+status_of None = pos 0
+status_of (Some Running) = pos 0
+status_of (Some (Status status)) = status

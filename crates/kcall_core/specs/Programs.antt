@@ -1,5 +1,5 @@
 -- The programs that a machine is given: which it refuses, and which is `init`.
-use Rattle.std.specs.Prelude.{ℕ, Bool, ◌||◌, ◌==◌, nat_lt, nat_le, List, [], length, Option, None, Some, slice_get, find, is_some, codes, bytes_eq}
+use Rattle.std.specs.Prelude.{ℕ, ◌+◌, if◌then◌else◌, ◌∷◌, Bool, ◌||◌, ◌==◌, nat_lt, nat_le, List, [], length, Option, None, Some, slice_get, find, is_some, codes, bytes_eq}
 use Rattle.std.specs.List.{list_any}
 use Rattle.xk_base.specs.declared.limits.TheConstants.{PROGRAMS_MAX, NAME_MAX, PROGRAM_BYTES}
 use Rattle.kcall_core.specs.State.{ProgramFile}
@@ -53,6 +53,11 @@ first_bad programs = least_below (is_bad_program programs) (length programs)
 -- the program of a name
 abbrev pub program_named : List ℕ → List ProgramFile → Option ProgramFile
 program_named name programs = find (λ p. bytes_eq p.name name) programs
+
+-- the place of the first program with this name
+abbrev pub place_of : List ℕ → List ProgramFile → ℕ → Option ℕ
+place_of name [] k = None
+place_of name (p ∷ ps) k = if bytes_eq p.name name then Some k else place_of name ps (k + 1)
 
 unfoldable pub init_of : List ProgramFile → Option ProgramFile
 init_of programs = program_named init_name programs

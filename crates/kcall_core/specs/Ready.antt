@@ -4,7 +4,12 @@ use Rattle.xk_base.specs.declared.limits.TheConstants.{PIPE_BYTES, SEND_BYTES}
 use Rattle.proc_table.specs.declared.process.Call.{Call}
 use Rattle.kcall_core.specs.Words.{CLOCK_ROUND, c_int}
 use Rattle.kcall_core.specs.View.{View, Descriptor, Shown, Shown_terminal, Shown_file, Shown_pipe}
-use Rattle.kcall_core.specs.Calls.{Row, Wait, Read, Write, Sleep, row_of, least_zombie, has_child, in_use}
+use Rattle.kcall_core.specs.Calls.{Row, Wait, Read, Write, Sleep, row_of, least_zombie, has_child}
+
+-- the descriptor of this number, if it is in use
+abbrev pub in_use : View → ℤ → Option Descriptor
+in_use v (pos d) = v.descriptors d
+in_use v (negsuc k) = None
 
 -- bytes, or nobody left to write them
 abbrev pub can_read : View → Shown → Bool

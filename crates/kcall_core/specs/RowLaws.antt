@@ -1,15 +1,14 @@
 -- What each step does to the state: for each kind of step and each row of the call table, which update of the state before is the state after.
 -- So a kernel's code is right where it makes these updates; it needs no view.
-use Rattle.std.specs.Prelude.{◌≡◌, ◌≢◌, ℕ, ◌+◌, ◌-◌, ◌++◌, ℤ, pos, Bool, false, true, cond, List, length, take, Option, None, Some, IsSome, nat_eq, nat_le, not, ◌&&◌, ◌<◌, ◌≤◌}
+use Rattle.std.specs.Prelude.{◌≡◌, ◌≢◌, ℕ, ◌+◌, ◌-◌, ◌++◌, ℤ, pos, Bool, false, true, cond, List, length, take, Option, None, Some, IsSome, nat_eq, nat_le, not, ◌&&◌, ◌<◌, ◌≤◌, Ok, drop, slice_get, ◌==◌}
 use Rattle.std.specs.FinMap.{FinMap, get, insert, remove, keys}
-use Rattle.std.specs.List.{list_any}
 use Rattle.std.specs.Ordering.{nat_cmp}
-use Rattle.xk_base.specs.declared.limits.TheConstants.{NOFILE, PIPE_BYTES}
+use Rattle.xk_base.specs.declared.limits.TheConstants.{NOFILE, PIPE_BYTES, NPROC, PID_MAX, MAXPATH, MAXARG, ARG_BYTES}
 use Rattle.xk_base.specs.declared.access.Cause.{Cause}
 use Rattle.xk_base.specs.Words.{le_bytes}
 use Rattle.xk_base.specs.Bytes.{image_bytes, write_image}
 use Rattle.xk_base.specs.Image.{Image, price}
-use Rattle.xk_base.specs.Loaded.{Loaded}
+use Rattle.xk_base.specs.Loaded.{Loaded, loaded}
 use Rattle.rv64i_core.specs.Registers.{Registers, with_pc, after}
 use Rattle.rv64i_core.specs.Memory.{Store}
 use Rattle.rv64i_core.specs.Step.{Next, Ecall, Fault}
@@ -24,18 +23,20 @@ use Rattle.file_table.specs.declared.open_file.OpenFile.{OpenFile}
 use Rattle.proc_table.specs.declared.process.Call.{Call}
 use Rattle.kcall_core.specs.Instruction.{next_instruction}
 use Rattle.kcall_core.specs.Words.{c_int, minus_one}
-use Rattle.kcall_core.specs.Buffers.{readable, writable}
-use Rattle.kcall_core.specs.PipeEnds.{there, fit, joined, parted, is_given_up}
+use Rattle.kcall_core.specs.Buffers.{readable, writable, text_at, texts_at, no_slashes}
+use Rattle.kcall_core.specs.PipeEnds.{there, fit, joined, parted, is_given_up, must_wait}
 use Rattle.kcall_core.specs.Processes.{Live, Alive, Zombie}
-use Rattle.kcall_core.specs.State.{State}
+use Rattle.kcall_core.specs.State.{State, ProgramFile}
 use Rattle.kcall_core.specs.View.{Descriptor, view_of, show, numbered, least_on_file, least_on_pipe, or_else}
 use Rattle.kcall_core.specs.Own.{Own, Answer, Exited, Faulted, gone_with}
-use Rattle.kcall_core.specs.Calls.{perform, done, waits, gone, running, fork, cannot_fork, wait, least_zombie, killed_by, read, read_file, must_wait, write, open_at, piped, dup_at, close_at}
+use Rattle.kcall_core.specs.Calls.{perform, done, waits, gone, fork, wait, make_pipe, read, kill, exec, dup, open_file, write, close, least_zombie, what_is_named, has_mode}
 use Rattle.kcall_core.specs.Step.{own, call_begun}
 use Rattle.kcall_core.specs.Updates.{set_pipe, set_file, mark, changed_state, own_state, alone_state, piped_state, filed_state, with_named, with_closed, with_bytes, with_answer, in_call, stepped, started, forked_state, gone_state, waited_state, remove_zombie, settled, waited, kill_state, killer}
 use Rattle.kcall_core.specs.Quiet.{file_at, pipe_at, pipe_of_target}
 use Rattle.kcall_core.specs.WellFormed.{WellFormed}
 use Rattle.kcall_core.specs.Run.{StateAfter}
+use Rattle.kcall_core.specs.Tables.{lowest_free, lowest_free_above}
+use Rattle.kcall_core.specs.Programs.{program_named, program_bytes}
 
 -- process p is live, and is l
 abbrev pub IsLive : State → ℕ → Live → Type 0
@@ -95,17 +96,20 @@ WaitingLaw =
     (s : State) (p : ℕ) (l : Live) (c : Call) (moved : ℕ) (image : Image) (console : Console) (free : ℕ) → IsLive s p l
     → After s p l (waits c moved (record (view_of s p l) { image = image; console = console; free = free })) (alone_state p (in_call (record c { moved = moved }) (record l { image = image })) console free s)
 
--- exec: the new image and its first registers
+-- exec, where the program that the process asks for can be loaded, and costs no more than the free frames: the new image and its first registers
 abbrev pub ExecLaw : Type 0
 ExecLaw =
-    (s : State) (p : ℕ) (l : Live) (c : Call) (new : Loaded) → IsLive s p l
-    → After s p l (done c (pos new.argc) (running new (view_of s p l))) (alone_state p (with_answer (pos new.argc) (started new l)) s.console (s.free + price l.image - price new.image) s)
+    (s : State) (p : ℕ) (l : Live) (c : Call) (path : List ℕ) (texts : List (List ℕ)) (program : ProgramFile) (new : Loaded) → IsLive s p l
+    → text_at MAXPATH l.image c.a0 ≡ Some path → texts_at MAXARG ARG_BYTES l.image c.a1 ≡ Some texts → program_named (no_slashes path) s.programs ≡ Some program
+    → loaded program.bytes texts ≡ Ok new → price new.image ≤ s.free
+    → After s p l (exec c (view_of s p l)) (alone_state p (with_answer (pos new.argc) (started new l)) s.console (s.free + price l.image - price new.image) s)
 
 -- ---- rows that make, end, wait for or mark a process
 
 abbrev pub ForkLaw : Type 0
 ForkLaw =
-    (frames : ℕ) (s : State) (p : ℕ) (l : Live) (c : Call) → WellFormed frames s → IsLive s p l → cannot_fork (view_of s p l) ≡ false
+    (frames : ℕ) (s : State) (p : ℕ) (l : Live) (c : Call) → WellFormed frames s → IsLive s p l
+    → length (keys s.processes) < NPROC → s.next_pid ≤ PID_MAX → price l.image + 1 ≤ s.free
     → After s p l (fork c (view_of s p l)) (forked_state p l s)
 
 -- the open files of t are those of s that a live process still names
@@ -129,8 +133,8 @@ ReapLaw =
 
 abbrev pub KillLaw : Type 0
 KillLaw =
-    (s : State) (p q : ℕ) (l : Live) (c : Call) → IsLive s p l → not (list_any (nat_eq q) (keys s.processes)) ≡ false
-    → After s p l (killed_by c (view_of s p l) q) (kill_state p (killer p q l) q s)
+    (s : State) (p q : ℕ) (l : Live) (c : Call) → IsLive s p l → c_int c.a0 ≡ pos q → 1 ≤ q → IsSome (get s.processes q)
+    → After s p l (kill c (view_of s p l)) (kill_state p (killer p q l) q s)
 
 -- ---- rows on an open file
 
@@ -181,10 +185,11 @@ name_of_file s l f = or_else (least_on_file (numbered s l) f) f
 -- read from a program's file: the bytes are taken, and the offset moves on
 abbrev pub FileReadLaw : Type 0
 FileReadLaw =
-    (s : State) (p : ℕ) (l : Live) (c : Call) (d f program offset : ℕ) (r w : Bool) (bytes : List ℕ) → IsLive s p l → d < NOFILE → get l.descriptors d ≡ Some f
-    → get s.files f ≡ Some (record { read = r; write = w; target = File program offset })
-    → After s p l (read_file c (view_of s p l) (name_of_file s l f) bytes)
-    (filed_state p (with_answer (pos (length bytes)) (with_bytes c.a1 bytes l)) f (record { read = r; write = w; target = File program (offset + length bytes) }) s)
+    (s : State) (p : ℕ) (l : Live) (c : Call) (d f program offset n : ℕ) (w : Bool) → IsLive s p l → c_int c.a0 ≡ pos d → d < NOFILE → get l.descriptors d ≡ Some f
+    → get s.files f ≡ Some (record { read = true; write = w; target = File program offset }) → IsBuffer c (writable l.image c.a1) n
+    → let bytes = take n (drop offset (program_bytes (slice_get s.programs program))) in
+    After s p l (read c (view_of s p l))
+    (filed_state p (with_answer (pos (length bytes)) (with_bytes c.a1 bytes l)) f (record { read = true; write = w; target = File program (offset + length bytes) }) s)
 
 -- no process names the open file; none is on the pipe
 abbrev pub NobodyNames : State → ℕ → Type 0
@@ -193,37 +198,45 @@ NobodyNames s f = (q d : ℕ) → file_at s q d ≢ Some f
 abbrev pub NobodyHas : State → ℕ → Type 0
 NobodyHas s j = (q d : ℕ) → pipe_at s q d ≢ Some j
 
--- open: the free descriptor k names a new open file, which is the console or a program's
+-- k is p's lowest free descriptor
+pub record IsLowestFree (s : State) (p : ℕ) (l : Live) (k : ℕ) : Type 0 where
+  pub lowest : lowest_free (view_of s p l).descriptors ≡ Some k
+  pub below : k < NOFILE
+  pub unused : get l.descriptors k ≡ None
+
+-- open: the lowest free descriptor names a new open file, which is the console or a program's
 abbrev pub OpenLaw : Type 0
 OpenLaw =
-    (s : State) (p : ℕ) (l : Live) (c : Call) (k f : ℕ) (read write : Bool) (target : Target) → IsLive s p l → k < NOFILE → get l.descriptors k ≡ None
-    → NobodyNames s f → pipe_of_target target ≡ None
-    → After s p l (open_at c (view_of s p l) (Some k) (Some (read, write, show s target)))
-    (filed_state p (with_answer (pos k) (with_named k f l)) f (record { read = read; write = write; target = target }) s)
+    (s : State) (p : ℕ) (l : Live) (c : Call) (k f mode : ℕ) (path : List ℕ) (target : Target) → IsLive s p l
+    → text_at MAXPATH l.image c.a0 ≡ Some path → what_is_named (no_slashes path) (view_of s p l) ≡ Some (show s target) → pipe_of_target target ≡ None
+    → c_int c.a1 ≡ pos mode → has_mode (show s target) mode ≡ true → IsLowestFree s p l k → NobodyNames s f
+    → After s p l (open_file c (view_of s p l))
+    (filed_state p (with_answer (pos k) (with_named k f l)) f (record { read = not (mode == 1); write = not (mode == 0); target = target }) s)
 
--- pipe: the free descriptors r and w name the two ends of a new pipe
+-- pipe: the lowest free descriptor and the next name the two ends of a new pipe
 abbrev pub PipeLaw : Type 0
 PipeLaw =
-    (s : State) (p : ℕ) (l : Live) (c : Call) (r w f g i : ℕ) → IsLive s p l → r < NOFILE → w < NOFILE → r ≢ w → f ≢ g → get l.descriptors r ≡ None → get l.descriptors w ≡ None
+    (s : State) (p : ℕ) (l : Live) (c : Call) (r w f g i : ℕ) → IsLive s p l → writable l.image c.a0 8 ≡ true → 0 < s.free
+    → IsLowestFree s p l r → lowest_free_above (view_of s p l).descriptors r ≡ Some w → w < NOFILE → get l.descriptors w ≡ None → r ≢ w → f ≢ g
     → NobodyNames s f → NobodyNames s g → NobodyHas s i
-    → After s p l (piped c (view_of s p l) r (Some w))
+    → After s p l (make_pipe c (view_of s p l))
     (changed_state p (with_answer (pos 0) (with_bytes c.a0 (le_bytes 4 r ++ le_bytes 4 w) (with_named w g (with_named r f l))))
     (insert (insert s.files f (record { read = true; write = false; target = Pipe_end i Reading })) g (record { read = false; write = true; target = Pipe_end i Writing }))
     (insert s.pipes i new_pipe) s.console (s.free - 1) s)
 
--- dup: the free descriptor k names what descriptor j names, which is the console or a program's file
+-- dup: the lowest free descriptor names what descriptor j names, which is the console or a program's file
 abbrev pub DupLaw : Type 0
 DupLaw =
-    (s : State) (p : ℕ) (l : Live) (c : Call) (j k f : ℕ) (x : OpenFile) (d : Descriptor) → IsLive s p l → j < NOFILE → get l.descriptors j ≡ Some f → get l.descriptors k ≡ None
+    (s : State) (p : ℕ) (l : Live) (c : Call) (j k f : ℕ) (x : OpenFile) (d : Descriptor) → IsLive s p l → c_int c.a0 ≡ pos j → j < NOFILE → get l.descriptors j ≡ Some f → IsLowestFree s p l k
     → get s.files f ≡ Some x → pipe_of_target x.target ≡ None → (view_of s p l).descriptors j ≡ Some d
-    → After s p l (dup_at c (view_of s p l) j d (Some k)) (own_state p (with_answer (pos k) (with_named k f l)) s)
+    → After s p l (dup c (view_of s p l)) (own_state p (with_answer (pos k) (with_named k f l)) s)
 
 -- or an end of a pipe: one descriptor more is on it
 abbrev pub DupPipeLaw : Type 0
 DupPipeLaw =
-    (s : State) (p : ℕ) (l : Live) (c : Call) (j k i n : ℕ) (end : End) (x : Pipe) (d : Descriptor) (on : OnPipe s p l j i n end x) → get l.descriptors k ≡ None
+    (s : State) (p : ℕ) (l : Live) (c : Call) (j k i n : ℕ) (end : End) (x : Pipe) (d : Descriptor) (on : OnPipe s p l j i n end x) → c_int c.a0 ≡ pos j → IsLowestFree s p l k
     → (view_of s p l).descriptors j ≡ Some d
-    → After s p l (dup_at c (view_of s p l) j d (Some k)) (piped_state p (with_answer (pos k) (with_named k on.file l)) i (joined x end 1) s)
+    → After s p l (dup c (view_of s p l)) (piped_state p (with_answer (pos k) (with_named k on.file l)) i (joined x end 1) s)
 
 -- close: descriptor k is free, and an open file that nobody names any more is given up
 abbrev pub closed_state : ℕ → Live → ℕ → FinMap nat_cmp OpenFile → FinMap nat_cmp Pipe → (freed : ℕ) → State → State
@@ -232,17 +245,17 @@ closed_state p l k files pipes freed s = changed_state p (with_answer (pos 0) (w
 abbrev pub CloseLaw : Type 0
 CloseLaw =
     (frames : ℕ) (s : State) (p : ℕ) (l : Live) (c : Call) (k f : ℕ) (x : OpenFile) (d : Descriptor) (files : FinMap nat_cmp OpenFile) → WellFormed frames s → IsLive s p l
-    → k < NOFILE → get l.descriptors k ≡ Some f → get s.files f ≡ Some x → pipe_of_target x.target ≡ None → (view_of s p l).descriptors k ≡ Some d
+    → c_int c.a0 ≡ pos k → k < NOFILE → get l.descriptors k ≡ Some f → get s.files f ≡ Some x → pipe_of_target x.target ≡ None → (view_of s p l).descriptors k ≡ Some d
     → FilesLeft s (closed_state p l k files s.pipes 0 s)
-    → After s p l (close_at c (view_of s p l) k d) (closed_state p l k files s.pipes 0 s)
+    → After s p l (close c (view_of s p l)) (closed_state p l k files s.pipes 0 s)
 
 -- or an end of a pipe: one descriptor fewer is on it, and a pipe that nobody is on any more gives its frame back
 abbrev pub ClosePipeLaw : Type 0
 ClosePipeLaw =
-    (frames : ℕ) (s : State) (p : ℕ) (l : Live) (c : Call) (k i n : ℕ) (end : End) (x : Pipe) (d : Descriptor) (files : FinMap nat_cmp OpenFile) (on : OnPipe s p l k i n end x) → WellFormed frames s
+    (frames : ℕ) (s : State) (p : ℕ) (l : Live) (c : Call) (k i n : ℕ) (end : End) (x : Pipe) (d : Descriptor) (files : FinMap nat_cmp OpenFile) (on : OnPipe s p l k i n end x) → WellFormed frames s → c_int c.a0 ≡ pos k
     → (view_of s p l).descriptors k ≡ Some d
     → FilesLeft s (closed_state p l k files (settled i (parted x end 1) s.pipes) (cond (is_given_up (parted x end 1)) 1 0) s)
-    → After s p l (close_at c (view_of s p l) k d) (closed_state p l k files (settled i (parted x end 1) s.pipes) (cond (is_given_up (parted x end 1)) 1 0) s)
+    → After s p l (close c (view_of s p l)) (closed_state p l k files (settled i (parted x end 1) s.pipes) (cond (is_given_up (parted x end 1)) 1 0) s)
 
 -- ---- well-formed states stay so
 

@@ -25,7 +25,7 @@ returns-in_default-used_descriptor-clause-made c =
     let k = c.args.self.now in
     let h = c.args.hart.now in
     let asked = to_z-of_z w32 c.c_int.result (record { sfits = c.c_int.type_inv }) ∙ c.c_int.ensures in
-    let row = dup-refused c.args.call.now (view_now k h) (c_int c.args.call.now.a0) (unused-shown c.requires.whole c.requires.running c.in-Some.is (c_int c.args.call.now.a0) (λ d below e. c.in_default-used_descriptor.ensures.unused d below (asked ∙ e))) in
+    let row = dup-refused c.args.call.now (view_now k h) (unused-shown c.requires.whole c.requires.running c.in-Some.is (c_int c.args.call.now.a0) (λ d below e. c.in_default-used_descriptor.ensures.unused d below (asked ∙ e))) in
     subst (λ (o : Own). Makes k h o c.done.new.self c.done.new.hart) (sym row)
     (done-at-once c.args.call.now minus_one refl c.requires.whole c.requires.running (record { sound = c.done.ensures.sound; kernel = c.done.ensures.kernel; state = c.done.ensures.state }))
 
@@ -34,7 +34,7 @@ returns-in_default-used_descriptor-clause-answer c =
     let k = c.args.self.now in
     let h = c.args.hart.now in
     let asked = to_z-of_z w32 c.c_int.result (record { sfits = c.c_int.type_inv }) ∙ c.c_int.ensures in
-    let row = dup-refused c.args.call.now (view_now k h) (c_int c.args.call.now.a0) (unused-shown c.requires.whole c.requires.running c.in-Some.is (c_int c.args.call.now.a0) (λ d below e. c.in_default-used_descriptor.ensures.unused d below (asked ∙ e))) in
+    let row = dup-refused c.args.call.now (view_now k h) (unused-shown c.requires.whole c.requires.running c.in-Some.is (c_int c.args.call.now.a0) (λ d below e. c.in_default-used_descriptor.ensures.unused d below (asked ∙ e))) in
     ap (λ (o : Own). o.answer) row ∙ ap (answer_of c.args.call.now.number) (sym c.done.ensures.end)
 
 pub share-requires-clause-may : goal.share-requires-clause-may

@@ -22,6 +22,14 @@ returns-in_default-clause-made c =
     subst (λ (o : Own). Makes k h o c.done.new.self c.done.new.hart) (sym row)
     (done-at-once c.args.call.now minus_one refl c.requires.whole c.requires.running (record { sound = c.done.ensures.sound; kernel = c.done.ensures.kernel; state = c.done.ensures.state }))
 
+pub returns-in_default-clause-answer : goal.returns-in_default-clause-answer
+returns-in_default-clause-answer c =
+    let k = c.args.self.now in
+    let h = c.args.hart.now in
+    let asked = to_z-of_z w32 c.c_int.result (record { sfits = c.c_int.type_inv }) ∙ c.c_int.ensures in
+    let row = none-row c.args.call.now (view_now k h) _ asked (sym c.asked_pid.ensures ∙ c.in_default.is) in
+    ap (λ (o : Own). o.answer) row ∙ ap (answer_of c.args.call.now.number) (sym c.done.ensures.end)
+
 pub done-requires-then-not-mark-clause-sound : goal.done-requires-then-not-mark-clause-sound
 done-requires-then-not-mark-clause-sound c =
     let k = c.args.self.now in
