@@ -16,7 +16,7 @@ use Rattle.exec_core.specs.ArgTexts.{terminated}
 use Rattle.kcall_core.specs.Buffers.{text_at, texts_at, no_slashes}
 use Rattle.kcall_core.specs.Programs.{program_named}
 use Rattle.kcall_core.specs.State.{ProgramFile, named_file}
-use Rattle.kcall_core.specs.Execs.{if_loaded, asked_program, asked_path, asked}
+use Rattle.kcall_core.specs.Execs.{Asks}
 
 -- ---- names
 
@@ -79,20 +79,27 @@ loaded-fits file texts l e =
     let segments = bound (segments_of file header.0) (with_texts file header.0 texts) l header.2 in
     texts-fit file header.0 texts segments.0 l segments.2
 
--- ---- what is asked for
+-- ---- what is asked for, as a function
+
+abbrev pub if_loaded : Result Loaded ExecError → Option Loaded
+if_loaded (Err e) = None
+if_loaded (Ok l) = Some l
+
+abbrev pub asked_program : Option (List (List ℕ)) → Option ProgramFile → Option Loaded
+asked_program None program = None
+asked_program (Some texts) None = None
+asked_program (Some texts) (Some program) = if_loaded (loaded program.bytes texts)
+
+abbrev pub asked_path : List ProgramFile → Option (List (List ℕ)) → Option (List ℕ) → Option Loaded
+asked_path programs texts None = None
+asked_path programs texts (Some path) = asked_program texts (program_named (no_slashes path) programs)
+
+-- the program that a process asks for, by the addresses of its path and of the pointers to its texts; none where a byte can't be read, no program has the name, or it can't be loaded
+abbrev pub asked : List ProgramFile → Image → (path pointers : ℕ) → Option Loaded
+asked programs image path pointers = asked_path programs (texts_at MAXARG ARG_BYTES image pointers) (text_at MAXPATH image path)
 
 no-some : {X : Type 0} (x : X) → None ≡ Some x → ⊥
 no-some x e = cc
-
--- what a program that is asked for stands on
-pub record Asks (programs : List ProgramFile) (image : Image) (path pointers : ℕ) (l : Loaded) : Type 0 where
-  pub name : List ℕ
-  pub texts : List (List ℕ)
-  pub program : ProgramFile
-  pub name_is : text_at MAXPATH image path ≡ Some name
-  pub texts_is : texts_at MAXARG ARG_BYTES image pointers ≡ Some texts
-  pub program_is : program_named (no_slashes name) programs ≡ Some program
-  pub loaded_is : loaded program.bytes texts ≡ Ok l
 
 pub asks-given : {programs : List ProgramFile} {image : Image} {path pointers : ℕ} {l : Loaded} → Asks programs image path pointers l → asked programs image path pointers ≡ Some l
 asks-given {programs} {image} {path} {pointers} {l} a =
@@ -121,8 +128,7 @@ asks-of programs image path pointers l e = by-name (text_at MAXPATH image path) 
     by-name (Some name) n t is same = by-program name n t is (program_named (no_slashes name) programs) refl same
 
 -- the texts of a program that is asked for are few
-pub asked-few : (programs : List ProgramFile) (image : Image) (path pointers : ℕ) (l : Loaded) → asked programs image path pointers ≡ Some l → l.argc ≤ ARG_BYTES
-asked-few programs image path pointers l is =
-    let a = asks-of programs image path pointers l is in
+pub asked-few : {programs : List ProgramFile} {image : Image} {path pointers : ℕ} {l : Loaded} → Asks programs image path pointers l → l.argc ≤ ARG_BYTES
+asked-few {programs} {image} {path} {pointers} {l} a =
     let f = loaded-fits a.program.bytes a.texts l a.loaded_is in
     omega (arith, f.1, f.2, few a.texts)

@@ -12,7 +12,7 @@ use Rattle.kcall_core.specs.State.{ProgramFile}
 use Rattle.kcall_core.specs.View.{View}
 use Rattle.kcall_core.specs.Own.{Own}
 use Rattle.kcall_core.specs.Calls.{exec, done, refused}
-use Rattle.kcall_core.specs.Execs.{asked, asked_path, asked_program, if_loaded}
+use Rattle.kcall_core.proofs.Asking.{asked, asked_path, asked_program, if_loaded}
 use Rattle.kcall_core.proofs.RowParts.{exec_path, exec_program, exec_loaded, running, unless}
 use Rattle.kcall_core.proofs.RowsByParts.{exec_same}
 

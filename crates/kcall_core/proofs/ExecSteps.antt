@@ -19,7 +19,7 @@ use Rattle.kcall_core.specs.View.{View, view_of}
 use Rattle.kcall_core.specs.Own.{Own, Called}
 use Rattle.kcall_core.specs.Calls.{exec, done, refused}
 use Rattle.kcall_core.specs.Updates.{started, own_state, with_answer}
-use Rattle.kcall_core.specs.Execs.{asked}
+use Rattle.kcall_core.specs.Execs.{Asks}
 use Rattle.kcall_core.specs.Holdings.{held_at, with_image}
 use Rattle.kcall_core.specs.Memories.{each_of, free_of, RunsIn, SlotChanges, Same}
 use Rattle.kcall_core.specs.Kernel.{state_of, slot_now, pid_now, live_now, IsSound, IsRunning}
@@ -31,20 +31,20 @@ use Rattle.kcall_core.specs.declared.call_end.CallEnd.{CallEnd}
 use Rattle.kcall_core.specs.declared.call_end.CallEnd.TheVariants.{Done}
 use Rattle.kcall_core.proofs.States.{runs-same}
 use Rattle.kcall_core.proofs.ExecRow.{exec_asked, exec-is}
-use Rattle.kcall_core.proofs.Asking.{asked-few}
+use Rattle.kcall_core.proofs.Asking.{asked-few, asked, asks-given, asks-of}
 use Rattle.kcall_core.proofs.Prepared.{Prepared, over, prepared-anew, prepared-same, prepared-makes}
 use Rattle.kcall_core.proofs.RowParts.{running, unless}
 
 -- the memories now hold the program that was asked for, and the hart uses its tables
 abbrev pub Replaced : Memories → Memories → List ProgramFile → (slot path pointers : ℕ) → Entry → Hart → Type 0
 Replaced old new programs slot path pointers start hart =
-    (l : Loaded) × (asked programs (held_at (each_of old) slot).image path pointers ≡ Some l) × (start ≡ record { pc = l.pc; sp = l.sp; argc = l.argc }) × (l.pc % 4 ≡ 0) × (price l.image ≤ free_of old)
+    (l : Loaded) × Asks programs (held_at (each_of old) slot).image path pointers l × (start ≡ record { pc = l.pc; sp = l.sp; argc = l.argc }) × (l.pc % 4 ≡ 0) × (price l.image ≤ free_of old)
     × SlotChanges old new slot (Some (with_image l.image (held_at (each_of old) slot))) × RunsIn new slot hart
 
 -- nothing changed, since no program was asked for that the free frames hold
 abbrev pub Unreplaced : Memories → Memories → List ProgramFile → (slot path pointers : ℕ) → Hart → Hart → Type 0
 Unreplaced old new programs slot path pointers hart hart' =
-    ((l : Loaded) → asked programs (held_at (each_of old) slot).image path pointers ≡ Some l → free_of old < price l.image) × Same old new × (hart' ≡ hart)
+    ((l : Loaded) → Asks programs (held_at (each_of old) slot).image path pointers l → free_of old < price l.image) × Same old new × (hart' ≡ hart)
 
 -- the registers with which a program starts
 abbrev pub begun : Registers → Entry → Registers
@@ -56,15 +56,15 @@ module _ (c : Call) (v : View) where
   cheap : (l : Loaded) → price l.image ≤ v.free → exec_asked c v (Some l) ≡ done c (pos l.argc) (running l v)
   cheap l fits = ap (λ b. unless b c v (λ _. done c (pos l.argc) (running l v))) (le-ltb v.free (price l.image) fits)
 
-  row-done : (l : Loaded) → asked v.programs v.image c.a0 c.a1 ≡ Some l → price l.image ≤ v.free → exec c v ≡ done c (pos l.argc) (running l v)
-  row-done l is fits = exec-is c v ∙ ap (exec_asked c v) is ∙ cheap l fits
+  row-done : (l : Loaded) → Asks v.programs v.image c.a0 c.a1 l → price l.image ≤ v.free → exec c v ≡ done c (pos l.argc) (running l v)
+  row-done l is fits = exec-is c v ∙ ap (exec_asked c v) (asks-given is) ∙ cheap l fits
 
-  row-refused : ((l : Loaded) → asked v.programs v.image c.a0 c.a1 ≡ Some l → v.free < price l.image) → exec c v ≡ refused c v
+  row-refused : ((l : Loaded) → Asks v.programs v.image c.a0 c.a1 l → v.free < price l.image) → exec c v ≡ refused c v
   row-refused dear = exec-is c v ∙ by (asked v.programs v.image c.a0 c.a1) refl
     where
       by : (o : Option Loaded) → asked v.programs v.image c.a0 c.a1 ≡ o → exec_asked c v o ≡ refused c v
       by None is = refl
-      by (Some l) is = ap (λ b. unless b c v (λ _. done c (pos l.argc) (running l v))) (lt-ltb v.free (price l.image) (dear l is))
+      by (Some l) is = ap (λ b. unless b c v (λ _. done c (pos l.argc) (running l v))) (lt-ltb v.free (price l.image) (dear l (asks-of v.programs v.image c.a0 c.a1 l is)))
 
 -- ---- what `done` says of the kernel in which the program was replaced, or wasn't
 
@@ -84,7 +84,7 @@ module _ (k : Kernel) (h h1 : Hart) (m : Memories) (c : Call) (whole : IsWhole k
         prepared-anew whole.sound runs to.5 (runs-same (begun h1.regs start) e to.6) regs
 
     few-texts : to.0.argc ≤ ARG_BYTES
-    few-texts = asked-few (map named_file k.programs.items) (held_at (each_of k.memories) (slot_now k)).image c.a0 c.a1 to.0 to.1
+    few-texts = asked-few to.1
 
     -- the number of texts, as an answer
     pub exec-count : (count : ℤ) → count ≡ cast_signed w64 start.argc → cast_signed w64 (cast_unsigned w64 count) ≡ pos to.0.argc

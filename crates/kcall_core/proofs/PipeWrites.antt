@@ -16,7 +16,8 @@ use Rattle.proc_table.specs.Slots.{each_changed}
 use Rattle.proc_table.specs.declared.channel.Channel.{Channel}
 use Rattle.proc_table.specs.declared.channel.Channel.TheVariants as on
 use Rattle.proc_table.specs.declared.process.Call.{Call}
-use Rattle.kcall_core.specs.Words.{all_below}
+use Rattle.xk_base.specs.declared.access.Access.TheVariants.{Load}
+use Rattle.user_copy.proofs.Ranges.{reaches-none}
 use Rattle.kcall_core.specs.Buffers.{readable}
 use Rattle.kcall_core.specs.PipeEnds.{fit}
 use Rattle.kcall_core.specs.Processes.{Live, Alive}
@@ -59,8 +60,7 @@ above a b e = elim (cases_lt a b) [ inl less ↦ absurd (clash (lt-ltb a b less)
     clash t f = cc
 
 nothing : (i : Image) (a : ℕ) → readable i a 0 ≡ true
-unfolding all_below
-nothing i a = refl
+nothing i a = reaches-none Load i a
 
 -- nobody wakes where no byte came
 pub none-came : (f n : ℕ) (d : Channel) → n ≡ 0 → wakes_readers f n d ≡ false

@@ -48,10 +48,10 @@ passes b e x is = ap (λ (b : Bool). (e when b) >> x) is
 
 pub exec_law : ExecLaw
 unfolding view_of
-exec_law s p l c path texts program new was path-is texts-are named loads fits =
+exec_law s p l c new was a fits =
     let v = view_of s p l in
     let row : exec c v ≡ done c (pos new.argc) (running new v) =
-    exec_case c v path texts program path-is texts-are named ∙ ap (exec_loaded c v) loads
+    exec_case c v a.name a.texts a.program a.name_is a.texts_is a.program_is ∙ ap (exec_loaded c v) a.loaded_is
     ∙ ap (λ (b : Bool). unless b c v (λ _. done c (pos new.argc) (running new v))) (le-ltb s.free (price new.image) fits) in
     subst (λ (o : Own). After s p l o (alone_state p (with_answer (pos new.argc) (started new l)) s.console (s.free + price l.image - price new.image) s)) (sym row) (in-alone.exec s p l c new was)
 

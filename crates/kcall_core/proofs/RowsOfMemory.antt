@@ -1,13 +1,14 @@
 -- Worked cases of what the kernel reads of a process's memory: buffers, texts and lists of texts. The cells that user code sees are given.
-use Rattle.std.proofs.Common.{◌≡◌, ℕ, true, false, Bool, List, [], ◌∷◌, refl, ap, ◌∙◌}
-use Rattle.std.specs.Prelude.{Option, None, Some, codes, cond, nat_eq, ◌&&◌}
+use Rattle.std.proofs.Common.{◌≡◌, ℕ, suc, ◌+◌, true, false, Bool, List, [], ◌∷◌, refl, ap, ◌∙◌}
+use Rattle.std.specs.Prelude.{Option, None, Some, codes, cond, ◌&&◌}
 use Rattle.xk_base.specs.Words.{le}
 use Rattle.xk_base.specs.Bytes.{image_bytes}
 use Rattle.xk_base.specs.Image.{Image}
 use Rattle.rv64i_core.specs.Memory.{Cell}
 use Rattle.hart_core.specs.UserMemory.{user, cell_in}
-use Rattle.kcall_core.specs.Words.{all_below}
-use Rattle.kcall_core.specs.Buffers.{readable, writable, may_read, may_write, text_at, cell_text, text_from, texts_at, texts_from, with_text, pointer_at, no_slashes}
+use Rattle.kcall_core.proofs.UserBytes.{may_read, may_write, cell_text, byte-read, byte-write, text-cell}
+use Rattle.user_copy.specs.Reach.{reaches}
+use Rattle.kcall_core.specs.Buffers.{readable, writable, text_at, text_from, texts_at, texts_from, with_text, pointer_at, no_slashes}
 
 -- a byte that may be read and written, one that may be read alone, and one that may be run alone
 abbrev open_cell : ℕ → Cell
@@ -29,72 +30,60 @@ user_page = refl
 module _ (i : Image) where
   -- ---- buffers of two bytes at 10
 
-  both_if : (Option Cell → Bool) → Option Cell → Option Cell → Bool
-  both_if may first second = all_below 2 (λ k. may (cond (nat_eq k 0) first second))
-
   abbrev at_10 : Option Cell → Option Cell → Type 0
   at_10 first second = (user i 10 ≡ first) × (user i 11 ≡ second)
 
-  readable_as : (first second : Option Cell) → at_10 first second → readable i 10 2 ≡ both_if may_read first second
-  unfolding all_below both_if
-  readable_as first second (one, two) = ap (λ (c : Option Cell). may_read c && may_read (user i 11)) one ∙ ap (λ (c : Option Cell). may_read first && may_read c) two
+  readable_as : (first second : Option Cell) → at_10 first second → readable i 10 2 ≡ (may_read first && (may_read second && true))
+  unfolding reaches
+  readable_as first second (one, two) = λ j. (byte-read i 10 ∙ ap may_read one) j && ((byte-read i 11 ∙ ap may_read two) j && true)
 
-  writable_as : (first second : Option Cell) → at_10 first second → writable i 10 2 ≡ both_if may_write first second
-  unfolding all_below both_if
-  writable_as first second (one, two) = ap (λ (c : Option Cell). may_write c && may_write (user i 11)) one ∙ ap (λ (c : Option Cell). may_write first && may_write c) two
+  writable_as : (first second : Option Cell) → at_10 first second → writable i 10 2 ≡ (may_write first && (may_write second && true))
+  unfolding reaches
+  writable_as first second (one, two) = λ j. (byte-write i 10 ∙ ap may_write one) j && ((byte-write i 11 ∙ ap may_write two) j && true)
 
   reads_both : at_10 (Some (open_cell 1)) (Some (read_cell 2)) → readable i 10 2 ≡ true
-  unfolding all_below both_if
   reads_both at = readable_as (Some (open_cell 1)) (Some (read_cell 2)) at
 
   reads_not_first : at_10 None (Some (open_cell 2)) → readable i 10 2 ≡ false
-  unfolding all_below both_if
   reads_not_first at = readable_as None (Some (open_cell 2)) at
 
   reads_not_second : at_10 (Some (open_cell 1)) (Some (run_cell 2)) → readable i 10 2 ≡ false
-  unfolding all_below both_if
   reads_not_second at = readable_as (Some (open_cell 1)) (Some (run_cell 2)) at
 
   writes_both : at_10 (Some (open_cell 1)) (Some (open_cell 2)) → writable i 10 2 ≡ true
-  unfolding all_below both_if
   writes_both at = writable_as (Some (open_cell 1)) (Some (open_cell 2)) at
 
   writes_not_first : at_10 (Some (read_cell 1)) (Some (open_cell 2)) → writable i 10 2 ≡ false
-  unfolding all_below both_if
   writes_not_first at = writable_as (Some (read_cell 1)) (Some (open_cell 2)) at
 
   writes_not_second : at_10 (Some (open_cell 1)) None → writable i 10 2 ≡ false
-  unfolding all_below both_if
   writes_not_second at = writable_as (Some (open_cell 1)) None at
 
   -- ---- texts at 20
 
+  -- the text that the cell at an address begins
+  first_cell : (limit a : ℕ) (c : Option Cell) → user i a ≡ c → text_at (suc limit) i a ≡ cell_text c (text_at limit i (a + 1))
+  first_cell limit a c is = text-cell limit a i ∙ ap (λ (c : Option Cell). cell_text c (text_at limit i (a + 1))) is
+
   -- `ab` and its zero byte, of which a limit of 3 has room
   text_ab : user i 20 ≡ Some (open_cell 97) → user i 21 ≡ Some (read_cell 98) → user i 22 ≡ Some (open_cell 0) → text_at 3 i 20 ≡ Some (codes "ab")
-  unfolding text_at
-  text_ab a b zero =
-      ap (λ (c : Option Cell). cell_text c (text_at 2 i 21)) a
-      ∙ ap (λ (c : Option Cell). text_from 97 (cell_text c (text_at 1 i 22))) b
-      ∙ ap (λ (c : Option Cell). text_from 97 (text_from 98 (cell_text c None))) zero
+  text_ab a b zero = first_cell 2 20 (Some (open_cell 97)) a ∙ ap (text_from 97) (first_cell 1 21 (Some (read_cell 98)) b ∙ ap (text_from 98) (first_cell 0 22 (Some (open_cell 0)) zero))
 
   -- a limit of 2 hasn't
   text_long : user i 20 ≡ Some (open_cell 97) → user i 21 ≡ Some (open_cell 98) → text_at 2 i 20 ≡ None
   unfolding text_at
-  text_long a b = ap (λ (c : Option Cell). cell_text c (text_at 1 i 21)) a ∙ ap (λ (c : Option Cell). text_from 97 (cell_text c None)) b
+  text_long a b = first_cell 1 20 (Some (open_cell 97)) a ∙ ap (text_from 97) (first_cell 0 21 (Some (open_cell 98)) b)
 
   -- nothing behind the zero byte has to be there
   text_empty : user i 20 ≡ Some (open_cell 0) → text_at 3 i 20 ≡ Some []
-  unfolding text_at
-  text_empty zero = ap (λ (c : Option Cell). cell_text c (text_at 2 i 21)) zero
+  text_empty zero = first_cell 2 20 (Some (open_cell 0)) zero
 
   -- a byte before it does, and has to be readable
   text_cut : user i 20 ≡ Some (open_cell 97) → user i 21 ≡ None → text_at 3 i 20 ≡ None
-  unfolding text_at
-  text_cut a none = ap (λ (c : Option Cell). cell_text c (text_at 2 i 21)) a ∙ ap (λ (c : Option Cell). text_from 97 (cell_text c (text_at 1 i 22))) none
+  text_cut a none = first_cell 2 20 (Some (open_cell 97)) a ∙ ap (text_from 97) (first_cell 1 21 None none)
 
   text_hidden : user i 20 ≡ Some (run_cell 0) → text_at 3 i 20 ≡ None
-  unfolding text_at
-  text_hidden zero = ap (λ (c : Option Cell). cell_text c (text_at 2 i 21)) zero
+  text_hidden zero = first_cell 2 20 (Some (run_cell 0)) zero
 
   -- ---- lists of texts at 64: pointers 8 bytes apart, up to a pointer 0
 

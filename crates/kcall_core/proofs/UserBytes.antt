@@ -2,7 +2,6 @@
 use Rattle.std.proofs.Common.{◌≡◌, ◌≢◌, ℕ, zero, suc, ◌+◌, ◌/◌, ◌%◌, ◌^◌, ◌<◌, ◌≤◌, Bool, true, false, cond, ◌&&◌, List, take, ◌++◌, [], ◌∷◌, Option, Some, None, inl, inr, refl, sym, ap, ◌∙◌, arith}
 use Rattle.std.specs.Prelude.{option_map, if◌then◌else◌, ◌==◌}
 use Rattle.std.proofs.lemmas.Bool.{cases_lt, cases_eq, and_from, and_parts, eq-eqb, ne_eqb, false≢true}
-use Rattle.std.specs.List.{list_all, range_with_len}
 use Rattle.std.proofs.Math.Seq.{take-append_seam}
 use Rattle.std.proofs.lemmas.List.FromFn.{length-map-range_with_len}
 use Rattle.std.specs.FinMap.{get}
@@ -18,11 +17,22 @@ use Rattle.hart_core.specs.UserMemory.{cell_in, user}
 use Rattle.user_copy.specs.Reach.{allows, may, reaches, ends_after, text_length}
 use Rattle.user_copy.proofs.Ranges.{reaches-none, reaches-not, reaches-fewer, may-beyond}
 use Rattle.user_copy.proofs.Texts.{text-readable}
-use Rattle.kcall_core.specs.Words.{all_below}
-use Rattle.kcall_core.specs.Buffers.{may_read, may_write, readable, writable, text_from, cell_text, text_at, pointer_at}
+use Rattle.kcall_core.specs.Buffers.{text_from, text_at, pointer_at}
 use Rattle.kcall_core.proofs.Least.{least_passes, none_passes, least_least}
 
 -- ---- one byte
+
+abbrev pub may_read : Option Cell → Bool
+may_read None = false
+may_read (Some c) = c.read
+
+abbrev pub may_write : Option Cell → Bool
+may_write None = false
+may_write (Some c) = c.write
+
+abbrev pub cell_text : Option Cell → Option (List ℕ) → Option (List ℕ)
+cell_text None rest = None
+cell_text (Some c) rest = if c.read then text_from c.byte rest else None
 
 shown-read : (u : Bool) (c : Cell) → (u && c.read) ≡ may_read (if u then Some c else None)
 shown-read true c = refl
@@ -43,56 +53,22 @@ cell-write : (o : Option Page) (k : ℕ) → allows Store (option_map perm_of_pa
 cell-write None k = refl
 cell-write (Some page) k = shown-write page.perm.user (record { read = page.perm.read; write = page.perm.write; execute = page.perm.execute; byte = byte_in (Some page) k })
 
-byte-read : (i : Image) (a : ℕ) → may Load i a ≡ may_read (user i a)
+-- the kernel may read where user code may read, and write where it may write
+pub byte-read : (i : Image) (a : ℕ) → may Load i a ≡ may_read (user i a)
 unfolding user
 byte-read i a = cell-read (get i.pages (a / 4096)) (a % 4096)
 
-byte-write : (i : Image) (a : ℕ) → may Store i a ≡ may_write (user i a)
+pub byte-write : (i : Image) (a : ℕ) → may Store i a ≡ may_write (user i a)
 unfolding user
 byte-write i a = cell-write (get i.pages (a / 4096)) (a % 4096)
-
--- ---- ranges
-
-and-true : (b : Bool) → (b && true) ≡ b
-and-true true = refl
-and-true false = refl
-
-and-assoc : (a b c : Bool) → ((a && b) && c) ≡ (a && (b && c))
-and-assoc true b c = refl
-and-assoc false b c = refl
-
--- the first number, and those behind it
-all-first : (n : ℕ) (test : ℕ → Bool) → all_below (suc n) test ≡ (test 0 && all_below n (λ k. test (suc k)))
-unfolding all_below
-all-first zero test = sym (and-true (test 0))
-all-first (suc n) test = ap (λ b. b && test (suc n)) (all-first n test) ∙ and-assoc (test 0) (all_below n (λ k. test (suc k))) (test (suc n))
-
-all-range : (n a : ℕ) (f g : ℕ → Bool) → ((x : ℕ) → f x ≡ g x) → list_all f (range_with_len a n) ≡ all_below n (λ k. g (a + k))
-unfolding all_below
-all-range zero a f g same = refl
-all-range (suc n) a f g same =
-    let here : a ≡ a + 0 = omega arith in
-    let step : (k : ℕ) → a + 1 + k ≡ a + suc k = λ k. omega arith in
-    ap (λ b. f a && b) (all-range n (a + 1) f g same)
-    ∙ ap (λ b. b && all_below n (λ k. g (a + 1 + k))) (same a ∙ ap g here)
-    ∙ (λ j. g (a + 0) && all_below n (λ k. g (step k j)))
-    ∙ sym (all-first n (λ k. g (a + k)))
-
-pub reaches-readable : (i : Image) (a n : ℕ) → reaches Load i a n ≡ readable i a n
-unfolding reaches
-reaches-readable i a n = all-range n a (may Load i) (λ x. may_read (user i x)) (byte-read i)
-
-pub reaches-writable : (i : Image) (a n : ℕ) → reaches Store i a n ≡ writable i a n
-unfolding reaches
-reaches-writable i a n = all-range n a (may Store i) (λ x. may_write (user i x)) (byte-write i)
 
 -- ---- numbers
 
 pub pointer-there : (i : Image) (a n : ℕ) → reaches Load i a 8 ≡ true → n ≡ le (image_bytes i a 8) → pointer_at i a ≡ Some n
-pointer-there i a n fine is = ap (λ b. cond b (Some (le (image_bytes i a 8))) None) (sym (reaches-readable i a 8) ∙ fine) ∙ ap Some (sym is)
+pointer-there i a n fine is = ap (λ b. cond b (Some (le (image_bytes i a 8))) None) fine ∙ ap Some (sym is)
 
 pub pointer-none : (i : Image) (a : ℕ) → reaches Load i a 8 ≡ false → pointer_at i a ≡ None
-pointer-none i a bad = ap (λ b. cond b (Some (le (image_bytes i a 8))) None) (sym (reaches-readable i a 8) ∙ bad)
+pointer-none i a bad = ap (λ b. cond b (Some (le (image_bytes i a 8))) None) bad
 
 -- no page lies there or above
 pub low-read : (ram : List (List ℕ)) (space : Space) (a : ℕ) → reaches Load (image_of ram space) a 8 ≡ true → a + 8 ≤ 2 ^ 38
@@ -126,13 +102,22 @@ begins-not (Some page) k rest is = by page.perm.user page.perm.read (record { re
     by true false c e t = ap (λ b. cond b (text_from c.byte rest) None) e
     by false r c e t = refl
 
-text-first : (m a : ℕ) (i : Image) → may Load i a ≡ true → text_at (suc m) i a ≡ text_from (image_byte i a) (text_at m i (a + 1))
+-- the first byte of a text, as user code sees it
+pub text-cell : (m a : ℕ) (i : Image) → text_at (suc m) i a ≡ cell_text (user i a) (text_at m i (a + 1))
 unfolding text_at user
-text-first m a i is = begins (get i.pages (a / 4096)) (a % 4096) (text_at m i (a + 1)) is
+text-cell m a i = by (may Load i a) refl
+  where
+    by : (b : Bool) → may Load i a ≡ b → (if b then text_from (image_byte i a) (text_at m i (a + 1)) else None) ≡ cell_text (cell_in (get i.pages (a / 4096)) (a % 4096)) (text_at m i (a + 1))
+    by true is = sym (begins (get i.pages (a / 4096)) (a % 4096) (text_at m i (a + 1)) is)
+    by false is = sym (begins-not (get i.pages (a / 4096)) (a % 4096) (text_at m i (a + 1)) is)
+
+text-first : (m a : ℕ) (i : Image) → may Load i a ≡ true → text_at (suc m) i a ≡ text_from (image_byte i a) (text_at m i (a + 1))
+unfolding text_at
+text-first m a i is = ap (λ (b : Bool). if b then text_from (image_byte i a) (text_at m i (a + 1)) else None) is
 
 text-stops : (m a : ℕ) (i : Image) → may Load i a ≡ false → text_at (suc m) i a ≡ None
-unfolding text_at user
-text-stops m a i is = begins-not (get i.pages (a / 4096)) (a % 4096) (text_at m i (a + 1)) is
+unfolding text_at
+text-stops m a i is = ap (λ (b : Bool). if b then text_from (image_byte i a) (text_at m i (a + 1)) else None) is
 
 -- one byte more in front
 reaches-first : (i : Image) (a n : ℕ) → reaches Load i a (suc n) ≡ (may Load i a && reaches Load i (a + 1) n)

@@ -1,50 +1,37 @@
 -- What the kernel reads from a process's memory, what it writes to it, and how memory grows and shrinks
 -- (the xv6 book, "Code: exec", "Code: System call arguments", and "Code: sbrk" for growth).
--- The kernel reads where user code may read, and writes where user code may write.
-use Rattle.std.specs.Prelude.{ℕ, zero, suc, ◌+◌, Bool, true, false, cond, List, [], ◌∷◌, Option, None, Some, nat_eq, option_map}
+-- The kernel reads where user code may read, and writes where user code may write (`Reach` of user_copy).
+use Rattle.std.specs.Prelude.{ℕ, zero, suc, ◌+◌, Bool, true, false, if◌then◌else◌, List, [], ◌∷◌, Option, None, Some, nat_eq, option_map}
 use Rattle.xk_base.specs.Words.{le}
 use Rattle.xk_base.specs.Image.{Image}
-use Rattle.xk_base.specs.Bytes.{image_bytes}
+use Rattle.xk_base.specs.Bytes.{image_byte, image_bytes}
+use Rattle.xk_base.specs.declared.access.Access.TheVariants.{Load, Store}
 use Rattle.xk_base.specs.declared.access.Rights.{Rights}
 use Rattle.addr_space.specs.Changes.{grown as grown_with, shrunk as shrunk_to}
-use Rattle.rv64i_core.specs.Memory.{Cell}
-use Rattle.hart_core.specs.UserMemory.{user}
-use Rattle.kcall_core.specs.Words.{all_below}
-
-abbrev pub may_read : Option Cell → Bool
-may_read None = false
-may_read (Some c) = c.read
-
-abbrev pub may_write : Option Cell → Bool
-may_write None = false
-may_write (Some c) = c.write
+use Rattle.user_copy.specs.Reach.{may, reaches}
 
 -- all n bytes from address a on may be read
 abbrev pub readable : Image → ℕ → ℕ → Bool
-readable i a n = all_below n (λ k. may_read (user i (a + k)))
+readable i a n = reaches Load i a n
 
 -- all n bytes from address a on may be written
 abbrev pub writable : Image → ℕ → ℕ → Bool
-writable i a n = all_below n (λ k. may_write (user i (a + k)))
+writable i a n = reaches Store i a n
 
 -- ---- texts and pointers
 
 -- the byte at an address, then the text behind it, where the byte isn't the zero byte that ends a text
 abbrev pub text_from : ℕ → Option (List ℕ) → Option (List ℕ)
-text_from byte rest = cond (nat_eq byte 0) (Some []) (option_map (λ bytes. byte ∷ bytes) rest)
-
-abbrev pub cell_text : Option Cell → Option (List ℕ) → Option (List ℕ)
-cell_text None rest = None
-cell_text (Some c) rest = cond c.read (text_from c.byte rest) None
+text_from byte rest = if nat_eq byte 0 then Some [] else option_map (λ bytes. byte ∷ bytes) rest
 
 -- the text at address a, without its zero byte, which is among the first `limit` bytes; none where a byte before it may not be read
 unfoldable pub text_at : (limit : ℕ) → Image → ℕ → Option (List ℕ)
 text_at zero i a = None
-text_at (suc limit) i a = cell_text (user i a) (text_at limit i (a + 1))
+text_at (suc limit) i a = if may Load i a then text_from (image_byte i a) (text_at limit i (a + 1)) else None
 
 -- the pointer at address a
 abbrev pub pointer_at : Image → ℕ → Option ℕ
-pointer_at i a = cond (readable i a 8) (Some (le (image_bytes i a 8))) None
+pointer_at i a = if readable i a 8 then Some (le (image_bytes i a 8)) else None
 
 abbrev pub with_text : Option (List ℕ) → Option (List (List ℕ)) → Option (List (List ℕ))
 with_text None rest = None
@@ -53,7 +40,7 @@ with_text (Some text) rest = option_map (λ texts. text ∷ texts) rest
 -- a pointer 0 ends the list of pointers
 abbrev pub texts_from : Option ℕ → (ℕ → Option (List (List ℕ))) → Option (List (List ℕ))
 texts_from None rest = None
-texts_from (Some p) rest = cond (nat_eq p 0) (Some []) (rest p)
+texts_from (Some p) rest = if nat_eq p 0 then Some [] else rest p
 
 -- the texts that the pointers from address a on lead to, up to a pointer 0: at most `more` of them, each with at most `limit` bytes
 unfoldable pub texts_at : (more : ℕ) (limit : ℕ) → Image → ℕ → Option (List (List ℕ))
@@ -63,7 +50,7 @@ texts_at (suc more) limit i a = texts_from (pointer_at i a) (λ p. with_text (te
 -- a name without its leading slashes (47)
 unfoldable pub no_slashes : List ℕ → List ℕ
 no_slashes [] = []
-no_slashes (b ∷ bs) = cond (nat_eq b 47) (no_slashes bs) (b ∷ bs)
+no_slashes (b ∷ bs) = if nat_eq b 47 then no_slashes bs else b ∷ bs
 
 -- ---- a larger and a smaller size
 

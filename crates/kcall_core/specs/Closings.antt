@@ -1,5 +1,5 @@
 -- A process that runs closes descriptors: what is left of the kernel, and who wakes.
-use Rattle.std.specs.Prelude.{◌≡◌, ℕ, ◌+◌, ◌&&◌, Bool, false, cond, not, Option, None, Some, nat_eq, nat_lt, option_map}
+use Rattle.std.specs.Prelude.{◌≡◌, ℕ, ◌+◌, ◌&&◌, Bool, false, if◌then◌else◌, not, Option, None, Some, nat_eq, nat_lt, option_map}
 use Rattle.std.specs.FinMap.{FinMap, get}
 use Rattle.std.specs.Ordering.{nat_cmp}
 use Rattle.xk_base.specs.declared.limits.TheConstants.{NOFILE}
@@ -47,7 +47,7 @@ closes_wake m n _ = false
 -- what is slept on still, where those wake whose channel is one of these
 abbrev pub unless_woken : (Channel → Bool) → Option Channel → Option Channel
 unless_woken wakes None = None
-unless_woken wakes (Some channel) = cond (wakes channel) None (Some channel)
+unless_woken wakes (Some channel) = if wakes channel then None else Some channel
 
 abbrev pub state_woken_by : (Channel → Bool) → table.State → table.State
 state_woken_by wakes (Live_state marked call channel) = Live_state marked call (unless_woken wakes channel)
@@ -96,7 +96,7 @@ pub record Closes (k : Kernel) (h : Hart) (d : ℕ) (k' : Kernel) : Type 0 where
 pub record ClosesFrom (k : Kernel) (h : Hart) (n : ℕ) (k' : Kernel) : Type 0 where
   pub after : IsClosing k' h
   pub remains : Remains k h k'
-  pub descriptors : (d : ℕ) → get (live_now k' h).descriptors d ≡ cond (nat_lt d n) (get (live_now k h).descriptors d) None
+  pub descriptors : (d : ℕ) → get (live_now k' h).descriptors d ≡ (if nat_lt d n then get (live_now k h).descriptors d else None)
   pub state : let s = state_of k h in let t = state_of k' h in
       t ≡ changed_state (pid_now k) (record (live_now k h) { descriptors = (live_now k' h).descriptors }) t.files t.pipes s.console t.free s
   pub pipes : let s = state_of k h in let l = live_now k h in fewer_on_all s l n (state_of k' h).pipes ≡ fewer_on_all s l NOFILE s.pipes

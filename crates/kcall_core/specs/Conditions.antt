@@ -1,5 +1,5 @@
 -- What a sleeper waits for, and what an event has to wake (the xv6 book, "Sleep and wakeup").
-use Rattle.std.specs.Prelude.{◌≡◌, ℕ, ◌+◌, ◌-◌, ◌%◌, Bool, true, false, cond, not, ◌||◌, Option, None, Some, ℤ, pos, negsuc, nat_eq, nat_lt, nat_le, length, is_some, find, ◌⊎◌, ◌≢◌, ◌↔◌, IsSome}
+use Rattle.std.specs.Prelude.{◌≡◌, ℕ, ◌+◌, ◌-◌, ◌%◌, Bool, true, false, if◌then◌else◌, not, ◌||◌, Option, None, Some, ℤ, pos, negsuc, nat_eq, nat_lt, nat_le, length, is_some, find, ◌⊎◌, ◌≢◌, ◌↔◌, IsSome}
 use Rattle.std.specs.List.{list_any}
 use Rattle.std.specs.FinMap.{FinMap, get, keys}
 use Rattle.std.specs.Ordering.{nat_cmp}
@@ -71,7 +71,7 @@ write_waits_for (Some (Pipe_end i end)) = Room i
 
 -- what the descriptor of this number is on
 abbrev pub target_at : State → Live → ℤ → Option Target
-target_at s l (pos d) = cond (nat_lt d NOFILE) (end_of s (get l.descriptors d)) None
+target_at s l (pos d) = if nat_lt d NOFILE then end_of s (get l.descriptors d) else None
 target_at s l (negsuc k) = None
 
 -- what sleep waits for

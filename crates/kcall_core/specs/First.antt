@@ -1,5 +1,5 @@
 -- The state after boot, or why there is none (the xv6 book, "Code: starting xv6, the first process and system call").
-use Rattle.std.specs.Prelude.{◌≡◌, ℕ, ◌+◌, ◌-◌, false, cond, ◌||◌, List, [], ◌∷◌, Option, None, Some, Result, Ok, Err, nat_lt}
+use Rattle.std.specs.Prelude.{◌≡◌, ℕ, ◌+◌, ◌-◌, false, if◌then◌else◌, ◌||◌, List, [], ◌∷◌, Option, None, Some, Result, Ok, Err, nat_lt}
 use Rattle.std.specs.FinSet as set
 use Rattle.std.specs.FinMap.{empty, insert}
 use Rattle.xk_base.specs.declared.limits.TheConstants.{NPROC, FRAMES_MIN, FRAMES_MAX, TRACE_MAX}
@@ -46,8 +46,8 @@ first_turns = record { slots = insert empty 1 0; sleepers = set.empty; last = NP
 abbrev pub first_loaded : (frames : ℕ) → List ProgramFile → Result Loaded ExecError → Result World BootError
 first_loaded frames programs (Err e) = Err (Init e)
 first_loaded frames programs (Ok l) =
-    cond (nat_lt frames (price l.image + 1)) (Err (Init NoFrames))
-    (Ok (record { state = first_state frames programs l; turns = first_turns }))
+    if nat_lt frames (price l.image + 1) then Err (Init NoFrames)
+    else Ok (record { state = first_state frames programs l; turns = first_turns })
 
 abbrev pub first_init : (frames : ℕ) → List ProgramFile → Option ProgramFile → Result World BootError
 first_init frames programs None = Err NoInit
@@ -60,8 +60,8 @@ first_programs frames programs None = first_init frames programs (init_of progra
 -- a machine of so many frames, whose trace keeps so many notes
 unfoldable pub first : (frames trace : ℕ) → List ProgramFile → Result World BootError
 first frames trace programs =
-    cond (nat_lt frames FRAMES_MIN || nat_lt FRAMES_MAX frames || nat_lt TRACE_MAX trace) (Err BadConfig)
-    (first_programs frames programs (first_bad programs))
+    if nat_lt frames FRAMES_MIN || nat_lt FRAMES_MAX frames || nat_lt TRACE_MAX trace then Err BadConfig
+    else first_programs frames programs (first_bad programs)
 
 -- ---- laws: the state after boot is well-formed, and process 1 has its slot
 

@@ -1,5 +1,5 @@
 -- A process is made: its slot, its memory and its descriptors, one after another.
-use Rattle.std.specs.Prelude.{◌≡◌, ◌≢◌, ℕ, ◌+◌, ◌<◌, ◌⊎◌, cond, nat_lt, None, Some, length, set}
+use Rattle.std.specs.Prelude.{◌≡◌, ◌≢◌, ℕ, ◌+◌, ◌<◌, ◌⊎◌, if◌then◌else◌, nat_lt, None, Some, length, set}
 use Rattle.xk_base.specs.declared.limits.TheConstants.{NPROC}
 use Rattle.xk_base.specs.Image.{price}
 use Rattle.rv64i_core.specs.Registers.{fresh}
@@ -39,7 +39,7 @@ pub record IsHanded (k : Kernel) (h : Hart) (child n : ℕ) (k' : Kernel) : Type
   pub counted : AreCounted k'.files k'.table
   pub same : (f : ℕ) → file_at k'.files f ≡ file_at k.files f
   pub others : (j : ℕ) → j ≢ child → descriptors_at k'.table j ≡ descriptors_at k.table j
-  pub given : (d : ℕ) → named_by (descriptors_at k'.table child) d ≡ cond (nat_lt d n) (named_by (descriptors_at k.table (slot_now k)) d) None
+  pub given : (d : ℕ) → named_by (descriptors_at k'.table child) d ≡ (if nat_lt d n then named_by (descriptors_at k.table (slot_now k)) d else None)
   pub each : each_of k'.memories ≡ set (each_of k.memories) child (Some (with_saved (fresh 0) (held_at (each_of k.memories) (slot_now k))))
   pub pipes : pipes_of k'.memories ≡ more_on_all (state_of k h) (live_now k h) n
   pub free : free_of k'.memories + (price (live_now k h).image + 1) ≡ free_of k.memories

@@ -1,5 +1,5 @@
 -- The state that the kernel and its hart stand for, and when the two are sound.
-use Rattle.std.specs.Prelude.{◌≡◌, ℕ, suc, ◌+◌, ◌-◌, ◌<◌, nat_le, nat_lt, ℤ, pos, negsuc, cond, List, map, length, Option, Some, None, IsSome, get_or}
+use Rattle.std.specs.Prelude.{◌≡◌, ℕ, suc, ◌+◌, ◌-◌, ◌<◌, nat_le, nat_lt, ℤ, pos, negsuc, if◌then◌else◌, List, map, length, Option, Some, None, IsSome, get_or}
 use Rattle.std.specs.Ordering.{nat_cmp}
 use Rattle.std.specs.FinMap.{FinMap}
 use Rattle.xk_base.specs.Gathered.{gathered}
@@ -53,7 +53,7 @@ process_of p descriptors held regs = by_status p.parent (live_of p descriptors h
 
 -- the registers of the process in a slot: the hart's while it runs, else those in its trapframe
 abbrev pub regs_at : Kernel → Hart → ℕ → Registers
-regs_at k h slot = cond (is_this slot k.current) h.regs (held_at (each_of k.memories) slot).saved
+regs_at k h slot = if is_this slot k.current then h.regs else (held_at (each_of k.memories) slot).saved
 
 abbrev pub entry_of : Kernel → Hart → ℕ → Option Process → Option (ℕ × meaning.Process)
 entry_of k h slot None = None
@@ -145,12 +145,12 @@ pub record IsRepriced (s : State) (before after : Image) (u t : State) : Type 0 
 
 -- the size after n bytes more, or fewer; none below 0 or above the limit
 abbrev pub resized : ℕ → ℤ → Option ℕ
-resized size (pos n) = cond (nat_le (size + n) SIZE_LIMIT) (Some (size + n)) None
-resized size (negsuc k) = cond (nat_lt k size) (Some (size - suc k)) None
+resized size (pos n) = if nat_le (size + n) SIZE_LIMIT then Some (size + n) else None
+resized size (negsuc k) = if nat_lt k size then Some (size - suc k) else None
 
 -- the image at another size
 abbrev pub at_size : Image → ℕ → Image
-at_size image size = cond (nat_lt size image.size) (shrunk image size) (grown image size)
+at_size image size = if nat_lt size image.size then shrunk image size else grown image size
 
 -- the image that comes after costs more than the one before and the free frames
 abbrev pub IsTooDear : Kernel → Image → Image → Type 0

@@ -1,5 +1,5 @@
 -- The world that a kernel and its hart stand for: the state, and whose turn it is.
-use Rattle.std.specs.Prelude.{ℕ, zero, suc, ℤ, cond, Option, Some, None, is_some, option_map}
+use Rattle.std.specs.Prelude.{ℕ, zero, suc, ℤ, if◌then◌else◌, Option, Some, None, is_some, option_map}
 use Rattle.std.specs.Ordering.{nat_cmp}
 use Rattle.std.specs.FinMap.{FinMap}
 use Rattle.std.specs.FinSet.{FinSet, empty, insert}
@@ -29,7 +29,7 @@ slots_of t = by_pid (λ slot. slot_entry slot (place_at t slot)) NPROC
 -- the process in a place, if it sleeps
 abbrev pub sleeper_in : Option Process → Option ℕ
 sleeper_in None = None
-sleeper_in (Some p) = cond (is_some (channel_of p)) (Some p.pid) None
+sleeper_in (Some p) = if is_some (channel_of p) then Some p.pid else None
 
 abbrev pub with_sleeper : Option ℕ → FinSet nat_cmp → FinSet nat_cmp
 with_sleeper None sleepers = sleepers

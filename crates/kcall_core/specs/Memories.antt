@@ -1,5 +1,5 @@
 -- The memories of the processes and the pipes in RAM: what they stand for, and whose each frame is.
-use Rattle.std.specs.Prelude.{◌≡◌, ◌≢◌, ℕ, ◌+◌, ◌%◌, ◌≤◌, ◌<◌, Bool, true, false, cond, List, [], ◌∷◌, ◌++◌, Option, Some, None, length, get_or, set, map}
+use Rattle.std.specs.Prelude.{◌≡◌, ◌≢◌, ℕ, ◌+◌, ◌%◌, ◌≤◌, ◌<◌, Bool, true, false, if◌then◌else◌, List, [], ◌∷◌, ◌++◌, Option, Some, None, length, get_or, set, map}
 use Rattle.std.specs.Ordering.{nat_cmp}
 use Rattle.std.specs.FinMap.{FinMap, get}
 use Rattle.xk_base.specs.Frames.{copies}
@@ -40,7 +40,7 @@ keeps_pipe pipes f = get_or pipes f false
 
 -- the pipe that a frame keeps, if it does
 abbrev pub pipe_at : List (List ℕ) → List Bool → ℕ → Option Pipe
-pipe_at ram pipes f = cond (keeps_pipe pipes f) (Some (pipe_in ram f)) None
+pipe_at ram pipes f = if keeps_pipe pipes f then Some (pipe_in ram f) else None
 
 -- the pipes, by the frames that keep them
 unfoldable pub pipes_of : Memories → FinMap nat_cmp Pipe

@@ -1,5 +1,5 @@
 -- The kernel before its first process, and why there may be none.
-use Rattle.std.specs.Prelude.{ℕ, Bool, ◌||◌, cond, nat_lt, List, Option, None, Some, option_map}
+use Rattle.std.specs.Prelude.{ℕ, Bool, ◌||◌, if◌then◌else◌, nat_lt, List, Option, None, Some, option_map}
 use Rattle.std.specs.FinMap.{empty}
 use Rattle.xk_base.specs.declared.limits.TheConstants.{FRAMES_MIN, FRAMES_MAX}
 use Rattle.xk_base.specs.declared.errors.BootError.{BootError}
@@ -27,7 +27,7 @@ are_refused frames = nat_lt frames FRAMES_MIN || nat_lt FRAMES_MAX frames
 
 -- what is wrong with what a kernel is to be made of: the frames, else the least program that is refused
 abbrev pub refusal : (frames : ℕ) → List ProgramFile → Option BootError
-refusal frames programs = cond (are_refused frames) (Some BadConfig) (option_map BadPrograms (first_bad programs))
+refusal frames programs = if are_refused frames then Some BadConfig else option_map BadPrograms (first_bad programs)
 
 -- and where nothing is wrong, the host can have too little memory
 abbrev pub or_memory : Option BootError → BootError

@@ -1,5 +1,5 @@
 -- What another process sees of a step that isn't its own (the xv6 book, "Process overview": processes are kept apart).
-use Rattle.std.specs.Prelude.{◌≡◌, ◌≢◌, ℕ, ℤ, Bool, false, cond, ◌||◌, Option, None, Some, nat_eq}
+use Rattle.std.specs.Prelude.{◌≡◌, ◌≢◌, ℕ, ℤ, Bool, false, if◌then◌else◌, ◌||◌, Option, None, Some, nat_eq}
 use Rattle.std.specs.FinMap.{get}
 use Rattle.xk_base.specs.declared.limits.TheConstants.{NOFILE}
 use Rattle.xk_base.specs.Words.{least_below}
@@ -118,7 +118,7 @@ same_child (Some b) c = Some c
 abbrev pub seen_children : Option ℤ → View → View → ℕ → Option Child
 seen_children None v w = w.children
 seen_children (Some status) v w =
-    λ c. or_child (cond (nat_eq c v.pid) (same_child (w.children c) (Status status)) (w.children c)) (cond (nat_eq w.pid 1) (v.children c) None)
+    λ c. or_child (if nat_eq c v.pid then same_child (w.children c) (Status status) else w.children c) (if nat_eq w.pid 1 then v.children c else None)
 
 -- ---- the view
 

@@ -1,14 +1,14 @@
 -- What each step does to the state: for each kind of step and each row of the call table, which update of the state before is the state after.
 -- So a kernel's code is right where it makes these updates; it needs no view.
-use Rattle.std.specs.Prelude.{◌≡◌, ◌≢◌, ℕ, ◌+◌, ◌-◌, ◌++◌, ℤ, pos, Bool, false, true, cond, List, length, take, Option, None, Some, IsSome, nat_eq, nat_le, not, ◌&&◌, ◌<◌, ◌≤◌, Ok, drop, slice_get, ◌==◌}
+use Rattle.std.specs.Prelude.{◌≡◌, ◌≢◌, ℕ, ◌+◌, ◌-◌, ◌++◌, ℤ, pos, Bool, false, true, if◌then◌else◌, List, length, take, Option, None, Some, IsSome, nat_eq, nat_le, not, ◌&&◌, ◌<◌, ◌≤◌, drop, slice_get, ◌==◌}
 use Rattle.std.specs.FinMap.{FinMap, get, insert, remove, keys}
 use Rattle.std.specs.Ordering.{nat_cmp}
-use Rattle.xk_base.specs.declared.limits.TheConstants.{NOFILE, PIPE_BYTES, NPROC, PID_MAX, MAXPATH, MAXARG, ARG_BYTES}
+use Rattle.xk_base.specs.declared.limits.TheConstants.{NOFILE, PIPE_BYTES, NPROC, PID_MAX, MAXPATH}
 use Rattle.xk_base.specs.declared.access.Cause.{Cause}
 use Rattle.xk_base.specs.Words.{le_bytes}
 use Rattle.xk_base.specs.Bytes.{image_bytes, write_image}
 use Rattle.xk_base.specs.Image.{Image, price}
-use Rattle.xk_base.specs.Loaded.{Loaded, loaded}
+use Rattle.xk_base.specs.Loaded.{Loaded}
 use Rattle.rv64i_core.specs.Registers.{Registers, with_pc, after}
 use Rattle.rv64i_core.specs.Memory.{Store}
 use Rattle.rv64i_core.specs.Step.{Next, Ecall, Fault}
@@ -23,12 +23,13 @@ use Rattle.file_table.specs.declared.open_file.OpenFile.{OpenFile}
 use Rattle.proc_table.specs.declared.process.Call.{Call}
 use Rattle.kcall_core.specs.Instruction.{next_instruction}
 use Rattle.kcall_core.specs.Words.{c_int, minus_one}
-use Rattle.kcall_core.specs.Buffers.{readable, writable, text_at, texts_at, no_slashes}
+use Rattle.kcall_core.specs.Buffers.{readable, writable, text_at, no_slashes}
 use Rattle.kcall_core.specs.PipeEnds.{there, fit, joined, parted, is_given_up, must_wait}
 use Rattle.kcall_core.specs.Processes.{Live, Alive, Zombie}
-use Rattle.kcall_core.specs.State.{State, ProgramFile}
+use Rattle.kcall_core.specs.State.{State}
 use Rattle.kcall_core.specs.View.{Descriptor, view_of, show, numbered, least_on_file, least_on_pipe, or_else}
 use Rattle.kcall_core.specs.Own.{Own, Answer, Exited, Faulted, gone_with}
+use Rattle.kcall_core.specs.Execs.{Asks}
 use Rattle.kcall_core.specs.Calls.{perform, done, waits, gone, fork, wait, make_pipe, read, kill, exec, dup, open_file, write, close, least_zombie, what_is_named, has_mode}
 use Rattle.kcall_core.specs.Step.{own, call_begun}
 use Rattle.kcall_core.specs.Updates.{set_pipe, set_file, mark, changed_state, own_state, alone_state, piped_state, filed_state, with_named, with_closed, with_bytes, with_answer, in_call, stepped, started, forked_state, gone_state, waited_state, remove_zombie, settled, waited, kill_state, killer}
@@ -36,7 +37,7 @@ use Rattle.kcall_core.specs.Quiet.{file_at, pipe_at, pipe_of_target}
 use Rattle.kcall_core.specs.WellFormed.{WellFormed}
 use Rattle.kcall_core.specs.Run.{StateAfter}
 use Rattle.kcall_core.specs.Tables.{lowest_free, lowest_free_above}
-use Rattle.kcall_core.specs.Programs.{program_named, program_bytes}
+use Rattle.kcall_core.specs.Programs.{program_bytes}
 
 -- process p is live, and is l
 abbrev pub IsLive : State → ℕ → Live → Type 0
@@ -99,9 +100,7 @@ WaitingLaw =
 -- exec, where the program that the process asks for can be loaded, and costs no more than the free frames: the new image and its first registers
 abbrev pub ExecLaw : Type 0
 ExecLaw =
-    (s : State) (p : ℕ) (l : Live) (c : Call) (path : List ℕ) (texts : List (List ℕ)) (program : ProgramFile) (new : Loaded) → IsLive s p l
-    → text_at MAXPATH l.image c.a0 ≡ Some path → texts_at MAXARG ARG_BYTES l.image c.a1 ≡ Some texts → program_named (no_slashes path) s.programs ≡ Some program
-    → loaded program.bytes texts ≡ Ok new → price new.image ≤ s.free
+    (s : State) (p : ℕ) (l : Live) (c : Call) (new : Loaded) → IsLive s p l → Asks s.programs l.image c.a0 c.a1 new → price new.image ≤ s.free
     → After s p l (exec c (view_of s p l)) (alone_state p (with_answer (pos new.argc) (started new l)) s.console (s.free + price l.image - price new.image) s)
 
 -- ---- rows that make, end, wait for or mark a process
@@ -254,8 +253,8 @@ abbrev pub ClosePipeLaw : Type 0
 ClosePipeLaw =
     (frames : ℕ) (s : State) (p : ℕ) (l : Live) (c : Call) (k i n : ℕ) (end : End) (x : Pipe) (d : Descriptor) (files : FinMap nat_cmp OpenFile) (on : OnPipe s p l k i n end x) → WellFormed frames s → c_int c.a0 ≡ pos k
     → (view_of s p l).descriptors k ≡ Some d
-    → FilesLeft s (closed_state p l k files (settled i (parted x end 1) s.pipes) (cond (is_given_up (parted x end 1)) 1 0) s)
-    → After s p l (close c (view_of s p l)) (closed_state p l k files (settled i (parted x end 1) s.pipes) (cond (is_given_up (parted x end 1)) 1 0) s)
+    → FilesLeft s (closed_state p l k files (settled i (parted x end 1) s.pipes) (if is_given_up (parted x end 1) then 1 else 0) s)
+    → After s p l (close c (view_of s p l)) (closed_state p l k files (settled i (parted x end 1) s.pipes) (if is_given_up (parted x end 1) then 1 else 0) s)
 
 -- ---- well-formed states stay so
 
@@ -341,8 +340,8 @@ abbrev pub WellClosedPipe : Type 0
 WellClosedPipe =
     (frames : ℕ) (s : State) (p : ℕ) (l m : Live) (k i n : ℕ) (end : End) (x : Pipe) (files : FinMap nat_cmp OpenFile) (on : OnPipe s p l k i n end x) → WellFormed frames s
     → HasTable l m (remove l.descriptors k)
-    → FilesLeft s (changed_state p m files (settled i (parted x end 1) s.pipes) s.console (s.free + cond (is_given_up (parted x end 1)) 1 0) s)
-    → WellFormed frames (changed_state p m files (settled i (parted x end 1) s.pipes) s.console (s.free + cond (is_given_up (parted x end 1)) 1 0) s)
+    → FilesLeft s (changed_state p m files (settled i (parted x end 1) s.pipes) s.console (s.free + (if is_given_up (parted x end 1) then 1 else 0)) s)
+    → WellFormed frames (changed_state p m files (settled i (parted x end 1) s.pipes) s.console (s.free + (if is_given_up (parted x end 1) then 1 else 0)) s)
 
 abbrev pub WellMadePipe : Type 0
 WellMadePipe =

@@ -1,5 +1,5 @@
 -- The first process: what it is made of, and when it can't be made.
-use Rattle.std.specs.Prelude.{◌≡◌, ℕ, ◌+◌, cond, [], ◌∷◌, Option, None, Some, Result, Ok, Err, nat_lt}
+use Rattle.std.specs.Prelude.{◌≡◌, ℕ, ◌+◌, if◌then◌else◌, [], ◌∷◌, Option, None, Some, Result, Ok, Err, nat_lt}
 use Rattle.std.specs.FinMap.{empty}
 use Rattle.xk_base.specs.declared.errors.ExecError.{ExecError}
 use Rattle.xk_base.specs.declared.errors.ExecError.TheVariants.{NoFrames}
@@ -37,7 +37,7 @@ init_loaded s = loaded (program_bytes (init_of s.programs)) (init_name ∷ [])
 -- why it can't be the first process
 abbrev pub start_refusal : (free : ℕ) → Result Loaded ExecError → Option ExecError
 start_refusal free (Err e) = Some e
-start_refusal free (Ok l) = cond (nat_lt free (price l.image + 1)) (Some NoFrames) None
+start_refusal free (Ok l) = if nat_lt free (price l.image + 1) then Some NoFrames else None
 
 -- the world after: pid 1 has the frames that it costs, and the first turn; the console and the clock stay
 abbrev pub started_world : Loaded → State → World

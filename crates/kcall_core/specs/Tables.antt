@@ -1,5 +1,5 @@
 -- Changes of a process's table of descriptors (the xv6 book, "I/O and file descriptors").
-use Rattle.std.specs.Prelude.{ℕ, ◌+◌, Bool, true, false, cond, ◌&&◌, Option, None, Some, nat_eq, nat_lt, is_none}
+use Rattle.std.specs.Prelude.{ℕ, ◌+◌, Bool, true, false, if◌then◌else◌, ◌&&◌, Option, None, Some, nat_eq, nat_lt, is_none}
 use Rattle.xk_base.specs.declared.limits.TheConstants.{NOFILE}
 use Rattle.xk_base.specs.Words.{least_below, count_below}
 use Rattle.pipe_core.specs.Pipe.{Pipe}
@@ -47,7 +47,7 @@ change_pipes f t = λ d. changed f (t d)
 
 -- the pipe of this name is now this
 abbrev pub change_pipe : ℕ → Pipe → Table → Table
-change_pipe name x t = change_pipes (λ n pipe. cond (nat_eq n name) x pipe) t
+change_pipe name x t = change_pipes (λ n pipe. if nat_eq n name then x else pipe) t
 
 -- ---- the offset of one open file, n bytes on
 
@@ -58,7 +58,7 @@ advance_shown n (Shown_pipe name end pipe) = Shown_pipe name end pipe
 
 abbrev pub advanced : ℕ → ℕ → Option Descriptor → Option Descriptor
 advanced file n None = None
-advanced file n (Some d) = cond (nat_eq d.file file) (Some (record d { shown = advance_shown n d.shown })) (Some d)
+advanced file n (Some d) = if nat_eq d.file file then Some (record d { shown = advance_shown n d.shown }) else Some d
 
 abbrev pub advance : ℕ → ℕ → Table → Table
 advance file n t = λ d. advanced file n (t d)

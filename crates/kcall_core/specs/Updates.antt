@@ -1,6 +1,6 @@
 -- The changes of the state that a step is made of: what each kernel call's code is to be proved to do.
 -- Nothing here has to be believed: that these changes make the step that `Run` asks for is what the laws prove.
-use Rattle.std.specs.Prelude.{ℕ, zero, suc, ℤ, pos, ◌+◌, ◌-◌, true, false, cond, ◌||◌, nat_eq, List, Option, None, Some, fold}
+use Rattle.std.specs.Prelude.{ℕ, zero, suc, ℤ, pos, ◌+◌, ◌-◌, true, false, if◌then◌else◌, ◌||◌, nat_eq, List, Option, None, Some, fold}
 use Rattle.std.specs.Int.{cast_unsigned, w32}
 use Rattle.std.specs.FinMap.{FinMap, get, insert, remove, keys}
 use Rattle.std.specs.Ordering.{nat_cmp}
@@ -74,7 +74,7 @@ mark q s = record s { processes = change marked q s.processes (get s.processes q
 
 -- a child of p goes to pid 1
 abbrev pub orphan : ℕ → Process → Process
-orphan p x = cond (is_this p (parent_of x)) (given_to 1 x) x
+orphan p x = if is_this p (parent_of x) then given_to 1 x else x
 
 abbrev pub orphans : ℕ → State → State
 orphans p s = record s { processes = fold (λ m q. change (orphan p) q m (get m q)) s.processes (keys s.processes) }
@@ -97,7 +97,7 @@ more_on (Some (Pipe_end i end)) m = more_at i end m (get m i)
 
 -- pipe i is now this, or given up
 abbrev pub settled : ℕ → Pipe → FinMap nat_cmp Pipe → FinMap nat_cmp Pipe
-settled i x m = cond (is_given_up x) (remove m i) (insert m i x)
+settled i x m = if is_given_up x then remove m i else insert m i x
 
 abbrev pub fewer_at : ℕ → End → FinMap nat_cmp Pipe → Option Pipe → FinMap nat_cmp Pipe
 fewer_at i end m None = m
@@ -112,7 +112,7 @@ fewer_on (Some (Pipe_end i end)) m = fewer_at i end m (get m i)
 
 abbrev pub freed_at : End → Option Pipe → ℕ
 freed_at end None = 0
-freed_at end (Some x) = cond (is_given_up (parted x end 1)) 1 0
+freed_at end (Some x) = if is_given_up (parted x end 1) then 1 else 0
 
 abbrev pub freed_on : Option Target → FinMap nat_cmp Pipe → ℕ
 freed_on None m = 0
@@ -167,7 +167,7 @@ gone_state p l status files s = record s {
 
 -- the image with the zombie's status at address a, where a isn't 0
 abbrev pub told_image : ℕ → ℤ → Image → Image
-told_image a status i = cond (nat_eq a 0) i (write_image i a (le_bytes 4 (cast_unsigned w32 status)))
+told_image a status i = if nat_eq a 0 then i else write_image i a (le_bytes 4 (cast_unsigned w32 status))
 
 -- a process that has waited for the zombie q
 abbrev pub waited : Call → (q : ℕ) → (status : ℤ) → Live → Live

@@ -1,6 +1,6 @@
 -- What one process can see of the state: its view. Each step of the process is a function of it.
 -- What isn't in it, the process can't tell: other processes' memory and registers, which slots they have, who sleeps, which frames hold what.
-use Rattle.std.specs.Prelude.{ℕ, Bool, cond, List, [], Option, None, Some, nat_lt, option_map}
+use Rattle.std.specs.Prelude.{ℕ, Bool, if◌then◌else◌, List, [], Option, None, Some, nat_lt, option_map}
 use Rattle.std.specs.FinMap.{get, keys}
 use Rattle.xk_base.specs.declared.limits.TheConstants.{NOFILE}
 use Rattle.kcall_core.specs.State.{ProgramFile, State, live}
@@ -93,7 +93,7 @@ rename t d = record d { file = or_else (least_on_file t d.file) d.file; shown = 
 
 -- the same table, where each open file and each pipe is named by the least descriptor on it
 unfoldable pub named : Table → Table
-named t = λ d. cond (nat_lt d NOFILE) (option_map (rename t) (t d)) None
+named t = λ d. if nat_lt d NOFILE then option_map (rename t) (t d) else None
 
 -- ---- the view
 
@@ -122,8 +122,8 @@ numbered s l = λ d. descriptor_at s (get l.descriptors d)
 -- what process p sees of a process: a child, if it is p's
 abbrev pub child_of : ℕ → Option Process → Option Child
 child_of p None = None
-child_of p (Some (Alive l)) = cond (is_this p l.parent) (Some Running) None
-child_of p (Some (Zombie parent status)) = cond (is_this p parent) (Some (Status status)) None
+child_of p (Some (Alive l)) = if is_this p l.parent then Some Running else None
+child_of p (Some (Zombie parent status)) = if is_this p parent then Some (Status status) else None
 
 -- the view of process p, which is l
 unfoldable pub view_of : State → ℕ → Live → View

@@ -1,5 +1,5 @@
 -- No lost wake-up, and turns (the xv6 book, "Sleep and wakeup" and "Code: Scheduling"): what a machine promises of each event beside `Happens`.
-use Rattle.std.specs.Prelude.{◌≡◌, ◌≢◌, ℕ, ◌≤◌, ◌⊎◌, ◌↔◌, ℤ, pos, Bool, true, false, cond, List, [], ◌∷◌, ◌++◌, Ok, None, Some, IsSome, ◌<◌, ◌-◌, ◌+◌}
+use Rattle.std.specs.Prelude.{◌≡◌, ◌≢◌, ℕ, ◌≤◌, ◌⊎◌, ◌↔◌, ℤ, pos, Bool, true, false, if◌then◌else◌, List, [], ◌∷◌, ◌++◌, Ok, None, Some, IsSome, ◌<◌, ◌-◌, ◌+◌}
 use Rattle.xk_base.specs.declared.limits.TheConstants.{NPROC}
 use Rattle.proc_table.specs.declared.process.Call.{Call}
 use Rattle.proc_table.specs.Turns.{distance}
@@ -102,7 +102,7 @@ is_turn _ = false
 -- how many turns are given
 abbrev pub turns_taken : List (Event × Outcome) → ℕ
 turns_taken [] = 0
-turns_taken (e ∷ es) = cond (is_turn e.1) 1 0 + turns_taken es
+turns_taken (e ∷ es) = (if is_turn e.1 then 1 else 0) + turns_taken es
 
 -- p has no turn
 abbrev pub HasNoTurn : ℕ → List (Event × Outcome) → Type 0

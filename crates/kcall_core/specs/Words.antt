@@ -1,5 +1,5 @@
 -- Small words on numbers that the rest is said with.
-use Rattle.std.specs.Prelude.{ℕ, zero, suc, ◌%◌, ◌^◌, Bool, true, false, cond, ◌&&◌, Option, None, Some, ℤ, negsuc, nat_eq}
+use Rattle.std.specs.Prelude.{ℕ, ◌%◌, ◌^◌, Bool, false, if◌then◌else◌, Option, None, Some, ℤ, negsuc, nat_eq}
 use Rattle.std.specs.Int.{cast_signed, cast_unsigned, w32, w64}
 
 -- ---- registers by the calling convention (RISC-V Calling Conventions, "Integer Register Convention")
@@ -44,14 +44,9 @@ or_zero (Some number) = number
 
 -- 1 where it is so
 abbrev pub count_if : Bool → ℕ
-count_if b = cond b 1 0
+count_if b = if b then 1 else 0
 
 -- ---- functions of numbers
-
--- whether each number below n passes a test
-unfoldable pub all_below : ℕ → (ℕ → Bool) → Bool
-all_below zero passes = true
-all_below (suc n) passes = all_below n passes && passes n
 
 -- whether there is a number, and it is n
 abbrev pub is_this : ℕ → Option ℕ → Bool
@@ -60,4 +55,4 @@ is_this n (Some k) = nat_eq k n
 
 -- the function that gives a for k, and what it gave before for all others
 abbrev pub with_value : {A : Type 0} → (ℕ → A) → ℕ → A → ℕ → A
-with_value f k a q = cond (nat_eq q k) a (f q)
+with_value f k a q = if nat_eq q k then a else f q

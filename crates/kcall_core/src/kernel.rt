@@ -49,6 +49,7 @@ mod wait;
 
 use crate::kernel::registers::FIRST_ARGUMENT;
 use crate::memories::Memories;
+pub use calls::call_number;
 use console_core::Console;
 use file_table::Files;
 use hart_core::Hart;

@@ -11,4 +11,4 @@ pub mod laws;
 mod memories;
 
 pub use call_end::CallEnd;
-pub use kernel::{ChildState, Kernel, first_refused};
+pub use kernel::{ChildState, Kernel, call_number, first_refused};

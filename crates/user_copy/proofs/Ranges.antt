@@ -1,5 +1,5 @@
 -- Ranges of a process's memory, page by page.
-use Rattle.std.proofs.Common.{◌≡◌, ℕ, zero, suc, ◌+◌, ◌/◌, ◌%◌, ◌^◌, ◌<◌, ◌≤◌, Bool, true, false, ◌&&◌, List, Option, Some, None, inl, inr, refl, sym, ap, ◌∙◌, arith}
+use Rattle.std.proofs.Common.{◌≡◌, ℕ, zero, suc, ◌+◌, ◌/◌, ◌%◌, ◌^◌, ◌<◌, ◌≤◌, Bool, true, false, ◌&&◌, List, Option, Some, None, inl, inr, refl, sym, ap, ◌∙◌, arith, ◌-◌}
 use Rattle.std.proofs.lemmas.Bool.{cases_lt, and_from, false≢true}
 use Rattle.std.specs.List.{list_all, range_with_len}
 use Rattle.std.specs.Option.{option_map}
@@ -68,6 +68,20 @@ reaches-not access i a n d lt here = all-not n a d (may access i) lt here
 pub reaches-fewer : (access : Access) (i : Image) (a n m : ℕ) → m ≤ n → reaches access i a n ≡ true → reaches access i a m ≡ true
 unfolding reaches
 reaches-fewer access i a n m le all = all-from m a (may access i) (λ k lt. all-at n a (may access i) all k (omega (arith, lt, le)))
+
+-- the bytes from one of them on
+pub reaches-rest : (access : Access) (i : Image) (a n d : ℕ) → reaches access i a n ≡ true → d ≤ n → reaches access i (a + d) (n - d) ≡ true
+unfolding reaches
+reaches-rest access i a n d all le = all-from (n - d) (a + d) (may access i) (λ k lt. let e : a + d + k ≡ a + (d + k) = omega arith in ap (may access i) e ∙ all-at n a (may access i) all (d + k) (omega (arith, lt, le)))
+
+-- the same bytes, where the pages have the same rights
+pub reaches-same : (access : Access) (i j : Image) (a n : ℕ) → ((x : ℕ) → may access i x ≡ may access j x) → reaches access i a n ≡ reaches access j a n
+unfolding reaches
+reaches-same access i j a n same = by n a
+  where
+    by : (n a : ℕ) → list_all (may access i) (range_with_len a n) ≡ list_all (may access j) (range_with_len a n)
+    by zero a = refl
+    by (suc n) a = λ k. same a k && by n (a + 1) k
 
 -- there is no page from 2^38 on
 pub may-beyond : (access : Access) (ram : List (List ℕ)) (space : Space) (a : ℕ) → 2 ^ 38 ≤ a → may access (image_of ram space) a ≡ false

@@ -1,6 +1,5 @@
 //! One step of the process that runs.
 ghost use Rattle.std.specs.Prelude.{◌≡◌};
-ghost use Rattle.kcall_core.specs.Words.{c_int};
 ghost use Rattle.kcall_core.specs.Built.{own_so_far};
 ghost use Rattle.kcall_core.specs.RowLaws as laws;
 ghost use Rattle.kcall_core.specs.Run.{Step_of};
@@ -11,19 +10,9 @@ ghost use Rattle.xv_machine.specs.Events.{outcome_of};
 
 use crate::event::Outcome;
 use hart_core::Hart;
-use kcall_core::{CallEnd, Kernel};
+use kcall_core::{CallEnd, Kernel, call_number};
 use rv64i_core::Stop;
-use xk_base::{Pid, Reg};
-
-/// The register of a call's number, a7 (RISC-V calling convention).
-const CALL_NUMBER: u8 = 17;
-
-/// A C int: the low 32 bits of a register, read as signed.
-fn c_int(register: u64) -> i32
-    ensures { result ≡ c_int register }
-{
-    ((register % (1 << 32)) as u32).cast_signed()
-}
+use xk_base::Pid;
 
 /// The outcome of a step in which a call of this number ends so.
 fn call_outcome(pid: Pid, number: i32, end: CallEnd) -> Outcome
@@ -49,7 +38,7 @@ fn instruction(kernel: &mut Kernel, hart: &mut Hart, pid: Pid) -> Outcome
     match kernel.step(hart) {
         Stop::Next => Outcome::Stepped { pid },
         Stop::Ecall => {
-            let number = c_int(hart.regs().read(Reg::new(CALL_NUMBER)));
+            let number = call_number(hart);
             let end = kernel.call(hart);
             call_outcome(pid, number, end)
         }

@@ -77,13 +77,20 @@ pub(crate) fn c_int(register: u64) -> i32
     ((register % (1 << 32)) as u32).cast_signed()
 }
 
+/// The number of the call that an ECALL at the pc asks for: a7, read as a C int (RISC-V calling convention).
+pub fn call_number(hart: &Hart) -> i32
+    ensures { result ≡ c_int (reg hart.now.regs A7) }
+{
+    c_int(hart.regs().read(Reg::new(CALL_NUMBER)))
+}
+
 /// The call that a process asks for: its number is in a7, its arguments in a0 to a2.
 fn asked_call(hart: &Hart, clock: u32) -> Call
     ensures { result ≡ record { number = c_int (reg hart.now.regs A7); a0 = reg hart.now.regs A0; a1 = reg hart.now.regs A1; a2 = reg hart.now.regs A2; moved = 0; clock = clock } }
 {
     let regs = hart.regs();
     Call {
-        number: c_int(regs.read(Reg::new(CALL_NUMBER))),
+        number: call_number(hart),
         a0: regs.read(Reg::new(FIRST_ARGUMENT)),
         a1: regs.read(Reg::new(SECOND_ARGUMENT)),
         a2: regs.read(Reg::new(THIRD_ARGUMENT)),

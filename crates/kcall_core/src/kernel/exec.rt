@@ -8,7 +8,7 @@ ghost use Rattle.kcall_core.specs.Buffers.{no_slashes};
 ghost use Rattle.kcall_core.specs.Programs.{program_named};
 ghost use Rattle.kcall_core.specs.State.{named_file};
 ghost use Rattle.kcall_core.specs.Calls.{exec};
-ghost use Rattle.kcall_core.specs.Execs.{asked};
+ghost use Rattle.kcall_core.specs.Execs.{Asks};
 ghost use Rattle.kcall_core.specs.Holdings.{held_at, HasMemory, with_image};
 ghost use Rattle.kcall_core.specs.Memories as memory;
 ghost use Rattle.kcall_core.specs.Memories.{each_of, free_of, RunsIn, SlotChanges, Same};
@@ -69,9 +69,9 @@ fn replace_as_asked(
 ) -> Option<Entry>
     requires sound { memory.IsSound memories.old }
     requires there { HasMemory (each_of memories.old) slot }
-    ensures started { IfSome result (λ start. (l : Loaded) × (asked (map named_file programs.now) (held_at (each_of memories.old) slot).image path pointers ≡ Some l) × (start ≡ record { pc = l.pc; sp = l.sp; argc = l.argc }) × (l.pc % 4 ≡ 0) × (price l.image ≤ free_of memories.old) × SlotChanges memories.old memories.new slot (Some (with_image l.image (held_at (each_of memories.old) slot))) × RunsIn memories.new slot hart.new) }
+    ensures started { IfSome result (λ start. (l : Loaded) × Asks (map named_file programs.now) (held_at (each_of memories.old) slot).image path pointers l × (start ≡ record { pc = l.pc; sp = l.sp; argc = l.argc }) × (l.pc % 4 ≡ 0) × (price l.image ≤ free_of memories.old) × SlotChanges memories.old memories.new slot (Some (with_image l.image (held_at (each_of memories.old) slot))) × RunsIn memories.new slot hart.new) }
     ensures regs { hart.new.regs ≡ hart.old.regs }
-    ensures refused { IfNone result (((l : Loaded) → asked (map named_file programs.now) (held_at (each_of memories.old) slot).image path pointers ≡ Some l → free_of memories.old < price l.image) × Same memories.old memories.new × (hart.new ≡ hart.old)) }
+    ensures refused { IfNone result (((l : Loaded) → Asks (map named_file programs.now) (held_at (each_of memories.old) slot).image path pointers l → free_of memories.old < price l.image) × Same memories.old memories.new × (hart.new ≡ hart.old)) }
 {
     let mut name = [0; MAXPATH];
     let Ok(len) = memories.fetch_text(slot, path, &mut name) else {

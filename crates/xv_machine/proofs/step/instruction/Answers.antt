@@ -2,8 +2,6 @@ use Rattle.std.proofs.Common.{rules, ap, sym, ◌∙◌, subst, refl, w32}
 use Rattle.kcall_core.specs.Own.{Own, Faulted}
 use Rattle.kcall_core.specs.Makes.{Makes, answer_of}
 use Rattle.kcall_core.specs.Processes.{Live}
-use Rattle.kcall_core.specs.Words.{c_int}
-use Rattle.rv64i_core.specs.Registers.{Registers, reg}
 use Rattle.std.proofs.lemmas.Int.{to_z-of_z}
 use Rattle.kcall_core.specs.Run.{Step_of}
 use Rattle.xv_machine.proofs.SoFar.{plain-own, next-answer, fault-own, next-ecall, fault-next, makes-call, call-answer, ends-faulted}
@@ -27,10 +25,10 @@ returns-in-Ecall-clause-made c =
 
 pub returns-in-Ecall-clause-answer : goal.returns-in-Ecall-clause-answer
 returns-in-Ecall-clause-answer c =
-    call-answer c.args.kernel.now c.step.new.self c.args.hart.now c.step.new.hart c.args.pid c.c_int-number.result c.call-end.result (outcome_of c.call_outcome.result) c.requires.whole c.requires.running c.requires.between_calls
+    call-answer c.args.kernel.now c.step.new.self c.args.hart.now c.step.new.hart c.args.pid c.call_number-number.result c.call-end.result (outcome_of c.call_outcome.result) c.requires.whole c.requires.running c.requires.between_calls
     (c.in-Ecall.ensures.stays (λ e. next-ecall (sym e))) (ap (λ (l : Live). l.call) (c.in-Ecall.ensures.same (λ e. next-ecall (sym e))).live ∙ c.requires.between_calls.1)
-    (c.c_int-number.ensures ∙ ap c_int (c.read.ensures ∙ ap (λ (r : Registers). reg r c.new.result) c.regs.ensures ∙ ap (reg c.step.new.hart.regs) c.new.ensures)) c.call-end.ensures.answer
-    (c.call_outcome.ensures ∙ ap (λ n. Step_of c.args.pid (answer_of n c.call-end.result)) (to_z-of_z w32 c.c_int-number.result (search rules)))
+    c.call_number-number.ensures c.call-end.ensures.answer
+    (c.call_outcome.ensures ∙ ap (λ n. Step_of c.args.pid (answer_of n c.call-end.result)) (to_z-of_z w32 c.call_number-number.result (search rules)))
 
 pub returns-in-Fault-clause-made : goal.returns-in-Fault-clause-made
 returns-in-Fault-clause-made c =

@@ -7,13 +7,13 @@ use Rattle.kcall_core.specs.Holdings.{held_at}
 use Rattle.kcall_core.specs.Memories.{each_of}
 use Rattle.kcall_core.proofs.Births.{untraded}
 use Rattle.kcall_core.proofs.Changes.{same-if}
-use Rattle.kcall_core.proofs.Asking.{Asks, asks-given, asks-of, loaded-fits}
+use Rattle.kcall_core.specs.Execs.{Asks}
+use Rattle.kcall_core.proofs.Asking.{loaded-fits}
 use Rattle.kcall_core.proofs.kernel.exec.replace_as_asked.Goals as goal
 
 pub returns-in_default-fetch_args-clause-refused : goal.returns-in_default-fetch_args-clause-refused
 returns-in_default-fetch_args-clause-refused c = (
-  λ l e.
-      let a = asks-of (map named_file c.args.programs.now) (held_at (each_of c.args.memories.now) c.args.slot).image c.args.path c.args.pointers l e in
+  λ l a.
       let f = loaded-fits a.program.bytes a.texts l a.loaded_is in
       absurd (omega (arith, f.1, c.in_default-fetch_args.ensures.refused a.texts a.texts_is)),
   same-if c.args.memories.now c.args.memories.now c.requires.sound (untraded _ _ _ _ [] c.requires.sound.good refl refl) refl refl,
@@ -33,4 +33,4 @@ returns-clause-started c =
       program_is = sym (ap (λ n. program_named n (map named_file c.args.programs.now)) c.without_slashes.ensures) ∙ sym c.program_named.ensures ∙ ap (λ o. option_map named_file (option_copied o)) c.in-Some-program_named.is;
       loaded_is = sym (ap (λ f. loaded f c.in-Some.args) c.deref.ensures.value) ∙ sym c.plan.ensures ∙ c.in-Ok-plan.is;
     } in
-    (l, asks-given a, c.in-Ok-replace.ensures.start, (loaded-fits a.program.bytes a.texts l a.loaded_is).0, c.in-Ok-replace.ensures.fits, c.in-Ok-replace.ensures.replaced, c.in-Ok-replace.ensures.runs)
+    (l, a, c.in-Ok-replace.ensures.start, (loaded-fits a.program.bytes a.texts l a.loaded_is).0, c.in-Ok-replace.ensures.fits, c.in-Ok-replace.ensures.replaced, c.in-Ok-replace.ensures.runs)

@@ -3,7 +3,6 @@ use Rattle.xk_base.specs.Image.{Image}
 use Rattle.xk_base.specs.Bytes.{image_bytes}
 use Rattle.kcall_core.specs.Buffers.{readable}
 use Rattle.kcall_core.proofs.Changes.{there-below, there-some, stands, image-seen}
-use Rattle.kcall_core.proofs.UserBytes.{reaches-readable}
 use Rattle.kcall_core.proofs.Written.{ok-map, err-map, whole-of}
 use Rattle.kcall_core.proofs.memories.Memories.copy_in.Goals as goal
 
@@ -19,7 +18,7 @@ copy_in-requires c = whole-of (stands c.index.result.now c.in-Some.memory c.requ
 pub returns-clause-fine : goal.returns-clause-fine
 returns-clause-fine c =
     let s = stands c.index.result.now c.in-Some.memory c.requires.sound c.requires.there c.index.ensures c.in-Some.is in
-    ok-map c.copy_in.result c.copy_in.ensures.fine (λ x fine. ap (λ (i : Image). readable i c.args.address (length c.args.out.now)) (image-seen s) ∙ sym (reaches-readable _ c.args.address (length c.args.out.now)) ∙ fine)
+    ok-map c.copy_in.result c.copy_in.ensures.fine (λ x fine. ap (λ (i : Image). readable i c.args.address (length c.args.out.now)) (image-seen s) ∙ fine)
 
 pub returns-clause-copied : goal.returns-clause-copied
 returns-clause-copied c =
@@ -29,4 +28,4 @@ returns-clause-copied c =
 pub returns-clause-refused : goal.returns-clause-refused
 returns-clause-refused c =
     let s = stands c.index.result.now c.in-Some.memory c.requires.sound c.requires.there c.index.ensures c.in-Some.is in
-    err-map c.copy_in.result c.copy_in.ensures.refused (λ e r. (ap (λ (i : Image). readable i c.args.address (length c.args.out.now)) (image-seen s) ∙ sym (reaches-readable _ c.args.address (length c.args.out.now)) ∙ r.0, r.1))
+    err-map c.copy_in.result c.copy_in.ensures.refused (λ e r. (ap (λ (i : Image). readable i c.args.address (length c.args.out.now)) (image-seen s) ∙ r.0, r.1))

@@ -9,7 +9,6 @@ use Rattle.kcall_core.specs.Memories.{each_of, free_of}
 use Rattle.kcall_core.specs.Holdings.{held_at}
 use Rattle.kcall_core.proofs.Births.{untraded}
 use Rattle.kcall_core.proofs.Changes.{there-below, there-some, stands, image-seen, belongs-of, space-changes, same-if}
-use Rattle.kcall_core.proofs.UserBytes.{reaches-writable}
 use Rattle.kcall_core.proofs.Written.{ok-map, ok-both, err-map, either, whole-of, size-seen, each-stays, free-stays, written-runs, unwritten-runs}
 use Rattle.kcall_core.proofs.memories.Memories.copy_out.Goals as goal
 
@@ -25,7 +24,7 @@ copy_out-requires c = whole-of (stands c.index.result.now c.in-Some.memory c.req
 pub returns-clause-fine : goal.returns-clause-fine
 returns-clause-fine c =
     let s = stands c.index.result.now c.in-Some.memory c.requires.sound c.requires.there c.index.ensures c.in-Some.is in
-    ok-map c.copy_out.result c.copy_out.ensures.fine (λ x fine. ap (λ (i : Image). writable i c.args.address (length c.args.bytes.now)) (image-seen s) ∙ sym (reaches-writable _ c.args.address (length c.args.bytes.now)) ∙ fine)
+    ok-map c.copy_out.result c.copy_out.ensures.fine (λ x fine. ap (λ (i : Image). writable i c.args.address (length c.args.bytes.now)) (image-seen s) ∙ fine)
 
 pub returns-clause-written : goal.returns-clause-written
 returns-clause-written c =
@@ -50,6 +49,6 @@ pub returns-clause-refused : goal.returns-clause-refused
 returns-clause-refused c =
     let s = stands c.index.result.now c.in-Some.memory c.requires.sound c.requires.there c.index.ensures c.in-Some.is in
     err-map c.copy_out.result c.copy_out.ensures.refused (λ e r. (
-      ap (λ (i : Image). writable i c.args.address (length c.args.bytes.now)) (image-seen s) ∙ sym (reaches-writable _ c.args.address (length c.args.bytes.now)) ∙ r.0,
+      ap (λ (i : Image). writable i c.args.address (length c.args.bytes.now)) (image-seen s) ∙ r.0,
       same-if c.args.self.now _ c.requires.sound (untraded _ _ _ _ [] c.requires.sound.good refl r.1) refl refl,
     ))

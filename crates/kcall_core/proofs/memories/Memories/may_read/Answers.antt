@@ -3,7 +3,6 @@ use Rattle.std.specs.Prelude.{Result, Ok, Err, IfOk, IfErr, is_ok}
 use Rattle.xk_base.specs.Image.{Image}
 use Rattle.kcall_core.specs.Buffers.{readable}
 use Rattle.kcall_core.proofs.Changes.{there-below, there-some, stands, image-seen}
-use Rattle.kcall_core.proofs.UserBytes.{reaches-readable}
 use Rattle.kcall_core.proofs.Written.{whole-of}
 use Rattle.kcall_core.proofs.memories.Memories.may_read.Goals as goal
 
@@ -23,4 +22,4 @@ told (Err x) b fine refused = sym refused
 pub returns : goal.returns
 returns c =
     let s = stands c.index.result.now c.in-Some.memory c.requires.sound c.requires.there c.index.ensures c.in-Some.is in
-    c.is_ok.ensures.value ∙ told c.check_range.result _ c.check_range.ensures.fine c.check_range.ensures.refused ∙ reaches-readable _ c.args.address c.args.len ∙ ap (λ (i : Image). readable i c.args.address c.args.len) (sym (image-seen s))
+    c.is_ok.ensures.value ∙ told c.check_range.result _ c.check_range.ensures.fine c.check_range.ensures.refused ∙ ap (λ (i : Image). readable i c.args.address c.args.len) (sym (image-seen s))
