@@ -198,7 +198,7 @@ abbrev pub NobodyHas : State → ℕ → Type 0
 NobodyHas s j = (q d : ℕ) → pipe_at s q d ≢ Some j
 
 -- k is p's lowest free descriptor
-pub record IsLowestFree (s : State) (p : ℕ) (l : Live) (k : ℕ) : Type 0 where
+pub record IsLowestUnused (s : State) (p : ℕ) (l : Live) (k : ℕ) : Type 0 where
   pub lowest : lowest_free (view_of s p l).descriptors ≡ Some k
   pub below : k < NOFILE
   pub unused : get l.descriptors k ≡ None
@@ -208,7 +208,7 @@ abbrev pub OpenLaw : Type 0
 OpenLaw =
     (s : State) (p : ℕ) (l : Live) (c : Call) (k f mode : ℕ) (path : List ℕ) (target : Target) → IsLive s p l
     → text_at MAXPATH l.image c.a0 ≡ Some path → what_is_named (no_slashes path) (view_of s p l) ≡ Some (show s target) → pipe_of_target target ≡ None
-    → c_int c.a1 ≡ pos mode → has_mode (show s target) mode ≡ true → IsLowestFree s p l k → NobodyNames s f
+    → c_int c.a1 ≡ pos mode → has_mode (show s target) mode ≡ true → IsLowestUnused s p l k → NobodyNames s f
     → After s p l (open_file c (view_of s p l))
     (filed_state p (with_answer (pos k) (with_named k f l)) f (record { read = not (mode == 1); write = not (mode == 0); target = target }) s)
 
@@ -216,7 +216,7 @@ OpenLaw =
 abbrev pub PipeLaw : Type 0
 PipeLaw =
     (s : State) (p : ℕ) (l : Live) (c : Call) (r w f g i : ℕ) → IsLive s p l → writable l.image c.a0 8 ≡ true → 0 < s.free
-    → IsLowestFree s p l r → lowest_free_above (view_of s p l).descriptors r ≡ Some w → w < NOFILE → get l.descriptors w ≡ None → r ≢ w → f ≢ g
+    → IsLowestUnused s p l r → lowest_free_above (view_of s p l).descriptors r ≡ Some w → w < NOFILE → get l.descriptors w ≡ None → r ≢ w → f ≢ g
     → NobodyNames s f → NobodyNames s g → NobodyHas s i
     → After s p l (make_pipe c (view_of s p l))
     (changed_state p (with_answer (pos 0) (with_bytes c.a0 (le_bytes 4 r ++ le_bytes 4 w) (with_named w g (with_named r f l))))
@@ -226,14 +226,14 @@ PipeLaw =
 -- dup: the lowest free descriptor names what descriptor j names, which is the console or a program's file
 abbrev pub DupLaw : Type 0
 DupLaw =
-    (s : State) (p : ℕ) (l : Live) (c : Call) (j k f : ℕ) (x : OpenFile) (d : Descriptor) → IsLive s p l → c_int c.a0 ≡ pos j → j < NOFILE → get l.descriptors j ≡ Some f → IsLowestFree s p l k
+    (s : State) (p : ℕ) (l : Live) (c : Call) (j k f : ℕ) (x : OpenFile) (d : Descriptor) → IsLive s p l → c_int c.a0 ≡ pos j → j < NOFILE → get l.descriptors j ≡ Some f → IsLowestUnused s p l k
     → get s.files f ≡ Some x → pipe_of_target x.target ≡ None → (view_of s p l).descriptors j ≡ Some d
     → After s p l (dup c (view_of s p l)) (own_state p (with_answer (pos k) (with_named k f l)) s)
 
 -- or an end of a pipe: one descriptor more is on it
 abbrev pub DupPipeLaw : Type 0
 DupPipeLaw =
-    (s : State) (p : ℕ) (l : Live) (c : Call) (j k i n : ℕ) (end : End) (x : Pipe) (d : Descriptor) (on : OnPipe s p l j i n end x) → c_int c.a0 ≡ pos j → IsLowestFree s p l k
+    (s : State) (p : ℕ) (l : Live) (c : Call) (j k i n : ℕ) (end : End) (x : Pipe) (d : Descriptor) (on : OnPipe s p l j i n end x) → c_int c.a0 ≡ pos j → IsLowestUnused s p l k
     → (view_of s p l).descriptors j ≡ Some d
     → After s p l (dup c (view_of s p l)) (piped_state p (with_answer (pos k) (with_named k on.file l)) i (joined x end 1) s)
 

@@ -42,8 +42,6 @@ mod registers;
 mod sbrk;
 mod sharing;
 mod starting;
-#[cfg(test)]
-mod tests;
 mod ticks;
 mod wait;
 
