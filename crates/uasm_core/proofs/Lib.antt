@@ -13,3 +13,5 @@ pub mod Lines
 pub mod Whole
 pub mod Loads
 pub mod Limit
+pub mod Started
+pub mod StartedRows

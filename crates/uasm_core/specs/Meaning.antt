@@ -1,11 +1,16 @@
 -- What an assembled file is, said without the two passes: the source means a program, and the file loads as it.
-use Rattle.std.specs.Prelude.{◌≡◌, ℕ, ◌≤◌, Bool, true, false, if◌then◌else◌, List, [], ◌∷◌, ◌++◌, length, take, drop, Option, Some, None, Ok}
+use Rattle.std.specs.Prelude.{◌≡◌, ℕ, ◌+◌, ◌/◌, ◌<◌, ◌≤◌, Bool, true, false, if◌then◌else◌, List, [], ◌∷◌, ◌++◌, length, take, drop, Option, Some, None, option_map, Ok, Err}
 use Rattle.std.specs.Str.Lines.{lines}
+use Rattle.std.specs.FinMap.{get}
 use Rattle.xk_base.specs.declared.limits.TheConstants.{PROGRAM_BYTES}
 use Rattle.xk_base.specs.declared.access.Rights.{Rights}
 use Rattle.xk_base.specs.declared.program.Header.{Header}
 use Rattle.xk_base.specs.declared.program.Segment.{Segment}
-use Rattle.xk_base.specs.ProgramFile.{header_of, segments_of}
+use Rattle.xk_base.specs.declared.errors.ExecError.TheVariants.{ArgsTooLong}
+use Rattle.xk_base.specs.ProgramFile.{page_up, header_of, segments_of}
+use Rattle.xk_base.specs.Image.{Page, Image}
+use Rattle.xk_base.specs.Bytes.{image_bytes}
+use Rattle.xk_base.specs.Loaded.{Loaded, aligned, stack_pointer, loaded}
 use Rattle.uasm_core.specs.declared.words.Section.{Section}
 use Rattle.uasm_core.specs.declared.words.Section.TheVariants.{Text, Data}
 use Rattle.uasm_core.specs.Line.{parts_of}
@@ -128,3 +133,40 @@ pub record Assembles (source file : List ℕ) : Type 0 where
   pub means : Means source program
   pub loads : LoadsAs file program
   pub short : length file ≤ PROGRAM_BYTES
+
+-- The file in memory, with argument texts.
+
+-- where the guard page begins: at the page behind the data
+abbrev pub guard_at : Program → ℕ
+guard_at p = page_up (base_of Data (length p.text) + length p.data_bytes)
+
+-- where the stack pointer of these texts begins: below the end of the stack page, which stands behind the guard page
+abbrev pub stack_of : Program → List (List ℕ) → ℕ
+stack_of p texts = stack_pointer (guard_at p + 8192) texts
+
+-- the texts and their addresses fit into the stack page
+abbrev pub TextsFit : Program → List (List ℕ) → Type 0
+TextsFit p texts = guard_at p + 4096 ≤ stack_of p texts
+
+-- an image has these bytes from an address on, all of them in pages with these rights
+pub record Holds (image : Image) (at : ℕ) (rights : Rights) (bytes : List ℕ) : Type 0 where
+  pub written : image_bytes image at (length bytes) ≡ bytes
+  pub allowed : (k : ℕ) → k < length bytes → option_map (λ (page : Page). page.perm) (get image.pages ((at + k) / 4096)) ≡ Some rights
+
+-- The file with these texts becomes the program in memory: its text at 0, its data at the page behind the text, and
+-- behind them the guard page and the stack page; the pc is the entry with its two lowest bits cleared.
+pub record Becomes (file : List ℕ) (texts : List (List ℕ)) (p : Program) : Type 0 where
+  pub memory : Loaded
+  pub is_loaded : loaded file texts ≡ Ok memory
+  pub in_text : Holds memory.image (base_of Text (length p.text)) text_rights p.text
+  pub in_data : Holds memory.image (base_of Data (length p.text)) data_rights p.data_bytes
+  pub size : memory.image.size ≡ guard_at p + 8192
+  pub begins : memory.pc ≡ aligned p.entry
+
+-- The file of a source: with all texts that fit it becomes a program that the source means, and it is refused for
+-- texts that don't fit, and for nothing else.
+pub record Starts (source file : List ℕ) : Type 0 where
+  pub program : Program
+  pub means : Means source program
+  pub becomes : (texts : List (List ℕ)) → TextsFit program texts → Becomes file texts program
+  pub refused : (texts : List (List ℕ)) → stack_of program texts < guard_at program + 4096 → loaded file texts ≡ Err ArgsTooLong

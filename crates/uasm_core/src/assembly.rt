@@ -2,7 +2,7 @@
 ghost use Rattle.std.specs.Prelude.{◌≡◌, IfOk};
 ghost use Rattle.uasm_core.specs.Written.{addresses, entry_of};
 ghost use Rattle.uasm_core.specs.FileFormat.{file_of};
-ghost use Rattle.uasm_core.specs.Meaning.{Assembles};
+ghost use Rattle.uasm_core.specs.Meaning.{Assembles, Starts};
 ghost use Rattle.uasm_core.specs.Views.{Stands, places_of};
 
 use crate::elf::elf_file;
@@ -37,6 +37,9 @@ pub fn assemble(alloc: Global, source: &str) -> Result<Vec<u8>, AsmError>
 
     // It loads as a program that the source means.
     ensures loads { IfOk result (λ v. Assembles source.now v.items) }
+
+    // With all argument texts that fit the stack page it is loaded: text at 0, data at the page behind it, the pc at the entry.
+    ensures starts { IfOk result (λ v. Starts source.now v.items) }
 {
     let lines = lines(alloc, source)?;
     let listing = place_all(alloc, &lines)?;

@@ -8,6 +8,7 @@ use Rattle.uasm_core.specs.Written.{Program, Fault, all_placed, all_spelled, add
 use Rattle.uasm_core.specs.FileFormat.{elf_of}
 use Rattle.uasm_core.specs.Meaning.{Assembles}
 use Rattle.uasm_core.proofs.Whole.{by_second, known_second, lengths, assembles}
+use Rattle.uasm_core.proofs.Started.{started}
 use Rattle.uasm_core.proofs.assembly.assemble.Goals as goal
 
 pub elf_file-requires : goal.elf_file-requires
@@ -52,3 +53,6 @@ returns-clause-loads c =
     (assembles c.args.source.now ps (bytes_in c.in_ok-out.out) text_len c.entry-entry.result
     (known_second c.args.source.now ps text_len places (bytes_in c.in_ok-out.out) first c.in_ok-listing.ensures.text_len c.in_ok-listing.ensures.labels second)
     entry c.entry-entry.type_inv)
+
+pub returns-clause-starts : goal.returns-clause-starts
+returns-clause-starts c = started _ _ (returns-clause-loads c)
