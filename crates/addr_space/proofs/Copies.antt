@@ -92,6 +92,7 @@ space-kept ram ram' space is kept =
         lowers = λ p f e. let r = is.full.lowers p f (sym (tables 2 p (omega arith)) ∙ e) in (r.0, r.1, r.2, ap frame_of (entries (512 * p + r.0)) ∙ r.3);
       };
       leaves = λ u. subst (λ e. Usual e) (sym (entries u)) (is.leaves u);
+      ends = λ u ge lt. ap frame_of (entries u) ∙ is.ends u ge lt;
       pages = is.pages ∙ sym (ap length frames);
       tables = omega (arith, is.tables, length-kinds ram root, length-kinds ram' root, ap length own, ap length frames);
     }
@@ -160,7 +161,7 @@ copied-none pool pool0 ram ram0 self child b made image room =
 -- the end: all pages are there
 pub copied-all : (pool pool0 pool1 : Pool) (ram ram0 ram1 : List (List ℕ)) (self child0 child : Space) (from : ℕ) → Made pool ram pool0 ram0 child0 → ((v : ℕ) → page_at ram0 self.root v ≡ page_at ram self.root v) → Copied pool0 ram0 child0 self from pool1 ram1 child
     → ((u : ℕ) → from ≤ u → u < 67108864 → frame_of (page_entry ram1 self.root u) ≡ None)
-    → Made pool ram pool1 ram1 (record { root = child.root; size = self.size; pages = child.pages; tables = child.tables }) × (image_of ram1 (record { root = child.root; size = self.size; pages = child.pages; tables = child.tables }) ≡ image_of ram self)
+    → Made pool ram pool1 ram1 (record { root = child.root; size = self.size; pages = child.pages; tables = child.tables; end = child.end }) × (image_of ram1 (record { root = child.root; size = self.size; pages = child.pages; tables = child.tables; end = child.end }) ≡ image_of ram self)
 unfolding pages_of
 copied-all pool pool0 pool1 ram ram0 ram1 self child0 child from made same so none =
     let w = so.changed.whole in
@@ -168,7 +169,7 @@ copied-all pool pool0 pool1 ram ram0 ram1 self child0 child from made same so no
     let all : gathered (page_at ram0 self.root) (2 ^ 26) ≡ gathered (page_at ram0 self.root) from =
     sym (ap (gathered (page_at ram0 self.root)) k) ∙ gathered-skip (page_at ram0 self.root) from (67108864 - from) (λ u gu lu. sym (so.same u) ∙ page-none ram1 (page_entry ram1 self.root u) (none u gu (omega (arith, lu, so.inside)))) in (
       record {
-        whole = record { tree = w.tree; full = w.full; leaves = w.leaves; pages = w.pages; tables = w.tables };
+        whole = record { tree = w.tree; full = w.full; leaves = w.leaves; pages = w.pages; tables = w.tables; ends = w.ends };
         traded = trade-join pool pool0 pool1 ram ram0 ram1 [] (frames_of ram0 child0) (frames_of ram1 child) made.traded so.changed.traded;
       },
       ap (λ m. record { pages = m; size = self.size }) (so.pages ∙ sym all ∙ gathered-same (page_at ram self.root) (page_at ram0 self.root) (2 ^ 26) same),

@@ -66,7 +66,7 @@ nothing ram root bare =
     }
 
 pub made-empty : (pool pool' : Pool) (ram ram' : List (List ℕ)) (g : ℕ) → Good pool ram → Taken pool ram pool' ram' g
-    → Made pool ram pool' ram' (record { root = g; size = 0; pages = 0; tables = 1 }) × (image_of ram' (record { root = g; size = 0; pages = 0; tables = 1 }) ≡ no_pages)
+    → Made pool ram pool' ram' (record { root = g; size = 0; pages = 0; tables = 1; end = 0 }) × (image_of ram' (record { root = g; size = 0; pages = 0; tables = 1; end = 0 }) ≡ no_pages)
 made-empty pool pool' ram ram' g good taken =
     let bare : (i : ℕ) → entry_at ram' g i ≡ Invalid = λ i. ap (entry_of (length ram')) (word_at-zero ram' g i taken.zeros) ∙ entry_of-zero (length ram') in
     let no = nothing ram' g bare in
@@ -88,6 +88,7 @@ made-empty pool pool' ram ram' g good taken =
             lowers = λ p f e. let w : None ≡ Some f = sym (no-lower ram' g p bare) ∙ e in absurd (cc);
           };
           leaves = λ v. subst (λ e. Usual e) (sym (no-page ram' g v bare)) tt;
+          ends = λ v ge lt. ap frame_of (no-page ram' g v bare);
           pages = sym (ap length no.p);
           tables = omega (arith, ap length no.u, ap length no.l);
         };

@@ -1,5 +1,5 @@
 -- A space with a page more.
-use Rattle.std.proofs.Common.{◌≡◌, ℕ, ◌+◌, ◌-◌, ◌<◌, ◌≤◌, true, List, length, None, refl, sym, ap, ◌∙◌, subst, arith}
+use Rattle.std.proofs.Common.{◌≡◌, ℕ, ◌+◌, ◌-◌, ◌<◌, ◌≤◌, max, true, List, length, None, refl, sym, ap, ◌∙◌, subst, arith}
 use Rattle.xk_base.specs.declared.access.Rights.{Rights}
 use Rattle.std.specs.FinMap.{get}
 use Rattle.frame_list.specs.declared.Pool.{Pool}
@@ -21,7 +21,11 @@ absent-at ram root v small none = sym (page-got ram root v small) ∙ none
 
 -- the same space with other counts
 abbrev pub counted : Space → ℕ → ℕ → Space
-counted space pages tables = record { root = space.root; size = space.size; pages = pages; tables = tables }
+counted space pages tables = record { root = space.root; size = space.size; pages = pages; tables = tables; end = space.end }
+
+-- a space with a page more
+abbrev pub with_more : Space → (tables end : ℕ) → Space
+with_more space tables end = record { root = space.root; size = space.size; pages = space.pages + 1; tables = tables; end = end }
 
 rise-some : (ram : List (List ℕ)) (root v : ℕ) → 1 ≤ rise ram root v
 unfolding rise
@@ -35,10 +39,10 @@ pub costs : (ram : List (List ℕ)) (space : Space) (v need : ℕ) (page : Page)
     → price (with_page (image_of ram space) v page) ≡ price (image_of ram space) + need
 costs ram space v need page is small none e = omega (arith, price-rise ram space.root space.size v page is.tree is.full small none, e)
 
-pub mapped : (pool pool' : Pool) (ram ram' : List (List ℕ)) (space : Space) (v g need : ℕ) (perm : Rights) → IsSpace ram space → v < 67108864 → page_at ram space.root v ≡ None → need ≡ rise ram space.root v
+pub mapped : (pool pool' : Pool) (ram ram' : List (List ℕ)) (space : Space) (v g need end : ℕ) (perm : Rights) → IsSpace ram space → v < 67108864 → page_at ram space.root v ≡ None → need ≡ rise ram space.root v → end ≡ max space.end (v + 1)
     → PageAdded pool ram pool' ram' space.root v perm → Beside ram ram' space.root v → page_entry ram' space.root v ≡ Leaf g perm true true
-    → Changed pool ram space pool' ram' (counted space (space.pages + 1) (space.tables + (need - 1)))
-mapped pool pool' ram ram' space v g need perm is small none e added beside there =
+    → Changed pool ram space pool' ram' (with_more space (space.tables + (need - 1)) end)
+mapped pool pool' ram ram' space v g need end perm is small none e more_end added beside there =
     let full = full-after ram ram' space.root v g is.full beside (ap frame_of there) in
     let more = pages-more ram ram' space.root v (zeroed perm) small none added.pages in
     let old = space-counts ram space is in
@@ -50,6 +54,7 @@ mapped pool pool' ram ram' space v g need perm is small none e added beside ther
         tree = added.holds.tree;
         full = full;
         leaves = leaves-after ram ram' space.root v is.leaves beside (subst (λ e. Usual e) (sym there) (refl, refl));
+        ends = λ u ge lt. ap frame_of (beside.pages u (λ e. omega (arith, e, ge, more_end))) ∙ is.ends u (omega (arith, ge, more_end)) lt;
         pages = omega (arith, more, is.pages);
         tables = omega (arith, more, is.pages, old, new, cost, same, length-kinds ram' space.root, needs-some ram space.root v need e);
       };

@@ -80,6 +80,7 @@ changed-same pool ram ram' space g b s stay own =
           lowers = λ p f e. let r = is.full.lowers p f (sym (s.tables 2 p (omega arith)) ∙ e) in (r.0, r.1, r.2, s.frames (512 * p + r.0) ∙ r.3);
         };
         leaves = s.usual;
+        ends = λ v ge lt. s.frames v ∙ is.ends v ge lt;
         pages = is.pages ∙ sym (ap length (same-pages ram ram' root s));
         tables = omega (arith, is.tables, length-kinds ram root, length-kinds ram' root, ap length same, ap length (same-pages ram ram' root s));
       };

@@ -1,16 +1,19 @@
 -- Where accesses lead after a change of the tables: only the last entry on the way to a page tells.
-use Rattle.std.proofs.Common.{◌≡◌, ℕ, ◌-◌, ◌*◌, ◌/◌, ◌%◌, ◌^◌, ◌<◌, ◌≤◌, ◌⊎◌, eqb, Bool, true, false, cond, List, Option, Some, None, inl, inr, refl, sym, ap, ◌∙◌, subst, arith}
-use Rattle.std.proofs.lemmas.Bool.{cases_eq}
+use Rattle.std.proofs.Common.{◌≡◌, ℕ, ◌-◌, ◌*◌, ◌/◌, ◌%◌, ◌^◌, ◌<◌, ◌≤◌, min, ◌⊎◌, eqb, Bool, true, false, cond, List, Option, Some, None, inl, inr, refl, sym, ap, ◌∙◌, subst, arith}
+use Rattle.std.proofs.lemmas.Bool.{cases_eq, cases_lt}
 use Rattle.xk_base.specs.declared.access.Access.{Access}
 use Rattle.sv39_core.specs.declared.entry.Entry.{Entry}
 use Rattle.sv39_core.specs.declared.entry.Entry.TheVariants.{Invalid, Table, Leaf}
 use Rattle.sv39_core.specs.Sv39.{is_canonical, allowed, page_entry, walked}
-use Rattle.sv39_core.specs.Tree.{page_of, page_at}
+use Rattle.sv39_core.specs.Tree.{page_of, page_at, frame_of}
 use Rattle.sv39_core.proofs.Walks.{walked-not_canonical}
+use Rattle.sv39_core.proofs.Places.{page-place}
 use Rattle.sv39_core.proofs.Words.{eqb-no}
 use Rattle.std.specs.Int.{bit_at}
 use Rattle.addr_space.specs.Translations.{TranslationsStay, WalksStay, WalksStayBelow, WalksStayBeside}
 use Rattle.addr_space.specs.Steps.{Beside}
+use Rattle.addr_space.specs.Space.{IsSpace}
+use Rattle.addr_space.specs.declared.Space.{Space}
 
 pub walk-same : (ram ram' : List (List ℕ)) (root va : ℕ) (access : Access) → page_entry ram' root (va / 4096 % 134217728) ≡ page_entry ram root (va / 4096 % 134217728) → walked ram' root va access ≡ walked ram root va access
 unfolding walked
@@ -79,4 +82,27 @@ walks-beside ram ram' root v small same va access away =
         | inr far ↦ walk-far ram ram' root va access far
       ]
       | inr ne ↦ walk-same ram ram' root va access (same (va / 4096 % 134217728) ne)
+    ]
+
+-- a page without a frame is none
+bare : (ram : List (List ℕ)) (e : Entry) → frame_of e ≡ None → page_of ram e ≡ None
+bare ram Invalid h = refl
+bare ram (Table f) h = refl
+bare ram (Leaf f p a d) h = absurd (cc)
+
+none-of : (o : Option ℕ) → ((f : ℕ) → o ≡ Some f → ⊥) → o ≡ None
+none-of None never = refl
+none-of (Some f) never = absurd (never f refl)
+
+-- no access reaches an address behind the end of a space
+pub unreached : (ram : List (List ℕ)) (space : Space) (end va : ℕ) (access : Access) → IsSpace ram space → end ≡ min space.end 67108864 → 4096 * end ≤ va → walked ram space.root va access ≡ None
+unreached ram space end va access is least behind =
+    let v = va / 4096 % 134217728 in
+    let e = page_entry ram space.root v in
+    elim (cases_lt v 67108864) [
+      | inl small ↦ elim (page-of-address va v refl small) [
+        | inl here ↦ walk-none ram space.root va access (bare ram e (is.ends v (omega (arith, here, behind, least, small)) small))
+        | inr far ↦ walked-not_canonical ram space.root va access far
+      ]
+      | inr big ↦ walk-none ram space.root va access (bare ram e (none-of (frame_of e) (λ f there. omega (arith, page-place ram space.root v f is.tree there, big))))
     ]

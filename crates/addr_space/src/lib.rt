@@ -9,10 +9,11 @@
 //! Each call moves frames between the free ones and its own space alone, and leaves all others' bytes.
 #![tactic(auto)]
 
-ghost use Rattle.std.specs.Prelude.{◌≡◌, ◌≢◌, ℕ, ◌+◌, ◌*◌, ◌/◌, ◌%◌, ◌^◌, ◌<◌, ◌≤◌, length, Some, None, true, IfOk, IfErr, IfSome, IfNone, List, [], ◌-◌, option_map, false, take, drop};
+ghost use Rattle.std.specs.Prelude.{◌≡◌, ◌≢◌, ℕ, ◌+◌, ◌*◌, ◌/◌, ◌%◌, ◌^◌, ◌<◌, ◌≤◌, length, Some, None, true, IfOk, IfErr, IfSome, IfNone, List, [], ◌-◌, option_map, false, take, drop, min};
 ghost use Rattle.xk_base.specs.Frames.{copies};
 ghost use Rattle.frame_list.specs.Pool.{free_in, Good};
-ghost use Rattle.sv39_core.specs.Sv39.{table_at, page_entry, entry_at, table_of};
+ghost use Rattle.sv39_core.specs.Sv39.{table_at, page_entry, entry_at, table_of, walked};
+ghost use Rattle.xk_base.specs.declared.access.Access.{Access};
 ghost use Rattle.xk_base.specs.declared.limits.TheConstants.{SIZE_LIMIT};
 ghost use Rattle.xk_base.specs.Access.{IsPerm};
 ghost use Rattle.xk_base.specs.declared.access.Rights.{Rights};
@@ -52,6 +53,8 @@ pub struct Space {
     pages: u32,
     /// How many tables there are, the root among them.
     tables: u32,
+    /// All pages have lower numbers than this one.
+    end: u32,
 }
 
 impl Space {
@@ -74,6 +77,7 @@ impl Space {
             size: 0,
             pages: 0,
             tables: 1,
+            end: 0,
         })
     }
 
@@ -96,6 +100,15 @@ impl Space {
         ensures { (ram : List (List ℕ)) → IsSpace ram self.now → result ≡ len (pages_of ram self.now.root) }
     {
         self.pages
+    }
+
+    /// A number, [`VPN_END`] at most, below which the numbers of all pages lie: no access reaches a frame
+    /// from there on.
+    pub fn end(&self) -> u32
+        ensures value { result ≡ min self.now.end (2 ^ 26) }
+        ensures unreached { (ram : List (List ℕ)) (va : ℕ) (access : Access) → IsSpace ram self.now → 4096 * result ≤ va → walked ram self.now.root va access ≡ None }
+    {
+        self.end.min(VPN_END)
     }
 
     /// How many frames the space owns: its image's price. As many a [`copy`](Space::copy) takes.
@@ -272,6 +285,7 @@ impl Space {
         add_page(pool, ram, self.root, v, perm);
         self.pages += 1;
         self.tables += needed - 1;
+        self.end = self.end.max(v as u32 + 1);
         Ok(())
     }
 }
@@ -317,9 +331,9 @@ fn lower_table(ram: &Ram, root: Frame, v: usize) -> Option<Frame>
     Some(lower)
 }
 
-/// Whether an entry of a table leads to a page. It looks from entry `from` on, and then at those before
-/// it: where pages are freed in order, the next one is found at once. Where `none_left` is true, no
-/// entry does, and it looks at none.
+/// Whether an entry of a table leads to a page. It looks at the entry behind `from`, and then from `from`
+/// down: where pages are freed in order, the next one is found at once, or else the one before the first.
+/// Where `none_left` is true, no entry does, and it looks at none.
 fn has_page(ram: &Ram, table: Frame, from: usize, none_left: bool) -> bool
     requires table_in { table < length ram.now }
     requires from_in { from < 512 }
@@ -331,7 +345,7 @@ fn has_page(ram: &Ram, table: Frame, from: usize, none_left: bool) -> bool
         return false;
     }
     for i in 0..512 {
-        if let Entry::Leaf(..) = read_entry(ram, table, (from + i) % 512) {
+        if let Entry::Leaf(..) = read_entry(ram, table, (from + 513 - i) % 512) {
             return true;
         }
     }
@@ -350,7 +364,7 @@ fn has_table(ram: &Ram, table: Frame, from: usize, none_left: bool) -> bool
         return false;
     }
     for i in 0..512 {
-        if let Entry::Table(_) = read_entry(ram, table, (from + i) % 512) {
+        if let Entry::Table(_) = read_entry(ram, table, (from + 513 - i) % 512) {
             return true;
         }
     }
@@ -514,7 +528,7 @@ impl Space {
         ensures above { (u : ℕ) → first ≤ u → u < 2 ^ 26 → frame_of (page_entry ram.new self.old.root u) ≡ None }
     {
         let mut from = first;
-        'pages: while let Some(v) = page_left(ram, self.root, from, self.pages == 0) {
+        'pages: while let Some(v) = page_left(ram, self.root, from, self.end <= from as u32) {
             self.free_page(pool, ram, v);
             from = v + 1;
         }
@@ -532,9 +546,10 @@ impl Space {
         ensures walks { WalksStayBelow (4096 * page_count size) ram.old ram.new self.old.root }
         ensures others { SparesOthers pool.old ram.old (frames_of ram.old self.old) ram.new }
     {
-        let first = ((size + 4095) / 4096) as usize;
-        self.free_from(pool, ram, first);
+        let first = ((size + 4095) / 4096) as u32;
+        self.free_from(pool, ram, first as usize);
         self.size = size;
+        self.end = self.end.min(first);
     }
 
     /// Gives back all frames of the space.

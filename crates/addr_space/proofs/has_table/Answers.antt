@@ -5,9 +5,9 @@ use Rattle.addr_space.proofs.has_table.Goals as goal
 
 pub returns-clause-none : goal.returns-clause-none
 returns-clause-none c e k lt =
-    let i = (k + 512 - c.args.from) % 512 in
-    let at : (c.args.from + i) % 512 ≡ k = omega (arith, c.requires.from_in) in
+    let i = (c.args.from + 513 - k) % 512 in
+    let at : (c.args.from + 513 - i) % 512 ≡ k = omega (arith, c.requires.from_in, lt) in
     ap (λ x. table_of (entry_at c.args.ram.now c.args.table x)) (sym at) ∙ c.loop-i.invariant i (omega arith)
 
 pub returns-in-Table-clause-some : goal.returns-in-Table-clause-some
-returns-in-Table-clause-some c e = ((c.args.from + c.loop-i.i) % 512, c.in-Table.field-0, omega arith, ap table_of (sym c.in-Table.ensures))
+returns-in-Table-clause-some c e = ((c.args.from + 513 - c.loop-i.i) % 512, c.in-Table.field-0, omega arith, ap table_of (sym c.in-Table.ensures))

@@ -48,7 +48,7 @@ pub returns-clause-changed : goal.returns-clause-changed
 returns-clause-changed c =
     let n = c.number-v.result in
     let absent = ap (page_at c.args.ram.now c.args.self.now.root) c.number-v.ensures.value ∙ absent-at c.args.ram.now c.args.self.now.root c.args.vpn c.number-v.ensures.range c.requires.absent in
-    mapped _ _ c.args.ram.now c.add_page.new.ram c.args.self.now n c.add_page.ensures.there.0 c.frames_for-needed.result c.args.perm c.requires.belongs.whole (omega (arith, c.number-v.ensures.value, c.number-v.ensures.range)) absent c.frames_for-needed.ensures c.add_page.ensures.added c.add_page.ensures.beside c.add_page.ensures.there.1
+    mapped _ _ c.args.ram.now c.add_page.new.ram c.args.self.now n c.add_page.ensures.there.0 c.frames_for-needed.result c.max-self.result c.args.perm c.requires.belongs.whole (omega (arith, c.number-v.ensures.value, c.number-v.ensures.range)) absent c.frames_for-needed.ensures c.max-self.ensures c.add_page.ensures.added c.add_page.ensures.beside c.add_page.ensures.there.1
 
 pub returns-clause-belongs : goal.returns-clause-belongs
 returns-clause-belongs c = belongs-after _ _ _ _ _ _ c.requires.belongs (returns-clause-changed c)

@@ -1,9 +1,10 @@
 use Rattle.std.proofs.Common.{◌≡◌, ◌+◌, ◌/◌, ap, ◌∙◌, arith}
-use Rattle.sv39_core.specs.Tree.{pages_of}
+use Rattle.sv39_core.specs.Sv39.{page_entry}
+use Rattle.sv39_core.specs.Tree.{pages_of, frame_of}
 use Rattle.addr_space.proofs.Freeing.{pages-below}
 use Rattle.addr_space.proofs.Isolation.{spared}
 use Rattle.addr_space.proofs.Translations.{walks-below}
-use Rattle.addr_space.proofs.Trades.{belongs-after, belongs-resized}
+use Rattle.addr_space.proofs.Trades.{belongs-after, belongs-ended}
 use Rattle.addr_space.proofs.Space.shrink.Goals as goal
 
 pub returns-clause-image : goal.returns-clause-image
@@ -16,7 +17,13 @@ pub returns-clause-others : goal.returns-clause-others
 returns-clause-others c other s = spared _ _ _ _ _ _ other c.free_from.ensures.changed.traded s
 
 pub returns-clause-belongs : goal.returns-clause-belongs
-returns-clause-belongs c = belongs-resized c.free_from.new.pool c.free_from.new.ram c.free_from.new.self c.args.size (belongs-after _ _ _ _ _ _ c.requires.belongs c.free_from.ensures.changed)
+returns-clause-belongs c =
+    let root : c.free_from.new.self.root ≡ c.args.self.now.root = c.free_from.ensures.changed.root in
+    belongs-ended c.free_from.new.pool c.free_from.new.ram c.free_from.new.self ((c.args.size + 4095) / 4096) c.args.size c.min-self.result c.min-self.ensures (belongs-after _ _ _ _ _ _ c.requires.belongs c.free_from.ensures.changed)
+    (λ u ge lt. ap (λ r. frame_of (page_entry c.free_from.new.ram r u)) root ∙ c.free_from.ensures.above u ge lt)
+
+pub returns-clause-changed : goal.returns-clause-changed
+returns-clause-changed c = record { whole = (returns-clause-belongs c).whole; root = c.free_from.ensures.changed.root; traded = c.free_from.ensures.changed.traded }
 
 pub returns-clause-walks : goal.returns-clause-walks
 returns-clause-walks c = walks-below c.args.ram.now c.free_from.new.ram c.args.self.now.root ((c.args.size + 4095) / 4096) c.free_from.ensures.entries (omega (arith, c.requires.limit))

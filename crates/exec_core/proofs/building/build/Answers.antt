@@ -1,11 +1,11 @@
-use Rattle.std.proofs.Common.{◌≡◌, ◌+◌, ◌*◌, ◌/◌, length, refl, sym, ap, ◌∙◌, arith}
+use Rattle.std.proofs.Common.{◌≡◌, ◌+◌, ◌*◌, ◌/◌, ◌≤◌, length, refl, sym, ap, ◌∙◌, subst, arith}
 use Rattle.xk_base.specs.Image.{price}
-use Rattle.xk_base.specs.Loaded.{end_after, program_image}
+use Rattle.xk_base.specs.Loaded.{end_after, program_image, lowest, text_places}
 use Rattle.addr_space.specs.Space.{image_of}
 use Rattle.addr_space.proofs.Trades.{free-after, belongs-after, belongs-made}
 use Rattle.exec_core.specs.Building.{price_first, with_stack, with_texts}
 use Rattle.exec_core.proofs.Texts.{length-texts_of}
-use Rattle.exec_core.proofs.Whole.{loaded_image, plan-some, plan-price, made-free, made-then, made-spares, empty-price, room-limit, mapped-size, mapped-price, stacked-has, texts-have, room-pointers, whole-image}
+use Rattle.exec_core.proofs.Whole.{loaded_image, plan-some, plan-price, made-free, made-then, made-spares, empty-price, room-limit, mapped-size, mapped-price, stacked-has, texts-have, room-lowest, room-pointers, whole-image}
 use Rattle.exec_core.proofs.building.build.Goals as goal
 
 pub returns-then-from-price-clause-refused : goal.returns-then-from-price-clause-refused
@@ -128,3 +128,9 @@ returns-clause-limit c =
       c.plan.invariant.behind,
       room-limit c.args.pool.now c.args.ram.now i.guard c.requires.good (omega (arith, c.free.ensures c.args.ram.now c.requires.good, c.from.ensures, c.price.ensures, c.if-from-price.false)),
     )
+
+pub lay_texts-requires-clause-room : goal.lay_texts-requires-clause-room
+lay_texts-requires-clause-room c =
+    let i = c.plan.inside in
+    let top = 4096 * (i.guard + 1 + 1) in
+    subst (λ texts. 4096 * (i.guard + 1) ≤ lowest top (text_places top texts)) c.parts.ensures.texts (room-lowest i.file.now i.segments i.guard i.args.now i.start.sp c.plan.invariant)
