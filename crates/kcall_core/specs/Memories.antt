@@ -1,5 +1,5 @@
 -- The memories of the processes and the pipes in RAM: what they stand for, and whose each frame is.
-use Rattle.std.specs.Prelude.{◌≡◌, ◌≢◌, ℕ, ◌+◌, ◌%◌, ◌≤◌, ◌<◌, Bool, true, false, if◌then◌else◌, List, [], ◌∷◌, ◌++◌, Option, Some, None, length, get_or, set, map}
+use Rattle.std.specs.Prelude.{◌≡◌, ◌≢◌, ℕ, ◌+◌, ◌%◌, ◌≤◌, ◌<◌, Bool, true, false, if◌then◌else◌, List, [], ◌∷◌, ◌++◌, Option, Some, None, length, get_or, set, map, ◌&&◌, nat_le, nat_lt, cond}
 use Rattle.std.specs.Ordering.{nat_cmp}
 use Rattle.std.specs.FinMap.{FinMap, get}
 use Rattle.xk_base.specs.Frames.{copies}
@@ -97,6 +97,10 @@ pub record RunsIn (m : Memories) (slot : ℕ) (hart : Hart) : Type 0 where
   pub is : get_or m.each.items slot None ≡ Some memory
   pub root : hart.root ≡ Some memory.space.root
   pub fits : Fits m.ram memory.space.root hart.cache
+
+-- a page has one of the numbers from first to below end
+abbrev pub is_between : ℕ → ℕ → ℕ → Bool
+is_between first end page = nat_le first page && nat_lt page end
 
 -- ---- a change of one slot
 

@@ -23,3 +23,6 @@ pub returns-clause-refused : goal.returns-clause-refused
 returns-clause-refused c e =
     let refused = where-err c.grow.result c.grow.ensures.refused (sym c.is_ok.ensures.value ∙ e) in
     image-too-dear c.args.self.now c.args.hart.now c.requires.sound c.requires.running c.in-Some.slot c.grow.new.self c.args.size c.data_rights.result c.in-Some.is c.data_rights.ensures (omega (arith, c.size.ensures.value, c.if-size.false)) refused.0 refused.1
+
+pub shrink-requires-clause-running : goal.shrink-requires-clause-running
+shrink-requires-clause-running c = (c.requires.sound.current c.in-Some.slot c.in-Some.is).runs

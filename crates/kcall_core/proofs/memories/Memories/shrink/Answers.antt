@@ -1,11 +1,18 @@
-use Rattle.std.proofs.Common.{◌≤◌, Some, refl, sym, ◌∙◌, ap, subst}
+use Rattle.std.proofs.Common.{◌≡◌, ℕ, ◌+◌, ◌/◌, ◌≤◌, Option, Some, None, refl, sym, ◌∙◌, ap, subst, arith}
 use Rattle.xk_base.specs.Image.{Image}
 use Rattle.addr_space.specs.Changes.{shrunk}
 use Rattle.kcall_core.proofs.Lists.{set-twice}
-use Rattle.hart_core.specs.declared.hart.Hart.{Hart}
-use Rattle.kcall_core.proofs.Runs.{switched-runs}
+use Rattle.hart_core.specs.Translations.{Fits, FitsBut}
+use Rattle.kcall_core.specs.Memories.{is_between}
+use Rattle.kcall_core.specs.declared.memories.Memory.{Memory}
+use Rattle.kcall_core.proofs.Runs.{runs-root, forgot-runs}
 use Rattle.kcall_core.proofs.Changes.{there-below, there-some, stands, belongs-of, image-seen, space-changes}
 use Rattle.kcall_core.proofs.memories.Memories.shrink.Goals as goal
+
+-- the end of the space in a slot
+abbrev end_of : Option Memory → ℕ
+end_of None = 0
+end_of (Some m) = m.space.end
 
 pub index_mut-requires : goal.index_mut-requires
 index_mut-requires c = there-below _ _ c.requires.there
@@ -30,11 +37,28 @@ returns-clause-shrunk c =
     space-changes _ c.shrink.new.self _ s c.shrink.ensures.changed (c.shrink.ensures.image ∙ ap (λ i. shrunk i c.args.size) (sym (image-seen s))) c.requires.limit
     (set-twice c.args.self.now.each.items c.args.slot c.take.new.self (Some record { space = c.shrink.new.self; trapframe = c.in-Some.memory.trapframe })) refl
 
-pub returns-clause-regs : goal.returns-clause-regs
-returns-clause-regs c = ap (λ (h : Hart). h.regs) c.switch.ensures.value
+-- the hart runs the memory that stands in the slot
+pub forget_from-requires-clause-root : goal.forget_from-requires-clause-root
+forget_from-requires-clause-root c =
+    let s = stands c.index_mut.result.now c.in-Some.memory c.requires.sound c.requires.there c.index_mut.ensures.value (sym c.take.ensures.value ∙ c.in-Some.is) in
+    runs-root s c.requires.running ∙ ap Some (sym (c.root.ensures ∙ c.shrink.ensures.changed.root))
 
 pub returns-clause-runs : goal.returns-clause-runs
 returns-clause-runs c =
     let s = stands c.index_mut.result.now c.in-Some.memory c.requires.sound c.requires.there c.index_mut.ensures.value (sym c.take.ensures.value ∙ c.in-Some.is) in
-    switched-runs _ c.shrink.new.self s (set-twice c.args.self.now.each.items c.args.slot c.take.new.self (Some record { space = c.shrink.new.self; trapframe = c.in-Some.memory.trapframe })) c.switch.new.self
-    (ap (λ (h : Hart). h.root) c.switch.ensures.value ∙ ap Some c.root.ensures) (c.switch.ensures.fits c.shrink.new.ram)
+    let ram = c.shrink.new.ram in
+    let first = (c.args.size + 4095) / 4096 in
+    let end = c.end-end.result in
+    let old = c.args.hart.now.cache in
+    let new = c.forget_from.new.hart.cache in
+    forgot-runs _ c.shrink.new.self s c.shrink.ensures.changed.root
+    (set-twice c.args.self.now.each.items c.args.slot c.take.new.self (Some record { space = c.shrink.new.self; trapframe = c.in-Some.memory.trapframe }))
+    first end c.shrink.ensures.walks (λ va access far. c.end-end.ensures.unreached c.args.self.now.ram va access (belongs-of s).whole far)
+    c.args.hart.now c.forget_from.new.hart c.requires.running (c.forget_from.ensures.root ∙ ap Some c.root.ensures)
+    (subst (λ (r : ℕ). FitsBut ram r old (is_between first end) → Fits ram r new) c.root.ensures (c.forget_from.ensures.fits ram))
+
+pub returns-clause-kept : goal.returns-clause-kept
+returns-clause-kept c memory is few page lt =
+    let s = stands c.index_mut.result.now c.in-Some.memory c.requires.sound c.requires.there c.index_mut.ensures.value (sym c.take.ensures.value ∙ c.in-Some.is) in
+    let end : memory.space.end ≡ c.in-Some.memory.space.end = ap end_of (sym is ∙ s.is) in
+    c.forget_from.ensures.kept (omega (arith, few, end, c.end-end.ensures.value)) page lt

@@ -1,0 +1,27 @@
+use Rattle.std.proofs.Common.{◌≡◌, ◌≢◌, ℕ, ◌+◌, Some, ap, ◌∙◌, subst, arith}
+use Rattle.hart_core.specs.Translations.{FitsBut, but_not}
+use Rattle.hart_core.specs.declared.hart.Hart.{Hart}
+use Rattle.hart_core.proofs.Caches.{fits_root}
+use Rattle.kcall_core.specs.Memories.{is_between}
+use Rattle.kcall_core.proofs.Runs.{but-next, but-none}
+use Rattle.kcall_core.proofs.memories.forget_from.Goals as goal
+
+pub returns-then-first-end-clause-fits : goal.returns-then-first-end-clause-fits
+returns-then-first-end-clause-fits c ram f = fits_root ram c.switch.new.self.root c.args.root c.switch.new.self.cache (ap (λ (h : Hart). h.root) c.switch.ensures.value) (c.switch.ensures.fits ram)
+
+-- one page more is forgotten, and those below the first stay
+pub loop-v-preserved : goal.loop-v-preserved
+loop-v-preserved c =
+    let v = c.loop-v.v in
+    let gone = is_between v c.args.end in
+    record {
+      regs = c.forget.ensures.regs ∙ c.loop-v.invariant.regs;
+      root = c.forget.ensures.root ∙ c.loop-v.invariant.root;
+      ahead = omega arith;
+      fits = λ ram root f. but-next ram root c.forget.new.self.cache v c.args.end
+          (subst (λ (u : ℕ). FitsBut ram root c.forget.new.self.cache (but_not gone u)) c.new.ensures (c.forget.ensures.but ram root gone (c.loop-v.invariant.fits ram root f)));
+      kept = λ page lt. c.forget.ensures.others page (λ e. omega (arith, e, lt, c.new.ensures)) ∙ c.loop-v.invariant.kept page lt;
+    }
+
+pub returns-clause-fits : goal.returns-clause-fits
+returns-clause-fits c ram f = but-none ram c.args.root c.loop-v.hart.cache c.loop-v.v c.args.end c.loop-v-test.false (c.loop-v.invariant.fits ram c.args.root f)
