@@ -1,6 +1,6 @@
 -- The state after boot is well-formed.
 use Rattle.std.proofs.Common.{◌≡◌, ◌≢◌, ℕ, ◌≤◌, ◌+◌, ◌-◌, Bool, true, false, cond, ◌||◌, List, refl, ap, sym, ◌∙◌, subst, arith, inl, inr, lt-ltb}
-use Rattle.std.specs.Prelude.{Option, None, Some, IsSome, is_some, nat_eq, nat_lt, Result, Ok, Err}
+use Rattle.std.specs.Prelude.{Option, None, Some, IsSome, is_some, nat_eq, nat_lt, option_map, Result, Ok, Err}
 use Rattle.std.specs.FinMap.{get, empty, get-empty, len, len-empty}
 use Rattle.std.specs.Ordering.{nat_cmp}
 use Rattle.std.proofs.lemmas.Bool.Decides.{eqb_tells, leb_tells}
@@ -15,6 +15,7 @@ use Rattle.xk_base.specs.Loaded.{Loaded}
 use Rattle.pipe_core.specs.Pipe.{Pipe}
 use Rattle.kcall_core.specs.Programs.{first_bad, init_of}
 use Rattle.kcall_core.specs.Processes.{Process, Alive, Live}
+use Rattle.kcall_core.specs.View.{View, view, view_of}
 use Rattle.kcall_core.specs.Quiet.{file_at, file_of}
 use Rattle.kcall_core.specs.WellFormed.{WellFormed, HasSlots, over_all, cost, sum_below}
 use Rattle.kcall_core.specs.Run.{World}
@@ -151,3 +152,21 @@ slots_here frames programs l enough = record {
 
 pub first_slots : FirstSlots
 first_slots frames trace programs w h = let f = is_first frames trace programs w h in subst (λ (v : World). HasSlots v.state v.turns) (sym f.2) (slots_here frames programs f.0 f.1)
+
+-- ---- and is in no call
+
+idle_here : (frames : ℕ) (programs : List ProgramFile) (l : Loaded) → price l.image + 1 ≤ frames → (p : ℕ) (v : View) → view (first_state frames programs l) p ≡ Some v → v.call ≡ None
+unfolding view_of
+idle_here frames programs l enough p v see = by (nat_eq p 1) (sym (ap (λ (o : Option Process). option_map (view_of (s frames programs l enough) p) (live_part o)) (at frames programs l enough p)) ∙ see)
+  where
+    some_view : (a b : View) → Some a ≡ Some b → a ≡ b
+    some_view a b e = cc
+
+    by : (b : Bool) → option_map (view_of (s frames programs l enough) p) (live_part (cond b (Some (Alive (first_live frames programs l enough))) None)) ≡ Some v → v.call ≡ None
+    by true e = sym (ap (λ (x : View). x.call) (some_view (view_of (s frames programs l enough) p (first_live frames programs l enough)) v e))
+    by false e = let no : ⊥ = cc in absurd no
+
+pub first_idle : (frames trace : ℕ) (programs : List ProgramFile) (w : World) → first frames trace programs ≡ Ok w → (p : ℕ) (v : View) → view w.state p ≡ Some v → v.call ≡ None
+first_idle frames trace programs w h p v see =
+    let f = is_first frames trace programs w h in
+    idle_here frames programs f.0 f.1 p v (sym (ap (λ (x : World). view x.state p) f.2) ∙ see)

@@ -173,3 +173,6 @@ pub mod RowParts
 pub mod RowsByParts
 pub mod PartLaws
 pub mod RowLawsHold
+pub mod Outcomes
+pub mod AnswersTell
+pub mod Cuts

@@ -25,6 +25,7 @@ pub mod First
 pub mod Wakes
 pub mod Worlds
 pub mod RowLaws
+pub mod StepLaws
 pub mod Conditions
 pub mod Codes
 pub mod Starts

@@ -56,9 +56,12 @@ IsPromised w (e ∷ es) t = (mid : World) × Promised w e.0 e.1 mid × IsPromise
 
 -- ---- laws
 
--- promised runs join, and are runs
+-- promised runs join, are split, and are runs
 abbrev pub PromisedRunsJoin : Type 0
 PromisedRunsJoin = (w m t : World) (es fs : List (Event × Outcome)) → IsPromised w es m → IsPromised m fs t → IsPromised w (es ++ fs) t
+
+abbrev pub PromisedRunsSplit : Type 0
+PromisedRunsSplit = (w t : World) (es fs : List (Event × Outcome)) → IsPromised w (es ++ fs) t → (m : World) × IsPromised w es m × IsPromised m fs t
 
 abbrev pub PromisedIsRun : Type 0
 PromisedIsRun = (w t : World) (es : List (Event × Outcome)) → IsPromised w es t → IsRun w es t

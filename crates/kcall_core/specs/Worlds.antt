@@ -1,5 +1,5 @@
 -- Isolation, as laws over runs.
-use Rattle.std.specs.Prelude.{◌≡◌, ℕ, ℤ, pos, Bool, List, [], ◌∷◌, ◌++◌, false, replicate, Option, None, Some, IsSome, Ok, option_map, ◌⊎◌, ◌≢◌, ◌+◌, ◌%◌}
+use Rattle.std.specs.Prelude.{◌≡◌, ℕ, ℤ, pos, Bool, List, [], ◌∷◌, ◌++◌, false, replicate, map, filter, nat_eq, Option, None, Some, IsSome, Ok, option_map, ◌⊎◌, ◌≢◌, ◌+◌, ◌%◌, ◌<◌, Contains}
 use Rattle.std.specs.FinMap.{get}
 use Rattle.kcall_core.specs.State.{ProgramFile, State}
 use Rattle.xk_base.specs.Image.{Page, Image}
@@ -21,6 +21,7 @@ use Rattle.kcall_core.specs.Run.{World, Event, Run, Tick, Key, Send, Outcome, St
 use Rattle.console_core.specs.Keys.{line}
 use Rattle.kcall_core.specs.Words.{CLOCK_ROUND}
 use Rattle.kcall_core.specs.First.{first}
+use Rattle.kcall_core.specs.StepLaws.{waiting_calls}
 
 -- ---- the part of a view that other events may change
 
@@ -77,18 +78,37 @@ pub record Moment : Type 0 where
   pub outcome : Outcome
   pub after : Option View
 
--- The steps of p in a run from w, each after events of any kind and number that aren't its own, until it is gone
-abbrev pub Course : ℕ → World → List Moment → Type 0
-Course p w [] = Unit {0}
-Course p w (m ∷ ms) =
-    (start : World) × (end : World) × (events : List (Event × Outcome))
-    × Others p w events start
+-- The run, cut at p's steps, which are these moments: the events before the first step, between two and behind the last aren't p's. After the step with which p is gone there is none
+abbrev pub IsCut : ℕ → World → List (Event × Outcome) → World → List Moment → Type 0
+IsCut p w es t [] = Others p w es t
+IsCut p w es t (m ∷ ms) =
+    (start : World) × (end : World) × (before : List (Event × Outcome)) × (later : List (Event × Outcome))
+    × (es ≡ before ++ (Run, m.outcome) ∷ later)
+    × Others p w before start
     × (view start.state p ≡ Some m.before)
     × IsStepOf p start Run
     × Happens start Run m.outcome end
     × (view end.state p ≡ m.after)
     × (IsSome m.after ⊎ (ms ≡ []))
-    × Course p end ms
+    × IsCut p end later t ms
+
+-- the steps of p in a run from w
+abbrev pub Course : ℕ → World → List Moment → Type 0
+Course p w ms = (es : List (Event × Outcome)) × (t : World) × IsCut p w es t ms
+
+abbrev pub is_step_of : ℕ → Outcome → Bool
+is_step_of p (Step_of q answer) = nat_eq q p
+is_step_of p _ = false
+
+-- what p's steps gave, in order
+abbrev pub steps_of : ℕ → List (Event × Outcome) → List Outcome
+steps_of p es = filter (is_step_of p) (map (λ e. e.1) es)
+
+-- Every run is cut at the steps of a process that is live as the run begins, and whose pid has been given: each outcome of a step of it is that of a moment, in order, and no moment has another
+abbrev pub RunsAreCut : Type 0
+RunsAreCut =
+    (p : ℕ) (w t : World) (es : List (Event × Outcome)) → IsRun w es t → IsSome (view w.state p) → p < w.state.next_pid
+    → (ms : List Moment) × IsCut p w es t ms × (map (λ m. m.outcome) ms ≡ steps_of p es)
 
 -- R holds at each place that both lists have
 abbrev pub AllBoth : (Moment → Moment → Type 0) → List Moment → List Moment → Type 0
@@ -101,6 +121,12 @@ abbrev pub TwoWorlds : Type 0
 TwoWorlds =
     (p : ℕ) (v w : World) (ms ns : List Moment) → IsSome (view v.state p) → view v.state p ≡ view w.state p → Course p v ms → Course p w ns
     → AllBoth (λ m n. shared m.before ≡ shared n.before) ms ns → AllBoth (λ m n. m ≡ n) ms ns
+
+-- Two worlds in which p sees the same as a step of it begins: the step has the same outcome, p sees the same after it, and a process that it makes has the same first view
+abbrev pub SameStep : Type 0
+SameStep =
+    (p : ℕ) (v w t u : World) (o q : Outcome) → view v.state p ≡ view w.state p → IsStepOf p v Run → IsStepOf p w Run → Happens v Run o t → Happens w Run q u
+    → (o ≡ q) × (view t.state p ≡ view u.state p) × ((c : ℕ) → view v.state c ≡ None → IsSome (view t.state c) → view u.state c ≡ view t.state c)
 
 -- what of a view only the process's own steps change
 abbrev pub SameRest : View → View → Type 0
@@ -200,9 +226,22 @@ NoOldChild = (s : State) (p : ℕ) (v c : View) → view s p ≡ Some v → (own
 abbrev pub IsFromBoot : (frames trace : ℕ) → List ProgramFile → List (Event × Outcome) → World → Type 0
 IsFromBoot frames trace programs es t = (w : World) × (first frames trace programs ≡ Ok w) × IsRun w es t
 
--- runs join
+-- from boot each live process has a pid that has been given, so each run from there on is cut at its steps
+abbrev pub PidsAreGiven : Type 0
+PidsAreGiven = (frames trace : ℕ) (programs : List ProgramFile) (es : List (Event × Outcome)) (t : World) (p : ℕ) → IsFromBoot frames trace programs es t → IsSome (view t.state p) → p < t.state.next_pid
+
+-- from boot the only calls in progress are those that may wait
+abbrev pub OnlyWaitersAreInCalls : Type 0
+OnlyWaitersAreInCalls =
+    (frames trace : ℕ) (programs : List ProgramFile) (es : List (Event × Outcome)) (t : World) (p : ℕ) (v : View) (c : Call) → IsFromBoot frames trace programs es t → view t.state p ≡ Some v → v.call ≡ Some c
+    → Contains waiting_calls c.number
+
+-- runs join, and are split
 abbrev pub RunsJoin : Type 0
 RunsJoin = (w m t : World) (es fs : List (Event × Outcome)) → IsRun w es m → IsRun m fs t → IsRun w (es ++ fs) t
+
+abbrev pub RunsSplit : Type 0
+RunsSplit = (w t : World) (es fs : List (Event × Outcome)) → IsRun w (es ++ fs) t → (m : World) × IsRun w es m × IsRun m fs t
 
 -- What stands of a step of p from boot: it answers as `own` of what p sees says; p's view, a newborn's first one, every other process's, what the state holds, its open files and its turn part are then what `own` says (`StateAfter`, `TurnsAfter`)
 abbrev pub Isolated : Type 0

@@ -8,13 +8,25 @@
 ghost use Rattle.kcall_core.specs.Conditions.{WakesSuffice, ConditionsSuffice, ReadyIsOpen, OpensAlone, OpensNothing, OpensPipe, OpensMarked, OpensReaped, OpensForked, OpensGone, OpensTick, OpensConsole, WaitsStay};
 ghost use Rattle.kcall_core.specs.First.{FirstWell, FirstSlots};
 ghost use Rattle.kcall_core.specs.RowLaws.{InstructionLaw, EcallLaw, ResumeLaw, EndLaw, AnswerLaw, WaitingLaw, ExecLaw, ForkLaw, GoneLaw, ReapLaw, KillLaw, PipeReadLaw, PipeWriteLaw, FileReadLaw, OpenLaw, PipeLaw, DupLaw, DupPipeLaw, CloseLaw, ClosePipeLaw, WellForked, WellGone, WellReaped, WellAlone, WellPiped, WellMoved, WellMarked, WritesTakeNothing, StoresTakeNothing, WellOpened, WellDup, WellDupPipe, WellClosed, WellClosedPipe, WellMadePipe, WellOutside};
-ghost use Rattle.kcall_core.specs.Wakes.{PromisedRunsJoin, PromisedIsRun, NoLostWakeUp, NeverLost, StaysRunnable, SlotsStay, WaitsAtMost, TurnComes, ComesNearer, IsNear, BlocksUnready};
-ghost use Rattle.kcall_core.specs.Worlds.{TwoWorlds, RunsJoin, Isolated, OthersKeep, OutsideSteps, HaltedStays, UnreadyWaits, NoOldPage, NoOldPipe, NoOldChild};
+ghost use Rattle.kcall_core.specs.StepLaws.{RefusalsChangeNothing, InCallWhereBlocked, BlockedIsInCall};
+ghost use Rattle.kcall_core.specs.Wakes.{PromisedRunsJoin, PromisedRunsSplit, PromisedIsRun, NoLostWakeUp, NeverLost, StaysRunnable, SlotsStay, WaitsAtMost, TurnComes, ComesNearer, IsNear, BlocksUnready};
+ghost use Rattle.kcall_core.specs.Worlds.{TwoWorlds, SameStep, RunsAreCut, PidsAreGiven, OnlyWaitersAreInCalls, RunsJoin, RunsSplit, Isolated, OthersKeep, OutsideSteps, HaltedStays, UnreadyWaits, NoOldPage, NoOldPipe, NoOldChild};
 
 /// What a process does and sees follows from what it saw and from what is shared with it, whatever else the
 /// machine holds.
 pub fn two_worlds()
-    ensures { TwoWorlds }
+    // Each of its steps has the same outcome, and it sees the same before and after it.
+    ensures two_worlds { TwoWorlds }
+
+    // One step has the same outcome and leaves the same view, and a process that it makes has the same
+    // first view.
+    ensures same_step { SameStep }
+
+    // Any run is cut at the steps of a process that is live as it begins, so that this speaks of any two runs.
+    ensures runs_are_cut { RunsAreCut }
+
+    // From boot on each live process has a pid that was given, as the cut of a run asks.
+    ensures pids_are_given { PidsAreGiven }
 {}
 
 /// Runs of the machine, and runs in which each event is promised.
@@ -22,8 +34,14 @@ pub fn runs()
     // A run that goes on where another ended makes one run with it.
     ensures runs_join { RunsJoin }
 
-    // So does a promised run.
+    // A part of a run from its head on is a run, and so is the rest.
+    ensures runs_split { RunsSplit }
+
+    // So do promised runs join.
     ensures promised_runs_join { PromisedRunsJoin }
+
+    // And so they are split.
+    ensures promised_runs_split { PromisedRunsSplit }
 
     // A promised run is a run.
     ensures promised_is_run { PromisedIsRun }
@@ -161,6 +179,21 @@ pub fn steps()
 
     // A marked process ends, and so does one that faults.
     ensures end { EndLaw }
+{}
+
+/// What the answer of a step tells of what the step leaves.
+pub fn answers()
+    // A call that answers -1 changes a0 and the pc alone.
+    ensures refusals_change_nothing { RefusalsChangeNothing }
+
+    // A call is in progress after a step exactly where the step's answer is that it waits.
+    ensures in_call_where_blocked { InCallWhereBlocked }
+
+    // It is the call that the step was on: wait, read, sleep or write.
+    ensures blocked_is_in_call { BlockedIsInCall }
+
+    // So from boot on no other call is in progress.
+    ensures only_waiters_are_in_calls { OnlyWaitersAreInCalls }
 {}
 
 /// What each row of the call table does to the state: the state after the step is an update of the state

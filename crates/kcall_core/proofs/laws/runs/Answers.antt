@@ -13,3 +13,9 @@ returns-clause-promised_is_run c = in-boot.promised_is_run
 
 pub returns-clause-halted_stays : goal.returns-clause-halted_stays
 returns-clause-halted_stays c = in-outside.halted_stays
+
+pub returns-clause-runs_split : goal.returns-clause-runs_split
+returns-clause-runs_split c = in-boot.runs_split
+
+pub returns-clause-promised_runs_split : goal.returns-clause-promised_runs_split
+returns-clause-promised_runs_split c = in-boot.promised_runs_split

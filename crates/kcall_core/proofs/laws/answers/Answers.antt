@@ -1,0 +1,15 @@
+use Rattle.kcall_core.proofs.laws.answers.Goals as goal
+use Rattle.kcall_core.proofs.AnswersTell as law
+use Rattle.kcall_core.proofs.Cuts as in-cuts
+
+pub returns-clause-refusals_change_nothing : goal.returns-clause-refusals_change_nothing
+returns-clause-refusals_change_nothing c = law.refusals_change_nothing
+
+pub returns-clause-in_call_where_blocked : goal.returns-clause-in_call_where_blocked
+returns-clause-in_call_where_blocked c = law.in_call_where_blocked
+
+pub returns-clause-blocked_is_in_call : goal.returns-clause-blocked_is_in_call
+returns-clause-blocked_is_in_call c = law.blocked_is_in_call
+
+pub returns-clause-only_waiters_are_in_calls : goal.returns-clause-only_waiters_are_in_calls
+returns-clause-only_waiters_are_in_calls c = in-cuts.only_waiters_are_in_calls
