@@ -76,6 +76,8 @@ mod Rows
 mod RowsOfProcesses
 mod RowsOfFiles
 mod RowsOfEvents
+mod RowsOfRounds
+mod RowsOfRuns
 mod RowsOfBoot
 mod RowsOfSteps
 mod RowsOfBytes
@@ -176,3 +178,4 @@ pub mod RowLawsHold
 pub mod Outcomes
 pub mod AnswersTell
 pub mod Cuts
+pub mod Plans

@@ -28,6 +28,7 @@ use Rattle.kcall_core.specs.Run.{Run, Tick, Key, Send, Step_of, Typed, Sent, rou
 use Rattle.kcall_core.proofs.RowParts.{perform_row, forked, cannot_fork, unless, moving, read_from, write_to, piped_from, reaped, running, exec_loaded, exec_program, exec_path, perform_parts, fork_parts}
 use Rattle.kcall_core.specs.Lines.{◌>>=◌, ◌>>◌, ◌or◌, ◌when◌}
 use Rattle.kcall_core.proofs.RowsByParts.{by_parts}
+use Rattle.kcall_core.specs.Rounds.{round}
 
 module _ (image : Image) where
   -- ---- numbers and arguments

@@ -1,14 +1,10 @@
--- Worked cases of the events: a tick, a key, a byte to be sent, on a machine that goes on and on one that is halted; slots and turns; rounds, and what a run shows.
+-- Worked cases of the events: a tick, a key, a byte to be sent, on a machine that goes on and on one that is halted; slots and turns; and what a run shows.
 -- Processes, open files, pipes and slots are any.
-use Rattle.std.proofs.Common.{inl, inr, ◌≡◌, ◌≢◌, ℕ, ◌^◌, ◌-◌, ◌<◌, ◌≤◌, true, false, ◌||◌, Bool, List, [], ◌∷◌, ◌++◌, refl, ap, sym, ◌∙◌, subst, arith, length, replicate, map, take}
-use Rattle.std.specs.Prelude.{IsSome, MatchOption, Contains, Option, None, Some, pos, negsuc, is_some, drop, codes}
+use Rattle.std.proofs.Common.{inl, inr, ◌≡◌, ◌≢◌, ℕ, ◌^◌, ◌-◌, ◌<◌, ◌≤◌, true, false, List, [], ◌∷◌, refl, ap, sym, ◌∙◌, subst, arith, map}
+use Rattle.std.specs.Prelude.{IsSome, MatchOption, Contains, Option, None, Some, pos, negsuc, codes}
 use Rattle.std.specs.Ordering.{nat_cmp}
 use Rattle.std.specs.FinMap.{FinMap}
 use Rattle.std.specs.FinSet.{FinSet, contains}
-use Rattle.std.specs.List.{list_any}
-use Rattle.std.proofs.Math.Seq.{take-append_seam, drop-append_seam}
-use Rattle.std.proofs.lemmas.List.{append-nil, map-append, length-map}
-use Rattle.std.proofs.lemmas.List.Folds.{list_any-append}
 use Rattle.xk_base.specs.declared.access.Cause.TheVariants.{LoadPageFault}
 use Rattle.pipe_core.specs.Pipe.{Pipe}
 use Rattle.console_core.specs.Lists.{Console, empty_console}
@@ -18,7 +14,7 @@ use Rattle.kcall_core.specs.Processes.{Process}
 use Rattle.kcall_core.specs.State.{State}
 use Rattle.kcall_core.specs.Turns.{Turns, Sleeps, HasSlot, IsFreeSlot, IsLowestFree}
 use Rattle.kcall_core.specs.Own.{Own, Stepped, Called, Blocked, Exited, Faulted}
-use Rattle.kcall_core.specs.Run.{TurnsAfter, World, Event, Run, Tick, Key, Send, Outcome, Step_of, Turn, Idle, Ticked, Typed, Sent, Halted, Happens, Planned, round, out, halted_by, stays_current}
+use Rattle.kcall_core.specs.Run.{TurnsAfter, World, Run, Tick, Key, Send, Outcome, Step_of, Turn, Idle, Ticked, Typed, Sent, Halted, Happens, out, halted_by, stays_current}
 use Rattle.kcall_core.specs.Wakes.{IsRunnable, TakesNearest, WakesWhereDue}
 use Rattle.kcall_core.specs.Ready.{ready}
 use Rattle.kcall_core.specs.View.{View, view}
@@ -285,85 +281,6 @@ module _ (w t : World) (o : Outcome) (due : WakesWhereDue w o t) (p : ℕ) (v : 
       | inr first ↦ let numbers : ◌≡◌ {A = ℕ} 2 1 = sym two ∙ first.0 in let contradiction : ⊥ = cc in contradiction
     ]
   ]
-
--- ---- rounds
-
--- the events of a list
-abbrev events : List (Event × Outcome) → List Event
-events list = map (λ e. e.0) list
-
--- the list halts the machine
-abbrev halts : List (Event × Outcome) → Bool
-halts list = list_any (λ e. is_some (halted_by e.1)) list
-
--- events that each give nothing
-abbrev quiet : List Event → List (Event × Outcome)
-quiet es = map (λ e. (e, Idle)) es
-
-abbrev sends : List Event
-sends = replicate 32 Send
-
--- two keys in two rounds; a third one is left
-two_keys : Planned 2 1 (7 ∷ 8 ∷ 9 ∷ []) false (quiet (Key 7 ∷ Run ∷ Tick ∷ sends ++ Key 8 ∷ Run ∷ Tick ∷ sends))
-two_keys = (quiet (Key 7 ∷ Run ∷ Tick ∷ sends), quiet (Key 8 ∷ Run ∷ Tick ∷ sends), refl, refl, (quiet (Key 8 ∷ Run ∷ Tick ∷ sends), [], refl, refl, refl))
-
--- one key: the second round has none
-one_key : Planned 2 1 (7 ∷ []) false (quiet (Key 7 ∷ Run ∷ Tick ∷ sends ++ Run ∷ Tick ∷ sends))
-one_key = (quiet (Key 7 ∷ Run ∷ Tick ∷ sends), quiet (Run ∷ Tick ∷ sends), refl, refl, (quiet (Run ∷ Tick ∷ sends), [], refl, refl, refl))
-
--- process 1 faults in the first round, which is played to its end and is the last one
-abbrev faulting : List (Event × Outcome)
-faulting = (Key 7, Typed (7 ∷ [])) ∷ (Run, Step_of 1 (Faulted LoadPageFault)) ∷ (Tick, Halted) ∷ map (λ e. (e, Sent None)) sends
-
-fault : Planned 2 1 (7 ∷ 8 ∷ []) false faulting
-fault = (faulting, [], refl, refl, refl)
-
--- a fault of process 2 isn't
-abbrev other_faulting : List (Event × Outcome)
-other_faulting = (Key 7, Typed (7 ∷ [])) ∷ (Run, Step_of 2 (Faulted LoadPageFault)) ∷ (Tick, Ticked) ∷ map (λ e. (e, Sent None)) sends
-
-other_fault : Planned 2 1 (7 ∷ 8 ∷ []) false (other_faulting ++ quiet (Key 8 ∷ Run ∷ Tick ∷ sends))
-other_fault = (other_faulting, quiet (Key 8 ∷ Run ∷ Tick ∷ sends), refl, refl, (quiet (Key 8 ∷ Run ∷ Tick ∷ sends), [], refl, refl, refl))
-
--- and no other list is planned: what is planned has just these events
-
-none_left : (quantum : ℕ) (keys : List ℕ) (halted : Bool) (list : List (Event × Outcome)) → Planned 0 quantum keys halted list → list ≡ []
-none_left quantum keys true list h = h
-none_left quantum keys false list h = h
-
-one_round : (quantum : ℕ) (keys : List ℕ) (list : List (Event × Outcome)) → Planned 1 quantum keys false list → events list ≡ round quantum keys
-one_round quantum keys list (now, later, is, played, rest) = ap events (is ∙ ap (λ (l : List (Event × Outcome)). now ++ l) (none_left quantum (drop 1 keys) (halts now) later rest) ∙ append-nil now) ∙ played
-
-left_false : (a b : Bool) → (a || b) ≡ false → a ≡ false
-left_false true b e = e
-left_false false b e = refl
-
-two_rounds : (quantum : ℕ) (keys : List ℕ) (list : List (Event × Outcome)) → halts list ≡ false → Planned 2 quantum keys false list → events list ≡ round quantum keys ++ round quantum (drop 1 keys)
-two_rounds quantum keys list on (now, later, is, played, rest) =
-    let goes_on : halts now ≡ false = left_false (halts now) (halts later) (sym (list_any-append (λ (e : Event × Outcome). is_some (halted_by e.1)) now later) ∙ ap halts (sym is) ∙ on) in
-    let second : events later ≡ round quantum (drop 1 keys) = one_round quantum (drop 1 keys) later (subst (λ (b : Bool). Planned 1 quantum (drop 1 keys) b later) goes_on rest) in
-    ap events is ∙ map-append (λ (e : Event × Outcome). e.0) now later ∙ ap (λ (es : List Event). es ++ events later) played ∙ ap (λ (es : List Event). round quantum keys ++ es) second
-
-one_key_only : (list : List (Event × Outcome)) → halts list ≡ false → Planned 2 1 (7 ∷ []) false list → events list ≡ Key 7 ∷ Run ∷ Tick ∷ sends ++ Run ∷ Tick ∷ sends
-one_key_only list on h = two_rounds 1 (7 ∷ []) list on h
-
-two_keys_only : (list : List (Event × Outcome)) → halts list ≡ false → Planned 2 1 (7 ∷ 8 ∷ []) false list → events list ≡ Key 7 ∷ Run ∷ Tick ∷ sends ++ Key 8 ∷ Run ∷ Tick ∷ sends
-two_keys_only list on h = two_rounds 1 (7 ∷ 8 ∷ []) list on h
-
--- nothing is planned behind a round that halts
-fault_ends : (more : List (Event × Outcome)) → Planned 2 1 (7 ∷ 8 ∷ []) false (faulting ++ more) → more ≡ []
-fault_ends more (now, later, is, played, rest) =
-    let long : length now ≡ 35 = sym (length-map now (λ (e : Event × Outcome). e.0)) ∙ ap length played in
-    let same : now ≡ faulting = sym (take-append_seam now later) ∙ ap (λ (n : ℕ). take n (now ++ later)) long ∙ ap (take 35) (sym is) ∙ take-append_seam faulting more in
-    let behind : later ≡ more = sym (drop-append_seam now later) ∙ ap (λ (n : ℕ). drop n (now ++ later)) long ∙ ap (drop 35) (sym is) ∙ drop-append_seam faulting more in
-    sym behind ∙ subst (λ (b : Bool). Planned 1 1 (8 ∷ []) b later) (ap halts same) rest
-
--- none where none may begin, or on a machine that is halted
-none_allowed : Planned 0 1 (7 ∷ []) false []
-none_allowed = refl
-
-halted_before : (list : List (Event × Outcome)) → Planned 2 1 (7 ∷ []) true list → list ≡ []
-halted_before list h = h
 
 -- ---- what a run shows: echoes and bytes that were sent, byte 0 too
 

@@ -21,6 +21,7 @@ pub mod Turns
 pub mod Updates
 pub mod WellFormed
 pub mod Run
+pub mod Rounds
 pub mod First
 pub mod Wakes
 pub mod Worlds

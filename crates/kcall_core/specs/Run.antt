@@ -1,8 +1,6 @@
 -- Runs of the machine: lists of events, with what each gives, that lead from one state to another.
-use Rattle.std.specs.Prelude.{◌≡◌, ◌≢◌, ℕ, zero, suc, ℤ, ◌+◌, ◌%◌, ◌⊎◌, Bool, true, false, cond, List, [], ◌∷◌, ◌++◌, map, replicate, drop, Option, None, Some, IsSome, is_some, MatchOption, flat_map, nat_eq, Contains}
+use Rattle.std.specs.Prelude.{◌≡◌, ◌≢◌, ℕ, ℤ, ◌+◌, ◌%◌, ◌⊎◌, cond, List, [], ◌∷◌, drop, Option, None, Some, IsSome, MatchOption, flat_map, nat_eq, Contains}
 use Rattle.std.specs.FinMap.{get, keys}
-use Rattle.std.specs.List.{list_any}
-use Rattle.xk_base.specs.declared.limits.TheConstants.{SEND_BYTES}
 use Rattle.console_core.specs.Lists.{Console}
 use Rattle.console_core.specs.Keys.{line}
 use Rattle.kcall_core.specs.Words.{CLOCK_ROUND}
@@ -205,22 +203,3 @@ bytes_out _ = []
 
 abbrev pub out : List (Event × Outcome) → List ℕ
 out es = flat_map (λ e. bytes_out e.1) es
-
--- ---- the rounds that a driver plays
-
-abbrev pub key_events : List ℕ → List Event
-key_events [] = []
-key_events (b ∷ bs) = Key b ∷ []
-
--- a key, if one is left; then turns of work; then a tick, and room for what is to be sent
-abbrev pub round : (quantum : ℕ) → (keys : List ℕ) → List Event
-round quantum keys = key_events keys ++ replicate quantum Run ++ Tick ∷ replicate SEND_BYTES Send
-
--- whole rounds, none of which begins on a halted machine or past the number of rounds, up to where none may begin
-abbrev pub Planned : (rounds quantum : ℕ) (keys : List ℕ) (halted : Bool) → List (Event × Outcome) → Type 0
-Planned rounds quantum keys true list = list ≡ []
-Planned zero quantum keys false list = list ≡ []
-Planned (suc rounds) quantum keys false list =
-    (now : List (Event × Outcome)) × (later : List (Event × Outcome)) × (list ≡ now ++ later)
-    × (map (λ e. e.0) now ≡ round quantum keys)
-    × Planned rounds quantum (drop 1 keys) (list_any (λ e. is_some (halted_by e.1)) now) later

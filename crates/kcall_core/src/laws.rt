@@ -8,6 +8,7 @@
 ghost use Rattle.kcall_core.specs.Conditions.{WakesSuffice, ConditionsSuffice, ReadyIsOpen, OpensAlone, OpensNothing, OpensPipe, OpensMarked, OpensReaped, OpensForked, OpensGone, OpensTick, OpensConsole, WaitsStay};
 ghost use Rattle.kcall_core.specs.First.{FirstWell, FirstSlots};
 ghost use Rattle.kcall_core.specs.RowLaws.{InstructionLaw, EcallLaw, ResumeLaw, EndLaw, AnswerLaw, WaitingLaw, ExecLaw, ForkLaw, GoneLaw, ReapLaw, KillLaw, PipeReadLaw, PipeWriteLaw, FileReadLaw, OpenLaw, PipeLaw, DupLaw, DupPipeLaw, CloseLaw, ClosePipeLaw, WellForked, WellGone, WellReaped, WellAlone, WellPiped, WellMoved, WellMarked, WritesTakeNothing, StoresTakeNothing, WellOpened, WellDup, WellDupPipe, WellClosed, WellClosedPipe, WellMadePipe, WellOutside};
+ghost use Rattle.kcall_core.specs.Rounds.{RoundsThenPlan, RoundsFollowRounds, PlanIsRounds, CutEndsInRound};
 ghost use Rattle.kcall_core.specs.StepLaws.{RefusalsChangeNothing, InCallWhereBlocked, BlockedIsInCall};
 ghost use Rattle.kcall_core.specs.Wakes.{PromisedRunsJoin, PromisedRunsSplit, PromisedIsRun, NoLostWakeUp, NeverLost, StaysRunnable, SlotsStay, WaitsAtMost, TurnComes, ComesNearer, IsNear, BlocksUnready};
 ghost use Rattle.kcall_core.specs.Worlds.{TwoWorlds, SameStep, RunsAreCut, PidsAreGiven, OnlyWaitersAreInCalls, RunsJoin, RunsSplit, Isolated, OthersKeep, OutsideSteps, HaltedStays, UnreadyWaits, NoOldPage, NoOldPipe, NoOldChild};
@@ -48,6 +49,21 @@ pub fn runs()
 
     // On a halted machine nothing changes, but that a byte may be sent.
     ensures halted_stays { HaltedStays }
+{}
+
+/// The rounds that a driver of the machine plays.
+pub fn plans()
+    // So many rounds, and a plan for the rest, are a plan.
+    ensures rounds_then_plan { RoundsThenPlan }
+
+    // Rounds behind rounds are rounds.
+    ensures rounds_follow_rounds { RoundsFollowRounds }
+
+    // A plan is as many rounds as it allows, or fewer, the last of which halts the machine.
+    ensures plan_is_rounds { PlanIsRounds }
+
+    // A plan that is cut off behind an event is whole rounds, and of one more the events up to that one.
+    ensures cut_ends_in_round { CutEndsInRound }
 {}
 
 /// What a step leaves to its process and to all others, and what every other event leaves.

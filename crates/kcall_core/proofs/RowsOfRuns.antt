@@ -1,0 +1,95 @@
+-- Worked cases of how a run is cut at a process's steps, and of what a step's answer tells.
+use Rattle.std.proofs.Common.{◌≡◌, zero, suc, ◌^◌, ◌-◌, ◌<◌, List, [], ◌∷◌, ◌++◌, None, Some, inl, inr, refl, arith}
+use Rattle.std.specs.Prelude.{pos, negsuc, Contains}
+use Rattle.xk_base.specs.Image.{Image}
+use Rattle.rv64i_core.specs.Registers.{fresh, put}
+use Rattle.kcall_core.specs.View.{View, view}
+use Rattle.kcall_core.specs.Own.{Stepped, Called, Blocked, Exited, goes_on}
+use Rattle.kcall_core.specs.Step.{own}
+use Rattle.kcall_core.specs.Calls.{perform, perform_row, row_of}
+use Rattle.kcall_core.specs.Run.{World, Event, Run, Tick, Key, Outcome, Step_of, Turn, Ticked, Typed, Happens}
+use Rattle.kcall_core.specs.Worlds.{IsStepOf, Moment, IsCut, steps_of}
+use Rattle.kcall_core.specs.StepLaws.{regs_in_call, waiting_calls}
+use Rattle.kcall_core.proofs.WorkedViews.{call, in_call}
+
+-- ---- which outcomes are those of process 2
+
+outcomes_of_2 : steps_of 2 ((Run, Turn 2) ∷ (Run, Step_of 2 Stepped) ∷ (Run, Step_of 3 (Exited (pos 7))) ∷ (Tick, Ticked) ∷ (Run, Step_of 2 (Blocked (pos 3))) ∷ (Run, Step_of 22 Stepped) ∷ []) ≡ Step_of 2 Stepped ∷ Step_of 2 (Blocked (pos 3)) ∷ []
+outcomes_of_2 = refl
+
+-- ---- a tick, a step of process 2, a key
+
+module _ (w a b t : World) (u n : View) (tick : Happens w Tick Ticked a) (runs : IsStepOf 2 a Run) (before : view a.state 2 ≡ Some u) (step : Happens a Run (Step_of 2 Stepped) b) (after : view b.state 2 ≡ Some n) (key : Happens b (Key 97) (Typed (97 ∷ [])) t) where
+  abbrev moment : Moment
+  moment = record { before = u; outcome = Step_of 2 Stepped; after = Some n }
+
+  other_event : (v : World) (e : Event) → (e ≡ Run → ⊥) → ¬ IsStepOf 2 v e
+  other_event v e apart is = apart is.0
+
+  cut : IsCut 2 w ((Tick, Ticked) ∷ (Run, Step_of 2 Stepped) ∷ (Key 97, Typed (97 ∷ [])) ∷ []) t (moment ∷ [])
+  cut = (
+    a,
+    b,
+    (Tick, Ticked) ∷ [],
+    (Key 97, Typed (97 ∷ [])) ∷ [],
+    refl,
+    (a, tick, other_event w Tick (λ e. let no : ⊥ = cc in no), refl),
+    before,
+    runs,
+    step,
+    after,
+    inl refl,
+    (t, key, other_event b (Key 97) (λ e. let no : ⊥ = cc in no), refl),
+  )
+
+  -- a step of process 2 isn't passed over
+  not_passed_over : IsCut 2 a ((Run, Step_of 2 Stepped) ∷ []) b [] → ⊥
+  not_passed_over is = is.2 runs
+
+  -- nor is there one where nothing happens
+  not_made_up : IsCut 2 w [] w (moment ∷ []) → ⊥
+  not_made_up is = by is.2 is.4
+    where
+      by : (es : List (Event × Outcome)) → [] ≡ es ++ (Run, Step_of 2 Stepped) ∷ is.3 → ⊥
+      by [] e = cc
+      by (x ∷ es) e = cc
+
+  -- and none behind the step with which it is gone
+  none_behind_its_end : (es : List (Event × Outcome)) → IsCut 2 w es t (record { before = u; outcome = Step_of 2 (Exited (pos 0)); after = None } ∷ moment ∷ []) → ⊥
+  none_behind_its_end es is = elim is.10 [ inl lives ↦ let no : ⊥ = cc in no | inr over ↦ let no : ⊥ = cc in no ]
+
+-- ---- a call that is refused changes a0, and the pc where it is begun
+
+module _ (image : Image) where
+  -- an ECALL at 40 asks for the call, or it is in progress
+  regs_begun : regs_in_call (record (in_call image (call 6 99 0 0)) { regs = fresh 40; call = None }) None ≡ fresh 44
+  unfolding in_call
+  regs_begun = refl
+
+  regs_going_on : regs_in_call (record (in_call image (call 6 99 0 0)) { regs = fresh 40 }) (Some (call 6 99 0 0)) ≡ fresh 40
+  unfolding in_call
+  regs_going_on = refl
+
+  -- kill of a pid that is not in use
+  kill_refused : own (in_call image (call 6 99 0 0)) ≡ goes_on (Called (pos 6) (negsuc 0)) (record (in_call image (call 6 99 0 0)) { regs = put (fresh 0) 10 (2 ^ 64 - 1); call = None })
+  unfolding own perform perform_row row_of in_call
+  kill_refused = refl
+
+-- ---- the calls that may wait: pipe (4) and sbrk (12) may not
+
+may_wait_13 : Contains waiting_calls (pos 13)
+may_wait_13 = (2, omega arith, refl)
+
+never_4 : Contains waiting_calls (pos 4) → ⊥
+never_4 (zero, below, is) = let no : ⊥ = cc in no
+never_4 (suc zero, below, is) = let no : ⊥ = cc in no
+never_4 (suc (suc zero), below, is) = let no : ⊥ = cc in no
+never_4 (suc (suc (suc zero)), below, is) = let no : ⊥ = cc in no
+never_4 (suc (suc (suc (suc k))), below, is) = let far : suc (suc (suc (suc k))) < 4 = below in omega (arith, far)
+
+never_12 : Contains waiting_calls (pos 12) → ⊥
+never_12 (zero, below, is) = let no : ⊥ = cc in no
+never_12 (suc zero, below, is) = let no : ⊥ = cc in no
+never_12 (suc (suc zero), below, is) = let no : ⊥ = cc in no
+never_12 (suc (suc (suc zero)), below, is) = let no : ⊥ = cc in no
+never_12 (suc (suc (suc (suc k))), below, is) = let far : suc (suc (suc (suc k))) < 4 = below in omega (arith, far)
