@@ -41,6 +41,8 @@ use Rattle.kcall_core.proofs.Births.{get_or-same}
 use Rattle.kcall_core.proofs.Counts.{plus, among, get-more_on_all}
 use Rattle.kcall_core.proofs.Namings.{named-seen, file-seen, file-inside, named-counts, counted-entry}
 use Rattle.kcall_core.proofs.PipeEdges.{there-is}
+use Rattle.kcall_core.specs.Room.{HasRoom}
+use Rattle.kcall_core.proofs.OpenRoom.{has-room}
 use Rattle.kcall_core.proofs.Room.{file-room, ends-few, count-few}
 use Rattle.kcall_core.proofs.Sums.{sum_same}
 use Rattle.kcall_core.proofs.Sharing.{more-file, more-table, shared-counted}
@@ -56,12 +58,15 @@ unfolding state_of
 closing-may k h file closing there-open = record {
   sound = closing.sound.memories;
   opened = there-open;
-  room = file-room k.files k.table file closing.counted;
+  room = room.sharers file;
   there = λ x i end is on. closing.well.ends file i x end (file-seen k h file (file-inside k.files file x closing.files is) ∙ is) on;
   ends = λ x i end is on.
       let there = closing.well.ends file i x end (file-seen k h file (file-inside k.files file x closing.files is) ∙ is) on in
-      omega (arith, ends-few k h _ i _ end closing.well (there-is (get (pipes_of k.memories) i) there));
+      room.ends i _ end (there-is (get (pipes_of k.memories) i) there);
 }
+  where
+    room : HasRoom k h
+    room = has-room k h _ closing.well closing.files closing.counted
 
 -- ---- one descriptor more, as the memories see it
 

@@ -10,10 +10,14 @@ use Rattle.file_table.specs.OpenFiles.{IsTable, entry_count, open_count}
 use Rattle.file_table.specs.declared.open_file.Entry.{Entry}
 use Rattle.proc_table.specs.Slots.{Slots, descriptors_at}
 use Rattle.kcall_core.specs.Words.{is_this, or_zero}
-use Rattle.kcall_core.specs.WellFormed.{sum_below}
+use Rattle.hart_core.specs.declared.hart.Hart.{Hart}
+use Rattle.kcall_core.specs.WellFormed.{WellFormed, sum_below}
+use Rattle.kcall_core.specs.Kernel.{frame_count, state_of}
+use Rattle.kcall_core.specs.Room.{HasRoom, WholeHasRoom}
+use Rattle.kcall_core.specs.declared.kernel.Kernel.{Kernel}
 use Rattle.kcall_core.specs.Whole.{AreCounted, namings, named_in}
 use Rattle.kcall_core.proofs.Sums.{sum_same}
-use Rattle.kcall_core.proofs.Room.{count-few, sum-few}
+use Rattle.kcall_core.proofs.Room.{count-few, sum-few, file-room, ends-few}
 
 -- ---- sums
 
@@ -201,3 +205,16 @@ room-for-two files t slot d e table counted inside below lower apart free empty 
     let here : used_in (descriptors_at t slot) + 2 ≤ 16 = count-room-two NOFILE d e (λ f. is_some (named_by (descriptors_at t slot) f)) below lower apart (ap is_some free) (ap is_some empty) in
     let all : used t + 2 ≤ 1024 = sum-room NPROC NOFILE 2 slot (λ j. used_in (descriptors_at t j)) (λ j. count-few _ NOFILE) inside here in
     omega (arith, open-room files t 2 table counted all)
+
+-- ---- all of it, of a kernel whose descriptors are counted
+
+pub has-room : (k : Kernel) (h : Hart) (frames : ℕ) → WellFormed frames (state_of k h) → IsTable k.files → AreCounted k.files k.table → HasRoom k h
+has-room k h frames well table counted = record {
+  sharers = λ file n is. file-room k.files k.table file counted n is;
+  ends = λ i x end is. omega (arith, ends-few k h frames i x end well is);
+  one_file = λ slot d inside below free. room-for-one k.files k.table slot d table counted inside below free;
+  two_files = λ slot d e inside below lower apart free empty. room-for-two k.files k.table slot d e table counted inside below lower apart free empty;
+}
+
+pub whole_has_room : WholeHasRoom
+whole_has_room k h whole = has-room k h (frame_count k) whole.well whole.files whole.counted

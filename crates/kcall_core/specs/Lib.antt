@@ -35,6 +35,7 @@ pub mod Observers
 pub mod Execs
 pub mod Machine
 pub mod Whole
+pub mod Room
 pub mod Makes
 pub mod Built
 pub mod Closings

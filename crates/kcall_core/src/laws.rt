@@ -4,10 +4,12 @@
 //! of it (its view), what one step of it comes to as a function of that view (`own`), what every
 //! other process sees of the step (`seen`), and runs of the machine. A law says what follows from
 //! them. No function here takes or gives anything, and none does anything when it is called: each
-//! stands for one claim, and its clauses are the laws that the claim is made of.
+//! stands for one claim, and its clauses are the laws that the claim is made of. The last one speaks of the
+//! kernel's fields too.
 ghost use Rattle.kcall_core.specs.Conditions.{WakesSuffice, ConditionsSuffice, ReadyIsOpen, OpensAlone, OpensNothing, OpensPipe, OpensMarked, OpensReaped, OpensForked, OpensGone, OpensTick, OpensConsole, WaitsStay};
 ghost use Rattle.kcall_core.specs.First.{FirstWell, FirstSlots};
 ghost use Rattle.kcall_core.specs.RowLaws.{InstructionLaw, EcallLaw, ResumeLaw, EndLaw, AnswerLaw, WaitingLaw, ExecLaw, ForkLaw, GoneLaw, ReapLaw, KillLaw, PipeReadLaw, PipeWriteLaw, FileReadLaw, OpenLaw, PipeLaw, DupLaw, DupPipeLaw, CloseLaw, ClosePipeLaw, WellForked, WellGone, WellReaped, WellAlone, WellPiped, WellMoved, WellMarked, WritesTakeNothing, StoresTakeNothing, WellOpened, WellDup, WellDupPipe, WellClosed, WellClosedPipe, WellMadePipe, WellOutside};
+ghost use Rattle.kcall_core.specs.Room.{WholeHasRoom};
 ghost use Rattle.kcall_core.specs.Rounds.{RoundsThenPlan, RoundsFollowRounds, PlanIsRounds, CutEndsInRound};
 ghost use Rattle.kcall_core.specs.StepLaws.{RefusalsChangeNothing, InCallWhereBlocked, BlockedIsInCall};
 ghost use Rattle.kcall_core.specs.Wakes.{PromisedRunsJoin, PromisedRunsSplit, PromisedIsRun, NoLostWakeUp, NeverLost, StaysRunnable, SlotsStay, WaitsAtMost, TurnComes, ComesNearer, IsNear, BlocksUnready};
@@ -316,4 +318,11 @@ pub fn well_formed()
 
     // Ticks, keys and bytes that are sent keep a state well-formed.
     ensures well_outside { WellOutside }
+{}
+
+/// What the kernel's code counts has bounds.
+pub fn bounds()
+    // Between two calls of the kernel each open file and each end of a pipe may count one descriptor more, and
+    // where a process has a free descriptor a file more may be opened.
+    ensures { WholeHasRoom }
 {}
