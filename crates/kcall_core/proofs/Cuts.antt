@@ -74,7 +74,7 @@ module _ (w t : World) where
   key_kind o (Some status) b h = same_world o h.1 (halted_is o h.0)
   key_kind o None b h = record { processes = ap (λ (s : State). s.processes) h.1; next_pid = ap (λ (s : State). s.next_pid) h.1; outcome = λ p. ap (is_step_of p) h.0 }
 
-  kind : (e : Event) (o : Outcome) → Happens w e o t → IsKind w e o t
+  pub kind : (e : Event) (o : Outcome) → Happens w e o t → IsKind w e o t
   kind Run o h = run_kind o w.turns.halted w.turns.current refl refl h
   kind Tick o h = inr (tick_kind o w.turns.halted h)
   kind (Key b) o h = inr (key_kind o w.turns.halted b h)

@@ -78,6 +78,7 @@ mod RowsOfFiles
 mod RowsOfEvents
 mod RowsOfRounds
 mod RowsOfRuns
+mod RowsOfStores
 mod RowsOfBoot
 mod RowsOfSteps
 mod RowsOfBytes
@@ -179,3 +180,5 @@ pub mod Outcomes
 pub mod AnswersTell
 pub mod Cuts
 pub mod Plans
+pub mod NewPages
+pub mod Late

@@ -15,6 +15,7 @@ pub mod Tables
 pub mod Calls
 pub mod Instruction
 pub mod Step
+pub mod Stores
 pub mod Quiet
 pub mod Ready
 pub mod Turns

@@ -1,5 +1,5 @@
 -- Isolation, as laws over runs.
-use Rattle.std.specs.Prelude.{◌≡◌, ℕ, ℤ, pos, Bool, List, [], ◌∷◌, ◌++◌, false, replicate, map, filter, nat_eq, Option, None, Some, IsSome, Ok, option_map, ◌⊎◌, ◌≢◌, ◌+◌, ◌%◌, ◌<◌, Contains}
+use Rattle.std.specs.Prelude.{◌≡◌, ℕ, ℤ, pos, Bool, List, [], ◌∷◌, ◌++◌, false, replicate, map, filter, nat_eq, Option, None, Some, IsSome, Ok, option_map, ◌⊎◌, ◌≢◌, ◌+◌, ◌*◌, ◌%◌, ◌<◌, Contains, length, slice_index}
 use Rattle.std.specs.FinMap.{get}
 use Rattle.kcall_core.specs.State.{ProgramFile, State}
 use Rattle.xk_base.specs.Image.{Page, Image}
@@ -19,9 +19,10 @@ use Rattle.xk_base.specs.declared.limits.TheConstants.{MAXPATH, MAXARG, ARG_BYTE
 use Rattle.proc_table.specs.declared.process.Call.{Call}
 use Rattle.kcall_core.specs.Run.{World, Event, Run, Tick, Key, Send, Outcome, Step_of, Halted, Happens, IsRun, StateAfter, TurnsAfter, sent}
 use Rattle.console_core.specs.Keys.{line}
-use Rattle.kcall_core.specs.Words.{CLOCK_ROUND}
+use Rattle.kcall_core.specs.Words.{CLOCK_ROUND, c_int, minus_one}
 use Rattle.kcall_core.specs.First.{first}
 use Rattle.kcall_core.specs.StepLaws.{waiting_calls}
+use Rattle.kcall_core.specs.Stores.{IsStored}
 
 -- ---- the part of a view that other events may change
 
@@ -170,6 +171,18 @@ UnreadyWaits =
     (s : State) (p : ℕ) (v n m : View) (number : ℤ) → (own v).answer ≡ Blocked number → (own v).next ≡ Some n → view s p ≡ Some m → SameRest m n → SameDescriptors m n
     → ready m ≡ false → own m ≡ goes_on (Blocked number) m
 
+-- a write to a pipe that nobody reads any more
+abbrev pub IsBrokenWrite : View → Type 0
+IsBrokenWrite v =
+    (c : Call) × (d : ℕ) × (x : Descriptor) × (name : ℕ) × (end : End) × (pipe : Pipe)
+    × (v.call ≡ Some c) × (c.number ≡ pos 16) × (c_int c.a0 ≡ pos d) × (v.descriptors d ≡ Some x) × (x.shown ≡ Shown_pipe name end pipe) × (pipe.readers ≡ 0)
+
+-- A call that has waited, at whose next step p sees m, isn't refused, but for a write to a pipe that nobody reads any more, which keeps the bytes that it has moved
+abbrev pub OnlyBrokenWritesFailLate : Type 0
+OnlyBrokenWritesFailLate =
+    (p : ℕ) (w t : World) (es : List (Event × Outcome)) (v n m : View) (number waited : ℤ) → (own v).answer ≡ Blocked waited → (own v).next ≡ Some n
+    → view w.state p ≡ Some n → Others p w es t → view t.state p ≡ Some m → (own m).answer ≡ Called number minus_one → IsBrokenWrite m
+
 -- on a halted machine only a byte may be sent
 abbrev pub HaltedStays : Type 0
 HaltedStays = (w t : World) (e : Event) (o : Outcome) → Happens w e o t → IsSome w.turns.halted → e ≢ Send → (o ≡ Halted) × (t ≡ w)
@@ -199,7 +212,19 @@ NewPagesAreZeros v n = (page : ℕ) (x : Page) → IsNewPage v n page x → x.by
 abbrev pub IsExecDone : Call → Own → Type 0
 IsExecDone c o = (k : ℕ) × (row_of c.number ≡ Some Exec) × (o.answer ≡ Called c.number (pos k))
 
--- After an exec that succeeded the image is that of the program that was named, with the texts that were given; after any other step each new page holds zeros
+-- a new page holds zeros, but for bytes that the step itself stores there
+abbrev pub NewBytesAreZeros : View → View → Type 0
+NewBytesAreZeros v n =
+    (page : ℕ) (x : Page) → IsNewPage v n page x
+    → (length x.bytes ≡ 4096) × ((i : ℕ) → i < 4096 → ¬ IsStored v (page * 4096 + i) → slice_index x.bytes i ≡ 0)
+
+-- After an exec that succeeded the image is that of the program that was named, with the texts that were given; after any other step each byte of a new page is 0 that the step doesn't store
+abbrev pub NoOldByte : Type 0
+NoOldByte =
+    (v n : View) → (own v).next ≡ Some n
+    → (IsExecDone (call_in v) (own v) → HasExeced v (own v) n.image) × (¬ IsExecDone (call_in v) (own v) → NewBytesAreZeros v n)
+
+-- So far no step both adds a page and stores bytes in it, so all of a new page is zeros
 abbrev pub NoOldPage : Type 0
 NoOldPage =
     (v n : View) → (own v).next ≡ Some n

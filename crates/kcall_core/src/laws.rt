@@ -13,7 +13,7 @@ ghost use Rattle.kcall_core.specs.Room.{WholeHasRoom};
 ghost use Rattle.kcall_core.specs.Rounds.{RoundsThenPlan, RoundsFollowRounds, PlanIsRounds, CutEndsInRound};
 ghost use Rattle.kcall_core.specs.StepLaws.{RefusalsChangeNothing, InCallWhereBlocked, BlockedIsInCall};
 ghost use Rattle.kcall_core.specs.Wakes.{PromisedRunsJoin, PromisedRunsSplit, PromisedIsRun, NoLostWakeUp, NeverLost, StaysRunnable, SlotsStay, WaitsAtMost, TurnComes, ComesNearer, IsNear, BlocksUnready};
-ghost use Rattle.kcall_core.specs.Worlds.{TwoWorlds, SameStep, RunsAreCut, PidsAreGiven, OnlyWaitersAreInCalls, RunsJoin, RunsSplit, Isolated, OthersKeep, OutsideSteps, HaltedStays, UnreadyWaits, NoOldPage, NoOldPipe, NoOldChild};
+ghost use Rattle.kcall_core.specs.Worlds.{TwoWorlds, SameStep, RunsAreCut, PidsAreGiven, OnlyWaitersAreInCalls, OnlyBrokenWritesFailLate, RunsJoin, RunsSplit, Isolated, OthersKeep, OutsideSteps, HaltedStays, UnreadyWaits, NoOldByte, NoOldPage, NoOldPipe, NoOldChild};
 
 /// What a process does and sees follows from what it saw and from what is shared with it, whatever else the
 /// machine holds.
@@ -84,7 +84,10 @@ pub fn isolated()
 /// No byte that another process left in a frame is shown.
 pub fn no_old_byte()
     // After an exec that succeeded the image is that of the program that it named; after any other step
-    // each new page holds zeros.
+    // each byte of a new page is 0 that the step doesn't store there itself.
+    ensures no_old_byte { NoOldByte }
+
+    // So far no step both adds a page and stores bytes in it: all of a new page is zeros.
     ensures no_old_page { NoOldPage }
 
     // A pipe that a process sees for the first time is empty.
@@ -203,6 +206,9 @@ pub fn steps()
 pub fn answers()
     // A call that answers -1 changes a0 and the pc alone.
     ensures refusals_change_nothing { RefusalsChangeNothing }
+
+    // A call that has waited is never refused, but for a write to a pipe that nobody reads any more.
+    ensures only_broken_writes_fail_late { OnlyBrokenWritesFailLate }
 
     // A call is in progress after a step exactly where the step's answer is that it waits.
     ensures in_call_where_blocked { InCallWhereBlocked }

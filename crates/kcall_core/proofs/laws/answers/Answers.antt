@@ -1,6 +1,7 @@
 use Rattle.kcall_core.proofs.laws.answers.Goals as goal
 use Rattle.kcall_core.proofs.AnswersTell as law
 use Rattle.kcall_core.proofs.Cuts as in-cuts
+use Rattle.kcall_core.proofs.Late as in-late
 
 pub returns-clause-refusals_change_nothing : goal.returns-clause-refusals_change_nothing
 returns-clause-refusals_change_nothing c = law.refusals_change_nothing
@@ -13,3 +14,6 @@ returns-clause-blocked_is_in_call c = law.blocked_is_in_call
 
 pub returns-clause-only_waiters_are_in_calls : goal.returns-clause-only_waiters_are_in_calls
 returns-clause-only_waiters_are_in_calls c = in-cuts.only_waiters_are_in_calls
+
+pub returns-clause-only_broken_writes_fail_late : goal.returns-clause-only_broken_writes_fail_late
+returns-clause-only_broken_writes_fail_late c = in-late.only_broken_writes_fail_late

@@ -1,6 +1,10 @@
 use Rattle.kcall_core.proofs.laws.no_old_byte.Goals as goal
 use Rattle.kcall_core.proofs.CleanPages as in-clean-pages
 use Rattle.kcall_core.proofs.NewBytes as in-new-bytes
+use Rattle.kcall_core.proofs.NewPages as in-new-pages
+
+pub returns-clause-no_old_byte : goal.returns-clause-no_old_byte
+returns-clause-no_old_byte c = in-new-pages.no_old_byte
 
 pub returns-clause-no_old_page : goal.returns-clause-no_old_page
 returns-clause-no_old_page c = in-clean-pages.no_old_page

@@ -1,0 +1,58 @@
+-- Which bytes of its process's memory a step stores: an instruction those of its store, a call those that it puts into its buffer.
+use Rattle.std.specs.Prelude.{ℕ, ◌+◌, ◌-◌, ◌<◌, ◌≤◌, cond, length, nat_eq, Option, None, Some, pos}
+use Rattle.rv64i_core.specs.Step.{Step, Next, Ecall, Fault}
+use Rattle.proc_table.specs.declared.process.Call.{Call}
+use Rattle.kcall_core.specs.Instruction.{next_instruction}
+use Rattle.kcall_core.specs.View.{View}
+use Rattle.kcall_core.specs.Own.{Own, Answer, Called, Blocked}
+use Rattle.kcall_core.specs.Calls.{Row, Wait, Pipe_row, Read, row_of}
+use Rattle.kcall_core.specs.Step.{own, call_begun}
+
+-- so many bytes from an address on
+pub record Stored : Type 0 where
+  pub address : ℕ
+  pub count : ℕ
+
+abbrev pub nothing_stored : Stored
+nothing_stored = record { address = 0; count = 0 }
+
+-- these, where the call is done and isn't refused
+abbrev pub where_done : Answer → Stored → Stored
+where_done (Called number (pos value)) stored = stored
+where_done _ stored = nothing_stored
+
+abbrev pub moved_in : Option Call → ℕ
+moved_in None = 0
+moved_in (Some c) = c.moved
+
+-- how many bytes a read has moved, from its beginning to the end of this step
+abbrev pub moved_after : Answer → Option View → ℕ
+moved_after (Called number (pos value)) next = value
+moved_after (Blocked number) (Some n) = moved_in n.call
+moved_after _ next = 0
+
+-- wait stores a status, where it was given an address, pipe two numbers, and read the bytes that it moves, behind those that it has moved before
+abbrev pub stored_by_row : Call → Option Row → Own → Stored
+stored_by_row c (Some Wait) o = cond (nat_eq c.a0 0) nothing_stored (where_done o.answer (record { address = c.a0; count = 4 }))
+stored_by_row c (Some Pipe_row) o = where_done o.answer (record { address = c.a0; count = 8 })
+stored_by_row c (Some Read) o = record { address = c.a1 + c.moved; count = moved_after o.answer o.next - c.moved }
+stored_by_row c _ o = nothing_stored
+
+-- by an instruction; an ECALL begins a call, whose row is done in the same step
+abbrev pub stored_by_instruction : View → Step → Own → Stored
+stored_by_instruction v (Next r None) o = nothing_stored
+stored_by_instruction v (Next r (Some st)) o = record { address = st.address; count = length st.bytes }
+stored_by_instruction v Ecall o = stored_by_row (call_begun v) (row_of (call_begun v).number) o
+stored_by_instruction v (Fault cause) o = nothing_stored
+
+abbrev pub stored_in : View → Option Call → Own → Stored
+stored_in v (Some c) o = stored_by_row c (row_of c.number) o
+stored_in v None o = stored_by_instruction v (next_instruction v.regs v.image) o
+
+-- what the step of this view stores
+abbrev pub stored_by : View → Stored
+stored_by v = stored_in v v.call (own v)
+
+-- the step stores a byte at this address
+abbrev pub IsStored : View → ℕ → Type 0
+IsStored v a = ((stored_by v).address ≤ a) × (a < (stored_by v).address + (stored_by v).count)
