@@ -111,6 +111,7 @@ pub mod Woken
 pub mod Namings
 pub mod Taking
 pub mod PipeLeft
+pub mod PipeMakes
 pub mod OneClosed
 pub mod PipeEdges
 pub mod AllClosed

@@ -5,8 +5,9 @@ use Rattle.std.specs.FinMap.{get, insert}
 use Rattle.std.proofs.lemmas.Bool.{cases_eq, eq-eqb}
 use Rattle.std.proofs.lemmas.Bool.Decides.{eqb_tells}
 use Rattle.std.proofs.lemmas.List.{length-set, get_or-set_same, get_or-set_other}
+use Rattle.xk_base.specs.Gathered.{gathered}
 use Rattle.xk_base.specs.declared.limits.TheConstants.{OPEN_FILES}
-use Rattle.sv39_core.proofs.Gathered.{same_pages}
+use Rattle.sv39_core.proofs.Gathered.{gathered-get, same_pages}
 use Rattle.sv39_core.proofs.Words.{ltb-yes}
 use Rattle.hart_core.specs.declared.hart.Hart.{Hart}
 use Rattle.file_table.specs.Named.{named_by, with_named}
@@ -67,16 +68,16 @@ lowest-place-free xs g e =
     (none-is (get_or xs g None) found.0, found.1)
 
 module _ (xs : List (Option Entry)) (g : ℕ) (y : OpenFile) (empty : entry_at xs g ≡ None) (inside : g < length xs) where
-  new-here : entry_at (with_opened g y xs) g ≡ Some (record { file = y; count = 1 })
+  pub new-here : entry_at (with_opened g y xs) g ≡ Some (record { file = y; count = 1 })
   new-here = get_or-set_same xs g (Some (record { file = y; count = 1 })) None inside
 
-  new-other : (f : ℕ) → f ≢ g → entry_at (with_opened g y xs) f ≡ entry_at xs f
+  pub new-other : (f : ℕ) → f ≢ g → entry_at (with_opened g y xs) f ≡ entry_at xs f
   new-other f ne = get_or-set_other xs g f (Some (record { file = y; count = 1 })) None ne
 
   same-entry : (a b : Entry) → Some a ≡ Some b → a ≡ b
   same-entry a b p = cc
 
-  new-table : files.IsTable xs → files.IsTable (with_opened g y xs)
+  pub new-table : files.IsTable xs → files.IsTable (with_opened g y xs)
   new-table table = record {
     places = length-set xs g (Some (record { file = y; count = 1 })) ∙ table.places;
     counts = λ f e at. elim (cases_eq f g) [
@@ -104,6 +105,61 @@ module _ (xs : List (Option Entry)) (g : ℕ) (y : OpenFile) (empty : entry_at x
       not-this : f ≢ g → is_this f (Some g) ≡ false
       not-this ne = elim (eqb_tells g f) [ inl h ↦ absurd (ne (sym h.1)) | inr h ↦ h.0 ]
 
+-- one descriptor names the new open file: the counts are right again
+pub opened-counted : (xs : List (Option Entry)) (t t' : Slots) (slot d g : ℕ) (y : OpenFile) → AreCounted xs t → entry_at xs g ≡ None → g < length xs → slot < 64 → d < 16 → length t.descriptors ≡ 64 → named_by (descriptors_at t slot) d ≡ None
+    → t'.descriptors ≡ set t.descriptors slot (with_named d (Some g) (descriptors_at t slot)) → ((j : ℕ) → place_is_live (place_at t' j) ≡ place_is_live (place_at t j)) → place_is_live (place_at t slot) ≡ true → AreCounted (with_opened g y xs) t'
+opened-counted xs t t' slot d g y counted empty within inside below room free after lives here =
+    let long : length (descriptors_at t slot) ≡ 16 = counted.lists slot inside in
+    record {
+      counts = λ f. omega (arith, new-count xs g y empty within f, one-more t t' slot d g inside below room long free after f, counted.counts f);
+      lists = λ j lt. elim (cases_eq j slot) [
+        | inl same ↦ ap (λ n. length (descriptors_at t' n)) same ∙ ap length (put-here t t' slot d g inside below room long free after) ∙ length-set (descriptors_at t slot) d (Some g) ∙ long
+        | inr ne ↦ ap length (put-other t t' slot d g inside below room long free after j ne) ∙ counted.lists j lt
+      ];
+      closed = λ j dead. elim (cases_eq j slot) [
+        | inl same ↦ absurd (false-true (sym dead ∙ lives j ∙ ap (λ n. place_is_live (place_at t n)) same ∙ here))
+        | inr ne ↦ put-other t t' slot d g inside below room long free after j ne ∙ counted.closed j (sym (lives j) ∙ dead)
+      ];
+    }
+  where
+    false-true : false ≡ true → ⊥
+    false-true e = cc
+
+-- the open files of a state, with a new one
+pub opened-files : (xs : List (Option Entry)) (g : ℕ) (y : OpenFile) → entry_at xs g ≡ None → g < length xs → length xs ≡ OPEN_FILES → gathered (file_at (with_opened g y xs)) OPEN_FILES ≡ insert (gathered (file_at xs) OPEN_FILES) g y
+opened-files xs g y empty within places = same_pages (gathered (file_at (with_opened g y xs)) OPEN_FILES) (insert (gathered (file_at xs) OPEN_FILES) g y) (λ e. elim (eqb_tells e g) [
+  | inl same ↦
+      gathered-get (file_at (with_opened g y xs)) OPEN_FILES e
+      ∙ ap (λ o. cond (ltb e OPEN_FILES) o None) (ap (file_at (with_opened g y xs)) same.1 ∙ ap (option_map entry_file) (new-here xs g y empty within))
+      ∙ ap (λ b. cond b (Some y) None) (ap (λ z. ltb z OPEN_FILES) same.1 ∙ ltb-yes g OPEN_FILES (omega (arith, within, places)))
+      ∙ sym (get_at (gathered (file_at xs) OPEN_FILES) g y e ∙ ap (λ b. cond b (Some y) (get (gathered (file_at xs) OPEN_FILES) e)) same.0)
+  | inr other ↦
+      gathered-get (file_at (with_opened g y xs)) OPEN_FILES e
+      ∙ ap (λ o. cond (ltb e OPEN_FILES) o None) (ap (option_map entry_file) (new-other xs g y empty within e other.1))
+      ∙ sym (get_at (gathered (file_at xs) OPEN_FILES) g y e ∙ ap (λ b. cond b (Some y) (get (gathered (file_at xs) OPEN_FILES) e)) other.0 ∙ gathered-get (file_at xs) OPEN_FILES e)
+])
+
+-- a free descriptor of the process that runs names nothing in the state
+pub free-seen : {k : Kernel} {h : Hart} {slot d : ℕ} → IsWhole k h → k.current ≡ Some slot → d < 16 → named_by (descriptors_at k.table slot) d ≡ None → get (live_now k h).descriptors d ≡ None
+free-seen {k} {h} {slot} {d} whole is below free =
+    named-seen (descriptors_at k.table (slot_now k)) d
+    ∙ ap (λ b. cond b (named_by (descriptors_at k.table (slot_now k)) d) None) (ltb-yes d 16 below)
+    ∙ ap (λ n. named_by (descriptors_at k.table n) d) (sym (now-slot slot whole.sound is)) ∙ free
+
+-- no process names an open file that isn't there
+pub unnamed : {k : Kernel} {h : Hart} {g : ℕ} → IsWhole k h → entry_at k.files g ≡ None → NobodyNames (state_of k h) g
+unnamed {k} {h} {g} whole empty q e named = no (subst (λ o. IsSome o) not-there (whole.well.descriptors q e g named).1)
+  where
+    no : IsSome no-file → ⊥
+    no h = cc
+
+    both : (b : Bool) → cond b no-file no-file ≡ no-file
+    both true = refl
+    both false = refl
+
+    not-there : get (state_of k h).files g ≡ None
+    not-there = files-seen k h g ∙ ap (λ o. cond (ltb g OPEN_FILES) (option_map entry_file o) None) empty ∙ both (ltb g OPEN_FILES)
+
 module _ (k : Kernel) (h : Hart) (slot d g : ℕ) (y : OpenFile) (whole : IsWhole k h) (runs : IsRunning k) (is : k.current ≡ Some slot) (below : d < 16) (free : named_by (descriptors_at k.table slot) d ≡ None)
     (empty : entry_at k.files g ≡ None) (inside-files : g < length k.files) (no-pipe : pipe_of_target y.target ≡ None) where
   abbrev s : State
@@ -119,23 +175,10 @@ module _ (k : Kernel) (h : Hart) (slot d g : ℕ) (y : OpenFile) (whole : IsWhol
   inside = let now = whole.sound.current slot is in slot-inside k h whole.sound slot now.process now.is
 
   pub unused : get l.descriptors d ≡ None
-  unused =
-      named-seen (descriptors_at k.table (slot_now k)) d
-      ∙ ap (λ b. cond b (named_by (descriptors_at k.table (slot_now k)) d) None) (ltb-yes d 16 below)
-      ∙ ap (λ n. named_by (descriptors_at k.table n) d) (sym (now-slot slot whole.sound is)) ∙ free
-
-  not-there : get s.files g ≡ None
-  not-there = files-seen k h g ∙ ap (λ o. cond (ltb g OPEN_FILES) (option_map entry_file o) None) empty ∙ both (ltb g OPEN_FILES)
-    where
-      both : (b : Bool) → cond b no-file no-file ≡ no-file
-      both true = refl
-      both false = refl
+  unused = free-seen whole is below free
 
   pub nobody-names : NobodyNames s g
-  nobody-names q e named = no (subst (λ o. IsSome o) not-there (whole.well.descriptors q e g named).1)
-    where
-      no : IsSome no-file → ⊥
-      no h = cc
+  nobody-names = unnamed whole empty
 
   keeps : (c : Call) (o : Own) → o ≡ open_at c (view_now k h) (Some d) (Some (y.read, y.write, show s y.target)) → KeepsAll s o
   unfolding view_of
@@ -155,17 +198,8 @@ module _ (k : Kernel) (h : Hart) (slot d g : ℕ) (y : OpenFile) (whole : IsWhol
     opened-sound = put-sound k k1 h slot d g whole.sound is current1 shares fits below table
 
     files-now : (state_of k1 h).files ≡ insert s.files g y
-    files-now = same_pages (state_of k1 h).files (insert s.files g y) (λ e. elim (eqb_tells e g) [
-      | inl same ↦
-          files-seen k1 h e
-          ∙ ap (λ o. cond (ltb e OPEN_FILES) o None) (ap (λ fs. file_at fs e) kept ∙ ap (file_at (with_opened g y k.files)) same.1 ∙ ap (option_map entry_file) (new-here k.files g y empty inside-files))
-          ∙ ap (λ b. cond b (Some y) None) (ap (λ z. ltb z OPEN_FILES) same.1 ∙ ltb-yes g OPEN_FILES (omega (arith, inside-files, whole.files.places)))
-          ∙ sym (get_at s.files g y e ∙ ap (λ b. cond b (Some y) (get s.files e)) same.0)
-      | inr other ↦
-          files-seen k1 h e
-          ∙ ap (λ o. cond (ltb e OPEN_FILES) o None) (ap (λ fs. file_at fs e) kept ∙ ap (option_map entry_file) (new-other k.files g y empty inside-files e other.1))
-          ∙ sym (get_at s.files g y e ∙ ap (λ b. cond b (Some y) (get s.files e)) other.0 ∙ files-seen k h e)
-    ])
+    unfolding state_of
+    files-now = ap (λ fs. gathered (file_at fs) OPEN_FILES) kept ∙ opened-files k.files g y empty inside-files whole.files.places
 
     state1 : state_of k1 h ≡ filed_state p (update.with_named d g l) g y s
     unfolding state_of
@@ -174,20 +208,9 @@ module _ (k : Kernel) (h : Hart) (slot d g : ℕ) (y : OpenFile) (whole : IsWhol
         ∙ (λ i. changed_state p (update.with_named d g l) (files-now i) ((state_of (rest i) h).pipes) s.console ((state_of (rest i) h).free) s)
 
     counted : AreCounted k1.files k1.table
-    counted = subst (λ fs. AreCounted fs k1.table) (sym kept) (record {
-      counts = λ f. omega (arith, new-count k.files g y empty inside-files f, one-more k.table k1.table slot d g inside below whole.sound.table.descriptors (whole.counted.lists slot inside) free (ap (λ (t : Slots). t.descriptors) table) f, whole.counted.counts f);
-      lists = λ j lt. elim (cases_eq j slot) [
-        | inl same ↦ ap (λ n. length (descriptors_at k1.table n)) same ∙ ap length (put-here k.table k1.table slot d g inside below whole.sound.table.descriptors (whole.counted.lists slot inside) free (ap (λ (t : Slots). t.descriptors) table)) ∙ length-set (descriptors_at k.table slot) d (Some g) ∙ whole.counted.lists slot inside
-        | inr ne ↦ ap length (put-other k.table k1.table slot d g inside below whole.sound.table.descriptors (whole.counted.lists slot inside) free (ap (λ (t : Slots). t.descriptors) table) j ne) ∙ whole.counted.lists j lt
-      ];
-      closed = λ j dead. elim (cases_eq j slot) [
-        | inl same ↦ absurd (false-true (sym dead ∙ ap (λ (t : Slots). place_is_live (place_at t j)) table ∙ ap (λ n. place_is_live (place_at k.table n)) same ∙ (let now = whole.sound.current slot is in live-place k slot now.process now.is now.live)))
-        | inr ne ↦ put-other k.table k1.table slot d g inside below whole.sound.table.descriptors (whole.counted.lists slot inside) free (ap (λ (t : Slots). t.descriptors) table) j ne ∙ whole.counted.closed j (sym (ap (λ (t : Slots). place_is_live (place_at t j)) table) ∙ dead)
-      ];
-    })
-      where
-        false-true : false ≡ true → ⊥
-        false-true e = cc
+    counted = subst (λ fs. AreCounted fs k1.table) (sym kept)
+        (opened-counted k.files k.table k1.table slot d g y whole.counted empty inside-files inside below whole.sound.table.descriptors free (ap (λ (t : Slots). t.descriptors) table)
+        (λ n. ap (λ (t : Slots). place_is_live (place_at t n)) table) (let now = whole.sound.current slot is in live-place k slot now.process now.is now.live))
 
     well1 : WellFormed (frame_count k) (filed_state p (update.with_named d g l) g y s)
     well1 = well_opened (frame_count k) s p l (update.with_named d g l) d g y whole.well (live-is k h whole.sound runs) below unused nobody-names no-pipe (refl, refl, refl)

@@ -1,6 +1,7 @@
 //! Calls on descriptors (xv6's `sysfile.c`; the xv6 book, "I/O and file descriptors").
-ghost use Rattle.std.specs.Prelude.{◌≡◌, ℕ, ◌<◌, IsSome, IfSome, IfNone, None, pos};
+ghost use Rattle.std.specs.Prelude.{◌≡◌, ℕ, ◌<◌, ◌&&◌, IsSome, IfSome, IfNone, None, is_none, nat_lt, pos};
 ghost use Rattle.xk_base.specs.declared.limits.TheConstants.{NPROC, NOFILE};
+ghost use Rattle.xk_base.specs.Words.{least_below};
 ghost use Rattle.file_table.specs.Named.{named_by};
 ghost use Rattle.proc_table.specs.Slots.{descriptors_at};
 ghost use Rattle.kcall_core.specs.Calls.{close, dup};
@@ -33,6 +34,29 @@ pub(crate) fn used_descriptor(table: &Table, slot: usize, number: i32) -> Option
         return None;
     };
     Some(fd)
+}
+
+/// Whether a descriptor of a slot is free, and above another one.
+fn is_free_above(table: &Table, slot: usize, low: Fd, number: usize) -> bool
+    requires slot { slot < NPROC }
+    requires number { number < NOFILE }
+    ensures { result ≡ (nat_lt low number && is_none (named_by (descriptors_at table.now slot) number)) }
+{
+    let is_free = table.descriptors(slot).get(Fd::new(number as u8)).is_none();
+    (number > low.index()) & is_free
+}
+
+/// The lowest free descriptor of a slot above another one.
+pub(crate) fn lowest_above(table: &Table, slot: usize, low: Fd) -> Option<Fd>
+    requires { slot < NPROC }
+    ensures { result ≡ least_below (λ d. nat_lt low d && is_none (named_by (descriptors_at table.now slot) d)) NOFILE }
+{
+    for number in 0..NOFILE {
+        if is_free_above(table, slot, low, number) {
+            return Some(Fd::new(number as u8));
+        }
+    }
+    None
 }
 
 impl Kernel {

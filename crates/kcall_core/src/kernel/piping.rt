@@ -1,8 +1,9 @@
-//! Reads and writes of pipes (xv6's `pipe.c`; the xv6 book, "Code: Pipes").
-ghost use Rattle.std.specs.Prelude.{◌≡◌, ◌-◌, ◌<◌, Some, pos, false};
+//! Pipes: they are made, read and written (xv6's `pipe.c`; the xv6 book, "Code: Pipes").
+ghost use Rattle.std.specs.Prelude.{◌≡◌, ◌-◌, ◌<◌, ◌++◌, Some, pos, false};
+ghost use Rattle.xk_base.specs.Words.{le_bytes};
 ghost use Rattle.hart_core.specs.declared.hart.Hart.{Hart};
 ghost use Rattle.proc_table.specs.Slots.{each_changed};
-ghost use Rattle.kcall_core.specs.Calls.{read, write};
+ghost use Rattle.kcall_core.specs.Calls.{make_pipe, read, write};
 ghost use Rattle.kcall_core.specs.Closings.{woken_by};
 ghost use Rattle.kcall_core.specs.Kernel.{IsRunning, IsSound, live_now};
 ghost use Rattle.kcall_core.specs.Whole.{IsWhole};
@@ -12,10 +13,22 @@ ghost use Rattle.kcall_core.specs.Moves.{ReadsPipe, WritesPipe, wakes_readers};
 use crate::call_end::CallEnd;
 use crate::kernel::Kernel;
 use crate::kernel::calls::with_moved;
+use crate::kernel::descriptors::lowest_above;
 use file_table::End;
 use hart_core::Hart;
 use proc_table::{Call, Channel};
-use xk_base::Frame;
+use xk_base::{Fd, Frame};
+
+/// How many bytes the numbers of two descriptors take.
+const NUMBERS_BYTES: usize = 8;
+
+/// The numbers of two descriptors as two C ints. A descriptor's number is below 16, so it is the lowest byte
+/// of its int.
+fn two_numbers(read: Fd, write: Fd) -> [u8; NUMBERS_BYTES]
+    ensures { result ≡ le_bytes 4 read ++ le_bytes 4 write }
+{
+    [read.number(), 0, 0, 0, write.number(), 0, 0, 0]
+}
 
 /// How many of a call's `n` bytes it hasn't moved yet.
 fn left_of(call: &Call, n: usize) -> usize
@@ -25,6 +38,42 @@ fn left_of(call: &Call, n: usize) -> usize
 }
 
 impl Kernel {
+    /// The call pipe: the lowest free descriptor names the read end of a new pipe, the lowest above it the
+    /// write end, their numbers stand at the address in the first argument as two C ints, and the answer is
+    /// 0. Where not all of these 8 bytes may be written, no frame is free, or fewer than two descriptors
+    /// are, the answer is -1, and nothing else changes.
+    pub(crate) fn pipe(&mut self, hart: &mut Hart, call: &Call) -> CallEnd
+        requires whole { IsWhole self.old hart.old }
+        requires running { IsRunning self.old }
+        ensures made { Makes self.old hart.old (make_pipe call.now (view_now self.old hart.old)) self.new hart.new }
+        ensures answer { (make_pipe call.now (view_now self.old hart.old)).answer ≡ answer_of call.now.number result }
+    {
+        let Some(slot) = self.current else {
+            unreachable!();
+        };
+        if !self.memories.may_write(slot, call.a0, NUMBERS_BYTES) {
+            return self.refuse(hart);
+        }
+        if self.memories.free() == 0 {
+            return self.refuse(hart);
+        }
+        let Some(read) = self.table.descriptors(slot).lowest() else {
+            return self.refuse(hart);
+        };
+        let Some(write) = lowest_above(&self.table, slot, read) else {
+            return self.refuse(hart);
+        };
+        let Some(frame) = self.memories.make_pipe() else {
+            unreachable!();
+        };
+        let numbers = two_numbers(read, write);
+        self.memories
+            .put_front(slot, call.a0, &numbers, NUMBERS_BYTES);
+        let _ = self.open_pipe_at(slot, read, frame, End::Reading);
+        let _ = self.open_pipe_at(slot, write, frame, End::Writing);
+        self.done(hart, 0)
+    }
+
     /// One step of a read from a pipe: the answer is how many bytes it took, which are all that are there
     /// but at most `n`. It waits while there is none and somebody may still write.
     pub(crate) fn read_pipe(
