@@ -1,19 +1,23 @@
 -- Which row a call goes by, in this kernel.
-use Rattle.std.proofs.Common.{◌≡◌, ◌≢◌, ℕ, Bool, true, false, cond, List, [], ◌∷◌, Option, Some, None, inl, inr, refl, sym, ap, ◌∙◌}
+use Rattle.std.proofs.Common.{◌≡◌, ◌≢◌, ℕ, Bool, true, false, cond, not, List, [], ◌∷◌, Option, Some, None, inl, inr, refl, sym, ap, ◌∙◌}
 use Rattle.std.specs.Prelude.{ℤ, pos, negsuc, option_map, find, nat_eq}
 use Rattle.std.proofs.lemmas.Bool.Decides.{eqb_tells}
 use Rattle.proc_table.specs.declared.process.Call.{Call}
 use Rattle.kcall_core.specs.Words.{c_int}
 use Rattle.kcall_core.specs.View.{View}
-use Rattle.kcall_core.specs.Own.{Exited}
-use Rattle.kcall_core.specs.Calls.{Row, table, row_of, perform, refused, gone, fork, wait, kill, exec, dup, getpid, sbrk, sleep, uptime, close}
-use Rattle.kcall_core.specs.Built.{is_built, perform_so_far}
+use Rattle.kcall_core.specs.Own.{Own, Exited}
+use Rattle.kcall_core.specs.Calls.{Row, table, row_of, perform, refused, gone, fork, wait, make_pipe, read, kill, exec, dup, getpid, sbrk, sleep, uptime, open_file, write, close}
+use Rattle.kcall_core.specs.Built.{meets_terminal, names_console, is_on_terminal, perform_so_far, open_so_far, read_so_far, write_so_far}
 use Rattle.kcall_core.proofs.RowsByParts.{exit_same}
-use Rattle.kcall_core.proofs.Decoding.{is_fork, is_exit, is_wait, is_kill, is_exec, is_dup, is_getpid, is_sbrk, is_sleep, is_uptime, is_close, is_none_of_them}
+use Rattle.kcall_core.proofs.Decoding.{is_fork, is_exit, is_wait, is_pipe, is_read, is_kill, is_exec, is_dup, is_getpid, is_sbrk, is_sleep, is_uptime, is_open, is_write, is_close, is_none_of_them}
+
+unless-met : (b : Bool) (x y : Own) → cond (not b) x y ≡ cond b y x
+unless-met true x y = refl
+unless-met false x y = refl
 
 module _ (c : Call) (v : View) where
-  by_number : (number : ℤ) → c.number ≡ number → perform_so_far c v ≡ cond (is_built (row_of number)) (perform c v) (refused c v)
-  by_number number is = ap (λ (z : ℤ). cond (is_built (row_of z)) (perform c v) (refused c v)) is
+  by_number : (number : ℤ) → c.number ≡ number → perform_so_far c v ≡ cond (not (meets_terminal c v (row_of number))) (perform c v) (refused c v)
+  by_number number is = ap (λ (z : ℤ). cond (not (meets_terminal c v (row_of z))) (perform c v) (refused c v)) is
 
   pub fork-row : c.number ≡ pos 1 → perform_so_far c v ≡ fork c v
   unfolding row_of
@@ -27,6 +31,10 @@ module _ (c : Call) (v : View) where
   unfolding row_of
   wait-row is = by_number (pos 3) is ∙ is_wait c v is
 
+  pub pipe-row : c.number ≡ pos 4 → perform_so_far c v ≡ make_pipe c v
+  unfolding row_of
+  pipe-row is = by_number (pos 4) is ∙ is_pipe c v is
+
   pub kill-row : c.number ≡ pos 6 → perform_so_far c v ≡ kill c v
   unfolding row_of
   kill-row is = by_number (pos 6) is ∙ is_kill c v is
@@ -34,6 +42,10 @@ module _ (c : Call) (v : View) where
   pub exec-row : c.number ≡ pos 7 → perform_so_far c v ≡ exec c v
   unfolding row_of
   exec-row is = by_number (pos 7) is ∙ is_exec c v is
+
+  pub dup-row : c.number ≡ pos 10 → perform_so_far c v ≡ dup c v
+  unfolding row_of
+  dup-row is = by_number (pos 10) is ∙ is_dup c v is
 
   pub getpid-row : c.number ≡ pos 11 → perform_so_far c v ≡ getpid c v
   unfolding row_of
@@ -55,45 +67,42 @@ module _ (c : Call) (v : View) where
   unfolding row_of
   close-row is = by_number (pos 21) is ∙ is_close c v is
 
-  pub dup-row : c.number ≡ pos 10 → perform_so_far c v ≡ dup c v
+  -- ---- rows that may be on the terminal
+
+  pub open-row : c.number ≡ pos 15 → perform_so_far c v ≡ open_so_far c v
   unfolding row_of
-  dup-row is = by_number (pos 10) is ∙ is_dup c v is
+  open-row is = by_number (pos 15) is ∙ ap (λ (o : Own). cond (not (names_console c v)) o (refused c v)) (is_open c v is) ∙ unless-met (names_console c v) (open_file c v) (refused c v)
+
+  pub read-row : c.number ≡ pos 5 → perform_so_far c v ≡ read_so_far c v
+  unfolding row_of
+  read-row is = by_number (pos 5) is ∙ ap (λ (o : Own). cond (not (is_on_terminal c v)) o (refused c v)) (is_read c v is) ∙ unless-met (is_on_terminal c v) (read c v) (refused c v)
+
+  pub write-row : c.number ≡ pos 16 → perform_so_far c v ≡ write_so_far c v
+  unfolding row_of
+  write-row is = by_number (pos 16) is ∙ ap (λ (o : Own). cond (not (is_on_terminal c v)) o (refused c v)) (is_write c v is) ∙ unless-met (is_on_terminal c v) (write c v) (refused c v)
 
 -- ---- all others
-
-false-true : {A : Type 0} → false ≡ true → A
-false-true e = let no : ⊥ = cc in absurd no
 
 -- the row of a number in a list
 abbrev row-in : ℕ → List (ℕ × Row) → Option Row
 row-in n rows = option_map (λ e. e.1) (find (λ e. nat_eq e.0 n) rows)
 
--- each row of the list that is built has another number
+-- each row of the list has another number
 abbrev AreOthers : ℕ → List (ℕ × Row) → Type 0
 AreOthers n [] = Unit {0}
-AreOthers n (e ∷ rows) = (is_built (Some e.1) ≡ true → nat_eq e.0 n ≡ false) × AreOthers n rows
+AreOthers n (e ∷ rows) = (nat_eq e.0 n ≡ false) × AreOthers n rows
 
--- by the first row's test, and by the rest
-by-first : (n : ℕ) (e : ℕ × Row) (rows : List (ℕ × Row)) (b : Bool) → nat_eq e.0 n ≡ b → (is_built (Some e.1) ≡ true → nat_eq e.0 n ≡ false)
-    → (is_built (row-in n rows) ≡ true → row-in n rows ≡ None) → is_built (row-in n (e ∷ rows)) ≡ true → row-in n (e ∷ rows) ≡ None
-by-first n e rows b is other rest built = by b is (sym (ap (λ x. is_built (first x)) is) ∙ built)
-  where
-    first : Bool → Option Row
-    first b = option_map (λ x. x.1) (cond b (Some e) (find (λ x. nat_eq x.0 n) rows))
+none-there : (n : ℕ) (rows : List (ℕ × Row)) → AreOthers n rows → row-in n rows ≡ None
+none-there n [] others = refl
+none-there n (e ∷ rows) others = ap (λ b. option_map (λ x. x.1) (cond b (Some e) (find (λ x. nat_eq x.0 n) rows))) others.0 ∙ none-there n rows others.1
 
-    by : (b : Bool) → nat_eq e.0 n ≡ b → is_built (first b) ≡ true → row-in n (e ∷ rows) ≡ None
-    by true is built = false-true (sym (other built) ∙ is)
-    by false is built = ap first is ∙ rest built
-
-none-built : (n : ℕ) (rows : List (ℕ × Row)) → AreOthers n rows → is_built (row-in n rows) ≡ true → row-in n rows ≡ None
-none-built n [] others built = refl
-none-built n (e ∷ rows) others built = by-first n e rows (nat_eq e.0 n) refl others.0 (none-built n rows others.1) built
-
--- a number that none of the built ones has
+-- a number that no row has
 pub record IsOther (number : ℤ) : Type 0 where
   pub fork : number ≢ pos 1
   pub exit : number ≢ pos 2
   pub wait : number ≢ pos 3
+  pub pipe : number ≢ pos 4
+  pub read : number ≢ pos 5
   pub kill : number ≢ pos 6
   pub exec : number ≢ pos 7
   pub dup : number ≢ pos 10
@@ -101,23 +110,22 @@ pub record IsOther (number : ℤ) : Type 0 where
   pub sbrk : number ≢ pos 12
   pub sleep : number ≢ pos 13
   pub uptime : number ≢ pos 14
+  pub opening : number ≢ pos 15
+  pub write : number ≢ pos 16
   pub close : number ≢ pos 21
 
 apart : (m n : ℕ) → pos n ≢ pos m → nat_eq m n ≡ false
 apart m n ne = elim (eqb_tells m n) [ inl h ↦ absurd (ne (ap pos (sym h.1))) | inr h ↦ h.0 ]
 
-none-other : (number : ℤ) → IsOther number → is_built (row_of number) ≡ true → row_of number ≡ None
+none-other : (number : ℤ) → IsOther number → row_of number ≡ None
 unfolding row_of
-none-other (negsuc n) other built = refl
-none-other (pos n) other built =
-    none-built n table
-    (λ e. apart 1 n other.fork, (λ e. apart 2 n other.exit, (λ e. apart 3 n other.wait, (false-true, (false-true, (λ e. apart 6 n other.kill, (λ e. apart 7 n other.exec, (λ e. apart 10 n other.dup, (λ e. apart 11 n other.getpid, (λ e. apart 12 n other.sbrk, (λ e. apart 13 n other.sleep, (λ e. apart 14 n other.uptime, (false-true, (false-true, (λ e. apart 21 n other.close, tt)))))))))))))))
-    built
+none-other (negsuc n) other = refl
+none-other (pos n) other =
+    none-there n table
+    (apart 1 n other.fork, (apart 2 n other.exit, (apart 3 n other.wait, (apart 4 n other.pipe, (apart 5 n other.read, (apart 6 n other.kill, (apart 7 n other.exec, (apart 10 n other.dup, (apart 11 n other.getpid, (apart 12 n other.sbrk, (apart 13 n other.sleep, (apart 14 n other.uptime, (apart 15 n other.opening, (apart 16 n other.write, (apart 21 n other.close, tt)))))))))))))))
 
 -- it is refused
 pub other-row : (c : Call) (v : View) → IsOther c.number → perform_so_far c v ≡ refused c v
-other-row c v other = by (is_built (row_of c.number)) refl
-  where
-    by : (b : Bool) → is_built (row_of c.number) ≡ b → perform_so_far c v ≡ refused c v
-    by true built = ap (λ b. cond b (perform c v) (refused c v)) built ∙ is_none_of_them c v (none-other c.number other built)
-    by false built = ap (λ b. cond b (perform c v) (refused c v)) built
+other-row c v other =
+    let none = none-other c.number other in
+    ap (λ (r : Option Row). cond (not (meets_terminal c v r)) (perform c v) (refused c v)) none ∙ is_none_of_them c v none

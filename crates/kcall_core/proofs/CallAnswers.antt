@@ -11,7 +11,7 @@ use Rattle.kcall_core.specs.Processes.{Live}
 use Rattle.kcall_core.specs.State.{State}
 use Rattle.kcall_core.specs.View.{View, view_of}
 use Rattle.kcall_core.specs.Own.{Own}
-use Rattle.kcall_core.specs.Calls.{row_of, perform, done, refused}
+use Rattle.kcall_core.specs.Calls.{perform, done, refused}
 use Rattle.kcall_core.specs.Step.{own, call_begun, call_or_begun, call_in, begun}
 use Rattle.kcall_core.specs.Built.{is_built, is_ecall, is_unbuilt, perform_so_far, own_so_far}
 use Rattle.kcall_core.specs.Updates.{own_state, with_answer}
@@ -33,7 +33,7 @@ use Rattle.kcall_core.proofs.AloneMakes.{OnlyItself, only-pid, only-whole, answe
 -- its three parts: the kill mark, the call in progress, and the instruction at the pc
 abbrev step-on : View → Bool → Option Call → Step → Own
 step-on v killed call step =
-    cond (not killed && (is_some call || is_ecall step) && not (is_built (row_of (call_or_begun v call).number)))
+    cond (not killed && (is_some call || is_ecall step) && not (is_built (call_or_begun v call) v))
     (refused (call_or_begun v call) (cond (is_some call) v (begun v)))
     (own v)
 
@@ -51,7 +51,7 @@ unfolding view_of
 resumed-so-far s p l c unmarked busy =
     let v = view_of s p l in
     let step = next_instruction l.regs l.image in
-    let built = is_built (row_of c.number) in
+    let built = is_built c v in
     so-far v
     ∙ ap (λ killed. step-on v killed l.call step) unmarked
     ∙ ap (λ call. step-on v false call step) busy
@@ -71,7 +71,7 @@ module _ (s : State) (p : ℕ) (l : Live) (was : IsLive s p l) where
       let v = view_of s p l in
       let c = call_begun v in
       let seen = view_of (begun_state p l s) p (begun_live s p l) in
-      let built = is_built (row_of c.number) in
+      let built = is_built c v in
       so-far v
       ∙ ap (λ killed. step-on v killed l.call (next_instruction l.regs l.image)) runs.0
       ∙ ap (λ call. step-on v false call (next_instruction l.regs l.image)) runs.1
@@ -79,6 +79,8 @@ module _ (s : State) (p : ℕ) (l : Live) (was : IsLive s p l) where
       ∙ ap (λ w. cond (not built) (refused c w) (own v)) (sym begun-view)
       ∙ ap (λ o. cond (not built) (refused c seen) o) (law.ecall s p l was runs is).0
       ∙ turned built (refused c seen) (perform c seen)
+      -- (what a call meets of the terminal is the same past its ECALL)
+      ∙ ap (λ b. cond b (perform c seen) (refused c seen)) (ap (is_built c) (sym begun-view))
 
 -- ---- a call that is done at once
 

@@ -80,6 +80,7 @@ mod RowsOfRounds
 mod RowsOfRuns
 mod RowsOfStores
 mod RowsOfBoot
+mod RowsOfBuilt
 mod RowsOfSteps
 mod RowsOfBytes
 mod RowsOfMemory
@@ -168,6 +169,7 @@ pub mod WaitMakes
 pub mod WaitRows
 pub mod WaitSleeps
 pub mod OpenRoom
+pub mod OpenRows
 pub mod PipeRest
 pub mod PipeWrites
 pub mod MovingRows

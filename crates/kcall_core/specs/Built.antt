@@ -1,31 +1,69 @@
--- Which calls this kernel makes. A call that isn't built yet is refused, as one whose number no row has.
-use Rattle.std.specs.Prelude.{Bool, true, false, cond, not, ◌&&◌, ◌||◌, Option, None, Some, is_some}
+-- Which calls this kernel makes: all but those on the terminal, which isn't built yet. These are refused.
+use Rattle.std.specs.Prelude.{ℕ, ℤ, pos, negsuc, Bool, true, false, cond, not, ◌&&◌, ◌||◌, List, Option, None, Some, is_some, bytes_eq}
+use Rattle.xk_base.specs.declared.limits.TheConstants.{MAXPATH}
 use Rattle.rv64i_core.specs.Step.{Step, Next, Ecall, Fault}
 use Rattle.proc_table.specs.declared.process.Call.{Call}
 use Rattle.kcall_core.specs.Instruction.{next_instruction}
-use Rattle.kcall_core.specs.View.{View}
+use Rattle.kcall_core.specs.Words.{c_int}
+use Rattle.kcall_core.specs.Buffers.{text_at, no_slashes}
+use Rattle.kcall_core.specs.Programs.{console_name}
+use Rattle.kcall_core.specs.View.{View, Descriptor, Shown, Shown_terminal, Shown_file, Shown_pipe}
 use Rattle.kcall_core.specs.Own.{Own}
-use Rattle.kcall_core.specs.Calls.{Row, Fork, Exit, Wait, Kill, Exec, Dup, Getpid, Sbrk, Sleep, Uptime, Close, row_of, perform, refused}
+use Rattle.kcall_core.specs.Calls.{Row, Read, Open, Write, row_of, perform, refused, open_file, read, write}
 use Rattle.kcall_core.specs.Step.{own, call_in, begun}
 
-abbrev pub is_built : Option Row → Bool
-is_built None = true
-is_built (Some Fork) = true
-is_built (Some Exit) = true
-is_built (Some Wait) = true
-is_built (Some Kill) = true
-is_built (Some Exec) = true
-is_built (Some Dup) = true
-is_built (Some Getpid) = true
-is_built (Some Sbrk) = true
-is_built (Some Sleep) = true
-is_built (Some Uptime) = true
-is_built (Some Close) = true
-is_built _ = false
+-- ---- calls on the terminal
 
--- one step of a call in progress, in this kernel
+-- the path, without leading slashes, is the terminal's name
+abbrev pub is_console_path : Option (List ℕ) → Bool
+is_console_path None = false
+is_console_path (Some path) = bytes_eq console_name (no_slashes path)
+
+-- so is the path of an open
+abbrev pub names_console : Call → View → Bool
+names_console c v = is_console_path (text_at MAXPATH v.image c.a0)
+
+abbrev pub shows_terminal : Shown → Bool
+shows_terminal Shown_terminal = true
+shows_terminal (Shown_file program offset) = false
+shows_terminal (Shown_pipe name end pipe) = false
+
+abbrev pub on_terminal : Option Descriptor → Bool
+on_terminal None = false
+on_terminal (Some d) = shows_terminal d.shown
+
+abbrev pub number_on_terminal : View → ℤ → Bool
+number_on_terminal v (pos d) = on_terminal (v.descriptors d)
+number_on_terminal v (negsuc k) = false
+
+-- the descriptor of a read or a write is on it
+abbrev pub is_on_terminal : Call → View → Bool
+is_on_terminal c v = number_on_terminal v (c_int c.a0)
+
+abbrev pub meets_terminal : Call → View → Option Row → Bool
+meets_terminal c v (Some Open) = names_console c v
+meets_terminal c v (Some Read) = is_on_terminal c v
+meets_terminal c v (Some Write) = is_on_terminal c v
+meets_terminal c v _ = false
+
+abbrev pub is_built : Call → View → Bool
+is_built c v = not (meets_terminal c v (row_of c.number))
+
+-- ---- a step, in this kernel
+
+-- one step of a call in progress
 abbrev pub perform_so_far : Call → View → Own
-perform_so_far c v = cond (is_built (row_of c.number)) (perform c v) (refused c v)
+perform_so_far c v = cond (is_built c v) (perform c v) (refused c v)
+
+-- and of those that may be on the terminal
+abbrev pub open_so_far : Call → View → Own
+open_so_far c v = cond (names_console c v) (refused c v) (open_file c v)
+
+abbrev pub read_so_far : Call → View → Own
+read_so_far c v = cond (is_on_terminal c v) (refused c v) (read c v)
+
+abbrev pub write_so_far : Call → View → Own
+write_so_far c v = cond (is_on_terminal c v) (refused c v) (write c v)
 
 abbrev pub is_ecall : Step → Bool
 is_ecall (Next regs store) = false
@@ -38,7 +76,7 @@ in_progress v = cond (is_some v.call) v (begun v)
 
 -- the next step of the process is on a call that isn't built: one that it begins, or is in
 unfoldable pub is_unbuilt : View → Bool
-is_unbuilt v = not v.killed && (is_some v.call || is_ecall (next_instruction v.regs v.image)) && not (is_built (row_of (call_in v).number))
+is_unbuilt v = not v.killed && (is_some v.call || is_ecall (next_instruction v.regs v.image)) && not (is_built (call_in v) v)
 
 -- one step of a process, in this kernel
 abbrev pub own_so_far : View → Own

@@ -33,6 +33,7 @@ pub mod Codes
 pub mod Starts
 pub mod NewKernel
 pub mod Observers
+pub mod Opens
 pub mod Execs
 pub mod Machine
 pub mod Whole

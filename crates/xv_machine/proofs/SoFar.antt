@@ -87,7 +87,7 @@ module _ (k : Kernel) (h : Hart) where
   unfolding is_unbuilt view_of
   marked-built marked =
       let v = view_now k h in
-      first-false (not (live_now k h).killed) (is_some v.call || is_ecall (next_instruction v.regs v.image)) (not (is_built (row_of (call_in v).number))) (ap not marked)
+      first-false (not (live_now k h).killed) (is_some v.call || is_ecall (next_instruction v.regs v.image)) (not (is_built (call_in v) v)) (ap not marked)
 
   pub marked-own : (live_now k h).killed ≡ true → own_so_far (view_now k h) ≡ gone (Exited minus_one) (view_now k h)
   marked-own marked = built-own (view_now k h) (marked-built marked) ∙ (end (state_of k h) (pid_now k) (live_now k h)).0 marked
@@ -98,7 +98,7 @@ module _ (k : Kernel) (h : Hart) where
     unfolding is_unbuilt view_of
     plain-built other =
         let v = view_now k h in
-        middle (not v.killed) (is_some v.call || is_ecall (next_instruction v.regs v.image)) (not (is_built (row_of (call_in v).number)))
+        middle (not v.killed) (is_some v.call || is_ecall (next_instruction v.regs v.image)) (not (is_built (call_in v) v))
         (neither (is_some v.call) (is_ecall (next_instruction v.regs v.image)) (ap is_some free.1) (no-ecall (next_instruction v.regs v.image) other))
 
     pub plain-own : stop_of (next_instruction (live_now k h).regs (live_now k h).image) ≢ stops.Ecall → own_so_far (view_now k h) ≡ own (view_now k h)

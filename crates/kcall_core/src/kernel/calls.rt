@@ -38,6 +38,12 @@ const EXIT: i32 = 2;
 /// The number of the call wait.
 const WAIT: i32 = 3;
 
+/// The number of the call pipe.
+const PIPE: i32 = 4;
+
+/// The number of the call read.
+const READ: i32 = 5;
+
 /// The number of the call kill.
 const KILL: i32 = 6;
 
@@ -58,6 +64,12 @@ const SLEEP: i32 = 13;
 
 /// The number of the call uptime.
 const UPTIME: i32 = 14;
+
+/// The number of the call open.
+const OPEN: i32 = 15;
+
+/// The number of the call write.
+const WRITE: i32 = 16;
 
 /// The number of the call close.
 const CLOSE: i32 = 21;
@@ -206,6 +218,8 @@ impl Kernel {
                 CallEnd::Gone(status)
             }
             WAIT => self.wait(hart, call),
+            PIPE => self.pipe(hart, call),
+            READ => self.read_so_far(hart, call),
             KILL => self.kill(hart, call),
             EXEC => self.exec(hart, call),
             DUP => self.dup(hart, call),
@@ -213,6 +227,8 @@ impl Kernel {
             SBRK => self.sbrk(hart, call),
             SLEEP => self.sleep(hart, call),
             UPTIME => self.uptime(hart),
+            OPEN => self.open_file(hart, call),
+            WRITE => self.write_so_far(hart, call),
             CLOSE => self.close(hart, call),
             _ => self.refuse(hart),
         }

@@ -27,7 +27,7 @@ use xk_base::limits::MAXPATH;
 use xk_base::{Program, Reg};
 
 /// A name without its leading slashes.
-fn without_slashes(name: &[u8]) -> &[u8]
+pub(crate) fn without_slashes(name: &[u8]) -> &[u8]
     ensures { result.now ≡ no_slashes name.now }
 {
     let Some(first) = name.iter().position(|byte| *byte != b'/') else {

@@ -1,11 +1,16 @@
-//! Calls that move bytes between a process and its open files (xv6's `sysfile.c` and `file.c`; the xv6 book,
-//! "I/O and file descriptors").
+//! Calls that open files, and that move bytes between a process and its open files (xv6's `sysfile.c` and
+//! `file.c`; the xv6 book, "I/O and file descriptors").
 ghost use Rattle.std.specs.Prelude.{◌≡◌, ◌≢◌, ◌<◌, ℕ, Some, IfSome, IfNone, pos, true, false, take, drop, map, slice_get, length, ◌+◌};
+ghost use Rattle.hart_core.specs.declared.hart.Hart.{Hart};
 ghost use Rattle.file_table.specs.declared.open_file.Target.TheVariants as on;
 ghost use Rattle.kcall_core.specs.State.{named_file};
 ghost use Rattle.kcall_core.specs.Programs.{program_bytes};
 ghost use Rattle.kcall_core.specs.Buffers.{readable, writable};
 ghost use Rattle.kcall_core.specs.Calls.{read, write};
+ghost use Rattle.kcall_core.specs.Opens.{is_terminal, place_named, asked_place};
+ghost use Rattle.kcall_core.specs.Built.{is_on_terminal, open_so_far, read_so_far, write_so_far};
+ghost use Rattle.kcall_core.specs.Holdings.{held_at};
+ghost use Rattle.kcall_core.specs.Memories.{each_of};
 ghost use Rattle.kcall_core.specs.Kernel.{IsRunning, live_now};
 ghost use Rattle.kcall_core.specs.Whole.{IsWhole};
 ghost use Rattle.kcall_core.specs.Makes.{Makes, view_now, answer_of};
@@ -15,10 +20,12 @@ use crate::call_end::CallEnd;
 use crate::kernel::Kernel;
 use crate::kernel::calls::c_int;
 use crate::kernel::descriptors::used_descriptor;
+use crate::kernel::exec::without_slashes;
 use file_table::{FileId, OpenFile, Target};
 use hart_core::Hart;
 use proc_table::Call;
 use xk_base::Program;
+use xk_base::limits::MAXPATH;
 
 /// How many bytes are asked for, where they aren't fewer than none.
 fn byte_count(asked: i32) -> Option<usize>
@@ -46,7 +53,72 @@ fn file_rest(programs: &[Program], program: usize, offset: u64, n: usize) -> &[u
     &left[..n.min(left.len())]
 }
 
+/// Whether an open file is the terminal.
+fn is_terminal(kind: &OpenFile) -> bool
+    ensures { result ≡ is_terminal kind.now.target }
+{
+    match kind.target {
+        Target::Console => true,
+        Target::Program { .. } => false,
+        Target::Pipe { .. } => false,
+    }
+}
+
+/// The place of the program of a name.
+fn place_named(programs: &[Program], name: &[u8]) -> Option<usize>
+    ensures { result ≡ place_named name.now (map named_file programs.now) }
+{
+    programs
+        .iter()
+        .position(|program| program.name.as_slice() == name)
+}
+
 impl Kernel {
+    /// The place of the program whose file the process in a slot, which runs, asks to open, by the address of
+    /// a path. `None` where a byte of the path can't be read, it has more than 128 bytes with its zero byte, or
+    /// no program has the name. So it is with the terminal's name, for the terminal isn't built yet.
+    fn asked_place(&self, slot: usize, path: u64) -> Option<usize>
+        requires whole { (hart : Hart) × IsWhole self.now hart }
+        requires slot { self.now.current ≡ Some slot }
+        ensures { result ≡ asked_place (map named_file self.now.programs.items) (held_at (each_of self.now.memories) slot).image path }
+    {
+        let mut text = [0; MAXPATH];
+        let Ok(len) = self.memories.fetch_text(slot, path, &mut text) else {
+            return None;
+        };
+        let name = without_slashes(&text[..len]);
+        if name == b"console".as_slice() {
+            return None;
+        }
+        place_named(&self.programs, name)
+    }
+
+    /// The call open, of a program's file: the lowest free descriptor names the file that the path at the
+    /// address in the first argument says, from its first byte on, and is the answer. Where there is no such
+    /// file, the mode in the second argument isn't 0, to read, or no descriptor is free, the answer is -1, and
+    /// nothing else changes. So it is with the terminal, which isn't built yet.
+    pub(crate) fn open_file(&mut self, hart: &mut Hart, call: &Call) -> CallEnd
+        requires whole { IsWhole self.old hart.old }
+        requires running { IsRunning self.old }
+        ensures made { Makes self.old hart.old (open_so_far call.now (view_now self.old hart.old)) self.new hart.new }
+        ensures answer { (open_so_far call.now (view_now self.old hart.old)).answer ≡ answer_of call.now.number result }
+    {
+        let Some(slot) = self.current else {
+            unreachable!();
+        };
+        let Some(program) = self.asked_place(slot, call.a0) else {
+            return self.refuse(hart);
+        };
+        if c_int(call.a1) != 0 {
+            return self.refuse(hart);
+        }
+        let Some(fd) = self.table.descriptors(slot).lowest() else {
+            return self.refuse(hart);
+        };
+        let _ = self.open_program_at(slot, fd, program);
+        self.done(hart, i64::from(fd.number()))
+    }
+
     /// One step of a write of `n` bytes, all of which are in the buffer, to an open file that may be written.
     fn write_to(
         &mut self,
@@ -76,7 +148,7 @@ impl Kernel {
     }
 
     /// One step of the call write.
-    pub(crate) fn write(&mut self, hart: &mut Hart, call: &Call) -> CallEnd
+    fn write(&mut self, hart: &mut Hart, call: &Call) -> CallEnd
         requires whole { IsWhole self.old hart.old }
         requires running { IsRunning self.old }
         requires unmarked { (live_now self.old hart.old).killed ≡ false }
@@ -172,7 +244,7 @@ impl Kernel {
     }
 
     /// One step of the call read.
-    pub(crate) fn read(&mut self, hart: &mut Hart, call: &Call) -> CallEnd
+    fn read(&mut self, hart: &mut Hart, call: &Call) -> CallEnd
         requires whole { IsWhole self.old hart.old }
         requires running { IsRunning self.old }
         requires unmarked { (live_now self.old hart.old).killed ≡ false }
@@ -204,5 +276,56 @@ impl Kernel {
             return self.refuse(hart);
         }
         self.read_from(hart, call, slot, file, &kind, n)
+    }
+
+    /// Whether the descriptor that a call names by its first argument is on the terminal.
+    fn is_on_terminal(&self, call: &Call) -> bool
+        requires whole { (hart : Hart) × IsWhole self.now hart }
+        requires running { IsRunning self.now }
+        ensures { (hart : Hart) → IsWhole self.now hart → result ≡ is_on_terminal call.now (view_now self.now hart) }
+    {
+        let Some(slot) = self.current else {
+            unreachable!();
+        };
+        let Some(fd) = used_descriptor(&self.table, slot, c_int(call.a0)) else {
+            return false;
+        };
+        let Some(file) = self.table.descriptors(slot).get(fd) else {
+            unreachable!();
+        };
+        let kind = self.files.kind(file);
+        is_terminal(&kind)
+    }
+
+    /// One step of the call read. On the terminal, whose reads aren't built yet, it is refused.
+    pub(crate) fn read_so_far(&mut self, hart: &mut Hart, call: &Call) -> CallEnd
+        requires whole { IsWhole self.old hart.old }
+        requires running { IsRunning self.old }
+        requires unmarked { (live_now self.old hart.old).killed ≡ false }
+        requires in_call { (live_now self.old hart.old).call ≡ Some call.now }
+        requires row { call.now.number ≡ pos 5 }
+        ensures made { Makes self.old hart.old (read_so_far call.now (view_now self.old hart.old)) self.new hart.new }
+        ensures answer { (read_so_far call.now (view_now self.old hart.old)).answer ≡ answer_of call.now.number result }
+    {
+        if self.is_on_terminal(call) {
+            return self.refuse(hart);
+        }
+        self.read(hart, call)
+    }
+
+    /// One step of the call write. On the terminal, whose writes aren't built yet, it is refused.
+    pub(crate) fn write_so_far(&mut self, hart: &mut Hart, call: &Call) -> CallEnd
+        requires whole { IsWhole self.old hart.old }
+        requires running { IsRunning self.old }
+        requires unmarked { (live_now self.old hart.old).killed ≡ false }
+        requires in_call { (live_now self.old hart.old).call ≡ Some call.now }
+        requires row { call.now.number ≡ pos 16 }
+        ensures made { Makes self.old hart.old (write_so_far call.now (view_now self.old hart.old)) self.new hart.new }
+        ensures answer { (write_so_far call.now (view_now self.old hart.old)).answer ≡ answer_of call.now.number result }
+    {
+        if self.is_on_terminal(call) {
+            return self.refuse(hart);
+        }
+        self.write(hart, call)
     }
 }

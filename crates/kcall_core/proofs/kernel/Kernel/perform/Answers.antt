@@ -6,7 +6,7 @@ use Rattle.kcall_core.specs.View.{view_of}
 use Rattle.kcall_core.specs.Kernel.{state_of}
 use Rattle.kcall_core.specs.Own.{Own, Exited}
 use Rattle.kcall_core.specs.Makes.{Makes, view_now, answer_of}
-use Rattle.kcall_core.proofs.BuiltRows.{fork-row, exit-row, wait-row, kill-row, exec-row, getpid-row, sbrk-row, sleep-row, uptime-row, close-row, dup-row, IsOther, other-row}
+use Rattle.kcall_core.proofs.BuiltRows.{fork-row, exit-row, wait-row, kill-row, exec-row, getpid-row, sbrk-row, sleep-row, uptime-row, close-row, dup-row, pipe-row, open-row, read-row, write-row, IsOther, other-row}
 use Rattle.kcall_core.proofs.kernel.Kernel.perform.Goals as goal
 
 pub returns-in-1-clause-made : goal.returns-in-1-clause-made
@@ -95,12 +95,40 @@ unfolding view_of
 returns-in-11-clause-answer c =
     ap (λ (o : Own). o.answer) (getpid-row c.args.call.now (view_now c.args.self.now c.args.hart.now) (search rules)) ∙ ap (answer_of c.args.call.now.number) (sym c.getpid.ensures.end)
 
+pub returns-in-4-clause-made : goal.returns-in-4-clause-made
+returns-in-4-clause-made c =
+    subst (λ o. Makes c.args.self.now c.args.hart.now o c.pipe.new.self c.pipe.new.hart) (sym (pipe-row c.args.call.now (view_now c.args.self.now c.args.hart.now) (search rules))) c.pipe.ensures.made
+
+pub returns-in-4-clause-answer : goal.returns-in-4-clause-answer
+returns-in-4-clause-answer c = ap (λ (o : Own). o.answer) (pipe-row c.args.call.now (view_now c.args.self.now c.args.hart.now) (search rules)) ∙ c.pipe.ensures.answer
+
+pub returns-in-5-clause-made : goal.returns-in-5-clause-made
+returns-in-5-clause-made c =
+    subst (λ o. Makes c.args.self.now c.args.hart.now o c.read_so_far.new.self c.read_so_far.new.hart) (sym (read-row c.args.call.now (view_now c.args.self.now c.args.hart.now) (search rules))) c.read_so_far.ensures.made
+
+pub returns-in-5-clause-answer : goal.returns-in-5-clause-answer
+returns-in-5-clause-answer c = ap (λ (o : Own). o.answer) (read-row c.args.call.now (view_now c.args.self.now c.args.hart.now) (search rules)) ∙ c.read_so_far.ensures.answer
+
+pub returns-in-15-clause-made : goal.returns-in-15-clause-made
+returns-in-15-clause-made c =
+    subst (λ o. Makes c.args.self.now c.args.hart.now o c.open_file.new.self c.open_file.new.hart) (sym (open-row c.args.call.now (view_now c.args.self.now c.args.hart.now) (search rules))) c.open_file.ensures.made
+
+pub returns-in-15-clause-answer : goal.returns-in-15-clause-answer
+returns-in-15-clause-answer c = ap (λ (o : Own). o.answer) (open-row c.args.call.now (view_now c.args.self.now c.args.hart.now) (search rules)) ∙ c.open_file.ensures.answer
+
+pub returns-in-16-clause-made : goal.returns-in-16-clause-made
+returns-in-16-clause-made c =
+    subst (λ o. Makes c.args.self.now c.args.hart.now o c.write_so_far.new.self c.write_so_far.new.hart) (sym (write-row c.args.call.now (view_now c.args.self.now c.args.hart.now) (search rules))) c.write_so_far.ensures.made
+
+pub returns-in-16-clause-answer : goal.returns-in-16-clause-answer
+returns-in-16-clause-answer c = ap (λ (o : Own). o.answer) (write-row c.args.call.now (view_now c.args.self.now c.args.hart.now) (search rules)) ∙ c.write_so_far.ensures.answer
+
 pub returns-in_default-clause-made : goal.returns-in_default-clause-made
 returns-in_default-clause-made c =
-    let other : IsOther c.args.call.now.number = record { fork = search rules; exit = search rules; wait = search rules; kill = search rules; exec = search rules; dup = search rules; getpid = search rules; sbrk = search rules; sleep = search rules; uptime = search rules; close = search rules } in
+    let other : IsOther c.args.call.now.number = record { fork = search rules; exit = search rules; wait = search rules; pipe = search rules; read = search rules; kill = search rules; exec = search rules; dup = search rules; getpid = search rules; sbrk = search rules; sleep = search rules; uptime = search rules; opening = search rules; write = search rules; close = search rules } in
     subst (λ o. Makes c.args.self.now c.args.hart.now o c.refuse.new.self c.refuse.new.hart) (sym (other-row c.args.call.now (view_now c.args.self.now c.args.hart.now) other)) (c.refuse.ensures.made c.args.call.now)
 
 pub returns-in_default-clause-answer : goal.returns-in_default-clause-answer
 returns-in_default-clause-answer c =
-    let other : IsOther c.args.call.now.number = record { fork = search rules; exit = search rules; wait = search rules; kill = search rules; exec = search rules; dup = search rules; getpid = search rules; sbrk = search rules; sleep = search rules; uptime = search rules; close = search rules } in
+    let other : IsOther c.args.call.now.number = record { fork = search rules; exit = search rules; wait = search rules; pipe = search rules; read = search rules; kill = search rules; exec = search rules; dup = search rules; getpid = search rules; sbrk = search rules; sleep = search rules; uptime = search rules; opening = search rules; write = search rules; close = search rules } in
     ap (λ (o : Own). o.answer) (other-row c.args.call.now (view_now c.args.self.now c.args.hart.now) other) ∙ ap (answer_of c.args.call.now.number) (sym c.refuse.ensures.end)
