@@ -2,6 +2,7 @@
 mod calls;
 mod files;
 mod kills;
+mod pipes;
 mod processes;
 mod scene;
 mod waits;

@@ -176,6 +176,19 @@ impl Scene {
         Ok(())
     }
 
+    /// Compares the outcomes of Runs, as [`Scene::meet_all`] has them. Done instructions are passed over.
+    pub(super) fn calls<R: Abort + AllocGlobal>(
+        &mut self,
+        rt: &R,
+        wanted: &str,
+    ) -> Result<(), AllocError> {
+        for line in wanted.split(", ") {
+            let (_, outcome) = self.steps();
+            assert_eq!(rt; format!(in rt.alloc(); "{outcome}")?.as_str(), line);
+        }
+        Ok(())
+    }
+
     /// Compares each outcome of a story, and the free frames after each part.
     pub(super) fn tell<R: Abort + AllocGlobal>(
         &mut self,

@@ -1,0 +1,209 @@
+//! Pipes and program files, which processes make, share, read and write.
+use super::scene::{Scene, file_of};
+use std::alloc::Global;
+use std::test::Fail;
+
+// A pipe is made with its numbers at sp - 16: 0 reads and 1 writes.
+const PIPE: &str = "addi a0, sp, -16\nli a7, 4\necall\n";
+
+// The child goes on at `child`.
+const FORK: &str = "li a7, 1\necall\nbeq a0, x0, child\n";
+
+// Exit with 0.
+const EXIT: &str = "li a0, 0\nli a7, 2\necall\n";
+
+// One program of several parts.
+fn joined(alloc: Global, parts: &[&str]) -> Result<Vec<u8>, Fail> {
+    let mut source = String::from_str(alloc, "")?;
+    for part in parts {
+        source.push_str(part)?;
+    }
+    file_of(alloc, source.as_str())
+}
+
+// A machine of 16 frames with this program as `init`, and a file `b` that holds `hello`.
+fn scene_of(alloc: Global, parts: &[&str]) -> Result<Scene, Fail> {
+    let hello = Vec::from_slice(alloc, b"hello")?;
+    Ok(Scene::of_both(alloc, 16, joined(alloc, parts)?, hello)?)
+}
+
+#[test]
+fn a_child_writes_and_its_parent_reads(rt: HostRuntime) -> Result<(), Fail> {
+    // The parent closes its write end, waits in a read of 10 bytes, and reads again at the end of the file.
+    let parent = "li a0, 1\nli a7, 21\necall\naddi a1, sp, -32\nli a2, 10\nli a7, 5\n\
+                  li a0, 0\necall\nli a0, 0\necall\n";
+    let child = "child: li t0, 120\nsb t0, -32(sp)\nli t0, 121\nsb t0, -31(sp)\n\
+                 li a0, 1\naddi a1, sp, -32\nli a2, 2\nli a7, 16\necall\n";
+    let mut scene = scene_of(rt.alloc(), &[PIPE, FORK, parent, EXIT, child, EXIT])?;
+    assert_eq!(rt; scene.free_frames(), 9);
+    scene.calls(&rt, "turn 1, call 1 4 0")?;
+    assert_eq!(rt; scene.free_frames(), 8);
+    scene.peek_from(&rt, 0x2FD0, b"\0\0\0\0\x01\0\0\0");
+    scene.calls(&rt, "call 1 1 2, call 1 21 0, block 1 5")?;
+    scene.calls(&rt, "turn 2, call 2 16 2, exit 2 0")?;
+    scene.peek_from(&rt, 0x2FC0, b"\0\0\0\0");
+    scene.calls(&rt, "turn 1, call 1 5 2")?;
+    scene.peek_from(&rt, 0x2FC0, b"xy\0\0");
+    // Nobody can write any more.
+    scene.calls(&rt, "call 1 5 0")?;
+    assert_eq!(rt; scene.free_frames(), 8);
+    scene.calls(&rt, "exit 1 0, halted")?;
+    assert_eq!(rt; scene.free_frames(), 16);
+    Ok(())
+}
+
+#[test]
+fn a_full_pipe_holds_its_writer_back(rt: HostRuntime) -> Result<(), Fail> {
+    // The parent writes 513 bytes, all of which stand in its stack page.
+    let parent = "li a0, 1\nlui a1, 2\nli a2, 513\nli a7, 16\necall\n";
+    let child = "child: li a0, 0\naddi a1, sp, -32\nli a2, 1\nli a7, 5\necall\n";
+    let mut scene = scene_of(rt.alloc(), &[PIPE, FORK, parent, EXIT, child, EXIT])?;
+    scene.calls(
+        &rt,
+        "turn 1, call 1 4 0, call 1 1 2, block 1 16, turn 2, call 2 5 1, exit 2 0, \
+         turn 1, call 1 16 513, exit 1 0",
+    )?;
+    Ok(())
+}
+
+#[test]
+fn a_writer_whose_last_reader_goes_is_refused(rt: HostRuntime) -> Result<(), Fail> {
+    let parent = "li a0, 0\nli a7, 21\necall\nli a0, 1\nlui a1, 2\nli a2, 513\nli a7, 16\necall\n";
+    let child = "child: li a0, 0\nli a7, 21\necall\n";
+    let mut scene = scene_of(rt.alloc(), &[PIPE, FORK, parent, EXIT, child, EXIT])?;
+    scene.calls(
+        &rt,
+        "turn 1, call 1 4 0, call 1 1 2, call 1 21 0, block 1 16, turn 2, call 2 21 0, exit 2 0, \
+         turn 1, call 1 16 -1, exit 1 0",
+    )?;
+    Ok(())
+}
+
+#[test]
+fn a_write_that_nobody_can_read_is_refused(rt: HostRuntime) -> Result<(), Fail> {
+    let write = "li a0, 0\nli a7, 21\necall\nli a0, 1\nlui a1, 2\nli a2, 1\nli a7, 16\necall\n";
+    let mut scene = scene_of(rt.alloc(), &[PIPE, write, EXIT])?;
+    scene.calls(
+        &rt,
+        "turn 1, call 1 4 0, call 1 21 0, call 1 16 -1, exit 1 0",
+    )?;
+    Ok(())
+}
+
+#[test]
+fn two_readers_of_a_pipe_share_its_bytes(rt: HostRuntime) -> Result<(), Fail> {
+    // 3 bytes are written; the child takes 2 of them, and the parent is left with 1.
+    let parent = "li a0, 1\nlui a1, 2\nli a2, 3\nli a7, 16\necall\n\
+                  li a0, 0\nli a7, 3\necall\nli a0, 0\naddi a1, sp, -32\nli a2, 9\nli a7, 5\necall\n";
+    let child = "child: li a0, 0\naddi a1, sp, -32\nli a2, 2\nli a7, 5\necall\n";
+    let mut scene = scene_of(rt.alloc(), &[PIPE, FORK, parent, EXIT, child, EXIT])?;
+    scene.calls(
+        &rt,
+        "turn 1, call 1 4 0, call 1 1 2, call 1 16 3, block 1 3, turn 2, call 2 5 2, exit 2 0, \
+         turn 1, call 1 3 2, call 1 5 1, exit 1 0",
+    )?;
+    Ok(())
+}
+
+#[test]
+fn a_refused_pipe_leaves_nothing(rt: HostRuntime) -> Result<(), Fail> {
+    // Its numbers would stand in the text; then 8 bytes don't fit into the stack page; then in the last 8.
+    let refused = "li a0, 0\nli a7, 4\necall\nlui a0, 3\naddi a0, a0, -4\necall\n";
+    let made = "lui a0, 3\naddi a0, a0, -8\necall\n";
+    let mut scene = scene_of(rt.alloc(), &[refused, made, EXIT])?;
+    scene.calls(&rt, "turn 1, call 1 4 -1, call 1 4 -1")?;
+    assert_eq!(rt; scene.free_frames(), 9);
+    scene.peek_from(&rt, 0x2FFC, b"\0\0\0\0");
+    scene.calls(&rt, "call 1 4 0")?;
+    assert_eq!(rt; scene.free_frames(), 8);
+    scene.peek_from(&rt, 0x2FF8, b"\0\0\0\0\x01\0\0\0");
+    scene.calls(&rt, "exit 1 0")?;
+    assert_eq!(rt; scene.free_frames(), 16);
+    Ok(())
+}
+
+#[test]
+fn a_pipe_needs_a_frame(rt: HostRuntime) -> Result<(), Fail> {
+    // Nine pages more take all free frames; one page less gives one back.
+    let grow = "li a7, 12\nli a0, 36864\necall\n";
+    let shrink = "li a7, 12\nli a0, -4096\necall\n";
+    let mut scene = scene_of(rt.alloc(), &[grow, PIPE, shrink, PIPE, EXIT])?;
+    scene.calls(
+        &rt,
+        "turn 1, call 1 12 12288, call 1 4 -1, call 1 12 49152, call 1 4 0, exit 1 0",
+    )?;
+    assert_eq!(rt; scene.free_frames(), 16);
+    Ok(())
+}
+
+// The name `b` stands at sp - 16.
+const NAME: &str = "li t0, 98\nsd t0, -16(sp)\n";
+
+// It is opened to be read.
+const OPEN: &str = "addi a0, sp, -16\nli a1, 0\nli a7, 15\necall\n";
+
+#[test]
+fn a_file_is_read_on_from_where_another_process_stopped(rt: HostRuntime) -> Result<(), Fail> {
+    let parent =
+        "li a0, 0\nli a7, 3\necall\nli a0, 0\naddi a1, sp, -32\nli a2, 9\nli a7, 5\necall\n\
+                  li a0, 0\necall\n";
+    let child = "child: li a0, 0\naddi a1, sp, -32\nli a2, 2\nli a7, 5\necall\n";
+    let mut scene = scene_of(rt.alloc(), &[NAME, OPEN, FORK, parent, EXIT, child, EXIT])?;
+    scene.calls(
+        &rt,
+        "turn 1, call 1 15 0, call 1 1 2, block 1 3, turn 2, call 2 5 2, exit 2 0, \
+         turn 1, call 1 3 2, call 1 5 3",
+    )?;
+    scene.peek_from(&rt, 0x2FC0, b"llo\0");
+    scene.calls(&rt, "call 1 5 0, exit 1 0")?;
+    Ok(())
+}
+
+#[test]
+fn a_dup_shares_the_offset(rt: HostRuntime) -> Result<(), Fail> {
+    let dup = "li a0, 0\nli a7, 10\necall\n";
+    let reads =
+        "addi a1, sp, -32\nli a7, 5\nli a0, 0\nli a2, 2\necall\nli a0, 1\nli a2, 9\necall\n";
+    // A file of a program can't be written.
+    let write = "li a0, 0\nli a2, 1\nli a7, 16\necall\n";
+    let mut scene = scene_of(rt.alloc(), &[NAME, OPEN, dup, reads, write, OPEN, EXIT])?;
+    scene.calls(
+        &rt,
+        "turn 1, call 1 15 0, call 1 10 1, call 1 5 2, call 1 5 3, call 1 16 -1, call 1 15 2, exit 1 0",
+    )?;
+    Ok(())
+}
+
+#[test]
+fn opens_that_are_refused(rt: HostRuntime) -> Result<(), Fail> {
+    // With mode 1; of a path in the guard page; of `console`, behind two slashes; and `b` behind one.
+    let mode = "addi a0, sp, -16\nli a1, 1\nli a7, 15\necall\n";
+    let guard = "lui a0, 1\nli a1, 0\necall\n";
+    let names = "la a0, console\necall\nla a0, file\necall\n";
+    let texts = ".data\nconsole: .asciz \"//console\"\nfile: .asciz \"/b\"\n";
+    let mut scene = scene_of(rt.alloc(), &[NAME, mode, guard, names, EXIT, texts])?;
+    scene.calls(
+        &rt,
+        "turn 1, call 1 15 -1, call 1 15 -1, call 1 15 -1, call 1 15 0, exit 1 0",
+    )?;
+    Ok(())
+}
+
+#[test]
+fn descriptors_run_out(rt: HostRuntime) -> Result<(), Fail> {
+    // 15 opens; a pipe needs two descriptors; then the 16th open, and one too many.
+    let opens = "li s0, 15\nmore: addi a0, sp, -16\nli a1, 0\nli a7, 15\necall\n\
+                 addi s0, s0, -1\nbne s0, x0, more\n";
+    let mut scene = scene_of(rt.alloc(), &[NAME, opens, PIPE, NAME, OPEN, OPEN, EXIT])?;
+    scene.calls(&rt, "turn 1")?;
+    for answer in [
+        "0", "1", "2", "3", "4", "5", "6", "7", "8", "9", "10", "11", "12", "13", "14",
+    ] {
+        let line = format!(in rt.alloc(); "call 1 15 {answer}")?;
+        scene.calls(&rt, line.as_str())?;
+    }
+    scene.calls(&rt, "call 1 4 -1")?;
+    assert_eq!(rt; scene.free_frames(), 9);
+    scene.calls(&rt, "call 1 15 15, call 1 15 -1, exit 1 0")?;
+    Ok(())
+}
