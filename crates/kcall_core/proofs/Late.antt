@@ -13,15 +13,15 @@ use Rattle.file_table.specs.declared.open_file.End.{End}
 use Rattle.proc_table.specs.declared.process.Call.{Call}
 use Rattle.kcall_core.specs.Words.{CLOCK_ROUND, c_int, minus_one}
 use Rattle.kcall_core.specs.Buffers.{writable, readable}
-use Rattle.kcall_core.specs.PipeEnds.{fit, there}
+use Rattle.kcall_core.specs.PipeEnds.{fit, there, must_wait}
 use Rattle.kcall_core.specs.Programs.{program_bytes}
-use Rattle.kcall_core.specs.Processes.{Process, Live, Child, Status}
+use Rattle.kcall_core.specs.Processes.{Process, Live, Child, Status, status_of}
 use Rattle.kcall_core.specs.State.{State, live}
 use Rattle.kcall_core.specs.View.{View, Descriptor, Shown, Shown_terminal, Shown_file, Shown_pipe, view, view_of, child_of}
 use Rattle.kcall_core.specs.Own.{Own, Called, Exited, gone_with}
 use Rattle.kcall_core.specs.Quiet.{seen, seen_children, or_child, same_child}
 use Rattle.kcall_core.specs.Tables.{advance, change_pipe, changed, change_shown}
-use Rattle.kcall_core.specs.Calls.{Row, Wait, Read, Write, Sleep, row_of, perform, perform_row, gone, unless, refused, done, waits, reaped, told, status_of, without_child, least_zombie, has_child, wait, read_on, read_from, must_wait, moving, unless_nothing, write_on, write_to, done_at, next_bytes, room_to_send, in_use, length_of_int, sleep_for}
+use Rattle.kcall_core.specs.Calls.{Row, Wait, Read, Write, Sleep, row_of, gone, refused, done, waits, least_zombie, has_child}
 use Rattle.kcall_core.specs.Step.{own, unless_killed, going_on}
 use Rattle.kcall_core.specs.Run.{World, Event, Outcome, Happens, StepOf}
 use Rattle.kcall_core.specs.Worlds.{IsStepOf, SameRest, SameDescriptors, bare, bare_shown, Others, IsBrokenWrite, OnlyBrokenWritesFailLate}
@@ -33,6 +33,9 @@ use Rattle.kcall_core.proofs.Kept.{kept, kept_others, pid_is}
 use Rattle.kcall_core.proofs.KeepsSlots.{listed}
 use Rattle.kcall_core.proofs.Pids.{has}
 use Rattle.kcall_core.proofs.Cuts.{IsOutside, kind}
+use Rattle.kcall_core.specs.Ready.{in_use}
+use Rattle.kcall_core.proofs.RowParts.{perform_row, unless, reaped, told, without_child, read_on, read_from, moving, unless_nothing, write_on, write_to, done_at, next_bytes, room_to_send, length_of_int, sleep_for, perform_parts, wait_parts}
+use Rattle.kcall_core.proofs.RowsByParts.{perform_same}
 
 one_of : (a b : View) → Some a ≡ Some b → a ≡ b
 one_of a b e = cc
@@ -113,8 +116,8 @@ unfolding own
 marked_own m marked = ap (unless_killed m) marked
 
 by_perform : (c : Call) (r : Row) (m : View) → m.killed ≡ false → m.call ≡ Some c → row_of c.number ≡ Some r → own m ≡ perform_row c m (Some r)
-unfolding own perform
-by_perform c r m alive busy row = ap (unless_killed m) alive ∙ ap (going_on m) busy ∙ ap (perform_row c m) row
+unfolding own perform_parts
+by_perform c r m alive busy row = ap (unless_killed m) alive ∙ ap (going_on m) busy ∙ perform_same c m ∙ ap (perform_row c m) row
 
 -- what is to be shown of a row that waits
 abbrev Goes_on : Row → Call → View → Type 0
@@ -151,7 +154,7 @@ module _ (c : Call) (v : View) where
   wait_by row there (Some q) = falls_done Late c (pos q) (told c.a0 (status_of (v.children q)) (without_child q v))
   wait_by row there None = falls_cond Late (has_child v) (waits c 0 v) (refused c v) (λ some. falls_waits Wait c 0 v row (wait_later there some)) (λ _. falls_done Late c minus_one v)
 
-  wait_row : row_of c.number ≡ Some Wait → Falls Late (wait c v)
+  wait_row : row_of c.number ≡ Some Wait → Falls Late (wait_parts c v)
   wait_row row = falls_unless Late (not (nat_eq c.a0 0) && not (writable v.image c.a0 4)) c v (λ _. reaped c v (least_zombie v)) (λ there. wait_by row there (least_zombie v))
 
   sleep_later : Goes_on Sleep (record c { moved = 0 }) v

@@ -18,14 +18,16 @@ use Rattle.kcall_core.specs.State.{ProgramFile, State, named_file}
 use Rattle.kcall_core.specs.View.{View, Shown_file, Table, view_of, numbered, rename, rename_shown, show, descriptor_at, descriptor_on}
 use Rattle.kcall_core.specs.Own.{Own}
 use Rattle.kcall_core.specs.Tables.{lowest_free}
-use Rattle.kcall_core.specs.Calls.{Named, The_console, A_program, Nothing, place_of, opened_as, open_at, open_path, refused}
+use Rattle.kcall_core.specs.Calls.{refused}
 use Rattle.kcall_core.specs.Opens.{is_terminal, place_named, place_by, asked_place}
-use Rattle.kcall_core.specs.Built.{is_console_path, open_so_far, shows_terminal, on_terminal, number_on_terminal, is_on_terminal}
+use Rattle.kcall_core.specs.Built.{is_console_path, open_so_far, shows_terminal, on_terminal, number_on_terminal, is_on_terminal, names_console}
 use Rattle.kcall_core.specs.Kernel.{state_of, live_now}
 use Rattle.kcall_core.specs.Makes.{view_now}
 use Rattle.kcall_core.specs.Moves.{OnNoTerminal}
 use Rattle.kcall_core.specs.declared.kernel.Kernel.{Kernel}
 use Rattle.kcall_core.proofs.Names.{named_at}
+use Rattle.kcall_core.proofs.RowParts.{Named, The_console, A_program, Nothing, program_place, opened_as, open_at, open_path}
+use Rattle.kcall_core.proofs.RowsByParts.{open_same}
 
 -- ---- which program
 
@@ -43,9 +45,9 @@ either true k o n e = refl
 either false k o n e = e
 
 -- the row finds it so too
-place-is : (name : List ℕ) (programs : List ProgramFile) (k : ℕ) → place_of name programs k ≡ at-place (position_from (λ (p : ProgramFile). bytes_eq p.name name) k programs)
+place-is : (name : List ℕ) (programs : List ProgramFile) (k : ℕ) → program_place name programs k ≡ at-place (position_from (λ (p : ProgramFile). bytes_eq p.name name) k programs)
 place-is name [] k = refl
-place-is name (p ∷ later) k = either (bytes_eq p.name name) k (position_from (λ (q : ProgramFile). bytes_eq q.name name) (k + 1) later) (place_of name later (k + 1)) (place-is name later (k + 1))
+place-is name (p ∷ later) k = either (bytes_eq p.name name) k (position_from (λ (q : ProgramFile). bytes_eq q.name name) (k + 1) later) (program_place name later (k + 1)) (place-is name later (k + 1))
 
 -- ---- open
 
@@ -62,15 +64,18 @@ module _ (c : Call) (v : View) where
   named-none path true is none = refl
   named-none path false is none =
       ap (λ (n : Named). open_at c v (lowest_free v.descriptors) (opened_as n (c_int c.a1)))
-      (ap (λ b. cond b The_console (place_of (no_slashes path) v.programs 0)) is ∙ place-is (no_slashes path) v.programs 0 ∙ ap at-place none)
+      (ap (λ b. cond b The_console (program_place (no_slashes path) v.programs 0)) is ∙ place-is (no_slashes path) v.programs 0 ∙ ap at-place none)
       ∙ nothing-opened (lowest_free v.descriptors)
 
   by-none : (t : Option (List ℕ)) → place_by v.programs t ≡ None → by-path t ≡ refused c v
   by-none None e = refl
   by-none (Some path) e = named-none path (bytes_eq console_name (no_slashes path)) refl e
 
+  by-parts : open_so_far c v ≡ by-path (text_at MAXPATH v.image c.a0)
+  by-parts = ap (cond (names_console c v) (refused c v)) (open_same c v)
+
   pub open-nothing : asked_place v.programs v.image c.a0 ≡ None → open_so_far c v ≡ refused c v
-  open-nothing none = by-none (text_at MAXPATH v.image c.a0) none
+  open-nothing none = by-parts ∙ by-none (text_at MAXPATH v.image c.a0) none
 
   module _ (place : ℕ) where
     abbrev opens : Own
@@ -80,7 +85,7 @@ module _ (c : Call) (v : View) where
     named-some path true is some = let no : ⊥ = cc in absurd no
     named-some path false is some =
         ap (λ (n : Named). open_at c v (lowest_free v.descriptors) (opened_as n (c_int c.a1)))
-        (ap (λ b. cond b The_console (place_of (no_slashes path) v.programs 0)) is ∙ place-is (no_slashes path) v.programs 0 ∙ ap at-place some)
+        (ap (λ b. cond b The_console (program_place (no_slashes path) v.programs 0)) is ∙ place-is (no_slashes path) v.programs 0 ∙ ap at-place some)
 
     by-some : (t : Option (List ℕ)) → place_by v.programs t ≡ Some place → by-path t ≡ opens
     by-some None e = let no : ⊥ = cc in absurd no
@@ -88,7 +93,7 @@ module _ (c : Call) (v : View) where
 
     module _ (asked : asked_place v.programs v.image c.a0 ≡ Some place) where
       row : open_so_far c v ≡ opens
-      row = by-some (text_at MAXPATH v.image c.a0) asked
+      row = by-parts ∙ by-some (text_at MAXPATH v.image c.a0) asked
 
       other-mode : (z : ℤ) → z ≢ pos 0 → opened_as (A_program place) z ≡ None
       other-mode (pos n) ne = ap (λ b. cond b (Some (true, false, Shown_file place 0)) None) (ne_eqb n 0 (λ e. ne (ap pos e)))

@@ -17,13 +17,17 @@ use Rattle.kcall_core.specs.Instruction.{next_instruction}
 use Rattle.kcall_core.specs.Words.{CLOCK_ROUND, c_int, minus_one}
 use Rattle.kcall_core.specs.State.{ProgramFile}
 use Rattle.kcall_core.specs.Buffers.{readable, writable, text_at, texts_at, no_slashes, grown, shrunk}
-use Rattle.kcall_core.specs.PipeEnds.{there, fit}
+use Rattle.kcall_core.specs.PipeEnds.{there, fit, must_wait}
 use Rattle.kcall_core.specs.Programs.{program_bytes, program_named}
 use Rattle.kcall_core.specs.View.{View, Descriptor, Shown, Shown_terminal, Shown_file, Shown_pipe}
 use Rattle.kcall_core.specs.Own.{Own, Answer, Stepped, Called, Exited, gone_with}
 use Rattle.kcall_core.specs.Tables.{lowest_free, lowest_free_above, advance, change_pipe, with_copy, one_more_on, one_less_on, without_descriptor, with_descriptor, pipes_given_up}
-use Rattle.kcall_core.specs.Calls.{Row, Fork, Exit, Wait, Pipe_row, Read, Kill, Exec, Dup, Getpid, Sbrk, Sleep, Uptime, Open, Write, Close, row_of, perform, perform_row, answered, gone, done, refused, waits, unless, unless_nothing, moving, length_of_int, reaped, least_zombie, has_child, without_child, status_of, piped, piped_from, with_pipe, read_on, read_from, must_wait, write_on, write_to, done_at, next_bytes, in_use, kill_pid, killed_by, exec_program, exec_path, dup_at, dup_on, dup_number, close_on, close_number, sbrk_by, shrink_to, exec_loaded, running, sleep_for, open_at, open_path, opened_as, what_is_named, fork, forked, cannot_fork, room_to_send}
+use Rattle.kcall_core.specs.Calls.{Row, Fork, Exit, Wait, Pipe_row, Read, Kill, Exec, Dup, Getpid, Sbrk, Sleep, Uptime, Open, Write, Close, row_of, perform, answered, gone, done, refused, waits, least_zombie, has_child}
 use Rattle.kcall_core.specs.Step.{own, unless_killed, going_on, after_instruction, call_begun, call_or_begun, begun, stored}
+use Rattle.kcall_core.specs.Processes.{status_of}
+use Rattle.kcall_core.specs.Ready.{in_use}
+use Rattle.kcall_core.proofs.RowParts.{perform_row, unless, unless_nothing, moving, length_of_int, reaped, without_child, piped, piped_from, with_pipe, read_on, read_from, write_on, write_to, done_at, next_bytes, kill_pid, killed_by, exec_program, exec_path, dup_at, dup_on, dup_number, close_on, close_number, sbrk_by, shrink_to, exec_loaded, running, sleep_for, open_at, open_path, opened_as, kind_named, forked, cannot_fork, room_to_send, perform_parts, fork_parts}
+use Rattle.kcall_core.proofs.RowsByParts.{perform_same}
 
 -- where the next pid is n, a new process has that pid and is in no call, and one pid is used up
 abbrev pub Numbered : ℕ → Own → Type 0
@@ -97,7 +101,7 @@ module _ (c : Call) (v : View) where
   moving_row r (negsuc k) go h = refusal
   moving_row r (pos n) go h = nothing_row (nat_eq n 0) (λ _. unless (not r) c v (λ _. go n)) (guarded (not r) (λ _. go n) (h n))
 
-  fork_row : Comes c v (fork c v)
+  fork_row : Comes c v (fork_parts c v)
   fork_row = guarded (cannot_fork v) (λ _. forked c v)
       (inr (inl (record { value = v.next_pid; answer = refl; after = _; next = refl; idle = refl; pids = (refl, refl, refl) })))
 
@@ -173,7 +177,7 @@ module _ (c : Call) (v : View) where
 
   open_row : (o : Option (List ℕ)) → Comes c v (open_path c v o)
   open_row None = refusal
-  open_row (Some path) = open_to (lowest_free v.descriptors) (opened_as (what_is_named (no_slashes path) v) (c_int c.a1))
+  open_row (Some path) = open_to (lowest_free v.descriptors) (opened_as (kind_named (no_slashes path) v) (c_int c.a1))
 
   -- the rows that may wait
   module _ (row : may_wait (row_of c.number) ≡ true) where
@@ -238,9 +242,12 @@ module _ (c : Call) (v : View) where
   by_row (Some Write) e = write_on_row (ap may_wait e) (in_use v (c_int c.a0))
   by_row (Some Close) e = close_row (c_int c.a0)
 
+  by_parts_comes : Comes c v (perform_parts c v)
+  unfolding perform_parts
+  by_parts_comes = by_row (row_of c.number) refl
+
   pub perform_comes : Comes c v (perform c v)
-  unfolding perform
-  perform_comes = by_row (row_of c.number) refl
+  perform_comes = subst (Comes c v) (sym (perform_same c v)) by_parts_comes
 
 -- ---- a step
 

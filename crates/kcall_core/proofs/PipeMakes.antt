@@ -27,7 +27,7 @@ use Rattle.kcall_core.specs.State.{State}
 use Rattle.kcall_core.specs.View.{View, view_of, or_gone}
 use Rattle.kcall_core.specs.Own.{Own, Called}
 use Rattle.kcall_core.specs.Tables.{lowest_free, lowest_free_above}
-use Rattle.kcall_core.specs.Calls.{make_pipe, piped, piped_from, refused, unless}
+use Rattle.kcall_core.specs.Calls.{make_pipe, refused}
 use Rattle.kcall_core.specs.Quiet as quiet
 use Rattle.kcall_core.specs.Quiet.{pipe_of_target, pipe_of_open, pipe_of_file, target_of_open}
 use Rattle.kcall_core.specs.Updates as update
@@ -61,6 +61,8 @@ use Rattle.kcall_core.proofs.CallAnswers.{IsDone}
 use Rattle.kcall_core.proofs.Prepared.{over}
 use Rattle.kcall_core.proofs.Midway.{WakeOn, Midway, midway-done}
 use Rattle.kcall_core.proofs.Moved.{nobody, still}
+use Rattle.kcall_core.proofs.RowParts.{piped, piped_from, unless}
+use Rattle.kcall_core.proofs.RowsByParts.{pipe_same}
 
 -- ---- the tests
 
@@ -70,18 +72,19 @@ or-true false = refl
 
 module _ (c : Call) (v : View) where
   pub pipe-unwritable : writable v.image c.a0 8 ≡ false → make_pipe c v ≡ refused c v
-  pipe-unwritable e = ap (λ b. unless (not b || nat_eq v.free 0) c v (λ _. piped_from c v (lowest_free v.descriptors))) e
+  pipe-unwritable e = pipe_same c v ∙ ap (λ b. unless (not b || nat_eq v.free 0) c v (λ _. piped_from c v (lowest_free v.descriptors))) e
 
   pub pipe-frameless : nat_eq v.free 0 ≡ true → make_pipe c v ≡ refused c v
   pipe-frameless e =
-      ap (λ b. unless (not (writable v.image c.a0 8) || b) c v (λ _. piped_from c v (lowest_free v.descriptors))) e
+      pipe_same c v
+      ∙ ap (λ b. unless (not (writable v.image c.a0 8) || b) c v (λ _. piped_from c v (lowest_free v.descriptors))) e
       ∙ ap (λ b. unless b c v (λ _. piped_from c v (lowest_free v.descriptors))) (or-true (not (writable v.image c.a0 8)))
 
   pub has-room : writable v.image c.a0 8 ≡ true → nat_eq v.free 0 ≡ false → (not (writable v.image c.a0 8) || nat_eq v.free 0) ≡ false
   has-room e f = ap (λ b. not b || nat_eq v.free 0) e ∙ f
 
   pub pipe-full : writable v.image c.a0 8 ≡ true → nat_eq v.free 0 ≡ false → lowest_free v.descriptors ≡ None → make_pipe c v ≡ refused c v
-  pipe-full e f none = ap (λ b. unless b c v (λ _. piped_from c v (lowest_free v.descriptors))) (has-room e f) ∙ ap (piped_from c v) none
+  pipe-full e f none = pipe_same c v ∙ ap (λ b. unless b c v (λ _. piped_from c v (lowest_free v.descriptors))) (has-room e f) ∙ ap (piped_from c v) none
 
   pub pipe-one : (r : ℕ) → writable v.image c.a0 8 ≡ true → nat_eq v.free 0 ≡ false → lowest_free v.descriptors ≡ Some r → lowest_free_above v.descriptors r ≡ None → make_pipe c v ≡ refused c v
   pipe-one r e f least none = pipe_case c v r (has-room e f) least ∙ ap (piped c v r) none

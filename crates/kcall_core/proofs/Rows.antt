@@ -24,7 +24,7 @@ use Rattle.kcall_core.specs.Calls.{row_of, perform, done, least_zombie, row, clo
 use Rattle.kcall_core.specs.Step.{own}
 use Rattle.kcall_core.specs.Ready.{ready}
 use Rattle.kcall_core.specs.Tables.{lowest_free}
-use Rattle.kcall_core.specs.Run.{Run, Tick, Key, Send, Step_of, Typed, Sent, round, out}
+use Rattle.kcall_core.specs.Run.{Run, Tick, Key, Send, Step_of, Typed, Sent, out}
 use Rattle.kcall_core.proofs.RowParts.{perform_row, forked, cannot_fork, unless, moving, read_from, write_to, piped_from, reaped, running, exec_loaded, exec_program, exec_path, perform_parts, fork_parts}
 use Rattle.kcall_core.specs.Lines.{◌>>=◌, ◌>>◌, ◌or◌, ◌when◌}
 use Rattle.kcall_core.proofs.RowsByParts.{by_parts}

@@ -9,11 +9,12 @@ use Rattle.kcall_core.specs.Words.{c_int}
 use Rattle.kcall_core.specs.View.{View, Descriptor, Shown, Shown_terminal, Shown_file, Shown_pipe, view}
 use Rattle.kcall_core.specs.Own.{Stepped, Called, Blocked, Exited, goes_on}
 use Rattle.kcall_core.specs.Step.{own}
-use Rattle.kcall_core.specs.Calls.{perform, perform_row, row_of}
+use Rattle.kcall_core.specs.Calls.{perform, row_of, row, kill}
 use Rattle.kcall_core.specs.Run.{World, Event, Run, Tick, Key, Outcome, Step_of, Turn, Ticked, Typed, Happens}
 use Rattle.kcall_core.specs.Worlds.{IsStepOf, Moment, IsCut, steps_of, IsBrokenWrite}
 use Rattle.kcall_core.specs.StepLaws.{regs_in_call, waiting_calls}
 use Rattle.kcall_core.proofs.WorkedViews.{call, in_call, ends_of}
+use Rattle.kcall_core.specs.Lines.{◌>>=◌, ◌>>◌, ◌when◌, ◌or◌}
 
 -- ---- which outcomes are those of process 2
 
@@ -75,7 +76,7 @@ module _ (image : Image) where
 
   -- kill of a pid that is not in use
   kill_refused : own (in_call image (call 6 99 0 0)) ≡ goes_on (Called (pos 6) (negsuc 0)) (record (in_call image (call 6 99 0 0)) { regs = put (fresh 0) 10 (2 ^ 64 - 1); call = None })
-  unfolding own perform perform_row row_of in_call
+  unfolding own in_call perform row row_of kill ◌>>=◌ ◌>>◌ ◌when◌ ◌or◌
   kill_refused = refl
 
 -- ---- the calls that may wait: pipe (4) and sbrk (12) may not

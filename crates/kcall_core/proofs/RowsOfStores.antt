@@ -7,10 +7,10 @@ use Rattle.rv64i_core.specs.Step.{Next, Ecall, Fault}
 use Rattle.xk_base.specs.declared.access.Cause.TheVariants.{StorePageFault}
 use Rattle.kcall_core.specs.View.{View}
 use Rattle.kcall_core.specs.Own.{Called, Blocked, goes_on}
-use Rattle.kcall_core.specs.Calls.{Wait, Pipe_row, Read, Write, Sbrk}
+use Rattle.kcall_core.specs.Calls.{Wait, Pipe_row, Read, Write, Sbrk, perform, row, row_of}
 use Rattle.kcall_core.specs.Stores.{Stored, nothing_stored, stored_by, stored_by_row, stored_by_instruction}
 use Rattle.kcall_core.specs.Step.{own}
-use Rattle.kcall_core.specs.Calls.{perform, perform_row, row_of}
+use Rattle.kcall_core.specs.Lines.{◌>>=◌, ◌or◌}
 use Rattle.kcall_core.proofs.WorkedViews.{call, in_call}
 
 abbrev stored : ℕ → ℕ → Stored
@@ -79,7 +79,7 @@ module _ (image : Image) where
   -- ---- the step of a process in a call, and of one at an ECALL
 
   in_progress : stored_by (in_call image (call 11 8192 8192 8192)) ≡ nothing_stored
-  unfolding own perform perform_row row_of in_call
+  unfolding own in_call perform row row_of ◌>>=◌ ◌or◌
   in_progress = refl
 
   asked : stored_by_instruction (record v { call = None; regs = fresh 4 }) Ecall (goes_on (Called (pos 0) (negsuc 0)) v) ≡ nothing_stored

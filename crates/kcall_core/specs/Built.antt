@@ -1,5 +1,5 @@
 -- Which calls this kernel makes: all but those on the terminal, which isn't built yet. These are refused.
-use Rattle.std.specs.Prelude.{ℕ, ℤ, pos, negsuc, Bool, true, false, cond, not, ◌&&◌, ◌||◌, List, Option, None, Some, is_some, bytes_eq}
+use Rattle.std.specs.Prelude.{ℕ, ℤ, pos, negsuc, Bool, true, false, if◌then◌else◌, not, ◌&&◌, ◌||◌, List, Option, None, Some, is_some, bytes_eq}
 use Rattle.xk_base.specs.declared.limits.TheConstants.{MAXPATH}
 use Rattle.rv64i_core.specs.Step.{Step, Next, Ecall, Fault}
 use Rattle.proc_table.specs.declared.process.Call.{Call}
@@ -53,17 +53,17 @@ is_built c v = not (meets_terminal c v (row_of c.number))
 
 -- one step of a call in progress
 abbrev pub perform_so_far : Call → View → Own
-perform_so_far c v = cond (is_built c v) (perform c v) (refused c v)
+perform_so_far c v = if is_built c v then perform c v else refused c v
 
 -- and of those that may be on the terminal
 abbrev pub open_so_far : Call → View → Own
-open_so_far c v = cond (names_console c v) (refused c v) (open_file c v)
+open_so_far c v = if names_console c v then refused c v else open_file c v
 
 abbrev pub read_so_far : Call → View → Own
-read_so_far c v = cond (is_on_terminal c v) (refused c v) (read c v)
+read_so_far c v = if is_on_terminal c v then refused c v else read c v
 
 abbrev pub write_so_far : Call → View → Own
-write_so_far c v = cond (is_on_terminal c v) (refused c v) (write c v)
+write_so_far c v = if is_on_terminal c v then refused c v else write c v
 
 abbrev pub is_ecall : Step → Bool
 is_ecall (Next regs store) = false
@@ -72,7 +72,7 @@ is_ecall (Fault cause) = false
 
 -- past the ECALL that begins the call, where it isn't in progress yet
 abbrev pub in_progress : View → View
-in_progress v = cond (is_some v.call) v (begun v)
+in_progress v = if is_some v.call then v else begun v
 
 -- the next step of the process is on a call that isn't built: one that it begins, or is in
 unfoldable pub is_unbuilt : View → Bool
@@ -80,4 +80,4 @@ is_unbuilt v = not v.killed && (is_some v.call || is_ecall (next_instruction v.r
 
 -- one step of a process, in this kernel
 abbrev pub own_so_far : View → Own
-own_so_far v = cond (is_unbuilt v) (refused (call_in v) (in_progress v)) (own v)
+own_so_far v = if is_unbuilt v then refused (call_in v) (in_progress v) else own v

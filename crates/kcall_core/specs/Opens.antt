@@ -1,5 +1,5 @@
 -- Which program's file a process asks open for, and which open file is the terminal (the xv6 book, "File descriptor layer").
-use Rattle.std.specs.Prelude.{ℕ, Bool, true, false, cond, List, Option, None, Some, bytes_eq}
+use Rattle.std.specs.Prelude.{ℕ, Bool, true, false, if◌then◌else◌, List, Option, None, Some, bytes_eq}
 use Rattle.std.specs.List.{position_from}
 use Rattle.xk_base.specs.declared.limits.TheConstants.{MAXPATH}
 use Rattle.xk_base.specs.Image.{Image}
@@ -15,7 +15,7 @@ place_named name programs = position_from (λ (p : ProgramFile). bytes_eq p.name
 
 abbrev pub place_by : List ProgramFile → Option (List ℕ) → Option ℕ
 place_by programs None = None
-place_by programs (Some path) = cond (bytes_eq console_name (no_slashes path)) None (place_named (no_slashes path) programs)
+place_by programs (Some path) = if bytes_eq console_name (no_slashes path) then None else place_named (no_slashes path) programs
 
 -- The place of the program that a process asks for, by the address of its path, whose leading slashes don't count; none where a byte of it can't be read, or no program has the name. No program has the terminal's
 abbrev pub asked_place : List ProgramFile → Image → (path : ℕ) → Option ℕ

@@ -1,5 +1,5 @@
 -- Runs of the machine: lists of events, with what each gives, that lead from one state to another.
-use Rattle.std.specs.Prelude.{◌≡◌, ◌≢◌, ℕ, ℤ, ◌+◌, ◌%◌, ◌⊎◌, cond, List, [], ◌∷◌, drop, Option, None, Some, IsSome, MatchOption, flat_map, nat_eq, Contains}
+use Rattle.std.specs.Prelude.{◌≡◌, ◌≢◌, ℕ, ℤ, ◌+◌, ◌%◌, ◌⊎◌, if◌then◌else◌, List, [], ◌∷◌, drop, Option, None, Some, IsSome, MatchOption, flat_map, nat_eq, Contains}
 use Rattle.std.specs.FinMap.{get, keys}
 use Rattle.console_core.specs.Lists.{Console}
 use Rattle.console_core.specs.Keys.{line}
@@ -64,7 +64,7 @@ stays_current p (Faulted cause) = None
 -- this status, where p is process 1
 abbrev pub of_first : (p : ℕ) → Option ℤ → Option ℤ
 of_first p None = None
-of_first p (Some status) = cond (nat_eq p 1) (Some status) None
+of_first p (Some status) = if nat_eq p 1 then Some status else None
 
 -- the status with which the machine is halted by a step of p that answers so
 abbrev pub halts_with : (p : ℕ) → Answer → Option ℤ

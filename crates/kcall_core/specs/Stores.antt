@@ -1,5 +1,5 @@
 -- Which bytes of its process's memory a step stores: an instruction those of its store, a call those that it puts into its buffer.
-use Rattle.std.specs.Prelude.{ℕ, ◌+◌, ◌-◌, ◌<◌, ◌≤◌, cond, length, nat_eq, Option, None, Some, pos}
+use Rattle.std.specs.Prelude.{ℕ, ◌+◌, ◌-◌, ◌<◌, ◌≤◌, if◌then◌else◌, length, nat_eq, Option, None, Some, pos}
 use Rattle.rv64i_core.specs.Step.{Step, Next, Ecall, Fault}
 use Rattle.proc_table.specs.declared.process.Call.{Call}
 use Rattle.kcall_core.specs.Instruction.{next_instruction}
@@ -33,7 +33,7 @@ moved_after _ next = 0
 
 -- wait stores a status, where it was given an address, pipe two numbers, and read the bytes that it moves, behind those that it has moved before
 abbrev pub stored_by_row : Call → Option Row → Own → Stored
-stored_by_row c (Some Wait) o = cond (nat_eq c.a0 0) nothing_stored (where_done o.answer (record { address = c.a0; count = 4 }))
+stored_by_row c (Some Wait) o = if nat_eq c.a0 0 then nothing_stored else where_done o.answer (record { address = c.a0; count = 4 })
 stored_by_row c (Some Pipe_row) o = where_done o.answer (record { address = c.a0; count = 8 })
 stored_by_row c (Some Read) o = record { address = c.a1 + c.moved; count = moved_after o.answer o.next - c.moved }
 stored_by_row c _ o = nothing_stored
