@@ -3,3 +3,6 @@ pub mod Table
 pub mod Memory
 pub mod Registers
 pub mod Step
+pub mod Actions
+pub mod Acts
+pub mod DecodeCache

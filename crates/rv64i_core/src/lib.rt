@@ -8,6 +8,8 @@
 #![tactic(auto)]
 
 mod access_width;
+mod action;
+mod decode_cache;
 mod decoding;
 mod encoding;
 mod execution;
@@ -22,9 +24,10 @@ mod user_memory;
 mod values;
 
 pub use access_width::Width;
+pub use decode_cache::DecodeCache;
 pub use decoding::decode;
 pub use encoding::encode;
-pub use execution::{Stop, execute};
+pub use execution::{Stop, execute, execute_cached};
 pub use flat_memory::FlatMemory;
 pub use instruction::{BranchOp, ImmOp, Instr, LoadOp, RegOp, ShiftOp, StoreOp, WordOp};
 pub use operands::{Imm12, Imm20, Shift5, Shift6};
