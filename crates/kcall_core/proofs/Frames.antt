@@ -18,8 +18,7 @@ use Rattle.addr_space.proofs.Isolation.{spared}
 use Rattle.addr_space.proofs.Trades.{space-price}
 use Rattle.rv64i_core.specs.Registers.{Registers, fresh}
 use Rattle.hart_core.specs.Trapframe.{saved, words_from}
-use Rattle.hart_core.specs.Translations.{Fits, nothing}
-use Rattle.hart_core.specs.declared.translation_cache.Cache.{Cache}
+use Rattle.hart_core.specs.Translations.{Translations, Fits, nothing}
 use Rattle.pipe_core.specs.Pipe.{IsPipe, pipe_in, ring_byte, values_below}
 use Rattle.kcall_core.specs.Words.{count_if}
 use Rattle.kcall_core.specs.Holdings.{cost}
@@ -60,7 +59,7 @@ is-pipe-same ram ram' f count e p = record {
 }
 
 -- what a hart keeps is true as long as the walks stay
-pub fits-stay : (ram ram' : List (List ℕ)) (root : ℕ) (cache : Cache) → ((va : ℕ) (access : Access) → walked ram' root va access ≡ walked ram root va access) → Fits ram root cache → Fits ram' root cache
+pub fits-stay : (ram ram' : List (List ℕ)) (root : ℕ) (cache : Translations) → ((va : ℕ) (access : Access) → walked ram' root va access ≡ walked ram root va access) → Fits ram root cache → Fits ram' root cache
 fits-stay ram ram' root cache walks fits = record {
   each = λ i access allowed. ((fits.each i access allowed).0, λ offset lt. walks (4096 * (get_or cache.places i nothing).page + offset) access ∙ (fits.each i access allowed).1 offset lt);
 }

@@ -11,7 +11,7 @@ use Rattle.addr_space.specs.Space.{Changed, Unchanged}
 use Rattle.addr_space.specs.Translations.{TranslationsStay, WalksStayBelow}
 use Rattle.addr_space.specs.declared.Space.{Space}
 use Rattle.hart_core.specs.Steps.{FitsHart}
-use Rattle.hart_core.specs.Translations.{Fits, FitsBut, but_not, nothing}
+use Rattle.hart_core.specs.Translations.{Fits, FitsBut, but_not, nothing, Translations}
 use Rattle.hart_core.proofs.Caches.{fits_root, fits-none_gone}
 use Rattle.hart_core.specs.declared.translation_cache.Cache.{Cache}
 use Rattle.hart_core.specs.declared.hart.Hart.{Hart}
@@ -24,7 +24,7 @@ same-some : {X : Type 0} (x y : X) → Some x ≡ Some y → x ≡ y
 same-some x y e = cc
 
 -- what is kept stays true as long as each present translation stays
-fits-on : (ram ram' : List (List ℕ)) (root : ℕ) (cache : Cache) → TranslationsStay ram ram' root → Fits ram root cache → Fits ram' root cache
+fits-on : (ram ram' : List (List ℕ)) (root : ℕ) (cache : Translations) → TranslationsStay ram ram' root → Fits ram root cache → Fits ram' root cache
 fits-on ram ram' root cache stay fits = record {
   each = λ i access allowed. (
     (fits.each i access allowed).0,

@@ -109,7 +109,7 @@ impl Kernel {
         let Some(slot) = self.current else {
             unreachable!();
         };
-        self.memories.save(slot, hart);
+        self.memories.save(slot, hart.regs());
         hart.leave();
         self.current = None;
     }

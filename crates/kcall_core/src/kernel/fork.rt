@@ -16,10 +16,11 @@ ghost use Rattle.kcall_core.specs.Whole.{IsWhole};
 ghost use Rattle.kcall_core.specs.Makes.{Makes, view_now, answer_of};
 
 use crate::call_end::CallEnd;
-use crate::kernel::{Kernel, put_answer};
+use crate::kernel::Kernel;
+use crate::kernel::registers::FIRST_ARGUMENT;
 use hart_core::Hart;
 use xk_base::limits::NOFILE;
-use xk_base::{Fd, Pid};
+use xk_base::{Fd, Pid, Reg};
 
 /// A new process: where it is, and its name.
 #[derive(Clone, Copy)]
@@ -71,10 +72,9 @@ impl Kernel {
         ensures runs { (other : Hart) → RunsIn self.old.memories slot other → RunsIn self.new.memories slot other }
         ensures rest { self.new ≡ record self.old { memories = self.new.memories } }
     {
-        let mut first = Hart::new();
-        *first.regs_mut() = *hart.regs();
-        put_answer(&mut first, 0);
-        self.memories.save(slot, &first);
+        let mut regs = *hart.regs();
+        regs.write(Reg::new(FIRST_ARGUMENT), 0);
+        self.memories.save(slot, &regs);
     }
 
     /// The call fork: a new process is there, a copy of the one that runs, which has the same open files. The

@@ -91,8 +91,9 @@ impl Kernel {
         let Ok((slot, _)) = self.table.spawn(None) else {
             unreachable!();
         };
-        *hart.regs_mut() = first_regs(start);
-        self.memories.save(slot, hart);
+        let regs = first_regs(start);
+        *hart.regs_mut() = regs;
+        self.memories.save(slot, &regs);
         Ok(())
     }
 }

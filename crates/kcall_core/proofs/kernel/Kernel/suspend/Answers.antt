@@ -1,5 +1,8 @@
-use Rattle.std.proofs.Common.{refl, ap}
+use Rattle.std.proofs.Common.{Some, refl, ap, subst}
+use Rattle.rv64i_core.specs.Registers.{Registers}
 use Rattle.hart_core.specs.declared.hart.Hart.{Hart}
+use Rattle.kcall_core.specs.Holdings.{held_at, with_saved}
+use Rattle.kcall_core.specs.Memories.{each_of, SlotChanges}
 use Rattle.kcall_core.proofs.Stops.{now-has, suspended-sound, suspended-state}
 use Rattle.kcall_core.proofs.kernel.Kernel.suspend.Goals as goal
 
@@ -12,4 +15,6 @@ returns-clause-sound c =
 
 pub returns-clause-state : goal.returns-clause-state
 returns-clause-state c =
-    suspended-state c.args.self.now _ c.args.hart.now c.leave.new.self c.in-Some.slot c.requires.sound c.in-Some.is c.save.ensures.saved refl refl (record { files = refl; console = refl; programs = refl; clock = refl })
+    let held = held_at (each_of c.args.self.now.memories) c.in-Some.slot in
+    let P = λ (regs : Registers). SlotChanges c.args.self.now.memories c.save.new.self c.in-Some.slot (Some (with_saved regs held)) in
+    suspended-state c.args.self.now _ c.args.hart.now c.leave.new.self c.in-Some.slot c.requires.sound c.in-Some.is (subst P c.regs.ensures c.save.ensures.saved) refl refl (record { files = refl; console = refl; programs = refl; clock = refl })

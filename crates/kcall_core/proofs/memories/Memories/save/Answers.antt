@@ -9,13 +9,13 @@ index-requires c = there-below _ _ c.requires.there
 pub unreachable-requires : goal.unreachable-requires
 unreachable-requires c = there-some _ _ c.index.result.now c.requires.there c.index.ensures c.in_default.is
 
-pub save-requires : goal.save-requires
-save-requires c = trapframe-inside (stands c.index.result.now c.in-Some.memory c.requires.sound c.requires.there c.index.ensures c.in-Some.is)
+pub save_registers-requires : goal.save_registers-requires
+save_registers-requires c = trapframe-inside (stands c.index.result.now c.in-Some.memory c.requires.sound c.requires.there c.index.ensures c.in-Some.is)
 
 pub returns-clause-saved : goal.returns-clause-saved
 returns-clause-saved c =
-    saved-changes _ (stands c.index.result.now c.in-Some.memory c.requires.sound c.requires.there c.index.ensures c.in-Some.is) c.save.ensures.stay refl refl c.args.hart.now.regs c.save.ensures.saved c.save.ensures.aligned refl
+    saved-changes _ (stands c.index.result.now c.in-Some.memory c.requires.sound c.requires.there c.index.ensures c.in-Some.is) c.save_registers.ensures.stay refl refl c.args.regs.now c.save_registers.ensures.saved c.save_registers.ensures.aligned refl
 
 pub returns-clause-runs : goal.returns-clause-runs
 returns-clause-runs c other r =
-    saved-runs _ (stands c.index.result.now c.in-Some.memory c.requires.sound c.requires.there c.index.ensures c.in-Some.is) c.save.ensures.stay refl refl other r
+    saved-runs _ (stands c.index.result.now c.in-Some.memory c.requires.sound c.requires.there c.index.ensures c.in-Some.is) c.save_registers.ensures.stay refl refl other r

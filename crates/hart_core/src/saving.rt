@@ -1,0 +1,39 @@
+//! Registers in a frame: the trapframe of a process that doesn't run.
+ghost use Rattle.std.specs.Prelude.{◌≡◌, ℕ, ◌%◌, ◌<◌, ◌≤◌, length, slice_index};
+ghost use Rattle.phys_ram.specs.Ram.{frame_at, word_at, OthersStay};
+ghost use Rattle.hart_core.specs.Trapframe.{saved};
+
+use phys_ram::Ram;
+use rv64i_core::Regs;
+use xk_base::{Frame, Reg};
+
+/// Writes registers into a frame: the pc at byte 0, and xi at byte 8 i. The rest of the frame and all other
+/// frames stay.
+pub fn save_registers(regs: &Regs, ram: &mut Ram, f: Frame)
+    requires { f < length ram.old }
+    ensures saved { saved ram.new f ≡ regs.now }
+    ensures aligned { word_at ram.new f 0 % 4 ≡ 0 }
+    ensures stay { OthersStay ram.old ram.new f }
+    ensures rest { (k : ℕ) → 256 ≤ k → slice_index (frame_at ram.new f) k ≡ slice_index (frame_at ram.old f) k }
+{
+    ram.write_u64(f, 0, regs.pc());
+    for i in 1..32 {
+        let value = regs.read(Reg::new(i as u8));
+        ram.write_u64(f, i, value);
+    }
+}
+
+/// The registers that a frame holds. Its first word, the pc, must be a multiple of 4, as [`save_registers`]
+/// leaves it.
+pub fn saved_registers(ram: &Ram, f: Frame) -> Regs
+    requires frame_in { f < length ram.now }
+    requires aligned { word_at ram.now f 0 % 4 ≡ 0 }
+    ensures { result ≡ saved ram.now f }
+{
+    let mut regs = Regs::new(ram.read_u64(f, 0));
+    for i in 1..32 {
+        let value = ram.read_u64(f, i);
+        regs.write(Reg::new(i as u8), value);
+    }
+    regs
+}
