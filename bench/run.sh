@@ -1,9 +1,16 @@
 #!/bin/bash
-# Measures one of the programs of this folder: bench/run.sh NAME [WORDS].
+# Measures one of the programs of this folder: bench/run.sh NAME [WORDS], or bench/run.sh --count NAME FEW MANY [WORDS].
 # It proves and builds NAME/program.txt over the crates that NAME/uses names, builds NAME/plain.rs, where
 # there is one, by `rustc -O`, and runs both in turn, three times, with these words.
+# With --count it lets valgrind's callgrind count the machine instructions of each with FEW and with MANY as
+# the first word, and tells the difference, in which boot cancels.
 set -e
 here=$(cd "$(dirname "$0")" && pwd)
+count=
+if [ "$1" = --count ]; then
+    count=1
+    shift
+fi
 name=${1:?"which: $(cd "$here" && ls -d */ | tr -d / | tr '\n' ' ')"}
 shift
 work=$(mktemp -d)
@@ -27,6 +34,22 @@ if [ -f "$here/$name/plain.rs" ]; then
     programs+=("$work/plain")
 fi
 (cd "$work/crates/measured" && rt run > "$work/log" 2>&1) || { tail -20 "$work/log"; exit 1; }
+counted() {
+    valgrind --tool=callgrind --callgrind-out-file="$work/callgrind" "$@" 2> "$work/counts" > "$work/printed"
+    echo "$(grep Collected "$work/counts" | sed 's/.*: //') $(cat "$work/printed")"
+}
+if [ -n "$count" ]; then
+    few=${1:?"how many rounds at first"}
+    many=${2:?"and how many then"}
+    shift 2
+    for program in "${programs[@]}"; do
+        read -r few_counted few_done _ < <(counted "$program" "$few" "$@")
+        read -r many_counted many_done _ < <(counted "$program" "$many" "$@")
+        echo "$(basename "$program"): $((many_counted - few_counted)) machine instructions for $((many_done - few_done))"
+    done
+    rm -r "$work"
+    exit
+fi
 for _ in 1 2 3; do
     for program in "${programs[@]}"; do
         echo "== $(basename "$program")"
