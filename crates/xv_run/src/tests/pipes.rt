@@ -27,6 +27,9 @@ fn scene_of(alloc: Global, parts: &[&str]) -> Result<Scene, Fail> {
     Ok(Scene::of_both(alloc, 16, joined(alloc, parts)?, hello)?)
 }
 
+// The parent's wait for any child.
+const WAIT: &str = "li a0, 0\nli a7, 3\necall\n";
+
 #[test]
 fn a_child_writes_and_its_parent_reads(rt: HostRuntime) -> Result<(), Fail> {
     // The parent closes its write end, waits in a read of 10 bytes, and reads again at the end of the file.
@@ -102,6 +105,67 @@ fn two_readers_of_a_pipe_share_its_bytes(rt: HostRuntime) -> Result<(), Fail> {
         "turn 1, call 1 4 0, call 1 1 2, call 1 16 3, block 1 3, turn 2, call 2 5 2, exit 2 0, \
          turn 1, call 1 3 2, call 1 5 1, exit 1 0",
     )?;
+    Ok(())
+}
+
+#[test]
+fn both_of_two_writers_wake_when_there_is_room(rt: HostRuntime) -> Result<(), Fail> {
+    // The pipe is full before two children write a byte each; then the parent takes all 512.
+    let fill = "li a0, 1\nlui a1, 2\nli a2, 512\nli a7, 16\necall\n";
+    let empty = "li a0, 0\nli a7, 5\necall\n";
+    let child = "child: li a0, 1\nlui a1, 2\nli a2, 1\nli a7, 16\necall\n";
+    let parts = [PIPE, fill, FORK, FORK, empty, WAIT, WAIT, EXIT, child, EXIT];
+    let init = joined(rt.alloc(), &parts)?;
+    let mut scene = Scene::of_both(rt.alloc(), 32, init, Vec::new(rt.alloc()))?;
+    scene.calls(
+        &rt,
+        "turn 1, call 1 4 0, call 1 16 512, call 1 1 2, call 1 1 3",
+    )?;
+    scene.meet_all(
+        &rt,
+        "tick, turn 2, step 2, step 2, step 2, step 2, step 2, block 2 16",
+    )?;
+    scene.calls(
+        &rt,
+        "turn 3, block 3 16, turn 1, call 1 5 512, block 1 3, turn 2, call 2 16 1, exit 2 0, \
+         turn 3, call 3 16 1, exit 3 0, turn 1, call 1 3 2, call 1 3 3, exit 1 0",
+    )?;
+    assert_eq!(rt; scene.free_frames(), 32);
+    Ok(())
+}
+
+#[test]
+fn a_reader_that_is_killed_leaves_the_pipe(rt: HostRuntime) -> Result<(), Fail> {
+    // The child waits in a read. Its parent kills it, closes the read end and writes.
+    let kill = "mv a0, s0\nli a7, 6\necall\n";
+    let write = "li a0, 0\nli a7, 21\necall\nli a0, 1\nlui a1, 2\nli a2, 1\nli a7, 16\necall\n";
+    let child = "child: lui a1, 2\nli a2, 1\nli a7, 5\necall\n";
+    let parts = [PIPE, FORK, "mv s0, a0\n", kill, WAIT, write, EXIT, child];
+    let mut scene = scene_of(rt.alloc(), &parts)?;
+    scene.calls(&rt, "turn 1, call 1 4 0, call 1 1 2")?;
+    scene.meet_all(&rt, "tick")?;
+    scene.calls(
+        &rt,
+        "turn 2, block 2 5, turn 1, call 1 6 0, block 1 3, turn 2, exit 2 -1, turn 1, call 1 3 2, \
+         call 1 21 0, call 1 16 -1, exit 1 0",
+    )?;
+    Ok(())
+}
+
+#[test]
+fn descriptors_stay_over_an_exec(rt: HostRuntime) -> Result<(), Fail> {
+    // `init` makes a pipe and asks for `b`, which closes both ends, and the second one once more.
+    let exec = "addi a0, sp, -16\naddi a1, sp, 8\nli a7, 7\necall\n";
+    let close = "li a7, 21\nli a0, 0\necall\nli a0, 1\necall\nli a0, 1\necall\n";
+    let init = joined(rt.alloc(), &[PIPE, NAME, exec])?;
+    let other = joined(rt.alloc(), &[close, EXIT])?;
+    let mut scene = Scene::of_both(rt.alloc(), 16, init, other)?;
+    scene.calls(
+        &rt,
+        "turn 1, call 1 4 0, call 1 7 0, call 1 21 0, call 1 21 0",
+    )?;
+    assert_eq!(rt; scene.free_frames(), 9);
+    scene.calls(&rt, "call 1 21 -1, exit 1 0")?;
     Ok(())
 }
 
