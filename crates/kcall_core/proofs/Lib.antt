@@ -79,6 +79,7 @@ mod RowsOfEvents
 mod RowsOfRounds
 mod RowsOfRuns
 mod RowsOfStores
+mod RowsOfRoom
 mod RowsOfBoot
 mod RowsOfBuilt
 mod RowsOfSteps

@@ -1,14 +1,15 @@
 -- Worked cases of which bytes a step stores.
-use Rattle.std.proofs.Common.{◌≡◌, ℕ, [], ◌∷◌, None, Some, refl}
-use Rattle.std.specs.Prelude.{pos, negsuc}
-use Rattle.xk_base.specs.Image.{Image}
+use Rattle.std.proofs.Common.{◌≡◌, ◌≤◌, ◌<◌, ◌+◌, ℕ, sym, subst, length, arith, [], ◌∷◌, None, Some, refl}
+use Rattle.std.specs.Prelude.{pos, negsuc, slice_index}
+use Rattle.xk_base.specs.Image.{Image, Page}
 use Rattle.rv64i_core.specs.Registers.{fresh}
 use Rattle.rv64i_core.specs.Step.{Next, Ecall, Fault}
 use Rattle.xk_base.specs.declared.access.Cause.TheVariants.{StorePageFault}
 use Rattle.kcall_core.specs.View.{View}
 use Rattle.kcall_core.specs.Own.{Called, Blocked, goes_on}
 use Rattle.kcall_core.specs.Calls.{Wait, Pipe_row, Read, Write, Sbrk, perform, row, row_of}
-use Rattle.kcall_core.specs.Stores.{Stored, nothing_stored, stored_by, stored_by_row, stored_by_instruction}
+use Rattle.kcall_core.specs.Stores.{Stored, nothing_stored, stored_by, stored_by_row, stored_by_instruction, IsStored}
+use Rattle.kcall_core.specs.Worlds.{NewBytesAreZeros, IsNewPage}
 use Rattle.kcall_core.specs.Step.{own}
 use Rattle.kcall_core.specs.Lines.{◌>>=◌, ◌or◌}
 use Rattle.kcall_core.proofs.WorkedViews.{call, in_call}
@@ -85,3 +86,29 @@ module _ (image : Image) where
   asked : stored_by_instruction (record v { call = None; regs = fresh 4 }) Ecall (goes_on (Called (pos 0) (negsuc 0)) v) ≡ nothing_stored
   unfolding row_of in_call
   asked = refl
+
+-- ---- 4 bytes from 8192 on: the first and the last, and those beside them
+
+module _ (w : View) (four : stored_by w ≡ stored 8192 4) where
+  first_stored : IsStored w 8192
+  first_stored = subst (λ (s : Stored). (s.address ≤ 8192) × (8192 < s.address + s.count)) (sym four) (omega arith, omega arith)
+
+  last_stored : IsStored w 8195
+  last_stored = subst (λ (s : Stored). (s.address ≤ 8195) × (8195 < s.address + s.count)) (sym four) (omega arith, omega arith)
+
+  before_them : IsStored w 8191 → ⊥
+  before_them is = let here : 8192 ≤ 8191 = subst (λ (s : Stored). s.address ≤ 8191) four is.0 in omega (arith, here)
+
+  behind_them : IsStored w 8196 → ⊥
+  behind_them is = let here : 8196 < 8192 + 4 = subst (λ (s : Stored). 8196 < s.address + s.count) four is.1 in omega (arith, here)
+
+  -- page 2 is new and page 3 too: behind the bytes that are stored there are zeros
+  module _ (n : View) (x y : Page) (zeros : NewBytesAreZeros w n) (new : IsNewPage w n 2 x) (next : IsNewPage w n 3 y) where
+    rest_of_page : slice_index x.bytes 4 ≡ 0
+    rest_of_page = (zeros 2 x new).1 4 (omega arith) behind_them
+
+    next_page : slice_index y.bytes 0 ≡ 0
+    next_page = (zeros 3 y next).1 0 (omega arith) (λ is. let here : 12288 < 8192 + 4 = subst (λ (s : Stored). 12288 < s.address + s.count) four is.1 in omega (arith, here))
+
+    whole_page : length x.bytes ≡ 4096
+    whole_page = (zeros 2 x new).0
