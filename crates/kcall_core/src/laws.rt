@@ -40,10 +40,10 @@ pub fn runs()
     // A part of a run from its head on is a run, and so is the rest.
     ensures runs_split { RunsSplit }
 
-    // So do promised runs join.
+    // Promised runs join too.
     ensures promised_runs_join { PromisedRunsJoin }
 
-    // And so they are split.
+    // And they are split so.
     ensures promised_runs_split { PromisedRunsSplit }
 
     // A promised run is a run.
