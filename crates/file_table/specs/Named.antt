@@ -11,8 +11,8 @@ abbrev pub none_named : List (Option ℕ)
 none_named = replicate NOFILE None
 
 -- the lowest descriptor that isn't in use
-abbrev pub lowest_free : List (Option ℕ) → Option ℕ
-lowest_free files = position is_none files
+abbrev pub lowest_unused : List (Option ℕ) → Option ℕ
+lowest_unused files = position is_none files
 
 -- the descriptor names this open file, or none, and all others name what they did
 abbrev pub with_named : ℕ → Option ℕ → List (Option ℕ) → List (Option ℕ)

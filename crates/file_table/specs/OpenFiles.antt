@@ -64,8 +64,8 @@ abbrev pub entry_count : Entry → ℕ
 entry_count e = e.count
 
 -- the open file of this name
-abbrev pub file_at : List (Option Entry) → ℕ → Option OpenFile
-file_at files file = option_map entry_file (entry_at files file)
+abbrev pub open_file_at : List (Option Entry) → ℕ → Option OpenFile
+open_file_at files file = option_map entry_file (entry_at files file)
 
 -- how many descriptors name it
 abbrev pub count_at : List (Option Entry) → ℕ → Option ℕ

@@ -1,6 +1,6 @@
 //! A process's descriptors.
 ghost use Rattle.std.specs.Prelude.{◌≡◌, ◌<◌, Some, None, IsSome, IfSome, length, position, is_none};
-ghost use Rattle.file_table.specs.Named.{named_by, none_named, lowest_free, with_named};
+ghost use Rattle.file_table.specs.Named.{named_by, none_named, lowest_unused, with_named};
 
 use crate::file_id::FileId;
 use arrayvec::ArrayVec;
@@ -45,7 +45,7 @@ impl Descriptors {
 
     /// The lowest descriptor that isn't in use; `None` where all are.
     pub fn lowest(&self) -> Option<Fd>
-        ensures { result ≡ lowest_free self.now }
+        ensures { result ≡ lowest_unused self.now }
     {
         let number = free_number(self.files.as_slice())?;
         Some(Fd::new(number as u8))

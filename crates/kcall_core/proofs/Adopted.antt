@@ -10,7 +10,7 @@ use Rattle.xk_base.specs.Gathered.{gathered}
 use Rattle.xk_base.specs.declared.limits.TheConstants.{NPROC, OPEN_FILES}
 use Rattle.rv64i_core.specs.Registers.{Registers}
 use Rattle.hart_core.specs.declared.hart.Hart.{Hart}
-use Rattle.file_table.specs.OpenFiles.{file_at}
+use Rattle.file_table.specs.OpenFiles.{open_file_at}
 use Rattle.proc_table.specs.declared.channel.Channel.{Channel}
 use Rattle.proc_table.specs.declared.process.State as table
 use Rattle.proc_table.specs.declared.process.State.TheVariants.{Live as Live_state, Zombie as Zombie_state}
@@ -105,7 +105,7 @@ module _ (k k' : Kernel) (f : Process → Process) (F : meaning.Process → mean
       let same : by_pid (entry_at k' h) NPROC ≡ processes = same_map nat_cmp_total nat_cmp-IsAntisymmetric (by_pid (entry_at k' h) NPROC) processes (λ q. all-changed h q ∙ are q) in
       λ t. record {
         processes = same t;
-        files = gathered (file_at (rest t).files) OPEN_FILES;
+        files = gathered (open_file_at (rest t).files) OPEN_FILES;
         pipes = pipes_of (rest t).memories;
         console = (rest t).console;
         clock = (rest t).clock;

@@ -14,7 +14,7 @@ use Rattle.file_table.specs.declared.open_file.Target.TheVariants.{Console as Te
 use Rattle.proc_table.specs.declared.process.Call.{Call}
 use Rattle.kcall_core.specs.Processes.{Alive, Live}
 use Rattle.kcall_core.specs.State.{State, live, live_part}
-use Rattle.kcall_core.specs.View.{Table, view, view_of}
+use Rattle.kcall_core.specs.View.{Descriptors, view, view_of}
 use Rattle.kcall_core.specs.Own.{Own, Answer, gone_with}
 use Rattle.kcall_core.specs.Quiet.{file_at, file_of, pipe_of_open, pipe_of_target}
 use Rattle.kcall_core.specs.Updates.{changed_state}
@@ -61,7 +61,7 @@ module _ (s : State) (p : ℕ) (old : Live) (was : get s.processes p ≡ Some (A
     | inr e ↦ inr (inl (view_some (live s q) s q ∙ sym (ap is_some (live-set_live_there s p old new was refl q e.1)) ∙ sym (view_some (live after q) after q) ∙ h))
   ]
 
-  pub after_changed : (a : Answer) → gone_with a ≡ None → (left : Table) → Tells s after p left → Spares s after p
+  pub after_changed : (a : Answer) → gone_with a ≡ None → (left : Descriptors) → Tells s after p left → Spares s after p
       → ((d f g : ℕ) → get old.descriptors d ≡ Some f → get ds d ≡ Some g → f ≡ g)
       → ((q d f j : ℕ) → file_at s q d ≡ Some f → pipe_of_open (get files f) ≡ Some j → pipe_of_open (get s.files f) ≡ Some j)
       → ((d f : ℕ) → get ds d ≡ Some f → OldOrNew s p after f)
@@ -82,7 +82,7 @@ module _ (s : State) (p : ℕ) (old : Live) (was : get s.processes p ≡ Some (A
   inside : (a b : ℕ) → Some a ≡ Some b → a ≡ b
   inside a b e = cc
 
-  pub after_same_files : (a : Answer) → gone_with a ≡ None → (left : Table)
+  pub after_same_files : (a : Answer) → gone_with a ≡ None → (left : Descriptors)
       → Tells s (changed_state p (record old { regs = r; image = i; call = c; killed = k }) files pipes console free s) p left
       → Spares s (changed_state p (record old { regs = r; image = i; call = c; killed = k }) files pipes console free s) p
       → StateAfter s (view_of s p old) (leaving a (view_of (changed_state p (record old { regs = r; image = i; call = c; killed = k }) files pipes console free s) p (record old { regs = r; image = i; call = c; killed = k })) left)

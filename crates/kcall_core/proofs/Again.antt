@@ -15,7 +15,7 @@ use Rattle.kcall_core.specs.Words.{CLOCK_ROUND, c_int, minus_one}
 use Rattle.kcall_core.specs.Buffers.{writable, readable}
 use Rattle.kcall_core.specs.PipeEnds.{fit, there as there_in, must_wait}
 use Rattle.kcall_core.specs.Programs.{program_bytes}
-use Rattle.kcall_core.specs.Processes.{Live, status_of}
+use Rattle.kcall_core.specs.Processes.{Live, child_status}
 use Rattle.kcall_core.specs.State.{State, live}
 use Rattle.kcall_core.specs.View.{View, Descriptor, Shown, Shown_terminal, Shown_file, Shown_pipe, view, view_of}
 use Rattle.kcall_core.specs.Own.{Own, Blocked, goes_on}
@@ -106,7 +106,7 @@ no_zombie c m None e = ap (λ (b : Bool). cond b (waits c 0 m) (refused c m)) (n
 
 module _ (c : Call) (v : View) (alive : v.killed ≡ false) where
   wait_by : row_of c.number ≡ Some Wait → (not (nat_eq c.a0 0) && not (writable v.image c.a0 4)) ≡ false → (o : Option ℕ) → Falls Again (reaped c v o)
-  wait_by row there (Some q) = falls_done Again c (pos q) (told c.a0 (status_of (v.children q)) (without_child q v))
+  wait_by row there (Some q) = falls_done Again c (pos q) (told c.a0 (child_status (v.children q)) (without_child q v))
   wait_by row there None = falls_cond Again (has_child v) (waits c 0 v) (refused c v)
       (λ _. falls_waits Wait c 0 v row waits_on) (λ _. falls_done Again c _ v)
     where

@@ -6,7 +6,7 @@ use Rattle.std.specs.FinMap.{get}
 use Rattle.xk_base.specs.Image.{Image, price}
 use Rattle.rv64i_core.specs.Registers.{Registers, put, with_pc, after}
 use Rattle.rv64i_core.specs.Step.{Step, Next, Fault}
-use Rattle.hart_core.specs.UserMemory.{write_image as with_store}
+use Rattle.hart_core.specs.UserMemory.{with_store}
 use Rattle.console_core.specs.Lists.{Console}
 use Rattle.proc_table.specs.declared.process.Call.{Call}
 use Rattle.kcall_core.specs.Instruction.{next_instruction}

@@ -23,7 +23,7 @@ use Rattle.kcall_core.specs.Step.{own}
 use Rattle.kcall_core.specs.Programs.{program_bytes}
 use Rattle.kcall_core.proofs.Falls.{Falls, falls_done, falls_unless, falls_moving, falls_cond, own_falls}
 use Rattle.kcall_core.specs.Ready.{ready, row_ready, on_shown, can_read, can_write, has_slept, in_use}
-use Rattle.kcall_core.specs.Processes.{status_of}
+use Rattle.kcall_core.specs.Processes.{child_status}
 use Rattle.kcall_core.proofs.RowParts.{room_to_send, reaped, wait_parts, read_parts, read_on, read_from, read_line, moving, write_parts, write_on, write_to, done_at, next_bytes, length_of_int, sleep_for, told, without_child}
 
 -- a step that ends in sleep ends in a view that isn't ready
@@ -104,7 +104,7 @@ module _ (c : Call) (v : View) (alive : v.killed ≡ false) where
   row_waits moved u r live is shut = falls_waits c moved u live (ap (row_ready (record u { call = Some (record c { moved = moved }) }) (record c { moved = moved })) is ∙ shut)
 
   wait_by : row_of c.number ≡ Some Wait → (o : Option ℕ) → least_zombie v ≡ o → Sleeps_unready (reaped c v o)
-  wait_by is (Some q) e = falls_done Unready c (pos q) (told c.a0 (status_of (v.children q)) (without_child q v))
+  wait_by is (Some q) e = falls_done Unready c (pos q) (told c.a0 (child_status (v.children q)) (without_child q v))
   wait_by is None e = falls_cond Unready (has_child v) (waits c 0 v) (refused c v)
       (λ child. row_waits 0 v Wait alive is (λ i. is_some (e i) || not (child i))) (λ _. falls_done Unready c minus_one v)
 

@@ -9,7 +9,7 @@ use Rattle.file_table.specs.declared.open_file.Target.{Target}
 use Rattle.file_table.specs.declared.open_file.Target.TheVariants.{Console as Terminal, Program as File, Pipe as Pipe_end}
 use Rattle.kcall_core.specs.Processes.{Live}
 use Rattle.kcall_core.specs.State.{State, live}
-use Rattle.kcall_core.specs.View.{Table, Shown_pipe, named, numbered, rename, rename_shown, descriptor_at, descriptor_on, show, or_gone}
+use Rattle.kcall_core.specs.View.{Descriptors, Shown_pipe, named, numbered, rename, rename_shown, descriptor_at, descriptor_on, show, or_gone}
 use Rattle.kcall_core.specs.Tables.{change_pipes, changed, change_shown}
 use Rattle.kcall_core.specs.Quiet.{file_at, pipe_at, file_of, pipe_of_file, pipe_of_open, pipe_of_target, offset_left, pipe_left, shown_offset, shown_pipe}
 use Rattle.kcall_core.proofs.Frame.{OtherNames, OtherHas, Tells, Spares, open_offset, target_offset, kind}
@@ -39,7 +39,7 @@ module _ (s t : State) (f : ℕ → Pipe → Pipe) where
 module _ (s t : State) (p : ℕ) (l : Live) (is : live s p ≡ Some l) (f : ℕ → Pipe → Pipe)
     (files : (g : ℕ) → OtherNames s p g → get t.files g ≡ get s.files g)
     (pipes : (e j : ℕ) → OtherHas s p j → e < NOFILE → pipe_at s p e ≡ Some j → or_gone (get t.pipes j) ≡ f j (or_gone (get s.pipes j))) where
-  abbrev table : Table
+  abbrev table : Descriptors
   table = change_pipes f (numbered s l)
 
   file_here : (e g : ℕ) → file_at s p e ≡ Some g → get l.descriptors e ≡ Some g

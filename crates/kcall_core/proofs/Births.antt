@@ -21,7 +21,7 @@ use Rattle.hart_core.specs.Trapframe.{saved}
 use Rattle.pipe_core.specs.Pipe.{pipe_in}
 use Rattle.kcall_core.specs.Words.{count_if}
 use Rattle.kcall_core.specs.Holdings.{Held, or_nothing, HasMemory, IsVacant}
-use Rattle.kcall_core.specs.Memories.{held_in, keeps_pipe, pipe_at, frames_of, joined, process_frames, IsMemory, IsAccounted, IsSound, each_of, SlotChanges}
+use Rattle.kcall_core.specs.Memories.{held_in, keeps_pipe, kept_pipe, slot_frames, all_joined, process_frames, IsMemory, IsAccounted, AreSound, each_of, SlotChanges}
 use Rattle.kcall_core.specs.declared.memories.Memory.{Memory}
 use Rattle.kcall_core.specs.declared.memories.Memories.{Memories}
 use Rattle.kcall_core.proofs.Frames.{saved-zero, slot-free, Stays, stays-if}
@@ -63,7 +63,7 @@ module _ {pool pool1 pool2 : Pool} {ram ram1 ram2 : List (List ℕ)} {t : ℕ} {
   born-whole limit = record { space = made.whole; size = limit; aligned = ap (λ (r : Registers). r.pc % 4) born-saved }
 
 -- the slot gets this space, and a trapframe of zeros
-pub born : {old : Memories} {i : ℕ} {pool1 : Pool} {ram1 : List (List ℕ)} (new : Memories) (t : ℕ) (s : Space) (image : Image) → IsSound old → IsVacant (each_of old) i → Taken old.pool old.ram pool1 ram1 t → Made pool1 ram1 new.pool new.ram s → image_of new.ram s ≡ image → image.size ≤ SIZE_LIMIT
+pub born : {old : Memories} {i : ℕ} {pool1 : Pool} {ram1 : List (List ℕ)} (new : Memories) (t : ℕ) (s : Space) (image : Image) → AreSound old → IsVacant (each_of old) i → Taken old.pool old.ram pool1 ram1 t → Made pool1 ram1 new.pool new.ram s → image_of new.ram s ≡ image → image.size ≤ SIZE_LIMIT
     → new.each.items ≡ set old.each.items i (Some (record { space = s; trapframe = t })) → new.pipes.items ≡ old.pipes.items → SlotChanges old new i (Some (record { image = image; saved = fresh 0 }))
 born {old} {i} new t s image sound vacant taken made is limit each pipes =
     let filled = slot-filled new (record { space = s; trapframe = t }) sound vacant (born-traded sound.good taken made) (born-whole sound.good taken made (subst (λ (n : Image). n.size ≤ SIZE_LIMIT) (sym is) limit)) each pipes in
@@ -81,7 +81,7 @@ no-none ram None h = absurd (no h)
 no-none ram (Some m) h = (m, refl)
 
 -- a slot that has a memory
-pub there-stands : (old : Memories) (i : ℕ) → IsSound old → HasMemory (each_of old) i → (m : Memory) × Stands old i m
+pub there-stands : (old : Memories) (i : ℕ) → AreSound old → HasMemory (each_of old) i → (m : Memory) × Stands old i m
 there-stands old i sound there =
     let found = no-none old.ram (get_or old.each.items i None) (subst IsSome (each-at old i) there) in
     (found.0, record { sound = sound; inside = there-inside old i there; is = found.1 })
@@ -97,7 +97,7 @@ module _ {old : Memories} {i : ℕ} {m : Memory} {pool1 : Pool} {ram1 : List (Li
     apart = λ f. omega (
       arith,
       slot-free s.sound f i,
-      ap (λ o. copies f (frames_of old.ram o)) s.is,
+      ap (λ o. copies f (slot_frames old.ram o)) s.is,
       ap (copies f) stays.frames,
       copies-cons f m.trapframe (space.frames_of old.ram m.space),
       copies-cons f m.trapframe (space.frames_of ram1 m.space),
@@ -115,10 +115,10 @@ taken-length {pool} {pool'} {ram} {ram'} {t} taken = omega (arith, trade-lengths
 
 -- ---- no memory at all
 
-pub joined-none : {X : Type 0} (f : Option X → List ℕ) (n : ℕ) → f None ≡ [] → joined (map f (replicate n None)) ≡ []
-unfolding joined
+pub joined-none : {X : Type 0} (f : Option X → List ℕ) (n : ℕ) → f None ≡ [] → all_joined (map f (replicate n None)) ≡ []
+unfolding all_joined
 joined-none f zero e = refl
-joined-none f (suc n) e = ap (λ l. l ++ joined (map f (replicate n None))) e ∙ joined-none f n e
+joined-none f (suc n) e = ap (λ l. l ++ all_joined (map f (replicate n None))) e ∙ joined-none f n e
 
 pub get_or-same : {X : Type 0} (x : X) (n i : ℕ) → get_or (replicate n x) i x ≡ x
 get_or-same x zero i = refl
@@ -133,7 +133,7 @@ map-none f (suc n) e = ap (λ y. y ∷ map f (replicate n None)) e ∙ ap (λ l.
 pub none-sound : (pool : Pool) (ram : List (List ℕ)) (ms : List (Option Memory)) (ps : List Bool) (n k : ℕ) → Good pool ram → ((f : ℕ) → f < length ram → copies f (free_in pool ram) ≡ 1) → n ≡ NPROC → k ≡ length ram → ms ≡ replicate n None → ps ≡ replicate k false
     → IsAccounted pool ram ms ps
 none-sound pool ram ms ps n k good free is_n is_k slots places =
-    let processes : process_frames ram ms ≡ [] = ap (λ l. joined (map (frames_of ram) l)) slots ∙ joined-none (frames_of ram) n refl in
+    let processes : process_frames ram ms ≡ [] = ap (λ l. all_joined (map (slot_frames ram) l)) slots ∙ joined-none (slot_frames ram) n refl in
     let pipes : (f : ℕ) → keeps_pipe ps f ≡ false = λ f. ap (λ l. get_or l f false) places ∙ get_or-same false k f in
     record {
       good = good;
@@ -155,12 +155,12 @@ none-sound pool ram ms ps n k good free is_n is_k slots places =
     true-false e = cc
 
 -- there are no pipes
-pub no-pipes : (ram : List (List ℕ)) (ps : List Bool) (k n : ℕ) → ps ≡ replicate k false → gathered (pipe_at ram ps) n ≡ empty
+pub no-pipes : (ram : List (List ℕ)) (ps : List Bool) (k n : ℕ) → ps ≡ replicate k false → gathered (kept_pipe ram ps) n ≡ empty
 unfolding gathered
 no-pipes ram ps k zero places = refl
 no-pipes ram ps k (suc n) places =
-    let none : pipe_at ram ps n ≡ None = ap (λ b. cond b (Some (pipe_in ram n)) None) (ap (λ l. get_or l n false) places ∙ get_or-same false k n) in
-    ap (insert_some (gathered (pipe_at ram ps) n) n) none ∙ no-pipes ram ps k n places
+    let none : kept_pipe ram ps n ≡ None = ap (λ b. cond b (Some (pipe_in ram n)) None) (ap (λ l. get_or l n false) places ∙ get_or-same false k n) in
+    ap (insert_some (gathered (kept_pipe ram ps) n) n) none ∙ no-pipes ram ps k n places
 
 pub all-free : (pool : Pool) (ram : List (List ℕ)) → Good pool ram → ((f : ℕ) → f < length ram → copies f (free_in pool ram) ≡ 1) → length (free_in pool ram) ≡ length ram
 all-free pool ram good free = length-all (length ram) (free_in pool ram) good.frames free

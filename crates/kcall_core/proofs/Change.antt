@@ -12,7 +12,7 @@ use Rattle.file_table.specs.declared.open_file.OpenFile.{OpenFile}
 use Rattle.kcall_core.specs.Processes.{Process, Alive, Live}
 use Rattle.proc_table.specs.declared.process.Call.{Call}
 use Rattle.kcall_core.specs.State.{State, live, live_part}
-use Rattle.kcall_core.specs.View.{View, Table, named, numbered, view, view_of}
+use Rattle.kcall_core.specs.View.{View, Descriptors, named, numbered, view, view_of}
 use Rattle.kcall_core.specs.Own.{Own, Answer, Called, Blocked, goes_on, gone_with, left_by}
 use Rattle.kcall_core.specs.Calls.{with_a0, done, refused, waits}
 use Rattle.kcall_core.specs.Quiet.{Quiet, seen_children}
@@ -24,7 +24,7 @@ use Rattle.kcall_core.proofs.Tell.{Leaves, quiet_from, own_table_tells}
 use Rattle.kcall_core.proofs.Steps.{or_false}
 
 -- an answer, a next view, and the descriptors as the step leaves them
-abbrev pub leaving : Answer → View → Table → Own
+abbrev pub leaving : Answer → View → Descriptors → Own
 leaving a v left = record (goes_on a v) { left = record (left_by v) { descriptors = left } }
 
 module _ (s : State) (p : ℕ) (old : Live) (was : get s.processes p ≡ Some (Alive old)) (r : Registers) (i : Image) (c : Option Call) (k : Bool) (ds : FinMap nat_cmp ℕ)
@@ -36,7 +36,7 @@ module _ (s : State) (p : ℕ) (old : Live) (was : get s.processes p ≡ Some (A
   after = changed_state p new files pipes console free s
 
   -- p's next view
-  pub view_changed : (t : Table) → t ≡ named (numbered after new) → ◌≡◌ {A = View} (record (view_of s p old) { regs = r; image = i; call = c; killed = k; descriptors = t; console = console; free = free }) (view_of after p new)
+  pub view_changed : (t : Descriptors) → t ≡ named (numbered after new) → ◌≡◌ {A = View} (record (view_of s p old) { regs = r; image = i; call = c; killed = k; descriptors = t; console = console; free = free }) (view_of after p new)
   unfolding view_of
   view_changed t is = λ j. record (view_of after p new) { descriptors = is j; children = λ q. sym (same_child s p old new was refl p q) j; pids = sym (same_keys s p old new was refl) j }
 
@@ -46,7 +46,7 @@ module _ (s : State) (p : ℕ) (old : Live) (was : get s.processes p ≡ Some (A
   keeps_other : (q : ℕ) (m : Live) → q ≢ p → live s q ≡ Some m → live after q ≡ Some (record m { killed = m.killed || false; parent = m.parent })
   keeps_other q m apart is = live-set_live_there s p old new was refl q apart ∙ is ∙ (λ j. Some (record m { killed = or_false m.killed j }))
 
-  pub leaves_changed : (a : Answer) → gone_with a ≡ None → (left : Table) → Tells s after p left → Spares s after p → Leaves s after (view_of s p old) (leaving a (view_of after p new) left)
+  pub leaves_changed : (a : Answer) → gone_with a ≡ None → (left : Descriptors) → Tells s after p left → Spares s after p → Leaves s after (view_of s p old) (leaving a (view_of after p new) left)
   unfolding view_of
   leaves_changed a stays left tells spares = record {
     tells = tells;

@@ -12,7 +12,7 @@ use Rattle.rv64i_core.specs.Memory.{Store}
 use Rattle.xk_base.specs.Loaded.{Loaded, loaded}
 use Rattle.xk_base.specs.declared.errors.ExecError.{ExecError}
 use Rattle.rv64i_core.specs.Step.{Step, Next, Ecall, Fault}
-use Rattle.hart_core.specs.UserMemory.{write_image as with_store, written_page, write_pages}
+use Rattle.hart_core.specs.UserMemory.{with_store, written_page, write_pages}
 use Rattle.xk_base.specs.declared.limits.TheConstants.{SIZE_LIMIT, MAXARG, ARG_BYTES, MAXPATH}
 use Rattle.kcall_core.specs.Instruction.{next_instruction}
 use Rattle.kcall_core.specs.Words.{CLOCK_ROUND, minus_one, c_int}
@@ -36,7 +36,7 @@ use Rattle.kcall_core.specs.Worlds.{IsExecOf, IsExecDone, NewPagesAreZeros, NoOl
 use Rattle.xk_base.specs.Bytes.{put_in, put_byte}
 use Rattle.xk_base.specs.Gathered.{insert_some}
 use Rattle.kcall_core.proofs.Maps.{get_same, get_other}
-use Rattle.kcall_core.specs.Processes.{status_of}
+use Rattle.kcall_core.specs.Processes.{child_status}
 use Rattle.kcall_core.specs.Ready.{in_use}
 use Rattle.kcall_core.proofs.RowParts.{perform_parts, perform_row, unless, unless_nothing, moving, length_of_int, reaped, without_child, piped, piped_from, with_pipe, read_on, read_from, write_on, write_to, done_at, next_bytes, kill_pid, killed_by, exec_program, exec_path, dup_at, dup_on, dup_number, close_at, close_on, close_number, sbrk_by, grow_to, shrink_to, exec_loaded, running, sleep_for, open_at, open_path, opened_as, kind_named, fork_parts, forked, cannot_fork, with_child, room_to_send}
 use Rattle.kcall_core.proofs.RowsByParts.{perform_same}
@@ -232,7 +232,7 @@ module _ (c : Call) (v : View) where
   told_row false q image u a bytes e f = written_done (pos q) (record u { image = image }) a bytes f
 
   reaped_row : (o : Option ℕ) → Zeroed v (reaped c v o)
-  reaped_row (Some q) = told_row (nat_eq c.a0 0) q (write_image v.image c.a0 (le_bytes 4 (cast_unsigned w32 (status_of (v.children q))))) (without_child q v) c.a0 (le_bytes 4 (cast_unsigned w32 (status_of (v.children q)))) refl refl
+  reaped_row (Some q) = told_row (nat_eq c.a0 0) q (write_image v.image c.a0 (le_bytes 4 (cast_unsigned w32 (child_status (v.children q))))) (without_child q v) c.a0 (le_bytes 4 (cast_unsigned w32 (child_status (v.children q)))) refl refl
   reaped_row None = whichever (has_child v) (waits c 0 v) (refused c v) (same_waits 0 v refl) refusal
 
   piped_row : (r : ℕ) (o : Option ℕ) → Zeroed v (piped c v r o)

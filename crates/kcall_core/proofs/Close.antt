@@ -12,7 +12,7 @@ use Rattle.file_table.specs.declared.open_file.OpenFile.{OpenFile}
 use Rattle.kcall_core.specs.Processes.{Alive, Live}
 use Rattle.proc_table.specs.declared.process.Call.{Call}
 use Rattle.kcall_core.specs.State.{State, live_part}
-use Rattle.kcall_core.specs.View.{View, Table, Descriptor, named, numbered, descriptor_at, or_gone, view_of, file_name, pipe_name}
+use Rattle.kcall_core.specs.View.{View, Descriptors, Descriptor, named, numbered, descriptor_at, or_gone, view_of, file_name, pipe_name}
 use Rattle.kcall_core.specs.Own.{Own, Called}
 use Rattle.kcall_core.specs.Tables.{without_descriptor, one_less_on, change_pipes, pipes_given_up}
 use Rattle.kcall_core.specs.Calls.{with_a0}
@@ -28,7 +28,7 @@ use Rattle.kcall_core.proofs.RowParts.{close_at}
 
 -- ---- a table without a place, named from names
 
-module _ (t u : Table) (alike : Alike t u) (k : ℕ) where
+module _ (t u : Descriptors) (alike : Alike t u) (k : ℕ) where
   same_without : (name : Option Descriptor → Option ℕ) → name None ≡ None → ((d e : ℕ) → d < NOFILE → e < NOFILE → is_same (name (t d)) (name (t e)) ≡ is_same (name (u d)) (name (u e)))
       → (d e : ℕ) → d < NOFILE → e < NOFILE → (a b : Bool) → is_same (name (cond a None (t d))) (name (cond b None (t e))) ≡ is_same (name (cond a None (u d))) (name (cond b None (u e)))
   same_without name none same d e x y true b = ap (λ (o : Option ℕ). is_same o (name (cond b None (t e)))) none ∙ sym (ap (λ (o : Option ℕ). is_same o (name (cond b None (u e)))) none)
@@ -50,7 +50,7 @@ module _ (t u : Table) (alike : Alike t u) (k : ℕ) where
     shape = λ d x. shape_without d x (nat_eq d k);
   }
 
-pub named_without : (t : Table) (k : ℕ) → named (with_value (named t) k None) ≡ named (with_value t k None)
+pub named_without : (t : Descriptors) (k : ℕ) → named (with_value (named t) k None) ≡ named (with_value t k None)
 named_without t k = named_alike (with_value (named t) k None) (with_value t k None) (without_alike (named t) t (alike_named t) k)
 
 -- ---- close: f is what becomes of each pipe
@@ -63,7 +63,7 @@ module _ (s : State) (p : ℕ) (old : Live) (was : get s.processes p ≡ Some (A
   abbrev pub after : State
   after = changed_state p closed files pipes s.console (s.free + freed) s
 
-  abbrev left : Table
+  abbrev left : Descriptors
   left = change_pipes f (numbered s old)
 
   module _ (less : one_less_on x.shown (named (numbered s old)) ≡ named left) (frees : pipes_given_up (named left) ≡ freed)
@@ -83,7 +83,7 @@ module _ (s : State) (p : ℕ) (old : Live) (was : get s.processes p ≡ Some (A
     pub close_own : close_at c (view_of s p old) k x ≡ leaving (Called c.number (pos 0)) (view_of after p closed) (named left)
     unfolding view_of
     close_own =
-        (λ i. let u : Table = less i in
+        (λ i. let u : Descriptors = less i in
         leaving (Called c.number (pos 0)) (record (view_of s p old) { regs = with_a0 old.regs (word (pos 0)); call = None; descriptors = without_descriptor k u; free = s.free + pipes_given_up u }) u)
         ∙ (λ i. leaving (Called c.number (pos 0)) (record (view_of s p old) { regs = with_a0 old.regs (word (pos 0)); call = None; descriptors = without_descriptor k (named left); free = s.free + frees i }) (named left))
         ∙ ap (λ (v : View). leaving (Called c.number (pos 0)) v (named left))

@@ -15,7 +15,7 @@ use Rattle.file_table.specs.declared.open_file.Target.{Target}
 use Rattle.file_table.specs.declared.open_file.Target.TheVariants.{Console as Terminal, Program as File, Pipe as Pipe_end}
 use Rattle.kcall_core.specs.Processes.{Live}
 use Rattle.kcall_core.specs.State.{State}
-use Rattle.kcall_core.specs.View.{Table, Descriptor, Shown_pipe, named, numbered, rename, descriptor_at, descriptor_on, or_gone, or_else, pipe_name, least_on_pipe}
+use Rattle.kcall_core.specs.View.{Descriptors, Descriptor, Shown_pipe, named, numbered, rename, descriptor_at, descriptor_on, or_gone, or_else, pipe_name, least_on_pipe}
 use Rattle.kcall_core.specs.Tables.{one_more_on, one_less_on, change_pipe, changed, names_given_up, pipes_given_up}
 use Rattle.kcall_core.specs.Quiet.{pipe_of_file, pipe_of_open, pipe_of_target}
 use Rattle.kcall_core.proofs.Least.{least_passes}
@@ -59,7 +59,7 @@ count_same (suc n) P Q same = λ i. count_same n P Q (λ d below. same d (omega 
 
 module _ (s : State) (old : Live) (i k : ℕ) (y : Pipe) (names : least_on_pipe (numbered s old) i ≡ Some k)
     (held : (d j : ℕ) → pipe_of_file s (get old.descriptors d) ≡ Some j → is_given_up (or_gone (get s.pipes j)) ≡ false) where
-  abbrev T : Table
+  abbrev T : Descriptors
   T = numbered s old
 
   abbrev name : ℕ → ℕ

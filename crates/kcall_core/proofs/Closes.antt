@@ -18,7 +18,7 @@ use Rattle.file_table.specs.declared.open_file.Target.{Target}
 use Rattle.file_table.specs.declared.open_file.Target.TheVariants.{Console as Terminal, Program as File, Pipe as Pipe_end}
 use Rattle.kcall_core.specs.Processes.{Live}
 use Rattle.kcall_core.specs.State.{State}
-use Rattle.kcall_core.specs.View.{Table, Descriptor, Shown, Shown_terminal, Shown_file, Shown_pipe, named, numbered, rename, descriptor_at, descriptor_on, show, or_gone, or_else, pipe_name, shown_pipe_name, least_on_pipe}
+use Rattle.kcall_core.specs.View.{Descriptors, Descriptor, Shown, Shown_terminal, Shown_file, Shown_pipe, named, numbered, rename, descriptor_at, descriptor_on, show, or_gone, or_else, pipe_name, shown_pipe_name, least_on_pipe}
 use Rattle.kcall_core.specs.Tables.{on_end, shown_on_end, is_end, ends, all_closed, changed, names_given_up, pipes_given_up}
 use Rattle.kcall_core.specs.Quiet.{pipe_of_file, pipe_of_open, pipe_of_target, end_of, target_of_open}
 use Rattle.kcall_core.specs.Updates.{settled, fewer_at, fewer_on, freed_at, freed_on, fewer_on_all, freed_on_all}
@@ -182,7 +182,7 @@ module _ (s : State) (l : Live) where
 
   -- ---- the frames that this frees
 
-  abbrev T : Table
+  abbrev T : Descriptors
   T = numbered s l
 
   abbrev pub fewer : ℕ → Pipe → Pipe

@@ -19,7 +19,7 @@ use Rattle.kcall_core.specs.Words.{word, is_this}
 use Rattle.kcall_core.specs.PipeEnds.{joined, parted, is_given_up}
 use Rattle.kcall_core.specs.Processes.{Alive, Live}
 use Rattle.kcall_core.specs.State.{State, live, live_part}
-use Rattle.kcall_core.specs.View.{Table, Descriptor, Shown, Shown_terminal, Shown_file, Shown_pipe, view_of, named, numbered, rename, rename_shown, descriptor_at, descriptor_on, show, or_gone, or_else, least_on_file}
+use Rattle.kcall_core.specs.View.{Descriptors, Descriptor, Shown, Shown_terminal, Shown_file, Shown_pipe, view_of, named, numbered, rename, rename_shown, descriptor_at, descriptor_on, show, or_gone, or_else, least_on_file}
 use Rattle.kcall_core.specs.Own.{Called, goes_on}
 use Rattle.kcall_core.specs.Calls.{with_a0}
 use Rattle.kcall_core.specs.Tables.{one_more_on, one_less_on, change_pipes, changed, change_shown, ends, on_end, is_end, names_given_up, pipes_given_up}
@@ -58,12 +58,12 @@ module _ (s : State) (p : ℕ) (l : Live) (j f : ℕ) (x : OpenFile) (d : Descri
   shown_is = ap (λ (y : Descriptor). y.shown) (same_descriptor d (rename (numbered s l) (record { file = f; read = x.read; write = x.write; shown = show s x.target })) (sym seen ∙ named_at (numbered s l) j below
       ∙ ap (λ (o : Option ℕ). option_map (rename (numbered s l)) (descriptor_at s o)) source ∙ ap (λ (o : Option OpenFile). option_map (rename (numbered s l)) (descriptor_on s f o)) opened))
 
-  more_none : (y : Target) → pipe_of_target y ≡ None → (t : Table) → one_more_on (rename_shown (numbered s l) (show s y)) t ≡ t
+  more_none : (y : Target) → pipe_of_target y ≡ None → (t : Descriptors) → one_more_on (rename_shown (numbered s l) (show s y)) t ≡ t
   more_none Terminal h t = refl
   more_none (File program offset) h t = refl
   more_none (Pipe_end i e) h t = let no : ⊥ = cc in absurd no
 
-  less_none : (y : Target) → pipe_of_target y ≡ None → (t : Table) → one_less_on (rename_shown (numbered s l) (show s y)) t ≡ t
+  less_none : (y : Target) → pipe_of_target y ≡ None → (t : Descriptors) → one_less_on (rename_shown (numbered s l) (show s y)) t ≡ t
   less_none Terminal h t = refl
   less_none (File program offset) h t = refl
   less_none (Pipe_end i e) h t = let no : ⊥ = cc in absurd no
@@ -217,7 +217,7 @@ module _ (frames : ℕ) (s : State) (well : WellFormed frames s) where
   pub frees_none : (l : Live) → pipes_given_up (named (numbered s l)) ≡ 0
   frees_none l = count_none NOFILE (λ e. names_given_up e (named (numbered s l) e)) (λ e below. ap (names_given_up e) (named_at (numbered s l) e below) ∙ none_given l e (get l.descriptors e))
 
-same_table : (t : Table) → t ≡ change_pipes (λ n y. y) t
+same_table : (t : Descriptors) → t ≡ change_pipes (λ n y. y) t
 same_table t = fun_ext (λ e. by (t e))
   where
     same_shown : (x : Shown) → x ≡ change_shown (λ n y. y) x
@@ -233,7 +233,7 @@ pub close_law : ClosePart
 close_law frames s p l c k f x d files well was below source opened no_pipe seen left =
     close_after frames s p l c k d (λ n y. y) files s.pipes 0 well was left
     (ap (λ (y : Shown). one_less_on y (named (numbered s l))) (shown_is s p l k f x d below source opened seen) ∙ less_none s p l k f x d below source opened seen x.target no_pipe (named (numbered s l)) ∙ ap named (same_table (numbered s l)))
-    (ap (λ (t : Table). pipes_given_up (named t)) (sym (same_table (numbered s l))) ∙ frees_none frames s well l)
+    (ap (λ (t : Descriptors). pipes_given_up (named t)) (sym (same_table (numbered s l))) ∙ frees_none frames s well l)
     (λ e j other h. refl) (λ e j other b h. refl) (λ j other h. refl)
 
 -- ---- close of an end of a pipe

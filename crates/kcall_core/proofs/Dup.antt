@@ -13,7 +13,7 @@ use Rattle.file_table.specs.declared.open_file.Target.TheVariants.{Console as Te
 use Rattle.kcall_core.specs.Processes.{Alive, Live}
 use Rattle.proc_table.specs.declared.process.Call.{Call}
 use Rattle.kcall_core.specs.State.{State, live, live_part}
-use Rattle.kcall_core.specs.View.{Table, Descriptor, named, numbered, rename, descriptor_at, descriptor_on, show, or_gone, view_of}
+use Rattle.kcall_core.specs.View.{Descriptors, Descriptor, named, numbered, rename, descriptor_at, descriptor_on, show, or_gone, view_of}
 use Rattle.kcall_core.specs.Own.{Own, Called, goes_on}
 use Rattle.kcall_core.specs.Tables.{with_copy, one_more_on}
 use Rattle.kcall_core.specs.Calls.{with_a0}
@@ -30,7 +30,7 @@ use Rattle.kcall_core.proofs.RowParts.{dup_at}
 
 module _ (s t : State) (p : ℕ) (l m : Live) (is : live s p ≡ Some l) (wider : (e g : ℕ) → get l.descriptors e ≡ Some g → get m.descriptors e ≡ Some g)
     (same_files : (g : ℕ) → OtherNames s p g → get t.files g ≡ get s.files g) (same_opened : (e g : ℕ) → get l.descriptors e ≡ Some g → get t.files g ≡ get s.files g) where
-  abbrev table : Table
+  abbrev table : Descriptors
   table = numbered t m
 
   file_here : (e g : ℕ) → file_at s p e ≡ Some g → get l.descriptors e ≡ Some g
@@ -81,7 +81,7 @@ module _ (s : State) (p : ℕ) (old : Live) (was : get s.processes p ≡ Some (A
   after = changed_state p duplicated s.files pipes s.console s.free s
 
   -- the table under the kernel's own numbers, with the pipes as they are after the step
-  abbrev counted : Table
+  abbrev counted : Descriptors
   counted = numbered after old
 
   copied_at : (d : ℕ) (b : Bool) → descriptor_at after (cond b (Some f) (get old.descriptors d)) ≡ cond b (counted j) (counted d)

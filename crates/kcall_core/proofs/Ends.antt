@@ -10,14 +10,14 @@ use Rattle.pipe_core.specs.Pipe.{Pipe}
 use Rattle.file_table.specs.declared.open_file.End.{End}
 use Rattle.file_table.specs.declared.open_file.End.TheVariants.{Reading, Writing}
 use Rattle.kcall_core.specs.PipeEnds.{joined, parted}
-use Rattle.kcall_core.specs.View.{Table, Descriptor, Shown, Shown_terminal, Shown_file, Shown_pipe, named, rename, rename_shown, or_else, pipe_name, shown_pipe_name}
+use Rattle.kcall_core.specs.View.{Descriptors, Descriptor, Shown, Shown_terminal, Shown_file, Shown_pipe, named, rename, rename_shown, or_else, pipe_name, shown_pipe_name}
 use Rattle.kcall_core.specs.Tables.{change_pipes, changed, change_shown, ends, on_end, shown_on_end, is_end, doubled, all_closed}
 use Rattle.kcall_core.proofs.Pipes.{file_name_kept, pipe_name_kept}
 use Rattle.kcall_core.proofs.Names.{same_names, choice, named_at}
 
 -- ---- names, and a change of every pipe
 
-module _ (t : Table) (f g : ℕ → Pipe → Pipe) (agree : (d j : ℕ) → d < NOFILE → pipe_name (t d) ≡ Some j → (x : Pipe) → f j x ≡ g (choice (λ e. pipe_name (t e)) j) x) where
+module _ (t : Descriptors) (f g : ℕ → Pipe → Pipe) (agree : (d j : ℕ) → d < NOFILE → pipe_name (t d) ≡ Some j → (x : Pipe) → f j x ≡ g (choice (λ e. pipe_name (t e)) j) x) where
   shown_changes : (d : ℕ) → d < NOFILE → (x : Shown) → pipe_name (t d) ≡ shown_pipe_name x → rename_shown (change_pipes f t) (change_shown f x) ≡ change_shown g (rename_shown t x)
   shown_changes d below Shown_terminal on = refl
   shown_changes d below (Shown_file program offset) on = refl
@@ -43,7 +43,7 @@ unfolding count_below
 count_congr zero P Q same = refl
 count_congr (suc n) P Q same = λ i. count_congr n P Q (λ d below. same d (omega arith)) i + cond (same n (omega arith) i) 1 0
 
-module _ (t : Table) (d j : ℕ) (below : d < NOFILE) (on : pipe_name (t d) ≡ Some j) (end : End) where
+module _ (t : Descriptors) (d j : ℕ) (below : d < NOFILE) (on : pipe_name (t d) ≡ Some j) (end : End) where
   shown_either : (e : ℕ) → e < NOFILE → (x : Shown) → pipe_name (t e) ≡ shown_pipe_name x → shown_on_end (choice (λ c. pipe_name (t c)) j) end (rename_shown t x) ≡ shown_on_end j end x
   shown_either e b Shown_terminal is = refl
   shown_either e b (Shown_file program offset) is = refl
@@ -59,13 +59,13 @@ module _ (t : Table) (d j : ℕ) (below : d < NOFILE) (on : pipe_name (t d) ≡ 
 
 -- ---- fork, and exit
 
-pub named_doubled : (t : Table) → named (doubled t) ≡ doubled (named t)
+pub named_doubled : (t : Descriptors) → named (doubled t) ≡ doubled (named t)
 named_doubled t = named_changes t
     (λ name pipe. joined (joined pipe Reading (ends t name Reading)) Writing (ends t name Writing))
     (λ name pipe. joined (joined pipe Reading (ends (named t) name Reading)) Writing (ends (named t) name Writing))
     (λ d j below on x i. joined (joined x Reading (ends_either t d j below on Reading i)) Writing (ends_either t d j below on Writing i))
 
-pub named_all_closed : (t : Table) → named (all_closed t) ≡ all_closed (named t)
+pub named_all_closed : (t : Descriptors) → named (all_closed t) ≡ all_closed (named t)
 named_all_closed t = named_changes t
     (λ name pipe. parted (parted pipe Reading (ends t name Reading)) Writing (ends t name Writing))
     (λ name pipe. parted (parted pipe Reading (ends (named t) name Reading)) Writing (ends (named t) name Writing))

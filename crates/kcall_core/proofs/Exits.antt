@@ -6,7 +6,7 @@ use Rattle.std.specs.Ordering.{nat_cmp}
 use Rattle.sv39_core.proofs.Words.{ltb-no}
 use Rattle.sv39_core.proofs.Gathered.{same_pages}
 use Rattle.hart_core.specs.declared.hart.Hart.{Hart}
-use Rattle.file_table.specs.OpenFiles.{IsTable, file_at}
+use Rattle.file_table.specs.OpenFiles.{IsTable, open_file_at}
 use Rattle.proc_table.specs.Processes.{given, woken, ended}
 use Rattle.proc_table.specs.Slots.{place_at, parent_at, each_changed, changed_at}
 use Rattle.proc_table.specs.declared.channel.Channel.TheVariants as on
@@ -115,7 +115,7 @@ module _ (k k1 k2 k3 k' : Kernel) (h h' : Hart) (status : ℤ) (parent : Option 
   named : FilesLeft (state_of k h) (state_of k' h')
   named =
       files-left k k' h h' ends.sound (ended-counted k k1 k' h h' status (bared all) ends) (subst IsTable (sym same-files) all.after.files)
-      (λ file x there. all.remains.files file x (sym (ap (λ fs. file_at fs file) same-files) ∙ there))
+      (λ file x there. all.remains.files file x (sym (ap (λ fs. open_file_at fs file) same-files) ∙ there))
 
   pub exit-makes : (answer : Answer) → gone_with answer ≡ Some status → Makes k h (gone answer (view_now k h)) k' h'
   exit-makes = end-makes k k1 k' h h' status (bared all) ends whole runs named

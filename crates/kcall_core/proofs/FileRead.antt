@@ -14,7 +14,7 @@ use Rattle.file_table.specs.declared.open_file.Target.TheVariants.{Program as Fi
 use Rattle.kcall_core.specs.Processes.{Alive, Live}
 use Rattle.proc_table.specs.declared.process.Call.{Call}
 use Rattle.kcall_core.specs.State.{State, live_part}
-use Rattle.kcall_core.specs.View.{View, Table, Descriptor, Shown, Shown_terminal, Shown_file, Shown_pipe, named, numbered, rename, rename_shown, or_else, file_name, pipe_name, descriptor_at, descriptor_on, view_of, shown_pipe_name}
+use Rattle.kcall_core.specs.View.{View, Descriptors, Descriptor, Shown, Shown_terminal, Shown_file, Shown_pipe, named, numbered, rename, rename_shown, or_else, file_name, pipe_name, descriptor_at, descriptor_on, view_of, shown_pipe_name}
 use Rattle.kcall_core.specs.Own.{Own, Called, goes_on}
 use Rattle.kcall_core.specs.Tables.{advance, advanced, advance_shown}
 use Rattle.kcall_core.specs.Calls.{with_a0}
@@ -48,12 +48,12 @@ pipe_stays f n (Some x) = by (nat_eq x.file f)
     by true = pipe_stays_shown n x.shown
     by false = refl
 
-module _ (t : Table) (f d n : ℕ) (below : d < NOFILE) (on : file_name (t d) ≡ Some f) where
+module _ (t : Descriptors) (f d n : ℕ) (below : d < NOFILE) (on : file_name (t d) ≡ Some f) where
   -- what p calls the open file
   abbrev pub the_name : ℕ
   the_name = choice (λ e. file_name (t e)) f
 
-  abbrev u : Table
+  abbrev u : Descriptors
   u = advance f n t
 
   least_pipe : (j : ℕ) → least_below (λ e. is_this j (pipe_name (u e))) NOFILE ≡ least_below (λ e. is_this j (pipe_name (t e))) NOFILE

@@ -11,7 +11,7 @@ use Rattle.xk_base.specs.Bytes.{write_image}
 use Rattle.sv39_core.proofs.Gathered.{same_pages}
 use Rattle.hart_core.specs.declared.hart.Hart.{Hart}
 use Rattle.file_table.specs.OpenFiles as files
-use Rattle.file_table.specs.OpenFiles.{entry_at, entry_file, entry_count, file_at, count_at, moved_to, entry_moved, target_moved, with_offset}
+use Rattle.file_table.specs.OpenFiles.{entry_at, entry_file, entry_count, open_file_at, count_at, moved_to, entry_moved, target_moved, with_offset}
 use Rattle.file_table.specs.declared.open_file.Entry.{Entry}
 use Rattle.file_table.specs.declared.open_file.OpenFile.{OpenFile}
 use Rattle.file_table.specs.declared.open_file.Target.{Target}
@@ -138,8 +138,8 @@ module _ {k : Kernel} {h : Hart} {c : Call} {file : ℕ} {x : OpenFile} {n : ℕ
   file-law : After s p l (read c v) (filed_state p (with_answer (pos (length bytes)) (with_bytes c.a1 bytes l)) file y s)
   file-law = subst (λ o. After s p l o (filed_state p (with_answer (pos (length bytes)) (with_bytes c.a1 bytes l)) file y s)) (sym row) (file_read s p l c on.fd file program offset x.read x.write bytes (live-is k h whole.sound runs) on.below on.named_file opened)
 
-  here : (ltb file OPEN_FILES ≡ true) × (file_at k.files file ≡ Some x)
-  here = there-if (ltb file OPEN_FILES) (file_at k.files file) x (sym (files-seen k h file) ∙ on.opened)
+  here : (ltb file OPEN_FILES ≡ true) × (open_file_at k.files file ≡ Some x)
+  here = there-if (ltb file OPEN_FILES) (open_file_at k.files file) x (sym (files-seen k h file) ∙ on.opened)
 
   entry : (e : Entry) × (entry_at k.files file ≡ Some e)
   entry = entry-of (entry_at k.files file) x here.1
@@ -173,7 +173,7 @@ module _ {k : Kernel} {h : Hart} {c : Call} {file : ℕ} {x : OpenFile} {n : ℕ
     pub file-sound : IsSound k1 h
     file-sound = subst (λ z. IsSound z h) (sym is-k1) mid-sound
 
-    now-here : file_at (with_offset file to k.files) file ≡ Some y
+    now-here : open_file_at (with_offset file to k.files) file ≡ Some y
     now-here =
         ap (option_map entry_file) (offset-here k.files file to entry.0 entry.1 inside)
         ∙ ap (option_map (moved_to to)) (sym (ap (option_map entry_file) entry.1) ∙ here.1)
@@ -183,7 +183,7 @@ module _ {k : Kernel} {h : Hart} {c : Call} {file : ℕ} {x : OpenFile} {n : ℕ
     files-now = same_pages (state_of mid h).files (insert s.files file y) (λ e. elim (eqb_tells e file) [
       | inl same ↦
           files-seen mid h e
-          ∙ ap (λ o. cond (ltb e OPEN_FILES) o None) (ap (file_at (with_offset file to k.files)) same.1 ∙ now-here)
+          ∙ ap (λ o. cond (ltb e OPEN_FILES) o None) (ap (open_file_at (with_offset file to k.files)) same.1 ∙ now-here)
           ∙ ap (λ b. cond b (Some y) None) (ap (λ z. ltb z OPEN_FILES) same.1 ∙ here.0)
           ∙ sym (get_at s.files file y e ∙ ap (λ b. cond b (Some y) (get s.files e)) same.0)
       | inr other ↦

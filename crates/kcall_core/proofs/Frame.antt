@@ -13,7 +13,7 @@ use Rattle.file_table.specs.declared.open_file.Target.{Target}
 use Rattle.file_table.specs.declared.open_file.Target.TheVariants.{Console as Terminal, Program as File, Pipe as Pipe_end}
 use Rattle.kcall_core.specs.Processes.{Live}
 use Rattle.kcall_core.specs.State.{State, live}
-use Rattle.kcall_core.specs.View.{Table, Descriptor, Shown_file, Shown_pipe, named, numbered, rename, rename_shown, descriptor_at, descriptor_on, show, or_gone, or_else, least_on_file, least_on_pipe, file_name, pipe_name}
+use Rattle.kcall_core.specs.View.{Descriptors, Descriptor, Shown_file, Shown_pipe, named, numbered, rename, rename_shown, descriptor_at, descriptor_on, show, or_gone, or_else, least_on_file, least_on_pipe, file_name, pipe_name}
 pub use Rattle.kcall_core.specs.Quiet.{OtherNames, OtherHas}
 use Rattle.kcall_core.specs.Quiet.{file_at, pipe_at, file_of, pipe_of_file, pipe_of_open, pipe_of_target, is_same, meets_on_file, meets_on_pipe, left_at, offset_left, pipe_left, seen_shown, seen_descriptor, seen_table}
 use Rattle.kcall_core.proofs.Least.{least_passes, none_passes}
@@ -38,7 +38,7 @@ kind None = None
 kind (Some f) = Some (record f { target = start_target f.target })
 
 -- of what another process names too: the open files and pipes that p names are, after the step, as this table has them
-pub record Tells (s t : State) (p : ℕ) (left : Table) : Type 0 where
+pub record Tells (s t : State) (p : ℕ) (left : Descriptors) : Type 0 where
   pub offset : (e f n : ℕ) → OtherNames s p f → e < NOFILE → file_at s p e ≡ Some f → offset_left n (left e) ≡ open_offset n (get t.files f)
   pub pipe : (e j : ℕ) (x : Pipe) → OtherHas s p j → e < NOFILE → pipe_at s p e ≡ Some j → pipe_left x (left e) ≡ or_gone (get t.pipes j)
 
@@ -88,7 +88,7 @@ abbrev target_of : Option OpenFile → Target
 target_of None = Terminal
 target_of (Some f) = f.target
 
-module _ (s t : State) (p q : ℕ) (left : Table) (told : Tells s t p left) (spared : Spares s t p) (m : Live) (is : live s q ≡ Some m) (apart : q ≢ p) where
+module _ (s t : State) (p q : ℕ) (left : Descriptors) (told : Tells s t p left) (spared : Spares s t p) (m : Live) (is : live s q ≡ Some m) (apart : q ≢ p) where
   at_file : (d f : ℕ) → get m.descriptors d ≡ Some f → file_at s q d ≡ Some f
   at_file d f e = ap (λ (l : Option Live). file_of l d) is ∙ e
 

@@ -21,8 +21,8 @@ use Rattle.hart_core.specs.Trapframe.{saved, words_from}
 use Rattle.hart_core.specs.Translations.{Translations, Fits, nothing}
 use Rattle.pipe_core.specs.Pipe.{IsPipe, pipe_in, ring_byte, values_below}
 use Rattle.kcall_core.specs.Words.{count_if}
-use Rattle.kcall_core.specs.Holdings.{cost}
-use Rattle.kcall_core.specs.Memories.{held_in, keeps_pipe, pipe_at, frames_of, process_frames, owners, IsMemory, IsAccounted}
+use Rattle.kcall_core.specs.Holdings.{held_cost}
+use Rattle.kcall_core.specs.Memories.{held_in, keeps_pipe, kept_pipe, slot_frames, process_frames, owners, IsMemory, IsAccounted}
 use Rattle.kcall_core.specs.declared.memories.Memory.{Memory}
 use Rattle.kcall_core.proofs.Lists.{gathered-same}
 use Rattle.kcall_core.proofs.Joined.{joined-has, joined-two}
@@ -66,22 +66,22 @@ fits-stay ram ram' root cache walks fits = record {
 
 -- ---- whose frame it is
 
-pub frames-at : (ram : List (List ℕ)) (ms : List (Option Memory)) (i : ℕ) → get_or (map (frames_of ram) ms) i [] ≡ frames_of ram (get_or ms i None)
-frames-at ram ms i = get_or-map (frames_of ram) ms i None
+pub frames-at : (ram : List (List ℕ)) (ms : List (Option Memory)) (i : ℕ) → get_or (map (slot_frames ram) ms) i [] ≡ slot_frames ram (get_or ms i None)
+frames-at ram ms i = get_or-map (slot_frames ram) ms i None
 
 module _ {pool : Pool} {ram : List (List ℕ)} {ms : List (Option Memory)} {ps : List Bool} (sound : IsAccounted pool ram ms ps) where
   total : (x : ℕ) → owners pool ram ms ps x ≤ 1
   total x = elim (cases_lt x (length ram)) [ inl lt ↦ omega (arith, sound.once x lt) | inr ge ↦ omega (arith, sound.inside x ge) ]
 
-  slot-has : (x i : ℕ) → copies x (frames_of ram (get_or ms i None)) ≤ copies x (process_frames ram ms)
-  slot-has x i = omega (arith, joined-has x (map (frames_of ram) ms) i, ap (copies x) (frames-at ram ms i))
+  slot-has : (x i : ℕ) → copies x (slot_frames ram (get_or ms i None)) ≤ copies x (process_frames ram ms)
+  slot-has x i = omega (arith, joined-has x (map (slot_frames ram) ms) i, ap (copies x) (frames-at ram ms i))
 
   -- what is free or owned lies in RAM
-  pub slot-inside : (x i : ℕ) → 1 ≤ copies x (frames_of ram (get_or ms i None)) → x < length ram
+  pub slot-inside : (x i : ℕ) → 1 ≤ copies x (slot_frames ram (get_or ms i None)) → x < length ram
   slot-inside x i has = elim (cases_lt x (length ram)) [ inl lt ↦ lt | inr ge ↦ absurd (omega (arith, sound.inside x ge, slot-has x i, has)) ]
 
   -- the frames of one slot aren't free
-  pub slot-free : (x i : ℕ) → copies x (free_in pool ram) + copies x (frames_of ram (get_or ms i None)) ≤ 1
+  pub slot-free : (x i : ℕ) → copies x (free_in pool ram) + copies x (slot_frames ram (get_or ms i None)) ≤ 1
   slot-free x i = omega (arith, total x, slot-has x i)
 
   -- the frame of a pipe isn't free, and isn't in a slot
@@ -89,16 +89,16 @@ module _ {pool : Pool} {ram : List (List ℕ)} {ms : List (Option Memory)} {ps :
   pipe-free x keeps = omega (arith, total x, ap count_if keeps)
 
   -- the frames of two slots
-  pub slots-apart : (x i j : ℕ) → j ≢ i → 1 ≤ copies x (frames_of ram (get_or ms j None)) → copies x (free_in pool ram) + copies x (frames_of ram (get_or ms i None)) ≡ 0
+  pub slots-apart : (x i j : ℕ) → j ≢ i → 1 ≤ copies x (slot_frames ram (get_or ms j None)) → copies x (free_in pool ram) + copies x (slot_frames ram (get_or ms i None)) ≡ 0
   slots-apart x i j ne has =
-      let two = joined-two x (map (frames_of ram) ms) j i ne in
+      let two = joined-two x (map (slot_frames ram) ms) j i ne in
       omega (arith, total x, two, has, ap (copies x) (frames-at ram ms i), ap (copies x) (frames-at ram ms j))
 
-  pub pipe-apart : (x i : ℕ) → keeps_pipe ps x ≡ true → copies x (free_in pool ram) + copies x (frames_of ram (get_or ms i None)) ≡ 0
+  pub pipe-apart : (x i : ℕ) → keeps_pipe ps x ≡ true → copies x (free_in pool ram) + copies x (slot_frames ram (get_or ms i None)) ≡ 0
   pipe-apart x i keeps = omega (arith, total x, slot-has x i, ap count_if keeps)
 
   -- the frames of a slot, and that of a pipe
-  pub slot-pipe-apart : (x i f : ℕ) → keeps_pipe ps f ≡ true → 1 ≤ copies x (frames_of ram (get_or ms i None)) → copies x (free_in pool ram) + copies x (f ∷ []) ≡ 0
+  pub slot-pipe-apart : (x i f : ℕ) → keeps_pipe ps f ≡ true → 1 ≤ copies x (slot_frames ram (get_or ms i None)) → copies x (free_in pool ram) + copies x (f ∷ []) ≡ 0
   slot-pipe-apart x i f keeps has = elim (cases_eq x f) [
     | inl e ↦ absurd (omega (arith, pipe-apart x i (ap (keeps_pipe ps) e ∙ keeps), has))
     | inr ne ↦ omega (arith, total x, slot-has x i, has, copies-one x f, at-other x f ne)
@@ -112,7 +112,7 @@ module _ {pool : Pool} {ram : List (List ℕ)} {ms : List (Option Memory)} {ps :
 
 -- a memory is as it was: its frames, what it stands for, where its tables lead
 pub record Stays (ram ram' : List (List ℕ)) (m : Option Memory) : Type 0 where
-  pub frames : frames_of ram' m ≡ frames_of ram m
+  pub frames : slot_frames ram' m ≡ slot_frames ram m
   pub held : held_in ram' m ≡ held_in ram m
   pub memory : (n : Memory) → m ≡ Some n → IsMemory ram' n
   pub walks : (n : Memory) → m ≡ Some n → (va : ℕ) (access : Access) → walked ram' n.space.root va access ≡ walked ram n.space.root va access
@@ -124,7 +124,7 @@ some-is : {X : Type 0} (x y : X) → Some x ≡ Some y → x ≡ y
 some-is x y e = cc
 
 pub stays-if : (pool pool' : Pool) (ram ram' : List (List ℕ)) (mine mine' : List ℕ) (m : Option Memory) → Traded pool ram pool' ram' mine mine' → ((n : Memory) → m ≡ Some n → IsMemory ram n)
-    → ((f : ℕ) → 1 ≤ copies f (frames_of ram m) → copies f (free_in pool ram) + copies f mine ≡ 0) → Stays ram ram' m
+    → ((f : ℕ) → 1 ≤ copies f (slot_frames ram m) → copies f (free_in pool ram) + copies f mine ≡ 0) → Stays ram ram' m
 stays-if pool pool' ram ram' mine mine' None traded is apart = record {
   frames = refl;
   held = refl;
@@ -159,11 +159,11 @@ pub pipe-seen : (ram ram' : List (List ℕ)) (f : ℕ) (b : Bool) → (b ≡ tru
 pipe-seen ram ram' f true same = ap Some (same refl)
 pipe-seen ram ram' f false same = refl
 
-pub pipes-seen : (ram ram' : List (List ℕ)) (ps : List Bool) (n : ℕ) → ((f : ℕ) → keeps_pipe ps f ≡ true → pipe_in ram' f ≡ pipe_in ram f) → gathered (pipe_at ram' ps) n ≡ gathered (pipe_at ram ps) n
-pipes-seen ram ram' ps n same = gathered-same (pipe_at ram ps) (pipe_at ram' ps) n (λ f. pipe-seen ram ram' f (keeps_pipe ps f) (same f))
+pub pipes-seen : (ram ram' : List (List ℕ)) (ps : List Bool) (n : ℕ) → ((f : ℕ) → keeps_pipe ps f ≡ true → pipe_in ram' f ≡ pipe_in ram f) → gathered (kept_pipe ram' ps) n ≡ gathered (kept_pipe ram ps) n
+pipes-seen ram ram' ps n same = gathered-same (kept_pipe ram ps) (kept_pipe ram' ps) n (λ f. pipe-seen ram ram' f (keeps_pipe ps f) (same f))
 
 -- what a memory costs is how many frames it has
-pub cost-frames : (ram : List (List ℕ)) (m : Option Memory) → ((n : Memory) → m ≡ Some n → IsMemory ram n) → length (frames_of ram m) ≡ cost (held_in ram m)
+pub cost-frames : (ram : List (List ℕ)) (m : Option Memory) → ((n : Memory) → m ≡ Some n → IsMemory ram n) → length (slot_frames ram m) ≡ held_cost (held_in ram m)
 cost-frames ram None is = refl
 cost-frames ram (Some m) is = omega (arith, space-price ram m.space (is m refl).space)
 

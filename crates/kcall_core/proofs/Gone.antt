@@ -15,7 +15,7 @@ use Rattle.kcall_core.specs.PipeEnds.{parted, is_given_up}
 use Rattle.file_table.specs.declared.open_file.OpenFile.{OpenFile}
 use Rattle.kcall_core.specs.Processes.{Process, Alive, Live, Child, Running, Status, Zombie, parent_of}
 use Rattle.kcall_core.specs.State.{State, live, live_part}
-use Rattle.kcall_core.specs.View.{Table, named, numbered, view, view_of, child_of, or_gone}
+use Rattle.kcall_core.specs.View.{Descriptors, named, numbered, view, view_of, child_of, or_gone}
 use Rattle.kcall_core.specs.Own.{Answer, gone_with}
 use Rattle.kcall_core.specs.Tables.{all_closed, ends}
 use Rattle.kcall_core.specs.Calls.{gone}
@@ -132,7 +132,7 @@ module _ (s : State) (p : ℕ) (old : Live) (was : get s.processes p ≡ Some (A
       ∙ ap (λ (b : Bool). cond b None (Some x)) ((can.counts j x is).2)
 
   gone_tells : Tells s after p (all_closed (named (numbered s old)))
-  gone_tells = subst (λ (t : Table). Tells s after p t) (named_all_closed (numbered s old)) (changed_tells s after p old is_live (fewer s old) spared shared_pipe)
+  gone_tells = subst (λ (t : Descriptors). Tells s after p t) (named_all_closed (numbered s old)) (changed_tells s after p old is_live (fewer s old) spared shared_pipe)
 
   -- ---- processes
 

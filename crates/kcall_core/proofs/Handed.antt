@@ -15,7 +15,7 @@ use Rattle.rv64i_core.specs.Registers.{fresh}
 use Rattle.hart_core.specs.declared.hart.Hart.{Hart}
 use Rattle.file_table.specs.Named.{named_by}
 use Rattle.file_table.specs.OpenFiles as files
-use Rattle.file_table.specs.OpenFiles.{file_at}
+use Rattle.file_table.specs.OpenFiles.{open_file_at}
 use Rattle.proc_table.specs.Processes.{status_of, in_call, newborn}
 use Rattle.proc_table.specs.Slots.{Slots, place_at, descriptors_at, changed_at, IsTable}
 use Rattle.proc_table.specs.declared.process.Call.{Call}
@@ -27,7 +27,7 @@ use Rattle.kcall_core.specs.View.{view_of}
 use Rattle.kcall_core.specs.ByPid.{by_pid}
 use Rattle.kcall_core.specs.Calls.{fork, done, with_a0}
 use Rattle.kcall_core.specs.Updates.{forked_state, forking, forked_child, with_answer}
-use Rattle.kcall_core.specs.Holdings.{Held, cost, or_nothing, held_at, HasMemory, with_saved}
+use Rattle.kcall_core.specs.Holdings.{Held, held_cost, or_nothing, held_at, HasMemory, with_saved}
 use Rattle.kcall_core.specs.Memories.{each_of, pipes_of, free_of, SlotChanges}
 use Rattle.kcall_core.specs.Kernel.{descriptor_map, live_of, process_of, entry_of, entry_at, state_of, IsSound, IsRunning, HasImage, or_nobody, slot_now, place_now, pid_now, live_now}
 use Rattle.kcall_core.specs.Whole.{IsWhole, AreCounted}
@@ -275,7 +275,7 @@ module _ {k : Kernel} {h : Hart} (whole : IsWhole k h) (runs : IsRunning k) (chi
           ∙ twice (by_pid (entry_at k h) NPROC) p k.table.next (Alive child1) (Alive (forking s l)) (Alive (forked_child s p l)) old-pid
 
       free3 : free_of k3.memories + (price l.image + 1) ≡ free_of k.memories
-      free3 = omega (arith, saved.free, ap (λ m. free_of m) memories2, ap cost (ap (λ m. get_or (each_of m) child None) memories2 ∙ each1), ap (λ (y : Held). price y.image) held2, x.free)
+      free3 = omega (arith, saved.free, ap (λ m. free_of m) memories2, ap held_cost (ap (λ m. get_or (each_of m) child None) memories2 ∙ each1), ap (λ (y : Held). price y.image) held2, x.free)
 
       left : free_of k3.memories ≡ free_of k.memories - (price l.image + 1)
       left = omega (arith, free3)
@@ -284,7 +284,7 @@ module _ {k : Kernel} {h : Hart} (whole : IsWhole k h) (runs : IsRunning k) (chi
       unfolding state_of
       born-state = λ t. record {
         processes = processes t;
-        files = gathered (fun_ext (λ f. ap (λ fs. file_at fs f) files3 ∙ x.same f) t) OPEN_FILES;
+        files = gathered (fun_ext (λ f. ap (λ fs. open_file_at fs f) files3 ∙ x.same f) t) OPEN_FILES;
         pipes = (saved.pipes ∙ ap pipes_of memories2 ∙ x.pipes) t;
         console = (ap (λ (y : Kernel). y.console) rest ∙ ap (λ (y : Kernel). y.console) d.kernel ∙ ap (λ (y : Kernel). y.console) x.rest) t;
         clock = (ap (λ (y : Kernel). y.clock) rest ∙ ap (λ (y : Kernel). y.clock) d.kernel ∙ ap (λ (y : Kernel). y.clock) x.rest) t;

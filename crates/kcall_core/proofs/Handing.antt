@@ -10,7 +10,7 @@ use Rattle.hart_core.specs.declared.hart.Hart.{Hart}
 use Rattle.pipe_core.specs.Pipe.{Pipe}
 use Rattle.file_table.specs.Named.{named_by, with_named, none_named}
 use Rattle.file_table.specs.OpenFiles as files
-use Rattle.file_table.specs.OpenFiles.{entry_at, file_at}
+use Rattle.file_table.specs.OpenFiles.{entry_at, open_file_at}
 use Rattle.file_table.specs.declared.open_file.Entry.{Entry}
 use Rattle.file_table.specs.declared.open_file.End.{End}
 use Rattle.file_table.specs.declared.open_file.End.TheVariants.{Reading, Writing}
@@ -27,7 +27,7 @@ use Rattle.kcall_core.specs.PipeEnds.{count_on}
 use Rattle.kcall_core.specs.Processes.{Live}
 use Rattle.kcall_core.specs.Quiet.{end_of, target_of_open}
 use Rattle.kcall_core.specs.Updates.{more_on, more_at, more_on_all}
-use Rattle.kcall_core.specs.Holdings.{cost, pipe_cost, or_new, pipe_named, held_at, HasMemory, with_saved}
+use Rattle.kcall_core.specs.Holdings.{held_cost, pipe_cost, or_new, pipe_named, held_at, HasMemory, with_saved}
 use Rattle.kcall_core.specs.Memories as memories
 use Rattle.kcall_core.specs.Memories.{each_of, pipes_of, free_of}
 use Rattle.kcall_core.specs.Kernel.{state_of, IsSound, IsRunning, slot_now, pid_now, live_now}
@@ -76,7 +76,7 @@ record Joined (old new : Memories) (target : Target) : Type 0 where
   free : free_of new ≡ free_of old
   frames : length new.ram ≡ length old.ram
 
-joined-at : (old new : Memories) (target : Target) → memories.IsSound old → ((i : ℕ) (end : End) → target ≡ Pipe_end i end → IsSome (get (pipes_of old) i)) → Joins target old new → Joined old new target
+joined-at : (old new : Memories) (target : Target) → memories.AreSound old → ((i : ℕ) (end : End) → target ≡ Pipe_end i end → IsSome (get (pipes_of old) i)) → Joins target old new → Joined old new target
 joined-at old new Terminal sound there same = subst (λ n. Joined old n Terminal) (sym same) (record { shares = record { sound = sound; each = refl; runs = λ a hart r. r }; pipes = refl; free = refl; frames = refl })
 joined-at old new (File program offset) sound there same = subst (λ n. Joined old n (File program offset)) (sym same) (record { shares = record { sound = sound; each = refl; runs = λ a hart r. r }; pipes = refl; free = refl; frames = refl })
 joined-at old new (Pipe_end i end) sound there changes =
@@ -195,12 +195,12 @@ module _ {k : Kernel} {h : Hart} (whole : IsWhole k h) (runs : IsRunning k) (chi
           | inr ne ↦ all-same j ∙ whole.counted.closed j (ap place_is_live (sym (other j ne)) ∙ dead)
         ];
       };
-      same = λ f. ap (λ fs. file_at fs f) kept;
+      same = λ f. ap (λ fs. open_file_at fs f) kept;
       others = λ j ne. all-same j;
       given = λ d. ap (λ ds. named_by ds d) none-here ∙ get_or-same None 16 d ∙ sym (ap (λ b. cond b (named_by (descriptors_at k.table slot) d) None) (le-ltb d 0 (omega arith)));
       each = b.memories.each;
       pipes = b.memories.pipes;
-      free = omega (arith, b.memories.free, ap cost (whole.sound.vacant child new.vacant));
+      free = omega (arith, b.memories.free, ap held_cost (whole.sound.vacant child new.vacant));
       frames = b.memories.frames;
     }
 
@@ -240,10 +240,10 @@ module _ {k : Kernel} {h : Hart} (whole : IsWhole k h) (runs : IsRunning k) (chi
       its-entry : (e : Entry) × (entry_at k1.files g ≡ Some e)
       its-entry = counted-entry k1.files g (omega (arith, x.counted.counts g, named-counts k1.table slot n g now.inside below used))
 
-      opened : (y : OpenFile) → file_at k1.files g ≡ Some y → get s.files g ≡ Some y
+      opened : (y : OpenFile) → open_file_at k1.files g ≡ Some y → get s.files g ≡ Some y
       opened y is = let at = sym (x.same g) ∙ is in file-seen k h g (file-inside k.files g y whole.files at) ∙ at
 
-      pipe-was : (y : OpenFile) (i : ℕ) (end : End) → file_at k1.files g ≡ Some y → y.target ≡ Pipe_end i end → IsSome (get s.pipes i)
+      pipe-was : (y : OpenFile) (i : ℕ) (end : End) → open_file_at k1.files g ≡ Some y → y.target ≡ Pipe_end i end → IsSome (get s.pipes i)
       pipe-was y i end is on = whole.well.ends g i y end (opened y is) on
 
       pipe-now : (i : ℕ) → get (pipes_of k1.memories) i ≡ option_map (λ z. plus z (among s l n i Reading) (among s l n i Writing)) (get s.pipes i)
@@ -276,7 +276,7 @@ module _ {k : Kernel} {h : Hart} (whole : IsWhole k h) (runs : IsRunning k) (chi
         abbrev y : OpenFile
         y = files.entry_file its-entry.0
 
-        is-open : file_at k1.files g ≡ Some y
+        is-open : open_file_at k1.files g ≡ Some y
         is-open = ap (option_map files.entry_file) its-entry.1
 
         joins : Joined k1.memories k2.memories y.target
@@ -337,7 +337,7 @@ module _ {k : Kernel} {h : Hart} (whole : IsWhole k h) (runs : IsRunning k) (chi
           files = subst files.IsTable (sym z.files) (more-table k1.files g x.files its-entry.0 its-entry.1 (file-room k1.files k1.table g x.counted its-entry.0.count (ap (option_map files.entry_count) its-entry.1)));
           counted = subst (λ fs. AreCounted fs k2.table) (sym z.files)
               (shared-counted k1.files k1.table k2.table child n g its-entry.0 x.counted x.files its-entry.1 new.below below x.sound.table.descriptors child-free (ap (λ (u : Slots). u.descriptors) z.table) (λ j. ap place_is_live (put-place j)) lives-there);
-          same = λ f. ap (λ fs. file_at fs f) z.files ∙ more-file k1.files g x.files its-entry.0 its-entry.1 f ∙ x.same f;
+          same = λ f. ap (λ fs. open_file_at fs f) z.files ∙ more-file k1.files g x.files its-entry.0 its-entry.1 f ∙ x.same f;
           others = λ j ne. ap (λ (t : Slots). descriptors_at t j) z.table ∙ get_or-set_other k1.table.descriptors child j (with_named n (Some g) (descriptors_at k1.table child)) none_named ne ∙ x.others j ne;
           given = λ d. elim (cases_eq d n) [
             | inl e ↦

@@ -10,7 +10,7 @@ use Rattle.rv64i_core.specs.Memory.{Store}
 use Rattle.rv64i_core.specs.Step.{Step, Next, Ecall, Fault, stop_of, regs_after, state_after}
 use Rattle.rv64i_core.specs.declared.execution.Stop.{Stop}
 use Rattle.rv64i_core.specs.declared.execution.Stop.TheVariants as stops
-use Rattle.hart_core.specs.UserMemory.{write_image as with_store}
+use Rattle.hart_core.specs.UserMemory.{with_store}
 use Rattle.hart_core.specs.declared.hart.Hart.{Hart}
 use Rattle.xk_base.specs.Image.{Image, price}
 use Rattle.proc_table.specs.declared.channel.Channel.{Channel}

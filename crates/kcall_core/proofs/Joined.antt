@@ -1,27 +1,27 @@
--- How often a frame stands in lists that are joined.
+-- How often a frame stands in lists that are all_joined.
 use Rattle.std.proofs.Common.{◌≡◌, ◌≢◌, ℕ, zero, suc, ◌+◌, ◌<◌, ◌≤◌, List, [], ◌∷◌, length, set, get_or, refl, arith}
 use Rattle.xk_base.specs.Frames.{copies}
 use Rattle.xk_base.proofs.Frames.{copies-nil, copies-append}
-use Rattle.kcall_core.specs.Memories.{joined}
+use Rattle.kcall_core.specs.Memories.{all_joined}
 
-joined-cons : (x : ℕ) (xs : List ℕ) (rest : List (List ℕ)) → copies x (joined (xs ∷ rest)) ≡ copies x xs + copies x (joined rest)
-unfolding joined
-joined-cons x xs rest = copies-append x xs (joined rest)
+joined-cons : (x : ℕ) (xs : List ℕ) (rest : List (List ℕ)) → copies x (all_joined (xs ∷ rest)) ≡ copies x xs + copies x (all_joined rest)
+unfolding all_joined
+joined-cons x xs rest = copies-append x xs (all_joined rest)
 
 -- one list is another
-pub joined-set : (x : ℕ) (lists : List (List ℕ)) (i : ℕ) (ys : List ℕ) → i < length lists → copies x (joined (set lists i ys)) + copies x (get_or lists i []) ≡ copies x (joined lists) + copies x ys
+pub joined-set : (x : ℕ) (lists : List (List ℕ)) (i : ℕ) (ys : List ℕ) → i < length lists → copies x (all_joined (set lists i ys)) + copies x (get_or lists i []) ≡ copies x (all_joined lists) + copies x ys
 joined-set x [] i ys lt = absurd (omega arith)
 joined-set x (xs ∷ rest) zero ys lt = omega (arith, joined-cons x ys rest, joined-cons x xs rest)
 joined-set x (xs ∷ rest) (suc i) ys lt = omega (arith, joined-cons x xs (set rest i ys), joined-cons x xs rest, joined-set x rest i ys (omega arith))
 
 -- what stands in one list stands in all
-pub joined-has : (x : ℕ) (lists : List (List ℕ)) (i : ℕ) → copies x (get_or lists i []) ≤ copies x (joined lists)
+pub joined-has : (x : ℕ) (lists : List (List ℕ)) (i : ℕ) → copies x (get_or lists i []) ≤ copies x (all_joined lists)
 joined-has x [] i = omega (arith, copies-nil x)
 joined-has x (xs ∷ rest) zero = omega (arith, joined-cons x xs rest)
 joined-has x (xs ∷ rest) (suc i) = omega (arith, joined-cons x xs rest, joined-has x rest i)
 
 -- two lists at different places
-pub joined-two : (x : ℕ) (lists : List (List ℕ)) (i j : ℕ) → i ≢ j → copies x (get_or lists i []) + copies x (get_or lists j []) ≤ copies x (joined lists)
+pub joined-two : (x : ℕ) (lists : List (List ℕ)) (i j : ℕ) → i ≢ j → copies x (get_or lists i []) + copies x (get_or lists j []) ≤ copies x (all_joined lists)
 joined-two x [] i j ne = omega (arith, copies-nil x)
 joined-two x (xs ∷ rest) zero zero ne = absurd (ne refl)
 joined-two x (xs ∷ rest) zero (suc j) ne = omega (arith, joined-cons x xs rest, joined-has x rest j)

@@ -15,7 +15,7 @@ use Rattle.kcall_core.specs.Words.{CLOCK_ROUND, c_int, minus_one}
 use Rattle.kcall_core.specs.Buffers.{writable, readable}
 use Rattle.kcall_core.specs.PipeEnds.{fit, there, must_wait}
 use Rattle.kcall_core.specs.Programs.{program_bytes}
-use Rattle.kcall_core.specs.Processes.{Process, Live, Child, Status, status_of}
+use Rattle.kcall_core.specs.Processes.{Process, Live, Child, Status, child_status}
 use Rattle.kcall_core.specs.State.{State, live}
 use Rattle.kcall_core.specs.View.{View, Descriptor, Shown, Shown_terminal, Shown_file, Shown_pipe, view, view_of, child_of}
 use Rattle.kcall_core.specs.Own.{Own, Called, Exited, gone_with}
@@ -147,11 +147,11 @@ module _ (c : Call) (v : View) where
       fine_unless (record c { moved = 0 }) m (not (nat_eq c.a0 0) && not (writable m.image c.a0 4)) (λ _. reaped (record c { moved = 0 }) m (least_zombie m)) (ap (λ (i : Image). not (nat_eq c.a0 0) && not (writable i c.a0 4)) image ∙ there) (by (least_zombie m))
     where
       by : (o : Option ℕ) → OnlyBroken m (record c { moved = 0 }) (reaped (record c { moved = 0 }) m o)
-      by (Some q) = fine_done (record c { moved = 0 }) m q (told c.a0 (status_of (m.children q)) (without_child q m))
+      by (Some q) = fine_done (record c { moved = 0 }) m q (told c.a0 (child_status (m.children q)) (without_child q m))
       by None = subst (λ (b : Bool). OnlyBroken m (record c { moved = 0 }) (cond b (waits (record c { moved = 0 }) 0 m) (refused (record c { moved = 0 }) m))) (sym (kids some)) (fine_waits (record c { moved = 0 }) m 0 m)
 
   wait_by : row_of c.number ≡ Some Wait → (not (nat_eq c.a0 0) && not (writable v.image c.a0 4)) ≡ false → (o : Option ℕ) → Falls Late (reaped c v o)
-  wait_by row there (Some q) = falls_done Late c (pos q) (told c.a0 (status_of (v.children q)) (without_child q v))
+  wait_by row there (Some q) = falls_done Late c (pos q) (told c.a0 (child_status (v.children q)) (without_child q v))
   wait_by row there None = falls_cond Late (has_child v) (waits c 0 v) (refused c v) (λ some. falls_waits Wait c 0 v row (wait_later there some)) (λ _. falls_done Late c minus_one v)
 
   wait_row : row_of c.number ≡ Some Wait → Falls Late (wait_parts c v)

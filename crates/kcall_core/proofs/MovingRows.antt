@@ -4,7 +4,7 @@ use Rattle.std.specs.Prelude.{ℤ, pos, negsuc, IsSome, is_some, option_map, nat
 use Rattle.std.specs.FinMap.{get}
 use Rattle.hart_core.specs.declared.hart.Hart.{Hart}
 use Rattle.pipe_core.specs.Pipe.{Pipe}
-use Rattle.file_table.specs.OpenFiles.{file_at}
+use Rattle.file_table.specs.OpenFiles.{open_file_at}
 use Rattle.file_table.specs.declared.open_file.OpenFile.{OpenFile}
 use Rattle.file_table.specs.declared.open_file.End.{End}
 use Rattle.file_table.specs.declared.open_file.Target.{Target}
@@ -61,7 +61,7 @@ moving-absent c v room z go n e some absent =
 same-kind : (x y : OpenFile) → Some x ≡ Some y → x ≡ y
 same-kind x y e = cc
 
-pub in-use-as : {k : Kernel} {h : Hart} {d g : ℕ} (x y : OpenFile) → InUse k h d g x → file_at k.files g ≡ Some y → InUse k h d g y
+pub in-use-as : {k : Kernel} {h : Hart} {d g : ℕ} (x y : OpenFile) → InUse k h d g x → open_file_at k.files g ≡ Some y → InUse k h d g y
 in-use-as {k} {h} {d} {g} x y source e = subst (InUse k h d g) (same-kind x y (sym source.kind ∙ e)) source
 
 module _ {k : Kernel} {h : Hart} (c : Call) {fd file : ℕ} {x : OpenFile} (whole : IsWhole k h) (runs : IsRunning k) (below : fd < 16) (number : c_int c.a0 ≡ pos fd) (source : InUse k h fd file x) where

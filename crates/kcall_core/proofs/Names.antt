@@ -7,7 +7,7 @@ use Rattle.std.proofs.lemmas.Bool.Decides.{eqb_tells}
 use Rattle.xk_base.specs.declared.limits.TheConstants.{NOFILE}
 use Rattle.kcall_core.specs.Words.{is_this, with_value}
 use Rattle.xk_base.specs.Words.{least_below}
-use Rattle.kcall_core.specs.View.{Table, Descriptor, Shown, Shown_terminal, Shown_file, Shown_pipe, named, rename, rename_shown, or_else, file_name, pipe_name, shown_pipe_name}
+use Rattle.kcall_core.specs.View.{Descriptors, Descriptor, Shown, Shown_terminal, Shown_file, Shown_pipe, named, rename, rename_shown, or_else, file_name, pipe_name, shown_pipe_name}
 use Rattle.kcall_core.specs.Quiet.{is_same}
 use Rattle.kcall_core.proofs.Least.{least_passes, none_passes, least_congr}
 
@@ -22,7 +22,7 @@ bare None = None
 bare (Some d) = Some (record d { file = 0; shown = bare_shown d.shown })
 
 -- the same but for the names, and the same names stand at the same places
-pub record Alike (t u : Table) : Type 0 where
+pub record Alike (t u : Descriptors) : Type 0 where
   pub files : (d e : ℕ) → d < NOFILE → e < NOFILE → is_same (file_name (t d)) (file_name (t e)) ≡ is_same (file_name (u d)) (file_name (u e))
   pub pipes : (d e : ℕ) → d < NOFILE → e < NOFILE → is_same (pipe_name (t d)) (pipe_name (t e)) ≡ is_same (pipe_name (u d)) (pipe_name (u e))
   pub shape : (d : ℕ) → d < NOFILE → bare (t d) ≡ bare (u d)
@@ -42,7 +42,7 @@ some_shown (Some d) = d.shown
 -- ---- alike tables choose the same names
 
 -- the least place with the name that place d has; d has it itself
-same_choice : (name : Table → ℕ → Option ℕ) (t u : Table) → ((d e : ℕ) → d < NOFILE → e < NOFILE → is_same (name t d) (name t e) ≡ is_same (name u d) (name u e))
+same_choice : (name : Descriptors → ℕ → Option ℕ) (t u : Descriptors) → ((d e : ℕ) → d < NOFILE → e < NOFILE → is_same (name t d) (name t e) ≡ is_same (name u d) (name u e))
     → (d m n : ℕ) → d < NOFILE → name t d ≡ Some m → name u d ≡ Some n
     → or_else (least_below (λ e. is_this m (name t e)) NOFILE) m ≡ or_else (least_below (λ e. is_this n (name u e)) NOFILE) n
 same_choice name t u same d m n below isT isU =
@@ -58,14 +58,14 @@ same_choice name t u same d m n below isT isU =
         let passes : is_this m (name t d) ≡ true = ap (is_this m) isT ∙ eq-eqb m m refl in
         let no : ⊥ = cc in absurd no
 
-module _ (t u : Table) (alike : Alike t u) where
+module _ (t u : Descriptors) (alike : Alike t u) where
   shown_alike : (d : ℕ) → d < NOFILE → (x y : Shown) → pipe_name (t d) ≡ shown_pipe_name x → pipe_name (u d) ≡ shown_pipe_name y → bare_shown x ≡ bare_shown y → rename_shown t x ≡ rename_shown u y
   shown_alike d below Shown_terminal Shown_terminal a b e = refl
   shown_alike d below (Shown_file p n) (Shown_file q m) a b e = e
   shown_alike d below (Shown_pipe j end x) (Shown_pipe k other y) a b e =
       let ends : end ≡ other = cc in
       let pipes : x ≡ y = cc in
-      let names = same_choice (λ (v : Table) (c : ℕ). pipe_name (v c)) t u alike.pipes d j k below a b in
+      let names = same_choice (λ (v : Descriptors) (c : ℕ). pipe_name (v c)) t u alike.pipes d j k below a b in
       λ i. Shown_pipe (names i) (ends i) (pipes i)
   shown_alike d below Shown_terminal (Shown_file q m) a b e = let no : ⊥ = cc in absurd no
   shown_alike d below Shown_terminal (Shown_pipe k end y) a b e = let no : ⊥ = cc in absurd no
@@ -79,7 +79,7 @@ module _ (t u : Table) (alike : Alike t u) where
   at_place d below None (Some y) a b e = let no : ⊥ = cc in absurd no
   at_place d below (Some x) None a b e = let no : ⊥ = cc in absurd no
   at_place d below (Some x) (Some y) a b e =
-      let names = same_choice (λ (v : Table) (c : ℕ). file_name (v c)) t u alike.files d x.file y.file below (ap file_name a) (ap file_name b) in
+      let names = same_choice (λ (v : Descriptors) (c : ℕ). file_name (v c)) t u alike.files d x.file y.file below (ap file_name a) (ap file_name b) in
       let reads : x.read ≡ y.read = ap (λ (o : Option Descriptor). some_read o) e in
       let writes : x.write ≡ y.write = ap (λ (o : Option Descriptor). some_write o) e in
       let bares : bare_shown x.shown ≡ bare_shown y.shown = ap (λ (o : Option Descriptor). some_shown o) e in
@@ -96,7 +96,7 @@ module _ (t u : Table) (alike : Alike t u) where
 
 -- ---- a table that is without a place, or has a copy of one
 
-module _ (t u : Table) (alike : Alike t u) (k j : ℕ) (below : j < NOFILE) where
+module _ (t u : Descriptors) (alike : Alike t u) (k j : ℕ) (below : j < NOFILE) where
   file_at_copy : (d e : ℕ) → d < NOFILE → e < NOFILE → (a b : Bool) → is_same (file_name (cond a (t j) (t d))) (file_name (cond b (t j) (t e))) ≡ is_same (file_name (cond a (u j) (u d))) (file_name (cond b (u j) (u e)))
   file_at_copy d e x y true true = alike.files j j below below
   file_at_copy d e x y true false = alike.files j e below y
@@ -155,33 +155,33 @@ same_names name d e x y (Some m) (Some n) a b =
       ]
     ]
 
-pub file_renamed : (t : Table) (o : Option Descriptor) → file_name (option_map (rename t) o) ≡ option_map (choice (λ d. file_name (t d))) (file_name o)
+pub file_renamed : (t : Descriptors) (o : Option Descriptor) → file_name (option_map (rename t) o) ≡ option_map (choice (λ d. file_name (t d))) (file_name o)
 file_renamed t None = refl
 file_renamed t (Some x) = refl
 
-shown_renamed : (t : Table) (x : Shown) → shown_pipe_name (rename_shown t x) ≡ option_map (choice (λ d. pipe_name (t d))) (shown_pipe_name x)
+shown_renamed : (t : Descriptors) (x : Shown) → shown_pipe_name (rename_shown t x) ≡ option_map (choice (λ d. pipe_name (t d))) (shown_pipe_name x)
 shown_renamed t Shown_terminal = refl
 shown_renamed t (Shown_file program offset) = refl
 shown_renamed t (Shown_pipe j end pipe) = refl
 
-pub pipe_renamed : (t : Table) (o : Option Descriptor) → pipe_name (option_map (rename t) o) ≡ option_map (choice (λ d. pipe_name (t d))) (pipe_name o)
+pub pipe_renamed : (t : Descriptors) (o : Option Descriptor) → pipe_name (option_map (rename t) o) ≡ option_map (choice (λ d. pipe_name (t d))) (pipe_name o)
 pipe_renamed t None = refl
 pipe_renamed t (Some x) = shown_renamed t x.shown
 
-bare_shown_renamed : (t : Table) (x : Shown) → bare_shown (rename_shown t x) ≡ bare_shown x
+bare_shown_renamed : (t : Descriptors) (x : Shown) → bare_shown (rename_shown t x) ≡ bare_shown x
 bare_shown_renamed t Shown_terminal = refl
 bare_shown_renamed t (Shown_file program offset) = refl
 bare_shown_renamed t (Shown_pipe j end pipe) = refl
 
-bare_renamed : (t : Table) (o : Option Descriptor) → bare (option_map (rename t) o) ≡ bare o
+bare_renamed : (t : Descriptors) (o : Option Descriptor) → bare (option_map (rename t) o) ≡ bare o
 bare_renamed t None = refl
 bare_renamed t (Some x) = λ i. Some (record x { file = 0; shown = bare_shown_renamed t x.shown i })
 
-pub named_at : (t : Table) (d : ℕ) → d < NOFILE → named t d ≡ option_map (rename t) (t d)
+pub named_at : (t : Descriptors) (d : ℕ) → d < NOFILE → named t d ≡ option_map (rename t) (t d)
 unfolding named
 named_at t d below = ap (λ (b : Bool). cond b (option_map (rename t) (t d)) None) (lt-ltb d NOFILE below)
 
-pub alike_named : (t : Table) → Alike (named t) t
+pub alike_named : (t : Descriptors) → Alike (named t) t
 alike_named t = record {
   files = λ d e x y. (λ i. is_same ((ap file_name (named_at t d x) ∙ file_renamed t (t d)) i) ((ap file_name (named_at t e y) ∙ file_renamed t (t e)) i)) ∙ same_names (λ c. file_name (t c)) d e x y (file_name (t d)) (file_name (t e)) refl refl;
   pipes = λ d e x y. (λ i. is_same ((ap pipe_name (named_at t d x) ∙ pipe_renamed t (t d)) i) ((ap pipe_name (named_at t e y) ∙ pipe_renamed t (t e)) i)) ∙ same_names (λ c. pipe_name (t c)) d e x y (pipe_name (t d)) (pipe_name (t e)) refl refl;
@@ -189,5 +189,5 @@ alike_named t = record {
 }
 
 -- dup: a copy in the view's table is a copy in the kernel's own
-pub named_copy : (t : Table) (k j : ℕ) → j < NOFILE → named (with_value (named t) k (named t j)) ≡ named (with_value t k (t j))
+pub named_copy : (t : Descriptors) (k j : ℕ) → j < NOFILE → named (with_value (named t) k (named t j)) ≡ named (with_value t k (t j))
 named_copy t k j below = named_alike (with_value (named t) k (named t j)) (with_value t k (t j)) (copy_alike (named t) t (alike_named t) k j below)

@@ -12,7 +12,7 @@ use Rattle.sv39_core.proofs.Gathered.{gathered-get}
 use Rattle.sv39_core.proofs.Words.{ltb-yes, ltb-no}
 use Rattle.hart_core.specs.declared.hart.Hart.{Hart}
 use Rattle.file_table.specs.Named.{named_by, none_named, with_named}
-use Rattle.file_table.specs.OpenFiles.{IsTable, file_at, count_at, entry_at, entry_file, entry_count, once_less, without_sharer}
+use Rattle.file_table.specs.OpenFiles.{IsTable, open_file_at, count_at, entry_at, entry_file, entry_count, once_less, without_sharer}
 use Rattle.file_table.specs.declared.open_file.Entry.{Entry}
 use Rattle.file_table.specs.declared.open_file.OpenFile.{OpenFile}
 use Rattle.proc_table.specs.Processes.{status_of}
@@ -114,20 +114,20 @@ module _ (k : Kernel) (h : Hart) (sound : IsSound k h) where
       ap (λ o. file_of o d) (live-held k h sound.table slot p at alive) ∙ named-seen (descriptors_at k.table slot) d ∙ ap (λ b. cond b (named_by (descriptors_at k.table slot) d) None) (ltb-yes d 16 below) ∙ is
 
 -- the open files of the state are those of the table
-pub files-seen : (k : Kernel) (h : Hart) (file : ℕ) → get (state_of k h).files file ≡ cond (ltb file OPEN_FILES) (file_at k.files file) None
+pub files-seen : (k : Kernel) (h : Hart) (file : ℕ) → get (state_of k h).files file ≡ cond (ltb file OPEN_FILES) (open_file_at k.files file) None
 unfolding state_of
-files-seen k h file = gathered-get (file_at k.files) OPEN_FILES file
+files-seen k h file = gathered-get (open_file_at k.files) OPEN_FILES file
 
-pub file-seen : (k : Kernel) (h : Hart) (file : ℕ) → file < OPEN_FILES → get (state_of k h).files file ≡ file_at k.files file
-file-seen k h file lt = files-seen k h file ∙ ap (λ b. cond b (file_at k.files file) None) (ltb-yes file OPEN_FILES lt)
+pub file-seen : (k : Kernel) (h : Hart) (file : ℕ) → file < OPEN_FILES → get (state_of k h).files file ≡ open_file_at k.files file
+file-seen k h file lt = files-seen k h file ∙ ap (λ b. cond b (open_file_at k.files file) None) (ltb-yes file OPEN_FILES lt)
 
 -- and where none is another than before, so it is in the state
-pub files-kept : (k k' : Kernel) (h h' : Hart) → ((file : ℕ) (x : OpenFile) → file_at k'.files file ≡ Some x → file_at k.files file ≡ Some x) → (file : ℕ) (x : OpenFile) → get (state_of k' h').files file ≡ Some x → get (state_of k h).files file ≡ Some x
+pub files-kept : (k k' : Kernel) (h h' : Hart) → ((file : ℕ) (x : OpenFile) → open_file_at k'.files file ≡ Some x → open_file_at k.files file ≡ Some x) → (file : ℕ) (x : OpenFile) → get (state_of k' h').files file ≡ Some x → get (state_of k h).files file ≡ Some x
 files-kept k k' h h' kept file x is =
-    let r = cond-some (ltb file OPEN_FILES) (file_at k'.files file) x (sym (files-seen k' h' file) ∙ is) in
-    files-seen k h file ∙ ap (λ b. cond b (file_at k.files file) None) r.0 ∙ kept file x r.1
+    let r = cond-some (ltb file OPEN_FILES) (open_file_at k'.files file) x (sym (files-seen k' h' file) ∙ is) in
+    files-seen k h file ∙ ap (λ b. cond b (open_file_at k.files file) None) r.0 ∙ kept file x r.1
 
-pub file-inside : (files : List (Option Entry)) (file : ℕ) (x : OpenFile) → IsTable files → file_at files file ≡ Some x → file < OPEN_FILES
+pub file-inside : (files : List (Option Entry)) (file : ℕ) (x : OpenFile) → IsTable files → open_file_at files file ≡ Some x → file < OPEN_FILES
 file-inside files file x table is = elim (cases_lt file OPEN_FILES) [
   | inl lt ↦ lt
   | inr ge ↦ absurd (none-some x (sym (ap (option_map entry_file) (get_or_past files file None (omega (arith, ge, table.places)))) ∙ is))
@@ -142,13 +142,13 @@ counted-entry files file many = by (entry_at files file) refl
     by (Some e) is = (e, is)
 
 -- Open files are those that a live process names, where none that is there is another than before
-pub files-left : (k k' : Kernel) (h h' : Hart) → IsSound k' h' → AreCounted k'.files k'.table → IsTable k'.files → ((file : ℕ) (x : OpenFile) → file_at k'.files file ≡ Some x → file_at k.files file ≡ Some x) → FilesLeft (state_of k h) (state_of k' h')
+pub files-left : (k k' : Kernel) (h h' : Hart) → IsSound k' h' → AreCounted k'.files k'.table → IsTable k'.files → ((file : ℕ) (x : OpenFile) → open_file_at k'.files file ≡ Some x → open_file_at k.files file ≡ Some x) → FilesLeft (state_of k h) (state_of k' h')
 files-left k k' h h' sound counted table kept = record {
   stay = λ q d g names.
       let at = names-slot k' h' sound q d g names in
       let many : 1 ≤ or_zero (count_at k'.files g) = omega (arith, counted.counts g, named-counts k'.table at.0 d g at.1 at.2 at.3) in
       let e = counted-entry k'.files g many in
-      let now : file_at k'.files g ≡ Some e.0.file = ap (option_map entry_file) e.1 in
+      let now : open_file_at k'.files g ≡ Some e.0.file = ap (option_map entry_file) e.1 in
       let inside = file-inside k'.files g e.0.file table now in
       file-seen k' h' g inside ∙ now ∙ sym (file-seen k h g inside ∙ kept g e.0.file now);
   named = λ g there. by g (entry_at k'.files g) refl (subst (λ o. IsSome o) (files-seen k' h' g) there);
@@ -173,8 +173,8 @@ files-left k k' h h' sound counted table kept = record {
     live_by slot d g inside names below true is = let p = alive (place_at k'.table slot) is in (p.0.pid, d, slot-names k' h' sound slot d g p.0 p.1 p.2 below names)
     live_by slot d g inside names below false is = absurd (none-some g (sym (ap (λ ds. named_by ds d) (counted.closed slot is) ∙ get_or-replicate 16 d None None below) ∙ names))
 
-    by : (g : ℕ) (o : Option Entry) → entry_at k'.files g ≡ o → IsSome (cond (ltb g OPEN_FILES) (file_at k'.files g) None) → (q : ℕ) × (d : ℕ) × (quiet.file_at (state_of k' h') q d ≡ Some g)
-    by g None is there = absurd (cond-none (ltb g OPEN_FILES) (file_at k'.files g) (ap (option_map entry_file) is) there)
+    by : (g : ℕ) (o : Option Entry) → entry_at k'.files g ≡ o → IsSome (cond (ltb g OPEN_FILES) (open_file_at k'.files g) None) → (q : ℕ) × (d : ℕ) × (quiet.file_at (state_of k' h') q d ≡ Some g)
+    by g None is there = absurd (cond-none (ltb g OPEN_FILES) (open_file_at k'.files g) (ap (option_map entry_file) is) there)
     by g (Some e) is there =
         let many : 1 ≤ namings k'.table g = omega (arith, counted.counts g, (table.counts g e is).0, ap (λ o. or_zero (option_map entry_count o)) is) in
         let n = counts-named k'.table g many in
@@ -241,13 +241,13 @@ module _ (files : List (Option Entry)) (g : ℕ) (table : IsTable files) (e : En
           false-true e = cc
 
   -- open files that are left are those that were
-  pub fewer-kept : (f : ℕ) (x : OpenFile) → file_at (without_sharer g files) f ≡ Some x → file_at files f ≡ Some x
+  pub fewer-kept : (f : ℕ) (x : OpenFile) → open_file_at (without_sharer g files) f ≡ Some x → open_file_at files f ≡ Some x
   fewer-kept f x there = elim (cases_eq f g) [
     | inl same ↦ here same (once_less e) refl (sym (ap (option_map entry_file) (ap (entry_at (without_sharer g files)) same ∙ fewer-here)) ∙ there)
     | inr ne ↦ sym (ap (option_map entry_file) (fewer-other f ne)) ∙ there
   ]
     where
-      here : f ≡ g → (o : Option Entry) → once_less e ≡ o → option_map entry_file o ≡ Some x → file_at files f ≡ Some x
+      here : f ≡ g → (o : Option Entry) → once_less e ≡ o → option_map entry_file o ≡ Some x → open_file_at files f ≡ Some x
       here same None at never = absurd (none-some x never)
       here same (Some y) at seen =
           let file : y.file ≡ x = cc in

@@ -22,8 +22,8 @@ use Rattle.kcall_core.specs.Words.{CLOCK_ROUND, c_int, minus_one, with_value}
 use Rattle.kcall_core.specs.Buffers.{readable, writable, text_at, texts_at, no_slashes, grown, shrunk}
 use Rattle.kcall_core.specs.PipeEnds.{there, fit, must_wait}
 use Rattle.kcall_core.specs.Programs.{program_bytes, program_named}
-use Rattle.kcall_core.specs.Processes.{Live, status_of}
-use Rattle.kcall_core.specs.View.{View, Table, Descriptor, numbered, Shown, Shown_terminal, Shown_file, Shown_pipe, view_of, named, rename, rename_shown, pipe_name, shown_pipe_name}
+use Rattle.kcall_core.specs.Processes.{Live, child_status}
+use Rattle.kcall_core.specs.View.{View, Descriptors, Descriptor, numbered, Shown, Shown_terminal, Shown_file, Shown_pipe, view_of, named, rename, rename_shown, pipe_name, shown_pipe_name}
 use Rattle.kcall_core.specs.Own.{Own, Exited, Faulted}
 use Rattle.kcall_core.specs.Tables.{lowest_free, lowest_free_above, with_descriptor, without_descriptor, with_copy, change_pipes, changed, change_pipe, advance, advanced, one_more_on, one_less_on, pipes_given_up}
 use Rattle.kcall_core.specs.Calls.{Row, Fork, Exit, Wait, Pipe_row, Read, Kill, Exec, Dup, Getpid, Sbrk, Sleep, Uptime, Open, Write, Close, row_of, answered, gone, done, refused, waits, least_zombie, has_child}
@@ -40,7 +40,7 @@ abbrev Fine : View → Own → Type 0
 Fine v o = ((n : View) → o.next ≡ Some n → (x : Pipe) → IsNewPipe v n x → x.bytes ≡ []) × ((c : View) → o.child ≡ Some c → c.image ≡ v.image)
 
 -- no descriptor is in use in u that wasn't in v
-abbrev NoMore : Table → Table → Type 0
+abbrev NoMore : Descriptors → Descriptors → Type 0
 NoMore t u = (d : ℕ) → t d ≡ None → u d ≡ None
 
 some_view : (a b : View) → Some a ≡ Some b → a ≡ b
@@ -72,7 +72,7 @@ fine_gone v o next none = (λ n e x new. let no : ⊥ = cc in absurd no, λ c is
 
 -- ---- changes of a table that use no descriptor more
 
-named_none : (t : Table) (d : ℕ) → t d ≡ None → named t d ≡ None
+named_none : (t : Descriptors) (d : ℕ) → t d ≡ None → named t d ≡ None
 unfolding named
 named_none t d e = by (nat_lt d NOFILE)
   where
@@ -80,23 +80,23 @@ named_none t d e = by (nat_lt d NOFILE)
     by true = ap (option_map (rename t)) e
     by false = refl
 
-changed_more : (f : ℕ → Pipe → Pipe) (t : Table) → NoMore t (change_pipes f t)
+changed_more : (f : ℕ → Pipe → Pipe) (t : Descriptors) → NoMore t (change_pipes f t)
 changed_more f t d e = ap (changed f) e
 
-advanced_more : (file n : ℕ) (t : Table) → NoMore t (advance file n t)
+advanced_more : (file n : ℕ) (t : Descriptors) → NoMore t (advance file n t)
 advanced_more file n t d e = ap (advanced file n) e
 
-one_more : (x : Shown) (t : Table) → NoMore t (one_more_on x t)
+one_more : (x : Shown) (t : Descriptors) → NoMore t (one_more_on x t)
 one_more Shown_terminal t d e = e
 one_more (Shown_file program offset) t d e = e
 one_more (Shown_pipe name end pipe) t d e = ap (changed _) e
 
-one_less : (x : Shown) (t : Table) → NoMore t (one_less_on x t)
+one_less : (x : Shown) (t : Descriptors) → NoMore t (one_less_on x t)
 one_less Shown_terminal t d e = e
 one_less (Shown_file program offset) t d e = e
 one_less (Shown_pipe name end pipe) t d e = ap (changed _) e
 
-without_more : (k : ℕ) (t : Table) → NoMore t (without_descriptor k t)
+without_more : (k : ℕ) (t : Descriptors) → NoMore t (without_descriptor k t)
 without_more k t d e = named_none (with_value t k None) d (by (nat_eq d k))
   where
     by : (b : Bool) → cond b None (t d) ≡ None
@@ -124,7 +124,7 @@ pipe_of_shown y Shown_terminal = y
 pipe_of_shown y (Shown_file program offset) = y
 pipe_of_shown y (Shown_pipe name end pipe) = pipe
 
-renamed_empty : (t : Table) (o : Option Descriptor) → EmptyPipe o → EmptyPipe (option_map (rename t) o)
+renamed_empty : (t : Descriptors) (o : Option Descriptor) → EmptyPipe o → EmptyPipe (option_map (rename t) o)
 renamed_empty t None h = none_empty None refl
 renamed_empty t (Some d) h = by d.shown (λ name end x is. h name end x is)
   where
@@ -138,7 +138,7 @@ renamed_empty t (Some d) h = by d.shown (λ name end x is. h name end x is)
         let same : y ≡ x = ap (pipe_of_shown y) (inside (rename_shown t (Shown_pipe m f y)) (Shown_pipe name end x) is) in
         ap (λ (z : Pipe). z.bytes) (sym same) ∙ g m f y refl
 
-named_empty : (t : Table) (d : ℕ) → EmptyPipe (t d) → EmptyPipe (named t d)
+named_empty : (t : Descriptors) (d : ℕ) → EmptyPipe (t d) → EmptyPipe (named t d)
 unfolding named
 named_empty t d h = by (nat_lt d NOFILE)
   where
@@ -146,7 +146,7 @@ named_empty t d h = by (nat_lt d NOFILE)
     by true = renamed_empty t (t d) h
     by false = none_empty None refl
 
-value_empty : (t : Table) (k : ℕ) (o : Option Descriptor) (d : ℕ) → EmptyPipe o → EmptyPipe (t d) → EmptyPipe (with_value t k o d)
+value_empty : (t : Descriptors) (k : ℕ) (o : Option Descriptor) (d : ℕ) → EmptyPipe o → EmptyPipe (t d) → EmptyPipe (with_value t k o d)
 value_empty t k o d h g = by (nat_eq d k)
   where
     by : (b : Bool) → EmptyPipe (cond b o (t d))
@@ -194,7 +194,7 @@ module _ (c : Call) (v : View) where
   told_row false value u w h g = fine_done value w g
 
   reaped_row : (o : Option ℕ) → Fine v (reaped c v o)
-  reaped_row (Some q) = told_row (nat_eq c.a0 0) (pos q) (without_child q v) (record (without_child q v) { image = write_image v.image c.a0 (le_bytes 4 (cast_unsigned w32 (status_of (v.children q)))) }) (λ d e. e) (λ d e. e)
+  reaped_row (Some q) = told_row (nat_eq c.a0 0) (pos q) (without_child q v) (record (without_child q v) { image = write_image v.image c.a0 (le_bytes 4 (cast_unsigned w32 (child_status (v.children q)))) }) (λ d e. e) (λ d e. e)
   reaped_row None = either (has_child v) (waits c 0 v) (refused c v) (fine_waits 0 v (λ d e. e)) refusal
 
   read_from_row : (n file : ℕ) (x : Shown) → Fine v (read_from c v n file x)
@@ -330,7 +330,7 @@ module _ (c : Call) (v : View) where
       write_end : Descriptor
       write_end = record { file = w; read = false; write = true; shown = Shown_pipe r Writing new_pipe }
 
-      one : Table
+      one : Descriptors
       one = with_descriptor r read_end v.descriptors
 
   piped_from_row : (o : Option ℕ) → Fine v (piped_from c v o)
@@ -343,10 +343,10 @@ module _ (c : Call) (v : View) where
     dup_to j x is None free = refusal
     dup_to j x is (Some k) free = (λ n e y new. absurd (by n e y new), λ child e. no_child (dup_at c v j x (Some k)) v child refl e)
       where
-        u : Table
+        u : Descriptors
         u = one_more_on x.shown v.descriptors
 
-        t : Table
+        t : Descriptors
         t = with_value u k (u j)
 
         after : View
@@ -440,7 +440,7 @@ module _ (v : View) (low : (d : ℕ) → IsSome (v.descriptors d) → d < NOFILE
   own_fine = unless_fine v.killed
 
 -- a view's descriptors are below NOFILE
-named_low : (t : Table) (d : ℕ) → IsSome (named t d) → d < NOFILE
+named_low : (t : Descriptors) (d : ℕ) → IsSome (named t d) → d < NOFILE
 unfolding named
 named_low t d there = by (nat_lt d NOFILE) refl there
   where

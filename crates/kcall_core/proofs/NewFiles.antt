@@ -17,7 +17,7 @@ use Rattle.file_table.specs.declared.open_file.Target.TheVariants.{Console as Te
 use Rattle.kcall_core.specs.Processes.{Alive, Live}
 use Rattle.proc_table.specs.declared.process.Call.{Call}
 use Rattle.kcall_core.specs.State.{State, live_part}
-use Rattle.kcall_core.specs.View.{Table, Descriptor, Shown_pipe, named, numbered, descriptor_at, descriptor_on, show, or_gone, view_of, file_name, pipe_name, shown_pipe_name}
+use Rattle.kcall_core.specs.View.{Descriptors, Descriptor, Shown_pipe, named, numbered, descriptor_at, descriptor_on, show, or_gone, view_of, file_name, pipe_name, shown_pipe_name}
 use Rattle.kcall_core.specs.Own.{Own, Called, goes_on}
 use Rattle.kcall_core.specs.Tables.{with_descriptor}
 use Rattle.kcall_core.specs.Calls.{with_a0}
@@ -185,7 +185,7 @@ module _ (s : State) (p : ℕ) (old : Live) (was : get s.processes p ≡ Some (A
       of_open None = refl
       of_open (Some x) = of_target x.target
 
-  abbrev shown_table : Table
+  abbrev shown_table : Descriptors
   shown_table = with_descriptor w (record { file = w; read = false; write = true; shown = Shown_pipe r Writing new_pipe }) (with_descriptor r (record { file = r; read = true; write = false; shown = Shown_pipe r Reading new_pipe }) (named (numbered s old)))
 
   pipe_table : shown_table ≡ named (numbered after_pipe piper)

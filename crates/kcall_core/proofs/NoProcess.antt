@@ -9,7 +9,7 @@ use Rattle.hart_core.specs.Translations.{nothing_kept}
 use Rattle.hart_core.specs.declared.hart.Hart.{Hart}
 use Rattle.console_core.specs.Lists.{empty_console}
 use Rattle.file_table.specs.Named.{none_named}
-use Rattle.file_table.specs.OpenFiles.{none_open, file_at, entry_file}
+use Rattle.file_table.specs.OpenFiles.{none_open, open_file_at, entry_file}
 use Rattle.file_table.specs.declared.open_file.Entry.{Entry}
 use Rattle.proc_table.specs.Slots.{Slots, place_at, no_process, IsTable}
 use Rattle.proc_table.specs.declared.process.Process.{Process}
@@ -40,7 +40,7 @@ unfolding gathered
 none-gathered f zero none = refl
 none-gathered f (suc n) none = ap (insert_some (gathered f n) n) (none n) ∙ none-gathered f n none
 
-no-file : (i : ℕ) → file_at none_open i ≡ None
+no-file : (i : ℕ) → open_file_at none_open i ≡ None
 no-file i = under (get_or none_open i None) (get_or-same None OPEN_FILES i)
   where
     under : (o : Option Entry) → o ≡ None → option_map entry_file o ≡ None
@@ -67,7 +67,7 @@ module _ (k : Kernel) (h : Hart) (table : k.table ≡ no_process 1) where
   unfolding state_of
   no-process-state frames files pipes free =
       let processes : by_pid (entry_at k h) NPROC ≡ empty = none-by-pid (entry_at k h) NPROC (λ i. ap (entry_of k h i) (vacant i)) in
-      let opened : gathered (file_at k.files) OPEN_FILES ≡ empty = ap (λ fs. gathered (file_at fs) OPEN_FILES) files ∙ none-gathered (file_at none_open) OPEN_FILES no-file in
+      let opened : gathered (open_file_at k.files) OPEN_FILES ≡ empty = ap (λ fs. gathered (open_file_at fs) OPEN_FILES) files ∙ none-gathered (open_file_at none_open) OPEN_FILES no-file in
       λ t. record {
         processes = processes t;
         files = opened t;
@@ -82,7 +82,7 @@ module _ (k : Kernel) (h : Hart) (table : k.table ≡ no_process 1) where
   pub new-state : (frames : ℕ) → k.files ≡ none_open → k.console ≡ empty_console → k.clock ≡ 0 → pipes_of k.memories ≡ empty → free_of k.memories ≡ frames → state_of k h ≡ empty_state frames (map named_file k.programs.items)
   new-state frames files console clock pipes free = no-process-state frames files pipes free ∙ (λ t. record (empty_state frames (map named_file k.programs.items)) { console = console t; clock = clock t })
 
-  pub new-sound : k.current ≡ None → memories.IsSound k.memories → each_of k.memories ≡ replicate NPROC None → h.root ≡ None → h.cache ≡ nothing_kept → IsSound k h
+  pub new-sound : k.current ≡ None → memories.AreSound k.memories → each_of k.memories ≡ replicate NPROC None → h.root ≡ None → h.cache ≡ nothing_kept → IsSound k h
   new-sound stopped sound each root cache =
       let none : (i : ℕ) → get_or (each_of k.memories) i None ≡ None = λ i. ap (λ l. get_or l i None) each ∙ get_or-same None NPROC i in
       record {

@@ -9,7 +9,7 @@ use Rattle.xk_base.specs.Words.{count_below}
 use Rattle.hart_core.specs.declared.hart.Hart.{Hart}
 use Rattle.pipe_core.specs.Pipe.{Pipe}
 use Rattle.file_table.specs.Named.{named_by, with_named}
-use Rattle.file_table.specs.OpenFiles.{IsTable, IsOpen, file_at, entry_at, without_sharer}
+use Rattle.file_table.specs.OpenFiles.{IsTable, IsOpen, open_file_at, entry_at, without_sharer}
 use Rattle.file_table.specs.declared.open_file.Entry.{Entry}
 use Rattle.file_table.specs.declared.open_file.End.{End}
 use Rattle.file_table.specs.declared.open_file.End.TheVariants.{Reading, Writing}
@@ -67,7 +67,7 @@ module _ {k : Kernel} {h : Hart} {slot d g : ℕ} (closing : IsClosing k h) (is 
       ∙ ap (λ n. named_by (descriptors_at k.table n) d) (sym slot-is)
       ∙ used
 
-  module _ {x : OpenFile} (kind : file_at k.files g ≡ Some x) where
+  module _ {x : OpenFile} (kind : open_file_at k.files g ≡ Some x) where
     pub opened-seen : get (state_of k h).files g ≡ Some x
     opened-seen = file-seen k h g (file-inside k.files g x closing.files kind) ∙ kind
 
@@ -105,7 +105,7 @@ module _ {k : Kernel} {h : Hart} {slot d g : ℕ} (closing : IsClosing k h) (is 
 
 -- ---- what is left
 
-module _ {k : Kernel} (k' : Kernel) {h : Hart} {slot d g : ℕ} {x : OpenFile} (closing : IsClosing k h) (is : k.current ≡ Some slot) (below : d < 16) (used : named_by (descriptors_at k.table slot) d ≡ Some g) (kind : file_at k.files g ≡ Some x)
+module _ {k : Kernel} (k' : Kernel) {h : Hart} {slot d g : ℕ} {x : OpenFile} (closing : IsClosing k h) (is : k.current ≡ Some slot) (below : d < 16) (used : named_by (descriptors_at k.table slot) d ≡ Some g) (kind : open_file_at k.files g ≡ Some x)
     (files : k'.files ≡ without_sharer g k.files) (current : k'.current ≡ k.current) (shares : Shares k.memories k'.memories) (frames : length k'.memories.ram ≡ length k.memories.ram)
     (table : k'.table ≡ each_changed (woken_by (closes_wake (state_of k h).pipes (state_of k' h).pipes)) (record k.table { descriptors = set k.table.descriptors slot (with_named d None (descriptors_at k.table slot)) }))
     (console : k'.console ≡ k.console) (programs : k'.programs.items ≡ k.programs.items) (clock : k'.clock ≡ k.clock)
@@ -147,8 +147,8 @@ module _ {k : Kernel} (k' : Kernel) {h : Hart} {slot d g : ℕ} {x : OpenFile} (
       (λ j. ap place_is_live (place-after j) ∙ live-woken (closes_wake (state_of k h).pipes (state_of k' h).pipes) (place_at k.table j))
       (live-place k slot now.process now.is now.live))
 
-  kept-after : (file : ℕ) (y : OpenFile) → file_at k'.files file ≡ Some y → file_at k.files file ≡ Some y
-  kept-after file y there = fewer-kept k.files g closing.files entry.0 entry.1 file y (sym (ap (λ fs. file_at fs file) files) ∙ there)
+  kept-after : (file : ℕ) (y : OpenFile) → open_file_at k'.files file ≡ Some y → open_file_at k.files file ≡ Some y
+  kept-after file y there = fewer-kept k.files g closing.files entry.0 entry.1 file y (sym (ap (λ fs. open_file_at fs file) files) ∙ there)
 
   table-after : IsTable k'.files
   table-after = subst IsTable (sym files) (fewer-table k.files g closing.files entry.0 entry.1)
@@ -195,7 +195,7 @@ no-fewer Terminal m none = (refl, refl)
 no-fewer (File program offset) m none = (refl, refl)
 no-fewer (Pipe_end i end) m none = absurd (none-some i (sym none))
 
-module _ {k : Kernel} (k' : Kernel) {h : Hart} {slot d g : ℕ} {x : OpenFile} (closing : IsClosing k h) (is : k.current ≡ Some slot) (below : d < 16) (used : named_by (descriptors_at k.table slot) d ≡ Some g) (kind : file_at k.files g ≡ Some x) (files : k'.files ≡ without_sharer g k.files) where
+module _ {k : Kernel} (k' : Kernel) {h : Hart} {slot d g : ℕ} {x : OpenFile} (closing : IsClosing k h) (is : k.current ≡ Some slot) (below : d < 16) (used : named_by (descriptors_at k.table slot) d ≡ Some g) (kind : open_file_at k.files g ≡ Some x) (files : k'.files ≡ without_sharer g k.files) where
   pub plain-closed : (none : pipe_of_target x.target ≡ None) → k'.table ≡ record k.table { descriptors = set k.table.descriptors slot (with_named d None (descriptors_at k.table slot)) } → k' ≡ record k { table = k'.table; files = k'.files } → Closes k h d k'
   unfolding state_of
   plain-closed none table rest =

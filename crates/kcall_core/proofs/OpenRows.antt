@@ -15,7 +15,7 @@ use Rattle.kcall_core.specs.Words.{c_int}
 use Rattle.kcall_core.specs.Buffers.{text_at, no_slashes}
 use Rattle.kcall_core.specs.Programs.{console_name}
 use Rattle.kcall_core.specs.State.{ProgramFile, State, named_file}
-use Rattle.kcall_core.specs.View.{View, Shown_file, Table, view_of, numbered, rename, rename_shown, show, descriptor_at, descriptor_on}
+use Rattle.kcall_core.specs.View.{View, Shown_file, Descriptors, view_of, numbered, rename, rename_shown, show, descriptor_at, descriptor_on}
 use Rattle.kcall_core.specs.Own.{Own}
 use Rattle.kcall_core.specs.Tables.{lowest_free}
 use Rattle.kcall_core.specs.Calls.{refused}
@@ -110,7 +110,7 @@ module _ (c : Call) (v : View) where
 
 -- ---- read and write: the terminal
 
-shown-target : (s : State) (t : Table) (x : Target) → shows_terminal (rename_shown t (show s x)) ≡ is_terminal x
+shown-target : (s : State) (t : Descriptors) (x : Target) → shows_terminal (rename_shown t (show s x)) ≡ is_terminal x
 shown-target s t Terminal = refl
 shown-target s t (File program offset) = refl
 shown-target s t (Pipe_end i end) = refl

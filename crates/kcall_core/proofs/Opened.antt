@@ -12,7 +12,7 @@ use Rattle.sv39_core.proofs.Words.{ltb-yes}
 use Rattle.hart_core.specs.declared.hart.Hart.{Hart}
 use Rattle.file_table.specs.Named.{named_by, with_named}
 use Rattle.file_table.specs.OpenFiles as files
-use Rattle.file_table.specs.OpenFiles.{entry_at, entry_file, entry_count, file_at, count_at, with_opened}
+use Rattle.file_table.specs.OpenFiles.{entry_at, entry_file, entry_count, open_file_at, count_at, with_opened}
 use Rattle.file_table.specs.declared.open_file.Entry.{Entry}
 use Rattle.file_table.specs.declared.open_file.OpenFile.{OpenFile}
 use Rattle.proc_table.specs.Slots.{Slots, place_at, place_is_live, descriptors_at}
@@ -126,17 +126,17 @@ opened-counted xs t t' slot d g y counted empty within inside below room free af
     false-true e = cc
 
 -- the open files of a state, with a new one
-pub opened-files : (xs : List (Option Entry)) (g : ℕ) (y : OpenFile) → entry_at xs g ≡ None → g < length xs → length xs ≡ OPEN_FILES → gathered (file_at (with_opened g y xs)) OPEN_FILES ≡ insert (gathered (file_at xs) OPEN_FILES) g y
-opened-files xs g y empty within places = same_pages (gathered (file_at (with_opened g y xs)) OPEN_FILES) (insert (gathered (file_at xs) OPEN_FILES) g y) (λ e. elim (eqb_tells e g) [
+pub opened-files : (xs : List (Option Entry)) (g : ℕ) (y : OpenFile) → entry_at xs g ≡ None → g < length xs → length xs ≡ OPEN_FILES → gathered (open_file_at (with_opened g y xs)) OPEN_FILES ≡ insert (gathered (open_file_at xs) OPEN_FILES) g y
+opened-files xs g y empty within places = same_pages (gathered (open_file_at (with_opened g y xs)) OPEN_FILES) (insert (gathered (open_file_at xs) OPEN_FILES) g y) (λ e. elim (eqb_tells e g) [
   | inl same ↦
-      gathered-get (file_at (with_opened g y xs)) OPEN_FILES e
-      ∙ ap (λ o. cond (ltb e OPEN_FILES) o None) (ap (file_at (with_opened g y xs)) same.1 ∙ ap (option_map entry_file) (new-here xs g y empty within))
+      gathered-get (open_file_at (with_opened g y xs)) OPEN_FILES e
+      ∙ ap (λ o. cond (ltb e OPEN_FILES) o None) (ap (open_file_at (with_opened g y xs)) same.1 ∙ ap (option_map entry_file) (new-here xs g y empty within))
       ∙ ap (λ b. cond b (Some y) None) (ap (λ z. ltb z OPEN_FILES) same.1 ∙ ltb-yes g OPEN_FILES (omega (arith, within, places)))
-      ∙ sym (get_at (gathered (file_at xs) OPEN_FILES) g y e ∙ ap (λ b. cond b (Some y) (get (gathered (file_at xs) OPEN_FILES) e)) same.0)
+      ∙ sym (get_at (gathered (open_file_at xs) OPEN_FILES) g y e ∙ ap (λ b. cond b (Some y) (get (gathered (open_file_at xs) OPEN_FILES) e)) same.0)
   | inr other ↦
-      gathered-get (file_at (with_opened g y xs)) OPEN_FILES e
+      gathered-get (open_file_at (with_opened g y xs)) OPEN_FILES e
       ∙ ap (λ o. cond (ltb e OPEN_FILES) o None) (ap (option_map entry_file) (new-other xs g y empty within e other.1))
-      ∙ sym (get_at (gathered (file_at xs) OPEN_FILES) g y e ∙ ap (λ b. cond b (Some y) (get (gathered (file_at xs) OPEN_FILES) e)) other.0 ∙ gathered-get (file_at xs) OPEN_FILES e)
+      ∙ sym (get_at (gathered (open_file_at xs) OPEN_FILES) g y e ∙ ap (λ b. cond b (Some y) (get (gathered (open_file_at xs) OPEN_FILES) e)) other.0 ∙ gathered-get (open_file_at xs) OPEN_FILES e)
 ])
 
 -- a free descriptor of the process that runs names nothing in the state
@@ -199,7 +199,7 @@ module _ (k : Kernel) (h : Hart) (slot d g : ℕ) (y : OpenFile) (whole : IsWhol
 
     files-now : (state_of k1 h).files ≡ insert s.files g y
     unfolding state_of
-    files-now = ap (λ fs. gathered (file_at fs) OPEN_FILES) kept ∙ opened-files k.files g y empty inside-files whole.files.places
+    files-now = ap (λ fs. gathered (open_file_at fs) OPEN_FILES) kept ∙ opened-files k.files g y empty inside-files whole.files.places
 
     state1 : state_of k1 h ≡ filed_state p (update.with_named d g l) g y s
     unfolding state_of

@@ -8,7 +8,7 @@ use Rattle.kcall_core.specs.Words.{with_value, is_this}
 use Rattle.xk_base.specs.Words.{least_below}
 use Rattle.pipe_core.specs.Pipe.{Pipe}
 use Rattle.file_table.specs.declared.open_file.End.TheVariants.{Reading, Writing}
-use Rattle.kcall_core.specs.View.{Table, Descriptor, Shown, Shown_terminal, Shown_file, Shown_pipe, named, file_name, pipe_name, shown_pipe_name, or_else}
+use Rattle.kcall_core.specs.View.{Descriptors, Descriptor, Shown, Shown_terminal, Shown_file, Shown_pipe, named, file_name, pipe_name, shown_pipe_name, or_else}
 use Rattle.kcall_core.specs.Tables.{with_descriptor}
 use Rattle.kcall_core.specs.Quiet.{is_same}
 use Rattle.kcall_core.proofs.Least.{least_passes, none_passes}
@@ -25,7 +25,7 @@ never_same n None h = refl
 never_same n (Some k) h = elim (eqb_tells n k) [ inl e ↦ absurd (h (ap Some (sym e.1))) | inr e ↦ e.0 ]
 
 -- a place that isn't in use is nobody's name
-module _ (name : Option Descriptor → Option ℕ) (none : name None ≡ None) (t : Table) (k : ℕ) (free : t k ≡ None) where
+module _ (name : Option Descriptor → Option ℕ) (none : name None ≡ None) (t : Descriptors) (k : ℕ) (free : t k ≡ None) where
   not_chosen : (e : ℕ) → e < NOFILE → (o : Option ℕ) → name (t e) ≡ o → option_map (choice (λ c. name (t c))) o ≢ Some k
   not_chosen e below None is h = let no : ⊥ = cc in no
   not_chosen e below (Some m) is h =
@@ -38,15 +38,15 @@ module _ (name : Option Descriptor → Option ℕ) (none : name None ≡ None) (
       some_is : (a b : ℕ) → Some a ≡ Some b → a ≡ b
       some_is a b e = cc
 
-pub file_not_chosen : (t : Table) (k : ℕ) → t k ≡ None → (e : ℕ) → e < NOFILE → file_name (named t e) ≢ Some k
+pub file_not_chosen : (t : Descriptors) (k : ℕ) → t k ≡ None → (e : ℕ) → e < NOFILE → file_name (named t e) ≢ Some k
 file_not_chosen t k free e below h = not_chosen file_name refl t k free e below (file_name (t e)) refl (sym (ap file_name (named_at t e below) ∙ file_renamed t (t e)) ∙ h)
 
-pub pipe_not_chosen : (t : Table) (k : ℕ) → t k ≡ None → (e : ℕ) → e < NOFILE → pipe_name (named t e) ≢ Some k
+pub pipe_not_chosen : (t : Descriptors) (k : ℕ) → t k ≡ None → (e : ℕ) → e < NOFILE → pipe_name (named t e) ≢ Some k
 pipe_not_chosen t k free e below h = not_chosen pipe_name refl t k free e below (pipe_name (t e)) refl (sym (ap pipe_name (named_at t e below) ∙ pipe_renamed t (t e)) ∙ h)
 
 -- ---- a descriptor more, on an open file that nobody names
 
-module _ (t : Table) (k g : ℕ) (free : t k ≡ None) (fresh : (e : ℕ) → e < NOFILE → file_name (t e) ≢ Some g) (read write : Bool) (x y : Shown)
+module _ (t : Descriptors) (k g : ℕ) (free : t k ≡ None) (fresh : (e : ℕ) → e < NOFILE → file_name (t e) ≢ Some g) (read write : Bool) (x y : Shown)
     (shape : ◌≡◌ {A = Option Descriptor} (bare (Some (record { file = k; read = read; write = write; shown = x }))) (bare (Some (record { file = g; read = read; write = write; shown = y }))))
     (self : is_same (shown_pipe_name x) (shown_pipe_name x) ≡ is_same (shown_pipe_name y) (shown_pipe_name y))
     (pipes_left : (e : ℕ) → e < NOFILE → is_same (shown_pipe_name x) (pipe_name (named t e)) ≡ is_same (shown_pipe_name y) (pipe_name (t e)))
@@ -85,7 +85,7 @@ same_none : (o : Option ℕ) → is_same o None ≡ false
 same_none None = refl
 same_none (Some n) = refl
 
-pub named_new_alone : (t : Table) (k g : ℕ) → t k ≡ None → ((e : ℕ) → e < NOFILE → file_name (t e) ≢ Some g) → (read write : Bool) (x : Shown) → shown_pipe_name x ≡ None
+pub named_new_alone : (t : Descriptors) (k g : ℕ) → t k ≡ None → ((e : ℕ) → e < NOFILE → file_name (t e) ≢ Some g) → (read write : Bool) (x : Shown) → shown_pipe_name x ≡ None
     → with_descriptor k (record { file = k; read = read; write = write; shown = x }) (named t) ≡ named (with_value t k (Some (record { file = g; read = read; write = write; shown = x })))
 named_new_alone t k g free fresh read write Shown_terminal on = named_new t k g free fresh read write Shown_terminal Shown_terminal refl refl (λ e b. refl) (λ e b. same_none (pipe_name (named t e)) ∙ sym (same_none (pipe_name (t e))))
 named_new_alone t k g free fresh read write (Shown_file program n) on = named_new t k g free fresh read write (Shown_file program n) (Shown_file program n) refl refl (λ e b. refl) (λ e b. same_none (pipe_name (named t e)) ∙ sym (same_none (pipe_name (t e))))
@@ -93,10 +93,10 @@ named_new_alone t k g free fresh read write (Shown_pipe n end pipe) on = let no 
 
 -- ---- two descriptors more, on the ends of a pipe that nobody names
 
-module _ (t : Table) (r w g h i : ℕ) (below_r : r < NOFILE) (below_w : w < NOFILE) (apart : r ≢ w) (apart_files : g ≢ h) (free_r : t r ≡ None) (free_w : t w ≡ None)
+module _ (t : Descriptors) (r w g h i : ℕ) (below_r : r < NOFILE) (below_w : w < NOFILE) (apart : r ≢ w) (apart_files : g ≢ h) (free_r : t r ≡ None) (free_w : t w ≡ None)
     (fresh_g : (e : ℕ) → e < NOFILE → file_name (t e) ≢ Some g) (fresh_h : (e : ℕ) → e < NOFILE → file_name (t e) ≢ Some h) (fresh_i : (e : ℕ) → e < NOFILE → pipe_name (t e) ≢ Some i)
     (x : Pipe) where
-  abbrev pub first : Table
+  abbrev pub first : Descriptors
   first = with_value t r (Some (record { file = g; read = true; write = false; shown = Shown_pipe i Reading x }))
 
   named_first : with_descriptor r (record { file = r; read = true; write = false; shown = Shown_pipe r Reading x }) (named t) ≡ named first

@@ -24,7 +24,7 @@ use Rattle.kcall_core.specs.Own.{Own, Answer, Stepped, Called, Exited, gone_with
 use Rattle.kcall_core.specs.Tables.{lowest_free, lowest_free_above, advance, change_pipe, with_copy, one_more_on, one_less_on, without_descriptor, with_descriptor, pipes_given_up}
 use Rattle.kcall_core.specs.Calls.{Row, Fork, Exit, Wait, Pipe_row, Read, Kill, Exec, Dup, Getpid, Sbrk, Sleep, Uptime, Open, Write, Close, row_of, perform, answered, gone, done, refused, waits, least_zombie, has_child}
 use Rattle.kcall_core.specs.Step.{own, unless_killed, going_on, after_instruction, call_begun, call_or_begun, begun, stored}
-use Rattle.kcall_core.specs.Processes.{status_of}
+use Rattle.kcall_core.specs.Processes.{child_status}
 use Rattle.kcall_core.specs.Ready.{in_use}
 use Rattle.kcall_core.proofs.RowParts.{perform_row, unless, unless_nothing, moving, length_of_int, reaped, without_child, piped, piped_from, with_pipe, read_on, read_from, write_on, write_to, done_at, next_bytes, kill_pid, killed_by, exec_program, exec_path, dup_at, dup_on, dup_number, close_on, close_number, sbrk_by, shrink_to, exec_loaded, running, sleep_for, open_at, open_path, opened_as, kind_named, forked, cannot_fork, room_to_send, perform_parts, fork_parts}
 use Rattle.kcall_core.proofs.RowsByParts.{perform_same}
@@ -182,7 +182,7 @@ module _ (c : Call) (v : View) where
   -- the rows that may wait
   module _ (row : may_wait (row_of c.number) ≡ true) where
     reaped_row : (o : Option ℕ) → Comes c v (reaped c v o)
-    reaped_row (Some q) = told_row (nat_eq c.a0 0) q (without_child q v) (record (without_child q v) { image = write_image v.image c.a0 (le_bytes 4 (cast_unsigned w32 (status_of (v.children q)))) }) refl refl
+    reaped_row (Some q) = told_row (nat_eq c.a0 0) q (without_child q v) (record (without_child q v) { image = write_image v.image c.a0 (le_bytes 4 (cast_unsigned w32 (child_status (v.children q)))) }) refl refl
     reaped_row None = whichever (has_child v) (waits c 0 v) (refused c v) (does_wait row 0 v refl) refusal
 
     read_from_row : (n file : ℕ) (x : Shown) → Comes c v (read_from c v n file x)

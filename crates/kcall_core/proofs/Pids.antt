@@ -28,7 +28,7 @@ use Rattle.kcall_core.specs.Tables.{lowest_free, lowest_free_above, advance, cha
 use Rattle.kcall_core.specs.Calls.{Row, Fork, Exit, Wait, Pipe_row, Read, Kill, Exec, Dup, Getpid, Sbrk, Sleep, Uptime, Open, Write, Close, row_of, answered, gone, done, refused, waits, least_zombie, has_child}
 use Rattle.kcall_core.specs.Step.{own, unless_killed, going_on, after_instruction, call_begun, begun, stored}
 use Rattle.kcall_core.specs.Run.{IsNewbornOf}
-use Rattle.kcall_core.specs.Processes.{status_of}
+use Rattle.kcall_core.specs.Processes.{child_status}
 use Rattle.kcall_core.specs.Ready.{in_use}
 use Rattle.kcall_core.proofs.RowParts.{perform_parts, perform_row, unless, unless_nothing, moving, length_of_int, reaped, without_child, piped, piped_from, with_pipe, read_on, read_from, write_on, write_to, done_at, next_bytes, kill_pid, killed_by, exec_program, exec_path, dup_at, dup_on, dup_number, close_at, close_on, close_number, sbrk_by, shrink_to, exec_loaded, running, sleep_for, open_at, open_path, opened_as, kind_named, fork_parts, forked, cannot_fork, room_to_send}
 use Rattle.kcall_core.proofs.RowsByParts.{perform_same}
@@ -100,7 +100,7 @@ module _ (c : Call) (v : View) where
   told_row false r image = record { left = λ _. refl; pids = λ q h. inl (has_fewer q (λ p. not (nat_eq p r)) v.pids h) }
 
   reaped_row : (o : Option ℕ) → Sound v (reaped c v o)
-  reaped_row (Some q) = told_row (nat_eq c.a0 0) q (write_image v.image c.a0 (le_bytes 4 (cast_unsigned w32 (status_of (v.children q)))))
+  reaped_row (Some q) = told_row (nat_eq c.a0 0) q (write_image v.image c.a0 (le_bytes 4 (cast_unsigned w32 (child_status (v.children q)))))
   reaped_row None = whichever (has_child v) (waits c 0 v) (refused c v) (same_waits 0 v refl) refusal
 
   piped_row : (r : ℕ) (o : Option ℕ) → Sound v (piped c v r o)

@@ -10,7 +10,7 @@ use Rattle.pipe_core.specs.Pipe.{Pipe, IsPipe, Becomes, pipe_in}
 use Rattle.file_table.specs.declared.open_file.End.{End}
 use Rattle.kcall_core.specs.PipeEnds.{count_on, joined, parted, is_given_up}
 use Rattle.kcall_core.specs.Holdings.{or_new, pipe_named, pipe_cost, with_pipe}
-use Rattle.kcall_core.specs.Memories.{IsSound, pipes_of, PipeChanges}
+use Rattle.kcall_core.specs.Memories.{AreSound, pipes_of, PipeChanges}
 use Rattle.kcall_core.specs.declared.memories.Memories.{Memories}
 use Rattle.kcall_core.proofs.Maps.{get_same}
 use Rattle.kcall_core.proofs.PipeFrames.{pipe-keeps, pipe-named, pipe-becomes}
@@ -18,7 +18,7 @@ use Rattle.kcall_core.specs.Closings.{across, closes_wake, woken_by}
 use Rattle.kcall_core.proofs.PipeLeft.{remainder, with-twice, wakes-across, wakes-nobody}
 use Rattle.kcall_core.proofs.Woken.{each-woken, each-none}
 
-module _ (old : Memories) {f : ℕ} (small : f < FRAMES_MAX) (sound : IsSound old) (there : IsSome (get (pipes_of old) f)) where
+module _ (old : Memories) {f : ℕ} (small : f < FRAMES_MAX) (sound : AreSound old) (there : IsSome (get (pipes_of old) f)) where
   pub is-pipe : IsPipe old.ram f
   is-pipe = sound.keeps f (pipe-keeps old f small there)
 

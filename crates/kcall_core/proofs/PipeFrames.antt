@@ -20,7 +20,7 @@ use Rattle.sv39_core.proofs.Words.{ltb-yes}
 use Rattle.pipe_core.specs.Pipe.{Pipe, IsPipe, Becomes, pipe_in}
 use Rattle.kcall_core.specs.Words.{count_if}
 use Rattle.kcall_core.specs.Holdings.{pipe_cost, with_pipe, or_new, pipe_named}
-use Rattle.kcall_core.specs.Memories.{held_in, keeps_pipe, pipe_at, frames_of, joined, process_frames, IsAccounted, IsSound, each_of, pipes_of, free_of, PipeChanges}
+use Rattle.kcall_core.specs.Memories.{held_in, keeps_pipe, kept_pipe, slot_frames, all_joined, process_frames, IsAccounted, AreSound, each_of, pipes_of, free_of, PipeChanges}
 use Rattle.kcall_core.specs.declared.memories.Memory.{Memory}
 use Rattle.kcall_core.specs.declared.memories.Memories.{Memories}
 use Rattle.kcall_core.proofs.Lists.{map-same, set-read}
@@ -56,7 +56,7 @@ module _ {pool pool' : Pool} {ram ram' : List (List ℕ)} {ms : List (Option Mem
   listed : f < length ps
   listed = omega (arith, inside, sound.places)
 
-  slot-apart : (before : Bool) → keeps_pipe ps f ≡ before → (x i : ℕ) → 1 ≤ copies x (frames_of ram (get_or ms i None)) → copies x (free_in pool ram) + copies x (own_pipe before f) ≡ 0
+  slot-apart : (before : Bool) → keeps_pipe ps f ≡ before → (x i : ℕ) → 1 ≤ copies x (slot_frames ram (get_or ms i None)) → copies x (free_in pool ram) + copies x (own_pipe before f) ≡ 0
   slot-apart true e x i has = slot-pipe-apart sound x i f e has
   slot-apart false e x i has = omega (arith, slot-free sound x i, has, copies-nil x)
 
@@ -71,7 +71,7 @@ module _ {pool pool' : Pool} {ram ram' : List (List ℕ)} {ms : List (Option Mem
   others g ne e = pipe-stays-if pool pool' ram ram' (own_pipe (keeps_pipe ps f) f) (own_pipe b f) g traded (sound.keeps g e) (other-apart (keeps_pipe ps f) g e ne)
 
   same-frames : process_frames ram' ms ≡ process_frames ram ms
-  same-frames = ap joined (map-same (frames_of ram) (frames_of ram') ms None (λ j lt. (slots j).frames))
+  same-frames = ap all_joined (map-same (slot_frames ram) (slot_frames ram') ms None (λ j lt. (slots j).frames))
 
   flags : (x : ℕ) → count_if (keeps_pipe (set ps f b) x) + copies x (own_pipe (keeps_pipe ps f) f) ≡ count_if (keeps_pipe ps x) + copies x (own_pipe b f)
   flags x = elim (cases_eq x f) [
@@ -105,27 +105,27 @@ module _ {pool pool' : Pool} {ram ram' : List (List ℕ)} {ms : List (Option Mem
   after : Option Pipe
   after = cond b (Some (pipe_in ram' f)) None
 
-  other-seen : (v : ℕ) → v ≢ f → pipe_at ram' (set ps f b) v ≡ pipe_at ram ps v
+  other-seen : (v : ℕ) → v ≢ f → kept_pipe ram' (set ps f b) v ≡ kept_pipe ram ps v
   other-seen v ne =
       ap (λ k. cond k (Some (pipe_in ram' v)) None) (get_or-set_other ps f v b false ne) ∙ pipe-seen ram ram' v (keeps_pipe ps v) (λ e. (others v ne e).same)
 
-  pub piped-pipes : (n : ℕ) → f < n → gathered (pipe_at ram' (set ps f b)) n ≡ with_pipe f (cond b (Some (pipe_in ram' f)) None) (gathered (pipe_at ram ps) n)
-  piped-pipes n lt = same_pages (gathered (pipe_at ram' (set ps f b)) n) (with_pipe f (cond b (Some (pipe_in ram' f)) None) (gathered (pipe_at ram ps) n)) (λ v. elim (cases_eq v f) [
+  pub piped-pipes : (n : ℕ) → f < n → gathered (kept_pipe ram' (set ps f b)) n ≡ with_pipe f (cond b (Some (pipe_in ram' f)) None) (gathered (kept_pipe ram ps) n)
+  piped-pipes n lt = same_pages (gathered (kept_pipe ram' (set ps f b)) n) (with_pipe f (cond b (Some (pipe_in ram' f)) None) (gathered (kept_pipe ram ps) n)) (λ v. elim (cases_eq v f) [
     | inl e ↦
-        let here : pipe_at ram' (set ps f b) f ≡ cond b (Some (pipe_in ram' f)) None = ap (λ k. cond k (Some (pipe_in ram' f)) None) (get_or-set_same ps f b false listed) in
-        gathered-get (pipe_at ram' (set ps f b)) n v ∙ ap (λ k. cond k (pipe_at ram' (set ps f b) v) None) (ltb-yes v n (omega (arith, lt, e))) ∙ ap (pipe_at ram' (set ps f b)) e ∙ here
-        ∙ sym (get-with (gathered (pipe_at ram ps) n) f (cond b (Some (pipe_in ram' f)) None) v ∙ ap (λ k. cond k (cond b (Some (pipe_in ram' f)) None) (get (gathered (pipe_at ram ps) n) v)) (tie-yes v f e))
+        let here : kept_pipe ram' (set ps f b) f ≡ cond b (Some (pipe_in ram' f)) None = ap (λ k. cond k (Some (pipe_in ram' f)) None) (get_or-set_same ps f b false listed) in
+        gathered-get (kept_pipe ram' (set ps f b)) n v ∙ ap (λ k. cond k (kept_pipe ram' (set ps f b) v) None) (ltb-yes v n (omega (arith, lt, e))) ∙ ap (kept_pipe ram' (set ps f b)) e ∙ here
+        ∙ sym (get-with (gathered (kept_pipe ram ps) n) f (cond b (Some (pipe_in ram' f)) None) v ∙ ap (λ k. cond k (cond b (Some (pipe_in ram' f)) None) (get (gathered (kept_pipe ram ps) n) v)) (tie-yes v f e))
     | inr ne ↦
-        gathered-get (pipe_at ram' (set ps f b)) n v ∙ ap (λ o. cond (ltb v n) o None) (other-seen v ne) ∙ sym (gathered-get (pipe_at ram ps) n v)
-        ∙ sym (get-with (gathered (pipe_at ram ps) n) f (cond b (Some (pipe_in ram' f)) None) v ∙ ap (λ k. cond k (cond b (Some (pipe_in ram' f)) None) (get (gathered (pipe_at ram ps) n) v)) (tie-no v f ne))
+        gathered-get (kept_pipe ram' (set ps f b)) n v ∙ ap (λ o. cond (ltb v n) o None) (other-seen v ne) ∙ sym (gathered-get (kept_pipe ram ps) n v)
+        ∙ sym (get-with (gathered (kept_pipe ram ps) n) f (cond b (Some (pipe_in ram' f)) None) v ∙ ap (λ k. cond k (cond b (Some (pipe_in ram' f)) None) (get (gathered (kept_pipe ram ps) n) v)) (tie-no v f ne))
   ])
 
 -- the pipe in a frame, as it is seen
-pub pipes-at : (old : Memories) (f : ℕ) → f < FRAMES_MAX → get (pipes_of old) f ≡ pipe_at old.ram old.pipes.items f
+pub pipes-at : (old : Memories) (f : ℕ) → f < FRAMES_MAX → get (pipes_of old) f ≡ kept_pipe old.ram old.pipes.items f
 unfolding pipes_of
-pipes-at old f lt = gathered-get (pipe_at old.ram old.pipes.items) FRAMES_MAX f ∙ ap (λ k. cond k (pipe_at old.ram old.pipes.items f) None) (ltb-yes f FRAMES_MAX lt)
+pipes-at old f lt = gathered-get (kept_pipe old.ram old.pipes.items) FRAMES_MAX f ∙ ap (λ k. cond k (kept_pipe old.ram old.pipes.items f) None) (ltb-yes f FRAMES_MAX lt)
 
-pub pipe-changes : (old new : Memories) (f : ℕ) (b : Bool) → IsSound old → f < length old.ram → Traded old.pool old.ram new.pool new.ram (own_pipe (keeps_pipe old.pipes.items f) f) (own_pipe b f) → (b ≡ true → IsPipe new.ram f)
+pub pipe-changes : (old new : Memories) (f : ℕ) (b : Bool) → AreSound old → f < length old.ram → Traded old.pool old.ram new.pool new.ram (own_pipe (keeps_pipe old.pipes.items f) f) (own_pipe b f) → (b ≡ true → IsPipe new.ram f)
     → new.each.items ≡ old.each.items → new.pipes.items ≡ set old.pipes.items f b → PipeChanges old new f (cond b (Some (pipe_in new.ram f)) None)
 unfolding each_of pipes_of free_of
 pipe-changes old new f b sound inside traded is each pipes =
@@ -133,7 +133,7 @@ pipe-changes old new f b sound inside traded is each pipes =
     record {
       sound = subst (λ e. IsAccounted new.pool new.ram e new.pipes.items) (sym each) (subst (λ p. IsAccounted new.pool new.ram old.each.items p) (sym pipes) (piped-sound f b sound inside traded is));
       each = ap (map (held_in new.ram)) each ∙ piped-each f b sound inside traded is;
-      pipes = ap (λ l. gathered (pipe_at new.ram l) FRAMES_MAX) pipes ∙ piped-pipes f b sound inside traded is FRAMES_MAX small;
+      pipes = ap (λ l. gathered (kept_pipe new.ram l) FRAMES_MAX) pipes ∙ piped-pipes f b sound inside traded is FRAMES_MAX small;
       free = omega (
         arith,
         trade-lengths old.pool new.pool old.ram new.ram (own_pipe (keeps_pipe old.pipes.items f) f) (own_pipe b f) traded,
@@ -141,7 +141,7 @@ pipe-changes old new f b sound inside traded is each pipes =
         own-length (keeps_pipe old.pipes.items f) f,
         cost-count b (pipe_in new.ram f),
         cost-count (keeps_pipe old.pipes.items f) (pipe_in old.ram f),
-        ap pipe_cost (gathered-get (pipe_at old.ram old.pipes.items) FRAMES_MAX f ∙ ap (λ k. cond k (pipe_at old.ram old.pipes.items f) None) (ltb-yes f FRAMES_MAX small)),
+        ap pipe_cost (gathered-get (kept_pipe old.ram old.pipes.items) FRAMES_MAX f ∙ ap (λ k. cond k (kept_pipe old.ram old.pipes.items f) None) (ltb-yes f FRAMES_MAX small)),
       );
       frames = traded.count;
       runs = λ j hart r. record {
@@ -165,7 +165,7 @@ some-keeps false p h = absurd (no h)
 pub pipe-keeps : (old : Memories) (f : ℕ) → f < FRAMES_MAX → IsSome (get (pipes_of old) f) → keeps_pipe old.pipes.items f ≡ true
 pipe-keeps old f lt there = some-keeps (keeps_pipe old.pipes.items f) (pipe_in old.ram f) (subst IsSome (pipes-at old f lt) there)
 
-pub pipe-inside : (old : Memories) (f : ℕ) → IsSound old → keeps_pipe old.pipes.items f ≡ true → f < length old.ram
+pub pipe-inside : (old : Memories) (f : ℕ) → AreSound old → keeps_pipe old.pipes.items f ≡ true → f < length old.ram
 pipe-inside old f sound keeps = (sound.keeps f keeps).inside
 
 -- ---- a pipe is made, changed, and given up
@@ -194,25 +194,25 @@ not-free : {pool pool' : Pool} {ram ram' : List (List ℕ)} {f : ℕ} → Good p
 not-free {pool} {pool'} {ram} {ram'} {f} good taken = omega (arith, taken.traded.frames f, good.frames.once f, copies-one f f, at-same f, copies-nil f)
 
 -- a frame that is free names no pipe
-pub pipe-absent : (old : Memories) (f : ℕ) {pool1 : Pool} {ram1 : List (List ℕ)} → IsSound old → Taken old.pool old.ram pool1 ram1 f → get (pipes_of old) f ≡ None
+pub pipe-absent : (old : Memories) (f : ℕ) {pool1 : Pool} {ram1 : List (List ℕ)} → AreSound old → Taken old.pool old.ram pool1 ram1 f → get (pipes_of old) f ≡ None
 pipe-absent old f sound taken =
     pipes-at old f (omega (arith, taken.inside, taken.traded.count, sound.good.small)) ∙ ap (λ b. cond b (Some (pipe_in old.ram f)) None) (free-keeps sound f (was-free taken))
 
-pub pipe-made : {old : Memories} {f : ℕ} {pool1 : Pool} {ram1 : List (List ℕ)} (new : Memories) (pipe : Pipe) → IsSound old → Taken old.pool old.ram pool1 ram1 f → new.pool ≡ pool1 → Becomes ram1 new.ram f pipe → new.each.items ≡ old.each.items → new.pipes.items ≡ set old.pipes.items f true
+pub pipe-made : {old : Memories} {f : ℕ} {pool1 : Pool} {ram1 : List (List ℕ)} (new : Memories) (pipe : Pipe) → AreSound old → Taken old.pool old.ram pool1 ram1 f → new.pool ≡ pool1 → Becomes ram1 new.ram f pipe → new.each.items ≡ old.each.items → new.pipes.items ≡ set old.pipes.items f true
     → PipeChanges old new f (Some pipe)
 pipe-made {old} {f} {pool1} {ram1} new pipe sound taken pool made each pipes =
     let none = free-keeps sound f (was-free taken) in
-    let joined : Traded old.pool old.ram pool1 new.ram [] (f ∷ []) = trade-join old.pool pool1 pool1 old.ram ram1 new.ram [] (f ∷ []) (f ∷ []) taken.traded (written pool1 ram1 new.ram f taken.traded.good made.stay (not-free sound.good taken)) in
+    let all_joined : Traded old.pool old.ram pool1 new.ram [] (f ∷ []) = trade-join old.pool pool1 pool1 old.ram ram1 new.ram [] (f ∷ []) (f ∷ []) taken.traded (written pool1 ram1 new.ram f taken.traded.good made.stay (not-free sound.good taken)) in
     let traded : Traded old.pool old.ram new.pool new.ram (own_pipe (keeps_pipe old.pipes.items f) f) (own_pipe true f) =
-    subst (λ p. Traded old.pool old.ram p new.ram (own_pipe (keeps_pipe old.pipes.items f) f) (own_pipe true f)) (sym pool) (subst (λ b. Traded old.pool old.ram pool1 new.ram (own_pipe b f) (own_pipe true f)) (sym none) joined) in
+    subst (λ p. Traded old.pool old.ram p new.ram (own_pipe (keeps_pipe old.pipes.items f) f) (own_pipe true f)) (sym pool) (subst (λ b. Traded old.pool old.ram pool1 new.ram (own_pipe b f) (own_pipe true f)) (sym none) all_joined) in
     let changes : PipeChanges old new f (Some (pipe_in new.ram f)) = pipe-changes old new f true sound (omega (arith, taken.inside, taken.traded.count)) traded (λ e. made.good) each pipes in
     subst (λ p. PipeChanges old new f (Some p)) made.is changes
 
 -- the frame of a pipe isn't free
-pub pipe-taken : (old : Memories) (f : ℕ) → IsSound old → keeps_pipe old.pipes.items f ≡ true → copies f (free_in old.pool old.ram) ≡ 0
+pub pipe-taken : (old : Memories) (f : ℕ) → AreSound old → keeps_pipe old.pipes.items f ≡ true → copies f (free_in old.pool old.ram) ≡ 0
 pipe-taken old f sound keeps = pipe-free sound f keeps
 
-pub pipe-dropped : {old : Memories} {f : ℕ} (new : Memories) → IsSound old → keeps_pipe old.pipes.items f ≡ true → Given old.pool old.ram new.pool new.ram f → new.each.items ≡ old.each.items → new.pipes.items ≡ set old.pipes.items f false → PipeChanges old new f None
+pub pipe-dropped : {old : Memories} {f : ℕ} (new : Memories) → AreSound old → keeps_pipe old.pipes.items f ≡ true → Given old.pool old.ram new.pool new.ram f → new.each.items ≡ old.each.items → new.pipes.items ≡ set old.pipes.items f false → PipeChanges old new f None
 pipe-dropped {old} {f} new sound keeps given each pipes =
     let traded : Traded old.pool old.ram new.pool new.ram (own_pipe (keeps_pipe old.pipes.items f) f) (own_pipe false f) = subst (λ b. Traded old.pool old.ram new.pool new.ram (own_pipe b f) (own_pipe false f)) (sym keeps) given in
     pipe-changes old new f false sound (pipe-inside old f sound keeps) traded (λ e. absurd (false-true e)) each pipes
@@ -220,7 +220,7 @@ pipe-dropped {old} {f} new sound keeps given each pipes =
     false-true : false ≡ true → ⊥
     false-true e = cc
 
-pub pipe-changed : {old : Memories} {f : ℕ} (new : Memories) (pipe : Pipe) → IsSound old → keeps_pipe old.pipes.items f ≡ true → Becomes old.ram new.ram f pipe → new.pool ≡ old.pool → new.each.items ≡ old.each.items → new.pipes.items ≡ old.pipes.items → PipeChanges old new f (Some pipe)
+pub pipe-changed : {old : Memories} {f : ℕ} (new : Memories) (pipe : Pipe) → AreSound old → keeps_pipe old.pipes.items f ≡ true → Becomes old.ram new.ram f pipe → new.pool ≡ old.pool → new.each.items ≡ old.each.items → new.pipes.items ≡ old.pipes.items → PipeChanges old new f (Some pipe)
 pipe-changed {old} {f} new pipe sound keeps made pool each pipes =
     let inside = pipe-inside old f sound keeps in
     let one : Traded old.pool old.ram old.pool new.ram (f ∷ []) (f ∷ []) = written old.pool old.ram new.ram f sound.good made.stay (pipe-free sound f keeps) in
@@ -235,7 +235,7 @@ pub pipe-named : (old : Memories) (f : ℕ) → f < FRAMES_MAX → keeps_pipe ol
 pipe-named old f lt keeps = ap or_new (pipes-at old f lt ∙ ap (λ b. cond b (Some (pipe_in old.ram f)) None) keeps)
 
 -- the pipe of a name is changed
-pub pipe-becomes : {old : Memories} {f : ℕ} (new : Memories) (change : Pipe → Pipe) → f < FRAMES_MAX → IsSound old → keeps_pipe old.pipes.items f ≡ true → Becomes old.ram new.ram f (change (pipe_in old.ram f)) → new.pool ≡ old.pool → new.each.items ≡ old.each.items
+pub pipe-becomes : {old : Memories} {f : ℕ} (new : Memories) (change : Pipe → Pipe) → f < FRAMES_MAX → AreSound old → keeps_pipe old.pipes.items f ≡ true → Becomes old.ram new.ram f (change (pipe_in old.ram f)) → new.pool ≡ old.pool → new.each.items ≡ old.each.items
     → new.pipes.items ≡ old.pipes.items → PipeChanges old new f (Some (change (pipe_named (pipes_of old) f)))
 pipe-becomes {old} {f} new change lt sound keeps made pool each pipes =
     subst (λ p. PipeChanges old new f (Some (change p))) (sym (pipe-named old f lt keeps)) (pipe-changed new (change (pipe_in old.ram f)) sound keeps made pool each pipes)

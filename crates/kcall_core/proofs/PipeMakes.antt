@@ -14,7 +14,7 @@ use Rattle.pipe_core.specs.Pipe.{Pipe, new_pipe}
 use Rattle.console_core.specs.Lists.{Console}
 use Rattle.file_table.specs.Named.{named_by, with_named}
 use Rattle.file_table.specs.OpenFiles as files
-use Rattle.file_table.specs.OpenFiles.{entry_at, file_at, lowest_place, pipe_file, with_opened}
+use Rattle.file_table.specs.OpenFiles.{entry_at, open_file_at, lowest_place, pipe_file, with_opened}
 use Rattle.file_table.specs.declared.open_file.End.TheVariants.{Reading, Writing}
 use Rattle.file_table.specs.declared.open_file.OpenFile.{OpenFile}
 use Rattle.file_table.specs.declared.open_file.Target.{Target}
@@ -140,7 +140,7 @@ nobody-on {k} {h} {i} whole absent q d on = by (quiet.file_at (state_of k h) q d
 -- ---- the memories: a frame keeps a new pipe, and the numbers are stored
 
 pub record Equips (old new : Memories) (slot i a : ℕ) (bytes : List ℕ) : Type 0 where
-  pub sound : memories.IsSound new
+  pub sound : memories.AreSound new
   pub each : each_of new ≡ set (each_of old) slot (Some (with_image (write_image (held_at (each_of old) slot).image a bytes) (held_at (each_of old) slot)))
   pub pipes : pipes_of new ≡ insert (pipes_of old) i new_pipe
   pub some : 0 < free_of old
@@ -344,8 +344,8 @@ module _ {k : Kernel} {h : Hart} {slot r w i a : ℕ} {bytes : List ℕ} {m : Me
     files-now : (state_of k2 h).files ≡ two-more
     unfolding state_of
     files-now =
-        ap (λ xs. gathered (file_at xs) OPEN_FILES) second.files ∙ opened-files k1.files g writer empty2.0 empty2.1 table1.places
-        ∙ ap (λ fs. insert fs g writer) (ap (λ xs. gathered (file_at xs) OPEN_FILES) first.files ∙ opened-files k.files f reader empty1.0 empty1.1 whole.files.places)
+        ap (λ xs. gathered (open_file_at xs) OPEN_FILES) second.files ∙ opened-files k1.files g writer empty2.0 empty2.1 table1.places
+        ∙ ap (λ fs. insert fs g writer) (ap (λ xs. gathered (open_file_at xs) OPEN_FILES) first.files ∙ opened-files k.files f reader empty1.0 empty1.1 whole.files.places)
 
     pipes-now : pipes_of k2.memories ≡ insert st.pipes i new_pipe
     unfolding state_of

@@ -19,7 +19,7 @@ use Rattle.file_table.specs.declared.open_file.Target.TheVariants.{Console as Te
 use Rattle.kcall_core.specs.Processes.{Alive, Live}
 use Rattle.proc_table.specs.declared.process.Call.{Call}
 use Rattle.kcall_core.specs.State.{State, live, live_part}
-use Rattle.kcall_core.specs.View.{Table, Descriptor, Shown, Shown_terminal, Shown_file, Shown_pipe, named, numbered, rename, rename_shown, or_else, or_gone, show, descriptor_at, descriptor_on, least_on_pipe, least_on_file, file_name, pipe_name, view_of}
+use Rattle.kcall_core.specs.View.{Descriptors, Descriptor, Shown, Shown_terminal, Shown_file, Shown_pipe, named, numbered, rename, rename_shown, or_else, or_gone, show, descriptor_at, descriptor_on, least_on_pipe, least_on_file, file_name, pipe_name, view_of}
 use Rattle.kcall_core.specs.Own.{Own, Called, goes_on}
 use Rattle.kcall_core.specs.Tables.{change_pipe, changed, change_shown}
 use Rattle.kcall_core.specs.Calls.{read, done, waits, with_a0}
@@ -54,7 +54,7 @@ this_is n (Some k) h = ap Some (eqb-true k n h)
 
 -- ---- the pipe named i in t is named k after the descriptors chose the names anew
 
-module _ (t : Table) (i k : ℕ) (g : Pipe) (is : least_on_pipe t i ≡ Some k) where
+module _ (t : Descriptors) (i k : ℕ) (g : Pipe) (is : least_on_pipe t i ≡ Some k) where
   least_file : (name : ℕ) → least_on_file (change_pipe i g t) name ≡ least_on_file t name
   least_file name = λ j. least_below (λ d. is_this name (file_name_kept (λ n pipe. cond (nat_eq n i) g pipe) (t d) j)) NOFILE
 
@@ -132,7 +132,7 @@ view-set_pipe s i k x p l is = λ j. record (view_of s p l) { descriptors = (ap 
 
 -- ---- a read from a pipe that has bytes
 
-pub least_there : (t : Table) (i d : ℕ) → d < NOFILE → pipe_name (t d) ≡ Some i → (k : Option ℕ) → least_on_pipe t i ≡ k → is_some k ≡ true
+pub least_there : (t : Descriptors) (i d : ℕ) → d < NOFILE → pipe_name (t d) ≡ Some i → (k : Option ℕ) → least_on_pipe t i ≡ k → is_some k ≡ true
 least_there t i d below on None e =
     let no_pass : is_this i (pipe_name (t d)) ≡ false = none_passes NOFILE (λ x. is_this i (pipe_name (t x))) e d below in
     let pass : is_this i (pipe_name (t d)) ≡ true = ap (is_this i) on ∙ eq-eqb i i refl in

@@ -16,7 +16,7 @@ use Rattle.hart_core.specs.Translations.{Fits}
 use Rattle.hart_core.specs.declared.hart.Hart.{Hart}
 use Rattle.hart_core.proofs.Caches.{fits-same}
 use Rattle.kcall_core.specs.Holdings.{held_at, with_saved}
-use Rattle.kcall_core.specs.Memories.{held_in, frames_of, IsMemory, each_of, RunsIn, SlotChanges}
+use Rattle.kcall_core.specs.Memories.{held_in, slot_frames, IsMemory, each_of, RunsIn, SlotChanges}
 use Rattle.kcall_core.specs.declared.memories.Memory.{Memory}
 use Rattle.kcall_core.specs.declared.memories.Memories.{Memories}
 use Rattle.kcall_core.proofs.Lists.{set-read}
@@ -58,9 +58,9 @@ module _ {old : Memories} (new : Memories) {i : ℕ} {m : Memory} (s : Stands ol
   pub saved-changes : (regs : Registers) → saved new.ram m.trapframe ≡ regs → word_at new.ram m.trapframe 0 % 4 ≡ 0 → new.pipes.items ≡ old.pipes.items → SlotChanges old new i (Some (with_saved regs (held_at (each_of old) i)))
   saved-changes regs is aligned pipes =
       let whole : IsMemory new.ram m = record { space = space-kept old.ram new.ram m.space (s.sound.memories i m s.is).space kept; size = (s.sound.memories i m s.is).size; aligned = saved-aligned new.ram m.trapframe aligned } in
-      let traded : Traded old.pool old.ram new.pool new.ram (frames_of old.ram (get_or old.each.items i None)) (frames_of new.ram (Some m)) =
-      subst (λ p. Traded old.pool old.ram p new.ram (frames_of old.ram (get_or old.each.items i None)) (frames_of new.ram (Some m))) (sym pool)
-      (subst (λ o. Traded old.pool old.ram old.pool new.ram (frames_of old.ram o) (frames_of new.ram (Some m))) (sym s.is) written) in
+      let traded : Traded old.pool old.ram new.pool new.ram (slot_frames old.ram (get_or old.each.items i None)) (slot_frames new.ram (Some m)) =
+      subst (λ p. Traded old.pool old.ram p new.ram (slot_frames old.ram (get_or old.each.items i None)) (slot_frames new.ram (Some m))) (sym pool)
+      (subst (λ o. Traded old.pool old.ram old.pool new.ram (slot_frames old.ram o) (slot_frames new.ram (Some m))) (sym s.is) written) in
       let changes = slot-changes old new i (Some m) s.sound s.inside traded (λ n e. subst (IsMemory new.ram) (same-some m n e) whole) (each ∙ sym (set-read old.each.items i (Some m) None s.inside s.is)) pipes in
       let seen : held_in new.ram (Some m) ≡ Some (with_saved regs (record { image = image_of old.ram m.space; saved = saved old.ram m.trapframe })) = λ k. Some (record { image = image k; saved = is k }) in
       subst (λ h. SlotChanges old new i h) (seen ∙ ap (λ h. Some (with_saved regs h)) (sym (held-seen s))) changes

@@ -15,7 +15,7 @@ use Rattle.addr_space.proofs.Isolation.{spared}
 use Rattle.rv64i_core.specs.Registers.{Registers}
 use Rattle.hart_core.specs.Trapframe.{saved}
 use Rattle.kcall_core.specs.Holdings.{Held, held_at, with_image}
-use Rattle.kcall_core.specs.Memories.{held_in, frames_of, IsMemory, each_of, SlotChanges}
+use Rattle.kcall_core.specs.Memories.{held_in, slot_frames, IsMemory, each_of, SlotChanges}
 use Rattle.kcall_core.specs.declared.memories.Memory.{Memory}
 use Rattle.kcall_core.specs.declared.memories.Memories.{Memories}
 use Rattle.kcall_core.proofs.Frames.{saved-same, slot-free, Stays, stays-if}
@@ -34,7 +34,7 @@ module _ {old : Memories} {i : ℕ} {m : Memory} {pool1 : Pool} {ram1 : List (Li
 
   -- what is free or the slot's is so once
   once : (f : ℕ) → copies f (free_in old.pool old.ram) + copies f (m.trapframe ∷ space.frames_of old.ram m.space) ≤ 1
-  once f = omega (arith, slot-free s.sound f i, ap (λ o. copies f (frames_of old.ram o)) s.is)
+  once f = omega (arith, slot-free s.sound f i, ap (λ o. copies f (slot_frames old.ram o)) s.is)
 
   pub old-belongs : Belongs pool1 ram1 m.space
   old-belongs = record {
@@ -86,10 +86,10 @@ module _ {old : Memories} {i : ℕ} {m : Memory} {pool1 : Pool} {ram1 : List (Li
         → new.each.items ≡ set old.each.items i (Some (record { space = n; trapframe = m.trapframe })) → new.pipes.items ≡ old.pipes.items → SlotChanges old new i (Some (with_image image (held_at (each_of old) i)))
     space-replaced new image is limit same-pool same-ram each pipes =
         let after : Memory = record { space = n; trapframe = m.trapframe } in
-        let traded : Traded old.pool old.ram new.pool new.ram (frames_of old.ram (get_or old.each.items i None)) (frames_of new.ram (Some after)) =
-        subst (λ p. Traded old.pool old.ram p new.ram (frames_of old.ram (get_or old.each.items i None)) (frames_of new.ram (Some after))) (sym same-pool)
-        (subst (λ r. Traded old.pool old.ram pool2 r (frames_of old.ram (get_or old.each.items i None)) (frames_of r (Some after))) (sym same-ram)
-        (subst (λ o. Traded old.pool old.ram pool2 ram2 (frames_of old.ram o) (frames_of ram2 (Some after))) (sym s.is) all-traded)) in
+        let traded : Traded old.pool old.ram new.pool new.ram (slot_frames old.ram (get_or old.each.items i None)) (slot_frames new.ram (Some after)) =
+        subst (λ p. Traded old.pool old.ram p new.ram (slot_frames old.ram (get_or old.each.items i None)) (slot_frames new.ram (Some after))) (sym same-pool)
+        (subst (λ r. Traded old.pool old.ram pool2 r (slot_frames old.ram (get_or old.each.items i None)) (slot_frames r (Some after))) (sym same-ram)
+        (subst (λ o. Traded old.pool old.ram pool2 ram2 (slot_frames old.ram o) (slot_frames ram2 (Some after))) (sym s.is) all-traded)) in
         let memory : IsMemory new.ram after = subst (λ r. IsMemory r after) (sym same-ram) (whole (subst (λ (x : Image). x.size ≤ SIZE_LIMIT) (sym is) limit)) in
         let changes = slot-changes old new i (Some after) s.sound s.inside traded (λ x e. subst (IsMemory new.ram) (same-some after x e) memory) each pipes in
         let shown : image_of new.ram n ≡ image = ap (λ r. image_of r n) same-ram ∙ new-image image is in

@@ -22,7 +22,7 @@ use Rattle.kcall_core.specs.Programs.{console_name, program_bytes, program_named
 use Rattle.kcall_core.specs.View.{View, Descriptor, Shown, Shown_terminal, Shown_file, Shown_pipe}
 use Rattle.kcall_core.specs.Tables.{lowest_free, lowest_free_above, with_descriptor, without_descriptor, with_copy, change_pipe, advance, one_more_on, one_less_on, doubled, pipes_given_up}
 use Rattle.kcall_core.specs.Words.{SP, A1, CLOCK_ROUND, c_int, with_value}
-use Rattle.kcall_core.specs.Processes.{Running, status_of}
+use Rattle.kcall_core.specs.Processes.{Running, child_status}
 use Rattle.kcall_core.specs.Own.{Own, Called, Exited, goes_on}
 use Rattle.kcall_core.specs.Ready.{in_use}
 use Rattle.kcall_core.specs.Calls.{Row, Fork, Exit, Wait, Pipe_row, Read, Kill, Exec, Dup, Getpid, Sbrk, Sleep, Uptime, Open, Write, Close, row_of, with_a0, answered, gone, done, refused, waits, least_zombie, has_child}
@@ -72,7 +72,7 @@ abbrev pub without_child : ℕ → View → View
 without_child q v = record v { pids = filter (λ p. not (nat_eq p q)) v.pids; children = with_value v.children q None }
 
 abbrev pub reaped : Call → View → Option ℕ → Own
-reaped c v (Some q) = done c (pos q) (told c.a0 (status_of (v.children q)) (without_child q v))
+reaped c v (Some q) = done c (pos q) (told c.a0 (child_status (v.children q)) (without_child q v))
 reaped c v None = cond (has_child v) (waits c 0 v) (refused c v)
 
 abbrev pub wait_parts : Call → View → Own

@@ -18,7 +18,7 @@ use Rattle.kcall_core.proofs.WorkedViews.{pc_of, reg_of, call, minus, in_call, e
 use Rattle.kcall_core.specs.Words.{word}
 use Rattle.kcall_core.specs.Buffers.{readable, writable, text_at, texts_at, no_slashes, grown, shrunk}
 use Rattle.kcall_core.specs.Processes.{Running, Status}
-use Rattle.kcall_core.specs.View.{View, Table, Descriptor, Shown_terminal, Shown_pipe, Shown_file, named}
+use Rattle.kcall_core.specs.View.{View, Descriptors, Descriptor, Shown_terminal, Shown_pipe, Shown_file, named}
 use Rattle.kcall_core.specs.Own.{Own, Called, Blocked, Exited, Stepped}
 use Rattle.kcall_core.specs.Calls.{row_of, perform, done, least_zombie, row, close, dup, kill, read, sbrk, sleep, wait, write}
 use Rattle.kcall_core.specs.Step.{own}
@@ -226,10 +226,10 @@ module _ (image : Image) where
   abbrev reading : ℕ → ℕ → ℕ → Descriptor
   reading file pipe readers = record { file = file; read = true; write = false; shown = Shown_pipe pipe Reading (record { bytes = []; readers = readers; writers = 0 }) }
 
-  abbrev twice : Table
+  abbrev twice : Descriptors
   twice = λ d. cond (nat_lt d 2) (Some (reading 0 0 2)) None
 
-  abbrev once : Table
+  abbrev once : Descriptors
   once = λ d. cond (nat_eq d 1) (Some (reading 1 1 1)) None
 
   dup_shares : at_place (own (record (in_call image (call 10 1 0 0)) { descriptors = once })).next 0 ≡ Some (reading 0 0 2)

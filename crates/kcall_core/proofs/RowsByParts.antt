@@ -12,7 +12,7 @@ use Rattle.pipe_core.specs.Pipe.{Pipe, with_more}
 use Rattle.file_table.specs.declared.open_file.End.{End}
 use Rattle.kcall_core.specs.Buffers.{readable, writable, text_at, texts_at, no_slashes, grown, shrunk}
 use Rattle.kcall_core.specs.PipeEnds.{fit, must_wait}
-use Rattle.kcall_core.specs.Processes.{Child, has_status, status_of}
+use Rattle.kcall_core.specs.Processes.{Child, has_status, child_status}
 use Rattle.kcall_core.specs.Programs.{program_named, console_name, place_of}
 use Rattle.kcall_core.proofs.Resized.{grown-price}
 use Rattle.std.proofs.lemmas.Bool.{cases_lt, lt-ltb, le-ltb, le-leb, lt-leb}
@@ -187,16 +187,16 @@ module _ (c : Call) (v : View) where
   -- the child that is taken
   abbrev taken : ℕ → Own
   taken q = done c (pos q) (record v {
-    image = cond (nat_eq c.a0 0) v.image (write_image v.image c.a0 (le_bytes 4 (cast_unsigned w32 (status_of (v.children q)))));
+    image = cond (nat_eq c.a0 0) v.image (write_image v.image c.a0 (le_bytes 4 (cast_unsigned w32 (child_status (v.children q)))));
     pids = filter (λ p. not (nat_eq p q)) v.pids;
     children = with_value v.children q None;
   })
 
-  told_same : (q : ℕ) → taken q ≡ done c (pos q) (told c.a0 (status_of (v.children q)) (without_child q v))
+  told_same : (q : ℕ) → taken q ≡ done c (pos q) (told c.a0 (child_status (v.children q)) (without_child q v))
   told_same q = by (nat_eq c.a0 0)
     where
-      by : (b : Bool) → done c (pos q) (record (without_child q v) { image = cond b v.image (write_image v.image c.a0 (le_bytes 4 (cast_unsigned w32 (status_of (v.children q))))) })
-          ≡ done c (pos q) (cond b (without_child q v) (record (without_child q v) { image = write_image v.image c.a0 (le_bytes 4 (cast_unsigned w32 (status_of (v.children q)))) }))
+      by : (b : Bool) → done c (pos q) (record (without_child q v) { image = cond b v.image (write_image v.image c.a0 (le_bytes 4 (cast_unsigned w32 (child_status (v.children q))))) })
+          ≡ done c (pos q) (cond b (without_child q v) (record (without_child q v) { image = write_image v.image c.a0 (le_bytes 4 (cast_unsigned w32 (child_status (v.children q)))) }))
       by true = refl
       by false = refl
 

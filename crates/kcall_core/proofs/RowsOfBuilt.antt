@@ -7,7 +7,7 @@ use Rattle.pipe_core.specs.Pipe.{new_pipe}
 use Rattle.file_table.specs.declared.open_file.Target.TheVariants.{Console as Terminal, Program as File}
 use Rattle.kcall_core.specs.Buffers.{text_at, no_slashes}
 use Rattle.kcall_core.specs.State.{ProgramFile}
-use Rattle.kcall_core.specs.View.{View, Table, Shown_terminal}
+use Rattle.kcall_core.specs.View.{View, Descriptors, Shown_terminal}
 use Rattle.kcall_core.specs.Calls.{row_of}
 use Rattle.kcall_core.specs.Opens.{place_by, is_terminal}
 use Rattle.kcall_core.specs.Built.{is_console_path, is_built}
@@ -59,7 +59,7 @@ file_target = refl
 -- ---- what isn't built
 
 -- descriptor 0 is on the terminal, and 1 on the write end of a pipe
-abbrev table : Table
+abbrev table : Descriptors
 table = λ d. cond (nat_eq d 0) (Some (record { file = 0; read = true; write = true; shown = Shown_terminal })) (ends_of new_pipe d)
 
 unfoldable seeing : View

@@ -11,7 +11,7 @@ use Rattle.console_core.specs.Keys.{line}
 use Rattle.file_table.specs.declared.open_file.End.TheVariants.{Reading, Writing}
 use Rattle.proc_table.specs.declared.process.Call.{Call}
 use Rattle.kcall_core.specs.Buffers.{readable, writable}
-use Rattle.kcall_core.specs.View.{named, View, Table, Descriptor, Shown_terminal, Shown_pipe, Shown_file}
+use Rattle.kcall_core.specs.View.{named, View, Descriptors, Descriptor, Shown_terminal, Shown_pipe, Shown_file}
 use Rattle.kcall_core.specs.Own.{Own, Called, Blocked}
 use Rattle.kcall_core.specs.Calls.{row_of, perform, row, close, dup}
 use Rattle.kcall_core.specs.Step.{own}
@@ -30,7 +30,7 @@ module _ (image : Image) where
   abbrev on_program : (file program offset : ℕ) → Descriptor
   on_program file program offset = record { file = file; read = true; write = false; shown = Shown_file program offset }
 
-  abbrev four : ℕ → Table
+  abbrev four : ℕ → Descriptors
   four offset = λ d. cond (nat_lt d 2) (Some (on_program 0 0 offset)) (cond (nat_eq d 2) (Some (on_program 2 0 0)) (cond (nat_eq d 3) (Some (on_program 3 1 0)) None))
 
   file_view : (d n offset : ℕ) → View

@@ -10,7 +10,7 @@ use Rattle.pipe_core.specs.Pipe.{new_pipe}
 use Rattle.file_table.specs.declared.open_file.End.TheVariants.{Reading, Writing}
 use Rattle.proc_table.specs.declared.process.Call.{Call}
 use Rattle.kcall_core.specs.Buffers.{writable, readable, text_at, no_slashes}
-use Rattle.kcall_core.specs.View.{View, Table, Descriptor, Shown_terminal, Shown_pipe, Shown_file, named}
+use Rattle.kcall_core.specs.View.{View, Descriptors, Descriptor, Shown_terminal, Shown_pipe, Shown_file, named}
 use Rattle.kcall_core.specs.Tables.{lowest_free, lowest_free_above}
 use Rattle.kcall_core.specs.Own.{Own, Answer, Called}
 use Rattle.kcall_core.specs.Calls.{row_of, perform, row, close, dup, read, write}
@@ -26,11 +26,11 @@ use Rattle.kcall_core.proofs.RowsByParts.{by_parts}
 abbrev terminal : Descriptor
 terminal = record { file = 0; read = true; write = true; shown = Shown_terminal }
 
-abbrev used : ℕ → Table
+abbrev used : ℕ → Descriptors
 used n = λ d. cond (nat_lt d n) (Some terminal) None
 
 -- all but these two
-abbrev but : ℕ → ℕ → Table
+abbrev but : ℕ → ℕ → Descriptors
 but a b = λ d. cond (nat_eq d a || nat_eq d b) None (Some terminal)
 
 lowest_of_all : lowest_free (used 0) ≡ Some 0
@@ -76,15 +76,15 @@ descriptor_16 = refl
 
 module _ (image : Image) where
   -- a view with this table in a call
-  with_table : Table → Call → View
+  with_table : Descriptors → Call → View
   with_table t c = record (in_call image c) { descriptors = t }
 
   -- ---- pipe
 
-  piping : Table → ℕ → View
+  piping : Descriptors → ℕ → View
   piping t free = record (in_call image (call 4 0 0 0)) { descriptors = t; free = free }
 
-  piping_if : Table → ℕ → Bool → Own
+  piping_if : Descriptors → ℕ → Bool → Own
   unfolding piping in_call
   piping_if t free there = unless (not there || nat_eq free 0) (call 4 0 0 0) (piping t free) (λ _. piped_from (call 4 0 0 0) (piping t free) (lowest_free t))
 
@@ -191,7 +191,7 @@ module _ (image : Image) where
   -- ---- which descriptor may be read and written, and in which order read and write test: the descriptor, the mode, n, the buffer
 
   -- descriptor 0 is on a read end, 1 on a write end, and 2 on a program's file
-  three : Table
+  three : Descriptors
   three = λ d. cond (nat_eq d 2) (Some (record { file = 2; read = true; write = false; shown = Shown_file 0 0 })) (ends_of (record { bytes = codes "xy"; readers = 1; writers = 1 }) d)
 
   answer_of : (number d n : ℕ) → Answer
@@ -271,13 +271,13 @@ module _ (image : Image) where
   -- ---- open: the console's modes, the programs by their places, and names that nothing has
 
   -- programs `a` and `b`, and this table
-  opener : ℕ → Table → View
+  opener : ℕ → Descriptors → View
   opener mode t = record (in_call image (call 15 0 mode 0)) {
     descriptors = t;
     programs = (record { name = codes "a"; bytes = codes "hello" }) ∷ (record { name = codes "b"; bytes = codes "hi" }) ∷ [];
   }
 
-  opens : {X : Type 0} (asked : Own → X) (mode : ℕ) (t : Table) (name : List ℕ) → text_at MAXPATH image 0 ≡ Some name
+  opens : {X : Type 0} (asked : Own → X) (mode : ℕ) (t : Descriptors) (name : List ℕ) → text_at MAXPATH image 0 ≡ Some name
       → asked (open_path (call 15 0 mode 0) (opener mode t) (text_at MAXPATH image 0)) ≡ asked (open_path (call 15 0 mode 0) (opener mode t) (Some name))
   opens asked mode t name given = ap (λ (path : Option (List ℕ)). asked (open_path (call 15 0 mode 0) (opener mode t) path)) given
 
@@ -287,7 +287,7 @@ module _ (image : Image) where
     unfolding own perform_parts perform_row row_of in_call opener at_place
     opened mode = by_parts (λ (o : Own). (at_place o.next 0)) _ _ (opens (λ o. at_place o.next 0) mode (used 0) name given)
 
-    opened_answer : (mode : ℕ) (t : Table) → (own (opener mode t)).answer ≡ (open_path (call 15 0 mode 0) (opener mode t) (Some name)).answer
+    opened_answer : (mode : ℕ) (t : Descriptors) → (own (opener mode t)).answer ≡ (open_path (call 15 0 mode 0) (opener mode t) (Some name)).answer
     unfolding own perform_parts perform_row row_of in_call opener
     opened_answer mode t = by_parts (λ (o : Own). o.answer) _ _ (opens (λ o. o.answer) mode t name given)
 

@@ -12,7 +12,7 @@ use Rattle.file_table.specs.declared.open_file.End.TheVariants.{Reading, Writing
 use Rattle.proc_table.specs.declared.process.Call.{Call}
 use Rattle.kcall_core.specs.Processes.{Child, Running, Status}
 use Rattle.kcall_core.specs.State.{State}
-use Rattle.kcall_core.specs.View.{View, Table, Descriptor, Shown_terminal, Shown_pipe, Shown_file}
+use Rattle.kcall_core.specs.View.{View, Descriptors, Descriptor, Shown_terminal, Shown_pipe, Shown_file}
 use Rattle.kcall_core.specs.Own.{Stepped, Called, Blocked, Exited, Faulted, gone_with}
 use Rattle.kcall_core.specs.Calls.{row_of, perform, row, close, kill, sleep}
 use Rattle.kcall_core.specs.Step.{own, call_begun, after_instruction}
@@ -115,10 +115,10 @@ module _ (image : Image) where
 
   -- ---- whether a process that waits could go on
 
-  is_ready : Call → Table → (ℕ → Option Child) → Console → Bool
+  is_ready : Call → Descriptors → (ℕ → Option Child) → Console → Bool
   is_ready c t children console = ready (record (in_call image c) { descriptors = t; children = children; console = console; pids = 1 ∷ 2 ∷ [] })
 
-  abbrev no_table : Table
+  abbrev no_table : Descriptors
   no_table = λ d. None
 
   abbrev no_child : ℕ → Option Child

@@ -13,7 +13,7 @@ use Rattle.file_table.specs.declared.open_file.Target.TheVariants.{Console as Te
 use Rattle.kcall_core.specs.Words.{is_this}
 use Rattle.kcall_core.specs.Processes.{Live}
 use Rattle.kcall_core.specs.State.{State}
-use Rattle.kcall_core.specs.View.{Table, Descriptor, Shown, Shown_terminal, Shown_file, Shown_pipe, named, numbered, rename, or_else, or_gone, show, descriptor_at, descriptor_on, least_on_pipe, pipe_name, shown_pipe_name}
+use Rattle.kcall_core.specs.View.{Descriptors, Descriptor, Shown, Shown_terminal, Shown_file, Shown_pipe, named, numbered, rename, or_else, or_gone, show, descriptor_at, descriptor_on, least_on_pipe, pipe_name, shown_pipe_name}
 use Rattle.kcall_core.specs.Tables.{change_pipe, changed, change_shown}
 use Rattle.kcall_core.proofs.Least.{least_passes, none_passes}
 
@@ -41,7 +41,7 @@ abbrev pub shown_of : Option Descriptor → Option Shown
 shown_of o = option_map (λ x. x.shown) o
 
 module _ (s : State) (l : Live) where
-  abbrev T : Table
+  abbrev T : Descriptors
   T = numbered s l
 
   -- the descriptor that names pipe i is on it

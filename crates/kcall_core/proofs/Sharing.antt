@@ -6,7 +6,7 @@ use Rattle.std.proofs.lemmas.Bool.Decides.{eqb_tells}
 use Rattle.std.proofs.lemmas.List.{get_or_past, get_or-set_same, get_or-set_other, length-set}
 use Rattle.xk_base.specs.Words.{count_below}
 use Rattle.file_table.specs.Named.{named_by, none_named, with_named}
-use Rattle.file_table.specs.OpenFiles.{IsTable, entry_at, entry_file, entry_count, file_at, count_at, once_more, with_sharer}
+use Rattle.file_table.specs.OpenFiles.{IsTable, entry_at, entry_file, entry_count, open_file_at, count_at, once_more, with_sharer}
 use Rattle.file_table.specs.declared.open_file.Entry.{Entry}
 use Rattle.proc_table.specs.Slots.{Slots, place_at, place_is_live, descriptors_at}
 use Rattle.kcall_core.specs.Words.{is_this, or_zero}
@@ -53,9 +53,9 @@ module _ (files : List (Option Entry)) (g : ℕ) (table : IsTable files) (e : En
   more-other f ne = get_or-set_other files g f (option_map once_more (entry_at files g)) None ne
 
   -- open files are what they were
-  pub more-file : (f : ℕ) → file_at (with_sharer g files) f ≡ file_at files f
+  pub more-file : (f : ℕ) → open_file_at (with_sharer g files) f ≡ open_file_at files f
   more-file f = elim (cases_eq f g) [
-    | inl same ↦ ap (λ n. file_at (with_sharer g files) n) same ∙ ap (option_map entry_file) more-here ∙ sym (ap (λ n. file_at files n) same ∙ ap (option_map entry_file) is)
+    | inl same ↦ ap (λ n. open_file_at (with_sharer g files) n) same ∙ ap (option_map entry_file) more-here ∙ sym (ap (λ n. open_file_at files n) same ∙ ap (option_map entry_file) is)
     | inr ne ↦ ap (option_map entry_file) (more-other f ne)
   ]
 

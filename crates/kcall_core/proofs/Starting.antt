@@ -11,7 +11,7 @@ use Rattle.xk_base.specs.declared.limits.TheConstants.{NPROC, OPEN_FILES}
 use Rattle.rv64i_core.specs.Registers.{Registers, fresh}
 use Rattle.hart_core.specs.declared.hart.Hart.{Hart}
 use Rattle.file_table.specs.Named.{none_named}
-use Rattle.file_table.specs.OpenFiles.{file_at, none_open}
+use Rattle.file_table.specs.OpenFiles.{open_file_at, none_open}
 use Rattle.proc_table.specs.Processes.{status_of, newborn}
 use Rattle.proc_table.specs.Slots.{Slots, place_at, descriptors_at, IsTable, no_process, with_new, slot_for_new}
 use Rattle.proc_table.specs.declared.process.Process.{Process}
@@ -23,7 +23,7 @@ use Rattle.kcall_core.specs.ByPid.{by_pid}
 use Rattle.kcall_core.specs.First.{first_regs, first_process, first_state}
 use Rattle.kcall_core.specs.NewKernel.{empty_state}
 use Rattle.kcall_core.specs.Starts.{HasNoProcess}
-use Rattle.kcall_core.specs.Holdings.{Held, or_nothing, held_at, HasMemory, IsVacant, with_saved, cost}
+use Rattle.kcall_core.specs.Holdings.{Held, or_nothing, held_at, HasMemory, IsVacant, with_saved, held_cost}
 use Rattle.kcall_core.specs.Memories as memories
 use Rattle.kcall_core.specs.Memories.{held_in, each_of, pipes_of, free_of, SlotChanges, Same}
 use Rattle.kcall_core.specs.declared.memories.Memories.{Memories}
@@ -52,7 +52,7 @@ first_held l = record { image = l.image; saved = first_regs l }
 
 -- the slot is filled, and then its trapframe is
 pub record Filled (old new : Memories) (l : Loaded) : Type 0 where
-  pub sound : memories.IsSound new
+  pub sound : memories.AreSound new
   pub each : each_of new ≡ set (each_of old) 0 (Some (first_held l))
   pub pipes : pipes_of new ≡ pipes_of old
   pub free : free_of new + (price l.image + 1) ≡ free_of old
@@ -70,7 +70,7 @@ filled {old} {middle} {new} {l} regs lt vacant first second is =
       sound = second.sound;
       each = second.each ∙ (λ t. set (first.each t) 0 (Some (held t))) ∙ set-twice (each_of old) 0 (Some (record { image = l.image; saved = fresh 0 })) (Some (first_held l));
       pipes = second.pipes ∙ first.pipes;
-      free = omega (arith, first.free, second.free, ap cost vacant, ap cost here, ap (λ (x : Held). price x.image) held);
+      free = omega (arith, first.free, second.free, ap held_cost vacant, ap held_cost here, ap (λ (x : Held). price x.image) held);
       frames = second.frames ∙ first.frames;
     }
 
@@ -146,7 +146,7 @@ module _ (k k' : Kernel) (h h' : Hart) (l : Loaded) (sound : IsSound k h) (blank
       let next : k'.table.next ≡ 2 = ap (λ (t : Slots). t.next) table ∙ ap (λ (t : Slots). t.next + 1) blank.table in
       λ t. record {
         processes = processes t;
-        files = gathered (file_at (rest.files t)) OPEN_FILES;
+        files = gathered (open_file_at (rest.files t)) OPEN_FILES;
         pipes = changes.pipes t;
         console = rest.console t;
         clock = rest.clock t;
@@ -157,7 +157,7 @@ module _ (k k' : Kernel) (h h' : Hart) (l : Loaded) (sound : IsSound k h) (blank
 
 -- ---- the whole start
 
-each-length : (m : Memories) → memories.IsSound m → length (each_of m) ≡ NPROC
+each-length : (m : Memories) → memories.AreSound m → length (each_of m) ≡ NPROC
 unfolding each_of
 each-length m sound = length-map m.each.items (held_in m.ram) ∙ sound.slots
 
@@ -212,7 +212,7 @@ same-state k k' h blank same table rest =
     by_pid-same (entry_at k h) (entry_at k' h) NPROC (λ j. ap (λ (t : Slots). entry_of k' h j (place_at t j)) table ∙ ap (entry_of k' h j) (none j) ∙ sym (ap (entry_of k h j) (none j))) in
     λ t. record {
       processes = processes t;
-      files = gathered (file_at (rest.files t)) OPEN_FILES;
+      files = gathered (open_file_at (rest.files t)) OPEN_FILES;
       pipes = same.pipes t;
       console = rest.console t;
       clock = rest.clock t;

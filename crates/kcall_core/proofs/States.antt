@@ -7,7 +7,7 @@ use Rattle.std.proofs.lemmas.Bool.Decides.{eqb_tells}
 use Rattle.std.proofs.lemmas.List.{get_or_past, get_or-set_same, get_or-set_other}
 use Rattle.xk_base.specs.declared.limits.TheConstants.{NPROC, OPEN_FILES}
 use Rattle.xk_base.specs.Gathered.{gathered}
-use Rattle.file_table.specs.OpenFiles.{file_at}
+use Rattle.file_table.specs.OpenFiles.{open_file_at}
 use Rattle.rv64i_core.specs.Registers.{Registers}
 use Rattle.hart_core.specs.declared.hart.Hart.{Hart}
 use Rattle.proc_table.specs.Processes.{status_of}
@@ -189,7 +189,7 @@ goes-state k k' h h' sound runs on =
     let processes = goes-processes k k' h h' sound runs on.goes in
     λ t. record {
       processes = processes t;
-      files = gathered (file_at (on.files t)) OPEN_FILES;
+      files = gathered (open_file_at (on.files t)) OPEN_FILES;
       pipes = on.pipes t;
       console = on.console t;
       clock = on.clock t;
@@ -199,7 +199,7 @@ goes-state k k' h h' sound runs on =
     }
 
 -- and the kernel is sound, as long as the hart runs on in the slot
-pub goes-sound : (k k' : Kernel) (h h' : Hart) → IsSound k h → IsRunning k → Goes k k' → memories.IsSound k'.memories → HasMemory (each_of k'.memories) (slot_now k) → RunsIn k'.memories (slot_now k) h' → IsSound k' h'
+pub goes-sound : (k k' : Kernel) (h h' : Hart) → IsSound k h → IsRunning k → Goes k k' → memories.AreSound k'.memories → HasMemory (each_of k'.memories) (slot_now k) → RunsIn k'.memories (slot_now k) h' → IsSound k' h'
 goes-sound k k' h h' sound runs goes sound' has runs' =
     let r = running k h sound runs in
     let table : (i : ℕ) → place_at k'.table i ≡ place_at k.table i = λ i. ap (λ (t : Slots). place_at t i) goes.table in

@@ -21,10 +21,10 @@ use Rattle.rv64i_core.specs.Step.{Step, Next, Ecall, Fault, instr, stop_of, regs
 use Rattle.rv64i_core.specs.declared.execution.Stop.{Stop}
 use Rattle.hart_core.specs.declared.hart.Hart.{Hart}
 use Rattle.hart_core.specs.Steps.{root_of, FitsHart, Stepped}
-use Rattle.hart_core.specs.UserMemory.{user, user_at, write_image, write_pages, put_bytes, store_in, SpaceState, space_state, space_store}
+use Rattle.hart_core.specs.UserMemory.{user, user_at, with_store, write_pages, put_bytes, store_in, SpaceState, space_state, space_store}
 use Rattle.hart_core.proofs.Caches.{fits_root}
 use Rattle.kcall_core.specs.Holdings.{held_at}
-use Rattle.kcall_core.specs.Memories.{IsSound, each_of, free_of, RunsIn, Steps, step_in}
+use Rattle.kcall_core.specs.Memories.{AreSound, each_of, free_of, RunsIn, Steps, step_in}
 use Rattle.kcall_core.specs.declared.memories.Memories.{Memories}
 use Rattle.kcall_core.proofs.Lists.{set-read}
 use Rattle.kcall_core.proofs.Changes.{Stands, belongs-of, image-seen, space-changes}
@@ -61,14 +61,14 @@ after-changed pool ram s (Fault cause) b = changed-not pool ram s b
 step-changed : (pool : Pool) (ram ram' : List (List ℕ)) (s : Space) (step : Step) → Belongs pool ram s → space_state s.root ram' ≡ state_after space_store (space_state s.root ram) step → Changed pool ram s pool ram' s
 step-changed pool ram ram' s step b e = subst (λ r. Changed pool ram s pool r s) (sym (ap (λ (x : SpaceState). x.ram) e)) (after-changed pool ram s step b)
 
-step-image : (ram ram' : List (List ℕ)) (s : Space) (step : Step) → pages_of ram' s.root ≡ state_after write_pages (pages_of ram s.root) step → image_of ram' s ≡ state_after write_image (image_of ram s) step
+step-image : (ram ram' : List (List ℕ)) (s : Space) (step : Step) → pages_of ram' s.root ≡ state_after write_pages (pages_of ram s.root) step → image_of ram' s ≡ state_after with_store (image_of ram s) step
 step-image ram ram' s (Next regs None) e = ap (λ p. record { pages = p; size = s.size }) e
 step-image ram ram' s (Next regs (Some store)) e = ap (λ p. record { pages = p; size = s.size }) e
 step-image ram ram' s Ecall e = ap (λ p. record { pages = p; size = s.size }) e
 step-image ram ram' s (Fault cause) e = ap (λ p. record { pages = p; size = s.size }) e
 
 -- its size stays
-step-limit : (image : Image) (step : Step) → image.size ≤ SIZE_LIMIT → (state_after write_image image step).size ≤ SIZE_LIMIT
+step-limit : (image : Image) (step : Step) → image.size ≤ SIZE_LIMIT → (state_after with_store image step).size ≤ SIZE_LIMIT
 step-limit image (Next regs None) limit = limit
 step-limit image (Next regs (Some store)) limit = limit
 step-limit image Ecall limit = limit
@@ -87,7 +87,7 @@ pub record Made (ram ram' : List (List ℕ)) (hart hart' : Hart) (stop : Stop) :
   pub root : hart'.root ≡ hart.root
   pub fits : FitsHart ram' hart'.root hart'.cache
 
-pub runs-stands : (old : Memories) (slot : ℕ) (hart : Hart) → IsSound old → (r : RunsIn old slot hart) → slot < length old.each.items → Stands old slot r.memory
+pub runs-stands : (old : Memories) (slot : ℕ) (hart : Hart) → AreSound old → (r : RunsIn old slot hart) → slot < length old.each.items → Stands old slot r.memory
 runs-stands old slot hart sound r lt = record { sound = sound; inside = lt; is = r.is }
 
 free-same : (old new : Memories) → new.pool ≡ old.pool → length (free_in new.pool new.ram) ≡ length (free_in old.pool old.ram) → free_of new ≡ free_of old
@@ -106,12 +106,12 @@ steps old new slot hart hart' stop r s made pool each pipes =
     let pages : pages_of new.ram space'.root ≡ state_after write_pages (pages_of old.ram space'.root) (step_in old slot hart.regs) =
     sym (ap (λ x. pages_of new.ram x) root) ∙ made.stepped.pages ∙ ap (λ x. state_after write_pages (pages_of old.ram x) (instr hart.regs (user_at old.ram (root_of hart.root)))) root ∙ ap (state_after write_pages (pages_of old.ram space'.root)) step in
     let changed : Changed old.pool old.ram space' new.pool new.ram space' = subst (λ p. Changed old.pool old.ram space' p new.ram space') (sym pool) (step-changed old.pool old.ram new.ram space' (step_in old slot hart.regs) (belongs-of s) state) in
-    let image : image_of new.ram space' ≡ state_after write_image (held_at (each_of old) slot).image (step_in old slot hart.regs) =
-    step-image old.ram new.ram space' (step_in old slot hart.regs) pages ∙ ap (λ i. state_after write_image i (step_in old slot hart.regs)) (sym (image-seen s)) in
+    let image : image_of new.ram space' ≡ state_after with_store (held_at (each_of old) slot).image (step_in old slot hart.regs) =
+    step-image old.ram new.ram space' (step_in old slot hart.regs) pages ∙ ap (λ i. state_after with_store i (step_in old slot hart.regs)) (sym (image-seen s)) in
     record {
       ends = made.ends ∙ ap stop_of step;
       regs = made.regs ∙ ap (regs_after hart.regs) step;
-      changes = space-changes new space' (state_after write_image (held_at (each_of old) slot).image (step_in old slot hart.regs)) s changed image (step-limit (held_at (each_of old) slot).image (step_in old slot hart.regs) (subst (λ (n : Image). n.size ≤ SIZE_LIMIT) (sym (image-seen s)) (s.sound.memories slot r.memory s.is).size)) (each ∙ sym (set-read old.each.items slot (Some r.memory) None s.inside s.is)) pipes;
+      changes = space-changes new space' (state_after with_store (held_at (each_of old) slot).image (step_in old slot hart.regs)) s changed image (step-limit (held_at (each_of old) slot).image (step_in old slot hart.regs) (subst (λ (n : Image). n.size ≤ SIZE_LIMIT) (sym (image-seen s)) (s.sound.memories slot r.memory s.is).size)) (each ∙ sym (set-read old.each.items slot (Some r.memory) None s.inside s.is)) pipes;
       free = free-same old new pool (omega (
         arith,
         trade-lengths old.pool new.pool old.ram new.ram (space.frames_of old.ram space') (space.frames_of new.ram space') changed.traded,

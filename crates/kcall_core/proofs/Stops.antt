@@ -10,7 +10,7 @@ use Rattle.xk_base.specs.declared.limits.TheConstants.{NPROC, OPEN_FILES}
 use Rattle.rv64i_core.specs.Registers.{Registers}
 use Rattle.hart_core.specs.Translations.{nothing_kept}
 use Rattle.hart_core.specs.declared.hart.Hart.{Hart}
-use Rattle.file_table.specs.OpenFiles.{file_at}
+use Rattle.file_table.specs.OpenFiles.{open_file_at}
 use Rattle.proc_table.specs.Processes.{status_of, ended}
 use Rattle.proc_table.specs.Slots.{Slots, place_at, descriptors_at, place_is_live, IsLiveAt, IsTable, changed_at}
 use Rattle.proc_table.specs.declared.process.Process.{Process}
@@ -20,7 +20,7 @@ use Rattle.kcall_core.specs.Words.{is_this, or_zero}
 use Rattle.kcall_core.specs.Processes.{Zombie}
 use Rattle.kcall_core.specs.ByPid.{by_pid}
 use Rattle.kcall_core.specs.Updates.{give_frames, end_process}
-use Rattle.kcall_core.specs.Holdings.{Held, or_nothing, held_at, HasMemory, with_saved, cost}
+use Rattle.kcall_core.specs.Holdings.{Held, or_nothing, held_at, HasMemory, with_saved, held_cost}
 use Rattle.kcall_core.specs.Memories.{each_of, pipes_of, free_of, SlotChanges}
 use Rattle.kcall_core.specs.Kernel.{process_of, regs_at, entry_of, entry_at, state_of, or_nobody, slot_now, place_now, pid_now, live_now, IsCurrent, IsSound}
 use Rattle.kcall_core.specs.declared.kernel.Kernel.{Kernel}
@@ -51,7 +51,7 @@ module _ {k : Kernel} {h : Hart} (i : ℕ) (sound : IsSound k h) (is : k.current
 
 -- ---- suspended
 
-cost-saved : (o : Option Held) (regs : Registers) → IsSome o → cost (Some (with_saved regs (or_nothing o))) ≡ cost o
+cost-saved : (o : Option Held) (regs : Registers) → IsSome o → held_cost (Some (with_saved regs (or_nothing o))) ≡ held_cost o
 cost-saved None regs some = absurd (false-true some)
   where
     false-true : false ≡ true → ⊥
@@ -88,7 +88,7 @@ suspended-state k k' h h' i sound is changes table stopped rest =
     let free : free_of k'.memories ≡ free_of k.memories = omega (arith, changes.free, cost-saved (get_or (each_of k.memories) i None) h.regs (now-has i sound is)) in
     λ t. record {
       processes = processes t;
-      files = gathered (file_at (rest.files t)) OPEN_FILES;
+      files = gathered (open_file_at (rest.files t)) OPEN_FILES;
       pipes = changes.pipes t;
       console = rest.console t;
       clock = rest.clock t;
@@ -152,7 +152,7 @@ entered-state k k' h h' i p sound stopped is regs memories table current rest =
     ]) in
     λ t. record {
       processes = processes t;
-      files = gathered (file_at (rest.files t)) OPEN_FILES;
+      files = gathered (open_file_at (rest.files t)) OPEN_FILES;
       pipes = pipes_of (memories t);
       console = rest.console t;
       clock = rest.clock t;
@@ -168,7 +168,7 @@ read-some [] i x e = refl
 read-some (y ∷ ys) zero x e = e
 read-some (y ∷ ys) (suc i) x e = read-some ys i x e
 
-pub cost-held : (o : Option Held) → IsSome o → cost o ≡ price (or_nothing o).image + 1
+pub cost-held : (o : Option Held) → IsSome o → held_cost o ≡ price (or_nothing o).image + 1
 cost-held None some = absurd (false-true some)
   where
     false-true : false ≡ true → ⊥
@@ -241,7 +241,7 @@ module _ {k : Kernel} (k' : Kernel) {h : Hart} (h' : Hart) {i : ℕ} (status : �
       omega (arith, changes.free, cost-held (get_or (each_of k.memories) i None) (now-has i sound is), ap (λ n. price (held_at (each_of k.memories) n).image) slot) in
       λ t. record {
         processes = processes t;
-        files = gathered (file_at (rest.files t)) OPEN_FILES;
+        files = gathered (open_file_at (rest.files t)) OPEN_FILES;
         pipes = changes.pipes t;
         console = rest.console t;
         clock = rest.clock t;

@@ -10,7 +10,7 @@ use Rattle.xk_base.specs.Gathered.{gathered}
 use Rattle.sv39_core.proofs.Gathered.{same_pages}
 use Rattle.hart_core.specs.declared.hart.Hart.{Hart}
 use Rattle.file_table.specs.Named.{named_by, with_named, none_named}
-use Rattle.file_table.specs.OpenFiles.{file_at}
+use Rattle.file_table.specs.OpenFiles.{open_file_at}
 use Rattle.proc_table.specs.Slots.{Slots, place_at, descriptors_at, IsTable}
 use Rattle.proc_table.specs.declared.process.Process.{Process}
 use Rattle.kcall_core.specs.State.{named_file}
@@ -30,7 +30,7 @@ use Rattle.kcall_core.proofs.States.{Alone, slot-state, slot-inside, not-this}
 
 -- the memories of the processes are the same, and whoever ran runs on
 pub record Shares (old new : Memories) : Type 0 where
-  pub sound : memories.IsSound new
+  pub sound : memories.AreSound new
   pub each : each_of new ≡ each_of old
   pub runs : (slot : ℕ) (hart : Hart) → RunsIn old slot hart → RunsIn new slot hart
 
@@ -138,7 +138,7 @@ module _ (k k1 : Kernel) (h : Hart) (slot d : ℕ) (sound : IsSound k h) (is : k
   unfolding state_of
   taken-state console programs clock = λ t. record {
     processes = taken-processes t;
-    files = gathered (file_at k1.files) OPEN_FILES;
+    files = gathered (open_file_at k1.files) OPEN_FILES;
     pipes = pipes_of k1.memories;
     console = console t;
     clock = clock t;

@@ -12,16 +12,16 @@ use Rattle.file_table.specs.declared.open_file.Target.TheVariants.{Console as Te
 use Rattle.kcall_core.specs.Processes.{Live}
 use Rattle.kcall_core.specs.State.{State, live}
 use Rattle.kcall_core.specs.Own.{Own, gone_with}
-use Rattle.kcall_core.specs.View.{View, Table, named, numbered, rename, rename_shown, descriptor_at, descriptor_on, show, or_gone, view, view_of, child_of}
+use Rattle.kcall_core.specs.View.{View, Descriptors, named, numbered, rename, rename_shown, descriptor_at, descriptor_on, show, or_gone, view, view_of, child_of}
 use Rattle.kcall_core.specs.Quiet.{file_at, file_of, pipe_of_file, pipe_of_open, pipe_of_target, offset_left, pipe_left, shown_offset, shown_pipe, seen, seen_children, Quiet}
 use Rattle.kcall_core.proofs.Frame.{open_offset, target_offset, start_target, kind, Tells, Spares, seen_table_is}
 
-shown_offset_is : (t : State) (names : Table) (n : ℕ) (x : Target) → shown_offset n (rename_shown names (show t x)) ≡ target_offset n x
+shown_offset_is : (t : State) (names : Descriptors) (n : ℕ) (x : Target) → shown_offset n (rename_shown names (show t x)) ≡ target_offset n x
 shown_offset_is t names n Terminal = refl
 shown_offset_is t names n (File program offset) = refl
 shown_offset_is t names n (Pipe_end pipe end) = refl
 
-shown_pipe_is : (t : State) (names : Table) (x : Pipe) (j : ℕ) (y : Target) → pipe_of_target y ≡ Some j → shown_pipe x (rename_shown names (show t y)) ≡ or_gone (get t.pipes j)
+shown_pipe_is : (t : State) (names : Descriptors) (x : Pipe) (j : ℕ) (y : Target) → pipe_of_target y ≡ Some j → shown_pipe x (rename_shown names (show t y)) ≡ or_gone (get t.pipes j)
 shown_pipe_is t names x j Terminal e = let no : ⊥ = cc in absurd no
 shown_pipe_is t names x j (File program offset) e = let no : ⊥ = cc in absurd no
 shown_pipe_is t names x j (Pipe_end pipe end) e = let same : pipe ≡ j = cc in ap (λ (k : ℕ). or_gone (get t.pipes k)) same

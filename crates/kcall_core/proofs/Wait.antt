@@ -10,7 +10,7 @@ use Rattle.kcall_core.specs.Words.{word}
 use Rattle.xk_base.specs.Words.{le_bytes}
 use Rattle.xk_base.specs.Bytes.{write_image}
 use Rattle.kcall_core.specs.Buffers.{writable}
-use Rattle.kcall_core.specs.Processes.{Process, Alive, Live, Status, Zombie, status_of}
+use Rattle.kcall_core.specs.Processes.{Process, Alive, Live, Status, Zombie, child_status}
 use Rattle.proc_table.specs.declared.process.Call.{Call}
 use Rattle.kcall_core.specs.State.{State, live, live_part}
 use Rattle.kcall_core.specs.View.{View, view_of, child_of}
@@ -75,8 +75,8 @@ module _ (s : State) (p q : ℕ) (old : Live) (was : get s.processes p ≡ Some 
   keeps_other : (m : ℕ) (l : Live) → m ≢ p → live s m ≡ Some l → live after m ≡ Some (record l { killed = l.killed || false; parent = l.parent })
   keeps_other m l other is = stays m l other is ∙ is ∙ (λ j. Some (record l { killed = or_false l.killed j }))
 
-  its_status : status_of (child_of p (get s.processes q)) ≡ status
-  its_status = ap (λ (o : Option Process). status_of (child_of p o)) zombie ∙ ap (λ (b : Bool). status_of (cond b (Some (Status status)) None)) (eq-eqb p p refl)
+  its_status : child_status (child_of p (get s.processes q)) ≡ status
+  its_status = ap (λ (o : Option Process). child_status (child_of p o)) zombie ∙ ap (λ (b : Bool). child_status (cond b (Some (Status status)) None)) (eq-eqb p p refl)
 
   -- the row's answer and p's next view
   pub wait_own : (not (nat_eq c.a0 0) && not (writable old.image c.a0 4)) ≡ false → least_zombie (view_of s p old) ≡ Some q

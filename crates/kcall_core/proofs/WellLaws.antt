@@ -22,7 +22,7 @@ use Rattle.kcall_core.specs.Own.{Exited}
 use Rattle.kcall_core.specs.RowLaws.{WellOutside, WellForked, WellGone, WellReaped, WellAlone, WritesTakeNothing, StoresTakeNothing, FilesLeft}
 use Rattle.xk_base.specs.Gathered.{insert_some}
 use Rattle.rv64i_core.specs.Memory.{written}
-use Rattle.hart_core.specs.UserMemory.{write_image as with_store, written_page, write_pages}
+use Rattle.hart_core.specs.UserMemory.{with_store, written_page, write_pages}
 use Rattle.kcall_core.proofs.Maps.{get_same, get_other}
 use Rattle.kcall_core.proofs.ForkWell as forks
 use Rattle.kcall_core.proofs.GoneWell as goes

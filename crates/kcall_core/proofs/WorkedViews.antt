@@ -9,7 +9,7 @@ use Rattle.file_table.specs.declared.open_file.End.TheVariants.{Reading, Writing
 use Rattle.proc_table.specs.declared.process.Call.{Call}
 use Rattle.kcall_core.specs.Words.{A0}
 use Rattle.kcall_core.specs.Processes.{Child}
-use Rattle.kcall_core.specs.View.{View, Table, Descriptor, Shown_terminal, Shown_pipe, Shown_file}
+use Rattle.kcall_core.specs.View.{View, Descriptors, Descriptor, Shown_terminal, Shown_pipe, Shown_file}
 
 -- ---- calls and views
 
@@ -40,7 +40,7 @@ in_call image c = record {
 }
 
 -- descriptor 0 is on the read end of a pipe, and 1 on its write end
-abbrev pub ends_of : Pipe → Table
+abbrev pub ends_of : Pipe → Descriptors
 ends_of x = λ d. cond (nat_eq d 0) (Some (record { file = 0; read = true; write = false; shown = Shown_pipe 0 Reading x }))
     (cond (nat_eq d 1) (Some (record { file = 1; read = false; write = true; shown = Shown_pipe 0 Writing x })) None)
 

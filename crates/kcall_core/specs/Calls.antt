@@ -19,7 +19,7 @@ use Rattle.file_table.specs.declared.open_file.End.TheVariants.{Reading, Writing
 use Rattle.proc_table.specs.declared.process.Call.{Call}
 use Rattle.kcall_core.specs.Words.{SP, A0, A1, CLOCK_ROUND, c_int, word, minus_one, with_value}
 use Rattle.kcall_core.specs.Buffers.{readable, writable, text_at, texts_at, no_slashes, grown, shrunk}
-use Rattle.kcall_core.specs.Processes.{Running, has_status, status_of}
+use Rattle.kcall_core.specs.Processes.{Running, has_status, child_status}
 use Rattle.kcall_core.specs.Programs.{console_name, program_bytes, program_named, place_of}
 use Rattle.kcall_core.specs.View.{View, Descriptor, Shown, Shown_terminal, Shown_file, Shown_pipe}
 use Rattle.kcall_core.specs.Lines.{◌>>=◌, ◌>>◌, ◌when◌, ◌or◌, natural, result_of}
@@ -109,7 +109,7 @@ module _ (c : Call) where
       refused when not (c.a0 == 0) && not (writable v.image c.a0 4)
       refused when not (has_child v)  -- no child
       zombie ← least_zombie v or waits 0 v  -- by pid
-      let status = le_bytes 4 (cast_unsigned w32 (status_of (v.children zombie)))
+      let status = le_bytes 4 (cast_unsigned w32 (child_status (v.children zombie)))
       done (pos zombie) (record v {
         image = if c.a0 == 0 then v.image else write_image v.image c.a0 status;
         pids = filter (λ pid. not (pid == zombie)) v.pids;

@@ -6,7 +6,7 @@ use Rattle.xk_base.specs.declared.limits.TheConstants.{NOFILE}
 use Rattle.hart_core.specs.declared.hart.Hart.{Hart}
 use Rattle.pipe_core.specs.Pipe.{Pipe}
 use Rattle.file_table.specs.OpenFiles as files
-use Rattle.file_table.specs.OpenFiles.{file_at}
+use Rattle.file_table.specs.OpenFiles.{open_file_at}
 use Rattle.file_table.specs.declared.open_file.End.{End}
 use Rattle.file_table.specs.declared.open_file.End.TheVariants.{Reading, Writing}
 use Rattle.file_table.specs.declared.open_file.OpenFile.{OpenFile}
@@ -77,7 +77,7 @@ pub record Remains (k : Kernel) (h : Hart) (k' : Kernel) : Type 0 where
   pub current : k'.current ≡ k.current
   pub last : k'.table.last ≡ k.table.last
   pub frames : frame_count k' ≡ frame_count k
-  pub files : (file : ℕ) (x : OpenFile) → file_at k'.files file ≡ Some x → file_at k.files file ≡ Some x
+  pub files : (file : ℕ) (x : OpenFile) → open_file_at k'.files file ≡ Some x → open_file_at k.files file ≡ Some x
   pub ends : (i : ℕ) (end : End) → count_on end (or_gone (get (state_of k h).pipes i)) ≡ 0 → count_on end (or_gone (get (state_of k' h).pipes i)) ≡ 0
   pub places : (slot : ℕ) → place_at k'.table slot ≡ option_map (woken_by (closes_wake (state_of k h).pipes (state_of k' h).pipes)) (place_at k.table slot)
 

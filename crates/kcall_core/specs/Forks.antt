@@ -6,7 +6,7 @@ use Rattle.rv64i_core.specs.Registers.{fresh}
 use Rattle.hart_core.specs.declared.hart.Hart.{Hart}
 use Rattle.file_table.specs.Named.{named_by}
 use Rattle.file_table.specs.OpenFiles as files
-use Rattle.file_table.specs.OpenFiles.{file_at}
+use Rattle.file_table.specs.OpenFiles.{open_file_at}
 use Rattle.proc_table.specs.Slots.{descriptors_at, slot_for_new, with_new}
 use Rattle.kcall_core.specs.Updates.{more_on_all}
 use Rattle.kcall_core.specs.Holdings.{held_at, with_saved}
@@ -37,7 +37,7 @@ pub record IsHanded (k : Kernel) (h : Hart) (child n : ℕ) (k' : Kernel) : Type
   pub table : k'.table ≡ record (with_new child (Some (pid_now k)) k.table) { descriptors = k'.table.descriptors }
   pub files : files.IsTable k'.files
   pub counted : AreCounted k'.files k'.table
-  pub same : (f : ℕ) → file_at k'.files f ≡ file_at k.files f
+  pub same : (f : ℕ) → open_file_at k'.files f ≡ open_file_at k.files f
   pub others : (j : ℕ) → j ≢ child → descriptors_at k'.table j ≡ descriptors_at k.table j
   pub given : (d : ℕ) → named_by (descriptors_at k'.table child) d ≡ (if nat_lt d n then named_by (descriptors_at k.table (slot_now k)) d else None)
   pub each : each_of k'.memories ≡ set (each_of k.memories) child (Some (with_saved (fresh 0) (held_at (each_of k.memories) (slot_now k))))

@@ -39,9 +39,9 @@ abbrev pub with_saved : Registers → Held → Held
 with_saved saved held = record held { saved = saved }
 
 -- how many frames a memory takes: its image's price, and the trapframe
-abbrev pub cost : Option Held → ℕ
-cost None = 0
-cost (Some held) = price held.image + 1
+abbrev pub held_cost : Option Held → ℕ
+held_cost None = 0
+held_cost (Some held) = price held.image + 1
 
 -- a pipe takes one frame
 abbrev pub pipe_cost : Option Pipe → ℕ

@@ -8,7 +8,7 @@ use Rattle.xk_base.specs.Image.{Image, price}
 use Rattle.rv64i_core.specs.Registers.{Registers}
 use Rattle.hart_core.specs.Translations.{nothing_kept}
 use Rattle.hart_core.specs.declared.hart.Hart.{Hart}
-use Rattle.file_table.specs.OpenFiles.{file_at}
+use Rattle.file_table.specs.OpenFiles.{open_file_at}
 use Rattle.proc_table.specs.Processes.{status_of, is_marked, call_of, newborn}
 use Rattle.proc_table.specs.Slots.{place_at, descriptors_at, IsTable}
 use Rattle.proc_table.specs.declared.process.Process.{Process}
@@ -67,7 +67,7 @@ entry_at k h slot = entry_of k h slot (place_at k.table slot)
 unfoldable pub state_of : Kernel → Hart → State
 state_of k h = record {
   processes = by_pid (entry_at k h) NPROC;
-  files = gathered (file_at k.files) OPEN_FILES;
+  files = gathered (open_file_at k.files) OPEN_FILES;
   pipes = pipes_of k.memories;
   console = k.console;
   clock = k.clock;
@@ -126,7 +126,7 @@ pub record IsCurrent (k : Kernel) (h : Hart) (slot : ℕ) : Type 0 where
 
 -- each frame has one owner; the table is whole; a live process has a memory, and nothing else has; the hart runs the current process, and none where there is none
 pub record IsSound (k : Kernel) (h : Hart) : Type 0 where
-  pub memories : memories.IsSound k.memories
+  pub memories : memories.AreSound k.memories
   pub table : IsTable k.table
   pub lives : (slot : ℕ) (p : Process) → place_at k.table slot ≡ Some p → status_of p ≡ None → HasMemory (each_of k.memories) slot
   pub ended : (slot : ℕ) (p : Process) (status : ℤ) → place_at k.table slot ≡ Some p → status_of p ≡ Some status → get_or (each_of k.memories) slot None ≡ None

@@ -14,12 +14,12 @@ use Rattle.rv64i_core.specs.Step.{Step, stop_of, regs_after, state_after}
 use Rattle.rv64i_core.specs.declared.execution.Stop.{Stop}
 use Rattle.hart_core.specs.Trapframe.{saved}
 use Rattle.hart_core.specs.Translations.{Fits}
-use Rattle.hart_core.specs.UserMemory.{write_image}
+use Rattle.hart_core.specs.UserMemory.{with_store}
 use Rattle.hart_core.specs.declared.hart.Hart.{Hart}
 use Rattle.pipe_core.specs.Pipe.{Pipe, IsPipe, pipe_in}
 use Rattle.kcall_core.specs.Instruction.{next_instruction}
 use Rattle.kcall_core.specs.Words.{count_if}
-use Rattle.kcall_core.specs.Holdings.{Held, held_at, with_image, cost, pipe_cost, with_pipe}
+use Rattle.kcall_core.specs.Holdings.{Held, held_at, with_image, held_cost, pipe_cost, with_pipe}
 use Rattle.kcall_core.specs.declared.memories.Memory.{Memory}
 use Rattle.kcall_core.specs.declared.memories.Memories.{Memories}
 
@@ -39,12 +39,12 @@ abbrev pub keeps_pipe : List Bool → ℕ → Bool
 keeps_pipe pipes f = get_or pipes f false
 
 -- the pipe that a frame keeps, if it does
-abbrev pub pipe_at : List (List ℕ) → List Bool → ℕ → Option Pipe
-pipe_at ram pipes f = if keeps_pipe pipes f then Some (pipe_in ram f) else None
+abbrev pub kept_pipe : List (List ℕ) → List Bool → ℕ → Option Pipe
+kept_pipe ram pipes f = if keeps_pipe pipes f then Some (pipe_in ram f) else None
 
 -- the pipes, by the frames that keep them
 unfoldable pub pipes_of : Memories → FinMap nat_cmp Pipe
-pipes_of m = gathered (pipe_at m.ram m.pipes.items) FRAMES_MAX
+pipes_of m = gathered (kept_pipe m.ram m.pipes.items) FRAMES_MAX
 
 -- how many frames are free
 unfoldable pub free_of : Memories → ℕ
@@ -53,18 +53,18 @@ free_of m = length (free_in m.pool m.ram)
 -- ---- whose each frame is
 
 -- the frames of a memory: its trapframe, and the root, the tables and the pages of its space
-abbrev pub frames_of : List (List ℕ) → Option Memory → List ℕ
-frames_of ram None = []
-frames_of ram (Some m) = m.trapframe ∷ space.frames_of ram m.space
+abbrev pub slot_frames : List (List ℕ) → Option Memory → List ℕ
+slot_frames ram None = []
+slot_frames ram (Some m) = m.trapframe ∷ space.frames_of ram m.space
 
 -- lists, one after another
-unfoldable pub joined : List (List ℕ) → List ℕ
-joined [] = []
-joined (xs ∷ rest) = xs ++ joined rest
+unfoldable pub all_joined : List (List ℕ) → List ℕ
+all_joined [] = []
+all_joined (xs ∷ rest) = xs ++ all_joined rest
 
 -- the frames of all processes
 abbrev pub process_frames : List (List ℕ) → List (Option Memory) → List ℕ
-process_frames ram each = joined (map (frames_of ram) each)
+process_frames ram each = all_joined (map (slot_frames ram) each)
 
 -- how many owners and roles frame f has: free, a place in the memory of a process, a pipe
 abbrev pub owners : Pool → List (List ℕ) → List (Option Memory) → List Bool → ℕ → ℕ
@@ -86,8 +86,8 @@ pub record IsAccounted (pool : Pool) (ram : List (List ℕ)) (each : List (Optio
   pub once : (f : ℕ) → f < length ram → owners pool ram each pipes f ≡ 1
   pub inside : (f : ℕ) → length ram ≤ f → owners pool ram each pipes f ≡ 0
 
-abbrev pub IsSound : Memories → Type 0
-IsSound m = IsAccounted m.pool m.ram m.each.items m.pipes.items
+abbrev pub AreSound : Memories → Type 0
+AreSound m = IsAccounted m.pool m.ram m.each.items m.pipes.items
 
 -- ---- a hart that runs the process in a slot
 
@@ -106,16 +106,16 @@ is_between first end page = nat_le first page && nat_lt page end
 
 -- the memory in a slot is another, or there is none: all other memories, all pipes and each other hart stay, no frame is lost
 pub record SlotChanges (old new : Memories) (slot : ℕ) (after : Option Held) : Type 0 where
-  pub sound : IsSound new
+  pub sound : AreSound new
   pub each : each_of new ≡ set (each_of old) slot after
   pub pipes : pipes_of new ≡ pipes_of old
-  pub free : free_of new + cost after ≡ free_of old + cost (get_or (each_of old) slot None)
+  pub free : free_of new + held_cost after ≡ free_of old + held_cost (get_or (each_of old) slot None)
   pub frames : length new.ram ≡ length old.ram
   pub runs : (other : ℕ) (hart : Hart) → other ≢ slot → RunsIn old other hart → RunsIn new other hart
 
 -- the pipe that a frame keeps is another, or it keeps none: all memories, all other pipes and each hart stay, no frame is lost
 pub record PipeChanges (old new : Memories) (f : ℕ) (after : Option Pipe) : Type 0 where
-  pub sound : IsSound new
+  pub sound : AreSound new
   pub each : each_of new ≡ each_of old
   pub pipes : pipes_of new ≡ with_pipe f after (pipes_of old)
   pub free : free_of new + pipe_cost after ≡ free_of old + pipe_cost (get (pipes_of old) f)
@@ -124,7 +124,7 @@ pub record PipeChanges (old new : Memories) (f : ℕ) (after : Option Pipe) : Ty
 
 -- nothing that can be seen is another
 pub record Same (old new : Memories) : Type 0 where
-  pub sound : IsSound new
+  pub sound : AreSound new
   pub each : each_of new ≡ each_of old
   pub pipes : pipes_of new ≡ pipes_of old
   pub free : free_of new ≡ free_of old
@@ -141,6 +141,6 @@ step_in m slot regs = next_instruction regs (held_at (each_of m) slot).image
 pub record Steps (old new : Memories) (slot : ℕ) (hart hart' : Hart) (stop : Stop) : Type 0 where
   pub ends : stop ≡ stop_of (step_in old slot hart.regs)
   pub regs : hart'.regs ≡ regs_after hart.regs (step_in old slot hart.regs)
-  pub changes : let held = held_at (each_of old) slot in SlotChanges old new slot (Some (with_image (state_after write_image held.image (step_in old slot hart.regs)) held))
+  pub changes : let held = held_at (each_of old) slot in SlotChanges old new slot (Some (with_image (state_after with_store held.image (step_in old slot hart.regs)) held))
   pub free : free_of new ≡ free_of old
   pub runs : RunsIn new slot hart'

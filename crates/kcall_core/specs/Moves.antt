@@ -15,7 +15,7 @@ use Rattle.proc_table.specs.declared.process.Call.{Call}
 use Rattle.kcall_core.specs.Words.{c_int}
 use Rattle.kcall_core.specs.Buffers.{readable, writable}
 use Rattle.kcall_core.specs.Holdings.{held_at, with_image}
-use Rattle.kcall_core.specs.Memories.{each_of, pipes_of, free_of, IsSound, RunsIn}
+use Rattle.kcall_core.specs.Memories.{each_of, pipes_of, free_of, AreSound, RunsIn}
 use Rattle.kcall_core.specs.RowLaws.{OnPipe, IsBuffer}
 use Rattle.kcall_core.specs.Kernel.{state_of, pid_now, live_now}
 use Rattle.kcall_core.specs.declared.kernel.Kernel.{Kernel}
@@ -23,7 +23,7 @@ use Rattle.kcall_core.specs.declared.memories.Memories.{Memories}
 
 -- the pipe that a frame keeps is another, and so is the image in a slot: all else stays, and no frame is taken or given back
 pub record Moves (old new : Memories) (slot : ℕ) (image : Image) (f : ℕ) (pipe : Pipe) : Type 0 where
-  pub sound : IsSound new
+  pub sound : AreSound new
   pub each : each_of new ≡ set (each_of old) slot (Some (with_image image (held_at (each_of old) slot)))
   pub pipes : pipes_of new ≡ insert (pipes_of old) f pipe
   pub free : free_of new ≡ free_of old

@@ -3,7 +3,7 @@ use Rattle.std.specs.Prelude.{ℕ, ℤ, List, Option, None, Some}
 use Rattle.xk_base.specs.declared.access.Cause.{Cause}
 use Rattle.console_core.specs.Lists.{Console}
 use Rattle.kcall_core.specs.Words.{minus_one}
-use Rattle.kcall_core.specs.View.{View, Table}
+use Rattle.kcall_core.specs.View.{View, Descriptors}
 
 pub data Answer : Type 0 where
   -- an instruction is done
@@ -30,7 +30,7 @@ pub record Left : Type 0 where
   pub pids : List ℕ
   pub next_pid : ℕ
   pub free : ℕ
-  pub descriptors : Table
+  pub descriptors : Descriptors
 
 pub record Own : Type 0 where
   pub answer : Answer

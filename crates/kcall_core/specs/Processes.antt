@@ -37,7 +37,7 @@ has_status None = false
 has_status (Some Running) = false
 has_status (Some (Status status)) = true
 
-abbrev pub status_of : Option Child → ℤ
-status_of None = pos 0
-status_of (Some Running) = pos 0
-status_of (Some (Status status)) = status
+abbrev pub child_status : Option Child → ℤ
+child_status None = pos 0
+child_status (Some Running) = pos 0
+child_status (Some (Status status)) = status

@@ -10,7 +10,7 @@ use Rattle.file_table.specs.declared.open_file.Target.TheVariants.{Console as Te
 use Rattle.kcall_core.specs.Words.{is_this}
 use Rattle.kcall_core.specs.Processes.{Live, Child, Status}
 use Rattle.kcall_core.specs.State.{State, live}
-use Rattle.kcall_core.specs.View.{View, Table, Descriptor, Shown, Shown_terminal, Shown_file, Shown_pipe, view}
+use Rattle.kcall_core.specs.View.{View, Descriptors, Descriptor, Shown, Shown_terminal, Shown_file, Shown_pipe, view}
 use Rattle.kcall_core.specs.Own.{Own, gone_with}
 
 -- ---- the open file and the pipe that a descriptor is on, by the kernel's own numbers
@@ -69,7 +69,7 @@ meets_on_pipe s p q d = least_below (λ e. is_same (pipe_at s q d) (pipe_at s p 
 -- ---- the descriptors
 
 -- p's descriptor as the step left it
-abbrev pub left_at : Table → Option ℕ → Option Descriptor
+abbrev pub left_at : Descriptors → Option ℕ → Option Descriptor
 left_at t None = None
 left_at t (Some e) = t e
 
@@ -101,7 +101,7 @@ abbrev pub seen_descriptor : (file_met pipe_met : Option Descriptor) → Option 
 seen_descriptor f p None = None
 seen_descriptor f p (Some d) = Some (record d { shown = seen_shown f p d.shown })
 
-abbrev pub seen_table : State → ℕ → ℕ → (left : Table) → Table → Table
+abbrev pub seen_table : State → ℕ → ℕ → (left : Descriptors) → Descriptors → Descriptors
 seen_table s p q left t = λ d. seen_descriptor (left_at left (meets_on_file s p q d)) (left_at left (meets_on_pipe s p q d)) (t d)
 
 -- ---- the children

@@ -12,7 +12,7 @@ use Rattle.xk_base.specs.Loaded.{Loaded}
 use Rattle.rv64i_core.specs.Registers.{Registers, with_pc, after}
 use Rattle.rv64i_core.specs.Memory.{Store}
 use Rattle.rv64i_core.specs.Step.{Next, Ecall, Fault}
-use Rattle.hart_core.specs.UserMemory.{write_image as with_store}
+use Rattle.hart_core.specs.UserMemory.{with_store}
 use Rattle.pipe_core.specs.Pipe.{Pipe, new_pipe, with_more, without_first}
 use Rattle.console_core.specs.Lists.{Console, IsWithinLimits}
 use Rattle.file_table.specs.declared.open_file.End.{End}

@@ -3,7 +3,7 @@ use Rattle.std.specs.Prelude.{Bool, true, false, Option, None, Some}
 use Rattle.rv64i_core.specs.Registers.{Registers, reg, with_pc, after}
 use Rattle.rv64i_core.specs.Memory.{Store}
 use Rattle.rv64i_core.specs.Step.{Step, Next, Ecall, Fault}
-use Rattle.hart_core.specs.UserMemory.{write_image as with_store}
+use Rattle.hart_core.specs.UserMemory.{with_store}
 use Rattle.proc_table.specs.declared.process.Call.{Call}
 use Rattle.kcall_core.specs.Instruction.{next_instruction}
 use Rattle.kcall_core.specs.Words.{A0, A1, A2, A7, c_int, minus_one}

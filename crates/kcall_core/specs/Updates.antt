@@ -11,7 +11,7 @@ use Rattle.xk_base.specs.Bytes.{write_image}
 use Rattle.xk_base.specs.Loaded.{Loaded}
 use Rattle.rv64i_core.specs.Registers.{Registers, put, with_pc}
 use Rattle.rv64i_core.specs.Memory.{Store}
-use Rattle.hart_core.specs.UserMemory.{write_image as with_store}
+use Rattle.hart_core.specs.UserMemory.{with_store}
 use Rattle.pipe_core.specs.Pipe.{Pipe}
 use Rattle.console_core.specs.Lists.{Console}
 use Rattle.file_table.specs.declared.open_file.End.{End}

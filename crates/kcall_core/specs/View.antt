@@ -33,8 +33,8 @@ pub record Descriptor : Type 0 where
   pub shown : Shown
 
 -- the descriptors by their numbers
-abbrev pub Table : Type 0
-Table = ℕ → Option Descriptor
+abbrev pub Descriptors : Type 0
+Descriptors = ℕ → Option Descriptor
 
 pub record View : Type 0 where
   pub pid : ℕ
@@ -44,7 +44,7 @@ pub record View : Type 0 where
   pub call : Option Call
   -- its kill mark
   pub killed : Bool
-  pub descriptors : Table
+  pub descriptors : Descriptors
   -- by their pids, live or not
   pub children : ℕ → Option Child
   pub console : Console
@@ -72,27 +72,27 @@ pipe_name None = None
 pipe_name (Some d) = shown_pipe_name d.shown
 
 -- the least descriptor on the open file of this name
-abbrev pub least_on_file : Table → ℕ → Option ℕ
+abbrev pub least_on_file : Descriptors → ℕ → Option ℕ
 least_on_file t name = least_below (λ d. is_this name (file_name (t d))) NOFILE
 
 -- the least descriptor on the pipe of this name
-abbrev pub least_on_pipe : Table → ℕ → Option ℕ
+abbrev pub least_on_pipe : Descriptors → ℕ → Option ℕ
 least_on_pipe t name = least_below (λ d. is_this name (pipe_name (t d))) NOFILE
 
 abbrev pub or_else : Option ℕ → ℕ → ℕ
 or_else None n = n
 or_else (Some k) n = k
 
-abbrev pub rename_shown : Table → Shown → Shown
+abbrev pub rename_shown : Descriptors → Shown → Shown
 rename_shown t Shown_terminal = Shown_terminal
 rename_shown t (Shown_file program offset) = Shown_file program offset
 rename_shown t (Shown_pipe name end pipe) = Shown_pipe (or_else (least_on_pipe t name) name) end pipe
 
-abbrev pub rename : Table → Descriptor → Descriptor
+abbrev pub rename : Descriptors → Descriptor → Descriptor
 rename t d = record d { file = or_else (least_on_file t d.file) d.file; shown = rename_shown t d.shown }
 
 -- the same table, where each open file and each pipe is named by the least descriptor on it
-unfoldable pub named : Table → Table
+unfoldable pub named : Descriptors → Descriptors
 named t = λ d. if nat_lt d NOFILE then option_map (rename t) (t d) else None
 
 -- ---- the view
@@ -116,7 +116,7 @@ descriptor_at s None = None
 descriptor_at s (Some file) = descriptor_on s file (get s.files file)
 
 -- the descriptors, under the kernel's own numbers of open files and pipes
-abbrev pub numbered : State → Live → Table
+abbrev pub numbered : State → Live → Descriptors
 numbered s l = λ d. descriptor_at s (get l.descriptors d)
 
 -- what process p sees of a process: a child, if it is p's

@@ -28,7 +28,7 @@ use Rattle.kcall_core.specs.State.{live}
 use Rattle.kcall_core.specs.WellFormed.{sum_below}
 use Rattle.kcall_core.specs.Holdings.{held_at, or_nothing}
 use Rattle.kcall_core.specs.Memories as memories
-use Rattle.kcall_core.specs.Memories.{held_in, each_of, pipes_of, keeps_pipe, pipe_at, process_frames, owners, free_of}
+use Rattle.kcall_core.specs.Memories.{held_in, each_of, pipes_of, keeps_pipe, kept_pipe, process_frames, owners, free_of}
 use Rattle.kcall_core.specs.Kernel.{state_of, live_of, regs_at, IsSound}
 use Rattle.kcall_core.specs.Machine.{turns_of, world_of}
 use Rattle.kcall_core.specs.Whole.{IsWhole}
@@ -49,7 +49,7 @@ use Rattle.xv_machine.proofs.Fitting.{fits-image}
 use Rattle.xv_machine.proofs.Owned.{joined-sum, by_pid-sum}
 
 -- all frames of a memory, each as often as it is used
-used : (x : ℕ) (ram : List (List ℕ)) (m : Memory) → copies x (frames_of (Some (owned_by ram m))) ≡ copies x (memories.frames_of ram (Some m))
+used : (x : ℕ) (ram : List (List ℕ)) (m : Memory) → copies x (frames_of (Some (owned_by ram m))) ≡ copies x (memories.slot_frames ram (Some m))
 unfolding uppers lowers page_frames
 used x ram m =
     let root = m.space.root in
@@ -101,11 +101,11 @@ module _ (k : Kernel) (h : Hart) (sound : IsSound k h) where
 
   -- ---- how often a frame is used
 
-  slot-frames : (x i : ℕ) → copies x (frames_of (option_map (λ (e : ℕ × Owned). e.1) (owned_at k i))) ≡ copies x (get_or (map (memories.frames_of k.memories.ram) k.memories.each.items) i [])
+  slot-frames : (x i : ℕ) → copies x (frames_of (option_map (λ (e : ℕ × Owned). e.1) (owned_at k i))) ≡ copies x (get_or (map (memories.slot_frames k.memories.ram) k.memories.each.items) i [])
   slot-frames x i = by (place_at k.table i) (get_or k.memories.each.items i None) refl refl ∙ ap (copies x) (sym (frames-at k.memories.ram k.memories.each.items i))
     where
       by : (o : Option Process) (n : Option Memory) → place_at k.table i ≡ o → get_or k.memories.each.items i None ≡ n
-          → copies x (frames_of (option_map (λ (e : ℕ × Owned). e.1) (owned_entry k.memories.ram o n))) ≡ copies x (memories.frames_of k.memories.ram n)
+          → copies x (frames_of (option_map (λ (e : ℕ × Owned). e.1) (owned_entry k.memories.ram o n))) ≡ copies x (memories.slot_frames k.memories.ram n)
       by None None place memory = refl
       by None (Some m) place memory = absurd (none-some m (sym (no-memory i (sound.vacant i place)) ∙ memory))
       by (Some p) None place memory = refl
@@ -113,8 +113,8 @@ module _ (k : Kernel) (h : Hart) (sound : IsSound k h) where
 
   process-sum : (x : ℕ) → sum_below k.table.next (λ p. copies x (frames_of (get (by_pid (owned_at k) 64) p))) ≡ copies x (process_frames k.memories.ram k.memories.each.items)
   process-sum x =
-      let lists = map (memories.frames_of k.memories.ram) k.memories.each.items in
-      let many : length lists ≡ 64 = length-map k.memories.each.items (memories.frames_of k.memories.ram) ∙ sound.memories.slots in
+      let lists = map (memories.slot_frames k.memories.ram) k.memories.each.items in
+      let many : length lists ≡ 64 = length-map k.memories.each.items (memories.slot_frames k.memories.ram) ∙ sound.memories.slots in
       by_pid-sum (λ (o : Option Owned). copies x (frames_of o)) (copies-nil x) (owned_at k) 64 k.table.next below apart
       ∙ sum_same 64 (λ j. copies x (frames_of (option_map (λ (e : ℕ × Owned). e.1) (owned_at k j)))) (λ j. copies x (get_or lists j [])) (λ j lt. slot-frames x j)
       ∙ sym (joined-sum x lists ∙ ap (λ n. sum_below n (λ j. copies x (get_or lists j []))) many)
@@ -130,7 +130,7 @@ module _ (k : Kernel) (h : Hart) (sound : IsSound k h) where
 
   pipe-counted : (f : ℕ) → is_some (get (pipes_of k.memories) f) ≡ keeps_pipe k.memories.pipes.items f
   unfolding pipes_of
-  pipe-counted f = ap is_some (gathered-get (pipe_at k.memories.ram k.memories.pipes.items) FRAMES_MAX f) ∙ by (keeps_pipe k.memories.pipes.items f) refl
+  pipe-counted f = ap is_some (gathered-get (kept_pipe k.memories.ram k.memories.pipes.items) FRAMES_MAX f) ∙ by (keeps_pipe k.memories.pipes.items f) refl
     where
       neither : (b : Bool) → is_some (cond {A = Option Pipe} b None None) ≡ false
       neither true = refl
@@ -197,7 +197,7 @@ free-is : (k : Kernel) (h : Hart) → (state_of k h).free ≡ length (free_in k.
 unfolding state_of free_of
 free-is k h = refl
 
-pub sound-of : (k : Kernel) (h : Hart) (halted : Option ℤ) → IsWhole k h → IsHalted (state_of k h) (turns_of k halted) halted → machine.IsSound (record { world = world_of k h halted; frames = frames_in k })
+pub sound-of : (k : Kernel) (h : Hart) (halted : Option ℤ) → IsWhole k h → IsHalted (state_of k h) (turns_of k halted) halted → machine.IsSoundMachine (record { world = world_of k h halted; frames = frames_in k })
 unfolding frames_in turns_of
 sound-of k h halted whole end = record {
   well = whole.well;

@@ -7,7 +7,7 @@ use Rattle.xk_base.specs.Frames.{copies}
 use Rattle.xk_base.proofs.Frames.{copies-nil, copies-append}
 use Rattle.kcall_core.specs.ByPid.{by_pid, put}
 use Rattle.kcall_core.specs.WellFormed.{sum_below}
-use Rattle.kcall_core.specs.Memories.{joined}
+use Rattle.kcall_core.specs.Memories.{all_joined}
 use Rattle.kcall_core.proofs.ByPid.{none}
 use Rattle.kcall_core.proofs.Maps.{get_same, get_other}
 use Rattle.kcall_core.proofs.Sums.{sum_change}
@@ -25,11 +25,11 @@ unfolding sum_below
 sum-front zero f = omega arith
 sum-front (suc n) f = omega (arith, sum-front n f)
 
--- how often a frame stands in lists that are joined
-pub joined-sum : (x : ℕ) (lists : List (List ℕ)) → copies x (joined lists) ≡ sum_below (length lists) (λ k. copies x (get_or lists k []))
-unfolding joined sum_below
+-- how often a frame stands in lists that are all_joined
+pub joined-sum : (x : ℕ) (lists : List (List ℕ)) → copies x (all_joined lists) ≡ sum_below (length lists) (λ k. copies x (get_or lists k []))
+unfolding all_joined sum_below
 joined-sum x [] = copies-nil x
-joined-sum x (xs ∷ rest) = omega (arith, copies-append x xs (joined rest), joined-sum x rest, sum-front (length rest) (λ k. copies x (get_or (xs ∷ rest) k [])))
+joined-sum x (xs ∷ rest) = omega (arith, copies-append x xs (all_joined rest), joined-sum x rest, sum-front (length rest) (λ k. copies x (get_or (xs ∷ rest) k [])))
 
 -- ---- by slot, and by pid
 

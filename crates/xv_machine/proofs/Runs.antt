@@ -25,7 +25,7 @@ use Rattle.xv_machine.specs.declared.event.Outcome.TheVariants as outcomes
 use Rattle.xv_machine.specs.Events.{outcome_of, halted_by}
 use Rattle.xv_machine.specs.Machine.{meaning_of, frames_in}
 use Rattle.xv_machine.specs.Meaning.{Meaning}
-use Rattle.xv_machine.specs.Sound.{IsHalted, IsSound}
+use Rattle.xv_machine.specs.Sound.{IsHalted, IsSoundMachine}
 use Rattle.xv_machine.specs.Unbuilt.{PromisedSoFar, PromisedUnless, step_is_unbuilt}
 use Rattle.xv_machine.proofs.Frames.{sound-of}
 use Rattle.xv_machine.proofs.SoFar.{stays-there, step-so-far}
@@ -186,8 +186,8 @@ module _ (k : Kernel) (h : Hart) (halted : Option ℤ) (now : Meaning) (is : mea
   unfolding turns_of
   now-stopped stopped = none-of (λ (i : ℕ). pid_now k) k.current (ap (λ (m : Meaning). m.world.turns.current) is ∙ stopped)
 
-  pub now-sound : IsWhole k h → IsHalted (state_of k h) (turns_of k halted) halted → IsSound now
-  now-sound whole end = subst IsSound is (sound-of k h halted whole end)
+  pub now-sound : IsWhole k h → IsHalted (state_of k h) (turns_of k halted) halted → IsSoundMachine now
+  now-sound whole end = subst IsSoundMachine is (sound-of k h halted whole end)
 
   pub now-frames : length k.memories.ram ≡ now.frames.count
   unfolding frames_in

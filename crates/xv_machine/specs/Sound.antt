@@ -47,7 +47,7 @@ IsHalted s turns (Some status) = (get s.processes 1 ≡ Some (Zombie None status
 
 -- ---- all of it
 
-pub record IsSound (m : Meaning) : Type 0 where
+pub record IsSoundMachine (m : Meaning) : Type 0 where
   -- counts, open files, pipes and parents are right; the free frames, those that the processes cost and the pipes are all frames
   pub well : WellFormed m.frames.count m.world.state
   -- each process has a slot of its own

@@ -104,7 +104,7 @@ impl Machine {
     ghost use Rattle.kcall_core.specs.Observers.{registers_of, byte_at, child_at, shown};
     ghost use Rattle.xv_machine.specs.Boots.{Boots};
     ghost use Rattle.xv_machine.specs.Events.{event_of, outcome_of};
-    ghost use Rattle.xv_machine.specs.Sound.{IsSound};
+    ghost use Rattle.xv_machine.specs.Sound.{IsSoundMachine};
     ghost use Rattle.xv_machine.specs.Unbuilt.{PromisedSoFar};
 
     /// A machine whose process 1 runs the program called `init`, and waits for its turn.
@@ -120,7 +120,7 @@ impl Machine {
     /// image and 1 are more than the frames.
     pub fn boot(alloc: Global, config: Config, programs: Vec<Program>) -> Result<Machine, BootError>
         ensures boots { Boots config.frames result (first config.frames config.trace (map named_file programs.items)) }
-        ensures sound { IfOk result IsSound }
+        ensures sound { IfOk result IsSoundMachine }
     {
         if config.is_refused() {
             return Err(BootError::BadConfig);
@@ -140,7 +140,7 @@ impl Machine {
         requires whole { (hart : Hart) → kernels.IsIdle hart → IsWhole kernel hart }
         requires program { is_some (init_of (map named_file kernel.programs.items)) ≡ true }
         ensures boots { let programs = map named_file kernel.programs.items in Boots (length kernel.memories.ram) result (first_init (length kernel.memories.ram) programs (init_of programs)) }
-        ensures sound { IfOk result IsSound }
+        ensures sound { IfOk result IsSoundMachine }
     {
         let mut hart = Hart::new();
         match kernel.start(&mut hart) {
@@ -157,7 +157,7 @@ impl Machine {
     #[inline(always)]
     pub fn event(&mut self, event: Event) -> Outcome
         ensures promised { PromisedSoFar self.old.world (event_of event) (outcome_of result) self.new.world }
-        ensures sound { IsSound self.new }
+        ensures sound { IsSoundMachine self.new }
         ensures frames { self.new.frames.count ≡ self.old.frames.count }
     {
         match event {
@@ -170,7 +170,7 @@ impl Machine {
     #[inline(always)]
     fn run(&mut self) -> Outcome
         ensures promised { PromisedSoFar self.old.world runs.Run (outcome_of result) self.new.world }
-        ensures sound { IsSound self.new }
+        ensures sound { IsSoundMachine self.new }
         ensures frames { self.new.frames.count ≡ self.old.frames.count }
     {
         let Some(pid) = self.kernel.current() else {
@@ -190,7 +190,7 @@ impl Machine {
     fn turn(&mut self) -> Outcome
         requires stopped { self.old.world.turns.current ≡ None }
         ensures promised { PromisedSoFar self.old.world runs.Run (outcome_of result) self.new.world }
-        ensures sound { IsSound self.new }
+        ensures sound { IsSoundMachine self.new }
         ensures frames { self.new.frames.count ≡ self.old.frames.count }
     {
         if self.halted.is_some() {
@@ -205,7 +205,7 @@ impl Machine {
     // The clock counts a tick, unless process 1 is gone.
     fn tick(&mut self) -> Outcome
         ensures promised { PromisedSoFar self.old.world runs.Tick (outcome_of result) self.new.world }
-        ensures sound { IsSound self.new }
+        ensures sound { IsSoundMachine self.new }
         ensures frames { self.new.frames.count ≡ self.old.frames.count }
     {
         if self.halted.is_some() {

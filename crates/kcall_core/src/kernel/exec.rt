@@ -67,7 +67,7 @@ fn replace_as_asked(
     pointers: u64,
     hart: &mut Hart,
 ) -> Option<Entry>
-    requires sound { memory.IsSound memories.old }
+    requires sound { memory.AreSound memories.old }
     requires there { HasMemory (each_of memories.old) slot }
     ensures started { IfSome result (λ start. (l : Loaded) × Asks (map named_file programs.now) (held_at (each_of memories.old) slot).image path pointers l × (start ≡ record { pc = l.pc; sp = l.sp; argc = l.argc }) × (l.pc % 4 ≡ 0) × (price l.image ≤ free_of memories.old) × SlotChanges memories.old memories.new slot (Some (with_image l.image (held_at (each_of memories.old) slot))) × RunsIn memories.new slot hart.new) }
     ensures regs { hart.new.regs ≡ hart.old.regs }

@@ -66,7 +66,7 @@ impl Kernel {
 
     /// The child's registers are those of a hart, but for the answer, which is 0.
     fn save_child(&mut self, hart: &Hart, slot: usize)
-        requires sound { memory.IsSound self.old.memories }
+        requires sound { memory.AreSound self.old.memories }
         requires there { HasMemory (each_of self.old.memories) slot }
         ensures saved { SlotChanges self.old.memories self.new.memories slot (Some (with_saved (with_a0 hart.now.regs 0) (held_at (each_of self.old.memories) slot))) }
         ensures runs { (other : Hart) → RunsIn self.old.memories slot other → RunsIn self.new.memories slot other }

@@ -3,7 +3,7 @@ ghost use Rattle.std.specs.Prelude.{◌≡◌, ◌<◌, IsSome, Some, None, set}
 ghost use Rattle.xk_base.specs.declared.limits.TheConstants.{NPROC, OPEN_FILES};
 ghost use Rattle.hart_core.specs.declared.hart.Hart.{Hart};
 ghost use Rattle.file_table.specs.Named.{named_by, with_named};
-ghost use Rattle.file_table.specs.OpenFiles.{entry_at, file_at, lowest_place, open_count, pipe_file, program_file, with_opened, with_sharer};
+ghost use Rattle.file_table.specs.OpenFiles.{entry_at, open_file_at, lowest_place, open_count, pipe_file, program_file, with_opened, with_sharer};
 ghost use Rattle.file_table.specs.declared.open_file.OpenFile.{OpenFile};
 ghost use Rattle.proc_table.specs.Slots.{descriptors_at};
 ghost use Rattle.kcall_core.specs.Sharings.{Joins, MayShare};
@@ -33,7 +33,7 @@ impl Kernel {
         requires open { IsSome (entry_at self.old.files file) }
         ensures table { self.new.table ≡ record self.old.table { descriptors = set self.old.table.descriptors slot (with_named fd (Some file) (descriptors_at self.old.table slot)) } }
         ensures files { self.new.files ≡ with_sharer file self.old.files }
-        ensures memories { (x : OpenFile) → file_at self.old.files file ≡ Some x → Joins x.target self.old.memories self.new.memories }
+        ensures memories { (x : OpenFile) → open_file_at self.old.files file ≡ Some x → Joins x.target self.old.memories self.new.memories }
         ensures rest { self.new ≡ record self.old { table = self.new.table; files = self.new.files; memories = self.new.memories } }
     {
         let pipe = pipe_end_of(&self.files, file);

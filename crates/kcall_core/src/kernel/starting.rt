@@ -50,7 +50,7 @@ fn first_args() -> ArgList
 /// program starts. A refusal changes nothing.
 #[tactic(auto, unfolding(crate::specs::Programs::init_of))]
 fn load_first(memories: &mut Memories, programs: &[Program]) -> Result<Entry, ExecError>
-    requires sound { memory.IsSound memories.old }
+    requires sound { memory.AreSound memories.old }
     requires vacant { IsVacant (each_of memories.old) 0 }
     requires program { IsSome (init_of (map named_file programs.now)) }
     ensures loaded { IfOk result (λ start. (l : Loaded) × (loaded (program_bytes (init_of (map named_file programs.now))) (init_name ∷ []) ≡ Ok l) × (start ≡ record { pc = l.pc; sp = l.sp; argc = l.argc }) × (l.pc % 4 ≡ 0) × (price l.image + 1 ≤ free_of memories.old) × SlotChanges memories.old memories.new 0 (Some (record { image = l.image; saved = fresh 0 }))) }

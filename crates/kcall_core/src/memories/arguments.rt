@@ -4,7 +4,7 @@ ghost use Rattle.xk_base.specs.declared.limits.TheConstants.{MAXARG, ARG_BYTES};
 ghost use Rattle.exec_core.specs.ArgTexts.{terminated};
 ghost use Rattle.kcall_core.specs.Buffers.{texts_at};
 ghost use Rattle.kcall_core.specs.Holdings.{held_at, HasMemory};
-ghost use Rattle.kcall_core.specs.Memories.{each_of, IsSound};
+ghost use Rattle.kcall_core.specs.Memories.{each_of, AreSound};
 
 use crate::memories::Memories;
 use exec_core::ArgList;
@@ -17,7 +17,7 @@ impl Memories {
     /// texts or one that has, with its zero byte, more than [`ARG_BYTES`] bytes, or where all have so
     /// together, which no stack page holds.
     pub fn fetch_args(&self, slot: usize, pointers: u64) -> Option<ArgList>
-        requires sound { IsSound self.now }
+        requires sound { AreSound self.now }
         requires there { HasMemory (each_of self.now) slot }
         ensures found { IfSome result (λ args. texts_at MAXARG ARG_BYTES (held_at (each_of self.now) slot).image pointers ≡ Some args) }
         ensures refused { IfNone result ((texts : List (List ℕ)) → texts_at MAXARG ARG_BYTES (held_at (each_of self.now) slot).image pointers ≡ Some texts → ARG_BYTES < length (terminated texts)) }

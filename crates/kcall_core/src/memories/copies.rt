@@ -6,7 +6,7 @@ ghost use Rattle.std.specs.Prelude.{◌≡◌, ℕ, ◌+◌, ◌^◌, ◌<◌, �
 ghost use Rattle.xk_base.specs.Bytes.{image_bytes, write_image};
 ghost use Rattle.kcall_core.specs.Buffers.{readable, writable, text_at, pointer_at};
 ghost use Rattle.kcall_core.specs.Holdings.{held_at, HasMemory, with_image};
-ghost use Rattle.kcall_core.specs.Memories.{each_of, free_of, IsSound, RunsIn, SlotChanges, Same};
+ghost use Rattle.kcall_core.specs.Memories.{each_of, free_of, AreSound, RunsIn, SlotChanges, Same};
 
 use crate::memories::Memories;
 use hart_core::Hart;
@@ -17,7 +17,7 @@ impl Memories {
     ///
     /// Errors: `BadAddress` exactly where user code may not read one of them; then `out` is as it was.
     pub fn copy_in(&self, slot: usize, address: u64, out: &mut [u8]) -> Result<(), BadAddress>
-        requires sound { IsSound self.now }
+        requires sound { AreSound self.now }
         requires there { HasMemory (each_of self.now) slot }
         ensures fine { IfOk result (λ _. readable (held_at (each_of self.now) slot).image address (length out.old) ≡ true) }
         ensures copied { IfOk result (λ _. out.new ≡ image_bytes (held_at (each_of self.now) slot).image address (length out.old)) }
@@ -34,7 +34,7 @@ impl Memories {
     ///
     /// Errors: `BadAddress` exactly where user code may not write one of them; then nothing is changed.
     pub fn copy_out(&mut self, slot: usize, address: u64, bytes: &[u8]) -> Result<(), BadAddress>
-        requires sound { IsSound self.old }
+        requires sound { AreSound self.old }
         requires there { HasMemory (each_of self.old) slot }
         ensures fine { IfOk result (λ _. writable (held_at (each_of self.old) slot).image address (length bytes.now) ≡ true) }
         ensures written { IfOk result (λ _. let held = held_at (each_of self.old) slot in SlotChanges self.old self.new slot (Some (with_image (write_image held.image address bytes.now) held))) }
@@ -53,7 +53,7 @@ impl Memories {
     ///
     /// Errors: `BadAddress` exactly where user code may not read one of them.
     pub fn fetch_u64(&self, slot: usize, address: u64) -> Result<u64, BadAddress>
-        requires sound { IsSound self.now }
+        requires sound { AreSound self.now }
         requires there { HasMemory (each_of self.now) slot }
         ensures low { IfOk result (λ _. address + 8 ≤ 2 ^ 38) }
         ensures number { IfOk result (λ n. pointer_at (held_at (each_of self.now) slot).image address ≡ Some n) }
@@ -76,7 +76,7 @@ impl Memories {
         address: u64,
         text: &mut [u8],
     ) -> Result<usize, BadAddress>
-        requires sound { IsSound self.now }
+        requires sound { AreSound self.now }
         requires there { HasMemory (each_of self.now) slot }
         ensures short { IfOk result (λ n. n < length text.old) }
         ensures found { IfOk result (λ n. text_at (length text.old) (held_at (each_of self.now) slot).image address ≡ Some (take n text.new)) }

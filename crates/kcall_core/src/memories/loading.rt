@@ -3,7 +3,7 @@ ghost use Rattle.std.specs.Prelude.{◌≡◌, ℕ, ◌+◌, ◌<◌, ◌≤◌,
 ghost use Rattle.xk_base.specs.Image.{price};
 ghost use Rattle.rv64i_core.specs.Registers.{fresh};
 ghost use Rattle.kcall_core.specs.Holdings.{held_at, HasMemory, IsVacant, with_image};
-ghost use Rattle.kcall_core.specs.Memories.{each_of, free_of, IsSound, RunsIn, SlotChanges, Same};
+ghost use Rattle.kcall_core.specs.Memories.{each_of, free_of, AreSound, RunsIn, SlotChanges, Same};
 
 use crate::memories::{Memories, Memory};
 use exec_core::{Entry, ExecPlan, build};
@@ -17,7 +17,7 @@ impl Memories {
     /// Errors: `NoFrames` exactly where the image's price and the trapframe exceed the free frames; then
     /// nothing is changed.
     pub fn load_into(&mut self, slot: usize, plan: ExecPlan<'_>) -> Result<Entry, NoFrames>
-        requires sound { IsSound self.old }
+        requires sound { AreSound self.old }
         requires vacant { IsVacant (each_of self.old) slot }
         ensures start { IfOk result (λ start. start ≡ record { pc = plan.entry.pc; sp = plan.entry.sp; argc = plan.entry.argc }) }
         ensures loaded { IfOk result (λ _. SlotChanges self.old self.new slot (Some (record { image = plan.entry.image; saved = fresh 0 }))) }
@@ -49,7 +49,7 @@ impl Memories {
         plan: ExecPlan<'_>,
         hart: &mut Hart,
     ) -> Result<Entry, NoFrames>
-        requires sound { IsSound self.old }
+        requires sound { AreSound self.old }
         requires there { HasMemory (each_of self.old) slot }
         ensures start { IfOk result (λ start. start ≡ record { pc = plan.entry.pc; sp = plan.entry.sp; argc = plan.entry.argc }) }
         ensures replaced { IfOk result (λ _. SlotChanges self.old self.new slot (Some (with_image plan.entry.image (held_at (each_of self.old) slot)))) }

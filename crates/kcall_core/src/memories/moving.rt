@@ -7,7 +7,7 @@ ghost use Rattle.pipe_core.specs.Pipe.{with_more, without_first};
 ghost use Rattle.kcall_core.specs.Buffers.{readable, writable};
 ghost use Rattle.kcall_core.specs.PipeEnds.{there, fit, must_wait};
 ghost use Rattle.kcall_core.specs.Holdings.{held_at, HasMemory, with_image, pipe_named};
-ghost use Rattle.kcall_core.specs.Memories.{each_of, pipes_of, free_of, IsSound, RunsIn, SlotChanges, PipeChanges};
+ghost use Rattle.kcall_core.specs.Memories.{each_of, pipes_of, free_of, AreSound, RunsIn, SlotChanges, PipeChanges};
 ghost use Rattle.hart_core.specs.declared.hart.Hart.{Hart};
 ghost use Rattle.kcall_core.specs.Moves.{Moves};
 
@@ -18,7 +18,7 @@ use xk_base::{Access, Frame};
 impl Memories {
     /// Whether user code may write all of so many bytes from an address on.
     pub fn may_write(&self, slot: usize, address: u64, len: usize) -> bool
-        requires sound { IsSound self.now }
+        requires sound { AreSound self.now }
         requires there { HasMemory (each_of self.now) slot }
         ensures { result ≡ writable (held_at (each_of self.now) slot).image address len }
     {
@@ -30,7 +30,7 @@ impl Memories {
 
     /// Whether user code may read all of so many bytes from an address on.
     pub fn may_read(&self, slot: usize, address: u64, len: usize) -> bool
-        requires sound { IsSound self.now }
+        requires sound { AreSound self.now }
         requires there { HasMemory (each_of self.now) slot }
         ensures { result ≡ readable (held_at (each_of self.now) slot).image address len }
     {
@@ -42,7 +42,7 @@ impl Memories {
 
     /// Whether a pipe is empty, and somebody may still write to it.
     pub fn must_wait(&self, frame: Frame) -> bool
-        requires sound { IsSound self.now }
+        requires sound { AreSound self.now }
         requires pipe { IsSome (get (pipes_of self.now) frame) }
         ensures { result ≡ must_wait (pipe_named (pipes_of self.now) frame) }
     {
@@ -54,7 +54,7 @@ impl Memories {
 
     /// How many bytes fit into a pipe.
     fn room(&self, frame: Frame) -> usize
-        requires sound { IsSound self.now }
+        requires sound { AreSound self.now }
         requires pipe { IsSome (get (pipes_of self.now) frame) }
         ensures value { result ≡ PIPE_BYTES - length (pipe_named (pipes_of self.now) frame).bytes }
         ensures range { result ≤ PIPE_BYTES }
@@ -65,7 +65,7 @@ impl Memories {
 
     /// Copies bytes from the memory of a slot, where user code may read them, to the front of a buffer.
     fn fetch_front(&self, slot: usize, address: u64, bytes: &mut [u8], count: usize)
-        requires sound { IsSound self.now }
+        requires sound { AreSound self.now }
         requires there { HasMemory (each_of self.now) slot }
         requires fits { count ≤ length bytes.old }
         requires readable { readable (held_at (each_of self.now) slot).image address count ≡ true }
@@ -79,7 +79,7 @@ impl Memories {
 
     /// Appends the first bytes of a buffer to a pipe, as many as fit, and tells how many they are.
     fn push_front(&mut self, frame: Frame, bytes: &[u8], count: usize) -> usize
-        requires sound { IsSound self.old }
+        requires sound { AreSound self.old }
         requires pipe { IsSome (get (pipes_of self.old) frame) }
         requires fits { count ≤ length bytes.now }
         ensures count { result ≡ min count (PIPE_BYTES - length (pipe_named (pipes_of self.old) frame).bytes) }
@@ -90,7 +90,7 @@ impl Memories {
 
     /// Appends bytes from the memory of a slot to a pipe, as many of n as fit, and tells how many they are.
     pub fn push_from(&mut self, frame: Frame, slot: usize, address: u64, n: usize) -> usize
-        requires sound { IsSound self.old }
+        requires sound { AreSound self.old }
         requires pipe { IsSome (get (pipes_of self.old) frame) }
         requires there { HasMemory (each_of self.old) slot }
         requires readable { readable (held_at (each_of self.old) slot).image address n ≡ true }
@@ -107,7 +107,7 @@ impl Memories {
     /// Takes out as many of the oldest bytes of a pipe as there are, but at most n, puts them at the front of
     /// a buffer, and tells how many they are.
     fn pull_front(&mut self, frame: Frame, bytes: &mut [u8], n: usize) -> usize
-        requires sound { IsSound self.old }
+        requires sound { AreSound self.old }
         requires pipe { IsSome (get (pipes_of self.old) frame) }
         requires fits { n ≤ length bytes.old }
         ensures count { result ≡ min n (length (pipe_named (pipes_of self.old) frame).bytes) }
@@ -120,7 +120,7 @@ impl Memories {
 
     /// Copies the first bytes of a buffer to the memory of a slot, where user code may write them.
     pub fn put_front(&mut self, slot: usize, address: u64, bytes: &[u8], count: usize)
-        requires sound { IsSound self.old }
+        requires sound { AreSound self.old }
         requires there { HasMemory (each_of self.old) slot }
         requires fits { count ≤ length bytes.now }
         requires writable { writable (held_at (each_of self.old) slot).image address count ≡ true }
@@ -136,7 +136,7 @@ impl Memories {
     /// Takes the oldest bytes out of a pipe, as many as there are but at most n, puts them into the memory of
     /// a slot, and tells how many they are.
     pub fn pull_to(&mut self, frame: Frame, slot: usize, address: u64, n: usize) -> usize
-        requires sound { IsSound self.old }
+        requires sound { AreSound self.old }
         requires pipe { IsSome (get (pipes_of self.old) frame) }
         requires there { HasMemory (each_of self.old) slot }
         requires writable { writable (held_at (each_of self.old) slot).image address n ≡ true }

@@ -4,7 +4,7 @@ ghost use Rattle.std.specs.FinMap.{get};
 ghost use Rattle.pipe_core.specs.declared.TheConstants.{END_COUNT_MAX};
 ghost use Rattle.kcall_core.specs.PipeEnds.{count_on, joined, parted, is_given_up};
 ghost use Rattle.kcall_core.specs.Holdings.{pipe_named};
-ghost use Rattle.kcall_core.specs.Memories.{pipes_of, IsSound, PipeChanges};
+ghost use Rattle.kcall_core.specs.Memories.{pipes_of, AreSound, PipeChanges};
 
 use crate::memories::Memories;
 use file_table::End;
@@ -13,7 +13,7 @@ use xk_base::Frame;
 impl Memories {
     /// How many descriptors are on the read end of a pipe.
     pub fn readers(&self, frame: Frame) -> u64
-        requires sound { IsSound self.now }
+        requires sound { AreSound self.now }
         requires there { IsSome (get (pipes_of self.now) frame) }
         ensures { result ≡ (pipe_named (pipes_of self.now) frame).readers }
     {
@@ -23,7 +23,7 @@ impl Memories {
 
     /// How many descriptors are on the write end of a pipe.
     pub fn writers(&self, frame: Frame) -> u64
-        requires sound { IsSound self.now }
+        requires sound { AreSound self.now }
         requires there { IsSome (get (pipes_of self.now) frame) }
         ensures { result ≡ (pipe_named (pipes_of self.now) frame).writers }
     {
@@ -33,7 +33,7 @@ impl Memories {
 
     /// Whether no descriptor is on a pipe.
     fn is_given_up(&self, frame: Frame) -> bool
-        requires sound { IsSound self.now }
+        requires sound { AreSound self.now }
         requires there { IsSome (get (pipes_of self.now) frame) }
         ensures { result ≡ is_given_up (pipe_named (pipes_of self.now) frame) }
     {
@@ -44,7 +44,7 @@ impl Memories {
 
     /// Whether no descriptor is on an end of a pipe.
     pub fn is_closed(&self, frame: Frame, end: End) -> bool
-        requires sound { IsSound self.now }
+        requires sound { AreSound self.now }
         requires there { IsSome (get (pipes_of self.now) frame) }
         ensures { result ≡ nat_eq (count_on end (pipe_named (pipes_of self.now) frame)) 0 }
     {
@@ -56,7 +56,7 @@ impl Memories {
 
     /// One descriptor more is on an end of a pipe.
     pub fn join(&mut self, frame: Frame, end: End)
-        requires sound { IsSound self.old }
+        requires sound { AreSound self.old }
         requires there { IsSome (get (pipes_of self.old) frame) }
         requires room { count_on end (pipe_named (pipes_of self.old) frame) < END_COUNT_MAX }
         ensures { PipeChanges self.old self.new frame (Some (joined (pipe_named (pipes_of self.old) frame) end 1)) }
@@ -70,7 +70,7 @@ impl Memories {
 
     /// One descriptor fewer is on an end of a pipe. The pipe stays, also where nobody is on it any more.
     fn part(&mut self, frame: Frame, end: End)
-        requires sound { IsSound self.old }
+        requires sound { AreSound self.old }
         requires there { IsSome (get (pipes_of self.old) frame) }
         requires some { 1 ≤ count_on end (pipe_named (pipes_of self.old) frame) }
         ensures { PipeChanges self.old self.new frame (Some (parted (pipe_named (pipes_of self.old) frame) end 1)) }
@@ -85,7 +85,7 @@ impl Memories {
     /// One descriptor fewer is on an end of a pipe, whose frame is given back with the last descriptor of
     /// both ends. Whether none is left on that end.
     pub fn leave(&mut self, frame: Frame, end: End) -> bool
-        requires sound { IsSound self.old }
+        requires sound { AreSound self.old }
         requires there { IsSome (get (pipes_of self.old) frame) }
         requires some { 1 ≤ count_on end (pipe_named (pipes_of self.old) frame) }
         ensures last { result ≡ nat_eq (count_on end (parted (pipe_named (pipes_of self.old) frame) end 1)) 0 }
