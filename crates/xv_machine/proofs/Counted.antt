@@ -12,7 +12,7 @@ use Rattle.xk_base.proofs.Frames.{at, copies-nil, copies-cons, length-same}
 use Rattle.sv39_core.specs.Listed.{push_some, listed, insert_some, gathered}
 use Rattle.sv39_core.proofs.Gathered.{gathered-get}
 use Rattle.sv39_core.proofs.Words.{ltb-no}
-use Rattle.kcall_core.proofs.States.{none-some}
+use Rattle.kcall_core.proofs.table.States.{none-some}
 
 -- ---- one frame more
 

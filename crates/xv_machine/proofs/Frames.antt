@@ -34,12 +34,12 @@ use Rattle.kcall_core.specs.Machine.{turns_of, world_of}
 use Rattle.kcall_core.specs.Whole.{IsWhole}
 use Rattle.kcall_core.specs.declared.kernel.Kernel.{Kernel}
 use Rattle.kcall_core.specs.declared.memories.Memory.{Memory}
-use Rattle.kcall_core.proofs.ByPid.{found, none}
-use Rattle.kcall_core.proofs.Frames.{frames-at}
-use Rattle.kcall_core.proofs.States.{none-some, slot-inside}
-use Rattle.kcall_core.proofs.Sums.{sum_same}
-use Rattle.kcall_core.proofs.Observed.{slot-found, entry-held, live-held, ended-held, pid-missing, missing-live}
-use Rattle.kcall_core.proofs.Turned.{has-slots}
+use Rattle.kcall_core.proofs.table.ByPid.{found, none}
+use Rattle.kcall_core.proofs.memory.Frames.{frames-at}
+use Rattle.kcall_core.proofs.table.States.{none-some, slot-inside}
+use Rattle.kcall_core.proofs.well.Sums.{sum_same}
+use Rattle.kcall_core.proofs.table.Observed.{slot-found, entry-held, live-held, ended-held, pid-missing, missing-live}
+use Rattle.kcall_core.proofs.turns.Turned.{has-slots}
 use Rattle.xv_machine.specs.Machine.{owned_by, owned_entry, owned_at, frames_in}
 use Rattle.xv_machine.specs.Meaning.{Owned}
 use Rattle.xv_machine.specs.Sound as machine

@@ -8,9 +8,9 @@ use Rattle.xk_base.proofs.Frames.{copies-nil, copies-append}
 use Rattle.kcall_core.specs.ByPid.{by_pid, put}
 use Rattle.kcall_core.specs.WellFormed.{sum_below}
 use Rattle.kcall_core.specs.Memories.{all_joined}
-use Rattle.kcall_core.proofs.ByPid.{none}
-use Rattle.kcall_core.proofs.Maps.{get_same, get_other}
-use Rattle.kcall_core.proofs.Sums.{sum_change}
+use Rattle.kcall_core.proofs.table.ByPid.{none}
+use Rattle.kcall_core.proofs.steps.Maps.{get_same, get_other}
+use Rattle.kcall_core.proofs.well.Sums.{sum_change}
 
 -- ---- sums
 

@@ -17,9 +17,9 @@ use Rattle.kcall_core.specs.Machine.{turns_of, world_of}
 use Rattle.kcall_core.specs.Whole.{IsWhole}
 use Rattle.kcall_core.specs.Makes.{Makes, view_now}
 use Rattle.kcall_core.specs.declared.kernel.Kernel.{Kernel}
-use Rattle.kcall_core.proofs.Promises.{turn-promised, idle-promised, halted-promised, tick-promised}
-use Rattle.kcall_core.proofs.States.{none-some}
-use Rattle.kcall_core.proofs.Turned.{live-is}
+use Rattle.kcall_core.proofs.runs.Promises.{turn-promised, idle-promised, halted-promised, tick-promised}
+use Rattle.kcall_core.proofs.table.States.{none-some}
+use Rattle.kcall_core.proofs.turns.Turned.{live-is}
 use Rattle.xv_machine.specs.declared.event.Outcome.{Outcome}
 use Rattle.xv_machine.specs.declared.event.Outcome.TheVariants as outcomes
 use Rattle.xv_machine.specs.Events.{outcome_of, halted_by}

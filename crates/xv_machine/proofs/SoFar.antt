@@ -22,12 +22,12 @@ use Rattle.kcall_core.specs.Machine.{turns_of, world_of}
 use Rattle.kcall_core.specs.Whole.{IsWhole}
 use Rattle.kcall_core.specs.Makes.{Makes, Stays, view_now, answer_of}
 use Rattle.kcall_core.specs.declared.kernel.Kernel.{Kernel}
-use Rattle.kcall_core.proofs.Alone.{begins, end}
-use Rattle.kcall_core.proofs.Pids.{own_sound}
-use Rattle.kcall_core.proofs.Promises.{view-is, step-promised}
-use Rattle.kcall_core.proofs.Staying.{stays-view, makes-from}
+use Rattle.kcall_core.proofs.steps.Alone.{begins, end}
+use Rattle.kcall_core.proofs.rows.Pids.{own_sound}
+use Rattle.kcall_core.proofs.runs.Promises.{view-is, step-promised}
+use Rattle.kcall_core.proofs.making.Staying.{stays-view, makes-from}
 use Rattle.kcall_core.specs.declared.call_end.CallEnd.{CallEnd}
-use Rattle.kcall_core.proofs.States.{none-some, running}
+use Rattle.kcall_core.proofs.table.States.{none-some, running}
 use Rattle.xv_machine.specs.Unbuilt.{step_is_unbuilt, if_seen, Refuses, RefusesNow, PromisedUnless, PromisedSoFar}
 
 middle : (a b c : Bool) → b ≡ false → (a && b && c) ≡ false

@@ -17,18 +17,18 @@ use Rattle.hart_core.specs.declared.hart.Hart.{Hart}
 use Rattle.kcall_core.specs.Processes.{Alive}
 use Rattle.kcall_core.specs.Kernel.{state_of}
 use Rattle.kcall_core.specs.declared.kernel.Kernel.{Kernel}
-use Rattle.kcall_core.proofs.Maps.{get_same}
+use Rattle.kcall_core.proofs.steps.Maps.{get_same}
 use Rattle.kcall_core.specs.State.{ProgramFile, State, named_file, live, live_part}
 use Rattle.kcall_core.specs.Programs.{first_bad, init_of, init_name, program_bytes, program_named}
 use Rattle.std.specs.Prelude.{find, bytes_eq}
 use Rattle.xk_base.specs.declared.program.Program.{Program}
-use Rattle.kcall_core.proofs.Asking.{found-among}
+use Rattle.kcall_core.proofs.processes.Asking.{found-among}
 use Rattle.kcall_core.specs.First.{first, first_programs, first_init, first_loaded, first_state, first_turns, first_process}
 use Rattle.kcall_core.specs.NewKernel.{refusal, or_memory, empty_state}
 use Rattle.kcall_core.specs.Run.{World}
 use Rattle.console_core.specs.Lists.{empty_console}
 use Rattle.kcall_core.specs.Starts.{IsBlank, init_loaded, start_refusal, started_world}
-use Rattle.kcall_core.proofs.States.{none-some}
+use Rattle.kcall_core.proofs.table.States.{none-some}
 use Rattle.xv_machine.specs.Boots.{Boots, without_init}
 use Rattle.xv_machine.specs.Meaning.{Meaning}
 

@@ -1,7 +1,7 @@
 use Rattle.kcall_core.proofs.laws.answers.Goals as goal
-use Rattle.kcall_core.proofs.AnswersTell as law
-use Rattle.kcall_core.proofs.Cuts as in-cuts
-use Rattle.kcall_core.proofs.Late as in-late
+use Rattle.kcall_core.proofs.rows.AnswersTell as law
+use Rattle.kcall_core.proofs.runs.Cuts as in-cuts
+use Rattle.kcall_core.proofs.rows.Late as in-late
 
 pub returns-clause-refusals_change_nothing : goal.returns-clause-refusals_change_nothing
 returns-clause-refusals_change_nothing c = law.refusals_change_nothing

@@ -1,7 +1,7 @@
 use Rattle.kcall_core.proofs.laws.isolated.Goals as goal
-use Rattle.kcall_core.proofs.Boot as in-boot
-use Rattle.kcall_core.proofs.Kept as in-kept
-use Rattle.kcall_core.proofs.Outside as in-outside
+use Rattle.kcall_core.proofs.runs.Boot as in-boot
+use Rattle.kcall_core.proofs.steps.Kept as in-kept
+use Rattle.kcall_core.proofs.steps.Outside as in-outside
 
 pub returns-clause-isolated : goal.returns-clause-isolated
 returns-clause-isolated c = in-boot.isolated

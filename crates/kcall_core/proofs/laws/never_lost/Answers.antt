@@ -1,7 +1,7 @@
 use Rattle.kcall_core.proofs.laws.never_lost.Goals as goal
-use Rattle.kcall_core.proofs.Again as in-again
-use Rattle.kcall_core.proofs.Asleep as in-asleep
-use Rattle.kcall_core.proofs.NoLost as in-no-lost
+use Rattle.kcall_core.proofs.rows.Again as in-again
+use Rattle.kcall_core.proofs.rows.Asleep as in-asleep
+use Rattle.kcall_core.proofs.waking.NoLost as in-no-lost
 
 pub returns-clause-never_lost : goal.returns-clause-never_lost
 returns-clause-never_lost c = in-no-lost.never_lost

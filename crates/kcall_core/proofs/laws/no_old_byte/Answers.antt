@@ -1,7 +1,7 @@
 use Rattle.kcall_core.proofs.laws.no_old_byte.Goals as goal
-use Rattle.kcall_core.proofs.CleanPages as in-clean-pages
-use Rattle.kcall_core.proofs.NewBytes as in-new-bytes
-use Rattle.kcall_core.proofs.NewPages as in-new-pages
+use Rattle.kcall_core.proofs.rows.CleanPages as in-clean-pages
+use Rattle.kcall_core.proofs.rows.NewBytes as in-new-bytes
+use Rattle.kcall_core.proofs.rows.NewPages as in-new-pages
 
 pub returns-clause-no_old_byte : goal.returns-clause-no_old_byte
 returns-clause-no_old_byte c = in-new-pages.no_old_byte

@@ -1,6 +1,6 @@
 use Rattle.kcall_core.proofs.laws.opens.Goals as goal
-use Rattle.kcall_core.proofs.Openings as in-openings
-use Rattle.kcall_core.proofs.WaitsOn as in-waits-on
+use Rattle.kcall_core.proofs.waking.Openings as in-openings
+use Rattle.kcall_core.proofs.waking.WaitsOn as in-waits-on
 
 pub returns-clause-opens_alone : goal.returns-clause-opens_alone
 returns-clause-opens_alone c = in-openings.opens_alone

@@ -1,5 +1,5 @@
 use Rattle.kcall_core.proofs.laws.plans.Goals as goal
-use Rattle.kcall_core.proofs.Plans as law
+use Rattle.kcall_core.proofs.runs.Plans as law
 
 pub returns-clause-rounds_then_plan : goal.returns-clause-rounds_then_plan
 returns-clause-rounds_then_plan c = law.rounds_then_plan

@@ -1,8 +1,8 @@
 use Rattle.kcall_core.proofs.laws.rows.Goals as goal
-use Rattle.kcall_core.proofs.Alone as in-alone
-use Rattle.kcall_core.proofs.RowLawsHold as hold
-use Rattle.kcall_core.proofs.Family as in-family
-use Rattle.kcall_core.proofs.OnFiles as in-on-files
+use Rattle.kcall_core.proofs.steps.Alone as in-alone
+use Rattle.kcall_core.proofs.rows.RowLawsHold as hold
+use Rattle.kcall_core.proofs.steps.Family as in-family
+use Rattle.kcall_core.proofs.steps.OnFiles as in-on-files
 
 pub returns-clause-answer : goal.returns-clause-answer
 returns-clause-answer c = in-alone.answer

@@ -1,6 +1,6 @@
 use Rattle.kcall_core.proofs.laws.runs.Goals as goal
-use Rattle.kcall_core.proofs.Boot as in-boot
-use Rattle.kcall_core.proofs.Outside as in-outside
+use Rattle.kcall_core.proofs.runs.Boot as in-boot
+use Rattle.kcall_core.proofs.steps.Outside as in-outside
 
 pub returns-clause-runs_join : goal.returns-clause-runs_join
 returns-clause-runs_join c = in-boot.runs_join

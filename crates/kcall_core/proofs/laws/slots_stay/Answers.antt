@@ -1,6 +1,6 @@
 use Rattle.kcall_core.proofs.laws.slots_stay.Goals as goal
-use Rattle.kcall_core.proofs.FirstWell as in-first-well
-use Rattle.kcall_core.proofs.KeepsSlots as in-keeps-slots
+use Rattle.kcall_core.proofs.well.FirstWell as in-first-well
+use Rattle.kcall_core.proofs.turns.KeepsSlots as in-keeps-slots
 
 pub returns-clause-slots_stay : goal.returns-clause-slots_stay
 returns-clause-slots_stay c = in-keeps-slots.slots_stay

@@ -1,5 +1,5 @@
 use Rattle.kcall_core.proofs.laws.steps.Goals as goal
-use Rattle.kcall_core.proofs.Alone as in-alone
+use Rattle.kcall_core.proofs.steps.Alone as in-alone
 
 pub returns-clause-instruction : goal.returns-clause-instruction
 returns-clause-instruction c = in-alone.instruction

@@ -1,7 +1,7 @@
 use Rattle.kcall_core.proofs.laws.turn_comes.Goals as goal
-use Rattle.kcall_core.proofs.Nearer as in-nearer
-use Rattle.kcall_core.proofs.NoLost as in-no-lost
-use Rattle.kcall_core.proofs.TurnComes as in-turn-comes
+use Rattle.kcall_core.proofs.turns.Nearer as in-nearer
+use Rattle.kcall_core.proofs.waking.NoLost as in-no-lost
+use Rattle.kcall_core.proofs.turns.TurnComes as in-turn-comes
 
 pub returns-clause-turn_comes : goal.returns-clause-turn_comes
 returns-clause-turn_comes c = in-turn-comes.turn_comes

@@ -1,6 +1,6 @@
 use Rattle.kcall_core.proofs.laws.two_worlds.Goals as goal
-use Rattle.kcall_core.proofs.Two as in-two
-use Rattle.kcall_core.proofs.Cuts as in-cuts
+use Rattle.kcall_core.proofs.runs.Two as in-two
+use Rattle.kcall_core.proofs.runs.Cuts as in-cuts
 
 pub returns-clause-two_worlds : goal.returns-clause-two_worlds
 returns-clause-two_worlds c = in-two.two_worlds

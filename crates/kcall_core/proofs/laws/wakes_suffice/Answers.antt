@@ -1,6 +1,6 @@
 use Rattle.kcall_core.proofs.laws.wakes_suffice.Goals as goal
-use Rattle.kcall_core.proofs.ByConditions as in-by-conditions
-use Rattle.kcall_core.proofs.Wakes as in-wakes
+use Rattle.kcall_core.proofs.waking.ByConditions as in-by-conditions
+use Rattle.kcall_core.proofs.waking.Wakes as in-wakes
 
 pub returns-clause-ready_is_open : goal.returns-clause-ready_is_open
 returns-clause-ready_is_open c = in-wakes.ready_is_open

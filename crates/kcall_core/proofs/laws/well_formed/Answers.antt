@@ -1,9 +1,9 @@
 use Rattle.kcall_core.proofs.laws.well_formed.Goals as goal
-use Rattle.kcall_core.proofs.FirstWell as in-first-well
-use Rattle.kcall_core.proofs.WellCloses as in-well-closes
-use Rattle.kcall_core.proofs.WellLaws as in-well-laws
-use Rattle.kcall_core.proofs.WellOpens as in-well-opens
-use Rattle.kcall_core.proofs.WellSteps as in-well-steps
+use Rattle.kcall_core.proofs.well.FirstWell as in-first-well
+use Rattle.kcall_core.proofs.well.WellCloses as in-well-closes
+use Rattle.kcall_core.proofs.well.WellLaws as in-well-laws
+use Rattle.kcall_core.proofs.well.WellOpens as in-well-opens
+use Rattle.kcall_core.proofs.well.WellSteps as in-well-steps
 
 pub returns-clause-first_well : goal.returns-clause-first_well
 returns-clause-first_well c = in-first-well.first_well

@@ -3,7 +3,7 @@ use Rattle.hart_core.specs.Translations.{FitsBut, but_not}
 use Rattle.hart_core.specs.declared.hart.Hart.{Hart}
 use Rattle.hart_core.proofs.Caches.{fits_root}
 use Rattle.kcall_core.specs.Memories.{is_between}
-use Rattle.kcall_core.proofs.Runs.{but-next, but-none}
+use Rattle.kcall_core.proofs.memory.Runs.{but-next, but-none}
 use Rattle.kcall_core.proofs.memories.forget_from.Goals as goal
 
 pub returns-then-first-end-clause-fits : goal.returns-then-first-end-clause-fits

@@ -1,4 +1,4 @@
-use Rattle.kcall_core.proofs.Stops.{now-has}
+use Rattle.kcall_core.proofs.table.Stops.{now-has}
 use Rattle.kcall_core.proofs.kernel.Kernel.asked_place.Goals as goal
 
 pub fetch_text-requires-clause-there : goal.fetch_text-requires-clause-there

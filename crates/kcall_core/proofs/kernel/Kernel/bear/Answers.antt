@@ -1,8 +1,8 @@
 use Rattle.std.proofs.Common.{IsSome, refl, sym, subst, arith}
 use Rattle.std.proofs.lemmas.List.{length-map}
 use Rattle.kcall_core.specs.Memories.{each_of, held_in}
-use Rattle.kcall_core.proofs.States.{slot-inside}
-use Rattle.kcall_core.proofs.FreeSlot.{slot-for}
+use Rattle.kcall_core.proofs.table.States.{slot-inside}
+use Rattle.kcall_core.proofs.processes.FreeSlot.{slot-for}
 use Rattle.kcall_core.proofs.kernel.Kernel.bear.Goals as goal
 
 pub pid-parent-requires-clause-within : goal.pid-parent-requires-clause-within

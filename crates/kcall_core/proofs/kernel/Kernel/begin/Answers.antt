@@ -1,8 +1,8 @@
 use Rattle.std.proofs.Common.{Some}
-use Rattle.kcall_core.proofs.States.{slot-inside}
-use Rattle.kcall_core.proofs.Stops.{live-place}
-use Rattle.kcall_core.proofs.InCall.{progress-set}
-use Rattle.kcall_core.proofs.CallAnswers.{asked-begun, has-begun, begun-whole}
+use Rattle.kcall_core.proofs.table.States.{slot-inside}
+use Rattle.kcall_core.proofs.table.Stops.{live-place}
+use Rattle.kcall_core.proofs.table.InCall.{progress-set}
+use Rattle.kcall_core.proofs.making.CallAnswers.{asked-begun, has-begun, begun-whole}
 use Rattle.kcall_core.proofs.kernel.Kernel.begin.Goals as goal
 
 pub set_progress-requires-clause-within : goal.set_progress-requires-clause-within

@@ -1,4 +1,4 @@
-use Rattle.kcall_core.proofs.CallAnswers.{begun-made, begun-answer}
+use Rattle.kcall_core.proofs.making.CallAnswers.{begun-made, begun-answer}
 use Rattle.kcall_core.proofs.kernel.Kernel.call.Goals as goal
 
 pub returns-clause-made : goal.returns-clause-made

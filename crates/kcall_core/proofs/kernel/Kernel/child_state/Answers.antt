@@ -5,7 +5,7 @@ use Rattle.kcall_core.specs.View.{child_of}
 use Rattle.kcall_core.specs.Kernel.{state_of}
 use Rattle.kcall_core.specs.Observers.{if_live, child_seen}
 use Rattle.proc_table.specs.Processes.{status_of}
-use Rattle.kcall_core.proofs.Observed.{slot-found, child-told, child-missing, child-held}
+use Rattle.kcall_core.proofs.table.Observed.{slot-found, child-told, child-missing, child-held}
 use Rattle.kcall_core.proofs.kernel.Kernel.child_state.Goals as goal
 
 pub returns-in_default : goal.returns-in_default

@@ -1,6 +1,6 @@
 use Rattle.std.proofs.Common.{◌-◌, ◌∙◌, subst, arith}
 use Rattle.kcall_core.specs.Closings.{ClosesFrom}
-use Rattle.kcall_core.proofs.AllClosed.{closes-none, closes-on}
+use Rattle.kcall_core.proofs.files.AllClosed.{closes-none, closes-on}
 use Rattle.kcall_core.proofs.kernel.Kernel.close_all.Goals as goal
 
 pub loop-closed-init : goal.loop-closed-init

@@ -5,8 +5,8 @@ use Rattle.kcall_core.specs.Closings.{closes_wake, woken_by}
 use Rattle.kcall_core.specs.Memories.{pipes_of}
 use Rattle.kcall_core.specs.Kernel.{state_of}
 use Rattle.kcall_core.specs.declared.kernel.Kernel.{Kernel}
-use Rattle.kcall_core.proofs.PipeEdges.{there-is}
-use Rattle.kcall_core.proofs.OneClosed.{used-open, plain-closed, pipe-closed, pipe-there, pipe-counts}
+use Rattle.kcall_core.proofs.memory.PipeEdges.{there-is}
+use Rattle.kcall_core.proofs.files.OneClosed.{used-open, plain-closed, pipe-closed, pipe-there, pipe-counts}
 use Rattle.kcall_core.proofs.kernel.Kernel.close_descriptor.Goals as goal
 
 pub pipe_end_of-pipe-requires : goal.pipe_end_of-pipe-requires

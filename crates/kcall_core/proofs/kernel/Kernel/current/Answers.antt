@@ -2,9 +2,9 @@ use Rattle.std.proofs.Common.{refl, sym, ap, ◌∙◌, subst, Some}
 use Rattle.std.specs.Prelude.{IsSome, option_map}
 use Rattle.kcall_core.specs.Kernel.{pid_now}
 use Rattle.kcall_core.specs.Machine.{turns_of}
-use Rattle.kcall_core.proofs.States.{slot-inside}
-use Rattle.kcall_core.proofs.Stops.{now-slot}
-use Rattle.kcall_core.proofs.Chosen.{pid-told}
+use Rattle.kcall_core.proofs.table.States.{slot-inside}
+use Rattle.kcall_core.proofs.table.Stops.{now-slot}
+use Rattle.kcall_core.proofs.turns.Chosen.{pid-told}
 use Rattle.kcall_core.proofs.kernel.Kernel.current.Goals as goal
 
 pub pid-requires-clause-within : goal.pid-requires-clause-within

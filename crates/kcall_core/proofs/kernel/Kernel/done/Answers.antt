@@ -1,9 +1,9 @@
 use Rattle.std.proofs.Common.{rules, ◌≡◌, None}
 use Rattle.kcall_core.specs.Words.{word}
 use Rattle.kcall_core.specs.Calls.{with_a0}
-use Rattle.kcall_core.proofs.States.{slot-inside}
-use Rattle.kcall_core.proofs.Stops.{live-place}
-use Rattle.kcall_core.proofs.InCall.{is-in-call, progress-set}
+use Rattle.kcall_core.proofs.table.States.{slot-inside}
+use Rattle.kcall_core.proofs.table.Stops.{live-place}
+use Rattle.kcall_core.proofs.table.InCall.{is-in-call, progress-set}
 use Rattle.kcall_core.proofs.kernel.Kernel.done.Goals as goal
 
 pub set_progress-requires-clause-within : goal.set_progress-requires-clause-within

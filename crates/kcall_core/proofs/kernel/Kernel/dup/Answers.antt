@@ -5,14 +5,14 @@ use Rattle.file_table.specs.Named.{named_by}
 use Rattle.kcall_core.specs.Words.{c_int, minus_one}
 use Rattle.kcall_core.specs.Own.{Own, Called}
 use Rattle.kcall_core.specs.Makes.{Makes, view_now, answer_of}
-use Rattle.kcall_core.proofs.States.{slot-inside}
-use Rattle.kcall_core.proofs.Exits.{whole-closing}
-use Rattle.kcall_core.proofs.CallAnswers.{IsDone, done-at-once}
-use Rattle.kcall_core.proofs.OneClosed.{used-open}
-use Rattle.kcall_core.proofs.UsedDescriptor.{in-use-named, unused-shown}
-use Rattle.kcall_core.proofs.Lowest.{lowest-shown, lowest-free}
-use Rattle.kcall_core.proofs.DupMakes.{dup-refused, dup-full, shared-sound, dup-answer, dup-makes}
-use Rattle.kcall_core.proofs.Handing.{closing-may}
+use Rattle.kcall_core.proofs.table.States.{slot-inside}
+use Rattle.kcall_core.proofs.processes.Exits.{whole-closing}
+use Rattle.kcall_core.proofs.making.CallAnswers.{IsDone, done-at-once}
+use Rattle.kcall_core.proofs.files.OneClosed.{used-open}
+use Rattle.kcall_core.proofs.files.UsedDescriptor.{in-use-named, unused-shown}
+use Rattle.kcall_core.proofs.files.Lowest.{lowest-shown, lowest-free}
+use Rattle.kcall_core.proofs.files.DupMakes.{dup-refused, dup-full, shared-sound, dup-answer, dup-makes}
+use Rattle.kcall_core.proofs.processes.Handing.{closing-may}
 use Rattle.kcall_core.proofs.kernel.Kernel.dup.Goals as goal
 
 pub used_descriptor-requires : goal.used_descriptor-requires

@@ -3,8 +3,8 @@ use Rattle.std.proofs.lemmas.Int.{to_z-of_z}
 use Rattle.proc_table.specs.Processes.{ended}
 use Rattle.proc_table.specs.Slots.{changed_at}
 use Rattle.hart_core.specs.declared.hart.Hart.{Hart}
-use Rattle.kcall_core.proofs.States.{slot-inside}
-use Rattle.kcall_core.proofs.Stops.{now-has, now-slot, live-place, ended-sound, ended-state}
+use Rattle.kcall_core.proofs.table.States.{slot-inside}
+use Rattle.kcall_core.proofs.table.Stops.{now-has, now-slot, live-place, ended-sound, ended-state}
 use Rattle.kcall_core.proofs.kernel.Kernel.end.Goals as goal
 
 pub give_back-requires-clause-there : goal.give_back-requires-clause-there

@@ -1,5 +1,5 @@
 use Rattle.std.proofs.Common.{refl}
-use Rattle.kcall_core.proofs.Stops.{entered-state}
+use Rattle.kcall_core.proofs.table.Stops.{entered-state}
 use Rattle.kcall_core.proofs.kernel.Kernel.enter.Goals as goal
 
 pub returns-clause-state : goal.returns-clause-state

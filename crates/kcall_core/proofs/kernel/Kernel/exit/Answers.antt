@@ -6,8 +6,8 @@ use Rattle.proc_table.specs.Slots.{each_changed, changed_at}
 use Rattle.proc_table.specs.declared.channel.Channel.TheVariants as on
 use Rattle.kcall_core.specs.Updates.{gone_state}
 use Rattle.kcall_core.specs.Kernel.{state_of, slot_now, pid_now, live_now}
-use Rattle.kcall_core.proofs.States.{slot-inside}
-use Rattle.kcall_core.proofs.Exits.{whole-closing, no-descriptors, not-own-parent, parent-now, exit-makes}
+use Rattle.kcall_core.proofs.table.States.{slot-inside}
+use Rattle.kcall_core.proofs.processes.Exits.{whole-closing, no-descriptors, not-own-parent, parent-now, exit-makes}
 use Rattle.kcall_core.proofs.kernel.Kernel.exit.Goals as goal
 
 pub parent-parent-requires-clause-within : goal.parent-parent-requires-clause-within

@@ -1,5 +1,5 @@
 use Rattle.std.proofs.Common.{sym, ◌∙◌, subst, refl, IsSome}
-use Rattle.kcall_core.proofs.Observed.{slot-found, status-told, none-told, missing-live, ended-live}
+use Rattle.kcall_core.proofs.table.Observed.{slot-found, status-told, none-told, missing-live, ended-live}
 use Rattle.kcall_core.proofs.kernel.Kernel.find_live.Goals as goal
 
 pub returns-in_default-clause-none : goal.returns-in_default-clause-none

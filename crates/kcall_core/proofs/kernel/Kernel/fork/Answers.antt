@@ -6,13 +6,13 @@ use Rattle.kcall_core.specs.Own.{Own, Called}
 use Rattle.kcall_core.specs.Makes.{answer_of}
 use Rattle.kcall_core.specs.Kernel.{state_of, slot_now}
 use Rattle.kcall_core.specs.Forks.{IsHanded}
-use Rattle.kcall_core.proofs.States.{slot-inside}
-use Rattle.kcall_core.proofs.Stops.{now-slot}
-use Rattle.kcall_core.proofs.Imaged.{image-makes}
-use Rattle.kcall_core.proofs.FreeSlot.{slot-for}
-use Rattle.kcall_core.proofs.ForkMakes.{fork-makes, fork-answer}
-use Rattle.kcall_core.proofs.Handing.{handed-none, handed-on, next-may}
-use Rattle.kcall_core.proofs.Handed.{barren-has, barren-row, done-has, handed-born}
+use Rattle.kcall_core.proofs.table.States.{slot-inside}
+use Rattle.kcall_core.proofs.table.Stops.{now-slot}
+use Rattle.kcall_core.proofs.making.Imaged.{image-makes}
+use Rattle.kcall_core.proofs.processes.FreeSlot.{slot-for}
+use Rattle.kcall_core.proofs.processes.ForkMakes.{fork-makes, fork-answer}
+use Rattle.kcall_core.proofs.processes.Handing.{handed-none, handed-on, next-may}
+use Rattle.kcall_core.proofs.processes.Handed.{barren-has, barren-row, done-has, handed-born}
 use Rattle.kcall_core.proofs.kernel.Kernel.fork.Goals as goal
 
 pub done-requires-clause-sound : goal.done-requires-clause-sound

@@ -4,10 +4,10 @@ use Rattle.std.specs.Int.{w64}
 use Rattle.std.proofs.lemmas.Int.{to_z-of_z}
 use Rattle.kcall_core.specs.Kernel.{pid_now}
 use Rattle.kcall_core.specs.View.{view_of}
-use Rattle.kcall_core.proofs.States.{slot-inside}
-use Rattle.kcall_core.proofs.Stops.{now-slot}
-use Rattle.kcall_core.proofs.Chosen.{pid-told}
-use Rattle.kcall_core.proofs.CallAnswers.{done-at-once}
+use Rattle.kcall_core.proofs.table.States.{slot-inside}
+use Rattle.kcall_core.proofs.table.Stops.{now-slot}
+use Rattle.kcall_core.proofs.turns.Chosen.{pid-told}
+use Rattle.kcall_core.proofs.making.CallAnswers.{done-at-once}
 use Rattle.kcall_core.proofs.kernel.Kernel.getpid.Goals as goal
 
 pub pid-pid-requires-clause-within : goal.pid-pid-requires-clause-within

@@ -9,11 +9,11 @@ use Rattle.kcall_core.specs.Kernel.{state_of, slot_now, pid_now, live_now, IsSou
 use Rattle.kcall_core.specs.declared.kernel.Kernel.{Kernel}
 use Rattle.proc_table.specs.Processes.{given, ended}
 use Rattle.proc_table.specs.Slots.{each_changed, changed_at}
-use Rattle.kcall_core.proofs.States.{slot-inside}
-use Rattle.kcall_core.proofs.Stops.{now-slot}
-use Rattle.kcall_core.proofs.Chosen.{pid-told}
-use Rattle.kcall_core.proofs.Turned.{live-is}
-use Rattle.kcall_core.proofs.Closed.{gone-closed, keeps-parent}
+use Rattle.kcall_core.proofs.table.States.{slot-inside}
+use Rattle.kcall_core.proofs.table.Stops.{now-slot}
+use Rattle.kcall_core.proofs.turns.Chosen.{pid-told}
+use Rattle.kcall_core.proofs.turns.Turned.{live-is}
+use Rattle.kcall_core.proofs.steps.Closed.{gone-closed, keeps-parent}
 use Rattle.kcall_core.proofs.kernel.Kernel.go_closed.Goals as goal
 
 pub pid-pid-requires-clause-within : goal.pid-pid-requires-clause-within

@@ -1,6 +1,6 @@
 use Rattle.std.proofs.Common.{refl, sym, subst}
 use Rattle.std.specs.Prelude.{IsSome}
-use Rattle.kcall_core.proofs.States.{slot-inside}
+use Rattle.kcall_core.proofs.table.States.{slot-inside}
 use Rattle.kcall_core.proofs.kernel.Kernel.in_call.Goals as goal
 
 pub progress-requires-clause-within : goal.progress-requires-clause-within

@@ -3,12 +3,12 @@ use Rattle.std.proofs.lemmas.Int.{to_z-of_z}
 use Rattle.file_table.specs.Named.{named_by}
 use Rattle.kcall_core.specs.Words.{c_int}
 use Rattle.kcall_core.specs.Makes.{view_now}
-use Rattle.kcall_core.proofs.States.{slot-inside}
-use Rattle.kcall_core.proofs.Exits.{whole-closing}
-use Rattle.kcall_core.proofs.OneClosed.{used-open}
-use Rattle.kcall_core.proofs.UsedDescriptor.{in-use-named, unused-shown}
-use Rattle.kcall_core.proofs.MovingRows.{in-use-as}
-use Rattle.kcall_core.proofs.OpenRows.{terminal-unused, terminal-shown}
+use Rattle.kcall_core.proofs.table.States.{slot-inside}
+use Rattle.kcall_core.proofs.processes.Exits.{whole-closing}
+use Rattle.kcall_core.proofs.files.OneClosed.{used-open}
+use Rattle.kcall_core.proofs.files.UsedDescriptor.{in-use-named, unused-shown}
+use Rattle.kcall_core.proofs.files.MovingRows.{in-use-as}
+use Rattle.kcall_core.proofs.files.OpenRows.{terminal-unused, terminal-shown}
 use Rattle.kcall_core.proofs.kernel.Kernel.is_on_terminal.Goals as goal
 
 pub used_descriptor-requires : goal.used_descriptor-requires

@@ -7,10 +7,10 @@ use Rattle.kcall_core.specs.Words.{minus_one}
 use Rattle.kcall_core.specs.Own.{Own}
 use Rattle.kcall_core.specs.Kernel.{IsSound}
 use Rattle.kcall_core.specs.Makes.{Makes, view_now, answer_of}
-use Rattle.kcall_core.proofs.Observed.{none-told}
-use Rattle.kcall_core.proofs.Chosen.{noted}
-use Rattle.kcall_core.proofs.CallAnswers.{IsDone, done-at-once}
-use Rattle.kcall_core.proofs.KillMakes.{none-row, pid-row, unknown-row, some-slot, marked-sound, kill-makes, killed-answer}
+use Rattle.kcall_core.proofs.table.Observed.{none-told}
+use Rattle.kcall_core.proofs.turns.Chosen.{noted}
+use Rattle.kcall_core.proofs.making.CallAnswers.{IsDone, done-at-once}
+use Rattle.kcall_core.proofs.processes.KillMakes.{none-row, pid-row, unknown-row, some-slot, marked-sound, kill-makes, killed-answer}
 use Rattle.kcall_core.proofs.kernel.Kernel.kill.Goals as goal
 
 pub returns-in_default-clause-made : goal.returns-in_default-clause-made

@@ -1,5 +1,5 @@
 use Rattle.std.proofs.Common.{sym, ◌∙◌}
-use Rattle.kcall_core.proofs.PipeEdges.{left-nobody, left-wakes}
+use Rattle.kcall_core.proofs.memory.PipeEdges.{left-nobody, left-wakes}
 use Rattle.kcall_core.proofs.kernel.Kernel.leave_pipe.Goals as goal
 
 pub returns-then-not-leave-clause-table : goal.returns-then-not-leave-clause-table

@@ -1,4 +1,4 @@
-use Rattle.kcall_core.proofs.Stops.{now-has}
+use Rattle.kcall_core.proofs.table.Stops.{now-has}
 use Rattle.kcall_core.proofs.kernel.Kernel.may_tell.Goals as goal
 
 pub may_write-requires-clause-there : goal.may_write-requires-clause-there

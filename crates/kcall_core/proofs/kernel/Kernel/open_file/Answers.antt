@@ -9,13 +9,13 @@ use Rattle.kcall_core.specs.Memories.{each_of}
 use Rattle.kcall_core.specs.Kernel.{state_of}
 use Rattle.kcall_core.specs.Makes.{Makes, view_now, answer_of}
 use Rattle.file_table.specs.OpenFiles.{program_file}
-use Rattle.kcall_core.proofs.States.{slot-inside}
-use Rattle.kcall_core.proofs.Stops.{now-slot}
-use Rattle.kcall_core.proofs.CallAnswers.{IsDone}
-use Rattle.kcall_core.proofs.Lowest.{lowest-shown, lowest-free}
-use Rattle.kcall_core.proofs.OpenRoom.{room-for-one}
-use Rattle.kcall_core.proofs.Opened.{lowest-place-free, opened-sound, opened-makes}
-use Rattle.kcall_core.proofs.OpenRows.{open-nothing, open-mode, open-full, open-opens}
+use Rattle.kcall_core.proofs.table.States.{slot-inside}
+use Rattle.kcall_core.proofs.table.Stops.{now-slot}
+use Rattle.kcall_core.proofs.making.CallAnswers.{IsDone}
+use Rattle.kcall_core.proofs.files.Lowest.{lowest-shown, lowest-free}
+use Rattle.kcall_core.proofs.files.OpenRoom.{room-for-one}
+use Rattle.kcall_core.proofs.files.Opened.{lowest-place-free, opened-sound, opened-makes}
+use Rattle.kcall_core.proofs.files.OpenRows.{open-nothing, open-mode, open-full, open-opens}
 use Rattle.kcall_core.proofs.kernel.Kernel.open_file.Goals as goal
 
 pub returns-in_default-asked_place-clause-made : goal.returns-in_default-asked_place-clause-made

@@ -1,7 +1,7 @@
 use Rattle.std.proofs.Common.{refl, ap, ◌∙◌}
 use Rattle.proc_table.specs.Processes.{given}
 use Rattle.proc_table.specs.Slots.{each_changed}
-use Rattle.kcall_core.proofs.Adopted.{adopted-state, adopted-sound, adopted-pid}
+use Rattle.kcall_core.proofs.table.Adopted.{adopted-state, adopted-sound, adopted-pid}
 use Rattle.kcall_core.proofs.kernel.Kernel.orphan.Goals as goal
 
 pub returns-clause-sound : goal.returns-clause-sound

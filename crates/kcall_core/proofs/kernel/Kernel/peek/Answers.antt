@@ -1,6 +1,6 @@
 use Rattle.std.proofs.Common.{sym, ap, ◌∙◌}
 use Rattle.kcall_core.specs.Observers.{byte_in}
-use Rattle.kcall_core.proofs.Observed.{byte-told, live-has}
+use Rattle.kcall_core.proofs.table.Observed.{byte-told, live-has}
 use Rattle.kcall_core.proofs.kernel.Kernel.peek.Goals as goal
 
 pub peek-requires-clause-there : goal.peek-requires-clause-there

@@ -6,7 +6,7 @@ use Rattle.kcall_core.specs.View.{view_of}
 use Rattle.kcall_core.specs.Kernel.{state_of}
 use Rattle.kcall_core.specs.Own.{Own, Exited}
 use Rattle.kcall_core.specs.Makes.{Makes, view_now, answer_of}
-use Rattle.kcall_core.proofs.BuiltRows.{fork-row, exit-row, wait-row, kill-row, exec-row, getpid-row, sbrk-row, sleep-row, uptime-row, close-row, dup-row, pipe-row, open-row, read-row, write-row, IsOther, other-row}
+use Rattle.kcall_core.proofs.rows.BuiltRows.{fork-row, exit-row, wait-row, kill-row, exec-row, getpid-row, sbrk-row, sleep-row, uptime-row, close-row, dup-row, pipe-row, open-row, read-row, write-row, IsOther, other-row}
 use Rattle.kcall_core.proofs.kernel.Kernel.perform.Goals as goal
 
 pub returns-in-1-clause-made : goal.returns-in-1-clause-made

@@ -8,12 +8,12 @@ use Rattle.kcall_core.specs.View.{view_of}
 use Rattle.kcall_core.specs.Own.{Own}
 use Rattle.kcall_core.specs.Kernel.{state_of}
 use Rattle.kcall_core.specs.Makes.{Makes, view_now, answer_of}
-use Rattle.kcall_core.proofs.States.{slot-inside}
-use Rattle.kcall_core.proofs.Stops.{now-slot}
-use Rattle.kcall_core.proofs.FileReads.{slot-memory}
-use Rattle.kcall_core.proofs.Lowest.{lowest-shown, lowest-free, above-shown, above-free}
-use Rattle.kcall_core.proofs.OpenRoom.{room-for-one}
-use Rattle.kcall_core.proofs.PipeMakes.{pipe-unwritable, pipe-frameless, pipe-full, pipe-one, equips, read-end-counted, read-end-table, write-end-free, ends-sound, pipe-answer, pipe-makes}
+use Rattle.kcall_core.proofs.table.States.{slot-inside}
+use Rattle.kcall_core.proofs.table.Stops.{now-slot}
+use Rattle.kcall_core.proofs.files.FileReads.{slot-memory}
+use Rattle.kcall_core.proofs.files.Lowest.{lowest-shown, lowest-free, above-shown, above-free}
+use Rattle.kcall_core.proofs.files.OpenRoom.{room-for-one}
+use Rattle.kcall_core.proofs.files.PipeMakes.{pipe-unwritable, pipe-frameless, pipe-full, pipe-one, equips, read-end-counted, read-end-table, write-end-free, ends-sound, pipe-answer, pipe-makes}
 use Rattle.kcall_core.proofs.kernel.Kernel.pipe.Goals as goal
 
 pub may_write-requires-clause-there : goal.may_write-requires-clause-there

@@ -1,4 +1,4 @@
-use Rattle.kcall_core.proofs.MovingRows.{reads-pipe}
+use Rattle.kcall_core.proofs.files.MovingRows.{reads-pipe}
 use Rattle.kcall_core.proofs.kernel.Kernel.read_from.Goals as goal
 
 pub read_pipe-requires-clause-reads : goal.read_pipe-requires-clause-reads

@@ -11,9 +11,9 @@ use Rattle.kcall_core.specs.Programs.{program_bytes}
 use Rattle.kcall_core.specs.State.{named_file}
 use Rattle.kcall_core.specs.Kernel.{state_of}
 use Rattle.kcall_core.specs.Makes.{answer_of}
-use Rattle.kcall_core.proofs.Stops.{now-slot}
-use Rattle.kcall_core.proofs.PipeRest.{writable-fewer}
-use Rattle.kcall_core.proofs.FileReads.{slot-memory, few, is-open, file-sound, file-answer, file-done}
+use Rattle.kcall_core.proofs.table.Stops.{now-slot}
+use Rattle.kcall_core.proofs.memory.PipeRest.{writable-fewer}
+use Rattle.kcall_core.proofs.files.FileReads.{slot-memory, few, is-open, file-sound, file-answer, file-done}
 use Rattle.kcall_core.proofs.kernel.Kernel.read_program.Goals as goal
 
 pub put_front-requires-clause-there : goal.put_front-requires-clause-there

@@ -2,7 +2,7 @@ use Rattle.std.proofs.Common.{sym, ap, ◌∙◌, subst, cond}
 use Rattle.kcall_core.specs.Own.{Own}
 use Rattle.kcall_core.specs.Calls.{read, refused}
 use Rattle.kcall_core.specs.Makes.{Makes, view_now, answer_of}
-use Rattle.kcall_core.proofs.OpenRows.{not-on-terminal}
+use Rattle.kcall_core.proofs.files.OpenRows.{not-on-terminal}
 use Rattle.kcall_core.proofs.kernel.Kernel.read_so_far.Goals as goal
 
 pub returns-then-is_on_terminal-clause-made : goal.returns-then-is_on_terminal-clause-made

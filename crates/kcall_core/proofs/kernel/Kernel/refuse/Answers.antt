@@ -1,6 +1,6 @@
 use Rattle.std.proofs.Common.{refl}
 use Rattle.kcall_core.specs.Words.{minus_one}
-use Rattle.kcall_core.proofs.CallAnswers.{done-at-once}
+use Rattle.kcall_core.proofs.making.CallAnswers.{done-at-once}
 use Rattle.kcall_core.proofs.kernel.Kernel.refuse.Goals as goal
 
 pub returns-clause-made : goal.returns-clause-made

@@ -1,6 +1,6 @@
 use Rattle.std.proofs.Common.{sym, ◌∙◌, arith}
-use Rattle.kcall_core.proofs.Stops.{now-has}
-use Rattle.kcall_core.proofs.Imaged.{image-shrunk, image-grown, image-too-dear, where-ok, where-err}
+use Rattle.kcall_core.proofs.table.Stops.{now-has}
+use Rattle.kcall_core.proofs.making.Imaged.{image-shrunk, image-grown, image-too-dear, where-ok, where-err}
 use Rattle.kcall_core.proofs.kernel.Kernel.resize.Goals as goal
 
 pub size-requires-clause-there : goal.size-requires-clause-there

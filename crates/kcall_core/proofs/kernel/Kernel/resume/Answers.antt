@@ -1,8 +1,8 @@
 use Rattle.std.proofs.Common.{◌≡◌, Some, sym, ◌∙◌}
 use Rattle.kcall_core.specs.Kernel.{live_now}
-use Rattle.kcall_core.proofs.Stops.{now-slot}
-use Rattle.kcall_core.proofs.InCall.{call-told}
-use Rattle.kcall_core.proofs.CallAnswers.{resumed-made, resumed-answer}
+use Rattle.kcall_core.proofs.table.Stops.{now-slot}
+use Rattle.kcall_core.proofs.table.InCall.{call-told}
+use Rattle.kcall_core.proofs.making.CallAnswers.{resumed-made, resumed-answer}
 use Rattle.kcall_core.proofs.kernel.Kernel.resume.Goals as goal
 
 pub returns-clause-made : goal.returns-clause-made

@@ -2,8 +2,8 @@ use Rattle.std.proofs.Common.{sym, ap, ◌∙◌, w32, w64}
 use Rattle.std.proofs.lemmas.Int.{to_z-of_z}
 use Rattle.kcall_core.specs.Own.{Own}
 use Rattle.kcall_core.specs.Makes.{answer_of}
-use Rattle.kcall_core.proofs.Imaged.{image-same, image-makes}
-use Rattle.kcall_core.proofs.SbrkRow.{row-size, row-answer, row-outside, row-too-dear, row-resized}
+use Rattle.kcall_core.proofs.making.Imaged.{image-same, image-makes}
+use Rattle.kcall_core.proofs.processes.SbrkRow.{row-size, row-answer, row-outside, row-too-dear, row-resized}
 use Rattle.kcall_core.proofs.kernel.Kernel.sbrk.Goals as goal
 
 pub returns-in_default-resized-clause-made : goal.returns-in_default-resized-clause-made

@@ -5,8 +5,8 @@ use Rattle.file_table.specs.declared.open_file.Target.TheVariants.{Console as Te
 use Rattle.kcall_core.specs.Quiet.{pipe_of_target}
 use Rattle.kcall_core.specs.Sharings.{Joins}
 use Rattle.kcall_core.specs.declared.memories.Memories.{Memories}
-use Rattle.kcall_core.proofs.States.{none-some}
-use Rattle.kcall_core.proofs.Turned.{same-some}
+use Rattle.kcall_core.proofs.table.States.{none-some}
+use Rattle.kcall_core.proofs.turns.Turned.{same-some}
 use Rattle.kcall_core.proofs.kernel.Kernel.share.Goals as goal
 
 pub share-requires-clause-room : goal.share-requires-clause-room

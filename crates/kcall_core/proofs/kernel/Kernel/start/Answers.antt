@@ -11,9 +11,9 @@ use Rattle.kcall_core.specs.Starts.{start_refusal}
 use Rattle.kcall_core.specs.Memories.{free_of}
 use Rattle.kcall_core.specs.Kernel.{state_of}
 use Rattle.kcall_core.specs.Machine.{turns_of}
-use Rattle.kcall_core.proofs.Starting.{blank-vacant, slot-zero, first-has, Begins, begins, same-state}
-use Rattle.kcall_core.proofs.FirstWhole.{begun-whole, begun-world}
-use Rattle.kcall_core.proofs.Deserted.{console-within, no-process-whole, refused-nobody, refused-sound}
+use Rattle.kcall_core.proofs.table.Starting.{blank-vacant, slot-zero, first-has, Begins, begins, same-state}
+use Rattle.kcall_core.proofs.table.FirstWhole.{begun-whole, begun-world}
+use Rattle.kcall_core.proofs.table.Deserted.{console-within, no-process-whole, refused-nobody, refused-sound}
 use Rattle.kcall_core.proofs.kernel.Kernel.start.Goals as goal
 
 pub load_first-requires-clause-vacant : goal.load_first-requires-clause-vacant

@@ -1,7 +1,7 @@
 use Rattle.kcall_core.specs.Kernel.{slot_now}
-use Rattle.kcall_core.proofs.States.{running}
-use Rattle.kcall_core.proofs.Instructions.{step-done, step-stays}
-use Rattle.kcall_core.proofs.Staying.{still-runs}
+use Rattle.kcall_core.proofs.table.States.{running}
+use Rattle.kcall_core.proofs.making.Instructions.{step-done, step-stays}
+use Rattle.kcall_core.proofs.making.Staying.{still-runs}
 use Rattle.kcall_core.proofs.kernel.Kernel.step.Goals as goal
 
 pub step-requires-clause-running : goal.step-requires-clause-running

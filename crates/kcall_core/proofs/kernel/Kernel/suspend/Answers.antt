@@ -3,7 +3,7 @@ use Rattle.rv64i_core.specs.Registers.{Registers}
 use Rattle.hart_core.specs.declared.hart.Hart.{Hart}
 use Rattle.kcall_core.specs.Holdings.{held_at, with_saved}
 use Rattle.kcall_core.specs.Memories.{each_of, SlotChanges}
-use Rattle.kcall_core.proofs.Stops.{now-has, suspended-sound, suspended-state}
+use Rattle.kcall_core.proofs.table.Stops.{now-has, suspended-sound, suspended-state}
 use Rattle.kcall_core.proofs.kernel.Kernel.suspend.Goals as goal
 
 pub save-requires-clause-there : goal.save-requires-clause-there

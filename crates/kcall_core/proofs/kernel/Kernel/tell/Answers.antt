@@ -1,6 +1,6 @@
 use Rattle.std.proofs.Common.{rules}
-use Rattle.kcall_core.proofs.Stops.{now-has}
-use Rattle.kcall_core.proofs.WaitRows.{told-nothing, told-status}
+use Rattle.kcall_core.proofs.table.Stops.{now-has}
+use Rattle.kcall_core.proofs.processes.WaitRows.{told-nothing, told-status}
 use Rattle.kcall_core.proofs.kernel.Kernel.tell.Goals as goal
 
 pub returns-then-address-eq0 : goal.returns-then-address-eq0

@@ -2,8 +2,8 @@ use Rattle.std.proofs.Common.{◌≡◌, length, Some, refl, sym, ap, ◌∙◌,
 use Rattle.std.specs.Prelude.{IsSome}
 use Rattle.proc_table.specs.Slots.{Slots, place_at, pid_at}
 use Rattle.kcall_core.specs.declared.kernel.Kernel.{Kernel}
-use Rattle.kcall_core.proofs.Chosen.{chosen, noted-sound, noted-state}
-use Rattle.kcall_core.proofs.NextTurn.{runs-in, with_turn, nobody, turned-whole, turned-world, turned-nearest}
+use Rattle.kcall_core.proofs.turns.Chosen.{chosen, noted-sound, noted-state}
+use Rattle.kcall_core.proofs.turns.NextTurn.{runs-in, with_turn, nobody, turned-whole, turned-world, turned-nearest}
 use Rattle.kcall_core.proofs.kernel.Kernel.turn.Goals as goal
 
 pub enter-requires-clause-sound : goal.enter-requires-clause-sound

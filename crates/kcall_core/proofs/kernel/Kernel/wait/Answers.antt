@@ -11,13 +11,13 @@ use Rattle.kcall_core.specs.Kernel.{HasImage, live_now}
 use Rattle.kcall_core.specs.declared.kernel.Kernel.{Kernel}
 use Rattle.kcall_core.specs.Own.{Own, Called}
 use Rattle.kcall_core.specs.Makes.{Makes, answer_of}
-use Rattle.kcall_core.proofs.Stops.{now-slot}
-use Rattle.kcall_core.proofs.Chosen.{noted, pid-told}
-use Rattle.kcall_core.proofs.CallAnswers.{IsDone, done-at-once}
-use Rattle.kcall_core.proofs.Midway.{IsAsleep}
-use Rattle.kcall_core.proofs.WaitRows.{tested, room-told, childless-row, waiting-row}
-use Rattle.kcall_core.proofs.WaitMakes.{reaped-sound, wait-makes, gone-answer}
-use Rattle.kcall_core.proofs.WaitSleeps.{wait-waits, waits-answer}
+use Rattle.kcall_core.proofs.table.Stops.{now-slot}
+use Rattle.kcall_core.proofs.turns.Chosen.{noted, pid-told}
+use Rattle.kcall_core.proofs.making.CallAnswers.{IsDone, done-at-once}
+use Rattle.kcall_core.proofs.making.Midway.{IsAsleep}
+use Rattle.kcall_core.proofs.processes.WaitRows.{tested, room-told, childless-row, waiting-row}
+use Rattle.kcall_core.proofs.processes.WaitMakes.{reaped-sound, wait-makes, gone-answer}
+use Rattle.kcall_core.proofs.processes.WaitSleeps.{wait-waits, waits-answer}
 use Rattle.kcall_core.proofs.kernel.Kernel.wait.Goals as goal
 
 pub returns-then-not-may_tell-clause-made : goal.returns-then-not-may_tell-clause-made

@@ -1,5 +1,5 @@
 use Rattle.std.proofs.Common.{refl}
-use Rattle.kcall_core.proofs.Adopted.{woken-state, woken-sound}
+use Rattle.kcall_core.proofs.table.Adopted.{woken-state, woken-sound}
 use Rattle.kcall_core.proofs.kernel.Kernel.wake.Goals as goal
 
 pub returns-clause-sound : goal.returns-clause-sound

@@ -1,8 +1,8 @@
 use Rattle.std.proofs.Common.{◌∙◌}
 use Rattle.proc_table.specs.declared.channel.Channel.TheVariants as on
 use Rattle.kcall_core.specs.Moves.{wakes_readers}
-use Rattle.kcall_core.proofs.Woken.{each-none, each-woken}
-use Rattle.kcall_core.proofs.PipeWrites.{none-came, some-came}
+use Rattle.kcall_core.proofs.table.Woken.{each-none, each-woken}
+use Rattle.kcall_core.proofs.files.PipeWrites.{none-came, some-came}
 use Rattle.kcall_core.proofs.kernel.Kernel.wake_readers.Goals as goal
 
 pub returns-then-count-eq0-clause-table : goal.returns-then-count-eq0-clause-table

@@ -8,13 +8,13 @@ use Rattle.kcall_core.specs.Holdings.{held_at}
 use Rattle.kcall_core.specs.Memories.{each_of}
 use Rattle.kcall_core.specs.Own.{Own}
 use Rattle.kcall_core.specs.Makes.{Makes, view_now, answer_of}
-use Rattle.kcall_core.proofs.States.{slot-inside}
-use Rattle.kcall_core.proofs.Stops.{now-slot}
-use Rattle.kcall_core.proofs.Exits.{whole-closing}
-use Rattle.kcall_core.proofs.CallAnswers.{done-at-once}
-use Rattle.kcall_core.proofs.OneClosed.{used-open}
-use Rattle.kcall_core.proofs.UsedDescriptor.{in-use-named, unused-shown}
-use Rattle.kcall_core.proofs.MovingRows.{in-use-as, write-unused, write-shut, write-below, write-nothing, write-absent}
+use Rattle.kcall_core.proofs.table.States.{slot-inside}
+use Rattle.kcall_core.proofs.table.Stops.{now-slot}
+use Rattle.kcall_core.proofs.processes.Exits.{whole-closing}
+use Rattle.kcall_core.proofs.making.CallAnswers.{done-at-once}
+use Rattle.kcall_core.proofs.files.OneClosed.{used-open}
+use Rattle.kcall_core.proofs.files.UsedDescriptor.{in-use-named, unused-shown}
+use Rattle.kcall_core.proofs.files.MovingRows.{in-use-as, write-unused, write-shut, write-below, write-nothing, write-absent}
 use Rattle.kcall_core.proofs.kernel.Kernel.write.Goals as goal
 
 pub returns-in_default-used_descriptor-clause-made : goal.returns-in_default-used_descriptor-clause-made

@@ -9,9 +9,9 @@ use Rattle.kcall_core.specs.PipeEnds.{count_on, fit}
 use Rattle.kcall_core.specs.Holdings.{pipe_named}
 use Rattle.kcall_core.specs.Memories.{pipes_of}
 use Rattle.kcall_core.specs.Makes.{Makes, answer_of}
-use Rattle.kcall_core.proofs.Stops.{now-slot}
-use Rattle.kcall_core.proofs.Midway.{IsAsleep}
-use Rattle.kcall_core.proofs.PipeWrites.{pipe-there, pipe-is, is-refused, rest-there, write-sound, ends-answer, write-done, waits-answer, write-waits}
+use Rattle.kcall_core.proofs.table.Stops.{now-slot}
+use Rattle.kcall_core.proofs.making.Midway.{IsAsleep}
+use Rattle.kcall_core.proofs.files.PipeWrites.{pipe-there, pipe-is, is-refused, rest-there, write-sound, ends-answer, write-done, waits-answer, write-waits}
 use Rattle.kcall_core.proofs.kernel.Kernel.write_pipe.Goals as goal
 
 pub is_closed-requires-clause-there : goal.is_closed-requires-clause-there

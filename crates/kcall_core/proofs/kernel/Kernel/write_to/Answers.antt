@@ -1,7 +1,7 @@
 use Rattle.std.proofs.Common.{sym, ap, ◌∙◌, subst}
 use Rattle.kcall_core.specs.Own.{Own}
 use Rattle.kcall_core.specs.Makes.{Makes, answer_of}
-use Rattle.kcall_core.proofs.MovingRows.{writes-pipe, program-refused}
+use Rattle.kcall_core.proofs.files.MovingRows.{writes-pipe, program-refused}
 use Rattle.kcall_core.proofs.kernel.Kernel.write_to.Goals as goal
 
 pub write_pipe-requires-clause-writes : goal.write_pipe-requires-clause-writes

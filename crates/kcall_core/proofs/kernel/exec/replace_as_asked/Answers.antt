@@ -5,10 +5,10 @@ use Rattle.kcall_core.specs.Programs.{program_named}
 use Rattle.kcall_core.specs.State.{named_file}
 use Rattle.kcall_core.specs.Holdings.{held_at}
 use Rattle.kcall_core.specs.Memories.{each_of}
-use Rattle.kcall_core.proofs.Births.{untraded}
-use Rattle.kcall_core.proofs.Changes.{same-if}
+use Rattle.kcall_core.proofs.memory.Births.{untraded}
+use Rattle.kcall_core.proofs.memory.Changes.{same-if}
 use Rattle.kcall_core.specs.Execs.{Asks}
-use Rattle.kcall_core.proofs.Asking.{loaded-fits}
+use Rattle.kcall_core.proofs.processes.Asking.{loaded-fits}
 use Rattle.kcall_core.proofs.kernel.exec.replace_as_asked.Goals as goal
 
 pub returns-in_default-fetch_args-clause-refused : goal.returns-in_default-fetch_args-clause-refused

@@ -1,7 +1,7 @@
 use Rattle.std.proofs.Common.{rules, ◌≡◌, ◌≢◌, ℕ, ◌-◌, ◌<◌, length, drop, ◌∙◌, arith}
 use Rattle.std.specs.Prelude.{slice_index}
 use Rattle.std.proofs.lemmas.List.{length-drop, take_all}
-use Rattle.kcall_core.proofs.Asking.{slashes-gone, slashes-only}
+use Rattle.kcall_core.proofs.processes.Asking.{slashes-gone, slashes-only}
 use Rattle.kcall_core.proofs.kernel.exec.without_slashes.Goals as goal
 
 pub returns-in_default : goal.returns-in_default

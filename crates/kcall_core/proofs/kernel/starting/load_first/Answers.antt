@@ -3,7 +3,7 @@ use Rattle.std.specs.Prelude.{map, option_copied, option_map}
 use Rattle.xk_base.specs.Loaded.{loaded}
 use Rattle.kcall_core.specs.Programs.{init_name, init_of, program_bytes, program_named}
 use Rattle.kcall_core.specs.State.{ProgramFile, named_file}
-use Rattle.kcall_core.proofs.Asking.{loaded-fits}
+use Rattle.kcall_core.proofs.processes.Asking.{loaded-fits}
 use Rattle.kcall_core.proofs.kernel.starting.load_first.Goals as goal
 
 pub returns-in-Ok-load_into-clause-loaded : goal.returns-in-Ok-load_into-clause-loaded

@@ -2,8 +2,8 @@ use Rattle.std.proofs.Common.{sym, ap, ◌∙◌, length}
 use Rattle.xk_base.specs.Image.{Image}
 use Rattle.xk_base.specs.Bytes.{image_bytes}
 use Rattle.kcall_core.specs.Buffers.{readable}
-use Rattle.kcall_core.proofs.Changes.{there-below, there-some, stands, image-seen}
-use Rattle.kcall_core.proofs.Written.{ok-map, err-map, whole-of}
+use Rattle.kcall_core.proofs.memory.Changes.{there-below, there-some, stands, image-seen}
+use Rattle.kcall_core.proofs.memory.Written.{ok-map, err-map, whole-of}
 use Rattle.kcall_core.proofs.memories.Memories.copy_in.Goals as goal
 
 pub index-requires : goal.index-requires

@@ -7,9 +7,9 @@ use Rattle.frame_list.specs.Pool.{free_in}
 use Rattle.kcall_core.specs.Buffers.{writable}
 use Rattle.kcall_core.specs.Memories.{each_of, free_of}
 use Rattle.kcall_core.specs.Holdings.{held_at}
-use Rattle.kcall_core.proofs.Births.{untraded}
-use Rattle.kcall_core.proofs.Changes.{there-below, there-some, stands, image-seen, belongs-of, space-changes, same-if}
-use Rattle.kcall_core.proofs.Written.{ok-map, ok-both, err-map, either, whole-of, size-seen, each-stays, free-stays, written-runs, unwritten-runs}
+use Rattle.kcall_core.proofs.memory.Births.{untraded}
+use Rattle.kcall_core.proofs.memory.Changes.{there-below, there-some, stands, image-seen, belongs-of, space-changes, same-if}
+use Rattle.kcall_core.proofs.memory.Written.{ok-map, ok-both, err-map, either, whole-of, size-seen, each-stays, free-stays, written-runs, unwritten-runs}
 use Rattle.kcall_core.proofs.memories.Memories.copy_out.Goals as goal
 
 pub index-requires : goal.index-requires

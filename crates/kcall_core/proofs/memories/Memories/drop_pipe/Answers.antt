@@ -1,5 +1,5 @@
 use Rattle.std.proofs.Common.{set, false, refl, ap, arith}
-use Rattle.kcall_core.proofs.PipeFrames.{pipe-keeps, pipe-inside, pipe-taken, pipe-dropped}
+use Rattle.kcall_core.proofs.memory.PipeFrames.{pipe-keeps, pipe-inside, pipe-taken, pipe-dropped}
 use Rattle.kcall_core.proofs.memories.Memories.drop_pipe.Goals as goal
 
 pub index_mut-requires : goal.index_mut-requires

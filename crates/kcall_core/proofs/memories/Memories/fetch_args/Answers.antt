@@ -3,7 +3,7 @@ use Rattle.xk_base.specs.declared.limits.TheConstants.{ARG_BYTES}
 use Rattle.kcall_core.specs.Buffers.{text_at}
 use Rattle.kcall_core.specs.Holdings.{held_at}
 use Rattle.kcall_core.specs.Memories.{each_of}
-use Rattle.kcall_core.proofs.Arguments.{no-pointer, all-read, too-many, no-text, reading-next, too-long, push-long}
+use Rattle.kcall_core.proofs.memory.Arguments.{no-pointer, all-read, too-many, no-text, reading-next, too-long, push-long}
 use Rattle.kcall_core.proofs.memories.Memories.fetch_args.Goals as goal
 
 pub returns-in_default-clause-refused : goal.returns-in_default-clause-refused

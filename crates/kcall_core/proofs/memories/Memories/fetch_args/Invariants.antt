@@ -2,7 +2,7 @@ use Rattle.xk_base.specs.declared.limits.TheConstants.{MAXARG, ARG_BYTES}
 use Rattle.kcall_core.specs.Buffers.{texts_at}
 use Rattle.kcall_core.specs.Holdings.{held_at}
 use Rattle.kcall_core.specs.Memories.{each_of}
-use Rattle.kcall_core.proofs.Arguments.{Reading}
+use Rattle.kcall_core.proofs.memory.Arguments.{Reading}
 use Rattle.kcall_core.proofs.memories.Memories.fetch_args.Given as goal
 
 abbrev pub invariant-texts : goal.invariant-texts

@@ -2,9 +2,9 @@ use Rattle.std.proofs.Common.{sym, ap, ◌∙◌, Some, length, take, drop}
 use Rattle.xk_base.specs.Image.{Image}
 use Rattle.addr_space.specs.Space.{image_of}
 use Rattle.kcall_core.specs.Buffers.{text_at}
-use Rattle.kcall_core.proofs.Changes.{there-below, there-some, stands, image-seen}
-use Rattle.kcall_core.proofs.UserBytes.{text-found, text-none, front-bytes}
-use Rattle.kcall_core.proofs.Written.{ok-both, err-map, whole-of}
+use Rattle.kcall_core.proofs.memory.Changes.{there-below, there-some, stands, image-seen}
+use Rattle.kcall_core.proofs.memory.UserBytes.{text-found, text-none, front-bytes}
+use Rattle.kcall_core.proofs.memory.Written.{ok-both, err-map, whole-of}
 use Rattle.kcall_core.proofs.memories.Memories.fetch_text.Goals as goal
 
 pub index-requires : goal.index-requires

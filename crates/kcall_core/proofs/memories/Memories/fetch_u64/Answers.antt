@@ -1,9 +1,9 @@
 use Rattle.std.proofs.Common.{ap, ◌∙◌}
 use Rattle.xk_base.specs.Image.{Image}
 use Rattle.kcall_core.specs.Buffers.{pointer_at}
-use Rattle.kcall_core.proofs.Changes.{there-below, there-some, stands, image-seen}
-use Rattle.kcall_core.proofs.UserBytes.{pointer-there, pointer-none, low-read}
-use Rattle.kcall_core.proofs.Written.{ok-map, ok-both, err-map, whole-of}
+use Rattle.kcall_core.proofs.memory.Changes.{there-below, there-some, stands, image-seen}
+use Rattle.kcall_core.proofs.memory.UserBytes.{pointer-there, pointer-none, low-read}
+use Rattle.kcall_core.proofs.memory.Written.{ok-map, ok-both, err-map, whole-of}
 use Rattle.kcall_core.proofs.memories.Memories.fetch_u64.Goals as goal
 
 pub index-requires : goal.index-requires

@@ -6,8 +6,8 @@ use Rattle.frame_list.specs.Pool.{free_in}
 use Rattle.frame_list.specs.Traded.{Traded}
 use Rattle.frame_list.proofs.Trades.{trade-join}
 use Rattle.kcall_core.specs.Memories.{free_of}
-use Rattle.kcall_core.proofs.Changes.{there-below, vacant-below, there-some, stands, image-seen, cost-seen, same-if}
-use Rattle.kcall_core.proofs.Births.{untraded, taken-apart, taken-length, there-stands, beside-belongs, beside-image, born}
+use Rattle.kcall_core.proofs.memory.Changes.{there-below, vacant-below, there-some, stands, image-seen, cost-seen, same-if}
+use Rattle.kcall_core.proofs.memory.Births.{untraded, taken-apart, taken-length, there-stands, beside-belongs, beside-image, born}
 use Rattle.kcall_core.proofs.memories.Memories.fork_into.Goals as goal
 
 pub returns-in_default-clause-refused : goal.returns-in_default-clause-refused

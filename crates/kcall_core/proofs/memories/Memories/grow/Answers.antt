@@ -5,10 +5,10 @@ use Rattle.addr_space.specs.Changes.{grown}
 use Rattle.addr_space.specs.declared.Space.{Space}
 use Rattle.kcall_core.specs.declared.memories.Memory.{Memory}
 use Rattle.kcall_core.specs.Memories.{free_of}
-use Rattle.kcall_core.proofs.Lists.{set-twice, set-read}
-use Rattle.kcall_core.proofs.Changes.{there-below, there-some, stands, belongs-of, image-seen, space-changes, same-if}
-use Rattle.kcall_core.proofs.Runs.{grown-runs}
-use Rattle.kcall_core.proofs.Births.{done-both, fails, untraded}
+use Rattle.kcall_core.proofs.memory.Lists.{set-twice, set-read}
+use Rattle.kcall_core.proofs.memory.Changes.{there-below, there-some, stands, belongs-of, image-seen, space-changes, same-if}
+use Rattle.kcall_core.proofs.memory.Runs.{grown-runs}
+use Rattle.kcall_core.proofs.memory.Births.{done-both, fails, untraded}
 use Rattle.kcall_core.proofs.memories.Memories.grow.Goals as goal
 
 pub index_mut-requires : goal.index_mut-requires

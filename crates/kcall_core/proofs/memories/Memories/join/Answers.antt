@@ -1,5 +1,5 @@
 use Rattle.std.proofs.Common.{refl, arith}
-use Rattle.kcall_core.proofs.PipeEdges.{is-pipe, counted-in, joins}
+use Rattle.kcall_core.proofs.memory.PipeEdges.{is-pipe, counted-in, joins}
 use Rattle.kcall_core.proofs.memories.Memories.join.Goals as goal
 
 pub add_reader-requires-clause-pipe : goal.add_reader-requires-clause-pipe

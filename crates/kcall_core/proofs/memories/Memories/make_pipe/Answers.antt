@@ -1,9 +1,9 @@
 use Rattle.std.proofs.Common.{[], length, set, true, refl, ap}
 use Rattle.pipe_core.specs.Pipe.{new_pipe}
 use Rattle.kcall_core.specs.Memories.{free_of}
-use Rattle.kcall_core.proofs.Changes.{same-if}
-use Rattle.kcall_core.proofs.Births.{untraded}
-use Rattle.kcall_core.proofs.PipeFrames.{pipe-absent, pipe-made}
+use Rattle.kcall_core.proofs.memory.Changes.{same-if}
+use Rattle.kcall_core.proofs.memory.Births.{untraded}
+use Rattle.kcall_core.proofs.memory.PipeFrames.{pipe-absent, pipe-made}
 use Rattle.kcall_core.proofs.memories.Memories.make_pipe.Goals as goal
 
 pub returns-in_default-clause-refused : goal.returns-in_default-clause-refused

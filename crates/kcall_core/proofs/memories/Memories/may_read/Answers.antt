@@ -2,8 +2,8 @@ use Rattle.std.proofs.Common.{◌≡◌, Bool, true, false, sym, ap, ◌∙◌}
 use Rattle.std.specs.Prelude.{Result, Ok, Err, IfOk, IfErr, is_ok}
 use Rattle.xk_base.specs.Image.{Image}
 use Rattle.kcall_core.specs.Buffers.{readable}
-use Rattle.kcall_core.proofs.Changes.{there-below, there-some, stands, image-seen}
-use Rattle.kcall_core.proofs.Written.{whole-of}
+use Rattle.kcall_core.proofs.memory.Changes.{there-below, there-some, stands, image-seen}
+use Rattle.kcall_core.proofs.memory.Written.{whole-of}
 use Rattle.kcall_core.proofs.memories.Memories.may_read.Goals as goal
 
 pub index-requires : goal.index-requires

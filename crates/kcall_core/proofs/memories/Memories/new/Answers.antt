@@ -2,7 +2,7 @@ use Rattle.std.proofs.Common.{◌≡◌, length, map, replicate, None, refl, sym
 use Rattle.std.proofs.lemmas.List.{length-replicate}
 use Rattle.phys_ram.specs.Ram.{zero_frame}
 use Rattle.kcall_core.specs.Memories.{held_in, each_of, pipes_of, free_of}
-use Rattle.kcall_core.proofs.Births.{none-sound, no-pipes, all-free, map-none}
+use Rattle.kcall_core.proofs.memory.Births.{none-sound, no-pipes, all-free, map-none}
 use Rattle.kcall_core.proofs.memories.Memories.new.Goals as goal
 
 pub returns-clause-sound : goal.returns-clause-sound

@@ -1,5 +1,5 @@
 use Rattle.std.proofs.Common.{refl, arith}
-use Rattle.kcall_core.proofs.PipeEdges.{is-pipe, counted-in, parts}
+use Rattle.kcall_core.proofs.memory.PipeEdges.{is-pipe, counted-in, parts}
 use Rattle.kcall_core.proofs.memories.Memories.part.Goals as goal
 
 pub drop_reader-requires-clause-pipe : goal.drop_reader-requires-clause-pipe

@@ -3,8 +3,8 @@ use Rattle.std.specs.FinMap.{get}
 use Rattle.addr_space.specs.Space.{image_of}
 use Rattle.hart_core.proofs.Ends.{low-pages}
 use Rattle.kcall_core.specs.Holdings.{byte_of}
-use Rattle.kcall_core.proofs.Changes.{there-below, there-some, stands, image-seen}
-use Rattle.kcall_core.proofs.Peeks.{byte-none, byte-some, no-page, some-page}
+use Rattle.kcall_core.proofs.memory.Changes.{there-below, there-some, stands, image-seen}
+use Rattle.kcall_core.proofs.memory.Peeks.{byte-none, byte-some, no-page, some-page}
 use Rattle.kcall_core.proofs.memories.Memories.peek.Goals as goal
 
 pub index-requires : goal.index-requires

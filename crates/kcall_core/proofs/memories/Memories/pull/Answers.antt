@@ -1,6 +1,6 @@
 use Rattle.std.proofs.Common.{◌++◌, length, take, drop, min, refl, sym, ap, ◌∙◌}
 use Rattle.pipe_core.specs.Pipe.{Pipe, without_first}
-use Rattle.kcall_core.proofs.PipeFrames.{pipe-keeps, pipe-named, pipe-becomes}
+use Rattle.kcall_core.proofs.memory.PipeFrames.{pipe-keeps, pipe-named, pipe-becomes}
 use Rattle.kcall_core.proofs.memories.Memories.pull.Goals as goal
 
 pub pull-requires : goal.pull-requires

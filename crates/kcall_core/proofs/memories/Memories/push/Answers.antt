@@ -1,6 +1,6 @@
 use Rattle.std.proofs.Common.{◌-◌, length, take, min, refl, sym, ap, ◌∙◌}
 use Rattle.pipe_core.specs.Pipe.{Pipe, with_more}
-use Rattle.kcall_core.proofs.PipeFrames.{pipe-keeps, pipe-named, pipe-becomes}
+use Rattle.kcall_core.proofs.memory.PipeFrames.{pipe-keeps, pipe-named, pipe-becomes}
 use Rattle.kcall_core.proofs.memories.Memories.push.Goals as goal
 
 pub push-requires : goal.push-requires

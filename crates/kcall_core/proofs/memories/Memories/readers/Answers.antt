@@ -1,6 +1,6 @@
 use Rattle.std.proofs.Common.{ap, ◌∙◌}
 use Rattle.pipe_core.specs.Pipe.{Pipe}
-use Rattle.kcall_core.proofs.PipeEdges.{is-pipe, named-in}
+use Rattle.kcall_core.proofs.memory.PipeEdges.{is-pipe, named-in}
 use Rattle.kcall_core.proofs.memories.Memories.readers.Goals as goal
 
 pub readers-requires : goal.readers-requires

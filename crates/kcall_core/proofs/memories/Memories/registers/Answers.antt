@@ -1,7 +1,7 @@
 use Rattle.std.proofs.Common.{sym, ap, ◌∙◌}
 use Rattle.kcall_core.specs.Holdings.{Held}
-use Rattle.kcall_core.proofs.Changes.{there-below, there-some, stands, held-seen, trapframe-inside}
-use Rattle.kcall_core.proofs.Registers.{aligned-saved}
+use Rattle.kcall_core.proofs.memory.Changes.{there-below, there-some, stands, held-seen, trapframe-inside}
+use Rattle.kcall_core.proofs.memory.Registers.{aligned-saved}
 use Rattle.kcall_core.proofs.memories.Memories.registers.Goals as goal
 
 pub index-requires : goal.index-requires

@@ -1,11 +1,11 @@
 use Rattle.std.proofs.Common.{[], Some, refl, sym, ap, ◌∙◌}
 use Rattle.hart_core.specs.declared.hart.Hart.{Hart}
 use Rattle.kcall_core.specs.Memories.{free_of}
-use Rattle.kcall_core.proofs.Lists.{set-twice}
-use Rattle.kcall_core.proofs.Changes.{there-below, there-some, stands, same-if}
-use Rattle.kcall_core.proofs.Births.{untraded}
-use Rattle.kcall_core.proofs.Runs.{switched-runs}
-use Rattle.kcall_core.proofs.Replaced.{old-belongs, space-replaced}
+use Rattle.kcall_core.proofs.memory.Lists.{set-twice}
+use Rattle.kcall_core.proofs.memory.Changes.{there-below, there-some, stands, same-if}
+use Rattle.kcall_core.proofs.memory.Births.{untraded}
+use Rattle.kcall_core.proofs.memory.Runs.{switched-runs}
+use Rattle.kcall_core.proofs.memory.Replaced.{old-belongs, space-replaced}
 use Rattle.kcall_core.proofs.memories.Memories.replace.Goals as goal
 
 pub returns-in_default-clause-refused : goal.returns-in_default-clause-refused

@@ -2,8 +2,8 @@ use Rattle.std.proofs.Common.{◌≡◌, Some, sym, ap, ◌∙◌}
 use Rattle.hart_core.specs.declared.hart.Hart.{Hart}
 use Rattle.hart_core.proofs.Caches.{fits_root}
 use Rattle.kcall_core.specs.Holdings.{Held}
-use Rattle.kcall_core.proofs.Changes.{there-below, there-some, stands, trapframe-inside, held-seen}
-use Rattle.kcall_core.proofs.Registers.{aligned-saved}
+use Rattle.kcall_core.proofs.memory.Changes.{there-below, there-some, stands, trapframe-inside, held-seen}
+use Rattle.kcall_core.proofs.memory.Registers.{aligned-saved}
 use Rattle.kcall_core.proofs.memories.Memories.restore.Goals as goal
 
 pub index-requires : goal.index-requires

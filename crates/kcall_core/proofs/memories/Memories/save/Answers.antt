@@ -1,6 +1,6 @@
 use Rattle.std.proofs.Common.{refl}
-use Rattle.kcall_core.proofs.Changes.{there-below, there-some, stands, trapframe-inside}
-use Rattle.kcall_core.proofs.Registers.{saved-changes, saved-runs}
+use Rattle.kcall_core.proofs.memory.Changes.{there-below, there-some, stands, trapframe-inside}
+use Rattle.kcall_core.proofs.memory.Registers.{saved-changes, saved-runs}
 use Rattle.kcall_core.proofs.memories.Memories.save.Goals as goal
 
 pub index-requires : goal.index-requires

@@ -1,6 +1,6 @@
 use Rattle.std.proofs.Common.{sym, ◌∙◌, ap, arith}
 use Rattle.xk_base.specs.Image.{Image}
-use Rattle.kcall_core.proofs.Changes.{there-below, there-some, stands, image-seen}
+use Rattle.kcall_core.proofs.memory.Changes.{there-below, there-some, stands, image-seen}
 use Rattle.kcall_core.proofs.memories.Memories.size.Goals as goal
 
 pub index-requires : goal.index-requires

@@ -1,0 +1,22 @@
+-- The calls on descriptors, files and pipes, as the code goes through them.
+pub mod AllClosed
+pub mod CloseMakes
+pub mod DupMakes
+pub mod FileReads
+pub mod OpenRows
+pub mod PipeMakes
+pub mod Lowest
+pub mod MovingRows
+pub mod Namings
+pub mod OneClosed
+pub mod OpenRoom
+pub mod Opened
+pub mod PipeLeft
+pub mod PipeOpens
+pub mod PipeReads
+pub mod PipeWrites
+pub mod Putting
+pub mod Room
+pub mod Sharing
+pub mod Taking
+pub mod UsedDescriptor

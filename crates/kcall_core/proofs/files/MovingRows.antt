@@ -1,0 +1,168 @@
+-- The tests of read and write, in their order, and what an open file is on.
+use Rattle.std.proofs.Common.{◌≡◌, ◌≢◌, ℕ, ◌<◌, Bool, true, false, not, Option, Some, None, refl, sym, ap, ◌∙◌, subst}
+use Rattle.std.specs.Prelude.{ℤ, pos, negsuc, IsSome, is_some, option_map, nat_eq}
+use Rattle.std.specs.FinMap.{get}
+use Rattle.hart_core.specs.declared.hart.Hart.{Hart}
+use Rattle.pipe_core.specs.Pipe.{Pipe}
+use Rattle.file_table.specs.OpenFiles.{open_file_at}
+use Rattle.file_table.specs.declared.open_file.OpenFile.{OpenFile}
+use Rattle.file_table.specs.declared.open_file.End.{End}
+use Rattle.file_table.specs.declared.open_file.Target.{Target}
+use Rattle.file_table.specs.declared.open_file.Target.TheVariants.{Program as File, Pipe as Pipe_end}
+use Rattle.proc_table.specs.declared.process.Call.{Call}
+use Rattle.kcall_core.specs.Words.{c_int}
+use Rattle.kcall_core.specs.Buffers.{readable, writable}
+use Rattle.kcall_core.specs.Processes.{Live}
+use Rattle.kcall_core.specs.State.{State}
+use Rattle.kcall_core.specs.View.{View, Descriptor, view_of, numbered, rename, rename_shown, show, descriptor_at, descriptor_on, least_on_pipe, pipe_name}
+use Rattle.kcall_core.specs.Own.{Own}
+use Rattle.kcall_core.specs.Calls.{read, write, done, refused}
+use Rattle.kcall_core.specs.RowLaws.{OnPipe}
+use Rattle.kcall_core.specs.Kernel.{state_of, IsRunning, pid_now, live_now}
+use Rattle.kcall_core.specs.Whole.{IsWhole}
+use Rattle.kcall_core.specs.Makes.{view_now}
+use Rattle.kcall_core.specs.Moves.{OnFile, ReadsPipe, WritesPipe}
+use Rattle.kcall_core.specs.declared.kernel.Kernel.{Kernel}
+use Rattle.kcall_core.proofs.turns.Turned.{live-is}
+use Rattle.kcall_core.proofs.steps.Names.{named_at}
+use Rattle.kcall_core.proofs.steps.Pipes.{least_there}
+use Rattle.kcall_core.proofs.rows.Decoding.{write_case}
+use Rattle.kcall_core.proofs.files.UsedDescriptor.{InUse}
+use Rattle.kcall_core.specs.Ready.{in_use}
+use Rattle.kcall_core.proofs.rows.RowParts.{read_on, read_from, write_on, write_to, moving, unless, unless_nothing, length_of_int}
+use Rattle.kcall_core.proofs.rows.RowsByParts.{read_same, write_same}
+
+-- ---- the tests
+
+unused-in : (v : View) (z : ℤ) → ((d : ℕ) → z ≡ pos d → v.descriptors d ≡ None) → in_use v z ≡ None
+unused-in v (pos d) none = none d refl
+unused-in v (negsuc k) none = refl
+
+pub read-unused : (c : Call) (v : View) → ((d : ℕ) → c_int c.a0 ≡ pos d → v.descriptors d ≡ None) → read c v ≡ refused c v
+read-unused c v none = read_same c v ∙ ap (read_on c v) (unused-in v (c_int c.a0) none)
+
+pub write-unused : (c : Call) (v : View) → ((d : ℕ) → c_int c.a0 ≡ pos d → v.descriptors d ≡ None) → write c v ≡ refused c v
+write-unused c v none = write_same c v ∙ ap (write_on c v) (unused-in v (c_int c.a0) none)
+
+moving-below : (c : Call) (v : View) (b : Bool) (z : ℤ) (go : ℕ → Own) → ((n : ℕ) → z ≢ pos n) → moving c v b z go ≡ refused c v
+moving-below c v b (pos n) go none = absurd (none n refl)
+moving-below c v b (negsuc k) go none = refl
+
+moving-nothing : (c : Call) (v : View) (room : ℕ → Bool) (z : ℤ) (go : ℕ → Own) → z ≡ pos 0 → moving c v (room (length_of_int z)) z go ≡ done c (pos 0) v
+moving-nothing c v room z go e = ap (λ y. moving c v (room (length_of_int y)) y go) e
+
+moving-absent : (c : Call) (v : View) (room : ℕ → Bool) (z : ℤ) (go : ℕ → Own) (n : ℕ) → z ≡ pos n → nat_eq n 0 ≡ false → room n ≡ false → moving c v (room (length_of_int z)) z go ≡ refused c v
+moving-absent c v room z go n e some absent =
+    ap (λ y. moving c v (room (length_of_int y)) y go) e
+    ∙ ap (λ (b : Bool). unless_nothing b c v (λ _. unless (not (room n)) c v (λ _. go n))) some
+    ∙ ap (λ (b : Bool). unless (not b) c v (λ _. go n)) absent
+
+-- what stands in a place is one open file
+same-kind : (x y : OpenFile) → Some x ≡ Some y → x ≡ y
+same-kind x y e = cc
+
+pub in-use-as : {k : Kernel} {h : Hart} {d g : ℕ} (x y : OpenFile) → InUse k h d g x → open_file_at k.files g ≡ Some y → InUse k h d g y
+in-use-as {k} {h} {d} {g} x y source e = subst (InUse k h d g) (same-kind x y (sym source.kind ∙ e)) source
+
+module _ {k : Kernel} {h : Hart} (c : Call) {fd file : ℕ} {x : OpenFile} (whole : IsWhole k h) (runs : IsRunning k) (below : fd < 16) (number : c_int c.a0 ≡ pos fd) (source : InUse k h fd file x) where
+  abbrev s : State
+  s = state_of k h
+
+  abbrev l : Live
+  l = live_now k h
+
+  abbrev v : View
+  v = view_now k h
+
+  abbrev shown : Descriptor
+  shown = rename (numbered s l) (record { file = file; read = x.read; write = x.write; shown = show s x.target })
+
+  seen : (view_now k h).descriptors fd ≡ Some shown
+  unfolding view_of
+  seen = named_at (numbered s l) fd below ∙ ap (option_map (rename (numbered s l))) (ap (descriptor_at s) source.used ∙ ap (descriptor_on s file) source.opened)
+
+  found : in_use v (c_int c.a0) ≡ Some shown
+  found = ap (in_use v) number ∙ seen
+
+  pub read-shut : x.read ≡ false → read c v ≡ refused c v
+  read-shut shut = read_same c v ∙ ap (read_on c v) found ∙ ap (λ (b : Bool). unless (not b) c v (λ _. moving c v (writable v.image c.a1 (length_of_int (c_int c.a2))) (c_int c.a2) (λ n. read_from c v n shown.file shown.shown))) shut
+
+  pub write-shut : x.write ≡ false → write c v ≡ refused c v
+  write-shut shut = write_same c v ∙ ap (write_on c v) found ∙ ap (λ (b : Bool). unless (not b) c v (λ _. moving c v (readable v.image c.a1 (length_of_int (c_int c.a2))) (c_int c.a2) (λ n. write_to c v n shown.shown))) shut
+
+  module _ (reads : x.read ≡ true) where
+    asked : read c v ≡ moving c v (writable v.image c.a1 (length_of_int (c_int c.a2))) (c_int c.a2) (λ n. read_from c v n shown.file shown.shown)
+    asked = read_same c v ∙ ap (read_on c v) found ∙ ap (λ (b : Bool). unless (not b) c v (λ _. moving c v (writable v.image c.a1 (length_of_int (c_int c.a2))) (c_int c.a2) (λ n. read_from c v n shown.file shown.shown))) reads
+
+    pub read-below : ((n : ℕ) → c_int c.a2 ≢ pos n) → read c v ≡ refused c v
+    read-below none = asked ∙ moving-below c v (writable v.image c.a1 (length_of_int (c_int c.a2))) (c_int c.a2) (λ n. read_from c v n shown.file shown.shown) none
+
+    pub read-nothing : c_int c.a2 ≡ pos 0 → read c v ≡ done c (pos 0) v
+    read-nothing e = asked ∙ moving-nothing c v (writable v.image c.a1) (c_int c.a2) (λ n. read_from c v n shown.file shown.shown) e
+
+    pub read-absent : (n : ℕ) → c_int c.a2 ≡ pos n → nat_eq n 0 ≡ false → writable l.image c.a1 n ≡ false → read c v ≡ refused c v
+    unfolding view_of
+    read-absent n e some absent = asked ∙ moving-absent c v (writable v.image c.a1) (c_int c.a2) (λ n. read_from c v n shown.file shown.shown) n e some absent
+
+  module _ (writes : x.write ≡ true) where
+    asked-to : write c v ≡ moving c v (readable v.image c.a1 (length_of_int (c_int c.a2))) (c_int c.a2) (λ n. write_to c v n shown.shown)
+    asked-to = write_same c v ∙ ap (write_on c v) found ∙ ap (λ (b : Bool). unless (not b) c v (λ _. moving c v (readable v.image c.a1 (length_of_int (c_int c.a2))) (c_int c.a2) (λ n. write_to c v n shown.shown))) writes
+
+    pub write-below : ((n : ℕ) → c_int c.a2 ≢ pos n) → write c v ≡ refused c v
+    write-below none = asked-to ∙ moving-below c v (readable v.image c.a1 (length_of_int (c_int c.a2))) (c_int c.a2) (λ n. write_to c v n shown.shown) none
+
+    pub write-nothing : c_int c.a2 ≡ pos 0 → write c v ≡ done c (pos 0) v
+    write-nothing e = asked-to ∙ moving-nothing c v (readable v.image c.a1) (c_int c.a2) (λ n. write_to c v n shown.shown) e
+
+    pub write-absent : (n : ℕ) → c_int c.a2 ≡ pos n → nat_eq n 0 ≡ false → readable l.image c.a1 n ≡ false → write c v ≡ refused c v
+    unfolding view_of
+    write-absent n e some absent = asked-to ∙ moving-absent c v (readable v.image c.a1) (c_int c.a2) (λ n. write_to c v n shown.shown) n e some absent
+
+-- ---- what the open file is on
+
+module _ {k : Kernel} {h : Hart} {c : Call} {file : ℕ} {x : OpenFile} {is_there : ℕ → Bool} {n : ℕ} (whole : IsWhole k h) (runs : IsRunning k) (on : OnFile k h c file x is_there n) where
+  abbrev pub shown-at : Descriptor
+  shown-at = rename (numbered (state_of k h) (live_now k h)) (record { file = file; read = x.read; write = x.write; shown = show (state_of k h) x.target })
+
+  pub shown-there : (view_now k h).descriptors on.fd ≡ Some shown-at
+  unfolding view_of
+  shown-there = named_at (numbered (state_of k h) (live_now k h)) on.fd on.below ∙ ap (option_map (rename (numbered (state_of k h) (live_now k h)))) (ap (descriptor_at (state_of k h)) on.named_file ∙ ap (descriptor_on (state_of k h) file) on.opened)
+
+  module _ {i : ℕ} {end : End} (e : x.target ≡ Pipe_end i end) where
+    opened-there : get (state_of k h).files file ≡ Some (record { read = x.read; write = x.write; target = Pipe_end i end })
+    opened-there = on.opened ∙ ap (λ (t : Target). Some (record x { target = t })) e
+
+    is-there : pipe_name (numbered (state_of k h) (live_now k h) on.fd) ≡ Some i
+    is-there = ap (λ o. pipe_name (descriptor_at (state_of k h) o)) on.named_file ∙ ap (λ o. pipe_name (descriptor_on (state_of k h) file o)) opened-there
+
+    named-least : (m : ℕ) × (least_on_pipe (numbered (state_of k h) (live_now k h)) i ≡ Some m)
+    named-least = by (least_on_pipe (numbered (state_of k h) (live_now k h)) i) refl (least_there (numbered (state_of k h) (live_now k h)) i on.fd on.below is-there (least_on_pipe (numbered (state_of k h) (live_now k h)) i) refl)
+      where
+        by : (o : Option ℕ) → least_on_pipe (numbered (state_of k h) (live_now k h)) i ≡ o → is_some o ≡ true → (m : ℕ) × (least_on_pipe (numbered (state_of k h) (live_now k h)) i ≡ Some m)
+        by None least some = let no : ⊥ = cc in absurd no
+        by (Some m) least some = (m, least)
+
+    its-pipe : (z : Pipe) × (get (state_of k h).pipes i ≡ Some z)
+    its-pipe = by (get (state_of k h).pipes i) refl (whole.well.ends file i x end on.opened e)
+      where
+        by : (o : Option Pipe) → get (state_of k h).pipes i ≡ o → IsSome o → (z : Pipe) × (get (state_of k h).pipes i ≡ Some z)
+        by None at some = let no : ⊥ = cc in absurd no
+        by (Some z) at some = (z, at)
+
+    abbrev on-it : OnPipe (state_of k h) (pid_now k) (live_now k h) on.fd i named-least.0 end its-pipe.0
+    on-it = record { was = live-is k h whole.sound runs; below = on.below; file = file; named_file = on.named_file; read = x.read; write = x.write; opened = opened-there; pipe = its-pipe.1; names = named-least.1 }
+
+-- a write to a pipe
+pub writes-pipe : {k : Kernel} {h : Hart} {c : Call} {file : ℕ} {x : OpenFile} {n i : ℕ} {end : End} → IsWhole k h → IsRunning k → OnFile k h c file x (readable (live_now k h).image c.a1) n → x.write ≡ true → x.target ≡ Pipe_end i end → WritesPipe k h c i n
+writes-pipe {end} whole runs on writes e = record { fd = on.fd; name = (named-least whole runs on e).0; end = end; pipe = (its-pipe whole runs on e).0; on = on-it whole runs on e; writes = writes; number = on.number; buffer = on.buffer }
+
+-- a read from a pipe
+pub reads-pipe : {k : Kernel} {h : Hart} {c : Call} {file : ℕ} {x : OpenFile} {n i : ℕ} {end : End} → IsWhole k h → IsRunning k → OnFile k h c file x (writable (live_now k h).image c.a1) n → x.read ≡ true → x.target ≡ Pipe_end i end → ReadsPipe k h c i n
+reads-pipe {end} whole runs on reads e = record { fd = on.fd; name = (named-least whole runs on e).0; end = end; pipe = (its-pipe whole runs on e).0; on = on-it whole runs on e; reads = reads; number = on.number; buffer = on.buffer }
+
+-- a program's file takes no bytes
+pub program-refused : {k : Kernel} {h : Hart} {c : Call} {file : ℕ} {x : OpenFile} {n : ℕ} (program offset : ℕ) → IsWhole k h → IsRunning k → OnFile k h c file x (readable (live_now k h).image c.a1) n → x.write ≡ true → x.target ≡ File program offset → write c (view_now k h) ≡ refused c (view_now k h)
+unfolding view_of
+program-refused {k} {h} {c} {file} {x} {n} program offset whole runs on writes e =
+    write_case c (view_now k h) (shown-at whole runs on) on.fd n on.number (shown-there whole runs on) on.buffer.0 on.buffer.1 writes on.buffer.2
+    ∙ ap (λ t. write_to c (view_now k h) n (rename_shown (numbered (state_of k h) (live_now k h)) (show (state_of k h) t))) e

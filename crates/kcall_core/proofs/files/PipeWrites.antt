@@ -1,0 +1,294 @@
+-- A write to a pipe, as the code goes through it.
+use Rattle.std.proofs.Common.{◌≡◌, ◌≢◌, ℕ, ◌+◌, ◌-◌, ◌%◌, ◌^◌, ◌≤◌, ◌<◌, ◌||◌, ◌&&◌, Bool, true, false, cond, length, get_or, set, subst, Option, Some, None, inl, inr, refl, sym, ap, ◌∙◌, arith}
+use Rattle.std.specs.Prelude.{ℤ, pos, IsSome, nat_eq, nat_lt, nat_le}
+use Rattle.std.specs.FinMap.{get, insert}
+use Rattle.std.proofs.lemmas.Bool.{cases_lt, eq-eqb, lt-ltb, le-ltb, le-leb, lt-leb, or_parts}
+use Rattle.std.proofs.lemmas.Bool.Decides.{eqb_tells}
+use Rattle.std.proofs.lemmas.List.{length-append, set-get_or}
+use Rattle.std.proofs.lemmas.List.FromFn.{length-map-range_with_len}
+use Rattle.xk_base.specs.declared.limits.TheConstants.{PIPE_BYTES, NOFILE}
+use Rattle.xk_base.specs.Image.{Image}
+use Rattle.xk_base.specs.Bytes.{image_bytes, image_byte}
+use Rattle.hart_core.specs.declared.hart.Hart.{Hart}
+use Rattle.pipe_core.specs.Pipe.{Pipe, with_more}
+use Rattle.proc_table.specs.Channels.{same_channel}
+use Rattle.proc_table.specs.Slots.{each_changed}
+use Rattle.proc_table.specs.declared.channel.Channel.{Channel}
+use Rattle.proc_table.specs.declared.channel.Channel.TheVariants as on
+use Rattle.proc_table.specs.declared.process.Call.{Call}
+use Rattle.xk_base.specs.declared.access.Access.TheVariants.{Load}
+use Rattle.user_copy.proofs.Ranges.{reaches-none}
+use Rattle.kcall_core.specs.Buffers.{readable}
+use Rattle.kcall_core.specs.PipeEnds.{fit}
+use Rattle.kcall_core.specs.Processes.{Live, Alive}
+use Rattle.kcall_core.specs.State.{State, live_part}
+use Rattle.kcall_core.specs.View.{View, view_of, or_gone}
+use Rattle.kcall_core.specs.Own.{Own, Called, Blocked}
+use Rattle.kcall_core.specs.Ready.{ready}
+use Rattle.kcall_core.specs.Calls.{row_of, write, done, waits, refused}
+use Rattle.kcall_core.specs.Quiet.{target_of_open, end_of}
+use Rattle.kcall_core.specs.Updates.{changed_state}
+use Rattle.kcall_core.specs.Updates as update
+use Rattle.kcall_core.specs.Conditions.{has_bytes, has_room, write_waits_for, row_waits_for, target_at, waits_for}
+use Rattle.kcall_core.specs.RowLaws.{After, now_moved, written}
+use Rattle.kcall_core.specs.Closings.{woken_by}
+use Rattle.kcall_core.specs.Holdings.{held_at, or_nothing, or_new, pipe_named, pipe_cost, HasMemory}
+use Rattle.kcall_core.specs.Memories.{each_of, pipes_of, PipeChanges}
+use Rattle.kcall_core.specs.Moves.{Moves, WritesPipe, wakes_readers}
+use Rattle.kcall_core.specs.Kernel.{state_of, IsSound, IsRunning, slot_now, pid_now, live_now}
+use Rattle.kcall_core.specs.Whole.{IsWhole, is_for}
+use Rattle.kcall_core.specs.Makes.{Makes, view_now}
+use Rattle.kcall_core.specs.declared.kernel.Kernel.{Kernel}
+use Rattle.kcall_core.specs.declared.memories.Memories.{Memories}
+use Rattle.kcall_core.proofs.steps.Maps.{get_same, get_other}
+use Rattle.kcall_core.proofs.table.States.{running}
+use Rattle.kcall_core.proofs.steps.Alone as law
+use Rattle.kcall_core.proofs.rows.Decoding.{is_write}
+use Rattle.kcall_core.proofs.steps.PipeCalls as pipes
+use Rattle.kcall_core.proofs.steps.OnFiles.{pipe_write}
+use Rattle.kcall_core.proofs.memory.PipeRest.{readable-rest, readable-low}
+use Rattle.kcall_core.proofs.turns.StepSlots.{KeepsAll}
+use Rattle.kcall_core.proofs.making.CallAnswers.{IsDone}
+use Rattle.kcall_core.proofs.making.Prepared.{over}
+use Rattle.kcall_core.proofs.making.Midway.{WakeOn, Midway, IsAsleep, midway-done, midway-sleeps}
+use Rattle.kcall_core.proofs.making.Moved.{moved-sound, moved-midway, sleeps-unready}
+
+above : (a b : ℕ) → nat_lt a b ≡ false → b ≤ a
+above a b e = elim (cases_lt a b) [ inl less ↦ absurd (clash (lt-ltb a b less) e) | inr more ↦ more ]
+  where
+    clash : {x : Bool} → x ≡ true → x ≡ false → ⊥
+    clash t f = cc
+
+nothing : (i : Image) (a : ℕ) → readable i a 0 ≡ true
+nothing i a = reaches-none Load i a
+
+-- nobody wakes where no byte came
+pub none-came : (f n : ℕ) (d : Channel) → n ≡ 0 → wakes_readers f n d ≡ false
+none-came f n d e = ap (λ z. wakes_readers f z d) e
+
+-- who waits for bytes wakes where some came
+pub some-came : (f n : ℕ) (d : Channel) → n ≢ 0 → wakes_readers f n d ≡ same_channel d (on.Bytes f)
+some-came f n d apart = ap (λ b. b && same_channel d (on.Bytes f)) (lt-ltb 0 n (omega (arith, apart)))
+
+held-there : {X : Type 0} (o : Option X) → IsSome o → (x : X) × (o ≡ Some x)
+held-there None h = let no : ⊥ = cc in absurd no
+held-there (Some x) h = (x, refl)
+
+module _ {k : Kernel} {h : Hart} {c : Call} {f n : ℕ} (whole : IsWhole k h) (runs : IsRunning k) (x : WritesPipe k h c f n) where
+  abbrev s : State
+  s = state_of k h
+
+  abbrev p : ℕ
+  p = pid_now k
+
+  abbrev l : Live
+  l = live_now k h
+
+  abbrev v : View
+  v = view_now k h
+
+  abbrev left : ℕ
+  left = n - c.moved
+
+  abbrev count : ℕ
+  count = fit x.pipe left
+
+  abbrev after : Pipe
+  after = written c l x.pipe n
+
+  pub pipe-there : IsSome (get (pipes_of k.memories) f)
+  unfolding state_of
+  pipe-there = subst (λ o. IsSome o) (sym x.on.pipe) refl
+
+  pub pipe-is : pipe_named (pipes_of k.memories) f ≡ x.pipe
+  unfolding state_of
+  pipe-is = ap or_new x.on.pipe
+
+  keeps-all : {o u : Own} → o ≡ u → KeepsAll s u → KeepsAll s o
+  keeps-all e keeps = subst (KeepsAll s) (sym e) keeps
+
+  -- ---- nobody can read any more
+
+  pub is-refused : nat_eq x.pipe.readers 0 ≡ true → write c v ≡ refused c v
+  is-refused broken = pipes.write_broken s p l x.fd f x.name x.end x.pipe x.on c n x.number x.writes x.buffer.0 x.buffer.1 x.buffer.2 broken
+
+  -- ---- the bytes that go in
+
+  its-memory : HasMemory (each_of k.memories) (slot_now k)
+  its-memory = let r = running k h whole.sound runs in whole.sound.lives (slot_now k) r.is.process r.is.is r.is.live
+
+  -- the rest of the buffer is there, wherever the sum of two words lies
+  pub rest-there : (slot : ℕ) → slot ≡ slot_now k → (at : ℕ) → at ≡ (c.a1 + c.moved) % 2 ^ 64 → (m : ℕ) → m ≡ left → readable (held_at (each_of k.memories) slot).image at m ≡ true
+  rest-there slot same at at-is m m-is = elim (cases_lt c.moved n) [
+    | inl less ↦
+        let low : c.a1 + c.moved < 2 ^ 38 = readable-low k.memories (slot_now k) c.a1 n c.moved its-memory x.buffer.2 less in
+        let here : at ≡ c.a1 + c.moved = omega (arith, at-is, low) in
+        (λ i. readable (held_at (each_of k.memories) (same i)).image (here i) (m-is i)) ∙ readable-rest l.image c.a1 n c.moved x.buffer.2 (omega (arith, less))
+    | inr over ↦ let none : m ≡ 0 = omega (arith, m-is, over) in (λ i. readable (held_at (each_of k.memories) slot).image at (none i)) ∙ nothing (held_at (each_of k.memories) slot).image at
+  ]
+
+  few : length x.pipe.bytes ≤ PIPE_BYTES
+  few = whole.well.pipe_bytes f x.pipe x.on.pipe
+
+  size-after : length after.bytes ≡ length x.pipe.bytes + count
+  size-after = omega (arith, length-append x.pipe.bytes (image_bytes l.image (c.a1 + c.moved) count), length-map-range_with_len (image_byte l.image) (c.a1 + c.moved) count)
+
+  abbrev wakes : Channel → Bool
+  wakes = wakes_readers f count
+
+  at : (i : ℕ) → i ≡ f → get (insert s.pipes f after) i ≡ Some after
+  at i e = ap (get (insert s.pipes f after)) e ∙ get_same s.pipes f after
+
+  was-at : (i : ℕ) → i ≡ f → or_gone (get s.pipes i) ≡ x.pipe
+  was-at i e = ap (λ j. or_gone (get s.pipes j)) e ∙ ap or_gone x.on.pipe
+
+  bytes-came : has_bytes x.pipe ≡ false → has_bytes after ≡ nat_lt 0 count
+  bytes-came shut =
+      let e = or_parts (nat_lt 0 (length x.pipe.bytes)) (nat_eq x.pipe.writers 0) shut in
+      let none = above 0 (length x.pipe.bytes) e.0 in
+      let size : length after.bytes ≡ count = omega (arith, none, size-after) in
+      (λ i. nat_lt 0 (size i) || e.1 i) ∙ or-false (nat_lt 0 count)
+    where
+      or-false : (b : Bool) → (b || false) ≡ b
+      or-false true = refl
+      or-false false = refl
+
+  room-stays : has_room x.pipe ≡ false → has_room after ≡ false
+  room-stays shut =
+      let e = or_parts (nat_lt (length x.pipe.bytes) PIPE_BYTES) (nat_eq x.pipe.readers 0) shut in
+      let full = above (length x.pipe.bytes) PIPE_BYTES e.0 in
+      (λ i. le-ltb (length after.bytes) PIPE_BYTES (omega (arith, full, size-after)) i || e.1 i)
+
+  and-true : (b c : Bool) → c ≡ true → (b && c) ≡ b
+  and-true true c e = e
+  and-true false c e = refl
+
+  and-false : (b c : Bool) → c ≡ false → (b && c) ≡ false
+  and-false true c e = e
+  and-false false c e = refl
+
+  wake : WakeOn wakes s.pipes (insert s.pipes f after) s.console s.console
+  wake = record {
+    bytes = λ i shut. elim (eqb_tells i f) [
+      | inl e ↦ and-true (nat_lt 0 count) (nat_eq i f) e.0 ∙ sym (ap (λ o. has_bytes (or_gone o)) (at i e.1) ∙ bytes-came (sym (ap has_bytes (was-at i e.1)) ∙ shut))
+      | inr e ↦ and-false (nat_lt 0 count) (nat_eq i f) e.0 ∙ sym (ap (λ o. has_bytes (or_gone o)) (get_other s.pipes f after i e.1) ∙ shut)
+    ];
+    room = λ i shut. and-false (nat_lt 0 count) false refl ∙ sym (elim (eqb_tells i f) [
+      | inl e ↦ ap (λ o. has_room (or_gone o)) (at i e.1) ∙ room-stays (sym (ap has_room (was-at i e.1)) ∙ shut)
+      | inr e ↦ ap (λ o. has_room (or_gone o)) (get_other s.pipes f after i e.1) ∙ shut
+    ]);
+    keys = λ shut. and-false (nat_lt 0 count) false refl ∙ sym shut;
+    sending = λ shut. and-false (nat_lt 0 count) false refl ∙ sym shut;
+    children = λ q. and-false (nat_lt 0 count) false refl;
+    clock = and-false (nat_lt 0 count) false refl;
+  }
+
+  module _ (read : nat_eq x.pipe.readers 0 ≡ false) (slot : ℕ) (slot-is : slot ≡ slot_now k) (to : ℕ) (to-is : to ≡ (c.a1 + c.moved) % 2 ^ 64) (told : ℕ) (told-is : told ≡ fit (pipe_named (pipes_of k.memories) f) left) (m : Memories)
+      (moves : PipeChanges k.memories m f (Some (with_more (image_bytes (held_at (each_of k.memories) slot).image to told) (pipe_named (pipes_of k.memories) f)))) where
+    pub told-count : told ≡ count
+    told-count = told-is ∙ ap (λ (y : Pipe). fit y left) pipe-is
+
+    same-bytes : image_bytes (held_at (each_of k.memories) slot).image to told ≡ image_bytes l.image (c.a1 + c.moved) count
+    same-bytes = elim (cases_lt c.moved n) [
+      | inl less ↦
+          let low : c.a1 + c.moved < 2 ^ 38 = readable-low k.memories (slot_now k) c.a1 n c.moved its-memory x.buffer.2 less in
+          let here : to ≡ c.a1 + c.moved = omega (arith, to-is, low) in
+          (λ i. image_bytes (held_at (each_of k.memories) (slot-is i)).image (here i) (told-count i))
+      | inr over ↦
+          let none : count ≡ 0 = omega (arith, over) in
+          (λ i. image_bytes (held_at (each_of k.memories) slot).image to ((told-count ∙ none) i)) ∙ (λ i. image_bytes l.image (c.a1 + c.moved) (sym none i))
+    ]
+
+    its-changes : PipeChanges k.memories m f (Some after)
+    its-changes = subst (λ y. PipeChanges k.memories m f (Some y)) (λ i. with_more (same-bytes i) (pipe-is i)) moves
+
+    its-moves : Moves k.memories m (slot_now k) l.image f after
+    unfolding state_of
+    its-moves =
+        let (held, is) = held-there (get_or (each_of k.memories) (slot_now k) None) its-memory in
+        record {
+          sound = its-changes.sound;
+          each = its-changes.each ∙ sym (ap (λ y. set (each_of k.memories) (slot_now k) y) (ap (λ o. Some (or_nothing o)) is ∙ sym is) ∙ set-get_or (each_of k.memories) (slot_now k) None);
+          pipes = its-changes.pipes;
+          free = omega (arith, its-changes.free, ap pipe_cost x.on.pipe);
+          frames = its-changes.frames;
+          runs = its-changes.runs;
+        }
+
+    left-few : length after.bytes ≤ PIPE_BYTES
+    left-few = omega (arith, few, size-after)
+
+    pub write-sound : IsSound (over k m) h
+    write-sound = moved-sound whole runs m l.image f x.pipe after its-moves x.on.pipe refl refl left-few refl
+
+    module _ (k1 : Kernel) (table : k1.table ≡ each_changed (woken_by (wakes_readers f told)) k.table) (rest : k1 ≡ record (over k m) { table = k1.table }) where
+      mid : Midway k h k1 h wakes l s.files (insert s.pipes f after) s.console s.free
+      mid = moved-midway whole runs m l.image f x.pipe after its-moves x.on.pipe refl refl left-few refl wakes k1 (table ∙ ap (λ n. each_changed (woken_by (wakes_readers f n)) k.table) told-count) rest wake
+
+      -- all bytes are in
+      module _ (moved : ℕ) (moved-is : moved ≡ c.moved + told) where
+        same-moved : moved ≡ now_moved c x.pipe n
+        same-moved = moved-is ∙ ap (λ z. c.moved + z) told-count
+
+        module _ (over : n ≤ moved) where
+          over-is : nat_le n (now_moved c x.pipe n) ≡ true
+          over-is = ap (nat_le n) (sym same-moved) ∙ le-leb n moved over
+
+          ends : write c v ≡ done c (pos n) (pipes.table_written s p l x.fd f x.name x.end x.pipe x.on c n x.number x.writes x.buffer.0 x.buffer.1 x.buffer.2)
+          ends = pipes.write_ends s p l x.fd f x.name x.end x.pipe x.on c n x.number x.writes x.buffer.0 x.buffer.1 x.buffer.2 read over-is
+
+          pub ends-answer : (write c v).answer ≡ Called c.number (pos n)
+          ends-answer = ap (λ (o : Own). o.answer) ends
+
+          ends-keeps : KeepsAll s (write c v)
+          unfolding view_of
+          ends-keeps = keeps-all ends (record { child = refl; stays = refl; pids = refl })
+
+          pub write-done : (k' : Kernel) (h' : Hart) (value : ℤ) → value ≡ pos n → IsDone k1 h value k' h' → Makes k h (write c v) k' h'
+          write-done k' h' value is finished = midway-done whole runs mid k' h' (pos n) (write c v) c.number (subst (λ z. IsDone k1 h z k' h') is finished) ends-answer ends-keeps
+              ((pipe_write s p l c x.fd f x.name n x.end x.pipe x.on x.writes x.number x.buffer).1 read over-is)
+
+        module _ (short : moved < n) where
+          short-is : nat_le n (now_moved c x.pipe n) ≡ false
+          short-is = ap (nat_le n) (sym same-moved) ∙ lt-leb n moved short
+
+          goes : write c v ≡ waits c (now_moved c x.pipe n) (pipes.table_written s p l x.fd f x.name x.end x.pipe x.on c n x.number x.writes x.buffer.0 x.buffer.1 x.buffer.2)
+          goes = pipes.write_goes_on s p l x.fd f x.name x.end x.pipe x.on c n x.number x.writes x.buffer.0 x.buffer.1 x.buffer.2 read short-is
+
+          pub waits-answer : (write c v).answer ≡ Blocked c.number
+          waits-answer = ap (λ (o : Own). o.answer) goes
+
+          waits-keeps : KeepsAll s (write c v)
+          unfolding view_of
+          waits-keeps = keeps-all goes (record { child = refl; stays = refl; pids = refl })
+
+          abbrev d : Call
+          d = record c { moved = now_moved c x.pipe n }
+
+          abbrev asleep : Live
+          asleep = update.in_call d l
+
+          abbrev then : State
+          then = changed_state p asleep s.files (insert s.pipes f after) s.console s.free s
+
+          waits-law : After s p l (write c v) then
+          waits-law = (pipe_write s p l c x.fd f x.name n x.end x.pipe x.on x.writes x.number x.buffer).2 read short-is
+
+          for-room : c.number ≡ pos 16 → is_for (waits_for then p asleep) (on.Room f) ≡ true
+          unfolding row_of
+          for-room number =
+              ap (λ z. is_for (row_waits_for then p asleep d (row_of z)) (on.Room f)) number
+              ∙ ap (λ z. is_for (write_waits_for (target_at then asleep z)) (on.Room f)) x.number
+              ∙ ap (λ b. is_for (write_waits_for (cond b (end_of then (get l.descriptors x.fd)) None)) (on.Room f)) (lt-ltb x.fd NOFILE x.on.below)
+              ∙ ap (λ o. is_for (write_waits_for (end_of then o)) (on.Room f)) x.on.named_file
+              ∙ ap (λ o. is_for (write_waits_for (target_of_open o)) (on.Room f)) x.on.opened
+              ∙ eq-eqb f f refl
+
+          unready : c.number ≡ pos 16 → l.killed ≡ false → l.call ≡ Some c → ready (view_of then p asleep) ≡ false
+          unfolding view_of
+          unready number unmarked busy = sleeps-unready s then p l asleep (write c v) c.number
+              (law.resume s p l c unmarked busy ∙ is_write c v number) waits-answer waits-law.next (ap live_part (get_same s.processes p (Alive asleep)))
+
+          pub write-waits : (k' : Kernel) (h' : Hart) → c.number ≡ pos 16 → l.killed ≡ false → l.call ≡ Some c → IsAsleep k1 h (record c { moved = moved }) (on.Room f) k' h' → Makes k h (write c v) k' h'
+          write-waits k' h' number unmarked busy slept =
+              midway-sleeps whole runs mid k' h' d (on.Room f) (write c v) c.number (subst (λ z. IsAsleep k1 h (record c { moved = z }) (on.Room f) k' h') same-moved slept) waits-answer waits-keeps waits-law (for-room number, unready number unmarked busy)

@@ -1,0 +1,155 @@
+-- A free descriptor of the process that runs names an open file, and the memories and the open files change with it.
+use Rattle.std.proofs.Common.{◌≡◌, ◌≢◌, ℕ, ◌<◌, cond, ltb, List, length, get_or, set, Option, Some, None, IsSome, inl, inr, refl, sym, ap, ◌∙◌, subst, arith}
+use Rattle.std.specs.Prelude.{map}
+use Rattle.std.specs.FinMap.{get, insert}
+use Rattle.std.proofs.lemmas.Bool.{eq-eqb}
+use Rattle.std.proofs.lemmas.Bool.Decides.{eqb_tells}
+use Rattle.std.proofs.lemmas.List.{get_or-set_same, get_or-set_other, length-set}
+use Rattle.xk_base.specs.declared.limits.TheConstants.{NPROC, OPEN_FILES}
+use Rattle.xk_base.specs.Gathered.{gathered}
+use Rattle.sv39_core.proofs.Gathered.{same_pages}
+use Rattle.hart_core.specs.declared.hart.Hart.{Hart}
+use Rattle.file_table.specs.Named.{named_by, with_named, none_named}
+use Rattle.file_table.specs.OpenFiles.{open_file_at}
+use Rattle.proc_table.specs.Slots.{Slots, place_at, descriptors_at, IsTable}
+use Rattle.proc_table.specs.declared.process.Process.{Process}
+use Rattle.kcall_core.specs.State.{named_file}
+use Rattle.kcall_core.specs.Words.{is_this, or_zero}
+use Rattle.kcall_core.specs.Processes.{Alive}
+use Rattle.kcall_core.specs.ByPid.{by_pid}
+use Rattle.kcall_core.specs.Updates.{changed_state}
+use Rattle.kcall_core.specs.Updates as update
+use Rattle.kcall_core.specs.Holdings.{or_nothing, held_at}
+use Rattle.kcall_core.specs.Memories.{each_of, pipes_of, free_of}
+use Rattle.kcall_core.specs.Kernel.{descriptor_map, live_of, by_status, process_of, entry_of, entry_at, state_of, or_nobody, slot_now, place_now, pid_now, live_now, IsCurrent, IsSound}
+use Rattle.kcall_core.specs.declared.kernel.Kernel.{Kernel}
+use Rattle.kcall_core.proofs.steps.Maps.{get_at}
+use Rattle.kcall_core.proofs.files.Namings.{named-seen}
+use Rattle.kcall_core.proofs.files.Taking.{Shares}
+use Rattle.sv39_core.proofs.Words.{ltb-yes}
+use Rattle.kcall_core.proofs.table.States.{Alone, slot-state, slot-inside, not-this}
+
+-- a descriptor of a list that names an open file now
+pub map-named : (ds : List (Option ℕ)) (d g : ℕ) → d < length ds → d < 16 → descriptor_map (with_named d (Some g) ds) ≡ insert (descriptor_map ds) d g
+map-named ds d g lt below = same_pages (descriptor_map (with_named d (Some g) ds)) (insert (descriptor_map ds) d g) (λ e. elim (eqb_tells e d) [
+  | inl h ↦
+      named-seen (with_named d (Some g) ds) e
+      ∙ ap (λ o. cond (ltb e 16) o None) (ap (named_by (with_named d (Some g) ds)) h.1 ∙ get_or-set_same ds d (Some g) None lt)
+      ∙ ap (λ b. cond b (Some g) None) (ap (λ n. ltb n 16) h.1 ∙ ltb-yes d 16 below)
+      ∙ sym (get_at (descriptor_map ds) d g e ∙ ap (λ b. cond b (Some g) (get (descriptor_map ds) e)) h.0)
+  | inr h ↦
+      named-seen (with_named d (Some g) ds) e
+      ∙ ap (λ o. cond (ltb e 16) o None) (get_or-set_other ds d e (Some g) None h.1)
+      ∙ sym (get_at (descriptor_map ds) d g e ∙ ap (λ b. cond b (Some g) (get (descriptor_map ds) e)) h.0 ∙ named-seen ds e)
+])
+
+module _ (k k1 : Kernel) (h : Hart) (slot d g : ℕ) (sound : IsSound k h) (is : k.current ≡ Some slot) (current : k1.current ≡ k.current) (shares : Shares k.memories k1.memories) (long : d < length (descriptors_at k.table slot)) (below : d < 16)
+    (table : k1.table ≡ record k.table { descriptors = set k.table.descriptors slot (with_named d (Some g) (descriptors_at k.table slot)) }) where
+  now : IsCurrent k h slot
+  now = sound.current slot is
+
+  inside : slot < 64
+  inside = slot-inside k h sound slot now.process now.is
+
+  pub put-place : (j : ℕ) → place_at k1.table j ≡ place_at k.table j
+  put-place j = ap (λ (t : Slots). place_at t j) table
+
+  put-here : descriptors_at k1.table slot ≡ with_named d (Some g) (descriptors_at k.table slot)
+  put-here =
+      ap (λ (t : Slots). descriptors_at t slot) table
+      ∙ get_or-set_same k.table.descriptors slot (with_named d (Some g) (descriptors_at k.table slot)) none_named (omega (arith, inside, sound.table.descriptors))
+
+  put-other : (j : ℕ) → j ≢ slot → descriptors_at k1.table j ≡ descriptors_at k.table j
+  put-other j ne = ap (λ (t : Slots). descriptors_at t j) table ∙ get_or-set_other k.table.descriptors slot j (with_named d (Some g) (descriptors_at k.table slot)) none_named ne
+
+  same-memory : (j : ℕ) → get_or (each_of k1.memories) j None ≡ get_or (each_of k.memories) j None
+  same-memory j = ap (λ l. get_or l j None) shares.each
+
+  put-table : IsTable k1.table
+  put-table = subst IsTable (sym table) (record {
+    places = sound.table.places;
+    descriptors = length-set k.table.descriptors slot (with_named d (Some g) (descriptors_at k.table slot)) ∙ sound.table.descriptors;
+    last = sound.table.last;
+    first = sound.table.first;
+    next = sound.table.next;
+    pids = sound.table.pids;
+  })
+
+  pub put-sound : IsSound k1 h
+  put-sound = record {
+    memories = shares.sound;
+    table = put-table;
+    lives = λ j p at live. subst (λ o. IsSome o) (sym (same-memory j)) (sound.lives j p (sym (put-place j) ∙ at) live);
+    ended = λ j p status at over. same-memory j ∙ sound.ended j p status (sym (put-place j) ∙ at) over;
+    vacant = λ j at. same-memory j ∙ sound.vacant j (sym (put-place j) ∙ at);
+    current = λ j at.
+        let c = sound.current j (sym current ∙ at) in
+        record { process = c.process; is = put-place j ∙ c.is; live = c.live; runs = shares.runs j h c.runs };
+    idle = λ at. sound.idle (sym current ∙ at);
+  }
+
+  put-alone : Alone k k1 slot
+  put-alone = record {
+    places = λ j ne. put-place j;
+    files = put-other;
+    each = λ j ne. same-memory j;
+    ran = λ j ne. not-this slot j k.current is ne;
+    runs = λ j ne. not-this slot j k1.current (current ∙ is) ne;
+  }
+
+  slot-is : slot ≡ slot_now k
+  slot-is = sym (ap or_zero is)
+
+  put-live : live_of now.process (descriptors_at k1.table slot) (held_at (each_of k1.memories) slot) h.regs ≡ update.with_named d g (live_now k h)
+  put-live =
+      let held : held_at (each_of k1.memories) slot ≡ held_at (each_of k.memories) (slot_now k) = ap or_nothing (same-memory slot) ∙ ap (held_at (each_of k.memories)) slot-is in
+      let place : now.process ≡ place_now k = ap or_nobody (sym now.is ∙ ap (place_at k.table) slot-is) in
+      let ds : descriptor_map (descriptors_at k1.table slot) ≡ insert (descriptor_map (descriptors_at k.table (slot_now k))) d g =
+      ap descriptor_map put-here ∙ map-named (descriptors_at k.table slot) d g long below ∙ ap (λ n. insert (descriptor_map (descriptors_at k.table n)) d g) slot-is in
+      λ t. record (live_of (place t) (descriptors_at k.table (slot_now k)) (held t) h.regs) { descriptors = ds t }
+
+  slot-now : slot_now k1 ≡ slot
+  slot-now = ap or_zero (current ∙ is)
+
+  place-now : place_now k1 ≡ now.process
+  place-now = ap (λ n. or_nobody (place_at k1.table n)) slot-now ∙ ap or_nobody (put-place slot ∙ now.is)
+
+  -- the process that runs is the same, and has the descriptor
+  pub put-pid : pid_now k1 ≡ pid_now k
+  put-pid = ap (λ (q : Process). q.pid) (place-now ∙ or-same ∙ ap (λ n. or_nobody (place_at k.table n)) slot-is)
+    where
+      or-same : now.process ≡ or_nobody (place_at k.table slot)
+      or-same = ap or_nobody (sym now.is)
+
+  pub put-now : live_now k1 h ≡ update.with_named d g (live_now k h)
+  put-now = (λ t. live_of (place-now t) (descriptors_at k1.table (slot-now t)) (held_at (each_of k1.memories) (slot-now t)) h.regs) ∙ put-live
+
+  put-entry : entry_at k1 h slot ≡ Some (now.process.pid, Alive (update.with_named d g (live_now k h)))
+  put-entry =
+      let p = now.process in
+      let ds = descriptors_at k1.table slot in
+      let held = held_at (each_of k1.memories) slot in
+      ap (entry_of k1 h slot) (put-place slot ∙ now.is)
+      ∙ ap (λ b. Some (p.pid, process_of p ds held (cond b h.regs held.saved))) (ap (is_this slot) (current ∙ is) ∙ eq-eqb slot slot refl)
+      ∙ ap (λ o. Some (p.pid, by_status p.parent (live_of p ds held h.regs) o)) now.live
+      ∙ ap (λ l. Some (p.pid, Alive l)) put-live
+
+  pub put-processes : by_pid (entry_at k1 h) NPROC ≡ insert (by_pid (entry_at k h) NPROC) (pid_now k) (Alive (update.with_named d g (live_now k h)))
+  put-processes =
+      let place : now.process ≡ place_now k = ap or_nobody (sym now.is ∙ ap (place_at k.table) slot-is) in
+      slot-state k k1 h h slot now.process (Alive (update.with_named d g (live_now k h))) sound now.is put-alone put-entry
+      ∙ ap (λ (q : Process). insert (by_pid (entry_at k h) NPROC) q.pid (Alive (update.with_named d g (live_now k h)))) place
+
+  pub put-state : k1.console ≡ k.console → k1.programs.items ≡ k.programs.items → k1.clock ≡ k.clock
+      → state_of k1 h ≡ changed_state (pid_now k) (update.with_named d g (live_now k h)) (state_of k1 h).files (pipes_of k1.memories) (state_of k h).console (free_of k1.memories) (state_of k h)
+  unfolding state_of
+  put-state console programs clock = λ t. record {
+    processes = put-processes t;
+    files = gathered (open_file_at k1.files) OPEN_FILES;
+    pipes = pipes_of k1.memories;
+    console = console t;
+    clock = clock t;
+    next_pid = (table t).next;
+    free = free_of k1.memories;
+    programs = map named_file (programs t);
+  }

@@ -1,0 +1,113 @@
+-- There is room to count: no open file is named by more descriptors than there are, no end of a pipe has more on it, and a kernel with a free slot has fewer processes than slots.
+use Rattle.std.proofs.Common.{◌≡◌, ℕ, zero, suc, ◌+◌, ◌*◌, ◌<◌, ◌≤◌, Bool, true, false, List, Option, Some, None, inl, inr, refl, ap, ◌∙◌, arith}
+use Rattle.std.specs.Prelude.{if◌then◌else◌}
+use Rattle.std.specs.Ordering.{nat_cmp}
+use Rattle.std.specs.FinMap.{FinMap, get, get-empty, insert}
+use Rattle.std.proofs.lemmas.Bool.{cases_lt}
+use Rattle.xk_base.specs.declared.limits.TheConstants.{NPROC, NOFILE}
+use Rattle.xk_base.specs.Words.{count_below}
+use Rattle.hart_core.specs.declared.hart.Hart.{Hart}
+use Rattle.pipe_core.specs.Pipe.{Pipe}
+use Rattle.file_table.specs.OpenFiles.{count_at}
+use Rattle.file_table.specs.declared.open_file.Entry.{Entry}
+use Rattle.file_table.specs.declared.open_file.End.{End}
+use Rattle.file_table.specs.declared.open_file.End.TheVariants.{Reading, Writing}
+use Rattle.proc_table.specs.Slots.{Slots, descriptors_at}
+use Rattle.kcall_core.specs.Words.{or_zero}
+use Rattle.kcall_core.specs.Processes.{Process, Alive, Zombie}
+use Rattle.kcall_core.specs.State.{State}
+use Rattle.kcall_core.specs.View.{numbered}
+use Rattle.kcall_core.specs.Tables.{on_end}
+use Rattle.kcall_core.specs.PipeEnds.{count_on}
+use Rattle.kcall_core.specs.ByPid.{by_pid, put}
+use Rattle.kcall_core.specs.WellFormed.{WellFormed, sum_below, on, over_all}
+use Rattle.kcall_core.specs.Kernel.{state_of, entry_at}
+use Rattle.kcall_core.specs.Whole.{AreCounted, namings, named_in}
+use Rattle.kcall_core.specs.declared.kernel.Kernel.{Kernel}
+use Rattle.kcall_core.proofs.steps.Maps.{get_other}
+use Rattle.kcall_core.proofs.well.Sums.{sum_change, sum_same}
+
+-- ---- counts and sums
+
+pub count-few : (test : ℕ → Bool) (n : ℕ) → count_below test n ≤ n
+unfolding count_below
+count-few test zero = omega arith
+count-few test (suc n) = by (test n) (count-few test n)
+  where
+    by : (b : Bool) → count_below test n ≤ n → count_below test n + (if b then 1 else 0) ≤ suc n
+    by true less = omega (arith, less)
+    by false less = omega (arith, less)
+
+pub sum-few : (n b : ℕ) (f : ℕ → ℕ) → ((i : ℕ) → f i ≤ b) → sum_below n f ≤ n * b
+unfolding sum_below
+sum-few zero b f few = omega arith
+sum-few (suc n) b f few = let a : ℕ = sum_below n f in let c : ℕ = f n in let m : ℕ = n * b in let l : a ≤ m = sum-few n b f few in let r : c ≤ b = few n in let goal : a + c ≤ m + b = omega arith in by goal
+  where
+    by : sum_below n f + f n ≤ n * b + b → sum_below n f + f n ≤ suc n * b
+    by less = omega (arith, less)
+
+sum-none : (n : ℕ) (f : ℕ → ℕ) → ((i : ℕ) → f i ≡ 0) → sum_below n f ≡ 0
+unfolding sum_below
+sum-none zero f none = refl
+sum-none (suc n) f none = let a : ℕ = sum_below n f in let c : ℕ = f n in let l : a ≡ 0 = sum-none n f none in let r : c ≡ 0 = none n in let goal : a + c ≡ 0 = omega arith in goal
+
+-- ---- open files
+
+pub namings-few : (t : Slots) (file : ℕ) → namings t file ≤ 1024
+namings-few t file = sum-few NPROC NOFILE (λ slot. named_in (descriptors_at t slot) file) (λ slot. count-few _ NOFILE)
+
+pub file-room : (files : List (Option Entry)) (t : Slots) (file : ℕ) → AreCounted files t → (n : ℕ) → count_at files file ≡ Some n → n < 4096
+file-room files t file counted n is = let counts : or_zero (count_at files file) ≡ n = ap or_zero is in omega (arith, counts, counted.counts file, namings-few t file)
+
+-- ---- over all processes: as many as slots, at most
+
+module _ {X : Type 0} (f : Option X → ℕ) (b : ℕ) (nothing : f None ≡ 0) (few : (o : Option X) → f o ≤ b) where
+  put-few : (N : ℕ) (m : FinMap nat_cmp X) (o : Option (ℕ × X)) → sum_below N (λ q. f (get (put m o) q)) ≤ sum_below N (λ q. f (get m q)) + b
+  put-few N m None = omega arith
+  put-few N m (Some e) = elim (cases_lt e.0 N) [
+    | inl inside ↦
+        let before : ℕ = sum_below N (λ q. f (get m q)) in
+        let after : ℕ = sum_below N (λ q. f (get (insert m e.0 e.1) q)) in
+        let was : ℕ = f (get m e.0) in
+        let is : ℕ = f (get (insert m e.0 e.1) e.0) in
+        let change : after + was ≡ before + is = sum_change N e.0 (λ q. f (get (insert m e.0 e.1) q)) (λ q. f (get m q)) inside (λ q apart. ap f (get_other m e.0 e.1 q apart)) in
+        let most : is ≤ b = few (get (insert m e.0 e.1) e.0) in
+        let goal : after ≤ before + b = omega arith in goal
+    | inr outside ↦
+        let before : ℕ = sum_below N (λ q. f (get m q)) in
+        let after : ℕ = sum_below N (λ q. f (get (insert m e.0 e.1) q)) in
+        let same : after ≡ before = sum_same N (λ q. f (get (insert m e.0 e.1) q)) (λ q. f (get m q)) (λ q below. ap f (get_other m e.0 e.1 q (λ at. let here : q ≡ e.0 = at in omega (arith, here, below, outside)))) in
+        let goal : after ≤ before + b = omega arith in goal
+  ]
+
+  pub by_pid-few : (g : ℕ → Option (ℕ × X)) (n N : ℕ) → sum_below N (λ q. f (get (by_pid g n) q)) ≤ n * b
+  unfolding by_pid
+  by_pid-few g zero N = let none : sum_below N (λ q. f (get (by_pid g zero) q)) ≡ 0 = sum-none N (λ q. f (get (by_pid g zero) q)) (λ q. ap f (get-empty nat_cmp q) ∙ nothing) in omega (arith, none)
+  by_pid-few g (suc n) N =
+      let before : ℕ = sum_below N (λ q. f (get (by_pid g n) q)) in
+      let after : ℕ = sum_below N (λ q. f (get (put (by_pid g n) (g n)) q)) in
+      let step : after ≤ before + b = put-few N (by_pid g n) (g n) in
+      let m : ℕ = n * b in
+      let rest : before ≤ m = by_pid-few g n N in
+      let goal : after ≤ m + b = omega arith in by goal
+    where
+      by : sum_below N (λ q. f (get (put (by_pid g n) (g n)) q)) ≤ n * b + b → sum_below N (λ q. f (get (put (by_pid g n) (g n)) q)) ≤ suc n * b
+      by less = omega (arith, less)
+
+-- ---- ends of pipes
+
+on-few : (s : State) (i : ℕ) (end : End) (o : Option Process) → on s i end o ≤ NOFILE
+on-few s i end None = omega arith
+on-few s i end (Some (Alive l)) = count-few (λ d. on_end i end (numbered s l d)) NOFILE
+on-few s i end (Some (Zombie parent status)) = omega arith
+
+pub ends-few : (k : Kernel) (h : Hart) (frames i : ℕ) (x : Pipe) (end : End) → WellFormed frames (state_of k h) → get (state_of k h).pipes i ≡ Some x → count_on end x ≤ 1024
+unfolding state_of
+ends-few k h frames i x Reading well there =
+    let s = state_of k h in
+    let few : over_all s (on s i Reading) ≤ 1024 = by_pid-few (on s i Reading) NOFILE refl (on-few s i Reading) (entry_at k h) NPROC s.next_pid in
+    omega (arith, well.readers i x there, few)
+ends-few k h frames i x Writing well there =
+    let s = state_of k h in
+    let few : over_all s (on s i Writing) ≤ 1024 = by_pid-few (on s i Writing) NOFILE refl (on-few s i Writing) (entry_at k h) NPROC s.next_pid in
+    omega (arith, well.writers i x there, few)

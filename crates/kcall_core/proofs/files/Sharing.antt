@@ -1,0 +1,104 @@
+-- One descriptor more names an open file: the counts are right again.
+use Rattle.std.proofs.Common.{◌≡◌, ◌≢◌, ℕ, ◌+◌, ◌<◌, Bool, true, false, List, length, get_or, set, Option, Some, None, inl, inr, refl, sym, ap, ◌∙◌, arith}
+use Rattle.std.specs.Prelude.{option_map}
+use Rattle.std.proofs.lemmas.Bool.{cases_eq, cases_lt, eq-eqb}
+use Rattle.std.proofs.lemmas.Bool.Decides.{eqb_tells}
+use Rattle.std.proofs.lemmas.List.{get_or_past, get_or-set_same, get_or-set_other, length-set}
+use Rattle.xk_base.specs.Words.{count_below}
+use Rattle.file_table.specs.Named.{named_by, none_named, with_named}
+use Rattle.file_table.specs.OpenFiles.{IsTable, entry_at, entry_file, entry_count, open_file_at, count_at, once_more, with_sharer}
+use Rattle.file_table.specs.declared.open_file.Entry.{Entry}
+use Rattle.proc_table.specs.Slots.{Slots, place_at, place_is_live, descriptors_at}
+use Rattle.kcall_core.specs.Words.{is_this, or_zero}
+use Rattle.kcall_core.specs.Whole.{AreCounted, namings, named_in}
+use Rattle.kcall_core.proofs.steps.Counts.{one}
+use Rattle.kcall_core.proofs.well.Sums.{sum_change}
+use Rattle.kcall_core.proofs.well.WellTable.{count_change}
+use Rattle.kcall_core.proofs.table.States.{none-some}
+
+module _ (t t' : Slots) (slot d g : ℕ) (inside : slot < 64) (below : d < 16) (room : length t.descriptors ≡ 64) (long : length (descriptors_at t slot) ≡ 16) (free : named_by (descriptors_at t slot) d ≡ None)
+    (after : t'.descriptors ≡ set t.descriptors slot (with_named d (Some g) (descriptors_at t slot))) where
+  pub put-here : descriptors_at t' slot ≡ with_named d (Some g) (descriptors_at t slot)
+  put-here = ap (λ xs. get_or xs slot none_named) after ∙ get_or-set_same t.descriptors slot (with_named d (Some g) (descriptors_at t slot)) none_named (omega (arith, inside, room))
+
+  pub put-other : (j : ℕ) → j ≢ slot → descriptors_at t' j ≡ descriptors_at t j
+  put-other j ne = ap (λ xs. get_or xs j none_named) after ∙ get_or-set_other t.descriptors slot j (with_named d (Some g) (descriptors_at t slot)) none_named ne
+
+  abbrev tests : ℕ → ℕ → Bool
+  tests file e = is_this file (named_by (descriptors_at t slot) e)
+
+  abbrev tests' : ℕ → ℕ → Bool
+  tests' file e = is_this file (named_by (with_named d (Some g) (descriptors_at t slot)) e)
+
+  one-more-in : (file : ℕ) → count_below (tests' file) 16 ≡ count_below (tests file) 16 + one (is_this file (Some g))
+  one-more-in file =
+      let was : tests file d ≡ false = ap (is_this file) free in
+      let is : tests' file d ≡ is_this file (Some g) = ap (is_this file) (get_or-set_same (descriptors_at t slot) d (Some g) None (omega (arith, below, long))) in
+      let change = count_change 16 d (tests' file) (tests file) below (λ e ne. ap (is_this file) (get_or-set_other (descriptors_at t slot) d e (Some g) None ne)) in
+      omega (arith, change, ap one was, ap one is)
+
+  pub one-more : (file : ℕ) → namings t' file ≡ namings t file + one (is_this file (Some g))
+  one-more file =
+      let change = sum_change 64 slot (λ j. named_in (descriptors_at t' j) file) (λ j. named_in (descriptors_at t j) file) inside (λ j ne. ap (λ ds. named_in ds file) (put-other j ne)) in
+      omega (arith, change, one-more-in file, ap (λ ds. named_in ds file) put-here)
+
+module _ (files : List (Option Entry)) (g : ℕ) (table : IsTable files) (e : Entry) (is : entry_at files g ≡ Some e) where
+  inside-files : g < length files
+  inside-files = elim (cases_lt g (length files)) [ inl lt ↦ lt | inr ge ↦ absurd (none-some e (sym (get_or_past files g None ge) ∙ is)) ]
+
+  more-here : entry_at (with_sharer g files) g ≡ Some (once_more e)
+  more-here = get_or-set_same files g (option_map once_more (entry_at files g)) None inside-files ∙ ap (option_map once_more) is
+
+  more-other : (f : ℕ) → f ≢ g → entry_at (with_sharer g files) f ≡ entry_at files f
+  more-other f ne = get_or-set_other files g f (option_map once_more (entry_at files g)) None ne
+
+  -- open files are what they were
+  pub more-file : (f : ℕ) → open_file_at (with_sharer g files) f ≡ open_file_at files f
+  more-file f = elim (cases_eq f g) [
+    | inl same ↦ ap (λ n. open_file_at (with_sharer g files) n) same ∙ ap (option_map entry_file) more-here ∙ sym (ap (λ n. open_file_at files n) same ∙ ap (option_map entry_file) is)
+    | inr ne ↦ ap (option_map entry_file) (more-other f ne)
+  ]
+
+  pub more-table : e.count < 4096 → IsTable (with_sharer g files)
+  more-table room = record {
+    places = length-set files g (option_map once_more (entry_at files g)) ∙ table.places;
+    counts = λ f x at. elim (cases_eq f g) [
+      | inl same ↦
+          let here : Some (once_more e) ≡ Some x = sym more-here ∙ sym (ap (entry_at (with_sharer g files)) same) ∙ at in
+          let one-up : once_more e ≡ x = cc in
+          (omega (arith, ap (λ (y : Entry). y.count) one-up), omega (arith, room, ap (λ (y : Entry). y.count) one-up))
+      | inr ne ↦ table.counts f x (sym (more-other f ne) ∙ at)
+    ];
+  }
+
+  pub more-count : (f : ℕ) → or_zero (count_at (with_sharer g files) f) ≡ or_zero (count_at files f) + one (is_this f (Some g))
+  more-count f = elim (cases_eq f g) [
+    | inl same ↦ ap (λ n. or_zero (count_at (with_sharer g files) n)) same ∙ here ∙ sym (ap (λ n. or_zero (count_at files n) + one (is_this n (Some g))) same)
+    | inr ne ↦ omega (arith, ap (λ o. or_zero (option_map entry_count o)) (more-other f ne), ap one (not-this ne))
+  ]
+    where
+      not-this : f ≢ g → is_this f (Some g) ≡ false
+      not-this ne = elim (eqb_tells g f) [ inl h ↦ absurd (ne (sym h.1)) | inr h ↦ h.0 ]
+
+      here : or_zero (count_at (with_sharer g files) g) ≡ or_zero (count_at files g) + one (is_this g (Some g))
+      here = omega (arith, ap (λ o. or_zero (option_map entry_count o)) more-here, ap one (eq-eqb g g refl), ap (λ o. or_zero (option_map entry_count o)) is)
+
+-- the counts are right again
+pub shared-counted : (files : List (Option Entry)) (t t' : Slots) (slot d g : ℕ) (e : Entry) → AreCounted files t → IsTable files → entry_at files g ≡ Some e → slot < 64 → d < 16 → length t.descriptors ≡ 64 → named_by (descriptors_at t slot) d ≡ None
+    → t'.descriptors ≡ set t.descriptors slot (with_named d (Some g) (descriptors_at t slot)) → ((j : ℕ) → place_is_live (place_at t' j) ≡ place_is_live (place_at t j)) → place_is_live (place_at t slot) ≡ true → AreCounted (with_sharer g files) t'
+shared-counted files t t' slot d g e counted table is inside below room free after lives here =
+    let long : length (descriptors_at t slot) ≡ 16 = counted.lists slot inside in
+    record {
+      counts = λ f. omega (arith, more-count files g table e is f, one-more t t' slot d g inside below room long free after f, counted.counts f);
+      lists = λ j lt. elim (cases_eq j slot) [
+        | inl same ↦ ap (λ n. length (descriptors_at t' n)) same ∙ ap length (put-here t t' slot d g inside below room long free after) ∙ length-set (descriptors_at t slot) d (Some g) ∙ long
+        | inr ne ↦ ap length (put-other t t' slot d g inside below room long free after j ne) ∙ counted.lists j lt
+      ];
+      closed = λ j dead. elim (cases_eq j slot) [
+        | inl same ↦ absurd (false-true (sym dead ∙ lives j ∙ ap (λ n. place_is_live (place_at t n)) same ∙ here))
+        | inr ne ↦ put-other t t' slot d g inside below room long free after j ne ∙ counted.closed j (sym (lives j) ∙ dead)
+      ];
+    }
+  where
+    false-true : false ≡ true → ⊥
+    false-true e = cc

@@ -1,0 +1,59 @@
+-- A descriptor that a call names by its number: what is in use, and what is not.
+use Rattle.std.proofs.Common.{◌≡◌, ℕ, ◌<◌, Bool, cond, Option, Some, None, inl, inr, refl, sym, ap, ◌∙◌}
+use Rattle.std.specs.Prelude.{ℤ, pos, IsSome, option_map}
+use Rattle.std.specs.FinMap.{get}
+use Rattle.std.proofs.lemmas.Bool.{cases_lt, le-ltb}
+use Rattle.sv39_core.proofs.Words.{ltb-yes}
+use Rattle.hart_core.specs.declared.hart.Hart.{Hart}
+use Rattle.file_table.specs.Named.{named_by}
+use Rattle.file_table.specs.OpenFiles.{open_file_at, entry_file}
+use Rattle.file_table.specs.declared.open_file.OpenFile.{OpenFile}
+use Rattle.proc_table.specs.Slots.{descriptors_at}
+use Rattle.kcall_core.specs.View.{view_of, named, numbered, rename, descriptor_at}
+use Rattle.kcall_core.specs.Kernel.{state_of, IsRunning, slot_now, live_now}
+use Rattle.kcall_core.specs.Whole.{IsWhole}
+use Rattle.kcall_core.specs.Makes.{view_now}
+use Rattle.kcall_core.specs.declared.kernel.Kernel.{Kernel}
+use Rattle.kcall_core.proofs.steps.Names.{named_at}
+use Rattle.kcall_core.proofs.table.Stops.{now-slot}
+use Rattle.kcall_core.proofs.files.Namings.{named-seen}
+use Rattle.kcall_core.proofs.files.OneClosed.{used-entry, used-seen, opened-seen}
+use Rattle.kcall_core.proofs.processes.Exits.{whole-closing}
+
+-- descriptor d of the process that runs names the open file g, which is x
+pub record InUse (k : Kernel) (h : Hart) (d g : ℕ) (x : OpenFile) : Type 0 where
+  pub used : get (live_now k h).descriptors d ≡ Some g
+  pub opened : get (state_of k h).files g ≡ Some x
+  pub kind : open_file_at k.files g ≡ Some x
+
+module _ {k : Kernel} {h : Hart} {slot : ℕ} (whole : IsWhole k h) (runs : IsRunning k) (is : k.current ≡ Some slot) where
+  pub in-use-named : {d g : ℕ} → d < 16 → named_by (descriptors_at k.table slot) d ≡ Some g → (x : OpenFile) × InUse k h d g x
+  in-use-named {d} {g} below e =
+      let closing = whole-closing whole runs in
+      let entry = used-entry closing is below e in
+      let kind : open_file_at k.files g ≡ Some entry.0.file = ap (option_map entry_file) entry.1 in
+      (entry.0.file, record { used = used-seen closing is below e; opened = opened-seen closing is below e kind; kind = kind })
+
+  pub in-use : {d : ℕ} → d < 16 → IsSome (named_by (descriptors_at k.table slot) d) → (g : ℕ) × (x : OpenFile) × InUse k h d g x
+  in-use {d} below some = by (named_by (descriptors_at k.table slot) d) refl some
+    where
+      by : (o : Option ℕ) → named_by (descriptors_at k.table slot) d ≡ o → IsSome o → (g : ℕ) × (x : OpenFile) × InUse k h d g x
+      by None e some = let no : ⊥ = cc in absurd no
+      by (Some g) e some =
+          let closing = whole-closing whole runs in
+          let entry = used-entry closing is below e in
+          let kind : open_file_at k.files g ≡ Some entry.0.file = ap (option_map entry_file) entry.1 in
+          (g, entry.0.file, record { used = used-seen closing is below e; opened = opened-seen closing is below e kind; kind = kind })
+
+  -- what no descriptor in use has as its number shows nothing
+  pub unused-shown : (z : ℤ) → ((d : ℕ) → d < 16 → z ≡ pos d → named_by (descriptors_at k.table slot) d ≡ None) → (d : ℕ) → z ≡ pos d → (view_now k h).descriptors d ≡ None
+  unfolding view_of named
+  unused-shown z none d e = elim (cases_lt d 16) [
+    | inl below ↦
+        let free : get (live_now k h).descriptors d ≡ None =
+        named-seen (descriptors_at k.table (slot_now k)) d
+        ∙ ap (λ b. cond b (named_by (descriptors_at k.table (slot_now k)) d) None) (ltb-yes d 16 below)
+        ∙ ap (λ n. named_by (descriptors_at k.table n) d) (sym (now-slot slot whole.sound is)) ∙ none d below e in
+        named_at (numbered (state_of k h) (live_now k h)) d below ∙ ap (λ o. option_map (rename (numbered (state_of k h) (live_now k h))) (descriptor_at (state_of k h) o)) free
+    | inr past ↦ ap (λ (b : Bool). cond b (option_map (rename (numbered (state_of k h) (live_now k h))) (numbered (state_of k h) (live_now k h) d)) None) (le-ltb d 16 past)
+  ]

@@ -1,0 +1,126 @@
+-- One instruction of the process in a slot.
+use Rattle.std.proofs.Common.{◌≡◌, ℕ, ◌/◌, ◌%◌, ◌<◌, ◌≤◌, Bool, List, length, set, get_or, Option, Some, None, refl, sym, ap, ◌∙◌, subst, arith}
+use Rattle.xk_base.specs.declared.access.Rights.{Rights}
+use Rattle.xk_base.specs.Image.{Image}
+use Rattle.xk_base.specs.declared.limits.TheConstants.{SIZE_LIMIT}
+use Rattle.phys_ram.specs.Ram.{frame_at}
+use Rattle.phys_ram.proofs.Words.{others_stay-set}
+use Rattle.frame_list.specs.declared.Pool.{Pool}
+use Rattle.frame_list.specs.Pool.{free_in}
+use Rattle.frame_list.proofs.Trades.{trade-none, trade-lengths}
+use Rattle.sv39_core.specs.declared.entry.Entry.{Entry}
+use Rattle.sv39_core.specs.declared.entry.Entry.TheVariants.{Invalid, Table, Leaf}
+use Rattle.sv39_core.specs.Sv39.{page_entry}
+use Rattle.sv39_core.specs.Tree.{frame_of, pages_of, owned}
+use Rattle.addr_space.specs.Space as space
+use Rattle.addr_space.specs.Space.{image_of, Belongs, Changed}
+use Rattle.addr_space.specs.declared.Space.{Space}
+use Rattle.addr_space.proofs.Pages.{bytes-changed}
+use Rattle.rv64i_core.specs.Memory.{written}
+use Rattle.rv64i_core.specs.Step.{Step, Next, Ecall, Fault, instr, stop_of, regs_after, state_after}
+use Rattle.rv64i_core.specs.declared.execution.Stop.{Stop}
+use Rattle.hart_core.specs.declared.hart.Hart.{Hart}
+use Rattle.hart_core.specs.Steps.{root_of, FitsHart, Stepped}
+use Rattle.hart_core.specs.UserMemory.{user, user_at, with_store, write_pages, put_bytes, store_in, SpaceState, space_state, space_store}
+use Rattle.hart_core.proofs.Caches.{fits_root}
+use Rattle.kcall_core.specs.Holdings.{held_at}
+use Rattle.kcall_core.specs.Memories.{AreSound, each_of, free_of, RunsIn, Steps, step_in}
+use Rattle.kcall_core.specs.declared.memories.Memories.{Memories}
+use Rattle.kcall_core.proofs.memory.Lists.{set-read}
+use Rattle.kcall_core.proofs.memory.Changes.{Stands, belongs-of, image-seen, space-changes}
+
+changed-not : (pool : Pool) (ram : List (List ℕ)) (s : Space) → Belongs pool ram s → Changed pool ram s pool ram s
+changed-not pool ram s b = record { whole = b.whole; root = refl; traded = trade-none pool ram (space.frames_of ram s) b.good }
+
+-- the entry of a page that has a frame
+leaf-of : (e : Entry) (g : ℕ) → frame_of e ≡ Some g → (perm : Rights) × (a : Bool) × (d : Bool) × (e ≡ Leaf g perm a d)
+leaf-of (Leaf f r a d) g is = (r, a, d, let same : f ≡ g = cc in ap (λ x. Leaf x r a d) same)
+leaf-of (Table f) g is = absurd (none g is)
+  where
+    none : (x : ℕ) → None ≡ Some x → ⊥
+    none x e = cc
+leaf-of Invalid g is = absurd (none g is)
+  where
+    none : (x : ℕ) → None ≡ Some x → ⊥
+    none x e = cc
+
+-- a store changes the frame of one page, or nothing
+put-changed : (pool : Pool) (ram : List (List ℕ)) (s : Space) (v o : ℕ) (bytes : List ℕ) → Belongs pool ram s → (t : Option ℕ) → frame_of (page_entry ram s.root v) ≡ t → Changed pool ram s pool (put_bytes ram t o bytes) s
+put-changed pool ram s v o bytes b None is = changed-not pool ram s b
+put-changed pool ram s v o bytes b (Some g) is =
+    let leaf = leaf-of (page_entry ram s.root v) g is in
+    bytes-changed pool ram (set ram g (written (frame_at ram g) o bytes)) s v g leaf.0 leaf.1 leaf.2 b leaf.3 (others_stay-set ram g (written (frame_at ram g) o bytes))
+
+after-changed : (pool : Pool) (ram : List (List ℕ)) (s : Space) (step : Step) → Belongs pool ram s → Changed pool ram s pool (state_after space_store (space_state s.root ram) step).ram s
+unfolding store_in
+after-changed pool ram s (Next regs None) b = changed-not pool ram s b
+after-changed pool ram s (Next regs (Some store)) b = put-changed pool ram s (store.address / 4096) (store.address % 4096) store.bytes b (frame_of (page_entry ram s.root (store.address / 4096))) refl
+after-changed pool ram s Ecall b = changed-not pool ram s b
+after-changed pool ram s (Fault cause) b = changed-not pool ram s b
+
+step-changed : (pool : Pool) (ram ram' : List (List ℕ)) (s : Space) (step : Step) → Belongs pool ram s → space_state s.root ram' ≡ state_after space_store (space_state s.root ram) step → Changed pool ram s pool ram' s
+step-changed pool ram ram' s step b e = subst (λ r. Changed pool ram s pool r s) (sym (ap (λ (x : SpaceState). x.ram) e)) (after-changed pool ram s step b)
+
+step-image : (ram ram' : List (List ℕ)) (s : Space) (step : Step) → pages_of ram' s.root ≡ state_after write_pages (pages_of ram s.root) step → image_of ram' s ≡ state_after with_store (image_of ram s) step
+step-image ram ram' s (Next regs None) e = ap (λ p. record { pages = p; size = s.size }) e
+step-image ram ram' s (Next regs (Some store)) e = ap (λ p. record { pages = p; size = s.size }) e
+step-image ram ram' s Ecall e = ap (λ p. record { pages = p; size = s.size }) e
+step-image ram ram' s (Fault cause) e = ap (λ p. record { pages = p; size = s.size }) e
+
+-- its size stays
+step-limit : (image : Image) (step : Step) → image.size ≤ SIZE_LIMIT → (state_after with_store image step).size ≤ SIZE_LIMIT
+step-limit image (Next regs None) limit = limit
+step-limit image (Next regs (Some store)) limit = limit
+step-limit image Ecall limit = limit
+step-limit image (Fault cause) limit = limit
+
+-- the memory that user code sees of a space
+user-space : (ram : List (List ℕ)) (s : Space) → user_at ram s.root ≡ user (image_of ram s)
+unfolding user user_at
+user-space ram s = refl
+
+-- what a hart says of one instruction
+pub record Made (ram ram' : List (List ℕ)) (hart hart' : Hart) (stop : Stop) : Type 0 where
+  pub ends : stop ≡ stop_of (instr hart.regs (user_at ram (root_of hart.root)))
+  pub regs : hart'.regs ≡ regs_after hart.regs (instr hart.regs (user_at ram (root_of hart.root)))
+  pub stepped : Stepped ram ram' (root_of hart.root) (instr hart.regs (user_at ram (root_of hart.root)))
+  pub root : hart'.root ≡ hart.root
+  pub fits : FitsHart ram' hart'.root hart'.cache
+
+pub runs-stands : (old : Memories) (slot : ℕ) (hart : Hart) → AreSound old → (r : RunsIn old slot hart) → slot < length old.each.items → Stands old slot r.memory
+runs-stands old slot hart sound r lt = record { sound = sound; inside = lt; is = r.is }
+
+free-same : (old new : Memories) → new.pool ≡ old.pool → length (free_in new.pool new.ram) ≡ length (free_in old.pool old.ram) → free_of new ≡ free_of old
+unfolding free_of
+free-same old new pool e = e
+
+pub steps : (old new : Memories) (slot : ℕ) (hart hart' : Hart) (stop : Stop) → (r : RunsIn old slot hart) → Stands old slot r.memory → Made old.ram new.ram hart hart' stop → new.pool ≡ old.pool → new.each.items ≡ old.each.items → new.pipes.items ≡ old.pipes.items
+    → Steps old new slot hart hart' stop
+steps old new slot hart hart' stop r s made pool each pipes =
+    let space' = r.memory.space in
+    let root : root_of hart.root ≡ space'.root = ap root_of r.root in
+    let memory : user_at old.ram (root_of hart.root) ≡ user (held_at (each_of old) slot).image = ap (user_at old.ram) root ∙ user-space old.ram space' ∙ ap user (sym (image-seen s)) in
+    let step : instr hart.regs (user_at old.ram (root_of hart.root)) ≡ step_in old slot hart.regs = ap (instr hart.regs) memory in
+    let state : space_state space'.root new.ram ≡ state_after space_store (space_state space'.root old.ram) (step_in old slot hart.regs) =
+    sym (ap (λ x. space_state x new.ram) root) ∙ made.stepped.state ∙ ap (λ x. state_after space_store (space_state x old.ram) (instr hart.regs (user_at old.ram (root_of hart.root)))) root ∙ ap (state_after space_store (space_state space'.root old.ram)) step in
+    let pages : pages_of new.ram space'.root ≡ state_after write_pages (pages_of old.ram space'.root) (step_in old slot hart.regs) =
+    sym (ap (λ x. pages_of new.ram x) root) ∙ made.stepped.pages ∙ ap (λ x. state_after write_pages (pages_of old.ram x) (instr hart.regs (user_at old.ram (root_of hart.root)))) root ∙ ap (state_after write_pages (pages_of old.ram space'.root)) step in
+    let changed : Changed old.pool old.ram space' new.pool new.ram space' = subst (λ p. Changed old.pool old.ram space' p new.ram space') (sym pool) (step-changed old.pool old.ram new.ram space' (step_in old slot hart.regs) (belongs-of s) state) in
+    let image : image_of new.ram space' ≡ state_after with_store (held_at (each_of old) slot).image (step_in old slot hart.regs) =
+    step-image old.ram new.ram space' (step_in old slot hart.regs) pages ∙ ap (λ i. state_after with_store i (step_in old slot hart.regs)) (sym (image-seen s)) in
+    record {
+      ends = made.ends ∙ ap stop_of step;
+      regs = made.regs ∙ ap (regs_after hart.regs) step;
+      changes = space-changes new space' (state_after with_store (held_at (each_of old) slot).image (step_in old slot hart.regs)) s changed image (step-limit (held_at (each_of old) slot).image (step_in old slot hart.regs) (subst (λ (n : Image). n.size ≤ SIZE_LIMIT) (sym (image-seen s)) (s.sound.memories slot r.memory s.is).size)) (each ∙ sym (set-read old.each.items slot (Some r.memory) None s.inside s.is)) pipes;
+      free = free-same old new pool (omega (
+        arith,
+        trade-lengths old.pool new.pool old.ram new.ram (space.frames_of old.ram space') (space.frames_of new.ram space') changed.traded,
+        ap length (subst (λ (x : ℕ). owned new.ram x ≡ owned old.ram x) root made.stepped.own),
+      ));
+      runs = record {
+        memory = r.memory;
+        is = ap (λ l. get_or l slot None) each ∙ r.is;
+        root = made.root ∙ r.root;
+        fits = fits_root new.ram hart'.root space'.root hart'.cache (made.root ∙ r.root) made.fits;
+      };
+    }

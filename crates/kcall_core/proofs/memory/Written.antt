@@ -1,0 +1,57 @@
+-- Bytes are written to the space in a slot; answers that are good or refused.
+use Rattle.std.proofs.Common.{◌≡◌, ℕ, List, length, set, Some, None, Result, Ok, Err, IfOk, IfErr, refl, sym, ap, ◌∙◌, arith, subst, ◌≤◌}
+use Rattle.xk_base.specs.Image.{Image}
+use Rattle.xk_base.specs.declared.limits.TheConstants.{SIZE_LIMIT}
+use Rattle.frame_list.specs.Pool.{free_in}
+use Rattle.frame_list.proofs.Trades.{trade-lengths}
+use Rattle.addr_space.specs.Space.{IsSpace, Changed, frames_of}
+use Rattle.addr_space.specs.InPlace.{WrittenInPlace}
+use Rattle.hart_core.specs.declared.hart.Hart.{Hart}
+use Rattle.kcall_core.specs.Memories.{RunsIn, each_of}
+use Rattle.kcall_core.specs.Holdings.{held_at}
+use Rattle.kcall_core.specs.declared.memories.Memory.{Memory}
+use Rattle.kcall_core.specs.declared.memories.Memories.{Memories}
+use Rattle.kcall_core.proofs.memory.Lists.{set-read}
+use Rattle.kcall_core.proofs.memory.Changes.{Stands, image-seen}
+use Rattle.kcall_core.proofs.memory.Runs.{runs-on, same-translations}
+
+-- ---- answers
+
+pub ok-map : {X E : Type 0} {A B : X → Type 0} (r : Result X E) → IfOk r A → ((x : X) → A x → B x) → IfOk r B
+ok-map (Ok x) a f = f x a
+ok-map (Err e) a f = tt
+
+pub ok-both : {X E : Type 0} {A B C : X → Type 0} (r : Result X E) → IfOk r A → IfOk r B → ((x : X) → A x → B x → C x) → IfOk r C
+ok-both (Ok x) a b f = f x a b
+ok-both (Err e) a b f = tt
+
+pub err-map : {X E : Type 0} {A B : E → Type 0} (r : Result X E) → IfErr r A → ((e : E) → A e → B e) → IfErr r B
+err-map (Ok x) a f = tt
+err-map (Err e) a f = f e a
+
+-- what follows from either answer
+pub either : {X E C : Type 0} {A : X → Type 0} {B : E → Type 0} (r : Result X E) → IfOk r A → IfErr r B → ((x : X) → A x → C) → ((e : E) → B e → C) → C
+either (Ok x) a b f g = f x a
+either (Err e) a b f g = g e b
+
+-- ---- the space in a slot
+
+pub whole-of : {old : Memories} {i : ℕ} {m : Memory} → Stands old i m → IsSpace old.ram m.space
+whole-of {old} {i} {m} s = (s.sound.memories i m s.is).space
+
+pub size-seen : {old : Memories} {i : ℕ} {m : Memory} → Stands old i m → (held_at (each_of old) i).image.size ≤ SIZE_LIMIT
+size-seen {old} {i} {m} s = subst (λ (n : Image). n.size ≤ SIZE_LIMIT) (sym (image-seen s)) (s.sound.memories i m s.is).size
+
+pub each-stays : {old : Memories} {i : ℕ} {m : Memory} → Stands old i m → old.each.items ≡ set old.each.items i (Some (record { space = m.space; trapframe = m.trapframe }))
+each-stays {old} {i} {m} s = sym (set-read old.each.items i (Some m) None s.inside s.is)
+
+-- as many frames are free
+pub free-stays : {old : Memories} {i : ℕ} {m : Memory} (ram' : List (List ℕ)) → Stands old i m → WrittenInPlace old.ram ram' m.space → Changed old.pool old.ram m.space old.pool ram' m.space → length (free_in old.pool ram') ≡ length (free_in old.pool old.ram)
+free-stays {old} {i} {m} ram' s place changed = omega (arith, trade-lengths old.pool old.pool old.ram ram' (frames_of old.ram m.space) (frames_of ram' m.space) changed.traded, ap length place.frames)
+
+-- a hart goes on
+pub written-runs : {old : Memories} {i : ℕ} {m : Memory} (new : Memories) → Stands old i m → WrittenInPlace old.ram new.ram m.space → new.each.items ≡ old.each.items → (hart : Hart) → RunsIn old i hart → RunsIn new i hart
+written-runs {old} {i} {m} new s place each = runs-on new m.space s refl (λ va access at is. place.walks va access ∙ is) (each ∙ each-stays s)
+
+pub unwritten-runs : {old : Memories} {i : ℕ} {m : Memory} (new : Memories) → Stands old i m → new.ram ≡ old.ram → new.each.items ≡ old.each.items → (hart : Hart) → RunsIn old i hart → RunsIn new i hart
+unwritten-runs {old} {i} {m} new s same each = runs-on new m.space s refl (same-translations old.ram new.ram m.space.root same) (each ∙ each-stays s)

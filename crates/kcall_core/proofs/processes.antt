@@ -1,0 +1,19 @@
+-- The calls on processes and memory, as the code goes through them: fork, exit, wait, kill, exec, sbrk, sleep.
+pub mod Asking
+pub mod ExecRow
+pub mod ExecSteps
+pub mod ForkMakes
+pub mod FreeSlot
+pub mod Handed
+pub mod Handing
+pub mod KillMakes
+pub mod SbrkRow
+pub mod SleepRow
+pub mod WaitMakes
+pub mod WaitRows
+pub mod WaitSleeps
+pub mod Bared
+pub mod Departs
+pub mod Exits
+pub mod GoneAfter
+pub mod GoneMakes

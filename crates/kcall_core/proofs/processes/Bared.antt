@@ -1,0 +1,200 @@
+-- A process that runs closes all its descriptors, and then it ends: together it departs.
+use Rattle.std.proofs.Common.{◌≡◌, ◌≢◌, ℕ, ◌+◌, ◌<◌, Bool, cond, List, length, get_or, Option, Some, None, inl, inr, refl, sym, ap, ◌∙◌, subst, arith}
+use Rattle.std.specs.Prelude.{ℤ, option_map}
+use Rattle.std.specs.Ordering.{nat_cmp}
+use Rattle.std.specs.Cmp.{nat_cmp_total}
+use Rattle.std.specs.FinMap.{get, get-empty, empty, same_map, nat_cmp-IsAntisymmetric}
+use Rattle.std.proofs.lemmas.Bool.{cases_eq}
+use Rattle.std.proofs.lemmas.List.{get_or-replicate, length-replicate, ext_get_or, get_or-set_other}
+use Rattle.xk_base.specs.declared.limits.TheConstants.{NOFILE}
+use Rattle.sv39_core.proofs.Gathered.{gathered-get}
+use Rattle.sv39_core.proofs.Words.{ltb-yes}
+use Rattle.hart_core.specs.declared.hart.Hart.{Hart}
+use Rattle.file_table.specs.Named.{none_named}
+use Rattle.file_table.specs.OpenFiles as files
+use Rattle.file_table.specs.declared.open_file.Entry.{Entry}
+use Rattle.proc_table.specs.Processes.{is_live, given, woken, state_woken, ended}
+use Rattle.proc_table.specs.Slots.{Slots, place_at, place_is_live, descriptors_at, each_changed, changed_at}
+use Rattle.proc_table.specs.declared.channel.Channel.{Channel}
+use Rattle.proc_table.specs.declared.channel.Channel.TheVariants as on
+use Rattle.proc_table.specs.declared.process.State as table
+use Rattle.proc_table.specs.declared.process.State.TheVariants.{Live as Live_state, Zombie as Zombie_state}
+use Rattle.proc_table.specs.declared.process.Process.{Process}
+use Rattle.kcall_core.specs.Words.{or_zero}
+use Rattle.kcall_core.specs.Processes.{Live, Alive}
+use Rattle.kcall_core.specs.State.{State}
+use Rattle.kcall_core.specs.Updates.{changed_state, fewer_on_all, freed_on_all, gone_state}
+use Rattle.kcall_core.specs.RowLaws.{FilesLeft}
+use Rattle.kcall_core.specs.Kernel.{descriptor_map, state_of, IsSound, IsRunning, slot_now, pid_now, live_now, or_nobody}
+use Rattle.kcall_core.specs.Own.{Answer, gone_with}
+use Rattle.kcall_core.specs.Calls.{gone}
+use Rattle.kcall_core.specs.Makes.{view_now, Makes}
+use Rattle.kcall_core.specs.Whole.{namings, IsWhole, AreCounted}
+use Rattle.kcall_core.specs.declared.kernel.Kernel.{Kernel}
+use Rattle.kcall_core.proofs.steps.Maps.{get_same}
+use Rattle.kcall_core.proofs.table.States.{running}
+use Rattle.kcall_core.proofs.turns.Turned.{live-is}
+use Rattle.kcall_core.proofs.processes.Departs.{OthersWake, closes_wake, family_wakes, end_wakes, Departs}
+use Rattle.kcall_core.proofs.table.OthersWake.{others-join, others-end, own-end, end_in, parent_woken}
+use Rattle.kcall_core.proofs.table.Woken.{place-each}
+use Rattle.kcall_core.proofs.processes.GoneAfter.{gone-after}
+use Rattle.kcall_core.proofs.processes.GoneMakes.{gone-makes}
+
+-- k1 is k but for the descriptors of the process that runs, which are closed
+pub record IsBared (k : Kernel) (h : Hart) (k1 : Kernel) : Type 0 where
+  pub sound : IsSound k1 h
+  pub running : IsRunning k1
+  pub files : files.IsTable k1.files
+  pub counted : AreCounted k1.files k1.table
+  pub current : k1.current ≡ k.current
+  pub pid : pid_now k1 ≡ pid_now k
+  pub last : k1.table.last ≡ k.table.last
+  pub frames : length k1.memories.ram ≡ length k.memories.ram
+  pub others : OthersWake (slot_now k) (closes_wake (state_of k h).pipes (state_of k1 h).pipes) k.table k1.table
+  pub none : (d : ℕ) → get (live_now k1 h).descriptors d ≡ None
+  pub state : let s = state_of k h in let t = state_of k1 h in
+      t ≡ changed_state (pid_now k) (record (live_now k h) { descriptors = (live_now k1 h).descriptors }) t.files t.pipes s.console t.free s
+  pub pipes : (state_of k1 h).pipes ≡ fewer_on_all (state_of k h) (live_now k h) NOFILE (state_of k h).pipes
+  pub free : (state_of k1 h).free ≡ (state_of k h).free + freed_on_all (state_of k h) (live_now k h) NOFILE (state_of k h).pipes
+
+-- k' is k1 where the process that ran has ended with a status, and its parent and pid 1 are awake
+pub record IsEndedIn (k1 : Kernel) (h : Hart) (parent : Option ℕ) (status : ℤ) (k' : Kernel) (h' : Hart) : Type 0 where
+  pub sound : IsSound k' h'
+  pub stopped : k'.current ≡ None
+  pub frames : length k'.memories.ram ≡ length k1.memories.ram
+  pub files : k'.files ≡ k1.files
+  pub table : k'.table ≡ end_in (slot_now k1) (pid_now k1) parent status k1.table
+  pub state : state_of k' h' ≡ gone_state (pid_now k1) (live_now k1 h) status (state_of k1 h).files (state_of k1 h)
+
+-- ---- no descriptor is in use
+
+nothing-named : (ds : List (Option ℕ)) → length ds ≡ 16 → ((d : ℕ) → get (descriptor_map ds) d ≡ None) → ds ≡ none_named
+nothing-named ds long none = ext_get_or None ds none_named (long ∙ sym (length-replicate 16 nobody)) (λ d below. seen d (omega (arith, below, long)) ∙ sym (get_or-replicate 16 d nobody None (omega (arith, below, long))))
+  where
+    nobody : Option ℕ
+    nobody = None
+
+    seen : (d : ℕ) → d < 16 → get_or ds d None ≡ None
+    seen d below = sym (gathered-get (λ e. get_or ds e None) 16 d ∙ ap (λ b. cond b (get_or ds d None) None) (ltb-yes d 16 below)) ∙ none d
+
+-- ---- the open files count as many
+
+live-woken : (channel : Channel) (o : Option Process) → place_is_live (option_map (woken channel) o) ≡ place_is_live o
+live-woken channel None = refl
+live-woken channel (Some p) = by p.state
+  where
+    by : (s : table.State) → is_live (record p { state = state_woken channel s }) ≡ is_live (record p { state = s })
+    by (Live_state marked call o) = refl
+    by (Zombie_state status) = refl
+
+live-given : (pid : ℕ) (o : Option Process) → place_is_live (option_map (given pid 1) o) ≡ place_is_live o
+live-given pid None = refl
+live-given pid (Some p) = refl
+
+module _ (slot pid : ℕ) (parent : Option ℕ) (status : ℤ) (t : Slots) where
+  -- all but the processes stays
+  parent-descriptors : (o : Option ℕ) (u : Slots) → (parent_woken o u).descriptors ≡ u.descriptors
+  parent-descriptors None u = refl
+  parent-descriptors (Some q) u = refl
+
+  end-descriptors : (end_in slot pid parent status t).descriptors ≡ t.descriptors
+  end-descriptors = parent-descriptors parent (changed_at slot (ended status) (each_changed (given pid 1) t))
+
+  parent-last : (o : Option ℕ) (u : Slots) → (parent_woken o u).last ≡ u.last
+  parent-last None u = refl
+  parent-last (Some q) u = refl
+
+  end-last : (end_in slot pid parent status t).last ≡ t.last
+  end-last = parent-last parent (changed_at slot (ended status) (each_changed (given pid 1) t))
+
+  parent-live : (o : Option ℕ) (u : Slots) (j : ℕ) → place_is_live (place_at (parent_woken o u) j) ≡ place_is_live (place_at u j)
+  parent-live None u j = refl
+  parent-live (Some q) u j = ap place_is_live (place-each (woken (on.Children q)) u j) ∙ live-woken (on.Children q) (place_at u j)
+
+  -- who lives in another slot lives on
+  end-live : (j : ℕ) → j ≢ slot → place_is_live (place_at (end_in slot pid parent status t) j) ≡ place_is_live (place_at t j)
+  end-live j other =
+      let adopted : Slots = each_changed (given pid 1) t in
+      let zombie : Slots = changed_at slot (ended status) adopted in
+      ap place_is_live (place-each (woken (on.Children 1)) (parent_woken parent zombie) j) ∙ live-woken (on.Children 1) (place_at (parent_woken parent zombie) j)
+      ∙ parent-live parent zombie j
+      ∙ ap place_is_live (get_or-set_other adopted.places slot j (option_map (ended status) (place_at adopted slot)) None other)
+      ∙ ap place_is_live (place-each (given pid 1) t j) ∙ live-given pid (place_at t j)
+
+  end-counted : (files : List (Option Entry)) → AreCounted files t → descriptors_at t slot ≡ none_named → AreCounted files (end_in slot pid parent status t)
+  end-counted files counted bare = record {
+    counts = λ file. counted.counts file ∙ ap (λ (ds : List (List (Option ℕ))). namings (record t { descriptors = ds }) file) (sym end-descriptors);
+    lists = λ j below. ap length (same j) ∙ counted.lists j below;
+    closed = λ j over. same j ∙ elim (cases_eq j slot) [
+      | inl e ↦ ap (descriptors_at t) e ∙ bare
+      | inr other ↦ counted.closed j (sym (end-live j other) ∙ over)
+    ];
+  }
+    where
+      same : (j : ℕ) → descriptors_at (end_in slot pid parent status t) j ≡ descriptors_at t j
+      same j = ap (λ (ds : List (List (Option ℕ))). get_or ds j none_named) end-descriptors
+
+-- ---- both together
+
+module _ (k k1 k' : Kernel) (h h' : Hart) (status : ℤ) (bared : IsBared k h k1) (ends : IsEndedIn k1 h (live_now k h).parent status k' h') where
+  same-slot : slot_now k1 ≡ slot_now k
+  same-slot = ap or_zero bared.current
+
+  -- the open files count the descriptors that are left
+  pub ended-counted : AreCounted k'.files k'.table
+  ended-counted =
+      let ds = descriptors_at k1.table (slot_now k1) in
+      let r = running k1 h bared.sound bared.running in
+      let bare : ds ≡ none_named = nothing-named ds (bared.counted.lists (slot_now k1) r.inside) bared.none in
+      subst (λ (fs : List (Option Entry)). AreCounted fs k'.table) (sym ends.files)
+      (subst (λ (t : Slots). AreCounted k1.files t) (sym ends.table) (end-counted (slot_now k1) (pid_now k1) (live_now k h).parent status k1.table k1.files bared.counted bare))
+
+  bare-live : live_now k1 h ≡ record (live_now k h) { descriptors = (live_now k1 h).descriptors }
+  bare-live =
+      let bare = record (live_now k h) { descriptors = (live_now k1 h).descriptors } in
+      one (live_now k1 h) bare
+      (sym (live-is k1 h bared.sound bared.running) ∙ (λ i. get (bared.state i).processes (bared.pid i)) ∙ get_same (state_of k h).processes (pid_now k) (Alive bare))
+    where
+      one : (a b : Live) → Some (Alive a) ≡ Some (Alive b) → a ≡ b
+      one a b e = cc
+
+  no-descriptors : (live_now k1 h).descriptors ≡ empty
+  no-descriptors = same_map nat_cmp_total nat_cmp-IsAntisymmetric (live_now k1 h).descriptors empty (λ d. bared.none d ∙ sym (get-empty nat_cmp d))
+
+  ended-state : state_of k' h' ≡ gone_state (pid_now k) (live_now k h) status (state_of k1 h).files (state_of k h)
+  ended-state =
+      let t = state_of k1 h in
+      ends.state ∙ (λ i. gone_state (bared.pid i) (bare-live i) status t.files (bared.state i))
+      ∙ gone-after (state_of k h) (pid_now k) (live_now k h) status (live_now k1 h).descriptors t.files t.pipes t.free no-descriptors bared.pipes bared.free
+
+  same-pipes : (state_of k1 h).pipes ≡ (state_of k' h').pipes
+  same-pipes = bared.pipes ∙ ap (λ (t : State). t.pipes) (sym ended-state)
+
+  abbrev wakes : Channel → Bool
+  wakes = end_wakes (live_now k h).parent (state_of k h).pipes (state_of k1 h).pipes
+
+  pub departs : FilesLeft (state_of k h) (state_of k' h') → Departs k h k' h' status (state_of k1 h).files wakes
+  departs named =
+      let r = running k1 h bared.sound bared.running in
+      let own = own-end (slot_now k1) (pid_now k1) (live_now k h).parent status k1.table r.is.process (omega (arith, r.inside, bared.sound.table.places)) r.is.is in
+      let pid : r.is.process.pid ≡ pid_now k = ap (λ o. (or_nobody o).pid) (sym r.is.is) ∙ bared.pid in
+      record {
+        sound = ends.sound;
+        stopped = ends.stopped;
+        frames = ends.frames ∙ bared.frames;
+        state = ended-state;
+        named = subst (λ (t : State). FilesLeft (state_of k h) t) ended-state named;
+        files = subst files.IsTable (sym ends.files) bared.files;
+        counted = ended-counted;
+        last = ap (λ (t : Slots). t.last) ends.table ∙ end-last (slot_now k1) (pid_now k1) (live_now k h).parent status k1.table ∙ bared.last;
+        own = (own.0, ap (λ (t : Slots). place_at t (slot_now k)) ends.table ∙ ap (place_at (end_in (slot_now k1) (pid_now k1) (live_now k h).parent status k1.table)) (sym same-slot) ∙ own.1, own.2 ∙ pid, own.3);
+        others = subst (λ (t : Slots). OthersWake (slot_now k) wakes k.table t) (sym ends.table)
+            (subst (λ (i : ℕ). OthersWake (slot_now k) wakes k.table (end_in i (pid_now k1) (live_now k h).parent status k1.table)) (sym same-slot)
+            (others-join (closes_wake (state_of k h).pipes (state_of k1 h).pipes) (family_wakes (live_now k h).parent) k.table k1.table (end_in (slot_now k) (pid_now k1) (live_now k h).parent status k1.table) bared.others
+            (others-end (slot_now k) (pid_now k1) (live_now k h).parent status k1.table)));
+        exactly = λ channel. ap (λ m. end_wakes (live_now k h).parent (state_of k h).pipes m channel) same-pipes;
+      }
+
+  -- so the process makes the step that its end is
+  pub end-makes : IsWhole k h → IsRunning k → FilesLeft (state_of k h) (state_of k' h') → (answer : Answer) → gone_with answer ≡ Some status → Makes k h (gone answer (view_now k h)) k' h'
+  end-makes whole runs named answer is = gone-makes k k' h h' status (state_of k1 h).files wakes whole runs (departs named) answer is

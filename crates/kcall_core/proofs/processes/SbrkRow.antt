@@ -1,0 +1,63 @@
+-- The row sbrk, as the code goes through it.
+use Rattle.std.proofs.Common.{◌≡◌, ℕ, ◌≤◌, Some, None, sym, ap, ◌∙◌, arith, to_z, w64}
+use Rattle.std.proofs.lemmas.Int.{to_z_pos}
+use Rattle.std.specs.Prelude.{ℤ, pos, Option}
+use Rattle.xk_base.specs.declared.limits.TheConstants.{SIZE_LIMIT}
+use Rattle.hart_core.specs.declared.hart.Hart.{Hart}
+use Rattle.proc_table.specs.declared.process.Call.{Call}
+use Rattle.kcall_core.specs.Words.{c_int, minus_one}
+use Rattle.kcall_core.specs.Buffers.{grown}
+use Rattle.kcall_core.specs.View.{view_of}
+use Rattle.kcall_core.specs.Calls.{done, refused, sbrk}
+use Rattle.kcall_core.specs.Kernel.{state_of, slot_now, live_now, IsSound, resized, at_size, IsTooDear, HasImage}
+use Rattle.kcall_core.specs.Holdings.{held_at}
+use Rattle.kcall_core.specs.Memories.{each_of}
+use Rattle.kcall_core.specs.Makes.{view_now}
+use Rattle.kcall_core.specs.declared.kernel.Kernel.{Kernel}
+use Rattle.kcall_core.proofs.table.Stops.{now-slot}
+use Rattle.kcall_core.proofs.rows.Resized.{sbrk-outside, sbrk-resized, sbrk-too-dear}
+use Rattle.kcall_core.proofs.rows.RowsByParts.{sbrk_same}
+
+-- the size that the code comes to
+pub row-size : (k : Kernel) (h : Hart) (sound : IsSound k h) (i : ℕ) → k.current ≡ Some i → (c : Call) (old : ℕ) → old ≡ (held_at (each_of k.memories) i).image.size → (n : ℤ) → n ≡ c_int c.a0 → (found new : Option ℕ) → found ≡ resized old n → found ≡ new
+    → resized (live_now k h).image.size (c_int c.a0) ≡ new
+row-size k h sound i is c old size n arg found new value here =
+    let slot : i ≡ slot_now k = now-slot i sound is in
+    let same : old ≡ (live_now k h).image.size = size ∙ ap (λ j. (held_at (each_of k.memories) j).image.size) slot in
+    sym (value ∙ (λ j. resized (same j) (arg j))) ∙ here
+
+-- and the answer that it gives
+pub row-answer : (k : Kernel) (h : Hart) (sound : IsSound k h) (i : ℕ) → k.current ≡ Some i → (old : ℕ) → old ≡ (held_at (each_of k.memories) i).image.size → old ≤ SIZE_LIMIT → (value : ℤ) → value ≡ to_z w64 old → value ≡ pos (live_now k h).image.size
+row-answer k h sound i is old size limit value told =
+    let slot : i ≡ slot_now k = now-slot i sound is in
+    let same : old ≡ (live_now k h).image.size = size ∙ ap (λ j. (held_at (each_of k.memories) j).image.size) slot in
+    told ∙ to_z_pos w64 old (omega (arith, limit)) ∙ ap pos same
+
+module _ (k : Kernel) (h : Hart) (c : Call) {mid : Kernel} {hm : Hart} where
+  -- the view with its own image, and as many frames free
+  pub kept : HasImage k h (live_now k h).image mid hm → refused c (view_now k h) ≡ done c minus_one (record (view_now k h) { image = (live_now k h).image; free = (state_of mid hm).free })
+  unfolding view_of
+  kept has =
+      let free : (state_of k h).free ≡ (state_of mid hm).free = omega (arith, has.state.free) in
+      ap (λ n. done c minus_one (record (view_now k h) { image = (live_now k h).image; free = n })) free
+
+  -- the size can't be
+  pub row-outside : HasImage k h (live_now k h).image mid hm → resized (live_now k h).image.size (c_int c.a0) ≡ None
+      → sbrk c (view_now k h) ≡ done c minus_one (record (view_now k h) { image = (live_now k h).image; free = (state_of mid hm).free })
+  unfolding view_of
+  row-outside has none = sbrk_same c (view_now k h) ∙ sbrk-outside c (view_now k h) (c_int c.a0) none ∙ kept has
+
+  module _ (size : ℕ) (is : resized (live_now k h).image.size (c_int c.a0) ≡ Some size) (limit : size ≤ SIZE_LIMIT) where
+    -- the frames don't suffice
+    pub row-too-dear : (live_now k h).image.size ≤ size → IsTooDear k (live_now k h).image (grown (live_now k h).image size) → HasImage k h (live_now k h).image mid hm
+        → sbrk c (view_now k h) ≡ done c minus_one (record (view_now k h) { image = (live_now k h).image; free = (state_of mid hm).free })
+    unfolding view_of state_of
+    row-too-dear more dear has = sbrk_same c (view_now k h) ∙ sbrk-too-dear c (view_now k h) (c_int c.a0) size is limit more dear ∙ kept has
+
+    -- or they do
+    pub row-resized : (value : ℤ) → value ≡ pos (live_now k h).image.size → HasImage k h (at_size (live_now k h).image size) mid hm
+        → sbrk c (view_now k h) ≡ done c value (record (view_now k h) { image = at_size (live_now k h).image size; free = (state_of mid hm).free })
+    unfolding view_of
+    row-resized value told has =
+        sbrk_same c (view_now k h) ∙ sbrk-resized c (view_now k h) (c_int c.a0) size (state_of mid hm).free is limit has.state.free
+        ∙ ap (λ z. done c z (record (view_now k h) { image = at_size (live_now k h).image size; free = (state_of mid hm).free })) (sym told)

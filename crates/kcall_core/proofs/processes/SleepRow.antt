@@ -1,0 +1,111 @@
+-- The row sleep, as the code goes through it.
+use Rattle.std.proofs.Common.{◌≡◌, ℕ, ◌+◌, ◌-◌, ◌%◌, Bool, true, false, cond, Some, None, inl, inr, refl, sym, ap, ◌∙◌}
+use Rattle.std.specs.Prelude.{ℤ, pos, negsuc, nat_lt, nat_le}
+use Rattle.std.proofs.lemmas.Bool.{cases_lt, lt-ltb, le-ltb, le-leb, lt-leb}
+use Rattle.hart_core.specs.declared.hart.Hart.{Hart}
+use Rattle.proc_table.specs.declared.channel.Channel.TheVariants as on
+use Rattle.proc_table.specs.Processes.{asleep}
+use Rattle.proc_table.specs.Processes as process
+use Rattle.proc_table.specs.Slots.{changed_at}
+use Rattle.proc_table.specs.declared.process.Call.{Call}
+use Rattle.kcall_core.specs.Words.{CLOCK_ROUND, c_int}
+use Rattle.kcall_core.specs.Processes.{Live}
+use Rattle.kcall_core.specs.State.{State}
+use Rattle.kcall_core.specs.View.{View, view_of}
+use Rattle.kcall_core.specs.Calls.{row_of, done, waits, sleep}
+use Rattle.kcall_core.specs.Ready.{ready, row_ready, has_slept}
+use Rattle.kcall_core.specs.Conditions.{row_waits_for, sleep_waits_for, waits_for}
+use Rattle.kcall_core.specs.Ticks.{has_passed}
+use Rattle.kcall_core.specs.Updates.{own_state, in_call}
+use Rattle.kcall_core.specs.Kernel.{frame_count, state_of, slot_now, pid_now, live_now, IsSound, IsRunning}
+use Rattle.kcall_core.specs.Whole.{IsWhole, is_for}
+use Rattle.kcall_core.specs.Makes.{Makes, view_now}
+use Rattle.kcall_core.specs.declared.kernel.Kernel.{Kernel}
+use Rattle.kcall_core.proofs.making.AloneMakes.{wait-makes}
+use Rattle.kcall_core.proofs.rows.RowParts.{sleep_for}
+use Rattle.kcall_core.proofs.rows.RowsByParts.{sleep_same}
+
+-- how many ticks have passed since the call began
+abbrev pub passed : ℕ → Call → ℕ
+passed clock c = (clock + CLOCK_ROUND - c.clock) % CLOCK_ROUND
+
+by-passed : (c : Call) (v : View) (z : ℤ) (b : Bool) → has_passed (passed v.clock c) z ≡ b → sleep_for c v z ≡ cond b (done c (pos 0) v) (waits c 0 v)
+by-passed c v (pos n) true e = ap (λ (x : Bool). cond x (waits c 0 v) (done c (pos 0) v)) (not-less n (passed v.clock c) e)
+  where
+    not-less : (n m : ℕ) → nat_le n m ≡ true → nat_lt m n ≡ false
+    not-less n m h = elim (cases_lt m n) [ inl less ↦ absurd (clash (lt-leb n m less) h) | inr more ↦ le-ltb m n more ]
+      where
+        clash : {x : Bool} → x ≡ false → x ≡ true → ⊥
+        clash a b = cc
+by-passed c v (pos n) false e = ap (λ (x : Bool). cond x (waits c 0 v) (done c (pos 0) v)) (less n (passed v.clock c) e)
+  where
+    less : (n m : ℕ) → nat_le n m ≡ false → nat_lt m n ≡ true
+    less n m h = elim (cases_lt m n) [ inl is ↦ lt-ltb m n is | inr more ↦ absurd (clash (le-leb n m more) h) ]
+      where
+        clash : {x : Bool} → x ≡ true → x ≡ false → ⊥
+        clash a b = cc
+by-passed c v (negsuc k) true e = refl
+by-passed c v (negsuc k) false e = let no : ⊥ = cc in absurd no
+
+module _ (k : Kernel) (h : Hart) (c : Call) (since : ℕ) (z : ℤ) (b : Bool) (since-is : since ≡ passed k.clock c) (asked : z ≡ c_int c.a0) where
+  pub same-test : has_passed since z ≡ b → has_passed (passed k.clock c) (c_int c.a0) ≡ b
+  same-test e = (λ i. has_passed (sym since-is i) (sym asked i)) ∙ e
+
+  -- what the row comes to
+  pub slept-row : has_passed since z ≡ b → sleep c (view_now k h) ≡ cond b (done c (pos 0) (view_now k h)) (waits c 0 (view_now k h))
+  unfolding view_of state_of
+  slept-row e = sleep_same c (view_now k h) ∙ by-passed c (view_now k h) (c_int c.a0) b (same-test e)
+
+-- ---- it waits
+
+-- for ticks
+for-ticks : (c d : Call) (passed : ℕ) (z : ℤ) → has_passed passed z ≡ false → is_for (sleep_waits_for d z) on.Clock ≡ true
+for-ticks c d passed (pos n) e = refl
+for-ticks c d passed (negsuc k) e = let no : ⊥ = cc in absurd no
+
+slept-same : (v : View) (c : Call) (z : ℤ) → has_slept v c z ≡ has_passed (passed v.clock c) z
+slept-same v c (pos n) = refl
+slept-same v c (negsuc k) = refl
+
+module _ (t : State) (p : ℕ) (m : Live) (c : Call) (call : m.call ≡ Some c) (number : c.number ≡ pos 13) (early : has_passed (passed t.clock c) (c_int c.a0) ≡ false) where
+  pub waits-ticks : is_for (waits_for t p m) on.Clock ≡ true
+  unfolding row_of
+  waits-ticks =
+      ap (λ o. is_for (waits_for t p (record m { call = o })) on.Clock) call ∙ ap (λ z. is_for (row_waits_for t p m c (row_of z)) on.Clock) number
+      ∙ for-ticks c c (passed t.clock c) (c_int c.a0) early
+
+  pub sleeps-unready : m.killed ≡ false → ready (view_of t p m) ≡ false
+  unfolding view_of ready row_of
+  sleeps-unready alive =
+      (λ i. ready (view_of t p (record m { killed = alive i; call = call i })))
+      ∙ ap (λ z. row_ready (view_of t p (record m { killed = false; call = Some c })) c (row_of z)) number
+      ∙ slept-same (view_of t p (record m { killed = false; call = Some c })) c (c_int c.a0) ∙ early
+
+-- what `block` leaves
+pub record IsBlocked (k : Kernel) (h : Hart) (c : Call) (k' : Kernel) (h' : Hart) : Type 0 where
+  pub sound : IsSound k' h'
+  pub table : k'.table ≡ changed_at (slot_now k) (asleep on.Clock) (changed_at (slot_now k) (process.in_call (Some c)) k.table)
+  pub stopped : k'.current ≡ None
+  pub files : k'.files ≡ k.files
+  pub frames : frame_count k' ≡ frame_count k
+  pub state : state_of k' h' ≡ own_state (pid_now k) (in_call c (live_now k h)) (state_of k h)
+
+pub sleep-makes : (k : Kernel) (h : Hart) (k' : Kernel) (h' : Hart) (c : Call) → IsWhole k h → IsRunning k → (live_now k h).killed ≡ false → c.number ≡ pos 13 → has_passed (passed k.clock c) (c_int c.a0) ≡ false → IsBlocked k h (record c { moved = 0 }) k' h'
+    → Makes k h (waits c 0 (view_now k h)) k' h'
+unfolding view_of state_of
+sleep-makes k h k' h' c whole runs alive number early x =
+    let d : Call = record c { moved = 0 } in
+    let clock : (state_of k' h').clock ≡ k.clock = ap (λ (t : State). t.clock) x.state in
+    let late : has_passed (passed (state_of k' h').clock d) (c_int d.a0) ≡ false = ap (λ n. has_passed (passed n d) (c_int d.a0)) clock ∙ early in
+    let m : Live = record (live_now k h) { call = Some d } in
+    wait-makes k h k' h' c 0 (live_now k h).image (state_of k h).free on.Clock (waits c 0 (view_now k h)) whole runs (record {
+      sound = x.sound;
+      table = x.table;
+      current = x.stopped;
+      files = x.files;
+      frames = x.frames;
+      state = x.state;
+      paid = refl;
+      waits = waits-ticks (state_of k' h') (pid_now k) m d refl number late;
+      unready = sleeps-unready (state_of k' h') (pid_now k) m d refl number late alive;
+    }) refl

@@ -1,0 +1,102 @@
+-- The row wait, as the code goes through it: the status is stored, and which way the row goes.
+use Rattle.std.proofs.Common.{◌≡◌, ◌≢◌, ℕ, ◌||◌, ◌&&◌, not, Bool, true, false, cond, List, subst, Some, inl, inr, refl, sym, ap, ◌∙◌}
+use Rattle.std.specs.Prelude.{ℤ, is_some, nat_eq}
+use Rattle.std.specs.Int.{cast_unsigned, w32}
+use Rattle.std.specs.FinMap.{get, keys}
+use Rattle.std.proofs.lemmas.Bool.{eq-eqb}
+use Rattle.std.proofs.lemmas.Bool.Decides.{eqb_tells}
+use Rattle.xk_base.specs.Words.{le_bytes}
+use Rattle.xk_base.specs.Image.{Image}
+use Rattle.xk_base.specs.Bytes.{write_image}
+use Rattle.hart_core.specs.declared.hart.Hart.{Hart}
+use Rattle.proc_table.specs.Reaping.{HasChild, HasNoChild, HasNoneEnded}
+use Rattle.proc_table.specs.declared.process.Call.{Call}
+use Rattle.kcall_core.specs.Buffers.{writable}
+use Rattle.kcall_core.specs.State.{State}
+use Rattle.kcall_core.specs.View.{View, view_of, child_of}
+use Rattle.kcall_core.specs.Calls.{wait, least_zombie, refused, waits}
+use Rattle.kcall_core.specs.Updates.{told_image}
+use Rattle.kcall_core.specs.Holdings.{held_at, with_image}
+use Rattle.kcall_core.specs.Memories.{each_of, RunsIn, SlotChanges}
+use Rattle.kcall_core.specs.Kernel.{state_of, IsSound, IsRunning, slot_now, pid_now, live_now, HasImage}
+use Rattle.kcall_core.specs.Makes.{view_now}
+use Rattle.kcall_core.specs.declared.kernel.Kernel.{Kernel}
+use Rattle.kcall_core.specs.declared.memories.Memories.{Memories}
+use Rattle.kcall_core.proofs.table.States.{running}
+use Rattle.kcall_core.proofs.table.Stops.{now-slot}
+use Rattle.kcall_core.proofs.making.Imaged.{image-changed, image-same}
+use Rattle.kcall_core.proofs.table.Zombies.{find-none, any-none, none-seen, none-ended, some-child}
+use Rattle.kcall_core.specs.Processes.{has_status}
+use Rattle.kcall_core.proofs.rows.RowParts.{reaped, unless}
+use Rattle.kcall_core.proofs.rows.RowsByParts.{wait_same}
+
+-- ---- the status is stored
+
+at-zero : (a b : Bool) (x y : Image) → a ≡ b → cond b x y ≡ cond a x y
+at-zero a b x y e = ap (λ c. cond c x y) (sym e)
+
+module _ (k : Kernel) (h : Hart) (a : ℕ) (status : ℤ) (sound : IsSound k h) (slot : ℕ) (is : k.current ≡ Some slot) where
+  runs : IsRunning k
+  runs = ap is_some is
+
+  pub told-nothing : a ≡ 0 → HasImage k h (told_image a status (live_now k h).image) k h
+  told-nothing e =
+      let image = (live_now k h).image in
+      subst (λ i. HasImage k h i k h) (at-zero (nat_eq a 0) true image (write_image image a (le_bytes 4 (cast_unsigned w32 status))) (eq-eqb a 0 e)) (image-same k h sound runs)
+
+  pub told-status : a ≢ 0 → (m : Memories) (bytes : List ℕ) → bytes ≡ le_bytes 4 (cast_unsigned w32 status)
+      → let held = held_at (each_of k.memories) slot in SlotChanges k.memories m slot (Some (with_image (write_image held.image a bytes) held))
+      → ((hart : Hart) → RunsIn k.memories slot hart → RunsIn m slot hart) → HasImage k h (told_image a status (live_now k h).image) (record k { memories = m }) h
+  told-status ne m bytes told changes keeps =
+      let image = (live_now k h).image in
+      let each = each_of k.memories in
+      let here : slot ≡ slot_now k = now-slot slot sound is in
+      let apart : nat_eq a 0 ≡ false = elim (eqb_tells a 0) [ inl e ↦ absurd (ne e.1) | inr e ↦ e.0 ] in
+      let written = write_image image a (le_bytes 4 (cast_unsigned w32 status)) in
+      subst (λ i. HasImage k h i (record k { memories = m }) h) (at-zero (nat_eq a 0) false image written apart)
+      (image-changed k h sound runs m h written
+      (subst (λ (n : ℕ). SlotChanges k.memories m n (Some (with_image (write_image (held_at each n).image a (le_bytes 4 (cast_unsigned w32 status))) (held_at each n)))) here
+      (subst (λ (bs : List ℕ). SlotChanges k.memories m slot (Some (with_image (write_image (held_at each slot).image a bs) (held_at each slot)))) told changes))
+      (subst (λ n. RunsIn m n h) here (keeps h (subst (λ n. RunsIn k.memories n h) (sym here) (running k h sound runs).is.runs))) refl)
+
+-- ---- the row
+
+both-not : (a b : Bool) → (not a && not b) ≡ not (a || b)
+both-not true b = refl
+both-not false b = refl
+
+by-test : (v : View) (c : Call) (b : Bool) → (nat_eq c.a0 0 || writable v.image c.a0 4) ≡ b → wait c v ≡ unless (not b) c v (λ _. reaped c v (least_zombie v))
+by-test v c b e = wait_same c v ∙ ap (λ x. unless x c v (λ _. reaped c v (least_zombie v))) (both-not (nat_eq c.a0 0) (writable v.image c.a0 4) ∙ ap not e)
+
+module _ (k : Kernel) (h : Hart) (slot : ℕ) (sound : IsSound k h) (is : k.current ≡ Some slot) (c : Call) where
+  pub tested : (b : Bool) → (nat_eq c.a0 0 || writable (held_at (each_of k.memories) slot).image c.a0 4) ≡ b
+      → wait c (view_now k h) ≡ unless (not b) c (view_now k h) (λ _. reaped c (view_now k h) (least_zombie (view_now k h)))
+  unfolding view_of
+  tested b e = by-test (view_now k h) c b ((λ i. nat_eq c.a0 0 || writable (held_at (each_of k.memories) (sym (now-slot slot sound is) i)).image c.a0 4) ∙ e)
+
+  -- there is room for the status
+  pub room-told : (nat_eq c.a0 0 || writable (held_at (each_of k.memories) slot).image c.a0 4) ≡ true → (not (nat_eq c.a0 0) && not (writable (live_now k h).image c.a0 4)) ≡ false
+  room-told e =
+      both-not (nat_eq c.a0 0) (writable (live_now k h).image c.a0 4)
+      ∙ ap not ((λ i. nat_eq c.a0 0 || writable (held_at (each_of k.memories) (sym (now-slot slot sound is) i)).image c.a0 4) ∙ e)
+
+  module _ (fits : (nat_eq c.a0 0 || writable (held_at (each_of k.memories) slot).image c.a0 4) ≡ true) where
+    abbrev p : ℕ
+    p = pid_now k
+
+    abbrev s : State
+    s = state_of k h
+
+    pub childless-row : HasNoChild k.table p → wait c (view_now k h) ≡ refused c (view_now k h)
+    unfolding view_of
+    childless-row none =
+        tested true fits
+        ∙ ap (reaped c (view_now k h)) (find-none (λ r. has_status (child_of p (get s.processes r))) (keys s.processes) (λ r. ap has_status (none-seen k h p sound.table none r)))
+        ∙ ap (λ b. cond b (waits c 0 (view_now k h)) (refused c (view_now k h))) (any-none (λ r. is_some (child_of p (get s.processes r))) (keys s.processes) (λ r. ap is_some (none-seen k h p sound.table none r)))
+
+    pub waiting-row : HasChild k.table p → HasNoneEnded k.table p → wait c (view_now k h) ≡ waits c 0 (view_now k h)
+    unfolding view_of
+    waiting-row has none =
+        tested true fits
+        ∙ ap (reaped c (view_now k h)) (find-none (λ r. has_status (child_of p (get s.processes r))) (keys s.processes) (none-ended k h p sound.table none))
+        ∙ ap (λ b. cond b (waits c 0 (view_now k h)) (refused c (view_now k h))) (some-child k h p sound.table has)

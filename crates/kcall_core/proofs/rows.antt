@@ -1,0 +1,20 @@
+-- The rows of the call table: their parts, which row a call goes by, and what every row leaves and answers.
+pub mod Outcomes
+pub mod AnswersTell
+pub mod Late
+pub mod NewPages
+pub mod RowParts
+pub mod RowsByParts
+pub mod PartLaws
+pub mod RowLawsHold
+pub mod RowNumbers
+pub mod Decoding
+pub mod BuiltRows
+pub mod Falls
+pub mod Plain
+pub mod Resized
+pub mod Pids
+pub mod CleanPages
+pub mod NewBytes
+pub mod Again
+pub mod Asleep

@@ -1,0 +1,135 @@
+-- Each event keeps all that is promised of it: a step, a turn, nothing to do, a tick, and nothing after the end.
+use Rattle.std.proofs.Common.{◌≡◌, ℕ, Some, None, inl, inr, ◌⊎◌, refl, sym, ap, ◌∙◌, subst}
+use Rattle.std.specs.Prelude.{ℤ, option_map, true, false}
+use Rattle.std.specs.Ordering.{nat_cmp}
+use Rattle.std.specs.FinSet.{FinSet, contains}
+use Rattle.hart_core.specs.declared.hart.Hart.{Hart}
+use Rattle.kcall_core.specs.State.{live_part}
+use Rattle.kcall_core.specs.View.{view, view_of}
+use Rattle.kcall_core.specs.Own.{Answer}
+use Rattle.kcall_core.specs.Ready.{ready}
+use Rattle.kcall_core.specs.Step.{own}
+use Rattle.kcall_core.specs.Run.{World, Event, Run, Tick, Outcome, Step_of, Turn, Idle, Ticked, Halted, Happens, RunHappens, TickHappens, TurnTaken, StepOf, halts_with}
+use Rattle.kcall_core.specs.Wakes.{IsRunnable, IsNearest, NoReadySleeper, IsInCall, IsEnd, WakesWhereDue, Promised}
+use Rattle.kcall_core.specs.Kernel.{state_of, IsSound, IsRunning, pid_now}
+use Rattle.kcall_core.specs.Machine.{turns_of, world_of}
+use Rattle.kcall_core.specs.Whole.{IsWhole}
+use Rattle.kcall_core.specs.Makes.{Makes, view_now}
+use Rattle.kcall_core.specs.declared.kernel.Kernel.{Kernel}
+use Rattle.kcall_core.proofs.table.States.{none-some, running}
+use Rattle.kcall_core.proofs.turns.Turned.{live-is}
+
+-- what the process that runs sees is its view in the state
+pub view-is : (k : Kernel) (h : Hart) → IsSound k h → IsRunning k → view (state_of k h) (pid_now k) ≡ Some (view_now k h)
+view-is k h sound runs = ap (λ o. option_map (view_of (state_of k h) (pid_now k)) (live_part o)) (live-is k h sound runs)
+
+-- ---- a step
+
+pub step-promised : (k k' : Kernel) (h h' : Hart) → IsWhole k h → IsRunning k → Makes k h (own (view_now k h)) k' h'
+    → Promised (world_of k h None) Run (Step_of (pid_now k) (own (view_now k h)).answer) (world_of k' h' (halts_with (pid_now k) (own (view_now k h)).answer))
+unfolding turns_of
+step-promised k k' h h' whole runs made =
+    let w = world_of k h None in
+    let p = pid_now k in
+    let o = own (view_now k h) in
+    let t = world_of k' h' (halts_with p o.answer) in
+    let current : option_map (λ (i : ℕ). p) k.current ≡ Some p = ap (option_map (λ (i : ℕ). p)) (running k h whole.sound runs).current in
+    let step : StepOf w p (Step_of p o.answer) t = record { before = view_now k h; was = view-is k h whole.sound runs; answer = refl; state = made.state; turns = made.turns } in (
+      subst (λ c. RunHappens w None c (Step_of p o.answer) t) (sym current) step,
+      made.wakes,
+      λ e halted idle. absurd (none-some p (sym idle ∙ current)),
+    )
+
+-- ---- where the sleepers stay
+
+-- nobody wakes, and nobody had to
+none-wakes : (w t : World) (o : Outcome) → t.state ≡ w.state → t.turns.sleepers ≡ w.turns.sleepers → NoReadySleeper w → (o ≡ Ticked → ⊥) → (IsEnd o → ⊥) → WakesWhereDue w o t
+none-wakes w t o state sleepers unready tick end p v asleep sees = (
+  λ awake. absurd (awake (subst (λ (s : FinSet nat_cmp). contains s p ≡ true) (sym sleepers) asleep)),
+  λ due. absurd (by due),
+)
+  where
+    true-false : true ≡ false → ⊥
+    true-false e = cc
+
+    by : (ready v ≡ true) ⊎ (IsInCall 13 v × (o ≡ Ticked)) ⊎ ((p ≡ 1) × IsInCall 3 v × IsEnd o) → ⊥
+    by (inl shows) = true-false (sym shows ∙ unready p v asleep (sym (ap (λ s. view s p) state) ∙ sees))
+    by (inr (inl ticks)) = tick ticks.1
+    by (inr (inr ends)) = end ends.2
+
+-- ---- a turn
+
+turn-end : (p q : ℕ) (a : Answer) → Turn p ≡ Step_of q a → ⊥
+turn-end p q a e = cc
+
+turn-tick : (p : ℕ) → Turn p ≡ Ticked → ⊥
+turn-tick p e = cc
+
+turn-idle : (p : ℕ) → Turn p ≡ Idle → ⊥
+turn-idle p e = cc
+
+turn-pid : (p q : ℕ) → Turn p ≡ Turn q → p ≡ q
+turn-pid p q e = cc
+
+idle-end : (q : ℕ) (a : Answer) → Idle ≡ Step_of q a → ⊥
+idle-end q a e = cc
+
+idle-tick : Idle ≡ Ticked → ⊥
+idle-tick e = cc
+
+idle-turn : (p : ℕ) → Idle ≡ Turn p → ⊥
+idle-turn p e = cc
+
+module _ (k k' : Kernel) (h h' : Hart) (whole : IsWhole k h) (stopped : k.current ≡ None) where
+  current : option_map (λ (i : ℕ). pid_now k) k.current ≡ None
+  current = ap (option_map (λ (i : ℕ). pid_now k)) stopped
+
+  pub turn-promised : (p : ℕ) → TurnTaken (world_of k h None) (Turn p) (world_of k' h' None) → IsRunnable (world_of k h None) p → IsNearest (world_of k h None) p → Promised (world_of k h None) Run (Turn p) (world_of k' h' None)
+  unfolding turns_of
+  turn-promised p taken can near =
+      let w = world_of k h None in
+      let t = world_of k' h' None in (
+        subst (λ c. RunHappens w None c (Turn p) t) (sym current) taken,
+        none-wakes w t (Turn p) (ap (λ (x : World). x.state) taken.3) (ap (λ (x : World). x.turns.sleepers) taken.3) whole.unready (turn-tick p) (λ end. turn-end p end.0 end.1 end.2),
+        λ e halted idle. (
+          (λ is. absurd (turn-idle p is), λ none. absurd (none p can)),
+          λ q is. subst (λ (n : ℕ). IsRunnable w n × IsNearest w n) (turn-pid p q is) (can, near),
+        ),
+      )
+
+  pub idle-promised : world_of k' h' None ≡ world_of k h None → ((p : ℕ) → ¬ IsRunnable (world_of k h None) p) → Promised (world_of k h None) Run Idle (world_of k' h' None)
+  unfolding turns_of
+  idle-promised same nobody =
+      let w = world_of k h None in
+      let t = world_of k' h' None in (
+        subst (λ c. RunHappens w None c Idle t) (sym current) same,
+        none-wakes w t Idle (ap (λ (x : World). x.state) same) (ap (λ (x : World). x.turns.sleepers) same) whole.unready idle-tick (λ end. idle-end end.0 end.1 end.2),
+        λ e halted idle. ((λ is. nobody, λ none. refl), λ q is. absurd (idle-turn q is)),
+      )
+
+-- ---- after the end
+
+halted-end : (q : ℕ) (a : Answer) → Halted ≡ Step_of q a → ⊥
+halted-end q a e = cc
+
+halted-tick : Halted ≡ Ticked → ⊥
+halted-tick e = cc
+
+-- on a machine that is halted nothing happens
+pub halted-promised : (k : Kernel) (h : Hart) (status : ℤ) (e : Event) → IsWhole k h → Happens (world_of k h (Some status)) e Halted (world_of k h (Some status)) → Promised (world_of k h (Some status)) e Halted (world_of k h (Some status))
+unfolding turns_of
+halted-promised k h status e whole happens =
+    let w = world_of k h (Some status) in (
+      happens,
+      none-wakes w w Halted refl refl whole.unready halted-tick (λ end. halted-end end.0 end.1 end.2),
+      λ run halted idle. absurd (none-some status (sym halted)),
+    )
+
+-- ---- a tick
+
+tick-run : Tick ≡ Run → ⊥
+tick-run e = cc
+
+pub tick-promised : (k k' : Kernel) (h h' : Hart) → TickHappens (world_of k h None) None Ticked (world_of k' h' None) → WakesWhereDue (world_of k h None) Ticked (world_of k' h' None) → Promised (world_of k h None) Tick Ticked (world_of k' h' None)
+unfolding turns_of
+tick-promised k k' h h' happens wakes = (happens, wakes, λ e halted idle. absurd (tick-run e))

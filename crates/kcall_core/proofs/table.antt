@@ -1,0 +1,15 @@
+-- How a change of the process table, of one slot or of all, shows in the state.
+pub mod Adopted
+pub mod ByPid
+pub mod Deserted
+pub mod FirstWhole
+pub mod InCall
+pub mod NoProcess
+pub mod Observed
+pub mod OnePlace
+pub mod OthersWake
+pub mod Starting
+pub mod States
+pub mod Stops
+pub mod Woken
+pub mod Zombies

@@ -1,0 +1,259 @@
+-- The process that runs stops running, a process begins to run, and a process ends.
+use Rattle.std.proofs.Common.{◌≡◌, ◌≢◌, ℕ, zero, suc, ◌+◌, ◌<◌, true, false, cond, List, [], ◌∷◌, length, set, subst, get_or, Option, Some, None, IsSome, inl, inr, refl, sym, ap, ◌∙◌, arith}
+use Rattle.std.specs.Prelude.{map, ℤ, option_map, is_none, IsTrue}
+use Rattle.std.specs.FinMap.{insert}
+use Rattle.std.proofs.lemmas.Bool.{cases_eq, eq-eqb}
+use Rattle.std.proofs.lemmas.List.{get_or-set_same, get_or-set_other}
+use Rattle.xk_base.specs.Gathered.{gathered}
+use Rattle.xk_base.specs.Image.{price}
+use Rattle.xk_base.specs.declared.limits.TheConstants.{NPROC, OPEN_FILES}
+use Rattle.rv64i_core.specs.Registers.{Registers}
+use Rattle.hart_core.specs.Translations.{nothing_kept}
+use Rattle.hart_core.specs.declared.hart.Hart.{Hart}
+use Rattle.file_table.specs.OpenFiles.{open_file_at}
+use Rattle.proc_table.specs.Processes.{status_of, ended}
+use Rattle.proc_table.specs.Slots.{Slots, place_at, descriptors_at, place_is_live, IsLiveAt, IsTable, changed_at}
+use Rattle.proc_table.specs.declared.process.Process.{Process}
+use Rattle.proc_table.proofs.Pids.{table_at}
+use Rattle.kcall_core.specs.State.{named_file}
+use Rattle.kcall_core.specs.Words.{is_this, or_zero}
+use Rattle.kcall_core.specs.Processes.{Zombie}
+use Rattle.kcall_core.specs.ByPid.{by_pid}
+use Rattle.kcall_core.specs.Updates.{give_frames, end_process}
+use Rattle.kcall_core.specs.Holdings.{Held, or_nothing, held_at, HasMemory, with_saved, held_cost}
+use Rattle.kcall_core.specs.Memories.{each_of, pipes_of, free_of, SlotChanges}
+use Rattle.kcall_core.specs.Kernel.{process_of, regs_at, entry_of, entry_at, state_of, or_nobody, slot_now, place_now, pid_now, live_now, IsCurrent, IsSound}
+use Rattle.kcall_core.specs.declared.kernel.Kernel.{Kernel}
+use Rattle.kcall_core.proofs.table.ByPid.{by_pid-same}
+use Rattle.kcall_core.proofs.memory.Changes.{some-inside}
+use Rattle.kcall_core.proofs.table.States.{Alone, alone-entries, slot-inside, slot-state, not-this, none-some}
+
+-- all of the kernel but the table, the memories and who runs
+pub record Rest (k k' : Kernel) : Type 0 where
+  pub files : k'.files ≡ k.files
+  pub console : k'.console ≡ k.console
+  pub programs : k'.programs.items ≡ k.programs.items
+  pub clock : k'.clock ≡ k.clock
+
+-- the memory in slot i, which the current process has
+module _ {k : Kernel} {h : Hart} (i : ℕ) (sound : IsSound k h) (is : k.current ≡ Some i) where
+  now : IsCurrent k h i
+  now = sound.current i is
+
+  pub now-has : HasMemory (each_of k.memories) i
+  now-has = sound.lives i now.process now.is now.live
+
+  pub now-inside : i < length (each_of k.memories)
+  now-inside = some-inside (each_of k.memories) i now-has
+
+  pub now-slot : i ≡ slot_now k
+  now-slot = sym (ap or_zero is)
+
+-- ---- suspended
+
+cost-saved : (o : Option Held) (regs : Registers) → IsSome o → held_cost (Some (with_saved regs (or_nothing o))) ≡ held_cost o
+cost-saved None regs some = absurd (false-true some)
+  where
+    false-true : false ≡ true → ⊥
+    false-true e = cc
+cost-saved (Some held) regs some = refl
+
+pub suspended-state : (k k' : Kernel) (h h' : Hart) (i : ℕ) → IsSound k h → k.current ≡ Some i → SlotChanges k.memories k'.memories i (Some (with_saved h.regs (held_at (each_of k.memories) i))) → k'.table ≡ k.table → k'.current ≡ None → Rest k k' → state_of k' h' ≡ state_of k h
+unfolding state_of
+suspended-state k k' h h' i sound is changes table stopped rest =
+    let held = held_at (each_of k.memories) i in
+    let now = sound.current i is in
+    let p = now.process in
+    let here : held_at (each_of k'.memories) i ≡ with_saved h.regs held =
+    ap or_nothing (ap (λ l. get_or l i None) changes.each ∙ get_or-set_same (each_of k.memories) i (Some (with_saved h.regs held)) None (now-inside i sound is)) in
+    let alone : Alone k k' i = record {
+      places = λ j ne. ap (λ (t : Slots). place_at t j) table;
+      files = λ j ne. ap (λ (t : Slots). descriptors_at t j) table;
+      each = λ j ne. ap (λ l. get_or l j None) changes.each ∙ get_or-set_other (each_of k.memories) i j (Some (with_saved h.regs held)) None ne;
+      ran = λ j ne. not-this i j k.current is ne;
+      runs = λ j ne. ap (is_this j) stopped;
+    } in
+    let before : entry_at k h i ≡ Some (p.pid, process_of p (descriptors_at k.table i) held h.regs) =
+    ap (entry_of k h i) now.is ∙ ap (λ b. Some (p.pid, process_of p (descriptors_at k.table i) held (cond b h.regs held.saved))) (ap (is_this i) is ∙ eq-eqb i i refl) in
+    let after : entry_at k' h' i ≡ Some (p.pid, process_of p (descriptors_at k.table i) held h.regs) =
+    ap (λ (t : Slots). entry_of k' h' i (place_at t i)) table ∙ ap (entry_of k' h' i) now.is
+    ∙ ap (λ (t : Slots). Some (p.pid, process_of p (descriptors_at t i) (held_at (each_of k'.memories) i) (regs_at k' h' i))) table
+    ∙ ap (λ b. Some (p.pid, process_of p (descriptors_at k.table i) (held_at (each_of k'.memories) i) (cond b h'.regs (held_at (each_of k'.memories) i).saved))) (ap (is_this i) stopped)
+    ∙ ap (λ (x : Held). Some (p.pid, process_of p (descriptors_at k.table i) x x.saved)) here in
+    let processes : by_pid (entry_at k' h') NPROC ≡ by_pid (entry_at k h) NPROC =
+    by_pid-same (entry_at k h) (entry_at k' h') NPROC (λ j. elim (cases_eq j i) [
+      | inl e ↦ ap (entry_at k' h') e ∙ after ∙ sym before ∙ sym (ap (entry_at k h) e)
+      | inr ne ↦ alone-entries k k' h h' i alone j ne
+    ]) in
+    let free : free_of k'.memories ≡ free_of k.memories = omega (arith, changes.free, cost-saved (get_or (each_of k.memories) i None) h.regs (now-has i sound is)) in
+    λ t. record {
+      processes = processes t;
+      files = gathered (open_file_at (rest.files t)) OPEN_FILES;
+      pipes = changes.pipes t;
+      console = rest.console t;
+      clock = rest.clock t;
+      next_pid = (table t).next;
+      free = free t;
+      programs = map named_file (rest.programs t);
+    }
+
+pub suspended-sound : (k k' : Kernel) (h h' : Hart) (i : ℕ) (x : Held) → IsSound k h → k.current ≡ Some i → SlotChanges k.memories k'.memories i (Some x) → k'.table ≡ k.table → k'.current ≡ None → h'.root ≡ None → h'.cache ≡ nothing_kept → IsSound k' h'
+suspended-sound k k' h h' i x sound is changes table stopped root cache =
+    let now = sound.current i is in
+    let here : get_or (each_of k'.memories) i None ≡ Some x = ap (λ l. get_or l i None) changes.each ∙ get_or-set_same (each_of k.memories) i (Some x) None (now-inside i sound is) in
+    let other : (j : ℕ) → j ≢ i → get_or (each_of k'.memories) j None ≡ get_or (each_of k.memories) j None = λ j ne. ap (λ l. get_or l j None) changes.each ∙ get_or-set_other (each_of k.memories) i j (Some x) None ne in
+    let place : (j : ℕ) → place_at k'.table j ≡ place_at k.table j = λ j. ap (λ (t : Slots). place_at t j) table in
+    record {
+      memories = changes.sound;
+      table = subst IsTable (sym table) sound.table;
+      lives = λ j p at live. elim (cases_eq j i) [
+        | inl e ↦ subst (HasMemory (each_of k'.memories)) (sym e) (subst (λ o. IsSome o) (sym here) refl)
+        | inr ne ↦ subst (λ o. IsSome o) (sym (other j ne)) (sound.lives j p (sym (place j) ∙ at) live)
+      ];
+      ended = λ j p status at over. elim (cases_eq j i) [
+        | inl e ↦ absurd (not-over p now.process status (sym at ∙ place j ∙ ap (place_at k.table) e ∙ now.is) now.live over)
+        | inr ne ↦ other j ne ∙ sound.ended j p status (sym (place j) ∙ at) over
+      ];
+      vacant = λ j at. elim (cases_eq j i) [
+        | inl e ↦ absurd (none-some now.process (sym at ∙ place j ∙ ap (place_at k.table) e ∙ now.is))
+        | inr ne ↦ other j ne ∙ sound.vacant j (sym (place j) ∙ at)
+      ];
+      current = λ j at. absurd (none-some j (sym stopped ∙ at));
+      idle = λ e. (root, cache);
+    }
+  where
+    not-over : (p q : Process) (status : ℤ) → Some p ≡ Some q → status_of q ≡ None → status_of p ≡ Some status → ⊥
+    not-over p q status same live over = let e : p ≡ q = cc in none-some status (sym live ∙ sym (ap status_of e) ∙ over)
+
+-- ---- entered
+
+pub entered-state : (k k' : Kernel) (h h' : Hart) (i : ℕ) (p : Process) → IsSound k h → k.current ≡ None → place_at k.table i ≡ Some p → h'.regs ≡ (held_at (each_of k.memories) i).saved → k'.memories ≡ k.memories → k'.table ≡ k.table → k'.current ≡ Some i → Rest k k' → state_of k' h' ≡ state_of k h
+unfolding state_of
+entered-state k k' h h' i p sound stopped is regs memories table current rest =
+    let held = held_at (each_of k.memories) i in
+    let alone : Alone k k' i = record {
+      places = λ j ne. ap (λ (t : Slots). place_at t j) table;
+      files = λ j ne. ap (λ (t : Slots). descriptors_at t j) table;
+      each = λ j ne. ap (λ m. get_or (each_of m) j None) memories;
+      ran = λ j ne. ap (is_this j) stopped;
+      runs = λ j ne. not-this i j k'.current current ne;
+    } in
+    let before : entry_at k h i ≡ Some (p.pid, process_of p (descriptors_at k.table i) held held.saved) =
+    ap (entry_of k h i) is ∙ ap (λ b. Some (p.pid, process_of p (descriptors_at k.table i) held (cond b h.regs held.saved))) (ap (is_this i) stopped) in
+    let after : entry_at k' h' i ≡ Some (p.pid, process_of p (descriptors_at k.table i) held held.saved) =
+    ap (λ (t : Slots). entry_of k' h' i (place_at t i)) table ∙ ap (entry_of k' h' i) is
+    ∙ ap (λ (t : Slots). Some (p.pid, process_of p (descriptors_at t i) (held_at (each_of k'.memories) i) (regs_at k' h' i))) table
+    ∙ ap (λ b. Some (p.pid, process_of p (descriptors_at k.table i) (held_at (each_of k'.memories) i) (cond b h'.regs (held_at (each_of k'.memories) i).saved))) (ap (is_this i) current ∙ eq-eqb i i refl)
+    ∙ (λ t. Some (p.pid, process_of p (descriptors_at k.table i) (held_at (each_of (memories t)) i) (regs t))) in
+    let processes : by_pid (entry_at k' h') NPROC ≡ by_pid (entry_at k h) NPROC =
+    by_pid-same (entry_at k h) (entry_at k' h') NPROC (λ j. elim (cases_eq j i) [
+      | inl e ↦ ap (entry_at k' h') e ∙ after ∙ sym before ∙ sym (ap (entry_at k h) e)
+      | inr ne ↦ alone-entries k k' h h' i alone j ne
+    ]) in
+    λ t. record {
+      processes = processes t;
+      files = gathered (open_file_at (rest.files t)) OPEN_FILES;
+      pipes = pipes_of (memories t);
+      console = rest.console t;
+      clock = rest.clock t;
+      next_pid = (table t).next;
+      free = free_of (memories t);
+      programs = map named_file (rest.programs t);
+    }
+
+-- ---- ended
+
+pub read-some : {X : Type 0} (xs : List (Option X)) (i : ℕ) (x : X) → get_or xs i None ≡ Some x → get_or xs i (Some x) ≡ Some x
+read-some [] i x e = refl
+read-some (y ∷ ys) zero x e = e
+read-some (y ∷ ys) (suc i) x e = read-some ys i x e
+
+pub cost-held : (o : Option Held) → IsSome o → held_cost o ≡ price (or_nothing o).image + 1
+cost-held None some = absurd (false-true some)
+  where
+    false-true : false ≡ true → ⊥
+    false-true e = cc
+cost-held (Some held) some = refl
+
+module _ {k : Kernel} (k' : Kernel) {h : Hart} (h' : Hart) {i : ℕ} (status : ℤ) (sound : IsSound k h) (is : k.current ≡ Some i) (changes : SlotChanges k.memories k'.memories i None) (table : k'.table ≡ changed_at i (ended status) k.table) (stopped : k'.current ≡ None) where
+  gone-place : place_at k'.table i ≡ Some (ended status (sound.current i is).process)
+  gone-place =
+      let now = sound.current i is in
+      ap (λ (t : Slots). place_at t i) table ∙ get_or-set_same k.table.places i (option_map (ended status) (place_at k.table i)) None (omega (arith, slot-inside k h sound i now.process now.is, sound.table.places)) ∙ ap (option_map (ended status)) now.is
+
+  gone-other : (j : ℕ) → j ≢ i → place_at k'.table j ≡ place_at k.table j
+  gone-other j ne = ap (λ (t : Slots). place_at t j) table ∙ get_or-set_other k.table.places i j (option_map (ended status) (place_at k.table i)) None ne
+
+  gone-here : get_or (each_of k'.memories) i None ≡ None
+  gone-here = ap (λ l. get_or l i None) changes.each ∙ get_or-set_same (each_of k.memories) i None None (now-inside i sound is)
+
+  gone-memory : (j : ℕ) → j ≢ i → get_or (each_of k'.memories) j None ≡ get_or (each_of k.memories) j None
+  gone-memory j ne = ap (λ l. get_or l j None) changes.each ∙ get_or-set_other (each_of k.memories) i j None None ne
+
+  gone-table : IsTable k'.table
+  gone-table =
+      let now = sound.current i is in
+      let p = now.process in
+      let same : record k.table { places = set k.table.places i (Some (ended status p)) } ≡ changed_at i (ended status) k.table = ap (λ o. record k.table { places = set k.table.places i (option_map (ended status) o) }) (sym now.is) in
+      subst IsTable (same ∙ sym table) (table_at k.table i (Some p) p (ended status p) sound.table (slot-inside k h sound i p now.is) (sym (read-some k.table.places i p now.is)) refl refl)
+
+  pub ended-sound : h'.root ≡ None → h'.cache ≡ nothing_kept → IsSound k' h'
+  ended-sound root cache = record {
+    memories = changes.sound;
+    table = gone-table;
+    lives = λ j p at live. elim (cases_eq j i) [
+      | inl e ↦ absurd (over-not p (sym (ap (place_at k'.table) e ∙ gone-place) ∙ at) live)
+      | inr ne ↦ subst (λ o. IsSome o) (sym (gone-memory j ne)) (sound.lives j p (sym (gone-other j ne) ∙ at) live)
+    ];
+    ended = λ j p over at status_is. elim (cases_eq j i) [
+      | inl e ↦ ap (λ n. get_or (each_of k'.memories) n None) e ∙ gone-here
+      | inr ne ↦ gone-memory j ne ∙ sound.ended j p over (sym (gone-other j ne) ∙ at) status_is
+    ];
+    vacant = λ j at. elim (cases_eq j i) [
+      | inl e ↦ absurd (none-some (ended status (sound.current i is).process) (sym at ∙ ap (place_at k'.table) e ∙ gone-place))
+      | inr ne ↦ gone-memory j ne ∙ sound.vacant j (sym (gone-other j ne) ∙ at)
+    ];
+    current = λ j at. absurd (none-some j (sym stopped ∙ at));
+    idle = λ e. (root, cache);
+  }
+    where
+      over-not : (p : Process) → Some (ended status (sound.current i is).process) ≡ Some p → status_of p ≡ None → ⊥
+      over-not p same live = let e : ended status (sound.current i is).process ≡ p = cc in none-some status (sym live ∙ sym (ap status_of e))
+
+  pub ended-state : Rest k k' → state_of k' h' ≡ give_frames (price (live_now k h).image + 1) (end_process (pid_now k) (live_now k h).parent status (state_of k h))
+  unfolding state_of
+  ended-state rest =
+      let now = sound.current i is in
+      let p = now.process in
+      let alone : Alone k k' i = record {
+        places = gone-other;
+        files = λ j ne. ap (λ (t : Slots). descriptors_at t j) table;
+        each = gone-memory;
+        ran = λ j ne. not-this i j k.current is ne;
+        runs = λ j ne. ap (is_this j) stopped;
+      } in
+      let here : entry_at k' h' i ≡ Some (p.pid, Zombie p.parent status) = ap (entry_of k' h' i) gone-place in
+      let slot : i ≡ slot_now k = now-slot i sound is in
+      let place : p ≡ place_now k = ap or_nobody (sym now.is ∙ ap (place_at k.table) slot) in
+      let processes : by_pid (entry_at k' h') NPROC ≡ insert (by_pid (entry_at k h) NPROC) (pid_now k) (Zombie (place_now k).parent status) =
+      slot-state k k' h h' i p (Zombie p.parent status) sound now.is alone here ∙ ap (λ (q : Process). insert (by_pid (entry_at k h) NPROC) q.pid (Zombie q.parent status)) place in
+      let free : free_of k'.memories ≡ free_of k.memories + (price (held_at (each_of k.memories) (slot_now k)).image + 1) =
+      omega (arith, changes.free, cost-held (get_or (each_of k.memories) i None) (now-has i sound is), ap (λ n. price (held_at (each_of k.memories) n).image) slot) in
+      λ t. record {
+        processes = processes t;
+        files = gathered (open_file_at (rest.files t)) OPEN_FILES;
+        pipes = changes.pipes t;
+        console = rest.console t;
+        clock = rest.clock t;
+        next_pid = (table t).next;
+        free = free t;
+        programs = map named_file (rest.programs t);
+      }
+
+-- a live process of the table, as the table tests it
+pub live-place : (k : Kernel) (i : ℕ) (p : Process) → place_at k.table i ≡ Some p → status_of p ≡ None → IsLiveAt k.table i
+live-place k i p is live = subst (λ o. IsTrue (place_is_live o)) (sym is) (by-status (status_of p) live)
+  where
+    by-status : (o : Option ℤ) → o ≡ None → IsTrue (is_none o)
+    by-status None e = refl
+    by-status (Some status) e = absurd (none-some status (sym e))

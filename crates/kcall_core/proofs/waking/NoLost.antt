@@ -1,0 +1,90 @@
+-- No wake-up is lost, and who may run stays so until it runs.
+use Rattle.std.proofs.Common.{◌≡◌, ℕ, Bool, true, false, refl, ap, sym, ◌∙◌, subst, inl, inr, ◌⊎◌, List, [], ◌∷◌}
+use Rattle.std.specs.Prelude.{Option, None, Some, IsSome, ℤ, is_some}
+use Rattle.kcall_core.specs.State.{live}
+use Rattle.kcall_core.specs.View.{View, view}
+use Rattle.kcall_core.specs.Ready.{ready}
+use Rattle.kcall_core.specs.Turns.{Sleeps}
+use Rattle.kcall_core.specs.Run.{World, Event, Run, Tick, Key, Send, Outcome, Turn, Idle, Step_of, Ticked, Typed, Sent, Halted, Happens, RunHappens, TickHappens, KeyHappens, TurnTaken, StepOf}
+use Rattle.kcall_core.specs.Wakes.{NoReadySleeper, NoLostWakeUp, NeverLost, IsPromised, StaysRunnable}
+use Rattle.kcall_core.proofs.rows.Asleep.{own_unready}
+use Rattle.kcall_core.proofs.well.FirstWell.{nobody_sleeps}
+use Rattle.kcall_core.proofs.steps.Kept.{kept, pid_is}
+
+-- q slept before, or it is the process that ran, and could not go on
+abbrev Reason : World → World → ℕ → Type 0
+Reason w t q = Sleeps w.turns q ⊎ ((w.turns.current ≡ Some q) × ((v : View) → view t.state q ≡ Some v → ready v ≡ false))
+
+unchanged : (w t : World) (q : ℕ) → t ≡ w → Sleeps t.turns q → Reason w t q
+unchanged w t q e h = inl (subst (λ (u : World). Sleeps u.turns q) e h)
+
+by_step : (w t : World) (p : ℕ) (o : Outcome) (q : ℕ) → w.turns.current ≡ Some p → StepOf w p o t → Sleeps t.turns q → Reason w t q
+by_step w t p o q current h asleep = elim (h.turns.awake q asleep) [
+  | inl before ↦ inl before
+  | inr fell ↦ inr (
+    current ∙ ap Some (sym fell.0),
+    λ v see.
+        own_unready h.before fell.1.0 v fell.1.1
+        (sym h.state.next ∙ ap (view t.state) (pid_is w.state p (live w.state p) h.before h.was) ∙ ap (view t.state) (sym fell.0) ∙ see),
+  )
+]
+
+by_turn : (w t : World) (o : Outcome) (q : ℕ) → TurnTaken w o t → Sleeps t.turns q → Reason w t q
+by_turn w t (Turn p) q h asleep = inl (subst (λ (u : World). Sleeps u.turns q) h.3 asleep)
+by_turn w t Idle q h asleep = unchanged w t q h asleep
+by_turn w t (Step_of p a) q h asleep = absurd h
+by_turn w t Ticked q h asleep = absurd h
+by_turn w t (Typed echo) q h asleep = absurd h
+by_turn w t (Sent b) q h asleep = absurd h
+by_turn w t Halted q h asleep = absurd h
+
+by_run : (w t : World) (o : Outcome) (halted : Option ℤ) (current : Option ℕ) (q : ℕ) → w.turns.current ≡ current → RunHappens w halted current o t → Sleeps t.turns q → Reason w t q
+by_run w t o (Some status) current q is h asleep = unchanged w t q h.1 asleep
+by_run w t o None (Some p) q is h asleep = by_step w t p o q is h asleep
+by_run w t o None None q is h asleep = by_turn w t o q h asleep
+
+by_tick : (w t : World) (o : Outcome) (halted : Option ℤ) (q : ℕ) → TickHappens w halted o t → Sleeps t.turns q → Reason w t q
+by_tick w t o (Some status) q h asleep = unchanged w t q h.1 asleep
+by_tick w t o None q h asleep = inl (h.2.1 q asleep)
+
+by_key : (w t : World) (o : Outcome) (halted : Option ℤ) (b q : ℕ) → KeyHappens w halted b o t → Sleeps t.turns q → Reason w t q
+by_key w t o (Some status) b q h asleep = unchanged w t q h.1 asleep
+by_key w t o None b q h asleep = inl (h.2.1 q asleep)
+
+who_sleeps : (w t : World) (e : Event) (o : Outcome) (q : ℕ) → Happens w e o t → Sleeps t.turns q → Reason w t q
+who_sleeps w t Run o q h asleep = by_run w t o w.turns.halted w.turns.current q refl h asleep
+who_sleeps w t Tick o q h asleep = by_tick w t o w.turns.halted q h asleep
+who_sleeps w t (Key b) o q h asleep = by_key w t o w.turns.halted b q h asleep
+who_sleeps w t Send o q h asleep = inl (h.2.1 q asleep)
+
+not_ready : (v : View) (b : Bool) → ready v ≡ b → (ready v ≡ true → ⊥) → ready v ≡ false
+not_ready v true e h = absurd (h e)
+not_ready v false e h = e
+
+pub no_lost_wake_up : NoLostWakeUp
+no_lost_wake_up w t e o h due q v asleep see = elim (who_sleeps w t e o q h asleep) [
+  | inl before ↦ not_ready v (ready v) refl (λ yes. (due q v before see).1 (inl yes) asleep)
+  | inr fell ↦ fell.1 v see
+]
+
+pub stays_runnable : StaysRunnable
+stays_runnable w t e o p h runs apart = (alive, λ asleep. elim (who_sleeps w t e o p h asleep) [ inl before ↦ runs.1 before | inr fell ↦ apart fell.0 ])
+  where
+    some_view : (x : Option View) → IsSome x → (v : View) × (x ≡ Some v)
+    some_view None i = let no : ⊥ = cc in absurd no
+    some_view (Some v) i = (v, refl)
+
+    alive : IsSome (view t.state p)
+    alive =
+        let v = some_view (view w.state p) runs.0 in
+        let k = kept p v.0 w t e o h (λ is. apart is.2) v.1 in
+        ap is_some k.is
+
+-- ---- from boot
+
+along : (w t : World) (es : List (Event × Outcome)) → NoReadySleeper w → IsPromised w es t → NoReadySleeper t
+along w t [] none run = subst (λ (u : World). NoReadySleeper u) (sym run) none
+along w t (e ∷ es) none run = along run.0 t es (no_lost_wake_up w run.0 e.0 e.1 run.1.0 run.1.1) run.2
+
+pub never_lost : NeverLost
+never_lost frames trace programs w t es boot run = along w t es (λ p v asleep see. absurd (nobody_sleeps frames trace programs w boot p asleep)) run

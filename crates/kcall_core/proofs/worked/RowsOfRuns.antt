@@ -1,0 +1,138 @@
+-- Worked cases of how a run is cut at a process's steps, and of what a step's answer tells.
+use Rattle.std.proofs.Common.{◌≡◌, zero, suc, ◌^◌, ◌-◌, ◌<◌, List, [], ◌∷◌, ◌++◌, None, Some, inl, inr, refl, arith, ℕ, true, false, Option, ap, ◌∙◌}
+use Rattle.std.specs.Prelude.{pos, negsuc, Contains}
+use Rattle.xk_base.specs.Image.{Image}
+use Rattle.rv64i_core.specs.Registers.{fresh, put}
+use Rattle.file_table.specs.declared.open_file.End.TheVariants.{Writing}
+use Rattle.proc_table.specs.declared.process.Call.{Call}
+use Rattle.kcall_core.specs.Words.{c_int}
+use Rattle.kcall_core.specs.View.{View, Descriptor, Shown, Shown_terminal, Shown_file, Shown_pipe, view}
+use Rattle.kcall_core.specs.Own.{Stepped, Called, Blocked, Exited, goes_on}
+use Rattle.kcall_core.specs.Step.{own}
+use Rattle.kcall_core.specs.Calls.{perform, row_of, row, kill}
+use Rattle.kcall_core.specs.Run.{World, Event, Run, Tick, Key, Outcome, Step_of, Turn, Ticked, Typed, Happens}
+use Rattle.kcall_core.specs.Worlds.{IsStepOf, Moment, IsCut, steps_of, IsBrokenWrite}
+use Rattle.kcall_core.specs.StepLaws.{regs_in_call, waiting_calls}
+use Rattle.kcall_core.proofs.worked.WorkedViews.{call, in_call, ends_of}
+use Rattle.kcall_core.specs.Lines.{◌>>=◌, ◌>>◌, ◌when◌, ◌or◌}
+
+-- ---- which outcomes are those of process 2
+
+outcomes_of_2 : steps_of 2 ((Run, Turn 2) ∷ (Run, Step_of 2 Stepped) ∷ (Run, Step_of 3 (Exited (pos 7))) ∷ (Tick, Ticked) ∷ (Run, Step_of 2 (Blocked (pos 3))) ∷ (Run, Step_of 22 Stepped) ∷ []) ≡ Step_of 2 Stepped ∷ Step_of 2 (Blocked (pos 3)) ∷ []
+outcomes_of_2 = refl
+
+-- ---- a tick, a step of process 2, a key
+
+module _ (w a b t : World) (u n : View) (tick : Happens w Tick Ticked a) (runs : IsStepOf 2 a Run) (before : view a.state 2 ≡ Some u) (step : Happens a Run (Step_of 2 Stepped) b) (after : view b.state 2 ≡ Some n) (key : Happens b (Key 97) (Typed (97 ∷ [])) t) where
+  abbrev moment : Moment
+  moment = record { before = u; outcome = Step_of 2 Stepped; after = Some n }
+
+  other_event : (v : World) (e : Event) → (e ≡ Run → ⊥) → ¬ IsStepOf 2 v e
+  other_event v e apart is = apart is.0
+
+  cut : IsCut 2 w ((Tick, Ticked) ∷ (Run, Step_of 2 Stepped) ∷ (Key 97, Typed (97 ∷ [])) ∷ []) t (moment ∷ [])
+  cut = (
+    a,
+    b,
+    (Tick, Ticked) ∷ [],
+    (Key 97, Typed (97 ∷ [])) ∷ [],
+    refl,
+    (a, tick, other_event w Tick (λ e. let no : ⊥ = cc in no), refl),
+    before,
+    runs,
+    step,
+    after,
+    inl refl,
+    (t, key, other_event b (Key 97) (λ e. let no : ⊥ = cc in no), refl),
+  )
+
+  -- a step of process 2 isn't passed over
+  not_passed_over : IsCut 2 a ((Run, Step_of 2 Stepped) ∷ []) b [] → ⊥
+  not_passed_over is = is.2 runs
+
+  -- nor is there one where nothing happens
+  not_made_up : IsCut 2 w [] w (moment ∷ []) → ⊥
+  not_made_up is = by is.2 is.4
+    where
+      by : (es : List (Event × Outcome)) → [] ≡ es ++ (Run, Step_of 2 Stepped) ∷ is.3 → ⊥
+      by [] e = cc
+      by (x ∷ es) e = cc
+
+  -- and none behind the step with which it is gone
+  none_behind_its_end : (es : List (Event × Outcome)) → IsCut 2 w es t (record { before = u; outcome = Step_of 2 (Exited (pos 0)); after = None } ∷ moment ∷ []) → ⊥
+  none_behind_its_end es is = elim is.10 [ inl lives ↦ let no : ⊥ = cc in no | inr over ↦ let no : ⊥ = cc in no ]
+
+-- ---- a call that is refused changes a0, and the pc where it is begun
+
+module _ (image : Image) where
+  -- an ECALL at 40 asks for the call, or it is in progress
+  regs_begun : regs_in_call (record (in_call image (call 6 99 0 0)) { regs = fresh 40; call = None }) None ≡ fresh 44
+  unfolding in_call
+  regs_begun = refl
+
+  regs_going_on : regs_in_call (record (in_call image (call 6 99 0 0)) { regs = fresh 40 }) (Some (call 6 99 0 0)) ≡ fresh 40
+  unfolding in_call
+  regs_going_on = refl
+
+  -- kill of a pid that is not in use
+  kill_refused : own (in_call image (call 6 99 0 0)) ≡ goes_on (Called (pos 6) (negsuc 0)) (record (in_call image (call 6 99 0 0)) { regs = put (fresh 0) 10 (2 ^ 64 - 1); call = None })
+  unfolding own in_call perform row row_of kill ◌>>=◌ ◌>>◌ ◌when◌ ◌or◌
+  kill_refused = refl
+
+-- ---- the calls that may wait: pipe (4) and sbrk (12) may not
+
+may_wait_13 : Contains waiting_calls (pos 13)
+may_wait_13 = (2, omega arith, refl)
+
+never_4 : Contains waiting_calls (pos 4) → ⊥
+never_4 (zero, below, is) = let no : ⊥ = cc in no
+never_4 (suc zero, below, is) = let no : ⊥ = cc in no
+never_4 (suc (suc zero), below, is) = let no : ⊥ = cc in no
+never_4 (suc (suc (suc zero)), below, is) = let no : ⊥ = cc in no
+never_4 (suc (suc (suc (suc k))), below, is) = let far : suc (suc (suc (suc k))) < 4 = below in omega (arith, far)
+
+never_12 : Contains waiting_calls (pos 12) → ⊥
+never_12 (zero, below, is) = let no : ⊥ = cc in no
+never_12 (suc zero, below, is) = let no : ⊥ = cc in no
+never_12 (suc (suc zero), below, is) = let no : ⊥ = cc in no
+never_12 (suc (suc (suc zero)), below, is) = let no : ⊥ = cc in no
+never_12 (suc (suc (suc (suc k))), below, is) = let far : suc (suc (suc (suc k))) < 4 = below in omega (arith, far)
+
+-- ---- a write of 513 bytes that has moved 512: broken where its pipe has no reader any more, and not where it has one; nor is a read
+
+abbrev readers_shown : Shown → ℕ
+readers_shown Shown_terminal = 0
+readers_shown (Shown_file program offset) = 0
+readers_shown (Shown_pipe name end pipe) = pipe.readers
+
+abbrev readers_at : Option Descriptor → ℕ
+readers_at None = 0
+readers_at (Some d) = readers_shown d.shown
+
+module _ (image : Image) where
+  abbrev moved_512 : ℕ → Call
+  moved_512 number = record (call number 1 8192 513) { moved = 512 }
+
+  abbrev with_readers : ℕ → ℕ → View
+  with_readers number readers = record (in_call image (moved_512 number)) { descriptors = ends_of (record { bytes = []; readers = readers; writers = 1 }) }
+
+  broken : IsBrokenWrite (with_readers 16 0)
+  unfolding in_call
+  broken = (moved_512 16, 1, record { file = 1; read = false; write = true; shown = Shown_pipe 0 Writing (record { bytes = []; readers = 0; writers = 1 }) }, 0, Writing, record { bytes = []; readers = 0; writers = 1 }, refl, refl, refl, refl, refl, refl)
+
+  one_call : (a b : Call) → Some a ≡ Some b → a ≡ b
+  one_call a b e = cc
+
+  same_number : (a b : ℕ) → pos a ≡ pos b → a ≡ b
+  same_number a b e = cc
+
+  not_with_a_reader : IsBrokenWrite (with_readers 16 1) → ⊥
+  unfolding in_call
+  not_with_a_reader (c, d, x, name, end, pipe, busy, number, at, on, shown, none) =
+      let descriptor : 1 ≡ d = same_number 1 d (ap (λ (c : Call). c_int c.a0) (one_call (moved_512 16) c busy) ∙ at) in
+      let readers : ◌≡◌ {A = ℕ} 1 0 = ap (λ (k : ℕ). readers_at (ends_of (record { bytes = []; readers = 1; writers = 1 }) k)) descriptor ∙ ap readers_at on ∙ ap readers_shown shown ∙ none in
+      let no : ⊥ = cc in no
+
+  not_a_read : IsBrokenWrite (with_readers 5 0) → ⊥
+  unfolding in_call
+  not_a_read (c, d, x, name, end, pipe, busy, number, at, on, shown, none) = let same : pos 5 ≡ pos 16 = ap (λ (c : Call). c.number) (one_call (moved_512 5) c busy) ∙ number in let no : ⊥ = cc in no
