@@ -42,7 +42,7 @@ fn free_place(places: &[Option<Entry>]) -> Option<usize>
 }
 
 impl Files {
-    ghost use Rattle.file_table.specs.OpenFiles.{IsTable, IsOpen, none_open, open_count, lowest_place, with_opened, console_file, program_file, pipe_file, file_at, count_at, offset_of, with_sharer, with_offset, without_sharer, entry_at, is_last};
+    ghost use Rattle.file_table.specs.OpenFiles.{IsTable, IsOpen, none_open, open_count, lowest_place, with_opened, console_file, program_file, pipe_file, open_file_at, count_at, offset_of, with_sharer, with_offset, without_sharer, entry_at, is_last};
 
     /// A table without an open file.
     ///
@@ -121,7 +121,7 @@ impl Files {
     /// What the open file stands for, and what may be done with it.
     pub fn kind(&self, file: FileId) -> OpenFile
         requires { IsOpen self.now file }
-        ensures { file_at self.now file ≡ Some result }
+        ensures { open_file_at self.now file ≡ Some result }
     {
         self.entry(file).file
     }
@@ -129,7 +129,7 @@ impl Files {
     /// The offset of the next byte; 0 where the open file is no program's.
     pub fn offset(&self, file: FileId) -> u64
         requires { IsOpen self.now file }
-        ensures { option_map offset_of (file_at self.now file) ≡ Some result }
+        ensures { option_map offset_of (open_file_at self.now file) ≡ Some result }
     {
         self.entry(file).file.offset()
     }
