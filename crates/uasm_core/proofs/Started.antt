@@ -1,9 +1,9 @@
 -- A file that loads as a program becomes that program in memory, with each list of texts that fits.
-use Rattle.std.proofs.Common.{◌≡◌, ◌≢◌, ℕ, zero, suc, ◌+◌, ◌-◌, ◌*◌, ◌/◌, ◌%◌, ◌<◌, ◌≤◌, Bool, true, false, cond, List, [], ◌∷◌, ◌++◌, length, map, Option, Some, None, Result, Ok, Err, inl, inr, refl, sym, ap, ◌∙◌, subst, arith}
+use Rattle.std.proofs.Common.{◌≡◌, ◌≢◌, ℕ, zero, suc, ◌+◌, ◌-◌, ◌*◌, ◌/◌, ◌%◌, ◌<◌, ◌≤◌, Bool, true, cond, List, [], ◌∷◌, ◌++◌, length, map, Option, Some, None, Result, Ok, Err, inl, inr, refl, sym, ap, ◌∙◌, subst, arith}
 use Rattle.std.specs.Prelude.{◌==◌, ◌&&◌, nat_lt, nat_le, if◌then◌else◌, slice_index, option_map}
 use Rattle.std.specs.List.{range_with_len}
 use Rattle.std.specs.Ordering.{nat_cmp}
-use Rattle.std.specs.FinMap.{FinMap, insert, get, get-insert}
+use Rattle.std.specs.FinMap.{FinMap, get, get-insert}
 use Rattle.std.specs.Cmp.{nat_cmp_total, unsigned_tied}
 use Rattle.std.proofs.lemmas.Bool.{cases_eq, eq-eqb, ne_eqb, lt-ltb, le-ltb, le-leb, lt-leb}
 use Rattle.xk_base.specs.declared.access.Rights.{Rights}
@@ -11,13 +11,13 @@ use Rattle.xk_base.specs.declared.errors.ExecError.{ExecError}
 use Rattle.xk_base.specs.declared.errors.ExecError.TheVariants.{ArgsTooLong}
 use Rattle.xk_base.specs.declared.program.Header.{Header}
 use Rattle.xk_base.specs.declared.program.Segment.{Segment}
-use Rattle.xk_base.specs.ProgramFile.{page_up, header_of, segments_of}
+use Rattle.xk_base.specs.ProgramFile.{page_up, segments_of}
 use Rattle.xk_base.specs.Gathered.{gathered, insert_some}
-use Rattle.xk_base.specs.Image.{Page, Image, page_count}
+use Rattle.xk_base.specs.Image.{Page, page_count}
 use Rattle.xk_base.specs.Bytes.{byte_in, image_byte}
 use Rattle.xk_base.specs.Loaded.{over, zeros, addresses, page_by, end_after, perm_at, file_bytes, segments_over, down, text_places, lowest, stack_pointer, pointers, texts_over, stack_over, guard, stack, page_perm, program_image, Loaded, aligned, with_texts, loaded, ◌>>=◌}
 use Rattle.uasm_core.specs.Written.{Program}
-use Rattle.uasm_core.specs.Meaning.{Stretch, stretch_of, text_rights, data_rights, Puts, AllPut, LoadsAs, Assembles, guard_at, stack_of, TextsFit, Holds, Becomes, Starts}
+use Rattle.uasm_core.specs.Meaning.{Stretch, stretch_of, text_rights, data_rights, AllPut, LoadsAs, Assembles, guard_at, stack_of, TextsFit, Holds, Becomes, Starts}
 
 -- ---- lists by address
 

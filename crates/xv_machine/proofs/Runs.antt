@@ -1,5 +1,5 @@
 -- What a run of the machine leaves: whether it is halted, and what is promised of it.
-use Rattle.std.proofs.Common.{◌≡◌, ◌≢◌, ℕ, Bool, true, false, cond, length, Option, Some, None, inl, inr, refl, sym, ap, ◌∙◌, subst, nat_eq}
+use Rattle.std.proofs.Common.{◌≡◌, ◌≢◌, ℕ, true, false, cond, length, Option, Some, None, inl, inr, refl, sym, ap, ◌∙◌, subst, nat_eq}
 use Rattle.std.specs.Prelude.{ℤ, IsSome, is_some, option_map}
 use Rattle.std.proofs.lemmas.Bool.Decides.{eqb_tells}
 use Rattle.hart_core.specs.declared.hart.Hart.{Hart}
@@ -21,7 +21,6 @@ use Rattle.kcall_core.proofs.runs.Promises.{turn-promised, idle-promised, halted
 use Rattle.kcall_core.proofs.table.States.{none-some}
 use Rattle.kcall_core.proofs.turns.Turned.{live-is}
 use Rattle.xv_machine.specs.declared.event.Outcome.{Outcome}
-use Rattle.xv_machine.specs.declared.event.Outcome.TheVariants as outcomes
 use Rattle.xv_machine.specs.Events.{outcome_of, halted_by}
 use Rattle.xv_machine.specs.Machine.{meaning_of, frames_in}
 use Rattle.xv_machine.specs.Meaning.{Meaning}

@@ -11,7 +11,7 @@ use Rattle.kcall_core.specs.Instruction.{next_instruction}
 use Rattle.kcall_core.specs.Words.{A7, c_int, minus_one}
 use Rattle.kcall_core.specs.View.{View, view_of}
 use Rattle.kcall_core.specs.Own.{Own, Stepped, Exited, Faulted, gone_with}
-use Rattle.kcall_core.specs.Calls.{refused, row_of, gone}
+use Rattle.kcall_core.specs.Calls.{refused, gone}
 use Rattle.kcall_core.specs.Step.{own, call_in, call_or_begun}
 use Rattle.kcall_core.specs.Built.{is_built, is_ecall, in_progress, is_unbuilt, own_so_far}
 use Rattle.kcall_core.specs.RowLaws as laws

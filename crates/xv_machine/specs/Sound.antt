@@ -1,5 +1,5 @@
 -- What is true of a machine after boot and after each event. Each frame of RAM is free, or has exactly one owner, who has it for one thing.
-use Rattle.std.specs.Prelude.{◌≡◌, ℕ, ℤ, ◌+◌, ◌*◌, ◌^◌, ◌<◌, ◌≤◌, Bool, List, [], ◌∷◌, ◌++◌, length, Option, Some, None, IsSome, is_some}
+use Rattle.std.specs.Prelude.{◌≡◌, ℕ, ℤ, ◌+◌, ◌*◌, ◌^◌, ◌<◌, ◌≤◌, List, [], ◌∷◌, ◌++◌, length, Option, Some, None, IsSome, is_some}
 use Rattle.std.specs.FinMap.{get, len, values}
 use Rattle.xk_base.specs.Frames.{copies}
 use Rattle.xk_base.specs.Image.{Image, some_below, price}

@@ -1,4 +1,4 @@
-use Rattle.std.proofs.Common.{ap, sym, refl, ◌∙◌, None}
+use Rattle.std.proofs.Common.{ap, sym, ◌∙◌, None}
 use Rattle.kcall_core.specs.State.{State}
 use Rattle.kcall_core.specs.Run as runs
 use Rattle.xv_machine.proofs.Frames.{sound-of}
