@@ -1,12 +1,13 @@
 //! Address spaces: the memory of a process, as Sv39 page tables in RAM
 //! (RISC-V Privileged ISA, "Sv39: Page-Based 39-bit Virtual-Memory System").
 //!
-//! A [`Space`] is the root of a tree of tables, a size and two counts; all else stands in RAM. Contracts
-//! see, in this crate's `specs/`, the image that it stands for (a finite map from page numbers to rights
-//! and bytes, and the size), and the frames that it owns. A space owns exactly as many frames as its
-//! image's `price`: the root, each table that leads to a page, and the pages. A call that takes frames
-//! refuses exactly where the price would rise by more than the free frames, and then changes nothing.
-//! Each call moves frames between the free ones and its own space alone, and leaves all others' bytes.
+//! A [`Space`] is the root of a tree of tables, a size, two counts and a number behind its last page; all
+//! else stands in RAM. Contracts see, in this crate's `specs/`, the image that it stands for (a finite
+//! map from page numbers to rights and bytes, and the size), and the frames that it owns. A space owns
+//! exactly as many frames as its image's `price`: the root, each table that leads to a page, and the
+//! pages. A call that takes frames refuses exactly where the price would rise by more than the free
+//! frames, and then changes nothing. Each call moves frames between the free ones and its own space
+//! alone, and leaves all others' bytes.
 #![tactic(auto)]
 
 ghost use Rattle.std.specs.Prelude.{◌≡◌, ◌≢◌, ℕ, ◌+◌, ◌*◌, ◌/◌, ◌%◌, ◌^◌, ◌<◌, ◌≤◌, length, Some, None, true, IfOk, IfErr, IfSome, IfNone, List, [], ◌-◌, option_map, false, take, drop, min};
@@ -332,8 +333,9 @@ fn lower_table(ram: &Ram, root: Frame, v: usize) -> Option<Frame>
 }
 
 /// Whether an entry of a table leads to a page. It looks at the entry behind `from`, and then from `from`
-/// down: where pages are freed in order, the next one is found at once, or else the one before the first.
-/// Where `none_left` is true, no entry does, and it looks at none.
+/// down. Where pages are freed in order, the first look finds the next page to be freed, or, if that was
+/// the last one, a later look finds a page that stays. `none_left` says that there is none; then it looks
+/// at no entry.
 fn has_page(ram: &Ram, table: Frame, from: usize, none_left: bool) -> bool
     requires table_in { table < length ram.now }
     requires from_in { from < 512 }
@@ -482,7 +484,7 @@ fn next_page(ram: &Ram, root: Frame, from: usize) -> Option<usize>
     None
 }
 
-/// The least page from a place on, which is looked for only where `none_left` is false.
+/// The least page from a number on. `none_left` says that there is none; then no table is read.
 fn page_left(ram: &Ram, root: Frame, from: usize, none_left: bool) -> Option<usize>
     requires root_in { root < length ram.now }
     requires from_in { from ≤ 2 ^ 26 }

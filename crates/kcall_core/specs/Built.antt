@@ -1,4 +1,4 @@
--- Which calls this kernel makes: all but those on the terminal, which isn't built yet. These are refused.
+-- Which calls this kernel makes: all but open, read and write on the terminal, which isn't built yet. These are refused.
 use Rattle.std.specs.Prelude.{ℕ, ℤ, pos, negsuc, Bool, true, false, if◌then◌else◌, not, ◌&&◌, ◌||◌, List, Option, None, Some, is_some, bytes_eq}
 use Rattle.xk_base.specs.declared.limits.TheConstants.{MAXPATH}
 use Rattle.rv64i_core.specs.Step.{Step, Next, Ecall, Fault}

@@ -106,7 +106,7 @@ module _ (c : Call) where
 
     unfoldable pub wait : Own
     wait = do
-      refused when not (c.a0 == 0) && not (writable v.image c.a0 4)
+      refused when not (c.a0 == 0) && not (writable v.image c.a0 4)  -- a byte of the buffer isn't there
       refused when not (has_child v)  -- no child
       zombie ← least_zombie v or waits 0 v  -- by pid
       let status = le_bytes 4 (cast_unsigned w32 (child_status (v.children zombie)))
@@ -120,7 +120,7 @@ module _ (c : Call) where
 
     unfoldable pub make_pipe : Own
     make_pipe = do
-      refused when not (writable v.image c.a0 8)
+      refused when not (writable v.image c.a0 8)  -- a byte of the buffer isn't there
       r ← lowest_free v.descriptors or refused
       w ← lowest_free_above v.descriptors r or refused  -- fewer than 2 free descriptors
       refused when v.free == 0  -- no free frame
@@ -141,7 +141,7 @@ module _ (c : Call) where
       refused when not d.read  -- its mode forbids it
       n ← natural (c_int c.a2) or refused  -- n below 0
       done (pos 0) v when n == 0
-      refused when not (writable v.image c.a1 n)
+      refused when not (writable v.image c.a1 n)  -- a byte of the buffer isn't there
       elim d.shown [
         | Shown_file program offset ↦ do
           let bytes = take n (drop offset (program_bytes (slice_get v.programs program)))
@@ -238,7 +238,7 @@ module _ (c : Call) where
       refused when not d.write  -- its mode forbids it
       n ← natural (c_int c.a2) or refused  -- n below 0
       done (pos 0) v when n == 0
-      refused when not (readable v.image c.a1 n)
+      refused when not (readable v.image c.a1 n)  -- a byte of the buffer isn't there
       elim d.shown [
         | Shown_file program offset ↦ refused
         | Shown_pipe name end pipe ↦ do

@@ -8,7 +8,7 @@ abbrev pub key_events : List ℕ → List Event
 key_events [] = []
 key_events (b ∷ bs) = Key b ∷ []
 
--- a key, if one is left; then turns of work; then a tick, and room for what is to be sent
+-- a key, if one is left; then `quantum` times Run; one Tick; and as many Sends as bytes may wait to be sent
 abbrev pub round : (quantum : ℕ) → (keys : List ℕ) → List Event
 round quantum keys = key_events keys ++ replicate quantum Run ++ Tick ∷ replicate SEND_BYTES Send
 

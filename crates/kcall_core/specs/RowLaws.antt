@@ -1,4 +1,5 @@
--- What each step does to the state: for each kind of step and each row of the call table, which update of the state before is the state after.
+-- What each step does to the state: for each kind of step, and each row that does more than change its process, the console and the free frames, which
+-- update of the state before is the state after.
 -- So a kernel's code is right where it makes these updates; it needs no view.
 use Rattle.std.specs.Prelude.{◌≡◌, ◌≢◌, ℕ, ◌+◌, ◌-◌, ◌++◌, ℤ, pos, Bool, false, true, if◌then◌else◌, List, length, take, Option, None, Some, IsSome, nat_eq, nat_le, not, ◌&&◌, ◌<◌, ◌≤◌, drop, slice_get, ◌==◌}
 use Rattle.std.specs.FinMap.{FinMap, get, insert, remove, keys}

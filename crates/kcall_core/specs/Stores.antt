@@ -1,4 +1,4 @@
--- Which bytes of its process's memory a step stores: an instruction those of its store, a call those that it puts into its buffer.
+-- Which bytes of its process's memory a step stores: an instruction those of its store, a call those that it puts into its buffer. (An exec that succeeds makes another image, and isn't told here.)
 use Rattle.std.specs.Prelude.{ℕ, ◌+◌, ◌-◌, ◌<◌, ◌≤◌, if◌then◌else◌, length, nat_eq, Option, None, Some, pos}
 use Rattle.rv64i_core.specs.Step.{Step, Next, Ecall, Fault}
 use Rattle.proc_table.specs.declared.process.Call.{Call}

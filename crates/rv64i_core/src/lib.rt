@@ -3,6 +3,8 @@
 //! The base set alone, as the RISC-V Unprivileged ISA has it (chapters "RV32I Base Integer Instruction Set"
 //! and "RV64I Base Integer Instruction Set"). [`decode`] and [`encode`] go between words and [`Instr`],
 //! [`execute`] makes one instruction over a [`UserMemory`], and [`FlatMemory`] is the plainest of those.
+//! [`execute_cached`] does the same and keeps what words do in a [`DecodeCache`]: an operation of a flat list
+//! with its registers and its immediate (`Actions`), and what is done for it (`Acts`).
 //! What an instruction means is written in `specs/`: the fields of a word in `Layout`, the table of
 //! instructions in `Table`, memory in `Memory`, registers in `Registers`, and the function `instr` in `Step`.
 #![tactic(auto)]

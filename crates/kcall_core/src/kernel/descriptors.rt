@@ -1,4 +1,4 @@
-//! Calls on descriptors (xv6's `sysfile.c`; the xv6 book, "I/O and file descriptors").
+//! Calls on descriptors (xv6's `sysfile.c`; the xv6 book, "I/O and File descriptors").
 ghost use Rattle.std.specs.Prelude.{◌≡◌, ℕ, ◌<◌, ◌&&◌, IsSome, IfSome, IfNone, None, is_none, nat_lt, pos};
 ghost use Rattle.xk_base.specs.declared.limits.TheConstants.{NPROC, NOFILE};
 ghost use Rattle.xk_base.specs.Words.{least_below};

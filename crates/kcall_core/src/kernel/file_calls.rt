@@ -1,5 +1,5 @@
 //! Calls that open files, and that move bytes between a process and its open files (xv6's `sysfile.c` and
-//! `file.c`; the xv6 book, "I/O and file descriptors").
+//! `file.c`; the xv6 book, "I/O and File descriptors").
 ghost use Rattle.std.specs.Prelude.{◌≡◌, ◌≢◌, ◌<◌, ℕ, Some, IfSome, IfNone, pos, true, false, take, drop, map, slice_get, length, ◌+◌};
 ghost use Rattle.hart_core.specs.declared.hart.Hart.{Hart};
 ghost use Rattle.file_table.specs.declared.open_file.Target.TheVariants as on;
@@ -27,7 +27,7 @@ use proc_table::Call;
 use xk_base::Program;
 use xk_base::limits::MAXPATH;
 
-/// How many bytes are asked for, where they aren't fewer than none.
+/// How many bytes are asked for; `None` where the number is below 0.
 fn byte_count(asked: i32) -> Option<usize>
     ensures some { IfSome result (λ n. (asked ≡ pos n) × (n < 2147483648)) }
     ensures none { IfNone result ((n : ℕ) → asked ≢ pos n) }
@@ -147,7 +147,9 @@ impl Kernel {
         }
     }
 
-    /// One step of the call write.
+    /// One step of the call write, on an open file that isn't the terminal. The tests come in the row's
+    /// order: the descriptor, its mode, the number of bytes, and the buffer, where there are bytes to
+    /// move.
     fn write(&mut self, hart: &mut Hart, call: &Call) -> CallEnd
         requires whole { IsWhole self.old hart.old }
         requires running { IsRunning self.old }
@@ -243,7 +245,9 @@ impl Kernel {
         }
     }
 
-    /// One step of the call read.
+    /// One step of the call read, on an open file that isn't the terminal. The tests come in the row's
+    /// order: the descriptor, its mode, the number of bytes, and the buffer, where there are bytes to
+    /// move.
     fn read(&mut self, hart: &mut Hart, call: &Call) -> CallEnd
         requires whole { IsWhole self.old hart.old }
         requires running { IsRunning self.old }

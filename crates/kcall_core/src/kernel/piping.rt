@@ -102,7 +102,7 @@ impl Kernel {
         self.done(hart, count as i64)
     }
 
-    /// Those wake who wait for bytes in a pipe, where so many came and these aren't none.
+    /// `count` bytes came into a pipe: unless that is none, those wake who wait for bytes there.
     fn wake_readers(&mut self, frame: Frame, count: usize)
         ensures sound { (hart : Hart) → IsSound self.old hart → IsSound self.new hart }
         ensures table { self.new.table ≡ each_changed (woken_by (wakes_readers frame count)) self.old.table }
@@ -115,7 +115,7 @@ impl Kernel {
     }
 
     /// One step of a write to a pipe: as many bytes as fit go in. It is done when all `n` are in, it waits
-    /// for room until then, and it fails where nobody can read any more.
+    /// for room until then, and it is refused where nobody can read any more.
     pub(crate) fn write_pipe(
         &mut self,
         hart: &mut Hart,

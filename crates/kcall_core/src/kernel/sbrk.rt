@@ -41,8 +41,9 @@ fn data_rights() -> Perm
 }
 
 impl Kernel {
-    /// The image of the process that runs becomes greater, by pages of zeros, or smaller. Whether it does:
-    /// not where the greater image costs more than the one that is there and the free frames.
+    /// The image of the process that runs becomes greater, by pages of zeros, or smaller. The answer is
+    /// whether it did. It didn't where the greater image costs more than the one that is there and the
+    /// free frames; then nothing is changed.
     fn resize(&mut self, hart: &mut Hart, size: u64) -> bool
         requires sound { IsSound self.old hart.old }
         requires running { IsRunning self.old }

@@ -1,4 +1,5 @@
-//! Open files get one descriptor more (the xv6 book, "I/O and file descriptors" and "Code: Pipes").
+//! Descriptors come to name open files: those that are there, which count one more, and new ones (the
+//! xv6 book, "I/O and File descriptors" and "Code: Pipes").
 ghost use Rattle.std.specs.Prelude.{◌≡◌, ◌<◌, IsSome, Some, None, set};
 ghost use Rattle.xk_base.specs.declared.limits.TheConstants.{NPROC, OPEN_FILES};
 ghost use Rattle.hart_core.specs.declared.hart.Hart.{Hart};

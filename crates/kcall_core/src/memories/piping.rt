@@ -83,7 +83,7 @@ impl Memories {
     }
 
     /// One descriptor fewer is on an end of a pipe, whose frame is given back with the last descriptor of
-    /// both ends. Whether none is left on that end.
+    /// both ends. The answer is whether none is left on that end.
     pub fn leave(&mut self, frame: Frame, end: End) -> bool
         requires sound { AreSound self.old }
         requires there { IsSome (get (pipes_of self.old) frame) }

@@ -154,7 +154,7 @@ fn a_reader_that_is_killed_leaves_the_pipe(rt: HostRuntime) -> Result<(), Fail> 
 
 #[test]
 fn descriptors_stay_over_an_exec(rt: HostRuntime) -> Result<(), Fail> {
-    // `init` makes a pipe and asks for `b`, which closes both ends, and the second one once more.
+    // `init` makes a pipe and goes on as `b`, which closes descriptors 0 and 1, and 1 once more.
     let exec = "addi a0, sp, -16\naddi a1, sp, 8\nli a7, 7\necall\n";
     let close = "li a7, 21\nli a0, 0\necall\nli a0, 1\necall\nli a0, 1\necall\n";
     let init = joined(rt.alloc(), &[PIPE, NAME, exec])?;
@@ -171,7 +171,8 @@ fn descriptors_stay_over_an_exec(rt: HostRuntime) -> Result<(), Fail> {
 
 #[test]
 fn a_refused_pipe_leaves_nothing(rt: HostRuntime) -> Result<(), Fail> {
-    // Its numbers would stand in the text; then 8 bytes don't fit into the stack page; then in the last 8.
+    // Its numbers would stand in the text; then its 8 bytes don't fit into the stack page; the third pipe's
+    // numbers fill the page's last 8 bytes.
     let refused = "li a0, 0\nli a7, 4\necall\nlui a0, 3\naddi a0, a0, -4\necall\n";
     let made = "lui a0, 3\naddi a0, a0, -8\necall\n";
     let mut scene = scene_of(rt.alloc(), &[refused, made, EXIT])?;
