@@ -1,6 +1,7 @@
 //! What a run prints, and how it ends early.
 mod calls;
 mod files;
+mod isolation;
 mod kills;
 mod pipes;
 mod processes;

@@ -274,6 +274,11 @@ impl Scene {
         Some(self.machine.registers(process(pid))?.read(reg))
     }
 
+    /// Tells whether a process has the same registers and pc here as in another machine.
+    pub(super) fn same_registers(&self, other: &Scene, pid: u32) -> bool {
+        self.machine.registers(process(pid)) == other.machine.registers(process(pid))
+    }
+
     pub(super) fn sp(&self) -> Option<u64> {
         self.register(Reg::new(2))
     }
