@@ -171,7 +171,7 @@ fn both_of_two_writers_wake_when_there_is_room(rt: HostRuntime) -> Result<(), Fa
 }
 
 #[test]
-fn room_for_both_of_two_writers_is_enough(rt: HostRuntime) -> Result<(), Fail> {
+fn two_writers_share_the_room_of_two_bytes(rt: HostRuntime) -> Result<(), Fail> {
     // Process 2 writes 513 bytes, of which a and b are the first and y is the last; process 3 writes z.
     // Process 1 reads 2 bytes, and later 600.
     let forks = "li a7, 1\necall\nbeq a0, x0, long\necall\nbeq a0, x0, child\n";
@@ -311,10 +311,19 @@ fn eight_pipes_take_all_descriptors(rt: HostRuntime) -> Result<(), Fail> {
     let init = joined(rt.alloc(), &["again:\n", PIPE, again, EXIT])?;
     let mut scene = Scene::of_both(rt.alloc(), 32, init, Vec::new(rt.alloc()))?;
     scene.calls(&rt, "turn 1")?;
-    for pipe in 0..8u8 {
+    for (read, write, free) in [
+        (0, 1, 24),
+        (2, 3, 23),
+        (4, 5, 22),
+        (6, 7, 21),
+        (8, 9, 20),
+        (10, 11, 19),
+        (12, 13, 18),
+        (14, 15, 17),
+    ] {
         scene.calls(&rt, "call 1 4 0")?;
-        assert_eq!(rt; scene.free_frames(), 24 - u32::from(pipe));
-        scene.peek_from(&rt, 0x2FD0, &[2 * pipe, 0, 0, 0, 2 * pipe + 1, 0, 0, 0]);
+        assert_eq!(rt; scene.free_frames(), free);
+        scene.peek_from(&rt, 0x2FD0, &[read, 0, 0, 0, write, 0, 0, 0]);
     }
     scene.calls(&rt, "call 1 4 -1")?;
     assert_eq!(rt; scene.free_frames(), 17);
@@ -384,7 +393,7 @@ fn opens_that_are_refused(rt: HostRuntime) -> Result<(), Fail> {
     Ok(())
 }
 
-// Process 1 makes this call so many times, and the answers are 0, 1, 2 and so on.
+// Process 1 makes this call once for each of these answers, which come in turn.
 fn count_up<R: Abort + AllocGlobal>(
     rt: &R,
     scene: &mut Scene,
