@@ -1,5 +1,6 @@
-//! The copies and the clears of a fork alone: so many frames are cleared and filled with others' bytes,
-//! and the frames of the tables and the trapframe are cleared.
+//! With the word `fork` the copies and the clears of a fork alone: so many frames are cleared and filled with
+//! others' bytes, and the frames of the tables and the trapframe are cleared. With `pipe` the copies alone of
+//! a megabyte that goes through a pipe, 512 bytes at a time.
 use std::env;
 use std::hint::black_box;
 use std::time::Instant;
@@ -39,12 +40,73 @@ fn least_time_of(pages: usize, forks: u32) -> u128 {
     least
 }
 
-fn main() {
-    if env::args().nth(1).as_deref() != Some("fork") {
-        return;
+/// Where the bytes of a pipe begin in its frame, and how many they are.
+const RING: usize = 32;
+const PIPE_BYTES: usize = 512;
+
+/// A write and a read of 512 bytes, so often: from a page into the pipe's frame, and from there to a page.
+#[inline(never)]
+fn by_two_copies(frames: &mut [[u8; 4096]; 3], rounds: u32) {
+    let [from, pipe, to] = frames;
+    for _ in 0..rounds {
+        pipe[RING..RING + PIPE_BYTES].copy_from_slice(&from[..PIPE_BYTES]);
+        black_box(&mut *pipe);
+        to[..PIPE_BYTES].copy_from_slice(&pipe[RING..RING + PIPE_BYTES]);
+        black_box(&mut *to);
     }
+}
+
+/// The same by a buffer of zeros on each of both ways.
+#[inline(never)]
+fn by_four_copies(frames: &mut [[u8; 4096]; 3], rounds: u32) {
+    let [from, pipe, to] = frames;
+    for _ in 0..rounds {
+        let mut buffer = [0; PIPE_BYTES];
+        black_box(&mut buffer);
+        buffer.copy_from_slice(&from[..PIPE_BYTES]);
+        black_box(&mut buffer);
+        pipe[RING..RING + PIPE_BYTES].copy_from_slice(&buffer);
+        black_box(&mut *pipe);
+        let mut buffer = [0; PIPE_BYTES];
+        black_box(&mut buffer);
+        buffer.copy_from_slice(&pipe[RING..RING + PIPE_BYTES]);
+        black_box(&mut buffer);
+        to[..PIPE_BYTES].copy_from_slice(&buffer);
+        black_box(&mut *to);
+    }
+}
+
+/// The least nanoseconds of 25 times, for 1 MB each.
+fn least_megabyte(copy: fn(&mut [[u8; 4096]; 3], u32)) -> u128 {
+    let mut frames = [[1u8; 4096]; 3];
+    copy(&mut frames, 2048);
+    let mut least = u128::MAX;
+    for _ in 0..25 {
+        let start = Instant::now();
+        copy(&mut frames, 2048);
+        least = least.min(start.elapsed().as_nanos());
+    }
+    least
+}
+
+fn print_forks() {
     for (pages, forks) in [(4, 200), (64, 50), (512, 10)] {
         let nanos = least_time_of(pages, forks);
         println!("copies and clears of {pages} pages: {nanos} ns");
+    }
+}
+
+fn print_pipes() {
+    let nanos = least_megabyte(by_two_copies);
+    println!("1 MB into a frame and out of it: {nanos} ns");
+    let nanos = least_megabyte(by_four_copies);
+    println!("the same by a cleared buffer on each way: {nanos} ns");
+}
+
+fn main() {
+    match env::args().nth(1).as_deref() {
+        Some("fork") => print_forks(),
+        Some("pipe") => print_pipes(),
+        _ => {}
     }
 }
