@@ -38,18 +38,8 @@ set_pipe i x s = record s { pipes = insert s.pipes i x }
 abbrev pub set_file : ℕ → OpenFile → State → State
 set_file f x s = record s { files = insert s.files f x }
 
-abbrev pub set_console : Console → State → State
-set_console c s = record s { console = c }
-
-abbrev pub take_frames : ℕ → State → State
-take_frames n s = record s { free = s.free - n }
-
 abbrev pub give_frames : ℕ → State → State
 give_frames n s = record s { free = s.free + n }
-
--- a process under the next pid
-abbrev pub add_process : Live → State → State
-add_process l s = record s { processes = insert s.processes s.next_pid (Alive l); next_pid = s.next_pid + 1 }
 
 -- the zombie q is waited for
 abbrev pub remove_zombie : ℕ → State → State
