@@ -16,7 +16,7 @@ use Rattle.addr_space.proofs.Trades.{space-price}
 use Rattle.kcall_core.specs.declared.memories.Memory.{Memory}
 use Rattle.xv_machine.specs.Machine.{owned_by}
 use Rattle.xv_machine.specs.Sound.{FitsImage}
-use Rattle.xv_machine.proofs.Counted.{gathered-many}
+use Rattle.xv_machine.proofs.Counts.{gathered-many}
 
 -- where nothing stands from the bound on, the map has all
 gathered-all : (f : ℕ → Option ℕ) (n : ℕ) → ((t y : ℕ) → f t ≡ Some y → t < n) → (t : ℕ) → is_some (get (gathered f n) t) ≡ is_some (f t)

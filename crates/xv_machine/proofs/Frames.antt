@@ -44,7 +44,7 @@ use Rattle.xv_machine.specs.Machine.{owned_by, owned_entry, owned_at, frames_in}
 use Rattle.xv_machine.specs.Meaning.{Owned}
 use Rattle.xv_machine.specs.Sound as machine
 use Rattle.xv_machine.specs.Sound.{frames_of, uses, FitsImage, HasFrames, IsHalted}
-use Rattle.xv_machine.proofs.Counted.{gathered-counted}
+use Rattle.xv_machine.proofs.Counts.{gathered-counted}
 use Rattle.xv_machine.proofs.Fitting.{fits-image}
 use Rattle.xv_machine.proofs.Owned.{joined-sum, by_pid-sum}
 

@@ -1,5 +1,5 @@
 pub mod Owned
-pub mod Counted
+pub mod Counts
 pub mod Fitting
 pub mod Frames
 pub mod SoFar

@@ -1,5 +1,6 @@
 pub mod Boots
 pub mod Codes
+pub mod Devices
 pub mod Events
 pub mod Machine
 pub mod Meaning

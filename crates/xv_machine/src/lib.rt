@@ -8,12 +8,14 @@
 //! is, is said in `specs/Sound.antt`.
 #![tactic(auto)]
 
+mod devices;
 mod event;
 mod machine;
 mod step;
 #[cfg(test)]
 mod tests;
 
+pub use devices::{ByteSink, Counted, DeviceFault, KeySource};
 pub use event::{Event, Outcome};
 pub use kcall_core::ChildState;
 pub use machine::{Config, Machine};
