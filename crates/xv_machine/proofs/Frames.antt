@@ -1,5 +1,5 @@
 -- Each frame of RAM is free, or has exactly one owner: what the kernel's memories keep, by pid.
-use Rattle.std.proofs.Common.{◌≡◌, ◌≢◌, ℕ, ◌^◌, ◌<◌, Bool, true, false, cond, ltb, List, [], ◌∷◌, ◌++◌, length, get_or, map, Option, Some, None, inl, inr, refl, sym, ap, ◌∙◌, subst, arith}
+use Rattle.std.proofs.Common.{◌≡◌, ◌≤◌, ◌≢◌, ℕ, ◌^◌, ◌<◌, Bool, true, false, cond, ltb, List, [], ◌∷◌, ◌++◌, length, get_or, map, Option, Some, None, inl, inr, refl, sym, ap, ◌∙◌, subst, arith}
 use Rattle.std.specs.Prelude.{ℤ, IsSome, is_some, option_map}
 use Rattle.std.specs.FinMap.{get, values}
 use Rattle.std.proofs.Math.ListN.{get_or-map}
@@ -21,6 +21,7 @@ use Rattle.hart_core.specs.declared.hart.Hart.{Hart}
 use Rattle.proc_table.specs.Processes.{status_of}
 use Rattle.proc_table.specs.Slots.{place_at, slot_of, descriptors_at}
 use Rattle.proc_table.specs.declared.process.Process.{Process}
+use Rattle.circular_buffer.specs.Buffer.{Buffer}
 use Rattle.kcall_core.specs.Words.{count_if}
 use Rattle.kcall_core.specs.ByPid.{by_pid}
 use Rattle.kcall_core.specs.Processes.{Live}
@@ -40,6 +41,7 @@ use Rattle.kcall_core.proofs.table.States.{none-some, slot-inside}
 use Rattle.kcall_core.proofs.well.Sums.{sum_same}
 use Rattle.kcall_core.proofs.table.Observed.{slot-found, entry-held, live-held, ended-held, pid-missing, missing-live}
 use Rattle.kcall_core.proofs.turns.Turned.{has-slots}
+use Rattle.xv_machine.specs.declared.trace.Note.{Note}
 use Rattle.xv_machine.specs.Machine.{owned_by, owned_entry, owned_at, frames_in}
 use Rattle.xv_machine.specs.Meaning.{Owned}
 use Rattle.xv_machine.specs.Sound as machine
@@ -197,9 +199,10 @@ free-is : (k : Kernel) (h : Hart) → (state_of k h).free ≡ length (free_in k.
 unfolding state_of free_of
 free-is k h = refl
 
-pub sound-of : (k : Kernel) (h : Hart) (halted : Option ℤ) → IsWhole k h → IsHalted (state_of k h) (turns_of k halted) halted → machine.IsSoundMachine (record { world = world_of k h halted; frames = frames_in k })
+pub sound-of : (k : Kernel) (h : Hart) (halted : Option ℤ) (trace : Buffer Note) → length trace.items ≤ trace.capacity → IsWhole k h → IsHalted (state_of k h) (turns_of k halted) halted
+    → machine.IsSoundMachine (record { world = world_of k h halted; frames = frames_in k; notes = trace.items; room = trace.capacity })
 unfolding frames_in turns_of
-sound-of k h halted whole end = record {
+sound-of k h halted trace kept whole end = record {
   well = whole.well;
   slots = has-slots k h halted whole;
   unready = λ p v asleep sees. whole.unready p v asleep sees;
@@ -208,4 +211,5 @@ sound-of k h halted whole end = record {
   inside = λ f ge. uses-owners k h whole.sound f ∙ whole.sound.memories.inside f ge;
   free = free-is k h;
   owned = has-frames k h whole.sound;
+  kept = kept;
 }

@@ -1,6 +1,7 @@
 pub mod Owned
 pub mod Counts
 pub mod Fitting
+pub mod Kept
 pub mod Frames
 pub mod SoFar
 pub mod Runs

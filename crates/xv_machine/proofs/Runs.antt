@@ -1,9 +1,10 @@
 -- What a run of the machine leaves: whether it is halted, and what is promised of it.
-use Rattle.std.proofs.Common.{◌≡◌, ◌≢◌, ℕ, true, false, cond, length, Option, Some, None, inl, inr, refl, sym, ap, ◌∙◌, subst, nat_eq}
+use Rattle.std.proofs.Common.{◌≡◌, ◌≤◌, ◌≢◌, ℕ, true, false, cond, length, Option, Some, None, inl, inr, refl, sym, ap, ◌∙◌, subst, nat_eq}
 use Rattle.std.specs.Prelude.{ℤ, IsSome, is_some, option_map}
 use Rattle.std.proofs.lemmas.Bool.Decides.{eqb_tells}
 use Rattle.hart_core.specs.declared.hart.Hart.{Hart}
 use Rattle.std.specs.FinMap.{get}
+use Rattle.circular_buffer.specs.Buffer.{Buffer}
 use Rattle.kcall_core.specs.Processes.{Process, Alive, Zombie, parent_of}
 use Rattle.kcall_core.specs.State.{State, live, live_part}
 use Rattle.kcall_core.specs.View.{view, view_of}
@@ -20,6 +21,7 @@ use Rattle.kcall_core.specs.declared.kernel.Kernel.{Kernel}
 use Rattle.kcall_core.proofs.runs.Promises.{turn-promised, idle-promised, halted-promised, tick-promised}
 use Rattle.kcall_core.proofs.table.States.{none-some}
 use Rattle.kcall_core.proofs.turns.Turned.{live-is}
+use Rattle.xv_machine.specs.declared.trace.Note.{Note}
 use Rattle.xv_machine.specs.declared.event.Outcome.{Outcome}
 use Rattle.xv_machine.specs.Events.{outcome_of, halted_by}
 use Rattle.xv_machine.specs.Machine.{meaning_of, frames_in}
@@ -180,13 +182,16 @@ pub nothing-kept : (o : Option ℤ) → is_some o ≡ false → o ≡ None
 nothing-kept None e = refl
 nothing-kept (Some x) e = let no : ⊥ = cc in absurd no
 
-module _ (k : Kernel) (h : Hart) (halted : Option ℤ) (now : Meaning) (is : meaning_of (record { kernel = k; hart = h; halted = halted }) ≡ now) where
+module _ (k : Kernel) (h : Hart) (halted : Option ℤ) (trace : Buffer Note) (now : Meaning) (is : meaning_of (record { kernel = k; hart = h; halted = halted; trace = trace }) ≡ now) where
   pub now-stopped : now.world.turns.current ≡ None → k.current ≡ None
   unfolding turns_of
   now-stopped stopped = none-of (λ (i : ℕ). pid_now k) k.current (ap (λ (m : Meaning). m.world.turns.current) is ∙ stopped)
 
-  pub now-sound : IsWhole k h → IsHalted (state_of k h) (turns_of k halted) halted → IsSoundMachine now
-  now-sound whole end = subst IsSoundMachine is (sound-of k h halted whole end)
+  pub now-sound : IsWhole k h → IsHalted (state_of k h) (turns_of k halted) halted → length trace.items ≤ trace.capacity → IsSoundMachine now
+  now-sound whole end kept = subst IsSoundMachine is (sound-of k h halted trace kept whole end)
+
+  pub now-trace : (trace.items ≡ now.notes) × (trace.capacity ≡ now.room)
+  now-trace = (ap (λ (m : Meaning). m.notes) is, ap (λ (m : Meaning). m.room) is)
 
   pub now-frames : length k.memories.ram ≡ now.frames.count
   unfolding frames_in

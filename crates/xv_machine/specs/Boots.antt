@@ -1,5 +1,5 @@
 -- What boot answers.
-use Rattle.std.specs.Prelude.{◌≡◌, ◌⊎◌, ℕ, Option, Some, None, Result, Ok, Err}
+use Rattle.std.specs.Prelude.{◌≡◌, ◌⊎◌, ℕ, [], Option, Some, None, Result, Ok, Err}
 use Rattle.xk_base.specs.declared.errors.BootError.{BootError}
 use Rattle.xk_base.specs.declared.errors.BootError.TheVariants.{BadConfig, BadPrograms, NoInit, Memory, Init}
 use Rattle.kcall_core.specs.Run.{World}
@@ -14,6 +14,10 @@ without_init None = NoInit
 abbrev pub Starts : ℕ → World → Result Meaning BootError → Type 0
 Starts frames w (Err e) = ⊥
 Starts frames w (Ok m) = (m.world ≡ w) × (m.frames.count ≡ frames)
+
+-- no note is kept yet, and so many may be
+abbrev pub HasEmptyTrace : ℕ → Meaning → Type 0
+HasEmptyTrace room m = (m.notes ≡ []) × (m.room ≡ room)
 
 -- the first world, or the first refusal; want of memory can come only where the programs were found good, and one is `init`
 abbrev pub Boots : ℕ → Result Meaning BootError → Result World BootError → Type 0

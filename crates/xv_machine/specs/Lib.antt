@@ -4,5 +4,6 @@ pub mod Devices
 pub mod Events
 pub mod Machine
 pub mod Meaning
+pub mod Notes
 pub mod Sound
 pub mod Unbuilt

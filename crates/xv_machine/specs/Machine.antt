@@ -1,5 +1,5 @@
 -- What the fields of a machine stand for, and when they are whole. Only this crate's private functions speak of them.
-use Rattle.std.specs.Prelude.{ℕ, ◌^◌, List, length, get_or, Option, None, Some}
+use Rattle.std.specs.Prelude.{◌≡◌, ◌≤◌, ℕ, ◌^◌, List, length, get_or, Option, None, Some}
 use Rattle.xk_base.specs.declared.limits.TheConstants.{NPROC}
 use Rattle.xk_base.specs.Gathered.{gathered}
 use Rattle.sv39_core.specs.Sv39.{table_at, page_entry}
@@ -50,9 +50,14 @@ frames_in k = record {
 -- ---- the machine
 
 abbrev pub meaning_of : Inside → Meaning
-meaning_of m = record { world = kernel.world_of m.kernel m.hart m.halted; frames = frames_in m.kernel }
+meaning_of m = record { world = kernel.world_of m.kernel m.hart m.halted; frames = frames_in m.kernel; notes = m.trace.items; room = m.trace.capacity }
 
--- the kernel and its hart are whole, and process 1 is live unless the machine is halted
+-- the kernel and its hart are whole, process 1 is live unless the machine is halted, and the trace keeps no more notes than it has room for
 pub record IsMachine (m : Inside) : Type 0 where
   pub whole : IsWhole m.kernel m.hart
   pub halted : IsHalted (state_of m.kernel m.hart) (turns_of m.kernel m.halted) m.halted
+  pub kept : length m.trace.items ≤ m.trace.capacity
+
+-- the trace stays
+abbrev pub SameTrace : Meaning → Meaning → Type 0
+SameTrace old new = (new.notes ≡ old.notes) × (new.room ≡ old.room)

@@ -1,8 +1,9 @@
--- What a machine stands for: the world of its kernel and its hart, and whose each frame of RAM is.
+-- What a machine stands for: the world of its kernel and its hart, whose each frame of RAM is, and the notes that its trace keeps.
 use Rattle.std.specs.Prelude.{ℕ, List}
 use Rattle.std.specs.FinMap.{FinMap}
 use Rattle.std.specs.Ordering.{nat_cmp}
 use Rattle.kcall_core.specs.Run.{World}
+use Rattle.xv_machine.specs.declared.trace.Note.{Note}
 
 -- the frames of a live process, by what it has them for
 pub record Owned : Type 0 where
@@ -28,3 +29,6 @@ pub record Frames : Type 0 where
 pub record Meaning : Type 0 where
   pub world : World
   pub frames : Frames
+  -- the notes of the last events, the oldest first, and how many are kept at most
+  pub notes : List Note
+  pub room : ℕ

@@ -63,3 +63,5 @@ pub record IsSoundMachine (m : Meaning) : Type 0 where
   pub free : m.world.state.free ≡ length m.frames.free
   -- each process has the frames that it costs
   pub owned : (p : ℕ) → HasFrames (live m.world.state p) (get m.frames.owned p)
+  -- the trace has room for the notes that it keeps
+  pub kept : length m.notes ≤ m.room

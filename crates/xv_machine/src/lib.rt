@@ -14,8 +14,10 @@ mod machine;
 mod step;
 #[cfg(test)]
 mod tests;
+mod trace;
 
 pub use devices::{ByteSink, Counted, DeviceFault, KeySource};
 pub use event::{Event, Outcome};
 pub use kcall_core::ChildState;
 pub use machine::{Config, Machine};
+pub use trace::Note;

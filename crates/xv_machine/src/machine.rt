@@ -7,6 +7,8 @@ ghost use Rattle.xv_machine.specs.Events.{halted_by};
 
 use crate::event::{Event, Outcome};
 use crate::step::step;
+use crate::trace::Note;
+use circular_buffer::HeapCircularBuffer;
 use hart_core::Hart;
 use kcall_core::{ChildState, Kernel, first_refused};
 use rv64i_core::Regs;
@@ -20,7 +22,7 @@ use xk_base::{BootError, Pid, Program};
 pub struct Config {
     /// Frames of RAM, 16 to 32,768.
     pub frames: u32,
-    /// Notes that the trace is to keep, at most 65,536. There is no trace yet: only the range is tested.
+    /// Notes that the trace keeps, at most 65,536: those of the last events. 0 keeps none.
     pub trace: u32,
 }
 
@@ -74,6 +76,8 @@ pub struct Machine {
     hart: Hart,
     /// The status with which process 1 went, after which nothing runs.
     halted: Option<i32>,
+    /// The notes of the last events.
+    trace: HeapCircularBuffer<Note>,
 }
 
 impl Model for Machine {
@@ -92,7 +96,7 @@ impl Model for Machine {
 }
 
 impl Machine {
-    ghost use Rattle.std.specs.Prelude.{◌≡◌, true, None, IfOk, is_some, length, map, option_map};
+    ghost use Rattle.std.specs.Prelude.{◌≡◌, true, [], ◌∷◌, ◌++◌, None, IfOk, is_some, length, map, option_map, slice_get};
     ghost use Rattle.kcall_core.specs.State.{named_file};
     ghost use Rattle.hart_core.specs.declared.hart.Hart.{Hart};
     ghost use Rattle.kcall_core.specs.Programs.{init_of};
@@ -102,8 +106,11 @@ impl Machine {
     ghost use Rattle.kcall_core.specs.First.{first, first_init};
     ghost use Rattle.kcall_core.specs.Run as runs;
     ghost use Rattle.kcall_core.specs.Observers.{registers_of, byte_at, child_at, shown};
-    ghost use Rattle.xv_machine.specs.Boots.{Boots};
+    ghost use Rattle.circular_buffer.specs.Buffer.{keep_last};
+    ghost use Rattle.xv_machine.specs.Boots.{Boots, HasEmptyTrace};
     ghost use Rattle.xv_machine.specs.Events.{event_of, outcome_of};
+    ghost use Rattle.xv_machine.specs.Machine.{SameTrace};
+    ghost use Rattle.xv_machine.specs.Notes.{note};
     ghost use Rattle.xv_machine.specs.Sound.{IsSoundMachine};
     ghost use Rattle.xv_machine.specs.Unbuilt.{PromisedSoFar};
 
@@ -121,6 +128,7 @@ impl Machine {
     pub fn boot(alloc: Global, config: Config, programs: Vec<Program>) -> Result<Machine, BootError>
         ensures boots { Boots config.frames result (first config.frames config.trace (map named_file programs.items)) }
         ensures sound { IfOk result IsSoundMachine }
+        ensures trace { IfOk result (HasEmptyTrace config.trace) }
     {
         if config.is_refused() {
             return Err(BootError::BadConfig);
@@ -129,18 +137,35 @@ impl Machine {
             return Err(without_init(&programs));
         }
         match Kernel::new(alloc, config.frames, programs) {
-            Ok(kernel) => Machine::start(kernel),
+            Ok(kernel) => Machine::with_trace(alloc, config.trace, kernel),
             Err(error) => Err(error),
         }
     }
 
-    // A machine with this kernel, which has no process yet.
-    fn start(mut kernel: Kernel) -> Result<Machine, BootError>
+    // A machine with this kernel, which has no process yet, and a trace of so many notes.
+    fn with_trace(alloc: Global, notes: u32, kernel: Kernel) -> Result<Machine, BootError>
         requires blank { IsBlank kernel }
         requires whole { (hart : Hart) → kernels.IsIdle hart → IsWhole kernel hart }
         requires program { is_some (init_of (map named_file kernel.programs.items)) ≡ true }
         ensures boots { let programs = map named_file kernel.programs.items in Boots (length kernel.memories.ram) result (first_init (length kernel.memories.ram) programs (init_of programs)) }
         ensures sound { IfOk result IsSoundMachine }
+        ensures trace { IfOk result (HasEmptyTrace notes) }
+    {
+        match HeapCircularBuffer::with_capacity(alloc, notes as usize) {
+            Ok(trace) => Machine::start(kernel, trace),
+            Err(_) => Err(BootError::Memory),
+        }
+    }
+
+    // A machine with this kernel, which has no process yet, and this trace, which has no note yet.
+    fn start(mut kernel: Kernel, trace: HeapCircularBuffer<Note>) -> Result<Machine, BootError>
+        requires blank { IsBlank kernel }
+        requires whole { (hart : Hart) → kernels.IsIdle hart → IsWhole kernel hart }
+        requires program { is_some (init_of (map named_file kernel.programs.items)) ≡ true }
+        requires empty { trace.items ≡ [] }
+        ensures boots { let programs = map named_file kernel.programs.items in Boots (length kernel.memories.ram) result (first_init (length kernel.memories.ram) programs (init_of programs)) }
+        ensures sound { IfOk result IsSoundMachine }
+        ensures trace { IfOk result (HasEmptyTrace trace.capacity) }
     {
         let mut hart = Hart::new();
         match kernel.start(&mut hart) {
@@ -148,22 +173,49 @@ impl Machine {
                 kernel,
                 hart,
                 halted: None,
+                trace,
             }),
             Err(refusal) => Err(BootError::Init(refusal)),
         }
     }
 
-    /// What comes of an event.
+    /// What comes of an event. The trace keeps a note of it, where it has room.
     #[inline(always)]
     pub fn event(&mut self, event: Event) -> Outcome
         ensures promised { PromisedSoFar self.old.world (event_of event) (outcome_of result) self.new.world }
         ensures sound { IsSoundMachine self.new }
         ensures frames { self.new.frames.count ≡ self.old.frames.count }
+        ensures notes { self.new.notes ≡ keep_last self.old.room (self.old.notes ++ note (event_of event) (outcome_of result) ∷ []) }
+        ensures room { self.new.room ≡ self.old.room }
+    {
+        let outcome = self.take(event);
+        self.keep(event, &outcome);
+        outcome
+    }
+
+    // What comes of an event, before the trace keeps a note of it.
+    #[inline(always)]
+    fn take(&mut self, event: Event) -> Outcome
+        ensures promised { PromisedSoFar self.old.world (event_of event) (outcome_of result) self.new.world }
+        ensures frames { self.new.frames.count ≡ self.old.frames.count }
+        ensures trace { SameTrace self.old self.new }
     {
         match event {
             Event::Run => self.run(),
             Event::Tick => self.tick(),
         }
+    }
+
+    // The trace keeps a note of the event, where it has room.
+    #[inline(always)]
+    fn keep(&mut self, event: Event, outcome: &Outcome)
+        ensures kept { self.new ≡ record self.old { notes = keep_last self.old.room (self.old.notes ++ note (event_of event) (outcome_of outcome.now) ∷ []) } }
+        ensures sound { IsSoundMachine self.new }
+    {
+        if self.trace.capacity() == 0 {
+            return;
+        }
+        self.trace.push_back(Note::of(event, outcome));
     }
 
     // The process that runs makes a step; where none runs, the next has its turn.
@@ -172,6 +224,7 @@ impl Machine {
         ensures promised { PromisedSoFar self.old.world runs.Run (outcome_of result) self.new.world }
         ensures sound { IsSoundMachine self.new }
         ensures frames { self.new.frames.count ≡ self.old.frames.count }
+        ensures trace { SameTrace self.old self.new }
     {
         let Some(pid) = self.kernel.current() else {
             return self.turn();
@@ -192,6 +245,7 @@ impl Machine {
         ensures promised { PromisedSoFar self.old.world runs.Run (outcome_of result) self.new.world }
         ensures sound { IsSoundMachine self.new }
         ensures frames { self.new.frames.count ≡ self.old.frames.count }
+        ensures trace { SameTrace self.old self.new }
     {
         if self.halted.is_some() {
             return Outcome::Halted;
@@ -207,6 +261,7 @@ impl Machine {
         ensures promised { PromisedSoFar self.old.world runs.Tick (outcome_of result) self.new.world }
         ensures sound { IsSoundMachine self.new }
         ensures frames { self.new.frames.count ≡ self.old.frames.count }
+        ensures trace { SameTrace self.old self.new }
     {
         if self.halted.is_some() {
             return Outcome::Halted;
@@ -257,5 +312,19 @@ impl Machine {
         ensures { result ≡ self.now.world.turns.halted }
     {
         self.halted
+    }
+
+    /// How many notes the trace keeps now.
+    pub fn trace_len(&self) -> usize
+        ensures { result ≡ length self.now.notes }
+    {
+        self.trace.len()
+    }
+
+    /// A note of the trace, by its place: 0 is the oldest. `None` where no so many are kept.
+    pub fn trace(&self, place: usize) -> Option<Note>
+        ensures { result ≡ slice_get self.now.notes place }
+    {
+        self.trace.get(place).copied()
     }
 }

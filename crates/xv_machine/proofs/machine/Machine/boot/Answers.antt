@@ -17,15 +17,15 @@ returns-then-not-has_init-clause-boots c =
     (ap (λ qs. is_some (init_of (map named_file qs))) (sym c.deref.ensures.value) ∙ sym c.has_init.ensures ∙ c.if-not-has_init.true)
     (c.without_init.ensures ∙ ap (λ qs. without_init (first_bad (map named_file qs))) c.deref-then-not-has_init.ensures.value)
 
-pub start-requires-clause-program : goal.start-requires-clause-program
-start-requires-clause-program c =
+pub with_trace-requires-clause-program : goal.with_trace-requires-clause-program
+with_trace-requires-clause-program c =
     ap (λ ps. is_some (init_of ps)) (programs-same c.in-Ok.kernel c.args.config.frames (map named_file c.args.programs.items) c.in-Ok.ensures.state)
     ∙ ap (λ ps. is_some (init_of (map named_file ps))) (sym c.deref.ensures.value) ∙ sym c.has_init.ensures ∙ c.if-not-has_init.false
 
 pub returns-in-Ok-clause-boots : goal.returns-in-Ok-clause-boots
 returns-in-Ok-clause-boots c =
-    boots-kernel c.in-Ok.kernel c.args.config.frames c.args.config.trace (map named_file c.args.programs.items) c.start.result (sym c.is_refused.ensures ∙ c.if-is_refused.false) c.in-Ok.ensures.made c.in-Ok.ensures.frames
-    (programs-same c.in-Ok.kernel c.args.config.frames (map named_file c.args.programs.items) c.in-Ok.ensures.state) c.start.ensures.boots
+    boots-kernel c.in-Ok.kernel c.args.config.frames c.args.config.trace (map named_file c.args.programs.items) c.with_trace.result (sym c.is_refused.ensures ∙ c.if-is_refused.false) c.in-Ok.ensures.made c.in-Ok.ensures.frames
+    (programs-same c.in-Ok.kernel c.args.config.frames (map named_file c.args.programs.items) c.in-Ok.ensures.state) c.with_trace.ensures.boots
 
 pub returns-in-Err-clause-boots : goal.returns-in-Err-clause-boots
 returns-in-Err-clause-boots c =

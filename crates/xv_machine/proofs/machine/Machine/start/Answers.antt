@@ -6,6 +6,7 @@ use Rattle.hart_core.specs.declared.hart.Hart.{Hart}
 use Rattle.xv_machine.specs.Machine.{meaning_of}
 use Rattle.xv_machine.proofs.Frames.{sound-of}
 use Rattle.xv_machine.proofs.Runs.{count-is}
+use Rattle.xv_machine.proofs.Kept.{empty-kept}
 use Rattle.xv_machine.proofs.Starts.{kernel-free, kernel-console, kernel-clock, kernel-programs, kernel-init, started-lives, boots-started, boots-refused}
 use Rattle.xv_machine.proofs.machine.Machine.start.Goals as goal
 
@@ -18,6 +19,7 @@ start-requires-clause-program c = kernel-init c.args.kernel c.new-hart.result c.
 pub invariant_of-result : goal.invariant_of-result
 invariant_of-result c = record {
   whole = c.start.ensures.whole;
+  kept = empty-kept c.args.trace c.requires.empty;
   halted = started-lives (world_of c.start.new.self c.start.new.hart None) c.in-Ok.ensures.started.0 (state_of c.args.kernel c.new-hart.result) c.in-Ok.ensures.started.3;
 }
 
@@ -25,12 +27,12 @@ pub returns-in-Ok-clause-boots : goal.returns-in-Ok-clause-boots
 returns-in-Ok-clause-boots c =
     let s = state_of c.args.kernel c.new-hart.result in
     boots-started (length c.args.kernel.memories.ram) (map named_file c.args.kernel.programs.items) s (kernel-free c.args.kernel c.new-hart.result c.requires.blank) (kernel-programs c.args.kernel c.new-hart.result) c.requires.program
-    (kernel-console c.args.kernel c.new-hart.result c.requires.blank) (kernel-clock c.args.kernel c.new-hart.result c.requires.blank) c.in-Ok.ensures.started.0 (meaning_of (record { kernel = c.start.new.self; hart = c.start.new.hart; halted = None })) c.in-Ok.ensures.started.1 c.in-Ok.ensures.started.2 c.in-Ok.ensures.started.3
+    (kernel-console c.args.kernel c.new-hart.result c.requires.blank) (kernel-clock c.args.kernel c.new-hart.result c.requires.blank) c.in-Ok.ensures.started.0 (meaning_of (record { kernel = c.start.new.self; hart = c.start.new.hart; halted = None; trace = c.args.trace })) c.in-Ok.ensures.started.1 c.in-Ok.ensures.started.2 c.in-Ok.ensures.started.3
     (count-is c.start.new.self ∙ c.start.ensures.frames)
 
 pub returns-in-Ok-clause-sound : goal.returns-in-Ok-clause-sound
 returns-in-Ok-clause-sound c =
-    sound-of c.start.new.self c.start.new.hart None c.start.ensures.whole
+    sound-of c.start.new.self c.start.new.hart None c.args.trace (empty-kept c.args.trace c.requires.empty) c.start.ensures.whole
     (started-lives (world_of c.start.new.self c.start.new.hart None) c.in-Ok.ensures.started.0 (state_of c.args.kernel c.new-hart.result) c.in-Ok.ensures.started.3)
 
 pub returns-in-Err-clause-boots : goal.returns-in-Err-clause-boots

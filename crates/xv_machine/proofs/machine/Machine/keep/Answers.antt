@@ -1,0 +1,14 @@
+use Rattle.xv_machine.proofs.Frames.{sound-of}
+use Rattle.xv_machine.proofs.Kept.{pushed}
+use Rattle.xv_machine.proofs.Runs.{now-sound}
+use Rattle.xv_machine.proofs.machine.Machine.keep.Goals as goal
+
+pub returns-then-capacity-eq0-clause-sound : goal.returns-then-capacity-eq0-clause-sound
+returns-then-capacity-eq0-clause-sound c =
+    let i = c.self.inside in
+    now-sound i.kernel i.hart i.halted i.trace c.args.self.now c.self.view_is c.self.invariant.whole c.self.invariant.halted c.self.invariant.kept
+
+pub returns-clause-sound : goal.returns-clause-sound
+returns-clause-sound c =
+    let i = c.self.inside in
+    sound-of i.kernel i.hart i.halted c.push_back.new.self (pushed i.trace c.of.result c.push_back.new.self c.push_back.ensures.items) c.self.invariant.whole c.self.invariant.halted

@@ -1,0 +1,106 @@
+//! The notes that a trace keeps.
+ghost use Rattle.std.specs.Prelude.{◌≡◌};
+ghost use Rattle.xv_machine.specs.Events.{event_of, outcome_of};
+ghost use Rattle.xv_machine.specs.Notes.{note};
+
+use crate::event::{Event, Outcome};
+use std::fmt;
+use xk_base::{Cause, Pid};
+
+/// What a trace keeps of an event.
+#[derive(Clone, Copy, Debug, PartialEq, Eq)]
+pub enum Note {
+    /// The process did one instruction.
+    Stepped { pid: Pid },
+    /// The process made a kernel call, which is done and answered `value`.
+    Called { pid: Pid, number: i32, value: i64 },
+    /// The process waits in the call of this number.
+    Blocked { pid: Pid, number: i32 },
+    /// The process is gone, by a call of its own or a kill.
+    Exited { pid: Pid, status: i32 },
+    /// The process is gone: its instruction can't be done.
+    Faulted { pid: Pid, cause: Cause },
+    /// The process became the current one.
+    Turn { pid: Pid },
+    /// No process may run.
+    Idle,
+    /// The clock has counted a tick.
+    Ticked,
+    /// The key was typed, and the console showed so many bytes for it.
+    Typed { key: u8, echo: usize },
+    /// The byte left, if there was one.
+    Sent(Option<u8>),
+    /// Nothing happened, since process 1 is gone.
+    Halted,
+}
+
+impl Note {
+    // The note of an event and what came of it.
+    pub(crate) fn of(event: Event, outcome: &Outcome) -> Note
+        ensures { result ≡ note (event_of event) (outcome_of outcome.now) }
+    {
+        match outcome {
+            Outcome::Stepped { pid } => Note::Stepped { pid: *pid },
+            Outcome::Called { pid, number, value } => Note::Called {
+                pid: *pid,
+                number: *number,
+                value: *value,
+            },
+            Outcome::Blocked { pid, number } => Note::Blocked {
+                pid: *pid,
+                number: *number,
+            },
+            Outcome::Exited { pid, status } => Note::Exited {
+                pid: *pid,
+                status: *status,
+            },
+            Outcome::Faulted { pid, cause } => Note::Faulted {
+                pid: *pid,
+                cause: *cause,
+            },
+            Outcome::Turn { pid } => Note::Turn { pid: *pid },
+            Outcome::Idle => Note::Idle,
+            Outcome::Ticked => Note::Ticked,
+            Outcome::Halted => Note::Halted,
+        }
+    }
+}
+
+/// The note as a line of a trace, without its end: a word, then plain decimal numbers.
+impl fmt::Display for Note {
+    fn fmt<W: fmt::Write>(&self, f: &mut fmt::Formatter<W>) -> fmt::Result {
+        match *self {
+            Note::Stepped { pid } => {
+                let pid = pid.number();
+                write!(f, "step {pid}")
+            }
+            Note::Called { pid, number, value } => {
+                let pid = pid.number();
+                write!(f, "call {pid} {number} {value}")
+            }
+            Note::Blocked { pid, number } => {
+                let pid = pid.number();
+                write!(f, "block {pid} {number}")
+            }
+            Note::Exited { pid, status } => {
+                let pid = pid.number();
+                write!(f, "exit {pid} {status}")
+            }
+            Note::Faulted { pid, cause } => {
+                let pid = pid.number();
+                let code = cause.code();
+                write!(f, "fault {pid} {code}")
+            }
+            Note::Turn { pid } => {
+                let pid = pid.number();
+                write!(f, "turn {pid}")
+            }
+            Note::Idle => write!(f, "idle"),
+            Note::Ticked => write!(f, "tick"),
+            Note::Typed { key, echo } => write!(f, "key {key} {echo}"),
+            Note::Sent(Some(byte)) => write!(f, "sent {byte}"),
+            Note::Sent(None) => write!(f, "sent none"),
+            Note::Halted => write!(f, "halted"),
+        }
+    }
+}
