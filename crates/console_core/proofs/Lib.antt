@@ -1,1 +1,2 @@
 pub mod Echoes
+pub mod KeyKeeps

@@ -3,6 +3,7 @@ pub mod AloneMakes
 pub mod Answered
 pub mod Blocked
 pub mod CallAnswers
+pub mod ConsoleMakes
 pub mod Filing
 pub mod Imaged
 pub mod Instructions

@@ -11,6 +11,7 @@ use Rattle.file_table.specs.declared.open_file.End.{End}
 use Rattle.file_table.specs.declared.open_file.End.TheVariants.{Reading, Writing}
 use Rattle.file_table.specs.declared.open_file.OpenFile.{OpenFile}
 use Rattle.file_table.specs.declared.open_file.Target.{Target}
+use Rattle.proc_table.specs.Channels.{same_channel}
 use Rattle.proc_table.specs.Processes.{woken}
 use Rattle.proc_table.specs.Slots.{Slots, place_at, each_changed}
 use Rattle.proc_table.specs.declared.channel.Channel.{Channel}
@@ -56,6 +57,10 @@ state_woken_by wakes (Zombie_state status) = Zombie_state status
 -- awake, if it sleeps on one of these channels
 abbrev pub woken_by : (Channel → Bool) → Process → Process
 woken_by wakes p = record p { state = state_woken_by wakes p.state }
+
+-- all on a channel, where that is due, and else none
+abbrev pub wakes_if : Bool → Channel → Channel → Bool
+wakes_if is_due on channel = is_due && same_channel channel on
 
 -- the parent of a process that ends wakes where it waits for a child, if there is one
 abbrev pub parent_woken : Option ℕ → Slots → Slots

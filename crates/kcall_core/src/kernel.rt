@@ -43,6 +43,7 @@ mod sbrk;
 mod sharing;
 mod starting;
 mod ticks;
+mod uart;
 mod wait;
 
 use crate::kernel::registers::FIRST_ARGUMENT;

@@ -11,4 +11,5 @@ pub mod laws;
 mod memories;
 
 pub use call_end::CallEnd;
+pub use console_core::Echo;
 pub use kernel::{ChildState, Kernel, call_number, first_refused};

@@ -130,15 +130,15 @@ pub free-told : (k : Kernel) (h : Hart) → free_of k.memories ≡ (state_of k h
 unfolding state_of
 free-told k h = refl
 
--- nobody wakes in a table without a process
-wakes-nobody : (on : Channel) (n : ℕ) → map (option_map (woken on)) (replicate n no-one) ≡ replicate n no-one
-wakes-nobody on zero = refl
-wakes-nobody on (suc n) = ap (λ ps. no-one ∷ ps) (wakes-nobody on n)
+-- nobody changes in a table without a process
+pub wakes-nobody : (f : Process → Process) (n : ℕ) → map (option_map f) (replicate n no-one) ≡ replicate n no-one
+wakes-nobody f zero = refl
+wakes-nobody f (suc n) = ap (λ ps. no-one ∷ ps) (wakes-nobody f n)
 
 pub tick-leaves : (k k' : Kernel) (h h' : Hart) (on : Channel) (clock : ℕ) → HasNoProcess k → k'.table ≡ each_changed (woken on) k.table → k'.current ≡ None → k'.files ≡ k.files → frame_count k' ≡ frame_count k
     → state_of k' h' ≡ record (state_of k h) { clock = clock } → HasNoProcess k'
 tick-leaves k k' h h' on clock nobody table stopped opened frames state = record {
-  table = table ∙ ap (each_changed (woken on)) nobody.table ∙ ap (λ ps. record (no_process 1) { places = ps }) (wakes-nobody on NPROC);
+  table = table ∙ ap (each_changed (woken on)) nobody.table ∙ ap (λ ps. record (no_process 1) { places = ps }) (wakes-nobody (woken on) NPROC);
   current = stopped;
   files = opened ∙ nobody.files;
   pipes = pipes-told k' h' ∙ ap (λ (t : State). t.pipes) state ∙ sym (pipes-told k h) ∙ nobody.pipes;
