@@ -16,5 +16,7 @@ pub mod Resized
 pub mod Pids
 pub mod CleanPages
 pub mod NewBytes
+pub mod KeptBytes
+pub mod OwnBytes
 pub mod Again
 pub mod Asleep

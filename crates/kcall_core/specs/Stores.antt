@@ -1,9 +1,10 @@
 -- Which bytes of its process's memory a step stores: an instruction those of its store, a call those that it puts into its buffer. (An exec that succeeds makes another image, and isn't told here.)
-use Rattle.std.specs.Prelude.{ℕ, ◌+◌, ◌-◌, ◌<◌, ◌≤◌, if◌then◌else◌, length, nat_eq, Option, None, Some, pos}
+use Rattle.std.specs.Prelude.{ℕ, ℤ, ◌+◌, ◌-◌, ◌<◌, ◌≤◌, if◌then◌else◌, length, nat_eq, Option, None, Some, pos, negsuc}
 use Rattle.rv64i_core.specs.Step.{Step, Next, Ecall, Fault}
 use Rattle.proc_table.specs.declared.process.Call.{Call}
 use Rattle.kcall_core.specs.Instruction.{next_instruction}
-use Rattle.kcall_core.specs.View.{View}
+use Rattle.kcall_core.specs.Words.{c_int}
+use Rattle.kcall_core.specs.View.{View, Descriptor, Descriptors, Shown, Shown_terminal, Shown_file, Shown_pipe}
 use Rattle.kcall_core.specs.Own.{Own, Answer, Called, Blocked}
 use Rattle.kcall_core.specs.Calls.{Row, Wait, Pipe_row, Read, row_of}
 use Rattle.kcall_core.specs.Step.{own, call_begun}
@@ -31,22 +32,39 @@ moved_after (Called number (pos value)) next = value
 moved_after (Blocked number) (Some n) = moved_in n.call
 moved_after _ next = 0
 
+-- how many bytes a read moved in its steps before this one: on the console those that the call counts; a file and a pipe give all in one step
+abbrev pub moved_on : Call → Shown → ℕ
+moved_on c Shown_terminal = c.moved
+moved_on c (Shown_file program offset) = 0
+moved_on c (Shown_pipe name end pipe) = 0
+
+abbrev pub moved_through : Call → Option Descriptor → ℕ
+moved_through c None = 0
+moved_through c (Some d) = moved_on c d.shown
+
+abbrev pub moved_by_number : Call → Descriptors → ℤ → ℕ
+moved_by_number c t (pos fd) = moved_through c (t fd)
+moved_by_number c t (negsuc k) = 0
+
+abbrev pub moved_before : Call → Descriptors → ℕ
+moved_before c t = moved_by_number c t (c_int c.a0)
+
 -- wait stores a status, where it was given an address, pipe two numbers, and read the bytes that it moves, behind those that it has moved before
-abbrev pub stored_by_row : Call → Option Row → Own → Stored
-stored_by_row c (Some Wait) o = if nat_eq c.a0 0 then nothing_stored else where_done o.answer (record { address = c.a0; count = 4 })
-stored_by_row c (Some Pipe_row) o = where_done o.answer (record { address = c.a0; count = 8 })
-stored_by_row c (Some Read) o = record { address = c.a1 + c.moved; count = moved_after o.answer o.next - c.moved }
-stored_by_row c _ o = nothing_stored
+abbrev pub stored_by_row : Call → Descriptors → Option Row → Own → Stored
+stored_by_row c t (Some Wait) o = if nat_eq c.a0 0 then nothing_stored else where_done o.answer (record { address = c.a0; count = 4 })
+stored_by_row c t (Some Pipe_row) o = where_done o.answer (record { address = c.a0; count = 8 })
+stored_by_row c t (Some Read) o = record { address = c.a1 + moved_before c t; count = moved_after o.answer o.next - moved_before c t }
+stored_by_row c t _ o = nothing_stored
 
 -- by an instruction; an ECALL begins a call, whose row is done in the same step
 abbrev pub stored_by_instruction : View → Step → Own → Stored
 stored_by_instruction v (Next r None) o = nothing_stored
 stored_by_instruction v (Next r (Some st)) o = record { address = st.address; count = length st.bytes }
-stored_by_instruction v Ecall o = stored_by_row (call_begun v) (row_of (call_begun v).number) o
+stored_by_instruction v Ecall o = stored_by_row (call_begun v) v.descriptors (row_of (call_begun v).number) o
 stored_by_instruction v (Fault cause) o = nothing_stored
 
 abbrev pub stored_in : View → Option Call → Own → Stored
-stored_in v (Some c) o = stored_by_row c (row_of c.number) o
+stored_in v (Some c) o = stored_by_row c v.descriptors (row_of c.number) o
 stored_in v None o = stored_by_instruction v (next_instruction v.regs v.image) o
 
 -- what the step of this view stores

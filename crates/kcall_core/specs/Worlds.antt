@@ -224,6 +224,33 @@ NoOldByte =
     (v n : View) → (own v).next ≡ Some n
     → (IsExecDone (call_in v) (own v) → HasExeced v (own v) n.image) × (¬ IsExecDone (call_in v) (own v) → NewBytesAreZeros v n)
 
+-- each page has 4,096 bytes
+abbrev pub HasWholePages : Image → Type 0
+HasWholePages image = (page : ℕ) (x : Page) → get image.pages page ≡ Some x → length x.bytes ≡ 4096
+
+-- a page that stays keeps its rights, and each byte that the step doesn't store
+abbrev pub OtherBytesStay : View → View → Type 0
+OtherBytesStay v n =
+    (page : ℕ) (x y : Page) → get v.image.pages page ≡ Some x → get n.image.pages page ≡ Some y
+    → (y.perm ≡ x.perm) × ((i : ℕ) → i < 4096 → ¬ IsStored v (page * 4096 + i) → slice_index y.bytes i ≡ slice_index x.bytes i)
+
+-- In a page that stays no step changes a byte that it doesn't store, but for an exec that succeeded
+abbrev pub OnlyStoresChangeBytes : Type 0
+OnlyStoresChangeBytes = (v n : View) → HasWholePages v.image → (own v).next ≡ Some n → ¬ IsExecDone (call_in v) (own v) → OtherBytesStay v n
+
+-- where the byte at place i of a page is from: the step stores it, or it stood there before, or it is a 0 in a page that wasn't there
+abbrev pub IsOfItsOwn : View → (page i byte : ℕ) → Type 0
+IsOfItsOwn v page i byte =
+    IsStored v (page * 4096 + i)
+    ⊎ ((x : Page) × (get v.image.pages page ≡ Some x) × (slice_index x.bytes i ≡ byte))
+    ⊎ ((get v.image.pages page ≡ None) × (byte ≡ 0))
+
+-- After every step each byte of the process's memory is one that the step stored, the one that stood there before, or a 0, but for an exec that succeeded, which makes the memory of its program
+abbrev pub EachByteIsOfItsOwn : Type 0
+EachByteIsOfItsOwn =
+    (v n : View) (page : ℕ) (y : Page) (i : ℕ) → HasWholePages v.image → (own v).next ≡ Some n → ¬ IsExecDone (call_in v) (own v)
+    → get n.image.pages page ≡ Some y → i < 4096 → IsOfItsOwn v page i (slice_index y.bytes i)
+
 -- So far no step both adds a page and stores bytes in it, so all of a new page is zeros
 abbrev pub NoOldPage : Type 0
 NoOldPage =

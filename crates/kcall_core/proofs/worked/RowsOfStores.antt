@@ -1,21 +1,26 @@
 -- Worked cases of which bytes a step stores.
-use Rattle.std.proofs.Common.{◌≡◌, ◌≤◌, ◌<◌, ◌+◌, ℕ, sym, subst, length, arith, [], ◌∷◌, None, Some, refl}
-use Rattle.std.specs.Prelude.{pos, negsuc, slice_index}
+use Rattle.std.proofs.Common.{◌≡◌, ◌≤◌, ◌<◌, ◌+◌, ℕ, sym, subst, length, arith, cond, true, [], ◌∷◌, None, Some, refl}
+use Rattle.std.specs.Prelude.{pos, negsuc, slice_index, nat_eq}
 use Rattle.xk_base.specs.Image.{Image, Page}
 use Rattle.rv64i_core.specs.Registers.{fresh}
 use Rattle.rv64i_core.specs.Step.{Next, Ecall, Fault}
 use Rattle.xk_base.specs.declared.access.Cause.TheVariants.{StorePageFault}
-use Rattle.kcall_core.specs.View.{View}
+use Rattle.pipe_core.specs.Pipe.{new_pipe}
+use Rattle.kcall_core.specs.View.{View, Descriptors, Shown, Shown_terminal, Shown_file}
 use Rattle.kcall_core.specs.Own.{Called, Blocked, goes_on}
 use Rattle.kcall_core.specs.Calls.{Wait, Pipe_row, Read, Write, Sbrk, perform, row, row_of}
 use Rattle.kcall_core.specs.Stores.{Stored, nothing_stored, stored_by, stored_by_row, stored_by_instruction, IsStored}
 use Rattle.kcall_core.specs.Worlds.{NewBytesAreZeros, IsNewPage}
 use Rattle.kcall_core.specs.Step.{own}
 use Rattle.kcall_core.specs.Lines.{◌>>=◌, ◌or◌}
-use Rattle.kcall_core.proofs.worked.WorkedViews.{call, in_call}
+use Rattle.kcall_core.proofs.worked.WorkedViews.{call, in_call, ends_of}
 
 abbrev stored : ℕ → ℕ → Stored
 stored address count = record { address = address; count = count }
+
+-- descriptor 0 is on this
+abbrev shows : Shown → Descriptors
+shows x = λ d. cond (nat_eq d 0) (Some (record { file = 0; read = true; write = true; shown = x })) None
 
 module _ (image : Image) where
   abbrev v : View
@@ -34,47 +39,57 @@ module _ (image : Image) where
 
   -- ---- wait: the status where it is done and has an address; nothing where it has none, waits, or is refused
 
-  wait_tells : stored_by_row (call 3 8192 0 0) (Some Wait) (goes_on (Called (pos 3) (pos 2)) v) ≡ stored 8192 4
+  wait_tells : stored_by_row (call 3 8192 0 0) v.descriptors (Some Wait) (goes_on (Called (pos 3) (pos 2)) v) ≡ stored 8192 4
   wait_tells = refl
 
-  wait_without : stored_by_row (call 3 0 0 0) (Some Wait) (goes_on (Called (pos 3) (pos 2)) v) ≡ nothing_stored
+  wait_without : stored_by_row (call 3 0 0 0) v.descriptors (Some Wait) (goes_on (Called (pos 3) (pos 2)) v) ≡ nothing_stored
   wait_without = refl
 
-  wait_waits : stored_by_row (call 3 8192 0 0) (Some Wait) (goes_on (Blocked (pos 3)) v) ≡ nothing_stored
+  wait_waits : stored_by_row (call 3 8192 0 0) v.descriptors (Some Wait) (goes_on (Blocked (pos 3)) v) ≡ nothing_stored
   wait_waits = refl
 
-  wait_refused : stored_by_row (call 3 8192 0 0) (Some Wait) (goes_on (Called (pos 3) (negsuc 0)) v) ≡ nothing_stored
+  wait_refused : stored_by_row (call 3 8192 0 0) v.descriptors (Some Wait) (goes_on (Called (pos 3) (negsuc 0)) v) ≡ nothing_stored
   wait_refused = refl
 
   -- ---- pipe: its two numbers
 
-  pipe_tells : stored_by_row (call 4 8192 0 0) (Some Pipe_row) (goes_on (Called (pos 4) (pos 0)) v) ≡ stored 8192 8
+  pipe_tells : stored_by_row (call 4 8192 0 0) v.descriptors (Some Pipe_row) (goes_on (Called (pos 4) (pos 0)) v) ≡ stored 8192 8
   pipe_tells = refl
 
-  pipe_refused : stored_by_row (call 4 8192 0 0) (Some Pipe_row) (goes_on (Called (pos 4) (negsuc 0)) v) ≡ nothing_stored
+  pipe_refused : stored_by_row (call 4 8192 0 0) v.descriptors (Some Pipe_row) (goes_on (Called (pos 4) (negsuc 0)) v) ≡ nothing_stored
   pipe_refused = refl
 
-  -- ---- read: 3 of 10 bytes; a line that goes on behind 5 bytes and ends at 9, or waits at 7; a refusal
+  -- ---- read: 3 of 10 bytes; a line that goes on behind 5 bytes and ends at 9, or waits at 7; a refusal; on a file and on a pipe from the buffer's first byte on, whatever the call counts
 
-  read_3 : stored_by_row (call 5 0 8192 10) (Some Read) (goes_on (Called (pos 5) (pos 3)) v) ≡ stored 8192 3
+  read_3 : stored_by_row (call 5 0 8192 10) (shows Shown_terminal) (Some Read) (goes_on (Called (pos 5) (pos 3)) v) ≡ stored 8192 3
   read_3 = refl
 
-  read_on : stored_by_row (record (call 5 0 8192 10) { moved = 5 }) (Some Read) (goes_on (Called (pos 5) (pos 9)) v) ≡ stored 8197 4
+  read_on : stored_by_row (record (call 5 0 8192 10) { moved = 5 }) (shows Shown_terminal) (Some Read) (goes_on (Called (pos 5) (pos 9)) v) ≡ stored 8197 4
   read_on = refl
 
-  read_waits : stored_by_row (record (call 5 0 8192 10) { moved = 5 }) (Some Read) (goes_on (Blocked (pos 5)) (in_call image (record (call 5 0 8192 10) { moved = 7 }))) ≡ stored 8197 2
+  read_waits : stored_by_row (record (call 5 0 8192 10) { moved = 5 }) (shows Shown_terminal) (Some Read) (goes_on (Blocked (pos 5)) (in_call image (record (call 5 0 8192 10) { moved = 7 }))) ≡ stored 8197 2
   unfolding in_call
   read_waits = refl
 
-  read_refused : stored_by_row (call 5 0 8192 10) (Some Read) (goes_on (Called (pos 5) (negsuc 0)) v) ≡ stored 8192 0
+  read_refused : stored_by_row (call 5 0 8192 10) (shows Shown_terminal) (Some Read) (goes_on (Called (pos 5) (negsuc 0)) v) ≡ stored 8192 0
   read_refused = refl
+
+  read_file : stored_by_row (record (call 5 0 8192 10) { moved = 5 }) (shows (Shown_file 0 2)) (Some Read) (goes_on (Called (pos 5) (pos 3)) v) ≡ stored 8192 3
+  read_file = refl
+
+  read_pipe : stored_by_row (record (call 5 0 8192 10) { moved = 5 }) (ends_of new_pipe) (Some Read) (goes_on (Called (pos 5) (pos 3)) v) ≡ stored 8192 3
+  read_pipe = refl
+
+  -- a descriptor that isn't in use, and -1
+  read_nothing : stored_by_row (record (call 5 7 8192 10) { moved = 5 }) (shows Shown_terminal) (Some Read) (goes_on (Called (pos 5) (negsuc 0)) v) ≡ stored 8192 0
+  read_nothing = refl
 
   -- ---- a write, which only reads, and sbrk store nothing
 
-  write_3 : stored_by_row (call 16 0 8192 10) (Some Write) (goes_on (Called (pos 16) (pos 10)) v) ≡ nothing_stored
+  write_3 : stored_by_row (call 16 0 8192 10) v.descriptors (Some Write) (goes_on (Called (pos 16) (pos 10)) v) ≡ nothing_stored
   write_3 = refl
 
-  sbrk : stored_by_row (call 12 4096 0 0) (Some Sbrk) (goes_on (Called (pos 12) (pos 12288)) v) ≡ nothing_stored
+  sbrk : stored_by_row (call 12 4096 0 0) v.descriptors (Some Sbrk) (goes_on (Called (pos 12) (pos 12288)) v) ≡ nothing_stored
   sbrk = refl
 
   -- ---- the step of a process in a call, and of one at an ECALL

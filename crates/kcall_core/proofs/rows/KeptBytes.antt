@@ -1,0 +1,454 @@
+-- In a page that stays, a step changes only bytes that it stores, but for an exec that succeeded.
+use Rattle.std.proofs.Common.{◌≡◌, ◌≢◌, ℕ, zero, suc, ◌+◌, ◌-◌, ◌*◌, ◌/◌, ◌%◌, ◌++◌, Bool, true, false, cond, not, ◌&&◌, ◌||◌, List, [], ◌∷◌, length, refl, ap, sym, ◌∙◌, inl, inr, ◌<◌, ◌≤◌, set, take, drop, subst, arith}
+use Rattle.std.specs.Prelude.{slice_index, Option, None, Some, ℤ, pos, negsuc, nat_eq, nat_lt, nat_le, is_some, slice_get, Result, Ok, Err}
+use Rattle.std.specs.FinMap.{FinMap, get, insert}
+use Rattle.std.specs.Ordering.{nat_cmp}
+use Rattle.std.proofs.lemmas.Bool.{cases_eq, cases_lt}
+use Rattle.std.proofs.lemmas.List.{get_or-set_other, get_or-take, get_or_append_left, get_or-append_right, get_or-drop, length-take-le}
+use Rattle.xk_base.specs.Image.{Image, Page, price, page_count}
+use Rattle.addr_space.specs.Changes.{zeroed, with_absent}
+use Rattle.sv39_core.proofs.Gathered.{gathered-get}
+use Rattle.rv64i_core.specs.Memory.{Store, written}
+use Rattle.xk_base.specs.Loaded.{Loaded, loaded}
+use Rattle.xk_base.specs.declared.errors.ExecError.{ExecError}
+use Rattle.rv64i_core.specs.Step.{Step, Next, Ecall, Fault}
+use Rattle.hart_core.specs.UserMemory.{with_store, written_page, write_pages}
+use Rattle.xk_base.specs.declared.limits.TheConstants.{SIZE_LIMIT, MAXARG, ARG_BYTES, MAXPATH}
+use Rattle.kcall_core.specs.Instruction.{next_instruction}
+use Rattle.kcall_core.specs.Words.{CLOCK_ROUND, minus_one, c_int}
+use Rattle.kcall_core.specs.Buffers.{readable, writable, text_at, texts_at, no_slashes, data_rights, grown, shrunk}
+use Rattle.xk_base.specs.Bytes.{write_image}
+use Rattle.proc_table.specs.declared.process.Call.{Call}
+use Rattle.kcall_core.specs.View.{View, Descriptor, Shown, Shown_terminal, Shown_file, Shown_pipe}
+use Rattle.kcall_core.specs.Own.{Own, Exited, Faulted}
+use Rattle.kcall_core.specs.Calls.{perform, Row, Fork, Exit, Wait, Pipe_row, Read, Kill, Exec, Dup, Getpid, Sbrk, Sleep, Uptime, Open, Write, Close, row_of, answered, gone, done, refused, waits, least_zombie, has_child}
+use Rattle.kcall_core.specs.Programs.{program_bytes, program_named}
+use Rattle.kcall_core.specs.Step.{own, unless_killed, going_on, after_instruction, call_begun, call_or_begun, call_in, begun}
+use Rattle.xk_base.specs.Words.{le_bytes}
+use Rattle.kcall_core.specs.Tables.{lowest_free, lowest_free_above, advance, change_pipe, with_copy, one_more_on, one_less_on, without_descriptor, with_descriptor, pipes_given_up}
+use Rattle.kcall_core.specs.PipeEnds.{there, fit, must_wait}
+use Rattle.pipe_core.specs.Pipe.{without_first, with_more}
+use Rattle.console_core.specs.Reads.{Pulled, pulled}
+use Rattle.kcall_core.specs.State.{ProgramFile}
+use Rattle.std.specs.Int.{cast_unsigned, w32}
+use Rattle.std.specs.List.{list_any}
+use Rattle.kcall_core.specs.Worlds.{IsExecDone, HasWholePages, OnlyStoresChangeBytes}
+use Rattle.kcall_core.specs.Stores.{Stored, nothing_stored, moved_on, moved_through, moved_by_number, moved_after, stored_by_row, stored_by_instruction, stored_in}
+use Rattle.xk_base.specs.Bytes.{put_in, put_byte}
+use Rattle.xk_base.specs.Gathered.{insert_some}
+use Rattle.kcall_core.proofs.steps.Maps.{get_same, get_other}
+use Rattle.kcall_core.specs.Processes.{child_status}
+use Rattle.kcall_core.specs.Ready.{in_use}
+use Rattle.kcall_core.proofs.rows.RowParts.{perform_parts, perform_row, unless, unless_nothing, moving, length_of_int, reaped, without_child, piped, piped_from, with_pipe, read_on, read_from, write_on, write_to, done_at, next_bytes, kill_pid, killed_by, exec_program, exec_path, dup_at, dup_on, dup_number, close_at, close_on, close_number, sbrk_by, grow_to, shrink_to, exec_loaded, running, sleep_for, open_at, open_path, opened_as, kind_named, fork_parts, forked, cannot_fork, with_child, room_to_send}
+use Rattle.kcall_core.proofs.rows.RowsByParts.{perform_same}
+
+same_view : (a b : View) → Some a ≡ Some b → a ≡ b
+same_view a b e = cc
+
+some_page : (a b : Page) → Some a ≡ Some b → a ≡ b
+some_page a b e = cc
+
+-- ---- what a step may change
+
+-- one of the bytes that are stored is at this address
+abbrev Lies : Stored → ℕ → Type 0
+Lies s a = (s.address ≤ a) × (a < s.address + s.count)
+
+-- the page is the other one, but for these bytes
+abbrev IsBut : Stored → ℕ → Page → Page → Type 0
+IsBut s page x y = (y.perm ≡ x.perm) × ((i : ℕ) → i < 4096 → ¬ Lies s (page * 4096 + i) → slice_index y.bytes i ≡ slice_index x.bytes i)
+
+-- pages that stay are as they were, but for these bytes
+abbrev Stay : Stored → Image → Image → Type 0
+Stay s before after = (page : ℕ) (x y : Page) → get before.pages page ≡ Some x → get after.pages page ≡ Some y → IsBut s page x y
+
+-- so it is of the pages of the next view
+abbrev Kept : Stored → View → Own → Type 0
+Kept s v o = (n : View) → o.next ≡ Some n → Stay s v.image n.image
+
+-- and here of a page that stays no byte changes
+abbrev SamePages : Image → Image → Type 0
+SamePages before after = (page : ℕ) (x y : Page) → get before.pages page ≡ Some x → get after.pages page ≡ Some y → y ≡ x
+
+abbrev Calm : View → Own → Type 0
+Calm v o = (n : View) → o.next ≡ Some n → SamePages v.image n.image
+
+same_but : (s : Stored) (page : ℕ) (x y : Page) → y ≡ x → IsBut s page x y
+same_but s page x y e = (ap (λ (p : Page). p.perm) e, λ i below apart. ap (λ (p : Page). slice_index p.bytes i) e)
+
+calm_kept : (s : Stored) (v : View) (o : Own) → Calm v o → Kept s v o
+calm_kept s v o calm n e page x y was is = same_but s page x y (calm n e page x y was is)
+
+-- ---- bytes put one by one
+
+-- the page is there, and the other one but for these bytes
+abbrev ThereBut : FinMap nat_cmp Page → Stored → ℕ → Page → Type 0
+ThereBut m s page x = (y : Page) × (get m page ≡ Some y) × IsBut s page x y
+
+put_stays : (i : Image) (a b page : ℕ) (x : Page) → get i.pages page ≡ Some x → ThereBut (put_byte i a b).pages (record { address = a; count = 1 }) page x
+put_stays i a b page x at = by (get i.pages (a / 4096)) refl
+  where
+    by : (o : Option Page) → get i.pages (a / 4096) ≡ o → ThereBut (put_in i (a / 4096) o (a % 4096) b).pages (record { address = a; count = 1 }) page x
+    by None e = (x, at, same_but _ page x x refl)
+    by (Some p) e = elim (cases_eq page (a / 4096)) [
+      | inl same ↦
+          let is : p ≡ x = some_page p x (sym e ∙ ap (get i.pages) (sym same) ∙ at) in (
+            record { perm = p.perm; bytes = set p.bytes (a % 4096) b },
+            ap (get (insert i.pages (a / 4096) (record { perm = p.perm; bytes = set p.bytes (a % 4096) b }))) same ∙ get_same i.pages (a / 4096) _,
+            (ap (λ (q : Page). q.perm) is, λ k below apart. get_or-set_other p.bytes (a % 4096) k b 0 (λ here. apart (omega (arith, same, here), omega (arith, same, here))) ∙ ap (λ (q : Page). slice_index q.bytes k) is),
+          )
+      | inr other ↦ (x, get_other i.pages (a / 4096) _ page other ∙ at, same_but _ page x x refl)
+    ]
+
+write_stays : (bytes : List ℕ) (i : Image) (a page : ℕ) (x : Page) → get i.pages page ≡ Some x → ThereBut (write_image i a bytes).pages (record { address = a; count = length bytes }) page x
+unfolding write_image
+write_stays [] i a page x at = (x, at, same_but _ page x x refl)
+write_stays (b ∷ bs) i a page x at =
+    let (y, here, first) = put_stays i a b page x at in
+    let (z, there, others) = write_stays bs (put_byte i a b) (a + 1) page y here in
+    (z, there, (others.0 ∙ first.0, λ k below apart. others.1 k below (λ l. let low = l.0 in let high = l.1 in apart (omega (arith, low), omega (arith, high))) ∙ first.1 k below (λ l. let low = l.0 in let high = l.1 in apart (omega (arith, low), omega (arith, high)))))
+
+written_stays : (bytes : List ℕ) (i : Image) (a : ℕ) → Stay (record { address = a; count = length bytes }) i (write_image i a bytes)
+written_stays bytes i a page x y was is =
+    let (z, there, but) = write_stays bytes i a page x was in
+    let same : z ≡ y = some_page z y (sym there ∙ is) in
+    subst (λ (p : Page). IsBut (record { address = a; count = length bytes }) page x p) same but
+
+-- ---- a store of user code
+
+-- an index outside the bytes that are put into a list
+left_of : (xs : List ℕ) (o k : ℕ) (bytes : List ℕ) → o ≤ length xs → k < o → slice_index (written xs o bytes) k ≡ slice_index xs k
+left_of xs o k bytes long below = get_or_append_left (take o xs) (bytes ++ drop (length bytes) (drop o xs)) 0 k (omega (arith, length-take-le o xs long, below)) ∙ get_or-take o xs k 0 below
+
+right_of : (xs : List ℕ) (o k : ℕ) (bytes : List ℕ) → o ≤ length xs → o + length bytes ≤ k → slice_index (written xs o bytes) k ≡ slice_index xs k
+right_of xs o k bytes long behind =
+    let there : o + (length bytes + (k - o - length bytes)) ≡ k = omega (arith, behind) in
+    get_or-append_right (take o xs) (bytes ++ drop (length bytes) (drop o xs)) o k 0 (length-take-le o xs long) (omega (arith, behind))
+    ∙ get_or-append_right bytes (drop (length bytes) (drop o xs)) (length bytes) (k - o) 0 refl (omega (arith, behind))
+    ∙ get_or-drop (length bytes) (drop o xs) (k - o - length bytes) 0
+    ∙ get_or-drop o xs (length bytes + (k - o - length bytes)) 0
+    ∙ ap (slice_index xs) there
+
+module _ (i : Image) (st : Store) (page : ℕ) where
+  abbrev at : ℕ
+  at = st.address / 4096
+
+  abbrev o : ℕ
+  o = st.address % 4096
+
+  abbrev these : Stored
+  these = record { address = st.address; count = length st.bytes }
+
+  outside : (p : Page) (k : ℕ) → o ≤ length p.bytes → page ≡ at → ¬ Lies these (page * 4096 + k) → slice_index (written p.bytes o st.bytes) k ≡ slice_index p.bytes k
+  outside p k long same apart = elim (cases_lt k o) [
+    | inl below ↦ left_of p.bytes o k st.bytes long below
+    | inr above ↦ elim (cases_lt k (o + length st.bytes)) [
+      | inl inside ↦ absurd (apart (omega (arith, same, above), omega (arith, same, inside)))
+      | inr behind ↦ right_of p.bytes o k st.bytes long behind
+    ]
+  ]
+
+  stores_in : (q : Option Page) (x y : Page) → HasWholePages i → get i.pages page ≡ Some x → get i.pages at ≡ q → get (insert_some i.pages at (written_page q o st.bytes)) page ≡ Some y → IsBut these page x y
+  stores_in None x y whole was e found = same_but these page x y (some_page y x (sym found ∙ was))
+  stores_in (Some p) x y whole was e found = elim (cases_eq page at) [
+    | inl same ↦
+        let same_one : p ≡ x = some_page p x (sym e ∙ ap (get i.pages) (sym same) ∙ was) in
+        let new : record p { bytes = written p.bytes o st.bytes } ≡ y = some_page (record p { bytes = written p.bytes o st.bytes }) y (sym (ap (get (insert i.pages at (record p { bytes = written p.bytes o st.bytes }))) same ∙ get_same i.pages at (record p { bytes = written p.bytes o st.bytes })) ∙ found) in
+        let long : o ≤ length p.bytes = omega (arith, whole at p e) in
+        (ap (λ (z : Page). z.perm) (sym new) ∙ ap (λ (z : Page). z.perm) same_one, λ k below apart. ap (λ (z : Page). slice_index z.bytes k) (sym new) ∙ outside p k long same apart ∙ ap (λ (z : Page). slice_index z.bytes k) same_one)
+    | inr other ↦ same_but these page x y (some_page y x (sym found ∙ get_other i.pages at (record p { bytes = written p.bytes o st.bytes }) page other ∙ was))
+  ]
+
+store_stays : (i : Image) (st : Store) → HasWholePages i → Stay (record { address = st.address; count = length st.bytes }) i (with_store i st)
+unfolding write_pages
+store_stays i st whole page x y was is = stores_in i st page (get i.pages (st.address / 4096)) x y whole was refl is
+
+-- ---- sbrk: what stays is as it was
+
+kept_page : (b : Bool) (m : FinMap nat_cmp Page) (v q : ℕ) (page x : Page) → is_some (get m v) ≡ b → get m q ≡ Some x → get (cond b m (insert m v page)) q ≡ Some x
+kept_page true m v q page x none at = at
+kept_page false m v q page x none at = get_other m v page q apart ∙ at
+  where
+    apart : q ≢ v
+    apart e = let there : true ≡ false = sym (ap is_some (ap (get m) (sym e) ∙ at)) ∙ none in let no : ⊥ = cc in no
+
+grown_keeps : (m : FinMap nat_cmp Page) (first n : ℕ) (page : Page) (q : ℕ) (x : Page) → get m q ≡ Some x → get (with_absent m first n page) q ≡ Some x
+unfolding with_absent
+grown_keeps m first zero page q x at = at
+grown_keeps m first (suc n) page q x at = kept_page (is_some (get (with_absent m first n page) (first + n))) (with_absent m first n page) (first + n) q page x refl (grown_keeps m first n page q x at)
+
+grown_same : (i : Image) (size : ℕ) → SamePages i (grown i size)
+grown_same i size page x y was is = some_page y x (sym is ∙ grown_keeps i.pages (page_count i.size) (page_count size - page_count i.size) (zeroed data_rights) page x was)
+
+shrunk_same : (i : Image) (size : ℕ) → SamePages i (shrunk i size)
+shrunk_same i size page x y was is = some_page y x (sym (cut (nat_lt page (page_count size)) (get i.pages page) (sym (gathered-get (get i.pages) (page_count size) page) ∙ is)) ∙ was)
+  where
+    cut : (b : Bool) (o : Option Page) → cond b o None ≡ Some y → o ≡ Some y
+    cut true o e = e
+    cut false o e = let no : ⊥ = cc in absurd no
+
+-- ---- how a row ends
+
+calm_by : (v u : View) → SamePages v.image u.image → (o : Own) → o.next ≡ Some u → Calm v o
+calm_by v u keeps o is n e page x y was there = keeps page x y was (ap (λ (w : View). get w.image.pages page) (same_view u n (sym is ∙ e)) ∙ there)
+
+same_pages : (i j : Image) → j ≡ i → SamePages i j
+same_pages i j e page x y was is = some_page y x (sym is ∙ ap (λ (k : Image). get k.pages page) e ∙ was)
+
+calm_same : (v u : View) → u.image ≡ v.image → (o : Own) → o.next ≡ Some u → Calm v o
+calm_same v u same o is = calm_by v u (same_pages v.image u.image same) o is
+
+calm_gone : (v : View) (o : Own) → o.next ≡ None → Calm v o
+calm_gone v o is n e = let no : ⊥ = cc in absurd no
+
+calm_unless : (b : Bool) (c : Call) (v : View) (go : Unit {0} → Own) → Calm v (go tt) → Calm v (unless b c v go)
+calm_unless true c v go h = calm_same v (record v { regs = _; call = None }) refl (refused c v) refl
+calm_unless false c v go h = h
+
+kept_unless : (s : Own → Stored) (b : Bool) (c : Call) (v : View) (go : Unit {0} → Own) → Kept (s (go tt)) v (go tt) → Kept (s (unless b c v go)) v (unless b c v go)
+kept_unless s true c v go h = calm_kept (s (refused c v)) v (refused c v) (calm_same v (answered minus_one v) refl (refused c v) refl)
+kept_unless s false c v go h = h
+
+kept_written : (v u : View) (a : ℕ) (bytes : List ℕ) (s : Stored) → s ≡ record { address = a; count = length bytes } → u.image ≡ write_image v.image a bytes → (o : Own) → o.next ≡ Some u → Kept s v o
+kept_written v u a bytes s is_so same o is n e page x y was there =
+    let here : get (write_image v.image a bytes).pages page ≡ Some y = sym (ap (λ (k : Image). get k.pages page) same) ∙ ap (λ (w : View). get w.image.pages page) (same_view u n (sym is ∙ e)) ∙ there in
+    subst (λ (t : Stored). IsBut t page x y) (sym is_so) (written_stays bytes v.image a page x y was here)
+
+calm_grow : (c : Call) (v : View) (size : ℕ) → Calm v (grow_to c v size)
+calm_grow c v size = calm_unless (nat_lt SIZE_LIMIT size || nat_lt v.free (price (grown v.image size) - price v.image)) c v
+    (λ _. done c (pos v.image.size) (record v { image = grown v.image size; free = v.free - (price (grown v.image size) - price v.image) }))
+    (calm_by v (answered (pos v.image.size) (record v { image = grown v.image size; free = v.free - (price (grown v.image size) - price v.image) })) (grown_same v.image size)
+    (done c (pos v.image.size) (record v { image = grown v.image size; free = v.free - (price (grown v.image size) - price v.image) })) refl)
+
+calm_shrink : (c : Call) (v : View) (size : ℕ) → Calm v (shrink_to c v size)
+calm_shrink c v size = calm_by v _ (shrunk_same v.image size) (shrink_to c v size) refl
+
+-- ---- every row
+
+module _ (c : Call) (v : View) where
+  same_done : (value : ℤ) (u : View) → u.image ≡ v.image → Calm v (done c value u)
+  same_done value u e = calm_same v (answered value u) e (done c value u) refl
+
+  same_waits : (moved : ℕ) (u : View) → u.image ≡ v.image → Calm v (waits c moved u)
+  same_waits moved u e = calm_same v (record u { call = Some (record c { moved = moved }) }) e (waits c moved u) refl
+
+  refusal : Calm v (refused c v)
+  refusal = same_done minus_one v refl
+
+  whichever : (b : Bool) (x y : Own) → Calm v x → Calm v y → Calm v (cond b x y)
+  whichever true x y h g = h
+  whichever false x y h g = g
+
+  nothing_row : (b : Bool) (go : Unit {0} → Own) → Calm v (go tt) → Calm v (unless_nothing b c v go)
+  nothing_row true go h = same_done (pos 0) v refl
+  nothing_row false go h = h
+
+  moving_row : (r : Bool) (z : ℤ) (go : ℕ → Own) → ((n : ℕ) → Calm v (go n)) → Calm v (moving c v r z go)
+  moving_row r (negsuc k) go h = refusal
+  moving_row r (pos n) go h = nothing_row (nat_eq n 0) (λ _. unless (not r) c v (λ _. go n)) (calm_unless (not r) c v (λ _. go n) (h n))
+
+  -- ---- the three rows that store
+
+  abbrev s_of : Row → Own → Stored
+  s_of r o = stored_by_row c v.descriptors (Some r) o
+
+  kept_cond : (s : Own → Stored) (b : Bool) (x y : Own) → Kept (s x) v x → Kept (s y) v y → Kept (s (cond b x y)) v (cond b x y)
+  kept_cond s true x y h g = h
+  kept_cond s false x y h g = g
+
+  told_row : (b : Bool) (q : ℕ) (image : Image) (u : View) (bytes : List ℕ) → length bytes ≡ 4 → u.image ≡ v.image → image ≡ write_image v.image c.a0 bytes
+      → Kept (cond b nothing_stored (record { address = c.a0; count = 4 })) v (done c (pos q) (cond b u (record u { image = image })))
+  told_row true q image u bytes four e f = calm_kept nothing_stored v (done c (pos q) u) (same_done (pos q) u e)
+  told_row false q image u bytes four e f = kept_written v (answered (pos q) (record u { image = image })) c.a0 bytes _ (ap (λ k. record { address = c.a0; count = k }) (sym four)) f (done c (pos q) (record u { image = image })) refl
+
+  reaped_row : (o : Option ℕ) → Kept (s_of Wait (reaped c v o)) v (reaped c v o)
+  reaped_row (Some q) = told_row (nat_eq c.a0 0) q (write_image v.image c.a0 (le_bytes 4 (cast_unsigned w32 (child_status (v.children q))))) (without_child q v) (le_bytes 4 (cast_unsigned w32 (child_status (v.children q)))) refl refl refl
+  reaped_row None = kept_cond (s_of Wait) (has_child v) (waits c 0 v) (refused c v) (calm_kept (s_of Wait (waits c 0 v)) v (waits c 0 v) (same_waits 0 v refl)) (calm_kept (s_of Wait (refused c v)) v (refused c v) refusal)
+
+  piped_row : (r : ℕ) (o : Option ℕ) → Kept (s_of Pipe_row (piped c v r o)) v (piped c v r o)
+  piped_row r None = calm_kept (s_of Pipe_row (refused c v)) v (refused c v) refusal
+  piped_row r (Some w) =
+      let u : View = record (with_pipe r w v) { image = write_image v.image c.a0 (le_bytes 4 r ++ le_bytes 4 w) } in
+      kept_written v (answered (pos 0) u) c.a0 (le_bytes 4 r ++ le_bytes 4 w) _ refl refl (done c (pos 0) u) refl
+
+  piped_from_row : (o : Option ℕ) → Kept (s_of Pipe_row (piped_from c v o)) v (piped_from c v o)
+  piped_from_row None = calm_kept (s_of Pipe_row (refused c v)) v (refused c v) refusal
+  piped_from_row (Some r) = piped_row r (lowest_free_above v.descriptors r)
+
+  -- a read that has moved m bytes before
+  abbrev read_of : ℕ → Own → Stored
+  read_of m o = record { address = c.a1 + m; count = moved_after o.answer o.next - m }
+
+  ended_read : (m k : ℕ) (u : View) (bytes : List ℕ) → k ≡ m + length bytes → u.image ≡ write_image v.image (c.a1 + m) bytes → Kept (read_of m (done c (pos k) u)) v (done c (pos k) u)
+  ended_read m k u bytes count e = kept_written v (answered (pos k) u) (c.a1 + m) bytes _ (ap (λ x. record { address = c.a1 + m; count = x }) (omega (arith, count))) e (done c (pos k) u) refl
+
+  waiting_read : (m k : ℕ) (u : View) (bytes : List ℕ) → k ≡ m + length bytes → u.image ≡ write_image v.image (c.a1 + m) bytes → Kept (read_of m (waits c k u)) v (waits c k u)
+  waiting_read m k u bytes count e = kept_written v (record u { call = Some (record c { moved = k }) }) (c.a1 + m) bytes _ (ap (λ x. record { address = c.a1 + m; count = x }) (omega (arith, count))) e (waits c k u) refl
+
+  at_start : (bytes : List ℕ) → write_image v.image c.a1 bytes ≡ write_image v.image (c.a1 + 0) bytes
+  at_start bytes = let e : c.a1 ≡ c.a1 + 0 = omega arith in ap (λ a. write_image v.image a bytes) e
+
+  read_from_row : (n file : ℕ) (x : Shown) → Kept (read_of (moved_on c x) (read_from c v n file x)) v (read_from c v n file x)
+  read_from_row n file Shown_terminal =
+      let p : Pulled = pulled (nat_eq c.moved 0) (n - c.moved) v.console.committed in
+      let after : View = record v { image = write_image v.image (c.a1 + c.moved) p.taken; console = record v.console { committed = p.left } } in
+      kept_cond (read_of c.moved) p.ended (done c (pos (c.moved + length p.taken)) after) (waits c (c.moved + length p.taken) after)
+      (ended_read c.moved (c.moved + length p.taken) after p.taken refl refl) (waiting_read c.moved (c.moved + length p.taken) after p.taken refl refl)
+  read_from_row n file (Shown_file program offset) =
+      let bytes : List ℕ = take n (drop offset (program_bytes (slice_get v.programs program))) in
+      let e : length bytes ≡ 0 + length bytes = omega arith in
+      ended_read 0 (length bytes) (record v { image = write_image v.image c.a1 bytes; descriptors = advance file (length bytes) v.descriptors }) bytes e (at_start bytes)
+  read_from_row n file (Shown_pipe name end pipe) =
+      let k : ℕ = there pipe n in
+      let after : View = record v { image = write_image v.image c.a1 (take k pipe.bytes); descriptors = change_pipe name (without_first k pipe) v.descriptors } in
+      kept_cond (read_of 0) (must_wait pipe) (waits c 0 v) (done c (pos k) after) (calm_kept (read_of 0 (waits c 0 v)) v (waits c 0 v) (same_waits 0 v refl)) (ended_read 0 k after (take k pipe.bytes) (omega (arith, length-take-le k pipe.bytes (omega arith))) (at_start (take k pipe.bytes)))
+
+  kept_nothing : (s : Own → Stored) (b : Bool) (go : Unit {0} → Own) → Kept (s (go tt)) v (go tt) → Kept (s (unless_nothing b c v go)) v (unless_nothing b c v go)
+  kept_nothing s true go h = calm_kept (s (done c (pos 0) v)) v (done c (pos 0) v) (same_done (pos 0) v refl)
+  kept_nothing s false go h = h
+
+  kept_moving : (s : Own → Stored) (r : Bool) (z : ℤ) (go : ℕ → Own) → ((n : ℕ) → Kept (s (go n)) v (go n)) → Kept (s (moving c v r z go)) v (moving c v r z go)
+  kept_moving s r (negsuc k) go h = calm_kept (s (refused c v)) v (refused c v) refusal
+  kept_moving s r (pos n) go h = kept_nothing s (nat_eq n 0) (λ _. unless (not r) c v (λ _. go n)) (kept_unless s (not r) c v (λ _. go n) (h n))
+
+  read_on_row : (o : Option Descriptor) → Kept (read_of (moved_through c o) (read_on c v o)) v (read_on c v o)
+  read_on_row None = calm_kept (read_of 0 (refused c v)) v (refused c v) refusal
+  read_on_row (Some d) = kept_unless (read_of (moved_on c d.shown)) (not d.read) c v (λ _. moving c v (writable v.image c.a1 (length_of_int (c_int c.a2))) (c_int c.a2) (λ n. read_from c v n d.file d.shown))
+      (kept_moving (read_of (moved_on c d.shown)) (writable v.image c.a1 (length_of_int (c_int c.a2))) (c_int c.a2) (λ n. read_from c v n d.file d.shown) (λ n. read_from_row n d.file d.shown))
+
+  moved_is : (z : ℤ) → moved_through c (in_use v z) ≡ moved_by_number c v.descriptors z
+  moved_is (pos fd) = refl
+  moved_is (negsuc k) = refl
+
+  read_row : Kept (s_of Read (read_on c v (in_use v (c_int c.a0)))) v (read_on c v (in_use v (c_int c.a0)))
+  read_row = subst (λ m. Kept (read_of m (read_on c v (in_use v (c_int c.a0)))) v (read_on c v (in_use v (c_int c.a0)))) (moved_is (c_int c.a0)) (read_on_row (in_use v (c_int c.a0)))
+
+  -- ---- the rows that store nothing
+
+  done_at_row : (n moved : ℕ) (u : View) → u.image ≡ v.image → Calm v (done_at c n moved u)
+  done_at_row n moved u e = whichever (nat_le n moved) (done c (pos n) u) (waits c moved u) (same_done (pos n) u e) (same_waits moved u e)
+
+  write_to_row : (n : ℕ) (x : Shown) → Calm v (write_to c v n x)
+  write_to_row n Shown_terminal = done_at_row n (c.moved + room_to_send v.console (n - c.moved)) (record v { console = record v.console { to_send = v.console.to_send ++ next_bytes c v (room_to_send v.console (n - c.moved)) } }) refl
+  write_to_row n (Shown_file program offset) = refusal
+  write_to_row n (Shown_pipe name end pipe) = calm_unless (nat_eq pipe.readers 0) c v
+      (λ _. done_at c n (c.moved + fit pipe (n - c.moved)) (record v { descriptors = change_pipe name (with_more (next_bytes c v (fit pipe (n - c.moved))) pipe) v.descriptors }))
+      (done_at_row n (c.moved + fit pipe (n - c.moved)) (record v { descriptors = change_pipe name (with_more (next_bytes c v (fit pipe (n - c.moved))) pipe) v.descriptors }) refl)
+
+  write_on_row : (o : Option Descriptor) → Calm v (write_on c v o)
+  write_on_row None = refusal
+  write_on_row (Some d) = calm_unless (not d.write) c v (λ _. moving c v (readable v.image c.a1 (length_of_int (c_int c.a2))) (c_int c.a2) (λ m. write_to c v m d.shown))
+      (moving_row (readable v.image c.a1 (length_of_int (c_int c.a2))) (c_int c.a2) (λ m. write_to c v m d.shown) (λ m. write_to_row m d.shown))
+
+  kill_row : (z : ℤ) → Calm v (kill_pid c v z)
+  kill_row (negsuc k) = refusal
+  kill_row (pos q) = calm_unless (nat_eq q 0) c v (λ _. killed_by c v q)
+      (calm_unless (not (list_any (nat_eq q) v.pids)) c v (λ _. record (done c (pos 0) (record v { killed = v.killed || nat_eq q v.pid })) { marked = Some q })
+      (calm_same v (answered (pos 0) (record v { killed = v.killed || nat_eq q v.pid })) refl (record (done c (pos 0) (record v { killed = v.killed || nat_eq q v.pid })) { marked = Some q }) refl))
+
+  loaded_row : row_of c.number ≡ Some Exec → (l : Loaded) (b : Bool) → ¬ IsExecDone c (unless b c v (λ _. done c (pos l.argc) (running l v))) → Calm v (unless b c v (λ _. done c (pos l.argc) (running l v)))
+  loaded_row row l true apart = refusal
+  loaded_row row l false apart = absurd (apart (l.argc, row, refl))
+
+  loaded_by : row_of c.number ≡ Some Exec → (r : Result Loaded ExecError) → ¬ IsExecDone c (exec_loaded c v r) → Calm v (exec_loaded c v r)
+  loaded_by row (Err e) apart = refusal
+  loaded_by row (Ok l) apart = loaded_row row l (nat_lt v.free (price l.image)) apart
+
+  program_row : row_of c.number ≡ Some Exec → (texts : Option (List (List ℕ))) (o : Option ProgramFile) → ¬ IsExecDone c (exec_program c v texts o) → Calm v (exec_program c v texts o)
+  program_row row None o apart = refusal
+  program_row row (Some texts) None apart = refusal
+  program_row row (Some texts) (Some p) apart = loaded_by row (loaded p.bytes texts) apart
+
+  exec_row : row_of c.number ≡ Some Exec → (o : Option (List ℕ)) → ¬ IsExecDone c (exec_path c v o) → Calm v (exec_path c v o)
+  exec_row row None apart = refusal
+  exec_row row (Some path) apart = program_row row (texts_at MAXARG ARG_BYTES v.image c.a1) (program_named (no_slashes path) v.programs) apart
+
+  dup_to : (j : ℕ) (d : Descriptor) (o : Option ℕ) → Calm v (dup_at c v j d o)
+  dup_to j d None = refusal
+  dup_to j d (Some k) = same_done (pos k) (record v { descriptors = with_copy k j (one_more_on d.shown v.descriptors) }) refl
+
+  dup_from : (j : ℕ) (o : Option Descriptor) → Calm v (dup_on c v j o)
+  dup_from j None = refusal
+  dup_from j (Some d) = dup_to j d (lowest_free v.descriptors)
+
+  dup_row : (z : ℤ) → Calm v (dup_number c v z)
+  dup_row (negsuc k) = refusal
+  dup_row (pos j) = dup_from j (v.descriptors j)
+
+  close_from : (k : ℕ) (o : Option Descriptor) → Calm v (close_on c v k o)
+  close_from k None = refusal
+  close_from k (Some d) = calm_same v (answered (pos 0) (record v { descriptors = without_descriptor k (one_less_on d.shown v.descriptors); free = v.free + pipes_given_up (one_less_on d.shown v.descriptors) })) refl (close_at c v k d) refl
+
+  close_row : (z : ℤ) → Calm v (close_number c v z)
+  close_row (negsuc k) = refusal
+  close_row (pos k) = close_from k (v.descriptors k)
+
+  sbrk_row : (z : ℤ) → Calm v (sbrk_by c v z)
+  sbrk_row (pos n) = calm_grow c v (v.image.size + n)
+  sbrk_row (negsuc k) = calm_unless (nat_le v.image.size k || nat_lt SIZE_LIMIT (v.image.size - suc k)) c v (λ _. shrink_to c v (v.image.size - suc k)) (calm_shrink c v (v.image.size - suc k))
+
+  sleep_row : (z : ℤ) → Calm v (sleep_for c v z)
+  sleep_row (negsuc k) = same_done (pos 0) v refl
+  sleep_row (pos n) = whichever (nat_lt ((v.clock + CLOCK_ROUND - c.clock) % CLOCK_ROUND) n) (waits c 0 v) (done c (pos 0) v) (same_waits 0 v refl) (same_done (pos 0) v refl)
+
+  open_to : (o : Option ℕ) (what : Option (Bool × Bool × Shown)) → Calm v (open_at c v o what)
+  open_to None what = refusal
+  open_to (Some k) None = refusal
+  open_to (Some k) (Some what) = same_done (pos k) (record v { descriptors = with_descriptor k (record { file = k; read = what.0; write = what.1; shown = what.2 }) v.descriptors }) refl
+
+  open_row : (o : Option (List ℕ)) → Calm v (open_path c v o)
+  open_row None = refusal
+  open_row (Some path) = open_to (lowest_free v.descriptors) (opened_as (kind_named (no_slashes path) v) (c_int c.a1))
+
+  fork_row : Calm v (fork_parts c v)
+  fork_row = calm_unless (cannot_fork v) c v (λ _. forked c v) (calm_same v (answered (pos v.next_pid) (with_child v)) refl (forked c v) refl)
+
+  by_row : (r : Option Row) → row_of c.number ≡ r → ¬ IsExecDone c (perform_row c v r) → Kept (stored_by_row c v.descriptors r (perform_row c v r)) v (perform_row c v r)
+  unfolding perform_row
+  by_row None e apart = calm_kept nothing_stored v (perform_row c v None) refusal
+  by_row (Some Fork) e apart = calm_kept nothing_stored v (perform_row c v (Some Fork)) fork_row
+  by_row (Some Exit) e apart = calm_kept nothing_stored v (perform_row c v (Some Exit)) (calm_gone v (gone (Exited (c_int c.a0)) v) refl)
+  by_row (Some Wait) e apart = kept_unless (s_of Wait) (not (nat_eq c.a0 0) && not (writable v.image c.a0 4)) c v (λ _. reaped c v (least_zombie v)) (reaped_row (least_zombie v))
+  by_row (Some Pipe_row) e apart = kept_unless (s_of Pipe_row) (not (writable v.image c.a0 8) || nat_eq v.free 0) c v (λ _. piped_from c v (lowest_free v.descriptors)) (piped_from_row (lowest_free v.descriptors))
+  by_row (Some Read) e apart = read_row
+  by_row (Some Kill) e apart = calm_kept nothing_stored v (perform_row c v (Some Kill)) (kill_row (c_int c.a0))
+  by_row (Some Exec) e apart = calm_kept nothing_stored v (perform_row c v (Some Exec)) (exec_row e (text_at MAXPATH v.image c.a0) apart)
+  by_row (Some Dup) e apart = calm_kept nothing_stored v (perform_row c v (Some Dup)) (dup_row (c_int c.a0))
+  by_row (Some Getpid) e apart = calm_kept nothing_stored v (perform_row c v (Some Getpid)) (same_done (pos v.pid) v refl)
+  by_row (Some Sbrk) e apart = calm_kept nothing_stored v (perform_row c v (Some Sbrk)) (sbrk_row (c_int c.a0))
+  by_row (Some Sleep) e apart = calm_kept nothing_stored v (perform_row c v (Some Sleep)) (sleep_row (c_int c.a0))
+  by_row (Some Uptime) e apart = calm_kept nothing_stored v (perform_row c v (Some Uptime)) (same_done (pos v.clock) v refl)
+  by_row (Some Open) e apart = calm_kept nothing_stored v (perform_row c v (Some Open)) (open_row (text_at MAXPATH v.image c.a0))
+  by_row (Some Write) e apart = calm_kept nothing_stored v (perform_row c v (Some Write)) (write_on_row (in_use v (c_int c.a0)))
+  by_row (Some Close) e apart = calm_kept nothing_stored v (perform_row c v (Some Close)) (close_row (c_int c.a0))
+
+  parts_keep : ¬ IsExecDone c (perform_parts c v) → Kept (stored_by_row c v.descriptors (row_of c.number) (perform_parts c v)) v (perform_parts c v)
+  unfolding perform_parts
+  parts_keep apart = by_row (row_of c.number) refl apart
+
+  pub perform_keeps : ¬ IsExecDone c (perform c v) → Kept (stored_by_row c v.descriptors (row_of c.number) (perform c v)) v (perform c v)
+  perform_keeps = subst (λ (o : Own). ¬ IsExecDone c o → Kept (stored_by_row c v.descriptors (row_of c.number) o) v o) (sym (perform_same c v)) parts_keep
+
+-- ---- a step
+
+module _ (v : View) (whole : HasWholePages v.image) where
+  instruction_keeps : (st : Step) → ¬ IsExecDone (call_begun v) (after_instruction v st) → Kept (stored_by_instruction v st (after_instruction v st)) v (after_instruction v st)
+  instruction_keeps (Next r None) apart = calm_kept nothing_stored v (after_instruction v (Next r None)) (calm_same v (record v { regs = r }) refl (after_instruction v (Next r None)) refl)
+  instruction_keeps (Next r (Some st)) apart = λ n e page x y was is. store_stays v.image st whole page x y was (ap (λ (w : View). get w.image.pages page) (same_view (record v { regs = r; image = with_store v.image st }) n e) ∙ is)
+  instruction_keeps Ecall apart = perform_keeps (call_begun v) (begun v) apart
+  instruction_keeps (Fault cause) apart = calm_kept nothing_stored v (gone (Faulted cause) v) (calm_gone v (gone (Faulted cause) v) refl)
+
+  going_keeps : (o : Option Call) → ¬ IsExecDone (call_or_begun v o) (going_on v o) → Kept (stored_in v o (going_on v o)) v (going_on v o)
+  going_keeps None apart = instruction_keeps (next_instruction v.regs v.image) apart
+  going_keeps (Some c) apart = perform_keeps c v apart
+
+  unless_keeps : (b : Bool) → ¬ IsExecDone (call_in v) (unless_killed v b) → Kept (stored_in v v.call (unless_killed v b)) v (unless_killed v b)
+  unless_keeps true apart = calm_kept (stored_in v v.call (gone (Exited minus_one) v)) v (gone (Exited minus_one) v) (calm_gone v (gone (Exited minus_one) v) refl)
+  unless_keeps false apart = going_keeps v.call apart
+
+  own_keeps : ¬ IsExecDone (call_in v) (own v) → Kept (stored_in v v.call (own v)) v (own v)
+  unfolding own
+  own_keeps apart = unless_keeps v.killed apart
+
+pub only_stores_change_bytes : OnlyStoresChangeBytes
+only_stores_change_bytes v n whole next apart = own_keeps v whole apart n next
