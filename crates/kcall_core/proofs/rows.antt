@@ -18,5 +18,6 @@ pub mod CleanPages
 pub mod NewBytes
 pub mod KeptBytes
 pub mod OwnBytes
+pub mod MayStore
 pub mod Again
 pub mod Asleep

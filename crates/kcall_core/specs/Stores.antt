@@ -67,10 +67,14 @@ abbrev pub stored_in : View → Option Call → Own → Stored
 stored_in v (Some c) o = stored_by_row c v.descriptors (row_of c.number) o
 stored_in v None o = stored_by_instruction v (next_instruction v.regs v.image) o
 
--- what the step of this view stores
+-- what the step of this view stores; a marked process ends, and stores nothing
 abbrev pub stored_by : View → Stored
-stored_by v = stored_in v v.call (own v)
+stored_by v = if v.killed then nothing_stored else stored_in v v.call (own v)
+
+-- a byte of these is at this address
+abbrev pub Lies : Stored → ℕ → Type 0
+Lies s a = (s.address ≤ a) × (a < s.address + s.count)
 
 -- the step stores a byte at this address
 abbrev pub IsStored : View → ℕ → Type 0
-IsStored v a = ((stored_by v).address ≤ a) × (a < (stored_by v).address + (stored_by v).count)
+IsStored v a = Lies (stored_by v) a

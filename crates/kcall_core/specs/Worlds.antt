@@ -1,5 +1,5 @@
 -- Isolation, as laws over runs.
-use Rattle.std.specs.Prelude.{◌≡◌, ℕ, ℤ, pos, Bool, List, [], ◌∷◌, ◌++◌, false, replicate, map, filter, nat_eq, Option, None, Some, IsSome, Ok, option_map, ◌⊎◌, ◌≢◌, ◌+◌, ◌*◌, ◌%◌, ◌<◌, Contains, length, slice_index}
+use Rattle.std.specs.Prelude.{◌≡◌, ℕ, ℤ, pos, Bool, List, [], ◌∷◌, ◌++◌, true, false, replicate, map, filter, nat_eq, Option, None, Some, IsSome, Ok, option_map, ◌⊎◌, ◌≢◌, ◌+◌, ◌*◌, ◌%◌, ◌<◌, Contains, length, slice_index}
 use Rattle.std.specs.FinMap.{get}
 use Rattle.kcall_core.specs.State.{ProgramFile, State}
 use Rattle.xk_base.specs.Image.{Page, Image}
@@ -22,6 +22,8 @@ use Rattle.console_core.specs.Keys.{line}
 use Rattle.kcall_core.specs.Words.{CLOCK_ROUND, c_int, minus_one}
 use Rattle.kcall_core.specs.First.{first}
 use Rattle.kcall_core.specs.StepLaws.{waiting_calls}
+use Rattle.user_copy.specs.Reach.{may}
+use Rattle.xk_base.specs.declared.access.Access.TheVariants.{Store}
 use Rattle.kcall_core.specs.Stores.{IsStored}
 
 -- ---- the part of a view that other events may change
@@ -237,6 +239,10 @@ OtherBytesStay v n =
 -- In a page that stays no step changes a byte that it doesn't store, but for an exec that succeeded
 abbrev pub OnlyStoresChangeBytes : Type 0
 OnlyStoresChangeBytes = (v n : View) → HasWholePages v.image → (own v).next ≡ Some n → ¬ IsExecDone (call_in v) (own v) → OtherBytesStay v n
+
+-- A step stores only where user code may store
+abbrev pub StoresWhereUserMay : Type 0
+StoresWhereUserMay = (v : View) (a : ℕ) → IsStored v a → may Store v.image a ≡ true
 
 -- where the byte at place i of a page is from: the step stores it, or it stood there before, or it is a 0 in a page that wasn't there
 abbrev pub IsOfItsOwn : View → (page i byte : ℕ) → Type 0

@@ -13,7 +13,7 @@ ghost use Rattle.kcall_core.specs.Room.{WholeHasRoom};
 ghost use Rattle.kcall_core.specs.Rounds.{RoundsThenPlan, RoundsFollowRounds, PlanIsRounds, CutEndsInRound};
 ghost use Rattle.kcall_core.specs.StepLaws.{RefusalsChangeNothing, InCallWhereBlocked, BlockedIsInCall};
 ghost use Rattle.kcall_core.specs.Wakes.{PromisedRunsJoin, PromisedRunsSplit, PromisedIsRun, NoLostWakeUp, NeverLost, StaysRunnable, SlotsStay, WaitsAtMost, TurnComes, ComesNearer, IsNear, BlocksUnready};
-ghost use Rattle.kcall_core.specs.Worlds.{TwoWorlds, SameStep, RunsAreCut, PidsAreGiven, OnlyWaitersAreInCalls, OnlyBrokenWritesFailLate, RunsJoin, RunsSplit, Isolated, OthersKeep, OutsideSteps, HaltedStays, UnreadyWaits, NoOldByte, OnlyStoresChangeBytes, EachByteIsOfItsOwn, NoOldPage, NoOldPipe, NoOldChild};
+ghost use Rattle.kcall_core.specs.Worlds.{TwoWorlds, SameStep, RunsAreCut, PidsAreGiven, OnlyWaitersAreInCalls, OnlyBrokenWritesFailLate, RunsJoin, RunsSplit, Isolated, OthersKeep, OutsideSteps, HaltedStays, UnreadyWaits, NoOldByte, OnlyStoresChangeBytes, StoresWhereUserMay, EachByteIsOfItsOwn, NoOldPage, NoOldPipe, NoOldChild};
 
 /// What a process does and sees follows from what it saw and from what is shared with it, whatever else the
 /// machine holds.
@@ -92,6 +92,9 @@ pub fn no_old_byte()
 
     // In a page that stays no byte changes that the step doesn't store, but by an exec that succeeded.
     ensures only_stores_change_bytes { OnlyStoresChangeBytes }
+
+    // And it stores only where user code may store.
+    ensures stores_where_user_may { StoresWhereUserMay }
 
     // So after every step but such an exec each byte of the process's memory is one that the step stored,
     // the one that stood there before, or a 0 in a page that wasn't there.

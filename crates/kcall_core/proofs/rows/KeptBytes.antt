@@ -33,7 +33,7 @@ use Rattle.kcall_core.specs.State.{ProgramFile}
 use Rattle.std.specs.Int.{cast_unsigned, w32}
 use Rattle.std.specs.List.{list_any}
 use Rattle.kcall_core.specs.Worlds.{IsExecDone, HasWholePages, OnlyStoresChangeBytes}
-use Rattle.kcall_core.specs.Stores.{Stored, nothing_stored, moved_on, moved_through, moved_by_number, moved_after, stored_by_row, stored_by_instruction, stored_in}
+use Rattle.kcall_core.specs.Stores.{Stored, nothing_stored, moved_on, moved_through, moved_by_number, moved_after, stored_by_row, stored_by_instruction, stored_in, Lies}
 use Rattle.xk_base.specs.Bytes.{put_in, put_byte}
 use Rattle.xk_base.specs.Gathered.{insert_some}
 use Rattle.kcall_core.proofs.steps.Maps.{get_same, get_other}
@@ -49,10 +49,6 @@ some_page : (a b : Page) → Some a ≡ Some b → a ≡ b
 some_page a b e = cc
 
 -- ---- what a step may change
-
--- one of the bytes that are stored is at this address
-abbrev Lies : Stored → ℕ → Type 0
-Lies s a = (s.address ≤ a) × (a < s.address + s.count)
 
 -- the page is the other one, but for these bytes
 abbrev IsBut : Stored → ℕ → Page → Page → Type 0
@@ -442,11 +438,11 @@ module _ (v : View) (whole : HasWholePages v.image) where
   going_keeps None apart = instruction_keeps (next_instruction v.regs v.image) apart
   going_keeps (Some c) apart = perform_keeps c v apart
 
-  unless_keeps : (b : Bool) → ¬ IsExecDone (call_in v) (unless_killed v b) → Kept (stored_in v v.call (unless_killed v b)) v (unless_killed v b)
-  unless_keeps true apart = calm_kept (stored_in v v.call (gone (Exited minus_one) v)) v (gone (Exited minus_one) v) (calm_gone v (gone (Exited minus_one) v) refl)
+  unless_keeps : (b : Bool) → ¬ IsExecDone (call_in v) (unless_killed v b) → Kept (cond b nothing_stored (stored_in v v.call (unless_killed v b))) v (unless_killed v b)
+  unless_keeps true apart = calm_kept nothing_stored v (gone (Exited minus_one) v) (calm_gone v (gone (Exited minus_one) v) refl)
   unless_keeps false apart = going_keeps v.call apart
 
-  own_keeps : ¬ IsExecDone (call_in v) (own v) → Kept (stored_in v v.call (own v)) v (own v)
+  own_keeps : ¬ IsExecDone (call_in v) (own v) → Kept (cond v.killed nothing_stored (stored_in v v.call (own v))) v (own v)
   unfolding own
   own_keeps apart = unless_keeps v.killed apart
 

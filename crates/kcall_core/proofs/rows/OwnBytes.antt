@@ -5,10 +5,8 @@ use Rattle.std.specs.FinMap.{get}
 use Rattle.std.proofs.lemmas.Bool.{cases_lt}
 use Rattle.xk_base.specs.Image.{Page}
 use Rattle.kcall_core.specs.View.{View}
-use Rattle.kcall_core.specs.Own.{Own}
-use Rattle.kcall_core.specs.Step.{own, call_in}
 use Rattle.kcall_core.specs.Stores.{Stored, stored_by, IsStored}
-use Rattle.kcall_core.specs.Worlds.{IsExecDone, HasWholePages, IsOfItsOwn, EachByteIsOfItsOwn}
+use Rattle.kcall_core.specs.Worlds.{EachByteIsOfItsOwn}
 use Rattle.kcall_core.proofs.rows.KeptBytes.{only_stores_change_bytes}
 use Rattle.kcall_core.proofs.rows.NewPages.{no_old_byte}
 

@@ -98,6 +98,11 @@ module _ (image : Image) where
   unfolding own in_call perform row row_of ◌>>=◌ ◌or◌
   in_progress = refl
 
+  -- a marked process, at a store
+  marked : stored_by (record v { killed = true; call = None }) ≡ nothing_stored
+  unfolding in_call
+  marked = refl
+
   asked : stored_by_instruction (record v { call = None; regs = fresh 4 }) Ecall (goes_on (Called (pos 0) (negsuc 0)) v) ≡ nothing_stored
   unfolding row_of in_call
   asked = refl

@@ -1,6 +1,7 @@
 use Rattle.kcall_core.proofs.laws.no_old_byte.Goals as goal
 use Rattle.kcall_core.proofs.rows.CleanPages as in-clean-pages
 use Rattle.kcall_core.proofs.rows.KeptBytes as in-kept-bytes
+use Rattle.kcall_core.proofs.rows.MayStore as in-may-store
 use Rattle.kcall_core.proofs.rows.NewBytes as in-new-bytes
 use Rattle.kcall_core.proofs.rows.NewPages as in-new-pages
 use Rattle.kcall_core.proofs.rows.OwnBytes as in-own-bytes
@@ -13,6 +14,9 @@ returns-clause-no_old_page c = in-clean-pages.no_old_page
 
 pub returns-clause-only_stores_change_bytes : goal.returns-clause-only_stores_change_bytes
 returns-clause-only_stores_change_bytes c = in-kept-bytes.only_stores_change_bytes
+
+pub returns-clause-stores_where_user_may : goal.returns-clause-stores_where_user_may
+returns-clause-stores_where_user_may c = in-may-store.stores_where_user_may
 
 pub returns-clause-each_byte_is_of_its_own : goal.returns-clause-each_byte_is_of_its_own
 returns-clause-each_byte_is_of_its_own c = in-own-bytes.each_byte_is_of_its_own

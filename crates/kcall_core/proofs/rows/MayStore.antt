@@ -1,0 +1,346 @@
+-- A step stores only where user code may store.
+use Rattle.std.proofs.Common.{◌≡◌, ℕ, zero, suc, ◌+◌, ◌-◌, ◌/◌, ◌%◌, ◌^◌, ◌<◌, ◌≤◌, Bool, true, false, cond, not, ◌&&◌, ◌||◌, List, [], ◌∷◌, length, refl, ap, sym, ◌∙◌, take, drop, subst, arith}
+use Rattle.std.specs.Prelude.{Option, None, Some, ℤ, pos, negsuc, nat_eq, nat_le, slice_get, option_map, Result, Ok, Err}
+use Rattle.std.specs.FinMap.{get}
+use Rattle.std.proofs.lemmas.List.{length-take}
+use Rattle.std.proofs.lemmas.Bool.{leb-false, eqb-true}
+use Rattle.xk_base.specs.Words.{le_bytes}
+use Rattle.xk_base.proofs.Words.{length-le_bytes}
+use Rattle.xk_base.specs.Image.{Image, Page}
+use Rattle.xk_base.specs.Bytes.{write_image}
+use Rattle.xk_base.specs.declared.access.Access.TheVariants.{Store as Storing}
+use Rattle.xk_base.specs.declared.access.Cause.{Cause}
+use Rattle.xk_base.specs.declared.access.Cause.TheVariants.{StorePageFault, StoreMisaligned}
+use Rattle.addr_space.specs.Changes.{perm_of_page}
+use Rattle.rv64i_core.specs.Memory.{Memory, Cell, Store, fetched, storing, bytes_at, bytes_of_width, cell_byte, or_fault}
+use Rattle.rv64i_core.specs.Registers.{Registers, reg, add}
+use Rattle.rv64i_core.specs.Step.{Step, Next, Ecall, Fault, instr, step_of_word, row_of as instruction_of, row as instruction_row, store_step, load_step, jump, branch, store_width, extended}
+use Rattle.rv64i_core.specs.declared.instruction.LoadOp.{LoadOp}
+use Rattle.rv64i_core.specs.Table.{decoded}
+use Rattle.rv64i_core.specs.declared.access_width.Width.{Width}
+use Rattle.rv64i_core.specs.declared.access_width.Width.TheVariants.{Byte, HalfWord, Word, DoubleWord}
+use Rattle.rv64i_core.specs.declared.instruction.Instr.{Instr}
+use Rattle.rv64i_core.specs.declared.instruction.Instr.TheVariants as op
+use Rattle.hart_core.specs.UserMemory.{user, cell_in}
+use Rattle.user_copy.specs.Reach.{may, reaches, allows}
+use Rattle.user_copy.proofs.Ranges.{reaches-not}
+use Rattle.console_core.specs.Reads.{Pulled, pulled, line_length, up_to, first_bytes}
+use Rattle.proc_table.specs.declared.process.Call.{Call}
+use Rattle.kcall_core.specs.Instruction.{next_instruction}
+use Rattle.kcall_core.specs.Words.{c_int}
+use Rattle.kcall_core.specs.Buffers.{writable}
+use Rattle.kcall_core.specs.View.{View, Descriptor, Shown, Shown_terminal, Shown_file, Shown_pipe}
+use Rattle.kcall_core.specs.Own.{Own, Answer, Stepped, Called, Blocked, Exited, Faulted}
+use Rattle.kcall_core.specs.Calls.{Row, Fork, Exit, Wait, Pipe_row, Read, Kill, Exec, Dup, Getpid, Sbrk, Sleep, Uptime, Open, Write, Close, row_of, perform, done, refused, waits, least_zombie}
+use Rattle.kcall_core.specs.Step.{own, unless_killed, going_on, after_instruction, call_begun, begun}
+use Rattle.kcall_core.specs.Programs.{program_bytes}
+use Rattle.kcall_core.specs.PipeEnds.{there, must_wait}
+use Rattle.kcall_core.specs.Tables.{lowest_free, advance, change_pipe}
+use Rattle.pipe_core.specs.Pipe.{without_first}
+use Rattle.kcall_core.specs.Ready.{in_use}
+use Rattle.kcall_core.specs.Stores.{Stored, Lies, nothing_stored, where_done, moved_on, moved_through, moved_by_number, moved_after, stored_by_row, stored_by_instruction, stored_in}
+use Rattle.kcall_core.specs.Worlds.{StoresWhereUserMay}
+use Rattle.kcall_core.proofs.rows.RowParts.{perform_parts, perform_row, unless, unless_nothing, moving, length_of_int, reaped, piped_from, read_on, read_from}
+use Rattle.kcall_core.proofs.rows.RowsByParts.{perform_same}
+
+-- user code may store at each of these
+abbrev Allowed : Image → Stored → Type 0
+Allowed i s = (a : ℕ) → Lies s a → may Storing i a ≡ true
+
+none_allowed : (i : Image) → Allowed i nothing_stored
+none_allowed i a l = let high = l.1 in absurd (omega (arith, high))
+
+not_both : {b : Bool} → b ≡ true → b ≡ false → ⊥
+not_both e f = let no : true ≡ false = sym e ∙ f in let bad : ⊥ = cc in bad
+
+-- bytes of a buffer that may be written
+of_buffer : (i : Image) (from n m : ℕ) (s : Stored) → reaches Storing i from n ≡ true → s.address ≡ from + m → s.count ≤ n - m → Allowed i s
+of_buffer i from n m s all at few a l = by (may Storing i a) refl
+  where
+    by : (b : Bool) → may Storing i a ≡ b → b ≡ true
+    by true e = refl
+    by false e =
+        let low = l.0 in
+        let high = l.1 in
+        let here : from + (a - from) ≡ a = omega (arith, low, at) in
+        absurd (not_both all (reaches-not Storing i from n (a - from) (omega (arith, low, high, at, few)) (ap (may Storing i) here ∙ e)))
+
+done_allowed : (i : Image) (answer : Answer) (s : Stored) → Allowed i s → Allowed i (where_done answer s)
+done_allowed i Stepped s h = none_allowed i
+done_allowed i (Called number (pos value)) s h = h
+done_allowed i (Called number (negsuc k)) s h = none_allowed i
+done_allowed i (Blocked number) s h = none_allowed i
+done_allowed i (Exited status) s h = none_allowed i
+done_allowed i (Faulted cause) s h = none_allowed i
+
+-- ---- what a read takes of a line
+
+first_few : (n k : ℕ) (b : Bool) (bytes : List ℕ) → k ≤ n → length (first_bytes k b bytes).taken ≤ n
+first_few n k b bytes le = omega (arith, length-take k bytes, le)
+
+up_to_few : (first : Bool) (bytes : List ℕ) (n k : ℕ) (o : Option ℕ) → k < n → length (up_to first bytes k o).taken ≤ n
+up_to_few first bytes n k None lt = first_few n k false bytes (omega (arith, lt))
+up_to_few first bytes n k (Some byte) lt = by (nat_eq byte 10) (first && nat_eq k 0)
+  where
+    by : (b c : Bool) → length (cond b (first_bytes (k + 1) true bytes) (cond c (record { taken = []; ended = true; left = drop 1 bytes }) (first_bytes k true bytes))).taken ≤ n
+    by true c = first_few n (k + 1) true bytes (omega (arith, lt))
+    by false true = omega arith
+    by false false = first_few n k true bytes (omega (arith, lt))
+
+pulled_few : (first : Bool) (n : ℕ) (bytes : List ℕ) → length (pulled first n bytes).taken ≤ n
+pulled_few first n bytes = by (nat_le n (line_length bytes)) refl
+  where
+    by : (b : Bool) → nat_le n (line_length bytes) ≡ b → length (cond b (first_bytes n true bytes) (up_to first bytes (line_length bytes) (slice_get bytes (line_length bytes)))).taken ≤ n
+    by true e = first_few n n true bytes (omega arith)
+    by false e = up_to_few first bytes n (line_length bytes) (slice_get bytes (line_length bytes)) (leb-false n (line_length bytes) e)
+
+-- ---- the three rows that store
+
+module _ (c : Call) (v : View) where
+  wait_allowed : (z w : Bool) (o : Own) → (w ≡ true → reaches Storing v.image c.a0 4 ≡ true)
+      → Allowed v.image (cond z nothing_stored (where_done (unless (not z && not w) c v (λ _. o)).answer (record { address = c.a0; count = 4 })))
+  wait_allowed true w o h = none_allowed v.image
+  wait_allowed false true o h = done_allowed v.image o.answer (record { address = c.a0; count = 4 }) (of_buffer v.image c.a0 4 0 (record { address = c.a0; count = 4 }) (h refl) (omega arith) (omega arith))
+  wait_allowed false false o h = none_allowed v.image
+
+  pipe_allowed : (w f : Bool) (o : Own) → (w ≡ true → reaches Storing v.image c.a0 8 ≡ true)
+      → Allowed v.image (where_done (unless (not w || f) c v (λ _. o)).answer (record { address = c.a0; count = 8 }))
+  pipe_allowed true f o h = done_allowed v.image (unless f c v (λ _. o)).answer (record { address = c.a0; count = 8 }) (of_buffer v.image c.a0 8 0 (record { address = c.a0; count = 8 }) (h refl) (omega arith) (omega arith))
+  pipe_allowed false f o h = none_allowed v.image
+
+  abbrev read_of : ℕ → Own → Stored
+  read_of m o = record { address = c.a1 + m; count = moved_after o.answer o.next - m }
+
+  nothing_read : (m : ℕ) (o : Own) → moved_after o.answer o.next ≡ 0 → Allowed v.image (read_of m o)
+  nothing_read m o e a l = let low = l.0 in let high = l.1 in absurd (omega (arith, low, high, e))
+
+  some_read : (n m k : ℕ) (o : Own) → reaches Storing v.image c.a1 n ≡ true → moved_after o.answer o.next ≡ m + k → k ≤ n - m → Allowed v.image (read_of m o)
+  some_read n m k o all e few = of_buffer v.image c.a1 n m (read_of m o) all refl (omega (arith, e, few))
+
+  read_cond : (m : ℕ) (b : Bool) (x y : Own) → Allowed v.image (read_of m x) → Allowed v.image (read_of m y) → Allowed v.image (read_of m (cond b x y))
+  read_cond m true x y h g = h
+  read_cond m false x y h g = g
+
+  from_row : (n file : ℕ) (x : Shown) → reaches Storing v.image c.a1 n ≡ true → Allowed v.image (read_of (moved_on c x) (read_from c v n file x))
+  from_row n file Shown_terminal all =
+      let p : Pulled = pulled (nat_eq c.moved 0) (n - c.moved) v.console.committed in
+      let after : View = record v { image = write_image v.image (c.a1 + c.moved) p.taken; console = record v.console { committed = p.left } } in
+      let few : length p.taken ≤ n - c.moved = pulled_few (nat_eq c.moved 0) (n - c.moved) v.console.committed in
+      read_cond c.moved p.ended (done c (pos (c.moved + length p.taken)) after) (waits c (c.moved + length p.taken) after)
+      (some_read n c.moved (length p.taken) (done c (pos (c.moved + length p.taken)) after) all refl few)
+      (some_read n c.moved (length p.taken) (waits c (c.moved + length p.taken) after) all refl few)
+  from_row n file (Shown_file program offset) all =
+      let bytes : List ℕ = take n (drop offset (program_bytes (slice_get v.programs program))) in
+      let e : length bytes ≡ 0 + length bytes = omega arith in
+      some_read n 0 (length bytes) (done c (pos (length bytes)) (record v { image = write_image v.image c.a1 bytes; descriptors = advance file (length bytes) v.descriptors })) all e (omega (arith, length-take n (drop offset (program_bytes (slice_get v.programs program)))))
+  from_row n file (Shown_pipe name end pipe) all =
+      let k : ℕ = there pipe n in
+      let after : View = record v { image = write_image v.image c.a1 (take k pipe.bytes); descriptors = change_pipe name (without_first k pipe) v.descriptors } in
+      let e : k ≡ 0 + k = omega arith in
+      read_cond 0 (must_wait pipe) (waits c 0 v) (done c (pos k) after) (nothing_read 0 (waits c 0 v) refl) (some_read n 0 k (done c (pos k) after) all e (omega arith))
+
+  unless_read : (m : ℕ) (r : Bool) (o : Own) → (r ≡ true → Allowed v.image (read_of m o)) → Allowed v.image (read_of m (unless (not r) c v (λ _. o)))
+  unless_read m true o h = h refl
+  unless_read m false o h = nothing_read m (refused c v) refl
+
+  some_bytes : (m : ℕ) (b : Bool) (go : Unit {0} → Own) → Allowed v.image (read_of m (go tt)) → Allowed v.image (read_of m (unless_nothing b c v go))
+  some_bytes m true go h = nothing_read m (done c (pos 0) v) refl
+  some_bytes m false go h = h
+
+  moving_read : (m : ℕ) (z : ℤ) (go : ℕ → Own) → ((n : ℕ) → reaches Storing v.image c.a1 n ≡ true → Allowed v.image (read_of m (go n))) → Allowed v.image (read_of m (moving c v (writable v.image c.a1 (length_of_int z)) z go))
+  moving_read m (negsuc k) go h = nothing_read m (refused c v) refl
+  moving_read m (pos n) go h = some_bytes m (nat_eq n 0) (λ _. unless (not (writable v.image c.a1 n)) c v (λ _. go n)) (unless_read m (writable v.image c.a1 n) (go n) (h n))
+
+  on_row : (o : Option Descriptor) → Allowed v.image (read_of (moved_through c o) (read_on c v o))
+  on_row None = nothing_read 0 (refused c v) refl
+  on_row (Some d) = unless_read (moved_on c d.shown) d.read (moving c v (writable v.image c.a1 (length_of_int (c_int c.a2))) (c_int c.a2) (λ n. read_from c v n d.file d.shown))
+      (λ _. moving_read (moved_on c d.shown) (c_int c.a2) (λ n. read_from c v n d.file d.shown) (λ n all. from_row n d.file d.shown all))
+
+  moved_is : (z : ℤ) → moved_through c (in_use v z) ≡ moved_by_number c v.descriptors z
+  moved_is (pos fd) = refl
+  moved_is (negsuc k) = refl
+
+  by_row : (r : Option Row) → Allowed v.image (stored_by_row c v.descriptors r (perform_row c v r))
+  unfolding perform_row
+  by_row None = none_allowed v.image
+  by_row (Some Wait) = wait_allowed (nat_eq c.a0 0) (writable v.image c.a0 4) (reaped c v (least_zombie v)) (λ e. e)
+  by_row (Some Pipe_row) = pipe_allowed (writable v.image c.a0 8) (nat_eq v.free 0) (piped_from c v (lowest_free v.descriptors)) (λ e. e)
+  by_row (Some Read) = subst (λ m. Allowed v.image (read_of m (read_on c v (in_use v (c_int c.a0))))) (moved_is (c_int c.a0)) (on_row (in_use v (c_int c.a0)))
+  by_row (Some Fork) = none_allowed v.image
+  by_row (Some Exit) = none_allowed v.image
+  by_row (Some Kill) = none_allowed v.image
+  by_row (Some Exec) = none_allowed v.image
+  by_row (Some Dup) = none_allowed v.image
+  by_row (Some Getpid) = none_allowed v.image
+  by_row (Some Sbrk) = none_allowed v.image
+  by_row (Some Sleep) = none_allowed v.image
+  by_row (Some Uptime) = none_allowed v.image
+  by_row (Some Open) = none_allowed v.image
+  by_row (Some Write) = none_allowed v.image
+  by_row (Some Close) = none_allowed v.image
+
+  parts_allowed : Allowed v.image (stored_by_row c v.descriptors (row_of c.number) (perform_parts c v))
+  unfolding perform_parts
+  parts_allowed = by_row (row_of c.number)
+
+  row_allowed : Allowed v.image (stored_by_row c v.descriptors (row_of c.number) (perform c v))
+  row_allowed = subst (λ (o : Own). Allowed v.image (stored_by_row c v.descriptors (row_of c.number) o)) (sym (perform_same c v)) parts_allowed
+
+-- ---- an instruction
+
+-- there is a cell at the address, which may be written
+abbrev Writable : Memory → ℕ → Type 0
+Writable memory a = (cell : Cell) × (memory a ≡ Some cell) × (cell.write ≡ true)
+
+cell_writes : (cell : Cell) (rest bytes : List ℕ) (b : Bool) → cond b (Some (cell.byte ∷ rest)) None ≡ Some bytes → b ≡ true
+cell_writes cell rest bytes true f = refl
+cell_writes cell rest bytes false f = let no : ⊥ = cc in absurd no
+
+-- the first of the bytes, or one of the rest
+one_or_rest : (memory : Memory) (n address : ℕ) (bytes : List ℕ) (o : Option Cell) (left : Option (List ℕ)) → memory (address % 2 ^ 64) ≡ o
+    → ((rest : List ℕ) → left ≡ Some rest → (k : ℕ) → k < n → Writable memory ((address + 1 + k) % 2 ^ 64))
+    → cell_byte (λ c. c.write) o left ≡ Some bytes → (k : ℕ) → k < suc n → Writable memory ((address + k) % 2 ^ 64)
+one_or_rest memory n address bytes None left is later e k lt = let no : ⊥ = cc in absurd no
+one_or_rest memory n address bytes (Some cell) None is later e k lt = let no : ⊥ = cc in absurd no
+one_or_rest memory n address bytes (Some cell) (Some rest) is later e zero lt =
+    let here : address ≡ address + 0 = omega arith in
+    (cell, ap (λ a. memory (a % 2 ^ 64)) (sym here) ∙ is, cell_writes cell rest bytes cell.write e)
+one_or_rest memory n address bytes (Some cell) (Some rest) is later e (suc k) lt =
+    let here : address + 1 + k ≡ address + suc k = omega arith in
+    subst (λ a. Writable memory (a % 2 ^ 64)) here (later rest refl k (omega (arith, lt)))
+
+cells_at : (memory : Memory) (n address : ℕ) (bytes : List ℕ) → bytes_at (λ c. c.write) memory address n ≡ Some bytes → (k : ℕ) → k < n → Writable memory ((address + k) % 2 ^ 64)
+unfolding bytes_at
+cells_at memory zero address bytes e k lt = absurd (omega (arith, lt))
+cells_at memory (suc n) address bytes e k lt = one_or_rest memory n address bytes (memory (address % 2 ^ 64)) (bytes_at (λ c. c.write) memory (address + 1) n) refl (λ rest left. cells_at memory n (address + 1) rest left) e k lt
+
+-- a width's bytes, from an address that is a multiple of it on, don't go round
+no_wrap : (w : Width) (address k : ℕ) → address < 2 ^ 64 → address % bytes_of_width w ≡ 0 → k < bytes_of_width w → (address + k) % 2 ^ 64 ≡ address + k
+no_wrap Byte address k small even lt = omega (arith, small, even, lt)
+no_wrap HalfWord address k small even lt = omega (arith, small, even, lt)
+no_wrap Word address k small even lt = omega (arith, small, even, lt)
+no_wrap DoubleWord address k small even lt = omega (arith, small, even, lt)
+
+abbrev WhereWritable : Memory → Store → Type 0
+WhereWritable memory s = (a : ℕ) → s.address ≤ a → a < s.address + length s.bytes → Writable memory a
+
+abbrev put : Store → Result Store Cause
+put s = Ok s
+
+same_store : (a b : Store) → put a ≡ put b → a ≡ b
+same_store a b e = cc
+
+storing_writes : (memory : Memory) (address : ℕ) (w : Width) (value : ℕ) (s : Store) → address < 2 ^ 64 → storing memory address w value ≡ Ok s → WhereWritable memory s
+unfolding storing
+storing_writes memory address w value s small e = by (nat_eq (address % bytes_of_width w) 0) refl e
+  where
+    found : (o : Option (List ℕ)) → address % bytes_of_width w ≡ 0 → bytes_at (λ c. c.write) memory address (bytes_of_width w) ≡ o
+        → or_fault StorePageFault (λ _. record { address = address; bytes = le_bytes (bytes_of_width w) value }) o ≡ Ok s → WhereWritable memory s
+    found None even is f = let no : ⊥ = cc in absurd no
+    found (Some bytes) even is f = subst (WhereWritable memory) (same_store (record { address = address; bytes = le_bytes (bytes_of_width w) value }) s f) (λ a low high.
+        let below : a - address < bytes_of_width w = omega (arith, low, high, length-le_bytes (bytes_of_width w) value) in
+        let here : address + (a - address) ≡ a = omega (arith, low) in
+        subst (Writable memory) (no_wrap w address (a - address) small even below ∙ here) (cells_at memory (bytes_of_width w) address bytes is (a - address) below))
+
+    by : (b : Bool) → nat_eq (address % bytes_of_width w) 0 ≡ b → cond b (or_fault StorePageFault (λ _. record { address = address; bytes = le_bytes (bytes_of_width w) value }) (bytes_at (λ c. c.write) memory address (bytes_of_width w))) (Err StoreMisaligned) ≡ Ok s → WhereWritable memory s
+    by true even f = found (bytes_at (λ c. c.write) memory address (bytes_of_width w)) (eqb-true (address % bytes_of_width w) 0 even) refl f
+    by false even f = let no : ⊥ = cc in absurd no
+
+-- what an instruction may end in besides a store
+no_store : {X : Type 0} (a b : Registers) (s : Store) → Next a None ≡ Next b (Some s) → X
+no_store a b s e = let no : ⊥ = cc in absurd no
+
+no_fault : {X : Type 0} (cause : Cause) (b : Registers) (s : Store) → Fault cause ≡ Next b (Some s) → X
+no_fault cause b s e = let no : ⊥ = cc in absurd no
+
+no_ecall : {X : Type 0} (b : Registers) (s : Store) → Ecall ≡ Next b (Some s) → X
+no_ecall b s e = let no : ⊥ = cc in absurd no
+
+no_jump : {X : Type 0} (t : Bool) (a b : Registers) (cause : Cause) (s : Store) → cond t (Next a None) (Fault cause) ≡ Next b (Some s) → X
+no_jump true a b cause s e = no_store a b s e
+no_jump false a b cause s e = no_fault cause b s e
+
+same_put : (a b : Registers) (s t : Store) → Next a (Some s) ≡ Next b (Some t) → s ≡ t
+same_put a b s t e = cc
+
+module _ (regs : Registers) (memory : Memory) (r : Registers) (s : Store) where
+  no_load : (op : LoadOp) (d : ℕ) (o : Result ℕ Cause) → load_step regs op d o ≡ Next r (Some s) → WhereWritable memory s
+  no_load op d (Ok value) e = no_store _ r s e
+  no_load op d (Err cause) e = no_fault cause r s e
+
+  no_branch : (taken : Bool) (target : ℕ) → branch regs taken target ≡ Next r (Some s) → WhereWritable memory s
+  unfolding branch
+  no_branch false target e = no_store _ r s e
+  no_branch true target e = no_jump (nat_eq (target % 4) 0) _ r _ s e
+
+  store_writes : (o : Result Store Cause) (address : ℕ) (w : Width) (value : ℕ) → address < 2 ^ 64 → storing memory address w value ≡ o → store_step regs o ≡ Next r (Some s) → WhereWritable memory s
+  store_writes (Ok t) address w value small is e = subst (WhereWritable memory) (same_put _ r t s e) (storing_writes memory address w value t small is)
+  store_writes (Err cause) address w value small is e = no_fault cause r s e
+
+  row_writes : (i : Instr) → instruction_row i regs memory ≡ Next r (Some s) → WhereWritable memory s
+  unfolding instruction_row jump
+  row_writes (op.Lui d imm) e = no_store _ r s e
+  row_writes (op.Auipc d imm) e = no_store _ r s e
+  row_writes (op.Jal d offset) e = no_jump _ _ r _ s e
+  row_writes (op.Jalr d t imm) e = no_jump _ _ r _ s e
+  row_writes (op.Branch b t u offset) e = no_branch _ _ e
+  row_writes (op.Load l d t imm) e = no_load l d _ e
+  row_writes (op.Store w t u imm) e = store_writes (storing memory (add (reg regs t) (extended 12 imm)) (store_width w) (reg regs u)) (add (reg regs t) (extended 12 imm)) (store_width w) (reg regs u) (omega arith) refl e
+  row_writes (op.OpImm o d t imm) e = no_store _ r s e
+  row_writes (op.ShiftImm o d t places) e = no_store _ r s e
+  row_writes (op.Op o d t u) e = no_store _ r s e
+  row_writes (op.AddImmW d t imm) e = no_store _ r s e
+  row_writes (op.ShiftImmW o d t places) e = no_store _ r s e
+  row_writes (op.OpW o d t u) e = no_store _ r s e
+  row_writes (op.Fence d t imm) e = no_store _ r s e
+  row_writes op.Ecall e = no_ecall r s e
+  row_writes op.Ebreak e = no_fault _ r s e
+
+  word_writes : (o : Option Instr) → instruction_of o regs memory ≡ Next r (Some s) → WhereWritable memory s
+  word_writes None e = no_fault _ r s e
+  word_writes (Some i) e = row_writes i e
+
+  fetch_writes : (o : Result ℕ Cause) → step_of_word o regs memory ≡ Next r (Some s) → WhereWritable memory s
+  fetch_writes (Ok word) e = word_writes (decoded word) e
+  fetch_writes (Err cause) e = no_fault cause r s e
+
+  instruction_writes : instr regs memory ≡ Next r (Some s) → WhereWritable memory s
+  unfolding instr
+  instruction_writes e = fetch_writes (fetched memory regs.pc) e
+
+-- what the memory of an image lets user code write
+user_may : (i : Image) (a : ℕ) → Writable (user i) a → may Storing i a ≡ true
+unfolding user
+user_may i a (cell, is, writes) = by (get i.pages (a / 4096)) refl is
+  where
+    in_page : (u w x r : Bool) (byte : ℕ) → cond u (Some (record { read = r; write = w; execute = x; byte = byte })) None ≡ Some cell → (u && w) ≡ true
+    in_page true w x r byte e = let same : record { read = r; write = w; execute = x; byte = byte } ≡ cell = cc in ap (λ (c : Cell). c.write) same ∙ writes
+    in_page false w x r byte e = let no : ⊥ = cc in absurd no
+
+    by : (o : Option Page) → get i.pages (a / 4096) ≡ o → cell_in o (a % 4096) ≡ Some cell → may Storing i a ≡ true
+    by None e f = let no : ⊥ = cc in absurd no
+    by (Some page) e f = ap (λ o. allows Storing (option_map perm_of_page o)) e ∙ in_page page.perm.user page.perm.write page.perm.execute page.perm.read _ f
+
+-- ---- a step
+
+module _ (v : View) where
+  instruction_allowed : (st : Step) (o : Own) → next_instruction v.regs v.image ≡ st → o ≡ after_instruction v st → Allowed v.image (stored_by_instruction v st o)
+  instruction_allowed (Next r None) o is e = none_allowed v.image
+  instruction_allowed (Next r (Some st)) o is e = λ a l. user_may v.image a (instruction_writes v.regs (user v.image) r st is a l.0 l.1)
+  instruction_allowed Ecall o is e = subst (λ (p : Own). Allowed v.image (stored_by_row (call_begun v) v.descriptors (row_of (call_begun v).number) p)) (sym e) (row_allowed (call_begun v) (begun v))
+  instruction_allowed (Fault cause) o is e = none_allowed v.image
+
+  going_allowed : (o : Option Call) → Allowed v.image (stored_in v o (going_on v o))
+  going_allowed None = instruction_allowed (next_instruction v.regs v.image) (going_on v None) refl refl
+  going_allowed (Some c) = row_allowed c v
+
+  unless_allowed : (b : Bool) → Allowed v.image (cond b nothing_stored (stored_in v v.call (unless_killed v b)))
+  unless_allowed true = none_allowed v.image
+  unless_allowed false = going_allowed v.call
+
+  own_allowed : Allowed v.image (cond v.killed nothing_stored (stored_in v v.call (own v)))
+  unfolding own
+  own_allowed = unless_allowed v.killed
+
+pub stores_where_user_may : StoresWhereUserMay
+stores_where_user_may v a is = own_allowed v a is
