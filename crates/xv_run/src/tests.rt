@@ -1,19 +1,17 @@
 //! What a run prints, and how it ends early.
-mod calls;
-mod files;
+mod draft;
 mod isolation;
-mod kills;
-mod pipes;
-mod processes;
 mod scene;
-mod waits;
+mod stories;
+mod story;
+mod telling;
 
-use self::scene::file_of;
 use crate::failure::Failure;
 use crate::input::{built_in, program_of};
 use crate::play::play;
 use std::io::{self, ErrorKind, Write};
 use std::test::Fail;
+use uasm_core::assemble;
 use xk_base::{BootError, ExecError};
 
 // A writer that takes so many bytes and then fails.
@@ -109,7 +107,9 @@ fn each_outcome_is_a_line(rt: HostRuntime) -> Result<(), Fail> {
 // What a run of this source prints.
 fn played(rt: &HostRuntime, source: &str) -> Result<Vec<u8>, Fail> {
     let mut out = Vec::new(rt.alloc());
-    let file = file_of(rt.alloc(), source)?;
+    let Ok(file) = assemble(rt.alloc(), source) else {
+        return Err(Fail::from("the source can be assembled"));
+    };
     match play(rt.alloc(), file, &mut out) {
         Ok(()) => Ok(out),
         Err(_failure) => Err(Fail::from("it can be played")),

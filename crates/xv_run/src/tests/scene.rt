@@ -1,285 +1,206 @@
-//! Machines that tests ask, of programs that the assembler makes.
-use std::alloc::{AllocError, Global};
-use std::process::Abort;
-use std::test::Fail;
-use uasm_core::assemble;
+//! Machines that stories ask.
+use super::draft::Draft;
+use super::story::{first_word, number};
+use std::alloc::Global;
 use xk_base::limits::PID_MAX;
-use xk_base::{BootError, Cause, Pid, Program, Reg};
+use xk_base::{BootError, Pid, Reg};
 use xv_machine::{ChildState, Config, Event, Machine, Outcome};
 
-/// Process 1.
-pub(super) fn first() -> Pid {
-    Pid::new(1)
-}
-
-// The process of this number; process 1 where no process can have it.
-fn process(number: u32) -> Pid {
+// The process of this number, where a process can have it.
+fn process(word: &str) -> Option<Pid> {
+    let number = u32::try_from(number(word)?).ok()?;
     if number == 0 || number > PID_MAX {
-        return first();
+        return None;
     }
-    Pid::new(number)
+    Some(Pid::new(number))
 }
 
-pub(super) fn turn() -> Outcome {
-    Outcome::Turn { pid: first() }
-}
+#[rattlefmt::skip]
+const REGISTERS: [&str; 32] = [
+    "zero", "ra", "sp", "gp", "tp", "t0", "t1", "t2", "s0", "s1", "a0", "a1", "a2", "a3", "a4", "a5",
+    "a6", "a7", "s2", "s3", "s4", "s5", "s6", "s7", "s8", "s9", "s10", "s11", "t3", "t4", "t5", "t6",
+];
 
-pub(super) fn stepped() -> Outcome {
-    Outcome::Stepped { pid: first() }
-}
-
-pub(super) fn called(number: i32, value: i64) -> Outcome {
-    Outcome::Called {
-        pid: first(),
-        number,
-        value,
+// The register of this name.
+fn register(name: &str) -> Option<Reg> {
+    let index = REGISTERS.iter().position(|register| *register == name)?;
+    let index = u8::try_from(index).ok()?;
+    if index >= 32 {
+        return None;
     }
+    Some(Reg::new(index))
 }
 
-pub(super) fn exited(status: i32) -> Outcome {
-    Outcome::Exited {
-        pid: first(),
-        status,
-    }
+/// Which outcomes a story tells.
+#[derive(Clone, Copy, PartialEq, Eq)]
+pub(super) enum Pace {
+    /// All of them.
+    Events,
+    /// All but done instructions.
+    Calls,
 }
 
-pub(super) fn faulted(cause: Cause) -> Outcome {
-    Outcome::Faulted {
-        pid: first(),
-        cause,
-    }
-}
-
-/// The program that exits at once with status 0.
-pub(super) const EXIT: &str = "li a7, 2\nli a0, 0\necall\n";
-
-/// The file that the assembler makes of a source.
-pub(super) fn file_of(alloc: Global, source: &str) -> Result<Vec<u8>, Fail> {
-    match assemble(alloc, source) {
-        Ok(file) => Ok(file),
-        Err(_refusal) => Err(Fail::from("the source can be assembled")),
+impl Pace {
+    /// How the items below this heading are told, where it has items below it.
+    pub(super) fn of(heading: &str) -> Option<Pace> {
+        match heading {
+            "events" => Some(Pace::Events),
+            "calls" => Some(Pace::Calls),
+            _ => None,
+        }
     }
 }
 
-/// The file with other bytes from a place on.
-pub(super) fn patched(
-    alloc: Global,
-    file: &[u8],
-    at: usize,
-    bytes: &[u8],
-) -> Result<Vec<u8>, AllocError> {
-    let mut after = Vec::with_capacity(alloc, file.len())?;
-    after.extend_from_slice(&file[..at.min(file.len())])?;
-    after.extend_from_slice(bytes)?;
-    let behind = at.saturating_add(bytes.len());
-    if behind <= file.len() {
-        after.extend_from_slice(&file[behind..])?;
-    }
-    Ok(after)
-}
-
-/// Programs of these two names.
-pub(super) fn two_programs(
-    alloc: Global,
-    names: [&str; 2],
-    one: Vec<u8>,
-    other: Vec<u8>,
-) -> Result<Vec<Program>, AllocError> {
-    let [first, second] = names;
-    let mut programs = Vec::with_capacity(alloc, 2)?;
-    programs.push(Program {
-        name: Vec::from_slice(alloc, first.as_bytes())?,
-        bytes: one,
-    })?;
-    programs.push(Program {
-        name: Vec::from_slice(alloc, second.as_bytes())?,
-        bytes: other,
-    })?;
-    Ok(programs)
-}
-
-/// A part of a story: so many times these outcomes, as [`Scene::meet_all`] has them, and then so many
-/// frames are free.
-pub(super) type Part = (usize, &'static str, u32);
-
-/// A machine, which tests ask about process 1, or about another by its pid. No method has a contract:
-/// what a machine promises stays out of the proofs of the tests.
+/// A machine. No method has a contract: what a machine promises stays out of the proofs of the tests.
 #[derive(Drop)]
 pub(super) struct Scene {
     machine: Machine,
 }
 
 impl Scene {
-    /// A machine of these programs.
-    pub(super) fn new(
-        alloc: Global,
-        frames: u32,
-        programs: Vec<Program>,
-    ) -> Result<Scene, BootError> {
+    /// The machine of a draft.
+    pub(super) fn new(alloc: Global, draft: Draft) -> Result<Scene, BootError> {
+        let Draft { frames, programs } = draft;
         let machine = Machine::boot(alloc, Config { frames, trace: 0 }, programs)?;
         Ok(Scene { machine })
     }
 
-    /// A machine whose `init` is this file, and which has another program `b`.
-    pub(super) fn of_both(
-        alloc: Global,
-        frames: u32,
-        init: Vec<u8>,
-        other: Vec<u8>,
-    ) -> Result<Scene, BootError> {
-        match two_programs(alloc, ["init", "b"], init, other) {
-            Ok(programs) => Scene::new(alloc, frames, programs),
-            Err(_) => Err(BootError::Memory),
-        }
-    }
-
-    /// A machine of 16 frames whose `init` is this file.
-    pub(super) fn of_file(alloc: Global, init: Vec<u8>) -> Result<Scene, BootError> {
-        Scene::of_both(alloc, 16, init, Vec::new(alloc))
-    }
-
-    /// A machine whose `init` the assembler makes of this source.
-    pub(super) fn of_source(alloc: Global, frames: u32, source: &str) -> Result<Scene, Fail> {
-        let init = file_of(alloc, source)?;
-        Ok(Scene::of_both(alloc, frames, init, Vec::new(alloc))?)
-    }
-
     /// What comes of a Run.
-    pub(super) fn event(&mut self) -> Outcome {
+    pub(super) fn run(&mut self) -> Outcome {
         self.machine.event(Event::Run)
     }
 
-    /// What comes of a Tick.
-    pub(super) fn tick(&mut self) -> Outcome {
+    // What comes of a Tick.
+    fn tick(&mut self) -> Outcome {
         self.machine.event(Event::Tick)
     }
 
-    // Sends a Tick where the outcome `tick` is wanted, and else a Run, and compares what comes of it.
-    fn meet<R: Abort + AllocGlobal>(&mut self, rt: &R, wanted: &str) -> Result<(), AllocError> {
-        let outcome = match wanted {
-            "tick" => self.tick(),
-            _ => self.event(),
-        };
-        assert_eq!(rt; format!(in rt.alloc(); "{outcome}")?.as_str(), wanted);
-        Ok(())
-    }
-
-    /// Compares outcomes, which are lines of a trace with a comma and a space between them.
-    pub(super) fn meet_all<R: Abort + AllocGlobal>(
-        &mut self,
-        rt: &R,
-        wanted: &str,
-    ) -> Result<(), AllocError> {
-        for line in wanted.split(", ") {
-            self.meet(rt, line)?;
-        }
-        Ok(())
-    }
-
-    /// Compares the outcomes of Runs, as [`Scene::meet_all`] has them. Done instructions are passed over.
-    pub(super) fn calls<R: Abort + AllocGlobal>(
-        &mut self,
-        rt: &R,
-        wanted: &str,
-    ) -> Result<(), AllocError> {
-        for line in wanted.split(", ") {
-            let (_, outcome) = self.steps();
-            assert_eq!(rt; format!(in rt.alloc(); "{outcome}")?.as_str(), line);
-        }
-        Ok(())
-    }
-
-    /// Compares each outcome of a story, and the free frames after each part.
-    pub(super) fn tell<R: Abort + AllocGlobal>(
-        &mut self,
-        rt: &R,
-        story: &[Part],
-    ) -> Result<(), AllocError> {
-        for (times, outcomes, free) in story {
-            for _ in 0..*times {
-                self.meet_all(rt, outcomes)?;
-            }
-            assert_eq!(rt; self.free_frames(), *free, "after {outcomes}");
-        }
-        Ok(())
-    }
-
-    /// Sends Run once for each outcome that is wanted.
-    pub(super) fn run(&mut self, rt: &impl Abort, wanted: &[Outcome]) {
-        for (i, outcome) in wanted.iter().enumerate() {
-            assert_eq!(rt; self.event(), *outcome, "event {i}");
-        }
-    }
-
-    /// Lets the machine run to the next outcome that is no done instruction, and tells how many there were
-    /// before it.
-    pub(super) fn steps(&mut self) -> (u32, Outcome) {
-        for count in 0..10_000 {
-            let outcome = self.event();
-            if !matches!(outcome, Outcome::Stepped { .. }) {
-                return (count, outcome);
-            }
-        }
-        (10_000, Outcome::Idle)
-    }
-
-    /// Lets the machine run to the next outcome that is no turn and no done instruction.
-    pub(super) fn next_outcome(&mut self) -> Outcome {
+    // Lets the machine run to the next outcome that is no done instruction.
+    fn run_on(&mut self) -> Outcome {
         for _ in 0..10_000 {
-            let outcome = self.event();
-            if !matches!(outcome, Outcome::Turn { .. } | Outcome::Stepped { .. }) {
+            let outcome = self.run();
+            if !matches!(outcome, Outcome::Stepped { .. }) {
                 return outcome;
             }
         }
-        Outcome::Idle
+        self.run()
     }
 
-    pub(super) fn free_frames(&self) -> u32 {
-        self.machine.free_frames()
+    /// What comes of the event that an item is about, as an item.
+    fn outcome(&mut self, alloc: Global, item: &str, pace: Pace) -> Option<String> {
+        if item.starts_with("tick -> ") {
+            let outcome = self.tick();
+            return format!(in alloc; "tick -> {outcome}").ok();
+        }
+        let outcome = if item == "tick" {
+            self.tick()
+        } else if pace == Pace::Calls {
+            self.run_on()
+        } else {
+            self.run()
+        };
+        format!(in alloc; "{outcome}").ok()
     }
 
-    pub(super) fn halted(&self) -> Option<i32> {
-        self.machine.halted()
+    fn free(&self, alloc: Global) -> Option<String> {
+        let free = self.machine.free_frames();
+        format!(in alloc; "free {free}").ok()
     }
 
-    pub(super) fn child_state(&self, pid: u32, child: u32) -> Option<ChildState> {
-        self.machine.child_state(process(pid), process(child))
-    }
-
-    pub(super) fn peek(&self, address: u64) -> Option<u8> {
-        self.peek_of(1, address)
-    }
-
-    pub(super) fn peek_of(&self, pid: u32, address: u64) -> Option<u8> {
-        self.machine.peek(process(pid), address)
-    }
-
-    /// Compares the bytes from an address on.
-    pub(super) fn peek_from(&self, rt: &impl Abort, address: u64, wanted: &[u8]) {
-        for (i, byte) in wanted.iter().enumerate() {
-            let at = address.wrapping_add(i as u64);
-            assert_eq!(rt; self.peek(at), Some(*byte), "at {at}");
+    fn status(&self, alloc: Global) -> Option<String> {
+        match self.machine.halted() {
+            Some(status) => format!(in alloc; "status {status}").ok(),
+            None => format!(in alloc; "status none").ok(),
         }
     }
 
-    pub(super) fn pc(&self) -> Option<u64> {
-        Some(self.machine.registers(first())?.pc())
+    fn child(&self, alloc: Global, rest: &str) -> Option<String> {
+        let (pid, rest) = first_word(rest);
+        let (child, _) = first_word(rest);
+        match self.machine.child_state(process(pid)?, process(child)?) {
+            Some(ChildState::Running) => format!(in alloc; "child {pid} {child} running").ok(),
+            Some(ChildState::Status(status)) => format!(in alloc;
+                "child {pid} {child} {status}"
+            ).ok(),
+            None => format!(in alloc; "child {pid} {child} none").ok(),
+        }
     }
 
-    pub(super) fn register(&self, reg: Reg) -> Option<u64> {
-        self.register_of(1, reg)
+    // What a register holds, or the pc.
+    fn value_of(&self, pid: &str, name: &str) -> Option<u64> {
+        let registers = self.machine.registers(process(pid)?)?;
+        match name {
+            "pc" => Some(registers.pc()),
+            _ => Some(registers.read(register(name)?)),
+        }
     }
 
-    pub(super) fn register_of(&self, pid: u32, reg: Reg) -> Option<u64> {
-        Some(self.machine.registers(process(pid))?.read(reg))
+    // The value is spelled as the item spells it, where it is the same.
+    fn register(&self, alloc: Global, rest: &str) -> Option<String> {
+        let (pid, rest) = first_word(rest);
+        let (name, wanted) = first_word(rest);
+        let value = self.value_of(pid, name)?;
+        if number(wanted)? == value {
+            return format!(in alloc; "register {pid} {name} {wanted}").ok();
+        }
+        format!(in alloc; "register {pid} {name} {value}").ok()
+    }
+
+    fn bytes(&self, alloc: Global, rest: &str) -> Option<String> {
+        let (pid, rest) = first_word(rest);
+        let (address, wanted) = first_word(rest);
+        let (process, mut at) = (process(pid)?, number(address)?);
+        let mut told = format!(in alloc; "bytes {pid} {address}").ok()?;
+        for _ in wanted.split(' ') {
+            let byte = match self.machine.peek(process, at) {
+                Some(byte) => format!(in alloc; " {byte:02X}").ok()?,
+                None => format!(in alloc; " none").ok()?,
+            };
+            told.push_str(byte.as_str()).ok()?;
+            at = at.wrapping_add(1);
+        }
+        Some(told)
+    }
+
+    // How many bytes from an address on are 0, up to so many.
+    fn zeros_from(&self, process: Pid, address: u64, most: u64) -> u64 {
+        for count in 0..most {
+            if self.machine.peek(process, address.wrapping_add(count)) != Some(0) {
+                return count;
+            }
+        }
+        most
+    }
+
+    fn zeros(&self, alloc: Global, rest: &str) -> Option<String> {
+        let (pid, rest) = first_word(rest);
+        let (address, most) = first_word(rest);
+        let count = self.zeros_from(process(pid)?, number(address)?, number(most)?);
+        format!(in alloc; "zeros {pid} {address} {count}").ok()
+    }
+
+    /// What is so, or what comes of an event, where an item wants something of it: as an item. None where
+    /// the item says nothing that can be asked.
+    pub(super) fn told(&mut self, alloc: Global, item: &str, pace: Pace) -> Option<String> {
+        let (word, rest) = first_word(item);
+        match word {
+            "free" => self.free(alloc),
+            "status" => self.status(alloc),
+            "child" => self.child(alloc, rest),
+            "register" => self.register(alloc, rest),
+            "bytes" => self.bytes(alloc, rest),
+            "zeros" => self.zeros(alloc, rest),
+            _ => self.outcome(alloc, item, pace),
+        }
     }
 
     /// Tells whether a process has the same registers and pc here as in another machine.
-    pub(super) fn same_registers(&self, other: &Scene, pid: u32) -> bool {
-        self.machine.registers(process(pid)) == other.machine.registers(process(pid))
+    pub(super) fn same_registers(&self, other: &Scene, pid: Pid) -> bool {
+        self.machine.registers(pid) == other.machine.registers(pid)
     }
 
-    pub(super) fn sp(&self) -> Option<u64> {
-        self.register(Reg::new(2))
+    /// Tells whether a process has the same byte at an address here as in another machine.
+    pub(super) fn same_byte(&self, other: &Scene, pid: Pid, address: u64) -> bool {
+        self.machine.peek(pid, address) == other.machine.peek(pid, address)
     }
 }

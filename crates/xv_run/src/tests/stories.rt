@@ -1,0 +1,58 @@
+//! The stories, group by group.
+mod boots;
+mod exec;
+mod faults;
+mod files;
+pub(super) mod isolation;
+mod kills;
+mod memory;
+mod pipes;
+mod processes;
+mod waits;
+
+use super::telling::tell_all;
+
+#[test]
+fn stories_of_boots(rt: HostRuntime) {
+    tell_all(&rt, boots::STORIES);
+}
+
+#[test]
+fn stories_of_exec(rt: HostRuntime) {
+    tell_all(&rt, exec::STORIES);
+}
+
+#[test]
+fn stories_of_faults(rt: HostRuntime) {
+    tell_all(&rt, faults::STORIES);
+}
+
+#[test]
+fn stories_of_files(rt: HostRuntime) {
+    tell_all(&rt, files::STORIES);
+}
+
+#[test]
+fn stories_of_kills(rt: HostRuntime) {
+    tell_all(&rt, kills::STORIES);
+}
+
+#[test]
+fn stories_of_memory(rt: HostRuntime) {
+    tell_all(&rt, memory::STORIES);
+}
+
+#[test]
+fn stories_of_pipes(rt: HostRuntime) {
+    tell_all(&rt, pipes::STORIES);
+}
+
+#[test]
+fn stories_of_processes(rt: HostRuntime) {
+    tell_all(&rt, processes::STORIES);
+}
+
+#[test]
+fn stories_of_waits(rt: HostRuntime) {
+    tell_all(&rt, waits::STORIES);
+}
