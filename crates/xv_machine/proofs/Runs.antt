@@ -1,5 +1,5 @@
 -- What a run of the machine leaves: whether it is halted, and what is promised of it.
-use Rattle.std.proofs.Common.{◌≡◌, ◌≤◌, ◌≢◌, ℕ, true, false, cond, length, Option, Some, None, inl, inr, refl, sym, ap, ◌∙◌, subst, nat_eq}
+use Rattle.std.proofs.Common.{◌≡◌, ◌≤◌, ◌≢◌, ℕ, true, false, cond, List, length, Option, Some, None, inl, inr, refl, sym, ap, ◌∙◌, subst, nat_eq}
 use Rattle.std.specs.Prelude.{ℤ, IsSome, is_some, option_map}
 use Rattle.std.proofs.lemmas.Bool.Decides.{eqb_tells}
 use Rattle.hart_core.specs.declared.hart.Hart.{Hart}
@@ -11,14 +11,15 @@ use Rattle.kcall_core.specs.View.{view, view_of}
 use Rattle.kcall_core.specs.Own.{Answer, Stepped, Called, Blocked, Exited, Faulted, gone_with}
 use Rattle.kcall_core.specs.Built.{own_so_far}
 use Rattle.kcall_core.specs.Run as runs
-use Rattle.kcall_core.specs.Run.{World, Step_of, TurnTaken, TickHappens, of_first, halts_with, stays_current}
+use Rattle.kcall_core.specs.Run.{World, Step_of, TurnTaken, TickHappens, KeyHappens, SendHappens, IsButWoken, of_first, halts_with, stays_current}
 use Rattle.kcall_core.specs.Wakes.{IsRunnable, IsNearest, WakesWhereDue}
+use Rattle.kcall_core.specs.Turns.{Turns}
 use Rattle.kcall_core.specs.Kernel.{state_of, IsRunning, pid_now, live_now}
 use Rattle.kcall_core.specs.Machine.{turns_of, world_of}
 use Rattle.kcall_core.specs.Whole.{IsWhole}
 use Rattle.kcall_core.specs.Makes.{Makes, view_now}
 use Rattle.kcall_core.specs.declared.kernel.Kernel.{Kernel}
-use Rattle.kcall_core.proofs.runs.Promises.{turn-promised, idle-promised, halted-promised, tick-promised}
+use Rattle.kcall_core.proofs.runs.Promises.{turn-promised, idle-promised, halted-promised, tick-promised, key-promised, send-promised}
 use Rattle.kcall_core.proofs.table.States.{none-some}
 use Rattle.kcall_core.proofs.turns.Turned.{live-is}
 use Rattle.xv_machine.specs.declared.trace.Note.{Note}
@@ -157,6 +158,15 @@ tick-halted : (k : Kernel) (h : Hart) → IsWhole k h → (status : ℤ) → Pro
 unfolding turns_of
 tick-halted k h whole status = halted-promised k h status runs.Tick whole (refl, refl)
 
+-- a key
+pub run-key : (k k' : Kernel) (h : Hart) (b : ℕ) (echo : List ℕ) → KeyHappens (world_of k h None) None b (runs.Typed echo) (world_of k' h None) → WakesWhereDue (world_of k h None) (runs.Typed echo) (world_of k' h None)
+    → PromisedSoFar (world_of k h None) (runs.Key b) (runs.Typed echo) (world_of k' h None)
+run-key k k' h b echo happens wakes = key-promised k k' h h b (runs.Typed echo) happens wakes
+
+key-halted : (k : Kernel) (h : Hart) → IsWhole k h → (b : ℕ) (status : ℤ) → PromisedSoFar (world_of k h (Some status)) (runs.Key b) runs.Halted (world_of k h (Some status))
+unfolding turns_of
+key-halted k h whole b status = halted-promised k h status (runs.Key b) whole (refl, refl)
+
 -- process 1 lives after a turn
 pub first-stays : (k k' : Kernel) (h h' : Hart) → (world_of k' h' None).state ≡ (world_of k h None).state → IsSome (live (state_of k h) 1) → IsSome (live (state_of k' h') 1)
 first-stays k k' h h' same first = ap (λ (s : State). is_some (live s 1)) same ∙ first
@@ -219,6 +229,15 @@ module _ (k : Kernel) (h : Hart) (halted : Option ℤ) (trace : Buffer Note) (no
   pub tick-over : IsWhole k h → is_some halted ≡ true → PromisedSoFar now.world runs.Tick runs.Halted now.world
   tick-over whole some = over runs.Tick some (tick-halted k h whole)
 
+  pub key-over : IsWhole k h → is_some halted ≡ true → (b : ℕ) → PromisedSoFar now.world (runs.Key b) runs.Halted now.world
+  key-over whole some b = over (runs.Key b) some (key-halted k h whole b)
+
+  -- a byte that is sent, on a machine that is halted too
+  pub now-sent : (k' : Kernel) (byte : Option ℕ) → SendHappens (world_of k h halted) (runs.Sent byte) (world_of k' h halted) → WakesWhereDue (world_of k h halted) (runs.Sent byte) (world_of k' h halted)
+      → PromisedSoFar now.world runs.Send (runs.Sent byte) (world_of k' h halted)
+  now-sent k' byte happens wakes =
+      subst (λ (m : Meaning). PromisedSoFar m.world runs.Send (runs.Sent byte) (world_of k' h halted)) is (send-promised (world_of k h halted) (world_of k' h halted) (runs.Sent byte) happens wakes)
+
 -- process 1 lives on a machine that isn't halted
 pub first-lives : (k : Kernel) (h : Hart) (halted : Option ℤ) → IsHalted (state_of k h) (turns_of k halted) halted → halted ≡ None → IsSome (live (state_of k h) 1)
 first-lives k h halted end none = subst (λ s. IsHalted (state_of k h) (turns_of k s) s) none end
@@ -226,12 +245,17 @@ first-lives k h halted end none = subst (λ s. IsHalted (state_of k h) (turns_of
 pub still-lives : (k : Kernel) (h : Hart) (halted : Option ℤ) → halted ≡ None → IsSome (live (state_of k h) 1) → IsHalted (state_of k h) (turns_of k halted) halted
 still-lives k h halted none lives = subst (λ s. IsHalted (state_of k h) (turns_of k s) s) (sym none) lives
 
--- and still does after a turn or a tick, which leave the processes
+-- and still does after a turn, a tick or a key, which leave the processes
 pub lives-on-by : (k k' : Kernel) (h h' : Hart) (halted : Option ℤ) → halted ≡ None → (state_of k' h').processes ≡ (state_of k h).processes → IsHalted (state_of k h) (turns_of k halted) halted → IsHalted (state_of k' h') (turns_of k' halted) halted
 lives-on-by k k' h h' halted none same end = still-lives k' h' halted none (ap (λ ps. is_some (live_part (get ps 1))) same ∙ first-lives k h halted end none)
 
 pub lives-on : (k k' : Kernel) (h h' : Hart) (halted : Option ℤ) → halted ≡ None → (world_of k' h' None).state ≡ (world_of k h None).state → IsHalted (state_of k h) (turns_of k halted) halted → IsHalted (state_of k' h') (turns_of k' halted) halted
 lives-on k k' h h' halted none same end = still-lives k' h' halted none (first-stays k k' h h' same (first-lives k h halted end none))
+
+-- whether the machine is halted after a byte that is sent
+pub sent-ends : (k k' : Kernel) (h : Hart) (halted : Option ℤ) → (state_of k' h).processes ≡ (state_of k h).processes → IsButWoken (turns_of k halted) (turns_of k' halted) → IsHalted (state_of k h) (turns_of k halted) halted → IsHalted (state_of k' h) (turns_of k' halted) halted
+sent-ends k k' h None same stirs lives = ap (λ ps. is_some (live_part (get ps 1))) same ∙ lives
+sent-ends k k' h (Some status) same stirs ended = (ap (λ ps. get ps 1) same ∙ ended.0, ap (λ (u : Turns). u.current) stirs.0 ∙ ended.1)
 
 -- whether the machine is halted after a step
 pub run-ends : (k k' : Kernel) (h h' : Hart) (halted after : Option ℤ) (pid : ℕ) (outcome : Outcome) → IsWhole k h → (turns_of k None).current ≡ Some pid → IsHalted (state_of k h) (turns_of k halted) halted → Makes k h (own_so_far (view_now k h)) k' h'

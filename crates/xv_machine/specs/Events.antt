@@ -3,13 +3,15 @@ use Rattle.std.specs.Prelude.{ℤ, Option}
 use Rattle.kcall_core.specs.Own as answers
 use Rattle.kcall_core.specs.Run as runs
 use Rattle.xv_machine.specs.declared.event.Event.{Event}
-use Rattle.xv_machine.specs.declared.event.Event.TheVariants.{Run, Tick}
+use Rattle.xv_machine.specs.declared.event.Event.TheVariants.{Run, Tick, Key, Send}
 use Rattle.xv_machine.specs.declared.event.Outcome.{Outcome}
-use Rattle.xv_machine.specs.declared.event.Outcome.TheVariants.{Stepped, Called, Blocked, Exited, Faulted, Turn, Idle, Ticked, Halted}
+use Rattle.xv_machine.specs.declared.event.Outcome.TheVariants.{Stepped, Called, Blocked, Exited, Faulted, Turn, Idle, Ticked, Typed, Sent, Halted}
 
 abbrev pub event_of : Event → runs.Event
 event_of Run = runs.Run
 event_of Tick = runs.Tick
+event_of (Key byte) = runs.Key byte
+event_of Send = runs.Send
 
 abbrev pub outcome_of : Outcome → runs.Outcome
 outcome_of (Stepped pid) = runs.Step_of pid answers.Stepped
@@ -20,6 +22,8 @@ outcome_of (Faulted pid cause) = runs.Step_of pid (answers.Faulted cause)
 outcome_of (Turn pid) = runs.Turn pid
 outcome_of Idle = runs.Idle
 outcome_of Ticked = runs.Ticked
+outcome_of (Typed echo) = runs.Typed echo.items
+outcome_of (Sent byte) = runs.Sent byte
 outcome_of Halted = runs.Halted
 
 -- the status with which process 1 goes, where it does

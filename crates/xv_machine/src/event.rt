@@ -1,5 +1,11 @@
 //! What a machine is told, and what it tells.
+ghost use Rattle.std.specs.Prelude.{◌≡◌};
+ghost use Rattle.kcall_core.specs.Run.{bytes_out};
+ghost use Rattle.xv_machine.specs.Events.{outcome_of};
+
+use kcall_core::Echo;
 use std::fmt;
+use std::slice;
 use xk_base::{Cause, Pid};
 
 /// Something that happens to a machine.
@@ -9,10 +15,16 @@ pub enum Event {
     Run,
     /// The timer interrupts: the clock counts one tick, sleepers on the clock wake, and nobody runs.
     Tick,
+    /// The key of this byte is typed: the console takes it, and where a line is committed, those wake who
+    /// wait to read one.
+    Key(u8),
+    /// The terminal can take a byte: the first that waits to be sent leaves, and those wake who wait for
+    /// room. It is so on a halted machine too.
+    Send,
 }
 
 /// What came of an event.
-#[derive(Clone, Copy, Debug, PartialEq, Eq)]
+#[derive(Debug, PartialEq, Eq, Drop)]
 pub enum Outcome {
     /// The process did one instruction.
     Stepped { pid: Pid },
@@ -30,11 +42,30 @@ pub enum Outcome {
     Idle,
     /// The clock has counted a tick.
     Ticked,
+    /// The console has taken a key, and shows these bytes for it, at most 384: the key's own, a backspace, a
+    /// blank and a backspace for each byte that it took back, or none.
+    Typed(Echo),
+    /// This byte was sent, or none waited.
+    Sent(Option<u8>),
     /// Process 1 is gone: nothing happened, and no process runs again.
     Halted,
 }
 
-/// The outcome as a line of a trace, without its end: a word, then plain decimal numbers.
+impl Outcome {
+    /// The bytes that it shows: what the console shows for a key, or the byte that was sent.
+    pub fn shown(&self) -> &[u8]
+        ensures { result.now ≡ bytes_out (outcome_of self.now) }
+    {
+        match self {
+            Outcome::Typed(echo) => echo.as_slice(),
+            Outcome::Sent(Some(byte)) => slice::from_ref(byte),
+            _ => &[],
+        }
+    }
+}
+
+/// The outcome as a line of a trace, without its end: a word, then plain decimal numbers. Of a key it tells
+/// how many bytes the console shows for it, and of a send the byte, or `none`.
 impl fmt::Display for Outcome {
     fn fmt<W: fmt::Write>(&self, f: &mut fmt::Formatter<W>) -> fmt::Result {
         match *self {
@@ -65,6 +96,12 @@ impl fmt::Display for Outcome {
             }
             Outcome::Idle => write!(f, "idle"),
             Outcome::Ticked => write!(f, "tick"),
+            Outcome::Typed(ref echo) => {
+                let count = echo.len();
+                write!(f, "typed {count}")
+            }
+            Outcome::Sent(Some(byte)) => write!(f, "sent {byte}"),
+            Outcome::Sent(None) => write!(f, "sent none"),
             Outcome::Halted => write!(f, "halted"),
         }
     }

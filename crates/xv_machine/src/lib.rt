@@ -18,6 +18,6 @@ mod trace;
 
 pub use devices::{ByteSink, Counted, DeviceFault, KeySource};
 pub use event::{Event, Outcome};
-pub use kcall_core::ChildState;
+pub use kcall_core::{ChildState, Echo};
 pub use machine::{Config, Machine};
 pub use trace::Note;

@@ -203,6 +203,8 @@ impl Machine {
         match event {
             Event::Run => self.run(),
             Event::Tick => self.tick(),
+            Event::Key(byte) => self.key(byte),
+            Event::Send => self.send(),
         }
     }
 
@@ -270,6 +272,33 @@ impl Machine {
         Outcome::Ticked
     }
 
+    // The console takes a key, unless process 1 is gone.
+    #[cold]
+    fn key(&mut self, byte: u8) -> Outcome
+        ensures promised { PromisedSoFar self.old.world (runs.Key byte) (outcome_of result) self.new.world }
+        ensures sound { IsSoundMachine self.new }
+        ensures frames { self.new.frames.count ≡ self.old.frames.count }
+        ensures trace { SameTrace self.old self.new }
+    {
+        if self.halted.is_some() {
+            return Outcome::Halted;
+        }
+        let echo = self.kernel.key(byte);
+        Outcome::Typed(echo)
+    }
+
+    // The first byte that waits to be sent leaves, also where process 1 is gone.
+    #[cold]
+    fn send(&mut self) -> Outcome
+        ensures promised { PromisedSoFar self.old.world runs.Send (outcome_of result) self.new.world }
+        ensures sound { IsSoundMachine self.new }
+        ensures frames { self.new.frames.count ≡ self.old.frames.count }
+        ensures trace { SameTrace self.old self.new }
+    {
+        let byte = self.kernel.send();
+        Outcome::Sent(byte)
+    }
+
     /// The registers of a live process; `None` for any other pid.
     pub fn registers(&self, pid: Pid) -> Option<Regs>
         ensures { result ≡ registers_of self.now.world.state pid }
@@ -309,7 +338,8 @@ impl Machine {
 
     /// The status with which process 1 went.
     pub fn halted(&self) -> Option<i32>
-        ensures { result ≡ self.now.world.turns.halted }
+        ensures status { result ≡ self.now.world.turns.halted }
+        ensures sound { IsSoundMachine self.now }
     {
         self.halted
     }

@@ -3,7 +3,7 @@ mod refusals;
 mod scene;
 
 use self::scene::{Image, Scene, file_of, first, plain, program, two_segments};
-use crate::{Config, Outcome};
+use crate::{Config, Echo, Outcome};
 use std::alloc::{AllocError, Global};
 use std::process::Abort;
 use std::test::Fail;
@@ -44,6 +44,15 @@ fn faulted(cause: Cause) -> Outcome {
         pid: first(),
         cause,
     }
+}
+
+// What the console shows for a key.
+fn typed(echo: &[u8]) -> Outcome {
+    let mut shown = Echo::new();
+    for byte in echo {
+        shown.push(*byte);
+    }
+    Outcome::Typed(shown)
 }
 
 // `li a7, 2`, `li a0, 0`, `ecall`.
@@ -335,6 +344,10 @@ fn outcomes_are_lines_of_a_trace(rt: HostRuntime) -> Result<(), Fail> {
         ),
         (Outcome::Idle, "idle"),
         (Outcome::Ticked, "tick"),
+        (typed(&[]), "typed 0"),
+        (typed(&[8, 0x20, 8]), "typed 3"),
+        (Outcome::Sent(Some(255)), "sent 255"),
+        (Outcome::Sent(None), "sent none"),
         (Outcome::Halted, "halted"),
     ] {
         assert_eq!(rt; format!(in rt.alloc(); "{outcome}")?.as_str(), line);
@@ -406,4 +419,20 @@ fn a_growth_that_the_host_refuses_is_want_of_memory(rt: HostRuntime) {
         Ok(scene) => live_and_die(&rt, scene),
         Err(error) => assert_eq!(rt; error, BootError::Memory),
     }
+}
+
+#[test]
+fn the_console_takes_keys_until_the_machine_is_halted(rt: HostRuntime) -> Result<(), Fail> {
+    let mut scene = Scene::of_words(rt.alloc(), &EXIT)?;
+    assert_eq!(rt; scene.key(b'a'), typed(b"a"));
+    assert_eq!(rt; scene.key(127), typed(&[8, 0x20, 8]));
+    assert_eq!(rt; scene.key(21), typed(&[]));
+    assert_eq!(rt; scene.key(13), typed(&[10]));
+    assert_eq!(rt; scene.send(), Outcome::Sent(None));
+    scene.run(&rt, &[turn(), stepped()]);
+    assert_eq!(rt; scene.key(4), typed(&[4]));
+    scene.run(&rt, &[stepped(), exited(0)]);
+    assert_eq!(rt; scene.key(b'a'), Outcome::Halted);
+    assert_eq!(rt; scene.send(), Outcome::Sent(None));
+    Ok(())
 }

@@ -1,7 +1,7 @@
 //! The notes that a trace keeps.
 ghost use Rattle.std.specs.Prelude.{◌≡◌};
 ghost use Rattle.xv_machine.specs.Events.{event_of, outcome_of};
-ghost use Rattle.xv_machine.specs.Notes.{note};
+ghost use Rattle.xv_machine.specs.Notes.{key_of, note};
 
 use crate::event::{Event, Outcome};
 use std::fmt;
@@ -34,6 +34,16 @@ pub enum Note {
     Halted,
 }
 
+// The byte of a key; 0 of any other event.
+fn key_of(event: Event) -> u8
+    ensures { result ≡ key_of (event_of event) }
+{
+    match event {
+        Event::Key(byte) => byte,
+        _ => 0,
+    }
+}
+
 impl Note {
     // The note of an event and what came of it.
     pub(crate) fn of(event: Event, outcome: &Outcome) -> Note
@@ -61,6 +71,11 @@ impl Note {
             Outcome::Turn { pid } => Note::Turn { pid: *pid },
             Outcome::Idle => Note::Idle,
             Outcome::Ticked => Note::Ticked,
+            Outcome::Typed(echo) => Note::Typed {
+                key: key_of(event),
+                echo: echo.len(),
+            },
+            Outcome::Sent(byte) => Note::Sent(*byte),
             Outcome::Halted => Note::Halted,
         }
     }

@@ -1,4 +1,4 @@
--- Each event keeps all that is promised of it: a step, a turn, nothing to do, a tick, and nothing after the end.
+-- Each event keeps all that is promised of it: a step, a turn, nothing to do, a tick, a key, a byte that is sent, and nothing after the end.
 use Rattle.std.proofs.Common.{◌≡◌, ℕ, Some, None, inl, inr, ◌⊎◌, refl, sym, ap, ◌∙◌, subst}
 use Rattle.std.specs.Prelude.{ℤ, option_map, true, false}
 use Rattle.std.specs.Ordering.{nat_cmp}
@@ -9,7 +9,7 @@ use Rattle.kcall_core.specs.View.{view, view_of}
 use Rattle.kcall_core.specs.Own.{Answer}
 use Rattle.kcall_core.specs.Ready.{ready}
 use Rattle.kcall_core.specs.Step.{own}
-use Rattle.kcall_core.specs.Run.{World, Event, Run, Tick, Outcome, Step_of, Turn, Idle, Ticked, Halted, Happens, RunHappens, TickHappens, TurnTaken, StepOf, halts_with}
+use Rattle.kcall_core.specs.Run.{World, Event, Run, Tick, Key, Send, Outcome, Step_of, Turn, Idle, Ticked, Halted, Happens, RunHappens, TickHappens, KeyHappens, SendHappens, TurnTaken, StepOf, halts_with}
 use Rattle.kcall_core.specs.Wakes.{IsRunnable, IsNearest, NoReadySleeper, IsInCall, IsEnd, WakesWhereDue, Promised}
 use Rattle.kcall_core.specs.Kernel.{state_of, IsSound, IsRunning, pid_now}
 use Rattle.kcall_core.specs.Machine.{turns_of, world_of}
@@ -133,3 +133,18 @@ tick-run e = cc
 pub tick-promised : (k k' : Kernel) (h h' : Hart) → TickHappens (world_of k h None) None Ticked (world_of k' h' None) → WakesWhereDue (world_of k h None) Ticked (world_of k' h' None) → Promised (world_of k h None) Tick Ticked (world_of k' h' None)
 unfolding turns_of
 tick-promised k k' h h' happens wakes = (happens, wakes, λ e halted idle. absurd (tick-run e))
+
+-- ---- a key, and a byte that is sent
+
+key-run : (b : ℕ) → Key b ≡ Run → ⊥
+key-run b e = cc
+
+pub key-promised : (k k' : Kernel) (h h' : Hart) (b : ℕ) (o : Outcome) → KeyHappens (world_of k h None) None b o (world_of k' h' None) → WakesWhereDue (world_of k h None) o (world_of k' h' None) → Promised (world_of k h None) (Key b) o (world_of k' h' None)
+unfolding turns_of
+key-promised k k' h h' b o happens wakes = (happens, wakes, λ e halted idle. absurd (key-run b e))
+
+send-run : Send ≡ Run → ⊥
+send-run e = cc
+
+pub send-promised : (w t : World) (o : Outcome) → SendHappens w o t → WakesWhereDue w o t → Promised w Send o t
+send-promised w t o happens wakes = (happens, wakes, λ e halted idle. absurd (send-run e))

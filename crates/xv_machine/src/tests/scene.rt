@@ -157,6 +157,16 @@ impl Scene {
         self.machine.event(Event::Tick)
     }
 
+    /// What comes of a key.
+    pub(super) fn key(&mut self, byte: u8) -> Outcome {
+        self.machine.event(Event::Key(byte))
+    }
+
+    /// What comes of a Send.
+    pub(super) fn send(&mut self) -> Outcome {
+        self.machine.event(Event::Send)
+    }
+
     /// Sends Run once for each outcome that is wanted.
     pub(super) fn run(&mut self, rt: &impl Abort, wanted: &[Outcome]) {
         for (i, outcome) in wanted.iter().enumerate() {

@@ -1,7 +1,12 @@
 use Rattle.std.proofs.Common.{ap, ◌∙◌}
 use Rattle.xv_machine.specs.Meaning.{Meaning}
-use Rattle.xv_machine.proofs.Runs.{kept-is}
+use Rattle.xv_machine.proofs.Runs.{kept-is, now-sound}
 use Rattle.xv_machine.proofs.machine.Machine.halted.Goals as goal
 
-pub returns : goal.returns
-returns c = kept-is c.self.inside.kernel c.self.inside.halted ∙ ap (λ (m : Meaning). m.world.turns.halted) c.self.view_is
+pub returns-clause-status : goal.returns-clause-status
+returns-clause-status c = kept-is c.self.inside.kernel c.self.inside.halted ∙ ap (λ (m : Meaning). m.world.turns.halted) c.self.view_is
+
+pub returns-clause-sound : goal.returns-clause-sound
+returns-clause-sound c =
+    let i = c.self.inside in
+    now-sound i.kernel i.hart i.halted i.trace c.args.self.now c.self.view_is c.self.invariant.whole c.self.invariant.halted c.self.invariant.kept
