@@ -19,4 +19,7 @@ pub mod Putting
 pub mod Room
 pub mod Sharing
 pub mod Taking
+pub mod TerminalMoves
+pub mod TerminalReads
+pub mod TerminalWrites
 pub mod UsedDescriptor

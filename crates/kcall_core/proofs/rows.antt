@@ -9,7 +9,7 @@ pub mod PartLaws
 pub mod RowLawsHold
 pub mod RowNumbers
 pub mod Decoding
-pub mod BuiltRows
+pub mod NoRow
 pub mod Falls
 pub mod Plain
 pub mod Resized

@@ -8,7 +8,7 @@ pub mod RowsOfFiles
 pub mod RowsOfMemory
 pub mod RowsOfProcesses
 pub mod RowsOfSteps
-pub mod RowsOfBuilt
+pub mod RowsOfAsked
 pub mod RowsOfRoom
 pub mod RowsOfRounds
 pub mod RowsOfRuns

@@ -39,10 +39,10 @@ pub mod Machine
 pub mod Whole
 pub mod Room
 pub mod Makes
-pub mod Built
 pub mod Closings
 pub mod Ticks
 pub mod Moves
+pub mod Terminal
 pub mod Sharings
 pub mod Forks
 pub mod Kills

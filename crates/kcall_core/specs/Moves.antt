@@ -1,5 +1,5 @@
 -- Bytes that move between open files and the memory of a slot: what a read or a write is on, and what a move leaves.
-use Rattle.std.specs.Prelude.{◌≡◌, ◌≢◌, ℕ, ◌<◌, Some, length, set, pos, Bool, true, ◌&&◌, nat_lt}
+use Rattle.std.specs.Prelude.{◌≡◌, ℕ, ◌<◌, Some, length, set, pos, Bool, true, ◌&&◌, nat_lt}
 use Rattle.std.specs.FinMap.{get, insert}
 use Rattle.xk_base.specs.declared.limits.TheConstants.{NOFILE}
 use Rattle.xk_base.specs.Image.{Image}
@@ -7,7 +7,6 @@ use Rattle.hart_core.specs.declared.hart.Hart.{Hart}
 use Rattle.pipe_core.specs.Pipe.{Pipe}
 use Rattle.file_table.specs.declared.open_file.End.{End}
 use Rattle.file_table.specs.declared.open_file.OpenFile.{OpenFile}
-use Rattle.file_table.specs.declared.open_file.Target.TheVariants.{Console}
 use Rattle.proc_table.specs.Channels.{same_channel}
 use Rattle.proc_table.specs.declared.channel.Channel.{Channel}
 use Rattle.proc_table.specs.declared.channel.Channel.TheVariants as on
@@ -64,7 +63,3 @@ pub record OnFile (k : Kernel) (h : Hart) (c : Call) (file : ℕ) (x : OpenFile)
   pub named_file : get (live_now k h).descriptors fd ≡ Some file
   pub opened : get (state_of k h).files file ≡ Some x
   pub buffer : IsBuffer c is_there n
-
--- the call is on no terminal (on which reads and writes aren't built yet)
-abbrev pub OnNoTerminal : Kernel → Hart → Call → Type 0
-OnNoTerminal k h c = (fd file : ℕ) (x : OpenFile) → fd < NOFILE → c_int c.a0 ≡ pos fd → get (live_now k h).descriptors fd ≡ Some file → get (state_of k h).files file ≡ Some x → x.target ≢ Console

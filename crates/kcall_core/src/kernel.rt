@@ -42,6 +42,7 @@ mod registers;
 mod sbrk;
 mod sharing;
 mod starting;
+mod terminal;
 mod ticks;
 mod uart;
 mod wait;

@@ -16,7 +16,7 @@ pub struct Call {
     pub a1: u64,
     pub a2: u64,
     /// How many bytes it has moved.
-    pub moved: u64,
+    pub moved: u32,
     /// The clock when it began.
     pub clock: u32,
 }

@@ -3,6 +3,6 @@ pub mod Counts
 pub mod Fitting
 pub mod Kept
 pub mod Frames
-pub mod SoFar
+pub mod OneStep
 pub mod Runs
 pub mod Starts

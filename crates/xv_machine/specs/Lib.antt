@@ -6,4 +6,3 @@ pub mod Machine
 pub mod Meaning
 pub mod Notes
 pub mod Sound
-pub mod Unbuilt

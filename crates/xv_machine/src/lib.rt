@@ -3,9 +3,8 @@
 //! A [`Machine`] is booted from program files, of which one is called `init`, and then takes events
 //! one by one. It is a kernel and the hart that runs its processes, and stands for a world of
 //! `kcall_core` (`world_of` of its `specs/Machine.antt`). What an event does there, who wakes and whose
-//! turn it is, is `Promised` of its `specs/Wakes.antt`, but that a call which isn't built yet answers -1
-//! (`specs/Unbuilt.antt`); the first world is `first` of its `specs/First.antt`. Whose each frame of RAM
-//! is, is said in `specs/Sound.antt`.
+//! turn it is, is `Promised` of its `specs/Wakes.antt`; the first world is `first` of its
+//! `specs/First.antt`. Whose each frame of RAM is, is said in `specs/Sound.antt`.
 #![tactic(auto)]
 
 mod devices;

@@ -105,6 +105,7 @@ impl Machine {
     ghost use Rattle.kcall_core.specs.Whole.{IsWhole};
     ghost use Rattle.kcall_core.specs.First.{first, first_init};
     ghost use Rattle.kcall_core.specs.Run as runs;
+    ghost use Rattle.kcall_core.specs.Wakes.{Promised};
     ghost use Rattle.kcall_core.specs.Observers.{registers_of, byte_at, child_at, shown};
     ghost use Rattle.circular_buffer.specs.Buffer.{keep_last};
     ghost use Rattle.xv_machine.specs.Boots.{Boots, HasEmptyTrace};
@@ -112,7 +113,6 @@ impl Machine {
     ghost use Rattle.xv_machine.specs.Machine.{SameTrace};
     ghost use Rattle.xv_machine.specs.Notes.{note};
     ghost use Rattle.xv_machine.specs.Sound.{IsSoundMachine};
-    ghost use Rattle.xv_machine.specs.Unbuilt.{PromisedSoFar};
 
     /// A machine whose process 1 runs the program called `init`, and waits for its turn.
     ///
@@ -182,7 +182,7 @@ impl Machine {
     /// What comes of an event. The trace keeps a note of it, where it has room.
     #[inline(always)]
     pub fn event(&mut self, event: Event) -> Outcome
-        ensures promised { PromisedSoFar self.old.world (event_of event) (outcome_of result) self.new.world }
+        ensures promised { Promised self.old.world (event_of event) (outcome_of result) self.new.world }
         ensures sound { IsSoundMachine self.new }
         ensures frames { self.new.frames.count ≡ self.old.frames.count }
         ensures notes { self.new.notes ≡ keep_last self.old.room (self.old.notes ++ note (event_of event) (outcome_of result) ∷ []) }
@@ -196,7 +196,7 @@ impl Machine {
     // What comes of an event, before the trace keeps a note of it.
     #[inline(always)]
     fn take(&mut self, event: Event) -> Outcome
-        ensures promised { PromisedSoFar self.old.world (event_of event) (outcome_of result) self.new.world }
+        ensures promised { Promised self.old.world (event_of event) (outcome_of result) self.new.world }
         ensures frames { self.new.frames.count ≡ self.old.frames.count }
         ensures trace { SameTrace self.old self.new }
     {
@@ -223,7 +223,7 @@ impl Machine {
     // The process that runs makes a step; where none runs, the next has its turn.
     #[inline(always)]
     fn run(&mut self) -> Outcome
-        ensures promised { PromisedSoFar self.old.world runs.Run (outcome_of result) self.new.world }
+        ensures promised { Promised self.old.world runs.Run (outcome_of result) self.new.world }
         ensures sound { IsSoundMachine self.new }
         ensures frames { self.new.frames.count ≡ self.old.frames.count }
         ensures trace { SameTrace self.old self.new }
@@ -244,7 +244,7 @@ impl Machine {
     #[cold]
     fn turn(&mut self) -> Outcome
         requires stopped { self.old.world.turns.current ≡ None }
-        ensures promised { PromisedSoFar self.old.world runs.Run (outcome_of result) self.new.world }
+        ensures promised { Promised self.old.world runs.Run (outcome_of result) self.new.world }
         ensures sound { IsSoundMachine self.new }
         ensures frames { self.new.frames.count ≡ self.old.frames.count }
         ensures trace { SameTrace self.old self.new }
@@ -260,7 +260,7 @@ impl Machine {
 
     // The clock counts a tick, unless process 1 is gone.
     fn tick(&mut self) -> Outcome
-        ensures promised { PromisedSoFar self.old.world runs.Tick (outcome_of result) self.new.world }
+        ensures promised { Promised self.old.world runs.Tick (outcome_of result) self.new.world }
         ensures sound { IsSoundMachine self.new }
         ensures frames { self.new.frames.count ≡ self.old.frames.count }
         ensures trace { SameTrace self.old self.new }
@@ -275,7 +275,7 @@ impl Machine {
     // The console takes a key, unless process 1 is gone.
     #[cold]
     fn key(&mut self, byte: u8) -> Outcome
-        ensures promised { PromisedSoFar self.old.world (runs.Key byte) (outcome_of result) self.new.world }
+        ensures promised { Promised self.old.world (runs.Key byte) (outcome_of result) self.new.world }
         ensures sound { IsSoundMachine self.new }
         ensures frames { self.new.frames.count ≡ self.old.frames.count }
         ensures trace { SameTrace self.old self.new }
@@ -290,7 +290,7 @@ impl Machine {
     // The first byte that waits to be sent leaves, also where process 1 is gone.
     #[cold]
     fn send(&mut self) -> Outcome
-        ensures promised { PromisedSoFar self.old.world runs.Send (outcome_of result) self.new.world }
+        ensures promised { Promised self.old.world runs.Send (outcome_of result) self.new.world }
         ensures sound { IsSoundMachine self.new }
         ensures frames { self.new.frames.count ≡ self.old.frames.count }
         ensures trace { SameTrace self.old self.new }

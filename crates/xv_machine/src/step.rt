@@ -1,6 +1,6 @@
 //! One step of the process that runs.
 ghost use Rattle.std.specs.Prelude.{◌≡◌};
-ghost use Rattle.kcall_core.specs.Built.{own_so_far};
+ghost use Rattle.kcall_core.specs.Step.{own};
 ghost use Rattle.kcall_core.specs.RowLaws as laws;
 ghost use Rattle.kcall_core.specs.Run.{Step_of};
 ghost use Rattle.kcall_core.specs.Kernel.{IsRunning, pid_now, live_now};
@@ -32,8 +32,8 @@ fn instruction(kernel: &mut Kernel, hart: &mut Hart, pid: Pid) -> Outcome
     requires running { IsRunning kernel.old }
     requires between_calls { laws.IsBetweenCalls (live_now kernel.old hart.old) }
     requires pid { pid ≡ pid_now kernel.old }
-    ensures made { Makes kernel.old hart.old (own_so_far (view_now kernel.old hart.old)) kernel.new hart.new }
-    ensures answer { outcome_of result ≡ Step_of pid (own_so_far (view_now kernel.old hart.old)).answer }
+    ensures made { Makes kernel.old hart.old (own (view_now kernel.old hart.old)) kernel.new hart.new }
+    ensures answer { outcome_of result ≡ Step_of pid (own (view_now kernel.old hart.old)).answer }
 {
     match kernel.step(hart) {
         Stop::Next => Outcome::Stepped { pid },
@@ -56,8 +56,8 @@ pub(crate) fn step(kernel: &mut Kernel, hart: &mut Hart, pid: Pid) -> Outcome
     requires whole { IsWhole kernel.old hart.old }
     requires running { IsRunning kernel.old }
     requires pid { pid ≡ pid_now kernel.old }
-    ensures made { Makes kernel.old hart.old (own_so_far (view_now kernel.old hart.old)) kernel.new hart.new }
-    ensures answer { outcome_of result ≡ Step_of pid (own_so_far (view_now kernel.old hart.old)).answer }
+    ensures made { Makes kernel.old hart.old (own (view_now kernel.old hart.old)) kernel.new hart.new }
+    ensures answer { outcome_of result ≡ Step_of pid (own (view_now kernel.old hart.old)).answer }
 {
     if kernel.marked() {
         kernel.exit(hart, -1);

@@ -7,7 +7,6 @@ use Rattle.std.proofs.lemmas.Bool.Decides.{eqb_tells}
 use Rattle.std.proofs.lemmas.List.{length-append, set-get_or}
 use Rattle.std.proofs.lemmas.List.FromFn.{length-map-range_with_len}
 use Rattle.xk_base.specs.declared.limits.TheConstants.{PIPE_BYTES, NOFILE}
-use Rattle.xk_base.specs.Image.{Image}
 use Rattle.xk_base.specs.Bytes.{image_bytes, image_byte}
 use Rattle.hart_core.specs.declared.hart.Hart.{Hart}
 use Rattle.pipe_core.specs.Pipe.{Pipe, with_more}
@@ -17,7 +16,6 @@ use Rattle.proc_table.specs.declared.channel.Channel.{Channel}
 use Rattle.proc_table.specs.declared.channel.Channel.TheVariants as on
 use Rattle.proc_table.specs.declared.process.Call.{Call}
 use Rattle.xk_base.specs.declared.access.Access.TheVariants.{Load}
-use Rattle.user_copy.proofs.Ranges.{reaches-none}
 use Rattle.kcall_core.specs.Buffers.{readable}
 use Rattle.kcall_core.specs.PipeEnds.{fit}
 use Rattle.kcall_core.specs.Processes.{Live, Alive}
@@ -46,7 +44,7 @@ use Rattle.kcall_core.proofs.steps.Alone as law
 use Rattle.kcall_core.proofs.rows.Decoding.{is_write}
 use Rattle.kcall_core.proofs.steps.PipeCalls as pipes
 use Rattle.kcall_core.proofs.steps.OnFiles.{pipe_write}
-use Rattle.kcall_core.proofs.memory.PipeRest.{readable-rest, readable-low}
+use Rattle.kcall_core.proofs.memory.PipeRest.{next-at, rest-reached}
 use Rattle.kcall_core.proofs.turns.StepSlots.{KeepsAll}
 use Rattle.kcall_core.proofs.making.CallAnswers.{IsDone}
 use Rattle.kcall_core.proofs.making.Prepared.{over}
@@ -58,9 +56,6 @@ above a b e = elim (cases_lt a b) [ inl less ↦ absurd (clash (lt-ltb a b less)
   where
     clash : {x : Bool} → x ≡ true → x ≡ false → ⊥
     clash t f = cc
-
-nothing : (i : Image) (a : ℕ) → readable i a 0 ≡ true
-nothing i a = reaches-none Load i a
 
 -- nobody wakes where no byte came
 pub none-came : (f n : ℕ) (d : Channel) → n ≡ 0 → wakes_readers f n d ≡ false
@@ -119,13 +114,7 @@ module _ {k : Kernel} {h : Hart} {c : Call} {f n : ℕ} (whole : IsWhole k h) (r
 
   -- the rest of the buffer is there, wherever the sum of two words lies
   pub rest-there : (slot : ℕ) → slot ≡ slot_now k → (at : ℕ) → at ≡ (c.a1 + c.moved) % 2 ^ 64 → (m : ℕ) → m ≡ left → readable (held_at (each_of k.memories) slot).image at m ≡ true
-  rest-there slot same at at-is m m-is = elim (cases_lt c.moved n) [
-    | inl less ↦
-        let low : c.a1 + c.moved < 2 ^ 38 = readable-low k.memories (slot_now k) c.a1 n c.moved its-memory x.buffer.2 less in
-        let here : at ≡ c.a1 + c.moved = omega (arith, at-is, low) in
-        (λ i. readable (held_at (each_of k.memories) (same i)).image (here i) (m-is i)) ∙ readable-rest l.image c.a1 n c.moved x.buffer.2 (omega (arith, less))
-    | inr over ↦ let none : m ≡ 0 = omega (arith, m-is, over) in (λ i. readable (held_at (each_of k.memories) slot).image at (none i)) ∙ nothing (held_at (each_of k.memories) slot).image at
-  ]
+  rest-there slot same at at-is m m-is = rest-reached Load k.memories (slot_now k) c.a1 n c.moved its-memory x.buffer.2 at at-is slot same m m-is
 
   few : length x.pipe.bytes ≤ PIPE_BYTES
   few = whole.well.pipe_bytes f x.pipe x.on.pipe
@@ -191,8 +180,7 @@ module _ {k : Kernel} {h : Hart} {c : Call} {f n : ℕ} (whole : IsWhole k h) (r
     same-bytes : image_bytes (held_at (each_of k.memories) slot).image to told ≡ image_bytes l.image (c.a1 + c.moved) count
     same-bytes = elim (cases_lt c.moved n) [
       | inl less ↦
-          let low : c.a1 + c.moved < 2 ^ 38 = readable-low k.memories (slot_now k) c.a1 n c.moved its-memory x.buffer.2 less in
-          let here : to ≡ c.a1 + c.moved = omega (arith, to-is, low) in
+          let here : to ≡ c.a1 + c.moved = next-at Load k.memories (slot_now k) c.a1 n c.moved its-memory x.buffer.2 to to-is less in
           (λ i. image_bytes (held_at (each_of k.memories) (slot-is i)).image (here i) (told-count i))
       | inr over ↦
           let none : count ≡ 0 = omega (arith, over) in

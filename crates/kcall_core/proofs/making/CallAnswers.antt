@@ -1,19 +1,16 @@
 -- What a call of the process that runs comes to: at its first step, and where it goes on.
-use Rattle.std.proofs.Common.{◌≡◌, ℕ, Bool, true, false, cond, not, ◌&&◌, ◌||◌, length, Option, Some, None, refl, sym, ap, ◌∙◌, subst}
-use Rattle.std.specs.Prelude.{ℤ, is_some}
+use Rattle.std.proofs.Common.{◌≡◌, false, length, Option, Some, None, refl, sym, ap, ◌∙◌, subst}
+use Rattle.std.specs.Prelude.{ℤ}
 use Rattle.rv64i_core.specs.Registers.{reg, with_pc, after}
-use Rattle.rv64i_core.specs.Step.{Step, Ecall}
+use Rattle.rv64i_core.specs.Step.{Ecall}
 use Rattle.hart_core.specs.declared.hart.Hart.{Hart}
 use Rattle.proc_table.specs.declared.process.Call.{Call}
 use Rattle.kcall_core.specs.Instruction.{next_instruction}
 use Rattle.kcall_core.specs.Words.{A0, A1, A2, A7, c_int}
-use Rattle.kcall_core.specs.Processes.{Live}
-use Rattle.kcall_core.specs.State.{State}
-use Rattle.kcall_core.specs.View.{View, view_of}
+use Rattle.kcall_core.specs.View.{view_of}
 use Rattle.kcall_core.specs.Own.{Own}
-use Rattle.kcall_core.specs.Calls.{perform, done, refused}
-use Rattle.kcall_core.specs.Step.{own, call_begun, call_or_begun, call_in, begun}
-use Rattle.kcall_core.specs.Built.{is_built, is_ecall, is_unbuilt, perform_so_far, own_so_far}
+use Rattle.kcall_core.specs.Calls.{perform, done}
+use Rattle.kcall_core.specs.Step.{own, call_begun, call_or_begun, call_in}
 use Rattle.kcall_core.specs.Updates.{own_state, with_answer}
 use Rattle.kcall_core.specs.RowLaws as laws
 use Rattle.kcall_core.specs.RowLaws.{IsLive, begun_live, begun_state}
@@ -22,65 +19,10 @@ use Rattle.kcall_core.specs.Whole.{IsWhole}
 use Rattle.kcall_core.specs.Makes.{Makes, view_now, answer_of}
 use Rattle.kcall_core.specs.declared.kernel.Kernel.{Kernel}
 use Rattle.kcall_core.specs.declared.call_end.CallEnd.{CallEnd}
-use Rattle.kcall_core.proofs.steps.SetLive.{view-set_live}
 use Rattle.kcall_core.proofs.steps.Alone as law
 use Rattle.kcall_core.proofs.table.InCall.{calling, moved, is-in-call}
 use Rattle.kcall_core.proofs.turns.Turned.{live-is}
 use Rattle.kcall_core.proofs.making.AloneMakes.{OnlyItself, only-pid, only-whole, answer-makes, begun-makes}
-
--- ---- a step on a call, in this kernel
-
--- its three parts: the kill mark, the call in progress, and the instruction at the pc
-abbrev step-on : View → Bool → Option Call → Step → Own
-step-on v killed call step =
-    cond (not killed && (is_some call || is_ecall step) && not (is_built (call_or_begun v call) v))
-    (refused (call_or_begun v call) (cond (is_some call) v (begun v)))
-    (own v)
-
-so-far : (v : View) → own_so_far v ≡ step-on v v.killed v.call (next_instruction v.regs v.image)
-unfolding is_unbuilt
-so-far v = refl
-
-turned : {A : Type 0} (b : Bool) (x y : A) → cond (not b) x y ≡ cond b y x
-turned true x y = refl
-turned false x y = refl
-
--- a call in progress goes on by its row
-pub resumed-so-far : (s : State) (p : ℕ) (l : Live) (c : Call) → l.killed ≡ false → l.call ≡ Some c → own_so_far (view_of s p l) ≡ perform_so_far c (view_of s p l)
-unfolding view_of
-resumed-so-far s p l c unmarked busy =
-    let v = view_of s p l in
-    let step = next_instruction l.regs l.image in
-    let built = is_built c v in
-    so-far v
-    ∙ ap (λ killed. step-on v killed l.call step) unmarked
-    ∙ ap (λ call. step-on v false call step) busy
-    ∙ ap (λ o. cond (not built) (refused c v) o) (law.resume s p l c unmarked busy)
-    ∙ turned built (refused c v) (perform c v)
-
-module _ (s : State) (p : ℕ) (l : Live) (was : IsLive s p l) where
-  -- what the process sees once its call has begun
-  begun-view : view_of (begun_state p l s) p (begun_live s p l) ≡ begun (view_of s p l)
-  unfolding view_of
-  begun-view = view-set_live s p l (begun_live s p l) was refl p (begun_live s p l)
-
-  -- an ECALL begins a call, which goes on by its row
-  pub begun-so-far : laws.IsBetweenCalls l → next_instruction l.regs l.image ≡ Ecall → own_so_far (view_of s p l) ≡ perform_so_far (call_begun (view_of s p l)) (view_of (begun_state p l s) p (begun_live s p l))
-  unfolding view_of
-  begun-so-far runs is =
-      let v = view_of s p l in
-      let c = call_begun v in
-      let seen = view_of (begun_state p l s) p (begun_live s p l) in
-      let built = is_built c v in
-      so-far v
-      ∙ ap (λ killed. step-on v killed l.call (next_instruction l.regs l.image)) runs.0
-      ∙ ap (λ call. step-on v false call (next_instruction l.regs l.image)) runs.1
-      ∙ ap (λ step. step-on v false None step) is
-      ∙ ap (λ w. cond (not built) (refused c w) (own v)) (sym begun-view)
-      ∙ ap (λ o. cond (not built) (refused c seen) o) (law.ecall s p l was runs is).0
-      ∙ turned built (refused c seen) (perform c seen)
-      -- (what a call meets of the terminal is the same past its ECALL)
-      ∙ ap (λ b. cond b (perform c seen) (refused c seen)) (ap (is_built c) (sym begun-view))
 
 -- ---- a call that is done at once
 
@@ -157,19 +99,19 @@ module _ {k : Kernel} {h : Hart} {c : Call} {k' : Kernel} {h' : Hart} (whole : I
   view-begun = let pid = only-pid whole runs begun-itself in λ i. view_of (x.state i) (pid i) (x.live i)
 
   -- what the row of the call comes to is what the step comes to
-  pub begun-row : laws.IsBetweenCalls (live_now k h) → next_instruction (live_now k h).regs (live_now k h).image ≡ Ecall → perform_so_far c (view_now k' h') ≡ own_so_far (view_now k h)
+  pub begun-row : laws.IsBetweenCalls (live_now k h) → next_instruction (live_now k h).regs (live_now k h).image ≡ Ecall → perform c (view_now k' h') ≡ own (view_now k h)
   begun-row unmarked is =
-      ap (λ (d : Call). perform_so_far d (view_now k' h')) x.call
-      ∙ ap (perform_so_far (call_begun (view_now k h))) view-begun
-      ∙ sym (begun-so-far (state_of k h) (pid_now k) (live_now k h) (live-is k h whole.sound runs) unmarked is)
+      ap (λ (d : Call). perform d (view_now k' h')) x.call
+      ∙ ap (perform (call_begun (view_now k h))) view-begun
+      ∙ sym (law.ecall (state_of k h) (pid_now k) (live_now k h) (live-is k h whole.sound runs) unmarked is).0
 
-  pub begun-made : {k'' : Kernel} {h'' : Hart} → laws.IsBetweenCalls (live_now k h) → next_instruction (live_now k h).regs (live_now k h).image ≡ Ecall → Makes k' h' (perform_so_far c (view_now k' h')) k'' h'' → Makes k h (own_so_far (view_now k h)) k'' h''
+  pub begun-made : {k'' : Kernel} {h'' : Hart} → laws.IsBetweenCalls (live_now k h) → next_instruction (live_now k h).regs (live_now k h).image ≡ Ecall → Makes k' h' (perform c (view_now k' h')) k'' h'' → Makes k h (own (view_now k h)) k'' h''
   begun-made {k''} {h''} unmarked is made =
-      begun-makes k h k' h' k'' h'' (own_so_far (view_now k h)) whole runs begun-itself x.state (subst (λ o. Makes k' h' o k'' h'') (begun-row unmarked is) made)
+      begun-makes k h k' h' k'' h'' (own (view_now k h)) whole runs begun-itself x.state (subst (λ o. Makes k' h' o k'' h'') (begun-row unmarked is) made)
 
   -- and it answers so
-  pub begun-answer : (end : CallEnd) → laws.IsBetweenCalls (live_now k h) → next_instruction (live_now k h).regs (live_now k h).image ≡ Ecall → (perform_so_far c (view_now k' h')).answer ≡ answer_of c.number end
-      → (own_so_far (view_now k h)).answer ≡ answer_of (call_in (view_now k h)).number end
+  pub begun-answer : (end : CallEnd) → laws.IsBetweenCalls (live_now k h) → next_instruction (live_now k h).regs (live_now k h).image ≡ Ecall → (perform c (view_now k' h')).answer ≡ answer_of c.number end
+      → (own (view_now k h)).answer ≡ answer_of (call_in (view_now k h)).number end
   unfolding view_of
   begun-answer end unmarked is told =
       ap (λ (o : Own). o.answer) (sym (begun-row unmarked is)) ∙ told
@@ -179,12 +121,12 @@ module _ {k : Kernel} {h : Hart} {c : Call} {k' : Kernel} {h' : Hart} (whole : I
 -- ---- a call that goes on
 
 module _ (k : Kernel) (h : Hart) {c : Call} (unmarked : (live_now k h).killed ≡ false) (busy : (live_now k h).call ≡ Some c) where
-  resumed-row : own_so_far (view_now k h) ≡ perform_so_far c (view_now k h)
-  resumed-row = resumed-so-far (state_of k h) (pid_now k) (live_now k h) c unmarked busy
+  resumed-row : own (view_now k h) ≡ perform c (view_now k h)
+  resumed-row = law.resume (state_of k h) (pid_now k) (live_now k h) c unmarked busy
 
-  pub resumed-made : {k' : Kernel} {h' : Hart} → Makes k h (perform_so_far c (view_now k h)) k' h' → Makes k h (own_so_far (view_now k h)) k' h'
+  pub resumed-made : {k' : Kernel} {h' : Hart} → Makes k h (perform c (view_now k h)) k' h' → Makes k h (own (view_now k h)) k' h'
   resumed-made {k'} {h'} = subst (λ o. Makes k h o k' h') (sym resumed-row)
 
-  pub resumed-answer : (end : CallEnd) → (perform_so_far c (view_now k h)).answer ≡ answer_of c.number end → (own_so_far (view_now k h)).answer ≡ answer_of (call_in (view_now k h)).number end
+  pub resumed-answer : (end : CallEnd) → (perform c (view_now k h)).answer ≡ answer_of c.number end → (own (view_now k h)).answer ≡ answer_of (call_in (view_now k h)).number end
   unfolding view_of
   resumed-answer end told = ap (λ (o : Own). o.answer) resumed-row ∙ told ∙ ap (λ (o : Option Call). answer_of (call_or_begun (view_now k h) o).number end) (sym busy)

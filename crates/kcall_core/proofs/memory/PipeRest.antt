@@ -1,23 +1,22 @@
 -- What of a buffer is left, from a place in it on.
-use Rattle.std.proofs.Common.{◌≡◌, ℕ, ◌+◌, ◌-◌, ◌^◌, ◌<◌, ◌≤◌, Bool, true, false, get_or, Option, Some, None, IsSome, inl, inr, sym, ap, ◌∙◌, subst}
+use Rattle.std.proofs.Common.{◌≡◌, ℕ, ◌+◌, ◌-◌, ◌%◌, ◌^◌, ◌<◌, ◌≤◌, Bool, true, false, get_or, Option, Some, None, IsSome, inl, inr, sym, ap, ◌∙◌, subst, arith}
 use Rattle.std.proofs.lemmas.Bool.{cases_lt}
 use Rattle.xk_base.specs.Image.{Image}
-use Rattle.xk_base.specs.declared.access.Access.TheVariants.{Load, Store}
+use Rattle.xk_base.specs.declared.access.Access.{Access}
+use Rattle.xk_base.specs.declared.access.Access.TheVariants.{Store}
 use Rattle.addr_space.specs.Space.{image_of}
-use Rattle.user_copy.proofs.Ranges.{reaches-not, reaches-rest, reaches-fewer, may-beyond}
-use Rattle.kcall_core.specs.Buffers.{readable, writable}
+use Rattle.user_copy.specs.Reach.{reaches}
+use Rattle.user_copy.proofs.Ranges.{reaches-none, reaches-not, reaches-rest, reaches-fewer, may-beyond}
+use Rattle.kcall_core.specs.Buffers.{writable}
 use Rattle.kcall_core.specs.Holdings.{held_at, or_nothing, HasMemory}
 use Rattle.kcall_core.specs.Memories.{each_of, held_in}
 use Rattle.kcall_core.specs.declared.memories.Memory.{Memory}
 use Rattle.kcall_core.specs.declared.memories.Memories.{Memories}
 use Rattle.kcall_core.proofs.memory.Changes.{each-at}
 
-pub readable-rest : (i : Image) (a n d : ℕ) → readable i a n ≡ true → d ≤ n → readable i (a + d) (n - d) ≡ true
-readable-rest i a n d all le = reaches-rest Load i a n d all le
-
--- what a process may read lies below 2^38
-pub readable-low : (m : Memories) (slot a n d : ℕ) → HasMemory (each_of m) slot → readable (held_at (each_of m) slot).image a n ≡ true → d < n → a + d < 2 ^ 38
-readable-low m slot a n d there all lt = by (get_or m.each.items slot None) (each-at m slot)
+-- what a process may reach lies below 2^38
+reached-low : (access : Access) (m : Memories) (slot a n d : ℕ) → HasMemory (each_of m) slot → reaches access (held_at (each_of m) slot).image a n ≡ true → d < n → a + d < 2 ^ 38
+reached-low access m slot a n d there all lt = by (get_or m.each.items slot None) (each-at m slot)
   where
     none-held : IsSome (held_in m.ram None) → ⊥
     none-held h = cc
@@ -28,11 +27,22 @@ readable-low m slot a n d there all lt = by (get_or m.each.items slot None) (eac
     by : (o : Option Memory) → get_or (each_of m) slot None ≡ held_in m.ram o → a + d < 2 ^ 38
     by None is = absurd (none-held (subst IsSome is there))
     by (Some memory) is =
-        let seen : readable (image_of m.ram memory.space) a n ≡ true = ap (λ o. readable (or_nothing o).image a n) (sym is) ∙ all in
+        let seen : reaches access (image_of m.ram memory.space) a n ≡ true = ap (λ o. reaches access (or_nothing o).image a n) (sym is) ∙ all in
         elim (cases_lt (a + d) (2 ^ 38)) [
           | inl low ↦ low
-          | inr high ↦ absurd (clash (reaches-not Load (image_of m.ram memory.space) a n d lt (may-beyond Load m.ram memory.space (a + d) high)) seen)
+          | inr high ↦ absurd (clash (reaches-not access (image_of m.ram memory.space) a n d lt (may-beyond access m.ram memory.space (a + d) high)) seen)
         ]
+
+-- the rest of a buffer can be reached from its next byte on, wherever the sum of two words lies
+module _ (access : Access) (m : Memories) (slot a n d : ℕ) (there : HasMemory (each_of m) slot) (all : reaches access (held_at (each_of m) slot).image a n ≡ true) (at : ℕ) (at-is : at ≡ (a + d) % 2 ^ 64) where
+  pub next-at : d < n → at ≡ a + d
+  next-at less = let low : a + d < 2 ^ 38 = reached-low access m slot a n d there all less in omega (arith, at-is, low)
+
+  pub rest-reached : (other : ℕ) → other ≡ slot → (left : ℕ) → left ≡ n - d → reaches access (held_at (each_of m) other).image at left ≡ true
+  rest-reached other same left left-is = elim (cases_lt d n) [
+    | inl less ↦ (λ i. reaches access (held_at (each_of m) (same i)).image (next-at less i) (left-is i)) ∙ reaches-rest access (held_at (each_of m) slot).image a n d all (omega (arith, less))
+    | inr over ↦ let none : left ≡ 0 = omega (arith, left-is, over) in (λ i. reaches access (held_at (each_of m) other).image at (none i)) ∙ reaches-none access (held_at (each_of m) other).image at
+  ]
 
 -- fewer bytes from the same address may be written where more may
 pub writable-fewer : (i : Image) (a n m : ℕ) → m ≤ n → writable i a n ≡ true → writable i a m ≡ true

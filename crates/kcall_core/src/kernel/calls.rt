@@ -2,7 +2,7 @@
 //!
 //! A call begins at its ECALL and is in progress from then on, until it is done. Where it has to wait it
 //! stays in progress, and goes on by the same row of the call table when its process runs again.
-ghost use Rattle.std.specs.Prelude.{◌≡◌, pos, false, None, Some, IsSome, option_map};
+ghost use Rattle.std.specs.Prelude.{◌≡◌, ◌+◌, ◌-◌, ◌%◌, ◌^◌, pos, false, None, Some, IsSome, option_map};
 ghost use Rattle.rv64i_core.specs.Registers.{reg, with_pc, after};
 ghost use Rattle.rv64i_core.specs.Step.{Ecall};
 ghost use Rattle.hart_core.specs.declared.hart.Hart.{Hart};
@@ -11,9 +11,8 @@ ghost use Rattle.proc_table.specs.Slots.{changed_at};
 ghost use Rattle.proc_table.specs.declared.process.Call.{Call};
 ghost use Rattle.kcall_core.specs.Instruction.{next_instruction};
 ghost use Rattle.kcall_core.specs.Words.{A0, A1, A2, A7, c_int, word, minus_one};
-ghost use Rattle.kcall_core.specs.Calls.{with_a0, getpid, refused};
-ghost use Rattle.kcall_core.specs.Step.{call_in, call_begun};
-ghost use Rattle.kcall_core.specs.Built.{perform_so_far, own_so_far};
+ghost use Rattle.kcall_core.specs.Calls.{with_a0, perform, getpid, refused};
+ghost use Rattle.kcall_core.specs.Step.{own, call_in, call_begun};
 ghost use Rattle.kcall_core.specs.RowLaws as laws;
 ghost use Rattle.kcall_core.specs.RowLaws.{begun_live, begun_state};
 ghost use Rattle.kcall_core.specs.Updates.{own_state, with_answer, in_call};
@@ -112,10 +111,24 @@ fn asked_call(hart: &Hart, clock: u32) -> Call
 }
 
 /// The call, once it has moved so many bytes.
-pub(crate) fn with_moved(call: &Call, moved: u64) -> Call
+pub(crate) fn with_moved(call: &Call, moved: u32) -> Call
     ensures { result ≡ record call.now { moved = moved } }
 {
     Call { moved, ..*call }
+}
+
+/// How many of a call's `n` bytes it hasn't moved yet.
+pub(crate) fn left_of(call: &Call, n: usize) -> usize
+    ensures { result ≡ n - call.now.moved }
+{
+    n.saturating_sub(call.moved as usize)
+}
+
+/// The address of the next byte that a call moves, whose buffer is at its second argument.
+pub(crate) fn next_address(call: &Call) -> u64
+    ensures { result ≡ (call.now.a1 + call.now.moved) % 2 ^ 64 }
+{
+    call.a1.wrapping_add(u64::from(call.moved))
 }
 
 impl Kernel {
@@ -207,8 +220,8 @@ impl Kernel {
         requires running { IsRunning self.old }
         requires unmarked { (live_now self.old hart.old).killed ≡ false }
         requires in_call { (live_now self.old hart.old).call ≡ Some call.now }
-        ensures made { Makes self.old hart.old (perform_so_far call.now (view_now self.old hart.old)) self.new hart.new }
-        ensures answer { (perform_so_far call.now (view_now self.old hart.old)).answer ≡ answer_of call.now.number result }
+        ensures made { Makes self.old hart.old (perform call.now (view_now self.old hart.old)) self.new hart.new }
+        ensures answer { (perform call.now (view_now self.old hart.old)).answer ≡ answer_of call.now.number result }
     {
         match call.number {
             FORK => self.fork(hart),
@@ -219,7 +232,7 @@ impl Kernel {
             }
             WAIT => self.wait(hart, call),
             PIPE => self.pipe(hart, call),
-            READ => self.read_so_far(hart, call),
+            READ => self.read(hart, call),
             KILL => self.kill(hart, call),
             EXEC => self.exec(hart, call),
             DUP => self.dup(hart, call),
@@ -228,7 +241,7 @@ impl Kernel {
             SLEEP => self.sleep(hart, call),
             UPTIME => self.uptime(hart),
             OPEN => self.open_file(hart, call),
-            WRITE => self.write_so_far(hart, call),
+            WRITE => self.write(hart, call),
             CLOSE => self.close(hart, call),
             _ => self.refuse(hart),
         }
@@ -241,8 +254,8 @@ impl Kernel {
         requires running { IsRunning self.old }
         requires between_calls { laws.IsBetweenCalls (live_now self.old hart.old) }
         requires ecall { let live = live_now self.old hart.old in next_instruction live.regs live.image ≡ Ecall }
-        ensures made { Makes self.old hart.old (own_so_far (view_now self.old hart.old)) self.new hart.new }
-        ensures answer { let v = view_now self.old hart.old in (own_so_far v).answer ≡ answer_of (call_in v).number result }
+        ensures made { Makes self.old hart.old (own (view_now self.old hart.old)) self.new hart.new }
+        ensures answer { let v = view_now self.old hart.old in (own v).answer ≡ answer_of (call_in v).number result }
     {
         let call = self.begin(hart);
         self.perform(hart, &call)
@@ -282,8 +295,8 @@ impl Kernel {
         requires running { IsRunning self.old }
         requires unmarked { (live_now self.old hart.old).killed ≡ false }
         requires in_call { IsSome (live_now self.old hart.old).call }
-        ensures made { Makes self.old hart.old (own_so_far (view_now self.old hart.old)) self.new hart.new }
-        ensures answer { let v = view_now self.old hart.old in (own_so_far v).answer ≡ answer_of (call_in v).number result }
+        ensures made { Makes self.old hart.old (own (view_now self.old hart.old)) self.new hart.new }
+        ensures answer { let v = view_now self.old hart.old in (own v).answer ≡ answer_of (call_in v).number result }
     {
         let Some(slot) = self.current else {
             unreachable!();

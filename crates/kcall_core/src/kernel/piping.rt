@@ -12,7 +12,7 @@ ghost use Rattle.kcall_core.specs.Moves.{ReadsPipe, WritesPipe, wakes_readers};
 
 use crate::call_end::CallEnd;
 use crate::kernel::Kernel;
-use crate::kernel::calls::with_moved;
+use crate::kernel::calls::{left_of, next_address, with_moved};
 use crate::kernel::descriptors::lowest_above;
 use file_table::End;
 use hart_core::Hart;
@@ -28,13 +28,6 @@ fn two_numbers(read: Fd, write: Fd) -> [u8; NUMBERS_BYTES]
     ensures { result ≡ le_bytes 4 read ++ le_bytes 4 write }
 {
     [read.number(), 0, 0, 0, write.number(), 0, 0, 0]
-}
-
-/// How many of a call's `n` bytes it hasn't moved yet.
-fn left_of(call: &Call, n: usize) -> usize
-    ensures { result ≡ n - call.now.moved }
-{
-    (n as u64).saturating_sub(call.moved) as usize
 }
 
 impl Kernel {
@@ -141,10 +134,10 @@ impl Kernel {
         let left = left_of(call, n);
         let count = self
             .memories
-            .push_from(frame, slot, call.a1.wrapping_add(call.moved), left);
+            .push_from(frame, slot, next_address(call), left);
         self.wake_readers(frame, count);
-        let moved = call.moved + count as u64;
-        if moved >= n as u64 {
+        let moved = call.moved + count as u32;
+        if moved as usize >= n {
             return self.done(hart, n as i64);
         }
         self.block(hart, with_moved(call, moved), Channel::Room(frame))

@@ -4,7 +4,7 @@ ghost use Rattle.std.specs.Prelude.{◌≡◌, ◌<◌, IsSome, Some, None, set}
 ghost use Rattle.xk_base.specs.declared.limits.TheConstants.{NPROC, OPEN_FILES};
 ghost use Rattle.hart_core.specs.declared.hart.Hart.{Hart};
 ghost use Rattle.file_table.specs.Named.{named_by, with_named};
-ghost use Rattle.file_table.specs.OpenFiles.{entry_at, open_file_at, lowest_place, open_count, pipe_file, program_file, with_opened, with_sharer};
+ghost use Rattle.file_table.specs.OpenFiles.{entry_at, open_file_at, lowest_place, open_count, console_file, pipe_file, program_file, with_opened, with_sharer};
 ghost use Rattle.file_table.specs.declared.open_file.OpenFile.{OpenFile};
 ghost use Rattle.proc_table.specs.Slots.{descriptors_at};
 ghost use Rattle.kcall_core.specs.Sharings.{Joins, MayShare};
@@ -58,6 +58,21 @@ impl Kernel {
         ensures rest { self.new ≡ record self.old { table = self.new.table; files = self.new.files } }
     {
         let file = self.files.open_program(program);
+        put_descriptor(&mut self.table, slot, fd, file);
+        file
+    }
+
+    /// A free descriptor of a slot names the terminal from now on, which is opened in these modes.
+    pub(crate) fn open_console_at(&mut self, slot: usize, fd: Fd, read: bool, write: bool) -> FileId
+        requires within { slot < NPROC }
+        requires free { named_by (descriptors_at self.old.table slot) fd ≡ None }
+        requires room { open_count self.old.files < OPEN_FILES }
+        ensures place { lowest_place self.old.files ≡ Some result }
+        ensures table { self.new.table ≡ record self.old.table { descriptors = set self.old.table.descriptors slot (with_named fd (Some result) (descriptors_at self.old.table slot)) } }
+        ensures files { self.new.files ≡ with_opened result (console_file read write) self.old.files }
+        ensures rest { self.new ≡ record self.old { table = self.new.table; files = self.new.files } }
+    {
+        let file = self.files.open_console(read, write);
         put_descriptor(&mut self.table, slot, fd, file);
         file
     }

@@ -64,7 +64,7 @@ impl Memories {
     }
 
     /// Copies bytes from the memory of a slot, where user code may read them, to the front of a buffer.
-    fn fetch_front(&self, slot: usize, address: u64, bytes: &mut [u8], count: usize)
+    pub fn fetch_front(&self, slot: usize, address: u64, bytes: &mut [u8], count: usize)
         requires sound { AreSound self.now }
         requires there { HasMemory (each_of self.now) slot }
         requires fits { count ≤ length bytes.old }

@@ -1,22 +1,18 @@
-use Rattle.std.proofs.Common.{rules, ap, sym, ◌∙◌, subst, refl, w32}
+use Rattle.std.proofs.Common.{rules, ap, sym, ◌∙◌, refl, w32}
 use Rattle.kcall_core.specs.Own.{Own, Faulted}
-use Rattle.kcall_core.specs.Makes.{Makes, answer_of}
+use Rattle.kcall_core.specs.Makes.{answer_of}
 use Rattle.kcall_core.specs.Processes.{Live}
 use Rattle.std.proofs.lemmas.Int.{to_z-of_z}
 use Rattle.kcall_core.specs.Run.{Step_of}
-use Rattle.xv_machine.proofs.SoFar.{plain-own, next-answer, fault-own, next-ecall, fault-next, makes-call, call-answer, ends-faulted}
+use Rattle.xv_machine.proofs.OneStep.{next-answer, fault-own, next-ecall, fault-next, makes-call, call-answer, ends-faulted}
 use Rattle.xv_machine.specs.Events.{outcome_of}
 use Rattle.xv_machine.proofs.step.instruction.Goals as goal
 
 pub returns-in-Next-clause-made : goal.returns-in-Next-clause-made
-returns-in-Next-clause-made c =
-    subst (λ (o : Own). Makes c.args.kernel.now c.args.hart.now o c.step.new.self c.step.new.hart)
-    (sym (plain-own c.args.kernel.now c.args.hart.now c.requires.between_calls (λ ecall. next-ecall (c.in-Next.ensures.stop ∙ ecall)))) (c.in-Next.ensures.done refl)
+returns-in-Next-clause-made c = c.in-Next.ensures.done refl
 
 pub returns-in-Next-clause-answer : goal.returns-in-Next-clause-answer
-returns-in-Next-clause-answer c =
-    sym (ap (λ (o : Own). Step_of c.args.pid o.answer) (plain-own c.args.kernel.now c.args.hart.now c.requires.between_calls (λ ecall. next-ecall (c.in-Next.ensures.stop ∙ ecall)))
-    ∙ ap (Step_of c.args.pid) (next-answer c.args.kernel.now c.args.hart.now c.requires.between_calls (sym c.in-Next.ensures.stop)))
+returns-in-Next-clause-answer c = sym (ap (Step_of c.args.pid) (next-answer c.args.kernel.now c.args.hart.now c.requires.between_calls (sym c.in-Next.ensures.stop)))
 
 pub returns-in-Ecall-clause-made : goal.returns-in-Ecall-clause-made
 returns-in-Ecall-clause-made c =

@@ -5,7 +5,7 @@ use Rattle.kcall_core.specs.Own.{Exited}
 use Rattle.kcall_core.specs.Run.{Step_of}
 use Rattle.kcall_core.specs.Words.{minus_one}
 use Rattle.xv_machine.specs.Events.{outcome_of}
-use Rattle.xv_machine.proofs.SoFar.{ends-marked, marked-answer, resume-answer, call-is, call-missing}
+use Rattle.xv_machine.proofs.OneStep.{ends-marked, marked-answer, resume-answer, call-is, call-missing}
 use Rattle.xv_machine.proofs.step.step.Goals as goal
 
 pub returns-then-marked-clause-made : goal.returns-then-marked-clause-made

@@ -1,62 +1,41 @@
-use Rattle.std.proofs.Common.{pos, sym, ap, ◌∙◌, subst, w32, w64, to_z, of_z, refl}
+use Rattle.std.proofs.Common.{pos, sym, ap, ◌∙◌, subst, w64}
 use Rattle.std.proofs.lemmas.Int.{to_z-of_z}
 use Rattle.std.specs.Prelude.{is_none, position}
 use Rattle.kcall_core.specs.View.{view_of}
 use Rattle.kcall_core.specs.Own.{Own, Called}
-use Rattle.kcall_core.specs.Opens.{asked_place}
+use Rattle.kcall_core.specs.Opens.{asked, file_asked}
 use Rattle.kcall_core.specs.Holdings.{held_at}
 use Rattle.kcall_core.specs.Memories.{each_of}
 use Rattle.kcall_core.specs.Kernel.{state_of}
 use Rattle.kcall_core.specs.Makes.{Makes, view_now, answer_of}
-use Rattle.file_table.specs.OpenFiles.{program_file}
 use Rattle.kcall_core.proofs.table.States.{slot-inside}
 use Rattle.kcall_core.proofs.table.Stops.{now-slot}
 use Rattle.kcall_core.proofs.making.CallAnswers.{IsDone}
 use Rattle.kcall_core.proofs.files.Lowest.{lowest-shown, lowest-free}
 use Rattle.kcall_core.proofs.files.OpenRoom.{room-for-one}
 use Rattle.kcall_core.proofs.files.Opened.{lowest-place-free, opened-sound, opened-makes}
-use Rattle.kcall_core.proofs.files.OpenRows.{open-nothing, open-mode, open-full, open-opens}
+use Rattle.kcall_core.proofs.files.OpenRows.{asked-no-pipe, open-nothing, open-full, open-opens}
 use Rattle.kcall_core.proofs.kernel.Kernel.open_file.Goals as goal
 
-pub returns-in_default-asked_place-clause-made : goal.returns-in_default-asked_place-clause-made
+pub returns-in_default-asked-clause-made : goal.returns-in_default-asked-clause-made
 unfolding view_of state_of
-returns-in_default-asked_place-clause-made c =
+returns-in_default-asked-clause-made c =
     let k = c.args.self.now in
     let h = c.args.hart.now in
     let slot = c.in-Some.slot in
     let at = now-slot slot c.requires.whole.sound c.in-Some.is in
-    let asked = ap (λ n. asked_place (view_now k h).programs (held_at (each_of k.memories) n).image c.args.call.now.a0) (sym at) ∙ sym c.asked_place.ensures ∙ c.in_default-asked_place.is in
-    subst (λ (o : Own). Makes k h o c.refuse.new.self c.refuse.new.hart) (sym (open-nothing c.args.call.now (view_now k h) asked)) (c.refuse.ensures.made c.args.call.now)
+    let asks = ap (λ n. asked (view_now k h).programs (held_at (each_of k.memories) n).image c.args.call.now) (sym at) ∙ sym c.asked.ensures ∙ c.in_default-asked.is in
+    subst (λ (o : Own). Makes k h o c.refuse.new.self c.refuse.new.hart) (sym (open-nothing c.args.call.now (view_now k h) asks)) (c.refuse.ensures.made c.args.call.now)
 
-pub returns-in_default-asked_place-clause-answer : goal.returns-in_default-asked_place-clause-answer
+pub returns-in_default-asked-clause-answer : goal.returns-in_default-asked-clause-answer
 unfolding view_of state_of
-returns-in_default-asked_place-clause-answer c =
+returns-in_default-asked-clause-answer c =
     let k = c.args.self.now in
     let h = c.args.hart.now in
     let slot = c.in-Some.slot in
     let at = now-slot slot c.requires.whole.sound c.in-Some.is in
-    let asked = ap (λ n. asked_place (view_now k h).programs (held_at (each_of k.memories) n).image c.args.call.now.a0) (sym at) ∙ sym c.asked_place.ensures ∙ c.in_default-asked_place.is in
-    ap (λ (o : Own). o.answer) (open-nothing c.args.call.now (view_now k h) asked) ∙ ap (answer_of c.args.call.now.number) (sym c.refuse.ensures.end)
-
-pub returns-then-c_int-ne0-clause-made : goal.returns-then-c_int-ne0-clause-made
-unfolding view_of state_of
-returns-then-c_int-ne0-clause-made c =
-    let k = c.args.self.now in
-    let h = c.args.hart.now in
-    let slot = c.in-Some.slot in
-    let at = now-slot slot c.requires.whole.sound c.in-Some.is in
-    let asked = ap (λ n. asked_place (view_now k h).programs (held_at (each_of k.memories) n).image c.args.call.now.a0) (sym at) ∙ sym c.asked_place.ensures ∙ c.in-Some-asked_place.is in
-    subst (λ (o : Own). Makes k h o c.refuse-then-c_int-ne0.new.self c.refuse-then-c_int-ne0.new.hart) (sym (open-mode c.args.call.now (view_now k h) c.in-Some-asked_place.program asked (λ e. c.if-c_int-ne0.true (ap (of_z w32) (c.c_int.ensures ∙ e))))) (c.refuse-then-c_int-ne0.ensures.made c.args.call.now)
-
-pub returns-then-c_int-ne0-clause-answer : goal.returns-then-c_int-ne0-clause-answer
-unfolding view_of state_of
-returns-then-c_int-ne0-clause-answer c =
-    let k = c.args.self.now in
-    let h = c.args.hart.now in
-    let slot = c.in-Some.slot in
-    let at = now-slot slot c.requires.whole.sound c.in-Some.is in
-    let asked = ap (λ n. asked_place (view_now k h).programs (held_at (each_of k.memories) n).image c.args.call.now.a0) (sym at) ∙ sym c.asked_place.ensures ∙ c.in-Some-asked_place.is in
-    ap (λ (o : Own). o.answer) (open-mode c.args.call.now (view_now k h) c.in-Some-asked_place.program asked (λ e. c.if-c_int-ne0.true (ap (of_z w32) (c.c_int.ensures ∙ e)))) ∙ ap (answer_of c.args.call.now.number) (sym c.refuse-then-c_int-ne0.ensures.end)
+    let asks = ap (λ n. asked (view_now k h).programs (held_at (each_of k.memories) n).image c.args.call.now) (sym at) ∙ sym c.asked.ensures ∙ c.in_default-asked.is in
+    ap (λ (o : Own). o.answer) (open-nothing c.args.call.now (view_now k h) asks) ∙ ap (answer_of c.args.call.now.number) (sym c.refuse.ensures.end)
 
 pub descriptors-requires : goal.descriptors-requires
 descriptors-requires c =
@@ -74,12 +53,12 @@ returns-in_default-lowest-clause-made c =
     let h = c.args.hart.now in
     let slot = c.in-Some.slot in
     let at = now-slot slot c.requires.whole.sound c.in-Some.is in
-    let asked = ap (λ n. asked_place (view_now k h).programs (held_at (each_of k.memories) n).image c.args.call.now.a0) (sym at) ∙ sym c.asked_place.ensures ∙ c.in-Some-asked_place.is in
+    let asks = ap (λ n. asked (view_now k h).programs (held_at (each_of k.memories) n).image c.args.call.now) (sym at) ∙ sym c.asked.ensures ∙ c.in-Some-asked.is in
     let now = c.requires.whole.sound.current slot c.in-Some.is in
     let inside = slot-inside k h c.requires.whole.sound slot now.process now.is in
     let told = ap (position is_none) (sym c.descriptors.ensures) ∙ sym c.lowest.ensures ∙ c.in_default-lowest.is in
     let least = lowest-shown c.requires.whole c.requires.running c.in-Some.is inside ∙ told in
-    subst (λ (o : Own). Makes k h o c.refuse-in_default-lowest.new.self c.refuse-in_default-lowest.new.hart) (sym (open-full c.args.call.now (view_now k h) c.in-Some-asked_place.program asked least)) (c.refuse-in_default-lowest.ensures.made c.args.call.now)
+    subst (λ (o : Own). Makes k h o c.refuse-in_default-lowest.new.self c.refuse-in_default-lowest.new.hart) (sym (open-full c.args.call.now (view_now k h) c.in-Some-asked.asked asks least)) (c.refuse-in_default-lowest.ensures.made c.args.call.now)
 
 pub returns-in_default-lowest-clause-answer : goal.returns-in_default-lowest-clause-answer
 unfolding view_of state_of
@@ -88,15 +67,15 @@ returns-in_default-lowest-clause-answer c =
     let h = c.args.hart.now in
     let slot = c.in-Some.slot in
     let at = now-slot slot c.requires.whole.sound c.in-Some.is in
-    let asked = ap (λ n. asked_place (view_now k h).programs (held_at (each_of k.memories) n).image c.args.call.now.a0) (sym at) ∙ sym c.asked_place.ensures ∙ c.in-Some-asked_place.is in
+    let asks = ap (λ n. asked (view_now k h).programs (held_at (each_of k.memories) n).image c.args.call.now) (sym at) ∙ sym c.asked.ensures ∙ c.in-Some-asked.is in
     let now = c.requires.whole.sound.current slot c.in-Some.is in
     let inside = slot-inside k h c.requires.whole.sound slot now.process now.is in
     let told = ap (position is_none) (sym c.descriptors.ensures) ∙ sym c.lowest.ensures ∙ c.in_default-lowest.is in
     let least = lowest-shown c.requires.whole c.requires.running c.in-Some.is inside ∙ told in
-    ap (λ (o : Own). o.answer) (open-full c.args.call.now (view_now k h) c.in-Some-asked_place.program asked least) ∙ ap (answer_of c.args.call.now.number) (sym c.refuse-in_default-lowest.ensures.end)
+    ap (λ (o : Own). o.answer) (open-full c.args.call.now (view_now k h) c.in-Some-asked.asked asks least) ∙ ap (answer_of c.args.call.now.number) (sym c.refuse-in_default-lowest.ensures.end)
 
-pub open_program_at-requires-clause-within : goal.open_program_at-requires-clause-within
-open_program_at-requires-clause-within c =
+pub open_at-requires-clause-within : goal.open_at-requires-clause-within
+open_at-requires-clause-within c =
     let k = c.args.self.now in
     let h = c.args.hart.now in
     let slot = c.in-Some.slot in
@@ -104,8 +83,8 @@ open_program_at-requires-clause-within c =
     let inside = slot-inside k h c.requires.whole.sound slot now.process now.is in
     inside
 
-pub open_program_at-requires-clause-free : goal.open_program_at-requires-clause-free
-open_program_at-requires-clause-free c =
+pub open_at-requires-clause-free : goal.open_at-requires-clause-free
+open_at-requires-clause-free c =
     let k = c.args.self.now in
     let h = c.args.hart.now in
     let slot = c.in-Some.slot in
@@ -115,8 +94,8 @@ open_program_at-requires-clause-free c =
     let free = lowest-free c.requires.whole inside told in
     free.1
 
-pub open_program_at-requires-clause-room : goal.open_program_at-requires-clause-room
-open_program_at-requires-clause-room c =
+pub open_at-requires-clause-room : goal.open_at-requires-clause-room
+open_at-requires-clause-room c =
     let k = c.args.self.now in
     let h = c.args.hart.now in
     let slot = c.in-Some.slot in
@@ -135,8 +114,8 @@ done-requires-clause-sound c =
     let inside = slot-inside k h c.requires.whole.sound slot now.process now.is in
     let told = ap (position is_none) (sym c.descriptors.ensures) ∙ sym c.lowest.ensures ∙ c.in-Some-lowest.is in
     let free = lowest-free c.requires.whole inside told in
-    let empty = lowest-place-free k.files c.open_program_at.result c.open_program_at.ensures.place in
-    opened-sound k h slot c.in-Some-lowest.fd c.open_program_at.result (program_file c.in-Some-asked_place.program) c.requires.whole c.requires.running c.in-Some.is free.0 free.1 empty.0 empty.1 refl c.open_program_at.new.self c.open_program_at.ensures.table c.open_program_at.ensures.files c.open_program_at.ensures.rest
+    let empty = lowest-place-free k.files c.open_at.result c.open_at.ensures.place in
+    opened-sound k h slot c.in-Some-lowest.fd c.open_at.result (file_asked c.in-Some-asked.asked) c.requires.whole c.requires.running c.in-Some.is free.0 free.1 empty.0 empty.1 (asked-no-pipe c.in-Some-asked.asked) c.open_at.new.self c.open_at.ensures.table c.open_at.ensures.files c.open_at.ensures.rest
 
 pub returns-clause-made : goal.returns-clause-made
 unfolding view_of state_of
@@ -145,19 +124,18 @@ returns-clause-made c =
     let h = c.args.hart.now in
     let slot = c.in-Some.slot in
     let at = now-slot slot c.requires.whole.sound c.in-Some.is in
-    let asked = ap (λ n. asked_place (view_now k h).programs (held_at (each_of k.memories) n).image c.args.call.now.a0) (sym at) ∙ sym c.asked_place.ensures ∙ c.in-Some-asked_place.is in
-    let asked-c = to_z-of_z w32 c.c_int.result (record { sfits = c.c_int.type_inv }) ∙ c.c_int.ensures in
+    let asks = ap (λ n. asked (view_now k h).programs (held_at (each_of k.memories) n).image c.args.call.now) (sym at) ∙ sym c.asked.ensures ∙ c.in-Some-asked.is in
     let now = c.requires.whole.sound.current slot c.in-Some.is in
     let inside = slot-inside k h c.requires.whole.sound slot now.process now.is in
     let told = ap (position is_none) (sym c.descriptors.ensures) ∙ sym c.lowest.ensures ∙ c.in-Some-lowest.is in
     let free = lowest-free c.requires.whole inside told in
-    let empty = lowest-place-free k.files c.open_program_at.result c.open_program_at.ensures.place in
+    let empty = lowest-place-free k.files c.open_at.result c.open_at.ensures.place in
     let value = to_z-of_z w64 c.from.result (record { sfits = c.from.type_inv }) ∙ c.from.ensures ∙ ap pos c.number.ensures.value in
     let least = lowest-shown c.requires.whole c.requires.running c.in-Some.is inside ∙ told in
-    let row = open-opens c.args.call.now (view_now k h) c.in-Some-asked_place.program asked (sym asked-c ∙ ap (to_z w32) c.if-c_int-ne0.false) c.in-Some-lowest.fd least in
-    opened-makes k h slot c.in-Some-lowest.fd c.open_program_at.result (program_file c.in-Some-asked_place.program) c.requires.whole c.requires.running c.in-Some.is free.0 free.1 empty.0 empty.1 refl c.open_program_at.new.self c.open_program_at.ensures.table c.open_program_at.ensures.files c.open_program_at.ensures.rest
+    let row = open-opens c.args.call.now (view_now k h) c.in-Some-asked.asked asks (state_of k h) c.in-Some-lowest.fd least in
+    opened-makes k h slot c.in-Some-lowest.fd c.open_at.result (file_asked c.in-Some-asked.asked) c.requires.whole c.requires.running c.in-Some.is free.0 free.1 empty.0 empty.1 (asked-no-pipe c.in-Some-asked.asked) c.open_at.new.self c.open_at.ensures.table c.open_at.ensures.files c.open_at.ensures.rest
     c.args.call.now _ row c.done.new.self c.done.new.hart
-    (subst (λ z. IsDone c.open_program_at.new.self h z c.done.new.self c.done.new.hart) value (record { sound = c.done.ensures.sound; kernel = c.done.ensures.kernel; state = c.done.ensures.state }))
+    (subst (λ z. IsDone c.open_at.new.self h z c.done.new.self c.done.new.hart) value (record { sound = c.done.ensures.sound; kernel = c.done.ensures.kernel; state = c.done.ensures.state }))
 
 pub returns-clause-answer : goal.returns-clause-answer
 unfolding view_of state_of
@@ -166,13 +144,12 @@ returns-clause-answer c =
     let h = c.args.hart.now in
     let slot = c.in-Some.slot in
     let at = now-slot slot c.requires.whole.sound c.in-Some.is in
-    let asked = ap (λ n. asked_place (view_now k h).programs (held_at (each_of k.memories) n).image c.args.call.now.a0) (sym at) ∙ sym c.asked_place.ensures ∙ c.in-Some-asked_place.is in
-    let asked-c = to_z-of_z w32 c.c_int.result (record { sfits = c.c_int.type_inv }) ∙ c.c_int.ensures in
+    let asks = ap (λ n. asked (view_now k h).programs (held_at (each_of k.memories) n).image c.args.call.now) (sym at) ∙ sym c.asked.ensures ∙ c.in-Some-asked.is in
     let now = c.requires.whole.sound.current slot c.in-Some.is in
     let inside = slot-inside k h c.requires.whole.sound slot now.process now.is in
     let told = ap (position is_none) (sym c.descriptors.ensures) ∙ sym c.lowest.ensures ∙ c.in-Some-lowest.is in
     let free = lowest-free c.requires.whole inside told in
     let value = to_z-of_z w64 c.from.result (record { sfits = c.from.type_inv }) ∙ c.from.ensures ∙ ap pos c.number.ensures.value in
     let least = lowest-shown c.requires.whole c.requires.running c.in-Some.is inside ∙ told in
-    let row = open-opens c.args.call.now (view_now k h) c.in-Some-asked_place.program asked (sym asked-c ∙ ap (to_z w32) c.if-c_int-ne0.false) c.in-Some-lowest.fd least in
+    let row = open-opens c.args.call.now (view_now k h) c.in-Some-asked.asked asks (state_of k h) c.in-Some-lowest.fd least in
     ap (λ (o : Own). o.answer) row ∙ ap (Called c.args.call.now.number) (sym value) ∙ ap (answer_of c.args.call.now.number) (sym c.done.ensures.end)

@@ -18,7 +18,7 @@ use Rattle.kcall_core.proofs.files.MovingRows.{in-use-as, write-unused, write-sh
 use Rattle.kcall_core.proofs.kernel.Kernel.write.Goals as goal
 
 pub returns-in_default-used_descriptor-clause-made : goal.returns-in_default-used_descriptor-clause-made
-returns-in_default-used_descriptor-clause-made c built =
+returns-in_default-used_descriptor-clause-made c =
     let k = c.args.self.now in
     let h = c.args.hart.now in
     let asked = to_z-of_z w32 c.c_int.result (record { sfits = c.c_int.type_inv }) ∙ c.c_int.ensures in
@@ -26,7 +26,7 @@ returns-in_default-used_descriptor-clause-made c built =
     subst (λ (o : Own). Makes k h o c.refuse.new.self c.refuse.new.hart) (sym row) (c.refuse.ensures.made c.args.call.now)
 
 pub returns-in_default-used_descriptor-clause-answer : goal.returns-in_default-used_descriptor-clause-answer
-returns-in_default-used_descriptor-clause-answer c built =
+returns-in_default-used_descriptor-clause-answer c =
     let k = c.args.self.now in
     let h = c.args.hart.now in
     let asked = to_z-of_z w32 c.c_int.result (record { sfits = c.c_int.type_inv }) ∙ c.c_int.ensures in
@@ -44,7 +44,7 @@ kind-kind-requires c =
     (ap (λ ds. named_by ds c.in-Some-used_descriptor.fd) (sym c.descriptors.ensures) ∙ sym c.get.ensures ∙ c.in-Some-get.is)
 
 pub returns-then-not-kind-clause-made : goal.returns-then-not-kind-clause-made
-returns-then-not-kind-clause-made c built =
+returns-then-not-kind-clause-made c =
     let k = c.args.self.now in
     let h = c.args.hart.now in
     let asked = to_z-of_z w32 c.c_int.result (record { sfits = c.c_int.type_inv }) ∙ c.c_int.ensures in
@@ -57,7 +57,7 @@ returns-then-not-kind-clause-made c built =
     subst (λ (o : Own). Makes k h o c.refuse-then-not-kind.new.self c.refuse-then-not-kind.new.hart) (sym row) (c.refuse-then-not-kind.ensures.made c.args.call.now)
 
 pub returns-then-not-kind-clause-answer : goal.returns-then-not-kind-clause-answer
-returns-then-not-kind-clause-answer c built =
+returns-then-not-kind-clause-answer c =
     let k = c.args.self.now in
     let h = c.args.hart.now in
     let asked = to_z-of_z w32 c.c_int.result (record { sfits = c.c_int.type_inv }) ∙ c.c_int.ensures in
@@ -70,7 +70,7 @@ returns-then-not-kind-clause-answer c built =
     ap (λ (o : Own). o.answer) row ∙ ap (answer_of c.args.call.now.number) (sym c.refuse-then-not-kind.ensures.end)
 
 pub returns-in_default-byte_count-clause-made : goal.returns-in_default-byte_count-clause-made
-returns-in_default-byte_count-clause-made c built =
+returns-in_default-byte_count-clause-made c =
     let k = c.args.self.now in
     let h = c.args.hart.now in
     let asked = to_z-of_z w32 c.c_int.result (record { sfits = c.c_int.type_inv }) ∙ c.c_int.ensures in
@@ -84,7 +84,7 @@ returns-in_default-byte_count-clause-made c built =
     subst (λ (o : Own). Makes k h o c.refuse-in_default-byte_count.new.self c.refuse-in_default-byte_count.new.hart) (sym row) (c.refuse-in_default-byte_count.ensures.made c.args.call.now)
 
 pub returns-in_default-byte_count-clause-answer : goal.returns-in_default-byte_count-clause-answer
-returns-in_default-byte_count-clause-answer c built =
+returns-in_default-byte_count-clause-answer c =
     let k = c.args.self.now in
     let h = c.args.hart.now in
     let asked = to_z-of_z w32 c.c_int.result (record { sfits = c.c_int.type_inv }) ∙ c.c_int.ensures in
@@ -98,7 +98,7 @@ returns-in_default-byte_count-clause-answer c built =
     ap (λ (o : Own). o.answer) row ∙ ap (answer_of c.args.call.now.number) (sym c.refuse-in_default-byte_count.ensures.end)
 
 pub returns-then-n-eq0-clause-made : goal.returns-then-n-eq0-clause-made
-returns-then-n-eq0-clause-made c built =
+returns-then-n-eq0-clause-made c =
     let k = c.args.self.now in
     let h = c.args.hart.now in
     let asked = to_z-of_z w32 c.c_int.result (record { sfits = c.c_int.type_inv }) ∙ c.c_int.ensures in
@@ -113,7 +113,7 @@ returns-then-n-eq0-clause-made c built =
     subst (λ (o : Own). Makes k h o c.done.new.self c.done.new.hart) (sym row) (done-at-once c.args.call.now (pos 0) refl c.requires.whole c.requires.running (record { sound = c.done.ensures.sound; kernel = c.done.ensures.kernel; state = c.done.ensures.state }))
 
 pub returns-then-n-eq0-clause-answer : goal.returns-then-n-eq0-clause-answer
-returns-then-n-eq0-clause-answer c built =
+returns-then-n-eq0-clause-answer c =
     let k = c.args.self.now in
     let h = c.args.hart.now in
     let asked = to_z-of_z w32 c.c_int.result (record { sfits = c.c_int.type_inv }) ∙ c.c_int.ensures in
@@ -128,7 +128,7 @@ returns-then-n-eq0-clause-answer c built =
     ap (λ (o : Own). o.answer) row ∙ ap (answer_of c.args.call.now.number) (sym c.done.ensures.end)
 
 pub returns-then-not-may_read-clause-made : goal.returns-then-not-may_read-clause-made
-returns-then-not-may_read-clause-made c built =
+returns-then-not-may_read-clause-made c =
     let k = c.args.self.now in
     let h = c.args.hart.now in
     let asked = to_z-of_z w32 c.c_int.result (record { sfits = c.c_int.type_inv }) ∙ c.c_int.ensures in
@@ -145,7 +145,7 @@ returns-then-not-may_read-clause-made c built =
     subst (λ (o : Own). Makes k h o c.refuse-then-not-may_read.new.self c.refuse-then-not-may_read.new.hart) (sym row) (c.refuse-then-not-may_read.ensures.made c.args.call.now)
 
 pub returns-then-not-may_read-clause-answer : goal.returns-then-not-may_read-clause-answer
-returns-then-not-may_read-clause-answer c built =
+returns-then-not-may_read-clause-answer c =
     let k = c.args.self.now in
     let h = c.args.hart.now in
     let asked = to_z-of_z w32 c.c_int.result (record { sfits = c.c_int.type_inv }) ∙ c.c_int.ensures in
@@ -178,25 +178,7 @@ write_to-requires-clause-file c =
     (c.in-Some-get.file, record { fd = c.in-Some-used_descriptor.fd; below = fd.1; number = number; named_file = source.used; opened = source.opened; buffer = (count, ne_eqb c.in-Some-byte_count.n 0 c.if-n-eq0.false, at ∙ c.if-not-may_read.false) })
 
 pub returns-clause-made : goal.returns-clause-made
-returns-clause-made c built =
-    let k = c.args.self.now in
-    let h = c.args.hart.now in
-    let asked = to_z-of_z w32 c.c_int.result (record { sfits = c.c_int.type_inv }) ∙ c.c_int.ensures in
-    let fd = c.in-Some-used_descriptor.ensures.used in
-    let names = ap (λ ds. named_by ds c.in-Some-used_descriptor.fd) (sym c.descriptors.ensures) ∙ sym c.get.ensures ∙ c.in-Some-get.is in
-    let there = in-use-named c.requires.whole c.requires.running c.in-Some.is fd.1 names in
-    let source = in-use-as there.0 c.kind-kind.result there.1 c.kind-kind.ensures in
-    let number = sym asked ∙ fd.0 in
-    c.write_to.ensures.made (built c.in-Some-used_descriptor.fd c.in-Some-get.file c.kind-kind.result fd.1 number source.used source.opened)
+returns-clause-made c = c.write_to.ensures.made
 
 pub returns-clause-answer : goal.returns-clause-answer
-returns-clause-answer c built =
-    let k = c.args.self.now in
-    let h = c.args.hart.now in
-    let asked = to_z-of_z w32 c.c_int.result (record { sfits = c.c_int.type_inv }) ∙ c.c_int.ensures in
-    let fd = c.in-Some-used_descriptor.ensures.used in
-    let names = ap (λ ds. named_by ds c.in-Some-used_descriptor.fd) (sym c.descriptors.ensures) ∙ sym c.get.ensures ∙ c.in-Some-get.is in
-    let there = in-use-named c.requires.whole c.requires.running c.in-Some.is fd.1 names in
-    let source = in-use-as there.0 c.kind-kind.result there.1 c.kind-kind.ensures in
-    let number = sym asked ∙ fd.0 in
-    c.write_to.ensures.answer (built c.in-Some-used_descriptor.fd c.in-Some-get.file c.kind-kind.result fd.1 number source.used source.opened)
+returns-clause-answer c = c.write_to.ensures.answer

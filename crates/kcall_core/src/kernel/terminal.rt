@@ -1,0 +1,149 @@
+//! The terminal: processes read the lines that are typed, and write the bytes that it is to show (xv6's
+//! `console.c`; the xv6 book, "Code: Console input" and "Code: Console output").
+ghost use Rattle.std.specs.Prelude.{◌≡◌, ◌-◌, ◌==◌, ◌<◌, ◌≤◌, Some, pos, true, false, length, min, take};
+ghost use Rattle.xk_base.specs.declared.limits.TheConstants.{CONSOLE_BYTES, SEND_BYTES};
+ghost use Rattle.xk_base.specs.Bytes.{image_bytes, write_image};
+ghost use Rattle.hart_core.specs.declared.hart.Hart.{Hart};
+ghost use Rattle.console_core.specs.Lists.{IsWithinLimits};
+ghost use Rattle.kcall_core.specs.Buffers.{readable, writable};
+ghost use Rattle.kcall_core.specs.Calls.{read, write};
+ghost use Rattle.kcall_core.specs.Holdings.{held_at, HasMemory, with_image};
+ghost use Rattle.kcall_core.specs.Memories.{each_of, free_of, AreSound, RunsIn, SlotChanges};
+ghost use Rattle.kcall_core.specs.Kernel.{IsRunning, live_now};
+ghost use Rattle.kcall_core.specs.Whole.{IsWhole};
+ghost use Rattle.kcall_core.specs.Makes.{Makes, view_now, answer_of};
+ghost use Rattle.kcall_core.specs.Terminal.{next_line, without_line, room_for, with_sent, ReadsTerminal, WritesTerminal};
+
+use crate::call_end::CallEnd;
+use crate::kernel::Kernel;
+use crate::kernel::calls::{left_of, next_address, with_moved};
+use console_core::{Console, Pull};
+use hart_core::Hart;
+use proc_table::{Call, Channel};
+use xk_base::limits::{CONSOLE_BYTES, SEND_BYTES};
+
+/// How many bytes a step of a read asks the console for at most. The console holds one fewer, so that more room
+/// would make no difference.
+const LINE_ROOM: usize = CONSOLE_BYTES + 1;
+
+/// Takes committed bytes for a read, of which `done` bytes were taken before: at most `n`, which go to the front
+/// of a buffer.
+fn pull_front(console: &mut Console, bytes: &mut [u8], n: usize, done: usize) -> Pull
+    requires fits { n ≤ length bytes.old }
+    ensures count { result.taken ≡ length (next_line console.old done n).taken }
+    ensures ended { result.ended ≡ (next_line console.old done n).ended }
+    ensures bytes { take result.taken bytes.new ≡ (next_line console.old done n).taken }
+    ensures length { length bytes.new ≡ length bytes.old }
+    ensures within { result.taken ≤ n }
+    ensures after { console.new ≡ without_line (next_line console.old done n) console.old }
+    ensures limits { IsWithinLimits console.new }
+{
+    console.pull_line(&mut bytes[..n], done)
+}
+
+/// The first bytes of a buffer wait to be sent, as many as there is room for; how many they are.
+fn push_front(console: &mut Console, bytes: &[u8], count: usize) -> usize
+    requires fits { count ≤ length bytes.now }
+    ensures count { result ≡ room_for console.old count }
+    ensures after { console.new ≡ with_sent (take result (take count bytes.now)) console.old }
+    ensures limits { IsWithinLimits console.new }
+{
+    console.push_out(&bytes[..count])
+}
+
+impl Kernel {
+    /// Takes committed bytes for a read, of which `done` bytes were taken before: at most `n`, which go to the
+    /// memory of a slot.
+    fn take_line(&mut self, slot: usize, address: u64, n: usize, done: usize) -> Pull
+        requires sound { AreSound self.old.memories }
+        requires there { HasMemory (each_of self.old.memories) slot }
+        requires writable { writable (held_at (each_of self.old.memories) slot).image address n ≡ true }
+        requires keys { length self.old.console.committed ≤ CONSOLE_BYTES }
+        ensures count { result.taken ≡ length (next_line self.old.console done n).taken }
+        ensures ended { result.ended ≡ (next_line self.old.console done n).ended }
+        ensures within { result.taken ≤ n }
+        ensures written { let held = held_at (each_of self.old.memories) slot in SlotChanges self.old.memories self.new.memories slot (Some (with_image (write_image held.image address (next_line self.old.console done n).taken) held)) }
+        ensures free { free_of self.new.memories ≡ free_of self.old.memories }
+        ensures runs { (hart : Hart) → RunsIn self.old.memories slot hart → RunsIn self.new.memories slot hart }
+        ensures limits { IsWithinLimits self.new.console }
+        ensures rest { self.new ≡ record self.old { memories = self.new.memories; console = without_line (next_line self.old.console done n) self.old.console } }
+    {
+        let mut line = [0; LINE_ROOM];
+        let pull = pull_front(&mut self.console, &mut line, n.min(LINE_ROOM), done);
+        self.memories.put_front(slot, address, &line, pull.taken);
+        pull
+    }
+
+    /// One step of a read from the terminal, of at most `n` bytes in all: it takes what is typed of a line. It is
+    /// done at the line's end, at Ctrl-D, and when all `n` are taken, and waits for more until then.
+    pub(crate) fn read_terminal(
+        &mut self,
+        hart: &mut Hart,
+        call: &Call,
+        slot: usize,
+        n: usize,
+    ) -> CallEnd
+        requires whole { IsWhole self.old hart.old }
+        requires running { IsRunning self.old }
+        requires slot { self.old.current ≡ Some slot }
+        requires unmarked { (live_now self.old hart.old).killed ≡ false }
+        requires in_call { (live_now self.old hart.old).call ≡ Some call.now }
+        requires row { call.now.number ≡ pos 5 }
+        requires size { n < 2147483648 }
+        requires reads { ReadsTerminal self.old hart.old call.now n }
+        ensures made { Makes self.old hart.old (read call.now (view_now self.old hart.old)) self.new hart.new }
+        ensures answer { (read call.now (view_now self.old hart.old)).answer ≡ answer_of call.now.number result }
+    {
+        let left = left_of(call, n);
+        let pull = self.take_line(slot, next_address(call), left, call.moved as usize);
+        let moved = call.moved + pull.taken as u32;
+        if pull.ended {
+            return self.done(hart, i64::from(moved));
+        }
+        self.block(hart, with_moved(call, moved), Channel::Keys)
+    }
+
+    /// Bytes from the memory of a slot wait to be sent, as many of `n` as there is room for; how many they are.
+    fn send_from(&mut self, slot: usize, address: u64, n: usize) -> usize
+        requires sound { AreSound self.old.memories }
+        requires there { HasMemory (each_of self.old.memories) slot }
+        requires readable { readable (held_at (each_of self.old.memories) slot).image address n ≡ true }
+        ensures count { result ≡ room_for self.old.console n }
+        ensures limits { IsWithinLimits self.new.console }
+        ensures rest { self.new ≡ record self.old { console = with_sent (image_bytes (held_at (each_of self.old.memories) slot).image address result) self.old.console } }
+    {
+        let mut bytes = [0; SEND_BYTES];
+        let count = n.min(self.console.room());
+        self.memories.fetch_front(slot, address, &mut bytes, count);
+        push_front(&mut self.console, &bytes, count)
+    }
+
+    /// One step of a write to the terminal: as many bytes as there is room for wait to be sent. It is done when
+    /// all `n` do, and waits for room until then.
+    pub(crate) fn write_terminal(
+        &mut self,
+        hart: &mut Hart,
+        call: &Call,
+        slot: usize,
+        n: usize,
+    ) -> CallEnd
+        requires whole { IsWhole self.old hart.old }
+        requires running { IsRunning self.old }
+        requires slot { self.old.current ≡ Some slot }
+        requires unmarked { (live_now self.old hart.old).killed ≡ false }
+        requires in_call { (live_now self.old hart.old).call ≡ Some call.now }
+        requires row { call.now.number ≡ pos 16 }
+        requires size { n < 2147483648 }
+        requires writes { WritesTerminal self.old hart.old call.now n }
+        ensures made { Makes self.old hart.old (write call.now (view_now self.old hart.old)) self.new hart.new }
+        ensures answer { (write call.now (view_now self.old hart.old)).answer ≡ answer_of call.now.number result }
+    {
+        let left = left_of(call, n);
+        let count = self.send_from(slot, next_address(call), left);
+        let moved = call.moved + count as u32;
+        if moved as usize >= n {
+            return self.done(hart, n as i64);
+        }
+        self.block(hart, with_moved(call, moved), Channel::Sending)
+    }
+}
