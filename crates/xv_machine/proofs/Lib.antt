@@ -1,8 +1,11 @@
 pub mod Owned
 pub mod Counts
 pub mod Fitting
+pub mod Joins
 pub mod Kept
 pub mod Frames
 pub mod OneStep
 pub mod Runs
 pub mod Starts
+pub mod Shown
+pub mod Rounds

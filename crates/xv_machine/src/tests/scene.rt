@@ -1,5 +1,8 @@
 //! Files of small programs, and the machines that tests ask.
-use crate::{ChildState, Config, Event, Machine, Outcome};
+use crate::{
+    ByteSink, ChildState, Config, DriveEnd, DriveError, Event, KeySource, Machine, Note, Outcome,
+    RunPlan, drive,
+};
 use std::alloc::{AllocError, Global};
 use std::process::Abort;
 use std::test::Fail;
@@ -145,6 +148,53 @@ impl Scene {
             Ok(file) => Scene::of_file(alloc, file),
             Err(_) => Err(BootError::Memory),
         }
+    }
+
+    /// A machine of 16 frames whose `init` is these instructions, and which keeps so many notes.
+    pub(super) fn with_trace(alloc: Global, trace: u32, words: &[u32]) -> Result<Scene, BootError> {
+        let config = Config { frames: 16, trace };
+        match plain(alloc, words).and_then(|file| alone(alloc, file)) {
+            Ok(programs) => Scene::new(alloc, config, programs),
+            Err(_) => Err(BootError::Memory),
+        }
+    }
+
+    /// Drives the machine.
+    pub(super) fn drive<R: KeySource, W: ByteSink>(
+        &mut self,
+        plan: RunPlan,
+        keys: &mut R,
+        sink: &mut W,
+    ) -> Result<DriveEnd, DriveError> {
+        drive(&mut self.machine, plan, keys, sink)
+    }
+
+    /// How many of the notes that are kept are this one.
+    pub(super) fn notes_of(&self, wanted: Note) -> usize {
+        let mut count: usize = 0;
+        for place in 0..self.machine.trace_len() {
+            if self.machine.trace(place) == Some(wanted) {
+                count = count.wrapping_add(1);
+            }
+        }
+        count
+    }
+
+    /// Compares the notes that are kept with these lines.
+    pub(super) fn notes(
+        &self,
+        rt: &impl Abort,
+        alloc: Global,
+        wanted: &[&str],
+    ) -> Result<(), Fail> {
+        assert_eq!(rt; self.machine.trace_len(), wanted.len());
+        for (place, line) in wanted.iter().enumerate() {
+            let Some(note) = self.machine.trace(place) else {
+                return Err(Fail::from("a note is kept"));
+            };
+            assert_eq!(rt; format!(in alloc; "{note}")?.as_str(), *line);
+        }
+        Ok(())
     }
 
     // What comes of a Run.

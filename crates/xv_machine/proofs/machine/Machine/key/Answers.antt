@@ -10,9 +10,6 @@ returns-then-is_some-clause-promised c =
     let i = c.self.inside in
     key-over i.kernel i.hart i.halted i.trace c.args.self.now c.self.view_is c.self.invariant.whole (sym c.is_some.ensures ∙ c.if-is_some.true) c.args.byte
 
-pub returns-then-is_some-clause-sound : goal.returns-then-is_some-clause-sound
-returns-then-is_some-clause-sound c = now-sound c.self.inside.kernel c.self.inside.hart c.self.inside.halted c.self.inside.trace c.args.self.now c.self.view_is c.self.invariant.whole c.self.invariant.halted c.self.invariant.kept
-
 pub invariant_of-self : goal.invariant_of-self
 invariant_of-self c =
     let i = c.self.inside in
@@ -28,12 +25,6 @@ returns-clause-promised c =
     let none = nothing-kept i.halted (sym c.is_some.ensures ∙ c.if-is_some.false) in
     now-promised i.kernel i.hart i.halted i.trace c.args.self.now c.self.view_is (runs.Key c.args.byte) c.key-echo.new.self i.hart None (runs.Typed c.key-echo.result.items) i.halted none none
     (run-key i.kernel c.key-echo.new.self i.hart c.args.byte c.key-echo.result.items (c.key-echo.ensures.happens i.hart c.self.invariant.whole) (c.key-echo.ensures.wakes i.hart c.self.invariant.whole))
-
-pub returns-clause-sound : goal.returns-clause-sound
-returns-clause-sound c =
-    let i = c.self.inside in
-    sound-of c.key-echo.new.self i.hart i.halted i.trace c.self.invariant.kept (c.key-echo.ensures.whole i.hart c.self.invariant.whole)
-    (lives-on-by i.kernel c.key-echo.new.self i.hart i.hart i.halted (nothing-kept i.halted (sym c.is_some.ensures ∙ c.if-is_some.false)) (ap (λ (s : State). s.processes) (c.key-echo.ensures.happens i.hart c.self.invariant.whole).1) c.self.invariant.halted)
 
 pub returns-clause-frames : goal.returns-clause-frames
 returns-clause-frames c = count-is c.key-echo.new.self ∙ c.key-echo.ensures.frames ∙ now-frames c.self.inside.kernel c.self.inside.hart c.self.inside.halted c.self.inside.trace c.args.self.now c.self.view_is

@@ -31,14 +31,6 @@ returns-in-Stepped-clause-promised c =
     (not-halted i.kernel i.hart i.halted c.self.invariant.halted now.0) (stepped-keeps i.kernel i.hart i.halted c.in-Some.pid c.in-Stepped.pid c.step-outcome.result c.in-Stepped.is current c.self.invariant.halted)
     (run-step i.kernel c.step-outcome.new.kernel i.hart c.step-outcome.new.hart c.in-Some.pid c.step-outcome.result c.self.invariant.whole now.0 now.1 c.step-outcome.ensures.made c.step-outcome.ensures.answer)
 
-pub returns-in-Stepped-clause-sound : goal.returns-in-Stepped-clause-sound
-returns-in-Stepped-clause-sound c =
-    let i = c.self.inside in
-    let current = sym (c.current.ensures None) ∙ c.in-Some.is in
-    sound-of c.step-outcome.new.kernel c.step-outcome.new.hart i.halted c.self.inside.trace c.self.invariant.kept c.step-outcome.ensures.made.whole
-    (run-ends i.kernel c.step-outcome.new.kernel i.hart c.step-outcome.new.hart i.halted i.halted c.in-Some.pid c.step-outcome.result c.self.invariant.whole current c.self.invariant.halted
-    c.step-outcome.ensures.made c.step-outcome.ensures.answer (stepped-keeps i.kernel i.hart i.halted c.in-Some.pid c.in-Stepped.pid c.step-outcome.result c.in-Stepped.is current c.self.invariant.halted))
-
 pub returns-in-Stepped-clause-frames : goal.returns-in-Stepped-clause-frames
 returns-in-Stepped-clause-frames c = count-is c.step-outcome.new.kernel ∙ c.step-outcome.ensures.made.frames ∙ now-frames c.self.inside.kernel c.self.inside.hart c.self.inside.halted c.self.inside.trace c.args.self.now c.self.view_is
 
@@ -59,13 +51,6 @@ returns-clause-promised c =
     now-promised i.kernel i.hart i.halted i.trace c.args.self.now c.self.view_is runs.Run c.step-outcome.new.kernel c.step-outcome.new.hart (halted_by c.step-outcome.result) (outcome_of c.step-outcome.result) c.halted_by-self-inside.result
     (not-halted i.kernel i.hart i.halted c.self.invariant.halted now.0) c.halted_by-self-inside.ensures
     (run-step i.kernel c.step-outcome.new.kernel i.hart c.step-outcome.new.hart c.in-Some.pid c.step-outcome.result c.self.invariant.whole now.0 now.1 c.step-outcome.ensures.made c.step-outcome.ensures.answer)
-
-pub returns-clause-sound : goal.returns-clause-sound
-returns-clause-sound c =
-    let i = c.self.inside in
-    sound-of c.step-outcome.new.kernel c.step-outcome.new.hart c.halted_by-self-inside.result c.self.inside.trace c.self.invariant.kept c.step-outcome.ensures.made.whole
-    (run-ends i.kernel c.step-outcome.new.kernel i.hart c.step-outcome.new.hart i.halted c.halted_by-self-inside.result c.in-Some.pid c.step-outcome.result c.self.invariant.whole (sym (c.current.ensures None) ∙ c.in-Some.is) c.self.invariant.halted
-    c.step-outcome.ensures.made c.step-outcome.ensures.answer c.halted_by-self-inside.ensures)
 
 pub returns-clause-frames : goal.returns-clause-frames
 returns-clause-frames c = count-is c.step-outcome.new.kernel ∙ c.step-outcome.ensures.made.frames ∙ now-frames c.self.inside.kernel c.self.inside.hart c.self.inside.halted c.self.inside.trace c.args.self.now c.self.view_is

@@ -19,12 +19,5 @@ returns-clause-promised c =
     let i = c.self.inside in
     now-sent i.kernel i.hart i.halted i.trace c.args.self.now c.self.view_is c.send-byte.new.self c.send-byte.result (c.send-byte.ensures.happens i.hart i.halted c.self.invariant.whole) (c.send-byte.ensures.wakes i.hart i.halted c.self.invariant.whole)
 
-pub returns-clause-sound : goal.returns-clause-sound
-returns-clause-sound c =
-    let i = c.self.inside in
-    let happens = c.send-byte.ensures.happens i.hart i.halted c.self.invariant.whole in
-    sound-of c.send-byte.new.self i.hart i.halted i.trace c.self.invariant.kept (c.send-byte.ensures.whole i.hart c.self.invariant.whole)
-    (sent-ends i.kernel c.send-byte.new.self i.hart i.halted (ap (λ (s : State). s.processes) happens.1) happens.2 c.self.invariant.halted)
-
 pub returns-clause-frames : goal.returns-clause-frames
 returns-clause-frames c = count-is c.send-byte.new.self ∙ c.send-byte.ensures.frames ∙ now-frames c.self.inside.kernel c.self.inside.hart c.self.inside.halted c.self.inside.trace c.args.self.now c.self.view_is

@@ -10,9 +10,6 @@ returns-then-is_some-clause-promised c =
     let i = c.self.inside in
     tick-over i.kernel i.hart i.halted i.trace c.args.self.now c.self.view_is c.self.invariant.whole (sym c.is_some.ensures ∙ c.if-is_some.true)
 
-pub returns-then-is_some-clause-sound : goal.returns-then-is_some-clause-sound
-returns-then-is_some-clause-sound c = now-sound c.self.inside.kernel c.self.inside.hart c.self.inside.halted c.self.inside.trace c.args.self.now c.self.view_is c.self.invariant.whole c.self.invariant.halted c.self.invariant.kept
-
 pub invariant_of-self : goal.invariant_of-self
 invariant_of-self c =
     let i = c.self.inside in
@@ -28,12 +25,6 @@ returns-clause-promised c =
     let none = nothing-kept i.halted (sym c.is_some.ensures ∙ c.if-is_some.false) in
     now-promised i.kernel i.hart i.halted i.trace c.args.self.now c.self.view_is runs.Tick c.tick.new.self c.tick.new.hart None runs.Ticked i.halted none none
     (run-tick i.kernel c.tick.new.self i.hart c.tick.new.hart c.tick.ensures.happens c.tick.ensures.wakes)
-
-pub returns-clause-sound : goal.returns-clause-sound
-returns-clause-sound c =
-    let i = c.self.inside in
-    sound-of c.tick.new.self c.tick.new.hart i.halted c.self.inside.trace c.self.invariant.kept c.tick.ensures.whole
-    (lives-on-by i.kernel c.tick.new.self i.hart c.tick.new.hart i.halted (nothing-kept i.halted (sym c.is_some.ensures ∙ c.if-is_some.false)) (ap (λ (s : State). s.processes) c.tick.ensures.happens.1) c.self.invariant.halted)
 
 pub returns-clause-frames : goal.returns-clause-frames
 returns-clause-frames c = count-is c.tick.new.self ∙ c.tick.ensures.frames ∙ now-frames c.self.inside.kernel c.self.inside.hart c.self.inside.halted c.self.inside.trace c.args.self.now c.self.view_is

@@ -10,9 +10,6 @@ returns-then-is_some-clause-promised c =
     let i = c.self.inside in
     now-over i.kernel i.hart i.halted i.trace c.args.self.now c.self.view_is c.self.invariant.whole (now-stopped i.kernel i.hart i.halted i.trace c.args.self.now c.self.view_is c.requires.stopped) (sym c.is_some.ensures ∙ c.if-is_some.true)
 
-pub returns-then-is_some-clause-sound : goal.returns-then-is_some-clause-sound
-returns-then-is_some-clause-sound c = now-sound c.self.inside.kernel c.self.inside.hart c.self.inside.halted c.self.inside.trace c.args.self.now c.self.view_is c.self.invariant.whole c.self.invariant.halted c.self.invariant.kept
-
 pub turn-requires-clause-stopped : goal.turn-requires-clause-stopped
 turn-requires-clause-stopped c = now-stopped c.self.inside.kernel c.self.inside.hart c.self.inside.halted c.self.inside.trace c.args.self.now c.self.view_is c.requires.stopped
 
@@ -24,11 +21,6 @@ returns-in_default-clause-promised c =
     now-promised i.kernel i.hart i.halted i.trace c.args.self.now c.self.view_is runs.Run c.turn.new.self c.turn.new.hart None runs.Idle i.halted none none
     (run-idle i.kernel i.hart c.self.invariant.whole stopped c.turn.new.self c.turn.new.hart c.in_default.ensures.stays c.in_default.ensures.idle)
 
-pub returns-in_default-clause-sound : goal.returns-in_default-clause-sound
-returns-in_default-clause-sound c =
-    sound-of c.turn.new.self c.turn.new.hart c.self.inside.halted c.self.inside.trace c.self.invariant.kept c.turn.ensures.whole
-    (lives-on c.self.inside.kernel c.turn.new.self c.self.inside.hart c.turn.new.hart c.self.inside.halted (nothing-kept c.self.inside.halted (sym c.is_some.ensures ∙ c.if-is_some.false)) (ap (λ (w : World). w.state) c.in_default.ensures.stays) c.self.invariant.halted)
-
 pub returns-in_default-clause-frames : goal.returns-in_default-clause-frames
 returns-in_default-clause-frames c = count-is c.turn.new.self ∙ c.turn.ensures.frames ∙ now-frames c.self.inside.kernel c.self.inside.hart c.self.inside.halted c.self.inside.trace c.args.self.now c.self.view_is
 
@@ -39,11 +31,6 @@ returns-clause-promised c =
     let stopped = now-stopped i.kernel i.hart i.halted i.trace c.args.self.now c.self.view_is c.requires.stopped in
     now-promised i.kernel i.hart i.halted i.trace c.args.self.now c.self.view_is runs.Run c.turn.new.self c.turn.new.hart None (runs.Turn c.in-Some.pid) i.halted none none
     (run-turn i.kernel i.hart c.self.invariant.whole stopped c.turn.new.self c.turn.new.hart c.in-Some.pid c.in-Some.ensures.turn c.in-Some.ensures.nearest)
-
-pub returns-clause-sound : goal.returns-clause-sound
-returns-clause-sound c =
-    sound-of c.turn.new.self c.turn.new.hart c.self.inside.halted c.self.inside.trace c.self.invariant.kept c.turn.ensures.whole
-    (lives-on c.self.inside.kernel c.turn.new.self c.self.inside.hart c.turn.new.hart c.self.inside.halted (nothing-kept c.self.inside.halted (sym c.is_some.ensures ∙ c.if-is_some.false)) (ap (λ (w : World). w.state) c.in-Some.ensures.turn.3) c.self.invariant.halted)
 
 pub returns-clause-frames : goal.returns-clause-frames
 returns-clause-frames c = count-is c.turn.new.self ∙ c.turn.ensures.frames ∙ now-frames c.self.inside.kernel c.self.inside.hart c.self.inside.halted c.self.inside.trace c.args.self.now c.self.view_is

@@ -1,0 +1,321 @@
+-- Whole rounds, as far as a drive has come, and how it ends.
+use Rattle.std.proofs.Common.{◌≡◌, ◌≢◌, ◌∙◌, ℕ, zero, suc, ◌+◌, ◌-◌, ◌<◌, ◌≤◌, ◌⊎◌, inl, inr, subst, refl, sym, ap, ap₂, arith, List, [], ◌∷◌, ◌++◌, append-nil, append_assoc, length, length-append, map, drop, replicate, slice_get, Bool, true, false, ◌||◌, Option, None, Some, IfSome}
+use Rattle.std.specs.Prelude.{not, is_none, is_some, flat_map, ⊤}
+use Rattle.std.specs.Option.{option_to_list}
+use Rattle.std.proofs.lemmas.Grind.{flat_map-append}
+use Rattle.std.specs.Io.KnownBytes.{Appends, Consumes}
+use Rattle.std.proofs.KnownBytes.{Appends-nil, Appends-trans}
+use Rattle.xk_base.specs.declared.limits.TheConstants.{SEND_BYTES}
+use Rattle.kcall_core.specs.Run.{Event, Run, Tick, Key, Send, Outcome, out}
+use Rattle.kcall_core.specs.Rounds.{key_events, round, events, halts, Planned, AreRounds, StopsBeforeRound, PlannedUpTo}
+use Rattle.kcall_core.proofs.runs.Plans.{rounds_then_plan, rounds_follow_rounds, cut_ends_in_round}
+use Rattle.xv_machine.specs.Devices.{GivesKey}
+use Rattle.xv_machine.specs.declared.driving.RunPlan.{RunPlan}
+use Rattle.xv_machine.specs.Drives.{Goes, is_halted, key_in, keys_in, Done, StoppedByRead, StoppedByWrite}
+use Rattle.xv_machine.specs.Meaning.{Meaning}
+use Rattle.xv_machine.specs.Sound.{IsSoundMachine}
+use Rattle.xv_machine.specs.Stretches.{Played, BrokeOff, TakesKey}
+use Rattle.xv_machine.proofs.Joins.{events-join, shows-join, goes-none, goes-join}
+use Rattle.xv_machine.proofs.Shown.{ends-in}
+
+abbrev Steps : Type 0
+Steps = List (Event × Outcome)
+
+-- ---- keys
+
+keys-join : (xs ys : List Event) → keys_in (xs ++ ys) ≡ keys_in xs ++ keys_in ys
+keys-join xs ys = flat_map-append key_in xs ys
+
+no-keys-run : (n : ℕ) → keys_in (replicate n Run) ≡ []
+no-keys-run zero = refl
+no-keys-run (suc n) = no-keys-run n
+
+no-keys-send : (n : ℕ) → keys_in (replicate n Send) ≡ []
+no-keys-send zero = refl
+no-keys-send (suc n) = no-keys-send n
+
+abbrev behind_key : ℕ → List Event
+behind_key quantum = replicate quantum Run ++ Tick ∷ replicate SEND_BYTES Send
+
+no-keys-behind : (quantum : ℕ) → keys_in (behind_key quantum) ≡ []
+no-keys-behind quantum = keys-join (replicate quantum Run) (Tick ∷ replicate SEND_BYTES Send) ∙ ap₂ (λ xs ys. xs ++ ys) (no-keys-run quantum) (no-keys-send SEND_BYTES)
+
+-- a round has the key that it was given
+keys-of-round : (quantum : ℕ) (key : Option ℕ) → keys_in (round quantum (option_to_list key)) ≡ option_to_list key
+keys-of-round quantum None = no-keys-behind quantum
+keys-of-round quantum (Some b) = ap (λ ks. b ∷ ks) (no-keys-behind quantum)
+
+front-nil : (xs ys : List ℕ) → xs ++ ys ≡ [] → xs ≡ []
+front-nil [] ys e = refl
+front-nil (x ∷ xs) ys e = cc
+
+part-some : (b : ℕ) (z : Event) (zs rest more : List Event) → (z ∷ zs) ++ rest ≡ Key b ∷ more → keys_in ((z ∷ zs) ++ rest) ≡ b ∷ [] → keys_in (z ∷ zs) ≡ b ∷ []
+part-some b z zs rest more starts all =
+    let head : z ≡ Key b = cc in
+    let front : keys_in (z ∷ zs) ≡ b ∷ keys_in zs = ap (λ e. key_in e ++ keys_in zs) head in
+    let total : b ∷ (keys_in zs ++ keys_in rest) ≡ b ∷ [] = ap (λ ks. ks ++ keys_in rest) (sym front) ∙ sym (keys-join (z ∷ zs) rest) ∙ all in
+    let tail : keys_in zs ++ keys_in rest ≡ [] = cc in
+    front ∙ ap (λ ks. b ∷ ks) (front-nil (keys_in zs) (keys_in rest) tail)
+
+-- the first part of a round has its key
+part-keys : (quantum : ℕ) (key : Option ℕ) (es rest : List Event) (e : Event) → (es ++ e ∷ []) ++ rest ≡ round quantum (option_to_list key) → keys_in (es ++ e ∷ []) ≡ option_to_list key
+part-keys quantum None es rest e is = front-nil (keys_in (es ++ e ∷ [])) (keys_in rest) (sym (keys-join (es ++ e ∷ []) rest) ∙ ap keys_in is ∙ keys-of-round quantum None)
+part-keys quantum (Some b) [] rest e is = part-some b e [] rest (behind_key quantum) is (ap keys_in is ∙ keys-of-round quantum (Some b))
+part-keys quantum (Some b) (x ∷ es) rest e is = part-some b x (es ++ e ∷ []) rest (behind_key quantum) is (ap keys_in is ∙ keys-of-round quantum (Some b))
+
+-- ---- how many are behind
+
+drop-all : (xs : List ℕ) (n : ℕ) → length xs ≤ n → drop n (xs ++ []) ≡ []
+drop-all [] zero le = refl
+drop-all [] (suc n) le = refl
+drop-all (x ∷ xs) zero le = absurd (omega (arith, le))
+drop-all (x ∷ xs) (suc n) le = drop-all xs n (omega (arith, le))
+
+drop-front : (xs ys : List ℕ) (n : ℕ) → length xs ≡ n → drop n (xs ++ ys) ≡ ys
+drop-front [] [] zero is = refl
+drop-front [] (y ∷ ys) zero is = refl
+drop-front [] ys (suc n) is = absurd (omega (arith, is))
+drop-front (x ∷ xs) ys zero is = absurd (omega (arith, is))
+drop-front (x ∷ xs) ys (suc n) is = drop-front xs ys n (omega (arith, is))
+
+-- each round so far has read a key, or the source is at its end
+abbrev Pace : (at_end : Bool) → (read rest : List ℕ) → (count : ℕ) → Type 0
+Pace false read rest count = length read ≡ count
+Pace true read rest count = (rest ≡ []) × (length read ≤ count)
+
+behind : (at_end : Bool) (read rest : List ℕ) (count : ℕ) → Pace at_end read rest count → drop count (read ++ rest) ≡ rest
+behind false read rest count pace = drop-front read rest count pace
+behind true read rest count pace = ap (λ ks. drop count (read ++ ks)) pace.0 ∙ drop-all read count pace.1 ∙ sym pace.0
+
+-- what is left behind the keys that were read; nothing is known of it where the source doesn't tell
+abbrev Leaves : (left now : Option (List ℕ)) → (read rest : List ℕ) → Type 0
+Leaves None now read rest = rest ≡ []
+Leaves (Some bytes) now read rest = (bytes ≡ read ++ rest) × (now ≡ Some rest)
+
+-- ---- the same rounds with more keys
+
+more-rounds : (count quantum : ℕ) (keys more : List ℕ) (halted : Bool) (list : Steps) → count ≤ length keys → AreRounds count quantum keys halted list → AreRounds count quantum (keys ++ more) halted list
+more-rounds zero quantum keys more halted list le are = are
+more-rounds (suc count) quantum keys more true list le are = are
+more-rounds (suc count) quantum [] more false list le are = absurd (omega (arith, le))
+more-rounds (suc count) quantum (k ∷ keys) more false list le are =
+    (are.0, are.1, are.2, are.3, subst (λ ks. AreRounds count quantum ks (halts are.0) are.1) (first (keys ++ more)) (more-rounds count quantum (drop 1 (k ∷ keys)) more (halts are.0) are.1 (omega (arith, le, ap length (first keys))) are.4))
+  where
+    first : (xs : List ℕ) → xs ≡ drop 0 xs
+    first [] = refl
+    first (x ∷ xs) = refl
+
+-- ---- the key of one more round
+
+abbrev pub SameRounds : (quantum count : ℕ) (keys more : List ℕ) → Type 0
+SameRounds quantum count keys more = (halted : Bool) (list : Steps) → AreRounds count quantum keys halted list → AreRounds count quantum more halted list
+
+record Taken (quantum count : ℕ) (left after : Option (List ℕ)) (key : Option ℕ) (read rest : List ℕ) : Type 0 where
+  more : List ℕ
+  leaves : Leaves left after (read ++ option_to_list key) more
+  pace : Pace (is_none key) (read ++ option_to_list key) more (suc count)
+  same : SameRounds quantum count (read ++ rest) ((read ++ option_to_list key) ++ more)
+  key_is : key_events (drop count ((read ++ option_to_list key) ++ more)) ≡ key_events (option_to_list key)
+
+equal-rounds : (quantum count : ℕ) (keys more : List ℕ) → keys ≡ more → SameRounds quantum count keys more
+equal-rounds quantum count keys more e halted list are = subst (λ ks. AreRounds count quantum ks halted list) e are
+
+-- no key: nothing is left
+none-taken : (quantum count : ℕ) (left after : Option (List ℕ)) (read rest : List ℕ) → rest ≡ [] → length read ≤ count → Leaves left after (read ++ []) [] → Taken quantum count left after None read rest
+none-taken quantum count left after read rest none le leaves = record {
+  more = [];
+  leaves = leaves;
+  pace = (refl, omega (arith, le, ap length (append-nil read)));
+  same = equal-rounds quantum count (read ++ rest) ((read ++ []) ++ []) (ap (λ ks. read ++ ks) none ∙ sym (append-nil (read ++ [])));
+  key_is = ap key_events (ap (λ ks. drop count (ks ++ [])) (append-nil read) ∙ drop-all read count le);
+}
+
+no-more : (left now after : Option (List ℕ)) (read rest : List ℕ) → Leaves left now read rest → rest ≡ [] → IfSome left (λ _. after ≡ Some []) → Leaves left after (read ++ []) []
+no-more None now after read rest leaves none gave = refl
+no-more (Some bytes) now after read rest leaves none gave = (leaves.0 ∙ ap (λ ks. read ++ ks) none ∙ sym (append-nil (read ++ [])), gave)
+
+taken : (quantum count : ℕ) (at_end : Bool) (left now after : Option (List ℕ)) (key : Option ℕ) (read rest : List ℕ) → Leaves left now read rest → Pace at_end read rest count → TakesKey at_end now key after
+    → Taken quantum count left after key read rest
+taken quantum count true left now after None read rest leaves pace takes = none-taken quantum count left after read rest pace.0 pace.1 (no-more left now after read rest leaves pace.0 (by left leaves))
+  where
+    by : (l : Option (List ℕ)) → Leaves l now read rest → IfSome l (λ _. after ≡ Some [])
+    by None h = tt
+    by (Some bytes) h = takes.1 ∙ h.1 ∙ ap Some pace.0
+taken quantum count true left now after (Some b) read rest leaves pace takes = cc
+taken quantum count false None now after None read rest leaves pace takes = none-taken quantum count None after read rest leaves (omega (arith, pace)) refl
+taken quantum count false None now after (Some b) read rest leaves pace takes = record {
+  more = [];
+  leaves = refl;
+  pace = length-append read (b ∷ []) ∙ omega (arith, pace);
+  same = λ halted list are. subst (λ ks. AreRounds count quantum ks halted list) (sym (append-nil (read ++ b ∷ [])))
+      (more-rounds count quantum read (b ∷ []) halted list (omega (arith, pace)) (equal-rounds quantum count (read ++ rest) read (ap (λ ks. read ++ ks) leaves ∙ append-nil read) halted list are));
+  key_is = ap key_events (ap (drop count) (append-nil (read ++ b ∷ [])) ∙ drop-front read (b ∷ []) count pace);
+}
+taken quantum count false (Some bytes) None after key read rest leaves pace takes = let no : ⊥ = cc in absurd no
+taken quantum count false (Some bytes) (Some now) after key read rest leaves pace takes = by rest key leaves (takes.0 ∙ ap (λ ks. slice_get ks 0) same) (takes.1 ∙ ap (λ ks. Some (drop 1 ks)) same)
+  where
+    same : now ≡ rest
+    same = cc
+
+    by : (xs : List ℕ) (k : Option ℕ) → Leaves (Some bytes) (Some now) read xs → k ≡ slice_get xs 0 → after ≡ Some (drop 1 xs) → Taken quantum count (Some bytes) after k read xs
+    by [] None h e f = none-taken quantum count (Some bytes) after read [] refl (omega (arith, pace)) (h.0 ∙ sym (append-nil (read ++ [])), f)
+    by [] (Some b) h e f = cc
+    by (x ∷ xs) None h e f = cc
+    by (x ∷ xs) (Some b) h e f =
+        let b_is : b ≡ x = cc in
+        let whole : read ++ x ∷ xs ≡ (read ++ b ∷ []) ++ xs = ap (λ k. read ++ k ∷ xs) (sym b_is) ∙ sym (append_assoc read (b ∷ []) xs) in
+        record {
+          more = xs;
+          leaves = (h.0 ∙ whole, f ∙ ap Some (first xs));
+          pace = length-append read (b ∷ []) ∙ omega (arith, pace);
+          same = equal-rounds quantum count (read ++ x ∷ xs) ((read ++ b ∷ []) ++ xs) whole;
+          key_is = ap key_events (ap (drop count) (sym whole) ∙ drop-front read (x ∷ xs) count pace) ∙ ap (λ k. Key k ∷ []) (sym b_is);
+        }
+      where
+        first : (ys : List ℕ) → drop 1 (x ∷ ys) ≡ ys
+        first [] = refl
+        first (y ∷ ys) = refl
+
+-- ---- rounds
+
+-- This many rounds were played, and the source was found at its end or not
+pub record Going (quantum count : ℕ) (at_end : Bool) (left now : Option (List ℕ)) (old new : Meaning) (held held_now : Option (List ℕ)) : Type 0 where
+  pub list : Steps
+  pub rest : List ℕ
+  pub goes : Goes old list new
+  pub leaves : Leaves left now (keys_in (events list)) rest
+  pub pace : Pace at_end (keys_in (events list)) rest count
+  pub rounds : AreRounds count quantum (keys_in (events list) ++ rest) (is_halted old) list
+  pub written : Appends held held_now (out list)
+
+pub none-going : (quantum : ℕ) (left : Option (List ℕ)) (m : Meaning) (held : Option (List ℕ)) → IsSoundMachine m → Going quantum 0 false left left m m held held
+none-going quantum left m held sound = record {
+  list = [];
+  rest = rest left;
+  goes = goes-none m sound;
+  leaves = leaves left;
+  pace = refl;
+  rounds = refl;
+  written = Appends-nil held;
+}
+  where
+    rest : Option (List ℕ) → List ℕ
+    rest None = []
+    rest (Some bytes) = bytes
+
+    leaves : (l : Option (List ℕ)) → Leaves l l [] (rest l)
+    leaves None = refl
+    leaves (Some bytes) = (refl, refl)
+
+-- on a machine that isn't halted, one more round may begin
+goes-on : (old : Meaning) (list : Steps) (new : Meaning) → Goes old list new → new.world.turns.halted ≡ None → (is_halted old || halts list) ≡ false
+goes-on old list new goes on = sym (ends-in old.world list new.world goes.run) ∙ ap is_some on
+
+module _ (quantum count : ℕ) (at_end : Bool) (left now after : Option (List ℕ)) (key : Option ℕ) (old mid : Meaning) (held held_now : Option (List ℕ)) (g : Going quantum count at_end left now old mid held held_now) (takes : TakesKey at_end now key after) where
+  abbrev took : Taken quantum count left after key (keys_in (events g.list)) g.rest
+  took = taken quantum count at_end left now after key (keys_in (events g.list)) g.rest g.leaves g.pace takes
+
+  -- its events
+  begun : round quantum (option_to_list key) ≡ round quantum (drop count ((keys_in (events g.list) ++ option_to_list key) ++ took.more))
+  begun = ap (λ es. es ++ replicate quantum Run ++ Tick ∷ replicate SEND_BYTES Send) (sym took.key_is)
+
+  pub one-more : (new : Meaning) (held_after : Option (List ℕ)) → mid.world.turns.halted ≡ None → Played (round quantum (option_to_list key)) mid new held_now held_after → Going quantum (count + 1) (is_none key) left after old new held held_after
+  one-more new held_after on p =
+      let read : keys_in (events (g.list ++ p.list)) ≡ keys_in (events g.list) ++ option_to_list key =
+      ap keys_in (events-join g.list p.list) ∙ keys-join (events g.list) (events p.list) ∙ ap (λ es. keys_in (events g.list) ++ keys_in es) p.those ∙ ap (λ ks. keys_in (events g.list) ++ ks) (keys-of-round quantum key) in
+      let keys : List ℕ = (keys_in (events g.list) ++ option_to_list key) ++ took.more in
+      let now_one : AreRounds 1 quantum (drop count keys) false p.list = (p.list, [], sym (append-nil p.list), p.those ∙ begun, refl) in
+      let one : AreRounds 1 quantum (drop count keys) (is_halted old || halts g.list) p.list = subst (λ b. AreRounds 1 quantum (drop count keys) b p.list) (sym (goes-on old g.list mid g.goes on)) now_one in
+      let all : AreRounds (count + 1) quantum keys (is_halted old) (g.list ++ p.list) = rounds_follow_rounds count 1 quantum keys (is_halted old) g.list p.list (took.same (is_halted old) g.list g.rounds) one in
+      let next : suc count ≡ count + 1 = omega arith in
+      record {
+        list = g.list ++ p.list;
+        rest = took.more;
+        goes = goes-join g.list p.list old mid new g.goes p.goes;
+        leaves = subst (λ ks. Leaves left after ks took.more) (sym read) took.leaves;
+        pace = subst (λ n. Pace (is_none key) (keys_in (events (g.list ++ p.list))) took.more n) next (subst (λ ks. Pace (is_none key) ks took.more (suc count)) (sym read) took.pace);
+        rounds = subst (λ ks. AreRounds (count + 1) quantum (ks ++ took.more) (is_halted old) (g.list ++ p.list)) (sym read) all;
+        written = subst (Appends held held_after) (sym (shows-join g.list p.list)) (Appends-trans held held_now held_after (out g.list) (out p.list) g.written p.written);
+      }
+
+pub none-from-some : (key : Option ℕ) (b : Bool) → is_some key ≡ not b → b ≡ is_none key
+none-from-some None true h = refl
+none-from-some None false h = cc
+none-from-some (Some key) true h = cc
+none-from-some (Some key) false h = refl
+
+-- ---- the ends
+
+leaves-known : (left now : Option (List ℕ)) (read rest : List ℕ) → Leaves left now read rest → IfSome left (λ bytes. read ++ rest ≡ bytes)
+leaves-known None now read rest h = tt
+leaves-known (Some bytes) now read rest h = sym h.0
+
+leaves-typed : (left now : Option (List ℕ)) (read rest : List ℕ) → Leaves left now read rest → Consumes left now read
+leaves-typed None now read rest h = tt
+leaves-typed (Some bytes) None read rest h = let no : ⊥ = cc in absurd no
+leaves-typed (Some bytes) (Some now) read rest h =
+    let same : now ≡ rest = cc in
+    h.0 ∙ ap (λ ks. read ++ ks) (sym same)
+
+none-planned : (rounds quantum : ℕ) (keys : List ℕ) (halted : Bool) → (rounds ≡ 0) ⊎ (halted ≡ true) → Planned rounds quantum keys halted []
+none-planned rounds quantum keys true why = refl
+none-planned zero quantum keys false why = refl
+none-planned (suc rounds) quantum keys false (inl none) = let n : suc rounds ≡ 0 = none in absurd (omega (arith, n))
+none-planned (suc rounds) quantum keys false (inr halted) = let no : ⊥ = cc in absurd no
+
+pub all-done : (plan : RunPlan) (count : ℕ) (at_end : Bool) (left now : Option (List ℕ)) (old new : Meaning) (held held_now : Option (List ℕ)) → count ≤ plan.rounds → Going plan.quantum count at_end left now old new held held_now
+    → (count ≡ plan.rounds) ⊎ (is_halted new ≡ true) → Done plan left now old new held held_now
+all-done plan count at_end left now old new held held_now within g why =
+    let keys : List ℕ = keys_in (events g.list) ++ g.rest in
+    let rest : ℕ = plan.rounds - count in
+    let over : (rest ≡ 0) ⊎ ((is_halted old || halts g.list) ≡ true) = elim why [
+      | inl all ↦ inl (omega (arith, all))
+      | inr halted ↦ inr (sym (ends-in old.world g.list new.world g.goes.run) ∙ halted)
+    ] in
+    let plan_all : Planned (count + rest) plan.quantum keys (is_halted old) (g.list ++ []) =
+    rounds_then_plan count rest plan.quantum keys (is_halted old) g.list [] g.rounds (none-planned rest plan.quantum (drop count keys) (is_halted old || halts g.list) over) in
+    let whole : count + rest ≡ plan.rounds = omega (arith, within) in
+    record {
+      list = g.list;
+      goes = g.goes;
+      keys = keys;
+      known = leaves-known left now (keys_in (events g.list)) g.rest g.leaves;
+      planned = subst (λ n. Planned n plan.quantum keys (is_halted old) g.list) whole (subst (λ xs. Planned (count + rest) plan.quantum keys (is_halted old) xs) (append-nil g.list) plan_all);
+      written = g.written;
+      typed = leaves-typed left now (keys_in (events g.list)) g.rest g.leaves;
+    }
+
+pub read-stops : (plan : RunPlan) (count : ℕ) (at_end : Bool) (left now : Option (List ℕ)) (old new : Meaning) (held held_now : Option (List ℕ)) → count < plan.rounds → Going plan.quantum count at_end left now old new held held_now
+    → new.world.turns.halted ≡ None → StoppedByRead plan left old new held held_now
+read-stops plan count at_end left now old new held held_now within g on = record {
+  list = g.list;
+  goes = g.goes;
+  keys = keys_in (events g.list) ++ g.rest;
+  known = leaves-known left now (keys_in (events g.list)) g.rest g.leaves;
+  rounds = (count, within, g.rounds, goes-on old g.list new g.goes on);
+  written = g.written;
+}
+
+pub write-stops : (plan : RunPlan) (count : ℕ) (at_end : Bool) (left now after : Option (List ℕ)) (key : Option ℕ) (old mid new : Meaning) (held held_now : Option (List ℕ)) → count < plan.rounds
+    → (g : Going plan.quantum count at_end left now old mid held held_now) → mid.world.turns.halted ≡ None → TakesKey at_end now key after → BrokeOff (round plan.quantum (option_to_list key)) mid new → StoppedByWrite plan left after old new
+write-stops plan count at_end left now after key old mid new held held_now within g on takes q =
+    let t = took plan.quantum count at_end left now after key old mid held held_now g takes in
+    let read : List ℕ = keys_in (events g.list) in
+    let keys : List ℕ = (read ++ option_to_list key) ++ t.more in
+    let part : Steps = q.before ++ q.last ∷ [] in
+    let part_events : events part ≡ events q.before ++ q.last.0 ∷ [] = events-join q.before (q.last ∷ []) in
+    let part_is : keys_in (events part) ≡ option_to_list key =
+    ap keys_in part_events ∙ part-keys plan.quantum key (events q.before) q.rest q.last.0 (ap (λ es. es ++ q.rest) (sym part_events) ∙ q.those) in
+    let read_is : keys_in (events (g.list ++ part)) ≡ read ++ option_to_list key =
+    ap keys_in (events-join g.list part) ∙ keys-join (events g.list) (events part) ∙ ap (λ ks. read ++ ks) part_is in
+    record {
+      list = g.list ++ part;
+      last = q.last;
+      goes = goes-join g.list part old mid new g.goes q.goes;
+      keys = keys;
+      known = leaves-known left after (read ++ option_to_list key) t.more t.leaves;
+      cut = (cut_ends_in_round plan.rounds plan.quantum keys (is_halted old) (g.list ++ part) q.last).1
+          (count, g.list, q.before, q.rest, refl, within, t.same (is_halted old) g.list g.rounds, goes-on old g.list mid g.goes on, q.those ∙ begun plan.quantum count at_end left now after key old mid held held_now g takes);
+      shows = q.shows;
+      typed = subst (Consumes left after) (sym read_is) (leaves-typed left after (read ++ option_to_list key) t.more t.leaves);
+    }

@@ -1,0 +1,12 @@
+use Rattle.std.proofs.Common.{◌≡◌}
+use Rattle.xv_machine.proofs.Rounds.{Going}
+use Rattle.xv_machine.proofs.driving.drive.Given as goal
+
+abbrev pub invariant-loop-count : goal.invariant-loop-count
+invariant-loop-count g l = record {
+  going : Going l.plan.quantum l.count l.at_end (g.R.KeySource.left l.fn.keys) (g.R.KeySource.left l.keys) l.fn.machine l.machine
+      (g.W.ByteSink.held l.fn.sink) (g.W.ByteSink.held l.sink);
+  halted : l.halted ≡ l.machine.world.turns.halted;
+  reads : g.R.KeySource.failures l.keys ≡ g.R.KeySource.failures l.fn.keys;
+  writes : g.W.ByteSink.failures l.sink ≡ g.W.ByteSink.failures l.fn.sink;
+}

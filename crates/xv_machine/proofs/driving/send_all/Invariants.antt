@@ -1,0 +1,10 @@
+use Rattle.std.proofs.Common.{◌≡◌, replicate}
+use Rattle.kcall_core.specs.Run as runs
+use Rattle.xv_machine.specs.Stretches.{Played}
+use Rattle.xv_machine.proofs.driving.send_all.Given as goal
+
+abbrev pub invariant-loop-sent : goal.invariant-loop-sent
+invariant-loop-sent g l = record {
+  played : Played (replicate l.sent runs.Send) l.fn.machine l.machine (g.W.ByteSink.held l.fn.sink) (g.W.ByteSink.held l.sink);
+  count : g.W.ByteSink.failures l.sink ≡ g.W.ByteSink.failures l.fn.sink;
+}

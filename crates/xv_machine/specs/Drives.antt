@@ -1,0 +1,82 @@
+-- What a machine that is driven in rounds goes through.
+use Rattle.std.specs.Prelude.{◌≡◌, ◌≢◌, ℕ, Bool, List, [], ◌∷◌, ◌++◌, flat_map, Option, None, Some, IfSome, is_some, ⊤}
+use Rattle.std.specs.Io.KnownBytes.{Appends, Consumes}
+use Rattle.circular_buffer.specs.Buffer.{keep_last}
+use Rattle.kcall_core.specs.Run as runs
+use Rattle.kcall_core.specs.Run.{Event, Run, Tick, Key, Send, Outcome, bytes_out, out}
+use Rattle.kcall_core.specs.Rounds.{events, Planned, StopsBeforeRound, PlannedUpTo}
+use Rattle.kcall_core.specs.Wakes.{IsPromised}
+use Rattle.xv_machine.specs.declared.driving.RunPlan.{RunPlan}
+use Rattle.xv_machine.specs.declared.driving.DriveEnd.{DriveEnd}
+use Rattle.xv_machine.specs.declared.driving.DriveEnd.TheVariants.{Halted, RoundsOver}
+use Rattle.xv_machine.specs.declared.driving.DriveError.{DriveError}
+use Rattle.xv_machine.specs.declared.driving.DriveError.TheVariants.{Read, Write}
+use Rattle.xv_machine.specs.Meaning.{Meaning}
+use Rattle.xv_machine.specs.Notes.{notes_of}
+use Rattle.xv_machine.specs.Sound.{IsSoundMachine}
+
+-- The machine goes from old to new by these events, which give these outcomes; the trace keeps a note of each, behind those that it had
+pub record Goes (old : Meaning) (list : List (Event × Outcome)) (new : Meaning) : Type 0 where
+  pub run : IsPromised old.world list new.world
+  pub notes : new.notes ≡ keep_last old.room (old.notes ++ notes_of list)
+  pub room : new.room ≡ old.room
+  pub frames : new.frames.count ≡ old.frames.count
+  pub sound : IsSoundMachine new
+
+abbrev pub is_halted : Meaning → Bool
+is_halted m = is_some m.world.turns.halted
+
+-- the keys among events, in order
+abbrev pub key_in : Event → List ℕ
+key_in Run = []
+key_in Tick = []
+key_in (Key byte) = byte ∷ []
+key_in Send = []
+
+abbrev pub keys_in : List Event → List ℕ
+keys_in list = flat_map key_in list
+
+-- A drive to its end: whole rounds of the plan, all that may begin; what they show was written, and the keys that were typed were read
+pub record Done (plan : RunPlan) (left left_after : Option (List ℕ)) (old new : Meaning) (held held_after : Option (List ℕ)) : Type 0 where
+  pub list : List (Event × Outcome)
+  pub goes : Goes old list new
+  -- the keys that are left at first, where that is known
+  pub keys : List ℕ
+  pub known : IfSome left (λ bytes. keys ≡ bytes)
+  pub planned : Planned plan.rounds plan.quantum keys (is_halted old) list
+  pub written : Appends held held_after (out list)
+  pub typed : Consumes left left_after (keys_in (events list))
+
+-- A drive that a failed read ended: the whole rounds before, what they show was written
+pub record StoppedByRead (plan : RunPlan) (left : Option (List ℕ)) (old new : Meaning) (held held_after : Option (List ℕ)) : Type 0 where
+  pub list : List (Event × Outcome)
+  pub goes : Goes old list new
+  pub keys : List ℕ
+  pub known : IfSome left (λ bytes. keys ≡ bytes)
+  pub rounds : StopsBeforeRound plan.rounds plan.quantum keys (is_halted old) list
+  pub written : Appends held held_after (out list)
+
+-- A drive that a failed write ended: the plan up to an event that shows bytes
+pub record StoppedByWrite (plan : RunPlan) (left left_after : Option (List ℕ)) (old new : Meaning) : Type 0 where
+  pub list : List (Event × Outcome)
+  pub last : Event × Outcome
+  pub goes : Goes old list new
+  pub keys : List ℕ
+  pub known : IfSome left (λ bytes. keys ≡ bytes)
+  pub cut : PlannedUpTo plan.rounds plan.quantum keys (is_halted old) list last
+  pub shows : bytes_out last.1 ≢ []
+  pub typed : Consumes left left_after (keys_in (events list))
+
+-- the end tells whether the machine is halted
+abbrev pub IsEndOf : DriveEnd → Meaning → Type 0
+IsEndOf (Halted status) m = m.world.turns.halted ≡ Some status
+IsEndOf RoundsOver m = m.world.turns.halted ≡ None
+
+-- what is so of a failed read, or of a failed write
+abbrev pub OnRead : DriveError → Type 0 → Type 0
+OnRead Read claim = claim
+OnRead Write claim = ⊤
+
+abbrev pub OnWrite : DriveError → Type 0 → Type 0
+OnWrite Read claim = ⊤
+OnWrite Write claim = claim

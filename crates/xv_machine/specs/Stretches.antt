@@ -1,0 +1,40 @@
+-- Stretches of a drive: events that were sent one after another. Only this crate's private functions speak of them.
+use Rattle.std.specs.Prelude.{◌≡◌, ◌≢◌, ℕ, Bool, true, false, List, [], ◌∷◌, ◌++◌, Option, None, Some, Result, MatchResult}
+use Rattle.std.specs.Io.KnownBytes.{Appends}
+use Rattle.kcall_core.specs.Run.{Event, Outcome, bytes_out, out}
+use Rattle.kcall_core.specs.Rounds.{events}
+use Rattle.xv_machine.specs.Devices.{GivesKey}
+use Rattle.xv_machine.specs.Drives.{Goes}
+use Rattle.xv_machine.specs.Meaning.{Meaning}
+
+-- these events were sent, and show no byte
+pub record Silent (wanted : List Event) (old new : Meaning) : Type 0 where
+  pub list : List (Event × Outcome)
+  pub goes : Goes old list new
+  pub those : events list ≡ wanted
+  pub silent : out list ≡ []
+
+-- these events were sent, and what they show was written
+pub record Played (wanted : List Event) (old new : Meaning) (held held_after : Option (List ℕ)) : Type 0 where
+  pub list : List (Event × Outcome)
+  pub goes : Goes old list new
+  pub those : events list ≡ wanted
+  pub written : Appends held held_after (out list)
+
+-- of these events those up to one that shows bytes were sent
+pub record BrokeOff (wanted : List Event) (old new : Meaning) : Type 0 where
+  pub before : List (Event × Outcome)
+  pub last : Event × Outcome
+  pub rest : List Event
+  pub goes : Goes old (before ++ last ∷ []) new
+  pub those : events (before ++ last ∷ []) ++ rest ≡ wanted
+  pub shows : bytes_out last.1 ≢ []
+
+-- these events were sent, or those up to one whose bytes could not be written
+abbrev pub Plays : {E : Type 0} → Result (Unit {0}) E → List Event → Meaning → Meaning → Option (List ℕ) → Option (List ℕ) → Type 0
+Plays result wanted old new held held_after = MatchResult result (λ _. Played wanted old new held held_after) (λ _. BrokeOff wanted old new)
+
+-- the key of a round: none, where the source was at its end before, and else what it gives
+abbrev pub TakesKey : (at_end : Bool) → (left : Option (List ℕ)) → (key : Option ℕ) → (left_after : Option (List ℕ)) → Type 0
+TakesKey true left key after = (key ≡ None) × (after ≡ left)
+TakesKey false left key after = GivesKey left key after
