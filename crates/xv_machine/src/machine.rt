@@ -231,9 +231,10 @@ impl Machine {
             return self.turn();
         };
         let outcome = step(&mut self.kernel, &mut self.hart, pid);
-        if let Outcome::Stepped { .. } = outcome {
-            // The status stays: there is none while a process runs.
-            return outcome;
+        if let Outcome::Stepped { pid: done } = outcome {
+            // The status stays: there is none while a process runs. An outcome has room for an echo, so it is
+            // written anew here and not copied.
+            return Outcome::Stepped { pid: done };
         }
         self.halted = halted_by(&outcome);
         outcome
