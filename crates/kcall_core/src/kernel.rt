@@ -161,6 +161,8 @@ impl Kernel {
 
     /// The turn: of the processes that may run, the one in the next slot after the slot that ran last,
     /// cyclically, runs from now on. Its pid, or `None` where no process may run.
+    #[cold]
+    #[inline(never)]
     pub fn turn(&mut self, hart: &mut Hart) -> Option<Pid>
         requires whole { IsWhole self.old hart.old }
         requires stopped { IsStopped self.old }

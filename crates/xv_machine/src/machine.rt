@@ -180,6 +180,8 @@ impl Machine {
     }
 
     /// What comes of an event. The trace keeps a note of it, where it has room.
+    // An outcome has room for an echo. No call that may come here answers one from a function of its own: such
+    // an answer's room, 400 bytes, would be cleared before each event.
     #[inline(always)]
     pub fn event(&mut self, event: Event) -> Outcome
         ensures promised { Promised self.old.world (event_of event) (outcome_of result) self.new.world }
@@ -241,7 +243,7 @@ impl Machine {
     }
 
     // The next process has its turn, unless process 1 is gone.
-    #[cold]
+    #[inline(always)]
     fn turn(&mut self) -> Outcome
         requires stopped { self.old.world.turns.current ≡ None }
         ensures promised { Promised self.old.world runs.Run (outcome_of result) self.new.world }
@@ -258,6 +260,7 @@ impl Machine {
     }
 
     // The clock counts a tick, unless process 1 is gone.
+    #[inline(always)]
     fn tick(&mut self) -> Outcome
         ensures promised { Promised self.old.world runs.Tick (outcome_of result) self.new.world }
         ensures frames { self.new.frames.count ≡ self.old.frames.count }
@@ -271,7 +274,7 @@ impl Machine {
     }
 
     // The console takes a key, unless process 1 is gone.
-    #[cold]
+    #[inline(always)]
     fn key(&mut self, byte: u8) -> Outcome
         ensures promised { Promised self.old.world (runs.Key byte) (outcome_of result) self.new.world }
         ensures frames { self.new.frames.count ≡ self.old.frames.count }
@@ -285,7 +288,7 @@ impl Machine {
     }
 
     // The first byte that waits to be sent leaves, also where process 1 is gone.
-    #[cold]
+    #[inline(always)]
     fn send(&mut self) -> Outcome
         ensures promised { Promised self.old.world runs.Send (outcome_of result) self.new.world }
         ensures frames { self.new.frames.count ≡ self.old.frames.count }
@@ -347,7 +350,7 @@ impl Machine {
         self.trace.len()
     }
 
-    /// A note of the trace, by its place: 0 is the oldest. `None` where no so many are kept.
+    /// A note of the trace, by its place: 0 is the oldest. `None` where fewer notes are kept.
     pub fn trace(&self, place: usize) -> Option<Note>
         ensures { result ≡ slice_get self.now.notes place }
     {

@@ -30,6 +30,8 @@ impl Kernel {
     /// The terminal's key of this byte is typed: the console takes it, and what it shows for it is the answer, at
     /// most [`ECHO_BYTES`](xk_base::limits::ECHO_BYTES) bytes. Where committed bytes are there afterwards, those
     /// wake who wait for them.
+    #[cold]
+    #[inline(never)]
     pub fn key(&mut self, byte: u8) -> Echo
         ensures whole { (hart : Hart) → IsWhole self.old hart → IsWhole self.new hart }
         ensures happens { (hart : Hart) → IsWhole self.old hart
@@ -49,6 +51,8 @@ impl Kernel {
     /// who wait for room. It is `None` where no byte waits, and then nobody waits for room.
     ///
     /// A machine whose process 1 is gone goes on sending.
+    #[cold]
+    #[inline(never)]
     pub fn send(&mut self) -> Option<u8>
         ensures whole { (hart : Hart) → IsWhole self.old hart → IsWhole self.new hart }
         ensures happens { (hart : Hart) (halted : Option ℤ) → IsWhole self.old hart
