@@ -1,5 +1,6 @@
 //! The machine.
-ghost use Rattle.std.specs.Prelude.{◌≡◌, is_some, map};
+ghost use Rattle.std.specs.Prelude.{◌≡◌, ◌∷◌, ◌++◌, [], is_some, map};
+ghost use Rattle.circular_buffer.specs.Buffer.{buffer, keep_last};
 ghost use Rattle.kcall_core.specs.State.{named_file};
 ghost use Rattle.kcall_core.specs.Programs.{first_bad, init_of};
 ghost use Rattle.xv_machine.specs.Boots.{without_init};
@@ -69,7 +70,15 @@ fn halted_by(outcome: &Outcome) -> Option<i32>
     }
 }
 
-/// A machine: a kernel, and the hart that runs its processes.
+// Puts a note behind the others. Where there is no room, the oldest goes.
+#[inline(never)]
+fn push(trace: &mut HeapCircularBuffer<Note>, note: Note)
+    ensures { trace.new ≡ buffer (keep_last trace.old.capacity (trace.old.items ++ note ∷ [])) trace.old.capacity }
+{
+    trace.push_back(note);
+}
+
+/// A machine: a kernel, the hart that runs its processes, and a trace of what they did.
 #[derive(Drop)]
 pub struct Machine {
     kernel: Kernel,
@@ -181,7 +190,8 @@ impl Machine {
 
     /// What comes of an event. The trace keeps a note of it, where it has room.
     // An outcome has room for an echo. No call that may come here answers one from a function of its own: such
-    // an answer's room, 400 bytes, would be cleared before each event.
+    // an answer's room, 400 bytes, would be cleared before each event. And a done instruction's outcome is
+    // written anew, so that it isn't copied.
     #[inline(always)]
     pub fn event(&mut self, event: Event) -> Outcome
         ensures promised { Promised self.old.world (event_of event) (outcome_of result) self.new.world }
@@ -191,7 +201,11 @@ impl Machine {
         ensures room { self.new.room ≡ self.old.room }
     {
         let outcome = self.take(event);
-        self.keep(event, &outcome);
+        if let Outcome::Stepped { pid } = outcome {
+            self.keep(Note::Stepped { pid });
+            return Outcome::Stepped { pid };
+        }
+        self.keep(Note::of(event, &outcome));
         outcome
     }
 
@@ -210,16 +224,16 @@ impl Machine {
         }
     }
 
-    // The trace keeps a note of the event, where it has room.
+    // The trace keeps the note, where it has room for any.
     #[inline(always)]
-    fn keep(&mut self, event: Event, outcome: &Outcome)
-        ensures kept { self.new ≡ record self.old { notes = keep_last self.old.room (self.old.notes ++ note (event_of event) (outcome_of outcome.now) ∷ []) } }
+    fn keep(&mut self, note: Note)
+        ensures kept { self.new ≡ record self.old { notes = keep_last self.old.room (self.old.notes ++ note ∷ []) } }
         ensures sound { IsSoundMachine self.new }
     {
         if self.trace.capacity() == 0 {
             return;
         }
-        self.trace.push_back(Note::of(event, outcome));
+        push(&mut self.trace, note);
     }
 
     // The process that runs makes a step; where none runs, the next has its turn.

@@ -11,4 +11,4 @@ returns-then-capacity-eq0-clause-sound c =
 pub returns-clause-sound : goal.returns-clause-sound
 returns-clause-sound c =
     let i = c.self.inside in
-    sound-of i.kernel i.hart i.halted c.push_back.new.self (pushed i.trace c.of.result c.push_back.new.self c.push_back.ensures.items) c.self.invariant.whole c.self.invariant.halted
+    sound-of i.kernel i.hart i.halted c.push.new.trace (pushed i.trace c.args.note c.push.new.trace c.push.ensures) c.self.invariant.whole c.self.invariant.halted
