@@ -1,76 +1,59 @@
-//! Why a run ends early.
+//! Why no machine runs.
+ghost use Rattle.std.specs.Prelude.{◌≡◌};
+
 use std::alloc::{AllocError, AllocFailed};
-use std::io;
+use std::io::Write;
 use thiserror::Error;
 use uasm_core::AsmError;
 use xk_base::BootError;
 
-/// Why a run ends early.
+/// Why no machine runs, although the command line is right.
 #[derive(Debug, Drop, Error)]
-pub enum Failure {
-    /// There are more words than one FILE.
-    #[error("usage: xv_run [FILE]")]
-    Words,
-    /// The FILE of this name can't be read.
+pub enum Failure<'a> {
+    /// The FILE of this path can't be read.
     #[error("{0}: cannot be read")]
-    CannotBeRead(String),
-    /// The FILE of this name has more bytes than a program file may have.
+    CannotBeRead(&'a str),
+    /// The FILE of this path has more bytes than a program may have.
     #[error("{0}: too long")]
-    TooLong(String),
-    /// The FILE of this name is to be assembled, and isn't UTF-8.
+    TooLong(&'a str),
+    /// The FILE of this path is to be assembled, and isn't UTF-8.
     #[error("{0}: not text")]
-    NotText(String),
-    /// The FILE of this name can't be assembled.
+    NotText(&'a str),
+    /// The FILE of this path can't be assembled.
     #[error("{0}: {1}")]
-    Assembly(String, AsmError),
-    /// The machine doesn't boot from the FILE.
+    Assembly(&'a str, AsmError),
+    /// The machine doesn't boot.
     #[error("boot: {0}")]
     Boot(BootError),
     /// The host has too little memory.
     #[error("out of memory")]
     OutOfMemory,
-    /// Standard output takes no more bytes.
-    #[error("write fault")]
-    Write,
 }
 
-impl Failure {
-    /// The status that the process ends with.
-    pub(crate) fn status(&self) -> u8 {
-        match self {
-            Failure::Words => 1,
-            Failure::CannotBeRead(_)
-            | Failure::TooLong(_)
-            | Failure::NotText(_)
-            | Failure::Assembly(..)
-            | Failure::Boot(_)
-            | Failure::OutOfMemory => 2,
-            Failure::Write => 5,
-        }
+impl Failure<'_> {
+    /// Writes the closing line, and gives the status 2. A line that can't be written is left out.
+    pub(crate) fn close<E: Write>(&self, errors: &mut E) -> u8
+        ensures { result ≡ 2 }
+    {
+        let _ = writeln!(errors, "xv_run: {self}");
+        2
     }
 }
 
-impl From<AllocError> for Failure {
-    fn from(_e: AllocError) -> Failure {
+impl From<AllocError> for Failure<'_> {
+    fn from(_error: AllocError) -> Self {
         Failure::OutOfMemory
     }
 }
 
-impl<T: Drop> From<AllocFailed<T>> for Failure {
-    fn from(_e: AllocFailed<T>) -> Failure {
+impl<T: Drop> From<AllocFailed<T>> for Failure<'_> {
+    fn from(_error: AllocFailed<T>) -> Self {
         Failure::OutOfMemory
     }
 }
 
-/// Of the calls that answer so, only want of memory makes one fail.
-impl From<io::Error> for Failure {
-    fn from(_e: io::Error) -> Failure {
-        Failure::OutOfMemory
-    }
-}
-
-impl From<BootError> for Failure {
-    fn from(error: BootError) -> Failure {
+impl From<BootError> for Failure<'_> {
+    fn from(error: BootError) -> Self {
         match error {
             BootError::Memory => Failure::OutOfMemory,
             _ => Failure::Boot(error),

@@ -1,51 +1,80 @@
-//! Runs a program on the machine, and prints what comes of each event.
+//! Runs programs on the machine.
 //!
-//! Without arguments it runs a program of three instructions, which exits at once. With one FILE it
-//! runs that ELF file, or, where its name ends in `.s`, what the assembler makes of its text. Each
-//! event's outcome is a line on standard output. What goes wrong is a line on standard error, and the
-//! status says what it was: 1 the words, 2 the file or the boot or want of memory, 5 standard output.
+//! The command line names the programs' files, of which one is `init`, and says how long to run. Keys come
+//! from standard input, and what the console shows goes to standard output. What ends the run is told by
+//! the exit status and by one line on standard error.
 #![tactic(auto)]
 
+mod command_line;
 mod failure;
-mod input;
-mod play;
+mod files;
+mod line;
+mod running;
 #[cfg(test)]
 mod tests;
 
+use crate::command_line::{not_text, settings};
 use crate::failure::Failure;
-use crate::input::{built_in, program_at};
-use crate::play::play;
-use std::io::BufWriter;
+use crate::files::programs;
+use crate::line::{Settings, SettingsError};
+use crate::running::run_with;
+use std::env;
+use std::io::ErrorKind;
 use std::process::ExitCode;
-use std::rt::{Env, Files};
-use std::{env, io};
+use std::rt::Env;
+use xv_machine::{Config, Counted, RunPlan};
 
-// The program file that the command line names: at most one word follows the program's own name.
-fn program<R: Env + Files + AllocGlobal>(rt: &R) -> Result<Vec<u8>, Failure> {
-    let mut words = env::args(rt)?;
-    let _own_name = words.next();
-    let Some(path) = words.next() else {
-        return built_in(rt.alloc());
-    };
-    if words.next().is_some() {
-        return Err(Failure::Words);
+// The words of the command line, the program's name first.
+fn words<R: Env + AllocGlobal>(rt: &R) -> Result<Vec<String>, ErrorKind> {
+    match env::args(rt) {
+        Ok(words) => words
+            .collect(rt.alloc())
+            .map_err(|_| ErrorKind::OutOfMemory),
+        Err(error) => Err(error.kind()),
     }
-    program_at(rt, path)
 }
 
-fn run<R: Env + Files + Print + AllocGlobal>(rt: &R) -> Result<(), Failure> {
-    let file = program(rt)?;
-    let mut out = BufWriter::new(rt.alloc(), io::writer(rt))?;
-    play(rt.alloc(), file, &mut out)
+// Runs the programs that the settings name.
+fn run(rt: &HostRuntime, settings: &Settings) -> u8 {
+    let config = Config {
+        frames: settings.frames,
+        trace: settings.trace,
+    };
+    let plan = RunPlan {
+        rounds: settings.rounds,
+        quantum: settings.quantum,
+    };
+    match programs(rt, settings.files.as_slice()) {
+        Ok(programs) => {
+            let mut keys = Counted::new(rt.stdin());
+            let mut sink = Counted::new(rt.stdout());
+            run_with(
+                rt.alloc(),
+                config,
+                plan,
+                programs,
+                &mut keys,
+                &mut sink,
+                &mut rt.stderr(),
+            )
+        }
+        Err(failure) => failure.close(&mut rt.stderr()),
+    }
+}
+
+// Does what the words ask for.
+fn obey(rt: &HostRuntime) -> u8 {
+    let asked = match words(rt) {
+        Ok(words) => settings(rt.alloc(), words.as_slice()),
+        Err(ErrorKind::InvalidData) => Err(not_text(rt.alloc())),
+        Err(_) => return Failure::OutOfMemory.close(&mut rt.stderr()),
+    };
+    match asked {
+        Ok(settings) => run(rt, &settings),
+        Err(error) => error.close(&mut rt.stdout(), &mut rt.stderr()),
+    }
 }
 
 fn main(rt: HostRuntime) -> ExitCode {
-    match run(&rt) {
-        Ok(()) => ExitCode::SUCCESS,
-        Err(failure) => {
-            // Where standard error takes no line either, the status alone tells.
-            let _ = rt.eprintln(format_args!("xv_run: {failure}"));
-            ExitCode::from(failure.status())
-        }
-    }
+    ExitCode::from(obey(&rt))
 }

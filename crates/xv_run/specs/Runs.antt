@@ -1,0 +1,50 @@
+-- What a run of the program comes to, by its exit status.
+use Rattle.std.specs.Prelude.{◌≡◌, ◌≢◌, ◌⊎◌, ◌≤◌, ℕ, zero, suc, ℤ, pos, negsuc, List, Option, None, Some, Result, Ok, Err}
+use Rattle.kcall_core.specs.First.{first}
+use Rattle.kcall_core.specs.State.{ProgramFile}
+use Rattle.xv_machine.specs.declared.driving.DriveEnd.{DriveEnd}
+use Rattle.xv_machine.specs.declared.driving.DriveEnd.TheVariants.{Halted, RoundsOver}
+use Rattle.xv_machine.specs.declared.driving.DriveError.{DriveError}
+use Rattle.xv_machine.specs.declared.driving.RunPlan.{RunPlan}
+use Rattle.xv_machine.specs.declared.machine.Config.{Config}
+use Rattle.xv_machine.specs.Devices.{HasFailed}
+use Rattle.xv_machine.specs.Drives.{Done}
+use Rattle.xv_machine.specs.Meaning.{Meaning}
+
+-- the exit status where init went with this status
+abbrev pub exit_status : ℤ → ℕ
+exit_status (pos zero) = 0
+exit_status (pos (suc status)) = 3
+exit_status (negsuc status) = 3
+
+-- the exit status where the drive ended so
+abbrev pub status_of : Result DriveEnd DriveError → ℕ
+status_of (Ok (Halted status)) = exit_status status
+status_of (Ok RoundsOver) = 4
+status_of (Err e) = 5
+
+-- the bytes that a source has left and a sink holds, where they are known, and how many of their calls have failed
+pub record Devices : Type 0 where
+  pub left : Option (List ℕ)
+  pub failed_reads : ℕ
+  pub held : Option (List ℕ)
+  pub failed_writes : ℕ
+
+-- the machine was driven by the plan to its end, and process 1 has gone with this status, or is live
+abbrev pub Drove : RunPlan → Meaning → (before after : Devices) → (halted : Option ℤ) → Type 0
+Drove plan booted before after halted =
+    (ended : Meaning) × Done plan before.left after.left booted ended before.held after.held × (ended.world.turns.halted ≡ halted)
+
+-- what the exit status says of a machine that has booted
+pub record Tells (status : ℕ) (plan : RunPlan) (booted : Meaning) (before after : Devices) : Type 0 where
+  pub exited : status ≡ 0 → Drove plan booted before after (Some (pos 0))
+  pub exited_otherwise : status ≡ 3 → (code : ℤ) × (code ≢ pos 0) × Drove plan booted before after (Some code)
+  pub rounds_over : status ≡ 4 → Drove plan booted before after None
+  pub device_failed : status ≡ 5 → HasFailed before.failed_reads after.failed_reads ⊎ HasFailed before.failed_writes after.failed_writes
+  pub no_other : (status ≡ 0) ⊎ (status ≡ 3) ⊎ (status ≡ 4) ⊎ (status ≡ 5)
+
+-- What the exit status says of these programs: 2 that no machine booted, and then nothing was read or written; any other one that a machine
+-- in their first world was driven, and what Tells says.
+pub record Says (status : ℕ) (config : Config) (plan : RunPlan) (programs : List ProgramFile) (before after : Devices) : Type 0 where
+  pub refused : status ≡ 2 → after ≡ before
+  pub driven : status ≢ 2 → (booted : Meaning) × (first config.frames config.trace programs ≡ Ok booted.world) × Tells status plan booted before after

@@ -1,0 +1,94 @@
+//! A run: from boot to the closing line.
+ghost use Rattle.std.specs.Prelude.{◌≡◌, map};
+ghost use Rattle.kcall_core.specs.State.{named_file};
+ghost use Rattle.xv_run.specs.Runs.{Devices, Says, Tells, exit_status, status_of};
+
+use crate::failure::Failure;
+use std::alloc::Global;
+use std::io::Write;
+use xk_base::Program;
+use xv_machine::{ByteSink, Config, DriveEnd, DriveError, KeySource, Machine, RunPlan, drive};
+
+// Writes the notes that the machine keeps, oldest first. Lines that can't be written are left out.
+fn show_trace<E: Write>(machine: &Machine, errors: &mut E) {
+    for place in 0..machine.trace_len() {
+        if let Some(note) = machine.trace(place) {
+            let _ = writeln!(errors, "{note}");
+        }
+    }
+}
+
+// The exit status of a run in which `init` went with this status; what isn't 0 is told.
+fn close_exit<E: Write>(status: i32, errors: &mut E) -> u8
+    ensures { result ≡ exit_status status }
+{
+    if status == 0 {
+        return 0;
+    }
+    let _ = writeln!(errors, "xv_run: init exited with {status}");
+    3
+}
+
+// Writes the closing line of a run that ended so, and gives the exit status.
+fn close<E: Write>(end: Result<DriveEnd, DriveError>, errors: &mut E) -> u8
+    ensures { result ≡ status_of end }
+{
+    match end {
+        Ok(DriveEnd::Halted(status)) => close_exit(status, errors),
+        Ok(DriveEnd::RoundsOver) => {
+            let _ = writeln!(errors, "xv_run: rounds over");
+            4
+        }
+        Err(DriveError::Read) => {
+            let _ = writeln!(errors, "xv_run: read fault");
+            5
+        }
+        Err(DriveError::Write) => {
+            let _ = writeln!(errors, "xv_run: write fault");
+            5
+        }
+    }
+}
+
+// Drives a machine that has booted by the plan, shows its trace and the closing line, and gives the exit
+// status.
+fn play<R: KeySource, W: ByteSink, E: Write>(
+    machine: &mut Machine,
+    plan: RunPlan,
+    keys: &mut R,
+    sink: &mut W,
+    errors: &mut E,
+) -> u8
+    ensures { Tells result plan machine.old
+        (record { left = R.left keys.old; failed_reads = R.failures keys.old; held = W.held sink.old; failed_writes = W.failures sink.old })
+        (record { left = R.left keys.new; failed_reads = R.failures keys.new; held = W.held sink.new; failed_writes = W.failures sink.new }) }
+{
+    let end = drive(machine, plan, keys, sink);
+    show_trace(machine, errors);
+    close(end, errors)
+}
+
+/// Boots a machine of these programs, and drives it by the plan: keys come from `keys`, and the console's
+/// bytes go to `sink`. At the end it writes the trace to `errors`, a line a note, and one closing line if
+/// `init` hasn't exited with 0. What `errors` doesn't take is left out.
+///
+/// It gives the status to exit with: 0 if `init` exited with 0, 2 if the machine didn't boot, 3 if `init`
+/// exited with another status, 4 if the rounds are over, 5 if `keys` or `sink` failed.
+pub fn run_with<R: KeySource, W: ByteSink, E: Write>(
+    alloc: Global,
+    config: Config,
+    plan: RunPlan,
+    programs: Vec<Program>,
+    keys: &mut R,
+    sink: &mut W,
+    errors: &mut E,
+) -> u8
+    ensures { Says result config plan (map named_file programs.items)
+        (record { left = R.left keys.old; failed_reads = R.failures keys.old; held = W.held sink.old; failed_writes = W.failures sink.old })
+        (record { left = R.left keys.new; failed_reads = R.failures keys.new; held = W.held sink.new; failed_writes = W.failures sink.new }) }
+{
+    match Machine::boot(alloc, config, programs) {
+        Ok(mut machine) => play(&mut machine, plan, keys, sink, errors),
+        Err(error) => Failure::from(error).close(errors),
+    }
+}
