@@ -1,7 +1,7 @@
 # Stores the bytes of a number in the opposite order, loads them again, and exits with the lowest: 0x12.
 # It shows loads and stores: RISC-V is little-endian, so the lowest byte of a number stands first.
   li a0, 0x12345678
-  li a1, 1024        # four bytes of memory behind the program
+  addi a1, sp, -16   # four bytes of memory below the stack pointer
   srli t0, a0, 24
   sb t0, 0(a1)
   srli t0, a0, 16
