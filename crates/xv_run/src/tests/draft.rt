@@ -6,10 +6,11 @@ use std::alloc::Global;
 use uasm_core::assemble;
 use xk_base::Program;
 
-/// A machine that hasn't booted: its frames, and its programs.
+/// A machine that hasn't booted: its frames, how many notes its trace keeps, and its programs.
 #[derive(Drop)]
 pub(super) struct Draft {
     pub(super) frames: u32,
+    pub(super) trace: u32,
     pub(super) programs: Vec<Program>,
 }
 
@@ -81,10 +82,11 @@ fn cut(alloc: Global, file: &[u8], length: usize) -> Option<Vec<u8>> {
 }
 
 impl Draft {
-    /// A machine of 16 frames and of no programs.
+    /// A machine of 16 frames, without a trace and without programs.
     pub(super) fn new(alloc: Global) -> Draft {
         Draft {
             frames: 16,
+            trace: 0,
             programs: Vec::new(alloc),
         }
     }
@@ -144,6 +146,7 @@ impl Draft {
         let (word, rest) = first_word(heading);
         match word {
             "frames" => self.frames = u32::try_from(number(rest)?).ok()?,
+            "trace" => self.trace = u32::try_from(number(rest)?).ok()?,
             "program" => {
                 let source = source_below(alloc, group, story, at)?;
                 self.assemble(alloc, rest, source.as_str())?;

@@ -1,6 +1,6 @@
 //! Machines that stories ask.
 use super::draft::Draft;
-use super::story::{first_word, number};
+use super::story::{byte, first_word, number};
 use std::alloc::Global;
 use xk_base::limits::PID_MAX;
 use xk_base::{BootError, Pid, Reg};
@@ -29,6 +29,22 @@ fn register(name: &str) -> Option<Reg> {
         return None;
     }
     Some(Reg::new(index))
+}
+
+// What came of a key, as an item.
+fn typed(alloc: Global, key: &str, outcome: &Outcome) -> Option<String> {
+    let Outcome::Typed(echo) = outcome else {
+        return format!(in alloc; "key {key} -> {outcome}").ok();
+    };
+    let mut told = format!(in alloc; "key {key} echoes").ok()?;
+    if echo.is_empty() {
+        told.push_str(" none").ok()?;
+    }
+    for byte in echo.as_slice() {
+        told.push_str(format!(in alloc; " {byte:02X}").ok()?.as_str())
+            .ok()?;
+    }
+    Some(told)
 }
 
 /// Which outcomes a story tells.
@@ -60,8 +76,12 @@ pub(super) struct Scene {
 impl Scene {
     /// The machine of a draft.
     pub(super) fn new(alloc: Global, draft: Draft) -> Result<Scene, BootError> {
-        let Draft { frames, programs } = draft;
-        let machine = Machine::boot(alloc, Config { frames, trace: 0 }, programs)?;
+        let Draft {
+            frames,
+            trace,
+            programs,
+        } = draft;
+        let machine = Machine::boot(alloc, Config { frames, trace }, programs)?;
         Ok(Scene { machine })
     }
 
@@ -102,6 +122,27 @@ impl Scene {
         format!(in alloc; "{outcome}").ok()
     }
 
+    // What comes of a key.
+    fn key(&mut self, alloc: Global, rest: &str) -> Option<String> {
+        let (key, _) = first_word(rest);
+        let outcome = self.machine.event(Event::Key(byte(key)?));
+        typed(alloc, key, &outcome)
+    }
+
+    // What comes of a Send.
+    fn send(&mut self, alloc: Global) -> Option<String> {
+        let outcome = self.machine.event(Event::Send);
+        format!(in alloc; "{outcome}").ok()
+    }
+
+    fn note(&self, alloc: Global, rest: &str) -> Option<String> {
+        let (place, _) = first_word(rest);
+        match self.machine.trace(usize::try_from(number(place)?).ok()?) {
+            Some(note) => format!(in alloc; "note {place} {note}").ok(),
+            None => format!(in alloc; "note {place} none").ok(),
+        }
+    }
+
     fn free(&self, alloc: Global) -> Option<String> {
         let free = self.machine.free_frames();
         format!(in alloc; "free {free}").ok()
@@ -111,6 +152,16 @@ impl Scene {
         match self.machine.halted() {
             Some(status) => format!(in alloc; "status {status}").ok(),
             None => format!(in alloc; "status none").ok(),
+        }
+    }
+
+    fn current(&self, alloc: Global) -> Option<String> {
+        match self.machine.current() {
+            Some(pid) => {
+                let pid = pid.number();
+                format!(in alloc; "current {pid}").ok()
+            }
+            None => format!(in alloc; "current none").ok(),
         }
     }
 
@@ -139,8 +190,10 @@ impl Scene {
     fn register(&self, alloc: Global, rest: &str) -> Option<String> {
         let (pid, rest) = first_word(rest);
         let (name, wanted) = first_word(rest);
-        let value = self.value_of(pid, name)?;
-        if number(wanted)? == value {
+        let Some(value) = self.value_of(pid, name) else {
+            return format!(in alloc; "register {pid} {name} none").ok();
+        };
+        if number(wanted) == Some(value) {
             return format!(in alloc; "register {pid} {name} {wanted}").ok();
         }
         format!(in alloc; "register {pid} {name} {value}").ok()
@@ -184,8 +237,12 @@ impl Scene {
     pub(super) fn told(&mut self, alloc: Global, item: &str, pace: Pace) -> Option<String> {
         let (word, rest) = first_word(item);
         match word {
+            "key" => self.key(alloc, rest),
+            "sent" => self.send(alloc),
+            "note" => self.note(alloc, rest),
             "free" => self.free(alloc),
             "status" => self.status(alloc),
+            "current" => self.current(alloc),
             "child" => self.child(alloc, rest),
             "register" => self.register(alloc, rest),
             "bytes" => self.bytes(alloc, rest),

@@ -1,5 +1,7 @@
 //! The stories, group by group.
 mod boots;
+mod calls;
+mod console;
 mod exec;
 mod faults;
 mod files;
@@ -8,6 +10,7 @@ mod kills;
 mod memory;
 mod pipes;
 mod processes;
+mod traces;
 mod waits;
 
 use super::telling::tell_all;
@@ -15,6 +18,16 @@ use super::telling::tell_all;
 #[test]
 fn stories_of_boots(rt: HostRuntime) {
     tell_all(&rt, boots::STORIES);
+}
+
+#[test]
+fn stories_of_calls(rt: HostRuntime) {
+    tell_all(&rt, calls::STORIES);
+}
+
+#[test]
+fn stories_of_the_console(rt: HostRuntime) {
+    tell_all(&rt, console::STORIES);
 }
 
 #[test]
@@ -50,6 +63,11 @@ fn stories_of_pipes(rt: HostRuntime) {
 #[test]
 fn stories_of_processes(rt: HostRuntime) {
     tell_all(&rt, processes::STORIES);
+}
+
+#[test]
+fn stories_of_traces(rt: HostRuntime) {
+    tell_all(&rt, traces::STORIES);
 }
 
 #[test]

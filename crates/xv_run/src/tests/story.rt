@@ -6,6 +6,7 @@
 //! - `story NAME`: the story of this name begins. What stands before the first story belongs to all of them.
 //! - `define NAME`: lines of assembler, which `do NAME` in a program stands for.
 //! - `frames N`: the machine has so many frames; 16 where it isn't said.
+//! - `trace N`: the machine's trace keeps so many notes; none where it isn't said.
 //! - `program NAME`: a program of this name, in assembler. `; ` stands for the end of a line.
 //! - `file NAME TEXT`: a program of this name whose file is this text, or empty.
 //! - `patch OFFSET BYTES`: the file of the program before has these bytes from this offset on.
@@ -21,11 +22,16 @@
 //! - an outcome as a line of a trace: `turn 1`, `step 1`, `call 1 4 0`, `block 1 5`, `exit 1 0`, `fault 1 13`,
 //!   `idle`, `halted`. It is what comes of a Run.
 //! - `tick`: it is what comes of a Tick. `tick -> OUTCOME`: this comes of a Tick.
+//! - `key KEY echoes BYTES`: the console shows these bytes, or `none`, for the key of this byte. `key KEY ->
+//!   OUTCOME`: this comes of the key.
+//! - `sent BYTE`: the byte of this number is sent; `sent none`: no byte waits to be sent.
+//! - `note PLACE LINE`: the note at this place of the trace, from 0 on and the oldest first, is this line.
 //! - `free N`: so many frames are free.
 //! - `status N`: the machine has halted with this status; `status none`: it hasn't halted.
+//! - `current PID`: this process runs; `current none`: none does.
 //! - `child PID CHILD running`, `child PID CHILD STATUS`, `child PID CHILD none`: what the process can know
 //!   of this child.
-//! - `register PID NAME VALUE`: a register, or `pc`.
+//! - `register PID NAME VALUE`: a register, or `pc`; `none` where no such process lives.
 //! - `bytes PID ADDRESS BYTES`: the bytes from an address on; `none` where there is no page.
 //! - `zeros PID ADDRESS COUNT`: so many bytes from an address on are 0.
 //!
@@ -50,12 +56,27 @@ pub(super) fn byte(word: &str) -> Option<u8> {
     u8::from_str_radix(word, 16).ok()
 }
 
-/// The first word of a text, and what stands behind the space behind it.
-pub(super) fn first_word(text: &str) -> (&str, &str) {
-    match text.split_once(" ") {
+// What stands before the first place of a separator, and what behind it.
+fn parted<'a>(text: &'a str, separator: &str) -> (&'a str, &'a str) {
+    match text.split_once(separator) {
         Some(parts) => parts,
         None => (text, ""),
     }
+}
+
+/// The first word of a text, and what stands behind the space behind it.
+pub(super) fn first_word(text: &str) -> (&str, &str) {
+    parted(text, " ")
+}
+
+/// What stands before the first story of a group, and all stories from its name on.
+pub(super) fn group_of(stories: &str) -> (&str, &str) {
+    parted(stories, "\nstory ")
+}
+
+/// The name of a story, which is its first line.
+pub(super) fn name_of(story: &str) -> &str {
+    parted(story, "\n").0
 }
 
 /// A text that is told once for each number from the first to the last.
@@ -122,28 +143,12 @@ pub(super) fn with_number(alloc: Global, text: &str, n: u64) -> Option<String> {
 
 /// Whether a line is a heading.
 pub(super) fn is_heading(line: &str) -> bool {
-    !line.is_empty() && !line.starts_with(" ") && !line.starts_with("#")
+    !matches!(line.as_bytes().first(), None | Some(b' ' | b'#'))
 }
 
 /// Whether a line says nothing.
 pub(super) fn is_silent(line: &str) -> bool {
-    line.trim().is_empty() || line.trim().starts_with("#")
-}
-
-/// What stands before the first story of a group, and all stories from its name on.
-pub(super) fn group_of(stories: &str) -> (&str, &str) {
-    match stories.split_once("\nstory ") {
-        Some(parts) => parts,
-        None => (stories, ""),
-    }
-}
-
-/// The name of a story, which is its first line.
-pub(super) fn name_of(story: &str) -> &str {
-    match story.split_once("\n") {
-        Some((name, _)) => name,
-        None => story,
-    }
+    matches!(line.trim().as_bytes().first(), None | Some(b'#'))
 }
 
 /// The first heading of a story that begins with this word, behind the word.

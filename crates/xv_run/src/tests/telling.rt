@@ -23,7 +23,12 @@ fn meet<R: Abort + AllocGlobal>(
 ) {
     let Place { story, line } = place;
     match scene.told(rt.alloc(), item, pace) {
-        Some(told) => assert_eq!(rt; told.as_str(), item, "{story}, line {line}"),
+        Some(told) => {
+            assert!(rt;
+                told.as_str() == item,
+                "{story}, line {line}: wanted {item}, came {told}"
+            );
+        }
         None => assert!(rt; false, "{story}, line {line}: {item} can't be asked"),
     }
 }

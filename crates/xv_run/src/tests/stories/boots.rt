@@ -104,10 +104,42 @@ events
     bytes 1 0x1FF0 69 6E 69 74 00, bytes 1 0x1FFF 00 none
     turn 1, fault 1 12, halted, free 16
 
-story an odd entry is rounded down
+story an entry of 3 is rounded down to 0
 program init
     do exit
 patch 24 03
 events
     register 1 pc 0
+
+story an entry of 6 is rounded down to 4
+program init
+    do exit
+patch 24 06
+events
+    register 1 pc 4
+
+story the highest entry is rounded down
+program init
+    do exit
+patch 24 FF FF FF FF FF FF FF FF
+events
+    register 1 pc -4
+
+story init finds its name on the stack
+# The text stands at the highest multiple of 16, and two pointers below it: to the text, and 0. All other
+# registers are 0.
+program init
+    do exit
+events
+    bytes 1 0x2FF0 69 6E 69 74 00
+    bytes 1 0x2FE0 F0 2F 00 00 00 00 00 00 00 00 00 00 00 00 00 00
+    register 1 pc 0, register 1 sp 0x2FE0
+    register 1 a0 1, register 1 a1 0x2FE0
+    register 1 zero 0, register 1 ra 0, register 1 a7 0
+
+story process 1 is nobody's child
+program init
+    do exit
+events
+    child 1 1 none, child 1 2 none, child 2 1 none
 "##;

@@ -23,14 +23,17 @@ define texts
 define nop and ebreak
     nop; j end; end: ebreak
 
-story init finds its name on the stack
+story exec goes on with another program
+# The path `two` stands behind the ECALL, and the texts are those of `init`. `two` exits with their number.
+frames 17
 program init
-    do exit
+    li a7, 7; li a0, 12; ecall; nop
+patch 132 74 77 6F 00
+program two
+    li a7, 2; ecall
 events
-    bytes 1 0x2FF0 69 6E 69 74 00
-    bytes 1 0x2FE0 F0 2F 00 00 00 00 00 00 00 00 00 00 00 00 00 00
-    register 1 pc 0, register 1 sp 0x2FE0
-    register 1 a0 1, register 1 a1 0x2FE0
+    turn 1, step 1, step 1, call 1 7 1, free 10, bytes 1 12 00
+    step 1, exit 1 1, halted, free 17
 
 story exec asks for the new price beside the old image
 # The segment of `b` has 16384 bytes in memory, and its first word is no instruction.

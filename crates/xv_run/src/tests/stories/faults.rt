@@ -19,6 +19,24 @@ program init
 events
     turn 1, step 1, fault 1 15, status -1, halted
 
+story a store where there is no page faults
+program init
+    lui a0, 3; sb x0, 0(a0)
+events
+    turn 1, step 1, fault 1 15, status -1, halted
+
+story a load from the guard page faults
+program init
+    lui a0, 1; lb a0, 0(a0)
+events
+    turn 1, step 1, fault 1 13, status -1, halted
+
+story a load where there is no page faults
+program init
+    lui a0, 3; lb a0, 0(a0)
+events
+    turn 1, step 1, fault 1 13, status -1, halted
+
 story a jump between two instructions faults
 program init
     jalr x0, 2(x0)

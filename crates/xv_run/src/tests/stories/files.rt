@@ -58,12 +58,13 @@ calls
     bytes 1 0x2FC0 6C 6C 6F 00
     call 1 5 0, call 1 15 2, call 1 15 -1, call 1 16 -1, exit 1 0
 
-story opens that are refused
-# With mode 1; of a path in the guard page; of `console`, behind two slashes; and `b` behind one.
+story paths that are opened
+# `b` with mode 1 is refused, and so is a path in the guard page. `console` is found behind two slashes, and
+# `b` behind one.
 program init
     do name b
     addi a0, sp, -16; li a1, 1; li a7, 15; ecall
-    lui a0, 1; li a1, 0; ecall
+    lui a0, 2; li a1, 0; ecall
     la a0, console; ecall
     la a0, file; ecall
     do exit
@@ -72,7 +73,7 @@ program init
     file: .asciz "/b"
 file b hello
 calls
-    turn 1, call 1 15 -1, call 1 15 -1, call 1 15 -1, call 1 15 0, exit 1 0
+    turn 1, call 1 15 -1, call 1 15 -1, call 1 15 0, call 1 15 1, exit 1 0
 
 story descriptors run out
 # 15 opens; a pipe needs two descriptors; then the 16th open, and one too many.

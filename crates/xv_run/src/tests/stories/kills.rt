@@ -18,7 +18,7 @@ events
     2 times: step 2, call 2 6 -1, free 18
     step 2, call 2 6 0, step 2, tick, free 18
     turn 1, exit 1 -1, halted, free 25
-    tick -> halted, halted
+    tick -> halted, key 61 -> halted, halted
     status -1, child 1 2 none
 
 story a process kills itself
