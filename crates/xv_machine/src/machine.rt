@@ -1,6 +1,7 @@
 //! The machine.
 ghost use Rattle.std.specs.Prelude.{◌≡◌, ◌∷◌, ◌++◌, [], is_some, map};
 ghost use Rattle.circular_buffer.specs.Buffer.{buffer, keep_last};
+ghost use Rattle.xv_machine.specs.declared.trace.Note.TheVariants.{Stepped};
 ghost use Rattle.kcall_core.specs.State.{named_file};
 ghost use Rattle.kcall_core.specs.Programs.{first_bad, init_of};
 ghost use Rattle.xv_machine.specs.Boots.{without_init};
@@ -71,11 +72,20 @@ fn halted_by(outcome: &Outcome) -> Option<i32>
 }
 
 // Puts a note behind the others. Where there is no room, the oldest goes.
+#[cold]
 #[inline(never)]
 fn push(trace: &mut HeapCircularBuffer<Note>, note: Note)
     ensures { trace.new ≡ buffer (keep_last trace.old.capacity (trace.old.items ++ note ∷ [])) trace.old.capacity }
 {
     trace.push_back(note);
+}
+
+// Puts the note of a done instruction behind the others. Where there is no room, the oldest goes.
+#[inline(never)]
+fn push_step(trace: &mut HeapCircularBuffer<Note>, pid: Pid)
+    ensures { trace.new ≡ buffer (keep_last trace.old.capacity (trace.old.items ++ Stepped pid ∷ [])) trace.old.capacity }
+{
+    trace.push_back(Note::Stepped { pid });
 }
 
 /// A machine: a kernel, the hart that runs its processes, and a trace of what they did.
@@ -120,6 +130,7 @@ impl Machine {
     ghost use Rattle.xv_machine.specs.Boots.{Boots, HasEmptyTrace};
     ghost use Rattle.xv_machine.specs.Events.{event_of, outcome_of};
     ghost use Rattle.xv_machine.specs.Machine.{SameTrace};
+    ghost use Rattle.xv_machine.specs.declared.trace.Note.TheVariants.{Stepped};
     ghost use Rattle.xv_machine.specs.Notes.{note};
     ghost use Rattle.xv_machine.specs.Sound.{IsSoundMachine};
 
@@ -202,7 +213,7 @@ impl Machine {
     {
         let outcome = self.take(event);
         if let Outcome::Stepped { pid } = outcome {
-            self.keep(Note::Stepped { pid });
+            self.keep_step(pid);
             return Outcome::Stepped { pid };
         }
         self.keep(Note::of(event, &outcome));
@@ -222,6 +233,18 @@ impl Machine {
             Event::Key(byte) => self.key(byte),
             Event::Send => self.send(),
         }
+    }
+
+    // The trace keeps a note of a done instruction, where it has room for any.
+    #[inline(always)]
+    fn keep_step(&mut self, pid: Pid)
+        ensures kept { self.new ≡ record self.old { notes = keep_last self.old.room (self.old.notes ++ Stepped pid ∷ []) } }
+        ensures sound { IsSoundMachine self.new }
+    {
+        if self.trace.capacity() == 0 {
+            return;
+        }
+        push_step(&mut self.trace, pid);
     }
 
     // The trace keeps the note, where it has room for any.

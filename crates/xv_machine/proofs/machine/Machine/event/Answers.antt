@@ -7,9 +7,9 @@ use Rattle.xv_machine.proofs.machine.Machine.event.Goals as goal
 
 pub returns-in-Stepped-clause-promised : goal.returns-in-Stepped-clause-promised
 returns-in-Stepped-clause-promised c =
-    subst (λ (m : Meaning). Promised c.args.self.now.world (event_of c.args.event) (outcome_of (Outcome.Stepped c.in-Stepped.pid)) m.world) (sym c.keep.ensures.kept)
+    subst (λ (m : Meaning). Promised c.args.self.now.world (event_of c.args.event) (outcome_of (Outcome.Stepped c.in-Stepped.pid)) m.world) (sym c.keep_step.ensures.kept)
     (subst (λ (o : Outcome). Promised c.args.self.now.world (event_of c.args.event) (outcome_of o) c.take-outcome.new.self.world) c.in-Stepped.is c.take-outcome.ensures.promised)
 
 pub returns-clause-promised : goal.returns-clause-promised
 returns-clause-promised c =
-    subst (λ (m : Meaning). Promised c.args.self.now.world (event_of c.args.event) (outcome_of c.take-outcome.result) m.world) (sym c.keep-2.ensures.kept) c.take-outcome.ensures.promised
+    subst (λ (m : Meaning). Promised c.args.self.now.world (event_of c.args.event) (outcome_of c.take-outcome.result) m.world) (sym c.keep.ensures.kept) c.take-outcome.ensures.promised
