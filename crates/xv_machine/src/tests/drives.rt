@@ -116,7 +116,7 @@ fn a_failed_read_ends_a_drive_before_its_round(rt: HostRuntime) -> Result<(), Fa
         scene.drive(plan(5), &mut keys, &mut sink),
         Err(DriveError::Read)
     );
-    assert_eq!(rt; scene.notes_of(Note::Ticked), 2);
+    assert_eq!(rt; scene.notes_of(&Note::Ticked), 2);
     let mut scene = scene_of(rt.alloc(), &HI)?;
     let mut keys = Endless::failing_at(0);
     assert_eq!(rt;

@@ -1,12 +1,12 @@
 //! Files of small programs, and the machines that tests ask.
 use crate::{
-    ByteSink, ChildState, Config, DriveEnd, DriveError, Event, KeySource, Machine, Note, Outcome,
-    RunPlan, drive,
+    ByteSink, Config, DriveEnd, DriveError, Event, KeySource, Machine, Note, Outcome, RunPlan,
+    drive,
 };
 use std::alloc::{AllocError, Global};
 use std::process::Abort;
 use std::test::Fail;
-use xk_base::{BootError, Pid, Program, Reg};
+use xk_base::{BootError, Pid, Program};
 
 pub(super) const SMALL: Config = Config {
     frames: 16,
@@ -76,18 +76,6 @@ pub(super) fn plain(alloc: Global, words: &[u32]) -> Result<Vec<u8>, AllocError>
         words,
     };
     file_of(alloc, &image)
-}
-
-/// A file of two segments: text at 0, and four bytes at 8192, which may be written. The page between
-/// them belongs to the second.
-pub(super) fn two_segments(alloc: Global, words: &[u32]) -> Result<Vec<u8>, AllocError> {
-    let size = words.len() as u64 * 4;
-    let mut file = file_header(alloc, 2, 0)?;
-    push_segment(&mut file, 5, [176, 0, 0, size, size, 1])?;
-    push_segment(&mut file, 6, [176 + size, 8192, 8192, 4, 5000, 1])?;
-    push_words(&mut file, words)?;
-    file.extend_from_slice(b"data")?;
-    Ok(file)
 }
 
 pub(super) fn program(alloc: Global, name: &[u8], bytes: Vec<u8>) -> Result<Program, AllocError> {
@@ -170,10 +158,12 @@ impl Scene {
     }
 
     /// How many of the notes that are kept are this one.
-    pub(super) fn notes_of(&self, wanted: Note) -> usize {
+    pub(super) fn notes_of(&self, wanted: &Note) -> usize {
         let mut count: usize = 0;
         for place in 0..self.machine.trace_len() {
-            if self.machine.trace(place) == Some(wanted) {
+            if let Some(note) = self.machine.trace(place)
+                && note == *wanted
+            {
                 count = count.wrapping_add(1);
             }
         }
@@ -217,13 +207,6 @@ impl Scene {
         self.machine.event(Event::Send)
     }
 
-    /// Sends Run once for each outcome that is wanted.
-    pub(super) fn run(&mut self, rt: &impl Abort, wanted: &[Outcome]) {
-        for (i, outcome) in wanted.iter().enumerate() {
-            assert_eq!(rt; self.event(), *outcome, "event {i}");
-        }
-    }
-
     /// Sends Run so many times and once more, and tells what came last.
     pub(super) fn last(&mut self, others: usize) -> Outcome {
         for _ in 0..others {
@@ -253,60 +236,5 @@ impl Scene {
             };
             assert_eq!(rt; found, Some(*call));
         }
-    }
-
-    pub(super) fn free_frames(&self) -> u32 {
-        self.machine.free_frames()
-    }
-
-    pub(super) fn current(&self) -> Option<Pid> {
-        self.machine.current()
-    }
-
-    pub(super) fn halted(&self) -> Option<i32> {
-        self.machine.halted()
-    }
-
-    pub(super) fn child_state(&self, pid: Pid, child: Pid) -> Option<ChildState> {
-        self.machine.child_state(pid, child)
-    }
-
-    pub(super) fn has_registers(&self, pid: Pid) -> bool {
-        self.machine.registers(pid).is_some()
-    }
-
-    pub(super) fn peek(&self, pid: Pid, address: u64) -> Option<u8> {
-        self.machine.peek(pid, address)
-    }
-
-    /// Compares bytes of process 1.
-    pub(super) fn peek_all(&self, rt: &impl Abort, wanted: &[(u64, Option<u8>)]) {
-        for (address, byte) in wanted {
-            assert_eq!(rt; self.peek(first(), *address), *byte, "at {address}");
-        }
-    }
-
-    /// Compares the bytes of process 1 from an address on.
-    pub(super) fn peek_from(&self, rt: &impl Abort, address: u64, wanted: &[u8]) {
-        for (i, byte) in wanted.iter().enumerate() {
-            let at = address.wrapping_add(i as u64);
-            assert_eq!(rt; self.peek(first(), at), Some(*byte), "at {at}");
-        }
-    }
-
-    /// The pc of process 1.
-    pub(super) fn pc(&self) -> Option<u64> {
-        Some(self.machine.registers(first())?.pc())
-    }
-
-    /// Compares registers of process 1.
-    pub(super) fn registers(&self, rt: &impl Abort, wanted: &[(Reg, u64)]) -> Result<(), Fail> {
-        let Some(regs) = self.machine.registers(first()) else {
-            return Err(Fail::from("process 1 is live"));
-        };
-        for (number, value) in wanted {
-            assert_eq!(rt; regs.read(*number), *value, "{number:?}");
-        }
-        Ok(())
     }
 }
