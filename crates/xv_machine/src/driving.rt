@@ -91,7 +91,7 @@ fn type_key<W: ByteSink>(
     }
 }
 
-// Sends Run so many times, and a tick. Neither shows a byte.
+// Sends Run so many times, which shows no byte.
 fn run_quantum(machine: &mut Machine, quantum: u32)
     requires { IsSoundMachine machine.old }
     ensures { Silent (replicate quantum runs.Run) machine.old machine.new }

@@ -199,7 +199,7 @@ impl Machine {
         }
     }
 
-    /// What comes of an event. The trace keeps a note of it, where it has room.
+    /// What comes of an event. The trace keeps a note of it, where it has room for any.
     // An outcome has room for an echo. No call that may come here answers one from a function of its own: such
     // an answer's room, 400 bytes, would be cleared before each event. And a done instruction's outcome is
     // written anew, so that it isn't copied.

@@ -43,8 +43,8 @@ pub record Tells (status : ℕ) (plan : RunPlan) (booted : Meaning) (before afte
   pub device_failed : status ≡ 5 → HasFailed before.failed_reads after.failed_reads ⊎ HasFailed before.failed_writes after.failed_writes
   pub no_other : (status ≡ 0) ⊎ (status ≡ 3) ⊎ (status ≡ 4) ⊎ (status ≡ 5)
 
--- What the exit status says of these programs: 2 that no machine booted, and then nothing was read or written; any other one that a machine
--- in their first world was driven, and what Tells says.
+-- What the exit status says of these programs: 2 that nothing was read or written (that a boot succeeds where there is memory is tested); any
+-- other one that a machine in their first world was driven, and what Tells says.
 pub record Says (status : ℕ) (config : Config) (plan : RunPlan) (programs : List ProgramFile) (before after : Devices) : Type 0 where
   pub refused : status ≡ 2 → after ≡ before
   pub driven : status ≢ 2 → (booted : Meaning) × (first config.frames config.trace programs ≡ Ok booted.world) × Tells status plan booted before after
