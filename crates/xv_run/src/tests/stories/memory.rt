@@ -93,4 +93,26 @@ calls
     call 1 12 12288, free 14
 events
     fault 1 12
+
+story a page that went is not there for a load either
+program init
+    li a7, 12; lui a0, 1; ecall; lui s0, 3; lb a1, 0(s0)
+    lui a0, 0xFFFFF; ecall; lb a1, 0(s0)
+events
+    turn 1, step 1, step 1, call 1 12 12288, free 8
+    step 1, step 1, register 1 a1 0
+    step 1, call 1 12 16384, free 9
+    fault 1 13
+
+story two pages that are 64 apart are told apart
+# The hart has one place for what it keeps of them.
+frames 512
+program init
+    li a7, 12; li a0, 266240; ecall
+    lui s0, 3; lui s1, 67; li t0, 1; li t1, 2; sb t0, 0(s0); sb t1, 0(s1)
+    5 times: lb a1, 0(s0); lb a1, 0(s1)
+events
+    free 505, turn 1, step 1, step 1, call 1 12 12288, free 440
+    6 times: step 1
+    5 times: step 1, register 1 a1 1, step 1, register 1 a1 2
 "##;
