@@ -286,13 +286,14 @@ all-done plan count at_end left now old new held held_now within g why =
     }
 
 pub read-stops : (plan : RunPlan) (count : ℕ) (at_end : Bool) (left now : Option (List ℕ)) (old new : Meaning) (held held_now : Option (List ℕ)) → count < plan.rounds → Going plan.quantum count at_end left now old new held held_now
-    → new.world.turns.halted ≡ None → StoppedByRead plan left old new held held_now
-read-stops plan count at_end left now old new held held_now within g on = record {
+    → new.world.turns.halted ≡ None → at_end ≡ false → StoppedByRead plan left old new held held_now
+read-stops plan count at_end left now old new held held_now within g on reads = record {
   list = g.list;
   goes = g.goes;
   keys = keys_in (events g.list) ++ g.rest;
   known = leaves-known left now (keys_in (events g.list)) g.rest g.leaves;
   rounds = (count, within, g.rounds, goes-on old g.list new g.goes on);
+  each_had_a_key = subst (λ b. Pace b (keys_in (events g.list)) g.rest count) reads g.pace;
   written = g.written;
 }
 

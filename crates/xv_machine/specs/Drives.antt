@@ -1,5 +1,5 @@
 -- What a machine that is driven in rounds goes through.
-use Rattle.std.specs.Prelude.{◌≡◌, ◌≢◌, ℕ, Bool, List, [], ◌∷◌, ◌++◌, flat_map, Option, None, Some, IfSome, is_some, ⊤}
+use Rattle.std.specs.Prelude.{◌≡◌, ◌≢◌, ℕ, Bool, List, [], ◌∷◌, ◌++◌, flat_map, length, Option, None, Some, IfSome, is_some, ⊤}
 use Rattle.std.specs.Io.KnownBytes.{Appends, Consumes}
 use Rattle.circular_buffer.specs.Buffer.{keep_last}
 use Rattle.kcall_core.specs.Run as runs
@@ -54,6 +54,8 @@ pub record StoppedByRead (plan : RunPlan) (left : Option (List ℕ)) (old new : 
   pub keys : List ℕ
   pub known : IfSome left (λ bytes. keys ≡ bytes)
   pub rounds : StopsBeforeRound plan.rounds plan.quantum keys (is_halted old) list
+  -- each of these rounds had a key: behind the end of the source nothing is read
+  pub each_had_a_key : length (keys_in (events list)) ≡ rounds.0
   pub written : Appends held held_after (out list)
 
 -- A drive that a failed write ended: the plan up to an event that shows bytes

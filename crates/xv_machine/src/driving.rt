@@ -1,5 +1,5 @@
 //! A machine, driven in rounds between a source of keys and a sink of bytes.
-ghost use Rattle.std.specs.Prelude.{◌≡◌, ◌≢◌, ◌∷◌, [], OnOk, OnErr, IfOk, IfErr, replicate};
+ghost use Rattle.std.specs.Prelude.{◌≡◌, ◌≢◌, ◌∷◌, [], false, OnOk, OnErr, IfOk, IfErr, replicate};
 ghost use Rattle.std.specs.Option.{option_to_list};
 ghost use Rattle.std.specs.Io.KnownBytes.{Appends};
 ghost use Rattle.kcall_core.specs.Run as runs;
@@ -135,6 +135,7 @@ fn round<W: ByteSink>(
 // The next key; none where the source was at its end before.
 fn take_key<R: KeySource>(at_end: bool, keys: &mut R) -> Result<Option<u8>, DeviceFault>
     ensures key { IfOk result (λ key. TakesKey at_end (R.left keys.old) key (R.left keys.new)) }
+    ensures reads { OnErr result (at_end ≡ false) }
     ensures ok { OnOk result (R.failures keys.new ≡ R.failures keys.old) }
     ensures err { OnErr result (R.failures keys.new ≡ one_more (R.failures keys.old)) }
 {

@@ -14,7 +14,7 @@ returns-in-Some-clause-done g c =
 pub returns-in_default-take_key-clause-read : goal.returns-in_default-take_key-clause-read
 returns-in_default-take_key-clause-read g c =
     read-stops c.args.plan c.loop-count.count c.loop-count.at_end _ (g.R.KeySource.left c.loop-count.keys) _ c.loop-count.machine _ _ (omega arith) c.loop-count.invariant.going
-    (sym c.loop-count.invariant.halted ∙ c.in_default.is)
+    (sym c.loop-count.invariant.halted ∙ c.in_default.is) c.in_default-take_key.ensures.reads
 
 pub returns-in_default-round-clause-write : goal.returns-in_default-round-clause-write
 returns-in_default-round-clause-write g c =
