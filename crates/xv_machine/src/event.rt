@@ -63,8 +63,8 @@ impl Outcome {
     }
 }
 
-/// The outcome as a line of a trace, without its end: a word, then plain decimal numbers. Of a key it tells
-/// how many bytes the console shows for it, and of a send the byte, or `none`.
+/// The outcome as a line, without its end: a word, then plain decimal numbers. It is that of a trace, but of
+/// a key: an outcome doesn't know the key, and tells as `typed` how many bytes the console shows for it.
 impl fmt::Display for Outcome {
     fn fmt<W: fmt::Write>(&self, f: &mut fmt::Formatter<W>) -> fmt::Result {
         match *self {
