@@ -3,6 +3,7 @@ ghost use Rattle.std.specs.Prelude.{◌≡◌, ◌≢◌, ◌∷◌, [], false, 
 ghost use Rattle.std.specs.Option.{option_to_list};
 ghost use Rattle.std.specs.Io.KnownBytes.{Appends};
 ghost use Rattle.kcall_core.specs.Run as runs;
+ghost use Rattle.kcall_core.specs.Run.{bytes_out};
 ghost use Rattle.kcall_core.specs.Rounds.{key_events, round};
 ghost use Rattle.xk_base.specs.declared.limits.TheConstants.{SEND_BYTES};
 ghost use Rattle.xv_machine.specs.Devices.{one_more, HasFailed};
@@ -14,6 +15,7 @@ ghost use Rattle.xv_machine.specs.Stretches.{Plays, Silent, TakesKey};
 use crate::devices::{ByteSink, DeviceFault, KeySource};
 use crate::event::Event;
 use crate::machine::Machine;
+use std::slice;
 use thiserror::Error;
 use xk_base::limits::SEND_BYTES;
 
@@ -101,6 +103,26 @@ fn run_quantum(machine: &mut Machine, quantum: u32)
     }
 }
 
+// The byte that was sent, if there was one.
+fn sent_bytes(byte: &Option<u8>) -> &[u8]
+    ensures { result.now ≡ bytes_out (runs.Sent byte.now) }
+{
+    match byte {
+        Some(byte) => slice::from_ref(byte),
+        None => &[],
+    }
+}
+
+// Lets the terminal take a byte, and writes it. No outcome is made, which would have room for an echo.
+fn send_one<W: ByteSink>(machine: &mut Machine, sink: &mut W) -> Result<(), DeviceFault>
+    ensures plays { Plays result (runs.Send ∷ []) machine.old machine.new (W.held sink.old) (W.held sink.new) }
+    ensures ok { OnOk result (W.failures sink.new ≡ W.failures sink.old) }
+    ensures err { OnErr result (W.failures sink.new ≡ one_more (W.failures sink.old)) }
+{
+    let byte = machine.send();
+    write_some(sink, sent_bytes(&byte))
+}
+
 // Lets the terminal take as many bytes as may wait for it.
 fn send_all<W: ByteSink>(machine: &mut Machine, sink: &mut W) -> Result<(), DeviceFault>
     requires { IsSoundMachine machine.old }
@@ -109,7 +131,7 @@ fn send_all<W: ByteSink>(machine: &mut Machine, sink: &mut W) -> Result<(), Devi
     ensures err { OnErr result (W.failures sink.new ≡ one_more (W.failures sink.old)) }
 {
     for sent in 0..SEND_BYTES {
-        perform(machine, Event::Send, sink)?;
+        send_one(machine, sink)?;
     }
     Ok(())
 }

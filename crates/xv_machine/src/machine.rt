@@ -231,7 +231,7 @@ impl Machine {
             Event::Run => self.run(),
             Event::Tick => self.tick(),
             Event::Key(byte) => self.key(byte),
-            Event::Send => self.send(),
+            Event::Send => Outcome::Sent(self.take_byte()),
         }
     }
 
@@ -326,13 +326,25 @@ impl Machine {
 
     // The first byte that waits to be sent leaves, also where process 1 is gone.
     #[inline(always)]
-    fn send(&mut self) -> Outcome
-        ensures promised { Promised self.old.world runs.Send (outcome_of result) self.new.world }
+    fn take_byte(&mut self) -> Option<u8>
+        ensures promised { Promised self.old.world runs.Send (runs.Sent result) self.new.world }
         ensures frames { self.new.frames.count ≡ self.old.frames.count }
         ensures trace { SameTrace self.old self.new }
     {
-        let byte = self.kernel.send();
-        Outcome::Sent(byte)
+        self.kernel.send()
+    }
+
+    // What comes of the event Send: the byte that leaves, without an outcome around it.
+    pub(crate) fn send(&mut self) -> Option<u8>
+        ensures promised { Promised self.old.world runs.Send (runs.Sent result) self.new.world }
+        ensures sound { IsSoundMachine self.new }
+        ensures frames { self.new.frames.count ≡ self.old.frames.count }
+        ensures notes { self.new.notes ≡ keep_last self.old.room (self.old.notes ++ note runs.Send (runs.Sent result) ∷ []) }
+        ensures room { self.new.room ≡ self.old.room }
+    {
+        let byte = self.take_byte();
+        self.keep(Note::Sent(byte));
+        byte
     }
 
     /// The registers of a live process; `None` for any other pid.

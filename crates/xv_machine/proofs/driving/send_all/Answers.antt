@@ -8,13 +8,13 @@ use Rattle.xv_machine.proofs.driving.send_all.Goals as goal
 pub loop-sent-init : goal.loop-sent-init
 loop-sent-init g c = record { played = none-played _ _ c.requires; count = search rules }
 
-pub returns-in_err-perform-clause-plays : goal.returns-in_err-perform-clause-plays
-returns-in_err-perform-clause-plays g c =
+pub returns-in_err-send_one-clause-plays : goal.returns-in_err-send_one-clause-plays
+returns-in_err-send_one-clause-plays g c =
     let p = err_from_is_err_and c.from_residual.result c.from_residual.ensures.1 in
-    rw p.1 (broke-within runs.Send c.loop-sent.sent SEND_BYTES _ _ _ _ _ (omega arith) c.loop-sent.invariant.played c.in_err-perform.ensures.plays)
+    rw p.1 (broke-within runs.Send c.loop-sent.sent SEND_BYTES _ _ _ _ _ (omega arith) c.loop-sent.invariant.played c.in_err-send_one.ensures.plays)
 
 pub loop-sent-preserved : goal.loop-sent-preserved
 loop-sent-preserved g c = record {
-  played = played-more _ _ _ _ _ _ _ _ c.loop-sent.invariant.played c.in_ok-perform.ensures.plays;
+  played = played-more _ _ _ _ _ _ _ _ c.loop-sent.invariant.played c.in_ok-send_one.ensures.plays;
   count = search rules;
 }

@@ -1,23 +1,9 @@
-use Rattle.std.proofs.Common.{ap, ◌∙◌}
-use Rattle.kcall_core.specs.State.{State}
-use Rattle.xv_machine.proofs.Frames.{sound-of}
-use Rattle.xv_machine.proofs.Runs.{now-frames, now-sent, count-is, sent-ends}
+use Rattle.std.proofs.Common.{subst, sym}
+use Rattle.kcall_core.specs.Run as runs
+use Rattle.kcall_core.specs.Wakes.{Promised}
+use Rattle.xv_machine.specs.Meaning.{Meaning}
 use Rattle.xv_machine.proofs.machine.Machine.send.Goals as goal
-
-pub invariant_of-self : goal.invariant_of-self
-invariant_of-self c =
-    let i = c.self.inside in
-    let happens = c.send-byte.ensures.happens i.hart i.halted c.self.invariant.whole in
-    record {
-      whole = c.send-byte.ensures.whole i.hart c.self.invariant.whole;
-      halted = sent-ends i.kernel c.send-byte.new.self i.hart i.halted (ap (λ (s : State). s.processes) happens.1) happens.2 c.self.invariant.halted;
-      kept = c.self.invariant.kept;
-    }
 
 pub returns-clause-promised : goal.returns-clause-promised
 returns-clause-promised c =
-    let i = c.self.inside in
-    now-sent i.kernel i.hart i.halted i.trace c.args.self.now c.self.view_is c.send-byte.new.self c.send-byte.result (c.send-byte.ensures.happens i.hart i.halted c.self.invariant.whole) (c.send-byte.ensures.wakes i.hart i.halted c.self.invariant.whole)
-
-pub returns-clause-frames : goal.returns-clause-frames
-returns-clause-frames c = count-is c.send-byte.new.self ∙ c.send-byte.ensures.frames ∙ now-frames c.self.inside.kernel c.self.inside.hart c.self.inside.halted c.self.inside.trace c.args.self.now c.self.view_is
+    subst (λ (m : Meaning). Promised c.args.self.now.world runs.Send (runs.Sent c.take_byte-byte.result) m.world) (sym c.keep.ensures.kept) c.take_byte-byte.ensures.promised
