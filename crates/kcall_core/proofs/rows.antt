@@ -18,6 +18,8 @@ pub mod CleanPages
 pub mod NewBytes
 pub mod KeptBytes
 pub mod OwnBytes
+pub mod SetBytes
+pub mod WholePages
 pub mod MayStore
 pub mod Again
 pub mod Asleep

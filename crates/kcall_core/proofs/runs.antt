@@ -3,4 +3,5 @@ pub mod Boot
 pub mod Cuts
 pub mod Plans
 pub mod Promises
+pub mod Sources
 pub mod Two

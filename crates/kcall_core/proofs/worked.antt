@@ -13,3 +13,4 @@ pub mod RowsOfRoom
 pub mod RowsOfRounds
 pub mod RowsOfRuns
 pub mod RowsOfStores
+pub mod RowsOfSources

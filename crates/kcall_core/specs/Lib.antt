@@ -26,6 +26,7 @@ pub mod Rounds
 pub mod First
 pub mod Wakes
 pub mod Worlds
+pub mod Sources
 pub mod RowLaws
 pub mod StepLaws
 pub mod Conditions

@@ -1,5 +1,5 @@
 -- Isolation, as laws over runs.
-use Rattle.std.specs.Prelude.{◌≡◌, ℕ, ℤ, pos, Bool, List, [], ◌∷◌, ◌++◌, true, false, replicate, map, filter, nat_eq, Option, None, Some, IsSome, Ok, option_map, ◌⊎◌, ◌≢◌, ◌+◌, ◌*◌, ◌%◌, ◌<◌, Contains, length, slice_index}
+use Rattle.std.specs.Prelude.{◌≡◌, ℕ, ℤ, pos, Bool, List, [], ◌∷◌, ◌++◌, true, false, replicate, map, filter, nat_eq, Option, None, Some, IsSome, Ok, option_map, ◌⊎◌, ◌≢◌, ◌+◌, ◌-◌, ◌*◌, ◌%◌, ◌<◌, Contains, length, slice_index}
 use Rattle.std.specs.FinMap.{get}
 use Rattle.kcall_core.specs.State.{ProgramFile, State}
 use Rattle.xk_base.specs.Image.{Page, Image}
@@ -24,7 +24,8 @@ use Rattle.kcall_core.specs.First.{first}
 use Rattle.kcall_core.specs.StepLaws.{waiting_calls}
 use Rattle.user_copy.specs.Reach.{may}
 use Rattle.xk_base.specs.declared.access.Access.TheVariants.{Store}
-use Rattle.kcall_core.specs.Stores.{IsStored}
+use Rattle.kcall_core.specs.Stores.{stored_by, bytes_stored, IsStored}
+use Rattle.xk_base.specs.Bytes.{image_byte}
 
 -- ---- the part of a view that other events may change
 
@@ -243,6 +244,10 @@ OnlyStoresChangeBytes = (v n : View) → HasWholePages v.image → (own v).next 
 -- A step stores only where user code may store
 abbrev pub StoresWhereUserMay : Type 0
 StoresWhereUserMay = (v : View) (a : ℕ) → IsStored v a → may Store v.image a ≡ true
+
+-- And each byte that it stores is the one that its source has there: an instruction's store, a child's status, the numbers of a new pipe, the console, a program's file, or a pipe
+abbrev pub StoresTheseBytes : Type 0
+StoresTheseBytes = (v n : View) (a : ℕ) → HasWholePages v.image → (own v).next ≡ Some n → IsStored v a → image_byte n.image a ≡ slice_index (bytes_stored v) (a - (stored_by v).address)
 
 -- where the byte at place i of a page is from: the step stores it, or it stood there before, or it is a 0 in a page that wasn't there
 abbrev pub IsOfItsOwn : View → (page i byte : ℕ) → Type 0

@@ -11,9 +11,10 @@ ghost use Rattle.kcall_core.specs.First.{FirstWell, FirstSlots};
 ghost use Rattle.kcall_core.specs.RowLaws.{InstructionLaw, EcallLaw, ResumeLaw, EndLaw, AnswerLaw, WaitingLaw, ExecLaw, ForkLaw, GoneLaw, ReapLaw, KillLaw, PipeReadLaw, PipeWriteLaw, FileReadLaw, OpenLaw, PipeLaw, DupLaw, DupPipeLaw, CloseLaw, ClosePipeLaw, WellForked, WellGone, WellReaped, WellAlone, WellPiped, WellMoved, WellMarked, WritesTakeNothing, StoresTakeNothing, WellOpened, WellDup, WellDupPipe, WellClosed, WellClosedPipe, WellMadePipe, WellOutside};
 ghost use Rattle.kcall_core.specs.Room.{WholeHasRoom};
 ghost use Rattle.kcall_core.specs.Rounds.{RoundsThenPlan, RoundsFollowRounds, PlanIsRounds, CutEndsInRound};
+ghost use Rattle.kcall_core.specs.Sources.{EachByteHasItsSource};
 ghost use Rattle.kcall_core.specs.StepLaws.{RefusalsChangeNothing, InCallWhereBlocked, BlockedIsInCall};
 ghost use Rattle.kcall_core.specs.Wakes.{PromisedRunsJoin, PromisedRunsSplit, PromisedIsRun, NoLostWakeUp, NeverLost, StaysRunnable, SlotsStay, WaitsAtMost, TurnComes, ComesNearer, IsNear, BlocksUnready};
-ghost use Rattle.kcall_core.specs.Worlds.{TwoWorlds, SameStep, RunsAreCut, PidsAreGiven, OnlyWaitersAreInCalls, OnlyBrokenWritesFailLate, RunsJoin, RunsSplit, Isolated, OthersKeep, OutsideSteps, HaltedStays, UnreadyWaits, NoOldByte, OnlyStoresChangeBytes, StoresWhereUserMay, EachByteIsOfItsOwn, NoOldPage, NoOldPipe, NoOldChild};
+ghost use Rattle.kcall_core.specs.Worlds.{TwoWorlds, SameStep, RunsAreCut, PidsAreGiven, OnlyWaitersAreInCalls, OnlyBrokenWritesFailLate, RunsJoin, RunsSplit, Isolated, OthersKeep, OutsideSteps, HaltedStays, UnreadyWaits, NoOldByte, OnlyStoresChangeBytes, StoresWhereUserMay, StoresTheseBytes, EachByteIsOfItsOwn, NoOldPage, NoOldPipe, NoOldChild};
 
 /// What a process does and sees follows from what it saw and from what is shared with it, whatever else the
 /// machine holds.
@@ -96,9 +97,17 @@ pub fn no_old_byte()
     // And it stores only where user code may store.
     ensures stores_where_user_may { StoresWhereUserMay }
 
+    // And each byte that it stores is the one that its source has there: an instruction's store, a status, the
+    // numbers of a pipe, or the console, the file or the pipe that it reads.
+    ensures stores_these_bytes { StoresTheseBytes }
+
     // So after every step but such an exec each byte of the process's memory is one that the step stored,
     // the one that stood there before, or a 0 in a page that wasn't there.
     ensures each_byte_is_of_its_own { EachByteIsOfItsOwn }
+
+    // Over a whole run: each byte of a live process's memory stood in a process's memory as the run began, or was
+    // put there by a step of its own, or of a process from which its memory came by forks. There it stands since.
+    ensures each_byte_has_its_source { EachByteHasItsSource }
 
     // A pipe that a process sees for the first time is empty.
     ensures no_old_pipe { NoOldPipe }

@@ -4,7 +4,7 @@ use Rattle.std.specs.Prelude.{slice_index, Option, None, Some, ℤ, pos, negsuc,
 use Rattle.std.specs.FinMap.{FinMap, get, insert}
 use Rattle.std.specs.Ordering.{nat_cmp}
 use Rattle.std.proofs.lemmas.Bool.{cases_eq, cases_lt}
-use Rattle.std.proofs.lemmas.List.{get_or-set_other, get_or-take, get_or_append_left, get_or-append_right, get_or-drop, length-take-le}
+use Rattle.std.proofs.lemmas.List.{get_or-set_other, get_or-take, get_or_append_left, get_or-append_right, get_or-drop, length-take-le, length-append, length-drop, length-set}
 use Rattle.xk_base.specs.Image.{Image, Page, price, page_count}
 use Rattle.addr_space.specs.Changes.{zeroed, with_absent}
 use Rattle.sv39_core.proofs.Gathered.{gathered-get}
@@ -12,7 +12,7 @@ use Rattle.rv64i_core.specs.Memory.{Store, written}
 use Rattle.xk_base.specs.Loaded.{Loaded, loaded}
 use Rattle.xk_base.specs.declared.errors.ExecError.{ExecError}
 use Rattle.rv64i_core.specs.Step.{Step, Next, Ecall, Fault}
-use Rattle.hart_core.specs.UserMemory.{with_store, written_page, write_pages}
+use Rattle.hart_core.specs.UserMemory.{user, with_store, written_page, write_pages}
 use Rattle.xk_base.specs.declared.limits.TheConstants.{SIZE_LIMIT, MAXARG, ARG_BYTES, MAXPATH}
 use Rattle.kcall_core.specs.Instruction.{next_instruction}
 use Rattle.kcall_core.specs.Words.{CLOCK_ROUND, minus_one, c_int}
@@ -39,6 +39,7 @@ use Rattle.xk_base.specs.Gathered.{insert_some}
 use Rattle.kcall_core.proofs.steps.Maps.{get_same, get_other}
 use Rattle.kcall_core.specs.Processes.{child_status}
 use Rattle.kcall_core.specs.Ready.{in_use}
+use Rattle.kcall_core.proofs.rows.MayStore.{store_in_page}
 use Rattle.kcall_core.proofs.rows.RowParts.{perform_parts, perform_row, unless, unless_nothing, moving, length_of_int, reaped, without_child, piped, piped_from, with_pipe, read_on, read_from, write_on, write_to, done_at, next_bytes, kill_pid, killed_by, exec_program, exec_path, dup_at, dup_on, dup_number, close_at, close_on, close_number, sbrk_by, grow_to, shrink_to, exec_loaded, running, sleep_for, open_at, open_path, opened_as, kind_named, fork_parts, forked, cannot_fork, with_child, room_to_send}
 use Rattle.kcall_core.proofs.rows.RowsByParts.{perform_same}
 
@@ -51,8 +52,8 @@ some_page a b e = cc
 -- ---- what a step may change
 
 -- the page is the other one, but for these bytes
-abbrev IsBut : Stored → ℕ → Page → Page → Type 0
-IsBut s page x y = (y.perm ≡ x.perm) × ((i : ℕ) → i < 4096 → ¬ Lies s (page * 4096 + i) → slice_index y.bytes i ≡ slice_index x.bytes i)
+abbrev pub IsBut : Stored → ℕ → Page → Page → Type 0
+IsBut s page x y = (y.perm ≡ x.perm) × (length y.bytes ≡ length x.bytes) × ((i : ℕ) → i < 4096 → ¬ Lies s (page * 4096 + i) → slice_index y.bytes i ≡ slice_index x.bytes i)
 
 -- pages that stay are as they were, but for these bytes
 abbrev Stay : Stored → Image → Image → Type 0
@@ -70,7 +71,7 @@ abbrev Calm : View → Own → Type 0
 Calm v o = (n : View) → o.next ≡ Some n → SamePages v.image n.image
 
 same_but : (s : Stored) (page : ℕ) (x y : Page) → y ≡ x → IsBut s page x y
-same_but s page x y e = (ap (λ (p : Page). p.perm) e, λ i below apart. ap (λ (p : Page). slice_index p.bytes i) e)
+same_but s page x y e = (ap (λ (p : Page). p.perm) e, ap (λ (p : Page). length p.bytes) e, λ i below apart. ap (λ (p : Page). slice_index p.bytes i) e)
 
 calm_kept : (s : Stored) (v : View) (o : Own) → Calm v o → Kept s v o
 calm_kept s v o calm n e page x y was is = same_but s page x y (calm n e page x y was is)
@@ -78,10 +79,10 @@ calm_kept s v o calm n e page x y was is = same_but s page x y (calm n e page x 
 -- ---- bytes put one by one
 
 -- the page is there, and the other one but for these bytes
-abbrev ThereBut : FinMap nat_cmp Page → Stored → ℕ → Page → Type 0
+abbrev pub ThereBut : FinMap nat_cmp Page → Stored → ℕ → Page → Type 0
 ThereBut m s page x = (y : Page) × (get m page ≡ Some y) × IsBut s page x y
 
-put_stays : (i : Image) (a b page : ℕ) (x : Page) → get i.pages page ≡ Some x → ThereBut (put_byte i a b).pages (record { address = a; count = 1 }) page x
+pub put_stays : (i : Image) (a b page : ℕ) (x : Page) → get i.pages page ≡ Some x → ThereBut (put_byte i a b).pages (record { address = a; count = 1 }) page x
 put_stays i a b page x at = by (get i.pages (a / 4096)) refl
   where
     by : (o : Option Page) → get i.pages (a / 4096) ≡ o → ThereBut (put_in i (a / 4096) o (a % 4096) b).pages (record { address = a; count = 1 }) page x
@@ -91,18 +92,18 @@ put_stays i a b page x at = by (get i.pages (a / 4096)) refl
           let is : p ≡ x = some_page p x (sym e ∙ ap (get i.pages) (sym same) ∙ at) in (
             record { perm = p.perm; bytes = set p.bytes (a % 4096) b },
             ap (get (insert i.pages (a / 4096) (record { perm = p.perm; bytes = set p.bytes (a % 4096) b }))) same ∙ get_same i.pages (a / 4096) _,
-            (ap (λ (q : Page). q.perm) is, λ k below apart. get_or-set_other p.bytes (a % 4096) k b 0 (λ here. apart (omega (arith, same, here), omega (arith, same, here))) ∙ ap (λ (q : Page). slice_index q.bytes k) is),
+            (ap (λ (q : Page). q.perm) is, length-set p.bytes (a % 4096) b ∙ ap (λ (q : Page). length q.bytes) is, λ k below apart. get_or-set_other p.bytes (a % 4096) k b 0 (λ here. apart (omega (arith, same, here), omega (arith, same, here))) ∙ ap (λ (q : Page). slice_index q.bytes k) is),
           )
       | inr other ↦ (x, get_other i.pages (a / 4096) _ page other ∙ at, same_but _ page x x refl)
     ]
 
-write_stays : (bytes : List ℕ) (i : Image) (a page : ℕ) (x : Page) → get i.pages page ≡ Some x → ThereBut (write_image i a bytes).pages (record { address = a; count = length bytes }) page x
+pub write_stays : (bytes : List ℕ) (i : Image) (a page : ℕ) (x : Page) → get i.pages page ≡ Some x → ThereBut (write_image i a bytes).pages (record { address = a; count = length bytes }) page x
 unfolding write_image
 write_stays [] i a page x at = (x, at, same_but _ page x x refl)
 write_stays (b ∷ bs) i a page x at =
     let (y, here, first) = put_stays i a b page x at in
     let (z, there, others) = write_stays bs (put_byte i a b) (a + 1) page y here in
-    (z, there, (others.0 ∙ first.0, λ k below apart. others.1 k below (λ l. let low = l.0 in let high = l.1 in apart (omega (arith, low), omega (arith, high))) ∙ first.1 k below (λ l. let low = l.0 in let high = l.1 in apart (omega (arith, low), omega (arith, high)))))
+    (z, there, (others.0 ∙ first.0, others.1 ∙ first.1, λ k below apart. others.2 k below (λ l. let low = l.0 in let high = l.1 in apart (omega (arith, low), omega (arith, high))) ∙ first.2 k below (λ l. let low = l.0 in let high = l.1 in apart (omega (arith, low), omega (arith, high)))))
 
 written_stays : (bytes : List ℕ) (i : Image) (a : ℕ) → Stay (record { address = a; count = length bytes }) i (write_image i a bytes)
 written_stays bytes i a page x y was is =
@@ -125,7 +126,19 @@ right_of xs o k bytes long behind =
     ∙ get_or-drop o xs (length bytes + (k - o - length bytes)) 0
     ∙ ap (slice_index xs) there
 
-module _ (i : Image) (st : Store) (page : ℕ) where
+-- putting bytes inside a list keeps its length
+as_long : (xs : List ℕ) (o : ℕ) (bytes : List ℕ) → o + length bytes ≤ length xs → length (written xs o bytes) ≡ length xs
+as_long xs o bytes inside = omega (
+  arith,
+  inside,
+  length-append (take o xs) (bytes ++ drop (length bytes) (drop o xs)),
+  length-append bytes (drop (length bytes) (drop o xs)),
+  length-take-le o xs (omega (arith, inside)),
+  length-drop (length bytes) (drop o xs),
+  length-drop o xs,
+)
+
+module _ (i : Image) (st : Store) (page : ℕ) (fits : st.address % 4096 + length st.bytes ≤ 4096) where
   abbrev at : ℕ
   at = st.address / 4096
 
@@ -151,13 +164,13 @@ module _ (i : Image) (st : Store) (page : ℕ) where
         let same_one : p ≡ x = some_page p x (sym e ∙ ap (get i.pages) (sym same) ∙ was) in
         let new : record p { bytes = written p.bytes o st.bytes } ≡ y = some_page (record p { bytes = written p.bytes o st.bytes }) y (sym (ap (get (insert i.pages at (record p { bytes = written p.bytes o st.bytes }))) same ∙ get_same i.pages at (record p { bytes = written p.bytes o st.bytes })) ∙ found) in
         let long : o ≤ length p.bytes = omega (arith, whole at p e) in
-        (ap (λ (z : Page). z.perm) (sym new) ∙ ap (λ (z : Page). z.perm) same_one, λ k below apart. ap (λ (z : Page). slice_index z.bytes k) (sym new) ∙ outside p k long same apart ∙ ap (λ (z : Page). slice_index z.bytes k) same_one)
+        (ap (λ (z : Page). z.perm) (sym new) ∙ ap (λ (z : Page). z.perm) same_one, ap (λ (z : Page). length z.bytes) (sym new) ∙ as_long p.bytes o st.bytes (omega (arith, fits, whole at p e)) ∙ ap (λ (z : Page). length z.bytes) same_one, λ k below apart. ap (λ (z : Page). slice_index z.bytes k) (sym new) ∙ outside p k long same apart ∙ ap (λ (z : Page). slice_index z.bytes k) same_one)
     | inr other ↦ same_but these page x y (some_page y x (sym found ∙ get_other i.pages at (record p { bytes = written p.bytes o st.bytes }) page other ∙ was))
   ]
 
-store_stays : (i : Image) (st : Store) → HasWholePages i → Stay (record { address = st.address; count = length st.bytes }) i (with_store i st)
+store_stays : (i : Image) (st : Store) → st.address % 4096 + length st.bytes ≤ 4096 → HasWholePages i → Stay (record { address = st.address; count = length st.bytes }) i (with_store i st)
 unfolding write_pages
-store_stays i st whole page x y was is = stores_in i st page (get i.pages (st.address / 4096)) x y whole was refl is
+store_stays i st fits whole page x y was is = stores_in i st page fits (get i.pages (st.address / 4096)) x y whole was refl is
 
 -- ---- sbrk: what stays is as it was
 
@@ -428,14 +441,14 @@ module _ (c : Call) (v : View) where
 -- ---- a step
 
 module _ (v : View) (whole : HasWholePages v.image) where
-  instruction_keeps : (st : Step) → ¬ IsExecDone (call_begun v) (after_instruction v st) → Kept (stored_by_instruction v st (after_instruction v st)) v (after_instruction v st)
-  instruction_keeps (Next r None) apart = calm_kept nothing_stored v (after_instruction v (Next r None)) (calm_same v (record v { regs = r }) refl (after_instruction v (Next r None)) refl)
-  instruction_keeps (Next r (Some st)) apart = λ n e page x y was is. store_stays v.image st whole page x y was (ap (λ (w : View). get w.image.pages page) (same_view (record v { regs = r; image = with_store v.image st }) n e) ∙ is)
-  instruction_keeps Ecall apart = perform_keeps (call_begun v) (begun v) apart
-  instruction_keeps (Fault cause) apart = calm_kept nothing_stored v (gone (Faulted cause) v) (calm_gone v (gone (Faulted cause) v) refl)
+  instruction_keeps : (st : Step) → next_instruction v.regs v.image ≡ st → ¬ IsExecDone (call_begun v) (after_instruction v st) → Kept (stored_by_instruction v st (after_instruction v st)) v (after_instruction v st)
+  instruction_keeps (Next r None) made apart = calm_kept nothing_stored v (after_instruction v (Next r None)) (calm_same v (record v { regs = r }) refl (after_instruction v (Next r None)) refl)
+  instruction_keeps (Next r (Some st)) made apart = λ n e page x y was is. store_stays v.image st (store_in_page v.regs (user v.image) r st made) whole page x y was (ap (λ (w : View). get w.image.pages page) (same_view (record v { regs = r; image = with_store v.image st }) n e) ∙ is)
+  instruction_keeps Ecall made apart = perform_keeps (call_begun v) (begun v) apart
+  instruction_keeps (Fault cause) made apart = calm_kept nothing_stored v (gone (Faulted cause) v) (calm_gone v (gone (Faulted cause) v) refl)
 
   going_keeps : (o : Option Call) → ¬ IsExecDone (call_or_begun v o) (going_on v o) → Kept (stored_in v o (going_on v o)) v (going_on v o)
-  going_keeps None apart = instruction_keeps (next_instruction v.regs v.image) apart
+  going_keeps None apart = instruction_keeps (next_instruction v.regs v.image) refl apart
   going_keeps (Some c) apart = perform_keeps c v apart
 
   unless_keeps : (b : Bool) → ¬ IsExecDone (call_in v) (unless_killed v b) → Kept (cond b nothing_stored (stored_in v v.call (unless_killed v b))) v (unless_killed v b)
@@ -447,4 +460,8 @@ module _ (v : View) (whole : HasWholePages v.image) where
   own_keeps apart = unless_keeps v.killed apart
 
 pub only_stores_change_bytes : OnlyStoresChangeBytes
-only_stores_change_bytes v n whole next apart = own_keeps v whole apart n next
+only_stores_change_bytes v n whole next apart page x y was is = let kept = own_keeps v whole apart n next page x y was is in (kept.0, kept.2)
+
+-- and it is as long as it was
+pub same_lengths : (v n : View) → HasWholePages v.image → (own v).next ≡ Some n → ¬ IsExecDone (call_in v) (own v) → (page : ℕ) (x y : Page) → get v.image.pages page ≡ Some x → get n.image.pages page ≡ Some y → length y.bytes ≡ length x.bytes
+same_lengths v n whole next apart page x y was is = (own_keeps v whole apart n next page x y was is).1

@@ -221,8 +221,16 @@ no_wrap HalfWord address k small even lt = omega (arith, small, even, lt)
 no_wrap Word address k small even lt = omega (arith, small, even, lt)
 no_wrap DoubleWord address k small even lt = omega (arith, small, even, lt)
 
+-- such a store lies in one page
+in_page : (w : Width) (address : ℕ) → address % bytes_of_width w ≡ 0 → address % 4096 + bytes_of_width w ≤ 4096
+in_page Byte address even = omega (arith, even)
+in_page HalfWord address even = omega (arith, even)
+in_page Word address even = omega (arith, even)
+in_page DoubleWord address even = omega (arith, even)
+
+-- a store that lies in one page, and whose bytes may be written
 abbrev WhereWritable : Memory → Store → Type 0
-WhereWritable memory s = (a : ℕ) → s.address ≤ a → a < s.address + length s.bytes → Writable memory a
+WhereWritable memory s = (s.address % 4096 + length s.bytes ≤ 4096) × ((a : ℕ) → s.address ≤ a → a < s.address + length s.bytes → Writable memory a)
 
 abbrev put : Store → Result Store Cause
 put s = Ok s
@@ -237,10 +245,13 @@ storing_writes memory address w value s small e = by (nat_eq (address % bytes_of
     found : (o : Option (List ℕ)) → address % bytes_of_width w ≡ 0 → bytes_at (λ c. c.write) memory address (bytes_of_width w) ≡ o
         → or_fault StorePageFault (λ _. record { address = address; bytes = le_bytes (bytes_of_width w) value }) o ≡ Ok s → WhereWritable memory s
     found None even is f = let no : ⊥ = cc in absurd no
-    found (Some bytes) even is f = subst (WhereWritable memory) (same_store (record { address = address; bytes = le_bytes (bytes_of_width w) value }) s f) (λ a low high.
-        let below : a - address < bytes_of_width w = omega (arith, low, high, length-le_bytes (bytes_of_width w) value) in
-        let here : address + (a - address) ≡ a = omega (arith, low) in
-        subst (Writable memory) (no_wrap w address (a - address) small even below ∙ here) (cells_at memory (bytes_of_width w) address bytes is (a - address) below))
+    found (Some bytes) even is f = subst (WhereWritable memory) (same_store (record { address = address; bytes = le_bytes (bytes_of_width w) value }) s f) (
+      omega (arith, in_page w address even, length-le_bytes (bytes_of_width w) value),
+      λ a low high.
+          let below : a - address < bytes_of_width w = omega (arith, low, high, length-le_bytes (bytes_of_width w) value) in
+          let here : address + (a - address) ≡ a = omega (arith, low) in
+          subst (Writable memory) (no_wrap w address (a - address) small even below ∙ here) (cells_at memory (bytes_of_width w) address bytes is (a - address) below),
+    )
 
     by : (b : Bool) → nat_eq (address % bytes_of_width w) 0 ≡ b → cond b (or_fault StorePageFault (λ _. record { address = address; bytes = le_bytes (bytes_of_width w) value }) (bytes_at (λ c. c.write) memory address (bytes_of_width w))) (Err StoreMisaligned) ≡ Ok s → WhereWritable memory s
     by true even f = found (bytes_at (λ c. c.write) memory address (bytes_of_width w)) (eqb-true (address % bytes_of_width w) 0 even) refl f
@@ -308,6 +319,10 @@ module _ (regs : Registers) (memory : Memory) (r : Registers) (s : Store) where
   unfolding instr
   instruction_writes e = fetch_writes (fetched memory regs.pc) e
 
+-- a store of an instruction lies in one page
+pub store_in_page : (regs : Registers) (memory : Memory) (r : Registers) (s : Store) → instr regs memory ≡ Next r (Some s) → s.address % 4096 + length s.bytes ≤ 4096
+store_in_page regs memory r s is = (instruction_writes regs memory r s is).0
+
 -- what the memory of an image lets user code write
 user_may : (i : Image) (a : ℕ) → Writable (user i) a → may Storing i a ≡ true
 unfolding user
@@ -326,7 +341,7 @@ user_may i a (cell, is, writes) = by (get i.pages (a / 4096)) refl is
 module _ (v : View) where
   instruction_allowed : (st : Step) (o : Own) → next_instruction v.regs v.image ≡ st → o ≡ after_instruction v st → Allowed v.image (stored_by_instruction v st o)
   instruction_allowed (Next r None) o is e = none_allowed v.image
-  instruction_allowed (Next r (Some st)) o is e = λ a l. user_may v.image a (instruction_writes v.regs (user v.image) r st is a l.0 l.1)
+  instruction_allowed (Next r (Some st)) o is e = λ a l. user_may v.image a ((instruction_writes v.regs (user v.image) r st is).1 a l.0 l.1)
   instruction_allowed Ecall o is e = subst (λ (p : Own). Allowed v.image (stored_by_row (call_begun v) v.descriptors (row_of (call_begun v).number) p)) (sym e) (row_allowed (call_begun v) (begun v))
   instruction_allowed (Fault cause) o is e = none_allowed v.image
 

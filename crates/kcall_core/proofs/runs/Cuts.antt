@@ -28,7 +28,7 @@ some_view a b e = cc
 none_some : {A : Type 0} (o : Option A) → o ≡ None → IsSome o → ⊥
 none_some o none some = let no : false ≡ true = sym (ap is_some none) ∙ some in let bad : ⊥ = cc in bad
 
-some_there : (o : Option View) → IsSome o → (v : View) × (o ≡ Some v)
+pub some_there : (o : Option View) → IsSome o → (v : View) × (o ≡ Some v)
 some_there None h = let no : ⊥ = cc in absurd no
 some_there (Some v) h = (v, refl)
 
@@ -81,7 +81,7 @@ module _ (w t : World) where
   kind Send o h = inr (record { processes = ap (λ (s : State). s.processes) h.1; next_pid = ap (λ (s : State). s.next_pid) h.1; outcome = λ p. ap (is_step_of p) h.0 })
 
 -- an event that doesn't answer with a step of p isn't one
-not_his : (p : ℕ) (w t : World) (e : Event) (o : Outcome) → Happens w e o t → is_step_of p o ≡ false → ¬ IsStepOf p w e
+pub not_his : (p : ℕ) (w t : World) (e : Event) (o : Outcome) → Happens w e o t → is_step_of p o ≡ false → ¬ IsStepOf p w e
 not_his p w t e o h apart is =
     let step = own_step p w t o w.turns.halted w.turns.current (subst (λ (x : Event). Happens w x o t) is.0 h) is.1 is.2 in
     let no : true ≡ false = sym (eq-eqb p p refl) ∙ sym (ap (is_step_of p) step.answer) ∙ apart in
@@ -96,7 +96,7 @@ seen_live : (s : State) (p : ℕ) (o : Option Live) → is_some (option_map (vie
 seen_live s p None = refl
 seen_live s p (Some l) = refl
 
-same_seen : (w t : World) → t.state.processes ≡ w.state.processes → (p : ℕ) → is_some (view t.state p) ≡ is_some (view w.state p)
+pub same_seen : (w t : World) → t.state.processes ≡ w.state.processes → (p : ℕ) → is_some (view t.state p) ≡ is_some (view w.state p)
 same_seen w t same p = seen_live t.state p (live t.state p) ∙ ap is_some (same_live w t same p) ∙ sym (seen_live w.state p (live w.state p))
 
 none_there : (o : Option View) → is_some o ≡ false → o ≡ None

@@ -1,5 +1,5 @@
 -- The state after boot is well-formed.
-use Rattle.std.proofs.Common.{◌≡◌, ◌≢◌, ℕ, ◌≤◌, ◌+◌, ◌-◌, Bool, true, false, cond, ◌||◌, List, refl, ap, sym, ◌∙◌, subst, arith, inl, inr, lt-ltb}
+use Rattle.std.proofs.Common.{◌≡◌, ◌≢◌, ℕ, ◌≤◌, ◌+◌, ◌-◌, Bool, true, false, cond, ◌||◌, List, [], ◌∷◌, refl, ap, sym, ◌∙◌, subst, arith, inl, inr, lt-ltb}
 use Rattle.std.specs.Prelude.{Option, None, Some, IsSome, is_some, nat_eq, nat_lt, option_map, Result, Ok, Err}
 use Rattle.std.specs.FinMap.{get, empty, get-empty, len, len-empty}
 use Rattle.std.specs.Ordering.{nat_cmp}
@@ -11,9 +11,9 @@ use Rattle.xk_base.specs.declared.errors.ExecError.TheVariants.{NoFrames}
 use Rattle.xk_base.specs.declared.limits.TheConstants.{FRAMES_MIN, FRAMES_MAX, TRACE_MAX}
 use Rattle.kcall_core.specs.State.{ProgramFile, State, live_part}
 use Rattle.xk_base.specs.Image.{price}
-use Rattle.xk_base.specs.Loaded.{Loaded}
+use Rattle.xk_base.specs.Loaded.{Loaded, loaded}
 use Rattle.pipe_core.specs.Pipe.{Pipe}
-use Rattle.kcall_core.specs.Programs.{first_bad, init_of}
+use Rattle.kcall_core.specs.Programs.{init_name, first_bad, init_of}
 use Rattle.kcall_core.specs.Processes.{Process, Alive, Live}
 use Rattle.kcall_core.specs.View.{View, view, view_of}
 use Rattle.kcall_core.specs.Quiet.{file_at, file_of}
@@ -88,28 +88,32 @@ module _ (frames : ℕ) (programs : List ProgramFile) (l : Loaded) (enough : pri
     to_send = omega arith;
   }
 
+-- it is what some file and texts are loaded as
+abbrev IsLoaded : Loaded → Type 0
+IsLoaded l = (file : List ℕ) × (texts : List (List ℕ)) × (loaded file texts ≡ Ok l)
+
 -- the world after boot is the first one, of what `init` is loaded as
 abbrev IsFirst : ℕ → List ProgramFile → World → Type 0
-IsFirst frames programs w = (l : Loaded) × (price l.image + 1 ≤ frames) × (w ≡ record { state = first_state frames programs l; turns = first_turns })
+IsFirst frames programs w = (l : Loaded) × (price l.image + 1 ≤ frames) × (w ≡ record { state = first_state frames programs l; turns = first_turns }) × IsLoaded l
 
 some_world : (a b : World) → ◌≡◌ {A = Result World BootError} (Ok a) (Ok b) → a ≡ b
 some_world a b e = cc
 
-by_frames : (frames : ℕ) (programs : List ProgramFile) (l : Loaded) (w : World) (b : Bool) → nat_lt frames (price l.image + 1) ≡ b
+by_frames : (frames : ℕ) (programs : List ProgramFile) (l : Loaded) → IsLoaded l → (w : World) (b : Bool) → nat_lt frames (price l.image + 1) ≡ b
     → cond {A = Result World BootError} b (Err (Init NoFrames)) (Ok (record { state = first_state frames programs l; turns = first_turns })) ≡ Ok w → IsFirst frames programs w
-by_frames frames programs l w true e h = let no : ⊥ = cc in absurd no
-by_frames frames programs l w false e h =
+by_frames frames programs l made w true e h = let no : ⊥ = cc in absurd no
+by_frames frames programs l made w false e h =
     let same : record { state = first_state frames programs l; turns = first_turns } ≡ w = some_world (record { state = first_state frames programs l; turns = first_turns }) w h in
     let enough : price l.image + 1 ≤ frames = elim (leb_tells (price l.image + 1) frames) [ inl t ↦ t.1 | inr t ↦ absurd (let less : nat_lt frames (price l.image + 1) ≡ true = lt-ltb frames (price l.image + 1) t.1 in let no : true ≡ false = sym less ∙ e in let bad : ⊥ = cc in bad) ] in
-    (l, enough, sym same)
+    (l, enough, sym same, made)
 
-by_loaded : (frames : ℕ) (programs : List ProgramFile) (r : Result Loaded ExecError) (w : World) → first_loaded frames programs r ≡ Ok w → IsFirst frames programs w
-by_loaded frames programs (Err e) w h = let no : ⊥ = cc in absurd no
-by_loaded frames programs (Ok l) w h = by_frames frames programs l w (nat_lt frames (price l.image + 1)) refl h
+by_loaded : (frames : ℕ) (programs : List ProgramFile) (r : Result Loaded ExecError) (file : List ℕ) (texts : List (List ℕ)) → loaded file texts ≡ r → (w : World) → first_loaded frames programs r ≡ Ok w → IsFirst frames programs w
+by_loaded frames programs (Err e) file texts made w h = let no : ⊥ = cc in absurd no
+by_loaded frames programs (Ok l) file texts made w h = by_frames frames programs l (file, texts, made) w (nat_lt frames (price l.image + 1)) refl h
 
 by_init : (frames : ℕ) (programs : List ProgramFile) (o : Option ProgramFile) (w : World) → first_init frames programs o ≡ Ok w → IsFirst frames programs w
 by_init frames programs None w h = let no : ⊥ = cc in absurd no
-by_init frames programs (Some program) w h = by_loaded frames programs _ w h
+by_init frames programs (Some program) w h = by_loaded frames programs (loaded program.bytes (init_name ∷ [])) program.bytes (init_name ∷ []) refl w h
 
 by_programs : (frames : ℕ) (programs : List ProgramFile) (o : Option ℕ) (w : World) → first_programs frames programs o ≡ Ok w → IsFirst frames programs w
 by_programs frames programs (Some k) w h = let no : ⊥ = cc in absurd no
@@ -170,3 +174,35 @@ pub first_idle : (frames trace : ℕ) (programs : List ProgramFile) (w : World) 
 first_idle frames trace programs w h p v see =
     let f = is_first frames trace programs w h in
     idle_here frames programs f.0 f.1 p v (sym (ap (λ (x : World). view x.state p) f.2) ∙ see)
+
+-- ---- and has the image of a program that was loaded
+
+image_here : (frames : ℕ) (programs : List ProgramFile) (l : Loaded) → price l.image + 1 ≤ frames → (p : ℕ) (v : View) → view (first_state frames programs l) p ≡ Some v → v.image ≡ l.image
+unfolding view_of
+image_here frames programs l enough p v see = by (nat_eq p 1) (sym (ap (λ (o : Option Process). option_map (view_of (s frames programs l enough) p) (live_part o)) (at frames programs l enough p)) ∙ see)
+  where
+    some_view : (a b : View) → Some a ≡ Some b → a ≡ b
+    some_view a b e = cc
+
+    by : (b : Bool) → option_map (view_of (s frames programs l enough) p) (live_part (cond b (Some (Alive (first_live frames programs l enough))) None)) ≡ Some v → v.image ≡ l.image
+    by true e = sym (ap (λ (x : View). x.image) (some_view (view_of (s frames programs l enough) p (first_live frames programs l enough)) v e))
+    by false e = let no : ⊥ = cc in absurd no
+
+pub first_image : (frames trace : ℕ) (programs : List ProgramFile) (w : World) → first frames trace programs ≡ Ok w → (p : ℕ) (v : View) → view w.state p ≡ Some v → (l : Loaded) × (file : List ℕ) × (texts : List (List ℕ)) × (loaded file texts ≡ Ok l) × (v.image ≡ l.image)
+first_image frames trace programs w h p v see =
+    let f = is_first frames trace programs w h in
+    (f.0, f.3.0, f.3.1, f.3.2, image_here frames programs f.0 f.1 p v (sym (ap (λ (x : World). view x.state p) f.2) ∙ see))
+
+-- ---- and is the only one
+
+alone_here : (frames : ℕ) (programs : List ProgramFile) (l : Loaded) → price l.image + 1 ≤ frames → (p : ℕ) (v : View) → view (first_state frames programs l) p ≡ Some v → p ≡ 1
+alone_here frames programs l enough p v see = only frames programs l enough p (by (get (first_state frames programs l).processes p) refl see)
+  where
+    by : (o : Option Process) → get (first_state frames programs l).processes p ≡ o → option_map (view_of (first_state frames programs l) p) (live_part o) ≡ Some v → IsSome (get (first_state frames programs l).processes p)
+    by None is e = let no : ⊥ = cc in absurd no
+    by (Some x) is e = ap is_some is
+
+pub first_alone : (frames trace : ℕ) (programs : List ProgramFile) (w : World) → first frames trace programs ≡ Ok w → (p : ℕ) (v : View) → view w.state p ≡ Some v → p ≡ 1
+first_alone frames trace programs w h p v see =
+    let f = is_first frames trace programs w h in
+    alone_here frames programs f.0 f.1 p v (sym (ap (λ (x : World). view x.state p) f.2) ∙ see)
