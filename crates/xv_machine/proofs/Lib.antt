@@ -5,6 +5,7 @@ pub mod Joins
 pub mod Kept
 pub mod Frames
 pub mod OneStep
+pub mod Reached
 pub mod Runs
 pub mod Starts
 pub mod Shown

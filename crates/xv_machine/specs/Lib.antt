@@ -6,5 +6,6 @@ pub mod Events
 pub mod Machine
 pub mod Meaning
 pub mod Notes
+pub mod Reached
 pub mod Sound
 pub mod Stretches

@@ -10,6 +10,7 @@
 mod devices;
 mod driving;
 mod event;
+pub mod laws;
 mod machine;
 mod step;
 #[cfg(test)]
