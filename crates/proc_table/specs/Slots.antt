@@ -98,6 +98,11 @@ pub record IsTable (t : Slots) : Type 0 where
   pub next : t.next ≤ PID_MAX + 1
   pub pids : ArePids t.places t.next
 
+-- no slot from this number on is held
+pub record HoldsNoneFrom (places : List (Option Process)) (top : ℕ) : Type 0 where
+  pub within : top ≤ NPROC
+  pub free : (slot : ℕ) → top ≤ slot → get_or places slot None ≡ None
+
 -- the process of this pid is in the place
 abbrev pub place_has_pid : ℕ → Option Process → Bool
 place_has_pid pid place = option_map_or (has_pid pid) place false

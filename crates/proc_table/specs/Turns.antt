@@ -22,6 +22,15 @@ IsNearest places last (Some slot) =
     × (place_is_runnable (get_or places slot None) ≡ true)
     × ((k : ℕ) → k < NPROC → place_is_runnable (get_or places k None) ≡ true → distance last slot ≤ distance last k)
 
+-- of the slots from one on and below another this is the lowest that has a runnable process, or none has one
+abbrev pub IsFirstRunnable : List (Option Process) → ℕ → ℕ → Option ℕ → Type 0
+IsFirstRunnable places from end None = (k : ℕ) → from ≤ k → k < end → place_is_runnable (get_or places k None) ≡ false
+IsFirstRunnable places from end (Some slot) =
+    (from ≤ slot)
+    × (slot < end)
+    × (place_is_runnable (get_or places slot None) ≡ true)
+    × ((k : ℕ) → from ≤ k → k < slot → place_is_runnable (get_or places k None) ≡ false)
+
 -- the turn of one slot brings each other runnable process nearer to its own
 abbrev pub BringsNearer : Slots → ℕ → Type 0
 BringsNearer t slot = (k : ℕ) → k < NPROC → place_is_runnable (get_or t.places k None) ≡ true → k ≢ slot → distance slot k < distance t.last k

@@ -1,7 +1,8 @@
 use Rattle.std.proofs.Common.{ap}
 use Rattle.proc_table.specs.declared.process.Process.{Process}
 use Rattle.proc_table.proofs.Pids.{table_at}
+use Rattle.proc_table.proofs.Tops.{top_at}
 use Rattle.proc_table.proofs.table.Table.set_progress.Goals as goal
 
 pub invariant_of-self : goal.invariant_of-self
-invariant_of-self c = table_at _ c.args.slot c.index.result.now c.in-Some.p c.in_call.result c.self.invariant c.requires.within c.index.ensures c.in-Some.is (ap (λ (x : Process). x.pid) c.in_call.ensures)
+invariant_of-self c = (table_at _ c.args.slot c.index.result.now c.in-Some.p c.in_call.result c.self.invariant.0 c.requires.within c.index.ensures c.in-Some.is (ap (λ (x : Process). x.pid) c.in_call.ensures), top_at _ c.args.slot _ c.index.result.now c.in-Some.p c.in_call.result c.self.invariant.1 c.self.invariant.0.places c.requires.within c.index.ensures c.in-Some.is)
