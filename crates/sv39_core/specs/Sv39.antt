@@ -24,6 +24,10 @@ page_number w = w / 2 ^ 10 % 2 ^ 44
 abbrev pub rights_of : ℕ → Rights
 rights_of w = record { read = flag w 1; write = flag w 2; execute = flag w 3; user = flag w 4 }
 
+-- bits 63 to 54 are 0, and the page is one of RAM's frames
+abbrev pub is_in_ram : ℕ → ℕ → Bool
+is_in_ram frames w = (w / 2 ^ 54 == 0) && nat_le 0x80000 (page_number w) && nat_lt (page_number w - 0x80000) frames
+
 -- V is set, W only with R, bits 63 to 54 are 0, and the page is one of RAM's frames
 abbrev pub is_usable : ℕ → ℕ → Bool
 is_usable frames w =

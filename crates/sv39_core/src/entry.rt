@@ -2,7 +2,7 @@
 ghost use Rattle.std.specs.Prelude.{⊤, ◌≡◌, ◌==◌, ◌≤◌, [], ◌∷◌, codes};
 ghost use Rattle.std.specs.Int.RustNames.{bit_and};
 ghost use Rattle.xk_base.specs.declared.limits.TheConstants.{FRAMES_MAX};
-ghost use Rattle.sv39_core.specs.Sv39.{entry_of, is_usable, page_number, rights_of, bit_if, leaf_word, table_word};
+ghost use Rattle.sv39_core.specs.Sv39.{entry_of, is_in_ram, is_usable, page_number, rights_of, bit_if, leaf_word, table_word};
 
 use bitflags::{Flag, Flags, bitflag_items};
 use std::marker::Model;
@@ -151,19 +151,23 @@ impl Pte {
         (self.bits() >> 10) % (1 << 44)
     }
 
+    /// Whether bits 63 to 54 are 0, and the page is one of RAM's frames. Where one of these bits is set, or the
+    /// page lies below RAM, the difference is far greater than any number of frames: one comparison serves.
+    fn is_in_ram(self, frames: u32) -> bool
+        requires { frames ≤ FRAMES_MAX }
+        ensures { result ≡ is_in_ram frames self }
+    {
+        (self.bits() >> 10).wrapping_sub(FIRST_PAGE) < u64::from(frames)
+    }
+
     fn is_usable(self, frames: u32) -> bool
+        requires { frames ≤ FRAMES_MAX }
         ensures { result ≡ is_usable frames self }
     {
         let valid = self.has(PteFlags::VALID);
         let read = self.has(PteFlags::READ);
         let write = self.has(PteFlags::WRITE);
-        let page = self.page();
-        let frame = page.saturating_sub(FIRST_PAGE);
-        valid
-            & (!write | read)
-            & (self.bits() >> 54 == 0)
-            & (FIRST_PAGE <= page)
-            & (frame < u64::from(frames))
+        valid & (!write | read) & self.is_in_ram(frames)
     }
 
     /// What the entry says, where RAM has so many frames.
