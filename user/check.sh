@@ -1,0 +1,117 @@
+#!/bin/sh
+# Plays the sessions of sessions/*.txt by the built program, and compares what comes out: ./check.sh, or
+# ./check.sh NAME.. for some of them. A line for each, and a verdict at the end; the status is 0 where all are as
+# they should be. XV_RUN is the program, and without it the one that stands in this repository.
+#
+# A session is a text. Its first line says what it shows; then come parts, each with a line `== NAME` at its head:
+#
+#   == words           the words of the command line; a FILE is one of the session's own, or a program beside this script
+#   == file NAME       a file of the session
+#   == keys            what is typed: each line and its end; ^D is the byte 4 and so on; <30> lets 30 rounds pass
+#   == shows           what the console must show, as `cat -v` writes it
+#   == status          the exit status that is wanted; without this part 0
+#   == errors          what standard error must have; without this part it isn't looked at
+#   == trace PATTERN   the lines of standard error that fit the pattern (of grep -E)
+#
+# The last line of keys and of what is shown ends in \c where no line's end follows.
+set -u
+cd "$(dirname "$0")" || exit 2
+program=${XV_RUN-../crates/xv_run/out/xv_run}
+[ -x "$program" ] || { echo "there is no program $program: build it by ../xv" >&2; exit 2; }
+program=$(readlink -f "$program")
+here=$PWD
+room=$(mktemp -d) || exit 2
+trap 'rm -rf "$room"' EXIT
+
+# Takes session $1 apart: each part becomes a file =NAME of the folder $room, and each file of the session stands
+# there under its own name.
+take_apart() {
+    rm -rf "${room:?}"/* && awk -v room="$room" '
+        /^== file / { part = room "/" $3; printf "" > part; next }
+        /^== trace / { print substr($0, 10) > (room "/=pattern"); part = room "/=trace"; printf "" > part; next }
+        /^== / { part = room "/=" $2; printf "" > part; next }
+        part != "" { print > part }' "$1"
+}
+
+# The lines of a part, the last one without its end if it ends in \c.
+lines() {
+    awk 'NR > 1 { print last } { last = $0 }
+        END { if (sub(/\\c$/, "", last)) printf "%s", last; else if (NR > 0) print last }' "$1"
+}
+
+# The bytes that are typed.
+keys() {
+    [ -e "$room/=keys" ] || return 0
+    lines "$room/=keys" | LC_ALL=C awk '
+        function type(text,    at, control) {
+            while (match(text, /\^[@-_]|<[0-9]+>/)) {
+                printf "%s", substr(text, 1, RSTART - 1)
+                if (substr(text, RSTART, 1) == "^") {
+                    control = index("@ABCDEFGHIJKLMNOPQRSTUVWXYZ[\\]^_", substr(text, RSTART + 1, 1)) - 1
+                    printf "%c", control
+                } else
+                    for (at = substr(text, RSTART + 1, RLENGTH - 2) + 0; at > 0; at--)
+                        printf "%c", 0
+                text = substr(text, RSTART + RLENGTH)
+            }
+            printf "%s", text
+        }
+        NR > 1 { printf "\n" }
+        { type($0) }'
+    [ "$(tail -c 3 "$room/=keys")" = '\c' ] || echo
+}
+
+# The words, with the paths of files.
+words() {
+    for word in $(cat "$room/=words"); do
+        if [ -e "$room/$word" ]; then
+            echo "$room/$word"
+        elif [ -e "$here/$word" ]; then
+            echo "$here/$word"
+        else
+            echo "$word"
+        fi
+    done
+}
+
+# Compares part $1 with the file $2, and shows where they differ.
+is_wanted() {
+    lines "$room/=$1" >"$room/=wanted"
+    cmp -s "$room/=wanted" "$2" && return
+    echo "FAILED $name: $1 (< is wanted, > came)"
+    diff "$room/=wanted" "$2" | sed 's/^/    /'
+    return 1
+}
+
+play() {
+    take_apart "$1" || return
+    keys >"$room/=typed"
+    # shellcheck disable=SC2046
+    timeout 60 "$program" $(words) <"$room/=typed" >"$room/=out" 2>"$room/=err"
+    echo $? >"$room/=ended"
+    [ -e "$room/=status" ] || echo 0 >"$room/=status"
+    cat -v "$room/=out" >"$room/=seen"
+    is_wanted status "$room/=ended" && is_wanted shows "$room/=seen" || return
+    if [ -e "$room/=errors" ]; then
+        is_wanted errors "$room/=err" || return
+    fi
+    [ -e "$room/=trace" ] || return 0
+    grep -E -- "$(cat "$room/=pattern")" "$room/=err" >"$room/=noted"
+    is_wanted trace "$room/=noted"
+}
+
+[ $# -gt 0 ] || set -- $(cd sessions && ls | sed 's/\.txt$//')
+failed=0
+for name; do
+    if play "sessions/$name.txt"; then
+        echo "ok     $name"
+    else
+        failed=$((failed + 1))
+    fi
+done
+if [ "$failed" = 0 ]; then
+    echo "$# sessions are as they should be"
+else
+    echo "$failed of $# sessions are not as they should be"
+    exit 1
+fi
