@@ -1,0 +1,10 @@
+use Rattle.std.proofs.Common.{◌≡◌, ◌++◌, ◌≤◌, drop, replicate}
+use Rattle.xv_picture.specs.Row.{shown, states}
+use Rattle.xv_picture.specs.declared.row.State.TheVariants.{Absent}
+use Rattle.xv_picture.proofs.row.stretches.Given as goal
+
+abbrev pub invariant-loop-note : goal.invariant-loop-note
+invariant-loop-note l = record {
+  told : shown l.row.items ++ (replicate l.last.events l.last.state ++ states l.pid l.last.state (drop l.note-index l.notes)) ≡ states l.pid Absent l.notes;
+  few : l.last.events ≤ l.note-index;
+}

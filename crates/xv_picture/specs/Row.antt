@@ -1,0 +1,47 @@
+-- What a process does behind each note of a trace.
+use Rattle.std.specs.Prelude.{◌≡◌, ℕ, ℤ, pos, ◌==◌, List, [], ◌∷◌, ◌++◌, replicate, if◌then◌else◌}
+use Rattle.std.specs.Ordering.{int_eq}
+use Rattle.xv_picture.specs.declared.note.Note.{Note}
+use Rattle.xv_picture.specs.declared.note.Note.TheVariants.{Turn, Step, Call, Block, Exit, Fault, Idle, Tick, Key, Sent}
+use Rattle.xv_picture.specs.declared.row.State.{State}
+use Rattle.xv_picture.specs.declared.row.State.TheVariants.{Absent, Ready, Running, Asleep, Ended}
+use Rattle.xv_picture.specs.declared.row.Stretch.{Stretch}
+use Rattle.xv_picture.specs.declared.chart.Row.{Row}
+
+-- who had its turn waits for the next
+abbrev pub paused : State → State
+paused Running = Ready
+paused was = was
+
+-- a fork (call 1) that answers a pid has made that process, and a wait (call 3) that answers one has taken it away
+abbrev pub after_call : (pid : ℕ) → State → (number answer : ℤ) → State
+after_call pid was number answer =
+    if int_eq answer (pos pid) then (if int_eq number (pos 1) then Ready else if int_eq number (pos 3) then Absent else was)
+    else was
+
+-- what a process does behind a note, where it did `was` before it
+abbrev pub after : (pid : ℕ) → State → Note → State
+after pid was (Turn other) = if other == pid then Running else paused was
+after pid was (Step other) = if other == pid then Running else was
+after pid was (Call other number answer) = if other == pid then Running else after_call pid was number answer
+after pid was (Block other number) = if other == pid then Asleep else was
+after pid was (Exit other status) = if other == pid then Ended else was
+after pid was (Fault other cause) = if other == pid then Ended else was
+after pid was Tick = paused was
+after pid was Idle = was
+after pid was (Key byte) = was
+after pid was (Sent byte) = was
+
+-- what it does behind each note of a list
+abbrev pub states : (pid : ℕ) → State → List Note → List State
+states pid was [] = []
+states pid was (note ∷ notes) = after pid was note ∷ states pid (after pid was note) notes
+
+-- the states that a row of stretches shows, event by event
+abbrev pub shown : List Stretch → List State
+shown [] = []
+shown (stretch ∷ row) = replicate stretch.events stretch.state ++ shown row
+
+-- a row shows what its process does behind each note, where nothing had told of it before the first
+abbrev pub IsRowOf : Row → List Note → Type 0
+IsRowOf row notes = shown row.stretches.items ≡ states row.pid Absent notes

@@ -1,0 +1,43 @@
+//! Draws what processes did: reads a trace from standard input, and writes a picture of it, in SVG.
+//!
+//! A row stands for a process. Its bar shows, event by event, whether the process ran, waited for its turn,
+//! slept, or had ended and was still to be waited for.
+#![tactic(auto)]
+
+mod chart;
+mod note;
+mod picture;
+mod row;
+#[cfg(test)]
+mod tests;
+
+use crate::chart::Chart;
+use crate::note::notes;
+use crate::picture::draw;
+use std::alloc::Global;
+use std::io::{self, BufWriter, Read, Write};
+use std::process::ExitCode;
+
+// Reads a trace, and draws it.
+fn draw_trace<R: Read + Drop, W: Write + Drop>(
+    alloc: Global,
+    trace: R,
+    output: W,
+) -> io::Result<()> {
+    let text = io::read_to_string(alloc, trace)?;
+    let notes = notes(alloc, text.as_str())?;
+    let chart = Chart::of(alloc, notes)?;
+    let mut output = BufWriter::new(alloc, output)?;
+    draw(&chart, &mut output)?;
+    output.flush()
+}
+
+fn main(rt: HostRuntime) -> ExitCode {
+    match draw_trace(rt.alloc(), rt.stdin(), rt.stdout()) {
+        Ok(()) => ExitCode::SUCCESS,
+        Err(error) => {
+            let _ = writeln!(rt.stderr(), "xv_picture: {error}");
+            ExitCode::FAILURE
+        }
+    }
+}

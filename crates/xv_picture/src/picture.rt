@@ -1,0 +1,342 @@
+//! The picture of a chart, in SVG (Scalable Vector Graphics 1.1).
+use crate::chart::{Chart, Row, newborn};
+use crate::note::Note;
+use crate::row::State;
+use std::fmt::{self, Display};
+use std::io::{self, Write};
+
+/// How wide the bars of a whole trace are, in pixels.
+const WIDTH: u64 = 1_200;
+/// Where the bars begin, in pixels.
+const LEFT: u64 = 90;
+/// Where the first row begins, and how high a row is, in pixels.
+const TOP: u64 = 44;
+
+const ROW: u64 = 20;
+/// How high a bar is, in pixels.
+const BAR: u64 = 12;
+/// How much room a letter of the console takes, in hundredths of a pixel.
+const LETTER: u64 = 700;
+/// With more ticks than these they aren't drawn.
+const MOST_TICKS: usize = 300;
+
+// A length in hundredths of a pixel.
+#[derive(Clone, Copy)]
+struct Length(u64);
+
+impl Display for Length {
+    fn fmt<W: fmt::Write>(&self, f: &mut fmt::Formatter<W>) -> fmt::Result {
+        write!(f, "{}.{:02}", self.0 / 100, self.0 % 100)
+    }
+}
+
+// Where the bars of the first `event` events end, where the trace has so many.
+fn across(event: usize, events: usize) -> Length {
+    let all = (events as u64).max(1);
+    let width = (event as u64).saturating_mul(WIDTH * 100) / all;
+    Length(width.saturating_add(LEFT * 100))
+}
+
+// The upper edge of the row at this place.
+fn row_top(place: usize) -> u64 {
+    ROW.saturating_mul(place as u64).saturating_add(TOP)
+}
+
+// The middle of the bar of the row at this place.
+fn row_middle(place: usize) -> u64 {
+    row_top(place).saturating_add(BAR / 2)
+}
+
+// The word for a state, which names its colour too.
+fn word(state: State) -> &'static str {
+    match state {
+        State::Absent => "absent",
+        State::Ready => "ready",
+        State::Running => "running",
+        State::Asleep => "asleep",
+        State::Ended => "ended",
+    }
+}
+
+// The name of a kernel call.
+fn call_name(number: i32) -> &'static str {
+    match number {
+        1 => "fork",
+        2 => "exit",
+        3 => "wait",
+        4 => "pipe",
+        5 => "read",
+        6 => "kill",
+        7 => "exec",
+        10 => "dup",
+        11 => "getpid",
+        12 => "sbrk",
+        13 => "sleep",
+        14 => "uptime",
+        15 => "open",
+        16 => "write",
+        21 => "close",
+        _ => "unknown",
+    }
+}
+
+// The head of the picture.
+fn draw_head<W: Write>(height: u64, output: &mut W) -> io::Result<()> {
+    let width = WIDTH + LEFT + 30;
+    writeln!(
+        output,
+        "<svg xmlns=\"http://www.w3.org/2000/svg\" width=\"{width}\" height=\"{height}\" font-family=\"sans-serif\" font-size=\"11\">"
+    )?;
+    writeln!(output, "<style>")?;
+    writeln!(
+        output,
+        ".running {{ fill: #2563c9 }} .ready {{ fill: #c4d7f5 }}"
+    )?;
+    writeln!(
+        output,
+        ".asleep {{ fill: #f3c969 }} .ended {{ fill: #b9b9b9 }}"
+    )?;
+    writeln!(
+        output,
+        ".tick {{ stroke: #e4e4e4 }} .birth {{ stroke: #2e8b57; stroke-width: 1.5 }}"
+    )?;
+    writeln!(
+        output,
+        ".call {{ fill: #10294f }} .gone {{ fill: #c0392b }}"
+    )?;
+    writeln!(output, "</style>")?;
+    writeln!(
+        output,
+        "<rect width=\"{width}\" height=\"{height}\" fill=\"white\"/>"
+    )?;
+    Ok(())
+}
+
+// What the colours mean.
+fn draw_legend<W: Write>(output: &mut W) -> io::Result<()> {
+    let mut left = LEFT;
+    for class in ["running", "ready", "asleep", "ended", "call", "gone"] {
+        let text = left.saturating_add(16);
+        writeln!(
+            output,
+            "<rect class=\"{class}\" x=\"{left}\" y=\"10\" width=\"12\" height=\"12\"/>"
+        )?;
+        writeln!(output, "<text x=\"{text}\" y=\"20\">{class}</text>")?;
+        left = left.saturating_add(90);
+    }
+    Ok(())
+}
+
+// The ticks of the clock, as lines from the first row to the last.
+fn draw_ticks<W: Write>(chart: &Chart, bottom: u64, output: &mut W) -> io::Result<()> {
+    let ticks = chart
+        .notes
+        .iter()
+        .filter(|&&note| note == Note::Tick)
+        .count();
+    if ticks > MOST_TICKS {
+        return Ok(());
+    }
+    for (event, &note) in chart.notes.iter().enumerate() {
+        if note == Note::Tick {
+            let x = across(event, chart.notes.len());
+            writeln!(
+                output,
+                "<line class=\"tick\" x1=\"{x}\" y1=\"{TOP}\" x2=\"{x}\" y2=\"{bottom}\"/>"
+            )?;
+        }
+    }
+    Ok(())
+}
+
+// The name and the bar of a process.
+fn draw_row<W: Write>(row: &Row, place: usize, events: usize, output: &mut W) -> io::Result<()> {
+    let pid = row.pid;
+    let top = row_top(place);
+    let base = top.saturating_add(10);
+    writeln!(output, "<text x=\"8\" y=\"{base}\">process {pid}</text>")?;
+    let mut first: usize = 0;
+    for stretch in &row.stretches {
+        let behind = first.saturating_add(stretch.events);
+        if stretch.state != State::Absent && first < behind {
+            let word = word(stretch.state);
+            let left = across(first, events);
+            let width = Length(across(behind, events).0.saturating_sub(left.0));
+            let last = behind - 1;
+            writeln!(
+                output,
+                "<rect class=\"{word}\" x=\"{left}\" y=\"{top}\" width=\"{width}\" height=\"{BAR}\"><title>process {pid}: {word}, events {first} to {last}</title></rect>"
+            )?;
+        }
+        first = behind;
+    }
+    Ok(())
+}
+
+// What a mark on a bar stands for.
+#[derive(Clone, Copy)]
+enum Mark {
+    // A call of this number that is done, with its answer.
+    Answered(i32, i64),
+    // A call of this number, in which the process sleeps.
+    Waits(i32),
+    // The process is gone, with this status.
+    Exit(i32),
+    // The process is gone, by a fault of this cause.
+    Fault(u32),
+}
+
+impl Mark {
+    // The word for the mark's colour.
+    fn class(self) -> &'static str {
+        match self {
+            Mark::Answered(_, _) | Mark::Waits(_) => "call",
+            Mark::Exit(_) | Mark::Fault(_) => "gone",
+        }
+    }
+
+    // How wide the mark is, in pixels.
+    fn width(self) -> u64 {
+        match self {
+            Mark::Answered(_, _) | Mark::Waits(_) => 1,
+            Mark::Exit(_) | Mark::Fault(_) => 4,
+        }
+    }
+}
+
+impl Display for Mark {
+    fn fmt<W: fmt::Write>(&self, f: &mut fmt::Formatter<W>) -> fmt::Result {
+        match *self {
+            Mark::Answered(number, answer) => {
+                write!(f, "{} (call {number}) answers {answer}", call_name(number))
+            }
+            Mark::Waits(number) => write!(f, "{} (call {number}) waits", call_name(number)),
+            Mark::Exit(status) => write!(f, "exit with status {status}"),
+            Mark::Fault(cause) => write!(f, "fault of cause {cause}"),
+        }
+    }
+}
+
+// The mark of an event, and the process on whose bar it stands.
+fn mark_of(note: Note) -> Option<(u32, Mark)> {
+    match note {
+        Note::Call(pid, number, answer) => Some((pid, Mark::Answered(number, answer))),
+        Note::Block(pid, number) => Some((pid, Mark::Waits(number))),
+        Note::Exit(pid, status) => Some((pid, Mark::Exit(status))),
+        Note::Fault(pid, cause) => Some((pid, Mark::Fault(cause))),
+        _ => None,
+    }
+}
+
+// A mark on the bar of the row at this place; its text shows under the pointer.
+fn draw_mark<W: Write>(x: Length, place: usize, mark: Mark, output: &mut W) -> io::Result<()> {
+    let class = mark.class();
+    let top = row_top(place);
+    let width = mark.width();
+    writeln!(
+        output,
+        "<rect class=\"{class}\" x=\"{x}\" y=\"{top}\" width=\"{width}\" height=\"{BAR}\"><title>{mark}</title></rect>"
+    )
+}
+
+// A line from a parent's bar to the bar of the child that it made.
+fn draw_birth<W: Write>(x: Length, parent: usize, child: usize, output: &mut W) -> io::Result<()> {
+    let from = row_middle(parent);
+    let to = row_middle(child);
+    writeln!(
+        output,
+        "<line class=\"birth\" x1=\"{x}\" y1=\"{from}\" x2=\"{x}\" y2=\"{to}\"/>"
+    )
+}
+
+// What stands on the bars for this event.
+fn draw_event<W: Write>(chart: &Chart, event: usize, note: Note, output: &mut W) -> io::Result<()> {
+    let Some((pid, mark)) = mark_of(note) else {
+        return Ok(());
+    };
+    let Some(place) = chart.place_of(pid) else {
+        return Ok(());
+    };
+    let x = across(event, chart.notes.len());
+    if let Some(child) = newborn(note) {
+        if let Some(child) = chart.place_of(child) {
+            draw_birth(x, place, child, output)?;
+        }
+    }
+    draw_mark(x, place, mark, output)
+}
+
+// A byte of the console, as a letter of the picture.
+fn draw_letter<W: Write>(byte: u8, output: &mut W) -> io::Result<()> {
+    match byte {
+        b'<' => write!(output, "&lt;"),
+        b'>' => write!(output, "&gt;"),
+        b'&' => write!(output, "&amp;"),
+        b'\n' => write!(output, "\u{23ce}"),
+        b' '..=b'~' => write!(output, "{}", byte as char),
+        _ => write!(output, "\u{b7}"),
+    }
+}
+
+// The byte that an event shows in the line of this name.
+fn byte_in(line: &str, note: Note) -> Option<u8> {
+    match note {
+        Note::Key(byte) if line == "typed" => Some(byte),
+        Note::Sent(byte) if line == "sent" => Some(byte),
+        _ => None,
+    }
+}
+
+// A line of the bytes that were typed, or sent. Where there is no room for a letter, it is put behind the
+// one before it, and it is left out where that is behind the right edge.
+fn draw_bytes<W: Write>(line: &str, chart: &Chart, base: u64, output: &mut W) -> io::Result<()> {
+    writeln!(output, "<text x=\"8\" y=\"{base}\">{line}</text>")?;
+    let mut free: u64 = 0;
+    for (event, &note) in chart.notes.iter().enumerate() {
+        if free > (LEFT + WIDTH) * 100 {
+            break;
+        }
+        if let Some(byte) = byte_in(line, note) {
+            let x = Length(across(event, chart.notes.len()).0.max(free));
+            write!(
+                output,
+                "<text x=\"{x}\" y=\"{base}\" font-family=\"monospace\">"
+            )?;
+            draw_letter(byte, output)?;
+            writeln!(output, "</text>")?;
+            free = x.0.saturating_add(LETTER);
+        }
+    }
+    Ok(())
+}
+
+// The numbers of five events under the bars.
+fn draw_numbers<W: Write>(events: usize, base: u64, output: &mut W) -> io::Result<()> {
+    writeln!(output, "<text x=\"8\" y=\"{base}\">event</text>")?;
+    for quarter in 0..5usize {
+        let event = events.saturating_mul(quarter) / 4;
+        let x = across(event, events);
+        writeln!(output, "<text x=\"{x}\" y=\"{base}\">{event}</text>")?;
+    }
+    Ok(())
+}
+
+/// Writes the picture of a chart: a row for each process, in the order of their pids, with its bar and its
+/// marks; below them the bytes that were sent and typed, and the numbers of events.
+pub fn draw<W: Write>(chart: &Chart, output: &mut W) -> io::Result<()> {
+    let events = chart.notes.len();
+    let bottom = row_top(chart.rows.len());
+    draw_head(bottom.saturating_add(70), output)?;
+    draw_legend(output)?;
+    draw_ticks(chart, bottom, output)?;
+    for (place, row) in chart.rows.iter().enumerate() {
+        draw_row(row, place, events, output)?;
+    }
+    for (event, &note) in chart.notes.iter().enumerate() {
+        draw_event(chart, event, note, output)?;
+    }
+    draw_bytes("sent", chart, bottom.saturating_add(16), output)?;
+    draw_bytes("typed", chart, bottom.saturating_add(34), output)?;
+    draw_numbers(events, bottom.saturating_add(54), output)?;
+    writeln!(output, "</svg>")
+}
