@@ -40,18 +40,18 @@ fn least_time_of(pages: usize, forks: u32) -> u128 {
     least
 }
 
-/// Where the bytes of a pipe begin in its frame, and how many they are.
+/// Where the bytes of a pipe begin in its frame, and how many a write and a read move.
 const RING: usize = 32;
-const PIPE_BYTES: usize = 512;
+const WRITE_BYTES: usize = 512;
 
 /// A write and a read of 512 bytes, so often: from a page into the pipe's frame, and from there to a page.
 #[inline(never)]
 fn by_two_copies(frames: &mut [[u8; 4096]; 3], rounds: u32) {
     let [from, pipe, to] = frames;
     for _ in 0..rounds {
-        pipe[RING..RING + PIPE_BYTES].copy_from_slice(&from[..PIPE_BYTES]);
+        pipe[RING..RING + WRITE_BYTES].copy_from_slice(&from[..WRITE_BYTES]);
         black_box(&mut *pipe);
-        to[..PIPE_BYTES].copy_from_slice(&pipe[RING..RING + PIPE_BYTES]);
+        to[..WRITE_BYTES].copy_from_slice(&pipe[RING..RING + WRITE_BYTES]);
         black_box(&mut *to);
     }
 }
@@ -61,17 +61,17 @@ fn by_two_copies(frames: &mut [[u8; 4096]; 3], rounds: u32) {
 fn by_four_copies(frames: &mut [[u8; 4096]; 3], rounds: u32) {
     let [from, pipe, to] = frames;
     for _ in 0..rounds {
-        let mut buffer = [0; PIPE_BYTES];
+        let mut buffer = [0; WRITE_BYTES];
         black_box(&mut buffer);
-        buffer.copy_from_slice(&from[..PIPE_BYTES]);
+        buffer.copy_from_slice(&from[..WRITE_BYTES]);
         black_box(&mut buffer);
-        pipe[RING..RING + PIPE_BYTES].copy_from_slice(&buffer);
+        pipe[RING..RING + WRITE_BYTES].copy_from_slice(&buffer);
         black_box(&mut *pipe);
-        let mut buffer = [0; PIPE_BYTES];
+        let mut buffer = [0; WRITE_BYTES];
         black_box(&mut buffer);
-        buffer.copy_from_slice(&pipe[RING..RING + PIPE_BYTES]);
+        buffer.copy_from_slice(&pipe[RING..RING + WRITE_BYTES]);
         black_box(&mut buffer);
-        to[..PIPE_BYTES].copy_from_slice(&buffer);
+        to[..WRITE_BYTES].copy_from_slice(&buffer);
         black_box(&mut *to);
     }
 }

@@ -1,4 +1,4 @@
--- There is room to count: 64 processes with 16 descriptors each have no more than 1,024, so what counts descriptors can go on counting.
+-- There is room to count: so many processes as there are slots, with all their descriptors, have no more descriptors than there may be open files, so what counts descriptors can go on counting.
 use Rattle.std.specs.Prelude.{◌≡◌, ◌≢◌, ℕ, ◌+◌, ◌<◌, Some, None}
 use Rattle.std.specs.FinMap.{get}
 use Rattle.xk_base.specs.declared.limits.TheConstants.{NPROC, NOFILE, OPEN_FILES}

@@ -5,27 +5,32 @@ use crate::{
 use phys_ram::Ram;
 use std::test::Fail;
 use xk_base::Frame;
+use xk_base::limits::PIPE_BYTES;
+
+// Bytes that are more than a pipe holds.
+const LONG: usize = PIPE_BYTES + 88;
 
 #[test]
 fn bytes_come_out_in_order_round_the_end_of_the_ring(rt: HostRuntime) -> Result<(), Fail> {
     let mut ram = Ram::new(rt.alloc(), 16)?;
     let f = Frame::new(3);
     make(&mut ram, f);
-    let mut bytes = [0; 600];
-    for i in 0..600 {
+    let mut bytes = [0; LONG];
+    for i in 0..LONG {
         bytes[i] = (i % 251) as u8;
     }
-    assert_eq!(rt; push(&mut ram, f, &bytes), 512);
-    assert_eq!(rt; len(&ram, f), 512);
+    assert_eq!(rt; push(&mut ram, f, &bytes), PIPE_BYTES);
+    assert_eq!(rt; len(&ram, f), PIPE_BYTES);
     assert_eq!(rt; push(&mut ram, f, &bytes), 0);
     let mut out = [255; 300];
     assert_eq!(rt; pull(&mut ram, f, &mut out), 300);
     assert!(rt; out.as_slice() == &bytes[..300]);
-    assert_eq!(rt; push(&mut ram, f, &bytes[512..]), 88);
-    assert_eq!(rt; len(&ram, f), 300);
-    assert_eq!(rt; pull(&mut ram, f, &mut out), 300);
-    assert!(rt; out.as_slice() == &bytes[300..]);
-    assert_eq!(rt; pull(&mut ram, f, &mut out), 0);
+    assert_eq!(rt; push(&mut ram, f, &bytes[PIPE_BYTES..]), 88);
+    assert_eq!(rt; len(&ram, f), LONG - 300);
+    let mut rest = [255; LONG];
+    assert_eq!(rt; pull(&mut ram, f, &mut rest), LONG - 300);
+    assert!(rt; rest[..LONG - 300] == bytes[300..]);
+    assert_eq!(rt; pull(&mut ram, f, &mut rest), 0);
     assert_eq!(rt; len(&ram, f), 0);
     Ok(())
 }

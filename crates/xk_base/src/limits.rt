@@ -1,6 +1,7 @@
 //! The machine's limits, each named once.
 //!
 //! The names in capitals without a break (`NPROC`, `NOFILE`, `MAXPATH`, `MAXARG`) are xv6's own.
+//! `NOFILE`, `OPEN_FILES` and `PIPE_BYTES` are larger than in xv6; their lines say what it has.
 
 /// Bytes of a page, and of a frame (RISC-V Privileged ISA, Sv39).
 pub const PAGE_BYTES: u64 = 4096;
@@ -26,14 +27,14 @@ pub const NPROC: usize = 64;
 /// The greatest pid.
 pub const PID_MAX: u32 = 0x7FFF_FFFF;
 
-/// Descriptors of a process.
-pub const NOFILE: usize = 16;
+/// Descriptors of a process (xv6: 16).
+pub const NOFILE: usize = 32;
 
-/// Open files of all processes together: so many that each descriptor may have its own.
-pub const OPEN_FILES: usize = 1024;
+/// Open files of all processes together (xv6's `NFILE`: 100): so many that each descriptor may have its own.
+pub const OPEN_FILES: usize = NPROC * NOFILE;
 
-/// Bytes that a pipe holds.
-pub const PIPE_BYTES: usize = 512;
+/// Bytes that a pipe holds (xv6's `PIPESIZE`: 512).
+pub const PIPE_BYTES: usize = 2048;
 
 /// Bytes of a path, with its zero byte.
 pub const MAXPATH: usize = 128;

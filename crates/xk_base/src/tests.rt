@@ -58,8 +58,8 @@ fn numbers_keep_what_they_are_made_of(rt: HostRuntime) {
     assert_eq!(rt; Vpn::new(67_108_863).number(), 67_108_863);
     assert_eq!(rt; Frame::new(32_767).number(), 32_767);
     assert_eq!(rt; Frame::new(32_767).index(), 32_767);
-    assert_eq!(rt; Fd::new(15).number(), 15);
-    assert_eq!(rt; Fd::new(15).index(), 15);
+    assert_eq!(rt; Fd::new(31).number(), 31);
+    assert_eq!(rt; Fd::new(31).index(), 31);
     assert_eq!(rt; Reg::new(31).number(), 31);
     let rights = Rights {
         read: true,

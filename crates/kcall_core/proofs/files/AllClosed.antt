@@ -5,6 +5,7 @@ use Rattle.std.specs.Ordering.{nat_cmp}
 use Rattle.std.specs.FinMap.{FinMap, get, insert, remove}
 use Rattle.std.proofs.lemmas.Bool.{cases_eq, cases_lt}
 use Rattle.std.proofs.lemmas.Bool.Decides.{eqb_tells}
+use Rattle.xk_base.specs.declared.limits.TheConstants.{NOFILE}
 use Rattle.sv39_core.proofs.Gathered.{same_pages}
 use Rattle.sv39_core.proofs.Words.{ltb-yes, ltb-no}
 use Rattle.hart_core.specs.declared.hart.Hart.{Hart}
@@ -74,8 +75,8 @@ unused-closed {k} {h} {slot} {d} closing is unused =
     let p = pid_now k in
     let none : get l.descriptors d ≡ None =
     named-seen (descriptors_at k.table (slot_now k)) d
-    ∙ ap (λ o. cond (ltb d 16) o None) (ap (λ n. named_by (descriptors_at k.table n) d) (ap or_zero is) ∙ unused)
-    ∙ both (ltb d 16) in
+    ∙ ap (λ o. cond (ltb d NOFILE) o None) (ap (λ n. named_by (descriptors_at k.table n) d) (ap or_zero is) ∙ unused)
+    ∙ both (ltb d NOFILE) in
     let target : target_now k h d ≡ None = ap (end_of s) none in
     let free : s.free ≡ s.free + 0 = omega arith in
     record {
@@ -93,22 +94,22 @@ unused-closed {k} {h} {slot} {d} closing is unused =
     both true = refl
     both false = refl
 
-past-none : (ds : List (Option ℕ)) (d : ℕ) → cond (ltb d 16) (named_by ds d) None ≡ cond (nat_lt d 16) (cond (ltb d 16) (named_by ds d) None) None
-past-none ds d = by (ltb d 16)
+past-none : (ds : List (Option ℕ)) (d : ℕ) → cond (ltb d NOFILE) (named_by ds d) None ≡ cond (nat_lt d NOFILE) (cond (ltb d NOFILE) (named_by ds d) None) None
+past-none ds d = by (ltb d NOFILE)
   where
     by : (b : Bool) → cond b (named_by ds d) None ≡ cond b (cond b (named_by ds d) None) None
     by true = refl
     by false = refl
 
 -- before the first one
-pub closes-none : {k : Kernel} {h : Hart} → IsClosing k h → ClosesFrom k h 16 k
+pub closes-none : {k : Kernel} {h : Hart} → IsClosing k h → ClosesFrom k h NOFILE k
 closes-none {k} {h} closing = record {
   after = closing;
   remains = remains-all k h;
   descriptors = λ d.
       named-seen (descriptors_at k.table (slot_now k)) d
       ∙ past-none (descriptors_at k.table (slot_now k)) d
-      ∙ ap (λ o. cond (nat_lt d 16) o None) (sym (named-seen (descriptors_at k.table (slot_now k)) d));
+      ∙ ap (λ o. cond (nat_lt d NOFILE) o None) (sym (named-seen (descriptors_at k.table (slot_now k)) d));
   state = λ t. record (state_of k h) { processes = sym (insert-there (state_of k h).processes (pid_now k) (Alive (live_now k h)) (live-is k h closing.sound closing.running)) t };
   pipes = refl;
   free = refl;

@@ -3,6 +3,7 @@ use Rattle.std.proofs.Common.{◌≡◌, ℕ, ◌+◌, ◌<◌, Bool, true, cond
 use Rattle.std.specs.Prelude.{ℤ, pos, negsuc, IsSome, is_some, option_map}
 use Rattle.std.specs.Ordering.{nat_cmp}
 use Rattle.std.specs.FinMap.{FinMap, get}
+use Rattle.xk_base.specs.declared.limits.TheConstants.{NOFILE}
 use Rattle.hart_core.specs.declared.hart.Hart.{Hart}
 use Rattle.pipe_core.specs.Pipe.{Pipe}
 use Rattle.file_table.specs.OpenFiles as files
@@ -52,7 +53,7 @@ use Rattle.kcall_core.proofs.rows.RowsByParts.{close_same}
 
 -- ---- what its row tells, whatever the descriptor is on
 
-module _ (k : Kernel) (h : Hart) (c : Call) (d g : ℕ) (x : OpenFile) (whole : IsWhole k h) (runs : IsRunning k) (below : d < 16) (used : get (live_now k h).descriptors d ≡ Some g) (opened : get (state_of k h).files g ≡ Some x) where
+module _ (k : Kernel) (h : Hart) (c : Call) (d g : ℕ) (x : OpenFile) (whole : IsWhole k h) (runs : IsRunning k) (below : d < NOFILE) (used : get (live_now k h).descriptors d ≡ Some g) (opened : get (state_of k h).files g ≡ Some x) where
   abbrev s : State
   s = state_of k h
 

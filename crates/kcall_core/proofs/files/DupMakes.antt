@@ -8,7 +8,7 @@ use Rattle.std.proofs.lemmas.Bool.{or_parts}
 use Rattle.std.proofs.lemmas.Bool.Decides.{eqb_tells}
 use Rattle.sv39_core.proofs.Words.{ltb-yes}
 use Rattle.xk_base.specs.Gathered.{gathered}
-use Rattle.xk_base.specs.declared.limits.TheConstants.{OPEN_FILES, PIPE_BYTES}
+use Rattle.xk_base.specs.declared.limits.TheConstants.{NOFILE, OPEN_FILES, PIPE_BYTES}
 use Rattle.hart_core.specs.declared.hart.Hart.{Hart}
 use Rattle.pipe_core.specs.Pipe.{Pipe}
 use Rattle.file_table.specs.Named.{named_by, with_named}
@@ -112,7 +112,7 @@ more-wake (Pipe_end i end) m k h = by (get m i) refl
       clock = refl;
     }
 
-module _ (k : Kernel) (h : Hart) (c : Call) (slot j d g : ℕ) (x : OpenFile) (whole : IsWhole k h) (runs : IsRunning k) (is : k.current ≡ Some slot) (source-below : j < 16) (source : InUse k h j g x) (below : d < 16) (free : named_by (descriptors_at k.table slot) d ≡ None) where
+module _ (k : Kernel) (h : Hart) (c : Call) (slot j d g : ℕ) (x : OpenFile) (whole : IsWhole k h) (runs : IsRunning k) (is : k.current ≡ Some slot) (source-below : j < NOFILE) (source : InUse k h j g x) (below : d < NOFILE) (free : named_by (descriptors_at k.table slot) d ≡ None) where
   abbrev s : State
   s = state_of k h
 
@@ -131,7 +131,7 @@ module _ (k : Kernel) (h : Hart) (c : Call) (slot j d g : ℕ) (x : OpenFile) (w
   unused : get l.descriptors d ≡ None
   unused =
       named-seen (descriptors_at k.table (slot_now k)) d
-      ∙ ap (λ b. cond b (named_by (descriptors_at k.table (slot_now k)) d) None) (ltb-yes d 16 below)
+      ∙ ap (λ b. cond b (named_by (descriptors_at k.table (slot_now k)) d) None) (ltb-yes d NOFILE below)
       ∙ ap (λ n. named_by (descriptors_at k.table n) d) (sym (now-slot slot whole.sound is)) ∙ free
 
   abbrev shown : Descriptor
@@ -287,7 +287,7 @@ dup-unused c v (negsuc k) none = refl
 pub dup-refused : (c : Call) (v : View) → ((d : ℕ) → c_int c.a0 ≡ pos d → v.descriptors d ≡ None) → dup c v ≡ refused c v
 dup-refused c v none = dup_same c v ∙ dup-unused c v (c_int c.a0) none
 
-pub dup-full : (k : Kernel) (h : Hart) (c : Call) (j g : ℕ) (x : OpenFile) → j < 16 → InUse k h j g x → c_int c.a0 ≡ pos j → lowest_free (view_now k h).descriptors ≡ None → dup c (view_now k h) ≡ refused c (view_now k h)
+pub dup-full : (k : Kernel) (h : Hart) (c : Call) (j g : ℕ) (x : OpenFile) → j < NOFILE → InUse k h j g x → c_int c.a0 ≡ pos j → lowest_free (view_now k h).descriptors ≡ None → dup c (view_now k h) ≡ refused c (view_now k h)
 unfolding view_of
 dup-full k h c j g x below source is-fd full =
     let t = numbered (state_of k h) (live_now k h) in

@@ -11,6 +11,7 @@ use Rattle.xk_base.specs.Bytes.{write_image}
 use Rattle.sv39_core.proofs.Gathered.{same_pages}
 use Rattle.hart_core.specs.declared.hart.Hart.{Hart}
 use Rattle.file_table.specs.OpenFiles as files
+use Rattle.file_table.specs.declared.open_file.TheConstants.{SHARERS_MAX}
 use Rattle.file_table.specs.OpenFiles.{entry_at, entry_file, entry_count, open_file_at, count_at, moved_to, entry_moved, target_moved, with_offset}
 use Rattle.file_table.specs.declared.open_file.Entry.{Entry}
 use Rattle.file_table.specs.declared.open_file.OpenFile.{OpenFile}
@@ -86,7 +87,7 @@ module _ (xs : List (Option Entry)) (g to : ℕ) (e : Entry) (is : entry_at xs g
     counts = λ f y at. elim (cases_eq f g) [
       | inl same ↦
           let moved : entry_moved to e ≡ y = same-entry (entry_moved to e) y (sym offset-here ∙ sym (ap (entry_at (with_offset g to xs)) same) ∙ at) in
-          subst (λ (z : Entry). (1 ≤ z.count) × (z.count ≤ 4096)) moved (table.counts g e is)
+          subst (λ (z : Entry). (1 ≤ z.count) × (z.count ≤ SHARERS_MAX)) moved (table.counts g e is)
       | inr ne ↦ table.counts f y (sym (offset-other f ne) ∙ at)
     ];
   }

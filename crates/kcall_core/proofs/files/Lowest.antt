@@ -42,15 +42,15 @@ lowest-shown {k} {h} {slot} whole runs is inside =
     lowest_free_is (frame_count k) (state_of k h) whole.well (pid_now k) (live_now k h) (live-is k h whole.sound runs)
     ∙ least_congr NOFILE (λ d. is_none (get (live_now k h).descriptors d)) (λ d. is_none (get_or ds d None)) (λ d below. ap is_none (
     named-seen (descriptors_at k.table (slot_now k)) d
-    ∙ ap (λ b. cond b (named_by (descriptors_at k.table (slot_now k)) d) None) (ltb-yes d 16 below)
+    ∙ ap (λ b. cond b (named_by (descriptors_at k.table (slot_now k)) d) None) (ltb-yes d NOFILE below)
     ∙ ap (λ n. named_by (descriptors_at k.table n) d) (sym (now-slot slot whole.sound is))))
-    ∙ least-position ds 16 (whole.counted.lists slot inside)
+    ∙ least-position ds NOFILE (whole.counted.lists slot inside)
 
 -- it is free
-pub lowest-free : {k : Kernel} {h : Hart} {slot d : ℕ} → IsWhole k h → slot < 64 → position is_none (descriptors_at k.table slot) ≡ Some d → (d < 16) × (named_by (descriptors_at k.table slot) d ≡ None)
+pub lowest-free : {k : Kernel} {h : Hart} {slot d : ℕ} → IsWhole k h → slot < 64 → position is_none (descriptors_at k.table slot) ≡ Some d → (d < NOFILE) × (named_by (descriptors_at k.table slot) d ≡ None)
 lowest-free {k} {h} {slot} {d} whole inside e =
     let ds = descriptors_at k.table slot in
-    let found = least_passes 16 (λ n. is_none (get_or ds n None)) d (least-position ds 16 (whole.counted.lists slot inside) ∙ e) in
+    let found = least_passes NOFILE (λ n. is_none (get_or ds n None)) d (least-position ds NOFILE (whole.counted.lists slot inside) ∙ e) in
     (found.1, none (named_by ds d) found.0)
   where
     none : (o : Option ℕ) → is_none o ≡ true → o ≡ None
@@ -63,13 +63,13 @@ above-shown {k} {h} {slot} whole runs is low =
     lowest_free_above_is (frame_count k) (state_of k h) whole.well (pid_now k) (live_now k h) (live-is k h whole.sound runs) low
     ∙ least_congr NOFILE (λ d. nat_lt low d && is_none (get (live_now k h).descriptors d)) (λ d. nat_lt low d && is_none (named_by (descriptors_at k.table slot) d)) (λ d below. ap (λ o. nat_lt low d && is_none o) (
     named-seen (descriptors_at k.table (slot_now k)) d
-    ∙ ap (λ b. cond b (named_by (descriptors_at k.table (slot_now k)) d) None) (ltb-yes d 16 below)
+    ∙ ap (λ b. cond b (named_by (descriptors_at k.table (slot_now k)) d) None) (ltb-yes d NOFILE below)
     ∙ ap (λ n. named_by (descriptors_at k.table n) d) (sym (now-slot slot whole.sound is))))
 
 -- it is free, and another one
-pub above-free : (t : Slots) (slot : ℕ) {low d : ℕ} → least_below (λ e. nat_lt low e && is_none (named_by (descriptors_at t slot) e)) NOFILE ≡ Some d → (d < 16) × (named_by (descriptors_at t slot) d ≡ None) × (low < d)
+pub above-free : (t : Slots) (slot : ℕ) {low d : ℕ} → least_below (λ e. nat_lt low e && is_none (named_by (descriptors_at t slot) e)) NOFILE ≡ Some d → (d < NOFILE) × (named_by (descriptors_at t slot) d ≡ None) × (low < d)
 above-free t slot {low} {d} e =
-    let found = least_passes 16 (λ n. nat_lt low n && is_none (named_by (descriptors_at t slot) n)) d e in
+    let found = least_passes NOFILE (λ n. nat_lt low n && is_none (named_by (descriptors_at t slot) n)) d e in
     let both = and-parts (nat_lt low d) (is_none (named_by (descriptors_at t slot) d)) found.0 in
     (found.1, none (named_by (descriptors_at t slot) d) both.1, ltb-true low d both.0)
   where

@@ -2,6 +2,7 @@
 use Rattle.std.proofs.Common.{◌≡◌, ◌≢◌, ℕ, ◌<◌, Bool, true, false, not, Option, Some, None, refl, sym, ap, ◌∙◌, subst}
 use Rattle.std.specs.Prelude.{ℤ, pos, negsuc, IsSome, is_some, option_map, nat_eq}
 use Rattle.std.specs.FinMap.{get}
+use Rattle.xk_base.specs.declared.limits.TheConstants.{NOFILE}
 use Rattle.hart_core.specs.declared.hart.Hart.{Hart}
 use Rattle.pipe_core.specs.Pipe.{Pipe}
 use Rattle.file_table.specs.OpenFiles.{open_file_at}
@@ -64,7 +65,7 @@ same-kind x y e = cc
 pub in-use-as : {k : Kernel} {h : Hart} {d g : ℕ} (x y : OpenFile) → InUse k h d g x → open_file_at k.files g ≡ Some y → InUse k h d g y
 in-use-as {k} {h} {d} {g} x y source e = subst (InUse k h d g) (same-kind x y (sym source.kind ∙ e)) source
 
-module _ {k : Kernel} {h : Hart} (c : Call) {fd file : ℕ} {x : OpenFile} (whole : IsWhole k h) (runs : IsRunning k) (below : fd < 16) (number : c_int c.a0 ≡ pos fd) (source : InUse k h fd file x) where
+module _ {k : Kernel} {h : Hart} (c : Call) {fd file : ℕ} {x : OpenFile} (whole : IsWhole k h) (runs : IsRunning k) (below : fd < NOFILE) (number : c_int c.a0 ≡ pos fd) (source : InUse k h fd file x) where
   abbrev s : State
   s = state_of k h
 

@@ -6,7 +6,7 @@ use Rattle.std.specs.Option.{option_and_then}
 use Rattle.std.proofs.lemmas.Bool.{cases_eq, cases_lt, eq-eqb, eqb-true}
 use Rattle.std.proofs.lemmas.Bool.Decides.{eqb_tells}
 use Rattle.std.proofs.lemmas.List.{get_or_past, get_or-set_same, get_or-set_other, get_or-replicate, length-set}
-use Rattle.xk_base.specs.declared.limits.TheConstants.{OPEN_FILES}
+use Rattle.xk_base.specs.declared.limits.TheConstants.{NOFILE, OPEN_FILES}
 use Rattle.xk_base.specs.Words.{count_below}
 use Rattle.sv39_core.proofs.Gathered.{gathered-get}
 use Rattle.sv39_core.proofs.Words.{ltb-yes, ltb-no}
@@ -60,32 +60,32 @@ this-is n (Some k) h = ap Some (eqb-true k n h)
 -- ---- in the slots
 
 -- a descriptor that names an open file is one of its namings
-pub named-counts : (t : Slots) (slot d file : ℕ) → slot < 64 → d < 16 → named_by (descriptors_at t slot) d ≡ Some file → 1 ≤ namings t file
+pub named-counts : (t : Slots) (slot d file : ℕ) → slot < 64 → d < NOFILE → named_by (descriptors_at t slot) d ≡ Some file → 1 ≤ namings t file
 named-counts t slot d file inside below is =
-    let some = count_some 16 (λ e. is_this file (named_by (descriptors_at t slot) e)) d below (ap (is_this file) is ∙ eq-eqb file file refl) in
+    let some = count_some NOFILE (λ e. is_this file (named_by (descriptors_at t slot) e)) d below (ap (is_this file) is ∙ eq-eqb file file refl) in
     let term : named_in (descriptors_at t slot) file ≤ namings t file = sum_term 64 slot (λ i. named_in (descriptors_at t i) file) inside in
     omega (arith, some.1, term)
 
 -- and an open file that has one is named
-pub counts-named : (t : Slots) (file : ℕ) → 1 ≤ namings t file → (slot : ℕ) × (d : ℕ) × (slot < 64) × (d < 16) × (named_by (descriptors_at t slot) d ≡ Some file)
+pub counts-named : (t : Slots) (file : ℕ) → 1 ≤ namings t file → (slot : ℕ) × (d : ℕ) × (slot < 64) × (d < NOFILE) × (named_by (descriptors_at t slot) d ≡ Some file)
 counts-named t file many =
     let s = sum-some 64 (λ i. named_in (descriptors_at t i) file) many in
-    let d = count-some 16 (λ e. is_this file (named_by (descriptors_at t s.0) e)) s.2 in
+    let d = count-some NOFILE (λ e. is_this file (named_by (descriptors_at t s.0) e)) s.2 in
     (s.0, d.0, s.1, d.1, this-is file (named_by (descriptors_at t s.0) d.0) d.2)
 
 -- ---- in the state
 
-pub named-seen : (ds : List (Option ℕ)) (d : ℕ) → get (descriptor_map ds) d ≡ cond (ltb d 16) (named_by ds d) None
-named-seen ds d = gathered-get (λ e. get_or ds e None) 16 d
+pub named-seen : (ds : List (Option ℕ)) (d : ℕ) → get (descriptor_map ds) d ≡ cond (ltb d NOFILE) (named_by ds d) None
+named-seen ds d = gathered-get (λ e. get_or ds e None) NOFILE d
 
 cond-some : {X : Type 0} (b : Bool) (o : Option X) (x : X) → cond b o None ≡ Some x → (b ≡ true) × (o ≡ Some x)
 cond-some true o x e = (refl, e)
 cond-some false o x e = absurd (none-some x e)
 
-below-16 : (d : ℕ) → ltb d 16 ≡ true → d < 16
-below-16 d e = elim (cases_lt d 16) [
+below-last : (d : ℕ) → ltb d NOFILE ≡ true → d < NOFILE
+below-last d e = elim (cases_lt d NOFILE) [
   | inl lt ↦ lt
-  | inr ge ↦ absurd (false-true (sym (ltb-no d 16 ge) ∙ e))
+  | inr ge ↦ absurd (false-true (sym (ltb-no d NOFILE ge) ∙ e))
 ]
   where
     false-true : false ≡ true → ⊥
@@ -93,25 +93,25 @@ below-16 d e = elim (cases_lt d 16) [
 
 module _ (k : Kernel) (h : Hart) (sound : IsSound k h) where
   -- what a live process names, a descriptor of its slot names
-  pub names-slot : (q d file : ℕ) → quiet.file_at (state_of k h) q d ≡ Some file → (slot : ℕ) × (slot < 64) × (d < 16) × (named_by (descriptors_at k.table slot) d ≡ Some file)
+  pub names-slot : (q d file : ℕ) → quiet.file_at (state_of k h) q d ≡ Some file → (slot : ℕ) × (slot < 64) × (d < NOFILE) × (named_by (descriptors_at k.table slot) d ≡ Some file)
   names-slot q d file is = by (slot_of k.table q) refl
     where
-      under : (i : ℕ) (p : Process) → place_at k.table i ≡ Some p → p.pid ≡ q → (o : Option ℤ) → status_of p ≡ o → (slot : ℕ) × (slot < 64) × (d < 16) × (named_by (descriptors_at k.table slot) d ≡ Some file)
+      under : (i : ℕ) (p : Process) → place_at k.table i ≡ Some p → p.pid ≡ q → (o : Option ℤ) → status_of p ≡ o → (slot : ℕ) × (slot < 64) × (d < NOFILE) × (named_by (descriptors_at k.table slot) d ≡ Some file)
       under i p at pid None alive =
           let seen = sym (ap (λ o. file_of o d) (sym (ap (live (state_of k h)) pid) ∙ live-held k h sound.table i p at alive)) ∙ is in
-          let r = cond-some (ltb d 16) (named_by (descriptors_at k.table i) d) file (sym (named-seen (descriptors_at k.table i) d) ∙ seen) in
-          (i, slot-inside k h sound i p at, below-16 d r.0, r.1)
+          let r = cond-some (ltb d NOFILE) (named_by (descriptors_at k.table i) d) file (sym (named-seen (descriptors_at k.table i) d) ∙ seen) in
+          (i, slot-inside k h sound i p at, below-last d r.0, r.1)
       under i p at pid (Some status) over =
           absurd (none-some file (sym (ap (λ o. file_of o d) (sym (ap (live (state_of k h)) pid) ∙ ended-held k h sound.table i p status at over)) ∙ is))
 
-      by : (o : Option ℕ) → slot_of k.table q ≡ o → (slot : ℕ) × (slot < 64) × (d < 16) × (named_by (descriptors_at k.table slot) d ≡ Some file)
+      by : (o : Option ℕ) → slot_of k.table q ≡ o → (slot : ℕ) × (slot < 64) × (d < NOFILE) × (named_by (descriptors_at k.table slot) d ≡ Some file)
       by None missing = absurd (none-some file (sym (ap (λ o. file_of o d) (missing-live k h sound.table q missing)) ∙ is))
       by (Some i) at = let f = slot-found k.table q i at in under i f.0 f.1 f.2 (status_of f.0) refl
 
   -- and the other way round
-  pub slot-names : (slot d file : ℕ) (p : Process) → place_at k.table slot ≡ Some p → status_of p ≡ None → d < 16 → named_by (descriptors_at k.table slot) d ≡ Some file → quiet.file_at (state_of k h) p.pid d ≡ Some file
+  pub slot-names : (slot d file : ℕ) (p : Process) → place_at k.table slot ≡ Some p → status_of p ≡ None → d < NOFILE → named_by (descriptors_at k.table slot) d ≡ Some file → quiet.file_at (state_of k h) p.pid d ≡ Some file
   slot-names slot d file p at alive below is =
-      ap (λ o. file_of o d) (live-held k h sound.table slot p at alive) ∙ named-seen (descriptors_at k.table slot) d ∙ ap (λ b. cond b (named_by (descriptors_at k.table slot) d) None) (ltb-yes d 16 below) ∙ is
+      ap (λ o. file_of o d) (live-held k h sound.table slot p at alive) ∙ named-seen (descriptors_at k.table slot) d ∙ ap (λ b. cond b (named_by (descriptors_at k.table slot) d) None) (ltb-yes d NOFILE below) ∙ is
 
 -- the open files of the state are those of the table
 pub files-seen : (k : Kernel) (h : Hart) (file : ℕ) → get (state_of k h).files file ≡ cond (ltb file OPEN_FILES) (open_file_at k.files file) None
@@ -169,9 +169,9 @@ files-left k k' h h' sound counted table kept = record {
         no-status None is = is
         no-status (Some z) is = absurd (false-true (sym (ap is_none is) ∙ e))
 
-    live_by : (slot d g : ℕ) → slot < 64 → named_by (descriptors_at k'.table slot) d ≡ Some g → d < 16 → (b : Bool) → place_is_live (place_at k'.table slot) ≡ b → (q : ℕ) × (e : ℕ) × (quiet.file_at (state_of k' h') q e ≡ Some g)
+    live_by : (slot d g : ℕ) → slot < 64 → named_by (descriptors_at k'.table slot) d ≡ Some g → d < NOFILE → (b : Bool) → place_is_live (place_at k'.table slot) ≡ b → (q : ℕ) × (e : ℕ) × (quiet.file_at (state_of k' h') q e ≡ Some g)
     live_by slot d g inside names below true is = let p = alive (place_at k'.table slot) is in (p.0.pid, d, slot-names k' h' sound slot d g p.0 p.1 p.2 below names)
-    live_by slot d g inside names below false is = absurd (none-some g (sym (ap (λ ds. named_by ds d) (counted.closed slot is) ∙ get_or-replicate 16 d None None below) ∙ names))
+    live_by slot d g inside names below false is = absurd (none-some g (sym (ap (λ ds. named_by ds d) (counted.closed slot is) ∙ get_or-replicate NOFILE d None None below) ∙ names))
 
     by : (g : ℕ) (o : Option Entry) → entry_at k'.files g ≡ o → IsSome (cond (ltb g OPEN_FILES) (open_file_at k'.files g) None) → (q : ℕ) × (d : ℕ) × (quiet.file_at (state_of k' h') q d ≡ Some g)
     by g None is there = absurd (cond-none (ltb g OPEN_FILES) (open_file_at k'.files g) (ap (option_map entry_file) is) there)
@@ -183,7 +183,7 @@ files-left k k' h h' sound counted table kept = record {
 -- ---- a descriptor is closed
 
 -- one naming fewer
-module _ (t t' : Slots) (slot d g : ℕ) (inside : slot < 64) (below : d < 16) (room : length t.descriptors ≡ 64) (long : length (descriptors_at t slot) ≡ 16) (names : named_by (descriptors_at t slot) d ≡ Some g)
+module _ (t t' : Slots) (slot d g : ℕ) (inside : slot < 64) (below : d < NOFILE) (room : length t.descriptors ≡ 64) (long : length (descriptors_at t slot) ≡ NOFILE) (names : named_by (descriptors_at t slot) d ≡ Some g)
     (after : t'.descriptors ≡ set t.descriptors slot (with_named d None (descriptors_at t slot))) where
   pub closed-here : descriptors_at t' slot ≡ with_named d None (descriptors_at t slot)
   closed-here = ap (λ xs. get_or xs slot none_named) after ∙ get_or-set_same t.descriptors slot (with_named d None (descriptors_at t slot)) none_named (omega (arith, inside, room))
@@ -197,11 +197,11 @@ module _ (t t' : Slots) (slot d g : ℕ) (inside : slot < 64) (below : d < 16) (
   abbrev tests' : ℕ → ℕ → Bool
   tests' file e = is_this file (named_by (with_named d None (descriptors_at t slot)) e)
 
-  one-fewer-in : (file : ℕ) → count_below (tests' file) 16 + one (is_this file (Some g)) ≡ count_below (tests file) 16
+  one-fewer-in : (file : ℕ) → count_below (tests' file) NOFILE + one (is_this file (Some g)) ≡ count_below (tests file) NOFILE
   one-fewer-in file =
       let was : tests file d ≡ is_this file (Some g) = ap (is_this file) names in
       let is : tests' file d ≡ false = ap (is_this file) (get_or-set_same (descriptors_at t slot) d None None (omega (arith, below, long))) in
-      let change = count_change 16 d (tests' file) (tests file) below (λ e ne. ap (is_this file) (get_or-set_other (descriptors_at t slot) d e None None ne)) in
+      let change = count_change NOFILE d (tests' file) (tests file) below (λ e ne. ap (is_this file) (get_or-set_other (descriptors_at t slot) d e None None ne)) in
       omega (arith, change, ap one was, ap one is)
 
   pub one-fewer : (file : ℕ) → namings t' file + one (is_this file (Some g)) ≡ namings t file
@@ -284,10 +284,10 @@ module _ (files : List (Option Entry)) (g : ℕ) (table : IsTable files) (e : En
       )
 
 -- the counts are right again
-pub closed-counted : (files : List (Option Entry)) (t t' : Slots) (slot d g : ℕ) (e : Entry) → AreCounted files t → IsTable files → entry_at files g ≡ Some e → slot < 64 → d < 16 → length t.descriptors ≡ 64 → named_by (descriptors_at t slot) d ≡ Some g
+pub closed-counted : (files : List (Option Entry)) (t t' : Slots) (slot d g : ℕ) (e : Entry) → AreCounted files t → IsTable files → entry_at files g ≡ Some e → slot < 64 → d < NOFILE → length t.descriptors ≡ 64 → named_by (descriptors_at t slot) d ≡ Some g
     → t'.descriptors ≡ set t.descriptors slot (with_named d None (descriptors_at t slot)) → ((j : ℕ) → place_is_live (place_at t' j) ≡ place_is_live (place_at t j)) → place_is_live (place_at t slot) ≡ true → AreCounted (without_sharer g files) t'
 closed-counted files t t' slot d g e counted table is inside below room names after lives here =
-    let long : length (descriptors_at t slot) ≡ 16 = counted.lists slot inside in
+    let long : length (descriptors_at t slot) ≡ NOFILE = counted.lists slot inside in
     record {
       counts = λ f. omega (arith, fewer-count files g table e is f, one-fewer t t' slot d g inside below room long names after f, counted.counts f);
       lists = λ j lt. elim (cases_eq j slot) [

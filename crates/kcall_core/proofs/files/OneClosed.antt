@@ -4,6 +4,7 @@ use Rattle.std.specs.Prelude.{nat_eq, is_some, option_map}
 use Rattle.std.specs.Ordering.{nat_cmp}
 use Rattle.std.specs.FinMap.{FinMap, get}
 use Rattle.std.proofs.lemmas.Bool.{eq-eqb}
+use Rattle.xk_base.specs.declared.limits.TheConstants.{NOFILE}
 use Rattle.sv39_core.proofs.Words.{ltb-yes}
 use Rattle.xk_base.specs.Words.{count_below}
 use Rattle.hart_core.specs.declared.hart.Hart.{Hart}
@@ -46,7 +47,7 @@ use Rattle.kcall_core.proofs.files.PipeLeft.{remainder, with-settled, ends-stay,
 
 -- ---- what a descriptor in use names
 
-module _ {k : Kernel} {h : Hart} {slot d g : ℕ} (closing : IsClosing k h) (is : k.current ≡ Some slot) (below : d < 16) (used : named_by (descriptors_at k.table slot) d ≡ Some g) where
+module _ {k : Kernel} {h : Hart} {slot d g : ℕ} (closing : IsClosing k h) (is : k.current ≡ Some slot) (below : d < NOFILE) (used : named_by (descriptors_at k.table slot) d ≡ Some g) where
   slot-is : slot ≡ slot_now k
   slot-is = sym (ap or_zero is)
 
@@ -63,7 +64,7 @@ module _ {k : Kernel} {h : Hart} {slot d g : ℕ} (closing : IsClosing k h) (is 
   pub used-seen : get (live_now k h).descriptors d ≡ Some g
   used-seen =
       named-seen (descriptors_at k.table (slot_now k)) d
-      ∙ ap (λ b. cond b (named_by (descriptors_at k.table (slot_now k)) d) None) (ltb-yes d 16 below)
+      ∙ ap (λ b. cond b (named_by (descriptors_at k.table (slot_now k)) d) None) (ltb-yes d NOFILE below)
       ∙ ap (λ n. named_by (descriptors_at k.table n) d) (sym slot-is)
       ∙ used
 
@@ -91,8 +92,8 @@ module _ {k : Kernel} {h : Hart} {slot d g : ℕ} (closing : IsClosing k h) (is 
           let s = state_of k h in
           let l = live_now k h in
           let live : IsLive s (pid_now k) l = live-is k h closing.sound closing.running in
-          let some = count_some 16 (λ n. on_end i e (numbered s l n)) d below (hits_at s i e (get l.descriptors d) ∙ hit) in
-          let mine : on s i e (get s.processes (pid_now k)) ≡ count_below (λ n. on_end i e (numbered s l n)) 16 = ap (on s i e) live in
+          let some = count_some NOFILE (λ n. on_end i e (numbered s l n)) d below (hits_at s i e (get l.descriptors d) ∙ hit) in
+          let mine : on s i e (get s.processes (pid_now k)) ≡ count_below (λ n. on_end i e (numbered s l n)) NOFILE = ap (on s i e) live in
           let pid = closing.well.pids (pid_now k) (ap is_some live) in
           omega (arith, some.1, mine, sum_term s.next_pid (pid_now k) (λ q. on s i e (get s.processes q)) pid.1)
 
@@ -105,7 +106,7 @@ module _ {k : Kernel} {h : Hart} {slot d g : ℕ} (closing : IsClosing k h) (is 
 
 -- ---- what is left
 
-module _ {k : Kernel} (k' : Kernel) {h : Hart} {slot d g : ℕ} {x : OpenFile} (closing : IsClosing k h) (is : k.current ≡ Some slot) (below : d < 16) (used : named_by (descriptors_at k.table slot) d ≡ Some g) (kind : open_file_at k.files g ≡ Some x)
+module _ {k : Kernel} (k' : Kernel) {h : Hart} {slot d g : ℕ} {x : OpenFile} (closing : IsClosing k h) (is : k.current ≡ Some slot) (below : d < NOFILE) (used : named_by (descriptors_at k.table slot) d ≡ Some g) (kind : open_file_at k.files g ≡ Some x)
     (files : k'.files ≡ without_sharer g k.files) (current : k'.current ≡ k.current) (shares : Shares k.memories k'.memories) (frames : length k'.memories.ram ≡ length k.memories.ram)
     (table : k'.table ≡ each_changed (woken_by (closes_wake (state_of k h).pipes (state_of k' h).pipes)) (record k.table { descriptors = set k.table.descriptors slot (with_named d None (descriptors_at k.table slot)) }))
     (console : k'.console ≡ k.console) (programs : k'.programs.items ≡ k.programs.items) (clock : k'.clock ≡ k.clock)
@@ -120,7 +121,7 @@ module _ {k : Kernel} (k' : Kernel) {h : Hart} {slot d g : ℕ} {x : OpenFile} (
   entry : (e : Entry) × (entry_at k.files g ≡ Some e)
   entry = used-entry closing is below used
 
-  long : length (descriptors_at k.table slot) ≡ 16
+  long : length (descriptors_at k.table slot) ≡ NOFILE
   long = closing.counted.lists slot (slot-below closing is below used)
 
   fits : d < length (descriptors_at k.table slot)
@@ -195,7 +196,7 @@ no-fewer Terminal m none = (refl, refl)
 no-fewer (File program offset) m none = (refl, refl)
 no-fewer (Pipe_end i end) m none = absurd (none-some i (sym none))
 
-module _ {k : Kernel} (k' : Kernel) {h : Hart} {slot d g : ℕ} {x : OpenFile} (closing : IsClosing k h) (is : k.current ≡ Some slot) (below : d < 16) (used : named_by (descriptors_at k.table slot) d ≡ Some g) (kind : open_file_at k.files g ≡ Some x) (files : k'.files ≡ without_sharer g k.files) where
+module _ {k : Kernel} (k' : Kernel) {h : Hart} {slot d g : ℕ} {x : OpenFile} (closing : IsClosing k h) (is : k.current ≡ Some slot) (below : d < NOFILE) (used : named_by (descriptors_at k.table slot) d ≡ Some g) (kind : open_file_at k.files g ≡ Some x) (files : k'.files ≡ without_sharer g k.files) where
   pub plain-closed : (none : pipe_of_target x.target ≡ None) → k'.table ≡ record k.table { descriptors = set k.table.descriptors slot (with_named d None (descriptors_at k.table slot)) } → k' ≡ record k { table = k'.table; files = k'.files } → Closes k h d k'
   unfolding state_of
   plain-closed none table rest =

@@ -1,4 +1,4 @@
--- There is room for open files: no more are open than descriptors are in use, and where one of 64 times 16 is free, fewer than 1,024 are open.
+-- There is room for open files: no more are open than descriptors are in use, and where one is free, fewer than can be are open.
 use Rattle.std.proofs.Common.{◌≡◌, ◌≢◌, ℕ, zero, suc, ◌+◌, ◌*◌, ◌<◌, ◌≤◌, Bool, true, false, cond, List, [], ◌∷◌, length, get_or, Option, Some, None, inl, inr, refl, sym, ap, ◌∙◌, arith}
 use Rattle.std.specs.Prelude.{if◌then◌else◌, nat_eq, is_some, count_by, option_map}
 use Rattle.std.proofs.lemmas.Bool.Decides.{eqb_tells}
@@ -187,7 +187,7 @@ open-used files t table counted =
     let same : sum_below (length files) (λ f. or_zero (option_map entry_count (get_or files f None))) ≡ sum_below (length files) (namings t) = sum_same (length files) (λ f. or_zero (option_map entry_count (get_or files f None))) (namings t) (λ f low. counted.counts f) in
     omega (arith, few, same, namings-used (length files) t)
 
-pub open-room : (files : List (Option Entry)) (t : Slots) (n : ℕ) → IsTable files → AreCounted files t → used t + n ≤ 1024 → open_count files + n ≤ 1024
+pub open-room : (files : List (Option Entry)) (t : Slots) (n : ℕ) → IsTable files → AreCounted files t → used t + n ≤ OPEN_FILES → open_count files + n ≤ OPEN_FILES
 open-room files t n table counted room = omega (arith, room, open-used files t table counted)
 
 -- ---- where descriptors are free
@@ -195,15 +195,15 @@ open-room files t n table counted room = omega (arith, room, open-used files t t
 -- a free descriptor leaves room for an open file
 pub room-for-one : (files : List (Option Entry)) (t : Slots) (slot d : ℕ) → IsTable files → AreCounted files t → slot < NPROC → d < NOFILE → named_by (descriptors_at t slot) d ≡ None → open_count files < OPEN_FILES
 room-for-one files t slot d table counted inside below free =
-    let here : used_in (descriptors_at t slot) + 1 ≤ 16 = count-room NOFILE d (λ e. is_some (named_by (descriptors_at t slot) e)) below (ap is_some free) in
-    let all : used t + 1 ≤ 1024 = sum-room NPROC NOFILE 1 slot (λ j. used_in (descriptors_at t j)) (λ j. count-few _ NOFILE) inside here in
+    let here : used_in (descriptors_at t slot) + 1 ≤ NOFILE = count-room NOFILE d (λ e. is_some (named_by (descriptors_at t slot) e)) below (ap is_some free) in
+    let all : used t + 1 ≤ OPEN_FILES = sum-room NPROC NOFILE 1 slot (λ j. used_in (descriptors_at t j)) (λ j. count-few _ NOFILE) inside here in
     omega (arith, open-room files t 1 table counted all)
 
 -- and two leave room for two
 pub room-for-two : (files : List (Option Entry)) (t : Slots) (slot d e : ℕ) → IsTable files → AreCounted files t → slot < NPROC → d < NOFILE → e < NOFILE → d ≢ e → named_by (descriptors_at t slot) d ≡ None → named_by (descriptors_at t slot) e ≡ None → open_count files + 1 < OPEN_FILES
 room-for-two files t slot d e table counted inside below lower apart free empty =
-    let here : used_in (descriptors_at t slot) + 2 ≤ 16 = count-room-two NOFILE d e (λ f. is_some (named_by (descriptors_at t slot) f)) below lower apart (ap is_some free) (ap is_some empty) in
-    let all : used t + 2 ≤ 1024 = sum-room NPROC NOFILE 2 slot (λ j. used_in (descriptors_at t j)) (λ j. count-few _ NOFILE) inside here in
+    let here : used_in (descriptors_at t slot) + 2 ≤ NOFILE = count-room-two NOFILE d e (λ f. is_some (named_by (descriptors_at t slot) f)) below lower apart (ap is_some free) (ap is_some empty) in
+    let all : used t + 2 ≤ OPEN_FILES = sum-room NPROC NOFILE 2 slot (λ j. used_in (descriptors_at t j)) (λ j. count-few _ NOFILE) inside here in
     omega (arith, open-room files t 2 table counted all)
 
 -- ---- all of it, of a kernel whose descriptors are counted

@@ -6,7 +6,7 @@ use Rattle.std.proofs.lemmas.Bool.{cases_eq, eq-eqb}
 use Rattle.std.proofs.lemmas.Bool.Decides.{eqb_tells}
 use Rattle.std.proofs.lemmas.List.{length-set, get_or-set_same, get_or-set_other}
 use Rattle.xk_base.specs.Gathered.{gathered}
-use Rattle.xk_base.specs.declared.limits.TheConstants.{OPEN_FILES}
+use Rattle.xk_base.specs.declared.limits.TheConstants.{NOFILE, OPEN_FILES}
 use Rattle.sv39_core.proofs.Gathered.{gathered-get, same_pages}
 use Rattle.sv39_core.proofs.Words.{ltb-yes}
 use Rattle.hart_core.specs.declared.hart.Hart.{Hart}
@@ -106,10 +106,10 @@ module _ (xs : List (Option Entry)) (g : ℕ) (y : OpenFile) (empty : entry_at x
       not-this ne = elim (eqb_tells g f) [ inl h ↦ absurd (ne (sym h.1)) | inr h ↦ h.0 ]
 
 -- one descriptor names the new open file: the counts are right again
-pub opened-counted : (xs : List (Option Entry)) (t t' : Slots) (slot d g : ℕ) (y : OpenFile) → AreCounted xs t → entry_at xs g ≡ None → g < length xs → slot < 64 → d < 16 → length t.descriptors ≡ 64 → named_by (descriptors_at t slot) d ≡ None
+pub opened-counted : (xs : List (Option Entry)) (t t' : Slots) (slot d g : ℕ) (y : OpenFile) → AreCounted xs t → entry_at xs g ≡ None → g < length xs → slot < 64 → d < NOFILE → length t.descriptors ≡ 64 → named_by (descriptors_at t slot) d ≡ None
     → t'.descriptors ≡ set t.descriptors slot (with_named d (Some g) (descriptors_at t slot)) → ((j : ℕ) → place_is_live (place_at t' j) ≡ place_is_live (place_at t j)) → place_is_live (place_at t slot) ≡ true → AreCounted (with_opened g y xs) t'
 opened-counted xs t t' slot d g y counted empty within inside below room free after lives here =
-    let long : length (descriptors_at t slot) ≡ 16 = counted.lists slot inside in
+    let long : length (descriptors_at t slot) ≡ NOFILE = counted.lists slot inside in
     record {
       counts = λ f. omega (arith, new-count xs g y empty within f, one-more t t' slot d g inside below room long free after f, counted.counts f);
       lists = λ j lt. elim (cases_eq j slot) [
@@ -140,10 +140,10 @@ opened-files xs g y empty within places = same_pages (gathered (open_file_at (wi
 ])
 
 -- a free descriptor of the process that runs names nothing in the state
-pub free-seen : {k : Kernel} {h : Hart} {slot d : ℕ} → IsWhole k h → k.current ≡ Some slot → d < 16 → named_by (descriptors_at k.table slot) d ≡ None → get (live_now k h).descriptors d ≡ None
+pub free-seen : {k : Kernel} {h : Hart} {slot d : ℕ} → IsWhole k h → k.current ≡ Some slot → d < NOFILE → named_by (descriptors_at k.table slot) d ≡ None → get (live_now k h).descriptors d ≡ None
 free-seen {k} {h} {slot} {d} whole is below free =
     named-seen (descriptors_at k.table (slot_now k)) d
-    ∙ ap (λ b. cond b (named_by (descriptors_at k.table (slot_now k)) d) None) (ltb-yes d 16 below)
+    ∙ ap (λ b. cond b (named_by (descriptors_at k.table (slot_now k)) d) None) (ltb-yes d NOFILE below)
     ∙ ap (λ n. named_by (descriptors_at k.table n) d) (sym (now-slot slot whole.sound is)) ∙ free
 
 -- no process names an open file that isn't there
@@ -160,7 +160,7 @@ unnamed {k} {h} {g} whole empty q e named = no (subst (λ o. IsSome o) not-there
     not-there : get (state_of k h).files g ≡ None
     not-there = files-seen k h g ∙ ap (λ o. cond (ltb g OPEN_FILES) (option_map entry_file o) None) empty ∙ both (ltb g OPEN_FILES)
 
-module _ (k : Kernel) (h : Hart) (slot d g : ℕ) (y : OpenFile) (whole : IsWhole k h) (runs : IsRunning k) (is : k.current ≡ Some slot) (below : d < 16) (free : named_by (descriptors_at k.table slot) d ≡ None)
+module _ (k : Kernel) (h : Hart) (slot d g : ℕ) (y : OpenFile) (whole : IsWhole k h) (runs : IsRunning k) (is : k.current ≡ Some slot) (below : d < NOFILE) (free : named_by (descriptors_at k.table slot) d ≡ None)
     (empty : entry_at k.files g ≡ None) (inside-files : g < length k.files) (no-pipe : pipe_of_target y.target ≡ None) where
   abbrev s : State
   s = state_of k h

@@ -8,7 +8,7 @@ use Rattle.std.proofs.lemmas.List.{get_or-set_same, get_or-set_other}
 use Rattle.xk_base.specs.Gathered.{gathered}
 use Rattle.xk_base.specs.Words.{le_bytes}
 use Rattle.xk_base.specs.Bytes.{write_image}
-use Rattle.xk_base.specs.declared.limits.TheConstants.{OPEN_FILES}
+use Rattle.xk_base.specs.declared.limits.TheConstants.{NOFILE, OPEN_FILES}
 use Rattle.hart_core.specs.declared.hart.Hart.{Hart}
 use Rattle.pipe_core.specs.Pipe.{Pipe, new_pipe}
 use Rattle.console_core.specs.Lists.{Console}
@@ -220,7 +220,7 @@ pub record Opens (k : Kernel) (slot d g : ℕ) (y : OpenFile) (k' : Kernel) : Ty
   pub rest : k' ≡ record k { table = k'.table; files = k'.files }
 
 module _ {k : Kernel} {h : Hart} {slot r w i a : ℕ} {bytes : List ℕ} {m : Memories} (whole : IsWhole k h) (runs : IsRunning k) (is : k.current ≡ Some slot)
-    (r-below : r < 16) (r-free : named_by (descriptors_at k.table slot) r ≡ None) (w-below : w < 16) (w-free : named_by (descriptors_at k.table slot) w ≡ None) (apart : r ≢ w)
+    (r-below : r < NOFILE) (r-free : named_by (descriptors_at k.table slot) r ≡ None) (w-below : w < NOFILE) (w-free : named_by (descriptors_at k.table slot) w ≡ None) (apart : r ≢ w)
     (absent : get (state_of k h).pipes i ≡ None) (equipped : Equips k.memories m slot i a bytes)
     {f : ℕ} {k1 : Kernel} (first : Opens (over k m) slot r f (pipe_file i Reading) k1) where
   abbrev st : State

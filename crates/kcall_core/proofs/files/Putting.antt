@@ -5,7 +5,7 @@ use Rattle.std.specs.FinMap.{get, insert}
 use Rattle.std.proofs.lemmas.Bool.{eq-eqb}
 use Rattle.std.proofs.lemmas.Bool.Decides.{eqb_tells}
 use Rattle.std.proofs.lemmas.List.{get_or-set_same, get_or-set_other, length-set}
-use Rattle.xk_base.specs.declared.limits.TheConstants.{NPROC, OPEN_FILES}
+use Rattle.xk_base.specs.declared.limits.TheConstants.{NPROC, NOFILE, OPEN_FILES}
 use Rattle.xk_base.specs.Gathered.{gathered}
 use Rattle.sv39_core.proofs.Gathered.{same_pages}
 use Rattle.hart_core.specs.declared.hart.Hart.{Hart}
@@ -30,20 +30,20 @@ use Rattle.sv39_core.proofs.Words.{ltb-yes}
 use Rattle.kcall_core.proofs.table.States.{Alone, slot-state, slot-inside, not-this}
 
 -- a descriptor of a list that names an open file now
-pub map-named : (ds : List (Option ℕ)) (d g : ℕ) → d < length ds → d < 16 → descriptor_map (with_named d (Some g) ds) ≡ insert (descriptor_map ds) d g
+pub map-named : (ds : List (Option ℕ)) (d g : ℕ) → d < length ds → d < NOFILE → descriptor_map (with_named d (Some g) ds) ≡ insert (descriptor_map ds) d g
 map-named ds d g lt below = same_pages (descriptor_map (with_named d (Some g) ds)) (insert (descriptor_map ds) d g) (λ e. elim (eqb_tells e d) [
   | inl h ↦
       named-seen (with_named d (Some g) ds) e
-      ∙ ap (λ o. cond (ltb e 16) o None) (ap (named_by (with_named d (Some g) ds)) h.1 ∙ get_or-set_same ds d (Some g) None lt)
-      ∙ ap (λ b. cond b (Some g) None) (ap (λ n. ltb n 16) h.1 ∙ ltb-yes d 16 below)
+      ∙ ap (λ o. cond (ltb e NOFILE) o None) (ap (named_by (with_named d (Some g) ds)) h.1 ∙ get_or-set_same ds d (Some g) None lt)
+      ∙ ap (λ b. cond b (Some g) None) (ap (λ n. ltb n NOFILE) h.1 ∙ ltb-yes d NOFILE below)
       ∙ sym (get_at (descriptor_map ds) d g e ∙ ap (λ b. cond b (Some g) (get (descriptor_map ds) e)) h.0)
   | inr h ↦
       named-seen (with_named d (Some g) ds) e
-      ∙ ap (λ o. cond (ltb e 16) o None) (get_or-set_other ds d e (Some g) None h.1)
+      ∙ ap (λ o. cond (ltb e NOFILE) o None) (get_or-set_other ds d e (Some g) None h.1)
       ∙ sym (get_at (descriptor_map ds) d g e ∙ ap (λ b. cond b (Some g) (get (descriptor_map ds) e)) h.0 ∙ named-seen ds e)
 ])
 
-module _ (k k1 : Kernel) (h : Hart) (slot d g : ℕ) (sound : IsSound k h) (is : k.current ≡ Some slot) (current : k1.current ≡ k.current) (shares : Shares k.memories k1.memories) (long : d < length (descriptors_at k.table slot)) (below : d < 16)
+module _ (k k1 : Kernel) (h : Hart) (slot d g : ℕ) (sound : IsSound k h) (is : k.current ≡ Some slot) (current : k1.current ≡ k.current) (shares : Shares k.memories k1.memories) (long : d < length (descriptors_at k.table slot)) (below : d < NOFILE)
     (table : k1.table ≡ record k.table { descriptors = set k.table.descriptors slot (with_named d (Some g) (descriptors_at k.table slot)) }) where
   now : IsCurrent k h slot
   now = sound.current slot is

@@ -4,7 +4,7 @@ use Rattle.std.specs.Prelude.{if◌then◌else◌}
 use Rattle.std.specs.Ordering.{nat_cmp}
 use Rattle.std.specs.FinMap.{FinMap, get, get-empty, insert}
 use Rattle.std.proofs.lemmas.Bool.{cases_lt}
-use Rattle.xk_base.specs.declared.limits.TheConstants.{NPROC, NOFILE}
+use Rattle.xk_base.specs.declared.limits.TheConstants.{NPROC, NOFILE, OPEN_FILES}
 use Rattle.xk_base.specs.Words.{count_below}
 use Rattle.hart_core.specs.declared.hart.Hart.{Hart}
 use Rattle.pipe_core.specs.Pipe.{Pipe}
@@ -12,6 +12,7 @@ use Rattle.file_table.specs.OpenFiles.{count_at}
 use Rattle.file_table.specs.declared.open_file.Entry.{Entry}
 use Rattle.file_table.specs.declared.open_file.End.{End}
 use Rattle.file_table.specs.declared.open_file.End.TheVariants.{Reading, Writing}
+use Rattle.file_table.specs.declared.open_file.TheConstants.{SHARERS_MAX}
 use Rattle.proc_table.specs.Slots.{Slots, descriptors_at}
 use Rattle.kcall_core.specs.Words.{or_zero}
 use Rattle.kcall_core.specs.Processes.{Process, Alive, Zombie}
@@ -53,10 +54,10 @@ sum-none (suc n) f none = let a : ℕ = sum_below n f in let c : ℕ = f n in le
 
 -- ---- open files
 
-pub namings-few : (t : Slots) (file : ℕ) → namings t file ≤ 1024
+pub namings-few : (t : Slots) (file : ℕ) → namings t file ≤ OPEN_FILES
 namings-few t file = sum-few NPROC NOFILE (λ slot. named_in (descriptors_at t slot) file) (λ slot. count-few _ NOFILE)
 
-pub file-room : (files : List (Option Entry)) (t : Slots) (file : ℕ) → AreCounted files t → (n : ℕ) → count_at files file ≡ Some n → n < 4096
+pub file-room : (files : List (Option Entry)) (t : Slots) (file : ℕ) → AreCounted files t → (n : ℕ) → count_at files file ≡ Some n → n < SHARERS_MAX
 file-room files t file counted n is = let counts : or_zero (count_at files file) ≡ n = ap or_zero is in omega (arith, counts, counted.counts file, namings-few t file)
 
 -- ---- over all processes: as many as slots, at most
@@ -101,13 +102,13 @@ on-few s i end None = omega arith
 on-few s i end (Some (Alive l)) = count-few (λ d. on_end i end (numbered s l d)) NOFILE
 on-few s i end (Some (Zombie parent status)) = omega arith
 
-pub ends-few : (k : Kernel) (h : Hart) (frames i : ℕ) (x : Pipe) (end : End) → WellFormed frames (state_of k h) → get (state_of k h).pipes i ≡ Some x → count_on end x ≤ 1024
+pub ends-few : (k : Kernel) (h : Hart) (frames i : ℕ) (x : Pipe) (end : End) → WellFormed frames (state_of k h) → get (state_of k h).pipes i ≡ Some x → count_on end x ≤ OPEN_FILES
 unfolding state_of
 ends-few k h frames i x Reading well there =
     let s = state_of k h in
-    let few : over_all s (on s i Reading) ≤ 1024 = by_pid-few (on s i Reading) NOFILE refl (on-few s i Reading) (entry_at k h) NPROC s.next_pid in
+    let few : over_all s (on s i Reading) ≤ OPEN_FILES = by_pid-few (on s i Reading) NOFILE refl (on-few s i Reading) (entry_at k h) NPROC s.next_pid in
     omega (arith, well.readers i x there, few)
 ends-few k h frames i x Writing well there =
     let s = state_of k h in
-    let few : over_all s (on s i Writing) ≤ 1024 = by_pid-few (on s i Writing) NOFILE refl (on-few s i Writing) (entry_at k h) NPROC s.next_pid in
+    let few : over_all s (on s i Writing) ≤ OPEN_FILES = by_pid-few (on s i Writing) NOFILE refl (on-few s i Writing) (entry_at k h) NPROC s.next_pid in
     omega (arith, well.writers i x there, few)

@@ -4,10 +4,12 @@ use Rattle.std.specs.Prelude.{option_map}
 use Rattle.std.proofs.lemmas.Bool.{cases_eq, cases_lt, eq-eqb}
 use Rattle.std.proofs.lemmas.Bool.Decides.{eqb_tells}
 use Rattle.std.proofs.lemmas.List.{get_or_past, get_or-set_same, get_or-set_other, length-set}
+use Rattle.xk_base.specs.declared.limits.TheConstants.{NOFILE}
 use Rattle.xk_base.specs.Words.{count_below}
 use Rattle.file_table.specs.Named.{named_by, none_named, with_named}
 use Rattle.file_table.specs.OpenFiles.{IsTable, entry_at, entry_file, entry_count, open_file_at, count_at, once_more, with_sharer}
 use Rattle.file_table.specs.declared.open_file.Entry.{Entry}
+use Rattle.file_table.specs.declared.open_file.TheConstants.{SHARERS_MAX}
 use Rattle.proc_table.specs.Slots.{Slots, place_at, place_is_live, descriptors_at}
 use Rattle.kcall_core.specs.Words.{is_this, or_zero}
 use Rattle.kcall_core.specs.Whole.{AreCounted, namings, named_in}
@@ -16,7 +18,7 @@ use Rattle.kcall_core.proofs.well.Sums.{sum_change}
 use Rattle.kcall_core.proofs.well.WellTable.{count_change}
 use Rattle.kcall_core.proofs.table.States.{none-some}
 
-module _ (t t' : Slots) (slot d g : ℕ) (inside : slot < 64) (below : d < 16) (room : length t.descriptors ≡ 64) (long : length (descriptors_at t slot) ≡ 16) (free : named_by (descriptors_at t slot) d ≡ None)
+module _ (t t' : Slots) (slot d g : ℕ) (inside : slot < 64) (below : d < NOFILE) (room : length t.descriptors ≡ 64) (long : length (descriptors_at t slot) ≡ NOFILE) (free : named_by (descriptors_at t slot) d ≡ None)
     (after : t'.descriptors ≡ set t.descriptors slot (with_named d (Some g) (descriptors_at t slot))) where
   pub put-here : descriptors_at t' slot ≡ with_named d (Some g) (descriptors_at t slot)
   put-here = ap (λ xs. get_or xs slot none_named) after ∙ get_or-set_same t.descriptors slot (with_named d (Some g) (descriptors_at t slot)) none_named (omega (arith, inside, room))
@@ -30,11 +32,11 @@ module _ (t t' : Slots) (slot d g : ℕ) (inside : slot < 64) (below : d < 16) (
   abbrev tests' : ℕ → ℕ → Bool
   tests' file e = is_this file (named_by (with_named d (Some g) (descriptors_at t slot)) e)
 
-  one-more-in : (file : ℕ) → count_below (tests' file) 16 ≡ count_below (tests file) 16 + one (is_this file (Some g))
+  one-more-in : (file : ℕ) → count_below (tests' file) NOFILE ≡ count_below (tests file) NOFILE + one (is_this file (Some g))
   one-more-in file =
       let was : tests file d ≡ false = ap (is_this file) free in
       let is : tests' file d ≡ is_this file (Some g) = ap (is_this file) (get_or-set_same (descriptors_at t slot) d (Some g) None (omega (arith, below, long))) in
-      let change = count_change 16 d (tests' file) (tests file) below (λ e ne. ap (is_this file) (get_or-set_other (descriptors_at t slot) d e (Some g) None ne)) in
+      let change = count_change NOFILE d (tests' file) (tests file) below (λ e ne. ap (is_this file) (get_or-set_other (descriptors_at t slot) d e (Some g) None ne)) in
       omega (arith, change, ap one was, ap one is)
 
   pub one-more : (file : ℕ) → namings t' file ≡ namings t file + one (is_this file (Some g))
@@ -59,7 +61,7 @@ module _ (files : List (Option Entry)) (g : ℕ) (table : IsTable files) (e : En
     | inr ne ↦ ap (option_map entry_file) (more-other f ne)
   ]
 
-  pub more-table : e.count < 4096 → IsTable (with_sharer g files)
+  pub more-table : e.count < SHARERS_MAX → IsTable (with_sharer g files)
   more-table room = record {
     places = length-set files g (option_map once_more (entry_at files g)) ∙ table.places;
     counts = λ f x at. elim (cases_eq f g) [
@@ -84,10 +86,10 @@ module _ (files : List (Option Entry)) (g : ℕ) (table : IsTable files) (e : En
       here = omega (arith, ap (λ o. or_zero (option_map entry_count o)) more-here, ap one (eq-eqb g g refl), ap (λ o. or_zero (option_map entry_count o)) is)
 
 -- the counts are right again
-pub shared-counted : (files : List (Option Entry)) (t t' : Slots) (slot d g : ℕ) (e : Entry) → AreCounted files t → IsTable files → entry_at files g ≡ Some e → slot < 64 → d < 16 → length t.descriptors ≡ 64 → named_by (descriptors_at t slot) d ≡ None
+pub shared-counted : (files : List (Option Entry)) (t t' : Slots) (slot d g : ℕ) (e : Entry) → AreCounted files t → IsTable files → entry_at files g ≡ Some e → slot < 64 → d < NOFILE → length t.descriptors ≡ 64 → named_by (descriptors_at t slot) d ≡ None
     → t'.descriptors ≡ set t.descriptors slot (with_named d (Some g) (descriptors_at t slot)) → ((j : ℕ) → place_is_live (place_at t' j) ≡ place_is_live (place_at t j)) → place_is_live (place_at t slot) ≡ true → AreCounted (with_sharer g files) t'
 shared-counted files t t' slot d g e counted table is inside below room free after lives here =
-    let long : length (descriptors_at t slot) ≡ 16 = counted.lists slot inside in
+    let long : length (descriptors_at t slot) ≡ NOFILE = counted.lists slot inside in
     record {
       counts = λ f. omega (arith, more-count files g table e is f, one-more t t' slot d g inside below room long free after f, counted.counts f);
       lists = λ j lt. elim (cases_eq j slot) [

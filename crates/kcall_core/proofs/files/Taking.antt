@@ -5,7 +5,7 @@ use Rattle.std.specs.FinMap.{get, insert, remove}
 use Rattle.std.proofs.lemmas.Bool.{eq-eqb}
 use Rattle.std.proofs.lemmas.Bool.Decides.{eqb_tells}
 use Rattle.std.proofs.lemmas.List.{get_or-set_same, get_or-set_other, length-set}
-use Rattle.xk_base.specs.declared.limits.TheConstants.{NPROC, OPEN_FILES}
+use Rattle.xk_base.specs.declared.limits.TheConstants.{NPROC, NOFILE, OPEN_FILES}
 use Rattle.xk_base.specs.Gathered.{gathered}
 use Rattle.sv39_core.proofs.Gathered.{same_pages}
 use Rattle.hart_core.specs.declared.hart.Hart.{Hart}
@@ -39,12 +39,12 @@ pub map-closed : (ds : List (Option ℕ)) (d : ℕ) → d < length ds → descri
 map-closed ds d lt = same_pages (descriptor_map (with_named d None ds)) (remove (descriptor_map ds) d) (λ e. elim (eqb_tells e d) [
   | inl h ↦
       named-seen (with_named d None ds) e
-      ∙ ap (λ o. cond (ltb e 16) o None) (ap (named_by (with_named d None ds)) h.1 ∙ get_or-set_same ds d None None lt)
-      ∙ both (ltb e 16)
+      ∙ ap (λ o. cond (ltb e NOFILE) o None) (ap (named_by (with_named d None ds)) h.1 ∙ get_or-set_same ds d None None lt)
+      ∙ both (ltb e NOFILE)
       ∙ sym (get_without (descriptor_map ds) d e ∙ ap (λ b. cond b None (get (descriptor_map ds) e)) h.0)
   | inr h ↦
       named-seen (with_named d None ds) e
-      ∙ ap (λ o. cond (ltb e 16) o None) (get_or-set_other ds d e None None h.1)
+      ∙ ap (λ o. cond (ltb e NOFILE) o None) (get_or-set_other ds d e None None h.1)
       ∙ sym (get_without (descriptor_map ds) d e ∙ ap (λ b. cond b None (get (descriptor_map ds) e)) h.0 ∙ named-seen ds e)
 ])
   where

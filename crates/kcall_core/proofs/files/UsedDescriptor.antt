@@ -3,6 +3,7 @@ use Rattle.std.proofs.Common.{◌≡◌, ℕ, ◌<◌, Bool, cond, Option, Some,
 use Rattle.std.specs.Prelude.{ℤ, pos, IsSome, option_map}
 use Rattle.std.specs.FinMap.{get}
 use Rattle.std.proofs.lemmas.Bool.{cases_lt, le-ltb}
+use Rattle.xk_base.specs.declared.limits.TheConstants.{NOFILE}
 use Rattle.sv39_core.proofs.Words.{ltb-yes}
 use Rattle.hart_core.specs.declared.hart.Hart.{Hart}
 use Rattle.file_table.specs.Named.{named_by}
@@ -27,14 +28,14 @@ pub record InUse (k : Kernel) (h : Hart) (d g : ℕ) (x : OpenFile) : Type 0 whe
   pub kind : open_file_at k.files g ≡ Some x
 
 module _ {k : Kernel} {h : Hart} {slot : ℕ} (whole : IsWhole k h) (runs : IsRunning k) (is : k.current ≡ Some slot) where
-  pub in-use-named : {d g : ℕ} → d < 16 → named_by (descriptors_at k.table slot) d ≡ Some g → (x : OpenFile) × InUse k h d g x
+  pub in-use-named : {d g : ℕ} → d < NOFILE → named_by (descriptors_at k.table slot) d ≡ Some g → (x : OpenFile) × InUse k h d g x
   in-use-named {d} {g} below e =
       let closing = whole-closing whole runs in
       let entry = used-entry closing is below e in
       let kind : open_file_at k.files g ≡ Some entry.0.file = ap (option_map entry_file) entry.1 in
       (entry.0.file, record { used = used-seen closing is below e; opened = opened-seen closing is below e kind; kind = kind })
 
-  pub in-use : {d : ℕ} → d < 16 → IsSome (named_by (descriptors_at k.table slot) d) → (g : ℕ) × (x : OpenFile) × InUse k h d g x
+  pub in-use : {d : ℕ} → d < NOFILE → IsSome (named_by (descriptors_at k.table slot) d) → (g : ℕ) × (x : OpenFile) × InUse k h d g x
   in-use {d} below some = by (named_by (descriptors_at k.table slot) d) refl some
     where
       by : (o : Option ℕ) → named_by (descriptors_at k.table slot) d ≡ o → IsSome o → (g : ℕ) × (x : OpenFile) × InUse k h d g x
@@ -46,14 +47,14 @@ module _ {k : Kernel} {h : Hart} {slot : ℕ} (whole : IsWhole k h) (runs : IsRu
           (g, entry.0.file, record { used = used-seen closing is below e; opened = opened-seen closing is below e kind; kind = kind })
 
   -- what no descriptor in use has as its number shows nothing
-  pub unused-shown : (z : ℤ) → ((d : ℕ) → d < 16 → z ≡ pos d → named_by (descriptors_at k.table slot) d ≡ None) → (d : ℕ) → z ≡ pos d → (view_now k h).descriptors d ≡ None
+  pub unused-shown : (z : ℤ) → ((d : ℕ) → d < NOFILE → z ≡ pos d → named_by (descriptors_at k.table slot) d ≡ None) → (d : ℕ) → z ≡ pos d → (view_now k h).descriptors d ≡ None
   unfolding view_of named
-  unused-shown z none d e = elim (cases_lt d 16) [
+  unused-shown z none d e = elim (cases_lt d NOFILE) [
     | inl below ↦
         let free : get (live_now k h).descriptors d ≡ None =
         named-seen (descriptors_at k.table (slot_now k)) d
-        ∙ ap (λ b. cond b (named_by (descriptors_at k.table (slot_now k)) d) None) (ltb-yes d 16 below)
+        ∙ ap (λ b. cond b (named_by (descriptors_at k.table (slot_now k)) d) None) (ltb-yes d NOFILE below)
         ∙ ap (λ n. named_by (descriptors_at k.table n) d) (sym (now-slot slot whole.sound is)) ∙ none d below e in
         named_at (numbered (state_of k h) (live_now k h)) d below ∙ ap (λ o. option_map (rename (numbered (state_of k h) (live_now k h))) (descriptor_at (state_of k h) o)) free
-    | inr past ↦ ap (λ (b : Bool). cond b (option_map (rename (numbered (state_of k h) (live_now k h))) (numbered (state_of k h) (live_now k h) d)) None) (le-ltb d 16 past)
+    | inr past ↦ ap (λ (b : Bool). cond b (option_map (rename (numbered (state_of k h) (live_now k h))) (numbered (state_of k h) (live_now k h) d)) None) (le-ltb d NOFILE past)
   ]

@@ -68,14 +68,14 @@ pub record IsEndedIn (k1 : Kernel) (h : Hart) (parent : Option ℕ) (status : �
 
 -- ---- no descriptor is in use
 
-nothing-named : (ds : List (Option ℕ)) → length ds ≡ 16 → ((d : ℕ) → get (descriptor_map ds) d ≡ None) → ds ≡ none_named
-nothing-named ds long none = ext_get_or None ds none_named (long ∙ sym (length-replicate 16 nobody)) (λ d below. seen d (omega (arith, below, long)) ∙ sym (get_or-replicate 16 d nobody None (omega (arith, below, long))))
+nothing-named : (ds : List (Option ℕ)) → length ds ≡ NOFILE → ((d : ℕ) → get (descriptor_map ds) d ≡ None) → ds ≡ none_named
+nothing-named ds long none = ext_get_or None ds none_named (long ∙ sym (length-replicate NOFILE nobody)) (λ d below. seen d (omega (arith, below, long)) ∙ sym (get_or-replicate NOFILE d nobody None (omega (arith, below, long))))
   where
     nobody : Option ℕ
     nobody = None
 
-    seen : (d : ℕ) → d < 16 → get_or ds d None ≡ None
-    seen d below = sym (gathered-get (λ e. get_or ds e None) 16 d ∙ ap (λ b. cond b (get_or ds d None) None) (ltb-yes d 16 below)) ∙ none d
+    seen : (d : ℕ) → d < NOFILE → get_or ds d None ≡ None
+    seen d below = sym (gathered-get (λ e. get_or ds e None) NOFILE d ∙ ap (λ b. cond b (get_or ds d None) None) (ltb-yes d NOFILE below)) ∙ none d
 
 -- ---- the open files count as many
 

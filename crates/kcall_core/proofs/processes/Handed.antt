@@ -7,7 +7,7 @@ use Rattle.std.specs.FinMap.{FinMap, get, insert, same_map, nat_cmp-IsAntisymmet
 use Rattle.std.proofs.Math.Path.{fun_ext}
 use Rattle.std.proofs.lemmas.Bool.{cases_eq, cases_lt, lt-ltb, le-ltb}
 use Rattle.std.proofs.lemmas.List.{get_or-set_same, get_or-set_other, length-set}
-use Rattle.xk_base.specs.declared.limits.TheConstants.{NPROC, OPEN_FILES, PID_MAX}
+use Rattle.xk_base.specs.declared.limits.TheConstants.{NPROC, NOFILE, OPEN_FILES, PID_MAX}
 use Rattle.xk_base.specs.Gathered.{gathered}
 use Rattle.xk_base.specs.Image.{price}
 use Rattle.sv39_core.proofs.Gathered.{same_pages}
@@ -87,13 +87,13 @@ twice m p q x y z ne = same_map nat_cmp_total nat_cmp-IsAntisymmetric (insert (i
     at n other (inl e) = ap (get (insert (insert m q x) p y)) e ∙ get_same (insert m q x) p y ∙ sym (ap (get (insert m p y)) e ∙ get_same m p y)
     at n other (inr o) = get_other (insert m q x) p y n o ∙ get_other m q x n other ∙ sym (get_other m p y n o)
 
-same-map : (xs ys : List (Option ℕ)) → ((d : ℕ) → d < 16 → named_by xs d ≡ named_by ys d) → descriptor_map xs ≡ descriptor_map ys
-same-map xs ys same = same_pages (descriptor_map xs) (descriptor_map ys) (λ d. elim (cases_lt d 16) [
-  | inl lt ↦ named-seen xs d ∙ ap (λ o. cond (nat_lt d 16) o None) (same d lt) ∙ sym (named-seen ys d)
-  | inr ge ↦ named-seen xs d ∙ ap (λ b. cond b (named_by xs d) None) (le-ltb d 16 ge) ∙ sym (named-seen ys d ∙ ap (λ b. cond b (named_by ys d) None) (le-ltb d 16 ge))
+same-map : (xs ys : List (Option ℕ)) → ((d : ℕ) → d < NOFILE → named_by xs d ≡ named_by ys d) → descriptor_map xs ≡ descriptor_map ys
+same-map xs ys same = same_pages (descriptor_map xs) (descriptor_map ys) (λ d. elim (cases_lt d NOFILE) [
+  | inl lt ↦ named-seen xs d ∙ ap (λ o. cond (nat_lt d NOFILE) o None) (same d lt) ∙ sym (named-seen ys d)
+  | inr ge ↦ named-seen xs d ∙ ap (λ b. cond b (named_by xs d) None) (le-ltb d NOFILE ge) ∙ sym (named-seen ys d ∙ ap (λ b. cond b (named_by ys d) None) (le-ltb d NOFILE ge))
 ])
 
-module _ {k : Kernel} {h : Hart} (whole : IsWhole k h) (runs : IsRunning k) (child : ℕ) (new : IsForNew k h whole.sound child) (k1 : Kernel) (x : IsHanded k h child 16 k1) where
+module _ {k : Kernel} {h : Hart} (whole : IsWhole k h) (runs : IsRunning k) (child : ℕ) (new : IsForNew k h whole.sound child) (k1 : Kernel) (x : IsHanded k h child NOFILE k1) where
   abbrev s : State
   s = state_of k h
 
@@ -151,7 +151,7 @@ module _ {k : Kernel} {h : Hart} (whole : IsWhole k h) (runs : IsRunning k) (chi
   pid1 = ap (λ n. (or_nobody (place_at k1.table n)).pid) slot1 ∙ ap (λ o. (or_nobody o).pid) (other1 slot away)
 
   given-map : descriptor_map (descriptors_at k1.table child) ≡ l.descriptors
-  given-map = same-map (descriptors_at k1.table child) (descriptors_at k.table slot) (λ d lt. x.given d ∙ ap (λ b. cond b (named_by (descriptors_at k.table slot) d) None) (lt-ltb d 16 lt))
+  given-map = same-map (descriptors_at k1.table child) (descriptors_at k.table slot) (λ d lt. x.given d ∙ ap (λ b. cond b (named_by (descriptors_at k.table slot) d) None) (lt-ltb d NOFILE lt))
 
   -- with the child, whatever its registers are
   abbrev child1 : Live

@@ -4,10 +4,11 @@ use Rattle.std.specs.Prelude.{ℤ, nat_lt, option_map}
 use Rattle.std.specs.FinMap.{get}
 use Rattle.std.proofs.lemmas.Bool.{cases_eq, cases_lt, lt-ltb, le-ltb}
 use Rattle.std.proofs.lemmas.List.{get_or-set_same, get_or-set_other, length-map, length-set}
-use Rattle.xk_base.specs.declared.limits.TheConstants.{NPROC, PID_MAX}
+use Rattle.xk_base.specs.declared.limits.TheConstants.{NPROC, NOFILE, OPEN_FILES, PID_MAX}
 use Rattle.rv64i_core.specs.Registers.{fresh}
 use Rattle.hart_core.specs.declared.hart.Hart.{Hart}
 use Rattle.pipe_core.specs.Pipe.{Pipe}
+use Rattle.pipe_core.specs.declared.TheConstants.{END_COUNT_MAX}
 use Rattle.file_table.specs.Named.{named_by, with_named, none_named}
 use Rattle.file_table.specs.OpenFiles as files
 use Rattle.file_table.specs.OpenFiles.{entry_at, open_file_at}
@@ -197,7 +198,7 @@ module _ {k : Kernel} {h : Hart} (whole : IsWhole k h) (runs : IsRunning k) (chi
       };
       same = λ f. ap (λ fs. open_file_at fs f) kept;
       others = λ j ne. all-same j;
-      given = λ d. ap (λ ds. named_by ds d) none-here ∙ get_or-same None 16 d ∙ sym (ap (λ b. cond b (named_by (descriptors_at k.table slot) d) None) (le-ltb d 0 (omega arith)));
+      given = λ d. ap (λ ds. named_by ds d) none-here ∙ get_or-same None NOFILE d ∙ sym (ap (λ b. cond b (named_by (descriptors_at k.table slot) d) None) (le-ltb d 0 (omega arith)));
       each = b.memories.each;
       pipes = b.memories.pipes;
       free = omega (arith, b.memories.free, ap held_cost (whole.sound.vacant child new.vacant));
@@ -206,7 +207,7 @@ module _ {k : Kernel} {h : Hart} (whole : IsWhole k h) (runs : IsRunning k) (chi
 
   -- ---- one descriptor more
 
-  module _ (n : ℕ) (k1 : Kernel) (x : IsHanded k h child n k1) (below : n < 16) where
+  module _ (n : ℕ) (k1 : Kernel) (x : IsHanded k h child n k1) (below : n < NOFILE) where
     theirs : named_by (descriptors_at k1.table slot) n ≡ named_by (descriptors_at k.table slot) n
     theirs = ap (λ ds. named_by ds n) (x.others slot apart)
 
@@ -217,7 +218,7 @@ module _ {k : Kernel} {h : Hart} (whole : IsWhole k h) (runs : IsRunning k) (chi
     pub next-none : named_by (descriptors_at k1.table slot) n ≡ None → IsHanded k h child (suc n) k1
     unfolding more_on_all
     next-none none =
-        let unused : get l.descriptors n ≡ None = named-seen (descriptors_at k.table slot) n ∙ ap (λ b. cond b (named_by (descriptors_at k.table slot) n) None) (ltb-yes n 16 below) ∙ sym theirs ∙ none in
+        let unused : get l.descriptors n ≡ None = named-seen (descriptors_at k.table slot) n ∙ ap (λ b. cond b (named_by (descriptors_at k.table slot) n) None) (ltb-yes n NOFILE below) ∙ sym theirs ∙ none in
         record {
           sound = x.sound;
           rest = x.rest;
@@ -252,14 +253,14 @@ module _ {k : Kernel} {h : Hart} (whole : IsWhole k h) (runs : IsRunning k) (chi
       still : (i : ℕ) → IsSome (get s.pipes i) → IsSome (get (pipes_of k1.memories) i)
       still i some = subst (λ o. IsSome o) (sym (pipe-now i ∙ ap (option_map (λ (z : Pipe). plus z (among s l n i Reading) (among s l n i Writing))) (there-is (get s.pipes i) some))) refl
 
-      few : (i : ℕ) (end : End) → IsSome (get s.pipes i) → count_on end (pipe_named (pipes_of k1.memories) i) < 4096
+      few : (i : ℕ) (end : End) → IsSome (get s.pipes i) → count_on end (pipe_named (pipes_of k1.memories) i) < END_COUNT_MAX
       few i end some =
           let at = there-is (get s.pipes i) some in
           let z = or_new (get s.pipes i) in
           let is : pipe_named (pipes_of k1.memories) i ≡ plus z (among s l n i Reading) (among s l n i Writing) = ap or_new (pipe-now i ∙ ap (option_map (λ (w : Pipe). plus w (among s l n i Reading) (among s l n i Writing))) at) in
           by end z is (ends-few k h _ i z end whole.well at)
         where
-          by : (e : End) (z : Pipe) → pipe_named (pipes_of k1.memories) i ≡ plus z (among s l n i Reading) (among s l n i Writing) → count_on e z ≤ 1024 → count_on e (pipe_named (pipes_of k1.memories) i) < 4096
+          by : (e : End) (z : Pipe) → pipe_named (pipes_of k1.memories) i ≡ plus z (among s l n i Reading) (among s l n i Writing) → count_on e z ≤ OPEN_FILES → count_on e (pipe_named (pipes_of k1.memories) i) < END_COUNT_MAX
           by Reading z is most = let a : among s l n i Reading ≤ n = count-few _ n in omega (arith, ap (count_on Reading) is, most, a, below)
           by Writing z is most = let a : among s l n i Writing ≤ n = count-few _ n in omega (arith, ap (count_on Writing) is, most, a, below)
 
@@ -321,7 +322,7 @@ module _ {k : Kernel} {h : Hart} (whole : IsWhole k h) (runs : IsRunning k) (chi
         put-here = ap (λ (t : Slots). descriptors_at t child) z.table ∙ get_or-set_same k1.table.descriptors child (with_named n (Some g) (descriptors_at k1.table child)) none_named (omega (arith, new.below, x.sound.table.descriptors))
 
         named-now : get l.descriptors n ≡ Some g
-        named-now = named-seen (descriptors_at k.table slot) n ∙ ap (λ b. cond b (named_by (descriptors_at k.table slot) n) None) (ltb-yes n 16 below) ∙ sym theirs ∙ used
+        named-now = named-seen (descriptors_at k.table slot) n ∙ ap (λ b. cond b (named_by (descriptors_at k.table slot) n) None) (ltb-yes n NOFILE below) ∙ sym theirs ∙ used
 
         end-now : end_of s (get l.descriptors n) ≡ Some y.target
         end-now = ap (end_of s) named-now ∙ ap target_of_open (opened y is-open)
@@ -354,7 +355,7 @@ module _ {k : Kernel} {h : Hart} (whole : IsWhole k h) (runs : IsRunning k) (chi
         }
 
   -- one descriptor on, whether it is in use or not
-  pub handed-on : (n fd from : ℕ) (k1 k2 : Kernel) → IsHanded k h child n k1 → n < 16 → fd ≡ n → from ≡ slot → (named_by (descriptors_at k1.table from) fd ≡ None → k2 ≡ k1)
+  pub handed-on : (n fd from : ℕ) (k1 k2 : Kernel) → IsHanded k h child n k1 → n < NOFILE → fd ≡ n → from ≡ slot → (named_by (descriptors_at k1.table from) fd ≡ None → k2 ≡ k1)
       → ((file : ℕ) → named_by (descriptors_at k1.table from) fd ≡ Some file → IsShared k1 child fd file k2) → IsHanded k h child (n + 1) k2
   handed-on n fd from k1 k2 x below same is kept shared = let more : suc n ≡ n + 1 = omega arith in subst (λ m. IsHanded k h child m k2) more (by (named_by (descriptors_at k1.table slot) n) refl)
     where

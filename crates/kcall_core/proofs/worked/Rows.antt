@@ -2,7 +2,7 @@
 -- The views are of a process in a call; what its memory costs, and which of its buffers are there, is given.
 use Rattle.std.proofs.Common.{◌≡◌, ℕ, ◌^◌, ◌-◌, ◌+◌, true, false, not, ◌&&◌, ◌||◌, Bool, cond, List, [], ◌∷◌, refl, ap, ◌∙◌, length, replicate}
 use Rattle.std.specs.Prelude.{Option, None, Some, Result, Ok, Err, pos, negsuc, nat_eq, nat_lt, codes}
-use Rattle.xk_base.specs.declared.limits.TheConstants.{MAXPATH, MAXARG, ARG_BYTES, SIZE_LIMIT}
+use Rattle.xk_base.specs.declared.limits.TheConstants.{MAXPATH, MAXARG, ARG_BYTES, NOFILE, PIPE_BYTES, SIZE_LIMIT}
 use Rattle.xk_base.specs.declared.errors.ExecError.{ExecError}
 use Rattle.xk_base.specs.Words.{least_below, count_below}
 use Rattle.xk_base.specs.Image.{Image, price}
@@ -59,10 +59,10 @@ module _ (image : Image) where
   unfolding own in_call a0_after perform row row_of ◌>>=◌ ◌or◌
   minus_one_in_a0 = refl
 
-  -- read on descriptor 16; close of one that isn't in use
-  read_16 : (own (in_call image (call 5 16 0 1))).answer ≡ Called (pos 5) (negsuc 0)
+  -- read on a descriptor past the last one; close of one that isn't in use
+  read_past_last : (own (in_call image (call 5 NOFILE 0 1))).answer ≡ Called (pos 5) (negsuc 0)
   unfolding own in_call perform row row_of read ◌>>=◌ ◌>>◌ ◌when◌ ◌or◌
-  read_16 = refl
+  read_past_last = refl
 
   close_free : (own (in_call image (call 21 0 0 0))).answer ≡ Called (pos 21) (negsuc 0)
   unfolding own in_call perform row row_of close ◌>>=◌ ◌>>◌ ◌when◌ ◌or◌
@@ -179,24 +179,28 @@ module _ (image : Image) where
 
   -- ---- pipes
 
+  -- a byte more than a pipe holds
+  abbrev too_many : ℕ
+  too_many = PIPE_BYTES + 1
+
   writer : View
   unfolding in_call
-  writer = record (in_call image (call 16 1 0 513)) { descriptors = ends_of new_pipe }
+  writer = record (in_call image (call 16 1 0 too_many)) { descriptors = ends_of new_pipe }
 
-  -- a write of 513 bytes: 512 are in, and it waits
-  module _ (there : readable image 0 513 ≡ true) where
+  -- a write of so many bytes: all but one are in, and it waits
+  module _ (there : readable image 0 too_many ≡ true) where
     blocks : (own writer).answer ≡ Blocked (pos 16)
     unfolding own perform_parts perform_row row_of in_call writer new_pipe
-    blocks = by_parts (λ (o : Own). o.answer) _ _ (ap (λ (b : Bool). (moving (call 16 1 0 513) writer b (pos 513) (λ n. write_to (call 16 1 0 513) writer n (Shown_pipe 0 Writing new_pipe))).answer) there)
+    blocks = by_parts (λ (o : Own). o.answer) _ _ (ap (λ (b : Bool). (moving (call 16 1 0 too_many) writer b (pos too_many) (λ n. write_to (call 16 1 0 too_many) writer n (Shown_pipe 0 Writing new_pipe))).answer) there)
 
-    moves_512 : moved_of (own writer).next ≡ Some 512
+    moves_all_but_one : moved_of (own writer).next ≡ Some PIPE_BYTES
     unfolding own perform_parts perform_row row_of in_call writer new_pipe moved_of
-    moves_512 = by_parts (λ (o : Own). moved_of o.next) _ _ (ap (λ (b : Bool). moved_of (moving (call 16 1 0 513) writer b (pos 513) (λ n. write_to (call 16 1 0 513) writer n (Shown_pipe 0 Writing new_pipe))).next) there)
+    moves_all_but_one = by_parts (λ (o : Own). moved_of o.next) _ _ (ap (λ (b : Bool). moved_of (moving (call 16 1 0 too_many) writer b (pos too_many) (λ n. write_to (call 16 1 0 too_many) writer n (Shown_pipe 0 Writing new_pipe))).next) there)
 
     -- nobody reads any more
     broken : (own (record writer { descriptors = ends_of (record { bytes = []; readers = 0; writers = 1 }) })).answer ≡ Called (pos 16) (negsuc 0)
     unfolding own perform_parts perform_row row_of in_call writer
-    broken = by_parts (λ (o : Own). o.answer) _ _ (ap (λ (b : Bool). (moving (call 16 1 0 513) (record writer { descriptors = ends_of (record { bytes = []; readers = 0; writers = 1 }) }) b (pos 513) (λ n. write_to (call 16 1 0 513) (record writer { descriptors = ends_of (record { bytes = []; readers = 0; writers = 1 }) }) n (Shown_pipe 0 Writing (record { bytes = []; readers = 0; writers = 1 })))).answer) there)
+    broken = by_parts (λ (o : Own). o.answer) _ _ (ap (λ (b : Bool). (moving (call 16 1 0 too_many) (record writer { descriptors = ends_of (record { bytes = []; readers = 0; writers = 1 }) }) b (pos too_many) (λ n. write_to (call 16 1 0 too_many) (record writer { descriptors = ends_of (record { bytes = []; readers = 0; writers = 1 }) }) n (Shown_pipe 0 Writing (record { bytes = []; readers = 0; writers = 1 })))).answer) there)
 
   -- n 0 is done at once, whatever the buffer
 

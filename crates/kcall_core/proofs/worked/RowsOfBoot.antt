@@ -1,5 +1,5 @@
 -- Worked cases of boot: the limits by their values, configurations and programs at them, and the first state of a machine.
-use Rattle.std.proofs.Common.{length, ◌≡◌, ℕ, ◌^◌, ◌-◌, ◌+◌, true, false, Bool, cond, List, [], ◌∷◌, refl, ap, replicate, map}
+use Rattle.std.proofs.Common.{length, ◌≡◌, ℕ, ◌^◌, ◌-◌, ◌+◌, ◌*◌, true, false, Bool, cond, List, [], ◌∷◌, refl, ap, replicate, map}
 use Rattle.std.specs.Prelude.{None, Some, Result, Ok, Err, nat_lt, codes}
 use Rattle.xk_base.specs.declared.limits.TheConstants.{MAXPATH, MAXARG, ARG_BYTES, NOFILE, OPEN_FILES, NPROC, PID_MAX, PIPE_BYTES, CONSOLE_BYTES, SEND_BYTES, SIZE_LIMIT, FRAMES_MIN, FRAMES_MAX, TRACE_MAX, PROGRAMS_MAX, NAME_MAX, PROGRAM_BYTES}
 use Rattle.xk_base.specs.declared.errors.ExecError.{ExecError}
@@ -19,11 +19,15 @@ use Rattle.kcall_core.specs.Run.{World}
 -- ---- the limits
 
 -- of processes and pids, of descriptors and open files
-process_limits : NPROC ∷ PID_MAX ∷ NOFILE ∷ OPEN_FILES ∷ [] ≡ 64 ∷ (2 ^ 31 - 1) ∷ 16 ∷ 1024 ∷ []
+process_limits : NPROC ∷ PID_MAX ∷ NOFILE ∷ OPEN_FILES ∷ [] ≡ 64 ∷ (2 ^ 31 - 1) ∷ 32 ∷ 2048 ∷ []
 process_limits = refl
 
+-- each descriptor of each process may have an open file of its own
+a_file_each : OPEN_FILES ≡ NPROC * NOFILE
+a_file_each = refl
+
 -- of a pipe, of typed bytes, and of bytes to be sent
-byte_limits : PIPE_BYTES ∷ CONSOLE_BYTES ∷ SEND_BYTES ∷ [] ≡ 512 ∷ 128 ∷ 32 ∷ []
+byte_limits : PIPE_BYTES ∷ CONSOLE_BYTES ∷ SEND_BYTES ∷ [] ≡ 2048 ∷ 128 ∷ 32 ∷ []
 byte_limits = refl
 
 -- of a path with its zero byte, of texts, of their bytes, and of memory. xv6 counts the null pointer behind the texts too, and has 32

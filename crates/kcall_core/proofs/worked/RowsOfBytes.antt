@@ -1,7 +1,8 @@
 -- Worked rows of reads and writes: which bytes go, which are left, and what is shared by those who are on the same open file or pipe.
 -- Which of the caller's buffers are there is given.
-use Rattle.std.proofs.Common.{◌≡◌, ℕ, true, false, Bool, cond, List, [], ◌∷◌, ◌++◌, refl, ap, replicate}
+use Rattle.std.proofs.Common.{◌≡◌, ℕ, ◌-◌, true, false, Bool, cond, List, [], ◌∷◌, ◌++◌, refl, ap, replicate}
 use Rattle.std.specs.Prelude.{None, Some, pos, nat_eq, nat_lt, codes}
+use Rattle.xk_base.specs.declared.limits.TheConstants.{PIPE_BYTES}
 use Rattle.xk_base.specs.Image.{Image}
 use Rattle.xk_base.specs.Bytes.{image_bytes, write_image}
 use Rattle.xk_base.specs.Words.{least_below, count_below}
@@ -112,9 +113,9 @@ module _ (image : Image) where
     pipe_more_answer = by_parts (λ (o : Own). o.answer) _ _ (ap (λ (b : Bool). (writing_if 2 0 (codes "xy") b).answer) there)
 
     -- exactly one byte fits, and it waits for the other
-    pipe_fits_1 : moved_of (own (pipe_view (asked_for 16 1 2 0) (replicate 511 0))).next ≡ Some 1
+    pipe_fits_1 : moved_of (own (pipe_view (asked_for 16 1 2 0) (replicate (PIPE_BYTES - 1) 0))).next ≡ Some 1
     unfolding own perform_parts perform_row row_of in_call asked_for pipe_view writing_if moved_of
-    pipe_fits_1 = by_parts (λ (o : Own). moved_of o.next) _ _ (ap (λ (b : Bool). moved_of (writing_if 2 0 (replicate 511 0) b).next) there)
+    pipe_fits_1 = by_parts (λ (o : Own). moved_of o.next) _ _ (ap (λ (b : Bool). moved_of (writing_if 2 0 (replicate (PIPE_BYTES - 1) 0) b).next) there)
 
     -- which goes from behind it
     pipe_goes_on : at_place (own (pipe_view (asked_for 16 1 2 1) (codes "x"))).next 1 ≡ Some (record { file = 1; read = false; write = true; shown = Shown_pipe 0 Writing (pipe_of (codes "x" ++ image_bytes image 8193 1)) })
@@ -126,9 +127,9 @@ module _ (image : Image) where
     pipe_goes_on_answer = by_parts (λ (o : Own). o.answer) _ _ (ap (λ (b : Bool). (writing_if 2 1 (codes "x") b).answer) there)
 
     -- a full pipe takes none
-    pipe_full : (own (pipe_view (asked_for 16 1 2 0) (replicate 512 0))).answer ≡ Blocked (pos 16)
+    pipe_full : (own (pipe_view (asked_for 16 1 2 0) (replicate PIPE_BYTES 0))).answer ≡ Blocked (pos 16)
     unfolding own perform_parts perform_row row_of in_call asked_for pipe_view writing_if
-    pipe_full = by_parts (λ (o : Own). o.answer) _ _ (ap (λ (b : Bool). (writing_if 2 0 (replicate 512 0) b).answer) there)
+    pipe_full = by_parts (λ (o : Own). o.answer) _ _ (ap (λ (b : Bool). (writing_if 2 0 (replicate PIPE_BYTES 0) b).answer) there)
 
   -- ---- two pipes: descriptor 2 is on another one, which a read, a dup and a close leave as it is
 

@@ -1,8 +1,8 @@
 -- Worked rows of the calls on descriptors: pipe, dup, open and close where descriptors or frames are used up, and which descriptor may be read and written.
 -- Which of the caller's buffers are there is given.
-use Rattle.std.proofs.Common.{◌≡◌, ℕ, ◌^◌, ◌+◌, true, false, not, ◌||◌, Bool, cond, List, [], ◌∷◌, refl, ap}
+use Rattle.std.proofs.Common.{◌≡◌, ℕ, ◌^◌, ◌+◌, ◌-◌, true, false, not, ◌||◌, Bool, cond, List, [], ◌∷◌, refl, ap}
 use Rattle.std.specs.Prelude.{Option, None, Some, pos, negsuc, nat_eq, nat_lt, codes, map}
-use Rattle.xk_base.specs.declared.limits.TheConstants.{MAXPATH}
+use Rattle.xk_base.specs.declared.limits.TheConstants.{MAXPATH, NOFILE}
 use Rattle.xk_base.specs.Image.{Image}
 use Rattle.xk_base.specs.Bytes.{write_image}
 use Rattle.xk_base.specs.Words.{least_below}
@@ -29,6 +29,10 @@ terminal = record { file = 0; read = true; write = true; shown = Shown_terminal 
 abbrev used : ℕ → Descriptors
 used n = λ d. cond (nat_lt d n) (Some terminal) None
 
+-- the highest descriptor
+abbrev last : ℕ
+last = NOFILE - 1
+
 -- all but these two
 abbrev but : ℕ → ℕ → Descriptors
 but a b = λ d. cond (nat_eq d a || nat_eq d b) None (Some terminal)
@@ -37,11 +41,11 @@ lowest_of_all : lowest_free (used 0) ≡ Some 0
 unfolding least_below
 lowest_of_all = refl
 
-lowest_last : lowest_free (used 15) ≡ Some 15
+lowest_last : lowest_free (used last) ≡ Some last
 unfolding least_below
 lowest_last = refl
 
-lowest_none : lowest_free (used 16) ≡ None
+lowest_none : lowest_free (used NOFILE) ≡ None
 unfolding least_below
 lowest_none = refl
 
@@ -57,22 +61,22 @@ above_between : lowest_free_above (but 3 9) 3 ≡ Some 9
 unfolding least_below
 above_between = refl
 
-above_last : lowest_free_above (used 14) 14 ≡ Some 15
+above_last : lowest_free_above (used (last - 1)) (last - 1) ≡ Some last
 unfolding least_below
 above_last = refl
 
-above_none : lowest_free_above (used 15) 15 ≡ None
+above_none : lowest_free_above (used last) last ≡ None
 unfolding least_below
 above_none = refl
 
--- descriptors are 0 to 15
-descriptor_15 : named (λ d. Some terminal) 15 ≡ Some terminal
+-- descriptors are 0 to the last one
+descriptor_last : named (λ d. Some terminal) last ≡ Some terminal
 unfolding named least_below
-descriptor_15 = refl
+descriptor_last = refl
 
-descriptor_16 : named (λ d. Some terminal) 16 ≡ None
+descriptor_past_last : named (λ d. Some terminal) NOFILE ≡ None
 unfolding named
-descriptor_16 = refl
+descriptor_past_last = refl
 
 module _ (image : Image) where
   -- a view with this table in a call
@@ -124,22 +128,22 @@ module _ (image : Image) where
     unfolding own perform_parts perform_row row_of in_call piping piping_if least_below image_of
     pipe_holes = by_parts (λ (o : Own). image_of o.next) _ _ (ap (λ (b : Bool). image_of (piping_if (but 3 9) 1 b).next) there)
 
-    -- 14 descriptors in use: 14 and 15 are the last ones
-    pipe_14_used : image_of (own (piping (used 14) 9)).next ≡ write_image image 0 (14 ∷ 0 ∷ 0 ∷ 0 ∷ 15 ∷ 0 ∷ 0 ∷ 0 ∷ [])
+    -- two descriptors are free, the last ones; then one, and none
+    pipe_two_left : image_of (own (piping (used (last - 1)) 9)).next ≡ write_image image 0 ((last - 1) ∷ 0 ∷ 0 ∷ 0 ∷ last ∷ 0 ∷ 0 ∷ 0 ∷ [])
     unfolding own perform_parts perform_row row_of in_call piping piping_if least_below image_of
-    pipe_14_used = by_parts (λ (o : Own). image_of o.next) _ _ (ap (λ (b : Bool). image_of (piping_if (used 14) 9 b).next) there)
+    pipe_two_left = by_parts (λ (o : Own). image_of o.next) _ _ (ap (λ (b : Bool). image_of (piping_if (used (last - 1)) 9 b).next) there)
 
-    pipe_15_used : (own (piping (used 15) 9)).answer ≡ Called (pos 4) (negsuc 0)
+    pipe_one_left : (own (piping (used last) 9)).answer ≡ Called (pos 4) (negsuc 0)
     unfolding own perform_parts perform_row row_of in_call piping piping_if least_below
-    pipe_15_used = by_parts (λ (o : Own). o.answer) _ _ (ap (λ (b : Bool). (piping_if (used 15) 9 b).answer) there)
+    pipe_one_left = by_parts (λ (o : Own). o.answer) _ _ (ap (λ (b : Bool). (piping_if (used last) 9 b).answer) there)
 
-    pipe_15_takes_nothing : free_of (own (piping (used 15) 9)).next ≡ 9
+    pipe_one_left_takes_nothing : free_of (own (piping (used last) 9)).next ≡ 9
     unfolding own perform_parts perform_row row_of in_call piping piping_if least_below free_of
-    pipe_15_takes_nothing = by_parts (λ (o : Own). free_of o.next) _ _ (ap (λ (b : Bool). free_of (piping_if (used 15) 9 b).next) there)
+    pipe_one_left_takes_nothing = by_parts (λ (o : Own). free_of o.next) _ _ (ap (λ (b : Bool). free_of (piping_if (used last) 9 b).next) there)
 
-    pipe_16_used : (own (piping (used 16) 9)).answer ≡ Called (pos 4) (negsuc 0)
+    pipe_none_left : (own (piping (used NOFILE) 9)).answer ≡ Called (pos 4) (negsuc 0)
     unfolding own perform_parts perform_row row_of in_call piping piping_if least_below
-    pipe_16_used = by_parts (λ (o : Own). o.answer) _ _ (ap (λ (b : Bool). (piping_if (used 16) 9 b).answer) there)
+    pipe_none_left = by_parts (λ (o : Own). o.answer) _ _ (ap (λ (b : Bool). (piping_if (used NOFILE) 9 b).answer) there)
 
   pipe_not_there : writable image 0 8 ≡ false → (own (piping (used 0) 9)).answer ≡ Called (pos 4) (negsuc 0)
   unfolding own perform_parts perform_row row_of in_call piping piping_if least_below
@@ -147,15 +151,15 @@ module _ (image : Image) where
 
   -- ---- dup and close
 
-  dup_15_used : (own (with_table (used 15) (call 10 3 0 0))).answer ≡ Called (pos 10) (pos 15)
+  dup_one_left : (own (with_table (used last) (call 10 3 0 0))).answer ≡ Called (pos 10) (pos last)
   unfolding own in_call with_table least_below perform row row_of dup ◌>>=◌ ◌>>◌ ◌when◌ ◌or◌
-  dup_15_used = refl
+  dup_one_left = refl
 
-  dup_16_used : (own (with_table (used 16) (call 10 3 0 0))).answer ≡ Called (pos 10) (negsuc 0)
+  dup_none_left : (own (with_table (used NOFILE) (call 10 3 0 0))).answer ≡ Called (pos 10) (negsuc 0)
   unfolding own in_call with_table least_below perform row row_of dup ◌>>=◌ ◌>>◌ ◌when◌ ◌or◌
-  dup_16_used = refl
+  dup_none_left = refl
 
-  dup_hole : (own (with_table (but 3 9) (call 10 15 0 0))).answer ≡ Called (pos 10) (pos 3)
+  dup_hole : (own (with_table (but 3 9) (call 10 last 0 0))).answer ≡ Called (pos 10) (pos 3)
   unfolding own in_call with_table least_below perform row row_of dup ◌>>=◌ ◌>>◌ ◌when◌ ◌or◌
   dup_hole = refl
 
@@ -167,21 +171,21 @@ module _ (image : Image) where
   unfolding own in_call with_table least_below perform row row_of dup ◌>>=◌ ◌>>◌ ◌when◌ ◌or◌
   dup_minus_1 = refl
 
-  dup_16 : (own (with_table (used 3) (call 10 16 0 0))).answer ≡ Called (pos 10) (negsuc 0)
+  dup_past_last : (own (with_table (used 3) (call 10 NOFILE 0 0))).answer ≡ Called (pos 10) (negsuc 0)
   unfolding own in_call with_table least_below perform row row_of dup ◌>>=◌ ◌>>◌ ◌when◌ ◌or◌
-  dup_16 = refl
+  dup_past_last = refl
 
   close_minus_1 : (own (with_table (used 3) (call 21 (minus 1) 0 0))).answer ≡ Called (pos 21) (negsuc 0)
   unfolding own in_call with_table perform row row_of close ◌>>=◌ ◌>>◌ ◌when◌ ◌or◌
   close_minus_1 = refl
 
-  close_16 : (own (with_table (used 16) (call 21 16 0 0))).answer ≡ Called (pos 21) (negsuc 0)
+  close_past_last : (own (with_table (used NOFILE) (call 21 NOFILE 0 0))).answer ≡ Called (pos 21) (negsuc 0)
   unfolding own in_call with_table perform row row_of close ◌>>=◌ ◌>>◌ ◌when◌ ◌or◌
-  close_16 = refl
+  close_past_last = refl
 
-  close_15 : (own (with_table (used 16) (call 21 15 0 0))).answer ≡ Called (pos 21) (pos 0)
+  close_last : (own (with_table (used NOFILE) (call 21 last 0 0))).answer ≡ Called (pos 21) (pos 0)
   unfolding own in_call with_table perform row row_of close ◌>>=◌ ◌>>◌ ◌when◌ ◌or◌
-  close_15 = refl
+  close_last = refl
 
   -- only the low 32 bits count
   dup_low_bits : (own (with_table (used 3) (call 10 (2 ^ 32 + 2) 0 0))).answer ≡ Called (pos 10) (pos 3)
@@ -243,11 +247,11 @@ module _ (image : Image) where
   write_minus_1 = refl
 
   -- descriptors that are no number of one, or not in use, whatever n is
-  read_free : map (λ d. answer_of 5 d 0) (3 ∷ 15 ∷ 16 ∷ 99 ∷ (minus 1) ∷ []) ≡ map (λ d. Called (pos 5) (negsuc 0)) (3 ∷ 15 ∷ 16 ∷ 99 ∷ (minus 1) ∷ [])
+  read_free : map (λ d. answer_of 5 d 0) (3 ∷ last ∷ NOFILE ∷ 99 ∷ (minus 1) ∷ []) ≡ map (λ d. Called (pos 5) (negsuc 0)) (3 ∷ last ∷ NOFILE ∷ 99 ∷ (minus 1) ∷ [])
   unfolding own in_call with_table three answer_of perform row row_of read ◌>>=◌ ◌>>◌ ◌when◌ ◌or◌
   read_free = refl
 
-  write_free : map (λ d. answer_of 16 d 0) (3 ∷ 15 ∷ 16 ∷ 99 ∷ (minus 1) ∷ []) ≡ map (λ d. Called (pos 16) (negsuc 0)) (3 ∷ 15 ∷ 16 ∷ 99 ∷ (minus 1) ∷ [])
+  write_free : map (λ d. answer_of 16 d 0) (3 ∷ last ∷ NOFILE ∷ 99 ∷ (minus 1) ∷ []) ≡ map (λ d. Called (pos 16) (negsuc 0)) (3 ∷ last ∷ NOFILE ∷ 99 ∷ (minus 1) ∷ [])
   unfolding own in_call with_table three answer_of perform row row_of write ◌>>=◌ ◌>>◌ ◌when◌ ◌or◌
   write_free = refl
 
@@ -312,9 +316,9 @@ module _ (image : Image) where
     unfolding in_call opener no_slashes least_below
     console_answer = opened_answer (codes "console") given 0 (used 5)
 
-    console_16_used : (own (opener 0 (used 16))).answer ≡ Called (pos 15) (negsuc 0)
+    console_none_left : (own (opener 0 (used NOFILE))).answer ≡ Called (pos 15) (negsuc 0)
     unfolding in_call opener no_slashes least_below
-    console_16_used = opened_answer (codes "console") given 0 (used 16)
+    console_none_left = opened_answer (codes "console") given 0 (used NOFILE)
 
   console_1 : text_at MAXPATH image 0 ≡ Some (codes "/console") → at_place (own (opener 1 (used 0))).next 0 ≡ Some (record { file = 0; read = false; write = true; shown = Shown_terminal })
   unfolding in_call opener no_slashes least_below named at_place
@@ -340,9 +344,9 @@ module _ (image : Image) where
   unfolding in_call opener no_slashes least_below
   program_minus_1 given = opened_answer (codes "b") given (minus 1) (used 0)
 
-  program_16_used : text_at MAXPATH image 0 ≡ Some (codes "a") → (own (opener 0 (used 16))).answer ≡ Called (pos 15) (negsuc 0)
+  program_none_left : text_at MAXPATH image 0 ≡ Some (codes "a") → (own (opener 0 (used NOFILE))).answer ≡ Called (pos 15) (negsuc 0)
   unfolding in_call opener no_slashes least_below
-  program_16_used given = opened_answer (codes "a") given 0 (used 16)
+  program_none_left given = opened_answer (codes "a") given 0 (used NOFILE)
 
   -- nothing has these names: another word for a terminal, a longer name, a name behind a folder's, and the empty name
   no_tty : text_at MAXPATH image 0 ≡ Some (codes "tty") → (own (opener 0 (used 0))).answer ≡ Called (pos 15) (negsuc 0)

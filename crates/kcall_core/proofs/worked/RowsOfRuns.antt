@@ -1,6 +1,7 @@
 -- Worked cases of how a run is cut at a process's steps, and of what a step's answer tells.
-use Rattle.std.proofs.Common.{◌≡◌, zero, suc, ◌^◌, ◌-◌, ◌<◌, List, [], ◌∷◌, ◌++◌, None, Some, inl, inr, refl, arith, ℕ, true, false, Option, ap, ◌∙◌}
+use Rattle.std.proofs.Common.{◌≡◌, zero, suc, ◌^◌, ◌+◌, ◌-◌, ◌<◌, List, [], ◌∷◌, ◌++◌, None, Some, inl, inr, refl, arith, ℕ, true, false, Option, ap, ◌∙◌}
 use Rattle.std.specs.Prelude.{pos, negsuc, Contains}
+use Rattle.xk_base.specs.declared.limits.TheConstants.{PIPE_BYTES}
 use Rattle.xk_base.specs.Image.{Image}
 use Rattle.rv64i_core.specs.Registers.{fresh, put}
 use Rattle.file_table.specs.declared.open_file.End.TheVariants.{Writing}
@@ -98,7 +99,7 @@ never_12 (suc (suc zero), below, is) = let no : ⊥ = cc in no
 never_12 (suc (suc (suc zero)), below, is) = let no : ⊥ = cc in no
 never_12 (suc (suc (suc (suc k))), below, is) = let far : suc (suc (suc (suc k))) < 4 = below in omega (arith, far)
 
--- ---- a write of 513 bytes that has moved 512: broken where its pipe has no reader any more, and not where it has one; nor is a read
+-- ---- a write of a byte more than a pipe holds, which has moved all the others: broken where its pipe has no reader any more, and not where it has one; nor is a read
 
 abbrev readers_shown : Shown → ℕ
 readers_shown Shown_terminal = 0
@@ -110,15 +111,15 @@ readers_at None = 0
 readers_at (Some d) = readers_shown d.shown
 
 module _ (image : Image) where
-  abbrev moved_512 : ℕ → Call
-  moved_512 number = record (call number 1 8192 513) { moved = 512 }
+  abbrev all_but_one : ℕ → Call
+  all_but_one number = record (call number 1 8192 (PIPE_BYTES + 1)) { moved = PIPE_BYTES }
 
   abbrev with_readers : ℕ → ℕ → View
-  with_readers number readers = record (in_call image (moved_512 number)) { descriptors = ends_of (record { bytes = []; readers = readers; writers = 1 }) }
+  with_readers number readers = record (in_call image (all_but_one number)) { descriptors = ends_of (record { bytes = []; readers = readers; writers = 1 }) }
 
   broken : IsBrokenWrite (with_readers 16 0)
   unfolding in_call
-  broken = (moved_512 16, 1, record { file = 1; read = false; write = true; shown = Shown_pipe 0 Writing (record { bytes = []; readers = 0; writers = 1 }) }, 0, Writing, record { bytes = []; readers = 0; writers = 1 }, refl, refl, refl, refl, refl, refl)
+  broken = (all_but_one 16, 1, record { file = 1; read = false; write = true; shown = Shown_pipe 0 Writing (record { bytes = []; readers = 0; writers = 1 }) }, 0, Writing, record { bytes = []; readers = 0; writers = 1 }, refl, refl, refl, refl, refl, refl)
 
   one_call : (a b : Call) → Some a ≡ Some b → a ≡ b
   one_call a b e = cc
@@ -129,10 +130,10 @@ module _ (image : Image) where
   not_with_a_reader : IsBrokenWrite (with_readers 16 1) → ⊥
   unfolding in_call
   not_with_a_reader (c, d, x, name, end, pipe, busy, number, at, on, shown, none) =
-      let descriptor : 1 ≡ d = same_number 1 d (ap (λ (c : Call). c_int c.a0) (one_call (moved_512 16) c busy) ∙ at) in
+      let descriptor : 1 ≡ d = same_number 1 d (ap (λ (c : Call). c_int c.a0) (one_call (all_but_one 16) c busy) ∙ at) in
       let readers : ◌≡◌ {A = ℕ} 1 0 = ap (λ (k : ℕ). readers_at (ends_of (record { bytes = []; readers = 1; writers = 1 }) k)) descriptor ∙ ap readers_at on ∙ ap readers_shown shown ∙ none in
       let no : ⊥ = cc in no
 
   not_a_read : IsBrokenWrite (with_readers 5 0) → ⊥
   unfolding in_call
-  not_a_read (c, d, x, name, end, pipe, busy, number, at, on, shown, none) = let same : pos 5 ≡ pos 16 = ap (λ (c : Call). c.number) (one_call (moved_512 5) c busy) ∙ number in let no : ⊥ = cc in no
+  not_a_read (c, d, x, name, end, pipe, busy, number, at, on, shown, none) = let same : pos 5 ≡ pos 16 = ap (λ (c : Call). c.number) (one_call (all_but_one 5) c busy) ∙ number in let no : ⊥ = cc in no

@@ -1,7 +1,8 @@
 -- Worked cases of what a step begins with, of whether a process that waits could go on, and of what others see of a step.
-use Rattle.std.proofs.Common.{◌≡◌, ℕ, ◌^◌, ◌+◌, true, false, Bool, cond, List, [], ◌∷◌, refl, replicate, map}
+use Rattle.std.proofs.Common.{◌≡◌, ℕ, ◌^◌, ◌-◌, ◌+◌, true, false, Bool, cond, List, [], ◌∷◌, refl, replicate, map}
 use Rattle.std.specs.Prelude.{Option, None, Some, pos, negsuc, nat_eq, codes}
 use Rattle.xk_base.specs.declared.access.Cause.TheVariants.{LoadPageFault}
+use Rattle.xk_base.specs.declared.limits.TheConstants.{PIPE_BYTES}
 use Rattle.xk_base.specs.Image.{Image}
 use Rattle.xk_base.specs.Words.{count_below}
 use Rattle.rv64i_core.specs.Registers.{fresh, put}
@@ -142,8 +143,8 @@ module _ (image : Image) where
   unfolding ready row_of in_call is_ready reads
   read_ready = refl
 
-  -- a write to one: 512 bytes, 511 bytes, nobody left to read
-  write_ready : writes (replicate 512 0) 1 1 ∷ writes (replicate 511 0) 1 1 ∷ writes (replicate 512 0) 0 1 ∷ [] ≡ false ∷ true ∷ true ∷ []
+  -- a write to one: it is full, there is room for a byte, nobody left to read
+  write_ready : writes (replicate PIPE_BYTES 0) 1 1 ∷ writes (replicate (PIPE_BYTES - 1) 0) 1 1 ∷ writes (replicate PIPE_BYTES 0) 0 1 ∷ [] ≡ false ∷ true ∷ true ∷ []
   unfolding ready row_of in_call is_ready writes
   write_ready = refl
 

@@ -22,8 +22,8 @@ use xk_base::{Fd, Frame};
 /// How many bytes the numbers of two descriptors take.
 const NUMBERS_BYTES: usize = 8;
 
-/// The numbers of two descriptors as two C ints. A descriptor's number is below 16, so it is the lowest byte
-/// of its int.
+/// The numbers of two descriptors as two C ints. A descriptor's number is below [`NOFILE`](xk_base::limits::NOFILE),
+/// so it is the lowest byte of its int.
 fn two_numbers(read: Fd, write: Fd) -> [u8; NUMBERS_BYTES]
     ensures { result ≡ le_bytes 4 read ++ le_bytes 4 write }
 {

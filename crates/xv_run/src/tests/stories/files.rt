@@ -76,10 +76,10 @@ calls
     turn 1, call 1 15 -1, call 1 15 -1, call 1 15 0, call 1 15 1, exit 1 0
 
 story descriptors run out
-# 15 opens; a pipe needs two descriptors; then the 16th open, and one too many.
+# 31 opens; a pipe needs two descriptors; then the 32nd open, and one too many.
 program init
     do name b
-    li s0, 15
+    li s0, 31
     more: addi a0, sp, -16; li a1, 0; li a7, 15; ecall
     addi s0, s0, -1; bne s0, x0, more
     do pipe
@@ -90,12 +90,12 @@ program init
 file b hello
 calls
     turn 1
-    N from 0 to 14: call 1 15 N
+    N from 0 to 30: call 1 15 N
     call 1 4 -1, free 9
-    call 1 15 15, call 1 15 -1, exit 1 0
+    call 1 15 31, call 1 15 -1, exit 1 0
 
 story copies of a descriptor run out
-# 15 copies and one too many; then no descriptor is left for a file or a pipe. One that is closed is given
+# 31 copies and one too many; then no descriptor is left for a file or a pipe. One that is closed is given
 # again.
 program init
     do name b
@@ -111,14 +111,14 @@ program init
 file b hello
 calls
     turn 1, call 1 15 0
-    N from 1 to 15: call 1 10 N
+    N from 1 to 31: call 1 10 N
     call 1 10 -1, call 1 15 -1, call 1 4 -1, free 9
     call 1 21 0, call 1 15 9, exit 1 0
 
 story reads and closes that are refused
-# Reads at the highest address: of 2 bytes, of none, and of -1; then of -1 at a good address, and from a
-# descriptor that no process can have. All bytes of the file are left. Descriptor 0 is closed twice. No
-# calls have the numbers 8 and 99.
+# Reads at the highest address: of 2 bytes, of none, and of -1; then of -1 at a good address, from a
+# descriptor that no process can have, and from one that isn't in use. All bytes of the file are left.
+# Descriptor 0 is closed twice. No calls have the numbers 8 and 99.
 program init
     do name b
     do open
@@ -126,7 +126,8 @@ program init
     li a0, 0; li a2, 0; ecall
     li a0, 0; li a2, -1; ecall
     li a0, 0; addi a1, sp, -32; ecall
-    li a0, 16; li a2, 1; ecall
+    li a0, 32; li a2, 1; ecall
+    li a0, 16; ecall
     li a0, 0; li a2, 9; ecall
     li a0, 0; li a7, 21; ecall; li a0, 0; ecall
     li a7, 8; ecall
@@ -135,7 +136,7 @@ program init
 file b hello
 calls
     turn 1, call 1 15 0, call 1 5 -1, call 1 5 0, call 1 5 -1
-    call 1 5 -1, call 1 5 -1, call 1 5 5
+    call 1 5 -1, call 1 5 -1, call 1 5 -1, call 1 5 5
     bytes 1 0x2FC0 68 65 6C 6C 6F 00
     call 1 21 0, call 1 21 -1, call 1 8 -1, call 1 99 -1, exit 1 0
 

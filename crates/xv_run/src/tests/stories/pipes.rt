@@ -80,25 +80,49 @@ calls
     call 1 5 0, exit 1 0
 
 story a full pipe holds its writer back
-# The parent writes 513 bytes, all of which stand in its stack page.
+# The parent writes a byte more than a pipe holds, all of which stand in its stack page.
 program init
     do pipe
     do fork
-    li a0, 1; lui a1, 2; li a2, 513; li a7, 16; ecall
+    li a0, 1; lui a1, 2; li a2, 2049; li a7, 16; ecall
     do exit
     child: li a0, 0; addi a1, sp, -32; li a2, 1; li a7, 5; ecall
     do exit
 calls
     turn 1, call 1 4 0, call 1 1 2, block 1 16
     turn 2, call 2 5 1, exit 2 0
-    turn 1, call 1 16 513, exit 1 0
+    turn 1, call 1 16 2049, exit 1 0
+
+story a pipe takes and gives 2,048 bytes at once
+# Each of the first 256 double words of a new page holds its own address. All of them go into the pipe by one
+# write, and come out to the stack's page by one read; the program compares them.
+program init
+    do pipe
+    li a0, 4096; li a7, 12; ecall
+    lui s0, 3; lui s1, 2; li s2, 256
+    mv t0, s0; mv t1, s2
+    fill: sd t0, 0(t0); addi t0, t0, 8; addi t1, t1, -1; bne t1, x0, fill
+    li a0, 1; mv a1, s0; li a2, 2048; li a7, 16; ecall
+    li a0, 0; mv a1, s1; li a7, 5; ecall
+    same: ld t0, 0(s0); ld t1, 0(s1); bne t0, t1, other
+    addi s0, s0, 8; addi s1, s1, 8; addi s2, s2, -1; bne s2, x0, same
+    do exit
+    other: li a0, 1; li a7, 2; ecall
+calls
+    free 9
+    turn 1, call 1 4 0, free 8, call 1 12 12288, free 7
+    call 1 16 2048, free 7, zeros 1 0x2000 2048
+    call 1 5 2048, free 7
+    bytes 1 0x2000 00 30 00 00 00 00 00 00 08 30 00 00 00 00 00 00
+    bytes 1 0x27F8 F8 37 00 00 00 00 00 00 00
+    exit 1 0, halted, free 16
 
 story a writer whose last reader goes is refused
 program init
     do pipe
     do fork
     do close end 0
-    li a0, 1; lui a1, 2; li a2, 513; li a7, 16; ecall
+    li a0, 1; lui a1, 2; li a2, 2049; li a7, 16; ecall
     do exit
     child:
     do close end 0
@@ -134,11 +158,11 @@ calls
     turn 1, call 1 3 2, call 1 5 1, exit 1 0
 
 story both of two writers wake when there is room
-# The pipe is full before two children write a byte each; then the parent takes all 512.
+# The pipe is full before two children write a byte each; then the parent takes all 2,048.
 frames 32
 program init
     do pipe
-    li a0, 1; lui a1, 2; li a2, 512; li a7, 16; ecall
+    li a0, 1; lui a1, 2; li a2, 2048; li a7, 16; ecall
     do fork
     do fork
     li a0, 0; li a7, 5; ecall
@@ -148,27 +172,28 @@ program init
     child: li a0, 1; lui a1, 2; li a2, 1; li a7, 16; ecall
     do exit
 calls
-    turn 1, call 1 4 0, call 1 16 512, call 1 1 2, call 1 1 3
+    turn 1, call 1 4 0, call 1 16 2048, call 1 1 2, call 1 1 3
 events
     tick, turn 2, step 2, step 2, step 2, step 2, step 2, block 2 16
 calls
-    turn 3, block 3 16, turn 1, call 1 5 512, block 1 3
+    turn 3, block 3 16, turn 1, call 1 5 2048, block 1 3
     turn 2, call 2 16 1, exit 2 0
     turn 3, call 3 16 1, exit 3 0
     turn 1, call 1 3 2, call 1 3 3, exit 1 0, free 32
 
 story two writers share the room of two bytes
-# Process 2 writes 513 bytes, of which a and b are the first and y is the last; process 3 writes z. Process 1
-# reads 2 bytes, and later 600. 512 bytes are the most that a pipe holds.
+# Process 2 writes 2,049 bytes, of which a and b are the first and y is the last; process 3 writes z. Process 1
+# reads 2 bytes, and later 2,200. 2,048 bytes are the most that a pipe holds.
 frames 32
 program init
     do pipe
     li a7, 1; ecall; beq a0, x0, long; ecall; beq a0, x0, short
     lui a1, 2; li a2, 2; li a7, 5; li a0, 0; ecall
-    li a2, 600; li a0, 0; ecall
+    li a2, 2200; li a0, 0; ecall
     do exit
-    long: lui a1, 2; li t0, 0x6261; sd t0, 0(a1); li t0, 121; sb t0, 512(a1)
-    li a0, 1; li a2, 513; li a7, 16; ecall
+    long: lui a1, 2; li t0, 0x6261; sd t0, 0(a1); li t0, 121
+    li a2, 2048; add t1, a1, a2; sb t0, 0(t1)
+    li a0, 1; li a2, 2049; li a7, 16; ecall
     do exit
     short: lui a1, 2; li t0, 122; sb t0, 0(a1)
     li a0, 1; li a2, 1; li a7, 16; ecall
@@ -178,10 +203,10 @@ calls
     turn 2, block 2 16, turn 3, block 3 16, turn 1, call 1 5 2
     bytes 1 0x2000 61 62 00
 events
-    tick, turn 2, call 2 16 513, tick, turn 3, call 3 16 1, tick
+    tick, turn 2, call 2 16 2049, tick, turn 3, call 3 16 1, tick
 calls
-    turn 1, call 1 5 512
-    bytes 1 0x21FD 00 79 7A 00
+    turn 1, call 1 5 2048
+    bytes 1 0x27FD 00 79 7A 00
 
 story another name of an end wakes nobody
 # The child waits in a read. Its parent makes a copy of the write end, closes it, and waits.
@@ -258,7 +283,7 @@ calls
     call 1 4 -1, free 0
     exit 1 0, free 8
 
-story eight pipes take all descriptors
+story sixteen pipes take all descriptors
 # Pipes are made until one is refused.
 frames 32
 program init
@@ -276,6 +301,14 @@ calls
     call 1 4 0, free 19, bytes 1 0x2FD0 0A 00 00 00 0B 00 00 00
     call 1 4 0, free 18, bytes 1 0x2FD0 0C 00 00 00 0D 00 00 00
     call 1 4 0, free 17, bytes 1 0x2FD0 0E 00 00 00 0F 00 00 00
-    call 1 4 -1, free 17, bytes 1 0x2FD0 0E 00 00 00 0F 00 00 00
+    call 1 4 0, free 16, bytes 1 0x2FD0 10 00 00 00 11 00 00 00
+    call 1 4 0, free 15, bytes 1 0x2FD0 12 00 00 00 13 00 00 00
+    call 1 4 0, free 14, bytes 1 0x2FD0 14 00 00 00 15 00 00 00
+    call 1 4 0, free 13, bytes 1 0x2FD0 16 00 00 00 17 00 00 00
+    call 1 4 0, free 12, bytes 1 0x2FD0 18 00 00 00 19 00 00 00
+    call 1 4 0, free 11, bytes 1 0x2FD0 1A 00 00 00 1B 00 00 00
+    call 1 4 0, free 10, bytes 1 0x2FD0 1C 00 00 00 1D 00 00 00
+    call 1 4 0, free 9, bytes 1 0x2FD0 1E 00 00 00 1F 00 00 00
+    call 1 4 -1, free 9, bytes 1 0x2FD0 1E 00 00 00 1F 00 00 00
     exit 1 0, free 32
 "##;

@@ -1,4 +1,5 @@
 use Rattle.std.proofs.Common.{◌-◌, ◌∙◌, subst, arith}
+use Rattle.xk_base.specs.declared.limits.TheConstants.{NOFILE}
 use Rattle.kcall_core.specs.Closings.{ClosesFrom}
 use Rattle.kcall_core.proofs.files.AllClosed.{closes-none, closes-on}
 use Rattle.kcall_core.proofs.kernel.Kernel.close_all.Goals as goal
@@ -20,7 +21,7 @@ loop-closed-preserved c = record {
       after.remains.current ∙ c.loop-closed.invariant.slot;
   closed = λ hart closing.
       let before = c.loop-closed.invariant.closed hart closing in
-      closes-on (16 - c.loop-closed.closed) _ c.new.result (omega (arith, c.new.ensures, c.loop-closed-test.true)) (omega (arith, c.new.ensures, c.loop-closed-test.true)) closing before (c.close_if_used.ensures hart before.after);
+      closes-on (NOFILE - c.loop-closed.closed) _ c.new.result (omega (arith, c.new.ensures, c.loop-closed-test.true)) (omega (arith, c.new.ensures, c.loop-closed-test.true)) closing before (c.close_if_used.ensures hart before.after);
 }
 
 pub returns : goal.returns

@@ -1,7 +1,8 @@
 use Rattle.std.proofs.Common.{◌≡◌, ◌-◌, Some}
+use Rattle.xk_base.specs.declared.limits.TheConstants.{NOFILE}
 use Rattle.hart_core.specs.declared.hart.Hart.{Hart}
 use Rattle.kcall_core.specs.Closings.{IsClosing, ClosesFrom}
 use Rattle.kcall_core.proofs.kernel.Kernel.close_all.Given as goal
 
 abbrev pub invariant-loop-closed : goal.invariant-loop-closed
-invariant-loop-closed l = record { slot : l.self.current ≡ Some l.slot; closed : (hart : Hart) → IsClosing l.fn.self hart → ClosesFrom l.fn.self hart (16 - l.closed) l.self }
+invariant-loop-closed l = record { slot : l.self.current ≡ Some l.slot; closed : (hart : Hart) → IsClosing l.fn.self hart → ClosesFrom l.fn.self hart (NOFILE - l.closed) l.self }

@@ -6,8 +6,15 @@ use Rattle.kcall_core.specs.Memories.{pipes_of}
 use Rattle.kcall_core.specs.Kernel.{state_of}
 use Rattle.kcall_core.specs.declared.kernel.Kernel.{Kernel}
 use Rattle.kcall_core.proofs.memory.PipeEdges.{there-is}
+use Rattle.kcall_core.proofs.table.States.{slot-inside}
 use Rattle.kcall_core.proofs.files.OneClosed.{used-open, plain-closed, pipe-closed, pipe-there, pipe-counts}
 use Rattle.kcall_core.proofs.kernel.Kernel.close_descriptor.Goals as goal
+
+pub take_descriptor-file-requires-clause-within : goal.take_descriptor-file-requires-clause-within
+take_descriptor-file-requires-clause-within c =
+    let sound = c.requires.closing.1.sound in
+    let now = sound.current c.args.slot c.requires.slot in
+    slot-inside c.args.self.now c.requires.closing.0 sound c.args.slot now.process now.is
 
 pub pipe_end_of-pipe-requires : goal.pipe_end_of-pipe-requires
 pipe_end_of-pipe-requires c = used-open c.requires.closing.1 c.requires.slot c.number.ensures.range c.take_descriptor-file.ensures.file

@@ -20,6 +20,21 @@ used_descriptor-requires c =
     let now = c.requires.whole.sound.current c.in-Some.slot c.in-Some.is in
     slot-inside c.args.self.now c.args.hart.now c.requires.whole.sound c.in-Some.slot now.process now.is
 
+pub descriptors-requires : goal.descriptors-requires
+descriptors-requires c =
+    let now = c.requires.whole.sound.current c.in-Some.slot c.in-Some.is in
+    slot-inside c.args.self.now c.args.hart.now c.requires.whole.sound c.in-Some.slot now.process now.is
+
+pub descriptors-requires-2 : goal.descriptors-requires-2
+descriptors-requires-2 c =
+    let now = c.requires.whole.sound.current c.in-Some.slot c.in-Some.is in
+    slot-inside c.args.self.now c.args.hart.now c.requires.whole.sound c.in-Some.slot now.process now.is
+
+pub share-requires-clause-within : goal.share-requires-clause-within
+share-requires-clause-within c =
+    let now = c.requires.whole.sound.current c.in-Some.slot c.in-Some.is in
+    slot-inside c.args.self.now c.args.hart.now c.requires.whole.sound c.in-Some.slot now.process now.is
+
 pub returns-in_default-used_descriptor-clause-made : goal.returns-in_default-used_descriptor-clause-made
 returns-in_default-used_descriptor-clause-made c =
     let k = c.args.self.now in

@@ -1,5 +1,6 @@
 use Rattle.std.proofs.Common.{◌≡◌, pos, sym, ap, ◌∙◌, subst, arith, w64}
 use Rattle.std.proofs.lemmas.Int.{to_z-of_z}
+use Rattle.xk_base.specs.declared.limits.TheConstants.{NOFILE}
 use Rattle.file_table.specs.Named.{named_by}
 use Rattle.proc_table.specs.Slots.{descriptors_at}
 use Rattle.kcall_core.specs.Own.{Own, Called}
@@ -59,7 +60,7 @@ pub save_child-requires-clause-there : goal.save_child-requires-clause-there
 save_child-requires-clause-there c =
     let b = c.in-Some-bear.ensures.born in
     let new = slot-for c.args.self.now c.args.hart.now c.requires.whole.sound c.in-Some-bear.child.slot b.free in
-    let all : c.loop-number.number ≡ 16 = omega (arith, c.loop-number-test.false, c.loop-number.auto.number-end) in
+    let all : c.loop-number.number ≡ NOFILE = omega (arith, c.loop-number-test.false, c.loop-number.auto.number-end) in
     let x = subst (λ n. IsHanded c.args.self.now c.args.hart.now c.in-Some-bear.child.slot n c.loop-number.self) all c.loop-number.invariant in
     let value = to_z-of_z w64 c.from.result (record { sfits = c.from.type_inv }) ∙ c.from.ensures ∙ ap pos (c.number.ensures.value ∙ b.named) in
     done-has c.requires.whole c.requires.running c.in-Some-bear.child.slot new _ x _ value c.done-end.new.self c.done-end.new.hart
@@ -69,7 +70,7 @@ pub returns-clause-made : goal.returns-clause-made
 returns-clause-made c call =
     let b = c.in-Some-bear.ensures.born in
     let new = slot-for c.args.self.now c.args.hart.now c.requires.whole.sound c.in-Some-bear.child.slot b.free in
-    let all : c.loop-number.number ≡ 16 = omega (arith, c.loop-number-test.false, c.loop-number.auto.number-end) in
+    let all : c.loop-number.number ≡ NOFILE = omega (arith, c.loop-number-test.false, c.loop-number.auto.number-end) in
     let x = subst (λ n. IsHanded c.args.self.now c.args.hart.now c.in-Some-bear.child.slot n c.loop-number.self) all c.loop-number.invariant in
     let value = to_z-of_z w64 c.from.result (record { sfits = c.from.type_inv }) ∙ c.from.ensures ∙ ap pos (c.number.ensures.value ∙ b.named) in
     fork-makes c.requires.whole c.requires.running (handed-born c.requires.whole c.requires.running c.in-Some-bear.child.slot new _ x _ value c.done-end.new.self c.done-end.new.hart
@@ -80,7 +81,7 @@ unfolding state_of
 returns-clause-answer c call =
     let b = c.in-Some-bear.ensures.born in
     let new = slot-for c.args.self.now c.args.hart.now c.requires.whole.sound c.in-Some-bear.child.slot b.free in
-    let all : c.loop-number.number ≡ 16 = omega (arith, c.loop-number-test.false, c.loop-number.auto.number-end) in
+    let all : c.loop-number.number ≡ NOFILE = omega (arith, c.loop-number-test.false, c.loop-number.auto.number-end) in
     let x = subst (λ n. IsHanded c.args.self.now c.args.hart.now c.in-Some-bear.child.slot n c.loop-number.self) all c.loop-number.invariant in
     let value = to_z-of_z w64 c.from.result (record { sfits = c.from.type_inv }) ∙ c.from.ensures ∙ ap pos (c.number.ensures.value ∙ b.named) in
     fork-answer c.requires.whole c.requires.running (handed-born c.requires.whole c.requires.running c.in-Some-bear.child.slot new _ x _ value c.done-end.new.self c.done-end.new.hart
