@@ -13,20 +13,35 @@ use hart_core::Hart;
 use xk_base::BadAddress;
 
 impl Memories {
-    /// Copies bytes from the memory of a slot, as many as `out` holds.
-    ///
-    /// Errors: `BadAddress` exactly where user code may not read one of them; then `out` is as it was.
-    pub fn copy_in(&self, slot: usize, address: u64, out: &mut [u8]) -> Result<(), BadAddress>
+    /// Copies bytes from the memory of a slot, as many as `out` holds. User code may read all of them, which
+    /// was tested before: each page is walked to once.
+    pub fn read_tested(&self, slot: usize, address: u64, out: &mut [u8])
         requires sound { AreSound self.now }
         requires there { HasMemory (each_of self.now) slot }
-        ensures fine { IfOk result (λ _. readable (held_at (each_of self.now) slot).image address (length out.old) ≡ true) }
-        ensures copied { IfOk result (λ _. out.new ≡ image_bytes (held_at (each_of self.now) slot).image address (length out.old)) }
-        ensures refused { IfErr result (λ _. (readable (held_at (each_of self.now) slot).image address (length out.old) ≡ false) × (out.new ≡ out.old)) }
+        requires readable { readable (held_at (each_of self.now) slot).image address (length out.old) ≡ true }
+        ensures { out.new ≡ image_bytes (held_at (each_of self.now) slot).image address (length out.old) }
     {
         let Some(memory) = &self.each[slot] else {
             unreachable!();
         };
-        user_copy::copy_in(&memory.space, &self.ram, address, out)
+        memory.space.read_across(&self.ram, address, out);
+    }
+
+    /// Copies bytes to the memory of a slot. User code may write all of them, which was tested before: each
+    /// page is walked to once. What a hart keeps of the slot's translations stays true, and as many frames
+    /// are free as before.
+    pub fn write_tested(&mut self, slot: usize, address: u64, bytes: &[u8])
+        requires sound { AreSound self.old }
+        requires there { HasMemory (each_of self.old) slot }
+        requires writable { writable (held_at (each_of self.old) slot).image address (length bytes.now) ≡ true }
+        ensures written { let held = held_at (each_of self.old) slot in SlotChanges self.old self.new slot (Some (with_image (write_image held.image address bytes.now) held)) }
+        ensures free { free_of self.new ≡ free_of self.old }
+        ensures runs { (hart : Hart) → RunsIn self.old slot hart → RunsIn self.new slot hart }
+    {
+        let Some(memory) = &self.each[slot] else {
+            unreachable!();
+        };
+        memory.space.write_across(&mut self.ram, address, bytes);
     }
 
     /// Copies bytes to the memory of a slot. What a hart keeps of the slot's translations stays true, and

@@ -72,9 +72,7 @@ impl Memories {
         ensures bytes { take count bytes.new ≡ image_bytes (held_at (each_of self.now) slot).image address count }
         ensures length { length bytes.new ≡ length bytes.old }
     {
-        let Ok(()) = self.copy_in(slot, address, &mut bytes[..count]) else {
-            unreachable!();
-        };
+        self.read_tested(slot, address, &mut bytes[..count]);
     }
 
     /// Appends the first bytes of a buffer to a pipe, as many as fit, and tells how many they are.
@@ -128,9 +126,7 @@ impl Memories {
         ensures free { free_of self.new ≡ free_of self.old }
         ensures runs { (hart : Hart) → RunsIn self.old slot hart → RunsIn self.new slot hart }
     {
-        let Ok(()) = self.copy_out(slot, address, &bytes[..count]) else {
-            unreachable!();
-        };
+        self.write_tested(slot, address, &bytes[..count]);
     }
 
     /// Takes the oldest bytes out of a pipe, as many as there are but at most n, puts them into the memory of
