@@ -127,7 +127,7 @@ boots-without_init frames trace programs answer good missing told = by (first_ba
 -- ---- a kernel
 
 any_hart : Hart
-any_hart = record { regs = fresh 0; root = None; cache = nothing_kept; decoded = tt }
+any_hart = record { regs = fresh 0; root = None; cache = nothing_kept; decoded = tt; fault_address = 0 }
 
 -- it has the programs that it was made of
 pub programs-same : (k : Kernel) (frames : ℕ) (programs : List ProgramFile) → ((hart : Hart) → state_of k hart ≡ empty_state frames programs) → map named_file k.programs.items ≡ programs
