@@ -12,6 +12,8 @@ pub mod Freeing
 pub mod Growing
 pub mod PriceTo
 pub mod Grown
+pub mod Touching
+pub mod WorkedTouches
 pub mod Pages
 pub mod Copies
 pub mod PlainPrice

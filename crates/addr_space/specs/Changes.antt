@@ -40,6 +40,10 @@ unfoldable pub with_absent : FinMap nat_cmp Page → ℕ → ℕ → Page → Fi
 with_absent pages first zero page = pages
 with_absent pages first (suc n) page = add_absent (with_absent pages first n page) (first + n) page
 
+-- the image with n pages of zeros from first on, each where there was none
+abbrev pub filled : Image → ℕ → ℕ → Rights → Image
+filled image first n perm = record { pages = with_absent image.pages first n (zeroed perm); size = image.size }
+
 -- the image at a greater size: pages of zeros from the rounded-up old size up to the new one, where there were none
 abbrev pub grown : Image → ℕ → Rights → Image
 grown image size perm = record { pages = with_absent image.pages (page_count image.size) (page_count size - page_count image.size) (zeroed perm); size = size }

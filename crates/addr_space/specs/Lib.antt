@@ -1,6 +1,7 @@
 pub mod Space
 pub mod Translations
 pub mod Changes
+pub mod Absent
 pub mod PlainPrice
 pub mod InPlace
 pub mod Steps

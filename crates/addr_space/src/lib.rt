@@ -35,6 +35,7 @@ use frame_list::Pool;
 use phys_ram::Ram;
 use sv39_core::{Entry, Pte, read_entry};
 
+mod absent;
 mod across;
 #[cfg(test)]
 mod tests;
@@ -568,8 +569,6 @@ impl Space {
 impl Space {
     /// How many frames a growth to a size takes, up to
     /// [`SIZE_LIMIT`](xk_base::limits::SIZE_LIMIT), whatever rights the new pages get.
-    ///
-    /// Where a table is absent, all of its pages are counted at once.
     pub fn price_to(&self, ram: &Ram, size: u64) -> u32
         requires whole { IsSpace ram.now self.now }
         requires more { self.now.size ≤ size }
@@ -578,25 +577,7 @@ impl Space {
     {
         let first = ((self.size + 4095) / 4096) as usize;
         let last = ((size + 4095) / 4096) as usize;
-        let mut v = first;
-        let mut count: u32 = 0;
-        'pages: while v < last {
-            let Some(_) = upper_table(ram, self.root, v) else {
-                let end = ((v / 262144 + 1) * 262144).min(last);
-                count += 1 + tables_for(v, end) + (end - v) as u32;
-                v = end;
-                continue 'pages;
-            };
-            let Some(_) = lower_table(ram, self.root, v) else {
-                let end = ((v / 512 + 1) * 512).min(last);
-                count += 1 + (end - v) as u32;
-                v = end;
-                continue 'pages;
-            };
-            count += new_page(ram, self.root, v);
-            v += 1;
-        }
-        count
+        self.price_between(ram, first, last)
     }
 
     /// Makes the size greater, up to [`SIZE_LIMIT`](xk_base::limits::SIZE_LIMIT): from the rounded-up
@@ -623,46 +604,12 @@ impl Space {
         ensures fits { IfOk result (λ _. price (grown (image_of ram.old self.old) size perm) ≤ price (image_of ram.old self.old) + length (free_in pool.old ram.old)) }
         ensures refused { IfErr result (λ _. (price (image_of ram.old self.old) + length (free_in pool.old ram.old) < price (grown (image_of ram.old self.old) size perm)) × Unchanged pool.old ram.old self.old pool.new ram.new self.new) }
     {
-        let extra = self.price_to(ram, size);
-        if pool.free() < extra {
-            return Err(NoFrames);
-        }
-        let first = ((self.size + 4095) / 4096) as u32;
-        let last = ((size + 4095) / 4096) as u32;
-        for v in first..last {
-            let vpn = Vpn::new(v);
-            if let None = self.perm(ram, vpn) {
-                let Ok(()) = self.map_zeroed(pool, ram, vpn, perm) else {
-                    unreachable!();
-                };
-            }
-        }
+        let first = ((self.size + 4095) / 4096) as usize;
+        let last = ((size + 4095) / 4096) as usize;
+        self.fill(pool, ram, first, last, perm)?;
         self.size = size; // all its pages are there
         Ok(())
     }
-}
-
-/// How many lower tables the pages from `v` to below `end` take where there is none.
-fn tables_for(v: usize, end: usize) -> u32
-    requires some { v < end }
-    requires page { end ≤ 2 ^ 26 }
-    ensures { result ≡ (end - 1) / 512 - v / 512 + 1 }
-{
-    ((end - 1) / 512 - v / 512 + 1) as u32
-}
-
-/// Whether a growth needs a page.
-fn new_page(ram: &Ram, root: Frame, v: usize) -> u32
-    requires root_in { root < length ram.now }
-    requires page { v < 2 ^ 26 }
-    ensures few { result ≤ 1 }
-    ensures there { (f : ℕ) → frame_of (page_entry ram.now root v) ≡ Some f → result ≡ 0 }
-    ensures new { frame_of (page_entry ram.now root v) ≡ None → result ≡ 1 }
-{
-    if let Entry::Leaf(..) = entry_of_page(ram, root, v) {
-        return 0;
-    }
-    1
 }
 
 impl Space {

@@ -240,3 +240,74 @@ fn a_shrink_inside_a_page_keeps_its_bytes(rt: HostRuntime) -> Result<(), Fail> {
     assert_eq!(rt; space.root(), root);
     Ok(())
 }
+
+// A space of three pages whose size is so many bytes more, none of them there.
+fn grown_lazily_by(pool: &mut Pool, ram: &mut Ram, more: u64) -> Option<Space>
+    requires good { Good pool.old ram.old }
+    requires limit { 12288 + more ≤ SIZE_LIMIT }
+    ensures belongs { IfSome result (λ space. Belongs pool.new ram.new space) }
+    ensures size { IfSome result (λ space. space.size ≡ 12288 + more) }
+{
+    let mut space = grown_to(pool, ram, 12_288)?;
+    space.grow_lazily(12_288 + more);
+    Some(space)
+}
+
+// Touches the byte at an address; whether its page fits.
+fn is_touched(space: &mut Space, pool: &mut Pool, ram: &mut Ram, address: u64) -> bool
+    requires belongs { Belongs pool.old ram.old space.old }
+    requires limit { space.old.size ≤ SIZE_LIMIT }
+    ensures belongs { Belongs pool.new ram.new space.new }
+    ensures size { space.new.size ≡ space.old.size }
+{
+    space.touch(pool, ram, address, 1).is_ok()
+}
+
+#[test]
+fn a_gigabyte_that_is_touched_in_four_places_costs_their_tables_and_pages(
+    rt: HostRuntime,
+) -> Result<(), Fail> {
+    let mut ram = Ram::new(rt.alloc(), 16)?;
+    let mut pool = Pool::new(rt.alloc(), &mut ram)?;
+    let Some(mut space) = grown_lazily_by(&mut pool, &mut ram, 1 << 30) else {
+        return Ok(());
+    };
+    let root: Frame = space.root();
+    assert_eq!(rt; pool.free(), 10);
+    assert_eq!(rt; space.price(), 6);
+    assert_eq!(rt; space.absent(&ram, Vpn::new(2)), false);
+    assert_eq!(rt; space.absent(&ram, Vpn::new(3)), true);
+    assert_eq!(rt; space.absent(&ram, Vpn::new(262_147)), false);
+    assert_eq!(rt; is_touched(&mut space, &mut pool, &mut ram, 0x3000), true);
+    assert_eq!(rt; byte_of(&space, &ram, 3), Some(0));
+    assert_eq!(rt; pool.free(), 9);
+    assert_eq!(rt; space.touch_price(&ram, 0x4000_0000, 1), 3);
+    assert_eq!(rt;
+        is_touched(&mut space, &mut pool, &mut ram, 0x4000_0000),
+        true
+    );
+    assert_eq!(rt;
+        is_touched(&mut space, &mut pool, &mut ram, 0x2000_0000),
+        true
+    );
+    assert_eq!(rt;
+        is_touched(&mut space, &mut pool, &mut ram, 0x1000_0000),
+        true
+    );
+    assert_eq!(rt; is_touched(&mut space, &mut pool, &mut ram, 0x3fff), true);
+    assert_eq!(rt; pool.free(), 2);
+    assert_eq!(rt; space.touch_price(&ram, 0x17ff_ffff, 2), 4);
+    assert_eq!(rt;
+        space.touch(&mut pool, &mut ram, 0x17ff_ffff, 2).is_err(),
+        true
+    );
+    assert_eq!(rt; pool.free(), 2);
+    assert_eq!(rt; space.copy(&mut pool, &mut ram).is_err(), true);
+    assert_eq!(rt; space.price(), 14);
+    assert_eq!(rt; space.root(), root);
+    space.shrink(&mut pool, &mut ram, 12_288);
+    assert_eq!(rt; pool.free(), 10);
+    let child = space.copy(&mut pool, &mut ram)?;
+    assert_eq!(rt; child.size(), 12_288);
+    Ok(())
+}

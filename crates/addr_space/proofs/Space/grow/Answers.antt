@@ -1,45 +1,21 @@
-use Rattle.std.proofs.Common.{◌≡◌, ◌+◌, ◌-◌, ◌/◌, ◌<◌, sym, ap, ◌∙◌, subst, arith}
-use Rattle.std.specs.FinMap.{get}
+use Rattle.std.proofs.Common.{◌+◌, ◌-◌, ◌/◌, arith}
+use Rattle.std.proofs.lemmas.Result.{err_from_is_err_and}
 use Rattle.sv39_core.specs.Tree.{pages_of}
 use Rattle.addr_space.specs.Changes.{zeroed, with_absent}
-use Rattle.addr_space.proofs.Grown.{perm-none, perm-some, no-refusal, SoFar, so_far-none, so_far-new, so_far-same}
-use Rattle.addr_space.proofs.Isolation.{spared}
+use Rattle.addr_space.proofs.PriceTo.{cost-size}
 use Rattle.addr_space.proofs.Trades.{belongs-resized}
-use Rattle.addr_space.proofs.Space.grow.Goals.{in-None+in-Ok, in_default}
 use Rattle.addr_space.proofs.Space.grow.Goals as goal
 
-pub loop-v-init : goal.loop-v-init
-loop-v-init c = so_far-none c.args.pool.now c.args.ram.now c.args.self.now ((c.args.self.now.size + 4095) / 4096) c.args.perm c.requires.belongs
-
-pub unreachable-requires : goal.unreachable-requires
-unreachable-requires c =
-    let inv = c.loop-v.invariant in
-    let v : c.new-vpn.result ≡ c.loop-v.v = c.new-vpn.ensures in
-    no-refusal c.args.pool.now c.loop-v.pool c.args.ram.now c.loop-v.ram c.args.self.now c.loop-v.self c.args.size c.new-vpn.result ((c.args.self.now.size + 4095) / 4096) ((c.args.size + 4095) / 4096) c.price_to-extra.result c.free.result c.args.perm c.requires.belongs inv.changed
-    (inv.pages ∙ ap (λ x. with_absent (pages_of c.args.ram.now c.args.self.now.root) ((c.args.self.now.size + 4095) / 4096) (x - (c.args.self.now.size + 4095) / 4096) (zeroed c.args.perm)) (sym v)) (omega (arith, v, c.loop-v.auto.v)) (omega (arith, v, c.loop-v-test.true)) (omega (arith, c.requires.limit))
-    (c.price_to-extra.ensures c.args.perm) c.if-free-extra.false (c.free.ensures c.args.ram.now c.requires.belongs.good) (perm-none (get (pages_of c.loop-v.ram c.loop-v.self.root) c.new-vpn.result) (sym c.in-None.ensures)) c.in_default-map_zeroed.ensures.refused.0
-
-pub loop-v-preserved : goal.loop-v-preserved
-loop-v-preserved c =
-    let first = (c.args.self.now.size + 4095) / 4096 in
-    let v : c.new-vpn.result ≡ c.loop-v.v = c.new-vpn.ensures in
-    let small : c.loop-v.v < 67108864 = omega (arith, c.loop-v-test.true, c.requires.limit) in
-    let old : SoFar c.args.pool.now c.args.ram.now c.args.self.now first c.args.perm c.new-vpn.result c.loop-v.pool c.loop-v.ram c.loop-v.self = subst (λ x. SoFar c.args.pool.now c.args.ram.now c.args.self.now first c.args.perm x c.loop-v.pool c.loop-v.ram c.loop-v.self) (sym v) c.loop-v.invariant in
-    elim c.match-perm.branch [
-      | in-None+in-Ok w ↦
-          let next : SoFar c.args.pool.now c.args.ram.now c.args.self.now first c.args.perm (c.new-vpn.result + 1) w.map_zeroed.new.pool w.map_zeroed.new.ram w.map_zeroed.new.self =
-          so_far-new c.args.pool.now c.loop-v.pool w.map_zeroed.new.pool c.args.ram.now c.loop-v.ram w.map_zeroed.new.ram c.args.self.now c.loop-v.self w.map_zeroed.new.self first c.new-vpn.result c.args.perm old w.in-Ok.ensures.changed w.in-Ok.ensures.image w.in-Ok.ensures.translations
-          (perm-none (get (pages_of c.loop-v.ram c.loop-v.self.root) c.new-vpn.result) (sym w.in-None.ensures)) (omega (arith, v, c.loop-v.auto.v)) (omega (arith, v, small)) in
-          rw (w.self-is, w.pool-is, w.ram-is, sym v) next
-      | in_default w ↦
-          let next : SoFar c.args.pool.now c.args.ram.now c.args.self.now first c.args.perm (c.new-vpn.result + 1) c.loop-v.pool c.loop-v.ram c.loop-v.self =
-          so_far-same c.args.pool.now c.loop-v.pool c.args.ram.now c.loop-v.ram c.args.self.now c.loop-v.self first c.new-vpn.result c.args.perm old
-          (perm-some (get (pages_of c.loop-v.ram c.loop-v.self.root) c.new-vpn.result) (λ e. w.in_default.not-None (c.perm.ensures ∙ e))) (omega (arith, v, c.loop-v.auto.v)) (omega (arith, v, small)) in
-          rw (w.self-is, w.pool-is, w.ram-is, sym v) next
-    ]
-
-pub returns-clause-others : goal.returns-clause-others
-returns-clause-others c other s = spared _ _ _ _ _ _ other c.loop-v.invariant.changed.traded s
-
 pub returns-clause-belongs : goal.returns-clause-belongs
-returns-clause-belongs c = belongs-resized c.loop-v.pool c.loop-v.ram c.loop-v.self c.args.size c.loop-v.invariant.belongs
+returns-clause-belongs c = belongs-resized c.fill.new.pool c.fill.new.ram c.fill.new.self c.args.size c.in_ok-fill.ensures.belongs
+
+pub returns-clause-fits : goal.returns-clause-fits
+returns-clause-fits c =
+    let first = (c.args.self.now.size + 4095) / 4096 in
+    omega (arith, c.in_ok-fill.ensures.fits, cost-size (with_absent (pages_of c.args.ram.now c.args.self.now.root) first ((c.args.size + 4095) / 4096 - first) (zeroed c.args.perm)) c.args.size c.args.self.now.size)
+
+pub returns-in_err-fill-clause-refused : goal.returns-in_err-fill-clause-refused
+returns-in_err-fill-clause-refused c =
+    let first = (c.args.self.now.size + 4095) / 4096 in
+    let p = err_from_is_err_and c.from_residual.result c.from_residual.ensures.1 in
+    rw p.1 (omega (arith, c.in_err-fill.ensures.refused.0, cost-size (with_absent (pages_of c.args.ram.now c.args.self.now.root) first ((c.args.size + 4095) / 4096 - first) (zeroed c.args.perm)) c.args.size c.args.self.now.size), c.in_err-fill.ensures.refused.1)

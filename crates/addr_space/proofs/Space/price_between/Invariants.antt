@@ -4,7 +4,7 @@ use Rattle.sv39_core.specs.Sv39.{table_at}
 use Rattle.sv39_core.specs.Tree.{pages_of}
 use Rattle.addr_space.specs.Changes.{zeroed, with_absent}
 use Rattle.addr_space.proofs.Growing.{cost}
-use Rattle.addr_space.proofs.Space.price_to.Given as goal
+use Rattle.addr_space.proofs.Space.price_between.Given as goal
 
 abbrev pub invariant-pages : goal.invariant-pages
 invariant-pages l = record {
@@ -13,7 +13,7 @@ invariant-pages l = record {
   small : l.count ≤ 3 * (l.v - l.first);
   aligned : l.v < l.last → l.first < l.v → table_at l.ram l.self.root 2 (l.v / 512) ≡ None → l.v % 512 ≡ 0;
   span : l.v < l.last → l.first < l.v → table_at l.ram l.self.root 1 (l.v / 262144) ≡ None → l.v % 262144 ≡ 0;
-  count : (perm : Rights) → cost (with_absent (pages_of l.ram l.self.root) l.first (l.v - l.first) (zeroed perm)) l.size ≡ cost (pages_of l.ram l.self.root) l.size + l.count;
+  count : (perm : Rights) → cost (with_absent (pages_of l.ram l.self.root) l.first (l.v - l.first) (zeroed perm)) l.self.size ≡ cost (pages_of l.ram l.self.root) l.self.size + l.count;
 }
 
 abbrev pub decreases-pages : goal.decreases-pages

@@ -1,0 +1,215 @@
+//! Pages that are not there: how many frames they take, and how they come.
+#![tactic(auto)]
+
+ghost use Rattle.std.specs.Prelude.{◌≡◌, ℕ, ◌+◌, ◌-◌, ◌*◌, ◌/◌, ◌^◌, ◌≤◌, ◌<◌, ◌&&◌, true, false, None, Some, List, length, nat_lt, IfOk, IfErr};
+ghost use Rattle.xk_base.specs.declared.access.Rights.{Rights};
+ghost use Rattle.xk_base.specs.declared.limits.TheConstants.{SIZE_LIMIT};
+ghost use Rattle.xk_base.specs.Image.{price};
+ghost use Rattle.frame_list.specs.declared.Pool.{Pool};
+ghost use Rattle.frame_list.specs.Pool.{free_in};
+ghost use Rattle.sv39_core.specs.Sv39.{page_entry};
+ghost use Rattle.sv39_core.specs.Tree.{frame_of};
+ghost use Rattle.addr_space.specs.Absent.{is_absent, grown_lazily, spans, touched, touched_rights};
+ghost use Rattle.addr_space.specs.Changes.{filled};
+ghost use Rattle.addr_space.specs.Space.{image_of, frames_of, Belongs, Changed, Unchanged, IsSpace, SparesOthers};
+ghost use Rattle.addr_space.specs.Translations.{TranslationsStay};
+
+use crate::{Space, entry_of_page, lower_table, upper_table};
+use frame_list::Pool;
+use phys_ram::Ram;
+use sv39_core::Entry;
+use xk_base::{Frame, NoFrames, Perm, Rights, Vpn};
+
+/// Pages from one number on, and below another.
+#[derive(Clone, Copy)]
+struct Pages {
+    first: usize,
+    end: usize,
+}
+
+/// The pages that begin below a size and in which one of so many bytes from an address on lies.
+fn pages_below(size: u64, address: u64, len: usize) -> Pages
+    requires limit { size ≤ SIZE_LIMIT }
+    ensures order { result.first ≤ result.end }
+    ensures few { result.end ≤ 2 ^ 26 }
+    ensures inside { (v : ℕ) → result.first ≤ v → v < result.end → (spans address len v ≡ true) × (4096 * v < size) }
+    ensures before { (v : ℕ) → v < result.first → 4096 * v < size → spans address len v ≡ false }
+    ensures behind { (v : ℕ) → result.end ≤ v → 4096 * v < size → spans address len v ≡ false }
+{
+    let top = (size + 4095) / 4096 * 4096;
+    if address >= top || len == 0 {
+        return Pages { first: 0, end: 0 };
+    }
+    let end = address + (len as u64).min(top - address);
+    Pages {
+        first: (address / 4096) as usize,
+        end: ((end + 4095) / 4096) as usize,
+    }
+}
+
+/// What a page allows that comes by a touch.
+fn touched_rights() -> Perm
+    ensures { result ≡ touched_rights }
+{
+    Perm::new(Rights {
+        read: true,
+        write: true,
+        execute: false,
+        user: true,
+    })
+}
+
+impl Space {
+    /// How many frames the pages from `first` to below `last` take, each where there is none, whatever
+    /// rights they get.
+    ///
+    /// Where a table is absent, all of its pages are counted at once.
+    pub(crate) fn price_between(&self, ram: &Ram, first: usize, last: usize) -> u32
+        requires whole { IsSpace ram.now self.now }
+        requires more { first ≤ last }
+        requires limit { last ≤ 2 ^ 26 }
+        ensures { (perm : Rights) → price (filled (image_of ram.now self.now) first (last - first) perm) ≡ price (image_of ram.now self.now) + result }
+    {
+        let mut v = first;
+        let mut count: u32 = 0;
+        'pages: while v < last {
+            let Some(_) = upper_table(ram, self.root, v) else {
+                let end = ((v / 262144 + 1) * 262144).min(last);
+                count += 1 + tables_for(v, end) + (end - v) as u32;
+                v = end;
+                continue 'pages;
+            };
+            let Some(_) = lower_table(ram, self.root, v) else {
+                let end = ((v / 512 + 1) * 512).min(last);
+                count += 1 + (end - v) as u32;
+                v = end;
+                continue 'pages;
+            };
+            count += new_page(ram, self.root, v);
+            v += 1;
+        }
+        count
+    }
+
+    /// Adds the pages from `first` to below `last`, each where there is none, all zeros. The size stays.
+    ///
+    /// Errors: `NoFrames` exactly where the image with the pages costs more than the image and the free
+    /// frames; then nothing is changed.
+    pub(crate) fn fill(
+        &mut self,
+        pool: &mut Pool,
+        ram: &mut Ram,
+        first: usize,
+        last: usize,
+        perm: Perm,
+    ) -> Result<(), NoFrames>
+        requires belongs { Belongs pool.old ram.old self.old }
+        requires more { first ≤ last }
+        requires limit { last ≤ 2 ^ 26 }
+        ensures changed { IfOk result (λ _. Changed pool.old ram.old self.old pool.new ram.new self.new) }
+        ensures belongs { IfOk result (λ _. Belongs pool.new ram.new self.new) }
+        ensures image { IfOk result (λ _. image_of ram.new self.new ≡ filled (image_of ram.old self.old) first (last - first) perm) }
+        ensures translations { IfOk result (λ _. TranslationsStay ram.old ram.new self.old.root) }
+        ensures others { IfOk result (λ _. SparesOthers pool.old ram.old (frames_of ram.old self.old) ram.new) }
+        ensures fits { IfOk result (λ _. price (filled (image_of ram.old self.old) first (last - first) perm) ≤ price (image_of ram.old self.old) + length (free_in pool.old ram.old)) }
+        ensures refused { IfErr result (λ _. (price (image_of ram.old self.old) + length (free_in pool.old ram.old) < price (filled (image_of ram.old self.old) first (last - first) perm)) × Unchanged pool.old ram.old self.old pool.new ram.new self.new) }
+    {
+        let extra = self.price_between(ram, first, last);
+        if pool.free() < extra {
+            return Err(NoFrames);
+        }
+        for v in first..last {
+            let vpn = Vpn::new(v as u32);
+            if let None = self.perm(ram, vpn) {
+                let Ok(()) = self.map_zeroed(pool, ram, vpn, perm) else {
+                    unreachable!();
+                };
+            }
+        }
+        Ok(())
+    }
+}
+
+/// How many lower tables the pages from `v` to below `end` take where there is none.
+fn tables_for(v: usize, end: usize) -> u32
+    requires some { v < end }
+    requires page { end ≤ 2 ^ 26 }
+    ensures { result ≡ (end - 1) / 512 - v / 512 + 1 }
+{
+    ((end - 1) / 512 - v / 512 + 1) as u32
+}
+
+/// Whether a growth needs a page.
+fn new_page(ram: &Ram, root: Frame, v: usize) -> u32
+    requires root_in { root < length ram.now }
+    requires page { v < 2 ^ 26 }
+    ensures few { result ≤ 1 }
+    ensures there { (f : ℕ) → frame_of (page_entry ram.now root v) ≡ Some f → result ≡ 0 }
+    ensures new { frame_of (page_entry ram.now root v) ≡ None → result ≡ 1 }
+{
+    if let Entry::Leaf(..) = entry_of_page(ram, root, v) {
+        return 0;
+    }
+    1
+}
+
+impl Space {
+    /// Whether a page is absent: its first byte lies below the size, and it isn't there.
+    pub fn absent(&self, ram: &Ram, vpn: Vpn) -> bool
+        requires { IsSpace ram.now self.now }
+        ensures { result ≡ is_absent (image_of ram.now self.now) vpn }
+    {
+        let is_below = u64::from(vpn.number()) * 4096 < self.size;
+        is_below && self.perm(ram, vpn).is_none()
+    }
+
+    /// How many frames a [`touch`](Space::touch) of so many bytes from an address on takes.
+    pub fn touch_price(&self, ram: &Ram, address: u64, len: usize) -> u32
+        requires whole { IsSpace ram.now self.now }
+        requires limit { self.now.size ≤ SIZE_LIMIT }
+        ensures { price (touched (spans address len) (image_of ram.now self.now)) ≡ price (image_of ram.now self.now) + result }
+    {
+        let pages = pages_below(self.size, address, len);
+        self.price_between(ram, pages.first, pages.end)
+    }
+
+    /// Adds each absent page in which one of so many bytes from an address on lies: zeros, which user
+    /// code may read and write. All other pages stay, those of the range that are there too, and so does
+    /// the size. A page is absent only where it begins below the size, so bytes past the last such page
+    /// touch nothing.
+    ///
+    /// Errors: `NoFrames` exactly where the image with the pages costs more than the image and the free
+    /// frames; then nothing is changed.
+    pub fn touch(
+        &mut self,
+        pool: &mut Pool,
+        ram: &mut Ram,
+        address: u64,
+        len: usize,
+    ) -> Result<(), NoFrames>
+        requires belongs { Belongs pool.old ram.old self.old }
+        requires limit { self.old.size ≤ SIZE_LIMIT }
+        ensures changed { IfOk result (λ _. Changed pool.old ram.old self.old pool.new ram.new self.new) }
+        ensures belongs { IfOk result (λ _. Belongs pool.new ram.new self.new) }
+        ensures image { IfOk result (λ _. image_of ram.new self.new ≡ touched (spans address len) (image_of ram.old self.old)) }
+        ensures translations { IfOk result (λ _. TranslationsStay ram.old ram.new self.old.root) }
+        ensures others { IfOk result (λ _. SparesOthers pool.old ram.old (frames_of ram.old self.old) ram.new) }
+        ensures fits { IfOk result (λ _. price (touched (spans address len) (image_of ram.old self.old)) ≤ price (image_of ram.old self.old) + length (free_in pool.old ram.old)) }
+        ensures refused { IfErr result (λ _. (price (image_of ram.old self.old) + length (free_in pool.old ram.old) < price (touched (spans address len) (image_of ram.old self.old))) × Unchanged pool.old ram.old self.old pool.new ram.new self.new) }
+    {
+        let pages = pages_below(self.size, address, len);
+        self.fill(pool, ram, pages.first, pages.end, touched_rights())
+    }
+
+    /// Makes the size greater, up to [`SIZE_LIMIT`](xk_base::limits::SIZE_LIMIT), and adds no page: those
+    /// that are not there are absent, until they are touched. It takes no frame.
+    pub fn grow_lazily(&mut self, size: u64)
+        requires more { self.old.size ≤ size }
+        requires limit { size ≤ SIZE_LIMIT }
+        ensures image { (ram : List (List ℕ)) → image_of ram self.new ≡ grown_lazily (image_of ram self.old) size }
+        ensures changed { (pool : Pool) (ram : List (List ℕ)) → Belongs pool ram self.old → Changed pool ram self.old pool ram self.new }
+        ensures belongs { (pool : Pool) (ram : List (List ℕ)) → Belongs pool ram self.old → Belongs pool ram self.new }
+    {
+        self.size = size;
+    }
+}
