@@ -1,5 +1,5 @@
 -- The rounds that a driver of the machine plays: which events, whatever they give. That a list is a run is said beside it, by `IsPromised`.
-use Rattle.std.specs.Prelude.{◌≡◌, ℕ, zero, suc, ◌+◌, ◌<◌, ◌≤◌, ◌⊎◌, ◌↔◌, Bool, true, false, ◌||◌, List, [], ◌∷◌, ◌++◌, map, replicate, drop, is_some}
+use Rattle.std.specs.Prelude.{◌≡◌, ℕ, zero, suc, ◌+◌, ◌-◌, ◌<◌, ◌≤◌, ◌⊎◌, ◌↔◌, Bool, true, false, ◌||◌, List, [], ◌∷◌, ◌++◌, map, replicate, drop, is_some}
 use Rattle.std.specs.List.{list_any}
 use Rattle.xk_base.specs.declared.limits.TheConstants.{SEND_BYTES}
 use Rattle.kcall_core.specs.Run.{Event, Run, Tick, Key, Send, Outcome, halted_by}
@@ -68,6 +68,12 @@ abbrev pub RoundsFollowRounds : Type 0
 RoundsFollowRounds =
     (count further quantum : ℕ) (keys : List ℕ) (halted : Bool) (list more : List (Event × Outcome)) → AreRounds count quantum keys halted list → AreRounds further quantum (drop count keys) (halted || halts list) more
     → AreRounds (count + further) quantum keys halted (list ++ more)
+
+-- what a driver has played that gives up before a round, and a plan for the rounds that are left, are a plan
+abbrev pub StopsThenPlan : Type 0
+StopsThenPlan =
+    (rounds quantum : ℕ) (keys : List ℕ) (halted : Bool) (list more : List (Event × Outcome)) → (stops : StopsBeforeRound rounds quantum keys halted list) → Planned (rounds - stops.0) quantum (drop stops.0 keys) false more
+    → Planned rounds quantum keys halted (list ++ more)
 
 -- a plan is so many rounds as it is allowed, or fewer, the last of which halts the machine
 abbrev pub PlanIsRounds : Type 0

@@ -10,7 +10,7 @@ ghost use Rattle.kcall_core.specs.Conditions.{WakesSuffice, ConditionsSuffice, R
 ghost use Rattle.kcall_core.specs.First.{FirstWell, FirstSlots};
 ghost use Rattle.kcall_core.specs.RowLaws.{InstructionLaw, EcallLaw, ResumeLaw, EndLaw, AnswerLaw, WaitingLaw, ExecLaw, ForkLaw, GoneLaw, ReapLaw, KillLaw, PipeReadLaw, PipeWriteLaw, FileReadLaw, OpenLaw, PipeLaw, DupLaw, DupPipeLaw, CloseLaw, ClosePipeLaw, WellForked, WellGone, WellReaped, WellAlone, WellPiped, WellMoved, WellMarked, WritesTakeNothing, StoresTakeNothing, WellOpened, WellDup, WellDupPipe, WellClosed, WellClosedPipe, WellMadePipe, WellOutside};
 ghost use Rattle.kcall_core.specs.Room.{WholeHasRoom};
-ghost use Rattle.kcall_core.specs.Rounds.{RoundsThenPlan, RoundsFollowRounds, PlanIsRounds, CutEndsInRound};
+ghost use Rattle.kcall_core.specs.Rounds.{RoundsThenPlan, StopsThenPlan, RoundsFollowRounds, PlanIsRounds, CutEndsInRound};
 ghost use Rattle.kcall_core.specs.Sources.{EachByteHasItsSource};
 ghost use Rattle.kcall_core.specs.StepLaws.{RefusalsChangeNothing, InCallWhereBlocked, BlockedIsInCall};
 ghost use Rattle.kcall_core.specs.Wakes.{PromisedRunsJoin, PromisedRunsSplit, PromisedIsRun, NoLostWakeUp, NeverLost, StaysRunnable, SlotsStay, WaitsAtMost, TurnComes, ComesNearer, IsNear, BlocksUnready};
@@ -58,6 +58,10 @@ pub fn runs()
 pub fn plans()
     // So many rounds, and a plan for the rest, are a plan.
     ensures rounds_then_plan { RoundsThenPlan }
+
+    // What is played before a round that can't begin, since its key can't be read, and a plan for the rest, are a
+    // plan.
+    ensures stops_then_plan { StopsThenPlan }
 
     // Rounds behind rounds are rounds.
     ensures rounds_follow_rounds { RoundsFollowRounds }

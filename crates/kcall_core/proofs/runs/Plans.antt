@@ -4,7 +4,7 @@ use Rattle.std.proofs.lemmas.List.{append_assoc, map-append}
 use Rattle.std.proofs.lemmas.List.Folds.{list_any-append}
 use Rattle.std.specs.Prelude.{is_some}
 use Rattle.kcall_core.specs.Run.{Event, Outcome, Idle, halted_by}
-use Rattle.kcall_core.specs.Rounds.{round, events, halts, Planned, AreRounds, PlannedUpTo, EndsInRound, RoundsThenPlan, RoundsFollowRounds, PlanIsRounds, CutEndsInRound}
+use Rattle.kcall_core.specs.Rounds.{round, events, halts, Planned, AreRounds, PlannedUpTo, EndsInRound, RoundsThenPlan, StopsThenPlan, RoundsFollowRounds, PlanIsRounds, CutEndsInRound}
 
 abbrev Played : Type 0
 Played = List (Event × Outcome)
@@ -56,6 +56,12 @@ rounds_then_plan (suc count) rounds quantum keys false list more are plan =
     (subst (λ (ks : List ℕ). Planned rounds quantum ks (halts list) more) (sym (drop_next count keys)) plan) in
     subst (λ (n : ℕ). Planned n quantum keys false (list ++ more)) (suc_sum count rounds)
     (are.0, are.1 ++ more, ap (λ (xs : Played). xs ++ more) are.2 ∙ append_assoc are.0 are.1 more, are.3, rounds_then_plan count rounds quantum (drop 1 keys) (halts are.0) are.1 more are.4 behind)
+
+pub stops_then_plan : StopsThenPlan
+stops_then_plan rounds quantum keys halted list more (count, fewer, are, on) plan =
+    let all : count + (rounds - count) ≡ rounds = omega (arith, fewer) in
+    subst (λ (n : ℕ). Planned n quantum keys halted (list ++ more)) all
+    (rounds_then_plan count (rounds - count) quantum keys halted list more are (subst (λ (b : Bool). Planned (rounds - count) quantum (drop count keys) b more) (sym on) plan))
 
 pub rounds_follow_rounds : RoundsFollowRounds
 rounds_follow_rounds zero further quantum keys halted list more are plan =

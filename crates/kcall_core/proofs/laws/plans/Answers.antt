@@ -12,3 +12,6 @@ returns-clause-plan_is_rounds c = law.plan_is_rounds
 
 pub returns-clause-cut_ends_in_round : goal.returns-clause-cut_ends_in_round
 returns-clause-cut_ends_in_round c = law.cut_ends_in_round
+
+pub returns-clause-stops_then_plan : goal.returns-clause-stops_then_plan
+returns-clause-stops_then_plan c = law.stops_then_plan
