@@ -161,7 +161,7 @@ static void waits_for_the_least(void)
     int first = begin(exit_7);
     int second = begin(exit_with_minus_5);
 
-    sleep(2);
+    sleep(BRIEFLY);
     CHECK(await(first) == 7);
     CHECK(await(second) == -5);
 }
@@ -250,13 +250,13 @@ static void kills(void)
     CHECK(kill(-1) == -1);
     CHECK(kill(NOBODY) == -1);
     int child = begin(sleep_long);
-    sleep(1);
+    sleep(BRIEFLY);
     CHECK(kill(child) == 0);
     CHECK(kill(child) == 0);
     CHECK(await(child) == -1);
     CHECK(kill(child) == -1);
     child = begin(exit_7); /* a zombie isn't changed */
-    sleep(2);
+    sleep(BRIEFLY);
     CHECK(kill(child) == 0);
     CHECK(await(child) == 7);
 }
@@ -741,7 +741,7 @@ static void readers_wait_for_all_writers(void)
     int copy = dup(ends[1]);
     CHECK(write(copy, "0123456789", 10) == 10);
     CHECK(close(ends[1]) == 0);
-    sleep(2);
+    sleep(BRIEFLY);
     CHECK(write(copy, "0123456789", 10) == 10);
     CHECK(close(copy) == 0);
     CHECK(await(child) == 20);
@@ -786,7 +786,7 @@ static void several_writers(void)
             counts[bytes[place] - 'a']++;
         }
     CHECK(counts[0] == 50 * 97 && counts[1] == 50 * 97);
-    sleep(1);
+    sleep(BRIEFLY);
     CHECK(await(first) == 0);
     CHECK(await(second) == 0);
 }
