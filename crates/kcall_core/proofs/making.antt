@@ -11,6 +11,7 @@ pub mod Making
 pub mod Midway
 pub mod Moved
 pub mod Prepared
+pub mod Series
 pub mod Sleepers
 pub mod Staying
 pub mod TickMakes

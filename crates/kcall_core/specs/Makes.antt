@@ -1,11 +1,16 @@
 -- What a step of the process that runs does to the kernel: it comes to what `own` says, and nothing else happens.
-use Rattle.std.specs.Prelude.{◌≡◌, ℤ, Some, None}
+use Rattle.std.specs.Prelude.{◌≡◌, ℕ, zero, suc, ◌<◌, ℤ, Some, None}
 use Rattle.std.specs.FinMap.{get}
+use Rattle.rv64i_core.specs.Step.{stop_of}
+use Rattle.rv64i_core.specs.declared.execution.Stop.{Stop}
+use Rattle.rv64i_core.specs.declared.execution.Stop.TheVariants.{Next, Ecall, Fault}
 use Rattle.hart_core.specs.declared.hart.Hart.{Hart}
+use Rattle.kcall_core.specs.Instruction.{next_instruction}
 use Rattle.kcall_core.specs.Processes.{Zombie}
 use Rattle.kcall_core.specs.View.{View, view_of}
 use Rattle.kcall_core.specs.Own.{Own, Answer, Called, Blocked, Exited, gone_with}
-use Rattle.kcall_core.specs.RowLaws.{After}
+use Rattle.kcall_core.specs.Step.{own}
+use Rattle.kcall_core.specs.RowLaws.{After, IsBetweenCalls}
 use Rattle.kcall_core.specs.Run.{Step_of, TurnsAfter, halts_with}
 use Rattle.kcall_core.specs.Wakes.{WakesWhereDue}
 use Rattle.kcall_core.specs.Kernel.{frame_count, state_of, IsRunning, pid_now, live_now}
@@ -46,3 +51,39 @@ abbrev pub answer_of : (number : ℤ) → CallEnd → Answer
 answer_of number (Done value) = Called number value
 answer_of number Wait = Blocked number
 answer_of number (Gone status) = Exited status
+
+-- ---- one instruction after another
+
+-- how the next instruction of the process that runs ends
+abbrev pub stop_now : Kernel → Hart → Stop
+stop_now k h = stop_of (next_instruction (live_now k h).regs (live_now k h).image)
+
+-- so many instructions of the process that runs, one after another, each of which is done
+abbrev pub MakesDone : (count : ℕ) → Kernel → Hart → Kernel → Hart → Type 0
+MakesDone zero k h k' h' = (k' ≡ k) × (h' ≡ h)
+MakesDone (suc count) k h k' h' =
+    (mid : Kernel) × (between : Hart) × MakesDone count k h mid between
+    × IsBetweenCalls (live_now mid between) × (stop_now mid between ≡ Next) × Makes mid between (own (view_now mid between)) k' h'
+
+-- one more was tried, which isn't done, and changed nothing that can be seen
+pub record IsUndone (most made : ℕ) (stop : Stop) (k : Kernel) (h : Hart) (k' : Kernel) (h' : Hart) : Type 0 where
+  pub fewer : made < most
+  pub ends : stop ≡ stop_now k h
+  pub stays : Stays k h k' h'
+  pub same : StillRuns k h k' h'
+
+-- behind them all that were asked for are done, or one more was tried
+abbrev pub IsLastMade : (most made : ℕ) → Stop → Kernel → Hart → Kernel → Hart → Type 0
+IsLastMade most made Next k h k' h' = (made ≡ most) × (k' ≡ k) × (h' ≡ h)
+IsLastMade most made Ecall k h k' h' = IsUndone most made Ecall k h k' h'
+IsLastMade most made (Fault cause) k h k' h' = IsUndone most made (Fault cause) k h k' h'
+
+-- instructions of the process that runs, one after another, up to the first that isn't done, so many at most
+pub record MakesInARow (most made : ℕ) (stop : Stop) (k : Kernel) (h : Hart) (k' : Kernel) (h' : Hart) : Type 0 where
+  pub mid : Kernel
+  pub between : Hart
+  pub done : MakesDone made k h mid between
+  pub whole : IsWhole mid between
+  pub running : IsRunning mid
+  pub free : IsBetweenCalls (live_now mid between)
+  pub last : IsLastMade most made stop mid between k' h'

@@ -1,5 +1,5 @@
 -- The memories of the processes and the pipes in RAM: what they stand for, and whose each frame is.
-use Rattle.std.specs.Prelude.{◌≡◌, ◌≢◌, ℕ, ◌+◌, ◌%◌, ◌≤◌, ◌<◌, Bool, true, false, if◌then◌else◌, List, [], ◌∷◌, ◌++◌, Option, Some, None, length, get_or, set, map, ◌&&◌, nat_le, nat_lt}
+use Rattle.std.specs.Prelude.{◌≡◌, ◌≢◌, ℕ, zero, suc, ◌+◌, ◌%◌, ◌≤◌, ◌<◌, Bool, true, false, if◌then◌else◌, List, [], ◌∷◌, ◌++◌, Option, Some, None, length, get_or, set, map, ◌&&◌, nat_le, nat_lt}
 use Rattle.std.specs.Ordering.{nat_cmp}
 use Rattle.std.specs.FinMap.{FinMap, get}
 use Rattle.xk_base.specs.Frames.{copies}
@@ -12,6 +12,7 @@ use Rattle.addr_space.specs.Space.{image_of, IsSpace}
 use Rattle.rv64i_core.specs.Registers.{Registers}
 use Rattle.rv64i_core.specs.Step.{Step, stop_of, regs_after, state_after}
 use Rattle.rv64i_core.specs.declared.execution.Stop.{Stop}
+use Rattle.rv64i_core.specs.declared.execution.Stop.TheVariants.{Next, Ecall, Fault}
 use Rattle.hart_core.specs.Trapframe.{saved}
 use Rattle.hart_core.specs.Translations.{Fits}
 use Rattle.hart_core.specs.UserMemory.{with_store}
@@ -144,3 +145,21 @@ pub record Steps (old new : Memories) (slot : ℕ) (hart hart' : Hart) (stop : S
   pub changes : let held = held_at (each_of old) slot in SlotChanges old new slot (Some (with_image (state_after with_store held.image (step_in old slot hart.regs)) held))
   pub free : free_of new ≡ free_of old
   pub runs : RunsIn new slot hart'
+
+-- so many instructions of the process in a slot, one after another, each of which is done
+abbrev pub StepsDone : (count slot : ℕ) → Memories → Hart → Memories → Hart → Type 0
+StepsDone zero slot old hart new hart' = (new ≡ old) × (hart' ≡ hart)
+StepsDone (suc count) slot old hart new hart' = (mid : Memories) × (between : Hart) × StepsDone count slot old hart mid between × Steps mid new slot between hart' Next
+
+-- behind them all that were asked for are done; or one more was tried, which isn't done
+abbrev pub IsLastStep : (slot most made : ℕ) → Stop → Memories → Hart → Memories → Hart → Type 0
+IsLastStep slot most made Next old hart new hart' = (made ≡ most) × (new ≡ old) × (hart' ≡ hart)
+IsLastStep slot most made Ecall old hart new hart' = (made < most) × Steps old new slot hart hart' Ecall
+IsLastStep slot most made (Fault cause) old hart new hart' = (made < most) × Steps old new slot hart hart' (Fault cause)
+
+-- instructions of the process in a slot, one after another, up to the first that isn't done, so many at most
+pub record StepsInARow (slot most made : ℕ) (stop : Stop) (old : Memories) (hart : Hart) (new : Memories) (hart' : Hart) : Type 0 where
+  pub mid : Memories
+  pub between : Hart
+  pub done : StepsDone made slot old hart mid between
+  pub last : IsLastStep slot most made stop mid between new hart'

@@ -23,7 +23,7 @@ ghost use Rattle.kcall_core.specs.Kernel.{frame_count, IsStopped, state_of, IsSo
 ghost use Rattle.kcall_core.specs.Machine.{world_of};
 ghost use Rattle.kcall_core.specs.Starts.{HasNoProcess};
 ghost use Rattle.kcall_core.specs.Whole.{IsWhole};
-ghost use Rattle.kcall_core.specs.Makes.{Makes, Stays, StillRuns, view_now};
+ghost use Rattle.kcall_core.specs.Makes.{Makes, MakesInARow, Stays, StillRuns, view_now};
 
 mod booting;
 mod calls;
@@ -52,7 +52,7 @@ use crate::memories::Memories;
 pub use calls::call_number;
 use console_core::Console;
 use file_table::Files;
-use hart_core::Hart;
+use hart_core::{Hart, Series};
 pub use observers::ChildState;
 use proc_table::Table;
 pub use program_list::first_refused;
@@ -94,6 +94,17 @@ impl Kernel {
         ensures same { result ≢ stops.Next → StillRuns self.old hart.old self.new hart.new }
     {
         self.memories.step(hart)
+    }
+
+    /// Instructions of the process that runs, one after another, as [`step`](Kernel::step) makes each: up to the
+    /// first that isn't done, `most` at most.
+    pub fn steps(&mut self, hart: &mut Hart, most: u32) -> Series
+        requires whole { IsWhole self.old hart.old }
+        requires running { IsRunning self.old }
+        requires between_calls { laws.IsBetweenCalls (live_now self.old hart.old) }
+        ensures { MakesInARow most result.made result.stop self.old hart.old self.new hart.new }
+    {
+        self.memories.steps(hart, most)
     }
 }
 

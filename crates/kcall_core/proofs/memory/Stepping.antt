@@ -1,5 +1,5 @@
 -- One instruction of the process in a slot.
-use Rattle.std.proofs.Common.{◌≡◌, ℕ, ◌/◌, ◌%◌, ◌<◌, ◌≤◌, Bool, List, length, set, get_or, Option, Some, None, refl, sym, ap, ◌∙◌, subst, arith}
+use Rattle.std.proofs.Common.{◌≡◌, ℕ, zero, suc, ◌/◌, ◌%◌, ◌<◌, ◌≤◌, Bool, List, length, set, get_or, Option, Some, None, refl, sym, ap, ◌∙◌, subst, arith}
 use Rattle.xk_base.specs.declared.access.Rights.{Rights}
 use Rattle.xk_base.specs.Image.{Image}
 use Rattle.xk_base.specs.declared.limits.TheConstants.{SIZE_LIMIT}
@@ -18,16 +18,19 @@ use Rattle.addr_space.specs.declared.Space.{Space}
 use Rattle.addr_space.proofs.Pages.{bytes-changed}
 use Rattle.rv64i_core.specs.Memory.{written}
 use Rattle.rv64i_core.specs.Step.{Step, Next, Ecall, Fault, instr, stop_of, regs_after, state_after}
+use Rattle.rv64i_core.specs.Registers.{Registers}
 use Rattle.rv64i_core.specs.declared.execution.Stop.{Stop}
+use Rattle.rv64i_core.specs.declared.execution.Stop.TheVariants as stops
 use Rattle.hart_core.specs.declared.hart.Hart.{Hart}
-use Rattle.hart_core.specs.Steps.{root_of, FitsHart, Stepped}
+use Rattle.hart_core.specs.Steps.{root_of, FitsHart, Stepped, Instructed, AreDone, IsLast, InARow}
 use Rattle.hart_core.specs.UserMemory.{user, user_at, with_store, write_pages, put_bytes, store_in, SpaceState, space_state, space_store}
-use Rattle.hart_core.proofs.Caches.{fits_root}
+use Rattle.hart_core.specs.Translations.{Translations, Fits}
+use Rattle.hart_core.proofs.Caches.{fits_root, fits_hart}
 use Rattle.kcall_core.specs.Holdings.{held_at}
-use Rattle.kcall_core.specs.Memories.{AreSound, each_of, free_of, RunsIn, Steps, step_in}
+use Rattle.kcall_core.specs.Memories.{AreSound, each_of, free_of, RunsIn, Steps, step_in, StepsDone, IsLastStep, StepsInARow}
 use Rattle.kcall_core.specs.declared.memories.Memories.{Memories}
 use Rattle.kcall_core.proofs.memory.Lists.{set-read}
-use Rattle.kcall_core.proofs.memory.Changes.{Stands, belongs-of, image-seen, space-changes}
+use Rattle.kcall_core.proofs.memory.Changes.{Stands, belongs-of, image-seen, space-changes, runs-inside}
 
 changed-not : (pool : Pool) (ram : List (List ℕ)) (s : Space) → Belongs pool ram s → Changed pool ram s pool ram s
 changed-not pool ram s b = record { whole = b.whole; root = refl; traded = trade-none pool ram (space.frames_of ram s) b.good }
@@ -124,3 +127,69 @@ steps old new slot hart hart' stop r s made pool each pipes =
         fits = fits_root new.ram hart'.root space'.root hart'.cache (made.root ∙ r.root) made.fits;
       };
     }
+
+-- ---- one instruction after another
+
+-- a slot whose process may run on a hart
+record Ready (m : Memories) (slot : ℕ) (hart : Hart) : Type 0 where
+  sound : AreSound m
+  runs : RunsIn m slot hart
+
+-- one instruction, from where others have led
+one-step : (old : Memories) (slot : ℕ) (hart : Hart) (ram' : List (List ℕ)) (regs' : Registers) (cache' : Translations) (stop : Stop) → Ready old slot hart → Instructed (root_of hart.root) old.ram hart.regs stop ram' regs' cache'
+    → Steps old (record old { ram = ram' }) slot hart (record hart { regs = regs'; cache = cache' }) stop
+one-step old slot hart ram' regs' cache' stop ready one =
+    let r = ready.runs in
+    steps old (record old { ram = ram' }) slot hart (record hart { regs = regs'; cache = cache' }) stop r (runs-stands old slot hart ready.sound r (runs-inside r))
+    (record {
+      ends = one.ends;
+      regs = one.regs_are;
+      stepped = one.stepped;
+      root = refl;
+      fits = fits_hart ram' hart.root r.memory.space.root cache' r.root (subst (λ x. Fits ram' x cache') (ap root_of r.root) one.fits);
+    }) refl refl refl
+
+after-step : (old new : Memories) (slot : ℕ) (hart hart' : Hart) (stop : Stop) → Steps old new slot hart hart' stop → Ready new slot hart'
+after-step old new slot hart hart' stop s = record { sound = s.changes.sound; runs = s.runs }
+
+module _ (old : Memories) (slot : ℕ) (hart : Hart) (ready : Ready old slot hart) where
+  abbrev AreThere : ℕ → Memories → Hart → Type 0
+  AreThere count m h = StepsDone count slot old hart m h × Ready m slot h
+
+  series : (count : ℕ) (ram' : List (List ℕ)) (regs' : Registers) (cache' : Translations) → AreDone count (root_of hart.root) old.ram hart.regs hart.cache ram' regs' cache'
+      → AreThere count (record old { ram = ram' }) (record hart { regs = regs'; cache = cache' })
+  series zero ram' regs' cache' done =
+      subst (λ x. AreThere 0 (record old { ram = x }) (record hart { regs = regs'; cache = cache' })) (sym done.0)
+      (subst (λ x. AreThere 0 old (record hart { regs = x; cache = cache' })) (sym done.1)
+      (subst (λ x. AreThere 0 old (record hart { cache = x })) (sym done.2) ((refl, refl), ready)))
+  series (suc count) ram' regs' cache' (mid, mid_regs, mid_cache, before, one) =
+      let m = record old { ram = mid } in
+      let h = record hart { regs = mid_regs; cache = mid_cache } in
+      let so_far = series count mid mid_regs mid_cache before in
+      let step = one-step m slot h ram' regs' cache' stops.Next so_far.1 one in
+      ((m, h, so_far.0, step), after-step m (record old { ram = ram' }) slot h (record hart { regs = regs'; cache = cache' }) stops.Next step)
+
+  last-step : (most made : ℕ) (stop : Stop) (mid : List (List ℕ)) (mid_regs : Registers) (mid_cache : Translations) (ram' : List (List ℕ)) (regs' : Registers) (cache' : Translations)
+      → Ready (record old { ram = mid }) slot (record hart { regs = mid_regs; cache = mid_cache }) → IsLast (root_of hart.root) most made stop mid mid_regs mid_cache ram' regs' cache'
+      → IsLastStep slot most made stop (record old { ram = mid }) (record hart { regs = mid_regs; cache = mid_cache }) (record old { ram = ram' }) (record hart { regs = regs'; cache = cache' })
+  last-step most made stops.Next mid mid_regs mid_cache ram' regs' cache' so last = (last.0, ap (λ x. record old { ram = x }) last.1, λ t. record hart { regs = last.2 t; cache = last.3 t })
+  last-step most made stops.Ecall mid mid_regs mid_cache ram' regs' cache' so last = (last.0, one-step (record old { ram = mid }) slot (record hart { regs = mid_regs; cache = mid_cache }) ram' regs' cache' stops.Ecall so last.1)
+  last-step most made (stops.Fault cause) mid mid_regs mid_cache ram' regs' cache' so last = (last.0, one-step (record old { ram = mid }) slot (record hart { regs = mid_regs; cache = mid_cache }) ram' regs' cache' (stops.Fault cause) so last.1)
+
+  in-a-row : (most made : ℕ) (stop : Stop) (ram' : List (List ℕ)) (regs' : Registers) (cache' : Translations) → InARow (root_of hart.root) most made stop old.ram hart.regs hart.cache ram' regs' cache'
+      → StepsInARow slot most made stop old hart (record old { ram = ram' }) (record hart { regs = regs'; cache = cache' })
+  in-a-row most made stop ram' regs' cache' row =
+      let there = series made row.mid row.mid_regs row.mid_cache row.done in
+      record {
+        mid = record old { ram = row.mid };
+        between = record hart { regs = row.mid_regs; cache = row.mid_cache };
+        done = there.0;
+        last = last-step most made stop row.mid row.mid_regs row.mid_cache ram' regs' cache' there.1 row.last;
+      }
+
+-- the hart as it is behind them
+pub steps-in-a-row : (old : Memories) (slot : ℕ) (hart hart' : Hart) (ram' : List (List ℕ)) (most made : ℕ) (stop : Stop) → AreSound old → RunsIn old slot hart → hart'.root ≡ hart.root
+    → InARow (root_of hart.root) most made stop old.ram hart.regs hart.cache ram' hart'.regs hart'.cache → StepsInARow slot most made stop old hart (record old { ram = ram' }) hart'
+steps-in-a-row old slot hart hart' ram' most made stop sound runs root row =
+    let P = λ (h : Hart). StepsInARow slot most made stop old hart (record old { ram = ram' }) h in
+    subst P (λ t. record hart' { root = sym root t }) (in-a-row old slot hart (record { sound = sound; runs = runs }) most made stop ram' hart'.regs hart'.cache row)
