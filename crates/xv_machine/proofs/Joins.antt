@@ -1,5 +1,5 @@
 -- Stretches of a drive, one behind another.
-use Rattle.std.proofs.Common.{append-nil, ◌≡◌, ◌≢◌, ◌∙◌, ℕ, ◌+◌, ◌-◌, ◌<◌, subst, refl, sym, ap, ap₂, arith, List, [], ◌∷◌, ◌++◌, append_assoc, replicate, Option, None, Some, Result, Ok, Err, OnOk, OnErr}
+use Rattle.std.proofs.Common.{append-nil, ◌≡◌, ◌≢◌, ◌∙◌, ℕ, ◌+◌, ◌-◌, ◌<◌, subst, refl, sym, ap, ap₂, arith, List, [], ◌∷◌, ◌++◌, append_assoc, replicate, Option, Result, Ok, Err, OnOk, OnErr}
 use Rattle.std.proofs.lemmas.List.{map-append, replicate-append-replicate, replicate_more}
 use Rattle.std.proofs.lemmas.Grind.{flat_map-append}
 use Rattle.std.proofs.KnownBytes.{Appends-nil, Appends-trans}
@@ -28,7 +28,7 @@ shows-join xs ys = flat_map-append (λ (e : Event × Outcome). bytes_out e.1) xs
 pub events-join : (xs ys : Steps) → events (xs ++ ys) ≡ events xs ++ events ys
 events-join xs ys = map-append (λ (e : Event × Outcome). e.0) xs ys
 
-notes-join : (xs ys : Steps) → notes_of (xs ++ ys) ≡ notes_of xs ++ notes_of ys
+pub notes-join : (xs ys : Steps) → notes_of (xs ++ ys) ≡ notes_of xs ++ notes_of ys
 notes-join xs ys = map-append (λ (e : Event × Outcome). note e.0 e.1) xs ys
 
 -- ---- where the machine goes

@@ -10,3 +10,6 @@ pub mod Runs
 pub mod Starts
 pub mod Shown
 pub mod Rounds
+pub mod Repeated
+pub mod Sent
+pub mod Advances

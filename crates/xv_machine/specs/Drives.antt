@@ -1,11 +1,13 @@
 -- What a machine that is driven in rounds goes through.
-use Rattle.std.specs.Prelude.{◌≡◌, ◌≢◌, ℕ, Bool, List, [], ◌∷◌, ◌++◌, flat_map, length, Option, None, Some, IfSome, is_some, ⊤}
+use Rattle.std.specs.Prelude.{◌≡◌, ◌≢◌, ◌⊎◌, ℕ, ◌<◌, Bool, List, [], ◌∷◌, ◌++◌, flat_map, length, replicate, Option, None, Some, IfSome, is_some, ⊤}
 use Rattle.std.specs.Io.KnownBytes.{Appends, Consumes}
 use Rattle.circular_buffer.specs.Buffer.{keep_last}
 use Rattle.kcall_core.specs.Run as runs
-use Rattle.kcall_core.specs.Run.{Event, Run, Tick, Key, Send, Outcome, bytes_out, out}
+use Rattle.kcall_core.specs.Own.{Stepped}
+use Rattle.kcall_core.specs.Run.{Event, Run, Tick, Key, Send, Outcome, Step_of, bytes_out, out}
 use Rattle.kcall_core.specs.Rounds.{events, Planned, StopsBeforeRound, PlannedUpTo}
 use Rattle.kcall_core.specs.Wakes.{IsPromised}
+use Rattle.kcall_core.specs.Words.{or_zero}
 use Rattle.xv_machine.specs.declared.driving.RunPlan.{RunPlan}
 use Rattle.xv_machine.specs.declared.driving.DriveEnd.{DriveEnd}
 use Rattle.xv_machine.specs.declared.driving.DriveEnd.TheVariants.{Halted, RoundsOver}
@@ -22,6 +24,28 @@ pub record Goes (old : Meaning) (list : List (Event × Outcome)) (new : Meaning)
   pub room : new.room ≡ old.room
   pub frames : new.frames.count ≡ old.frames.count
   pub sound : IsSoundMachine new
+
+-- ---- one Run after another
+
+-- process p did an instruction
+abbrev pub done_by : (p : ℕ) → Event × Outcome
+done_by p = (Run, Step_of p Stepped)
+
+-- Runs that were sent one after another, `most` at most: each is a done instruction of process p; or something else came of the last one; or nothing may run, and all of them were sent
+abbrev pub AreRuns : (most p : ℕ) → List (Event × Outcome) → Type 0
+AreRuns most p list =
+    (list ≡ replicate most (done_by p))
+    ⊎ ((made : ℕ) × (o : Outcome) × (list ≡ replicate made (done_by p) ++ (Run, o) ∷ []) × (made < most) × (o ≢ Step_of p Stepped))
+    ⊎ ((o : Outcome) × (list ≡ replicate most (Run, o)) × ((o ≡ runs.Idle) ⊎ (o ≡ runs.Halted)))
+
+-- The machine was sent so many Runs, `most` at most
+pub record Ran (most sent : ℕ) (old new : Meaning) : Type 0 where
+  pub list : List (Event × Outcome)
+  pub goes : Goes old list new
+  pub runs_are : AreRuns most (or_zero old.world.turns.current) list
+  pub count : length list ≡ sent
+
+-- ---- rounds
 
 abbrev pub is_halted : Meaning → Bool
 is_halted m = is_some m.world.turns.halted

@@ -8,4 +8,5 @@ pub mod Meaning
 pub mod Notes
 pub mod Reached
 pub mod Sound
+pub mod Steps
 pub mod Stretches

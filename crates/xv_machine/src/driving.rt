@@ -98,8 +98,9 @@ fn run_quantum(machine: &mut Machine, quantum: u32)
     requires { IsSoundMachine machine.old }
     ensures { Silent (replicate quantum runs.Run) machine.old machine.new }
 {
-    for turn in 0..quantum {
-        machine.event(Event::Run);
+    let mut left = quantum;
+    'runs: while left > 0 {
+        left -= machine.run(left);
     }
 }
 

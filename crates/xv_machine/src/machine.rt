@@ -1,14 +1,15 @@
 //! The machine.
-ghost use Rattle.std.specs.Prelude.{◌≡◌, ◌∷◌, ◌++◌, [], is_some, map};
+ghost use Rattle.std.specs.Prelude.{◌≡◌, ◌≤◌, ◌∷◌, ◌++◌, [], is_some, length, map, replicate};
 ghost use Rattle.circular_buffer.specs.Buffer.{buffer, keep_last};
 ghost use Rattle.xv_machine.specs.declared.trace.Note.TheVariants.{Stepped};
 ghost use Rattle.kcall_core.specs.State.{named_file};
 ghost use Rattle.kcall_core.specs.Programs.{first_bad, init_of};
 ghost use Rattle.xv_machine.specs.Boots.{without_init};
-ghost use Rattle.xv_machine.specs.Events.{halted_by};
+ghost use Rattle.kcall_core.specs.Wakes.{is_turn};
+ghost use Rattle.xv_machine.specs.Events.{outcome_of, halted_by};
 
 use crate::event::{Event, Outcome};
-use crate::step::step;
+use crate::step::{Stretch, advance, step};
 use crate::trace::Note;
 use circular_buffer::HeapCircularBuffer;
 use hart_core::Hart;
@@ -88,6 +89,27 @@ fn push_step(trace: &mut HeapCircularBuffer<Note>, pid: Pid)
     trace.push_back(Note::Stepped { pid });
 }
 
+// Puts the note behind the others so often.
+#[inline(never)]
+fn push_often(trace: &mut HeapCircularBuffer<Note>, note: &Note, count: u32)
+    requires { length trace.old.items ≤ trace.old.capacity }
+    ensures { trace.new ≡ buffer (keep_last trace.old.capacity (trace.old.items ++ replicate count note.now)) trace.old.capacity }
+{
+    for pushed in 0..count {
+        trace.push_back(*note);
+    }
+}
+
+// Whether it is a turn.
+fn is_turn(outcome: &Outcome) -> bool
+    ensures { result ≡ is_turn (outcome_of outcome.now) }
+{
+    match outcome {
+        Outcome::Turn { .. } => true,
+        _ => false,
+    }
+}
+
 /// A machine: a kernel, the hart that runs its processes, and a trace of what they did.
 #[derive(Drop)]
 pub struct Machine {
@@ -115,7 +137,7 @@ impl Model for Machine {
 }
 
 impl Machine {
-    ghost use Rattle.std.specs.Prelude.{◌≡◌, true, [], ◌∷◌, ◌++◌, None, IfOk, is_some, length, map, option_map, slice_get};
+    ghost use Rattle.std.specs.Prelude.{◌≡◌, ◌<◌, ◌≤◌, true, [], ◌∷◌, ◌++◌, Some, None, IfOk, is_some, length, map, option_map, replicate, slice_get};
     ghost use Rattle.kcall_core.specs.State.{named_file};
     ghost use Rattle.hart_core.specs.declared.hart.Hart.{Hart};
     ghost use Rattle.kcall_core.specs.Programs.{init_of};
@@ -124,15 +146,17 @@ impl Machine {
     ghost use Rattle.kcall_core.specs.Whole.{IsWhole};
     ghost use Rattle.kcall_core.specs.First.{first, first_init};
     ghost use Rattle.kcall_core.specs.Run as runs;
-    ghost use Rattle.kcall_core.specs.Wakes.{Promised};
+    ghost use Rattle.kcall_core.specs.Wakes.{Promised, IsPromised};
     ghost use Rattle.kcall_core.specs.Observers.{registers_of, byte_at, child_at, shown};
     ghost use Rattle.circular_buffer.specs.Buffer.{keep_last};
     ghost use Rattle.xv_machine.specs.Boots.{Boots, HasEmptyTrace};
+    ghost use Rattle.xv_machine.specs.Drives.{Ran};
     ghost use Rattle.xv_machine.specs.Events.{event_of, outcome_of};
     ghost use Rattle.xv_machine.specs.Machine.{SameTrace};
     ghost use Rattle.xv_machine.specs.declared.trace.Note.TheVariants.{Stepped};
     ghost use Rattle.xv_machine.specs.Notes.{note};
     ghost use Rattle.xv_machine.specs.Sound.{IsSoundMachine};
+    ghost use Rattle.xv_machine.specs.Steps.{runs_made, IsEnd};
 
     /// A machine whose process 1 runs the program called `init`, and waits for its turn.
     ///
@@ -228,7 +252,7 @@ impl Machine {
         ensures trace { SameTrace self.old self.new }
     {
         match event {
-            Event::Run => self.run(),
+            Event::Run => self.run_once(),
             Event::Tick => self.tick(),
             Event::Key(byte) => self.key(byte),
             Event::Send => Outcome::Sent(self.take_byte()),
@@ -247,6 +271,18 @@ impl Machine {
         push_step(&mut self.trace, pid);
     }
 
+    // The trace keeps the note so often, where it has room for any.
+    #[inline(always)]
+    fn keep_often(&mut self, note: Note, count: u32)
+        ensures kept { self.new ≡ record self.old { notes = keep_last self.old.room (self.old.notes ++ replicate count note) } }
+        ensures sound { IsSoundMachine self.new }
+    {
+        if self.trace.capacity() == 0 {
+            return;
+        }
+        push_often(&mut self.trace, &note, count);
+    }
+
     // The trace keeps the note, where it has room for any.
     #[inline(always)]
     fn keep(&mut self, note: Note)
@@ -261,7 +297,7 @@ impl Machine {
 
     // The process that runs makes a step; where none runs, the next has its turn.
     #[inline(always)]
-    fn run(&mut self) -> Outcome
+    fn run_once(&mut self) -> Outcome
         ensures promised { Promised self.old.world runs.Run (outcome_of result) self.new.world }
         ensures frames { self.new.frames.count ≡ self.old.frames.count }
         ensures trace { SameTrace self.old self.new }
@@ -294,6 +330,83 @@ impl Machine {
             return Outcome::Idle;
         };
         Outcome::Turn { pid }
+    }
+
+    /// Sends Run, `most` times at most: as long as an instruction is done, and once more where something else
+    /// comes of it. Where no process may run, before another event, all of them are sent. It tells how many were
+    /// sent, at least one unless `most` is 0. The trace keeps a note of each.
+    #[inline(always)]
+    pub fn run(&mut self, most: u32) -> u32
+        ensures ran { Ran most result self.old self.new }
+        ensures within { result ≤ most }
+        ensures some { 0 < most → 0 < result }
+    {
+        let current = self.current();
+        if most == 0 {
+            return 0;
+        }
+        let Some(pid) = current else {
+            return self.pass(most);
+        };
+        self.run_steps(pid, most)
+    }
+
+    // Sends Run where nobody runs: once where the next has its turn, and else so often.
+    #[inline(always)]
+    fn pass(&mut self, most: u32) -> u32
+        requires stopped { self.old.world.turns.current ≡ None }
+        requires some { 0 < most }
+        ensures ran { Ran most result self.old self.new }
+        ensures within { result ≤ most }
+        ensures sent { 0 < result }
+    {
+        let outcome = self.turn();
+        let note = Note::of(Event::Run, &outcome);
+        if is_turn(&outcome) {
+            self.keep(note);
+            return 1;
+        }
+        self.keep_often(note, most);
+        most
+    }
+
+    // Sends Run to the process that runs, up to the first of which no done instruction comes.
+    #[inline(always)]
+    fn run_steps(&mut self, pid: Pid, most: u32) -> u32
+        requires current { self.old.world.turns.current ≡ Some pid }
+        requires some { 0 < most }
+        ensures ran { Ran most result self.old self.new }
+        ensures within { result ≤ most }
+        ensures sent { 0 < result }
+    {
+        let Stretch { made, end } = self.advance(pid, most);
+        self.keep_often(Note::Stepped { pid }, made);
+        let Some(outcome) = end else {
+            return made;
+        };
+        self.keep(Note::of(Event::Run, &outcome));
+        made + 1
+    }
+
+    // The process that runs makes these steps, of which the trace keeps no note yet.
+    #[inline(always)]
+    fn advance(&mut self, pid: Pid, most: u32) -> Stretch
+        requires current { self.old.world.turns.current ≡ Some pid }
+        requires some { 0 < most }
+        ensures run { IsPromised self.old.world (runs_made pid result.made result.end) self.new.world }
+        ensures end { IsEnd most result.made result.end }
+        ensures frames { self.new.frames.count ≡ self.old.frames.count }
+        ensures trace { SameTrace self.old self.new }
+    {
+        let Stretch { made, end } = advance(&mut self.kernel, &mut self.hart, pid, most);
+        let Some(last) = end else {
+            return Stretch { made, end: None };
+        };
+        self.halted = halted_by(&last);
+        Stretch {
+            made,
+            end: Some(last),
+        }
     }
 
     // The clock counts a tick, unless process 1 is gone.
@@ -378,8 +491,10 @@ impl Machine {
     }
 
     /// The pid of the current process.
+    #[inline(always)]
     pub fn current(&self) -> Option<Pid>
-        ensures { result ≡ self.now.world.turns.current }
+        ensures pid { result ≡ self.now.world.turns.current }
+        ensures sound { IsSoundMachine self.now }
     {
         self.kernel.current()
     }

@@ -1,15 +1,21 @@
-//! One step of the process that runs.
-ghost use Rattle.std.specs.Prelude.{◌≡◌};
+//! Steps of the process that runs.
+ghost use Rattle.std.specs.Prelude.{◌≡◌, ◌≢◌, ℕ, ◌<◌, true, false, IsSome};
 ghost use Rattle.kcall_core.specs.Step.{own};
 ghost use Rattle.kcall_core.specs.RowLaws as laws;
 ghost use Rattle.kcall_core.specs.Run.{Step_of};
-ghost use Rattle.kcall_core.specs.Kernel.{IsRunning, pid_now, live_now};
+ghost use Rattle.kcall_core.specs.Own.{Stepped};
+ghost use Rattle.kcall_core.specs.State.{live};
+ghost use Rattle.kcall_core.specs.Instruction.{next_instruction};
+ghost use Rattle.kcall_core.specs.Kernel.{state_of, IsSound, IsRunning, pid_now, live_now};
 ghost use Rattle.kcall_core.specs.Whole.{IsWhole};
 ghost use Rattle.kcall_core.specs.Makes.{Makes, view_now, answer_of};
+ghost use Rattle.rv64i_core.specs.Step.{stop_of};
+ghost use Rattle.rv64i_core.specs.declared.execution.Stop.TheVariants as stops;
 ghost use Rattle.xv_machine.specs.Events.{outcome_of};
+ghost use Rattle.xv_machine.specs.Steps.{IsBusy, Advanced};
 
 use crate::event::Outcome;
-use hart_core::Hart;
+use hart_core::{Hart, Series};
 use kcall_core::{CallEnd, Kernel, call_number};
 use rv64i_core::Stop;
 use xk_base::Pid;
@@ -25,6 +31,70 @@ fn call_outcome(pid: Pid, number: i32, end: CallEnd) -> Outcome
     }
 }
 
+/// Whether the process that runs is marked, or in a call: then its step is no instruction.
+#[inline(always)]
+fn is_busy(kernel: &Kernel) -> bool
+    requires sound { (hart : Hart) × IsSound kernel.now hart }
+    requires running { IsRunning kernel.now }
+    ensures busy { (hart : Hart) → result ≡ true → IsBusy (live_now kernel.now hart) }
+    ensures free { (hart : Hart) → result ≡ false → laws.IsBetweenCalls (live_now kernel.now hart) }
+{
+    if kernel.marked() {
+        return true;
+    }
+    kernel.in_call().is_some()
+}
+
+/// A step of a process that is marked, which ends it, or that is in a call, which goes on.
+#[inline(always)]
+fn go_on(kernel: &mut Kernel, hart: &mut Hart, pid: Pid) -> Outcome
+    requires whole { IsWhole kernel.old hart.old }
+    requires running { IsRunning kernel.old }
+    requires pid { pid ≡ pid_now kernel.old }
+    requires busy { IsBusy (live_now kernel.old hart.old) }
+    ensures made { Makes kernel.old hart.old (own (view_now kernel.old hart.old)) kernel.new hart.new }
+    ensures answer { outcome_of result ≡ Step_of pid (own (view_now kernel.old hart.old)).answer }
+    ensures other { (p : ℕ) → outcome_of result ≢ Step_of p Stepped }
+{
+    if kernel.marked() {
+        kernel.exit(hart, -1);
+        return Outcome::Exited { pid, status: -1 };
+    }
+    let Some(number) = kernel.in_call() else {
+        unreachable!();
+    };
+    let end = kernel.resume(hart);
+    call_outcome(pid, number, end)
+}
+
+/// What comes of an instruction that isn't done, for this reason: a call to the kernel begins, or the process
+/// ends.
+#[inline(always)]
+fn trap(kernel: &mut Kernel, hart: &mut Hart, pid: Pid, stop: Stop) -> Outcome
+    requires whole { IsWhole kernel.old hart.old }
+    requires running { IsRunning kernel.old }
+    requires between_calls { laws.IsBetweenCalls (live_now kernel.old hart.old) }
+    requires pid { pid ≡ pid_now kernel.old }
+    requires stop { let live = live_now kernel.old hart.old in stop ≡ stop_of (next_instruction live.regs live.image) }
+    requires undone { stop ≢ stops.Next }
+    ensures made { Makes kernel.old hart.old (own (view_now kernel.old hart.old)) kernel.new hart.new }
+    ensures answer { outcome_of result ≡ Step_of pid (own (view_now kernel.old hart.old)).answer }
+    ensures other { (p : ℕ) → outcome_of result ≢ Step_of p Stepped }
+{
+    match stop {
+        Stop::Next => unreachable!(),
+        Stop::Ecall => {
+            let number = call_number(hart);
+            let end = kernel.call(hart);
+            call_outcome(pid, number, end)
+        }
+        Stop::Fault(cause) => {
+            kernel.exit(hart, -1);
+            Outcome::Faulted { pid, cause }
+        }
+    }
+}
+
 /// The instruction at the pc.
 #[inline(always)]
 fn instruction(kernel: &mut Kernel, hart: &mut Hart, pid: Pid) -> Outcome
@@ -37,15 +107,8 @@ fn instruction(kernel: &mut Kernel, hart: &mut Hart, pid: Pid) -> Outcome
 {
     match kernel.step(hart) {
         Stop::Next => Outcome::Stepped { pid },
-        Stop::Ecall => {
-            let number = call_number(hart);
-            let end = kernel.call(hart);
-            call_outcome(pid, number, end)
-        }
-        Stop::Fault(cause) => {
-            kernel.exit(hart, -1);
-            Outcome::Faulted { pid, cause }
-        }
+        Stop::Ecall => trap(kernel, hart, pid, Stop::Ecall),
+        Stop::Fault(cause) => trap(kernel, hart, pid, Stop::Fault(cause)),
     }
 }
 
@@ -59,13 +122,53 @@ pub(crate) fn step(kernel: &mut Kernel, hart: &mut Hart, pid: Pid) -> Outcome
     ensures made { Makes kernel.old hart.old (own (view_now kernel.old hart.old)) kernel.new hart.new }
     ensures answer { outcome_of result ≡ Step_of pid (own (view_now kernel.old hart.old)).answer }
 {
-    if kernel.marked() {
-        kernel.exit(hart, -1);
-        return Outcome::Exited { pid, status: -1 };
+    if is_busy(kernel) {
+        return go_on(kernel, hart, pid);
     }
-    let Some(number) = kernel.in_call() else {
-        return instruction(kernel, hart, pid);
-    };
-    let end = kernel.resume(hart);
-    call_outcome(pid, number, end)
+    instruction(kernel, hart, pid)
+}
+
+/// How many instructions were done, one after another, and the outcome of the step behind them, if it was
+/// something else.
+#[derive(Drop)]
+pub(crate) struct Stretch {
+    pub(crate) made: u32,
+    pub(crate) end: Option<Outcome>,
+}
+
+/// Steps of the process that runs, up to the first that is no done instruction, `most` at most.
+#[inline(always)]
+pub(crate) fn advance(kernel: &mut Kernel, hart: &mut Hart, pid: Pid, most: u32) -> Stretch
+    requires whole { IsWhole kernel.old hart.old }
+    requires running { IsRunning kernel.old }
+    requires pid { pid ≡ pid_now kernel.old }
+    requires first { IsSome (live (state_of kernel.old hart.old) 1) }
+    requires some { 0 < most }
+    ensures { Advanced kernel.old hart.old most result.made result.end kernel.new hart.new }
+{
+    if is_busy(kernel) {
+        let outcome = go_on(kernel, hart, pid);
+        return Stretch {
+            made: 0,
+            end: Some(outcome),
+        };
+    }
+    let Series { made, stop } = kernel.steps(hart, most);
+    match stop {
+        Stop::Next => Stretch { made, end: None },
+        Stop::Ecall => {
+            let outcome = trap(kernel, hart, pid, Stop::Ecall);
+            Stretch {
+                made,
+                end: Some(outcome),
+            }
+        }
+        Stop::Fault(cause) => {
+            let outcome = trap(kernel, hart, pid, Stop::Fault(cause));
+            Stretch {
+                made,
+                end: Some(outcome),
+            }
+        }
+    }
 }

@@ -1,7 +1,10 @@
-use Rattle.std.proofs.Common.{replicate}
+use Rattle.std.proofs.Common.{◌-◌, ◌≤◌, replicate}
 use Rattle.kcall_core.specs.Run as runs
 use Rattle.xv_machine.specs.Stretches.{Silent}
 use Rattle.xv_machine.proofs.driving.run_quantum.Given as goal
 
-abbrev pub invariant-loop-turn : goal.invariant-loop-turn
-invariant-loop-turn l = Silent (replicate l.turn runs.Run) l.fn.machine l.machine
+abbrev pub invariant-runs : goal.invariant-runs
+invariant-runs l = (l.left ≤ l.quantum) × Silent (replicate (l.quantum - l.left) runs.Run) l.fn.machine l.machine
+
+abbrev pub decreases-runs : goal.decreases-runs
+decreases-runs l = l.left

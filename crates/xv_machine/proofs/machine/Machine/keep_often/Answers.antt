@@ -1,0 +1,15 @@
+use Rattle.std.proofs.Common.{replicate}
+use Rattle.xv_machine.proofs.Frames.{sound-of}
+use Rattle.xv_machine.proofs.Kept.{pushed-often}
+use Rattle.xv_machine.proofs.Runs.{now-sound}
+use Rattle.xv_machine.proofs.machine.Machine.keep_often.Goals as goal
+
+pub returns-then-capacity-eq0-clause-sound : goal.returns-then-capacity-eq0-clause-sound
+returns-then-capacity-eq0-clause-sound c =
+    let i = c.self.inside in
+    now-sound i.kernel i.hart i.halted i.trace c.args.self.now c.self.view_is c.self.invariant.whole c.self.invariant.halted c.self.invariant.kept
+
+pub returns-clause-sound : goal.returns-clause-sound
+returns-clause-sound c =
+    let i = c.self.inside in
+    sound-of i.kernel i.hart i.halted c.push_often.new.trace (pushed-often i.trace (replicate c.args.count c.args.note) c.push_often.new.trace c.push_often.ensures) c.self.invariant.whole c.self.invariant.halted

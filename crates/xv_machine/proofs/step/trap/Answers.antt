@@ -1,0 +1,24 @@
+use Rattle.std.proofs.Common.{rules, ap, sym, ◌∙◌, refl, w32, subst}
+use Rattle.std.proofs.lemmas.Int.{to_z-of_z}
+use Rattle.kcall_core.specs.Makes.{Makes, answer_of}
+use Rattle.kcall_core.specs.Own.{Own, Faulted}
+use Rattle.kcall_core.specs.Run.{Step_of}
+use Rattle.xv_machine.proofs.OneStep.{begun-number, fault-own}
+use Rattle.xv_machine.proofs.step.trap.Goals as goal
+
+pub returns-in-Ecall-clause-answer : goal.returns-in-Ecall-clause-answer
+returns-in-Ecall-clause-answer c =
+    c.call_outcome.ensures
+    ∙ ap (λ n. Step_of c.args.pid (answer_of n c.call-end.result))
+    (to_z-of_z w32 c.call_number-number.result (search rules) ∙ c.call_number-number.ensures ∙ sym (begun-number c.args.kernel.now c.args.hart.now c.requires.between_calls.1))
+    ∙ ap (Step_of c.args.pid) (sym c.call-end.ensures.answer)
+
+pub returns-in-Fault-clause-made : goal.returns-in-Fault-clause-made
+returns-in-Fault-clause-made c =
+    subst (λ (o : Own). Makes c.args.kernel.now c.args.hart.now o c.exit.new.self c.exit.new.hart)
+    (sym (fault-own c.args.kernel.now c.args.hart.now c.requires.between_calls c.in-Fault.cause (sym c.requires.stop ∙ c.in-Fault.is)))
+    (c.exit.ensures.made (Faulted c.in-Fault.cause) refl)
+
+pub returns-in-Fault-clause-answer : goal.returns-in-Fault-clause-answer
+returns-in-Fault-clause-answer c =
+    sym (ap (λ (o : Own). Step_of c.args.pid o.answer) (fault-own c.args.kernel.now c.args.hart.now c.requires.between_calls c.in-Fault.cause (sym c.requires.stop ∙ c.in-Fault.is)))
