@@ -108,6 +108,7 @@ impl Space {
         requires limit { last ≤ 2 ^ 26 }
         ensures changed { IfOk result (λ _. Changed pool.old ram.old self.old pool.new ram.new self.new) }
         ensures belongs { IfOk result (λ _. Belongs pool.new ram.new self.new) }
+        ensures size { self.new.size ≡ self.old.size }
         ensures image { IfOk result (λ _. image_of ram.new self.new ≡ filled (image_of ram.old self.old) first (last - first) perm) }
         ensures translations { IfOk result (λ _. TranslationsStay ram.old ram.new self.old.root) }
         ensures others { IfOk result (λ _. SparesOthers pool.old ram.old (frames_of ram.old self.old) ram.new) }
@@ -191,6 +192,7 @@ impl Space {
         requires limit { self.old.size ≤ SIZE_LIMIT }
         ensures changed { IfOk result (λ _. Changed pool.old ram.old self.old pool.new ram.new self.new) }
         ensures belongs { IfOk result (λ _. Belongs pool.new ram.new self.new) }
+        ensures size { self.new.size ≡ self.old.size }
         ensures image { IfOk result (λ _. image_of ram.new self.new ≡ touched (spans address len) (image_of ram.old self.old)) }
         ensures translations { IfOk result (λ _. TranslationsStay ram.old ram.new self.old.root) }
         ensures others { IfOk result (λ _. SparesOthers pool.old ram.old (frames_of ram.old self.old) ram.new) }
@@ -206,6 +208,7 @@ impl Space {
     pub fn grow_lazily(&mut self, size: u64)
         requires more { self.old.size ≤ size }
         requires limit { size ≤ SIZE_LIMIT }
+        ensures size { self.new.size ≡ size }
         ensures image { (ram : List (List ℕ)) → image_of ram self.new ≡ grown_lazily (image_of ram self.old) size }
         ensures changed { (pool : Pool) (ram : List (List ℕ)) → Belongs pool ram self.old → Changed pool ram self.old pool ram self.new }
         ensures belongs { (pool : Pool) (ram : List (List ℕ)) → Belongs pool ram self.old → Belongs pool ram self.new }

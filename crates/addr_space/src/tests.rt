@@ -1,5 +1,5 @@
 //! Spaces from their first frame to their last, with what each step costs.
-ghost use Rattle.std.specs.Prelude.{◌≡◌, ◌≤◌, ◌<◌, ◌^◌, IfSome};
+ghost use Rattle.std.specs.Prelude.{◌≡◌, ◌+◌, ◌≤◌, ◌<◌, ◌^◌, IfSome};
 ghost use Rattle.xk_base.specs.declared.limits.TheConstants.{SIZE_LIMIT};
 ghost use Rattle.frame_list.specs.Pool.{Good};
 ghost use Rattle.addr_space.specs.Space.{Belongs, IsSpace};
