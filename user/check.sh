@@ -63,6 +63,7 @@ keys() {
 
 # The words, with the paths of files.
 words() {
+    # shellcheck disable=SC2013
     for word in $(cat "$room/=words"); do
         if [ -e "$room/$word" ]; then
             echo "$room/$word"
@@ -91,15 +92,16 @@ play() {
     echo $? >"$room/=ended"
     [ -e "$room/=status" ] || echo 0 >"$room/=status"
     cat -v "$room/=out" >"$room/=seen"
-    is_wanted status "$room/=ended" && is_wanted shows "$room/=seen" || return
-    if [ -e "$room/=errors" ]; then
-        is_wanted errors "$room/=err" || return
-    fi
-    [ -e "$room/=trace" ] || return 0
-    grep -E -- "$(cat "$room/=pattern")" "$room/=err" >"$room/=noted"
-    is_wanted trace "$room/=noted"
+    [ ! -e "$room/=trace" ] || grep -E -- "$(cat "$room/=pattern")" "$room/=err" >"$room/=noted"
+    well=0
+    is_wanted shows "$room/=seen" || well=1
+    is_wanted status "$room/=ended" || well=1
+    [ ! -e "$room/=errors" ] || is_wanted errors "$room/=err" || well=1
+    [ ! -e "$room/=trace" ] || is_wanted trace "$room/=noted" || well=1
+    return $well
 }
 
+# shellcheck disable=SC2012,SC2046
 [ $# -gt 0 ] || set -- $(cd sessions && ls | sed 's/\.txt$//')
 failed=0
 for name; do
