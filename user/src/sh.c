@@ -10,7 +10,7 @@
      wait               waits for all that was begun by &
      # ..               is passed over, as an empty line is
 
-   There are no quotes: a text is what stands between blanks. */
+   There are no quotes: a text is what stands between blanks. There is no >, since files can't be written. */
 #include "user.h"
 
 enum {
@@ -52,7 +52,7 @@ static int is_blank(char byte)
 
 static int is_sign(char byte)
 {
-    return byte != 0 && strchr("|<;&()", byte) != NULL;
+    return byte != 0 && strchr("|<>;&()", byte) != NULL;
 }
 
 static char next_sign(void)
@@ -123,6 +123,8 @@ static void read_redirection(struct node *node)
         if (node != NULL)
             node->file = file;
     }
+    if (next_sign() == '>')
+        refuse("there is no >, since files can't be written");
 }
 
 static struct node *read_program(void)
