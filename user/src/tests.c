@@ -149,6 +149,7 @@ static void waits(void)
     CHECK(kernel_call(3, 1, 0, 0) == -1);            /* the text may not be written */
     CHECK(wait(NOWHERE) == -1);
     CHECK(wait((int *)-2L) == -1);
+    CHECK(wait((int *)(sbrk(0) - 2)) == -1);         /* two of four bytes lie behind the end */
     CHECK(wait(&status) == child && status == 7);
     child = begin(exit_7);
     CHECK(wait(NULL) == child);
@@ -310,6 +311,52 @@ static void kills_whatever_it_waits_for(void)
         CHECK(await(child) == -1);
     }
     sleep(BRIEFLY); /* the sleeper has ended too */
+}
+
+/* Sleeps for two ticks with a number of its own in each register but sp, and answers 0 where all of them stay. */
+static long changed_registers(void)
+{
+    register long changed asm("a0");
+
+    asm volatile(
+        "li a0, 2\n li a7, 13\n"
+        "li ra, 101\n li gp, 103\n li tp, 104\n li t0, 105\n li t1, 106\n li t2, 107\n li s0, 108\n li s1, 109\n"
+        "li a1, 111\n li a2, 112\n li a3, 113\n li a4, 114\n li a5, 115\n li a6, 116\n"
+        "li s2, 118\n li s3, 119\n li s4, 120\n li s5, 121\n li s6, 122\n li s7, 123\n"
+        "li s8, 124\n li s9, 125\n li s10, 126\n li s11, 127\n"
+        "li t3, 128\n li t4, 129\n li t5, 130\n li t6, 131\n"
+        "ecall\n"
+        /* Each register minus its number is 0: what isn't 0 is gathered in a0, which holds the answer 0. */
+        "addi ra, ra, -101\n or a0, a0, ra\n addi gp, gp, -103\n or a0, a0, gp\n"
+        "addi tp, tp, -104\n or a0, a0, tp\n addi s0, s0, -108\n or a0, a0, s0\n"
+        "addi t0, t0, -105\n or a0, a0, t0\n addi t1, t1, -106\n or a0, a0, t1\n"
+        "addi t2, t2, -107\n or a0, a0, t2\n addi s1, s1, -109\n or a0, a0, s1\n"
+        "addi a1, a1, -111\n or a0, a0, a1\n addi a2, a2, -112\n or a0, a0, a2\n"
+        "addi a3, a3, -113\n or a0, a0, a3\n addi a4, a4, -114\n or a0, a0, a4\n"
+        "addi a5, a5, -115\n or a0, a0, a5\n addi a6, a6, -116\n or a0, a0, a6\n"
+        "addi a7, a7, -13\n or a0, a0, a7\n"
+        "addi s2, s2, -118\n or a0, a0, s2\n addi s3, s3, -119\n or a0, a0, s3\n"
+        "addi s4, s4, -120\n or a0, a0, s4\n addi s5, s5, -121\n or a0, a0, s5\n"
+        "addi s6, s6, -122\n or a0, a0, s6\n addi s7, s7, -123\n or a0, a0, s7\n"
+        "addi s8, s8, -124\n or a0, a0, s8\n addi s9, s9, -125\n or a0, a0, s9\n"
+        "addi s10, s10, -126\n or a0, a0, s10\n addi s11, s11, -127\n or a0, a0, s11\n"
+        "addi t3, t3, -128\n or a0, a0, t3\n addi t4, t4, -129\n or a0, a0, t4\n"
+        "addi t5, t5, -130\n or a0, a0, t5\n addi t6, t6, -131\n or a0, a0, t6\n"
+        : "=r"(changed)
+        :
+        : "ra", "gp", "tp", "t0", "t1", "t2", "s0", "s1", "a1", "a2", "a3", "a4", "a5", "a6", "a7", "s2", "s3", "s4", "s5", "s6", "s7",
+          "s8", "s9", "s10", "s11", "t3", "t4", "t5", "t6", "memory");
+    return changed;
+}
+
+/* Registers stay over a call, and over the turns of others. */
+static void registers_stay(void)
+{
+    int child = begin(loop_for_ever);
+
+    for (int time = 0; time < 5; time++)
+        CHECK(changed_registers() == 0);
+    CHECK(kill(child) == 0 && await(child) == -1);
 }
 
 /* The clock. */
@@ -792,7 +839,7 @@ static void several_writers(void)
 }
 
 /* exec. This program is also run by itself: `tests exits-with N TEXT..` ends with N where its count of words is
-   N, and with 99 else. */
+   N, and with 99 else; see main for others. */
 
 static int exec_words(int count, char *word)
 {
@@ -884,6 +931,38 @@ static void execs_are_refused(void)
     int pages = grow_by_all();
     CHECK(exec("tests", texts) == -1); /* the new memory needs frames while the old one is there */
     shrink_by(pages);
+}
+
+static int look_at_new_memory(void)
+{
+    static char *const texts[] = {"tests", "new-memory", NULL};
+
+    memset(page, 1, sizeof page);
+    memset(bytes, 1, sizeof bytes);
+    exec("tests", texts);
+    return 100;
+}
+
+/* How many of this program's variables and of the lower half of its stack, which nobody has used yet, aren't 0. */
+static int count_old_bytes(void)
+{
+    char *stack = (char *)((uintptr_t)__builtin_frame_address(0) & -(uintptr_t)PAGE_BYTES);
+    int count = 0;
+
+    for (unsigned place = 0; place < sizeof page; place++)
+        count += page[place] != 0;
+    for (unsigned place = 0; place < sizeof bytes; place++)
+        count += bytes[place] != 0;
+    for (int place = 0; place < PAGE_BYTES / 2; place++)
+        count += stack[place] != 0;
+    return count;
+}
+
+/* A program begins with zeros, whatever stood in memory before. */
+static void exec_makes_new_memory(void)
+{
+    CHECK(status_of(dirty_all_pages) == 0);
+    CHECK(status_of(look_at_new_memory) == 0);
 }
 
 static int run_reader(void)
@@ -1041,6 +1120,7 @@ static const struct test tests[] = {
     TEST(fork_needs_frames),
     TEST(kills),
     TEST(kills_whatever_it_waits_for),
+    TEST(registers_stay),
     TEST(sleeps),
     TEST(grows),
     TEST(growth_has_limits),
@@ -1061,6 +1141,7 @@ static const struct test tests[] = {
     TEST(several_writers),
     TEST(execs),
     TEST(execs_are_refused),
+    TEST(exec_makes_new_memory),
     TEST(exec_keeps_descriptors),
     TEST(unknown_calls),
     TEST(console_takes_long_writes),
@@ -1122,6 +1203,8 @@ int main(int count, char *words[])
 {
     if (count >= 3 && strcmp(words[1], "exits-with") == 0)
         return atoi(words[2]) == count && words[count] == NULL ? count : 99;
+    if (count == 2 && strcmp(words[1], "new-memory") == 0)
+        return count_old_bytes();
     if (count == 2 && strcmp(words[1], "reads-from-5") == 0)
         return read(5, bytes, 100);
     return run_tests(count, words);
