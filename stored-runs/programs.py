@@ -10,8 +10,8 @@ FORK, EXIT, WAIT, PIPE, READ, KILL, EXEC, DUP = 1, 2, 3, 4, 5, 6, 7, 10
 GETPID, SBRK, SLEEP, UPTIME, OPEN, WRITE, CLOSE = 11, 12, 13, 14, 15, 16, 21
 NO_CALL = [0, 8, 9, 17, 20, 22, 99, -1]
 
-DESCRIPTORS = [0, 0, 0, 1, 1, 1, 2, 2, 3, 4, 5, 7, 15, 16, -1]
-LENGTHS = [0, 1, 2, 3, 5, 8, 13, 40, 70, 300, 600, -1, 5000, 0x7FFFFFFF]
+DESCRIPTORS = [0, 0, 0, 1, 1, 1, 2, 2, 3, 4, 5, 7, 31, 32, -1]
+LENGTHS = [0, 1, 2, 3, 5, 8, 13, 40, 70, 300, 2100, -1, 5000, 0x7FFFFFFF]
 PIDS = [2, 2, 2, 3, 3, 4, 1, 0, -1, 99, 0x7FFFFFFF]
 GROWTHS = [0, 1, 1, 4096, 4096, 8192, -1, -4096, -4096, 20000, 100000, 0x7FFFFFFF, -0x80000000]
 TICKS = [0, 1, 1, 2, 3, -1]
@@ -236,7 +236,7 @@ class Source:
         self.call(FORK)
         self.put(f"bne a0, x0, {parent}")
         for _ in range(1 + below(3)):
-            self.call(WRITE, "mv s8", one_of(["la poem", "la long", "la numbers"]), one_of([1, 3, 40, 100, 600]))
+            self.call(WRITE, "mv s8", one_of(["la poem", "la long", "la numbers"]), one_of([1, 3, 40, 100, 2100]))
         self.leave()
         self.mark(parent)
         if below(3):
