@@ -136,11 +136,12 @@ record Ready (m : Memories) (slot : ℕ) (hart : Hart) : Type 0 where
   runs : RunsIn m slot hart
 
 -- one instruction, from where others have led
-one-step : (old : Memories) (slot : ℕ) (hart : Hart) (ram' : List (List ℕ)) (regs' : Registers) (cache' : Translations) (stop : Stop) → Ready old slot hart → Instructed (root_of hart.root) old.ram hart.regs stop ram' regs' cache'
-    → Steps old (record old { ram = ram' }) slot hart (record hart { regs = regs'; cache = cache' }) stop
-one-step old slot hart ram' regs' cache' stop ready one =
+one-step : (old : Memories) (slot : ℕ) (hart : Hart) (ram' : List (List ℕ)) (regs' : Registers) (cache' : Translations) (fault' : ℕ) (stop : Stop) → Ready old slot hart
+    → Instructed (root_of hart.root) old.ram hart.regs stop ram' regs' cache'
+    → Steps old (record old { ram = ram' }) slot hart (record hart { regs = regs'; cache = cache'; fault_address = fault' }) stop
+one-step old slot hart ram' regs' cache' fault' stop ready one =
     let r = ready.runs in
-    steps old (record old { ram = ram' }) slot hart (record hart { regs = regs'; cache = cache' }) stop r (runs-stands old slot hart ready.sound r (runs-inside r))
+    steps old (record old { ram = ram' }) slot hart (record hart { regs = regs'; cache = cache'; fault_address = fault' }) stop r (runs-stands old slot hart ready.sound r (runs-inside r))
     (record {
       ends = one.ends;
       regs = one.regs_are;
@@ -166,30 +167,35 @@ module _ (old : Memories) (slot : ℕ) (hart : Hart) (ready : Ready old slot har
       let m = record old { ram = mid } in
       let h = record hart { regs = mid_regs; cache = mid_cache } in
       let so_far = series count mid mid_regs mid_cache before in
-      let step = one-step m slot h ram' regs' cache' stops.Next so_far.1 one in
+      let step = one-step m slot h ram' regs' cache' hart.fault_address stops.Next so_far.1 one in
       ((m, h, so_far.0, step), after-step m (record old { ram = ram' }) slot h (record hart { regs = regs'; cache = cache' }) stops.Next step)
 
-  last-step : (most made : ℕ) (stop : Stop) (mid : List (List ℕ)) (mid_regs : Registers) (mid_cache : Translations) (ram' : List (List ℕ)) (regs' : Registers) (cache' : Translations)
-      → Ready (record old { ram = mid }) slot (record hart { regs = mid_regs; cache = mid_cache }) → IsLast (root_of hart.root) most made stop mid mid_regs mid_cache ram' regs' cache'
-      → IsLastStep slot most made stop (record old { ram = mid }) (record hart { regs = mid_regs; cache = mid_cache }) (record old { ram = ram' }) (record hart { regs = regs'; cache = cache' })
-  last-step most made stops.Next mid mid_regs mid_cache ram' regs' cache' so last = (last.0, ap (λ x. record old { ram = x }) last.1, λ t. record hart { regs = last.2 t; cache = last.3 t })
-  last-step most made stops.Ecall mid mid_regs mid_cache ram' regs' cache' so last = (last.0, one-step (record old { ram = mid }) slot (record hart { regs = mid_regs; cache = mid_cache }) ram' regs' cache' stops.Ecall so last.1)
-  last-step most made (stops.Fault cause) mid mid_regs mid_cache ram' regs' cache' so last = (last.0, one-step (record old { ram = mid }) slot (record hart { regs = mid_regs; cache = mid_cache }) ram' regs' cache' (stops.Fault cause) so last.1)
+  last-step : (most made : ℕ) (stop : Stop) (mid : List (List ℕ)) (mid_regs : Registers) (mid_cache : Translations) (ram' : List (List ℕ)) (regs' : Registers) (cache' : Translations) (fault' : ℕ)
+      → Ready (record old { ram = mid }) slot (record hart { regs = mid_regs; cache = mid_cache })
+      → IsLast (root_of hart.root) most made stop mid mid_regs mid_cache hart.fault_address ram' regs' cache' fault'
+      → IsLastStep slot most made stop (record old { ram = mid }) (record hart { regs = mid_regs; cache = mid_cache }) (record old { ram = ram' }) (record hart { regs = regs'; cache = cache'; fault_address = fault' })
+  last-step most made stops.Next mid mid_regs mid_cache ram' regs' cache' fault' so last =
+      (last.0, ap (λ x. record old { ram = x }) last.1, λ t. record hart { regs = last.2 t; cache = last.3 t; fault_address = last.4 t })
+  last-step most made stops.Ecall mid mid_regs mid_cache ram' regs' cache' fault' so last =
+      (last.0, one-step (record old { ram = mid }) slot (record hart { regs = mid_regs; cache = mid_cache }) ram' regs' cache' fault' stops.Ecall so last.1)
+  last-step most made (stops.Fault cause) mid mid_regs mid_cache ram' regs' cache' fault' so last =
+      (last.0, one-step (record old { ram = mid }) slot (record hart { regs = mid_regs; cache = mid_cache }) ram' regs' cache' fault' (stops.Fault cause) so last.1)
 
-  in-a-row : (most made : ℕ) (stop : Stop) (ram' : List (List ℕ)) (regs' : Registers) (cache' : Translations) → InARow (root_of hart.root) most made stop old.ram hart.regs hart.cache ram' regs' cache'
-      → StepsInARow slot most made stop old hart (record old { ram = ram' }) (record hart { regs = regs'; cache = cache' })
-  in-a-row most made stop ram' regs' cache' row =
+  in-a-row : (most made : ℕ) (stop : Stop) (ram' : List (List ℕ)) (regs' : Registers) (cache' : Translations) (fault' : ℕ)
+      → InARow (root_of hart.root) most made stop old.ram hart.regs hart.cache hart.fault_address ram' regs' cache' fault'
+      → StepsInARow slot most made stop old hart (record old { ram = ram' }) (record hart { regs = regs'; cache = cache'; fault_address = fault' })
+  in-a-row most made stop ram' regs' cache' fault' row =
       let there = series made row.mid row.mid_regs row.mid_cache row.done in
       record {
         mid = record old { ram = row.mid };
         between = record hart { regs = row.mid_regs; cache = row.mid_cache };
         done = there.0;
-        last = last-step most made stop row.mid row.mid_regs row.mid_cache ram' regs' cache' there.1 row.last;
+        last = last-step most made stop row.mid row.mid_regs row.mid_cache ram' regs' cache' fault' there.1 row.last;
       }
 
 -- the hart as it is behind them
 pub steps-in-a-row : (old : Memories) (slot : ℕ) (hart hart' : Hart) (ram' : List (List ℕ)) (most made : ℕ) (stop : Stop) → AreSound old → RunsIn old slot hart → hart'.root ≡ hart.root
-    → InARow (root_of hart.root) most made stop old.ram hart.regs hart.cache ram' hart'.regs hart'.cache → StepsInARow slot most made stop old hart (record old { ram = ram' }) hart'
+    → InARow (root_of hart.root) most made stop old.ram hart.regs hart.cache hart.fault_address ram' hart'.regs hart'.cache hart'.fault_address → StepsInARow slot most made stop old hart (record old { ram = ram' }) hart'
 steps-in-a-row old slot hart hart' ram' most made stop sound runs root row =
     let P = λ (h : Hart). StepsInARow slot most made stop old hart (record old { ram = ram' }) h in
-    subst P (λ t. record hart' { root = sym root t }) (in-a-row old slot hart (record { sound = sound; runs = runs }) most made stop ram' hart'.regs hart'.cache row)
+    subst P (λ t. record hart' { root = sym root t }) (in-a-row old slot hart (record { sound = sound; runs = runs }) most made stop ram' hart'.regs hart'.cache hart'.fault_address row)
