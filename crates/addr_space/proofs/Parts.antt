@@ -1,9 +1,9 @@
 -- Bytes across pages, part by part.
-use Rattle.std.proofs.Common.{◌≡◌, ℕ, zero, suc, ◌+◌, ◌-◌, ◌/◌, ◌%◌, ◌<◌, ◌≤◌, List, [], ◌∷◌, ◌++◌, length, map, take, drop, get_or, Some, refl, sym, ap, ◌∙◌, arith}
+use Rattle.std.proofs.Common.{◌≡◌, ℕ, zero, suc, ◌+◌, ◌-◌, ◌/◌, ◌%◌, ◌<◌, ◌≤◌, List, [], ◌∷◌, ◌++◌, length, map, take, drop, get_or, replicate, Some, None, refl, sym, ap, ◌∙◌, arith}
 use Rattle.std.specs.List.{range_with_len}
 use Rattle.std.specs.FinMap.{get}
 use Rattle.std.proofs.Math.Seq.{take-add}
-use Rattle.std.proofs.lemmas.List.{length-take-le, length-drop, get_or-take, get_or-drop, append-nil, append_assoc}
+use Rattle.std.proofs.lemmas.List.{length-replicate, length-take-le, length-drop, get_or-take, get_or-drop, append-nil, append_assoc}
 use Rattle.std.proofs.lemmas.List.FromFn.{fill_by_all, length-map-range_with_len, get_or-map-range_with_len, map-range_with_len_more}
 use Rattle.xk_base.specs.Image.{Page, Image}
 use Rattle.xk_base.specs.Bytes.{byte_in, image_byte, image_bytes, write_image}
@@ -24,6 +24,18 @@ part-read i a n page is long within =
     let rest : (a + k) % 4096 ≡ a % 4096 + k = omega (arith, lt, within) in
     ap (λ v. byte_in (get i.pages v) ((a + k) % 4096)) place ∙ ap (λ o. byte_in o ((a + k) % 4096)) is
     ∙ ap (λ j. get_or page.bytes j 0) rest ∙ sym (get_or-take n (drop (a % 4096) page.bytes) k 0 lt ∙ get_or-drop (a % 4096) page.bytes k 0)))
+
+zero-at : (n k : ℕ) → get_or {A = ℕ} (replicate n 0) k 0 ≡ 0
+zero-at zero k = refl
+zero-at (suc n) zero = refl
+zero-at (suc n) (suc k) = zero-at n k
+
+-- a part of a page that isn't there
+pub part-zeros : (i : Image) (a n : ℕ) → get i.pages (a / 4096) ≡ None → a % 4096 + n ≤ 4096 → replicate n 0 ≡ image_bytes i a n
+part-zeros i a n none within =
+    sym (listed n a (image_byte i) (replicate n 0) (length-replicate {A = ℕ} n 0) (λ k lt.
+    let place : (a + k) / 4096 ≡ a / 4096 = omega (arith, lt, within) in
+    ap (λ v. byte_in (get i.pages v) ((a + k) % 4096)) place ∙ ap (λ o. byte_in o ((a + k) % 4096)) none ∙ sym (zero-at n k)))
 
 pub length-image_bytes : (i : Image) (a n : ℕ) → length (image_bytes i a n) ≡ n
 length-image_bytes i a n = length-map-range_with_len (image_byte i) a n

@@ -1,18 +1,21 @@
 -- What a touch makes of an image: a run of pages, each added where there was none, is what was chosen and absent.
-use Rattle.std.proofs.Common.{◌≡◌, ◌≢◌, ℕ, zero, suc, ◌+◌, ◌-◌, ◌*◌, ◌/◌, ◌^◌, ◌<◌, ◌≤◌, Bool, true, false, not, ◌&&◌, ◌||◌, cond, eqb, is_some, List, Option, Some, None, inl, inr, ◌⊎◌, refl, sym, ap, ◌∙◌, arith}
+use Rattle.std.proofs.Common.{◌≡◌, ◌≢◌, ℕ, zero, suc, ◌+◌, ◌-◌, ◌*◌, ◌/◌, ◌%◌, ◌^◌, ◌<◌, ◌≤◌, Bool, true, false, not, ◌&&◌, ◌||◌, cond, eqb, ltb, is_some, List, Option, Some, None, inl, inr, ◌⊎◌, refl, sym, ap, ◌∙◌, arith}
 use Rattle.std.proofs.lemmas.Bool.{cases_lt, cases_eq, false≢true, eq-eqb, ne_eqb}
 use Prim.Native.Nat.{min}
 use Rattle.std.specs.Ordering.{nat_cmp}
 use Rattle.std.specs.FinMap.{FinMap, insert, get, get-insert, same_map, nat_cmp-IsAntisymmetric}
 use Rattle.std.specs.Cmp.{nat_cmp_total}
+use Rattle.std.specs.Prelude.{option_map, slice_index, replicate, ◌∷◌}
+use Rattle.xk_base.specs.Bytes.{byte_in, image_byte, image_bytes}
+use Rattle.phys_ram.specs.Ram.{zero_frame}
 use Rattle.xk_base.specs.Image.{Page, Image, some_below}
 use Rattle.sv39_core.specs.Listed.{gathered}
 use Rattle.sv39_core.specs.Tree.{pages_of, page_at}
 use Rattle.sv39_core.proofs.Gathered.{gathered-get, tie-yes}
 use Rattle.sv39_core.proofs.Words.{ltb-yes, ltb-no}
 use Rattle.addr_space.specs.declared.Space.{Space}
-use Rattle.addr_space.specs.Changes.{zeroed, with_absent, filled}
-use Rattle.addr_space.specs.Absent.{is_absent, spans, touched, touched_page, touched_rights}
+use Rattle.addr_space.specs.Changes.{zeroed, with_absent, filled, perm_of_page}
+use Rattle.addr_space.specs.Absent.{is_absent, spans, touched, touched_page, touched_rights, whole}
 use Rattle.addr_space.specs.Space.{image_of}
 use Rattle.addr_space.proofs.Growing.{absent-out}
 use Rattle.addr_space.proofs.Prices.{some-yes, insert-other}
@@ -146,3 +149,79 @@ filled-touched chosen i first end low run =
 pub run-of-range : (size a n first end : ℕ) → first ≤ end → end ≤ 2 ^ 26 → ((v : ℕ) → first ≤ v → v < end → (spans a n v ≡ true) × (4096 * v < size)) → ((v : ℕ) → v < first → 4096 * v < size → spans a n v ≡ false)
     → ((v : ℕ) → end ≤ v → 4096 * v < size → spans a n v ≡ false) → IsRun (spans a n) size first end
 run-of-range size a n first end order few inside before behind = record { order = order; few = few; inside = inside; before = before; behind = behind }
+
+-- ---- what is there once all is touched
+
+-- a page after a touch, by its number
+pub touched-get : (chosen : ℕ → Bool) (i : Image) (v : ℕ) → v < 2 ^ 26 → get (touched chosen i).pages v ≡ touched_page chosen i v
+unfolding touched
+touched-get chosen i v lt = gathered-get (touched_page chosen i) (2 ^ 26) v ∙ ap (λ b. cond b (touched_page chosen i v) None) (ltb-yes v (2 ^ 26) lt)
+
+pub touched-low : (chosen : ℕ → Bool) (i : Image) → LowPages (touched chosen i)
+unfolding touched
+touched-low chosen i = record { none = λ v ge. gathered-get (touched_page chosen i) (2 ^ 26) v ∙ ap (λ b. cond b (touched_page chosen i v) None) (ltb-no v (2 ^ 26) ge) }
+
+-- an absent page allows reading and writing
+pub absent-allows : (i : Image) (v : ℕ) → v < 2 ^ 26 → is_absent i v ≡ true → Some touched_rights ≡ option_map perm_of_page (get (whole i).pages v)
+absent-allows i v lt absent = sym (ap (option_map perm_of_page) (touched-get (λ v. true) i v lt ∙ ap (λ b. cond b (Some (zeroed touched_rights)) (get i.pages v)) absent))
+
+-- any other page is as it was
+pub other-allows : (i : Image) (v : ℕ) → v < 2 ^ 26 → is_absent i v ≡ false → option_map perm_of_page (get i.pages v) ≡ option_map perm_of_page (get (whole i).pages v)
+other-allows i v lt present = sym (ap (option_map perm_of_page) (touched-get (λ v. true) i v lt ∙ ap (λ b. cond b (Some (zeroed touched_rights)) (get i.pages v)) present))
+
+absent-none : (i : Image) (v : ℕ) (o : Option Page) → get i.pages v ≡ o → (b : Bool) → (b && not (is_some o)) ≡ true → o ≡ None
+absent-none i v None is b e = refl
+absent-none i v (Some page) is true e = absurd (false≢true e)
+absent-none i v (Some page) is false e = absurd (false≢true e)
+
+zeros : (n o : ℕ) → slice_index (replicate n 0) o ≡ 0
+zeros zero o = refl
+zeros (suc n) zero = refl
+zeros (suc n) (suc o) = zeros n o
+
+-- a byte of an absent page is 0
+zero-byte : (o : ℕ) → byte_in (Some (zeroed touched_rights)) o ≡ 0
+unfolding zero_frame
+zero-byte o = zeros 4096 o
+
+-- and so is a byte that is read where no page is there
+pub whole-byte : (i : Image) (a : ℕ) → LowPages i → image_byte (whole i) a ≡ image_byte i a
+whole-byte i a low = elim (cases_lt (a / 4096) (2 ^ 26)) [
+  | inl lt ↦ ap (λ o. byte_in o (a % 4096)) (touched-get (λ v. true) i (a / 4096) lt) ∙ by (is_absent i (a / 4096)) refl
+  | inr ge ↦ ap (λ o. byte_in o (a % 4096)) ((touched-low (λ v. true) i).none (a / 4096) ge ∙ sym (low.none (a / 4096) ge))
+]
+  where
+    by : (b : Bool) → is_absent i (a / 4096) ≡ b → byte_in (touched_page (λ v. true) i (a / 4096)) (a % 4096) ≡ image_byte i a
+    by true e =
+        let none : get i.pages (a / 4096) ≡ None = absent-none i (a / 4096) (get i.pages (a / 4096)) refl (ltb (4096 * (a / 4096)) i.size) e in
+        ap (λ b. byte_in (cond b (Some (zeroed touched_rights)) (get i.pages (a / 4096))) (a % 4096)) e ∙ zero-byte (a % 4096) ∙ sym (ap (λ o. byte_in o (a % 4096)) none)
+    by false e = ap (λ b. byte_in (cond b (Some (zeroed touched_rights)) (get i.pages (a / 4096))) (a % 4096)) e
+
+pub whole-bytes : (i : Image) (a n : ℕ) → LowPages i → image_bytes (whole i) a n ≡ image_bytes i a n
+whole-bytes i a zero low = refl
+whole-bytes i a (suc n) low = λ k. whole-byte i a low k ∷ whole-bytes i (a + 1) n low k
+
+-- a page that is there stays
+pub whole-there : (i : Image) (v : ℕ) (page : Page) → LowPages i → get i.pages v ≡ Some page → get (whole i).pages v ≡ Some page
+whole-there i v page low is = elim (cases_lt v (2 ^ 26)) [
+  | inl lt ↦ touched-get (λ v. true) i v lt ∙ ap (λ o. cond (ltb (4096 * v) i.size && not (is_some o)) (Some (zeroed touched_rights)) o) is ∙ both (ltb (4096 * v) i.size)
+  | inr ge ↦ let w : None ≡ Some page = sym (low.none v ge) ∙ is in absurd (cc)
+]
+  where
+    both : (b : Bool) → cond (b && false) (Some (zeroed touched_rights)) (Some page) ≡ Some page
+    both true = refl
+    both false = refl
+
+-- where no page is absent, a touch changes nothing
+pub none-absent : (chosen : ℕ → Bool) (i : Image) → LowPages i → ((v : ℕ) → is_absent i v ≡ false) → touched chosen i ≡ i
+unfolding touched
+none-absent chosen i low none =
+    ap (λ m. record { pages = m; size = i.size }) (same_map nat_cmp_total nat_cmp-IsAntisymmetric (gathered (touched_page chosen i) (2 ^ 26)) i.pages (λ v.
+    gathered-get (touched_page chosen i) (2 ^ 26) v ∙ (elim (cases_lt v (2 ^ 26)) [
+      | inl lt ↦ ap (λ b. cond b (touched_page chosen i v) None) (ltb-yes v (2 ^ 26) lt) ∙ ap (λ b. cond (chosen v && b) (Some (zeroed touched_rights)) (get i.pages v)) (none v) ∙ both (chosen v) (get i.pages v)
+      | inr ge ↦ ap (λ b. cond b (touched_page chosen i v) None) (ltb-no v (2 ^ 26) ge) ∙ sym (low.none v ge)
+    ])))
+  where
+    both : (b : Bool) (o : Option Page) → cond (b && false) (Some (zeroed touched_rights)) o ≡ o
+    both true o = refl
+    both false o = refl

@@ -1,5 +1,5 @@
 -- Worked cases of absent pages. An image of size 12289 ends with one byte in its fourth page, page 3.
-use Rattle.std.proofs.Common.{◌≡◌, ℕ, ◌+◌, ◌^◌, ◌<◌, Bool, true, false, not, cond, is_some, Option, Some, None, refl, sym, ap, ◌∙◌, arith}
+use Rattle.std.proofs.Common.{◌≡◌, ℕ, ◌^◌, ◌<◌, Bool, true, false, not, cond, is_some, Some, None, refl, ap, ◌∙◌, arith}
 use Rattle.std.specs.Ordering.{nat_cmp}
 use Rattle.std.specs.Cmp.{nat_cmp_total}
 use Rattle.std.specs.FinMap.{FinMap, empty, insert, get, get-empty, get-insert}
@@ -9,7 +9,7 @@ use Rattle.sv39_core.proofs.Gathered.{gathered-get, tie-yes}
 use Rattle.sv39_core.proofs.Words.{ltb-yes}
 use Rattle.addr_space.specs.Absent.{is_absent, grown_lazily, spans, touched, touched_page}
 
-abbrev bare : Image
+abbrev pub bare : Image
 bare = record { pages = empty; size = 12289 }
 
 -- ---- which pages are absent
@@ -79,7 +79,7 @@ unfolding touched
 page_after chosen i v lt = gathered-get (touched_page chosen i) (2 ^ 26) v ∙ ap (λ b. cond b (touched_page chosen i v) None) (ltb-yes v (2 ^ 26) lt)
 
 -- a chosen page that was absent comes: zeros that user code may read and write, and not execute
-an_absent_page_comes : get (touched (λ v. true) bare).pages 3 ≡ Some (record { perm = record { read = true; write = true; execute = false; user = true }; bytes = zero_frame })
+pub an_absent_page_comes : get (touched (λ v. true) bare).pages 3 ≡ Some (record { perm = record { read = true; write = true; execute = false; user = true }; bytes = zero_frame })
 an_absent_page_comes = page_after (λ v. true) bare 3 (omega arith) ∙ ap (λ b. cond b (Some (record { perm = record { read = true; write = true; execute = false; user = true }; bytes = zero_frame })) (get bare.pages 3)) the_last_page_is_absent
 
 -- an absent page that isn't chosen stays absent
@@ -87,7 +87,7 @@ another_page_stays_absent : get (touched (λ v. false) bare).pages 3 ≡ None
 another_page_stays_absent = page_after (λ v. false) bare 3 (omega arith) ∙ get-empty nat_cmp 3
 
 -- no page comes past the size
-no_page_comes_past_the_size : get (touched (λ v. true) bare).pages 4 ≡ None
+pub no_page_comes_past_the_size : get (touched (λ v. true) bare).pages 4 ≡ None
 no_page_comes_past_the_size = page_after (λ v. true) bare 4 (omega arith) ∙ get-empty nat_cmp 4
 
 -- a page that was there keeps its bytes and its rights, though it is chosen

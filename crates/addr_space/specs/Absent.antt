@@ -34,3 +34,7 @@ touched_page chosen image v = if chosen v && is_absent image v then Some (zeroed
 -- the image after a touch: its pages, and of the chosen ones those that were absent; the size stays
 unfoldable pub touched : (ℕ → Bool) → Image → Image
 touched chosen image = record { pages = gathered (touched_page chosen image) (2 ^ 26); size = image.size }
+
+-- the image with each absent page added: what a kernel copy reads of it, and may write of it once the pages are touched
+abbrev pub whole : Image → Image
+whole image = touched (λ v. true) image

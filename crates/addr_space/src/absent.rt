@@ -1,7 +1,8 @@
 //! Pages that are not there: how many frames they take, and how they come.
 #![tactic(auto)]
 
-ghost use Rattle.std.specs.Prelude.{◌≡◌, ℕ, ◌+◌, ◌-◌, ◌*◌, ◌/◌, ◌^◌, ◌≤◌, ◌<◌, ◌&&◌, true, false, None, Some, List, length, nat_lt, IfOk, IfErr};
+ghost use Rattle.std.specs.Prelude.{◌≡◌, ℕ, ◌+◌, ◌-◌, ◌*◌, ◌/◌, ◌^◌, ◌≤◌, ◌<◌, ◌&&◌, true, false, None, Some, List, length, nat_lt, option_map, IfOk, IfErr};
+ghost use Rattle.std.specs.FinMap.{get};
 ghost use Rattle.xk_base.specs.declared.access.Rights.{Rights};
 ghost use Rattle.xk_base.specs.declared.limits.TheConstants.{SIZE_LIMIT};
 ghost use Rattle.xk_base.specs.Image.{price};
@@ -9,8 +10,8 @@ ghost use Rattle.frame_list.specs.declared.Pool.{Pool};
 ghost use Rattle.frame_list.specs.Pool.{free_in};
 ghost use Rattle.sv39_core.specs.Sv39.{page_entry};
 ghost use Rattle.sv39_core.specs.Tree.{frame_of};
-ghost use Rattle.addr_space.specs.Absent.{is_absent, grown_lazily, spans, touched, touched_rights};
-ghost use Rattle.addr_space.specs.Changes.{filled};
+ghost use Rattle.addr_space.specs.Absent.{is_absent, grown_lazily, spans, touched, touched_rights, whole};
+ghost use Rattle.addr_space.specs.Changes.{filled, perm_of_page};
 ghost use Rattle.addr_space.specs.Space.{image_of, frames_of, Belongs, Changed, Unchanged, IsSpace, SparesOthers};
 ghost use Rattle.addr_space.specs.Translations.{TranslationsStay};
 
@@ -162,6 +163,18 @@ impl Space {
     {
         let is_below = u64::from(vpn.number()) * 4096 < self.size;
         is_below && self.perm(ram, vpn).is_none()
+    }
+
+    /// What a page allows once it is touched: reading and writing where it is absent, else what it allows
+    /// now; none where there is no page.
+    pub fn perm_touched(&self, ram: &Ram, vpn: Vpn) -> Option<Perm>
+        requires { IsSpace ram.now self.now }
+        ensures { result ≡ option_map perm_of_page (get (whole (image_of ram.now self.now)).pages vpn) }
+    {
+        if self.absent(ram, vpn) {
+            return Some(touched_rights());
+        }
+        self.perm(ram, vpn)
     }
 
     /// How many frames a [`touch`](Space::touch) of so many bytes from an address on takes.

@@ -1,7 +1,7 @@
 //! Bytes that lie across pages: whole pages at a time, one walk for each.
 #![tactic(auto)]
 
-ghost use Rattle.std.specs.Prelude.{◌≡◌, ℕ, ◌+◌, ◌*◌, ◌/◌, ◌%◌, ◌-◌, ◌≤◌, ◌<◌, length, Some};
+ghost use Rattle.std.specs.Prelude.{◌≡◌, ℕ, ◌+◌, ◌*◌, ◌/◌, ◌%◌, ◌-◌, ◌≤◌, ◌<◌, ◌^◌, length, Some, None, IfSome, IfNone};
 ghost use Rattle.std.specs.FinMap.{get};
 ghost use Rattle.xk_base.specs.Image.{Page};
 ghost use Rattle.xk_base.specs.Bytes.{HasPage, IsMapped, image_bytes, write_image};
@@ -15,23 +15,38 @@ use sv39_core::Entry;
 use xk_base::Vpn;
 
 impl Space {
-    /// The bytes of a page.
-    pub fn page_bytes<'a>(&self, ram: &'a Ram, vpn: Vpn) -> &'a [u8; 4096]
-        requires whole { IsSpace ram.now self.now }
-        requires there { HasPage (image_of ram.now self.now) vpn }
-        ensures { (page : Page) → get (image_of ram.now self.now).pages vpn ≡ Some page → result.now ≡ page.bytes }
+    /// The bytes of a page; none where it isn't there.
+    pub fn page_bytes<'a>(&self, ram: &'a Ram, vpn: Vpn) -> Option<&'a [u8; 4096]>
+        requires { IsSpace ram.now self.now }
+        ensures there { IfSome result (λ bytes. (page : Page) × (get (image_of ram.now self.now).pages vpn ≡ Some page) × (bytes.now ≡ page.bytes)) }
+        ensures none { IfNone result (get (image_of ram.now self.now).pages vpn ≡ None) }
     {
         let Entry::Leaf(frame, ..) = entry_of_page(ram, self.root, vpn.number() as usize) else {
-            unreachable!();
+            return None;
         };
-        ram.frame(frame)
+        Some(ram.frame(frame))
     }
 
-    /// Reads the bytes from an address on, as many as `out` holds, each of which lies in a page that is
-    /// there, whatever the pages' rights.
+    /// Reads bytes of a page from place `at` on, as many as `out` holds, within the page: zeros where the
+    /// page isn't there.
+    fn read_part(&self, ram: &Ram, vpn: Vpn, at: usize, out: &mut [u8])
+        requires whole { IsSpace ram.now self.now }
+        requires inside { at < 4096 }
+        requires fits { at + length out.old ≤ 4096 }
+        ensures { out.new ≡ image_bytes (image_of ram.now self.now) (4096 * vpn + at) (length out.old) }
+    {
+        let n = out.len();
+        match self.page_bytes(ram, vpn) {
+            Some(page) => out.copy_from_slice(&page[at..at + n]),
+            None => out.fill(0),
+        }
+    }
+
+    /// Reads the bytes from an address on, as many as `out` holds, whatever the pages' rights: zeros where
+    /// no page is there. All of them lie below the last page's end.
     pub fn read_across(&self, ram: &Ram, address: u64, out: &mut [u8])
         requires whole { IsSpace ram.now self.now }
-        requires there { IsMapped (image_of ram.now self.now) address (length out.old) }
+        requires inside { (k : ℕ) → k < length out.old → address + k < 2 ^ 38 }
         ensures { out.new ≡ image_bytes (image_of ram.now self.now) address (length out.old) }
     {
         let mut done = 0;
@@ -39,8 +54,8 @@ impl Space {
             let place = address as usize + done;
             let at = place % 4096;
             let n = (4096 - at).min(out.len() - done);
-            let page = self.page_bytes(ram, Vpn::new((place / 4096) as u32));
-            out[done..done + n].copy_from_slice(&page[at..at + n]);
+            let vpn = Vpn::new((place / 4096) as u32);
+            self.read_part(ram, vpn, at, &mut out[done..done + n]);
             done += n;
         }
     }

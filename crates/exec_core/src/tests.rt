@@ -125,10 +125,10 @@ fn args_of(texts: &[&[u8]]) -> Result<ArgList, ExecError> {
 fn push_page(space: &Space, ram: &Ram, vpn: Vpn, bytes: &mut Vec<u8>) -> Result<(), AllocError>
     requires { IsSpace ram.now space.now }
 {
-    let None = space.perm(ram, vpn) else {
-        return bytes.extend_from_slice(space.page_bytes(ram, vpn));
-    };
-    bytes.extend_from_slice(&[0; 4096])
+    match space.page_bytes(ram, vpn) {
+        Some(page) => bytes.extend_from_slice(page),
+        None => bytes.extend_from_slice(&[0; 4096]),
+    }
 }
 
 fn what_shows(

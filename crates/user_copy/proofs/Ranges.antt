@@ -6,12 +6,14 @@ use Rattle.std.specs.Option.{option_map}
 use Rattle.std.specs.FinMap.{get}
 use Rattle.xk_base.specs.declared.access.Access.{Access}
 use Rattle.xk_base.specs.Image.{Page, Image}
-use Rattle.xk_base.specs.Bytes.{IsMapped}
+use Rattle.xk_base.specs.Bytes.{IsMapped, image_byte}
 use Rattle.addr_space.specs.declared.Space.{Space}
 use Rattle.addr_space.specs.Changes.{perm_of_page}
 use Rattle.addr_space.specs.Space.{image_of}
-use Rattle.addr_space.proofs.InPlace.{page-small}
-use Rattle.user_copy.specs.Reach.{allows, may, reaches}
+use Rattle.addr_space.proofs.Touching.{LowPages, low-pages, touched-low, whole-byte, whole-there}
+use Rattle.user_copy.specs.declared.AbsentPages.{AbsentPages}
+use Rattle.user_copy.specs.declared.AbsentPages.TheVariants.{Refused, Zeros}
+use Rattle.user_copy.specs.Reach.{allows, may, image_seen, reaches}
 
 -- ---- what holds at n numbers from a on
 
@@ -83,13 +85,35 @@ reaches-same access i j a n same = by n a
     by zero a = refl
     by (suc n) a = λ k. same a k && by n (a + 1) k
 
--- there is no page from 2^38 on
-pub may-beyond : (access : Access) (ram : List (List ℕ)) (space : Space) (a : ℕ) → 2 ^ 38 ≤ a → may access (image_of ram space) a ≡ false
-may-beyond access ram space a far = by (get (image_of ram space).pages (a / 4096)) refl
+-- ---- absent pages
+
+pub seen-low : (absent : AbsentPages) (ram : List (List ℕ)) (space : Space) → LowPages (image_seen absent (image_of ram space))
+seen-low Refused ram space = low-pages ram space
+seen-low Zeros ram space = touched-low (λ v. true) (image_of ram space)
+
+-- a byte reads the same, whether absent pages are seen as zeros or not
+pub seen-byte : (absent : AbsentPages) (ram : List (List ℕ)) (space : Space) (a : ℕ) → image_byte (image_seen absent (image_of ram space)) a ≡ image_byte (image_of ram space) a
+seen-byte Refused ram space a = refl
+seen-byte Zeros ram space a = whole-byte (image_of ram space) a (low-pages ram space)
+
+-- a page that is there is seen as it is
+pub seen-there : (absent : AbsentPages) (ram : List (List ℕ)) (space : Space) (v : ℕ) (page : Page) → get (image_of ram space).pages v ≡ Some page → get (image_seen absent (image_of ram space)).pages v ≡ Some page
+seen-there Refused ram space v page is = is
+seen-there Zeros ram space v page is = whole-there (image_of ram space) v page (low-pages ram space) is
+
+-- what is there lies below 2^38
+pub mapped-inside : (i : Image) (a n : ℕ) → LowPages i → IsMapped i a n → (k : ℕ) → k < n → a + k < 2 ^ 38
+mapped-inside i a n low mapped k lt = elim (cases_lt (a + k) (2 ^ 38)) [
+  | inl below ↦ below
+  | inr far ↦ absurd (nowhere (get i.pages ((a + k) / 4096)) (mapped k lt) (low.none ((a + k) / 4096) (omega (arith, far))))
+]
   where
-    by : (o : Option Page) → get (image_of ram space).pages (a / 4096) ≡ o → allows access (option_map perm_of_page o) ≡ false
-    by None is = refl
-    by (Some page) is = absurd (omega (arith, far, page-small ram space (a / 4096) (page, is)))
+    nowhere : (o : Option Page) → (page : Page) × (o ≡ Some page) → o ≡ None → ⊥
+    nowhere o (page, is) none = let w : None ≡ Some page = sym none ∙ is in absurd (cc)
+
+-- there is no page from 2^38 on
+pub may-past : (access : Access) (i : Image) (a : ℕ) → LowPages i → 2 ^ 38 ≤ a → may access i a ≡ false
+may-past access i a low far = ap (λ o. allows access (option_map perm_of_page o)) (low.none (a / 4096) (omega (arith, far)))
 
 pub reached-there : (access : Access) (o : Option Page) → allows access (option_map perm_of_page o) ≡ true → (page : Page) × (o ≡ Some page)
 reached-there access None e = absurd (false≢true e)

@@ -11,6 +11,9 @@ use Rattle.xk_base.specs.Bytes.{image_byte}
 use Rattle.xk_base.specs.Words.{least_below}
 use Rattle.sv39_core.specs.Sv39.{permits}
 use Rattle.addr_space.specs.Changes.{perm_of_page}
+use Rattle.addr_space.specs.Absent.{whole}
+use Rattle.user_copy.specs.declared.AbsentPages.{AbsentPages}
+use Rattle.user_copy.specs.declared.AbsentPages.TheVariants.{Refused, Zeros}
 
 -- user code may make the access to a page with these rights; to none where there is no page
 abbrev pub allows : Access → Option Rights → Bool
@@ -32,3 +35,10 @@ ends_after image a n = reaches Load image a (n + 1) && (image_byte image (a + n)
 -- how many bytes stand before the first zero byte from an address on, where that is one of the first `limit` bytes and user code may read all up to it
 unfoldable pub text_length : Image → ℕ → ℕ → Option ℕ
 text_length image a limit = least_below (ends_after image a) limit
+
+-- ---- a process with absent pages
+
+-- what a copy takes an image for: with the pages that are there alone, or with each absent page as zeros that user code may read and write
+abbrev pub image_seen : AbsentPages → Image → Image
+image_seen Refused image = image
+image_seen Zeros image = whole image

@@ -9,12 +9,14 @@
 
 ghost use Rattle.std.specs.Prelude.{◌≡◌, ◌≢◌, ℕ, ◌+◌, ◌*◌, ◌/◌, ◌%◌, ◌^◌, ◌<◌, ◌≤◌, ◌++◌, length, drop, true, false, slice_index, option_map, Some, None, IfOk, IfErr, IfSome, IfNone};
 ghost use Rattle.xk_base.specs.Bytes.{image_bytes, write_image};
+ghost use Rattle.std.specs.FinMap.{get};
 ghost use Rattle.xk_base.specs.Words.{le};
 ghost use Rattle.xk_base.specs.declared.access.Access.TheVariants.{Load, Store};
 ghost use Rattle.frame_list.specs.declared.Pool.{Pool};
 ghost use Rattle.addr_space.specs.Space.{image_of, frames_of, Belongs, Changed, IsSpace, SparesOthers};
 ghost use Rattle.addr_space.specs.InPlace.{WrittenInPlace};
-ghost use Rattle.user_copy.specs.Reach.{allows, reaches, text_length};
+ghost use Rattle.addr_space.specs.Changes.{perm_of_page};
+ghost use Rattle.user_copy.specs.Reach.{allows, image_seen, reaches, text_length};
 
 use addr_space::Space;
 use byteorder::{ByteOrder, LittleEndian};
@@ -22,8 +24,13 @@ use phys_ram::Ram;
 use xk_base::limits::{PAGE_BYTES, VPN_END};
 use xk_base::{Access, BadAddress, Perm, Vpn};
 
+mod lazily;
 #[cfg(test)]
 mod tests;
+
+pub use lazily::{
+    check_range_lazily, copy_in_lazily, fetch_text_lazily, fetch_u64_lazily, law_of_present_pages,
+};
 
 /// The first address behind the last page that a process may have.
 const ADDRESS_END: u64 = VPN_END as u64 * PAGE_BYTES;
@@ -66,17 +73,44 @@ fn allows(perm: Option<Perm>, access: Access) -> bool
         }
 }
 
-/// Whether user code may make an access to each byte of a range.
-fn reaches(space: &Space, ram: &Ram, address: u64, len: usize, access: Access) -> bool
+/// What a copy makes of pages that are absent: below the size, and not there.
+#[derive(Clone, Copy)]
+enum AbsentPages {
+    /// No byte of them may be reached.
+    Refused,
+    /// They are zeros, which user code may read and write, as they will be once they are touched.
+    Zeros,
+}
+
+/// What a page allows.
+fn rights_of(space: &Space, ram: &Ram, page: Vpn, absent: AbsentPages) -> Option<Perm>
     requires { IsSpace ram.now space.now }
-    ensures { result ≡ reaches access (image_of ram.now space.now) address len }
+    ensures { result ≡ option_map perm_of_page (get (image_seen absent (image_of ram.now space.now)).pages page) }
+{
+    match absent {
+        AbsentPages::Refused => space.perm(ram, page),
+        AbsentPages::Zeros => space.perm_touched(ram, page),
+    }
+}
+
+/// Whether user code may make an access to each byte of a range.
+fn reaches(
+    space: &Space,
+    ram: &Ram,
+    address: u64,
+    len: usize,
+    access: Access,
+    absent: AbsentPages,
+) -> bool
+    requires { IsSpace ram.now space.now }
+    ensures { result ≡ reaches access (image_seen absent (image_of ram.now space.now)) address len }
 {
     let mut done = 0;
     'pages: while done < len {
         let Some(place) = place_at(address, done) else {
             return false;
         };
-        if !allows(space.perm(ram, place.page), access) {
+        if !allows(rights_of(space, ram, place.page, absent), access) {
             return false;
         }
         done += (4096 - place.offset).min(len - done);
@@ -98,7 +132,7 @@ pub fn check_range(
     ensures fine { IfOk result (λ _. reaches access (image_of ram.now space.now) address len ≡ true) }
     ensures refused { IfErr result (λ _. reaches access (image_of ram.now space.now) address len ≡ false) }
 {
-    if reaches(space, ram, address, len, access) {
+    if reaches(space, ram, address, len, access, AbsentPages::Refused) {
         Ok(())
     } else {
         Err(BadAddress)
@@ -170,7 +204,7 @@ pub fn fetch_text(
     ensures copied { IfOk result (λ n. text.new ≡ image_bytes (image_of ram.now space.now) address n ++ drop n text.old) }
     ensures refused { IfErr result (λ _. (text_length (image_of ram.now space.now) address (length text.old) ≡ None) × (text.new ≡ text.old)) }
 {
-    let Some(n) = text_end(space, ram, address, text.len()) else {
+    let Some(n) = text_end(space, ram, address, text.len(), AbsentPages::Refused) else {
         return Err(BadAddress);
     };
     space.read_across(ram, address, &mut text[..n]);
@@ -178,20 +212,28 @@ pub fn fetch_text(
 }
 
 /// How many bytes of a text stand before its zero byte, which is one of the first `limit` bytes.
-fn text_end(space: &Space, ram: &Ram, address: u64, limit: usize) -> Option<usize>
+fn text_end(
+    space: &Space,
+    ram: &Ram,
+    address: u64,
+    limit: usize,
+    absent: AbsentPages,
+) -> Option<usize>
     requires { IsSpace ram.now space.now }
-    ensures { result ≡ text_length (image_of ram.now space.now) address limit }
+    ensures { result ≡ text_length (image_seen absent (image_of ram.now space.now)) address limit }
 {
     let mut done = 0;
     'pages: while done < limit {
         let Some(place) = place_at(address, done) else {
             return None;
         };
-        if !allows(space.perm(ram, place.page), Access::Load) {
+        if !allows(rights_of(space, ram, place.page, absent), Access::Load) {
             return None;
         }
+        let Some(page) = space.page_bytes(ram, place.page) else {
+            return Some(done); // an absent page, whose bytes are 0
+        };
         let n = (4096 - place.offset).min(limit - done);
-        let page = space.page_bytes(ram, place.page);
         if let Some(k) = first_zero(&page[place.offset..place.offset + n]) {
             return Some(done + k);
         }

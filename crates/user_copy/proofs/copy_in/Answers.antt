@@ -1,8 +1,11 @@
-use Rattle.std.proofs.Common.{rules}
+use Rattle.std.proofs.Common.{rules, length}
 use Rattle.xk_base.specs.declared.access.Access.TheVariants.{Load}
 use Rattle.addr_space.specs.Space.{image_of}
-use Rattle.user_copy.proofs.Ranges.{reached-mapped}
+use Rattle.addr_space.proofs.Touching.{low-pages}
+use Rattle.user_copy.proofs.Ranges.{reached-mapped, mapped-inside}
 use Rattle.user_copy.proofs.copy_in.Goals as goal
 
-pub read_across-requires-clause-there : goal.read_across-requires-clause-there
-read_across-requires-clause-there c = reached-mapped Load (image_of c.args.ram.now c.args.space.now) c.args.address _ (search rules)
+pub read_across-requires-clause-inside : goal.read_across-requires-clause-inside
+read_across-requires-clause-inside c =
+    let i = image_of c.args.ram.now c.args.space.now in
+    mapped-inside i c.args.address _ (low-pages c.args.ram.now c.args.space.now) (reached-mapped Load i c.args.address (length c.args.out.now) (search rules))

@@ -3,7 +3,8 @@ use Rattle.std.proofs.lemmas.List.{length-take-le}
 use Rattle.xk_base.specs.declared.access.Access.TheVariants.{Load}
 use Rattle.xk_base.specs.Bytes.{image_bytes}
 use Rattle.addr_space.specs.Space.{image_of}
-use Rattle.user_copy.proofs.Ranges.{reached-mapped}
+use Rattle.addr_space.proofs.Touching.{low-pages}
+use Rattle.user_copy.proofs.Ranges.{reached-mapped, mapped-inside}
 use Rattle.user_copy.proofs.Texts.{text-readable}
 use Rattle.user_copy.proofs.fetch_text.Goals as goal
 
@@ -17,11 +18,11 @@ slice_bounds-read_across-end-2 c =
     let r = text-readable (image_of c.args.ram.now c.args.space.now) c.args.address (length c.args.text.now) c.in-Some.n (sym c.in-Some.ensures) in
     sym (length-take-le c.in-Some.n c.args.text.now (omega (arith, r.0)))
 
-pub read_across-requires-clause-there : goal.read_across-requires-clause-there
-read_across-requires-clause-there c k lt =
+pub read_across-requires-clause-inside : goal.read_across-requires-clause-inside
+read_across-requires-clause-inside c k lt =
     let i = image_of c.args.ram.now c.args.space.now in
     let r = text-readable i c.args.address (length c.args.text.now) c.in-Some.n (sym c.in-Some.ensures) in
-    reached-mapped Load i c.args.address (c.in-Some.n + 1) r.1 k (omega (arith, lt, length-take-le c.in-Some.n c.args.text.now (omega (arith, r.0))))
+    mapped-inside i c.args.address (c.in-Some.n + 1) (low-pages c.args.ram.now c.args.space.now) (reached-mapped Load i c.args.address (c.in-Some.n + 1) r.1) k (omega (arith, lt, length-take-le c.in-Some.n c.args.text.now (omega (arith, r.0))))
 
 pub returns-clause-short : goal.returns-clause-short
 returns-clause-short c = (text-readable (image_of c.args.ram.now c.args.space.now) c.args.address (length c.args.text.now) c.in-Some.n (sym c.in-Some.ensures)).0

@@ -1,32 +1,35 @@
-use Rattle.std.proofs.Common.{List, ℕ, sym, ap, ◌∙◌}
+use Rattle.std.proofs.Common.{◌≡◌, Bool, List, ℕ, None, refl, sym, ap, ◌∙◌, arith}
 use Rattle.phys_ram.specs.Ram.{frame_at}
-use Rattle.sv39_core.specs.Tree.{frame_of, page_of}
+use Rattle.xk_base.specs.declared.access.Rights.{Rights}
+use Rattle.sv39_core.specs.declared.entry.Entry.{Entry}
+use Rattle.sv39_core.specs.declared.entry.Entry.TheVariants.{Invalid, Table, Leaf}
+use Rattle.sv39_core.specs.Tree.{frame_of, page_of, page_at}
 use Rattle.sv39_core.proofs.Places.{root-inside, page-owned}
-use Rattle.xk_base.specs.Image.{Page}
 use Rattle.addr_space.proofs.Pages.{page-is}
-use Rattle.addr_space.proofs.Copies.{no-leaf, there-at, some-is}
+use Rattle.addr_space.proofs.Prices.{page-got}
 use Rattle.addr_space.proofs.Space.page_bytes.Goals as goal
 
 pub entry_of_page-requires-clause-root_in : goal.entry_of_page-requires-clause-root_in
-entry_of_page-requires-clause-root_in c = root-inside c.args.ram.now c.args.self.now.root c.requires.whole.tree
+entry_of_page-requires-clause-root_in c = root-inside c.args.ram.now c.args.self.now.root c.requires.tree
 
 pub frame-requires : goal.frame-requires
-frame-requires c = c.requires.whole.tree.once.inside c.in-Leaf.frame (page-owned c.args.ram.now c.args.self.now.root c.number.result c.in-Leaf.frame c.requires.whole.tree (ap frame_of (sym c.in-Leaf.ensures)))
+frame-requires c = c.requires.tree.once.inside c.in-Leaf.frame (page-owned c.args.ram.now c.args.self.now.root c.number.result c.in-Leaf.frame c.requires.tree (ap frame_of (sym c.in-Leaf.ensures)))
 
-pub unreachable-requires : goal.unreachable-requires
-unreachable-requires c =
-    let root = c.args.self.now.root in
-    no-leaf c.args.ram.now c.entry_of_page.result c.requires.there.0
-    (ap (page_of c.args.ram.now) c.entry_of_page.ensures ∙ there-at c.args.ram.now root c.args.vpn c.number.result c.requires.there.0 c.number.ensures.range c.number.ensures.value c.requires.there.1) c.in_default.not-Leaf
-
-bytes_of : Page → List ℕ
-bytes_of page = page.bytes
-
-pub returns : goal.returns
-unfolding bytes_of
-returns c page there =
+pub returns-clause-there : goal.returns-clause-there
+returns-clause-there c =
     let ram = c.args.ram.now in
-    let self = c.args.self.now in
-    let f = c.in-Leaf.frame in
-    let reached = sym (page-is ram self c.number.result f c.in-Leaf.field-1 c.in-Leaf.field-2 c.in-Leaf.field-3 c.requires.whole (sym c.in-Leaf.ensures)) ∙ there-at ram self.root c.args.vpn c.number.result page c.number.ensures.range c.number.ensures.value there in
-    c.frame.ensures ∙ ap bytes_of (some-is (record { perm = c.in-Leaf.field-1; bytes = frame_at ram f }) page reached)
+    let root = c.args.self.now.root in
+    let page = page-is ram c.args.self.now c.number.result c.in-Leaf.frame c.in-Leaf.field-1 c.in-Leaf.field-2 c.in-Leaf.field-3 c.requires (sym c.in-Leaf.ensures) in
+    (record { perm = c.in-Leaf.field-1; bytes = frame_at ram c.in-Leaf.frame }, page-got ram root c.args.vpn (omega (arith, c.number.ensures.range)) ∙ ap (page_at ram root) (sym c.number.ensures.value) ∙ page, c.frame.ensures)
+
+-- an entry that is no leaf gives no page
+leafless : (ram : List (List ℕ)) (e : Entry) → ((f : ℕ) (r : Rights) (a d : Bool) → e ≡ Leaf f r a d → ⊥) → page_of ram e ≡ None
+leafless ram Invalid none = refl
+leafless ram (Table f) none = refl
+leafless ram (Leaf f r a d) none = absurd (none f r a d refl)
+
+pub returns-in_default-clause-none : goal.returns-in_default-clause-none
+returns-in_default-clause-none c =
+    let ram = c.args.ram.now in
+    let root = c.args.self.now.root in
+    page-got ram root c.args.vpn (omega (arith, c.number.ensures.range)) ∙ ap (page_at ram root) (sym c.number.ensures.value) ∙ sym (ap (page_of ram) c.entry_of_page.ensures) ∙ leafless ram c.entry_of_page.result c.in_default.not-Leaf

@@ -1,24 +1,20 @@
-use Rattle.std.proofs.Common.{rules, arith, ◌≡◌, ◌+◌, ◌-◌, ◌/◌, ◌%◌, ◌≤◌, ◌++◌, length, take, drop, sym, ap, ◌∙◌, subst}
+use Rattle.std.proofs.Common.{rules, arith, ◌≡◌, ◌+◌, ◌*◌, ◌-◌, ◌%◌, ◌≤◌, ◌++◌, length, take, drop, sym, ap, ◌∙◌}
+use Rattle.std.proofs.lemmas.List.{length-take-le, length-drop}
 use Rattle.std.proofs.lemmas.Slice.{take-put_mid}
 use borrow.Rule.Slice.PartMut.{put_mid}
-use Rattle.std.specs.FinMap.{get}
-use Rattle.xk_base.specs.Bytes.{HasPage, image_bytes}
+use Rattle.xk_base.specs.Bytes.{image_bytes}
 use Rattle.addr_space.specs.Space.{image_of}
-use Rattle.addr_space.proofs.InPlace.{page-small}
-use Rattle.addr_space.proofs.Parts.{part-read, length-image_bytes, image_bytes-append}
+use Rattle.addr_space.proofs.Parts.{length-image_bytes, image_bytes-append}
 use Rattle.addr_space.proofs.Space.read_across.Goals as goal
 
 pub overflow_add-place : goal.overflow_add-place
-overflow_add-place c = omega (arith, page-small c.args.ram.now c.args.self.now ((c.args.address + c.parts.done) / 4096) (c.requires.there c.parts.done (search rules)))
+overflow_add-place c = omega (arith, c.requires.inside c.parts.done (search rules))
 
 pub overflow_cast-place : goal.overflow_cast-place
-overflow_cast-place c = omega (arith, page-small c.args.ram.now c.args.self.now ((c.args.address + c.parts.done) / 4096) (c.requires.there c.parts.done (search rules)))
+overflow_cast-place c = omega (arith, c.requires.inside c.parts.done (search rules))
 
-pub new-requires : goal.new-requires
-new-requires c = omega (arith, page-small c.args.ram.now c.args.self.now ((c.args.address + c.parts.done) / 4096) (c.requires.there c.parts.done (search rules)))
-
-pub page_bytes-page-requires-clause-there : goal.page_bytes-page-requires-clause-there
-page_bytes-page-requires-clause-there c = subst (λ v. HasPage (image_of c.args.ram.now c.args.self.now) v) (sym c.new.ensures) (c.requires.there c.parts.done (search rules))
+pub new-vpn-requires : goal.new-vpn-requires
+new-vpn-requires c = omega (arith, c.requires.inside c.parts.done (search rules))
 
 pub parts-preserved : goal.parts-preserved
 parts-preserved c =
@@ -27,18 +23,12 @@ parts-preserved c =
     let d = c.parts.done in
     let n = c.min-n.result in
     let out = c.parts.out in
-    let ys = c.copy_from_slice.new.self in
-    let here = c.requires.there c.parts.done (search rules) in
+    let ys = c.read_part.new.out in
     let fits : c.parts.done + c.min-n.result ≤ length c.parts.out = search rules in
-    let within : (c.args.address + c.parts.done) % 4096 + c.min-n.result ≤ 4096 = search rules in
-    let array : length c.page_bytes-page.result.now ≡ 4096 = search rules in
-    let page : c.page_bytes-page.result.now ≡ here.0.bytes = c.page_bytes-page.ensures here.0 (ap (λ v. get i.pages v) c.new.ensures ∙ here.1) in
-    let count : (a + d) % 4096 + n - (a + d) % 4096 ≡ n = omega arith in
     let got : ys ≡ image_bytes i (a + d) n =
-    c.copy_from_slice.ensures.after
-    ∙ ap (λ k. take k (drop ((a + d) % 4096) c.page_bytes-page.result.now)) count
-    ∙ ap (λ b. take n (drop ((a + d) % 4096) b)) page
-    ∙ part-read i (a + d) n here.0 here.1 (ap length (sym page) ∙ array) within in
+    let at : 4096 * c.new-vpn.result + (c.args.address + c.parts.done) % 4096 ≡ c.args.address + c.parts.done = omega (arith, c.new-vpn.ensures) in
+    let long : length (take (c.parts.done + c.min-n.result - c.parts.done) (drop c.parts.done c.parts.out)) ≡ c.min-n.result = length-take-le (c.parts.done + c.min-n.result - c.parts.done) (drop c.parts.done c.parts.out) (omega (arith, length-drop c.parts.done c.parts.out, fits)) ∙ omega arith in
+    c.read_part.ensures ∙ ap (λ x. image_bytes i x (length (take (c.parts.done + c.min-n.result - c.parts.done) (drop c.parts.done c.parts.out)))) at ∙ ap (image_bytes i (a + d)) long in
     let long : length ys ≡ n = ap length got ∙ length-image_bytes i (a + d) n in
     let more : take (d + n) (put_mid d (d + n - d) out ys) ≡ image_bytes i a (d + n) =
     take-put_mid d (d + n - d) out ys (d + n) (omega (arith, long)) (omega (arith, fits))
