@@ -2,7 +2,8 @@ use Rattle.std.proofs.Common.{sym, ap, ◌∙◌, length}
 use Rattle.xk_base.specs.Image.{Image}
 use Rattle.xk_base.specs.Bytes.{image_bytes}
 use Rattle.xk_base.specs.declared.access.Access.TheVariants.{Load}
-use Rattle.user_copy.proofs.Ranges.{reached-mapped}
+use Rattle.addr_space.proofs.Touching.{low-pages}
+use Rattle.user_copy.proofs.Ranges.{reached-mapped, mapped-inside}
 use Rattle.kcall_core.specs.Buffers.{readable}
 use Rattle.kcall_core.proofs.memory.Changes.{there-below, there-some, stands, image-seen}
 use Rattle.kcall_core.proofs.memory.Written.{whole-of}
@@ -17,10 +18,11 @@ unreachable-requires c = there-some _ _ c.index.result.now c.requires.there c.in
 pub read_across-requires-clause-whole : goal.read_across-requires-clause-whole
 read_across-requires-clause-whole c = whole-of (stands c.index.result.now c.in-Some.memory c.requires.sound c.requires.there c.index.ensures c.in-Some.is)
 
-pub read_across-requires-clause-there : goal.read_across-requires-clause-there
-read_across-requires-clause-there c =
+pub read_across-requires-clause-inside : goal.read_across-requires-clause-inside
+read_across-requires-clause-inside c =
     let s = stands c.index.result.now c.in-Some.memory c.requires.sound c.requires.there c.index.ensures c.in-Some.is in
-    reached-mapped Load _ c.args.address (length c.args.out.now) (ap (λ (i : Image). readable i c.args.address (length c.args.out.now)) (sym (image-seen s)) ∙ c.requires.readable)
+    let may = ap (λ (i : Image). readable i c.args.address (length c.args.out.now)) (sym (image-seen s)) ∙ c.requires.readable in
+    mapped-inside _ c.args.address _ (low-pages _ _) (reached-mapped Load _ c.args.address (length c.args.out.now) may)
 
 pub returns : goal.returns
 returns c =
