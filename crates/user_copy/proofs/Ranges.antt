@@ -115,6 +115,10 @@ mapped-inside i a n low mapped k lt = elim (cases_lt (a + k) (2 ^ 38)) [
 pub may-past : (access : Access) (i : Image) (a : ℕ) → LowPages i → 2 ^ 38 ≤ a → may access i a ≡ false
 may-past access i a low far = ap (λ o. allows access (option_map perm_of_page o)) (low.none (a / 4096) (omega (arith, far)))
 
+-- no page of a space is there from 2^38 on
+pub may-beyond : (access : Access) (ram : List (List ℕ)) (space : Space) (a : ℕ) → 2 ^ 38 ≤ a → may access (image_of ram space) a ≡ false
+may-beyond access ram space a far = may-past access (image_of ram space) a (low-pages ram space) far
+
 pub reached-there : (access : Access) (o : Option Page) → allows access (option_map perm_of_page o) ≡ true → (page : Page) × (o ≡ Some page)
 reached-there access None e = absurd (false≢true e)
 reached-there access (Some page) e = (page, refl)
