@@ -7,14 +7,55 @@ use clap::error::ErrorKind;
 use clap::{Arg, ArgMatches, Command};
 use std::alloc::Global;
 use std::convert::AsStr;
+use xk_base::limits::{FRAMES_MAX, FRAMES_MIN, TRACE_MAX};
 
-const FRAMES_HELP: &str = "Frames of RAM, 4096 bytes each: 16 to 32768";
+/// The most rounds that may be asked for.
+const ROUNDS_MAX: u32 = 1_000_000_000;
 
-const ROUNDS_HELP: &str = "The most rounds that are made: 0 to 1000000000";
+/// The most Run events in a round that may be asked for.
+const QUANTUM_MAX: u32 = 1_000_000;
 
-const QUANTUM_HELP: &str = "Run events in each round: 1 to 1000000";
+// An option that takes a number.
+struct NumberOption {
+    name: &'static str,
+    help: &'static str,
+    // What it is without the word.
+    default: &'static str,
+    least: u32,
+    most: u32,
+}
 
-const TRACE_HELP: &str = "The last events to show at the end: 0 to 65536";
+const FRAMES: NumberOption = NumberOption {
+    name: "frames",
+    help: "Frames of RAM, 4096 bytes each: 16 to 32768",
+    default: "4096",
+    least: FRAMES_MIN,
+    most: FRAMES_MAX,
+};
+
+const ROUNDS: NumberOption = NumberOption {
+    name: "rounds",
+    help: "The most rounds that are made: 0 to 1000000000",
+    default: "100000",
+    least: 0,
+    most: ROUNDS_MAX,
+};
+
+const QUANTUM: NumberOption = NumberOption {
+    name: "quantum",
+    help: "Run events in each round: 1 to 1000000",
+    default: "1000",
+    least: 1,
+    most: QUANTUM_MAX,
+};
+
+const TRACE: NumberOption = NumberOption {
+    name: "trace",
+    help: "The last events to show at the end: 0 to 65536",
+    default: "0",
+    least: 0,
+    most: TRACE_MAX,
+};
 
 const FILE_HELP: &str = "A program, or a file for programs to read";
 
@@ -42,28 +83,25 @@ Exit status:
   4  all rounds were made, and init has not exited
   5  standard input or standard output failed";
 
-// An option that takes a number.
-fn number_option<'a>(alloc: Global, name: &'a str, value: &'a str, range: (i64, i64)) -> Arg<'a> {
-    Arg::new(alloc, name)
-        .long(name)
+fn number_option<'a>(alloc: Global, option: &'a NumberOption) -> Arg<'a> {
+    let range = i64::from(option.least)..=i64::from(option.most);
+    Arg::new(alloc, option.name)
+        .long(option.name)
         .value_name("N")
-        .value_parser(clap::value_parser!(u32).range(range.0..=range.1))
-        .default_value(value)
+        .value_parser(clap::value_parser!(u32).range(range))
+        .default_value(option.default)
+        .help(option.help)
 }
 
 fn command<'a>(alloc: Global) -> Result<Command<'a>, clap::Error> {
-    let frames = number_option(alloc, "frames", "4096", (16, 32_768));
-    let rounds = number_option(alloc, "rounds", "100000", (0, 1_000_000_000));
-    let quantum = number_option(alloc, "quantum", "1000", (1, 1_000_000));
-    let trace = number_option(alloc, "trace", "0", (0, 65_536));
     let file = Arg::new(alloc, "FILE").required(true).num_args(1..);
     let command = Command::new(alloc, "xv_run")
         .about("Runs programs on a RISC-V machine that has the kernel of xv6")
         .after_help(MORE_HELP)
-        .arg(frames.help(FRAMES_HELP))?
-        .arg(rounds.help(ROUNDS_HELP))?
-        .arg(quantum.help(QUANTUM_HELP))?
-        .arg(trace.help(TRACE_HELP))?
+        .arg(number_option(alloc, &FRAMES))?
+        .arg(number_option(alloc, &ROUNDS))?
+        .arg(number_option(alloc, &QUANTUM))?
+        .arg(number_option(alloc, &TRACE))?
         .arg(file.help(FILE_HELP))?;
     Ok(command)
 }
@@ -72,14 +110,12 @@ fn command<'a>(alloc: Global) -> Result<Command<'a>, clap::Error> {
 fn number(
     matches: &ArgMatches<'_>,
     command: &mut Command<'_>,
-    name: &str,
-    least: u32,
-    most: u32,
+    option: &NumberOption,
 ) -> Result<u32, clap::Error>
-    ensures { IfOk result (λ n. (least ≤ n) × (n ≤ most)) }
+    ensures { IfOk result (λ n. (option.now.least ≤ n) × (n ≤ option.now.most)) }
 {
-    match matches.get_one::<u32>(name) {
-        Some(n) if least <= n && n <= most => Ok(n),
+    match matches.get_one::<u32>(option.name) {
+        Some(n) if option.least <= n && n <= option.most => Ok(n),
         _ => Err(command.error(ErrorKind::ValueValidation, "the number is not in its range")?),
     }
 }
@@ -126,10 +162,10 @@ pub fn settings<S: AsStr>(alloc: Global, words: &[S]) -> Result<Settings, Settin
 {
     let mut command = command(alloc)?;
     let matches = command.try_get_matches_from_mut(words)?;
-    let frames = number(&matches, &mut command, "frames", 16, 32_768)?;
-    let rounds = number(&matches, &mut command, "rounds", 0, 1_000_000_000)?;
-    let quantum = number(&matches, &mut command, "quantum", 1, 1_000_000)?;
-    let trace = number(&matches, &mut command, "trace", 0, 65_536)?;
+    let frames = number(&matches, &mut command, &FRAMES)?;
+    let rounds = number(&matches, &mut command, &ROUNDS)?;
+    let quantum = number(&matches, &mut command, &QUANTUM)?;
+    let trace = number(&matches, &mut command, &TRACE)?;
     let files = files(alloc, &matches, &mut command)?;
     Ok(Settings {
         frames,
