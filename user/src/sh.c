@@ -234,6 +234,12 @@ static void run_program(char **texts)
     fail("sh: %s can't be run\n", texts[0]);
 }
 
+/* Whether the shell does this command itself. */
+static int is_own(const struct node *node)
+{
+    return node->kind == PROGRAM && (strcmp(node->words[0], "exit") == 0 || strcmp(node->words[0], "wait") == 0);
+}
+
 /* Runs a command in this process, which is a child and ends with it. */
 static _Noreturn void become(const struct node *node)
 {
@@ -242,13 +248,13 @@ static _Noreturn void become(const struct node *node)
     source = INPUT;
     if (node->file != NULL)
         open_input(node->file);
-    if (node->kind == PROGRAM && strcmp(node->words[0], "exit") != 0)
+    if (node->kind == PROGRAM && !is_own(node))
         run_program(node->words);
     exit(run(node->kind == GROUP ? node->left : node));
 }
 
-/* Makes a child that runs the command. Where `instead` isn't negative, it stands for the child's descriptor
-   `which`; the child closes both ends of its pipe. */
+/* Makes a child that runs the command, and answers its pid. Where there is a pipe, the child's descriptor `which` is the
+   pipe's end of this number: INPUT its end for reading, OUTPUT its end for writing. */
 static int begin(const struct node *node, int which, const int ends[2])
 {
     int child = fork();
@@ -305,14 +311,17 @@ static int run_background(const struct node *node)
     return 0;
 }
 
+static int run_own(char **texts)
+{
+    if (strcmp(texts[0], "wait") == 0)
+        return await_all();
+    exit(texts[1] != NULL ? atoi(texts[1]) : last_status);
+}
+
 static int run_alone(const struct node *node)
 {
-    const char *name = node->kind == PROGRAM ? node->words[0] : "";
-
-    if (strcmp(name, "exit") == 0)
-        exit(node->words[1] != NULL ? atoi(node->words[1]) : last_status);
-    if (strcmp(name, "wait") == 0)
-        return await_all();
+    if (is_own(node))
+        return run_own(node->words);
     int child = begin(node, 0, NULL);
     return child < 0 ? 1 : await(child);
 }
