@@ -2,6 +2,7 @@ use Rattle.std.proofs.Common.{sym, ap, ◌∙◌, length}
 use Rattle.xk_base.specs.Image.{Image}
 use Rattle.xk_base.specs.Bytes.{image_bytes}
 use Rattle.xk_base.specs.declared.access.Access.TheVariants.{Load}
+use Rattle.addr_space.specs.Space.{image_of}
 use Rattle.addr_space.proofs.Touching.{low-pages}
 use Rattle.user_copy.proofs.Ranges.{reached-mapped, mapped-inside}
 use Rattle.kcall_core.specs.Buffers.{readable}
@@ -22,7 +23,9 @@ pub read_across-requires-clause-inside : goal.read_across-requires-clause-inside
 read_across-requires-clause-inside c =
     let s = stands c.index.result.now c.in-Some.memory c.requires.sound c.requires.there c.index.ensures c.in-Some.is in
     let may = ap (λ (i : Image). readable i c.args.address (length c.args.out.now)) (sym (image-seen s)) ∙ c.requires.readable in
-    mapped-inside _ c.args.address _ (low-pages _ _) (reached-mapped Load _ c.args.address (length c.args.out.now) may)
+    let ram = c.args.self.now.ram in
+    let space = c.in-Some.memory.space in
+    mapped-inside (image_of ram space) c.args.address (length c.args.out.now) (low-pages ram space) (reached-mapped Load (image_of ram space) c.args.address (length c.args.out.now) may)
 
 pub returns : goal.returns
 returns c =
