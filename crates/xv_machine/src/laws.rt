@@ -2,13 +2,14 @@
 //!
 //! No function here takes or gives anything: each stands for a claim, whose clauses are proved of the
 //! definitions that the contracts of [`Machine::boot`](crate::Machine::boot),
-//! [`Machine::event`](crate::Machine::event) and [`drive`](crate::drive) cite. So they are the steps from
-//! what one call promises to what is so of a whole run. The statements stand in `specs/Reached.antt`.
+//! [`Machine::event`](crate::Machine::event), [`Machine::run`](crate::Machine::run) and [`drive`](crate::drive)
+//! cite. So they are the steps from what one call promises to what is so of a whole run. The statements stand
+//! in `specs/Reached.antt`.
 ghost use Rattle.xv_machine.specs.Reached.{EventsGo, BootReaches, ReachesOn, ReachedIsRun, StepsAreOwn, TwoMachines, NoByteIsShown, TurnsCome, ReachedIsSound};
 
-/// A machine that was booted, and then got events, by `event` or by `drive`, in whatever order.
+/// A machine that was booted, and then got events, by `event`, by `run` or by `drive`, in whatever order.
 pub fn machine_runs()
-    // Events that are each made by `event` lead as a whole from machine to machine, as those of a drive do.
+    // Events that are each made by `event` lead as a whole from machine to machine, as those of `run` and of a drive do.
     ensures events_go { EventsGo }
 
     // A machine that was booted is reached without an event.
