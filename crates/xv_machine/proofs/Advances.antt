@@ -5,7 +5,8 @@ use Rattle.hart_core.specs.declared.hart.Hart.{Hart}
 use Rattle.circular_buffer.specs.Buffer.{Buffer}
 use Rattle.kcall_core.specs.State.{live}
 use Rattle.kcall_core.specs.Run as runs
-use Rattle.kcall_core.specs.Run.{World, Run}
+use Rattle.kcall_core.specs.Own.{Answer}
+use Rattle.kcall_core.specs.Run.{World, Run, Step_of, Idle, Halted}
 use Rattle.kcall_core.specs.Wakes.{Promised, IsPromised}
 use Rattle.kcall_core.specs.Kernel.{frame_count, state_of, pid_now}
 use Rattle.kcall_core.specs.Machine.{turns_of, world_of}
@@ -24,6 +25,13 @@ use Rattle.xv_machine.proofs.Runs.{current-pid, not-halted, first-lives, still-l
 
 abbrev Steps : Type 0
 Steps = List (runs.Event × runs.Outcome)
+
+-- a step is no Run in which nobody may run, and none of a halted machine
+step-runs : {p : ℕ} {answer : Answer} → Step_of p answer ≡ Idle → ⊥
+step-runs e = cc
+
+step-is-on : {p : ℕ} {answer : Answer} → Step_of p answer ≡ Halted → ⊥
+step-is-on e = cc
 
 -- who runs, as the machine's calls know it
 pub now-running : (k : Kernel) (h : Hart) (halted : Option ℤ) (trace : Buffer Note) (now : Meaning) (pid : ℕ) → meaning_of (record { kernel = k; hart = h; halted = halted; trace = trace }) ≡ now → now.world.turns.current ≡ Some pid
@@ -70,7 +78,7 @@ module _ (k : Kernel) (h : Hart) (halted : Option ℤ) (pid : ℕ) (current : (t
       some-frames = a.ends.1.frames ∙ a.did.frames
 
       pub some-end : IsEnd most made (Some o)
-      some-end = (a.ends.0, a.ends.3)
+      some-end = (a.ends.0, a.ends.3, λ e. step-runs (sym a.ends.2 ∙ e), λ e. step-is-on (sym a.ends.2 ∙ e))
 
       pub some-run : IsPromised (world_of k h None) (runs_made pid made (Some o)) (world_of k' h' (halted_by o))
       some-run =

@@ -27,7 +27,7 @@ events_go old new (e ∷ es) sound (mid, one, more) =
     goes-join (e ∷ []) es old mid new (goes-one e.0 e.1 old mid one.promised one.notes one.room one.frames one.sound) (events_go mid new es one.sound more)
 
 pub boot_reaches : BootReaches
-boot_reaches frames trace programs m boots sound = by (first frames trace programs) refl boots
+boot_reaches frames trace programs m boots sound empty = by (first frames trace programs) refl boots
   where
     no : {X : Type 0} (e : BootError) → ◌≡◌ {A = Result Meaning BootError} (Ok m) (Err e) → X
     no e h = absurd (cc)
@@ -39,15 +39,15 @@ boot_reaches frames trace programs m boots sound = by (first frames trace progra
     by (Err Memory) is h = no Memory h
     by (Err (Init e)) is h = elim h [ inl init ↦ no (Init e) init | inr memory ↦ no Memory memory ]
     by (Ok w) is h = elim h [
-      | inl starts ↦ (m, is ∙ ap Ok (sym starts.0), starts.1, sound, goes-none m sound)
+      | inl starts ↦ (m, is ∙ ap Ok (sym starts.0), starts.1, sound, empty, goes-none m sound)
       | inr memory ↦ no Memory memory
     ]
 
 pub reaches_on : ReachesOn
-reaches_on frames trace programs es fs m n (booted, is, count, sound, goes) more = (booted, is, count, sound, goes-join es fs booted m n goes more)
+reaches_on frames trace programs es fs m n (booted, is, count, sound, empty, goes) more = (booted, is, count, sound, empty, goes-join es fs booted m n goes more)
 
 pub reached_is_run : ReachedIsRun
-reached_is_run frames trace programs list m (booted, is, count, sound, goes) = ((booted.world, is, promised_is_run booted.world m.world list goes.run), (booted.world, is, goes.run))
+reached_is_run frames trace programs list m (booted, is, count, sound, empty, goes) = ((booted.world, is, promised_is_run booted.world m.world list goes.run), (booted.world, is, goes.run))
 
 -- ---- what a step is
 
@@ -59,13 +59,16 @@ pub two_machines : TwoMachines
 two_machines frames trace frames_too trace_too programs programs_too list list_too es fs a b c d p one other goes goes_too lives same =
     let first_cut = runs_are_cut p a.world c.world es (promised_is_run a.world c.world es goes.run) lives (pids_are_given frames trace programs list a.world p (reached_is_run frames trace programs list a one).0 lives) in
     let lives_too : IsSome (view b.world.state p) = subst (λ (o : Option View). IsSome o) same lives in
-    let other_cut = runs_are_cut p b.world d.world fs (promised_is_run b.world d.world fs goes_too.run) lives_too (pids_are_given frames_too trace_too programs_too list_too b.world p (reached_is_run frames_too trace_too programs_too list_too b other).0 lives_too) in
-    (first_cut.0, other_cut.0, (first_cut.1, first_cut.2), (other_cut.1, other_cut.2), λ shared. two_worlds p a.world b.world first_cut.0 other_cut.0 lives same (es, c.world, first_cut.1) (fs, d.world, other_cut.1) shared)
+    let other_cut = runs_are_cut p b.world d.world fs (promised_is_run b.world d.world fs goes_too.run) lives_too (pids_are_given frames_too trace_too programs_too list_too b.world p (reached_is_run frames_too trace_too programs_too list_too b other).0 lives_too) in (
+      (first_cut.0, (first_cut.1, first_cut.2)),
+      (other_cut.0, (other_cut.1, other_cut.2)),
+      λ ms ns cut cut_too shared. two_worlds p a.world b.world ms ns lives same (es, c.world, cut.0) (fs, d.world, cut_too.0) shared,
+    )
 
 -- ---- no byte that another process left
 
 pub no_byte_is_shown : NoByteIsShown
-no_byte_is_shown frames trace programs list m p page i byte (booted, is, count, sound, goes) below holds = (
+no_byte_is_shown frames trace programs list m p page i byte (booted, is, count, sound, empty, goes) below holds = (
   booted.world,
   is,
   elim (each_byte_has_its_source frames trace programs [] list booted.world m.world p page i byte (booted.world, is, refl) (promised_is_run booted.world m.world list goes.run) below holds) [
@@ -79,7 +82,7 @@ no_byte_is_shown frames trace programs list m p page i byte (booted, is, count, 
 -- ---- nobody waits for nothing, and nothing is lost
 
 pub turns_come : TurnsCome
-turns_come frames trace programs es fs m n p (booted, is, count, sound, goes) more may apart none = turn_comes frames trace programs booted.world m.world n.world es fs p is goes.run more.run may apart none
+turns_come frames trace programs es fs m n p (booted, is, count, sound, empty, goes) more may apart none = turn_comes frames trace programs booted.world m.world n.world es fs p is goes.run more.run may apart none
 
 pub reached_is_sound : ReachedIsSound
-reached_is_sound frames trace programs list m (booted, is, count, sound, goes) = (goes.sound, goes.frames ∙ count)
+reached_is_sound frames trace programs list m (booted, is, count, sound, empty, goes) = (goes.sound, goes.frames ∙ count)

@@ -94,11 +94,11 @@ all-ran most made p old mid new current all run frames trace is sound = record {
 }
 
 -- something else came of the last one
-pub some-ran : (most made p : ℕ) (o : Outcome) (old mid kept new : Meaning) → old.world.turns.current ≡ Some p → made < most → o ≢ Step_of p Stepped
+pub some-ran : (most made p : ℕ) (o : Outcome) (old mid kept new : Meaning) → old.world.turns.current ≡ Some p → made < most → o ≢ Step_of p Stepped → o ≢ Idle → o ≢ Halted
     → IsPromised old.world (replicate made (done_by p) ++ (Run, o) ∷ []) mid.world → mid.frames.count ≡ old.frames.count → SameTrace old mid
     → kept ≡ record mid { notes = keep_last mid.room (mid.notes ++ replicate made (Note.Stepped p)) } → new ≡ record kept { notes = keep_last kept.room (kept.notes ++ note Run o ∷ []) }
     → IsSoundMachine new → Ran most (made + 1) old new
-some-ran most made p o old mid kept new current fewer other run frames trace first second sound =
+some-ran most made p o old mid kept new current fewer other idle halted run frames trace first second sound =
     let list : Steps = replicate made (done_by p) ++ (Run, o) ∷ [] in
     let those : notes_of list ≡ replicate made (Note.Stepped p) ++ note Run o ∷ [] =
     notes-join (replicate made (done_by p)) ((Run, o) ∷ []) ∙ ap (λ ns. ns ++ note Run o ∷ []) (notes-again made Run (Step_of p Stepped)) in
@@ -106,7 +106,7 @@ some-ran most made p o old mid kept new current fewer other run frames trace fir
       list = list;
       goes = goes-kept list (replicate made (Note.Stepped p) ++ note Run o ∷ []) old mid new run frames trace those
           (kept-twice (replicate made (Note.Stepped p)) (note Run o ∷ []) mid kept new first second) sound;
-      runs_are = inr (inl (made, o, ap (λ q. replicate made (done_by (or_zero q)) ++ (Run, o) ∷ []) (sym current), fewer, subst (λ q. o ≢ Step_of (or_zero q) Stepped) (sym current) other));
+      runs_are = inr (inl (made, o, ap (λ q. replicate made (done_by (or_zero q)) ++ (Run, o) ∷ []) (sym current), fewer, subst (λ q. o ≢ Step_of (or_zero q) Stepped) (sym current) other, idle, halted));
       count = length-append (replicate made (done_by p)) ((Run, o) ∷ []) ∙ ap (λ n. n + 1) (length-replicate made (done_by p));
     }
 
@@ -116,7 +116,7 @@ pub turn-ran : (most : ℕ) (o : Outcome) (old mid new : Meaning) → 0 < most �
 turn-ran most o old mid new some turn promised frames trace is sound = record {
   list = (Run, o) ∷ [];
   goes = goes-kept ((Run, o) ∷ []) (note Run o ∷ []) old mid new (mid.world, promised, refl) frames trace refl is sound;
-  runs_are = inr (inl (0, o, refl, some, λ e. other (sym turn ∙ ap is_turn e)));
+  runs_are = inr (inl (0, o, refl, some, λ e. other (sym turn ∙ ap is_turn e), λ e. other (sym turn ∙ ap is_turn e), λ e. other (sym turn ∙ ap is_turn e)));
   count = refl;
 }
   where
@@ -150,7 +150,7 @@ runs-show w t (suc n) (x ∷ xs) those run =
 
 runs-sent : (most p : ℕ) (list : Steps) → AreRuns most p list → events list ≡ replicate (length list) Run
 runs-sent most p list (inl is) = ap events is ∙ events-again most Run (Step_of p Stepped) ∙ ap (λ n. replicate n Run) (sym (ap length is ∙ length-replicate most (done_by p)))
-runs-sent most p list (inr (inl (made, o, is, fewer, other))) =
+runs-sent most p list (inr (inl (made, o, is, fewer, other, idle, halted))) =
     ap events is ∙ events-join (replicate made (done_by p)) ((Run, o) ∷ []) ∙ ap (λ es. es ++ Run ∷ []) (events-again made Run (Step_of p Stepped)) ∙ run-again made
     ∙ ap (λ n. replicate n Run) (sym (ap length is ∙ length-append (replicate made (done_by p)) ((Run, o) ∷ []) ∙ ap (λ n. n + 1) (length-replicate made (done_by p))))
 runs-sent most p list (inr (inr (o, is, rest))) = ap events is ∙ events-again most Run o ∙ ap (λ n. replicate n Run) (sym (ap length is ∙ length-replicate most (Run, o)))

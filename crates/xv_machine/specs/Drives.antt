@@ -31,11 +31,11 @@ pub record Goes (old : Meaning) (list : List (Event × Outcome)) (new : Meaning)
 abbrev pub done_by : (p : ℕ) → Event × Outcome
 done_by p = (Run, Step_of p Stepped)
 
--- Runs that were sent one after another, `most` at most: each is a done instruction of process p; or something else came of the last one; or nothing may run, and all of them were sent
+-- Runs that were sent one after another, `most` at most: each is a done instruction of process p; or something else came of the last one; or nothing may run, or the machine is halted, and all of them were sent
 abbrev pub AreRuns : (most p : ℕ) → List (Event × Outcome) → Type 0
 AreRuns most p list =
     (list ≡ replicate most (done_by p))
-    ⊎ ((made : ℕ) × (o : Outcome) × (list ≡ replicate made (done_by p) ++ (Run, o) ∷ []) × (made < most) × (o ≢ Step_of p Stepped))
+    ⊎ ((made : ℕ) × (o : Outcome) × (list ≡ replicate made (done_by p) ++ (Run, o) ∷ []) × (made < most) × (o ≢ Step_of p Stepped) × (o ≢ runs.Idle) × (o ≢ runs.Halted))
     ⊎ ((o : Outcome) × (list ≡ replicate most (Run, o)) × ((o ≡ runs.Idle) ⊎ (o ≡ runs.Halted)))
 
 -- The machine was sent so many Runs, `most` at most

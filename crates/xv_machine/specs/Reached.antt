@@ -10,7 +10,7 @@ use Rattle.kcall_core.specs.Run.{World, Event, Run, Outcome, Step_of, StateAfter
 use Rattle.kcall_core.specs.Wakes.{Promised, IsPromised, IsRunnable, HasNoTurn, turns_taken}
 use Rattle.kcall_core.specs.Worlds.{IsStepOf, Moment, IsCut, AllBoth, IsFromBoot, shared, steps_of}
 use Rattle.kcall_core.specs.Sources.{Holds, Stands, WasPut}
-use Rattle.xv_machine.specs.Boots.{Boots}
+use Rattle.xv_machine.specs.Boots.{Boots, HasEmptyTrace}
 use Rattle.xv_machine.specs.Drives.{Goes}
 use Rattle.xv_machine.specs.Meaning.{Meaning}
 use Rattle.xv_machine.specs.Notes.{note}
@@ -32,7 +32,7 @@ AreEvents old (e ∷ es) new = (mid : Meaning) × IsEvent old e.0 e.1 mid × Are
 -- The machine m was booted with so many frames, a trace of so many notes and these programs, and has then gone by these events
 abbrev pub IsReached : (frames trace : ℕ) → List ProgramFile → List (Event × Outcome) → Meaning → Type 0
 IsReached frames trace programs list m =
-    (booted : Meaning) × (first frames trace programs ≡ Ok booted.world) × (booted.frames.count ≡ frames) × IsSoundMachine booted × Goes booted list m
+    (booted : Meaning) × (first frames trace programs ≡ Ok booted.world) × (booted.frames.count ≡ frames) × IsSoundMachine booted × HasEmptyTrace trace booted × Goes booted list m
 
 -- ---- runs
 
@@ -42,7 +42,7 @@ EventsGo = (old new : Meaning) (list : List (Event × Outcome)) → IsSoundMachi
 
 -- What a boot made is reached without an event
 abbrev pub BootReaches : Type 0
-BootReaches = (frames trace : ℕ) (programs : List ProgramFile) (m : Meaning) → Boots frames (Ok m) (first frames trace programs) → IsSoundMachine m → IsReached frames trace programs [] m
+BootReaches = (frames trace : ℕ) (programs : List ProgramFile) (m : Meaning) → Boots frames (Ok m) (first frames trace programs) → IsSoundMachine m → HasEmptyTrace trace m → IsReached frames trace programs [] m
 
 -- and what a reached machine goes to is reached by all of the events
 abbrev pub ReachesOn : Type 0
@@ -69,14 +69,14 @@ StepsAreOwn =
 abbrev pub HasMoments : ℕ → Meaning → List (Event × Outcome) → Meaning → List Moment → Type 0
 HasMoments p m list n moments = IsCut p m.world list n.world moments × (map (λ x. x.outcome) moments ≡ steps_of p list)
 
--- Two machines, whatever else they hold, in which a process sees the same, go on by any events: where it sees the same of what is shared as each of its steps begins, its steps have the same outcomes, and it sees the same before and after each
+-- Two machines, whatever else they hold, in which a process sees the same, go on by any events. Each of the two runs has the process's moments; and where in both it sees the same of what is shared as each of its steps begins, its steps have the same outcomes, and it sees the same before and after each
 abbrev pub TwoMachines : Type 0
 TwoMachines =
     (frames trace frames_too trace_too : ℕ) (programs programs_too : List ProgramFile) (list list_too es fs : List (Event × Outcome)) (a b c d : Meaning) (p : ℕ)
     → IsReached frames trace programs list a → IsReached frames_too trace_too programs_too list_too b → Goes a es c → Goes b fs d
     → IsSome (view a.world.state p) → view a.world.state p ≡ view b.world.state p
-    → (ms : List Moment) × (ns : List Moment) × HasMoments p a es c ms × HasMoments p b fs d ns
-    × (AllBoth (λ m n. shared m.before ≡ shared n.before) ms ns → AllBoth (λ m n. m ≡ n) ms ns)
+    → ((ms : List Moment) × HasMoments p a es c ms) × ((ns : List Moment) × HasMoments p b fs d ns)
+    × ((ms ns : List Moment) → HasMoments p a es c ms → HasMoments p b fs d ns → AllBoth (λ m n. shared m.before ≡ shared n.before) ms ns → AllBoth (λ m n. m ≡ n) ms ns)
 
 -- ---- no byte that another process left
 

@@ -49,7 +49,7 @@ abbrev pub runs_made : (p made : ℕ) (end : Option Outcome) → List (runs.Even
 runs_made p made None = replicate made (done_by p)
 runs_made p made (Some o) = replicate made (done_by p) ++ (runs.Run, outcome_of o) ∷ []
 
--- all were sent, or the last one is no done instruction
+-- all were sent, or the last one is a step, and no done instruction
 abbrev pub IsEnd : (most made : ℕ) (end : Option Outcome) → Type 0
 IsEnd most made None = made ≡ most
-IsEnd most made (Some o) = (made < most) × ((p : ℕ) → outcome_of o ≢ Step_of p Stepped)
+IsEnd most made (Some o) = (made < most) × ((p : ℕ) → outcome_of o ≢ Step_of p Stepped) × (outcome_of o ≢ runs.Idle) × (outcome_of o ≢ runs.Halted)

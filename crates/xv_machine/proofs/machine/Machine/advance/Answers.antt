@@ -7,7 +7,7 @@ use Rattle.xv_machine.specs.declared.event.Outcome.{Outcome}
 use Rattle.xv_machine.specs.Sound.{IsHalted}
 use Rattle.xv_machine.specs.Steps.{Advanced, runs_made}
 use Rattle.xv_machine.proofs.Runs.{current-pid, count-is, now-frames}
-use Rattle.xv_machine.proofs.Advances.{now-running, now-ran, is-on, none-run, none-frames, some-whole, some-halted, some-frames, some-run}
+use Rattle.xv_machine.proofs.Advances.{now-running, now-ran, is-on, none-run, none-frames, some-end, some-whole, some-halted, some-frames, some-run}
 use Rattle.xv_machine.proofs.machine.Machine.advance.Goals as goal
 
 pub advance-made-requires-clause-running : goal.advance-made-requires-clause-running
@@ -80,3 +80,14 @@ returns-clause-frames c =
     let current = now-running i.kernel i.hart i.halted i.trace c.args.self.now c.args.pid c.self.view_is c.requires.current in
     let a : Advanced i.kernel i.hart c.args.most made (Some o) k h = subst (λ (e : Option Outcome). Advanced i.kernel i.hart c.args.most made e k h) c.in-Some.is c.advance-made.ensures in
     count-is k ∙ some-frames i.kernel i.hart i.halted c.args.pid current c.self.invariant.halted c.args.most made k h o a ∙ now-frames i.kernel i.hart i.halted i.trace c.args.self.now c.self.view_is
+
+pub returns-clause-end : goal.returns-clause-end
+returns-clause-end c =
+    let i = c.self.inside in
+    let made = c.advance-made.result.made in
+    let k = c.advance-made.new.kernel in
+    let h = c.advance-made.new.hart in
+    let o = c.in-Some.last in
+    let current = now-running i.kernel i.hart i.halted i.trace c.args.self.now c.args.pid c.self.view_is c.requires.current in
+    let a : Advanced i.kernel i.hart c.args.most made (Some o) k h = subst (λ (e : Option Outcome). Advanced i.kernel i.hart c.args.most made e k h) c.in-Some.is c.advance-made.ensures in
+    some-end i.kernel i.hart i.halted c.args.pid current c.self.invariant.halted c.args.most made k h o a
