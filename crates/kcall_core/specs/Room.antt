@@ -1,4 +1,4 @@
--- There is room to count: so many processes as there are slots, with all their descriptors, have no more descriptors than there may be open files, so what counts descriptors can go on counting.
+-- There is room to count. All processes together have at most OPEN_FILES descriptors, and each count may go higher.
 use Rattle.std.specs.Prelude.{◌≡◌, ◌≢◌, ℕ, ◌+◌, ◌<◌, Some, None}
 use Rattle.std.specs.FinMap.{get}
 use Rattle.xk_base.specs.declared.limits.TheConstants.{NPROC, NOFILE, OPEN_FILES}

@@ -9,9 +9,9 @@ use std::io::{self, Write};
 const WIDTH: u64 = 1_200;
 /// Where the bars begin, in pixels.
 const LEFT: u64 = 90;
-/// Where the first row begins, and how high a row is, in pixels.
+/// Where the first row begins, in pixels.
 const TOP: u64 = 44;
-
+/// How high a row is, in pixels.
 const ROW: u64 = 20;
 /// How high a bar is, in pixels.
 const BAR: u64 = 12;
