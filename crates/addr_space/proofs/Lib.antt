@@ -19,3 +19,4 @@ pub mod Copies
 pub mod PlainPrice
 pub mod InPlace
 pub mod Parts
+pub mod FromFrames

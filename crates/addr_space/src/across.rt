@@ -4,6 +4,10 @@
 ghost use Rattle.std.specs.Prelude.{◌≡◌, ℕ, ◌+◌, ◌*◌, ◌/◌, ◌%◌, ◌-◌, ◌≤◌, ◌<◌, ◌^◌, length, Some, None, IfSome, IfNone};
 ghost use Rattle.std.specs.FinMap.{get};
 ghost use Rattle.xk_base.specs.Image.{Page};
+ghost use Rattle.xk_base.specs.Frames.{copies};
+ghost use Rattle.phys_ram.specs.Ram.{frame_at};
+ghost use Rattle.sv39_core.specs.Sv39.{page_entry};
+ghost use Rattle.sv39_core.specs.Tree.{frame_of};
 ghost use Rattle.xk_base.specs.Bytes.{HasPage, IsMapped, image_bytes, write_image};
 ghost use Rattle.frame_list.specs.declared.Pool.{Pool};
 ghost use Rattle.addr_space.specs.Space.{image_of, frames_of, Belongs, Changed, IsSpace, SparesOthers};
@@ -12,7 +16,7 @@ ghost use Rattle.addr_space.specs.InPlace.{WrittenInPlace};
 use crate::{Space, entry_of_page};
 use phys_ram::Ram;
 use sv39_core::Entry;
-use xk_base::Vpn;
+use xk_base::{Frame, Vpn};
 
 impl Space {
     /// The bytes of a page; none where it isn't there.
@@ -25,6 +29,20 @@ impl Space {
             return None;
         };
         Some(ram.frame(frame))
+    }
+
+    /// The frame of a page, which is one of the space's own; none where the page isn't there.
+    pub fn page_frame(&self, ram: &Ram, vpn: Vpn) -> Option<Frame>
+        requires { IsSpace ram.now self.now }
+        ensures frame { result ≡ frame_of (page_entry ram.now self.now.root vpn) }
+        ensures owned { IfSome result (λ f. (f < length ram.now) × (1 ≤ copies f (frames_of ram.now self.now))) }
+        ensures there { IfSome result (λ f. (page : Page) × (get (image_of ram.now self.now).pages vpn ≡ Some page) × (page.bytes ≡ frame_at ram.now f)) }
+        ensures none { IfNone result (get (image_of ram.now self.now).pages vpn ≡ None) }
+    {
+        let Entry::Leaf(frame, ..) = entry_of_page(ram, self.root, vpn.number() as usize) else {
+            return None;
+        };
+        Some(frame)
     }
 
     /// Reads bytes of a page from place `at` on, as many as `out` holds, within the page: zeros where the

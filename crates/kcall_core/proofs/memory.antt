@@ -8,6 +8,7 @@ pub mod Lists
 pub mod Peeks
 pub mod PipeEdges
 pub mod PipeFrames
+pub mod PipeMoves
 pub mod PipeRest
 pub mod Registers
 pub mod Replaced

@@ -1,5 +1,5 @@
 -- RAM is a list of frames, and each frame a list of 4,096 bytes.
-use Rattle.std.specs.Prelude.{◌≡◌, ◌≢◌, ℕ, ◌+◌, ◌*◌, ◌≤◌, ◌<◌, ◌⊎◌, List, [], length, drop, take, get_or, slice_index, replicate}
+use Rattle.std.specs.Prelude.{◌≡◌, ◌≢◌, ℕ, ◌+◌, ◌*◌, ◌≤◌, ◌<◌, ◌⊎◌, List, [], ◌++◌, length, drop, take, get_or, slice_index, replicate}
 use Rattle.xk_base.specs.declared.errors.BootError.{BootError}
 use Rattle.xk_base.specs.declared.errors.BootError.TheVariants.{BadConfig, Memory, BadPrograms, NoInit, Init}
 use Rattle.xk_base.specs.declared.limits.TheConstants.{FRAMES_MIN, FRAMES_MAX, PAGE_BYTES}
@@ -16,6 +16,10 @@ word_at ram f i = le (take 8 (drop (8 * i) (frame_at ram f)))
 -- a frame of zeros
 unfoldable pub zero_frame : List ℕ
 zero_frame = replicate PAGE_BYTES 0
+
+-- a frame with these bytes from byte `at` on, and its own before and behind them
+abbrev pub with_bytes : ℕ → List ℕ → List ℕ → List ℕ
+with_bytes at bytes frame = take at frame ++ (bytes ++ drop (at + length bytes) frame)
 
 -- RAM may have n frames
 abbrev pub IsFrameCount : ℕ → Type 0

@@ -5,8 +5,8 @@
 //! physical page at [`RAM_BASE`](xk_base::limits::RAM_BASE)` + 4096 * f`.
 #![tactic(auto)]
 
-ghost use Rattle.std.specs.Prelude.{◌≡◌, ◌<◌, length, set, replicate, IfOk, IfErr};
-ghost use Rattle.phys_ram.specs.Ram.{frame_at, word_at, zero_frame, IsFrameCount, IsRefused, WordWritten};
+ghost use Rattle.std.specs.Prelude.{◌≡◌, ◌≢◌, ◌+◌, ◌<◌, ◌≤◌, length, set, take, drop, replicate, IfOk, IfErr};
+ghost use Rattle.phys_ram.specs.Ram.{frame_at, word_at, with_bytes, zero_frame, IsFrameCount, IsRefused, WordWritten};
 
 #[cfg(test)]
 mod tests;
@@ -32,6 +32,16 @@ impl Model for Ram {
     ghost view = { λ r. r.frames.items };
 
     ghost invariant = { λ r. IsFrameCount (length r.frames.items) };
+}
+
+/// Copies `n` bytes of one frame, from byte `start` on, over those of another, from byte `at` on.
+fn copy_bytes(from: &[u8; 4096], start: usize, to: &mut [u8; 4096], at: usize, n: usize)
+    requires start_in { start + n ≤ 4096 }
+    requires at_in { at + n ≤ 4096 }
+    ensures whole { (length from.now ≡ 4096) × (length to.old ≡ 4096) }
+    ensures copied { to.new ≡ with_bytes at (take n (drop start from.now)) to.old }
+{
+    to[at..at + n].copy_from_slice(&from[start..start + n]);
 }
 
 impl Ram {
@@ -106,6 +116,38 @@ impl Ram {
     {
         let from = from.index();
         self.frames.copy_within(from..from + 1, to.index());
+    }
+
+    /// Copies `n` bytes of the frame `from`, from byte `start` on, over those of another frame `to`, from
+    /// byte `at` on. All other bytes stay.
+    pub fn copy_part(&mut self, from: Frame, start: usize, to: Frame, at: usize, n: usize)
+        requires from_in { from < length self.old }
+        requires to_in { to < length self.old }
+        requires apart { from ≢ to }
+        requires start_in { start + n ≤ 4096 }
+        requires at_in { at + n ≤ 4096 }
+        ensures whole { (length (frame_at self.old from) ≡ 4096) × (length (frame_at self.old to) ≡ 4096) }
+        ensures copied { self.new ≡ set self.old to (with_bytes at (take n (drop start (frame_at self.old from))) (frame_at self.old to)) }
+    {
+        let source = from.index();
+        let target = to.index();
+        if source < target {
+            let (low, high) = self.frames.split_at_mut(target);
+            copy_bytes(&low[source], start, &mut high[0], at, n);
+        } else {
+            let (low, high) = self.frames.split_at_mut(source);
+            copy_bytes(&high[0], start, &mut low[target], at, n);
+        }
+    }
+
+    /// Makes `n` bytes of a frame 0, from byte `at` on. All other bytes stay.
+    pub fn clear_part(&mut self, f: Frame, at: usize, n: usize)
+        requires frame_in { f < length self.old }
+        requires at_in { at + n ≤ 4096 }
+        ensures whole { length (frame_at self.old f) ≡ 4096 }
+        ensures cleared { self.new ≡ set self.old f (with_bytes at (replicate n 0) (frame_at self.old f)) }
+    {
+        self.frame_mut(f)[at..at + n].fill(0);
     }
 
     /// Makes all bytes of a frame 0. All other frames stay.

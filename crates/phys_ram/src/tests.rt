@@ -45,6 +45,20 @@ fn a_frame_is_written_copied_and_cleared(rt: HostRuntime) -> Result<(), Fail> {
 }
 
 #[test]
+fn a_part_goes_up_and_down_and_is_cleared(rt: HostRuntime) -> Result<(), Fail> {
+    let mut ram = Ram::new(rt.alloc(), 16)?;
+    let (low, high) = (Frame::new(3), Frame::new(9));
+    ram.write_u64(low, 0, 0x0807_0605_0403_0201);
+    ram.copy_part(low, 2, high, 4092, 4);
+    assert_eq!(rt; &ram.frame(high)[4090..], [0, 0, 3, 4, 5, 6].as_slice());
+    ram.copy_part(high, 4093, low, 0, 3);
+    assert_eq!(rt; ram.read_u64(low, 0), 0x0807_0605_0406_0504);
+    ram.clear_part(low, 1, 2);
+    assert_eq!(rt; ram.read_u64(low, 0), 0x0807_0605_0400_0004);
+    Ok(())
+}
+
+#[test]
 fn a_growth_that_the_host_refuses_is_want_of_memory(rt: HostRuntime) {
     match Ram::new(rt.alloc(), 16) {
         Ok(ram) => assert_eq!(rt; ram.frames(), 16),

@@ -1,8 +1,8 @@
 -- What writes to a frame make of its pipe.
 use Rattle.std.proofs.Common.{◌≡◌, ◌≢◌, ℕ, ◌+◌, ◌-◌, ◌*◌, ◌%◌, ◌<◌, ◌≤◌, List, [], ◌++◌, length, set, take, drop, get_or, min, refl, sym, ap, ◌∙◌, arith}
-use Rattle.std.proofs.lemmas.List.{get_or-drop, get_or-set_same, length-take-le, take_all}
+use Rattle.std.proofs.lemmas.List.{append-nil, append_assoc, get_or-drop, get_or-set_same, length-take-le, take_all}
 use Rattle.xk_base.specs.declared.limits.TheConstants.{PIPE_BYTES}
-use Rattle.phys_ram.proofs.Words.{little_from-same, others_stay-set, word_at-number}
+use Rattle.phys_ram.proofs.Words.{little_from-same, others_stay-set, word_at-number, word_at-same}
 use Rattle.phys_ram.specs.Ram.{frame_at, word_at, OthersStay, WordWritten}
 use Rattle.pipe_core.specs.declared.TheConstants.{END_COUNT_MAX}
 use Rattle.pipe_core.specs.Pipe.{IsPipe, pipe_in, new_pipe, Becomes, IsPlaced, values_below, ring_byte, with_readers, with_writers, with_more, without_first}
@@ -36,6 +36,40 @@ pipe_stays old new f g stay ne p =
     let frame = stay.others g ne in (
       record {
         inside = omega (arith, p.inside, stay.count);
+        reading = omega (arith, p.reading, none);
+        writing = omega (arith, p.writing, one);
+        oldest = omega (arith, p.oldest, two);
+        count = omega (arith, p.count, three);
+      },
+      rw (none, one, two, three, frame) refl,
+    )
+
+-- no bytes are added
+pub becomes-none : (ram : List (List ℕ)) (f : ℕ) → IsPipe ram f → Becomes ram ram f (with_more [] (pipe_in ram f))
+becomes-none ram f p = record {
+  good = p;
+  is = ap (λ xs. record (pipe_in ram f) { bytes = xs }) (sym (append-nil (pipe_in ram f).bytes));
+  stay = record { count = refl; others = λ g ne. refl; words = λ g i ne. refl };
+}
+
+-- bytes are added behind bytes
+pub becomes-more : (a b c : List (List ℕ)) (f : ℕ) (xs ys : List ℕ) → Becomes a b f (with_more xs (pipe_in a f)) → Becomes b c f (with_more ys (pipe_in b f)) → Becomes a c f (with_more (xs ++ ys) (pipe_in a f))
+becomes-more a b c f xs ys one two = record {
+  good = two.good;
+  is = two.is ∙ ap (with_more ys) one.is ∙ ap (λ zs. record (pipe_in a f) { bytes = zs }) (append_assoc (pipe_in a f).bytes xs ys);
+  stay = stay_on a b c f one.stay two.stay;
+}
+
+-- a pipe whose frame keeps its bytes
+pub pipe_kept : (old new : List (List ℕ)) (g : ℕ) → length new ≡ length old → frame_at new g ≡ frame_at old g → IsPipe old g → IsPipe new g × (pipe_in new g ≡ pipe_in old g)
+unfolding pipe_in
+pipe_kept old new g count frame p =
+    let none = word_at-same old new g 0 frame in
+    let one = word_at-same old new g 1 frame in
+    let two = word_at-same old new g 2 frame in
+    let three = word_at-same old new g 3 frame in (
+      record {
+        inside = omega (arith, p.inside, count);
         reading = omega (arith, p.reading, none);
         writing = omega (arith, p.writing, one);
         oldest = omega (arith, p.oldest, two);
@@ -119,7 +153,7 @@ word_same a b f i lt h =
     ∙ sym (word_at-number b f i)
 
 -- bytes are placed behind those that are there
-pushes : (old mid new : List (List ℕ)) (f : ℕ) (frame bytes : List ℕ) → IsPipe old f → mid ≡ set old f frame → length bytes + word_at old f 3 ≤ PIPE_BYTES
+pub pushes : (old mid new : List (List ℕ)) (f : ℕ) (frame bytes : List ℕ) → IsPipe old f → mid ≡ set old f frame → length bytes + word_at old f 3 ≤ PIPE_BYTES
     → IsPlaced (frame_at old f) frame ((word_at old f 2 + word_at old f 3) % PIPE_BYTES) bytes → WordWritten mid new f 3 (word_at old f 3 + length bytes)
     → Becomes old new f (with_more bytes (pipe_in old f))
 unfolding pipe_in

@@ -1,3 +1,4 @@
+pub mod Between
 pub mod Changes
 pub mod Pieces
 pub mod Values

@@ -1,3 +1,4 @@
 pub mod Ranges
 pub mod Texts
 pub mod WorkedReach
+pub mod PipeParts

@@ -25,12 +25,14 @@ use xk_base::limits::{PAGE_BYTES, VPN_END};
 use xk_base::{Access, BadAddress, Perm, Vpn};
 
 mod lazily;
+mod pipes;
 #[cfg(test)]
 mod tests;
 
 pub use lazily::{
     check_range_lazily, copy_in_lazily, fetch_text_lazily, fetch_u64_lazily, law_of_present_pages,
 };
+pub use pipes::{copy_from_pipe, push_to_pipe};
 
 /// The first address behind the last page that a process may have.
 const ADDRESS_END: u64 = VPN_END as u64 * PAGE_BYTES;

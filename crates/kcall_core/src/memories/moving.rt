@@ -1,5 +1,5 @@
 //! Bytes between pipes and processes.
-ghost use Rattle.std.specs.Prelude.{◌≡◌, ◌-◌, ◌≤◌, IsSome, Some, take, length, min, true};
+ghost use Rattle.std.specs.Prelude.{◌≡◌, ◌+◌, ◌-◌, ◌≤◌, IsSome, Some, take, length, true};
 ghost use Rattle.std.specs.FinMap.{get};
 ghost use Rattle.xk_base.specs.declared.limits.TheConstants.{PIPE_BYTES};
 ghost use Rattle.xk_base.specs.Bytes.{image_bytes, write_image};
@@ -52,15 +52,15 @@ impl Memories {
         (len == 0) & !(writers == 0)
     }
 
-    /// How many bytes fit into a pipe.
-    fn room(&self, frame: Frame) -> usize
+    /// How many bytes are in a pipe.
+    fn count(&self, frame: Frame) -> usize
         requires sound { AreSound self.now }
         requires pipe { IsSome (get (pipes_of self.now) frame) }
-        ensures value { result ≡ PIPE_BYTES - length (pipe_named (pipes_of self.now) frame).bytes }
+        ensures value { result ≡ length (pipe_named (pipes_of self.now) frame).bytes }
         ensures range { result ≤ PIPE_BYTES }
     {
         let _ = frame.number();
-        PIPE_BYTES - pipe_core::len(&self.ram, frame)
+        pipe_core::len(&self.ram, frame)
     }
 
     /// Copies bytes from the memory of a slot, where user code may read them, to the front of a buffer.
@@ -75,15 +75,21 @@ impl Memories {
         self.read_tested(slot, address, &mut bytes[..count]);
     }
 
-    /// Appends the first bytes of a buffer to a pipe, as many as fit, and tells how many they are.
-    fn push_front(&mut self, frame: Frame, bytes: &[u8], count: usize) -> usize
+    /// Appends bytes from the memory of a slot, where user code may read them, to a pipe that has room for
+    /// them. They go from frame to frame.
+    fn push_tested(&mut self, frame: Frame, slot: usize, address: u64, count: usize)
         requires sound { AreSound self.old }
         requires pipe { IsSome (get (pipes_of self.old) frame) }
-        requires fits { count ≤ length bytes.now }
-        ensures count { result ≡ min count (PIPE_BYTES - length (pipe_named (pipes_of self.old) frame).bytes) }
-        ensures pipe { PipeChanges self.old self.new frame (Some (with_more (take result (take count bytes.now)) (pipe_named (pipes_of self.old) frame))) }
+        requires there { HasMemory (each_of self.old) slot }
+        requires room { length (pipe_named (pipes_of self.old) frame).bytes + count ≤ PIPE_BYTES }
+        requires readable { readable (held_at (each_of self.old) slot).image address count ≡ true }
+        ensures { PipeChanges self.old self.new frame (Some (with_more (image_bytes (held_at (each_of self.old) slot).image address count) (pipe_named (pipes_of self.old) frame))) }
     {
-        self.push(frame, &bytes[..count])
+        let _ = frame.number();
+        let Some(memory) = &self.each[slot] else {
+            unreachable!();
+        };
+        user_copy::push_to_pipe(&memory.space, &mut self.ram, frame, address, count);
     }
 
     /// Appends bytes from the memory of a slot to a pipe, as many of n as fit, and tells how many they are.
@@ -96,24 +102,9 @@ impl Memories {
         ensures range { result ≤ PIPE_BYTES }
         ensures moved { PipeChanges self.old self.new frame (Some (with_more (image_bytes (held_at (each_of self.old) slot).image address result) (pipe_named (pipes_of self.old) frame))) }
     {
-        let mut buffer = [0; PIPE_BYTES];
-        let count = n.min(self.room(frame));
-        self.fetch_front(slot, address, &mut buffer, count);
-        self.push_front(frame, &buffer, count)
-    }
-
-    /// Takes out as many of the oldest bytes of a pipe as there are, but at most n, puts them at the front of
-    /// a buffer, and tells how many they are.
-    fn pull_front(&mut self, frame: Frame, bytes: &mut [u8], n: usize) -> usize
-        requires sound { AreSound self.old }
-        requires pipe { IsSome (get (pipes_of self.old) frame) }
-        requires fits { n ≤ length bytes.old }
-        ensures count { result ≡ min n (length (pipe_named (pipes_of self.old) frame).bytes) }
-        ensures bytes { take result bytes.new ≡ take result (pipe_named (pipes_of self.old) frame).bytes }
-        ensures length { length bytes.new ≡ length bytes.old }
-        ensures pipe { PipeChanges self.old self.new frame (Some (without_first result (pipe_named (pipes_of self.old) frame))) }
-    {
-        self.pull(frame, &mut bytes[..n])
+        let count = n.min(PIPE_BYTES - self.count(frame));
+        self.push_tested(frame, slot, address, count);
+        count
     }
 
     /// Copies the first bytes of a buffer to the memory of a slot, where user code may write them.
@@ -129,6 +120,36 @@ impl Memories {
         self.write_tested(slot, address, &bytes[..count]);
     }
 
+    /// Copies the oldest bytes of a pipe, which are there, to the memory of a slot, where user code may write
+    /// them. They go from frame to frame, and the pipe stays.
+    fn copy_oldest(&mut self, frame: Frame, slot: usize, address: u64, count: usize)
+        requires sound { AreSound self.old }
+        requires pipe { IsSome (get (pipes_of self.old) frame) }
+        requires there { HasMemory (each_of self.old) slot }
+        requires bytes { count ≤ length (pipe_named (pipes_of self.old) frame).bytes }
+        requires writable { writable (held_at (each_of self.old) slot).image address count ≡ true }
+        ensures written { let held = held_at (each_of self.old) slot in SlotChanges self.old self.new slot (Some (with_image (write_image held.image address (take count (pipe_named (pipes_of self.old) frame).bytes)) held)) }
+        ensures free { free_of self.new ≡ free_of self.old }
+        ensures runs { (hart : Hart) → RunsIn self.old slot hart → RunsIn self.new slot hart }
+    {
+        let _ = frame.number();
+        let Some(memory) = &self.each[slot] else {
+            unreachable!();
+        };
+        user_copy::copy_from_pipe(&memory.space, &mut self.ram, frame, address, count);
+    }
+
+    /// Takes the oldest bytes out of a pipe, which are there.
+    fn drop_oldest(&mut self, frame: Frame, count: usize)
+        requires sound { AreSound self.old }
+        requires pipe { IsSome (get (pipes_of self.old) frame) }
+        requires bytes { count ≤ length (pipe_named (pipes_of self.old) frame).bytes }
+        ensures { PipeChanges self.old self.new frame (Some (without_first count (pipe_named (pipes_of self.old) frame))) }
+    {
+        let _ = frame.number();
+        pipe_core::drop_first(&mut self.ram, frame, count);
+    }
+
     /// Takes the oldest bytes out of a pipe, as many as there are but at most n, puts them into the memory of
     /// a slot, and tells how many they are.
     pub fn pull_to(&mut self, frame: Frame, slot: usize, address: u64, n: usize) -> usize
@@ -140,10 +161,9 @@ impl Memories {
         ensures range { result ≤ PIPE_BYTES }
         ensures moved { let pipe = pipe_named (pipes_of self.old) frame in let image = (held_at (each_of self.old) slot).image in Moves self.old self.new slot (write_image image address (take result pipe.bytes)) frame (without_first result pipe) }
     {
-        let _ = frame.number();
-        let mut buffer = [0; PIPE_BYTES];
-        let count = self.pull_front(frame, &mut buffer, n.min(PIPE_BYTES));
-        self.put_front(slot, address, &buffer, count);
+        let count = n.min(self.count(frame));
+        self.copy_oldest(frame, slot, address, count);
+        self.drop_oldest(frame, count);
         count
     }
 }

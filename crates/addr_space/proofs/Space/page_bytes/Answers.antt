@@ -1,12 +1,10 @@
-use Rattle.std.proofs.Common.{◌≡◌, Bool, List, ℕ, None, refl, sym, ap, ◌∙◌, arith}
+use Rattle.std.proofs.Common.{sym, ap, ◌∙◌, arith}
 use Rattle.phys_ram.specs.Ram.{frame_at}
-use Rattle.xk_base.specs.declared.access.Rights.{Rights}
-use Rattle.sv39_core.specs.declared.entry.Entry.{Entry}
-use Rattle.sv39_core.specs.declared.entry.Entry.TheVariants.{Invalid, Table, Leaf}
 use Rattle.sv39_core.specs.Tree.{frame_of, page_of, page_at}
 use Rattle.sv39_core.proofs.Places.{root-inside, page-owned}
 use Rattle.addr_space.proofs.Pages.{page-is}
 use Rattle.addr_space.proofs.Prices.{page-got}
+use Rattle.addr_space.proofs.FromFrames.{no-page}
 use Rattle.addr_space.proofs.Space.page_bytes.Goals as goal
 
 pub entry_of_page-requires-clause-root_in : goal.entry_of_page-requires-clause-root_in
@@ -22,14 +20,8 @@ returns-clause-there c =
     let page = page-is ram c.args.self.now c.number.result c.in-Leaf.frame c.in-Leaf.field-1 c.in-Leaf.field-2 c.in-Leaf.field-3 c.requires (sym c.in-Leaf.ensures) in
     (record { perm = c.in-Leaf.field-1; bytes = frame_at ram c.in-Leaf.frame }, page-got ram root c.args.vpn (omega (arith, c.number.ensures.range)) ∙ ap (page_at ram root) (sym c.number.ensures.value) ∙ page, c.frame.ensures)
 
--- an entry that is no leaf gives no page
-leafless : (ram : List (List ℕ)) (e : Entry) → ((f : ℕ) (r : Rights) (a d : Bool) → e ≡ Leaf f r a d → ⊥) → page_of ram e ≡ None
-leafless ram Invalid none = refl
-leafless ram (Table f) none = refl
-leafless ram (Leaf f r a d) none = absurd (none f r a d refl)
-
 pub returns-in_default-clause-none : goal.returns-in_default-clause-none
 returns-in_default-clause-none c =
     let ram = c.args.ram.now in
     let root = c.args.self.now.root in
-    page-got ram root c.args.vpn (omega (arith, c.number.ensures.range)) ∙ ap (page_at ram root) (sym c.number.ensures.value) ∙ sym (ap (page_of ram) c.entry_of_page.ensures) ∙ leafless ram c.entry_of_page.result c.in_default.not-Leaf
+    page-got ram root c.args.vpn (omega (arith, c.number.ensures.range)) ∙ ap (page_at ram root) (sym c.number.ensures.value) ∙ sym (ap (page_of ram) c.entry_of_page.ensures) ∙ no-page ram c.entry_of_page.result c.in_default.not-Leaf

@@ -1,0 +1,38 @@
+use Rattle.std.proofs.Common.{refl, sym, ap, ◌∙◌, arith}
+use Rattle.phys_ram.specs.Ram.{frame_at}
+use Rattle.sv39_core.specs.Tree.{frame_of, page_of, page_at}
+use Rattle.sv39_core.specs.Sv39.{page_entry}
+use Rattle.sv39_core.proofs.Places.{root-inside, page-owned}
+use Rattle.addr_space.proofs.Pages.{page-is}
+use Rattle.addr_space.proofs.Prices.{page-got}
+use Rattle.addr_space.proofs.FromFrames.{no-page, no-frame}
+use Rattle.addr_space.proofs.Space.page_frame.Goals as goal
+
+pub entry_of_page-requires-clause-root_in : goal.entry_of_page-requires-clause-root_in
+entry_of_page-requires-clause-root_in c = root-inside c.args.ram.now c.args.self.now.root c.requires.tree
+
+pub returns-clause-frame : goal.returns-clause-frame
+returns-clause-frame c = ap frame_of c.in-Leaf.ensures ∙ ap (λ v. frame_of (page_entry c.args.ram.now c.args.self.now.root v)) c.number.ensures.value
+
+pub returns-clause-owned : goal.returns-clause-owned
+returns-clause-owned c =
+    let own = page-owned c.args.ram.now c.args.self.now.root c.number.result c.in-Leaf.frame c.requires.tree (ap frame_of (sym c.in-Leaf.ensures)) in
+    (c.requires.tree.once.inside c.in-Leaf.frame own, own)
+
+pub returns-clause-there : goal.returns-clause-there
+returns-clause-there c =
+    let ram = c.args.ram.now in
+    let root = c.args.self.now.root in
+    let page = page-is ram c.args.self.now c.number.result c.in-Leaf.frame c.in-Leaf.field-1 c.in-Leaf.field-2 c.in-Leaf.field-3 c.requires (sym c.in-Leaf.ensures) in
+    (record { perm = c.in-Leaf.field-1; bytes = frame_at ram c.in-Leaf.frame }, page-got ram root c.args.vpn (omega (arith, c.number.ensures.range)) ∙ ap (page_at ram root) (sym c.number.ensures.value) ∙ page, refl)
+
+pub returns-in_default-clause-frame : goal.returns-in_default-clause-frame
+returns-in_default-clause-frame c =
+    let entry = page_entry c.args.ram.now c.args.self.now.root in
+    sym (no-frame c.entry_of_page.result c.in_default.not-Leaf) ∙ ap frame_of c.entry_of_page.ensures ∙ ap (λ v. frame_of (entry v)) c.number.ensures.value
+
+pub returns-in_default-clause-none : goal.returns-in_default-clause-none
+returns-in_default-clause-none c =
+    let ram = c.args.ram.now in
+    let root = c.args.self.now.root in
+    page-got ram root c.args.vpn (omega (arith, c.number.ensures.range)) ∙ ap (page_at ram root) (sym c.number.ensures.value) ∙ sym (ap (page_of ram) c.entry_of_page.ensures) ∙ no-page ram c.entry_of_page.result c.in_default.not-Leaf

@@ -1,0 +1,39 @@
+-- Bytes that go from frame to frame, between the pages of a slot and a pipe.
+use Rattle.std.proofs.Common.{◌≡◌, ℕ, ◌<◌, List, Some, IsSome, sym, ap, subst, arith}
+use Rattle.std.specs.FinMap.{get}
+use Rattle.xk_base.specs.Frames.{copies}
+use Rattle.xk_base.proofs.Frames.{copies-cons}
+use Rattle.xk_base.specs.declared.limits.TheConstants.{FRAMES_MAX}
+use Rattle.xk_base.specs.Image.{Image}
+use Rattle.xk_base.specs.Bytes.{image_bytes}
+use Rattle.addr_space.specs.Space.{image_of, frames_of}
+use Rattle.pipe_core.specs.Pipe.{Pipe, Becomes, pipe_in, with_more}
+use Rattle.kcall_core.specs.Holdings.{held_at, pipe_named}
+use Rattle.kcall_core.specs.Memories.{AreSound, PipeChanges, each_of, pipes_of, slot_frames}
+use Rattle.kcall_core.specs.declared.memories.Memory.{Memory}
+use Rattle.kcall_core.specs.declared.memories.Memories.{Memories}
+use Rattle.kcall_core.proofs.memory.Changes.{Stands, image-seen}
+use Rattle.kcall_core.proofs.memory.Frames.{pipe-apart}
+use Rattle.kcall_core.proofs.memory.PipeFrames.{pipe-keeps, pipe-becomes}
+use Rattle.kcall_core.proofs.memory.PipeEdges.{named-in}
+
+bytes_of : Pipe → List ℕ
+bytes_of pipe = pipe.bytes
+
+module _ (old : Memories) {f : ℕ} (small : f < FRAMES_MAX) (sound : AreSound old) (pipe : IsSome (get (pipes_of old) f)) where
+  -- the frame of a pipe is none of a space's
+  pub pipe-no-page : {i : ℕ} {m : Memory} → Stands old i m → copies f (frames_of old.ram m.space) ≡ 0
+  pipe-no-page {i} {m} s =
+      omega (arith, pipe-apart sound f i (pipe-keeps old f small pipe), ap (λ o. copies f (slot_frames old.ram o)) s.is, copies-cons f m.trapframe (frames_of old.ram m.space))
+
+  -- the bytes in a frame are those of the pipe of its name
+  pub bytes-named : (pipe_in old.ram f).bytes ≡ (pipe_named (pipes_of old) f).bytes
+  unfolding bytes_of
+  bytes-named = ap bytes_of (named-in old small sound pipe)
+
+  -- bytes of a slot's pages went into the pipe
+  pub pages-pushed : {i : ℕ} {m : Memory} → Stands old i m → (new : Memories) (a n : ℕ) → Becomes old.ram new.ram f (with_more (image_bytes (image_of old.ram m.space) a n) (pipe_in old.ram f)) → new.pool ≡ old.pool → new.each.items ≡ old.each.items
+      → new.pipes.items ≡ old.pipes.items → PipeChanges old new f (Some (with_more (image_bytes (held_at (each_of old) i).image a n) (pipe_named (pipes_of old) f)))
+  pages-pushed {i} {m} s new a n made pool each pipes =
+      subst (λ (x : Image). PipeChanges old new f (Some (with_more (image_bytes x a n) (pipe_named (pipes_of old) f)))) (sym (image-seen s))
+      (pipe-becomes new (with_more (image_bytes (image_of old.ram m.space) a n)) small sound (pipe-keeps old f small pipe) made pool each pipes)
