@@ -1,6 +1,6 @@
 -- Bytes between a pipe and other frames.
 use Rattle.std.proofs.Common.{◌≡◌, ◌≢◌, ℕ, ◌+◌, ◌-◌, ◌%◌, ◌<◌, ◌≤◌, List, [], ◌++◌, length, set, take, drop, get_or, replicate, min, sym, ap, ◌∙◌, subst, arith}
-use Rattle.std.proofs.lemmas.List.{get_or-set_same, get_or-set_other, set-set, length-set, length-take-le, length-drop, length-append, drop-drop, drop-take, take-take, append_assoc, take_at, drop_at, take-replicate, drop-replicate, length-replicate}
+use Rattle.std.proofs.lemmas.List.{get_or-set_same, get_or-set_other, set-set, length-take-le, length-drop, length-append, drop-drop, drop-take, take-take, append_assoc, take_at, drop_at, take-replicate, drop-replicate, length-replicate}
 use borrow.Rule.Slice.PartMut.{put_mid}
 use Rattle.xk_base.specs.declared.limits.TheConstants.{PIPE_BYTES}
 use Rattle.phys_ram.specs.Ram.{frame_at, word_at, with_bytes, WordWritten}

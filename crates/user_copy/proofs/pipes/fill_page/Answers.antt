@@ -1,7 +1,7 @@
-use Rattle.std.proofs.Common.{◌≡◌, length, take, drop, sym, ap, arith}
+use Rattle.std.proofs.Common.{◌≡◌, length, take, drop, sym, arith}
 use Rattle.std.proofs.lemmas.List.{length-take-le, length-drop}
 use Rattle.addr_space.proofs.InPlace.{page-small}
-use Rattle.addr_space.proofs.FromFrames.{BytesWritten, frame-written}
+use Rattle.addr_space.proofs.FromFrames.{frame-written}
 use Rattle.pipe_core.specs.Pipe.{pipe_in}
 use Rattle.user_copy.proofs.pipes.fill_page.Goals as goal
 

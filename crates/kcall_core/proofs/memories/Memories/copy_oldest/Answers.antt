@@ -4,7 +4,6 @@ use Rattle.xk_base.specs.declared.limits.TheConstants.{SIZE_LIMIT}
 use Rattle.xk_base.specs.declared.access.Access.TheVariants.{Store}
 use Rattle.xk_base.specs.Bytes.{write_image}
 use Rattle.xk_base.proofs.Bytes.{size-write_image}
-use Rattle.pipe_core.specs.Pipe.{pipe_in}
 use Rattle.user_copy.proofs.Ranges.{reached-mapped}
 use Rattle.kcall_core.specs.Buffers.{writable}
 use Rattle.kcall_core.specs.Memories.{each_of, pipes_of, free_of}
