@@ -144,7 +144,8 @@ impl Space {
     }
 }
 
-/// The entry of a page.
+/// The entry of a page. It stands in each of its callers, which builds of it only what it needs.
+#[inline(always)]
 fn entry_of_page(ram: &Ram, root: Frame, v: usize) -> Entry
     requires root_in { root < length ram.now }
     requires page { v < 2 ^ 26 }
