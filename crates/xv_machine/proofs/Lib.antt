@@ -12,4 +12,5 @@ pub mod Shown
 pub mod Rounds
 pub mod Repeated
 pub mod Sent
+pub mod Idle
 pub mod Advances

@@ -24,16 +24,16 @@ Steps = List (Event × Outcome)
 
 -- ---- the same again and again
 
-notes-again : (n : ℕ) (e : Event) (o : Outcome) → notes_of (replicate n (e, o)) ≡ replicate n (note e o)
+pub notes-again : (n : ℕ) (e : Event) (o : Outcome) → notes_of (replicate n (e, o)) ≡ replicate n (note e o)
 notes-again zero e o = refl
 notes-again (suc n) e o = ap (λ ns. note e o ∷ ns) (notes-again n e o)
 
-events-again : (n : ℕ) (e : Event) (o : Outcome) → events (replicate n (e, o)) ≡ replicate n e
+pub events-again : (n : ℕ) (e : Event) (o : Outcome) → events (replicate n (e, o)) ≡ replicate n e
 events-again zero e o = refl
 events-again (suc n) e o = ap (λ es. e ∷ es) (events-again n e o)
 
 -- an event that leaves the world as it was may happen again
-again : (n : ℕ) (w : World) (e : Event) (o : Outcome) → Promised w e o w → IsPromised w (replicate n (e, o)) w
+pub again : (n : ℕ) (w : World) (e : Event) (o : Outcome) → Promised w e o w → IsPromised w (replicate n (e, o)) w
 again zero w e o promised = refl
 again (suc n) w e o promised = (w, promised, again n w e o promised)
 

@@ -1,7 +1,7 @@
 -- Stretches of a drive: events that were sent one after another. Only this crate's private functions speak of them.
-use Rattle.std.specs.Prelude.{◌≡◌, ◌≢◌, ℕ, Bool, true, false, List, [], ◌∷◌, ◌++◌, Option, None, Some, Result, MatchResult}
+use Rattle.std.specs.Prelude.{◌≡◌, ◌≢◌, ℕ, Bool, true, false, List, [], ◌∷◌, ◌++◌, replicate, Option, None, Some, Result, MatchResult}
 use Rattle.std.specs.Io.KnownBytes.{Appends}
-use Rattle.kcall_core.specs.Run.{Event, Outcome, bytes_out, out}
+use Rattle.kcall_core.specs.Run.{Event, Send, Outcome, Sent, bytes_out, out}
 use Rattle.kcall_core.specs.Rounds.{events}
 use Rattle.xv_machine.specs.Devices.{GivesKey}
 use Rattle.xv_machine.specs.Drives.{Goes}
@@ -33,6 +33,11 @@ pub record BrokeOff (wanted : List Event) (old new : Meaning) : Type 0 where
 -- these events were sent, or those up to one whose bytes could not be written
 abbrev pub Plays : {E : Type 0} → Result (Unit {0}) E → List Event → Meaning → Meaning → Option (List ℕ) → Option (List ℕ) → Type 0
 Plays result wanted old new held held_after = MatchResult result (λ _. Played wanted old new held held_after) (λ _. BrokeOff wanted old new)
+
+-- Sends, with what comes of them: one, where a byte leaves, and else so many, at none of which a byte waits
+abbrev pub sends : (most : ℕ) → (byte : Option ℕ) → List (Event × Outcome)
+sends most None = replicate most (Send, Sent None)
+sends most (Some b) = (Send, Sent (Some b)) ∷ []
 
 -- the key of a round: none, where the source was at its end before, and else what it gives
 abbrev pub TakesKey : (at_end : Bool) → (left : Option (List ℕ)) → (key : Option ℕ) → (left_after : Option (List ℕ)) → Type 0

@@ -114,17 +114,7 @@ fn sent_bytes(byte: &Option<u8>) -> &[u8]
     }
 }
 
-// Lets the terminal take a byte, and writes it. No outcome is made, which would have room for an echo.
-fn send_one<W: ByteSink>(machine: &mut Machine, sink: &mut W) -> Result<(), DeviceFault>
-    ensures plays { Plays result (runs.Send ∷ []) machine.old machine.new (W.held sink.old) (W.held sink.new) }
-    ensures ok { OnOk result (W.failures sink.new ≡ W.failures sink.old) }
-    ensures err { OnErr result (W.failures sink.new ≡ one_more (W.failures sink.old)) }
-{
-    let byte = machine.send();
-    write_some(sink, sent_bytes(&byte))
-}
-
-// Lets the terminal take as many bytes as may wait for it.
+// Lets the terminal take as many bytes as may wait for it, and writes each at once.
 fn send_all<W: ByteSink>(machine: &mut Machine, sink: &mut W) -> Result<(), DeviceFault>
     requires { IsSoundMachine machine.old }
     ensures plays { Plays result (replicate SEND_BYTES runs.Send) machine.old machine.new (W.held sink.old) (W.held sink.new) }
@@ -132,7 +122,11 @@ fn send_all<W: ByteSink>(machine: &mut Machine, sink: &mut W) -> Result<(), Devi
     ensures err { OnErr result (W.failures sink.new ≡ one_more (W.failures sink.old)) }
 {
     for sent in 0..SEND_BYTES {
-        send_one(machine, sink)?;
+        let byte = machine.send((SEND_BYTES - sent) as u32);
+        if byte.is_none() {
+            return Ok(());
+        }
+        write_some(sink, sent_bytes(&byte))?;
     }
     Ok(())
 }

@@ -150,13 +150,14 @@ impl Machine {
     ghost use Rattle.kcall_core.specs.Observers.{registers_of, byte_at, child_at, shown};
     ghost use Rattle.circular_buffer.specs.Buffer.{keep_last};
     ghost use Rattle.xv_machine.specs.Boots.{Boots, HasEmptyTrace};
-    ghost use Rattle.xv_machine.specs.Drives.{Ran};
+    ghost use Rattle.xv_machine.specs.Drives.{Goes, Ran};
     ghost use Rattle.xv_machine.specs.Events.{event_of, outcome_of};
     ghost use Rattle.xv_machine.specs.Machine.{SameTrace};
     ghost use Rattle.xv_machine.specs.declared.trace.Note.TheVariants.{Stepped};
     ghost use Rattle.xv_machine.specs.Notes.{note};
     ghost use Rattle.xv_machine.specs.Sound.{IsSoundMachine};
     ghost use Rattle.xv_machine.specs.Steps.{runs_made, IsEnd};
+    ghost use Rattle.xv_machine.specs.Stretches.{sends};
 
     /// A machine whose process 1 runs the program called `init`, and waits for its turn.
     ///
@@ -447,15 +448,17 @@ impl Machine {
         self.kernel.send()
     }
 
-    // What comes of the event Send: the byte that leaves, without an outcome around it.
-    pub(crate) fn send(&mut self) -> Option<u8>
-        ensures promised { Promised self.old.world runs.Send (runs.Sent result) self.new.world }
-        ensures sound { IsSoundMachine self.new }
-        ensures frames { self.new.frames.count ≡ self.old.frames.count }
-        ensures notes { self.new.notes ≡ keep_last self.old.room (self.old.notes ++ note runs.Send (runs.Sent result) ∷ []) }
-        ensures room { self.new.room ≡ self.old.room }
+    // Sends Send: once where a byte leaves, which it answers, and else so often, since then no byte waits. No
+    // outcome is made, which would have room for an echo.
+    pub(crate) fn send(&mut self, most: u32) -> Option<u8>
+        requires some { 0 < most }
+        ensures goes { Goes self.old (sends most result) self.new }
     {
         let byte = self.take_byte();
+        if byte.is_none() {
+            self.keep_often(Note::Sent(None), most);
+            return None;
+        }
         self.keep(Note::Sent(byte));
         byte
     }

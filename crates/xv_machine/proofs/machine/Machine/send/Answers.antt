@@ -1,9 +1,16 @@
-use Rattle.std.proofs.Common.{subst, sym}
-use Rattle.kcall_core.specs.Run as runs
-use Rattle.kcall_core.specs.Wakes.{Promised}
-use Rattle.xv_machine.specs.Meaning.{Meaning}
+use Rattle.std.specs.Prelude.{not}
+use Rattle.std.proofs.Common.{ap, sym, ◌∙◌}
+use Rattle.xv_machine.proofs.Idle.{none-left, byte-left}
 use Rattle.xv_machine.proofs.machine.Machine.send.Goals as goal
 
-pub returns-clause-promised : goal.returns-clause-promised
-returns-clause-promised c =
-    subst (λ (m : Meaning). Promised c.args.self.now.world runs.Send (runs.Sent c.take_byte-byte.result) m.world) (sym c.keep.ensures.kept) c.take_byte-byte.ensures.promised
+pub returns-then-is_none : goal.returns-then-is_none
+returns-then-is_none c =
+    let goes = none-left c.args.most c.take_byte-byte.result c.args.self.now c.take_byte-byte.new.self c.keep_often.new.self c.requires.some (c.is_none.ensures ∙ ap not c.if-is_none.true) c.take_byte-byte.ensures.promised c.take_byte-byte.ensures.frames
+    c.take_byte-byte.ensures.trace c.keep_often.ensures.kept c.keep_often.ensures.sound in
+    record { goes = goes }
+
+pub returns : goal.returns
+returns c =
+    let goes = byte-left c.args.most c.take_byte-byte.result c.args.self.now c.take_byte-byte.new.self c.keep.new.self (c.is_none.ensures ∙ ap not c.if-is_none.false) c.take_byte-byte.ensures.promised c.take_byte-byte.ensures.frames c.take_byte-byte.ensures.trace
+    c.keep.ensures.kept c.keep.ensures.sound in
+    record { goes = goes }
