@@ -7,13 +7,16 @@ that the programs are the same with every Python.
 
 # The numbers of the calls, and numbers that no call has.
 FORK, EXIT, WAIT, PIPE, READ, KILL, EXEC, DUP = 1, 2, 3, 4, 5, 6, 7, 10
-GETPID, SBRK, SLEEP, UPTIME, OPEN, WRITE, CLOSE = 11, 12, 13, 14, 15, 16, 21
-NO_CALL = [0, 8, 9, 17, 20, 22, 99, -1]
+GETPID, SBRK, SLEEP, UPTIME, OPEN, WRITE, CLOSE, SBRKLAZY = 11, 12, 13, 14, 15, 16, 21, 22
+NO_CALL = [0, 8, 9, 17, 20, 23, 99, -1]
 
 DESCRIPTORS = [0, 0, 0, 1, 1, 1, 2, 2, 3, 4, 5, 7, 31, 32, -1]
 LENGTHS = [0, 1, 2, 3, 5, 8, 13, 40, 70, 300, 2100, -1, 5000, 0x7FFFFFFF]
 PIDS = [2, 2, 2, 3, 3, 4, 1, 0, -1, 99, 0x7FFFFFFF]
 GROWTHS = [0, 1, 1, 4096, 4096, 8192, -1, -4096, -4096, 20000, 100000, 0x7FFFFFFF, -0x80000000]
+PROMISES = [1, 4096, 4097, 8192, 20000, 0x200000, 0x40000000, 0x40000000, 0x7FFFFFFF, 0, -1, -0x80000000]
+# Where a promise is used: so many bytes behind the old end.
+USED = [0, 0, 1, 100, 4094, 4096, 8192, 0x1FF000, 0x200000, 0x20000000, 0x3FFFF000]
 TICKS = [0, 1, 1, 2, 3, -1]
 MODES = [0, 0, 0, 1, 2, 2, 3, -1]
 STATUSES = [0, 1, 7, 42, 255, 256, -1, -7, 0x7FFFFFFF]
@@ -73,8 +76,9 @@ class Numbers:
 class Source:
     """A program while it is written."""
 
-    def __init__(self, numbers):
+    def __init__(self, numbers, is_lazy):
         self.numbers = numbers
+        self.is_lazy = is_lazy
         self.lines = []
         self.labels = 0
 
@@ -188,8 +192,44 @@ class Source:
     def faults(self):
         self.put(self.numbers.one_of(["ebreak", "lw t0, 1(sp)", "sw t0, 2(x0)", "lb t0, -1(x0)", "jalr ra, 2(x0)", "sb t0, 0(x0)"]))
 
+    def uses_a_promise(self):
+        """Memory that is promised, and then used at one place: by instructions, or as the buffer of a call."""
+        one_of, below = self.numbers.one_of, self.numbers.below
+        refused = self.label()
+        promise = one_of(PROMISES)
+        self.call(SBRKLAZY, promise)
+        self.put(f"blt a0, x0, {refused}")
+        self.put(f"li t6, {one_of([place for place in USED if place < promise] or USED)}")
+        self.put("add t6, a0, t6")
+        how = one_of([SBRKLAZY, SBRKLAZY, SBRKLAZY, READ, READ, WRITE, WRITE, WAIT, PIPE, OPEN, FORK])
+        if how == READ:
+            self.call(OPEN, "poem", 0)
+            self.call(READ, "mv a0", "mv t6", one_of([0, 1, 2, 40, 5000]))
+        elif how == WAIT:
+            self.call(WAIT, "mv t6")
+        elif how == PIPE:
+            self.call(PIPE, "mv t6")
+        elif how == OPEN:
+            self.call(OPEN, "mv t6", 0)
+        elif how == FORK:
+            child = self.label()
+            self.put("sb a7, 0(t6)")
+            self.call(FORK)
+            self.put(f"beq a0, x0, {child}")
+            self.call(WAIT, "li 0")
+            self.mark(child)
+            self.put("lb a0, 0(t6)")
+            self.put("sb a0, 1(t6)")
+        elif how == SBRKLAZY:
+            self.put(one_of(["sb a7, 0(t6)", "lb t5, 0(t6)", "sb a7, 1(t6)"]))
+        self.call(OPEN, "console", 1)
+        self.call(WRITE, "mv a0", "mv t6", 1 + below(12))
+        self.mark(refused)
+
     def things(self, count):
         for _ in range(count):
+            if self.is_lazy and self.numbers.below(2) == 0:
+                self.uses_a_promise()
             kind = self.numbers.below(20)
             if kind < 12:
                 self.a_call()
@@ -251,9 +291,14 @@ class Source:
         return "_start:\n" + "\n".join(self.lines) + "\n" + DATA
 
 
+def is_lazy(seed):
+    """Whether the program of this number asks for memory that comes when it is touched."""
+    return seed >= 200
+
+
 def program(seed):
     """The program of this number."""
-    source = Source(Numbers(seed))
+    source = Source(Numbers(seed), is_lazy(seed))
     source.things(2 + source.numbers.below(6))
     for _ in range(1 + source.numbers.below(3)):
         kind = source.numbers.below(5)
@@ -270,7 +315,7 @@ def program(seed):
 
 def second(seed):
     """What exec finds under the name `two`: it shows its arguments, does something, and leaves."""
-    source = Source(Numbers(seed + 1000))
+    source = Source(Numbers(seed + 1000), is_lazy(seed))
     source.put("mv s9, a0")
     source.put("mv s10, a1")
     source.call(OPEN, "console", 1)

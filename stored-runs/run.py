@@ -8,7 +8,7 @@ from concurrent.futures import ThreadPoolExecutor
 
 import programs
 
-COUNT = 200
+COUNT = 260
 HERE = os.path.dirname(os.path.abspath(__file__))
 
 

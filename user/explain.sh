@@ -6,7 +6,7 @@
 #   ./xv --quantum 20 --trace 100 examples/fork/init.s </dev/null 2>&1 | ./xv --explain
 exec awk '
 BEGIN {
-    split("fork exit wait pipe read kill exec 8 9 dup getpid sbrk sleep uptime open write 17 18 19 20 close", name, " ")
+    split("fork exit wait pipe read kill exec 8 9 dup getpid sbrk sleep uptime open write 17 18 19 20 close sbrklazy", name, " ")
     cause[0] = "a jump to an address that is no multiple of 4"
     cause[2] = "a word that is no instruction"
     cause[3] = "ebreak"

@@ -25,6 +25,7 @@
     kernel_function open, 15
     kernel_function write, 16
     kernel_function close, 21
+    kernel_function sbrklazy, 22
 
 # kernel_call(number, first, second, third)
     .section .text.kernel_call, "ax"

@@ -13,4 +13,7 @@ enum {
     PAGE_BYTES = 4096,     /* bytes of a page */
 };
 
+/* The bytes of a process's memory at most. */
+#define MEMORY_BYTES ((1L << 38) - 2 * PAGE_BYTES)
+
 #endif

@@ -21,6 +21,7 @@ int exec(const char *name, char *const texts[]);   /* returns only where it is r
 int dup(int descriptor);                           /* the lowest free descriptor */
 int getpid(void);
 char *sbrk(int bytes);                             /* the end of the memory before the call; NO_MEMORY */
+char *sbrklazy(int bytes);                         /* the same; a page of the new memory comes when it is first touched */
 int sleep(int ticks);                              /* 0 */
 long uptime(void);                                 /* ticks since boot, from 0 to 2^32 - 1 */
 int open(const char *name, int mode);              /* the lowest free descriptor */

@@ -23,6 +23,14 @@ static int some_descriptor(void)
     return LEAST + below(DESCRIPTORS - LEAST);
 }
 
+/* A place in the memory that has grown, whose pages may be absent, or in the program's own. */
+static char *some_place(void)
+{
+    long room = sbrk(0) - first_end;
+
+    return room > 0 && below(2) == 0 ? first_end + below(room) : bytes;
+}
+
 static void make_pipe(void)
 {
     int ends[2];
@@ -48,16 +56,16 @@ static void read_some(void)
     int file = open("storm", TO_READ);
 
     if (file >= 0)
-        read(file, bytes, below(sizeof bytes));
+        read(file, some_place(), below(sizeof bytes));
 }
 
 /* A read or a write that may wait for ever: others may close the other end, or kill. */
 static void move_some(void)
 {
     if (below(4) == 0)
-        read(some_descriptor(), bytes, below(sizeof bytes));
+        read(some_descriptor(), some_place(), below(sizeof bytes));
     else
-        write(some_descriptor(), bytes, below(sizeof bytes));
+        write(some_descriptor(), some_place(), below(sizeof bytes));
 }
 
 static void grow(void)
@@ -66,6 +74,17 @@ static void grow(void)
 
     if (end != NO_MEMORY)
         memset(end, 1, sbrk(0) - end);
+}
+
+/* Grows by up to a megabyte of absent pages, and stores a byte into the first of them, and one anywhere. */
+static void grow_lazily(void)
+{
+    char *end = sbrklazy(1 + below(1 << 20));
+
+    if (end == NO_MEMORY)
+        return;
+    *some_place() = 1;
+    *end = 1;
 }
 
 static void shrink(void)
@@ -116,7 +135,7 @@ static void make_calls(int steps)
 {
     static void (*const acts[])(void) = {
         make_pipe, close_some, close_some, copy_some, read_some,     move_some,  grow,
-        shrink,    make_child, make_child, kill_some, wait_for_some, sleep_some, become_another,
+        shrink,    make_child, make_child, kill_some, wait_for_some, sleep_some, become_another, grow_lazily,
     };
 
     for (; steps > 0; steps--)

@@ -14,7 +14,7 @@ enum {
     BRIEFLY = 10,       /* ticks */
 };
 
-/* An address that no process here grows to. */
+/* An address to which no process here grows, but where that is what it tries. */
 #define NOWHERE ((void *)(1L << 37))
 
 static char page[PAGE_BYTES];
@@ -430,6 +430,204 @@ static void new_pages_are_zeros(void)
     shrink_by(pages);
 }
 
+/* Memory that comes when it is touched: a page below the end that isn't there yet is absent. */
+
+enum { GIGABYTE = 1 << 30 };
+
+/* Where the memory of the tests below begins. */
+static char *promised;
+
+static void lazy_growth(void)
+{
+    char *end = sbrk(0);
+
+    CHECK(sbrklazy(GIGABYTE) == end && sbrk(0) == end + GIGABYTE);
+    CHECK(end[GIGABYTE / 2] == 0); /* a load brings a page, and so does a store */
+    end[0] = 5;
+    end[GIGABYTE - 1] = 6;
+    CHECK(end[0] == 5 && end[GIGABYTE - 1] == 6 && is_zero(end + 1, PAGE_BYTES - 1));
+    CHECK(sbrk(PAGE_BYTES) == end + GIGABYTE); /* sbrk brings its pages at once, behind the absent ones */
+    CHECK(sbrk(-GIGABYTE - PAGE_BYTES) == end + GIGABYTE + PAGE_BYTES);
+    CHECK(sbrklazy(1) == end && sbrklazy(0) == end + 1);
+    CHECK(is_zero(end, PAGE_BYTES)); /* the page in which the memory ends may be touched to its last byte */
+}
+
+static void shrink_to(char *end)
+{
+    long above;
+
+    while ((above = sbrk(0) - end) > 0)
+        CHECK(sbrk(above > INT32_MAX ? INT32_MIN : -above) != NO_MEMORY);
+}
+
+static void lazy_growth_has_limits(void)
+{
+    char *end = sbrk(0);
+
+    CHECK(sbrklazy(-1) == NO_MEMORY);
+    CHECK(sbrklazy(INT32_MIN) == NO_MEMORY);
+    CHECK(kernel_call(22, 0x100000000, 0, 0) == (long)end); /* a C int: 0 */
+    while (sbrklazy(INT32_MAX) != NO_MEMORY)
+        ;
+    long left = MEMORY_BYTES - (long)sbrk(0);
+    CHECK(left >= 0 && left < INT32_MAX);
+    CHECK(sbrklazy(left + 1) == NO_MEMORY);
+    CHECK(sbrklazy(left) != NO_MEMORY && sbrk(0) == (char *)MEMORY_BYTES);
+    CHECK(sbrklazy(1) == NO_MEMORY && sbrk(1) == NO_MEMORY);
+    ((char *)MEMORY_BYTES)[-1] = 7;
+    CHECK(((char *)MEMORY_BYTES)[-1] == 7);
+    shrink_to(end);
+    CHECK(sbrk(0) == end);
+}
+
+/* Calls that store bring the pages in which they store. */
+static void absent_pages_are_read_into(void)
+{
+    int file = open("tests", TO_READ);
+    char *end = sbrklazy(4 * PAGE_BYTES);
+    int *ends = (int *)(end + 2 * PAGE_BYTES);
+    int *status = (int *)(end + 3 * PAGE_BYTES);
+
+    CHECK(read(file, end + PAGE_BYTES - 2, 4) == 4);
+    CHECK(memcmp(end + PAGE_BYTES - 2, "\177ELF", 4) == 0 && is_zero(end, PAGE_BYTES - 2));
+    CHECK(read(file, end + 4 * PAGE_BYTES - 1, 2) == -1); /* one of two bytes lies behind the end */
+    CHECK(pipe(ends) == 0 && ends[0] == 4 && ends[1] == 5);
+    CHECK(wait(status) == -1 && *status == 0);
+    int child = begin(exit_7);
+    CHECK(wait(status) == child && *status == 7);
+}
+
+static int read_into_promised(void)
+{
+    return read(3, promised, PAGE_BYTES + 1) == 2 && promised[0] == 'x' && promised[1] == 'y' ? 0 : 1;
+}
+
+/* A reader waits, and its pages are there when the bytes come. */
+static void a_reader_with_absent_pages_waits(void)
+{
+    int ends[2];
+
+    CHECK(pipe(ends) == 0 && ends[0] == 3);
+    promised = sbrklazy(2 * PAGE_BYTES);
+    int child = begin(read_into_promised);
+    sleep(3);
+    CHECK(write(ends[1], "xy", 2) == 2);
+    CHECK(await(child) == 0);
+}
+
+/* Calls that read find zeros, and bring no page: they are done where no frame is free. */
+static void absent_pages_are_written_as_zeros(void)
+{
+    int ends[2];
+    char *end = sbrklazy(3 * PAGE_BYTES);
+
+    CHECK(pipe(ends) == 0);
+    int pages = grow_by_all();
+    CHECK(write(ends[1], end + PAGE_BYTES - 5, 10) == 10);
+    memset(bytes, 1, 11);
+    CHECK(read(ends[0], bytes, 100) == 10 && is_zero(bytes, 10) && bytes[10] == 1);
+    CHECK(write(ends[1], end + 3 * PAGE_BYTES + pages * PAGE_BYTES - 1, 2) == -1);
+    shrink_by(pages);
+}
+
+static int exec_with_absent_text(void)
+{
+    char *texts[] = {"tests", "exits-with", "4", sbrklazy(1), NULL};
+
+    exec("tests", texts);
+    return 100;
+}
+
+static void names_in_absent_pages(void)
+{
+    char *name = sbrk(PAGE_BYTES) + PAGE_BYTES - 5;
+    char *end = sbrklazy(PAGE_BYTES);
+
+    memcpy(name, "tests", 5); /* the zero byte behind it lies in the absent page */
+    CHECK(open(name, TO_READ) == 3);
+    CHECK(open(end, TO_READ) == -1);
+    CHECK(exec(end, (char **)end) == -1);
+    CHECK(status_of(exec_with_absent_text) == 4);
+}
+
+static int store_into_promised(void)
+{
+    if (promised[0] != 'p' || promised[GIGABYTE / 2] != 0)
+        return 1;
+    promised[0] = promised[GIGABYTE / 2] = 'c';
+    return sbrk(0) == promised + GIGABYTE ? promised[0] : 2;
+}
+
+static void a_child_has_absent_pages_of_its_own(void)
+{
+    promised = sbrklazy(GIGABYTE);
+    promised[0] = 'p';
+    CHECK(status_of(store_into_promised) == 'c');
+    CHECK(promised[0] == 'p' && promised[GIGABYTE / 2] == 0);
+}
+
+static int touch_all(void)
+{
+    for (volatile char *at = promised; at < promised + GIGABYTE; at += PAGE_BYTES)
+        *at = 1;
+    return 0;
+}
+
+static int load_all(void)
+{
+    int sum = 0;
+
+    for (volatile char *at = promised; at < promised + GIGABYTE; at += PAGE_BYTES)
+        sum += *at;
+    return sum;
+}
+
+/* More is promised than there is. Who touches too much ends by a fault, and what it had comes back. */
+static void promises_are_broken(void)
+{
+    int pages = count_free_pages();
+
+    promised = sbrklazy(GIGABYTE);
+    CHECK(status_of(touch_all) == -1);
+    CHECK(status_of(load_all) == -1);
+    shrink_to(promised);
+    CHECK(count_free_pages() == pages);
+}
+
+/* A call whose buffer needs more frames than are free is refused, and takes none. */
+static void buffers_need_frames(void)
+{
+    int file = open("tests", TO_READ);
+    int pages = grow_by_all();
+    char *end = sbrklazy(PAGE_BYTES);
+
+    CHECK(read(file, end, 1) == -1);
+    CHECK(read(file, end, 0) == 0);
+    CHECK(pipe((int *)end) == -1);
+    CHECK(sbrk(-2 * PAGE_BYTES) == end + PAGE_BYTES); /* one frame is free */
+    end = sbrklazy(2 * PAGE_BYTES);
+    CHECK(read(file, end + PAGE_BYTES - 1, 2) == -1); /* it needs two pages */
+    CHECK(pipe((int *)end) == -1);                    /* a page, and a frame for the pipe */
+    CHECK(read(file, end, 4) == 4 && memcmp(end, "\177ELF", 4) == 0);
+    CHECK(sbrk(-2 * PAGE_BYTES) != NO_MEMORY);
+    shrink_by(pages - 1);
+}
+
+/* A child that has ended isn't lost where its status finds no room. */
+static void a_status_needs_a_frame(void)
+{
+    int child = begin(exit_7);
+
+    sleep(BRIEFLY);
+    int pages = grow_by_all();
+    int *status = (int *)sbrklazy(PAGE_BYTES);
+    CHECK(wait(status) == -1);
+    CHECK(sbrk(-PAGE_BYTES) != NO_MEMORY);
+    shrink_by(pages);
+    status = (int *)sbrklazy(PAGE_BYTES);
+    CHECK(wait(status) == child && *status == 7);
+}
+
 /* Faults. Each ends the process with -1. */
 
 static int load_from(const volatile char *address)
@@ -507,6 +705,26 @@ static int jump_into_data(void)
     return jump_to(page);
 }
 
+/* An absent page comes for a load or a store, and not to be executed. */
+static int jump_into_an_absent_page(void)
+{
+    return jump_to(sbrklazy(PAGE_BYTES));
+}
+
+static int load_behind_absent_pages(void)
+{
+    sbrklazy(PAGE_BYTES + 1);
+    return load_from(sbrk(0) + PAGE_BYTES - 1);
+}
+
+static int load_absent_and_misaligned(void)
+{
+    long value;
+
+    asm volatile("ld %0, 1(%1)" : "=r"(value) : "r"(sbrklazy(PAGE_BYTES)));
+    return value == 0;
+}
+
 static int jump_to_half_a_word(void)
 {
     return jump_to((char *)kernel_call + 2);
@@ -550,7 +768,8 @@ static void faults(void)
     static const action acts[] = {
         store_to_text, load_nowhere, store_nowhere, load_from_no_address, load_behind_the_end, load_what_is_gone,
         store_below_the_stack, use_all_stack, jump_into_data, jump_to_half_a_word, load_misaligned,
-        store_misaligned, do_no_instruction, multiply, break_off,
+        store_misaligned, do_no_instruction, multiply, break_off, jump_into_an_absent_page, load_behind_absent_pages,
+        load_absent_and_misaligned,
     };
 
     for (unsigned place = 0; place < sizeof acts / sizeof acts[0]; place++) {
@@ -879,6 +1098,14 @@ static int exec_after_growth(void)
     return exec_words(5, "word");
 }
 
+static int exec_after_lazy_growth(void)
+{
+    char *end = sbrklazy(GIGABYTE);
+
+    end[GIGABYTE / 2] = 1;
+    return exec_words(5, "word");
+}
+
 /* The texts, each in a multiple of 16 bytes, and then an address for each and a null pointer stand in the page of
    the stack: beside three short texts and 5 * 8 bytes there is room for this one. */
 enum { LONGEST_TEXT = PAGE_BYTES - 3 * 16 - 48 - 1 };
@@ -912,6 +1139,7 @@ static void execs(void)
     CHECK(status_of(exec_most_words) == TEXTS);
     CHECK(status_of(exec_too_many_words) == 100);
     CHECK(status_of(exec_after_growth) == 5);
+    CHECK(status_of(exec_after_lazy_growth) == 5);
     CHECK(status_of(exec_long_text) == 4);
     CHECK(status_of(exec_longest_text) == -1); /* it is done, and then there is no stack left to run on */
     CHECK(status_of(exec_too_long_text) == 100);
@@ -1125,6 +1353,16 @@ static const struct test tests[] = {
     TEST(grows),
     TEST(growth_has_limits),
     TEST(new_pages_are_zeros),
+    TEST(lazy_growth),
+    TEST(lazy_growth_has_limits),
+    TEST(absent_pages_are_read_into),
+    TEST(a_reader_with_absent_pages_waits),
+    TEST(absent_pages_are_written_as_zeros),
+    TEST(names_in_absent_pages),
+    TEST(a_child_has_absent_pages_of_its_own),
+    TEST(promises_are_broken),
+    TEST(buffers_need_frames),
+    TEST(a_status_needs_a_frame),
     TEST(faults),
     TEST(descriptors_have_a_limit),
     TEST(bad_descriptors),

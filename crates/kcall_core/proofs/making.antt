@@ -15,3 +15,6 @@ pub mod Series
 pub mod Sleepers
 pub mod Staying
 pub mod TickMakes
+pub mod TouchedSteps
+pub mod Touching
+pub mod Undone

@@ -1,10 +1,12 @@
 -- The memories of the processes: whose each frame is, and what a change of one owner leaves of all others.
 pub mod Arguments
 pub mod Births
+pub mod Bringing
 pub mod Changes
 pub mod Frames
 pub mod Joined
 pub mod Lists
+pub mod OnAbsent
 pub mod Peeks
 pub mod PipeEdges
 pub mod PipeFrames

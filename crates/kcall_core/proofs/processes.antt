@@ -8,6 +8,7 @@ pub mod Handed
 pub mod Handing
 pub mod KillMakes
 pub mod SbrkRow
+pub mod LazyRow
 pub mod SleepRow
 pub mod WaitMakes
 pub mod WaitRows

@@ -4,7 +4,11 @@ pub mod AnswersTell
 pub mod Late
 pub mod NewPages
 pub mod RowParts
+pub mod Settled
 pub mod RowsByParts
+pub mod Touched
+pub mod ByTouch
+pub mod SettledWaits
 pub mod PartLaws
 pub mod RowLawsHold
 pub mod RowNumbers

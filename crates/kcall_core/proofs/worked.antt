@@ -5,6 +5,7 @@ pub mod RowsOfBoot
 pub mod RowsOfBytes
 pub mod RowsOfEvents
 pub mod RowsOfFiles
+pub mod RowsOfLoads
 pub mod RowsOfMemory
 pub mod RowsOfProcesses
 pub mod RowsOfSteps
@@ -14,3 +15,4 @@ pub mod RowsOfRounds
 pub mod RowsOfRuns
 pub mod RowsOfStores
 pub mod RowsOfSources
+pub mod RowsOfTouches

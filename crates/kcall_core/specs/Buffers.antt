@@ -1,22 +1,38 @@
 -- What the kernel reads from a process's memory, what it writes to it, and how memory grows and shrinks
 -- (the xv6 book, "Code: exec", "Code: System call arguments", and "Code: sbrk" for growth).
--- The kernel reads where user code may read, and writes where user code may write (`Reach` of user_copy).
-use Rattle.std.specs.Prelude.{ℕ, zero, suc, ◌+◌, Bool, true, false, if◌then◌else◌, List, [], ◌∷◌, Option, None, Some, nat_eq, option_map}
+-- The kernel reads where user code may read, and writes where user code may write (`Reach` of user_copy). An absent page is one that user code
+-- may read and write, once it is touched: it reads as zeros.
+use Rattle.std.specs.Prelude.{ℕ, zero, suc, ◌+◌, ◌/◌, ◌||◌, Bool, true, false, if◌then◌else◌, List, [], ◌∷◌, Option, None, Some, nat_eq, option_map}
+use Rattle.std.specs.List.{list_all, range_with_len}
 use Rattle.xk_base.specs.Words.{le}
 use Rattle.xk_base.specs.Image.{Image}
 use Rattle.xk_base.specs.Bytes.{image_byte, image_bytes}
+use Rattle.xk_base.specs.declared.access.Access.{Access}
 use Rattle.xk_base.specs.declared.access.Access.TheVariants.{Load, Store}
 use Rattle.xk_base.specs.declared.access.Rights.{Rights}
 use Rattle.addr_space.specs.Changes.{grown as grown_with, shrunk as shrunk_to}
+use Rattle.addr_space.specs.Absent.{is_absent}
 use Rattle.user_copy.specs.Reach.{may, reaches}
+
+-- user code may read or write the byte at an address, or may do so once its page is touched
+abbrev pub may_touching : Access → Image → ℕ → Bool
+may_touching access i a = is_absent i (a / 4096) || may access i a
+
+-- the same of each of the n bytes from address a on
+unfoldable pub reaches_touching : Access → Image → ℕ → ℕ → Bool
+reaches_touching access i a n = list_all (may_touching access i) (range_with_len a n)
 
 -- all n bytes from address a on may be read
 abbrev pub readable : Image → ℕ → ℕ → Bool
-readable i a n = reaches Load i a n
+readable i a n = reaches_touching Load i a n
 
 -- all n bytes from address a on may be written
 abbrev pub writable : Image → ℕ → ℕ → Bool
-writable i a n = reaches Store i a n
+writable i a n = reaches_touching Store i a n
+
+-- all n bytes from address a on may be written as they stand: none lies in an absent page
+abbrev pub writable_now : Image → ℕ → ℕ → Bool
+writable_now i a n = reaches Store i a n
 
 -- ---- texts and pointers
 
@@ -27,7 +43,7 @@ text_from byte rest = if nat_eq byte 0 then Some [] else option_map (λ bytes. b
 -- the text at address a, without its zero byte, which is among the first `limit` bytes; none where a byte before it may not be read
 unfoldable pub text_at : (limit : ℕ) → Image → ℕ → Option (List ℕ)
 text_at zero i a = None
-text_at (suc limit) i a = if may Load i a then text_from (image_byte i a) (text_at limit i (a + 1)) else None
+text_at (suc limit) i a = if may_touching Load i a then text_from (image_byte i a) (text_at limit i (a + 1)) else None
 
 -- the pointer at address a
 abbrev pub pointer_at : Image → ℕ → Option ℕ

@@ -3,7 +3,7 @@
 --   E when t      the step ends by E where the test t holds
 --   x ← o or E    x is what o has; where it has nothing, the step ends by E
 -- (`when` and `or` are defined in Lines.) An E is `refused` (-1, and nothing else changes), `waits k v'` (it sleeps, k bytes are moved, the view is v') or `done a v'` (it answers a, the view is v').
--- Numbers of calls are those of xv6's syscall.h, sections those of the xv6 book. An argument is a C int where it is read by `c_int`, else 64 bits.
+-- Numbers of calls are those of xv6's syscall.h, but for 22, which is this project's own; sections are those of the xv6 book. A t is the view once a buffer's absent pages are touched. An argument is a C int where it is read by `c_int`, else 64 bits.
 use Rattle.std.specs.Prelude.{ℕ, ◌+◌, ◌-◌, ◌%◌, ◌+ℤ◌, Bool, true, false, not, ◌&&◌, ◌||◌, if◌then◌else◌, List, [], ◌∷◌, ◌++◌, length, take, drop, min, Option, None, Some, ℤ, pos, negsuc, ◌==◌, nat_eq, nat_lt, nat_le, is_some, option_map, filter, find, slice_get, bytes_eq}
 use Rattle.std.specs.List.{list_any}
 use Rattle.std.specs.Int.{cast_unsigned, w32}
@@ -13,6 +13,7 @@ use Rattle.xk_base.specs.Image.{price}
 use Rattle.xk_base.specs.Bytes.{image_bytes, write_image}
 use Rattle.xk_base.specs.Loaded.{loaded}
 use Rattle.rv64i_core.specs.Registers.{Registers, put, with_pc}
+use Rattle.addr_space.specs.Absent.{grown_lazily}
 use Rattle.pipe_core.specs.Pipe.{new_pipe, with_more, without_first}
 use Rattle.console_core.specs.Reads.{pulled}
 use Rattle.file_table.specs.declared.open_file.End.TheVariants.{Reading, Writing}
@@ -23,6 +24,7 @@ use Rattle.kcall_core.specs.Processes.{Running, has_status, child_status}
 use Rattle.kcall_core.specs.Programs.{console_name, program_bytes, program_named, place_of}
 use Rattle.kcall_core.specs.View.{View, Descriptor, Shown, Shown_terminal, Shown_file, Shown_pipe}
 use Rattle.kcall_core.specs.Lines.{◌>>=◌, ◌>>◌, ◌when◌, ◌or◌, natural, result_of}
+use Rattle.kcall_core.specs.Touches.{pages_at, touch}
 use Rattle.kcall_core.specs.Own.{Own, Answer, Called, Blocked, Exited, left_by, goes_on}
 use Rattle.kcall_core.specs.Tables.{lowest_free, lowest_free_above, with_descriptor, without_descriptor, with_copy, change_pipe, advance, one_more_on, one_less_on, doubled, all_closed, pipes_given_up}
 
@@ -108,12 +110,13 @@ module _ (c : Call) where
     wait = do
       refused when not (c.a0 == 0) && not (writable v.image c.a0 4)  -- a byte of the buffer isn't there
       refused when not (has_child v)  -- no child
-      zombie ← least_zombie v or waits 0 v  -- by pid
-      let status = le_bytes 4 (cast_unsigned w32 (child_status (v.children zombie)))
-      done (pos zombie) (record v {
-        image = if c.a0 == 0 then v.image else write_image v.image c.a0 status;
-        pids = filter (λ pid. not (pid == zombie)) v.pids;
-        children = with_value v.children zombie None;
+      t ← touch (pages_at c.a0 (if c.a0 == 0 then 0 else 4)) v or refused  -- the buffer's absent pages cost more than is free
+      zombie ← least_zombie t or waits 0 t  -- by pid
+      let status = le_bytes 4 (cast_unsigned w32 (child_status (t.children zombie)))
+      done (pos zombie) (record t {
+        image = if c.a0 == 0 then t.image else write_image t.image c.a0 status;
+        pids = filter (λ pid. not (pid == zombie)) t.pids;
+        children = with_value t.children zombie None;
       })
 
     -- ---- 4 pipe(a) ("Pipes", "Code: Pipes")
@@ -123,13 +126,14 @@ module _ (c : Call) where
       refused when not (writable v.image c.a0 8)  -- a byte of the buffer isn't there
       r ← lowest_free v.descriptors or refused
       w ← lowest_free_above v.descriptors r or refused  -- fewer than 2 free descriptors
-      refused when v.free == 0  -- no free frame
+      t ← touch (pages_at c.a0 8) v or refused  -- the buffer's absent pages cost more than is free
+      refused when t.free == 0  -- no free frame beside them
       let reading : Descriptor = record { file = r; read = true; write = false; shown = Shown_pipe r Reading new_pipe }
       let writing : Descriptor = record { file = w; read = false; write = true; shown = Shown_pipe r Writing new_pipe }
-      done (pos 0) (record v {
-        image = write_image v.image c.a0 (le_bytes 4 r ++ le_bytes 4 w);
-        descriptors = with_descriptor w writing (with_descriptor r reading v.descriptors);
-        free = v.free - 1;
+      done (pos 0) (record t {
+        image = write_image t.image c.a0 (le_bytes 4 r ++ le_bytes 4 w);
+        descriptors = with_descriptor w writing (with_descriptor r reading t.descriptors);
+        free = t.free - 1;
       })
 
     -- ---- 5 read(fd, a, n) ("I/O and File descriptors", "Code: Pipes", "Code: Console input")
@@ -142,18 +146,19 @@ module _ (c : Call) where
       n ← natural (c_int c.a2) or refused  -- n below 0
       done (pos 0) v when n == 0
       refused when not (writable v.image c.a1 n)  -- a byte of the buffer isn't there
+      t ← touch (pages_at c.a1 n) v or refused  -- its absent pages cost more than is free
       elim d.shown [
         | Shown_file program offset ↦ do
-          let bytes = take n (drop offset (program_bytes (slice_get v.programs program)))
-          done (pos (length bytes)) (record v { image = write_image v.image c.a1 bytes; descriptors = advance d.file (length bytes) v.descriptors })
+          let bytes = take n (drop offset (program_bytes (slice_get t.programs program)))
+          done (pos (length bytes)) (record t { image = write_image t.image c.a1 bytes; descriptors = advance d.file (length bytes) t.descriptors })
         | Shown_pipe name end pipe ↦ do
-          waits 0 v when (length pipe.bytes == 0) && not (pipe.writers == 0)
+          waits 0 t when (length pipe.bytes == 0) && not (pipe.writers == 0)
           let k = min n (length pipe.bytes)
-          done (pos k) (record v { image = write_image v.image c.a1 (take k pipe.bytes); descriptors = change_pipe name (without_first k pipe) v.descriptors })
+          done (pos k) (record t { image = write_image t.image c.a1 (take k pipe.bytes); descriptors = change_pipe name (without_first k pipe) t.descriptors })
         | Shown_terminal ↦ do
-          let line = pulled (c.moved == 0) (n - c.moved) v.console.committed
+          let line = pulled (c.moved == 0) (n - c.moved) t.console.committed
           let k = c.moved + length line.taken
-          let after = record v { image = write_image v.image (c.a1 + c.moved) line.taken; console = record v.console { committed = line.left } }
+          let after = record t { image = write_image t.image (c.a1 + c.moved) line.taken; console = record t.console { committed = line.left } }
           if line.ended then done (pos k) after else waits k after
       ]
 
@@ -265,6 +270,14 @@ module _ (c : Call) where
       let after = done (pos 0) (record v { descriptors = without_descriptor fd closed; free = v.free + pipes_given_up closed })
       record after { left = record after.left { descriptors = closed } }
 
+    -- ---- 22 sbrklazy(n) ("Page tables": lazy allocation): the size grows, and the new pages are absent
+
+    unfoldable pub sbrklazy : Own
+    sbrklazy = do
+      n ← natural (c_int c.a0) or refused  -- n below 0
+      refused when nat_lt SIZE_LIMIT (v.image.size + n)  -- over 2^38 - 8192
+      done (pos v.image.size) (record v { image = grown_lazily v.image (v.image.size + n) })
+
 -- ---- the table
 
 pub data Row : Type 0 where
@@ -283,10 +296,11 @@ pub data Row : Type 0 where
   Open : Row
   Write : Row
   Close : Row
+  Sbrklazy : Row
 
 -- the rows by their numbers
 abbrev pub table : List (ℕ × Row)
-table = (1, Fork) ∷ (2, Exit) ∷ (3, Wait) ∷ (4, Pipe_row) ∷ (5, Read) ∷ (6, Kill) ∷ (7, Exec) ∷ (10, Dup) ∷ (11, Getpid) ∷ (12, Sbrk) ∷ (13, Sleep) ∷ (14, Uptime) ∷ (15, Open) ∷ (16, Write) ∷ (21, Close) ∷ []
+table = (1, Fork) ∷ (2, Exit) ∷ (3, Wait) ∷ (4, Pipe_row) ∷ (5, Read) ∷ (6, Kill) ∷ (7, Exec) ∷ (10, Dup) ∷ (11, Getpid) ∷ (12, Sbrk) ∷ (13, Sleep) ∷ (14, Uptime) ∷ (15, Open) ∷ (16, Write) ∷ (21, Close) ∷ (22, Sbrklazy) ∷ []
 
 unfoldable pub row_of : ℤ → Option Row
 row_of (pos n) = option_map (λ e. e.1) (find (λ e. nat_eq e.0 n) table)
@@ -308,6 +322,7 @@ row Uptime c v = uptime c v
 row Open c v = open_file c v
 row Write c v = write c v
 row Close c v = close c v
+row Sbrklazy c v = sbrklazy c v
 
 -- one step of a call in progress; a number that no row has is refused
 unfoldable pub perform : Call → View → Own

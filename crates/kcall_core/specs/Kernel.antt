@@ -141,12 +141,17 @@ pub record IsRepriced (s : State) (before after : Image) (u t : State) : Type 0 
   pub state : t ≡ record u { free = t.free }
   pub free : t.free + price after ≡ s.free + price before
 
--- ---- sbrk
+-- ---- sbrk and sbrklazy
 
 -- the size after n bytes more, or fewer; none below 0 or above the limit
 abbrev pub resized : ℕ → ℤ → Option ℕ
 resized size (pos n) = if nat_le (size + n) SIZE_LIMIT then Some (size + n) else None
 resized size (negsuc k) = if nat_lt k size then Some (size - suc k) else None
+
+-- the size after n bytes more; none where they are fewer, or where it is above the limit
+abbrev pub resized_lazily : ℕ → ℤ → Option ℕ
+resized_lazily size (pos n) = if nat_le (size + n) SIZE_LIMIT then Some (size + n) else None
+resized_lazily size (negsuc k) = None
 
 -- the image at another size
 abbrev pub at_size : Image → ℕ → Image

@@ -14,6 +14,7 @@ pub mod Lines
 pub mod Tables
 pub mod Calls
 pub mod Instruction
+pub mod Touches
 pub mod Step
 pub mod Stores
 pub mod Quiet
@@ -40,6 +41,7 @@ pub mod Machine
 pub mod Whole
 pub mod Room
 pub mod Makes
+pub mod Touched
 pub mod Closings
 pub mod Ticks
 pub mod Moves

@@ -5,7 +5,7 @@ use Rattle.rv64i_core.specs.Step.{stop_of}
 use Rattle.rv64i_core.specs.declared.execution.Stop.{Stop}
 use Rattle.rv64i_core.specs.declared.execution.Stop.TheVariants.{Next, Ecall, Fault}
 use Rattle.hart_core.specs.declared.hart.Hart.{Hart}
-use Rattle.kcall_core.specs.Instruction.{next_instruction}
+use Rattle.kcall_core.specs.Touches.{instruction_now}
 use Rattle.kcall_core.specs.Processes.{Zombie}
 use Rattle.kcall_core.specs.View.{View, view_of}
 use Rattle.kcall_core.specs.Own.{Own, Answer, Called, Blocked, Exited, gone_with}
@@ -56,7 +56,7 @@ answer_of number (Gone status) = Exited status
 
 -- how the next instruction of the process that runs ends
 abbrev pub stop_now : Kernel → Hart → Stop
-stop_now k h = stop_of (next_instruction (live_now k h).regs (live_now k h).image)
+stop_now k h = stop_of (instruction_now (view_now k h))
 
 -- so many instructions of the process that runs, one after another, each of which is done
 abbrev pub MakesDone : (count : ℕ) → Kernel → Hart → Kernel → Hart → Type 0

@@ -10,12 +10,13 @@ use Rattle.frame_list.specs.Pool.{free_in, Good}
 use Rattle.addr_space.specs.Space as space
 use Rattle.addr_space.specs.Space.{image_of, IsSpace}
 use Rattle.rv64i_core.specs.Registers.{Registers}
-use Rattle.rv64i_core.specs.Step.{Step, stop_of, regs_after, state_after}
+use Rattle.rv64i_core.specs.Step.{Step, stop_of, regs_after, state_after, address_used}
 use Rattle.rv64i_core.specs.declared.execution.Stop.{Stop}
 use Rattle.rv64i_core.specs.declared.execution.Stop.TheVariants.{Next, Ecall, Fault}
 use Rattle.hart_core.specs.Trapframe.{saved}
 use Rattle.hart_core.specs.Translations.{Fits}
-use Rattle.hart_core.specs.UserMemory.{with_store}
+use Rattle.hart_core.specs.UserMemory.{user, with_store}
+use Rattle.hart_core.specs.Steps.{last_fault}
 use Rattle.hart_core.specs.declared.hart.Hart.{Hart}
 use Rattle.pipe_core.specs.Pipe.{Pipe, IsPipe, pipe_in}
 use Rattle.kcall_core.specs.Instruction.{next_instruction}
@@ -145,6 +146,8 @@ pub record Steps (old new : Memories) (slot : ℕ) (hart hart' : Hart) (stop : S
   pub changes : let held = held_at (each_of old) slot in SlotChanges old new slot (Some (with_image (state_after with_store held.image (step_in old slot hart.regs)) held))
   pub free : free_of new ≡ free_of old
   pub runs : RunsIn new slot hart'
+  -- the address of the last page fault of a load or a store
+  pub fault : hart'.fault_address ≡ last_fault hart.fault_address (address_used hart.regs (user (held_at (each_of old) slot).image)) (step_in old slot hart.regs)
 
 -- so many instructions of the process in a slot, one after another, each of which is done
 abbrev pub StepsDone : (count slot : ℕ) → Memories → Hart → Memories → Hart → Type 0

@@ -12,7 +12,7 @@ use Rattle.proc_table.specs.declared.channel.Channel.{Channel}
 use Rattle.proc_table.specs.declared.channel.Channel.TheVariants as on
 use Rattle.proc_table.specs.declared.process.Call.{Call}
 use Rattle.kcall_core.specs.Words.{c_int}
-use Rattle.kcall_core.specs.Buffers.{readable, writable}
+use Rattle.kcall_core.specs.Buffers.{readable, writable_now}
 use Rattle.kcall_core.specs.Holdings.{held_at, with_image}
 use Rattle.kcall_core.specs.Memories.{each_of, pipes_of, free_of, AreSound, RunsIn}
 use Rattle.kcall_core.specs.RowLaws.{OnPipe, IsBuffer}
@@ -38,7 +38,7 @@ pub record ReadsPipe (k : Kernel) (h : Hart) (c : Call) (f n : ℕ) : Type 0 whe
   pub on : OnPipe (state_of k h) (pid_now k) (live_now k h) fd f name end pipe
   pub reads : on.read ≡ true
   pub number : c_int c.a0 ≡ pos fd
-  pub buffer : IsBuffer c (writable (live_now k h).image c.a1) n
+  pub buffer : IsBuffer c (writable_now (live_now k h).image c.a1) n
 
 -- the call writes to the pipe in a frame, n bytes in all, and all of its buffer is there
 pub record WritesPipe (k : Kernel) (h : Hart) (c : Call) (f n : ℕ) : Type 0 where

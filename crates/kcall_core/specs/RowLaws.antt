@@ -24,11 +24,12 @@ use Rattle.file_table.specs.declared.open_file.OpenFile.{OpenFile}
 use Rattle.proc_table.specs.declared.process.Call.{Call}
 use Rattle.kcall_core.specs.Instruction.{next_instruction}
 use Rattle.kcall_core.specs.Words.{c_int, minus_one}
-use Rattle.kcall_core.specs.Buffers.{readable, writable, text_at, no_slashes}
+use Rattle.kcall_core.specs.Buffers.{readable, writable_now, text_at, no_slashes}
 use Rattle.kcall_core.specs.PipeEnds.{there, fit, joined, parted, is_given_up, must_wait}
 use Rattle.kcall_core.specs.Processes.{Live, Alive, Zombie}
 use Rattle.kcall_core.specs.State.{State}
 use Rattle.kcall_core.specs.View.{Descriptor, view_of, show, numbered, least_on_file, least_on_pipe, or_else}
+use Rattle.kcall_core.specs.Touches.{has_absent, brought, touch, before_instruction}
 use Rattle.kcall_core.specs.Own.{Own, Answer, Exited, Faulted, gone_with}
 use Rattle.kcall_core.specs.Execs.{Asks}
 use Rattle.kcall_core.specs.Calls.{perform, done, waits, gone, fork, wait, make_pipe, read, kill, exec, dup, open_file, write, close, least_zombie, what_is_named, has_mode}
@@ -79,12 +80,27 @@ EcallLaw =
 abbrev pub ResumeLaw : Type 0
 ResumeLaw = (s : State) (p : ℕ) (l : Live) (c : Call) → l.killed ≡ false → l.call ≡ Some c → own (view_of s p l) ≡ perform c (view_of s p l)
 
--- a marked process ends with -1, and so does one whose instruction faults
+-- the process, once these pages are there that were absent
+abbrev pub touched_live : List ℕ → Live → Live
+touched_live pages l = record l { image = brought pages l.image }
+
+-- and the state: what the image costs more, it takes from the free frames
+abbrev pub touched_state : List ℕ → ℕ → Live → State → State
+touched_state pages p l s = alone_state p (touched_live pages l) s.console (s.free + price l.image - price (brought pages l.image)) s
+
+-- Pages that are touched: the process sees them, and what a step from there on does to the state is what it does from before
+abbrev pub TouchLaw : Type 0
+TouchLaw =
+    (s : State) (p : ℕ) (l : Live) (pages : List ℕ) → IsLive s p l → price (brought pages l.image) ≤ price l.image + s.free
+    → (has_absent pages l.image ≡ true → touch pages (view_of s p l) ≡ Some (view_of (touched_state pages p l s) p (touched_live pages l)))
+    × ((o : Own) (t : State) → After (touched_state pages p l s) p (touched_live pages l) o t → After s p l o t)
+
+-- a marked process ends with -1, and so does one whose instruction faults, also where the page that it is on is absent and doesn't come
 abbrev pub EndLaw : Type 0
 EndLaw =
     (s : State) (p : ℕ) (l : Live)
     → (l.killed ≡ true → own (view_of s p l) ≡ gone (Exited minus_one) (view_of s p l))
-    × ((cause : Cause) → IsBetweenCalls l → next_instruction l.regs l.image ≡ Fault cause → own (view_of s p l) ≡ gone (Faulted cause) (view_of s p l))
+    × ((cause : Cause) → IsBetweenCalls l → next_instruction l.regs l.image ≡ Fault cause → before_instruction (view_of s p l) ≡ view_of s p l → own (view_of s p l) ≡ gone (Faulted cause) (view_of s p l))
 
 -- ---- rows that change only the process, the console and the free frames: all refusals, getpid, uptime, sleep, sbrk, reads and writes of the console and of nothing, and a wait that waits
 
@@ -128,7 +144,7 @@ GoneLaw =
 abbrev pub ReapLaw : Type 0
 ReapLaw =
     (s : State) (p q : ℕ) (l : Live) (c : Call) (status : ℤ) → IsLive s p l → get s.processes q ≡ Some (Zombie (Some p) status)
-    → (not (nat_eq c.a0 0) && not (writable l.image c.a0 4)) ≡ false → least_zombie (view_of s p l) ≡ Some q
+    → (not (nat_eq c.a0 0) && not (writable_now l.image c.a0 4)) ≡ false → least_zombie (view_of s p l) ≡ Some q
     → After s p l (wait c (view_of s p l)) (waited_state p (waited c q status l) q s)
 
 abbrev pub KillLaw : Type 0
@@ -158,7 +174,7 @@ IsBuffer c is_there n = (c_int c.a2 ≡ pos n) × (nat_eq n 0 ≡ false) × (is_
 abbrev pub PipeReadLaw : Type 0
 PipeReadLaw =
     (s : State) (p : ℕ) (l : Live) (c : Call) (d i k n : ℕ) (end : End) (x : Pipe) (on : OnPipe s p l d i k end x)
-    → on.read ≡ true → c_int c.a0 ≡ pos d → IsBuffer c (writable l.image c.a1) n
+    → on.read ≡ true → c_int c.a0 ≡ pos d → IsBuffer c (writable_now l.image c.a1) n
     → (must_wait x ≡ false → After s p l (read c (view_of s p l)) (piped_state p (with_answer (pos (there x n)) (with_bytes c.a1 (take (there x n) x.bytes) l)) i (without_first (there x n) x) s))
     × (must_wait x ≡ true → After s p l (read c (view_of s p l)) (own_state p (in_call (record c { moved = 0 }) l) s))
 
@@ -186,7 +202,7 @@ name_of_file s l f = or_else (least_on_file (numbered s l) f) f
 abbrev pub FileReadLaw : Type 0
 FileReadLaw =
     (s : State) (p : ℕ) (l : Live) (c : Call) (d f program offset n : ℕ) (w : Bool) → IsLive s p l → c_int c.a0 ≡ pos d → d < NOFILE → get l.descriptors d ≡ Some f
-    → get s.files f ≡ Some (record { read = true; write = w; target = File program offset }) → IsBuffer c (writable l.image c.a1) n
+    → get s.files f ≡ Some (record { read = true; write = w; target = File program offset }) → IsBuffer c (writable_now l.image c.a1) n
     → let bytes = take n (drop offset (program_bytes (slice_get s.programs program))) in
     After s p l (read c (view_of s p l))
     (filed_state p (with_answer (pos (length bytes)) (with_bytes c.a1 bytes l)) f (record { read = true; write = w; target = File program (offset + length bytes) }) s)
@@ -216,7 +232,7 @@ OpenLaw =
 -- pipe: the lowest free descriptor and the next name the two ends of a new pipe
 abbrev pub PipeLaw : Type 0
 PipeLaw =
-    (s : State) (p : ℕ) (l : Live) (c : Call) (r w f g i : ℕ) → IsLive s p l → writable l.image c.a0 8 ≡ true → 0 < s.free
+    (s : State) (p : ℕ) (l : Live) (c : Call) (r w f g i : ℕ) → IsLive s p l → writable_now l.image c.a0 8 ≡ true → 0 < s.free
     → IsLowestUnused s p l r → lowest_free_above (view_of s p l).descriptors r ≡ Some w → w < NOFILE → get l.descriptors w ≡ None → r ≢ w → f ≢ g
     → NobodyNames s f → NobodyNames s g → NobodyHas s i
     → After s p l (make_pipe c (view_of s p l))

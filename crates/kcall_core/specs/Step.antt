@@ -5,7 +5,7 @@ use Rattle.rv64i_core.specs.Memory.{Store}
 use Rattle.rv64i_core.specs.Step.{Step, Next, Ecall, Fault}
 use Rattle.hart_core.specs.UserMemory.{with_store}
 use Rattle.proc_table.specs.declared.process.Call.{Call}
-use Rattle.kcall_core.specs.Instruction.{next_instruction}
+use Rattle.kcall_core.specs.Touches.{before_instruction, instruction_now}
 use Rattle.kcall_core.specs.Words.{A0, A1, A2, A7, c_int, minus_one}
 use Rattle.kcall_core.specs.View.{View}
 use Rattle.kcall_core.specs.Own.{Own, Stepped, Exited, Faulted, goes_on}
@@ -44,10 +44,10 @@ after_instruction v (Next r st) = goes_on Stepped (stored v r st)
 after_instruction v Ecall = perform (call_begun v) (begun v)
 after_instruction v (Fault cause) = gone (Faulted cause) v
 
--- a call in progress goes on; else the instruction at the pc is done
+-- a call in progress goes on; else the instruction at the pc is done, once the absent page that it is on is there
 abbrev pub going_on : View → Option Call → Own
 going_on v (Some c) = perform c v
-going_on v None = after_instruction v (next_instruction v.regs v.image)
+going_on v None = after_instruction (before_instruction v) (instruction_now v)
 
 -- a process that is marked ends
 abbrev pub unless_killed : View → Bool → Own

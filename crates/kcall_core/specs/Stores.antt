@@ -4,7 +4,7 @@ use Rattle.std.specs.Int.{cast_unsigned, w32}
 use Rattle.xk_base.specs.Words.{le_bytes}
 use Rattle.rv64i_core.specs.Step.{Step, Next, Ecall, Fault}
 use Rattle.proc_table.specs.declared.process.Call.{Call}
-use Rattle.kcall_core.specs.Instruction.{next_instruction}
+use Rattle.kcall_core.specs.Touches.{instruction_now}
 use Rattle.kcall_core.specs.Words.{c_int}
 use Rattle.kcall_core.specs.Processes.{child_status}
 use Rattle.kcall_core.specs.Programs.{program_bytes}
@@ -70,7 +70,7 @@ stored_by_instruction v (Fault cause) o = nothing_stored
 
 abbrev pub stored_in : View → Option Call → Own → Stored
 stored_in v (Some c) o = stored_by_row c v.descriptors (row_of c.number) o
-stored_in v None o = stored_by_instruction v (next_instruction v.regs v.image) o
+stored_in v None o = stored_by_instruction v (instruction_now v) o
 
 -- what the step of this view stores; a marked process ends, and stores nothing
 abbrev pub stored_by : View → Stored
@@ -128,7 +128,7 @@ bytes_by_instruction v (Fault cause) answer = []
 
 abbrev pub bytes_in : View → Option Call → Answer → List ℕ
 bytes_in v (Some c) answer = bytes_by_row c v (row_of c.number) answer
-bytes_in v None answer = bytes_by_instruction v (next_instruction v.regs v.image) answer
+bytes_in v None answer = bytes_by_instruction v (instruction_now v) answer
 
 abbrev pub bytes_stored : View → List ℕ
 bytes_stored v = bytes_in v v.call (own v).answer

@@ -8,7 +8,7 @@ use Rattle.console_core.specs.Reads.{Pulled, pulled}
 use Rattle.file_table.specs.declared.open_file.OpenFile.{OpenFile}
 use Rattle.file_table.specs.declared.open_file.Target.TheVariants.{Console as Terminal}
 use Rattle.proc_table.specs.declared.process.Call.{Call}
-use Rattle.kcall_core.specs.Buffers.{readable, writable}
+use Rattle.kcall_core.specs.Buffers.{readable, writable_now}
 use Rattle.kcall_core.specs.Kernel.{live_now}
 use Rattle.kcall_core.specs.Moves.{OnFile}
 use Rattle.kcall_core.specs.declared.kernel.Kernel.{Kernel}
@@ -37,7 +37,7 @@ with_sent bytes c = record c { to_send = c.to_send ++ bytes }
 pub record ReadsTerminal (k : Kernel) (h : Hart) (c : Call) (n : ℕ) : Type 0 where
   pub file : ℕ
   pub kind : OpenFile
-  pub on : OnFile k h c file kind (writable (live_now k h).image c.a1) n
+  pub on : OnFile k h c file kind (writable_now (live_now k h).image c.a1) n
   pub reads : kind.read ≡ true
   pub is : kind.target ≡ Terminal
 

@@ -1,5 +1,5 @@
 -- Isolation, as laws over runs.
-use Rattle.std.specs.Prelude.{◌≡◌, ℕ, ℤ, pos, Bool, List, [], ◌∷◌, ◌++◌, true, false, replicate, map, filter, nat_eq, Option, None, Some, IsSome, Ok, option_map, ◌⊎◌, ◌≢◌, ◌+◌, ◌-◌, ◌*◌, ◌%◌, ◌<◌, Contains, length, slice_index}
+use Rattle.std.specs.Prelude.{◌≡◌, ℕ, ℤ, pos, Bool, List, [], ◌∷◌, ◌++◌, true, false, map, filter, nat_eq, Option, None, Some, IsSome, Ok, option_map, ◌⊎◌, ◌≢◌, ◌+◌, ◌-◌, ◌*◌, ◌%◌, ◌<◌, Contains, length, slice_index}
 use Rattle.std.specs.FinMap.{get}
 use Rattle.kcall_core.specs.State.{ProgramFile, State}
 use Rattle.xk_base.specs.Image.{Page, Image}
@@ -13,7 +13,7 @@ use Rattle.kcall_core.specs.Own.{Own, Called, Blocked, goes_on}
 use Rattle.kcall_core.specs.Ready.{ready}
 use Rattle.kcall_core.specs.Calls.{Exec, row_of}
 use Rattle.kcall_core.specs.Step.{own, call_in}
-use Rattle.kcall_core.specs.Buffers.{text_at, texts_at, no_slashes}
+use Rattle.kcall_core.specs.Buffers.{may_touching, text_at, texts_at, no_slashes}
 use Rattle.kcall_core.specs.Programs.{program_named}
 use Rattle.xk_base.specs.declared.limits.TheConstants.{MAXPATH, MAXARG, ARG_BYTES}
 use Rattle.proc_table.specs.declared.process.Call.{Call}
@@ -22,7 +22,6 @@ use Rattle.console_core.specs.Keys.{line}
 use Rattle.kcall_core.specs.Words.{CLOCK_ROUND, c_int, minus_one}
 use Rattle.kcall_core.specs.First.{first}
 use Rattle.kcall_core.specs.StepLaws.{waiting_calls}
-use Rattle.user_copy.specs.Reach.{may}
 use Rattle.xk_base.specs.declared.access.Access.TheVariants.{Store}
 use Rattle.kcall_core.specs.Stores.{stored_by, bytes_stored, IsStored}
 use Rattle.xk_base.specs.Bytes.{image_byte}
@@ -208,9 +207,6 @@ IsExecOf c v o image =
 abbrev pub HasExeced : View → Own → Image → Type 0
 HasExeced v o image = IsExecOf (call_in v) v o image
 
-abbrev pub NewPagesAreZeros : View → View → Type 0
-NewPagesAreZeros v n = (page : ℕ) (x : Page) → IsNewPage v n page x → x.bytes ≡ replicate 4096 0
-
 -- the call c was an exec that succeeded
 abbrev pub IsExecDone : Call → Own → Type 0
 IsExecDone c o = (k : ℕ) × (row_of c.number ≡ Some Exec) × (o.answer ≡ Called c.number (pos k))
@@ -241,9 +237,9 @@ OtherBytesStay v n =
 abbrev pub OnlyStoresChangeBytes : Type 0
 OnlyStoresChangeBytes = (v n : View) → HasWholePages v.image → (own v).next ≡ Some n → ¬ IsExecDone (call_in v) (own v) → OtherBytesStay v n
 
--- A step stores only where user code may store
+-- A step stores only where user code may store, or may do so once the page is touched
 abbrev pub StoresWhereUserMay : Type 0
-StoresWhereUserMay = (v : View) (a : ℕ) → IsStored v a → may Store v.image a ≡ true
+StoresWhereUserMay = (v : View) (a : ℕ) → IsStored v a → may_touching Store v.image a ≡ true
 
 -- And each byte that it stores is the one that its source has there: an instruction's store, a child's status, the numbers of a new pipe, the console, a program's file, or a pipe
 abbrev pub StoresTheseBytes : Type 0
@@ -261,12 +257,6 @@ abbrev pub EachByteIsOfItsOwn : Type 0
 EachByteIsOfItsOwn =
     (v n : View) (page : ℕ) (y : Page) (i : ℕ) → HasWholePages v.image → (own v).next ≡ Some n → ¬ IsExecDone (call_in v) (own v)
     → get n.image.pages page ≡ Some y → i < 4096 → IsOfItsOwn v page i (slice_index y.bytes i)
-
--- So far no step both adds a page and stores bytes in it, so all of a new page is zeros
-abbrev pub NoOldPage : Type 0
-NoOldPage =
-    (v n : View) → (own v).next ≡ Some n
-    → (IsExecDone (call_in v) (own v) → HasExeced v (own v) n.image) × (¬ IsExecDone (call_in v) (own v) → NewPagesAreZeros v n)
 
 -- a pipe of the next view that no descriptor of the former was on
 abbrev pub IsNewPipe : View → View → Pipe → Type 0

@@ -10,9 +10,8 @@ ghost use Rattle.proc_table.specs.Processes.{status_of, ended};
 ghost use Rattle.proc_table.specs.Slots.{place_at, changed_at};
 ghost use Rattle.hart_core.specs.declared.hart.Hart.{Hart};
 ghost use Rattle.proc_table.specs.declared.process.Process.{Process};
-ghost use Rattle.rv64i_core.specs.Step.{stop_of};
+ghost use Rattle.rv64i_core.specs.Step.{is_data_page_fault};
 ghost use Rattle.rv64i_core.specs.declared.execution.Stop.TheVariants as stops;
-ghost use Rattle.kcall_core.specs.Instruction.{next_instruction};
 ghost use Rattle.kcall_core.specs.Calls.{with_a0};
 ghost use Rattle.kcall_core.specs.Updates.{give_frames, end_process};
 ghost use Rattle.kcall_core.specs.Step.{own};
@@ -23,7 +22,8 @@ ghost use Rattle.kcall_core.specs.Kernel.{frame_count, IsStopped, state_of, IsSo
 ghost use Rattle.kcall_core.specs.Machine.{world_of};
 ghost use Rattle.kcall_core.specs.Starts.{HasNoProcess};
 ghost use Rattle.kcall_core.specs.Whole.{IsWhole};
-ghost use Rattle.kcall_core.specs.Makes.{Makes, MakesInARow, Stays, StillRuns, view_now};
+ghost use Rattle.kcall_core.specs.Makes.{Makes, MakesInARow, Stays, StillRuns, view_now, stop_now};
+ghost use Rattle.kcall_core.specs.Touched.{HasFaulted};
 
 mod booting;
 mod calls;
@@ -44,6 +44,7 @@ mod sharing;
 mod starting;
 mod terminal;
 mod ticks;
+mod touching;
 mod uart;
 mod wait;
 
@@ -57,7 +58,7 @@ pub use observers::ChildState;
 use proc_table::Table;
 pub use program_list::first_refused;
 use rv64i_core::Stop;
-use xk_base::{Perm, Pid, Program, Reg, Rights};
+use xk_base::{Cause, Perm, Pid, Program, Reg, Rights};
 
 /// The kernel of one machine.
 #[derive(Drop)]
@@ -80,6 +81,16 @@ fn put_answer(hart: &mut Hart, value: u64)
     hart.regs_mut().write(Reg::new(FIRST_ARGUMENT), value);
 }
 
+/// Whether it is a page fault of a load or a store, and not of a fetch.
+fn is_data_page_fault(cause: Cause) -> bool
+    ensures { result ≡ is_data_page_fault cause }
+{
+    match cause {
+        Cause::LoadPageFault | Cause::StorePageFault => true,
+        _ => false,
+    }
+}
+
 impl Kernel {
     /// One instruction of the process that runs. Where it is an ECALL or faults, nothing that can be seen
     /// is another.
@@ -88,11 +99,38 @@ impl Kernel {
         requires whole { IsWhole self.old hart.old }
         requires running { IsRunning self.old }
         requires between_calls { laws.IsBetweenCalls (live_now self.old hart.old) }
-        ensures stop { let live = live_now self.old hart.old in result ≡ stop_of (next_instruction live.regs live.image) }
+        ensures stop { result ≡ stop_now self.old hart.old }
         ensures done { result ≡ stops.Next → Makes self.old hart.old (own (view_now self.old hart.old)) self.new hart.new }
         ensures stays { result ≢ stops.Next → Stays self.old hart.old self.new hart.new }
         ensures same { result ≢ stops.Next → StillRuns self.old hart.old self.new hart.new }
     {
+        match self.memories.step(hart) {
+            Stop::Fault(cause) => self.step_touching(hart, cause),
+            stop => stop,
+        }
+    }
+
+    /// An instruction of the process that runs has faulted, and nothing that can be seen is another. Where it is a
+    /// load or a store on an absent page, and the page's frames are free, the page comes, and it is done.
+    #[cold]
+    #[inline(never)]
+    fn step_touching(&mut self, hart: &mut Hart, cause: Cause) -> Stop
+        requires whole { IsWhole self.old hart.old }
+        requires running { IsRunning self.old }
+        requires between_calls { laws.IsBetweenCalls (live_now self.old hart.old) }
+        requires faulted { HasFaulted cause self.old hart.old }
+        ensures stop { result ≡ stop_now self.old hart.old }
+        ensures done { result ≡ stops.Next → Makes self.old hart.old (own (view_now self.old hart.old)) self.new hart.new }
+        ensures running { result ≡ stops.Next → IsRunning self.new }
+        ensures between_calls { result ≡ stops.Next → laws.IsBetweenCalls (live_now self.new hart.new) }
+        ensures stays { result ≢ stops.Next → (self.new ≡ self.old) × (hart.new ≡ hart.old) }
+    {
+        if !is_data_page_fault(cause) {
+            return Stop::Fault(cause);
+        }
+        if !self.touch_page(hart.fault_address()) {
+            return Stop::Fault(cause);
+        }
         self.memories.step(hart)
     }
 
@@ -104,7 +142,25 @@ impl Kernel {
         requires between_calls { laws.IsBetweenCalls (live_now self.old hart.old) }
         ensures { MakesInARow most result.made result.stop self.old hart.old self.new hart.new }
     {
-        self.memories.steps(hart, most)
+        let mut made = 0;
+        'stretches: while made < most {
+            let series = self.memories.steps(hart, most - made);
+            made += series.made;
+            let Stop::Fault(cause) = series.stop else {
+                return Series {
+                    made,
+                    stop: series.stop,
+                };
+            };
+            match self.step_touching(hart, cause) {
+                Stop::Next => made += 1,
+                stop => return Series { made, stop },
+            }
+        }
+        Series {
+            made,
+            stop: Stop::Next,
+        }
     }
 }
 

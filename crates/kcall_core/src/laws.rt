@@ -8,13 +8,13 @@
 //! kernel's fields too.
 ghost use Rattle.kcall_core.specs.Conditions.{WakesSuffice, ConditionsSuffice, ReadyIsOpen, OpensAlone, OpensNothing, OpensPipe, OpensMarked, OpensReaped, OpensForked, OpensGone, OpensTick, OpensConsole, WaitsStay};
 ghost use Rattle.kcall_core.specs.First.{FirstWell, FirstSlots};
-ghost use Rattle.kcall_core.specs.RowLaws.{InstructionLaw, EcallLaw, ResumeLaw, EndLaw, AnswerLaw, WaitingLaw, ExecLaw, ForkLaw, GoneLaw, ReapLaw, KillLaw, PipeReadLaw, PipeWriteLaw, FileReadLaw, OpenLaw, PipeLaw, DupLaw, DupPipeLaw, CloseLaw, ClosePipeLaw, WellForked, WellGone, WellReaped, WellAlone, WellPiped, WellMoved, WellMarked, WritesTakeNothing, StoresTakeNothing, WellOpened, WellDup, WellDupPipe, WellClosed, WellClosedPipe, WellMadePipe, WellOutside};
+ghost use Rattle.kcall_core.specs.RowLaws.{InstructionLaw, EcallLaw, ResumeLaw, EndLaw, TouchLaw, AnswerLaw, WaitingLaw, ExecLaw, ForkLaw, GoneLaw, ReapLaw, KillLaw, PipeReadLaw, PipeWriteLaw, FileReadLaw, OpenLaw, PipeLaw, DupLaw, DupPipeLaw, CloseLaw, ClosePipeLaw, WellForked, WellGone, WellReaped, WellAlone, WellPiped, WellMoved, WellMarked, WritesTakeNothing, StoresTakeNothing, WellOpened, WellDup, WellDupPipe, WellClosed, WellClosedPipe, WellMadePipe, WellOutside};
 ghost use Rattle.kcall_core.specs.Room.{WholeHasRoom};
 ghost use Rattle.kcall_core.specs.Rounds.{RoundsThenPlan, StopsThenPlan, RoundsFollowRounds, PlanIsRounds, CutEndsInRound};
 ghost use Rattle.kcall_core.specs.Sources.{EachByteHasItsSource};
 ghost use Rattle.kcall_core.specs.StepLaws.{RefusalsChangeNothing, InCallWhereBlocked, BlockedIsInCall};
 ghost use Rattle.kcall_core.specs.Wakes.{PromisedRunsJoin, PromisedRunsSplit, PromisedIsRun, NoLostWakeUp, NeverLost, StaysRunnable, SlotsStay, WaitsAtMost, TurnComes, ComesNearer, IsNear, BlocksUnready};
-ghost use Rattle.kcall_core.specs.Worlds.{TwoWorlds, SameStep, RunsAreCut, PidsAreGiven, OnlyWaitersAreInCalls, OnlyBrokenWritesFailLate, RunsJoin, RunsSplit, Isolated, OthersKeep, OutsideSteps, HaltedStays, UnreadyWaits, NoOldByte, OnlyStoresChangeBytes, StoresWhereUserMay, StoresTheseBytes, EachByteIsOfItsOwn, NoOldPage, NoOldPipe, NoOldChild};
+ghost use Rattle.kcall_core.specs.Worlds.{TwoWorlds, SameStep, RunsAreCut, PidsAreGiven, OnlyWaitersAreInCalls, OnlyBrokenWritesFailLate, RunsJoin, RunsSplit, Isolated, OthersKeep, OutsideSteps, HaltedStays, UnreadyWaits, NoOldByte, OnlyStoresChangeBytes, StoresWhereUserMay, StoresTheseBytes, EachByteIsOfItsOwn, NoOldPipe, NoOldChild};
 
 /// What a process does and sees follows from what it saw and from what is shared with it, whatever else the
 /// machine holds.
@@ -92,13 +92,10 @@ pub fn no_old_byte()
     // each byte of a new page is 0 that the step doesn't store there itself.
     ensures no_old_byte { NoOldByte }
 
-    // So far no step both adds a page and stores bytes in it: all of a new page is zeros.
-    ensures no_old_page { NoOldPage }
-
     // In a page that stays no byte changes that the step doesn't store, but by an exec that succeeded.
     ensures only_stores_change_bytes { OnlyStoresChangeBytes }
 
-    // And it stores only where user code may store.
+    // And it stores only where user code may store, or may do so once the page is touched.
     ensures stores_where_user_may { StoresWhereUserMay }
 
     // And each byte that it stores is the one that its source has there: an instruction's store, a status, the
@@ -223,6 +220,10 @@ pub fn steps()
 
     // A marked process ends, and so does one that faults.
     ensures end { EndLaw }
+
+    // Absent pages come: the process sees them, they take frames, and the step from there on changes the state
+    // as it would from before.
+    ensures touch { TouchLaw }
 {}
 
 /// What the answer of a step tells of what the step leaves.

@@ -3,32 +3,29 @@ use Rattle.std.proofs.Common.{◌≡◌, ℕ, true, Option, Some, None, refl, sy
 use Rattle.std.specs.Prelude.{ℤ, IsSome, is_some, option_map}
 use Rattle.xk_base.specs.declared.access.Cause.{Cause}
 use Rattle.rv64i_core.specs.Registers.{reg}
-use Rattle.rv64i_core.specs.Step.{Step, Next, Ecall, Fault, stop_of}
+use Rattle.rv64i_core.specs.Step.{stop_of}
+use Rattle.rv64i_core.specs.declared.execution.Stop.{Stop}
 use Rattle.rv64i_core.specs.declared.execution.Stop.TheVariants as stops
 use Rattle.hart_core.specs.declared.hart.Hart.{Hart}
 use Rattle.proc_table.specs.declared.process.Call.{Call}
-use Rattle.kcall_core.specs.Instruction.{next_instruction}
 use Rattle.kcall_core.specs.Words.{A7, c_int, minus_one}
 use Rattle.kcall_core.specs.View.{View, view_of}
-use Rattle.kcall_core.specs.Own.{Own, Stepped, Exited, Faulted, gone_with}
+use Rattle.kcall_core.specs.Own.{Own, Stepped, Exited, gone_with}
 use Rattle.kcall_core.specs.Calls.{gone}
 use Rattle.kcall_core.specs.Step.{own, call_in, call_or_begun}
+use Rattle.kcall_core.specs.Touches.{instruction_now}
 use Rattle.kcall_core.specs.RowLaws as laws
 use Rattle.kcall_core.specs.Run.{Outcome, Step_of}
 use Rattle.kcall_core.specs.Kernel.{state_of, IsRunning, pid_now, live_now}
 use Rattle.kcall_core.specs.Whole.{IsWhole}
-use Rattle.kcall_core.specs.Makes.{Makes, Stays, view_now, answer_of}
+use Rattle.kcall_core.specs.Makes.{Makes, Stays, view_now, stop_now, answer_of}
 use Rattle.kcall_core.specs.declared.kernel.Kernel.{Kernel}
-use Rattle.kcall_core.proofs.steps.Alone.{begins, end}
+use Rattle.kcall_core.proofs.steps.Alone.{end}
 use Rattle.kcall_core.proofs.rows.Pids.{own_sound}
 use Rattle.kcall_core.proofs.making.Staying.{stays-view, makes-from}
+use Rattle.kcall_core.proofs.making.Undone.{next-now}
 use Rattle.kcall_core.specs.declared.call_end.CallEnd.{CallEnd}
 use Rattle.kcall_core.proofs.table.States.{none-some}
-
-is-fault : (s : Step) (cause : Cause) → stop_of s ≡ stops.Fault cause → s ≡ Fault cause
-is-fault (Next regs store) cause e = let no : ⊥ = cc in absurd no
-is-fault Ecall cause e = let no : ⊥ = cc in absurd no
-is-fault (Fault other) cause e = let same : other ≡ cause = cc in ap Fault same
 
 pub next-ecall : stops.Next ≡ stops.Ecall → ⊥
 next-ecall e = cc
@@ -48,16 +45,8 @@ module _ (k : Kernel) (h : Hart) where
   marked-own marked = (end (state_of k h) (pid_now k) (live_now k h)).0 marked
 
   module _ (free : laws.IsBetweenCalls (live_now k h)) where
-    pub next-answer : stop_of (next_instruction (live_now k h).regs (live_now k h).image) ≡ stops.Next → (own (view_now k h)).answer ≡ Stepped
-    next-answer next = by (next_instruction (live_now k h).regs (live_now k h).image) refl next
-      where
-        by : (s : Step) → next_instruction (live_now k h).regs (live_now k h).image ≡ s → stop_of s ≡ stops.Next → (own (view_now k h)).answer ≡ Stepped
-        by (Next r st) is e = ap (λ (o : Own). o.answer) (begins (state_of k h) (pid_now k) (live_now k h) free (Next r st) is)
-        by Ecall is e = let no : ⊥ = cc in absurd no
-        by (Fault cause) is e = let no : ⊥ = cc in absurd no
-
-    pub fault-own : (cause : Cause) → stop_of (next_instruction (live_now k h).regs (live_now k h).image) ≡ stops.Fault cause → own (view_now k h) ≡ gone (Faulted cause) (view_now k h)
-    fault-own cause e = (end (state_of k h) (pid_now k) (live_now k h)).1 cause free (is-fault (next_instruction (live_now k h).regs (live_now k h).image) cause e)
+    pub next-answer : stop_now k h ≡ stops.Next → (own (view_now k h)).answer ≡ Stepped
+    next-answer next = let n = next-now k h free next in ap (λ (o : Own). o.answer) n.2
 
   -- the number of the call that a step is on
   pub begun-number : (live_now k h).call ≡ None → (call_in (view_now k h)).number ≡ c_int (reg h.regs A7)
@@ -98,27 +87,15 @@ module _ (k k' : Kernel) (h h' : Hart) where
   pub marked-answer : (live_now k h).killed ≡ true → (own (view_now k h)).answer ≡ Exited minus_one
   marked-answer marked = ap (λ (o : Own). o.answer) (marked-own k h marked)
 
--- its instruction faults, which leaves the kernel as it was, and it ends
-pub ends-faulted : (k mid k' : Kernel) (h hart h' : Hart) (cause : Cause) → IsWhole k h → IsRunning k → laws.IsBetweenCalls (live_now k h) → stops.Fault cause ≡ stop_of (next_instruction (live_now k h).regs (live_now k h).image) → Stays k h mid hart
-    → Makes mid hart (gone (Faulted cause) (view_now mid hart)) k' h' → Makes k h (own (view_now k h)) k' h'
-ends-faulted k mid k' h hart h' cause whole runs free stop stays made =
-    let from : Makes k h (gone (Faulted cause) (view_now mid hart)) k' h' = makes-from k mid h hart whole.sound runs stays (gone (Faulted cause) (view_now mid hart)) k' h' made in
-    let same : own (view_now k h) ≡ gone (Faulted cause) (view_now mid hart) = fault-own k h free cause (sym stop) ∙ ap (gone (Faulted cause)) (sym (stays-view k mid h hart whole.sound runs stays)) in
-    subst (λ (o : Own). Makes k h o k' h') (sym same) from
+-- its instruction isn't done, which leaves the kernel as it was: it ends so behind, too
+pub stop-behind : (k mid : Kernel) (h hart : Hart) (stop : Stop) → IsWhole k h → IsRunning k → Stays k h mid hart → stop ≡ stop_now k h → stop ≡ stop_now mid hart
+stop-behind k mid h hart stop whole runs stays is = is ∙ ap (λ (v : View). stop_of (instruction_now v)) (sym (stays-view k mid h hart whole.sound runs stays))
 
--- its instruction is an ECALL, which leaves the kernel as it was, and the call is made
+-- and what comes of it is what the step comes to
 pub makes-call : (k mid k' : Kernel) (h hart h' : Hart) → IsWhole k h → IsRunning k → Stays k h mid hart → Makes mid hart (own (view_now mid hart)) k' h' → Makes k h (own (view_now k h)) k' h'
 makes-call k mid k' h hart h' whole runs stays made =
     makes-from k mid h hart whole.sound runs stays (own (view_now k h)) k' h'
     (subst (λ (v : View). Makes mid hart (own v) k' h') (stays-view k mid h hart whole.sound runs stays) made)
-
--- and what it answers
-pub call-answer : (k mid : Kernel) (h hart : Hart) (pid : ℕ) (number : ℤ) (end : CallEnd) (outcome : Outcome) → IsWhole k h → IsRunning k → laws.IsBetweenCalls (live_now k h) → Stays k h mid hart → (live_now mid hart).call ≡ None
-    → number ≡ c_int (reg hart.regs A7) → (own (view_now mid hart)).answer ≡ answer_of (call_in (view_now mid hart)).number end → outcome ≡ Step_of pid (answer_of number end)
-    → outcome ≡ Step_of pid (own (view_now k h)).answer
-call-answer k mid h hart pid number end outcome whole runs free stays none is answer told =
-    told ∙ ap (λ n. Step_of pid (answer_of n end)) (is ∙ sym (begun-number mid hart none)) ∙ ap (Step_of pid) (sym answer)
-    ∙ ap (λ (v : View). Step_of pid (own v).answer) (stays-view k mid h hart whole.sound runs stays)
 
 -- a call that was in progress goes on
 pub resume-answer : (k : Kernel) (h : Hart) (pid : ℕ) (number : ℤ) (end : CallEnd) (outcome : Outcome) → Some number ≡ option_map (λ (c : Call). c.number) (live_now k h).call

@@ -5,17 +5,16 @@ use Rattle.std.proofs.lemmas.List.{replicate_more}
 use Rattle.xk_base.specs.declared.access.Cause.{Cause}
 use Rattle.rv64i_core.specs.Registers.{Registers}
 use Rattle.rv64i_core.specs.Memory.{Store}
-use Rattle.rv64i_core.specs.Step.{Step, Next, Ecall, Fault, stop_of}
 use Rattle.rv64i_core.specs.declared.execution.Stop.{Stop}
 use Rattle.rv64i_core.specs.declared.execution.Stop.TheVariants as stops
 use Rattle.hart_core.specs.declared.hart.Hart.{Hart}
 use Rattle.proc_table.specs.declared.process.Call.{Call}
-use Rattle.kcall_core.specs.Instruction.{next_instruction}
 use Rattle.kcall_core.specs.Processes.{Live}
 use Rattle.kcall_core.specs.State.{live}
 use Rattle.kcall_core.specs.View.{View, view, view_of}
-use Rattle.kcall_core.specs.Own.{Own, Stepped, Exited}
+use Rattle.kcall_core.specs.Own.{Own, Stepped, Exited, goes_on}
 use Rattle.kcall_core.specs.Step.{own, stored}
+use Rattle.kcall_core.specs.Touches.{before_instruction}
 use Rattle.kcall_core.specs.RowLaws as laws
 use Rattle.kcall_core.specs.Run.{World, Run, Step_of, stays_current, halts_with}
 use Rattle.kcall_core.specs.Run as runs
@@ -23,19 +22,19 @@ use Rattle.kcall_core.specs.Wakes.{Promised, IsPromised}
 use Rattle.kcall_core.specs.Kernel.{state_of, IsRunning, pid_now, live_now}
 use Rattle.kcall_core.specs.Machine.{turns_of, world_of}
 use Rattle.kcall_core.specs.Whole.{IsWhole}
-use Rattle.kcall_core.specs.Makes.{Makes, MakesDone, IsUndone, IsLastMade, MakesInARow, Stays, StillRuns, view_now, answer_of}
+use Rattle.kcall_core.specs.Makes.{Makes, MakesDone, IsUndone, IsLastMade, MakesInARow, Stays, StillRuns, view_now, stop_now, answer_of}
 use Rattle.kcall_core.specs.declared.kernel.Kernel.{Kernel}
 use Rattle.kcall_core.specs.declared.call_end.CallEnd.{CallEnd}
 use Rattle.kcall_core.specs.declared.call_end.CallEnd.TheVariants.{Done, Wait, Gone}
 use Rattle.kcall_core.proofs.runs.Boot.{promised_runs_join}
 use Rattle.kcall_core.proofs.runs.Promises.{step-promised, view-is}
-use Rattle.kcall_core.proofs.steps.Alone.{begins}
+use Rattle.kcall_core.proofs.making.Undone.{before-pages, next-now}
 use Rattle.xv_machine.specs.declared.event.Outcome.{Outcome}
 use Rattle.xv_machine.specs.Drives.{done_by}
 use Rattle.xv_machine.specs.Events.{outcome_of}
 use Rattle.xv_machine.specs.Sound.{IsHalted}
 use Rattle.xv_machine.specs.Steps.{IsBusy, Did, Advanced}
-use Rattle.xv_machine.proofs.OneStep.{next-answer}
+use Rattle.xv_machine.proofs.OneStep.{next-answer, stop-behind}
 use Rattle.xv_machine.proofs.Runs.{current-pid, halts-after}
 
 -- ---- what isn't a done instruction
@@ -85,7 +84,7 @@ view-call : (k : Kernel) (h : Hart) → (view_now k h).call ≡ (live_now k h).c
 unfolding view_of
 view-call k h = refl
 
-module _ (k k' : Kernel) (h h' : Hart) (whole : IsWhole k h) (runs : IsRunning k) (free : laws.IsBetweenCalls (live_now k h)) (next : stop_of (next_instruction (live_now k h).regs (live_now k h).image) ≡ stops.Next) (made : Makes k h (own (view_now k h)) k' h') where
+module _ (k k' : Kernel) (h h' : Hart) (whole : IsWhole k h) (runs : IsRunning k) (free : laws.IsBetweenCalls (live_now k h)) (next : stop_now k h ≡ stops.Next) (made : Makes k h (own (view_now k h)) k' h') where
   answer-is : (own (view_now k h)).answer ≡ Stepped
   answer-is = next-answer k h free next
 
@@ -106,28 +105,28 @@ module _ (k k' : Kernel) (h h' : Hart) (whole : IsWhole k h) (runs : IsRunning k
   unfolding view_of
   next-view = made.state.next
 
-  next-is : (r : Registers) (st : Option Store) → next_instruction (live_now k h).regs (live_now k h).image ≡ Next r st → view_now k' h' ≡ stored (view_now k h) r st
+  next-is : (r : Registers) (st : Option Store) → own (view_now k h) ≡ goes_on Stepped (stored (before_instruction (view_now k h)) r st) → view_now k' h' ≡ stored (before_instruction (view_now k h)) r st
   next-is r st is =
-      some-same (view_now k' h') (stored (view_now k h) r st)
-      (sym (view-is k' h' made.whole.sound runs-on.0) ∙ ap (view (state_of k' h')) (sym runs-on.1) ∙ next-view ∙ ap (λ (o : Own). o.next) (begins (state_of k h) (pid_now k) (live_now k h) free (Next r st) is))
+      some-same (view_now k' h') (stored (before_instruction (view_now k h)) r st)
+      (sym (view-is k' h' made.whole.sound runs-on.0) ∙ ap (view (state_of k' h')) (sym runs-on.1) ∙ next-view ∙ ap (λ (o : Own). o.next) is)
 
   pub still-free : laws.IsBetweenCalls (live_now k' h')
-  still-free = by (next_instruction (live_now k h).regs (live_now k h).image) refl next
-    where
-      by : (s : Step) → next_instruction (live_now k h).regs (live_now k h).image ≡ s → stop_of s ≡ stops.Next → laws.IsBetweenCalls (live_now k' h')
-      by (Next r st) is e = (
-        sym (view-killed k' h') ∙ ap (λ (v : View). v.killed) (next-is r st is) ∙ stored-killed (view_now k h) r st ∙ view-killed k h ∙ free.0,
-        sym (view-call k' h') ∙ ap (λ (v : View). v.call) (next-is r st is) ∙ stored-call (view_now k h) r st ∙ view-call k h ∙ free.1,
+  still-free =
+      let n = next-now k h free next in
+      let now = next-is n.0 n.1 n.2 in
+      let v = before_instruction (view_now k h) in
+      let before = before-pages (view_now k h) in
+      (
+        sym (view-killed k' h') ∙ ap (λ (v : View). v.killed) now ∙ stored-killed v n.0 n.1 ∙ ap (λ (v : View). v.killed) before ∙ view-killed k h ∙ free.0,
+        sym (view-call k' h') ∙ ap (λ (v : View). v.call) now ∙ stored-call v n.0 n.1 ∙ ap (λ (v : View). v.call) before ∙ view-call k h ∙ free.1,
       )
-      by Ecall is e = let no : ⊥ = cc in absurd no
-      by (Fault cause) is e = let no : ⊥ = cc in absurd no
 
 -- ---- one after another
 
 pub did-none : (k : Kernel) (h : Hart) → IsWhole k h → IsRunning k → IsSome (live (state_of k h) 1) → Did k h 0 k h
 did-none k h whole runs first = record { whole = whole; running = runs; pid = refl; first = first; run = refl; frames = refl }
 
-pub did-more : (k mid k' : Kernel) (h hart h' : Hart) (n : ℕ) → Did k h n mid hart → laws.IsBetweenCalls (live_now mid hart) → stop_of (next_instruction (live_now mid hart).regs (live_now mid hart).image) ≡ stops.Next
+pub did-more : (k mid k' : Kernel) (h hart h' : Hart) (n : ℕ) → Did k h n mid hart → laws.IsBetweenCalls (live_now mid hart) → stop_now mid hart ≡ stops.Next
     → Makes mid hart (own (view_now mid hart)) k' h' → Did k h (n + 1) k' h'
 did-more k mid k' h hart h' n did free next made =
     let on = runs-on mid k' hart h' did.whole did.running free next made in
@@ -176,8 +175,8 @@ module _ (k k' : Kernel) (h h' : Hart) (most made : ℕ) (stop : Stop) (row : Ma
   pub row-free : stop ≢ stops.Next → laws.IsBetweenCalls (live_now k' h')
   row-free other = subst laws.IsBetweenCalls (sym (row-undone other).same.live) row.free
 
-  pub row-stop : stop ≢ stops.Next → stop ≡ stop_of (next_instruction (live_now k' h').regs (live_now k' h').image)
-  row-stop other = (row-undone other).ends ∙ ap (λ (l : Live). stop_of (next_instruction l.regs l.image)) (sym (row-undone other).same.live)
+  pub row-stop : stop ≢ stops.Next → stop ≡ stop_now k' h'
+  row-stop other = stop-behind row.mid k' row.between h' stop row.whole row.running (row-undone other).stays (row-undone other).ends
 
   module _ (whole : IsWhole k h) (runs : IsRunning k) (first : IsSome (live (state_of k h) 1)) where
     pub row-did : Did k h made k' h'

@@ -5,11 +5,9 @@ ghost use Rattle.kcall_core.specs.RowLaws as laws;
 ghost use Rattle.kcall_core.specs.Run.{Step_of};
 ghost use Rattle.kcall_core.specs.Own.{Stepped};
 ghost use Rattle.kcall_core.specs.State.{live};
-ghost use Rattle.kcall_core.specs.Instruction.{next_instruction};
 ghost use Rattle.kcall_core.specs.Kernel.{state_of, IsSound, IsRunning, pid_now, live_now};
 ghost use Rattle.kcall_core.specs.Whole.{IsWhole};
-ghost use Rattle.kcall_core.specs.Makes.{Makes, view_now, answer_of};
-ghost use Rattle.rv64i_core.specs.Step.{stop_of};
+ghost use Rattle.kcall_core.specs.Makes.{Makes, view_now, stop_now, answer_of};
 ghost use Rattle.rv64i_core.specs.declared.execution.Stop.TheVariants as stops;
 ghost use Rattle.xv_machine.specs.Events.{outcome_of};
 ghost use Rattle.xv_machine.specs.Steps.{IsBusy, Advanced};
@@ -75,7 +73,7 @@ fn trap(kernel: &mut Kernel, hart: &mut Hart, pid: Pid, stop: Stop) -> Outcome
     requires running { IsRunning kernel.old }
     requires between_calls { laws.IsBetweenCalls (live_now kernel.old hart.old) }
     requires pid { pid ≡ pid_now kernel.old }
-    requires stop { let live = live_now kernel.old hart.old in stop ≡ stop_of (next_instruction live.regs live.image) }
+    requires stop { stop ≡ stop_now kernel.old hart.old }
     requires undone { stop ≢ stops.Next }
     ensures made { Makes kernel.old hart.old (own (view_now kernel.old hart.old)) kernel.new hart.new }
     ensures answer { outcome_of result ≡ Step_of pid (own (view_now kernel.old hart.old)).answer }

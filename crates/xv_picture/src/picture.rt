@@ -76,6 +76,7 @@ fn call_name(number: i32) -> &'static str {
         15 => "open",
         16 => "write",
         21 => "close",
+        22 => "sbrklazy",
         _ => "unknown",
     }
 }

@@ -20,7 +20,7 @@ use Rattle.file_table.specs.declared.open_file.Target.TheVariants.{Program as Fi
 use Rattle.proc_table.specs.Slots.{descriptors_at}
 use Rattle.proc_table.specs.declared.process.Call.{Call}
 use Rattle.kcall_core.specs.Words.{or_zero}
-use Rattle.kcall_core.specs.Buffers.{writable}
+use Rattle.kcall_core.specs.Buffers.{writable_now}
 use Rattle.kcall_core.specs.Processes.{Live}
 use Rattle.kcall_core.specs.Programs.{program_bytes}
 use Rattle.kcall_core.specs.State.{State}
@@ -96,7 +96,7 @@ module _ (xs : List (Option Entry)) (g to : ℕ) (e : Entry) (is : entry_at xs g
 pub slot-memory : {k : Kernel} {h : Hart} {slot : ℕ} → IsWhole k h → k.current ≡ Some slot → HasMemory (each_of k.memories) slot
 slot-memory {k} {h} {slot} whole is = let r = whole.sound.current slot is in whole.sound.lives slot r.process r.is r.live
 
-module _ {k : Kernel} {h : Hart} {c : Call} {file : ℕ} {x : OpenFile} {n : ℕ} (whole : IsWhole k h) (runs : IsRunning k) (on : OnFile k h c file x (writable (live_now k h).image c.a1) n) (reads : x.read ≡ true) (program offset : ℕ) (target : x.target ≡ File program offset)
+module _ {k : Kernel} {h : Hart} {c : Call} {file : ℕ} {x : OpenFile} {n : ℕ} (whole : IsWhole k h) (runs : IsRunning k) (on : OnFile k h c file x (writable_now (live_now k h).image c.a1) n) (reads : x.read ≡ true) (program offset : ℕ) (target : x.target ≡ File program offset)
     (bytes : List ℕ) (bytes-are : bytes ≡ take n (drop offset (program_bytes (slice_get (state_of k h).programs program)))) where
   abbrev s : State
   s = state_of k h

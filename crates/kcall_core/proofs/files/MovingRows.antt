@@ -1,5 +1,5 @@
 -- The tests of read and write, in their order, and what an open file is on.
-use Rattle.std.proofs.Common.{◌≡◌, ◌≢◌, ℕ, ◌<◌, Bool, true, false, not, Option, Some, None, refl, sym, ap, ◌∙◌, subst}
+use Rattle.std.proofs.Common.{◌≡◌, ◌≢◌, ℕ, ◌<◌, Bool, true, false, not, Option, Some, None, inl, inr, refl, sym, ap, ◌∙◌, subst, arith}
 use Rattle.std.specs.Prelude.{ℤ, pos, negsuc, IsSome, is_some, option_map, nat_eq}
 use Rattle.std.specs.FinMap.{get}
 use Rattle.xk_base.specs.declared.limits.TheConstants.{NOFILE}
@@ -12,7 +12,7 @@ use Rattle.file_table.specs.declared.open_file.Target.{Target}
 use Rattle.file_table.specs.declared.open_file.Target.TheVariants.{Program as File, Pipe as Pipe_end}
 use Rattle.proc_table.specs.declared.process.Call.{Call}
 use Rattle.kcall_core.specs.Words.{c_int}
-use Rattle.kcall_core.specs.Buffers.{readable, writable}
+use Rattle.kcall_core.specs.Buffers.{readable, writable_now}
 use Rattle.kcall_core.specs.Processes.{Live}
 use Rattle.kcall_core.specs.State.{State}
 use Rattle.kcall_core.specs.View.{View, Descriptor, view_of, numbered, rename, rename_shown, show, descriptor_at, descriptor_on, least_on_pipe, pipe_name}
@@ -30,8 +30,11 @@ use Rattle.kcall_core.proofs.steps.Pipes.{least_there}
 use Rattle.kcall_core.proofs.rows.Decoding.{write_case}
 use Rattle.kcall_core.proofs.files.UsedDescriptor.{InUse}
 use Rattle.kcall_core.specs.Ready.{in_use}
-use Rattle.kcall_core.proofs.rows.RowParts.{read_on, read_from, write_on, write_to, moving, unless, unless_nothing, length_of_int}
-use Rattle.kcall_core.proofs.rows.RowsByParts.{read_same, write_same}
+use Rattle.kcall_core.proofs.rows.RowParts.{write_on, write_to, moving, unless, unless_nothing, length_of_int}
+use Rattle.kcall_core.proofs.rows.RowsByParts.{write_same, read_unused, read_shut, read_below, read_nothing, read_unwritable, read_dear, read_ready}
+use Rattle.kcall_core.proofs.rows.Settled.{touch-dear}
+use Rattle.kcall_core.specs.Touches.{pages_at}
+use Rattle.kcall_core.specs.Touched.{IsReady, IsUnready}
 
 -- ---- the tests
 
@@ -40,7 +43,7 @@ unused-in v (pos d) none = none d refl
 unused-in v (negsuc k) none = refl
 
 pub read-unused : (c : Call) (v : View) → ((d : ℕ) → c_int c.a0 ≡ pos d → v.descriptors d ≡ None) → read c v ≡ refused c v
-read-unused c v none = read_same c v ∙ ap (read_on c v) (unused-in v (c_int c.a0) none)
+read-unused c v none = read_unused c v (unused-in v (c_int c.a0) none)
 
 pub write-unused : (c : Call) (v : View) → ((d : ℕ) → c_int c.a0 ≡ pos d → v.descriptors d ≡ None) → write c v ≡ refused c v
 write-unused c v none = write_same c v ∙ ap (write_on c v) (unused-in v (c_int c.a0) none)
@@ -86,24 +89,30 @@ module _ {k : Kernel} {h : Hart} (c : Call) {fd file : ℕ} {x : OpenFile} (whol
   found = ap (in_use v) number ∙ seen
 
   pub read-shut : x.read ≡ false → read c v ≡ refused c v
-  read-shut shut = read_same c v ∙ ap (read_on c v) found ∙ ap (λ (b : Bool). unless (not b) c v (λ _. moving c v (writable v.image c.a1 (length_of_int (c_int c.a2))) (c_int c.a2) (λ n. read_from c v n shown.file shown.shown))) shut
+  read-shut shut = read_shut c v fd shown number seen shut
 
   pub write-shut : x.write ≡ false → write c v ≡ refused c v
   write-shut shut = write_same c v ∙ ap (write_on c v) found ∙ ap (λ (b : Bool). unless (not b) c v (λ _. moving c v (readable v.image c.a1 (length_of_int (c_int c.a2))) (c_int c.a2) (λ n. write_to c v n shown.shown))) shut
 
   module _ (reads : x.read ≡ true) where
-    asked : read c v ≡ moving c v (writable v.image c.a1 (length_of_int (c_int c.a2))) (c_int c.a2) (λ n. read_from c v n shown.file shown.shown)
-    asked = read_same c v ∙ ap (read_on c v) found ∙ ap (λ (b : Bool). unless (not b) c v (λ _. moving c v (writable v.image c.a1 (length_of_int (c_int c.a2))) (c_int c.a2) (λ n. read_from c v n shown.file shown.shown))) reads
-
     pub read-below : ((n : ℕ) → c_int c.a2 ≢ pos n) → read c v ≡ refused c v
-    read-below none = asked ∙ moving-below c v (writable v.image c.a1 (length_of_int (c_int c.a2))) (c_int c.a2) (λ n. read_from c v n shown.file shown.shown) none
+    read-below none = read_below c v fd shown number seen reads none
 
     pub read-nothing : c_int c.a2 ≡ pos 0 → read c v ≡ done c (pos 0) v
-    read-nothing e = asked ∙ moving-nothing c v (writable v.image c.a1) (c_int c.a2) (λ n. read_from c v n shown.file shown.shown) e
+    read-nothing e = read_nothing c v fd shown number seen reads e
 
-    pub read-absent : (n : ℕ) → c_int c.a2 ≡ pos n → nat_eq n 0 ≡ false → writable l.image c.a1 n ≡ false → read c v ≡ refused c v
+    -- the buffer can't be written, or its absent pages cost more than is free
+    pub read-unready : (n : ℕ) → c_int c.a2 ≡ pos n → nat_eq n 0 ≡ false → IsUnready c.a1 n 0 k h → read c v ≡ refused c v
     unfolding view_of
-    read-absent n e some absent = asked ∙ moving-absent c v (writable v.image c.a1) (c_int c.a2) (λ n. read_from c v n shown.file shown.shown) n e some absent
+    read-unready n e some unready = elim unready [
+      | inl bad ↦ read_unwritable c v fd shown number seen reads n e some bad
+      | inr dear ↦ read_dear c v fd shown number seen reads n e some (touch-dear v (pages_at c.a1 n) (omega (arith, dear)))
+    ]
+
+    -- the buffer is there: what the row comes to then
+    pub read-ready : (n : ℕ) {k' : Kernel} → c_int c.a2 ≡ pos n → nat_eq n 0 ≡ false → IsReady c.a1 n 0 k h k' h → read c v ≡ read c (view_now k' h)
+    unfolding view_of
+    read-ready n {k'} e some ready = read_ready c v (view_now k' h) fd n shown number seen reads e some ready.may ready.touched.view
 
   module _ (writes : x.write ≡ true) where
     asked-to : write c v ≡ moving c v (readable v.image c.a1 (length_of_int (c_int c.a2))) (c_int c.a2) (λ n. write_to c v n shown.shown)
@@ -158,7 +167,7 @@ pub writes-pipe : {k : Kernel} {h : Hart} {c : Call} {file : ℕ} {x : OpenFile}
 writes-pipe {end} whole runs on writes e = record { fd = on.fd; name = (named-least whole runs on e).0; end = end; pipe = (its-pipe whole runs on e).0; on = on-it whole runs on e; writes = writes; number = on.number; buffer = on.buffer }
 
 -- a read from a pipe
-pub reads-pipe : {k : Kernel} {h : Hart} {c : Call} {file : ℕ} {x : OpenFile} {n i : ℕ} {end : End} → IsWhole k h → IsRunning k → OnFile k h c file x (writable (live_now k h).image c.a1) n → x.read ≡ true → x.target ≡ Pipe_end i end → ReadsPipe k h c i n
+pub reads-pipe : {k : Kernel} {h : Hart} {c : Call} {file : ℕ} {x : OpenFile} {n i : ℕ} {end : End} → IsWhole k h → IsRunning k → OnFile k h c file x (writable_now (live_now k h).image c.a1) n → x.read ≡ true → x.target ≡ Pipe_end i end → ReadsPipe k h c i n
 reads-pipe {end} whole runs on reads e = record { fd = on.fd; name = (named-least whole runs on e).0; end = end; pipe = (its-pipe whole runs on e).0; on = on-it whole runs on e; reads = reads; number = on.number; buffer = on.buffer }
 
 -- a program's file takes no bytes

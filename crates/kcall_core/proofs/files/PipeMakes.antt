@@ -1,12 +1,14 @@
 -- The call pipe: what it leaves makes the step that its row tells.
-use Rattle.std.proofs.Common.{◌≡◌, ◌≢◌, ℕ, ◌-◌, ◌<◌, ◌||◌, ◌++◌, not, Bool, true, false, cond, List, length, get_or, set, subst, Option, Some, None, IsSome, inl, inr, refl, sym, ap, ◌∙◌, arith}
+use Rattle.std.proofs.Common.{◌≡◌, ◌≢◌, ℕ, ◌-◌, ◌+◌, ◌<◌, ◌||◌, ◌++◌, Bool, true, false, cond, List, length, get_or, set, subst, Option, Some, None, IsSome, inl, inr, refl, sym, ap, ◌∙◌, arith}
 use Rattle.std.specs.Prelude.{pos, nat_eq}
 use Rattle.std.specs.Ordering.{nat_cmp}
 use Rattle.std.specs.FinMap.{FinMap, get, insert}
+use Rattle.std.proofs.lemmas.Bool.{cases_lt}
 use Rattle.std.proofs.lemmas.Bool.Decides.{eqb_tells}
 use Rattle.std.proofs.lemmas.List.{get_or-set_same, get_or-set_other}
 use Rattle.xk_base.specs.Gathered.{gathered}
 use Rattle.xk_base.specs.Words.{le_bytes}
+use Rattle.xk_base.specs.Image.{price}
 use Rattle.xk_base.specs.Bytes.{write_image}
 use Rattle.xk_base.specs.declared.limits.TheConstants.{NOFILE, OPEN_FILES}
 use Rattle.hart_core.specs.declared.hart.Hart.{Hart}
@@ -21,7 +23,10 @@ use Rattle.file_table.specs.declared.open_file.Target.{Target}
 use Rattle.file_table.specs.declared.open_file.Target.TheVariants.{Console as Terminal, Program as File, Pipe as Pipe_end}
 use Rattle.proc_table.specs.Slots.{Slots, place_at, place_is_live, descriptors_at}
 use Rattle.proc_table.specs.declared.process.Call.{Call}
-use Rattle.kcall_core.specs.Buffers.{writable}
+use Rattle.kcall_core.specs.Buffers.{writable_now}
+use Rattle.kcall_core.specs.Touches.{pages_at, brought}
+use Rattle.kcall_core.specs.Touched.{IsReady, IsUnready}
+use Rattle.kcall_core.proofs.rows.Settled.{touch-dear, touch-view}
 use Rattle.kcall_core.specs.Processes.{Live, Alive}
 use Rattle.kcall_core.specs.State.{State}
 use Rattle.kcall_core.specs.View.{View, view_of, or_gone}
@@ -61,8 +66,8 @@ use Rattle.kcall_core.proofs.making.CallAnswers.{IsDone}
 use Rattle.kcall_core.proofs.making.Prepared.{over}
 use Rattle.kcall_core.proofs.making.Midway.{WakeOn, Midway, midway-done}
 use Rattle.kcall_core.proofs.making.Moved.{nobody, still}
-use Rattle.kcall_core.proofs.rows.RowParts.{piped, piped_from, unless}
-use Rattle.kcall_core.proofs.rows.RowsByParts.{pipe_same}
+use Rattle.kcall_core.proofs.rows.RowParts.{piped}
+use Rattle.kcall_core.proofs.rows.RowsByParts.{pipe_unwritable, pipe_none, pipe_full, pipe_ready, pipe_no_read, pipe_no_write}
 
 -- ---- the tests
 
@@ -70,24 +75,37 @@ or-true : (b : Bool) → (b || true) ≡ true
 or-true true = refl
 or-true false = refl
 
+module _ (k : Kernel) (h : Hart) (c : Call) where
+  -- where its buffer can't be written, or its absent pages and the pipe's frame aren't free, a pipe is refused
+  pub pipe-unready : IsUnready c.a0 8 1 k h → make_pipe c (view_now k h) ≡ refused c (view_now k h)
+  unfolding view_of
+  pipe-unready unready =
+      let ps = pages_at c.a0 8 in
+      let image = (live_now k h).image in
+      elim unready [
+        | inl bad ↦ pipe_unwritable c (view_now k h) bad
+        | inr dear ↦ elim (cases_lt (price image + (state_of k h).free) (price (brought ps image))) [
+          | inl more ↦ pipe_none c (view_now k h) (touch-dear (view_now k h) ps more)
+          | inr fits ↦
+              let none : (state_of k h).free + price image - price (brought ps image) ≡ 0 = omega (arith, dear, fits) in
+              pipe_full c (view_now k h) (record (view_now k h) { image = brought ps image; free = 0 }) (touch-view (view_now k h) ps 0 fits none) refl
+        ]
+      ]
+
+  -- its buffer and a frame are there: what the row comes to then
+  pub pipe-ready : {k' : Kernel} (r w : ℕ) → lowest_free (view_now k h).descriptors ≡ Some r → lowest_free_above (view_now k h).descriptors r ≡ Some w → IsReady c.a0 8 1 k h k' h → make_pipe c (view_now k h) ≡ make_pipe c (view_now k' h)
+  unfolding view_of
+  pipe-ready {k'} r w least above ready = pipe_ready c (view_now k h) (view_now k' h) r w ready.may least above ready.touched.view (elim (eqb_tells (state_of k' h).free 0) [
+    | inl zero ↦ absurd (omega (arith, ready.free, zero.1))
+    | inr some ↦ some.0
+  ])
+
 module _ (c : Call) (v : View) where
-  pub pipe-unwritable : writable v.image c.a0 8 ≡ false → make_pipe c v ≡ refused c v
-  pipe-unwritable e = pipe_same c v ∙ ap (λ b. unless (not b || nat_eq v.free 0) c v (λ _. piped_from c v (lowest_free v.descriptors))) e
+  pub pipe-one : lowest_free v.descriptors ≡ None → make_pipe c v ≡ refused c v
+  pipe-one none = pipe_no_read c v none
 
-  pub pipe-frameless : nat_eq v.free 0 ≡ true → make_pipe c v ≡ refused c v
-  pipe-frameless e =
-      pipe_same c v
-      ∙ ap (λ b. unless (not (writable v.image c.a0 8) || b) c v (λ _. piped_from c v (lowest_free v.descriptors))) e
-      ∙ ap (λ b. unless b c v (λ _. piped_from c v (lowest_free v.descriptors))) (or-true (not (writable v.image c.a0 8)))
-
-  pub has-room : writable v.image c.a0 8 ≡ true → nat_eq v.free 0 ≡ false → (not (writable v.image c.a0 8) || nat_eq v.free 0) ≡ false
-  has-room e f = ap (λ b. not b || nat_eq v.free 0) e ∙ f
-
-  pub pipe-full : writable v.image c.a0 8 ≡ true → nat_eq v.free 0 ≡ false → lowest_free v.descriptors ≡ None → make_pipe c v ≡ refused c v
-  pipe-full e f none = pipe_same c v ∙ ap (λ b. unless b c v (λ _. piped_from c v (lowest_free v.descriptors))) (has-room e f) ∙ ap (piped_from c v) none
-
-  pub pipe-one : (r : ℕ) → writable v.image c.a0 8 ≡ true → nat_eq v.free 0 ≡ false → lowest_free v.descriptors ≡ Some r → lowest_free_above v.descriptors r ≡ None → make_pipe c v ≡ refused c v
-  pipe-one r e f least none = pipe_case c v r (has-room e f) least ∙ ap (piped c v r) none
+  pub pipe-other : (r : ℕ) → lowest_free v.descriptors ≡ Some r → lowest_free_above v.descriptors r ≡ None → make_pipe c v ≡ refused c v
+  pipe-other r least none = pipe_no_write c v r least none
 
 -- ---- nobody waits for a pipe that isn't there
 
@@ -416,10 +434,10 @@ module _ {k : Kernel} {h : Hart} {slot r w i a : ℕ} {bytes : List ℕ} {m : Me
 
     -- ---- the call is done
 
-    module _ (c : Call) (address : c.a0 ≡ a) (numbers : bytes ≡ le_bytes 4 r ++ le_bytes 4 w) (room : writable (view_now k h).image c.a0 8 ≡ true) (frame : nat_eq (view_now k h).free 0 ≡ false)
+    module _ (c : Call) (address : c.a0 ≡ a) (numbers : bytes ≡ le_bytes 4 r ++ le_bytes 4 w) (room : writable_now (view_now k h).image c.a0 8 ≡ true) (frame : nat_eq (view_now k h).free 0 ≡ false)
         (lowest : lowest_free (view_now k h).descriptors ≡ Some r) (above : lowest_free_above (view_now k h).descriptors r ≡ Some w) where
       row : make_pipe c (view_now k h) ≡ piped c (view_now k h) r (Some w)
-      row = pipe_case c (view_now k h) r (has-room c (view_now k h) room frame) lowest ∙ ap (piped c (view_now k h) r) above
+      row = pipe_case c (view_now k h) r room frame lowest ∙ ap (piped c (view_now k h) r) above
 
       pub pipe-answer : (make_pipe c (view_now k h)).answer ≡ Called c.number (pos 0)
       pipe-answer = ap (λ (o : Own). o.answer) row

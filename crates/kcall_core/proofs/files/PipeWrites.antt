@@ -15,7 +15,6 @@ use Rattle.proc_table.specs.Slots.{each_changed}
 use Rattle.proc_table.specs.declared.channel.Channel.{Channel}
 use Rattle.proc_table.specs.declared.channel.Channel.TheVariants as on
 use Rattle.proc_table.specs.declared.process.Call.{Call}
-use Rattle.xk_base.specs.declared.access.Access.TheVariants.{Load}
 use Rattle.kcall_core.specs.Buffers.{readable}
 use Rattle.kcall_core.specs.PipeEnds.{fit}
 use Rattle.kcall_core.specs.Processes.{Live, Alive}
@@ -44,7 +43,7 @@ use Rattle.kcall_core.proofs.steps.Alone as law
 use Rattle.kcall_core.proofs.rows.Decoding.{is_write}
 use Rattle.kcall_core.proofs.steps.PipeCalls as pipes
 use Rattle.kcall_core.proofs.steps.OnFiles.{pipe_write}
-use Rattle.kcall_core.proofs.memory.PipeRest.{next-at, rest-reached}
+use Rattle.kcall_core.proofs.memory.PipeRest.{next-read, rest-read}
 use Rattle.kcall_core.proofs.turns.StepSlots.{KeepsAll}
 use Rattle.kcall_core.proofs.making.CallAnswers.{IsDone}
 use Rattle.kcall_core.proofs.making.Prepared.{over}
@@ -114,7 +113,7 @@ module _ {k : Kernel} {h : Hart} {c : Call} {f n : ℕ} (whole : IsWhole k h) (r
 
   -- the rest of the buffer is there, wherever the sum of two words lies
   pub rest-there : (slot : ℕ) → slot ≡ slot_now k → (at : ℕ) → at ≡ (c.a1 + c.moved) % 2 ^ 64 → (m : ℕ) → m ≡ left → readable (held_at (each_of k.memories) slot).image at m ≡ true
-  rest-there slot same at at-is m m-is = rest-reached Load k.memories (slot_now k) c.a1 n c.moved its-memory x.buffer.2 at at-is slot same m m-is
+  rest-there slot same at at-is m m-is = rest-read k.memories (slot_now k) c.a1 n c.moved whole.sound.memories its-memory x.buffer.2 at at-is slot same m m-is
 
   few : length x.pipe.bytes ≤ PIPE_BYTES
   few = whole.well.pipe_bytes f x.pipe x.on.pipe
@@ -180,7 +179,7 @@ module _ {k : Kernel} {h : Hart} {c : Call} {f n : ℕ} (whole : IsWhole k h) (r
     same-bytes : image_bytes (held_at (each_of k.memories) slot).image to told ≡ image_bytes l.image (c.a1 + c.moved) count
     same-bytes = elim (cases_lt c.moved n) [
       | inl less ↦
-          let here : to ≡ c.a1 + c.moved = next-at Load k.memories (slot_now k) c.a1 n c.moved its-memory x.buffer.2 to to-is less in
+          let here : to ≡ c.a1 + c.moved = next-read k.memories (slot_now k) c.a1 n c.moved whole.sound.memories its-memory x.buffer.2 to to-is less in
           (λ i. image_bytes (held_at (each_of k.memories) (slot-is i)).image (here i) (told-count i))
       | inr over ↦
           let none : count ≡ 0 = omega (arith, over) in

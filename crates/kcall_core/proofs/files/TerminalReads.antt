@@ -13,7 +13,7 @@ use Rattle.console_core.specs.Lists.{Console, IsWithinLimits}
 use Rattle.console_core.specs.Reads.{Pulled, pulled, line_length, first_bytes, up_to}
 use Rattle.proc_table.specs.declared.channel.Channel.TheVariants as on
 use Rattle.proc_table.specs.declared.process.Call.{Call}
-use Rattle.kcall_core.specs.Buffers.{writable}
+use Rattle.kcall_core.specs.Buffers.{writable_now}
 use Rattle.kcall_core.specs.Processes.{Live, Alive}
 use Rattle.kcall_core.specs.State.{State, live_part}
 use Rattle.kcall_core.specs.View.{View, view_of, numbered, rename_shown, show}
@@ -117,7 +117,7 @@ module _ {k : Kernel} {h : Hart} {c : Call} {n : ℕ} (whole : IsWhole k h) (run
   its-memory = let r = running k h whole.sound runs in whole.sound.lives (slot_now k) r.is.process r.is.is r.is.live
 
   -- the rest of the buffer is there, wherever the sum of two words lies
-  pub rest-there : (slot : ℕ) → slot ≡ slot_now k → (at : ℕ) → at ≡ (c.a1 + c.moved) % 2 ^ 64 → (m : ℕ) → m ≡ left → writable (held_at (each_of k.memories) slot).image at m ≡ true
+  pub rest-there : (slot : ℕ) → slot ≡ slot_now k → (at : ℕ) → at ≡ (c.a1 + c.moved) % 2 ^ 64 → (m : ℕ) → m ≡ left → writable_now (held_at (each_of k.memories) slot).image at m ≡ true
   rest-there slot same at at-is m m-is = rest-reached Store k.memories (slot_now k) c.a1 n c.moved its-memory x.on.buffer.2 at at-is slot same m m-is
 
   pub keys-few : length k.console.committed ≤ 128

@@ -5,7 +5,6 @@ use Rattle.std.specs.FinMap.{get}
 use Rattle.std.proofs.lemmas.Bool.{cases_lt, lt-ltb, le-ltb, le-leb, lt-leb}
 use Rattle.std.proofs.lemmas.List.{length-append, set-get_or}
 use Rattle.xk_base.specs.declared.limits.TheConstants.{NOFILE, SEND_BYTES}
-use Rattle.xk_base.specs.declared.access.Access.TheVariants.{Load}
 use Rattle.xk_base.specs.Bytes.{image_bytes}
 use Rattle.hart_core.specs.declared.hart.Hart.{Hart}
 use Rattle.console_core.specs.Lists.{Console, IsWithinLimits}
@@ -36,7 +35,7 @@ use Rattle.kcall_core.proofs.turns.Turned.{live-is}
 use Rattle.kcall_core.proofs.steps.Alone as law
 use Rattle.kcall_core.proofs.rows.Decoding.{is_write, write_case}
 use Rattle.kcall_core.proofs.rows.RowParts.{write_to}
-use Rattle.kcall_core.proofs.memory.PipeRest.{next-at, rest-reached}
+use Rattle.kcall_core.proofs.memory.PipeRest.{next-read, rest-read}
 use Rattle.kcall_core.proofs.turns.StepSlots.{KeepsAll}
 use Rattle.kcall_core.proofs.making.CallAnswers.{IsDone}
 use Rattle.kcall_core.proofs.making.Midway.{WakeOn, IsAsleep, midway-done, midway-sleeps}
@@ -100,7 +99,7 @@ module _ {k : Kernel} {h : Hart} {c : Call} {n : ℕ} (whole : IsWhole k h) (run
 
   -- the rest of the buffer is there, wherever the sum of two words lies
   pub rest-there : (slot : ℕ) → slot ≡ slot_now k → (at : ℕ) → at ≡ (c.a1 + c.moved) % 2 ^ 64 → (m : ℕ) → m ≡ left → readable (held_at (each_of k.memories) slot).image at m ≡ true
-  rest-there slot same at at-is m m-is = rest-reached Load k.memories (slot_now k) c.a1 n c.moved its-memory x.on.buffer.2 at at-is slot same m m-is
+  rest-there slot same at at-is m m-is = rest-read k.memories (slot_now k) c.a1 n c.moved whole.sound.memories its-memory x.on.buffer.2 at at-is slot same m m-is
 
   -- nobody wakes
   wake : WakeOn nobody s.pipes s.pipes s.console console
@@ -136,7 +135,7 @@ module _ {k : Kernel} {h : Hart} {c : Call} {n : ℕ} (whole : IsWhole k h) (run
     same-bytes : image_bytes (held_at (each_of k.memories) slot).image at told ≡ bytes
     same-bytes = elim (cases_lt c.moved n) [
       | inl less ↦
-          let here : at ≡ c.a1 + c.moved = next-at Load k.memories (slot_now k) c.a1 n c.moved its-memory x.on.buffer.2 at at-is less in
+          let here : at ≡ c.a1 + c.moved = next-read k.memories (slot_now k) c.a1 n c.moved whole.sound.memories its-memory x.on.buffer.2 at at-is less in
           (λ i. image_bytes (held_at (each_of k.memories) (slot-is i)).image (here i) (told-count i))
       | inr over ↦
           let none : count ≡ 0 = omega (arith, over) in

@@ -25,7 +25,7 @@ use Rattle.kcall_core.specs.Run.{Step_of, TurnsAfter, IsBlocked, halts_with}
 use Rattle.kcall_core.specs.Wakes.{WakesWhereDue}
 use Rattle.kcall_core.specs.WellFormed.{WellFormed}
 use Rattle.kcall_core.specs.Conditions.{is_open, waits_for, Condition}
-use Rattle.kcall_core.specs.RowLaws.{After, begun_live, begun_state}
+use Rattle.kcall_core.specs.RowLaws.{After}
 use Rattle.kcall_core.specs.Kernel.{state_of, IsSound, IsRunning, or_nobody, slot_now, place_now, pid_now, live_now, frame_count}
 use Rattle.kcall_core.specs.Machine.{turns_of, world_of}
 use Rattle.kcall_core.specs.Whole.{IsWhole, AreCounted, is_for}
@@ -39,7 +39,7 @@ use Rattle.kcall_core.proofs.well.WellLaws as well
 use Rattle.kcall_core.proofs.waking.Openings.{opens_nothing}
 use Rattle.kcall_core.proofs.turns.Turned.{same-some, live-is}
 use Rattle.kcall_core.proofs.table.OnePlace.{ItsPlace, place-slots, place-counted, place-sleepers, changed-place, in-call-lives, in-call-channel, asleep-lives, asleep-channel, place-join}
-use Rattle.kcall_core.proofs.steps.Alone.{alone_law, by_own, begun_after, waiting}
+use Rattle.kcall_core.proofs.steps.Alone.{alone_law, by_own, mid_after, waiting}
 use Rattle.kcall_core.proofs.steps.Change.{view_alone}
 use Rattle.kcall_core.proofs.turns.WhoRuns.{place-is, place-lives, now-is}
 use Rattle.kcall_core.proofs.turns.StepSlots.{KeepsAll, slots-kept}
@@ -254,21 +254,21 @@ answer-makes k h k' h' c value o whole runs x is = done-makes k h k' h' c value 
 pub alone-twice : (s : State) (p : ℕ) (l m : Live) (console after : Console) (free left : ℕ) → alone_state p m after left (alone_state p l console free s) ≡ alone_state p m after left s
 alone-twice s p l m console after free left = λ i. record (alone_state p m after left s) { processes = insert-twice s.processes p (Alive l) (Alive m) i }
 
--- ---- a call that is begun
+-- ---- a state in between
 
--- what it comes to is what the step comes to
-pub begun-makes : (k : Kernel) (h : Hart) (k1 : Kernel) (h1 : Hart) (k' : Kernel) (h' : Hart) (o : Own) → IsWhole k h → IsRunning k → OnlyItself k h k1 h1 → state_of k1 h1 ≡ begun_state (pid_now k) (live_now k h) (state_of k h)
-    → Makes k1 h1 o k' h' → Makes k h o k' h'
-begun-makes k h k1 h1 k' h' o whole runs x begun made =
+-- Where only the process that runs is another, as where its call is begun or pages are touched, what is made from there on is what the step makes
+pub mid-makes : (k : Kernel) (h : Hart) (k1 : Kernel) (h1 : Hart) (k' : Kernel) (h' : Hart) (o : Own) → IsWhole k h → IsRunning k → OnlyItself k h k1 h1 → Makes k1 h1 o k' h' → Makes k h o k' h'
+mid-makes k h k1 h1 k' h' o whole runs x made =
     let s = state_of k h in
     let l = live_now k h in
+    let mid : Live = record l { regs = x.regs; image = x.image; call = x.call } in
     let pid : pid_now k1 ≡ pid_now k = only-pid whole runs x in
     let turns : turns_of k1 None ≡ turns_of k None = only-turns whole runs x in
     let runs1 : IsRunning k1 = subst (λ c. IsSome c) (sym x.current) runs in
-    let live1 : live_now k1 h1 ≡ begun_live s (pid_now k) l = now-is k1 h1 (begun_live s (pid_now k) l) x.sound runs1 (ap (λ n. get (state_of k1 h1).processes n) pid ∙ ap (λ (t : State). get t.processes (pid_now k)) begun ∙ get_same s.processes (pid_now k) (Alive (begun_live s (pid_now k) l))) in
+    let live1 : live_now k1 h1 ≡ mid = now-is k1 h1 mid x.sound runs1 (ap (λ n. get (state_of k1 h1).processes n) pid ∙ ap (λ (t : State). get t.processes (pid_now k)) x.state ∙ get_same s.processes (pid_now k) (Alive mid)) in
     record {
       whole = made.whole;
-      state = begun_after s (pid_now k) l (live-is k h whole.sound runs) o (state_of k' h') (subst (λ (y : State × ℕ × Live). After y.0 y.1 y.2 o (state_of k' h')) (λ i. (begun i, pid i, live1 i)) made.state);
+      state = mid_after s (pid_now k) l (live-is k h whole.sound runs) x.regs x.image x.call x.free o (state_of k' h') (subst (λ (y : State × ℕ × Live). After y.0 y.1 y.2 o (state_of k' h')) (λ i. (x.state i, pid i, live1 i)) made.state);
       turns = subst (λ (y : Turns × ℕ). TurnsAfter y.0 y.1 o (turns_of k' (halts_with y.1 o.answer))) (λ i. (turns i, pid i)) made.turns;
       wakes = subst (λ n. WakesWhereDue (world_of k h None) (Step_of n o.answer) (world_of k' h' (halts_with n o.answer))) pid (λ p v asleep see. made.wakes p v (subst (λ (y : Turns). Sleeps y p) (sym turns) asleep) see);
       kept = λ status is. ap (get (state_of k' h').processes) (sym pid) ∙ made.kept status is ∙ ap (λ (m : Live). Some (Zombie m.parent status)) live1;

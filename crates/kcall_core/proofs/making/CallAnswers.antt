@@ -22,7 +22,7 @@ use Rattle.kcall_core.specs.declared.call_end.CallEnd.{CallEnd}
 use Rattle.kcall_core.proofs.steps.Alone as law
 use Rattle.kcall_core.proofs.table.InCall.{calling, moved, is-in-call}
 use Rattle.kcall_core.proofs.turns.Turned.{live-is}
-use Rattle.kcall_core.proofs.making.AloneMakes.{OnlyItself, only-pid, only-whole, answer-makes, begun-makes}
+use Rattle.kcall_core.proofs.making.AloneMakes.{OnlyItself, only-pid, only-whole, answer-makes, mid-makes}
 
 -- ---- a call that is done at once
 
@@ -107,7 +107,7 @@ module _ {k : Kernel} {h : Hart} {c : Call} {k' : Kernel} {h' : Hart} (whole : I
 
   pub begun-made : {k'' : Kernel} {h'' : Hart} → laws.IsBetweenCalls (live_now k h) → next_instruction (live_now k h).regs (live_now k h).image ≡ Ecall → Makes k' h' (perform c (view_now k' h')) k'' h'' → Makes k h (own (view_now k h)) k'' h''
   begun-made {k''} {h''} unmarked is made =
-      begun-makes k h k' h' k'' h'' (own (view_now k h)) whole runs begun-itself x.state (subst (λ o. Makes k' h' o k'' h'') (begun-row unmarked is) made)
+      mid-makes k h k' h' k'' h'' (own (view_now k h)) whole runs begun-itself (subst (λ o. Makes k' h' o k'' h'') (begun-row unmarked is) made)
 
   -- and it answers so
   pub begun-answer : (end : CallEnd) → laws.IsBetweenCalls (live_now k h) → next_instruction (live_now k h).regs (live_now k h).image ≡ Ecall → (perform c (view_now k' h')).answer ≡ answer_of c.number end

@@ -3,6 +3,7 @@ use Rattle.std.proofs.Common.{◌≡◌, ℕ, ◌+◌, ◌<◌, ◌≤◌, lengt
 use Rattle.std.specs.Prelude.{ℤ, true, false, Result, Ok, Err, IfOk, IfErr, is_ok}
 use Rattle.xk_base.specs.Image.{Image, price}
 use Rattle.xk_base.specs.declared.access.Rights.{Rights}
+use Rattle.addr_space.specs.Absent.{grown_lazily}
 use Rattle.addr_space.specs.Changes.{grown as grown_with}
 use Rattle.hart_core.specs.declared.hart.Hart.{Hart}
 use Rattle.proc_table.specs.Processes.{in_call}
@@ -106,6 +107,17 @@ module _ (k : Kernel) (h : Hart) (sound : IsSound k h) (runs : IsRunning k) wher
       (subst (λ x. SlotChanges k.memories m (slot_now k) (Some (with_image x (held_at each (slot_now k))))) (sym greater)
       (subst (λ n. SlotChanges k.memories m n (Some (with_image (grown (held_at each n).image size) (held_at each n)))) slot
       (subst (λ (p : Rights). SlotChanges k.memories m i (Some (with_image (grown_with (held_at each i).image size p) (held_at each i)))) same-rights changes)))
+      (subst (λ n. RunsIn m n h) slot (on h (subst (λ n. RunsIn k.memories n h) (sym slot) r.is.runs))) refl
+
+  -- or greater by its size alone
+  pub image-lazily : (i : ℕ) (m : Memories) (size : ℕ) → k.current ≡ Some i → let held = held_at (each_of k.memories) i in SlotChanges k.memories m i (Some (with_image (grown_lazily held.image size) held)) → ((hart : Hart) → RunsIn k.memories i hart → RunsIn m i hart)
+      → HasImage k h (grown_lazily (live_now k h).image size) (record k { memories = m }) h
+  image-lazily i m size is changes on =
+      let each = each_of k.memories in
+      let slot : i ≡ slot_now k = now-slot i sound is in
+      let r = running k h sound runs in
+      image-changed m h (grown_lazily (live_now k h).image size)
+      (subst (λ n. SlotChanges k.memories m n (Some (with_image (grown_lazily (held_at each n).image size) (held_at each n)))) slot changes)
       (subst (λ n. RunsIn m n h) slot (on h (subst (λ n. RunsIn k.memories n h) (sym slot) r.is.runs))) refl
 
   -- the greater one costs too much

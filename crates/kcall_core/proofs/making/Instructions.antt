@@ -43,7 +43,7 @@ use Rattle.kcall_core.proofs.memory.Lists.{set-read}
 use Rattle.kcall_core.proofs.table.States.{running, Goes, goes-sound, goes-state, changed-here, changed-has, changed-goes}
 use Rattle.kcall_core.proofs.turns.Turned.{live-is}
 use Rattle.kcall_core.proofs.well.WellLaws.{stores_take_nothing}
-use Rattle.kcall_core.proofs.steps.Alone.{begins, instruction}
+use Rattle.kcall_core.proofs.steps.Alone.{begins, before-next, instruction}
 use Rattle.kcall_core.proofs.turns.StepSlots.{KeepsAll}
 use Rattle.kcall_core.proofs.making.AloneMakes.{OnlyItself, only-makes}
 
@@ -113,7 +113,7 @@ in-call-again p = λ t. record p { state = again p.state t }
     again (table_state.Live marked call channel) = refl
     again (table_state.Zombie status) = refl
 
-table-again : (t : Slots) (slot : ℕ) (p : Process) → slot < length t.places → place_at t slot ≡ Some p → t ≡ changed_at slot (in_call (call_of p)) t
+pub table-again : (t : Slots) (slot : ℕ) (p : Process) → slot < length t.places → place_at t slot ≡ Some p → t ≡ changed_at slot (in_call (call_of p)) t
 table-again t slot p inside is = sym (λ i. record t { places = places i })
   where
     places : set t.places slot (option_map (in_call (call_of p)) (place_at t slot)) ≡ t.places
@@ -148,7 +148,7 @@ module _ (k : Kernel) (m : Memories) (h h' : Hart) (r : Registers) (st : Option 
       }
 
   comes : own (view_now k h) ≡ goes_on Stepped (stored (view_now k h) r st)
-  comes = begins (state_of k h) (pid_now k) (live_now k h) free (Next r st) is
+  comes = begins (state_of k h) (pid_now k) (live_now k h) free (before-next (state_of k h) (pid_now k) (live_now k h) r st is) (Next r st) is
 
   keeps : KeepsAll (state_of k h) (own (view_now k h))
   unfolding view_of

@@ -1,18 +1,20 @@
 -- What of a buffer is left, from a place in it on.
-use Rattle.std.proofs.Common.{◌≡◌, ℕ, ◌+◌, ◌-◌, ◌%◌, ◌^◌, ◌<◌, ◌≤◌, Bool, true, false, get_or, Option, Some, None, IsSome, inl, inr, sym, ap, ◌∙◌, subst, arith}
+use Rattle.std.proofs.Common.{◌≡◌, ℕ, ◌+◌, ◌-◌, ◌%◌, ◌^◌, ◌<◌, ◌≤◌, Bool, true, false, get_or, Option, Some, None, IsSome, inl, inr, refl, sym, ap, ◌∙◌, subst, arith}
 use Rattle.std.proofs.lemmas.Bool.{cases_lt}
 use Rattle.xk_base.specs.Image.{Image}
 use Rattle.xk_base.specs.declared.access.Access.{Access}
-use Rattle.xk_base.specs.declared.access.Access.TheVariants.{Store}
+use Rattle.xk_base.specs.declared.access.Access.TheVariants.{Load, Store}
 use Rattle.addr_space.specs.Space.{image_of}
 use Rattle.user_copy.specs.Reach.{reaches}
 use Rattle.user_copy.proofs.Ranges.{reaches-none, reaches-not, reaches-rest, reaches-fewer, may-beyond}
-use Rattle.kcall_core.specs.Buffers.{writable}
+use Rattle.kcall_core.specs.Buffers.{readable, writable_now, reaches_touching}
 use Rattle.kcall_core.specs.Holdings.{held_at, or_nothing, HasMemory}
-use Rattle.kcall_core.specs.Memories.{each_of, held_in}
+use Rattle.kcall_core.specs.Memories.{each_of, held_in, AreSound}
 use Rattle.kcall_core.specs.declared.memories.Memory.{Memory}
 use Rattle.kcall_core.specs.declared.memories.Memories.{Memories}
-use Rattle.kcall_core.proofs.memory.Changes.{each-at}
+use Rattle.kcall_core.proofs.memory.Changes.{each-at, there-inside}
+use Rattle.kcall_core.proofs.memory.Bringing.{touching-rest}
+use Rattle.kcall_core.proofs.memory.Written.{readable-inside}
 
 -- what a process may reach lies below 2^38
 reached-low : (access : Access) (m : Memories) (slot a n d : ℕ) → HasMemory (each_of m) slot → reaches access (held_at (each_of m) slot).image a n ≡ true → d < n → a + d < 2 ^ 38
@@ -44,6 +46,28 @@ module _ (access : Access) (m : Memories) (slot a n d : ℕ) (there : HasMemory 
     | inr over ↦ let none : left ≡ 0 = omega (arith, left-is, over) in (λ i. reaches access (held_at (each_of m) other).image at (none i)) ∙ reaches-none access (held_at (each_of m) other).image at
   ]
 
+-- the same of a buffer that is read, whose absent pages read as zeros
+module _ (m : Memories) (slot a n d : ℕ) (sound : AreSound m) (there : HasMemory (each_of m) slot) (all : readable (held_at (each_of m) slot).image a n ≡ true) (at : ℕ) (at-is : at ≡ (a + d) % 2 ^ 64) where
+  readable-low : d < n → a + d < 2 ^ 38
+  readable-low lt = by (get_or m.each.items slot None) refl
+    where
+      none-held : IsSome (held_in m.ram None) → ⊥
+      none-held h = cc
+
+      by : (o : Option Memory) → get_or m.each.items slot None ≡ o → a + d < 2 ^ 38
+      by None is = absurd (none-held (subst IsSome (each-at m slot ∙ ap (held_in m.ram) is) there))
+      by (Some memory) is = readable-inside (record { sound = sound; inside = there-inside m slot there; is = is }) a n all d lt
+
+  pub next-read : d < n → at ≡ a + d
+  next-read less = let low : a + d < 2 ^ 38 = readable-low less in omega (arith, at-is, low)
+
+  pub rest-read : (other : ℕ) → other ≡ slot → (left : ℕ) → left ≡ n - d → readable (held_at (each_of m) other).image at left ≡ true
+  unfolding reaches_touching
+  rest-read other same left left-is = elim (cases_lt d n) [
+    | inl less ↦ (λ i. readable (held_at (each_of m) (same i)).image (next-read less i) (left-is i)) ∙ touching-rest Load (held_at (each_of m) slot).image a n d all (omega (arith, less))
+    | inr over ↦ let none : left ≡ 0 = omega (arith, left-is, over) in (λ i. readable (held_at (each_of m) other).image at (none i))
+  ]
+
 -- fewer bytes from the same address may be written where more may
-pub writable-fewer : (i : Image) (a n m : ℕ) → m ≤ n → writable i a n ≡ true → writable i a m ≡ true
+pub writable-fewer : (i : Image) (a n m : ℕ) → m ≤ n → writable_now i a n ≡ true → writable_now i a m ≡ true
 writable-fewer i a n m le all = reaches-fewer Store i a n m le all

@@ -1,5 +1,6 @@
 -- One instruction of the process in a slot.
-use Rattle.std.proofs.Common.{◌≡◌, ℕ, zero, suc, ◌/◌, ◌%◌, ◌<◌, ◌≤◌, Bool, List, length, set, get_or, Option, Some, None, refl, sym, ap, ◌∙◌, subst, arith}
+use Rattle.std.proofs.Common.{◌≡◌, ◌≢◌, ℕ, zero, suc, ◌/◌, ◌%◌, ◌<◌, ◌≤◌, Bool, List, length, set, get_or, Option, Some, None, refl, sym, ap, ◌∙◌, subst, arith}
+use Rattle.xk_base.specs.declared.access.Cause.{Cause}
 use Rattle.xk_base.specs.declared.access.Rights.{Rights}
 use Rattle.xk_base.specs.Image.{Image}
 use Rattle.xk_base.specs.declared.limits.TheConstants.{SIZE_LIMIT}
@@ -17,12 +18,12 @@ use Rattle.addr_space.specs.Space.{image_of, Belongs, Changed}
 use Rattle.addr_space.specs.declared.Space.{Space}
 use Rattle.addr_space.proofs.Pages.{bytes-changed}
 use Rattle.rv64i_core.specs.Memory.{written}
-use Rattle.rv64i_core.specs.Step.{Step, Next, Ecall, Fault, instr, stop_of, regs_after, state_after}
+use Rattle.rv64i_core.specs.Step.{Step, Next, Ecall, Fault, instr, stop_of, regs_after, state_after, address_used}
 use Rattle.rv64i_core.specs.Registers.{Registers}
 use Rattle.rv64i_core.specs.declared.execution.Stop.{Stop}
 use Rattle.rv64i_core.specs.declared.execution.Stop.TheVariants as stops
 use Rattle.hart_core.specs.declared.hart.Hart.{Hart}
-use Rattle.hart_core.specs.Steps.{root_of, FitsHart, Stepped, Instructed, AreDone, IsLast, InARow}
+use Rattle.hart_core.specs.Steps.{root_of, FitsHart, Stepped, Instructed, AreDone, IsLast, InARow, last_fault}
 use Rattle.hart_core.specs.UserMemory.{user, user_at, with_store, write_pages, put_bytes, store_in, SpaceState, space_state, space_store}
 use Rattle.hart_core.specs.Translations.{Translations, Fits}
 use Rattle.hart_core.proofs.Caches.{fits_root, fits_hart}
@@ -89,6 +90,7 @@ pub record Made (ram ram' : List (List ℕ)) (hart hart' : Hart) (stop : Stop) :
   pub stepped : Stepped ram ram' (root_of hart.root) (instr hart.regs (user_at ram (root_of hart.root)))
   pub root : hart'.root ≡ hart.root
   pub fits : FitsHart ram' hart'.root hart'.cache
+  pub fault : hart'.fault_address ≡ last_fault hart.fault_address (address_used hart.regs (user_at ram (root_of hart.root))) (instr hart.regs (user_at ram (root_of hart.root)))
 
 pub runs-stands : (old : Memories) (slot : ℕ) (hart : Hart) → AreSound old → (r : RunsIn old slot hart) → slot < length old.each.items → Stands old slot r.memory
 runs-stands old slot hart sound r lt = record { sound = sound; inside = lt; is = r.is }
@@ -126,6 +128,7 @@ steps old new slot hart hart' stop r s made pool each pipes =
         root = made.root ∙ r.root;
         fits = fits_root new.ram hart'.root space'.root hart'.cache (made.root ∙ r.root) made.fits;
       };
+      fault = made.fault ∙ (λ t. last_fault hart.fault_address (address_used hart.regs (memory t)) (instr hart.regs (memory t)));
     }
 
 -- ---- one instruction after another
@@ -135,11 +138,24 @@ record Ready (m : Memories) (slot : ℕ) (hart : Hart) : Type 0 where
   sound : AreSound m
   runs : RunsIn m slot hart
 
+-- the address of the last page fault is another only where the instruction faults
+fault-stays : (stop : Stop) (step : Step) (old address : ℕ) → stop ≡ stop_of step → ((cause : Cause) → stop ≢ stops.Fault cause) → old ≡ last_fault old address step
+fault-stays stop (Next regs store) old address ends other = refl
+fault-stays stop Ecall old address ends other = refl
+fault-stays stop (Fault cause) old address ends other = absurd (other cause ends)
+
+next-no-fault : (cause : Cause) → stops.Next ≢ stops.Fault cause
+next-no-fault cause e = cc
+
+ecall-no-fault : (cause : Cause) → stops.Ecall ≢ stops.Fault cause
+ecall-no-fault cause e = cc
+
 -- one instruction, from where others have led
 one-step : (old : Memories) (slot : ℕ) (hart : Hart) (ram' : List (List ℕ)) (regs' : Registers) (cache' : Translations) (fault' : ℕ) (stop : Stop) → Ready old slot hart
     → Instructed (root_of hart.root) old.ram hart.regs stop ram' regs' cache'
+    → fault' ≡ last_fault hart.fault_address (address_used hart.regs (user_at old.ram (root_of hart.root))) (instr hart.regs (user_at old.ram (root_of hart.root)))
     → Steps old (record old { ram = ram' }) slot hart (record hart { regs = regs'; cache = cache'; fault_address = fault' }) stop
-one-step old slot hart ram' regs' cache' fault' stop ready one =
+one-step old slot hart ram' regs' cache' fault' stop ready one fault =
     let r = ready.runs in
     steps old (record old { ram = ram' }) slot hart (record hart { regs = regs'; cache = cache'; fault_address = fault' }) stop r (runs-stands old slot hart ready.sound r (runs-inside r))
     (record {
@@ -148,6 +164,7 @@ one-step old slot hart ram' regs' cache' fault' stop ready one =
       stepped = one.stepped;
       root = refl;
       fits = fits_hart ram' hart.root r.memory.space.root cache' r.root (subst (λ x. Fits ram' x cache') (ap root_of r.root) one.fits);
+      fault = fault;
     }) refl refl refl
 
 after-step : (old new : Memories) (slot : ℕ) (hart hart' : Hart) (stop : Stop) → Steps old new slot hart hart' stop → Ready new slot hart'
@@ -156,6 +173,11 @@ after-step old new slot hart hart' stop s = record { sound = s.changes.sound; ru
 module _ (old : Memories) (slot : ℕ) (hart : Hart) (ready : Ready old slot hart) where
   abbrev AreThere : ℕ → Memories → Hart → Type 0
   AreThere count m h = StepsDone count slot old hart m h × Ready m slot h
+
+  -- where the instruction at the pc doesn't fault
+  quiet : (stop : Stop) (ram ram' : List (List ℕ)) (regs regs' : Registers) (cache' : Translations) → Instructed (root_of hart.root) ram regs stop ram' regs' cache' → ((cause : Cause) → stop ≢ stops.Fault cause)
+      → hart.fault_address ≡ last_fault hart.fault_address (address_used regs (user_at ram (root_of hart.root))) (instr regs (user_at ram (root_of hart.root)))
+  quiet stop ram ram' regs regs' cache' one other = fault-stays stop (instr regs (user_at ram (root_of hart.root))) hart.fault_address (address_used regs (user_at ram (root_of hart.root))) one.ends other
 
   series : (count : ℕ) (ram' : List (List ℕ)) (regs' : Registers) (cache' : Translations) → AreDone count (root_of hart.root) old.ram hart.regs hart.cache ram' regs' cache'
       → AreThere count (record old { ram = ram' }) (record hart { regs = regs'; cache = cache' })
@@ -167,7 +189,7 @@ module _ (old : Memories) (slot : ℕ) (hart : Hart) (ready : Ready old slot har
       let m = record old { ram = mid } in
       let h = record hart { regs = mid_regs; cache = mid_cache } in
       let so_far = series count mid mid_regs mid_cache before in
-      let step = one-step m slot h ram' regs' cache' hart.fault_address stops.Next so_far.1 one in
+      let step = one-step m slot h ram' regs' cache' hart.fault_address stops.Next so_far.1 one (quiet stops.Next mid ram' mid_regs regs' cache' one next-no-fault) in
       ((m, h, so_far.0, step), after-step m (record old { ram = ram' }) slot h (record hart { regs = regs'; cache = cache' }) stops.Next step)
 
   last-step : (most made : ℕ) (stop : Stop) (mid : List (List ℕ)) (mid_regs : Registers) (mid_cache : Translations) (ram' : List (List ℕ)) (regs' : Registers) (cache' : Translations) (fault' : ℕ)
@@ -177,9 +199,9 @@ module _ (old : Memories) (slot : ℕ) (hart : Hart) (ready : Ready old slot har
   last-step most made stops.Next mid mid_regs mid_cache ram' regs' cache' fault' so last =
       (last.0, ap (λ x. record old { ram = x }) last.1, λ t. record hart { regs = last.2 t; cache = last.3 t; fault_address = last.4 t })
   last-step most made stops.Ecall mid mid_regs mid_cache ram' regs' cache' fault' so last =
-      (last.0, one-step (record old { ram = mid }) slot (record hart { regs = mid_regs; cache = mid_cache }) ram' regs' cache' fault' stops.Ecall so last.1)
+      (last.0, one-step (record old { ram = mid }) slot (record hart { regs = mid_regs; cache = mid_cache }) ram' regs' cache' fault' stops.Ecall so last.1 (last.2 ∙ quiet stops.Ecall mid ram' mid_regs regs' cache' last.1 ecall-no-fault))
   last-step most made (stops.Fault cause) mid mid_regs mid_cache ram' regs' cache' fault' so last =
-      (last.0, one-step (record old { ram = mid }) slot (record hart { regs = mid_regs; cache = mid_cache }) ram' regs' cache' fault' (stops.Fault cause) so last.1)
+      (last.0, one-step (record old { ram = mid }) slot (record hart { regs = mid_regs; cache = mid_cache }) ram' regs' cache' fault' (stops.Fault cause) so last.1 last.2)
 
   in-a-row : (most made : ℕ) (stop : Stop) (ram' : List (List ℕ)) (regs' : Registers) (cache' : Translations) (fault' : ℕ)
       → InARow (root_of hart.root) most made stop old.ram hart.regs hart.cache hart.fault_address ram' regs' cache' fault'

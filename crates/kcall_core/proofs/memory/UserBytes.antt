@@ -1,5 +1,5 @@
--- What the kernel may read and write for a process is what user code may; and texts, byte by byte.
-use Rattle.std.proofs.Common.{◌≡◌, ◌≢◌, ℕ, zero, suc, ◌+◌, ◌/◌, ◌%◌, ◌^◌, ◌<◌, ◌≤◌, Bool, true, false, cond, ◌&&◌, List, take, ◌++◌, [], ◌∷◌, Option, Some, None, inl, inr, refl, sym, ap, ◌∙◌, arith}
+-- What the kernel may read and write for a process is what user code may; and numbers and texts, byte by byte. Absent pages read as zeros.
+use Rattle.std.proofs.Common.{◌≡◌, ◌≢◌, ℕ, zero, suc, ◌+◌, ◌-◌, ◌/◌, ◌%◌, ◌^◌, ◌<◌, ◌≤◌, Bool, true, false, cond, ◌&&◌, List, take, ◌++◌, [], ◌∷◌, Option, Some, None, inl, inr, refl, sym, ap, ◌∙◌, arith}
 use Rattle.std.specs.Prelude.{option_map, if◌then◌else◌, ◌==◌}
 use Rattle.std.proofs.lemmas.Bool.{cases_lt, cases_eq, and_from, and_parts, eq-eqb, ne_eqb, false≢true}
 use Rattle.std.proofs.Math.Seq.{take-append_seam}
@@ -8,16 +8,18 @@ use Rattle.std.specs.FinMap.{get}
 use Rattle.xk_base.specs.Image.{Page, Image}
 use Rattle.xk_base.specs.Bytes.{image_byte, image_bytes, byte_in}
 use Rattle.xk_base.specs.Words.{le}
+use Rattle.xk_base.specs.declared.limits.TheConstants.{SIZE_LIMIT}
 use Rattle.xk_base.specs.declared.access.Access.TheVariants.{Load, Store}
 use Rattle.addr_space.specs.Changes.{perm_of_page}
-use Rattle.addr_space.specs.declared.Space.{Space}
-use Rattle.addr_space.specs.Space.{image_of}
+use Rattle.addr_space.specs.Absent.{whole}
+use Rattle.addr_space.proofs.Touching.{LowPages, whole-byte, whole-bytes}
 use Rattle.rv64i_core.specs.Memory.{Cell}
 use Rattle.hart_core.specs.UserMemory.{cell_in, user}
 use Rattle.user_copy.specs.Reach.{allows, may, reaches, ends_after, text_length}
-use Rattle.user_copy.proofs.Ranges.{reaches-none, reaches-not, reaches-fewer, may-beyond}
+use Rattle.user_copy.proofs.Ranges.{reaches-none, reaches-not, reaches-fewer, may-past}
 use Rattle.user_copy.proofs.Texts.{text-readable}
 use Rattle.kcall_core.specs.Buffers.{text_from, text_at, pointer_at}
+use Rattle.kcall_core.proofs.memory.Bringing.{may-whole, reaches-whole}
 use Rattle.kcall_core.proofs.steps.Least.{least_passes, none_passes, least_least}
 
 -- ---- one byte
@@ -64,17 +66,11 @@ byte-write i a = cell-write (get i.pages (a / 4096)) (a % 4096)
 
 -- ---- numbers
 
-pub pointer-there : (i : Image) (a n : ℕ) → reaches Load i a 8 ≡ true → n ≡ le (image_bytes i a 8) → pointer_at i a ≡ Some n
-pointer-there i a n fine is = ap (λ b. cond b (Some (le (image_bytes i a 8))) None) fine ∙ ap Some (sym is)
-
-pub pointer-none : (i : Image) (a : ℕ) → reaches Load i a 8 ≡ false → pointer_at i a ≡ None
-pointer-none i a bad = ap (λ b. cond b (Some (le (image_bytes i a 8))) None) bad
-
 -- no page lies there or above
-pub low-read : (ram : List (List ℕ)) (space : Space) (a : ℕ) → reaches Load (image_of ram space) a 8 ≡ true → a + 8 ≤ 2 ^ 38
-low-read ram space a fine = elim (cases_lt (2 ^ 38) (a + 8)) [
-  | inl high ↦ absurd (false≢true (sym (reaches-not Load (image_of ram space) a 8 7 (omega arith) (may-beyond Load ram space (a + 7) (omega (arith, high)))) ∙ fine))
-  | inr low ↦ low
+pub low-read : (i : Image) (a n : ℕ) → LowPages i → 0 < n → reaches Load i a n ≡ true → a + n ≤ 2 ^ 38
+low-read i a n low some fine = elim (cases_lt (2 ^ 38) (a + n)) [
+  | inl high ↦ absurd (false≢true (sym (reaches-not Load i a n (n - 1) (omega (arith, some)) (may-past Load i (a + (n - 1)) low (omega (arith, high, some)))) ∙ fine))
+  | inr under ↦ under
 ]
 
 -- ---- texts
@@ -83,41 +79,18 @@ low-read ram space a fine = elim (cases_lt (2 ^ 38) (a + 8)) [
 pub front-bytes : (i : Image) (a n : ℕ) (rest : List ℕ) → take n (image_bytes i a n ++ rest) ≡ image_bytes i a n
 front-bytes i a n rest = ap (λ k. take k (image_bytes i a n ++ rest)) (sym (length-map-range_with_len (image_byte i) a n)) ∙ take-append_seam (image_bytes i a n) rest
 
--- what a text begins with: its first byte's cell, by whether it may be read and what it holds
-begins : (o : Option Page) (k : ℕ) (rest : Option (List ℕ)) → allows Load (option_map perm_of_page o) ≡ true → cell_text (cell_in o k) rest ≡ text_from (byte_in o k) rest
-begins None k rest may-not = absurd (false≢true may-not)
-begins (Some page) k rest is = by page.perm.user page.perm.read (record { read = page.perm.read; write = page.perm.write; execute = page.perm.execute; byte = byte_in (Some page) k }) refl is
-  where
-    by : (u r : Bool) (c : Cell) → c.read ≡ r → (u && r) ≡ true → cell_text (if u then Some c else None) rest ≡ text_from c.byte rest
-    by true true c e t = ap (λ b. cond b (text_from c.byte rest) None) e
-    by true false c e t = absurd (false≢true t)
-    by false r c e t = absurd (false≢true t)
+-- the text at an address over pages that are there, without its zero byte, which is among the first `limit` bytes
+unfoldable read_text : ℕ → Image → ℕ → Option (List ℕ)
+read_text zero i a = None
+read_text (suc limit) i a = if may Load i a then text_from (image_byte i a) (read_text limit i (a + 1)) else None
 
-begins-not : (o : Option Page) (k : ℕ) (rest : Option (List ℕ)) → allows Load (option_map perm_of_page o) ≡ false → cell_text (cell_in o k) rest ≡ None
-begins-not None k rest e = refl
-begins-not (Some page) k rest is = by page.perm.user page.perm.read (record { read = page.perm.read; write = page.perm.write; execute = page.perm.execute; byte = byte_in (Some page) k }) refl is
-  where
-    by : (u r : Bool) (c : Cell) → c.read ≡ r → (u && r) ≡ false → cell_text (if u then Some c else None) rest ≡ None
-    by true true c e t = absurd (false≢true (sym t))
-    by true false c e t = ap (λ b. cond b (text_from c.byte rest) None) e
-    by false r c e t = refl
+text-first : (m a : ℕ) (i : Image) → may Load i a ≡ true → read_text (suc m) i a ≡ text_from (image_byte i a) (read_text m i (a + 1))
+unfolding read_text
+text-first m a i is = ap (λ (b : Bool). if b then text_from (image_byte i a) (read_text m i (a + 1)) else None) is
 
--- the first byte of a text, as user code sees it
-pub text-cell : (m a : ℕ) (i : Image) → text_at (suc m) i a ≡ cell_text (user i a) (text_at m i (a + 1))
-unfolding text_at user
-text-cell m a i = by (may Load i a) refl
-  where
-    by : (b : Bool) → may Load i a ≡ b → (if b then text_from (image_byte i a) (text_at m i (a + 1)) else None) ≡ cell_text (cell_in (get i.pages (a / 4096)) (a % 4096)) (text_at m i (a + 1))
-    by true is = sym (begins (get i.pages (a / 4096)) (a % 4096) (text_at m i (a + 1)) is)
-    by false is = sym (begins-not (get i.pages (a / 4096)) (a % 4096) (text_at m i (a + 1)) is)
-
-text-first : (m a : ℕ) (i : Image) → may Load i a ≡ true → text_at (suc m) i a ≡ text_from (image_byte i a) (text_at m i (a + 1))
-unfolding text_at
-text-first m a i is = ap (λ (b : Bool). if b then text_from (image_byte i a) (text_at m i (a + 1)) else None) is
-
-text-stops : (m a : ℕ) (i : Image) → may Load i a ≡ false → text_at (suc m) i a ≡ None
-unfolding text_at
-text-stops m a i is = ap (λ (b : Bool). if b then text_from (image_byte i a) (text_at m i (a + 1)) else None) is
+text-stops : (m a : ℕ) (i : Image) → may Load i a ≡ false → read_text (suc m) i a ≡ None
+unfolding read_text
+text-stops m a i is = ap (λ (b : Bool). if b then text_from (image_byte i a) (read_text m i (a + 1)) else None) is
 
 -- one byte more in front
 reaches-first : (i : Image) (a n : ℕ) → reaches Load i a (suc n) ≡ (may Load i a && reaches Load i (a + 1) n)
@@ -130,29 +103,29 @@ at-once b rest e = ap (λ c. cond c (Some []) (option_map (λ bytes. b ∷ bytes
 one-more : (b : ℕ) (rest : Option (List ℕ)) → b ≢ 0 → text_from b rest ≡ option_map (λ bytes. b ∷ bytes) rest
 one-more b rest ne = ap (λ c. cond c (Some []) (option_map (λ bytes. b ∷ bytes) rest)) (ne_eqb b 0 ne)
 
-text-there : (n limit a : ℕ) (i : Image) → n < limit → reaches Load i a (suc n) ≡ true → ((j : ℕ) → j < n → image_byte i (a + j) ≢ 0) → image_byte i (a + n) ≡ 0 → text_at limit i a ≡ Some (image_bytes i a n)
+text-there : (n limit a : ℕ) (i : Image) → n < limit → reaches Load i a (suc n) ≡ true → ((j : ℕ) → j < n → image_byte i (a + j) ≢ 0) → image_byte i (a + n) ≡ 0 → read_text limit i a ≡ Some (image_bytes i a n)
 text-there n zero a i lt all some last = absurd (omega (arith, lt))
 text-there zero (suc m) a i lt all some last =
     let here : a ≡ a + 0 = omega arith in
     let parts = and_parts (may Load i a) (reaches Load i (a + 1) 0) (sym (reaches-first i a 0) ∙ all) in
-    text-first m a i parts.0 ∙ at-once (image_byte i a) (text_at m i (a + 1)) (ap (image_byte i) here ∙ last)
+    text-first m a i parts.0 ∙ at-once (image_byte i a) (read_text m i (a + 1)) (ap (image_byte i) here ∙ last)
 text-there (suc n) (suc m) a i lt all some last =
     let here : a ≡ a + 0 = omega arith in
     let parts = and_parts (may Load i a) (reaches Load i (a + 1) (suc n)) (sym (reaches-first i a (suc n)) ∙ all) in
     let next : (j : ℕ) → a + 1 + j ≡ a + suc j = λ j. omega arith in
     let rest = text-there n m (a + 1) i (omega (arith, lt)) parts.1 (λ j below zero-byte. some (suc j) (omega (arith, below)) (sym (ap (image_byte i) (next j)) ∙ zero-byte)) (ap (image_byte i) (next n) ∙ last) in
     text-first m a i parts.0
-    ∙ one-more (image_byte i a) (text_at m i (a + 1)) (λ zero-byte. some 0 (omega arith) (sym (ap (image_byte i) here) ∙ zero-byte))
+    ∙ one-more (image_byte i a) (read_text m i (a + 1)) (λ zero-byte. some 0 (omega arith) (sym (ap (image_byte i) here) ∙ zero-byte))
     ∙ ap (option_map (λ bytes. image_byte i a ∷ bytes)) rest
 
 -- the first byte doesn't end it, and the rest has no end
-text-goes-on : (m a : ℕ) (i : Image) (b : Bool) → may Load i a ≡ b → (may Load i a ≡ true → image_byte i a ≢ 0) → (may Load i a ≡ true → text_at m i (a + 1) ≡ None) → text_at (suc m) i a ≡ None
-text-goes-on m a i true is some rest = text-first m a i is ∙ one-more (image_byte i a) (text_at m i (a + 1)) (some is) ∙ ap (option_map (λ bytes. image_byte i a ∷ bytes)) (rest is)
+text-goes-on : (m a : ℕ) (i : Image) (b : Bool) → may Load i a ≡ b → (may Load i a ≡ true → image_byte i a ≢ 0) → (may Load i a ≡ true → read_text m i (a + 1) ≡ None) → read_text (suc m) i a ≡ None
+text-goes-on m a i true is some rest = text-first m a i is ∙ one-more (image_byte i a) (read_text m i (a + 1)) (some is) ∙ ap (option_map (λ bytes. image_byte i a ∷ bytes)) (rest is)
 text-goes-on m a i false is some rest = text-stops m a i is
 
 -- no byte in sight ends the text
-text-not : (limit a : ℕ) (i : Image) → ((k : ℕ) → k < limit → reaches Load i a (suc k) ≡ true → image_byte i (a + k) ≢ 0) → text_at limit i a ≡ None
-unfolding text_at
+text-not : (limit a : ℕ) (i : Image) → ((k : ℕ) → k < limit → reaches Load i a (suc k) ≡ true → image_byte i (a + k) ≢ 0) → read_text limit i a ≡ None
+unfolding read_text
 text-not zero a i some = refl
 text-not (suc m) a i some =
     let here : a ≡ a + 0 = omega arith in
@@ -166,9 +139,9 @@ ends-if i a k all is =
     let e : suc k ≡ k + 1 = omega arith in
     and_from (reaches Load i a (k + 1)) (image_byte i (a + k) == 0) (sym (ap (reaches Load i a) e) ∙ all) (eq-eqb (image_byte i (a + k)) 0 is)
 
-pub text-none : (i : Image) (a limit : ℕ) → text_length i a limit ≡ None → text_at limit i a ≡ None
+read-none : (i : Image) (a limit : ℕ) → text_length i a limit ≡ None → read_text limit i a ≡ None
 unfolding text_length
-text-none i a limit none = text-not limit a i (λ k lt all zero-byte. false≢true (sym (none_passes limit (ends_after i a) none k lt) ∙ ends-if i a k all zero-byte))
+read-none i a limit none = text-not limit a i (λ k lt all zero-byte. false≢true (sym (none_passes limit (ends_after i a) none k lt) ∙ ends-if i a k all zero-byte))
 
 eqb-is : (b : ℕ) → (b == 0) ≡ true → b ≡ 0
 eqb-is b e = elim (cases_eq b 0) [
@@ -176,9 +149,9 @@ eqb-is b e = elim (cases_eq b 0) [
   | inr ne ↦ absurd (false≢true (sym (ne_eqb b 0 ne) ∙ e))
 ]
 
-pub text-found : (i : Image) (a limit n : ℕ) → text_length i a limit ≡ Some n → text_at limit i a ≡ Some (image_bytes i a n)
+read-found : (i : Image) (a limit n : ℕ) → text_length i a limit ≡ Some n → read_text limit i a ≡ Some (image_bytes i a n)
 unfolding text_length
-text-found i a limit n found = by (text-readable i a limit n found)
+read-found i a limit n found = by (text-readable i a limit n found)
   where
     plus : (k : ℕ) → k + 1 ≡ suc k
     plus k = omega arith
@@ -189,9 +162,33 @@ text-found i a limit n found = by (text-readable i a limit n found)
     earlier : (j : ℕ) → j < n → ends_after i a j ≡ false
     earlier = least_least limit (ends_after i a) n found
 
-    by : (n < limit) × (reaches Load i a (n + 1) ≡ true) → text_at limit i a ≡ Some (image_bytes i a n)
+    by : (n < limit) × (reaches Load i a (n + 1) ≡ true) → read_text limit i a ≡ Some (image_bytes i a n)
     by r =
         let all : reaches Load i a (suc n) ≡ true = sym (ap (reaches Load i a) (plus n)) ∙ r.1 in
         text-there n limit a i r.0 all
         (λ j lt zero-byte. false≢true (sym (earlier j lt) ∙ ends-if i a j (reaches-fewer Load i a (suc n) (suc j) (omega (arith, lt)) all) zero-byte))
         (eqb-is (image_byte i (a + n)) (and_parts (reaches Load i a (n + 1)) (image_byte i (a + n) == 0) ends).1)
+
+-- ---- an image with absent pages
+
+module _ (i : Image) (low : LowPages i) (small : i.size ≤ SIZE_LIMIT) where
+  -- a text is the one that stands in the whole image
+  whole-text : (limit a : ℕ) → text_at limit i a ≡ read_text limit (whole i) a
+  unfolding text_at read_text
+  whole-text zero a = refl
+  whole-text (suc limit) a = λ k. if may-whole Load i a refl low small k then text_from (sym (whole-byte i a low) k) (whole-text limit (a + 1) k) else None
+
+  pub text-found : (a limit n : ℕ) → text_length (whole i) a limit ≡ Some n → text_at limit i a ≡ Some (image_bytes (whole i) a n)
+  text-found a limit n found = whole-text limit a ∙ read-found (whole i) a limit n found
+
+  pub text-none : (a limit : ℕ) → text_length (whole i) a limit ≡ None → text_at limit i a ≡ None
+  text-none a limit none = whole-text limit a ∙ read-none (whole i) a limit none
+
+  whole-pointer : (a : ℕ) → pointer_at i a ≡ cond (reaches Load (whole i) a 8) (Some (le (image_bytes (whole i) a 8))) None
+  whole-pointer a = λ k. cond (reaches-whole Load i a 8 refl low small k) (Some (le (sym (whole-bytes i a 8 low) k))) None
+
+  pub pointer-there : (a n : ℕ) → reaches Load (whole i) a 8 ≡ true → n ≡ le (image_bytes (whole i) a 8) → pointer_at i a ≡ Some n
+  pointer-there a n fine is = whole-pointer a ∙ ap (λ b. cond b (Some (le (image_bytes (whole i) a 8))) None) fine ∙ ap Some (sym is)
+
+  pub pointer-none : (a : ℕ) → reaches Load (whole i) a 8 ≡ false → pointer_at i a ≡ None
+  pointer-none a bad = whole-pointer a ∙ ap (λ b. cond b (Some (le (image_bytes (whole i) a 8))) None) bad

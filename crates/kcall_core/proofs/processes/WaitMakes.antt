@@ -21,7 +21,7 @@ use Rattle.proc_table.specs.Reaping.{TakesLeast}
 use Rattle.proc_table.specs.declared.process.Call.{Call}
 use Rattle.proc_table.specs.declared.process.Process.{Process}
 use Rattle.proc_table.proofs.Pids.{pids_emptied}
-use Rattle.kcall_core.specs.Buffers.{writable}
+use Rattle.kcall_core.specs.Buffers.{writable_now}
 use Rattle.kcall_core.specs.Processes as meaning
 use Rattle.kcall_core.specs.Processes.{Live, Alive, Zombie}
 use Rattle.kcall_core.specs.State.{State, live}
@@ -205,7 +205,7 @@ module _ {k : Kernel} {h : Hart} (q : ℕ) (status : ℤ) (whole : IsWhole k h) 
   pub reaped-sound : IsSound (noted k new) h
   reaped-sound = subst (λ (t : Slots). IsSound (noted k t) h) (sym x.after) sound1
 
-  module _ (c : Call) (room : (not (nat_eq c.a0 0) && not (writable l.image c.a0 4)) ≡ false) where
+  module _ (c : Call) (room : (not (nat_eq c.a0 0) && not (writable_now l.image c.a0 4)) ≡ false) where
     abbrev next : Live
     next = waited c q status l
 

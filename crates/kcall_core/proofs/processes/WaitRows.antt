@@ -1,5 +1,5 @@
 -- The row wait, as the code goes through it: the status is stored, and which way the row goes.
-use Rattle.std.proofs.Common.{◌≡◌, ◌≢◌, ℕ, ◌||◌, ◌&&◌, not, Bool, true, false, cond, List, subst, Some, inl, inr, refl, sym, ap, ◌∙◌}
+use Rattle.std.proofs.Common.{◌≡◌, ◌≢◌, ℕ, ◌||◌, ◌&&◌, not, Bool, true, false, cond, List, subst, Some, inl, inr, refl, sym, ap, ◌∙◌, arith}
 use Rattle.std.specs.Prelude.{ℤ, is_some, nat_eq}
 use Rattle.std.specs.Int.{cast_unsigned, w32}
 use Rattle.std.specs.FinMap.{get, keys}
@@ -11,7 +11,7 @@ use Rattle.xk_base.specs.Bytes.{write_image}
 use Rattle.hart_core.specs.declared.hart.Hart.{Hart}
 use Rattle.proc_table.specs.Reaping.{HasChild, HasNoChild, HasNoneEnded}
 use Rattle.proc_table.specs.declared.process.Call.{Call}
-use Rattle.kcall_core.specs.Buffers.{writable}
+use Rattle.kcall_core.specs.Buffers.{writable, writable_now, reaches_touching}
 use Rattle.kcall_core.specs.State.{State}
 use Rattle.kcall_core.specs.View.{View, view_of, child_of}
 use Rattle.kcall_core.specs.Calls.{wait, least_zombie, refused, waits}
@@ -27,8 +27,11 @@ use Rattle.kcall_core.proofs.table.Stops.{now-slot}
 use Rattle.kcall_core.proofs.making.Imaged.{image-changed, image-same}
 use Rattle.kcall_core.proofs.table.Zombies.{find-none, any-none, none-seen, none-ended, some-child}
 use Rattle.kcall_core.specs.Processes.{has_status}
-use Rattle.kcall_core.proofs.rows.RowParts.{reaped, unless}
-use Rattle.kcall_core.proofs.rows.RowsByParts.{wait_same}
+use Rattle.kcall_core.proofs.rows.RowParts.{reaped, told_bytes, unless}
+use Rattle.kcall_core.proofs.rows.RowsByParts.{wait_same, wait_childless, wait_unwritable, wait_none, wait_ready}
+use Rattle.kcall_core.proofs.rows.Settled.{told-ready, touch-dear}
+use Rattle.kcall_core.specs.Touches.{pages_at}
+use Rattle.kcall_core.specs.Touched.{IsReady, IsUnready}
 
 -- ---- the status is stored
 
@@ -65,22 +68,23 @@ both-not : (a b : Bool) → (not a && not b) ≡ not (a || b)
 both-not true b = refl
 both-not false b = refl
 
-by-test : (v : View) (c : Call) (b : Bool) → (nat_eq c.a0 0 || writable v.image c.a0 4) ≡ b → wait c v ≡ unless (not b) c v (λ _. reaped c v (least_zombie v))
-by-test v c b e = wait_same c v ∙ ap (λ x. unless x c v (λ _. reaped c v (least_zombie v))) (both-not (nat_eq c.a0 0) (writable v.image c.a0 4) ∙ ap not e)
+by-test : (v : View) (c : Call) → (nat_eq c.a0 0 || writable_now v.image c.a0 4) ≡ true → wait c v ≡ reaped c v (least_zombie v)
+by-test v c e =
+    let ready = told-ready v.image c.a0 (nat_eq c.a0 0) (both-not (nat_eq c.a0 0) (writable_now v.image c.a0 4) ∙ ap not e) in
+    wait_same c v ready.1 ∙ ap (λ x. unless x c v (λ _. reaped c v (least_zombie v))) ready.0
 
 module _ (k : Kernel) (h : Hart) (slot : ℕ) (sound : IsSound k h) (is : k.current ≡ Some slot) (c : Call) where
-  pub tested : (b : Bool) → (nat_eq c.a0 0 || writable (held_at (each_of k.memories) slot).image c.a0 4) ≡ b
-      → wait c (view_now k h) ≡ unless (not b) c (view_now k h) (λ _. reaped c (view_now k h) (least_zombie (view_now k h)))
+  pub tested : (nat_eq c.a0 0 || writable_now (held_at (each_of k.memories) slot).image c.a0 4) ≡ true → wait c (view_now k h) ≡ reaped c (view_now k h) (least_zombie (view_now k h))
   unfolding view_of
-  tested b e = by-test (view_now k h) c b ((λ i. nat_eq c.a0 0 || writable (held_at (each_of k.memories) (sym (now-slot slot sound is) i)).image c.a0 4) ∙ e)
+  tested e = by-test (view_now k h) c ((λ i. nat_eq c.a0 0 || writable_now (held_at (each_of k.memories) (sym (now-slot slot sound is) i)).image c.a0 4) ∙ e)
 
   -- there is room for the status
-  pub room-told : (nat_eq c.a0 0 || writable (held_at (each_of k.memories) slot).image c.a0 4) ≡ true → (not (nat_eq c.a0 0) && not (writable (live_now k h).image c.a0 4)) ≡ false
+  pub room-told : (nat_eq c.a0 0 || writable_now (held_at (each_of k.memories) slot).image c.a0 4) ≡ true → (not (nat_eq c.a0 0) && not (writable_now (live_now k h).image c.a0 4)) ≡ false
   room-told e =
-      both-not (nat_eq c.a0 0) (writable (live_now k h).image c.a0 4)
-      ∙ ap not ((λ i. nat_eq c.a0 0 || writable (held_at (each_of k.memories) (sym (now-slot slot sound is) i)).image c.a0 4) ∙ e)
+      both-not (nat_eq c.a0 0) (writable_now (live_now k h).image c.a0 4)
+      ∙ ap not ((λ i. nat_eq c.a0 0 || writable_now (held_at (each_of k.memories) (sym (now-slot slot sound is) i)).image c.a0 4) ∙ e)
 
-  module _ (fits : (nat_eq c.a0 0 || writable (held_at (each_of k.memories) slot).image c.a0 4) ≡ true) where
+  module _ (fits : (nat_eq c.a0 0 || writable_now (held_at (each_of k.memories) slot).image c.a0 4) ≡ true) where
     abbrev p : ℕ
     p = pid_now k
 
@@ -90,13 +94,56 @@ module _ (k : Kernel) (h : Hart) (slot : ℕ) (sound : IsSound k h) (is : k.curr
     pub childless-row : HasNoChild k.table p → wait c (view_now k h) ≡ refused c (view_now k h)
     unfolding view_of
     childless-row none =
-        tested true fits
+        tested fits
         ∙ ap (reaped c (view_now k h)) (find-none (λ r. has_status (child_of p (get s.processes r))) (keys s.processes) (λ r. ap has_status (none-seen k h p sound.table none r)))
         ∙ ap (λ b. cond b (waits c 0 (view_now k h)) (refused c (view_now k h))) (any-none (λ r. is_some (child_of p (get s.processes r))) (keys s.processes) (λ r. ap is_some (none-seen k h p sound.table none r)))
 
     pub waiting-row : HasChild k.table p → HasNoneEnded k.table p → wait c (view_now k h) ≡ waits c 0 (view_now k h)
     unfolding view_of
     waiting-row has none =
-        tested true fits
+        tested fits
         ∙ ap (reaped c (view_now k h)) (find-none (λ r. has_status (child_of p (get s.processes r))) (keys s.processes) (none-ended k h p sound.table none))
         ∙ ap (λ b. cond b (waits c 0 (view_now k h)) (refused c (view_now k h))) (some-child k h p sound.table has)
+
+-- ---- the tests before the status is told
+
+-- it has a child, in the table and in its view
+module _ (k : Kernel) (h : Hart) (sound : IsSound k h) (runs : IsRunning k) (c : Call) where
+  pub no-child : HasNoChild k.table (pid_now k) → wait c (view_now k h) ≡ refused c (view_now k h)
+  unfolding view_of
+  no-child none = wait_childless c (view_now k h) (any-none (λ r. is_some (child_of (pid_now k) (get (state_of k h).processes r))) (keys (state_of k h).processes) (λ r. ap is_some (none-seen k h (pid_now k) sound.table none r)))
+
+  -- the status can't be stored, or the absent pages there cost more than is free
+  pub wait-unready : IsUnready c.a0 (told_bytes c) 0 k h → wait c (view_now k h) ≡ refused c (view_now k h)
+  unfolding view_of reaches_touching
+  wait-unready unready = elim unready [
+    | inl bad ↦ wait_unwritable c (view_now k h) (at (nat_eq c.a0 0) bad)
+    | inr dear ↦ wait_none c (view_now k h) (touch-dear (view_now k h) (pages_at c.a0 (told_bytes c)) (omega (arith, dear)))
+  ]
+    where
+      true-false : true ≡ false → ⊥
+      true-false e = cc
+
+      at : (b : Bool) → writable (live_now k h).image c.a0 (cond b 0 4) ≡ false → (not b && not (writable (live_now k h).image c.a0 4)) ≡ true
+      at true bad = absurd (true-false bad)
+      at false bad = ap not bad
+
+  -- its buffer is there: what the row comes to then
+  pub wait-ready : {k' : Kernel} → HasChild k.table (pid_now k) → IsReady c.a0 (told_bytes c) 0 k h k' h → wait c (view_now k h) ≡ wait c (view_now k' h)
+  unfolding view_of
+  wait-ready {k'} has ready = wait_ready c (view_now k h) (view_now k' h) (room (nat_eq c.a0 0) ready.may) (some-child k h (pid_now k) sound.table has) ready.touched.view
+    where
+      room : (b : Bool) → writable (live_now k h).image c.a0 (cond b 0 4) ≡ true → (not b && not (writable (live_now k h).image c.a0 4)) ≡ false
+      room true fine = refl
+      room false fine = ap not fine
+
+-- room for the status, where its buffer is there
+pub told-room : {k k' : Kernel} {h : Hart} (c : Call) (slot : ℕ) → k.current ≡ Some slot → IsReady c.a0 (told_bytes c) 0 k h k' h → (nat_eq c.a0 0 || writable_now (held_at (each_of k'.memories) slot).image c.a0 4) ≡ true
+told-room {k} {k'} {h} c slot is ready =
+    let same : k'.current ≡ Some slot = ap (λ (y : Kernel). y.current) ready.touched.kernel ∙ is in
+    let at : slot ≡ slot_now k' = now-slot slot ready.touched.whole.sound same in
+    by (nat_eq c.a0 0) ((λ i. writable_now (held_at (each_of k'.memories) (at i)).image c.a0 (told_bytes c)) ∙ ready.there)
+  where
+    by : (b : Bool) → writable_now (held_at (each_of k'.memories) slot).image c.a0 (cond b 0 4) ≡ true → (b || writable_now (held_at (each_of k'.memories) slot).image c.a0 4) ≡ true
+    by true fine = refl
+    by false fine = fine

@@ -27,8 +27,9 @@ use Rattle.kcall_core.specs.Worlds.{SameRest, SameDescriptors, bare, bare_shown,
 use Rattle.kcall_core.proofs.rows.Falls.{Falls, falls_done, falls_unless, falls_moving, falls_cond, own_falls}
 use Rattle.kcall_core.proofs.steps.SamePipe.{shown_of, unchanged_by}
 use Rattle.kcall_core.proofs.steps.Writes.{writable_written}
-use Rattle.kcall_core.proofs.rows.RowParts.{perform_parts, perform_row, unless, reaped, told, without_child, wait_parts, read_parts, read_on, read_from, read_line, moving, unless_nothing, write_parts, write_on, write_to, write_terminal, write_pipe, done_at, next_bytes, room_to_send, length_of_int, sleep_parts, sleep_for}
+use Rattle.kcall_core.proofs.rows.RowParts.{IsSettled, perform_parts, perform_row, unless, reaped, told, without_child, wait_parts, read_parts, read_on, read_from, read_line, moving, unless_nothing, write_parts, write_on, write_to, write_terminal, write_pipe, done_at, next_bytes, room_to_send, length_of_int, sleep_parts, sleep_for}
 use Rattle.kcall_core.proofs.rows.RowsByParts.{perform_same}
+use Rattle.kcall_core.proofs.rows.SettledWaits.{still_settled, settled_written}
 
 -- whoever is in such a view, and is not ready, waits again
 abbrev pub Again : View → ℤ → Type 0
@@ -47,10 +48,10 @@ one_of a b e = cc
 stays : (c : Call) (m : View) → m.call ≡ Some c → waits c c.moved m ≡ goes_on (Blocked c.number) m
 stays c m e = λ i. goes_on (Blocked c.number) (record m { call = sym e i })
 
--- its row is what its step does
-by_perform : (c : Call) (r : Row) (m : View) → m.killed ≡ false → m.call ≡ Some c → row_of c.number ≡ Some r → own m ≡ perform_row c m (Some r)
+-- its row is what its step does, where no page of its buffer is absent
+by_perform : (c : Call) (r : Row) (m : View) → m.killed ≡ false → m.call ≡ Some c → IsSettled c m → row_of c.number ≡ Some r → own m ≡ perform_row c m (Some r)
 unfolding own perform_parts
-by_perform c r m alive busy row = ap (unless_killed m) alive ∙ ap (going_on m) busy ∙ perform_same c m ∙ ap (perform_row c m) row
+by_perform c r m alive busy settled row = ap (unless_killed m) alive ∙ ap (going_on m) busy ∙ perform_same c m settled ∙ ap (perform_row c m) row
 
 abbrev Waits_on : Row → Call → View → Type 0
 Waits_on r c u =
@@ -58,17 +59,18 @@ Waits_on r c u =
     → perform_row c m (Some r) ≡ waits c c.moved m
 
 -- what has to be shown of a row that waits
-falls_waits : (r : Row) (c : Call) (moved : ℕ) (u : View) → row_of c.number ≡ Some r → Waits_on r (record c { moved = moved }) u → Falls Again (waits c moved u)
+falls_waits : (r : Row) (c : Call) (moved : ℕ) (u : View) → IsSettled c u → row_of c.number ≡ Some r → Waits_on r (record c { moved = moved }) u → Falls Again (waits c moved u)
 unfolding ready
-falls_waits r c moved u row h k n a e s p m see rest same shut =
+falls_waits r c moved u settled row h k n a e s p m see rest same shut =
     let now : Call = record c { moved = moved } in
     let is : record u { call = Some now } ≡ n = one_of (record u { call = Some now }) n e in
     let parts = or_parts m.killed (call_ready m m.call) shut in
     let busy : m.call ≡ Some now = rest.3 ∙ sym (ap (λ (x : View). x.call) is) in
     let unready : row_ready m now (Some r) ≡ false = sym (ap (row_ready m now) row) ∙ sym (ap (call_ready m) busy) ∙ parts.1 in
     let number : c.number ≡ k = number_of c.number k a in
-    by_perform now r m parts.0 busy row
-    ∙ h s p m see (rest.2 ∙ sym (ap (λ (x : View). x.image) is)) (λ d. same d ∙ sym (ap (λ (x : View). bare (x.descriptors d)) is)) unready
+    let image : m.image ≡ u.image = rest.2 ∙ sym (ap (λ (x : View). x.image) is) in
+    by_perform now r m parts.0 busy (still_settled c moved u m image settled) row
+    ∙ h s p m see image (λ d. same d ∙ sym (ap (λ (x : View). bare (x.descriptors d)) is)) unready
     ∙ stays now m busy ∙ ap (λ (z : ℤ). goes_on (Blocked z) m) number
   where
     number_of : (x y : ℤ) → Blocked x ≡ Blocked y → x ≡ y
@@ -104,11 +106,11 @@ no_zombie : (c : Call) (m : View) (o : Option ℕ) → (is_some o || not (has_ch
 no_zombie c m (Some q) e = let no : ⊥ = cc in absurd no
 no_zombie c m None e = ap (λ (b : Bool). cond b (waits c 0 m) (refused c m)) (not_false (has_child m) e)
 
-module _ (c : Call) (v : View) (alive : v.killed ≡ false) where
+module _ (c : Call) (v : View) (alive : v.killed ≡ false) (settled : IsSettled c v) where
   wait_by : row_of c.number ≡ Some Wait → (not (nat_eq c.a0 0) && not (writable v.image c.a0 4)) ≡ false → (o : Option ℕ) → Falls Again (reaped c v o)
   wait_by row there (Some q) = falls_done Again c (pos q) (told c.a0 (child_status (v.children q)) (without_child q v))
   wait_by row there None = falls_cond Again (has_child v) (waits c 0 v) (refused c v)
-      (λ _. falls_waits Wait c 0 v row waits_on) (λ _. falls_done Again c _ v)
+      (λ _. falls_waits Wait c 0 v settled row waits_on) (λ _. falls_done Again c _ v)
     where
       waits_on : Waits_on Wait (record c { moved = 0 }) v
       waits_on s p m see image same shut =
@@ -225,7 +227,7 @@ pull_short first n bytes h = by (nat_le n (line_length bytes)) refl h
     by true e g = let no : ⊥ = cc in absurd no
     by false e g = rest (slice_get bytes (line_length bytes)) (ltb-true (line_length bytes) n (under n (line_length bytes) e)) g
 
-module _ (c : Call) (v : View) (row : row_of c.number ≡ Some Read) (d : Descriptor) (on : in_use v (c_int c.a0) ≡ Some d) (reads : not d.read ≡ false) (n : ℕ) (size : c_int c.a2 ≡ pos n) (some : nat_eq n 0 ≡ false) (there : not (writable v.image c.a1 (length_of_int (c_int c.a2))) ≡ false) where
+module _ (c : Call) (v : View) (settled : IsSettled c v) (row : row_of c.number ≡ Some Read) (d : Descriptor) (on : in_use v (c_int c.a0) ≡ Some d) (reads : not d.read ≡ false) (n : ℕ) (size : c_int c.a2 ≡ pos n) (some : nat_eq n 0 ≡ false) (there : not (writable v.image c.a1 (length_of_int (c_int c.a2))) ≡ false) where
   pipe_read : (name : ℕ) (end : End) (pipe : Pipe) → d.shown ≡ Shown_pipe name end pipe → Waits_on Read (record c { moved = 0 }) v
   pipe_read name end pipe shows s p m see image same shut =
       let now : Call = record c { moved = 0 } in
@@ -259,18 +261,18 @@ module _ (c : Call) (v : View) (row : row_of c.number ≡ Some Read) (d : Descri
     where
       line : (q : Pulled) → (q.ended ≡ false → length q.taken < n - c.moved) → Falls Again (read_line c v q)
       line q short = falls_cond Again q.ended _ _ (λ _. falls_done Again c (pos (c.moved + length q.taken)) (taken_view q))
-          (λ over. falls_waits Read c (c.moved + length q.taken) (taken_view q) row
+          (λ over. falls_waits Read c (c.moved + length q.taken) (taken_view q) (settled_written c v q.taken (c.a1 + c.moved) settled) row
           (line_read (c.moved + length q.taken) (taken_view q) (c.a1 + c.moved) q.taken shows (let t : ℕ = length q.taken in let less : t < n - c.moved = short over in let goal : 0 < n - (c.moved + t) = omega arith in goal) refl refl))
   read_by (Shown_file program offset) shows =
       let bytes : List ℕ = take n (drop offset (program_bytes (slice_get v.programs program))) in
       falls_done Again c (pos (length bytes)) (record v { image = write_image v.image c.a1 bytes; descriptors = advance d.file (length bytes) v.descriptors })
-  read_by (Shown_pipe name end pipe) shows = falls_cond Again (must_wait pipe) (waits c 0 v) _ (λ _. falls_waits Read c 0 v row (pipe_read name end pipe shows))
+  read_by (Shown_pipe name end pipe) shows = falls_cond Again (must_wait pipe) (waits c 0 v) _ (λ _. falls_waits Read c 0 v settled row (pipe_read name end pipe shows))
       (λ _. falls_done Again c (pos (there_in pipe n)) (record v { image = write_image v.image c.a1 (take (there_in pipe n) pipe.bytes); descriptors = change_pipe name (without_first (there_in pipe n) pipe) v.descriptors }))
 
-read_on_row : (c : Call) (v : View) → row_of c.number ≡ Some Read → (o : Option Descriptor) → in_use v (c_int c.a0) ≡ o → Falls Again (read_on c v o)
-read_on_row c v row None on = falls_done Again c _ v
-read_on_row c v row (Some d) on = falls_unless Again (not d.read) c v _ (λ reads. falls_moving Again c v (writable v.image c.a1 (length_of_int (c_int c.a2))) (c_int c.a2) (λ n. read_from c v n d.file d.shown)
-    (λ n size some there. read_by c v row d on reads n size some there d.shown refl))
+read_on_row : (c : Call) (v : View) → IsSettled c v → row_of c.number ≡ Some Read → (o : Option Descriptor) → in_use v (c_int c.a0) ≡ o → Falls Again (read_on c v o)
+read_on_row c v settled row None on = falls_done Again c _ v
+read_on_row c v settled row (Some d) on = falls_unless Again (not d.read) c v _ (λ reads. falls_moving Again c v (writable v.image c.a1 (length_of_int (c_int c.a2))) (c_int c.a2) (λ n. read_from c v n d.file d.shown)
+    (λ n size some there. read_by c v settled row d on reads n size some there d.shown refl))
 
 -- ---- write
 
@@ -319,7 +321,7 @@ on_number : (m : View) (e : Descriptor) (z : ℤ) → in_use m z ≡ Some e → 
 on_number m e (pos d) h = (d, h)
 on_number m e (negsuc k) h = let no : ⊥ = cc in absurd no
 
-module _ (c : Call) (v : View) (row : row_of c.number ≡ Some Write) (d : Descriptor) (on : in_use v (c_int c.a0) ≡ Some d) (writes : not d.write ≡ false) (n : ℕ) (size : c_int c.a2 ≡ pos n) (some : nat_eq n 0 ≡ false) (there : not (readable v.image c.a1 (length_of_int (c_int c.a2))) ≡ false) where
+module _ (c : Call) (v : View) (settled : IsSettled c v) (row : row_of c.number ≡ Some Write) (d : Descriptor) (on : in_use v (c_int c.a0) ≡ Some d) (writes : not d.write ≡ false) (n : ℕ) (size : c_int c.a2 ≡ pos n) (some : nat_eq n 0 ≡ false) (there : not (readable v.image c.a1 (length_of_int (c_int c.a2))) ≡ false) where
   module _ (k : ℕ) (more : nat_le n k ≡ false) (u : View) (image_u : u.image ≡ v.image) (table_u : (x : ℕ) → bare (u.descriptors x) ≡ bare (v.descriptors x)) where
     abbrev now : Call
     now = record c { moved = k }
@@ -363,23 +365,23 @@ module _ (c : Call) (v : View) (row : row_of c.number ≡ Some Write) (d : Descr
 
   write_by : (x : Shown) → d.shown ≡ x → Falls Again (write_to c v n x)
   write_by Shown_terminal shows = falls_cond Again (nat_le n (c.moved + room)) (done c (pos n) sending) (waits c (c.moved + room) sending) (λ _. falls_done Again c (pos n) sending)
-      (λ more. falls_waits Write c (c.moved + room) sending row (terminal_write (c.moved + room) more sending refl (λ x. refl) shows))
+      (λ more. falls_waits Write c (c.moved + room) sending settled row (terminal_write (c.moved + room) more sending refl (λ x. refl) shows))
   write_by (Shown_file program offset) shows = falls_done Again c minus_one v
   write_by (Shown_pipe name end pipe) shows = falls_unless Again (nat_eq pipe.readers 0) c v (λ _. done_at c n (c.moved + fit pipe (n - c.moved)) (pushed name pipe))
       (λ _. falls_cond Again (nat_le n (c.moved + fit pipe (n - c.moved))) (done c (pos n) (pushed name pipe)) (waits c (c.moved + fit pipe (n - c.moved)) (pushed name pipe)) (λ _. falls_done Again c (pos n) (pushed name pipe))
-      (λ more. falls_waits Write c (c.moved + fit pipe (n - c.moved)) (pushed name pipe) row
+      (λ more. falls_waits Write c (c.moved + fit pipe (n - c.moved)) (pushed name pipe) settled row
       (pipe_write (c.moved + fit pipe (n - c.moved)) more (pushed name pipe) refl (λ x. bare_changed _ (v.descriptors x)) name end pipe shows)))
 
-write_on_row : (c : Call) (v : View) → row_of c.number ≡ Some Write → (o : Option Descriptor) → in_use v (c_int c.a0) ≡ o → Falls Again (write_on c v o)
-write_on_row c v row None on = falls_done Again c _ v
-write_on_row c v row (Some d) on = falls_unless Again (not d.write) c v _ (λ writes. falls_moving Again c v (readable v.image c.a1 (length_of_int (c_int c.a2))) (c_int c.a2) (λ n. write_to c v n d.shown)
-    (λ n size some there. write_by c v row d on writes n size some there d.shown refl))
+write_on_row : (c : Call) (v : View) → IsSettled c v → row_of c.number ≡ Some Write → (o : Option Descriptor) → in_use v (c_int c.a0) ≡ o → Falls Again (write_on c v o)
+write_on_row c v settled row None on = falls_done Again c _ v
+write_on_row c v settled row (Some d) on = falls_unless Again (not d.write) c v _ (λ writes. falls_moving Again c v (readable v.image c.a1 (length_of_int (c_int c.a2))) (c_int c.a2) (λ n. write_to c v n d.shown)
+    (λ n size some there. write_by c v settled row d on writes n size some there d.shown refl))
 
 -- ---- sleep
 
-sleep_by : (c : Call) (v : View) → row_of c.number ≡ Some Sleep → (z : ℤ) → c_int c.a0 ≡ z → Falls Again (sleep_for c v z)
-sleep_by c v row (negsuc k) is = falls_done Again c _ v
-sleep_by c v row (pos n) is = falls_cond Again (nat_lt ((v.clock + CLOCK_ROUND - c.clock) % CLOCK_ROUND) n) (waits c 0 v) _ (λ _. falls_waits Sleep c 0 v row still) (λ _. falls_done Again c _ v)
+sleep_by : (c : Call) (v : View) → IsSettled c v → row_of c.number ≡ Some Sleep → (z : ℤ) → c_int c.a0 ≡ z → Falls Again (sleep_for c v z)
+sleep_by c v settled row (negsuc k) is = falls_done Again c _ v
+sleep_by c v settled row (pos n) is = falls_cond Again (nat_lt ((v.clock + CLOCK_ROUND - c.clock) % CLOCK_ROUND) n) (waits c 0 v) _ (λ _. falls_waits Sleep c 0 v settled row still) (λ _. falls_done Again c _ v)
   where
     still : Waits_on Sleep (record c { moved = 0 }) v
     still s p m see image same shut =
@@ -391,5 +393,5 @@ sleep_by c v row (pos n) is = falls_cond Again (nat_lt ((v.clock + CLOCK_ROUND -
 
 pub unready_waits : UnreadyWaits
 unready_waits s p v n m number answer next see rest same shut =
-    own_falls Again (λ c u alive row. wait_row c u alive row) (λ c u alive row. read_on_row c u row (in_use u (c_int c.a0)) refl) (λ c u alive row. write_on_row c u row (in_use u (c_int c.a0)) refl)
-    (λ c u alive row. sleep_by c u row (c_int c.a0) refl) v number n answer next s p m see rest same shut
+    own_falls Again (λ c u alive settled row. wait_row c u alive settled row) (λ c u alive settled row. read_on_row c u settled row (in_use u (c_int c.a0)) refl) (λ c u alive settled row. write_on_row c u settled row (in_use u (c_int c.a0)) refl)
+    (λ c u alive settled row. sleep_by c u settled row (c_int c.a0) refl) v number n answer next s p m see rest same shut

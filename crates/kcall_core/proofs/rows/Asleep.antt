@@ -232,7 +232,7 @@ module _ (c : Call) (v : View) (alive : v.killed ≡ false) where
 
 -- who falls asleep isn't ready
 pub own_unready : (v : View) → Sleeps_unready (own v)
-own_unready v = own_falls Unready (λ c u alive row. wait_row c u alive row) (λ c u alive row. read_row c u alive row) (λ c u alive row. write_row c u alive row) (λ c u alive row. sleep_by c u alive row (c_int c.a0) refl) v
+own_unready v = own_falls Unready (λ c u alive settled row. wait_row c u alive row) (λ c u alive settled row. read_row c u alive row) (λ c u alive settled row. write_row c u alive row) (λ c u alive settled row. sleep_by c u alive row (c_int c.a0) refl) v
 
 pub blocks_unready : BlocksUnready
 blocks_unready v n number a e = own_unready v number n a e

@@ -1,29 +1,30 @@
--- No step shows a byte that another process left in a page.
-use Rattle.std.proofs.Common.{◌≡◌, ◌≢◌, ℕ, zero, suc, ◌+◌, ◌-◌, ◌/◌, ◌%◌, ◌++◌, Bool, true, false, cond, not, ◌&&◌, ◌||◌, List, [], ◌∷◌, length, refl, ap, sym, ◌∙◌, inl, inr, ◌⊎◌, replicate, take, drop, subst}
+-- A row adds no page but of zeros, or the pages of the program that an exec names.
+use Rattle.std.proofs.Common.{◌≡◌, ◌≢◌, ℕ, zero, suc, ◌+◌, ◌-◌, ◌/◌, ◌%◌, ◌++◌, Bool, true, false, cond, not, ◌&&◌, ◌||◌, List, [], ◌∷◌, length, refl, ap, sym, ◌∙◌, inl, inr, ◌⊎◌, replicate, take, drop}
 use Rattle.std.specs.Prelude.{Option, None, Some, ℤ, pos, negsuc, nat_eq, nat_lt, nat_le, is_some, slice_get, Result, Ok, Err}
 use Rattle.std.specs.FinMap.{FinMap, get, insert}
 use Rattle.std.specs.Ordering.{nat_cmp}
 use Rattle.std.proofs.lemmas.Bool.Decides.{eqb_tells}
 use Rattle.xk_base.specs.Image.{Image, Page, price, page_count}
 use Rattle.phys_ram.specs.Ram.{zero_frame}
+use Rattle.addr_space.specs.Absent.{grown_lazily}
 use Rattle.addr_space.specs.Changes.{zeroed, with_absent}
 use Rattle.sv39_core.proofs.Gathered.{gathered-get}
 use Rattle.rv64i_core.specs.Memory.{Store}
 use Rattle.xk_base.specs.Loaded.{Loaded, loaded}
 use Rattle.xk_base.specs.declared.errors.ExecError.{ExecError}
-use Rattle.rv64i_core.specs.Step.{Step, Next, Ecall, Fault}
+use Rattle.rv64i_core.specs.Registers.{Registers}
+use Rattle.rv64i_core.specs.Step.{Next}
 use Rattle.hart_core.specs.UserMemory.{with_store, written_page, write_pages}
 use Rattle.xk_base.specs.declared.limits.TheConstants.{SIZE_LIMIT, MAXARG, ARG_BYTES, MAXPATH}
-use Rattle.kcall_core.specs.Instruction.{next_instruction}
 use Rattle.kcall_core.specs.Words.{CLOCK_ROUND, minus_one, c_int}
 use Rattle.kcall_core.specs.Buffers.{readable, writable, text_at, texts_at, no_slashes, data_rights, grown, shrunk}
 use Rattle.xk_base.specs.Bytes.{write_image}
 use Rattle.proc_table.specs.declared.process.Call.{Call}
 use Rattle.kcall_core.specs.View.{View, Descriptor, Shown, Shown_terminal, Shown_file, Shown_pipe}
-use Rattle.kcall_core.specs.Own.{Own, Stepped, Called, Exited, Faulted}
-use Rattle.kcall_core.specs.Calls.{Row, Fork, Exit, Wait, Pipe_row, Read, Kill, Exec, Dup, Getpid, Sbrk, Sleep, Uptime, Open, Write, Close, row_of, answered, gone, done, refused, waits, least_zombie, has_child}
+use Rattle.kcall_core.specs.Own.{Own, Stepped, Called, Exited}
+use Rattle.kcall_core.specs.Calls.{Row, Fork, Exit, Wait, Pipe_row, Read, Kill, Exec, Dup, Getpid, Sbrk, Sleep, Uptime, Open, Write, Close, Sbrklazy, row_of, answered, gone, done, refused, waits, least_zombie, has_child}
 use Rattle.kcall_core.specs.Programs.{program_bytes, program_named}
-use Rattle.kcall_core.specs.Step.{own, unless_killed, going_on, after_instruction, call_begun, call_or_begun, call_in, begun}
+use Rattle.kcall_core.specs.Step.{after_instruction}
 use Rattle.xk_base.specs.Words.{le_bytes}
 use Rattle.kcall_core.specs.Tables.{lowest_free, lowest_free_above, advance, change_pipe, with_copy, one_more_on, one_less_on, without_descriptor, with_descriptor, pipes_given_up}
 use Rattle.kcall_core.specs.PipeEnds.{there, fit, must_wait}
@@ -32,20 +33,23 @@ use Rattle.console_core.specs.Reads.{Pulled, pulled}
 use Rattle.kcall_core.specs.State.{ProgramFile}
 use Rattle.std.specs.Int.{cast_unsigned, w32}
 use Rattle.std.specs.List.{list_any}
-use Rattle.kcall_core.specs.Worlds.{IsExecOf, IsExecDone, NewPagesAreZeros, NoOldPage}
+use Rattle.kcall_core.specs.Worlds.{IsExecOf, IsExecDone, IsNewPage}
 use Rattle.xk_base.specs.Bytes.{put_in, put_byte}
 use Rattle.xk_base.specs.Gathered.{insert_some}
 use Rattle.kcall_core.proofs.steps.Maps.{get_same, get_other}
 use Rattle.kcall_core.specs.Processes.{child_status}
 use Rattle.kcall_core.specs.Ready.{in_use}
-use Rattle.kcall_core.proofs.rows.RowParts.{perform_parts, perform_row, unless, unless_nothing, moving, length_of_int, reaped, without_child, piped, piped_from, with_pipe, read_on, read_from, write_on, write_to, done_at, next_bytes, kill_pid, killed_by, exec_program, exec_path, dup_at, dup_on, dup_number, close_at, close_on, close_number, sbrk_by, grow_to, shrink_to, exec_loaded, running, sleep_for, open_at, open_path, opened_as, kind_named, fork_parts, forked, cannot_fork, with_child, room_to_send}
-use Rattle.kcall_core.proofs.rows.RowsByParts.{perform_same}
+use Rattle.kcall_core.proofs.rows.RowParts.{perform_parts, perform_row, unless, unless_nothing, moving, length_of_int, reaped, without_child, piped, piped_from, with_pipe, read_on, read_from, write_on, write_to, done_at, next_bytes, kill_pid, killed_by, exec_program, exec_path, dup_at, dup_on, dup_number, close_at, close_on, close_number, sbrk_by, grow_to, shrink_to, lazy_by, exec_loaded, running, sleep_for, open_at, open_path, opened_as, kind_named, fork_parts, forked, cannot_fork, with_child, room_to_send}
 
 same_view : (a b : View) → Some a ≡ Some b → a ≡ b
 same_view a b e = cc
 
 some_page : (a b : Page) → Some a ≡ Some b → a ≡ b
 some_page a b e = cc
+
+-- the pages that the next view has more hold zeros
+abbrev pub NewPagesAreZeros : View → View → Type 0
+NewPagesAreZeros v n = (page : ℕ) (x : Page) → IsNewPage v n page x → x.bytes ≡ replicate 4096 0
 
 -- the new pages of the next view hold zeros
 abbrev pub Zeroed : View → Own → Type 0
@@ -154,17 +158,14 @@ zeroed_shrink c v size = zeroed_view v _ (λ page none. shrunk_none page none) (
 
 -- ---- an exec that is done, and any other step
 
-clean_gone : (c : Call) (v : View) (o : Own) → o.next ≡ None → Clean c v o
-clean_gone c v o none n is = let no : ⊥ = cc in absurd no
-
 clean_other : (c : Call) (v : View) (o : Own) → ¬ IsExecDone c o → Zeroed v o → Clean c v o
 clean_other c v o apart zeros n is = (λ yes. absurd (apart yes), λ _. zeros n is)
 
 -- a call that is refused isn't done, nor is an instruction a call
-refused_apart : (number : ℤ) (k : ℕ) → Called number minus_one ≢ Called number (pos k)
+pub refused_apart : (number : ℤ) (k : ℕ) → Called number minus_one ≢ Called number (pos k)
 refused_apart number k e = let no : ⊥ = cc in no
 
-stepped_apart : (number : ℤ) (k : ℕ) → Stepped ≢ Called number (pos k)
+pub stepped_apart : (number : ℤ) (k : ℕ) → Stepped ≢ Called number (pos k)
 stepped_apart number k e = let no : ⊥ = cc in no
 
 clean_refused : (c : Call) (v : View) → Clean c v (refused c v)
@@ -317,6 +318,11 @@ module _ (c : Call) (v : View) where
   sbrk_row (pos n) = zeroed_grow c v (v.image.size + n)
   sbrk_row (negsuc k) = zeroed_unless (nat_le v.image.size k || nat_lt SIZE_LIMIT (v.image.size - suc k)) c v (λ _. shrink_to c v (v.image.size - suc k)) (zeroed_shrink c v (v.image.size - suc k))
 
+  sbrklazy_row : (z : ℤ) → Zeroed v (lazy_by c v z)
+  sbrklazy_row (negsuc k) = refusal
+  sbrklazy_row (pos n) = zeroed_unless (nat_lt SIZE_LIMIT (v.image.size + n)) c v (λ _. done c (pos v.image.size) (record v { image = grown_lazily v.image (v.image.size + n) }))
+      (zeroed_view v (answered (pos v.image.size) (record v { image = grown_lazily v.image (v.image.size + n) })) (λ page none. none) (done c (pos v.image.size) (record v { image = grown_lazily v.image (v.image.size + n) })) refl)
+
   sleep_row : (z : ℤ) → Zeroed v (sleep_for c v z)
   sleep_row (negsuc k) = same_done (pos 0) v refl
   sleep_row (pos n) = whichever (nat_lt ((v.clock + CLOCK_ROUND - c.clock) % CLOCK_ROUND) n) (waits c 0 v) (done c (pos 0) v) (same_waits 0 v refl) (same_done (pos 0) v refl)
@@ -354,36 +360,15 @@ module _ (c : Call) (v : View) where
   by_row (Some Open) e = other (Some Open) e refl (open_row (text_at MAXPATH v.image c.a0))
   by_row (Some Write) e = other (Some Write) e refl (write_on_row (in_use v (c_int c.a0)))
   by_row (Some Close) e = other (Some Close) e refl (close_row (c_int c.a0))
+  by_row (Some Sbrklazy) e = other (Some Sbrklazy) e refl (sbrklazy_row (c_int c.a0))
 
   pub perform_clean : Clean c v (perform_parts c v)
   unfolding perform_parts
   perform_clean = by_row (row_of c.number) refl
 
--- ---- a step
+-- ---- an instruction
 
-module _ (v : View) where
-  -- an instruction that is done
-  stepped_clean : (o : Own) → o.answer ≡ Stepped → Zeroed v o → Clean (call_begun v) v o
-  stepped_clean o is zeros = clean_other (call_begun v) v o (λ yes. stepped_apart (call_begun v).number yes.0 (sym is ∙ yes.2)) zeros
-
-  instruction_clean : (st : Step) → Clean (call_begun v) v (after_instruction v st)
-  instruction_clean (Next r None) = stepped_clean (after_instruction v (Next r None)) refl (zeroed_same v (record v { regs = r }) refl (after_instruction v (Next r None)) refl)
-  instruction_clean (Next r (Some st)) = stepped_clean (after_instruction v (Next r (Some st))) refl
-      (zeroed_view v (record v { regs = r; image = with_store v.image st }) (λ page none. store_absent v.image st page none) (after_instruction v (Next r (Some st))) refl)
-  instruction_clean Ecall = subst (Clean (call_begun v) (begun v)) (sym (perform_same (call_begun v) (begun v))) (perform_clean (call_begun v) (begun v))
-  instruction_clean (Fault cause) = clean_gone (call_begun v) v (gone (Faulted cause) v) refl
-
-  going_clean : (o : Option Call) → Clean (call_or_begun v o) v (going_on v o)
-  going_clean None = instruction_clean (next_instruction v.regs v.image)
-  going_clean (Some c) = subst (Clean c v) (sym (perform_same c v)) (perform_clean c v)
-
-  unless_clean : (b : Bool) → Clean (call_in v) v (unless_killed v b)
-  unless_clean true = clean_gone (call_in v) v (gone (Exited minus_one) v) refl
-  unless_clean false = going_clean v.call
-
-  pub own_clean : Clean (call_in v) v (own v)
-  unfolding own
-  own_clean = unless_clean v.killed
-
-pub no_old_page : NoOldPage
-no_old_page v n is = own_clean v n is
+-- a store makes no page
+pub zeroed_stored : (v : View) (r : Registers) (st : Option Store) → Zeroed v (after_instruction v (Next r st))
+zeroed_stored v r None = zeroed_same v (record v { regs = r }) refl (after_instruction v (Next r None)) refl
+zeroed_stored v r (Some st) = zeroed_view v (record v { regs = r; image = with_store v.image st }) (λ page none. store_absent v.image st page none) (after_instruction v (Next r (Some st))) refl

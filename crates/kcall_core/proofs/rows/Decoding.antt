@@ -9,13 +9,13 @@ use Rattle.xk_base.specs.Loaded.{loaded}
 use Rattle.file_table.specs.declared.open_file.OpenFile.{OpenFile}
 use Rattle.proc_table.specs.declared.process.Call.{Call}
 use Rattle.kcall_core.specs.Words.{c_int}
-use Rattle.kcall_core.specs.Buffers.{readable, writable, text_at, texts_at, no_slashes}
+use Rattle.kcall_core.specs.Buffers.{readable, writable, writable_now, text_at, texts_at, no_slashes}
 use Rattle.kcall_core.specs.Programs.{program_named}
 use Rattle.kcall_core.specs.Processes.{Alive, Live}
 use Rattle.kcall_core.specs.View.{View, Descriptor, view_of, numbered, rename, descriptor_at, descriptor_on}
 use Rattle.kcall_core.specs.Own.{Own}
 use Rattle.kcall_core.specs.Tables.{lowest_free, lowest_free_above}
-use Rattle.kcall_core.specs.Calls.{row_of, perform, refused, fork, wait, make_pipe, read, kill, exec, dup, getpid, sbrk, sleep, uptime, open_file, write, close, Row, row, exit}
+use Rattle.kcall_core.specs.Calls.{row_of, perform, refused, fork, wait, make_pipe, read, kill, exec, dup, getpid, sbrk, sbrklazy, sleep, uptime, open_file, write, close, Row, row, exit}
 use Rattle.kcall_core.specs.Quiet.{file_of}
 use Rattle.kcall_core.specs.WellFormed.{WellFormed}
 use Rattle.kcall_core.proofs.steps.Least.{least_congr}
@@ -23,6 +23,7 @@ use Rattle.kcall_core.proofs.steps.Names.{named_at}
 use Rattle.kcall_core.specs.Ready.{in_use}
 use Rattle.kcall_core.proofs.rows.RowParts.{piped, piped_from, read_on, read_from, kill_pid, killed_by, exec_path, exec_program, exec_loaded, dup_number, dup_on, dup_at, open_path, open_at, opened_as, kind_named, write_on, write_to, close_number, close_on, close_at, unless, unless_nothing, moving, length_of_int}
 use Rattle.kcall_core.specs.Lines.{◌>>=◌, ◌or◌}
+use Rattle.kcall_core.proofs.rows.Settled.{there-ready, now-writable, counted-settled}
 use Rattle.kcall_core.proofs.rows.RowsByParts.{dup_same, close_same, read_same, write_same, open_same, pipe_same, kill_same, exec_same}
 
 -- ---- which row
@@ -92,6 +93,10 @@ module _ (c : Call) (v : View) where
   unfolding row row_of ◌>>=◌ ◌or◌
   is_close is = by_number (pos 21) is
 
+  pub is_sbrklazy : c.number ≡ pos 22 → perform c v ≡ sbrklazy c v
+  unfolding row row_of ◌>>=◌ ◌or◌
+  is_sbrklazy is = by_number (pos 22) is
+
   pub is_none_of_them : row_of c.number ≡ None → perform c v ≡ refused c v
   unfolding perform ◌>>=◌ ◌or◌
   is_none_of_them none = ap (λ (o : Option Row). (o or refused c v) >>= (λ r. row r c v)) none
@@ -115,11 +120,11 @@ module _ (c : Call) (v : View) where
           ∙ ap (λ (b : Bool). unless_nothing b c v (λ _. unless (not (room n)) c v (λ _. go n))) some
           ∙ ap (λ (b : Bool). unless (not b) c v (λ _. go n)) there
 
-      pub read_case : d.read ≡ true → writable v.image c.a1 n ≡ true → read c v ≡ read_from c v n d.file d.shown
+      pub read_case : d.read ≡ true → writable_now v.image c.a1 n ≡ true → read c v ≡ read_from c v n d.file d.shown
       read_case reads there =
-          read_same c v ∙ ap (read_on c v) found
+          read_same c v (counted-settled v.image c.a1 n (c_int c.a2) count there) ∙ ap (read_on c v) found
           ∙ ap (λ (b : Bool). unless (not b) c v (λ _. moving c v (writable v.image c.a1 (length_of_int (c_int c.a2))) (c_int c.a2) (λ m. read_from c v m d.file d.shown))) reads
-          ∙ by_count (writable v.image c.a1) (λ m. read_from c v m d.file d.shown) there
+          ∙ by_count (writable v.image c.a1) (λ m. read_from c v m d.file d.shown) (now-writable v.image c.a1 n there)
 
       pub write_case : d.write ≡ true → readable v.image c.a1 n ≡ true → write c v ≡ write_to c v n d.shown
       write_case writes there =
@@ -130,8 +135,11 @@ module _ (c : Call) (v : View) where
   pub open_case : (path : List ℕ) → text_at MAXPATH v.image c.a0 ≡ Some path → open_file c v ≡ open_at c v (lowest_free v.descriptors) (opened_as (kind_named (no_slashes path) v) (c_int c.a1))
   open_case path is = open_same c v ∙ ap (open_path c v) is
 
-  pub pipe_case : (r : ℕ) → (not (writable v.image c.a0 8) || nat_eq v.free 0) ≡ false → lowest_free v.descriptors ≡ Some r → make_pipe c v ≡ piped c v r (lowest_free_above v.descriptors r)
-  pipe_case r room least = pipe_same c v ∙ ap (λ (b : Bool). unless b c v (λ _. piped_from c v (lowest_free v.descriptors))) room ∙ ap (piped_from c v) least
+  pub pipe_case : (r : ℕ) → writable_now v.image c.a0 8 ≡ true → nat_eq v.free 0 ≡ false → lowest_free v.descriptors ≡ Some r → make_pipe c v ≡ piped c v r (lowest_free_above v.descriptors r)
+  pipe_case r there frame least =
+      let ready = there-ready v.image c.a0 8 there in
+      let room : (not (writable v.image c.a0 8) || nat_eq v.free 0) ≡ false = ap (λ b. not b || nat_eq v.free 0) ready.0 ∙ frame in
+      pipe_same c v ready.1 ∙ ap (λ (b : Bool). unless b c v (λ _. piped_from c v (lowest_free v.descriptors))) room ∙ ap (piped_from c v) least
 
   pub kill_case : (q : ℕ) → c_int c.a0 ≡ pos q → nat_eq q 0 ≡ false → kill c v ≡ killed_by c v q
   kill_case q is some = kill_same c v ∙ ap (kill_pid c v) is ∙ ap (λ (b : Bool). unless b c v (λ _. killed_by c v q)) some

@@ -1,5 +1,5 @@
 -- What stands of every step that ends in sleep, from the four rows that may wait.
-use Rattle.std.proofs.Common.{◌≡◌, ◌≢◌, ℕ, suc, ◌+◌, ◌-◌, Bool, true, false, cond, not, ◌||◌, List, refl, subst, sym}
+use Rattle.std.proofs.Common.{◌≡◌, ◌≢◌, ℕ, suc, ◌+◌, ◌-◌, Bool, true, false, cond, not, ◌||◌, List, refl}
 use Rattle.std.specs.Prelude.{Option, None, Some, ℤ, pos, negsuc, nat_eq, nat_lt, nat_le, Result, Ok, Err}
 use Rattle.xk_base.specs.declared.limits.TheConstants.{SIZE_LIMIT, MAXARG, ARG_BYTES, MAXPATH}
 use Rattle.kcall_core.specs.Instruction.{next_instruction}
@@ -7,10 +7,11 @@ use Rattle.kcall_core.specs.Words.{c_int, minus_one}
 use Rattle.kcall_core.specs.Buffers.{writable, grown, text_at, texts_at, no_slashes}
 use Rattle.kcall_core.specs.Tables.{lowest_free, lowest_free_above}
 use Rattle.xk_base.specs.Image.{price}
+use Rattle.addr_space.specs.Absent.{grown_lazily}
 use Rattle.xk_base.specs.Loaded.{loaded, Loaded}
 use Rattle.rv64i_core.specs.Step.{Next, Ecall, Fault, Step}
 use Rattle.xk_base.specs.declared.errors.ExecError.{ExecError}
-use Rattle.kcall_core.specs.Calls.{Row, Fork, Exit, Wait, Pipe_row, Read, Kill, Exec, Dup, Getpid, Sbrk, Sleep, Uptime, Open, Write, Close, row_of, done, gone}
+use Rattle.kcall_core.specs.Calls.{Row, Fork, Exit, Wait, Pipe_row, Read, Kill, Exec, Dup, Getpid, Sbrk, Sleep, Uptime, Open, Write, Close, Sbrklazy, row_of, perform, done, gone}
 use Rattle.proc_table.specs.declared.process.Call.{Call}
 use Rattle.kcall_core.specs.State.{ProgramFile}
 use Rattle.kcall_core.specs.View.{View, Descriptor, Shown}
@@ -18,16 +19,17 @@ use Rattle.kcall_core.specs.Own.{Own, Blocked, Called, Exited, Faulted, Answer}
 use Rattle.std.specs.List.{list_any}
 use Rattle.kcall_core.specs.Step.{own, unless_killed, going_on, after_instruction, call_begun, begun}
 use Rattle.kcall_core.specs.Programs.{program_named}
-use Rattle.kcall_core.proofs.rows.RowParts.{perform_parts, perform_row, unless, wait_parts, read_parts, moving, unless_nothing, write_parts, sleep_parts, fork_parts, forked, cannot_fork, piped, piped_from, pipe_parts, kill_pid, killed_by, exec_loaded, exec_program, exec_path, running, dup_at, dup_on, dup_number, close_at, close_on, close_number, sbrk_by, shrink_to, open_at, open_path, opened_as, kind_named}
-use Rattle.kcall_core.proofs.rows.RowsByParts.{perform_same}
+use Rattle.kcall_core.proofs.rows.RowParts.{IsSettled, perform_parts, perform_row, unless, wait_parts, read_parts, moving, unless_nothing, write_parts, sleep_parts, fork_parts, forked, cannot_fork, piped, piped_from, pipe_parts, kill_pid, killed_by, exec_loaded, exec_program, exec_path, running, dup_at, dup_on, dup_number, close_at, close_on, close_number, sbrk_by, shrink_to, lazy_by, open_at, open_path, opened_as, kind_named}
+use Rattle.kcall_core.proofs.rows.Touched.{touched_view}
+use Rattle.kcall_core.proofs.rows.ByTouch.{by_call, by_instruction}
 
 -- a step that ends in sleep in the call of this number ends in a view of which Q holds
 abbrev pub Falls : (View → ℤ → Type 0) → Own → Type 0
 Falls Q o = (k : ℤ) (n : View) → o.answer ≡ Blocked k → o.next ≡ Some n → Q n k
 
--- a row that may wait
+-- a row that may wait, in a view where no page of its buffer is absent
 abbrev pub Waiting : (View → ℤ → Type 0) → Row → (Call → View → Own) → Type 0
-Waiting Q r row = (c : Call) (v : View) → v.killed ≡ false → row_of c.number ≡ Some r → Falls Q (row c v)
+Waiting Q r row = (c : Call) (v : View) → v.killed ≡ false → IsSettled c v → row_of c.number ≡ Some r → Falls Q (row c v)
 
 module _ (Q : View → ℤ → Type 0) where
   pub falls_done : (c : Call) (value : ℤ) (v : View) → Falls Q (done c value v)
@@ -117,6 +119,11 @@ module _ (Q : View → ℤ → Type 0) where
         (λ _. falls_done c (pos v.image.size) (record v { image = grown v.image (v.image.size + n); free = v.free - (price (grown v.image (v.image.size + n)) - price v.image) }))
     sbrk_row (negsuc k) = falls_unless (nat_le v.image.size k || nat_lt SIZE_LIMIT (v.image.size - suc k)) c v (λ _. shrink_to c v (v.image.size - suc k)) (λ _. called (shrink_to c v (v.image.size - suc k)) c.number (pos v.image.size) refl)
 
+    sbrklazy_by : (z : ℤ) → Falls Q (lazy_by c v z)
+    sbrklazy_by (negsuc k) = falls_done c minus_one v
+    sbrklazy_by (pos n) = falls_unless (nat_lt SIZE_LIMIT (v.image.size + n)) c v (λ _. done c (pos v.image.size) (record v { image = grown_lazily v.image (v.image.size + n) }))
+        (λ _. falls_done c (pos v.image.size) (record v { image = grown_lazily v.image (v.image.size + n) }))
+
     open_to : (o : Option ℕ) (what : Option (Bool × Bool × Shown)) → Falls Q (open_at c v o what)
     open_to None what = falls_done c minus_one v
     open_to (Some k) None = falls_done c minus_one v
@@ -127,41 +134,46 @@ module _ (Q : View → ℤ → Type 0) where
     open_by (Some path) = open_to (lowest_free v.descriptors) (opened_as (kind_named (no_slashes path) v) (c_int c.a1))
 
   module _ (wait_row : Waiting Q Wait wait_parts) (read_row : Waiting Q Read read_parts) (write_row : Waiting Q Write write_parts) (sleep_row : Waiting Q Sleep sleep_parts) where
-    module _ (c : Call) (v : View) (alive : v.killed ≡ false) where
+    module _ (c : Call) (v : View) (alive : v.killed ≡ false) (settled : IsSettled c v) where
       by_row : (r : Option Row) → row_of c.number ≡ r → Falls Q (perform_row c v r)
       unfolding perform_row
       by_row None e = falls_done c minus_one v
       by_row (Some Fork) e = fork_row c v
       by_row (Some Exit) e = gone_never (Exited (c_int c.a0)) v (λ k a. let no : ⊥ = cc in no)
-      by_row (Some Wait) e = wait_row c v alive e
+      by_row (Some Wait) e = wait_row c v alive settled e
       by_row (Some Pipe_row) e = pipe_row c v
-      by_row (Some Read) e = read_row c v alive e
+      by_row (Some Read) e = read_row c v alive settled e
       by_row (Some Kill) e = kill_by c v (c_int c.a0)
       by_row (Some Exec) e = exec_by c v (text_at MAXPATH v.image c.a0)
       by_row (Some Dup) e = dup_by c v (c_int c.a0)
       by_row (Some Getpid) e = falls_done c (pos v.pid) v
       by_row (Some Sbrk) e = sbrk_row c v (c_int c.a0)
-      by_row (Some Sleep) e = sleep_row c v alive e
+      by_row (Some Sleep) e = sleep_row c v alive settled e
       by_row (Some Uptime) e = falls_done c (pos v.clock) v
       by_row (Some Open) e = open_by c v (text_at MAXPATH v.image c.a0)
-      by_row (Some Write) e = write_row c v alive e
+      by_row (Some Write) e = write_row c v alive settled e
       by_row (Some Close) e = close_by c v (c_int c.a0)
+      by_row (Some Sbrklazy) e = sbrklazy_by c v (c_int c.a0)
 
-      pub perform_falls : Falls Q (perform_parts c v)
+      parts_fall : Falls Q (perform_parts c v)
       unfolding perform_parts
-      perform_falls = by_row (row_of c.number) refl
+      parts_fall = by_row (row_of c.number) refl
+
+    pub perform_falls : (c : Call) (v : View) → v.killed ≡ false → Falls Q (perform c v)
+    perform_falls c v alive = by_call (Falls Q) c v (falls_done c minus_one v) (λ image free touched settled. parts_fall c (touched_view v image free) alive settled)
 
     -- ---- a step
 
     module _ (v : View) where
       instruction_falls : v.killed ≡ false → (st : Step) → Falls Q (after_instruction v st)
       instruction_falls alive (Next r st) = λ k n a e. let no : ⊥ = cc in absurd no
-      instruction_falls alive Ecall = subst (Falls Q) (sym (perform_same (call_begun v) (begun v))) (perform_falls (call_begun v) (begun v) alive)
+      instruction_falls alive Ecall = perform_falls (call_begun v) (begun v) alive
       instruction_falls alive (Fault cause) = gone_never (Faulted cause) v (λ k a. let no : ⊥ = cc in no)
 
+    module _ (v : View) where
       going_falls : v.killed ≡ false → (o : Option Call) → v.call ≡ o → Falls Q (going_on v o)
-      going_falls alive None e = instruction_falls alive (next_instruction v.regs v.image)
-      going_falls alive (Some c) e = subst (Falls Q) (sym (perform_same c v)) (perform_falls c v alive)
+      going_falls alive None e = by_instruction (λ st o. Falls Q o) v (λ image free touched. instruction_falls (touched_view v image free) alive (next_instruction v.regs image))
+      going_falls alive (Some c) e = perform_falls c v alive
 
       unless_falls : (b : Bool) → v.killed ≡ b → Falls Q (unless_killed v b)
       unless_falls true e = gone_never (Exited minus_one) v (λ k a. let no : ⊥ = cc in no)

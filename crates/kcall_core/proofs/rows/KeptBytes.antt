@@ -1,4 +1,4 @@
--- In a page that stays, a step changes only bytes that it stores, but for an exec that succeeded.
+-- In a page that stays, a row changes only bytes that it stores, but for an exec that succeeds.
 use Rattle.std.proofs.Common.{◌≡◌, ◌≢◌, ℕ, zero, suc, ◌+◌, ◌-◌, ◌*◌, ◌/◌, ◌%◌, ◌++◌, Bool, true, false, cond, not, ◌&&◌, ◌||◌, List, [], ◌∷◌, length, refl, ap, sym, ◌∙◌, inl, inr, ◌<◌, ◌≤◌, set, take, drop, subst, arith}
 use Rattle.std.specs.Prelude.{slice_index, Option, None, Some, ℤ, pos, negsuc, nat_eq, nat_lt, nat_le, is_some, slice_get, Result, Ok, Err}
 use Rattle.std.specs.FinMap.{FinMap, get, insert}
@@ -6,24 +6,22 @@ use Rattle.std.specs.Ordering.{nat_cmp}
 use Rattle.std.proofs.lemmas.Bool.{cases_eq, cases_lt}
 use Rattle.std.proofs.lemmas.List.{get_or-set_other, get_or-take, get_or_append_left, get_or-append_right, get_or-drop, length-take-le, length-append, length-drop, length-set}
 use Rattle.xk_base.specs.Image.{Image, Page, price, page_count}
+use Rattle.addr_space.specs.Absent.{grown_lazily}
 use Rattle.addr_space.specs.Changes.{zeroed, with_absent}
 use Rattle.sv39_core.proofs.Gathered.{gathered-get}
 use Rattle.rv64i_core.specs.Memory.{Store, written}
 use Rattle.xk_base.specs.Loaded.{Loaded, loaded}
 use Rattle.xk_base.specs.declared.errors.ExecError.{ExecError}
-use Rattle.rv64i_core.specs.Step.{Step, Next, Ecall, Fault}
-use Rattle.hart_core.specs.UserMemory.{user, with_store, written_page, write_pages}
+use Rattle.hart_core.specs.UserMemory.{with_store, written_page, write_pages}
 use Rattle.xk_base.specs.declared.limits.TheConstants.{SIZE_LIMIT, MAXARG, ARG_BYTES, MAXPATH}
-use Rattle.kcall_core.specs.Instruction.{next_instruction}
 use Rattle.kcall_core.specs.Words.{CLOCK_ROUND, minus_one, c_int}
 use Rattle.kcall_core.specs.Buffers.{readable, writable, text_at, texts_at, no_slashes, data_rights, grown, shrunk}
 use Rattle.xk_base.specs.Bytes.{write_image}
 use Rattle.proc_table.specs.declared.process.Call.{Call}
 use Rattle.kcall_core.specs.View.{View, Descriptor, Shown, Shown_terminal, Shown_file, Shown_pipe}
-use Rattle.kcall_core.specs.Own.{Own, Exited, Faulted}
-use Rattle.kcall_core.specs.Calls.{perform, Row, Fork, Exit, Wait, Pipe_row, Read, Kill, Exec, Dup, Getpid, Sbrk, Sleep, Uptime, Open, Write, Close, row_of, answered, gone, done, refused, waits, least_zombie, has_child}
+use Rattle.kcall_core.specs.Own.{Own, Exited}
+use Rattle.kcall_core.specs.Calls.{Row, Fork, Exit, Wait, Pipe_row, Read, Kill, Exec, Dup, Getpid, Sbrk, Sleep, Uptime, Open, Write, Close, Sbrklazy, row_of, answered, gone, done, refused, waits, least_zombie, has_child}
 use Rattle.kcall_core.specs.Programs.{program_bytes, program_named}
-use Rattle.kcall_core.specs.Step.{own, unless_killed, going_on, after_instruction, call_begun, call_or_begun, call_in, begun}
 use Rattle.xk_base.specs.Words.{le_bytes}
 use Rattle.kcall_core.specs.Tables.{lowest_free, lowest_free_above, advance, change_pipe, with_copy, one_more_on, one_less_on, without_descriptor, with_descriptor, pipes_given_up}
 use Rattle.kcall_core.specs.PipeEnds.{there, fit, must_wait}
@@ -32,16 +30,14 @@ use Rattle.console_core.specs.Reads.{Pulled, pulled}
 use Rattle.kcall_core.specs.State.{ProgramFile}
 use Rattle.std.specs.Int.{cast_unsigned, w32}
 use Rattle.std.specs.List.{list_any}
-use Rattle.kcall_core.specs.Worlds.{IsExecDone, HasWholePages, OnlyStoresChangeBytes}
-use Rattle.kcall_core.specs.Stores.{Stored, nothing_stored, moved_on, moved_through, moved_by_number, moved_after, stored_by_row, stored_by_instruction, stored_in, Lies}
+use Rattle.kcall_core.specs.Worlds.{IsExecDone}
+use Rattle.kcall_core.specs.Stores.{Stored, nothing_stored, moved_on, moved_through, moved_by_number, moved_after, stored_by_row, Lies}
 use Rattle.xk_base.specs.Bytes.{put_in, put_byte}
 use Rattle.xk_base.specs.Gathered.{insert_some}
 use Rattle.kcall_core.proofs.steps.Maps.{get_same, get_other}
 use Rattle.kcall_core.specs.Processes.{child_status}
 use Rattle.kcall_core.specs.Ready.{in_use}
-use Rattle.kcall_core.proofs.rows.MayStore.{store_in_page}
-use Rattle.kcall_core.proofs.rows.RowParts.{perform_parts, perform_row, unless, unless_nothing, moving, length_of_int, reaped, without_child, piped, piped_from, with_pipe, read_on, read_from, write_on, write_to, done_at, next_bytes, kill_pid, killed_by, exec_program, exec_path, dup_at, dup_on, dup_number, close_at, close_on, close_number, sbrk_by, grow_to, shrink_to, exec_loaded, running, sleep_for, open_at, open_path, opened_as, kind_named, fork_parts, forked, cannot_fork, with_child, room_to_send}
-use Rattle.kcall_core.proofs.rows.RowsByParts.{perform_same}
+use Rattle.kcall_core.proofs.rows.RowParts.{perform_parts, perform_row, unless, unless_nothing, moving, length_of_int, reaped, without_child, piped, piped_from, with_pipe, read_on, read_from, write_on, write_to, done_at, next_bytes, kill_pid, killed_by, exec_program, exec_path, dup_at, dup_on, dup_number, close_at, close_on, close_number, sbrk_by, grow_to, shrink_to, lazy_by, exec_loaded, running, sleep_for, open_at, open_path, opened_as, kind_named, fork_parts, forked, cannot_fork, with_child, room_to_send}
 
 same_view : (a b : View) → Some a ≡ Some b → a ≡ b
 same_view a b e = cc
@@ -60,7 +56,7 @@ abbrev Stay : Stored → Image → Image → Type 0
 Stay s before after = (page : ℕ) (x y : Page) → get before.pages page ≡ Some x → get after.pages page ≡ Some y → IsBut s page x y
 
 -- so it is of the pages of the next view
-abbrev Kept : Stored → View → Own → Type 0
+abbrev pub Kept : Stored → View → Own → Type 0
 Kept s v o = (n : View) → o.next ≡ Some n → Stay s v.image n.image
 
 -- and here of a page that stays no byte changes
@@ -157,20 +153,22 @@ module _ (i : Image) (st : Store) (page : ℕ) (fits : st.address % 4096 + lengt
     ]
   ]
 
-  stores_in : (q : Option Page) (x y : Page) → HasWholePages i → get i.pages page ≡ Some x → get i.pages at ≡ q → get (insert_some i.pages at (written_page q o st.bytes)) page ≡ Some y → IsBut these page x y
+  stores_in : (q : Option Page) (x y : Page) → length x.bytes ≡ 4096 → get i.pages page ≡ Some x → get i.pages at ≡ q → get (insert_some i.pages at (written_page q o st.bytes)) page ≡ Some y → IsBut these page x y
   stores_in None x y whole was e found = same_but these page x y (some_page y x (sym found ∙ was))
   stores_in (Some p) x y whole was e found = elim (cases_eq page at) [
     | inl same ↦
         let same_one : p ≡ x = some_page p x (sym e ∙ ap (get i.pages) (sym same) ∙ was) in
         let new : record p { bytes = written p.bytes o st.bytes } ≡ y = some_page (record p { bytes = written p.bytes o st.bytes }) y (sym (ap (get (insert i.pages at (record p { bytes = written p.bytes o st.bytes }))) same ∙ get_same i.pages at (record p { bytes = written p.bytes o st.bytes })) ∙ found) in
-        let long : o ≤ length p.bytes = omega (arith, whole at p e) in
-        (ap (λ (z : Page). z.perm) (sym new) ∙ ap (λ (z : Page). z.perm) same_one, ap (λ (z : Page). length z.bytes) (sym new) ∙ as_long p.bytes o st.bytes (omega (arith, fits, whole at p e)) ∙ ap (λ (z : Page). length z.bytes) same_one, λ k below apart. ap (λ (z : Page). slice_index z.bytes k) (sym new) ∙ outside p k long same apart ∙ ap (λ (z : Page). slice_index z.bytes k) same_one)
+        let full : length p.bytes ≡ 4096 = ap (λ (z : Page). length z.bytes) same_one ∙ whole in
+        let long : o ≤ length p.bytes = omega (arith, full) in
+        (ap (λ (z : Page). z.perm) (sym new) ∙ ap (λ (z : Page). z.perm) same_one, ap (λ (z : Page). length z.bytes) (sym new) ∙ as_long p.bytes o st.bytes (omega (arith, fits, full)) ∙ ap (λ (z : Page). length z.bytes) same_one, λ k below apart. ap (λ (z : Page). slice_index z.bytes k) (sym new) ∙ outside p k long same apart ∙ ap (λ (z : Page). slice_index z.bytes k) same_one)
     | inr other ↦ same_but these page x y (some_page y x (sym found ∙ get_other i.pages at (record p { bytes = written p.bytes o st.bytes }) page other ∙ was))
   ]
 
-store_stays : (i : Image) (st : Store) → st.address % 4096 + length st.bytes ≤ 4096 → HasWholePages i → Stay (record { address = st.address; count = length st.bytes }) i (with_store i st)
+-- so it is of a page of 4,096 bytes
+pub store_stays : (i : Image) (st : Store) → st.address % 4096 + length st.bytes ≤ 4096 → (page : ℕ) (x y : Page) → length x.bytes ≡ 4096 → get i.pages page ≡ Some x → get (with_store i st).pages page ≡ Some y → IsBut (record { address = st.address; count = length st.bytes }) page x y
 unfolding write_pages
-store_stays i st fits whole page x y was is = stores_in i st page fits (get i.pages (st.address / 4096)) x y whole was refl is
+store_stays i st fits page x y whole was is = stores_in i st page fits (get i.pages (st.address / 4096)) x y whole was refl is
 
 -- ---- sbrk: what stays is as it was
 
@@ -396,6 +394,11 @@ module _ (c : Call) (v : View) where
   sbrk_row (pos n) = calm_grow c v (v.image.size + n)
   sbrk_row (negsuc k) = calm_unless (nat_le v.image.size k || nat_lt SIZE_LIMIT (v.image.size - suc k)) c v (λ _. shrink_to c v (v.image.size - suc k)) (calm_shrink c v (v.image.size - suc k))
 
+  sbrklazy_row : (z : ℤ) → Calm v (lazy_by c v z)
+  sbrklazy_row (negsuc k) = refusal
+  sbrklazy_row (pos n) = calm_unless (nat_lt SIZE_LIMIT (v.image.size + n)) c v (λ _. done c (pos v.image.size) (record v { image = grown_lazily v.image (v.image.size + n) }))
+      (calm_by v (answered (pos v.image.size) (record v { image = grown_lazily v.image (v.image.size + n) })) (λ page x y was is. some_page y x (sym is ∙ was)) (done c (pos v.image.size) (record v { image = grown_lazily v.image (v.image.size + n) })) refl)
+
   sleep_row : (z : ℤ) → Calm v (sleep_for c v z)
   sleep_row (negsuc k) = same_done (pos 0) v refl
   sleep_row (pos n) = whichever (nat_lt ((v.clock + CLOCK_ROUND - c.clock) % CLOCK_ROUND) n) (waits c 0 v) (done c (pos 0) v) (same_waits 0 v refl) (same_done (pos 0) v refl)
@@ -430,38 +433,11 @@ module _ (c : Call) (v : View) where
   by_row (Some Open) e apart = calm_kept nothing_stored v (perform_row c v (Some Open)) (open_row (text_at MAXPATH v.image c.a0))
   by_row (Some Write) e apart = calm_kept nothing_stored v (perform_row c v (Some Write)) (write_on_row (in_use v (c_int c.a0)))
   by_row (Some Close) e apart = calm_kept nothing_stored v (perform_row c v (Some Close)) (close_row (c_int c.a0))
+  by_row (Some Sbrklazy) e apart = calm_kept nothing_stored v (perform_row c v (Some Sbrklazy)) (sbrklazy_row (c_int c.a0))
 
-  parts_keep : ¬ IsExecDone c (perform_parts c v) → Kept (stored_by_row c v.descriptors (row_of c.number) (perform_parts c v)) v (perform_parts c v)
+  pub parts_keep : ¬ IsExecDone c (perform_parts c v) → Kept (stored_by_row c v.descriptors (row_of c.number) (perform_parts c v)) v (perform_parts c v)
   unfolding perform_parts
   parts_keep apart = by_row (row_of c.number) refl apart
 
-  pub perform_keeps : ¬ IsExecDone c (perform c v) → Kept (stored_by_row c v.descriptors (row_of c.number) (perform c v)) v (perform c v)
-  perform_keeps = subst (λ (o : Own). ¬ IsExecDone c o → Kept (stored_by_row c v.descriptors (row_of c.number) o) v o) (sym (perform_same c v)) parts_keep
-
--- ---- a step
-
-module _ (v : View) (whole : HasWholePages v.image) where
-  instruction_keeps : (st : Step) → next_instruction v.regs v.image ≡ st → ¬ IsExecDone (call_begun v) (after_instruction v st) → Kept (stored_by_instruction v st (after_instruction v st)) v (after_instruction v st)
-  instruction_keeps (Next r None) made apart = calm_kept nothing_stored v (after_instruction v (Next r None)) (calm_same v (record v { regs = r }) refl (after_instruction v (Next r None)) refl)
-  instruction_keeps (Next r (Some st)) made apart = λ n e page x y was is. store_stays v.image st (store_in_page v.regs (user v.image) r st made) whole page x y was (ap (λ (w : View). get w.image.pages page) (same_view (record v { regs = r; image = with_store v.image st }) n e) ∙ is)
-  instruction_keeps Ecall made apart = perform_keeps (call_begun v) (begun v) apart
-  instruction_keeps (Fault cause) made apart = calm_kept nothing_stored v (gone (Faulted cause) v) (calm_gone v (gone (Faulted cause) v) refl)
-
-  going_keeps : (o : Option Call) → ¬ IsExecDone (call_or_begun v o) (going_on v o) → Kept (stored_in v o (going_on v o)) v (going_on v o)
-  going_keeps None apart = instruction_keeps (next_instruction v.regs v.image) refl apart
-  going_keeps (Some c) apart = perform_keeps c v apart
-
-  unless_keeps : (b : Bool) → ¬ IsExecDone (call_in v) (unless_killed v b) → Kept (cond b nothing_stored (stored_in v v.call (unless_killed v b))) v (unless_killed v b)
-  unless_keeps true apart = calm_kept nothing_stored v (gone (Exited minus_one) v) (calm_gone v (gone (Exited minus_one) v) refl)
-  unless_keeps false apart = going_keeps v.call apart
-
-  own_keeps : ¬ IsExecDone (call_in v) (own v) → Kept (cond v.killed nothing_stored (stored_in v v.call (own v))) v (own v)
-  unfolding own
-  own_keeps apart = unless_keeps v.killed apart
-
-pub only_stores_change_bytes : OnlyStoresChangeBytes
-only_stores_change_bytes v n whole next apart page x y was is = let kept = own_keeps v whole apart n next page x y was is in (kept.0, kept.2)
-
--- and it is as long as it was
-pub same_lengths : (v n : View) → HasWholePages v.image → (own v).next ≡ Some n → ¬ IsExecDone (call_in v) (own v) → (page : ℕ) (x y : Page) → get v.image.pages page ≡ Some x → get n.image.pages page ≡ Some y → length y.bytes ≡ length x.bytes
-same_lengths v n whole next apart page x y was is = (own_keeps v whole apart n next page x y was is).1
+  pub refused_keeps : (s : Stored) → Kept s v (refused c v)
+  refused_keeps s = calm_kept s v (refused c v) refusal

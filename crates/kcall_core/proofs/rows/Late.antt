@@ -34,8 +34,9 @@ use Rattle.kcall_core.proofs.turns.KeepsSlots.{listed}
 use Rattle.kcall_core.proofs.rows.Pids.{has}
 use Rattle.kcall_core.proofs.runs.Cuts.{IsOutside, kind}
 use Rattle.kcall_core.specs.Ready.{in_use}
-use Rattle.kcall_core.proofs.rows.RowParts.{perform_row, unless, reaped, told, without_child, read_on, read_from, moving, unless_nothing, write_on, write_to, done_at, next_bytes, room_to_send, length_of_int, sleep_for, perform_parts, wait_parts}
+use Rattle.kcall_core.proofs.rows.RowParts.{IsSettled, perform_row, unless, reaped, told, without_child, read_on, read_from, moving, unless_nothing, write_on, write_to, done_at, next_bytes, room_to_send, length_of_int, sleep_for, perform_parts, wait_parts}
 use Rattle.kcall_core.proofs.rows.RowsByParts.{perform_same}
+use Rattle.kcall_core.proofs.rows.SettledWaits.{still_settled, settled_written}
 
 one_of : (a b : View) → Some a ≡ Some b → a ≡ b
 one_of a b e = cc
@@ -115,16 +116,16 @@ marked_own : (m : View) → m.killed ≡ true → own m ≡ gone (Exited minus_o
 unfolding own
 marked_own m marked = ap (unless_killed m) marked
 
-by_perform : (c : Call) (r : Row) (m : View) → m.killed ≡ false → m.call ≡ Some c → row_of c.number ≡ Some r → own m ≡ perform_row c m (Some r)
+by_perform : (c : Call) (r : Row) (m : View) → m.killed ≡ false → m.call ≡ Some c → IsSettled c m → row_of c.number ≡ Some r → own m ≡ perform_row c m (Some r)
 unfolding own perform_parts
-by_perform c r m alive busy row = ap (unless_killed m) alive ∙ ap (going_on m) busy ∙ perform_same c m ∙ ap (perform_row c m) row
+by_perform c r m alive busy settled row = ap (unless_killed m) alive ∙ ap (going_on m) busy ∙ perform_same c m settled ∙ ap (perform_row c m) row
 
 -- what is to be shown of a row that waits
 abbrev Goes_on : Row → Call → View → Type 0
 Goes_on r c u = (m : View) → m.image ≡ u.image → SameDescriptors m u → (has_child u ≡ true → has_child m ≡ true) → OnlyBroken m c (perform_row c m (Some r))
 
-falls_waits : (r : Row) (c : Call) (moved : ℕ) (u : View) → row_of c.number ≡ Some r → Goes_on r (record c { moved = moved }) u → Falls Late (waits c moved u)
-falls_waits r c moved u row h k n a e m rest same kids number answer = by m.killed refl
+falls_waits : (r : Row) (c : Call) (moved : ℕ) (u : View) → IsSettled c u → row_of c.number ≡ Some r → Goes_on r (record c { moved = moved }) u → Falls Late (waits c moved u)
+falls_waits r c moved u settled row h k n a e m rest same kids number answer = by m.killed refl
   where
     is : record u { call = Some (record c { moved = moved }) } ≡ n
     is = one_of (record u { call = Some (record c { moved = moved }) }) n e
@@ -132,10 +133,13 @@ falls_waits r c moved u row h k n a e m rest same kids number answer = by m.kill
     busy : m.call ≡ Some (record c { moved = moved })
     busy = rest.3 ∙ sym (ap (λ (x : View). x.call) is)
 
+    image : m.image ≡ u.image
+    image = rest.2 ∙ sym (ap (λ (x : View). x.image) is)
+
     by : (b : Bool) → m.killed ≡ b → IsBrokenWrite m
     by true marked = let no : Exited minus_one ≡ Called number minus_one = sym (ap (λ (o : Own). o.answer) (marked_own m marked)) ∙ answer in let bad : ⊥ = cc in absurd bad
     by false alive =
-        let broken = h m (rest.2 ∙ sym (ap (λ (x : View). x.image) is)) (λ d. same d ∙ sym (ap (λ (x : View). bare (x.descriptors d)) is)) (λ some. kids (sym (ap has_child is) ∙ some)) number (sym (ap (λ (o : Own). o.answer) (by_perform (record c { moved = moved }) r m alive busy row)) ∙ answer) in
+        let broken = h m image (λ d. same d ∙ sym (ap (λ (x : View). bare (x.descriptors d)) is)) (λ some. kids (sym (ap has_child is) ∙ some)) number (sym (ap (λ (o : Own). o.answer) (by_perform (record c { moved = moved }) r m alive busy (still_settled c moved u m image settled) row)) ∙ answer) in
         (record c { moved = moved }, broken.0, broken.1, broken.2, broken.3, broken.4, busy, row-number is_write_row Write 16 refl refl c.number broken.5, broken.6, broken.7, broken.8, broken.9)
 
 -- ---- wait and sleep
@@ -150,12 +154,12 @@ module _ (c : Call) (v : View) where
       by (Some q) = fine_done (record c { moved = 0 }) m q (told c.a0 (child_status (m.children q)) (without_child q m))
       by None = subst (λ (b : Bool). OnlyBroken m (record c { moved = 0 }) (cond b (waits (record c { moved = 0 }) 0 m) (refused (record c { moved = 0 }) m))) (sym (kids some)) (fine_waits (record c { moved = 0 }) m 0 m)
 
-  wait_by : row_of c.number ≡ Some Wait → (not (nat_eq c.a0 0) && not (writable v.image c.a0 4)) ≡ false → (o : Option ℕ) → Falls Late (reaped c v o)
-  wait_by row there (Some q) = falls_done Late c (pos q) (told c.a0 (child_status (v.children q)) (without_child q v))
-  wait_by row there None = falls_cond Late (has_child v) (waits c 0 v) (refused c v) (λ some. falls_waits Wait c 0 v row (wait_later there some)) (λ _. falls_done Late c minus_one v)
+  wait_by : IsSettled c v → row_of c.number ≡ Some Wait → (not (nat_eq c.a0 0) && not (writable v.image c.a0 4)) ≡ false → (o : Option ℕ) → Falls Late (reaped c v o)
+  wait_by settled row there (Some q) = falls_done Late c (pos q) (told c.a0 (child_status (v.children q)) (without_child q v))
+  wait_by settled row there None = falls_cond Late (has_child v) (waits c 0 v) (refused c v) (λ some. falls_waits Wait c 0 v settled row (wait_later there some)) (λ _. falls_done Late c minus_one v)
 
-  wait_row : row_of c.number ≡ Some Wait → Falls Late (wait_parts c v)
-  wait_row row = falls_unless Late (not (nat_eq c.a0 0) && not (writable v.image c.a0 4)) c v (λ _. reaped c v (least_zombie v)) (λ there. wait_by row there (least_zombie v))
+  wait_row : IsSettled c v → row_of c.number ≡ Some Wait → Falls Late (wait_parts c v)
+  wait_row settled row = falls_unless Late (not (nat_eq c.a0 0) && not (writable v.image c.a0 4)) c v (λ _. reaped c v (least_zombie v)) (λ there. wait_by settled row there (least_zombie v))
 
   sleep_later : Goes_on Sleep (record c { moved = 0 }) v
   unfolding perform_row
@@ -165,9 +169,9 @@ module _ (c : Call) (v : View) where
       by (negsuc k) = fine_done (record c { moved = 0 }) m 0 m
       by (pos n) = fine_cond (record c { moved = 0 }) m (nat_lt ((m.clock + CLOCK_ROUND - c.clock) % CLOCK_ROUND) n) (waits (record c { moved = 0 }) 0 m) (done (record c { moved = 0 }) (pos 0) m) (fine_waits (record c { moved = 0 }) m 0 m) (fine_done (record c { moved = 0 }) m 0 m)
 
-  sleep_by : row_of c.number ≡ Some Sleep → (z : ℤ) → Falls Late (sleep_for c v z)
-  sleep_by row (negsuc k) = falls_done Late c (pos 0) v
-  sleep_by row (pos n) = falls_cond Late (nat_lt ((v.clock + CLOCK_ROUND - c.clock) % CLOCK_ROUND) n) (waits c 0 v) (done c (pos 0) v) (λ _. falls_waits Sleep c 0 v row sleep_later) (λ _. falls_done Late c (pos 0) v)
+  sleep_by : IsSettled c v → row_of c.number ≡ Some Sleep → (z : ℤ) → Falls Late (sleep_for c v z)
+  sleep_by settled row (negsuc k) = falls_done Late c (pos 0) v
+  sleep_by settled row (pos n) = falls_cond Late (nat_lt ((v.clock + CLOCK_ROUND - c.clock) % CLOCK_ROUND) n) (waits c 0 v) (done c (pos 0) v) (λ _. falls_waits Sleep c 0 v settled row sleep_later) (λ _. falls_done Late c (pos 0) v)
 
 -- ---- descriptors
 
@@ -211,25 +215,25 @@ module _ (c : Call) (v : View) (d : Descriptor) (on : in_use v (c_int c.a0) ≡ 
       by e can = fine_unless (record c { moved = k }) m (not e.read) (λ _. moving (record c { moved = k }) m (writable m.image c.a1 (length_of_int (c_int c.a2))) (c_int c.a2) (λ j. read_from (record c { moved = k }) m j e.file e.shown)) can
           (fine_moving (record c { moved = k }) m (writable m.image c.a1 (length_of_int (c_int c.a2))) (c_int c.a2) (λ j. read_from (record c { moved = k }) m j e.file e.shown) n size still (λ j. fine_read (record c { moved = k }) m j e.file e.shown))
 
-  module _ (row : row_of c.number ≡ Some Read) (reads : not d.read ≡ false) (room : not (writable v.image c.a1 (length_of_int (c_int c.a2))) ≡ false) where
+  module _ (settled : IsSettled c v) (row : row_of c.number ≡ Some Read) (reads : not d.read ≡ false) (room : not (writable v.image c.a1 (length_of_int (c_int c.a2))) ≡ false) where
     read_by : (x : Shown) → Falls Late (read_from c v n d.file x)
     read_by Shown_terminal =
         let p : Pulled = pulled (nat_eq c.moved 0) (n - c.moved) v.console.committed in
         let after : View = record v { image = write_image v.image (c.a1 + c.moved) p.taken; console = record v.console { committed = p.left } } in
         falls_cond Late p.ended (done c (pos (c.moved + length p.taken)) after) (waits c (c.moved + length p.taken) after) (λ _. falls_done Late c (pos (c.moved + length p.taken)) after)
-        (λ _. falls_waits Read c (c.moved + length p.taken) after row (read_later reads room (c.moved + length p.taken) after (writable_written p.taken v.image (c.a1 + c.moved) c.a1 (length_of_int (c_int c.a2))) refl))
+        (λ _. falls_waits Read c (c.moved + length p.taken) after (settled_written c v p.taken (c.a1 + c.moved) settled) row (read_later reads room (c.moved + length p.taken) after (writable_written p.taken v.image (c.a1 + c.moved) c.a1 (length_of_int (c_int c.a2))) refl))
     read_by (Shown_file program offset) =
         let bytes : List ℕ = take n (drop offset (program_bytes (slice_get v.programs program))) in
         falls_done Late c (pos (length bytes)) (record v { image = write_image v.image c.a1 bytes; descriptors = advance d.file (length bytes) v.descriptors })
     read_by (Shown_pipe name end pipe) =
         let k : ℕ = there pipe n in
         let after : View = record v { image = write_image v.image c.a1 (take k pipe.bytes); descriptors = change_pipe name (without_first k pipe) v.descriptors } in
-        falls_cond Late (must_wait pipe) (waits c 0 v) (done c (pos k) after) (λ _. falls_waits Read c 0 v row (read_later reads room 0 v refl refl)) (λ _. falls_done Late c (pos k) after)
+        falls_cond Late (must_wait pipe) (waits c 0 v) (done c (pos k) after) (λ _. falls_waits Read c 0 v settled row (read_later reads room 0 v refl refl)) (λ _. falls_done Late c (pos k) after)
 
-read_on_row : (c : Call) (v : View) → row_of c.number ≡ Some Read → (o : Option Descriptor) → in_use v (c_int c.a0) ≡ o → Falls Late (read_on c v o)
-read_on_row c v row None on = falls_done Late c minus_one v
-read_on_row c v row (Some d) on = falls_unless Late (not d.read) c v _ (λ reads. falls_moving Late c v (writable v.image c.a1 (length_of_int (c_int c.a2))) (c_int c.a2) (λ n. read_from c v n d.file d.shown)
-    (λ n size some room. read_by c v d on n size row reads room d.shown))
+read_on_row : (c : Call) (v : View) → IsSettled c v → row_of c.number ≡ Some Read → (o : Option Descriptor) → in_use v (c_int c.a0) ≡ o → Falls Late (read_on c v o)
+read_on_row c v settled row None on = falls_done Late c minus_one v
+read_on_row c v settled row (Some d) on = falls_unless Late (not d.read) c v _ (λ reads. falls_moving Late c v (writable v.image c.a1 (length_of_int (c_int c.a2))) (c_int c.a2) (λ n. read_from c v n d.file d.shown)
+    (λ n size some room. read_by c v d on n size settled row reads room d.shown))
 
 -- ---- write
 
@@ -252,7 +256,7 @@ bare_changed f (Some e) = ap (λ (x : Shown). Some (record e { shown = x })) (by
     by (Shown_file program offset) = refl
     by (Shown_pipe name end pipe) = refl
 
-module _ (c : Call) (v : View) (d : Descriptor) (on : in_use v (c_int c.a0) ≡ Some d) (n : ℕ) (size : c_int c.a2 ≡ pos n) (row : row_of c.number ≡ Some Write) (writes : not d.write ≡ false) (room : not (readable v.image c.a1 (length_of_int (c_int c.a2))) ≡ false) where
+module _ (c : Call) (v : View) (d : Descriptor) (on : in_use v (c_int c.a0) ≡ Some d) (n : ℕ) (size : c_int c.a2 ≡ pos n) (settled : IsSettled c v) (row : row_of c.number ≡ Some Write) (writes : not d.write ≡ false) (room : not (readable v.image c.a1 (length_of_int (c_int c.a2))) ≡ false) where
   write_later : is_file d.shown ≡ false → (k : ℕ) (u : View) → u.image ≡ v.image → ((x : ℕ) → bare (u.descriptors x) ≡ bare (v.descriptors x)) → Goes_on Write (record c { moved = k }) u
   unfolding perform_row
   write_later kind k u same_image table m image same kids =
@@ -274,24 +278,24 @@ module _ (c : Call) (v : View) (d : Descriptor) (on : in_use v (c_int c.a0) ≡ 
       let k : ℕ = room_to_send v.console (n - c.moved) in
       let after : View = record v { console = record v.console { to_send = v.console.to_send ++ next_bytes c v k } } in
       falls_cond Late (nat_le n (c.moved + k)) (done c (pos n) after) (waits c (c.moved + k) after) (λ _. falls_done Late c (pos n) after)
-      (λ _. falls_waits Write c (c.moved + k) after row (write_later (ap is_file is) (c.moved + k) after refl (λ x. refl)))
+      (λ _. falls_waits Write c (c.moved + k) after settled row (write_later (ap is_file is) (c.moved + k) after refl (λ x. refl)))
   write_by (Shown_file program offset) is = falls_done Late c minus_one v
   write_by (Shown_pipe name end pipe) is =
       let k : ℕ = fit pipe (n - c.moved) in
       let after : View = record v { descriptors = change_pipe name (with_more (next_bytes c v k) pipe) v.descriptors } in
       falls_unless Late (nat_eq pipe.readers 0) c v (λ _. done_at c n (c.moved + k) after)
       (λ _. falls_cond Late (nat_le n (c.moved + k)) (done c (pos n) after) (waits c (c.moved + k) after) (λ _. falls_done Late c (pos n) after)
-      (λ _. falls_waits Write c (c.moved + k) after row (write_later (ap is_file is) (c.moved + k) after refl (λ x. bare_changed _ (v.descriptors x)))))
+      (λ _. falls_waits Write c (c.moved + k) after settled row (write_later (ap is_file is) (c.moved + k) after refl (λ x. bare_changed _ (v.descriptors x)))))
 
-write_on_row : (c : Call) (v : View) → row_of c.number ≡ Some Write → (o : Option Descriptor) → in_use v (c_int c.a0) ≡ o → Falls Late (write_on c v o)
-write_on_row c v row None on = falls_done Late c minus_one v
-write_on_row c v row (Some d) on = falls_unless Late (not d.write) c v _ (λ writes. falls_moving Late c v (readable v.image c.a1 (length_of_int (c_int c.a2))) (c_int c.a2) (λ n. write_to c v n d.shown)
-    (λ n size some room. write_by c v d on n size row writes room d.shown refl))
+write_on_row : (c : Call) (v : View) → IsSettled c v → row_of c.number ≡ Some Write → (o : Option Descriptor) → in_use v (c_int c.a0) ≡ o → Falls Late (write_on c v o)
+write_on_row c v settled row None on = falls_done Late c minus_one v
+write_on_row c v settled row (Some d) on = falls_unless Late (not d.write) c v _ (λ writes. falls_moving Late c v (readable v.image c.a1 (length_of_int (c_int c.a2))) (c_int c.a2) (λ n. write_to c v n d.shown)
+    (λ n size some room. write_by c v d on n size settled row writes room d.shown refl))
 
 own_late : (v : View) → Falls Late (own v)
 own_late v =
-    own_falls Late (λ c u alive row. wait_row c u row) (λ c u alive row. read_on_row c u row (in_use u (c_int c.a0)) refl) (λ c u alive row. write_on_row c u row (in_use u (c_int c.a0)) refl)
-    (λ c u alive row. sleep_by c u row (c_int c.a0)) v
+    own_falls Late (λ c u alive settled row. wait_row c u settled row) (λ c u alive settled row. read_on_row c u settled row (in_use u (c_int c.a0)) refl) (λ c u alive settled row. write_on_row c u settled row (in_use u (c_int c.a0)) refl)
+    (λ c u alive settled row. sleep_by c u settled row (c_int c.a0)) v
 
 -- ---- children stay children while others make steps
 

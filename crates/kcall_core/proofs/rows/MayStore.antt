@@ -1,9 +1,10 @@
--- A step stores only where user code may store.
+-- A step stores only where user code may store, or may do so once the page is touched.
 use Rattle.std.proofs.Common.{◌≡◌, ℕ, zero, suc, ◌+◌, ◌-◌, ◌/◌, ◌%◌, ◌^◌, ◌<◌, ◌≤◌, Bool, true, false, cond, not, ◌&&◌, ◌||◌, List, [], ◌∷◌, length, refl, ap, sym, ◌∙◌, take, drop, subst, arith}
 use Rattle.std.specs.Prelude.{Option, None, Some, ℤ, pos, negsuc, nat_eq, nat_le, slice_get, option_map, Result, Ok, Err}
+use Rattle.std.specs.List.{list_all, range_with_len}
 use Rattle.std.specs.FinMap.{get}
 use Rattle.std.proofs.lemmas.List.{length-take}
-use Rattle.std.proofs.lemmas.Bool.{leb-false, eqb-true}
+use Rattle.std.proofs.lemmas.Bool.{leb-false, eqb-true, or_parts, and_parts, and_from}
 use Rattle.xk_base.specs.Words.{le_bytes}
 use Rattle.xk_base.proofs.Words.{length-le_bytes}
 use Rattle.xk_base.specs.Image.{Image, Page}
@@ -11,6 +12,7 @@ use Rattle.xk_base.specs.Bytes.{write_image}
 use Rattle.xk_base.specs.declared.access.Access.TheVariants.{Store as Storing}
 use Rattle.xk_base.specs.declared.access.Cause.{Cause}
 use Rattle.xk_base.specs.declared.access.Cause.TheVariants.{StorePageFault, StoreMisaligned}
+use Rattle.addr_space.specs.Absent.{is_absent}
 use Rattle.addr_space.specs.Changes.{perm_of_page}
 use Rattle.rv64i_core.specs.Memory.{Memory, Cell, Store, fetched, storing, bytes_at, bytes_of_width, cell_byte, or_fault}
 use Rattle.rv64i_core.specs.Registers.{Registers, reg, add}
@@ -28,10 +30,11 @@ use Rattle.console_core.specs.Reads.{Pulled, pulled, line_length, up_to, first_b
 use Rattle.proc_table.specs.declared.process.Call.{Call}
 use Rattle.kcall_core.specs.Instruction.{next_instruction}
 use Rattle.kcall_core.specs.Words.{c_int}
-use Rattle.kcall_core.specs.Buffers.{writable}
+use Rattle.kcall_core.specs.Buffers.{writable, may_touching, reaches_touching}
+use Rattle.kcall_core.specs.Touches.{pages_at, has_absent}
 use Rattle.kcall_core.specs.View.{View, Descriptor, Shown, Shown_terminal, Shown_file, Shown_pipe}
 use Rattle.kcall_core.specs.Own.{Own, Answer, Stepped, Called, Blocked, Exited, Faulted}
-use Rattle.kcall_core.specs.Calls.{Row, Fork, Exit, Wait, Pipe_row, Read, Kill, Exec, Dup, Getpid, Sbrk, Sleep, Uptime, Open, Write, Close, row_of, perform, done, refused, waits, least_zombie}
+use Rattle.kcall_core.specs.Calls.{Row, Fork, Exit, Wait, Pipe_row, Read, Kill, Exec, Dup, Getpid, Sbrk, Sleep, Uptime, Open, Write, Close, Sbrklazy, row_of, perform, done, refused, waits, least_zombie}
 use Rattle.kcall_core.specs.Step.{own, unless_killed, going_on, after_instruction, call_begun, begun}
 use Rattle.kcall_core.specs.Programs.{program_bytes}
 use Rattle.kcall_core.specs.PipeEnds.{there, must_wait}
@@ -40,15 +43,19 @@ use Rattle.pipe_core.specs.Pipe.{without_first}
 use Rattle.kcall_core.specs.Ready.{in_use}
 use Rattle.kcall_core.specs.Stores.{Stored, Lies, nothing_stored, where_done, moved_on, moved_through, moved_by_number, moved_after, stored_by_row, stored_by_instruction, stored_in}
 use Rattle.kcall_core.specs.Worlds.{StoresWhereUserMay}
-use Rattle.kcall_core.proofs.rows.RowParts.{perform_parts, perform_row, unless, unless_nothing, moving, length_of_int, reaped, piped_from, read_on, read_from}
-use Rattle.kcall_core.proofs.rows.RowsByParts.{perform_same}
+use Rattle.kcall_core.proofs.rows.RowParts.{IsSettled, buffer_of, perform_parts, perform_row, unless, unless_nothing, moving, length_of_int, reaped, piped_from, read_on, read_from}
+use Rattle.kcall_core.proofs.rows.Touched.{IsTouched, touched_view, absent_before}
+use Rattle.kcall_core.proofs.rows.ByTouch.{by_call, by_instruction}
 
 -- user code may store at each of these
-abbrev Allowed : Image → Stored → Type 0
+abbrev pub Allowed : Image → Stored → Type 0
 Allowed i s = (a : ℕ) → Lies s a → may Storing i a ≡ true
 
 none_allowed : (i : Image) → Allowed i nothing_stored
 none_allowed i a l = let high = l.1 in absurd (omega (arith, high))
+
+nothing_lies : (a : ℕ) → Lies nothing_stored a → ⊥
+nothing_lies a l = let high = l.1 in omega (arith, high)
 
 not_both : {b : Bool} → b ≡ true → b ≡ false → ⊥
 not_both e f = let no : true ≡ false = sym e ∙ f in let bad : ⊥ = cc in bad
@@ -72,6 +79,18 @@ done_allowed i (Called number (negsuc k)) s h = none_allowed i
 done_allowed i (Blocked number) s h = none_allowed i
 done_allowed i (Exited status) s h = none_allowed i
 done_allowed i (Faulted cause) s h = none_allowed i
+
+-- bytes of a buffer that has no absent page may be written as they stand
+settled_reaches : (i : Image) (a n : ℕ) → has_absent (pages_at a n) i ≡ false → writable i a n ≡ true → reaches Storing i a n ≡ true
+unfolding reaches reaches_touching
+settled_reaches i a n settled all = by n a settled all
+  where
+    by : (n a : ℕ) → has_absent (pages_at a n) i ≡ false → list_all (may_touching Storing i) (range_with_len a n) ≡ true → list_all (may Storing i) (range_with_len a n) ≡ true
+    by zero a settled all = refl
+    by (suc n) a settled all =
+        let present = or_parts (is_absent i (a / 4096)) (has_absent (pages_at (a + 1) n) i) settled in
+        let parts = and_parts (may_touching Storing i a) (list_all (may_touching Storing i) (range_with_len (a + 1) n)) all in
+        and_from (may Storing i a) (list_all (may Storing i) (range_with_len (a + 1) n)) (sym (ap (λ (b : Bool). b || may Storing i a) present.0) ∙ parts.0) (by n (a + 1) present.1 parts.1)
 
 -- ---- what a read takes of a line
 
@@ -97,10 +116,10 @@ pulled_few first n bytes = by (nat_le n (line_length bytes)) refl
 -- ---- the three rows that store
 
 module _ (c : Call) (v : View) where
-  wait_allowed : (z w : Bool) (o : Own) → (w ≡ true → reaches Storing v.image c.a0 4 ≡ true)
+  wait_allowed : (z w : Bool) (o : Own) → (z ≡ false → w ≡ true → reaches Storing v.image c.a0 4 ≡ true)
       → Allowed v.image (cond z nothing_stored (where_done (unless (not z && not w) c v (λ _. o)).answer (record { address = c.a0; count = 4 })))
   wait_allowed true w o h = none_allowed v.image
-  wait_allowed false true o h = done_allowed v.image o.answer (record { address = c.a0; count = 4 }) (of_buffer v.image c.a0 4 0 (record { address = c.a0; count = 4 }) (h refl) (omega arith) (omega arith))
+  wait_allowed false true o h = done_allowed v.image o.answer (record { address = c.a0; count = 4 }) (of_buffer v.image c.a0 4 0 (record { address = c.a0; count = 4 }) (h refl refl) (omega arith) (omega arith))
   wait_allowed false false o h = none_allowed v.image
 
   pipe_allowed : (w f : Bool) (o : Own) → (w ≡ true → reaches Storing v.image c.a0 8 ≡ true)
@@ -147,44 +166,71 @@ module _ (c : Call) (v : View) where
   some_bytes m true go h = nothing_read m (done c (pos 0) v) refl
   some_bytes m false go h = h
 
-  moving_read : (m : ℕ) (z : ℤ) (go : ℕ → Own) → ((n : ℕ) → reaches Storing v.image c.a1 n ≡ true → Allowed v.image (read_of m (go n))) → Allowed v.image (read_of m (moving c v (writable v.image c.a1 (length_of_int z)) z go))
-  moving_read m (negsuc k) go h = nothing_read m (refused c v) refl
-  moving_read m (pos n) go h = some_bytes m (nat_eq n 0) (λ _. unless (not (writable v.image c.a1 n)) c v (λ _. go n)) (unless_read m (writable v.image c.a1 n) (go n) (h n))
+  moving_read : (m : ℕ) (z : ℤ) (go : ℕ → Own) → has_absent (pages_at c.a1 (length_of_int z)) v.image ≡ false → ((n : ℕ) → reaches Storing v.image c.a1 n ≡ true → Allowed v.image (read_of m (go n))) → Allowed v.image (read_of m (moving c v (writable v.image c.a1 (length_of_int z)) z go))
+  moving_read m (negsuc k) go settled h = nothing_read m (refused c v) refl
+  moving_read m (pos n) go settled h = some_bytes m (nat_eq n 0) (λ _. unless (not (writable v.image c.a1 n)) c v (λ _. go n)) (unless_read m (writable v.image c.a1 n) (go n) (λ all. h n (settled_reaches v.image c.a1 n settled all)))
 
-  on_row : (o : Option Descriptor) → Allowed v.image (read_of (moved_through c o) (read_on c v o))
-  on_row None = nothing_read 0 (refused c v) refl
-  on_row (Some d) = unless_read (moved_on c d.shown) d.read (moving c v (writable v.image c.a1 (length_of_int (c_int c.a2))) (c_int c.a2) (λ n. read_from c v n d.file d.shown))
-      (λ _. moving_read (moved_on c d.shown) (c_int c.a2) (λ n. read_from c v n d.file d.shown) (λ n all. from_row n d.file d.shown all))
+  on_row : has_absent (pages_at c.a1 (length_of_int (c_int c.a2))) v.image ≡ false → (o : Option Descriptor) → Allowed v.image (read_of (moved_through c o) (read_on c v o))
+  on_row settled None = nothing_read 0 (refused c v) refl
+  on_row settled (Some d) = unless_read (moved_on c d.shown) d.read (moving c v (writable v.image c.a1 (length_of_int (c_int c.a2))) (c_int c.a2) (λ n. read_from c v n d.file d.shown))
+      (λ _. moving_read (moved_on c d.shown) (c_int c.a2) (λ n. read_from c v n d.file d.shown) settled (λ n all. from_row n d.file d.shown all))
 
   moved_is : (z : ℤ) → moved_through c (in_use v z) ≡ moved_by_number c v.descriptors z
   moved_is (pos fd) = refl
   moved_is (negsuc k) = refl
 
-  by_row : (r : Option Row) → Allowed v.image (stored_by_row c v.descriptors r (perform_row c v r))
+  by_row : (r : Option Row) → has_absent (buffer_of c r) v.image ≡ false → Allowed v.image (stored_by_row c v.descriptors r (perform_row c v r))
   unfolding perform_row
-  by_row None = none_allowed v.image
-  by_row (Some Wait) = wait_allowed (nat_eq c.a0 0) (writable v.image c.a0 4) (reaped c v (least_zombie v)) (λ e. e)
-  by_row (Some Pipe_row) = pipe_allowed (writable v.image c.a0 8) (nat_eq v.free 0) (piped_from c v (lowest_free v.descriptors)) (λ e. e)
-  by_row (Some Read) = subst (λ m. Allowed v.image (read_of m (read_on c v (in_use v (c_int c.a0))))) (moved_is (c_int c.a0)) (on_row (in_use v (c_int c.a0)))
-  by_row (Some Fork) = none_allowed v.image
-  by_row (Some Exit) = none_allowed v.image
-  by_row (Some Kill) = none_allowed v.image
-  by_row (Some Exec) = none_allowed v.image
-  by_row (Some Dup) = none_allowed v.image
-  by_row (Some Getpid) = none_allowed v.image
-  by_row (Some Sbrk) = none_allowed v.image
-  by_row (Some Sleep) = none_allowed v.image
-  by_row (Some Uptime) = none_allowed v.image
-  by_row (Some Open) = none_allowed v.image
-  by_row (Some Write) = none_allowed v.image
-  by_row (Some Close) = none_allowed v.image
+  by_row None settled = none_allowed v.image
+  by_row (Some Wait) settled = wait_allowed (nat_eq c.a0 0) (writable v.image c.a0 4) (reaped c v (least_zombie v))
+      (λ some. settled_reaches v.image c.a0 4 (sym (ap (λ (b : Bool). has_absent (pages_at c.a0 (cond b 0 4)) v.image) some) ∙ settled))
+  by_row (Some Pipe_row) settled = pipe_allowed (writable v.image c.a0 8) (nat_eq v.free 0) (piped_from c v (lowest_free v.descriptors)) (settled_reaches v.image c.a0 8 settled)
+  by_row (Some Read) settled = subst (λ m. Allowed v.image (read_of m (read_on c v (in_use v (c_int c.a0))))) (moved_is (c_int c.a0)) (on_row settled (in_use v (c_int c.a0)))
+  by_row (Some Fork) settled = none_allowed v.image
+  by_row (Some Exit) settled = none_allowed v.image
+  by_row (Some Kill) settled = none_allowed v.image
+  by_row (Some Exec) settled = none_allowed v.image
+  by_row (Some Dup) settled = none_allowed v.image
+  by_row (Some Getpid) settled = none_allowed v.image
+  by_row (Some Sbrk) settled = none_allowed v.image
+  by_row (Some Sleep) settled = none_allowed v.image
+  by_row (Some Uptime) settled = none_allowed v.image
+  by_row (Some Open) settled = none_allowed v.image
+  by_row (Some Write) settled = none_allowed v.image
+  by_row (Some Close) settled = none_allowed v.image
+  by_row (Some Sbrklazy) settled = none_allowed v.image
 
-  parts_allowed : Allowed v.image (stored_by_row c v.descriptors (row_of c.number) (perform_parts c v))
+  -- a row stores only where user code may store, where no page of its buffer is absent
+  pub parts_allowed : IsSettled c v → Allowed v.image (stored_by_row c v.descriptors (row_of c.number) (perform_parts c v))
   unfolding perform_parts
-  parts_allowed = by_row (row_of c.number)
+  parts_allowed settled = by_row (row_of c.number) settled
 
-  row_allowed : Allowed v.image (stored_by_row c v.descriptors (row_of c.number) (perform c v))
-  row_allowed = subst (λ (o : Own). Allowed v.image (stored_by_row c v.descriptors (row_of c.number) o)) (sym (perform_same c v)) parts_allowed
+  -- a call that is refused stores nothing
+  refused_row : (r : Option Row) (a : ℕ) → Lies (stored_by_row c v.descriptors r (refused c v)) a → ⊥
+  refused_row None a l = nothing_lies a l
+  refused_row (Some Wait) a l = by (nat_eq c.a0 0) l
+    where
+      by : (b : Bool) → Lies (cond b nothing_stored nothing_stored) a → ⊥
+      by true h = nothing_lies a h
+      by false h = nothing_lies a h
+  refused_row (Some Pipe_row) a l = nothing_lies a l
+  refused_row (Some Read) a l = let low = l.0 in let high = l.1 in omega (arith, low, high)
+  refused_row (Some Fork) a l = nothing_lies a l
+  refused_row (Some Exit) a l = nothing_lies a l
+  refused_row (Some Kill) a l = nothing_lies a l
+  refused_row (Some Exec) a l = nothing_lies a l
+  refused_row (Some Dup) a l = nothing_lies a l
+  refused_row (Some Getpid) a l = nothing_lies a l
+  refused_row (Some Sbrk) a l = nothing_lies a l
+  refused_row (Some Sleep) a l = nothing_lies a l
+  refused_row (Some Uptime) a l = nothing_lies a l
+  refused_row (Some Open) a l = nothing_lies a l
+  refused_row (Some Write) a l = nothing_lies a l
+  refused_row (Some Close) a l = nothing_lies a l
+  refused_row (Some Sbrklazy) a l = nothing_lies a l
+
+  pub refused_stores : (a : ℕ) → Lies (stored_by_row c v.descriptors (row_of c.number) (refused c v)) a → ⊥
+  refused_stores a l = refused_row (row_of c.number) a l
 
 -- ---- an instruction
 
@@ -336,24 +382,68 @@ user_may i a (cell, is, writes) = by (get i.pages (a / 4096)) refl is
     by None e f = let no : ⊥ = cc in absurd no
     by (Some page) e f = ap (λ o. allows Storing (option_map perm_of_page o)) e ∙ in_page page.perm.user page.perm.write page.perm.execute page.perm.read _ f
 
+-- where an instruction stores, user code may store
+pub instruction_may : (regs : Registers) (image : Image) (r : Registers) (s : Store) → instr regs (user image) ≡ Next r (Some s) → Allowed image (record { address = s.address; count = length s.bytes })
+instruction_may regs image r s is a l = user_may image a ((instruction_writes regs (user image) r s is).1 a l.0 l.1)
+
+-- ---- where pages came
+
+-- user code may store at each of these, or may do so once the page is touched
+abbrev AllowedTouching : Image → Stored → Type 0
+AllowedTouching i s = (a : ℕ) → Lies s a → may_touching Storing i a ≡ true
+
+touching : (b c : Bool) → c ≡ true → (b || c) ≡ true
+touching true c e = refl
+touching false c e = e
+
+-- where user code may store once pages are touched, it may do so before, or may do so once the page is touched
+may_before : (i j : Image) → IsTouched i j → (a : ℕ) → may Storing j a ≡ true → may_touching Storing i a ≡ true
+may_before i j t a e = by (get i.pages (a / 4096)) (get j.pages (a / 4096)) refl refl e
+  where
+    by : (o q : Option Page) → get i.pages (a / 4096) ≡ o → get j.pages (a / 4096) ≡ q → allows Storing (option_map perm_of_page q) ≡ true → may_touching Storing i a ≡ true
+    by None None was is h = let no : ⊥ = cc in absurd no
+    by None (Some y) was is h = ap (λ (b : Bool). b || may Storing i a) (t.new (a / 4096) y was is).0
+    by (Some x) q was is h =
+        touching (is_absent i (a / 4096)) (may Storing i a) (ap (λ (p : Option Page). allows Storing (option_map perm_of_page p)) (was ∙ sym (t.kept (a / 4096) x was) ∙ is) ∙ h)
+
+touching_before : (i j : Image) → IsTouched i j → (a : ℕ) → may_touching Storing j a ≡ true → may_touching Storing i a ≡ true
+touching_before i j t a e = by (is_absent j (a / 4096)) refl e
+  where
+    by : (b : Bool) → is_absent j (a / 4096) ≡ b → (b || may Storing j a) ≡ true → may_touching Storing i a ≡ true
+    by true absent h = ap (λ (b : Bool). b || may Storing i a) (absent_before i j (a / 4096) t absent)
+    by false present h = may_before i j t a h
+
 -- ---- a step
 
-module _ (v : View) where
-  instruction_allowed : (st : Step) (o : Own) → next_instruction v.regs v.image ≡ st → o ≡ after_instruction v st → Allowed v.image (stored_by_instruction v st o)
-  instruction_allowed (Next r None) o is e = none_allowed v.image
-  instruction_allowed (Next r (Some st)) o is e = λ a l. user_may v.image a ((instruction_writes v.regs (user v.image) r st is).1 a l.0 l.1)
-  instruction_allowed Ecall o is e = subst (λ (p : Own). Allowed v.image (stored_by_row (call_begun v) v.descriptors (row_of (call_begun v).number) p)) (sym e) (row_allowed (call_begun v) (begun v))
-  instruction_allowed (Fault cause) o is e = none_allowed v.image
+-- the same stores, whether pages came before or not
+pub same_stores : (v : View) (image : Image) (free : ℕ) (st : Step) (o : Own) → stored_by_instruction (touched_view v image free) st o ≡ stored_by_instruction v st o
+same_stores v image free (Next r None) o = refl
+same_stores v image free (Next r (Some st)) o = refl
+same_stores v image free Ecall o = refl
+same_stores v image free (Fault cause) o = refl
 
-  going_allowed : (o : Option Call) → Allowed v.image (stored_in v o (going_on v o))
-  going_allowed None = instruction_allowed (next_instruction v.regs v.image) (going_on v None) refl refl
+row_allowed : (c : Call) (v : View) → AllowedTouching v.image (stored_by_row c v.descriptors (row_of c.number) (perform c v))
+row_allowed c v = by_call (λ (o : Own). AllowedTouching v.image (stored_by_row c v.descriptors (row_of c.number) o)) c v (λ a l. absurd (refused_stores c v a l))
+    (λ image free touched settled a l. may_before v.image image touched a (parts_allowed c (touched_view v image free) settled a l))
+
+instruction_allowed : (v : View) (st : Step) → next_instruction v.regs v.image ≡ st → AllowedTouching v.image (stored_by_instruction v st (after_instruction v st))
+instruction_allowed v (Next r None) is = λ a l. absurd (nothing_lies a l)
+instruction_allowed v (Next r (Some st)) is = λ a l. touching (is_absent v.image (a / 4096)) (may Storing v.image a) (instruction_may v.regs v.image r st is a l)
+instruction_allowed v Ecall is = row_allowed (call_begun v) (begun v)
+instruction_allowed v (Fault cause) is = λ a l. absurd (nothing_lies a l)
+
+module _ (v : View) where
+  going_allowed : (o : Option Call) → AllowedTouching v.image (stored_in v o (going_on v o))
+  going_allowed None = by_instruction (λ st o. AllowedTouching v.image (stored_by_instruction v st o)) v
+      (λ image free touched a l. touching_before v.image image touched a (instruction_allowed (touched_view v image free) (next_instruction v.regs image) refl a
+      (subst (λ (s : Stored). Lies s a) (sym (same_stores v image free (next_instruction v.regs image) (after_instruction (touched_view v image free) (next_instruction v.regs image)))) l)))
   going_allowed (Some c) = row_allowed c v
 
-  unless_allowed : (b : Bool) → Allowed v.image (cond b nothing_stored (stored_in v v.call (unless_killed v b)))
-  unless_allowed true = none_allowed v.image
+  unless_allowed : (b : Bool) → AllowedTouching v.image (cond b nothing_stored (stored_in v v.call (unless_killed v b)))
+  unless_allowed true = λ a l. absurd (nothing_lies a l)
   unless_allowed false = going_allowed v.call
 
-  own_allowed : Allowed v.image (cond v.killed nothing_stored (stored_in v v.call (own v)))
+  own_allowed : AllowedTouching v.image (cond v.killed nothing_stored (stored_in v v.call (own v)))
   unfolding own
   own_allowed = unless_allowed v.killed
 

@@ -1,5 +1,5 @@
 -- A pipe that a step shows for the first time is empty, and a new process has its parent's image.
-use Rattle.std.proofs.Common.{◌≡◌, ℕ, suc, ◌<◌, ◌+◌, ◌-◌, ◌%◌, ◌++◌, Bool, true, false, cond, not, ◌&&◌, ◌||◌, List, [], length, refl, ap, sym, ◌∙◌, take, drop, inl, inr, subst}
+use Rattle.std.proofs.Common.{◌≡◌, ℕ, suc, ◌<◌, ◌+◌, ◌-◌, ◌%◌, ◌++◌, Bool, true, false, cond, not, ◌&&◌, ◌||◌, List, [], length, refl, ap, sym, ◌∙◌, take, drop, inl, inr}
 use Rattle.std.specs.Prelude.{Option, None, Some, ℤ, pos, negsuc, nat_eq, nat_lt, nat_le, IsSome, is_some, is_none, option_map, slice_get, Result, Ok, Err}
 use Rattle.std.specs.List.{list_any}
 use Rattle.std.specs.Int.{cast_unsigned, w32}
@@ -12,6 +12,7 @@ use Rattle.xk_base.specs.Words.{le_bytes}
 use Rattle.xk_base.specs.Image.{Image, price}
 use Rattle.xk_base.specs.Bytes.{write_image}
 use Rattle.xk_base.specs.Loaded.{Loaded, loaded}
+use Rattle.addr_space.specs.Absent.{grown_lazily}
 use Rattle.rv64i_core.specs.Step.{Step, Next, Ecall, Fault}
 use Rattle.pipe_core.specs.Pipe.{Pipe, new_pipe, with_more, without_first}
 use Rattle.console_core.specs.Reads.{Pulled, pulled}
@@ -20,21 +21,23 @@ use Rattle.file_table.specs.declared.open_file.End.TheVariants.{Reading, Writing
 use Rattle.proc_table.specs.declared.process.Call.{Call}
 use Rattle.kcall_core.specs.Words.{CLOCK_ROUND, c_int, minus_one, with_value}
 use Rattle.kcall_core.specs.Buffers.{readable, writable, text_at, texts_at, no_slashes, grown, shrunk}
+use Rattle.kcall_core.specs.Touches.{has_absent}
 use Rattle.kcall_core.specs.PipeEnds.{there, fit, must_wait}
 use Rattle.kcall_core.specs.Programs.{program_bytes, program_named}
 use Rattle.kcall_core.specs.Processes.{Live, child_status}
 use Rattle.kcall_core.specs.View.{View, Descriptors, Descriptor, numbered, Shown, Shown_terminal, Shown_file, Shown_pipe, view_of, named, rename, rename_shown, pipe_name, shown_pipe_name}
 use Rattle.kcall_core.specs.Own.{Own, Exited, Faulted}
 use Rattle.kcall_core.specs.Tables.{lowest_free, lowest_free_above, with_descriptor, without_descriptor, with_copy, change_pipes, changed, change_pipe, advance, advanced, one_more_on, one_less_on, pipes_given_up}
-use Rattle.kcall_core.specs.Calls.{Row, Fork, Exit, Wait, Pipe_row, Read, Kill, Exec, Dup, Getpid, Sbrk, Sleep, Uptime, Open, Write, Close, row_of, answered, gone, done, refused, waits, least_zombie, has_child}
+use Rattle.kcall_core.specs.Calls.{Row, Fork, Exit, Wait, Pipe_row, Read, Kill, Exec, Dup, Getpid, Sbrk, Sleep, Uptime, Open, Write, Close, Sbrklazy, row_of, perform, answered, gone, done, refused, waits, least_zombie, has_child}
 use Rattle.kcall_core.specs.Step.{own, unless_killed, going_on, after_instruction, call_begun, begun, stored}
 use Rattle.kcall_core.specs.Worlds.{IsNewPipe, NoOldPipe, NoOldChild}
 use Rattle.std.proofs.lemmas.Bool.{eq-eqb, ltb-true}
 use Rattle.kcall_core.proofs.steps.Least.{least_passes}
 use Rattle.kcall_core.proofs.steps.Names.{named_at}
 use Rattle.kcall_core.specs.Ready.{in_use}
-use Rattle.kcall_core.proofs.rows.RowParts.{perform_parts, perform_row, unless, unless_nothing, moving, length_of_int, reaped, without_child, piped, piped_from, with_pipe, read_on, read_from, write_on, write_to, done_at, next_bytes, kill_pid, killed_by, exec_program, exec_path, dup_at, dup_on, dup_number, close_at, close_on, close_number, sbrk_by, shrink_to, exec_loaded, running, sleep_for, open_at, open_path, opened_as, kind_named, fork_parts, forked, cannot_fork, with_child, room_to_send, Named, The_console, A_program, Nothing}
-use Rattle.kcall_core.proofs.rows.RowsByParts.{perform_same}
+use Rattle.kcall_core.proofs.rows.RowParts.{buffer_of, perform_parts, perform_row, unless, unless_nothing, moving, length_of_int, reaped, without_child, piped, piped_from, with_pipe, read_on, read_from, write_on, write_to, done_at, next_bytes, kill_pid, killed_by, exec_program, exec_path, dup_at, dup_on, dup_number, close_at, close_on, close_number, sbrk_by, shrink_to, lazy_by, exec_loaded, running, sleep_for, open_at, open_path, opened_as, kind_named, fork_parts, forked, cannot_fork, with_child, room_to_send, Named, The_console, A_program, Nothing}
+use Rattle.kcall_core.proofs.rows.Touched.{touched_view}
+use Rattle.kcall_core.proofs.rows.ByTouch.{by_call_apart, by_instruction_apart}
 
 abbrev Fine : View → Own → Type 0
 Fine v o = ((n : View) → o.next ≡ Some n → (x : Pipe) → IsNewPipe v n x → x.bytes ≡ []) × ((c : View) → o.child ≡ Some c → c.image ≡ v.image)
@@ -265,6 +268,11 @@ module _ (c : Call) (v : View) where
   sbrk_row (negsuc k) = fine_unless (nat_le v.image.size k || nat_lt SIZE_LIMIT (v.image.size - suc k)) (λ _. shrink_to c v (v.image.size - suc k))
       (fine_done (pos v.image.size) (record v { image = shrunk v.image (v.image.size - suc k); free = v.free + price v.image - price (shrunk v.image (v.image.size - suc k)) }) (λ d e. e))
 
+  sbrklazy_row : (z : ℤ) → Fine v (lazy_by c v z)
+  sbrklazy_row (negsuc k) = refusal
+  sbrklazy_row (pos n) = fine_unless (nat_lt SIZE_LIMIT (v.image.size + n)) (λ _. done c (pos v.image.size) (record v { image = grown_lazily v.image (v.image.size + n) }))
+      (fine_done (pos v.image.size) (record v { image = grown_lazily v.image (v.image.size + n) }) (λ d e. e))
+
   sleep_row : (z : ℤ) → Fine v (sleep_for c v z)
   sleep_row (negsuc k) = fine_done (pos 0) v (λ d e. e)
   sleep_row (pos n) = either (nat_lt ((v.clock + CLOCK_ROUND - c.clock) % CLOCK_ROUND) n) (waits c 0 v) (done c (pos 0) v) (fine_waits 0 v (λ d e. e)) (fine_done (pos 0) v (λ d e. e))
@@ -413,23 +421,94 @@ module _ (c : Call) (v : View) where
     by_row (Some Open) = open_row (text_at MAXPATH v.image c.a0)
     by_row (Some Write) = write_on_row (in_use v (c_int c.a0))
     by_row (Some Close) = close_row (c_int c.a0)
+    by_row (Some Sbrklazy) = sbrklazy_row (c_int c.a0)
 
-    perform_fine : Fine v (perform_parts c v)
+    parts_fine : Fine v (perform_parts c v)
     unfolding perform_parts
-    perform_fine = by_row (row_of c.number)
+    parts_fine = by_row (row_of c.number)
+
+-- ---- a row that stores into a buffer makes no process
+
+abbrev NoChild : Own → Type 0
+NoChild o = o.child ≡ None
+
+module _ (c : Call) (v : View) where
+  alone_unless : (b : Bool) (go : Unit {0} → Own) → NoChild (go tt) → NoChild (unless b c v go)
+  alone_unless true go h = refl
+  alone_unless false go h = h
+
+  alone_cond : (b : Bool) (x y : Own) → NoChild x → NoChild y → NoChild (cond b x y)
+  alone_cond true x y h g = h
+  alone_cond false x y h g = g
+
+  alone_nothing : (b : Bool) (go : Unit {0} → Own) → NoChild (go tt) → NoChild (unless_nothing b c v go)
+  alone_nothing true go h = refl
+  alone_nothing false go h = h
+
+  alone_moving : (r : Bool) (z : ℤ) (go : ℕ → Own) → ((n : ℕ) → NoChild (go n)) → NoChild (moving c v r z go)
+  alone_moving r (negsuc k) go h = refl
+  alone_moving r (pos n) go h = alone_nothing (nat_eq n 0) (λ _. unless (not r) c v (λ _. go n)) (alone_unless (not r) (λ _. go n) (h n))
+
+  alone_reaped : (o : Option ℕ) → NoChild (reaped c v o)
+  alone_reaped (Some q) = refl
+  alone_reaped None = alone_cond (has_child v) (waits c 0 v) (refused c v) refl refl
+
+  alone_piped : (r : ℕ) (o : Option ℕ) → NoChild (piped c v r o)
+  alone_piped r None = refl
+  alone_piped r (Some w) = refl
+
+  alone_piped_from : (o : Option ℕ) → NoChild (piped_from c v o)
+  alone_piped_from None = refl
+  alone_piped_from (Some r) = alone_piped r (lowest_free_above v.descriptors r)
+
+  alone_read : (n file : ℕ) (x : Shown) → NoChild (read_from c v n file x)
+  alone_read n file Shown_terminal = alone_cond (pulled (nat_eq c.moved 0) (n - c.moved) v.console.committed).ended _ _ refl refl
+  alone_read n file (Shown_file program offset) = refl
+  alone_read n file (Shown_pipe name end pipe) = alone_cond (must_wait pipe) _ _ refl refl
+
+  alone_read_on : (o : Option Descriptor) → NoChild (read_on c v o)
+  alone_read_on None = refl
+  alone_read_on (Some d) = alone_unless (not d.read) (λ _. moving c v (writable v.image c.a1 (length_of_int (c_int c.a2))) (c_int c.a2) (λ n. read_from c v n d.file d.shown))
+      (alone_moving (writable v.image c.a1 (length_of_int (c_int c.a2))) (c_int c.a2) (λ n. read_from c v n d.file d.shown) (λ n. alone_read n d.file d.shown))
+
+  alone_row : (r : Option Row) (image : Image) → has_absent (buffer_of c r) image ≡ true → NoChild (perform_row c v r)
+  unfolding perform_row
+  alone_row (Some Wait) image absent = alone_unless (not (nat_eq c.a0 0) && not (writable v.image c.a0 4)) (λ _. reaped c v (least_zombie v)) (alone_reaped (least_zombie v))
+  alone_row (Some Pipe_row) image absent = alone_unless (not (writable v.image c.a0 8) || nat_eq v.free 0) (λ _. piped_from c v (lowest_free v.descriptors)) (alone_piped_from (lowest_free v.descriptors))
+  alone_row (Some Read) image absent = alone_read_on (in_use v (c_int c.a0))
+  alone_row _ image absent = let no : ⊥ = cc in absurd no
+
+  alone_parts : (image : Image) → has_absent (buffer_of c (row_of c.number)) image ≡ true → NoChild (perform_parts c v)
+  unfolding perform_parts
+  alone_parts image absent = alone_row (row_of c.number) image absent
+
+-- ---- a call
+
+-- a step that makes no process is as fine before pages were touched
+fine_before : (v : View) (image : Image) (free : ℕ) (o : Own) → NoChild o → Fine (touched_view v image free) o → Fine v o
+fine_before v image free o none h = (h.0, λ child is. no_child o v child none is)
+
+perform_fine : (c : Call) (v : View) → ((d : ℕ) → IsSome (v.descriptors d) → d < NOFILE) → Fine v (perform c v)
+perform_fine c v low = by_call_apart (Fine v) c v (refusal c v) (λ settled. parts_fine c v low)
+    (λ image free touched settled absent goes. fine_before v image free (perform_parts c (touched_view v image free)) (alone_parts c (touched_view v image free) v.image absent) (parts_fine c (touched_view v image free) low))
 
 -- ---- a step
 
+stepped_fine : (v : View) (image : Image) (free : ℕ) (st : Step) → (st ≡ Ecall → ⊥) → Fine v (after_instruction (touched_view v image free) st)
+stepped_fine v image free (Next r None) other = fine_by v (stored (touched_view v image free) r None) (after_instruction (touched_view v image free) (Next r None)) refl refl (λ d e. e)
+stepped_fine v image free (Next r (Some st)) other = fine_by v (stored (touched_view v image free) r (Some st)) (after_instruction (touched_view v image free) (Next r (Some st))) refl refl (λ d e. e)
+stepped_fine v image free Ecall other = absurd (other refl)
+stepped_fine v image free (Fault cause) other = fine_gone v (gone (Faulted cause) (touched_view v image free)) refl refl
+
 module _ (v : View) (low : (d : ℕ) → IsSome (v.descriptors d) → d < NOFILE) where
   instruction_fine : (st : Step) → Fine v (after_instruction v st)
-  instruction_fine (Next r None) = fine_by v (stored v r None) (after_instruction v (Next r None)) refl refl (λ d e. e)
-  instruction_fine (Next r (Some st)) = fine_by v (stored v r (Some st)) (after_instruction v (Next r (Some st))) refl refl (λ d e. e)
-  instruction_fine Ecall = subst (Fine (begun v)) (sym (perform_same (call_begun v) (begun v))) (perform_fine (call_begun v) (begun v) low)
+  instruction_fine (Next r s) = stepped_fine v v.image v.free (Next r s) (λ e. let no : ⊥ = cc in no)
+  instruction_fine Ecall = perform_fine (call_begun v) (begun v) low
   instruction_fine (Fault cause) = fine_gone v (gone (Faulted cause) v) refl refl
 
   going_fine : (o : Option Call) → Fine v (going_on v o)
-  going_fine None = instruction_fine (next_instruction v.regs v.image)
-  going_fine (Some c) = subst (Fine v) (sym (perform_same c v)) (perform_fine c v low)
+  going_fine None = by_instruction_apart (λ st o. Fine v o) v (instruction_fine (next_instruction v.regs v.image)) (λ image free touched other. stepped_fine v image free (next_instruction v.regs image) other)
+  going_fine (Some c) = perform_fine c v low
 
   unless_fine : (b : Bool) → Fine v (unless_killed v b)
   unless_fine true = fine_gone v (gone (Exited minus_one) v) refl refl

@@ -6,7 +6,8 @@ use Rattle.std.specs.Int.{cast_unsigned, w32}
 use Rattle.xk_base.specs.declared.limits.TheConstants.{SIZE_LIMIT, MAXPATH, MAXARG, ARG_BYTES}
 use Rattle.xk_base.specs.declared.errors.ExecError.{ExecError}
 use Rattle.xk_base.specs.Words.{le_bytes}
-use Rattle.xk_base.specs.Image.{price}
+use Rattle.xk_base.specs.Image.{Image, price}
+use Rattle.addr_space.specs.Absent.{grown_lazily}
 use Rattle.xk_base.specs.Bytes.{write_image}
 use Rattle.xk_base.specs.Loaded.{Loaded, loaded}
 use Rattle.rv64i_core.specs.Step.{Step, Next, Ecall, Fault}
@@ -22,12 +23,13 @@ use Rattle.kcall_core.specs.Programs.{program_bytes, program_named}
 use Rattle.kcall_core.specs.View.{View, Descriptor, Shown, Shown_terminal, Shown_file, Shown_pipe}
 use Rattle.kcall_core.specs.Own.{Own, Answer, Stepped, Called, Exited, gone_with}
 use Rattle.kcall_core.specs.Tables.{lowest_free, lowest_free_above, advance, change_pipe, with_copy, one_more_on, one_less_on, without_descriptor, with_descriptor, pipes_given_up}
-use Rattle.kcall_core.specs.Calls.{Row, Fork, Exit, Wait, Pipe_row, Read, Kill, Exec, Dup, Getpid, Sbrk, Sleep, Uptime, Open, Write, Close, row_of, perform, answered, gone, done, refused, waits, least_zombie, has_child}
+use Rattle.kcall_core.specs.Calls.{Row, Fork, Exit, Wait, Pipe_row, Read, Kill, Exec, Dup, Getpid, Sbrk, Sleep, Uptime, Open, Write, Close, Sbrklazy, row_of, perform, answered, gone, done, refused, waits, least_zombie, has_child}
 use Rattle.kcall_core.specs.Step.{own, unless_killed, going_on, after_instruction, call_begun, call_or_begun, begun, stored}
 use Rattle.kcall_core.specs.Processes.{child_status}
 use Rattle.kcall_core.specs.Ready.{in_use}
-use Rattle.kcall_core.proofs.rows.RowParts.{perform_row, unless, unless_nothing, moving, length_of_int, reaped, without_child, piped, piped_from, with_pipe, read_on, read_from, write_on, write_to, done_at, next_bytes, kill_pid, killed_by, exec_program, exec_path, dup_at, dup_on, dup_number, close_on, close_number, sbrk_by, shrink_to, exec_loaded, running, sleep_for, open_at, open_path, opened_as, kind_named, forked, cannot_fork, room_to_send, perform_parts, fork_parts}
-use Rattle.kcall_core.proofs.rows.RowsByParts.{perform_same}
+use Rattle.kcall_core.proofs.rows.RowParts.{perform_row, unless, unless_nothing, moving, length_of_int, reaped, without_child, piped, piped_from, with_pipe, read_on, read_from, write_on, write_to, done_at, next_bytes, kill_pid, killed_by, exec_program, exec_path, dup_at, dup_on, dup_number, close_on, close_number, sbrk_by, shrink_to, lazy_by, exec_loaded, running, sleep_for, open_at, open_path, opened_as, kind_named, forked, cannot_fork, room_to_send, perform_parts, fork_parts}
+use Rattle.kcall_core.proofs.rows.Touched.{touched_view}
+use Rattle.kcall_core.proofs.rows.ByTouch.{NotRefused, by_call_apart, by_instruction_apart}
 
 -- where the next pid is n, a new process has that pid and is in no call, and one pid is used up
 abbrev pub Numbered : ℕ → Own → Type 0
@@ -170,6 +172,11 @@ module _ (c : Call) (v : View) where
   sbrk_row (negsuc k) = guarded (nat_le v.image.size k || nat_lt SIZE_LIMIT (v.image.size - suc k)) (λ _. shrink_to c v (v.image.size - suc k))
       (is_done v.image.size (record v { image = shrunk v.image (v.image.size - suc k); free = v.free + price v.image - price (shrunk v.image (v.image.size - suc k)) }) refl)
 
+  sbrklazy_row : (z : ℤ) → Comes c v (lazy_by c v z)
+  sbrklazy_row (negsuc k) = refusal
+  sbrklazy_row (pos n) = guarded (nat_lt SIZE_LIMIT (v.image.size + n)) (λ _. done c (pos v.image.size) (record v { image = grown_lazily v.image (v.image.size + n) }))
+      (is_done v.image.size (record v { image = grown_lazily v.image (v.image.size + n) }) refl)
+
   open_to : (o : Option ℕ) (what : Option (Bool × Bool × Shown)) → Comes c v (open_at c v o what)
   open_to None what = refusal
   open_to (Some k) None = refusal
@@ -241,13 +248,22 @@ module _ (c : Call) (v : View) where
   by_row (Some Open) e = open_row (text_at MAXPATH v.image c.a0)
   by_row (Some Write) e = write_on_row (ap may_wait e) (in_use v (c_int c.a0))
   by_row (Some Close) e = close_row (c_int c.a0)
+  by_row (Some Sbrklazy) e = sbrklazy_row (c_int c.a0)
 
   by_parts_comes : Comes c v (perform_parts c v)
   unfolding perform_parts
   by_parts_comes = by_row (row_of c.number) refl
 
-  pub perform_comes : Comes c v (perform c v)
-  perform_comes = subst (Comes c v) (sym (perform_same c v)) by_parts_comes
+-- a step that isn't refused comes to the same before pages were touched
+comes_before : (c : Call) (v : View) (image : Image) (free : ℕ) (o : Own) → NotRefused o → Comes c (touched_view v image free) o → Comes c v o
+comes_before c v image free o goes (inl is) = absurd (goes c.number (ap (λ (x : Own). x.answer) is))
+comes_before c v image free o goes (inr (inl done)) = inr (inl (record { value = done.value; answer = done.answer; after = done.after; next = done.next; idle = done.idle; pids = done.pids }))
+comes_before c v image free o goes (inr (inr (inl wait))) = inr (inr (inl (record { moved = wait.moved; after = wait.after; is = wait.is; row = wait.row; next_pid = wait.next_pid })))
+comes_before c v image free o goes (inr (inr (inr gone))) = inr (inr (inr (record { next = gone.next; ends = gone.ends; pids = gone.pids })))
+
+pub perform_comes : (c : Call) (v : View) → Comes c v (perform c v)
+perform_comes c v = by_call_apart (Comes c v) c v (refusal c v) (λ settled. by_parts_comes c v)
+    (λ image free touched settled absent goes. comes_before c v image free (perform_parts c (touched_view v image free)) goes (by_parts_comes c (touched_view v image free)))
 
 -- ---- a step
 
@@ -274,19 +290,27 @@ module _ (v : View) where
   instruction_comes idle Ecall = inr (perform_comes (call_begun v) (begun v))
   instruction_comes idle (Fault cause) = inr (inr (inr (inr (record { next = refl; ends = refl; pids = refl }))))
 
-  going_comes : (call : Option Call) → v.call ≡ call → StepComes call (going_on v call)
-  going_comes None idle = instruction_comes idle (next_instruction v.regs v.image)
+module _ (v : View) where
+  -- an instruction that is no ECALL comes to the same before the page that it is on came
+  instruction_before : (image : Image) (free : ℕ) → v.call ≡ None → (st : Step) → (st ≡ Ecall → ⊥) → StepComes v None (after_instruction (touched_view v image free) st)
+  instruction_before image free idle (Next r None) other = inl (record { answer = refl; after = stored (touched_view v image free) r None; next = refl; idle = idle; pids = refl })
+  instruction_before image free idle (Next r (Some st)) other = inl (record { answer = refl; after = stored (touched_view v image free) r (Some st); next = refl; idle = idle; pids = refl })
+  instruction_before image free idle Ecall other = absurd (other refl)
+  instruction_before image free idle (Fault cause) other = inr (inr (inr (inr (record { next = refl; ends = refl; pids = refl }))))
+
+  going_comes : (call : Option Call) → v.call ≡ call → StepComes v call (going_on v call)
+  going_comes None idle = by_instruction_apart (λ st o. StepComes v None o) v (instruction_comes v idle (next_instruction v.regs v.image)) (λ image free touched other. instruction_before image free idle (next_instruction v.regs image) other)
   going_comes (Some c) busy = inr (perform_comes c v)
 
-  marked_comes : (call : Option Call) → StepComes call (gone (Exited minus_one) v)
+  marked_comes : (call : Option Call) → StepComes v call (gone (Exited minus_one) v)
   marked_comes None = inr (inr (inr (inr (record { next = refl; ends = refl; pids = refl }))))
   marked_comes (Some c) = inr (inr (inr (inr (record { next = refl; ends = refl; pids = refl }))))
 
-  unless_comes : (b : Bool) → StepComes v.call (unless_killed v b)
+  unless_comes : (b : Bool) → StepComes v v.call (unless_killed v b)
   unless_comes true = marked_comes v.call
   unless_comes false = going_comes v.call refl
 
-  pub own_comes : StepComes v.call (own v)
+  pub own_comes : StepComes v v.call (own v)
   unfolding own
   own_comes = unless_comes v.killed
 

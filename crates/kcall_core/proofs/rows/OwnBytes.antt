@@ -7,8 +7,7 @@ use Rattle.xk_base.specs.Image.{Page}
 use Rattle.kcall_core.specs.View.{View}
 use Rattle.kcall_core.specs.Stores.{Stored, stored_by, IsStored}
 use Rattle.kcall_core.specs.Worlds.{EachByteIsOfItsOwn}
-use Rattle.kcall_core.proofs.rows.KeptBytes.{only_stores_change_bytes}
-use Rattle.kcall_core.proofs.rows.NewPages.{no_old_byte}
+use Rattle.kcall_core.proofs.rows.NewPages.{no_old_byte, only_stores_change_bytes}
 
 -- a byte is stored, or it isn't
 stored_or_not : (v : View) (a : ℕ) → IsStored v a ⊎ ¬ IsStored v a

@@ -1,5 +1,5 @@
 -- What a step leaves of the pids, and whether a process is left.
-use Rattle.std.proofs.Common.{◌≡◌, ℕ, suc, ◌+◌, ◌-◌, ◌%◌, ◌++◌, Bool, true, false, cond, not, ◌&&◌, ◌||◌, List, [], ◌∷◌, length, refl, ap, sym, ◌∙◌, inl, inr, ◌⊎◌, take, drop, subst}
+use Rattle.std.proofs.Common.{◌≡◌, ℕ, suc, ◌+◌, ◌-◌, ◌%◌, ◌++◌, Bool, true, false, cond, not, ◌&&◌, ◌||◌, List, [], ◌∷◌, length, refl, ap, sym, ◌∙◌, inl, inr, ◌⊎◌, take, drop}
 use Rattle.std.specs.Prelude.{Option, None, Some, IsSome, is_some, ℤ, pos, negsuc, nat_eq, nat_lt, nat_le, slice_get, filter, Result, Ok, Err}
 use Rattle.std.specs.List.{list_any}
 use Rattle.std.specs.Int.{cast_unsigned, w32}
@@ -10,6 +10,7 @@ use Rattle.xk_base.specs.Image.{Image, price}
 use Rattle.xk_base.specs.Bytes.{write_image}
 use Rattle.xk_base.specs.Words.{le_bytes}
 use Rattle.xk_base.specs.Loaded.{Loaded, loaded}
+use Rattle.addr_space.specs.Absent.{grown_lazily}
 use Rattle.rv64i_core.specs.Registers.{Registers}
 use Rattle.rv64i_core.specs.Memory.{Store}
 use Rattle.rv64i_core.specs.Step.{Step, Next, Ecall, Fault}
@@ -25,13 +26,14 @@ use Rattle.kcall_core.specs.State.{ProgramFile}
 use Rattle.kcall_core.specs.View.{View, Descriptor, Shown, Shown_terminal, Shown_file, Shown_pipe}
 use Rattle.kcall_core.specs.Own.{Own, Answer, Exited, Faulted, gone_with}
 use Rattle.kcall_core.specs.Tables.{lowest_free, lowest_free_above, advance, change_pipe, with_copy, one_more_on, one_less_on, without_descriptor, with_descriptor, pipes_given_up}
-use Rattle.kcall_core.specs.Calls.{Row, Fork, Exit, Wait, Pipe_row, Read, Kill, Exec, Dup, Getpid, Sbrk, Sleep, Uptime, Open, Write, Close, row_of, answered, gone, done, refused, waits, least_zombie, has_child}
+use Rattle.kcall_core.specs.Calls.{Row, Fork, Exit, Wait, Pipe_row, Read, Kill, Exec, Dup, Getpid, Sbrk, Sleep, Uptime, Open, Write, Close, Sbrklazy, row_of, perform, answered, gone, done, refused, waits, least_zombie, has_child}
 use Rattle.kcall_core.specs.Step.{own, unless_killed, going_on, after_instruction, call_begun, begun, stored}
 use Rattle.kcall_core.specs.Run.{IsNewbornOf}
 use Rattle.kcall_core.specs.Processes.{child_status}
 use Rattle.kcall_core.specs.Ready.{in_use}
-use Rattle.kcall_core.proofs.rows.RowParts.{perform_parts, perform_row, unless, unless_nothing, moving, length_of_int, reaped, without_child, piped, piped_from, with_pipe, read_on, read_from, write_on, write_to, done_at, next_bytes, kill_pid, killed_by, exec_program, exec_path, dup_at, dup_on, dup_number, close_at, close_on, close_number, sbrk_by, shrink_to, exec_loaded, running, sleep_for, open_at, open_path, opened_as, kind_named, fork_parts, forked, cannot_fork, room_to_send}
-use Rattle.kcall_core.proofs.rows.RowsByParts.{perform_same}
+use Rattle.kcall_core.proofs.rows.RowParts.{perform_parts, perform_row, unless, unless_nothing, moving, length_of_int, reaped, without_child, piped, piped_from, with_pipe, read_on, read_from, write_on, write_to, done_at, next_bytes, kill_pid, killed_by, exec_program, exec_path, dup_at, dup_on, dup_number, close_at, close_on, close_number, sbrk_by, shrink_to, lazy_by, exec_loaded, running, sleep_for, open_at, open_path, opened_as, kind_named, fork_parts, forked, cannot_fork, room_to_send}
+use Rattle.kcall_core.proofs.rows.Touched.{touched_view}
+use Rattle.kcall_core.proofs.rows.ByTouch.{by_call, by_instruction}
 
 -- q is among the pids
 abbrev pub has : ℕ → List ℕ → Bool
@@ -191,6 +193,11 @@ module _ (c : Call) (v : View) where
   sbrk_row (negsuc k) = sound_unless (nat_le v.image.size k || nat_lt SIZE_LIMIT (v.image.size - suc k)) (λ _. shrink_to c v (v.image.size - suc k))
       (same_done (pos v.image.size) (record v { image = shrunk v.image (v.image.size - suc k); free = v.free + price v.image - price (shrunk v.image (v.image.size - suc k)) }) refl)
 
+  sbrklazy_row : (z : ℤ) → Sound v (lazy_by c v z)
+  sbrklazy_row (negsuc k) = refusal
+  sbrklazy_row (pos n) = sound_unless (nat_lt SIZE_LIMIT (v.image.size + n)) (λ _. done c (pos v.image.size) (record v { image = grown_lazily v.image (v.image.size + n) }))
+      (same_done (pos v.image.size) (record v { image = grown_lazily v.image (v.image.size + n) }) refl)
+
   sleep_row : (z : ℤ) → Sound v (sleep_for c v z)
   sleep_row (negsuc k) = same_done (pos 0) v refl
   sleep_row (pos n) = whichever (nat_lt ((v.clock + CLOCK_ROUND - c.clock) % CLOCK_ROUND) n) (waits c 0 v) (done c (pos 0) v) (same_waits 0 v refl) (same_done (pos 0) v refl)
@@ -225,10 +232,18 @@ module _ (c : Call) (v : View) where
   by_row (Some Open) e = open_row (text_at MAXPATH v.image c.a0)
   by_row (Some Write) e = write_on_row (in_use v (c_int c.a0))
   by_row (Some Close) e = close_row (c_int c.a0)
+  by_row (Some Sbrklazy) e = sbrklazy_row (c_int c.a0)
 
-  pub perform_sound : Sound v (perform_parts c v)
+  parts_sound : Sound v (perform_parts c v)
   unfolding perform_parts
-  perform_sound = by_row (row_of c.number) refl
+  parts_sound = by_row (row_of c.number) refl
+
+-- the pids are as they were before pages were touched
+sound_before : (v : View) (image : Image) (free : ℕ) (o : Own) → Sound (touched_view v image free) o → Sound v o
+sound_before v image free o h = record { left = h.left; pids = h.pids }
+
+pub perform_sound : (c : Call) (v : View) → Sound v (perform c v)
+perform_sound c v = by_call (Sound v) c v (refusal c v) (λ image free touched settled. sound_before v image free (perform_parts c (touched_view v image free)) (parts_sound c (touched_view v image free)))
 
 -- ---- a step
 
@@ -239,12 +254,13 @@ module _ (v : View) where
       same_pids : (r : Registers) (st : Option Store) → (stored v r st).pids ≡ v.pids
       same_pids r None = refl
       same_pids r (Some st) = refl
-  instruction_sound Ecall = let h = subst (Sound (begun v)) (sym (perform_same (call_begun v) (begun v))) (perform_sound (call_begun v) (begun v)) in record { left = h.left; pids = h.pids }
+  instruction_sound Ecall = let h = perform_sound (call_begun v) (begun v) in record { left = h.left; pids = h.pids }
   instruction_sound (Fault cause) = gone_row (call_begun v) v (Faulted cause) refl
 
+module _ (v : View) where
   going_sound : (o : Option Call) → Sound v (going_on v o)
-  going_sound None = instruction_sound (next_instruction v.regs v.image)
-  going_sound (Some c) = subst (Sound v) (sym (perform_same c v)) (perform_sound c v)
+  going_sound None = by_instruction (λ st o. Sound v o) v (λ image free touched. sound_before v image free _ (instruction_sound (touched_view v image free) (next_instruction v.regs image)))
+  going_sound (Some c) = perform_sound c v
 
   unless_sound : (b : Bool) → Sound v (unless_killed v b)
   unless_sound true = gone_row (call_begun v) v (Exited minus_one) refl

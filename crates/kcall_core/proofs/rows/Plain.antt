@@ -12,7 +12,7 @@ use Rattle.kcall_core.specs.Buffers.{grown, shrunk}
 use Rattle.xk_base.specs.Bytes.{write_image}
 use Rattle.console_core.specs.Lists.{Console}
 use Rattle.console_core.specs.Reads.{Pulled}
-use Rattle.kcall_core.specs.Calls.{row_of, perform, refused, done, waits, with_a0, uptime, sleep, sbrk, getpid}
+use Rattle.kcall_core.specs.Calls.{refused, done, waits, with_a0, uptime, sleep, sbrk, getpid}
 use Rattle.kcall_core.specs.Processes.{Alive, Live}
 use Rattle.proc_table.specs.declared.process.Call.{Call}
 use Rattle.kcall_core.specs.State.{State}
@@ -20,8 +20,8 @@ use Rattle.kcall_core.specs.View.{View, view_of}
 use Rattle.kcall_core.specs.Own.{Own, Called, Blocked, goes_on}
 use Rattle.kcall_core.specs.Quiet.{Quiet}
 use Rattle.kcall_core.proofs.steps.Change.{view_alone, quiet_alone, alone, after_alone, answered_live, waiting_live, after_done, after_wait, done_is, waits_is, done_quiet, waits_quiet}
-use Rattle.kcall_core.proofs.rows.RowParts.{room_to_send, perform_row, unless, sleep_for, sbrk_by, shrink_to, exec_loaded, running, read_line, write_terminal, next_bytes, perform_parts}
-use Rattle.kcall_core.proofs.rows.RowsByParts.{sleep_same, sbrk_same, uptime_same, getpid_same, perform_same}
+use Rattle.kcall_core.proofs.rows.RowParts.{room_to_send, unless, sleep_for, sbrk_by, shrink_to, exec_loaded, running, read_line, write_terminal, next_bytes}
+use Rattle.kcall_core.proofs.rows.RowsByParts.{sleep_same, sbrk_same, uptime_same, getpid_same}
 
 module _ (s : State) (p : ℕ) (old : Live) (was : get s.processes p ≡ Some (Alive old)) (c : Call) where
   abbrev v : View
@@ -62,10 +62,6 @@ module _ (s : State) (p : ℕ) (old : Live) (was : get s.processes p ≡ Some (A
 
   pub refused_quiet : (o : Own) → o ≡ refused c (view_of s p old) → Quiet s (view_of s p old) o (state_with_answer minus_one)
   refused_quiet o is = answers_quiet minus_one o is
-
-  pub unknown_refused : row_of c.number ≡ None → perform c (view_of s p old) ≡ refused c (view_of s p old)
-  unfolding perform_parts perform_row
-  unknown_refused none = perform_same c (view_of s p old) ∙ ap (perform_row c (view_of s p old)) none
 
   pub uptime_answers : uptime c (view_of s p old) ≡ done c (pos s.clock) (view_of s p old)
   unfolding view_of

@@ -1,4 +1,4 @@
--- What sbrk comes to, case by case.
+-- What sbrk and sbrklazy come to, case by case.
 use Rattle.std.proofs.Common.{◌≡◌, ℕ, suc, ◌+◌, ◌-◌, ◌<◌, ◌≤◌, ◌||◌, ◌⊎◌, Bool, true, false, cond, Some, None, inl, inr, refl, sym, ap, ◌∙◌, arith}
 use Rattle.std.specs.Prelude.{ℤ, pos, negsuc, nat_le, nat_lt}
 use Rattle.std.specs.Ordering.{nat_cmp}
@@ -6,6 +6,7 @@ use Rattle.std.specs.FinMap.{FinMap}
 use Rattle.std.proofs.lemmas.Bool.{cases_lt, lt-ltb, le-ltb, le-leb, lt-leb}
 use Rattle.xk_base.specs.declared.limits.TheConstants.{SIZE_LIMIT}
 use Rattle.xk_base.specs.Image.{Image, Page, page_count, price}
+use Rattle.addr_space.specs.Absent.{grown_lazily}
 use Rattle.addr_space.specs.Changes.{with_absent, zeroed}
 use Rattle.addr_space.proofs.Growing.{cost, later-more}
 use Rattle.addr_space.proofs.PriceTo.{cost-size}
@@ -14,8 +15,8 @@ use Rattle.kcall_core.specs.Buffers.{data_rights, grown, shrunk}
 use Rattle.kcall_core.specs.View.{View}
 use Rattle.kcall_core.specs.Own.{Own}
 use Rattle.kcall_core.specs.Calls.{done, refused}
-use Rattle.kcall_core.specs.Kernel.{resized, at_size}
-use Rattle.kcall_core.proofs.rows.RowParts.{unless, grow_to, shrink_to, sbrk_by}
+use Rattle.kcall_core.specs.Kernel.{resized, resized_lazily, at_size}
+use Rattle.kcall_core.proofs.rows.RowParts.{unless, grow_to, shrink_to, sbrk_by, lazy_by}
 
 -- ---- prices
 
@@ -32,6 +33,10 @@ grown-price i size more limit =
     let start : cost (with_absent i.pages first 0 page) size ≡ price i = ap (λ m. cost m size) (none-yet i.pages first page) ∙ cost-size i.pages size i.size in
     let whole : 0 + n ≡ n = omega arith in
     omega (arith, start, later-more i.pages first 0 n size page (omega (arith, more, limit)), ap (λ m. cost (with_absent i.pages first m page) size) whole)
+
+-- a growth that brings no page costs nothing
+pub lazily-price : (i : Image) (size : ℕ) → price (grown_lazily i size) ≡ price i
+lazily-price i size = cost-size i.pages size i.size
 
 -- ---- the size
 
@@ -141,3 +146,25 @@ module _ (c : Call) (v : View) where
     | inl row ↦ row.1 ∙ unless-second (nat_lt SIZE_LIMIT size) (nat_lt v.free (price (grown v.image size) - price v.image)) c v _ (lt-ltb v.free (price (grown v.image size) - price v.image) (omega (arith, dear)))
     | inr row ↦ absurd (omega (arith, row.0, more))
   ]
+
+-- ---- the cases of sbrklazy
+
+module _ (c : Call) (v : View) where
+  -- fewer bytes are refused, and a size above the limit
+  pub lazy-outside : (n : ℤ) → resized_lazily v.image.size n ≡ None → lazy_by c v n ≡ refused c v
+  lazy-outside (pos n) none = elim (cases_lt SIZE_LIMIT (v.image.size + n)) [
+    | inl above ↦ ap (λ (b : Bool). unless b c v (λ _. done c (pos v.image.size) (record v { image = grown_lazily v.image (v.image.size + n) }))) (lt-ltb SIZE_LIMIT (v.image.size + n) above)
+    | inr fits ↦ absurd (no-size (v.image.size + n) (sym (more-fits v.image.size n fits) ∙ none))
+  ]
+  lazy-outside (negsuc k) none = refl
+
+  -- or the size grows
+  pub lazy-inside : (n : ℤ) (size : ℕ) → resized_lazily v.image.size n ≡ Some size → lazy_by c v n ≡ done c (pos v.image.size) (record v { image = grown_lazily v.image size })
+  lazy-inside (pos n) size some = elim (cases_lt SIZE_LIMIT (v.image.size + n)) [
+    | inl above ↦ absurd (none-some size (sym (too-many v.image.size n above) ∙ some))
+    | inr fits ↦
+        let e : v.image.size + n ≡ size = same-size (v.image.size + n) size (sym (more-fits v.image.size n fits) ∙ some) in
+        ap (λ (b : Bool). unless b c v (λ _. done c (pos v.image.size) (record v { image = grown_lazily v.image (v.image.size + n) }))) (le-ltb SIZE_LIMIT (v.image.size + n) fits)
+        ∙ ap (λ (k : ℕ). done c (pos v.image.size) (record v { image = grown_lazily v.image k })) e
+  ]
+  lazy-inside (negsuc k) size some = absurd (none-some size some)

@@ -13,7 +13,9 @@ use Rattle.file_table.specs.declared.open_file.Target.TheVariants.{Program as Fi
 use Rattle.file_table.specs.declared.open_file.OpenFile.{OpenFile}
 use Rattle.proc_table.specs.declared.process.Call.{Call}
 use Rattle.kcall_core.specs.Words.{c_int}
-use Rattle.kcall_core.specs.Buffers.{writable, text_at, no_slashes}
+use Rattle.kcall_core.specs.Buffers.{writable_now, text_at, no_slashes}
+use Rattle.kcall_core.specs.Touches.{pages_at}
+use Rattle.kcall_core.proofs.rows.Settled.{there-ready, touch-none}
 use Rattle.kcall_core.specs.PipeEnds.{joined, parted, is_given_up}
 use Rattle.kcall_core.specs.Programs.{program_bytes}
 use Rattle.kcall_core.specs.Processes.{Live}
@@ -104,10 +106,11 @@ open_law s p l c k f mode path target was path-is named no_pipe mode-is allowed 
     subst (λ (o : Own). After s p l o (filed_state p (with_answer (pos k) (with_named k f l)) f (record { read = reads; write = writes; target = target }) s)) (sym row)
     (in-on-files.open_law s p l c k f reads writes target was free.below free.unused nobody no_pipe)
 
-made : (c : Call) (v : View) (r w : ℕ) → writable v.image c.a0 8 ≡ true → (v.free == 0) ≡ false → lowest_free v.descriptors ≡ Some r → lowest_free_above v.descriptors r ≡ Some w → make_pipe c v ≡ piped c v r (Some w)
+made : (c : Call) (v : View) (r w : ℕ) → writable_now v.image c.a0 8 ≡ true → (v.free == 0) ≡ false → lowest_free v.descriptors ≡ Some r → lowest_free_above v.descriptors r ≡ Some w → make_pipe c v ≡ piped c v r (Some w)
 unfolding make_pipe
 made c v r w there some lowest next =
-    passes _ (refused c v) _ (ap not there) ∙ takes _ r (refused c v) _ lowest ∙ takes _ w (refused c v) _ next ∙ passes _ (refused c v) _ some
+    let ready = there-ready v.image c.a0 8 there in
+    passes _ (refused c v) _ (ap not ready.0) ∙ takes _ r (refused c v) _ lowest ∙ takes _ w (refused c v) _ next ∙ takes _ v (refused c v) _ (touch-none (pages_at c.a0 8) v ready.1) ∙ passes _ (refused c v) _ some
 
 room_left : (free : ℕ) → 0 < free → (free == 0) ≡ false
 room_left free some = elim (eqb_tells free 0) [ inl zero ↦ absurd (omega (arith, some, zero.1)) | inr other ↦ other.0 ]

@@ -1,6 +1,6 @@
--- The rows of the call table in parts: a word for what is left of a row behind each test that has passed. The proofs go by them; that a row is what
--- its parts say is in RowsByParts.
-use Rattle.std.specs.Prelude.{ℕ, suc, ◌+◌, ◌-◌, ◌%◌, Bool, true, false, cond, not, ◌&&◌, ◌||◌, List, [], ◌∷◌, ◌++◌, length, take, drop, min, Option, None, Some, Result, Ok, Err, ℤ, pos, negsuc, nat_eq, nat_lt, nat_le, filter, slice_get, bytes_eq}
+-- The rows of the call table in parts: a word for what is left of a row behind each test that has passed, where no page of the call's buffer is absent.
+-- The proofs go by them; that a row is what its parts say, once its buffer is touched, is in RowsByParts.
+use Rattle.std.specs.Prelude.{◌≡◌, ℕ, suc, ◌+◌, ◌-◌, ◌%◌, Bool, true, false, cond, not, ◌&&◌, ◌||◌, List, [], ◌∷◌, ◌++◌, length, take, drop, min, Option, None, Some, Result, Ok, Err, ℤ, pos, negsuc, nat_eq, nat_lt, nat_le, filter, slice_get, bytes_eq}
 use Rattle.std.specs.List.{list_any}
 use Rattle.std.specs.Int.{cast_unsigned, w32}
 use Rattle.xk_base.specs.declared.limits.TheConstants.{NPROC, PID_MAX, MAXPATH, MAXARG, ARG_BYTES, SIZE_LIMIT, SEND_BYTES}
@@ -17,6 +17,8 @@ use Rattle.console_core.specs.Reads.{Pulled, pulled}
 use Rattle.file_table.specs.declared.open_file.End.TheVariants.{Reading, Writing}
 use Rattle.proc_table.specs.declared.process.Call.{Call}
 use Rattle.kcall_core.specs.Buffers.{readable, writable, text_at, texts_at, no_slashes, grown, shrunk}
+use Rattle.kcall_core.specs.Touches.{pages_at, has_absent, touch}
+use Rattle.addr_space.specs.Absent.{grown_lazily}
 use Rattle.kcall_core.specs.PipeEnds.{there, fit, must_wait}
 use Rattle.kcall_core.specs.Programs.{console_name, program_bytes, program_named}
 use Rattle.kcall_core.specs.View.{View, Descriptor, Shown, Shown_terminal, Shown_file, Shown_pipe}
@@ -25,7 +27,33 @@ use Rattle.kcall_core.specs.Words.{SP, A1, CLOCK_ROUND, c_int, with_value}
 use Rattle.kcall_core.specs.Processes.{Running, child_status}
 use Rattle.kcall_core.specs.Own.{Own, Called, Exited, goes_on}
 use Rattle.kcall_core.specs.Ready.{in_use}
-use Rattle.kcall_core.specs.Calls.{Row, Fork, Exit, Wait, Pipe_row, Read, Kill, Exec, Dup, Getpid, Sbrk, Sleep, Uptime, Open, Write, Close, row_of, with_a0, answered, gone, done, refused, waits, least_zombie, has_child}
+use Rattle.kcall_core.specs.Calls.{Row, Fork, Exit, Wait, Pipe_row, Read, Kill, Exec, Dup, Getpid, Sbrk, Sleep, Uptime, Open, Write, Close, Sbrklazy, row_of, with_a0, answered, gone, done, refused, waits, least_zombie, has_child}
+
+-- ---- pages that come first
+
+-- t is v, once some pages are touched
+abbrev pub IsBrought : View → View → Type 0
+IsBrought v t = (pages : List ℕ) × (touch pages v ≡ Some t)
+
+-- how many bytes a wait stores
+abbrev pub told_bytes : Call → ℕ
+told_bytes c = cond (nat_eq c.a0 0) 0 4
+
+-- how many bytes a number asks for
+abbrev pub length_of_int : ℤ → ℕ
+length_of_int (pos n) = n
+length_of_int (negsuc k) = 0
+
+-- the pages that a row touches: those of the buffer into which it stores
+abbrev pub buffer_of : Call → Option Row → List ℕ
+buffer_of c (Some Wait) = pages_at c.a0 (told_bytes c)
+buffer_of c (Some Pipe_row) = pages_at c.a0 8
+buffer_of c (Some Read) = pages_at c.a1 (length_of_int (c_int c.a2))
+buffer_of c _ = []
+
+-- none of them is absent
+abbrev pub IsSettled : Call → View → Type 0
+IsSettled c v = has_absent (buffer_of c (row_of c.number)) v.image ≡ false
 
 -- refused where the test holds, else as the row goes on
 abbrev pub unless : Bool → Call → View → (Unit {0} → Own) → Own
@@ -109,10 +137,6 @@ unless_nothing false c v go = go tt
 abbrev pub moving : Call → View → (is_there : Bool) → (n : ℤ) → (ℕ → Own) → Own
 moving c v is_there (negsuc k) go = refused c v
 moving c v is_there (pos n) go = unless_nothing (nat_eq n 0) c v (λ _. unless (not is_there) c v (λ _. go n))
-
-abbrev pub length_of_int : ℤ → ℕ
-length_of_int (pos n) = n
-length_of_int (negsuc k) = 0
 
 -- ---- read
 
@@ -282,6 +306,17 @@ sbrk_by c v (negsuc k) = unless (nat_le v.image.size k || nat_lt SIZE_LIMIT (v.i
 abbrev pub sbrk_parts : Call → View → Own
 sbrk_parts c v = sbrk_by c v (c_int c.a0)
 
+-- the size grows, and no page comes
+abbrev pub lazy_to : Call → View → ℕ → Own
+lazy_to c v size = unless (nat_lt SIZE_LIMIT size) c v (λ _. done c (pos v.image.size) (record v { image = grown_lazily v.image size }))
+
+abbrev pub lazy_by : Call → View → ℤ → Own
+lazy_by c v (pos n) = lazy_to c v (v.image.size + n)
+lazy_by c v (negsuc k) = refused c v
+
+abbrev pub sbrklazy_parts : Call → View → Own
+sbrklazy_parts c v = lazy_by c v (c_int c.a0)
+
 abbrev pub sleep_for : Call → View → ℤ → Own
 sleep_for c v (negsuc k) = done c (pos 0) v
 sleep_for c v (pos n) = cond (nat_lt ((v.clock + CLOCK_ROUND - c.clock) % CLOCK_ROUND) n) (waits c 0 v) (done c (pos 0) v)
@@ -343,6 +378,7 @@ perform_row c v (Some Uptime) = done c (pos v.clock) v
 perform_row c v (Some Open) = open_parts c v
 perform_row c v (Some Write) = write_parts c v
 perform_row c v (Some Close) = close_parts c v
+perform_row c v (Some Sbrklazy) = sbrklazy_parts c v
 
 -- one step of a call in progress
 unfoldable pub perform_parts : Call → View → Own

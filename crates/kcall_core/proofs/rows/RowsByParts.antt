@@ -1,33 +1,38 @@
--- Each row of the call table is what its parts say.
-use Rattle.std.proofs.Common.{◌≡◌, ℕ, suc, ◌+◌, ◌-◌, ◌≤◌, ◌<◌, Bool, true, false, cond, not, ◌&&◌, ◌||◌, List, [], ◌∷◌, Option, Some, None, inl, inr, refl, sym, ap, ◌∙◌, arith}
+-- Each row of the call table is what its parts say, once its buffer is touched, or it is refused.
+use Rattle.std.proofs.Common.{◌≡◌, ℕ, suc, ◌+◌, ◌-◌, ◌≤◌, ◌<◌, Bool, true, false, cond, not, ◌&&◌, ◌||◌, List, [], ◌∷◌, Option, Some, None, inl, inr, refl, sym, ap, ◌∙◌, subst, arith, ◌⊎◌}
 use Rattle.std.specs.Prelude.{ℤ, ◌+ℤ◌, pos, negsuc, Result, Ok, Err, nat_eq, nat_lt, nat_le, option_map, find, is_some, bytes_eq}
 use Rattle.std.specs.List.{list_any}
-use Rattle.std.specs.Prelude.{length, filter}
+use Rattle.std.specs.Prelude.{length, filter, take, drop, min, slice_get, if◌then◌else◌, ◌==◌}
+use Rattle.console_core.specs.Reads.{pulled}
+use Rattle.kcall_core.specs.Programs.{program_bytes}
 use Rattle.std.specs.Int.{cast_unsigned, w32}
 use Rattle.xk_base.specs.declared.limits.TheConstants.{NPROC, PID_MAX, MAXPATH, MAXARG, ARG_BYTES, SIZE_LIMIT}
 use Rattle.xk_base.specs.Words.{le_bytes}
 use Rattle.xk_base.specs.Image.{Image, price}
 use Rattle.xk_base.specs.Bytes.{write_image}
-use Rattle.pipe_core.specs.Pipe.{Pipe, with_more}
+use Rattle.pipe_core.specs.Pipe.{Pipe, with_more, without_first}
 use Rattle.file_table.specs.declared.open_file.End.{End}
 use Rattle.kcall_core.specs.Buffers.{readable, writable, text_at, texts_at, no_slashes, grown, shrunk}
+use Rattle.kcall_core.specs.Touches.{pages_at, has_absent, brought, touch}
+use Rattle.addr_space.specs.Absent.{grown_lazily}
+use Rattle.kcall_core.proofs.rows.Settled.{touch-none, touch-comes, touch-settles, touch-again, store-brought}
 use Rattle.kcall_core.specs.PipeEnds.{fit, must_wait}
 use Rattle.kcall_core.specs.Processes.{Child, has_status, child_status}
 use Rattle.kcall_core.specs.Programs.{program_named, console_name, place_of}
 use Rattle.kcall_core.proofs.rows.Resized.{grown-price}
 use Rattle.std.proofs.lemmas.Bool.{cases_lt, lt-ltb, le-ltb, le-leb, lt-leb}
 use Rattle.std.proofs.lemmas.Bool.Decides.{eqb_tells}
-use Rattle.kcall_core.specs.Tables.{lowest_free, lowest_free_above, change_pipe, with_descriptor}
+use Rattle.kcall_core.specs.Tables.{lowest_free, lowest_free_above, change_pipe, advance, with_descriptor}
 use Rattle.xk_base.specs.Loaded.{Loaded, loaded}
 use Rattle.xk_base.specs.declared.errors.ExecError.{ExecError}
 use Rattle.proc_table.specs.declared.process.Call.{Call}
-use Rattle.kcall_core.specs.Words.{c_int, with_value}
+use Rattle.kcall_core.specs.Words.{c_int, minus_one, with_value, or_zero}
 use Rattle.kcall_core.specs.State.{ProgramFile}
 use Rattle.kcall_core.specs.View.{View, Descriptor, Shown, Shown_terminal, Shown_file, Shown_pipe}
-use Rattle.kcall_core.specs.Own.{Own, Exited}
-use Rattle.kcall_core.proofs.rows.RowParts.{unless, unless_nothing, moving, length_of_int, A_program, Named, Nothing, The_console, close_number, close_on, close_parts, done_at, dup_at, dup_number, dup_on, dup_parts, exec_loaded, exec_parts, exec_path, exec_program, fork_parts, forked, grow_to, kill_parts, kill_pid, killed_by, kind_named, next_bytes, open_at, open_parts, open_path, opened_as, perform_parts, perform_row, pipe_parts, piped, piped_from, program_place, read_on, read_parts, reaped, running, sbrk_by, sbrk_parts, shrink_to, sleep_for, sleep_parts, told, wait_parts, without_child, write_on, write_parts, write_pipe}
+use Rattle.kcall_core.specs.Own.{Own, Called, Blocked, Exited}
+use Rattle.kcall_core.proofs.rows.RowParts.{IsBrought, IsSettled, buffer_of, told_bytes, lazy_by, sbrklazy_parts, unless, unless_nothing, moving, length_of_int, A_program, Named, Nothing, The_console, close_number, close_on, close_parts, done_at, dup_at, dup_number, dup_on, dup_parts, exec_loaded, exec_parts, exec_path, exec_program, fork_parts, forked, grow_to, kill_parts, kill_pid, killed_by, kind_named, next_bytes, open_at, open_parts, open_path, opened_as, perform_parts, perform_row, pipe_parts, piped, piped_from, program_place, read_on, read_parts, reaped, running, sbrk_by, sbrk_parts, shrink_to, sleep_for, sleep_parts, told, wait_parts, without_child, write_on, write_parts, write_pipe}
 use Rattle.kcall_core.specs.Ready.{in_use}
-use Rattle.kcall_core.specs.Calls.{Row, Fork, Exit, Wait, Pipe_row, Read, Kill, Exec, Dup, Getpid, Sbrk, Sleep, Uptime, Open, Write, Close, row_of, refused, done, waits, has_mode, close, dup, exec, exit, fork, getpid, gone, has_child, kill, least_zombie, make_pipe, open_file, perform, read, row, sbrk, sleep, uptime, wait, what_is_named, write}
+use Rattle.kcall_core.specs.Calls.{Row, Fork, Exit, Wait, Pipe_row, Read, Kill, Exec, Dup, Getpid, Sbrk, Sleep, Uptime, Open, Write, Close, Sbrklazy, row_of, refused, done, waits, has_mode, close, dup, exec, exit, fork, getpid, gone, has_child, kill, least_zombie, make_pipe, open_file, perform, read, row, sbrk, sbrklazy, sleep, uptime, wait, what_is_named, write}
 use Rattle.kcall_core.specs.Lines.{◌>>=◌, ◌>>◌, ◌when◌, ◌or◌, natural, result_of}
 
 -- ---- the lines of a row
@@ -41,6 +46,12 @@ pub natural_same : (z : ℤ) (e : Own) (f : ℕ → Own) (g : ℤ → Own) → (
 unfolding ◌>>=◌ ◌>>◌ ◌when◌ ◌or◌
 natural_same (pos n) e f g below same = same n
 natural_same (negsuc k) e f g below same = below k
+
+-- the same, where it is told that the number is this one
+natural_at : (z : ℤ) (e : Own) (f : ℕ → Own) (g : ℤ → Own) → ((k : ℕ) → e ≡ g (negsuc k)) → ((n : ℕ) → z ≡ pos n → f n ≡ g (pos n)) → ((natural z or e) >>= f) ≡ g z
+unfolding ◌>>=◌ ◌>>◌ ◌when◌ ◌or◌
+natural_at (pos n) e f g below same = same n refl
+natural_at (negsuc k) e f g below same = below k
 
 pub when_cond : (b : Bool) (e x : Own) → ((e when b) >> x) ≡ cond b e x
 unfolding ◌>>=◌ ◌>>◌ ◌when◌ ◌or◌
@@ -184,15 +195,23 @@ module _ (c : Call) (v : View) where
 
   -- ---- wait
 
+  -- where no page of its buffer is absent, a row goes on as it is
+  touched_same : (pages : List ℕ) → has_absent pages v.image ≡ false → (f : View → Own) → ((touch pages v or refused c v) >>= f) ≡ f v
+  unfolding ◌>>=◌ ◌>>◌ ◌when◌ ◌or◌
+  touched_same pages none f = ap (λ o. (o or refused c v) >>= f) (touch-none pages v none)
+
   -- the child that is taken
-  abbrev taken : ℕ → Own
-  taken q = done c (pos q) (record v {
-    image = cond (nat_eq c.a0 0) v.image (write_image v.image c.a0 (le_bytes 4 (cast_unsigned w32 (child_status (v.children q)))));
-    pids = filter (λ p. not (nat_eq p q)) v.pids;
-    children = with_value v.children q None;
+  abbrev taken : View → ℕ → Own
+  taken t q = done c (pos q) (record t {
+    image = cond (nat_eq c.a0 0) t.image (write_image t.image c.a0 (le_bytes 4 (cast_unsigned w32 (child_status (t.children q)))));
+    pids = filter (λ p. not (nat_eq p q)) t.pids;
+    children = with_value t.children q None;
   })
 
-  told_same : (q : ℕ) → taken q ≡ done c (pos q) (told c.a0 (child_status (v.children q)) (without_child q v))
+  abbrev taking : View → Own
+  taking t = (least_zombie t or waits c 0 t) >>= taken t
+
+  told_same : (q : ℕ) → taken v q ≡ done c (pos q) (told c.a0 (child_status (v.children q)) (without_child q v))
   told_same q = by (nat_eq c.a0 0)
     where
       by : (b : Bool) → done c (pos q) (record (without_child q v) { image = cond b v.image (write_image v.image c.a0 (le_bytes 4 (cast_unsigned w32 (child_status (v.children q))))) })
@@ -200,15 +219,16 @@ module _ (c : Call) (v : View) where
       by true = refl
       by false = refl
 
-  by_zombie : (o : Option ℕ) → least_zombie v ≡ o → ((refused c v when not (has_child v)) >> ((o or waits c 0 v) >>= taken)) ≡ reaped c v o
+  by_zombie : (o : Option ℕ) → least_zombie v ≡ o → ((refused c v when not (has_child v)) >> ((o or waits c 0 v) >>= taken v)) ≡ reaped c v o
   unfolding ◌>>=◌ ◌>>◌ ◌when◌ ◌or◌
   by_zombie None is = not_when (has_child v) (refused c v) (waits c 0 v)
   by_zombie (Some q) is =
-      ap (λ b. (refused c v when not b) >> taken q) (any_found (λ k. has_status (v.children k)) (λ k. is_some (v.children k)) (λ k. status_child (v.children k)) v.pids q is) ∙ told_same q
+      ap (λ b. (refused c v when not b) >> taken v q) (any_found (λ k. has_status (v.children k)) (λ k. is_some (v.children k)) (λ k. status_child (v.children k)) v.pids q is) ∙ told_same q
 
-  pub wait_same : wait c v ≡ wait_parts c v
+  pub wait_same : has_absent (pages_at c.a0 (told_bytes c)) v.image ≡ false → wait c v ≡ wait_parts c v
   unfolding wait
-  wait_same = when_unless (not (nat_eq c.a0 0) && not (writable v.image c.a0 4)) _ (λ _. reaped c v (least_zombie v)) (by_zombie (least_zombie v) refl)
+  wait_same none = when_unless (not (nat_eq c.a0 0) && not (writable v.image c.a0 4)) _ (λ _. reaped c v (least_zombie v))
+      (ap (λ o. (refused c v when not (has_child v)) >> o) (touched_same (pages_at c.a0 (told_bytes c)) none taking) ∙ by_zombie (least_zombie v) refl)
 
   -- ---- pipe
 
@@ -219,9 +239,15 @@ module _ (c : Call) (v : View) where
   pipe_by false true = ends_so (lowest_free v.descriptors) (refused c v) _ (λ r. ends_so (lowest_free_above v.descriptors r) (refused c v) _ (λ w. refl))
   pipe_by false false = or_same (lowest_free v.descriptors) (refused c v) _ (piped_from c v) refl (λ r. or_same (lowest_free_above v.descriptors r) (refused c v) _ (piped c v r) refl (λ w. refl))
 
-  pub pipe_same : make_pipe c v ≡ pipe_parts c v
-  unfolding make_pipe
-  pipe_same = pipe_by (not (writable v.image c.a0 8)) (nat_eq v.free 0)
+  -- once there is a descriptor for each end
+  abbrev piping : (r w : ℕ) → View → Own
+  piping r w t = (refused c v when nat_eq t.free 0) >> piped c t r (Some w)
+
+  pub pipe_same : has_absent (pages_at c.a0 8) v.image ≡ false → make_pipe c v ≡ pipe_parts c v
+  unfolding make_pipe ◌>>=◌ ◌>>◌ ◌when◌ ◌or◌
+  pipe_same none =
+      (λ i. (refused c v when not (writable v.image c.a0 8)) >> ((lowest_free v.descriptors or refused c v) >>= (λ r. (lowest_free_above v.descriptors r or refused c v) >>= (λ w. touched_same (pages_at c.a0 8) none (piping r w) i))))
+      ∙ pipe_by (not (writable v.image c.a0 8)) (nat_eq v.free 0)
 
   -- ---- exec
 
@@ -248,26 +274,29 @@ module _ (c : Call) (v : View) where
   used_same : (z : ℤ) (f : Descriptor → Own) (g : Option Descriptor → Own) → refused c v ≡ g None → ((d : Descriptor) → f d ≡ g (Some d)) → ((natural z or refused c v) >>= (λ fd. (v.descriptors fd or refused c v) >>= f)) ≡ g (in_use v z)
   used_same z f g none some = natural_same z (refused c v) _ (λ z. g (in_use v z)) (λ k. none) (λ fd. or_same (v.descriptors fd) (refused c v) f g none some)
 
-  moving_same : (b : Bool) (is_there : ℕ → Bool) (z : ℤ) (f g : ℕ → Own) → ((n : ℕ) → f n ≡ g n)
+  moving_same : (b : Bool) (is_there : ℕ → Bool) (z : ℤ) (f g : ℕ → Own) → ((n : ℕ) → z ≡ pos n → f n ≡ g n)
       → ((refused c v when not b) >> ((natural z or refused c v) >>= (λ n. (done c (pos 0) v when nat_eq n 0) >> ((refused c v when not (is_there n)) >> f n)))) ≡ unless (not b) c v (λ _. moving c v (is_there (length_of_int z)) z g)
   moving_same b is_there z f g same = when_unless (not b) _ (λ _. moving c v (is_there (length_of_int z)) z g)
-      (natural_same z (refused c v) _ (λ z. moving c v (is_there (length_of_int z)) z g) (λ k. refl)
-      (λ n. when_nothing (nat_eq n 0) _ (λ _. unless (not (is_there n)) c v (λ _. g n)) (when_unless (not (is_there n)) (f n) (λ _. g n) (same n))))
+      (natural_at z (refused c v) _ (λ z. moving c v (is_there (length_of_int z)) z g) (λ k. refl)
+      (λ n is. when_nothing (nat_eq n 0) _ (λ _. unless (not (is_there n)) c v (λ _. g n)) (when_unless (not (is_there n)) (f n) (λ _. g n) (same n is))))
 
-  pub read_same : read c v ≡ read_parts c v
-  unfolding read
-  read_same = used_same (c_int c.a0) _ (read_on c v) refl (by_kind _ _
-      (λ file r w. moving_same r (writable v.image c.a1) (c_int c.a2) _ _ (λ n. refl))
-      (λ file r w program offset. moving_same r (writable v.image c.a1) (c_int c.a2) _ _ (λ n. refl))
-      (λ file r w name end pipe. moving_same r (writable v.image c.a1) (c_int c.a2) _ _ (λ n. when_cond (must_wait pipe) (waits c 0 v) _)))
+  pub read_same : has_absent (pages_at c.a1 (length_of_int (c_int c.a2))) v.image ≡ false → read c v ≡ read_parts c v
+  unfolding read ◌>>=◌ ◌>>◌ ◌when◌ ◌or◌
+  read_same none = used_same (c_int c.a0) _ (read_on c v) refl (by_kind _ _
+      (λ file r w. moving_same r (writable v.image c.a1) (c_int c.a2) _ _ (λ n is. touched_same (pages_at c.a1 n) (at n is) _))
+      (λ file r w program offset. moving_same r (writable v.image c.a1) (c_int c.a2) _ _ (λ n is. touched_same (pages_at c.a1 n) (at n is) _))
+      (λ file r w name end pipe. moving_same r (writable v.image c.a1) (c_int c.a2) _ _ (λ n is. touched_same (pages_at c.a1 n) (at n is) _ ∙ when_cond (must_wait pipe) (waits c 0 v) _)))
+    where
+      at : (n : ℕ) → c_int c.a2 ≡ pos n → has_absent (pages_at c.a1 n) v.image ≡ false
+      at n is = ap (λ z. has_absent (pages_at c.a1 (length_of_int z)) v.image) (sym is) ∙ none
 
   pub write_same : write c v ≡ write_parts c v
   unfolding write
   write_same = used_same (c_int c.a0) _ (write_on c v) refl (by_kind _ _
-      (λ file r w. moving_same w (readable v.image c.a1) (c_int c.a2) _ _ (λ n. refl))
-      (λ file r w program offset. moving_same w (readable v.image c.a1) (c_int c.a2) _ _ (λ n. refl))
+      (λ file r w. moving_same w (readable v.image c.a1) (c_int c.a2) _ _ (λ n is. refl))
+      (λ file r w program offset. moving_same w (readable v.image c.a1) (c_int c.a2) _ _ (λ n is. refl))
       (λ file r w name end pipe. moving_same w (readable v.image c.a1) (c_int c.a2) _ (λ n. write_pipe c v name pipe n)
-      (λ n. when_unless (nat_eq pipe.readers 0) _ (λ _. done_at c n (c.moved + fit pipe (n - c.moved)) (record v { descriptors = change_pipe name (with_more (next_bytes c v (fit pipe (n - c.moved))) pipe) v.descriptors })) refl)))
+      (λ n is. when_unless (nat_eq pipe.readers 0) _ (λ _. done_at c n (c.moved + fit pipe (n - c.moved)) (record v { descriptors = change_pipe name (with_more (next_bytes c v (fit pipe (n - c.moved))) pipe) v.descriptors })) refl)))
 
   -- ---- sbrk
 
@@ -370,34 +399,439 @@ module _ (c : Call) (v : View) where
       (λ path. ap (λ o. (o or refused c v) >>= (λ shown. (natural (c_int c.a1) or refused c v) >>= (λ mode. (refused c v when not (has_mode shown mode)) >> ((lowest_free v.descriptors or refused c v) >>= opened mode shown)))) (named_same v (no_slashes path))
       ∙ by_name (lowest_free v.descriptors) (kind_named (no_slashes path) v) (c_int c.a1))
 
+  -- ---- sbrklazy
+
+  pub sbrklazy_same : sbrklazy c v ≡ sbrklazy_parts c v
+  unfolding sbrklazy
+  sbrklazy_same = natural_same (c_int c.a0) _ _ (lazy_by c v) (λ k. refl)
+      (λ n. when_unless (nat_lt SIZE_LIMIT (v.image.size + n)) _ (λ _. done c (pos v.image.size) (record v { image = grown_lazily v.image (v.image.size + n) })) refl)
+
   -- ---- the table
 
-  by_row : (r : Row) → row r c v ≡ perform_row c v (Some r)
+  by_row : (r : Row) → has_absent (buffer_of c (Some r)) v.image ≡ false → row r c v ≡ perform_row c v (Some r)
   unfolding row perform_row
-  by_row Fork = fork_same
-  by_row Exit = exit_same
-  by_row Wait = wait_same
-  by_row Pipe_row = pipe_same
-  by_row Read = read_same
-  by_row Kill = kill_same
-  by_row Exec = exec_same
-  by_row Dup = dup_same
-  by_row Getpid = getpid_same
-  by_row Sbrk = sbrk_same
-  by_row Sleep = sleep_same
-  by_row Uptime = uptime_same
-  by_row Open = open_same
-  by_row Write = write_same
-  by_row Close = close_same
+  by_row Fork none = fork_same
+  by_row Exit none = exit_same
+  by_row Wait none = wait_same none
+  by_row Pipe_row none = pipe_same none
+  by_row Read none = read_same none
+  by_row Kill none = kill_same
+  by_row Exec none = exec_same
+  by_row Dup none = dup_same
+  by_row Getpid none = getpid_same
+  by_row Sbrk none = sbrk_same
+  by_row Sleep none = sleep_same
+  by_row Uptime none = uptime_same
+  by_row Open none = open_same
+  by_row Write none = write_same
+  by_row Close none = close_same
+  by_row Sbrklazy none = sbrklazy_same
 
   refused_row : refused c v ≡ perform_row c v None
   unfolding perform_row
   refused_row = refl
 
-  pub perform_same : perform c v ≡ perform_parts c v
+  by_number : (o : Option Row) → has_absent (buffer_of c o) v.image ≡ false → ((o or refused c v) >>= (λ r. row r c v)) ≡ perform_row c v o
+  unfolding ◌>>=◌ ◌>>◌ ◌when◌ ◌or◌
+  by_number None none = refused_row
+  by_number (Some r) none = by_row r none
+
+  pub perform_same : IsSettled c v → perform c v ≡ perform_parts c v
   unfolding perform perform_parts
-  perform_same = or_same (row_of c.number) (refused c v) (λ r. row r c v) (perform_row c v) refused_row by_row
+  perform_same none = by_number (row_of c.number) none
 
 -- What is asked of a row may be asked of its parts
-pub by_parts : {A : Type 0} (asked : Own → A) {a : A} (c : Call) (v : View) → asked (perform_parts c v) ≡ a → asked (perform c v) ≡ a
-by_parts asked c v is = ap asked (perform_same c v) ∙ is
+pub by_parts : {A : Type 0} (asked : Own → A) {a : A} (c : Call) (v : View) → IsSettled c v → asked (perform_parts c v) ≡ a → asked (perform c v) ≡ a
+by_parts asked c v none is = ap asked (perform_same c v none) ∙ is
+
+-- ---- a row whose buffer has absent pages
+
+-- the view v with another image, and another number of free frames
+abbrev with_image : View → Image → ℕ → View
+with_image v image free = record v { image = image; free = free }
+
+module _ (c : Call) (v : View) where
+  -- it doesn't answer -1
+  abbrev Answers : Own → Type 0
+  Answers x = (number : ℤ) → x.answer ≡ Called number minus_one → ⊥
+
+  -- it is refused, or it is this, and doesn't answer -1
+  abbrev Either : Own → Own → Type 0
+  Either x y = (x ≡ refused c v) ⊎ ((x ≡ y) × Answers x)
+
+  or_either : {A : Type 0} (o : Option A) (e : Own) (f g : A → Own) → ((a : A) → o ≡ Some a → Either (f a) (g a)) → Either ((o or refused c v) >>= f) ((o or e) >>= g)
+  unfolding ◌>>=◌ ◌>>◌ ◌when◌ ◌or◌
+  or_either None e f g go = inl refl
+  or_either (Some a) e f g go = go a refl
+
+  when_either : (b d : Bool) (e x y : Own) → (b ≡ false → d ≡ false) → Either x y → Either ((refused c v when b) >> x) ((e when d) >> y)
+  unfolding ◌>>=◌ ◌>>◌ ◌when◌ ◌or◌
+  when_either true d e x y same go = inl refl
+  when_either false d e x y same go = subst (λ b. Either x ((e when b) >> y)) (sym (same refl)) go
+
+  -- a test that fails
+  past_either : (b : Bool) (d e x y : Own) → b ≡ false → Either x y → Either ((d when b) >> x) ((e when b) >> y)
+  unfolding ◌>>=◌ ◌>>◌ ◌when◌ ◌or◌
+  past_either b d e x y fails go = subst (λ b. Either ((d when b) >> x) ((e when b) >> y)) (sym fails) go
+
+  when_refused : (b : Bool) (x : Own) → x ≡ refused c v → ((refused c v when b) >> x) ≡ refused c v
+  unfolding ◌>>=◌ ◌>>◌ ◌when◌ ◌or◌
+  when_refused true x is = refl
+  when_refused false x is = is
+
+  past_refused : (b : Bool) (d x : Own) → b ≡ false → x ≡ refused c v → ((d when b) >> x) ≡ refused c v
+  unfolding ◌>>=◌ ◌>>◌ ◌when◌ ◌or◌
+  past_refused b d x fails is = ap (λ b. (d when b) >> x) fails ∙ is
+
+  or_refused : {A : Type 0} (o : Option A) (f : A → Own) → ((a : A) → o ≡ Some a → f a ≡ refused c v) → ((o or refused c v) >>= f) ≡ refused c v
+  unfolding ◌>>=◌ ◌>>◌ ◌when◌ ◌or◌
+  or_refused None f same = refl
+  or_refused (Some a) f same = same a refl
+
+  none_refused : (o : Option View) (f : View → Own) → o ≡ None → ((o or refused c v) >>= f) ≡ refused c v
+  unfolding ◌>>=◌ ◌>>◌ ◌when◌ ◌or◌
+  none_refused o f is = ap (λ o. (o or refused c v) >>= f) is
+
+  -- a buffer that may be written may be so once its pages are there
+  room-there : (i : Image) (ps : List ℕ) (a n : ℕ) → i ≡ brought ps v.image → not (writable v.image a n) ≡ false → not (writable i a n) ≡ false
+  room-there i ps a n is fits = ap not (ap (λ j. writable j a n) is ∙ store-brought ps v.image a n (not-not (writable v.image a n) fits))
+    where
+      not-not : (b : Bool) → not b ≡ false → b ≡ true
+      not-not true e = refl
+      not-not false e = sym e
+
+  room-where : (z : Bool) (i : Image) (ps : List ℕ) (a n : ℕ) → i ≡ brought ps v.image → (z && not (writable v.image a n)) ≡ false → (z && not (writable i a n)) ≡ false
+  room-where true i ps a n is fits = room-there i ps a n is fits
+  room-where false i ps a n is fits = refl
+
+  natural-is : (z : ℤ) (n : ℕ) → natural z ≡ Some n → length_of_int z ≡ n
+  natural-is (pos m) n e = ap (λ (o : Option ℕ). or_zero o) e
+  natural-is (negsuc k) n e = let no : ⊥ = cc in absurd no
+
+  -- a buffer with an absent page has a byte
+  some-bytes : (a n : ℕ) → has_absent (pages_at a n) v.image ≡ true → nat_eq n 0 ≡ false
+  some-bytes a n absent = elim (eqb_tells n 0) [
+    | inl is ↦ let w : has_absent (pages_at a 0) v.image ≡ true = ap (λ k. has_absent (pages_at a k) v.image) (sym is.1) ∙ absent in let none : ⊥ = cc in absurd none
+    | inr apart ↦ apart.0
+  ]
+
+  -- ---- where its pages cost more than is free, it is refused
+
+  pub wait_none : touch (pages_at c.a0 (told_bytes c)) v ≡ None → wait c v ≡ refused c v
+  unfolding wait
+  wait_none e = when_refused (not (nat_eq c.a0 0) && not (writable v.image c.a0 4)) _ (when_refused (not (has_child v)) _ (none_refused (touch (pages_at c.a0 (told_bytes c)) v) _ e))
+
+  pub pipe_none : touch (pages_at c.a0 8) v ≡ None → make_pipe c v ≡ refused c v
+  unfolding make_pipe
+  pipe_none e =
+      when_refused (not (writable v.image c.a0 8)) _ (or_refused (lowest_free v.descriptors) _ (λ r there. or_refused (lowest_free_above v.descriptors r) _ (λ w above. none_refused (touch (pages_at c.a0 8) v) _ e)))
+
+  pub read_none : has_absent (pages_at c.a1 (length_of_int (c_int c.a2))) v.image ≡ true → touch (pages_at c.a1 (length_of_int (c_int c.a2))) v ≡ None → read c v ≡ refused c v
+  unfolding read
+  read_none absent e =
+      or_refused (natural (c_int c.a0)) _ (λ fd is. or_refused (v.descriptors fd) _ (λ d used. when_refused (not d.read) _
+      (or_refused (natural (c_int c.a2)) _ (λ n asked.
+      let length = natural-is (c_int c.a2) n asked in
+      past_refused (nat_eq n 0) _ _ (some-bytes c.a1 n (ap (λ k. has_absent (pages_at c.a1 k) v.image) (sym length) ∙ absent))
+      (when_refused (not (writable v.image c.a1 n)) _ (none_refused (touch (pages_at c.a1 n) v) _ (ap (λ k. touch (pages_at c.a1 k) v) (sym length) ∙ e)))))))
+
+  -- ---- and else it comes to what it comes to once they are there
+
+  -- what is left of a read, once its buffer is there
+  abbrev reading : Descriptor → ℕ → View → Own
+  reading d n t = elim d.shown [
+    | Shown_file program offset ↦
+        let bytes = take n (drop offset (program_bytes (slice_get t.programs program))) in
+        done c (pos (length bytes)) (record t { image = write_image t.image c.a1 bytes; descriptors = advance d.file (length bytes) t.descriptors })
+    | Shown_pipe name end pipe ↦
+        (waits c 0 t when (length pipe.bytes == 0) && not (pipe.writers == 0))
+        >> (let k = min n (length pipe.bytes) in
+        done c (pos k) (record t { image = write_image t.image c.a1 (take k pipe.bytes); descriptors = change_pipe name (without_first k pipe) t.descriptors }))
+    | Shown_terminal ↦
+        let line = pulled (c.moved == 0) (n - c.moved) t.console.committed in
+        let k = c.moved + length line.taken in
+        let after = record t { image = write_image t.image (c.a1 + c.moved) line.taken; console = record t.console { committed = line.left } } in
+        if line.ended then done c (pos k) after else waits c k after
+  ]
+
+  called_not : (m : ℤ) (k : ℕ) (number : ℤ) → Called m (pos k) ≡ Called number minus_one → ⊥
+  called_not m k number e = cc
+
+  blocked_not : (m number : ℤ) → Blocked m ≡ Called number minus_one → ⊥
+  blocked_not m number e = cc
+
+  either_answers : (b : Bool) (x y : Own) → Answers x → Answers y → Answers (cond b x y)
+  either_answers true x y yes-x yes-y = yes-x
+  either_answers false x y yes-x yes-y = yes-y
+
+  when_answers : (b : Bool) (x y : Own) → Answers x → Answers y → Answers ((x when b) >> y)
+  unfolding ◌>>=◌ ◌>>◌ ◌when◌ ◌or◌
+  when_answers true x y yes-x yes-y = yes-x
+  when_answers false x y yes-x yes-y = yes-y
+
+  taking_answers : (u : View) (o : Option ℕ) → Answers ((o or waits c 0 u) >>= taken c v u)
+  unfolding ◌>>=◌ ◌>>◌ ◌when◌ ◌or◌
+  taking_answers u None = blocked_not c.number
+  taking_answers u (Some q) = called_not c.number q
+
+  module _ (i : Image) (free : ℕ) where
+    abbrev t : View
+    t = with_image v i free
+
+    touch_either : (ps : List ℕ) (f g : View → Own) → touch ps v ≡ Some t → Either (f t) (g t) → Either ((touch ps v or refused c v) >>= f) ((touch ps t or refused c t) >>= g)
+    unfolding ◌>>=◌ ◌>>◌ ◌when◌ ◌or◌
+    touch_either ps f g comes go =
+        subst (λ o. Either ((o or refused c v) >>= f) ((touch ps t or refused c t) >>= g)) (sym comes)
+        (subst (λ o. Either (f t) ((o or refused c t) >>= g)) (sym (touch-again ps v t comes)) go)
+
+    wait_either : touch (pages_at c.a0 (told_bytes c)) v ≡ Some t → Either (wait c v) (wait c t)
+    unfolding wait
+    wait_either comes =
+        let ps = pages_at c.a0 (told_bytes c) in
+        when_either (not (nat_eq c.a0 0) && not (writable v.image c.a0 4)) (not (nat_eq c.a0 0) && not (writable i c.a0 4)) (refused c t) _ _ (room-where (not (nat_eq c.a0 0)) i ps c.a0 4 (touch-comes ps v t comes).image)
+        (when_either (not (has_child v)) (not (has_child v)) (refused c t) _ _ (λ e. e) (touch_either ps _ _ comes (inr (refl, taking_answers t (least_zombie t)))))
+
+    pipe_either : touch (pages_at c.a0 8) v ≡ Some t → Either (make_pipe c v) (make_pipe c t)
+    unfolding make_pipe
+    pipe_either comes =
+        let ps = pages_at c.a0 8 in
+        when_either (not (writable v.image c.a0 8)) (not (writable i c.a0 8)) (refused c t) _ _ (room-there i ps c.a0 8 (touch-comes ps v t comes).image)
+        (or_either (lowest_free v.descriptors) (refused c t) _ _ (λ r there. or_either (lowest_free_above v.descriptors r) (refused c t) _ _ (λ w above.
+        touch_either ps _ _ comes (when_either (nat_eq free 0) (nat_eq free 0) (refused c t) _ _ (λ e. e) (inr (refl, called_not c.number 0))))))
+
+    reading_answers : (n : ℕ) (d : Descriptor) → Answers (reading d n t)
+    unfolding ◌>>=◌ ◌>>◌ ◌when◌ ◌or◌
+    reading_answers n d = by d.shown
+      where
+        by : (s : Shown) → Answers (reading (record d { shown = s }) n t)
+        by (Shown_file program offset) = called_not c.number (length (take n (drop offset (program_bytes (slice_get v.programs program)))))
+        by (Shown_pipe name end pipe) =
+            when_answers ((length pipe.bytes == 0) && not (pipe.writers == 0)) (waits c 0 t)
+            (done c (pos (min n (length pipe.bytes))) (record t { image = write_image t.image c.a1 (take (min n (length pipe.bytes)) pipe.bytes); descriptors = change_pipe name (without_first (min n (length pipe.bytes)) pipe) t.descriptors }))
+            (blocked_not c.number) (called_not c.number (min n (length pipe.bytes)))
+        by Shown_terminal =
+            let line = pulled (c.moved == 0) (n - c.moved) v.console.committed in
+            let after = record t { image = write_image t.image (c.a1 + c.moved) line.taken; console = record t.console { committed = line.left } } in
+            either_answers line.ended (done c (pos (c.moved + length line.taken)) after) (waits c (c.moved + length line.taken) after) (called_not c.number (c.moved + length line.taken)) (blocked_not c.number)
+
+    read_either : has_absent (pages_at c.a1 (length_of_int (c_int c.a2))) v.image ≡ true → touch (pages_at c.a1 (length_of_int (c_int c.a2))) v ≡ Some t → Either (read c v) (read c t)
+    unfolding read
+    read_either absent comes =
+        or_either (natural (c_int c.a0)) (refused c t) _ _ (λ fd is. or_either (v.descriptors fd) (refused c t) _ _ (λ d used.
+        when_either (not d.read) (not d.read) (refused c t) _ _ (λ e. e)
+        (or_either (natural (c_int c.a2)) (refused c t) _ _ (λ n asked.
+        let length = natural-is (c_int c.a2) n asked in
+        let at = ap (λ k. touch (pages_at c.a1 k) v) (sym length) ∙ comes in
+        past_either (nat_eq n 0) _ _ _ _ (some-bytes c.a1 n (ap (λ k. has_absent (pages_at c.a1 k) v.image) (sym length) ∙ absent))
+        (when_either (not (writable v.image c.a1 n)) (not (writable i c.a1 n)) (refused c t) _ _ (room-there i (pages_at c.a1 n) c.a1 n (touch-comes (pages_at c.a1 n) v t at).image)
+        (touch_either (pages_at c.a1 n) _ _ at (inr (refl, reading_answers n d))))))))
+
+  -- ---- a row, behind the tests that it passes
+
+  past : (b : Bool) (d x : Own) → b ≡ false → ((d when b) >> x) ≡ x
+  unfolding ◌>>=◌ ◌>>◌ ◌when◌ ◌or◌
+  past b d x fails = ap (λ b. (d when b) >> x) fails
+
+  there-is : {A : Type 0} (o : Option A) (a : A) (e : Own) (f : A → Own) → o ≡ Some a → ((o or e) >>= f) ≡ f a
+  unfolding ◌>>=◌ ◌>>◌ ◌when◌ ◌or◌
+  there-is {A = A} o a e f is = ap (λ (o : Option A). (o or e) >>= f) is
+
+  -- without a child a wait is refused
+  pub wait_childless : has_child v ≡ false → wait c v ≡ refused c v
+  unfolding wait ◌>>=◌ ◌>>◌ ◌when◌ ◌or◌
+  wait_childless none = when_refused (not (nat_eq c.a0 0) && not (writable v.image c.a0 4)) _ (ap (λ b. (refused c v when not b) >> ((touch (pages_at c.a0 (told_bytes c)) v or refused c v) >>= taking c v)) none)
+
+  -- and so is one whose status can't be stored
+  pub wait_unwritable : (not (nat_eq c.a0 0) && not (writable v.image c.a0 4)) ≡ true → wait c v ≡ refused c v
+  unfolding wait ◌>>=◌ ◌>>◌ ◌when◌ ◌or◌
+  wait_unwritable bad = ap (λ b. (refused c v when b) >> ((refused c v when not (has_child v)) >> ((touch (pages_at c.a0 (told_bytes c)) v or refused c v) >>= taking c v))) bad
+
+  -- a pipe whose numbers can't be stored
+  pub pipe_unwritable : writable v.image c.a0 8 ≡ false → make_pipe c v ≡ refused c v
+  unfolding make_pipe ◌>>=◌ ◌>>◌ ◌when◌ ◌or◌
+  pipe_unwritable bad = ap (λ b. (refused c v when not b) >> ((lowest_free v.descriptors or refused c v) >>= (λ r. (lowest_free_above v.descriptors r or refused c v) >>= (λ w. (touch (pages_at c.a0 8) v or refused c v) >>= piping c v r w)))) bad
+
+  module _ (i : Image) (free : ℕ) where
+    pub wait_on : (not (nat_eq c.a0 0) && not (writable v.image c.a0 4)) ≡ false → has_child v ≡ true → touch (pages_at c.a0 (told_bytes c)) v ≡ Some (t i free) → wait c v ≡ wait c (t i free)
+    unfolding wait
+    wait_on room child comes =
+        let ps = pages_at c.a0 (told_bytes c) in
+        past _ (refused c v) _ room ∙ past _ (refused c v) _ (ap not child) ∙ there-is (touch ps v) (t i free) (refused c v) _ comes
+        ∙ sym (past _ (refused c (t i free)) _ (room-where (not (nat_eq c.a0 0)) i ps c.a0 4 (touch-comes ps v (t i free) comes).image room) ∙ past _ (refused c (t i free)) _ (ap not child) ∙ there-is (touch ps (t i free)) (t i free) (refused c (t i free)) _ (touch-again ps v (t i free) comes))
+
+    pub pipe_on : (r w : ℕ) → writable v.image c.a0 8 ≡ true → lowest_free v.descriptors ≡ Some r → lowest_free_above v.descriptors r ≡ Some w → touch (pages_at c.a0 8) v ≡ Some (t i free) → nat_eq free 0 ≡ false
+        → make_pipe c v ≡ make_pipe c (t i free)
+    unfolding make_pipe
+    pipe_on r w room least above comes some =
+        let ps = pages_at c.a0 8 in
+        past _ (refused c v) _ (ap not room) ∙ there-is _ r (refused c v) _ least ∙ there-is _ w (refused c v) _ above ∙ there-is (touch ps v) (t i free) (refused c v) _ comes ∙ past _ (refused c v) _ some
+        ∙ sym (past _ (refused c (t i free)) _ (room-there i ps c.a0 8 (touch-comes ps v (t i free) comes).image (ap not room)) ∙ there-is _ r (refused c (t i free)) _ least ∙ there-is _ w (refused c (t i free)) _ above
+        ∙ there-is (touch ps (t i free)) (t i free) (refused c (t i free)) _ (touch-again ps v (t i free) comes) ∙ past _ (refused c (t i free)) _ some)
+
+    pub read_there : (fd n : ℕ) (d : Descriptor) → c_int c.a0 ≡ pos fd → v.descriptors fd ≡ Some d → d.read ≡ true → c_int c.a2 ≡ pos n → nat_eq n 0 ≡ false → writable v.image c.a1 n ≡ true → touch (pages_at c.a1 n) v ≡ Some (t i free)
+        → read c v ≡ read c (t i free)
+    unfolding read
+    read_there fd n d number used reads count some room comes =
+        let ps = pages_at c.a1 n in
+        there-is _ fd (refused c v) _ (ap natural number) ∙ there-is _ d (refused c v) _ used ∙ past _ (refused c v) _ (ap not reads) ∙ there-is _ n (refused c v) _ (ap natural count)
+        ∙ past _ (done c (pos 0) v) _ some ∙ past _ (refused c v) _ (ap not room) ∙ there-is (touch ps v) (t i free) (refused c v) _ comes
+        ∙ sym (there-is _ fd (refused c (t i free)) _ (ap natural number) ∙ there-is _ d (refused c (t i free)) _ used ∙ past _ (refused c (t i free)) _ (ap not reads) ∙ there-is _ n (refused c (t i free)) _ (ap natural count)
+        ∙ past _ (done c (pos 0) (t i free)) _ some ∙ past _ (refused c (t i free)) _ (room-there i ps c.a1 n (touch-comes ps v (t i free) comes).image (ap not room))
+        ∙ there-is (touch ps (t i free)) (t i free) (refused c (t i free)) _ (touch-again ps v (t i free) comes))
+
+  -- the same of the view that a touch leaves
+  pub wait_ready : (u : View) → (not (nat_eq c.a0 0) && not (writable v.image c.a0 4)) ≡ false → has_child v ≡ true → touch (pages_at c.a0 (told_bytes c)) v ≡ Some u → wait c v ≡ wait c u
+  wait_ready u room child comes = let is = (touch-comes _ v u comes).view in wait_on u.image u.free room child (comes ∙ ap Some is) ∙ ap (wait c) (sym is)
+
+  pub pipe_ready : (u : View) (r w : ℕ) → writable v.image c.a0 8 ≡ true → lowest_free v.descriptors ≡ Some r → lowest_free_above v.descriptors r ≡ Some w → touch (pages_at c.a0 8) v ≡ Some u → nat_eq u.free 0 ≡ false → make_pipe c v ≡ make_pipe c u
+  pipe_ready u r w room least above comes some = let is = (touch-comes _ v u comes).view in pipe_on u.image u.free r w room least above (comes ∙ ap Some is) some ∙ ap (make_pipe c) (sym is)
+
+  -- no frame is left beside the buffer's pages
+  pub pipe_full : (u : View) → touch (pages_at c.a0 8) v ≡ Some u → u.free ≡ 0 → make_pipe c v ≡ refused c v
+  unfolding make_pipe ◌>>=◌ ◌>>◌ ◌when◌ ◌or◌
+  pipe_full u comes none =
+      when_refused (not (writable v.image c.a0 8)) _ (or_refused (lowest_free v.descriptors) _ (λ r there. or_refused (lowest_free_above v.descriptors r) _ (λ w above.
+      there-is (touch (pages_at c.a0 8) v) u (refused c v) (piping c v r w) comes ∙ ap (λ n. (refused c v when nat_eq n 0) >> piped c u r (Some w)) none)))
+
+  pub read_ready : (u : View) (fd n : ℕ) (d : Descriptor) → c_int c.a0 ≡ pos fd → v.descriptors fd ≡ Some d → d.read ≡ true → c_int c.a2 ≡ pos n → nat_eq n 0 ≡ false → writable v.image c.a1 n ≡ true → touch (pages_at c.a1 n) v ≡ Some u
+      → read c v ≡ read c u
+  read_ready u fd n d number used reads count some room comes = let is = (touch-comes _ v u comes).view in read_there u.image u.free fd n d number used reads count some room (comes ∙ ap Some is) ∙ ap (read c) (sym is)
+
+  -- ---- a read that is refused, or moves nothing
+
+  refuses : (b : Bool) (x : Own) → b ≡ true → ((refused c v when b) >> x) ≡ refused c v
+  unfolding ◌>>=◌ ◌>>◌ ◌when◌ ◌or◌
+  refuses b x holds = ap (λ b. (refused c v when b) >> x) holds
+
+  ends-at : (b : Bool) (e x : Own) → b ≡ true → ((e when b) >> x) ≡ e
+  unfolding ◌>>=◌ ◌>>◌ ◌when◌ ◌or◌
+  ends-at b e x holds = ap (λ b. (e when b) >> x) holds
+
+  number-is : (z : ℤ) (n : ℕ) → natural z ≡ Some n → z ≡ pos n
+  number-is (pos m) n e = ap pos (ap or_zero e)
+  number-is (negsuc k) n e = let none : ⊥ = cc in absurd none
+
+  -- a pipe without a descriptor for each end
+  pub pipe_no_read : lowest_free v.descriptors ≡ None → make_pipe c v ≡ refused c v
+  unfolding make_pipe
+  pipe_no_read none = when_refused (not (writable v.image c.a0 8)) _ (or_refused (lowest_free v.descriptors) _ (λ r there. let w : Some r ≡ None = sym there ∙ none in let not-so : ⊥ = cc in absurd not-so))
+
+  pub pipe_no_write : (r : ℕ) → lowest_free v.descriptors ≡ Some r → lowest_free_above v.descriptors r ≡ None → make_pipe c v ≡ refused c v
+  unfolding make_pipe
+  pipe_no_write r least none =
+      when_refused (not (writable v.image c.a0 8)) _ (there-is _ r (refused c v) _ least
+      ∙ or_refused (lowest_free_above v.descriptors r) _ (λ w above. let e : Some w ≡ None = sym above ∙ none in let not-so : ⊥ = cc in absurd not-so))
+
+  pub read_unused : in_use v (c_int c.a0) ≡ None → read c v ≡ refused c v
+  unfolding read
+  read_unused none =
+      or_refused (natural (c_int c.a0)) _ (λ fd is. or_refused (v.descriptors fd) _ (λ d used.
+      let w : Some d ≡ None = sym used ∙ ap (in_use v) (sym (number-is (c_int c.a0) fd is)) ∙ none in let not-so : ⊥ = cc in absurd not-so))
+
+  module _ (fd : ℕ) (d : Descriptor) (number : c_int c.a0 ≡ pos fd) (used : v.descriptors fd ≡ Some d) where
+    pub read_shut : d.read ≡ false → read c v ≡ refused c v
+    unfolding read
+    read_shut shut = there-is _ fd (refused c v) _ (ap natural number) ∙ there-is _ d (refused c v) _ used ∙ refuses _ _ (ap not shut)
+
+    module _ (reads : d.read ≡ true) where
+      pub read_below : ((n : ℕ) → c_int c.a2 ≡ pos n → ⊥) → read c v ≡ refused c v
+      unfolding read
+      read_below none =
+          there-is _ fd (refused c v) _ (ap natural number) ∙ there-is _ d (refused c v) _ used ∙ past _ (refused c v) _ (ap not reads)
+          ∙ or_refused (natural (c_int c.a2)) _ (λ n is. absurd (none n (number-is (c_int c.a2) n is)))
+
+      pub read_nothing : c_int c.a2 ≡ pos 0 → read c v ≡ done c (pos 0) v
+      unfolding read
+      read_nothing count =
+          there-is _ fd (refused c v) _ (ap natural number) ∙ there-is _ d (refused c v) _ used ∙ past _ (refused c v) _ (ap not reads)
+          ∙ there-is _ 0 (refused c v) _ (ap natural count) ∙ ends-at _ (done c (pos 0) v) _ refl
+
+      pub read_unwritable : (n : ℕ) → c_int c.a2 ≡ pos n → nat_eq n 0 ≡ false → writable v.image c.a1 n ≡ false → read c v ≡ refused c v
+      unfolding read
+      read_unwritable n count some bad =
+          there-is _ fd (refused c v) _ (ap natural number) ∙ there-is _ d (refused c v) _ used ∙ past _ (refused c v) _ (ap not reads)
+          ∙ there-is _ n (refused c v) _ (ap natural count) ∙ past _ (done c (pos 0) v) _ some ∙ refuses _ _ (ap not bad)
+
+      pub read_dear : (n : ℕ) → c_int c.a2 ≡ pos n → nat_eq n 0 ≡ false → touch (pages_at c.a1 n) v ≡ None → read c v ≡ refused c v
+      unfolding read
+      read_dear n count some dear =
+          there-is _ fd (refused c v) _ (ap natural number) ∙ there-is _ d (refused c v) _ used ∙ past _ (refused c v) _ (ap not reads)
+          ∙ there-is _ n (refused c v) _ (ap natural count) ∙ past _ (done c (pos 0) v) _ some ∙ when_refused _ _ (none_refused (touch (pages_at c.a1 n) v) _ dear)
+
+  -- ---- a row, whatever its buffer
+
+  -- it is refused, or is what its parts say once its buffer is there
+  abbrev Performs : Own → Option Row → Type 0
+  Performs x r = (x ≡ refused c v) ⊎ ((t : View) × IsBrought v t × (has_absent (buffer_of c r) t.image ≡ false) × (x ≡ perform_row c t r) × ((t ≡ v) ⊎ Answers x))
+
+  as-it-is : (r : Row) → has_absent (buffer_of c (Some r)) v.image ≡ false → Performs (row r c v) (Some r)
+  unfolding touch
+  as-it-is r none = inr (v, ([], refl), none, by_row c v r none, inl refl)
+
+  -- by what the touch comes to
+  touched_row : (r : Row) → (touch (buffer_of c (Some r)) v ≡ None → row r c v ≡ refused c v) → ((i : Image) (free : ℕ) → touch (buffer_of c (Some r)) v ≡ Some (with_image v i free) → Either (row r c v) (row r c (with_image v i free))) → Performs (row r c v) (Some r)
+  touched_row r none some = by (touch (buffer_of c (Some r)) v) refl
+    where
+      by : (o : Option View) → touch (buffer_of c (Some r)) v ≡ o → Performs (row r c v) (Some r)
+      by None e = inl (none e)
+      by (Some t) e =
+          let ps = buffer_of c (Some r) in
+          let comes = touch-comes ps v t e in
+          let settled = touch-settles ps v t e in
+          elim (some t.image t.free (e ∙ ap Some comes.view)) [
+            | inl refuses ↦ inl refuses
+            | inr same ↦ inr (t, (ps, e), settled, same.0 ∙ ap (row r c) (sym comes.view) ∙ by_row c t r settled, inr same.1)
+          ]
+
+  performs_row : (r : Row) → Performs (row r c v) (Some r)
+  unfolding row
+  performs_row Fork = as-it-is Fork refl
+  performs_row Exit = as-it-is Exit refl
+  performs_row Wait = touched_row Wait wait_none wait_either
+  performs_row Pipe_row = touched_row Pipe_row pipe_none pipe_either
+  performs_row Read = by (has_absent (buffer_of c (Some Read)) v.image) refl
+    where
+      by : (b : Bool) → has_absent (buffer_of c (Some Read)) v.image ≡ b → Performs (row Read c v) (Some Read)
+      by true absent = touched_row Read (read_none absent) (λ i free. read_either i free absent)
+      by false none = as-it-is Read none
+  performs_row Kill = as-it-is Kill refl
+  performs_row Exec = as-it-is Exec refl
+  performs_row Dup = as-it-is Dup refl
+  performs_row Getpid = as-it-is Getpid refl
+  performs_row Sbrk = as-it-is Sbrk refl
+  performs_row Sleep = as-it-is Sleep refl
+  performs_row Uptime = as-it-is Uptime refl
+  performs_row Open = as-it-is Open refl
+  performs_row Write = as-it-is Write refl
+  performs_row Close = as-it-is Close refl
+  performs_row Sbrklazy = as-it-is Sbrklazy refl
+
+  by_row_of : (o : Option Row) → Performs ((o or refused c v) >>= (λ r. row r c v)) o
+  unfolding ◌>>=◌ ◌>>◌ ◌when◌ ◌or◌
+  by_row_of None = inl refl
+  by_row_of (Some r) = performs_row r
+
+  -- each call is refused, or is what the parts of its row say once its buffer is there; where a page came, it doesn't answer -1
+  pub performs : (perform c v ≡ refused c v) ⊎ ((t : View) × IsBrought v t × IsSettled c t × (perform c v ≡ perform_parts c t) × ((t ≡ v) ⊎ Answers (perform c v)))
+  unfolding perform perform_parts
+  performs = by_row_of (row_of c.number)
+
+  -- the same where a page of its buffer is absent
+  pub performs_on : has_absent (buffer_of c (row_of c.number)) v.image ≡ true → (perform c v ≡ refused c v) ⊎ ((t : View) × IsBrought v t × IsSettled c t × (perform c v ≡ perform_parts c t) × Answers (perform c v))
+  performs_on absent = elim performs [
+    | inl refuses ↦ inl refuses
+    | inr x ↦ inr (
+      x.0,
+      x.1,
+      x.2,
+      x.3,
+      elim x.4 [
+        | inl same ↦ absurd (no-both (has_absent (buffer_of c (row_of c.number)) v.image) absent (ap (λ (u : View). has_absent (buffer_of c (row_of c.number)) u.image) (sym same) ∙ x.2))
+        | inr answers ↦ answers
+      ],
+    )
+  ]
+    where
+      no-both : (b : Bool) → b ≡ true → b ≡ false → ⊥
+      no-both true e f = cc
+      no-both false e f = cc

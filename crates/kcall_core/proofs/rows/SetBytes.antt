@@ -27,15 +27,16 @@ use Rattle.kcall_core.specs.PipeEnds.{there, must_wait}
 use Rattle.kcall_core.specs.Ready.{in_use}
 use Rattle.kcall_core.specs.Tables.{lowest_free, lowest_free_above, advance, change_pipe}
 use Rattle.kcall_core.specs.View.{View, Descriptor, Shown, Shown_terminal, Shown_file, Shown_pipe}
-use Rattle.kcall_core.specs.Own.{Own}
-use Rattle.kcall_core.specs.Calls.{Row, Fork, Exit, Wait, Pipe_row, Read, Kill, Exec, Dup, Getpid, Sbrk, Sleep, Uptime, Open, Write, Close, row_of, perform, answered, done, refused, waits, least_zombie, has_child}
+use Rattle.kcall_core.specs.Own.{Own, Answer, Stepped, Called, Blocked, Exited, Faulted}
+use Rattle.kcall_core.specs.Calls.{Row, Fork, Exit, Wait, Pipe_row, Read, Kill, Exec, Dup, Getpid, Sbrk, Sleep, Uptime, Open, Write, Close, Sbrklazy, row_of, perform, answered, done, refused, waits, least_zombie, has_child}
 use Rattle.kcall_core.specs.Step.{own, unless_killed, going_on, after_instruction, call_begun, begun}
 use Rattle.kcall_core.specs.Stores.{Stored, Lies, nothing_stored, moved_on, moved_through, moved_by_number, moved_after, stored_by_row, stored_by_instruction, stored_in, bytes_by_row, bytes_by_instruction, bytes_in, status_bytes, two_numbers, read_from_shown, read_from_descriptor, read_from_number}
-use Rattle.kcall_core.specs.Worlds.{StoresTheseBytes}
+use Rattle.kcall_core.specs.Worlds.{HasWholePages, StoresTheseBytes}
 use Rattle.kcall_core.proofs.rows.KeptBytes.{put_stays, write_stays}
-use Rattle.kcall_core.proofs.rows.MayStore.{store_in_page, stores_where_user_may}
+use Rattle.kcall_core.proofs.rows.MayStore.{Allowed, store_in_page, parts_allowed, refused_stores, instruction_may, same_stores}
 use Rattle.kcall_core.proofs.rows.RowParts.{perform_parts, perform_row, unless, unless_nothing, moving, length_of_int, reaped, without_child, piped, piped_from, with_pipe, read_on, read_from}
-use Rattle.kcall_core.proofs.rows.RowsByParts.{perform_same}
+use Rattle.kcall_core.proofs.rows.Touched.{IsTouched, touched_view, whole_touched}
+use Rattle.kcall_core.proofs.rows.ByTouch.{by_call, by_instruction}
 use Rattle.kcall_core.proofs.steps.Maps.{get_same}
 
 same_view : (a b : View) → Some a ≡ Some b → a ≡ b
@@ -286,43 +287,128 @@ module _ (c : Call) (v : View) where
   by_row (Some Open) = told_empty nothing_stored [] v (perform_row c v (Some Open)) nothing_empty
   by_row (Some Write) = told_empty nothing_stored [] v (perform_row c v (Some Write)) nothing_empty
   by_row (Some Close) = told_empty nothing_stored [] v (perform_row c v (Some Close)) nothing_empty
+  by_row (Some Sbrklazy) = told_empty nothing_stored [] v (perform_row c v (Some Sbrklazy)) nothing_empty
 
   parts_told : Told (stored_by_row c v.descriptors (row_of c.number) (perform_parts c v)) (bytes_by_row c v (row_of c.number) (perform_parts c v).answer) v (perform_parts c v)
   unfolding perform_parts
   parts_told = by_row (row_of c.number)
 
-  perform_told : Told (stored_by_row c v.descriptors (row_of c.number) (perform c v)) (bytes_by_row c v (row_of c.number) (perform c v).answer) v (perform c v)
-  perform_told = subst (λ (o : Own). Told (stored_by_row c v.descriptors (row_of c.number) o) (bytes_by_row c v (row_of c.number) o.answer) v o) (sym (perform_same c v)) parts_told
-
--- ---- a step
-
-module _ (v : View) where
-  instruction_told : (st : Step) → next_instruction v.regs v.image ≡ st → Told (stored_by_instruction v st (after_instruction v st)) (bytes_by_instruction v st (after_instruction v st).answer) v (after_instruction v st)
-  instruction_told (Next r None) made = told_empty nothing_stored [] v (after_instruction v (Next r None)) nothing_empty
-  instruction_told (Next r (Some st)) made = λ n next a p lies at long.
-      ap (λ (w : View). image_byte w.image a) (sym (same_view (record v { regs = r; image = with_store v.image st }) n next))
-      ∙ store_there v.image st a p (store_in_page v.regs (user v.image) r st made) at long lies.0 lies.1
-  instruction_told Ecall made = perform_told (call_begun v) (begun v)
-  instruction_told (Fault cause) made = told_empty nothing_stored [] v (after_instruction v (Fault cause)) nothing_empty
-
-  going_told : (o : Option Call) → Told (stored_in v o (going_on v o)) (bytes_in v o (going_on v o).answer) v (going_on v o)
-  going_told None = instruction_told (next_instruction v.regs v.image) refl
-  going_told (Some c) = perform_told c v
-
-  unless_told : (b : Bool) → Told (cond b nothing_stored (stored_in v v.call (unless_killed v b))) (bytes_in v v.call (unless_killed v b).answer) v (unless_killed v b)
-  unless_told true = told_empty nothing_stored (bytes_in v v.call (unless_killed v true).answer) v (unless_killed v true) nothing_empty
-  unless_told false = going_told v.call
-
-  own_told : Told (cond v.killed nothing_stored (stored_in v v.call (own v))) (bytes_in v v.call (own v).answer) v (own v)
-  unfolding own
-  own_told = unless_told v.killed
+-- ---- where pages came
 
 -- a page is there where user code may store
 there_is : (o : Option Page) → allows Storing (option_map perm_of_page o) ≡ true → (p : Page) × (o ≡ Some p)
 there_is None e = let no : ⊥ = cc in absurd no
 there_is (Some p) e = (p, refl)
 
+-- each byte that is stored is that of the source, where each page has 4,096 bytes
+abbrev AllTold : Stored → List ℕ → View → Own → Type 0
+AllTold s source v o = HasWholePages v.image → (n : View) → o.next ≡ Some n → (a : ℕ) → Lies s a → image_byte n.image a ≡ slice_index source (a - s.address)
+
+all_told : (s : Stored) (source : List ℕ) (v : View) (o : Own) → Allowed v.image s → Told s source v o → AllTold s source v o
+all_told s source v o allowed told whole n next a lies =
+    let page = there_is (get v.image.pages (a / 4096)) (allowed a lies) in
+    told n next a page.0 lies page.1 (whole (a / 4096) page.0 page.1)
+
+none_told : (s : Stored) (source : List ℕ) (v : View) (o : Own) → Empty s → AllTold s source v o
+none_told s source v o empty whole n next a lies = absurd (empty a lies)
+
+told_before : (s : Stored) (source : List ℕ) (v : View) (image : Image) (free : ℕ) (o : Own) → IsTouched v.image image → AllTold s source (touched_view v image free) o → AllTold s source v o
+told_before s source v image free o touched h whole n next a lies = h (whole_touched v.image image touched whole) n next a lies
+
+-- the same sources, whether pages came before or not
+module _ (c : Call) (v : View) (image : Image) (free : ℕ) where
+  abbrev u : View
+  u = touched_view v image free
+
+  same_status : (answer : Answer) → status_bytes u answer ≡ status_bytes v answer
+  same_status Stepped = refl
+  same_status (Called number (pos child)) = refl
+  same_status (Called number (negsuc k)) = refl
+  same_status (Blocked number) = refl
+  same_status (Exited status) = refl
+  same_status (Faulted cause) = refl
+
+  same_shown : (x : Shown) → read_from_shown u x ≡ read_from_shown v x
+  same_shown Shown_terminal = refl
+  same_shown (Shown_file program offset) = refl
+  same_shown (Shown_pipe name end pipe) = refl
+
+  same_descriptor : (o : Option Descriptor) → read_from_descriptor u o ≡ read_from_descriptor v o
+  same_descriptor None = refl
+  same_descriptor (Some d) = same_shown d.shown
+
+  same_number : (z : ℤ) → read_from_number u z ≡ read_from_number v z
+  same_number (pos fd) = same_descriptor (v.descriptors fd)
+  same_number (negsuc k) = refl
+
+  same_source : (r : Option Row) (answer : Answer) → bytes_by_row c u r answer ≡ bytes_by_row c v r answer
+  same_source None answer = refl
+  same_source (Some Fork) answer = refl
+  same_source (Some Exit) answer = refl
+  same_source (Some Wait) answer = same_status answer
+  same_source (Some Pipe_row) answer = refl
+  same_source (Some Read) answer = same_number (c_int c.a0)
+  same_source (Some Kill) answer = refl
+  same_source (Some Exec) answer = refl
+  same_source (Some Dup) answer = refl
+  same_source (Some Getpid) answer = refl
+  same_source (Some Sbrk) answer = refl
+  same_source (Some Sleep) answer = refl
+  same_source (Some Uptime) answer = refl
+  same_source (Some Open) answer = refl
+  same_source (Some Write) answer = refl
+  same_source (Some Close) answer = refl
+  same_source (Some Sbrklazy) answer = refl
+
+same_bytes : (v : View) (image : Image) (free : ℕ) (st : Step) (answer : Answer) → bytes_by_instruction (touched_view v image free) st answer ≡ bytes_by_instruction v st answer
+same_bytes v image free (Next r None) answer = refl
+same_bytes v image free (Next r (Some st)) answer = refl
+same_bytes v image free Ecall answer = same_source (call_begun v) v image free (row_of (call_begun v).number) answer
+same_bytes v image free (Fault cause) answer = refl
+
+-- ---- a step
+
+perform_told : (c : Call) (v : View) → AllTold (stored_by_row c v.descriptors (row_of c.number) (perform c v)) (bytes_by_row c v (row_of c.number) (perform c v).answer) v (perform c v)
+perform_told c v = by_call (λ (o : Own). AllTold (stored_by_row c v.descriptors (row_of c.number) o) (bytes_by_row c v (row_of c.number) o.answer) v o) c v
+    (none_told (stored_by_row c v.descriptors (row_of c.number) (refused c v)) (bytes_by_row c v (row_of c.number) (refused c v).answer) v (refused c v) (refused_stores c v))
+    (λ image free touched settled.
+    let u : View = touched_view v image free in
+    let o : Own = perform_parts c u in
+    let s : Stored = stored_by_row c v.descriptors (row_of c.number) o in
+    subst (λ (source : List ℕ). AllTold s source v o) (same_source c v image free (row_of c.number) o.answer)
+    (told_before s (bytes_by_row c u (row_of c.number) o.answer) v image free o touched (all_told s (bytes_by_row c u (row_of c.number) o.answer) u o (parts_allowed c u settled) (parts_told c u))))
+
+instruction_told : (v : View) (st : Step) → next_instruction v.regs v.image ≡ st → AllTold (stored_by_instruction v st (after_instruction v st)) (bytes_by_instruction v st (after_instruction v st).answer) v (after_instruction v st)
+instruction_told v (Next r None) made = none_told nothing_stored [] v (after_instruction v (Next r None)) nothing_empty
+instruction_told v (Next r (Some st)) made = all_told (record { address = st.address; count = length st.bytes }) st.bytes v (after_instruction v (Next r (Some st))) (instruction_may v.regs v.image r st made) (λ n next a p lies at long.
+    ap (λ (w : View). image_byte w.image a) (sym (same_view (record v { regs = r; image = with_store v.image st }) n next))
+    ∙ store_there v.image st a p (store_in_page v.regs (user v.image) r st made) at long lies.0 lies.1)
+instruction_told v Ecall made = perform_told (call_begun v) (begun v)
+instruction_told v (Fault cause) made = none_told nothing_stored [] v (after_instruction v (Fault cause)) nothing_empty
+
+module _ (v : View) where
+  abbrev ToldBy : Step → Own → Type 0
+  ToldBy st o = AllTold (stored_by_instruction v st o) (bytes_by_instruction v st o.answer) v o
+
+  instruction_before : (image : Image) (free : ℕ) → IsTouched v.image image → (st : Step) → next_instruction v.regs image ≡ st → ToldBy st (after_instruction (touched_view v image free) st)
+  instruction_before image free touched st made =
+      let u : View = touched_view v image free in
+      let o : Own = after_instruction u st in
+      subst (λ (source : List ℕ). AllTold (stored_by_instruction v st o) source v o) (same_bytes v image free st o.answer)
+      (subst (λ (s : Stored). AllTold s (bytes_by_instruction u st o.answer) v o) (same_stores v image free st o)
+      (told_before (stored_by_instruction u st o) (bytes_by_instruction u st o.answer) v image free o touched (instruction_told u st made)))
+
+  going_told : (o : Option Call) → AllTold (stored_in v o (going_on v o)) (bytes_in v o (going_on v o).answer) v (going_on v o)
+  going_told None = by_instruction ToldBy v (λ image free touched. instruction_before image free touched (next_instruction v.regs image) refl)
+  going_told (Some c) = perform_told c v
+
+  unless_told : (b : Bool) → AllTold (cond b nothing_stored (stored_in v v.call (unless_killed v b))) (bytes_in v v.call (unless_killed v b).answer) v (unless_killed v b)
+  unless_told true = none_told nothing_stored (bytes_in v v.call (unless_killed v true).answer) v (unless_killed v true) nothing_empty
+  unless_told false = going_told v.call
+
+  own_told : AllTold (cond v.killed nothing_stored (stored_in v v.call (own v))) (bytes_in v v.call (own v).answer) v (own v)
+  unfolding own
+  own_told = unless_told v.killed
+
 pub stores_these_bytes : StoresTheseBytes
-stores_these_bytes v n a whole next is =
-    let page = there_is (get v.image.pages (a / 4096)) (stores_where_user_may v a is) in
-    own_told v n next a page.0 is page.1 (whole (a / 4096) page.0 page.1)
+stores_these_bytes v n a whole next is = own_told v whole n next a is

@@ -16,11 +16,10 @@ use Rattle.sv39_core.proofs.Gathered.{gathered-get}
 use Rattle.proc_table.specs.declared.process.Call.{Call}
 use Rattle.kcall_core.specs.View.{View}
 use Rattle.kcall_core.specs.Own.{Own, Answer, Stepped, Called, Blocked, Exited, Faulted}
-use Rattle.kcall_core.specs.Calls.{Row, Fork, Exit, Wait, Pipe_row, Read, Kill, Exec, Dup, Getpid, Sbrk, Sleep, Uptime, Open, Write, Close, row_of}
+use Rattle.kcall_core.specs.Calls.{Row, Fork, Exit, Wait, Pipe_row, Read, Kill, Exec, Dup, Getpid, Sbrk, Sleep, Uptime, Open, Write, Close, Sbrklazy, row_of}
 use Rattle.kcall_core.specs.Step.{own, call_in}
 use Rattle.kcall_core.specs.Worlds.{IsExecDone, HasWholePages}
-use Rattle.kcall_core.proofs.rows.KeptBytes.{same_lengths}
-use Rattle.kcall_core.proofs.rows.NewPages.{no_old_byte}
+use Rattle.kcall_core.proofs.rows.NewPages.{no_old_byte, same_lengths}
 
 some_page : (a b : Page) → Some a ≡ Some b → a ≡ b
 some_page a b e = cc
@@ -91,6 +90,7 @@ exec_row (Some Uptime) = inr refl
 exec_row (Some Open) = inr refl
 exec_row (Some Write) = inr refl
 exec_row (Some Close) = inr refl
+exec_row (Some Sbrklazy) = inr refl
 
 abbrev Succeeds : ℤ → Answer → Type 0
 Succeeds number answer = (k : ℕ) × (answer ≡ Called number (pos k))

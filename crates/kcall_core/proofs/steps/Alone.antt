@@ -1,7 +1,8 @@
 -- The laws of steps that change only the process itself, the console and the free frames.
-use Rattle.std.proofs.Common.{◌≡◌, ◌≢◌, ℕ, ◌+◌, ◌-◌, Bool, refl, ap, sym, ◌∙◌, subst, inl, inr}
-use Rattle.std.specs.Prelude.{Option, None, Some, pos, IsSome, MatchOption, is_some}
+use Rattle.std.proofs.Common.{◌≡◌, ◌≢◌, ℕ, ◌+◌, ◌-◌, Bool, refl, ap, sym, ◌∙◌, subst, inl, inr, arith, cond}
+use Rattle.std.specs.Prelude.{Option, None, Some, pos, IsSome, MatchOption, is_some, option_map}
 use Rattle.std.proofs.lemmas.Bool.Decides.{eqb_tells}
+use Rattle.std.proofs.lemmas.Bool.{le-ltb}
 use Rattle.std.specs.FinMap.{get}
 use Rattle.xk_base.specs.Image.{Image, price}
 use Rattle.rv64i_core.specs.Registers.{Registers, put, with_pc, after}
@@ -16,12 +17,15 @@ use Rattle.kcall_core.specs.State.{State, live_part}
 use Rattle.kcall_core.specs.View.{View, view, view_of, named, numbered}
 use Rattle.kcall_core.specs.Own.{Own, Answer, Stepped, Called, Blocked, goes_on, gone_with}
 use Rattle.kcall_core.specs.Calls.{done, waits, with_a0}
+use Rattle.kcall_core.specs.Touches.{at_price, brought, touch, before_instruction}
+use Rattle.kcall_core.proofs.memory.OnAbsent.{before_next}
+use Rattle.rv64i_core.specs.Memory.{Store}
 use Rattle.kcall_core.specs.Step.{own, unless_killed, going_on, after_instruction, call_begun}
 use Rattle.kcall_core.specs.Updates.{own_state, alone_state, with_answer, in_call, stepped, started}
 use Rattle.kcall_core.specs.Run.{StateAfter, FilesAfter}
-use Rattle.kcall_core.specs.RowLaws.{After, IsBetweenCalls, InstructionLaw, EcallLaw, ResumeLaw, EndLaw, AnswerLaw, WaitingLaw, begun_live, begun_state}
+use Rattle.kcall_core.specs.RowLaws.{After, IsBetweenCalls, InstructionLaw, EcallLaw, ResumeLaw, EndLaw, AnswerLaw, WaitingLaw, TouchLaw, begun_live, begun_state}
 use Rattle.kcall_core.specs.Quiet.{file_at, pipe_at, pipe_of_file}
-use Rattle.kcall_core.proofs.steps.Begun.{same_file_at, same_view_of, quiet_begun, ecall_own}
+use Rattle.kcall_core.proofs.steps.Begun.{with_call, state_begun, same_file_at, same_view_of, quiet_begun, ecall_own}
 use Rattle.kcall_core.proofs.steps.Change.{alone, after_alone, view_alone, done_is, waits_is}
 use Rattle.kcall_core.proofs.steps.Tell.{own_table_tells}
 use Rattle.kcall_core.proofs.steps.AfterChange.{after_same_files}
@@ -64,19 +68,25 @@ exec s p l c new was =
 
 -- ---- what a step begins with
 
-pub begins : (s : State) (p : ℕ) (l : Live) → IsBetweenCalls l → (st : Step) → next_instruction l.regs l.image ≡ st → own (view_of s p l) ≡ after_instruction (view_of s p l) st
+-- where no page comes first
+pub begins : (s : State) (p : ℕ) (l : Live) → IsBetweenCalls l → before_instruction (view_of s p l) ≡ view_of s p l → (st : Step) → next_instruction l.regs l.image ≡ st → own (view_of s p l) ≡ after_instruction (view_of s p l) st
 unfolding own view_of
-begins s p l runs st is = ap (unless_killed (view_of s p l)) runs.0 ∙ ap (going_on (view_of s p l)) runs.1 ∙ ap (after_instruction (view_of s p l)) is
+begins s p l runs there st is =
+    ap (unless_killed (view_of s p l)) runs.0 ∙ ap (going_on (view_of s p l)) runs.1 ∙ (λ i. after_instruction (there i) (next_instruction (there i).regs (there i).image)) ∙ ap (after_instruction (view_of s p l)) is
+
+pub before-next : (s : State) (p : ℕ) (l : Live) (r : Registers) (st : Option Store) → next_instruction l.regs l.image ≡ Next r st → before_instruction (view_of s p l) ≡ view_of s p l
+unfolding view_of
+before-next s p l r st is = before_next (view_of s p l) r st is
 
 pub instruction : InstructionLaw
 unfolding view_of
 instruction s p l r None was runs is =
     by_own s (own_state p (stepped r None l) s) (view_of s p l) (own (view_of s p l)) (goes_on Stepped (view_of (own_state p (stepped r None l) s) p (stepped r None l)))
-    (begins s p l runs (Next r None) is ∙ ap (goes_on Stepped) (view_alone s p l was r l.image l.call l.killed s.console s.free))
+    (begins s p l runs (before-next s p l r None is) (Next r None) is ∙ ap (goes_on Stepped) (view_alone s p l was r l.image l.call l.killed s.console s.free))
     (alone_law s p l was r l.image l.call l.killed s.console s.free Stepped refl)
 instruction s p l r (Some st) was runs is =
     by_own s (own_state p (stepped r (Some st) l) s) (view_of s p l) (own (view_of s p l)) (goes_on Stepped (view_of (own_state p (stepped r (Some st) l) s) p (stepped r (Some st) l)))
-    (begins s p l runs (Next r (Some st)) is ∙ ap (goes_on Stepped) (view_alone s p l was r (with_store l.image st) l.call l.killed s.console s.free))
+    (begins s p l runs (before-next s p l r (Some st) is) (Next r (Some st)) is ∙ ap (goes_on Stepped) (view_alone s p l was r (with_store l.image st) l.call l.killed s.console s.free))
     (alone_law s p l was r (with_store l.image st) l.call l.killed s.console s.free Stepped refl)
 
 pub resume : ResumeLaw
@@ -85,20 +95,22 @@ resume s p l c unmarked busy = ap (unless_killed (view_of s p l)) unmarked ∙ a
 
 pub end : EndLaw
 unfolding own view_of
-end s p l = (λ killed. ap (unless_killed (view_of s p l)) killed, λ cause runs is. begins s p l runs (Fault cause) is)
+end s p l = (λ killed. ap (unless_killed (view_of s p l)) killed, λ cause runs is there. begins s p l runs there (Fault cause) is)
 
--- ---- an ECALL: what the row does to the state in which the call is begun is what the step does
+-- ---- what is done to the state in which a call is begun, or pages are touched, is what the step does
 
-module _ (s : State) (p : ℕ) (l : Live) (was : get s.processes p ≡ Some (Alive l)) where
-  file_same : (q d : ℕ) → file_at (begun_state p l s) q d ≡ file_at s q d
-  unfolding view_of
-  file_same q d = same_file_at s p l was (with_pc l.regs (after l.regs)) (Some (call_begun (view_of s p l))) q d
+module _ (s : State) (p : ℕ) (l : Live) (was : get s.processes p ≡ Some (Alive l)) (r : Registers) (i : Image) (c : Option Call) (free : ℕ) where
+  abbrev mid : State
+  mid = state_begun s p l was r i c free
 
-  pipe_same : (q d : ℕ) → pipe_at (begun_state p l s) q d ≡ pipe_at s q d
+  file_same : (q d : ℕ) → file_at mid q d ≡ file_at s q d
+  file_same q d = same_file_at s p l was r i c free q d
+
+  pipe_same : (q d : ℕ) → pipe_at mid q d ≡ pipe_at s q d
   pipe_same q d = ap (pipe_of_file s) (file_same q d)
 
-  begun_files : (o : Own) (t : State) → FilesAfter (begun_state p l s) p o t → FilesAfter s p o t
-  begun_files o t h = record {
+  mid_files : (o : Own) (t : State) → FilesAfter mid p o t → FilesAfter s p o t
+  mid_files o t h = record {
     same_file = λ q d f g a b. h.same_file q d f g (file_same q d ∙ a) b;
     same_pipe = λ q d f g a b. h.same_pipe q d f g (pipe_same q d ∙ a) b;
     newborn = newborns o.child h.newborn;
@@ -106,20 +118,23 @@ module _ (s : State) (p : ℕ) (l : Live) (was : get s.processes p ≡ Some (Ali
     new_pipe = λ q d e f a b x. h.new_pipe q d e f a (λ k y. b k (sym (pipe_same p k) ∙ y)) x;
   }
     where
-      newborns : (c : Option View) → MatchOption c (Unit {0}) (λ c. (d : ℕ) → file_at t c.pid d ≡ file_at (begun_state p l s) p d) → MatchOption c (Unit {0}) (λ c. (d : ℕ) → file_at t c.pid d ≡ file_at s p d)
+      newborns : (c : Option View) → MatchOption c (Unit {0}) (λ c. (d : ℕ) → file_at t c.pid d ≡ file_at mid p d) → MatchOption c (Unit {0}) (λ c. (d : ℕ) → file_at t c.pid d ≡ file_at s p d)
       newborns None x = tt
       newborns (Some c) x = λ d. x d ∙ file_same p d
 
-  some_before : (q : ℕ) → q ≢ p → IsSome (view (begun_state p l s) q) → IsSome (view s q)
-  unfolding view_of
-  some_before q apart x = ap is_some (sym (same_view_of s p l was (with_pc l.regs (after l.regs)) (Some (call_begun (view_of s p l))) q apart)) ∙ x
+  some_before : (q : ℕ) → q ≢ p → IsSome (view mid q) → IsSome (view s q)
+  some_before q apart x = by (view s q) (ap is_some (sym (same_view_of s p l was r i c free q apart)) ∙ x)
+    where
+      by : (o : Option View) → IsSome (option_map (λ (w : View). record w { free = free }) o) → IsSome o
+      by None x = x
+      by (Some w) x = refl
 
-  pub begun_after : (o : Own) (t : State) → After (begun_state p l s) p (begun_live s p l) o t → After s p l o t
+  pub mid_after : (o : Own) (t : State) → After mid p (with_call s p l was r i c free) o t → After s p l o t
   unfolding view_of
-  begun_after o t h = record {
+  mid_after o t h = record {
     next = h.next;
     newborn = h.newborn;
-    others = quiet_begun s p l was (with_pc l.regs (after l.regs)) (Some (call_begun (view_of s p l))) o t h.others;
+    others = quiet_begun s p l was r i c free o t h.others;
     no_more = λ q x. elim (eqb_tells q p) [
       | inl e ↦ inl e.1
       | inr e ↦ elim (h.no_more q x) [
@@ -128,9 +143,21 @@ module _ (s : State) (p : ℕ) (l : Live) (was : get s.processes p ≡ Some (Ali
       ]
     ];
     left = record { console = h.left.console; pids = h.left.pids; next_pid = h.left.next_pid; free = h.left.free; clock = h.left.clock; programs = h.left.programs };
-    files = begun_files o t h.files;
+    files = mid_files o t h.files;
   }
+
+pub begun_after : (s : State) (p : ℕ) (l : Live) (was : get s.processes p ≡ Some (Alive l)) (o : Own) (t : State) → After (begun_state p l s) p (begun_live s p l) o t → After s p l o t
+begun_after s p l was o t h = mid_after s p l was (with_pc l.regs (after l.regs)) l.image (Some (call_begun (view_of s p l))) s.free o t h
 
 pub ecall : EcallLaw
 unfolding view_of
 ecall s p l was runs is = (ecall_own s p l was runs.0 runs.1 is, λ o t h. begun_after s p l was o t h)
+
+pub touched : TouchLaw
+unfolding view_of touch
+touched s p l pages was fits = (
+  λ absent. ap (λ b. cond b (at_price (brought pages l.image) (view_of s p l)) (Some (view_of s p l))) absent
+      ∙ ap (λ b. cond b None (Some (record (view_of s p l) { image = brought pages l.image; free = s.free + price l.image - price (brought pages l.image) }))) (le-ltb s.free (price (brought pages l.image) - price l.image) (omega (arith, fits)))
+      ∙ ap Some (view_alone s p l was l.regs (brought pages l.image) l.call l.killed s.console (s.free + price l.image - price (brought pages l.image))),
+  λ o t h. mid_after s p l was l.regs (brought pages l.image) l.call (s.free + price l.image - price (brought pages l.image)) o t h,
+)

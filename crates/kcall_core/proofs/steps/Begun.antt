@@ -1,10 +1,11 @@
--- A call begins: what it comes to for a process that has begun it is what its step comes to.
+-- What a step comes to for a process that has begun a call, or has touched pages, is what it comes to for the process before.
 use Rattle.std.proofs.Common.{◌≡◌, ◌≢◌, ℕ, ◌+◌, ◌%◌, ◌^◌, false, cond, refl, ap, sym, ◌∙◌, inl, inr}
 use Rattle.std.specs.Prelude.{Option, None, Some, ℤ, option_map, nat_eq}
 use Rattle.std.specs.FinMap.{get}
 use Rattle.std.proofs.lemmas.Bool.Decides.{eqb_tells}
 use Rattle.xk_base.specs.declared.limits.TheConstants.{NOFILE}
 use Rattle.xk_base.specs.Words.{least_below}
+use Rattle.xk_base.specs.Image.{Image}
 use Rattle.rv64i_core.specs.Registers.{Registers}
 use Rattle.rv64i_core.specs.Step.{Ecall}
 use Rattle.kcall_core.specs.Instruction.{next_instruction}
@@ -14,18 +15,19 @@ use Rattle.kcall_core.specs.State.{State, live, live_part}
 use Rattle.kcall_core.specs.View.{View, view, view_of}
 use Rattle.kcall_core.specs.Own.{Own, gone_with}
 use Rattle.kcall_core.specs.Calls.{perform}
+use Rattle.kcall_core.proofs.memory.OnAbsent.{before_ecall}
 use Rattle.kcall_core.specs.Step.{own, unless_killed, going_on, after_instruction, call_begun}
 use Rattle.kcall_core.specs.Quiet.{Quiet, seen, seen_descriptor, seen_children, or_child, left_at, file_at, file_of, pipe_at, pipe_of_file, is_same}
 use Rattle.kcall_core.specs.Quiet as quiet
-use Rattle.kcall_core.specs.Updates.{set_live}
+use Rattle.kcall_core.specs.Updates.{set_live, alone_state}
 use Rattle.kcall_core.proofs.steps.SetLive.{view-set_live, same_child, live-set_live_here, live-set_live_there}
 
-module _ (s : State) (p : ℕ) (old : Live) (was : get s.processes p ≡ Some (Alive old)) (r : Registers) (c : Option Call) where
+module _ (s : State) (p : ℕ) (old : Live) (was : get s.processes p ≡ Some (Alive old)) (r : Registers) (i : Image) (c : Option Call) (free : ℕ) where
   abbrev pub with_call : Live
-  with_call = record old { regs = r; call = c }
+  with_call = record old { regs = r; image = i; call = c }
 
   abbrev pub state_begun : State
-  state_begun = set_live p with_call s
+  state_begun = alone_state p with_call s.console free s
 
   pub same_file_at : (q d : ℕ) → file_at state_begun q d ≡ file_at s q d
   same_file_at q d = elim (eqb_tells q p) [
@@ -36,12 +38,12 @@ module _ (s : State) (p : ℕ) (old : Live) (was : get s.processes p ≡ Some (A
   same_pipe_at : (q d : ℕ) → pipe_at state_begun q d ≡ pipe_at s q d
   same_pipe_at q d = ap (pipe_of_file s) (same_file_at q d)
 
-  same_children : (g : Option ℤ) (w : View) → seen_children g (view_of state_begun p with_call) w ≡ seen_children g (view_of s p old) w
+  same_children : (g : Option ℤ) (w : View) → seen_children g (view_of state_begun p with_call) (record w { free = free }) ≡ seen_children g (view_of s p old) w
   unfolding view_of
   same_children None w = refl
   same_children (Some status) w = λ i. λ x. or_child (cond (nat_eq x p) (quiet.same_child (w.children x) (Status status)) (w.children x)) (cond (nat_eq w.pid 1) (same_child s p old with_call was refl p x i) None)
 
-  same_seen : (o : Own) (w : View) → seen state_begun (view_of state_begun p with_call) o w ≡ seen s (view_of s p old) o w
+  same_seen : (o : Own) (w : View) → seen state_begun (view_of state_begun p with_call) o (record w { free = free }) ≡ seen s (view_of s p old) o w
   unfolding seen view_of
   same_seen o w = λ i. record (seen s (view_of s p old) o w) {
     descriptors = λ d. seen_descriptor
@@ -51,16 +53,18 @@ module _ (s : State) (p : ℕ) (old : Live) (was : get s.processes p ≡ Some (A
     children = same_children (gone_with o.answer) w i;
   }
 
-  pub same_view_of : (q : ℕ) → q ≢ p → view state_begun q ≡ view s q
+  -- another process sees only other free frames
+  pub same_view_of : (q : ℕ) → q ≢ p → view state_begun q ≡ option_map (λ (w : View). record w { free = free }) (view s q)
+  unfolding view_of
   same_view_of q apart = ap (option_map (view_of state_begun q)) (live-set_live_there s p old with_call was refl q apart) ∙ by (live s q)
     where
-      by : (o : Option Live) → option_map (view_of state_begun q) o ≡ option_map (view_of s q) o
+      by : (o : Option Live) → option_map (view_of state_begun q) o ≡ option_map (λ (w : View). record w { free = free }) (option_map (view_of s q) o)
       by None = refl
-      by (Some l) = ap Some (view-set_live s p old with_call was refl q l)
+      by (Some l) = λ i. Some (record (view-set_live s p old with_call was refl q l i) { free = free })
 
   pub quiet_begun : (o : Own) (t : State) → Quiet state_begun (view_of state_begun p with_call) o t → Quiet s (view_of s p old) o t
   unfolding view_of
-  quiet_begun o t h = λ q w apart is. h q w apart (same_view_of q apart ∙ is) ∙ ap Some (same_seen o w)
+  quiet_begun o t h = λ q w apart is. h q (record w { free = free }) apart (same_view_of q apart ∙ ap (option_map (λ (w : View). record w { free = free })) is) ∙ ap Some (same_seen o w)
 
 -- ---- the step of a process that is at an ECALL, and of one whose call is in progress
 
@@ -77,7 +81,8 @@ module _ (s : State) (p : ℕ) (old : Live) (was : get s.processes p ≡ Some (A
   pub ecall_own : old.call ≡ None → next_instruction old.regs old.image ≡ Ecall → own (view_of s p old) ≡ perform the_call (view_of (set_live p began s) p began)
   unfolding own view_of
   ecall_own idle is =
-      ap (unless_killed (view_of s p old)) unmarked ∙ ap (going_on (view_of s p old)) idle ∙ ap (after_instruction (view_of s p old)) is
+      ap (unless_killed (view_of s p old)) unmarked ∙ ap (going_on (view_of s p old)) idle
+      ∙ (λ i. after_instruction (before_ecall (view_of s p old) is i) (next_instruction (before_ecall (view_of s p old) is i).regs (before_ecall (view_of s p old) is i).image)) ∙ ap (after_instruction (view_of s p old)) is
       ∙ ap (perform the_call) (sym (view-set_live s p old began was refl p began))
 
   pub resumed_own : (c : Call) → old.call ≡ Some c → own (view_of s p old) ≡ perform c (view_of s p old)

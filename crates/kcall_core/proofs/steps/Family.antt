@@ -15,7 +15,7 @@ use Rattle.kcall_core.specs.Calls.{fork, gone, wait, least_zombie}
 use Rattle.kcall_core.specs.Quiet.{file_at, pipe_at, file_of, pipe_of_file, pipe_of_open, OtherNames}
 use Rattle.kcall_core.specs.Updates.{forking, forked_child, forked_state, gone_state, waited_state, waited, kill_state, killer, own_state, marked, orphan, orphans, given_to}
 use Rattle.kcall_core.specs.Words.{is_this}
-use Rattle.kcall_core.specs.Buffers.{writable}
+use Rattle.kcall_core.specs.Buffers.{writable_now}
 use Rattle.kcall_core.specs.WellFormed.{WellFormed}
 use Rattle.kcall_core.specs.Run.{StateAfter, FilesAfter, IsNewbornOf}
 use Rattle.kcall_core.specs.RowLaws.{After, FilesLeft, GoneLaw, ReapLaw}
@@ -246,7 +246,7 @@ module _ (s : State) (p q : ℕ) (l : Live) (c : Call) (status : ℤ) (was : get
     | inr other ↦ inr (inl (view_some (live s r) s r ∙ sym (ap is_some (reaped_live r other.1)) ∙ sym (view_some (live reaped r) reaped r) ∙ h))
   ]
 
-  module _ (room : (not (nat_eq c.a0 0) && not (writable l.image c.a0 4)) ≡ false) (least : least_zombie (view_of s p l) ≡ Some q) where
+  module _ (room : (not (nat_eq c.a0 0) && not (writable_now l.image c.a0 4)) ≡ false) (least : least_zombie (view_of s p l) ≡ Some q) where
     reap_after : After s p l (wait c (view_of s p l)) reaped
     unfolding view_of
     reap_after =

@@ -17,7 +17,7 @@ use Rattle.file_table.specs.declared.open_file.Target.{Target}
 use Rattle.file_table.specs.declared.open_file.Target.TheVariants.{Console as Terminal, Program as File, Pipe as Pipe_end}
 use Rattle.proc_table.specs.declared.process.Call.{Call}
 use Rattle.kcall_core.specs.Words.{c_int, minus_one, word}
-use Rattle.kcall_core.specs.Buffers.{writable}
+use Rattle.kcall_core.specs.Buffers.{writable, writable_now}
 use Rattle.kcall_core.specs.PipeEnds.{there, must_wait}
 use Rattle.kcall_core.specs.Processes.{Alive, Live}
 use Rattle.kcall_core.specs.State.{State, live_part}
@@ -38,6 +38,7 @@ use Rattle.kcall_core.proofs.steps.FileRead as files
 use Rattle.kcall_core.proofs.steps.NewFiles as news
 use Rattle.kcall_core.specs.Ready.{in_use}
 use Rattle.kcall_core.proofs.rows.RowParts.{read_on, read_from, read_pipe, read_file, moving, unless, unless_nothing, length_of_int, open_at, piped}
+use Rattle.kcall_core.proofs.rows.Settled.{now-writable, counted-settled}
 use Rattle.kcall_core.proofs.rows.RowsByParts.{read_same}
 use Rattle.kcall_core.proofs.rows.PartLaws.{FileReadPart, OpenPart, PipePart}
 
@@ -56,17 +57,17 @@ module _ (s : State) (p : ℕ) (l : Live) (d i k : ℕ) (end : End) (x : Pipe) (
 
 -- ---- read
 
-module _ (s : State) (p : ℕ) (l : Live) (c : Call) (d i k n : ℕ) (end : End) (x : Pipe) (on : OnPipe s p l d i k end x) (reads : on.read ≡ true) (fd : c_int c.a0 ≡ pos d) (buffer : IsBuffer c (writable l.image c.a1) n) where
+module _ (s : State) (p : ℕ) (l : Live) (c : Call) (d i k n : ℕ) (end : End) (x : Pipe) (on : OnPipe s p l d i k end x) (reads : on.read ≡ true) (fd : c_int c.a0 ≡ pos d) (buffer : IsBuffer c (writable_now l.image c.a1) n) where
   pub read_is : read c (view_of s p l) ≡ read_pipe c (view_of s p l) k x n
   unfolding view_of
   read_is =
-      read_same c (view_of s p l)
+      read_same c (view_of s p l) (counted-settled l.image c.a1 n (c_int c.a2) buffer.0 buffer.2)
       ∙ ap (λ (z : ℤ). read_on c (view_of s p l) (in_use (view_of s p l) z)) fd
       ∙ ap (read_on c (view_of s p l)) (pipes.the_descriptor s p l d i k end x on)
       ∙ ap (λ (b : Bool). unless (not b) c (view_of s p l) (λ _. moving c (view_of s p l) (writable l.image c.a1 (length_of_int (c_int c.a2))) (c_int c.a2) (λ m. read_from c (view_of s p l) m (or_else (least_on_file (numbered s l) on.file) on.file) (Shown_pipe k end x)))) reads
       ∙ ap (λ (z : ℤ). moving c (view_of s p l) (writable l.image c.a1 (length_of_int z)) z (λ m. read_from c (view_of s p l) m (or_else (least_on_file (numbered s l) on.file) on.file) (Shown_pipe k end x))) buffer.0
       ∙ ap (λ (b : Bool). unless_nothing b c (view_of s p l) (λ _. unless (not (writable l.image c.a1 n)) c (view_of s p l) (λ _. read_pipe c (view_of s p l) k x n))) buffer.1
-      ∙ ap (λ (b : Bool). unless (not b) c (view_of s p l) (λ _. read_pipe c (view_of s p l) k x n)) buffer.2
+      ∙ ap (λ (b : Bool). unless (not b) c (view_of s p l) (λ _. read_pipe c (view_of s p l) k x n)) (now-writable l.image c.a1 n buffer.2)
 
   abbrev taken_view : View
   taken_view = record (view_of s p l) { image = write_image l.image c.a1 (take (there x n) x.bytes); descriptors = change_pipe k (without_first (there x n) x) (view_of s p l).descriptors }

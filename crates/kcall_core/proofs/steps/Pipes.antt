@@ -8,7 +8,7 @@ use Rattle.std.proofs.lemmas.Bool.Decides.{eqb_tells}
 use Rattle.xk_base.specs.declared.limits.TheConstants.{NOFILE}
 use Rattle.kcall_core.specs.Words.{is_this, word, c_int}
 use Rattle.xk_base.specs.Words.{least_below}
-use Rattle.kcall_core.specs.Buffers.{writable}
+use Rattle.kcall_core.specs.Buffers.{writable, writable_now}
 use Rattle.xk_base.specs.Bytes.{write_image}
 use Rattle.pipe_core.specs.Pipe.{Pipe, without_first}
 use Rattle.file_table.specs.declared.open_file.End.TheVariants.{Reading}
@@ -33,6 +33,7 @@ use Rattle.kcall_core.proofs.steps.Steps.{or_false}
 use Rattle.kcall_core.proofs.steps.Least.{least_passes, none_passes}
 use Rattle.kcall_core.specs.Ready.{in_use}
 use Rattle.kcall_core.proofs.rows.RowParts.{read_on, read_from, read_pipe, unless_nothing, moving, unless, length_of_int}
+use Rattle.kcall_core.proofs.rows.Settled.{now-writable, counted-settled}
 use Rattle.kcall_core.proofs.rows.RowsByParts.{read_same}
 
 pub file_name_kept : (f : ℕ → Pipe → Pipe) (d : Option Descriptor) → file_name (changed f d) ≡ file_name d
@@ -143,7 +144,7 @@ module _ (s : State) (p : ℕ) (old : Live) (was : get s.processes p ≡ Some (A
     (fd : c_int c.a0 ≡ pos d) (below : d < NOFILE) (named_file : get old.descriptors d ≡ Some f)
     (opened : get s.files f ≡ Some (record { read = true; write = w; target = Pipe_end i Reading })) (pipe : get s.pipes i ≡ Some x)
     (names : least_on_pipe (numbered s old) i ≡ Some k) (count : c_int c.a2 ≡ pos n) (some : nat_eq n 0 ≡ false)
-    (room : writable old.image c.a1 n ≡ true) (bytes : must_wait x ≡ false) where
+    (room : writable_now old.image c.a1 n ≡ true) (bytes : must_wait x ≡ false) where
   abbrev pub taken : ℕ
   taken = there x n
 
@@ -169,12 +170,12 @@ module _ (s : State) (p : ℕ) (old : Live) (was : get s.processes p ≡ Some (A
   pub read_own : read c (view_of s p old) ≡ read_pipe c (view_of s p old) k x n
   unfolding view_of
   read_own =
-      read_same c (view_of s p old)
+      read_same c (view_of s p old) (counted-settled old.image c.a1 n (c_int c.a2) count room)
       ∙ ap (λ (z : ℤ). read_on c (view_of s p old) (in_use (view_of s p old) z)) fd
       ∙ ap (read_on c (view_of s p old)) the_descriptor
       ∙ ap (λ (z : ℤ). moving c (view_of s p old) (writable old.image c.a1 (length_of_int z)) z (λ m. read_from c (view_of s p old) m (or_else (least_on_file (numbered s old) f) f) (Shown_pipe k Reading x))) count
       ∙ ap (λ (b : Bool). unless_nothing b c (view_of s p old) (λ _. unless (not (writable old.image c.a1 n)) c (view_of s p old) (λ _. read_pipe c (view_of s p old) k x n))) some
-      ∙ ap (λ (b : Bool). unless (not b) c (view_of s p old) (λ _. read_pipe c (view_of s p old) k x n)) room
+      ∙ ap (λ (b : Bool). unless (not b) c (view_of s p old) (λ _. read_pipe c (view_of s p old) k x n)) (now-writable old.image c.a1 n room)
 
   next_table : named (numbered pipe_read after_read) ≡ change_pipe k (without_first taken x) (named (numbered s old))
   next_table = ap named (numbered_set s i (without_first taken x) old) ∙ named_change (numbered s old) i k (without_first taken x) names

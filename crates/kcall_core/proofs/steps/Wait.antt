@@ -9,7 +9,7 @@ use Rattle.xk_base.specs.Image.{Image}
 use Rattle.kcall_core.specs.Words.{word}
 use Rattle.xk_base.specs.Words.{le_bytes}
 use Rattle.xk_base.specs.Bytes.{write_image}
-use Rattle.kcall_core.specs.Buffers.{writable}
+use Rattle.kcall_core.specs.Buffers.{writable_now}
 use Rattle.kcall_core.specs.Processes.{Process, Alive, Live, Status, Zombie, child_status}
 use Rattle.proc_table.specs.declared.process.Call.{Call}
 use Rattle.kcall_core.specs.State.{State, live, live_part}
@@ -24,6 +24,7 @@ use Rattle.kcall_core.proofs.steps.Tell.{Leaves, quiet_from, own_table_tells}
 use Rattle.kcall_core.proofs.steps.Steps.{or_false}
 use Rattle.kcall_core.proofs.steps.Gone.{not_this}
 use Rattle.kcall_core.proofs.rows.RowParts.{reaped, told, without_child, unless}
+use Rattle.kcall_core.proofs.rows.Settled.{told-ready}
 use Rattle.kcall_core.proofs.rows.RowsByParts.{wait_same}
 
 told_is : (b : Bool) (i : Image) (v : View) → cond b v (record v { image = i }) ≡ record v { image = cond b v.image i }
@@ -79,12 +80,12 @@ module _ (s : State) (p q : ℕ) (old : Live) (was : get s.processes p ≡ Some 
   its_status = ap (λ (o : Option Process). child_status (child_of p o)) zombie ∙ ap (λ (b : Bool). child_status (cond b (Some (Status status)) None)) (eq-eqb p p refl)
 
   -- the row's answer and p's next view
-  pub wait_own : (not (nat_eq c.a0 0) && not (writable old.image c.a0 4)) ≡ false → least_zombie (view_of s p old) ≡ Some q
+  pub wait_own : (not (nat_eq c.a0 0) && not (writable_now old.image c.a0 4)) ≡ false → least_zombie (view_of s p old) ≡ Some q
       → wait c (view_of s p old) ≡ goes_on (Called c.number (pos q)) (view_of after p waited)
   unfolding view_of
   wait_own room least =
-      wait_same c (view_of s p old)
-      ∙ ap (λ (b : Bool). unless b c (view_of s p old) (λ _. reaped c (view_of s p old) (least_zombie (view_of s p old)))) room
+      wait_same c (view_of s p old) (told-ready old.image c.a0 (nat_eq c.a0 0) room).1
+      ∙ ap (λ (b : Bool). unless b c (view_of s p old) (λ _. reaped c (view_of s p old) (least_zombie (view_of s p old)))) (told-ready old.image c.a0 (nat_eq c.a0 0) room).0
       ∙ ap (reaped c (view_of s p old)) least
       ∙ ap (λ (z : ℤ). done c (pos q) (told c.a0 z (without_child q (view_of s p old)))) its_status
       ∙ ap (done c (pos q)) (told_is (nat_eq c.a0 0) (write_image old.image c.a0 (le_bytes 4 (cast_unsigned w32 status))) (without_child q (view_of s p old)))

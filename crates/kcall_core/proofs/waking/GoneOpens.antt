@@ -18,7 +18,7 @@ use Rattle.kcall_core.specs.Processes.{Process, Live, Alive, Zombie, Status, has
 use Rattle.kcall_core.specs.State.{State, live, live_part}
 use Rattle.kcall_core.specs.View.{child_of, or_gone}
 use Rattle.kcall_core.specs.Own.{Exited}
-use Rattle.kcall_core.specs.Calls.{Row, Fork, Exit, Wait, Pipe_row, Read, Kill, Exec, Dup, Getpid, Sbrk, Sleep, Uptime, Open, Write, Close, row_of}
+use Rattle.kcall_core.specs.Calls.{Row, Fork, Exit, Wait, Pipe_row, Read, Kill, Exec, Dup, Getpid, Sbrk, Sleep, Uptime, Open, Write, Close, Sbrklazy, row_of}
 use Rattle.kcall_core.specs.Quiet.{file_of, end_of, target_of_open}
 use Rattle.kcall_core.specs.Updates.{gone_state, given_to, orphan, orphans}
 use Rattle.kcall_core.specs.WellFormed.{WellFormed}
@@ -132,6 +132,7 @@ module _ (frames : ℕ) (s : State) (p : ℕ) (l : Live) (status : ℤ) (files :
     same_row c (Some Uptime) = refl
     same_row c (Some Open) = refl
     same_row c (Some Close) = refl
+    same_row c (Some Sbrklazy) = refl
 
     same_call : (o : Option Call) → call_waits_for dead q (away m) o ≡ call_waits_for s q m o
     same_call None = refl

@@ -14,7 +14,7 @@ use Rattle.kcall_core.specs.Words.{c_int}
 use Rattle.kcall_core.specs.Processes.{Process, Live, Alive, Zombie}
 use Rattle.kcall_core.specs.State.{State, live, live_part}
 use Rattle.kcall_core.specs.Quiet.{file_of, end_of, target_of_open}
-use Rattle.kcall_core.specs.Calls.{Row, Fork, Exit, Wait, Pipe_row, Read, Kill, Exec, Dup, Getpid, Sbrk, Sleep, Uptime, Open, Write, Close, row_of}
+use Rattle.kcall_core.specs.Calls.{Row, Fork, Exit, Wait, Pipe_row, Read, Kill, Exec, Dup, Getpid, Sbrk, Sleep, Uptime, Open, Write, Close, Sbrklazy, row_of}
 use Rattle.kcall_core.specs.Updates.{marked, own_state, changed_state, kill_state, waited_state, forking, forked_child, forked_state, gone_state}
 use Rattle.kcall_core.specs.WellFormed.{WellFormed}
 use Rattle.kcall_core.specs.RowLaws.{FilesLeft}
@@ -73,6 +73,7 @@ module _ (s t : State) (q : ℕ) (l m : Live) (calls : m.call ≡ l.call) (descr
   same_row c (Some Uptime) = refl
   same_row c (Some Open) = refl
   same_row c (Some Close) = refl
+  same_row c (Some Sbrklazy) = refl
 
   same_call : (o : Option Call) → call_waits_for t q m o ≡ call_waits_for s q l o
   same_call None = refl

@@ -12,7 +12,7 @@ use Rattle.kcall_core.specs.Processes.{Live}
 use Rattle.proc_table.specs.declared.process.Call.{Call}
 use Rattle.kcall_core.specs.State.{State, live}
 use Rattle.kcall_core.specs.View.{View, view_of, named, numbered, rename, descriptor_at, descriptor_on}
-use Rattle.kcall_core.specs.Calls.{Row, Fork, Exit, Wait, Pipe_row, Read, Kill, Exec, Dup, Getpid, Sbrk, Sleep, Uptime, Open, Write, Close, row_of}
+use Rattle.kcall_core.specs.Calls.{Row, Fork, Exit, Wait, Pipe_row, Read, Kill, Exec, Dup, Getpid, Sbrk, Sleep, Uptime, Open, Write, Close, Sbrklazy, row_of}
 use Rattle.kcall_core.specs.Ready.{ready, call_ready, row_ready, on_shown, can_read, can_write, has_slept, in_use}
 use Rattle.kcall_core.specs.Run.{World}
 use Rattle.kcall_core.specs.Quiet.{end_of, target_of_open}
@@ -94,6 +94,7 @@ module _ (s : State) (p : ℕ) (l : Live) where
   row_is c (Some Uptime) = refl
   row_is c (Some Open) = refl
   row_is c (Some Close) = refl
+  row_is c (Some Sbrklazy) = refl
 
   call_is : (o : Option Call) → call_ready (view_of s p l) o ≡ is_open s (call_waits_for s p l o)
   call_is None = refl

@@ -15,6 +15,7 @@ use Rattle.console_core.specs.Reads.{pulled}
 use Rattle.file_table.specs.declared.open_file.End.TheVariants.{Reading, Writing}
 use Rattle.proc_table.specs.declared.process.Call.{Call}
 use Rattle.kcall_core.proofs.worked.WorkedViews.{pc_of, reg_of, call, minus, in_call, ends_of, a0_after, is_marked, pids_of, free_of, moved_of, at_place, writers_of, image_of, console_of}
+use Rattle.kcall_core.specs.Touches.{has_absent, pages_at, touch}
 use Rattle.kcall_core.specs.Words.{word}
 use Rattle.kcall_core.specs.Buffers.{readable, writable, text_at, texts_at, no_slashes, grown, shrunk}
 use Rattle.kcall_core.specs.Processes.{Running, Status}
@@ -136,24 +137,24 @@ module _ (image : Image) where
   }
 
   wait_least : (own (family 0)).answer ≡ Called (pos 3) (pos 3)
-  unfolding own in_call family perform row row_of wait ◌>>=◌ ◌>>◌ ◌when◌ ◌or◌
+  unfolding own in_call family perform row row_of wait touch ◌>>=◌ ◌>>◌ ◌when◌ ◌or◌
   wait_least = refl
 
   slot_is_free : pids_of (own (family 0)).next ≡ 1 ∷ 2 ∷ 4 ∷ []
-  unfolding own in_call family pids_of perform row row_of wait ◌>>=◌ ◌>>◌ ◌when◌ ◌or◌
+  unfolding own in_call family pids_of perform row row_of wait touch ◌>>=◌ ◌>>◌ ◌when◌ ◌or◌
   slot_is_free = refl
 
   -- nothing is written where the address is 0
   wait_writes_nothing : image_of (own (family 0)).next ≡ image
-  unfolding own in_call family image_of perform row row_of wait ◌>>=◌ ◌>>◌ ◌when◌ ◌or◌
+  unfolding own in_call family image_of perform row row_of wait touch ◌>>=◌ ◌>>◌ ◌when◌ ◌or◌
   wait_writes_nothing = refl
 
   wait_alone : (own (in_call image (call 3 0 0 0))).answer ≡ Called (pos 3) (negsuc 0)
-  unfolding own in_call perform row row_of wait ◌>>=◌ ◌>>◌ ◌when◌ ◌or◌
+  unfolding own in_call perform row row_of wait touch ◌>>=◌ ◌>>◌ ◌when◌ ◌or◌
   wait_alone = refl
 
   wait_running : (own (record (family 0) { children = λ q. cond (nat_eq q 2) (Some Running) None })).answer ≡ Blocked (pos 3)
-  unfolding own in_call family perform row row_of wait ◌>>=◌ ◌>>◌ ◌when◌ ◌or◌
+  unfolding own in_call family perform row row_of wait touch ◌>>=◌ ◌>>◌ ◌when◌ ◌or◌
   wait_running = refl
 
   -- ---- fork and exit, of a process that costs 7 frames
@@ -161,7 +162,7 @@ module _ (image : Image) where
   module _ (priced : price image ≡ 6) where
     exit_frees : (own (in_call image (call 2 7 0 0))).left.free ≡ 16
     unfolding own perform_parts perform_row row_of in_call count_below
-    exit_frees = by_parts (λ (o : Own). o.left.free) _ _ (ap (λ (n : ℕ). 9 + n + 1 + 0) priced)
+    exit_frees = by_parts (λ (o : Own). o.left.free) _ _ refl (ap (λ (n : ℕ). 9 + n + 1 + 0) priced)
 
     fork_by : (v : View) (b : Bool) → cannot_fork v ≡ b → (fork_parts (call 1 0 0 0) v).answer ≡ cond b (Called (pos 1) (negsuc 0)) (Called (pos 1) (pos v.next_pid))
     fork_by v true e = ap (λ (b : Bool). (unless b (call 1 0 0 0) v (λ _. forked (call 1 0 0 0) v)).answer) e
@@ -169,11 +170,11 @@ module _ (image : Image) where
 
     fork_13 : (own (record (in_call image (call 1 0 0 0)) { free = 13 })).answer ≡ Called (pos 1) (pos 2)
     unfolding own perform_parts perform_row row_of in_call
-    fork_13 = by_parts (λ (o : Own). o.answer) _ _ (fork_by (record (in_call image (call 1 0 0 0)) { free = 13 }) false (ap (λ (n : ℕ). nat_lt 13 (n + 1)) priced))
+    fork_13 = by_parts (λ (o : Own). o.answer) _ _ refl (fork_by (record (in_call image (call 1 0 0 0)) { free = 13 }) false (ap (λ (n : ℕ). nat_lt 13 (n + 1)) priced))
 
     fork_leaves_6 : free_of (own (record (in_call image (call 1 0 0 0)) { free = 13 })).next ≡ 6
     unfolding own perform_parts perform_row row_of in_call free_of
-    fork_leaves_6 = by_parts (λ (o : Own). free_of o.next) _ _ (
+    fork_leaves_6 = by_parts (λ (o : Own). free_of o.next) _ _ refl (
         ap (λ (b : Bool). free_of (unless b (call 1 0 0 0) (record (in_call image (call 1 0 0 0)) { free = 13 }) (λ _. forked (call 1 0 0 0) (record (in_call image (call 1 0 0 0)) { free = 13 }))).next) (ap (λ (n : ℕ). nat_lt 13 (n + 1)) priced)
         ∙ ap (λ (n : ℕ). 13 - (n + 1)) priced)
 
@@ -191,16 +192,16 @@ module _ (image : Image) where
   module _ (there : readable image 0 too_many ≡ true) where
     blocks : (own writer).answer ≡ Blocked (pos 16)
     unfolding own perform_parts perform_row row_of in_call writer new_pipe
-    blocks = by_parts (λ (o : Own). o.answer) _ _ (ap (λ (b : Bool). (moving (call 16 1 0 too_many) writer b (pos too_many) (λ n. write_to (call 16 1 0 too_many) writer n (Shown_pipe 0 Writing new_pipe))).answer) there)
+    blocks = by_parts (λ (o : Own). o.answer) _ _ refl (ap (λ (b : Bool). (moving (call 16 1 0 too_many) writer b (pos too_many) (λ n. write_to (call 16 1 0 too_many) writer n (Shown_pipe 0 Writing new_pipe))).answer) there)
 
     moves_all_but_one : moved_of (own writer).next ≡ Some PIPE_BYTES
     unfolding own perform_parts perform_row row_of in_call writer new_pipe moved_of
-    moves_all_but_one = by_parts (λ (o : Own). moved_of o.next) _ _ (ap (λ (b : Bool). moved_of (moving (call 16 1 0 too_many) writer b (pos too_many) (λ n. write_to (call 16 1 0 too_many) writer n (Shown_pipe 0 Writing new_pipe))).next) there)
+    moves_all_but_one = by_parts (λ (o : Own). moved_of o.next) _ _ refl (ap (λ (b : Bool). moved_of (moving (call 16 1 0 too_many) writer b (pos too_many) (λ n. write_to (call 16 1 0 too_many) writer n (Shown_pipe 0 Writing new_pipe))).next) there)
 
     -- nobody reads any more
     broken : (own (record writer { descriptors = ends_of (record { bytes = []; readers = 0; writers = 1 }) })).answer ≡ Called (pos 16) (negsuc 0)
     unfolding own perform_parts perform_row row_of in_call writer
-    broken = by_parts (λ (o : Own). o.answer) _ _ (ap (λ (b : Bool). (moving (call 16 1 0 too_many) (record writer { descriptors = ends_of (record { bytes = []; readers = 0; writers = 1 }) }) b (pos too_many) (λ n. write_to (call 16 1 0 too_many) (record writer { descriptors = ends_of (record { bytes = []; readers = 0; writers = 1 }) }) n (Shown_pipe 0 Writing (record { bytes = []; readers = 0; writers = 1 })))).answer) there)
+    broken = by_parts (λ (o : Own). o.answer) _ _ refl (ap (λ (b : Bool). (moving (call 16 1 0 too_many) (record writer { descriptors = ends_of (record { bytes = []; readers = 0; writers = 1 }) }) b (pos too_many) (λ n. write_to (call 16 1 0 too_many) (record writer { descriptors = ends_of (record { bytes = []; readers = 0; writers = 1 }) }) n (Shown_pipe 0 Writing (record { bytes = []; readers = 0; writers = 1 })))).answer) there)
 
   -- n 0 is done at once, whatever the buffer
 
@@ -268,13 +269,13 @@ module _ (image : Image) where
   making : ℕ → Bool → Own
   making free there = unless (not there || nat_eq free 0) (call 4 0 0 0) (record (in_call image (call 4 0 0 0)) { free = free }) (λ _. piped_from (call 4 0 0 0) (record (in_call image (call 4 0 0 0)) { free = free }) (lowest_free (λ d. None)))
 
-  pipe_made : writable image 0 8 ≡ true → (own (in_call image (call 4 0 0 0))).answer ≡ Called (pos 4) (pos 0)
+  pipe_made : writable image 0 8 ≡ true → has_absent (pages_at 0 8) image ≡ false → (own (in_call image (call 4 0 0 0))).answer ≡ Called (pos 4) (pos 0)
   unfolding own perform_parts perform_row row_of in_call making least_below
-  pipe_made there = by_parts (λ (o : Own). o.answer) _ _ (ap (λ (b : Bool). (making 9 b).answer) there)
+  pipe_made there present = by_parts (λ (o : Own). o.answer) _ _ present (ap (λ (b : Bool). (making 9 b).answer) there)
 
-  pipe_takes_1 : writable image 0 8 ≡ true → free_of (own (in_call image (call 4 0 0 0))).next ≡ 8
+  pipe_takes_1 : writable image 0 8 ≡ true → has_absent (pages_at 0 8) image ≡ false → free_of (own (in_call image (call 4 0 0 0))).next ≡ 8
   unfolding own perform_parts perform_row row_of in_call making least_below free_of
-  pipe_takes_1 there = by_parts (λ (o : Own). free_of o.next) _ _ (ap (λ (b : Bool). free_of (making 9 b).next) there)
+  pipe_takes_1 there present = by_parts (λ (o : Own). free_of o.next) _ _ present (ap (λ (b : Bool). free_of (making 9 b).next) there)
 
   -- ---- reads and writes: which bytes come and go, and where
 
@@ -289,18 +290,18 @@ module _ (image : Image) where
   reading_file : Bool → Own
   reading_file there = moving (call 5 0 8192 9) file_reader there (pos 9) (λ n. read_from (call 5 0 8192 9) file_reader n 0 (Shown_file 0 2))
 
-  module _ (there : writable image 8192 9 ≡ true) where
+  module _ (there : writable image 8192 9 ≡ true) (present : has_absent (pages_at 8192 9) image ≡ false) where
     file_rest : image_of (own file_reader).next ≡ write_image image 8192 (codes "llo")
     unfolding own perform_parts perform_row row_of in_call file_reader reading_file image_of
-    file_rest = by_parts (λ (o : Own). image_of o.next) _ _ (ap (λ (b : Bool). image_of (reading_file b).next) there)
+    file_rest = by_parts (λ (o : Own). image_of o.next) _ _ present (ap (λ (b : Bool). image_of (reading_file b).next) there)
 
     file_answer : (own file_reader).answer ≡ Called (pos 5) (pos 3)
     unfolding own perform_parts perform_row row_of in_call file_reader reading_file
-    file_answer = by_parts (λ (o : Own). o.answer) _ _ (ap (λ (b : Bool). (reading_file b).answer) there)
+    file_answer = by_parts (λ (o : Own). o.answer) _ _ present (ap (λ (b : Bool). (reading_file b).answer) there)
 
     file_offset : at_place (own file_reader).next 0 ≡ Some (record { file = 0; read = true; write = false; shown = Shown_file 0 5 })
     unfolding own perform_parts perform_row row_of in_call file_reader reading_file at_place
-    file_offset = by_parts (λ (o : Own). at_place o.next 0) _ _ (ap (λ (b : Bool). at_place (reading_file b).next 0) there)
+    file_offset = by_parts (λ (o : Own). at_place o.next 0) _ _ present (ap (λ (b : Bool). at_place (reading_file b).next 0) there)
 
   -- descriptor 0 is on the console; a call on 40 bytes at 8192 that has moved so many
   terminal_call : ℕ → ℕ → Call
@@ -319,50 +320,50 @@ module _ (image : Image) where
   writing_line moved there = moving (terminal_call 16 moved) (at_terminal 16 moved []) there (pos 40) (λ n. write_to (terminal_call 16 moved) (at_terminal 16 moved []) n Shown_terminal)
 
   -- a read that has 2 bytes goes on behind them; its line's end makes 4. Without an end it waits, with 3
-  module _ (there : writable image 8192 40 ≡ true) where
+  module _ (there : writable image 8192 40 ≡ true) (present : has_absent (pages_at 8192 40) image ≡ false) where
     line_rest : image_of (own (at_terminal 5 2 (codes "c\n"))).next ≡ write_image image 8194 (codes "c\n")
     unfolding own perform_parts perform_row row_of in_call terminal_call at_terminal reading_line image_of
-    line_rest = by_parts (λ (o : Own). image_of o.next) _ _ (ap (λ (b : Bool). image_of (reading_line 2 (codes "c\n") b).next) there)
+    line_rest = by_parts (λ (o : Own). image_of o.next) _ _ present (ap (λ (b : Bool). image_of (reading_line 2 (codes "c\n") b).next) there)
 
     line_answer : (own (at_terminal 5 2 (codes "c\n"))).answer ≡ Called (pos 5) (pos 4)
     unfolding own perform_parts perform_row row_of in_call terminal_call at_terminal reading_line
-    line_answer = by_parts (λ (o : Own). o.answer) _ _ (ap (λ (b : Bool). (reading_line 2 (codes "c\n") b).answer) there)
+    line_answer = by_parts (λ (o : Own). o.answer) _ _ present (ap (λ (b : Bool). (reading_line 2 (codes "c\n") b).answer) there)
 
     line_waits : (own (at_terminal 5 2 (codes "c"))).answer ≡ Blocked (pos 5)
     unfolding own perform_parts perform_row row_of in_call terminal_call at_terminal reading_line
-    line_waits = by_parts (λ (o : Own). o.answer) _ _ (ap (λ (b : Bool). (reading_line 2 (codes "c") b).answer) there)
+    line_waits = by_parts (λ (o : Own). o.answer) _ _ present (ap (λ (b : Bool). (reading_line 2 (codes "c") b).answer) there)
 
     line_moved : moved_of (own (at_terminal 5 2 (codes "c"))).next ≡ Some 3
     unfolding own perform_parts perform_row row_of in_call terminal_call at_terminal reading_line moved_of
-    line_moved = by_parts (λ (o : Own). moved_of o.next) _ _ (ap (λ (b : Bool). moved_of (reading_line 2 (codes "c") b).next) there)
+    line_moved = by_parts (λ (o : Own). moved_of o.next) _ _ present (ap (λ (b : Bool). moved_of (reading_line 2 (codes "c") b).next) there)
 
     -- with room for one byte more it takes one of two, and is over
     line_room : image_of (own (at_terminal 5 39 (codes "cd"))).next ≡ write_image image 8231 (codes "c")
     unfolding own perform_parts perform_row row_of in_call terminal_call at_terminal reading_line image_of
-    line_room = by_parts (λ (o : Own). image_of o.next) _ _ (ap (λ (b : Bool). image_of (reading_line 39 (codes "cd") b).next) there)
+    line_room = by_parts (λ (o : Own). image_of o.next) _ _ present (ap (λ (b : Bool). image_of (reading_line 39 (codes "cd") b).next) there)
 
     -- byte 4, where nothing is read before it, is taken, and ends the read with 0
     line_end : (own (at_terminal 5 0 (4 ∷ []))).answer ≡ Called (pos 5) (pos 0)
     unfolding own perform_parts perform_row row_of in_call terminal_call at_terminal reading_line
-    line_end = by_parts (λ (o : Own). o.answer) _ _ (ap (λ (b : Bool). (reading_line 0 (4 ∷ []) b).answer) there)
+    line_end = by_parts (λ (o : Own). o.answer) _ _ present (ap (λ (b : Bool). (reading_line 0 (4 ∷ []) b).answer) there)
 
   -- a write of 40 bytes: bytes 0 to 31 go first, and it waits; where they are sent, bytes 32 to 39 go, and it is done
   module _ (there : readable image 8192 40 ≡ true) where
     sends_32 : (console_of (own (at_terminal 16 0 [])).next).to_send ≡ image_bytes image 8192 32
     unfolding own perform_parts perform_row row_of in_call terminal_call at_terminal writing_line console_of
-    sends_32 = by_parts (λ (o : Own). (console_of o.next).to_send) _ _ (ap (λ (b : Bool). (console_of (writing_line 0 b).next).to_send) there)
+    sends_32 = by_parts (λ (o : Own). (console_of o.next).to_send) _ _ refl (ap (λ (b : Bool). (console_of (writing_line 0 b).next).to_send) there)
 
     waits_at_32 : (own (at_terminal 16 0 [])).answer ≡ Blocked (pos 16)
     unfolding own perform_parts perform_row row_of in_call terminal_call at_terminal writing_line
-    waits_at_32 = by_parts (λ (o : Own). o.answer) _ _ (ap (λ (b : Bool). (writing_line 0 b).answer) there)
+    waits_at_32 = by_parts (λ (o : Own). o.answer) _ _ refl (ap (λ (b : Bool). (writing_line 0 b).answer) there)
 
     sends_8 : (console_of (own (at_terminal 16 32 [])).next).to_send ≡ image_bytes image 8224 8
     unfolding own perform_parts perform_row row_of in_call terminal_call at_terminal writing_line console_of
-    sends_8 = by_parts (λ (o : Own). (console_of o.next).to_send) _ _ (ap (λ (b : Bool). (console_of (writing_line 32 b).next).to_send) there)
+    sends_8 = by_parts (λ (o : Own). (console_of o.next).to_send) _ _ refl (ap (λ (b : Bool). (console_of (writing_line 32 b).next).to_send) there)
 
     wrote_40 : (own (at_terminal 16 32 [])).answer ≡ Called (pos 16) (pos 40)
     unfolding own perform_parts perform_row row_of in_call terminal_call at_terminal writing_line
-    wrote_40 = by_parts (λ (o : Own). o.answer) _ _ (ap (λ (b : Bool). (writing_line 32 b).answer) there)
+    wrote_40 = by_parts (λ (o : Own). o.answer) _ _ refl (ap (λ (b : Bool). (writing_line 32 b).answer) there)
 
   -- ---- reads of a pipe: what is there; nothing yet; nothing any more
 
@@ -372,39 +373,39 @@ module _ (image : Image) where
   reading_pipe : List ℕ → ℕ → Bool → Own
   reading_pipe bytes writers there = moving (call 5 0 8192 10) (reader bytes writers) there (pos 10) (λ n. read_from (call 5 0 8192 10) (reader bytes writers) n 0 (Shown_pipe 0 Reading (record { bytes = bytes; readers = 1; writers = writers })))
 
-  module _ (there : writable image 8192 10 ≡ true) where
+  module _ (there : writable image 8192 10 ≡ true) (present : has_absent (pages_at 8192 10) image ≡ false) where
     pipe_bytes : image_of (own (reader (codes "xy") 1)).next ≡ write_image image 8192 (codes "xy")
     unfolding own perform_parts perform_row row_of in_call reader reading_pipe image_of
-    pipe_bytes = by_parts (λ (o : Own). image_of o.next) _ _ (ap (λ (b : Bool). image_of (reading_pipe (codes "xy") 1 b).next) there)
+    pipe_bytes = by_parts (λ (o : Own). image_of o.next) _ _ present (ap (λ (b : Bool). image_of (reading_pipe (codes "xy") 1 b).next) there)
 
     pipe_answer : (own (reader (codes "xy") 1)).answer ≡ Called (pos 5) (pos 2)
     unfolding own perform_parts perform_row row_of in_call reader reading_pipe
-    pipe_answer = by_parts (λ (o : Own). o.answer) _ _ (ap (λ (b : Bool). (reading_pipe (codes "xy") 1 b).answer) there)
+    pipe_answer = by_parts (λ (o : Own). o.answer) _ _ present (ap (λ (b : Bool). (reading_pipe (codes "xy") 1 b).answer) there)
 
     pipe_left : at_place (own (reader (codes "xy") 1)).next 0 ≡ Some (record { file = 0; read = true; write = false; shown = Shown_pipe 0 Reading new_pipe })
     unfolding own perform_parts perform_row row_of in_call reader reading_pipe at_place new_pipe
-    pipe_left = by_parts (λ (o : Own). at_place o.next 0) _ _ (ap (λ (b : Bool). at_place (reading_pipe (codes "xy") 1 b).next 0) there)
+    pipe_left = by_parts (λ (o : Own). at_place o.next 0) _ _ present (ap (λ (b : Bool). at_place (reading_pipe (codes "xy") 1 b).next 0) there)
 
     pipe_waits : (own (reader [] 1)).answer ≡ Blocked (pos 5)
     unfolding own perform_parts perform_row row_of in_call reader reading_pipe
-    pipe_waits = by_parts (λ (o : Own). o.answer) _ _ (ap (λ (b : Bool). (reading_pipe [] 1 b).answer) there)
+    pipe_waits = by_parts (λ (o : Own). o.answer) _ _ present (ap (λ (b : Bool). (reading_pipe [] 1 b).answer) there)
 
     pipe_ends : (own (reader [] 0)).answer ≡ Called (pos 5) (pos 0)
     unfolding own perform_parts perform_row row_of in_call reader reading_pipe
-    pipe_ends = by_parts (λ (o : Own). o.answer) _ _ (ap (λ (b : Bool). (reading_pipe [] 0 b).answer) there)
+    pipe_ends = by_parts (λ (o : Own). o.answer) _ _ present (ap (λ (b : Bool). (reading_pipe [] 0 b).answer) there)
 
   -- ---- wait with an address: the status goes there, and the address is tested first
 
   waiting_at : Bool → Own
   waiting_at there = unless (not (nat_eq 8192 0) && not there) (call 3 8192 0 0) (family 8192) (λ _. reaped (call 3 8192 0 0) (family 8192) (least_zombie (family 8192)))
 
-  wait_tells : writable image 8192 4 ≡ true → image_of (own (family 8192)).next ≡ write_image image 8192 (30 ∷ 0 ∷ 0 ∷ 0 ∷ [])
+  wait_tells : writable image 8192 4 ≡ true → has_absent (pages_at 8192 4) image ≡ false → image_of (own (family 8192)).next ≡ write_image image 8192 (30 ∷ 0 ∷ 0 ∷ 0 ∷ [])
   unfolding own perform_parts perform_row row_of in_call family waiting_at image_of
-  wait_tells there = by_parts (λ (o : Own). image_of o.next) _ _ (ap (λ (b : Bool). image_of (waiting_at b).next) there)
+  wait_tells there present = by_parts (λ (o : Own). image_of o.next) _ _ present (ap (λ (b : Bool). image_of (waiting_at b).next) there)
 
   wait_nowhere : writable image 8192 4 ≡ false → (own (family 8192)).answer ≡ Called (pos 3) (negsuc 0)
-  unfolding own perform_parts perform_row row_of in_call family waiting_at
-  wait_nowhere absent = by_parts (λ (o : Own). o.answer) _ _ (ap (λ (b : Bool). (waiting_at b).answer) absent)
+  unfolding own in_call family perform row row_of wait touch ◌>>=◌ ◌>>◌ ◌when◌ ◌or◌
+  wait_nowhere refusing = rw refusing refl
 
   abbrev with_a : View → View
   with_a v = record v { programs = (record { name = codes "a"; bytes = codes "hello" }) ∷ [] }
@@ -418,7 +419,7 @@ module _ (image : Image) where
     -- what is asked of the step, where `a` is loaded so
     exec_as : {X : Type 0} (asked : Own → X) (r : Result Loaded ExecError) → loaded (codes "hello") [] ≡ r → asked (own executing) ≡ asked (exec_loaded (call 7 0 64 0) executing r)
     unfolding own perform_parts perform_row row_of in_call no_slashes
-    exec_as asked r is = by_parts (λ (o : Own). asked o) _ _ (
+    exec_as asked r is = by_parts (λ (o : Own). asked o) _ _ refl (
         ap (λ (o : Option (List ℕ)). asked (exec_path (call 7 0 64 0) executing o)) path
         ∙ ap (λ (o : Option (List (List ℕ))). asked (exec_program (call 7 0 64 0) executing o (Some (record { name = codes "a"; bytes = codes "hello" })))) texts
         ∙ ap (λ (o : Result Loaded ExecError). asked (exec_loaded (call 7 0 64 0) executing o)) is)
@@ -479,23 +480,23 @@ module _ (image : Image) where
   -- a path that isn't there, texts that aren't, a name that no program has, and slashes before one
   exec_no_path : text_at MAXPATH image 0 ≡ None → (own executing).answer ≡ Called (pos 7) (negsuc 0)
   unfolding own perform_parts perform_row row_of in_call
-  exec_no_path given = by_parts (λ (o : Own). o.answer) _ _ (ap (λ (o : Option (List ℕ)). (exec_path (call 7 0 64 0) executing o).answer) given)
+  exec_no_path given = by_parts (λ (o : Own). o.answer) _ _ refl (ap (λ (o : Option (List ℕ)). (exec_path (call 7 0 64 0) executing o).answer) given)
 
   exec_no_texts : text_at MAXPATH image 0 ≡ Some (codes "a") → texts_at MAXARG ARG_BYTES image 64 ≡ None → (own executing).answer ≡ Called (pos 7) (negsuc 0)
   unfolding own perform_parts perform_row row_of in_call no_slashes
-  exec_no_texts path texts = by_parts (λ (o : Own). o.answer) _ _ (
+  exec_no_texts path texts = by_parts (λ (o : Own). o.answer) _ _ refl (
       ap (λ (o : Option (List ℕ)). (exec_path (call 7 0 64 0) executing o).answer) path
       ∙ ap (λ (o : Option (List (List ℕ))). (exec_program (call 7 0 64 0) executing o (Some (record { name = codes "a"; bytes = codes "hello" }))).answer) texts)
 
   exec_unknown : text_at MAXPATH image 0 ≡ Some (codes "c") → texts_at MAXARG ARG_BYTES image 64 ≡ Some [] → (own executing).answer ≡ Called (pos 7) (negsuc 0)
   unfolding own perform_parts perform_row row_of in_call no_slashes
-  exec_unknown path texts = by_parts (λ (o : Own). o.answer) _ _ (
+  exec_unknown path texts = by_parts (λ (o : Own). o.answer) _ _ refl (
       ap (λ (o : Option (List ℕ)). (exec_path (call 7 0 64 0) executing o).answer) path
       ∙ ap (λ (o : Option (List (List ℕ))). (exec_program (call 7 0 64 0) executing o None).answer) texts)
 
   exec_slashes : text_at MAXPATH image 0 ≡ Some (codes "//a") → texts_at MAXARG ARG_BYTES image 64 ≡ Some [] → own executing ≡ exec_loaded (call 7 0 64 0) executing (loaded (codes "hello") [])
   unfolding own perform_parts perform_row row_of in_call no_slashes
-  exec_slashes path texts = by_parts (λ (o : Own). o) _ _ (
+  exec_slashes path texts = by_parts (λ (o : Own). o) _ _ refl (
       ap (λ (o : Option (List ℕ)). exec_path (call 7 0 64 0) executing o) path
       ∙ ap (λ (o : Option (List (List ℕ))). exec_program (call 7 0 64 0) executing o (Some (record { name = codes "a"; bytes = codes "hello" }))) texts)
 
@@ -513,15 +514,15 @@ module _ (image : Image) where
 
     grows : (own (sizing 4096 9)).answer ≡ Called (pos 12) (pos 12288)
     unfolding own perform_parts perform_row row_of in_call growing
-    grows = by_parts (λ (o : Own). o.answer) _ _ (ap (λ (n : ℕ). (growing 9 n).answer) one_frame)
+    grows = by_parts (λ (o : Own). o.answer) _ _ refl (ap (λ (n : ℕ). (growing 9 n).answer) one_frame)
 
     grows_by_1 : free_of (own (sizing 4096 9)).next ≡ 8
     unfolding own perform_parts perform_row row_of in_call growing free_of
-    grows_by_1 = by_parts (λ (o : Own). free_of o.next) _ _ (ap (λ (n : ℕ). free_of (growing 9 n).next) one_frame)
+    grows_by_1 = by_parts (λ (o : Own). free_of o.next) _ _ refl (ap (λ (n : ℕ). free_of (growing 9 n).next) one_frame)
 
     grows_not : (own (sizing 4096 0)).answer ≡ Called (pos 12) (negsuc 0)
     unfolding own perform_parts perform_row row_of in_call growing
-    grows_not = by_parts (λ (o : Own). o.answer) _ _ (ap (λ (n : ℕ). (growing 0 n).answer) one_frame)
+    grows_not = by_parts (λ (o : Own). o.answer) _ _ refl (ap (λ (n : ℕ). (growing 0 n).answer) one_frame)
 
   shrinks : (own (sizing (minus 4096) 9)).answer ≡ Called (pos 12) (pos 12288)
   unfolding own in_call perform row row_of sbrk ◌>>=◌ ◌>>◌ ◌when◌ ◌or◌
@@ -533,7 +534,7 @@ module _ (image : Image) where
 
   shrinks_frees : price (record image { size = 12288 }) ≡ 7 → price (shrunk (record image { size = 12288 }) 8192) ≡ 6 → free_of (own (sizing (minus 4096) 9)).next ≡ 10
   unfolding own perform_parts perform_row row_of in_call free_of
-  shrinks_frees before after = by_parts (λ (o : Own). free_of o.next) _ _ (ap (λ (n : ℕ). 9 + n - price (shrunk (record image { size = 12288 }) 8192)) before ∙ ap (λ (n : ℕ). 16 - n) after)
+  shrinks_frees before after = by_parts (λ (o : Own). free_of o.next) _ _ refl (ap (λ (n : ℕ). 9 + n - price (shrunk (record image { size = 12288 }) 8192)) before ∙ ap (λ (n : ℕ). 16 - n) after)
 
 -- ---- the console: what keys leave and show
 

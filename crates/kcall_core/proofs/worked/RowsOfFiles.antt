@@ -13,10 +13,11 @@ use Rattle.kcall_core.specs.Buffers.{writable, readable, text_at, no_slashes}
 use Rattle.kcall_core.specs.View.{View, Descriptors, Descriptor, Shown_terminal, Shown_pipe, Shown_file, named}
 use Rattle.kcall_core.specs.Tables.{lowest_free, lowest_free_above}
 use Rattle.kcall_core.specs.Own.{Own, Answer, Called}
-use Rattle.kcall_core.specs.Calls.{row_of, perform, row, close, dup, read, write}
+use Rattle.kcall_core.specs.Calls.{row_of, perform, row, close, dup, make_pipe, read, write}
 use Rattle.kcall_core.specs.Step.{own}
+use Rattle.kcall_core.specs.Touches.{has_absent, pages_at}
 use Rattle.kcall_core.proofs.worked.WorkedViews.{call, minus, in_call, ends_of, free_of, at_place, image_of}
-use Rattle.kcall_core.proofs.rows.RowParts.{perform_row, unless, moving, read_from, write_to, piped_from, open_path, perform_parts}
+use Rattle.kcall_core.proofs.rows.RowParts.{perform_row, unless, moving, write_to, piped_from, open_path, perform_parts}
 use Rattle.kcall_core.specs.Lines.{◌>>=◌, ◌>>◌, ◌or◌, ◌when◌}
 use Rattle.kcall_core.proofs.rows.RowsByParts.{by_parts}
 
@@ -92,62 +93,62 @@ module _ (image : Image) where
   unfolding piping in_call
   piping_if t free there = unless (not there || nat_eq free 0) (call 4 0 0 0) (piping t free) (λ _. piped_from (call 4 0 0 0) (piping t free) (lowest_free t))
 
-  module _ (there : writable image 0 8 ≡ true) where
+  module _ (there : writable image 0 8 ≡ true) (present : has_absent (pages_at 0 8) image ≡ false) where
     -- the last free frame, and none
     pipe_frame : (own (piping (used 0) 1)).answer ≡ Called (pos 4) (pos 0)
     unfolding own perform_parts perform_row row_of in_call piping piping_if least_below
-    pipe_frame = by_parts (λ (o : Own). o.answer) _ _ (ap (λ (b : Bool). (piping_if (used 0) 1 b).answer) there)
+    pipe_frame = by_parts (λ (o : Own). o.answer) _ _ present (ap (λ (b : Bool). (piping_if (used 0) 1 b).answer) there)
 
     pipe_takes_frame : free_of (own (piping (used 0) 1)).next ≡ 0
     unfolding own perform_parts perform_row row_of in_call piping piping_if least_below free_of
-    pipe_takes_frame = by_parts (λ (o : Own). free_of o.next) _ _ (ap (λ (b : Bool). free_of (piping_if (used 0) 1 b).next) there)
+    pipe_takes_frame = by_parts (λ (o : Own). free_of o.next) _ _ present (ap (λ (b : Bool). free_of (piping_if (used 0) 1 b).next) there)
 
     pipe_no_frame : (own (piping (used 0) 0)).answer ≡ Called (pos 4) (negsuc 0)
     unfolding own perform_parts perform_row row_of in_call piping piping_if least_below
-    pipe_no_frame = by_parts (λ (o : Own). o.answer) _ _ (ap (λ (b : Bool). (piping_if (used 0) 0 b).answer) there)
+    pipe_no_frame = by_parts (λ (o : Own). o.answer) _ _ present (ap (λ (b : Bool). (piping_if (used 0) 0 b).answer) there)
 
     -- its two numbers, 4 bytes each, the read end's first
     pipe_bytes : image_of (own (piping (used 0) 1)).next ≡ write_image image 0 (0 ∷ 0 ∷ 0 ∷ 0 ∷ 1 ∷ 0 ∷ 0 ∷ 0 ∷ [])
     unfolding own perform_parts perform_row row_of in_call piping piping_if least_below image_of
-    pipe_bytes = by_parts (λ (o : Own). image_of o.next) _ _ (ap (λ (b : Bool). image_of (piping_if (used 0) 1 b).next) there)
+    pipe_bytes = by_parts (λ (o : Own). image_of o.next) _ _ present (ap (λ (b : Bool). image_of (piping_if (used 0) 1 b).next) there)
 
     pipe_read_end : at_place (own (piping (used 0) 1)).next 0 ≡ Some (record { file = 0; read = true; write = false; shown = Shown_pipe 0 Reading new_pipe })
     unfolding own perform_parts perform_row row_of in_call piping piping_if least_below named at_place
-    pipe_read_end = by_parts (λ (o : Own). at_place o.next 0) _ _ (ap (λ (b : Bool). at_place (piping_if (used 0) 1 b).next 0) there)
+    pipe_read_end = by_parts (λ (o : Own). at_place o.next 0) _ _ present (ap (λ (b : Bool). at_place (piping_if (used 0) 1 b).next 0) there)
 
     pipe_write_end : at_place (own (piping (used 0) 1)).next 1 ≡ Some (record { file = 1; read = false; write = true; shown = Shown_pipe 0 Writing (record { bytes = []; readers = 1; writers = 1 }) })
     unfolding own perform_parts perform_row row_of in_call piping piping_if least_below named at_place new_pipe
-    pipe_write_end = by_parts (λ (o : Own). at_place o.next 1) _ _ (ap (λ (b : Bool). at_place (piping_if (used 0) 1 b).next 1) there)
+    pipe_write_end = by_parts (λ (o : Own). at_place o.next 1) _ _ present (ap (λ (b : Bool). at_place (piping_if (used 0) 1 b).next 1) there)
 
     pipe_rest : at_place (own (piping (used 0) 1)).next 2 ≡ None
     unfolding own perform_parts perform_row row_of in_call piping piping_if least_below named at_place
-    pipe_rest = by_parts (λ (o : Own). at_place o.next 2) _ _ (ap (λ (b : Bool). at_place (piping_if (used 0) 1 b).next 2) there)
+    pipe_rest = by_parts (λ (o : Own). at_place o.next 2) _ _ present (ap (λ (b : Bool). at_place (piping_if (used 0) 1 b).next 2) there)
 
     -- with holes at 3 and 9
     pipe_holes : image_of (own (piping (but 3 9) 1)).next ≡ write_image image 0 (3 ∷ 0 ∷ 0 ∷ 0 ∷ 9 ∷ 0 ∷ 0 ∷ 0 ∷ [])
     unfolding own perform_parts perform_row row_of in_call piping piping_if least_below image_of
-    pipe_holes = by_parts (λ (o : Own). image_of o.next) _ _ (ap (λ (b : Bool). image_of (piping_if (but 3 9) 1 b).next) there)
+    pipe_holes = by_parts (λ (o : Own). image_of o.next) _ _ present (ap (λ (b : Bool). image_of (piping_if (but 3 9) 1 b).next) there)
 
     -- two descriptors are free, the last ones; then one, and none
     pipe_two_left : image_of (own (piping (used (last - 1)) 9)).next ≡ write_image image 0 ((last - 1) ∷ 0 ∷ 0 ∷ 0 ∷ last ∷ 0 ∷ 0 ∷ 0 ∷ [])
     unfolding own perform_parts perform_row row_of in_call piping piping_if least_below image_of
-    pipe_two_left = by_parts (λ (o : Own). image_of o.next) _ _ (ap (λ (b : Bool). image_of (piping_if (used (last - 1)) 9 b).next) there)
+    pipe_two_left = by_parts (λ (o : Own). image_of o.next) _ _ present (ap (λ (b : Bool). image_of (piping_if (used (last - 1)) 9 b).next) there)
 
     pipe_one_left : (own (piping (used last) 9)).answer ≡ Called (pos 4) (negsuc 0)
     unfolding own perform_parts perform_row row_of in_call piping piping_if least_below
-    pipe_one_left = by_parts (λ (o : Own). o.answer) _ _ (ap (λ (b : Bool). (piping_if (used last) 9 b).answer) there)
+    pipe_one_left = by_parts (λ (o : Own). o.answer) _ _ present (ap (λ (b : Bool). (piping_if (used last) 9 b).answer) there)
 
     pipe_one_left_takes_nothing : free_of (own (piping (used last) 9)).next ≡ 9
     unfolding own perform_parts perform_row row_of in_call piping piping_if least_below free_of
-    pipe_one_left_takes_nothing = by_parts (λ (o : Own). free_of o.next) _ _ (ap (λ (b : Bool). free_of (piping_if (used last) 9 b).next) there)
+    pipe_one_left_takes_nothing = by_parts (λ (o : Own). free_of o.next) _ _ present (ap (λ (b : Bool). free_of (piping_if (used last) 9 b).next) there)
 
     pipe_none_left : (own (piping (used NOFILE) 9)).answer ≡ Called (pos 4) (negsuc 0)
     unfolding own perform_parts perform_row row_of in_call piping piping_if least_below
-    pipe_none_left = by_parts (λ (o : Own). o.answer) _ _ (ap (λ (b : Bool). (piping_if (used NOFILE) 9 b).answer) there)
+    pipe_none_left = by_parts (λ (o : Own). o.answer) _ _ present (ap (λ (b : Bool). (piping_if (used NOFILE) 9 b).answer) there)
 
   pipe_not_there : writable image 0 8 ≡ false → (own (piping (used 0) 9)).answer ≡ Called (pos 4) (negsuc 0)
-  unfolding own perform_parts perform_row row_of in_call piping piping_if least_below
-  pipe_not_there absent = by_parts (λ (o : Own). o.answer) _ _ (ap (λ (b : Bool). (piping_if (used 0) 9 b).answer) absent)
+  unfolding own in_call piping perform row row_of make_pipe ◌>>=◌ ◌>>◌ ◌when◌ ◌or◌
+  pipe_not_there refusing = rw refusing refl
 
   -- ---- dup and close
 
@@ -222,7 +223,7 @@ module _ (image : Image) where
 
   write_file_on : readable image 8192 10 ≡ true → (own file_to_write).answer ≡ Called (pos 16) (negsuc 0)
   unfolding own perform_parts perform_row row_of in_call with_table file_to_write writing_file
-  write_file_on there = by_parts (λ (o : Own). o.answer) _ _ (ap (λ (b : Bool). (writing_file b).answer) there)
+  write_file_on there = by_parts (λ (o : Own). o.answer) _ _ refl (ap (λ (b : Bool). (writing_file b).answer) there)
 
   -- the mode is tested before n
   read_0_write_end : answer_of 5 1 0 ≡ Called (pos 5) (negsuc 0)
@@ -256,13 +257,9 @@ module _ (image : Image) where
   write_free = refl
 
   -- a buffer that isn't there
-  reading_if : Bool → Own
-  reading_if there = moving (call 5 0 8192 10) (with_table three (call 5 0 8192 10)) there (pos 10)
-      (λ n. read_from (call 5 0 8192 10) (with_table three (call 5 0 8192 10)) n 0 (Shown_pipe 0 Reading (record { bytes = codes "xy"; readers = 1; writers = 1 })))
-
   read_nowhere : writable image 8192 10 ≡ false → answer_of 5 0 10 ≡ Called (pos 5) (negsuc 0)
-  unfolding own perform_parts perform_row row_of in_call with_table three answer_of reading_if
-  read_nowhere absent = by_parts (λ (o : Own). o.answer) _ _ (ap (λ (b : Bool). (reading_if b).answer) absent)
+  unfolding own in_call with_table three answer_of perform row row_of read ◌>>=◌ ◌>>◌ ◌when◌ ◌or◌
+  read_nowhere refusing = rw (answer_of, refusing) refl
 
   writing_if : Bool → Own
   writing_if there = moving (call 16 1 8192 10) (with_table three (call 16 1 8192 10)) there (pos 10)
@@ -270,7 +267,7 @@ module _ (image : Image) where
 
   write_nowhere : readable image 8192 10 ≡ false → answer_of 16 1 10 ≡ Called (pos 16) (negsuc 0)
   unfolding own perform_parts perform_row row_of in_call with_table three answer_of writing_if
-  write_nowhere absent = by_parts (λ (o : Own). o.answer) _ _ (ap (λ (b : Bool). (writing_if b).answer) absent)
+  write_nowhere absent = by_parts (λ (o : Own). o.answer) _ _ refl (ap (λ (b : Bool). (writing_if b).answer) absent)
 
   -- ---- open: the console's modes, the programs by their places, and names that nothing has
 
@@ -289,11 +286,11 @@ module _ (image : Image) where
     -- what descriptor 0 is then
     opened : (mode : ℕ) → (at_place (own (opener mode (used 0))).next 0) ≡ at_place (open_path (call 15 0 mode 0) (opener mode (used 0)) (Some name)).next 0
     unfolding own perform_parts perform_row row_of in_call opener at_place
-    opened mode = by_parts (λ (o : Own). (at_place o.next 0)) _ _ (opens (λ o. at_place o.next 0) mode (used 0) name given)
+    opened mode = by_parts (λ (o : Own). (at_place o.next 0)) _ _ refl (opens (λ o. at_place o.next 0) mode (used 0) name given)
 
     opened_answer : (mode : ℕ) (t : Descriptors) → (own (opener mode t)).answer ≡ (open_path (call 15 0 mode 0) (opener mode t) (Some name)).answer
     unfolding own perform_parts perform_row row_of in_call opener
-    opened_answer mode t = by_parts (λ (o : Own). o.answer) _ _ (opens (λ o. o.answer) mode t name given)
+    opened_answer mode t = by_parts (λ (o : Own). o.answer) _ _ refl (opens (λ o. o.answer) mode t name given)
 
   module _ (given : text_at MAXPATH image 0 ≡ Some (codes "console")) where
     console_0 : at_place (own (opener 0 (used 0))).next 0 ≡ Some (record { file = 0; read = true; write = false; shown = Shown_terminal })
@@ -367,4 +364,4 @@ module _ (image : Image) where
 
   no_path : text_at MAXPATH image 0 ≡ None → (own (opener 0 (used 0))).answer ≡ Called (pos 15) (negsuc 0)
   unfolding own perform_parts perform_row row_of in_call opener
-  no_path given = by_parts (λ (o : Own). o.answer) _ _ (ap (λ (path : Option (List ℕ)). (open_path (call 15 0 0 0) (opener 0 (used 0)) path).answer) given)
+  no_path given = by_parts (λ (o : Own). o.answer) _ _ refl (ap (λ (path : Option (List ℕ)). (open_path (call 15 0 0 0) (opener 0 (used 0)) path).answer) given)

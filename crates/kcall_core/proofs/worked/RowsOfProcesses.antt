@@ -13,6 +13,7 @@ use Rattle.kcall_core.specs.View.{View}
 use Rattle.kcall_core.specs.Own.{Own, Answer, Called, Blocked, Exited}
 use Rattle.kcall_core.specs.Calls.{row_of, perform, fork, done, row, kill, sbrk, sleep, wait}
 use Rattle.kcall_core.specs.Step.{own}
+use Rattle.kcall_core.specs.Touches.{touch}
 use Rattle.kcall_core.specs.Ready.{ready}
 use Rattle.kcall_core.specs.Updates.{marked}
 use Rattle.kcall_core.proofs.worked.WorkedViews.{call, minus, in_call, ends_of, a0_after, pids_of, free_of, at_place, writers_of, readers_of, image_of, child_at, pid_of, next_pid_of}
@@ -41,20 +42,20 @@ module _ (image : Image) where
     -- exactly as many frames as it takes are free
     fork_7 : (own (forking 7 2 (1 ∷ []))).answer ≡ Called (pos 1) (pos 2)
     unfolding own perform_parts perform_row row_of in_call forking fork_if
-    fork_7 = by_parts (λ (o : Own). o.answer) _ _ (forks (λ o. o.answer) (forking 7 2 (1 ∷ [])) false (enough 7))
+    fork_7 = by_parts (λ (o : Own). o.answer) _ _ refl (forks (λ o. o.answer) (forking 7 2 (1 ∷ [])) false (enough 7))
 
     fork_leaves_none : free_of (own (forking 7 2 (1 ∷ []))).next ≡ 0
     unfolding own perform_parts perform_row row_of in_call forking fork_if free_of
-    fork_leaves_none = by_parts (λ (o : Own). free_of o.next) _ _ (forks (λ o. free_of o.next) (forking 7 2 (1 ∷ [])) false (enough 7) ∙ ap (λ (n : ℕ). 7 - (n + 1)) priced)
+    fork_leaves_none = by_parts (λ (o : Own). free_of o.next) _ _ refl (forks (λ o. free_of o.next) (forking 7 2 (1 ∷ [])) false (enough 7) ∙ ap (λ (n : ℕ). 7 - (n + 1)) priced)
 
     fork_one_below : (own (forking 6 2 (1 ∷ []))).answer ≡ Called (pos 1) (negsuc 0)
     unfolding own perform_parts perform_row row_of in_call forking fork_if
-    fork_one_below = by_parts (λ (o : Own). o.answer) _ _ (forks (λ o. o.answer) (forking 6 2 (1 ∷ [])) true (enough 6))
+    fork_one_below = by_parts (λ (o : Own). o.answer) _ _ refl (forks (λ o. o.answer) (forking 6 2 (1 ∷ [])) true (enough 6))
 
     -- the last pid is given, and none above it
     fork_last_pid : (own (forking 7 (2 ^ 31 - 1) (1 ∷ []))).answer ≡ Called (pos 1) (pos (2 ^ 31 - 1))
     unfolding own perform_parts perform_row row_of in_call forking fork_if
-    fork_last_pid = by_parts (λ (o : Own). o.answer) _ _ (forks (λ o. o.answer) (forking 7 (2 ^ 31 - 1) (1 ∷ [])) false (enough 7))
+    fork_last_pid = by_parts (λ (o : Own). o.answer) _ _ refl (forks (λ o. o.answer) (forking 7 (2 ^ 31 - 1) (1 ∷ [])) false (enough 7))
 
     fork_past_it : (own (forking 7 (2 ^ 31) (1 ∷ []))).answer ≡ Called (pos 1) (negsuc 0)
     unfolding own in_call forking perform row row_of fork ◌>>=◌ ◌>>◌ ◌when◌ ◌or◌
@@ -63,7 +64,7 @@ module _ (image : Image) where
     -- with 63 pids in use there is room for one more, with 64 for none
     fork_63 : (own (forking 7 70 (replicate 63 1))).answer ≡ Called (pos 1) (pos 70)
     unfolding own perform_parts perform_row row_of in_call forking fork_if
-    fork_63 = by_parts (λ (o : Own). o.answer) _ _ (forks (λ o. o.answer) (forking 7 70 (replicate 63 1)) false (enough 7))
+    fork_63 = by_parts (λ (o : Own). o.answer) _ _ refl (forks (λ o. o.answer) (forking 7 70 (replicate 63 1)) false (enough 7))
 
     fork_64 : (own (forking 7 70 (replicate 64 1))).answer ≡ Called (pos 1) (negsuc 0)
     unfolding own in_call forking perform row row_of fork ◌>>=◌ ◌>>◌ ◌when◌ ◌or◌
@@ -72,40 +73,40 @@ module _ (image : Image) where
     -- what parent and child see then
     fork_pids : pids_of (own (forking 7 5 (1 ∷ 4 ∷ []))).next ≡ 1 ∷ 4 ∷ 5 ∷ []
     unfolding own perform_parts perform_row row_of in_call forking fork_if pids_of
-    fork_pids = by_parts (λ (o : Own). pids_of o.next) _ _ (forks (λ o. pids_of o.next) (forking 7 5 (1 ∷ 4 ∷ [])) false (enough 7))
+    fork_pids = by_parts (λ (o : Own). pids_of o.next) _ _ refl (forks (λ o. pids_of o.next) (forking 7 5 (1 ∷ 4 ∷ [])) false (enough 7))
 
     fork_next_pid : next_pid_of (own (forking 7 5 (1 ∷ 4 ∷ []))).next ≡ 6
     unfolding own perform_parts perform_row row_of in_call forking fork_if next_pid_of
-    fork_next_pid = by_parts (λ (o : Own). next_pid_of o.next) _ _ (forks (λ o. next_pid_of o.next) (forking 7 5 (1 ∷ 4 ∷ [])) false (enough 7))
+    fork_next_pid = by_parts (λ (o : Own). next_pid_of o.next) _ _ refl (forks (λ o. next_pid_of o.next) (forking 7 5 (1 ∷ 4 ∷ [])) false (enough 7))
 
     fork_child : child_at (own (forking 7 5 (1 ∷ 4 ∷ []))).next 5 ≡ Some Running
     unfolding own perform_parts perform_row row_of in_call forking fork_if child_at
-    fork_child = by_parts (λ (o : Own). child_at o.next 5) _ _ (forks (λ o. child_at o.next 5) (forking 7 5 (1 ∷ 4 ∷ [])) false (enough 7))
+    fork_child = by_parts (λ (o : Own). child_at o.next 5) _ _ refl (forks (λ o. child_at o.next 5) (forking 7 5 (1 ∷ 4 ∷ [])) false (enough 7))
 
     child_pid : pid_of (own (forking 7 5 (1 ∷ 4 ∷ []))).child ≡ 5
     unfolding own perform_parts perform_row row_of in_call forking fork_if pid_of
-    child_pid = by_parts (λ (o : Own). pid_of o.child) _ _ (forks (λ o. pid_of o.child) (forking 7 5 (1 ∷ 4 ∷ [])) false (enough 7))
+    child_pid = by_parts (λ (o : Own). pid_of o.child) _ _ refl (forks (λ o. pid_of o.child) (forking 7 5 (1 ∷ 4 ∷ [])) false (enough 7))
 
     child_a0 : a0_after (own (forking 7 5 (1 ∷ 4 ∷ []))).child ≡ 0
     unfolding own perform_parts perform_row row_of in_call forking fork_if a0_after
-    child_a0 = by_parts (λ (o : Own). a0_after o.child) _ _ (forks (λ o. a0_after o.child) (forking 7 5 (1 ∷ 4 ∷ [])) false (enough 7))
+    child_a0 = by_parts (λ (o : Own). a0_after o.child) _ _ refl (forks (λ o. a0_after o.child) (forking 7 5 (1 ∷ 4 ∷ [])) false (enough 7))
 
     child_alone : child_at (own (forking 7 5 (1 ∷ 4 ∷ []))).child 5 ≡ None
     unfolding own perform_parts perform_row row_of in_call forking fork_if child_at
-    child_alone = by_parts (λ (o : Own). child_at o.child 5) _ _ (forks (λ o. child_at o.child 5) (forking 7 5 (1 ∷ 4 ∷ [])) false (enough 7))
+    child_alone = by_parts (λ (o : Own). child_at o.child 5) _ _ refl (forks (λ o. child_at o.child 5) (forking 7 5 (1 ∷ 4 ∷ [])) false (enough 7))
 
     child_image : image_of (own (forking 7 5 (1 ∷ 4 ∷ []))).child ≡ image
     unfolding own perform_parts perform_row row_of in_call forking fork_if image_of
-    child_image = by_parts (λ (o : Own). image_of o.child) _ _ (forks (λ o. image_of o.child) (forking 7 5 (1 ∷ 4 ∷ [])) false (enough 7))
+    child_image = by_parts (λ (o : Own). image_of o.child) _ _ refl (forks (λ o. image_of o.child) (forking 7 5 (1 ∷ 4 ∷ [])) false (enough 7))
 
     -- both are on both ends of the parent's pipe
     fork_readers : readers_of (at_place (own (record (forking 7 2 (1 ∷ [])) { descriptors = ends_of new_pipe })).next 1) ≡ 2
     unfolding own perform_parts perform_row row_of in_call forking fork_if at_place readers_of new_pipe count_below
-    fork_readers = by_parts (λ (o : Own). readers_of (at_place o.next 1)) _ _ (forks (λ o. readers_of (at_place o.next 1)) (record (forking 7 2 (1 ∷ [])) { descriptors = ends_of new_pipe }) false (enough 7))
+    fork_readers = by_parts (λ (o : Own). readers_of (at_place o.next 1)) _ _ refl (forks (λ o. readers_of (at_place o.next 1)) (record (forking 7 2 (1 ∷ [])) { descriptors = ends_of new_pipe }) false (enough 7))
 
     fork_writers : writers_of (at_place (own (record (forking 7 2 (1 ∷ [])) { descriptors = ends_of new_pipe })).child 0) ≡ 2
     unfolding own perform_parts perform_row row_of in_call forking fork_if at_place writers_of new_pipe count_below
-    fork_writers = by_parts (λ (o : Own). writers_of (at_place o.child 0)) _ _ (forks (λ o. writers_of (at_place o.child 0)) (record (forking 7 2 (1 ∷ [])) { descriptors = ends_of new_pipe }) false (enough 7))
+    fork_writers = by_parts (λ (o : Own). writers_of (at_place o.child 0)) _ _ refl (forks (λ o. writers_of (at_place o.child 0)) (record (forking 7 2 (1 ∷ [])) { descriptors = ends_of new_pipe }) false (enough 7))
 
   -- ---- kill of a zombie: it stays as it is; a status of 5 is still there
 
@@ -135,11 +136,11 @@ module _ (image : Image) where
 
   -- a pid is in use until its zombie is waited for
   wait_zombie : pids_of (own (with_zombie (call 3 0 0 0))).next ≡ 1 ∷ []
-  unfolding own in_call with_zombie pids_of perform row row_of wait ◌>>=◌ ◌>>◌ ◌when◌ ◌or◌
+  unfolding own in_call with_zombie pids_of perform row row_of wait touch ◌>>=◌ ◌>>◌ ◌when◌ ◌or◌
   wait_zombie = refl
 
   waited_zombie : child_at (own (with_zombie (call 3 0 0 0))).next 2 ≡ None
-  unfolding own in_call with_zombie child_at perform row row_of wait ◌>>=◌ ◌>>◌ ◌when◌ ◌or◌
+  unfolding own in_call with_zombie child_at perform row row_of wait touch ◌>>=◌ ◌>>◌ ◌when◌ ◌or◌
   waited_zombie = refl
 
   -- ---- wait for the lesser of the zombies 3 and 4
@@ -151,16 +152,16 @@ module _ (image : Image) where
   }
 
   wait_3 : (own zombies_3_4).answer ≡ Called (pos 3) (pos 3)
-  unfolding own in_call zombies_3_4 perform row row_of wait ◌>>=◌ ◌>>◌ ◌when◌ ◌or◌
+  unfolding own in_call zombies_3_4 perform row row_of wait touch ◌>>=◌ ◌>>◌ ◌when◌ ◌or◌
   wait_3 = refl
 
   wait_leaves_4 : child_at (own zombies_3_4).next 4 ≡ Some (Status (pos 40))
-  unfolding own in_call zombies_3_4 child_at perform row row_of wait ◌>>=◌ ◌>>◌ ◌when◌ ◌or◌
+  unfolding own in_call zombies_3_4 child_at perform row row_of wait touch ◌>>=◌ ◌>>◌ ◌when◌ ◌or◌
   wait_leaves_4 = refl
 
   -- 4 alone has ended
   wait_4 : (own (record zombies_3_4 { children = λ q. cond (nat_eq q 3) (Some Running) (cond (nat_eq q 4) (Some (Status (pos 40))) None) })).answer ≡ Called (pos 3) (pos 4)
-  unfolding own in_call zombies_3_4 perform row row_of wait ◌>>=◌ ◌>>◌ ◌when◌ ◌or◌
+  unfolding own in_call zombies_3_4 perform row row_of wait touch ◌>>=◌ ◌>>◌ ◌when◌ ◌or◌
   wait_4 = refl
 
   -- ---- sleep
@@ -218,25 +219,25 @@ module _ (image : Image) where
     -- exactly as many frames as it takes are free, and one fewer
     sbrk_fits : (own (sizing 12288 8192 2)).answer ≡ Called (pos 12) (pos 12288)
     unfolding own perform_parts perform_row row_of in_call sizing growing
-    sbrk_fits = by_parts (λ (o : Own). o.answer) _ _ (grows (λ o. o.answer) 12288 8192 2 2 two)
+    sbrk_fits = by_parts (λ (o : Own). o.answer) _ _ refl (grows (λ o. o.answer) 12288 8192 2 2 two)
 
     sbrk_takes_all : free_of (own (sizing 12288 8192 2)).next ≡ 0
     unfolding own perform_parts perform_row row_of in_call sizing growing free_of
-    sbrk_takes_all = by_parts (λ (o : Own). free_of o.next) _ _ (grows (λ o. free_of o.next) 12288 8192 2 2 two)
+    sbrk_takes_all = by_parts (λ (o : Own). free_of o.next) _ _ refl (grows (λ o. free_of o.next) 12288 8192 2 2 two)
 
     sbrk_grows : image_of (own (sizing 12288 8192 2)).next ≡ grown (record image { size = 12288 }) 20480
     unfolding own perform_parts perform_row row_of in_call sizing growing image_of
-    sbrk_grows = by_parts (λ (o : Own). image_of o.next) _ _ (grows (λ o. image_of o.next) 12288 8192 2 2 two)
+    sbrk_grows = by_parts (λ (o : Own). image_of o.next) _ _ refl (grows (λ o. image_of o.next) 12288 8192 2 2 two)
 
     sbrk_one_below : (own (sizing 12288 8192 1)).answer ≡ Called (pos 12) (negsuc 0)
     unfolding own perform_parts perform_row row_of in_call sizing growing
-    sbrk_one_below = by_parts (λ (o : Own). o.answer) _ _ (grows (λ o. o.answer) 12288 8192 1 2 two)
+    sbrk_one_below = by_parts (λ (o : Own). o.answer) _ _ refl (grows (λ o. o.answer) 12288 8192 1 2 two)
 
   -- up to the greatest size, and a byte beyond
   module _ (one : price (grown (record image { size = 2 ^ 38 - 8193 }) (2 ^ 38 - 8192)) - price (record image { size = 2 ^ 38 - 8193 }) ≡ 1) where
     sbrk_to_limit : (own (sizing (2 ^ 38 - 8193) 1 9)).answer ≡ Called (pos 12) (pos (2 ^ 38 - 8193))
     unfolding own perform_parts perform_row row_of in_call sizing growing
-    sbrk_to_limit = by_parts (λ (o : Own). o.answer) _ _ (grows (λ o. o.answer) (2 ^ 38 - 8193) 1 9 1 one)
+    sbrk_to_limit = by_parts (λ (o : Own). o.answer) _ _ refl (grows (λ o. o.answer) (2 ^ 38 - 8193) 1 9 1 one)
 
   sbrk_past_limit : (own (sizing (2 ^ 38 - 8193) 2 500)).answer ≡ Called (pos 12) (negsuc 0)
   unfolding own in_call sizing perform row row_of sbrk ◌>>=◌ ◌>>◌ ◌when◌ ◌or◌
@@ -258,9 +259,9 @@ module _ (image : Image) where
   -- ---- numbers that are no call
 
   no_call : List ℕ
-  no_call = 0 ∷ 8 ∷ 9 ∷ 17 ∷ 18 ∷ 19 ∷ 20 ∷ 22 ∷ 23 ∷ []
+  no_call = 0 ∷ 8 ∷ 9 ∷ 17 ∷ 18 ∷ 19 ∷ 20 ∷ 23 ∷ []
 
-  no_rows : map (λ n. row_of (pos n)) no_call ≡ replicate 9 None
+  no_rows : map (λ n. row_of (pos n)) no_call ≡ replicate 8 None
   unfolding row_of no_call
   no_rows = refl
 

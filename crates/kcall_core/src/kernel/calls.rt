@@ -73,6 +73,9 @@ const WRITE: i32 = 16;
 /// The number of the call close.
 const CLOSE: i32 = 21;
 
+/// The number of the call sbrklazy, which is this project's own.
+const SBRKLAZY: i32 = 22;
+
 /// A hart goes past its ECALL.
 fn pass_call(hart: &mut Hart)
     ensures { hart.new ≡ record hart.old { regs = with_pc hart.old.regs (after hart.old.regs) } }
@@ -243,6 +246,7 @@ impl Kernel {
             OPEN => self.open_file(hart, call),
             WRITE => self.write(hart, call),
             CLOSE => self.close(hart, call),
+            SBRKLAZY => self.sbrklazy(hart, call),
             _ => self.refuse(hart),
         }
     }

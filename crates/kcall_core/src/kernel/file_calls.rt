@@ -9,7 +9,7 @@ ghost use Rattle.file_table.specs.declared.open_file.Target.TheVariants as on;
 ghost use Rattle.proc_table.specs.Slots.{descriptors_at};
 ghost use Rattle.kcall_core.specs.State.{named_file};
 ghost use Rattle.kcall_core.specs.Programs.{program_bytes};
-ghost use Rattle.kcall_core.specs.Buffers.{readable, writable};
+ghost use Rattle.kcall_core.specs.Buffers.{readable, writable_now};
 ghost use Rattle.kcall_core.specs.Calls.{read, open_file, write};
 ghost use Rattle.kcall_core.specs.Opens.{place_named, terminal_asked, program_asked, name_asked, asked, file_asked};
 ghost use Rattle.kcall_core.specs.Holdings.{held_at};
@@ -253,7 +253,7 @@ impl Kernel {
         requires target { kind.now.target ≡ on.Program program offset }
         requires size { n < 2147483648 }
         requires reads { kind.now.read ≡ true }
-        requires file { OnFile self.old hart.old call.now file kind.now (writable (live_now self.old hart.old).image call.now.a1) n }
+        requires file { OnFile self.old hart.old call.now file kind.now (writable_now (live_now self.old hart.old).image call.now.a1) n }
         ensures made { Makes self.old hart.old (read call.now (view_now self.old hart.old)) self.new hart.new }
         ensures answer { (read call.now (view_now self.old hart.old)).answer ≡ answer_of call.now.number result }
     {
@@ -282,7 +282,7 @@ impl Kernel {
         requires row { call.now.number ≡ pos 5 }
         requires size { n < 2147483648 }
         requires reads { kind.now.read ≡ true }
-        requires file { OnFile self.old hart.old call.now file kind.now (writable (live_now self.old hart.old).image call.now.a1) n }
+        requires file { OnFile self.old hart.old call.now file kind.now (writable_now (live_now self.old hart.old).image call.now.a1) n }
         ensures made { Makes self.old hart.old (read call.now (view_now self.old hart.old)) self.new hart.new }
         ensures answer { (read call.now (view_now self.old hart.old)).answer ≡ answer_of call.now.number result }
     {
@@ -325,7 +325,7 @@ impl Kernel {
         if n == 0 {
             return self.done(hart, 0);
         }
-        if !self.memories.may_write(slot, call.a1, n) {
+        if !self.ready_buffer(slot, call.a1, n, 0) {
             return self.refuse(hart);
         }
         self.read_from(hart, call, slot, file, &kind, n)

@@ -1,8 +1,12 @@
 //! Pipes: they are made, read and written (xv6's `pipe.c`; the xv6 book, "Code: Pipes").
-ghost use Rattle.std.specs.Prelude.{◌≡◌, ◌-◌, ◌<◌, ◌++◌, Some, pos, false};
-ghost use Rattle.xk_base.specs.Words.{le_bytes};
+ghost use Rattle.std.specs.Prelude.{◌≡◌, ◌-◌, ◌<◌, ◌≤◌, ◌++◌, ◌&&◌, Some, pos, true, false, nat_lt, is_none, position};
+ghost use Rattle.xk_base.specs.Words.{le_bytes, least_below};
+ghost use Rattle.xk_base.specs.declared.limits.TheConstants.{NOFILE};
+ghost use Rattle.file_table.specs.Named.{named_by};
 ghost use Rattle.hart_core.specs.declared.hart.Hart.{Hart};
-ghost use Rattle.proc_table.specs.Slots.{each_changed};
+ghost use Rattle.proc_table.specs.Slots.{each_changed, descriptors_at};
+ghost use Rattle.kcall_core.specs.Buffers.{writable_now};
+ghost use Rattle.kcall_core.specs.Memories.{free_of};
 ghost use Rattle.kcall_core.specs.Calls.{make_pipe, read, write};
 ghost use Rattle.kcall_core.specs.Closings.{woken_by};
 ghost use Rattle.kcall_core.specs.Kernel.{IsRunning, IsSound, live_now};
@@ -31,6 +35,37 @@ fn two_numbers(read: Fd, write: Fd) -> [u8; NUMBERS_BYTES]
 }
 
 impl Kernel {
+    /// The call pipe, where these are the descriptors that it gives, their numbers could be stored, and a frame is
+    /// free.
+    fn pipe_ready(
+        &mut self,
+        hart: &mut Hart,
+        call: &Call,
+        slot: usize,
+        read: Fd,
+        write: Fd,
+    ) -> CallEnd
+        requires whole { IsWhole self.old hart.old }
+        requires running { IsRunning self.old }
+        requires slot { self.old.current ≡ Some slot }
+        requires read { position is_none (descriptors_at self.old.table slot) ≡ Some read }
+        requires write { least_below (λ d. nat_lt read d && is_none (named_by (descriptors_at self.old.table slot) d)) NOFILE ≡ Some write }
+        requires there { writable_now (live_now self.old hart.old).image call.now.a0 8 ≡ true }
+        requires frame { 1 ≤ free_of self.old.memories }
+        ensures made { Makes self.old hart.old (make_pipe call.now (view_now self.old hart.old)) self.new hart.new }
+        ensures answer { (make_pipe call.now (view_now self.old hart.old)).answer ≡ answer_of call.now.number result }
+    {
+        let Some(frame) = self.memories.make_pipe() else {
+            unreachable!();
+        };
+        let numbers = two_numbers(read, write);
+        self.memories
+            .put_front(slot, call.a0, &numbers, NUMBERS_BYTES);
+        let _ = self.open_pipe_at(slot, read, frame, End::Reading);
+        let _ = self.open_pipe_at(slot, write, frame, End::Writing);
+        self.done(hart, 0)
+    }
+
     /// The call pipe: the lowest free descriptor names the read end of a new pipe, the lowest above it the
     /// write end, their numbers stand at the address in the first argument as two C ints, and the answer is
     /// 0. Where not all of these 8 bytes may be written, no frame is free, or fewer than two descriptors
@@ -44,27 +79,16 @@ impl Kernel {
         let Some(slot) = self.current else {
             unreachable!();
         };
-        if !self.memories.may_write(slot, call.a0, NUMBERS_BYTES) {
-            return self.refuse(hart);
-        }
-        if self.memories.free() == 0 {
-            return self.refuse(hart);
-        }
         let Some(read) = self.table.descriptors(slot).lowest() else {
             return self.refuse(hart);
         };
         let Some(write) = lowest_above(&self.table, slot, read) else {
             return self.refuse(hart);
         };
-        let Some(frame) = self.memories.make_pipe() else {
-            unreachable!();
-        };
-        let numbers = two_numbers(read, write);
-        self.memories
-            .put_front(slot, call.a0, &numbers, NUMBERS_BYTES);
-        let _ = self.open_pipe_at(slot, read, frame, End::Reading);
-        let _ = self.open_pipe_at(slot, write, frame, End::Writing);
-        self.done(hart, 0)
+        if !self.ready_buffer(slot, call.a0, NUMBERS_BYTES, 1) {
+            return self.refuse(hart);
+        }
+        self.pipe_ready(hart, call, slot, read, write)
     }
 
     /// One step of a read from a pipe: the answer is how many bytes it took, which are all that are there

@@ -2,8 +2,8 @@
 ghost use Rattle.std.specs.Prelude.{◌≡◌, ◌≤◌, true, false, Some, IfSome};
 ghost use Rattle.xk_base.specs.declared.limits.TheConstants.{SIZE_LIMIT};
 ghost use Rattle.kcall_core.specs.Buffers.{data_rights, grown};
-ghost use Rattle.kcall_core.specs.Calls.{sbrk};
-ghost use Rattle.kcall_core.specs.Kernel.{resized, at_size, IsRunning, IsSound, IsTooDear, HasImage, live_now};
+ghost use Rattle.kcall_core.specs.Calls.{sbrk, sbrklazy};
+ghost use Rattle.kcall_core.specs.Kernel.{resized, resized_lazily, at_size, IsRunning, IsSound, IsTooDear, HasImage, live_now};
 ghost use Rattle.kcall_core.specs.Whole.{IsWhole};
 ghost use Rattle.kcall_core.specs.Makes.{Makes, view_now, answer_of};
 
@@ -23,6 +23,19 @@ fn resized(size: u64, n: i32) -> Option<u64>
 {
     if n < 0 {
         return size.checked_sub(u64::from(n.unsigned_abs()));
+    }
+    let new = size + n as u64;
+    if new > SIZE_LIMIT { None } else { Some(new) }
+}
+
+/// The size after a call of sbrklazy; `None` where it would be smaller, or above the limit.
+fn resized_lazily(size: u64, n: i32) -> Option<u64>
+    requires { size ≤ SIZE_LIMIT }
+    ensures value { result ≡ resized_lazily size n }
+    ensures limits { IfSome result (λ new. (size ≤ new) × (new ≤ SIZE_LIMIT)) }
+{
+    if n < 0 {
+        return None;
     }
     let new = size + n as u64;
     if new > SIZE_LIMIT { None } else { Some(new) }
@@ -83,6 +96,27 @@ impl Kernel {
         if !self.resize(hart, size) {
             return self.done(hart, -1);
         }
+        self.done(hart, old.cast_signed())
+    }
+
+    /// The call sbrklazy: the size of the process that runs grows by `n` bytes, its first argument, and no page
+    /// comes: the new ones are absent until they are touched. The answer is the size that it had. Where `n` is below
+    /// 0, or the size would be above [`SIZE_LIMIT`](xk_base::limits::SIZE_LIMIT), the answer is -1, and nothing else
+    /// changes.
+    pub(crate) fn sbrklazy(&mut self, hart: &mut Hart, call: &Call) -> CallEnd
+        requires whole { IsWhole self.old hart.old }
+        requires running { IsRunning self.old }
+        ensures made { Makes self.old hart.old (sbrklazy call.now (view_now self.old hart.old)) self.new hart.new }
+        ensures answer { (sbrklazy call.now (view_now self.old hart.old)).answer ≡ answer_of call.now.number result }
+    {
+        let Some(slot) = self.current else {
+            unreachable!();
+        };
+        let old = self.memories.size(slot);
+        let Some(size) = resized_lazily(old, c_int(call.a0)) else {
+            return self.refuse(hart);
+        };
+        self.memories.grow_lazily(slot, size);
         self.done(hart, old.cast_signed())
     }
 }

@@ -5,7 +5,7 @@ ghost use Rattle.xk_base.specs.declared.limits.TheConstants.{CONSOLE_BYTES, SEND
 ghost use Rattle.xk_base.specs.Bytes.{image_bytes, write_image};
 ghost use Rattle.hart_core.specs.declared.hart.Hart.{Hart};
 ghost use Rattle.console_core.specs.Lists.{IsWithinLimits};
-ghost use Rattle.kcall_core.specs.Buffers.{readable, writable};
+ghost use Rattle.kcall_core.specs.Buffers.{readable, writable_now};
 ghost use Rattle.kcall_core.specs.Calls.{read, write};
 ghost use Rattle.kcall_core.specs.Holdings.{held_at, HasMemory, with_image};
 ghost use Rattle.kcall_core.specs.Memories.{each_of, free_of, AreSound, RunsIn, SlotChanges};
@@ -57,7 +57,7 @@ impl Kernel {
     fn take_line(&mut self, slot: usize, address: u64, n: usize, done: usize) -> Pull
         requires sound { AreSound self.old.memories }
         requires there { HasMemory (each_of self.old.memories) slot }
-        requires writable { writable (held_at (each_of self.old.memories) slot).image address n ≡ true }
+        requires writable { writable_now (held_at (each_of self.old.memories) slot).image address n ≡ true }
         requires keys { length self.old.console.committed ≤ CONSOLE_BYTES }
         ensures count { result.taken ≡ length (next_line self.old.console done n).taken }
         ensures ended { result.ended ≡ (next_line self.old.console done n).ended }

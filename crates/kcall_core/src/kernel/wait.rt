@@ -1,7 +1,7 @@
 //! The call wait (the xv6 book, "Code: Wait, exit, and kill").
-ghost use Rattle.std.specs.Prelude.{◌≡◌, true, false, pos, Some, nat_eq, ◌||◌};
+ghost use Rattle.std.specs.Prelude.{◌≡◌, true, false, pos, Some, nat_eq, ◌||◌, cond};
 ghost use Rattle.hart_core.specs.declared.hart.Hart.{Hart};
-ghost use Rattle.kcall_core.specs.Buffers.{writable};
+ghost use Rattle.kcall_core.specs.Buffers.{writable_now};
 ghost use Rattle.kcall_core.specs.Calls.{wait};
 ghost use Rattle.kcall_core.specs.Updates.{told_image};
 ghost use Rattle.kcall_core.specs.Holdings.{held_at};
@@ -19,22 +19,19 @@ use proc_table::{Call, Channel, Reaped};
 /// How many bytes a status has.
 const STATUS_BYTES: usize = 4;
 
-impl Kernel {
-    /// Whether the process in a slot, which runs, may be told a status at an address. At 0 it is told
-    /// nothing.
-    fn may_tell(&self, slot: usize, address: u64) -> bool
-        requires sound { (hart : Hart) × IsSound self.now hart }
-        requires current { self.now.current ≡ Some slot }
-        ensures { result ≡ (nat_eq address 0 || writable (held_at (each_of self.now.memories) slot).image address 4) }
-    {
-        (address == 0) | self.memories.may_write(slot, address, STATUS_BYTES)
-    }
+/// How many bytes a wait stores at the address in its first argument, where that isn't 0.
+fn told_bytes(call: &Call) -> usize
+    ensures { result ≡ cond (nat_eq call.now.a0 0) 0 4 }
+{
+    if call.a0 == 0 { 0 } else { STATUS_BYTES }
+}
 
+impl Kernel {
     /// Stores a status at an address of the process in a slot, which runs, where the address isn't 0.
     fn tell(&mut self, slot: usize, address: u64, status: i32)
         requires sound { (hart : Hart) × IsSound self.old hart }
         requires current { self.old.current ≡ Some slot }
-        requires fits { (nat_eq address 0 || writable (held_at (each_of self.old.memories) slot).image address 4) ≡ true }
+        requires fits { (nat_eq address 0 || writable_now (held_at (each_of self.old.memories) slot).image address 4) ≡ true }
         ensures { (hart : Hart) → IsSound self.old hart → HasImage self.old hart (told_image address status (live_now self.old hart).image) self.new hart }
     {
         if address == 0 {
@@ -44,6 +41,29 @@ impl Kernel {
         let Ok(()) = self.memories.copy_out(slot, address, &bytes) else {
             unreachable!();
         };
+    }
+
+    /// The call wait, where the process has a child, and the status could be stored.
+    fn wait_ready(&mut self, hart: &mut Hart, call: &Call, slot: usize) -> CallEnd
+        requires whole { IsWhole self.old hart.old }
+        requires running { IsRunning self.old }
+        requires slot { self.old.current ≡ Some slot }
+        requires unmarked { (live_now self.old hart.old).killed ≡ false }
+        requires in_call { (live_now self.old hart.old).call ≡ Some call.now }
+        requires row { call.now.number ≡ pos 3 }
+        requires fits { (nat_eq call.now.a0 0 || writable_now (held_at (each_of self.old.memories) slot).image call.now.a0 4) ≡ true }
+        ensures made { Makes self.old hart.old (wait call.now (view_now self.old hart.old)) self.new hart.new }
+        ensures answer { (wait call.now (view_now self.old hart.old)).answer ≡ answer_of call.now.number result }
+    {
+        let pid = self.table.pid(slot);
+        match self.table.reap(pid) {
+            Reaped::NoChild => self.done(hart, -1),
+            Reaped::NoneYet => self.block(hart, with_moved(call, 0), Channel::Children(pid)),
+            Reaped::Gone { pid: child, status } => {
+                self.tell(slot, call.a0, status);
+                self.done(hart, i64::from(child.number()))
+            }
+        }
     }
 
     /// The call wait: the child of least pid among those that have ended is gone, its status stands at the
@@ -62,17 +82,13 @@ impl Kernel {
         let Some(slot) = self.current else {
             unreachable!();
         };
-        if !self.may_tell(slot, call.a0) {
-            return self.done(hart, -1);
-        }
         let pid = self.table.pid(slot);
-        match self.table.reap(pid) {
-            Reaped::NoChild => self.done(hart, -1),
-            Reaped::NoneYet => self.block(hart, with_moved(call, 0), Channel::Children(pid)),
-            Reaped::Gone { pid: child, status } => {
-                self.tell(slot, call.a0, status);
-                self.done(hart, i64::from(child.number()))
-            }
+        if !self.table.has_child(pid) {
+            return self.refuse(hart);
         }
+        if !self.ready_buffer(slot, call.a0, told_bytes(call), 0) {
+            return self.refuse(hart);
+        }
+        self.wait_ready(hart, call, slot)
     }
 }

@@ -1,10 +1,11 @@
 //! What the kernel reads from a process's memory, and what it writes to it.
 //!
-//! It reads where user code may read, and writes where user code may write: `readable`, `writable`,
-//! `text_at` and `pointer_at` of `specs/Buffers.antt`.
+//! It reads where user code may read, or may do so once the page is touched: an absent page reads as zeros, and none
+//! comes. It writes where user code may write: `readable`, `writable_now`, `text_at` and `pointer_at` of
+//! `specs/Buffers.antt`.
 ghost use Rattle.std.specs.Prelude.{◌≡◌, ℕ, ◌+◌, ◌^◌, ◌<◌, ◌≤◌, true, false, length, take, drop, Some, None, IfOk, IfErr};
 ghost use Rattle.xk_base.specs.Bytes.{image_bytes, write_image};
-ghost use Rattle.kcall_core.specs.Buffers.{readable, writable, text_at, pointer_at};
+ghost use Rattle.kcall_core.specs.Buffers.{readable, writable_now, text_at, pointer_at};
 ghost use Rattle.kcall_core.specs.Holdings.{held_at, HasMemory, with_image};
 ghost use Rattle.kcall_core.specs.Memories.{each_of, free_of, AreSound, RunsIn, SlotChanges, Same};
 
@@ -33,7 +34,7 @@ impl Memories {
     pub fn write_tested(&mut self, slot: usize, address: u64, bytes: &[u8])
         requires sound { AreSound self.old }
         requires there { HasMemory (each_of self.old) slot }
-        requires writable { writable (held_at (each_of self.old) slot).image address (length bytes.now) ≡ true }
+        requires writable { writable_now (held_at (each_of self.old) slot).image address (length bytes.now) ≡ true }
         ensures written { let held = held_at (each_of self.old) slot in SlotChanges self.old self.new slot (Some (with_image (write_image held.image address bytes.now) held)) }
         ensures free { free_of self.new ≡ free_of self.old }
         ensures runs { (hart : Hart) → RunsIn self.old slot hart → RunsIn self.new slot hart }
@@ -51,11 +52,11 @@ impl Memories {
     pub fn copy_out(&mut self, slot: usize, address: u64, bytes: &[u8]) -> Result<(), BadAddress>
         requires sound { AreSound self.old }
         requires there { HasMemory (each_of self.old) slot }
-        ensures fine { IfOk result (λ _. writable (held_at (each_of self.old) slot).image address (length bytes.now) ≡ true) }
+        ensures fine { IfOk result (λ _. writable_now (held_at (each_of self.old) slot).image address (length bytes.now) ≡ true) }
         ensures written { IfOk result (λ _. let held = held_at (each_of self.old) slot in SlotChanges self.old self.new slot (Some (with_image (write_image held.image address bytes.now) held))) }
         ensures free { free_of self.new ≡ free_of self.old }
         ensures runs { (hart : Hart) → RunsIn self.old slot hart → RunsIn self.new slot hart }
-        ensures refused { IfErr result (λ _. (writable (held_at (each_of self.old) slot).image address (length bytes.now) ≡ false) × Same self.old self.new) }
+        ensures refused { IfErr result (λ _. (writable_now (held_at (each_of self.old) slot).image address (length bytes.now) ≡ false) × Same self.old self.new) }
     {
         let Some(memory) = &self.each[slot] else {
             unreachable!();
@@ -77,7 +78,7 @@ impl Memories {
         let Some(memory) = &self.each[slot] else {
             unreachable!();
         };
-        user_copy::fetch_u64(&memory.space, &self.ram, address)
+        user_copy::fetch_u64_lazily(&memory.space, &self.ram, address)
     }
 
     /// Copies a text from the memory of a slot to the front of `text`, without its zero byte, and tells how
@@ -101,6 +102,6 @@ impl Memories {
         let Some(memory) = &self.each[slot] else {
             unreachable!();
         };
-        user_copy::fetch_text(&memory.space, &self.ram, address, text)
+        user_copy::fetch_text_lazily(&memory.space, &self.ram, address, text)
     }
 }

@@ -4,7 +4,7 @@ ghost use Rattle.std.specs.FinMap.{get};
 ghost use Rattle.xk_base.specs.declared.limits.TheConstants.{PIPE_BYTES};
 ghost use Rattle.xk_base.specs.Bytes.{image_bytes, write_image};
 ghost use Rattle.pipe_core.specs.Pipe.{with_more, without_first};
-ghost use Rattle.kcall_core.specs.Buffers.{readable, writable};
+ghost use Rattle.kcall_core.specs.Buffers.{readable, writable_now};
 ghost use Rattle.kcall_core.specs.PipeEnds.{there, fit, must_wait};
 ghost use Rattle.kcall_core.specs.Holdings.{held_at, HasMemory, with_image, pipe_named};
 ghost use Rattle.kcall_core.specs.Memories.{each_of, pipes_of, free_of, AreSound, RunsIn, SlotChanges, PipeChanges};
@@ -20,7 +20,7 @@ impl Memories {
     pub fn may_write(&self, slot: usize, address: u64, len: usize) -> bool
         requires sound { AreSound self.now }
         requires there { HasMemory (each_of self.now) slot }
-        ensures { result ≡ writable (held_at (each_of self.now) slot).image address len }
+        ensures { result ≡ writable_now (held_at (each_of self.now) slot).image address len }
     {
         let Some(memory) = &self.each[slot] else {
             unreachable!();
@@ -28,7 +28,7 @@ impl Memories {
         user_copy::check_range(&memory.space, &self.ram, address, len, Access::Store).is_ok()
     }
 
-    /// Whether user code may read all of so many bytes from an address on.
+    /// Whether user code may read all of so many bytes from an address on, now or once their absent pages are there.
     pub fn may_read(&self, slot: usize, address: u64, len: usize) -> bool
         requires sound { AreSound self.now }
         requires there { HasMemory (each_of self.now) slot }
@@ -37,7 +37,7 @@ impl Memories {
         let Some(memory) = &self.each[slot] else {
             unreachable!();
         };
-        user_copy::check_range(&memory.space, &self.ram, address, len, Access::Load).is_ok()
+        user_copy::check_range_lazily(&memory.space, &self.ram, address, len, Access::Load).is_ok()
     }
 
     /// Whether a pipe is empty, and somebody may still write to it.
@@ -112,7 +112,7 @@ impl Memories {
         requires sound { AreSound self.old }
         requires there { HasMemory (each_of self.old) slot }
         requires fits { count ≤ length bytes.now }
-        requires writable { writable (held_at (each_of self.old) slot).image address count ≡ true }
+        requires writable { writable_now (held_at (each_of self.old) slot).image address count ≡ true }
         ensures written { let held = held_at (each_of self.old) slot in SlotChanges self.old self.new slot (Some (with_image (write_image held.image address (take count bytes.now)) held)) }
         ensures free { free_of self.new ≡ free_of self.old }
         ensures runs { (hart : Hart) → RunsIn self.old slot hart → RunsIn self.new slot hart }
@@ -127,7 +127,7 @@ impl Memories {
         requires pipe { IsSome (get (pipes_of self.old) frame) }
         requires there { HasMemory (each_of self.old) slot }
         requires bytes { count ≤ length (pipe_named (pipes_of self.old) frame).bytes }
-        requires writable { writable (held_at (each_of self.old) slot).image address count ≡ true }
+        requires writable { writable_now (held_at (each_of self.old) slot).image address count ≡ true }
         ensures written { let held = held_at (each_of self.old) slot in SlotChanges self.old self.new slot (Some (with_image (write_image held.image address (take count (pipe_named (pipes_of self.old) frame).bytes)) held)) }
         ensures free { free_of self.new ≡ free_of self.old }
         ensures runs { (hart : Hart) → RunsIn self.old slot hart → RunsIn self.new slot hart }
@@ -156,7 +156,7 @@ impl Memories {
         requires sound { AreSound self.old }
         requires pipe { IsSome (get (pipes_of self.old) frame) }
         requires there { HasMemory (each_of self.old) slot }
-        requires writable { writable (held_at (each_of self.old) slot).image address n ≡ true }
+        requires writable { writable_now (held_at (each_of self.old) slot).image address n ≡ true }
         ensures count { result ≡ there (pipe_named (pipes_of self.old) frame) n }
         ensures range { result ≤ PIPE_BYTES }
         ensures moved { let pipe = pipe_named (pipes_of self.old) frame in let image = (held_at (each_of self.old) slot).image in Moves self.old self.new slot (write_image image address (take result pipe.bytes)) frame (without_first result pipe) }

@@ -7,6 +7,7 @@ mod faults;
 mod files;
 pub(super) mod isolation;
 mod kills;
+mod lazy;
 mod memory;
 mod pipes;
 mod processes;
@@ -48,6 +49,11 @@ fn stories_of_files(rt: HostRuntime) {
 #[test]
 fn stories_of_kills(rt: HostRuntime) {
     tell_all(&rt, kills::STORIES);
+}
+
+#[test]
+fn stories_of_lazy_memory(rt: HostRuntime) {
+    tell_all(&rt, lazy::STORIES);
 }
 
 #[test]

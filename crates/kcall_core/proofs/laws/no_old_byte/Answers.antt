@@ -1,6 +1,4 @@
 use Rattle.kcall_core.proofs.laws.no_old_byte.Goals as goal
-use Rattle.kcall_core.proofs.rows.CleanPages as in-clean-pages
-use Rattle.kcall_core.proofs.rows.KeptBytes as in-kept-bytes
 use Rattle.kcall_core.proofs.rows.MayStore as in-may-store
 use Rattle.kcall_core.proofs.rows.NewBytes as in-new-bytes
 use Rattle.kcall_core.proofs.rows.NewPages as in-new-pages
@@ -11,11 +9,8 @@ use Rattle.kcall_core.proofs.runs.Sources as in-sources
 pub returns-clause-no_old_byte : goal.returns-clause-no_old_byte
 returns-clause-no_old_byte c = in-new-pages.no_old_byte
 
-pub returns-clause-no_old_page : goal.returns-clause-no_old_page
-returns-clause-no_old_page c = in-clean-pages.no_old_page
-
 pub returns-clause-only_stores_change_bytes : goal.returns-clause-only_stores_change_bytes
-returns-clause-only_stores_change_bytes c = in-kept-bytes.only_stores_change_bytes
+returns-clause-only_stores_change_bytes c = in-new-pages.only_stores_change_bytes
 
 pub returns-clause-stores_where_user_may : goal.returns-clause-stores_where_user_may
 returns-clause-stores_where_user_may c = in-may-store.stores_where_user_may

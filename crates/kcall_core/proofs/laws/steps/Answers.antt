@@ -12,3 +12,6 @@ returns-clause-resume c = in-alone.resume
 
 pub returns-clause-end : goal.returns-clause-end
 returns-clause-end c = in-alone.end
+
+pub returns-clause-touch : goal.returns-clause-touch
+returns-clause-touch c = in-alone.touched

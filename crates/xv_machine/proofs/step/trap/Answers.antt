@@ -3,8 +3,12 @@ use Rattle.std.proofs.lemmas.Int.{to_z-of_z}
 use Rattle.kcall_core.specs.Makes.{Makes, answer_of}
 use Rattle.kcall_core.specs.Own.{Own, Faulted}
 use Rattle.kcall_core.specs.Run.{Step_of}
-use Rattle.xv_machine.proofs.OneStep.{begun-number, fault-own}
+use Rattle.kcall_core.proofs.making.Undone.{ecall-now, fault-now}
+use Rattle.xv_machine.proofs.OneStep.{begun-number}
 use Rattle.xv_machine.proofs.step.trap.Goals as goal
+
+pub call-end-requires-clause-ecall : goal.call-end-requires-clause-ecall
+call-end-requires-clause-ecall c = ecall-now c.args.kernel.now c.args.hart.now (sym c.in-Ecall.is ∙ c.requires.stop)
 
 pub returns-in-Ecall-clause-answer : goal.returns-in-Ecall-clause-answer
 returns-in-Ecall-clause-answer c =
@@ -16,9 +20,9 @@ returns-in-Ecall-clause-answer c =
 pub returns-in-Fault-clause-made : goal.returns-in-Fault-clause-made
 returns-in-Fault-clause-made c =
     subst (λ (o : Own). Makes c.args.kernel.now c.args.hart.now o c.exit.new.self c.exit.new.hart)
-    (sym (fault-own c.args.kernel.now c.args.hart.now c.requires.between_calls c.in-Fault.cause (sym c.requires.stop ∙ c.in-Fault.is)))
+    (sym (fault-now c.args.kernel.now c.args.hart.now c.in-Fault.cause c.requires.between_calls (sym c.in-Fault.is ∙ c.requires.stop)))
     (c.exit.ensures.made (Faulted c.in-Fault.cause) refl)
 
 pub returns-in-Fault-clause-answer : goal.returns-in-Fault-clause-answer
 returns-in-Fault-clause-answer c =
-    sym (ap (λ (o : Own). Step_of c.args.pid o.answer) (fault-own c.args.kernel.now c.args.hart.now c.requires.between_calls c.in-Fault.cause (sym c.requires.stop ∙ c.in-Fault.is)))
+    sym (ap (λ (o : Own). Step_of c.args.pid o.answer) (fault-now c.args.kernel.now c.args.hart.now c.in-Fault.cause c.requires.between_calls (sym c.in-Fault.is ∙ c.requires.stop)))

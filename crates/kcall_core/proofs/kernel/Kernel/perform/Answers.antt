@@ -6,7 +6,7 @@ use Rattle.kcall_core.specs.View.{view_of}
 use Rattle.kcall_core.specs.Kernel.{state_of}
 use Rattle.kcall_core.specs.Own.{Own, Exited}
 use Rattle.kcall_core.specs.Makes.{Makes, view_now, answer_of}
-use Rattle.kcall_core.proofs.rows.Decoding.{is_fork, is_exit, is_wait, is_pipe, is_read, is_kill, is_exec, is_dup, is_getpid, is_sbrk, is_sleep, is_uptime, is_open, is_write, is_close}
+use Rattle.kcall_core.proofs.rows.Decoding.{is_fork, is_exit, is_wait, is_pipe, is_read, is_kill, is_exec, is_dup, is_getpid, is_sbrk, is_sleep, is_uptime, is_open, is_write, is_close, is_sbrklazy}
 use Rattle.kcall_core.proofs.rows.NoRow.{IsOther, other-row}
 use Rattle.kcall_core.proofs.kernel.Kernel.perform.Goals as goal
 
@@ -124,12 +124,19 @@ returns-in-16-clause-made c =
 pub returns-in-16-clause-answer : goal.returns-in-16-clause-answer
 returns-in-16-clause-answer c = ap (λ (o : Own). o.answer) (is_write c.args.call.now (view_now c.args.self.now c.args.hart.now) (search rules)) ∙ c.write.ensures.answer
 
+pub returns-in-22-clause-made : goal.returns-in-22-clause-made
+returns-in-22-clause-made c =
+    subst (λ o. Makes c.args.self.now c.args.hart.now o c.sbrklazy.new.self c.sbrklazy.new.hart) (sym (is_sbrklazy c.args.call.now (view_now c.args.self.now c.args.hart.now) (search rules))) c.sbrklazy.ensures.made
+
+pub returns-in-22-clause-answer : goal.returns-in-22-clause-answer
+returns-in-22-clause-answer c = ap (λ (o : Own). o.answer) (is_sbrklazy c.args.call.now (view_now c.args.self.now c.args.hart.now) (search rules)) ∙ c.sbrklazy.ensures.answer
+
 pub returns-in_default-clause-made : goal.returns-in_default-clause-made
 returns-in_default-clause-made c =
-    let other : IsOther c.args.call.now.number = record { fork = search rules; exit = search rules; wait = search rules; pipe = search rules; read = search rules; kill = search rules; exec = search rules; dup = search rules; getpid = search rules; sbrk = search rules; sleep = search rules; uptime = search rules; opening = search rules; write = search rules; close = search rules } in
+    let other : IsOther c.args.call.now.number = record { fork = search rules; exit = search rules; wait = search rules; pipe = search rules; read = search rules; kill = search rules; exec = search rules; dup = search rules; getpid = search rules; sbrk = search rules; sleep = search rules; uptime = search rules; opening = search rules; write = search rules; close = search rules; sbrklazy = search rules } in
     subst (λ o. Makes c.args.self.now c.args.hart.now o c.refuse.new.self c.refuse.new.hart) (sym (other-row c.args.call.now (view_now c.args.self.now c.args.hart.now) other)) (c.refuse.ensures.made c.args.call.now)
 
 pub returns-in_default-clause-answer : goal.returns-in_default-clause-answer
 returns-in_default-clause-answer c =
-    let other : IsOther c.args.call.now.number = record { fork = search rules; exit = search rules; wait = search rules; pipe = search rules; read = search rules; kill = search rules; exec = search rules; dup = search rules; getpid = search rules; sbrk = search rules; sleep = search rules; uptime = search rules; opening = search rules; write = search rules; close = search rules } in
+    let other : IsOther c.args.call.now.number = record { fork = search rules; exit = search rules; wait = search rules; pipe = search rules; read = search rules; kill = search rules; exec = search rules; dup = search rules; getpid = search rules; sbrk = search rules; sleep = search rules; uptime = search rules; opening = search rules; write = search rules; close = search rules; sbrklazy = search rules } in
     ap (λ (o : Own). o.answer) (other-row c.args.call.now (view_now c.args.self.now c.args.hart.now) other) ∙ ap (answer_of c.args.call.now.number) (sym c.refuse.ensures.end)

@@ -3,7 +3,7 @@ use Rattle.std.specs.Prelude.{slice_get}
 use Rattle.std.proofs.lemmas.Int.{to_z_pos}
 use Rattle.std.proofs.lemmas.List.{take_all}
 use Rattle.xk_base.specs.Bytes.{write_image}
-use Rattle.kcall_core.specs.Buffers.{writable}
+use Rattle.kcall_core.specs.Buffers.{writable_now}
 use Rattle.kcall_core.specs.Holdings.{held_at}
 use Rattle.kcall_core.specs.Memories.{each_of}
 use Rattle.kcall_core.specs.Own.{Called}
@@ -24,7 +24,7 @@ unfolding state_of
 put_front-requires-clause-writable c =
     let are = c.file_rest-bytes.ensures.bytes ∙ ap (λ xs. take c.args.n (drop c.args.offset (program_bytes (slice_get (map named_file xs) c.args.program)))) c.deref.ensures.value in
     let slot = now-slot c.args.slot c.requires.whole.sound c.requires.slot in
-    ap (λ i. writable (held_at (each_of c.args.self.now.memories) i).image c.args.call.now.a1 (length c.file_rest-bytes.result.now)) slot
+    ap (λ i. writable_now (held_at (each_of c.args.self.now.memories) i).image c.args.call.now.a1 (length c.file_rest-bytes.result.now)) slot
     ∙ writable-fewer _ c.args.call.now.a1 c.args.n (length c.file_rest-bytes.result.now) (few c.requires.whole c.requires.running c.requires.file c.requires.reads c.args.program c.args.offset c.requires.target c.file_rest-bytes.result.now are) c.requires.file.buffer.2
 
 pub move_to-requires : goal.move_to-requires

@@ -1,123 +1,128 @@
-use Rattle.std.proofs.Common.{◌∙◌, ℕ, pos, false, sym, ap, subst, refl, w32, w64, rules}
-use Rattle.std.specs.Prelude.{is_some}
-use Rattle.std.proofs.lemmas.Int.{to_z-of_z}
-use Rattle.proc_table.specs.Slots.{Slots}
-use Rattle.proc_table.specs.Reaping.{HasChild, HasNoChild, HasNoneEnded, TakesLeast}
-use Rattle.proc_table.specs.declared.channel.Channel.TheVariants as on
-use Rattle.proc_table.specs.declared.process.Call.{Call}
-use Rattle.kcall_core.specs.Words.{minus_one}
-use Rattle.kcall_core.specs.Updates.{told_image}
-use Rattle.kcall_core.specs.Kernel.{HasImage, live_now}
+use Rattle.std.proofs.Common.{◌∙◌, sym, ap, subst}
+use Rattle.proc_table.specs.Reaping.{HasChild, HasNoChild}
+use Rattle.kcall_core.specs.Calls.{wait, refused}
+use Rattle.kcall_core.specs.Own.{Own}
+use Rattle.kcall_core.specs.Processes.{Live}
+use Rattle.kcall_core.specs.Makes.{Makes, view_now, answer_of}
+use Rattle.kcall_core.specs.Touched.{IsReady, IsUnready}
 use Rattle.kcall_core.specs.declared.kernel.Kernel.{Kernel}
-use Rattle.kcall_core.specs.Own.{Own, Called}
-use Rattle.kcall_core.specs.Makes.{Makes, answer_of}
 use Rattle.kcall_core.proofs.table.Stops.{now-slot}
-use Rattle.kcall_core.proofs.turns.Chosen.{noted, pid-told}
-use Rattle.kcall_core.proofs.making.CallAnswers.{IsDone, done-at-once}
-use Rattle.kcall_core.proofs.making.Midway.{IsAsleep}
-use Rattle.kcall_core.proofs.processes.WaitRows.{tested, room-told, childless-row, waiting-row}
-use Rattle.kcall_core.proofs.processes.WaitMakes.{reaped-sound, wait-makes, gone-answer}
-use Rattle.kcall_core.proofs.processes.WaitSleeps.{wait-waits, waits-answer}
+use Rattle.kcall_core.proofs.turns.Chosen.{pid-told}
+use Rattle.kcall_core.proofs.processes.WaitRows.{no-child, wait-unready, wait-ready, told-room}
 use Rattle.kcall_core.proofs.kernel.Kernel.wait.Goals as goal
 
-pub returns-then-not-may_tell-clause-made : goal.returns-then-not-may_tell-clause-made
-returns-then-not-may_tell-clause-made c =
+pub returns-then-not-has_child-clause-made : goal.returns-then-not-has_child-clause-made
+returns-then-not-has_child-clause-made c =
     let k = c.args.self.now in
     let h = c.args.hart.now in
-    let row = tested k h c.in-Some.slot c.requires.whole.sound c.in-Some.is c.args.call.now false (sym c.may_tell.ensures ∙ c.if-not-may_tell.true) in
-    subst (λ (o : Own). Makes k h o c.done.new.self c.done.new.hart) (sym row)
-    (done-at-once c.args.call.now minus_one refl c.requires.whole c.requires.running (record { sound = c.done.ensures.sound; kernel = c.done.ensures.kernel; state = c.done.ensures.state }))
-
-pub returns-then-not-may_tell-clause-answer : goal.returns-then-not-may_tell-clause-answer
-returns-then-not-may_tell-clause-answer c =
-    let k = c.args.self.now in
-    let h = c.args.hart.now in
-    let row = tested k h c.in-Some.slot c.requires.whole.sound c.in-Some.is c.args.call.now false (sym c.may_tell.ensures ∙ c.if-not-may_tell.true) in
-    ap (λ (o : Own). o.answer) row ∙ ap (answer_of c.args.call.now.number) (sym c.done.ensures.end)
-
-pub returns-in-NoChild-clause-made : goal.returns-in-NoChild-clause-made
-returns-in-NoChild-clause-made c =
-    let k = c.args.self.now in
-    let h = c.args.hart.now in
+    let call = c.args.call.now in
     let pid = pid-told k c.in-Some.slot c.pid-pid.result (sym (now-slot c.in-Some.slot c.requires.whole.sound c.in-Some.is)) c.pid-pid.ensures in
-    let row = childless-row k h c.in-Some.slot c.requires.whole.sound c.in-Some.is c.args.call.now (sym c.may_tell.ensures ∙ c.if-not-may_tell.false) (subst (HasNoChild k.table) (sym pid) c.in-NoChild.ensures.1) in
-    subst (λ (o : Own). Makes k h o c.done-in-NoChild.new.self c.done-in-NoChild.new.hart) (sym row)
-    (done-at-once c.args.call.now minus_one refl c.requires.whole c.requires.running
-    (subst (λ (t : Slots). IsDone (noted k t) h minus_one c.done-in-NoChild.new.self c.done-in-NoChild.new.hart) c.in-NoChild.ensures.0
-    (record { sound = c.done-in-NoChild.ensures.sound; kernel = c.done-in-NoChild.ensures.kernel; state = c.done-in-NoChild.ensures.state })))
+    let row = no-child k h c.requires.whole.sound c.requires.running call (subst (HasNoChild k.table) (sym pid) (c.has_child.ensures.none c.if-not-has_child.true)) in
+    subst (λ (o : Own). Makes k h o c.refuse.new.self c.refuse.new.hart) (sym row) (c.refuse.ensures.made call)
 
-pub returns-in-NoChild-clause-answer : goal.returns-in-NoChild-clause-answer
-returns-in-NoChild-clause-answer c =
+pub returns-then-not-has_child-clause-answer : goal.returns-then-not-has_child-clause-answer
+returns-then-not-has_child-clause-answer c =
     let k = c.args.self.now in
     let h = c.args.hart.now in
+    let call = c.args.call.now in
     let pid = pid-told k c.in-Some.slot c.pid-pid.result (sym (now-slot c.in-Some.slot c.requires.whole.sound c.in-Some.is)) c.pid-pid.ensures in
-    let row = childless-row k h c.in-Some.slot c.requires.whole.sound c.in-Some.is c.args.call.now (sym c.may_tell.ensures ∙ c.if-not-may_tell.false) (subst (HasNoChild k.table) (sym pid) c.in-NoChild.ensures.1) in
-    ap (λ (o : Own). o.answer) row ∙ ap (answer_of c.args.call.now.number) (sym c.done-in-NoChild.ensures.end)
+    let row = no-child k h c.requires.whole.sound c.requires.running call (subst (HasNoChild k.table) (sym pid) (c.has_child.ensures.none c.if-not-has_child.true)) in
+    ap (λ (o : Own). o.answer) row ∙ ap (answer_of call.number) (sym c.refuse.ensures.end)
 
-pub returns-in-NoneYet-clause-made : goal.returns-in-NoneYet-clause-made
-returns-in-NoneYet-clause-made c =
+pub returns-then-not-ready_buffer-clause-made : goal.returns-then-not-ready_buffer-clause-made
+returns-then-not-ready_buffer-clause-made c =
     let k = c.args.self.now in
     let h = c.args.hart.now in
+    let call = c.args.call.now in
     let pid = pid-told k c.in-Some.slot c.pid-pid.result (sym (now-slot c.in-Some.slot c.requires.whole.sound c.in-Some.is)) c.pid-pid.ensures in
-    let row = waiting-row k h c.in-Some.slot c.requires.whole.sound c.in-Some.is c.args.call.now (sym c.may_tell.ensures ∙ c.if-not-may_tell.false) (subst (HasChild k.table) (sym pid) c.in-NoneYet.ensures.1) (subst (HasNoneEnded k.table) (sym pid) c.in-NoneYet.ensures.2) in
-    wait-waits c.args.call.now c.requires.whole c.requires.running row c.block.new.self c.block.new.hart c.requires.row c.requires.unmarked c.requires.in_call
-    (subst (λ (n : ℕ). IsAsleep k h (record c.args.call.now { moved = 0 }) (on.Children n) c.block.new.self c.block.new.hart) (sym pid)
-    (subst (λ (d : Call). IsAsleep k h d (on.Children c.pid-pid.result) c.block.new.self c.block.new.hart) c.with_moved.ensures
-    (subst (λ (t : Slots). IsAsleep (noted k t) h c.with_moved.result (on.Children c.pid-pid.result) c.block.new.self c.block.new.hart) c.in-NoneYet.ensures.0
-    (record { sound = c.block.ensures.sound; table = c.block.ensures.table; stopped = c.block.ensures.stopped; files = c.block.ensures.files; frames = c.block.ensures.frames; state = c.block.ensures.state }))))
+    let unready = subst (λ n. IsUnready call.a0 n 0 k h) c.told_bytes.ensures (c.ready_buffer.ensures.unready c.if-not-ready_buffer.true h c.requires.whole) in
+    let row = wait-unready k h c.requires.whole.sound c.requires.running call unready in
+    let self = c.refuse-then-not-ready_buffer.new.self in
+    let hart = c.refuse-then-not-ready_buffer.new.hart in
+    subst (λ (o : Own). Makes k h o self hart) (sym row)
+    (subst (λ (x : Kernel). Makes x h (refused call (view_now x h)) self hart) (c.ready_buffer.ensures.stays c.if-not-ready_buffer.true) (c.refuse-then-not-ready_buffer.ensures.made call))
 
-pub returns-in-NoneYet-clause-answer : goal.returns-in-NoneYet-clause-answer
-returns-in-NoneYet-clause-answer c =
+pub returns-then-not-ready_buffer-clause-answer : goal.returns-then-not-ready_buffer-clause-answer
+returns-then-not-ready_buffer-clause-answer c =
     let k = c.args.self.now in
     let h = c.args.hart.now in
+    let call = c.args.call.now in
     let pid = pid-told k c.in-Some.slot c.pid-pid.result (sym (now-slot c.in-Some.slot c.requires.whole.sound c.in-Some.is)) c.pid-pid.ensures in
-    let row = waiting-row k h c.in-Some.slot c.requires.whole.sound c.in-Some.is c.args.call.now (sym c.may_tell.ensures ∙ c.if-not-may_tell.false) (subst (HasChild k.table) (sym pid) c.in-NoneYet.ensures.1) (subst (HasNoneEnded k.table) (sym pid) c.in-NoneYet.ensures.2) in
-    waits-answer c.args.call.now c.requires.whole c.requires.running row ∙ ap (answer_of c.args.call.now.number) (sym c.block.ensures.end)
+    let unready = subst (λ n. IsUnready call.a0 n 0 k h) c.told_bytes.ensures (c.ready_buffer.ensures.unready c.if-not-ready_buffer.true h c.requires.whole) in
+    let row = wait-unready k h c.requires.whole.sound c.requires.running call unready in
+    ap (λ (o : Own). o.answer) row ∙ ap (answer_of call.number) (sym c.refuse-then-not-ready_buffer.ensures.end)
 
-pub tell-requires-clause-sound : goal.tell-requires-clause-sound
-tell-requires-clause-sound c =
+pub wait_ready-requires-clause-whole : goal.wait_ready-requires-clause-whole
+wait_ready-requires-clause-whole c =
     let k = c.args.self.now in
     let h = c.args.hart.now in
+    let call = c.args.call.now in
     let pid = pid-told k c.in-Some.slot c.pid-pid.result (sym (now-slot c.in-Some.slot c.requires.whole.sound c.in-Some.is)) c.pid-pid.ensures in
-    (h, reaped-sound c.in-Gone.child c.in-Gone.status c.requires.whole c.requires.running c.reap.new.self (subst (λ (n : ℕ). TakesLeast k.table c.reap.new.self n c.in-Gone.child c.in-Gone.status) (sym pid) c.in-Gone.ensures))
+    let ready = subst (λ n. IsReady call.a0 n 0 k h c.ready_buffer.new.self h) c.told_bytes.ensures (c.ready_buffer.ensures.ready c.if-not-ready_buffer.false h c.requires.whole) in
+    ready.touched.whole
 
-pub done-requires-in-Gone-clause-sound : goal.done-requires-in-Gone-clause-sound
-done-requires-in-Gone-clause-sound c =
+pub wait_ready-requires-clause-running : goal.wait_ready-requires-clause-running
+wait_ready-requires-clause-running c =
     let k = c.args.self.now in
     let h = c.args.hart.now in
+    let call = c.args.call.now in
     let pid = pid-told k c.in-Some.slot c.pid-pid.result (sym (now-slot c.in-Some.slot c.requires.whole.sound c.in-Some.is)) c.pid-pid.ensures in
-    (c.tell.ensures h (reaped-sound c.in-Gone.child c.in-Gone.status c.requires.whole c.requires.running c.reap.new.self (subst (λ (n : ℕ). TakesLeast k.table c.reap.new.self n c.in-Gone.child c.in-Gone.status) (sym pid) c.in-Gone.ensures))).sound
+    let ready = subst (λ n. IsReady call.a0 n 0 k h c.ready_buffer.new.self h) c.told_bytes.ensures (c.ready_buffer.ensures.ready c.if-not-ready_buffer.false h c.requires.whole) in
+    ready.touched.running
 
-pub done-requires-in-Gone-clause-running : goal.done-requires-in-Gone-clause-running
-done-requires-in-Gone-clause-running c =
+pub wait_ready-requires-clause-slot : goal.wait_ready-requires-clause-slot
+wait_ready-requires-clause-slot c =
     let k = c.args.self.now in
     let h = c.args.hart.now in
+    let call = c.args.call.now in
     let pid = pid-told k c.in-Some.slot c.pid-pid.result (sym (now-slot c.in-Some.slot c.requires.whole.sound c.in-Some.is)) c.pid-pid.ensures in
-    let has = c.tell.ensures h (reaped-sound c.in-Gone.child c.in-Gone.status c.requires.whole c.requires.running c.reap.new.self (subst (λ (n : ℕ). TakesLeast k.table c.reap.new.self n c.in-Gone.child c.in-Gone.status) (sym pid) c.in-Gone.ensures)) in
-    ap is_some (ap (λ (y : Kernel). y.current) has.kernel ∙ c.in-Some.is)
+    let ready = subst (λ n. IsReady call.a0 n 0 k h c.ready_buffer.new.self h) c.told_bytes.ensures (c.ready_buffer.ensures.ready c.if-not-ready_buffer.false h c.requires.whole) in
+    ap (λ (x : Kernel). x.current) ready.touched.kernel ∙ c.in-Some.is
 
-pub returns-in-Gone-clause-made : goal.returns-in-Gone-clause-made
-returns-in-Gone-clause-made c =
+pub wait_ready-requires-clause-unmarked : goal.wait_ready-requires-clause-unmarked
+wait_ready-requires-clause-unmarked c =
     let k = c.args.self.now in
     let h = c.args.hart.now in
+    let call = c.args.call.now in
     let pid = pid-told k c.in-Some.slot c.pid-pid.result (sym (now-slot c.in-Some.slot c.requires.whole.sound c.in-Some.is)) c.pid-pid.ensures in
-    let takes = subst (λ (n : ℕ). TakesLeast k.table c.reap.new.self n c.in-Gone.child c.in-Gone.status) (sym pid) c.in-Gone.ensures in
-    let has = c.tell.ensures h (reaped-sound c.in-Gone.child c.in-Gone.status c.requires.whole c.requires.running c.reap.new.self takes) in
-    let room = room-told k h c.in-Some.slot c.requires.whole.sound c.in-Some.is c.args.call.now (sym c.may_tell.ensures ∙ c.if-not-may_tell.false) in
-    let told = to_z-of_z w64 c.from.result (record { sfits = c.from.type_inv }) ∙ c.from.ensures ∙ ap pos c.number.ensures.value in
-    wait-makes c.in-Gone.child c.in-Gone.status c.requires.whole c.requires.running c.reap.new.self takes c.args.call.now room c.tell.new.self
-    (subst (λ (t : Slots). HasImage (noted k t) h (told_image c.args.call.now.a0 c.in-Gone.status (live_now (noted k t) h).image) c.tell.new.self h) takes.after
-    (subst (λ z. HasImage (noted k c.reap.new.self) h (told_image c.args.call.now.a0 z (live_now (noted k c.reap.new.self) h).image) c.tell.new.self h) (to_z-of_z w32 c.in-Gone.status (search rules)) has))
-    c.done-in-Gone.new.self c.done-in-Gone.new.hart
-    (subst (λ z. IsDone c.tell.new.self h z c.done-in-Gone.new.self c.done-in-Gone.new.hart) told
-    (record { sound = c.done-in-Gone.ensures.sound; kernel = c.done-in-Gone.ensures.kernel; state = c.done-in-Gone.ensures.state }))
+    let ready = subst (λ n. IsReady call.a0 n 0 k h c.ready_buffer.new.self h) c.told_bytes.ensures (c.ready_buffer.ensures.ready c.if-not-ready_buffer.false h c.requires.whole) in
+    ap (λ (l : Live). l.killed) ready.touched.live ∙ c.requires.unmarked
 
-pub returns-in-Gone-clause-answer : goal.returns-in-Gone-clause-answer
-returns-in-Gone-clause-answer c =
+pub wait_ready-requires-clause-in_call : goal.wait_ready-requires-clause-in_call
+wait_ready-requires-clause-in_call c =
     let k = c.args.self.now in
     let h = c.args.hart.now in
+    let call = c.args.call.now in
     let pid = pid-told k c.in-Some.slot c.pid-pid.result (sym (now-slot c.in-Some.slot c.requires.whole.sound c.in-Some.is)) c.pid-pid.ensures in
-    let takes = subst (λ (n : ℕ). TakesLeast k.table c.reap.new.self n c.in-Gone.child c.in-Gone.status) (sym pid) c.in-Gone.ensures in
-    let room = room-told k h c.in-Some.slot c.requires.whole.sound c.in-Some.is c.args.call.now (sym c.may_tell.ensures ∙ c.if-not-may_tell.false) in
-    let told = to_z-of_z w64 c.from.result (record { sfits = c.from.type_inv }) ∙ c.from.ensures ∙ ap pos c.number.ensures.value in
-    gone-answer c.in-Gone.child c.in-Gone.status c.requires.whole c.requires.running c.reap.new.self takes c.args.call.now room ∙ ap (Called c.args.call.now.number) (sym told) ∙ ap (answer_of c.args.call.now.number) (sym c.done-in-Gone.ensures.end)
+    let ready = subst (λ n. IsReady call.a0 n 0 k h c.ready_buffer.new.self h) c.told_bytes.ensures (c.ready_buffer.ensures.ready c.if-not-ready_buffer.false h c.requires.whole) in
+    ap (λ (l : Live). l.call) ready.touched.live ∙ c.requires.in_call
+
+pub wait_ready-requires-clause-fits : goal.wait_ready-requires-clause-fits
+wait_ready-requires-clause-fits c =
+    let k = c.args.self.now in
+    let h = c.args.hart.now in
+    let call = c.args.call.now in
+    let pid = pid-told k c.in-Some.slot c.pid-pid.result (sym (now-slot c.in-Some.slot c.requires.whole.sound c.in-Some.is)) c.pid-pid.ensures in
+    let ready = subst (λ n. IsReady call.a0 n 0 k h c.ready_buffer.new.self h) c.told_bytes.ensures (c.ready_buffer.ensures.ready c.if-not-ready_buffer.false h c.requires.whole) in
+    told-room call c.in-Some.slot c.in-Some.is ready
+
+pub returns-clause-made : goal.returns-clause-made
+returns-clause-made c =
+    let k = c.args.self.now in
+    let h = c.args.hart.now in
+    let call = c.args.call.now in
+    let pid = pid-told k c.in-Some.slot c.pid-pid.result (sym (now-slot c.in-Some.slot c.requires.whole.sound c.in-Some.is)) c.pid-pid.ensures in
+    let ready = subst (λ n. IsReady call.a0 n 0 k h c.ready_buffer.new.self h) c.told_bytes.ensures (c.ready_buffer.ensures.ready c.if-not-ready_buffer.false h c.requires.whole) in
+    let row = wait-ready k h c.requires.whole.sound c.requires.running call (subst (HasChild k.table) (sym pid) (c.has_child.ensures.some c.if-not-has_child.false)) ready in
+    ready.touched.makes (wait call (view_now k h)) c.wait_ready.new.self c.wait_ready.new.hart
+    (subst (λ (o : Own). Makes c.ready_buffer.new.self h o c.wait_ready.new.self c.wait_ready.new.hart) (sym row) c.wait_ready.ensures.made)
+
+pub returns-clause-answer : goal.returns-clause-answer
+returns-clause-answer c =
+    let k = c.args.self.now in
+    let h = c.args.hart.now in
+    let call = c.args.call.now in
+    let pid = pid-told k c.in-Some.slot c.pid-pid.result (sym (now-slot c.in-Some.slot c.requires.whole.sound c.in-Some.is)) c.pid-pid.ensures in
+    let ready = subst (λ n. IsReady call.a0 n 0 k h c.ready_buffer.new.self h) c.told_bytes.ensures (c.ready_buffer.ensures.ready c.if-not-ready_buffer.false h c.requires.whole) in
+    let row = wait-ready k h c.requires.whole.sound c.requires.running call (subst (HasChild k.table) (sym pid) (c.has_child.ensures.some c.if-not-has_child.false)) ready in
+    ap (λ (o : Own). o.answer) row ∙ c.wait_ready.ensures.answer

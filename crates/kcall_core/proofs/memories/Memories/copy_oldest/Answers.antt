@@ -5,7 +5,7 @@ use Rattle.xk_base.specs.declared.access.Access.TheVariants.{Store}
 use Rattle.xk_base.specs.Bytes.{write_image}
 use Rattle.xk_base.proofs.Bytes.{size-write_image}
 use Rattle.user_copy.proofs.Ranges.{reached-mapped}
-use Rattle.kcall_core.specs.Buffers.{writable}
+use Rattle.kcall_core.specs.Buffers.{writable_now}
 use Rattle.kcall_core.specs.Memories.{each_of, pipes_of, free_of}
 use Rattle.kcall_core.specs.Holdings.{held_at, pipe_named}
 use Rattle.kcall_core.proofs.memory.Changes.{there-below, there-some, stands, image-seen, belongs-of, space-changes}
@@ -33,7 +33,7 @@ copy_from_pipe-requires-clause-apart c =
 pub copy_from_pipe-requires-clause-there : goal.copy_from_pipe-requires-clause-there
 copy_from_pipe-requires-clause-there c =
     let s = stands c.index.result.now c.in-Some.memory c.requires.sound c.requires.there c.index.ensures c.in-Some.is in
-    reached-mapped Store _ c.args.address c.args.count (ap (λ (i : Image). writable i c.args.address c.args.count) (sym (image-seen s)) ∙ c.requires.writable)
+    reached-mapped Store _ c.args.address c.args.count (ap (λ (i : Image). writable_now i c.args.address c.args.count) (sym (image-seen s)) ∙ c.requires.writable)
 
 pub copy_from_pipe-requires-clause-bytes : goal.copy_from_pipe-requires-clause-bytes
 copy_from_pipe-requires-clause-bytes c = omega (arith, c.requires.bytes, ap length (bytes-named c.args.self.now c.number.ensures.range c.requires.sound c.requires.pipe))

@@ -4,7 +4,7 @@ use Rattle.xk_base.specs.declared.limits.TheConstants.{SIZE_LIMIT}
 use Rattle.xk_base.specs.Bytes.{write_image}
 use Rattle.xk_base.proofs.Bytes.{size-write_image}
 use Rattle.frame_list.specs.Pool.{free_in}
-use Rattle.kcall_core.specs.Buffers.{writable}
+use Rattle.kcall_core.specs.Buffers.{writable_now}
 use Rattle.kcall_core.specs.Memories.{each_of, free_of}
 use Rattle.kcall_core.specs.Holdings.{held_at}
 use Rattle.kcall_core.proofs.memory.Births.{untraded}
@@ -24,7 +24,7 @@ copy_out-requires c = whole-of (stands c.index.result.now c.in-Some.memory c.req
 pub returns-clause-fine : goal.returns-clause-fine
 returns-clause-fine c =
     let s = stands c.index.result.now c.in-Some.memory c.requires.sound c.requires.there c.index.ensures c.in-Some.is in
-    ok-map c.copy_out.result c.copy_out.ensures.fine (λ x fine. ap (λ (i : Image). writable i c.args.address (length c.args.bytes.now)) (image-seen s) ∙ fine)
+    ok-map c.copy_out.result c.copy_out.ensures.fine (λ x fine. ap (λ (i : Image). writable_now i c.args.address (length c.args.bytes.now)) (image-seen s) ∙ fine)
 
 pub returns-clause-written : goal.returns-clause-written
 returns-clause-written c =
@@ -49,6 +49,6 @@ pub returns-clause-refused : goal.returns-clause-refused
 returns-clause-refused c =
     let s = stands c.index.result.now c.in-Some.memory c.requires.sound c.requires.there c.index.ensures c.in-Some.is in
     err-map c.copy_out.result c.copy_out.ensures.refused (λ e r. (
-      ap (λ (i : Image). writable i c.args.address (length c.args.bytes.now)) (image-seen s) ∙ r.0,
+      ap (λ (i : Image). writable_now i c.args.address (length c.args.bytes.now)) (image-seen s) ∙ r.0,
       same-if c.args.self.now _ c.requires.sound (untraded _ _ _ _ [] c.requires.sound.good refl r.1) refl refl,
     ))

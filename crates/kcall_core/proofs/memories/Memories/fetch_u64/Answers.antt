@@ -1,9 +1,12 @@
-use Rattle.std.proofs.Common.{ap, ◌∙◌}
+use Rattle.std.proofs.Common.{true, arith, ap, ◌∙◌}
 use Rattle.xk_base.specs.Image.{Image}
+use Rattle.addr_space.specs.Absent.{whole}
+use Rattle.addr_space.specs.Space.{image_of}
+use Rattle.addr_space.proofs.Touching.{low-pages, touched-low}
 use Rattle.kcall_core.specs.Buffers.{pointer_at}
 use Rattle.kcall_core.proofs.memory.Changes.{there-below, there-some, stands, image-seen}
 use Rattle.kcall_core.proofs.memory.UserBytes.{pointer-there, pointer-none, low-read}
-use Rattle.kcall_core.proofs.memory.Written.{ok-map, ok-both, err-map, whole-of}
+use Rattle.kcall_core.proofs.memory.Written.{ok-map, ok-both, err-map, whole-of, size-of}
 use Rattle.kcall_core.proofs.memories.Memories.fetch_u64.Goals as goal
 
 pub index-requires : goal.index-requires
@@ -12,18 +15,18 @@ index-requires c = there-below _ _ c.requires.there
 pub unreachable-requires : goal.unreachable-requires
 unreachable-requires c = there-some _ _ c.index.result.now c.requires.there c.index.ensures c.in_default.is
 
-pub fetch_u64-requires : goal.fetch_u64-requires
-fetch_u64-requires c = whole-of (stands c.index.result.now c.in-Some.memory c.requires.sound c.requires.there c.index.ensures c.in-Some.is)
+pub fetch_u64_lazily-requires : goal.fetch_u64_lazily-requires
+fetch_u64_lazily-requires c = whole-of (stands c.index.result.now c.in-Some.memory c.requires.sound c.requires.there c.index.ensures c.in-Some.is)
 
 pub returns-clause-number : goal.returns-clause-number
 returns-clause-number c =
     let s = stands c.index.result.now c.in-Some.memory c.requires.sound c.requires.there c.index.ensures c.in-Some.is in
-    ok-both c.fetch_u64.result c.fetch_u64.ensures.fine c.fetch_u64.ensures.number (λ n fine is. ap (λ (i : Image). pointer_at i c.args.address) (image-seen s) ∙ pointer-there _ c.args.address n fine is)
+    ok-both c.fetch_u64_lazily.result c.fetch_u64_lazily.ensures.fine c.fetch_u64_lazily.ensures.number (λ n fine is. ap (λ (i : Image). pointer_at i c.args.address) (image-seen s) ∙ pointer-there (image_of c.args.self.now.ram c.in-Some.memory.space) (low-pages c.args.self.now.ram c.in-Some.memory.space) (size-of s) c.args.address n fine is)
 
 pub returns-clause-refused : goal.returns-clause-refused
 returns-clause-refused c =
     let s = stands c.index.result.now c.in-Some.memory c.requires.sound c.requires.there c.index.ensures c.in-Some.is in
-    err-map c.fetch_u64.result c.fetch_u64.ensures.refused (λ e bad. ap (λ (i : Image). pointer_at i c.args.address) (image-seen s) ∙ pointer-none _ c.args.address bad)
+    err-map c.fetch_u64_lazily.result c.fetch_u64_lazily.ensures.refused (λ e bad. ap (λ (i : Image). pointer_at i c.args.address) (image-seen s) ∙ pointer-none (image_of c.args.self.now.ram c.in-Some.memory.space) (low-pages c.args.self.now.ram c.in-Some.memory.space) (size-of s) c.args.address bad)
 
 pub returns-clause-low : goal.returns-clause-low
-returns-clause-low c = ok-map c.fetch_u64.result c.fetch_u64.ensures.fine (λ n fine. low-read c.args.self.now.ram c.in-Some.memory.space c.args.address fine)
+returns-clause-low c = ok-map c.fetch_u64_lazily.result c.fetch_u64_lazily.ensures.fine (λ n fine. low-read (whole (image_of c.args.self.now.ram c.in-Some.memory.space)) c.args.address 8 (touched-low (λ v. true) (image_of c.args.self.now.ram c.in-Some.memory.space)) (omega arith) fine)

@@ -1,9 +1,7 @@
-use Rattle.std.proofs.Common.{◌≡◌, Bool, true, false, sym, ap, ◌∙◌}
-use Rattle.std.specs.Prelude.{Result, Ok, Err, IfOk, IfErr, is_ok}
-use Rattle.xk_base.specs.Image.{Image}
-use Rattle.kcall_core.specs.Buffers.{readable}
-use Rattle.kcall_core.proofs.memory.Changes.{there-below, there-some, stands, image-seen}
-use Rattle.kcall_core.proofs.memory.Written.{whole-of}
+use Rattle.std.proofs.Common.{refl, sym, ◌∙◌}
+use Rattle.xk_base.specs.declared.access.Access.TheVariants.{Load}
+use Rattle.kcall_core.proofs.memory.Changes.{there-below, there-some, stands}
+use Rattle.kcall_core.proofs.memory.Written.{told, whole-of, touching-seen}
 use Rattle.kcall_core.proofs.memories.Memories.may_read.Goals as goal
 
 pub index-requires : goal.index-requires
@@ -12,14 +10,10 @@ index-requires c = there-below _ _ c.requires.there
 pub unreachable-requires : goal.unreachable-requires
 unreachable-requires c = there-some _ _ c.index.result.now c.requires.there c.index.ensures c.in_default.is
 
-pub check_range-requires : goal.check_range-requires
-check_range-requires c = whole-of (stands c.index.result.now c.in-Some.memory c.requires.sound c.requires.there c.index.ensures c.in-Some.is)
-
-told : {A E : Type 0} (r : Result A E) (b : Bool) → IfOk r (λ _. b ≡ true) → IfErr r (λ _. b ≡ false) → is_ok r ≡ b
-told (Ok x) b fine refused = sym fine
-told (Err x) b fine refused = sym refused
+pub check_range_lazily-requires : goal.check_range_lazily-requires
+check_range_lazily-requires c = whole-of (stands c.index.result.now c.in-Some.memory c.requires.sound c.requires.there c.index.ensures c.in-Some.is)
 
 pub returns : goal.returns
 returns c =
     let s = stands c.index.result.now c.in-Some.memory c.requires.sound c.requires.there c.index.ensures c.in-Some.is in
-    c.is_ok.ensures.value ∙ told c.check_range.result _ c.check_range.ensures.fine c.check_range.ensures.refused ∙ ap (λ (i : Image). readable i c.args.address c.args.len) (sym (image-seen s))
+    c.is_ok.ensures.value ∙ told c.check_range_lazily.result _ c.check_range_lazily.ensures.fine c.check_range_lazily.ensures.refused ∙ sym (touching-seen Load refl s c.args.address c.args.len)

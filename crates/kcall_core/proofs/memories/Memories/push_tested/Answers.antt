@@ -1,14 +1,8 @@
-use Rattle.std.proofs.Common.{length, refl, sym, ap, ◌∙◌, arith}
-use Rattle.xk_base.specs.Image.{Image}
-use Rattle.xk_base.specs.declared.access.Access.TheVariants.{Load}
-use Rattle.addr_space.specs.Space.{image_of}
-use Rattle.addr_space.proofs.Touching.{low-pages}
-use Rattle.user_copy.proofs.Ranges.{reached-mapped, mapped-inside}
-use Rattle.kcall_core.specs.Buffers.{readable}
-use Rattle.kcall_core.proofs.memory.Changes.{there-below, there-some, stands, image-seen}
+use Rattle.std.proofs.Common.{length, refl, ap, arith}
+use Rattle.kcall_core.proofs.memory.Changes.{there-below, there-some, stands}
 use Rattle.kcall_core.proofs.memory.PipeEdges.{is-pipe}
 use Rattle.kcall_core.proofs.memory.PipeMoves.{pipe-no-page, bytes-named, pages-pushed}
-use Rattle.kcall_core.proofs.memory.Written.{whole-of}
+use Rattle.kcall_core.proofs.memory.Written.{whole-of, readable-inside}
 use Rattle.kcall_core.proofs.memories.Memories.push_tested.Goals as goal
 
 pub index-requires : goal.index-requires
@@ -29,11 +23,7 @@ push_to_pipe-requires-clause-apart c =
 
 pub push_to_pipe-requires-clause-inside : goal.push_to_pipe-requires-clause-inside
 push_to_pipe-requires-clause-inside c =
-    let s = stands c.index.result.now c.in-Some.memory c.requires.sound c.requires.there c.index.ensures c.in-Some.is in
-    let may = ap (λ (i : Image). readable i c.args.address c.args.count) (sym (image-seen s)) ∙ c.requires.readable in
-    let ram = c.args.self.now.ram in
-    let space = c.in-Some.memory.space in
-    mapped-inside (image_of ram space) c.args.address c.args.count (low-pages ram space) (reached-mapped Load (image_of ram space) c.args.address c.args.count may)
+    readable-inside (stands c.index.result.now c.in-Some.memory c.requires.sound c.requires.there c.index.ensures c.in-Some.is) c.args.address c.args.count c.requires.readable
 
 pub push_to_pipe-requires-clause-room : goal.push_to_pipe-requires-clause-room
 push_to_pipe-requires-clause-room c = omega (arith, c.requires.room, ap length (bytes-named c.args.self.now c.number.ensures.range c.requires.sound c.requires.pipe))

@@ -5,7 +5,7 @@ use Rattle.xk_base.specs.declared.access.Access.TheVariants.{Store}
 use Rattle.xk_base.specs.Bytes.{write_image}
 use Rattle.xk_base.proofs.Bytes.{size-write_image}
 use Rattle.user_copy.proofs.Ranges.{reached-mapped}
-use Rattle.kcall_core.specs.Buffers.{writable}
+use Rattle.kcall_core.specs.Buffers.{writable_now}
 use Rattle.kcall_core.specs.Memories.{each_of, free_of}
 use Rattle.kcall_core.specs.Holdings.{held_at}
 use Rattle.kcall_core.proofs.memory.Changes.{there-below, there-some, stands, image-seen, belongs-of, space-changes}
@@ -24,7 +24,7 @@ write_across-requires-clause-whole c = whole-of (stands c.index.result.now c.in-
 pub write_across-requires-clause-there : goal.write_across-requires-clause-there
 write_across-requires-clause-there c =
     let s = stands c.index.result.now c.in-Some.memory c.requires.sound c.requires.there c.index.ensures c.in-Some.is in
-    reached-mapped Store _ c.args.address (length c.args.bytes.now) (ap (λ (i : Image). writable i c.args.address (length c.args.bytes.now)) (sym (image-seen s)) ∙ c.requires.writable)
+    reached-mapped Store _ c.args.address (length c.args.bytes.now) (ap (λ (i : Image). writable_now i c.args.address (length c.args.bytes.now)) (sym (image-seen s)) ∙ c.requires.writable)
 
 pub returns-clause-written : goal.returns-clause-written
 returns-clause-written c =

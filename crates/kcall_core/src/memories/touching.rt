@@ -1,0 +1,105 @@
+//! Pages of the processes that are absent: below the size, and not there (the xv6 book, "Page tables").
+ghost use Rattle.std.specs.Prelude.{◌≡◌, ℕ, ◌+◌, ◌/◌, ◌<◌, ◌≤◌, true, false, Some};
+ghost use Rattle.xk_base.specs.Image.{price};
+ghost use Rattle.xk_base.specs.declared.limits.TheConstants.{SIZE_LIMIT};
+ghost use Rattle.addr_space.specs.Absent.{is_absent, grown_lazily};
+ghost use Rattle.hart_core.specs.declared.hart.Hart.{Hart};
+ghost use Rattle.kcall_core.specs.Buffers.{writable};
+ghost use Rattle.kcall_core.specs.Touches.{pages_at, brought};
+ghost use Rattle.kcall_core.specs.Holdings.{held_at, HasMemory, with_image};
+ghost use Rattle.kcall_core.specs.Memories.{each_of, free_of, AreSound, RunsIn, SlotChanges};
+
+use crate::memories::Memories;
+use xk_base::limits::VPN_END;
+use xk_base::{Access, Vpn};
+
+impl Memories {
+    /// Whether user code may write all of so many bytes from an address on, once their absent pages are there.
+    pub fn may_write_touching(&self, slot: usize, address: u64, len: usize) -> bool
+        requires sound { AreSound self.now }
+        requires there { HasMemory (each_of self.now) slot }
+        ensures { result ≡ writable (held_at (each_of self.now) slot).image address len }
+    {
+        let Some(memory) = &self.each[slot] else {
+            unreachable!();
+        };
+        user_copy::check_range_lazily(&memory.space, &self.ram, address, len, Access::Store).is_ok()
+    }
+
+    /// Whether the page of an address is absent in a slot.
+    pub fn is_absent(&self, slot: usize, address: u64) -> bool
+        requires sound { AreSound self.now }
+        requires there { HasMemory (each_of self.now) slot }
+        ensures { result ≡ is_absent (held_at (each_of self.now) slot).image (address / 4096) }
+    {
+        let Some(memory) = &self.each[slot] else {
+            unreachable!();
+        };
+        if address / 4096 >= VPN_END as u64 {
+            return false;
+        }
+        memory
+            .space
+            .absent(&self.ram, Vpn::new((address / 4096) as u32))
+    }
+
+    /// The absent pages in which one of so many bytes from an address on lies come, with zeros. They come where
+    /// so many frames are free that `spare` are left; the answer is whether they do. Else nothing is changed.
+    ///
+    /// What a hart keeps of the slot's translations stays true.
+    pub fn touch(&mut self, slot: usize, address: u64, len: usize, spare: u32) -> bool
+        requires sound { AreSound self.old }
+        requires there { HasMemory (each_of self.old) slot }
+        ensures touched { result ≡ true → let held = held_at (each_of self.old) slot in SlotChanges self.old self.new slot (Some (with_image (brought (pages_at address len) held.image) held)) }
+        ensures runs { (hart : Hart) → RunsIn self.old slot hart → RunsIn self.new slot hart }
+        ensures fits { result ≡ true → let image = (held_at (each_of self.old) slot).image in price (brought (pages_at address len) image) + spare ≤ price image + free_of self.old }
+        ensures refused { result ≡ false → let image = (held_at (each_of self.old) slot).image in (price image + free_of self.old < price (brought (pages_at address len) image) + spare) × (self.new ≡ self.old) }
+    {
+        let Some(memory) = &self.each[slot] else {
+            unreachable!();
+        };
+        let price = memory.space.touch_price(&self.ram, address, len);
+        if u64::from(self.pool.free()) < u64::from(price) + u64::from(spare) {
+            return false;
+        }
+        self.bring(slot, address, len);
+        true
+    }
+
+    /// The same, where so many frames are free.
+    fn bring(&mut self, slot: usize, address: u64, len: usize)
+        requires sound { AreSound self.old }
+        requires there { HasMemory (each_of self.old) slot }
+        requires fits { let image = (held_at (each_of self.old) slot).image in price (brought (pages_at address len) image) ≤ price image + free_of self.old }
+        ensures touched { let held = held_at (each_of self.old) slot in SlotChanges self.old self.new slot (Some (with_image (brought (pages_at address len) held.image) held)) }
+        ensures runs { (hart : Hart) → RunsIn self.old slot hart → RunsIn self.new slot hart }
+    {
+        let Some(mut memory) = self.each[slot].take() else {
+            unreachable!();
+        };
+        let Ok(()) = memory
+            .space
+            .touch(&mut self.pool, &mut self.ram, address, len)
+        else {
+            unreachable!();
+        };
+        self.each[slot] = Some(memory);
+    }
+
+    /// Makes the size of the image of a slot greater, and adds no page. What a hart keeps of the slot's
+    /// translations stays true.
+    pub fn grow_lazily(&mut self, slot: usize, size: u64)
+        requires sound { AreSound self.old }
+        requires there { HasMemory (each_of self.old) slot }
+        requires more { (held_at (each_of self.old) slot).image.size ≤ size }
+        requires limit { size ≤ SIZE_LIMIT }
+        ensures grown { let held = held_at (each_of self.old) slot in SlotChanges self.old self.new slot (Some (with_image (grown_lazily held.image size) held)) }
+        ensures runs { (hart : Hart) → RunsIn self.old slot hart → RunsIn self.new slot hart }
+    {
+        let Some(mut memory) = self.each[slot].take() else {
+            unreachable!();
+        };
+        memory.space.grow_lazily(size);
+        self.each[slot] = Some(memory);
+    }
+}
