@@ -131,7 +131,7 @@ impl Kernel {
         if !self.touch_page(hart.fault_address()) {
             return Stop::Fault(cause);
         }
-        self.memories.step(hart)
+        self.memories.step_again(hart)
     }
 
     /// Instructions of the process that runs, one after another, as [`step`](Kernel::step) makes each: up to the

@@ -45,9 +45,9 @@ undone-before v other = by (is_on_absent v.regs v.image) refl (touch (page_used 
     by true on (Some t) come =
         let c = touch-comes (page_used v.regs v.image ∷ []) v t come in
         absurd (other (
-          ap (λ (u : View). stop_of (next_instruction u.regs u.image)) (before_touched v t on come)
-          ∙ (λ i. stop_of (next_instruction ((c.view i).regs) (c.image i)))
-          ∙ done_once_touched v.regs v.image on
+        ap (λ (u : View). stop_of (next_instruction u.regs u.image)) (before_touched v t on come)
+        ∙ (λ i. stop_of (next_instruction ((c.view i).regs) (c.image i)))
+        ∙ done_once_touched v.regs v.image on
         ))
 
 -- ---- the process that runs

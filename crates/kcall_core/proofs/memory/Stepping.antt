@@ -221,3 +221,24 @@ pub steps-in-a-row : (old : Memories) (slot : ℕ) (hart hart' : Hart) (ram' : L
 steps-in-a-row old slot hart hart' ram' most made stop sound runs root row =
     let P = λ (h : Hart). StepsInARow slot most made stop old hart (record old { ram = ram' }) h in
     subst P (λ t. record hart' { root = sym root t }) (in-a-row old slot hart (record { sound = sound; runs = runs }) most made stop ram' hart'.regs hart'.cache hart'.fault_address row)
+
+-- ---- a single one of a row
+
+one-done : {old mid : Memories} {slot made : ℕ} {hart between : Hart} → made ≡ 1 → StepsDone made slot old hart mid between → Steps old mid slot hart between stops.Next
+one-done {old} {mid} {slot} {made} {hart} {between} one done =
+    let d = subst (λ m. StepsDone m slot old hart mid between) one done in
+    subst (λ (y : Memories × Hart). Steps y.0 mid slot y.1 between stops.Next) (λ i. (d.2.0 i, d.2.1 i)) d.3
+
+none-done : (old mid : Memories) (slot made : ℕ) (hart between : Hart) → made < 1 → StepsDone made slot old hart mid between → (mid ≡ old) × (between ≡ hart)
+none-done old mid slot made hart between few done = let none : made ≡ 0 = omega (arith, few) in subst (λ m. StepsDone m slot old hart mid between) none done
+
+pub one-in-a-row : (old new : Memories) (slot made : ℕ) (stop : Stop) (hart hart' : Hart) → StepsInARow slot 1 made stop old hart new hart' → Steps old new slot hart hart' stop
+one-in-a-row old new slot made stops.Next hart hart' x =
+    let one = one-done x.last.0 x.done in
+    subst (λ (y : Memories × Hart). Steps old y.0 slot hart y.1 stops.Next) (λ i. (sym x.last.1 i, sym x.last.2 i)) one
+one-in-a-row old new slot made stops.Ecall hart hart' x =
+    let none = none-done old x.mid slot made hart x.between x.last.0 x.done in
+    subst (λ (y : Memories × Hart). Steps y.0 new slot y.1 hart' stops.Ecall) (λ i. (none.0 i, none.1 i)) x.last.1
+one-in-a-row old new slot made (stops.Fault cause) hart hart' x =
+    let none = none-done old x.mid slot made hart x.between x.last.0 x.done in
+    subst (λ (y : Memories × Hart). Steps y.0 new slot y.1 hart' (stops.Fault cause)) (λ i. (none.0 i, none.1 i)) x.last.1

@@ -13,8 +13,8 @@ returns-then-not-touch_page-clause-stop c =
     untouched-fault c.args.self.now c.args.hart.now c.args.cause c.requires.faulted c.fault_address.result c.fault_address.ensures (sym c.is_data_page_fault.ensures ∙ c.if-not-is_data_page_fault.false)
     (c.touch_page.ensures.refused c.if-not-touch_page.true c.args.hart.now c.requires.whole)
 
-pub step-requires-clause-running : goal.step-requires-clause-running
-step-requires-clause-running c =
+pub step_again-requires-clause-running : goal.step_again-requires-clause-running
+step_again-requires-clause-running c =
     let touched = c.touch_page.ensures.touched c.if-not-touch_page.false c.args.hart.now c.requires.whole in
     let r = running c.touch_page.new.self c.args.hart.now touched.whole.sound touched.running in
     (slot_now c.touch_page.new.self, r.is.runs)
@@ -25,7 +25,7 @@ returns-clause-stop c =
     let r = running c.touch_page.new.self c.args.hart.now touched.whole.sound touched.running in
     touched-stop c.args.self.now c.args.hart.now c.args.cause c.requires.faulted c.fault_address.result c.fault_address.ensures (sym c.is_data_page_fault.ensures ∙ c.if-not-is_data_page_fault.false)
     c.touch_page.new.self touched (c.touch_page.ensures.absent c.if-not-touch_page.false c.args.hart.now c.requires.whole)
-    c.step.new.self c.step.new.hart c.step.result (c.step.ensures (slot_now c.touch_page.new.self) r.is.runs)
+    c.step_again.new.self c.step_again.new.hart c.step_again.result (c.step_again.ensures (slot_now c.touch_page.new.self) r.is.runs)
 
 pub returns-clause-done : goal.returns-clause-done
 returns-clause-done c next =
@@ -33,7 +33,7 @@ returns-clause-done c next =
     let r = running c.touch_page.new.self c.args.hart.now touched.whole.sound touched.running in
     touched-makes c.args.self.now c.args.hart.now c.args.cause c.requires.faulted c.fault_address.result c.fault_address.ensures (sym c.is_data_page_fault.ensures ∙ c.if-not-is_data_page_fault.false)
     c.touch_page.new.self touched (c.touch_page.ensures.absent c.if-not-touch_page.false c.args.hart.now c.requires.whole)
-    c.step.new.self c.step.new.hart c.step.result (c.step.ensures (slot_now c.touch_page.new.self) r.is.runs) c.requires.between_calls
+    c.step_again.new.self c.step_again.new.hart c.step_again.result (c.step_again.ensures (slot_now c.touch_page.new.self) r.is.runs) c.requires.between_calls
 
 pub returns-clause-running : goal.returns-clause-running
 returns-clause-running c next = (c.touch_page.ensures.touched c.if-not-touch_page.false c.args.hart.now c.requires.whole).running
@@ -44,7 +44,7 @@ returns-clause-between_calls c next =
     let r = running c.touch_page.new.self c.args.hart.now touched.whole.sound touched.running in
     touched-free c.args.self.now c.args.hart.now c.args.cause c.requires.faulted c.fault_address.result c.fault_address.ensures (sym c.is_data_page_fault.ensures ∙ c.if-not-is_data_page_fault.false)
     c.touch_page.new.self touched (c.touch_page.ensures.absent c.if-not-touch_page.false c.args.hart.now c.requires.whole)
-    c.step.new.self c.step.new.hart c.step.result (c.step.ensures (slot_now c.touch_page.new.self) r.is.runs) c.requires.between_calls
+    c.step_again.new.self c.step_again.new.hart c.step_again.result (c.step_again.ensures (slot_now c.touch_page.new.self) r.is.runs) c.requires.between_calls
 
 pub returns-clause-stays : goal.returns-clause-stays
 returns-clause-stays c other =
@@ -52,4 +52,4 @@ returns-clause-stays c other =
     let r = running c.touch_page.new.self c.args.hart.now touched.whole.sound touched.running in
     absurd (other (touched-next c.args.self.now c.args.hart.now c.args.cause c.requires.faulted c.fault_address.result c.fault_address.ensures (sym c.is_data_page_fault.ensures ∙ c.if-not-is_data_page_fault.false)
     c.touch_page.new.self touched (c.touch_page.ensures.absent c.if-not-touch_page.false c.args.hart.now c.requires.whole)
-    c.step.new.self c.step.new.hart c.step.result (c.step.ensures (slot_now c.touch_page.new.self) r.is.runs)))
+    c.step_again.new.self c.step_again.new.hart c.step_again.result (c.step_again.ensures (slot_now c.touch_page.new.self) r.is.runs)))
