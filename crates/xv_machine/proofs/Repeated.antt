@@ -115,8 +115,7 @@ module _ (k k' : Kernel) (h h' : Hart) (whole : IsWhole k h) (runs : IsRunning k
       let n = next-now k h free next in
       let now = next-is n.0 n.1 n.2 in
       let v = before_instruction (view_now k h) in
-      let before = before-pages (view_now k h) in
-      (
+      let before = before-pages (view_now k h) in (
         sym (view-killed k' h') ∙ ap (λ (v : View). v.killed) now ∙ stored-killed v n.0 n.1 ∙ ap (λ (v : View). v.killed) before ∙ view-killed k h ∙ free.0,
         sym (view-call k' h') ∙ ap (λ (v : View). v.call) now ∙ stored-call v n.0 n.1 ∙ ap (λ (v : View). v.call) before ∙ view-call k h ∙ free.1,
       )
