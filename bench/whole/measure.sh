@@ -1,0 +1,64 @@
+#!/bin/bash
+# Measures the whole of xv_run, boot and reading of files included: it proves and builds xv_run, where it isn't built,
+# and runs each of these three times, in turn with what it is compared with. A line has the least user and system
+# time of the three, in seconds, and how many times as fast ours is, where there is another.
+set -e
+here=$(cd "$(dirname "$0")" && pwd)
+root=$(cd "$here/../.." && pwd)
+"$root/xv" --frames 16 --rounds 1 "$root/examples/hello/init.s" </dev/null >/dev/null || true
+xv=$root/crates/xv_run/out/xv_run
+work=$(mktemp -d)
+trap 'rm -rf "$work"' EXIT
+
+# The seconds of the processor that a command takes, its output thrown away.
+seconds() {
+    local TIMEFORMAT='%U %S'
+    { time "$@" </dev/null >/dev/null 2>&1 || true; } 2>&1 | awk '{ print $1 + $2 }'
+}
+
+least() {
+    sort -g "$1" | head -n 1
+}
+
+# compare TITLE NAME..: the functions NAME in turn, the first of which is ours.
+compare() {
+    local title=$1 name
+    shift
+    for name in "$@"; do : >"$work/$name"; done
+    for _ in 1 2 3 4 5; do
+        for name in "$@"; do seconds "$name" >>"$work/$name"; done
+    done
+    local ours
+    ours=$(least "$work/$1")
+    printf '%s: %s s' "$title" "$ours"
+    shift
+    for name in "$@"; do
+        local other
+        other=$(least "$work/$name")
+        printf '; %s %s s, %s times ours' "$name" "$other" "$(awk "BEGIN { printf \"%.2f\", $other / $ours }")"
+    done
+    echo
+}
+
+# 150,000,028 instructions of the loop of `pages`: 92 in each of its rounds, and eight around it.
+rounds=1630435
+mkdir "$work/loop"
+"$here/loop.py" "$rounds" xv6 "$work/loop/init"
+rustc --edition 2021 -O -o "$work/interpreter" "$here/../pages/plain.rs"
+ours() { "$xv" --rounds 1000000 --quantum 1000 "$work/loop/init"; }
+plain() { "$work/interpreter" "$rounds"; }
+traced() { "$xv" --rounds 1000000 --quantum 1000 --trace 65536 "$work/loop/init"; }
+others=(plain)
+if command -v qemu-riscv64 >/dev/null; then
+    "$here/loop.py" "$rounds" linux "$work/linux"
+    chmod +x "$work/linux"
+    jit() { qemu-riscv64 "$work/linux"; }
+    others+=(jit)
+fi
+compare "150,000,028 instructions" ours "${others[@]}"
+compare "the same, with a trace of 65,536 notes" traced ours
+
+sleepers() { "$xv" --frames 1024 --rounds 100000 --quantum 1000 "$here/sleepers/init.s"; }
+console() { "$xv" --rounds 1000000 --quantum 1000 "$here/console/init.s"; }
+compare "100,000 rounds of 64 sleepers" sleepers
+compare "1 MB to the console" console
