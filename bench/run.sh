@@ -2,6 +2,7 @@
 # Measures one of the programs of this folder: bench/run.sh NAME [WORDS], or bench/run.sh --count NAME FEW MANY [WORDS].
 # It proves and builds NAME/program.txt over the crates that NAME/uses names, builds NAME/plain.rs, where
 # there is one, by `rustc -O`, and runs both in turn, three times, with these words.
+# A folder that has a script of its own, measure.sh, is measured by that.
 # With --count it lets valgrind's callgrind count the machine instructions of each with FEW and with MANY as
 # the first word, and tells the difference, in which boot cancels.
 set -e
@@ -13,6 +14,9 @@ if [ "$1" = --count ]; then
 fi
 name=${1:?"which: $(cd "$here" && ls -d */ | tr -d / | tr '\n' ' ')"}
 shift
+if [ -x "$here/$name/measure.sh" ]; then
+    exec "$here/$name/measure.sh" "$@"
+fi
 work=$(mktemp -d)
 mkdir -p "$work/crates/measured/src"
 : > "$work/crates.txt"

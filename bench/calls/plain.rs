@@ -1,4 +1,5 @@
-//! With the word `fork` the copies and the clears of a fork alone: so many frames are cleared and filled with
+//! Without words the copies and the clears of an exec alone: the frames of the new pages are cleared, those of text
+//! and data are filled with the file's bytes, and the frames of the tables are cleared. With the word `fork` the copies and the clears of a fork alone: so many frames are cleared and filled with
 //! others' bytes, and the frames of the tables and the trapframe are cleared. With `pipe` the copies alone of
 //! a megabyte that goes through a pipe, 512 bytes at a time.
 use std::env;
@@ -36,6 +37,40 @@ fn least_time_of(pages: usize, forks: u32) -> u128 {
             fork(&mut frames, pages);
         }
         least = least.min(start.elapsed().as_nanos() / u128::from(forks));
+    }
+    least
+}
+
+/// The root and the two other tables of a new image, its guard page and its page of stack: frames that are only cleared.
+const CLEARED: usize = 5;
+
+// A page of text, and the pages of the data: each is cleared and then filled from the file.
+#[inline(never)]
+fn exec(frames: &mut [[u8; 4096]], file: &[u8]) {
+    for frame in frames[..CLEARED].iter_mut() {
+        frame.fill(0);
+        black_box(&frame);
+    }
+    for (to, from) in frames[CLEARED..].iter_mut().zip(file.chunks(4096)) {
+        to.fill(0);
+        black_box(&to);
+        to[..from.len()].copy_from_slice(from);
+    }
+    black_box(&frames);
+}
+
+/// The least nanoseconds of 25 times, for an exec each of a file with so many bytes of data.
+fn least_exec(bytes: usize, execs: u32) -> u128 {
+    let mut frames = vec![[1u8; 4096]; 64];
+    let file = vec![1u8; 4096 + bytes];
+    exec(&mut frames, &file);
+    let mut least = u128::MAX;
+    for _ in 0..25 {
+        let start = Instant::now();
+        for _ in 0..execs {
+            exec(&mut frames, &file);
+        }
+        least = least.min(start.elapsed().as_nanos() / u128::from(execs));
     }
     least
 }
@@ -96,6 +131,13 @@ fn print_forks() {
     }
 }
 
+fn print_execs() {
+    for bytes in [1024, 16_384, 65_536] {
+        let nanos = least_exec(bytes, 2000);
+        println!("copies and clears of an exec of {bytes} bytes: {nanos} ns");
+    }
+}
+
 fn print_pipes() {
     let nanos = least_megabyte(by_two_copies);
     println!("1 MB into a frame and out of it: {nanos} ns");
@@ -107,6 +149,7 @@ fn main() {
     match env::args().nth(1).as_deref() {
         Some("fork") => print_forks(),
         Some("pipe") => print_pipes(),
+        None => print_execs(),
         _ => {}
     }
 }
