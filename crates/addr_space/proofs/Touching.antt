@@ -8,6 +8,7 @@ use Rattle.std.specs.Cmp.{nat_cmp_total}
 use Rattle.std.specs.Prelude.{option_map, slice_index, replicate, ◌∷◌}
 use Rattle.xk_base.specs.Bytes.{byte_in, image_byte, image_bytes}
 use Rattle.phys_ram.specs.Ram.{zero_frame}
+use Rattle.xk_base.specs.declared.access.Rights.{Rights}
 use Rattle.xk_base.specs.Image.{Page, Image, some_below}
 use Rattle.sv39_core.specs.Listed.{gathered}
 use Rattle.sv39_core.specs.Tree.{pages_of, page_at}
@@ -168,6 +169,24 @@ absent-allows i v lt absent = sym (ap (option_map perm_of_page) (touched-get (λ
 -- any other page is as it was
 pub other-allows : (i : Image) (v : ℕ) → v < 2 ^ 26 → is_absent i v ≡ false → option_map perm_of_page (get i.pages v) ≡ option_map perm_of_page (get (whole i).pages v)
 other-allows i v lt present = sym (ap (option_map perm_of_page) (touched-get (λ v. true) i v lt ∙ ap (λ b. cond b (Some (zeroed touched_rights)) (get i.pages v)) present))
+
+-- a page that is there is not absent
+pub present-allows : (i : Image) (v : ℕ) (p : Rights) → v < 2 ^ 26 → Some p ≡ option_map perm_of_page (get i.pages v) → Some p ≡ option_map perm_of_page (get (whole i).pages v)
+present-allows i v p lt e = e ∙ other-allows i v lt (by_page (get i.pages v) (ltb (4096 * v) i.size) e)
+  where
+    by_page : (o : Option Page) (b : Bool) → Some p ≡ option_map perm_of_page o → (b && not (is_some o)) ≡ false
+    by_page None b e = absurd (cc)
+    by_page (Some page) true e = refl
+    by_page (Some page) false e = refl
+
+-- one that is not there is absent where it begins below the size
+pub away-absent : (i : Image) (v : ℕ) → None ≡ option_map perm_of_page (get i.pages v) → is_absent i v ≡ ltb (4096 * v) i.size
+away-absent i v e = by_page (get i.pages v) (ltb (4096 * v) i.size) e
+  where
+    by_page : (o : Option Page) (b : Bool) → None ≡ option_map perm_of_page o → (b && not (is_some o)) ≡ b
+    by_page None true e = refl
+    by_page None false e = refl
+    by_page (Some page) b e = absurd (cc)
 
 absent-none : (i : Image) (v : ℕ) (o : Option Page) → get i.pages v ≡ o → (b : Bool) → (b && not (is_some o)) ≡ true → o ≡ None
 absent-none i v None is b e = refl

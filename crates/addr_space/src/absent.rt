@@ -156,13 +156,19 @@ fn new_page(ram: &Ram, root: Frame, v: usize) -> u32
 }
 
 impl Space {
+    /// Whether a page's first byte lies below the size.
+    fn begins_below_size(&self, vpn: Vpn) -> bool
+        ensures { result ≡ nat_lt (4096 * vpn) self.now.size }
+    {
+        u64::from(vpn.number()) * 4096 < self.size
+    }
+
     /// Whether a page is absent: its first byte lies below the size, and it isn't there.
     pub fn absent(&self, ram: &Ram, vpn: Vpn) -> bool
         requires { IsSpace ram.now self.now }
         ensures { result ≡ is_absent (image_of ram.now self.now) vpn }
     {
-        let is_below = u64::from(vpn.number()) * 4096 < self.size;
-        is_below && self.perm(ram, vpn).is_none()
+        self.begins_below_size(vpn) && self.perm(ram, vpn).is_none()
     }
 
     /// What a page allows once it is touched: reading and writing where it is absent, else what it allows
@@ -171,10 +177,13 @@ impl Space {
         requires { IsSpace ram.now self.now }
         ensures { result ≡ option_map perm_of_page (get (whole (image_of ram.now self.now)).pages vpn) }
     {
-        if self.absent(ram, vpn) {
+        if let Some(perm) = self.perm(ram, vpn) {
+            return Some(perm);
+        }
+        if self.begins_below_size(vpn) {
             return Some(touched_rights());
         }
-        self.perm(ram, vpn)
+        None
     }
 
     /// How many frames a [`touch`](Space::touch) of so many bytes from an address on takes.

@@ -33,7 +33,7 @@ ghost use Rattle.sv39_core.specs.declared.entry.Entry.TheVariants.{Invalid, Leaf
 
 use frame_list::Pool;
 use phys_ram::Ram;
-use sv39_core::{Entry, Pte, read_entry};
+use sv39_core::{Entry, Pte, read_entry, read_table};
 
 mod absent;
 mod across;
@@ -151,10 +151,10 @@ fn entry_of_page(ram: &Ram, root: Frame, v: usize) -> Entry
     requires page { v < 2 ^ 26 }
     ensures { result ≡ page_entry ram.now root v }
 {
-    let Entry::Table(upper) = read_entry(ram, root, v / 262144) else {
+    let Some(upper) = read_table(ram, root, v / 262144) else {
         return Entry::Invalid;
     };
-    let Entry::Table(lower) = read_entry(ram, upper, v / 512 % 512) else {
+    let Some(lower) = read_table(ram, upper, v / 512 % 512) else {
         return Entry::Invalid;
     };
     read_entry(ram, lower, v % 512)
@@ -188,7 +188,7 @@ fn upper_for(pool: &mut Pool, ram: &mut Ram, root: Frame, v: usize) -> Frame
     ensures left { length (free_in pool.old ram.old) ≤ length (free_in pool.new ram.new) + missing (table_at ram.old root 1 (v / 262144)) }
 {
     let i = v / 262144;
-    if let Entry::Table(table) = read_entry(ram, root, i) {
+    if let Some(table) = read_table(ram, root, i) {
         return table;
     }
     hang(pool, ram, root, i)
@@ -206,7 +206,7 @@ fn lower_for(pool: &mut Pool, ram: &mut Ram, root: Frame, upper: Frame, v: usize
     ensures left { length (free_in pool.old ram.old) ≤ length (free_in pool.new ram.new) + missing (table_at ram.old root 2 (v / 512)) }
 {
     let _ = root.number();
-    if let Entry::Table(table) = read_entry(ram, upper, v / 512 % 512) {
+    if let Some(table) = read_table(ram, upper, v / 512 % 512) {
         return table;
     }
     hang(pool, ram, upper, v / 512 % 512)
@@ -234,10 +234,10 @@ fn frames_for(ram: &Ram, root: Frame, v: usize) -> u32
     requires page { v < 2 ^ 26 }
     ensures { result ≡ rise ram.now root v }
 {
-    let Entry::Table(upper) = read_entry(ram, root, v / 262144) else {
+    let Some(upper) = read_table(ram, root, v / 262144) else {
         return 3;
     };
-    let Entry::Table(_) = read_entry(ram, upper, v / 512 % 512) else {
+    let Some(_) = read_table(ram, upper, v / 512 % 512) else {
         return 2;
     };
     1
@@ -313,10 +313,7 @@ fn upper_table(ram: &Ram, root: Frame, v: usize) -> Option<Frame>
     requires page { v < 2 ^ 26 }
     ensures { result ≡ table_at ram.now root 1 (v / 262144) }
 {
-    let Entry::Table(upper) = read_entry(ram, root, v / 262144) else {
-        return None;
-    };
-    Some(upper)
+    read_table(ram, root, v / 262144)
 }
 
 /// The lower table on the way to a page.
@@ -325,13 +322,10 @@ fn lower_table(ram: &Ram, root: Frame, v: usize) -> Option<Frame>
     requires page { v < 2 ^ 26 }
     ensures { result ≡ table_at ram.now root 2 (v / 512) }
 {
-    let Entry::Table(upper) = read_entry(ram, root, v / 262144) else {
+    let Some(upper) = read_table(ram, root, v / 262144) else {
         return None;
     };
-    let Entry::Table(lower) = read_entry(ram, upper, v / 512 % 512) else {
-        return None;
-    };
-    Some(lower)
+    read_table(ram, upper, v / 512 % 512)
 }
 
 /// Whether an entry of a table leads to a page. It looks at the entry behind `from`, and then from `from`
@@ -368,7 +362,7 @@ fn has_table(ram: &Ram, table: Frame, from: usize, none_left: bool) -> bool
         return false;
     }
     for i in 0..512 {
-        if let Entry::Table(_) = read_entry(ram, table, (from + 513 - i) % 512) {
+        if let Some(_) = read_table(ram, table, (from + 513 - i) % 512) {
             return true;
         }
     }

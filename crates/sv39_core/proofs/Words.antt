@@ -1,5 +1,5 @@
 -- What the words that the kernel writes say.
-use Rattle.std.proofs.Common.{◌≡◌, ◌≢◌, ℕ, ◌+◌, ◌-◌, ◌*◌, ◌/◌, ◌%◌, ◌^◌, ◌<◌, ◌≤◌, ◌&&◌, ◌||◌, Bool, true, false, not, cond, eqb, leb, ltb, inl, inr, refl, sym, ap, ◌∙◌, arith}
+use Rattle.std.proofs.Common.{◌≡◌, ◌≢◌, ℕ, ◌+◌, ◌-◌, ◌*◌, ◌/◌, ◌%◌, ◌^◌, ◌<◌, ◌≤◌, ◌&&◌, ◌||◌, Bool, true, false, not, cond, eqb, leb, ltb, Some, None, inl, inr, refl, sym, ap, ◌∙◌, arith}
 use Rattle.std.specs.Int.{bit_at}
 use Rattle.std.specs.Int.RustNames.{bit_and}
 use Rattle.std.proofs.Math.Nat.{mod-lt, one-le-pow}
@@ -7,10 +7,12 @@ use Rattle.std.proofs.lemmas.Nat.Bits.{and_pow}
 use Rattle.std.proofs.lemmas.Bool.{cases_lt, cases_eq, false≢true}
 use Rattle.std.proofs.lemmas.Bool.Decides.{nat_tests}
 use Rattle.xk_base.specs.declared.access.Rights.{Rights}
+use Rattle.xk_base.specs.declared.access.Access.{Access}
+use Rattle.xk_base.specs.declared.access.Access.TheVariants.{Fetch, Load, Store}
 use Rattle.xk_base.specs.Access.{is_perm}
 use Rattle.sv39_core.specs.declared.entry.Entry.{Entry}
 use Rattle.sv39_core.specs.declared.entry.Entry.TheVariants.{Invalid, Table, Leaf}
-use Rattle.sv39_core.specs.Sv39.{flag, page_number, rights_of, is_usable, entry_of, bit_if, leaf_word, table_word}
+use Rattle.sv39_core.specs.Sv39.{allowed, flag, given, is_in_ram, page_number, permits, rights_of, is_usable, entry_of, table_of, bit_if, leaf_word, table_word}
 
 pub eqb-yes : (a b : ℕ) → a ≡ b → eqb a b ≡ true
 eqb-yes a b e = grind (arith, nat_tests)
@@ -219,3 +221,82 @@ leaf-perm n w f p a d e = by_use (is_usable n w) (flag w 1 || flag w 3) refl ref
     by_use true true u l e =
         let same : rights_of w ≡ p = cc in
         ap is_perm (sym same) ∙ usable-is_perm n w u l
+
+-- an entry leads to a table where V is set, R, W and X are clear, and its page is in RAM
+pub table_of-entry_of : (n w : ℕ) → table_of (entry_of n w) ≡ cond (flag w 0 && not (flag w 1) && not (flag w 2) && not (flag w 3) && is_in_ram n w) (Some (page_number w - 0x80000)) None
+unfolding entry_of
+table_of-entry_of n w = by_flags (flag w 0) (flag w 1) (flag w 2) (flag w 3) (eqb (w / 2 ^ 54) 0) (leb 0x80000 (page_number w)) (ltb (page_number w - 0x80000) n) (Leaf (page_number w - 0x80000) (rights_of w) (flag w 6) (flag w 7)) (page_number w - 0x80000) refl
+  where
+    led : (b : Bool) (f : ℕ) → table_of (cond b (Table f) Invalid) ≡ cond b (Some f) None
+    led true f = refl
+    led false f = refl
+
+    away : (b : Bool) (leaf : Entry) → table_of leaf ≡ None → table_of (cond b leaf Invalid) ≡ None
+    away true leaf e = e
+    away false leaf e = refl
+
+    by_flags : (b0 b1 b2 b3 t l u : Bool) (leaf : Entry) (f : ℕ) → table_of leaf ≡ None
+        → table_of (cond (b0 && (not b2 || b1) && t && l && u) (cond (b1 || b3) leaf (Table f)) Invalid) ≡ cond (b0 && not b1 && not b2 && not b3 && (t && l && u)) (Some f) None
+    by_flags false b1 b2 b3 t l u leaf f e = refl
+    by_flags true true true b3 t l u leaf f e = away (t && l && u) leaf e
+    by_flags true true false b3 t l u leaf f e = away (t && l && u) leaf e
+    by_flags true false true b3 t l u leaf f e = refl
+    by_flags true false false true t l u leaf f e = away (t && l && u) leaf e
+    by_flags true false false false t l u leaf f e = led (t && l && u) f
+
+-- an access reaches the frame of a usable entry whose bits permit it: it is a leaf then
+pub allowed-usable : (access : Access) (n w offset : ℕ) → allowed access (entry_of n w) offset ≡ cond (is_usable n w && permits access (given (rights_of w) (flag w 6) (flag w 7))) (Some (page_number w - 0x80000, offset)) None
+unfolding entry_of
+allowed-usable access n w offset =
+    by_flags access (flag w 0) (flag w 1) (flag w 2) (flag w 3) (flag w 4) (flag w 6) (flag w 7) (eqb (w / 2 ^ 54) 0) (leb 0x80000 (page_number w)) (ltb (page_number w - 0x80000) n) (page_number w - 0x80000) offset
+  where
+    let_in : (access : Access) (b : Bool) (f : ℕ) (p : Rights) (a d : Bool) (offset : ℕ) → allowed access (cond b (Leaf f p a d) Invalid) offset ≡ cond (b && permits access (given p a d)) (Some (f, offset)) None
+    let_in access true f p a d offset = refl
+    let_in access false f p a d offset = refl
+
+    away : (access : Access) (b : Bool) (f offset : ℕ) → allowed access (cond b (Table f) Invalid) offset ≡ None
+    away access true f offset = refl
+    away access false f offset = refl
+
+    nothing : (b x : Bool) (place : ℕ × ℕ) → x ≡ false → cond (b && x) (Some place) None ≡ None
+    nothing true x place e = ap (λ y. cond y (Some place) None) e
+    nothing false x place e = refl
+
+    refused : (access : Access) (u a d : Bool) → permits access (given (record { read = false; write = false; execute = false; user = u }) a d) ≡ false
+    refused Fetch false a d = refl
+    refused Fetch true false d = refl
+    refused Fetch true true d = refl
+    refused Load false a d = refl
+    refused Load true false d = refl
+    refused Load true true d = refl
+    refused Store false a d = refl
+    refused Store true false d = refl
+    refused Store true true false = refl
+    refused Store true true true = refl
+
+    by_flags : (access : Access) (b0 b1 b2 b3 b4 b6 b7 t l u : Bool) (f offset : ℕ)
+        → allowed access (cond (b0 && (not b2 || b1) && t && l && u) (cond (b1 || b3) (Leaf f (record { read = b1; write = b2; execute = b3; user = b4 }) b6 b7) (Table f)) Invalid) offset ≡ cond (b0 && (not b2 || b1) && t && l && u && permits access (given (record { read = b1; write = b2; execute = b3; user = b4 }) b6 b7)) (Some (f, offset)) None
+    by_flags access false b1 b2 b3 b4 b6 b7 t l u f offset = refl
+    by_flags access true true true b3 b4 b6 b7 t l u f offset = let_in access (t && l && u) f _ b6 b7 offset
+    by_flags access true true false b3 b4 b6 b7 t l u f offset = let_in access (t && l && u) f _ b6 b7 offset
+    by_flags access true false true b3 b4 b6 b7 t l u f offset = refl
+    by_flags access true false false true b4 b6 b7 t l u f offset = let_in access (t && l && u) f _ b6 b7 offset
+    by_flags access true false false false b4 b6 b7 t l u f offset = away access (t && l && u) f offset ∙ sym (nothing (t && l && u) _ (f, offset) (refused access b4 b6 b7))
+
+-- the bits below the page number may be asked first
+pub allowed-entry_of : (access : Access) (n w offset : ℕ)
+    → allowed access (entry_of n w) offset ≡ cond (flag w 0 && (not (flag w 2) || flag w 1) && permits access (given (rights_of w) (flag w 6) (flag w 7)) && is_in_ram n w) (Some (page_number w - 0x80000, offset)) None
+allowed-entry_of access n w offset =
+    allowed-usable access n w offset
+    ∙ ap (λ b. cond b (Some (page_number w - 0x80000, offset)) None) (first (flag w 0) (not (flag w 2) || flag w 1) _ (eqb (w / 2 ^ 54) 0) (leb 0x80000 (page_number w)) (ltb (page_number w - 0x80000) n))
+  where
+    turned : (x y : Bool) → (x && y) ≡ (y && x)
+    turned true true = refl
+    turned true false = refl
+    turned false true = refl
+    turned false false = refl
+
+    first : (v q p t l u : Bool) → (v && q && t && l && u && p) ≡ (v && q && p && (t && l && u))
+    first true true p t l u = turned (t && l && u) p
+    first true false p t l u = refl
+    first false q p t l u = refl

@@ -1,13 +1,13 @@
 //! Page-table entries.
-ghost use Rattle.std.specs.Prelude.{⊤, ◌≡◌, ◌==◌, ◌≤◌, [], ◌∷◌, codes};
+ghost use Rattle.std.specs.Prelude.{⊤, ℕ, ◌≡◌, ◌==◌, ◌&&◌, ◌||◌, not, ◌+◌, ◌-◌, ◌/◌, ◌^◌, ◌<◌, ◌≤◌, [], ◌∷◌, IfSome, option_map, codes};
 ghost use Rattle.std.specs.Int.RustNames.{bit_and};
 ghost use Rattle.xk_base.specs.declared.limits.TheConstants.{FRAMES_MAX};
-ghost use Rattle.sv39_core.specs.Sv39.{entry_of, is_in_ram, is_usable, page_number, rights_of, bit_if, leaf_word, table_word};
+ghost use Rattle.sv39_core.specs.Sv39.{allowed, entry_of, flag, given, is_in_ram, is_usable, page_number, permits, rights_of, table_of, bit_if, leaf_word, table_word};
 
 use bitflags::{Flag, Flags, bitflag_items};
 use std::marker::Model;
-use xk_base::limits::{PAGE_BYTES, RAM_BASE};
-use xk_base::{Frame, Perm, Rights};
+use xk_base::limits::{FRAMES_MAX, PAGE_BYTES, RAM_BASE};
+use xk_base::{Access, Frame, Perm, Rights};
 
 /// The bits of an entry below its page number.
 #[derive(Clone, Copy, PartialEq, Eq, Debug)]
@@ -145,19 +145,24 @@ impl Pte {
         }
     }
 
-    fn page(self) -> u64
-        ensures { result ≡ page_number self }
-    {
-        (self.bits() >> 10) % (1 << 44)
-    }
-
     /// Whether bits 63 to 54 are 0, and the page is one of RAM's frames. Where one of these bits is set, or the
-    /// page lies below RAM, the difference is far greater than any number of frames: one comparison serves.
+    /// page lies below RAM, the difference is far greater than any number of frames: one comparison serves. The
+    /// bits below the page number decide nothing, so they stay where they are.
     fn is_in_ram(self, frames: u32) -> bool
         requires { frames ≤ FRAMES_MAX }
         ensures { result ≡ is_in_ram frames self }
     {
-        (self.bits() >> 10).wrapping_sub(FIRST_PAGE) < u64::from(frames)
+        self.bits().wrapping_sub(FIRST_PAGE << 10) < u64::from(frames) << 10
+    }
+
+    /// The frame of its page, where that is one of RAM's and bits 63 to 54 are 0. RAM's first page is a multiple
+    /// of the greatest number of frames, so the low bits of the page's number are the frame's.
+    fn frame(self) -> Frame
+        requires first { 0x80000 ≤ self / 2 ^ 10 }
+        requires last { self / 2 ^ 10 < 0x80000 + FRAMES_MAX }
+        ensures { result ≡ page_number self - 0x80000 }
+    {
+        Frame::new((self.bits() >> 10) as u32 % FRAMES_MAX)
     }
 
     fn is_usable(self, frames: u32) -> bool
@@ -178,7 +183,7 @@ impl Pte {
         if !self.is_usable(frames) {
             return Entry::Invalid;
         }
-        let frame = Frame::new((self.page() - FIRST_PAGE) as u32);
+        let frame = self.frame();
         let rights = self.rights();
         let leaf = rights.read | rights.execute;
         if leaf {
@@ -187,5 +192,68 @@ impl Pte {
             return Entry::Leaf(frame, Perm::new(rights), accessed, dirty);
         }
         Entry::Table(frame)
+    }
+
+    /// Whether the bits below the page number say that the walk goes on: V is set, and R, W and X are clear.
+    fn leads_on(self) -> bool
+        ensures { result ≡ (flag self 0 && not (flag self 1) && not (flag self 2) && not (flag self 3)) }
+    {
+        self.has(PteFlags::VALID)
+            & !self.has(PteFlags::READ)
+            & !self.has(PteFlags::WRITE)
+            & !self.has(PteFlags::EXECUTE)
+    }
+
+    /// The table that the entry leads to, where RAM has so many frames; None where it leads to none.
+    pub(crate) fn next_table(self, frames: u32) -> Option<Frame>
+        requires { frames ≤ FRAMES_MAX }
+        ensures table { result ≡ table_of (entry_of frames self) }
+        ensures inside { IfSome result (λ f. f < frames) }
+    {
+        if !self.leads_on() {
+            return None;
+        }
+        if !self.is_in_ram(frames) {
+            return None;
+        }
+        Some(self.frame())
+    }
+
+    /// Whether the bits below the page number let user code make an access: the entry is valid and has no W
+    /// without R, and its rights, A and D permit it.
+    fn permits(self, access: Access) -> bool
+        ensures { result ≡ (flag self 0 && (not (flag self 2) || flag self 1) && permits access (given (rights_of self) (flag self 6) (flag self 7))) }
+    {
+        let used = self.has(PteFlags::VALID)
+            & self.has(PteFlags::USER)
+            & self.has(PteFlags::ACCESSED);
+        match access {
+            Access::Fetch => {
+                used & self.has(PteFlags::EXECUTE)
+                    & (!self.has(PteFlags::WRITE) | self.has(PteFlags::READ))
+            }
+            Access::Load => used & self.has(PteFlags::READ),
+            Access::Store => {
+                used & self.has(PteFlags::READ)
+                    & self.has(PteFlags::WRITE)
+                    & self.has(PteFlags::DIRTY)
+            }
+        }
+    }
+
+    /// The frame that user code's access reaches by the entry as the last of a walk, where RAM has so many
+    /// frames; None where it is a page fault.
+    pub(crate) fn reached(self, access: Access, frames: u32) -> Option<Frame>
+        requires { frames ≤ FRAMES_MAX }
+        ensures allowed { (offset : ℕ) → allowed access (entry_of frames self) offset ≡ option_map (λ f. (f, offset)) result }
+        ensures inside { IfSome result (λ f. f < frames) }
+    {
+        if !self.permits(access) {
+            return None;
+        }
+        if !self.is_in_ram(frames) {
+            return None;
+        }
+        Some(self.frame())
     }
 }

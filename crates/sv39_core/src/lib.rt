@@ -11,4 +11,4 @@ mod tests;
 mod walking;
 
 pub use entry::{Entry, Pte};
-pub use walking::{read_entry, split, walk};
+pub use walking::{read_entry, read_table, split, walk};

@@ -1,10 +1,10 @@
 //! The walk from a virtual address to a frame.
-ghost use Rattle.std.specs.Prelude.{◌≡◌, ◌<◌, ◌/◌, ◌%◌, ◌^◌, [], ◌∷◌, length, true, false, Some, None, IfOk, MatchResult, MatchOption};
-ghost use Rattle.sv39_core.specs.Sv39.{entry_at, given, is_canonical, permits, walked, page_fault};
+ghost use Rattle.std.specs.Prelude.{ℕ, ◌≡◌, ◌<◌, ◌/◌, ◌%◌, ◌^◌, [], ◌∷◌, length, true, false, Some, None, IfOk, IfSome, option_map, MatchResult, MatchOption};
+ghost use Rattle.sv39_core.specs.Sv39.{allowed, entry_at, is_canonical, table_of, walked, page_fault};
 
 use crate::entry::{Entry, Pte};
 use phys_ram::Ram;
-use xk_base::{Access, Cause, Frame, Rights};
+use xk_base::{Access, Cause, Frame};
 
 /// Entry `i`, below 512, of the table in a frame.
 pub fn read_entry(ram: &Ram, table: Frame, i: usize) -> Entry
@@ -13,6 +13,16 @@ pub fn read_entry(ram: &Ram, table: Frame, i: usize) -> Entry
     ensures { result ≡ entry_at ram.now table i }
 {
     Pte::from_bits(ram.read_u64(table, i)).entry(ram.frames())
+}
+
+/// The table that entry `i`, below 512, of the table in a frame leads to; None where it leads to none.
+pub fn read_table(ram: &Ram, table: Frame, i: usize) -> Option<Frame>
+    requires table_in { table < length ram.now }
+    requires entry_in { i < 512 }
+    ensures table { result ≡ table_of (entry_at ram.now table i) }
+    ensures inside { IfSome result (λ f. f < length ram.now) }
+{
+    Pte::from_bits(ram.read_u64(table, i)).next_table(ram.frames())
 }
 
 /// The three indexes of a virtual address, the root's first. None exactly where the address isn't
@@ -31,15 +41,14 @@ pub fn split(va: u64) -> Option<[usize; 3]>
     ])
 }
 
-fn permits(access: Access, rights: Rights, accessed: bool, dirty: bool) -> bool
-    ensures { result ≡ permits access (given rights accessed dirty) }
+/// The frame that an access by user code reaches by entry `i`, below 512, of the lowest table of a walk.
+fn read_page(ram: &Ram, table: Frame, i: usize, access: Access) -> Option<Frame>
+    requires table_in { table < length ram.now }
+    requires entry_in { i < 512 }
+    ensures allowed { (offset : ℕ) → allowed access (entry_at ram.now table i) offset ≡ option_map (λ f. (f, offset)) result }
+    ensures inside { IfSome result (λ f. f < length ram.now) }
 {
-    rights.user
-        && match access {
-            Access::Fetch => accessed && rights.execute,
-            Access::Load => accessed && rights.read,
-            Access::Store => accessed && dirty && rights.write,
-        }
+    Pte::from_bits(ram.read_u64(table, i)).reached(access, ram.frames())
 }
 
 fn page_fault(access: Access) -> Cause
@@ -62,17 +71,14 @@ pub fn walk(ram: &Ram, root: Frame, va: u64, access: Access) -> Result<(Frame, u
     let Some(indexes) = split(va) else {
         return Err(page_fault(access));
     };
-    let Entry::Table(upper) = read_entry(ram, root, indexes[0]) else {
+    let Some(upper) = read_table(ram, root, indexes[0]) else {
         return Err(page_fault(access));
     };
-    let Entry::Table(lower) = read_entry(ram, upper, indexes[1]) else {
+    let Some(lower) = read_table(ram, upper, indexes[1]) else {
         return Err(page_fault(access));
     };
-    let Entry::Leaf(frame, perm, accessed, dirty) = read_entry(ram, lower, indexes[2]) else {
+    let Some(frame) = read_page(ram, lower, indexes[2], access) else {
         return Err(page_fault(access));
     };
-    if !permits(access, perm.rights(), accessed, dirty) {
-        return Err(page_fault(access));
-    }
     Ok((frame, (va % 4096) as usize))
 }

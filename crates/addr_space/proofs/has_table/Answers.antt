@@ -9,5 +9,5 @@ returns-clause-none c e k lt =
     let at : (c.args.from + 513 - i) % 512 ≡ k = omega (arith, c.requires.from_in, lt) in
     ap (λ x. table_of (entry_at c.args.ram.now c.args.table x)) (sym at) ∙ c.loop-i.invariant i (omega arith)
 
-pub returns-in-Table-clause-some : goal.returns-in-Table-clause-some
-returns-in-Table-clause-some c e = ((c.args.from + 513 - c.loop-i.i) % 512, c.in-Table.field-0, omega arith, ap table_of (sym c.in-Table.ensures))
+pub returns-in-Some-clause-some : goal.returns-in-Some-clause-some
+returns-in-Some-clause-some c e = ((c.args.from + 513 - c.loop-i.i) % 512, c.in-Some.field-0, omega arith, sym c.in-Some.ensures.table)
