@@ -1,9 +1,8 @@
 -- The walk, one level at a time.
-use Rattle.std.proofs.Common.{◌≡◌, ℕ, ◌/◌, ◌%◌, Bool, true, false, cond, List, Some, None, refl, ap, ◌∙◌, arith}
-use Rattle.xk_base.specs.declared.access.Rights.{Rights}
+use Rattle.std.proofs.Common.{◌≡◌, ℕ, ◌/◌, ◌%◌, true, false, cond, List, Some, None, ap, ◌∙◌, arith}
 use Rattle.xk_base.specs.declared.access.Access.{Access}
 use Rattle.sv39_core.specs.declared.entry.Entry.{Entry}
-use Rattle.sv39_core.specs.declared.entry.Entry.TheVariants.{Invalid, Table, Leaf}
+use Rattle.sv39_core.specs.declared.entry.Entry.TheVariants.{Invalid}
 use Rattle.sv39_core.specs.Sv39.{entry_at, table_of, below, table_at, last, page_entry, is_canonical, allowed, walked}
 
 top_index : (va : ℕ) → va / 4096 % 134217728 / 512 / 512 % 512 ≡ va / 1073741824 % 512
@@ -49,13 +48,3 @@ pub walked-last : (ram : List (List ℕ)) (root va : ℕ) (access : Access) (f g
     → walked ram root va access ≡ allowed access (entry_at ram g (va / 4096 % 512)) (va % 4096)
 walked-last ram root va access f g c e d =
     walked-entry ram root va access (entry_at ram g (va / 4096 % 512)) c (levels ram root va ∙ ap (λ t. last ram (below ram t (va / 2097152 % 512)) (va / 4096 % 512)) e ∙ ap (λ t. last ram t (va / 4096 % 512)) d)
-
-pub table_of-none : (e : Entry) → ((f : ℕ) → e ≡ Table f → ⊥) → table_of e ≡ None
-table_of-none Invalid h = refl
-table_of-none (Table f) h = absurd (h f refl)
-table_of-none (Leaf f p a d) h = refl
-
-pub allowed-none : (access : Access) (e : Entry) (offset : ℕ) → ((f : ℕ) (p : Rights) (a d : Bool) → e ≡ Leaf f p a d → ⊥) → allowed access e offset ≡ None
-allowed-none access Invalid offset h = refl
-allowed-none access (Table f) offset h = refl
-allowed-none access (Leaf f p a d) offset h = absurd (h f p a d refl)

@@ -155,15 +155,6 @@ entry_of-table n w f e = by_use (is_usable n w) (flag w 1 || flag w 3) refl e
     by_use true true u e = absurd (cc)
     by_use true false u e = let same : page_number w - 0x80000 ≡ f = cc in omega (arith, usable-inside n w u, same)
 
-pub entry_of-leaf : (n w f : ℕ) (p : Rights) (a d : Bool) → entry_of n w ≡ Leaf f p a d → f < n
-unfolding entry_of
-entry_of-leaf n w f p a d e = by_use (is_usable n w) (flag w 1 || flag w 3) refl e
-  where
-    by_use : (b leaf : Bool) → is_usable n w ≡ b → cond b (cond leaf (Leaf (page_number w - 0x80000) (rights_of w) (flag w 6) (flag w 7)) (Table (page_number w - 0x80000))) Invalid ≡ Leaf f p a d → f < n
-    by_use false leaf u e = absurd (cc)
-    by_use true false u e = absurd (cc)
-    by_use true true u e = let same : page_number w - 0x80000 ≡ f = cc in omega (arith, usable-inside n w u, same)
-
 pub entry_of-zero : (n : ℕ) → entry_of n 0 ≡ Invalid
 unfolding entry_of
 entry_of-zero n = refl
