@@ -11,6 +11,7 @@ fn entry(ram: &Ram, f: usize, i: usize) -> Option<(usize, u64)> {
     if !v || (wr && !r) || w >> 54 != 0 || page < 0x80000 || page - 0x80000 >= ram.frames.len() as u64 { return None; }
     Some(((page - 0x80000) as usize, w))
 }
+#[inline(never)]
 fn walk(ram: &Ram, root: usize, va: u64) -> Option<(usize, usize)> {
     let s = (va >> 38) & 1;
     if va >> 39 != ((1 << 25) - 1) * s { return None; }
