@@ -1,7 +1,7 @@
 #!/bin/bash
 # Measures the whole of xv_run, boot and reading of files included: it proves and builds xv_run, where it isn't built,
-# and runs each of these three times, in turn with what it is compared with. A line has the least user and system
-# time of the three, in seconds, and how many times as fast ours is, where there is another.
+# and runs each of these five times, in turn with what it is compared with. A line has the least user and system
+# time of the five, in seconds, and that of the other, where there is one, with its ratio to ours.
 set -e
 here=$(cd "$(dirname "$0")" && pwd)
 root=$(cd "$here/../.." && pwd)
@@ -47,6 +47,7 @@ mkdir "$work/loop"
 rustc --edition 2021 -O -o "$work/interpreter" "$here/../pages/plain.rs"
 ours() { "$xv" --rounds 1000000 --quantum 1000 "$work/loop/init"; }
 plain() { "$work/interpreter" "$rounds"; }
+untraced() { ours; }
 traced() { "$xv" --rounds 1000000 --quantum 1000 --trace 65536 "$work/loop/init"; }
 others=(plain)
 if command -v qemu-riscv64 >/dev/null; then
@@ -56,7 +57,7 @@ if command -v qemu-riscv64 >/dev/null; then
     others+=(jit)
 fi
 compare "150,000,028 instructions" ours "${others[@]}"
-compare "the same, with a trace of 65,536 notes" traced ours
+compare "the same, with a trace of 65,536 notes" traced untraced
 
 sleepers() { "$xv" --frames 1024 --rounds 100000 --quantum 1000 "$here/sleepers/init.s"; }
 console() { "$xv" --rounds 1000000 --quantum 1000 "$here/console/init.s"; }
