@@ -20,6 +20,9 @@ use std::marker::Model;
 use xk_base::limits::{FRAMES_MAX, FRAMES_MIN, TRACE_MAX};
 use xk_base::{BootError, Pid, Program};
 
+// How many equal notes the trace takes at once.
+const ROW: usize = 32;
+
 /// The numbers that a machine is made with.
 #[derive(Clone, Copy, Debug, PartialEq, Eq)]
 pub struct Config {
@@ -89,14 +92,42 @@ fn push_step(trace: &mut HeapCircularBuffer<Note>, pid: Pid)
     trace.push_back(Note::Stepped { pid });
 }
 
-// Puts the note behind the others so often.
-#[inline(never)]
-fn push_often(trace: &mut HeapCircularBuffer<Note>, note: &Note, count: u32)
+// Puts the note behind the others so often, one by one.
+fn push_each(trace: &mut HeapCircularBuffer<Note>, note: &Note, count: u32)
     requires { length trace.old.items ≤ trace.old.capacity }
     ensures { trace.new ≡ buffer (keep_last trace.old.capacity (trace.old.items ++ replicate count note.now)) trace.old.capacity }
 {
     for pushed in 0..count {
         trace.push_back(*note);
+    }
+}
+
+// Puts the note behind the others so often, row by row. The last row may be a part of one.
+#[inline(never)]
+fn push_rows(trace: &mut HeapCircularBuffer<Note>, note: &Note, count: u32)
+    requires { length trace.old.items ≤ trace.old.capacity }
+    ensures { trace.new ≡ buffer (keep_last trace.old.capacity (trace.old.items ++ replicate count note.now)) trace.old.capacity }
+{
+    let row = [*note; ROW];
+    let mut left = count as usize;
+    'rows: while left > 0 {
+        let pushed = left.min(ROW);
+        trace.extend_from_slice(&row[..pushed]);
+        left -= pushed;
+    }
+}
+
+// Puts the note behind the others so often. Fewer notes than a row go one by one, since a row is filled before
+// any of it is put. Rows stand in a function of their own: its room is cleared at each call.
+#[inline(never)]
+fn push_often(trace: &mut HeapCircularBuffer<Note>, note: &Note, count: u32)
+    requires { length trace.old.items ≤ trace.old.capacity }
+    ensures { trace.new ≡ buffer (keep_last trace.old.capacity (trace.old.items ++ replicate count note.now)) trace.old.capacity }
+{
+    if (count as usize) < ROW {
+        push_each(trace, note, count);
+    } else {
+        push_rows(trace, note, count);
     }
 }
 

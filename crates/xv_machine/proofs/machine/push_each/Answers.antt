@@ -1,5 +1,5 @@
 use Rattle.xv_machine.proofs.Kept.{push-none, push-more}
-use Rattle.xv_machine.proofs.machine.push_often.Goals as goal
+use Rattle.xv_machine.proofs.machine.push_each.Goals as goal
 
 pub loop-pushed-init : goal.loop-pushed-init
 loop-pushed-init c = push-none c.args.trace.now c.args.note.now c.requires
