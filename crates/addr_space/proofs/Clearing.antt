@@ -96,6 +96,7 @@ pub record PageGone (pool : Pool) (ram : List (List ℕ)) (pool' : Pool) (ram' :
   pub gone : page_entry ram' root v ≡ Invalid
   pub pages : length (page_frames ram root) ≡ 1 + length (page_frames ram' root)
   pub image : (u : ℕ) → (u ≡ v → ⊥) → page_at ram' root u ≡ page_at ram root u
+  pub lowers : (q : ℕ) → table_at ram' root 2 q ≡ table_at ram root 2 q
 
 pub page-gone : (pool pool' : Pool) (ram ram' : List (List ℕ)) (root f i g p : ℕ) (perm : Rights) (a d : Bool) → Holds pool ram root → Cleared pool ram pool' ram' f i g → i < 512 → table_at ram root 2 p ≡ Some f → entry_at ram f i ≡ Leaf g perm a d
     → PageGone pool ram pool' ram' root (512 * p + i)
@@ -133,6 +134,7 @@ page-gone pool pool' ram ram' root f i g p perm a d h c inside found leaf =
       gone = kept-pages c.mid ram' root after.tree after.kept (512 * p + i) ∙ blank;
       pages = omega (arith, length-same (page_frames ram root) (g ∷ page_frames c.mid root) one, ap length pages);
       image = λ u ne. kept-image c.mid ram' root after.tree after.kept u ∙ table-write-image ram c.mid root f 2 p h.tree put.stay (omega arith) found u (others u ne);
+      lowers = λ q. kept-tables c.mid ram' root after.tree after.kept 2 q (omega arith) ∙ tables 2 q (omega arith);
     }
 
 -- a table that leads nowhere goes

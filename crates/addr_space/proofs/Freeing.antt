@@ -1,6 +1,7 @@
 -- A page goes, and the tables that then map nothing.
 use Rattle.std.proofs.Common.{◌≡◌, ℕ, ◌+◌, ◌-◌, ◌*◌, ◌/◌, ◌^◌, ◌<◌, ◌≤◌, cond, ltb, List, [], ◌∷◌, ◌++◌, length, Option, Some, None, inl, inr, refl, sym, ap, ◌∙◌, subst, arith}
-use Rattle.std.proofs.lemmas.Bool.{cases_lt, cases_eq}
+use Rattle.std.specs.Prelude.{IsSome}
+use Rattle.std.proofs.lemmas.Bool.{cases_lt, cases_eq, false≢true}
 use Rattle.std.specs.FinMap.{get, same_map, nat_cmp-IsAntisymmetric}
 use Rattle.std.specs.Cmp.{nat_cmp_total}
 use Rattle.xk_base.specs.Frames.{copies}
@@ -136,6 +137,10 @@ pages-below ram ram' root first inside low high =
 none-of : (o : Option ℕ) → ((k : ℕ) → o ≡ Some k → ⊥) → o ≡ None
 none-of None never = refl
 none-of (Some k) never = absurd (never k refl)
+
+pub some-of : (o : Option ℕ) → IsSome o → (f : ℕ) × (o ≡ Some f)
+some-of None s = absurd (false≢true s)
+some-of (Some f) s = (f, refl)
 
 -- where no page is left after one went, no lower table is
 pub no-lowers : (ram ram' : List (List ℕ)) (root v : ℕ) → IsTree ram' root → NoneEmpty ram root → Beside ram ram' root v

@@ -125,3 +125,19 @@ price-one ram root first v size need f page tree full ge small table there new =
         let highs : high (pages_of ram root) ((first + (v - first)) / 262144) ≡ true = ap (λ x. high (pages_of ram root) (x / 262144)) at ∙ sym (upper-test ram root (v / 262144) tree full) ∙ ap is_some (ap (table_at ram root 1) (sym place) ∙ upper.1) in
         let one = cost-one (pages_of ram root) first (v - first) size page (omega (arith, small, at)) (ap (get (pages_of ram root)) at ∙ got-none ram root v small e) (inl (lows, highs)) in
         omega (arith, one, more, new e)
+
+-- the pages from v on within one table, none of which is there
+pub price-rest : (k : ℕ) (ram : List (List ℕ)) (root first v size f : ℕ) (page : Page) → IsTree ram root → NoneEmpty ram root → first ≤ v → v + k ≤ 67108864 → v + k ≤ (v / 512 + 1) * 512 → table_at ram root 2 (v / 512) ≡ Some f
+    → ((u : ℕ) → v ≤ u → u < v + k → frame_of (page_entry ram root u) ≡ None)
+    → cost (with_absent (pages_of ram root) first (v + k - first) page) size ≡ cost (with_absent (pages_of ram root) first (v - first) page) size + k
+price-rest zero ram root first v size f page tree full ge small group table none =
+    let all : v + 0 - first ≡ v - first = omega arith in
+    omega (arith, ap (λ n. cost (with_absent (pages_of ram root) first n page) size) all)
+price-rest (suc k) ram root first v size f page tree full ge small group table none =
+    let same : (v + k) / 512 ≡ v / 512 = omega (arith, group) in
+    let here : frame_of (page_entry ram root (v + k)) ≡ None = none (v + k) (omega arith) (omega arith) in
+    let one =
+    price-one ram root first (v + k) size 1 f page tree full (omega (arith, ge)) (omega (arith, small)) (ap (table_at ram root 2) same ∙ table) (λ g e. let w : None ≡ Some g = sym here ∙ e in absurd (cc)) (λ e. refl) in
+    let rest = price-rest k ram root first v size f page tree full ge (omega (arith, small)) (omega (arith, group)) table (λ u a b. none u a (omega (arith, b))) in
+    let next : v + suc k - first ≡ v + k + 1 - first = omega arith in
+    omega (arith, one, rest, ap (λ n. cost (with_absent (pages_of ram root) first n page) size) next)

@@ -64,7 +64,7 @@ impl Space {
     /// How many frames the pages from `first` to below `last` take, each where there is none, whatever
     /// rights they get.
     ///
-    /// Where a table is absent, all of its pages are counted at once.
+    /// Where a table is absent, or lies behind the end of the space, all of its pages are counted at once.
     pub(crate) fn price_between(&self, ram: &Ram, first: usize, last: usize) -> u32
         requires whole { IsSpace ram.now self.now }
         requires more { first ≤ last }
@@ -86,6 +86,12 @@ impl Space {
                 v = end;
                 continue 'pages;
             };
+            if self.end as usize <= v {
+                let end = ((v / 512 + 1) * 512).min(last);
+                count += (end - v) as u32;
+                v = end;
+                continue 'pages;
+            }
             count += new_page(ram, self.root, v);
             v += 1;
         }

@@ -10,7 +10,7 @@
 //! alone, and leaves all others' bytes.
 #![tactic(auto)]
 
-ghost use Rattle.std.specs.Prelude.{◌≡◌, ◌≢◌, ℕ, ◌+◌, ◌*◌, ◌/◌, ◌%◌, ◌^◌, ◌<◌, ◌≤◌, length, Some, None, true, IfOk, IfErr, IfSome, IfNone, List, [], ◌-◌, option_map, false, take, drop, min};
+ghost use Rattle.std.specs.Prelude.{◌≡◌, ◌≢◌, ℕ, ◌+◌, ◌*◌, ◌/◌, ◌%◌, ◌^◌, ◌<◌, ◌≤◌, length, Some, None, true, IfOk, IfErr, IfSome, IfNone, IsSome, List, [], ◌-◌, option_map, false, take, drop, min};
 ghost use Rattle.xk_base.specs.Frames.{copies};
 ghost use Rattle.frame_list.specs.Pool.{free_in, Good};
 ghost use Rattle.sv39_core.specs.Sv39.{table_at, page_entry, entry_at, table_of, walked};
@@ -128,7 +128,11 @@ impl Space {
         requires { IsSpace ram.now self.now }
         ensures { result ≡ option_map perm_of_page (get (image_of ram.now self.now).pages vpn) }
     {
-        self.perm_at(ram, vpn.number() as usize)
+        let v = vpn.number();
+        if v >= self.end {
+            return None; // all pages lie below
+        }
+        self.perm_at(ram, v as usize)
     }
 
     /// What a page allows, by its number.
@@ -378,6 +382,7 @@ fn free_leaf(pool: &mut Pool, ram: &mut Ram, root: Frame, v: usize)
     ensures gone { page_entry ram.new root v ≡ Invalid }
     ensures pages { length (page_frames ram.old root) ≡ 1 + length (page_frames ram.new root) }
     ensures image { (u : ℕ) → (u ≡ v → ⊥) → page_at ram.new root u ≡ page_at ram.old root u }
+    ensures table { IsSome (table_at ram.new root 2 (v / 512)) }
 {
     let Some(lower) = lower_table(ram, root, v) else {
         unreachable!();
@@ -394,9 +399,11 @@ fn free_lower(pool: &mut Pool, ram: &mut Ram, root: Frame, v: usize, none_left: 
     requires holds { Holds pool.old ram.old root }
     requires page { v < 2 ^ 26 }
     requires usual { (u : ℕ) → Usual (page_entry ram.old root u) }
+    requires there { IsSome (table_at ram.old root 2 (v / 512)) }
     requires none_left { none_left ≡ true → (u : ℕ) → u < 2 ^ 26 → frame_of (page_entry ram.old root u) ≡ None }
     ensures freed { Freed pool.old ram.old pool.new ram.new root v result }
     ensures few { result ≤ 1 }
+    ensures stays { result ≡ 0 → IsSome (table_at ram.new root 2 (v / 512)) }
     ensures full { (f : ℕ) → table_at ram.new root 2 (v / 512) ≡ Some f → (i : ℕ) × (g : ℕ) × (i < 512) × (frame_of (page_entry ram.new root (512 * (v / 512) + i)) ≡ Some g) }
     ensures entries { (u : ℕ) → page_entry ram.new root u ≡ page_entry ram.old root u }
     ensures image { (u : ℕ) → page_at ram.new root u ≡ page_at ram.old root u }
@@ -415,10 +422,19 @@ fn free_lower(pool: &mut Pool, ram: &mut Ram, root: Frame, v: usize, none_left: 
 }
 
 /// Frees the upper table on the way to a page where it maps nothing; how many frames that gave. It
-/// isn't searched where `none_left` tells that the space has no lower table left.
-fn free_upper(pool: &mut Pool, ram: &mut Ram, root: Frame, v: usize, none_left: bool) -> u32
+/// isn't searched where `none_left` tells that the space has no lower table left, and not looked at where
+/// `stays` tells that the lower table on the way is still there.
+fn free_upper(
+    pool: &mut Pool,
+    ram: &mut Ram,
+    root: Frame,
+    v: usize,
+    stays: bool,
+    none_left: bool,
+) -> u32
     requires holds { Holds pool.old ram.old root }
     requires page { v < 2 ^ 26 }
+    requires stays { stays ≡ true → IsSome (table_at ram.old root 2 (v / 512)) }
     requires none_left { none_left ≡ true → (p : ℕ) → table_at ram.old root 2 p ≡ None }
     ensures freed { Freed pool.old ram.old pool.new ram.new root v result }
     ensures few { result ≤ 1 }
@@ -427,6 +443,9 @@ fn free_upper(pool: &mut Pool, ram: &mut Ram, root: Frame, v: usize, none_left: 
     ensures entries { (u : ℕ) → page_entry ram.new root u ≡ page_entry ram.old root u }
     ensures image { (u : ℕ) → page_at ram.new root u ≡ page_at ram.old root u }
 {
+    if stays {
+        return 0;
+    }
     let Some(upper) = upper_table(ram, root, v) else {
         return 0;
     };
@@ -454,7 +473,9 @@ fn next_leaf(ram: &Ram, table: Frame, from: usize) -> usize
     512
 }
 
-/// The least page from a place on.
+/// The least page from a place on. It stands in its caller, so that the entries that it reads need not be
+/// read again to free or to copy the page.
+#[inline(always)]
 fn next_page(ram: &Ram, root: Frame, from: usize) -> Option<usize>
     requires root_in { root < length ram.now }
     requires from_in { from ≤ 2 ^ 26 }
@@ -481,6 +502,7 @@ fn next_page(ram: &Ram, root: Frame, from: usize) -> Option<usize>
 }
 
 /// The least page from a number on. `none_left` says that there is none; then no table is read.
+#[inline(always)]
 fn page_left(ram: &Ram, root: Frame, from: usize, none_left: bool) -> Option<usize>
     requires root_in { root < length ram.now }
     requires from_in { from ≤ 2 ^ 26 }
@@ -510,7 +532,7 @@ impl Space {
         let last = self.pages == 1;
         free_leaf(pool, ram, self.root, v);
         let lower = free_lower(pool, ram, self.root, v, last);
-        let upper = free_upper(pool, ram, self.root, v, last);
+        let upper = free_upper(pool, ram, self.root, v, lower == 0, last);
         self.pages -= 1;
         self.tables -= lower + upper;
     }

@@ -1,5 +1,6 @@
 use Rattle.std.proofs.Common.{◌≡◌, ◌+◌, ◌*◌, ◌/◌, ◌%◌, Some, sym, ap, ◌∙◌, subst, arith}
 use Rattle.sv39_core.specs.Sv39.{table_at, last, page_entry}
+use Rattle.std.specs.Prelude.{is_some}
 use Rattle.sv39_core.specs.Tree.{frame_of}
 use Rattle.sv39_core.proofs.Places.{root-inside, page-owned}
 use Rattle.addr_space.proofs.Clearing.{PageGone, page-gone, inside-of, taken-of}
@@ -43,3 +44,6 @@ returns-clause-pages c = (all c).pages
 
 pub returns-clause-image : goal.returns-clause-image
 returns-clause-image c = (all c).image
+
+pub returns-clause-table : goal.returns-clause-table
+returns-clause-table c = ap is_some ((all c).lowers (c.args.v / 512) ∙ sym c.in-Some.ensures)

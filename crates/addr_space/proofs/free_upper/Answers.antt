@@ -1,7 +1,8 @@
-use Rattle.std.proofs.Common.{◌≡◌, ℕ, ◌+◌, ◌*◌, ◌/◌, ◌<◌, true, Some, None, refl, sym, ◌∙◌, arith}
+use Rattle.std.proofs.Common.{◌≡◌, ℕ, ◌+◌, ◌*◌, ◌/◌, ◌%◌, ◌<◌, true, Some, None, refl, sym, ap, ◌∙◌, arith}
 use Rattle.sv39_core.specs.Sv39.{entry_at, table_of, table_at}
 use Rattle.sv39_core.proofs.Places.{root-inside, upper-entry}
 use Rattle.addr_space.proofs.Clearing.{TableGone, upper-gone, inside-of, taken-of, entry-lower, table-is, freed-upper}
+use Rattle.addr_space.proofs.Freeing.{some-of}
 use Rattle.addr_space.proofs.free_upper.Goals.{After-clear}
 use Rattle.addr_space.proofs.free_upper.Goals as goal
 
@@ -14,6 +15,12 @@ has_table-requires c = record { table_in = inside-of c.args.pool.now c.args.ram.
     no-table : c.args.none_left ≡ true → (k : ℕ) → k < 512 → table_of (entry_at c.args.ram.now c.in-Some.upper k) ≡ None
     no-table none k lt =
         sym (entry-lower c.args.ram.now c.args.root (c.args.v / 262144) c.in-Some.upper k lt (sym c.in-Some.ensures)) ∙ c.requires.none_left none (512 * (c.args.v / 262144) + k)
+
+pub returns-then-stays-clause-full : goal.returns-then-stays-clause-full
+returns-then-stays-clause-full c f e =
+    let at : 512 * (c.args.v / 262144) + c.args.v / 512 % 512 ≡ c.args.v / 512 = omega arith in
+    let there = some-of (table_at c.args.ram.now c.args.root 2 (c.args.v / 512)) (c.requires.stays c.if-stays.true) in
+    (c.args.v / 512 % 512, there.0, omega arith, ap (table_at c.args.ram.now c.args.root 2) at ∙ there.1)
 
 pub returns-then-has_table-clause-full : goal.returns-then-has_table-clause-full
 returns-then-has_table-clause-full c f e =

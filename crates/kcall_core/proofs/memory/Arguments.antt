@@ -1,7 +1,9 @@
 -- The argument texts that a memory holds, one after another.
 use Rattle.std.proofs.Common.{◌≡◌, ◌≢◌, ℕ, zero, suc, ◌+◌, ◌-◌, ◌<◌, ◌≤◌, cond, List, [], ◌∷◌, ◌++◌, length, Option, Some, None, Result, Ok, Err, refl, sym, ap, ◌∙◌, arith, inl, inr}
-use Rattle.std.specs.Prelude.{option_map, if◌then◌else◌, nat_lt}
-use Rattle.std.proofs.lemmas.Bool.{cases_lt, eq-eqb, ne_eqb}
+use Rattle.std.specs.Prelude.{Bool, true, false, nat_eq, is_ok, OnOk, option_map, if◌then◌else◌, nat_lt}
+use Rattle.xk_base.specs.Bytes.{image_byte}
+use Rattle.xk_base.specs.declared.access.Access.TheVariants.{Load}
+use Rattle.std.proofs.lemmas.Bool.{cases_lt, eq-eqb, ne_eqb, false≢true}
 use Rattle.std.proofs.lemmas.List.{append_assoc, append-nil, length-append}
 use Rattle.xk_base.specs.Image.{Image}
 use Rattle.xk_base.specs.declared.limits.TheConstants.{MAXARG, ARG_BYTES}
@@ -9,7 +11,7 @@ use Rattle.xk_base.specs.declared.errors.ExecError.{ExecError}
 use Rattle.xk_base.specs.declared.errors.ExecError.TheVariants.{TooManyArgs, ArgsTooLong}
 use Rattle.sv39_core.proofs.Words.{ltb-no}
 use Rattle.exec_core.specs.ArgTexts.{terminated, push_refusal}
-use Rattle.kcall_core.specs.Buffers.{text_at, texts_at, texts_from, with_text, pointer_at}
+use Rattle.kcall_core.specs.Buffers.{text_at, text_from, texts_at, texts_from, with_text, pointer_at, may_touching}
 
 -- these texts, and then the others
 abbrev pub behind : List (List ℕ) → Option (List (List ℕ)) → Option (List (List ℕ))
@@ -48,7 +50,7 @@ pub record Reading (whole : Option (List (List ℕ))) (i : Image) (texts : List 
 no-some : {X : Type 0} (x : X) → None ≡ Some x → ⊥
 no-some x e = cc
 
-same-some : {X : Type 0} (x y : X) → Some x ≡ Some y → x ≡ y
+pub same-some : {X : Type 0} (x y : X) → Some x ≡ Some y → x ≡ y
 same-some x y e = cc
 
 all-here : (texts : List (List ℕ)) → behind texts (Some []) ≡ Some texts
@@ -122,3 +124,46 @@ module _ {whole : Option (List (List ℕ))} {i : Image} {texts : List (List ℕ)
       by : (o : Option (List (List ℕ))) → behind (texts ++ text ∷ []) o ≡ Some xs → ARG_BYTES < length (terminated xs)
       by None is = absurd (no-some xs is)
       by (Some rest) is = omega (arith, long, longer (texts ++ text ∷ []) rest, ap (λ ys. length (terminated ys)) (same-some _ _ is))
+
+  -- the text can't be read, or the list doesn't take it
+  pub no-more : (p : ℕ) → 0 < more → pointer_at i at ≡ Some p → p ≢ 0 → ((text : List ℕ) → text_at ARG_BYTES i p ≡ Some text → (e : ExecError) × (push_refusal texts text ≡ Err e)) → (xs : List (List ℕ)) → whole ≡ Some xs → ARG_BYTES < length (terminated xs)
+  no-more p lt is some refused xs e = by (text_at ARG_BYTES i p) refl
+    where
+      by : (o : Option (List ℕ)) → text_at ARG_BYTES i p ≡ o → ARG_BYTES < length (terminated xs)
+      by None none = no-text p lt is some none xs e
+      by (Some text) there =
+          let r' = refused text there in
+          too-long p text lt is some there (push-long texts text r'.0 (omega (arith, lt, r.count)) r'.1) xs e
+
+-- a text that ends among the first bytes ends among more of them
+pub text-longer : (n k : ℕ) (i : Image) (a : ℕ) (text : List ℕ) → text_at n i a ≡ Some text → text_at (n + k) i a ≡ Some text
+unfolding text_at
+text-longer zero k i a text is = absurd (no-text-yet is)
+  where
+    no-text-yet : None ≡ Some text → ⊥
+    no-text-yet e = cc
+text-longer (suc n) k i a text is =
+    let one : suc n + k ≡ suc (n + k) = omega arith in
+    ap (λ m. text_at m i a) one ∙ by (may_touching Load i a) (λ later e. text-longer n k i (a + 1) later e) is
+  where
+    ends : (b : Bool) → cond b (Some []) None ≡ Some text → cond b (Some []) (option_map (λ bytes. image_byte i a ∷ bytes) (text_at (n + k) i (a + 1))) ≡ Some text
+    ends true w = w
+    ends false w = absurd (cc)
+
+    rest : ((later : List ℕ) → text_at n i (a + 1) ≡ Some later → text_at (n + k) i (a + 1) ≡ Some later) → (o : Option (List ℕ)) → text_at n i (a + 1) ≡ o → text_from (image_byte i a) o ≡ Some text → text_from (image_byte i a) (text_at (n + k) i (a + 1)) ≡ Some text
+    rest more None e w = ends (nat_eq (image_byte i a) 0) w
+    rest more (Some later) e w = ap (text_from (image_byte i a)) (more later e) ∙ w
+
+    by : (b : Bool) → ((later : List ℕ) → text_at n i (a + 1) ≡ Some later → text_at (n + k) i (a + 1) ≡ Some later) → cond b (text_from (image_byte i a) (text_at n i (a + 1))) None ≡ Some text
+        → cond b (text_from (image_byte i a) (text_at (n + k) i (a + 1))) None ≡ Some text
+    by true more w = rest more (text_at n i (a + 1)) refl w
+    by false more w = absurd (cc)
+
+-- what a list that took a text, or didn't, was told
+pub taken-if : {A : Type 0} (r : Result (Unit {0}) ExecError) → is_ok r ≡ true → OnOk r A → A
+taken-if (Ok done) is a = a
+taken-if (Err e) is a = absurd (false≢true is)
+
+pub refused-if : (r : Result (Unit {0}) ExecError) → is_ok r ≡ false → (e : ExecError) × (r ≡ Err e)
+refused-if (Ok done) is = absurd (false≢true (sym is))
+refused-if (Err e) is = (e, refl)

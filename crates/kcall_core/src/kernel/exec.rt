@@ -20,7 +20,7 @@ use crate::call_end::CallEnd;
 use crate::kernel::Kernel;
 use crate::kernel::registers::{SECOND_ARGUMENT, STACK_POINTER};
 use crate::memories::Memories;
-use exec_core::{Entry, plan};
+use exec_core::{ArgList, Entry, plan};
 use hart_core::Hart;
 use proc_table::Call;
 use xk_base::limits::MAXPATH;
@@ -77,9 +77,10 @@ fn replace_as_asked(
     let Ok(len) = memories.fetch_text(slot, path, &mut name) else {
         return None;
     };
-    let Some(args) = memories.fetch_args(slot, pointers) else {
+    let mut args = ArgList::new();
+    if !memories.fetch_args(slot, pointers, &mut args) {
         return None;
-    };
+    }
     let Some(program) = program_named(programs, without_slashes(&name[..len])) else {
         return None;
     };

@@ -1,50 +1,84 @@
 //! The argument texts of an exec, which the caller's memory holds.
-ghost use Rattle.std.specs.Prelude.{◌≡◌, ℕ, ◌<◌, List, Some, IfSome, IfNone, length};
+ghost use Rattle.std.specs.Prelude.{◌≡◌, ℕ, ◌<◌, List, [], ◌∷◌, ◌++◌, true, false, Some, Err, length};
 ghost use Rattle.xk_base.specs.declared.limits.TheConstants.{MAXARG, ARG_BYTES};
-ghost use Rattle.exec_core.specs.ArgTexts.{terminated};
-ghost use Rattle.kcall_core.specs.Buffers.{texts_at};
+ghost use Rattle.xk_base.specs.declared.errors.ExecError.{ExecError};
+ghost use Rattle.exec_core.specs.ArgTexts.{terminated, push_refusal};
+ghost use Rattle.kcall_core.specs.Buffers.{text_at, texts_at};
 ghost use Rattle.kcall_core.specs.Holdings.{held_at, HasMemory};
 ghost use Rattle.kcall_core.specs.Memories.{each_of, AreSound};
 
 use crate::memories::Memories;
 use exec_core::ArgList;
+use xk_base::BadAddress;
 use xk_base::limits::{ARG_BYTES, MAXARG};
 
+/// Most texts have fewer bytes than this. For those no room for a longer one is cleared.
+const SHORT_TEXT: usize = 128;
+
 impl Memories {
-    /// The texts that the pointers from an address on lead to, up to a null pointer.
-    ///
-    /// None where the pointers or one of the texts can't be read, where there are more than [`MAXARG`]
-    /// texts or one that has, with its zero byte, more than [`ARG_BYTES`] bytes, or where all have so
-    /// together, which no stack page holds.
-    pub fn fetch_args(&self, slot: usize, pointers: u64) -> Option<ArgList>
+    /// Adds the text at an address to a list, and tells whether it is there and the list took it.
+    fn fetch_arg(&self, slot: usize, address: u64, args: &mut ArgList) -> bool
         requires sound { AreSound self.now }
         requires there { HasMemory (each_of self.now) slot }
-        ensures found { IfSome result (λ args. texts_at MAXARG ARG_BYTES (held_at (each_of self.now) slot).image pointers ≡ Some args) }
-        ensures refused { IfNone result ((texts : List (List ℕ)) → texts_at MAXARG ARG_BYTES (held_at (each_of self.now) slot).image pointers ≡ Some texts → ARG_BYTES < length (terminated texts)) }
+        ensures added { result ≡ true → (text : List ℕ) × (text_at ARG_BYTES (held_at (each_of self.now) slot).image address ≡ Some text) × (args.new ≡ args.old ++ text ∷ []) }
+        ensures refused { result ≡ false → (text : List ℕ) → text_at ARG_BYTES (held_at (each_of self.now) slot).image address ≡ Some text → (refusal : ExecError) × (push_refusal args.old text ≡ Err refusal) }
     {
-        let mut args = ArgList::new();
+        let mut text = [0; SHORT_TEXT];
+        match self.fetch_text(slot, address, &mut text) {
+            Ok(len) => args.push(&text[..len]).is_ok(),
+            Err(BadAddress) => self.fetch_long_arg(slot, address, args),
+        }
+    }
+
+    /// The same as [`fetch_arg`](Memories::fetch_arg), for a text that may have many bytes.
+    #[cold]
+    #[inline(never)]
+    fn fetch_long_arg(&self, slot: usize, address: u64, args: &mut ArgList) -> bool
+        requires sound { AreSound self.now }
+        requires there { HasMemory (each_of self.now) slot }
+        ensures added { result ≡ true → (text : List ℕ) × (text_at ARG_BYTES (held_at (each_of self.now) slot).image address ≡ Some text) × (args.new ≡ args.old ++ text ∷ []) }
+        ensures refused { result ≡ false → (text : List ℕ) → text_at ARG_BYTES (held_at (each_of self.now) slot).image address ≡ Some text → (refusal : ExecError) × (push_refusal args.old text ≡ Err refusal) }
+    {
         let mut text = [0; ARG_BYTES];
+        match self.fetch_text(slot, address, &mut text) {
+            Ok(len) => args.push(&text[..len]).is_ok(),
+            Err(BadAddress) => false,
+        }
+    }
+}
+
+impl Memories {
+    /// Adds the texts that the pointers from an address on lead to, up to a null pointer, to an empty list,
+    /// and tells whether all of them are there.
+    ///
+    /// They are not where the pointers or one of the texts can't be read, where there are more than
+    /// [`MAXARG`] texts or one that has, with its zero byte, more than [`ARG_BYTES`] bytes, or where all have
+    /// so together, which no stack page holds. Then it is open which texts the list has.
+    pub fn fetch_args(&self, slot: usize, pointers: u64, args: &mut ArgList) -> bool
+        requires sound { AreSound self.now }
+        requires there { HasMemory (each_of self.now) slot }
+        requires empty { args.old ≡ [] }
+        ensures found { result ≡ true → texts_at MAXARG ARG_BYTES (held_at (each_of self.now) slot).image pointers ≡ Some args.new }
+        ensures refused { result ≡ false → ((texts : List (List ℕ)) → texts_at MAXARG ARG_BYTES (held_at (each_of self.now) slot).image pointers ≡ Some texts → ARG_BYTES < length (terminated texts)) }
+    {
         let mut at = pointers;
         let mut more = MAXARG;
         'texts: while more > 0 {
             let Ok(pointer) = self.fetch_u64(slot, at) else {
-                return None;
+                return false;
             };
             if pointer == 0 {
-                return Some(args);
+                return true;
             }
-            let Ok(len) = self.fetch_text(slot, pointer, &mut text) else {
-                return None;
-            };
-            let Ok(()) = args.push(&text[..len]) else {
-                return None;
-            };
+            if !self.fetch_arg(slot, pointer, args) {
+                return false;
+            }
             at += 8;
             more -= 1;
         }
         let Ok(pointer) = self.fetch_u64(slot, at) else {
-            return None;
+            return false;
         };
-        if pointer == 0 { Some(args) } else { None }
+        pointer == 0
     }
 }

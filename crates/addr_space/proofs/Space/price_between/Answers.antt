@@ -5,7 +5,7 @@ use Rattle.sv39_core.specs.Tree.{pages_of}
 use Rattle.addr_space.specs.Changes.{zeroed, with_absent}
 use Rattle.sv39_core.proofs.Places.{root-inside, no-lower}
 use Rattle.addr_space.proofs.Growing.{cost}
-use Rattle.addr_space.proofs.PriceTo.{price-span, price-run, price-one}
+use Rattle.addr_space.proofs.PriceTo.{price-span, price-run, price-one, price-rest}
 use Prim.Native.Nat.{min}
 use Rattle.addr_space.proofs.Space.price_between.Goals as goal
 
@@ -74,6 +74,32 @@ pages-preserved-in_default-lower_table c =
         | inr ne ↦ elim end.2 [ inl e ↦ omega (arith, e, ne) | inr e ↦ absurd (omega (arith, e, a)) ]
       ];
       count = λ perm. omega (arith, inv.count perm, price-run c.args.ram.now c.args.self.now.root c.args.first c.pages.v c.min-end-in_default-lower_table.result c.args.self.now.size 0 (zeroed perm) c.requires.whole.tree c.requires.whole.full inv.from past end.0 (omega (arith, end.1, c.requires.limit)) none (λ lt. inv.aligned c.pages-test.true lt none) (λ ne. refl) (λ ne off. refl) (λ e a. absurd (there e)));
+    }
+
+pub pages-preserved-then-self-v : goal.pages-preserved-then-self-v
+pages-preserved-then-self-v c =
+    let inv = c.pages.invariant in
+    let end = ends c.min-end-then-self-v.result ((c.pages.v / 512 + 1) * 512) c.args.last c.min-end-then-self-v.ensures in
+    let upper : table_at c.args.ram.now c.args.self.now.root 1 (c.pages.v / 262144) ≡ Some c.in-Some.field-0 = sym c.in-Some.ensures in
+    let table : table_at c.args.ram.now c.args.self.now.root 2 (c.pages.v / 512) ≡ Some c.in-Some-lower_table.field-0 = sym c.in-Some-lower_table.ensures in
+    let past : c.pages.v < c.min-end-then-self-v.result = elim end.2 [ inl e ↦ omega (arith, e) | inr e ↦ omega (arith, e, c.pages-test.true) ] in
+    let back : c.pages.v + (c.min-end-then-self-v.result - c.pages.v) ≡ c.min-end-then-self-v.result = omega (arith, past) in
+    record {
+      from = omega (arith, inv.from, past);
+      in_range = end.1;
+      small = omega (arith, inv.small, inv.from, past);
+      aligned = λ a b w. elim end.2 [ inl e ↦ omega (arith, e) | inr e ↦ absurd (omega (arith, e, a)) ];
+      span = λ a b none. elim (cases_eq (c.min-end-then-self-v.result / 262144) (c.pages.v / 262144)) [
+        | inl same ↦ let w : None ≡ Some c.in-Some.field-0 = sym none ∙ ap (table_at c.args.ram.now c.args.self.now.root 1) same ∙ upper in absurd (cc)
+        | inr ne ↦ elim end.2 [ inl e ↦ omega (arith, e, ne) | inr e ↦ absurd (omega (arith, e, a)) ]
+      ];
+      count = λ perm. omega (
+        arith,
+        inv.count perm,
+        ap (λ n. cost (with_absent (pages_of c.args.ram.now c.args.self.now.root) c.args.first (n - c.args.first) (zeroed perm)) c.args.self.now.size) back,
+        price-rest (c.min-end-then-self-v.result - c.pages.v) c.args.ram.now c.args.self.now.root c.args.first c.pages.v c.args.self.now.size c.in-Some-lower_table.field-0 (zeroed perm) c.requires.whole.tree c.requires.whole.full inv.from (omega (arith, back, end.1, c.requires.limit)) (omega (arith, back, end.0)) table
+            (λ u ge lt. c.requires.whole.ends u (omega (arith, c.if-self-v.true, ge)) (omega (arith, lt, back, end.1, c.requires.limit))),
+      );
     }
 
 pub pages-preserved : goal.pages-preserved

@@ -1,4 +1,4 @@
-use Rattle.std.proofs.Common.{[], take, refl, sym, ap, ◌∙◌, arith}
+use Rattle.std.proofs.Common.{◌≡◌, true, false, rules, [], take, refl, sym, ap, ◌∙◌, arith}
 use Rattle.std.specs.Prelude.{map, option_copied, option_map}
 use Rattle.xk_base.specs.Loaded.{loaded}
 use Rattle.kcall_core.specs.Programs.{program_named}
@@ -11,26 +11,27 @@ use Rattle.kcall_core.specs.Execs.{Asks}
 use Rattle.kcall_core.proofs.processes.Asking.{loaded-fits}
 use Rattle.kcall_core.proofs.kernel.exec.replace_as_asked.Goals as goal
 
-pub returns-in_default-fetch_args-clause-refused : goal.returns-in_default-fetch_args-clause-refused
-returns-in_default-fetch_args-clause-refused c = (
+pub returns-then-not-fetch_args-clause-refused : goal.returns-then-not-fetch_args-clause-refused
+returns-then-not-fetch_args-clause-refused c = let missing : c.fetch_args.result ≡ false = search rules in (
   λ l a.
       let f = loaded-fits a.program.bytes a.texts l a.loaded_is in
-      absurd (omega (arith, f.1, c.in_default-fetch_args.ensures.refused a.texts a.texts_is)),
+      absurd (omega (arith, f.1, c.fetch_args.ensures.refused missing a.texts a.texts_is)),
   same-if c.args.memories.now c.args.memories.now c.requires.sound (untraded _ _ _ _ [] c.requires.sound.good refl refl) refl refl,
   refl,
 )
 
 pub returns-clause-started : goal.returns-clause-started
 returns-clause-started c =
+    let there : c.fetch_args.result ≡ true = search rules in
     let image = (held_at (each_of c.args.memories.now) c.args.slot).image in
     let l = c.in-Ok-plan.plan in
     let a : Asks (map named_file c.args.programs.now) image c.args.path c.args.pointers l = record {
       name = take c.in-Ok.len c.fetch_text.new.text;
-      texts = c.in-Some.args;
-      program = named_file c.in-Some-program_named.program.now;
+      texts = c.fetch_args.new.args;
+      program = named_file c.in-Some.program.now;
       name_is = c.in-Ok.ensures.found;
-      texts_is = c.in-Some.ensures.found;
-      program_is = sym (ap (λ n. program_named n (map named_file c.args.programs.now)) c.without_slashes.ensures) ∙ sym c.program_named.ensures ∙ ap (λ o. option_map named_file (option_copied o)) c.in-Some-program_named.is;
-      loaded_is = sym (ap (λ f. loaded f c.in-Some.args) c.deref.ensures.value) ∙ sym c.plan.ensures ∙ c.in-Ok-plan.is;
+      texts_is = c.fetch_args.ensures.found there;
+      program_is = sym (ap (λ n. program_named n (map named_file c.args.programs.now)) c.without_slashes.ensures) ∙ sym c.program_named.ensures ∙ ap (λ o. option_map named_file (option_copied o)) c.in-Some.is;
+      loaded_is = sym (ap (λ f. loaded f c.fetch_args.new.args) c.deref.ensures.value) ∙ sym c.plan.ensures ∙ c.in-Ok-plan.is;
     } in
     (l, a, c.in-Ok-replace.ensures.start, (loaded-fits a.program.bytes a.texts l a.loaded_is).0, c.in-Ok-replace.ensures.fits, c.in-Ok-replace.ensures.replaced, c.in-Ok-replace.ensures.runs)

@@ -1,44 +1,31 @@
-use Rattle.std.proofs.Common.{rules, ◌≡◌, ◌+◌, ◌-◌, ◌<◌, length, take, sym, ap, ◌∙◌, arith, refl}
-use Rattle.xk_base.specs.declared.limits.TheConstants.{ARG_BYTES}
-use Rattle.kcall_core.specs.Buffers.{text_at}
-use Rattle.kcall_core.specs.Holdings.{held_at}
-use Rattle.kcall_core.specs.Memories.{each_of}
-use Rattle.kcall_core.proofs.memory.Arguments.{no-pointer, all-read, too-many, no-text, reading-next, too-long, push-long}
+use Rattle.std.proofs.Common.{rules, ◌≡◌, ◌+◌, ◌-◌, ◌<◌, true, false, sym, ◌∙◌, arith, refl}
+use Rattle.std.proofs.lemmas.Bool.{eqb-true, eq-eqb, false≢true}
+use Rattle.kcall_core.proofs.memory.Arguments.{no-pointer, all-read, too-many, no-more, reading-next}
 use Rattle.kcall_core.proofs.memories.Memories.fetch_args.Goals as goal
 
 pub returns-in_default-clause-refused : goal.returns-in_default-clause-refused
-returns-in_default-clause-refused c = no-pointer c.texts.invariant c.in_default.ensures.refused
+returns-in_default-clause-refused c is = no-pointer c.texts.invariant c.in_default.ensures.refused
 
 pub returns-then-pointer-eq0-clause-found : goal.returns-then-pointer-eq0-clause-found
-returns-then-pointer-eq0-clause-found c = all-read c.texts.invariant c.in-Ok.pointer c.in-Ok.ensures.number (search rules)
+returns-then-pointer-eq0-clause-found c is = all-read c.texts.invariant c.in-Ok.pointer c.in-Ok.ensures.number (search rules)
 
-pub returns-in_default-fetch_text-clause-refused : goal.returns-in_default-fetch_text-clause-refused
-returns-in_default-fetch_text-clause-refused c =
-    let long : length c.texts.text ≡ ARG_BYTES = search rules in
-    no-text c.texts.invariant c.in-Ok.pointer (search rules) c.in-Ok.ensures.number (search rules)
-    (sym (ap (λ n. text_at n (held_at (each_of c.args.self.now) c.args.slot).image c.in-Ok.pointer) long) ∙ c.in_default-fetch_text.ensures.refused.0)
-
-pub returns-in_default-push-clause-refused : goal.returns-in_default-push-clause-refused
-returns-in_default-push-clause-refused c =
-    let long : length c.texts.text ≡ ARG_BYTES = search rules in
-    let more : 0 < c.texts.more = search rules in
-    too-long c.texts.invariant c.in-Ok.pointer (take c.in-Ok-fetch_text.len c.fetch_text.new.text) more c.in-Ok.ensures.number (search rules)
-    (sym (ap (λ n. text_at n (held_at (each_of c.args.self.now) c.args.slot).image c.in-Ok.pointer) long) ∙ c.in-Ok-fetch_text.ensures.found)
-    (push-long c.texts.args (take c.in-Ok-fetch_text.len c.fetch_text.new.text) c.in_default-push.field-0 (omega (arith, more, c.texts.invariant.count)) (sym c.push.ensures.refusal ∙ c.in_default-push.is))
+pub returns-then-not-fetch_arg-clause-refused : goal.returns-then-not-fetch_arg-clause-refused
+returns-then-not-fetch_arg-clause-refused c is =
+    let missing : c.fetch_arg.result ≡ false = search rules in
+    no-more c.texts.invariant c.in-Ok.pointer (search rules) c.in-Ok.ensures.number (search rules) (c.fetch_arg.ensures.refused missing)
 
 pub texts-preserved : goal.texts-preserved
 texts-preserved c =
-    let long : length c.texts.text ≡ ARG_BYTES = search rules in
+    let there : c.fetch_arg.result ≡ true = search rules in
     let more : 0 < c.texts.more = search rules in
-    reading-next c.texts.invariant c.in-Ok.pointer (take c.in-Ok-fetch_text.len c.fetch_text.new.text) c.push.new.self (c.texts.more - 1) (c.texts.at + 8) more c.in-Ok.ensures.number (search rules)
-    (sym (ap (λ n. text_at n (held_at (each_of c.args.self.now) c.args.slot).image c.in-Ok.pointer) long) ∙ c.in-Ok-fetch_text.ensures.found)
-    c.in-Ok-push.ensures.added (omega (arith, more)) refl
+    let one = c.fetch_arg.ensures.added there in
+    reading-next c.texts.invariant c.in-Ok.pointer one.0 c.fetch_arg.new.args (c.texts.more - 1) (c.texts.at + 8) more c.in-Ok.ensures.number (search rules) one.1 one.2 (omega (arith, more)) refl
 
 pub returns-in_default-fetch_u64-clause-refused : goal.returns-in_default-fetch_u64-clause-refused
-returns-in_default-fetch_u64-clause-refused c = no-pointer c.texts.invariant c.in_default-fetch_u64.ensures.refused
+returns-in_default-fetch_u64-clause-refused c is = no-pointer c.texts.invariant c.in_default-fetch_u64.ensures.refused
 
-pub returns-then-pointer-eq0-2-clause-found : goal.returns-then-pointer-eq0-2-clause-found
-returns-then-pointer-eq0-2-clause-found c = all-read c.texts.invariant c.in-Ok-fetch_u64.pointer c.in-Ok-fetch_u64.ensures.number (search rules)
+pub returns-clause-found : goal.returns-clause-found
+returns-clause-found c is = all-read c.texts.invariant c.in-Ok-fetch_u64.pointer c.in-Ok-fetch_u64.ensures.number (eqb-true c.in-Ok-fetch_u64.pointer 0 is)
 
-pub returns-else-pointer-eq0-2-clause-refused : goal.returns-else-pointer-eq0-2-clause-refused
-returns-else-pointer-eq0-2-clause-refused c = too-many c.texts.invariant c.in-Ok-fetch_u64.pointer (search rules) c.in-Ok-fetch_u64.ensures.number (search rules)
+pub returns-clause-refused : goal.returns-clause-refused
+returns-clause-refused c is = too-many c.texts.invariant c.in-Ok-fetch_u64.pointer (search rules) c.in-Ok-fetch_u64.ensures.number (λ e. false≢true (sym is ∙ eq-eqb c.in-Ok-fetch_u64.pointer 0 e))
