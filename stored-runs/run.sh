@@ -2,6 +2,13 @@
 # Plays the stored runs: stored-runs/run.sh [--store]; see README.md.
 here=$(cd "$(dirname "$0")" && pwd)
 program="$here/../crates/xv_run/out/xv_run"
+case "$*" in
+'' | --store) ;;
+*)
+    echo "usage: stored-runs/run.sh [--store]" >&2
+    exit 2
+    ;;
+esac
 if [ ! -x "$program" ]; then
     echo "xv_run isn't built yet: ./xv examples/hello/init.s </dev/null builds it" >&2
     exit 2

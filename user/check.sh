@@ -15,10 +15,10 @@
 #
 # The last line of keys and of what is shown ends in \c where no line's end follows.
 set -u
-cd "$(dirname "$0")" || exit 2
-program=${XV_RUN-../crates/xv_run/out/xv_run}
-[ -x "$program" ] || { echo "there is no program $program: build it by ../xv" >&2; exit 2; }
+program=${XV_RUN-$(dirname "$0")/../crates/xv_run/out/xv_run}
+[ -x "$program" ] || { echo "there is no program $program: build it by ./xv" >&2; exit 2; }
 program=$(readlink -f "$program")
+cd "$(dirname "$0")" || exit 2
 here=$PWD
 room=$(mktemp -d) || exit 2
 trap 'rm -rf "$room"' EXIT
