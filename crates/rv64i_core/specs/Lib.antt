@@ -6,3 +6,4 @@ pub mod Step
 pub mod Actions
 pub mod Acts
 pub mod DecodeCache
+pub mod Ways

@@ -30,7 +30,7 @@ pub use access_width::Width;
 pub use decode_cache::DecodeCache;
 pub use decoding::decode;
 pub use encoding::encode;
-pub use execution::{Stop, execute, execute_cached, execute_kept};
+pub use execution::{Stop, Way, execute, execute_cached, execute_kept};
 pub use flat_memory::FlatMemory;
 pub use instruction::{BranchOp, ImmOp, Instr, LoadOp, RegOp, ShiftOp, StoreOp, WordOp};
 pub use operands::{Imm12, Imm20, Shift5, Shift6};
