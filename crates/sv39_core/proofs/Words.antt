@@ -1,5 +1,5 @@
 -- What the words that the kernel writes say.
-use Rattle.std.proofs.Common.{◌≡◌, ◌≢◌, ℕ, ◌+◌, ◌-◌, ◌*◌, ◌/◌, ◌%◌, ◌^◌, ◌<◌, ◌≤◌, ◌&&◌, ◌||◌, Bool, true, false, not, cond, eqb, leb, ltb, Some, None, inl, inr, refl, sym, ap, ◌∙◌, arith}
+use Rattle.std.proofs.Common.{◌≡◌, ◌≢◌, ℕ, ◌+◌, ◌-◌, ◌*◌, ◌/◌, ◌%◌, ◌^◌, ◌<◌, ◌≤◌, ◌&&◌, ◌||◌, Bool, true, false, not, cond, eqb, leb, ltb, Option, Some, None, inl, inr, refl, sym, ap, ◌∙◌, arith}
 use Rattle.std.specs.Int.{bit_at}
 use Rattle.std.specs.Int.RustNames.{bit_and}
 use Rattle.std.proofs.Math.Nat.{mod-lt, one-le-pow}
@@ -291,3 +291,29 @@ allowed-entry_of access n w offset =
     first true true p t l u = turned (t && l && u) p
     first true false p t l u = refl
     first false q p t l u = refl
+
+-- a page that isn't one of RAM's is reached by no access
+pub allowed_outside : (access : Access) (n w offset : ℕ) → is_in_ram n w ≡ false → allowed access (entry_of n w) offset ≡ None
+allowed_outside access n w offset out =
+    let open_to = flag w 0 && (not (flag w 2) || flag w 1) && permits access (given (rights_of w) (flag w 6) (flag w 7)) in
+    allowed-entry_of access n w offset
+    ∙ ap (λ b. cond (open_to && b) (Some (page_number w - 0x80000, offset)) None) out
+    ∙ none open_to (page_number w - 0x80000, offset)
+  where
+    none : (b : Bool) (place : ℕ × ℕ) → cond (b && false) (Some place) None ≡ None
+    none true place = refl
+    none false place = refl
+
+-- one of RAM's is reached by the accesses that the bits below its number permit
+pub allowed_inside : (access : Access) (n w offset f : ℕ) (b : Bool) → is_in_ram n w ≡ true → f ≡ page_number w - 0x80000 → b ≡ (flag w 0 && (not (flag w 2) || flag w 1) && permits access (given (rights_of w) (flag w 6) (flag w 7)))
+    → allowed access (entry_of n w) offset ≡ cond b (Some (f, offset)) None
+allowed_inside access n w offset f b inside frame open_to =
+    allowed-entry_of access n w offset
+    ∙ ap (λ x. cond (flag w 0 && (not (flag w 2) || flag w 1) && permits access (given (rights_of w) (flag w 6) (flag w 7)) && x) (Some (page_number w - 0x80000, offset)) None) inside
+    ∙ ap (λ x. cond (x && true) (Some (page_number w - 0x80000, offset)) None) (sym open_to)
+    ∙ ap (λ g. cond (b && true) (Some (g, offset)) None) (sym frame)
+    ∙ same b (f, offset)
+  where
+    same : (b : Bool) (place : ℕ × ℕ) → cond (b && true) (Some place) None ≡ cond {A = Option (ℕ × ℕ)} b (Some place) None
+    same true place = refl
+    same false place = refl

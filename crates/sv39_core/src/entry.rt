@@ -1,6 +1,7 @@
 //! Page-table entries.
-ghost use Rattle.std.specs.Prelude.{⊤, ℕ, ◌≡◌, ◌==◌, ◌&&◌, ◌||◌, not, ◌+◌, ◌-◌, ◌/◌, ◌^◌, ◌<◌, ◌≤◌, [], ◌∷◌, IfSome, option_map, codes};
+ghost use Rattle.std.specs.Prelude.{⊤, ℕ, ◌≡◌, ◌==◌, ◌&&◌, ◌||◌, not, ◌+◌, ◌-◌, ◌/◌, ◌^◌, ◌<◌, ◌≤◌, [], ◌∷◌, if◌then◌else◌, Some, None, IfSome, MatchOption, option_map, codes};
 ghost use Rattle.std.specs.Int.RustNames.{bit_and};
+ghost use Rattle.xk_base.specs.declared.access.Access.TheVariants.{Fetch, Load, Store};
 ghost use Rattle.xk_base.specs.declared.limits.TheConstants.{FRAMES_MAX};
 ghost use Rattle.sv39_core.specs.Sv39.{allowed, entry_of, flag, given, is_in_ram, is_usable, page_number, permits, rights_of, table_of, bit_if, leaf_word, table_word};
 
@@ -57,6 +58,15 @@ pub enum Entry {
     Table(Frame),
     /// A page: its frame and its rights, and whether A and D are set.
     Leaf(Frame, Perm, bool, bool),
+}
+
+/// The frame of a page, and the kinds of access by which user code reaches it.
+#[derive(Clone, Copy, Debug, PartialEq, Eq)]
+pub struct Reached {
+    pub frame: Frame,
+    pub fetch: bool,
+    pub load: bool,
+    pub store: bool,
 }
 
 /// An entry of a page table, as its 64 bits.
@@ -255,5 +265,26 @@ impl Pte {
             return None;
         }
         Some(self.frame())
+    }
+
+    /// What user code reaches by the entry as the last of a walk, where RAM has so many frames; None where the
+    /// page isn't one of RAM's.
+    #[tactic(auto, using(crate::proofs::Words::allowed_outside, crate::proofs::Words::allowed_inside))]
+    pub(crate) fn page(self, frames: u32) -> Option<Reached>
+        requires { frames ≤ FRAMES_MAX }
+        ensures fetch { (offset : ℕ) → MatchOption result (allowed Fetch (entry_of frames self) offset ≡ None) (λ r. allowed Fetch (entry_of frames self) offset ≡ (if r.fetch then Some (r.frame, offset) else None)) }
+        ensures load { (offset : ℕ) → MatchOption result (allowed Load (entry_of frames self) offset ≡ None) (λ r. allowed Load (entry_of frames self) offset ≡ (if r.load then Some (r.frame, offset) else None)) }
+        ensures store { (offset : ℕ) → MatchOption result (allowed Store (entry_of frames self) offset ≡ None) (λ r. allowed Store (entry_of frames self) offset ≡ (if r.store then Some (r.frame, offset) else None)) }
+        ensures inside { IfSome result (λ r. r.frame < frames) }
+    {
+        if !self.is_in_ram(frames) {
+            return None;
+        }
+        Some(Reached {
+            frame: self.frame(),
+            fetch: self.permits(Access::Fetch),
+            load: self.permits(Access::Load),
+            store: self.permits(Access::Store),
+        })
     }
 }

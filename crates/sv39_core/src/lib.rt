@@ -10,5 +10,5 @@ mod entry;
 mod tests;
 mod walking;
 
-pub use entry::{Entry, Pte};
-pub use walking::{read_entry, read_table, split, walk};
+pub use entry::{Entry, Pte, Reached};
+pub use walking::{reach, read_entry, read_table, split, walk};

@@ -1,7 +1,7 @@
 //! The bits of entries, and walks through three tables.
 ghost use Rattle.std.specs.Prelude.{◌≡◌, length, IfOk};
 
-use crate::{Pte, split, walk};
+use crate::{Pte, Reached, reach, split, walk};
 use phys_ram::Ram;
 use std::test::Fail;
 use xk_base::{Access, Cause, Frame, Perm, Rights};
@@ -52,6 +52,32 @@ fn a_leaf_needs_a_for_each_access_and_d_for_a_store(rt: HostRuntime) -> Result<(
         walk(&unused, root, 0x5010, Access::Load),
         Err(Cause::LoadPageFault)
     );
+    Ok(())
+}
+
+#[test]
+fn one_walk_tells_each_access_that_reaches_a_page(rt: HostRuntime) -> Result<(), Fail> {
+    let root = Frame::new(0);
+    // R and W; the same without D, without A, without U; and R and X
+    let leaves = [
+        (0x2000_0CD7, false, true, true),
+        (0x2000_0C57, false, true, false),
+        (0x2000_0C97, false, false, false),
+        (0x2000_0CC7, false, false, false),
+        (0x2000_0CDB, true, true, false),
+    ];
+    for (leaf, fetch, load, store) in leaves {
+        let ram = three_tables(rt, leaf)?;
+        let reached = Reached {
+            frame: Frame::new(3),
+            fetch,
+            load,
+            store,
+        };
+        assert_eq!(rt; reach(&ram, root, 0x5010), Some(reached));
+        assert_eq!(rt; reach(&ram, root, 0x6000), None);
+        assert_eq!(rt; reach(&ram, root, 0x40_0000_5010), None);
+    }
     Ok(())
 }
 

@@ -1,8 +1,10 @@
 //! The walk from a virtual address to a frame.
-ghost use Rattle.std.specs.Prelude.{ℕ, ◌≡◌, ◌<◌, ◌/◌, ◌%◌, ◌^◌, [], ◌∷◌, length, true, false, Some, None, IfOk, IfSome, option_map, MatchResult, MatchOption};
-ghost use Rattle.sv39_core.specs.Sv39.{allowed, entry_at, is_canonical, table_of, walked, page_fault};
+ghost use Rattle.std.specs.Prelude.{ℕ, ◌≡◌, ◌<◌, ◌/◌, ◌%◌, ◌^◌, [], ◌∷◌, length, true, false, if◌then◌else◌, Some, None, IfOk, IfSome, MatchResult, MatchOption};
+ghost use Rattle.xk_base.specs.declared.access.Access.{Access};
+ghost use Rattle.xk_base.specs.declared.access.Access.TheVariants.{Fetch, Load, Store};
+ghost use Rattle.sv39_core.specs.Sv39.{allowed, entry_at, entry_of, is_canonical, table_of, walked, page_fault};
 
-use crate::entry::{Entry, Pte};
+use crate::entry::{Entry, Pte, Reached};
 use phys_ram::Ram;
 use xk_base::{Access, Cause, Frame};
 
@@ -41,14 +43,16 @@ pub fn split(va: u64) -> Option<[usize; 3]>
     ])
 }
 
-/// The frame that an access by user code reaches by entry `i`, below 512, of the lowest table of a walk.
-fn read_page(ram: &Ram, table: Frame, i: usize, access: Access) -> Option<Frame>
-    requires table_in { table < length ram.now }
-    requires entry_in { i < 512 }
-    ensures allowed { (offset : ℕ) → allowed access (entry_at ram.now table i) offset ≡ option_map (λ f. (f, offset)) result }
-    ensures inside { IfSome result (λ f. f < length ram.now) }
+/// The last entry on the way to a virtual address through the tables below a root. None where a walk ends before it:
+/// the address isn't canonical, or an entry leads to no table.
+fn last_entry(ram: &Ram, root: Frame, va: u64) -> Option<Pte>
+    requires { root < length ram.now }
+    ensures { MatchOption result ((access : Access) → walked ram.now root va access ≡ None) (λ pte. (access : Access) → walked ram.now root va access ≡ allowed access (entry_of (length ram.now) pte) (va % 4096)) }
 {
-    Pte::from_bits(ram.read_u64(table, i)).reached(access, ram.frames())
+    let indexes = split(va)?;
+    let upper = read_table(ram, root, indexes[0])?;
+    let lower = read_table(ram, upper, indexes[1])?;
+    Some(Pte::from_bits(ram.read_u64(lower, indexes[2])))
 }
 
 fn page_fault(access: Access) -> Cause
@@ -68,17 +72,23 @@ pub fn walk(ram: &Ram, root: Frame, va: u64, access: Access) -> Result<(Frame, u
     ensures walked { MatchResult result (λ to. walked ram.now root va access ≡ Some (to.0, to.1)) (λ cause. (walked ram.now root va access ≡ None) × (cause ≡ page_fault access)) }
     ensures inside { IfOk result (λ to. (to.0 < length ram.now) × (to.1 < 2 ^ 12)) }
 {
-    let Some(indexes) = split(va) else {
+    let Some(entry) = last_entry(ram, root, va) else {
         return Err(page_fault(access));
     };
-    let Some(upper) = read_table(ram, root, indexes[0]) else {
-        return Err(page_fault(access));
-    };
-    let Some(lower) = read_table(ram, upper, indexes[1]) else {
-        return Err(page_fault(access));
-    };
-    let Some(frame) = read_page(ram, lower, indexes[2], access) else {
+    let Some(frame) = entry.reached(access, ram.frames()) else {
         return Err(page_fault(access));
     };
     Ok((frame, (va % 4096) as usize))
+}
+
+/// The frame of the page at a virtual address, through the tables below a root, and for each kind of access
+/// whether `walk` succeeds. None only where it succeeds for no kind.
+pub fn reach(ram: &Ram, root: Frame, va: u64) -> Option<Reached>
+    requires { root < length ram.now }
+    ensures fetch { MatchOption result (walked ram.now root va Fetch ≡ None) (λ r. walked ram.now root va Fetch ≡ (if r.fetch then Some (r.frame, va % 4096) else None)) }
+    ensures load { MatchOption result (walked ram.now root va Load ≡ None) (λ r. walked ram.now root va Load ≡ (if r.load then Some (r.frame, va % 4096) else None)) }
+    ensures store { MatchOption result (walked ram.now root va Store ≡ None) (λ r. walked ram.now root va Store ≡ (if r.store then Some (r.frame, va % 4096) else None)) }
+    ensures inside { IfSome result (λ r. r.frame < length ram.now) }
+{
+    last_entry(ram, root, va)?.page(ram.frames())
 }

@@ -1,6 +1,6 @@
--- The last items of a list, item by item.
-use Rattle.std.proofs.Common.{◌≡◌, ℕ, zero, suc, ◌+◌, ◌-◌, ◌≤◌, List, [], ◌∷◌, ◌++◌, length, drop, refl, sym, ap, ◌∙◌, subst, arith, append-nil, append_assoc, length-append, replicate, take, min}
-use Rattle.std.proofs.lemmas.List.{drop-append-le, length-drop, replicate_more, replicate-append-replicate, take-replicate}
+-- The last items of a list.
+use Rattle.std.proofs.Common.{◌≡◌, ℕ, zero, suc, ◌+◌, ◌-◌, ◌≤◌, List, [], ◌∷◌, ◌++◌, length, drop, refl, sym, ap, ◌∙◌, subst, arith, append-nil, length-append}
+use Rattle.std.proofs.lemmas.List.{drop-append-le, length-drop}
 use Rattle.circular_buffer.specs.Buffer.{Buffer, buffer, keep_last}
 
 drop-twice : {X : Type 0} (n m : ℕ) (xs : List X) → drop m (drop n xs) ≡ drop (n + m) xs
@@ -50,27 +50,6 @@ module _ {X : Type 0} where
 
   pub pushed : (b : Buffer X) (x : X) (after : Buffer X) → after ≡ buffer (keep_last b.capacity (b.items ++ x ∷ [])) b.capacity → length after.items ≤ after.capacity
   pushed b x after is = subst (λ (a : Buffer X). length a.items ≤ a.capacity) (sym is) (kept-within b.capacity (b.items ++ x ∷ []))
-
-  -- the same item again and again
-  pub push-none : (b : Buffer X) (x : X) → length b.items ≤ b.capacity → b ≡ buffer (keep_last b.capacity (b.items ++ replicate 0 x)) b.capacity
-  push-none b x fits = ap (λ zs. buffer zs b.capacity) (sym (keep-all b.capacity b.items fits))
-
-  pub push-more : (b now after : Buffer X) (x : X) (i : ℕ) → now ≡ buffer (keep_last b.capacity (b.items ++ replicate i x)) b.capacity → after ≡ buffer (keep_last now.capacity (now.items ++ x ∷ [])) now.capacity
-      → after ≡ buffer (keep_last b.capacity (b.items ++ replicate (i + 1) x)) b.capacity
-  push-more b now after x i before is =
-      is ∙ ap (λ (m : Buffer X). buffer (keep_last m.capacity (m.items ++ x ∷ [])) m.capacity) before
-      ∙ ap (λ zs. buffer zs b.capacity) (keep-more b.capacity (b.items ++ replicate i x) (x ∷ []) ∙ ap (keep_last b.capacity) (append_assoc b.items (replicate i x) (x ∷ []) ∙ ap (λ zs. b.items ++ zs) (replicate_more i x)))
-
-  -- a row of it, or the part of a row that is left
-  pub row-pushed : (b now after : Buffer X) (x : X) (count left pushed full : ℕ) → left ≤ count → pushed ≡ min left full → now ≡ buffer (keep_last b.capacity (b.items ++ replicate (count - left) x)) b.capacity
-      → after ≡ buffer (keep_last now.capacity (now.items ++ take pushed (replicate full x))) now.capacity → after ≡ buffer (keep_last b.capacity (b.items ++ replicate (count - (left - pushed)) x)) b.capacity
-  row-pushed b now after x count left pushed full within least before is =
-      let done : ℕ = count - left in
-      let part : take pushed (replicate full x) ≡ replicate pushed x = take-replicate pushed full x (omega (arith, least)) in
-      let sum : done + pushed ≡ count - (left - pushed) = omega (arith, within, least) in
-      let behind : replicate done x ++ take pushed (replicate full x) ≡ replicate (count - (left - pushed)) x = ap (λ zs. replicate done x ++ zs) part ∙ replicate-append-replicate done pushed x ∙ ap (λ k. replicate k x) sum in
-      is ∙ ap (λ (m : Buffer X). buffer (keep_last m.capacity (m.items ++ take pushed (replicate full x))) m.capacity) before
-      ∙ ap (λ zs. buffer zs b.capacity) (keep-more b.capacity (b.items ++ replicate done x) (take pushed (replicate full x)) ∙ ap (keep_last b.capacity) (append_assoc b.items (replicate done x) (take pushed (replicate full x)) ∙ ap (λ zs. b.items ++ zs) behind))
 
   pub pushed-often : (b : Buffer X) (xs : List X) (after : Buffer X) → after ≡ buffer (keep_last b.capacity (b.items ++ xs)) b.capacity → length after.items ≤ after.capacity
   pushed-often b xs after is = subst (λ (a : Buffer X). length a.items ≤ a.capacity) (sym is) (kept-within b.capacity (b.items ++ xs))

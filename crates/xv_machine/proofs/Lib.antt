@@ -14,3 +14,4 @@ pub mod Repeated
 pub mod Sent
 pub mod Idle
 pub mod Advances
+pub mod Written

@@ -10,3 +10,4 @@ pub mod Reached
 pub mod Sound
 pub mod Steps
 pub mod Stretches
+pub mod Written

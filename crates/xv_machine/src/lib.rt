@@ -16,6 +16,7 @@ mod step;
 #[cfg(test)]
 mod tests;
 mod trace;
+mod trace_runs;
 
 pub use devices::{ByteSink, Counted, DeviceFault, KeySource};
 pub use driving::{DriveEnd, DriveError, RunPlan, drive};

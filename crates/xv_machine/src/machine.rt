@@ -1,5 +1,5 @@
 //! The machine.
-ghost use Rattle.std.specs.Prelude.{◌≡◌, ◌≤◌, ◌∷◌, ◌++◌, [], is_some, length, map, replicate};
+ghost use Rattle.std.specs.Prelude.{◌≡◌, ◌∷◌, ◌++◌, [], is_some, map, replicate};
 ghost use Rattle.circular_buffer.specs.Buffer.{buffer, keep_last};
 ghost use Rattle.xv_machine.specs.declared.trace.Note.TheVariants.{Stepped};
 ghost use Rattle.kcall_core.specs.State.{named_file};
@@ -11,7 +11,7 @@ ghost use Rattle.xv_machine.specs.Events.{outcome_of, halted_by};
 use crate::event::{Event, Outcome};
 use crate::step::{Stretch, advance, step};
 use crate::trace::Note;
-use circular_buffer::HeapCircularBuffer;
+use crate::trace_runs::Trace;
 use hart_core::Hart;
 use kcall_core::{ChildState, Kernel, first_refused};
 use rv64i_core::Regs;
@@ -19,9 +19,6 @@ use std::alloc::Global;
 use std::marker::Model;
 use xk_base::limits::{FRAMES_MAX, FRAMES_MIN, TRACE_MAX};
 use xk_base::{BootError, Pid, Program};
-
-// How many equal notes the trace takes at once.
-const ROW: usize = 32;
 
 /// The numbers that a machine is made with.
 #[derive(Clone, Copy, Debug, PartialEq, Eq)]
@@ -75,60 +72,29 @@ fn halted_by(outcome: &Outcome) -> Option<i32>
     }
 }
 
-// Puts a note behind the others. Where there is no room, the oldest goes.
+// Puts a note behind the others of a trace.
 #[cold]
 #[inline(never)]
-fn push(trace: &mut HeapCircularBuffer<Note>, note: Note)
+fn push(trace: &mut Trace, note: Note)
     ensures { trace.new ≡ buffer (keep_last trace.old.capacity (trace.old.items ++ note ∷ [])) trace.old.capacity }
 {
-    trace.push_back(note);
+    trace.push(note);
 }
 
-// Puts the note of a done instruction behind the others. Where there is no room, the oldest goes.
+// Puts the note of a done instruction behind the others of a trace.
 #[inline(never)]
-fn push_step(trace: &mut HeapCircularBuffer<Note>, pid: Pid)
+fn push_step(trace: &mut Trace, pid: Pid)
     ensures { trace.new ≡ buffer (keep_last trace.old.capacity (trace.old.items ++ Stepped pid ∷ [])) trace.old.capacity }
 {
-    trace.push_back(Note::Stepped { pid });
+    trace.push(Note::Stepped { pid });
 }
 
-// Puts the note behind the others so often, one by one.
-fn push_each(trace: &mut HeapCircularBuffer<Note>, note: &Note, count: u32)
-    requires { length trace.old.items ≤ trace.old.capacity }
-    ensures { trace.new ≡ buffer (keep_last trace.old.capacity (trace.old.items ++ replicate count note.now)) trace.old.capacity }
-{
-    for pushed in 0..count {
-        trace.push_back(*note);
-    }
-}
-
-// Puts the note behind the others so often, row by row. The last row may be a part of one.
+// Puts a note behind the others of a trace so often.
 #[inline(never)]
-fn push_rows(trace: &mut HeapCircularBuffer<Note>, note: &Note, count: u32)
-    requires { length trace.old.items ≤ trace.old.capacity }
+fn push_often(trace: &mut Trace, note: &Note, count: u32)
     ensures { trace.new ≡ buffer (keep_last trace.old.capacity (trace.old.items ++ replicate count note.now)) trace.old.capacity }
 {
-    let row = [*note; ROW];
-    let mut left = count as usize;
-    'rows: while left > 0 {
-        let pushed = left.min(ROW);
-        trace.extend_from_slice(&row[..pushed]);
-        left -= pushed;
-    }
-}
-
-// Puts the note behind the others so often. Fewer notes than a row go one by one, since a row is filled before
-// any of it is put. Rows stand in a function of their own: its room is cleared at each call.
-#[inline(never)]
-fn push_often(trace: &mut HeapCircularBuffer<Note>, note: &Note, count: u32)
-    requires { length trace.old.items ≤ trace.old.capacity }
-    ensures { trace.new ≡ buffer (keep_last trace.old.capacity (trace.old.items ++ replicate count note.now)) trace.old.capacity }
-{
-    if (count as usize) < ROW {
-        push_each(trace, note, count);
-    } else {
-        push_rows(trace, note, count);
-    }
+    trace.push_often(note, count);
 }
 
 // Whether it is a turn.
@@ -149,7 +115,7 @@ pub struct Machine {
     /// The status with which process 1 went, after which nothing runs.
     halted: Option<i32>,
     /// The notes of the last events.
-    trace: HeapCircularBuffer<Note>,
+    trace: Trace,
 }
 
 impl Model for Machine {
@@ -227,14 +193,14 @@ impl Machine {
         ensures sound { IfOk result IsSoundMachine }
         ensures trace { IfOk result (HasEmptyTrace notes) }
     {
-        match HeapCircularBuffer::with_capacity(alloc, notes as usize) {
+        match Trace::with_capacity(alloc, notes) {
             Ok(trace) => Machine::start(kernel, trace),
             Err(_) => Err(BootError::Memory),
         }
     }
 
     // A machine with this kernel, which has no process yet, and this trace, which has no note yet.
-    fn start(mut kernel: Kernel, trace: HeapCircularBuffer<Note>) -> Result<Machine, BootError>
+    fn start(mut kernel: Kernel, trace: Trace) -> Result<Machine, BootError>
         requires blank { IsBlank kernel }
         requires whole { (hart : Hart) → kernels.IsIdle hart → IsWhole kernel hart }
         requires program { is_some (init_of (map named_file kernel.programs.items)) ≡ true }
@@ -552,6 +518,6 @@ impl Machine {
     pub fn trace(&self, place: usize) -> Option<Note>
         ensures { result ≡ slice_get self.now.notes place }
     {
-        self.trace.get(place).copied()
+        self.trace.get(place)
     }
 }

@@ -175,6 +175,28 @@ fn a_trace_keeps_the_last_notes(rt: HostRuntime) -> Result<(), Fail> {
     Ok(())
 }
 
+// So many Runs at most, then a key, and the ten notes that are then kept: a turn and steps of process 1.
+#[rattlefmt::skip]
+const ROWS: [(u32, &str); 5] = [
+    (1, "turn 1,key 97 1,"),
+    (4, "turn 1,key 97 1,step 1,step 1,step 1,step 1,key 97 1,"),
+    (3, "key 97 1,step 1,step 1,step 1,step 1,key 97 1,step 1,step 1,step 1,key 97 1,"),
+    (2, "step 1,step 1,key 97 1,step 1,step 1,step 1,key 97 1,step 1,step 1,key 97 1,"),
+    (1_000, "step 1,step 1,step 1,step 1,step 1,step 1,step 1,step 1,step 1,key 97 1,"),
+];
+
+#[test]
+fn a_trace_keeps_rows_of_equal_notes(rt: HostRuntime) -> Result<(), Fail> {
+    // `j` to itself.
+    let mut scene = Scene::with_trace(rt.alloc(), 10, &[0x0000_006F])?;
+    for (most, notes) in ROWS {
+        scene.run(most);
+        scene.key(b'a');
+        assert_eq!(rt; scene.notes_in_words(rt.alloc())?.as_str(), notes);
+    }
+    Ok(())
+}
+
 #[test]
 fn notes_are_lines_of_a_trace(rt: HostRuntime) -> Result<(), Fail> {
     let pid = first();

@@ -207,6 +207,22 @@ impl Scene {
         self.machine.event(Event::Send)
     }
 
+    /// The notes that are kept, with a comma behind each.
+    pub(super) fn notes_in_words(&self, alloc: Global) -> Result<String, AllocError> {
+        let mut words = String::new(alloc);
+        for place in 0..self.machine.trace_len() {
+            if let Some(note) = self.machine.trace(place) {
+                words.push_str(format!(in alloc; "{note},")?.as_str())?;
+            }
+        }
+        Ok(words)
+    }
+
+    /// Sends Run so many times at most.
+    pub(super) fn run(&mut self, most: u32) {
+        self.machine.run(most);
+    }
+
     /// Sends Run so many times and once more, and tells what came last.
     pub(super) fn last(&mut self, others: usize) -> Outcome {
         for _ in 0..others {
