@@ -45,11 +45,13 @@ rounds=1630435
 mkdir "$work/loop"
 "$here/loop.py" "$rounds" xv6 "$work/loop/init"
 rustc --edition 2021 -O -o "$work/interpreter" "$here/../pages/plain.rs"
+rustc --edition 2021 -O -o "$work/jumps" "$here/dispatch.rs"
 ours() { "$xv" --rounds 1000000 --quantum 1000 "$work/loop/init"; }
 plain() { "$work/interpreter" "$rounds"; }
+dispatch() { "$work/jumps" "$rounds"; }
 untraced() { ours; }
 traced() { "$xv" --rounds 1000000 --quantum 1000 --trace 65536 "$work/loop/init"; }
-others=(plain)
+others=(plain dispatch)
 if command -v qemu-riscv64 >/dev/null; then
     "$here/loop.py" "$rounds" linux "$work/linux"
     chmod +x "$work/linux"
