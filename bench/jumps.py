@@ -1,8 +1,8 @@
 #!/usr/bin/env python3
 """Counts how often a program meets jumps that lie badly: jumps.py PROGRAM [WORDS].
 
-A jump lies badly where it crosses a multiple of 32 bytes or ends at one; a comparison that it is decoded together
-with counts as its begin. Intel's processors of 2015 to 2019 don't keep such a jump decoded (Intel, "Mitigations for
+A jump lies badly where it crosses a multiple of 32 bytes or ends at one; a comparison or a sum that it is decoded
+together with counts as its begin. Intel's processors of 2015 to 2019 don't keep such a jump decoded (Intel, "Mitigations for
 Jump Conditional Code Erratum"). valgrind's callgrind counts, and objdump tells where each jump lies.
 
 It prints how many machine instructions, jumps and badly lying jumps were met, and the ten that were met most often.
@@ -57,6 +57,11 @@ def instructions(program):
             yield function, int(address, 16), len(bytes_.split()), name, rest.split("<")[0].strip()
 
 
+def is_joined(name):
+    """Also where a letter behind the name tells the width."""
+    return name in JOINED or name[:-1] in JOINED
+
+
 def lies_badly(start, end):
     return start // BLOCK != (end - 1) // BLOCK or end % BLOCK == 0
 
@@ -70,7 +75,7 @@ def main():
         if name.startswith(("j", "call", "ret")):
             met = counts[address]
             looks_at_flags = name.startswith("j") and name != "jmp"
-            start = before if looks_at_flags and before_name.rstrip("bwlq") in JOINED else address
+            start = before if looks_at_flags and is_joined(before_name) else address
             jumps += met
             if lies_badly(start, address + size):
                 bad += met

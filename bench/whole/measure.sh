@@ -40,7 +40,7 @@ compare() {
     echo
 }
 
-# 150,000,028 instructions of the loop of `pages`: 92 in each of its rounds, and eight around it.
+# 150,000,024 instructions of the loop of `pages`: 92 in each of its rounds, and four around it, without the ECALL.
 rounds=1630435
 mkdir "$work/loop"
 "$here/loop.py" "$rounds" xv6 "$work/loop/init"
@@ -58,7 +58,7 @@ if command -v qemu-riscv64 >/dev/null; then
     jit() { qemu-riscv64 "$work/linux"; }
     others+=(jit)
 fi
-compare "150,000,028 instructions" ours "${others[@]}"
+compare "150,000,024 instructions" ours "${others[@]}"
 compare "the same, with a trace of 65,536 notes" traced untraced
 
 sleepers() { "$xv" --frames 1024 --rounds 100000 --quantum 1000 "$here/sleepers/init.s"; }
