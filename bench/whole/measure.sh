@@ -46,12 +46,16 @@ mkdir "$work/loop"
 "$here/loop.py" "$rounds" xv6 "$work/loop/init"
 rustc --edition 2021 -O -o "$work/interpreter" "$here/../pages/plain.rs"
 rustc --edition 2021 -O -o "$work/jumps" "$here/dispatch.rs"
+rustc --edition 2021 -O -o "$work/fused" "$here/fused.rs"
 ours() { "$xv" --rounds 1000000 --quantum 1000 "$work/loop/init"; }
 plain() { "$work/interpreter" "$rounds"; }
 dispatch() { "$work/jumps" "$rounds"; }
+by_one() { "$work/fused" 1 "$rounds"; }
+by_two() { "$work/fused" 2 "$rounds"; }
+by_three() { "$work/fused" 3 "$rounds"; }
 untraced() { ours; }
 traced() { "$xv" --rounds 1000000 --quantum 1000 --trace 65536 "$work/loop/init"; }
-others=(plain dispatch)
+others=(plain dispatch by_one by_two by_three)
 if command -v qemu-riscv64 >/dev/null; then
     "$here/loop.py" "$rounds" linux "$work/linux"
     chmod +x "$work/linux"
