@@ -20,3 +20,4 @@ pub mod PlainPrice
 pub mod InPlace
 pub mod Parts
 pub mod FromFrames
+pub mod Permits

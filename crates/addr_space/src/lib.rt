@@ -37,6 +37,7 @@ use sv39_core::{Entry, Pte, read_entry, read_table};
 
 mod absent;
 mod across;
+mod permitting;
 #[cfg(test)]
 mod tests;
 

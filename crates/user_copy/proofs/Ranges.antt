@@ -1,5 +1,5 @@
 -- Ranges of a process's memory, page by page.
-use Rattle.std.proofs.Common.{◌≡◌, ℕ, zero, suc, ◌+◌, ◌/◌, ◌%◌, ◌^◌, ◌<◌, ◌≤◌, Bool, true, false, ◌&&◌, List, Option, Some, None, inl, inr, refl, sym, ap, ◌∙◌, arith, ◌-◌}
+use Rattle.std.proofs.Common.{◌≡◌, ℕ, zero, suc, ◌+◌, ◌*◌, ◌/◌, ◌%◌, ◌^◌, ◌<◌, ◌≤◌, Bool, true, false, ◌&&◌, List, Option, Some, None, inl, inr, refl, sym, ap, ◌∙◌, arith, ◌-◌}
 use Rattle.std.proofs.lemmas.Bool.{cases_lt, and_from, false≢true}
 use Rattle.std.specs.List.{list_all, range_with_len}
 use Rattle.std.specs.Option.{option_map}
@@ -10,6 +10,7 @@ use Rattle.xk_base.specs.Bytes.{IsMapped, image_byte}
 use Rattle.addr_space.specs.declared.Space.{Space}
 use Rattle.addr_space.specs.Changes.{perm_of_page}
 use Rattle.addr_space.specs.Space.{image_of}
+use Rattle.addr_space.specs.Permits.{page_permits}
 use Rattle.addr_space.proofs.Touching.{LowPages, low-pages, touched-low, whole-byte, whole-there}
 use Rattle.user_copy.specs.declared.AbsentPages.{AbsentPages}
 use Rattle.user_copy.specs.declared.AbsentPages.TheVariants.{Refused, Zeros}
@@ -61,6 +62,17 @@ reaches-more access i a d n before here within = all-from (d + n) a (may access 
   | inr high ↦ same-page access i (a + k) (a + d) (omega (arith, lt, high, within)) ∙ here
 ])
 
+-- parts of so many pages more
+pub reaches-pages : (access : Access) (i : Image) (a d n p : ℕ) → reaches access i a d ≡ true → ((k : ℕ) → k < p → allows access (option_map perm_of_page (get i.pages ((a + d) / 4096 + k))) ≡ true) → (a + d) % 4096 + n ≤ 4096 * p → reaches access i a (d + n) ≡ true
+unfolding reaches
+reaches-pages access i a d n p before each within = all-from (d + n) a (may access i) (λ k lt. elim (cases_lt k d) [
+  | inl low ↦ all-at d a (may access i) before k low
+  | inr high ↦
+      let more = (a + k) / 4096 - (a + d) / 4096 in
+      let page : (a + k) / 4096 ≡ (a + d) / 4096 + more = omega (arith, high) in
+      ap (λ v. allows access (option_map perm_of_page (get i.pages v))) page ∙ each more (omega (arith, lt, high, within))
+])
+
 -- a byte that can't be reached
 pub reaches-not : (access : Access) (i : Image) (a n d : ℕ) → d < n → may access i (a + d) ≡ false → reaches access i a n ≡ false
 unfolding reaches
@@ -100,6 +112,14 @@ seen-byte Zeros ram space a = whole-byte (image_of ram space) a (low-pages ram s
 pub seen-there : (absent : AbsentPages) (ram : List (List ℕ)) (space : Space) (v : ℕ) (page : Page) → get (image_of ram space).pages v ≡ Some page → get (image_seen absent (image_of ram space)).pages v ≡ Some page
 seen-there Refused ram space v page is = is
 seen-there Zeros ram space v page is = whole-there (image_of ram space) v page (low-pages ram space) is
+
+-- a page that permits an access is seen as one that does
+pub seen-permitted : (absent : AbsentPages) (ram : List (List ℕ)) (space : Space) (access : Access) (v : ℕ) → page_permits access (get (image_of ram space).pages v) ≡ true → allows access (option_map perm_of_page (get (image_seen absent (image_of ram space)).pages v)) ≡ true
+seen-permitted absent ram space access v = by (get (image_of ram space).pages v) refl
+  where
+    by : (o : Option Page) → get (image_of ram space).pages v ≡ o → page_permits access o ≡ true → allows access (option_map perm_of_page (get (image_seen absent (image_of ram space)).pages v)) ≡ true
+    by None is permitted = absurd (false≢true permitted)
+    by (Some page) is permitted = ap (λ o. allows access (option_map perm_of_page o)) (seen-there absent ram space v page is) ∙ permitted
 
 -- what is there lies below 2^38
 pub mapped-inside : (i : Image) (a n : ℕ) → LowPages i → IsMapped i a n → (k : ℕ) → k < n → a + k < 2 ^ 38

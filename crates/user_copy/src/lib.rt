@@ -95,6 +95,28 @@ fn rights_of(space: &Space, ram: &Ram, page: Vpn, absent: AbsentPages) -> Option
     }
 }
 
+/// How many pages, one after another from a page on, user code may make an access to: 0 where it may not make it to
+/// the first one, and about as many as are asked for where it may make it to all.
+fn pages_reached(
+    space: &Space,
+    ram: &Ram,
+    page: Vpn,
+    access: Access,
+    absent: AbsentPages,
+    most: usize,
+) -> usize
+    requires { IsSpace ram.now space.now }
+    ensures few { result ≤ 512 }
+    ensures each { (k : ℕ) → k < result → allows access (option_map perm_of_page (get (image_seen absent (image_of ram.now space.now)).pages (page + k))) ≡ true }
+    ensures none { result ≡ 0 → allows access (option_map perm_of_page (get (image_seen absent (image_of ram.now space.now)).pages page)) ≡ false }
+{
+    let present = space.pages_permitting(ram, page, access, most);
+    if present > 0 {
+        return present;
+    }
+    usize::from(allows(rights_of(space, ram, page, absent), access))
+}
+
 /// Whether user code may make an access to each byte of a range.
 fn reaches(
     space: &Space,
@@ -112,10 +134,12 @@ fn reaches(
         let Some(place) = place_at(address, done) else {
             return false;
         };
-        if !allows(rights_of(space, ram, place.page, absent), access) {
+        let most = (len - done) / 4096 + 1;
+        let pages = pages_reached(space, ram, place.page, access, absent, most);
+        if pages == 0 {
             return false;
         }
-        done += (4096 - place.offset).min(len - done);
+        done += (4096 * pages - place.offset).min(len - done);
     }
     true
 }

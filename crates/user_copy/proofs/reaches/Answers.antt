@@ -1,10 +1,10 @@
-use Rattle.std.proofs.Common.{rules, arith, ◌≡◌, ◌≤◌, ◌+◌, ◌/◌, ◌%◌, ◌^◌, true, false, sym, ap, ◌∙◌}
+use Rattle.std.proofs.Common.{rules, arith, ◌≡◌, ◌≢◌, ℕ, zero, suc, ◌≤◌, ◌<◌, ◌+◌, ◌-◌, ◌*◌, ◌/◌, ◌%◌, ◌^◌, true, false, refl, sym, ap, ◌∙◌}
 use Rattle.std.specs.Option.{option_map}
 use Rattle.std.specs.FinMap.{get}
 use Rattle.addr_space.specs.Changes.{perm_of_page}
 use Rattle.addr_space.specs.Space.{image_of}
 use Rattle.user_copy.specs.Reach.{allows, may, image_seen}
-use Rattle.user_copy.proofs.Ranges.{reaches-none, reaches-more, reaches-not, may-past, seen-low}
+use Rattle.user_copy.proofs.Ranges.{reaches-none, reaches-pages, reaches-not, may-past, seen-low}
 use Rattle.user_copy.proofs.reaches.Goals as goal
 
 pub pages-init : goal.pages-init
@@ -16,14 +16,12 @@ returns-in_default c =
     sym (reaches-not c.args.access (image_seen c.args.absent (image_of c.args.ram.now c.args.space.now)) c.args.address c.args.len c.pages.done (search rules)
     (may-past c.args.access (image_seen c.args.absent (image_of c.args.ram.now c.args.space.now)) (c.args.address + c.pages.done) (seen-low c.args.absent c.args.ram.now c.args.space.now) far))
 
-pub returns-then-not-allows : goal.returns-then-not-allows
-returns-then-not-allows c =
+pub returns-then-pages-eq0 : goal.returns-then-pages-eq0
+returns-then-pages-eq0 c =
     let i = image_seen c.args.absent (image_of c.args.ram.now c.args.space.now) in
     let quotient : c.in-Some.place.page ≡ (c.args.address + c.pages.done) / 4096 = search rules in
-    let refused : c.allows.result ≡ false = search rules in
     let here : may c.args.access i (c.args.address + c.pages.done) ≡ false =
-    ap (λ v. allows c.args.access (option_map perm_of_page (get i.pages v))) (sym quotient)
-    ∙ ap (allows c.args.access) (sym c.rights_of.ensures) ∙ sym c.allows.ensures ∙ refused in
+    ap (λ v. allows c.args.access (option_map perm_of_page (get i.pages v))) (sym quotient) ∙ c.pages_reached-pages.ensures.none c.if-pages-eq0.true in
     sym (reaches-not c.args.access i c.args.address c.args.len c.pages.done (search rules) here)
 
 pub pages-preserved : goal.pages-preserved
@@ -31,10 +29,13 @@ pages-preserved c =
     let i = image_seen c.args.absent (image_of c.args.ram.now c.args.space.now) in
     let quotient : c.in-Some.place.page ≡ (c.args.address + c.pages.done) / 4096 = search rules in
     let remainder : c.in-Some.place.offset ≡ (c.args.address + c.pages.done) % 4096 = search rules in
-    let allowed : c.allows.result ≡ true = search rules in
-    let here : may c.args.access i (c.args.address + c.pages.done) ≡ true =
-    ap (λ v. allows c.args.access (option_map perm_of_page (get i.pages v))) (sym quotient)
-    ∙ ap (allows c.args.access) (sym c.rights_of.ensures) ∙ sym c.allows.ensures ∙ allowed in
+    let each : (k : ℕ) → k < c.pages_reached-pages.result → allows c.args.access (option_map perm_of_page (get i.pages ((c.args.address + c.pages.done) / 4096 + k))) ≡ true =
+    λ k lt. ap (λ v. allows c.args.access (option_map perm_of_page (get i.pages (v + k)))) (sym quotient) ∙ c.pages_reached-pages.ensures.each k lt in
     let fits : c.pages.done + c.min-done.result ≤ c.args.len = search rules in
-    let within : (c.args.address + c.pages.done) % 4096 + c.min-done.result ≤ 4096 = search rules in
-    (fits, reaches-more c.args.access i c.args.address c.pages.done c.min-done.result c.pages.invariant.1 here within)
+    let less : c.min-done.result ≤ 4096 * c.pages_reached-pages.result - c.in-Some.place.offset = search rules in
+    let some : 4096 ≤ 4096 * c.pages_reached-pages.result = some-page c.pages_reached-pages.result c.if-pages-eq0.false in
+    (fits, reaches-pages c.args.access i c.args.address c.pages.done c.min-done.result c.pages_reached-pages.result c.pages.invariant.1 each (omega (arith, less, some, remainder)))
+  where
+    some-page : (n : ℕ) → n ≢ 0 → 4096 ≤ 4096 * n
+    some-page zero some = absurd (some refl)
+    some-page (suc n) some = omega arith

@@ -1,0 +1,7 @@
+use Rattle.std.proofs.Common.{◌≡◌, ℕ, ◌+◌, ◌<◌, true}
+use Rattle.sv39_core.specs.Sv39.{entry_at}
+use Rattle.addr_space.specs.Permits.{entry_permits}
+use Rattle.addr_space.proofs.permitting.entries_permitting.Given as goal
+
+abbrev pub invariant-loop-i : goal.invariant-loop-i
+invariant-loop-i l = (k : ℕ) → k < l.i → entry_permits l.access (entry_at l.ram l.table (l.from + k)) ≡ true

@@ -1,0 +1,72 @@
+//! Which accesses pages permit, many pages at a time: the lower table in which their entries stand is looked up once.
+#![tactic(auto)]
+
+ghost use Rattle.std.specs.Prelude.{◌≡◌, ℕ, ◌+◌, ◌%◌, ◌≤◌, ◌<◌, ◌⊎◌, length, true, false};
+ghost use Rattle.std.specs.FinMap.{get};
+ghost use Rattle.sv39_core.specs.Sv39.{entry_at};
+ghost use Rattle.addr_space.specs.Space.{image_of, IsSpace};
+ghost use Rattle.addr_space.specs.Permits.{page_permits, entry_permits};
+
+use crate::{Space, lower_table};
+use phys_ram::Ram;
+use sv39_core::{Entry, read_entry};
+use xk_base::{Access, Frame, Vpn};
+
+/// How many entries a table has.
+const ENTRIES: usize = 512;
+
+/// Whether the page that an entry of a lower table leads to permits an access to user code; false where it leads to
+/// none.
+#[inline(always)]
+fn entry_permits(ram: &Ram, table: Frame, i: usize, access: Access) -> bool
+    requires table_in { table < length ram.now }
+    requires entry_in { i < 512 }
+    ensures { result ≡ entry_permits access (entry_at ram.now table i) }
+{
+    let Entry::Leaf(_, perm, _, _) = read_entry(ram, table, i) else {
+        return false;
+    };
+    let rights = perm.rights();
+    match access {
+        Access::Fetch => rights.user && rights.execute,
+        Access::Load => rights.user && rights.read,
+        Access::Store => rights.user && rights.write,
+    }
+}
+
+/// How many entries of a lower table, one after another from one on, lead to pages that permit an access; `most` at
+/// most.
+fn entries_permitting(ram: &Ram, table: Frame, from: usize, access: Access, most: usize) -> usize
+    requires table_in { table < length ram.now }
+    requires from_in { from < 512 }
+    ensures few { result ≤ most }
+    ensures inside { from + result ≤ 512 }
+    ensures each { (k : ℕ) → k < result → entry_permits access (entry_at ram.now table (from + k)) ≡ true }
+    ensures ends { result < most → (from + result ≡ 512) ⊎ (entry_permits access (entry_at ram.now table (from + result)) ≡ false) }
+{
+    let count = most.min(ENTRIES - from);
+    for i in 0..count {
+        if !entry_permits(ram, table, from + i, access) {
+            return i;
+        }
+    }
+    count
+}
+
+impl Space {
+    /// How many pages, one after another from a page on, permit an access to user code: `most` at most, and none
+    /// behind the 512 pages whose entries stand in one table with the first one's.
+    pub fn pages_permitting(&self, ram: &Ram, vpn: Vpn, access: Access, most: usize) -> usize
+        requires { IsSpace ram.now self.now }
+        ensures few { result ≤ most }
+        ensures inside { vpn % 512 + result ≤ 512 }
+        ensures each { (k : ℕ) → k < result → page_permits access (get (image_of ram.now self.now).pages (vpn + k)) ≡ true }
+        ensures ends { result < most → (vpn % 512 + result ≡ 512) ⊎ (page_permits access (get (image_of ram.now self.now).pages (vpn + result)) ≡ false) }
+    {
+        let v = vpn.number() as usize;
+        let Some(lower) = lower_table(ram, self.root, v) else {
+            return 0;
+        };
+        entries_permitting(ram, lower, v % ENTRIES, access, most)
+    }
+}
