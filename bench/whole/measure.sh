@@ -65,6 +65,13 @@ fi
 compare "150,000,024 instructions" ours "${others[@]}"
 compare "the same, with a trace of 65,536 notes" traced untraced
 
+rustc --edition 2021 -O -o "$work/copied" "$here/copies.rs"
+pipe() { "$xv" --rounds 1000000 --quantum 100000 "$here/pipe/init.s"; }
+pipe_at_once() { "$xv" --rounds 1000000 --quantum 100000 "$here/pipe-at-once/init.s"; }
+copies() { "$work/copied" 400; }
+compare "400 times 1 MB through a pipe, by writes and reads of a page" pipe copies
+compare "the same by writes of 1 MB" pipe_at_once copies
+
 sleepers() { "$xv" --frames 1024 --rounds 100000 --quantum 1000 "$here/sleepers/init.s"; }
 console() { "$xv" --rounds 1000000 --quantum 1000 "$here/console/init.s"; }
 compare "100,000 rounds of 64 sleepers" sleepers
