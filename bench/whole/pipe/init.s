@@ -1,5 +1,5 @@
 # 400 times 1 MB goes from one process's memory through a pipe into another's. Each write is of a page, and each read
-# asks for as many bytes.
+# asks for as many bytes. measure.sh also puts all that is left (s4) in place of a page.
   lui a0, 257        # 256 pages, and one more, up to which the last read may ask
   li a7, 12          # sbrk
   ecall
