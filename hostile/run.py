@@ -83,15 +83,24 @@ class Trial:
                 self.tell(f"calls of devices from {number} on were short", got)
 
 
-def refuse_growths_of_test(name):
-    """Each growth that the crate's test of want of memory asks for, refused alone and with all behind it."""
+def refuse_growths_of_tests(name):
+    """Each growth that a crate's tests of want of memory ask for, refused alone and with all behind it."""
     program = os.path.join(HERE, "..", "crates", name, "out", f"{name}_tests")
     if not os.path.exists(program):
         print(f"{name}: its tests aren't built: `rt test` in its folder builds them")
         return 1
     program = os.path.abspath(program)
     listed = Traced().run([program, "--list"], HERE)[1].decode().splitlines()
-    words = [program, next(line.split(": ")[0] for line in listed if TEST in line)]
+    tests = [line.split(": ")[0] for line in listed if TEST in line]
+    if not tests:
+        print(f"{name}: it has no test of want of memory")
+        return 1
+    return max([refuse_growths_of_test(program, test) for test in tests])
+
+
+def refuse_growths_of_test(program, test):
+    """Each growth that one test asks for, refused alone and with all behind it."""
+    words = [program, test]
     number, wrong = 0, 0
     while True:
         number += 1
@@ -99,16 +108,16 @@ def refuse_growths_of_test(name):
             traced = Traced(growth=number, onwards=onwards)
             status, output, _ = traced.run(words, HERE)
             if not traced.refused:
-                print(f"{name}: {number - 1} growths refused, {wrong} wrong answers")
+                print(f"{test}: {number - 1} growths refused, {wrong} wrong answers")
                 return 1 if wrong else 0
             if status:
                 wrong += 1
-                print(f"{name}: growth {number}{' and all behind it' * onwards} refused: {output.decode()}")
+                print(f"{test}: growth {number}{' and all behind it' * onwards} refused: {output.decode()}")
 
 
 def main():
     if sys.argv[2:]:
-        return max(refuse_growths_of_test(name) for name in sys.argv[2:])
+        return max(refuse_growths_of_tests(name) for name in sys.argv[2:])
     program = os.path.abspath(sys.argv[1])
     growths = spared = calls = wrong = 0
     with tempfile.TemporaryDirectory(prefix="hostile-") as folder:

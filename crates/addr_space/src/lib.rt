@@ -38,9 +38,6 @@ use sv39_core::{Entry, Pte, read_entry, read_table};
 mod absent;
 mod across;
 mod permitting;
-#[cfg(test)]
-mod tests;
-
 use xk_base::limits::VPN_END;
 use xk_base::{Frame, NoFrames, Perm, Rights, Vpn};
 

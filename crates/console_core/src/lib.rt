@@ -7,8 +7,5 @@
 
 mod keys;
 mod rings;
-#[cfg(test)]
-mod tests;
-
 pub use keys::Echo;
 pub use rings::{Console, Pull};

@@ -12,9 +12,6 @@
 mod arg_list;
 mod building;
 mod planning;
-#[cfg(test)]
-mod tests;
-
 pub use arg_list::ArgList;
 pub use building::build;
 pub use planning::{Entry, ExecPlan, plan};

@@ -9,9 +9,6 @@ mod descriptors;
 mod file_id;
 mod open_file;
 mod table;
-#[cfg(test)]
-mod tests;
-
 pub use descriptors::Descriptors;
 pub use file_id::FileId;
 pub use open_file::{End, Entry, OpenFile, SHARERS_MAX, Target};

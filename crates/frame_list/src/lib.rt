@@ -12,9 +12,6 @@ ghost use Rattle.xk_base.specs.Frames.{copies};
 ghost use Rattle.frame_list.specs.Pool.{free_in, link, Good};
 ghost use Rattle.frame_list.specs.Traded.{Taken, Given, Untouched};
 
-#[cfg(test)]
-mod tests;
-
 use phys_ram::Ram;
 use std::alloc::Global;
 use xk_base::{BootError, Frame};

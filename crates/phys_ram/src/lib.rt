@@ -8,9 +8,6 @@
 ghost use Rattle.std.specs.Prelude.{◌≡◌, ◌≢◌, ◌+◌, ◌<◌, ◌≤◌, length, set, take, drop, replicate, IfOk, IfErr};
 ghost use Rattle.phys_ram.specs.Ram.{frame_at, word_at, with_bytes, zero_frame, IsFrameCount, IsRefused, WordWritten};
 
-#[cfg(test)]
-mod tests;
-
 use byteorder::{ByteOrder, LittleEndian};
 use std::alloc::Global;
 use std::marker::Model;

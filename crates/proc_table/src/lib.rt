@@ -7,9 +7,6 @@
 mod channel;
 mod process;
 mod table;
-#[cfg(test)]
-mod tests;
-
 pub use channel::Channel;
 pub use process::{Call, Process, State};
 pub use table::{Reaped, Table};

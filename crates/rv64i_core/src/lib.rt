@@ -21,8 +21,6 @@ mod instruction;
 mod layout;
 mod operands;
 mod registers;
-#[cfg(test)]
-mod tests;
 mod user_memory;
 mod values;
 

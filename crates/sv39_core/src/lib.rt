@@ -6,8 +6,6 @@
 #![tactic(auto)]
 
 mod entry;
-#[cfg(test)]
-mod tests;
 mod walking;
 
 pub use entry::{Entry, Pte, Reached};

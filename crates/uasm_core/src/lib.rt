@@ -21,8 +21,6 @@ mod program_end;
 mod scan;
 mod spelling;
 mod statement;
-#[cfg(test)]
-mod tests;
 mod text;
 mod words;
 

@@ -13,8 +13,6 @@ mod process_id;
 mod program;
 mod ram_frame;
 mod register;
-#[cfg(test)]
-mod tests;
 mod virtual_page;
 
 pub use access::{Access, Cause, Perm, Rights};

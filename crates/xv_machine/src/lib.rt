@@ -13,8 +13,6 @@ mod event;
 pub mod laws;
 mod machine;
 mod step;
-#[cfg(test)]
-mod tests;
 mod trace;
 mod trace_runs;
 

@@ -1,0 +1,34 @@
+//! Tests of the crates below the kernel, by their public calls: a module for each crate.
+//!
+//! A crate that has tests is proved twice by the gate, once without them and once with them. Here nothing but tests is
+//! proved, so each of them costs itself alone. Nothing stands on this crate.
+#![tactic(auto)]
+
+#[cfg(test)]
+mod address_spaces;
+#[cfg(test)]
+mod assembler;
+#[cfg(test)]
+mod base;
+#[cfg(test)]
+mod copies;
+#[cfg(test)]
+mod free_frames;
+#[cfg(test)]
+mod instructions;
+#[cfg(test)]
+mod loading;
+#[cfg(test)]
+mod memory;
+#[cfg(test)]
+mod open_files;
+#[cfg(test)]
+mod page_tables;
+#[cfg(test)]
+mod pipes;
+#[cfg(test)]
+mod processes;
+#[cfg(test)]
+mod program_files;
+#[cfg(test)]
+mod terminal;
