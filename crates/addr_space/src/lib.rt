@@ -38,6 +38,7 @@ use sv39_core::{Entry, Pte, read_entry, read_table};
 mod absent;
 mod across;
 mod permitting;
+
 use xk_base::limits::VPN_END;
 use xk_base::{Frame, NoFrames, Perm, Rights, Vpn};
 

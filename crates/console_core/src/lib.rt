@@ -7,5 +7,6 @@
 
 mod keys;
 mod rings;
+
 pub use keys::Echo;
 pub use rings::{Console, Pull};

@@ -21,6 +21,7 @@ ghost use Rattle.xk_base.specs.ProgramFile.{is_elf, header_of, segments_of, Fit}
 mod iter;
 mod number;
 mod program_header;
+
 pub use iter::Segments;
 use number::{u16_at, u64_at};
 use program_header::{is_loaded, tested_header};

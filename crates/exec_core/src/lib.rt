@@ -12,6 +12,7 @@
 mod arg_list;
 mod building;
 mod planning;
+
 pub use arg_list::ArgList;
 pub use building::build;
 pub use planning::{Entry, ExecPlan, plan};

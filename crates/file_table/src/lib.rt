@@ -9,6 +9,7 @@ mod descriptors;
 mod file_id;
 mod open_file;
 mod table;
+
 pub use descriptors::Descriptors;
 pub use file_id::FileId;
 pub use open_file::{End, Entry, OpenFile, SHARERS_MAX, Target};

@@ -15,6 +15,7 @@ ghost use Rattle.pipe_core.specs.declared.TheConstants.{END_COUNT_MAX};
 ghost use Rattle.pipe_core.specs.Pipe.{Becomes, IsPipe, IsPlaced, new_pipe, pipe_in, ring_byte, values_below, with_more, with_readers, with_writers, without_first};
 
 mod frames;
+
 pub use frames::{copy_bytes, drop_first, push_part, push_zeros};
 use phys_ram::Ram;
 use xk_base::Frame;

@@ -7,6 +7,7 @@
 mod channel;
 mod process;
 mod table;
+
 pub use channel::Channel;
 pub use process::{Call, Process, State};
 pub use table::{Reaped, Table};

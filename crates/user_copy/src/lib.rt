@@ -26,6 +26,7 @@ use xk_base::{Access, BadAddress, Perm, Vpn};
 
 mod lazily;
 mod pipes;
+
 pub use lazily::{
     check_range_lazily, copy_in_lazily, fetch_text_lazily, fetch_u64_lazily, law_of_present_pages,
 };
