@@ -191,6 +191,17 @@ fn a_slot_tells_what_it_was_told(rt: HostRuntime) -> Result<(), Fail> {
 }
 
 #[test]
+fn the_greatest_pid_is_given_once(rt: HostRuntime) -> Result<(), Fail> {
+    let greatest = Pid::new(2_147_483_647);
+    let mut scene = Scene {
+        table: Table::new(rt.alloc(), greatest)?,
+    };
+    assert_eq!(rt; scene.spawn(None), Ok((0, greatest)));
+    assert_eq!(rt; scene.spawn(Some(greatest)), Err(NoSlot));
+    Ok(())
+}
+
+#[test]
 fn a_growth_that_the_host_refuses_is_want_of_memory(rt: HostRuntime) {
     match Scene::new(rt.alloc()) {
         Ok(scene) => assert_eq!(rt; scene.family(Pid::new(1)), None),
