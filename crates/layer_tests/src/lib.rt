@@ -1,4 +1,5 @@
-//! Tests of the crates below the kernel, by their public calls: a module for each crate.
+//! Tests of the crates below the kernel, and of the assembler, by their public calls: a module for each crate. Those of
+//! `hart_core` stand in that crate, since some of them try its private parts.
 //!
 //! A crate that has tests is proved twice by the gate, once without them and once with them. Here nothing but tests is
 //! proved, so each of them costs itself alone. Nothing stands on this crate.
