@@ -2,13 +2,13 @@
 use Rattle.std.proofs.Common.{◌≡◌, ℕ, ◌+◌, ◌*◌, ◌/◌, ◌%◌, ◌^◌, ◌<◌, List, Some, None, false, refl, sym, ap, ◌∙◌, arith}
 use Rattle.std.specs.FinMap.{get}
 use Rattle.xk_base.specs.declared.access.Access.{Access}
-use Rattle.sv39_core.specs.Sv39.{entry_at, table_at, page_entry, last}
+use Rattle.sv39_core.specs.Sv39.{entry_at, entry_permits, table_at, page_entry, last}
 use Rattle.sv39_core.specs.Tree.{page_of}
 use Rattle.sv39_core.specs.declared.entry.Entry.{Entry}
 use Rattle.sv39_core.specs.declared.entry.Entry.TheVariants.{Invalid, Table, Leaf}
 use Rattle.addr_space.specs.declared.Space.{Space}
 use Rattle.addr_space.specs.Space.{image_of, IsSpace, Usual}
-use Rattle.addr_space.specs.Permits.{page_permits, entry_permits}
+use Rattle.addr_space.specs.Permits.{page_permits}
 use Rattle.addr_space.proofs.Prices.{page-got}
 use Rattle.addr_space.proofs.Clearing.{entry-page}
 

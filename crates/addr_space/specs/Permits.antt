@@ -3,16 +3,8 @@ use Rattle.std.specs.Prelude.{Bool, false, Option, Some, None}
 use Rattle.xk_base.specs.declared.access.Access.{Access}
 use Rattle.xk_base.specs.Image.{Page}
 use Rattle.sv39_core.specs.Sv39.{permits}
-use Rattle.sv39_core.specs.declared.entry.Entry.{Entry}
-use Rattle.sv39_core.specs.declared.entry.Entry.TheVariants.{Invalid, Table, Leaf}
 
 -- user code may make the access to a page; to none where there is no page
 abbrev pub page_permits : Access → Option Page → Bool
 page_permits access None = false
 page_permits access (Some page) = permits access page.perm
-
--- the same, of the entry of a page, whose bits A and D are set
-abbrev pub entry_permits : Access → Entry → Bool
-entry_permits access Invalid = false
-entry_permits access (Table f) = false
-entry_permits access (Leaf f perm a d) = permits access perm

@@ -3,40 +3,22 @@
 
 ghost use Rattle.std.specs.Prelude.{◌≡◌, ℕ, ◌+◌, ◌%◌, ◌≤◌, ◌<◌, ◌⊎◌, length, true, false};
 ghost use Rattle.std.specs.FinMap.{get};
-ghost use Rattle.sv39_core.specs.Sv39.{entry_at};
+ghost use Rattle.sv39_core.specs.Sv39.{entry_at, entry_permits};
 ghost use Rattle.addr_space.specs.Space.{image_of, IsSpace};
-ghost use Rattle.addr_space.specs.Permits.{page_permits, entry_permits};
+ghost use Rattle.addr_space.specs.Permits.{page_permits};
 
 use crate::{Space, lower_table};
 use phys_ram::Ram;
-use sv39_core::{Entry, read_entry};
+use sv39_core::entry_permits;
 use xk_base::{Access, Frame, Vpn};
 
 /// How many entries a table has.
 const ENTRIES: usize = 512;
 
-/// Whether the page that an entry of a lower table leads to permits an access to user code; false where it leads to
-/// none.
-#[inline(always)]
-fn entry_permits(ram: &Ram, table: Frame, i: usize, access: Access) -> bool
-    requires table_in { table < length ram.now }
-    requires entry_in { i < 512 }
-    ensures { result ≡ entry_permits access (entry_at ram.now table i) }
-{
-    let Entry::Leaf(_, perm, _, _) = read_entry(ram, table, i) else {
-        return false;
-    };
-    let rights = perm.rights();
-    match access {
-        Access::Fetch => rights.user && rights.execute,
-        Access::Load => rights.user && rights.read,
-        Access::Store => rights.user && rights.write,
-    }
-}
-
 /// How many entries of a lower table, one after another from one on, lead to pages that permit an access; `most` at
-/// most.
-fn entries_permitting(ram: &Ram, table: Frame, from: usize, access: Access, most: usize) -> usize
+/// most. It is inlined, so that where the access is known, so are the bits that each entry is asked for.
+#[inline(always)]
+fn count_permitting(ram: &Ram, table: Frame, from: usize, access: Access, most: usize) -> usize
     requires table_in { table < length ram.now }
     requires from_in { from < 512 }
     ensures few { result ≤ most }
@@ -51,6 +33,22 @@ fn entries_permitting(ram: &Ram, table: Frame, from: usize, access: Access, most
         }
     }
     count
+}
+
+/// The same, by a loop of its own for each kind of access.
+fn entries_permitting(ram: &Ram, table: Frame, from: usize, access: Access, most: usize) -> usize
+    requires table_in { table < length ram.now }
+    requires from_in { from < 512 }
+    ensures few { result ≤ most }
+    ensures inside { from + result ≤ 512 }
+    ensures each { (k : ℕ) → k < result → entry_permits access (entry_at ram.now table (from + k)) ≡ true }
+    ensures ends { result < most → (from + result ≡ 512) ⊎ (entry_permits access (entry_at ram.now table (from + result)) ≡ false) }
+{
+    match access {
+        Access::Fetch => count_permitting(ram, table, from, Access::Fetch, most),
+        Access::Load => count_permitting(ram, table, from, Access::Load, most),
+        Access::Store => count_permitting(ram, table, from, Access::Store, most),
+    }
 }
 
 impl Space {

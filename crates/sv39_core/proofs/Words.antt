@@ -12,7 +12,7 @@ use Rattle.xk_base.specs.declared.access.Access.TheVariants.{Fetch, Load, Store}
 use Rattle.xk_base.specs.Access.{is_perm}
 use Rattle.sv39_core.specs.declared.entry.Entry.{Entry}
 use Rattle.sv39_core.specs.declared.entry.Entry.TheVariants.{Invalid, Table, Leaf}
-use Rattle.sv39_core.specs.Sv39.{allowed, flag, given, is_in_ram, page_number, permits, rights_of, is_usable, entry_of, table_of, bit_if, leaf_word, table_word}
+use Rattle.sv39_core.specs.Sv39.{allowed, flag, given, is_in_ram, page_number, permits, rights_of, is_usable, entry_of, entry_permits, table_of, bit_if, leaf_word, table_word}
 
 pub eqb-yes : (a b : ℕ) → a ≡ b → eqb a b ≡ true
 eqb-yes a b e = grind (arith, nat_tests)
@@ -274,23 +274,43 @@ allowed-usable access n w offset =
     by_flags access true false false true b4 b6 b7 t l u f offset = let_in access (t && l && u) f _ b6 b7 offset
     by_flags access true false false false b4 b6 b7 t l u f offset = away access (t && l && u) f offset ∙ sym (nothing (t && l && u) _ (f, offset) (refused access b4 b6 b7))
 
+turned : (x y : Bool) → (x && y) ≡ (y && x)
+turned true true = refl
+turned true false = refl
+turned false true = refl
+turned false false = refl
+
+first : (v q p t l u : Bool) → (v && q && t && l && u && p) ≡ (v && q && p && (t && l && u))
+first true true p t l u = turned (t && l && u) p
+first true false p t l u = refl
+first false q p t l u = refl
+
 -- the bits below the page number may be asked first
 pub allowed-entry_of : (access : Access) (n w offset : ℕ)
     → allowed access (entry_of n w) offset ≡ cond (flag w 0 && (not (flag w 2) || flag w 1) && permits access (given (rights_of w) (flag w 6) (flag w 7)) && is_in_ram n w) (Some (page_number w - 0x80000, offset)) None
 allowed-entry_of access n w offset =
     allowed-usable access n w offset
     ∙ ap (λ b. cond b (Some (page_number w - 0x80000, offset)) None) (first (flag w 0) (not (flag w 2) || flag w 1) _ (eqb (w / 2 ^ 54) 0) (leb 0x80000 (page_number w)) (ltb (page_number w - 0x80000) n))
-  where
-    turned : (x y : Bool) → (x && y) ≡ (y && x)
-    turned true true = refl
-    turned true false = refl
-    turned false true = refl
-    turned false false = refl
 
-    first : (v q p t l u : Bool) → (v && q && t && l && u && p) ≡ (v && q && p && (t && l && u))
-    first true true p t l u = turned (t && l && u) p
-    first true false p t l u = refl
-    first false q p t l u = refl
+-- the same of a page's rights alone
+pub permits_entry_of : (access : Access) (n w : ℕ) → entry_permits access (entry_of n w) ≡ (flag w 0 && (not (flag w 2) || flag w 1) && permits access (rights_of w) && is_in_ram n w)
+unfolding entry_of
+permits_entry_of access n w =
+    by_flags access (is_usable n w) (flag w 1) (flag w 2) (flag w 3) (flag w 4) (flag w 6) (flag w 7) (page_number w - 0x80000) (usable-perm n w)
+    ∙ first (flag w 0) (not (flag w 2) || flag w 1) (permits access (rights_of w)) (eqb (w / 2 ^ 54) 0) (leb 0x80000 (page_number w)) (ltb (page_number w - 0x80000) n)
+  where
+    by_flags : (access : Access) (usable r b2 x u a d : Bool) (f : ℕ) → (usable ≡ true → (not b2 || r) ≡ true)
+        → entry_permits access (cond usable (cond (r || x) (Leaf f (record { read = r; write = b2; execute = x; user = u }) a d) (Table f)) Invalid) ≡ (usable && permits access (record { read = r; write = b2; execute = x; user = u }))
+    by_flags access false r b2 x u a d f fit = refl
+    by_flags access true true b2 x u a d f fit = refl
+    by_flags access true false b2 true u a d f fit = refl
+    by_flags Fetch true false b2 false true a d f fit = refl
+    by_flags Fetch true false b2 false false a d f fit = refl
+    by_flags Load true false b2 false true a d f fit = refl
+    by_flags Load true false b2 false false a d f fit = refl
+    by_flags Store true false true false u a d f fit = absurd (false≢true (fit refl))
+    by_flags Store true false false false true a d f fit = refl
+    by_flags Store true false false false false a d f fit = refl
 
 -- a page that isn't one of RAM's is reached by no access
 pub allowed_outside : (access : Access) (n w offset : ℕ) → is_in_ram n w ≡ false → allowed access (entry_of n w) offset ≡ None

@@ -1,6 +1,6 @@
 -- Sv39: page-table entries, and the walk from a virtual address to a frame (RISC-V Privileged ISA, "Sv39: Page-Based 39-bit
 -- Virtual-Memory System"). The bits of an entry: V 0, R 1, W 2, X 3, U 4, G 5, A 6, D 7, software 9..8, page number 53..10.
-use Rattle.std.specs.Prelude.{ℕ, zero, suc, ◌+◌, ◌-◌, ◌*◌, ◌/◌, ◌%◌, ◌^◌, ◌==◌, ◌&&◌, ◌||◌, Bool, not, if◌then◌else◌, nat_le, nat_lt, List, Option, Some, None, length}
+use Rattle.std.specs.Prelude.{ℕ, zero, suc, ◌+◌, ◌-◌, ◌*◌, ◌/◌, ◌%◌, ◌^◌, ◌==◌, ◌&&◌, ◌||◌, Bool, false, not, if◌then◌else◌, nat_le, nat_lt, List, Option, Some, None, length}
 use Rattle.std.specs.Int.{bit_at}
 use Rattle.phys_ram.specs.Ram.{word_at}
 use Rattle.xk_base.specs.declared.access.Rights.{Rights}
@@ -92,6 +92,12 @@ abbrev pub permits : Access → Rights → Bool
 permits Fetch r = r.user && r.execute
 permits Load r = r.user && r.read
 permits Store r = r.user && r.write
+
+-- the same, of the page that an entry leads to, by its rights alone: A and D decide nothing here
+abbrev pub entry_permits : Access → Entry → Bool
+entry_permits access Invalid = false
+entry_permits access (Table f) = false
+entry_permits access (Leaf f perm a d) = permits access perm
 
 -- bits 63 to 39 all equal bit 38
 abbrev pub is_canonical : ℕ → Bool

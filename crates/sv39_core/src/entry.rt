@@ -3,7 +3,7 @@ ghost use Rattle.std.specs.Prelude.{⊤, ℕ, ◌≡◌, ◌==◌, ◌&&◌, ◌
 ghost use Rattle.std.specs.Int.RustNames.{bit_and};
 ghost use Rattle.xk_base.specs.declared.access.Access.TheVariants.{Fetch, Load, Store};
 ghost use Rattle.xk_base.specs.declared.limits.TheConstants.{FRAMES_MAX};
-ghost use Rattle.sv39_core.specs.Sv39.{allowed, entry_of, flag, given, is_in_ram, is_usable, page_number, permits, rights_of, table_of, bit_if, leaf_word, table_word};
+ghost use Rattle.sv39_core.specs.Sv39.{allowed, entry_of, entry_permits, flag, given, is_in_ram, is_usable, page_number, permits, rights_of, table_of, bit_if, leaf_word, table_word};
 
 use bitflags::{Flag, Flags, bitflag_items};
 use std::marker::Model;
@@ -265,6 +265,29 @@ impl Pte {
             return None;
         }
         Some(self.frame())
+    }
+
+    /// Whether the bits below the page number give user code the right to make an access: the entry is valid and has
+    /// no W without R, and its rights permit it. A and D decide nothing here.
+    fn has_right(self, access: Access) -> bool
+        ensures { result ≡ (flag self 0 && (not (flag self 2) || flag self 1) && permits access (rights_of self)) }
+    {
+        let rights = self.rights();
+        let of_user = self.has(PteFlags::VALID) & rights.user;
+        match access {
+            Access::Fetch => of_user & rights.execute & (!rights.write | rights.read),
+            Access::Load => of_user & rights.read,
+            Access::Store => of_user & rights.read & rights.write,
+        }
+    }
+
+    /// Whether the entry leads to a page whose rights permit user code an access, where RAM has so many frames.
+    #[tactic(auto, using(crate::proofs::Words::permits_entry_of))]
+    pub(crate) fn grants(self, access: Access, frames: u32) -> bool
+        requires { frames ≤ FRAMES_MAX }
+        ensures { result ≡ entry_permits access (entry_of frames self) }
+    {
+        self.has_right(access) & self.is_in_ram(frames)
     }
 
     /// What user code reaches by the entry as the last of a walk, where RAM has so many frames; None where the

@@ -9,4 +9,4 @@ mod entry;
 mod walking;
 
 pub use entry::{Entry, Pte, Reached};
-pub use walking::{reach, read_entry, read_table, split, walk};
+pub use walking::{entry_permits, reach, read_entry, read_table, split, walk};

@@ -2,7 +2,7 @@
 ghost use Rattle.std.specs.Prelude.{ℕ, ◌≡◌, ◌<◌, ◌/◌, ◌%◌, ◌^◌, [], ◌∷◌, length, true, false, if◌then◌else◌, Some, None, IfOk, IfSome, MatchResult, MatchOption};
 ghost use Rattle.xk_base.specs.declared.access.Access.{Access};
 ghost use Rattle.xk_base.specs.declared.access.Access.TheVariants.{Fetch, Load, Store};
-ghost use Rattle.sv39_core.specs.Sv39.{allowed, entry_at, entry_of, is_canonical, table_of, walked, page_fault};
+ghost use Rattle.sv39_core.specs.Sv39.{allowed, entry_at, entry_of, entry_permits, is_canonical, table_of, walked, page_fault};
 
 use crate::entry::{Entry, Pte, Reached};
 use phys_ram::Ram;
@@ -15,6 +15,17 @@ pub fn read_entry(ram: &Ram, table: Frame, i: usize) -> Entry
     ensures { result ≡ entry_at ram.now table i }
 {
     Pte::from_bits(ram.read_u64(table, i)).entry(ram.frames())
+}
+
+/// Whether entry `i`, below 512, of the table in a frame leads to a page whose rights let user code make an access. A
+/// and D decide nothing here.
+#[inline(always)]
+pub fn entry_permits(ram: &Ram, table: Frame, i: usize, access: Access) -> bool
+    requires table_in { table < length ram.now }
+    requires entry_in { i < 512 }
+    ensures { result ≡ entry_permits access (entry_at ram.now table i) }
+{
+    Pte::from_bits(ram.read_u64(table, i)).grants(access, ram.frames())
 }
 
 /// The table that entry `i`, below 512, of the table in a frame leads to; None where it leads to none.

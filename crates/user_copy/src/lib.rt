@@ -132,7 +132,7 @@ fn reaches(
         let Some(place) = place_at(address, done) else {
             return false;
         };
-        let most = (len - done) / 4096 + 1;
+        let most = (len - done - 1).saturating_add(place.offset) / 4096 + 1;
         let pages = pages_reached(space, ram, place.page, access, absent, most);
         if pages == 0 {
             return false;
