@@ -121,6 +121,15 @@ fn lay_pointers(space: &Space, ram: &mut Ram, lengths: &[usize], page: u64, sp: 
     space.write_across(ram, at, &[0; 8]);
 }
 
+impl ExecPlan<'_> {
+    /// How many frames the memory of the program takes.
+    pub fn price(&self) -> u64
+        ensures { result ≡ price self.now.image }
+    {
+        price(self.guard + 2)
+    }
+}
+
 /// Makes the memory of a planned program, and says with which registers the program starts.
 ///
 /// The space's frames come from the free ones, and all other frames keep their bytes.

@@ -63,10 +63,14 @@ use xk_base::{Cause, Perm, Pid, Program, Reg, Rights};
 /// The kernel of one machine.
 #[derive(Drop)]
 pub struct Kernel {
+    /// RAM, and whose each frame is.
     memories: Memories,
+    /// The processes, by slot, and their descriptors.
     table: Table,
+    /// The open files of all processes.
     files: Files,
     console: Console,
+    /// The program files, which are never changed: exec and open find them by name.
     programs: Vec<Program>,
     /// Ticks since boot, modulo 2^32.
     clock: u32,
@@ -74,7 +78,7 @@ pub struct Kernel {
     current: Option<usize>,
 }
 
-// Puts the answer of a call into a0. Tables and translations stay.
+/// Puts the answer of a call into a0. Tables and translations stay.
 fn put_answer(hart: &mut Hart, value: u64)
     ensures { hart.new ≡ record hart.old { regs = with_a0 hart.old.regs value } }
 {
@@ -241,9 +245,7 @@ impl Kernel {
         ensures nobody { HasNoProcess self.old → IfNone result (HasNoProcess self.new) }
         ensures frames { frame_count self.new ≡ frame_count self.old }
     {
-        let Some(slot) = self.table.next_turn() else {
-            return None;
-        };
+        let slot = self.table.next_turn()?;
         self.enter(hart, slot);
         Some(self.table.pid(slot))
     }

@@ -4,7 +4,7 @@ ghost use Rattle.proc_table.specs.Channels.{same_channel};
 
 use xk_base::{Frame, Pid};
 
-/// What a process sleeps on until it is woken (xv6 book, "Sleep and wakeup").
+/// What a process sleeps on until it is woken (the xv6 book, "Sleep and wakeup").
 #[derive(Clone, Copy, Debug, PartialEq, Eq)]
 pub enum Channel {
     /// The end of a child of this process.

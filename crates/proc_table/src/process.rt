@@ -24,7 +24,7 @@ pub struct Call {
 /// Whether a process lives.
 #[derive(Clone, Copy, Debug, PartialEq, Eq)]
 pub enum State {
-    /// Its kill mark, the call that it is in, and the channel that it sleeps on.
+    /// It lives: its kill mark, the call that it is in, and the channel that it sleeps on, if any.
     Live {
         marked: bool,
         call: Option<Call>,
@@ -39,9 +39,11 @@ pub enum State {
 /// A process in a slot.
 #[derive(Clone, Copy, Debug, PartialEq, Eq)]
 pub struct Process {
+    /// Its number, which no other process of the table has.
     pub pid: Pid,
     /// The process that may wait for it; the first process has none.
     pub parent: Option<Pid>,
+    /// Whether it lives, and what it does.
     pub state: State,
 }
 
@@ -51,7 +53,7 @@ fn is_on(channel: &Option<Channel>, on: &Channel) -> bool
 {
     match channel {
         None => false,
-        Some(c) => c.is(on),
+        Some(channel) => channel.is(on),
     }
 }
 
@@ -72,10 +74,8 @@ impl Process {
     pub(crate) fn is_child_of(&self, parent: Pid) -> bool
         ensures { result ≡ is_child_of parent self.now }
     {
-        match self.parent {
-            None => false,
-            Some(p) => p.number() == parent.number(),
-        }
+        self.parent
+            .is_some_and(|own| own.number() == parent.number())
     }
 
     pub(crate) fn is_zombie(&self) -> bool

@@ -1,18 +1,17 @@
 -- Sends at which no byte waits: nothing comes of them, and of the next ones neither.
-use Rattle.std.proofs.Common.{◌≡◌, ◌∙◌, ℕ, zero, suc, ◌+◌, ◌<◌, ◌⊎◌, Bool, true, false, arith, List, [], ◌∷◌, ◌++◌, drop, replicate, Option, None, Some, inl, inr, refl, sym, ap, subst}
+use Rattle.std.proofs.Common.{◌≡◌, ◌∙◌, ℕ, zero, suc, ◌+◌, ◌<◌, ◌⊎◌, true, false, arith, List, [], ◌∷◌, ◌++◌, drop, replicate, Option, None, Some, inl, inr, refl, sym, ap, subst}
 use Rattle.std.specs.Prelude.{is_some}
 use Rattle.std.proofs.lemmas.List.{replicate-append-replicate}
 use Rattle.circular_buffer.specs.Buffer.{keep_last}
 use Rattle.kcall_core.specs.View.{View}
 use Rattle.kcall_core.specs.Ready.{ready}
-use Rattle.kcall_core.specs.Run.{World, Event, Run, Send, Outcome, Sent, Step_of, Ticked, first_sent, bytes_out, out}
-use Rattle.kcall_core.specs.Rounds.{events}
+use Rattle.kcall_core.specs.Run.{World, Event, Send, Sent, Step_of, Ticked, first_sent, out}
 use Rattle.kcall_core.specs.Wakes.{IsInCall, IsEnd, NoReadySleeper, Promised}
 use Rattle.xv_machine.specs.declared.trace.Note.{Note}
+use Rattle.xv_machine.specs.Devices.{Sunk}
 use Rattle.xv_machine.specs.Drives.{Goes}
 use Rattle.xv_machine.specs.Machine.{SameTrace}
 use Rattle.xv_machine.specs.Meaning.{Meaning}
-use Rattle.xv_machine.specs.Notes.{note}
 use Rattle.xv_machine.specs.Sound.{IsSoundMachine}
 use Rattle.xv_machine.specs.Stretches.{Silent, Played, sends}
 use Rattle.xv_machine.proofs.Joins.{silent-played, played-join}
@@ -68,7 +67,7 @@ out-again zero = refl
 out-again (suc n) = out-again n
 
 -- no byte waits: all that were left are sent, and nothing has to be written
-pub rest-played : (n sent left : ℕ) (byte : Option ℕ) (old mid new : Meaning) (h k : Option (List ℕ)) → sent + left ≡ n → is_some byte ≡ false → Played (replicate sent Send) old mid h k → Goes mid (sends left byte) new
+pub rest-played : (n sent left : ℕ) (byte : Option ℕ) (old mid new : Meaning) (h k : Sunk) → sent + left ≡ n → is_some byte ≡ false → Played (replicate sent Send) old mid h k → Goes mid (sends left byte) new
     → Played (replicate n Send) old new h k
 rest-played n sent left (Some b) old mid new h k all none p goes = let no : ⊥ = cc in absurd no
 rest-played n sent left None old mid new h k all none p goes =

@@ -1,21 +1,20 @@
 -- Whole rounds, as far as a drive has come, and how it ends.
-use Rattle.std.proofs.Common.{◌≡◌, ◌≢◌, ◌∙◌, ℕ, zero, suc, ◌+◌, ◌-◌, ◌<◌, ◌≤◌, ◌⊎◌, inl, inr, subst, refl, sym, ap, ap₂, arith, List, [], ◌∷◌, ◌++◌, append-nil, append_assoc, length, length-append, map, drop, replicate, slice_get, Bool, true, false, ◌||◌, Option, None, Some, IfSome}
-use Rattle.std.specs.Prelude.{not, is_none, is_some, flat_map, ⊤}
+use Rattle.std.proofs.Common.{◌≡◌, ◌∙◌, ℕ, zero, suc, ◌+◌, ◌-◌, ◌<◌, ◌≤◌, ◌⊎◌, cond, inl, inr, subst, refl, sym, ap, ap₂, arith, List, [], ◌∷◌, ◌++◌, append-nil, append_assoc, length, length-append, drop, replicate, slice_get, Bool, true, false, ◌||◌, Option, None, Some, IfSome}
+use Rattle.std.specs.Prelude.{not, is_none, is_some}
 use Rattle.std.specs.Option.{option_to_list}
 use Rattle.std.proofs.lemmas.Grind.{flat_map-append}
-use Rattle.std.specs.Io.KnownBytes.{Appends, Consumes}
-use Rattle.std.proofs.KnownBytes.{Appends-nil, Appends-trans}
+use Rattle.std.specs.Io.KnownBytes.{Consumes}
 use Rattle.xk_base.specs.declared.limits.TheConstants.{SEND_BYTES}
-use Rattle.kcall_core.specs.Run.{Event, Run, Tick, Key, Send, Outcome, out}
-use Rattle.kcall_core.specs.Rounds.{key_events, round, events, halts, Planned, AreRounds, StopsBeforeRound, PlannedUpTo}
+use Rattle.kcall_core.specs.Run.{Event, Run, Tick, Key, Send, Outcome}
+use Rattle.kcall_core.specs.Rounds.{key_events, round, events, halts, Planned, AreRounds}
 use Rattle.kcall_core.proofs.runs.Plans.{rounds_then_plan, rounds_follow_rounds, cut_ends_in_round}
-use Rattle.xv_machine.specs.Devices.{GivesKey}
+use Rattle.xv_machine.specs.Devices.{Source, Asked, Sunk, Calls}
 use Rattle.xv_machine.specs.declared.driving.RunPlan.{RunPlan}
-use Rattle.xv_machine.specs.Drives.{Goes, is_halted, key_in, keys_in, Done, StoppedByRead, StoppedByWrite}
+use Rattle.xv_machine.specs.Drives.{Goes, Wrote, calls_of, AskedFor, is_halted, key_in, keys_in, Done, StoppedByRead, StoppedByWrite}
 use Rattle.xv_machine.specs.Meaning.{Meaning}
 use Rattle.xv_machine.specs.Sound.{IsSoundMachine}
 use Rattle.xv_machine.specs.Stretches.{Played, BrokeOff, TakesKey}
-use Rattle.xv_machine.proofs.Joins.{events-join, shows-join, goes-none, goes-join}
+use Rattle.xv_machine.proofs.Joins.{events-join, calls-join, calls-trans, wrote-nil, wrote-join, goes-none, goes-join}
 use Rattle.xv_machine.proofs.Shown.{ends-in}
 
 abbrev Steps : Type 0
@@ -176,27 +175,59 @@ taken quantum count false (Some bytes) (Some now) after key read rest leaves pac
         first [] = refl
         first (y ∷ ys) = refl
 
+-- ---- calls of the source
+
+-- each key so far took one call, and one more found that none is left
+abbrev AskedSo : (at_end : Bool) → (before after : Option ℕ) → (keys : ℕ) → Type 0
+AskedSo false before after keys = Asked before after keys
+AskedSo true before after keys = Asked before after (keys + 1)
+
+asked-none : (a : Option ℕ) → Asked a a 0
+asked-none None = tt
+asked-none (Some n) = let same : n ≡ n + 0 = omega arith in ap Some same
+
+asked-trans : (a b c : Option ℕ) (m n : ℕ) → Asked a b m → Asked b c n → Asked a c (m + n)
+asked-trans None b c m n p q = tt
+asked-trans (Some k) b c m n p q = let same : k + m + n ≡ k + (m + n) = omega arith in subst (λ z. Asked z c n) p q ∙ ap Some same
+
+-- behind one round more
+asked-next : (at_end : Bool) (a now after : Option ℕ) (keys : ℕ) → AskedSo at_end a now keys → Asked now after (cond at_end 0 1) → Asked a after (keys + 1)
+asked-next false a now after keys so call = asked-trans a now after keys 1 so call
+asked-next true a now after keys so call =
+    let same : keys + 1 + 0 ≡ keys + 1 = omega arith in
+    subst (λ n. Asked a after n) same (asked-trans a now after (keys + 1) 0 so call)
+
+asked-typed : (key : Option ℕ) (a after : Option ℕ) (keys typed : ℕ) → typed ≡ keys + length (option_to_list key) → Asked a after (keys + 1) → AskedSo (is_none key) a after typed
+asked-typed None a after keys typed is asked = let same : keys + 1 ≡ typed + 1 = omega (arith, is) in subst (λ n. Asked a after n) same asked
+asked-typed (Some b) a after keys typed is asked = subst (λ n. Asked a after n) (sym is) asked
+
+asked-for : (at_end : Bool) (a after : Option ℕ) (keys : ℕ) → AskedSo at_end a after keys → AskedFor a after keys
+asked-for false a after keys so = inl so
+asked-for true a after keys so = inr so
+
 -- ---- rounds
 
 -- This many rounds were played, and the source was found at its end or not
-pub record Going (quantum count : ℕ) (at_end : Bool) (left now : Option (List ℕ)) (old new : Meaning) (held held_now : Option (List ℕ)) : Type 0 where
+pub record Going (quantum count : ℕ) (at_end : Bool) (left now : Option (List ℕ)) (old new : Meaning) (sink sink_now : Sunk) (asked asked_now : Option ℕ) : Type 0 where
   pub list : Steps
   pub rest : List ℕ
   pub goes : Goes old list new
   pub leaves : Leaves left now (keys_in (events list)) rest
   pub pace : Pace at_end (keys_in (events list)) rest count
   pub rounds : AreRounds count quantum (keys_in (events list) ++ rest) (is_halted old) list
-  pub written : Appends held held_now (out list)
+  pub written : Wrote sink sink_now list
+  pub calls : AskedSo at_end asked asked_now (length (keys_in (events list)))
 
-pub none-going : (quantum : ℕ) (left : Option (List ℕ)) (m : Meaning) (held : Option (List ℕ)) → IsSoundMachine m → Going quantum 0 false left left m m held held
-none-going quantum left m held sound = record {
+pub none-going : (quantum : ℕ) (left : Option (List ℕ)) (m : Meaning) (sink : Sunk) (asked : Option ℕ) → IsSoundMachine m → Going quantum 0 false left left m m sink sink asked asked
+none-going quantum left m sink asked sound = record {
   list = [];
   rest = rest left;
   goes = goes-none m sound;
   leaves = leaves left;
   pace = refl;
   rounds = refl;
-  written = Appends-nil held;
+  written = wrote-nil sink;
+  calls = asked-none asked;
 }
   where
     rest : Option (List ℕ) → List ℕ
@@ -211,16 +242,20 @@ none-going quantum left m held sound = record {
 goes-on : (old : Meaning) (list : Steps) (new : Meaning) → Goes old list new → new.world.turns.halted ≡ None → (is_halted old || halts list) ≡ false
 goes-on old list new goes on = sym (ends-in old.world list new.world goes.run) ∙ ap is_some on
 
-module _ (quantum count : ℕ) (at_end : Bool) (left now after : Option (List ℕ)) (key : Option ℕ) (old mid : Meaning) (held held_now : Option (List ℕ)) (g : Going quantum count at_end left now old mid held held_now) (takes : TakesKey at_end now key after) where
+module _ (quantum count : ℕ) (at_end : Bool) (left now after : Option (List ℕ)) (key : Option ℕ) (old mid : Meaning) (sink sink_now : Sunk) (asked asked_now asked_after : Option ℕ) (g : Going quantum count at_end left now old mid sink sink_now asked asked_now) (takes : TakesKey at_end now key after) (call : Asked asked_now asked_after (cond at_end 0 1)) where
   abbrev took : Taken quantum count left after key (keys_in (events g.list)) g.rest
   took = taken quantum count at_end left now after key (keys_in (events g.list)) g.rest g.leaves g.pace takes
+
+  -- its calls of the source
+  one_asked : Asked asked asked_after (length (keys_in (events g.list)) + 1)
+  one_asked = asked-next at_end asked asked_now asked_after (length (keys_in (events g.list))) g.calls call
 
   -- its events
   begun : round quantum (option_to_list key) ≡ round quantum (drop count ((keys_in (events g.list) ++ option_to_list key) ++ took.more))
   begun = ap (λ es. es ++ replicate quantum Run ++ Tick ∷ replicate SEND_BYTES Send) (sym took.key_is)
 
-  pub one-more : (new : Meaning) (held_after : Option (List ℕ)) → mid.world.turns.halted ≡ None → Played (round quantum (option_to_list key)) mid new held_now held_after → Going quantum (count + 1) (is_none key) left after old new held held_after
-  one-more new held_after on p =
+  pub one-more : (new : Meaning) (sink_after : Sunk) → mid.world.turns.halted ≡ None → Played (round quantum (option_to_list key)) mid new sink_now sink_after → Going quantum (count + 1) (is_none key) left after old new sink sink_after asked asked_after
+  one-more new sink_after on p =
       let read : keys_in (events (g.list ++ p.list)) ≡ keys_in (events g.list) ++ option_to_list key =
       ap keys_in (events-join g.list p.list) ∙ keys-join (events g.list) (events p.list) ∙ ap (λ es. keys_in (events g.list) ++ keys_in es) p.those ∙ ap (λ ks. keys_in (events g.list) ++ ks) (keys-of-round quantum key) in
       let keys : List ℕ = (keys_in (events g.list) ++ option_to_list key) ++ took.more in
@@ -235,7 +270,8 @@ module _ (quantum count : ℕ) (at_end : Bool) (left now after : Option (List �
         leaves = subst (λ ks. Leaves left after ks took.more) (sym read) took.leaves;
         pace = subst (λ n. Pace (is_none key) (keys_in (events (g.list ++ p.list))) took.more n) next (subst (λ ks. Pace (is_none key) ks took.more (suc count)) (sym read) took.pace);
         rounds = subst (λ ks. AreRounds (count + 1) quantum (ks ++ took.more) (is_halted old) (g.list ++ p.list)) (sym read) all;
-        written = subst (Appends held held_after) (sym (shows-join g.list p.list)) (Appends-trans held held_now held_after (out g.list) (out p.list) g.written p.written);
+        written = wrote-join sink sink_now sink_after g.list p.list g.written p.written;
+        calls = asked-typed key asked asked_after (length (keys_in (events g.list))) (length (keys_in (events (g.list ++ p.list)))) (ap length read ∙ length-append (keys_in (events g.list)) (option_to_list key)) one_asked;
       }
 
 pub none-from-some : (key : Option ℕ) (b : Bool) → is_some key ≡ not b → b ≡ is_none key
@@ -263,9 +299,9 @@ none-planned zero quantum keys false why = refl
 none-planned (suc rounds) quantum keys false (inl none) = let n : suc rounds ≡ 0 = none in absurd (omega (arith, n))
 none-planned (suc rounds) quantum keys false (inr halted) = let no : ⊥ = cc in absurd no
 
-pub all-done : (plan : RunPlan) (count : ℕ) (at_end : Bool) (left now : Option (List ℕ)) (old new : Meaning) (held held_now : Option (List ℕ)) → count ≤ plan.rounds → Going plan.quantum count at_end left now old new held held_now
-    → (count ≡ plan.rounds) ⊎ (is_halted new ≡ true) → Done plan left now old new held held_now
-all-done plan count at_end left now old new held held_now within g why =
+pub all-done : (plan : RunPlan) (count : ℕ) (at_end : Bool) (source source_now : Source) (old new : Meaning) (sink sink_now : Sunk) → count ≤ plan.rounds → Going plan.quantum count at_end source.left source_now.left old new sink sink_now source.asked source_now.asked
+    → (count ≡ plan.rounds) ⊎ (is_halted new ≡ true) → Done plan source source_now old new sink sink_now
+all-done plan count at_end source source_now old new sink sink_now within g why =
     let keys : List ℕ = keys_in (events g.list) ++ g.rest in
     let rest : ℕ = plan.rounds - count in
     let over : (rest ≡ 0) ⊎ ((is_halted old || halts g.list) ≡ true) = elim why [
@@ -279,28 +315,31 @@ all-done plan count at_end left now old new held held_now within g why =
       list = g.list;
       goes = g.goes;
       keys = keys;
-      known = leaves-known left now (keys_in (events g.list)) g.rest g.leaves;
+      known = leaves-known source.left source_now.left (keys_in (events g.list)) g.rest g.leaves;
       planned = subst (λ n. Planned n plan.quantum keys (is_halted old) g.list) whole (subst (λ xs. Planned (count + rest) plan.quantum keys (is_halted old) xs) (append-nil g.list) plan_all);
       written = g.written;
-      typed = leaves-typed left now (keys_in (events g.list)) g.rest g.leaves;
+      typed = leaves-typed source.left source_now.left (keys_in (events g.list)) g.rest g.leaves;
+      asked = asked-for at_end source.asked source_now.asked (length (keys_in (events g.list))) g.calls;
     }
 
-pub read-stops : (plan : RunPlan) (count : ℕ) (at_end : Bool) (left now : Option (List ℕ)) (old new : Meaning) (held held_now : Option (List ℕ)) → count < plan.rounds → Going plan.quantum count at_end left now old new held held_now
-    → new.world.turns.halted ≡ None → at_end ≡ false → StoppedByRead plan left old new held held_now
-read-stops plan count at_end left now old new held held_now within g on reads = record {
+pub read-stops : (plan : RunPlan) (count : ℕ) (at_end : Bool) (source source_now source_after : Source) (old new : Meaning) (sink sink_now : Sunk) → count < plan.rounds → Going plan.quantum count at_end source.left source_now.left old new sink sink_now source.asked source_now.asked
+    → new.world.turns.halted ≡ None → at_end ≡ false → Asked source_now.asked source_after.asked (cond at_end 0 1) → StoppedByRead plan source source_after old new sink sink_now
+read-stops plan count at_end source source_now source_after old new sink sink_now within g on reads call = record {
   list = g.list;
   goes = g.goes;
   keys = keys_in (events g.list) ++ g.rest;
-  known = leaves-known left now (keys_in (events g.list)) g.rest g.leaves;
+  known = leaves-known source.left source_now.left (keys_in (events g.list)) g.rest g.leaves;
   rounds = (count, within, g.rounds, goes-on old g.list new g.goes on);
   each_had_a_key = subst (λ b. Pace b (keys_in (events g.list)) g.rest count) reads g.pace;
+  asked = subst (λ n. Asked source.asked source_after.asked (n + 1)) (subst (λ b. Pace b (keys_in (events g.list)) g.rest count) reads g.pace)
+      (asked-next at_end source.asked source_now.asked source_after.asked (length (keys_in (events g.list))) g.calls call);
   written = g.written;
 }
 
-pub write-stops : (plan : RunPlan) (count : ℕ) (at_end : Bool) (left now after : Option (List ℕ)) (key : Option ℕ) (old mid new : Meaning) (held held_now : Option (List ℕ)) → count < plan.rounds
-    → (g : Going plan.quantum count at_end left now old mid held held_now) → mid.world.turns.halted ≡ None → TakesKey at_end now key after → BrokeOff (round plan.quantum (option_to_list key)) mid new → StoppedByWrite plan left after old new
-write-stops plan count at_end left now after key old mid new held held_now within g on takes q =
-    let t = took plan.quantum count at_end left now after key old mid held held_now g takes in
+pub write-stops : (plan : RunPlan) (count : ℕ) (at_end : Bool) (source source_now source_after : Source) (key : Option ℕ) (old mid new : Meaning) (sink sink_now sink_after : Sunk) → count < plan.rounds
+    → (g : Going plan.quantum count at_end source.left source_now.left old mid sink sink_now source.asked source_now.asked) → mid.world.turns.halted ≡ None → TakesKey at_end source_now.left key source_after.left → Asked source_now.asked source_after.asked (cond at_end 0 1) → BrokeOff (round plan.quantum (option_to_list key)) mid new sink_now sink_after → StoppedByWrite plan source source_after old new sink sink_after
+write-stops plan count at_end source source_now source_after key old mid new sink sink_now sink_after within g on takes call q =
+    let t = took plan.quantum count at_end source.left source_now.left source_after.left key old mid sink sink_now source.asked source_now.asked source_after.asked g takes call in
     let read : List ℕ = keys_in (events g.list) in
     let keys : List ℕ = (read ++ option_to_list key) ++ t.more in
     let part : Steps = q.before ++ q.last ∷ [] in
@@ -314,9 +353,13 @@ write-stops plan count at_end left now after key old mid new held held_now withi
       last = q.last;
       goes = goes-join g.list part old mid new g.goes q.goes;
       keys = keys;
-      known = leaves-known left after (read ++ option_to_list key) t.more t.leaves;
+      known = leaves-known source.left source_after.left (read ++ option_to_list key) t.more t.leaves;
       cut = (cut_ends_in_round plan.rounds plan.quantum keys (is_halted old) (g.list ++ part) q.last).1
-          (count, g.list, q.before, q.rest, refl, within, t.same (is_halted old) g.list g.rounds, goes-on old g.list mid g.goes on, q.those ∙ begun plan.quantum count at_end left now after key old mid held held_now g takes);
+          (count, g.list, q.before, q.rest, refl, within, t.same (is_halted old) g.list g.rounds, goes-on old g.list mid g.goes on, q.those ∙ begun plan.quantum count at_end source.left source_now.left source_after.left key old mid sink sink_now source.asked source_now.asked source_after.asked g takes call);
       shows = q.shows;
-      typed = subst (Consumes left after) (sym read_is) (leaves-typed left after (read ++ option_to_list key) t.more t.leaves);
+      calls = subst (Calls sink.calls sink_after.calls) (sym (calls-join g.list part)) (calls-trans sink.calls sink_now.calls sink_after.calls (calls_of g.list) (calls_of part) g.written.calls q.calls);
+      typed = subst (Consumes source.left source_after.left) (sym read_is) (leaves-typed source.left source_after.left (read ++ option_to_list key) t.more t.leaves);
+      asked = asked-for (is_none key) source.asked source_after.asked (length (keys_in (events (g.list ++ part))))
+          (asked-typed key source.asked source_after.asked (length read) (length (keys_in (events (g.list ++ part)))) (ap length read_is ∙ length-append read (option_to_list key))
+          (one_asked plan.quantum count at_end source.left source_now.left source_after.left key old mid sink sink_now source.asked source_now.asked source_after.asked g takes call));
     }

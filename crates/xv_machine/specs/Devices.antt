@@ -1,13 +1,33 @@
--- What devices tell of themselves: the bytes that are left or held, where they are known, and how many calls have failed.
-use Rattle.std.specs.Prelude.{◌≡◌, ℕ, ◌+◌, ◌-◌, ◌^◌, ◌<◌, ◌⊎◌, min, List, drop, Option, None, Some, slice_get, ⊤}
+-- What devices tell of themselves: the bytes that are left or held, and the calls, where they are known; and how many calls have failed.
+use Rattle.std.specs.Prelude.{◌≡◌, ℕ, ◌+◌, ◌-◌, ◌^◌, min, List, ◌++◌, drop, Option, None, Some, slice_get, ⊤}
 
 -- a count of failed calls after one more of them: it stays at 2^64 - 1
 abbrev pub one_more : ℕ → ℕ
 one_more count = min (count + 1) (2 ^ 64 - 1)
 
--- between these counts a call has failed
-abbrev pub HasFailed : (before after : ℕ) → Type 0
-HasFailed before after = (before < after) ⊎ (after ≡ 2 ^ 64 - 1)
+-- one call of a device failed, and none of the other device
+abbrev pub OneFailed : (failures failures_after others others_after : ℕ) → Type 0
+OneFailed failures failures_after others others_after = (failures_after ≡ one_more failures) × (others_after ≡ others)
+
+-- what a source tells of itself: the bytes that are left; and how many calls were made of it, those that failed too
+pub record Source : Type 0 where
+  pub left : Option (List ℕ)
+  pub asked : Option ℕ
+
+-- where the calls are counted, so many more were made
+abbrev pub Asked : (before after : Option ℕ) → (calls : ℕ) → Type 0
+Asked None after calls = ⊤
+Asked (Some before) after calls = after ≡ Some (before + calls)
+
+-- what a sink tells of what it was given: the bytes that it holds; and call by call the bytes that it got, also of calls that failed
+pub record Sunk : Type 0 where
+  pub held : Option (List ℕ)
+  pub calls : Option (List (List ℕ))
+
+-- where the calls are known, these came behind those before, and no other
+abbrev pub Calls : (before after : Option (List (List ℕ))) → (made : List (List ℕ)) → Type 0
+Calls None after made = ⊤
+Calls (Some before) after made = after ≡ Some (before ++ made)
 
 -- where the bytes that are left are known, the key is the first of them, and there is none only where none is left
 abbrev pub GivesKey : (left : Option (List ℕ)) → (key : Option ℕ) → (left_after : Option (List ℕ)) → Type 0

@@ -1,7 +1,7 @@
 //! Where keys come from, and where the terminal's bytes go.
-ghost use Rattle.std.specs.Prelude.{◌≡◌, ℕ, List, OnOk, OnErr, IfOk, Option};
+ghost use Rattle.std.specs.Prelude.{◌≡◌, ℕ, List, [], ◌∷◌, OnOk, OnErr, IfOk, Option, None};
 ghost use Rattle.std.specs.Io.KnownBytes.{Appends};
-ghost use Rattle.xv_machine.specs.Devices.{one_more, GivesKey};
+ghost use Rattle.xv_machine.specs.Devices.{one_more, GivesKey, Source, Asked, Sunk, Calls};
 
 use std::io::{self, ErrorKind, Read, Write};
 use thiserror::Error;
@@ -13,8 +13,8 @@ pub struct DeviceFault;
 
 /// A source of keys. It counts its calls that fail.
 pub trait KeySource {
-    // The bytes that are left, where they are known.
-    ghost left: { Self → Option (List ℕ) };
+    // What it tells of itself: the bytes that are left, and how many calls were made.
+    ghost source: { Self → Source };
 
     // How many calls have failed. The count stays at 2^64 - 1.
     ghost failures: { Self → ℕ };
@@ -25,15 +25,16 @@ pub trait KeySource {
     ///
     /// Where the device fails. It then counts one failure more, and what else it did isn't told.
     fn next_key(&mut self) -> Result<Option<u8>, DeviceFault>
-        ensures key { IfOk result (λ key. GivesKey (left self.old) key (left self.new)) }
+        ensures key { IfOk result (λ key. GivesKey (source self.old).left key (source self.new).left) }
+        ensures call { Asked (source self.old).asked (source self.new).asked 1 }
         ensures ok { OnOk result (failures self.new ≡ failures self.old) }
         ensures err { OnErr result (failures self.new ≡ one_more (failures self.old)) };
 }
 
 /// A sink of bytes. It counts its calls that fail.
 pub trait ByteSink {
-    // The bytes that it holds, where they are known.
-    ghost held: { Self → Option (List ℕ) };
+    // What it tells of what it was given: the bytes that it holds, and those of each of its calls.
+    ghost sunk: { Self → Sunk };
 
     // How many calls have failed. The count stays at 2^64 - 1.
     ghost failures: { Self → ℕ };
@@ -45,7 +46,8 @@ pub trait ByteSink {
     /// Where the device fails. It then counts one failure more, and how many of the bytes it took isn't
     /// told.
     fn write_out(&mut self, bytes: &[u8]) -> Result<(), DeviceFault>
-        ensures bytes { OnOk result (Appends (held self.old) (held self.new) bytes.now) }
+        ensures bytes { OnOk result (Appends (sunk self.old).held (sunk self.new).held bytes.now) }
+        ensures call { Calls (sunk self.old).calls (sunk self.new).calls (bytes.now ∷ []) }
         ensures ok { OnOk result (failures self.new ≡ failures self.old) }
         ensures err { OnErr result (failures self.new ≡ one_more (failures self.old)) };
 }
@@ -71,7 +73,7 @@ impl<X> Counted<X> {
 
 /// A read that was interrupted is made again.
 impl<X: Read> KeySource for Counted<X> {
-    ghost left = { λ s. X.remaining s.inner };
+    ghost source = { λ s. record { left = X.remaining s.inner; asked = None } };
 
     ghost failures = { λ s. s.failures };
 
@@ -86,7 +88,7 @@ impl<X: Read> KeySource for Counted<X> {
 
 /// The bytes are flushed, too.
 impl<X: Write> ByteSink for Counted<X> {
-    ghost held = { λ s. X.contents s.inner };
+    ghost sunk = { λ s. record { held = X.contents s.inner; calls = None } };
 
     ghost failures = { λ s. s.failures };
 

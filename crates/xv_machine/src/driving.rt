@@ -1,13 +1,13 @@
 //! A machine, driven in rounds between a source of keys and a sink of bytes.
-ghost use Rattle.std.specs.Prelude.{◌≡◌, ◌≢◌, ◌∷◌, [], false, OnOk, OnErr, IfOk, IfErr, replicate};
+ghost use Rattle.std.specs.Prelude.{◌≡◌, ◌≢◌, ◌∷◌, [], false, if◌then◌else◌, OnOk, OnErr, IfOk, IfErr, replicate};
 ghost use Rattle.std.specs.Option.{option_to_list};
 ghost use Rattle.std.specs.Io.KnownBytes.{Appends};
 ghost use Rattle.kcall_core.specs.Run as runs;
 ghost use Rattle.kcall_core.specs.Run.{bytes_out};
 ghost use Rattle.kcall_core.specs.Rounds.{key_events, round};
 ghost use Rattle.xk_base.specs.declared.limits.TheConstants.{SEND_BYTES};
-ghost use Rattle.xv_machine.specs.Devices.{one_more, HasFailed};
-ghost use Rattle.xv_machine.specs.Drives.{Done, StoppedByRead, StoppedByWrite, IsEndOf, OnRead, OnWrite};
+ghost use Rattle.xv_machine.specs.Devices.{one_more, Asked, Calls, OneFailed};
+ghost use Rattle.xv_machine.specs.Drives.{Done, StoppedByRead, StoppedByWrite, IsEndOf, OnRead, OnWrite, call_of};
 ghost use Rattle.xv_machine.specs.Events.{event_of};
 ghost use Rattle.xv_machine.specs.Sound.{IsSoundMachine};
 ghost use Rattle.xv_machine.specs.Stretches.{Plays, Silent, TakesKey};
@@ -50,7 +50,8 @@ pub enum DriveError {
 
 // Writes the bytes at once, where there are any.
 fn write_some<W: ByteSink>(sink: &mut W, bytes: &[u8]) -> Result<(), DeviceFault>
-    ensures bytes { OnOk result (Appends (W.held sink.old) (W.held sink.new) bytes.now) }
+    ensures bytes { OnOk result (Appends (W.sunk sink.old).held (W.sunk sink.new).held bytes.now) }
+    ensures call { Calls (W.sunk sink.old).calls (W.sunk sink.new).calls (call_of bytes.now) }
     ensures some { OnErr result (bytes.now ≢ []) }
     ensures ok { OnOk result (W.failures sink.new ≡ W.failures sink.old) }
     ensures err { OnErr result (W.failures sink.new ≡ one_more (W.failures sink.old)) }
@@ -67,7 +68,7 @@ fn perform<W: ByteSink>(
     event: Event,
     sink: &mut W,
 ) -> Result<(), DeviceFault>
-    ensures plays { Plays result (event_of event ∷ []) machine.old machine.new (W.held sink.old) (W.held sink.new) }
+    ensures plays { Plays result (event_of event ∷ []) machine.old machine.new (W.sunk sink.old) (W.sunk sink.new) }
     ensures ok { OnOk result (W.failures sink.new ≡ W.failures sink.old) }
     ensures err { OnErr result (W.failures sink.new ≡ one_more (W.failures sink.old)) }
     ensures sound { IsSoundMachine machine.new }
@@ -83,7 +84,7 @@ fn type_key<W: ByteSink>(
     sink: &mut W,
 ) -> Result<(), DeviceFault>
     requires { IsSoundMachine machine.old }
-    ensures plays { Plays result (key_events (option_to_list key)) machine.old machine.new (W.held sink.old) (W.held sink.new) }
+    ensures plays { Plays result (key_events (option_to_list key)) machine.old machine.new (W.sunk sink.old) (W.sunk sink.new) }
     ensures ok { OnOk result (W.failures sink.new ≡ W.failures sink.old) }
     ensures err { OnErr result (W.failures sink.new ≡ one_more (W.failures sink.old)) }
 {
@@ -93,7 +94,7 @@ fn type_key<W: ByteSink>(
     }
 }
 
-// Sends Run so many times, which shows no byte.
+// Sends Run `quantum` times, which shows no byte.
 fn run_quantum(machine: &mut Machine, quantum: u32)
     requires { IsSoundMachine machine.old }
     ensures { Silent (replicate quantum runs.Run) machine.old machine.new }
@@ -117,7 +118,7 @@ fn sent_bytes(byte: &Option<u8>) -> &[u8]
 // Lets the terminal take as many bytes as may wait for it, and writes each at once.
 fn send_all<W: ByteSink>(machine: &mut Machine, sink: &mut W) -> Result<(), DeviceFault>
     requires { IsSoundMachine machine.old }
-    ensures plays { Plays result (replicate SEND_BYTES runs.Send) machine.old machine.new (W.held sink.old) (W.held sink.new) }
+    ensures plays { Plays result (replicate SEND_BYTES runs.Send) machine.old machine.new (W.sunk sink.old) (W.sunk sink.new) }
     ensures ok { OnOk result (W.failures sink.new ≡ W.failures sink.old) }
     ensures err { OnErr result (W.failures sink.new ≡ one_more (W.failures sink.old)) }
 {
@@ -139,7 +140,7 @@ fn round<W: ByteSink>(
     sink: &mut W,
 ) -> Result<(), DeviceFault>
     requires { IsSoundMachine machine.old }
-    ensures plays { Plays result (round quantum (option_to_list key)) machine.old machine.new (W.held sink.old) (W.held sink.new) }
+    ensures plays { Plays result (round quantum (option_to_list key)) machine.old machine.new (W.sunk sink.old) (W.sunk sink.new) }
     ensures ok { OnOk result (W.failures sink.new ≡ W.failures sink.old) }
     ensures err { OnErr result (W.failures sink.new ≡ one_more (W.failures sink.old)) }
 {
@@ -151,7 +152,8 @@ fn round<W: ByteSink>(
 
 // The next key; none where the source was at its end before.
 fn take_key<R: KeySource>(at_end: bool, keys: &mut R) -> Result<Option<u8>, DeviceFault>
-    ensures key { IfOk result (λ key. TakesKey at_end (R.left keys.old) key (R.left keys.new)) }
+    ensures key { IfOk result (λ key. TakesKey at_end (R.source keys.old).left key (R.source keys.new).left) }
+    ensures call { Asked (R.source keys.old).asked (R.source keys.new).asked (if at_end then 0 else 1) }
     ensures reads { OnErr result (at_end ≡ false) }
     ensures ok { OnOk result (R.failures keys.new ≡ R.failures keys.old) }
     ensures err { OnErr result (R.failures keys.new ≡ one_more (R.failures keys.old)) }
@@ -180,13 +182,13 @@ pub fn drive<R: KeySource, W: ByteSink>(
     keys: &mut R,
     sink: &mut W,
 ) -> Result<DriveEnd, DriveError>
-    ensures done { OnOk result (Done plan (R.left keys.old) (R.left keys.new) machine.old machine.new (W.held sink.old) (W.held sink.new)) }
+    ensures done { OnOk result (Done plan (R.source keys.old) (R.source keys.new) machine.old machine.new (W.sunk sink.old) (W.sunk sink.new)) }
     ensures end { IfOk result (λ end. IsEndOf end machine.new) }
     ensures none_failed { OnOk result ((R.failures keys.new ≡ R.failures keys.old) × (W.failures sink.new ≡ W.failures sink.old)) }
-    ensures read { IfErr result (λ e. OnRead e (StoppedByRead plan (R.left keys.old) machine.old machine.new (W.held sink.old) (W.held sink.new))) }
-    ensures read_failed { IfErr result (λ e. OnRead e (HasFailed (R.failures keys.old) (R.failures keys.new))) }
-    ensures write { IfErr result (λ e. OnWrite e (StoppedByWrite plan (R.left keys.old) (R.left keys.new) machine.old machine.new)) }
-    ensures write_failed { IfErr result (λ e. OnWrite e (HasFailed (W.failures sink.old) (W.failures sink.new))) }
+    ensures read { IfErr result (λ e. OnRead e (StoppedByRead plan (R.source keys.old) (R.source keys.new) machine.old machine.new (W.sunk sink.old) (W.sunk sink.new))) }
+    ensures read_failed { IfErr result (λ e. OnRead e (OneFailed (R.failures keys.old) (R.failures keys.new) (W.failures sink.old) (W.failures sink.new))) }
+    ensures write { IfErr result (λ e. OnWrite e (StoppedByWrite plan (R.source keys.old) (R.source keys.new) machine.old machine.new (W.sunk sink.old) (W.sunk sink.new))) }
+    ensures write_failed { IfErr result (λ e. OnWrite e (OneFailed (W.failures sink.old) (W.failures sink.new) (R.failures keys.old) (R.failures keys.new))) }
     ensures sound { IsSoundMachine machine.new }
     ensures frames { machine.new.frames.count ≡ machine.old.frames.count }
 {

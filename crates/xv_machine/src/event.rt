@@ -3,6 +3,7 @@ ghost use Rattle.std.specs.Prelude.{◌≡◌};
 ghost use Rattle.kcall_core.specs.Run.{bytes_out};
 ghost use Rattle.xv_machine.specs.Events.{outcome_of};
 
+use crate::trace::Note;
 use kcall_core::Echo;
 use std::{fmt, slice};
 use xk_base::{Cause, Pid};
@@ -63,45 +64,16 @@ impl Outcome {
     }
 }
 
-/// The outcome as a line, without its end: a word, then plain decimal numbers. It is that of a trace, but of
-/// a key: an outcome doesn't know the key, and tells as `typed` how many bytes the console shows for it.
+/// The outcome as a line, without its end: a word, then plain decimal numbers. It is that of the trace's note, but
+/// for a key: an outcome doesn't know the key, and tells as `typed` how many bytes the console shows for it.
 impl fmt::Display for Outcome {
     fn fmt<W: fmt::Write>(&self, f: &mut fmt::Formatter<W>) -> fmt::Result {
-        match *self {
-            Outcome::Stepped { pid } => {
-                let pid = pid.number();
-                write!(f, "step {pid}")
-            }
-            Outcome::Called { pid, number, value } => {
-                let pid = pid.number();
-                write!(f, "call {pid} {number} {value}")
-            }
-            Outcome::Blocked { pid, number } => {
-                let pid = pid.number();
-                write!(f, "block {pid} {number}")
-            }
-            Outcome::Exited { pid, status } => {
-                let pid = pid.number();
-                write!(f, "exit {pid} {status}")
-            }
-            Outcome::Faulted { pid, cause } => {
-                let pid = pid.number();
-                let code = cause.code();
-                write!(f, "fault {pid} {code}")
-            }
-            Outcome::Turn { pid } => {
-                let pid = pid.number();
-                write!(f, "turn {pid}")
-            }
-            Outcome::Idle => write!(f, "idle"),
-            Outcome::Ticked => write!(f, "tick"),
-            Outcome::Typed(ref echo) => {
-                let count = echo.len();
-                write!(f, "typed {count}")
-            }
-            Outcome::Sent(Some(byte)) => write!(f, "sent {byte}"),
-            Outcome::Sent(None) => write!(f, "sent none"),
-            Outcome::Halted => write!(f, "halted"),
+        if let Outcome::Typed(echo) = self {
+            let count = echo.len();
+            return write!(f, "typed {count}");
         }
+        // The note of any other outcome is the same for each event.
+        let note = Note::of(Event::Run, self);
+        write!(f, "{note}")
     }
 }

@@ -1,4 +1,4 @@
-//! The machine.
+//! The machine: how it is booted, what it makes of events, and what is told of it.
 ghost use Rattle.std.specs.Prelude.{◌≡◌, ◌∷◌, ◌++◌, [], is_some, map, replicate};
 ghost use Rattle.circular_buffer.specs.Buffer.{buffer, keep_last};
 ghost use Rattle.xv_machine.specs.declared.trace.Note.TheVariants.{Stepped};
@@ -81,7 +81,8 @@ fn push(trace: &mut Trace, note: Note)
     trace.push(note);
 }
 
-// Puts the note of a done instruction behind the others of a trace.
+// Puts the note of a done instruction behind the others of a trace. It isn't inlined, so that the way of an
+// instruction in a machine without a trace doesn't hold it.
 #[inline(never)]
 fn push_step(trace: &mut Trace, pid: Pid)
     ensures { trace.new ≡ buffer (keep_last trace.old.capacity (trace.old.items ++ Stepped pid ∷ [])) trace.old.capacity }
@@ -156,7 +157,7 @@ impl Machine {
     ghost use Rattle.xv_machine.specs.Steps.{runs_made, IsEnd};
     ghost use Rattle.xv_machine.specs.Stretches.{sends};
 
-    /// A machine whose process 1 runs the program called `init`, and waits for its turn.
+    /// A machine with one process, process 1 of the program called `init`, which waits for its first turn.
     ///
     /// # Errors
     ///
@@ -222,9 +223,9 @@ impl Machine {
     }
 
     /// What comes of an event. The trace keeps a note of it, where it has room for any.
-    // An outcome has room for an echo. No call that may come here answers one from a function of its own: such
-    // an answer's room, 400 bytes, would be cleared before each event. And a done instruction's outcome is
-    // written anew, so that it isn't copied.
+    // An outcome is large, since it has room for an echo: 400 bytes. So each call on the way that answers one is
+    // inlined: the room for its answer would be cleared before each event. And a done instruction's outcome is
+    // written anew, since it would be copied.
     #[inline(always)]
     pub fn event(&mut self, event: Event) -> Outcome
         ensures promised { Promised self.old.world (event_of event) (outcome_of result) self.new.world }
@@ -339,6 +340,7 @@ impl Machine {
         ensures within { result ≤ most }
         ensures some { 0 < most → 0 < result }
     {
+        // (It also says that the machine is sound, which is promised of a call that sends nothing.)
         let current = self.current();
         if most == 0 {
             return 0;
@@ -490,7 +492,7 @@ impl Machine {
         self.kernel.free_frames()
     }
 
-    /// The pid of the current process.
+    /// The pid of the current process; `None` where none runs.
     #[inline(always)]
     pub fn current(&self) -> Option<Pid>
         ensures pid { result ≡ self.now.world.turns.current }
@@ -499,7 +501,7 @@ impl Machine {
         self.kernel.current()
     }
 
-    /// The status with which process 1 went.
+    /// The status with which process 1 went; `None` while it is there.
     pub fn halted(&self) -> Option<i32>
         ensures status { result ≡ self.now.world.turns.halted }
         ensures sound { IsSoundMachine self.now }

@@ -92,6 +92,10 @@ pub fn note_of_line(line: &str) -> Option<Note> {
 }
 
 /// The notes of a text, in the order of its lines. Lines without a note are passed over.
+///
+/// # Errors
+///
+/// [`AllocError`] where the host has too little memory.
 pub fn notes(alloc: Global, text: &str) -> Result<Vec<Note>, AllocError> {
     let mut notes = Vec::new(alloc);
     for line in text.lines() {

@@ -7,16 +7,22 @@ use std::io::{self, Write};
 
 /// How wide the bars of a whole trace are, in pixels.
 const WIDTH: u64 = 1_200;
+
 /// Where the bars begin, in pixels.
 const LEFT: u64 = 90;
+
 /// Where the first row begins, in pixels.
 const TOP: u64 = 44;
+
 /// How high a row is, in pixels.
 const ROW: u64 = 20;
+
 /// How high a bar is, in pixels.
 const BAR: u64 = 12;
+
 /// How much room a letter of the console takes, in hundredths of a pixel.
 const LETTER: u64 = 700;
+
 /// With more ticks than these they aren't drawn.
 const MOST_TICKS: usize = 300;
 
@@ -30,7 +36,7 @@ impl Display for Length {
     }
 }
 
-// Where the bars of the first `event` events end, where the trace has so many.
+// Where the bars of the first `event` events end, of a trace that has `events` of them.
 fn across(event: usize, events: usize) -> Length {
     let all = (events as u64).max(1);
     let width = (event as u64).saturating_mul(WIDTH * 100) / all;
@@ -322,22 +328,38 @@ fn draw_numbers<W: Write>(events: usize, base: u64, output: &mut W) -> io::Resul
     Ok(())
 }
 
+// The name and the bar of each process, from the first row on.
+fn draw_rows<W: Write>(chart: &Chart, output: &mut W) -> io::Result<()> {
+    let events = chart.notes.len();
+    for (place, row) in chart.rows.iter().enumerate() {
+        draw_row(row, place, events, output)?;
+    }
+    Ok(())
+}
+
+// What stands on the bars, event by event.
+fn draw_events<W: Write>(chart: &Chart, output: &mut W) -> io::Result<()> {
+    for (event, &note) in chart.notes.iter().enumerate() {
+        draw_event(chart, event, note, output)?;
+    }
+    Ok(())
+}
+
 /// Writes the picture of a chart: a row for each process, in the order of their pids, with its bar and its
 /// marks; below them the bytes that were sent and typed, and the numbers of events.
+///
+/// # Errors
+///
+/// That of `output`, where it doesn't take all of the picture.
 pub fn draw<W: Write>(chart: &Chart, output: &mut W) -> io::Result<()> {
-    let events = chart.notes.len();
     let bottom = row_top(chart.rows.len());
     draw_head(bottom.saturating_add(70), output)?;
     draw_legend(output)?;
     draw_ticks(chart, bottom, output)?;
-    for (place, row) in chart.rows.iter().enumerate() {
-        draw_row(row, place, events, output)?;
-    }
-    for (event, &note) in chart.notes.iter().enumerate() {
-        draw_event(chart, event, note, output)?;
-    }
+    draw_rows(chart, output)?;
+    draw_events(chart, output)?;
     draw_bytes("sent", chart, bottom.saturating_add(16), output)?;
     draw_bytes("typed", chart, bottom.saturating_add(34), output)?;
-    draw_numbers(events, bottom.saturating_add(54), output)?;
+    draw_numbers(chart.notes.len(), bottom.saturating_add(54), output)?;
     writeln!(output, "</svg>")
 }

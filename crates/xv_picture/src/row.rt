@@ -27,10 +27,11 @@ pub struct Stretch {
     pub events: usize,
 }
 
-/// The number of the call `fork`.
+/// The number of the call `fork` (xv6's `syscall.h`).
 pub const FORK: i32 = 1;
-/// The number of the call `wait`.
-pub const WAIT: i32 = 3;
+
+// The number of the call `wait`.
+const WAIT: i32 = 3;
 
 // What a process does where the turn of whoever runs is over.
 fn paused(was: State) -> State
@@ -57,8 +58,8 @@ fn after_call(pid: u32, was: State, number: i32, answer: i64) -> State
     }
 }
 
-/// What the process of this pid does behind a note, where it did `was` before it.
-pub fn after(pid: u32, was: State, note: Note) -> State
+// What the process of this pid does behind a note, where it did `was` before it.
+fn after(pid: u32, was: State, note: Note) -> State
     ensures { result ≡ after pid was note }
 {
     match note {
@@ -75,6 +76,10 @@ pub fn after(pid: u32, was: State, note: Note) -> State
 }
 
 /// What the process of this pid does, note by note, as stretches of one state each.
+///
+/// # Errors
+///
+/// [`AllocError`] where the host has too little memory.
 pub fn stretches(alloc: Global, pid: u32, notes: &[Note]) -> Result<Vec<Stretch>, AllocError>
     ensures { IfOk result (λ row. shown row.items ≡ states pid State.Absent notes.now) }
 {

@@ -1,5 +1,5 @@
 -- The exit status tells how a run ended.
-use Rattle.std.proofs.Common.{◌≡◌, ◌≢◌, ◌⊎◌, ℕ, zero, suc, ℤ, pos, negsuc, List, Option, None, Some, Result, Ok, Err, OnOk, IfOk, IfErr, arith, refl, inl, inr, rules}
+use Rattle.std.proofs.Common.{◌≡◌, ◌≢◌, ◌⊎◌, ℕ, zero, suc, ℤ, pos, negsuc, List, None, Some, Result, Ok, Err, OnOk, IfOk, IfErr, arith, refl, inl, inr, rules}
 use Rattle.kcall_core.specs.Run.{World}
 use Rattle.xk_base.specs.declared.errors.BootError.{BootError}
 use Rattle.xk_base.specs.declared.errors.BootError.TheVariants.{BadConfig, BadPrograms, NoInit, Memory, Init}
@@ -9,13 +9,13 @@ use Rattle.xv_machine.specs.declared.driving.DriveEnd.TheVariants.{Halted, Round
 use Rattle.xv_machine.specs.declared.driving.DriveError.{DriveError}
 use Rattle.xv_machine.specs.declared.driving.DriveError.TheVariants.{Read, Write}
 use Rattle.xv_machine.specs.declared.driving.RunPlan.{RunPlan}
-use Rattle.xv_machine.specs.Devices.{HasFailed}
+use Rattle.xv_machine.specs.Devices.{OneFailed}
 use Rattle.xv_machine.specs.Drives.{Done, IsEndOf, OnRead, OnWrite}
 use Rattle.xv_machine.specs.Meaning.{Meaning}
 use Rattle.xv_machine.specs.declared.machine.Config.{Config}
 use Rattle.kcall_core.specs.First.{first}
 use Rattle.kcall_core.specs.State.{ProgramFile}
-use Rattle.xv_run.specs.Runs.{Devices, Drove, Tells, Says, exit_status, status_of}
+use Rattle.xv_run.specs.Runs.{Devices, Tells, Says, exit_status, status_of}
 
 -- an exit with 0 is told as 0, and any other as 3
 pub other-status : (status : ℤ) → status ≢ pos 0 → exit_status status ≡ 3
@@ -34,7 +34,7 @@ booted-first frames result (Err (Init x)) m boots e = search rules
 booted-first frames result (Ok w) m boots e = search rules
 
 module _ (plan : RunPlan) (old new : Meaning) (before after : Devices) where
-  tells-halted : (status : ℤ) → Done plan before.left after.left old new before.held after.held → new.world.turns.halted ≡ Some status
+  tells-halted : (status : ℤ) → Done plan before.source after.source old new before.sink after.sink → new.world.turns.halted ≡ Some status
       → Tells (exit_status status) plan old before after
   tells-halted (pos zero) done end = record {
     exited = λ _. (new, done, end);
@@ -58,7 +58,7 @@ module _ (plan : RunPlan) (old new : Meaning) (before after : Devices) where
     no_other = inr (inl refl);
   }
 
-  tells-over : Done plan before.left after.left old new before.held after.held → new.world.turns.halted ≡ None → Tells 4 plan old before after
+  tells-over : Done plan before.source after.source old new before.sink after.sink → new.world.turns.halted ≡ None → Tells 4 plan old before after
   tells-over done end = record {
     exited = λ e. absurd (omega arith);
     exited_otherwise = λ e. absurd (omega arith);
@@ -67,7 +67,7 @@ module _ (plan : RunPlan) (old new : Meaning) (before after : Devices) where
     no_other = inr (inr (inl refl));
   }
 
-  tells-failed : (HasFailed before.failed_reads after.failed_reads ⊎ HasFailed before.failed_writes after.failed_writes) → Tells 5 plan old before after
+  tells-failed : (OneFailed before.failed_reads after.failed_reads before.failed_writes after.failed_writes ⊎ OneFailed before.failed_writes after.failed_writes before.failed_reads after.failed_reads) → Tells 5 plan old before after
   tells-failed failed = record {
     exited = λ e. absurd (omega arith);
     exited_otherwise = λ e. absurd (omega arith);
@@ -77,10 +77,10 @@ module _ (plan : RunPlan) (old new : Meaning) (before after : Devices) where
   }
 
   pub tells : (end : Result DriveEnd DriveError)
-      → OnOk end (Done plan before.left after.left old new before.held after.held)
+      → OnOk end (Done plan before.source after.source old new before.sink after.sink)
       → IfOk end (λ e. IsEndOf e new)
-      → IfErr end (λ e. OnRead e (HasFailed before.failed_reads after.failed_reads))
-      → IfErr end (λ e. OnWrite e (HasFailed before.failed_writes after.failed_writes))
+      → IfErr end (λ e. OnRead e (OneFailed before.failed_reads after.failed_reads before.failed_writes after.failed_writes))
+      → IfErr end (λ e. OnWrite e (OneFailed before.failed_writes after.failed_writes before.failed_reads after.failed_reads))
       → Tells (status_of end) plan old before after
   tells (Ok (Halted status)) done end read write = tells-halted status done end
   tells (Ok RoundsOver) done end read write = tells-over done end

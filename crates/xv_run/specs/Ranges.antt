@@ -1,5 +1,5 @@
 -- What a command line may ask for.
-use Rattle.std.specs.Prelude.{ℕ, ◌≤◌, ◌<◌, vec_len}
+use Rattle.std.specs.Prelude.{◌≤◌, ◌<◌, vec_len}
 use Rattle.xv_run.specs.declared.line.Settings.{Settings}
 
 -- each number lies in its range, and there is a FILE

@@ -1,5 +1,5 @@
 -- What a run of the program comes to, by its exit status.
-use Rattle.std.specs.Prelude.{◌≡◌, ◌≢◌, ◌⊎◌, ◌≤◌, ℕ, zero, suc, ℤ, pos, negsuc, List, Option, None, Some, Result, Ok, Err}
+use Rattle.std.specs.Prelude.{◌≡◌, ◌≢◌, ◌⊎◌, ℕ, zero, suc, ℤ, pos, negsuc, List, Option, None, Some, Result, Ok, Err}
 use Rattle.kcall_core.specs.First.{first}
 use Rattle.kcall_core.specs.State.{ProgramFile}
 use Rattle.xv_machine.specs.declared.driving.DriveEnd.{DriveEnd}
@@ -7,7 +7,7 @@ use Rattle.xv_machine.specs.declared.driving.DriveEnd.TheVariants.{Halted, Round
 use Rattle.xv_machine.specs.declared.driving.DriveError.{DriveError}
 use Rattle.xv_machine.specs.declared.driving.RunPlan.{RunPlan}
 use Rattle.xv_machine.specs.declared.machine.Config.{Config}
-use Rattle.xv_machine.specs.Devices.{HasFailed}
+use Rattle.xv_machine.specs.Devices.{Source, Sunk, OneFailed}
 use Rattle.xv_machine.specs.Drives.{Done}
 use Rattle.xv_machine.specs.Meaning.{Meaning}
 
@@ -23,24 +23,24 @@ status_of (Ok (Halted status)) = exit_status status
 status_of (Ok RoundsOver) = 4
 status_of (Err e) = 5
 
--- the bytes that a source has left and a sink holds, where they are known, and how many of their calls have failed
+-- what a source and a sink tell of themselves, and how many of their calls have failed
 pub record Devices : Type 0 where
-  pub left : Option (List ℕ)
+  pub source : Source
   pub failed_reads : ℕ
-  pub held : Option (List ℕ)
+  pub sink : Sunk
   pub failed_writes : ℕ
 
 -- the machine was driven by the plan to its end, and process 1 has gone with this status, or is live
 abbrev pub Drove : RunPlan → Meaning → (before after : Devices) → (halted : Option ℤ) → Type 0
 Drove plan booted before after halted =
-    (ended : Meaning) × Done plan before.left after.left booted ended before.held after.held × (ended.world.turns.halted ≡ halted)
+    (ended : Meaning) × Done plan before.source after.source booted ended before.sink after.sink × (ended.world.turns.halted ≡ halted)
 
 -- what the exit status says of a machine that has booted
 pub record Tells (status : ℕ) (plan : RunPlan) (booted : Meaning) (before after : Devices) : Type 0 where
   pub exited : status ≡ 0 → Drove plan booted before after (Some (pos 0))
   pub exited_otherwise : status ≡ 3 → (code : ℤ) × (code ≢ pos 0) × Drove plan booted before after (Some code)
   pub rounds_over : status ≡ 4 → Drove plan booted before after None
-  pub device_failed : status ≡ 5 → HasFailed before.failed_reads after.failed_reads ⊎ HasFailed before.failed_writes after.failed_writes
+  pub device_failed : status ≡ 5 → OneFailed before.failed_reads after.failed_reads before.failed_writes after.failed_writes ⊎ OneFailed before.failed_writes after.failed_writes before.failed_reads after.failed_reads
   pub no_other : (status ≡ 0) ⊎ (status ≡ 3) ⊎ (status ≡ 4) ⊎ (status ≡ 5)
 
 -- What the exit status says of these programs: 2 that nothing was read or written (that a boot succeeds where there is memory is tested); any

@@ -1,5 +1,5 @@
 -- A kernel without a process is whole: nothing is open, nobody sleeps, and all frames are free. A tick leaves it so.
-use Rattle.std.proofs.Common.{◌≡◌, ℕ, zero, suc, ◌∷◌, true, false, length, replicate, map, get_or, Some, None, refl, sym, ap, ◌∙◌, subst, arith}
+use Rattle.std.proofs.Common.{◌≡◌, ℕ, zero, suc, ◌∷◌, true, false, length, replicate, map, Some, None, refl, sym, ap, ◌∙◌, subst, arith}
 use Rattle.std.specs.Prelude.{List, Option, option_map, IsSome, is_some}
 use Rattle.std.specs.FinMap.{get, get-empty, len-empty}
 use Rattle.std.specs.FinSet as set
@@ -23,11 +23,10 @@ use Rattle.kcall_core.specs.Starts.{HasNoProcess}
 use Rattle.kcall_core.specs.Quiet.{file_at, file_of}
 use Rattle.kcall_core.specs.WellFormed.{WellFormed, over_all, cost, sum_below}
 use Rattle.kcall_core.specs.Wakes.{NoReadySleeper}
-use Rattle.kcall_core.specs.Memories.{pipes_of, free_of, Same}
+use Rattle.kcall_core.specs.Memories.{pipes_of, free_of}
 use Rattle.kcall_core.specs.Kernel.{frame_count, state_of, IsSound}
 use Rattle.kcall_core.specs.Machine.{sleeper_in, sleepers_below, turns_of, world_of}
 use Rattle.kcall_core.specs.Whole.{AreCounted, IsWhole}
-use Rattle.kcall_core.specs.declared.memories.Memories.{Memories}
 use Rattle.kcall_core.specs.declared.kernel.Kernel.{Kernel}
 use Rattle.kcall_core.proofs.memory.Births.{get_or-same}
 use Rattle.kcall_core.proofs.table.FirstWhole.{none-asleep, none-counted, none-open-table}
@@ -143,25 +142,4 @@ tick-leaves k k' h h' on clock nobody table stopped opened frames state = record
   files = opened ∙ nobody.files;
   pipes = pipes-told k' h' ∙ ap (λ (t : State). t.pipes) state ∙ sym (pipes-told k h) ∙ nobody.pipes;
   free = free-told k' h' ∙ ap (λ (t : State). t.free) state ∙ sym (free-told k h) ∙ nobody.free ∙ sym frames;
-}
-
--- a start that is refused leaves the memories as they were, as far as they can be seen
-pub refused-nobody : (k : Kernel) (m : Memories) → HasNoProcess k → Same k.memories m → HasNoProcess (record k { memories = m })
-refused-nobody k m nobody same = record {
-  table = nobody.table;
-  current = nobody.current;
-  files = nobody.files;
-  pipes = same.pipes ∙ nobody.pipes;
-  free = same.free ∙ nobody.free ∙ sym same.frames;
-}
-
-pub refused-sound : (k : Kernel) (h : Hart) (m : Memories) → IsSound k h → HasNoProcess k → Same k.memories m → IsSound (record k { memories = m }) h
-refused-sound k h m sound nobody same = record {
-  memories = same.sound;
-  table = sound.table;
-  lives = λ j p at live. absurd (not-held k nobody j p at);
-  ended = λ j p status at over. absurd (not-held k nobody j p at);
-  vacant = λ j at. ap (λ xs. get_or xs j None) same.each ∙ sound.vacant j at;
-  current = λ j at. absurd (none-some j (sym nobody.current ∙ at));
-  idle = sound.idle;
 }

@@ -29,7 +29,7 @@ use Rattle.kcall_core.specs.Memories.{held_in, each_of, pipes_of, free_of, SlotC
 use Rattle.kcall_core.specs.declared.memories.Memories.{Memories}
 use Rattle.kcall_core.specs.Kernel.{process_of, descriptor_map, entry_of, entry_at, state_of, IsSound}
 use Rattle.kcall_core.specs.declared.kernel.Kernel.{Kernel}
-use Rattle.kcall_core.proofs.table.ByPid.{by_pid-insert, by_pid-same}
+use Rattle.kcall_core.proofs.table.ByPid.{by_pid-insert}
 use Rattle.kcall_core.proofs.memory.Births.{get_or-same}
 use Rattle.kcall_core.proofs.memory.Lists.{set-twice}
 use Rattle.kcall_core.proofs.table.NoProcess.{no-process-state}
@@ -201,22 +201,4 @@ begins {k} {k'} {h} {h'} {middle} {slot} l regs sound blank first second zero-sl
       current = current ∙ blank.current;
       files = rest.files ∙ blank.files;
       frames = changes.frames;
-    }
-
--- nothing is changed that can be seen
-pub same-state : (k k' : Kernel) (h : Hart) → HasNoProcess k → Same k.memories k'.memories → k'.table ≡ k.table → Rest k k' → state_of k' h ≡ state_of k h
-unfolding state_of
-same-state k k' h blank same table rest =
-    let none : (j : ℕ) → place_at k.table j ≡ None = λ j. ap (λ (t : Slots). place_at t j) blank.table ∙ get_or-same None NPROC j in
-    let processes : by_pid (entry_at k' h) NPROC ≡ by_pid (entry_at k h) NPROC =
-    by_pid-same (entry_at k h) (entry_at k' h) NPROC (λ j. ap (λ (t : Slots). entry_of k' h j (place_at t j)) table ∙ ap (entry_of k' h j) (none j) ∙ sym (ap (entry_of k h j) (none j))) in
-    λ t. record {
-      processes = processes t;
-      files = gathered (open_file_at (rest.files t)) OPEN_FILES;
-      pipes = same.pipes t;
-      console = rest.console t;
-      clock = rest.clock t;
-      next_pid = (table t).next;
-      free = same.free t;
-      programs = map named_file (rest.programs t);
     }

@@ -1,4 +1,4 @@
-//! The call exec: a process goes on with another program.
+//! The call exec: a process goes on with another program (xv6's `exec.c`; the xv6 book, "Code: exec").
 ghost use Rattle.std.specs.Prelude.{◌≡◌, ◌%◌, ◌<◌, ◌≤◌, false, Some, IfSome, IfNone, map, option_copied, option_map};
 ghost use Rattle.xk_base.specs.Image.{price};
 ghost use Rattle.xk_base.specs.Loaded.{Loaded};
@@ -57,8 +57,8 @@ fn start_program(hart: &mut Hart, start: Entry)
 }
 
 /// Replaces the image of a slot by the program that its process asks for, and tells with which registers
-/// that starts. None where there is no such program, or it costs more than the free frames; then nothing
-/// is changed.
+/// that starts. None where the path or one of the texts can't be read, no program has the name, its file
+/// or its texts are refused, or it costs more than the free frames; then nothing is changed.
 fn replace_as_asked(
     memories: &mut Memories,
     programs: &[Program],
@@ -81,9 +81,7 @@ fn replace_as_asked(
     if !memories.fetch_args(slot, pointers, &mut args) {
         return None;
     }
-    let Some(program) = program_named(programs, without_slashes(&name[..len])) else {
-        return None;
-    };
+    let program = program_named(programs, without_slashes(&name[..len]))?;
     let Ok(plan) = plan(&program.bytes, &args) else {
         return None;
     };

@@ -1,4 +1,5 @@
-//! A process goes.
+//! The end of a process, by the call exit, a kill or a fault (xv6's `proc.c`; the xv6 book, "Code: Wait, exit,
+//! and kill").
 ghost use Rattle.std.specs.Prelude.{◌≡◌, ◌≢◌, Some, None};
 ghost use Rattle.std.specs.FinMap.{empty};
 ghost use Rattle.proc_table.specs.Processes.{given, ended};

@@ -22,7 +22,7 @@ use hart_core::Hart;
 use xk_base::limits::NOFILE;
 use xk_base::{Fd, Pid, Reg};
 
-/// A new process: where it is, and its name.
+/// A new process: the slot that it is in, and its pid.
 #[derive(Clone, Copy)]
 struct Child {
     slot: usize,

@@ -1,4 +1,4 @@
-//! The call kill (the xv6 book, "Code: Wait, exit, and kill").
+//! The call kill (xv6's `proc.c`; the xv6 book, "Code: Wait, exit, and kill").
 ghost use Rattle.std.specs.Prelude.{◌≡◌};
 ghost use Rattle.kcall_core.specs.Kills.{asked_pid};
 ghost use Rattle.kcall_core.specs.Calls.{kill};

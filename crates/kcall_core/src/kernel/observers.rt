@@ -38,10 +38,7 @@ impl ChildState {
 fn is_parent(parent: Option<Pid>, pid: Pid) -> bool
     ensures { result ≡ is_this pid parent }
 {
-    match parent {
-        None => false,
-        Some(parent) => parent.number() == pid.number(),
-    }
+    parent.is_some_and(|parent| parent.number() == pid.number())
 }
 
 impl Kernel {
@@ -51,9 +48,7 @@ impl Kernel {
         ensures found { IfSome result (IsLiveIn self.now pid) }
         ensures none { IfNone result ((hart : Hart) → live (state_of self.now hart) pid ≡ None) }
     {
-        let Some(slot) = self.table.find(pid) else {
-            return None;
-        };
+        let slot = self.table.find(pid)?;
         if self.table.status(slot).is_some() {
             return None;
         }
@@ -64,10 +59,7 @@ impl Kernel {
     fn runs_in(&self, slot: usize) -> bool
         ensures { result ≡ is_this slot self.now.current }
     {
-        match self.current {
-            None => false,
-            Some(current) => current == slot,
-        }
+        self.current == Some(slot)
     }
 
     /// The pid of the process that runs, if one does.
@@ -76,9 +68,7 @@ impl Kernel {
         requires { (hart : Hart) × IsSound self.now hart }
         ensures { (halted : Option ℤ) → result ≡ (turns_of self.now halted).current }
     {
-        let Some(slot) = self.current else {
-            return None;
-        };
+        let slot = self.current?;
         Some(self.table.pid(slot))
     }
 
@@ -87,9 +77,7 @@ impl Kernel {
         requires { IsSound self.now hart.now }
         ensures { result ≡ registers_of (state_of self.now hart.now) pid }
     {
-        let Some(slot) = self.find_live(pid) else {
-            return None;
-        };
+        let slot = self.find_live(pid)?;
         if self.runs_in(slot) {
             return Some(*hart.regs());
         }
@@ -98,14 +86,12 @@ impl Kernel {
 
     /// The byte at an address of a live process, whatever its page allows. `None` for any other pid, and
     /// for an address without a page.
-    pub fn peek(&self, pid: Pid, va: u64) -> Option<u8>
+    pub fn peek(&self, pid: Pid, address: u64) -> Option<u8>
         requires { (hart : Hart) × IsSound self.now hart }
-        ensures { (hart : Hart) → result ≡ byte_at (state_of self.now hart) pid va }
+        ensures { (hart : Hart) → result ≡ byte_at (state_of self.now hart) pid address }
     {
-        let Some(slot) = self.find_live(pid) else {
-            return None;
-        };
-        self.memories.peek(slot, va)
+        let slot = self.find_live(pid)?;
+        self.memories.peek(slot, address)
     }
 
     /// Whether a child of a live process lives, or with which status it ended. `None` where there is no
@@ -114,12 +100,8 @@ impl Kernel {
         requires { (hart : Hart) × IsSound self.now hart }
         ensures { (hart : Hart) → option_map shown result ≡ child_at (state_of self.now hart) pid child }
     {
-        let Some(_) = self.find_live(pid) else {
-            return None;
-        };
-        let Some(slot) = self.table.find(child) else {
-            return None;
-        };
+        self.find_live(pid)?;
+        let slot = self.table.find(child)?;
         if !is_parent(self.table.parent(slot), pid) {
             return None;
         }

@@ -6,13 +6,14 @@ ghost use Rattle.kcall_core.specs.Programs.{has_slash_or_zero, is_bad_name, same
 use xk_base::Program;
 use xk_base::limits::{NAME_MAX, PROGRAM_BYTES, PROGRAMS_MAX};
 
+/// Whether a name holds a slash or a zero byte.
 fn holds_slash_or_zero(name: &[u8]) -> bool
     ensures { result ≡ has_slash_or_zero name.now }
 {
-    name.iter().any(|b| *b == b'/' || *b == 0)
+    name.iter().any(|byte| *byte == b'/' || *byte == 0)
 }
 
-// Whether a name is empty, or long, or holds a slash or a zero byte, or is the console's.
+/// Whether a name is empty, longer than [`NAME_MAX`] bytes, holds a slash or a zero byte, or is the console's.
 fn is_refused_name(name: &[u8]) -> bool
     ensures { result ≡ is_bad_name name.now }
 {
@@ -22,6 +23,7 @@ fn is_refused_name(name: &[u8]) -> bool
         | (name == b"console".as_slice())
 }
 
+/// Whether programs `i` and `k` have the same name.
 fn have_one_name(programs: &[Program], i: usize, k: usize) -> bool
     requires first { i < length programs.now }
     requires second { k < length programs.now }
@@ -30,7 +32,7 @@ fn have_one_name(programs: &[Program], i: usize, k: usize) -> bool
     programs[i].name.as_slice() == programs[k].name.as_slice()
 }
 
-// Whether an earlier program has the name of program `i`.
+/// Whether an earlier program has the name of program `i`.
 fn has_earlier_name(programs: &[Program], i: usize) -> bool
     requires { i < length programs.now }
     ensures { result ≡ is_earlier_name (map named_file programs.now) i }
@@ -43,7 +45,8 @@ fn has_earlier_name(programs: &[Program], i: usize) -> bool
     false
 }
 
-// Whether program `i` is refused.
+/// Whether program `i` is refused: there are [`PROGRAMS_MAX`] before it, its name is refused or an earlier one's, or
+/// its file has more than [`PROGRAM_BYTES`] bytes.
 #[tactic(auto, unfolding(crate::specs::Programs::is_bad_program))]
 fn is_refused(programs: &[Program], i: usize) -> bool
     requires { i < length programs.now }

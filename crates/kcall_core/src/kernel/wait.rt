@@ -1,4 +1,4 @@
-//! The call wait (the xv6 book, "Code: Wait, exit, and kill").
+//! The call wait (xv6's `proc.c`; the xv6 book, "Code: Wait, exit, and kill").
 ghost use Rattle.std.specs.Prelude.{◌≡◌, true, false, pos, Some, nat_eq, ◌||◌, cond};
 ghost use Rattle.hart_core.specs.declared.hart.Hart.{Hart};
 ghost use Rattle.kcall_core.specs.Buffers.{writable_now};

@@ -12,7 +12,8 @@ use exec_core::ArgList;
 use xk_base::BadAddress;
 use xk_base::limits::{ARG_BYTES, MAXARG};
 
-/// Most texts have fewer bytes than this. For those no room for a longer one is cleared.
+/// Bytes of the room that is cleared for a text at first. Most texts fit with their zero byte; only for a longer one
+/// is the whole room of [`ARG_BYTES`] cleared.
 const SHORT_TEXT: usize = 128;
 
 impl Memories {

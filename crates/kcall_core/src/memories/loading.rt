@@ -22,14 +22,16 @@ impl Memories {
         ensures start { IfOk result (λ start. start ≡ record { pc = plan.entry.pc; sp = plan.entry.sp; argc = plan.entry.argc }) }
         ensures loaded { IfOk result (λ _. SlotChanges self.old self.new slot (Some (record { image = plan.entry.image; saved = fresh 0 }))) }
         ensures fits { IfOk result (λ _. price plan.entry.image + 1 ≤ free_of self.old) }
-        ensures refused { IfErr result (λ _. (free_of self.old < price plan.entry.image + 1) × Same self.old self.new) }
+        ensures refused { IfErr result (λ _. (free_of self.old < price plan.entry.image + 1) × (self.new ≡ self.old)) }
     {
-        let Some(trapframe) = self.pool.take(&mut self.ram) else {
+        if u64::from(self.pool.free()) <= plan.price() {
             return Err(NoFrames);
+        }
+        let Some(trapframe) = self.pool.take(&mut self.ram) else {
+            unreachable!();
         };
         let Ok((space, start)) = build(plan, &mut self.pool, &mut self.ram) else {
-            self.pool.give(&mut self.ram, trapframe);
-            return Err(NoFrames);
+            unreachable!();
         };
         self.each[slot] = Some(Memory { space, trapframe });
         Ok(start)

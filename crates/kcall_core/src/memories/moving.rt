@@ -46,6 +46,7 @@ impl Memories {
         requires pipe { IsSome (get (pipes_of self.now) frame) }
         ensures { result ≡ must_wait (pipe_named (pipes_of self.now) frame) }
     {
+        // (That its number is below `FRAMES_MAX`.)
         let _ = frame.number();
         let len = pipe_core::len(&self.ram, frame);
         let writers = pipe_core::writers(&self.ram, frame);
@@ -59,6 +60,7 @@ impl Memories {
         ensures value { result ≡ length (pipe_named (pipes_of self.now) frame).bytes }
         ensures range { result ≤ PIPE_BYTES }
     {
+        // (That its number is below `FRAMES_MAX`.)
         let _ = frame.number();
         pipe_core::len(&self.ram, frame)
     }
@@ -85,6 +87,7 @@ impl Memories {
         requires readable { readable (held_at (each_of self.old) slot).image address count ≡ true }
         ensures { PipeChanges self.old self.new frame (Some (with_more (image_bytes (held_at (each_of self.old) slot).image address count) (pipe_named (pipes_of self.old) frame))) }
     {
+        // (That its number is below `FRAMES_MAX`.)
         let _ = frame.number();
         let Some(memory) = &self.each[slot] else {
             unreachable!();
@@ -132,6 +135,7 @@ impl Memories {
         ensures free { free_of self.new ≡ free_of self.old }
         ensures runs { (hart : Hart) → RunsIn self.old slot hart → RunsIn self.new slot hart }
     {
+        // (That its number is below `FRAMES_MAX`.)
         let _ = frame.number();
         let Some(memory) = &self.each[slot] else {
             unreachable!();
@@ -146,6 +150,7 @@ impl Memories {
         requires bytes { count ≤ length (pipe_named (pipes_of self.old) frame).bytes }
         ensures { PipeChanges self.old self.new frame (Some (without_first count (pipe_named (pipes_of self.old) frame))) }
     {
+        // (That its number is below `FRAMES_MAX`.)
         let _ = frame.number();
         pipe_core::drop_first(&mut self.ram, frame, count);
     }

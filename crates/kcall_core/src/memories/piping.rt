@@ -17,6 +17,7 @@ impl Memories {
         requires there { IsSome (get (pipes_of self.now) frame) }
         ensures { result ≡ (pipe_named (pipes_of self.now) frame).readers }
     {
+        // (That its number is below `FRAMES_MAX`.)
         let _ = frame.number();
         pipe_core::readers(&self.ram, frame)
     }
@@ -27,6 +28,7 @@ impl Memories {
         requires there { IsSome (get (pipes_of self.now) frame) }
         ensures { result ≡ (pipe_named (pipes_of self.now) frame).writers }
     {
+        // (That its number is below `FRAMES_MAX`.)
         let _ = frame.number();
         pipe_core::writers(&self.ram, frame)
     }
@@ -61,6 +63,7 @@ impl Memories {
         requires room { count_on end (pipe_named (pipes_of self.old) frame) < END_COUNT_MAX }
         ensures { PipeChanges self.old self.new frame (Some (joined (pipe_named (pipes_of self.old) frame) end 1)) }
     {
+        // (That its number is below `FRAMES_MAX`.)
         let _ = frame.number();
         match end {
             End::Reading => pipe_core::add_reader(&mut self.ram, frame),
@@ -75,6 +78,7 @@ impl Memories {
         requires some { 1 ≤ count_on end (pipe_named (pipes_of self.old) frame) }
         ensures { PipeChanges self.old self.new frame (Some (parted (pipe_named (pipes_of self.old) frame) end 1)) }
     {
+        // (That its number is below `FRAMES_MAX`.)
         let _ = frame.number();
         match end {
             End::Reading => pipe_core::drop_reader(&mut self.ram, frame),

@@ -1,5 +1,5 @@
 use Rattle.std.specs.Prelude.{not}
-use Rattle.std.proofs.Common.{ap, ◌-◌, rules, arith, sym, ◌∙◌, Ok, Err, None}
+use Rattle.std.proofs.Common.{ap, ◌-◌, rules, arith, ◌∙◌, Ok, Err}
 use Rattle.std.proofs.lemmas.Result.{err_from_is_err_and}
 use Rattle.xk_base.specs.declared.limits.TheConstants.{SEND_BYTES}
 use Rattle.kcall_core.specs.Run as runs
@@ -18,7 +18,7 @@ pub loop-sent-preserved : goal.loop-sent-preserved
 loop-sent-preserved g c =
     let one = one-sent (SEND_BYTES - c.loop-sent.sent) c.send-byte.result _ _ (c.is_none.ensures ∙ ap not c.if-is_none.false) c.send-byte.ensures.goes in
     record {
-      played = played-more _ _ _ _ _ _ _ _ c.loop-sent.invariant.played (event-plays {E = Unit {0}} (Ok tt) runs.Send (runs.Sent c.send-byte.result) _ _ _ _ c.sent_bytes.result.now one c.sent_bytes.ensures c.in_ok-write_some.ensures.bytes tt);
+      played = played-more _ _ _ _ _ _ _ _ c.loop-sent.invariant.played (event-plays {E = Unit {0}} (Ok tt) runs.Send (runs.Sent c.send-byte.result) _ _ _ _ c.sent_bytes.result.now one c.sent_bytes.ensures c.in_ok-write_some.ensures.bytes c.in_ok-write_some.ensures.call tt);
       count = search rules;
     }
 
@@ -26,4 +26,4 @@ pub returns-in_err-write_some-clause-plays : goal.returns-in_err-write_some-clau
 returns-in_err-write_some-clause-plays g c =
     let p = err_from_is_err_and c.from_residual.result c.from_residual.ensures.1 in
     let one = one-sent (SEND_BYTES - c.loop-sent.sent) c.send-byte.result _ _ (c.is_none.ensures ∙ ap not c.if-is_none.false) c.send-byte.ensures.goes in
-    rw p.1 (broke-within runs.Send c.loop-sent.sent SEND_BYTES _ _ _ _ _ (omega arith) c.loop-sent.invariant.played (event-plays {E = Unit {0}} (Err tt) runs.Send (runs.Sent c.send-byte.result) _ _ None None c.sent_bytes.result.now one c.sent_bytes.ensures tt c.in_err-write_some.ensures.some))
+    rw p.1 (broke-within runs.Send c.loop-sent.sent SEND_BYTES _ _ _ _ _ _ (omega arith) c.loop-sent.invariant.played (event-plays {E = Unit {0}} (Err tt) runs.Send (runs.Sent c.send-byte.result) _ _ _ _ c.sent_bytes.result.now one c.sent_bytes.ensures tt c.in_err-write_some.ensures.call c.in_err-write_some.ensures.some))

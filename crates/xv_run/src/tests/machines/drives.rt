@@ -40,7 +40,7 @@ impl Endless {
 }
 
 impl KeySource for Endless {
-    ghost left = { λ _. None };
+    ghost source = { λ _. record { left = None; asked = None } };
 
     ghost failures = { λ s. s.failures };
 
@@ -61,7 +61,7 @@ struct Broken {
 }
 
 impl ByteSink for Broken {
-    ghost held = { λ _. None };
+    ghost sunk = { λ _. record { held = None; calls = None } };
 
     ghost failures = { λ s. s.failures };
 
@@ -116,6 +116,7 @@ fn a_failed_read_ends_a_drive_before_its_round(rt: HostRuntime) -> Result<(), Fa
         scene.drive(plan(5), &mut keys, &mut sink),
         Err(DriveError::Read)
     );
+    assert_eq!(rt; keys.reads, 3);
     assert_eq!(rt; scene.notes_of(&Note::Ticked), 2);
     let mut scene = scene_of(rt.alloc(), &HI)?;
     let mut keys = Endless::failing_at(0);

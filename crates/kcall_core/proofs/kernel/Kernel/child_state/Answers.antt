@@ -8,26 +8,26 @@ use Rattle.proc_table.specs.Processes.{status_of}
 use Rattle.kcall_core.proofs.table.Observed.{slot-found, child-told, child-missing, child-held}
 use Rattle.kcall_core.proofs.kernel.Kernel.child_state.Goals as goal
 
-pub returns-in_default : goal.returns-in_default
-returns-in_default c = λ hart. sym (ap (λ o. if_live o (child_of c.args.pid (get (state_of c.args.self.now hart).processes c.args.child))) (c.in_default.ensures.none hart))
-
-pub returns-in_default-find : goal.returns-in_default-find
-returns-in_default-find c = λ hart. sym (child-told c.args.self.now hart c.requires.1.table c.args.pid c.in-Some.field-0 c.in-Some.ensures.found c.args.child ∙ child-missing c.args.self.now hart c.requires.1.table c.args.pid c.args.child (sym c.find.ensures.value ∙ c.in_default-find.is))
-
 pub parent-requires-clause-held : goal.parent-requires-clause-held
-parent-requires-clause-held c = subst (λ o. IsSome o) (sym (slot-found c.args.self.now.table c.args.child c.in-Some-find.slot (sym c.find.ensures.value ∙ c.in-Some-find.is)).1) refl
+parent-requires-clause-held c = subst (λ o. IsSome o) (sym (slot-found c.args.self.now.table c.args.child c.in_ok-slot.slot (sym c.in_ok-slot.ensures.value)).1) refl
 
 pub returns-then-not-is_parent : goal.returns-then-not-is_parent
 returns-then-not-is_parent c = λ hart.
     let k = c.args.self.now in
-    sym (child-told k hart c.requires.1.table c.args.pid c.in-Some.field-0 c.in-Some.ensures.found c.args.child
-    ∙ child-held k hart c.requires.1.table c.args.pid c.args.child c.in-Some-find.slot c.parent.result (status_of (slot-found k.table c.args.child c.in-Some-find.slot (sym c.find.ensures.value ∙ c.in-Some-find.is)).0) (sym c.find.ensures.value ∙ c.in-Some-find.is) c.parent.ensures (ap (option_map status_of) (slot-found k.table c.args.child c.in-Some-find.slot (sym c.find.ensures.value ∙ c.in-Some-find.is)).1)
-    ∙ ap (λ b. cond b (Some (child_seen (status_of (slot-found k.table c.args.child c.in-Some-find.slot (sym c.find.ensures.value ∙ c.in-Some-find.is)).0))) None) (sym c.is_parent.ensures ∙ c.if-not-is_parent.true))
+    sym (child-told k hart c.requires.1.table c.args.pid c.in_ok-find_live.field-0 c.in_ok-find_live.ensures.found c.args.child
+    ∙ child-held k hart c.requires.1.table c.args.pid c.args.child c.in_ok-slot.slot c.parent.result (status_of (slot-found k.table c.args.child c.in_ok-slot.slot (sym c.in_ok-slot.ensures.value)).0) (sym c.in_ok-slot.ensures.value) c.parent.ensures (ap (option_map status_of) (slot-found k.table c.args.child c.in_ok-slot.slot (sym c.in_ok-slot.ensures.value)).1)
+    ∙ ap (λ b. cond b (Some (child_seen (status_of (slot-found k.table c.args.child c.in_ok-slot.slot (sym c.in_ok-slot.ensures.value)).0))) None) (sym c.is_parent.ensures ∙ c.if-not-is_parent.true))
 
 pub returns : goal.returns
 returns c = λ hart.
     let k = c.args.self.now in
     ap Some c.of.ensures
-    ∙ sym (child-told k hart c.requires.1.table c.args.pid c.in-Some.field-0 c.in-Some.ensures.found c.args.child
-    ∙ child-held k hart c.requires.1.table c.args.pid c.args.child c.in-Some-find.slot c.parent.result c.status.result (sym c.find.ensures.value ∙ c.in-Some-find.is) c.parent.ensures c.status.ensures
+    ∙ sym (child-told k hart c.requires.1.table c.args.pid c.in_ok-find_live.field-0 c.in_ok-find_live.ensures.found c.args.child
+    ∙ child-held k hart c.requires.1.table c.args.pid c.args.child c.in_ok-slot.slot c.parent.result c.status.result (sym c.in_ok-slot.ensures.value) c.parent.ensures c.status.ensures
     ∙ ap (λ b. cond b (Some (child_seen c.status.result)) None) (sym c.is_parent.ensures ∙ c.if-not-is_parent.false))
+
+pub returns-in_err-slot : goal.returns-in_err-slot
+returns-in_err-slot c = rw c.from_residual-in_err-slot.ensures (λ hart. sym (child-told c.args.self.now hart c.requires.1.table c.args.pid c.in_ok-find_live.field-0 c.in_ok-find_live.ensures.found c.args.child ∙ child-missing c.args.self.now hart c.requires.1.table c.args.pid c.args.child (sym c.in_err-slot.ensures.value)))
+
+pub returns-in_err-find_live : goal.returns-in_err-find_live
+returns-in_err-find_live c = rw c.from_residual.ensures (λ hart. sym (ap (λ o. if_live o (child_of c.args.pid (get (state_of c.args.self.now hart).processes c.args.child))) (c.in_err-find_live.ensures.none hart)))

@@ -9,18 +9,18 @@ use Rattle.kcall_core.proofs.kernel.Kernel.current.Goals as goal
 
 pub pid-requires-clause-within : goal.pid-requires-clause-within
 pid-requires-clause-within c =
-    let now = c.requires.1.current c.in-Some.slot c.in-Some.is in
-    slot-inside c.args.self.now c.requires.0 c.requires.1 c.in-Some.slot now.process now.is
+    let now = c.requires.1.current c.in_ok-slot.slot (c.in_ok-slot.was {u = tt}) in
+    slot-inside c.args.self.now c.requires.0 c.requires.1 c.in_ok-slot.slot now.process now.is
 
 pub pid-requires-clause-held : goal.pid-requires-clause-held
-pid-requires-clause-held c = subst (λ o. IsSome o) (sym (c.requires.1.current c.in-Some.slot c.in-Some.is).is) refl
+pid-requires-clause-held c = subst (λ o. IsSome o) (sym (c.requires.1.current c.in_ok-slot.slot (c.in_ok-slot.was {u = tt})).is) refl
 
 pub returns : goal.returns
 unfolding turns_of
 returns c halted =
-    ap Some (sym (pid-told c.args.self.now c.in-Some.slot c.pid.result (sym (now-slot c.in-Some.slot c.requires.1 c.in-Some.is)) c.pid.ensures))
-    ∙ sym (ap (option_map (λ _. pid_now c.args.self.now)) c.in-Some.is)
+    ap Some (sym (pid-told c.args.self.now c.in_ok-slot.slot c.pid.result (sym (now-slot c.in_ok-slot.slot c.requires.1 (c.in_ok-slot.was {u = tt}))) c.pid.ensures))
+    ∙ sym (ap (option_map (λ _. pid_now c.args.self.now)) (c.in_ok-slot.was {u = tt}))
 
-pub returns-in_default : goal.returns-in_default
+pub returns-in_err-slot : goal.returns-in_err-slot
 unfolding turns_of
-returns-in_default c halted = sym (ap (option_map (λ _. pid_now c.args.self.now)) c.in_default.is)
+returns-in_err-slot c = rw c.from_residual.ensures (λ halted. sym (ap (option_map (λ _. pid_now c.args.self.now)) (c.in_err-slot.was {u = tt})))

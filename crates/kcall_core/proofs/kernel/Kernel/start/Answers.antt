@@ -1,4 +1,4 @@
-use Rattle.std.proofs.Common.{◌≡◌, [], ◌∷◌, Some, None, IsSome, Ok, map, refl, sym, ap, ◌∙◌, subst}
+use Rattle.std.proofs.Common.{◌≡◌, [], ◌∷◌, length, Some, IsSome, Ok, map, refl, sym, ap, ◌∙◌, subst}
 use Rattle.std.proofs.lemmas.Result.{err_from_is_err_and}
 use Rattle.xk_base.specs.Loaded.{loaded}
 use Rattle.exec_core.specs.declared.planning.Entry.{Entry}
@@ -10,10 +10,10 @@ use Rattle.kcall_core.specs.State.{named_file}
 use Rattle.kcall_core.specs.Starts.{start_refusal}
 use Rattle.kcall_core.specs.Memories.{free_of}
 use Rattle.kcall_core.specs.Kernel.{state_of}
-use Rattle.kcall_core.specs.Machine.{turns_of}
-use Rattle.kcall_core.proofs.table.Starting.{blank-vacant, slot-zero, first-has, Begins, begins, same-state}
+use Rattle.kcall_core.specs.Whole.{IsWhole}
+use Rattle.kcall_core.proofs.table.Starting.{blank-vacant, slot-zero, first-has, Begins, begins}
 use Rattle.kcall_core.proofs.table.FirstWhole.{begun-whole, begun-world}
-use Rattle.kcall_core.proofs.table.Deserted.{console-within, no-process-whole, refused-nobody, refused-sound}
+use Rattle.kcall_core.proofs.table.Deserted.{console-within}
 use Rattle.kcall_core.proofs.kernel.Kernel.start.Goals as goal
 
 pub load_first-requires-clause-vacant : goal.load_first-requires-clause-vacant
@@ -24,25 +24,18 @@ unfolding state_of
 load_first-requires-clause-program c = subst (λ p. IsSome (init_of (map named_file p))) (sym c.deref.ensures.value) c.requires.program
 
 pub returns-in_err-start-clause-refused : goal.returns-in_err-start-clause-refused
-unfolding state_of turns_of
+unfolding state_of
 returns-in_err-start-clause-refused c =
     let p = err_from_is_err_and c.from_residual.result c.from_residual.ensures.1 in
     let r = c.in_err-start.ensures.refused in
     rw (p.1, p.2) (
       subst (λ ps. start_refusal (free_of c.args.self.now.memories) (loaded (program_bytes (init_of (map named_file ps))) (init_name ∷ [])) ≡ Some c.in_err-start.field-0.0) c.deref.ensures.value r.0,
-      refused-nobody c.args.self.now c.load_first.new.memories c.requires.nobody r.1,
-      (λ i. record {
-        state = same-state c.args.self.now (record c.args.self.now { memories = c.load_first.new.memories }) c.args.hart.now c.requires.nobody r.1 refl (record { files = refl; console = refl; programs = refl; clock = refl }) i;
-        turns = turns_of c.args.self.now None;
-      }),
+      ap (λ m. record c.args.self.now { memories = m }) r.1,
       refl,
     )
 
 pub returns-in_err-start-clause-whole : goal.returns-in_err-start-clause-whole
-returns-in_err-start-clause-whole c =
-    let same = c.in_err-start.ensures.refused.1 in
-    no-process-whole (record c.args.self.now { memories = c.load_first.new.memories }) (refused-nobody c.args.self.now c.load_first.new.memories c.requires.nobody same) c.args.hart.now
-    (refused-sound c.args.self.now c.args.hart.now c.load_first.new.memories c.requires.whole.sound c.requires.nobody same) (console-within c.args.self.now c.args.hart.now c.requires.whole)
+returns-in_err-start-clause-whole c = subst (λ m. IsWhole (record c.args.self.now { memories = m }) c.args.hart.now) (sym c.in_err-start.ensures.refused.1) c.requires.whole
 
 pub save-requires-clause-there : goal.save-requires-clause-there
 save-requires-clause-there c = first-has c.load_first.new.memories c.in-Ok.slot _ c.requires.whole.sound c.in_ok-start.ensures.loaded.5 (slot-zero c.args.self.now c.in-Ok.slot c.requires.nobody c.in-Ok.ensures.slot.0)
@@ -79,4 +72,4 @@ pub returns-clause-frames : goal.returns-clause-frames
 returns-clause-frames c = c.save.ensures.saved.frames ∙ c.in_ok-start.ensures.loaded.5.frames
 
 pub returns-in_err-start-clause-frames : goal.returns-in_err-start-clause-frames
-returns-in_err-start-clause-frames c = c.in_err-start.ensures.refused.1.frames
+returns-in_err-start-clause-frames c = ap (λ m. length m.ram) c.in_err-start.ensures.refused.1

@@ -1,5 +1,5 @@
 use Rattle.std.proofs.Common.{◌≡◌, true, false, rules, [], take, refl, sym, ap, ◌∙◌, arith}
-use Rattle.std.specs.Prelude.{map, option_copied, option_map}
+use Rattle.std.specs.Prelude.{map}
 use Rattle.xk_base.specs.Loaded.{loaded}
 use Rattle.kcall_core.specs.Programs.{program_named}
 use Rattle.kcall_core.specs.State.{named_file}
@@ -28,10 +28,10 @@ returns-clause-started c =
     let a : Asks (map named_file c.args.programs.now) image c.args.path c.args.pointers l = record {
       name = take c.in-Ok.len c.fetch_text.new.text;
       texts = c.fetch_args.new.args;
-      program = named_file c.in-Some.program.now;
+      program = named_file c.in_ok-program.program.now;
       name_is = c.in-Ok.ensures.found;
       texts_is = c.fetch_args.ensures.found there;
-      program_is = sym (ap (λ n. program_named n (map named_file c.args.programs.now)) c.without_slashes.ensures) ∙ sym c.program_named.ensures ∙ ap (λ o. option_map named_file (option_copied o)) c.in-Some.is;
+      program_is = sym (ap (λ n. program_named n (map named_file c.args.programs.now)) c.without_slashes.ensures) ∙ sym c.in_ok-program.ensures;
       loaded_is = sym (ap (λ f. loaded f c.fetch_args.new.args) c.deref.ensures.value) ∙ sym c.plan.ensures ∙ c.in-Ok-plan.is;
     } in
     (l, a, c.in-Ok-replace.ensures.start, (loaded-fits a.program.bytes a.texts l a.loaded_is).0, c.in-Ok-replace.ensures.fits, c.in-Ok-replace.ensures.replaced, c.in-Ok-replace.ensures.runs)

@@ -1,5 +1,5 @@
 use Rattle.std.specs.Prelude.{not}
-use Rattle.std.proofs.Common.{ap, sym, ◌∙◌}
+use Rattle.std.proofs.Common.{ap, ◌∙◌}
 use Rattle.xv_machine.proofs.Idle.{none-left, byte-left}
 use Rattle.xv_machine.proofs.machine.Machine.send.Goals as goal
 

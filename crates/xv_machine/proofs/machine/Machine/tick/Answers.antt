@@ -1,8 +1,7 @@
 use Rattle.std.proofs.Common.{ap, sym, ◌∙◌, None}
 use Rattle.kcall_core.specs.State.{State}
 use Rattle.kcall_core.specs.Run as runs
-use Rattle.xv_machine.proofs.Frames.{sound-of}
-use Rattle.xv_machine.proofs.Runs.{nothing-kept, now-sound, now-frames, now-promised, tick-over, count-is, run-tick, lives-on-by}
+use Rattle.xv_machine.proofs.Runs.{nothing-kept, now-frames, now-promised, tick-over, count-is, run-tick, lives-on-by}
 use Rattle.xv_machine.proofs.machine.Machine.tick.Goals as goal
 
 pub returns-then-is_some-clause-promised : goal.returns-then-is_some-clause-promised

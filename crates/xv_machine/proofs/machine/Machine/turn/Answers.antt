@@ -1,8 +1,7 @@
-use Rattle.std.proofs.Common.{ap, sym, ◌∙◌, None}
+use Rattle.std.proofs.Common.{sym, ◌∙◌, None}
 use Rattle.kcall_core.specs.Run as runs
 use Rattle.kcall_core.specs.Run.{World}
-use Rattle.xv_machine.proofs.Frames.{sound-of}
-use Rattle.xv_machine.proofs.Runs.{nothing-kept, now-stopped, now-sound, now-frames, now-promised, now-over, count-is, run-turn, run-idle, lives-on}
+use Rattle.xv_machine.proofs.Runs.{nothing-kept, now-stopped, now-frames, now-promised, now-over, count-is, run-turn, run-idle}
 use Rattle.xv_machine.proofs.machine.Machine.turn.Goals as goal
 
 pub returns-then-is_some-clause-promised : goal.returns-then-is_some-clause-promised
