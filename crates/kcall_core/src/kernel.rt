@@ -63,7 +63,7 @@ use xk_base::{Cause, Perm, Pid, Program, Reg, Rights};
 /// The kernel of one machine.
 #[derive(Drop)]
 pub struct Kernel {
-    /// RAM, and whose each frame is.
+    /// RAM, and which frames are free or whose they are.
     memories: Memories,
     /// The processes, by slot, and their descriptors.
     table: Table,

@@ -132,6 +132,7 @@ fn reaches(
         let Some(place) = place_at(address, done) else {
             return false;
         };
+        // As many pages as the rest of the range touches.
         let most = (len - done - 1).saturating_add(place.offset) / 4096 + 1;
         let pages = pages_reached(space, ram, place.page, access, absent, most);
         if pages == 0 {

@@ -8,7 +8,7 @@ use Rattle.kcall_core.specs.Ready.{ready}
 use Rattle.kcall_core.specs.Run.{World, Event, Send, Sent, Step_of, Ticked, first_sent, out}
 use Rattle.kcall_core.specs.Wakes.{IsInCall, IsEnd, NoReadySleeper, Promised}
 use Rattle.xv_machine.specs.declared.trace.Note.{Note}
-use Rattle.xv_machine.specs.Devices.{Sunk}
+use Rattle.xv_machine.specs.Devices.{Sink}
 use Rattle.xv_machine.specs.Drives.{Goes}
 use Rattle.xv_machine.specs.Machine.{SameTrace}
 use Rattle.xv_machine.specs.Meaning.{Meaning}
@@ -67,7 +67,7 @@ out-again zero = refl
 out-again (suc n) = out-again n
 
 -- no byte waits: all that were left are sent, and nothing has to be written
-pub rest-played : (n sent left : ℕ) (byte : Option ℕ) (old mid new : Meaning) (h k : Sunk) → sent + left ≡ n → is_some byte ≡ false → Played (replicate sent Send) old mid h k → Goes mid (sends left byte) new
+pub rest-played : (n sent left : ℕ) (byte : Option ℕ) (old mid new : Meaning) (h k : Sink) → sent + left ≡ n → is_some byte ≡ false → Played (replicate sent Send) old mid h k → Goes mid (sends left byte) new
     → Played (replicate n Send) old new h k
 rest-played n sent left (Some b) old mid new h k all none p goes = let no : ⊥ = cc in absurd no
 rest-played n sent left None old mid new h k all none p goes =

@@ -9,7 +9,7 @@ use Rattle.kcall_core.specs.Run.{Event, Run, Tick, Outcome, bytes_out, out}
 use Rattle.kcall_core.specs.Rounds.{events}
 use Rattle.kcall_core.specs.Wakes.{Promised}
 use Rattle.kcall_core.proofs.runs.Boot.{promised_runs_join}
-use Rattle.xv_machine.specs.Devices.{Sunk, Calls}
+use Rattle.xv_machine.specs.Devices.{Given, Sink, Calls, took, failed}
 use Rattle.xv_machine.specs.Drives.{Goes, Wrote, call_of, calls_of}
 use Rattle.xv_machine.specs.Meaning.{Meaning}
 use Rattle.xv_machine.specs.Notes.{note, notes_of}
@@ -37,23 +37,23 @@ notes-join xs ys = map-append (λ (e : Event × Outcome). note e.0 e.1) xs ys
 
 -- ---- calls of a sink
 
-pub calls-nil : (a : Option (List (List ℕ))) → Calls a a []
+pub calls-nil : (a : Option (List Given)) → Calls a a []
 calls-nil None = tt
 calls-nil (Some calls) = ap Some (sym (append-nil calls))
 
-pub calls-trans : (a b c : Option (List (List ℕ))) (xs ys : List (List ℕ)) → Calls a b xs → Calls b c ys → Calls a c (xs ++ ys)
+pub calls-trans : (a b c : Option (List Given)) (xs ys : List Given) → Calls a b xs → Calls b c ys → Calls a c (xs ++ ys)
 calls-trans None b c xs ys p q = tt
 calls-trans (Some calls) b c xs ys p q = subst (λ z. Calls z c ys) p q ∙ ap Some (append_assoc calls xs ys)
 
 -- bytes are written by one call, where there are any
-pub one-call : (bytes : List ℕ) → bytes ≢ [] → call_of bytes ≡ bytes ∷ []
+pub one-call : (bytes : List ℕ) → bytes ≢ [] → call_of bytes ≡ took bytes ∷ []
 one-call [] some = absurd (some refl)
 one-call (b ∷ bytes) some = refl
 
-pub wrote-nil : (h : Sunk) → Wrote h h []
+pub wrote-nil : (h : Sink) → Wrote h h []
 wrote-nil h = record { bytes = Appends-nil h.held; calls = calls-nil h.calls }
 
-pub wrote-join : (h k m : Sunk) (xs ys : Steps) → Wrote h k xs → Wrote k m ys → Wrote h m (xs ++ ys)
+pub wrote-join : (h k m : Sink) (xs ys : Steps) → Wrote h k xs → Wrote k m ys → Wrote h m (xs ++ ys)
 wrote-join h k m xs ys p q = record {
   bytes = subst (Appends h.held m.held) (sym (shows-join xs ys)) (Appends-trans h.held k.held m.held (out xs) (out ys) p.bytes q.bytes);
   calls = subst (Calls h.calls m.calls) (sym (calls-join xs ys)) (calls-trans h.calls k.calls m.calls (calls_of xs) (calls_of ys) p.calls q.calls);
@@ -71,7 +71,7 @@ silent-calls (s ∷ list) e =
     ap₂ (λ bytes calls. call_of bytes ++ calls) both.0 (silent-calls list both.1)
 
 -- nothing has to be written of it
-wrote-silent : (h : Sunk) (list : Steps) → out list ≡ [] → Wrote h h list
+wrote-silent : (h : Sink) (list : Steps) → out list ≡ [] → Wrote h h list
 wrote-silent h list e = record {
   bytes = subst (Appends h.held h.held) (sym e) (Appends-nil h.held);
   calls = subst (Calls h.calls h.calls) (sym (silent-calls list e)) (calls-nil h.calls);
@@ -108,9 +108,9 @@ pub tick-silent : (o : Outcome) (old new : Meaning) → Promised old.world Tick 
 tick-silent o old new promised goes = one-silent Tick o old new goes (tick-shows old.world new.world o promised.0)
 
 -- an event whose bytes were written, or couldn't be
-pub event-plays : {E : Type 0} (r : Result (Unit {0}) E) (e : Event) (o : Outcome) (old new : Meaning) (h k : Sunk) (bytes : List ℕ)
-    → Goes old ((e, o) ∷ []) new → bytes ≡ bytes_out o → OnOk r (Appends h.held k.held bytes) → Calls h.calls k.calls (call_of bytes) → OnErr r (bytes ≢ []) → Plays r (e ∷ []) old new h k
-event-plays (Ok x) e o old new h k bytes goes is written called some = record {
+pub event-plays : {E : Type 0} (r : Result (Unit {0}) E) (e : Event) (o : Outcome) (old new : Meaning) (h k : Sink) (bytes : List ℕ)
+    → Goes old ((e, o) ∷ []) new → bytes ≡ bytes_out o → OnOk r (Appends h.held k.held bytes) → OnOk r (Calls h.calls k.calls (call_of bytes)) → OnErr r (Calls h.calls k.calls (failed bytes ∷ [])) → OnErr r (bytes ≢ []) → Plays r (e ∷ []) old new h k
+event-plays (Ok x) e o old new h k bytes goes is written called broken some = record {
   list = (e, o) ∷ [];
   goes = goes;
   those = refl;
@@ -119,14 +119,14 @@ event-plays (Ok x) e o old new h k bytes goes is written called some = record {
     calls = subst (Calls h.calls k.calls) (ap call_of is ∙ sym (append-nil (call_of (bytes_out o)))) called;
   };
 }
-event-plays (Err x) e o old new h k bytes goes is written called some = record {
+event-plays (Err x) e o old new h k bytes goes is written called broken some = record {
   before = [];
   last = (e, o);
   rest = [];
   goes = goes;
   those = refl;
   shows = λ none. some (is ∙ none);
-  calls = subst (Calls h.calls k.calls) (ap call_of is ∙ sym (append-nil (call_of (bytes_out o)))) called;
+  calls = subst (λ bs. Calls h.calls k.calls (failed bs ∷ [])) is broken;
 }
 
 -- ---- one behind another
@@ -134,7 +134,7 @@ event-plays (Err x) e o old new h k bytes goes is written called some = record {
 pub none-silent : (m : Meaning) → IsSoundMachine m → Silent [] m m
 none-silent m sound = record { list = []; goes = goes-none m sound; those = refl; silent = refl }
 
-pub none-played : (m : Meaning) (h : Sunk) → IsSoundMachine m → Played [] m m h h
+pub none-played : (m : Meaning) (h : Sink) → IsSoundMachine m → Played [] m m h h
 none-played m h sound = record { list = []; goes = goes-none m sound; those = refl; written = wrote-nil h }
 
 pub silent-join : (xs ys : List Event) (s t u : Meaning) → Silent xs s t → Silent ys t u → Silent (xs ++ ys) s u
@@ -146,10 +146,10 @@ silent-join xs ys s t u p q = record {
 }
 
 -- nothing has to be written of a silent stretch
-pub silent-played : (xs : List Event) (s t : Meaning) (h : Sunk) → Silent xs s t → Played xs s t h h
+pub silent-played : (xs : List Event) (s t : Meaning) (h : Sink) → Silent xs s t → Played xs s t h h
 silent-played xs s t h p = record { list = p.list; goes = p.goes; those = p.those; written = wrote-silent h p.list p.silent }
 
-pub played-join : (xs ys : List Event) (s t u : Meaning) (h k m : Sunk) → Played xs s t h k → Played ys t u k m → Played (xs ++ ys) s u h m
+pub played-join : (xs ys : List Event) (s t u : Meaning) (h k m : Sink) → Played xs s t h k → Played ys t u k m → Played (xs ++ ys) s u h m
 played-join xs ys s t u h k m p q = record {
   list = p.list ++ q.list;
   goes = goes-join p.list q.list s t u p.goes q.goes;
@@ -158,7 +158,7 @@ played-join xs ys s t u h k m p q = record {
 }
 
 -- a stretch that was played, and then one that broke off
-pub broke-later : (xs ys : List Event) (s t u : Meaning) (h k m : Sunk) → Played xs s t h k → BrokeOff ys t u k m → BrokeOff (xs ++ ys) s u h m
+pub broke-later : (xs ys : List Event) (s t u : Meaning) (h k m : Sink) → Played xs s t h k → BrokeOff ys t u k m → BrokeOff (xs ++ ys) s u h m
 broke-later xs ys s t u h k m p q =
     let same : p.list ++ (q.before ++ q.last ∷ []) ≡ (p.list ++ q.before) ++ q.last ∷ [] = sym (append_assoc p.list q.before (q.last ∷ [])) in
     record {
@@ -169,12 +169,13 @@ broke-later xs ys s t u h k m p q =
       those = ap (λ (zs : Steps). events zs ++ q.rest) (sym same) ∙ ap (λ (zs : List Event). zs ++ q.rest) (events-join p.list (q.before ++ q.last ∷ []))
           ∙ append_assoc (events p.list) (events (q.before ++ q.last ∷ [])) q.rest ∙ ap₂ (λ a b. a ++ b) p.those q.those;
       shows = q.shows;
-      calls = subst (λ (zs : Steps). Calls h.calls m.calls (calls_of zs)) same
-          (subst (Calls h.calls m.calls) (sym (calls-join p.list (q.before ++ q.last ∷ []))) (calls-trans h.calls k.calls m.calls (calls_of p.list) (calls_of (q.before ++ q.last ∷ [])) p.written.calls q.calls));
+      calls = subst (Calls h.calls m.calls)
+          (sym (append_assoc (calls_of p.list) (calls_of q.before) (failed (bytes_out q.last.1) ∷ [])) ∙ ap (λ cs. cs ++ failed (bytes_out q.last.1) ∷ []) (sym (calls-join p.list q.before)))
+          (calls-trans h.calls k.calls m.calls (calls_of p.list) (calls_of q.before ++ failed (bytes_out q.last.1) ∷ []) p.written.calls q.calls);
     }
 
 -- more events were wanted behind it
-pub broke-early : (xs ys : List Event) (s t : Meaning) (h k : Sunk) → BrokeOff xs s t h k → BrokeOff (xs ++ ys) s t h k
+pub broke-early : (xs ys : List Event) (s t : Meaning) (h k : Sink) → BrokeOff xs s t h k → BrokeOff (xs ++ ys) s t h k
 broke-early xs ys s t h k q = record {
   before = q.before;
   last = q.last;
@@ -185,7 +186,7 @@ broke-early xs ys s t h k q = record {
   calls = q.calls;
 }
 
-pub later-plays : {E : Type 0} (r : Result (Unit {0}) E) (xs ys : List Event) (s t u : Meaning) (h k m : Sunk)
+pub later-plays : {E : Type 0} (r : Result (Unit {0}) E) (xs ys : List Event) (s t u : Meaning) (h k m : Sink)
     → Played xs s t h k → Plays r ys t u k m → Plays r (xs ++ ys) s u h m
 later-plays (Ok x) xs ys s t u h k m p q = played-join xs ys s t u h k m p q
 later-plays (Err x) xs ys s t u h k m p q = broke-later xs ys s t u h k m p q
@@ -195,11 +196,11 @@ later-plays (Err x) xs ys s t u h k m p q = broke-later xs ys s t u h k m p q
 pub silent-more : (e : Event) (n : ℕ) (s t u : Meaning) → Silent (replicate n e) s t → Silent (e ∷ []) t u → Silent (replicate (n + 1) e) s u
 silent-more e n s t u p q = subst (λ (z : List Event). Silent z s u) (replicate_more n e) (silent-join (replicate n e) (e ∷ []) s t u p q)
 
-pub played-more : (e : Event) (n : ℕ) (s t u : Meaning) (h k m : Sunk) → Played (replicate n e) s t h k → Played (e ∷ []) t u k m
+pub played-more : (e : Event) (n : ℕ) (s t u : Meaning) (h k m : Sink) → Played (replicate n e) s t h k → Played (e ∷ []) t u k m
     → Played (replicate (n + 1) e) s u h m
 played-more e n s t u h k m p q = subst (λ (z : List Event). Played z s u h m) (replicate_more n e) (played-join (replicate n e) (e ∷ []) s t u h k m p q)
 
-pub broke-within : (e : Event) (i n : ℕ) (s t u : Meaning) (h k m : Sunk) → i < n → Played (replicate i e) s t h k → BrokeOff (e ∷ []) t u k m
+pub broke-within : (e : Event) (i n : ℕ) (s t u : Meaning) (h k m : Sink) → i < n → Played (replicate i e) s t h k → BrokeOff (e ∷ []) t u k m
     → BrokeOff (replicate n e) s u h m
 broke-within e i n s t u h k m l p q =
     let j = broke-early (replicate i e ++ e ∷ []) (replicate (n - (i + 1)) e) s u h m (broke-later (replicate i e) (e ∷ []) s t u h k m p q) in

@@ -5,10 +5,10 @@ use Rattle.std.specs.Option.{option_to_list}
 use Rattle.std.proofs.lemmas.Grind.{flat_map-append}
 use Rattle.std.specs.Io.KnownBytes.{Consumes}
 use Rattle.xk_base.specs.declared.limits.TheConstants.{SEND_BYTES}
-use Rattle.kcall_core.specs.Run.{Event, Run, Tick, Key, Send, Outcome}
+use Rattle.kcall_core.specs.Run.{Event, Run, Tick, Key, Send, Outcome, bytes_out}
 use Rattle.kcall_core.specs.Rounds.{key_events, round, events, halts, Planned, AreRounds}
 use Rattle.kcall_core.proofs.runs.Plans.{rounds_then_plan, rounds_follow_rounds, cut_ends_in_round}
-use Rattle.xv_machine.specs.Devices.{Source, Asked, Sunk, Calls}
+use Rattle.xv_machine.specs.Devices.{Source, Asked, Sink, Calls, failed}
 use Rattle.xv_machine.specs.declared.driving.RunPlan.{RunPlan}
 use Rattle.xv_machine.specs.Drives.{Goes, Wrote, calls_of, AskedFor, is_halted, key_in, keys_in, Done, StoppedByRead, StoppedByWrite}
 use Rattle.xv_machine.specs.Meaning.{Meaning}
@@ -208,7 +208,7 @@ asked-for true a after keys so = inr so
 -- ---- rounds
 
 -- This many rounds were played, and the source was found at its end or not
-pub record Going (quantum count : ℕ) (at_end : Bool) (left now : Option (List ℕ)) (old new : Meaning) (sink sink_now : Sunk) (asked asked_now : Option ℕ) : Type 0 where
+pub record Going (quantum count : ℕ) (at_end : Bool) (left now : Option (List ℕ)) (old new : Meaning) (sink sink_now : Sink) (asked asked_now : Option ℕ) : Type 0 where
   pub list : Steps
   pub rest : List ℕ
   pub goes : Goes old list new
@@ -218,7 +218,7 @@ pub record Going (quantum count : ℕ) (at_end : Bool) (left now : Option (List 
   pub written : Wrote sink sink_now list
   pub calls : AskedSo at_end asked asked_now (length (keys_in (events list)))
 
-pub none-going : (quantum : ℕ) (left : Option (List ℕ)) (m : Meaning) (sink : Sunk) (asked : Option ℕ) → IsSoundMachine m → Going quantum 0 false left left m m sink sink asked asked
+pub none-going : (quantum : ℕ) (left : Option (List ℕ)) (m : Meaning) (sink : Sink) (asked : Option ℕ) → IsSoundMachine m → Going quantum 0 false left left m m sink sink asked asked
 none-going quantum left m sink asked sound = record {
   list = [];
   rest = rest left;
@@ -242,7 +242,7 @@ none-going quantum left m sink asked sound = record {
 goes-on : (old : Meaning) (list : Steps) (new : Meaning) → Goes old list new → new.world.turns.halted ≡ None → (is_halted old || halts list) ≡ false
 goes-on old list new goes on = sym (ends-in old.world list new.world goes.run) ∙ ap is_some on
 
-module _ (quantum count : ℕ) (at_end : Bool) (left now after : Option (List ℕ)) (key : Option ℕ) (old mid : Meaning) (sink sink_now : Sunk) (asked asked_now asked_after : Option ℕ) (g : Going quantum count at_end left now old mid sink sink_now asked asked_now) (takes : TakesKey at_end now key after) (call : Asked asked_now asked_after (cond at_end 0 1)) where
+module _ (quantum count : ℕ) (at_end : Bool) (left now after : Option (List ℕ)) (key : Option ℕ) (old mid : Meaning) (sink sink_now : Sink) (asked asked_now asked_after : Option ℕ) (g : Going quantum count at_end left now old mid sink sink_now asked asked_now) (takes : TakesKey at_end now key after) (call : Asked asked_now asked_after (cond at_end 0 1)) where
   abbrev took : Taken quantum count left after key (keys_in (events g.list)) g.rest
   took = taken quantum count at_end left now after key (keys_in (events g.list)) g.rest g.leaves g.pace takes
 
@@ -254,7 +254,7 @@ module _ (quantum count : ℕ) (at_end : Bool) (left now after : Option (List �
   begun : round quantum (option_to_list key) ≡ round quantum (drop count ((keys_in (events g.list) ++ option_to_list key) ++ took.more))
   begun = ap (λ es. es ++ replicate quantum Run ++ Tick ∷ replicate SEND_BYTES Send) (sym took.key_is)
 
-  pub one-more : (new : Meaning) (sink_after : Sunk) → mid.world.turns.halted ≡ None → Played (round quantum (option_to_list key)) mid new sink_now sink_after → Going quantum (count + 1) (is_none key) left after old new sink sink_after asked asked_after
+  pub one-more : (new : Meaning) (sink_after : Sink) → mid.world.turns.halted ≡ None → Played (round quantum (option_to_list key)) mid new sink_now sink_after → Going quantum (count + 1) (is_none key) left after old new sink sink_after asked asked_after
   one-more new sink_after on p =
       let read : keys_in (events (g.list ++ p.list)) ≡ keys_in (events g.list) ++ option_to_list key =
       ap keys_in (events-join g.list p.list) ∙ keys-join (events g.list) (events p.list) ∙ ap (λ es. keys_in (events g.list) ++ keys_in es) p.those ∙ ap (λ ks. keys_in (events g.list) ++ ks) (keys-of-round quantum key) in
@@ -299,7 +299,7 @@ none-planned zero quantum keys false why = refl
 none-planned (suc rounds) quantum keys false (inl none) = let n : suc rounds ≡ 0 = none in absurd (omega (arith, n))
 none-planned (suc rounds) quantum keys false (inr halted) = let no : ⊥ = cc in absurd no
 
-pub all-done : (plan : RunPlan) (count : ℕ) (at_end : Bool) (source source_now : Source) (old new : Meaning) (sink sink_now : Sunk) → count ≤ plan.rounds → Going plan.quantum count at_end source.left source_now.left old new sink sink_now source.asked source_now.asked
+pub all-done : (plan : RunPlan) (count : ℕ) (at_end : Bool) (source source_now : Source) (old new : Meaning) (sink sink_now : Sink) → count ≤ plan.rounds → Going plan.quantum count at_end source.left source_now.left old new sink sink_now source.asked source_now.asked
     → (count ≡ plan.rounds) ⊎ (is_halted new ≡ true) → Done plan source source_now old new sink sink_now
 all-done plan count at_end source source_now old new sink sink_now within g why =
     let keys : List ℕ = keys_in (events g.list) ++ g.rest in
@@ -322,7 +322,7 @@ all-done plan count at_end source source_now old new sink sink_now within g why 
       asked = asked-for at_end source.asked source_now.asked (length (keys_in (events g.list))) g.calls;
     }
 
-pub read-stops : (plan : RunPlan) (count : ℕ) (at_end : Bool) (source source_now source_after : Source) (old new : Meaning) (sink sink_now : Sunk) → count < plan.rounds → Going plan.quantum count at_end source.left source_now.left old new sink sink_now source.asked source_now.asked
+pub read-stops : (plan : RunPlan) (count : ℕ) (at_end : Bool) (source source_now source_after : Source) (old new : Meaning) (sink sink_now : Sink) → count < plan.rounds → Going plan.quantum count at_end source.left source_now.left old new sink sink_now source.asked source_now.asked
     → new.world.turns.halted ≡ None → at_end ≡ false → Asked source_now.asked source_after.asked (cond at_end 0 1) → StoppedByRead plan source source_after old new sink sink_now
 read-stops plan count at_end source source_now source_after old new sink sink_now within g on reads call = record {
   list = g.list;
@@ -336,7 +336,7 @@ read-stops plan count at_end source source_now source_after old new sink sink_no
   written = g.written;
 }
 
-pub write-stops : (plan : RunPlan) (count : ℕ) (at_end : Bool) (source source_now source_after : Source) (key : Option ℕ) (old mid new : Meaning) (sink sink_now sink_after : Sunk) → count < plan.rounds
+pub write-stops : (plan : RunPlan) (count : ℕ) (at_end : Bool) (source source_now source_after : Source) (key : Option ℕ) (old mid new : Meaning) (sink sink_now sink_after : Sink) → count < plan.rounds
     → (g : Going plan.quantum count at_end source.left source_now.left old mid sink sink_now source.asked source_now.asked) → mid.world.turns.halted ≡ None → TakesKey at_end source_now.left key source_after.left → Asked source_now.asked source_after.asked (cond at_end 0 1) → BrokeOff (round plan.quantum (option_to_list key)) mid new sink_now sink_after → StoppedByWrite plan source source_after old new sink sink_after
 write-stops plan count at_end source source_now source_after key old mid new sink sink_now sink_after within g on takes call q =
     let t = took plan.quantum count at_end source.left source_now.left source_after.left key old mid sink sink_now source.asked source_now.asked source_after.asked g takes call in
@@ -357,7 +357,11 @@ write-stops plan count at_end source source_now source_after key old mid new sin
       cut = (cut_ends_in_round plan.rounds plan.quantum keys (is_halted old) (g.list ++ part) q.last).1
           (count, g.list, q.before, q.rest, refl, within, t.same (is_halted old) g.list g.rounds, goes-on old g.list mid g.goes on, q.those ∙ begun plan.quantum count at_end source.left source_now.left source_after.left key old mid sink sink_now source.asked source_now.asked source_after.asked g takes call);
       shows = q.shows;
-      calls = subst (Calls sink.calls sink_after.calls) (sym (calls-join g.list part)) (calls-trans sink.calls sink_now.calls sink_after.calls (calls_of g.list) (calls_of part) g.written.calls q.calls);
+      before = g.list ++ q.before;
+      ends = sym (append_assoc g.list q.before (q.last ∷ []));
+      calls = subst (Calls sink.calls sink_after.calls)
+          (sym (append_assoc (calls_of g.list) (calls_of q.before) (failed (bytes_out q.last.1) ∷ [])) ∙ ap (λ cs. cs ++ failed (bytes_out q.last.1) ∷ []) (sym (calls-join g.list q.before)))
+          (calls-trans sink.calls sink_now.calls sink_after.calls (calls_of g.list) (calls_of q.before ++ failed (bytes_out q.last.1) ∷ []) g.written.calls q.calls);
       typed = subst (Consumes source.left source_after.left) (sym read_is) (leaves-typed source.left source_after.left (read ++ option_to_list key) t.more t.leaves);
       asked = asked-for (is_none key) source.asked source_after.asked (length (keys_in (events (g.list ++ part))))
           (asked-typed key source.asked source_after.asked (length read) (length (keys_in (events (g.list ++ part)))) (ap length read_is ∙ length-append read (option_to_list key))

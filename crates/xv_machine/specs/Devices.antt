@@ -1,5 +1,5 @@
 -- What devices tell of themselves: the bytes that are left or held, and the calls, where they are known; and how many calls have failed.
-use Rattle.std.specs.Prelude.{◌≡◌, ℕ, ◌+◌, ◌-◌, ◌^◌, min, List, ◌++◌, drop, Option, None, Some, slice_get, ⊤}
+use Rattle.std.specs.Prelude.{◌≡◌, ℕ, ◌+◌, ◌-◌, ◌^◌, min, Bool, true, false, List, ◌++◌, drop, Option, None, Some, slice_get, ⊤}
 
 -- a count of failed calls after one more of them: it stays at 2^64 - 1
 abbrev pub one_more : ℕ → ℕ
@@ -9,7 +9,7 @@ one_more count = min (count + 1) (2 ^ 64 - 1)
 abbrev pub OneFailed : (failures failures_after others others_after : ℕ) → Type 0
 OneFailed failures failures_after others others_after = (failures_after ≡ one_more failures) × (others_after ≡ others)
 
--- what a source tells of itself: the bytes that are left; and how many calls were made of it, those that failed too
+-- what a source tells of itself, each where it is known: the bytes that are left; and how many calls were made of it, those that failed too
 pub record Source : Type 0 where
   pub left : Option (List ℕ)
   pub asked : Option ℕ
@@ -19,13 +19,24 @@ abbrev pub Asked : (before after : Option ℕ) → (calls : ℕ) → Type 0
 Asked None after calls = ⊤
 Asked (Some before) after calls = after ≡ Some (before + calls)
 
--- what a sink tells of what it was given: the bytes that it holds; and call by call the bytes that it got, also of calls that failed
-pub record Sunk : Type 0 where
+-- one call of a sink: the bytes that it was given, and whether it took them
+pub record Given : Type 0 where
+  pub bytes : List ℕ
+  pub taken : Bool
+
+abbrev pub took : List ℕ → Given
+took given = record { bytes = given; taken = true }
+
+abbrev pub failed : List ℕ → Given
+failed given = record { bytes = given; taken = false }
+
+-- what a sink tells of itself, each where it is known: the bytes that it holds; and its calls, one after another
+pub record Sink : Type 0 where
   pub held : Option (List ℕ)
-  pub calls : Option (List (List ℕ))
+  pub calls : Option (List Given)
 
 -- where the calls are known, these came behind those before, and no other
-abbrev pub Calls : (before after : Option (List (List ℕ))) → (made : List (List ℕ)) → Type 0
+abbrev pub Calls : (before after : Option (List Given)) → (made : List Given) → Type 0
 Calls None after made = ⊤
 Calls (Some before) after made = after ≡ Some (before ++ made)
 

@@ -8,7 +8,7 @@ use Rattle.kcall_core.specs.Run.{Event, Run, Tick, Key, Send, Outcome, Step_of, 
 use Rattle.kcall_core.specs.Rounds.{events, Planned, StopsBeforeRound, PlannedUpTo}
 use Rattle.kcall_core.specs.Wakes.{IsPromised}
 use Rattle.kcall_core.specs.Words.{or_zero}
-use Rattle.xv_machine.specs.Devices.{Source, Asked, Sunk, Calls}
+use Rattle.xv_machine.specs.Devices.{Source, Asked, Sink, Given, Calls, took, failed}
 use Rattle.xv_machine.specs.declared.driving.RunPlan.{RunPlan}
 use Rattle.xv_machine.specs.declared.driving.DriveEnd.{DriveEnd}
 use Rattle.xv_machine.specs.declared.driving.DriveEnd.TheVariants.{Halted, RoundsOver}
@@ -62,16 +62,16 @@ abbrev pub keys_in : List Event → List ℕ
 keys_in list = flat_map key_in list
 
 -- the calls that write these bytes: one, and none where there are none
-abbrev pub call_of : List ℕ → List (List ℕ)
+abbrev pub call_of : List ℕ → List Given
 call_of [] = []
-call_of (b ∷ bytes) = (b ∷ bytes) ∷ []
+call_of (b ∷ bytes) = took (b ∷ bytes) ∷ []
 
 -- the calls that write what these events show: one for each event that shows bytes
-abbrev pub calls_of : List (Event × Outcome) → List (List ℕ)
+abbrev pub calls_of : List (Event × Outcome) → List Given
 calls_of list = flat_map (λ s. call_of (bytes_out s.1)) list
 
 -- what these events show was written, by these calls and no other
-pub record Wrote (before after : Sunk) (list : List (Event × Outcome)) : Type 0 where
+pub record Wrote (before after : Sink) (list : List (Event × Outcome)) : Type 0 where
   pub bytes : Appends before.held after.held (out list)
   pub calls : Calls before.calls after.calls (calls_of list)
 
@@ -80,7 +80,7 @@ abbrev pub AskedFor : (before after : Option ℕ) → (keys : ℕ) → Type 0
 AskedFor before after keys = Asked before after keys ⊎ Asked before after (keys + 1)
 
 -- A drive to its end: whole rounds of the plan, all that may begin; what they show was written, and the keys that were typed were read
-pub record Done (plan : RunPlan) (source source_after : Source) (old new : Meaning) (sink sink_after : Sunk) : Type 0 where
+pub record Done (plan : RunPlan) (source source_after : Source) (old new : Meaning) (sink sink_after : Sink) : Type 0 where
   pub list : List (Event × Outcome)
   pub goes : Goes old list new
   -- the keys that are left at first, where that is known
@@ -92,7 +92,7 @@ pub record Done (plan : RunPlan) (source source_after : Source) (old new : Meani
   pub asked : AskedFor source.asked source_after.asked (length (keys_in (events list)))
 
 -- A drive that a failed read ended: the whole rounds before, what they show was written
-pub record StoppedByRead (plan : RunPlan) (source source_after : Source) (old new : Meaning) (sink sink_after : Sunk) : Type 0 where
+pub record StoppedByRead (plan : RunPlan) (source source_after : Source) (old new : Meaning) (sink sink_after : Sink) : Type 0 where
   pub list : List (Event × Outcome)
   pub goes : Goes old list new
   pub keys : List ℕ
@@ -104,16 +104,18 @@ pub record StoppedByRead (plan : RunPlan) (source source_after : Source) (old ne
   pub asked : Asked source.asked source_after.asked (rounds.0 + 1)
   pub written : Wrote sink sink_after list
 
--- A drive that a failed write ended: the plan up to an event that shows bytes; the last call was for these, the calls before for what was shown before
-pub record StoppedByWrite (plan : RunPlan) (source source_after : Source) (old new : Meaning) (sink sink_after : Sunk) : Type 0 where
+-- A drive that a failed write ended: the plan up to an event that shows bytes, whose call failed; what the events before it show was taken
+pub record StoppedByWrite (plan : RunPlan) (source source_after : Source) (old new : Meaning) (sink sink_after : Sink) : Type 0 where
   pub list : List (Event × Outcome)
+  pub before : List (Event × Outcome)
   pub last : Event × Outcome
+  pub ends : list ≡ before ++ last ∷ []
   pub goes : Goes old list new
   pub keys : List ℕ
   pub known : IfSome source.left (λ bytes. keys ≡ bytes)
   pub cut : PlannedUpTo plan.rounds plan.quantum keys (is_halted old) list last
   pub shows : bytes_out last.1 ≢ []
-  pub calls : Calls sink.calls sink_after.calls (calls_of list)
+  pub calls : Calls sink.calls sink_after.calls (calls_of before ++ failed (bytes_out last.1) ∷ [])
   pub typed : Consumes source.left source_after.left (keys_in (events list))
   pub asked : AskedFor source.asked source_after.asked (length (keys_in (events list)))
 

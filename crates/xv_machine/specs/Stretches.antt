@@ -2,7 +2,7 @@
 use Rattle.std.specs.Prelude.{◌≡◌, ◌≢◌, ℕ, Bool, true, false, List, [], ◌∷◌, ◌++◌, replicate, Option, None, Some, Result, MatchResult}
 use Rattle.kcall_core.specs.Run.{Event, Send, Outcome, Sent, bytes_out, out}
 use Rattle.kcall_core.specs.Rounds.{events}
-use Rattle.xv_machine.specs.Devices.{GivesKey, Sunk, Calls}
+use Rattle.xv_machine.specs.Devices.{GivesKey, Sink, Calls, failed}
 use Rattle.xv_machine.specs.Drives.{Goes, Wrote, calls_of}
 use Rattle.xv_machine.specs.Meaning.{Meaning}
 
@@ -14,24 +14,24 @@ pub record Silent (wanted : List Event) (old new : Meaning) : Type 0 where
   pub silent : out list ≡ []
 
 -- these events were sent, and what they show was written
-pub record Played (wanted : List Event) (old new : Meaning) (sink sink_after : Sunk) : Type 0 where
+pub record Played (wanted : List Event) (old new : Meaning) (sink sink_after : Sink) : Type 0 where
   pub list : List (Event × Outcome)
   pub goes : Goes old list new
   pub those : events list ≡ wanted
   pub written : Wrote sink sink_after list
 
--- of these events those up to one that shows bytes were sent, and the sink was called for what they show
-pub record BrokeOff (wanted : List Event) (old new : Meaning) (sink sink_after : Sunk) : Type 0 where
+-- of these events those up to one that shows bytes were sent; the call for these failed, and what was shown before was taken
+pub record BrokeOff (wanted : List Event) (old new : Meaning) (sink sink_after : Sink) : Type 0 where
   pub before : List (Event × Outcome)
   pub last : Event × Outcome
   pub rest : List Event
   pub goes : Goes old (before ++ last ∷ []) new
   pub those : events (before ++ last ∷ []) ++ rest ≡ wanted
   pub shows : bytes_out last.1 ≢ []
-  pub calls : Calls sink.calls sink_after.calls (calls_of (before ++ last ∷ []))
+  pub calls : Calls sink.calls sink_after.calls (calls_of before ++ failed (bytes_out last.1) ∷ [])
 
 -- these events were sent, or those up to one whose bytes could not be written
-abbrev pub Plays : {E : Type 0} → Result (Unit {0}) E → List Event → Meaning → Meaning → Sunk → Sunk → Type 0
+abbrev pub Plays : {E : Type 0} → Result (Unit {0}) E → List Event → Meaning → Meaning → Sink → Sink → Type 0
 Plays result wanted old new sink sink_after = MatchResult result (λ _. Played wanted old new sink sink_after) (λ _. BrokeOff wanted old new sink sink_after)
 
 -- Sends, with what comes of them: one, where a byte leaves, and else so many, at none of which a byte waits

@@ -1,7 +1,7 @@
 //! Where keys come from, and where the terminal's bytes go.
 ghost use Rattle.std.specs.Prelude.{◌≡◌, ℕ, List, [], ◌∷◌, OnOk, OnErr, IfOk, Option, None};
 ghost use Rattle.std.specs.Io.KnownBytes.{Appends};
-ghost use Rattle.xv_machine.specs.Devices.{one_more, GivesKey, Source, Asked, Sunk, Calls};
+ghost use Rattle.xv_machine.specs.Devices.{one_more, GivesKey, Source, Asked, Sink, Calls, took, failed};
 
 use std::io::{self, ErrorKind, Read, Write};
 use thiserror::Error;
@@ -13,7 +13,7 @@ pub struct DeviceFault;
 
 /// A source of keys. It counts its calls that fail.
 pub trait KeySource {
-    // What it tells of itself: the bytes that are left, and how many calls were made.
+    // What it tells of itself, where it is known: the bytes that are left, and how many calls were made.
     ghost source: { Self → Source };
 
     // How many calls have failed. The count stays at 2^64 - 1.
@@ -33,8 +33,8 @@ pub trait KeySource {
 
 /// A sink of bytes. It counts its calls that fail.
 pub trait ByteSink {
-    // What it tells of what it was given: the bytes that it holds, and those of each of its calls.
-    ghost sunk: { Self → Sunk };
+    // What it tells of itself, where it is known: the bytes that it holds, and its calls.
+    ghost sink: { Self → Sink };
 
     // How many calls have failed. The count stays at 2^64 - 1.
     ghost failures: { Self → ℕ };
@@ -46,8 +46,9 @@ pub trait ByteSink {
     /// Where the device fails. It then counts one failure more, and how many of the bytes it took isn't
     /// told.
     fn write_out(&mut self, bytes: &[u8]) -> Result<(), DeviceFault>
-        ensures bytes { OnOk result (Appends (sunk self.old).held (sunk self.new).held bytes.now) }
-        ensures call { Calls (sunk self.old).calls (sunk self.new).calls (bytes.now ∷ []) }
+        ensures bytes { OnOk result (Appends (sink self.old).held (sink self.new).held bytes.now) }
+        ensures call { OnOk result (Calls (sink self.old).calls (sink self.new).calls (took bytes.now ∷ [])) }
+        ensures failed_call { OnErr result (Calls (sink self.old).calls (sink self.new).calls (failed bytes.now ∷ [])) }
         ensures ok { OnOk result (failures self.new ≡ failures self.old) }
         ensures err { OnErr result (failures self.new ≡ one_more (failures self.old)) };
 }
@@ -88,7 +89,7 @@ impl<X: Read> KeySource for Counted<X> {
 
 /// The bytes are flushed, too.
 impl<X: Write> ByteSink for Counted<X> {
-    ghost sunk = { λ s. record { held = X.contents s.inner; calls = None } };
+    ghost sink = { λ s. record { held = X.contents s.inner; calls = None } };
 
     ghost failures = { λ s. s.failures };
 

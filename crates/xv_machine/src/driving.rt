@@ -6,7 +6,7 @@ ghost use Rattle.kcall_core.specs.Run as runs;
 ghost use Rattle.kcall_core.specs.Run.{bytes_out};
 ghost use Rattle.kcall_core.specs.Rounds.{key_events, round};
 ghost use Rattle.xk_base.specs.declared.limits.TheConstants.{SEND_BYTES};
-ghost use Rattle.xv_machine.specs.Devices.{one_more, Asked, Calls, OneFailed};
+ghost use Rattle.xv_machine.specs.Devices.{one_more, failed, Asked, Calls, OneFailed};
 ghost use Rattle.xv_machine.specs.Drives.{Done, StoppedByRead, StoppedByWrite, IsEndOf, OnRead, OnWrite, call_of};
 ghost use Rattle.xv_machine.specs.Events.{event_of};
 ghost use Rattle.xv_machine.specs.Sound.{IsSoundMachine};
@@ -50,8 +50,9 @@ pub enum DriveError {
 
 // Writes the bytes at once, where there are any.
 fn write_some<W: ByteSink>(sink: &mut W, bytes: &[u8]) -> Result<(), DeviceFault>
-    ensures bytes { OnOk result (Appends (W.sunk sink.old).held (W.sunk sink.new).held bytes.now) }
-    ensures call { Calls (W.sunk sink.old).calls (W.sunk sink.new).calls (call_of bytes.now) }
+    ensures bytes { OnOk result (Appends (W.sink sink.old).held (W.sink sink.new).held bytes.now) }
+    ensures call { OnOk result (Calls (W.sink sink.old).calls (W.sink sink.new).calls (call_of bytes.now)) }
+    ensures failed_call { OnErr result (Calls (W.sink sink.old).calls (W.sink sink.new).calls (failed bytes.now ∷ [])) }
     ensures some { OnErr result (bytes.now ≢ []) }
     ensures ok { OnOk result (W.failures sink.new ≡ W.failures sink.old) }
     ensures err { OnErr result (W.failures sink.new ≡ one_more (W.failures sink.old)) }
@@ -68,7 +69,7 @@ fn perform<W: ByteSink>(
     event: Event,
     sink: &mut W,
 ) -> Result<(), DeviceFault>
-    ensures plays { Plays result (event_of event ∷ []) machine.old machine.new (W.sunk sink.old) (W.sunk sink.new) }
+    ensures plays { Plays result (event_of event ∷ []) machine.old machine.new (W.sink sink.old) (W.sink sink.new) }
     ensures ok { OnOk result (W.failures sink.new ≡ W.failures sink.old) }
     ensures err { OnErr result (W.failures sink.new ≡ one_more (W.failures sink.old)) }
     ensures sound { IsSoundMachine machine.new }
@@ -84,7 +85,7 @@ fn type_key<W: ByteSink>(
     sink: &mut W,
 ) -> Result<(), DeviceFault>
     requires { IsSoundMachine machine.old }
-    ensures plays { Plays result (key_events (option_to_list key)) machine.old machine.new (W.sunk sink.old) (W.sunk sink.new) }
+    ensures plays { Plays result (key_events (option_to_list key)) machine.old machine.new (W.sink sink.old) (W.sink sink.new) }
     ensures ok { OnOk result (W.failures sink.new ≡ W.failures sink.old) }
     ensures err { OnErr result (W.failures sink.new ≡ one_more (W.failures sink.old)) }
 {
@@ -118,7 +119,7 @@ fn sent_bytes(byte: &Option<u8>) -> &[u8]
 // Lets the terminal take as many bytes as may wait for it, and writes each at once.
 fn send_all<W: ByteSink>(machine: &mut Machine, sink: &mut W) -> Result<(), DeviceFault>
     requires { IsSoundMachine machine.old }
-    ensures plays { Plays result (replicate SEND_BYTES runs.Send) machine.old machine.new (W.sunk sink.old) (W.sunk sink.new) }
+    ensures plays { Plays result (replicate SEND_BYTES runs.Send) machine.old machine.new (W.sink sink.old) (W.sink sink.new) }
     ensures ok { OnOk result (W.failures sink.new ≡ W.failures sink.old) }
     ensures err { OnErr result (W.failures sink.new ≡ one_more (W.failures sink.old)) }
 {
@@ -140,7 +141,7 @@ fn round<W: ByteSink>(
     sink: &mut W,
 ) -> Result<(), DeviceFault>
     requires { IsSoundMachine machine.old }
-    ensures plays { Plays result (round quantum (option_to_list key)) machine.old machine.new (W.sunk sink.old) (W.sunk sink.new) }
+    ensures plays { Plays result (round quantum (option_to_list key)) machine.old machine.new (W.sink sink.old) (W.sink sink.new) }
     ensures ok { OnOk result (W.failures sink.new ≡ W.failures sink.old) }
     ensures err { OnErr result (W.failures sink.new ≡ one_more (W.failures sink.old)) }
 {
@@ -182,12 +183,12 @@ pub fn drive<R: KeySource, W: ByteSink>(
     keys: &mut R,
     sink: &mut W,
 ) -> Result<DriveEnd, DriveError>
-    ensures done { OnOk result (Done plan (R.source keys.old) (R.source keys.new) machine.old machine.new (W.sunk sink.old) (W.sunk sink.new)) }
+    ensures done { OnOk result (Done plan (R.source keys.old) (R.source keys.new) machine.old machine.new (W.sink sink.old) (W.sink sink.new)) }
     ensures end { IfOk result (λ end. IsEndOf end machine.new) }
     ensures none_failed { OnOk result ((R.failures keys.new ≡ R.failures keys.old) × (W.failures sink.new ≡ W.failures sink.old)) }
-    ensures read { IfErr result (λ e. OnRead e (StoppedByRead plan (R.source keys.old) (R.source keys.new) machine.old machine.new (W.sunk sink.old) (W.sunk sink.new))) }
+    ensures read { IfErr result (λ e. OnRead e (StoppedByRead plan (R.source keys.old) (R.source keys.new) machine.old machine.new (W.sink sink.old) (W.sink sink.new))) }
     ensures read_failed { IfErr result (λ e. OnRead e (OneFailed (R.failures keys.old) (R.failures keys.new) (W.failures sink.old) (W.failures sink.new))) }
-    ensures write { IfErr result (λ e. OnWrite e (StoppedByWrite plan (R.source keys.old) (R.source keys.new) machine.old machine.new (W.sunk sink.old) (W.sunk sink.new))) }
+    ensures write { IfErr result (λ e. OnWrite e (StoppedByWrite plan (R.source keys.old) (R.source keys.new) machine.old machine.new (W.sink sink.old) (W.sink sink.new))) }
     ensures write_failed { IfErr result (λ e. OnWrite e (OneFailed (W.failures sink.old) (W.failures sink.new) (R.failures keys.old) (R.failures keys.new))) }
     ensures sound { IsSoundMachine machine.new }
     ensures frames { machine.new.frames.count ≡ machine.old.frames.count }

@@ -7,7 +7,7 @@ use Rattle.xv_machine.specs.declared.driving.DriveEnd.TheVariants.{Halted, Round
 use Rattle.xv_machine.specs.declared.driving.DriveError.{DriveError}
 use Rattle.xv_machine.specs.declared.driving.RunPlan.{RunPlan}
 use Rattle.xv_machine.specs.declared.machine.Config.{Config}
-use Rattle.xv_machine.specs.Devices.{Source, Sunk, OneFailed}
+use Rattle.xv_machine.specs.Devices.{Source, Sink, OneFailed}
 use Rattle.xv_machine.specs.Drives.{Done}
 use Rattle.xv_machine.specs.Meaning.{Meaning}
 
@@ -27,7 +27,7 @@ status_of (Err e) = 5
 pub record Devices : Type 0 where
   pub source : Source
   pub failed_reads : ℕ
-  pub sink : Sunk
+  pub sink : Sink
   pub failed_writes : ℕ
 
 -- the machine was driven by the plan to its end, and process 1 has gone with this status, or is live

@@ -60,8 +60,8 @@ fn play<R: KeySource, W: ByteSink, E: Write>(
     errors: &mut E,
 ) -> u8
     ensures { Tells result plan machine.old
-        (record { source = R.source keys.old; failed_reads = R.failures keys.old; sink = W.sunk sink.old; failed_writes = W.failures sink.old })
-        (record { source = R.source keys.new; failed_reads = R.failures keys.new; sink = W.sunk sink.new; failed_writes = W.failures sink.new }) }
+        (record { source = R.source keys.old; failed_reads = R.failures keys.old; sink = W.sink sink.old; failed_writes = W.failures sink.old })
+        (record { source = R.source keys.new; failed_reads = R.failures keys.new; sink = W.sink sink.new; failed_writes = W.failures sink.new }) }
 {
     let end = drive(machine, plan, keys, sink);
     show_trace(machine, errors);
@@ -84,8 +84,8 @@ pub fn run_with<R: KeySource, W: ByteSink, E: Write>(
     errors: &mut E,
 ) -> u8
     ensures { Says result config plan (map named_file programs.items)
-        (record { source = R.source keys.old; failed_reads = R.failures keys.old; sink = W.sunk sink.old; failed_writes = W.failures sink.old })
-        (record { source = R.source keys.new; failed_reads = R.failures keys.new; sink = W.sunk sink.new; failed_writes = W.failures sink.new }) }
+        (record { source = R.source keys.old; failed_reads = R.failures keys.old; sink = W.sink sink.old; failed_writes = W.failures sink.old })
+        (record { source = R.source keys.new; failed_reads = R.failures keys.new; sink = W.sink sink.new; failed_writes = W.failures sink.new }) }
 {
     match Machine::boot(alloc, config, programs) {
         Ok(mut machine) => play(&mut machine, plan, keys, sink, errors),

@@ -61,7 +61,7 @@ struct Broken {
 }
 
 impl ByteSink for Broken {
-    ghost sunk = { λ _. record { held = None; calls = None } };
+    ghost sink = { λ _. record { held = None; calls = None } };
 
     ghost failures = { λ s. s.failures };
 
