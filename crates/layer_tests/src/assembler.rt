@@ -171,7 +171,7 @@ fn programs_begin_at_start(rt: HostRuntime) -> Result<(), Fail> {
     Ok(())
 }
 
-// hostile/run.sh refuses each growth of this test in turn, until a run meets no refusal.
+// checks/hostile/run.sh refuses each growth of this test in turn, until a run meets no refusal.
 #[test]
 fn a_growth_that_the_host_refuses_is_want_of_memory(rt: HostRuntime) {
     match assemble(rt.alloc(), HELLO) {

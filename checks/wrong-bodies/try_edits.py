@@ -9,7 +9,7 @@ import subprocess
 import sys
 import tempfile
 
-TOP = pathlib.Path(__file__).resolve().parent.parent
+TOP = pathlib.Path(__file__).resolve().parents[2]
 
 
 class Edit:
@@ -128,7 +128,7 @@ def try_all(crate, edits, folder, sources):
 def main(words):
     names, count, bad = [it for it in words if it != "--must-fail"], 0, 0
     for home in sorted((TOP / "crates").iterdir()):
-        crate, folder = home.name, home / "must-fail" if "--must-fail" in words else TOP / "wrong-bodies" / home.name
+        crate, folder = home.name, home / "must-fail" if "--must-fail" in words else TOP / "checks/wrong-bodies" / home.name
         paths = [it for it in sorted(folder.glob("*.edit")) if not names or crate in names or f"{crate}/{it.name}" in names]
         sources = {str(it.relative_to(home)): it.read_text(encoding="utf-8") for it in home.glob("src/**/*.rt")}
         edits, count = [], count + len(paths)

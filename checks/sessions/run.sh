@@ -1,11 +1,12 @@
 #!/bin/sh
-# Plays the sessions of sessions/*.txt by the built program, and compares what comes out: ./check.sh, or
-# ./check.sh NAME.. for some of them. A line for each, and a verdict at the end; the status is 0 where all are as
+# Plays the sessions of this folder by the built program, and compares what comes out: checks/sessions/run.sh, or
+# checks/sessions/run.sh NAME.. for some of them. A line for each, and a verdict at the end; the status is 0 where all are as
 # they should be. XV_RUN is the program, and without it the one that stands in this repository.
 #
 # A session is a text. Its first line says what it shows; then come parts, each with a line `== NAME` at its head:
 #
-#   == words           the words of the command line; a FILE is one of the session's own, or a program beside this script
+#   == words           the words of the command line; a FILE is one of the session's own, or a program of
+#                      programs/bin, or another file of programs/
 #   == file NAME       a file of the session
 #   == keys            what is typed: each line and its end; ^D is the byte 4 and so on; <30> lets 30 rounds pass
 #   == shows           what the console must show, as `cat -v` writes it
@@ -15,11 +16,11 @@
 #
 # The last line of keys and of what is shown ends in \c where no line's end follows.
 set -u
-program=${XV_RUN-$(dirname "$0")/../crates/xv_run/out/xv_run}
+program=${XV_RUN-$(dirname "$0")/../../crates/xv_run/out/xv_run}
 [ -x "$program" ] || { echo "there is no program $program: build it by ./xv" >&2; exit 2; }
 program=$(readlink -f "$program")
 cd "$(dirname "$0")" || exit 2
-here=$PWD
+programs=$(cd ../../programs && pwd) || exit 2
 room=$(mktemp -d) || exit 2
 trap 'rm -rf "$room"' EXIT
 
@@ -67,8 +68,10 @@ words() {
     for word in $(cat "$room/=words"); do
         if [ -e "$room/$word" ]; then
             echo "$room/$word"
-        elif [ -e "$here/$word" ]; then
-            echo "$here/$word"
+        elif [ -e "$programs/bin/$word" ]; then
+            echo "$programs/bin/$word"
+        elif [ -e "$programs/$word" ]; then
+            echo "$programs/$word"
         else
             echo "$word"
         fi
@@ -102,10 +105,10 @@ play() {
 }
 
 # shellcheck disable=SC2012,SC2046
-[ $# -gt 0 ] || set -- $(cd sessions && ls | sed 's/\.txt$//')
+[ $# -gt 0 ] || set -- $(ls ./*.txt | sed 's/^\.\///; s/\.txt$//')
 failed=0
 for name; do
-    if play "sessions/$name.txt"; then
+    if play "$name.txt"; then
         echo "ok     $name"
     else
         failed=$((failed + 1))

@@ -7,7 +7,7 @@ import tempfile
 from traced import Traced
 
 HERE = os.path.dirname(os.path.abspath(__file__))
-EXAMPLES = os.path.join(HERE, "..", "examples")
+EXAMPLES = os.path.join(HERE, "..", "..", "programs", "examples")
 OUT_OF_MEMORY = {(2, b"", b"xv_run: out of memory\n"), (1, b"", b"xv_run: out of memory\n"), (1, b"", b"error: out of memory\n")}
 TEST = "a_growth_that_the_host_refuses_is_want_of_memory"
 FAULTS = {0: b"read fault", 1: b"write fault"}

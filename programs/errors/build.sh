@@ -1,11 +1,11 @@
 #!/bin/sh
 # Builds hello.c in ways that are wrong, for the table in docs/manual/running.md ("When a program of yours doesn't
-# run"): each way gives a file NAME/init. It needs the compiler of ../build.sh.
+# run"): each way gives a file NAME/init. It needs the compiler of ../c/build.sh.
 set -eu
 cd "$(dirname "$0")"
 
 tools=${RISCV:-riscv64-unknown-elf-}
-lib=../lib
+lib=../c/lib
 parts="$lib/calls.S $lib/texts.c $lib/print.c $lib/muldiv.c hello.c"
 plain='-Os -ffreestanding -nostdlib -static -fno-ident -fno-asynchronous-unwind-tables -Wl,-s,--build-id=none'
 isa='-march=rv64i -mabi=lp64'

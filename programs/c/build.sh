@@ -1,6 +1,6 @@
 #!/bin/sh
-# Builds the programs of src/ with the library of lib/: ./build.sh, or ./build.sh NAME.. for some of them.
-# ./build.sh --check builds into a folder of its own, and tells which programs that stand here are others.
+# Builds the programs of src/ with the library of lib/ into ../bin: programs/c/build.sh, or programs/c/build.sh NAME..
+# for some of them. With --check it builds into a folder of its own, and tells which programs of ../bin are others.
 #
 # It needs a C compiler for RISC-V (Debian 12: apt-get install gcc-riscv64-unknown-elf, version 12.2 with
 # binutils 2.40). The same compiler gives the same bytes each time. Extra switches stand in CFLAGS.
@@ -37,7 +37,7 @@ check() {
     others=0
     for name in $(names); do
         build "$name" "$room/$name"
-        cmp -s "$room/$name" "$name" || { echo "$name is another"; others=1; }
+        cmp -s "$room/$name" "../bin/$name" || { echo "$name is another"; others=1; }
     done
     [ "$others" = 0 ] && echo "all programs are what the sources give"
 }
@@ -48,12 +48,12 @@ case ${1-} in
         ;;
     '')
         for name in $(names); do
-            build "$name" "$name"
+            build "$name" "../bin/$name"
         done
         ;;
     *)
         for name; do
-            build "$name" "$name"
+            build "$name" "../bin/$name"
         done
         ;;
 esac

@@ -1,19 +1,19 @@
 #!/bin/sh
-# The machine at a terminal, while time goes by: ./live.sh WORDS.., with the words of ../xv. Without words it runs the
+# The machine at a terminal, while time goes by: programs/host/live.sh WORDS.., with the words of xv. Without words it runs the
 # shell with all programs that stand here.
 #
 # The machine types one byte of its input in each round, and waits for it. So that it goes on while nobody types,
 # bytes 0, which are keys without a meaning, are mixed into what is typed: some 1,000 in a second. Ctrl-D ends the
-# shell, and so does `exit`. XV_RUN is the program, and without it ../xv.
+# shell, and so does `exit`. XV_RUN is the program, and without it xv.
 set -u
-here=$(dirname "$0")
+top=$(dirname "$0")/../..
 if [ $# = 0 ]; then
     set -- --rounds 1000000000
-    for it in "$here"/src/*.c; do
-        set -- "$@" "$here/$(basename "$it" .c)"
+    for it in "$top"/programs/bin/*; do
+        set -- "$@" "$it"
     done
 fi
-[ -t 0 ] || { echo "live.sh: there is no terminal; give the keys to ../xv itself" >&2; exit 1; }
+[ -t 0 ] || { echo "live.sh: there is no terminal; give the keys to xv itself" >&2; exit 1; }
 
 before=$(stty -g)
 room=$(mktemp -d) || exit 1
@@ -33,4 +33,4 @@ stty -icanon -echo
 feeding=$!
 trap 'kill "$feeding" 2>/dev/null; stty "$before"; rm -rf "$room"' EXIT
 trap 'exit 130' INT TERM
-"${XV_RUN-$here/../xv}" "$@" <"$room/keys"
+"${XV_RUN-$top/xv}" "$@" <"$room/keys"

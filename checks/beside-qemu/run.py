@@ -157,7 +157,7 @@ def turn_each(options):
 
 
 def main():
-    parser = argparse.ArgumentParser(prog="beside-qemu/run.sh", allow_abbrev=False)
+    parser = argparse.ArgumentParser(prog="checks/beside-qemu/run.sh", allow_abbrev=False)
     parser.add_argument("--seed", type=int, default=1, help="other programs for each (1)")
     parser.add_argument("--programs", type=int, default=1000, help="how many (1000)")
     parser.add_argument("--quantum", type=int, help=f"the Runs in a round ({', '.join(map(str, QUANTA))} in turn)")

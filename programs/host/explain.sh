@@ -3,7 +3,7 @@
 # they mean, bytes as letters. Instructions one behind another are one line, and so are Runs in which nobody may run;
 # Sends that find no byte are left out. Lines that are none of a trace are handed on.
 #
-#   ./xv --quantum 20 --trace 100 examples/fork/init.s </dev/null 2>&1 | ./xv --explain
+#   ./xv --quantum 20 --trace 100 programs/examples/fork/init.s </dev/null 2>&1 | ./xv --explain
 exec awk '
 BEGIN {
     split("fork exit wait pipe read kill exec 8 9 dup getpid sbrk sleep uptime open write 17 18 19 20 close sbrklazy", name, " ")
