@@ -1,0 +1,45 @@
+#!/bin/sh
+# The checks beside the proofs: checks/run.sh plays the sessions and the stored runs by the program that is built, and looks
+# at the links of the pages, in some seconds. The gate does the same behind `rt ci`. `checks/run.sh --others` tells which
+# other checks there are, how each is called, and how long it takes.
+set -u
+cd "$(dirname "$0")/.." || exit 2
+
+# A check that is run by hand: its path, how it is called, and what it does.
+tell() {
+    [ ! -e "checks/$1" ] || printf '    %-46s %s\n' "checks/$2" "$3"
+}
+
+tell_others() {
+    echo 'By hand, each with a page README.md beside it:'
+    tell wrong-bodies/run.sh 'wrong-bodies/run.sh [CRATE..]' 'the prover refuses wrong bodies: minutes a crate, hours for all'
+    tell wrong-bodies/run.sh 'wrong-bodies/run.sh --definitions [CRATE..]' 'a law, worked case or contract refuses turned definitions: 1 to 10 minutes each'
+    tell hostile/run.sh 'hostile/run.sh' 'each refused growth of memory, read and write is answered: a minute'
+    tell beside-qemu/run.sh 'beside-qemu/run.sh' '1,000 random programs do what they do under QEMU: some minutes; needs qemu-user'
+    tell outside.sh 'outside.sh' "others' programs do what they do elsewhere: an hour; needs packages, told by the script"
+    tell gdb/run.sh 'gdb/run.sh' 'a debugger sees a run: a minute; needs gdb-multiarch'
+    tell page/run.sh 'page/run.sh' 'the page shows what the program shows: some minutes; needs chromium'
+    echo 'After a failed `rt check`: checks/why.sh CRATE tells what is open, in the order in which to read it.'
+}
+
+case "$*" in
+'') ;;
+--others)
+    tell_others
+    exit
+    ;;
+*)
+    echo 'usage: checks/run.sh [--others]' >&2
+    exit 2
+    ;;
+esac
+
+failed=
+for check in checks/sessions/run.sh checks/stored-runs/run.sh 'python3 -B checks/links.py'; do
+    $check || failed="$failed $check;"
+done
+[ -z "$failed" ] || {
+    echo "failed:$failed"
+    exit 1
+}
+tell_others
