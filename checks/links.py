@@ -1,7 +1,10 @@
 """Looks at each link of each page: the file it leads to is there, and has the heading that stands behind '#'.
 
-Links to other sites aren't followed. Code, between backticks or indented by four, has no links.
+A link whose text is a name of the code, as `two_worlds`, leads to a file in which that name stands; the statement
+of a law may stand there in its place, with capitals (`TwoWorlds`). Links to other sites aren't followed, and code that is
+indented or fenced has none.
 """
+import functools
 import pathlib
 import re
 import sys
@@ -9,10 +12,15 @@ import sys
 TOP = pathlib.Path(__file__).resolve().parents[1]
 
 
+@functools.cache
+def text_of(path):
+    return path.read_text(encoding="utf-8")
+
+
 def lines_of(page):
-    """The lines of a page that aren't code, numbered from 1, without the code that stands within a line."""
+    """The lines of a page that aren't code, numbered from 1."""
     fenced = False
-    for number, line in enumerate(page.read_text(encoding="utf-8").split("\n"), 1):
+    for number, line in enumerate(text_of(page).split("\n"), 1):
         if line.lstrip().startswith("```"):
             fenced = not fenced
         elif not fenced and not line.startswith("    "):
@@ -26,18 +34,32 @@ def anchors_of(page):
     return {re.sub(r"[^\w\- ]", "", it.lower()).replace(" ", "-") for it in plain}
 
 
+def stands_in(name, target):
+    """Whether a name of the code stands in a file of code, definitions or proofs; true of every other text and file."""
+    if target.suffix not in (".rt", ".antt") or not re.fullmatch(r"`(\w+::)*\w+`", name):
+        return True
+    word = name.strip("`").split("::")[-1]
+    capitals = "".join(it.capitalize() for it in word.split("_"))
+    return re.search(rf"\b({word}|{capitals})\b", text_of(target)) is not None
+
+
+def wrong_with(page, name, link):
+    """What is wrong with a link of a page, or nothing."""
+    path, _, anchor = link.partition("#")
+    target = page.parent / path if path else page
+    if not target.exists():
+        return "there is no such file"
+    if anchor and anchor not in anchors_of(target):
+        return "there is no such heading"
+    return None if stands_in(name, target) else f"{name} doesn't stand there"
+
+
 def wrong_links(page):
-    """What is wrong with the links of a page."""
     for number, line in lines_of(page):
-        for link in re.findall(r"\]\(([^)\s]+)\)", re.sub(r"`[^`]*`", "`", line)):
-            if re.match(r"[a-z]+:", link):
-                continue
-            path, _, anchor = link.partition("#")
-            target = page.parent / path if path else page
-            if not target.exists():
-                yield f"{page.relative_to(TOP)}:{number}: {link}: there is no such file"
-            elif anchor and anchor not in anchors_of(target):
-                yield f"{page.relative_to(TOP)}:{number}: {link}: there is no such heading"
+        for name, link in re.findall(r"\[([^]]*)\]\(([^)\s]+)\)", line):
+            wrong = None if re.match(r"[a-z]+:", link) else wrong_with(page, name, link)
+            if wrong:
+                yield f"{page.relative_to(TOP)}:{number}: {link}: {wrong}"
 
 
 def main():
