@@ -1,1 +1,3 @@
 mod Stretches
+mod Named
+mod NamedRows

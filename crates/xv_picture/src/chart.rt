@@ -1,6 +1,7 @@
 //! A trace by processes.
-ghost use Rattle.std.specs.Prelude.{◌≡◌, IfOk, All};
-ghost use Rattle.xv_picture.specs.Row.{IsRowOf};
+ghost use Rattle.std.specs.Prelude.{◌≡◌, ◌++◌, IfOk, OnOk, All};
+ghost use Rattle.std.specs.Option.{option_to_list};
+ghost use Rattle.xv_picture.specs.Row.{actor, answered_pid, newborn, AreNamed, IsRowOf, pids_of};
 
 use crate::note::Note;
 use crate::row::{FORK, Stretch, stretches};
@@ -25,7 +26,9 @@ pub struct Chart {
 }
 
 // The process whose event it was.
-fn actor(note: Note) -> Option<u32> {
+fn actor(note: Note) -> Option<u32>
+    ensures { result ≡ actor note }
+{
     match note {
         Note::Turn(pid) | Note::Step(pid) | Note::Call(pid, _, _) => Some(pid),
         Note::Block(pid, _) | Note::Exit(pid, _) | Note::Fault(pid, _) => Some(pid),
@@ -33,37 +36,54 @@ fn actor(note: Note) -> Option<u32> {
     }
 }
 
+// The pid that an answer is: a number from 1 on, in 32 bits.
+fn answered_pid(answer: i64) -> Option<u32>
+    ensures { result ≡ answered_pid answer }
+{
+    if answer <= 0 {
+        return None;
+    }
+    u32::try_from(answer).ok()
+}
+
 /// The process that the event made, if it is a fork that was answered with a pid.
-pub fn newborn(note: Note) -> Option<u32> {
+pub fn newborn(note: Note) -> Option<u32>
+    ensures { result ≡ newborn note }
+{
     match note {
-        Note::Call(_, FORK, answer) if answer > 0 => u32::try_from(answer).ok(),
+        Note::Call(_, FORK, answer) => answered_pid(answer),
         _ => None,
     }
 }
 
-// Adds a pid to a list that doesn't have it; the list stays where there is none to add.
-fn add_pid(pids: &mut Vec<u32>, pid: Option<u32>) -> Result<(), AllocError> {
-    match pid {
-        Some(pid) if !pids.contains(&pid) => pids.push(pid)?,
-        _ => {}
+// Adds a pid to a list, where there is one.
+fn add_pid(pids: &mut Vec<u32>, pid: Option<u32>) -> Result<(), AllocError>
+    ensures { OnOk result (pids.new.items ≡ pids.old.items ++ option_to_list pid) }
+{
+    if let Some(pid) = pid {
+        pids.push(pid)?;
     }
     Ok(())
 }
 
 // The pids that the notes name, from the least on, each once.
-fn pids(alloc: Global, notes: &[Note]) -> Result<Vec<u32>, AllocError> {
+fn pids(alloc: Global, notes: &[Note]) -> Result<Vec<u32>, AllocError>
+    ensures { IfOk result (λ pids. AreNamed notes.now pids.items) }
+{
     let mut pids = Vec::new(alloc);
     for &note in notes {
         add_pid(&mut pids, actor(note))?;
         add_pid(&mut pids, newborn(note))?;
     }
     pids.sort_unstable();
+    pids.dedup();
     Ok(pids)
 }
 
 // The row of a process.
 fn row_of(alloc: Global, pid: u32, notes: &[Note]) -> Result<Row, AllocError>
-    ensures { IfOk result (λ row. IsRowOf row notes.now) }
+    ensures shows { IfOk result (λ row. IsRowOf row notes.now) }
+    ensures of { IfOk result (λ row. row.pid ≡ pid) }
 {
     Ok(Row {
         pid,
@@ -80,9 +100,11 @@ impl Chart {
     pub fn of(alloc: Global, notes: Vec<Note>) -> Result<Chart, AllocError>
         ensures kept { IfOk result (λ chart. chart.notes.items ≡ notes.items) }
         ensures rows { IfOk result (λ chart. All (λ row. IsRowOf row notes.items) chart.rows.items) }
+        ensures named { IfOk result (λ chart. AreNamed notes.items (pids_of chart.rows.items)) }
     {
         let mut rows = Vec::new(alloc);
-        for pid in pids(alloc, notes.as_slice())? {
+        let pids = pids(alloc, notes.as_slice())?;
+        for &pid in pids.as_slice() {
             rows.push(row_of(alloc, pid, notes.as_slice())?)?;
         }
         Ok(Chart { notes, rows })
