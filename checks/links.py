@@ -2,9 +2,11 @@
 
 A link whose text is a name of the code, as `two_worlds`, leads to a file in which that name stands; the statement
 of a law may stand there in its place, with capitals (`TwoWorlds`). Links to other sites aren't followed, and code that is
-indented or fenced has none.
+indented or fenced has none. With --mend a link to a file that was moved leads to its new place, if one file alone has
+its name and the link's name.
 """
 import functools
+import os
 import pathlib
 import re
 import sys
@@ -35,7 +37,9 @@ def anchors_of(page):
 
 
 def stands_in(name, target):
-    """Whether a name of the code stands in a file of code, definitions or proofs; true of every other text and file."""
+    """Whether a name of the code stands in a file, and a path leads to it; true of every other text."""
+    if name.startswith("`crates/"):
+        return (TOP / name.strip("`")).resolve() == target.resolve()
     if target.suffix not in (".rt", ".antt") or not re.fullmatch(r"`(\w+::)*\w+`", name):
         return True
     word = name.strip("`").split("::")[-1]
@@ -62,12 +66,35 @@ def wrong_links(page):
                 yield f"{page.relative_to(TOP)}:{number}: {link}: {wrong}"
 
 
-def main():
+def new_place(page, name, link):
+    """The link to the one file that has the name of the link's file, and in which the link's name stands."""
+    path, mark, anchor = link.partition("#")
+    found = [it for it in TOP.glob(f"crates/*/*/**/{path.rpartition('/')[2]}") if "out" not in it.parts]
+    found = [it for it in found if name.startswith("`crates/") or stands_in(name, it)]
+    if len(found) != 1:
+        return f"[{name}]({link})"
+    told = f"`{found[0].relative_to(TOP)}`" if name.startswith("`crates/") else name
+    return f"[{told}]({os.path.relpath(found[0], page.parent)}{mark}{anchor})"
+
+
+def mend(page):
+    """Writes the page with the new places of files that were moved."""
+    def mended(found):
+        name, link = found[1], found[2]
+        is_wrong = not re.match(r"[a-z]+:", link) and link.partition("#")[0] and wrong_with(page, name, link)
+        return new_place(page, name, link) if is_wrong else found[0]
+    page.write_text(re.sub(r"\[([^]]*)\]\(([^)\s]+)\)", mended, text_of(page)), encoding="utf-8")
+    text_of.cache_clear()
+
+
+def main(words):
     pages = [it for it in sorted(TOP.rglob("*.md")) if not {"out", ".git"} & set(it.relative_to(TOP).parts)]
+    for page in pages if words == ["--mend"] else ():
+        mend(page)
     wrong = [it for page in pages for it in wrong_links(page)]
     print("\n".join([*wrong, f"the links of {len(pages)} pages: {len(wrong)} lead nowhere"]))
     return 1 if wrong else 0
 
 
 if __name__ == "__main__":
-    sys.exit(main())
+    sys.exit(main(sys.argv[1:]))
