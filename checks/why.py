@@ -29,7 +29,8 @@ def main(words):
         print("usage: checks/why.sh CRATE [FILE]", file=sys.stderr)
         return 2
     if words[1:]:
-        text, is_proved = pathlib.Path(words[1]).read_text(encoding="utf-8"), False
+        text = pathlib.Path(words[1]).read_text(encoding="utf-8")
+        is_proved = "\nlogic=proved " in text
     else:
         done = checked(home)
         text, is_proved = done.stdout, done.returncode == 0
