@@ -16,7 +16,7 @@ use Rattle.xv_machine.specs.Meaning.{Meaning}
 use Rattle.xv_machine.specs.Notes.{note}
 use Rattle.xv_machine.specs.Sound.{IsSoundMachine}
 
--- The machine goes from old to new by this event, as `event` promises
+-- The machine goes from old to new by this event: this is what `event` promises
 pub record IsEvent (old : Meaning) (e : Event) (o : Outcome) (new : Meaning) : Type 0 where
   pub promised : Promised old.world e o new.world
   pub notes : new.notes ≡ keep_last old.room (old.notes ++ note e o ∷ [])

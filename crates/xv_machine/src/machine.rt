@@ -152,7 +152,7 @@ impl Machine {
     ghost use Rattle.xv_machine.specs.Events.{event_of, outcome_of};
     ghost use Rattle.xv_machine.specs.Machine.{SameTrace};
     ghost use Rattle.xv_machine.specs.declared.trace.Note.TheVariants.{Stepped};
-    ghost use Rattle.xv_machine.specs.Notes.{note};
+    ghost use Rattle.xv_machine.specs.Reached.{IsEvent};
     ghost use Rattle.xv_machine.specs.Sound.{IsSoundMachine};
     ghost use Rattle.xv_machine.specs.Steps.{runs_made, IsEnd};
     ghost use Rattle.xv_machine.specs.Stretches.{sends};
@@ -228,11 +228,7 @@ impl Machine {
     // written anew, since it would be copied.
     #[inline(always)]
     pub fn event(&mut self, event: Event) -> Outcome
-        ensures promised { Promised self.old.world (event_of event) (outcome_of result) self.new.world }
-        ensures sound { IsSoundMachine self.new }
-        ensures frames { self.new.frames.count ≡ self.old.frames.count }
-        ensures notes { self.new.notes ≡ keep_last self.old.room (self.old.notes ++ note (event_of event) (outcome_of result) ∷ []) }
-        ensures room { self.new.room ≡ self.old.room }
+        ensures { IsEvent self.old (event_of event) (outcome_of result) self.new }
     {
         let outcome = self.take(event);
         if let Outcome::Stepped { pid } = outcome {
