@@ -7,3 +7,5 @@ pub mod Locations
 pub mod Asks
 pub mod OperandBytes
 pub mod ReadBack
+pub mod WorkedTexts
+pub mod WorkedReadings
