@@ -16,6 +16,8 @@ mod copies;
 #[cfg(test)]
 mod free_frames;
 #[cfg(test)]
+mod instruction_text;
+#[cfg(test)]
 mod instructions;
 #[cfg(test)]
 mod loading;

@@ -6,3 +6,4 @@ pub mod Written
 pub mod FileFormat
 pub mod Meaning
 pub mod Views
+pub mod Kinds
