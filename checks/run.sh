@@ -7,16 +7,16 @@ cd "$(dirname "$0")/.." || exit 2
 
 # A check that is run by hand: its path, how it is called, and what it does.
 tell() {
-    [ ! -e "checks/$1" ] || printf '    %-46s %s\n' "checks/$2" "$3"
+    [ ! -e "checks/$1" ] || printf '    %-52s %s\n' "checks/$2" "$3"
 }
 
 tell_others() {
-    echo 'By hand, each with a page README.md beside it:'
+    echo 'Other checks, by hand; the head or the README.md of each says more:'
     tell wrong-bodies/run.sh 'wrong-bodies/run.sh [CRATE..]' 'the prover refuses wrong bodies: minutes a crate, hours for all'
     tell wrong-bodies/run.sh 'wrong-bodies/run.sh --definitions [CRATE..]' 'a law, worked case or contract refuses turned definitions: 1 to 10 minutes each'
     tell hostile/run.sh 'hostile/run.sh' 'each refused growth of memory, read and write is answered: a minute'
     tell beside-qemu/run.sh 'beside-qemu/run.sh' '1,000 random programs do what they do under QEMU: some minutes; needs qemu-user'
-    tell outside.sh 'outside.sh' "others' programs do what they do elsewhere: an hour; needs packages, told by the script"
+    tell outside.sh 'outside.sh' "others' programs do what they do under QEMU: minutes, with \`torture\` an hour; needs packages, told by the script"
     tell gdb/run.sh 'gdb/run.sh' 'a debugger sees a run: a minute; needs gdb-multiarch'
     tell page/run.sh 'page/run.sh' 'the page shows what the program shows: some minutes; needs chromium'
     echo 'After a failed `rt check`: checks/why.sh CRATE tells what is open, in the order in which to read it.'

@@ -95,30 +95,35 @@ def declared(path):
     for module, names in re.findall(r"^use Rattle\.([\w.-]+)\.\{([^}]*)\}", text, re.M):
         brought.update({it.strip(): module for it in names.split(",")})
     modules.update({alias: module for module, alias in re.findall(r"^use Rattle\.([\w.-]+) as (\S+)", text, re.M)})
-    at = None
+    words = set()
     for line in text.split("\n"):
-        head = re.match(r"(?:abbrev |unfoldable )?(?:pub )?([^\s:(){}]+) ", line)
-        if head and head[1] not in ("use", "mod", "--"):
-            at = head[1]
-        bodies.setdefault(at, set()).update(re.split(r"[\s()\[\]{},;λ]+", line))
+        head = re.match(r"(?:abbrev |unfoldable |opaque )*(?:pub )?(?:abbrev |record |data )?([^\s:(){}]+) ", line)
+        inner = re.match(r" +(?:pub )?([^\s:(){}]+) : ", line)
+        if head and line[0] != " ":
+            words = bodies.setdefault(head[1], set())
+        elif inner and words is bodies.get("module"):
+            bodies.setdefault(inner[1], words)  # of a block of lemmas, all that stands in the block
+        words.update(re.split(r"[\s()\[\]{},;λ]+", line))
     return bodies, brought, modules
 
 
 def clauses_on(home, file, refused):
     """The clauses that a file answers by a refused lemma, or by one that stands on it."""
     def leads_to_one(file, name, seen):
+        bodies, brought, modules = declared(home / file)
+        words = bodies.get(name, set())
         if (file, name) in refused:
             return True
-        if (file, name) in seen:
+        if id(words) in seen:
             return False
-        seen.add((file, name))
-        bodies, brought, modules = declared(home / file)
-        for word in bodies.get(name, ()):
+        seen.add(id(words))
+        for word in words:
             alias, _, rest = word.partition(".")
-            module, lemma = (brought[word], word) if word in brought else (modules.get(alias), rest)
-            if word in bodies and word != name and leads_to_one(file, word, seen):
+            module, lemma = (brought[word], word) if word in brought else (modules.get(alias, ""), rest)
+            inside = module.startswith(f"{home.name}.proofs.")
+            if inside and leads_to_one(f"{module.partition('.')[2].replace('.', '/')}.antt", lemma, seen):
                 return True
-            if module and module.startswith(f"{home.name}.proofs.") and leads_to_one(f"{module.partition('.')[2].replace('.', '/')}.antt", lemma, seen):
+            if not module and word in bodies and leads_to_one(file, word, seen):
                 return True
         return False
-    return [it for it in declared(home / file)[0] if it and it.startswith("returns") and leads_to_one(file, it, set())]
+    return [it for it in declared(home / file)[0] if it.startswith("returns") and leads_to_one(file, it, set())]
