@@ -8,8 +8,8 @@
 # `calls` is our own, and tries what the functions under the C library answer. `torture` is the compiler's own
 # gcc.c-torture/execute, at the levels of LEVELS, without it -O0 and -O2: half an hour for each.
 #
-# It needs what guests.sh needs, and qemu-user. GUESTS is the folder where all of it stands, JOBS how many run side by side,
-# XV_RUN the machine's program.
+# It needs what guests.sh needs, and qemu-user. GUESTS is the folder in which all of it stands, JOBS how many run side
+# by side, XV_RUN the machine's program.
 set -eu
 checks=$(dirname "$(readlink -f -- "$0")")
 top=$checks/..

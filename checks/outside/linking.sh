@@ -4,7 +4,8 @@
 build_linux_start() {
     mkdir -p "$GUESTS/linux"
     for part in linux.S linux.c; do
-        "$top/programs/c/xvcc" -Os -Wall -Wextra -I"$top/programs/c/picolibc" -c "$checks/outside/$part" -o "$GUESTS/$part.o"
+        "$top/programs/c/xvcc" -Os -Wall -Wextra -I"$top/programs/c/picolibc" -c "$checks/outside/$part" \
+            -o "$GUESTS/$part.o"
     done
     riscv64-unknown-elf-ld -r -o "$GUESTS/start.o" "$GUESTS/linux.S.o" "$GUESTS/linux.c.o"
 }

@@ -57,6 +57,7 @@ compare() {
 fetch_inputs() {
     cp "$checks"/outside/cases/* "$top"/programs/examples/lua/*.lua "$top"/programs/examples/sql/*.csv \
         "$top"/programs/examples/sql/*.sql "$top"/programs/examples/awk/*.awk "$1"
+    cp "$top"/programs/examples/awk/*.txt "$1"
     cp "$top/docs/manual/processes.md" "$1/text"
     rm "$1/lines"
 }

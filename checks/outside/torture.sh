@@ -2,14 +2,14 @@
 # GCC's own tests of what it compiles, gcc.c-torture/execute: each is a program that ends with 0 where all is right.
 # ../outside.sh runs this with its settings; checks/outside/torture.sh NAME LEVEL runs one test, and prints a line.
 #
-# A test is built as GCC's own scripts do it, with a stack of 1 MB on which instructions may lie. Each ends within
-# 10 seconds, or is said not to.
+# A test is built as GCC's own scripts do it, with a stack of 1 MB on which instructions may lie. What is built stands
+# in $GUESTS/torture, and is used again.
 set -u
 . "$checks/outside/linking.sh"
 . "$top/programs/c/guests.sh"
 set +e
 tests=$GUESTS/sources/torture
-stack=-Wl,--defsym=__stack_size=1048576,--defsym=__stack_rights=7
+stack='-Wl,--defsym=__stack_size=1048576,--defsym=__stack_rights=7'
 
 # The switches that a test wants on every processor.
 switches() {
@@ -27,25 +27,24 @@ files() {
     esac
 }
 
-# The status of a program, 0 where it ended with 0.
-status_here() {
-    mkdir -p "$1.folder"
-    mv "$1" "$1.folder/init"
-    timeout 60 "$XV_RUN" --frames 8192 --rounds 10000 --quantum 100000 "$1.folder/init" </dev/null >"$1.out" 2>&1
+# build_test NAME LEVEL PLACE: builds a test for the machine, as PLACE/init, and for Linux, as PLACE/linux.
+build_test() {
+    [ ! -e "$3/linux" ] || return 0
+    source=$tests/$1.c
+    # shellcheck disable=SC2046,SC2086
+    (cd "$3" && timeout 300 "$top/programs/c/xvcc" -w $2 $(switches "$source") -c $(files "$source")) &&
+        "$top/programs/c/xvcc" "$stack" "$3"/*.o -lm -o "$3/init" &&
+        link_for_linux "$stack" "$3"/*.o -lm -o "$3/linux"
 }
 
-run_one() {
-    source=$tests/$1.c
+# run_test NAME LEVEL: prints whether it ends well in both ways.
+run_test() {
     place=$GUESTS/torture/$(echo "$1$2" | tr / -)
-    # shellcheck disable=SC2046,SC2086
-    if ! timeout 120 "$top/programs/c/xvcc" -w $2 $(switches "$source") "$stack" $(files "$source") -lm -o "$place" 2>"$place.errors" ||
-        ! link_for_linux -w $2 $(switches "$source") "$stack" $(files "$source") -lm -o "$place.linux" 2>>"$place.errors"; then
-        echo "$1 $2 not built"
-        return
-    fi
-    status_here "$place"
+    mkdir -p "$place"
+    build_test "$1" "$2" "$place" 2>"$place/errors" || { echo "$1 $2 isn't built"; return; }
+    timeout 60 "$XV_RUN" --frames 8192 --rounds 10000 --quantum 100000 "$place/init" </dev/null >"$place/here" 2>&1
     here=$?
-    timeout 10 qemu-riscv64 "$place.linux" </dev/null >"$place.out" 2>&1
+    timeout 60 qemu-riscv64 "$place/linux" </dev/null >"$place/there" 2>&1
     there=$?
     case $here,$there in
         0,0) echo "$1 $2 same" ;;
@@ -53,7 +52,6 @@ run_one() {
         *,0) echo "$1 $2 ENDS WITH $here here, and well by QEMU" ;;
         *) echo "$1 $2 fails in both: $here here, $there by QEMU" ;;
     esac
-    rm -rf "$place" "$place".*
 }
 
 # Fetches the tests into $GUESTS/sources/torture.
@@ -72,21 +70,20 @@ fetch_torture() {
 }
 
 if [ $# = 2 ]; then
-    run_one "$1" "$2"
+    run_test "$1" "$2"
     exit
 fi
 fetch_torture
-mkdir -p "$GUESTS/torture"
 for level in $LEVELS; do
     begin=$(date +%s)
-    told=$GUESTS/torture$level
+    told=$GUESTS/told$level
     (cd "$tests" && ls ./*.c ieee/*.c builtins/*.c | grep -v -- '-lib\.c$' | sed 's/^\.\///; s/\.c$//') |
         xargs -P "$JOBS" -I{} nice "$0" {} "$level" >"$told"
     count=$(wc -l <"$told")
     same=$(grep -c ' same$' "$told")
     grep -v ' same$' "$told" | sort
     echo "torture    $level: $same of $count tests end well, here and by qemu-riscv64, in $(($(date +%s) - begin)) s"
-    grep -v ' same$' "$told" | sort >>"$GUESTS/torture-others"
-    grep -q 'ENDS WITH' "$told" && verdict=differs || verdict=same
+    verdict=same
+    ! grep -q 'ENDS WITH' "$told" || verdict=DIFFERS
     echo "torture $level $verdict" >>"$GUESTS/results"
 done

@@ -71,7 +71,8 @@ build() {
     mkdir -p "$objects"
     # shellcheck disable=SC2016
     printf '%s\n' "$@" | words=$words objects=$objects xargs -P "$JOBS" -I{} sh -c \
-        'to="$objects/$(basename "{}" .c).o"; [ "$to" -nt "{}" ] || nice "$top/programs/c/xvcc" -w $words -c "{}" -o "$to"'
+        'to="$objects/$(basename "{}" .c).o"
+        [ "$to" -nt "{}" ] || nice "$top/programs/c/xvcc" -w $words -c "{}" -o "$to"'
     "$top/programs/c/xvcc" "$objects"/*.o -lm -o "$GUESTS/bin/$program"
     link_too "$program" "$objects"/*.o
 }

@@ -37,7 +37,7 @@ static int ask(void)
 #endif
 
 #ifdef KEEPS
-static _Thread_local int kept; /* lies where tp says, which nobody has set */
+static _Thread_local volatile int kept; /* lies where tp says, which nobody has set */
 
 static int ask(void)
 {

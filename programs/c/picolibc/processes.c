@@ -9,8 +9,9 @@
 
 #include "kernel.h"
 
-static char *no_environment[] = {NULL};
-char **environ = no_environment;
+/* A program gets no environment, and begins with this one: there is one folder. */
+static char *first_environment[] = {"HOME=/", NULL};
+char **environ = first_environment;
 
 /* Children that have ended, and weren't waited for by the program: the kernel tells of any of them. */
 static struct ended {

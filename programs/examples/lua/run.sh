@@ -4,9 +4,10 @@
 set -eu
 cd "$(dirname "$0")"
 top=../../..
+bin=$top/programs/bin
 $top/programs/c/guests.sh lua >/dev/null
 room=$(mktemp -d)
 trap 'rm -rf "$room"' EXIT
 echo 'lua primes.lua 60 | sort | head -5' >"$room/rc"
-"${XV_RUN:-$top/xv}" --rounds 100000 --quantum 100000 $top/programs/bin/init $top/programs/bin/sh $top/programs/bin/sort \
-    $top/programs/bin/head "${GUESTS:-/tmp/xv-guests}/bin/lua" primes.lua "$room/rc" </dev/null
+"${XV_RUN:-$top/xv}" --quantum 100000 $bin/init $bin/sh $bin/sort $bin/head "${GUESTS:-/tmp/xv-guests}/bin/lua" \
+    primes.lua "$room/rc" </dev/null
