@@ -1,32 +1,48 @@
 #!/bin/sh
-# Builds the programs of src/ with the library of lib/ into ../bin: programs/c/build.sh, or programs/c/build.sh NAME..
-# for some of them. With --check it builds into a folder of its own, and tells which programs of ../bin are others.
+# Builds programs in C with the small library of lib/.
+#
+#   programs/c/build.sh            all programs of src/ into ../bin; programs/c/build.sh NAME.. builds some
+#   programs/c/build.sh --check    builds them into a folder of its own, and tells which of ../bin are others
+#   programs/c/build.sh my.c ..    programs of your own, from any folder: my.c gives the program my beside it, and
+#                                  my.debug for debuggers. What the compiler thinks strange is a warning, and no error
 #
 # It needs a C compiler for RISC-V (Debian 12: apt-get install gcc-riscv64-unknown-elf, version 12.2 with
 # binutils 2.40). The same compiler gives the same bytes each time. Extra switches stand in CFLAGS.
 set -eu
-cd "$(dirname "$0")"
-
+here=$(dirname "$(readlink -f -- "$0")")
 tools=${RISCV:-riscv64-unknown-elf-}
 
 # The machine has RV64I and no more: no multiplication, no 16-bit instructions, no misaligned access. The rest
 # keeps out what a compiler may add: its own functions, paths, times, notes.
 target='-march=rv64i -mabi=lp64 -mstrict-align'
-language='-std=gnu11 -Os -ffreestanding -fno-pic -fno-common -fno-tree-loop-distribute-patterns'
+language='-std=gnu11 -fno-pic -fno-common -fno-tree-loop-distribute-patterns'
 plain='-fno-ident -fno-asynchronous-unwind-tables -fno-stack-protector -ffunction-sections -fdata-sections'
 # A process has one page of stack.
-warnings='-Wall -Wextra -Wshadow -Wstrict-prototypes -Werror -Wframe-larger-than=1024'
-link='-nostdlib -static -Wl,-n,-s,--gc-sections,--build-id=none,--no-warn-rwx-segments -T lib/program.ld'
+warnings='-Wall -Wextra -Wshadow -Wframe-larger-than=1024'
+link='-nostdlib -static -Wl,-n,--gc-sections,--build-id=none,--no-warn-rwx-segments -T program.ld'
+library='start.S calls.S other_calls.S texts.c copies.c print.c input.c lines.c heap.c muldiv.c atomics.c'
 
-# Builds program $1 as file $2.
+# Builds program $1 of src/ as file $2. The paths are short ones, so that they are the same everywhere.
 build() {
     # shellcheck disable=SC2086
-    "${tools}gcc" $target $language $plain $warnings ${CFLAGS-} -Ilib $link -o "$2" \
-        lib/start.S lib/calls.S lib/texts.c lib/print.c lib/input.c lib/heap.c lib/muldiv.c "src/$1.c"
+    (cd "$here/lib" && "${tools}gcc" $target $language -Os -ffreestanding $plain $warnings -Wstrict-prototypes -Werror \
+        ${CFLAGS-} -I. $link -Wl,-s -o "$2" $library "../src/$1.c")
+}
+
+# Builds the program of file $1 beside it. Its main need not say return.
+build_own() {
+    [ -e "$1" ] || { echo "build.sh: there is no $1" >&2; return 1; }
+    file=$(readlink -f -- "$1")
+    program=${file%.c}
+    # shellcheck disable=SC2086
+    (cd "$here/lib" && "${tools}gcc" $target $language -Og -g -fno-builtin $plain $warnings ${CFLAGS-} -I. $link \
+        -o "$program" $library "$file" -lgcc)
+    "${tools}objcopy" --only-keep-debug "$program" "$program.debug"
+    "${tools}strip" "$program"
 }
 
 names() {
-    for source in src/*.c; do
+    for source in "$here"/src/*.c; do
         basename "$source" .c
     done
 }
@@ -37,23 +53,21 @@ check() {
     others=0
     for name in $(names); do
         build "$name" "$room/$name"
-        cmp -s "$room/$name" "../bin/$name" || { echo "$name is another"; others=1; }
+        cmp -s "$room/$name" "$here/../bin/$name" || { echo "$name is another"; others=1; }
     done
     [ "$others" = 0 ] && echo "all programs are what the sources give"
 }
 
-case ${1-} in
-    --check)
-        check
-        ;;
-    '')
-        for name in $(names); do
-            build "$name" "../bin/$name"
-        done
-        ;;
-    *)
-        for name; do
-            build "$name" "../bin/$name"
-        done
-        ;;
-esac
+command -v "${tools}gcc" >/dev/null || {
+    echo "build.sh: there is no ${tools}gcc; this mends it: apt-get install gcc-riscv64-unknown-elf" >&2
+    exit 1
+}
+# shellcheck disable=SC2046
+[ $# -gt 0 ] || set -- $(names)
+[ "$1" = --check ] && { check; exit; }
+for word; do
+    case $word in
+        *.c) build_own "$word" ;;
+        *) build "$word" "$here/../bin/$word" ;;
+    esac
+done

@@ -1,12 +1,14 @@
 #!/bin/sh
 # Builds hello.c in ways that are wrong, for the table in docs/manual/running.md ("When a program of yours doesn't
-# run"): each way gives a file NAME/init. It needs the compiler of ../c/build.sh.
+# run"): each way gives a file NAME/init. strange.c is built rightly, and does what can't be done here. It needs the
+# compiler of ../c/build.sh.
 set -eu
 cd "$(dirname "$0")"
 
 tools=${RISCV:-riscv64-unknown-elf-}
 lib=../c/lib
-parts="$lib/calls.S $lib/texts.c $lib/print.c $lib/muldiv.c hello.c"
+library="$lib/calls.S $lib/texts.c $lib/print.c $lib/muldiv.c"
+parts="$library hello.c"
 plain='-Os -ffreestanding -nostdlib -static -fno-ident -fno-asynchronous-unwind-tables -Wl,-s,--build-id=none'
 isa='-march=rv64i -mabi=lp64'
 layout="-Wl,-n -T $lib/program.ld"
@@ -34,4 +36,12 @@ build() {
     build no_start $isa $layout $parts
     # Compiled, but not linked.
     build unlinked $isa -c hello.c
+    # An instruction that is there to end a program.
+    build traps $isa $layout $lib/start.S $library -DTRAPS strange.c
+    # The register that counts cycles.
+    build counts -march=rv64i_zicsr -mabi=lp64 $layout $lib/start.S $library -DCOUNTS strange.c
+    # A function within a function, and its address.
+    build nests $isa $layout $lib/start.S $library -DNESTS strange.c
+    # A variable of each thread.
+    build keeps $isa $layout $lib/start.S $library -DKEEPS strange.c
 }

@@ -164,6 +164,8 @@ int dprintf(int descriptor, const char *format, ...)
     return written;
 }
 
+int fprintf(int descriptor, const char *format, ...) __attribute__((alias("dprintf")));
+
 int printf(const char *format, ...)
 {
     va_list arguments;

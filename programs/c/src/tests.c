@@ -1330,6 +1330,59 @@ static void allocations(void)
     free(NULL);
 }
 
+/* All memory, given and taken back in small blocks, can be given in larger ones. */
+static void freed_blocks_join(void)
+{
+    void **blocks = NULL;
+    void **block;
+
+    while ((block = malloc(10001)) != NULL) {
+        *block = blocks;
+        blocks = block;
+    }
+    CHECK(blocks != NULL);
+    while (blocks != NULL) {
+        block = blocks;
+        blocks = *block;
+        free(block);
+    }
+    block = malloc(20480);
+    CHECK(block != NULL && malloc(1 << 20) != NULL);
+}
+
+static void blocks_grow(void)
+{
+    char *block = calloc(10, 10);
+
+    CHECK(block != NULL && is_zero(block, 100));
+    fill(block, 100);
+    block = realloc(block, 5 * PAGE_BYTES);
+    CHECK(block != NULL && is_filled(block, 0, 100));
+    CHECK(realloc(block, 1L << 40) == NULL && is_filled(block, 0, 100));
+    CHECK(calloc(1L << 40, 1L << 40) == NULL);
+}
+
+static void copies_of_texts(void)
+{
+    CHECK(strcmp(strcpy(page, "abc"), "abc") == 0 && strcmp(strcat(page, "de"), "abcde") == 0);
+    CHECK(strncpy(page, "xy", 4) == page && memcmp(page, "xy\0\0e", 5) == 0);
+    CHECK(strrchr("abcb", 'b')[1] == 0 && strrchr("abc", 'd') == NULL && *strrchr("abc", 0) == 0);
+    CHECK(strcmp(strstr("the kernel", "he k"), "he kernel") == 0 && strstr("abc", "bd") == NULL);
+}
+
+static void lines_of_a_pipe(void)
+{
+    int ends[2];
+    char line[8];
+
+    CHECK(pipe(ends) == 0 && fputs("one\nseven letters\n", ends[1]) == 18);
+    close(ends[1]);
+    CHECK(strcmp(fgets(line, sizeof line, ends[0]), "one\n") == 0);
+    CHECK(strcmp(fgets(line, sizeof line, ends[0]), "seven l") == 0);
+    CHECK(strcmp(fgets(line, sizeof line, ends[0]), "etters\n") == 0);
+    CHECK(fgets(line, sizeof line, ends[0]) == NULL);
+}
+
 struct test {
     const char *name;
     void (*run)(void);
@@ -1387,6 +1440,10 @@ static const struct test tests[] = {
     TEST(formats),
     TEST(texts),
     TEST(allocations),
+    TEST(freed_blocks_join),
+    TEST(blocks_grow),
+    TEST(copies_of_texts),
+    TEST(lines_of_a_pipe),
 };
 
 enum { TESTS = sizeof tests / sizeof tests[0] };
