@@ -62,11 +62,11 @@ def check(folder):
 
 
 def refused_by(text, folder):
-    """What a check refuses for its meaning, as words: worked cases, laws, and contracts."""
+    """What a check refuses for its meaning, as words: worked cases and contracts, and apart from them laws."""
     told = [f"worked case {it.name} ({it.why})" for it in said.refusals(text) if it.is_worked and not it.is_of_form]
-    told += [f"{'law' if it.is_law else 'contract'} {it.name.partition('::')[2]}: {', '.join(it.clauses)}"
-             for it in said.open_functions(text, folder) if it.clauses]
-    return told
+    functions = [it for it in said.open_functions(text, folder) if it.clauses]
+    told += [f"contract {it.name.partition('::')[2]}: {', '.join(it.clauses)}" for it in functions if not it.is_law]
+    return told, [f"law {it.name.partition('::')[2]}: {', '.join(it.clauses)}" for it in functions if it.is_law]
 
 
 def refused_for_form(text):
@@ -88,9 +88,10 @@ def try_edit(edit, room):
         done = check(folder)
         if done.returncode == 0:
             continue
-        told = refused_by(done.stdout, folder) if is_readable(done.stdout) else []
-        if told:
-            print(f"{edit.name}: refused in {crate}:", *told, sep="\n    ", flush=True)
+        told, laws = refused_by(done.stdout, folder) if is_readable(done.stdout) else ([], [])
+        if told or laws:
+            alone = "" if told else " by laws alone: see whether they are false now, or only their proofs don't fit"
+            print(f"{edit.name}: refused in {crate}{alone}:", *told, *laws, sep="\n    ", flush=True)
             return True
         form = refused_for_form(done.stdout) or done.stdout.strip().split("\n")[-5:]
         print(f"{edit.name}: REFUSED FOR ITS FORM ALONE in {crate}:", *form[:8], sep="\n    ", flush=True)
