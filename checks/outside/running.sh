@@ -20,6 +20,7 @@ run_here() {
     "$XV_RUN" --frames 32768 --rounds 1000000 --quantum 100000 $programs $inputs rc </dev/null >"$2" 2>here.errors &&
         return 0
     status=$(sed -n 's/^xv_run: init exited with //p' here.errors)
+    [ "$status" != -1 ] || status=255
     return "${status:-99}"
 }
 

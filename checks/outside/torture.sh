@@ -11,11 +11,15 @@ set +e
 tests=$GUESTS/sources/torture
 stack='-Wl,--defsym=__stack_size=1048576,--defsym=__stack_rights=7'
 
-# The switches that a test wants on every processor.
+# The switches that a test wants on every processor: they stand in it, or in a file of its own, or are those of its folder.
 switches() {
-    sed -n 's/.*dg-\(additional-\)*options "\([^"]*\)" *}.*/\2/p' "$1"
+    sed -n 's/.*dg-\(additional-\)*options {* *"\([^"]*\)" *}.*/\2/p' "$1"
+    [ ! -e "${1%.c}.x" ] || sed -n 's/^[a-z]* additional_flags //p' "${1%.c}.x" | tr -d '"'
     case $1 in
         */ieee/*) echo -fno-inline ;;
+        */builtins/*)
+            echo -fno-tree-dse -fno-tree-loop-distribute-patterns -fno-tracer -fno-ipa-ra -fno-inline-functions
+            ;;
     esac
 }
 

@@ -10,7 +10,8 @@
 #include "kernel.h"
 
 /* A program gets no environment, and begins with this one: there is one folder. */
-static char *first_environment[] = {"HOME=/", NULL};
+static char home[] = "HOME=/"; /* programs may write to it */
+static char *first_environment[] = {home, NULL};
 char **environ = first_environment;
 
 /* Children that have ended, and weren't waited for by the program: the kernel tells of any of them. */
