@@ -19,15 +19,6 @@ events list = map (λ e. e.0) list
 abbrev pub halts : List (Event × Outcome) → Bool
 halts list = list_any (λ e. is_some (halted_by e.1)) list
 
--- whole rounds, none of which begins on a halted machine or past the number of rounds, up to where none may begin
-abbrev pub Planned : (rounds quantum : ℕ) (keys : List ℕ) (halted : Bool) → List (Event × Outcome) → Type 0
-Planned rounds quantum keys true list = list ≡ []
-Planned zero quantum keys false list = list ≡ []
-Planned (suc rounds) quantum keys false list =
-    (now : List (Event × Outcome)) × (later : List (Event × Outcome)) × (list ≡ now ++ later)
-    × (events now ≡ round quantum keys)
-    × Planned rounds quantum (drop 1 keys) (halts now) later
-
 -- exactly so many whole rounds, none of which begins on a halted machine; the last one may halt it
 abbrev pub AreRounds : (count quantum : ℕ) (keys : List ℕ) (halted : Bool) → List (Event × Outcome) → Type 0
 AreRounds zero quantum keys halted list = list ≡ []
@@ -37,17 +28,17 @@ AreRounds (suc count) quantum keys false list =
     × (events now ≡ round quantum keys)
     × AreRounds count quantum (drop 1 keys) (halts now) later
 
--- whole rounds, behind which one more may begin: what a driver has played that gives up before a round
+-- a whole plan: as many rounds as are allowed; or fewer, behind which the machine is halted
+abbrev pub Planned : (rounds quantum : ℕ) (keys : List ℕ) (halted : Bool) → List (Event × Outcome) → Type 0
+Planned rounds quantum keys halted list =
+    (count : ℕ) × (count ≤ rounds) × AreRounds count quantum keys halted list × ((count ≡ rounds) ⊎ ((halted || halts list) ≡ true))
+
+-- rounds behind which one more may begin: what a driver has played that gives up before a round
 abbrev pub StopsBeforeRound : (rounds quantum : ℕ) (keys : List ℕ) (halted : Bool) → List (Event × Outcome) → Type 0
 StopsBeforeRound rounds quantum keys halted list =
     (count : ℕ) × (count < rounds) × AreRounds count quantum keys halted list × ((halted || halts list) ≡ false)
 
--- a plan, cut off behind one of its events: what a driver has played that gives up after it
-abbrev pub PlannedUpTo : (rounds quantum : ℕ) (keys : List ℕ) (halted : Bool) → List (Event × Outcome) → (last : Event × Outcome) → Type 0
-PlannedUpTo rounds quantum keys halted list last =
-    (before : List (Event × Outcome)) × (more : List (Event × Outcome)) × (list ≡ before ++ last ∷ []) × Planned rounds quantum keys halted (list ++ more)
-
--- the same, by rounds: whole ones, and of one more the events up to the last one
+-- such rounds, and of one more the events up to the last one: what a driver has played that gives up behind an event
 abbrev pub EndsInRound : (rounds quantum : ℕ) (keys : List ℕ) (halted : Bool) → List (Event × Outcome) → (last : Event × Outcome) → Type 0
 EndsInRound rounds quantum keys halted list last =
     (count : ℕ) × (before : List (Event × Outcome)) × (part : List (Event × Outcome)) × (rest : List Event)
@@ -75,14 +66,16 @@ StopsThenPlan =
     (rounds quantum : ℕ) (keys : List ℕ) (halted : Bool) (list more : List (Event × Outcome)) → (stops : StopsBeforeRound rounds quantum keys halted list) → Planned (rounds - stops.0) quantum (drop stops.0 keys) false more
     → Planned rounds quantum keys halted (list ++ more)
 
--- a plan is so many rounds as it is allowed, or fewer, the last of which halts the machine
-abbrev pub PlanIsRounds : Type 0
-PlanIsRounds =
-    (rounds quantum : ℕ) (keys : List ℕ) (halted : Bool) (list : List (Event × Outcome)) → Planned rounds quantum keys halted list
-    → (count : ℕ) × (count ≤ rounds) × AreRounds count quantum keys halted list × ((count ≡ rounds) ⊎ ((halted || halts list) ≡ true))
+-- a plan, round by round: nothing, where no round may begin; and else a round, behind which a plan has one round fewer
+abbrev pub PlanGoesByRounds : Type 0
+PlanGoesByRounds =
+    (rounds quantum : ℕ) (keys : List ℕ) (list : List (Event × Outcome))
+    → (Planned rounds quantum keys true list ↔ (list ≡ []))
+    × (Planned 0 quantum keys false list ↔ (list ≡ []))
+    × (Planned (suc rounds) quantum keys false list ↔ ((now : List (Event × Outcome)) × (later : List (Event × Outcome)) × (list ≡ now ++ later) × (events now ≡ round quantum keys) × Planned rounds quantum (drop 1 keys) (halts now) later))
 
--- a plan that is cut off ends in a round
+-- a plan that is cut off behind one of its events ends in a round
 abbrev pub CutEndsInRound : Type 0
 CutEndsInRound =
     (rounds quantum : ℕ) (keys : List ℕ) (halted : Bool) (list : List (Event × Outcome)) (last : Event × Outcome)
-    → PlannedUpTo rounds quantum keys halted list last ↔ EndsInRound rounds quantum keys halted list last
+    → ((before : List (Event × Outcome)) × (more : List (Event × Outcome)) × (list ≡ before ++ last ∷ []) × Planned rounds quantum keys halted (list ++ more)) ↔ EndsInRound rounds quantum keys halted list last

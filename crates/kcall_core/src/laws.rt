@@ -10,7 +10,7 @@ ghost use Rattle.kcall_core.specs.Conditions.{WakesSuffice, ConditionsSuffice, R
 ghost use Rattle.kcall_core.specs.First.{FirstWell, FirstSlots};
 ghost use Rattle.kcall_core.specs.RowLaws.{InstructionLaw, EcallLaw, ResumeLaw, EndLaw, TouchLaw, AnswerLaw, WaitingLaw, ExecLaw, ForkLaw, GoneLaw, ReapLaw, KillLaw, PipeReadLaw, PipeWriteLaw, FileReadLaw, OpenLaw, PipeLaw, DupLaw, DupPipeLaw, CloseLaw, ClosePipeLaw, WellForked, WellGone, WellReaped, WellAlone, WellPiped, WellMoved, WellMarked, WritesTakeNothing, StoresTakeNothing, WellOpened, WellDup, WellDupPipe, WellClosed, WellClosedPipe, WellMadePipe, WellOutside};
 ghost use Rattle.kcall_core.specs.Room.{WholeHasRoom};
-ghost use Rattle.kcall_core.specs.Rounds.{RoundsThenPlan, StopsThenPlan, RoundsFollowRounds, PlanIsRounds, CutEndsInRound};
+ghost use Rattle.kcall_core.specs.Rounds.{RoundsThenPlan, StopsThenPlan, RoundsFollowRounds, PlanGoesByRounds, CutEndsInRound};
 ghost use Rattle.kcall_core.specs.Sources.{EachByteHasItsSource};
 ghost use Rattle.kcall_core.specs.StepLaws.{RefusalsChangeNothing, InCallWhereBlocked, BlockedIsInCall};
 ghost use Rattle.kcall_core.specs.Wakes.{PromisedRunsJoin, PromisedRunsSplit, PromisedIsRun, NoLostWakeUp, NeverLost, StaysRunnable, SlotsStay, WaitsAtMost, TurnComes, ComesNearer, IsNear, BlocksUnready};
@@ -66,8 +66,9 @@ pub fn plans()
     // Rounds behind rounds are rounds.
     ensures rounds_follow_rounds { RoundsFollowRounds }
 
-    // A plan is as many rounds as it allows, or fewer, the last of which halts the machine.
-    ensures plan_is_rounds { PlanIsRounds }
+    // A plan goes round by round: nothing is played where no round may begin, and else a round, behind which a
+    // plan has one round fewer.
+    ensures plan_goes_by_rounds { PlanGoesByRounds }
 
     // A plan that is cut off behind an event is whole rounds, and of one more the events up to that one.
     ensures cut_ends_in_round { CutEndsInRound }

@@ -15,3 +15,4 @@ pub mod Loads
 pub mod Limit
 pub mod Started
 pub mod StartedRows
+mod WorkedSources

@@ -129,11 +129,11 @@ pub record Known (source : List ℕ) (ps : List Placed) (r : SectionBytes) (len 
 
 -- both passes give all of it
 pub known : (source : List ℕ) (ps : List Placed) (r : SectionBytes) (len : ℕ)
-    → all_placed [] start (lines source) ≡ Ok ps → len ≡ (end_of ps start).text_len
-    → all_spelled (addresses len (label_place ps)) len no_bytes ps ≡ Ok r → Known source ps r len
+    → all_placed (lines source) ≡ Ok ps → len ≡ (end_of ps start).text_len
+    → all_spelled (addresses len (label_place ps)) len ps ≡ Ok r → Known source ps r len
 known source ps r len h e s =
     let labels = addresses len (label_place ps) in
-    let found = all_found (lines source) [] start ps h tt in
+    let found = all_found (lines source) [] start ps refl h tt in
     let from : From start (lines source) ps = subst (λ (qs : List Placed). From start (lines source) qs) (sym found.1) found.2 in
     let b = all_spelled_is labels len ps no_bytes r s in
     let bss = b.0 in

@@ -6,11 +6,12 @@ use Rattle.uasm_core.specs.declared.words.Section.{Section}
 use Rattle.uasm_core.specs.declared.words.Section.TheVariants.{Text, Data}
 use Rattle.uasm_core.specs.Line.{parts_of}
 use Rattle.uasm_core.specs.declared.place.Place.{Place}
-use Rattle.uasm_core.specs.Places.{is_past_limit, address}
+use Rattle.uasm_core.specs.Places.{start, is_past_limit, address}
 use Rattle.uasm_core.specs.Statement.{Statement, statement, Labels, spelled}
-use Rattle.uasm_core.specs.Written.{Placed, Fault, ◌>>=◌, on_line, placed, all_placed, label_place, is_taken, behind, SectionBytes, put_end, put_in, all_spelled}
+use Rattle.uasm_core.specs.Written.{Placed, Fault, ◌>>=◌, on_line, one_by_one, placed, end_of, with_line, label_place, is_taken, behind, SectionBytes, put_end, put_in, spelled_line}
 use Rattle.uasm_core.specs.Meaning.{ProgramLine, is_same, bytes_in}
 use Rattle.uasm_core.proofs.Once.{Distinct, distinct_more}
+use Rattle.uasm_core.proofs.OneMore.{end_more}
 
 -- the line asks for p's statement, at p's place, and the file isn't too long behind it
 pub record IsOf (at : Place) (line : List ℕ) (p : Placed) : Type 0 where
@@ -65,23 +66,23 @@ Found ps at ls qs = (rest : List Placed) × (qs ≡ ps ++ rest) × From at ls re
 -- one line more
 found_next : (r : Result Placed Fault) (ps : List Placed) (at : Place) (line : List ℕ) (others : List (List ℕ)) (qs : List Placed)
     → ((p : Placed) → r ≡ Ok p → IsOf at line p × Distinct (ps ++ p ∷ []))
-    → ((p : Placed) → all_placed (ps ++ p ∷ []) (behind p.statement at) others ≡ Ok qs → Distinct (ps ++ p ∷ []) → Found (ps ++ p ∷ []) (behind p.statement at) others qs)
-    → (r >>= λ p. all_placed (ps ++ p ∷ []) (behind p.statement at) others) ≡ Ok qs → Found ps at (line ∷ others) qs
+    → ((p : Placed) → IsOf at line p → one_by_one with_line (ps ++ p ∷ []) others ≡ Ok qs → Distinct (ps ++ p ∷ []) → Found (ps ++ p ∷ []) (behind p.statement at) others qs)
+    → ((r >>= λ p. Ok (ps ++ p ∷ [])) >>= λ next. one_by_one with_line next others) ≡ Ok qs → Found ps at (line ∷ others) qs
 found_next (Err e) ps at line others qs is next h = absurd (let no_way : ⊥ = cc in no_way)
 found_next (Ok p) ps at line others qs is next h =
     let this = is p refl in
-    let more = next p h this.1 in
+    let more = next p this.0 h this.1 in
     (p ∷ more.0, more.1 ∙ append_assoc ps (p ∷ []) more.0, (this.0, more.2), more.3)
 
 -- what the first pass found of the lines
-pub all_found : (ls : List (List ℕ)) (ps : List Placed) (at : Place) (qs : List Placed) → all_placed ps at ls ≡ Ok qs → Distinct ps → Found ps at ls qs
-all_found [] ps at qs h d =
+pub all_found : (ls : List (List ℕ)) (ps : List Placed) (at : Place) (qs : List Placed) → end_of ps start ≡ at → one_by_one with_line ps ls ≡ Ok qs → Distinct ps → Found ps at ls qs
+all_found [] ps at qs ends h d =
     let e : ps ≡ qs = cc in
     ([], sym e ∙ sym (append-nil ps), tt, (let P : List Placed → Type 0 = Distinct in subst P e d))
-all_found (line ∷ others) ps at qs h d =
-    found_next (placed (length ps + 1) (label_place ps) at line) ps at line others qs
-    (λ p e. let is = placed_is (length ps + 1) (label_place ps) at line p e in (is.0, distinct_more ps p d is.1))
-    (λ p e c. all_found others (ps ++ p ∷ []) (behind p.statement at) qs e c)
+all_found (line ∷ others) ps at qs ends h d =
+    found_next (placed (length ps + 1) (label_place ps) (end_of ps start) line) ps at line others qs
+    (λ p e. let is = placed_is (length ps + 1) (label_place ps) (end_of ps start) line p e in (subst (λ (a : Place). IsOf a line p) ends is.0, distinct_more ps p d is.1))
+    (λ p is e c. all_found others (ps ++ p ∷ []) (behind p.statement at) qs (end_more ps p start ∙ ap (λ (a : Place). behind p.statement a) is.place) e c)
     h
 
 -- lines that spell these bytes
@@ -131,13 +132,13 @@ put_front Data labels len p ps old new bs s e b =
 -- one line more
 spelled_next : (r : Result (List ℕ) AsmErrorKind) (labels : Labels) (len : ℕ) (p : Placed) (ps : List Placed) (old new : SectionBytes)
     → spelled labels (address len p.place) p.statement ≡ r
-    → ((next : SectionBytes) → all_spelled labels len next ps ≡ Ok new → Behind labels len ps next new)
-    → (on_line p.line (put_in p.place.section old r) >>= λ s. all_spelled labels len s ps) ≡ Ok new → Behind labels len (p ∷ ps) old new
+    → ((next : SectionBytes) → one_by_one (spelled_line labels len) next ps ≡ Ok new → Behind labels len ps next new)
+    → (on_line p.line (put_in p.place.section old r) >>= λ s. one_by_one (spelled_line labels len) s ps) ≡ Ok new → Behind labels len (p ∷ ps) old new
 spelled_next (Err k) labels len p ps old new e next h = absurd (let no_way : ⊥ = cc in no_way)
 spelled_next (Ok bs) labels len p ps old new e next h = put_front p.place.section labels len p ps old new bs refl e (next (put_end p.place.section bs old) h)
 
 -- what the second pass spelled of the lines
-pub all_spelled_is : (labels : Labels) (len : ℕ) (ps : List Placed) (old new : SectionBytes) → all_spelled labels len old ps ≡ Ok new → Behind labels len ps old new
+pub all_spelled_is : (labels : Labels) (len : ℕ) (ps : List Placed) (old new : SectionBytes) → one_by_one (spelled_line labels len) old ps ≡ Ok new → Behind labels len ps old new
 all_spelled_is labels len [] old new h =
     let e : old ≡ new = cc in
     ([], tt, sym (ap (λ (b : SectionBytes). b.in_text) e) ∙ sym (append-nil old.in_text), sym (ap (λ (b : SectionBytes). b.in_data) e) ∙ sym (append-nil old.in_data))

@@ -4,29 +4,30 @@ use Rattle.uasm_core.specs.declared.error.AsmError.{AsmError}
 use Rattle.uasm_core.specs.declared.error.AsmError.TheVariants as error
 use Rattle.uasm_core.specs.declared.place.Place.{Place}
 use Rattle.uasm_core.specs.Views.{Fails}
-use Rattle.uasm_core.specs.Written.{Placed, Fault, ◌>>=◌, placed, all_placed, label_place, behind}
+use Rattle.uasm_core.specs.Places.{start}
+use Rattle.uasm_core.specs.Written.{Placed, Fault, ◌>>=◌, one_by_one, placed, end_of, with_line, label_place}
 
 -- the line is placed the same by equal labels
 same : (ps : List Placed) (n : ℕ) (labels : List ℕ → Option Place) (at : Place) (source : List ℕ)
-    → n ≡ length ps → labels ≡ label_place ps → placed (length ps + 1) (label_place ps) at source ≡ placed (n + 1) labels at source
-same ps n labels at source e l = ap (λ (m : ℕ). placed (m + 1) (label_place ps) at source) (sym e) ∙ ap (λ (f : List ℕ → Option Place). placed (n + 1) f at source) (sym l)
+    → n ≡ length ps → labels ≡ label_place ps → at ≡ end_of ps start → placed (length ps + 1) (label_place ps) (end_of ps start) source ≡ placed (n + 1) labels at source
+same ps n labels at source e l a =
+    ap (λ (m : ℕ). placed (m + 1) (label_place ps) (end_of ps start) source) (sym e) ∙ ap (λ (f : List ℕ → Option Place). placed (n + 1) f (end_of ps start) source) (sym l) ∙ ap (λ (q : Place). placed (n + 1) labels q source) (sym a)
 
 -- a line that is taken
-pub more : (ps : List Placed) (n : ℕ) (labels : List ℕ → Option Place) (at : Place) (source : List ℕ) (others : List (List ℕ)) (p : Placed) (next : Place) (whole : Result (List Placed) Fault)
-    → n ≡ length ps → labels ≡ label_place ps → placed (n + 1) labels at source ≡ Ok p → next ≡ behind p.statement at
-    → all_placed ps at (source ∷ others) ≡ whole → all_placed (ps ++ p ∷ []) next others ≡ whole
-more ps n labels at source others p next whole e l h b w =
-    ap (λ (q : Place). all_placed (ps ++ p ∷ []) q others) b
-    ∙ sym (ap (λ (r : Result Placed Fault). r >>= λ p. all_placed (ps ++ p ∷ []) (behind p.statement at) others) (same ps n labels at source e l ∙ h))
+pub more : (ps : List Placed) (n : ℕ) (labels : List ℕ → Option Place) (at : Place) (source : List ℕ) (others : List (List ℕ)) (p : Placed) (whole : Result (List Placed) Fault)
+    → n ≡ length ps → labels ≡ label_place ps → at ≡ end_of ps start → placed (n + 1) labels at source ≡ Ok p
+    → one_by_one with_line ps (source ∷ others) ≡ whole → one_by_one with_line (ps ++ p ∷ []) others ≡ whole
+more ps n labels at source others p whole e l a h w =
+    sym (ap (λ (r : Result Placed Fault). (r >>= λ p. Ok (ps ++ p ∷ [])) >>= λ next. one_by_one with_line next others) (same ps n labels at source e l a ∙ h))
     ∙ w
 
 -- a line that is refused
 pub fails_more : (x : AsmError) (ps : List Placed) (n : ℕ) (labels : List ℕ → Option Place) (at : Place) (source : List ℕ) (others : List (List ℕ)) (whole : Result (List Placed) Fault)
-    → n ≡ length ps → labels ≡ label_place ps → Fails x (placed (n + 1) labels at source)
-    → all_placed ps at (source ∷ others) ≡ whole → Fails x whole
-fails_more error.Memory ps n labels at source others whole e l h w = tt
-fails_more (error.At line kind) ps n labels at source others whole e l h w =
-    sym w ∙ ap (λ (r : Result Placed Fault). r >>= λ p. all_placed (ps ++ p ∷ []) (behind p.statement at) others) (same ps n labels at source e l ∙ h)
+    → n ≡ length ps → labels ≡ label_place ps → at ≡ end_of ps start → Fails x (placed (n + 1) labels at source)
+    → one_by_one with_line ps (source ∷ others) ≡ whole → Fails x whole
+fails_more error.Memory ps n labels at source others whole e l a h w = tt
+fails_more (error.At line kind) ps n labels at source others whole e l a h w =
+    sym w ∙ ap (λ (r : Result Placed Fault). (r >>= λ p. Ok (ps ++ p ∷ [])) >>= λ next. one_by_one with_line next others) (same ps n labels at source e l a ∙ h)
 
 -- the next line of those that are left
 pub drop_here : (xs : List (Bor (List ℕ))) (i : ℕ) (d : Bor (List ℕ)) (source : List ℕ) → i < length xs → source ≡ (get_or xs i d).now

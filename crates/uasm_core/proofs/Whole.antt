@@ -1,17 +1,20 @@
 -- Both passes, joined.
-use Rattle.std.proofs.Common.{◌≡◌, ℕ, ◌+◌, ◌^◌, ◌<◌, ◌≤◌, List, [], length, Option, Result, Ok, Err, sym, ap, subst, ◌∙◌, arith}
+use Rattle.std.proofs.Common.{◌≡◌, ℕ, ◌+◌, ◌^◌, ◌<◌, ◌≤◌, List, length, Option, Result, Ok, Err, sym, ap, subst, ◌∙◌, arith}
 use Rattle.std.specs.Str.Lines.{lines}
 use Rattle.xk_base.specs.declared.limits.TheConstants.{PROGRAM_BYTES}
+use Rattle.uasm_core.specs.declared.error.AsmError.{AsmError}
+use Rattle.uasm_core.specs.declared.error.AsmError.TheVariants as error
 use Rattle.uasm_core.specs.declared.place.Place.{Place}
+use Rattle.uasm_core.specs.Views.{Fails}
 use Rattle.uasm_core.specs.Places.{start, headers_len}
-use Rattle.uasm_core.specs.Written.{Placed, Fault, SectionBytes, Program, ◌>>=◌, all_placed, all_spelled, label_place, addresses, end_of, no_bytes, second_pass, program_of, entry_of}
+use Rattle.uasm_core.specs.Written.{Placed, Fault, SectionBytes, Program, ◌>>=◌, all_placed, all_spelled, label_place, addresses, end_of, second_pass, program_of, entry_of}
 use Rattle.uasm_core.specs.FileFormat.{file_of, elf_of}
 use Rattle.uasm_core.specs.Meaning.{Assembles}
 use Rattle.uasm_core.proofs.Lines.{Known, known}
 use Rattle.uasm_core.proofs.Loads.{whole_file}
 
 -- what the first pass refuses
-pub refused_first : (source : List ℕ) (e : Fault) → all_placed [] start (lines source) ≡ Err e → file_of source ≡ Err e
+pub refused_first : (source : List ℕ) (e : Fault) → all_placed (lines source) ≡ Err e → file_of source ≡ Err e
 refused_first source e h = ap (λ (x : Result (List Placed) Fault). (x >>= second_pass) >>= λ p. Ok (elf_of p)) h
 
 -- the file where the second pass gives this
@@ -20,20 +23,27 @@ of_second text_len places x = (x >>= λ r. let w : Result Program Fault = Ok (pr
 
 -- what the second pass gives, where the first found these lines
 pub by_second : (source : List ℕ) (ps : List Placed) (text_len : ℕ) (places : List ℕ → Option Place) (x : Result SectionBytes Fault)
-    → all_placed [] start (lines source) ≡ Ok ps → text_len ≡ (end_of ps start).text_len → places ≡ label_place ps
-    → all_spelled (addresses text_len places) text_len no_bytes ps ≡ x → file_of source ≡ of_second text_len places x
+    → all_placed (lines source) ≡ Ok ps → text_len ≡ (end_of ps start).text_len → places ≡ label_place ps
+    → all_spelled (addresses text_len places) text_len ps ≡ x → file_of source ≡ of_second text_len places x
 by_second source ps text_len places x h t l s =
     ap (λ (y : Result (List Placed) Fault). (y >>= second_pass) >>= λ p. Ok (elf_of p)) h
-    ∙ ap (λ (n : ℕ). of_second n (label_place ps) (all_spelled (addresses n (label_place ps)) n no_bytes ps)) (sym t)
-    ∙ ap (λ (f : List ℕ → Option Place). of_second text_len f (all_spelled (addresses text_len f) text_len no_bytes ps)) (sym l)
+    ∙ ap (λ (n : ℕ). of_second n (label_place ps) (all_spelled (addresses n (label_place ps)) n ps)) (sym t)
+    ∙ ap (λ (f : List ℕ → Option Place). of_second text_len f (all_spelled (addresses text_len f) text_len ps)) (sym l)
     ∙ ap (of_second text_len places) s
+
+-- what the second pass refuses
+pub fails_second : (x : AsmError) (source : List ℕ) (ps : List Placed) (text_len : ℕ) (places : List ℕ → Option Place) (r : Result SectionBytes Fault)
+    → all_placed (lines source) ≡ Ok ps → text_len ≡ (end_of ps start).text_len → places ≡ label_place ps
+    → all_spelled (addresses text_len places) text_len ps ≡ r → Fails x r → Fails x (file_of source)
+fails_second error.Memory source ps text_len places r h t l s f = tt
+fails_second (error.At line kind) source ps text_len places r h t l s f = by_second source ps text_len places (Err (line, kind)) h t l (s ∙ f)
 
 -- what is known of what the second pass gives
 pub known_second : (source : List ℕ) (ps : List Placed) (text_len : ℕ) (places : List ℕ → Option Place) (r : SectionBytes)
-    → all_placed [] start (lines source) ≡ Ok ps → text_len ≡ (end_of ps start).text_len → places ≡ label_place ps
-    → all_spelled (addresses text_len places) text_len no_bytes ps ≡ Ok r → Known source ps r text_len
+    → all_placed (lines source) ≡ Ok ps → text_len ≡ (end_of ps start).text_len → places ≡ label_place ps
+    → all_spelled (addresses text_len places) text_len ps ≡ Ok r → Known source ps r text_len
 known_second source ps text_len places r h t l s =
-    known source ps r text_len h t (ap (λ (f : List ℕ → Option Place). all_spelled (addresses text_len f) text_len no_bytes ps) (sym l) ∙ s)
+    known source ps r text_len h t (ap (λ (f : List ℕ → Option Place). all_spelled (addresses text_len f) text_len ps) (sym l) ∙ s)
 
 -- each section is short
 pub lengths : (source : List ℕ) (ps : List Placed) (r : SectionBytes) (len : ℕ) → Known source ps r len → (length r.in_text < 2 ^ 32) × (length r.in_data < 2 ^ 32)

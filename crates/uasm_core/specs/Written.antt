@@ -33,6 +33,11 @@ abbrev pub ◌>>=◌ : {A B : Type 0} → Result A Fault → (A → Result B Fau
 (Ok x) >>= f = f x
 (Err e) >>= f = Err e
 
+-- one step after another, up to the first refusal
+abbrev pub one_by_one : {A S : Type 0} → (S → A → Result S Fault) → S → List A → Result S Fault
+one_by_one step s [] = Ok s
+one_by_one step s (a ∷ others) = step s a >>= λ next. one_by_one step next others
+
 -- a refusal, with its line's number
 abbrev pub on_line : {A : Type 0} → ℕ → Result A AsmErrorKind → Result A Fault
 on_line n (Ok x) = Ok x
@@ -62,15 +67,18 @@ placed n labels at line =
     if is_taken parts.label labels then Err (n, DuplicateLabel)
     else (on_line n (statement at.section parts) >>= λ s. if is_past_limit (behind s at) then Err (n, OutOfRange) else Ok (record { line = n; label = parts.label; place = at; statement = s }))
 
--- these lines, and behind them those that are left
-abbrev pub all_placed : List Placed → Place → List (List ℕ) → Result (List Placed) Fault
-all_placed ps at [] = Ok ps
-all_placed ps at (line ∷ others) = placed (length ps + 1) (label_place ps) at line >>= λ p. all_placed (ps ++ p ∷ []) (behind p.statement at) others
-
 -- where the last line ends
 abbrev pub end_of : List Placed → Place → Place
 end_of [] at = at
 end_of (p ∷ ps) at = end_of ps (behind p.statement p.place)
+
+-- these lines, and one behind them
+abbrev pub with_line : List Placed → List ℕ → Result (List Placed) Fault
+with_line ps line = placed (length ps + 1) (label_place ps) (end_of ps start) line >>= λ p. Ok (ps ++ p ∷ [])
+
+-- all lines
+abbrev pub all_placed : List (List ℕ) → Result (List Placed) Fault
+all_placed ls = one_by_one with_line [] ls
 
 -- The second pass, by lines: the bytes, by the addresses of the labels.
 
@@ -93,18 +101,17 @@ abbrev pub put_in : Section → SectionBytes → Result (List ℕ) AsmErrorKind 
 put_in section r (Ok bs) = Ok (put_end section bs r)
 put_in section r (Err e) = Err e
 
--- one line more
+-- what was spelled so far, and a line behind it
 abbrev pub spelled_line : Labels → ℕ → SectionBytes → Placed → Result SectionBytes Fault
 spelled_line labels text_len r p = on_line p.line (put_in p.place.section r (spelled labels (address text_len p.place) p.statement))
-
--- what was spelled so far, and behind it the lines that are left
-abbrev pub all_spelled : Labels → ℕ → SectionBytes → List Placed → Result SectionBytes Fault
-all_spelled labels text_len r [] = Ok r
-all_spelled labels text_len r (p ∷ ps) = spelled_line labels text_len r p >>= λ s. all_spelled labels text_len s ps
 
 -- nothing spelled yet
 abbrev pub no_bytes : SectionBytes
 no_bytes = record { in_text = []; in_data = [] }
+
+-- all lines
+abbrev pub all_spelled : Labels → ℕ → List Placed → Result SectionBytes Fault
+all_spelled labels text_len ps = one_by_one (spelled_line labels text_len) no_bytes ps
 
 -- Both passes.
 
@@ -126,8 +133,8 @@ program_of text_len places r = record { text = r.in_text; data_bytes = r.in_data
 abbrev pub second_pass : List Placed → Result Program Fault
 second_pass ps =
     let text_len = (end_of ps start).text_len in
-    all_spelled (addresses text_len (label_place ps)) text_len no_bytes ps >>= λ r. Ok (program_of text_len (label_place ps) r)
+    all_spelled (addresses text_len (label_place ps)) text_len ps >>= λ r. Ok (program_of text_len (label_place ps) r)
 
 -- what the source asks for
 abbrev pub written : List ℕ → Result Program Fault
-written source = all_placed [] start (lines source) >>= second_pass
+written source = all_placed (lines source) >>= second_pass

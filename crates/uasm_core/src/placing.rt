@@ -181,7 +181,7 @@ fn place_line<'a>(
 /// All lines with their places.
 pub(crate) fn place_all<'a>(alloc: Global, lines: &[&'a str]) -> Result<Listing<'a>, AsmError>
     ensures value { Stands (λ v. map seen v.lines.items) result
-        (all_placed [] start (map (λ l. l.now) lines.now)) }
+        (all_placed (map (λ l. l.now) lines.now)) }
     ensures labels { IfOk result (λ v. places_of v.labels ≡ label_place (map seen v.lines.items)) }
     ensures text_len { IfOk result (λ v. v.text_len ≡ (end_of (map seen v.lines.items) start).text_len) }
 {

@@ -7,7 +7,7 @@ ghost use Rattle.uasm_core.specs.Views.{Answers};
 ghost use Rattle.uasm_core.specs.Views.{Stands, seen, bytes_in};
 ghost use Rattle.uasm_core.specs.Views.{statement as statement_seen, datum as datum_seen};
 ghost use Rattle.uasm_core.specs.Statement.{spelled, put_behind, datum_bytes, address_of, from_to as distance_between, distance as distance_in, values_bytes, BranchTo, JumpTo, LoadAddress};
-ghost use Rattle.uasm_core.specs.Written.{spelled_line, put_in, all_spelled, addresses, no_bytes};
+ghost use Rattle.uasm_core.specs.Written.{spelled_line, put_in, all_spelled, addresses};
 
 use crate::bytes::{put_u8, put_u32, put_u64};
 use crate::error::{AsmError, AsmErrorKind, Refusal};
@@ -300,7 +300,7 @@ pub(crate) fn spell_all<'a>(
     text_len: u32,
 ) -> Result<Output, AsmError>
     ensures { Stands bytes_in result (all_spelled (addresses text_len (places_of labels.now)) text_len
-        no_bytes (map seen lines.now)) }
+        (map seen lines.now)) }
 {
     let mut out = Output {
         text: Vec::new(alloc),

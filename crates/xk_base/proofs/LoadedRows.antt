@@ -6,7 +6,7 @@ use Rattle.xk_base.specs.declared.errors.ExecError.TheVariants.{NotElf, BadSegme
 use Rattle.xk_base.specs.declared.program.Segment.{Segment}
 use Rattle.xk_base.specs.Words.{least_below}
 use Rattle.xk_base.specs.ProgramFile.{is_elf, file_header, header_of, program_header, is_bad, is_refused_after, segments_of}
-use Rattle.xk_base.specs.Loaded.{stack_pointer, stack_over, segments_over, zeros, perm_at, page_perm, guard, stack, program_image, loaded, ◌>>=◌, Loaded}
+use Rattle.xk_base.specs.Loaded.{stack_pointer, stack_over, segments_over, zeros, perm_at, page_perm, guard, stack, program_image, image_by, loaded, ◌>>=◌, Loaded}
 
 abbrev nothing : ℕ → List ℕ
 nothing n = replicate n 0
@@ -84,6 +84,15 @@ started file texts = loaded file texts >>= λ l. Ok (registers l)
 small-loaded : started small (init ∷ []) ≡ Ok (0 ∷ 0x2FE0 ∷ 1 ∷ 0x3000 ∷ [])
 unfolding is_elf file_header program_header is_bad is_refused_after least_below program_image
 small-loaded = refl
+
+-- all of it: the image has the pages, the bytes and the stack that are computed above
+small-program : loaded small (init ∷ []) ≡ Ok (record { image = program_image small (text_segment ∷ []) (init ∷ []); pc = 0; sp = 0x2FE0; argc = 1 })
+unfolding is_elf file_header program_header is_bad is_refused_after least_below program_image
+small-program = refl
+
+small-image : program_image small (text_segment ∷ []) (init ∷ []) ≡ image_by (page_perm (text_segment ∷ []) 0x1000) (stack_over 0x3000 (init ∷ []) (segments_over small (text_segment ∷ []) zeros)) 0x3000
+unfolding program_image
+small-image = refl
 
 -- an entry of 3 is one of 0
 odd-entry : started (set small 24 3) [] ≡ Ok (0 ∷ 0x2FF0 ∷ 0 ∷ 0x3000 ∷ [])

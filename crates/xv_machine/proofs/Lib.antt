@@ -15,3 +15,4 @@ pub mod Sent
 pub mod Idle
 pub mod Advances
 pub mod Written
+mod worked

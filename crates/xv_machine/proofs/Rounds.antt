@@ -6,8 +6,9 @@ use Rattle.std.proofs.lemmas.Grind.{flat_map-append}
 use Rattle.std.specs.Io.KnownBytes.{Consumes}
 use Rattle.xk_base.specs.declared.limits.TheConstants.{SEND_BYTES}
 use Rattle.kcall_core.specs.Run.{Event, Run, Tick, Key, Send, Outcome, bytes_out}
-use Rattle.kcall_core.specs.Rounds.{key_events, round, events, halts, Planned, AreRounds}
-use Rattle.kcall_core.proofs.runs.Plans.{rounds_then_plan, rounds_follow_rounds, cut_ends_in_round}
+use Rattle.kcall_core.specs.Rounds.{key_events, round, events, halts, AreRounds}
+use Rattle.kcall_core.proofs.runs.Plans.{rounds_follow_rounds}
+use Rattle.sv39_core.proofs.Words.{ltb-yes, ltb-no}
 use Rattle.xv_machine.specs.Devices.{Source, Asked, Sink, Calls, failed}
 use Rattle.xv_machine.specs.declared.driving.RunPlan.{RunPlan}
 use Rattle.xv_machine.specs.Drives.{Goes, Wrote, calls_of, AskedFor, is_halted, key_in, keys_in, Done, StoppedByRead, StoppedByWrite}
@@ -80,11 +81,11 @@ drop-front (x ∷ xs) ys (suc n) is = drop-front xs ys n (omega (arith, is))
 -- each round so far has read a key, or the source is at its end
 abbrev Pace : (at_end : Bool) → (read rest : List ℕ) → (count : ℕ) → Type 0
 Pace false read rest count = length read ≡ count
-Pace true read rest count = (rest ≡ []) × (length read ≤ count)
+Pace true read rest count = (rest ≡ []) × (length read < count)
 
 behind : (at_end : Bool) (read rest : List ℕ) (count : ℕ) → Pace at_end read rest count → drop count (read ++ rest) ≡ rest
 behind false read rest count pace = drop-front read rest count pace
-behind true read rest count pace = ap (λ ks. drop count (read ++ ks)) pace.0 ∙ drop-all read count pace.1 ∙ sym pace.0
+behind true read rest count pace = ap (λ ks. drop count (read ++ ks)) pace.0 ∙ drop-all read count (omega (arith, pace.1)) ∙ sym pace.0
 
 -- what is left behind the keys that were read; nothing is known of it where the source doesn't tell
 abbrev Leaves : (left now : Option (List ℕ)) → (read rest : List ℕ) → Type 0
@@ -135,7 +136,7 @@ no-more (Some bytes) now after read rest leaves none gave = (leaves.0 ∙ ap (λ
 
 taken : (quantum count : ℕ) (at_end : Bool) (left now after : Option (List ℕ)) (key : Option ℕ) (read rest : List ℕ) → Leaves left now read rest → Pace at_end read rest count → TakesKey at_end now key after
     → Taken quantum count left after key read rest
-taken quantum count true left now after None read rest leaves pace takes = none-taken quantum count left after read rest pace.0 pace.1 (no-more left now after read rest leaves pace.0 (by left leaves))
+taken quantum count true left now after None read rest leaves pace takes = none-taken quantum count left after read rest pace.0 (omega (arith, pace.1)) (no-more left now after read rest leaves pace.0 (by left leaves))
   where
     by : (l : Option (List ℕ)) → Leaves l now read rest → IfSome l (λ _. after ≡ Some [])
     by None h = tt
@@ -201,9 +202,9 @@ asked-typed : (key : Option ℕ) (a after : Option ℕ) (keys typed : ℕ) → t
 asked-typed None a after keys typed is asked = let same : keys + 1 ≡ typed + 1 = omega (arith, is) in subst (λ n. Asked a after n) same asked
 asked-typed (Some b) a after keys typed is asked = subst (λ n. Asked a after n) (sym is) asked
 
-asked-for : (at_end : Bool) (a after : Option ℕ) (keys : ℕ) → AskedSo at_end a after keys → AskedFor a after keys
-asked-for false a after keys so = inl so
-asked-for true a after keys so = inr so
+asked-for : (at_end : Bool) (a after : Option ℕ) (read rest : List ℕ) (rounds : ℕ) → Pace at_end read rest rounds → AskedSo at_end a after (length read) → AskedFor a after (length read) rounds
+asked-for false a after read rest rounds pace so = subst (λ b. Asked a after (cond b (length read + 1) (length read))) (sym (ltb-no (length read) rounds (omega (arith, pace)))) so
+asked-for true a after read rest rounds pace so = subst (λ b. Asked a after (cond b (length read + 1) (length read))) (sym (ltb-yes (length read) rounds pace.1)) so
 
 -- ---- rounds
 
@@ -293,33 +294,23 @@ leaves-typed (Some bytes) (Some now) read rest h =
     let same : now ≡ rest = cc in
     h.0 ∙ ap (λ ks. read ++ ks) (sym same)
 
-none-planned : (rounds quantum : ℕ) (keys : List ℕ) (halted : Bool) → (rounds ≡ 0) ⊎ (halted ≡ true) → Planned rounds quantum keys halted []
-none-planned rounds quantum keys true why = refl
-none-planned zero quantum keys false why = refl
-none-planned (suc rounds) quantum keys false (inl none) = let n : suc rounds ≡ 0 = none in absurd (omega (arith, n))
-none-planned (suc rounds) quantum keys false (inr halted) = let no : ⊥ = cc in absurd no
-
 pub all-done : (plan : RunPlan) (count : ℕ) (at_end : Bool) (source source_now : Source) (old new : Meaning) (sink sink_now : Sink) → count ≤ plan.rounds → Going plan.quantum count at_end source.left source_now.left old new sink sink_now source.asked source_now.asked
     → (count ≡ plan.rounds) ⊎ (is_halted new ≡ true) → Done plan source source_now old new sink sink_now
 all-done plan count at_end source source_now old new sink sink_now within g why =
     let keys : List ℕ = keys_in (events g.list) ++ g.rest in
-    let rest : ℕ = plan.rounds - count in
-    let over : (rest ≡ 0) ⊎ ((is_halted old || halts g.list) ≡ true) = elim why [
-      | inl all ↦ inl (omega (arith, all))
+    let over : (count ≡ plan.rounds) ⊎ ((is_halted old || halts g.list) ≡ true) = elim why [
+      | inl all ↦ inl all
       | inr halted ↦ inr (sym (ends-in old.world g.list new.world g.goes.run) ∙ halted)
     ] in
-    let plan_all : Planned (count + rest) plan.quantum keys (is_halted old) (g.list ++ []) =
-    rounds_then_plan count rest plan.quantum keys (is_halted old) g.list [] g.rounds (none-planned rest plan.quantum (drop count keys) (is_halted old || halts g.list) over) in
-    let whole : count + rest ≡ plan.rounds = omega (arith, within) in
     record {
       list = g.list;
       goes = g.goes;
       keys = keys;
       known = leaves-known source.left source_now.left (keys_in (events g.list)) g.rest g.leaves;
-      planned = subst (λ n. Planned n plan.quantum keys (is_halted old) g.list) whole (subst (λ xs. Planned (count + rest) plan.quantum keys (is_halted old) xs) (append-nil g.list) plan_all);
+      planned = (count, within, g.rounds, over);
       written = g.written;
       typed = leaves-typed source.left source_now.left (keys_in (events g.list)) g.rest g.leaves;
-      asked = asked-for at_end source.asked source_now.asked (length (keys_in (events g.list))) g.calls;
+      asked = asked-for at_end source.asked source_now.asked (keys_in (events g.list)) g.rest count g.pace g.calls;
     }
 
 pub read-stops : (plan : RunPlan) (count : ℕ) (at_end : Bool) (source source_now source_after : Source) (old new : Meaning) (sink sink_now : Sink) → count < plan.rounds → Going plan.quantum count at_end source.left source_now.left old new sink sink_now source.asked source_now.asked
@@ -348,13 +339,14 @@ write-stops plan count at_end source source_now source_after key old mid new sin
     ap keys_in part_events ∙ part-keys plan.quantum key (events q.before) q.rest q.last.0 (ap (λ es. es ++ q.rest) (sym part_events) ∙ q.those) in
     let read_is : keys_in (events (g.list ++ part)) ≡ read ++ option_to_list key =
     ap keys_in (events-join g.list part) ∙ keys-join (events g.list) (events part) ∙ ap (λ ks. read ++ ks) part_is in
+    let next : suc count ≡ count + 1 = omega arith in
     record {
       list = g.list ++ part;
       last = q.last;
       goes = goes-join g.list part old mid new g.goes q.goes;
       keys = keys;
       known = leaves-known source.left source_after.left (read ++ option_to_list key) t.more t.leaves;
-      cut = (cut_ends_in_round plan.rounds plan.quantum keys (is_halted old) (g.list ++ part) q.last).1
+      cut =
           (count, g.list, q.before, q.rest, refl, within, t.same (is_halted old) g.list g.rounds, goes-on old g.list mid g.goes on, q.those ∙ begun plan.quantum count at_end source.left source_now.left source_after.left key old mid sink sink_now source.asked source_now.asked source_after.asked g takes call);
       shows = q.shows;
       before = g.list ++ q.before;
@@ -363,7 +355,8 @@ write-stops plan count at_end source source_now source_after key old mid new sin
           (sym (append_assoc (calls_of g.list) (calls_of q.before) (failed (bytes_out q.last.1) ∷ [])) ∙ ap (λ cs. cs ++ failed (bytes_out q.last.1) ∷ []) (sym (calls-join g.list q.before)))
           (calls-trans sink.calls sink_now.calls sink_after.calls (calls_of g.list) (calls_of q.before ++ failed (bytes_out q.last.1) ∷ []) g.written.calls q.calls);
       typed = subst (Consumes source.left source_after.left) (sym read_is) (leaves-typed source.left source_after.left (read ++ option_to_list key) t.more t.leaves);
-      asked = asked-for (is_none key) source.asked source_after.asked (length (keys_in (events (g.list ++ part))))
+      asked = asked-for (is_none key) source.asked source_after.asked (keys_in (events (g.list ++ part))) t.more (count + 1)
+          (subst (λ n. Pace (is_none key) (keys_in (events (g.list ++ part))) t.more n) next (subst (λ ks. Pace (is_none key) ks t.more (suc count)) (sym read_is) t.pace))
           (asked-typed key source.asked source_after.asked (length read) (length (keys_in (events (g.list ++ part)))) (ap length read_is ∙ length-append read (option_to_list key))
           (one_asked plan.quantum count at_end source.left source_now.left source_after.left key old mid sink sink_now source.asked source_now.asked source_after.asked g takes call));
     }

@@ -1,11 +1,11 @@
 -- What a machine that is driven in rounds goes through.
-use Rattle.std.specs.Prelude.{◌≡◌, ◌≢◌, ◌⊎◌, ℕ, ◌+◌, ◌<◌, Bool, List, [], ◌∷◌, ◌++◌, flat_map, length, replicate, Option, None, Some, IfSome, is_some, ⊤}
+use Rattle.std.specs.Prelude.{◌≡◌, ◌≢◌, ◌⊎◌, ℕ, ◌+◌, ◌<◌, Bool, List, [], ◌∷◌, ◌++◌, flat_map, length, replicate, nat_lt, if◌then◌else◌, Option, None, Some, IfSome, is_some, ⊤}
 use Rattle.std.specs.Io.KnownBytes.{Appends, Consumes}
 use Rattle.circular_buffer.specs.Buffer.{keep_last}
 use Rattle.kcall_core.specs.Run as runs
 use Rattle.kcall_core.specs.Own.{Stepped}
 use Rattle.kcall_core.specs.Run.{Event, Run, Tick, Key, Send, Outcome, Step_of, bytes_out, out}
-use Rattle.kcall_core.specs.Rounds.{events, Planned, StopsBeforeRound, PlannedUpTo}
+use Rattle.kcall_core.specs.Rounds.{events, Planned, StopsBeforeRound, EndsInRound}
 use Rattle.kcall_core.specs.Wakes.{IsPromised}
 use Rattle.kcall_core.specs.Words.{or_zero}
 use Rattle.xv_machine.specs.Devices.{Source, Asked, Sink, Given, Calls, took, failed}
@@ -75,28 +75,33 @@ pub record Wrote (before after : Sink) (list : List (Event × Outcome)) : Type 0
   pub bytes : Appends before.held after.held (out list)
   pub calls : Calls before.calls after.calls (calls_of list)
 
--- each key that was typed took one call of the source, and at most one more found that none is left
-abbrev pub AskedFor : (before after : Option ℕ) → (keys : ℕ) → Type 0
-AskedFor before after keys = Asked before after keys ⊎ Asked before after (keys + 1)
+-- each key that was typed took one call of the source; and where fewer keys were typed than rounds began, one more call found that none is left
+abbrev pub AskedFor : (before after : Option ℕ) → (keys rounds : ℕ) → Type 0
+AskedFor before after keys rounds = Asked before after (if nat_lt keys rounds then keys + 1 else keys)
+
+-- these are the keys that are left of a source, where that is known
+abbrev pub AreKeysOf : Source → List ℕ → Type 0
+AreKeysOf source keys = IfSome source.left (λ bytes. keys ≡ bytes)
 
 -- A drive to its end: whole rounds of the plan, all that may begin; what they show was written, and the keys that were typed were read
 pub record Done (plan : RunPlan) (source source_after : Source) (old new : Meaning) (sink sink_after : Sink) : Type 0 where
   pub list : List (Event × Outcome)
   pub goes : Goes old list new
-  -- the keys that are left at first, where that is known
+  -- the keys that are left at first
   pub keys : List ℕ
-  pub known : IfSome source.left (λ bytes. keys ≡ bytes)
+  pub known : AreKeysOf source keys
   pub planned : Planned plan.rounds plan.quantum keys (is_halted old) list
   pub written : Wrote sink sink_after list
   pub typed : Consumes source.left source_after.left (keys_in (events list))
-  pub asked : AskedFor source.asked source_after.asked (length (keys_in (events list)))
+  -- so many rounds began: the plan's count
+  pub asked : AskedFor source.asked source_after.asked (length (keys_in (events list))) planned.0
 
 -- A drive that a failed read ended: the whole rounds before, what they show was written
 pub record StoppedByRead (plan : RunPlan) (source source_after : Source) (old new : Meaning) (sink sink_after : Sink) : Type 0 where
   pub list : List (Event × Outcome)
   pub goes : Goes old list new
   pub keys : List ℕ
-  pub known : IfSome source.left (λ bytes. keys ≡ bytes)
+  pub known : AreKeysOf source keys
   pub rounds : StopsBeforeRound plan.rounds plan.quantum keys (is_halted old) list
   -- each of these rounds had a key: behind the end of the source nothing is read
   pub each_had_a_key : length (keys_in (events list)) ≡ rounds.0
@@ -112,12 +117,13 @@ pub record StoppedByWrite (plan : RunPlan) (source source_after : Source) (old n
   pub ends : list ≡ before ++ last ∷ []
   pub goes : Goes old list new
   pub keys : List ℕ
-  pub known : IfSome source.left (λ bytes. keys ≡ bytes)
-  pub cut : PlannedUpTo plan.rounds plan.quantum keys (is_halted old) list last
+  pub known : AreKeysOf source keys
+  pub cut : EndsInRound plan.rounds plan.quantum keys (is_halted old) list last
   pub shows : bytes_out last.1 ≢ []
   pub calls : Calls sink.calls sink_after.calls (calls_of before ++ failed (bytes_out last.1) ∷ [])
   pub typed : Consumes source.left source_after.left (keys_in (events list))
-  pub asked : AskedFor source.asked source_after.asked (length (keys_in (events list)))
+  -- the round that was cut off had begun too
+  pub asked : AskedFor source.asked source_after.asked (length (keys_in (events list))) (cut.0 + 1)
 
 -- the end tells whether the machine is halted
 abbrev pub IsEndOf : DriveEnd → Meaning → Type 0

@@ -87,7 +87,8 @@ impl<X: Read> KeySource for Counted<X> {
     }
 }
 
-/// The bytes are flushed, too.
+/// The bytes are flushed, too. No contract of a writer says what a flush does, so that this is done, and that a
+/// flush that fails counts as a failure, is shown by tests alone.
 impl<X: Write> ByteSink for Counted<X> {
     ghost sink = { λ s. record { held = X.contents s.inner; calls = None } };
 

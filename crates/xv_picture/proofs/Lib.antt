@@ -1,3 +1,3 @@
 mod Stretches
 mod Named
-mod NamedRows
+mod WorkedNames

@@ -1,1 +1,3 @@
 mod Statuses
+mod WorkedRanges
+mod WorkedStatuses

@@ -4,7 +4,7 @@ use Rattle.std.proofs.lemmas.List.{append_assoc, map-append}
 use Rattle.std.proofs.lemmas.List.Folds.{list_any-append}
 use Rattle.std.specs.Prelude.{is_some}
 use Rattle.kcall_core.specs.Run.{Event, Outcome, Idle, halted_by}
-use Rattle.kcall_core.specs.Rounds.{round, events, halts, Planned, AreRounds, PlannedUpTo, EndsInRound, RoundsThenPlan, StopsThenPlan, RoundsFollowRounds, PlanIsRounds, CutEndsInRound}
+use Rattle.kcall_core.specs.Rounds.{round, events, halts, Planned, AreRounds, EndsInRound, RoundsThenPlan, StopsThenPlan, RoundsFollowRounds, PlanGoesByRounds, CutEndsInRound}
 
 abbrev Played : Type 0
 Played = List (Event × Outcome)
@@ -36,32 +36,11 @@ suc_sum a b = omega arith
 zero_sum : (a : ℕ) → a ≡ 0 + a
 zero_sum a = omega arith
 
-none_planned : (rounds quantum : ℕ) (keys : List ℕ) (halted : Bool) → (rounds ≡ 0) ⊎ (halted ≡ true) → Planned rounds quantum keys halted []
-none_planned rounds quantum keys true why = refl
-none_planned zero quantum keys false why = refl
-none_planned (suc rounds) quantum keys false (inl none) = let n : suc rounds ≡ 0 = none in absurd (omega (arith, n))
-none_planned (suc rounds) quantum keys false (inr halted) = let no : ⊥ = cc in absurd no
+or_assoc : (a b c : Bool) → ((a || b) || c) ≡ (a || (b || c))
+or_assoc true b c = refl
+or_assoc false b c = refl
 
 -- ---- rounds, and what comes behind them
-
-pub rounds_then_plan : RoundsThenPlan
-rounds_then_plan zero rounds quantum keys halted list more are plan =
-    subst (λ (n : ℕ). Planned n quantum keys halted (list ++ more)) (zero_sum rounds)
-    (subst (λ (xs : Played). Planned rounds quantum keys halted (xs ++ more)) (sym are)
-    (subst (λ (b : Bool). Planned rounds quantum keys b more) (ap (λ (xs : Played). halted || halts xs) are ∙ or_nothing halted) plan))
-rounds_then_plan (suc count) rounds quantum keys true list more are plan = absurd are
-rounds_then_plan (suc count) rounds quantum keys false list more are plan =
-    let behind : Planned rounds quantum (drop count (drop 1 keys)) (halts are.0 || halts are.1) more =
-    subst (λ (b : Bool). Planned rounds quantum (drop count (drop 1 keys)) b more) (ap halts are.2 ∙ either_halts are.0 are.1)
-    (subst (λ (ks : List ℕ). Planned rounds quantum ks (halts list) more) (sym (drop_next count keys)) plan) in
-    subst (λ (n : ℕ). Planned n quantum keys false (list ++ more)) (suc_sum count rounds)
-    (are.0, are.1 ++ more, ap (λ (xs : Played). xs ++ more) are.2 ∙ append_assoc are.0 are.1 more, are.3, rounds_then_plan count rounds quantum (drop 1 keys) (halts are.0) are.1 more are.4 behind)
-
-pub stops_then_plan : StopsThenPlan
-stops_then_plan rounds quantum keys halted list more (count, fewer, are, on) plan =
-    let all : count + (rounds - count) ≡ rounds = omega (arith, fewer) in
-    subst (λ (n : ℕ). Planned n quantum keys halted (list ++ more)) all
-    (rounds_then_plan count (rounds - count) quantum keys halted list more are (subst (λ (b : Bool). Planned (rounds - count) quantum (drop count keys) b more) (sym on) plan))
 
 pub rounds_follow_rounds : RoundsFollowRounds
 rounds_follow_rounds zero further quantum keys halted list more are plan =
@@ -76,22 +55,68 @@ rounds_follow_rounds (suc count) further quantum keys false list more are plan =
     subst (λ (n : ℕ). AreRounds n quantum keys false (list ++ more)) (suc_sum count further)
     (are.0, are.1 ++ more, ap (λ (xs : Played). xs ++ more) are.2 ∙ append_assoc are.0 are.1 more, are.3, rounds_follow_rounds count further quantum (drop 1 keys) (halts are.0) are.1 more are.4 behind)
 
--- ---- a plan is rounds
+pub rounds_then_plan : RoundsThenPlan
+rounds_then_plan count rounds quantum keys halted list more are (further, within, behind, end) = (
+  count + further,
+  omega (arith, within),
+  rounds_follow_rounds count further quantum keys halted list more are behind,
+  elim end [
+    | inl all ↦ inl (ap (λ (n : ℕ). count + n) all)
+    | inr over ↦ inr (ap (λ (b : Bool). halted || b) (either_halts list more) ∙ sym (or_assoc halted (halts list) (halts more)) ∙ over)
+  ],
+)
 
-pub plan_is_rounds : PlanIsRounds
-plan_is_rounds rounds quantum keys true list plan = (0, omega arith, plan, inr refl)
-plan_is_rounds zero quantum keys false list plan = (0, omega arith, plan, inl refl)
-plan_is_rounds (suc rounds) quantum keys false list plan =
-    let rest = plan_is_rounds rounds quantum (drop 1 keys) (halts plan.0) plan.1 plan.4 in
-    let within : rest.0 ≤ rounds = rest.1 in (
-      suc rest.0,
-      omega arith,
-      (plan.0, plan.1, plan.2, plan.3, rest.2),
-      elim rest.3 [
-        | inl all ↦ inl (ap suc all)
-        | inr over ↦ inr (ap halts plan.2 ∙ either_halts plan.0 plan.1 ∙ over)
-      ],
-    )
+pub stops_then_plan : StopsThenPlan
+stops_then_plan rounds quantum keys halted list more (count, fewer, are, on) plan =
+    let all : count + (rounds - count) ≡ rounds = omega (arith, fewer) in
+    subst (λ (n : ℕ). Planned n quantum keys halted (list ++ more)) all
+    (rounds_then_plan count (rounds - count) quantum keys halted list more are (subst (λ (b : Bool). Planned (rounds - count) quantum (drop count keys) b more) (sym on) plan))
+
+-- ---- a plan, round by round
+
+abbrev OneThenPlan : (rounds quantum : ℕ) (keys : List ℕ) → Played → Type 0
+OneThenPlan rounds quantum keys list = (now : Played) × (later : Played) × (list ≡ now ++ later) × (events now ≡ round quantum keys) × Planned rounds quantum (drop 1 keys) (halts now) later
+
+halted_plan : (count quantum : ℕ) (keys : List ℕ) (list : Played) → AreRounds count quantum keys true list → list ≡ []
+halted_plan zero quantum keys list are = are
+halted_plan (suc count) quantum keys list are = absurd are
+
+no_round : (count quantum : ℕ) (keys : List ℕ) (list : Played) → count ≤ 0 → AreRounds count quantum keys false list → list ≡ []
+no_round zero quantum keys list within are = are
+no_round (suc count) quantum keys list within are = absurd (omega (arith, within))
+
+none_halts : (list : Played) → list ≡ [] → halts list ≡ true → ⊥
+none_halts list none over = let bad : halts [] ≡ true = ap halts (sym none) ∙ over in cc
+
+not_none : (rounds : ℕ) → 0 ≡ suc rounds → ⊥
+not_none rounds h = omega (arith, h)
+
+first_round : (count rounds quantum : ℕ) (keys : List ℕ) (list : Played) → count ≤ suc rounds → AreRounds count quantum keys false list → (count ≡ suc rounds) ⊎ (halts list ≡ true) → OneThenPlan rounds quantum keys list
+first_round zero rounds quantum keys list within are (inl all) = absurd (not_none rounds all)
+first_round zero rounds quantum keys list within are (inr over) = absurd (none_halts list are over)
+first_round (suc count) rounds quantum keys list within (now, later, is, played, are) (inl all) = (now, later, is, played, (count, omega (arith, within), are, inl (omega (arith, all))))
+first_round (suc count) rounds quantum keys list within (now, later, is, played, are) (inr over) = (now, later, is, played, (count, omega (arith, within), are, inr (sym (either_halts now later) ∙ ap halts (sym is) ∙ over)))
+
+round_before : (rounds quantum : ℕ) (keys : List ℕ) (list : Played) → OneThenPlan rounds quantum keys list → Planned (suc rounds) quantum keys false list
+round_before rounds quantum keys list (now, later, is, played, (count, within, are, end)) = (
+  suc count,
+  omega (arith, within),
+  (now, later, is, played, are),
+  elim end [
+    | inl all ↦ inl (ap suc all)
+    | inr over ↦ inr (ap halts is ∙ either_halts now later ∙ over)
+  ],
+)
+
+none_planned : (rounds quantum : ℕ) (keys : List ℕ) (list : Played) → list ≡ [] → Planned rounds quantum keys true list
+none_planned rounds quantum keys list none = (0, omega arith, none, inr refl)
+
+pub plan_goes_by_rounds : PlanGoesByRounds
+plan_goes_by_rounds rounds quantum keys list = (
+  (λ (count, within, are, end). halted_plan count quantum keys list are, none_planned rounds quantum keys list),
+  (λ (count, within, are, end). no_round count quantum keys list within are, λ none. (0, omega arith, none, inl refl)),
+  (λ (count, within, are, end). first_round count rounds quantum keys list within are end, round_before rounds quantum keys list),
+)
 
 -- ---- a plan that is cut off
 
@@ -106,24 +131,25 @@ events_idle (e ∷ es) = ap (λ (xs : List Event). e ∷ xs) (events_idle es)
 
 -- whatever came before, something is planned
 some_plan : (rounds quantum : ℕ) (keys : List ℕ) (halted : Bool) → (list : Played) × Planned rounds quantum keys halted list
-some_plan rounds quantum keys true = ([], refl)
-some_plan zero quantum keys false = ([], refl)
+some_plan rounds quantum keys true = ([], none_planned rounds quantum keys [] refl)
+some_plan zero quantum keys false = ([], (0, omega arith, refl, inl refl))
 some_plan (suc rounds) quantum keys false =
     let now : Played = idle (round quantum keys) in
     let rest = some_plan rounds quantum (drop 1 keys) (halts now) in
-    (now ++ rest.0, (now, rest.0, refl, events_idle (round quantum keys), rest.1))
+    (now ++ rest.0, round_before rounds quantum keys (now ++ rest.0) (now, rest.0, refl, events_idle (round quantum keys), rest.1))
 
 rest_after : (count rounds : ℕ) → count < rounds → (further : ℕ) × (count + suc further ≡ rounds)
 rest_after count rounds less = (rounds - count - 1, omega arith)
 
-part_is_cut : (rounds quantum : ℕ) (keys : List ℕ) (halted : Bool) (list : Played) (last : Event × Outcome) → EndsInRound rounds quantum keys halted list last → PlannedUpTo rounds quantum keys halted list last
+part_is_cut : (rounds quantum : ℕ) (keys : List ℕ) (halted : Bool) (list : Played) (last : Event × Outcome) → EndsInRound rounds quantum keys halted list last
+    → (begun : Played) × (more : Played) × (list ≡ begun ++ last ∷ []) × Planned rounds quantum keys halted (list ++ more)
 part_is_cut rounds quantum keys halted list last (count, before, part, rest, is, less, are, on, played) =
     let further = rest_after count rounds less in
     let now : Played = (part ++ last ∷ []) ++ idle rest in
     let whole : events now ≡ round quantum (drop count keys) = map-append (λ (e : Event × Outcome). e.0) (part ++ last ∷ []) (idle rest) ∙ ap (λ (es : List Event). events (part ++ last ∷ []) ++ es) (events_idle rest) ∙ played in
     let behind = some_plan further.0 quantum (drop 1 (drop count keys)) (halts now) in
     let plan : Planned (suc further.0) quantum (drop count keys) (halted || halts before) (now ++ behind.0) =
-    subst (λ (b : Bool). Planned (suc further.0) quantum (drop count keys) b (now ++ behind.0)) (sym on) (now, behind.0, refl, whole, behind.1) in
+    subst (λ (b : Bool). Planned (suc further.0) quantum (drop count keys) b (now ++ behind.0)) (sym on) (round_before further.0 quantum (drop count keys) (now ++ behind.0) (now, behind.0, refl, whole, behind.1)) in
     let all : Planned (count + suc further.0) quantum keys halted (before ++ (now ++ behind.0)) = rounds_then_plan count (suc further.0) quantum keys halted before (now ++ behind.0) are plan in
     let same : before ++ (now ++ behind.0) ≡ list ++ (idle rest ++ behind.0) =
     ap (λ (xs : Played). before ++ xs) (append_assoc (part ++ last ∷ []) (idle rest) behind.0) ∙ sym (append_assoc before (part ++ last ∷ []) (idle rest ++ behind.0)) ∙ ap (λ (xs : Played). xs ++ (idle rest ++ behind.0)) (sym is) in (
@@ -156,12 +182,12 @@ not_empty : (xs more : Played) (last : Event × Outcome) → xs ++ last ∷ more
 not_empty [] more last e = cc
 not_empty (x ∷ xs) more last e = cc
 
-ends_in_round : (rounds quantum : ℕ) (keys : List ℕ) (halted : Bool) (before more : Played) (last : Event × Outcome) → Planned rounds quantum keys halted (before ++ last ∷ more)
+ends_in_round : (rounds quantum : ℕ) (keys : List ℕ) (halted : Bool) (before more : Played) (last : Event × Outcome) → AreRounds rounds quantum keys halted (before ++ last ∷ more)
     → EndsInRound rounds quantum keys halted (before ++ last ∷ []) last
-ends_in_round rounds quantum keys true before more last plan = absurd (not_empty before more last plan)
-ends_in_round zero quantum keys false before more last plan = absurd (not_empty before more last plan)
+ends_in_round zero quantum keys halted before more last are = absurd (not_empty before more last are)
+ends_in_round (suc rounds) quantum keys true before more last are = absurd are
 ends_in_round (suc rounds) quantum keys false before more last (now, later, is, played, rest) = elim (split before now later more last is) [
-  | inl h ↦ behind h (ends_in_round rounds quantum (drop 1 keys) (halts now) h.0 more last (subst (λ (xs : Played). Planned rounds quantum (drop 1 keys) (halts now) xs) h.2 rest))
+  | inl h ↦ behind h (ends_in_round rounds quantum (drop 1 keys) (halts now) h.0 more last (subst (λ (xs : Played). AreRounds rounds quantum (drop 1 keys) (halts now) xs) h.2 rest))
   | inr h ↦ (
     0,
     [],
@@ -188,9 +214,13 @@ ends_in_round (suc rounds) quantum keys false before more last (now, later, is, 
       begun ∙ ap (round quantum) (drop_next count keys),
     )
 
+-- more rounds may be allowed
+more_allowed : (count rounds quantum : ℕ) (keys : List ℕ) (halted : Bool) (list : Played) (last : Event × Outcome) → count ≤ rounds → EndsInRound count quantum keys halted list last → EndsInRound rounds quantum keys halted list last
+more_allowed count rounds quantum keys halted list last within (some, before, part, rest, is, less, are, on, played) = (some, before, part, rest, is, omega (arith, within, less), are, on, played)
+
 pub cut_ends_in_round : CutEndsInRound
 cut_ends_in_round rounds quantum keys halted list last = (
-  λ (before, more, is, plan). subst (λ (xs : Played). EndsInRound rounds quantum keys halted xs last) (sym is)
-      (ends_in_round rounds quantum keys halted before more last (subst (λ (xs : Played). Planned rounds quantum keys halted xs) (ap (λ (xs : Played). xs ++ more) is ∙ append_assoc before (last ∷ []) more) plan)),
+  λ (before, more, is, (count, within, are, end)). more_allowed count rounds quantum keys halted list last within (subst (λ (xs : Played). EndsInRound count quantum keys halted xs last) (sym is)
+      (ends_in_round count quantum keys halted before more last (subst (λ (xs : Played). AreRounds count quantum keys halted xs) (ap (λ (xs : Played). xs ++ more) is ∙ append_assoc before (last ∷ []) more) are))),
   part_is_cut rounds quantum keys halted list last,
 )

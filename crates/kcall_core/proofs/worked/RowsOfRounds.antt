@@ -1,14 +1,14 @@
 -- Worked cases of the rounds that a driver plays: whole plans, so many rounds, and plans that are cut off before a round and behind an event.
-use Rattle.std.proofs.Common.{◌≡◌, ℕ, true, false, ◌||◌, Bool, List, [], ◌∷◌, ◌++◌, refl, ap, sym, ◌∙◌, subst, arith, length, replicate, map, take}
+use Rattle.std.proofs.Common.{◌≡◌, ℕ, true, false, ◌||◌, Bool, List, [], ◌∷◌, ◌++◌, refl, ap, sym, ◌∙◌, subst, arith, length, replicate, map, take, inl, inr}
 use Rattle.std.specs.Prelude.{None, is_some, drop}
 use Rattle.std.proofs.Math.Seq.{take-append_seam, drop-append_seam}
-use Rattle.std.proofs.lemmas.List.{append-nil, map-append, length-map}
+use Rattle.std.proofs.lemmas.List.{append-nil, append_assoc, map-append, length-map}
 use Rattle.std.proofs.lemmas.List.Folds.{list_any-append}
 use Rattle.xk_base.specs.declared.access.Cause.TheVariants.{LoadPageFault}
 use Rattle.kcall_core.specs.Own.{Faulted}
 use Rattle.kcall_core.specs.Run.{Event, Run, Tick, Key, Send, Outcome, Step_of, Idle, Ticked, Typed, Sent, Halted, halted_by}
-use Rattle.kcall_core.specs.Rounds.{round, events, halts, Planned, AreRounds, StopsBeforeRound, PlannedUpTo, EndsInRound}
-use Rattle.kcall_core.proofs.runs.Plans.{cut_ends_in_round}
+use Rattle.kcall_core.specs.Rounds.{round, events, halts, Planned, AreRounds, StopsBeforeRound, EndsInRound}
+use Rattle.kcall_core.proofs.runs.Plans.{plan_goes_by_rounds, cut_ends_in_round}
 
 -- ---- whole plans
 
@@ -21,41 +21,44 @@ sends = replicate 32 Send
 
 -- two keys in two rounds; a third one is left
 two_keys : Planned 2 1 (7 ∷ 8 ∷ 9 ∷ []) false (quiet (Key 7 ∷ Run ∷ Tick ∷ sends ++ Key 8 ∷ Run ∷ Tick ∷ sends))
-two_keys = (quiet (Key 7 ∷ Run ∷ Tick ∷ sends), quiet (Key 8 ∷ Run ∷ Tick ∷ sends), refl, refl, (quiet (Key 8 ∷ Run ∷ Tick ∷ sends), [], refl, refl, refl))
+two_keys = (2, omega arith, (quiet (Key 7 ∷ Run ∷ Tick ∷ sends), quiet (Key 8 ∷ Run ∷ Tick ∷ sends), refl, refl, (quiet (Key 8 ∷ Run ∷ Tick ∷ sends), [], refl, refl, refl)), inl refl)
 
 -- one key: the second round has none
 one_key : Planned 2 1 (7 ∷ []) false (quiet (Key 7 ∷ Run ∷ Tick ∷ sends ++ Run ∷ Tick ∷ sends))
-one_key = (quiet (Key 7 ∷ Run ∷ Tick ∷ sends), quiet (Run ∷ Tick ∷ sends), refl, refl, (quiet (Run ∷ Tick ∷ sends), [], refl, refl, refl))
+one_key = (2, omega arith, (quiet (Key 7 ∷ Run ∷ Tick ∷ sends), quiet (Run ∷ Tick ∷ sends), refl, refl, (quiet (Run ∷ Tick ∷ sends), [], refl, refl, refl)), inl refl)
 
 -- process 1 faults in the first round, which is played to its end and is the last one
 abbrev faulting : List (Event × Outcome)
 faulting = (Key 7, Typed (7 ∷ [])) ∷ (Run, Step_of 1 (Faulted LoadPageFault)) ∷ (Tick, Halted) ∷ map (λ e. (e, Sent None)) sends
 
 fault : Planned 2 1 (7 ∷ 8 ∷ []) false faulting
-fault = (faulting, [], refl, refl, refl)
+fault = (1, omega arith, (faulting, [], refl, refl, refl), inr refl)
 
 -- a fault of process 2 isn't
 abbrev other_faulting : List (Event × Outcome)
 other_faulting = (Key 7, Typed (7 ∷ [])) ∷ (Run, Step_of 2 (Faulted LoadPageFault)) ∷ (Tick, Ticked) ∷ map (λ e. (e, Sent None)) sends
 
 other_fault : Planned 2 1 (7 ∷ 8 ∷ []) false (other_faulting ++ quiet (Key 8 ∷ Run ∷ Tick ∷ sends))
-other_fault = (other_faulting, quiet (Key 8 ∷ Run ∷ Tick ∷ sends), refl, refl, (quiet (Key 8 ∷ Run ∷ Tick ∷ sends), [], refl, refl, refl))
+other_fault = (2, omega arith, (other_faulting, quiet (Key 8 ∷ Run ∷ Tick ∷ sends), refl, refl, (quiet (Key 8 ∷ Run ∷ Tick ∷ sends), [], refl, refl, refl)), inl refl)
 
 -- and no other list is planned: what is planned has just these events
 
 none_left : (quantum : ℕ) (keys : List ℕ) (halted : Bool) (list : List (Event × Outcome)) → Planned 0 quantum keys halted list → list ≡ []
-none_left quantum keys true list h = h
-none_left quantum keys false list h = h
+none_left quantum keys true list h = (plan_goes_by_rounds 0 quantum keys list).0.0 h
+none_left quantum keys false list h = (plan_goes_by_rounds 0 quantum keys list).1.0 h
 
 one_round : (quantum : ℕ) (keys : List ℕ) (list : List (Event × Outcome)) → Planned 1 quantum keys false list → events list ≡ round quantum keys
-one_round quantum keys list (now, later, is, played, rest) = ap events (is ∙ ap (λ (l : List (Event × Outcome)). now ++ l) (none_left quantum (drop 1 keys) (halts now) later rest) ∙ append-nil now) ∙ played
+one_round quantum keys list plan =
+    let (now, later, is, played, rest) = (plan_goes_by_rounds 0 quantum keys list).2.0 plan in
+    ap events (is ∙ ap (λ (l : List (Event × Outcome)). now ++ l) (none_left quantum (drop 1 keys) (halts now) later rest) ∙ append-nil now) ∙ played
 
 left_false : (a b : Bool) → (a || b) ≡ false → a ≡ false
 left_false true b e = e
 left_false false b e = refl
 
 two_rounds : (quantum : ℕ) (keys : List ℕ) (list : List (Event × Outcome)) → halts list ≡ false → Planned 2 quantum keys false list → events list ≡ round quantum keys ++ round quantum (drop 1 keys)
-two_rounds quantum keys list on (now, later, is, played, rest) =
+two_rounds quantum keys list on plan =
+    let (now, later, is, played, rest) = (plan_goes_by_rounds 1 quantum keys list).2.0 plan in
     let goes_on : halts now ≡ false = left_false (halts now) (halts later) (sym (list_any-append (λ (e : Event × Outcome). is_some (halted_by e.1)) now later) ∙ ap halts (sym is) ∙ on) in
     let second : events later ≡ round quantum (drop 1 keys) = one_round quantum (drop 1 keys) later (subst (λ (b : Bool). Planned 1 quantum (drop 1 keys) b later) goes_on rest) in
     ap events is ∙ map-append (λ (e : Event × Outcome). e.0) now later ∙ ap (λ (es : List Event). es ++ events later) played ∙ ap (λ (es : List Event). round quantum keys ++ es) second
@@ -68,18 +71,19 @@ two_keys_only list on h = two_rounds 1 (7 ∷ 8 ∷ []) list on h
 
 -- nothing is planned behind a round that halts
 fault_ends : (more : List (Event × Outcome)) → Planned 2 1 (7 ∷ 8 ∷ []) false (faulting ++ more) → more ≡ []
-fault_ends more (now, later, is, played, rest) =
+fault_ends more plan =
+    let (now, later, is, played, rest) = (plan_goes_by_rounds 1 1 (7 ∷ 8 ∷ []) (faulting ++ more)).2.0 plan in
     let long : length now ≡ 35 = sym (length-map now (λ (e : Event × Outcome). e.0)) ∙ ap length played in
     let same : now ≡ faulting = sym (take-append_seam now later) ∙ ap (λ (n : ℕ). take n (now ++ later)) long ∙ ap (take 35) (sym is) ∙ take-append_seam faulting more in
     let behind : later ≡ more = sym (drop-append_seam now later) ∙ ap (λ (n : ℕ). drop n (now ++ later)) long ∙ ap (drop 35) (sym is) ∙ drop-append_seam faulting more in
-    sym behind ∙ subst (λ (b : Bool). Planned 1 1 (8 ∷ []) b later) (ap halts same) rest
+    sym behind ∙ (plan_goes_by_rounds 1 1 (8 ∷ []) later).0.0 (subst (λ (b : Bool). Planned 1 1 (8 ∷ []) b later) (ap halts same) rest)
 
 -- none where none may begin, or on a machine that is halted
 none_allowed : Planned 0 1 (7 ∷ []) false []
-none_allowed = refl
+none_allowed = (0, omega arith, refl, inl refl)
 
 halted_before : (list : List (Event × Outcome)) → Planned 2 1 (7 ∷ []) true list → list ≡ []
-halted_before list h = h
+halted_before list plan = (plan_goes_by_rounds 2 1 (7 ∷ []) list).0.0 plan
 
 -- ---- exactly so many rounds
 
@@ -146,45 +150,45 @@ no_stop_behind_a_fault (count, less, are, on) = let bad : ⊥ = cc in bad
 
 -- ---- a plan that is cut off behind an event
 
--- in the second round, behind its key; in the first one, behind its tick; behind the whole of the second one
-cut_behind_key : PlannedUpTo 2 1 (7 ∷ 8 ∷ []) false (first_round ++ (Key 8, Typed (8 ∷ [])) ∷ []) (Key 8, Typed (8 ∷ []))
-cut_behind_key = (first_round, quiet (Run ∷ Tick ∷ sends), refl, (first_round, (Key 8, Typed (8 ∷ [])) ∷ quiet (Run ∷ Tick ∷ sends), refl, refl, ((Key 8, Typed (8 ∷ [])) ∷ quiet (Run ∷ Tick ∷ sends), [], refl, refl, refl)))
+-- in the second round, behind its key; in the first one, behind its tick
+cut_behind_key : EndsInRound 2 1 (7 ∷ 8 ∷ []) false (first_round ++ (Key 8, Typed (8 ∷ [])) ∷ []) (Key 8, Typed (8 ∷ []))
+cut_behind_key = (1, first_round, [], Run ∷ Tick ∷ sends, refl, omega arith, (first_round, [], refl, refl, refl), refl, refl)
 
-cut_behind_tick : PlannedUpTo 1 1 (7 ∷ []) false ((Key 7, Typed (7 ∷ [])) ∷ (Run, Idle) ∷ (Tick, Ticked) ∷ []) (Tick, Ticked)
-cut_behind_tick = ((Key 7, Typed (7 ∷ [])) ∷ (Run, Idle) ∷ [], quiet sends, refl, ((Key 7, Typed (7 ∷ [])) ∷ (Run, Idle) ∷ (Tick, Ticked) ∷ quiet sends, [], refl, refl, refl))
+cut_behind_tick : EndsInRound 1 1 (7 ∷ []) false ((Key 7, Typed (7 ∷ [])) ∷ (Run, Idle) ∷ (Tick, Ticked) ∷ []) (Tick, Ticked)
+cut_behind_tick = (0, [], (Key 7, Typed (7 ∷ [])) ∷ (Run, Idle) ∷ [], sends, refl, omega arith, refl, refl, refl)
 
 -- the last event is the one that is named, and there is one
-other_last : PlannedUpTo 1 1 (7 ∷ []) false ((Key 7, Typed (7 ∷ [])) ∷ (Run, Idle) ∷ []) (Key 7, Typed (7 ∷ [])) → ⊥
-other_last (before, more, is, plan) = by before is
+not_last : (before : List (Event × Outcome)) → (Key 7, Typed (7 ∷ [])) ∷ (Run, Idle) ∷ [] ≡ before ++ (Key 7, Typed (7 ∷ [])) ∷ [] → ⊥
+not_last [] e = cc
+not_last (x ∷ []) e = let no : Run ∷ [] ≡ Key 7 ∷ [] = ap (λ (xs : List (Event × Outcome)). events (drop 1 xs)) e in let bad : ⊥ = cc in bad
+not_last (x ∷ y ∷ before) e = by_rest before (ap (drop 2) e)
   where
-    by : (before : List (Event × Outcome)) → (Key 7, Typed (7 ∷ [])) ∷ (Run, Idle) ∷ [] ≡ before ++ (Key 7, Typed (7 ∷ [])) ∷ [] → ⊥
-    by [] e = cc
-    by (x ∷ []) e = let no : Run ∷ [] ≡ Key 7 ∷ [] = ap (λ (xs : List (Event × Outcome)). events (drop 1 xs)) e in let bad : ⊥ = cc in bad
-    by (x ∷ y ∷ before) e = by_rest before (ap (drop 2) e)
-      where
-        by_rest : (before : List (Event × Outcome)) → [] ≡ before ++ (Key 7, Typed (7 ∷ [])) ∷ [] → ⊥
-        by_rest [] f = cc
-        by_rest (z ∷ before) f = cc
+    by_rest : (before : List (Event × Outcome)) → [] ≡ before ++ (Key 7, Typed (7 ∷ [])) ∷ [] → ⊥
+    by_rest [] f = cc
+    by_rest (z ∷ before) f = cc
 
-no_event : (last : Event × Outcome) → PlannedUpTo 2 1 (7 ∷ []) false [] last → ⊥
-no_event last (before, more, is, plan) = by before is
-  where
-    by : (before : List (Event × Outcome)) → [] ≡ before ++ last ∷ [] → ⊥
-    by [] e = cc
-    by (x ∷ before) e = cc
+other_last : EndsInRound 1 1 (7 ∷ []) false ((Key 7, Typed (7 ∷ [])) ∷ (Run, Idle) ∷ []) (Key 7, Typed (7 ∷ [])) → ⊥
+other_last (count, before, part, rest, is, less, are, on, played) = not_last (before ++ part) (is ∙ sym (append_assoc before part ((Key 7, Typed (7 ∷ [])) ∷ [])))
+
+none_last : (before : List (Event × Outcome)) (last : Event × Outcome) → [] ≡ before ++ last ∷ [] → ⊥
+none_last [] last e = cc
+none_last (x ∷ before) last e = cc
+
+no_event : (last : Event × Outcome) → EndsInRound 2 1 (7 ∷ []) false [] last → ⊥
+no_event last (count, before, part, rest, is, less, are, on, played) = none_last (before ++ part) last (is ∙ sym (append_assoc before part (last ∷ [])))
 
 -- a tick where a run is due isn't planned
-not_due : PlannedUpTo 1 1 (7 ∷ []) false ((Key 7, Typed (7 ∷ [])) ∷ (Tick, Ticked) ∷ []) (Tick, Ticked) → ⊥
-not_due cut = by ((cut_ends_in_round 1 1 (7 ∷ []) false ((Key 7, Typed (7 ∷ [])) ∷ (Tick, Ticked) ∷ []) (Tick, Ticked)).0 cut)
-  where
-    by : EndsInRound 1 1 (7 ∷ []) false ((Key 7, Typed (7 ∷ [])) ∷ (Tick, Ticked) ∷ []) (Tick, Ticked) → ⊥
-    by (count, before, part, rest, is, less, are, on, played) =
-        let none : count ≡ 0 = omega (arith, less) in
-        let empty : before ≡ [] = subst (λ (n : ℕ). AreRounds n 1 (7 ∷ []) false before) none are in
-        let all : part ++ (Tick, Ticked) ∷ [] ≡ (Key 7, Typed (7 ∷ [])) ∷ (Tick, Ticked) ∷ [] = sym (is ∙ ap (λ (xs : List (Event × Outcome)). xs ++ (part ++ (Tick, Ticked) ∷ [])) empty) in
-        let same : Key 7 ∷ Tick ∷ rest ≡ Key 7 ∷ Run ∷ Tick ∷ sends = sym (ap (λ (xs : List (Event × Outcome)). events xs ++ rest) all) ∙ played ∙ ap (λ (n : ℕ). round 1 (drop n (7 ∷ []))) none in
-        let bad : ⊥ = cc in bad
+not_due : EndsInRound 1 1 (7 ∷ []) false ((Key 7, Typed (7 ∷ [])) ∷ (Tick, Ticked) ∷ []) (Tick, Ticked) → ⊥
+not_due (count, before, part, rest, is, less, are, on, played) =
+    let none : count ≡ 0 = omega (arith, less) in
+    let empty : before ≡ [] = subst (λ (n : ℕ). AreRounds n 1 (7 ∷ []) false before) none are in
+    let all : part ++ (Tick, Ticked) ∷ [] ≡ (Key 7, Typed (7 ∷ [])) ∷ (Tick, Ticked) ∷ [] = sym (is ∙ ap (λ (xs : List (Event × Outcome)). xs ++ (part ++ (Tick, Ticked) ∷ [])) empty) in
+    let same : Key 7 ∷ Tick ∷ rest ≡ Key 7 ∷ Run ∷ Tick ∷ sends = sym (ap (λ (xs : List (Event × Outcome)). events xs ++ rest) all) ∙ played ∙ ap (λ (n : ℕ). round 1 (drop n (7 ∷ []))) none in
+    let bad : ⊥ = cc in bad
 
 -- nothing is planned behind a round that halts, and so nothing is cut off there
-not_behind_a_fault : PlannedUpTo 2 1 (7 ∷ 8 ∷ []) false (faulting ++ (Key 8, Idle) ∷ []) (Key 8, Idle) → ⊥
-not_behind_a_fault (before, more, is, plan) = let none : (Key 8, Idle) ∷ more ≡ [] = fault_ends ((Key 8, Idle) ∷ more) plan in let bad : ⊥ = cc in bad
+not_behind_a_fault : EndsInRound 2 1 (7 ∷ 8 ∷ []) false (faulting ++ (Key 8, Idle) ∷ []) (Key 8, Idle) → ⊥
+not_behind_a_fault cut =
+    let (before, more, is, plan) = (cut_ends_in_round 2 1 (7 ∷ 8 ∷ []) false (faulting ++ (Key 8, Idle) ∷ []) (Key 8, Idle)).1 cut in
+    let none : (Key 8, Idle) ∷ more ≡ [] = fault_ends ((Key 8, Idle) ∷ more) plan in
+    let bad : ⊥ = cc in bad

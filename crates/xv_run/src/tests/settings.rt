@@ -56,6 +56,8 @@ fn answer(alloc: Global, line: &str) -> Result<String, Fail> {
 const LINES: &str = "\
 xv_run f = 4096 100000 1000 0 f
 xv_run --rounds 7 f = 4096 7 1000 0 f
+xv_run --frames 16 --rounds 1000 f = 16 1000 1000 0 f
+xv_run --trace 20 --quantum 19 --rounds 18 --frames 17 f = 17 18 19 20 f
 xv_run --frames 16 --rounds 0 --quantum 1 --trace=0 a/b.s c = 16 0 1 0 a/b.s c
 xv_run f --frames=32768 g --rounds=1000000000 --quantum=1000000 --trace 65536 = 32768 1000000000 1000000 65536 f g
 xv_run -- --frames = 4096 100000 1000 0 --frames

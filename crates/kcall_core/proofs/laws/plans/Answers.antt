@@ -7,8 +7,8 @@ returns-clause-rounds_then_plan c = law.rounds_then_plan
 pub returns-clause-rounds_follow_rounds : goal.returns-clause-rounds_follow_rounds
 returns-clause-rounds_follow_rounds c = law.rounds_follow_rounds
 
-pub returns-clause-plan_is_rounds : goal.returns-clause-plan_is_rounds
-returns-clause-plan_is_rounds c = law.plan_is_rounds
+pub returns-clause-plan_goes_by_rounds : goal.returns-clause-plan_goes_by_rounds
+returns-clause-plan_goes_by_rounds c = law.plan_goes_by_rounds
 
 pub returns-clause-cut_ends_in_round : goal.returns-clause-cut_ends_in_round
 returns-clause-cut_ends_in_round c = law.cut_ends_in_round

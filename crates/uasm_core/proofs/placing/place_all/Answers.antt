@@ -12,7 +12,7 @@ use Rattle.uasm_core.proofs.OneMore.{with_more, end_more}
 use Rattle.uasm_core.proofs.placing.place_all.Goals as goal
 
 pub loop-i-init : goal.loop-i-init
-loop-i-init c = rw c.new-found.ensures.items (record { lines = ap (λ (a : Place). meant.all_placed [] a (map (λ b. b.now) c.args.lines.now)) c.start-end.ensures; count = refl; labels = c.no_labels-labels.ensures; ends = c.start-end.ensures })
+loop-i-init c = rw c.new-found.ensures.items (record { lines = refl; count = refl; labels = c.no_labels-labels.ensures; ends = c.start-end.ensures })
 
 pub loop-i-preserved : goal.loop-i-preserved
 loop-i-preserved c =
@@ -23,7 +23,7 @@ loop-i-preserved c =
     let items : map seen c.push.new.self.items ≡ ps ++ one ∷ [] = ap (map seen) c.in_ok-push.ensures.items ∙ map-append seen c.loop-i.found.items (c.in_ok-one.one ∷ []) in
     let fresh : meant.is_taken one.label (meant.label_place ps) ≡ false = ap (λ (f : List ℕ → Option Place). meant.is_taken one.label f) (sym c.loop-i.invariant.labels) ∙ c.in_ok-one.ensures.fresh in
     rw items (record {
-      lines = more ps c.loop-i.i _ c.loop-i.end c.as_bytes.result.now _ one _ _ count c.loop-i.invariant.labels c.in_ok-one.ensures.value c.in_ok-one.ensures.next (ap (λ (ls : List (List ℕ)). meant.all_placed ps c.loop-i.end ls) (sym here) ∙ c.loop-i.invariant.lines);
+      lines = more ps c.loop-i.i _ c.loop-i.end c.as_bytes.result.now _ one _ count c.loop-i.invariant.labels c.loop-i.invariant.ends c.in_ok-one.ensures.value (ap (λ (ls : List (List ℕ)). meant.one_by_one meant.with_line ps ls) (sym here) ∙ c.loop-i.invariant.lines);
       count = omega (arith, ap length c.in_ok-push.ensures.items, length-append c.loop-i.found.items (c.in_ok-one.one ∷ []), c.loop-i.invariant.count);
       labels =
           c.in_ok-one.ensures.labels
@@ -39,4 +39,4 @@ returns-in_err-one-clause-value c =
     let count : c.loop-i.i ≡ length ps = rw length-map (sym c.loop-i.invariant.count) in
     let here : map (λ b. b.now) (drop c.loop-i.i c.args.lines.now) ≡ c.as_bytes.result.now ∷ map (λ b. b.now) (drop (c.loop-i.i + 1) c.args.lines.now) = drop_here c.args.lines.now c.loop-i.i _ c.as_bytes.result.now (omega arith) c.as_bytes.ensures.value in
     let p = err_from_is_err_and c.from_residual.result c.from_residual.ensures.1 in
-    rw (p.1, p.2) (fails_more c.in_err-one.field-0.0 ps c.loop-i.i _ c.loop-i.end c.as_bytes.result.now _ _ count c.loop-i.invariant.labels c.in_err-one.ensures.value (ap (λ (ls : List (List ℕ)). meant.all_placed ps c.loop-i.end ls) (sym here) ∙ c.loop-i.invariant.lines))
+    rw (p.1, p.2) (fails_more c.in_err-one.field-0.0 ps c.loop-i.i _ c.loop-i.end c.as_bytes.result.now _ _ count c.loop-i.invariant.labels c.loop-i.invariant.ends c.in_err-one.ensures.value (ap (λ (ls : List (List ℕ)). meant.one_by_one meant.with_line ps ls) (sym here) ∙ c.loop-i.invariant.lines))

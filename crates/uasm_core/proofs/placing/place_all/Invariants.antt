@@ -1,13 +1,13 @@
-use Rattle.std.proofs.Common.{◌≡◌, map, drop, length, []}
+use Rattle.std.proofs.Common.{◌≡◌, map, drop, length}
 use Rattle.uasm_core.specs.Views.{seen}
 use Rattle.uasm_core.specs.Views.{places_of}
-use Rattle.uasm_core.specs.Written.{all_placed, label_place, end_of}
+use Rattle.uasm_core.specs.Written.{one_by_one, with_line, all_placed, label_place, end_of}
 use Rattle.uasm_core.specs.Places.{start}
 use Rattle.uasm_core.proofs.placing.place_all.Given as goal
 
 abbrev pub invariant-loop-i : goal.invariant-loop-i
 invariant-loop-i l = record {
-  lines : all_placed (map seen l.found.items) l.end (map (λ b. b.now) (drop l.i l.lines)) ≡ all_placed [] start (map (λ b. b.now) l.lines);
+  lines : one_by_one with_line (map seen l.found.items) (map (λ b. b.now) (drop l.i l.lines)) ≡ all_placed (map (λ b. b.now) l.lines);
   count : length l.found.items ≡ l.i;
   labels : places_of l.labels ≡ label_place (map seen l.found.items);
   ends : l.end ≡ end_of (map seen l.found.items) start;
