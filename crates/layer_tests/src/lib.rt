@@ -34,4 +34,6 @@ mod processes;
 #[cfg(test)]
 mod program_files;
 #[cfg(test)]
+mod symbols;
+#[cfg(test)]
 mod terminal;

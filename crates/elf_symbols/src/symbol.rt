@@ -1,0 +1,90 @@
+//! Symbols and their names (ELF-64 Object File Format, "Symbol Table": `Elf64_Sym`, and "String Table").
+ghost use Rattle.std.specs.Prelude.{◌≡◌, ◌≤◌, ◌+◌, ◌*◌, ◌<◌, ◌==◌, length, position, option_map, IfSome};
+ghost use Rattle.elf_symbols.specs.Symbols as meant;
+
+use crate::number::{u32_at, u64_at};
+use crate::section::Section;
+
+/// Bytes of a symbol.
+const SYMBOL_BYTES: usize = 24;
+
+/// Where the type and the binding stand in a symbol (`st_info`, 1 byte): the type is the low half.
+const INFO: usize = 4;
+
+/// Where the address stands (`st_value`, 8 bytes).
+const VALUE: usize = 8;
+
+/// Where the number of bytes stands (`st_size`, 8 bytes).
+const SIZE: usize = 16;
+
+/// The type of a function (`STT_FUNC`).
+const FUNCTION: u8 = 2;
+
+/// What a symbol says.
+#[derive(Clone, Copy)]
+pub(crate) struct Symbol {
+    pub name: u32,
+    info: u8,
+    value: u64,
+    size: u64,
+}
+
+/// The symbol that begins at `at`.
+#[tactic(auto, unfolding(crate::specs::Symbols::symbol_at))]
+fn symbol_at(file: &[u8], at: usize) -> Symbol
+    requires { at + 24 ≤ length file.now }
+    ensures { result ≡ meant.symbol_at file.now at }
+{
+    Symbol {
+        name: u32_at(file, at),
+        info: file[at + INFO],
+        value: u64_at(file, at + VALUE),
+        size: u64_at(file, at + SIZE),
+    }
+}
+
+impl Symbol {
+    /// Whether it is a function whose range has the address.
+    fn covers(&self, address: u64) -> bool
+        ensures { result ≡ meant.covers address self.now }
+    {
+        self.info % 16 == FUNCTION
+            && self.value <= address
+            && u128::from(address) < u128::from(self.value) + u128::from(self.size)
+    }
+}
+
+/// The first symbol of a table whose function has the address.
+pub(crate) fn first_function(file: &[u8], table: &Section, address: u64) -> Option<Symbol>
+    requires { table.now.off + table.now.size ≤ length file.now }
+    ensures { result ≡ meant.first_function file.now table.now address }
+{
+    let count = table.size as usize / SYMBOL_BYTES;
+    for i in 0..count {
+        let symbol = symbol_at(file, table.off as usize + SYMBOL_BYTES * i);
+        if symbol.covers(address) {
+            return Some(symbol);
+        }
+    }
+    None
+}
+
+/// Where the first zero byte stands.
+fn zero_byte(bytes: &[u8]) -> Option<usize>
+    ensures first { result ≡ position (λ b. b == 0) bytes.now }
+    ensures within { IfSome result (λ n. n < length bytes.now) }
+{
+    bytes.iter().position(|b| *b == 0)
+}
+
+/// The name that begins at `at` in a string table, up to the zero byte.
+pub(crate) fn name_at<'a>(file: &'a [u8], strings: &Section, at: u32) -> Option<&'a [u8]>
+    requires { strings.now.off + strings.now.size ≤ length file.now }
+    ensures { option_map (λ n. n.now) result ≡ meant.name_at file.now strings.now at }
+{
+    let off = strings.off as usize;
+    let bytes = &file[off..off + strings.size as usize];
+    let rest = bytes.get(at as usize..)?;
+    let end = zero_byte(rest)?;
+    Some(&rest[..end])
+}

@@ -1,0 +1,88 @@
+//! From an address to the name of its function.
+ghost use Rattle.std.specs.Prelude.{◌≡◌, ◌≤◌, ◌+◌, ◌*◌, length, true, false, option_map, MatchOption, IsTrue};
+ghost use Rattle.xk_base.specs.ProgramFile.{is_elf as elf};
+ghost use Rattle.elf_symbols.specs.Symbols as meant;
+
+use crate::number::{u16_at, u64_at};
+use crate::section::{STRING_TABLE, Section, read_section, symbol_table};
+use crate::symbol::{first_function, name_at};
+
+/// Bytes of a file header (ELF-64 Object File Format, "ELF Header": `Elf64_Ehdr`).
+const FILE_HEADER_BYTES: usize = 64;
+
+/// The first bytes of each ELF file (`e_ident[EI_MAG0..=EI_MAG3]`).
+const MAGIC: [u8; 4] = [0x7F, b'E', b'L', b'F'];
+
+/// Where the place of the section headers stands in the file header (`e_shoff`, 8 bytes).
+const SHOFF: usize = 40;
+
+/// Where the number of section headers stands in the file header (`e_shnum`, 2 bytes).
+const SHNUM: usize = 60;
+
+/// Where the section headers of a file begin, and how many there are.
+#[derive(Clone, Copy)]
+struct Headers {
+    place: usize,
+    count: u16,
+}
+
+/// Whether the file is long enough for a file header and begins as an ELF file does.
+#[tactic(auto, unfolding(xk_base::specs::ProgramFile::is_elf))]
+fn is_elf(file: &[u8]) -> bool
+    ensures value { result ≡ elf file.now }
+    ensures long { IsTrue result → 64 ≤ length file.now }
+{
+    file.len() >= FILE_HEADER_BYTES && file.starts_with(&MAGIC)
+}
+
+/// The section headers of a file, if they are wholly in it.
+fn read_headers(file: &[u8]) -> Option<Headers>
+    ensures { MatchOption result (meant.has_sections file.now ≡ false) (λ h. (meant.has_sections file.now ≡ true) × (h.place ≡ meant.sections_place file.now) × (h.count ≡ meant.section_count file.now)) }
+{
+    if !is_elf(file) {
+        return None;
+    }
+    let place = u64_at(file, SHOFF);
+    let count = u16_at(file, SHNUM);
+    if u128::from(place) + 64 * u128::from(count) > file.len() as u128 {
+        return None;
+    }
+    Some(Headers {
+        place: place as usize,
+        count,
+    })
+}
+
+/// The name of the function that has the address, by a symbol table and its string table.
+fn function_by<'a>(
+    file: &'a [u8],
+    table: &Section,
+    strings: &Section,
+    address: u64,
+) -> Option<&'a [u8]>
+    ensures { option_map (λ n. n.now) result ≡ meant.function_by file.now table.now strings.now address }
+{
+    if !table.is_within(file) || !strings.is_within(file) || strings.kind != STRING_TABLE {
+        return None;
+    }
+    let symbol = first_function(file, table, address)?;
+    name_at(file, strings, symbol.name)
+}
+
+/// The name of the function at an address: of the first function, in the file's first symbol table, whose range
+/// [value, value + size) has the address. The name is as the file has it, without its zero byte, and need not be text.
+///
+/// There is none if no function has the address, and if the file has no symbol table, or one of these isn't wholly in
+/// the file: its section headers, the symbol table, its string table, the name up to its zero byte. It doesn't panic,
+/// whatever the bytes are, and takes no memory.
+pub fn function_at(file: &[u8], address: u64) -> Option<&[u8]>
+    ensures { option_map (λ n. n.now) result ≡ meant.function_at file.now address }
+{
+    let headers = read_headers(file)?;
+    let table = symbol_table(file, headers.place, headers.count)?;
+    if table.link >= u32::from(headers.count) {
+        return None;
+    }
+    let strings = read_section(file, headers.place, table.link as u16);
+    function_by(file, &table, &strings, address)
+}
