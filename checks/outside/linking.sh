@@ -1,3 +1,4 @@
+# shellcheck shell=sh disable=SC2154
 # Linking for Linux, for ../outside.sh.
 
 # What begins a program for Linux, in place of the machine's start file.

@@ -1,3 +1,4 @@
+# shellcheck shell=sh disable=SC2154
 # Running and comparing, for ../outside.sh.
 
 now() {

@@ -67,7 +67,7 @@ static int is_there(const char *name)
     return descriptor >= 0 && kernel_close(descriptor) == 0;
 }
 
-/* Whether the process has this descriptor. A second one that needs no room is one more that names it. */
+/* Whether the process has this descriptor: then it can have a second one, unless all are in use. */
 static int is_in_use(int descriptor)
 {
     int second = kernel_dup(descriptor);

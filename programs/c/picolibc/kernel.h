@@ -26,7 +26,8 @@ enum { TICKS_PER_SECOND = 100 }; /* a tick has no length; a program is told that
 /* Sets errno, and answers -1. */
 int refuse(int why);
 
-/* What a child forgets of its parent when it is born (files.c, processes.c). */
+/* Behind a fork another process may move the place where the next byte of a file is read, so that nobody knows it
+   (files.c). */
 void share_files(void);
 
 /* The descriptor `wanted`, which is free, for what `make` gives of `what`: each call of it takes the lowest free
