@@ -6,7 +6,7 @@
 #
 # A line for each run tells the seconds here and by QEMU, and whether both gave the same. The last line is the sum.
 # `calls` is our own, and tries what the functions under the C library answer. `torture` is the compiler's own
-# gcc.c-torture/execute, at the levels of LEVELS, without it -O0 and -O2: half an hour for each.
+# gcc.c-torture/execute, at the levels of LEVELS, without it -O0 and -O2: five minutes for each to run, and more to build.
 #
 # It needs what guests.sh needs, and qemu-user. GUESTS is the folder in which all of it stands, JOBS how many run side
 # by side, XV_RUN the machine's program.
