@@ -15,6 +15,6 @@ pub fn text_is_read_back()
     // A line with an address asks for the very instruction, or is refused: a branch, a jump, or another fence.
     ensures shown_is_read { ShownIsRead }
 
-    // Where it leads to no target it is a whole source, and the program is the instruction's word.
+    // If it leads to no target, it is a whole source, and the program is the instruction's word.
     ensures shown_is_program { ShownIsProgram }
 {}

@@ -18,7 +18,7 @@ pub type InstructionText = ArrayString<TEXT_BYTES>;
 
 /// A word, and behind it its operands.
 fn line(word: &str, first: &str, others: &[&str]) -> InstructionText
-    requires { length (meant.line word.now (first.now ∷ map (λ o. o.now) others.now)) ≤ 35 }
+    requires { length (meant.line word.now (first.now ∷ map (λ o. o.now) others.now)) ≤ TEXT_BYTES }
     ensures { result.bytes ≡ meant.line word.now (first.now ∷ map (λ o. o.now) others.now) }
 {
     let mut text = alone(word);
@@ -33,7 +33,7 @@ fn line(word: &str, first: &str, others: &[&str]) -> InstructionText
 
 /// A word without operands.
 fn alone(word: &str) -> InstructionText
-    requires { length word.now ≤ 35 }
+    requires { length word.now ≤ TEXT_BYTES }
     ensures { result.bytes ≡ word.now }
 {
     let mut text = InstructionText::new();

@@ -28,7 +28,7 @@ fn digit(n: u64) -> &'static str
 /// Puts the digits of a number in a base, 2 to 16, behind a text.
 fn push_digits(text: &mut Operand, base: u64, n: u64)
     requires base { (2 ≤ base) × (base ≤ 16) }
-    requires room { length text.old.bytes + length (digits base false n) ≤ 18 }
+    requires room { length text.old.bytes + length (digits base false n) ≤ OPERAND_BYTES }
     ensures { text.new.bytes ≡ text.old.bytes ++ digits base false n }
 {
     if n < base {
@@ -50,7 +50,7 @@ pub(crate) fn decimal(n: u8) -> Operand
 
 pub(crate) fn hexadecimal(n: u64) -> Operand
     ensures text { result.bytes ≡ meant.hexadecimal n }
-    ensures short { length result.bytes ≤ 18 }
+    ensures short { length result.bytes ≤ OPERAND_BYTES }
 {
     let mut text = Operand::new();
     text.push_str("0x");
