@@ -1,8 +1,8 @@
 -- A frame of a space is given back: the entry that led to it is made blank.
 use Rattle.std.proofs.Common.{◌≡◌, ◌≢◌, ℕ, zero, suc, ◌+◌, ◌*◌, ◌/◌, ◌%◌, ◌^◌, ◌<◌, ◌≤◌, Bool, List, ◌∷◌, length, Some, None, refl, sym, ap, ◌∙◌, subst, arith}
-use Rattle.xk_base.specs.Frames.{copies, SameFrames, Once}
+use Rattle.xk_base.specs.Frames.{copies, Once}
 use Rattle.xk_base.specs.declared.access.Rights.{Rights}
-use Rattle.xk_base.proofs.Frames.{length-same, at, at-same, copies-cons, same-cons, Once-less}
+use Rattle.xk_base.proofs.Frames.{length-same, at, at-same, copies-cons, same-cons, Once-less, SameFrames}
 use Rattle.phys_ram.specs.Ram.{word_at, WordWritten}
 use Rattle.frame_list.specs.declared.Pool.{Pool}
 use Rattle.frame_list.specs.Pool.{free_in}

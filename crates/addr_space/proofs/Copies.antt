@@ -93,6 +93,7 @@ space-kept ram ram' space is kept =
       };
       leaves = λ u. subst (λ e. Usual e) (sym (entries u)) (is.leaves u);
       ends = λ u ge lt. ap frame_of (entries u) ∙ is.ends u ge lt;
+      size = is.size;
       pages = is.pages ∙ sym (ap length frames);
       tables = omega (arith, is.tables, length-kinds ram root, length-kinds ram' root, ap length own, ap length frames);
     }
@@ -169,7 +170,7 @@ copied-all pool pool0 pool1 ram ram0 ram1 self child0 child from made same so no
     let all : gathered (page_at ram0 self.root) (2 ^ 26) ≡ gathered (page_at ram0 self.root) from =
     sym (ap (gathered (page_at ram0 self.root)) k) ∙ gathered-skip (page_at ram0 self.root) from (67108864 - from) (λ u gu lu. sym (so.same u) ∙ page-none ram1 (page_entry ram1 self.root u) (none u gu (omega (arith, lu, so.inside)))) in (
       record {
-        whole = record { tree = w.tree; full = w.full; leaves = w.leaves; pages = w.pages; tables = w.tables; ends = w.ends };
+        whole = record { tree = w.tree; full = w.full; leaves = w.leaves; pages = w.pages; tables = w.tables; ends = w.ends; size = so.whole.size };
         traded = trade-join pool pool0 pool1 ram ram0 ram1 [] (frames_of ram0 child0) (frames_of ram1 child) made.traded so.changed.traded;
       },
       ap (λ m. record { pages = m; size = self.size }) (so.pages ∙ sym all ∙ gathered-same (page_at ram self.root) (page_at ram0 self.root) (2 ^ 26) same),

@@ -89,6 +89,7 @@ made-empty pool pool' ram ram' g good taken =
           };
           leaves = λ v. subst (λ e. Usual e) (sym (no-page ram' g v bare)) tt;
           ends = λ v ge lt. ap frame_of (no-page ram' g v bare);
+          size = omega arith;
           pages = sym (ap length no.p);
           tables = omega (arith, ap length no.u, ap length no.l);
         };

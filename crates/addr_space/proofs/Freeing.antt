@@ -90,6 +90,7 @@ page-freed pool0 pool1 pool2 pool3 ram0 ram1 ram2 ram3 space v n m b a1 a2 a3 go
             | inl e ↦ ap (λ x. frame_of (page_entry ram3 root x)) e ∙ ap frame_of entry
             | inr ne ↦ ap frame_of (all.beside.pages u ne) ∙ is.ends u ge lt
           ];
+          size = is.size;
           pages = omega (arith, is.pages, frames, fewer);
           tables = omega (arith, is.tables, is.pages, length-kinds ram0 root, length-kinds ram3 root, all.less, frames, fewer);
         };

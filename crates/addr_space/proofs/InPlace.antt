@@ -35,6 +35,7 @@ space-same ram ram' space is s =
       };
       leaves = s.usual;
       ends = λ v ge lt. s.frames v ∙ is.ends v ge lt;
+      size = is.size;
       pages = is.pages ∙ sym (ap length (same-pages ram ram' root s));
       tables = omega (arith, is.tables, length-kinds ram root, length-kinds ram' root, ap length same, ap length (same-pages ram ram' root s));
     }

@@ -55,6 +55,7 @@ mapped pool pool' ram ram' space v g need end perm is small none e more_end adde
         full = full;
         leaves = leaves-after ram ram' space.root v is.leaves beside (subst (λ e. Usual e) (sym there) (refl, refl));
         ends = λ u ge lt. ap frame_of (beside.pages u (λ e. omega (arith, e, ge, more_end))) ∙ is.ends u (omega (arith, ge, more_end)) lt;
+        size = is.size;
         pages = omega (arith, more, is.pages);
         tables = omega (arith, more, is.pages, old, new, cost, same, length-kinds ram' space.root, needs-some ram space.root v need e);
       };

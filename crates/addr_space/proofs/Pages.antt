@@ -81,6 +81,7 @@ changed-same pool ram ram' space g b s stay own =
         };
         leaves = s.usual;
         ends = λ v ge lt. s.frames v ∙ is.ends v ge lt;
+        size = is.size;
         pages = is.pages ∙ sym (ap length (same-pages ram ram' root s));
         tables = omega (arith, is.tables, length-kinds ram root, length-kinds ram' root, ap length same, ap length (same-pages ram ram' root s));
       };

@@ -1,9 +1,9 @@
 -- The steps by which a page comes into a space: a frame is taken, and a word of a table is written.
 use Rattle.std.proofs.Common.{◌≡◌, ◌≢◌, ℕ, suc, ◌+◌, ◌*◌, ◌^◌, ◌<◌, ◌≤◌, true, cond, ltb, List, ◌∷◌, length, Option, Some, None, inl, inr, refl, sym, ap, ◌∙◌, arith}
 use Rattle.std.proofs.lemmas.Bool.{cases_eq}
-use Rattle.xk_base.specs.Frames.{copies, SameFrames}
+use Rattle.xk_base.specs.Frames.{copies}
 use Rattle.xk_base.specs.declared.access.Rights.{Rights}
-use Rattle.xk_base.proofs.Frames.{length-same, at, at-same, copies-nil, same-cons, Once-more}
+use Rattle.xk_base.proofs.Frames.{length-same, at, at-same, copies-nil, same-cons, Once-more, SameFrames}
 use Rattle.phys_ram.specs.Ram.{frame_at, word_at, zero_frame, OthersStay, WordWritten}
 use Rattle.phys_ram.proofs.Words.{word_at-zero}
 use Rattle.frame_list.specs.declared.Pool.{Pool}

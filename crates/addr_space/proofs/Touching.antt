@@ -1,51 +1,71 @@
--- What a touch makes of an image: a run of pages, each added where there was none, is what was chosen and absent.
-use Rattle.std.proofs.Common.{◌≡◌, ◌≢◌, ℕ, zero, suc, ◌+◌, ◌-◌, ◌*◌, ◌/◌, ◌%◌, ◌^◌, ◌<◌, ◌≤◌, Bool, true, false, not, ◌&&◌, ◌||◌, cond, eqb, ltb, is_some, List, Option, Some, None, inl, inr, ◌⊎◌, refl, sym, ap, ◌∙◌, arith}
+-- What a touch makes of an image: a run of pages, each added where there was none, is what was to be touched and absent.
+use Rattle.std.proofs.Common.{◌≡◌, ◌≢◌, ℕ, zero, suc, ◌+◌, ◌-◌, ◌*◌, ◌/◌, ◌%◌, ◌^◌, ◌<◌, ◌≤◌, Bool, true, false, not, ◌&&◌, ◌||◌, cond, ltb, is_some, List, Option, Some, None, inl, inr, ◌⊎◌, refl, sym, ap, ◌∙◌, arith}
 use Rattle.std.proofs.lemmas.Bool.{cases_lt, cases_eq, false≢true, eq-eqb, ne_eqb}
 use Prim.Native.Nat.{min}
 use Rattle.std.specs.Ordering.{nat_cmp}
 use Rattle.std.specs.FinMap.{FinMap, insert, get, get-insert, same_map, nat_cmp-IsAntisymmetric}
 use Rattle.std.specs.Cmp.{nat_cmp_total}
-use Rattle.std.specs.Prelude.{option_map, slice_index, replicate, ◌∷◌}
+use Rattle.std.specs.List.{range_with_len}
+use Rattle.std.specs.Prelude.{option_map, slice_index, replicate, [], ◌∷◌}
+use Rattle.xk_base.specs.Access.{data_rights}
 use Rattle.xk_base.specs.Bytes.{byte_in, image_byte, image_bytes}
 use Rattle.phys_ram.specs.Ram.{zero_frame}
 use Rattle.xk_base.specs.declared.access.Rights.{Rights}
-use Rattle.xk_base.specs.Image.{Page, Image, some_below}
-use Rattle.sv39_core.specs.Listed.{gathered}
+use Rattle.xk_base.specs.Image.{Page, Image, with_page}
 use Rattle.sv39_core.specs.Tree.{pages_of, page_at}
 use Rattle.sv39_core.proofs.Gathered.{gathered-get, tie-yes}
 use Rattle.sv39_core.proofs.Words.{ltb-yes, ltb-no}
 use Rattle.addr_space.specs.declared.Space.{Space}
 use Rattle.addr_space.specs.Changes.{zeroed, with_absent, filled, perm_of_page}
-use Rattle.addr_space.specs.Absent.{is_absent, spans, touched, touched_page, touched_rights, whole}
+use Rattle.addr_space.specs.Absent.{is_absent, is_among, pages_at, bring, brought, all_pages, whole}
 use Rattle.addr_space.specs.Space.{image_of}
 use Rattle.addr_space.proofs.Growing.{absent-out}
-use Rattle.addr_space.proofs.Prices.{some-yes, insert-other}
+use Rattle.addr_space.proofs.Prices.{insert-other}
 
--- ---- which pages a range spans
+-- a page that comes
+abbrev zeros : Page
+zeros = zeroed data_rights
 
-pub spans-yes : (a n v : ℕ) → 0 < n → a / 4096 ≤ v → 4096 * v < a + n → spans a n v ≡ true
-unfolding spans
-spans-yes a n v some ge lt =
-    let k : a + (4096 * v - a) ≡ a ⊎ a + (4096 * v - a) ≡ 4096 * v = elim (cases_lt a (4096 * v)) [ inl l ↦ inr (omega (arith, l)) | inr g ↦ inl (omega (arith, g)) ] in
-    let at : (a + (4096 * v - a)) / 4096 ≡ v = elim k [ inl e ↦ omega (arith, e, ge) | inr e ↦ omega (arith, e) ] in
-    some-yes n (λ k. eqb ((a + k) / 4096) v) (4096 * v - a) (omega (arith, some, lt)) (eq-eqb ((a + (4096 * v - a)) / 4096) v at)
+-- ---- in which pages a range lies
 
-none-spanned : (n : ℕ) (test : ℕ → Bool) → ((k : ℕ) → k < n → test k ≡ false) → some_below n test ≡ false
-unfolding some_below
-none-spanned zero test none = refl
-none-spanned (suc n) test none = ap (λ b. b || some_below n test) (none n (omega arith)) ∙ none-spanned n test (λ k lt. none k (omega (arith, lt)))
+pub among-yes : (a n v : ℕ) → 0 < n → a / 4096 ≤ v → 4096 * v < a + n → is_among v (pages_at a n) ≡ true
+among-yes a zero v some ge lt = absurd (omega (arith, some))
+among-yes a (suc n) v some ge lt = elim (cases_lt (a / 4096) v) [
+  | inl past ↦ ap (λ b. b || is_among v (pages_at (a + 1) n)) (ne_eqb v (a / 4096) (λ e. omega (arith, e, past))) ∙ among-yes (a + 1) n v (omega (arith, past, lt)) (omega (arith, past)) (omega (arith, lt))
+  | inr here ↦ ap (λ b. b || is_among v (pages_at (a + 1) n)) (eq-eqb v (a / 4096) (omega (arith, ge, here)))
+]
 
-pub spans-before : (a n v : ℕ) → v < a / 4096 → spans a n v ≡ false
-unfolding spans
-spans-before a n v lt = none-spanned n (λ k. eqb ((a + k) / 4096) v) (λ k small. ne_eqb ((a + k) / 4096) v (λ e. omega (arith, e, lt)))
+pub among-before : (a n v : ℕ) → v < a / 4096 → is_among v (pages_at a n) ≡ false
+among-before a zero v lt = refl
+among-before a (suc n) v lt = ap (λ b. b || is_among v (pages_at (a + 1) n)) (ne_eqb v (a / 4096) (λ e. omega (arith, e, lt))) ∙ among-before (a + 1) n v (omega (arith, lt))
 
-pub spans-behind : (a n v : ℕ) → a + n ≤ 4096 * v → spans a n v ≡ false
-unfolding spans
-spans-behind a n v le = none-spanned n (λ k. eqb ((a + k) / 4096) v) (λ k small. ne_eqb ((a + k) / 4096) v (λ e. omega (arith, e, le, small)))
+pub among-behind : (a n v : ℕ) → a + n ≤ 4096 * v → is_among v (pages_at a n) ≡ false
+among-behind a zero v le = refl
+among-behind a (suc n) v le = ap (λ b. b || is_among v (pages_at (a + 1) n)) (ne_eqb v (a / 4096) (λ e. omega (arith, e, le))) ∙ among-behind (a + 1) n v (omega (arith, le))
 
-pub spans-none : (a v : ℕ) → spans a 0 v ≡ false
-unfolding spans some_below
-spans-none a v = refl
+pub among-none : (a v : ℕ) → is_among v (pages_at a 0) ≡ false
+among-none a v = refl
+
+-- ---- the pages of an address space
+
+range-has : (a n v : ℕ) → a ≤ v → v < a + n → is_among v (range_with_len a n) ≡ true
+range-has a zero v ge lt = absurd (omega (arith, ge, lt))
+range-has a (suc n) v ge lt = elim (cases_eq v a) [
+  | inl same ↦ ap (λ b. b || is_among v (range_with_len (a + 1) n)) (eq-eqb v a same)
+  | inr ne ↦ ap (λ b. b || is_among v (range_with_len (a + 1) n)) (ne_eqb v a ne) ∙ range-has (a + 1) n v (omega (arith, ge, ne)) (omega (arith, lt))
+]
+
+range-ends : (a n v : ℕ) → a + n ≤ v → is_among v (range_with_len a n) ≡ false
+range-ends a zero v ge = refl
+range-ends a (suc n) v ge = ap (λ b. b || is_among v (range_with_len (a + 1) n)) (ne_eqb v a (λ e. omega (arith, e, ge))) ∙ range-ends (a + 1) n v (omega (arith, ge))
+
+all-have : (v : ℕ) → v < 2 ^ 26 → is_among v all_pages ≡ true
+unfolding all_pages
+all-have v lt = range-has 0 (2 ^ 26) v (omega arith) (omega (arith, lt))
+
+all-end : (v : ℕ) → 2 ^ 26 ≤ v → is_among v all_pages ≡ false
+unfolding all_pages
+all-end v ge = range-ends 0 (2 ^ 26) v (omega (arith, ge))
 
 pub least-of : (r a b : ℕ) → r ≡ min a b → (r ≤ a) × (r ≤ b) × ((r ≡ a) ⊎ (r ≡ b))
 least-of r a b e = elim (cases_lt a b) [
@@ -85,49 +105,138 @@ came pages first (suc n) page u ge lt none = elim (cases_eq u (first + n)) [
   | inr ne ↦ came-step (with_absent pages first n page) (first + n) page u (is_some (get (with_absent pages first n page) (first + n))) refl ne (came pages first n page u ge (omega (arith, lt, ne)) none)
 ]
 
+-- ---- page by page
+
+pub brought-size : (ps : List ℕ) (i : Image) → (brought ps i).size ≡ i.size
+unfolding brought
+brought-size [] i = refl
+brought-size (p ∷ ps) i = by (is_absent (brought ps i) p) ∙ brought-size ps i
+  where
+    by : (b : Bool) → (cond b (with_page (brought ps i) p zeros) (brought ps i)).size ≡ (brought ps i).size
+    by true = refl
+    by false = refl
+
+put : (pages : FinMap nat_cmp Page) (v : ℕ) (page : Page) → get (insert pages v page) v ≡ Some page
+put pages v page = get-insert nat_cmp_total pages v page v ∙ ap (λ b. cond b (Some page) (get pages v)) (tie-yes v v refl)
+
+-- page u after page v was brought
+brings : (i : Image) (v u : ℕ) (b : Bool) → is_absent i v ≡ b → get (bring v i).pages u ≡ get (cond b (with_page i v zeros) i).pages u
+brings i v u b is = ap (λ b. get (cond b (with_page i v zeros) i).pages u) is
+
+brings-other : (i : Image) (v u : ℕ) → u ≢ v → get (bring v i).pages u ≡ get i.pages u
+brings-other i v u ne = by (is_absent i v) refl
+  where
+    by : (b : Bool) → is_absent i v ≡ b → get (bring v i).pages u ≡ get i.pages u
+    by true e = brings i v u true e ∙ insert-other i.pages v zeros u ne
+    by false e = brings i v u false e
+
+brings-here : (i : Image) (v : ℕ) → get (bring v i).pages v ≡ cond (is_absent i v) (Some zeros) (get i.pages v)
+brings-here i v = by (is_absent i v) refl
+  where
+    by : (b : Bool) → is_absent i v ≡ b → get (bring v i).pages v ≡ cond (is_absent i v) (Some zeros) (get i.pages v)
+    by true e = brings i v v true e ∙ put i.pages v zeros ∙ sym (ap (λ b. cond b (Some zeros) (get i.pages v)) e)
+    by false e = brings i v v false e ∙ sym (ap (λ b. cond b (Some zeros) (get i.pages v)) e)
+
+-- page v after a touch: zeros, where it is chosen and absent; else as it was
+abbrev page_after : Bool → Image → ℕ → Option Page
+page_after chosen i v = cond (chosen && is_absent i v) (Some zeros) (get i.pages v)
+
+-- page v, which may have come before, is brought
+again : (i j : Image) (v : ℕ) (chosen : Bool) → j.size ≡ i.size → get j.pages v ≡ page_after chosen i v → cond (is_absent j v) (Some zeros) (get j.pages v) ≡ page_after true i v
+again i j v chosen size is = by (is_absent i v) refl chosen refl
+  where
+    absent : (o : Option Page) → get j.pages v ≡ o → is_absent j v ≡ (ltb (4096 * v) i.size && not (is_some o))
+    absent o e = λ k. ltb (4096 * v) (size k) && not (is_some (e k))
+
+    none : (b : Bool) → (b && false) ≡ false
+    none true = refl
+    none false = refl
+
+    same : (b c : Bool) → is_absent i v ≡ b → get j.pages v ≡ get i.pages v → is_absent j v ≡ b
+    same b c e p = absent (get i.pages v) p ∙ e
+
+    by : (b : Bool) → is_absent i v ≡ b → (c : Bool) → chosen ≡ c → cond (is_absent j v) (Some zeros) (get j.pages v) ≡ page_after true i v
+    by true e true ch =
+        let came : get j.pages v ≡ Some zeros = is ∙ (λ k. cond (ch k && e k) (Some zeros) (get i.pages v)) in
+        (λ k. cond ((absent (Some zeros) came ∙ none (ltb (4096 * v) i.size)) k) (Some zeros) (came k)) ∙ sym (ap (λ b. cond b (Some zeros) (get i.pages v)) e)
+    by true e false ch =
+        let stays : get j.pages v ≡ get i.pages v = is ∙ (λ k. cond (ch k && is_absent i v) (Some zeros) (get i.pages v)) in
+        ap (λ b. cond b (Some zeros) (get j.pages v)) (same true chosen e stays) ∙ sym (ap (λ b. cond b (Some zeros) (get i.pages v)) e)
+    by false e c ch =
+        let stays : get j.pages v ≡ get i.pages v = is ∙ (λ k. cond (chosen && e k) (Some zeros) (get i.pages v)) ∙ ap (λ b. cond b (Some zeros) (get i.pages v)) (none chosen) in
+        ap (λ b. cond b (Some zeros) (get j.pages v)) (same false chosen e stays) ∙ stays ∙ sym (ap (λ b. cond b (Some zeros) (get i.pages v)) e)
+
+pub brought-get : (ps : List ℕ) (i : Image) (v : ℕ) → get (brought ps i).pages v ≡ page_after (is_among v ps) i v
+unfolding brought
+brought-get [] i v = refl
+brought-get (p ∷ ps) i v = elim (cases_eq v p) [
+  | inl same ↦
+      ap (λ q. get (bring q (brought ps i)).pages v) (sym same) ∙ brings-here (brought ps i) v ∙ again i (brought ps i) v (is_among v ps) (brought-size ps i) (brought-get ps i v)
+      ∙ sym (ap (λ b. page_after (b || is_among v ps) i v) (eq-eqb v p same))
+  | inr ne ↦ brings-other (brought ps i) p v ne ∙ brought-get ps i v ∙ sym (ap (λ b. page_after (b || is_among v ps) i v) (ne_eqb v p ne))
+]
+
 -- ---- a touch
 
 -- the run from `first` to below `end` has what of the chosen pages lies below the size
 pub record IsRun (chosen : ℕ → Bool) (size first end : ℕ) : Type 0 where
   pub order : first ≤ end
-  pub few : end ≤ 2 ^ 26
   pub inside : (v : ℕ) → first ≤ v → v < end → (chosen v ≡ true) × (4096 * v < size)
   pub before : (v : ℕ) → v < first → 4096 * v < size → chosen v ≡ false
   pub behind : (v : ℕ) → end ≤ v → 4096 * v < size → chosen v ≡ false
 
 -- out of the run nothing is touched
-out : (chosen : ℕ → Bool) (i : Image) (v : ℕ) → (4096 * v < i.size → chosen v ≡ false) → touched_page chosen i v ≡ get i.pages v
+out : (chosen : Bool) (i : Image) (v : ℕ) → (4096 * v < i.size → chosen ≡ false) → page_after chosen i v ≡ get i.pages v
 out chosen i v not-chosen = elim (cases_lt (4096 * v) i.size) [
-  | inl lt ↦ ap (λ b. cond (b && is_absent i v) (Some (zeroed touched_rights)) (get i.pages v)) (not-chosen lt)
-  | inr ge ↦ ap (λ b. cond (chosen v && (b && not (is_some (get i.pages v)))) (Some (zeroed touched_rights)) (get i.pages v)) (ltb-no (4096 * v) i.size ge) ∙ both (chosen v)
+  | inl lt ↦ ap (λ b. cond (b && is_absent i v) (Some zeros) (get i.pages v)) (not-chosen lt)
+  | inr ge ↦ ap (λ b. cond (chosen && (b && not (is_some (get i.pages v)))) (Some zeros) (get i.pages v)) (ltb-no (4096 * v) i.size ge) ∙ both chosen
 ]
   where
-    both : (b : Bool) → cond (b && false) (Some (zeroed touched_rights)) (get i.pages v) ≡ get i.pages v
+    both : (b : Bool) → cond (b && false) (Some zeros) (get i.pages v) ≡ get i.pages v
     both true = refl
     both false = refl
 
-in-run : (chosen : ℕ → Bool) (i : Image) (v : ℕ) → chosen v ≡ true → 4096 * v < i.size → (o : Option Page) → get i.pages v ≡ o → touched_page chosen i v ≡ cond (is_some o) o (Some (zeroed touched_rights))
+in-run : (chosen : Bool) (i : Image) (v : ℕ) → chosen ≡ true → 4096 * v < i.size → (o : Option Page) → get i.pages v ≡ o → page_after chosen i v ≡ cond (is_some o) o (Some zeros)
 in-run chosen i v picked lt o is =
-    ap (λ b. cond (b && is_absent i v) (Some (zeroed touched_rights)) (get i.pages v)) picked
-    ∙ ap (λ b. cond (b && not (is_some (get i.pages v))) (Some (zeroed touched_rights)) (get i.pages v)) (ltb-yes (4096 * v) i.size lt)
-    ∙ ap (λ p. cond (not (is_some p)) (Some (zeroed touched_rights)) p) is ∙ by o
+    ap (λ b. cond (b && is_absent i v) (Some zeros) (get i.pages v)) picked
+    ∙ ap (λ b. cond (b && not (is_some (get i.pages v))) (Some zeros) (get i.pages v)) (ltb-yes (4096 * v) i.size lt)
+    ∙ ap (λ p. cond (not (is_some p)) (Some zeros) p) is ∙ by o
   where
-    by : (o : Option Page) → cond (not (is_some o)) (Some (zeroed touched_rights)) o ≡ cond (is_some o) o (Some (zeroed touched_rights))
+    by : (o : Option Page) → cond (not (is_some o)) (Some zeros) o ≡ cond (is_some o) o (Some zeros)
     by None = refl
     by (Some page) = refl
 
-run-page : (chosen : ℕ → Bool) (i : Image) (first end : ℕ) → IsRun chosen i.size first end → (v : ℕ) → get (with_absent i.pages first (end - first) (zeroed touched_rights)) v ≡ touched_page chosen i v
+run-page : (chosen : ℕ → Bool) (i : Image) (first end : ℕ) → IsRun chosen i.size first end → (v : ℕ) → get (with_absent i.pages first (end - first) zeros) v ≡ page_after (chosen v) i v
 run-page chosen i first end run v = elim (cases_lt v first) [
-  | inl low ↦ absent-out i.pages first (end - first) (zeroed touched_rights) v (inl low) ∙ sym (out chosen i v (run.before v low))
+  | inl low ↦ absent-out i.pages first (end - first) zeros v (inl low) ∙ sym (out (chosen v) i v (run.before v low))
   | inr ge ↦ elim (cases_lt v end) [
-    | inl lt ↦ let is = run.inside v ge lt in by (get i.pages v) refl ge lt ∙ sym (in-run chosen i v is.0 is.1 (get i.pages v) refl)
-    | inr past ↦ absent-out i.pages first (end - first) (zeroed touched_rights) v (inr (omega (arith, past, run.order))) ∙ sym (out chosen i v (run.behind v past))
+    | inl lt ↦ let is = run.inside v ge lt in by (get i.pages v) refl ge lt ∙ sym (in-run (chosen v) i v is.0 is.1 (get i.pages v) refl)
+    | inr past ↦ absent-out i.pages first (end - first) zeros v (inr (omega (arith, past, run.order))) ∙ sym (out (chosen v) i v (run.behind v past))
   ]
 ]
   where
-    by : (o : Option Page) → get i.pages v ≡ o → first ≤ v → v < end → get (with_absent i.pages first (end - first) (zeroed touched_rights)) v ≡ cond (is_some (get i.pages v)) (get i.pages v) (Some (zeroed touched_rights))
-    by None is ge lt = came i.pages first (end - first) (zeroed touched_rights) v ge (omega (arith, ge, lt)) is ∙ sym (ap (λ o. cond (is_some o) o (Some (zeroed touched_rights))) is)
-    by (Some page) is ge lt = kept i.pages first (end - first) (zeroed touched_rights) v (ap is_some is) ∙ is ∙ sym (ap (λ o. cond (is_some o) o (Some (zeroed touched_rights))) is)
+    by : (o : Option Page) → get i.pages v ≡ o → first ≤ v → v < end → get (with_absent i.pages first (end - first) zeros) v ≡ cond (is_some (get i.pages v)) (get i.pages v) (Some zeros)
+    by None is ge lt = came i.pages first (end - first) zeros v ge (omega (arith, ge, lt)) is ∙ sym (ap (λ o. cond (is_some o) o (Some zeros)) is)
+    by (Some page) is ge lt = kept i.pages first (end - first) zeros v (ap is_some is) ∙ is ∙ sym (ap (λ o. cond (is_some o) o (Some zeros)) is)
+
+-- the run of pages that a range has below a size
+pub filled-brought : (ps : List ℕ) (i : Image) (first end : ℕ) → IsRun (λ v. is_among v ps) i.size first end → filled i first (end - first) data_rights ≡ brought ps i
+filled-brought ps i first end run = λ k. record { pages = pages k; size = sym (brought-size ps i) k }
+  where
+    pages : with_absent i.pages first (end - first) zeros ≡ (brought ps i).pages
+    pages = same_map nat_cmp_total nat_cmp-IsAntisymmetric (with_absent i.pages first (end - first) zeros) (brought ps i).pages (λ v. run-page (λ v. is_among v ps) i first end run v ∙ sym (brought-get ps i v))
+
+pub run-of-range : (size a n first end : ℕ) → first ≤ end → ((v : ℕ) → first ≤ v → v < end → (is_among v (pages_at a n) ≡ true) × (4096 * v < size)) → ((v : ℕ) → v < first → 4096 * v < size → is_among v (pages_at a n) ≡ false)
+    → ((v : ℕ) → end ≤ v → 4096 * v < size → is_among v (pages_at a n) ≡ false) → IsRun (λ v. is_among v (pages_at a n)) size first end
+run-of-range size a n first end order inside before behind = record { order = order; inside = inside; before = before; behind = behind }
+
+-- where no page is absent, a touch changes nothing
+pub none-absent : (ps : List ℕ) (i : Image) → ((v : ℕ) → is_absent i v ≡ false) → brought ps i ≡ i
+unfolding brought
+none-absent [] i none = refl
+none-absent (p ∷ ps) i none = ap (bring p) (none-absent ps i none) ∙ ap (λ b. cond b (with_page i p zeros) i) (none p)
+
+-- ---- what is there once all is touched
 
 -- no page of the upper half is there, or comes
 pub record LowPages (i : Image) : Type 0 where
@@ -137,38 +246,22 @@ pub low-pages : (ram : List (List ℕ)) (space : Space) → LowPages (image_of r
 unfolding pages_of
 low-pages ram space = record { none = λ v ge. gathered-get (page_at ram space.root) (2 ^ 26) v ∙ ap (λ b. cond b (page_at ram space.root v) None) (ltb-no v (2 ^ 26) ge) }
 
-pub filled-touched : (chosen : ℕ → Bool) (i : Image) (first end : ℕ) → LowPages i → IsRun chosen i.size first end → filled i first (end - first) touched_rights ≡ touched chosen i
-unfolding touched
-filled-touched chosen i first end low run =
-    ap (λ m. record { pages = m; size = i.size }) (same_map nat_cmp_total nat_cmp-IsAntisymmetric (with_absent i.pages first (end - first) (zeroed touched_rights)) (gathered (touched_page chosen i) (2 ^ 26)) (λ v.
-    (elim (cases_lt v (2 ^ 26)) [
-      | inl lt ↦ run-page chosen i first end run v ∙ sym (ap (λ b. cond b (touched_page chosen i v) None) (ltb-yes v (2 ^ 26) lt))
-      | inr ge ↦ absent-out i.pages first (end - first) (zeroed touched_rights) v (inr (omega (arith, ge, run.few, run.order))) ∙ low.none v ge ∙ sym (ap (λ b. cond b (touched_page chosen i v) None) (ltb-no v (2 ^ 26) ge))
-    ]) ∙ sym (gathered-get (touched_page chosen i) (2 ^ 26) v)))
+pub whole-get : (i : Image) (v : ℕ) → v < 2 ^ 26 → get (whole i).pages v ≡ cond (is_absent i v) (Some zeros) (get i.pages v)
+whole-get i v lt = brought-get all_pages i v ∙ ap (λ b. page_after b i v) (all-have v lt)
 
--- the run of pages that a range spans
-pub run-of-range : (size a n first end : ℕ) → first ≤ end → end ≤ 2 ^ 26 → ((v : ℕ) → first ≤ v → v < end → (spans a n v ≡ true) × (4096 * v < size)) → ((v : ℕ) → v < first → 4096 * v < size → spans a n v ≡ false)
-    → ((v : ℕ) → end ≤ v → 4096 * v < size → spans a n v ≡ false) → IsRun (spans a n) size first end
-run-of-range size a n first end order few inside before behind = record { order = order; few = few; inside = inside; before = before; behind = behind }
+pub whole-past : (i : Image) (v : ℕ) → 2 ^ 26 ≤ v → get (whole i).pages v ≡ get i.pages v
+whole-past i v ge = brought-get all_pages i v ∙ ap (λ b. page_after b i v) (all-end v ge)
 
--- ---- what is there once all is touched
-
--- a page after a touch, by its number
-pub touched-get : (chosen : ℕ → Bool) (i : Image) (v : ℕ) → v < 2 ^ 26 → get (touched chosen i).pages v ≡ touched_page chosen i v
-unfolding touched
-touched-get chosen i v lt = gathered-get (touched_page chosen i) (2 ^ 26) v ∙ ap (λ b. cond b (touched_page chosen i v) None) (ltb-yes v (2 ^ 26) lt)
-
-pub touched-low : (chosen : ℕ → Bool) (i : Image) → LowPages (touched chosen i)
-unfolding touched
-touched-low chosen i = record { none = λ v ge. gathered-get (touched_page chosen i) (2 ^ 26) v ∙ ap (λ b. cond b (touched_page chosen i v) None) (ltb-no v (2 ^ 26) ge) }
+pub whole-low : (i : Image) → LowPages i → LowPages (whole i)
+whole-low i low = record { none = λ v ge. whole-past i v ge ∙ low.none v ge }
 
 -- an absent page allows reading and writing
-pub absent-allows : (i : Image) (v : ℕ) → v < 2 ^ 26 → is_absent i v ≡ true → Some touched_rights ≡ option_map perm_of_page (get (whole i).pages v)
-absent-allows i v lt absent = sym (ap (option_map perm_of_page) (touched-get (λ v. true) i v lt ∙ ap (λ b. cond b (Some (zeroed touched_rights)) (get i.pages v)) absent))
+pub absent-allows : (i : Image) (v : ℕ) → v < 2 ^ 26 → is_absent i v ≡ true → Some data_rights ≡ option_map perm_of_page (get (whole i).pages v)
+absent-allows i v lt absent = sym (ap (option_map perm_of_page) (whole-get i v lt ∙ ap (λ b. cond b (Some zeros) (get i.pages v)) absent))
 
 -- any other page is as it was
 pub other-allows : (i : Image) (v : ℕ) → v < 2 ^ 26 → is_absent i v ≡ false → option_map perm_of_page (get i.pages v) ≡ option_map perm_of_page (get (whole i).pages v)
-other-allows i v lt present = sym (ap (option_map perm_of_page) (touched-get (λ v. true) i v lt ∙ ap (λ b. cond b (Some (zeroed touched_rights)) (get i.pages v)) present))
+other-allows i v lt present = sym (ap (option_map perm_of_page) (whole-get i v lt ∙ ap (λ b. cond b (Some zeros) (get i.pages v)) present))
 
 -- a page that is there is not absent
 pub present-allows : (i : Image) (v : ℕ) (p : Rights) → v < 2 ^ 26 → Some p ≡ option_map perm_of_page (get i.pages v) → Some p ≡ option_map perm_of_page (get (whole i).pages v)
@@ -193,54 +286,37 @@ absent-none i v None is b e = refl
 absent-none i v (Some page) is true e = absurd (false≢true e)
 absent-none i v (Some page) is false e = absurd (false≢true e)
 
-zeros : (n o : ℕ) → slice_index (replicate n 0) o ≡ 0
-zeros zero o = refl
-zeros (suc n) zero = refl
-zeros (suc n) (suc o) = zeros n o
+zero-at : (n o : ℕ) → slice_index (replicate n 0) o ≡ 0
+zero-at zero o = refl
+zero-at (suc n) zero = refl
+zero-at (suc n) (suc o) = zero-at n o
 
 -- a byte of an absent page is 0
-zero-byte : (o : ℕ) → byte_in (Some (zeroed touched_rights)) o ≡ 0
+zero-byte : (o : ℕ) → byte_in (Some zeros) o ≡ 0
 unfolding zero_frame
-zero-byte o = zeros 4096 o
+zero-byte o = zero-at 4096 o
 
 -- and so is a byte that is read where no page is there
-pub whole-byte : (i : Image) (a : ℕ) → LowPages i → image_byte (whole i) a ≡ image_byte i a
-whole-byte i a low = elim (cases_lt (a / 4096) (2 ^ 26)) [
-  | inl lt ↦ ap (λ o. byte_in o (a % 4096)) (touched-get (λ v. true) i (a / 4096) lt) ∙ by (is_absent i (a / 4096)) refl
-  | inr ge ↦ ap (λ o. byte_in o (a % 4096)) ((touched-low (λ v. true) i).none (a / 4096) ge ∙ sym (low.none (a / 4096) ge))
-]
+pub whole-byte : (i : Image) (a : ℕ) → image_byte (whole i) a ≡ image_byte i a
+whole-byte i a = ap (λ o. byte_in o (a % 4096)) (brought-get all_pages i (a / 4096)) ∙ by (is_among (a / 4096) all_pages) (is_absent i (a / 4096)) refl
   where
-    by : (b : Bool) → is_absent i (a / 4096) ≡ b → byte_in (touched_page (λ v. true) i (a / 4096)) (a % 4096) ≡ image_byte i a
-    by true e =
+    by : (chosen b : Bool) → is_absent i (a / 4096) ≡ b → byte_in (page_after chosen i (a / 4096)) (a % 4096) ≡ image_byte i a
+    by true true e =
         let none : get i.pages (a / 4096) ≡ None = absent-none i (a / 4096) (get i.pages (a / 4096)) refl (ltb (4096 * (a / 4096)) i.size) e in
-        ap (λ b. byte_in (cond b (Some (zeroed touched_rights)) (get i.pages (a / 4096))) (a % 4096)) e ∙ zero-byte (a % 4096) ∙ sym (ap (λ o. byte_in o (a % 4096)) none)
-    by false e = ap (λ b. byte_in (cond b (Some (zeroed touched_rights)) (get i.pages (a / 4096))) (a % 4096)) e
+        ap (λ b. byte_in (cond b (Some zeros) (get i.pages (a / 4096))) (a % 4096)) e ∙ zero-byte (a % 4096) ∙ sym (ap (λ o. byte_in o (a % 4096)) none)
+    by true false e = ap (λ b. byte_in (cond b (Some zeros) (get i.pages (a / 4096))) (a % 4096)) e
+    by false b e = refl
 
-pub whole-bytes : (i : Image) (a n : ℕ) → LowPages i → image_bytes (whole i) a n ≡ image_bytes i a n
-whole-bytes i a zero low = refl
-whole-bytes i a (suc n) low = λ k. whole-byte i a low k ∷ whole-bytes i (a + 1) n low k
+pub whole-bytes : (i : Image) (a n : ℕ) → image_bytes (whole i) a n ≡ image_bytes i a n
+whole-bytes i a zero = refl
+whole-bytes i a (suc n) = λ k. whole-byte i a k ∷ whole-bytes i (a + 1) n k
 
 -- a page that is there stays
-pub whole-there : (i : Image) (v : ℕ) (page : Page) → LowPages i → get i.pages v ≡ Some page → get (whole i).pages v ≡ Some page
-whole-there i v page low is = elim (cases_lt v (2 ^ 26)) [
-  | inl lt ↦ touched-get (λ v. true) i v lt ∙ ap (λ o. cond (ltb (4096 * v) i.size && not (is_some o)) (Some (zeroed touched_rights)) o) is ∙ both (ltb (4096 * v) i.size)
-  | inr ge ↦ let w : None ≡ Some page = sym (low.none v ge) ∙ is in absurd (cc)
-]
+pub whole-there : (i : Image) (v : ℕ) (page : Page) → get i.pages v ≡ Some page → get (whole i).pages v ≡ Some page
+whole-there i v page is =
+    brought-get all_pages i v ∙ ap (λ o. cond (is_among v all_pages && (ltb (4096 * v) i.size && not (is_some o))) (Some zeros) o) is ∙ both (is_among v all_pages) (ltb (4096 * v) i.size)
   where
-    both : (b : Bool) → cond (b && false) (Some (zeroed touched_rights)) (Some page) ≡ Some page
-    both true = refl
-    both false = refl
-
--- where no page is absent, a touch changes nothing
-pub none-absent : (chosen : ℕ → Bool) (i : Image) → LowPages i → ((v : ℕ) → is_absent i v ≡ false) → touched chosen i ≡ i
-unfolding touched
-none-absent chosen i low none =
-    ap (λ m. record { pages = m; size = i.size }) (same_map nat_cmp_total nat_cmp-IsAntisymmetric (gathered (touched_page chosen i) (2 ^ 26)) i.pages (λ v.
-    gathered-get (touched_page chosen i) (2 ^ 26) v ∙ (elim (cases_lt v (2 ^ 26)) [
-      | inl lt ↦ ap (λ b. cond b (touched_page chosen i v) None) (ltb-yes v (2 ^ 26) lt) ∙ ap (λ b. cond (chosen v && b) (Some (zeroed touched_rights)) (get i.pages v)) (none v) ∙ both (chosen v) (get i.pages v)
-      | inr ge ↦ ap (λ b. cond b (touched_page chosen i v) None) (ltb-no v (2 ^ 26) ge) ∙ sym (low.none v ge)
-    ])))
-  where
-    both : (b : Bool) (o : Option Page) → cond (b && false) (Some (zeroed touched_rights)) o ≡ o
-    both true o = refl
-    both false o = refl
+    both : (b c : Bool) → cond (b && (c && false)) (Some zeros) (Some page) ≡ Some page
+    both true true = refl
+    both true false = refl
+    both false c = refl

@@ -1,6 +1,7 @@
 -- Frames that go between the pool and a holder.
 use Rattle.std.proofs.Common.{◌≡◌, ◌≢◌, ℕ, zero, suc, ◌+◌, ◌^◌, ◌<◌, ◌≤◌, min, List, length, Option, Some, None, inl, inr, sym, ◌∙◌, arith}
 use Rattle.std.proofs.lemmas.Bool.{cases_lt}
+use Rattle.xk_base.specs.declared.limits.TheConstants.{SIZE_LIMIT}
 use Rattle.xk_base.specs.Frames.{copies}
 use Rattle.xk_base.proofs.Frames.{at-other, copies-nil, copies-one, length-once}
 use Rattle.xk_base.specs.declared.access.Rights.{Rights}
@@ -52,18 +53,18 @@ belongs-made pool pool' ram ram' space good made = record { good = made.traded.g
 pub few : (ram : List (List ℕ)) (root : ℕ) → IsTree ram root → length (owned ram root) ≤ length ram
 few ram root tree = length-once (length ram) (owned ram root) tree.once
 
--- the size plays no part
-pub belongs-resized : (pool : Pool) (ram : List (List ℕ)) (space : Space) (size : ℕ) → Belongs pool ram space → Belongs pool ram (record space { size = size })
-belongs-resized pool ram space size b = record {
+-- another size within the limit plays no part
+pub belongs-resized : (pool : Pool) (ram : List (List ℕ)) (space : Space) (size : ℕ) → size ≤ SIZE_LIMIT → Belongs pool ram space → Belongs pool ram (record space { size = size })
+belongs-resized pool ram space size limit b = record {
   good = b.good;
-  whole = record { tree = b.whole.tree; full = b.whole.full; leaves = b.whole.leaves; pages = b.whole.pages; tables = b.whole.tables; ends = b.whole.ends };
+  whole = record { tree = b.whole.tree; full = b.whole.full; leaves = b.whole.leaves; pages = b.whole.pages; tables = b.whole.tables; ends = b.whole.ends; size = limit };
   apart = b.apart;
 }
 
 -- a space without pages from a number on may end there
-pub belongs-ended : (pool : Pool) (ram : List (List ℕ)) (space : Space) (first size end : ℕ) → end ≡ min space.end first → Belongs pool ram space → ((u : ℕ) → first ≤ u → u < 67108864 → frame_of (page_entry ram space.root u) ≡ None)
+pub belongs-ended : (pool : Pool) (ram : List (List ℕ)) (space : Space) (first size end : ℕ) → end ≡ min space.end first → size ≤ SIZE_LIMIT → Belongs pool ram space → ((u : ℕ) → first ≤ u → u < 67108864 → frame_of (page_entry ram space.root u) ≡ None)
     → Belongs pool ram (record space { size = size; end = end })
-belongs-ended pool ram space first size end less b none = record {
+belongs-ended pool ram space first size end less limit b none = record {
   good = b.good;
   whole = record {
     tree = b.whole.tree;
@@ -72,6 +73,7 @@ belongs-ended pool ram space first size end less b none = record {
     pages = b.whole.pages;
     tables = b.whole.tables;
     ends = λ v ge lt. elim (cases_lt v first) [ inl below ↦ b.whole.ends v (omega (arith, ge, below, less)) lt | inr above ↦ none v above lt ];
+    size = limit;
   };
   apart = b.apart;
 }

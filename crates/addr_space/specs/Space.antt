@@ -1,5 +1,6 @@
 -- An address space in RAM: when it is whole, the image that it stands for, the frames that it owns, and what a call on it keeps.
 use Rattle.std.specs.Prelude.{◌≡◌, ℕ, ◌+◌, ◌*◌, ◌^◌, ◌≤◌, ◌<◌, true, List, [], Some, None, length}
+use Rattle.xk_base.specs.declared.limits.TheConstants.{SIZE_LIMIT}
 use Rattle.xk_base.specs.Frames.{copies}
 use Rattle.xk_base.specs.Image.{Image}
 use Rattle.phys_ram.specs.Ram.{frame_at}
@@ -34,7 +35,7 @@ Usual Invalid = Unit {0}
 Usual (Table f) = ⊥
 Usual (Leaf f p a d) = (a ≡ true) × (d ≡ true)
 
--- the tables are a tree in which no table is empty, its last entries are as the kernel writes them, the counts of pages and tables are right, and all pages lie below the end
+-- the tables are a tree in which no table is empty, its last entries are as the kernel writes them, the counts of pages and tables are right, all pages lie below the end, and the size is within the limit
 pub record IsSpace (ram : List (List ℕ)) (space : Space) : Type 0 where
   pub tree : IsTree ram space.root
   pub full : NoneEmpty ram space.root
@@ -42,6 +43,7 @@ pub record IsSpace (ram : List (List ℕ)) (space : Space) : Type 0 where
   pub pages : space.pages ≡ length (page_frames ram space.root)
   pub tables : space.tables ≡ 1 + (length (uppers ram space.root) + length (lowers ram space.root))
   pub ends : (v : ℕ) → space.end ≤ v → v < 2 ^ 26 → frame_of (page_entry ram space.root v) ≡ None
+  pub size : space.size ≤ SIZE_LIMIT
 
 -- ---- a space and the free frames
 

@@ -3,6 +3,7 @@
 
 ghost use Rattle.std.specs.Prelude.{◌≡◌, ℕ, ◌+◌, ◌-◌, ◌*◌, ◌/◌, ◌^◌, ◌≤◌, ◌<◌, ◌&&◌, true, false, None, Some, List, length, nat_lt, option_map, IfOk, IfErr};
 ghost use Rattle.std.specs.FinMap.{get};
+ghost use Rattle.xk_base.specs.Access.{data_rights};
 ghost use Rattle.xk_base.specs.declared.access.Rights.{Rights};
 ghost use Rattle.xk_base.specs.declared.limits.TheConstants.{SIZE_LIMIT};
 ghost use Rattle.xk_base.specs.Image.{price};
@@ -10,7 +11,7 @@ ghost use Rattle.frame_list.specs.declared.Pool.{Pool};
 ghost use Rattle.frame_list.specs.Pool.{free_in};
 ghost use Rattle.sv39_core.specs.Sv39.{page_entry};
 ghost use Rattle.sv39_core.specs.Tree.{frame_of};
-ghost use Rattle.addr_space.specs.Absent.{is_absent, grown_lazily, spans, touched, touched_rights, whole};
+ghost use Rattle.addr_space.specs.Absent.{is_absent, is_among, grown_lazily, pages_at, brought, whole};
 ghost use Rattle.addr_space.specs.Changes.{filled, perm_of_page};
 ghost use Rattle.addr_space.specs.Space.{image_of, frames_of, Belongs, Changed, Unchanged, IsSpace, SparesOthers};
 ghost use Rattle.addr_space.specs.Translations.{TranslationsStay};
@@ -33,9 +34,9 @@ fn pages_below(size: u64, address: u64, len: usize) -> Pages
     requires limit { size ≤ SIZE_LIMIT }
     ensures order { result.first ≤ result.end }
     ensures few { result.end ≤ 2 ^ 26 }
-    ensures inside { (v : ℕ) → result.first ≤ v → v < result.end → (spans address len v ≡ true) × (4096 * v < size) }
-    ensures before { (v : ℕ) → v < result.first → 4096 * v < size → spans address len v ≡ false }
-    ensures behind { (v : ℕ) → result.end ≤ v → 4096 * v < size → spans address len v ≡ false }
+    ensures inside { (v : ℕ) → result.first ≤ v → v < result.end → (is_among v (pages_at address len) ≡ true) × (4096 * v < size) }
+    ensures before { (v : ℕ) → v < result.first → 4096 * v < size → is_among v (pages_at address len) ≡ false }
+    ensures behind { (v : ℕ) → result.end ≤ v → 4096 * v < size → is_among v (pages_at address len) ≡ false }
 {
     let top = (size + 4095) / 4096 * 4096;
     if address >= top || len == 0 {
@@ -50,7 +51,7 @@ fn pages_below(size: u64, address: u64, len: usize) -> Pages
 
 /// What a page allows that comes by a touch.
 fn touched_rights() -> Perm
-    ensures { result ≡ touched_rights }
+    ensures { result ≡ data_rights }
 {
     Perm::new(Rights {
         read: true,
@@ -195,8 +196,7 @@ impl Space {
     /// How many frames a [`touch`](Space::touch) of so many bytes from an address on takes.
     pub fn touch_price(&self, ram: &Ram, address: u64, len: usize) -> u32
         requires whole { IsSpace ram.now self.now }
-        requires limit { self.now.size ≤ SIZE_LIMIT }
-        ensures { price (touched (spans address len) (image_of ram.now self.now)) ≡ price (image_of ram.now self.now) + result }
+        ensures { price (brought (pages_at address len) (image_of ram.now self.now)) ≡ price (image_of ram.now self.now) + result }
     {
         let pages = pages_below(self.size, address, len);
         self.price_between(ram, pages.first, pages.end)
@@ -217,15 +217,14 @@ impl Space {
         len: usize,
     ) -> Result<(), NoFrames>
         requires belongs { Belongs pool.old ram.old self.old }
-        requires limit { self.old.size ≤ SIZE_LIMIT }
         ensures changed { IfOk result (λ _. Changed pool.old ram.old self.old pool.new ram.new self.new) }
         ensures belongs { IfOk result (λ _. Belongs pool.new ram.new self.new) }
         ensures size { self.new.size ≡ self.old.size }
-        ensures image { IfOk result (λ _. image_of ram.new self.new ≡ touched (spans address len) (image_of ram.old self.old)) }
+        ensures image { IfOk result (λ _. image_of ram.new self.new ≡ brought (pages_at address len) (image_of ram.old self.old)) }
         ensures translations { IfOk result (λ _. TranslationsStay ram.old ram.new self.old.root) }
         ensures others { IfOk result (λ _. SparesOthers pool.old ram.old (frames_of ram.old self.old) ram.new) }
-        ensures fits { IfOk result (λ _. price (touched (spans address len) (image_of ram.old self.old)) ≤ price (image_of ram.old self.old) + length (free_in pool.old ram.old)) }
-        ensures refused { IfErr result (λ _. (price (image_of ram.old self.old) + length (free_in pool.old ram.old) < price (touched (spans address len) (image_of ram.old self.old))) × Unchanged pool.old ram.old self.old pool.new ram.new self.new) }
+        ensures fits { IfOk result (λ _. price (brought (pages_at address len) (image_of ram.old self.old)) ≤ price (image_of ram.old self.old) + length (free_in pool.old ram.old)) }
+        ensures refused { IfErr result (λ _. (price (image_of ram.old self.old) + length (free_in pool.old ram.old) < price (brought (pages_at address len) (image_of ram.old self.old))) × Unchanged pool.old ram.old self.old pool.new ram.new self.new) }
     {
         let pages = pages_below(self.size, address, len);
         self.fill(pool, ram, pages.first, pages.end, touched_rights())

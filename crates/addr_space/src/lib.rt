@@ -558,7 +558,6 @@ impl Space {
     pub fn shrink(&mut self, pool: &mut Pool, ram: &mut Ram, size: u64)
         requires belongs { Belongs pool.old ram.old self.old }
         requires less { size ≤ self.old.size }
-        requires limit { size ≤ SIZE_LIMIT }
         ensures changed { Changed pool.old ram.old self.old pool.new ram.new self.new }
         ensures belongs { Belongs pool.new ram.new self.new }
         ensures image { image_of ram.new self.new ≡ shrunk (image_of ram.old self.old) size }

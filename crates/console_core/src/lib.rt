@@ -9,4 +9,4 @@ mod keys;
 mod rings;
 
 pub use keys::Echo;
-pub use rings::{Console, Pull};
+pub use rings::{Console, ConsoleList, Pull};

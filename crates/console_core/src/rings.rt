@@ -2,7 +2,7 @@
 ghost use Rattle.std.specs.Prelude.{◌≡◌, ◌==◌, false, ◌+◌, ◌-◌, ◌<◌, ◌≤◌, ◌∷◌, ◌++◌, [], min, IfOk, IfErr, IfSome, length, take, drop, slice_get};
 ghost use Rattle.xk_base.specs.declared.limits.TheConstants.{CONSOLE_BYTES, SEND_BYTES};
 ghost use Rattle.xk_base.specs.declared.errors.BootError.TheVariants.{Memory};
-ghost use Rattle.console_core.specs.Lists.{IsWithinLimits, empty_console, held_bytes};
+ghost use Rattle.console_core.specs.Lists.{IsWithinLimits, empty_console, held_bytes, list_of};
 ghost use Rattle.console_core.specs.Keys.{ends_line, line, line_by, with_byte};
 ghost use Rattle.console_core.specs.Reads.{line_length, pulled};
 ghost use Rattle.console_core.specs.declared.keys.Key.TheVariants.{Erase, Kill};
@@ -21,6 +21,17 @@ pub struct Pull {
     pub taken: usize,
     /// Whether the read is over. If not, it waits until more bytes are committed.
     pub ended: bool,
+}
+
+/// One of a console's three lists of bytes, each from the oldest byte on.
+#[derive(Clone, Copy, Debug, PartialEq, Eq)]
+pub enum ConsoleList {
+    /// Bytes typed that a read may take.
+    Committed,
+    /// Bytes typed that may still be taken back.
+    Uncommitted,
+    /// Bytes written that wait to be sent.
+    ToSend,
 }
 
 /// A console.
@@ -79,6 +90,17 @@ impl Console {
         ensures limits { IsWithinLimits self.now }
     {
         SEND_BYTES - self.to_send.len()
+    }
+
+    /// The byte at a place of one of the lists: 0 is the oldest. `None` where the list is shorter.
+    pub fn byte_of(&self, list: ConsoleList, place: usize) -> Option<u8>
+        ensures { result ≡ slice_get (list_of list self.now) place }
+    {
+        match list {
+            ConsoleList::Committed => self.committed.get(place).copied(),
+            ConsoleList::Uncommitted => self.uncommitted.get(place).copied(),
+            ConsoleList::ToSend => self.to_send.get(place).copied(),
+        }
     }
 
     /// Takes out the first byte to send, if there is one.

@@ -14,12 +14,21 @@ use Rattle.xk_base.proofs.Words.{length-le_bytes}
 use Rattle.xk_base.specs.ProgramFile.{page_up, Fit}
 use Rattle.xk_base.specs.Image.{Image, page_count, no_pages, price}
 use Rattle.xk_base.specs.Bytes.{HasPage, write_image}
-use Rattle.xk_base.specs.Loaded.{over, zeros, page_by, image_by, end_after, perm_at, file_bytes, segments_over, down, text_places, lowest, stack_pointer, pointers, texts_over, stack_over, guard, stack, page_perm, program_image}
+use Rattle.xk_base.specs.Loaded.{over, zeros, page_by, image_by, end_after, perm_at, file_bytes, segments_over, down, text_places, lowest, stack_pointer, pointers, texts_over, stack_over, guard, page_perm, program_image}
 use Rattle.sv39_core.proofs.Words.{eqb-yes, eqb-no}
 use Rattle.addr_space.specs.Changes.{grown}
-use Rattle.exec_core.specs.Building.{with_segment, with_segments, protected_in, with_stack, with_texts, with_first_stack, built, price_first}
+use Rattle.exec_core.specs.Building.{with_segment, with_segments, protected_in, with_stack, with_texts, price_first}
 use Rattle.exec_core.proofs.Images.{cond-lt, cond-ge, get-image_by, image-same, perm_grown, grown-by, without_user, perm_protected, protected-by, over-above, written-by}
 use Rattle.exec_core.proofs.Prices.{price-by}
+use Rattle.xk_base.specs.Access.{data_rights}
+
+-- the image with the first stack
+abbrev pub with_first_stack : Image → ℕ → List (List ℕ) → Image
+with_first_stack image top texts = write_image (with_texts image top texts) (stack_pointer top texts) (pointers top texts)
+
+-- the whole image, where the guard page is page v
+abbrev pub built : List ℕ → List Segment → ℕ → List (List ℕ) → Image
+built file segments v texts = with_first_stack (with_stack (with_segments file no_pages segments) v) (4096 * (v + 2)) texts
 
 -- ---- images whose pages up to the end are all there
 
@@ -128,25 +137,25 @@ no-image = refl
 -- ---- the guard page and the stack page
 
 same-page : (segments : List Segment) (n v u : ℕ) → v ≡ page_count n → u < v + 2
-    → perm_protected v (perm_grown (page_count n) (perms_after 0 (λ w. None) segments) stack) u ≡ page_perm segments (4096 * v) u
+    → perm_protected v (perm_grown (page_count n) (perms_after 0 (λ w. None) segments) data_rights) u ≡ page_perm segments (4096 * v) u
 same-page segments n v u is lt =
-    let grown_perm = perm_grown (page_count n) (perms_after 0 (λ w. None) segments) stack in
+    let grown_perm = perm_grown (page_count n) (perms_after 0 (λ w. None) segments) data_rights in
     elim (cases_eq u v) [
       | inl here ↦
           ap (λ b. cond b (option_map without_user (grown_perm u)) (grown_perm u)) (eqb-yes u v here)
-          ∙ ap (option_map without_user) (cond-ge u (page_count n) (perms_after 0 (λ w. None) segments u) (Some stack) (omega (arith, here, is)))
-          ∙ sym (ap (λ b. cond b (Some guard) (cond (eqb (4096 * u) (4096 * v + 4096)) (Some stack) (perm_at segments u))) (eqb-yes (4096 * u) (4096 * v) (omega (arith, here))))
+          ∙ ap (option_map without_user) (cond-ge u (page_count n) (perms_after 0 (λ w. None) segments u) (Some data_rights) (omega (arith, here, is)))
+          ∙ sym (ap (λ b. cond b (Some guard) (cond (eqb (4096 * u) (4096 * v + 4096)) (Some data_rights) (perm_at segments u))) (eqb-yes (4096 * u) (4096 * v) (omega (arith, here))))
       | inr other ↦
           ap (λ b. cond b (option_map without_user (grown_perm u)) (grown_perm u)) (eqb-no u v other)
           ∙ (elim (cases_lt u (page_count n)) [
             | inl low ↦
-                cond-lt u (page_count n) (perms_after 0 (λ w. None) segments u) (Some stack) low ∙ cond-ge u (page_count 0) None (perm_at segments u) (omega arith)
-                ∙ sym (ap (λ b. cond b (Some stack) (perm_at segments u)) (eqb-no (4096 * u) (4096 * v + 4096) (λ e. omega (arith, e, low, is))))
+                cond-lt u (page_count n) (perms_after 0 (λ w. None) segments u) (Some data_rights) low ∙ cond-ge u (page_count 0) None (perm_at segments u) (omega arith)
+                ∙ sym (ap (λ b. cond b (Some data_rights) (perm_at segments u)) (eqb-no (4096 * u) (4096 * v + 4096) (λ e. omega (arith, e, low, is))))
             | inr high ↦
-                cond-ge u (page_count n) (perms_after 0 (λ w. None) segments u) (Some stack) high
-                ∙ sym (ap (λ b. cond b (Some stack) (perm_at segments u)) (eqb-yes (4096 * u) (4096 * v + 4096) (omega (arith, high, other, lt, is))))
+                cond-ge u (page_count n) (perms_after 0 (λ w. None) segments u) (Some data_rights) high
+                ∙ sym (ap (λ b. cond b (Some data_rights) (perm_at segments u)) (eqb-yes (4096 * u) (4096 * v + 4096) (omega (arith, high, other, lt, is))))
           ])
-          ∙ sym (ap (λ b. cond b (Some guard) (cond (eqb (4096 * u) (4096 * v + 4096)) (Some stack) (perm_at segments u))) (eqb-no (4096 * u) (4096 * v) (λ e. other (omega (arith, e)))))
+          ∙ sym (ap (λ b. cond b (Some guard) (cond (eqb (4096 * u) (4096 * v + 4096)) (Some data_rights) (perm_at segments u))) (eqb-no (4096 * u) (4096 * v) (λ e. other (omega (arith, e)))))
     ]
 
 pages-of : (v : ℕ) → page_count (4096 * (v + 2)) ≡ v + 2
@@ -165,9 +174,9 @@ laid-protected image n w perm byte h lt = record {
 pub laid-stack : (image : Image) (segments : List Segment) (n v : ℕ) (byte : ℕ → ℕ) → Laid image n (perms_after 0 (λ w. None) segments) byte → v ≡ page_count n → Laid (with_stack image v) (4096 * (v + 2)) (page_perm segments (4096 * v)) byte
 laid-stack image segments n v byte h is =
     let perm = perms_after 0 (λ w. None) segments in
-    let big = laid-grown image n (4096 * (v + 2)) perm byte stack h (omega (arith, is)) in
-    let kept = laid-protected (grown image (4096 * (v + 2)) stack) (4096 * (v + 2)) v (perm_grown (page_count n) perm stack) byte big (omega arith) in
-    laid-rights (with_stack image v) (4096 * (v + 2)) (perm_protected v (perm_grown (page_count n) perm stack)) (page_perm segments (4096 * v)) byte kept
+    let big = laid-grown image n (4096 * (v + 2)) perm byte data_rights h (omega (arith, is)) in
+    let kept = laid-protected (grown image (4096 * (v + 2)) data_rights) (4096 * (v + 2)) v (perm_grown (page_count n) perm data_rights) byte big (omega arith) in
+    laid-rights (with_stack image v) (4096 * (v + 2)) (perm_protected v (perm_grown (page_count n) perm data_rights)) (page_perm segments (4096 * v)) byte kept
     (λ u lt. same-page segments n v u is (omega (arith, lt)))
 
 -- ---- the first stack

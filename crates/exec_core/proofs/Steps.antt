@@ -11,7 +11,7 @@ use Rattle.xk_base.specs.ProgramFile.{Fit}
 use Rattle.xk_base.specs.Image.{Page, Image, with_page, page_count, no_pages, price}
 use Rattle.xk_base.specs.Bytes.{HasPage, IsMapped, write_image}
 use Rattle.xk_base.proofs.Bytes.{write_image-append, has-write_image}
-use Rattle.xk_base.specs.Loaded.{over, zeros, end_after, file_bytes, down, stack}
+use Rattle.xk_base.specs.Loaded.{over, zeros, end_after, file_bytes, down}
 use Rattle.frame_list.specs.declared.Pool.{Pool}
 use Rattle.frame_list.specs.Pool.{free_in}
 use Rattle.addr_space.specs.declared.Space.{Space}
@@ -25,6 +25,7 @@ use Rattle.exec_core.specs.Building.{with_segment, with_segments, protected_in, 
 use Rattle.exec_core.proofs.Images.{perm_grown}
 use Rattle.exec_core.proofs.Built.{Laid, laid-none, laid-grown, laid-segment, laid-price, laid-has, fit-end, no-image}
 use Rattle.exec_core.proofs.Texts.{lowest_by-le, next-place}
+use Rattle.xk_base.specs.Access.{data_rights}
 
 abbrev image_size : Image → ℕ
 image_size i = i.size
@@ -115,7 +116,7 @@ pub grown-has : (image grew : Image) (size v : ℕ) (perm : Rights) → grew ≡
 grown-has image grew size v perm is lo hi =
     subst (λ i. HasPage i v) (sym is) (some-is (get (grown image size perm).pages v) (absent-in image.pages (page_count image.size) (page_count size - page_count image.size) (record { perm = perm; bytes = _ }) v lo (omega (arith, lo, hi))))
 
-pub stack-is : (image grew last : Image) (v : ℕ) (page : Page) → grew ≡ grown image (4096 * (v + 2)) stack → get grew.pages v ≡ Some page → last ≡ with_page grew v (protected page) → last ≡ with_stack image v
+pub stack-is : (image grew last : Image) (v : ℕ) (page : Page) → grew ≡ grown image (4096 * (v + 2)) data_rights → get grew.pages v ≡ Some page → last ≡ with_page grew v (protected page) → last ≡ with_stack image v
 stack-is image grew last v page is there done =
     done ∙ sym (ap (protected_in grew v) there) ∙ ap (λ i. protected_in i v (get i.pages v)) is
 

@@ -5,7 +5,7 @@ use Rattle.xk_base.specs.declared.program.Segment.{Segment}
 use Rattle.xk_base.specs.ProgramFile.{Fit}
 use Rattle.xk_base.specs.Image.{Image, page_count, no_pages, price}
 use Rattle.xk_base.specs.Bytes.{HasPage, write_image}
-use Rattle.xk_base.specs.Loaded.{zeros, end_after, stack, stack_pointer, lowest, text_places, pointers, program_image, Loaded, segments_over, page_perm, texts_over}
+use Rattle.xk_base.specs.Loaded.{zeros, end_after, stack_pointer, lowest, text_places, pointers, program_image, Loaded, segments_over, page_perm, texts_over}
 use Rattle.frame_list.specs.declared.Pool.{Pool}
 use Rattle.frame_list.specs.Pool.{free_in, Good}
 use Rattle.frame_list.proofs.Trades.{trade-join, trade-lengths, free-few}
@@ -19,6 +19,7 @@ use Rattle.exec_core.specs.Building.{with_segments, with_stack, with_texts, pric
 use Rattle.exec_core.specs.Plans.{IsPlan}
 use Rattle.exec_core.proofs.Built.{laid-none, no-image, laid-grown, laid-price, laid-has, laid-texts, all-segments, all-stacked, lowest-le, built-is, built-price}
 use Rattle.exec_core.proofs.Texts.{pointers-is}
+use Rattle.xk_base.specs.Access.{data_rights}
 
 abbrev image_size : Image → ℕ
 image_size i = i.size
@@ -52,14 +53,14 @@ pub mapped-size : (file : List ℕ) (segments : List Segment) (guard : ℕ) (ima
 mapped-size file segments guard image fit behind is = behind ∙ sym (ap (λ i. page_count i.size) (is ∙ (all-segments file segments fit).is))
 
 pub mapped-price : (file : List ℕ) (segments : List Segment) (guard : ℕ) (image : Image) → Fit (length file) 0 segments → guard ≡ page_count (end_after 0 segments) → guard + 2 ≤ 2 ^ 26 → image ≡ with_segments file no_pages segments
-    → price (grown image (4096 * (guard + 2)) stack) ≡ price_first (guard + 2)
+    → price (grown image (4096 * (guard + 2)) data_rights) ≡ price_first (guard + 2)
 mapped-price file segments guard image fit behind limit is =
     let end = end_after 0 segments in
     let laid = all-segments file segments fit in
     let few : page_count (4096 * (guard + 2)) ≡ guard + 2 = omega arith in
-    ap (λ i. price (grown i (4096 * (guard + 2)) stack)) is
-    ∙ laid-price (grown (with_segments file no_pages segments) (4096 * (guard + 2)) stack) (4096 * (guard + 2)) _ (segments_over file segments zeros)
-    (laid-grown (with_segments file no_pages segments) end (4096 * (guard + 2)) _ (segments_over file segments zeros) stack laid (omega (arith, behind))) (omega (arith, limit))
+    ap (λ i. price (grown i (4096 * (guard + 2)) data_rights)) is
+    ∙ laid-price (grown (with_segments file no_pages segments) (4096 * (guard + 2)) data_rights) (4096 * (guard + 2)) _ (segments_over file segments zeros)
+    (laid-grown (with_segments file no_pages segments) end (4096 * (guard + 2)) _ (segments_over file segments zeros) data_rights laid (omega (arith, behind))) (omega (arith, limit))
     ∙ ap price_first few
 
 -- when the stack page is mapped

@@ -4,8 +4,9 @@ use Rattle.std.specs.FinMap.{get}
 use Rattle.xk_base.specs.Image.{Page, Image, with_page, no_pages}
 use Rattle.xk_base.specs.Bytes.{write_image}
 use Rattle.xk_base.specs.declared.program.Segment.{Segment}
-use Rattle.xk_base.specs.Loaded.{file_bytes, stack, down, stack_pointer, pointers}
+use Rattle.xk_base.specs.Loaded.{file_bytes, down}
 use Rattle.addr_space.specs.Changes.{grown, protected}
+use Rattle.xk_base.specs.Access.{data_rights}
 
 -- the image with a segment more
 abbrev pub with_segment : List ℕ → Image → Segment → Image
@@ -21,20 +22,12 @@ protected_in image v (Some page) = with_page image v (protected page)
 
 -- the image with the guard page v, and the stack page behind it
 abbrev pub with_stack : Image → ℕ → Image
-with_stack image v = let mapped = grown image (4096 * (v + 2)) stack in protected_in mapped v (get mapped.pages v)
+with_stack image v = let mapped = grown image (4096 * (v + 2)) data_rights in protected_in mapped v (get mapped.pages v)
 
 -- the image with these texts, each with its zero byte, below an address
 abbrev pub with_texts : Image → ℕ → List (List ℕ) → Image
 with_texts image top [] = image
 with_texts image top (text ∷ later) = let at = down top (length text + 1) in with_texts (write_image image at (text ++ 0 ∷ [])) at later
-
--- the image with the first stack
-abbrev pub with_first_stack : Image → ℕ → List (List ℕ) → Image
-with_first_stack image top texts = write_image (with_texts image top texts) (stack_pointer top texts) (pointers top texts)
-
--- the whole image, where the guard page is page v
-abbrev pub built : List ℕ → List Segment → ℕ → List (List ℕ) → Image
-built file segments v texts = with_first_stack (with_stack (with_segments file no_pages segments) v) (4096 * (v + 2)) texts
 
 -- the price of an image whose pages are those below n
 abbrev pub price_first : ℕ → ℕ

@@ -5,13 +5,14 @@ ghost use Rattle.xk_base.specs.declared.errors.ExecError.TheVariants.{NoFrames};
 ghost use Rattle.xk_base.specs.Image.{price, page_count, no_pages};
 ghost use Rattle.xk_base.specs.Bytes.{HasPage, write_image};
 ghost use Rattle.xk_base.specs.ProgramFile.{Fit};
-ghost use Rattle.xk_base.specs.Loaded.{end_after, stack, lowest, text_places};
+ghost use Rattle.xk_base.specs.Loaded.{end_after, lowest, text_places};
 ghost use Rattle.frame_list.specs.declared.Pool.{Pool};
 ghost use Rattle.frame_list.specs.Pool.{free_in, Good};
 ghost use Rattle.addr_space.specs.Changes.{grown};
 ghost use Rattle.addr_space.specs.Space.{image_of, Belongs, Changed, Made, IsSpace, SparesOthers};
 ghost use Rattle.exec_core.specs.ArgTexts.{texts_of, IsSplit, pointers_by};
 ghost use Rattle.exec_core.specs.Building.{with_segments, with_stack, with_texts, price_first};
+ghost use Rattle.xk_base.specs.Access.{data_rights};
 
 use crate::planning::{Entry, ExecPlan, text_place};
 use addr_space::Space;
@@ -23,7 +24,7 @@ use xk_base::{ExecError, Perm, Rights, Vpn};
 
 /// The rights of the stack page, and of the guard page before it is taken from user code.
 fn stack_perm() -> Perm
-    ensures { result ≡ stack }
+    ensures { result ≡ data_rights }
 {
     Perm::new(Rights {
         read: true,
@@ -71,7 +72,7 @@ fn map_stack(space: &mut Space, pool: &mut Pool, ram: &mut Ram, guard: u64)
     requires belongs { Belongs pool.old ram.old space.old }
     requires behind { guard ≡ page_count (image_of ram.old space.old).size }
     requires limit { 4096 * (guard + 2) ≤ SIZE_LIMIT }
-    requires room { price (grown (image_of ram.old space.old) (4096 * (guard + 2)) stack) ≤ price (image_of ram.old space.old) + length (free_in pool.old ram.old) }
+    requires room { price (grown (image_of ram.old space.old) (4096 * (guard + 2)) data_rights) ≤ price (image_of ram.old space.old) + length (free_in pool.old ram.old) }
     ensures changed { Changed pool.old ram.old space.old pool.new ram.new space.new }
     ensures image { image_of ram.new space.new ≡ with_stack (image_of ram.old space.old) guard }
 {
@@ -149,7 +150,6 @@ pub fn build(
     ensures image { IfOk result (λ r. image_of ram.new r.0 ≡ plan.entry.image) }
     ensures start { IfOk result (λ r. r.1 ≡ record { pc = plan.entry.pc; sp = plan.entry.sp; argc = plan.entry.argc }) }
     ensures others { IfOk result (λ _. SparesOthers pool.old ram.old [] ram.new) }
-    ensures limit { IfOk result (λ _. plan.entry.image.size ≤ SIZE_LIMIT) }
     ensures fits { IfOk result (λ _. price plan.entry.image ≤ length (free_in pool.old ram.old)) }
     ensures refused { IfErr result (λ e. (e ≡ NoFrames) × (length (free_in pool.old ram.old) < price plan.entry.image) × (pool.new ≡ pool.old) × (ram.new ≡ ram.old)) }
 {

@@ -12,5 +12,5 @@ mod table;
 
 pub use descriptors::Descriptors;
 pub use file_id::FileId;
-pub use open_file::{End, Entry, OpenFile, SHARERS_MAX, Target};
+pub use open_file::{End, OpenFile, SHARERS_MAX, Target};
 pub use table::Files;

@@ -34,9 +34,9 @@ pub struct OpenFile {
 
 /// An open file, and how many descriptors name it: from 1 to [`SHARERS_MAX`].
 #[derive(Clone, Copy, Debug, PartialEq, Eq)]
-pub struct Entry {
-    pub file: OpenFile,
-    pub count: u16,
+pub(crate) struct Entry {
+    pub(crate) file: OpenFile,
+    pub(crate) count: u16,
 }
 
 impl OpenFile {

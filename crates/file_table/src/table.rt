@@ -146,8 +146,7 @@ impl Files {
         });
     }
 
-    /// One descriptor more names the open file, which fewer than [`SHARERS_MAX`](crate::SHARERS_MAX)
-    /// name.
+    /// One descriptor more names the open file, which fewer than 4,096 name.
     pub fn share(&mut self, file: FileId)
         requires there { IsOpen self.old file }
         requires room { ForSome (count_at self.old file) (λ count. count < SHARERS_MAX) }

@@ -1,8 +1,8 @@
 -- How the list of free frames changes.
 use Rattle.std.proofs.Common.{◌≡◌, ℕ, zero, suc, ◌+◌, ◌-◌, ◌<◌, ◌≤◌, List, [], ◌∷◌, length, Option, Some, None, refl, sym, ap, ◌∙◌, subst, add-one, arith}
-use Rattle.xk_base.specs.Frames.{copies, SameFrames, Once}
+use Rattle.xk_base.specs.Frames.{copies, Once}
 use Rattle.xk_base.specs.declared.limits.TheConstants.{FRAMES_MAX}
-use Rattle.xk_base.proofs.Frames.{at, at-same, copies-nil, copies-cons, length-once-but, Once-less, Once-more, Once-apart}
+use Rattle.xk_base.proofs.Frames.{at, at-same, copies-nil, copies-cons, length-once-but, Once-less, Once-more, Once-apart, SameFrames}
 use Rattle.phys_ram.specs.Ram.{word_at, OthersStay, WordWritten}
 use Rattle.frame_list.specs.declared.Pool.{Pool}
 use Rattle.frame_list.specs.Pool.{link, next, chain, free_in, IsChain, Good}

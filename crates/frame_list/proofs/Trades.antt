@@ -1,8 +1,8 @@
 -- Frames that go between a pool and an owner.
 use Rattle.std.proofs.Common.{◌≡◌, ◌≢◌, ℕ, ◌+◌, ◌≤◌, List, [], ◌∷◌, ◌++◌, length, refl, sym, ap, ◌∙◌, arith}
 use Rattle.std.proofs.lemmas.List.{length-append}
-use Rattle.xk_base.specs.Frames.{copies, SameFrames}
-use Rattle.xk_base.proofs.Frames.{at, at-same, at-other, copies-nil, copies-one, copies-append, same-cons, length-same, length-once, Once-first}
+use Rattle.xk_base.specs.Frames.{copies}
+use Rattle.xk_base.proofs.Frames.{at, at-same, at-other, copies-nil, copies-one, copies-append, same-cons, length-same, length-once, Once-first, SameFrames}
 use Rattle.phys_ram.specs.Ram.{frame_at, zero_frame, OthersStay}
 use Rattle.frame_list.specs.declared.Pool.{Pool}
 use Rattle.frame_list.specs.Pool.{free_in, Good}

@@ -1,8 +1,4 @@
 pub mod worked
-pub mod rows
-pub mod steps
-pub mod well
-pub mod waking
 pub mod turns
 pub mod runs
 pub mod memory

@@ -1,6 +1,7 @@
 -- The calls on descriptors, files and pipes, as the code goes through them.
 pub mod AllClosed
 pub mod CloseMakes
+pub mod DescriptorsTold
 pub mod DupMakes
 pub mod FileReads
 pub mod OpenRows

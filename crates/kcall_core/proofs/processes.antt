@@ -5,6 +5,7 @@ pub mod ExecSteps
 pub mod ForkMakes
 pub mod FreeSlot
 pub mod Handed
+pub mod HandedDown
 pub mod Handing
 pub mod KillMakes
 pub mod SbrkRow

@@ -11,5 +11,6 @@ pub mod OthersWake
 pub mod Starting
 pub mod States
 pub mod Stops
+pub mod Told
 pub mod Woken
 pub mod Zombies

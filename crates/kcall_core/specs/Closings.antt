@@ -19,14 +19,15 @@ use Rattle.proc_table.specs.declared.channel.Channel.TheVariants as on
 use Rattle.proc_table.specs.declared.process.Process.{Process}
 use Rattle.proc_table.specs.declared.process.State as table
 use Rattle.proc_table.specs.declared.process.State.TheVariants.{Live as Live_state, Zombie as Zombie_state}
-use Rattle.kcall_core.specs.PipeEnds.{count_on}
-use Rattle.kcall_core.specs.View.{or_gone}
-use Rattle.kcall_core.specs.Quiet.{end_of}
-use Rattle.kcall_core.specs.Updates.{fewer_on, freed_on, fewer_on_all, freed_on_all, changed_state, with_closed}
-use Rattle.kcall_core.specs.WellFormed.{WellFormed}
+use Rattle.kernel_spec.specs.views.PipeEnds.{count_on}
+use Rattle.kernel_spec.specs.views.View.{or_gone}
+use Rattle.kernel_spec.specs.others.Quiet.{end_of}
+use Rattle.kernel_spec.specs.steps.Updates.{fewer_on, freed_on, fewer_on_all, freed_on_all, changed_state, with_closed}
+use Rattle.kernel_spec.specs.views.WellFormed.{WellFormed}
 use Rattle.kcall_core.specs.Kernel.{frame_count, state_of, IsSound, IsRunning, pid_now, live_now}
 use Rattle.kcall_core.specs.Whole.{AreCounted}
 use Rattle.kcall_core.specs.declared.kernel.Kernel.{Kernel}
+use Rattle.kernel_spec.specs.waking.SleepsOn.{closes_wake}
 
 -- ---- who wakes
 
@@ -34,16 +35,6 @@ use Rattle.kcall_core.specs.declared.kernel.Kernel.{Kernel}
 abbrev pub across : ℕ → End → Channel
 across i Reading = on.Room i
 across i Writing = on.Bytes i
-
--- the last descriptor on an end of a pipe is closed
-abbrev pub last_closes : (before after : ℕ) → Bool
-last_closes before after = not (nat_eq before 0) && nat_eq after 0
-
--- readers wake where nobody is left to write, writers where nobody is left to read: from these pipes to those
-abbrev pub closes_wake : FinMap nat_cmp Pipe → FinMap nat_cmp Pipe → Channel → Bool
-closes_wake m n (on.Bytes i) = last_closes (or_gone (get m i)).writers (or_gone (get n i)).writers
-closes_wake m n (on.Room i) = last_closes (or_gone (get m i)).readers (or_gone (get n i)).readers
-closes_wake m n _ = false
 
 -- what is slept on still, where those wake whose channel is one of these
 abbrev pub unless_woken : (Channel → Bool) → Option Channel → Option Channel

@@ -1,4 +1,4 @@
--- A process is made: its slot, its memory and its descriptors, one after another.
+-- A process is made: its slot and its memory.
 use Rattle.std.specs.Prelude.{◌≡◌, ◌≢◌, ℕ, ◌+◌, ◌<◌, ◌⊎◌, if◌then◌else◌, nat_lt, None, Some, length, set}
 use Rattle.xk_base.specs.declared.limits.TheConstants.{NPROC}
 use Rattle.xk_base.specs.Image.{price}
@@ -8,7 +8,7 @@ use Rattle.file_table.specs.Named.{named_by}
 use Rattle.file_table.specs.OpenFiles as files
 use Rattle.file_table.specs.OpenFiles.{open_file_at}
 use Rattle.proc_table.specs.Slots.{descriptors_at, slot_for_new, with_new}
-use Rattle.kcall_core.specs.Updates.{more_on_all}
+use Rattle.kernel_spec.specs.steps.Updates.{more_on_all}
 use Rattle.kcall_core.specs.Holdings.{held_at, with_saved}
 use Rattle.kcall_core.specs.Memories.{each_of, pipes_of, free_of, SlotChanges, Same}
 use Rattle.kcall_core.specs.Kernel.{state_of, IsSound, slot_now, pid_now, live_now}
@@ -29,18 +29,3 @@ pub record IsBarren (k k' : Kernel) : Type 0 where
   pub why : (slot_for_new k.table ≡ None) ⊎ (free_of k.memories < price (held_at (each_of k.memories) (slot_now k)).image + 1)
   pub same : Same k.memories k'.memories
   pub rest : k' ≡ record k { memories = k'.memories }
-
--- the child in a slot has the first n descriptors of the process that runs
-pub record IsHanded (k : Kernel) (h : Hart) (child n : ℕ) (k' : Kernel) : Type 0 where
-  pub sound : IsSound k' h
-  pub rest : k' ≡ record k { table = k'.table; files = k'.files; memories = k'.memories }
-  pub table : k'.table ≡ record (with_new child (Some (pid_now k)) k.table) { descriptors = k'.table.descriptors }
-  pub files : files.IsTable k'.files
-  pub counted : AreCounted k'.files k'.table
-  pub same : (f : ℕ) → open_file_at k'.files f ≡ open_file_at k.files f
-  pub others : (j : ℕ) → j ≢ child → descriptors_at k'.table j ≡ descriptors_at k.table j
-  pub given : (d : ℕ) → named_by (descriptors_at k'.table child) d ≡ (if nat_lt d n then named_by (descriptors_at k.table (slot_now k)) d else None)
-  pub each : each_of k'.memories ≡ set (each_of k.memories) child (Some (with_saved (fresh 0) (held_at (each_of k.memories) (slot_now k))))
-  pub pipes : pipes_of k'.memories ≡ more_on_all (state_of k h) (live_now k h) n
-  pub free : free_of k'.memories + (price (live_now k h).image + 1) ≡ free_of k.memories
-  pub frames : length k'.memories.ram ≡ length k.memories.ram

@@ -2,6 +2,7 @@
 use Rattle.std.specs.Prelude.{◌≡◌, ℕ, ◌+◌, ◌/◌, ◌%◌, ◌<◌, List, Option, Some, None, IsSome, length, get_or, option_map, slice_index}
 use Rattle.std.specs.Ordering.{nat_cmp}
 use Rattle.std.specs.FinMap.{FinMap, get, insert, remove}
+use Rattle.xk_base.specs.declared.access.Rights.{Rights}
 use Rattle.xk_base.specs.Image.{Page, Image, price, no_pages}
 use Rattle.rv64i_core.specs.Registers.{Registers, fresh}
 use Rattle.pipe_core.specs.Pipe.{Pipe, new_pipe}
@@ -64,3 +65,7 @@ with_pipe f (Some pipe) pipes = insert pipes f pipe
 -- the byte of an image at an address, whatever its page allows; none where there is no page
 abbrev pub byte_of : Image → ℕ → Option ℕ
 byte_of image va = option_map (λ (page : Page). slice_index page.bytes (va % 4096)) (get image.pages (va / 4096))
+
+-- what a page of an image allows; none where it isn't there
+abbrev pub rights_of : Image → ℕ → Option Rights
+rights_of image vpn = option_map (λ (page : Page). page.perm) (get image.pages vpn)

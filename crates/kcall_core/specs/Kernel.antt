@@ -12,13 +12,13 @@ use Rattle.file_table.specs.OpenFiles.{open_file_at}
 use Rattle.proc_table.specs.Processes.{status_of, is_marked, call_of, newborn}
 use Rattle.proc_table.specs.Slots.{place_at, descriptors_at, IsTable}
 use Rattle.proc_table.specs.declared.process.Process.{Process}
-use Rattle.kcall_core.specs.Words.{is_this, or_zero}
-use Rattle.kcall_core.specs.Buffers.{grown, shrunk}
-use Rattle.kcall_core.specs.Processes as meaning
-use Rattle.kcall_core.specs.Processes.{Live, Alive, Zombie}
-use Rattle.kcall_core.specs.State.{State, named_file}
-use Rattle.kcall_core.specs.Updates.{set_live}
-use Rattle.kcall_core.specs.ByPid.{by_pid}
+use Rattle.kernel_spec.specs.views.Words.{is_this, or_zero}
+use Rattle.kernel_spec.specs.rows.Buffers.{grown, shrunk}
+use Rattle.kernel_spec.specs.views.Processes as meaning
+use Rattle.kernel_spec.specs.views.Processes.{Live, Alive, Zombie}
+use Rattle.kernel_spec.specs.views.State.{State, named_file}
+use Rattle.kernel_spec.specs.steps.Updates.{set_live}
+use Rattle.kernel_spec.specs.views.ByPid.{by_pid}
 use Rattle.kcall_core.specs.Holdings.{Held, held_at, HasMemory}
 use Rattle.kcall_core.specs.Memories as memories
 use Rattle.kcall_core.specs.Memories.{each_of, pipes_of, free_of, RunsIn}
@@ -142,20 +142,6 @@ pub record IsRepriced (s : State) (before after : Image) (u t : State) : Type 0 
   pub free : t.free + price after ≡ s.free + price before
 
 -- ---- sbrk and sbrklazy
-
--- the size after n bytes more, or fewer; none below 0 or above the limit
-abbrev pub resized : ℕ → ℤ → Option ℕ
-resized size (pos n) = if nat_le (size + n) SIZE_LIMIT then Some (size + n) else None
-resized size (negsuc k) = if nat_lt k size then Some (size - suc k) else None
-
--- the size after n bytes more; none where they are fewer, or where it is above the limit
-abbrev pub resized_lazily : ℕ → ℤ → Option ℕ
-resized_lazily size (pos n) = if nat_le (size + n) SIZE_LIMIT then Some (size + n) else None
-resized_lazily size (negsuc k) = None
-
--- the image at another size
-abbrev pub at_size : Image → ℕ → Image
-at_size image size = if nat_lt size image.size then shrunk image size else grown image size
 
 -- the image that comes after costs more than the one before and the free frames
 abbrev pub IsTooDear : Kernel → Image → Image → Type 0

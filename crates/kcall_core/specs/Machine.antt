@@ -8,9 +8,9 @@ use Rattle.hart_core.specs.declared.hart.Hart.{Hart}
 use Rattle.proc_table.specs.Processes.{channel_of}
 use Rattle.proc_table.specs.Slots.{Slots, place_at}
 use Rattle.proc_table.specs.declared.process.Process.{Process}
-use Rattle.kcall_core.specs.ByPid.{by_pid}
-use Rattle.kcall_core.specs.Turns.{Turns}
-use Rattle.kcall_core.specs.Run.{World}
+use Rattle.kernel_spec.specs.views.ByPid.{by_pid}
+use Rattle.kernel_spec.specs.waking.Turns.{Turns}
+use Rattle.kernel_spec.specs.runs.Run.{World}
 use Rattle.kcall_core.specs.Kernel.{state_of, pid_now}
 use Rattle.kcall_core.specs.declared.kernel.Kernel.{Kernel}
 

@@ -5,14 +5,14 @@ use Rattle.rv64i_core.specs.Step.{stop_of}
 use Rattle.rv64i_core.specs.declared.execution.Stop.{Stop}
 use Rattle.rv64i_core.specs.declared.execution.Stop.TheVariants.{Next, Ecall, Fault}
 use Rattle.hart_core.specs.declared.hart.Hart.{Hart}
-use Rattle.kcall_core.specs.Touches.{instruction_now}
-use Rattle.kcall_core.specs.Processes.{Zombie}
-use Rattle.kcall_core.specs.View.{View, view_of}
-use Rattle.kcall_core.specs.Own.{Own, Answer, Called, Blocked, Exited, gone_with}
-use Rattle.kcall_core.specs.Step.{own}
-use Rattle.kcall_core.specs.RowLaws.{After, IsBetweenCalls}
-use Rattle.kcall_core.specs.Run.{Step_of, TurnsAfter, halts_with}
-use Rattle.kcall_core.specs.Wakes.{WakesWhereDue}
+use Rattle.kernel_spec.specs.rows.Touches.{instruction_now}
+use Rattle.kernel_spec.specs.views.Processes.{Zombie}
+use Rattle.kernel_spec.specs.views.View.{View, view_of}
+use Rattle.kernel_spec.specs.steps.Own.{Own, Answer, Called, Blocked, Exited, gone_with}
+use Rattle.kernel_spec.specs.steps.Step.{own}
+use Rattle.kernel_spec.specs.laws.RowLaws.{After, IsBetweenCalls}
+use Rattle.kernel_spec.specs.runs.Run.{Step_of, TurnsAfter, halts_with}
+use Rattle.kernel_spec.specs.waking.Wakes.{WakesWhereDue}
 use Rattle.kcall_core.specs.Kernel.{frame_count, state_of, IsRunning, pid_now, live_now}
 use Rattle.kcall_core.specs.Machine.{turns_of, world_of}
 use Rattle.kcall_core.specs.Whole.{IsWhole}

@@ -4,7 +4,7 @@ use Rattle.std.specs.Ordering.{nat_cmp}
 use Rattle.std.specs.FinMap.{FinMap, get}
 use Rattle.xk_base.specs.Frames.{copies}
 use Rattle.xk_base.specs.Gathered.{gathered}
-use Rattle.xk_base.specs.declared.limits.TheConstants.{NPROC, FRAMES_MAX, SIZE_LIMIT}
+use Rattle.xk_base.specs.declared.limits.TheConstants.{NPROC, FRAMES_MAX}
 use Rattle.frame_list.specs.declared.Pool.{Pool}
 use Rattle.frame_list.specs.Pool.{free_in, Good}
 use Rattle.addr_space.specs.Space as space
@@ -15,12 +15,12 @@ use Rattle.rv64i_core.specs.declared.execution.Stop.{Stop}
 use Rattle.rv64i_core.specs.declared.execution.Stop.TheVariants.{Next, Ecall, Fault}
 use Rattle.hart_core.specs.Trapframe.{saved}
 use Rattle.hart_core.specs.Translations.{Fits}
-use Rattle.hart_core.specs.UserMemory.{user, with_store}
+use Rattle.rv64i_core.specs.UserImage.{user, with_store}
 use Rattle.hart_core.specs.Steps.{last_fault}
 use Rattle.hart_core.specs.declared.hart.Hart.{Hart}
 use Rattle.pipe_core.specs.Pipe.{Pipe, IsPipe, pipe_in}
-use Rattle.kcall_core.specs.Instruction.{next_instruction}
-use Rattle.kcall_core.specs.Words.{count_if}
+use Rattle.kernel_spec.specs.steps.Instruction.{next_instruction}
+use Rattle.kernel_spec.specs.views.Words.{count_if}
 use Rattle.kcall_core.specs.Holdings.{Held, held_at, with_image, held_cost, pipe_cost, with_pipe}
 use Rattle.kcall_core.specs.declared.memories.Memory.{Memory}
 use Rattle.kcall_core.specs.declared.memories.Memories.{Memories}
@@ -72,10 +72,9 @@ process_frames ram each = all_joined (map (slot_frames ram) each)
 abbrev pub owners : Pool → List (List ℕ) → List (Option Memory) → List Bool → ℕ → ℕ
 owners pool ram each pipes f = copies f (free_in pool ram) + copies f (process_frames ram each) + count_if (keeps_pipe pipes f)
 
--- a memory is whole: its space is, its size is within the limit, and its trapframe has a pc that is a multiple of 4
+-- a memory is whole: its space is, and its trapframe has a pc that is a multiple of 4
 pub record IsMemory (ram : List (List ℕ)) (m : Memory) : Type 0 where
   pub space : IsSpace ram m.space
-  pub size : m.space.size ≤ SIZE_LIMIT
   pub aligned : (saved ram m.trapframe).pc % 4 ≡ 0
 
 -- each frame of RAM is free, or has exactly one owner and there exactly one role

@@ -7,15 +7,16 @@ use Rattle.hart_core.specs.declared.hart.Hart.{Hart}
 use Rattle.pipe_core.specs.Pipe.{Pipe}
 use Rattle.file_table.specs.declared.open_file.End.{End}
 use Rattle.file_table.specs.declared.open_file.OpenFile.{OpenFile}
+use Rattle.file_table.specs.declared.open_file.Target.TheVariants.{Console as Terminal}
 use Rattle.proc_table.specs.Channels.{same_channel}
 use Rattle.proc_table.specs.declared.channel.Channel.{Channel}
 use Rattle.proc_table.specs.declared.channel.Channel.TheVariants as on
 use Rattle.proc_table.specs.declared.process.Call.{Call}
-use Rattle.kcall_core.specs.Words.{c_int}
-use Rattle.kcall_core.specs.Buffers.{readable, writable_now}
+use Rattle.kernel_spec.specs.views.Words.{c_int}
+use Rattle.kernel_spec.specs.rows.Buffers.{readable, writable_now}
 use Rattle.kcall_core.specs.Holdings.{held_at, with_image}
 use Rattle.kcall_core.specs.Memories.{each_of, pipes_of, free_of, AreSound, RunsIn}
-use Rattle.kcall_core.specs.RowLaws.{OnPipe, IsBuffer}
+use Rattle.kernel_spec.specs.laws.RowLaws.{OnPipe, IsBuffer}
 use Rattle.kcall_core.specs.Kernel.{state_of, pid_now, live_now}
 use Rattle.kcall_core.specs.declared.kernel.Kernel.{Kernel}
 use Rattle.kcall_core.specs.declared.memories.Memories.{Memories}
@@ -63,3 +64,19 @@ pub record OnFile (k : Kernel) (h : Hart) (c : Call) (file : ℕ) (x : OpenFile)
   pub named_file : get (live_now k h).descriptors fd ≡ Some file
   pub opened : get (state_of k h).files file ≡ Some x
   pub buffer : IsBuffer c is_there n
+
+-- the call reads from the terminal, n bytes at most, and all of its buffer is there
+pub record ReadsTerminal (k : Kernel) (h : Hart) (c : Call) (n : ℕ) : Type 0 where
+  pub file : ℕ
+  pub kind : OpenFile
+  pub on : OnFile k h c file kind (writable_now (live_now k h).image c.a1) n
+  pub reads : kind.read ≡ true
+  pub is : kind.target ≡ Terminal
+
+-- the call writes to the terminal, n bytes in all, and all of its buffer is there
+pub record WritesTerminal (k : Kernel) (h : Hart) (c : Call) (n : ℕ) : Type 0 where
+  pub file : ℕ
+  pub kind : OpenFile
+  pub on : OnFile k h c file kind (readable (live_now k h).image c.a1) n
+  pub writes : kind.write ≡ true
+  pub is : kind.target ≡ Terminal

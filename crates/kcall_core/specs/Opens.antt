@@ -1,36 +1,33 @@
 -- What a process asks to open: the terminal, or a program's file (the xv6 book, "I/O and File descriptors" and "File descriptor layer").
-use Rattle.std.specs.Prelude.{ℕ, ℤ, pos, negsuc, not, nat_eq, nat_lt, if◌then◌else◌, List, Option, None, Some, bytes_eq}
-use Rattle.std.specs.List.{position_from}
+use Rattle.std.specs.Prelude.{ℕ, ◌==◌, ℤ, pos, negsuc, not, if◌then◌else◌, List, Option, None, Some}
 use Rattle.std.specs.Option.{option_and_then}
 use Rattle.xk_base.specs.declared.limits.TheConstants.{MAXPATH}
 use Rattle.xk_base.specs.Image.{Image}
 use Rattle.file_table.specs.OpenFiles.{console_file, program_file}
 use Rattle.file_table.specs.declared.open_file.OpenFile.{OpenFile}
 use Rattle.proc_table.specs.declared.process.Call.{Call}
-use Rattle.kcall_core.specs.Words.{c_int}
-use Rattle.kcall_core.specs.Buffers.{text_at, no_slashes}
-use Rattle.kcall_core.specs.Programs.{console_name}
-use Rattle.kcall_core.specs.State.{ProgramFile}
+use Rattle.kernel_spec.specs.views.Words.{c_int}
+use Rattle.kernel_spec.specs.rows.Buffers.{text_at, no_slashes}
+use Rattle.kernel_spec.specs.views.State.{ProgramFile}
+use Rattle.kernel_spec.specs.views.View.{Shown, Shown_terminal, Shown_file, Shown_pipe}
+use Rattle.kernel_spec.specs.rows.Calls.{what_is_named, has_mode}
 use Rattle.kcall_core.specs.declared.kernel.file_calls.Asked.{Asked}
 use Rattle.kcall_core.specs.declared.kernel.file_calls.Asked.TheVariants.{Terminal, Program}
 
--- the place of the first program of a name
-abbrev pub place_named : List ℕ → List ProgramFile → Option ℕ
-place_named name programs = position_from (λ (p : ProgramFile). bytes_eq p.name name) 0 programs
+-- what a name asks for that names this, in a mode: 0 reads, 1 writes, 2 does both. No name names a pipe
+abbrev pub asked_as : Shown → (mode : ℕ) → Option Asked
+asked_as Shown_terminal mode = Some (Terminal (not (mode == 1)) (not (mode == 0)))
+asked_as (Shown_file program offset) mode = Some (Program program)
+asked_as (Shown_pipe name end pipe) mode = None
 
--- the terminal: mode 0 reads, 1 writes, 2 does both
-abbrev pub terminal_asked : ℤ → Option Asked
-terminal_asked (pos mode) = if nat_lt 2 mode then None else Some (Terminal (not (nat_eq mode 1)) (not (nat_eq mode 0)))
-terminal_asked (negsuc k) = None
-
--- a program's file can only be read
-abbrev pub program_asked : ℤ → ℕ → Option Asked
-program_asked (pos mode) place = if nat_eq mode 0 then Some (Program place) else None
-program_asked (negsuc k) place = None
+-- the same, where it has this mode
+abbrev pub asked_in : (mode : ℤ) → Shown → Option Asked
+asked_in (pos mode) shown = if has_mode shown mode then asked_as shown mode else None
+asked_in (negsuc k) shown = None
 
 -- what a name and a mode ask for
 abbrev pub name_asked : List ProgramFile → ℤ → List ℕ → Option Asked
-name_asked programs mode name = if bytes_eq console_name name then terminal_asked mode else option_and_then (program_asked mode) (place_named name programs)
+name_asked programs mode name = option_and_then (asked_in mode) (what_is_named name programs)
 
 -- What a process asks to open, by the address of its path, whose leading slashes don't count, and the mode; nothing where a byte of the path can't be read, nothing has the name, or the mode isn't allowed
 abbrev pub asked : List ProgramFile → Image → Call → Option Asked

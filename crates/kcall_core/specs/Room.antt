@@ -10,7 +10,7 @@ use Rattle.file_table.specs.OpenFiles.{count_at, open_count}
 use Rattle.file_table.specs.declared.open_file.End.{End}
 use Rattle.file_table.specs.declared.open_file.TheConstants.{SHARERS_MAX}
 use Rattle.proc_table.specs.Slots.{descriptors_at}
-use Rattle.kcall_core.specs.PipeEnds.{count_on}
+use Rattle.kernel_spec.specs.views.PipeEnds.{count_on}
 use Rattle.kcall_core.specs.Kernel.{state_of}
 use Rattle.kcall_core.specs.Whole.{IsWhole}
 use Rattle.kcall_core.specs.declared.kernel.Kernel.{Kernel}

@@ -10,7 +10,7 @@ use Rattle.file_table.specs.declared.open_file.End.{End}
 use Rattle.file_table.specs.declared.open_file.Target.{Target}
 use Rattle.file_table.specs.declared.open_file.Target.TheVariants.{Console as Terminal, Program as File, Pipe as Pipe_end}
 use Rattle.proc_table.specs.Slots.{descriptors_at}
-use Rattle.kcall_core.specs.PipeEnds.{joined, count_on}
+use Rattle.kernel_spec.specs.views.PipeEnds.{joined, count_on}
 use Rattle.kcall_core.specs.Holdings.{pipe_named}
 use Rattle.kcall_core.specs.Memories.{pipes_of, PipeChanges, AreSound}
 use Rattle.kcall_core.specs.declared.memories.Memories.{Memories}

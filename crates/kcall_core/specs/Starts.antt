@@ -8,10 +8,10 @@ use Rattle.xk_base.specs.Loaded.{Loaded, loaded}
 use Rattle.console_core.specs.Lists.{empty_console}
 use Rattle.file_table.specs.OpenFiles.{none_open}
 use Rattle.proc_table.specs.Slots.{no_process}
-use Rattle.kcall_core.specs.Programs.{init_name, init_of, program_bytes}
-use Rattle.kcall_core.specs.State.{State}
-use Rattle.kcall_core.specs.First.{first_state, first_turns}
-use Rattle.kcall_core.specs.Run.{World}
+use Rattle.kernel_spec.specs.views.Programs.{init_name, init_of, program_bytes}
+use Rattle.kernel_spec.specs.views.State.{State}
+use Rattle.kernel_spec.specs.runs.First.{first_state, first_turns}
+use Rattle.kernel_spec.specs.runs.Run.{World}
 use Rattle.kcall_core.specs.Memories.{pipes_of, free_of}
 use Rattle.kcall_core.specs.Kernel.{frame_count, IsStopped}
 use Rattle.kcall_core.specs.declared.kernel.Kernel.{Kernel}

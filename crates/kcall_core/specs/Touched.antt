@@ -3,12 +3,13 @@ use Rattle.std.specs.Prelude.{◌≡◌, ◌⊎◌, ℕ, ◌+◌, ◌<◌, ◌�
 use Rattle.xk_base.specs.Image.{price}
 use Rattle.xk_base.specs.declared.access.Cause.{Cause}
 use Rattle.rv64i_core.specs.Step.{Fault, address_used, is_data_page_fault}
-use Rattle.hart_core.specs.UserMemory.{user}
+use Rattle.rv64i_core.specs.UserImage.{user}
 use Rattle.hart_core.specs.declared.hart.Hart.{Hart}
-use Rattle.kcall_core.specs.Instruction.{next_instruction}
-use Rattle.kcall_core.specs.Buffers.{writable, writable_now}
-use Rattle.kcall_core.specs.Touches.{pages_at, brought, touch}
-use Rattle.kcall_core.specs.Own.{Own}
+use Rattle.kernel_spec.specs.steps.Instruction.{next_instruction}
+use Rattle.kernel_spec.specs.rows.Buffers.{writable, writable_now}
+use Rattle.kernel_spec.specs.rows.Touches.{touch}
+use Rattle.addr_space.specs.Absent.{pages_at, brought}
+use Rattle.kernel_spec.specs.steps.Own.{Own}
 use Rattle.kcall_core.specs.Kernel.{state_of, live_now, IsRunning}
 use Rattle.kcall_core.specs.Whole.{IsWhole}
 use Rattle.kcall_core.specs.Makes.{Makes, view_now}

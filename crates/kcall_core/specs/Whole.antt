@@ -12,16 +12,17 @@ use Rattle.proc_table.specs.Slots.{Slots, Holds, place_at, place_is_live, descri
 use Rattle.proc_table.specs.declared.channel.Channel.{Channel}
 use Rattle.proc_table.specs.declared.channel.Channel.TheVariants as on
 use Rattle.proc_table.specs.declared.process.Process.{Process}
-use Rattle.kcall_core.specs.Words.{or_zero}
-use Rattle.kcall_core.specs.Words.{is_this}
-use Rattle.kcall_core.specs.Processes.{Live}
-use Rattle.kcall_core.specs.State.{live}
-use Rattle.kcall_core.specs.WellFormed.{WellFormed, sum_below}
-use Rattle.kcall_core.specs.Wakes.{NoReadySleeper}
-use Rattle.kcall_core.specs.Conditions.{Condition, Child_of, Bytes, Room, Time, Keys, Sending, waits_for}
+use Rattle.kernel_spec.specs.views.Words.{or_zero}
+use Rattle.kernel_spec.specs.views.Words.{is_this}
+use Rattle.kernel_spec.specs.views.Processes.{Live}
+use Rattle.kernel_spec.specs.views.State.{live}
+use Rattle.kernel_spec.specs.views.WellFormed.{WellFormed, sum_below}
+use Rattle.kernel_spec.specs.waking.Wakes.{NoReadySleeper}
+use Rattle.kernel_spec.specs.waking.Conditions.{Condition, Child_of, Bytes, Room, Time, Keys, Sending, waits_for}
 use Rattle.kcall_core.specs.Kernel.{frame_count, state_of, IsSound}
 use Rattle.kcall_core.specs.Machine.{world_of}
 use Rattle.kcall_core.specs.declared.kernel.Kernel.{Kernel}
+use Rattle.kernel_spec.specs.waking.SleepsOn.{is_for}
 
 -- ---- open files and the descriptors that name them
 
@@ -40,16 +41,6 @@ pub record AreCounted (files : List (Option Entry)) (t : Slots) : Type 0 where
   pub closed : (slot : ℕ) → place_is_live (place_at t slot) ≡ false → descriptors_at t slot ≡ none_named
 
 -- ---- sleepers
-
--- who sleeps on the channel waits for the condition
-abbrev pub is_for : Condition → Channel → Bool
-is_for (Child_of p) (on.Children q) = nat_eq p q
-is_for (Bytes i) (on.Bytes f) = nat_eq i f
-is_for (Room i) (on.Room f) = nat_eq i f
-is_for (Time since ticks) on.Clock = true
-is_for Keys on.Keys = true
-is_for Sending on.Sending = true
-is_for _ _ = false
 
 -- who sleeps does so on the channel of what its call waits for
 abbrev pub SleepOnTheirChannels : Kernel → Hart → Type 0

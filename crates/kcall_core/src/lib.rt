@@ -1,8 +1,8 @@
-//! The kernel (the xv6 book, "Operating system interfaces" and "Page tables"): what it means, as
-//! definitions, what follows from them, and the code that does it.
+//! The kernel (the xv6 book, "Operating system interfaces" and "Page tables"): the code that does what
+//! `kernel_spec` says.
 //!
-//! The definitions stand in `specs/`; [`laws`] names what was proved of them. A [`Kernel`] and its hart
-//! stand for a state of these definitions, and each of its calls is a change of that state.
+//! `specs/` says how a [`Kernel`] and its hart stand for a state of those definitions; each of its calls is a
+//! change of that state.
 #![tactic(auto)]
 
 mod call_end;
@@ -11,5 +11,8 @@ pub mod laws;
 mod memories;
 
 pub use call_end::CallEnd;
-pub use console_core::Echo;
-pub use kernel::{ChildState, Kernel, call_number, first_refused};
+pub use console_core::{ConsoleList, Echo};
+pub use file_table::{End, FileId, OpenFile, Target};
+pub use kernel::{ChildState, Descriptor, Kernel, ProcessState, call_number, first_refused};
+pub use memories::PipeCounts;
+pub use proc_table::Call;

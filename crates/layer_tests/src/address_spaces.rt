@@ -255,8 +255,7 @@ fn grown_lazily_by(pool: &mut Pool, ram: &mut Ram, more: u64) -> Option<Space>
 
 // Touches the byte at an address; whether its page fits.
 fn is_touched(space: &mut Space, pool: &mut Pool, ram: &mut Ram, address: u64) -> bool
-    requires belongs { Belongs pool.old ram.old space.old }
-    requires limit { space.old.size ≤ SIZE_LIMIT }
+    requires { Belongs pool.old ram.old space.old }
     ensures belongs { Belongs pool.new ram.new space.new }
     ensures size { space.new.size ≡ space.old.size }
 {

@@ -421,7 +421,6 @@ fn faults_and_calls_leave_all(rt: HostRuntime) -> Result<(), Fail> {
 #[test]
 fn a_flat_memory_ends_with_its_last_byte(rt: HostRuntime) -> Result<(), Fail> {
     let mut memory = FlatMemory::new(rt.alloc(), 12)?;
-    assert_eq!(rt; memory.len(), 12);
     assert_eq!(rt; memory.load(11, Width::Byte), Ok(0));
     assert_eq!(rt;
         memory.load(12, Width::Byte).map_err(|cause| cause.code()),
@@ -432,26 +431,19 @@ fn a_flat_memory_ends_with_its_last_byte(rt: HostRuntime) -> Result<(), Fail> {
         memory.store(12, Width::Byte, 1),
         Err(Cause::StorePageFault)
     );
-    assert_eq!(rt; (memory.byte(8), memory.byte(9)), (Some(0), Some(7)));
-    assert_eq!(rt; (memory.byte(11), memory.byte(12)), (Some(9), None));
+    assert_eq!(rt; memory.load(8, Width::Byte), Ok(0));
+    assert_eq!(rt; memory.load(9, Width::Byte), Ok(7));
+    assert_eq!(rt; memory.load(11, Width::Byte), Ok(9));
+    assert_eq!(rt; memory.load(0, Width::DoubleWord), Ok(0));
     assert_eq!(rt; memory.fetch(8), Ok(0x0908_0700));
     assert_eq!(rt; memory.fetch(12), Err(Cause::FetchPageFault));
     Ok(())
 }
 
 #[test]
-fn bytes_are_put_in_their_place(rt: HostRuntime) -> Result<(), Fail> {
-    let mut memory = FlatMemory::new(rt.alloc(), 12)?;
-    memory.put_bytes(9, &[7, 8, 9]);
-    assert_eq!(rt; memory.load(8, Width::Word), Ok(0x0908_0700));
-    assert_eq!(rt; memory.load(0, Width::DoubleWord), Ok(0));
-    Ok(())
-}
-
-#[test]
 fn a_growth_that_the_host_refuses_is_want_of_memory(rt: HostRuntime) {
     match FlatMemory::new(rt.alloc(), 64) {
-        Ok(memory) => assert_eq!(rt; memory.len(), 64),
+        Ok(mut memory) => assert_eq!(rt; memory.load(63, Width::Byte), Ok(0)),
         Err(error) => assert_eq!(rt; error, BootError::Memory),
     }
 }

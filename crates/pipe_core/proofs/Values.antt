@@ -1,5 +1,7 @@
 -- Lists of values, and pieces of lists.
-use Rattle.std.proofs.Common.{◌≡◌, ℕ, zero, suc, ◌+◌, ◌-◌, ◌<◌, ◌≤◌, List, [], ◌∷◌, ◌++◌, length, take, drop, get_or, refl, sym, ap, ◌∙◌, arith, add-one}
+use Rattle.std.proofs.Common.{◌≡◌, ℕ, zero, suc, ◌+◌, ◌-◌, ◌<◌, ◌≤◌, List, [], ◌∷◌, ◌++◌, length, take, drop, get_or, Some, inl, inr, refl, sym, ap, ◌∙◌, arith, add-one}
+use Rattle.std.specs.Prelude.{slice_get}
+use Rattle.std.proofs.lemmas.Bool.{cases_eq}
 use Rattle.std.proofs.lemmas.List.{length_push, append_assoc, append-nil, take_more, take_at, drop_at, get_or-drop, length-drop}
 use Rattle.pipe_core.specs.Pipe.{values_below}
 
@@ -42,3 +44,21 @@ front n count f le =
     let split : values_below count f ≡ values_below n f ++ values_below (count - n) (λ k. f (n + k)) =
     ap (λ m. values_below m f) (let sum : count ≡ n + (count - n) = omega (arith, le) in sum) ∙ values-add n (count - n) f in
     (ap (take n) split ∙ take_at (values_below n f) _ n (length_values n f), ap (drop n) split ∙ drop_at (values_below n f) _ n (length_values n f))
+
+-- value k of the n first ones
+pub values_get : (n k : ℕ) (f : ℕ → ℕ) → k < n → slice_get (values_below n f) k ≡ Some (f k)
+unfolding values_below
+values_get zero k f lt = absurd (omega (arith, lt))
+values_get (suc n) k f lt = elim (cases_eq k n) [
+  | inl e ↦ ap (slice_get (values_below n f ++ f n ∷ [])) (e ∙ sym (length_values n f)) ∙ slice_get_at_end (values_below n f) (f n) ∙ ap (λ j. Some (f j)) (sym e)
+  | inr apart ↦ before (values_below n f) (f n) k (omega (arith, length_values n f, lt, apart)) ∙ values_get n k f (omega (arith, lt, apart))
+]
+  where
+    before : (xs : List ℕ) (x k : ℕ) → k < length xs → slice_get (xs ++ x ∷ []) k ≡ slice_get xs k
+    before [] x k lt = absurd (omega (arith, lt))
+    before (y ∷ ys) x zero lt = refl
+    before (y ∷ ys) x (suc k) lt = before ys x k (omega (arith, lt))
+
+    slice_get_at_end : (xs : List ℕ) (x : ℕ) → slice_get (xs ++ x ∷ []) (length xs) ≡ Some x
+    slice_get_at_end [] x = refl
+    slice_get_at_end (y ∷ ys) x = slice_get_at_end ys x

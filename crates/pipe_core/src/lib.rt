@@ -9,7 +9,7 @@
 //! a pipe by [`make`], and stays one until something else is written into it.
 #![tactic(auto)]
 
-ghost use Rattle.std.specs.Prelude.{◌≡◌, ◌+◌, ◌-◌, ◌<◌, ◌≤◌, ◌++◌, length, take, drop, min};
+ghost use Rattle.std.specs.Prelude.{◌≡◌, ◌+◌, ◌-◌, ◌<◌, ◌≤◌, ◌++◌, length, take, drop, min, slice_get};
 ghost use Rattle.xk_base.specs.declared.limits.TheConstants.{PIPE_BYTES};
 ghost use Rattle.pipe_core.specs.declared.TheConstants.{END_COUNT_MAX};
 ghost use Rattle.pipe_core.specs.Pipe.{Becomes, IsPipe, IsPlaced, new_pipe, pipe_in, ring_byte, values_below, with_more, with_readers, with_writers, without_first};
@@ -75,6 +75,18 @@ pub fn writers(ram: &Ram, f: Frame) -> u64
     ensures range { result ≤ END_COUNT_MAX }
 {
     ram.read_u64(f, WRITERS)
+}
+
+/// The byte at a place of the pipe: 0 is the oldest. `None` where it has fewer bytes.
+pub fn byte(ram: &Ram, f: Frame, place: usize) -> Option<u8>
+    requires { IsPipe ram.now f }
+    ensures { result ≡ slice_get (pipe_in ram.now f).bytes place }
+{
+    if place >= len(ram, f) {
+        return None;
+    }
+    let oldest = ram.read_u64(f, OLDEST) as usize;
+    Some(ram.frame(f)[RING + (oldest + place) % PIPE_BYTES])
 }
 
 /// One descriptor more on the read end.

@@ -64,6 +64,10 @@ state_channel (Zombie status) = None
 abbrev pub channel_of : Process → Option Channel
 channel_of p = state_channel p.state
 
+-- it sleeps
+abbrev pub is_asleep : Process → Bool
+is_asleep p = is_some (channel_of p)
+
 -- live, and on no channel
 abbrev pub state_runnable : State → Bool
 state_runnable (Live marked call channel) = is_none channel

@@ -5,7 +5,7 @@ use Rattle.xk_base.specs.declared.limits.TheConstants.{NPROC, PID_MAX}
 use Rattle.file_table.specs.Named.{none_named}
 use Rattle.proc_table.specs.declared.process.Call.{Call}
 use Rattle.proc_table.specs.declared.process.Process.{Process}
-use Rattle.proc_table.specs.Processes.{has_pid, is_live, is_marked, status_of, call_of, newborn, killed}
+use Rattle.proc_table.specs.Processes.{has_pid, is_live, is_marked, is_asleep, status_of, call_of, newborn, killed}
 
 -- the process in each slot, the descriptors of each slot, the next pid, and the slot that ran last
 pub record Slots : Type 0 where
@@ -63,6 +63,10 @@ status_at t slot = option_map status_of (place_at t slot)
 -- the call of the process in a slot, if it is in one
 abbrev pub call_at : Slots → ℕ → Option (Option Call)
 call_at t slot = option_map call_of (place_at t slot)
+
+-- whether the process in a slot sleeps
+abbrev pub sleep_at : Slots → ℕ → Option Bool
+sleep_at t slot = option_map is_asleep (place_at t slot)
 
 -- the descriptors of a slot
 abbrev pub descriptors_at : Slots → ℕ → List (Option ℕ)

@@ -9,5 +9,5 @@ mod process;
 mod table;
 
 pub use channel::Channel;
-pub use process::{Call, Process, State};
+pub use process::Call;
 pub use table::{Reaped, Table};

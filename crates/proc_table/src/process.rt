@@ -1,7 +1,7 @@
 //! A process, as the table keeps it.
 ghost use Rattle.std.specs.Prelude.{◌≡◌, false};
 ghost use Rattle.proc_table.specs.Channels.{is_on, without};
-ghost use Rattle.proc_table.specs.Processes.{is_runnable, is_child_of, is_zombie, is_marked, status_of, call_of, has_pid, woken, killed, given, asleep, ended, in_call};
+ghost use Rattle.proc_table.specs.Processes.{is_runnable, is_child_of, is_zombie, is_marked, is_asleep, status_of, call_of, has_pid, woken, killed, given, asleep, ended, in_call};
 
 use crate::channel::Channel;
 use xk_base::Pid;
@@ -102,6 +102,15 @@ impl Process {
     {
         match self.state {
             State::Live { marked, .. } => marked,
+            State::Zombie { .. } => false,
+        }
+    }
+
+    pub(crate) fn is_asleep(&self) -> bool
+        ensures { result ≡ is_asleep self.now }
+    {
+        match self.state {
+            State::Live { channel, .. } => channel.is_some(),
             State::Zombie { .. } => false,
         }
     }

@@ -7,3 +7,4 @@ pub mod Actions
 pub mod Acts
 pub mod DecodeCache
 pub mod Ways
+pub mod UserImage

@@ -1,7 +1,7 @@
 -- How the owned frames and the pages change.
 use Rattle.std.proofs.Common.{◌≡◌, ℕ, zero, suc, ◌+◌, ◌*◌, ◌/◌, ◌%◌, ◌^◌, ◌<◌, ◌≤◌, List, ◌∷◌, ◌++◌, length, Option, Some, None, refl, ap, ◌∙◌, arith}
-use Rattle.xk_base.specs.Frames.{copies, SameFrames}
-use Rattle.xk_base.proofs.Frames.{at, copies-cons}
+use Rattle.xk_base.specs.Frames.{copies}
+use Rattle.xk_base.proofs.Frames.{at, copies-cons, SameFrames}
 use Rattle.phys_ram.specs.Ram.{frame_at, word_at, WordWritten}
 use Rattle.phys_ram.proofs.Words.{word_at-same}
 use Rattle.sv39_core.specs.declared.entry.Entry.{Entry}

@@ -15,9 +15,10 @@ use Rattle.xk_base.specs.ProgramFile.{page_up, segments_of}
 use Rattle.xk_base.specs.Gathered.{gathered, insert_some}
 use Rattle.xk_base.specs.Image.{Page, page_count}
 use Rattle.xk_base.specs.Bytes.{byte_in, image_byte}
-use Rattle.xk_base.specs.Loaded.{over, zeros, addresses, page_by, end_after, perm_at, file_bytes, segments_over, down, text_places, lowest, stack_pointer, pointers, texts_over, stack_over, guard, stack, page_perm, program_image, Loaded, aligned, with_texts, loaded, ◌>>=◌}
+use Rattle.xk_base.specs.Loaded.{over, zeros, addresses, page_by, end_after, perm_at, file_bytes, segments_over, down, text_places, lowest, stack_pointer, pointers, texts_over, stack_over, guard, page_perm, program_image, Loaded, aligned, with_texts, loaded, ◌>>=◌}
 use Rattle.uasm_core.specs.Written.{Program}
-use Rattle.uasm_core.specs.Meaning.{Stretch, stretch_of, text_rights, data_rights, AllPut, LoadsAs, Assembles, guard_at, stack_of, TextsFit, Holds, Becomes, Starts}
+use Rattle.uasm_core.specs.Meaning.{Stretch, stretch_of, text_rights, AllPut, LoadsAs, Assembles, guard_at, stack_of, TextsFit, Holds, Becomes, Starts}
+use Rattle.xk_base.specs.Access.{data_rights}
 
 -- ---- lists by address
 
@@ -83,8 +84,8 @@ gathered-some f (suc n) v x lt is = elim (cases_eq v n) [
 -- below the guard page the segments give the rights
 below-guard : (segments : List Segment) (s v : ℕ) → 4096 * v < s → page_perm segments s v ≡ perm_at segments v
 below-guard segments s v lt =
-    ap (λ b. cond b (Some guard) (cond (4096 * v == s + 4096) (Some stack) (perm_at segments v))) (ne_eqb (4096 * v) s (λ e. omega (arith, e, lt)))
-    ∙ ap (λ b. cond b (Some stack) (perm_at segments v)) (ne_eqb (4096 * v) (s + 4096) (λ e. omega (arith, e, lt)))
+    ap (λ b. cond b (Some guard) (cond (4096 * v == s + 4096) (Some data_rights) (perm_at segments v))) (ne_eqb (4096 * v) s (λ e. omega (arith, e, lt)))
+    ∙ ap (λ b. cond b (Some data_rights) (perm_at segments v)) (ne_eqb (4096 * v) (s + 4096) (λ e. omega (arith, e, lt)))
 
 module _ (file : List ℕ) (segments : List Segment) (texts : List (List ℕ)) where
   abbrev s : ℕ

@@ -18,6 +18,7 @@ use Rattle.uasm_core.specs.Statement.{Statement, Switch, Labels, statement, spel
 use Rattle.uasm_core.specs.declared.place.Place.{Place}
 use Rattle.uasm_core.specs.Places.{start, grown, address, base_of}
 use Rattle.uasm_core.specs.Written.{Program, is_label_of, entry_of}
+use Rattle.xk_base.specs.Access.{data_rights}
 
 -- A line of a program: its label, where it stands, what it asks for, and the bytes that this spells.
 pub record ProgramLine : Type 0 where
@@ -89,10 +90,6 @@ pub record Stretch : Type 0 where
 -- read and execute
 abbrev pub text_rights : Rights
 text_rights = record { read = true; write = false; execute = true; user = true }
-
--- read and write
-abbrev pub data_rights : Rights
-data_rights = record { read = true; write = true; execute = false; user = true }
 
 -- nothing where there are no bytes
 abbrev pub stretch_of : ℕ → Rights → List ℕ → List Stretch

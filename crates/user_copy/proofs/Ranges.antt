@@ -11,7 +11,7 @@ use Rattle.addr_space.specs.declared.Space.{Space}
 use Rattle.addr_space.specs.Changes.{perm_of_page}
 use Rattle.addr_space.specs.Space.{image_of}
 use Rattle.addr_space.specs.Permits.{page_permits}
-use Rattle.addr_space.proofs.Touching.{LowPages, low-pages, touched-low, whole-byte, whole-there}
+use Rattle.addr_space.proofs.Touching.{LowPages, low-pages, whole-low, whole-byte, whole-there}
 use Rattle.user_copy.specs.declared.AbsentPages.{AbsentPages}
 use Rattle.user_copy.specs.declared.AbsentPages.TheVariants.{Refused, Zeros}
 use Rattle.user_copy.specs.Reach.{allows, may, image_seen, reaches}
@@ -101,17 +101,17 @@ reaches-same access i j a n same = by n a
 
 pub seen-low : (absent : AbsentPages) (ram : List (List ℕ)) (space : Space) → LowPages (image_seen absent (image_of ram space))
 seen-low Refused ram space = low-pages ram space
-seen-low Zeros ram space = touched-low (λ v. true) (image_of ram space)
+seen-low Zeros ram space = whole-low (image_of ram space) (low-pages ram space)
 
 -- a byte reads the same, whether absent pages are seen as zeros or not
 pub seen-byte : (absent : AbsentPages) (ram : List (List ℕ)) (space : Space) (a : ℕ) → image_byte (image_seen absent (image_of ram space)) a ≡ image_byte (image_of ram space) a
 seen-byte Refused ram space a = refl
-seen-byte Zeros ram space a = whole-byte (image_of ram space) a (low-pages ram space)
+seen-byte Zeros ram space a = whole-byte (image_of ram space) a
 
 -- a page that is there is seen as it is
 pub seen-there : (absent : AbsentPages) (ram : List (List ℕ)) (space : Space) (v : ℕ) (page : Page) → get (image_of ram space).pages v ≡ Some page → get (image_seen absent (image_of ram space)).pages v ≡ Some page
 seen-there Refused ram space v page is = is
-seen-there Zeros ram space v page is = whole-there (image_of ram space) v page (low-pages ram space) is
+seen-there Zeros ram space v page is = whole-there (image_of ram space) v page is
 
 -- a page that permits an access is seen as one that does
 pub seen-permitted : (absent : AbsentPages) (ram : List (List ℕ)) (space : Space) (access : Access) (v : ℕ) → page_permits access (get (image_of ram space).pages v) ≡ true → allows access (option_map perm_of_page (get (image_seen absent (image_of ram space)).pages v)) ≡ true

@@ -3,7 +3,11 @@ use Rattle.std.proofs.Common.{◌≡◌, ◌≢◌, ℕ, zero, suc, ◌+◌, ◌
 use Rattle.std.proofs.lemmas.List.{take_more, take_more_set}
 use Rattle.std.proofs.lemmas.Bool.{cases_lt, cases_eq}
 use Rattle.std.proofs.lemmas.Bool.Decides.{nat_tests}
-use Rattle.xk_base.specs.Frames.{copies, SameFrames, Once}
+use Rattle.xk_base.specs.Frames.{copies, Once}
+
+-- the same frames, each as often
+pub record SameFrames (xs ys : List ℕ) : Type 0 where
+  pub each : (x : ℕ) → copies x xs ≡ copies x ys
 
 -- 1 where the two are one frame, and else 0
 unfoldable pub at : ℕ → ℕ → ℕ

@@ -1,4 +1,5 @@
 pub mod Bytes
+mod ChainRows
 pub mod Frames
 pub mod Least
 mod LoadedRows

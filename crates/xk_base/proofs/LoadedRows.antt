@@ -6,7 +6,8 @@ use Rattle.xk_base.specs.declared.errors.ExecError.TheVariants.{NotElf, BadSegme
 use Rattle.xk_base.specs.declared.program.Segment.{Segment}
 use Rattle.xk_base.specs.Words.{least_below}
 use Rattle.xk_base.specs.ProgramFile.{is_elf, file_header, header_of, program_header, is_bad, is_refused_after, segments_of}
-use Rattle.xk_base.specs.Loaded.{stack_pointer, stack_over, segments_over, zeros, perm_at, page_perm, guard, stack, program_image, image_by, loaded, ◌>>=◌, Loaded}
+use Rattle.xk_base.specs.Loaded.{stack_pointer, stack_over, segments_over, zeros, perm_at, page_perm, guard, program_image, image_by, loaded, ◌>>=◌, Loaded}
+use Rattle.xk_base.specs.Access.{data_rights}
 
 abbrev nothing : ℕ → List ℕ
 nothing n = replicate n 0
@@ -60,7 +61,7 @@ thirty-one = refl
 
 -- ---- the pages of `init`: its text, the guard page, the stack page, no more
 
-init-pages : map (page_perm (text_segment ∷ []) 4096) (0 ∷ 1 ∷ 2 ∷ 3 ∷ []) ≡ Some text_segment.perm ∷ Some guard ∷ Some stack ∷ None ∷ []
+init-pages : map (page_perm (text_segment ∷ []) 4096) (0 ∷ 1 ∷ 2 ∷ 3 ∷ []) ≡ Some text_segment.perm ∷ Some guard ∷ Some data_rights ∷ None ∷ []
 init-pages = refl
 
 init-bytes : map (segments_over small (text_segment ∷ []) zeros) (range_with_len 0 14) ≡ (0x93 ∷ 0x08 ∷ 0x20 ∷ 0x00 ∷ 0x13 ∷ 0x05 ∷ 0x00 ∷ 0x00 ∷ 0x73 ∷ 0x00 ∷ 0x00 ∷ 0x00 ∷ 0 ∷ 0 ∷ [])
@@ -68,9 +69,9 @@ init-bytes = refl
 
 -- a second segment behind a gap has the gap's page too
 abbrev data_segment : Segment
-data_segment = record { vaddr = 8192; memsz = 1; perm = stack; off = 0; filesz = 1 }
+data_segment = record { vaddr = 8192; memsz = 1; perm = data_rights; off = 0; filesz = 1 }
 
-gap : map (perm_at (text_segment ∷ data_segment ∷ [])) (0 ∷ 1 ∷ 2 ∷ 3 ∷ []) ≡ Some text_segment.perm ∷ Some stack ∷ Some stack ∷ None ∷ []
+gap : map (perm_at (text_segment ∷ data_segment ∷ [])) (0 ∷ 1 ∷ 2 ∷ 3 ∷ []) ≡ Some text_segment.perm ∷ Some data_rights ∷ Some data_rights ∷ None ∷ []
 gap = refl
 
 -- ---- the whole

@@ -1,5 +1,5 @@
 -- What the rights of a page are, and the number of each cause.
-use Rattle.std.specs.Prelude.{ℕ, Bool, IsTrue, ◌||◌, ◌&&◌, not}
+use Rattle.std.specs.Prelude.{ℕ, Bool, true, false, IsTrue, ◌||◌, ◌&&◌, not}
 use Rattle.xk_base.specs.declared.access.Rights.{Rights}
 use Rattle.xk_base.specs.declared.access.Cause.{Cause}
 use Rattle.xk_base.specs.declared.access.Cause.TheVariants.{TargetMisaligned, IllegalInstruction, Breakpoint, LoadMisaligned, StoreMisaligned, FetchPageFault, LoadPageFault, StorePageFault}
@@ -10,6 +10,10 @@ is_perm r = (r.read || r.execute) && (not r.write || r.read)
 
 abbrev pub IsPerm : Rights → Type 0
 IsPerm r = IsTrue (is_perm r)
+
+-- what user code may do with its data, and with its stack: read and write
+abbrev pub data_rights : Rights
+data_rights = record { read = true; write = true; execute = false; user = true }
 
 -- the numbers of the `scause` register
 abbrev pub code_of : Cause → ℕ

@@ -1,5 +1,6 @@
 pub mod Access
 pub mod Bytes
+pub mod Chains
 pub mod Codes
 pub mod Frames
 pub mod Gathered

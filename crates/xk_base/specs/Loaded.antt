@@ -2,7 +2,7 @@
 -- (ELF-64 Object File Format, "Program Loading"; the xv6 book, "Code: exec").
 -- An image is said as what results: what each page allows, and the byte at each address.
 use Rattle.std.specs.Prelude.{ℕ, ◌+◌, ◌-◌, ◌*◌, ◌/◌, true, false, ◌&&◌, ◌==◌, nat_lt, nat_le, if◌then◌else◌, List, [], ◌∷◌, ◌++◌, length, take, drop, map, slice_index, Option, Some, None, option_map, Result, Ok, Err}
-use Rattle.std.specs.List.{flat_map, range_with_len}
+use Rattle.std.specs.List.{flat_map, range_with_len, zip}
 use Rattle.xk_base.specs.Gathered.{gathered}
 use Rattle.xk_base.specs.Image.{Page, Image, page_count}
 use Rattle.xk_base.specs.ProgramFile.{page_up, header_of, segments_of}
@@ -12,12 +12,18 @@ use Rattle.xk_base.specs.declared.errors.ExecError.{ExecError}
 use Rattle.xk_base.specs.declared.errors.ExecError.TheVariants.{ArgsTooLong}
 use Rattle.xk_base.specs.declared.program.Header.{Header}
 use Rattle.xk_base.specs.declared.program.Segment.{Segment}
+use Rattle.xk_base.specs.Access.{data_rights}
 
 -- ---- memory by address
 
 -- bytes laid at an address over a memory, whose own bytes show everywhere else
 abbrev pub over : ℕ → List ℕ → (ℕ → ℕ) → ℕ → ℕ
 over address bytes byte a = if nat_le address a && nat_lt a (address + length bytes) then slice_index bytes (a - address) else byte a
+
+-- parts laid over a memory, one after another: each is an address and its bytes
+abbrev pub all_over : List (ℕ × List ℕ) → (ℕ → ℕ) → ℕ → ℕ
+all_over [] byte = byte
+all_over (part ∷ later) byte = all_over later (over part.0 part.1 byte)
 
 -- a memory of zeros
 abbrev pub zeros : ℕ → ℕ
@@ -53,12 +59,7 @@ file_bytes file s = take s.filesz (drop s.off file)
 
 -- the segments' bytes of the file, each laid at its segment's address
 abbrev pub segments_over : List ℕ → List Segment → (ℕ → ℕ) → ℕ → ℕ
-segments_over file [] byte = byte
-segments_over file (s ∷ later) byte = segments_over file later (over s.vaddr (file_bytes file s) byte)
-
--- the image of the segments alone
-unfoldable pub segments_image : List ℕ → List Segment → Image
-segments_image file segments = image_by (perm_at segments) (segments_over file segments zeros) (end_after 0 segments)
+segments_over file segments byte = all_over (map (λ s. (s.vaddr, file_bytes file s)) segments) byte
 
 -- ---- the stack
 
@@ -86,8 +87,7 @@ pointers top texts = flat_map (le_bytes 8) (text_places top texts ++ 0 ∷ [])
 
 -- the texts, each with its zero byte, laid at their places
 abbrev pub texts_over : ℕ → List (List ℕ) → (ℕ → ℕ) → ℕ → ℕ
-texts_over top [] byte = byte
-texts_over top (text ∷ later) byte = let at = down top (length text + 1) in texts_over at later (over at (text ++ 0 ∷ []) byte)
+texts_over top texts byte = all_over (zip (text_places top texts) (map (λ text. text ++ 0 ∷ []) texts)) byte
 
 -- the first stack: the texts, and below them their addresses and a null pointer
 abbrev pub stack_over : ℕ → List (List ℕ) → (ℕ → ℕ) → ℕ → ℕ
@@ -99,13 +99,9 @@ stack_over top texts byte = over (stack_pointer top texts) (pointers top texts) 
 abbrev pub guard : Rights
 guard = record { read = true; write = true; execute = false; user = false }
 
--- the stack page: user code may read and write it
-abbrev pub stack : Rights
-stack = record { read = true; write = true; execute = false; user = true }
-
 -- what page v allows, where the guard page begins at address s, and the stack page behind it
 abbrev pub page_perm : List Segment → ℕ → ℕ → Option Rights
-page_perm segments s v = if 4096 * v == s then Some guard else if 4096 * v == s + 4096 then Some stack else perm_at segments v
+page_perm segments s v = if 4096 * v == s then Some guard else if 4096 * v == s + 4096 then Some data_rights else perm_at segments v
 
 -- the segments, the guard page and the stack page, which are all pages up to the size
 unfoldable pub program_image : List ℕ → List Segment → List (List ℕ) → Image

@@ -3,16 +3,16 @@ use Rattle.std.proofs.Common.{◌≡◌, ℕ, List, [], ◌∷◌, replicate, Op
 use Rattle.std.specs.Prelude.{ℤ, IsSome}
 use Rattle.hart_core.specs.declared.hart.Hart.{Hart}
 use Rattle.circular_buffer.specs.Buffer.{Buffer}
-use Rattle.kcall_core.specs.State.{live}
-use Rattle.kcall_core.specs.Run as runs
-use Rattle.kcall_core.specs.Own.{Answer}
-use Rattle.kcall_core.specs.Run.{World, Run, Step_of, Idle, Halted}
-use Rattle.kcall_core.specs.Wakes.{Promised, IsPromised}
+use Rattle.kernel_spec.specs.views.State.{live}
+use Rattle.kernel_spec.specs.runs.Run as runs
+use Rattle.kernel_spec.specs.steps.Own.{Answer}
+use Rattle.kernel_spec.specs.runs.Run.{World, Run, Step_of, Idle, Halted}
+use Rattle.kernel_spec.specs.waking.Wakes.{Promised, IsPromised}
 use Rattle.kcall_core.specs.Kernel.{frame_count, state_of, pid_now}
 use Rattle.kcall_core.specs.Machine.{turns_of, world_of}
 use Rattle.kcall_core.specs.Whole.{IsWhole}
 use Rattle.kcall_core.specs.declared.kernel.Kernel.{Kernel}
-use Rattle.kcall_core.proofs.runs.Boot.{promised_runs_join}
+use Rattle.kernel_spec.proofs.runs.Boot.{promised_runs_join}
 use Rattle.xv_machine.specs.declared.trace.Note.{Note}
 use Rattle.xv_machine.specs.declared.event.Outcome.{Outcome}
 use Rattle.xv_machine.specs.Drives.{done_by}

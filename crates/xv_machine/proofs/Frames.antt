@@ -22,11 +22,11 @@ use Rattle.proc_table.specs.Processes.{status_of}
 use Rattle.proc_table.specs.Slots.{place_at, slot_of, descriptors_at}
 use Rattle.proc_table.specs.declared.process.Process.{Process}
 use Rattle.circular_buffer.specs.Buffer.{Buffer}
-use Rattle.kcall_core.specs.Words.{count_if}
-use Rattle.kcall_core.specs.ByPid.{by_pid}
-use Rattle.kcall_core.specs.Processes.{Live}
-use Rattle.kcall_core.specs.State.{live}
-use Rattle.kcall_core.specs.WellFormed.{sum_below}
+use Rattle.kernel_spec.specs.views.Words.{count_if}
+use Rattle.kernel_spec.specs.views.ByPid.{by_pid}
+use Rattle.kernel_spec.specs.views.Processes.{Live}
+use Rattle.kernel_spec.specs.views.State.{live}
+use Rattle.kernel_spec.specs.views.WellFormed.{sum_below}
 use Rattle.kcall_core.specs.Holdings.{held_at, or_nothing}
 use Rattle.kcall_core.specs.Memories as memories
 use Rattle.kcall_core.specs.Memories.{held_in, each_of, pipes_of, keeps_pipe, kept_pipe, process_frames, owners, free_of}
@@ -38,7 +38,7 @@ use Rattle.kcall_core.specs.declared.memories.Memory.{Memory}
 use Rattle.kcall_core.proofs.table.ByPid.{found, none}
 use Rattle.kcall_core.proofs.memory.Frames.{frames-at}
 use Rattle.kcall_core.proofs.table.States.{none-some, slot-inside}
-use Rattle.kcall_core.proofs.well.Sums.{sum_same}
+use Rattle.kernel_spec.proofs.well.Sums.{sum_same}
 use Rattle.kcall_core.proofs.table.Observed.{slot-found, entry-held, live-held, ended-held, pid-missing, missing-live}
 use Rattle.kcall_core.proofs.turns.Turned.{has-slots}
 use Rattle.xv_machine.specs.declared.trace.Note.{Note}

@@ -3,10 +3,10 @@ use Rattle.std.proofs.Common.{◌≡◌, ◌∙◌, ℕ, zero, suc, ◌+◌, ◌
 use Rattle.std.specs.Prelude.{is_some}
 use Rattle.std.proofs.lemmas.List.{replicate-append-replicate}
 use Rattle.circular_buffer.specs.Buffer.{keep_last}
-use Rattle.kcall_core.specs.View.{View}
-use Rattle.kcall_core.specs.Ready.{ready}
-use Rattle.kcall_core.specs.Run.{World, Event, Send, Sent, Step_of, Ticked, first_sent, out}
-use Rattle.kcall_core.specs.Wakes.{IsInCall, IsEnd, NoReadySleeper, Promised}
+use Rattle.kernel_spec.specs.views.View.{View}
+use Rattle.kernel_spec.specs.waking.Ready.{ready}
+use Rattle.kernel_spec.specs.runs.Run.{World, Event, Send, Sent, Step_of, Ticked, first_sent, out}
+use Rattle.kernel_spec.specs.waking.Wakes.{IsInCall, IsEnd, NoReadySleeper, Promised}
 use Rattle.xv_machine.specs.declared.trace.Note.{Note}
 use Rattle.xv_machine.specs.Devices.{Sink}
 use Rattle.xv_machine.specs.Drives.{Goes}
@@ -33,6 +33,7 @@ idle-send t unready empty = (
   ),
   λ p v sleeps seen. (λ wakes. absurd (wakes sleeps), λ due. λ s. never p v (unready p v sleeps seen) due),
   λ is. let no : ⊥ = cc in absurd no,
+  λ shown. shown,
 )
 
 -- a Send that gives nothing finds no byte

@@ -5,10 +5,10 @@ use Rattle.std.proofs.lemmas.Grind.{flat_map-append}
 use Rattle.std.proofs.KnownBytes.{Appends-nil, Appends-trans}
 use Rattle.std.specs.Io.KnownBytes.{Appends}
 use Rattle.circular_buffer.specs.Buffer.{keep_last}
-use Rattle.kcall_core.specs.Run.{Event, Run, Tick, Outcome, bytes_out, out}
-use Rattle.kcall_core.specs.Rounds.{events}
-use Rattle.kcall_core.specs.Wakes.{Promised}
-use Rattle.kcall_core.proofs.runs.Boot.{promised_runs_join}
+use Rattle.kernel_spec.specs.runs.Run.{Event, Run, Tick, Outcome, bytes_out, out}
+use Rattle.kernel_spec.specs.runs.Rounds.{events}
+use Rattle.kernel_spec.specs.waking.Wakes.{Promised}
+use Rattle.kernel_spec.proofs.runs.Boot.{promised_runs_join}
 use Rattle.xv_machine.specs.Devices.{Given, Sink, Calls, took, failed}
 use Rattle.xv_machine.specs.Drives.{Goes, Wrote, call_of, calls_of}
 use Rattle.xv_machine.specs.Meaning.{Meaning}

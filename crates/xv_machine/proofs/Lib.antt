@@ -15,4 +15,5 @@ pub mod Sent
 pub mod Idle
 pub mod Advances
 pub mod Written
+pub mod WorkedFrames
 mod worked

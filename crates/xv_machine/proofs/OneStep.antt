@@ -8,20 +8,20 @@ use Rattle.rv64i_core.specs.declared.execution.Stop.{Stop}
 use Rattle.rv64i_core.specs.declared.execution.Stop.TheVariants as stops
 use Rattle.hart_core.specs.declared.hart.Hart.{Hart}
 use Rattle.proc_table.specs.declared.process.Call.{Call}
-use Rattle.kcall_core.specs.Words.{A7, c_int, minus_one}
-use Rattle.kcall_core.specs.View.{View, view_of}
-use Rattle.kcall_core.specs.Own.{Own, Stepped, Exited, gone_with}
-use Rattle.kcall_core.specs.Calls.{gone}
-use Rattle.kcall_core.specs.Step.{own, call_in, call_or_begun}
-use Rattle.kcall_core.specs.Touches.{instruction_now}
-use Rattle.kcall_core.specs.RowLaws as laws
-use Rattle.kcall_core.specs.Run.{Outcome, Step_of}
+use Rattle.kernel_spec.specs.views.Words.{A7, c_int, minus_one}
+use Rattle.kernel_spec.specs.views.View.{View, view_of}
+use Rattle.kernel_spec.specs.steps.Own.{Own, Stepped, Exited, gone_with}
+use Rattle.kernel_spec.specs.rows.Calls.{gone}
+use Rattle.kernel_spec.specs.steps.Step.{own, call_in, call_or_begun}
+use Rattle.kernel_spec.specs.rows.Touches.{instruction_now}
+use Rattle.kernel_spec.specs.laws.RowLaws as laws
+use Rattle.kernel_spec.specs.runs.Run.{Outcome, Step_of}
 use Rattle.kcall_core.specs.Kernel.{state_of, IsRunning, pid_now, live_now}
 use Rattle.kcall_core.specs.Whole.{IsWhole}
 use Rattle.kcall_core.specs.Makes.{Makes, Stays, view_now, stop_now, answer_of}
 use Rattle.kcall_core.specs.declared.kernel.Kernel.{Kernel}
-use Rattle.kcall_core.proofs.steps.Alone.{end}
-use Rattle.kcall_core.proofs.rows.Pids.{own_sound}
+use Rattle.kernel_spec.proofs.steps.Alone.{end}
+use Rattle.kernel_spec.proofs.rows.Pids.{own_sound}
 use Rattle.kcall_core.proofs.making.Staying.{stays-view, makes-from}
 use Rattle.kcall_core.proofs.making.Undone.{next-now}
 use Rattle.kcall_core.specs.declared.call_end.CallEnd.{CallEnd}

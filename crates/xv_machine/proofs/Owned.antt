@@ -5,12 +5,12 @@ use Rattle.std.specs.Ordering.{nat_cmp}
 use Rattle.std.specs.FinMap.{FinMap, get, insert, get-empty}
 use Rattle.xk_base.specs.Frames.{copies}
 use Rattle.xk_base.proofs.Frames.{copies-nil, copies-append}
-use Rattle.kcall_core.specs.ByPid.{by_pid, put}
-use Rattle.kcall_core.specs.WellFormed.{sum_below}
+use Rattle.kernel_spec.specs.views.ByPid.{by_pid, put}
+use Rattle.kernel_spec.specs.views.WellFormed.{sum_below}
 use Rattle.kcall_core.specs.Memories.{all_joined}
 use Rattle.kcall_core.proofs.table.ByPid.{none}
-use Rattle.kcall_core.proofs.steps.Maps.{get_same, get_other}
-use Rattle.kcall_core.proofs.well.Sums.{sum_change}
+use Rattle.kernel_spec.proofs.steps.Maps.{get_same, get_other}
+use Rattle.kernel_spec.proofs.well.Sums.{sum_change}
 
 -- ---- sums
 

@@ -3,16 +3,16 @@ use Rattle.std.proofs.Common.{◌≡◌, ℕ, [], ◌∷◌, Option, Ok, Err, Re
 use Rattle.std.specs.Prelude.{IsSome}
 use Rattle.xk_base.specs.declared.errors.BootError.{BootError}
 use Rattle.xk_base.specs.declared.errors.BootError.TheVariants.{BadConfig, BadPrograms, NoInit, Memory, Init}
-use Rattle.kcall_core.specs.View.{View, view}
-use Rattle.kcall_core.specs.First.{first}
-use Rattle.kcall_core.specs.Run.{World}
-use Rattle.kcall_core.specs.Sources.{Stands}
-use Rattle.kcall_core.proofs.runs.Boot.{promised_is_run, isolated}
-use Rattle.kcall_core.proofs.runs.Cuts.{runs_are_cut, pids_are_given}
-use Rattle.kcall_core.proofs.runs.Two.{two_worlds}
-use Rattle.kcall_core.proofs.runs.Sources.{each_byte_has_its_source, stands_now}
-use Rattle.kcall_core.proofs.turns.TurnComes.{turn_comes}
-use Rattle.kcall_core.proofs.well.FirstWell.{first_alone}
+use Rattle.kernel_spec.specs.views.View.{View, view}
+use Rattle.kernel_spec.specs.runs.First.{first}
+use Rattle.kernel_spec.specs.runs.Run.{World}
+use Rattle.kernel_spec.specs.runs.Sources.{Stands}
+use Rattle.kernel_spec.proofs.runs.Boot.{promised_is_run, isolated}
+use Rattle.kernel_spec.proofs.runs.Cuts.{runs_are_cut, pids_are_given}
+use Rattle.kernel_spec.proofs.runs.Two.{two_worlds}
+use Rattle.kernel_spec.proofs.runs.Sources.{each_byte_has_its_source, stands_now}
+use Rattle.kernel_spec.proofs.turns.TurnComes.{turn_comes}
+use Rattle.kernel_spec.proofs.well.FirstWell.{first_alone}
 use Rattle.xv_machine.specs.Boots.{Boots}
 use Rattle.xv_machine.specs.Drives.{Goes}
 use Rattle.xv_machine.specs.Meaning.{Meaning}

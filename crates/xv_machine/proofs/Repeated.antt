@@ -9,16 +9,16 @@ use Rattle.rv64i_core.specs.declared.execution.Stop.{Stop}
 use Rattle.rv64i_core.specs.declared.execution.Stop.TheVariants as stops
 use Rattle.hart_core.specs.declared.hart.Hart.{Hart}
 use Rattle.proc_table.specs.declared.process.Call.{Call}
-use Rattle.kcall_core.specs.Processes.{Live}
-use Rattle.kcall_core.specs.State.{live}
-use Rattle.kcall_core.specs.View.{View, view, view_of}
-use Rattle.kcall_core.specs.Own.{Own, Stepped, Exited, goes_on}
-use Rattle.kcall_core.specs.Step.{own, stored}
-use Rattle.kcall_core.specs.Touches.{before_instruction}
-use Rattle.kcall_core.specs.RowLaws as laws
-use Rattle.kcall_core.specs.Run.{World, Run, Step_of, stays_current, halts_with}
-use Rattle.kcall_core.specs.Run as runs
-use Rattle.kcall_core.specs.Wakes.{Promised, IsPromised}
+use Rattle.kernel_spec.specs.views.Processes.{Live}
+use Rattle.kernel_spec.specs.views.State.{live}
+use Rattle.kernel_spec.specs.views.View.{View, view, view_of}
+use Rattle.kernel_spec.specs.steps.Own.{Own, Stepped, Exited, goes_on}
+use Rattle.kernel_spec.specs.steps.Step.{own, stored}
+use Rattle.kernel_spec.specs.rows.Touches.{before_instruction}
+use Rattle.kernel_spec.specs.laws.RowLaws as laws
+use Rattle.kernel_spec.specs.runs.Run.{World, Run, Step_of, stays_current, halts_with}
+use Rattle.kernel_spec.specs.runs.Run as runs
+use Rattle.kernel_spec.specs.waking.Wakes.{Promised, IsPromised}
 use Rattle.kcall_core.specs.Kernel.{state_of, IsRunning, pid_now, live_now}
 use Rattle.kcall_core.specs.Machine.{turns_of, world_of}
 use Rattle.kcall_core.specs.Whole.{IsWhole}
@@ -26,7 +26,7 @@ use Rattle.kcall_core.specs.Makes.{Makes, MakesDone, IsUndone, IsLastMade, Makes
 use Rattle.kcall_core.specs.declared.kernel.Kernel.{Kernel}
 use Rattle.kcall_core.specs.declared.call_end.CallEnd.{CallEnd}
 use Rattle.kcall_core.specs.declared.call_end.CallEnd.TheVariants.{Done, Wait, Gone}
-use Rattle.kcall_core.proofs.runs.Boot.{promised_runs_join}
+use Rattle.kernel_spec.proofs.runs.Boot.{promised_runs_join}
 use Rattle.kcall_core.proofs.runs.Promises.{step-promised, view-is}
 use Rattle.kcall_core.proofs.making.Undone.{before-pages, next-now}
 use Rattle.xv_machine.specs.declared.event.Outcome.{Outcome}

@@ -1,13 +1,13 @@
 -- Whole rounds, as far as a drive has come, and how it ends.
-use Rattle.std.proofs.Common.{◌≡◌, ◌∙◌, ℕ, zero, suc, ◌+◌, ◌-◌, ◌<◌, ◌≤◌, ◌⊎◌, cond, inl, inr, subst, refl, sym, ap, ap₂, arith, List, [], ◌∷◌, ◌++◌, append-nil, append_assoc, length, length-append, drop, replicate, slice_get, Bool, true, false, ◌||◌, Option, None, Some, IfSome}
+use Rattle.std.proofs.Common.{◌≡◌, ◌∙◌, ℕ, zero, suc, ◌+◌, ◌<◌, ◌≤◌, ◌⊎◌, cond, inl, inr, subst, refl, sym, ap, ap₂, arith, List, [], ◌∷◌, ◌++◌, append-nil, append_assoc, length, length-append, drop, replicate, slice_get, Bool, true, false, ◌||◌, Option, None, Some, IfSome}
 use Rattle.std.specs.Prelude.{not, is_none, is_some}
 use Rattle.std.specs.Option.{option_to_list}
 use Rattle.std.proofs.lemmas.Grind.{flat_map-append}
 use Rattle.std.specs.Io.KnownBytes.{Consumes}
 use Rattle.xk_base.specs.declared.limits.TheConstants.{SEND_BYTES}
-use Rattle.kcall_core.specs.Run.{Event, Run, Tick, Key, Send, Outcome, bytes_out}
-use Rattle.kcall_core.specs.Rounds.{key_events, round, events, halts, AreRounds}
-use Rattle.kcall_core.proofs.runs.Plans.{rounds_follow_rounds}
+use Rattle.kernel_spec.specs.runs.Run.{Event, Run, Tick, Key, Send, Outcome, bytes_out}
+use Rattle.kernel_spec.specs.runs.Rounds.{key_events, round, events, halts, AreRounds}
+use Rattle.kernel_spec.proofs.runs.Plans.{rounds_follow_rounds}
 use Rattle.sv39_core.proofs.Words.{ltb-yes, ltb-no}
 use Rattle.xv_machine.specs.Devices.{Source, Asked, Sink, Calls, failed}
 use Rattle.xv_machine.specs.declared.driving.RunPlan.{RunPlan}

@@ -5,15 +5,15 @@ use Rattle.std.proofs.lemmas.Bool.Decides.{eqb_tells}
 use Rattle.hart_core.specs.declared.hart.Hart.{Hart}
 use Rattle.std.specs.FinMap.{get}
 use Rattle.circular_buffer.specs.Buffer.{Buffer}
-use Rattle.kcall_core.specs.Processes.{Process, Alive, Zombie, parent_of}
-use Rattle.kcall_core.specs.State.{State, live, live_part}
-use Rattle.kcall_core.specs.View.{view, view_of}
-use Rattle.kcall_core.specs.Own.{Answer, Stepped, Called, Blocked, Exited, Faulted, gone_with}
-use Rattle.kcall_core.specs.Step.{own}
-use Rattle.kcall_core.specs.Run as runs
-use Rattle.kcall_core.specs.Run.{World, Step_of, TurnTaken, TickHappens, KeyHappens, SendHappens, IsButWoken, of_first, halts_with, stays_current}
-use Rattle.kcall_core.specs.Wakes.{IsRunnable, IsNearest, WakesWhereDue, Promised}
-use Rattle.kcall_core.specs.Turns.{Turns}
+use Rattle.kernel_spec.specs.views.Processes.{Process, Alive, Zombie, parent_of}
+use Rattle.kernel_spec.specs.views.State.{State, live, live_part}
+use Rattle.kernel_spec.specs.views.View.{view, view_of}
+use Rattle.kernel_spec.specs.steps.Own.{Answer, Stepped, Called, Blocked, Exited, Faulted, gone_with}
+use Rattle.kernel_spec.specs.steps.Step.{own}
+use Rattle.kernel_spec.specs.runs.Run as runs
+use Rattle.kernel_spec.specs.runs.Run.{World, Step_of, TurnTaken, TickHappens, KeyHappens, SendHappens, IsButWoken, of_first, halts_with, stays_current}
+use Rattle.kernel_spec.specs.waking.Wakes.{IsRunnable, IsNearest, WakesWhereDue, Promised}
+use Rattle.kernel_spec.specs.waking.Turns.{Turns}
 use Rattle.kcall_core.specs.Kernel.{state_of, IsRunning, pid_now, live_now}
 use Rattle.kcall_core.specs.Machine.{turns_of, world_of}
 use Rattle.kcall_core.specs.Whole.{IsWhole}

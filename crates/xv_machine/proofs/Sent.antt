@@ -3,11 +3,11 @@ use Rattle.std.proofs.Common.{◌≡◌, ◌≢◌, ◌⊎◌, inl, inr, ◌∙�
 use Rattle.std.specs.Prelude.{ℤ}
 use Rattle.std.proofs.lemmas.List.{length-replicate, replicate-append-replicate, replicate_more}
 use Rattle.circular_buffer.specs.Buffer.{keep_last}
-use Rattle.kcall_core.specs.Own.{Stepped}
-use Rattle.kcall_core.specs.Words.{or_zero}
-use Rattle.kcall_core.specs.Run.{World, Event, Run, Outcome, Step_of, Turn, Idle, Ticked, Typed, Sent, Halted, TurnTaken, RunHappens, Happens, out}
-use Rattle.kcall_core.specs.Rounds.{events}
-use Rattle.kcall_core.specs.Wakes.{Promised, IsPromised, is_turn}
+use Rattle.kernel_spec.specs.steps.Own.{Stepped}
+use Rattle.kernel_spec.specs.views.Words.{or_zero}
+use Rattle.kernel_spec.specs.runs.Run.{World, Event, Run, Outcome, Step_of, Turn, Idle, Ticked, Typed, Sent, Halted, TurnTaken, RunHappens, Happens, out}
+use Rattle.kernel_spec.specs.runs.Rounds.{events}
+use Rattle.kernel_spec.specs.waking.Wakes.{Promised, IsPromised, is_turn}
 use Rattle.xv_machine.specs.declared.trace.Note.{Note}
 use Rattle.xv_machine.specs.Drives.{Goes, done_by, AreRuns, Ran}
 use Rattle.xv_machine.specs.Machine.{SameTrace}

@@ -1,10 +1,10 @@
 -- Which events show bytes, and which halt the machine.
 use Rattle.std.proofs.Common.{◌≡◌, ◌∙◌, ℕ, Bool, true, false, ◌||◌, List, [], ◌∷◌, Option, None, Some, refl, sym, ap}
 use Rattle.std.specs.Prelude.{ℤ, is_some}
-use Rattle.kcall_core.specs.Rounds.{halts}
-use Rattle.kcall_core.specs.Run.{World, Event, Run, Tick, Key, Send, Outcome, Step_of, Turn, Idle, Ticked, Typed, Sent, Halted, Happens, RunHappens, TickHappens, KeyHappens, TurnTaken, halted_by, bytes_out}
-use Rattle.kcall_core.specs.Turns.{Turns}
-use Rattle.kcall_core.specs.Wakes.{IsPromised}
+use Rattle.kernel_spec.specs.runs.Rounds.{halts}
+use Rattle.kernel_spec.specs.runs.Run.{World, Event, Run, Tick, Key, Send, Outcome, Step_of, Turn, Idle, Ticked, Typed, Sent, Halted, Happens, RunHappens, TickHappens, KeyHappens, TurnTaken, halted_by, bytes_out}
+use Rattle.kernel_spec.specs.waking.Turns.{Turns}
+use Rattle.kernel_spec.specs.waking.Wakes.{IsPromised}
 
 module _ (w t : World) (o : Outcome) where
   -- ---- bytes

@@ -14,18 +14,18 @@ use Rattle.std.specs.FinMap.{empty}
 use Rattle.rv64i_core.specs.Registers.{fresh}
 use Rattle.hart_core.specs.Translations.{nothing_kept}
 use Rattle.hart_core.specs.declared.hart.Hart.{Hart}
-use Rattle.kcall_core.specs.Processes.{Alive}
-use Rattle.kcall_core.specs.Kernel.{state_of}
+use Rattle.kernel_spec.specs.views.Processes.{Alive}
+use Rattle.kcall_core.specs.Kernel.{state_of, IsIdle, IsSound}
 use Rattle.kcall_core.specs.declared.kernel.Kernel.{Kernel}
-use Rattle.kcall_core.proofs.steps.Maps.{get_same}
-use Rattle.kcall_core.specs.State.{ProgramFile, State, named_file, live, live_part}
-use Rattle.kcall_core.specs.Programs.{first_bad, init_of, init_name, program_bytes, program_named}
+use Rattle.kernel_spec.proofs.steps.Maps.{get_same}
+use Rattle.kernel_spec.specs.views.State.{ProgramFile, State, named_file, live, live_part}
+use Rattle.kernel_spec.specs.views.Programs.{first_bad, init_of, init_name, program_bytes, program_named}
 use Rattle.std.specs.Prelude.{find, bytes_eq}
 use Rattle.xk_base.specs.declared.program.Program.{Program}
 use Rattle.kcall_core.proofs.processes.Asking.{found-among}
-use Rattle.kcall_core.specs.First.{first, first_programs, first_init, first_loaded, first_state, first_turns, first_process}
-use Rattle.kcall_core.specs.NewKernel.{refusal, or_memory, empty_state}
-use Rattle.kcall_core.specs.Run.{World}
+use Rattle.kernel_spec.specs.runs.First.{first, first_programs, first_init, first_loaded, first_state, first_turns, first_process}
+use Rattle.kernel_spec.specs.views.NewKernel.{refusal, or_memory, empty_state}
+use Rattle.kernel_spec.specs.runs.Run.{World}
 use Rattle.console_core.specs.Lists.{empty_console}
 use Rattle.kcall_core.specs.Starts.{IsBlank, init_loaded, start_refusal, started_world}
 use Rattle.kcall_core.proofs.table.States.{none-some}
@@ -128,6 +128,11 @@ boots-without_init frames trace programs answer good missing told = by (first_ba
 
 any_hart : Hart
 any_hart = record { regs = fresh 0; root = None; cache = nothing_kept; decoded = tt; fault_address = 0 }
+
+-- one that is sound beside each hart without tables is so beside some hart
+pub sound-beside : (k : Kernel) → ((hart : Hart) → IsIdle hart → IsSound k hart) → (hart : Hart) × IsSound k hart
+unfolding any_hart
+sound-beside k sound = (any_hart, sound any_hart (refl, refl))
 
 -- it has the programs that it was made of
 pub programs-same : (k : Kernel) (frames : ℕ) (programs : List ProgramFile) → ((hart : Hart) → state_of k hart ≡ empty_state frames programs) → map named_file k.programs.items ≡ programs

@@ -2,6 +2,7 @@
 pub mod Boots
 pub mod Devices
 pub mod Drives
+pub mod Frames
 pub mod Notes
 pub mod Reached
 pub mod Sound

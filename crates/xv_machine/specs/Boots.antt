@@ -2,7 +2,7 @@
 use Rattle.std.specs.Prelude.{◌≡◌, ◌⊎◌, ℕ, [], Option, Some, None, Result, Ok, Err}
 use Rattle.xk_base.specs.declared.errors.BootError.{BootError}
 use Rattle.xk_base.specs.declared.errors.BootError.TheVariants.{BadConfig, BadPrograms, NoInit, Memory, Init}
-use Rattle.kcall_core.specs.Run.{World}
+use Rattle.kernel_spec.specs.runs.Run.{World}
 use Rattle.xv_machine.specs.Meaning.{Meaning}
 
 -- why there is no machine of programs of which none is called `init`: the least of them that is bad, and else just that

@@ -6,8 +6,8 @@ use Rattle.std.specs.Ordering.{nat_cmp}
 use Rattle.std.specs.Coded.{Coded, code_by, coded×, coded⊎, coded_ℕ, coded_ℤ, coded_list, coded_option}
 use Rattle.xk_base.specs.declared.access.Cause.{Cause}
 use Rattle.xk_base.specs.declared.access.Cause.TheVariants.{TargetMisaligned, IllegalInstruction, Breakpoint, LoadMisaligned, StoreMisaligned, FetchPageFault, LoadPageFault, StorePageFault}
-use Rattle.kcall_core.specs.Codes.{world_code}
-use Rattle.kcall_core.specs.Run.{World}
+use Rattle.kernel_spec.specs.views.Codes.{world_code}
+use Rattle.kernel_spec.specs.runs.Run.{World}
 use Rattle.xv_machine.specs.declared.trace.Note.{Note}
 use Rattle.xv_machine.specs.declared.trace.Note.TheVariants.{Stepped, Called, Blocked, Exited, Faulted, Turn, Idle, Ticked, Typed, Sent, Halted}
 use Rattle.xv_machine.specs.Meaning.{Owned, Frames, Meaning}

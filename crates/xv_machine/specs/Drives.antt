@@ -2,12 +2,12 @@
 use Rattle.std.specs.Prelude.{◌≡◌, ◌≢◌, ◌⊎◌, ℕ, ◌+◌, ◌<◌, Bool, List, [], ◌∷◌, ◌++◌, flat_map, length, replicate, nat_lt, if◌then◌else◌, Option, None, Some, IfSome, is_some, ⊤}
 use Rattle.std.specs.Io.KnownBytes.{Appends, Consumes}
 use Rattle.circular_buffer.specs.Buffer.{keep_last}
-use Rattle.kcall_core.specs.Run as runs
-use Rattle.kcall_core.specs.Own.{Stepped}
-use Rattle.kcall_core.specs.Run.{Event, Run, Tick, Key, Send, Outcome, Step_of, bytes_out, out}
-use Rattle.kcall_core.specs.Rounds.{events, Planned, StopsBeforeRound, EndsInRound}
-use Rattle.kcall_core.specs.Wakes.{IsPromised}
-use Rattle.kcall_core.specs.Words.{or_zero}
+use Rattle.kernel_spec.specs.runs.Run as runs
+use Rattle.kernel_spec.specs.steps.Own.{Stepped}
+use Rattle.kernel_spec.specs.runs.Run.{Event, Run, Tick, Key, Send, Outcome, Step_of, bytes_out, out}
+use Rattle.kernel_spec.specs.runs.Rounds.{events, Planned, StopsBeforeRound, EndsInRound}
+use Rattle.kernel_spec.specs.waking.Wakes.{IsPromised}
+use Rattle.kernel_spec.specs.views.Words.{or_zero}
 use Rattle.xv_machine.specs.Devices.{Source, Asked, Sink, Given, Calls, took, failed}
 use Rattle.xv_machine.specs.declared.driving.RunPlan.{RunPlan}
 use Rattle.xv_machine.specs.declared.driving.DriveEnd.{DriveEnd}

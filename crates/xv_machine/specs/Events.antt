@@ -1,7 +1,7 @@
 -- The events and the outcomes of the machine, in the words of runs.
 use Rattle.std.specs.Prelude.{ℤ, Option}
-use Rattle.kcall_core.specs.Own as answers
-use Rattle.kcall_core.specs.Run as runs
+use Rattle.kernel_spec.specs.steps.Own as answers
+use Rattle.kernel_spec.specs.runs.Run as runs
 use Rattle.xv_machine.specs.declared.event.Event.{Event}
 use Rattle.xv_machine.specs.declared.event.Event.TheVariants.{Run, Tick, Key, Send}
 use Rattle.xv_machine.specs.declared.event.Outcome.{Outcome}

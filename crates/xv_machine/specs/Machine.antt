@@ -7,7 +7,7 @@ use Rattle.sv39_core.specs.Tree.{frame_of}
 use Rattle.frame_list.specs.Pool.{free_in}
 use Rattle.proc_table.specs.Slots.{place_at}
 use Rattle.proc_table.specs.declared.process.Process.{Process}
-use Rattle.kcall_core.specs.ByPid.{by_pid}
+use Rattle.kernel_spec.specs.views.ByPid.{by_pid}
 use Rattle.kcall_core.specs.Kernel.{state_of}
 use Rattle.kcall_core.specs.Machine as kernel
 use Rattle.kcall_core.specs.Machine.{turns_of}

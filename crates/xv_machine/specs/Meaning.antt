@@ -2,7 +2,7 @@
 use Rattle.std.specs.Prelude.{ℕ, List}
 use Rattle.std.specs.FinMap.{FinMap}
 use Rattle.std.specs.Ordering.{nat_cmp}
-use Rattle.kcall_core.specs.Run.{World}
+use Rattle.kernel_spec.specs.runs.Run.{World}
 use Rattle.xv_machine.specs.declared.trace.Note.{Note}
 
 -- the frames of a live process, by what it has them for

@@ -1,7 +1,7 @@
 -- What a trace keeps of events: a note of each.
 use Rattle.std.specs.Prelude.{ℕ, List, map, length}
-use Rattle.kcall_core.specs.Own as answers
-use Rattle.kcall_core.specs.Run as runs
+use Rattle.kernel_spec.specs.steps.Own as answers
+use Rattle.kernel_spec.specs.runs.Run as runs
 use Rattle.xv_machine.specs.declared.trace.Note.{Note}
 use Rattle.xv_machine.specs.declared.trace.Note.TheVariants.{Stepped, Called, Blocked, Exited, Faulted, Turn, Idle, Ticked, Typed, Sent, Halted}
 

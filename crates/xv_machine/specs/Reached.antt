@@ -1,15 +1,16 @@
 -- What stands of a machine over whole runs: from boot, over every list of events.
 use Rattle.std.specs.Prelude.{◌≡◌, ◌≢◌, ◌⊎◌, ℕ, ◌-◌, ◌<◌, ◌≤◌, List, [], ◌∷◌, ◌++◌, map, Some, Ok, IsSome}
 use Rattle.circular_buffer.specs.Buffer.{keep_last}
+use Rattle.xk_base.specs.Chains.{Leads}
 use Rattle.xk_base.specs.declared.limits.TheConstants.{NPROC}
-use Rattle.kcall_core.specs.State.{ProgramFile}
-use Rattle.kcall_core.specs.View.{View, view}
-use Rattle.kcall_core.specs.Step.{own}
-use Rattle.kcall_core.specs.First.{first}
-use Rattle.kcall_core.specs.Run.{World, Event, Run, Outcome, Step_of, StateAfter, TurnsAfter}
-use Rattle.kcall_core.specs.Wakes.{Promised, IsPromised, IsRunnable, HasNoTurn, turns_taken}
-use Rattle.kcall_core.specs.Worlds.{IsStepOf, Moment, IsCut, AllBoth, IsFromBoot, shared, steps_of}
-use Rattle.kcall_core.specs.Sources.{Holds, Stands, WasPut}
+use Rattle.kernel_spec.specs.views.State.{ProgramFile}
+use Rattle.kernel_spec.specs.views.View.{View, view}
+use Rattle.kernel_spec.specs.steps.Step.{own}
+use Rattle.kernel_spec.specs.runs.First.{first}
+use Rattle.kernel_spec.specs.runs.Run.{World, Event, Run, Outcome, Step_of, StateAfter, TurnsAfter}
+use Rattle.kernel_spec.specs.waking.Wakes.{Promised, IsPromised, IsReady, IsRunnable, HasNoTurn, turns_taken}
+use Rattle.kernel_spec.specs.laws.Worlds.{IsStepOf, Moment, IsCut, AllBoth, IsFromBoot, shared, steps_of}
+use Rattle.kernel_spec.specs.runs.Sources.{Holds, Stands, WasPut}
 use Rattle.xv_machine.specs.Boots.{Boots, HasEmptyTrace}
 use Rattle.xv_machine.specs.Drives.{Goes}
 use Rattle.xv_machine.specs.Meaning.{Meaning}
@@ -26,8 +27,7 @@ pub record IsEvent (old : Meaning) (e : Event) (o : Outcome) (new : Meaning) : T
 
 -- by these, one behind another
 abbrev pub AreEvents : Meaning → List (Event × Outcome) → Meaning → Type 0
-AreEvents old [] new = new ≡ old
-AreEvents old (e ∷ es) new = (mid : Meaning) × IsEvent old e.0 e.1 mid × AreEvents mid es new
+AreEvents old list new = Leads (λ (m : Meaning) (e : Event × Outcome) (n : Meaning). IsEvent m e.0 e.1 n) old list new
 
 -- The machine m was booted with so many frames, a trace of so many notes and these programs, and has then gone by these events
 abbrev pub IsReached : (frames trace : ℕ) → List ProgramFile → List (Event × Outcome) → Meaning → Type 0
@@ -89,11 +89,11 @@ NoByteIsShown =
 
 -- ---- nobody waits for nothing, and nothing is lost
 
--- A process of a reached machine that may run, and doesn't run, has its turn after at most 63 turns of others
+-- A process of a reached machine that is ready, or may run, and doesn't run, has its turn after at most 63 turns of others
 abbrev pub TurnsCome : Type 0
 TurnsCome =
     (frames trace : ℕ) (programs : List ProgramFile) (es fs : List (Event × Outcome)) (m n : Meaning) (p : ℕ) → IsReached frames trace programs es m → Goes m fs n
-    → IsRunnable m.world p → m.world.turns.current ≢ Some p → HasNoTurn p fs → turns_taken fs ≤ NPROC - 1
+    → IsReady m.world p ⊎ IsRunnable m.world p → m.world.turns.current ≢ Some p → HasNoTurn p fs → turns_taken fs ≤ NPROC - 1
 
 -- A reached machine is sound: each of its frames is free or has one owner, nobody sleeps who could go on; and it has the frames that it was booted with
 abbrev pub ReachedIsSound : Type 0

@@ -3,12 +3,12 @@ use Rattle.std.specs.Prelude.{◌≡◌, ℕ, ℤ, ◌+◌, ◌*◌, ◌^◌, �
 use Rattle.std.specs.FinMap.{get, len, values}
 use Rattle.xk_base.specs.Frames.{copies}
 use Rattle.xk_base.specs.Image.{Image, some_below, price}
-use Rattle.kcall_core.specs.Words.{count_if}
-use Rattle.kcall_core.specs.Processes.{Live, Zombie}
-use Rattle.kcall_core.specs.State.{State, live}
-use Rattle.kcall_core.specs.Turns.{Turns}
-use Rattle.kcall_core.specs.WellFormed.{WellFormed, HasSlots, sum_below}
-use Rattle.kcall_core.specs.Wakes.{NoReadySleeper}
+use Rattle.kernel_spec.specs.views.Words.{count_if}
+use Rattle.kernel_spec.specs.views.Processes.{Live, Zombie}
+use Rattle.kernel_spec.specs.views.State.{State, live}
+use Rattle.kernel_spec.specs.waking.Turns.{Turns}
+use Rattle.kernel_spec.specs.views.WellFormed.{WellFormed, HasSlots, sum_below}
+use Rattle.kernel_spec.specs.waking.Wakes.{NoReadySleeper}
 use Rattle.xv_machine.specs.Meaning.{Owned, Frames, Meaning}
 
 -- ---- frames

@@ -1,13 +1,13 @@
 -- Steps of the process that runs, one after another. Only this crate's private functions speak of them.
 use Rattle.std.specs.Prelude.{◌≡◌, ◌≢◌, ◌⊎◌, ℕ, ◌<◌, true, List, [], ◌∷◌, ◌++◌, replicate, Option, None, Some, IsSome}
 use Rattle.hart_core.specs.declared.hart.Hart.{Hart}
-use Rattle.kcall_core.specs.Processes.{Live}
-use Rattle.kcall_core.specs.State.{live}
-use Rattle.kcall_core.specs.Own.{Stepped}
-use Rattle.kcall_core.specs.Step.{own}
-use Rattle.kcall_core.specs.Run as runs
-use Rattle.kcall_core.specs.Run.{Step_of}
-use Rattle.kcall_core.specs.Wakes.{IsPromised}
+use Rattle.kernel_spec.specs.views.Processes.{Live}
+use Rattle.kernel_spec.specs.views.State.{live}
+use Rattle.kernel_spec.specs.steps.Own.{Stepped}
+use Rattle.kernel_spec.specs.steps.Step.{own}
+use Rattle.kernel_spec.specs.runs.Run as runs
+use Rattle.kernel_spec.specs.runs.Run.{Step_of}
+use Rattle.kernel_spec.specs.waking.Wakes.{IsPromised}
 use Rattle.kcall_core.specs.Kernel.{frame_count, state_of, IsRunning, pid_now}
 use Rattle.kcall_core.specs.Machine.{world_of}
 use Rattle.kcall_core.specs.Whole.{IsWhole}

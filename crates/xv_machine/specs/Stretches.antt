@@ -1,7 +1,7 @@
 -- Stretches of a drive: events that were sent one after another. Only this crate's private functions speak of them.
 use Rattle.std.specs.Prelude.{◌≡◌, ◌≢◌, ℕ, Bool, true, false, List, [], ◌∷◌, ◌++◌, replicate, Option, None, Some, Result, MatchResult}
-use Rattle.kcall_core.specs.Run.{Event, Send, Outcome, Sent, bytes_out, out}
-use Rattle.kcall_core.specs.Rounds.{events}
+use Rattle.kernel_spec.specs.runs.Run.{Event, Send, Outcome, Sent, bytes_out, out}
+use Rattle.kernel_spec.specs.runs.Rounds.{events}
 use Rattle.xv_machine.specs.Devices.{GivesKey, Sink, Calls, failed}
 use Rattle.xv_machine.specs.Drives.{Goes, Wrote, calls_of}
 use Rattle.xv_machine.specs.Meaning.{Meaning}

@@ -2,9 +2,9 @@
 ghost use Rattle.std.specs.Prelude.{◌≡◌, ◌≢◌, ◌∷◌, [], false, if◌then◌else◌, OnOk, OnErr, IfOk, IfErr, replicate};
 ghost use Rattle.std.specs.Option.{option_to_list};
 ghost use Rattle.std.specs.Io.KnownBytes.{Appends};
-ghost use Rattle.kcall_core.specs.Run as runs;
-ghost use Rattle.kcall_core.specs.Run.{bytes_out};
-ghost use Rattle.kcall_core.specs.Rounds.{key_events, round};
+ghost use Rattle.kernel_spec.specs.runs.Run as runs;
+ghost use Rattle.kernel_spec.specs.runs.Run.{bytes_out};
+ghost use Rattle.kernel_spec.specs.runs.Rounds.{key_events, round};
 ghost use Rattle.xk_base.specs.declared.limits.TheConstants.{SEND_BYTES};
 ghost use Rattle.xv_machine.specs.Devices.{one_more, failed, Asked, Calls, OneFailed};
 ghost use Rattle.xv_machine.specs.Drives.{Done, StoppedByRead, StoppedByWrite, IsEndOf, OnRead, OnWrite, call_of};

@@ -1,6 +1,6 @@
 //! What a machine is told, and what it tells.
 ghost use Rattle.std.specs.Prelude.{◌≡◌};
-ghost use Rattle.kcall_core.specs.Run.{bytes_out};
+ghost use Rattle.kernel_spec.specs.runs.Run.{bytes_out};
 ghost use Rattle.xv_machine.specs.Events.{outcome_of};
 
 use crate::trace::Note;

@@ -2,9 +2,9 @@
 //!
 //! A [`Machine`] is booted from program files, of which one is called `init`, and then takes events
 //! one by one. It is a kernel and the hart that runs its processes, and stands for a world of
-//! `kcall_core` (`world_of` of its `specs/Machine.antt`). What an event does there, who wakes and whose
-//! turn it is, is `Promised` of its `specs/Wakes.antt`; the first world is `first` of its
-//! `specs/First.antt`. Whose each frame of RAM is, is said in `specs/Sound.antt`.
+//! `kernel_spec` (`world_of` of `specs/Machine.antt` in `kcall_core`). What an event does there, who wakes and whose
+//! turn it is, is `Promised` of `kernel_spec`'s `specs/waking/Wakes.antt`; the first world is `first` of its
+//! `specs/runs/First.antt`. Whose each frame of RAM is, is said in `specs/Sound.antt`.
 #![tactic(auto)]
 
 mod devices;
@@ -19,6 +19,9 @@ mod trace_runs;
 pub use devices::{ByteSink, Counted, DeviceFault, KeySource};
 pub use driving::{DriveEnd, DriveError, RunPlan, drive};
 pub use event::{Event, Outcome};
-pub use kcall_core::{ChildState, Echo};
+pub use kcall_core::{
+    Call, ChildState, ConsoleList, Descriptor, Echo, End, FileId, OpenFile, PipeCounts,
+    ProcessState, Target,
+};
 pub use machine::{Config, Machine};
 pub use trace::Note;

@@ -2,11 +2,13 @@
 ghost use Rattle.std.specs.Prelude.{◌≡◌, ◌∷◌, ◌++◌, [], is_some, map, replicate};
 ghost use Rattle.circular_buffer.specs.Buffer.{buffer, keep_last};
 ghost use Rattle.xv_machine.specs.declared.trace.Note.TheVariants.{Stepped};
-ghost use Rattle.kcall_core.specs.State.{named_file};
-ghost use Rattle.kcall_core.specs.Programs.{first_bad, init_of};
+ghost use Rattle.kernel_spec.specs.views.State.{named_file};
+ghost use Rattle.kernel_spec.specs.views.Programs.{first_bad, init_of};
 ghost use Rattle.xv_machine.specs.Boots.{without_init};
-ghost use Rattle.kcall_core.specs.Wakes.{is_turn};
+ghost use Rattle.kernel_spec.specs.waking.Wakes.{is_turn};
 ghost use Rattle.xv_machine.specs.Events.{outcome_of, halted_by};
+
+mod observers;
 
 use crate::event::{Event, Outcome};
 use crate::step::{Stretch, advance, step};
@@ -136,15 +138,15 @@ impl Model for Machine {
 
 impl Machine {
     ghost use Rattle.std.specs.Prelude.{◌≡◌, ◌<◌, ◌≤◌, true, [], ◌∷◌, ◌++◌, Some, None, IfOk, is_some, length, map, option_map, replicate, slice_get};
-    ghost use Rattle.kcall_core.specs.State.{named_file};
+    ghost use Rattle.kernel_spec.specs.views.State.{named_file};
     ghost use Rattle.hart_core.specs.declared.hart.Hart.{Hart};
-    ghost use Rattle.kcall_core.specs.Programs.{init_of};
+    ghost use Rattle.kernel_spec.specs.views.Programs.{init_of};
     ghost use Rattle.kcall_core.specs.Starts.{IsBlank};
     ghost use Rattle.kcall_core.specs.Kernel as kernels;
     ghost use Rattle.kcall_core.specs.Whole.{IsWhole};
-    ghost use Rattle.kcall_core.specs.First.{first, first_init};
-    ghost use Rattle.kcall_core.specs.Run as runs;
-    ghost use Rattle.kcall_core.specs.Wakes.{Promised, IsPromised};
+    ghost use Rattle.kernel_spec.specs.runs.First.{first, first_init};
+    ghost use Rattle.kernel_spec.specs.runs.Run as runs;
+    ghost use Rattle.kernel_spec.specs.waking.Wakes.{Promised, IsPromised};
     ghost use Rattle.kcall_core.specs.Observers.{registers_of, byte_at, child_at, shown};
     ghost use Rattle.circular_buffer.specs.Buffer.{keep_last};
     ghost use Rattle.xv_machine.specs.Boots.{Boots, HasEmptyTrace};

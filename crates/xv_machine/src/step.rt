@@ -1,10 +1,10 @@
 //! Steps of the process that runs.
 ghost use Rattle.std.specs.Prelude.{◌≡◌, ◌≢◌, ℕ, ◌<◌, true, false, IsSome};
-ghost use Rattle.kcall_core.specs.Step.{own};
-ghost use Rattle.kcall_core.specs.RowLaws as laws;
-ghost use Rattle.kcall_core.specs.Run.{Step_of};
-ghost use Rattle.kcall_core.specs.Own.{Stepped};
-ghost use Rattle.kcall_core.specs.State.{live};
+ghost use Rattle.kernel_spec.specs.steps.Step.{own};
+ghost use Rattle.kernel_spec.specs.laws.RowLaws as laws;
+ghost use Rattle.kernel_spec.specs.runs.Run.{Step_of};
+ghost use Rattle.kernel_spec.specs.steps.Own.{Stepped};
+ghost use Rattle.kernel_spec.specs.views.State.{live};
 ghost use Rattle.kcall_core.specs.Kernel.{state_of, IsSound, IsRunning, pid_now, live_now};
 ghost use Rattle.kcall_core.specs.Whole.{IsWhole};
 ghost use Rattle.kcall_core.specs.Makes.{Makes, view_now, stop_now, answer_of};

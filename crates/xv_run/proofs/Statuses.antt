@@ -1,6 +1,6 @@
 -- The exit status tells how a run ended.
 use Rattle.std.proofs.Common.{◌≡◌, ◌≢◌, ◌⊎◌, ℕ, zero, suc, ℤ, pos, negsuc, List, None, Some, Result, Ok, Err, OnOk, IfOk, IfErr, arith, refl, inl, inr, rules}
-use Rattle.kcall_core.specs.Run.{World}
+use Rattle.kernel_spec.specs.runs.Run.{World}
 use Rattle.xk_base.specs.declared.errors.BootError.{BootError}
 use Rattle.xk_base.specs.declared.errors.BootError.TheVariants.{BadConfig, BadPrograms, NoInit, Memory, Init}
 use Rattle.xv_machine.specs.Boots.{Boots}
@@ -13,8 +13,8 @@ use Rattle.xv_machine.specs.Devices.{OneFailed}
 use Rattle.xv_machine.specs.Drives.{Done, IsEndOf, OnRead, OnWrite}
 use Rattle.xv_machine.specs.Meaning.{Meaning}
 use Rattle.xv_machine.specs.declared.machine.Config.{Config}
-use Rattle.kcall_core.specs.First.{first}
-use Rattle.kcall_core.specs.State.{ProgramFile}
+use Rattle.kernel_spec.specs.runs.First.{first}
+use Rattle.kernel_spec.specs.views.State.{ProgramFile}
 use Rattle.xv_run.specs.Runs.{Devices, Tells, Says, exit_status, status_of}
 
 -- an exit with 0 is told as 0, and any other as 3

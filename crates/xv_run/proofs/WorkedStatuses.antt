@@ -1,10 +1,10 @@
 -- Worked cases of what an exit status says of a run.
 use Rattle.std.proofs.Common.{◌≡◌, ◌≢◌, ◌∙◌, ℕ, zero, suc, ◌≤◌, List, [], ◌∷◌, Option, Some, None, Result, Ok, Err, inl, inr, refl, sym, ap, subst, arith}
 use Rattle.std.specs.Prelude.{ℤ, pos, negsuc}
-use Rattle.kcall_core.specs.Wakes.{IsPromised}
-use Rattle.kcall_core.specs.Rounds.{AreRounds}
-use Rattle.kcall_core.specs.Run.{World, Event, Outcome}
-use Rattle.kcall_core.specs.State.{ProgramFile}
+use Rattle.kernel_spec.specs.waking.Wakes.{IsPromised}
+use Rattle.kernel_spec.specs.runs.Rounds.{AreRounds}
+use Rattle.kernel_spec.specs.runs.Run.{World, Event, Outcome}
+use Rattle.kernel_spec.specs.views.State.{ProgramFile}
 use Rattle.xv_machine.specs.declared.driving.DriveEnd.TheVariants.{Halted, RoundsOver}
 use Rattle.xv_machine.specs.declared.driving.DriveError.TheVariants.{Read, Write}
 use Rattle.xv_machine.specs.declared.driving.RunPlan.{RunPlan}

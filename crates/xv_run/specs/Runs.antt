@@ -1,7 +1,7 @@
 -- What a run of the program comes to, by its exit status.
 use Rattle.std.specs.Prelude.{◌≡◌, ◌≢◌, ◌⊎◌, ℕ, zero, suc, ℤ, pos, negsuc, List, Option, None, Some, Result, Ok, Err}
-use Rattle.kcall_core.specs.First.{first}
-use Rattle.kcall_core.specs.State.{ProgramFile}
+use Rattle.kernel_spec.specs.runs.First.{first}
+use Rattle.kernel_spec.specs.views.State.{ProgramFile}
 use Rattle.xv_machine.specs.declared.driving.DriveEnd.{DriveEnd}
 use Rattle.xv_machine.specs.declared.driving.DriveEnd.TheVariants.{Halted, RoundsOver}
 use Rattle.xv_machine.specs.declared.driving.DriveError.{DriveError}

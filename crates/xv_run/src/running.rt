@@ -1,6 +1,6 @@
 //! A run: from boot to the closing line.
 ghost use Rattle.std.specs.Prelude.{◌≡◌, map};
-ghost use Rattle.kcall_core.specs.State.{named_file};
+ghost use Rattle.kernel_spec.specs.views.State.{named_file};
 ghost use Rattle.xv_run.specs.Runs.{Devices, Says, Tells, exit_status, status_of};
 
 use crate::failure::Failure;

@@ -14,18 +14,19 @@ use Rattle.file_table.specs.Named.{named_by}
 use Rattle.file_table.specs.declared.open_file.OpenFile.{OpenFile}
 use Rattle.proc_table.specs.Slots.{place_at, descriptors_at}
 use Rattle.proc_table.specs.declared.process.Process.{Process}
-use Rattle.kcall_core.specs.Words.{or_zero}
-use Rattle.kcall_core.specs.Processes as meaning
-use Rattle.kcall_core.specs.Processes.{Live, Alive}
-use Rattle.kcall_core.specs.State.{State, live_part}
-use Rattle.kcall_core.specs.Quiet.{file_of, end_of, target_of_open}
-use Rattle.kcall_core.specs.Updates.{fewer_on, freed_on, fewer_on_all, freed_on_all, changed_state, with_closed}
-use Rattle.kcall_core.specs.RowLaws.{IsLive}
+use Rattle.kernel_spec.specs.views.Words.{or_zero}
+use Rattle.kernel_spec.specs.views.Processes as meaning
+use Rattle.kernel_spec.specs.views.Processes.{Live, Alive}
+use Rattle.kernel_spec.specs.views.State.{State, live_part}
+use Rattle.kernel_spec.specs.others.Quiet.{file_of, end_of, target_of_open}
+use Rattle.kernel_spec.specs.steps.Updates.{fewer_on, freed_on, fewer_on_all, freed_on_all, changed_state, with_closed}
+use Rattle.kernel_spec.specs.laws.RowLaws.{IsLive}
 use Rattle.kcall_core.specs.Kernel.{state_of, or_nobody, slot_now, pid_now, live_now}
-use Rattle.kcall_core.specs.Closings.{closes_wake, woken_by, IsClosing, Remains, target_now, Closes, ClosesFrom}
+use Rattle.kcall_core.specs.Closings.{woken_by, IsClosing, Remains, target_now, Closes, ClosesFrom}
+use Rattle.kernel_spec.specs.waking.SleepsOn.{closes_wake}
 use Rattle.kcall_core.specs.declared.kernel.Kernel.{Kernel}
 use Rattle.kcall_core.proofs.turns.Turned.{live-is}
-use Rattle.kcall_core.proofs.steps.Maps.{get_same, get_other, get_without}
+use Rattle.kernel_spec.proofs.steps.Maps.{get_same, get_other, get_without}
 use Rattle.kcall_core.proofs.files.Namings.{named-seen, files-kept}
 use Rattle.kcall_core.proofs.table.Woken.{woken-none, woken-twice, option-twice}
 use Rattle.kcall_core.proofs.files.PipeLeft.{same-wakes, wakes-twice}

@@ -15,41 +15,42 @@ use Rattle.proc_table.specs.Slots.{place_at, changed_at}
 use Rattle.proc_table.specs.declared.channel.Channel.{Channel}
 use Rattle.proc_table.specs.declared.process.Call.{Call}
 use Rattle.proc_table.specs.declared.process.Process.{Process}
-use Rattle.kcall_core.specs.Words.{c_int, word, or_zero}
-use Rattle.kcall_core.specs.PipeEnds.{parted, is_given_up}
-use Rattle.kcall_core.specs.Processes.{Live, Alive}
-use Rattle.kcall_core.specs.State.{State}
-use Rattle.kcall_core.specs.View.{View, Descriptor, view_of, show, numbered, rename, descriptor_at, descriptor_on, least_on_pipe, pipe_name}
-use Rattle.kcall_core.specs.Own.{Own, Called, Blocked}
-use Rattle.kcall_core.specs.Calls.{close, refused, with_a0}
-use Rattle.kcall_core.specs.Run.{IsBlocked}
-use Rattle.kcall_core.specs.Quiet.{pipe_of_target, end_of, target_of_open}
-use Rattle.kcall_core.specs.Updates.{changed_state, own_state, with_answer, with_closed, fewer_on, fewer_at, freed_on, freed_at, settled}
-use Rattle.kcall_core.specs.WellFormed.{WellFormed}
-use Rattle.kcall_core.specs.RowLaws.{IsLive, After, FilesLeft}
-use Rattle.kcall_core.specs.Closings.{closes_wake, unless_woken, woken_by, Closes}
+use Rattle.kernel_spec.specs.views.Words.{c_int, word, or_zero}
+use Rattle.kernel_spec.specs.views.PipeEnds.{parted, is_given_up}
+use Rattle.kernel_spec.specs.views.Processes.{Live, Alive}
+use Rattle.kernel_spec.specs.views.State.{State}
+use Rattle.kernel_spec.specs.views.View.{View, Descriptor, view_of, show, numbered, rename, descriptor_at, descriptor_on, least_on_pipe, pipe_name}
+use Rattle.kernel_spec.specs.steps.Own.{Own, Called, Blocked}
+use Rattle.kernel_spec.specs.rows.Calls.{close, refused, with_a0}
+use Rattle.kernel_spec.specs.runs.Run.{IsBlocked}
+use Rattle.kernel_spec.specs.others.Quiet.{pipe_of_target, end_of, target_of_open}
+use Rattle.kernel_spec.specs.steps.Updates.{changed_state, own_state, with_answer, with_closed, fewer_on, fewer_at, freed_on, freed_at, settled}
+use Rattle.kernel_spec.specs.views.WellFormed.{WellFormed}
+use Rattle.kernel_spec.specs.laws.RowLaws.{IsLive, After, FilesLeft}
+use Rattle.kcall_core.specs.Closings.{unless_woken, woken_by, Closes}
+use Rattle.kernel_spec.specs.waking.SleepsOn.{closes_wake}
 use Rattle.kcall_core.specs.Kernel.{frame_count, state_of, IsRunning, slot_now, place_now, pid_now, live_now}
 use Rattle.kcall_core.specs.Whole.{IsWhole, AreCounted}
 use Rattle.kcall_core.specs.Makes.{Makes, view_now}
 use Rattle.kcall_core.specs.declared.kernel.Kernel.{Kernel}
-use Rattle.kcall_core.proofs.steps.Maps.{get_same, insert-twice}
+use Rattle.kernel_spec.proofs.steps.Maps.{get_same, insert-twice}
 use Rattle.kcall_core.proofs.table.States.{none-some, running}
-use Rattle.kcall_core.proofs.steps.Names.{named_at}
+use Rattle.kernel_spec.proofs.steps.Names.{named_at}
 use Rattle.kcall_core.proofs.turns.Turned.{live-is}
 use Rattle.kcall_core.proofs.table.OnePlace.{ItsPlace, changed-place, place-counted, in-call-lives, in-call-channel}
 use Rattle.kcall_core.proofs.turns.WhoRuns.{place-is, place-lives, now-is}
 use Rattle.kcall_core.proofs.table.Woken.{woken_by-status, woken-channel}
 use Rattle.kcall_core.proofs.making.CallAnswers.{IsDone}
 use Rattle.kcall_core.proofs.files.Namings.{files-left}
-use Rattle.kcall_core.proofs.steps.Pipes.{least_there}
-use Rattle.kcall_core.proofs.well.WellLaws as well
-use Rattle.kcall_core.proofs.steps.Descriptors.{close_law, close_pipe_law}
-use Rattle.kcall_core.proofs.rows.Decoding.{close_case}
+use Rattle.kernel_spec.proofs.steps.Pipes.{least_there}
+use Rattle.kernel_spec.proofs.well.WellLaws as well
+use Rattle.kernel_spec.proofs.steps.Descriptors.{close_law, close_pipe_law}
+use Rattle.kernel_spec.proofs.rows.Decoding.{close_case}
 use Rattle.kcall_core.proofs.files.AllClosed.{same-pid}
 use Rattle.kcall_core.proofs.files.PipeOpens.{opens-on-pipes, fewer-wake}
 use Rattle.kcall_core.proofs.making.Filing.{Filed, filed-makes}
-use Rattle.kcall_core.proofs.rows.RowParts.{close_at, close_on, close_number}
-use Rattle.kcall_core.proofs.rows.RowsByParts.{close_same}
+use Rattle.kernel_spec.proofs.rows.RowParts.{close_at, close_on, close_number}
+use Rattle.kernel_spec.proofs.rows.RowsByParts.{close_same}
 
 -- ---- what its row tells, whatever the descriptor is on
 

@@ -22,21 +22,20 @@ use Rattle.file_table.specs.declared.open_file.Target.{Target}
 use Rattle.file_table.specs.declared.open_file.Target.TheVariants.{Console as Terminal, Program as File, Pipe as Pipe_end}
 use Rattle.proc_table.specs.Slots.{Slots, place_at, place_is_live, descriptors_at}
 use Rattle.proc_table.specs.declared.process.Call.{Call}
-use Rattle.kcall_core.specs.Words.{c_int}
-use Rattle.kcall_core.specs.PipeEnds.{joined}
-use Rattle.kcall_core.specs.Processes.{Live}
-use Rattle.kcall_core.specs.State.{State}
-use Rattle.kcall_core.specs.View.{View, Descriptor, view_of, show, numbered, rename, descriptor_at, descriptor_on, least_on_pipe, pipe_name, or_gone}
-use Rattle.kcall_core.specs.Own.{Own, Called}
-use Rattle.kcall_core.specs.Tables.{lowest_free}
-use Rattle.kcall_core.specs.Calls.{dup, refused}
-use Rattle.kcall_core.specs.Quiet.{pipe_of_target}
-use Rattle.kcall_core.specs.Updates as update
-use Rattle.kcall_core.specs.Updates.{changed_state, with_answer, more_on, more_at}
-use Rattle.kcall_core.specs.WellFormed.{WellFormed}
-use Rattle.kcall_core.specs.RowLaws.{IsLive, After, OnPipe}
+use Rattle.kernel_spec.specs.views.Words.{c_int}
+use Rattle.kernel_spec.specs.views.PipeEnds.{joined, has_bytes, has_room}
+use Rattle.kernel_spec.specs.views.Processes.{Live}
+use Rattle.kernel_spec.specs.views.State.{State}
+use Rattle.kernel_spec.specs.views.View.{View, Descriptor, view_of, show, numbered, rename, descriptor_at, descriptor_on, least_on_pipe, pipe_name, or_gone}
+use Rattle.kernel_spec.specs.steps.Own.{Own, Called}
+use Rattle.kernel_spec.specs.rows.Tables.{lowest_free}
+use Rattle.kernel_spec.specs.rows.Calls.{dup, refused}
+use Rattle.kernel_spec.specs.others.Quiet.{pipe_of_target}
+use Rattle.kernel_spec.specs.steps.Updates as update
+use Rattle.kernel_spec.specs.steps.Updates.{changed_state, with_answer, more_on, more_at}
+use Rattle.kernel_spec.specs.views.WellFormed.{WellFormed}
+use Rattle.kernel_spec.specs.laws.RowLaws.{IsLive, After, OnPipe}
 use Rattle.kcall_core.specs.Closings.{woken_by}
-use Rattle.kcall_core.specs.Conditions.{has_bytes, has_room}
 use Rattle.kcall_core.specs.Holdings.{pipe_cost, or_new, pipe_named}
 use Rattle.kcall_core.specs.Memories.{pipes_of, free_of}
 use Rattle.kcall_core.specs.Sharings.{Joins}
@@ -45,17 +44,17 @@ use Rattle.kcall_core.specs.Whole.{IsWhole, AreCounted}
 use Rattle.kcall_core.specs.Makes.{Makes, view_now}
 use Rattle.kcall_core.specs.declared.kernel.Kernel.{Kernel}
 use Rattle.kcall_core.specs.declared.memories.Memories.{Memories}
-use Rattle.kcall_core.proofs.steps.Maps.{get_at}
+use Rattle.kernel_spec.proofs.steps.Maps.{get_at}
 use Rattle.kcall_core.proofs.table.States.{none-some, slot-inside}
 use Rattle.kcall_core.proofs.table.Stops.{live-place, now-slot}
 use Rattle.kcall_core.proofs.turns.Turned.{live-is}
-use Rattle.kcall_core.proofs.steps.Names.{named_at}
-use Rattle.kcall_core.proofs.steps.Pipes.{least_there}
+use Rattle.kernel_spec.proofs.steps.Names.{named_at}
+use Rattle.kernel_spec.proofs.steps.Pipes.{least_there}
 use Rattle.kcall_core.proofs.table.Woken.{place-each, each-none}
 use Rattle.kcall_core.proofs.files.Namings.{named-seen}
-use Rattle.kcall_core.proofs.well.WellOpens.{well_dup, well_dup_pipe}
-use Rattle.kcall_core.proofs.steps.Descriptors.{dup_law, dup_pipe_law}
-use Rattle.kcall_core.proofs.rows.Decoding.{dup_case}
+use Rattle.kernel_spec.proofs.well.WellOpens.{well_dup, well_dup_pipe}
+use Rattle.kernel_spec.proofs.steps.Descriptors.{dup_law, dup_pipe_law}
+use Rattle.kernel_spec.proofs.rows.Decoding.{dup_case}
 use Rattle.kcall_core.proofs.turns.StepSlots.{KeepsAll}
 use Rattle.kcall_core.proofs.making.CallAnswers.{IsDone}
 use Rattle.kcall_core.proofs.files.Taking.{Shares}
@@ -65,8 +64,8 @@ use Rattle.kcall_core.proofs.files.OpenRoom.{whole_has_room}
 use Rattle.kcall_core.proofs.files.UsedDescriptor.{InUse}
 use Rattle.kcall_core.proofs.making.Midway.{WakeOn, Midway, midway-done}
 use Rattle.kcall_core.proofs.making.Moved.{nobody}
-use Rattle.kcall_core.proofs.rows.RowParts.{dup_at, dup_on, dup_number}
-use Rattle.kcall_core.proofs.rows.RowsByParts.{dup_same}
+use Rattle.kernel_spec.proofs.rows.RowParts.{dup_at, dup_on, dup_number}
+use Rattle.kernel_spec.proofs.rows.RowsByParts.{dup_same}
 
 -- with one descriptor more, what was shut stays so
 module _ (x : Pipe) (end : End) where

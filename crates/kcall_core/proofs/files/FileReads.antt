@@ -19,19 +19,20 @@ use Rattle.file_table.specs.declared.open_file.Target.{Target}
 use Rattle.file_table.specs.declared.open_file.Target.TheVariants.{Program as File}
 use Rattle.proc_table.specs.Slots.{descriptors_at}
 use Rattle.proc_table.specs.declared.process.Call.{Call}
-use Rattle.kcall_core.specs.Words.{or_zero}
-use Rattle.kcall_core.specs.Buffers.{writable_now}
-use Rattle.kcall_core.specs.Processes.{Live}
-use Rattle.kcall_core.specs.Programs.{program_bytes}
-use Rattle.kcall_core.specs.State.{State}
-use Rattle.kcall_core.specs.View.{View, view_of, numbered, rename_shown, show}
-use Rattle.kcall_core.specs.Own.{Own, Called}
-use Rattle.kcall_core.specs.Calls.{read}
-use Rattle.kcall_core.specs.Quiet.{target_of_open}
-use Rattle.kcall_core.specs.Updates.{changed_state, filed_state, set_file, with_answer, with_bytes}
-use Rattle.kcall_core.specs.Conditions.{at_start}
-use Rattle.kcall_core.specs.RowLaws.{After, name_of_file}
-use Rattle.kcall_core.specs.WellFormed.{WellFormed}
+use Rattle.kernel_spec.specs.views.Words.{or_zero}
+use Rattle.kernel_spec.specs.rows.Buffers.{writable_now}
+use Rattle.kernel_spec.specs.views.Processes.{Live}
+use Rattle.kernel_spec.specs.views.Programs.{program_bytes}
+use Rattle.kernel_spec.specs.views.State.{State}
+use Rattle.kernel_spec.specs.views.View.{View, view_of, numbered, rename_shown, show}
+use Rattle.kernel_spec.specs.steps.Own.{Own, Called}
+use Rattle.kernel_spec.specs.rows.Calls.{read}
+use Rattle.kernel_spec.specs.others.Quiet.{target_of_open}
+use Rattle.kernel_spec.specs.steps.Updates.{changed_state, filed_state, set_file, with_answer, with_bytes}
+use Rattle.kernel_spec.specs.waking.Conditions.{at_start}
+use Rattle.kernel_spec.specs.laws.RowLaws.{After}
+use Rattle.kernel_spec.proofs.steps.Names.{name_of_file}
+use Rattle.kernel_spec.specs.views.WellFormed.{WellFormed}
 use Rattle.kcall_core.specs.Holdings.{held_at, or_nothing, with_image, HasMemory}
 use Rattle.kcall_core.specs.Memories.{each_of, free_of, RunsIn, SlotChanges}
 use Rattle.kcall_core.specs.Kernel.{frame_count, live_of, state_of, IsSound, IsRunning, slot_now, place_now, pid_now, live_now}
@@ -40,20 +41,20 @@ use Rattle.kcall_core.specs.Makes.{Makes, view_now}
 use Rattle.kcall_core.specs.Moves.{OnFile}
 use Rattle.kcall_core.specs.declared.kernel.Kernel.{Kernel}
 use Rattle.kcall_core.specs.declared.memories.Memories.{Memories}
-use Rattle.kcall_core.proofs.steps.Maps.{get_at, get_same, get_other}
+use Rattle.kernel_spec.proofs.steps.Maps.{get_at, get_same, get_other}
 use Rattle.kcall_core.proofs.files.Namings.{files-seen}
 use Rattle.kcall_core.proofs.table.States.{running, goes-processes, goes-sound, changed-here, changed-has, changed-goes}
 use Rattle.kcall_core.proofs.turns.Turned.{live-is}
-use Rattle.kcall_core.proofs.rows.Decoding.{read_case}
-use Rattle.kcall_core.proofs.steps.OnFiles.{file_read}
-use Rattle.kcall_core.proofs.well.WellLaws as well
-use Rattle.kcall_core.proofs.well.WellSteps as steps
+use Rattle.kernel_spec.proofs.rows.Decoding.{read_case}
+use Rattle.kernel_spec.proofs.steps.OnFiles.{file_read}
+use Rattle.kernel_spec.proofs.well.WellLaws as well
+use Rattle.kernel_spec.proofs.well.WellSteps as steps
 use Rattle.kcall_core.proofs.turns.StepSlots.{KeepsAll}
 use Rattle.kcall_core.proofs.making.CallAnswers.{IsDone}
 use Rattle.kcall_core.proofs.making.Midway.{Midway, midway-done}
 use Rattle.kcall_core.proofs.making.Moved.{nobody, still}
 use Rattle.kcall_core.proofs.files.MovingRows.{shown-at, shown-there}
-use Rattle.kcall_core.proofs.rows.RowParts.{read_from, read_file}
+use Rattle.kernel_spec.proofs.rows.RowParts.{read_from, read_file}
 
 -- ---- the table of open files, with another offset
 

@@ -11,16 +11,16 @@ use Rattle.xk_base.specs.declared.limits.TheConstants.{NOFILE}
 use Rattle.hart_core.specs.declared.hart.Hart.{Hart}
 use Rattle.file_table.specs.Named.{named_by}
 use Rattle.proc_table.specs.Slots.{Slots, descriptors_at}
-use Rattle.kcall_core.specs.Tables.{lowest_free, lowest_free_above}
+use Rattle.kernel_spec.specs.rows.Tables.{lowest_free, lowest_free_above}
 use Rattle.kcall_core.specs.Kernel.{frame_count, state_of, IsRunning, slot_now, pid_now, live_now}
 use Rattle.kcall_core.specs.Whole.{IsWhole}
 use Rattle.kcall_core.specs.Makes.{view_now}
 use Rattle.kcall_core.specs.declared.kernel.Kernel.{Kernel}
-use Rattle.kcall_core.proofs.steps.Least.{least_passes, none_passes, least_congr, least_least}
+use Rattle.kernel_spec.proofs.steps.Least.{least_passes, none_passes, least_congr, least_least}
 use Rattle.kcall_core.proofs.table.Stops.{now-slot}
 use Rattle.kcall_core.proofs.turns.Turned.{live-is}
 use Rattle.kcall_core.proofs.files.Namings.{named-seen}
-use Rattle.kcall_core.proofs.rows.Decoding.{lowest_free_is, lowest_free_above_is}
+use Rattle.kernel_spec.proofs.rows.Decoding.{lowest_free_is, lowest_free_above_is}
 
 pub least-position : {X : Type 0} (ds : List (Option X)) (n : ℕ) → length ds ≡ n → least_below (λ d. is_none (get_or ds d None)) n ≡ position is_none ds
 least-position ds n long = by (least_below (λ d. is_none (get_or ds d None)) n) refl

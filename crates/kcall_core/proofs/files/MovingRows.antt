@@ -11,29 +11,28 @@ use Rattle.file_table.specs.declared.open_file.End.{End}
 use Rattle.file_table.specs.declared.open_file.Target.{Target}
 use Rattle.file_table.specs.declared.open_file.Target.TheVariants.{Program as File, Pipe as Pipe_end}
 use Rattle.proc_table.specs.declared.process.Call.{Call}
-use Rattle.kcall_core.specs.Words.{c_int}
-use Rattle.kcall_core.specs.Buffers.{readable, writable_now}
-use Rattle.kcall_core.specs.Processes.{Live}
-use Rattle.kcall_core.specs.State.{State}
-use Rattle.kcall_core.specs.View.{View, Descriptor, view_of, numbered, rename, rename_shown, show, descriptor_at, descriptor_on, least_on_pipe, pipe_name}
-use Rattle.kcall_core.specs.Own.{Own}
-use Rattle.kcall_core.specs.Calls.{read, write, done, refused}
-use Rattle.kcall_core.specs.RowLaws.{OnPipe}
+use Rattle.kernel_spec.specs.views.Words.{c_int}
+use Rattle.kernel_spec.specs.rows.Buffers.{readable, writable_now}
+use Rattle.kernel_spec.specs.views.Processes.{Live}
+use Rattle.kernel_spec.specs.views.State.{State}
+use Rattle.kernel_spec.specs.views.View.{View, Descriptor, view_of, numbered, rename, rename_shown, show, descriptor_at, descriptor_on, least_on_pipe, pipe_name, in_use}
+use Rattle.kernel_spec.specs.steps.Own.{Own}
+use Rattle.kernel_spec.specs.rows.Calls.{read, write, done, refused}
+use Rattle.kernel_spec.specs.laws.RowLaws.{OnPipe}
 use Rattle.kcall_core.specs.Kernel.{state_of, IsRunning, pid_now, live_now}
 use Rattle.kcall_core.specs.Whole.{IsWhole}
 use Rattle.kcall_core.specs.Makes.{view_now}
 use Rattle.kcall_core.specs.Moves.{OnFile, ReadsPipe, WritesPipe}
 use Rattle.kcall_core.specs.declared.kernel.Kernel.{Kernel}
 use Rattle.kcall_core.proofs.turns.Turned.{live-is}
-use Rattle.kcall_core.proofs.steps.Names.{named_at}
-use Rattle.kcall_core.proofs.steps.Pipes.{least_there}
-use Rattle.kcall_core.proofs.rows.Decoding.{write_case}
+use Rattle.kernel_spec.proofs.steps.Names.{named_at}
+use Rattle.kernel_spec.proofs.steps.Pipes.{least_there}
+use Rattle.kernel_spec.proofs.rows.Decoding.{write_case}
 use Rattle.kcall_core.proofs.files.UsedDescriptor.{InUse}
-use Rattle.kcall_core.specs.Ready.{in_use}
-use Rattle.kcall_core.proofs.rows.RowParts.{write_on, write_to, moving, unless, unless_nothing, length_of_int}
-use Rattle.kcall_core.proofs.rows.RowsByParts.{write_same, read_unused, read_shut, read_below, read_nothing, read_unwritable, read_dear, read_ready}
-use Rattle.kcall_core.proofs.rows.Settled.{touch-dear}
-use Rattle.kcall_core.specs.Touches.{pages_at}
+use Rattle.kernel_spec.proofs.rows.RowParts.{write_on, write_to, moving, unless, unless_nothing, length_of_int}
+use Rattle.kernel_spec.proofs.rows.RowsByParts.{write_same, read_unused, read_shut, read_below, read_nothing, read_unwritable, read_dear, read_ready}
+use Rattle.kernel_spec.proofs.rows.Settled.{touch-dear}
+use Rattle.addr_space.specs.Absent.{pages_at}
 use Rattle.kcall_core.specs.Touched.{IsReady, IsUnready}
 
 -- ---- the tests

@@ -18,20 +18,20 @@ use Rattle.file_table.specs.declared.open_file.OpenFile.{OpenFile}
 use Rattle.proc_table.specs.Processes.{status_of}
 use Rattle.proc_table.specs.Slots.{Slots, place_at, place_is_live, descriptors_at, slot_of}
 use Rattle.proc_table.specs.declared.process.Process.{Process}
-use Rattle.kcall_core.specs.Words.{or_zero}
-use Rattle.kcall_core.specs.Words.{is_this}
-use Rattle.kcall_core.specs.State.{live}
-use Rattle.kcall_core.specs.Quiet as quiet
-use Rattle.kcall_core.specs.Quiet.{file_of}
-use Rattle.kcall_core.specs.RowLaws.{FilesLeft}
-use Rattle.kcall_core.specs.WellFormed.{sum_below}
+use Rattle.kernel_spec.specs.views.Words.{or_zero}
+use Rattle.kernel_spec.specs.views.Words.{is_this}
+use Rattle.kernel_spec.specs.views.State.{live}
+use Rattle.kernel_spec.specs.others.Quiet as quiet
+use Rattle.kernel_spec.specs.others.Quiet.{file_of}
+use Rattle.kernel_spec.specs.laws.RowLaws.{FilesLeft}
+use Rattle.kernel_spec.specs.views.WellFormed.{sum_below}
 use Rattle.kcall_core.specs.Kernel.{descriptor_map, state_of, IsSound}
 use Rattle.kcall_core.specs.Whole.{named_in, namings, AreCounted}
 use Rattle.kcall_core.specs.declared.kernel.Kernel.{Kernel}
-use Rattle.kcall_core.proofs.steps.Counts.{one}
-use Rattle.kcall_core.proofs.steps.Closes.{count_some}
-use Rattle.kcall_core.proofs.well.WellTable.{count_change}
-use Rattle.kcall_core.proofs.well.Sums.{sum_change, sum_term}
+use Rattle.kernel_spec.proofs.steps.Counts.{one}
+use Rattle.kernel_spec.proofs.steps.Closes.{count_some}
+use Rattle.kernel_spec.proofs.well.WellTable.{count_change}
+use Rattle.kernel_spec.proofs.well.Sums.{sum_change, sum_term}
 use Rattle.kcall_core.proofs.table.Observed.{slot-found, missing-live, live-held, ended-held}
 use Rattle.kcall_core.proofs.table.States.{none-some, slot-inside}
 

@@ -18,26 +18,27 @@ use Rattle.file_table.specs.declared.open_file.OpenFile.{OpenFile}
 use Rattle.file_table.specs.declared.open_file.Target.{Target}
 use Rattle.file_table.specs.declared.open_file.Target.TheVariants.{Console as Terminal, Program as File, Pipe as Pipe_end}
 use Rattle.proc_table.specs.Slots.{Slots, place_at, place_is_live, descriptors_at, each_changed}
-use Rattle.kcall_core.specs.Words.{or_zero}
-use Rattle.kcall_core.specs.PipeEnds.{count_on, parted, is_given_up}
-use Rattle.kcall_core.specs.View.{numbered, or_gone, least_on_pipe, pipe_name, descriptor_at, descriptor_on}
-use Rattle.kcall_core.specs.Tables.{on_end, is_end}
-use Rattle.kcall_core.specs.Quiet.{pipe_of_target, end_of, target_of_open}
-use Rattle.kcall_core.specs.Updates.{fewer_on, fewer_at, freed_on, freed_at, settled, changed_state, with_closed}
-use Rattle.kcall_core.specs.WellFormed.{WellFormed, on, over_all}
-use Rattle.kcall_core.specs.RowLaws.{IsLive, FilesLeft, OnPipe}
+use Rattle.kernel_spec.specs.views.Words.{or_zero}
+use Rattle.kernel_spec.specs.views.PipeEnds.{count_on, parted, is_given_up}
+use Rattle.kernel_spec.specs.views.View.{numbered, or_gone, least_on_pipe, pipe_name, descriptor_at, descriptor_on}
+use Rattle.kernel_spec.specs.rows.Tables.{on_end, is_end}
+use Rattle.kernel_spec.specs.others.Quiet.{pipe_of_target, end_of, target_of_open}
+use Rattle.kernel_spec.specs.steps.Updates.{fewer_on, fewer_at, freed_on, freed_at, settled, changed_state, with_closed}
+use Rattle.kernel_spec.specs.views.WellFormed.{WellFormed, on, over_all}
+use Rattle.kernel_spec.specs.laws.RowLaws.{IsLive, FilesLeft, OnPipe}
 use Rattle.kcall_core.specs.Holdings.{pipe_cost}
 use Rattle.kcall_core.specs.Memories.{pipes_of, free_of, PipeChanges}
 use Rattle.kcall_core.specs.Kernel.{state_of, IsSound, slot_now, pid_now, live_now}
 use Rattle.kcall_core.specs.Whole.{AreCounted}
-use Rattle.kcall_core.specs.Closings.{closes_wake, woken_by, IsClosing, target_now, Closes}
+use Rattle.kcall_core.specs.Closings.{woken_by, IsClosing, target_now, Closes}
+use Rattle.kernel_spec.specs.waking.SleepsOn.{closes_wake}
 use Rattle.kcall_core.specs.declared.kernel.Kernel.{Kernel}
 use Rattle.kcall_core.proofs.turns.Turned.{live-is}
-use Rattle.kcall_core.proofs.steps.Counts.{hits, hits_at}
-use Rattle.kcall_core.proofs.steps.Closes.{count_some}
-use Rattle.kcall_core.proofs.well.Sums.{sum_term}
-use Rattle.kcall_core.proofs.steps.Pipes.{least_there}
-use Rattle.kcall_core.proofs.well.WellCloses.{well_closed, well_closed_pipe}
+use Rattle.kernel_spec.proofs.steps.Counts.{hits, hits_at}
+use Rattle.kernel_spec.proofs.steps.Closes.{count_some}
+use Rattle.kernel_spec.proofs.well.Sums.{sum_term}
+use Rattle.kernel_spec.proofs.steps.Pipes.{least_there}
+use Rattle.kernel_spec.proofs.well.WellCloses.{well_closed, well_closed_pipe}
 use Rattle.kcall_core.proofs.table.States.{none-some, slot-inside}
 use Rattle.kcall_core.proofs.table.Stops.{live-place}
 use Rattle.kcall_core.proofs.files.Namings.{named-seen, file-seen, file-inside, named-counts, counted-entry, files-left, fewer-kept, fewer-table, closed-counted}

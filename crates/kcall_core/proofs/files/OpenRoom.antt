@@ -9,14 +9,14 @@ use Rattle.file_table.specs.Named.{named_by}
 use Rattle.file_table.specs.OpenFiles.{IsTable, entry_count, open_count}
 use Rattle.file_table.specs.declared.open_file.Entry.{Entry}
 use Rattle.proc_table.specs.Slots.{Slots, descriptors_at}
-use Rattle.kcall_core.specs.Words.{is_this, or_zero}
+use Rattle.kernel_spec.specs.views.Words.{is_this, or_zero}
 use Rattle.hart_core.specs.declared.hart.Hart.{Hart}
-use Rattle.kcall_core.specs.WellFormed.{WellFormed, sum_below}
+use Rattle.kernel_spec.specs.views.WellFormed.{WellFormed, sum_below}
 use Rattle.kcall_core.specs.Kernel.{frame_count, state_of}
 use Rattle.kcall_core.specs.Room.{HasRoom, WholeHasRoom}
 use Rattle.kcall_core.specs.declared.kernel.Kernel.{Kernel}
 use Rattle.kcall_core.specs.Whole.{AreCounted, namings, named_in}
-use Rattle.kcall_core.proofs.well.Sums.{sum_same}
+use Rattle.kernel_spec.proofs.well.Sums.{sum_same}
 use Rattle.kcall_core.proofs.files.Room.{count-few, sum-few, file-room, ends-few}
 
 -- ---- sums

@@ -1,25 +1,26 @@
 -- The row open, as the code goes through it.
-use Rattle.std.proofs.Common.{◌≡◌, ℕ, ◌+◌, Bool, true, false, cond, List, [], ◌∷◌, Option, Some, None, refl, sym, ap, ◌∙◌}
-use Rattle.std.specs.Prelude.{ℤ, pos, negsuc, nat_eq, nat_lt, not, map, bytes_eq, option_map}
+use Rattle.std.proofs.Common.{◌≡◌, ℕ, ◌+◌, Bool, true, false, cond, List, [], ◌∷◌, Option, Some, None, inl, inr, refl, sym, ap, ◌∙◌}
+use Rattle.std.specs.Prelude.{ℤ, pos, negsuc, nat_eq, nat_lt, nat_le, not, map, bytes_eq, option_map}
+use Rattle.std.proofs.lemmas.Bool.{cases_lt, lt-ltb, le-ltb, le-leb, lt-leb}
 use Rattle.std.specs.List.{position_from}
 use Rattle.std.specs.Option.{option_and_then}
 use Rattle.xk_base.specs.declared.limits.TheConstants.{MAXPATH}
 use Rattle.xk_base.specs.declared.program.Program as file
 use Rattle.proc_table.specs.declared.process.Call.{Call}
-use Rattle.kcall_core.specs.Words.{c_int}
-use Rattle.kcall_core.specs.Buffers.{text_at, no_slashes}
-use Rattle.kcall_core.specs.Programs.{console_name}
-use Rattle.kcall_core.specs.State.{ProgramFile, State, named_file}
-use Rattle.kcall_core.specs.View.{View, Shown, Shown_terminal, Shown_file, show}
-use Rattle.kcall_core.specs.Own.{Own}
-use Rattle.kcall_core.specs.Quiet.{pipe_of_target}
-use Rattle.kcall_core.specs.Tables.{lowest_free}
-use Rattle.kcall_core.specs.Calls.{open_file, refused}
-use Rattle.kcall_core.specs.Opens.{place_named, terminal_asked, program_asked, name_asked, asked, file_asked}
+use Rattle.kernel_spec.specs.views.Words.{c_int}
+use Rattle.kernel_spec.specs.rows.Buffers.{text_at, no_slashes}
+use Rattle.kernel_spec.specs.views.Programs.{console_name, place_of}
+use Rattle.kernel_spec.specs.views.State.{ProgramFile, State, named_file}
+use Rattle.kernel_spec.specs.views.View.{View, Shown, Shown_terminal, Shown_file, show}
+use Rattle.kernel_spec.specs.steps.Own.{Own}
+use Rattle.kernel_spec.specs.others.Quiet.{pipe_of_target}
+use Rattle.kernel_spec.specs.rows.Tables.{lowest_free}
+use Rattle.kernel_spec.specs.rows.Calls.{open_file, refused}
+use Rattle.kcall_core.specs.Opens.{asked_in, name_asked, asked, file_asked}
 use Rattle.kcall_core.specs.declared.kernel.file_calls.Asked.{Asked}
 use Rattle.kcall_core.specs.declared.kernel.file_calls.Asked.TheVariants.{Terminal, Program}
-use Rattle.kcall_core.proofs.rows.RowParts.{Named, The_console, A_program, Nothing, program_place, kind_named, opened_as, open_at, open_path}
-use Rattle.kcall_core.proofs.rows.RowsByParts.{open_same}
+use Rattle.kernel_spec.proofs.rows.RowParts.{Named, The_console, A_program, Nothing, program_place, kind_named, opened_as, open_at, open_path}
+use Rattle.kernel_spec.proofs.rows.RowsByParts.{open_same}
 
 -- ---- which program
 
@@ -58,22 +59,32 @@ pub asked-no-pipe : (a : Asked) → pipe_of_target (file_asked a).target ≡ Non
 asked-no-pipe (Terminal read write) = refl
 asked-no-pipe (Program place) = refl
 
-terminal-opened : (mode : ℤ) → opened_as The_console mode ≡ option_map shown_asked (terminal_asked mode)
-terminal-opened (pos mode) = by (nat_lt 2 mode)
+-- a mode of the terminal, told by what is above it
+above-2 : (mode : ℕ) → nat_lt 2 mode ≡ not (nat_le mode 2)
+above-2 mode = elim (cases_lt 2 mode) [
+  | inl above ↦ lt-ltb 2 mode above ∙ sym (ap not (lt-leb mode 2 above))
+  | inr fits ↦ le-ltb 2 mode fits ∙ sym (ap not (le-leb mode 2 fits))
+]
+
+terminal-opened : (mode : ℤ) → opened_as The_console mode ≡ option_map shown_asked (asked_in mode Shown_terminal)
+terminal-opened (pos mode) = ap (λ (b : Bool). cond {A = Option (Bool × Bool × Shown)} b None (Some (not (nat_eq mode 1), not (nat_eq mode 0), Shown_terminal))) (above-2 mode) ∙ by (nat_le mode 2)
   where
-    by : (b : Bool) → cond b None (Some (not (nat_eq mode 1), not (nat_eq mode 0), Shown_terminal)) ≡ option_map shown_asked (cond b None (Some (Terminal (not (nat_eq mode 1)) (not (nat_eq mode 0)))))
+    by : (b : Bool) → cond {A = Option (Bool × Bool × Shown)} (not b) None (Some (not (nat_eq mode 1), not (nat_eq mode 0), Shown_terminal)) ≡ option_map shown_asked (cond b (Some (Terminal (not (nat_eq mode 1)) (not (nat_eq mode 0)))) None)
     by true = refl
     by false = refl
 terminal-opened (negsuc k) = refl
 
-program-opened : (mode : ℤ) (o : Option ℕ) → opened_as (at-place o) mode ≡ option_map shown_asked (option_and_then (program_asked mode) o)
-program-opened mode None = refl
-program-opened (pos mode) (Some place) = by (nat_eq mode 0)
+program-opened : (mode : ℤ) (place : ℕ) → opened_as (A_program place) mode ≡ option_map shown_asked (asked_in mode (Shown_file place 0))
+program-opened (pos mode) place = by (nat_eq mode 0)
   where
     by : (b : Bool) → cond b (Some (true, false, Shown_file place 0)) None ≡ option_map shown_asked (cond b (Some (Program place)) None)
     by true = refl
     by false = refl
-program-opened (negsuc k) (Some place) = refl
+program-opened (negsuc k) place = refl
+
+place-opened : (mode : ℤ) (o : Option ℕ) → opened_as (at-place o) mode ≡ option_map shown_asked (option_and_then (asked_in mode) (option_map (λ place. Shown_file place 0) o))
+place-opened mode None = refl
+place-opened mode (Some place) = program-opened mode place
 
 -- ---- the row
 
@@ -81,9 +92,10 @@ module _ (c : Call) (v : View) where
   name-opened : (name : List ℕ) → opened_as (kind_named name v) (c_int c.a1) ≡ option_map shown_asked (name_asked v.programs (c_int c.a1) name)
   name-opened name = by (bytes_eq console_name name)
     where
-      by : (b : Bool) → opened_as (cond b The_console (program_place name v.programs 0)) (c_int c.a1) ≡ option_map shown_asked (cond b (terminal_asked (c_int c.a1)) (option_and_then (program_asked (c_int c.a1)) (place_named name v.programs)))
+      by : (b : Bool) → opened_as (cond b The_console (program_place name v.programs 0)) (c_int c.a1)
+          ≡ option_map shown_asked (option_and_then (asked_in (c_int c.a1)) (cond b (Some Shown_terminal) (option_map (λ place. Shown_file place 0) (place_of name v.programs))))
       by true = terminal-opened (c_int c.a1)
-      by false = ap (λ n. opened_as n (c_int c.a1)) (place-is name v.programs 0) ∙ program-opened (c_int c.a1) (place_named name v.programs)
+      by false = ap (λ n. opened_as n (c_int c.a1)) (place-is name v.programs 0) ∙ place-opened (c_int c.a1) (place_of name v.programs)
 
   abbrev opens : Option Asked → Own
   opens a = open_at c v (lowest_free v.descriptors) (option_map shown_asked a)

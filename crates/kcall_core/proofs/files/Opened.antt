@@ -16,41 +16,41 @@ use Rattle.file_table.specs.OpenFiles.{entry_at, entry_file, entry_count, open_f
 use Rattle.file_table.specs.declared.open_file.Entry.{Entry}
 use Rattle.file_table.specs.declared.open_file.OpenFile.{OpenFile}
 use Rattle.proc_table.specs.Slots.{Slots, place_at, place_is_live, descriptors_at}
-use Rattle.kcall_core.specs.Words.{is_this, or_zero}
-use Rattle.kcall_core.specs.Processes.{Live}
-use Rattle.kcall_core.specs.State.{State}
-use Rattle.kcall_core.specs.Quiet.{pipe_of_target, target_of_open}
-use Rattle.kcall_core.specs.Updates.{changed_state, filed_state, with_answer}
-use Rattle.kcall_core.specs.Updates as update
-use Rattle.kcall_core.specs.Conditions.{at_start}
+use Rattle.kernel_spec.specs.views.Words.{is_this, or_zero}
+use Rattle.kernel_spec.specs.views.Processes.{Live}
+use Rattle.kernel_spec.specs.views.State.{State}
+use Rattle.kernel_spec.specs.others.Quiet.{pipe_of_target, target_of_open}
+use Rattle.kernel_spec.specs.steps.Updates.{changed_state, filed_state, with_answer}
+use Rattle.kernel_spec.specs.steps.Updates as update
+use Rattle.kernel_spec.specs.waking.Conditions.{at_start}
 use Rattle.proc_table.specs.declared.process.Call.{Call}
-use Rattle.kcall_core.specs.View.{view_of, show}
-use Rattle.kcall_core.specs.Own.{Own}
+use Rattle.kernel_spec.specs.views.View.{view_of, show}
+use Rattle.kernel_spec.specs.steps.Own.{Own}
 use Rattle.kcall_core.specs.Makes.{Makes, view_now}
-use Rattle.kcall_core.specs.RowLaws.{After, NobodyNames}
-use Rattle.kcall_core.specs.WellFormed.{WellFormed}
+use Rattle.kernel_spec.specs.laws.RowLaws.{After, NobodyNames}
+use Rattle.kernel_spec.specs.views.WellFormed.{WellFormed}
 use Rattle.kcall_core.specs.Kernel.{frame_count, state_of, IsSound, IsRunning, slot_now, pid_now, live_now}
 use Rattle.kcall_core.specs.Whole.{IsWhole, AreCounted}
 use Rattle.kcall_core.specs.declared.kernel.Kernel.{Kernel}
-use Rattle.kcall_core.proofs.steps.Counts.{one}
-use Rattle.kcall_core.proofs.steps.Maps.{get_at, get_other}
+use Rattle.kernel_spec.proofs.steps.Counts.{one}
+use Rattle.kernel_spec.proofs.steps.Maps.{get_at, get_other}
 use Rattle.kcall_core.proofs.files.Namings.{named-seen, files-seen}
 use Rattle.kcall_core.proofs.table.States.{slot-inside}
 use Rattle.kcall_core.proofs.table.Stops.{live-place}
 use Rattle.kcall_core.proofs.table.Stops.{now-slot}
 use Rattle.kcall_core.proofs.files.Taking.{Shares}
 use Rattle.kcall_core.proofs.turns.Turned.{live-is}
-use Rattle.kcall_core.proofs.well.WellOpens.{well_opened}
+use Rattle.kernel_spec.proofs.well.WellOpens.{well_opened}
 use Rattle.kcall_core.proofs.files.Putting.{put-sound, put-state}
 use Rattle.kcall_core.proofs.files.Sharing.{put-here, put-other, one-more}
 use Rattle.kcall_core.proofs.making.Midway.{Midway, midway-done}
 use Rattle.kcall_core.proofs.turns.StepSlots.{KeepsAll}
 use Rattle.kcall_core.proofs.making.CallAnswers.{IsDone}
-use Rattle.kcall_core.proofs.steps.Least.{least_passes}
+use Rattle.kernel_spec.proofs.steps.Least.{least_passes}
 use Rattle.kcall_core.proofs.files.Lowest.{least-position}
-use Rattle.kcall_core.proofs.steps.OnFiles.{open_law}
+use Rattle.kernel_spec.proofs.steps.OnFiles.{open_law}
 use Rattle.kcall_core.proofs.making.Moved.{nobody, still}
-use Rattle.kcall_core.proofs.rows.RowParts.{open_at}
+use Rattle.kernel_spec.proofs.rows.RowParts.{open_at}
 
 abbrev no-file : Option OpenFile
 no-file = None

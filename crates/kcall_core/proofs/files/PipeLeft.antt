@@ -12,12 +12,13 @@ use Rattle.file_table.specs.declared.open_file.End.TheVariants.{Reading, Writing
 use Rattle.proc_table.specs.Channels.{same_channel}
 use Rattle.proc_table.specs.declared.channel.Channel.{Channel}
 use Rattle.proc_table.specs.declared.channel.Channel.TheVariants as on
-use Rattle.kcall_core.specs.PipeEnds.{count_on, parted, is_given_up}
+use Rattle.kernel_spec.specs.views.PipeEnds.{count_on, parted, is_given_up}
 use Rattle.kcall_core.specs.Holdings.{with_pipe}
-use Rattle.kcall_core.specs.View.{or_gone}
-use Rattle.kcall_core.specs.Updates.{settled}
-use Rattle.kcall_core.specs.Closings.{across, last_closes, closes_wake}
-use Rattle.kcall_core.proofs.steps.Maps.{get_at, get_without}
+use Rattle.kernel_spec.specs.views.View.{or_gone}
+use Rattle.kernel_spec.specs.steps.Updates.{settled}
+use Rattle.kcall_core.specs.Closings.{across}
+use Rattle.kernel_spec.specs.waking.SleepsOn.{last_closes, closes_wake}
+use Rattle.kernel_spec.proofs.steps.Maps.{get_at, get_without}
 
 -- what is left of a pipe
 abbrev pub remainder : Pipe → Option Pipe

@@ -23,23 +23,24 @@ use Rattle.file_table.specs.declared.open_file.Target.{Target}
 use Rattle.file_table.specs.declared.open_file.Target.TheVariants.{Console as Terminal, Program as File, Pipe as Pipe_end}
 use Rattle.proc_table.specs.Slots.{Slots, place_at, place_is_live, descriptors_at}
 use Rattle.proc_table.specs.declared.process.Call.{Call}
-use Rattle.kcall_core.specs.Buffers.{writable_now}
-use Rattle.kcall_core.specs.Touches.{pages_at, brought}
+use Rattle.kernel_spec.specs.rows.Buffers.{writable_now}
+use Rattle.addr_space.specs.Absent.{pages_at, brought}
 use Rattle.kcall_core.specs.Touched.{IsReady, IsUnready}
-use Rattle.kcall_core.proofs.rows.Settled.{touch-dear, touch-view}
-use Rattle.kcall_core.specs.Processes.{Live, Alive}
-use Rattle.kcall_core.specs.State.{State}
-use Rattle.kcall_core.specs.View.{View, view_of, or_gone}
-use Rattle.kcall_core.specs.Own.{Own, Called}
-use Rattle.kcall_core.specs.Tables.{lowest_free, lowest_free_above}
-use Rattle.kcall_core.specs.Calls.{make_pipe, refused}
-use Rattle.kcall_core.specs.Quiet as quiet
-use Rattle.kcall_core.specs.Quiet.{pipe_of_target, pipe_of_open, pipe_of_file, target_of_open}
-use Rattle.kcall_core.specs.Updates as update
-use Rattle.kcall_core.specs.Updates.{changed_state, with_answer, with_bytes}
-use Rattle.kcall_core.specs.Conditions.{at_start, has_bytes, has_room}
-use Rattle.kcall_core.specs.RowLaws.{IsLive, After, NobodyNames, NobodyHas}
-use Rattle.kcall_core.specs.WellFormed.{WellFormed}
+use Rattle.kernel_spec.proofs.rows.Settled.{touch-dear, touch-view}
+use Rattle.kernel_spec.specs.views.Processes.{Live, Alive}
+use Rattle.kernel_spec.specs.views.State.{State}
+use Rattle.kernel_spec.specs.views.View.{View, view_of, or_gone}
+use Rattle.kernel_spec.specs.steps.Own.{Own, Called}
+use Rattle.kernel_spec.specs.rows.Tables.{lowest_free, lowest_free_above}
+use Rattle.kernel_spec.specs.rows.Calls.{make_pipe, refused}
+use Rattle.kernel_spec.specs.others.Quiet as quiet
+use Rattle.kernel_spec.specs.others.Quiet.{pipe_of_target, pipe_of_open, pipe_of_file, target_of_open}
+use Rattle.kernel_spec.specs.steps.Updates as update
+use Rattle.kernel_spec.specs.steps.Updates.{changed_state, with_answer, with_bytes}
+use Rattle.kernel_spec.specs.waking.Conditions.{at_start}
+use Rattle.kernel_spec.specs.views.PipeEnds.{has_bytes, has_room}
+use Rattle.kernel_spec.specs.laws.RowLaws.{IsLive, After, NobodyNames, NobodyHas}
+use Rattle.kernel_spec.specs.views.WellFormed.{WellFormed}
 use Rattle.kcall_core.specs.Holdings.{held_at, or_nothing, pipe_cost, with_image}
 use Rattle.kcall_core.specs.Memories as memories
 use Rattle.kcall_core.specs.Memories.{each_of, pipes_of, free_of, RunsIn, SlotChanges, PipeChanges}
@@ -48,7 +49,7 @@ use Rattle.kcall_core.specs.Whole.{IsWhole, AreCounted}
 use Rattle.kcall_core.specs.Makes.{Makes, view_now}
 use Rattle.kcall_core.specs.declared.kernel.Kernel.{Kernel}
 use Rattle.kcall_core.specs.declared.memories.Memories.{Memories}
-use Rattle.kcall_core.proofs.steps.Maps.{get_at, get_other, insert-twice}
+use Rattle.kernel_spec.proofs.steps.Maps.{get_at, get_other, insert-twice}
 use Rattle.kcall_core.proofs.table.States.{none-some, running, slot-inside, Goes, goes-processes, goes-sound}
 use Rattle.kcall_core.proofs.table.Stops.{live-place, now-slot}
 use Rattle.kcall_core.proofs.memory.Changes.{some-inside}
@@ -57,17 +58,17 @@ use Rattle.kcall_core.proofs.files.Taking.{Shares}
 use Rattle.kcall_core.proofs.files.Sharing as sharing
 use Rattle.kcall_core.proofs.files.Putting.{put-sound, put-state, put-pid, put-now}
 use Rattle.kcall_core.proofs.files.Opened.{lowest-place-free, new-here, new-other, new-table, opened-counted, opened-files, unnamed, free-seen}
-use Rattle.kcall_core.proofs.well.WellLaws as well
-use Rattle.kcall_core.proofs.well.WellCloses.{well_made_pipe}
-use Rattle.kcall_core.proofs.steps.OnFiles.{pipe_law}
-use Rattle.kcall_core.proofs.rows.Decoding.{pipe_case}
+use Rattle.kernel_spec.proofs.well.WellLaws as well
+use Rattle.kernel_spec.proofs.well.WellCloses.{well_made_pipe}
+use Rattle.kernel_spec.proofs.steps.OnFiles.{pipe_law}
+use Rattle.kernel_spec.proofs.rows.Decoding.{pipe_case}
 use Rattle.kcall_core.proofs.turns.StepSlots.{KeepsAll}
 use Rattle.kcall_core.proofs.making.CallAnswers.{IsDone}
 use Rattle.kcall_core.proofs.making.Prepared.{over}
 use Rattle.kcall_core.proofs.making.Midway.{WakeOn, Midway, midway-done}
 use Rattle.kcall_core.proofs.making.Moved.{nobody, still}
-use Rattle.kcall_core.proofs.rows.RowParts.{piped}
-use Rattle.kcall_core.proofs.rows.RowsByParts.{pipe_unwritable, pipe_none, pipe_full, pipe_ready, pipe_no_read, pipe_no_write}
+use Rattle.kernel_spec.proofs.rows.RowParts.{piped}
+use Rattle.kernel_spec.proofs.rows.RowsByParts.{pipe_unwritable, pipe_none, pipe_full, pipe_ready, pipe_no_read, pipe_no_write}
 
 -- ---- the tests
 

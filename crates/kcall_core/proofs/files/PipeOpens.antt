@@ -14,15 +14,15 @@ use Rattle.file_table.specs.declared.open_file.Target.{Target}
 use Rattle.file_table.specs.declared.open_file.Target.TheVariants.{Console as Terminal, Program as File, Pipe as Pipe_end}
 use Rattle.proc_table.specs.declared.channel.Channel.{Channel}
 use Rattle.proc_table.specs.declared.channel.Channel.TheVariants as on
-use Rattle.kcall_core.specs.PipeEnds.{parted, is_given_up}
-use Rattle.kcall_core.specs.Processes.{Live, Alive}
-use Rattle.kcall_core.specs.State.{State}
-use Rattle.kcall_core.specs.View.{or_gone}
-use Rattle.kcall_core.specs.Updates.{changed_state, fewer_on, fewer_at, settled}
-use Rattle.kcall_core.specs.Conditions.{Condition, Child_of, Bytes, Room, Time, Keys, Sending, is_open, has_bytes, has_room}
-use Rattle.kcall_core.specs.Closings.{last_closes, closes_wake}
-use Rattle.kcall_core.specs.Whole.{is_for}
-use Rattle.kcall_core.proofs.waking.Openings.{family}
+use Rattle.kernel_spec.specs.views.PipeEnds.{parted, is_given_up, has_bytes, has_room}
+use Rattle.kernel_spec.specs.views.Processes.{Live, Alive}
+use Rattle.kernel_spec.specs.views.State.{State}
+use Rattle.kernel_spec.specs.views.View.{or_gone}
+use Rattle.kernel_spec.specs.steps.Updates.{changed_state, fewer_on, fewer_at, settled}
+use Rattle.kernel_spec.specs.waking.Conditions.{Condition, Child_of, Bytes, Room, Time, Keys, Sending, is_open}
+use Rattle.kernel_spec.specs.waking.SleepsOn.{last_closes, closes_wake}
+use Rattle.kernel_spec.specs.waking.SleepsOn.{is_for}
+use Rattle.kernel_spec.proofs.waking.Openings.{family}
 use Rattle.kcall_core.proofs.files.PipeLeft.{remainder, with-settled, get-with}
 
 -- Those channels wake that readers and writers of pipes sleep on, where the pipe has what they wait for now; no other does

@@ -1,6 +1,6 @@
 -- A read from a pipe, as the code goes through it.
 use Rattle.std.proofs.Common.{◌≡◌, ℕ, ◌≤◌, ◌<◌, ◌||◌, Bool, true, false, cond, length, take, drop, subst, Some, None, inl, inr, refl, sym, ap, ◌∙◌, arith}
-use Rattle.std.specs.Prelude.{ℤ, pos, IsSome, nat_eq, nat_lt}
+use Rattle.std.specs.Prelude.{ℤ, pos, IsSome, nat_eq, nat_lt, not}
 use Rattle.std.specs.FinMap.{get, insert}
 use Rattle.std.proofs.lemmas.Bool.{cases_lt, eq-eqb, lt-ltb, le-ltb, or_parts}
 use Rattle.std.proofs.lemmas.Bool.Decides.{eqb_tells}
@@ -15,32 +15,33 @@ use Rattle.proc_table.specs.Slots.{each_changed}
 use Rattle.proc_table.specs.declared.channel.Channel.{Channel}
 use Rattle.proc_table.specs.declared.channel.Channel.TheVariants as on
 use Rattle.proc_table.specs.declared.process.Call.{Call}
-use Rattle.kcall_core.specs.PipeEnds.{there, must_wait}
-use Rattle.kcall_core.specs.Processes.{Live, Alive}
-use Rattle.kcall_core.specs.State.{State, live_part}
-use Rattle.kcall_core.specs.View.{View, view_of, or_gone}
-use Rattle.kcall_core.specs.Own.{Own, Called, Blocked}
-use Rattle.kcall_core.specs.Ready.{ready}
-use Rattle.kcall_core.specs.Calls.{row_of, read, waits}
-use Rattle.kcall_core.specs.Quiet.{target_of_open, end_of}
-use Rattle.kcall_core.specs.Updates.{changed_state}
-use Rattle.kcall_core.specs.Updates as update
-use Rattle.kcall_core.specs.Conditions.{has_bytes, has_room, read_waits_for, row_waits_for, target_at, waits_for}
-use Rattle.kcall_core.specs.RowLaws.{After}
+use Rattle.kernel_spec.specs.views.PipeEnds.{there, has_bytes, has_room}
+use Rattle.kernel_spec.specs.views.Processes.{Live, Alive}
+use Rattle.kernel_spec.specs.views.State.{State, live_part}
+use Rattle.kernel_spec.specs.views.View.{View, view_of, or_gone}
+use Rattle.kernel_spec.specs.steps.Own.{Own, Called, Blocked}
+use Rattle.kernel_spec.specs.waking.Ready.{ready}
+use Rattle.kernel_spec.specs.rows.Calls.{row_of, read, waits}
+use Rattle.kernel_spec.specs.others.Quiet.{target_of_open, end_of}
+use Rattle.kernel_spec.specs.steps.Updates.{changed_state}
+use Rattle.kernel_spec.specs.steps.Updates as update
+use Rattle.kernel_spec.specs.waking.Conditions.{read_waits_for, row_waits_for, target_at, waits_for}
+use Rattle.kernel_spec.specs.laws.RowLaws.{After}
 use Rattle.kcall_core.specs.Holdings.{held_at, or_new, pipe_named}
 use Rattle.kcall_core.specs.Memories.{each_of, pipes_of}
 use Rattle.kcall_core.specs.Moves.{Moves, ReadsPipe}
 use Rattle.kcall_core.specs.Kernel.{state_of, IsSound, IsRunning, slot_now, pid_now, live_now}
-use Rattle.kcall_core.specs.Whole.{IsWhole, is_for}
+use Rattle.kcall_core.specs.Whole.{IsWhole}
+use Rattle.kernel_spec.specs.waking.SleepsOn.{is_for}
 use Rattle.kcall_core.specs.Makes.{Makes, view_now}
 use Rattle.kcall_core.specs.declared.kernel.Kernel.{Kernel}
 use Rattle.kcall_core.specs.declared.memories.Memories.{Memories}
-use Rattle.kcall_core.proofs.steps.Maps.{get_same, get_other}
+use Rattle.kernel_spec.proofs.steps.Maps.{get_same, get_other}
 use Rattle.kcall_core.proofs.table.Woken.{each-woken}
-use Rattle.kcall_core.proofs.steps.Alone as law
-use Rattle.kcall_core.proofs.rows.Decoding.{is_read}
-use Rattle.kcall_core.proofs.well.WellLaws as well
-use Rattle.kcall_core.proofs.steps.OnFiles.{read_is, read_takes, read_waits}
+use Rattle.kernel_spec.proofs.steps.Alone as law
+use Rattle.kernel_spec.proofs.rows.Decoding.{is_read}
+use Rattle.kernel_spec.proofs.well.WellLaws as well
+use Rattle.kernel_spec.proofs.steps.OnFiles.{read_is, read_takes, read_waits}
 use Rattle.kcall_core.proofs.turns.StepSlots.{KeepsAll}
 use Rattle.kcall_core.proofs.making.CallAnswers.{IsDone}
 use Rattle.kcall_core.proofs.making.Prepared.{over}
@@ -55,6 +56,14 @@ above a b e = elim (cases_lt a b) [ inl less ↦ absurd (clash (lt-ltb a b less)
   where
     clash : {x : Bool} → x ≡ true → x ≡ false → ⊥
     clash t f = cc
+
+not-true : (b : Bool) → not b ≡ true → b ≡ false
+not-true true e = sym e
+not-true false e = refl
+
+not-false : (b : Bool) → not b ≡ false → b ≡ true
+not-false true e = refl
+not-false false e = sym e
 
 module _ {k : Kernel} {h : Hart} {c : Call} {f n : ℕ} (whole : IsWhole k h) (runs : IsRunning k) (x : ReadsPipe k h c f n) where
   abbrev s : State
@@ -88,9 +97,9 @@ module _ {k : Kernel} {h : Hart} {c : Call} {f n : ℕ} (whole : IsWhole k h) (r
 
   -- ---- nothing is there yet
 
-  module _ (none : must_wait x.pipe ≡ true) where
+  module _ (none : not (has_bytes x.pipe) ≡ true) where
     row-waits : read c v ≡ waits c 0 v
-    row-waits = read_is s p l c x.fd f x.name n x.end x.pipe x.on x.reads x.number x.buffer ∙ cond-at (must_wait x.pipe) true (waits c 0 v) _ none
+    row-waits = read_is s p l c x.fd f x.name n x.end x.pipe x.on x.reads x.number x.buffer ∙ cond-at (not (has_bytes x.pipe)) true (waits c 0 v) _ none
 
     pub waits-answer : (read c v).answer ≡ Blocked c.number
     waits-answer = ap (λ (o : Own). o.answer) row-waits
@@ -109,7 +118,7 @@ module _ {k : Kernel} {h : Hart} {c : Call} {f n : ℕ} (whole : IsWhole k h) (r
     after = changed_state p asleep s.files s.pipes s.console s.free s
 
     waits-law : After s p l (read c v) after
-    waits-law = read_waits s p l c x.fd f x.name n x.end x.pipe x.on x.reads x.number x.buffer none
+    waits-law = read_waits s p l c x.fd f x.name n x.end x.pipe x.on x.reads x.number x.buffer (not-true (has_bytes x.pipe) none)
 
     for-bytes : c.number ≡ pos 5 → is_for (waits_for after p asleep) (on.Bytes f) ≡ true
     unfolding row_of
@@ -132,13 +141,13 @@ module _ {k : Kernel} {h : Hart} {c : Call} {f n : ℕ} (whole : IsWhole k h) (r
 
   -- ---- it takes what is there
 
-  module _ (some : must_wait x.pipe ≡ false) where
+  module _ (some : not (has_bytes x.pipe) ≡ false) where
     pub takes-answer : (read c v).answer ≡ Called c.number (pos count)
-    takes-answer = ap (λ (o : Own). o.answer) (read_is s p l c x.fd f x.name n x.end x.pipe x.on x.reads x.number x.buffer ∙ cond-at (must_wait x.pipe) false (waits c 0 v) _ some)
+    takes-answer = ap (λ (o : Own). o.answer) (read_is s p l c x.fd f x.name n x.end x.pipe x.on x.reads x.number x.buffer ∙ cond-at (not (has_bytes x.pipe)) false (waits c 0 v) _ some)
 
     takes-keeps : KeepsAll s (read c v)
     unfolding view_of
-    takes-keeps = keeps-all (read_is s p l c x.fd f x.name n x.end x.pipe x.on x.reads x.number x.buffer ∙ cond-at (must_wait x.pipe) false (waits c 0 v) _ some) (record { child = refl; stays = refl; pids = refl })
+    takes-keeps = keeps-all (read_is s p l c x.fd f x.name n x.end x.pipe x.on x.reads x.number x.buffer ∙ cond-at (not (has_bytes x.pipe)) false (waits c 0 v) _ some) (record { child = refl; stays = refl; pids = refl })
 
     few : length x.pipe.bytes ≤ PIPE_BYTES
     few = whole.well.pipe_bytes f x.pipe x.on.pipe
@@ -206,4 +215,4 @@ module _ {k : Kernel} {h : Hart} {c : Call} {f n : ℕ} (whole : IsWhole k h) (r
           (moved-midway whole runs m (write_image l.image c.a1 (take count x.pipe.bytes)) f x.pipe taken its-moves x.on.pipe refl refl left-few (well.writes_take_nothing l.image c.a1 (take count x.pipe.bytes))
           wakes k1 (table ∙ each-woken wakes (on.Room f) k.table (λ d. refl)) rest wake)
           k' h' (pos count) (read c v) c.number (subst (λ z. IsDone k1 h z k' h') (is ∙ ap pos told-count) done) takes-answer takes-keeps
-          (read_takes s p l c x.fd f x.name n x.end x.pipe x.on x.reads x.number x.buffer some)
+          (read_takes s p l c x.fd f x.name n x.end x.pipe x.on x.reads x.number x.buffer (not-false (has_bytes x.pipe) some))

@@ -15,34 +15,35 @@ use Rattle.proc_table.specs.Slots.{each_changed}
 use Rattle.proc_table.specs.declared.channel.Channel.{Channel}
 use Rattle.proc_table.specs.declared.channel.Channel.TheVariants as on
 use Rattle.proc_table.specs.declared.process.Call.{Call}
-use Rattle.kcall_core.specs.Buffers.{readable}
-use Rattle.kcall_core.specs.PipeEnds.{fit}
-use Rattle.kcall_core.specs.Processes.{Live, Alive}
-use Rattle.kcall_core.specs.State.{State, live_part}
-use Rattle.kcall_core.specs.View.{View, view_of, or_gone}
-use Rattle.kcall_core.specs.Own.{Own, Called, Blocked}
-use Rattle.kcall_core.specs.Ready.{ready}
-use Rattle.kcall_core.specs.Calls.{row_of, write, done, waits, refused}
-use Rattle.kcall_core.specs.Quiet.{target_of_open, end_of}
-use Rattle.kcall_core.specs.Updates.{changed_state}
-use Rattle.kcall_core.specs.Updates as update
-use Rattle.kcall_core.specs.Conditions.{has_bytes, has_room, write_waits_for, row_waits_for, target_at, waits_for}
-use Rattle.kcall_core.specs.RowLaws.{After, now_moved, written}
+use Rattle.kernel_spec.specs.rows.Buffers.{readable}
+use Rattle.kernel_spec.specs.views.PipeEnds.{fit, has_bytes, has_room}
+use Rattle.kernel_spec.specs.views.Processes.{Live, Alive}
+use Rattle.kernel_spec.specs.views.State.{State, live_part}
+use Rattle.kernel_spec.specs.views.View.{View, view_of, or_gone}
+use Rattle.kernel_spec.specs.steps.Own.{Own, Called, Blocked}
+use Rattle.kernel_spec.specs.waking.Ready.{ready}
+use Rattle.kernel_spec.specs.rows.Calls.{row_of, write, done, waits, refused}
+use Rattle.kernel_spec.specs.others.Quiet.{target_of_open, end_of}
+use Rattle.kernel_spec.specs.steps.Updates.{changed_state}
+use Rattle.kernel_spec.specs.steps.Updates as update
+use Rattle.kernel_spec.specs.waking.Conditions.{write_waits_for, row_waits_for, target_at, waits_for}
+use Rattle.kernel_spec.specs.laws.RowLaws.{After, now_moved, written}
 use Rattle.kcall_core.specs.Closings.{woken_by}
 use Rattle.kcall_core.specs.Holdings.{held_at, or_nothing, or_new, pipe_named, pipe_cost, HasMemory}
 use Rattle.kcall_core.specs.Memories.{each_of, pipes_of, PipeChanges}
 use Rattle.kcall_core.specs.Moves.{Moves, WritesPipe, wakes_readers}
 use Rattle.kcall_core.specs.Kernel.{state_of, IsSound, IsRunning, slot_now, pid_now, live_now}
-use Rattle.kcall_core.specs.Whole.{IsWhole, is_for}
+use Rattle.kcall_core.specs.Whole.{IsWhole}
+use Rattle.kernel_spec.specs.waking.SleepsOn.{is_for}
 use Rattle.kcall_core.specs.Makes.{Makes, view_now}
 use Rattle.kcall_core.specs.declared.kernel.Kernel.{Kernel}
 use Rattle.kcall_core.specs.declared.memories.Memories.{Memories}
-use Rattle.kcall_core.proofs.steps.Maps.{get_same, get_other}
+use Rattle.kernel_spec.proofs.steps.Maps.{get_same, get_other}
 use Rattle.kcall_core.proofs.table.States.{running}
-use Rattle.kcall_core.proofs.steps.Alone as law
-use Rattle.kcall_core.proofs.rows.Decoding.{is_write}
-use Rattle.kcall_core.proofs.steps.PipeCalls as pipes
-use Rattle.kcall_core.proofs.steps.OnFiles.{pipe_write}
+use Rattle.kernel_spec.proofs.steps.Alone as law
+use Rattle.kernel_spec.proofs.rows.Decoding.{is_write}
+use Rattle.kernel_spec.proofs.steps.PipeCalls as pipes
+use Rattle.kernel_spec.proofs.steps.OnFiles.{pipe_write}
 use Rattle.kcall_core.proofs.memory.PipeRest.{next-read, rest-read}
 use Rattle.kcall_core.proofs.turns.StepSlots.{KeepsAll}
 use Rattle.kcall_core.proofs.making.CallAnswers.{IsDone}

@@ -14,19 +14,19 @@ use Rattle.file_table.specs.declared.open_file.End.{End}
 use Rattle.file_table.specs.declared.open_file.End.TheVariants.{Reading, Writing}
 use Rattle.file_table.specs.declared.open_file.TheConstants.{SHARERS_MAX}
 use Rattle.proc_table.specs.Slots.{Slots, descriptors_at}
-use Rattle.kcall_core.specs.Words.{or_zero}
-use Rattle.kcall_core.specs.Processes.{Process, Alive, Zombie}
-use Rattle.kcall_core.specs.State.{State}
-use Rattle.kcall_core.specs.View.{numbered}
-use Rattle.kcall_core.specs.Tables.{on_end}
-use Rattle.kcall_core.specs.PipeEnds.{count_on}
-use Rattle.kcall_core.specs.ByPid.{by_pid, put}
-use Rattle.kcall_core.specs.WellFormed.{WellFormed, sum_below, on, over_all}
+use Rattle.kernel_spec.specs.views.Words.{or_zero}
+use Rattle.kernel_spec.specs.views.Processes.{Process, Alive, Zombie}
+use Rattle.kernel_spec.specs.views.State.{State}
+use Rattle.kernel_spec.specs.views.View.{numbered}
+use Rattle.kernel_spec.specs.rows.Tables.{on_end}
+use Rattle.kernel_spec.specs.views.PipeEnds.{count_on}
+use Rattle.kernel_spec.specs.views.ByPid.{by_pid, put}
+use Rattle.kernel_spec.specs.views.WellFormed.{WellFormed, sum_below, on, over_all}
 use Rattle.kcall_core.specs.Kernel.{state_of, entry_at}
 use Rattle.kcall_core.specs.Whole.{AreCounted, namings, named_in}
 use Rattle.kcall_core.specs.declared.kernel.Kernel.{Kernel}
-use Rattle.kcall_core.proofs.steps.Maps.{get_other}
-use Rattle.kcall_core.proofs.well.Sums.{sum_change, sum_same}
+use Rattle.kernel_spec.proofs.steps.Maps.{get_other}
+use Rattle.kernel_spec.proofs.well.Sums.{sum_change, sum_same}
 
 -- ---- counts and sums
 

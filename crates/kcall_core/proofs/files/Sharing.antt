@@ -11,11 +11,11 @@ use Rattle.file_table.specs.OpenFiles.{IsTable, entry_at, entry_file, entry_coun
 use Rattle.file_table.specs.declared.open_file.Entry.{Entry}
 use Rattle.file_table.specs.declared.open_file.TheConstants.{SHARERS_MAX}
 use Rattle.proc_table.specs.Slots.{Slots, place_at, place_is_live, descriptors_at}
-use Rattle.kcall_core.specs.Words.{is_this, or_zero}
+use Rattle.kernel_spec.specs.views.Words.{is_this, or_zero}
 use Rattle.kcall_core.specs.Whole.{AreCounted, namings, named_in}
-use Rattle.kcall_core.proofs.steps.Counts.{one}
-use Rattle.kcall_core.proofs.well.Sums.{sum_change}
-use Rattle.kcall_core.proofs.well.WellTable.{count_change}
+use Rattle.kernel_spec.proofs.steps.Counts.{one}
+use Rattle.kernel_spec.proofs.well.Sums.{sum_change}
+use Rattle.kernel_spec.proofs.well.WellTable.{count_change}
 use Rattle.kcall_core.proofs.table.States.{none-some}
 
 module _ (t t' : Slots) (slot d g : ℕ) (inside : slot < 64) (below : d < NOFILE) (room : length t.descriptors ≡ 64) (long : length (descriptors_at t slot) ≡ NOFILE) (free : named_by (descriptors_at t slot) d ≡ None)

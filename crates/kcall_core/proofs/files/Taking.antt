@@ -13,18 +13,18 @@ use Rattle.file_table.specs.Named.{named_by, with_named, none_named}
 use Rattle.file_table.specs.OpenFiles.{open_file_at}
 use Rattle.proc_table.specs.Slots.{Slots, place_at, descriptors_at, IsTable}
 use Rattle.proc_table.specs.declared.process.Process.{Process}
-use Rattle.kcall_core.specs.State.{named_file}
-use Rattle.kcall_core.specs.Words.{is_this, or_zero}
-use Rattle.kcall_core.specs.Processes.{Alive}
-use Rattle.kcall_core.specs.ByPid.{by_pid}
-use Rattle.kcall_core.specs.Updates.{changed_state, with_closed}
+use Rattle.kernel_spec.specs.views.State.{named_file}
+use Rattle.kernel_spec.specs.views.Words.{is_this, or_zero}
+use Rattle.kernel_spec.specs.views.Processes.{Alive}
+use Rattle.kernel_spec.specs.views.ByPid.{by_pid}
+use Rattle.kernel_spec.specs.steps.Updates.{changed_state, with_closed}
 use Rattle.kcall_core.specs.Holdings.{or_nothing, held_at}
 use Rattle.kcall_core.specs.Memories as memories
 use Rattle.kcall_core.specs.Memories.{each_of, pipes_of, free_of, RunsIn}
 use Rattle.kcall_core.specs.Kernel.{descriptor_map, live_of, by_status, process_of, entry_of, entry_at, state_of, or_nobody, slot_now, place_now, pid_now, live_now, IsCurrent, IsSound}
 use Rattle.kcall_core.specs.declared.kernel.Kernel.{Kernel}
 use Rattle.kcall_core.specs.declared.memories.Memories.{Memories}
-use Rattle.kcall_core.proofs.steps.Maps.{get_without}
+use Rattle.kernel_spec.proofs.steps.Maps.{get_without}
 use Rattle.kcall_core.proofs.files.Namings.{named-seen}
 use Rattle.kcall_core.proofs.table.States.{Alone, slot-state, slot-inside, not-this}
 

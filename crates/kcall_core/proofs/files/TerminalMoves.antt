@@ -4,10 +4,10 @@ use Rattle.xk_base.specs.Image.{Image, price}
 use Rattle.hart_core.specs.declared.hart.Hart.{Hart}
 use Rattle.console_core.specs.Lists.{Console, IsWithinLimits}
 use Rattle.proc_table.specs.Slots.{descriptors_at}
-use Rattle.kcall_core.specs.Processes.{Live}
-use Rattle.kcall_core.specs.State.{State}
-use Rattle.kcall_core.specs.Updates.{changed_state}
-use Rattle.kcall_core.specs.WellFormed.{WellFormed}
+use Rattle.kernel_spec.specs.views.Processes.{Live}
+use Rattle.kernel_spec.specs.views.State.{State}
+use Rattle.kernel_spec.specs.steps.Updates.{changed_state}
+use Rattle.kernel_spec.specs.views.WellFormed.{WellFormed}
 use Rattle.kcall_core.specs.Holdings.{held_at, or_nothing, with_image}
 use Rattle.kcall_core.specs.Memories.{each_of, free_of, RunsIn, SlotChanges}
 use Rattle.kcall_core.specs.Kernel.{frame_count, live_of, state_of, IsSound, IsRunning, slot_now, place_now, pid_now, live_now}
@@ -16,7 +16,7 @@ use Rattle.kcall_core.specs.declared.kernel.Kernel.{Kernel}
 use Rattle.kcall_core.specs.declared.memories.Memories.{Memories}
 use Rattle.kcall_core.proofs.table.States.{goes-processes, goes-sound, changed-here, changed-has, changed-goes}
 use Rattle.kcall_core.proofs.turns.Turned.{live-is}
-use Rattle.kcall_core.proofs.well.WellLaws as well
+use Rattle.kernel_spec.proofs.well.WellLaws as well
 use Rattle.kcall_core.proofs.making.Midway.{WakeOn, Midway}
 use Rattle.kcall_core.proofs.making.Moved.{nobody, still}
 

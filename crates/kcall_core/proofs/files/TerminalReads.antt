@@ -13,33 +13,36 @@ use Rattle.console_core.specs.Lists.{Console, IsWithinLimits}
 use Rattle.console_core.specs.Reads.{Pulled, pulled, line_length, first_bytes, up_to}
 use Rattle.proc_table.specs.declared.channel.Channel.TheVariants as on
 use Rattle.proc_table.specs.declared.process.Call.{Call}
-use Rattle.kcall_core.specs.Buffers.{writable_now}
-use Rattle.kcall_core.specs.Processes.{Live, Alive}
-use Rattle.kcall_core.specs.State.{State, live_part}
-use Rattle.kcall_core.specs.View.{View, view_of, numbered, rename_shown, show}
-use Rattle.kcall_core.specs.Own.{Own, Called, Blocked}
-use Rattle.kcall_core.specs.Ready.{ready}
-use Rattle.kcall_core.specs.Calls.{row_of, read, done, waits}
-use Rattle.kcall_core.specs.Quiet.{target_of_open, end_of}
-use Rattle.kcall_core.specs.Updates.{changed_state}
-use Rattle.kcall_core.specs.Updates as update
-use Rattle.kcall_core.specs.Conditions.{read_waits_for, row_waits_for, target_at, waits_for}
-use Rattle.kcall_core.specs.RowLaws.{After, name_of_file}
+use Rattle.kernel_spec.specs.rows.Buffers.{writable_now}
+use Rattle.kernel_spec.specs.views.Processes.{Live, Alive}
+use Rattle.kernel_spec.specs.views.State.{State, live_part}
+use Rattle.kernel_spec.specs.views.View.{View, view_of, numbered, rename_shown, show}
+use Rattle.kernel_spec.specs.steps.Own.{Own, Called, Blocked}
+use Rattle.kernel_spec.specs.waking.Ready.{ready}
+use Rattle.kernel_spec.specs.rows.Calls.{row_of, read, done, waits}
+use Rattle.kernel_spec.specs.others.Quiet.{target_of_open, end_of}
+use Rattle.kernel_spec.specs.steps.Updates.{changed_state}
+use Rattle.kernel_spec.specs.steps.Updates as update
+use Rattle.kernel_spec.specs.waking.Conditions.{read_waits_for, row_waits_for, target_at, waits_for}
+use Rattle.kernel_spec.specs.laws.RowLaws.{After}
+use Rattle.kernel_spec.proofs.steps.Names.{name_of_file}
 use Rattle.kcall_core.specs.Holdings.{held_at, with_image, HasMemory}
 use Rattle.kcall_core.specs.Memories.{each_of, free_of, RunsIn, SlotChanges}
 use Rattle.kcall_core.specs.Kernel.{state_of, IsSound, IsRunning, slot_now, pid_now, live_now}
-use Rattle.kcall_core.specs.Whole.{IsWhole, is_for}
+use Rattle.kcall_core.specs.Whole.{IsWhole}
+use Rattle.kernel_spec.specs.waking.SleepsOn.{is_for}
 use Rattle.kcall_core.specs.Makes.{Makes, view_now}
-use Rattle.kcall_core.specs.Terminal.{next_line, without_line, ReadsTerminal}
+use Rattle.kernel_spec.specs.rows.Terminal.{next_line, without_line}
+use Rattle.kcall_core.specs.Moves.{ReadsTerminal}
 use Rattle.kcall_core.specs.declared.kernel.Kernel.{Kernel}
 use Rattle.kcall_core.specs.declared.memories.Memories.{Memories}
-use Rattle.kcall_core.proofs.steps.Maps.{get_same}
+use Rattle.kernel_spec.proofs.steps.Maps.{get_same}
 use Rattle.kcall_core.proofs.table.States.{running}
 use Rattle.kcall_core.proofs.turns.Turned.{live-is}
-use Rattle.kcall_core.proofs.steps.Alone as law
-use Rattle.kcall_core.proofs.rows.Decoding.{is_read, read_case}
-use Rattle.kcall_core.proofs.rows.RowParts.{read_from}
-use Rattle.kcall_core.proofs.well.WellLaws as well
+use Rattle.kernel_spec.proofs.steps.Alone as law
+use Rattle.kernel_spec.proofs.rows.Decoding.{is_read, read_case}
+use Rattle.kernel_spec.proofs.rows.RowParts.{read_from}
+use Rattle.kernel_spec.proofs.well.WellLaws as well
 use Rattle.kcall_core.proofs.memory.PipeRest.{next-at, rest-reached}
 use Rattle.kcall_core.proofs.turns.StepSlots.{KeepsAll}
 use Rattle.kcall_core.proofs.making.CallAnswers.{IsDone}

@@ -10,31 +10,33 @@ use Rattle.hart_core.specs.declared.hart.Hart.{Hart}
 use Rattle.console_core.specs.Lists.{Console, IsWithinLimits}
 use Rattle.proc_table.specs.declared.channel.Channel.TheVariants as on
 use Rattle.proc_table.specs.declared.process.Call.{Call}
-use Rattle.kcall_core.specs.Buffers.{readable}
-use Rattle.kcall_core.specs.Processes.{Live, Alive}
-use Rattle.kcall_core.specs.State.{State, live_part}
-use Rattle.kcall_core.specs.View.{View, view_of, numbered, rename_shown, show}
-use Rattle.kcall_core.specs.Own.{Own, Called, Blocked}
-use Rattle.kcall_core.specs.Ready.{ready}
-use Rattle.kcall_core.specs.Calls.{row_of, write, done, waits}
-use Rattle.kcall_core.specs.Quiet.{target_of_open, end_of}
-use Rattle.kcall_core.specs.Updates.{changed_state}
-use Rattle.kcall_core.specs.Updates as update
-use Rattle.kcall_core.specs.Conditions.{write_waits_for, row_waits_for, target_at, waits_for}
-use Rattle.kcall_core.specs.RowLaws.{After}
+use Rattle.kernel_spec.specs.rows.Buffers.{readable}
+use Rattle.kernel_spec.specs.views.Processes.{Live, Alive}
+use Rattle.kernel_spec.specs.views.State.{State, live_part}
+use Rattle.kernel_spec.specs.views.View.{View, view_of, numbered, rename_shown, show}
+use Rattle.kernel_spec.specs.steps.Own.{Own, Called, Blocked}
+use Rattle.kernel_spec.specs.waking.Ready.{ready}
+use Rattle.kernel_spec.specs.rows.Calls.{row_of, write, done, waits}
+use Rattle.kernel_spec.specs.others.Quiet.{target_of_open, end_of}
+use Rattle.kernel_spec.specs.steps.Updates.{changed_state}
+use Rattle.kernel_spec.specs.steps.Updates as update
+use Rattle.kernel_spec.specs.waking.Conditions.{write_waits_for, row_waits_for, target_at, waits_for}
+use Rattle.kernel_spec.specs.laws.RowLaws.{After}
 use Rattle.kcall_core.specs.Holdings.{held_at, or_nothing, held_cost, with_image, HasMemory}
 use Rattle.kcall_core.specs.Memories.{each_of, free_of, SlotChanges}
 use Rattle.kcall_core.specs.Kernel.{state_of, IsSound, IsRunning, slot_now, pid_now, live_now}
-use Rattle.kcall_core.specs.Whole.{IsWhole, is_for}
+use Rattle.kcall_core.specs.Whole.{IsWhole}
+use Rattle.kernel_spec.specs.waking.SleepsOn.{is_for}
 use Rattle.kcall_core.specs.Makes.{Makes, view_now}
-use Rattle.kcall_core.specs.Terminal.{room_for, with_sent, WritesTerminal}
+use Rattle.kernel_spec.specs.rows.Terminal.{room_for, with_sent}
+use Rattle.kcall_core.specs.Moves.{WritesTerminal}
 use Rattle.kcall_core.specs.declared.kernel.Kernel.{Kernel}
-use Rattle.kcall_core.proofs.steps.Maps.{get_same}
+use Rattle.kernel_spec.proofs.steps.Maps.{get_same}
 use Rattle.kcall_core.proofs.table.States.{running}
 use Rattle.kcall_core.proofs.turns.Turned.{live-is}
-use Rattle.kcall_core.proofs.steps.Alone as law
-use Rattle.kcall_core.proofs.rows.Decoding.{is_write, write_case}
-use Rattle.kcall_core.proofs.rows.RowParts.{write_to}
+use Rattle.kernel_spec.proofs.steps.Alone as law
+use Rattle.kernel_spec.proofs.rows.Decoding.{is_write, write_case}
+use Rattle.kernel_spec.proofs.rows.RowParts.{write_to}
 use Rattle.kcall_core.proofs.memory.PipeRest.{next-read, rest-read}
 use Rattle.kcall_core.proofs.turns.StepSlots.{KeepsAll}
 use Rattle.kcall_core.proofs.making.CallAnswers.{IsDone}

@@ -10,12 +10,12 @@ use Rattle.file_table.specs.Named.{named_by}
 use Rattle.file_table.specs.OpenFiles.{open_file_at, entry_file}
 use Rattle.file_table.specs.declared.open_file.OpenFile.{OpenFile}
 use Rattle.proc_table.specs.Slots.{descriptors_at}
-use Rattle.kcall_core.specs.View.{view_of, named, numbered, rename, descriptor_at}
+use Rattle.kernel_spec.specs.views.View.{view_of, named, numbered, rename, descriptor_at}
 use Rattle.kcall_core.specs.Kernel.{state_of, IsRunning, slot_now, live_now}
 use Rattle.kcall_core.specs.Whole.{IsWhole}
 use Rattle.kcall_core.specs.Makes.{view_now}
 use Rattle.kcall_core.specs.declared.kernel.Kernel.{Kernel}
-use Rattle.kcall_core.proofs.steps.Names.{named_at}
+use Rattle.kernel_spec.proofs.steps.Names.{named_at}
 use Rattle.kcall_core.proofs.table.Stops.{now-slot}
 use Rattle.kcall_core.proofs.files.Namings.{named-seen}
 use Rattle.kcall_core.proofs.files.OneClosed.{used-entry, used-seen, opened-seen}

@@ -14,33 +14,34 @@ use Rattle.proc_table.specs.declared.channel.Channel.{Channel}
 use Rattle.proc_table.specs.declared.process.Call.{Call}
 use Rattle.proc_table.specs.declared.process.Process.{Process}
 use Rattle.console_core.specs.Lists.{Console}
-use Rattle.kcall_core.specs.Processes.{Live, Alive, Zombie}
-use Rattle.kcall_core.specs.State.{State, live, live_part}
-use Rattle.kcall_core.specs.View.{view_of}
-use Rattle.kcall_core.specs.Own.{Own, Called, Blocked, goes_on}
-use Rattle.kcall_core.specs.Ready.{ready}
-use Rattle.kcall_core.specs.Turns.{Turns, Sleeps}
-use Rattle.kcall_core.specs.Updates.{alone_state, with_answer}
-use Rattle.kcall_core.specs.Run.{Step_of, TurnsAfter, IsBlocked, halts_with}
-use Rattle.kcall_core.specs.Wakes.{WakesWhereDue}
-use Rattle.kcall_core.specs.WellFormed.{WellFormed}
-use Rattle.kcall_core.specs.Conditions.{is_open, waits_for, Condition}
-use Rattle.kcall_core.specs.RowLaws.{After}
+use Rattle.kernel_spec.specs.views.Processes.{Live, Alive, Zombie}
+use Rattle.kernel_spec.specs.views.State.{State, live, live_part}
+use Rattle.kernel_spec.specs.views.View.{view_of}
+use Rattle.kernel_spec.specs.steps.Own.{Own, Called, Blocked, goes_on}
+use Rattle.kernel_spec.specs.waking.Ready.{ready}
+use Rattle.kernel_spec.specs.waking.Turns.{Turns, Sleeps}
+use Rattle.kernel_spec.specs.steps.Updates.{alone_state, with_answer}
+use Rattle.kernel_spec.specs.runs.Run.{Step_of, TurnsAfter, IsBlocked, halts_with}
+use Rattle.kernel_spec.specs.waking.Wakes.{WakesWhereDue}
+use Rattle.kernel_spec.specs.views.WellFormed.{WellFormed}
+use Rattle.kernel_spec.specs.waking.Conditions.{is_open, waits_for, Condition}
+use Rattle.kernel_spec.specs.laws.RowLaws.{After}
 use Rattle.kcall_core.specs.Kernel.{state_of, IsSound, IsRunning, or_nobody, slot_now, place_now, pid_now, live_now, frame_count}
 use Rattle.kcall_core.specs.Machine.{turns_of, world_of}
-use Rattle.kcall_core.specs.Whole.{IsWhole, AreCounted, is_for}
+use Rattle.kcall_core.specs.Whole.{IsWhole, AreCounted}
+use Rattle.kernel_spec.specs.waking.SleepsOn.{is_for}
 use Rattle.kcall_core.specs.declared.kernel.Kernel.{Kernel}
-use Rattle.kcall_core.specs.Words.{word, or_zero}
-use Rattle.kcall_core.specs.Calls.{done, with_a0, waits}
+use Rattle.kernel_spec.specs.views.Words.{word, or_zero}
+use Rattle.kernel_spec.specs.rows.Calls.{done, with_a0, waits}
 use Rattle.kcall_core.specs.Makes.{Makes, view_now}
-use Rattle.kcall_core.proofs.steps.Maps.{get_same, get_other, insert-twice}
+use Rattle.kernel_spec.proofs.steps.Maps.{get_same, get_other, insert-twice}
 use Rattle.kcall_core.proofs.table.States.{none-some, running}
-use Rattle.kcall_core.proofs.well.WellLaws as well
-use Rattle.kcall_core.proofs.waking.Openings.{opens_nothing}
+use Rattle.kernel_spec.proofs.well.WellLaws as well
+use Rattle.kernel_spec.proofs.waking.Openings.{opens_nothing}
 use Rattle.kcall_core.proofs.turns.Turned.{same-some, live-is}
 use Rattle.kcall_core.proofs.table.OnePlace.{ItsPlace, place-slots, place-counted, place-sleepers, changed-place, in-call-lives, in-call-channel, asleep-lives, asleep-channel, place-join}
-use Rattle.kcall_core.proofs.steps.Alone.{alone_law, by_own, mid_after, waiting}
-use Rattle.kcall_core.proofs.steps.Change.{view_alone}
+use Rattle.kernel_spec.proofs.steps.Alone.{alone_law, by_own, mid_after, waiting}
+use Rattle.kernel_spec.proofs.steps.Change.{view_alone}
 use Rattle.kcall_core.proofs.turns.WhoRuns.{place-is, place-lives, now-is}
 use Rattle.kcall_core.proofs.turns.StepSlots.{KeepsAll, slots-kept}
 use Rattle.kcall_core.proofs.making.Making.{Itself, Others, Leaves, leaves-whole, made}

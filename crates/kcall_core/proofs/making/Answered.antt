@@ -5,7 +5,7 @@ use Rattle.xk_base.specs.Image.{Image}
 use Rattle.rv64i_core.specs.Registers.{Registers}
 use Rattle.hart_core.specs.declared.hart.Hart.{Hart}
 use Rattle.proc_table.specs.Slots.{descriptors_at}
-use Rattle.kcall_core.specs.Updates.{set_live}
+use Rattle.kernel_spec.specs.steps.Updates.{set_live}
 use Rattle.kcall_core.specs.Holdings.{or_nothing, held_at, with_image}
 use Rattle.kcall_core.specs.Memories.{each_of, free_of, RunsIn, SlotChanges, Same}
 use Rattle.kcall_core.specs.Kernel.{live_of, state_of, IsRunning, slot_now, place_now, pid_now, live_now, IsSound, IsRepriced}

@@ -14,10 +14,10 @@ use Rattle.proc_table.specs.declared.process.State as table
 use Rattle.proc_table.specs.declared.process.State.TheVariants.{Live as Live_state, Zombie as Zombie_state}
 use Rattle.proc_table.specs.declared.process.Process.{Process}
 use Rattle.proc_table.proofs.Pids.{table_at}
-use Rattle.kcall_core.specs.Words.{or_zero}
-use Rattle.kcall_core.specs.ByPid.{by_pid}
-use Rattle.kcall_core.specs.Updates.{own_state}
-use Rattle.kcall_core.specs.Updates as update
+use Rattle.kernel_spec.specs.views.Words.{or_zero}
+use Rattle.kernel_spec.specs.views.ByPid.{by_pid}
+use Rattle.kernel_spec.specs.steps.Updates.{own_state}
+use Rattle.kernel_spec.specs.steps.Updates as update
 use Rattle.kcall_core.specs.Holdings.{Held, held_at}
 use Rattle.kcall_core.specs.Memories.{each_of}
 use Rattle.kcall_core.specs.Kernel.{process_of, regs_at, entry_of, entry_at, state_of, IsSound, IsRunning, IsCurrent, slot_now, pid_now, live_now}

@@ -5,21 +5,21 @@ use Rattle.rv64i_core.specs.Registers.{reg, with_pc, after}
 use Rattle.rv64i_core.specs.Step.{Ecall}
 use Rattle.hart_core.specs.declared.hart.Hart.{Hart}
 use Rattle.proc_table.specs.declared.process.Call.{Call}
-use Rattle.kcall_core.specs.Instruction.{next_instruction}
-use Rattle.kcall_core.specs.Words.{A0, A1, A2, A7, c_int}
-use Rattle.kcall_core.specs.View.{view_of}
-use Rattle.kcall_core.specs.Own.{Own}
-use Rattle.kcall_core.specs.Calls.{perform, done}
-use Rattle.kcall_core.specs.Step.{own, call_begun, call_or_begun, call_in}
-use Rattle.kcall_core.specs.Updates.{own_state, with_answer}
-use Rattle.kcall_core.specs.RowLaws as laws
-use Rattle.kcall_core.specs.RowLaws.{IsLive, begun_live, begun_state}
+use Rattle.kernel_spec.specs.steps.Instruction.{next_instruction}
+use Rattle.kernel_spec.specs.views.Words.{A0, A1, A2, A7, c_int}
+use Rattle.kernel_spec.specs.views.View.{view_of}
+use Rattle.kernel_spec.specs.steps.Own.{Own}
+use Rattle.kernel_spec.specs.rows.Calls.{perform, done}
+use Rattle.kernel_spec.specs.steps.Step.{own, call_begun, call_or_begun, call_in}
+use Rattle.kernel_spec.specs.steps.Updates.{own_state, with_answer}
+use Rattle.kernel_spec.specs.laws.RowLaws as laws
+use Rattle.kernel_spec.specs.laws.RowLaws.{IsLive, begun_live, begun_state}
 use Rattle.kcall_core.specs.Kernel.{state_of, IsSound, IsRunning, pid_now, live_now}
 use Rattle.kcall_core.specs.Whole.{IsWhole}
 use Rattle.kcall_core.specs.Makes.{Makes, view_now, answer_of}
 use Rattle.kcall_core.specs.declared.kernel.Kernel.{Kernel}
 use Rattle.kcall_core.specs.declared.call_end.CallEnd.{CallEnd}
-use Rattle.kcall_core.proofs.steps.Alone as law
+use Rattle.kernel_spec.proofs.steps.Alone as law
 use Rattle.kcall_core.proofs.table.InCall.{calling, moved, is-in-call}
 use Rattle.kcall_core.proofs.turns.Turned.{live-is}
 use Rattle.kcall_core.proofs.making.AloneMakes.{OnlyItself, only-pid, only-whole, answer-makes, mid-makes}

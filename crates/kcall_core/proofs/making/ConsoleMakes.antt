@@ -13,30 +13,31 @@ use Rattle.proc_table.specs.Slots.{Slots, place_at, place_is_live, descriptors_a
 use Rattle.proc_table.specs.declared.channel.Channel.{Channel}
 use Rattle.proc_table.specs.declared.channel.Channel.TheVariants as on
 use Rattle.proc_table.specs.declared.process.Process.{Process}
-use Rattle.kcall_core.specs.Processes.{Live}
-use Rattle.kcall_core.specs.State.{State, live}
-use Rattle.kcall_core.specs.View.{View, view_of}
-use Rattle.kcall_core.specs.Ready.{ready}
-use Rattle.kcall_core.specs.Run.{Outcome, Ticked, Typed, Sent, KeyHappens, SendHappens, IsButWoken, first_sent, sent}
-use Rattle.kcall_core.specs.Wakes.{WakesWhereDue, IsInCall, IsEnd}
-use Rattle.kcall_core.specs.WellFormed.{WellFormed}
+use Rattle.kernel_spec.specs.views.Processes.{Live}
+use Rattle.kernel_spec.specs.views.State.{State, live}
+use Rattle.kernel_spec.specs.views.View.{View, view_of}
+use Rattle.kernel_spec.specs.waking.Ready.{ready}
+use Rattle.kernel_spec.specs.runs.Run.{Outcome, Ticked, Typed, Sent, KeyHappens, SendHappens, IsButWoken, first_sent, sent}
+use Rattle.kernel_spec.specs.waking.Wakes.{WakesWhereDue, IsInCall, IsEnd}
+use Rattle.kernel_spec.specs.views.WellFormed.{WellFormed}
 use Rattle.kcall_core.specs.Closings.{woken_by, wakes_if}
-use Rattle.kcall_core.specs.Conditions.{Condition, Child_of, Bytes, Room, Time, Keys, Sending, is_open, waits_for}
+use Rattle.kernel_spec.specs.waking.Conditions.{Condition, Child_of, Bytes, Room, Time, Keys, Sending, is_open, waits_for}
 use Rattle.kcall_core.specs.Memories.{pipes_of, free_of}
 use Rattle.kcall_core.specs.Starts.{HasNoProcess}
 use Rattle.kcall_core.specs.Kernel.{frame_count, state_of, IsSound, or_nobody, slot_now, pid_now}
 use Rattle.kcall_core.specs.Machine.{slots_of, sleepers_below, turns_of, world_of}
-use Rattle.kcall_core.specs.Words.{or_zero}
-use Rattle.kcall_core.specs.Whole.{IsWhole, AreCounted, namings, is_for}
+use Rattle.kernel_spec.specs.views.Words.{or_zero}
+use Rattle.kcall_core.specs.Whole.{IsWhole, AreCounted, namings}
+use Rattle.kernel_spec.specs.waking.SleepsOn.{is_for}
 use Rattle.kcall_core.specs.declared.kernel.Kernel.{Kernel}
 use Rattle.kcall_core.proofs.table.States.{none-some}
 use Rattle.kcall_core.proofs.table.Deserted.{wakes-nobody, console-within}
 use Rattle.kcall_core.proofs.table.Woken.{woken-channel, place-each, live-woken, stirred-state, stirred-sound}
 use Rattle.kcall_core.proofs.turns.StepSlots.{same-pid}
 use Rattle.kcall_core.proofs.turns.Turned.{slots-same, same-some}
-use Rattle.kcall_core.proofs.waking.Wakes.{ready_is}
+use Rattle.kernel_spec.proofs.waking.Wakes.{ready_is}
 use Rattle.kcall_core.proofs.making.Sleepers.{Sleeping, changed-stays, changed-slept, slept-before, wakes-due, on-channels, unready}
-use Rattle.kcall_core.proofs.well.WellLaws as well
+use Rattle.kernel_spec.proofs.well.WellLaws as well
 
 -- What is left: the console is another, those on some channels woke, and all else stays
 pub record HasConsole (k : Kernel) (console : Console) (wakes : Channel → Bool) (k' : Kernel) : Type 0 where

@@ -13,26 +13,27 @@ use Rattle.proc_table.specs.Processes.{channel_of}
 use Rattle.proc_table.specs.Slots.{place_at, process_pid, pid_at}
 use Rattle.proc_table.specs.declared.channel.Channel.{Channel}
 use Rattle.proc_table.specs.declared.process.Process.{Process}
-use Rattle.kcall_core.specs.Processes.{Live, Alive}
-use Rattle.kcall_core.specs.State.{State, live, live_part}
-use Rattle.kcall_core.specs.View.{view_of}
-use Rattle.kcall_core.specs.Own.{Own}
-use Rattle.kcall_core.specs.Ready.{ready}
-use Rattle.kcall_core.specs.Run.{IsBlocked}
-use Rattle.kcall_core.specs.WellFormed.{WellFormed}
-use Rattle.kcall_core.specs.Updates.{changed_state}
+use Rattle.kernel_spec.specs.views.Processes.{Live, Alive}
+use Rattle.kernel_spec.specs.views.State.{State, live, live_part}
+use Rattle.kernel_spec.specs.views.View.{view_of}
+use Rattle.kernel_spec.specs.steps.Own.{Own}
+use Rattle.kernel_spec.specs.waking.Ready.{ready}
+use Rattle.kernel_spec.specs.runs.Run.{IsBlocked}
+use Rattle.kernel_spec.specs.views.WellFormed.{WellFormed}
+use Rattle.kernel_spec.specs.steps.Updates.{changed_state}
 use Rattle.kcall_core.specs.Closings.{woken_by}
-use Rattle.kcall_core.specs.Conditions.{Condition, is_open, waits_for, KeepsTargets}
-use Rattle.kcall_core.specs.RowLaws.{After, FilesLeft}
+use Rattle.kernel_spec.specs.waking.Conditions.{Condition, is_open, waits_for, KeepsTargets}
+use Rattle.kernel_spec.specs.laws.RowLaws.{After, FilesLeft}
 use Rattle.kcall_core.specs.Kernel.{frame_count, state_of, IsSound, IsRunning, or_nobody, slot_now, pid_now, live_now}
 use Rattle.kcall_core.specs.Machine.{slots_of}
-use Rattle.kcall_core.specs.Whole.{IsWhole, AreCounted, is_for}
+use Rattle.kcall_core.specs.Whole.{IsWhole, AreCounted}
+use Rattle.kernel_spec.specs.waking.SleepsOn.{is_for}
 use Rattle.kcall_core.specs.Makes.{Makes}
 use Rattle.kcall_core.specs.declared.kernel.Kernel.{Kernel}
-use Rattle.kcall_core.proofs.steps.Maps.{get_same, get_other}
+use Rattle.kernel_spec.proofs.steps.Maps.{get_same, get_other}
 use Rattle.kcall_core.proofs.table.States.{running}
 use Rattle.kcall_core.proofs.turns.Turned.{slots-same, same-some, live-is}
-use Rattle.kcall_core.proofs.waking.WaitsOn.{waits_stay}
+use Rattle.kernel_spec.proofs.waking.WaitsOn.{waits_stay}
 use Rattle.kcall_core.proofs.turns.StepSlots.{KeepsAll, same-pid, slots-kept}
 use Rattle.kcall_core.proofs.table.Woken.{woken-channel}
 use Rattle.kcall_core.proofs.making.Sleepers.{changed-stays, changed-slept}

@@ -9,16 +9,18 @@ use Rattle.hart_core.specs.declared.hart.Hart.{Hart}
 use Rattle.proc_table.specs.Processes.{in_call}
 use Rattle.proc_table.specs.Slots.{changed_at}
 use Rattle.proc_table.specs.declared.process.Call.{Call}
-use Rattle.kcall_core.specs.Buffers.{data_rights, grown, shrunk}
-use Rattle.kcall_core.specs.Processes.{Live}
-use Rattle.kcall_core.specs.State.{State}
-use Rattle.kcall_core.specs.View.{view_of}
-use Rattle.kcall_core.specs.Own.{Own}
-use Rattle.kcall_core.specs.Calls.{done}
-use Rattle.kcall_core.specs.Updates.{set_live, own_state, with_answer}
+use Rattle.kernel_spec.specs.rows.Buffers.{grown, shrunk}
+use Rattle.xk_base.specs.Access.{data_rights}
+use Rattle.kernel_spec.specs.views.Processes.{Live}
+use Rattle.kernel_spec.specs.views.State.{State}
+use Rattle.kernel_spec.specs.views.View.{view_of}
+use Rattle.kernel_spec.specs.steps.Own.{Own}
+use Rattle.kernel_spec.specs.rows.Calls.{done}
+use Rattle.kernel_spec.specs.steps.Updates.{set_live, own_state, with_answer}
 use Rattle.kcall_core.specs.Holdings.{or_nothing, held_at, with_image}
 use Rattle.kcall_core.specs.Memories.{each_of, free_of, RunsIn, SlotChanges, Same}
-use Rattle.kcall_core.specs.Kernel.{state_of, IsRunning, slot_now, pid_now, live_now, IsSound, at_size, IsTooDear, HasImage}
+use Rattle.kcall_core.specs.Kernel.{state_of, IsRunning, slot_now, pid_now, live_now, IsSound, IsTooDear, HasImage}
+use Rattle.kernel_spec.specs.rows.Sizes.{at_size}
 use Rattle.kcall_core.specs.Whole.{IsWhole}
 use Rattle.kcall_core.specs.Makes.{Makes, view_now}
 use Rattle.kcall_core.specs.declared.kernel.Kernel.{Kernel}
@@ -26,7 +28,7 @@ use Rattle.kcall_core.specs.declared.memories.Memories.{Memories}
 use Rattle.kcall_core.proofs.table.States.{running, changed-here}
 use Rattle.kcall_core.proofs.table.Stops.{now-slot}
 use Rattle.kcall_core.proofs.making.Answered.{answered-same, answered-anew}
-use Rattle.kcall_core.proofs.rows.Resized.{at-greater, at-smaller}
+use Rattle.kernel_spec.proofs.rows.Resized.{at-greater, at-smaller}
 use Rattle.kcall_core.proofs.making.AloneMakes.{IsAnswered, alone-twice, done-makes}
 
 -- ---- by the answer of a growth

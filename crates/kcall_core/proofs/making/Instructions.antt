@@ -10,7 +10,7 @@ use Rattle.rv64i_core.specs.Memory.{Store}
 use Rattle.rv64i_core.specs.Step.{Step, Next, Ecall, Fault, stop_of, regs_after, state_after}
 use Rattle.rv64i_core.specs.declared.execution.Stop.{Stop}
 use Rattle.rv64i_core.specs.declared.execution.Stop.TheVariants as stops
-use Rattle.hart_core.specs.UserMemory.{with_store}
+use Rattle.rv64i_core.specs.UserImage.{with_store}
 use Rattle.hart_core.specs.declared.hart.Hart.{Hart}
 use Rattle.xk_base.specs.Image.{Image, price}
 use Rattle.proc_table.specs.declared.channel.Channel.{Channel}
@@ -19,31 +19,32 @@ use Rattle.proc_table.specs.declared.process.State as table
 use Rattle.proc_table.specs.declared.process.State.TheVariants as table_state
 use Rattle.proc_table.specs.Processes.{channel_of, call_of, state_call, state_in_call, in_call}
 use Rattle.proc_table.specs.Slots.{Slots, Holds, place_at, descriptors_at, changed_at}
-use Rattle.kcall_core.specs.Instruction.{next_instruction}
-use Rattle.kcall_core.specs.Processes.{Live, Alive}
-use Rattle.kcall_core.specs.State.{State, live}
-use Rattle.kcall_core.specs.View.{View, view, view_of}
-use Rattle.kcall_core.specs.Own.{Own, Stepped, Blocked, goes_on}
-use Rattle.kcall_core.specs.Step.{own, stored}
-use Rattle.kcall_core.specs.RowLaws as laws
-use Rattle.kcall_core.specs.RowLaws.{After}
-use Rattle.kcall_core.specs.WellFormed.{WellFormed}
-use Rattle.kcall_core.specs.Conditions.{waits_for}
+use Rattle.kernel_spec.specs.steps.Instruction.{next_instruction}
+use Rattle.kernel_spec.specs.views.Processes.{Live, Alive}
+use Rattle.kernel_spec.specs.views.State.{State, live}
+use Rattle.kernel_spec.specs.views.View.{View, view, view_of}
+use Rattle.kernel_spec.specs.steps.Own.{Own, Stepped, Blocked, goes_on}
+use Rattle.kernel_spec.specs.steps.Step.{own, stored}
+use Rattle.kernel_spec.specs.laws.RowLaws as laws
+use Rattle.kernel_spec.specs.laws.RowLaws.{After}
+use Rattle.kernel_spec.specs.views.WellFormed.{WellFormed}
+use Rattle.kernel_spec.specs.waking.Conditions.{waits_for}
 use Rattle.kcall_core.specs.Holdings.{held_at, or_nothing, with_image}
 use Rattle.kcall_core.specs.Memories.{each_of, step_in, Steps}
 use Rattle.kcall_core.specs.Kernel.{state_of, live_of, IsSound, IsRunning, or_nobody, slot_now, place_now, pid_now, live_now}
 use Rattle.kcall_core.specs.Machine.{turns_of}
-use Rattle.kcall_core.specs.Whole.{IsWhole, is_for}
+use Rattle.kcall_core.specs.Whole.{IsWhole}
+use Rattle.kernel_spec.specs.waking.SleepsOn.{is_for}
 use Rattle.kcall_core.specs.Makes.{Makes, Stays, view_now}
 use Rattle.kcall_core.specs.declared.kernel.Kernel.{Kernel}
 use Rattle.kcall_core.specs.declared.memories.Memories.{Memories}
-use Rattle.kcall_core.specs.Updates.{set_live, stepped}
-use Rattle.kcall_core.proofs.steps.Maps.{get_same, get_other}
+use Rattle.kernel_spec.specs.steps.Updates.{set_live, stepped}
+use Rattle.kernel_spec.proofs.steps.Maps.{get_same, get_other}
 use Rattle.kcall_core.proofs.memory.Lists.{set-read}
 use Rattle.kcall_core.proofs.table.States.{running, Goes, goes-sound, goes-state, changed-here, changed-has, changed-goes}
 use Rattle.kcall_core.proofs.turns.Turned.{live-is}
-use Rattle.kcall_core.proofs.well.WellLaws.{stores_take_nothing}
-use Rattle.kcall_core.proofs.steps.Alone.{begins, before-next, instruction}
+use Rattle.kernel_spec.proofs.well.WellLaws.{stores_take_nothing}
+use Rattle.kernel_spec.proofs.steps.Alone.{begins, before-next, instruction}
 use Rattle.kcall_core.proofs.turns.StepSlots.{KeepsAll}
 use Rattle.kcall_core.proofs.making.AloneMakes.{OnlyItself, only-makes}
 

@@ -11,25 +11,26 @@ use Rattle.proc_table.specs.Processes.{channel_of}
 use Rattle.proc_table.specs.Slots.{place_at}
 use Rattle.proc_table.specs.declared.channel.Channel.{Channel}
 use Rattle.proc_table.specs.declared.process.Process.{Process}
-use Rattle.kcall_core.specs.Words.{minus_one, or_zero}
-use Rattle.kcall_core.specs.Processes.{Live}
-use Rattle.kcall_core.specs.State.{State, live}
-use Rattle.kcall_core.specs.View.{view_of}
-use Rattle.kcall_core.specs.Own.{Own, Answer, Stepped, Called, Blocked, Exited, Faulted, gone_with}
-use Rattle.kcall_core.specs.Ready.{ready}
-use Rattle.kcall_core.specs.Run.{Step_of, Ticked, IsBlocked, stays_current, halts_with}
-use Rattle.kcall_core.specs.Wakes.{IsEnd}
-use Rattle.kcall_core.specs.WellFormed.{WellFormed}
-use Rattle.kcall_core.specs.Conditions.{is_open, waits_for, OthersWaitOn}
-use Rattle.kcall_core.specs.RowLaws.{After}
+use Rattle.kernel_spec.specs.views.Words.{minus_one, or_zero}
+use Rattle.kernel_spec.specs.views.Processes.{Live}
+use Rattle.kernel_spec.specs.views.State.{State, live}
+use Rattle.kernel_spec.specs.views.View.{view_of}
+use Rattle.kernel_spec.specs.steps.Own.{Own, Answer, Stepped, Called, Blocked, Exited, Faulted, gone_with}
+use Rattle.kernel_spec.specs.waking.Ready.{ready}
+use Rattle.kernel_spec.specs.runs.Run.{Step_of, Ticked, IsBlocked, stays_current, halts_with}
+use Rattle.kernel_spec.specs.waking.Wakes.{IsEnd}
+use Rattle.kernel_spec.specs.views.WellFormed.{WellFormed}
+use Rattle.kernel_spec.specs.waking.Conditions.{is_open, waits_for, OthersWaitOn}
+use Rattle.kernel_spec.specs.laws.RowLaws.{After}
 use Rattle.kcall_core.specs.Kernel.{frame_count, state_of, IsSound, IsRunning, or_nobody, slot_now, pid_now, live_now}
 use Rattle.kcall_core.specs.Machine.{sleepers_below, turns_of}
-use Rattle.kcall_core.specs.Whole.{IsWhole, AreCounted, is_for}
+use Rattle.kcall_core.specs.Whole.{IsWhole, AreCounted}
+use Rattle.kernel_spec.specs.waking.SleepsOn.{is_for}
 use Rattle.kcall_core.specs.Makes.{Makes}
 use Rattle.kcall_core.specs.declared.kernel.Kernel.{Kernel}
 use Rattle.kcall_core.proofs.table.States.{none-some}
 use Rattle.kcall_core.proofs.turns.Turned.{sleeps-is, not-both, same-some}
-use Rattle.kcall_core.proofs.waking.Wakes.{ready_is}
+use Rattle.kernel_spec.proofs.waking.Wakes.{ready_is}
 use Rattle.kcall_core.proofs.turns.StepSlots.{SlotsAfter}
 use Rattle.kcall_core.proofs.making.Sleepers.{Sleeping, elsewhere, another, slept-before, wakes-due, on-channels, unready}
 

@@ -19,25 +19,27 @@ use Rattle.proc_table.specs.declared.channel.Channel.{Channel}
 use Rattle.proc_table.specs.declared.channel.Channel.TheVariants as on
 use Rattle.proc_table.specs.declared.process.Call.{Call}
 use Rattle.proc_table.specs.declared.process.Process.{Process}
-use Rattle.kcall_core.specs.Words.{word, or_zero}
-use Rattle.kcall_core.specs.Processes.{Live, Alive}
-use Rattle.kcall_core.specs.State.{State}
-use Rattle.kcall_core.specs.View.{view_of, or_gone}
-use Rattle.kcall_core.specs.Own.{Own, Called, Blocked}
-use Rattle.kcall_core.specs.Ready.{ready}
-use Rattle.kcall_core.specs.Calls.{with_a0}
-use Rattle.kcall_core.specs.Run.{IsBlocked}
-use Rattle.kcall_core.specs.Updates.{changed_state, own_state, with_answer}
-use Rattle.kcall_core.specs.Updates as update
-use Rattle.kcall_core.specs.WellFormed.{WellFormed}
-use Rattle.kcall_core.specs.RowLaws.{IsLive, After, FilesLeft}
+use Rattle.kernel_spec.specs.views.Words.{word, or_zero}
+use Rattle.kernel_spec.specs.views.Processes.{Live, Alive}
+use Rattle.kernel_spec.specs.views.State.{State}
+use Rattle.kernel_spec.specs.views.View.{view_of, or_gone}
+use Rattle.kernel_spec.specs.steps.Own.{Own, Called, Blocked}
+use Rattle.kernel_spec.specs.waking.Ready.{ready}
+use Rattle.kernel_spec.specs.rows.Calls.{with_a0}
+use Rattle.kernel_spec.specs.runs.Run.{IsBlocked}
+use Rattle.kernel_spec.specs.steps.Updates.{changed_state, own_state, with_answer}
+use Rattle.kernel_spec.specs.steps.Updates as update
+use Rattle.kernel_spec.specs.views.WellFormed.{WellFormed}
+use Rattle.kernel_spec.specs.laws.RowLaws.{IsLive, After, FilesLeft}
 use Rattle.kcall_core.specs.Closings.{unless_woken, woken_by}
-use Rattle.kcall_core.specs.Conditions.{Condition, Child_of, Bytes, Room, Time, Keys, Sending, is_open, has_bytes, has_room, waits_for, KeepsTargets}
+use Rattle.kernel_spec.specs.waking.Conditions.{Condition, Child_of, Bytes, Room, Time, Keys, Sending, is_open, waits_for, KeepsTargets}
+use Rattle.kernel_spec.specs.views.PipeEnds.{has_bytes, has_room}
 use Rattle.kcall_core.specs.Kernel.{frame_count, state_of, IsSound, IsRunning, or_nobody, slot_now, place_now, pid_now, live_now}
-use Rattle.kcall_core.specs.Whole.{IsWhole, AreCounted, is_for}
+use Rattle.kcall_core.specs.Whole.{IsWhole, AreCounted}
+use Rattle.kernel_spec.specs.waking.SleepsOn.{is_for}
 use Rattle.kcall_core.specs.Makes.{Makes}
 use Rattle.kcall_core.specs.declared.kernel.Kernel.{Kernel}
-use Rattle.kcall_core.proofs.steps.Maps.{get_same, insert-twice}
+use Rattle.kernel_spec.proofs.steps.Maps.{get_same, insert-twice}
 use Rattle.kcall_core.proofs.table.States.{none-some, running}
 use Rattle.kcall_core.proofs.turns.Turned.{live-is}
 use Rattle.kcall_core.proofs.table.OnePlace.{ItsPlace, changed-place, place-counted, place-join, in-call-lives, in-call-channel, asleep-lives, asleep-channel}
@@ -46,8 +48,8 @@ use Rattle.kcall_core.proofs.turns.StepSlots.{KeepsAll}
 use Rattle.kcall_core.proofs.table.Woken.{woken_by-status, woken-channel}
 use Rattle.kcall_core.proofs.making.CallAnswers.{IsDone}
 use Rattle.kcall_core.proofs.files.Namings.{files-left}
-use Rattle.kcall_core.proofs.waking.Openings.{family}
-use Rattle.kcall_core.proofs.well.WellLaws as well
+use Rattle.kernel_spec.proofs.waking.Openings.{family}
+use Rattle.kernel_spec.proofs.well.WellLaws as well
 use Rattle.kcall_core.proofs.making.Filing.{filed-makes}
 
 -- ---- who wakes

@@ -13,14 +13,14 @@ use Rattle.pipe_core.specs.Pipe.{Pipe}
 use Rattle.file_table.specs.OpenFiles as files
 use Rattle.proc_table.specs.Slots.{Slots, place_at, place_is_live, descriptors_at, each_changed}
 use Rattle.proc_table.specs.declared.channel.Channel.{Channel}
-use Rattle.kcall_core.specs.Processes.{Live, Alive}
-use Rattle.kcall_core.specs.State.{State, live}
-use Rattle.kcall_core.specs.View.{view_of, view}
-use Rattle.kcall_core.specs.Own.{Own, Blocked}
-use Rattle.kcall_core.specs.Step.{own}
-use Rattle.kcall_core.specs.Ready.{ready}
-use Rattle.kcall_core.specs.Updates.{changed_state, set_pipe}
-use Rattle.kcall_core.specs.WellFormed.{WellFormed}
+use Rattle.kernel_spec.specs.views.Processes.{Live, Alive}
+use Rattle.kernel_spec.specs.views.State.{State, live}
+use Rattle.kernel_spec.specs.views.View.{view_of, view}
+use Rattle.kernel_spec.specs.steps.Own.{Own, Blocked}
+use Rattle.kernel_spec.specs.steps.Step.{own}
+use Rattle.kernel_spec.specs.waking.Ready.{ready}
+use Rattle.kernel_spec.specs.steps.Updates.{changed_state, set_pipe}
+use Rattle.kernel_spec.specs.views.WellFormed.{WellFormed}
 use Rattle.kcall_core.specs.Closings.{woken_by}
 use Rattle.kcall_core.specs.Holdings.{or_nothing, held_at, with_image}
 use Rattle.kcall_core.specs.Memories.{each_of}
@@ -29,14 +29,14 @@ use Rattle.kcall_core.specs.Kernel.{frame_count, state_of, IsSound, IsRunning, s
 use Rattle.kcall_core.specs.Whole.{IsWhole, AreCounted, namings}
 use Rattle.kcall_core.specs.declared.kernel.Kernel.{Kernel}
 use Rattle.kcall_core.specs.declared.memories.Memories.{Memories}
-use Rattle.kcall_core.proofs.steps.Maps.{get_same, get_other}
+use Rattle.kernel_spec.proofs.steps.Maps.{get_same, get_other}
 use Rattle.kcall_core.proofs.table.States.{running, Goes, goes-processes, goes-sound}
 use Rattle.kcall_core.proofs.memory.Changes.{some-inside}
 use Rattle.kcall_core.proofs.turns.Turned.{live-is}
 use Rattle.kcall_core.proofs.table.Woken.{place-each, live-woken, each-none, stirred-state, stirred-sound}
-use Rattle.kcall_core.proofs.rows.Asleep.{blocks_unready}
-use Rattle.kcall_core.proofs.well.WellLaws as well
-use Rattle.kcall_core.proofs.well.WellSteps as steps
+use Rattle.kernel_spec.proofs.rows.Asleep.{blocks_unready}
+use Rattle.kernel_spec.proofs.well.WellLaws as well
+use Rattle.kernel_spec.proofs.well.WellSteps as steps
 use Rattle.kcall_core.proofs.making.Prepared.{over}
 use Rattle.kcall_core.proofs.making.Midway.{WakeOn, Midway}
 

@@ -7,11 +7,11 @@ use Rattle.hart_core.specs.declared.hart.Hart.{Hart}
 use Rattle.proc_table.specs.Processes as process
 use Rattle.proc_table.specs.Slots.{place_at, descriptors_at, changed_at}
 use Rattle.proc_table.specs.declared.process.Call.{Call}
-use Rattle.kcall_core.specs.Words.{or_zero}
-use Rattle.kcall_core.specs.State.{State}
-use Rattle.kcall_core.specs.Own.{Own}
-use Rattle.kcall_core.specs.Calls.{done}
-use Rattle.kcall_core.specs.Updates.{own_state, alone_state, with_answer}
+use Rattle.kernel_spec.specs.views.Words.{or_zero}
+use Rattle.kernel_spec.specs.views.State.{State}
+use Rattle.kernel_spec.specs.steps.Own.{Own}
+use Rattle.kernel_spec.specs.rows.Calls.{done}
+use Rattle.kernel_spec.specs.steps.Updates.{own_state, alone_state, with_answer}
 use Rattle.kcall_core.specs.Holdings.{or_nothing, held_at, with_image}
 use Rattle.kcall_core.specs.Memories.{each_of, RunsIn, SlotChanges, Same}
 use Rattle.kcall_core.specs.Kernel.{live_of, state_of, IsSound, IsRunning, or_nobody, slot_now, place_now, pid_now, live_now}

@@ -9,25 +9,26 @@ use Rattle.proc_table.specs.Processes.{channel_of}
 use Rattle.proc_table.specs.Slots.{IsTable, place_at, descriptors_at}
 use Rattle.proc_table.specs.declared.channel.Channel.{Channel}
 use Rattle.proc_table.specs.declared.process.Process.{Process}
-use Rattle.kcall_core.specs.Processes.{Live}
-use Rattle.kcall_core.specs.State.{State, live}
-use Rattle.kcall_core.specs.View.{View, view, view_of}
-use Rattle.kcall_core.specs.Ready.{ready}
-use Rattle.kcall_core.specs.Turns.{Sleeps}
-use Rattle.kcall_core.specs.Run.{World, Outcome, Ticked}
-use Rattle.kcall_core.specs.Wakes.{WakesWhereDue, IsInCall, IsEnd, NoReadySleeper}
+use Rattle.kernel_spec.specs.views.Processes.{Live}
+use Rattle.kernel_spec.specs.views.State.{State, live}
+use Rattle.kernel_spec.specs.views.View.{View, view, view_of}
+use Rattle.kernel_spec.specs.waking.Ready.{ready}
+use Rattle.kernel_spec.specs.waking.Turns.{Sleeps}
+use Rattle.kernel_spec.specs.runs.Run.{World, Outcome, Ticked}
+use Rattle.kernel_spec.specs.waking.Wakes.{WakesWhereDue, IsInCall, IsEnd, NoReadySleeper}
 use Rattle.kcall_core.specs.Closings.{unless_woken}
-use Rattle.kcall_core.specs.Conditions.{is_open, waits_for}
+use Rattle.kernel_spec.specs.waking.Conditions.{is_open, waits_for}
 use Rattle.kcall_core.specs.Holdings.{held_at}
 use Rattle.kcall_core.specs.Memories.{each_of}
 use Rattle.kcall_core.specs.Kernel.{state_of, IsSound, IsRunning, or_nobody, slot_now, pid_now, live_of, regs_at}
 use Rattle.kcall_core.specs.Machine.{sleepers_below, turns_of, world_of}
-use Rattle.kcall_core.specs.Whole.{IsWhole, SleepOnTheirChannels, is_for}
+use Rattle.kcall_core.specs.Whole.{IsWhole, SleepOnTheirChannels}
+use Rattle.kernel_spec.specs.waking.SleepsOn.{is_for}
 use Rattle.kcall_core.specs.declared.kernel.Kernel.{Kernel}
 use Rattle.kcall_core.proofs.table.States.{none-some, running}
 use Rattle.kcall_core.proofs.table.Observed.{live-held}
 use Rattle.kcall_core.proofs.turns.Turned.{sleeps-is, sleeps-from, awake-is, sleeper-lives, not-both, same-some}
-use Rattle.kcall_core.proofs.waking.Wakes.{ready_is, view_is}
+use Rattle.kernel_spec.proofs.waking.Wakes.{ready_is, view_is}
 
 -- A process that sleeps, in its slot, on its channel
 pub record Sleeper (k : Kernel) (q : ℕ) : Type 0 where

@@ -3,13 +3,13 @@ use Rattle.std.proofs.Common.{◌≡◌, ℕ, Option, Some, None, refl, sym, ap,
 use Rattle.std.specs.Prelude.{IsSome, option_map}
 use Rattle.std.specs.FinMap.{get}
 use Rattle.hart_core.specs.declared.hart.Hart.{Hart}
-use Rattle.kcall_core.specs.Processes.{Live, Alive, Zombie}
-use Rattle.kcall_core.specs.State.{State}
-use Rattle.kcall_core.specs.View.{view_of}
-use Rattle.kcall_core.specs.Own.{Own}
-use Rattle.kcall_core.specs.RowLaws.{After}
-use Rattle.kcall_core.specs.Run.{World, Step_of, TurnsAfter, halts_with}
-use Rattle.kcall_core.specs.Wakes.{WakesWhereDue}
+use Rattle.kernel_spec.specs.views.Processes.{Live, Alive, Zombie}
+use Rattle.kernel_spec.specs.views.State.{State}
+use Rattle.kernel_spec.specs.views.View.{view_of}
+use Rattle.kernel_spec.specs.steps.Own.{Own}
+use Rattle.kernel_spec.specs.laws.RowLaws.{After}
+use Rattle.kernel_spec.specs.runs.Run.{World, Step_of, TurnsAfter, halts_with}
+use Rattle.kernel_spec.specs.waking.Wakes.{WakesWhereDue}
 use Rattle.kcall_core.specs.Kernel.{state_of, IsSound, IsRunning, pid_now, live_now}
 use Rattle.kcall_core.specs.Machine.{turns_of, world_of}
 use Rattle.kcall_core.specs.Makes.{Makes, Stays, StillRuns, view_now}

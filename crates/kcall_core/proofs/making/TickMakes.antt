@@ -9,30 +9,31 @@ use Rattle.proc_table.specs.Processes.{woken}
 use Rattle.proc_table.specs.Slots.{Slots, place_at, place_is_live, descriptors_at, process_pid, each_changed}
 use Rattle.proc_table.specs.declared.channel.Channel.{Channel}
 use Rattle.proc_table.specs.declared.channel.Channel.TheVariants as on
-use Rattle.kcall_core.specs.Words.{CLOCK_ROUND}
-use Rattle.kcall_core.specs.Processes.{Live}
-use Rattle.kcall_core.specs.State.{State, live}
-use Rattle.kcall_core.specs.View.{View, view_of}
-use Rattle.kcall_core.specs.Ready.{ready}
-use Rattle.kcall_core.specs.Calls.{table}
-use Rattle.kcall_core.specs.Run.{Ticked, TickHappens}
-use Rattle.kcall_core.specs.Wakes.{WakesWhereDue, IsInCall, IsEnd}
-use Rattle.kcall_core.specs.WellFormed.{WellFormed}
+use Rattle.kernel_spec.specs.views.Words.{CLOCK_ROUND}
+use Rattle.kernel_spec.specs.views.Processes.{Live}
+use Rattle.kernel_spec.specs.views.State.{State, live}
+use Rattle.kernel_spec.specs.views.View.{View, view_of}
+use Rattle.kernel_spec.specs.waking.Ready.{ready}
+use Rattle.kernel_spec.specs.rows.Calls.{table}
+use Rattle.kernel_spec.specs.runs.Run.{Ticked, TickHappens}
+use Rattle.kernel_spec.specs.waking.Wakes.{WakesWhereDue, IsInCall, IsEnd}
+use Rattle.kernel_spec.specs.views.WellFormed.{WellFormed}
 use Rattle.kcall_core.specs.Closings.{woken_by}
-use Rattle.kcall_core.specs.Conditions.{is_open, waits_for}
+use Rattle.kernel_spec.specs.waking.Conditions.{is_open, waits_for}
 use Rattle.kcall_core.specs.Kernel.{frame_count, state_of, IsSound, pid_now}
 use Rattle.kcall_core.specs.Machine.{slots_of, sleepers_below, turns_of, world_of}
-use Rattle.kcall_core.specs.Whole.{IsWhole, AreCounted, namings, is_for}
+use Rattle.kcall_core.specs.Whole.{IsWhole, AreCounted, namings}
+use Rattle.kernel_spec.specs.waking.SleepsOn.{is_for}
 use Rattle.kcall_core.specs.declared.kernel.Kernel.{Kernel}
 use Rattle.kcall_core.proofs.table.States.{none-some}
 use Rattle.kcall_core.proofs.turns.Turned.{slots-same, same-some}
-use Rattle.kcall_core.proofs.waking.Wakes.{ready_is}
-use Rattle.kcall_core.proofs.waking.Openings.{opens_tick}
+use Rattle.kernel_spec.proofs.waking.Wakes.{ready_is}
+use Rattle.kernel_spec.proofs.waking.Openings.{opens_tick}
 use Rattle.kcall_core.proofs.table.Woken.{woken-channel, place-each, live-woken, each-woken}
 use Rattle.kcall_core.proofs.turns.StepSlots.{same-pid}
 use Rattle.kcall_core.proofs.making.Sleepers.{Sleeping, changed-stays, changed-slept, slept-before, wakes-due, on-channels, unready}
-use Rattle.kcall_core.proofs.well.WellLaws as well
-use Rattle.kcall_core.proofs.waking.TickWaits.{counts-ticks, on-clock, is-clock, time-clock, in-thirteen, call-same}
+use Rattle.kernel_spec.proofs.well.WellLaws as well
+use Rattle.kernel_spec.proofs.waking.TickWaits.{counts-ticks, on-clock, is-clock, time-clock, in-thirteen, call-same}
 
 -- What `tick` leaves
 pub record HasTicked (k : Kernel) (h : Hart) (k' : Kernel) (h' : Hart) : Type 0 where

@@ -7,15 +7,15 @@ use Rattle.rv64i_core.specs.Step.{Step, Next, Ecall, Fault, stop_of, address_use
 use Rattle.rv64i_core.specs.declared.execution.Stop.{Stop}
 use Rattle.rv64i_core.specs.declared.execution.Stop.TheVariants as stops
 use Rattle.hart_core.specs.Steps.{last_fault}
-use Rattle.hart_core.specs.UserMemory.{user}
+use Rattle.rv64i_core.specs.UserImage.{user}
 use Rattle.hart_core.specs.declared.hart.Hart.{Hart}
-use Rattle.addr_space.specs.Absent.{is_absent}
-use Rattle.kcall_core.specs.Instruction.{next_instruction}
-use Rattle.kcall_core.specs.Processes.{Live}
-use Rattle.kcall_core.specs.View.{View, view_of}
-use Rattle.kcall_core.specs.Step.{own, after_instruction, going_on, unless_killed}
-use Rattle.kcall_core.specs.Touches.{pages_at, brought, touch, faults_on_data, page_used, is_on_absent, before_instruction, instruction_now}
-use Rattle.kcall_core.specs.RowLaws as laws
+use Rattle.addr_space.specs.Absent.{is_absent, pages_at, brought}
+use Rattle.kernel_spec.specs.steps.Instruction.{next_instruction}
+use Rattle.kernel_spec.specs.views.Processes.{Live}
+use Rattle.kernel_spec.specs.views.View.{View, view_of}
+use Rattle.kernel_spec.specs.steps.Step.{own, after_instruction, going_on, unless_killed}
+use Rattle.kernel_spec.specs.rows.Touches.{touch, page_used, before_instruction, instruction_now}
+use Rattle.kernel_spec.specs.laws.RowLaws as laws
 use Rattle.kcall_core.specs.Memories.{RunsIn, step_in, Steps}
 use Rattle.kcall_core.specs.Kernel.{IsRunning, slot_now, live_now}
 use Rattle.kcall_core.specs.Whole.{IsWhole}
@@ -24,7 +24,7 @@ use Rattle.kcall_core.specs.Touched.{IsTouched, HasFaulted}
 use Rattle.kcall_core.specs.declared.kernel.Kernel.{Kernel}
 use Rattle.kcall_core.specs.declared.memories.Memories.{Memories}
 use Rattle.kcall_core.proofs.table.States.{running}
-use Rattle.kcall_core.proofs.memory.OnAbsent.{not_on_absent, page_not_on_absent, before_same, before_fault, before_touched, before_untouched, off_absent_once_touched, done_once_touched}
+use Rattle.kernel_spec.proofs.memory.OnAbsent.{not_on_absent, page_not_on_absent, before_same, before_fault, before_touched, before_untouched, off_absent_once_touched, done_once_touched, faults_on_data, is_on_absent}
 use Rattle.kcall_core.proofs.making.Instructions.{step-done, step-stays}
 use Rattle.kcall_core.proofs.making.Staying.{still-runs, stays-view, makes-from}
 

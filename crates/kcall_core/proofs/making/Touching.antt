@@ -7,11 +7,11 @@ use Rattle.xk_base.specs.declared.limits.TheConstants.{OPEN_FILES}
 use Rattle.file_table.specs.OpenFiles.{open_file_at}
 use Rattle.xk_base.specs.Image.{Image, price}
 use Rattle.hart_core.specs.declared.hart.Hart.{Hart}
-use Rattle.addr_space.specs.Absent.{is_absent}
-use Rattle.kcall_core.specs.Buffers.{writable, writable_now}
-use Rattle.kcall_core.specs.Touches.{pages_at, brought, touch}
-use Rattle.kcall_core.specs.Processes.{Live}
-use Rattle.kcall_core.specs.View.{view_of}
+use Rattle.addr_space.specs.Absent.{is_absent, pages_at, brought}
+use Rattle.kernel_spec.specs.rows.Buffers.{writable, writable_now}
+use Rattle.kernel_spec.specs.rows.Touches.{touch}
+use Rattle.kernel_spec.specs.views.Processes.{Live}
+use Rattle.kernel_spec.specs.views.View.{view_of}
 use Rattle.kcall_core.specs.Holdings.{held_at, with_image}
 use Rattle.kcall_core.specs.Memories.{each_of, free_of, RunsIn, SlotChanges}
 use Rattle.kcall_core.specs.Kernel.{state_of, IsRunning, slot_now, place_now, pid_now, live_now, HasImage}
@@ -20,8 +20,8 @@ use Rattle.kcall_core.specs.Makes.{view_now}
 use Rattle.kcall_core.specs.Touched.{IsTouched, IsReady, IsUnready}
 use Rattle.kcall_core.specs.declared.kernel.Kernel.{Kernel}
 use Rattle.kcall_core.specs.declared.memories.Memories.{Memories}
-use Rattle.kcall_core.proofs.rows.Settled.{brought-none, touch-view, touch-dear, there-ready, ready-there}
-use Rattle.kcall_core.proofs.steps.Change.{view_alone}
+use Rattle.kernel_spec.proofs.rows.Settled.{brought-none, touch-view, touch-dear, there-ready, ready-there}
+use Rattle.kernel_spec.proofs.steps.Change.{view_alone}
 use Rattle.kcall_core.proofs.table.States.{running}
 use Rattle.kcall_core.proofs.table.Stops.{now-slot}
 use Rattle.kcall_core.proofs.turns.Turned.{live-is}

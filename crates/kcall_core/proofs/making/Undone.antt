@@ -7,18 +7,18 @@ use Rattle.rv64i_core.specs.Step.{Step, Next, Ecall, Fault, stop_of}
 use Rattle.rv64i_core.specs.declared.execution.Stop.{Stop}
 use Rattle.rv64i_core.specs.declared.execution.Stop.TheVariants as stops
 use Rattle.hart_core.specs.declared.hart.Hart.{Hart}
-use Rattle.kcall_core.specs.Instruction.{next_instruction}
-use Rattle.kcall_core.specs.View.{View, view_of}
-use Rattle.kcall_core.specs.Own.{Stepped, Faulted, goes_on}
-use Rattle.kcall_core.specs.Calls.{gone}
-use Rattle.kcall_core.specs.Step.{own, stored, after_instruction}
-use Rattle.kcall_core.specs.Touches.{touch, page_used, is_on_absent, before_instruction, instruction_now}
-use Rattle.kcall_core.specs.RowLaws as laws
+use Rattle.kernel_spec.specs.steps.Instruction.{next_instruction}
+use Rattle.kernel_spec.specs.views.View.{View, view_of}
+use Rattle.kernel_spec.specs.steps.Own.{Stepped, Faulted, goes_on}
+use Rattle.kernel_spec.specs.rows.Calls.{gone}
+use Rattle.kernel_spec.specs.steps.Step.{own, stored, after_instruction}
+use Rattle.kernel_spec.specs.rows.Touches.{touch, page_used, before_instruction, instruction_now}
+use Rattle.kernel_spec.specs.laws.RowLaws as laws
 use Rattle.kcall_core.specs.Kernel.{live_now}
 use Rattle.kcall_core.specs.Makes.{view_now, stop_now}
 use Rattle.kcall_core.specs.declared.kernel.Kernel.{Kernel}
-use Rattle.kcall_core.proofs.memory.OnAbsent.{before_same, before_touched, before_untouched, done_once_touched, next_of_stop}
-use Rattle.kcall_core.proofs.rows.Settled.{touch-comes}
+use Rattle.kernel_spec.proofs.memory.OnAbsent.{before_same, before_touched, before_untouched, done_once_touched, next_of_stop, is_on_absent}
+use Rattle.kernel_spec.proofs.rows.Settled.{touch-comes}
 use Rattle.kcall_core.proofs.making.TouchedSteps.{own-is, fault-of}
 
 -- ---- the view in which it is done

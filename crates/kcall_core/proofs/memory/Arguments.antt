@@ -11,7 +11,7 @@ use Rattle.xk_base.specs.declared.errors.ExecError.{ExecError}
 use Rattle.xk_base.specs.declared.errors.ExecError.TheVariants.{TooManyArgs, ArgsTooLong}
 use Rattle.sv39_core.proofs.Words.{ltb-no}
 use Rattle.exec_core.specs.ArgTexts.{terminated, push_refusal}
-use Rattle.kcall_core.specs.Buffers.{text_at, text_from, texts_at, texts_from, with_text, pointer_at, may_touching}
+use Rattle.kernel_spec.specs.rows.Buffers.{text_at, text_from, texts_at, texts_from, with_text, pointer_at, may_touching}
 
 -- these texts, and then the others
 abbrev pub behind : List (List ℕ) → Option (List (List ℕ)) → Option (List (List ℕ))

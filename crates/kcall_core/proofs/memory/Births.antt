@@ -19,7 +19,7 @@ use Rattle.addr_space.specs.declared.Space.{Space}
 use Rattle.rv64i_core.specs.Registers.{Registers, fresh}
 use Rattle.hart_core.specs.Trapframe.{saved}
 use Rattle.pipe_core.specs.Pipe.{pipe_in}
-use Rattle.kcall_core.specs.Words.{count_if}
+use Rattle.kernel_spec.specs.views.Words.{count_if}
 use Rattle.kcall_core.specs.Holdings.{Held, or_nothing, HasMemory, IsVacant}
 use Rattle.kcall_core.specs.Memories.{held_in, keeps_pipe, kept_pipe, slot_frames, all_joined, process_frames, IsMemory, IsAccounted, AreSound, each_of, SlotChanges}
 use Rattle.kcall_core.specs.declared.memories.Memory.{Memory}
@@ -59,14 +59,14 @@ module _ {pool pool1 pool2 : Pool} {ram ram1 ram2 : List (List ℕ)} {t : ℕ} {
   pub born-saved : saved ram2 t ≡ fresh 0
   born-saved = saved-zero ram2 t (made.traded.others t (taken-apart good taken) (copies-nil t) ∙ taken.zeros)
 
-  pub born-whole : s.size ≤ SIZE_LIMIT → IsMemory ram2 (record { space = s; trapframe = t })
-  born-whole limit = record { space = made.whole; size = limit; aligned = ap (λ (r : Registers). r.pc % 4) born-saved }
+  pub born-whole : IsMemory ram2 (record { space = s; trapframe = t })
+  born-whole = record { space = made.whole; aligned = ap (λ (r : Registers). r.pc % 4) born-saved }
 
 -- the slot gets this space, and a trapframe of zeros
-pub born : {old : Memories} {i : ℕ} {pool1 : Pool} {ram1 : List (List ℕ)} (new : Memories) (t : ℕ) (s : Space) (image : Image) → AreSound old → IsVacant (each_of old) i → Taken old.pool old.ram pool1 ram1 t → Made pool1 ram1 new.pool new.ram s → image_of new.ram s ≡ image → image.size ≤ SIZE_LIMIT
+pub born : {old : Memories} {i : ℕ} {pool1 : Pool} {ram1 : List (List ℕ)} (new : Memories) (t : ℕ) (s : Space) (image : Image) → AreSound old → IsVacant (each_of old) i → Taken old.pool old.ram pool1 ram1 t → Made pool1 ram1 new.pool new.ram s → image_of new.ram s ≡ image
     → new.each.items ≡ set old.each.items i (Some (record { space = s; trapframe = t })) → new.pipes.items ≡ old.pipes.items → SlotChanges old new i (Some (record { image = image; saved = fresh 0 }))
-born {old} {i} new t s image sound vacant taken made is limit each pipes =
-    let filled = slot-filled new (record { space = s; trapframe = t }) sound vacant (born-traded sound.good taken made) (born-whole sound.good taken made (subst (λ (n : Image). n.size ≤ SIZE_LIMIT) (sym is) limit)) each pipes in
+born {old} {i} new t s image sound vacant taken made is each pipes =
+    let filled = slot-filled new (record { space = s; trapframe = t }) sound vacant (born-traded sound.good taken made) (born-whole sound.good taken made) each pipes in
     let regs : saved new.ram t ≡ fresh 0 = born-saved sound.good taken made in
     let seen : held_in new.ram (Some (record { space = s; trapframe = t })) ≡ Some (record { image = image; saved = fresh 0 }) = λ k. Some (record { image = is k; saved = regs k }) in
     subst (λ h. SlotChanges old new i h) seen filled

@@ -188,13 +188,13 @@ image-seen {old} {i} {m} s = ap (λ (h : Held). h.image) (held-seen s)
 pub cost-seen : {old : Memories} {i : ℕ} {m : Memory} → Stands old i m → held_cost (get_or (each_of old) i None) ≡ price (image_of old.ram m.space) + 1
 cost-seen {old} {i} {m} s = ap held_cost (each-at old i ∙ ap (held_in old.ram) s.is)
 
-pub space-changes : {old : Memories} {i : ℕ} {m : Memory} (new : Memories) (space' : Space) (image : Image) → Stands old i m → Changed old.pool old.ram m.space new.pool new.ram space' → image_of new.ram space' ≡ image → image.size ≤ SIZE_LIMIT
+pub space-changes : {old : Memories} {i : ℕ} {m : Memory} (new : Memories) (space' : Space) (image : Image) → Stands old i m → Changed old.pool old.ram m.space new.pool new.ram space' → image_of new.ram space' ≡ image
     → new.each.items ≡ set old.each.items i (Some (record { space = space'; trapframe = m.trapframe })) → new.pipes.items ≡ old.pipes.items → SlotChanges old new i (Some (with_image image (held_at (each_of old) i)))
-space-changes {old} {i} {m} new space' image s changed is_image limit each pipes =
+space-changes {old} {i} {m} new space' image s changed is_image each pipes =
     let after : Memory = record { space = space'; trapframe = m.trapframe } in
     let apart = trapframe-apart s in
     let registers : saved new.ram m.trapframe ≡ saved old.ram m.trapframe = saved-same old.ram new.ram m.trapframe (changed.traded.others m.trapframe apart.0 apart.1) in
-    let whole : IsMemory new.ram after = record { space = changed.whole; size = subst (λ (n : Image). n.size ≤ SIZE_LIMIT) (sym is_image) limit; aligned = ap (λ (r : Registers). r.pc % 4) registers ∙ (s.sound.memories i m s.is).aligned } in
+    let whole : IsMemory new.ram after = record { space = changed.whole; aligned = ap (λ (r : Registers). r.pc % 4) registers ∙ (s.sound.memories i m s.is).aligned } in
     let traded : Traded old.pool old.ram new.pool new.ram (slot_frames old.ram (get_or old.each.items i None)) (slot_frames new.ram (Some after)) =
     subst (λ o. Traded old.pool old.ram new.pool new.ram (slot_frames old.ram o) (slot_frames new.ram (Some after))) (sym s.is) (trade-first old.pool new.pool old.ram new.ram (space.frames_of old.ram m.space) (space.frames_of new.ram space') m.trapframe changed.traded) in
     let changes = slot-changes old new i (Some after) s.sound s.inside traded (λ n e. subst (IsMemory new.ram) (same-some after n e) whole) each pipes in

@@ -20,7 +20,7 @@ use Rattle.rv64i_core.specs.Registers.{Registers, fresh}
 use Rattle.hart_core.specs.Trapframe.{saved, words_from}
 use Rattle.hart_core.specs.Translations.{Translations, Fits, nothing}
 use Rattle.pipe_core.specs.Pipe.{IsPipe, pipe_in, ring_byte, values_below}
-use Rattle.kcall_core.specs.Words.{count_if}
+use Rattle.kernel_spec.specs.views.Words.{count_if}
 use Rattle.kcall_core.specs.Holdings.{held_cost}
 use Rattle.kcall_core.specs.Memories.{held_in, keeps_pipe, kept_pipe, slot_frames, process_frames, owners, IsMemory, IsAccounted}
 use Rattle.kcall_core.specs.declared.memories.Memory.{Memory}
@@ -136,7 +136,7 @@ stays-if pool pool' ram ram' mine mine' (Some m) traded is apart =
     let s : Spared ram ram' m.space = spared pool pool' ram ram' mine mine' m.space traded (record { whole = (is m refl).space; apart = λ f has. apart f (omega (arith, copies-cons f m.trapframe own, has)) }) in
     let none = apart m.trapframe (omega (arith, copies-cons m.trapframe m.trapframe own, at-same m.trapframe)) in
     let registers : saved ram' m.trapframe ≡ saved ram m.trapframe = saved-same ram ram' m.trapframe (traded.others m.trapframe (omega (arith, none)) (omega (arith, none))) in
-    let memory : IsMemory ram' m = record { space = s.whole; size = (is m refl).size; aligned = ap (λ (r : Registers). r.pc % 4) registers ∙ (is m refl).aligned } in
+    let memory : IsMemory ram' m = record { space = s.whole; aligned = ap (λ (r : Registers). r.pc % 4) registers ∙ (is m refl).aligned } in
     record {
       frames = ap (λ l. m.trapframe ∷ l) s.frames;
       held = λ k. Some (record { image = s.image k; saved = registers k });

@@ -8,13 +8,14 @@ use Rattle.proc_table.specs.Slots.{Slots, each_changed}
 use Rattle.xk_base.specs.declared.limits.TheConstants.{FRAMES_MAX}
 use Rattle.pipe_core.specs.Pipe.{Pipe, IsPipe, Becomes, pipe_in}
 use Rattle.file_table.specs.declared.open_file.End.{End}
-use Rattle.kcall_core.specs.PipeEnds.{count_on, joined, parted, is_given_up}
+use Rattle.kernel_spec.specs.views.PipeEnds.{count_on, joined, parted, is_given_up}
 use Rattle.kcall_core.specs.Holdings.{or_new, pipe_named, pipe_cost, with_pipe}
 use Rattle.kcall_core.specs.Memories.{AreSound, pipes_of, PipeChanges}
 use Rattle.kcall_core.specs.declared.memories.Memories.{Memories}
-use Rattle.kcall_core.proofs.steps.Maps.{get_same}
+use Rattle.kernel_spec.proofs.steps.Maps.{get_same}
 use Rattle.kcall_core.proofs.memory.PipeFrames.{pipe-keeps, pipe-named, pipe-becomes}
-use Rattle.kcall_core.specs.Closings.{across, closes_wake, woken_by}
+use Rattle.kcall_core.specs.Closings.{across, woken_by}
+use Rattle.kernel_spec.specs.waking.SleepsOn.{closes_wake}
 use Rattle.kcall_core.proofs.files.PipeLeft.{remainder, with-twice, wakes-across, wakes-nobody}
 use Rattle.kcall_core.proofs.table.Woken.{each-woken, each-none}
 

@@ -18,7 +18,7 @@ use Rattle.frame_list.proofs.Trades.{trade-lengths, trade-join}
 use Rattle.sv39_core.proofs.Gathered.{tie-yes, tie-no, gathered-get, same_pages}
 use Rattle.sv39_core.proofs.Words.{ltb-yes}
 use Rattle.pipe_core.specs.Pipe.{Pipe, IsPipe, Becomes, pipe_in}
-use Rattle.kcall_core.specs.Words.{count_if}
+use Rattle.kernel_spec.specs.views.Words.{count_if}
 use Rattle.kcall_core.specs.Holdings.{pipe_cost, with_pipe, or_new, pipe_named}
 use Rattle.kcall_core.specs.Memories.{held_in, keeps_pipe, kept_pipe, slot_frames, all_joined, process_frames, IsAccounted, AreSound, each_of, pipes_of, free_of, PipeChanges}
 use Rattle.kcall_core.specs.declared.memories.Memory.{Memory}

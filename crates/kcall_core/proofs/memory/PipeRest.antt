@@ -7,13 +7,13 @@ use Rattle.xk_base.specs.declared.access.Access.TheVariants.{Load, Store}
 use Rattle.addr_space.specs.Space.{image_of}
 use Rattle.user_copy.specs.Reach.{reaches}
 use Rattle.user_copy.proofs.Ranges.{reaches-none, reaches-not, reaches-rest, reaches-fewer, may-beyond}
-use Rattle.kcall_core.specs.Buffers.{readable, writable_now, reaches_touching}
+use Rattle.kernel_spec.specs.rows.Buffers.{readable, writable_now, reaches_touching}
 use Rattle.kcall_core.specs.Holdings.{held_at, or_nothing, HasMemory}
 use Rattle.kcall_core.specs.Memories.{each_of, held_in, AreSound}
 use Rattle.kcall_core.specs.declared.memories.Memory.{Memory}
 use Rattle.kcall_core.specs.declared.memories.Memories.{Memories}
 use Rattle.kcall_core.proofs.memory.Changes.{each-at, there-inside}
-use Rattle.kcall_core.proofs.memory.Bringing.{touching-rest}
+use Rattle.kernel_spec.proofs.memory.Bringing.{touching-rest}
 use Rattle.kcall_core.proofs.memory.Written.{readable-inside}
 
 -- what a process may reach lies below 2^38

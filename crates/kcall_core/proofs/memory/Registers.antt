@@ -57,7 +57,7 @@ module _ {old : Memories} (new : Memories) {i : ℕ} {m : Memory} (s : Stands ol
 
   pub saved-changes : (regs : Registers) → saved new.ram m.trapframe ≡ regs → word_at new.ram m.trapframe 0 % 4 ≡ 0 → new.pipes.items ≡ old.pipes.items → SlotChanges old new i (Some (with_saved regs (held_at (each_of old) i)))
   saved-changes regs is aligned pipes =
-      let whole : IsMemory new.ram m = record { space = space-kept old.ram new.ram m.space (s.sound.memories i m s.is).space kept; size = (s.sound.memories i m s.is).size; aligned = saved-aligned new.ram m.trapframe aligned } in
+      let whole : IsMemory new.ram m = record { space = space-kept old.ram new.ram m.space (s.sound.memories i m s.is).space kept; aligned = saved-aligned new.ram m.trapframe aligned } in
       let traded : Traded old.pool old.ram new.pool new.ram (slot_frames old.ram (get_or old.each.items i None)) (slot_frames new.ram (Some m)) =
       subst (λ p. Traded old.pool old.ram p new.ram (slot_frames old.ram (get_or old.each.items i None)) (slot_frames new.ram (Some m))) (sym pool)
       (subst (λ o. Traded old.pool old.ram old.pool new.ram (slot_frames old.ram o) (slot_frames new.ram (Some m))) (sym s.is) written) in

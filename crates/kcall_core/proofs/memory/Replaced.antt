@@ -76,21 +76,21 @@ module _ {old : Memories} {i : ℕ} {m : Memory} {pool1 : Pool} {ram1 : List (Li
         let first : frame_at ram1 m.trapframe ≡ frame_at old.ram m.trapframe = made.traded.others m.trapframe apart.0 (copies-nil m.trapframe) in
         saved-same old.ram ram2 m.trapframe (dropped.others m.trapframe (omega (arith, made.traded.frames m.trapframe, apart.0, copies-nil m.trapframe)) (same-own m.trapframe ∙ apart.1) ∙ first)
 
-    whole : n.size ≤ SIZE_LIMIT → IsMemory ram2 (record { space = n; trapframe = m.trapframe })
-    whole limit = record { space = new-stays.whole; size = limit; aligned = ap (λ (r : Registers). r.pc % 4) same-registers ∙ (s.sound.memories i m s.is).aligned }
+    whole : IsMemory ram2 (record { space = n; trapframe = m.trapframe })
+    whole = record { space = new-stays.whole; aligned = ap (λ (r : Registers). r.pc % 4) same-registers ∙ (s.sound.memories i m s.is).aligned }
 
     pub new-image : (image : Image) → image_of ram1 n ≡ image → image_of ram2 n ≡ image
     new-image image is = new-stays.image ∙ is
 
-    pub space-replaced : (new : Memories) (image : Image) → image_of ram1 n ≡ image → image.size ≤ SIZE_LIMIT → new.pool ≡ pool2 → new.ram ≡ ram2
+    pub space-replaced : (new : Memories) (image : Image) → image_of ram1 n ≡ image → new.pool ≡ pool2 → new.ram ≡ ram2
         → new.each.items ≡ set old.each.items i (Some (record { space = n; trapframe = m.trapframe })) → new.pipes.items ≡ old.pipes.items → SlotChanges old new i (Some (with_image image (held_at (each_of old) i)))
-    space-replaced new image is limit same-pool same-ram each pipes =
+    space-replaced new image is same-pool same-ram each pipes =
         let after : Memory = record { space = n; trapframe = m.trapframe } in
         let traded : Traded old.pool old.ram new.pool new.ram (slot_frames old.ram (get_or old.each.items i None)) (slot_frames new.ram (Some after)) =
         subst (λ p. Traded old.pool old.ram p new.ram (slot_frames old.ram (get_or old.each.items i None)) (slot_frames new.ram (Some after))) (sym same-pool)
         (subst (λ r. Traded old.pool old.ram pool2 r (slot_frames old.ram (get_or old.each.items i None)) (slot_frames r (Some after))) (sym same-ram)
         (subst (λ o. Traded old.pool old.ram pool2 ram2 (slot_frames old.ram o) (slot_frames ram2 (Some after))) (sym s.is) all-traded)) in
-        let memory : IsMemory new.ram after = subst (λ r. IsMemory r after) (sym same-ram) (whole (subst (λ (x : Image). x.size ≤ SIZE_LIMIT) (sym is) limit)) in
+        let memory : IsMemory new.ram after = subst (λ r. IsMemory r after) (sym same-ram) whole in
         let changes = slot-changes old new i (Some after) s.sound s.inside traded (λ x e. subst (IsMemory new.ram) (same-some after x e) memory) each pipes in
         let shown : image_of new.ram n ≡ image = ap (λ r. image_of r n) same-ram ∙ new-image image is in
         let registers : saved new.ram m.trapframe ≡ saved old.ram m.trapframe = ap (λ r. saved r m.trapframe) same-ram ∙ same-registers in

@@ -24,7 +24,8 @@ use Rattle.rv64i_core.specs.declared.execution.Stop.{Stop}
 use Rattle.rv64i_core.specs.declared.execution.Stop.TheVariants as stops
 use Rattle.hart_core.specs.declared.hart.Hart.{Hart}
 use Rattle.hart_core.specs.Steps.{root_of, FitsHart, Stepped, Instructed, AreDone, IsLast, InARow, last_fault}
-use Rattle.hart_core.specs.UserMemory.{user, user_at, with_store, write_pages, put_bytes, store_in, SpaceState, space_state, space_store}
+use Rattle.hart_core.specs.UserMemory.{user_at, put_bytes, store_in, SpaceState, space_state, space_store}
+use Rattle.rv64i_core.specs.UserImage.{user, with_store, write_pages}
 use Rattle.hart_core.specs.Translations.{Translations, Fits}
 use Rattle.hart_core.proofs.Caches.{fits_root, fits_hart}
 use Rattle.kcall_core.specs.Holdings.{held_at}
@@ -71,13 +72,6 @@ step-image ram ram' s (Next regs (Some store)) e = ap (λ p. record { pages = p;
 step-image ram ram' s Ecall e = ap (λ p. record { pages = p; size = s.size }) e
 step-image ram ram' s (Fault cause) e = ap (λ p. record { pages = p; size = s.size }) e
 
--- its size stays
-step-limit : (image : Image) (step : Step) → image.size ≤ SIZE_LIMIT → (state_after with_store image step).size ≤ SIZE_LIMIT
-step-limit image (Next regs None) limit = limit
-step-limit image (Next regs (Some store)) limit = limit
-step-limit image Ecall limit = limit
-step-limit image (Fault cause) limit = limit
-
 -- the memory that user code sees of a space
 user-space : (ram : List (List ℕ)) (s : Space) → user_at ram s.root ≡ user (image_of ram s)
 unfolding user user_at
@@ -116,7 +110,7 @@ steps old new slot hart hart' stop r s made pool each pipes =
     record {
       ends = made.ends ∙ ap stop_of step;
       regs = made.regs ∙ ap (regs_after hart.regs) step;
-      changes = space-changes new space' (state_after with_store (held_at (each_of old) slot).image (step_in old slot hart.regs)) s changed image (step-limit (held_at (each_of old) slot).image (step_in old slot hart.regs) (subst (λ (n : Image). n.size ≤ SIZE_LIMIT) (sym (image-seen s)) (s.sound.memories slot r.memory s.is).size)) (each ∙ sym (set-read old.each.items slot (Some r.memory) None s.inside s.is)) pipes;
+      changes = space-changes new space' (state_after with_store (held_at (each_of old) slot).image (step_in old slot hart.regs)) s changed image (each ∙ sym (set-read old.each.items slot (Some r.memory) None s.inside s.is)) pipes;
       free = free-same old new pool (omega (
         arith,
         trade-lengths old.pool new.pool old.ram new.ram (space.frames_of old.ram space') (space.frames_of new.ram space') changed.traded,

@@ -8,20 +8,20 @@ use Rattle.xk_base.specs.declared.limits.TheConstants.{SIZE_LIMIT}
 use Rattle.frame_list.specs.Pool.{free_in}
 use Rattle.frame_list.proofs.Trades.{trade-lengths}
 use Rattle.addr_space.specs.Space.{IsSpace, Changed, frames_of, image_of}
-use Rattle.addr_space.specs.Absent.{spans, touched, touched_rights, whole}
+use Rattle.addr_space.specs.Absent.{whole, pages_at, brought}
+use Rattle.xk_base.specs.Access.{data_rights}
 use Rattle.addr_space.specs.InPlace.{WrittenInPlace}
-use Rattle.addr_space.proofs.Touching.{LowPages, low-pages, touched-low}
+use Rattle.addr_space.proofs.Touching.{LowPages, low-pages, whole-low}
 use Rattle.user_copy.specs.Reach.{allows, reaches}
 use Rattle.hart_core.specs.declared.hart.Hart.{Hart}
 use Rattle.user_copy.proofs.Ranges.{reached-mapped, mapped-inside}
-use Rattle.kcall_core.specs.Buffers.{reaches_touching, readable}
-use Rattle.kcall_core.specs.Touches.{pages_at, brought}
+use Rattle.kernel_spec.specs.rows.Buffers.{reaches_touching, readable}
 use Rattle.kcall_core.specs.Memories.{RunsIn, each_of}
 use Rattle.kcall_core.specs.Holdings.{held_at}
 use Rattle.kcall_core.specs.declared.memories.Memory.{Memory}
 use Rattle.kcall_core.specs.declared.memories.Memories.{Memories}
 use Rattle.kcall_core.proofs.memory.Lists.{set-read}
-use Rattle.kcall_core.proofs.memory.Bringing.{brought-touched, reaches-whole}
+use Rattle.kernel_spec.proofs.memory.Bringing.{reaches-whole}
 use Rattle.kcall_core.proofs.memory.Changes.{Stands, image-seen}
 use Rattle.kcall_core.proofs.memory.Runs.{runs-on, same-translations}
 
@@ -55,30 +55,30 @@ pub whole-of : {old : Memories} {i : ℕ} {m : Memory} → Stands old i m → Is
 whole-of {old} {i} {m} s = (s.sound.memories i m s.is).space
 
 pub size-of : {old : Memories} {i : ℕ} {m : Memory} → Stands old i m → (image_of old.ram m.space).size ≤ SIZE_LIMIT
-size-of {old} {i} {m} s = (s.sound.memories i m s.is).size
+size-of {old} {i} {m} s = (whole-of s).size
 
 pub size-seen : {old : Memories} {i : ℕ} {m : Memory} → Stands old i m → (held_at (each_of old) i).image.size ≤ SIZE_LIMIT
-size-seen {old} {i} {m} s = subst (λ (n : Image). n.size ≤ SIZE_LIMIT) (sym (image-seen s)) (s.sound.memories i m s.is).size
+size-seen {old} {i} {m} s = subst (λ (n : Image). n.size ≤ SIZE_LIMIT) (sym (image-seen s)) (whole-of s).size
 
 -- no page of it lies in the upper half
 pub low-of : {old : Memories} {i : ℕ} {m : Memory} → Stands old i m → LowPages (held_at (each_of old) i).image
 low-of {old} {i} {m} s = subst LowPages (sym (image-seen s)) (low-pages old.ram m.space)
 
 -- what may be read or written once absent pages are touched is what may be in the whole image
-pub touching-seen : {old : Memories} {i : ℕ} {m : Memory} (access : Access) → allows access (Some touched_rights) ≡ true → Stands old i m → (a n : ℕ)
+pub touching-seen : {old : Memories} {i : ℕ} {m : Memory} (access : Access) → allows access (Some data_rights) ≡ true → Stands old i m → (a n : ℕ)
     → reaches_touching access (held_at (each_of old) i).image a n ≡ reaches access (whole (image_of old.ram m.space)) a n
 touching-seen {old} {i} {m} access free s a n =
-    reaches-whole access (held_at (each_of old) i).image a n free (low-of s) (size-seen s) ∙ ap (λ (j : Image). reaches access (whole j) a n) (image-seen s)
+    reaches-whole access (held_at (each_of old) i).image a n free (size-seen s) ∙ ap (λ (j : Image). reaches access (whole j) a n) (image-seen s)
 
 -- what may be read, with absent pages, lies below 2^38
 pub readable-inside : {old : Memories} {i : ℕ} {m : Memory} → Stands old i m → (a n : ℕ) → readable (held_at (each_of old) i).image a n ≡ true → (k : ℕ) → k < n → a + k < 2 ^ 38
 readable-inside {old} {i} {m} s a n may =
     let seen = image_of old.ram m.space in
-    mapped-inside (whole seen) a n (touched-low (λ v. true) seen) (reached-mapped Load (whole seen) a n (sym (touching-seen Load refl s a n) ∙ may))
+    mapped-inside (whole seen) a n (whole-low seen (low-pages old.ram m.space)) (reached-mapped Load (whole seen) a n (sym (touching-seen Load refl s a n) ∙ may))
 
 -- the pages that a range touches, as the space adds them
-pub touched-seen : {old : Memories} {i : ℕ} {m : Memory} → Stands old i m → (a n : ℕ) → brought (pages_at a n) (held_at (each_of old) i).image ≡ touched (spans a n) (image_of old.ram m.space)
-touched-seen {old} {i} {m} s a n = brought-touched a n (held_at (each_of old) i).image (low-of s) (size-seen s) ∙ ap (touched (spans a n)) (image-seen s)
+pub touched-seen : {old : Memories} {i : ℕ} {m : Memory} → Stands old i m → (a n : ℕ) → brought (pages_at a n) (held_at (each_of old) i).image ≡ brought (pages_at a n) (image_of old.ram m.space)
+touched-seen {old} {i} {m} s a n = ap (brought (pages_at a n)) (image-seen s)
 
 pub each-stays : {old : Memories} {i : ℕ} {m : Memory} → Stands old i m → old.each.items ≡ set old.each.items i (Some (record { space = m.space; trapframe = m.trapframe }))
 each-stays {old} {i} {m} s = sym (set-read old.each.items i (Some m) None s.inside s.is)

@@ -13,10 +13,10 @@ use Rattle.xk_base.specs.Image.{Image}
 use Rattle.xk_base.specs.ProgramFile.{page_up, header_of, segments_of}
 use Rattle.xk_base.specs.Loaded.{Loaded, loaded, with_texts, end_after, down, text_places, lowest, stack_pointer, program_image, aligned, ◌>>=◌}
 use Rattle.exec_core.specs.ArgTexts.{terminated}
-use Rattle.kcall_core.specs.Buffers.{text_at, texts_at, no_slashes}
-use Rattle.kcall_core.specs.Programs.{program_named}
-use Rattle.kcall_core.specs.State.{ProgramFile, named_file}
-use Rattle.kcall_core.specs.Execs.{Asks}
+use Rattle.kernel_spec.specs.rows.Buffers.{text_at, texts_at, no_slashes}
+use Rattle.kernel_spec.specs.views.Programs.{program_named}
+use Rattle.kernel_spec.specs.views.State.{ProgramFile, named_file}
+use Rattle.kernel_spec.specs.rows.Execs.{Asks}
 
 -- ---- names
 

@@ -20,21 +20,23 @@ use Rattle.proc_table.specs.declared.channel.Channel.TheVariants as on
 use Rattle.proc_table.specs.declared.process.State as table
 use Rattle.proc_table.specs.declared.process.State.TheVariants.{Live as Live_state, Zombie as Zombie_state}
 use Rattle.proc_table.specs.declared.process.Process.{Process}
-use Rattle.kcall_core.specs.Words.{or_zero}
-use Rattle.kcall_core.specs.Processes.{Live, Alive}
-use Rattle.kcall_core.specs.State.{State}
-use Rattle.kcall_core.specs.Updates.{changed_state, fewer_on_all, freed_on_all, gone_state}
-use Rattle.kcall_core.specs.RowLaws.{FilesLeft}
+use Rattle.kernel_spec.specs.views.Words.{or_zero}
+use Rattle.kernel_spec.specs.views.Processes.{Live, Alive}
+use Rattle.kernel_spec.specs.views.State.{State}
+use Rattle.kernel_spec.specs.steps.Updates.{changed_state, fewer_on_all, freed_on_all, gone_state}
+use Rattle.kernel_spec.specs.laws.RowLaws.{FilesLeft}
 use Rattle.kcall_core.specs.Kernel.{descriptor_map, state_of, IsSound, IsRunning, slot_now, pid_now, live_now, or_nobody}
-use Rattle.kcall_core.specs.Own.{Answer, gone_with}
-use Rattle.kcall_core.specs.Calls.{gone}
+use Rattle.kernel_spec.specs.steps.Own.{Answer, gone_with}
+use Rattle.kernel_spec.specs.rows.Calls.{gone}
 use Rattle.kcall_core.specs.Makes.{view_now, Makes}
 use Rattle.kcall_core.specs.Whole.{namings, IsWhole, AreCounted}
 use Rattle.kcall_core.specs.declared.kernel.Kernel.{Kernel}
-use Rattle.kcall_core.proofs.steps.Maps.{get_same}
+use Rattle.kernel_spec.proofs.steps.Maps.{get_same}
 use Rattle.kcall_core.proofs.table.States.{running}
 use Rattle.kcall_core.proofs.turns.Turned.{live-is}
-use Rattle.kcall_core.proofs.processes.Departs.{OthersWake, closes_wake, family_wakes, end_wakes, Departs}
+use Rattle.kcall_core.proofs.processes.Departs.{OthersWake, Departs}
+use Rattle.kernel_spec.specs.waking.SleepsOn.{closes_wake}
+use Rattle.kernel_spec.specs.waking.SleepsOn.{family_wakes, end_wakes}
 use Rattle.kcall_core.proofs.table.OthersWake.{others-join, others-end, own-end, end_in, parent_woken}
 use Rattle.kcall_core.proofs.table.Woken.{place-each}
 use Rattle.kcall_core.proofs.processes.GoneAfter.{gone-after}

@@ -11,13 +11,15 @@ use Rattle.proc_table.specs.Slots.{Slots, Holds, place_at}
 use Rattle.proc_table.specs.declared.channel.Channel.{Channel}
 use Rattle.proc_table.specs.declared.channel.Channel.TheVariants as on
 use Rattle.proc_table.specs.declared.process.Process.{Process}
-pub use Rattle.kcall_core.specs.Closings.{last_closes, closes_wake, unless_woken}
-use Rattle.kcall_core.specs.Words.{is_this}
-use Rattle.kcall_core.specs.Updates.{gone_state}
-use Rattle.kcall_core.specs.RowLaws.{FilesLeft}
+pub use Rattle.kcall_core.specs.Closings.{unless_woken}
+pub use Rattle.kernel_spec.specs.waking.SleepsOn.{last_closes, closes_wake}
+use Rattle.kernel_spec.specs.views.Words.{is_this}
+use Rattle.kernel_spec.specs.steps.Updates.{gone_state}
+use Rattle.kernel_spec.specs.laws.RowLaws.{FilesLeft}
 use Rattle.kcall_core.specs.Kernel.{state_of, IsSound, slot_now, pid_now, live_now}
 use Rattle.kcall_core.specs.Whole.{AreCounted}
 use Rattle.kcall_core.specs.declared.kernel.Kernel.{Kernel}
+use Rattle.kernel_spec.specs.waking.SleepsOn.{end_wakes}
 
 -- ---- who wakes
 
@@ -33,14 +35,6 @@ abbrev pub OthersWake : ℕ → (Channel → Bool) → Slots → Slots → Type 
 OthersWake slot wakes t u = (j : ℕ) → j ≢ slot → option_map seat (place_at u j) ≡ option_map (seat_woken wakes) (place_at t j)
 
 -- ---- which channels an end wakes
-
--- a process of this parent that goes wakes its parent and pid 1, where they wait for a child
-abbrev pub family_wakes : (parent : Option ℕ) → Channel → Bool
-family_wakes parent (on.Children q) = is_this q parent || nat_eq q 1
-family_wakes parent _ = false
-
-abbrev pub end_wakes : (parent : Option ℕ) → FinMap nat_cmp Pipe → FinMap nat_cmp Pipe → Channel → Bool
-end_wakes parent m n channel = closes_wake m n channel || family_wakes parent channel
 
 -- ---- all of it
 

@@ -6,15 +6,15 @@ use Rattle.xk_base.specs.declared.errors.ExecError.{ExecError}
 use Rattle.xk_base.specs.Image.{price}
 use Rattle.xk_base.specs.Loaded.{Loaded, loaded}
 use Rattle.proc_table.specs.declared.process.Call.{Call}
-use Rattle.kcall_core.specs.Buffers.{text_at, texts_at, no_slashes}
-use Rattle.kcall_core.specs.Programs.{program_named}
-use Rattle.kcall_core.specs.State.{ProgramFile}
-use Rattle.kcall_core.specs.View.{View}
-use Rattle.kcall_core.specs.Own.{Own}
-use Rattle.kcall_core.specs.Calls.{exec, done, refused}
+use Rattle.kernel_spec.specs.rows.Buffers.{text_at, texts_at, no_slashes}
+use Rattle.kernel_spec.specs.views.Programs.{program_named}
+use Rattle.kernel_spec.specs.views.State.{ProgramFile}
+use Rattle.kernel_spec.specs.views.View.{View}
+use Rattle.kernel_spec.specs.steps.Own.{Own}
+use Rattle.kernel_spec.specs.rows.Calls.{exec, done, refused}
 use Rattle.kcall_core.proofs.processes.Asking.{asked, asked_path, asked_program, if_loaded}
-use Rattle.kcall_core.proofs.rows.RowParts.{exec_path, exec_program, exec_loaded, running, unless}
-use Rattle.kcall_core.proofs.rows.RowsByParts.{exec_same}
+use Rattle.kernel_spec.proofs.rows.RowParts.{exec_path, exec_program, exec_loaded, running, unless}
+use Rattle.kernel_spec.proofs.rows.RowsByParts.{exec_same}
 
 abbrev pub exec_asked : Call → View → Option Loaded → Own
 exec_asked c v None = refused c v

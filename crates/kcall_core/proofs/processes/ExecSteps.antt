@@ -13,13 +13,13 @@ use Rattle.hart_core.specs.declared.hart.Hart.{Hart}
 use Rattle.proc_table.specs.Processes as process
 use Rattle.proc_table.specs.Slots.{changed_at}
 use Rattle.proc_table.specs.declared.process.Call.{Call}
-use Rattle.kcall_core.specs.Words.{SP, A1, minus_one}
-use Rattle.kcall_core.specs.State.{ProgramFile, named_file}
-use Rattle.kcall_core.specs.View.{View, view_of}
-use Rattle.kcall_core.specs.Own.{Own, Called}
-use Rattle.kcall_core.specs.Calls.{exec, done, refused}
-use Rattle.kcall_core.specs.Updates.{started, own_state, with_answer}
-use Rattle.kcall_core.specs.Execs.{Asks}
+use Rattle.kernel_spec.specs.views.Words.{SP, A1, minus_one}
+use Rattle.kernel_spec.specs.views.State.{ProgramFile, named_file}
+use Rattle.kernel_spec.specs.views.View.{View, view_of}
+use Rattle.kernel_spec.specs.steps.Own.{Own, Called}
+use Rattle.kernel_spec.specs.rows.Calls.{exec, done, refused}
+use Rattle.kernel_spec.specs.steps.Updates.{started, own_state, with_answer}
+use Rattle.kernel_spec.specs.rows.Execs.{Asks}
 use Rattle.kcall_core.specs.Holdings.{held_at, with_image}
 use Rattle.kcall_core.specs.Memories.{each_of, free_of, RunsIn, SlotChanges, Same}
 use Rattle.kcall_core.specs.Kernel.{state_of, slot_now, pid_now, live_now, IsSound, IsRunning}
@@ -33,7 +33,7 @@ use Rattle.kcall_core.proofs.table.States.{runs-same}
 use Rattle.kcall_core.proofs.processes.ExecRow.{exec_asked, exec-is}
 use Rattle.kcall_core.proofs.processes.Asking.{asked-few, asked, asks-given, asks-of}
 use Rattle.kcall_core.proofs.making.Prepared.{Prepared, over, prepared-anew, prepared-same, prepared-makes}
-use Rattle.kcall_core.proofs.rows.RowParts.{running, unless}
+use Rattle.kernel_spec.proofs.rows.RowParts.{running, unless}
 
 -- the memories now hold the program that was asked for, and the hart uses its tables
 abbrev pub Replaced : Memories → Memories → List ProgramFile → (slot path pointers : ℕ) → Entry → Hart → Type 0

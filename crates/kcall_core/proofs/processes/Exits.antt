@@ -10,16 +10,17 @@ use Rattle.file_table.specs.OpenFiles.{IsTable, open_file_at}
 use Rattle.proc_table.specs.Processes.{given, woken, ended}
 use Rattle.proc_table.specs.Slots.{place_at, parent_at, each_changed, changed_at}
 use Rattle.proc_table.specs.declared.channel.Channel.TheVariants as on
-use Rattle.kcall_core.specs.Processes as meaning
-use Rattle.kcall_core.specs.Processes.{Live, Alive, parent_of}
-use Rattle.kcall_core.specs.Own.{Answer, gone_with}
-use Rattle.kcall_core.specs.Calls.{gone}
-use Rattle.kcall_core.specs.RowLaws.{IsLive, FilesLeft}
-use Rattle.kcall_core.specs.Updates.{fewer_on_all, freed_on_all, gone_state}
+use Rattle.kernel_spec.specs.views.Processes as meaning
+use Rattle.kernel_spec.specs.views.Processes.{Live, Alive, parent_of}
+use Rattle.kernel_spec.specs.steps.Own.{Answer, gone_with}
+use Rattle.kernel_spec.specs.rows.Calls.{gone}
+use Rattle.kernel_spec.specs.laws.RowLaws.{IsLive, FilesLeft}
+use Rattle.kernel_spec.specs.steps.Updates.{fewer_on_all, freed_on_all, gone_state}
 use Rattle.kcall_core.specs.Kernel.{state_of, IsSound, IsRunning, or_nobody, slot_now, pid_now, live_now}
 use Rattle.kcall_core.specs.Whole.{IsWhole}
 use Rattle.kcall_core.specs.Makes.{Makes, view_now}
-use Rattle.kcall_core.specs.Closings.{closes_wake, woken_by, parent_woken, IsClosing, ClosesFrom}
+use Rattle.kcall_core.specs.Closings.{woken_by, parent_woken, IsClosing, ClosesFrom}
+use Rattle.kernel_spec.specs.waking.SleepsOn.{closes_wake}
 use Rattle.kcall_core.specs.declared.kernel.Kernel.{Kernel}
 use Rattle.kcall_core.proofs.turns.Turned.{live-is}
 use Rattle.kcall_core.proofs.table.States.{none-some}

@@ -13,36 +13,36 @@ use Rattle.proc_table.specs.Slots.{place_at}
 use Rattle.proc_table.specs.declared.channel.Channel.{Channel}
 use Rattle.proc_table.specs.declared.process.Call.{Call}
 use Rattle.proc_table.specs.declared.process.Process.{Process}
-use Rattle.kcall_core.specs.Processes as meaning
-use Rattle.kcall_core.specs.Processes.{Live, Alive}
-use Rattle.kcall_core.specs.State.{State, live, live_part}
-use Rattle.kcall_core.specs.View.{View, view_of}
-use Rattle.kcall_core.specs.Own.{Own, Called, Blocked, gone_with}
-use Rattle.kcall_core.specs.Calls.{fork}
-use Rattle.kcall_core.specs.Run.{IsBlocked}
-use Rattle.kcall_core.specs.Turns.{IsLowestFree}
-use Rattle.kcall_core.specs.WellFormed.{WellFormed}
-use Rattle.kcall_core.specs.Updates.{forked_state, forking, forked_child}
-use Rattle.kcall_core.specs.Conditions.{is_open, waits_for}
-use Rattle.kcall_core.specs.RowLaws.{IsLive, After}
+use Rattle.kernel_spec.specs.views.Processes as meaning
+use Rattle.kernel_spec.specs.views.Processes.{Live, Alive}
+use Rattle.kernel_spec.specs.views.State.{State, live, live_part}
+use Rattle.kernel_spec.specs.views.View.{View, view_of}
+use Rattle.kernel_spec.specs.steps.Own.{Own, Called, Blocked, gone_with}
+use Rattle.kernel_spec.specs.rows.Calls.{fork}
+use Rattle.kernel_spec.specs.runs.Run.{IsBlocked}
+use Rattle.kernel_spec.specs.waking.Turns.{IsLowestFree}
+use Rattle.kernel_spec.specs.views.WellFormed.{WellFormed}
+use Rattle.kernel_spec.specs.steps.Updates.{forked_state, forking, forked_child}
+use Rattle.kernel_spec.specs.waking.Conditions.{is_open, waits_for}
+use Rattle.kernel_spec.specs.laws.RowLaws.{IsLive, After}
 use Rattle.kcall_core.specs.Kernel.{frame_count, state_of, IsSound, IsRunning, slot_now, place_now, pid_now, live_now}
 use Rattle.kcall_core.specs.Machine.{slots_of, sleepers_below, turns_of}
 use Rattle.kcall_core.specs.Whole.{IsWhole, AreCounted}
 use Rattle.kcall_core.specs.Makes.{Makes, view_now}
 use Rattle.kcall_core.specs.declared.kernel.Kernel.{Kernel}
-use Rattle.kcall_core.proofs.steps.Maps.{get_other}
+use Rattle.kernel_spec.proofs.steps.Maps.{get_other}
 use Rattle.kcall_core.proofs.table.States.{none-some, running}
 use Rattle.kcall_core.proofs.turns.Turned.{slot-is, slot-from, awake-is, not-both, same-some, live-is}
 use Rattle.kcall_core.proofs.table.OnePlace.{in-call-channel}
 use Rattle.kcall_core.proofs.turns.WhoRuns.{place-is}
-use Rattle.kcall_core.proofs.waking.Openings.{opens_forked}
-use Rattle.kcall_core.proofs.waking.WaitsOn.{waits_stay}
-use Rattle.kcall_core.proofs.well.WellLaws as well
-use Rattle.kcall_core.proofs.steps.Family.{fork_law}
+use Rattle.kernel_spec.proofs.waking.Openings.{opens_forked}
+use Rattle.kernel_spec.proofs.waking.WaitsOn.{waits_stay}
+use Rattle.kernel_spec.proofs.well.WellLaws as well
+use Rattle.kernel_spec.proofs.steps.Family.{fork_law}
 use Rattle.kcall_core.proofs.turns.StepSlots.{SlotsAfter, no-slot}
 use Rattle.kcall_core.proofs.making.Making.{Itself, Others, made}
-use Rattle.kcall_core.proofs.rows.RowParts.{forked, cannot_fork, slots_are_full, unless}
-use Rattle.kcall_core.proofs.rows.RowsByParts.{fork_same}
+use Rattle.kernel_spec.proofs.rows.RowParts.{forked, cannot_fork, slots_are_full, unless}
+use Rattle.kernel_spec.proofs.rows.RowsByParts.{fork_same}
 
 -- The process that runs has a child in a slot that was free, the lowest; it has its answer. The slots, the pids and the frames suffice
 pub record IsBorn (k : Kernel) (h : Hart) (k' : Kernel) (h' : Hart) (child : ℕ) : Type 0 where

@@ -12,21 +12,21 @@ use Rattle.xk_base.specs.Words.{count_below}
 use Rattle.hart_core.specs.declared.hart.Hart.{Hart}
 use Rattle.proc_table.specs.Slots.{place_at, slot_for_new}
 use Rattle.proc_table.specs.declared.process.Process.{Process}
-use Rattle.kcall_core.specs.ByPid.{by_pid, put}
-use Rattle.kcall_core.specs.Processes as meaning
-use Rattle.kcall_core.specs.View.{view_of}
-use Rattle.kcall_core.specs.Turns.{IsFreeSlot, IsLowestFree}
+use Rattle.kernel_spec.specs.views.ByPid.{by_pid, put}
+use Rattle.kernel_spec.specs.views.Processes as meaning
+use Rattle.kernel_spec.specs.views.View.{view_of}
+use Rattle.kernel_spec.specs.waking.Turns.{IsFreeSlot, IsLowestFree}
 use Rattle.kcall_core.specs.Kernel.{state_of, entry_of, entry_at, IsSound}
 use Rattle.kcall_core.specs.Machine.{turns_of}
 use Rattle.kcall_core.specs.Makes.{view_now}
 use Rattle.kcall_core.specs.declared.kernel.Kernel.{Kernel}
 use Rattle.kcall_core.proofs.table.ByPid.{none}
-use Rattle.kcall_core.proofs.steps.Least.{least_passes, none_passes, least_least}
+use Rattle.kernel_spec.proofs.steps.Least.{least_passes, none_passes, least_least}
 use Rattle.kcall_core.proofs.files.Lowest.{least-position}
 use Rattle.kcall_core.proofs.files.Room.{count-few}
 use Rattle.kcall_core.proofs.table.States.{none-some, entry-pid}
 use Rattle.kcall_core.proofs.turns.Turned.{slot-is, slot-from, not-both}
-use Rattle.kcall_core.proofs.rows.RowParts.{slots_are_full}
+use Rattle.kernel_spec.proofs.rows.RowParts.{slots_are_full}
 
 -- ---- as many pids as slots that are held
 

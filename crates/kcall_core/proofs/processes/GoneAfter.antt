@@ -9,12 +9,12 @@ use Rattle.xk_base.specs.declared.limits.TheConstants.{NOFILE}
 use Rattle.xk_base.specs.Image.{price}
 use Rattle.pipe_core.specs.Pipe.{Pipe}
 use Rattle.file_table.specs.declared.open_file.OpenFile.{OpenFile}
-use Rattle.kcall_core.specs.Processes.{Process, Live, Alive, Zombie}
-use Rattle.kcall_core.specs.State.{State}
-use Rattle.kcall_core.specs.Updates.{orphan, orphans, changed_state, fewer_on_all, freed_on_all, gone_state}
-use Rattle.kcall_core.proofs.steps.Maps.{get_same, get_other}
-use Rattle.kcall_core.proofs.steps.Orphans.{get-orphans}
-use Rattle.kcall_core.proofs.steps.Closed.{gone-closed}
+use Rattle.kernel_spec.specs.views.Processes.{Process, Live, Alive, Zombie}
+use Rattle.kernel_spec.specs.views.State.{State}
+use Rattle.kernel_spec.specs.steps.Updates.{orphan, orphans, changed_state, fewer_on_all, freed_on_all, gone_state}
+use Rattle.kernel_spec.proofs.steps.Maps.{get_same, get_other}
+use Rattle.kernel_spec.proofs.steps.Orphans.{get-orphans}
+use Rattle.kernel_spec.proofs.steps.Closed.{gone-closed}
 
 module _ (s : State) (p : ℕ) (l : Live) (status : ℤ) (descriptors : FinMap nat_cmp ℕ) (files : FinMap nat_cmp OpenFile) (pipes : FinMap nat_cmp Pipe) (free : ℕ) where
   abbrev bare : Live

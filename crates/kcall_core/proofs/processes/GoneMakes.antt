@@ -9,33 +9,35 @@ use Rattle.xk_base.specs.declared.limits.TheConstants.{NPROC}
 use Rattle.hart_core.specs.declared.hart.Hart.{Hart}
 use Rattle.file_table.specs.declared.open_file.OpenFile.{OpenFile}
 use Rattle.proc_table.specs.declared.channel.Channel.{Channel}
-use Rattle.kcall_core.specs.Processes.{Live, Zombie}
-use Rattle.kcall_core.specs.State.{State, live}
-use Rattle.kcall_core.specs.View.{view_of}
-use Rattle.kcall_core.specs.Own.{Answer, gone_with}
-use Rattle.kcall_core.specs.Calls.{gone}
-use Rattle.kcall_core.specs.Ready.{ready}
-use Rattle.kcall_core.specs.WellFormed.{WellFormed}
-use Rattle.kcall_core.specs.Run.{Outcome, Step_of, Ticked, halts_with}
-use Rattle.kcall_core.specs.Wakes.{IsInCall, IsEnd}
-use Rattle.kcall_core.specs.Updates.{gone_state, orphans}
-use Rattle.kcall_core.specs.RowLaws.{IsLive, After}
-use Rattle.kcall_core.specs.Conditions.{Condition, Child_of, is_open, waits_for}
+use Rattle.kernel_spec.specs.views.Processes.{Live, Zombie}
+use Rattle.kernel_spec.specs.views.State.{State, live}
+use Rattle.kernel_spec.specs.views.View.{view_of}
+use Rattle.kernel_spec.specs.steps.Own.{Answer, gone_with}
+use Rattle.kernel_spec.specs.rows.Calls.{gone}
+use Rattle.kernel_spec.specs.waking.Ready.{ready}
+use Rattle.kernel_spec.specs.views.WellFormed.{WellFormed}
+use Rattle.kernel_spec.specs.runs.Run.{Outcome, Step_of, Ticked, halts_with}
+use Rattle.kernel_spec.specs.waking.Wakes.{IsInCall, IsEnd}
+use Rattle.kernel_spec.specs.steps.Updates.{gone_state, orphans}
+use Rattle.kernel_spec.specs.laws.RowLaws.{IsLive, After}
+use Rattle.kernel_spec.specs.waking.Conditions.{Condition, Child_of, is_open, waits_for}
 use Rattle.kcall_core.specs.Kernel.{state_of, IsRunning, pid_now, live_now}
 use Rattle.kcall_core.specs.Machine.{sleepers_below}
-use Rattle.kcall_core.specs.Whole.{IsWhole, is_for}
+use Rattle.kcall_core.specs.Whole.{IsWhole}
+use Rattle.kernel_spec.specs.waking.SleepsOn.{is_for}
 use Rattle.kcall_core.specs.Makes.{view_now, Makes}
 use Rattle.kcall_core.specs.declared.kernel.Kernel.{Kernel}
-use Rattle.kcall_core.proofs.steps.Maps.{get_same}
+use Rattle.kernel_spec.proofs.steps.Maps.{get_same}
 use Rattle.kcall_core.proofs.turns.Turned.{live-is}
 use Rattle.kcall_core.proofs.table.States.{none-some}
-use Rattle.kcall_core.proofs.steps.Family.{gone_law}
-use Rattle.kcall_core.proofs.well.WellLaws as well
-use Rattle.kcall_core.proofs.waking.Wakes.{ready_is}
+use Rattle.kernel_spec.proofs.steps.Family.{gone_law}
+use Rattle.kernel_spec.proofs.well.WellLaws as well
+use Rattle.kernel_spec.proofs.waking.Wakes.{ready_is}
 use Rattle.kcall_core.proofs.making.Sleepers.{Sleeper, Sleeping, another, slept-before, wakes-due, on-channels, unready}
-use Rattle.kcall_core.proofs.processes.Departs.{Departs, end_wakes}
-use Rattle.kcall_core.proofs.waking.ChildWaits as calls
-use Rattle.kcall_core.proofs.waking.GoneOpens as opens
+use Rattle.kcall_core.proofs.processes.Departs.{Departs}
+use Rattle.kernel_spec.specs.waking.SleepsOn.{end_wakes}
+use Rattle.kernel_spec.proofs.waking.ChildWaits as calls
+use Rattle.kernel_spec.proofs.waking.GoneOpens as opens
 use Rattle.kcall_core.proofs.turns.GoneTurns as turns
 
 module _ (k k' : Kernel) (h h' : Hart) (status : ℤ) (left : FinMap nat_cmp OpenFile) (wakes : Channel → Bool) (whole : IsWhole k h) (runs : IsRunning k) (d : Departs k h k' h' status left wakes) where

@@ -20,22 +20,23 @@ use Rattle.proc_table.specs.Processes.{status_of, in_call, newborn}
 use Rattle.proc_table.specs.Slots.{Slots, place_at, descriptors_at, changed_at, IsTable}
 use Rattle.proc_table.specs.declared.process.Call.{Call}
 use Rattle.proc_table.specs.declared.process.Process.{Process}
-use Rattle.kcall_core.specs.Words.{word, minus_one, is_this, or_zero}
-use Rattle.kcall_core.specs.Processes.{Live, Alive}
-use Rattle.kcall_core.specs.State.{State, named_file}
-use Rattle.kcall_core.specs.View.{view_of}
-use Rattle.kcall_core.specs.ByPid.{by_pid}
-use Rattle.kcall_core.specs.Calls.{fork, done, with_a0}
-use Rattle.kcall_core.specs.Updates.{forked_state, forking, forked_child, with_answer}
+use Rattle.kernel_spec.specs.views.Words.{word, minus_one, is_this, or_zero}
+use Rattle.kernel_spec.specs.views.Processes.{Live, Alive}
+use Rattle.kernel_spec.specs.views.State.{State, named_file}
+use Rattle.kernel_spec.specs.views.View.{view_of}
+use Rattle.kernel_spec.specs.views.ByPid.{by_pid}
+use Rattle.kernel_spec.specs.rows.Calls.{fork, done, with_a0}
+use Rattle.kernel_spec.specs.steps.Updates.{forked_state, forking, forked_child, with_answer}
 use Rattle.kcall_core.specs.Holdings.{Held, held_cost, or_nothing, held_at, HasMemory, with_saved}
 use Rattle.kcall_core.specs.Memories.{each_of, pipes_of, free_of, SlotChanges}
 use Rattle.kcall_core.specs.Kernel.{descriptor_map, live_of, process_of, entry_of, entry_at, state_of, IsSound, IsRunning, HasImage, or_nobody, slot_now, place_now, pid_now, live_now}
 use Rattle.kcall_core.specs.Whole.{IsWhole, AreCounted}
 use Rattle.kcall_core.specs.Makes.{view_now}
-use Rattle.kcall_core.specs.Forks.{IsBarren, IsHanded}
+use Rattle.kcall_core.specs.Forks.{IsBarren}
+use Rattle.kcall_core.proofs.processes.HandedDown.{IsHanded}
 use Rattle.kcall_core.specs.declared.kernel.Kernel.{Kernel}
 use Rattle.kcall_core.proofs.memory.Changes.{some-inside}
-use Rattle.kcall_core.proofs.steps.Maps.{get_same, get_other}
+use Rattle.kernel_spec.proofs.steps.Maps.{get_same, get_other}
 use Rattle.kcall_core.proofs.files.Namings.{named-seen}
 use Rattle.kcall_core.proofs.table.States.{none-some, Running, running, not-this, slot-born, slot-anew, current-beside}
 use Rattle.kcall_core.proofs.table.OnePlace.{ItsPlace, changed-place, place-counted, in-call-lives}
@@ -46,8 +47,8 @@ use Rattle.kcall_core.proofs.making.CallAnswers.{IsDone}
 use Rattle.kcall_core.proofs.processes.FreeSlot.{IsForNew, no-slot}
 use Rattle.kcall_core.proofs.processes.ForkMakes.{IsBorn}
 use Rattle.kcall_core.proofs.processes.Handing.{apart}
-use Rattle.kcall_core.proofs.rows.RowParts.{forked, cannot_fork, slots_are_full, unless}
-use Rattle.kcall_core.proofs.rows.RowsByParts.{fork_same}
+use Rattle.kernel_spec.proofs.rows.RowParts.{forked, cannot_fork, slots_are_full, unless}
+use Rattle.kernel_spec.proofs.rows.RowsByParts.{fork_same}
 
 -- ---- no child
 

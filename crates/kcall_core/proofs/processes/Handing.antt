@@ -22,12 +22,12 @@ use Rattle.proc_table.specs.Processes.{status_of, newborn}
 use Rattle.proc_table.specs.Slots.{Slots, place_at, place_is_live, descriptors_at, with_new, IsTable}
 use Rattle.proc_table.specs.declared.process.Process.{Process}
 use Rattle.proc_table.proofs.Pids.{table_new}
-use Rattle.kcall_core.specs.Words.{or_zero}
-use Rattle.kcall_core.specs.State.{State}
-use Rattle.kcall_core.specs.PipeEnds.{count_on}
-use Rattle.kcall_core.specs.Processes.{Live}
-use Rattle.kcall_core.specs.Quiet.{end_of, target_of_open}
-use Rattle.kcall_core.specs.Updates.{more_on, more_at, more_on_all}
+use Rattle.kernel_spec.specs.views.Words.{or_zero}
+use Rattle.kernel_spec.specs.views.State.{State}
+use Rattle.kernel_spec.specs.views.PipeEnds.{count_on}
+use Rattle.kernel_spec.specs.views.Processes.{Live}
+use Rattle.kernel_spec.specs.others.Quiet.{end_of, target_of_open}
+use Rattle.kernel_spec.specs.steps.Updates.{more_on, more_at, more_on_all}
 use Rattle.kcall_core.specs.Holdings.{held_cost, pipe_cost, or_new, pipe_named, held_at, HasMemory, with_saved}
 use Rattle.kcall_core.specs.Memories as memories
 use Rattle.kcall_core.specs.Memories.{each_of, pipes_of, free_of}
@@ -35,17 +35,18 @@ use Rattle.kcall_core.specs.Kernel.{state_of, IsSound, IsRunning, slot_now, pid_
 use Rattle.kcall_core.specs.Whole.{IsWhole, AreCounted, named_in}
 use Rattle.kcall_core.specs.Closings.{IsClosing}
 use Rattle.kcall_core.specs.Sharings.{Joins, MayShare, IsShared}
-use Rattle.kcall_core.specs.Forks.{Bears, IsHanded}
+use Rattle.kcall_core.specs.Forks.{Bears}
+use Rattle.kcall_core.proofs.processes.HandedDown.{IsHanded}
 use Rattle.kcall_core.specs.declared.kernel.Kernel.{Kernel}
 use Rattle.kcall_core.specs.declared.memories.Memories.{Memories}
 use Rattle.kcall_core.proofs.memory.Births.{get_or-same}
-use Rattle.kcall_core.proofs.steps.Counts.{plus, among, get-more_on_all}
+use Rattle.kernel_spec.proofs.steps.Counts.{plus, among, get-more_on_all}
 use Rattle.kcall_core.proofs.files.Namings.{named-seen, file-seen, file-inside, named-counts, counted-entry}
 use Rattle.kcall_core.proofs.memory.PipeEdges.{there-is}
 use Rattle.kcall_core.specs.Room.{HasRoom}
 use Rattle.kcall_core.proofs.files.OpenRoom.{has-room}
 use Rattle.kcall_core.proofs.files.Room.{file-room, ends-few, count-few}
-use Rattle.kcall_core.proofs.well.Sums.{sum_same}
+use Rattle.kernel_spec.proofs.well.Sums.{sum_same}
 use Rattle.kcall_core.proofs.files.Sharing.{more-file, more-table, shared-counted}
 use Rattle.kcall_core.proofs.table.States.{none-some, Running, running}
 use Rattle.kcall_core.proofs.files.Taking.{Shares}

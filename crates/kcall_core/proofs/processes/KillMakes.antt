@@ -20,21 +20,21 @@ use Rattle.proc_table.specs.declared.process.State as table
 use Rattle.proc_table.specs.declared.process.State.TheVariants.{Live as Live_state, Zombie as Zombie_state}
 use Rattle.proc_table.specs.declared.process.Process.{Process}
 use Rattle.proc_table.proofs.Pids.{table_at}
-use Rattle.kcall_core.specs.Words.{c_int, is_this}
-use Rattle.kcall_core.specs.Processes as meaning
-use Rattle.kcall_core.specs.Processes.{Live, Alive, Zombie}
-use Rattle.kcall_core.specs.State.{State, live}
-use Rattle.kcall_core.specs.View.{View, view_of}
-use Rattle.kcall_core.specs.Own.{Own, Called, Blocked}
-use Rattle.kcall_core.specs.Calls.{kill, refused, done}
+use Rattle.kernel_spec.specs.views.Words.{c_int, is_this}
+use Rattle.kernel_spec.specs.views.Processes as meaning
+use Rattle.kernel_spec.specs.views.Processes.{Live, Alive, Zombie}
+use Rattle.kernel_spec.specs.views.State.{State, live}
+use Rattle.kernel_spec.specs.views.View.{View, view_of}
+use Rattle.kernel_spec.specs.steps.Own.{Own, Called, Blocked}
+use Rattle.kernel_spec.specs.rows.Calls.{kill, refused, done}
 use Rattle.kcall_core.specs.Kills.{asked_pid}
-use Rattle.kcall_core.specs.ByPid.{by_pid}
-use Rattle.kcall_core.specs.Run.{IsBlocked}
-use Rattle.kcall_core.specs.Updates.{mark, marked, change, kill_state, killer, own_state, with_answer}
-use Rattle.kcall_core.specs.WellFormed.{WellFormed}
-use Rattle.kcall_core.specs.RowLaws.{IsLive, After}
+use Rattle.kernel_spec.specs.views.ByPid.{by_pid}
+use Rattle.kernel_spec.specs.runs.Run.{IsBlocked}
+use Rattle.kernel_spec.specs.steps.Updates.{mark, marked, change, kill_state, killer, own_state, with_answer}
+use Rattle.kernel_spec.specs.views.WellFormed.{WellFormed}
+use Rattle.kernel_spec.specs.laws.RowLaws.{IsLive, After}
 use Rattle.kcall_core.specs.Closings.{unless_woken}
-use Rattle.kcall_core.specs.Conditions.{is_open, waits_for, OthersWaitOn}
+use Rattle.kernel_spec.specs.waking.Conditions.{is_open, waits_for, OthersWaitOn}
 use Rattle.kcall_core.specs.Holdings.{Held, held_at}
 use Rattle.kcall_core.specs.Memories.{each_of}
 use Rattle.kcall_core.specs.Kernel.{frame_count, process_of, regs_at, entry_of, entry_at, state_of, IsSound, IsRunning, or_nobody, slot_now, place_now, pid_now, live_now}
@@ -42,31 +42,31 @@ use Rattle.kcall_core.specs.Machine.{slots_of}
 use Rattle.kcall_core.specs.Whole.{IsWhole, AreCounted}
 use Rattle.kcall_core.specs.Makes.{Makes, view_now}
 use Rattle.kcall_core.specs.declared.kernel.Kernel.{Kernel}
-use Rattle.kcall_core.proofs.steps.Maps.{get_at}
-use Rattle.kcall_core.proofs.steps.SetLive.{live-set_live_there}
-use Rattle.kcall_core.proofs.steps.Orphans.{get-change}
+use Rattle.kernel_spec.proofs.steps.Maps.{get_at}
+use Rattle.kernel_spec.proofs.steps.SetLive.{live-set_live_there}
+use Rattle.kernel_spec.proofs.steps.Orphans.{get-change}
 use Rattle.kcall_core.proofs.table.ByPid.{by_pid-insert}
 use Rattle.kcall_core.proofs.table.States.{none-some, entry-pid, slot-inside, running}
 use Rattle.kcall_core.proofs.table.Stops.{read-some}
 use Rattle.kcall_core.proofs.turns.Chosen.{noted}
 use Rattle.kcall_core.proofs.table.Observed.{slot-found, entry-held, pid-missing}
-use Rattle.kcall_core.proofs.turns.KeepsSlots.{listed}
+use Rattle.kernel_spec.proofs.turns.KeepsSlots.{listed}
 use Rattle.kcall_core.proofs.turns.Turned.{slots-same, live-is, same-some, not-both}
 use Rattle.kcall_core.proofs.table.OnePlace.{ItsPlace, changed-place, place-counted, place-slots, in-call-lives, in-call-channel}
 use Rattle.kcall_core.proofs.turns.WhoRuns.{place-is, place-lives, now-is}
 use Rattle.kcall_core.proofs.turns.StepSlots.{KeepsAll, same-pid, slots-kept}
-use Rattle.kcall_core.proofs.steps.Gone.{turn}
-use Rattle.kcall_core.proofs.steps.Kill as step
-use Rattle.kcall_core.proofs.steps.Family as family
-use Rattle.kcall_core.proofs.waking.Openings.{opens_nothing, opens_marked}
-use Rattle.kcall_core.proofs.waking.WaitsOn.{waits_stay}
-use Rattle.kcall_core.proofs.well.WellLaws as well
-use Rattle.kcall_core.proofs.well.WellSteps as steps
+use Rattle.kernel_spec.proofs.steps.Gone.{turn}
+use Rattle.kernel_spec.proofs.steps.Kill as step
+use Rattle.kernel_spec.proofs.steps.Family as family
+use Rattle.kernel_spec.proofs.waking.Openings.{opens_nothing, opens_marked}
+use Rattle.kernel_spec.proofs.waking.WaitsOn.{waits_stay}
+use Rattle.kernel_spec.proofs.well.WellLaws as well
+use Rattle.kernel_spec.proofs.well.WellSteps as steps
 use Rattle.kcall_core.proofs.making.CallAnswers.{IsDone}
 use Rattle.kcall_core.proofs.making.Sleepers.{changed-stays, changed-slept}
 use Rattle.kcall_core.proofs.making.Making.{Itself, Others, made}
-use Rattle.kcall_core.proofs.rows.RowParts.{kill_pid, killed_by, unless}
-use Rattle.kcall_core.proofs.rows.RowsByParts.{kill_same}
+use Rattle.kernel_spec.proofs.rows.RowParts.{kill_pid, killed_by, unless}
+use Rattle.kernel_spec.proofs.rows.RowsByParts.{kill_same}
 
 -- ---- the row
 

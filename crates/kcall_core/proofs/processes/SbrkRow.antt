@@ -5,18 +5,19 @@ use Rattle.std.specs.Prelude.{ℤ, pos, Option}
 use Rattle.xk_base.specs.declared.limits.TheConstants.{SIZE_LIMIT}
 use Rattle.hart_core.specs.declared.hart.Hart.{Hart}
 use Rattle.proc_table.specs.declared.process.Call.{Call}
-use Rattle.kcall_core.specs.Words.{c_int, minus_one}
-use Rattle.kcall_core.specs.Buffers.{grown}
-use Rattle.kcall_core.specs.View.{view_of}
-use Rattle.kcall_core.specs.Calls.{done, refused, sbrk}
-use Rattle.kcall_core.specs.Kernel.{state_of, slot_now, live_now, IsSound, resized, at_size, IsTooDear, HasImage}
+use Rattle.kernel_spec.specs.views.Words.{c_int, minus_one}
+use Rattle.kernel_spec.specs.rows.Buffers.{grown}
+use Rattle.kernel_spec.specs.views.View.{view_of}
+use Rattle.kernel_spec.specs.rows.Calls.{done, refused, sbrk}
+use Rattle.kcall_core.specs.Kernel.{state_of, slot_now, live_now, IsSound, IsTooDear, HasImage}
+use Rattle.kernel_spec.specs.rows.Sizes.{resized, at_size}
 use Rattle.kcall_core.specs.Holdings.{held_at}
 use Rattle.kcall_core.specs.Memories.{each_of}
 use Rattle.kcall_core.specs.Makes.{view_now}
 use Rattle.kcall_core.specs.declared.kernel.Kernel.{Kernel}
 use Rattle.kcall_core.proofs.table.Stops.{now-slot}
-use Rattle.kcall_core.proofs.rows.Resized.{sbrk-outside, sbrk-resized, sbrk-too-dear}
-use Rattle.kcall_core.proofs.rows.RowsByParts.{sbrk_same}
+use Rattle.kernel_spec.proofs.rows.Resized.{sbrk-outside, sbrk-resized, sbrk-too-dear}
+use Rattle.kernel_spec.proofs.rows.RowsByParts.{sbrk_same}
 
 -- the size that the code comes to
 pub row-size : (k : Kernel) (h : Hart) (sound : IsSound k h) (i : ℕ) → k.current ≡ Some i → (c : Call) (old : ℕ) → old ≡ (held_at (each_of k.memories) i).image.size → (n : ℤ) → n ≡ c_int c.a0 → (found new : Option ℕ) → found ≡ resized old n → found ≡ new

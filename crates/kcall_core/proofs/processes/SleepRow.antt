@@ -1,51 +1,32 @@
 -- The row sleep, as the code goes through it.
-use Rattle.std.proofs.Common.{◌≡◌, ℕ, ◌+◌, ◌-◌, ◌%◌, Bool, true, false, cond, Some, None, inl, inr, refl, sym, ap, ◌∙◌}
-use Rattle.std.specs.Prelude.{ℤ, pos, negsuc, nat_lt, nat_le}
-use Rattle.std.proofs.lemmas.Bool.{cases_lt, lt-ltb, le-ltb, le-leb, lt-leb}
+use Rattle.std.proofs.Common.{◌≡◌, ℕ, Bool, true, false, cond, Some, None, refl, sym, ap, ◌∙◌, not}
+use Rattle.std.specs.Prelude.{ℤ, pos, negsuc}
 use Rattle.hart_core.specs.declared.hart.Hart.{Hart}
 use Rattle.proc_table.specs.declared.channel.Channel.TheVariants as on
 use Rattle.proc_table.specs.Processes.{asleep}
 use Rattle.proc_table.specs.Processes as process
 use Rattle.proc_table.specs.Slots.{changed_at}
 use Rattle.proc_table.specs.declared.process.Call.{Call}
-use Rattle.kcall_core.specs.Words.{CLOCK_ROUND, c_int}
-use Rattle.kcall_core.specs.Processes.{Live}
-use Rattle.kcall_core.specs.State.{State}
-use Rattle.kcall_core.specs.View.{View, view_of}
-use Rattle.kcall_core.specs.Calls.{row_of, done, waits, sleep}
-use Rattle.kcall_core.specs.Ready.{ready, row_ready, has_slept}
-use Rattle.kcall_core.specs.Conditions.{row_waits_for, sleep_waits_for, waits_for}
-use Rattle.kcall_core.specs.Ticks.{has_passed}
-use Rattle.kcall_core.specs.Updates.{own_state, in_call}
+use Rattle.kernel_spec.specs.views.Words.{c_int}
+use Rattle.kernel_spec.specs.views.Processes.{Live}
+use Rattle.kernel_spec.specs.views.State.{State}
+use Rattle.kernel_spec.specs.views.View.{view_of}
+use Rattle.kernel_spec.specs.rows.Calls.{row_of, done, waits, sleep}
+use Rattle.kernel_spec.specs.waking.Ready.{ready, row_ready}
+use Rattle.kernel_spec.specs.waking.Conditions.{row_waits_for, sleep_waits_for, waits_for}
+use Rattle.kernel_spec.specs.steps.Ticks.{has_passed, ticks_since}
+use Rattle.kernel_spec.specs.steps.Updates.{own_state, in_call}
 use Rattle.kcall_core.specs.Kernel.{frame_count, state_of, slot_now, pid_now, live_now, IsSound, IsRunning}
-use Rattle.kcall_core.specs.Whole.{IsWhole, is_for}
+use Rattle.kcall_core.specs.Whole.{IsWhole}
+use Rattle.kernel_spec.specs.waking.SleepsOn.{is_for}
 use Rattle.kcall_core.specs.Makes.{Makes, view_now}
 use Rattle.kcall_core.specs.declared.kernel.Kernel.{Kernel}
 use Rattle.kcall_core.proofs.making.AloneMakes.{wait-makes}
-use Rattle.kcall_core.proofs.rows.RowParts.{sleep_for}
-use Rattle.kcall_core.proofs.rows.RowsByParts.{sleep_same}
+use Rattle.kernel_spec.proofs.rows.RowsByParts.{sleep_same}
 
 -- how many ticks have passed since the call began
 abbrev pub passed : ℕ → Call → ℕ
-passed clock c = (clock + CLOCK_ROUND - c.clock) % CLOCK_ROUND
-
-by-passed : (c : Call) (v : View) (z : ℤ) (b : Bool) → has_passed (passed v.clock c) z ≡ b → sleep_for c v z ≡ cond b (done c (pos 0) v) (waits c 0 v)
-by-passed c v (pos n) true e = ap (λ (x : Bool). cond x (waits c 0 v) (done c (pos 0) v)) (not-less n (passed v.clock c) e)
-  where
-    not-less : (n m : ℕ) → nat_le n m ≡ true → nat_lt m n ≡ false
-    not-less n m h = elim (cases_lt m n) [ inl less ↦ absurd (clash (lt-leb n m less) h) | inr more ↦ le-ltb m n more ]
-      where
-        clash : {x : Bool} → x ≡ false → x ≡ true → ⊥
-        clash a b = cc
-by-passed c v (pos n) false e = ap (λ (x : Bool). cond x (waits c 0 v) (done c (pos 0) v)) (less n (passed v.clock c) e)
-  where
-    less : (n m : ℕ) → nat_le n m ≡ false → nat_lt m n ≡ true
-    less n m h = elim (cases_lt m n) [ inl is ↦ lt-ltb m n is | inr more ↦ absurd (clash (le-leb n m more) h) ]
-      where
-        clash : {x : Bool} → x ≡ true → x ≡ false → ⊥
-        clash a b = cc
-by-passed c v (negsuc k) true e = refl
-by-passed c v (negsuc k) false e = let no : ⊥ = cc in absurd no
+passed clock c = ticks_since clock c.clock
 
 module _ (k : Kernel) (h : Hart) (c : Call) (since : ℕ) (z : ℤ) (b : Bool) (since-is : since ≡ passed k.clock c) (asked : z ≡ c_int c.a0) where
   pub same-test : has_passed since z ≡ b → has_passed (passed k.clock c) (c_int c.a0) ≡ b
@@ -54,7 +35,11 @@ module _ (k : Kernel) (h : Hart) (c : Call) (since : ℕ) (z : ℤ) (b : Bool) (
   -- what the row comes to
   pub slept-row : has_passed since z ≡ b → sleep c (view_now k h) ≡ cond b (done c (pos 0) (view_now k h)) (waits c 0 (view_now k h))
   unfolding view_of state_of
-  slept-row e = sleep_same c (view_now k h) ∙ by-passed c (view_now k h) (c_int c.a0) b (same-test e)
+  slept-row e = sleep_same c (view_now k h) ∙ ap (λ (x : Bool). cond (not x) (waits c 0 (view_now k h)) (done c (pos 0) (view_now k h))) (same-test e) ∙ either-way b
+    where
+      either-way : (b : Bool) → cond (not b) (waits c 0 (view_now k h)) (done c (pos 0) (view_now k h)) ≡ cond b (done c (pos 0) (view_now k h)) (waits c 0 (view_now k h))
+      either-way true = refl
+      either-way false = refl
 
 -- ---- it waits
 
@@ -62,10 +47,6 @@ module _ (k : Kernel) (h : Hart) (c : Call) (since : ℕ) (z : ℤ) (b : Bool) (
 for-ticks : (c d : Call) (passed : ℕ) (z : ℤ) → has_passed passed z ≡ false → is_for (sleep_waits_for d z) on.Clock ≡ true
 for-ticks c d passed (pos n) e = refl
 for-ticks c d passed (negsuc k) e = let no : ⊥ = cc in absurd no
-
-slept-same : (v : View) (c : Call) (z : ℤ) → has_slept v c z ≡ has_passed (passed v.clock c) z
-slept-same v c (pos n) = refl
-slept-same v c (negsuc k) = refl
 
 module _ (t : State) (p : ℕ) (m : Live) (c : Call) (call : m.call ≡ Some c) (number : c.number ≡ pos 13) (early : has_passed (passed t.clock c) (c_int c.a0) ≡ false) where
   pub waits-ticks : is_for (waits_for t p m) on.Clock ≡ true
@@ -79,7 +60,7 @@ module _ (t : State) (p : ℕ) (m : Live) (c : Call) (call : m.call ≡ Some c) 
   sleeps-unready alive =
       (λ i. ready (view_of t p (record m { killed = alive i; call = call i })))
       ∙ ap (λ z. row_ready (view_of t p (record m { killed = false; call = Some c })) c (row_of z)) number
-      ∙ slept-same (view_of t p (record m { killed = false; call = Some c })) c (c_int c.a0) ∙ early
+      ∙ early
 
 -- what `block` leaves
 pub record IsBlocked (k : Kernel) (h : Hart) (c : Call) (k' : Kernel) (h' : Hart) : Type 0 where

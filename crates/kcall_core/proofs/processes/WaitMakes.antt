@@ -21,19 +21,19 @@ use Rattle.proc_table.specs.Reaping.{TakesLeast}
 use Rattle.proc_table.specs.declared.process.Call.{Call}
 use Rattle.proc_table.specs.declared.process.Process.{Process}
 use Rattle.proc_table.proofs.Pids.{pids_emptied}
-use Rattle.kcall_core.specs.Buffers.{writable_now}
-use Rattle.kcall_core.specs.Processes as meaning
-use Rattle.kcall_core.specs.Processes.{Live, Alive, Zombie}
-use Rattle.kcall_core.specs.State.{State, live}
-use Rattle.kcall_core.specs.View.{view_of}
-use Rattle.kcall_core.specs.Own.{Own, Called, Blocked, goes_on, gone_with}
-use Rattle.kcall_core.specs.Calls.{wait, least_zombie}
-use Rattle.kcall_core.specs.ByPid.{by_pid}
-use Rattle.kcall_core.specs.Run.{IsBlocked, halts_with}
-use Rattle.kcall_core.specs.Updates.{remove_zombie, told_image, waited, waited_state, own_state, set_live, with_answer}
-use Rattle.kcall_core.specs.WellFormed.{WellFormed}
-use Rattle.kcall_core.specs.RowLaws.{IsLive, After}
-use Rattle.kcall_core.specs.Conditions.{is_open, waits_for, OthersWaitOn}
+use Rattle.kernel_spec.specs.rows.Buffers.{writable_now}
+use Rattle.kernel_spec.specs.views.Processes as meaning
+use Rattle.kernel_spec.specs.views.Processes.{Live, Alive, Zombie}
+use Rattle.kernel_spec.specs.views.State.{State, live}
+use Rattle.kernel_spec.specs.views.View.{view_of}
+use Rattle.kernel_spec.specs.steps.Own.{Own, Called, Blocked, goes_on, gone_with}
+use Rattle.kernel_spec.specs.rows.Calls.{wait, least_zombie}
+use Rattle.kernel_spec.specs.views.ByPid.{by_pid}
+use Rattle.kernel_spec.specs.runs.Run.{IsBlocked, halts_with}
+use Rattle.kernel_spec.specs.steps.Updates.{remove_zombie, told_image, waited, waited_state, own_state, set_live, with_answer}
+use Rattle.kernel_spec.specs.views.WellFormed.{WellFormed}
+use Rattle.kernel_spec.specs.laws.RowLaws.{IsLive, After}
+use Rattle.kernel_spec.specs.waking.Conditions.{is_open, waits_for, OthersWaitOn}
 use Rattle.kcall_core.specs.Holdings.{held_at}
 use Rattle.kcall_core.specs.Memories.{each_of}
 use Rattle.kcall_core.specs.Kernel.{live_of, frame_count, entry_of, entry_at, state_of, IsSound, IsRunning, or_nobody, slot_now, place_now, pid_now, live_now, HasImage}
@@ -41,21 +41,21 @@ use Rattle.kcall_core.specs.Machine.{slot_entry, slots_of, turns_of}
 use Rattle.kcall_core.specs.Whole.{IsWhole, AreCounted}
 use Rattle.kcall_core.specs.Makes.{Makes, view_now}
 use Rattle.kcall_core.specs.declared.kernel.Kernel.{Kernel}
-use Rattle.kcall_core.proofs.steps.Maps.{get_at, get_other, get_without}
+use Rattle.kernel_spec.proofs.steps.Maps.{get_at, get_other, get_without}
 use Rattle.kcall_core.proofs.table.ByPid.{by_pid-remove}
 use Rattle.kcall_core.proofs.table.States.{none-some, entry-pid, slot-inside, running}
 use Rattle.kcall_core.proofs.turns.Chosen.{noted}
-use Rattle.kcall_core.proofs.turns.KeepsSlots.{is_listed, not_listed}
+use Rattle.kernel_spec.proofs.turns.KeepsSlots.{is_listed, not_listed}
 use Rattle.kcall_core.proofs.turns.Turned.{sleeper-lives, live-is, same-some, not-both}
 use Rattle.kcall_core.proofs.table.OnePlace.{ItsPlace, changed-place, place-counted, place-slots, in-call-lives, in-call-channel}
 use Rattle.kcall_core.proofs.turns.WhoRuns.{place-is, place-lives}
 use Rattle.kcall_core.proofs.turns.StepSlots.{SlotsAfter, none-born, has-entry}
-use Rattle.kcall_core.proofs.steps.Wait as step
-use Rattle.kcall_core.proofs.steps.Family as family
-use Rattle.kcall_core.proofs.waking.Openings.{opens_reaped}
-use Rattle.kcall_core.proofs.waking.ChildWaits.{waits-for-child}
-use Rattle.kcall_core.proofs.waking.WaitsOn.{waits_stay}
-use Rattle.kcall_core.proofs.well.WellLaws as well
+use Rattle.kernel_spec.proofs.steps.Wait as step
+use Rattle.kernel_spec.proofs.steps.Family as family
+use Rattle.kernel_spec.proofs.waking.Openings.{opens_reaped}
+use Rattle.kernel_spec.proofs.waking.ChildWaits.{waits-for-child}
+use Rattle.kernel_spec.proofs.waking.WaitsOn.{waits_stay}
+use Rattle.kernel_spec.proofs.well.WellLaws as well
 use Rattle.kcall_core.proofs.making.CallAnswers.{IsDone}
 use Rattle.kcall_core.proofs.making.Making.{Itself, Others, made}
 use Rattle.kcall_core.proofs.table.Zombies.{zombie-is, least-is}

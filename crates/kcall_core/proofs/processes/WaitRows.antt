@@ -11,11 +11,11 @@ use Rattle.xk_base.specs.Bytes.{write_image}
 use Rattle.hart_core.specs.declared.hart.Hart.{Hart}
 use Rattle.proc_table.specs.Reaping.{HasChild, HasNoChild, HasNoneEnded}
 use Rattle.proc_table.specs.declared.process.Call.{Call}
-use Rattle.kcall_core.specs.Buffers.{writable, writable_now, reaches_touching}
-use Rattle.kcall_core.specs.State.{State}
-use Rattle.kcall_core.specs.View.{View, view_of, child_of}
-use Rattle.kcall_core.specs.Calls.{wait, least_zombie, refused, waits}
-use Rattle.kcall_core.specs.Updates.{told_image}
+use Rattle.kernel_spec.specs.rows.Buffers.{writable, writable_now, reaches_touching}
+use Rattle.kernel_spec.specs.views.State.{State}
+use Rattle.kernel_spec.specs.views.View.{View, view_of, child_of}
+use Rattle.kernel_spec.specs.rows.Calls.{wait, least_zombie, refused, waits}
+use Rattle.kernel_spec.specs.steps.Updates.{told_image}
 use Rattle.kcall_core.specs.Holdings.{held_at, with_image}
 use Rattle.kcall_core.specs.Memories.{each_of, RunsIn, SlotChanges}
 use Rattle.kcall_core.specs.Kernel.{state_of, IsSound, IsRunning, slot_now, pid_now, live_now, HasImage}
@@ -26,11 +26,11 @@ use Rattle.kcall_core.proofs.table.States.{running}
 use Rattle.kcall_core.proofs.table.Stops.{now-slot}
 use Rattle.kcall_core.proofs.making.Imaged.{image-changed, image-same}
 use Rattle.kcall_core.proofs.table.Zombies.{find-none, any-none, none-seen, none-ended, some-child}
-use Rattle.kcall_core.specs.Processes.{has_status}
-use Rattle.kcall_core.proofs.rows.RowParts.{reaped, told_bytes, unless}
-use Rattle.kcall_core.proofs.rows.RowsByParts.{wait_same, wait_childless, wait_unwritable, wait_none, wait_ready}
-use Rattle.kcall_core.proofs.rows.Settled.{told-ready, touch-dear}
-use Rattle.kcall_core.specs.Touches.{pages_at}
+use Rattle.kernel_spec.specs.views.Processes.{has_status}
+use Rattle.kernel_spec.proofs.rows.RowParts.{reaped, told_bytes, unless}
+use Rattle.kernel_spec.proofs.rows.RowsByParts.{wait_same, wait_childless, wait_unwritable, wait_none, wait_ready}
+use Rattle.kernel_spec.proofs.rows.Settled.{told-ready, touch-dear}
+use Rattle.addr_space.specs.Absent.{pages_at}
 use Rattle.kcall_core.specs.Touched.{IsReady, IsUnready}
 
 -- ---- the status is stored

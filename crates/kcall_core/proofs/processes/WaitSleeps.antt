@@ -5,24 +5,25 @@ use Rattle.std.proofs.lemmas.Bool.{eq-eqb}
 use Rattle.hart_core.specs.declared.hart.Hart.{Hart}
 use Rattle.proc_table.specs.declared.channel.Channel.TheVariants as on
 use Rattle.proc_table.specs.declared.process.Call.{Call}
-use Rattle.kcall_core.specs.Processes.{Live, Alive}
-use Rattle.kcall_core.specs.State.{State, live_part}
-use Rattle.kcall_core.specs.View.{view_of}
-use Rattle.kcall_core.specs.Own.{Own, Blocked}
-use Rattle.kcall_core.specs.Calls.{wait, waits, row_of}
-use Rattle.kcall_core.specs.Ready.{ready}
-use Rattle.kcall_core.specs.Updates.{changed_state}
-use Rattle.kcall_core.specs.Updates as update
-use Rattle.kcall_core.specs.RowLaws.{After}
-use Rattle.kcall_core.specs.Conditions.{row_waits_for, waits_for}
+use Rattle.kernel_spec.specs.views.Processes.{Live, Alive}
+use Rattle.kernel_spec.specs.views.State.{State, live_part}
+use Rattle.kernel_spec.specs.views.View.{view_of}
+use Rattle.kernel_spec.specs.steps.Own.{Own, Blocked}
+use Rattle.kernel_spec.specs.rows.Calls.{wait, waits, row_of}
+use Rattle.kernel_spec.specs.waking.Ready.{ready}
+use Rattle.kernel_spec.specs.steps.Updates.{changed_state}
+use Rattle.kernel_spec.specs.steps.Updates as update
+use Rattle.kernel_spec.specs.laws.RowLaws.{After}
+use Rattle.kernel_spec.specs.waking.Conditions.{row_waits_for, waits_for}
 use Rattle.kcall_core.specs.Kernel.{state_of, IsRunning, pid_now, live_now}
-use Rattle.kcall_core.specs.Whole.{IsWhole, is_for}
+use Rattle.kcall_core.specs.Whole.{IsWhole}
+use Rattle.kernel_spec.specs.waking.SleepsOn.{is_for}
 use Rattle.kcall_core.specs.Makes.{Makes, view_now}
 use Rattle.kcall_core.specs.declared.kernel.Kernel.{Kernel}
-use Rattle.kcall_core.proofs.steps.Maps.{get_same}
+use Rattle.kernel_spec.proofs.steps.Maps.{get_same}
 use Rattle.kcall_core.proofs.turns.Turned.{live-is}
-use Rattle.kcall_core.proofs.steps.Alone as law
-use Rattle.kcall_core.proofs.rows.Decoding.{is_wait}
+use Rattle.kernel_spec.proofs.steps.Alone as law
+use Rattle.kernel_spec.proofs.rows.Decoding.{is_wait}
 use Rattle.kcall_core.proofs.turns.StepSlots.{KeepsAll}
 use Rattle.kcall_core.proofs.making.Midway.{IsAsleep, midway-sleeps}
 use Rattle.kcall_core.proofs.making.Moved.{still, sleeps-unready}

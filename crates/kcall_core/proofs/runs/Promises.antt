@@ -4,13 +4,14 @@ use Rattle.std.specs.Prelude.{ℤ, option_map, true, false}
 use Rattle.std.specs.Ordering.{nat_cmp}
 use Rattle.std.specs.FinSet.{FinSet, contains}
 use Rattle.hart_core.specs.declared.hart.Hart.{Hart}
-use Rattle.kcall_core.specs.State.{live_part}
-use Rattle.kcall_core.specs.View.{view, view_of}
-use Rattle.kcall_core.specs.Own.{Answer}
-use Rattle.kcall_core.specs.Ready.{ready}
-use Rattle.kcall_core.specs.Step.{own}
-use Rattle.kcall_core.specs.Run.{World, Event, Run, Tick, Key, Send, Outcome, Step_of, Turn, Idle, Ticked, Halted, Happens, RunHappens, TickHappens, KeyHappens, SendHappens, TurnTaken, StepOf, halts_with}
-use Rattle.kcall_core.specs.Wakes.{IsRunnable, IsNearest, NoReadySleeper, IsInCall, IsEnd, WakesWhereDue, Promised}
+use Rattle.kernel_spec.specs.views.State.{live_part}
+use Rattle.kernel_spec.specs.views.View.{view, view_of}
+use Rattle.kernel_spec.specs.steps.Own.{Answer}
+use Rattle.kernel_spec.specs.waking.Ready.{ready}
+use Rattle.kernel_spec.specs.steps.Step.{own}
+use Rattle.kernel_spec.specs.runs.Run.{World, Event, Run, Tick, Key, Send, Outcome, Step_of, Turn, Idle, Ticked, Halted, Happens, RunHappens, TickHappens, KeyHappens, SendHappens, TurnTaken, StepOf, halts_with}
+use Rattle.kernel_spec.specs.waking.Wakes.{IsRunnable, IsNearest, NoReadySleeper, IsInCall, IsEnd, WakesWhereDue, Promised}
+use Rattle.kernel_spec.specs.views.WellFormed.{AreShown}
 use Rattle.kcall_core.specs.Kernel.{state_of, IsSound, IsRunning, pid_now}
 use Rattle.kcall_core.specs.Machine.{turns_of, world_of}
 use Rattle.kcall_core.specs.Whole.{IsWhole}
@@ -38,6 +39,7 @@ step-promised k k' h h' whole runs made =
       subst (λ c. RunHappens w None c (Step_of p o.answer) t) (sym current) step,
       made.wakes,
       λ e halted idle. absurd (none-some p (sym idle ∙ current)),
+      λ shown. made.whole.well.descriptors,
     )
 
 -- ---- where the sleepers stay
@@ -95,6 +97,7 @@ module _ (k k' : Kernel) (h h' : Hart) (whole : IsWhole k h) (stopped : k.curren
           (λ is. absurd (turn-idle p is), λ none. absurd (none p can)),
           λ q is. subst (λ (n : ℕ). IsRunnable w n × IsNearest w n) (turn-pid p q is) (can, near),
         ),
+        subst AreShown (sym (ap (λ (x : World). x.state) taken.3)),
       )
 
   pub idle-promised : world_of k' h' None ≡ world_of k h None → ((p : ℕ) → ¬ IsRunnable (world_of k h None) p) → Promised (world_of k h None) Run Idle (world_of k' h' None)
@@ -105,6 +108,7 @@ module _ (k k' : Kernel) (h h' : Hart) (whole : IsWhole k h) (stopped : k.curren
         subst (λ c. RunHappens w None c Idle t) (sym current) same,
         none-wakes w t Idle (ap (λ (x : World). x.state) same) (ap (λ (x : World). x.turns.sleepers) same) whole.unready idle-tick (λ end. idle-end end.0 end.1 end.2),
         λ e halted idle. ((λ is. nobody, λ none. refl), λ q is. absurd (idle-turn q is)),
+        subst AreShown (sym (ap (λ (x : World). x.state) same)),
       )
 
 -- ---- after the end
@@ -123,6 +127,7 @@ halted-promised k h status e whole happens =
       happens,
       none-wakes w w Halted refl refl whole.unready halted-tick (λ end. halted-end end.0 end.1 end.2),
       λ run halted idle. absurd (none-some status (sym halted)),
+      λ shown. shown,
     )
 
 -- ---- a tick
@@ -132,7 +137,7 @@ tick-run e = cc
 
 pub tick-promised : (k k' : Kernel) (h h' : Hart) → TickHappens (world_of k h None) None Ticked (world_of k' h' None) → WakesWhereDue (world_of k h None) Ticked (world_of k' h' None) → Promised (world_of k h None) Tick Ticked (world_of k' h' None)
 unfolding turns_of
-tick-promised k k' h h' happens wakes = (happens, wakes, λ e halted idle. absurd (tick-run e))
+tick-promised k k' h h' happens wakes = (happens, wakes, λ e halted idle. absurd (tick-run e), λ shown. subst AreShown (sym happens.1) shown)
 
 -- ---- a key, and a byte that is sent
 
@@ -141,10 +146,10 @@ key-run b e = cc
 
 pub key-promised : (k k' : Kernel) (h h' : Hart) (b : ℕ) (o : Outcome) → KeyHappens (world_of k h None) None b o (world_of k' h' None) → WakesWhereDue (world_of k h None) o (world_of k' h' None) → Promised (world_of k h None) (Key b) o (world_of k' h' None)
 unfolding turns_of
-key-promised k k' h h' b o happens wakes = (happens, wakes, λ e halted idle. absurd (key-run b e))
+key-promised k k' h h' b o happens wakes = (happens, wakes, λ e halted idle. absurd (key-run b e), λ shown. subst AreShown (sym happens.1) shown)
 
 send-run : Send ≡ Run → ⊥
 send-run e = cc
 
 pub send-promised : (w t : World) (o : Outcome) → SendHappens w o t → WakesWhereDue w o t → Promised w Send o t
-send-promised w t o happens wakes = (happens, wakes, λ e halted idle. absurd (send-run e))
+send-promised w t o happens wakes = (happens, wakes, λ e halted idle. absurd (send-run e), λ shown. subst AreShown (sym happens.1) shown)

@@ -18,18 +18,18 @@ use Rattle.proc_table.specs.Processes.{status_of, state_status, given, is_parent
 use Rattle.proc_table.specs.Slots.{Slots, place_at, descriptors_at, each_changed, IsTable}
 use Rattle.proc_table.specs.declared.process.Process.{Process}
 use Rattle.proc_table.proofs.Pids.{table_each}
-use Rattle.kcall_core.specs.State.{named_file}
-use Rattle.kcall_core.specs.Words.{is_this, or_zero}
-use Rattle.kcall_core.specs.Processes as meaning
-use Rattle.kcall_core.specs.Processes.{Live, parent_of}
-use Rattle.kcall_core.specs.ByPid.{by_pid, put}
-use Rattle.kcall_core.specs.Updates.{orphan, orphans, given_to}
+use Rattle.kernel_spec.specs.views.State.{named_file}
+use Rattle.kernel_spec.specs.views.Words.{is_this, or_zero}
+use Rattle.kernel_spec.specs.views.Processes as meaning
+use Rattle.kernel_spec.specs.views.Processes.{Live, parent_of}
+use Rattle.kernel_spec.specs.views.ByPid.{by_pid, put}
+use Rattle.kernel_spec.specs.steps.Updates.{orphan, orphans, given_to}
 use Rattle.kcall_core.specs.Holdings.{Held, held_at}
 use Rattle.kcall_core.specs.Memories.{each_of, pipes_of, free_of}
 use Rattle.kcall_core.specs.Kernel.{live_of, by_status, process_of, regs_at, entry_of, entry_at, state_of, IsSound, IsRunning, or_nobody, slot_now, pid_now}
 use Rattle.kcall_core.specs.declared.kernel.Kernel.{Kernel}
-use Rattle.kcall_core.proofs.steps.Maps.{get_same, get_other}
-use Rattle.kcall_core.proofs.steps.Orphans.{get-orphans}
+use Rattle.kernel_spec.proofs.steps.Maps.{get_same, get_other}
+use Rattle.kernel_spec.proofs.steps.Orphans.{get-orphans}
 use Rattle.kcall_core.proofs.table.States.{none-some, running}
 
 -- each entry is changed by one function

@@ -4,10 +4,10 @@ use Rattle.std.proofs.lemmas.Bool.{cases_eq}
 use Rattle.std.specs.Ordering.{nat_cmp}
 use Rattle.std.specs.Cmp.{nat_cmp_total}
 use Rattle.std.specs.FinMap.{FinMap, insert, remove, get, get-empty, same_map, nat_cmp-IsAntisymmetric}
-use Rattle.kcall_core.specs.ByPid.{by_pid, put}
+use Rattle.kernel_spec.specs.views.ByPid.{by_pid, put}
 use Rattle.std.proofs.lemmas.Bool.{eq-eqb}
 use Rattle.std.proofs.lemmas.Bool.Decides.{eqb_tells}
-use Rattle.kcall_core.proofs.steps.Maps.{get_same, get_other, get_without}
+use Rattle.kernel_spec.proofs.steps.Maps.{get_same, get_other, get_without}
 
 gone_same : {X : Type 0} (m : FinMap nat_cmp X) (k : ℕ) → get (remove m k) k ≡ None
 gone_same m k = get_without m k k ∙ ap (λ b. cond b None (get m k)) (eq-eqb k k refl)

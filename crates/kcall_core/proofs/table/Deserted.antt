@@ -16,13 +16,13 @@ use Rattle.proc_table.specs.Slots.{Slots, place_at, descriptors_at, no_process, 
 use Rattle.proc_table.specs.Processes.{woken}
 use Rattle.proc_table.specs.declared.channel.Channel.{Channel}
 use Rattle.proc_table.specs.declared.process.Process.{Process}
-use Rattle.kcall_core.specs.Processes as meaning
-use Rattle.kcall_core.specs.State.{ProgramFile, State, live_part, named_file}
-use Rattle.kcall_core.specs.NewKernel.{empty_state}
+use Rattle.kernel_spec.specs.views.Processes as meaning
+use Rattle.kernel_spec.specs.views.State.{ProgramFile, State, live_part, named_file}
+use Rattle.kernel_spec.specs.views.NewKernel.{empty_state}
 use Rattle.kcall_core.specs.Starts.{HasNoProcess}
-use Rattle.kcall_core.specs.Quiet.{file_at, file_of}
-use Rattle.kcall_core.specs.WellFormed.{WellFormed, over_all, cost, sum_below}
-use Rattle.kcall_core.specs.Wakes.{NoReadySleeper}
+use Rattle.kernel_spec.specs.others.Quiet.{file_at, file_of}
+use Rattle.kernel_spec.specs.views.WellFormed.{WellFormed, over_all, cost, sum_below}
+use Rattle.kernel_spec.specs.waking.Wakes.{NoReadySleeper}
 use Rattle.kcall_core.specs.Memories.{pipes_of, free_of}
 use Rattle.kcall_core.specs.Kernel.{frame_count, state_of, IsSound}
 use Rattle.kcall_core.specs.Machine.{sleeper_in, sleepers_below, turns_of, world_of}

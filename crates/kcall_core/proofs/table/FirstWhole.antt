@@ -20,23 +20,23 @@ use Rattle.file_table.specs.declared.open_file.Entry.{Entry}
 use Rattle.proc_table.specs.Processes.{channel_of, newborn}
 use Rattle.proc_table.specs.Slots.{Slots, place_at, descriptors_at, no_process, with_new}
 use Rattle.proc_table.specs.declared.process.Process.{Process}
-use Rattle.kcall_core.specs.Words.{or_zero}
-use Rattle.kcall_core.specs.Words.{is_this}
-use Rattle.kcall_core.specs.State.{ProgramFile, named_file}
-use Rattle.kcall_core.specs.First.{first_state, first_turns}
-use Rattle.kcall_core.specs.WellFormed.{WellFormed, sum_below}
+use Rattle.kernel_spec.specs.views.Words.{or_zero}
+use Rattle.kernel_spec.specs.views.Words.{is_this}
+use Rattle.kernel_spec.specs.views.State.{ProgramFile, named_file}
+use Rattle.kernel_spec.specs.runs.First.{first_state, first_turns}
+use Rattle.kernel_spec.specs.views.WellFormed.{WellFormed, sum_below}
 use Rattle.kcall_core.specs.Machine.{slot_entry, slots_of, sleeper_in, with_sleeper, sleepers_below, turns_of, world_of}
-use Rattle.kcall_core.specs.Run.{World}
+use Rattle.kernel_spec.specs.runs.Run.{World}
 use Rattle.kcall_core.specs.Starts.{HasNoProcess, init_loaded, started_world}
 use Rattle.kcall_core.specs.Memories.{free_of}
-use Rattle.kcall_core.specs.Wakes.{NoReadySleeper}
+use Rattle.kernel_spec.specs.waking.Wakes.{NoReadySleeper}
 use Rattle.kcall_core.specs.Kernel.{state_of, pid_now, IsSound}
 use Rattle.kcall_core.specs.Whole.{named_in, AreCounted, IsWhole}
 use Rattle.kcall_core.specs.declared.kernel.Kernel.{Kernel}
 use Rattle.kcall_core.proofs.memory.Births.{get_or-same}
 use Rattle.kcall_core.proofs.table.ByPid.{by_pid-insert}
-use Rattle.kcall_core.proofs.well.FirstWell.{state_well}
-use Rattle.kcall_core.proofs.well.WellLaws as well
+use Rattle.kernel_spec.proofs.well.FirstWell.{state_well}
+use Rattle.kernel_spec.proofs.well.WellLaws as well
 use Rattle.kcall_core.proofs.table.NoProcess.{none-by-pid}
 use Rattle.kcall_core.proofs.table.Starting.{Begins}
 

@@ -12,9 +12,9 @@ use Rattle.proc_table.specs.declared.process.State.{State}
 use Rattle.proc_table.specs.declared.process.State.TheVariants.{Live, Zombie}
 use Rattle.proc_table.specs.declared.process.Process.{Process}
 use Rattle.proc_table.proofs.Pids.{table_at}
-use Rattle.kcall_core.specs.Words.{is_this, or_zero}
-use Rattle.kcall_core.specs.Processes.{Alive}
-use Rattle.kcall_core.specs.Updates.{own_state}
+use Rattle.kernel_spec.specs.views.Words.{is_this, or_zero}
+use Rattle.kernel_spec.specs.views.Processes.{Alive}
+use Rattle.kernel_spec.specs.steps.Updates.{own_state}
 use Rattle.kcall_core.specs.Holdings.{Held, held_at}
 use Rattle.kcall_core.specs.Memories.{each_of}
 use Rattle.kcall_core.specs.Kernel.{live_of, by_status, process_of, entry_of, entry_at, state_of, IsSound, IsRunning, IsCurrent, or_nobody, slot_now, place_now, pid_now, live_now}

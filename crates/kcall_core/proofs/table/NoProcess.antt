@@ -13,11 +13,11 @@ use Rattle.file_table.specs.OpenFiles.{none_open, open_file_at, entry_file}
 use Rattle.file_table.specs.declared.open_file.Entry.{Entry}
 use Rattle.proc_table.specs.Slots.{Slots, place_at, no_process, IsTable}
 use Rattle.proc_table.specs.declared.process.Process.{Process}
-use Rattle.kcall_core.specs.State.{named_file}
-use Rattle.kcall_core.specs.ByPid.{by_pid, put}
+use Rattle.kernel_spec.specs.views.State.{named_file}
+use Rattle.kernel_spec.specs.views.ByPid.{by_pid, put}
 use Rattle.kcall_core.specs.Memories as memories
 use Rattle.kcall_core.specs.Memories.{each_of, pipes_of, free_of}
-use Rattle.kcall_core.specs.NewKernel.{empty_state}
+use Rattle.kernel_spec.specs.views.NewKernel.{empty_state}
 use Rattle.kcall_core.specs.Kernel.{entry_of, entry_at, state_of, IsSound}
 use Rattle.kcall_core.specs.declared.kernel.Kernel.{Kernel}
 use Rattle.kcall_core.proofs.memory.Births.{get_or-same}

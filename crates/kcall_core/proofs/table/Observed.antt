@@ -12,13 +12,13 @@ use Rattle.hart_core.specs.declared.hart.Hart.{Hart}
 use Rattle.proc_table.specs.Processes.{status_of}
 use Rattle.proc_table.specs.Slots.{Slots, place_at, descriptors_at, place_has_pid, slot_of, status_at, parent_at, process_parent, IsTable}
 use Rattle.proc_table.specs.declared.process.Process.{Process}
-use Rattle.kcall_core.specs.Processes.{Live, Running, Status}
-use Rattle.kcall_core.specs.State.{live, live_part}
-use Rattle.kcall_core.specs.Holdings.{held_at, HasMemory, byte_of}
+use Rattle.kernel_spec.specs.views.Processes.{Live, Running, Status}
+use Rattle.kernel_spec.specs.views.State.{live, live_part}
+use Rattle.kcall_core.specs.Holdings.{held_at, HasMemory, byte_of, rights_of}
 use Rattle.kcall_core.specs.Memories.{each_of}
-use Rattle.kcall_core.specs.View.{child_of}
-use Rattle.kcall_core.specs.Words.{is_this}
-use Rattle.kcall_core.specs.Observers.{IsLiveIn, registers_of, byte_in, byte_at, if_live, child_at, child_seen}
+use Rattle.kernel_spec.specs.views.View.{child_of}
+use Rattle.kernel_spec.specs.views.Words.{is_this}
+use Rattle.kcall_core.specs.Observers.{IsLiveIn, registers_of, size_of, byte_in, byte_at, rights_in, rights_at, if_live, child_at, child_seen}
 use Rattle.kcall_core.specs.Kernel.{live_of, by_status, process_of, regs_at, entry_of, entry_at, state_of, IsSound}
 use Rattle.kcall_core.specs.declared.kernel.Kernel.{Kernel}
 use Rattle.kcall_core.proofs.table.ByPid.{found, none}
@@ -109,6 +109,12 @@ module _ (k : Kernel) (h : Hart) (table : IsTable k.table) where
 
     pub byte-told : (va : ℕ) → byte_at (state_of k h) pid va ≡ byte_of (held_at (each_of k.memories) i).image va
     byte-told va = ap (byte_in va) is-live
+
+    pub size-told : size_of (state_of k h) pid ≡ Some (held_at (each_of k.memories) i).image.size
+    size-told = ap (option_map (λ (l : Live). l.image.size)) is-live
+
+    pub rights-told : (vpn : ℕ) → rights_at (state_of k h) pid vpn ≡ rights_of (held_at (each_of k.memories) i).image vpn
+    rights-told vpn = ap (rights_in vpn) is-live
 
     pub child-told : (q : ℕ) → child_at (state_of k h) pid q ≡ child_of pid (get (state_of k h).processes q)
     child-told q = ap (λ o. if_live o (child_of pid (get (state_of k h).processes q))) is-live

@@ -13,7 +13,7 @@ use Rattle.proc_table.specs.declared.process.Process.{Process}
 use Rattle.proc_table.specs.declared.process.State as table
 use Rattle.proc_table.specs.declared.process.State.TheVariants as table_state
 use Rattle.file_table.specs.declared.open_file.Entry.{Entry}
-use Rattle.kcall_core.specs.WellFormed.{sum_below}
+use Rattle.kernel_spec.specs.views.WellFormed.{sum_below}
 use Rattle.kcall_core.specs.Machine.{slots_of, sleeper_in, sleepers_below}
 use Rattle.kcall_core.specs.Whole.{AreCounted, named_in}
 use Rattle.kcall_core.proofs.table.States.{none-some}

@@ -13,7 +13,9 @@ use Rattle.proc_table.specs.declared.process.State.TheVariants.{Live as Live_sta
 use Rattle.proc_table.specs.declared.process.Process.{Process}
 pub use Rattle.kcall_core.specs.Closings.{parent_woken}
 use Rattle.kcall_core.proofs.table.Woken.{place-each}
-use Rattle.kcall_core.proofs.processes.Departs.{seat, unless_woken, seat_woken, OthersWake, family_wakes}
+use Rattle.kcall_core.proofs.processes.Departs.{seat, seat_woken, OthersWake}
+use Rattle.kcall_core.specs.Closings.{unless_woken}
+use Rattle.kernel_spec.specs.waking.SleepsOn.{family_wakes}
 
 -- ---- one process
 

@@ -16,12 +16,12 @@ use Rattle.proc_table.specs.Processes.{status_of, newborn}
 use Rattle.proc_table.specs.Slots.{Slots, place_at, descriptors_at, IsTable, no_process, with_new, slot_for_new}
 use Rattle.proc_table.specs.declared.process.Process.{Process}
 use Rattle.proc_table.proofs.Pids.{table_new}
-use Rattle.kcall_core.specs.Words.{is_this}
-use Rattle.kcall_core.specs.Processes.{Alive}
-use Rattle.kcall_core.specs.State.{State, named_file}
-use Rattle.kcall_core.specs.ByPid.{by_pid}
-use Rattle.kcall_core.specs.First.{first_regs, first_process, first_state}
-use Rattle.kcall_core.specs.NewKernel.{empty_state}
+use Rattle.kernel_spec.specs.views.Words.{is_this}
+use Rattle.kernel_spec.specs.views.Processes.{Alive}
+use Rattle.kernel_spec.specs.views.State.{State, named_file}
+use Rattle.kernel_spec.specs.views.ByPid.{by_pid}
+use Rattle.kernel_spec.specs.runs.First.{first_regs, first_process, first_state}
+use Rattle.kernel_spec.specs.views.NewKernel.{empty_state}
 use Rattle.kcall_core.specs.Starts.{HasNoProcess}
 use Rattle.kcall_core.specs.Holdings.{Held, or_nothing, held_at, HasMemory, IsVacant, with_saved, held_cost}
 use Rattle.kcall_core.specs.Memories as memories

@@ -13,12 +13,12 @@ use Rattle.hart_core.specs.declared.hart.Hart.{Hart}
 use Rattle.proc_table.specs.Processes.{status_of}
 use Rattle.proc_table.specs.Slots.{Slots, place_at, descriptors_at, IsTable}
 use Rattle.proc_table.specs.declared.process.Process.{Process}
-use Rattle.kcall_core.specs.State.{named_file}
-use Rattle.kcall_core.specs.Words.{is_this, or_zero}
-use Rattle.kcall_core.specs.Processes as meaning
-use Rattle.kcall_core.specs.Processes.{Alive}
-use Rattle.kcall_core.specs.ByPid.{by_pid}
-use Rattle.kcall_core.specs.Updates.{set_live}
+use Rattle.kernel_spec.specs.views.State.{named_file}
+use Rattle.kernel_spec.specs.views.Words.{is_this, or_zero}
+use Rattle.kernel_spec.specs.views.Processes as meaning
+use Rattle.kernel_spec.specs.views.Processes.{Alive}
+use Rattle.kernel_spec.specs.views.ByPid.{by_pid}
+use Rattle.kernel_spec.specs.steps.Updates.{set_live}
 use Rattle.kcall_core.specs.Holdings.{Held, or_nothing, held_at, HasMemory}
 use Rattle.kcall_core.specs.Memories as memories
 use Rattle.kcall_core.specs.Memories.{each_of, pipes_of, free_of, RunsIn, SlotChanges}

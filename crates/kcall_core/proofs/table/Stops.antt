@@ -15,11 +15,11 @@ use Rattle.proc_table.specs.Processes.{status_of, ended}
 use Rattle.proc_table.specs.Slots.{Slots, place_at, descriptors_at, place_is_live, IsLiveAt, IsTable, changed_at}
 use Rattle.proc_table.specs.declared.process.Process.{Process}
 use Rattle.proc_table.proofs.Pids.{table_at}
-use Rattle.kcall_core.specs.State.{named_file}
-use Rattle.kcall_core.specs.Words.{is_this, or_zero}
-use Rattle.kcall_core.specs.Processes.{Zombie}
-use Rattle.kcall_core.specs.ByPid.{by_pid}
-use Rattle.kcall_core.specs.Updates.{give_frames, end_process}
+use Rattle.kernel_spec.specs.views.State.{named_file}
+use Rattle.kernel_spec.specs.views.Words.{is_this, or_zero}
+use Rattle.kernel_spec.specs.views.Processes.{Zombie}
+use Rattle.kernel_spec.specs.views.ByPid.{by_pid}
+use Rattle.kernel_spec.specs.steps.Updates.{give_frames, end_process}
 use Rattle.kcall_core.specs.Holdings.{Held, or_nothing, held_at, HasMemory, with_saved, held_cost}
 use Rattle.kcall_core.specs.Memories.{each_of, pipes_of, free_of, SlotChanges}
 use Rattle.kcall_core.specs.Kernel.{process_of, regs_at, entry_of, entry_at, state_of, or_nobody, slot_now, place_now, pid_now, live_now, IsCurrent, IsSound}

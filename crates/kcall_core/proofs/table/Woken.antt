@@ -15,7 +15,7 @@ use Rattle.proc_table.specs.declared.process.State as table
 use Rattle.proc_table.specs.declared.process.State.TheVariants.{Live as Live_state, Zombie as Zombie_state}
 use Rattle.proc_table.specs.Processes.{status_of, state_status, channel_of, state_channel, woken, state_woken}
 use Rattle.proc_table.specs.Slots.{Slots, place_at, place_is_live, each_changed}
-use Rattle.kcall_core.specs.ByPid.{by_pid}
+use Rattle.kernel_spec.specs.views.ByPid.{by_pid}
 use Rattle.kcall_core.specs.Closings.{unless_woken, state_woken_by, woken_by}
 use Rattle.kcall_core.specs.Holdings.{Held}
 use Rattle.kcall_core.specs.Kernel.{process_of, entry_at, state_of, IsSound}

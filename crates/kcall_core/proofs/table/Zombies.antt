@@ -15,18 +15,18 @@ use Rattle.proc_table.specs.Processes.{is_parent, status_of}
 use Rattle.proc_table.specs.Slots.{Slots, place_at, descriptors_at, slot_of, IsTable}
 use Rattle.proc_table.specs.Reaping.{HasChild, HasNoChild, HasNoneEnded, TakesLeast, place_is_child}
 use Rattle.proc_table.specs.declared.process.Process.{Process}
-use Rattle.kcall_core.specs.Words.{is_this}
-use Rattle.kcall_core.specs.Processes.{Zombie, Child, has_status}
-use Rattle.kcall_core.specs.State.{State}
-use Rattle.kcall_core.specs.View.{child_of}
+use Rattle.kernel_spec.specs.views.Words.{is_this}
+use Rattle.kernel_spec.specs.views.Processes.{Zombie, Child, has_status}
+use Rattle.kernel_spec.specs.views.State.{State}
+use Rattle.kernel_spec.specs.views.View.{child_of}
 use Rattle.kcall_core.specs.Observers.{child_seen}
 use Rattle.kcall_core.specs.Holdings.{Held, held_at}
 use Rattle.kcall_core.specs.Memories.{each_of}
 use Rattle.kcall_core.specs.Kernel.{live_of, by_status, process_of, regs_at, state_of}
 use Rattle.kcall_core.specs.declared.kernel.Kernel.{Kernel}
-use Rattle.kcall_core.proofs.steps.Maps.{first, second}
+use Rattle.kernel_spec.proofs.steps.Maps.{first, second}
 use Rattle.kcall_core.proofs.table.Observed.{slot-found, entry-held, pid-missing, none-told}
-use Rattle.kcall_core.proofs.turns.KeepsSlots.{listed}
+use Rattle.kernel_spec.proofs.turns.KeepsSlots.{listed}
 use Rattle.kcall_core.proofs.turns.Turned.{not-both}
 
 -- ---- lists of pids

@@ -14,20 +14,21 @@ use Rattle.proc_table.specs.declared.process.State.TheVariants.{Live as Live_sta
 use Rattle.proc_table.specs.declared.process.Process.{Process}
 use Rattle.proc_table.specs.Processes.{status_of, state_status, channel_of, state_channel}
 use Rattle.proc_table.specs.Slots.{place_at, process_pid, pid_at}
-use Rattle.kcall_core.specs.Own.{Answer, Stepped, Called, Blocked, Exited, Faulted, gone_with}
-use Rattle.kcall_core.specs.Calls.{gone}
-use Rattle.kcall_core.specs.Run.{TurnsAfter, IsBlocked, stays_current, halts_with}
+use Rattle.kernel_spec.specs.steps.Own.{Answer, Stepped, Called, Blocked, Exited, Faulted, gone_with}
+use Rattle.kernel_spec.specs.rows.Calls.{gone}
+use Rattle.kernel_spec.specs.runs.Run.{TurnsAfter, IsBlocked, stays_current, halts_with}
 use Rattle.kcall_core.specs.Kernel.{IsRunning, or_nobody, slot_now, pid_now}
 use Rattle.kcall_core.specs.Machine.{slots_of, sleepers_below, turns_of}
 use Rattle.kcall_core.specs.Whole.{IsWhole}
 use Rattle.kcall_core.specs.Makes.{view_now}
-use Rattle.kcall_core.specs.View.{view_of}
+use Rattle.kernel_spec.specs.views.View.{view_of}
 use Rattle.kcall_core.specs.declared.kernel.Kernel.{Kernel}
 use Rattle.kcall_core.proofs.table.States.{none-some, Running, running}
 use Rattle.kcall_core.proofs.turns.Turned.{slots-same}
 use Rattle.kcall_core.proofs.turns.StepSlots.{no-slot}
 use Rattle.kcall_core.proofs.making.Sleepers.{elsewhere, on-it-still}
-use Rattle.kcall_core.proofs.processes.Departs.{seat, unless_woken, seat_woken, Departs}
+use Rattle.kcall_core.proofs.processes.Departs.{seat, seat_woken, Departs}
+use Rattle.kcall_core.specs.Closings.{unless_woken}
 
 -- ---- a process of the table
 

@@ -13,18 +13,19 @@ use Rattle.proc_table.specs.declared.process.Process.{Process}
 use Rattle.proc_table.specs.Processes.{state_runnable, state_status, state_channel, is_runnable, status_of, channel_of}
 use Rattle.proc_table.specs.Slots.{Slots, Holds, place_at, pid_at, process_pid, slot_of, IsTable}
 use Rattle.proc_table.specs.Turns.{place_is_runnable, distance}
-use Rattle.kcall_core.specs.Processes as meaning
-use Rattle.kcall_core.specs.State as states
-use Rattle.kcall_core.specs.State.{live}
-use Rattle.kcall_core.specs.View.{view, view_of}
-use Rattle.kcall_core.specs.WellFormed.{WellFormed}
-use Rattle.kcall_core.specs.Turns.{Sleeps}
-use Rattle.kcall_core.specs.Run.{Turn, TurnTaken}
-use Rattle.kcall_core.specs.Wakes.{IsRunnable, IsNearest}
-use Rattle.kcall_core.specs.Conditions.{waits_for}
+use Rattle.kernel_spec.specs.views.Processes as meaning
+use Rattle.kernel_spec.specs.views.State as states
+use Rattle.kernel_spec.specs.views.State.{live}
+use Rattle.kernel_spec.specs.views.View.{view, view_of}
+use Rattle.kernel_spec.specs.views.WellFormed.{WellFormed}
+use Rattle.kernel_spec.specs.waking.Turns.{Sleeps}
+use Rattle.kernel_spec.specs.runs.Run.{Turn, TurnTaken}
+use Rattle.kernel_spec.specs.waking.Wakes.{IsRunnable, IsNearest}
+use Rattle.kernel_spec.specs.waking.Conditions.{waits_for}
 use Rattle.kcall_core.specs.Kernel.{state_of, IsSound}
 use Rattle.kcall_core.specs.Machine.{slots_of, sleepers_below, turns_of, world_of}
-use Rattle.kcall_core.specs.Whole.{IsWhole, is_for}
+use Rattle.kcall_core.specs.Whole.{IsWhole}
+use Rattle.kernel_spec.specs.waking.SleepsOn.{is_for}
 use Rattle.kcall_core.specs.declared.kernel.Kernel.{Kernel}
 use Rattle.kcall_core.proofs.table.States.{none-some}
 use Rattle.kcall_core.proofs.turns.Chosen.{pid-told}

@@ -5,17 +5,17 @@ use Rattle.std.specs.FinMap.{get, keys}
 use Rattle.hart_core.specs.declared.hart.Hart.{Hart}
 use Rattle.proc_table.specs.Slots.{IsTable, process_pid}
 use Rattle.proc_table.specs.declared.process.Process.{Process}
-use Rattle.kcall_core.specs.State.{State}
-use Rattle.kcall_core.specs.View.{View}
-use Rattle.kcall_core.specs.Own.{Own, gone_with}
-use Rattle.kcall_core.specs.Turns.{Turns, Sleeps, HasSlot, IsLowestFree}
-use Rattle.kcall_core.specs.Run.{halts_with}
+use Rattle.kernel_spec.specs.views.State.{State}
+use Rattle.kernel_spec.specs.views.View.{View}
+use Rattle.kernel_spec.specs.steps.Own.{Own, gone_with}
+use Rattle.kernel_spec.specs.waking.Turns.{Turns, Sleeps, HasSlot, IsLowestFree}
+use Rattle.kernel_spec.specs.runs.Run.{halts_with}
 use Rattle.kcall_core.specs.Kernel.{state_of, pid_now}
 use Rattle.kcall_core.specs.Machine.{slots_of, turns_of}
 use Rattle.kcall_core.specs.declared.kernel.Kernel.{Kernel}
 use Rattle.kcall_core.proofs.table.States.{none-some}
 use Rattle.kcall_core.proofs.table.Observed.{entry-held}
-use Rattle.kcall_core.proofs.turns.KeepsSlots.{is_listed}
+use Rattle.kernel_spec.proofs.turns.KeepsSlots.{is_listed}
 use Rattle.kcall_core.proofs.turns.Turned.{slot-from}
 
 -- who has a slot after the step

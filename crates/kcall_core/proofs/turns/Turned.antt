@@ -16,20 +16,20 @@ use Rattle.proc_table.specs.declared.channel.Channel.{Channel}
 use Rattle.proc_table.specs.declared.process.Process.{Process}
 use Rattle.proc_table.specs.declared.process.State as table
 use Rattle.proc_table.specs.declared.process.State.TheVariants as table_state
-use Rattle.kcall_core.specs.Processes as meaning
-use Rattle.kcall_core.specs.Processes.{Alive}
-use Rattle.kcall_core.specs.State.{live}
-use Rattle.kcall_core.specs.Words.{is_this, or_zero}
-use Rattle.kcall_core.specs.RowLaws.{IsLive}
-use Rattle.kcall_core.specs.ByPid.{by_pid, put}
+use Rattle.kernel_spec.specs.views.Processes as meaning
+use Rattle.kernel_spec.specs.views.Processes.{Alive}
+use Rattle.kernel_spec.specs.views.State.{live}
+use Rattle.kernel_spec.specs.views.Words.{is_this, or_zero}
+use Rattle.kernel_spec.specs.laws.RowLaws.{IsLive}
+use Rattle.kernel_spec.specs.views.ByPid.{by_pid, put}
 use Rattle.kcall_core.specs.Holdings.{held_at}
 use Rattle.kcall_core.specs.Memories.{each_of}
-use Rattle.kcall_core.specs.WellFormed.{HasSlots}
+use Rattle.kernel_spec.specs.views.WellFormed.{HasSlots}
 use Rattle.kcall_core.specs.Kernel.{live_of, by_status, process_of, entry_at, state_of, or_nobody, slot_now, place_now, pid_now, live_now, IsSound, IsRunning}
 use Rattle.kcall_core.specs.Machine.{slot_entry, slots_of, sleeper_in, with_sleeper, sleepers_below, turns_of}
 use Rattle.kcall_core.specs.Whole.{IsWhole}
 use Rattle.kcall_core.specs.declared.kernel.Kernel.{Kernel}
-use Rattle.kcall_core.proofs.steps.Maps.{get_same, get_other}
+use Rattle.kernel_spec.proofs.steps.Maps.{get_same, get_other}
 use Rattle.kcall_core.proofs.table.ByPid.{found, by_pid-same}
 use Rattle.kcall_core.proofs.table.States.{none-some, entry-pid, running}
 use Rattle.kcall_core.proofs.table.Observed.{entry-held, live-held}

@@ -2,9 +2,12 @@
 use Rattle.std.proofs.Common.{◌≡◌, ℕ, true, false, List, [], ◌∷◌, Some, None, refl}
 use Rattle.std.specs.Prelude.{pos, negsuc, codes}
 use Rattle.file_table.specs.declared.open_file.Target.TheVariants as on
-use Rattle.kcall_core.specs.Buffers.{no_slashes}
-use Rattle.kcall_core.specs.State.{ProgramFile}
-use Rattle.kcall_core.specs.Opens.{name_asked, terminal_asked, program_asked, file_asked}
+use Rattle.kernel_spec.specs.rows.Buffers.{no_slashes}
+use Rattle.kernel_spec.specs.views.State.{ProgramFile}
+use Rattle.file_table.specs.declared.open_file.End.TheVariants.{Reading}
+use Rattle.pipe_core.specs.Pipe.{new_pipe}
+use Rattle.kernel_spec.specs.views.View.{Shown_terminal, Shown_file, Shown_pipe}
+use Rattle.kcall_core.specs.Opens.{asked_in, name_asked, file_asked}
 use Rattle.kcall_core.specs.declared.kernel.file_calls.Asked.TheVariants.{Terminal, Program}
 
 abbrev file_of : List ℕ → ProgramFile
@@ -47,32 +50,36 @@ inner_name = refl
 
 -- ---- in which mode
 
-terminal_read : terminal_asked (pos 0) ≡ Some (Terminal true false)
+terminal_read : asked_in (pos 0) Shown_terminal ≡ Some (Terminal true false)
 terminal_read = refl
 
-terminal_written : terminal_asked (pos 1) ≡ Some (Terminal false true)
+terminal_written : asked_in (pos 1) Shown_terminal ≡ Some (Terminal false true)
 terminal_written = refl
 
-terminal_both : terminal_asked (pos 2) ≡ Some (Terminal true true)
+terminal_both : asked_in (pos 2) Shown_terminal ≡ Some (Terminal true true)
 terminal_both = refl
 
-terminal_neither : terminal_asked (pos 3) ≡ None
+terminal_neither : asked_in (pos 3) Shown_terminal ≡ None
 terminal_neither = refl
 
-terminal_below_0 : terminal_asked (negsuc 0) ≡ None
+terminal_below_0 : asked_in (negsuc 0) Shown_terminal ≡ None
 terminal_below_0 = refl
 
-program_read : program_asked (pos 0) 5 ≡ Some (Program 5)
+program_read : asked_in (pos 0) (Shown_file 5 0) ≡ Some (Program 5)
 program_read = refl
 
-program_written : program_asked (pos 1) 5 ≡ None
+program_written : asked_in (pos 1) (Shown_file 5 0) ≡ None
 program_written = refl
 
-program_both : program_asked (pos 2) 5 ≡ None
+program_both : asked_in (pos 2) (Shown_file 5 0) ≡ None
 program_both = refl
 
-program_below_0 : program_asked (negsuc 0) 5 ≡ None
+program_below_0 : asked_in (negsuc 0) (Shown_file 5 0) ≡ None
 program_below_0 = refl
+
+-- no name names a pipe
+no_pipe : asked_in (pos 0) (Shown_pipe 0 Reading new_pipe) ≡ None
+no_pipe = refl
 
 -- ---- the open file
 

@@ -1,8 +1,8 @@
 //! The kernel before its first process.
 ghost use Rattle.std.specs.Prelude.{◌≡◌, None, IfOk, IfErr, map};
 ghost use Rattle.hart_core.specs.declared.hart.Hart.{Hart};
-ghost use Rattle.kcall_core.specs.State.{named_file};
-ghost use Rattle.kcall_core.specs.NewKernel.{are_refused, empty_state, refusal, or_memory};
+ghost use Rattle.kernel_spec.specs.views.State.{named_file};
+ghost use Rattle.kernel_spec.specs.views.NewKernel.{are_refused, empty_state, refusal, or_memory};
 ghost use Rattle.kcall_core.specs.Starts.{IsBlank};
 ghost use Rattle.kcall_core.specs.Kernel.{frame_count, IsIdle, state_of, IsSound};
 ghost use Rattle.kcall_core.specs.Whole.{IsWhole};

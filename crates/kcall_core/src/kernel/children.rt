@@ -3,7 +3,7 @@ ghost use Rattle.std.specs.Prelude.{◌≡◌};
 ghost use Rattle.hart_core.specs.declared.hart.Hart.{Hart};
 ghost use Rattle.proc_table.specs.Processes.{given, woken};
 ghost use Rattle.proc_table.specs.Slots.{each_changed};
-ghost use Rattle.kcall_core.specs.Updates.{orphans};
+ghost use Rattle.kernel_spec.specs.steps.Updates.{orphans};
 ghost use Rattle.kcall_core.specs.Closings.{parent_woken};
 ghost use Rattle.kcall_core.specs.Kernel.{state_of, IsSound, IsRunning, pid_now};
 

@@ -4,7 +4,7 @@ ghost use Rattle.xk_base.specs.declared.limits.TheConstants.{NPROC, NOFILE};
 ghost use Rattle.xk_base.specs.Words.{least_below};
 ghost use Rattle.file_table.specs.Named.{named_by};
 ghost use Rattle.proc_table.specs.Slots.{descriptors_at};
-ghost use Rattle.kcall_core.specs.Calls.{close, dup};
+ghost use Rattle.kernel_spec.specs.rows.Calls.{close, dup};
 ghost use Rattle.kcall_core.specs.Kernel.{IsRunning};
 ghost use Rattle.kcall_core.specs.Whole.{IsWhole};
 ghost use Rattle.kcall_core.specs.Makes.{Makes, view_now, answer_of};

@@ -3,12 +3,12 @@ ghost use Rattle.std.specs.Prelude.{◌≡◌, ◌%◌, ◌<◌, ◌≤◌, fals
 ghost use Rattle.xk_base.specs.Image.{price};
 ghost use Rattle.xk_base.specs.Loaded.{Loaded};
 ghost use Rattle.rv64i_core.specs.Registers.{put, with_pc};
-ghost use Rattle.kcall_core.specs.Words.{SP, A1};
-ghost use Rattle.kcall_core.specs.Buffers.{no_slashes};
-ghost use Rattle.kcall_core.specs.Programs.{program_named};
-ghost use Rattle.kcall_core.specs.State.{named_file};
-ghost use Rattle.kcall_core.specs.Calls.{exec};
-ghost use Rattle.kcall_core.specs.Execs.{Asks};
+ghost use Rattle.kernel_spec.specs.views.Words.{SP, A1};
+ghost use Rattle.kernel_spec.specs.rows.Buffers.{no_slashes};
+ghost use Rattle.kernel_spec.specs.views.Programs.{program_named};
+ghost use Rattle.kernel_spec.specs.views.State.{named_file};
+ghost use Rattle.kernel_spec.specs.rows.Calls.{exec};
+ghost use Rattle.kernel_spec.specs.rows.Execs.{Asks};
 ghost use Rattle.kcall_core.specs.Holdings.{held_at, HasMemory, with_image};
 ghost use Rattle.kcall_core.specs.Memories as memory;
 ghost use Rattle.kcall_core.specs.Memories.{each_of, free_of, RunsIn, SlotChanges, Same};

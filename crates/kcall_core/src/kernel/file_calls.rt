@@ -7,11 +7,12 @@ ghost use Rattle.file_table.specs.Named.{named_by, with_named};
 ghost use Rattle.file_table.specs.OpenFiles.{lowest_place, open_count, with_opened};
 ghost use Rattle.file_table.specs.declared.open_file.Target.TheVariants as on;
 ghost use Rattle.proc_table.specs.Slots.{descriptors_at};
-ghost use Rattle.kcall_core.specs.State.{named_file};
-ghost use Rattle.kcall_core.specs.Programs.{program_bytes};
-ghost use Rattle.kcall_core.specs.Buffers.{readable, writable_now};
-ghost use Rattle.kcall_core.specs.Calls.{read, open_file, write};
-ghost use Rattle.kcall_core.specs.Opens.{place_named, terminal_asked, program_asked, name_asked, asked, file_asked};
+ghost use Rattle.kernel_spec.specs.views.State.{named_file};
+ghost use Rattle.kernel_spec.specs.views.Programs.{program_bytes, place_of};
+ghost use Rattle.kernel_spec.specs.views.View.{Shown_terminal, Shown_file};
+ghost use Rattle.kernel_spec.specs.rows.Buffers.{readable, writable_now};
+ghost use Rattle.kernel_spec.specs.rows.Calls.{read, open_file, write};
+ghost use Rattle.kcall_core.specs.Opens.{asked_in, name_asked, asked, file_asked};
 ghost use Rattle.kcall_core.specs.Holdings.{held_at};
 ghost use Rattle.kcall_core.specs.Memories.{each_of};
 ghost use Rattle.kcall_core.specs.Kernel.{IsRunning, live_now};
@@ -58,7 +59,7 @@ fn file_rest(programs: &[Program], program: usize, offset: u64, n: usize) -> &[u
 
 /// The place of the program of a name.
 fn place_named(programs: &[Program], name: &[u8]) -> Option<usize>
-    ensures { result ≡ place_named name.now (map named_file programs.now) }
+    ensures { result ≡ place_of name.now (map named_file programs.now) }
 {
     programs
         .iter()
@@ -76,23 +77,23 @@ pub(crate) enum Asked {
 
 /// The terminal, by the mode of an open: 0 to read, 1 to write, 2 to do both.
 fn terminal_asked(mode: i32) -> Option<Asked>
-    ensures { result ≡ terminal_asked mode }
+    ensures { result ≡ asked_in mode Shown_terminal }
 {
     if mode < 0 {
         return None;
     }
-    if mode > 2 {
-        return None;
+    if mode <= 2 {
+        return Some(Asked::Terminal {
+            read: mode != 1,
+            write: mode != 0,
+        });
     }
-    Some(Asked::Terminal {
-        read: mode != 1,
-        write: mode != 0,
-    })
+    None
 }
 
 /// A program's file, by the mode of an open: 0 alone, for it can only be read.
 fn program_asked(place: usize, mode: i32) -> Option<Asked>
-    ensures { result ≡ program_asked mode place }
+    ensures { result ≡ asked_in mode (Shown_file place 0) }
 {
     if mode != 0 {
         return None;

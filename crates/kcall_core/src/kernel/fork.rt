@@ -5,7 +5,7 @@ ghost use Rattle.hart_core.specs.declared.hart.Hart.{Hart};
 ghost use Rattle.file_table.specs.Named.{named_by};
 ghost use Rattle.proc_table.specs.Slots.{descriptors_at};
 ghost use Rattle.proc_table.specs.declared.process.Call.{Call};
-ghost use Rattle.kcall_core.specs.Calls.{fork, with_a0};
+ghost use Rattle.kernel_spec.specs.rows.Calls.{fork, with_a0};
 ghost use Rattle.kcall_core.specs.Holdings.{HasMemory, held_at, with_saved};
 ghost use Rattle.kcall_core.specs.Memories as memory;
 ghost use Rattle.kcall_core.specs.Memories.{each_of, RunsIn, SlotChanges};

@@ -1,7 +1,7 @@
 //! The call kill (xv6's `proc.c`; the xv6 book, "Code: Wait, exit, and kill").
 ghost use Rattle.std.specs.Prelude.{◌≡◌};
 ghost use Rattle.kcall_core.specs.Kills.{asked_pid};
-ghost use Rattle.kcall_core.specs.Calls.{kill};
+ghost use Rattle.kernel_spec.specs.rows.Calls.{kill};
 ghost use Rattle.kcall_core.specs.Kernel.{IsRunning};
 ghost use Rattle.kcall_core.specs.Whole.{IsWhole};
 ghost use Rattle.kcall_core.specs.Makes.{Makes, view_now, answer_of};

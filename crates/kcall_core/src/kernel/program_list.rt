@@ -1,7 +1,7 @@
 //! Which programs a kernel may be made with.
 ghost use Rattle.std.specs.Prelude.{◌≡◌, ◌<◌, length, map};
-ghost use Rattle.kcall_core.specs.State.{named_file};
-ghost use Rattle.kcall_core.specs.Programs.{has_slash_or_zero, is_bad_name, same_name, is_earlier_name, is_bad_program, first_bad};
+ghost use Rattle.kernel_spec.specs.views.State.{named_file};
+ghost use Rattle.kernel_spec.specs.views.Programs.{has_slash_or_zero, is_bad_name, same_name, is_earlier_name, is_bad_program, first_bad};
 
 use xk_base::Program;
 use xk_base::limits::{NAME_MAX, PROGRAM_BYTES, PROGRAMS_MAX};
@@ -47,7 +47,7 @@ fn has_earlier_name(programs: &[Program], i: usize) -> bool
 
 /// Whether program `i` is refused: there are [`PROGRAMS_MAX`] before it, its name is refused or an earlier one's, or
 /// its file has more than [`PROGRAM_BYTES`] bytes.
-#[tactic(auto, unfolding(crate::specs::Programs::is_bad_program))]
+#[tactic(auto, unfolding(kernel_spec::specs::views::Programs::is_bad_program))]
 fn is_refused(programs: &[Program], i: usize) -> bool
     requires { i < length programs.now }
     ensures { result ≡ is_bad_program (map named_file programs.now) i }

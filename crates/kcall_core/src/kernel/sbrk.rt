@@ -1,9 +1,11 @@
 //! The call sbrk: the memory of a process grows and shrinks (the xv6 book, "Code: sbrk").
 ghost use Rattle.std.specs.Prelude.{◌≡◌, ◌≤◌, true, false, Some, IfSome};
 ghost use Rattle.xk_base.specs.declared.limits.TheConstants.{SIZE_LIMIT};
-ghost use Rattle.kcall_core.specs.Buffers.{data_rights, grown};
-ghost use Rattle.kcall_core.specs.Calls.{sbrk, sbrklazy};
-ghost use Rattle.kcall_core.specs.Kernel.{resized, resized_lazily, at_size, IsRunning, IsSound, IsTooDear, HasImage, live_now};
+ghost use Rattle.kernel_spec.specs.rows.Buffers.{grown};
+ghost use Rattle.xk_base.specs.Access.{data_rights};
+ghost use Rattle.kernel_spec.specs.rows.Calls.{sbrk, sbrklazy};
+ghost use Rattle.kcall_core.specs.Kernel.{IsRunning, IsSound, IsTooDear, HasImage, live_now};
+ghost use Rattle.kernel_spec.specs.rows.Sizes.{resized, resized_lazily, at_size};
 ghost use Rattle.kcall_core.specs.Whole.{IsWhole};
 ghost use Rattle.kcall_core.specs.Makes.{Makes, view_now, answer_of};
 

@@ -4,9 +4,9 @@ ghost use Rattle.std.specs.Prelude.{◌≡◌, ℕ, ◌+◌, ◌%◌, ◌≤◌,
 ghost use Rattle.xk_base.specs.Image.{price};
 ghost use Rattle.xk_base.specs.Loaded.{Loaded, loaded};
 ghost use Rattle.rv64i_core.specs.Registers.{fresh, put};
-ghost use Rattle.kcall_core.specs.Words.{SP, A0, A1};
-ghost use Rattle.kcall_core.specs.Programs.{init_name, init_of, program_bytes};
-ghost use Rattle.kcall_core.specs.State.{named_file};
+ghost use Rattle.kernel_spec.specs.views.Words.{SP, A0, A1};
+ghost use Rattle.kernel_spec.specs.views.Programs.{init_name, init_of, program_bytes};
+ghost use Rattle.kernel_spec.specs.views.State.{named_file};
 ghost use Rattle.kcall_core.specs.Starts.{HasNoProcess, init_loaded, start_refusal, started_world};
 ghost use Rattle.kcall_core.specs.Holdings.{IsVacant};
 ghost use Rattle.kcall_core.specs.Memories as memory;
@@ -49,7 +49,7 @@ fn first_args() -> ArgList
 
 /// Gives slot 0 the image of the program `init`, and a trapframe of zeros; tells with which registers the
 /// program starts. A refusal changes nothing.
-#[tactic(auto, unfolding(crate::specs::Programs::init_of))]
+#[tactic(auto, unfolding(kernel_spec::specs::views::Programs::init_of))]
 fn load_first(memories: &mut Memories, programs: &[Program]) -> Result<Entry, ExecError>
     requires sound { memory.AreSound memories.old }
     requires vacant { IsVacant (each_of memories.old) 0 }

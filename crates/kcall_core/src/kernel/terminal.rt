@@ -5,14 +5,15 @@ ghost use Rattle.xk_base.specs.declared.limits.TheConstants.{CONSOLE_BYTES, SEND
 ghost use Rattle.xk_base.specs.Bytes.{image_bytes, write_image};
 ghost use Rattle.hart_core.specs.declared.hart.Hart.{Hart};
 ghost use Rattle.console_core.specs.Lists.{IsWithinLimits};
-ghost use Rattle.kcall_core.specs.Buffers.{readable, writable_now};
-ghost use Rattle.kcall_core.specs.Calls.{read, write};
+ghost use Rattle.kernel_spec.specs.rows.Buffers.{readable, writable_now};
+ghost use Rattle.kernel_spec.specs.rows.Calls.{read, write};
 ghost use Rattle.kcall_core.specs.Holdings.{held_at, HasMemory, with_image};
 ghost use Rattle.kcall_core.specs.Memories.{each_of, free_of, AreSound, RunsIn, SlotChanges};
 ghost use Rattle.kcall_core.specs.Kernel.{IsRunning, live_now};
 ghost use Rattle.kcall_core.specs.Whole.{IsWhole};
 ghost use Rattle.kcall_core.specs.Makes.{Makes, view_now, answer_of};
-ghost use Rattle.kcall_core.specs.Terminal.{next_line, without_line, room_for, with_sent, ReadsTerminal, WritesTerminal};
+ghost use Rattle.kernel_spec.specs.rows.Terminal.{next_line, without_line, room_for, with_sent};
+ghost use Rattle.kcall_core.specs.Moves.{ReadsTerminal, WritesTerminal};
 
 use crate::call_end::CallEnd;
 use crate::kernel::Kernel;

@@ -1,11 +1,11 @@
 //! Pages that come when they are touched: by the buffer of a call, and by a load or a store (the xv6 book, "Traps
 //! and system calls": page-fault exceptions).
 ghost use Rattle.std.specs.Prelude.{◌≡◌, ◌⊎◌, ◌/◌, true, false, Some, None};
-ghost use Rattle.addr_space.specs.Absent.{is_absent};
+ghost use Rattle.addr_space.specs.Absent.{is_absent, pages_at};
 ghost use Rattle.hart_core.specs.declared.hart.Hart.{Hart};
 ghost use Rattle.kcall_core.specs.Kernel.{IsRunning, live_now};
 ghost use Rattle.kcall_core.specs.Makes.{view_now};
-ghost use Rattle.kcall_core.specs.Touches.{pages_at, touch};
+ghost use Rattle.kernel_spec.specs.rows.Touches.{touch};
 ghost use Rattle.kcall_core.specs.Touched.{IsReady, IsTouched, IsUnready};
 ghost use Rattle.kcall_core.specs.Whole.{IsWhole};
 

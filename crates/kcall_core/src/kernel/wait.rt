@@ -1,9 +1,9 @@
 //! The call wait (xv6's `proc.c`; the xv6 book, "Code: Wait, exit, and kill").
 ghost use Rattle.std.specs.Prelude.{◌≡◌, true, false, pos, Some, nat_eq, ◌||◌, cond};
 ghost use Rattle.hart_core.specs.declared.hart.Hart.{Hart};
-ghost use Rattle.kcall_core.specs.Buffers.{writable_now};
-ghost use Rattle.kcall_core.specs.Calls.{wait};
-ghost use Rattle.kcall_core.specs.Updates.{told_image};
+ghost use Rattle.kernel_spec.specs.rows.Buffers.{writable_now};
+ghost use Rattle.kernel_spec.specs.rows.Calls.{wait};
+ghost use Rattle.kernel_spec.specs.steps.Updates.{told_image};
 ghost use Rattle.kcall_core.specs.Holdings.{held_at};
 ghost use Rattle.kcall_core.specs.Memories.{each_of};
 ghost use Rattle.kcall_core.specs.Kernel.{IsSound, IsRunning, HasImage, live_now};

@@ -3,7 +3,7 @@ ghost use Rattle.std.specs.Prelude.{◌≡◌, ℕ, ◌<◌, List, [], ◌∷◌
 ghost use Rattle.xk_base.specs.declared.limits.TheConstants.{MAXARG, ARG_BYTES};
 ghost use Rattle.xk_base.specs.declared.errors.ExecError.{ExecError};
 ghost use Rattle.exec_core.specs.ArgTexts.{terminated, push_refusal};
-ghost use Rattle.kcall_core.specs.Buffers.{text_at, texts_at};
+ghost use Rattle.kernel_spec.specs.rows.Buffers.{text_at, texts_at};
 ghost use Rattle.kcall_core.specs.Holdings.{held_at, HasMemory};
 ghost use Rattle.kcall_core.specs.Memories.{each_of, AreSound};
 

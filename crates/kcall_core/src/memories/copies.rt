@@ -5,7 +5,7 @@
 //! `specs/Buffers.antt`.
 ghost use Rattle.std.specs.Prelude.{◌≡◌, ℕ, ◌+◌, ◌^◌, ◌<◌, ◌≤◌, true, false, length, take, drop, Some, None, IfOk, IfErr};
 ghost use Rattle.xk_base.specs.Bytes.{image_bytes, write_image};
-ghost use Rattle.kcall_core.specs.Buffers.{readable, writable_now, text_at, pointer_at};
+ghost use Rattle.kernel_spec.specs.rows.Buffers.{readable, writable_now, text_at, pointer_at};
 ghost use Rattle.kcall_core.specs.Holdings.{held_at, HasMemory, with_image};
 ghost use Rattle.kcall_core.specs.Memories.{each_of, free_of, AreSound, RunsIn, SlotChanges, Same};
 

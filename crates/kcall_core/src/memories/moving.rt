@@ -1,11 +1,11 @@
 //! Bytes between pipes and processes.
-ghost use Rattle.std.specs.Prelude.{◌≡◌, ◌+◌, ◌-◌, ◌≤◌, IsSome, Some, take, length, true};
+ghost use Rattle.std.specs.Prelude.{◌≡◌, ◌+◌, ◌-◌, ◌≤◌, IsSome, Some, take, length, true, not};
 ghost use Rattle.std.specs.FinMap.{get};
 ghost use Rattle.xk_base.specs.declared.limits.TheConstants.{PIPE_BYTES};
 ghost use Rattle.xk_base.specs.Bytes.{image_bytes, write_image};
 ghost use Rattle.pipe_core.specs.Pipe.{with_more, without_first};
-ghost use Rattle.kcall_core.specs.Buffers.{readable, writable_now};
-ghost use Rattle.kcall_core.specs.PipeEnds.{there, fit, must_wait};
+ghost use Rattle.kernel_spec.specs.rows.Buffers.{readable, writable_now};
+ghost use Rattle.kernel_spec.specs.views.PipeEnds.{there, fit, has_bytes};
 ghost use Rattle.kcall_core.specs.Holdings.{held_at, HasMemory, with_image, pipe_named};
 ghost use Rattle.kcall_core.specs.Memories.{each_of, pipes_of, free_of, AreSound, RunsIn, SlotChanges, PipeChanges};
 ghost use Rattle.hart_core.specs.declared.hart.Hart.{Hart};
@@ -44,17 +44,17 @@ impl Memories {
     pub fn must_wait(&self, frame: Frame) -> bool
         requires sound { AreSound self.now }
         requires pipe { IsSome (get (pipes_of self.now) frame) }
-        ensures { result ≡ must_wait (pipe_named (pipes_of self.now) frame) }
+        ensures { result ≡ not (has_bytes (pipe_named (pipes_of self.now) frame)) }
     {
         // (That its number is below `FRAMES_MAX`.)
         let _ = frame.number();
         let len = pipe_core::len(&self.ram, frame);
         let writers = pipe_core::writers(&self.ram, frame);
-        (len == 0) & !(writers == 0)
+        !((0 < len) | (writers == 0))
     }
 
     /// How many bytes are in a pipe.
-    fn count(&self, frame: Frame) -> usize
+    pub(crate) fn count(&self, frame: Frame) -> usize
         requires sound { AreSound self.now }
         requires pipe { IsSome (get (pipes_of self.now) frame) }
         ensures value { result ≡ length (pipe_named (pipes_of self.now) frame).bytes }

@@ -1,16 +1,67 @@
 //! The ends of the pipes, and how many descriptors are on each.
-ghost use Rattle.std.specs.Prelude.{◌≡◌, ◌<◌, ◌≤◌, IsSome, None, Some, cond, nat_eq};
+ghost use Rattle.std.specs.Prelude.{◌≡◌, ◌<◌, ◌≤◌, IsSome, None, Some, cond, is_some, nat_eq, option_map};
 ghost use Rattle.std.specs.FinMap.{get};
 ghost use Rattle.pipe_core.specs.declared.TheConstants.{END_COUNT_MAX};
-ghost use Rattle.kcall_core.specs.PipeEnds.{count_on, joined, parted, is_given_up};
+ghost use Rattle.kernel_spec.specs.views.PipeEnds.{count_on, joined, parted, is_given_up};
 ghost use Rattle.kcall_core.specs.Holdings.{pipe_named};
 ghost use Rattle.kcall_core.specs.Memories.{pipes_of, AreSound, PipeChanges};
+ghost use Rattle.kcall_core.specs.ObservedPipes.{counts_of, byte_of_pipe};
 
 use crate::memories::Memories;
 use file_table::End;
 use xk_base::Frame;
 
+/// How many descriptors are on each end of a pipe, and how many bytes are in it.
+#[derive(Clone, Copy, Debug, PartialEq, Eq)]
+pub struct PipeCounts {
+    pub readers: u64,
+    pub writers: u64,
+    pub bytes: usize,
+}
+
 impl Memories {
+    /// Whether a frame keeps a pipe.
+    fn keeps_pipe(&self, frame: Frame) -> bool
+        ensures { result ≡ is_some (get (pipes_of self.now) frame) }
+    {
+        // (That its number is below `FRAMES_MAX`.)
+        let _ = frame.number();
+        let index = frame.index();
+        if index >= self.pipes.len() {
+            return false;
+        }
+        self.pipes[index]
+    }
+
+    /// The counts of the pipe in a frame; none where it keeps no pipe.
+    pub fn pipe_counts(&self, frame: Frame) -> Option<PipeCounts>
+        requires { AreSound self.now }
+        ensures { result ≡ option_map counts_of (get (pipes_of self.now) frame) }
+    {
+        if !self.keeps_pipe(frame) {
+            return None;
+        }
+        Some(PipeCounts {
+            readers: self.readers(frame),
+            writers: self.writers(frame),
+            bytes: self.count(frame),
+        })
+    }
+
+    /// The byte at a place of the pipe in a frame: 0 is the oldest. None where it has fewer bytes, or the frame
+    /// keeps no pipe.
+    pub fn pipe_byte(&self, frame: Frame, place: usize) -> Option<u8>
+        requires { AreSound self.now }
+        ensures { result ≡ byte_of_pipe place (get (pipes_of self.now) frame) }
+    {
+        // (That its number is below `FRAMES_MAX`.)
+        let _ = frame.number();
+        if !self.keeps_pipe(frame) {
+            return None;
+        }
+        pipe_core::byte(&self.ram, frame, place)
+    }
+
     /// How many descriptors are on the read end of a pipe.
     pub fn readers(&self, frame: Frame) -> u64
         requires sound { AreSound self.now }

@@ -2,10 +2,9 @@
 ghost use Rattle.std.specs.Prelude.{◌≡◌, ℕ, ◌+◌, ◌/◌, ◌<◌, ◌≤◌, true, false, Some};
 ghost use Rattle.xk_base.specs.Image.{price};
 ghost use Rattle.xk_base.specs.declared.limits.TheConstants.{SIZE_LIMIT};
-ghost use Rattle.addr_space.specs.Absent.{is_absent, grown_lazily};
+ghost use Rattle.addr_space.specs.Absent.{is_absent, grown_lazily, pages_at, brought};
 ghost use Rattle.hart_core.specs.declared.hart.Hart.{Hart};
-ghost use Rattle.kcall_core.specs.Buffers.{writable};
-ghost use Rattle.kcall_core.specs.Touches.{pages_at, brought};
+ghost use Rattle.kernel_spec.specs.rows.Buffers.{writable};
 ghost use Rattle.kcall_core.specs.Holdings.{held_at, HasMemory, with_image};
 ghost use Rattle.kcall_core.specs.Memories.{each_of, free_of, AreSound, RunsIn, SlotChanges};
 

@@ -1,9 +1,9 @@
 -- Worked cases of what a boot answers.
-use Rattle.std.proofs.Common.{◌≡◌, ◌∙◌, ℕ, ◌+◌, Some, None, Ok, Err, inl, inr, refl, sym, arith}
+use Rattle.std.proofs.Common.{◌≡◌, Some, None, Ok, Err, inl, inr, refl, arith}
 use Rattle.xk_base.specs.declared.errors.ExecError.TheVariants.{NoFrames, NotElf}
 use Rattle.xk_base.specs.declared.errors.BootError.TheVariants.{BadConfig, BadPrograms, NoInit, Memory, Init}
-use Rattle.kcall_core.specs.Run.{World}
-use Rattle.xv_machine.specs.Boots.{without_init, HasEmptyTrace, Boots}
+use Rattle.kernel_spec.specs.runs.Run.{World}
+use Rattle.xv_machine.specs.Boots.{without_init, Boots}
 use Rattle.xv_machine.specs.Meaning.{Meaning}
 
 module _ (w : World) (m : Meaning) where

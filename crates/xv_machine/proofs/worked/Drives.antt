@@ -1,11 +1,11 @@
 -- Worked cases of how a drive ends: what was written, what was read, and how often the devices were called.
-use Rattle.std.proofs.Common.{◌≡◌, ◌≢◌, ◌∙◌, ℕ, ◌+◌, ◌<◌, ◌≤◌, zero, suc, List, [], ◌∷◌, ◌++◌, length, length-append, Option, None, Some, IfSome, true, false, Bool, inl, inr, refl, sym, ap, ap₂, subst, arith}
-use Rattle.std.specs.Io.KnownBytes.{Appends, Consumes}
-use Rattle.kcall_core.specs.Run.{Event, Run, Tick, Key, Send, Outcome, Sent, Typed, out, bytes_out}
-use Rattle.kcall_core.specs.Rounds.{events, AreRounds, Planned}
+use Rattle.std.proofs.Common.{◌≡◌, ◌∙◌, ℕ, ◌+◌, ◌≤◌, zero, suc, List, [], ◌∷◌, ◌++◌, length, length-append, Option, None, Some, IfSome, refl, sym, ap, subst, arith}
+use Rattle.std.specs.Io.KnownBytes.{Appends}
+use Rattle.kernel_spec.specs.runs.Run.{Event, Key, Send, Outcome, Sent, Typed, out, bytes_out}
+use Rattle.kernel_spec.specs.runs.Rounds.{events, AreRounds}
 use Rattle.xv_machine.specs.Devices.{Source, Asked, Sink, Given, Calls, took, failed}
 use Rattle.xv_machine.specs.declared.driving.RunPlan.{RunPlan}
-use Rattle.xv_machine.specs.Drives.{Goes, Wrote, AskedFor, calls_of, is_halted, keys_in, Done, StoppedByRead, StoppedByWrite}
+use Rattle.xv_machine.specs.Drives.{AskedFor, calls_of, is_halted, keys_in, Done, StoppedByRead, StoppedByWrite}
 use Rattle.xv_machine.specs.Meaning.{Meaning}
 
 -- ---- how often a source is asked

@@ -1,12 +1,11 @@
 -- Worked cases of the notes that a trace keeps.
-use Rattle.std.proofs.Common.{◌≡◌, ◌∙◌, ℕ, List, [], ◌∷◌, ◌++◌, Some, None, refl, sym, ap, ap₂}
+use Rattle.std.proofs.Common.{◌≡◌, ◌∙◌, List, [], ◌∷◌, ◌++◌, Some, None, refl, sym, ap₂}
 use Rattle.std.specs.Prelude.{pos, negsuc}
 use Rattle.circular_buffer.specs.Buffer.{keep_last}
 use Rattle.xk_base.specs.declared.access.Cause.TheVariants.{LoadPageFault}
-use Rattle.kcall_core.specs.Own as answers
-use Rattle.kcall_core.specs.Run.{Event, Run, Tick, Key, Send, Outcome, Step_of}
-use Rattle.kcall_core.specs.Run as runs
-use Rattle.xv_machine.specs.declared.trace.Note.{Note}
+use Rattle.kernel_spec.specs.steps.Own as answers
+use Rattle.kernel_spec.specs.runs.Run.{Event, Run, Tick, Key, Send, Outcome, Step_of}
+use Rattle.kernel_spec.specs.runs.Run as runs
 use Rattle.xv_machine.specs.declared.trace.Note.TheVariants.{Stepped, Called, Blocked, Exited, Faulted, Turn, Idle, Ticked, Typed, Sent, Halted}
 use Rattle.xv_machine.specs.Drives.{Goes}
 use Rattle.xv_machine.specs.Meaning.{Meaning}

@@ -1,15 +1,15 @@
 -- Worked cases of the machines that boot and events lead to, and of what two of them show one process.
-use Rattle.std.proofs.Common.{◌≡◌, ◌≢◌, ◌∙◌, ℕ, ◌+◌, List, [], ◌∷◌, ◌++◌, length, map, Option, None, Some, Result, Ok, Err, refl, sym, ap, ap₂, subst, arith}
+use Rattle.std.proofs.Common.{◌≡◌, ◌∙◌, List, [], ◌∷◌, ◌++◌, map, None, Result, Ok, Err, sym, ap, ap₂, arith}
 use Rattle.std.specs.Prelude.{IsSome}
 use Rattle.circular_buffer.specs.Buffer.{keep_last}
 use Rattle.xk_base.specs.declared.errors.BootError.{BootError}
 use Rattle.xk_base.specs.declared.errors.BootError.TheVariants.{BadConfig}
-use Rattle.kcall_core.specs.State.{ProgramFile}
-use Rattle.kcall_core.specs.View.{view}
-use Rattle.kcall_core.specs.First.{first}
-use Rattle.kcall_core.specs.Own.{Stepped}
-use Rattle.kcall_core.specs.Run.{World, Event, Run, Tick, Send, Outcome, Step_of, Ticked, Sent}
-use Rattle.kcall_core.specs.Worlds.{Moment, AllBoth, shared}
+use Rattle.kernel_spec.specs.views.State.{ProgramFile}
+use Rattle.kernel_spec.specs.views.View.{view}
+use Rattle.kernel_spec.specs.runs.First.{first}
+use Rattle.kernel_spec.specs.steps.Own.{Stepped}
+use Rattle.kernel_spec.specs.runs.Run.{World, Event, Run, Tick, Send, Outcome, Step_of, Ticked, Sent}
+use Rattle.kernel_spec.specs.laws.Worlds.{Moment, AllBoth, shared}
 use Rattle.xv_machine.specs.declared.trace.Note.TheVariants as note
 use Rattle.xv_machine.specs.Drives.{Goes}
 use Rattle.xv_machine.specs.Meaning.{Meaning}

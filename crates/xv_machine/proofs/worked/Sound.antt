@@ -1,21 +1,21 @@
 -- Worked cases of a sound machine: whose its frames are, who sleeps, and how it ends. Each machine here that isn't sound has one fault.
-use Rattle.std.proofs.Common.{◌≡◌, ◌≢◌, ◌∙◌, ℕ, zero, suc, ◌+◌, ◌<◌, ◌≤◌, List, [], ◌∷◌, ◌++◌, length, Option, None, Some, true, false, ◌||◌, inl, inr, refl, sym, ap, ap₂, subst, arith}
+use Rattle.std.proofs.Common.{◌≡◌, ◌∙◌, ℕ, zero, suc, ◌+◌, ◌<◌, ◌≤◌, List, ◌∷◌, ◌++◌, length, Option, None, Some, true, false, ◌||◌, inl, inr, refl, sym, ap, ap₂, subst, arith}
 use Rattle.std.specs.Prelude.{ℤ, pos, IsSome, is_some}
 use Rattle.std.specs.FinMap.{get, len, values}
 use Rattle.std.proofs.lemmas.Bool.{cases_lt}
 use Rattle.xk_base.specs.Frames.{copies}
-use Rattle.xk_base.specs.Image.{Page, Image, price}
+use Rattle.xk_base.specs.Image.{Page, price}
 use Rattle.xk_base.proofs.Frames.{at-same, copies-cons}
 use Rattle.pipe_core.specs.Pipe.{Pipe}
-use Rattle.kcall_core.specs.Words.{count_if}
-use Rattle.kcall_core.specs.Processes.{Process, Live, Alive, Zombie}
-use Rattle.kcall_core.specs.State.{State, live_part, live}
-use Rattle.kcall_core.specs.Turns.{Turns, Sleeps}
-use Rattle.kcall_core.specs.View.{View, view}
-use Rattle.kcall_core.specs.Ready.{call_ready, ready}
-use Rattle.kcall_core.specs.WellFormed.{sum_below}
+use Rattle.kernel_spec.specs.views.Words.{count_if}
+use Rattle.kernel_spec.specs.views.Processes.{Process, Live, Alive, Zombie}
+use Rattle.kernel_spec.specs.views.State.{State, live_part, live}
+use Rattle.kernel_spec.specs.waking.Turns.{Turns, Sleeps}
+use Rattle.kernel_spec.specs.views.View.{View, view}
+use Rattle.kernel_spec.specs.waking.Ready.{call_ready, ready}
+use Rattle.kernel_spec.specs.views.WellFormed.{sum_below}
 use Rattle.xv_machine.specs.Meaning.{Owned, Meaning}
-use Rattle.xv_machine.specs.Sound.{frames_of, uses, FitsImage, HasFrames, IsHalted, IsSoundMachine}
+use Rattle.xv_machine.specs.Sound.{frames_of, uses, HasFrames, IsHalted, IsSoundMachine}
 
 -- ---- sums
 

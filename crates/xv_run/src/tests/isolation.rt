@@ -5,21 +5,24 @@ use super::telling::{tell, told_as};
 use std::process::Abort;
 use xk_base::Pid;
 
-// The same comes of each of 1,000 Runs in both machines, and process 2 has the same registers after each
-// of them.
-fn same_runs(rt: &impl Abort, here: &mut Scene, there: &mut Scene) {
+// Process 2 has the same bytes in both machines from an address on, and the same addresses have a page.
+fn same_bytes(rt: &impl Abort, here: &Scene, there: &Scene, from: u64, count: u64) {
     let second = Pid::new(2);
-    for run in 0..1000 {
-        assert!(rt; here.run() == there.run(), "run {run}");
-        assert!(rt; here.same_registers(there, second), "run {run}");
+    for n in 0..count {
+        let address = from.wrapping_add(n);
+        assert!(rt; here.same_byte(there, second, address), "at {address}");
     }
 }
 
-// Process 2 has the same bytes in both machines, and the same addresses have a page.
-fn same_bytes(rt: &impl Abort, here: &Scene, there: &Scene) {
+// The same comes of each of 1,000 Runs in both machines. After each of them process 2 has the same registers, and
+// the same bytes in the place where it stores: six Runs store 8 bytes, from 0x2010 on.
+fn same_runs(rt: &impl Abort, here: &mut Scene, there: &mut Scene) {
     let second = Pid::new(2);
-    for address in 0..0x5001 {
-        assert!(rt; here.same_byte(there, second, address), "at {address}");
+    for run in 0..1000u64 {
+        assert!(rt; here.run() == there.run(), "run {run}");
+        assert!(rt; here.same_registers(there, second), "run {run}");
+        let stored = (run / 6 * 8).wrapping_add(0x2000);
+        same_bytes(rt, here, there, stored, 32);
     }
 }
 
@@ -32,7 +35,8 @@ fn goes_on_alike<R: Abort + AllocGlobal>(rt: &R, one: &str, other: &str) {
         return assert!(rt; false, "{other}: there is no machine");
     };
     same_runs(rt, &mut here, &mut there);
-    same_bytes(rt, &here, &there);
+    // All of its pages lie below 0x3000.
+    same_bytes(rt, &here, &there, 0, 0x3001);
     tell(rt, &mut there, GONE_ON);
 }
 

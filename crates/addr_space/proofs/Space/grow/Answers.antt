@@ -7,7 +7,7 @@ use Rattle.addr_space.proofs.Trades.{belongs-resized}
 use Rattle.addr_space.proofs.Space.grow.Goals as goal
 
 pub returns-clause-belongs : goal.returns-clause-belongs
-returns-clause-belongs c = belongs-resized c.fill.new.pool c.fill.new.ram c.fill.new.self c.args.size c.in_ok-fill.ensures.belongs
+returns-clause-belongs c = belongs-resized c.fill.new.pool c.fill.new.ram c.fill.new.self c.args.size c.requires.limit c.in_ok-fill.ensures.belongs
 
 pub returns-clause-fits : goal.returns-clause-fits
 returns-clause-fits c =

@@ -3,19 +3,19 @@ use Rattle.std.specs.Result.{IfOk, IfErr}
 use Rattle.xk_base.specs.Image.{price}
 use Rattle.frame_list.specs.Pool.{free_in}
 use Rattle.addr_space.specs.Changes.{filled}
-use Rattle.addr_space.specs.Absent.{spans, touched}
+use Rattle.addr_space.specs.Absent.{pages_at, brought}
 use Rattle.addr_space.specs.Space.{image_of, Unchanged}
-use Rattle.addr_space.proofs.Touching.{filled-touched, low-pages, run-of-range}
+use Rattle.addr_space.proofs.Touching.{filled-brought, run-of-range}
 use Rattle.addr_space.proofs.Space.touch.Goals.{After-fill}
 use Rattle.addr_space.proofs.Space.touch.Goals as goal
 
 -- the run of pages is what was to be touched
-same : (c : After-fill) → filled (image_of c.args.ram.now c.args.self.now) c.pages_below-pages.result.first (c.pages_below-pages.result.end - c.pages_below-pages.result.first) c.touched_rights.result ≡ touched (spans c.args.address c.args.len) (image_of c.args.ram.now c.args.self.now)
+same : (c : After-fill) → filled (image_of c.args.ram.now c.args.self.now) c.pages_below-pages.result.first (c.pages_below-pages.result.end - c.pages_below-pages.result.first) c.touched_rights.result ≡ brought (pages_at c.args.address c.args.len) (image_of c.args.ram.now c.args.self.now)
 same c =
     let run = c.pages_below-pages.ensures in
     ap (filled (image_of c.args.ram.now c.args.self.now) c.pages_below-pages.result.first (c.pages_below-pages.result.end - c.pages_below-pages.result.first)) c.touched_rights.ensures
-    ∙ filled-touched (spans c.args.address c.args.len) (image_of c.args.ram.now c.args.self.now) c.pages_below-pages.result.first c.pages_below-pages.result.end (low-pages c.args.ram.now c.args.self.now)
-    (run-of-range c.args.self.now.size c.args.address c.args.len c.pages_below-pages.result.first c.pages_below-pages.result.end run.order run.few run.inside run.before run.behind)
+    ∙ filled-brought (pages_at c.args.address c.args.len) (image_of c.args.ram.now c.args.self.now) c.pages_below-pages.result.first c.pages_below-pages.result.end
+    (run-of-range c.args.self.now.size c.args.address c.args.len c.pages_below-pages.result.first c.pages_below-pages.result.end run.order run.inside run.before run.behind)
 
 pub returns-clause-image : goal.returns-clause-image
 returns-clause-image c = subst (λ i. IfOk c.fill.result (λ _. image_of c.fill.new.ram c.fill.new.self ≡ i)) (same c) c.fill.ensures.image

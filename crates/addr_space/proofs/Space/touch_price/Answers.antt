@@ -1,12 +1,13 @@
 use Rattle.std.proofs.Common.{sym, ap, ◌∙◌}
 use Rattle.xk_base.specs.Image.{price}
-use Rattle.addr_space.specs.Absent.{spans, touched_rights}
+use Rattle.xk_base.specs.Access.{data_rights}
+use Rattle.addr_space.specs.Absent.{pages_at}
 use Rattle.addr_space.specs.Space.{image_of}
-use Rattle.addr_space.proofs.Touching.{filled-touched, low-pages, run-of-range}
+use Rattle.addr_space.proofs.Touching.{filled-brought, run-of-range}
 use Rattle.addr_space.proofs.Space.touch_price.Goals as goal
 
 pub returns : goal.returns
 returns c =
     let run = c.pages_below-pages.ensures in
-    sym (ap price (filled-touched (spans c.args.address c.args.len) (image_of c.args.ram.now c.args.self.now) c.pages_below-pages.result.first c.pages_below-pages.result.end (low-pages c.args.ram.now c.args.self.now)
-    (run-of-range c.args.self.now.size c.args.address c.args.len c.pages_below-pages.result.first c.pages_below-pages.result.end run.order run.few run.inside run.before run.behind))) ∙ c.price_between.ensures touched_rights
+    sym (ap price (filled-brought (pages_at c.args.address c.args.len) (image_of c.args.ram.now c.args.self.now) c.pages_below-pages.result.first c.pages_below-pages.result.end
+    (run-of-range c.args.self.now.size c.args.address c.args.len c.pages_below-pages.result.first c.pages_below-pages.result.end run.order run.inside run.before run.behind))) ∙ c.price_between.ensures data_rights

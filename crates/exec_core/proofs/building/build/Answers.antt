@@ -1,6 +1,6 @@
 use Rattle.std.proofs.Common.{◌≡◌, ◌+◌, ◌*◌, ◌/◌, ◌≤◌, length, refl, sym, ap, ◌∙◌, subst, arith}
 use Rattle.xk_base.specs.Image.{price}
-use Rattle.xk_base.specs.Loaded.{end_after, program_image, lowest, text_places}
+use Rattle.xk_base.specs.Loaded.{lowest, text_places}
 use Rattle.addr_space.specs.Space.{image_of}
 use Rattle.addr_space.proofs.Trades.{free-after, belongs-after, belongs-made}
 use Rattle.exec_core.specs.Building.{price_first, with_stack, with_texts}
@@ -116,18 +116,6 @@ returns-clause-fits c =
     let i = c.plan.inside in
     let cost : price c.args.plan.image ≡ price_first (i.guard + 2) = sym (ap (λ l. price (loaded_image l)) c.plan.view_is) ∙ plan-price i.file.now i.segments i.guard i.args.now i.start.sp c.plan.invariant in
     omega (arith, cost, c.free.ensures c.args.ram.now c.requires.good, c.from.ensures, c.price.ensures, c.if-from-price.false)
-
-pub returns-clause-limit : goal.returns-clause-limit
-unfolding program_image
-returns-clause-limit c =
-    let i = c.plan.inside in
-    let size : c.args.plan.image.size ≡ 4096 * ((end_after 0 i.segments + 4095) / 4096) + 8192 = sym (ap (λ l. (loaded_image l).size) c.plan.view_is) in
-    omega (
-      arith,
-      size,
-      c.plan.invariant.behind,
-      room-limit c.args.pool.now c.args.ram.now i.guard c.requires.good (omega (arith, c.free.ensures c.args.ram.now c.requires.good, c.from.ensures, c.price.ensures, c.if-from-price.false)),
-    )
 
 pub lay_texts-requires-clause-room : goal.lay_texts-requires-clause-room
 lay_texts-requires-clause-room c =

@@ -2,19 +2,19 @@ use Rattle.std.proofs.Common.{◌≡◌, ◌+◌, ◌*◌, Some, sym, ap, ◌∙
 use Rattle.std.specs.FinMap.{get}
 use Rattle.xk_base.specs.Image.{with_page}
 use Rattle.xk_base.specs.Bytes.{HasPage}
-use Rattle.xk_base.specs.Loaded.{stack}
 use Rattle.addr_space.specs.Space.{image_of}
 use Rattle.addr_space.specs.Changes.{protected, grown}
 use Rattle.addr_space.proofs.Freeing.{changed-join}
 use Rattle.addr_space.proofs.Trades.{belongs-after}
 use Rattle.exec_core.proofs.Steps.{grown-has, stack-is}
 use Rattle.exec_core.proofs.building.map_stack.Goals as goal
+use Rattle.xk_base.specs.Access.{data_rights}
 
 pub protect-requires-clause-there : goal.protect-requires-clause-there
 protect-requires-clause-there c =
-    let grew : image_of c.grow.new.ram c.grow.new.self ≡ grown (image_of c.args.ram.now c.args.space.now) (4096 * (c.args.guard + 2)) stack = c.in-Ok.ensures.image ∙ ap (grown (image_of c.args.ram.now c.args.space.now) (4096 * (c.args.guard + 2))) c.stack_perm.ensures in
+    let grew : image_of c.grow.new.ram c.grow.new.self ≡ grown (image_of c.args.ram.now c.args.space.now) (4096 * (c.args.guard + 2)) data_rights = c.in-Ok.ensures.image ∙ ap (grown (image_of c.args.ram.now c.args.space.now) (4096 * (c.args.guard + 2))) c.stack_perm.ensures in
     subst (HasPage (image_of c.grow.new.ram c.grow.new.self)) (sym c.new.ensures)
-    (grown-has (image_of c.args.ram.now c.args.space.now) (image_of c.grow.new.ram c.grow.new.self) (4096 * (c.args.guard + 2)) c.args.guard stack grew (omega (arith, c.requires.behind)) (omega arith))
+    (grown-has (image_of c.args.ram.now c.args.space.now) (image_of c.grow.new.ram c.grow.new.self) (4096 * (c.args.guard + 2)) c.args.guard data_rights grew (omega (arith, c.requires.behind)) (omega arith))
 
 pub returns-clause-changed : goal.returns-clause-changed
 returns-clause-changed c =
@@ -25,8 +25,8 @@ pub returns-clause-image : goal.returns-clause-image
 returns-clause-image c =
     let image = image_of c.args.ram.now c.args.space.now in
     let mid = image_of c.grow.new.ram c.grow.new.self in
-    let grew : mid ≡ grown image (4096 * (c.args.guard + 2)) stack = c.in-Ok.ensures.image ∙ ap (grown image (4096 * (c.args.guard + 2))) c.stack_perm.ensures in
-    let there = grown-has image mid (4096 * (c.args.guard + 2)) c.args.guard stack grew (omega (arith, c.requires.behind)) (omega arith) in
+    let grew : mid ≡ grown image (4096 * (c.args.guard + 2)) data_rights = c.in-Ok.ensures.image ∙ ap (grown image (4096 * (c.args.guard + 2))) c.stack_perm.ensures in
+    let there = grown-has image mid (4096 * (c.args.guard + 2)) c.args.guard data_rights grew (omega (arith, c.requires.behind)) (omega arith) in
     stack-is image mid (image_of c.protect.new.ram c.grow.new.self) c.args.guard there.0 grew there.1
     (subst (λ v. image_of c.protect.new.ram c.grow.new.self ≡ with_page mid v (protected there.0)) c.new.ensures
     (c.protect.ensures.image there.0 (subst (λ v. get mid.pages v ≡ Some there.0) (sym c.new.ensures) there.1)))

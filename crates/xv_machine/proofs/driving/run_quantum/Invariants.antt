@@ -1,5 +1,5 @@
 use Rattle.std.proofs.Common.{◌-◌, ◌≤◌, replicate}
-use Rattle.kcall_core.specs.Run as runs
+use Rattle.kernel_spec.specs.runs.Run as runs
 use Rattle.xv_machine.specs.Stretches.{Silent}
 use Rattle.xv_machine.proofs.driving.run_quantum.Given as goal
 

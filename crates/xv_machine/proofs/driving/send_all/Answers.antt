@@ -2,7 +2,7 @@ use Rattle.std.specs.Prelude.{not}
 use Rattle.std.proofs.Common.{ap, ◌-◌, rules, arith, ◌∙◌, Ok, Err}
 use Rattle.std.proofs.lemmas.Result.{err_from_is_err_and}
 use Rattle.xk_base.specs.declared.limits.TheConstants.{SEND_BYTES}
-use Rattle.kcall_core.specs.Run as runs
+use Rattle.kernel_spec.specs.runs.Run as runs
 use Rattle.xv_machine.proofs.Joins.{none-played, played-more, broke-within, event-plays}
 use Rattle.xv_machine.proofs.Idle.{rest-played, one-sent}
 use Rattle.xv_machine.proofs.driving.send_all.Goals as goal

@@ -1,5 +1,5 @@
 use Rattle.std.proofs.Common.{◌≡◌, replicate}
-use Rattle.kcall_core.specs.Run as runs
+use Rattle.kernel_spec.specs.runs.Run as runs
 use Rattle.xv_machine.specs.Stretches.{Played}
 use Rattle.xv_machine.proofs.driving.send_all.Given as goal
 

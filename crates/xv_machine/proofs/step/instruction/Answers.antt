@@ -1,5 +1,5 @@
 use Rattle.std.proofs.Common.{ap, sym}
-use Rattle.kcall_core.specs.Run.{Step_of}
+use Rattle.kernel_spec.specs.runs.Run.{Step_of}
 use Rattle.xv_machine.proofs.OneStep.{next-answer, makes-call}
 use Rattle.xv_machine.proofs.Repeated.{ecall-done, fault-done}
 use Rattle.xv_machine.proofs.step.instruction.Goals as goal

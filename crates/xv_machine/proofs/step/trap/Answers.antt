@@ -1,8 +1,8 @@
 use Rattle.std.proofs.Common.{rules, ap, sym, ◌∙◌, refl, w32, subst}
 use Rattle.std.proofs.lemmas.Int.{to_z-of_z}
 use Rattle.kcall_core.specs.Makes.{Makes, answer_of}
-use Rattle.kcall_core.specs.Own.{Own, Faulted}
-use Rattle.kcall_core.specs.Run.{Step_of}
+use Rattle.kernel_spec.specs.steps.Own.{Own, Faulted}
+use Rattle.kernel_spec.specs.runs.Run.{Step_of}
 use Rattle.kcall_core.proofs.making.Undone.{ecall-now, fault-now}
 use Rattle.xv_machine.proofs.OneStep.{begun-number}
 use Rattle.xv_machine.proofs.step.trap.Goals as goal

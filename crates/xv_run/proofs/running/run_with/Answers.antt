@@ -1,5 +1,5 @@
 use Rattle.std.proofs.Common.{map}
-use Rattle.kcall_core.specs.State.{named_file}
+use Rattle.kernel_spec.specs.views.State.{named_file}
 use Rattle.xv_run.proofs.Statuses.{booted-first, says}
 use Rattle.xv_run.proofs.running.run_with.Goals as goal
 

@@ -36,7 +36,7 @@ story a gigabyte costs the pages that are touched and their tables
 program init
     do a gigabyte more
     li t0, 7; lui s0, 3; sb t0, 0(s0)
-    li a1, -1; lui s1, 0x40000; ld a1, 0(s1)
+    li a1, -1; lui s1, 0x40000; lb a1, 0(s1)
     lui s2, 0x20000; lb a2, 0(s2)
     lui s3, 0x10000; lb a3, 0(s3)
     lui s4, 0x18000; lb a4, 0(s4)

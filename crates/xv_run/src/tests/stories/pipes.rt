@@ -93,6 +93,24 @@ calls
     turn 2, call 2 5 1, exit 2 0
     turn 1, call 1 16 2049, exit 1 0
 
+story 2,048 bytes are in a full pipe
+# The child reads 4,096 bytes while the parent waits to write the last of 2,049, and once more.
+program init
+    do pipe
+    do fork
+    li a0, 1; lui a1, 2; li a2, 2049; li a7, 16; ecall
+    do wait
+    do exit
+    child: li a0, 0; lui a1, 2; lui a2, 1; li a7, 5; ecall
+    li a0, 0; ecall
+    do exit
+calls
+    turn 1, call 1 4 0, call 1 1 2, block 1 16
+    turn 2, call 2 5 2048, block 2 5
+    turn 1, call 1 16 2049, block 1 3
+    turn 2, call 2 5 1, exit 2 0
+    turn 1, call 1 3 2, exit 1 0
+
 story a pipe takes and gives 2,048 bytes at once
 # Each of the first 256 double words of a new page holds its own address. All of them go into the pipe by one
 # write, and come out to the stack's page by one read; the program compares them.

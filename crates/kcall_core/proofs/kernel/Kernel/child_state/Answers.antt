@@ -1,7 +1,7 @@
 use Rattle.std.proofs.Common.{sym, ap, ◌∙◌, subst, refl, cond, Some, None}
 use Rattle.std.specs.Prelude.{IsSome, option_map}
 use Rattle.std.specs.FinMap.{get}
-use Rattle.kcall_core.specs.View.{child_of}
+use Rattle.kernel_spec.specs.views.View.{child_of}
 use Rattle.kcall_core.specs.Kernel.{state_of}
 use Rattle.kcall_core.specs.Observers.{if_live, child_seen}
 use Rattle.proc_table.specs.Processes.{status_of}

@@ -1,7 +1,8 @@
 use Rattle.std.proofs.Common.{refl, sym, ap, ◌∙◌}
 use Rattle.std.specs.FinMap.{get}
 use Rattle.proc_table.specs.Slots.{Slots, each_changed}
-use Rattle.kcall_core.specs.Closings.{closes_wake, woken_by}
+use Rattle.kcall_core.specs.Closings.{woken_by}
+use Rattle.kernel_spec.specs.waking.SleepsOn.{closes_wake}
 use Rattle.kcall_core.specs.Memories.{pipes_of}
 use Rattle.kcall_core.specs.Kernel.{state_of}
 use Rattle.kcall_core.specs.declared.kernel.Kernel.{Kernel}

@@ -1,6 +1,6 @@
 use Rattle.std.proofs.Common.{rules, ◌≡◌, None}
-use Rattle.kcall_core.specs.Words.{word}
-use Rattle.kcall_core.specs.Calls.{with_a0}
+use Rattle.kernel_spec.specs.views.Words.{word}
+use Rattle.kernel_spec.specs.rows.Calls.{with_a0}
 use Rattle.kcall_core.proofs.table.States.{slot-inside}
 use Rattle.kcall_core.proofs.table.Stops.{live-place}
 use Rattle.kcall_core.proofs.table.InCall.{is-in-call, progress-set}

@@ -2,8 +2,8 @@ use Rattle.std.proofs.Common.{pos, sym, ap, ◌∙◌, subst, w32, w64, refl}
 use Rattle.std.proofs.lemmas.Int.{to_z-of_z}
 use Rattle.std.specs.Prelude.{is_none, position}
 use Rattle.file_table.specs.Named.{named_by}
-use Rattle.kcall_core.specs.Words.{c_int, minus_one}
-use Rattle.kcall_core.specs.Own.{Own, Called}
+use Rattle.kernel_spec.specs.views.Words.{c_int, minus_one}
+use Rattle.kernel_spec.specs.steps.Own.{Own, Called}
 use Rattle.kcall_core.specs.Makes.{Makes, view_now, answer_of}
 use Rattle.kcall_core.proofs.table.States.{slot-inside}
 use Rattle.kcall_core.proofs.processes.Exits.{whole-closing}

@@ -4,7 +4,7 @@ use Rattle.std.proofs.lemmas.Int.{to_z-of_z}
 use Rattle.proc_table.specs.Processes.{given, woken, ended}
 use Rattle.proc_table.specs.Slots.{each_changed, changed_at}
 use Rattle.proc_table.specs.declared.channel.Channel.TheVariants as on
-use Rattle.kcall_core.specs.Updates.{gone_state}
+use Rattle.kernel_spec.specs.steps.Updates.{gone_state}
 use Rattle.kcall_core.specs.Kernel.{state_of, slot_now, pid_now, live_now}
 use Rattle.kcall_core.proofs.table.States.{slot-inside}
 use Rattle.kcall_core.proofs.processes.Exits.{whole-closing, no-descriptors, not-own-parent, parent-now, exit-makes}

@@ -1,4 +1,4 @@
-use Rattle.kcall_core.specs.Forks.{IsHanded}
+use Rattle.kcall_core.proofs.processes.HandedDown.{IsHanded}
 use Rattle.kcall_core.proofs.kernel.Kernel.fork.Given as goal
 
 abbrev pub invariant-loop-number : goal.invariant-loop-number

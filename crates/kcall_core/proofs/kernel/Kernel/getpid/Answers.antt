@@ -3,7 +3,7 @@ use Rattle.std.specs.Prelude.{IsSome, pos}
 use Rattle.std.specs.Int.{w64}
 use Rattle.std.proofs.lemmas.Int.{to_z-of_z}
 use Rattle.kcall_core.specs.Kernel.{pid_now}
-use Rattle.kcall_core.specs.View.{view_of}
+use Rattle.kernel_spec.specs.views.View.{view_of}
 use Rattle.kcall_core.proofs.table.States.{slot-inside}
 use Rattle.kcall_core.proofs.table.Stops.{now-slot}
 use Rattle.kcall_core.proofs.turns.Chosen.{pid-told}

@@ -2,9 +2,9 @@ use Rattle.std.proofs.Common.{◌≡◌, ◌+◌, length, refl, sym, ap, ◌∙�
 use Rattle.std.specs.Prelude.{IsSome}
 use Rattle.std.proofs.lemmas.Int.{to_z-of_z}
 use Rattle.xk_base.specs.Image.{price}
-use Rattle.kcall_core.specs.Words.{or_zero}
-use Rattle.kcall_core.specs.RowLaws.{IsLive}
-use Rattle.kcall_core.specs.Updates.{give_frames, end_process, orphans}
+use Rattle.kernel_spec.specs.views.Words.{or_zero}
+use Rattle.kernel_spec.specs.laws.RowLaws.{IsLive}
+use Rattle.kernel_spec.specs.steps.Updates.{give_frames, end_process, orphans}
 use Rattle.kcall_core.specs.Kernel.{state_of, slot_now, pid_now, live_now, IsSound, IsRunning}
 use Rattle.kcall_core.specs.declared.kernel.Kernel.{Kernel}
 use Rattle.proc_table.specs.Processes.{given, ended}
@@ -13,7 +13,7 @@ use Rattle.kcall_core.proofs.table.States.{slot-inside}
 use Rattle.kcall_core.proofs.table.Stops.{now-slot}
 use Rattle.kcall_core.proofs.turns.Chosen.{pid-told}
 use Rattle.kcall_core.proofs.turns.Turned.{live-is}
-use Rattle.kcall_core.proofs.steps.Closed.{gone-closed, keeps-parent}
+use Rattle.kernel_spec.proofs.steps.Closed.{gone-closed, keeps-parent}
 use Rattle.kcall_core.proofs.kernel.Kernel.go_closed.Goals as goal
 
 pub pid-pid-requires-clause-within : goal.pid-pid-requires-clause-within

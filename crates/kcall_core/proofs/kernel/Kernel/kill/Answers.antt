@@ -3,8 +3,8 @@ use Rattle.std.specs.Prelude.{Option, ℕ}
 use Rattle.std.proofs.lemmas.Int.{to_z-of_z}
 use Rattle.proc_table.specs.Processes.{killed}
 use Rattle.proc_table.specs.Slots.{Slots, slot_of, with_mark, changed_at}
-use Rattle.kcall_core.specs.Words.{minus_one}
-use Rattle.kcall_core.specs.Own.{Own}
+use Rattle.kernel_spec.specs.views.Words.{minus_one}
+use Rattle.kernel_spec.specs.steps.Own.{Own}
 use Rattle.kcall_core.specs.Kernel.{IsSound}
 use Rattle.kcall_core.specs.Makes.{Makes, view_now, answer_of}
 use Rattle.kcall_core.proofs.table.Observed.{none-told}

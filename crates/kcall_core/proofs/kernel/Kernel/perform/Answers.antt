@@ -1,13 +1,13 @@
 use Rattle.std.proofs.Common.{rules, Some, sym, ap, ◌∙◌, subst}
 use Rattle.std.specs.Int.{w32}
 use Rattle.std.proofs.lemmas.Int.{to_z-of_z}
-use Rattle.kcall_core.specs.Words.{c_int}
-use Rattle.kcall_core.specs.View.{view_of}
+use Rattle.kernel_spec.specs.views.Words.{c_int}
+use Rattle.kernel_spec.specs.views.View.{view_of}
 use Rattle.kcall_core.specs.Kernel.{state_of}
-use Rattle.kcall_core.specs.Own.{Own, Exited}
+use Rattle.kernel_spec.specs.steps.Own.{Own, Exited}
 use Rattle.kcall_core.specs.Makes.{Makes, view_now, answer_of}
-use Rattle.kcall_core.proofs.rows.Decoding.{is_fork, is_exit, is_wait, is_pipe, is_read, is_kill, is_exec, is_dup, is_getpid, is_sbrk, is_sleep, is_uptime, is_open, is_write, is_close, is_sbrklazy}
-use Rattle.kcall_core.proofs.rows.NoRow.{IsOther, other-row}
+use Rattle.kernel_spec.proofs.rows.Decoding.{is_fork, is_exit, is_wait, is_pipe, is_read, is_kill, is_exec, is_dup, is_getpid, is_sbrk, is_sleep, is_uptime, is_open, is_write, is_close, is_sbrklazy}
+use Rattle.kernel_spec.proofs.rows.NoRow.{IsOther, other-row}
 use Rattle.kcall_core.proofs.kernel.Kernel.perform.Goals as goal
 
 pub returns-in-1-clause-made : goal.returns-in-1-clause-made

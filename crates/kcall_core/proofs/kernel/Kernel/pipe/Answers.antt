@@ -4,8 +4,8 @@ use Rattle.xk_base.specs.Words.{least_below}
 use Rattle.xk_base.specs.declared.limits.TheConstants.{NOFILE}
 use Rattle.file_table.specs.Named.{named_by}
 use Rattle.proc_table.specs.Slots.{descriptors_at}
-use Rattle.kcall_core.specs.Calls.{make_pipe, refused}
-use Rattle.kcall_core.specs.Own.{Own}
+use Rattle.kernel_spec.specs.rows.Calls.{make_pipe, refused}
+use Rattle.kernel_spec.specs.steps.Own.{Own}
 use Rattle.kcall_core.specs.Kernel.{state_of}
 use Rattle.kcall_core.specs.Makes.{Makes, view_now, answer_of}
 use Rattle.kcall_core.specs.declared.kernel.Kernel.{Kernel}

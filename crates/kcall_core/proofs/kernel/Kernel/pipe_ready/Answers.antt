@@ -1,9 +1,9 @@
 use Rattle.std.proofs.Common.{◌≢◌, ◌∙◌, sym, ap, subst, refl, take, arith}
 use Rattle.std.proofs.lemmas.Bool.{ne_eqb}
-use Rattle.kcall_core.specs.Buffers.{writable_now}
+use Rattle.kernel_spec.specs.rows.Buffers.{writable_now}
 use Rattle.kcall_core.specs.Holdings.{held_at, HasMemory}
 use Rattle.kcall_core.specs.Memories.{each_of, free_of}
-use Rattle.kcall_core.specs.View.{view_of}
+use Rattle.kernel_spec.specs.views.View.{view_of}
 use Rattle.kcall_core.specs.Kernel.{state_of}
 use Rattle.kcall_core.specs.Makes.{answer_of}
 use Rattle.kcall_core.proofs.table.States.{slot-inside}

@@ -2,13 +2,13 @@ use Rattle.std.proofs.Common.{pos, sym, ap, ◌∙◌, subst, w32, refl}
 use Rattle.std.proofs.lemmas.Int.{to_z-of_z}
 use Rattle.std.proofs.lemmas.Bool.{ne_eqb}
 use Rattle.file_table.specs.Named.{named_by}
-use Rattle.kcall_core.specs.Words.{c_int}
+use Rattle.kernel_spec.specs.views.Words.{c_int}
 use Rattle.std.specs.FinMap.{get}
-use Rattle.kcall_core.specs.Calls.{read, refused}
-use Rattle.kcall_core.specs.Processes.{Live}
+use Rattle.kernel_spec.specs.rows.Calls.{read, refused}
+use Rattle.kernel_spec.specs.views.Processes.{Live}
 use Rattle.kcall_core.specs.declared.kernel.Kernel.{Kernel}
 use Rattle.kcall_core.proofs.making.Touching.{files-stay}
-use Rattle.kcall_core.specs.Own.{Own}
+use Rattle.kernel_spec.specs.steps.Own.{Own}
 use Rattle.kcall_core.specs.Makes.{Makes, view_now, answer_of}
 use Rattle.kcall_core.proofs.table.States.{slot-inside}
 use Rattle.kcall_core.proofs.processes.Exits.{whole-closing}

@@ -3,12 +3,12 @@ use Rattle.std.specs.Prelude.{slice_get}
 use Rattle.std.proofs.lemmas.Int.{to_z_pos}
 use Rattle.std.proofs.lemmas.List.{take_all}
 use Rattle.xk_base.specs.Bytes.{write_image}
-use Rattle.kcall_core.specs.Buffers.{writable_now}
+use Rattle.kernel_spec.specs.rows.Buffers.{writable_now}
 use Rattle.kcall_core.specs.Holdings.{held_at}
 use Rattle.kcall_core.specs.Memories.{each_of}
-use Rattle.kcall_core.specs.Own.{Called}
-use Rattle.kcall_core.specs.Programs.{program_bytes}
-use Rattle.kcall_core.specs.State.{named_file}
+use Rattle.kernel_spec.specs.steps.Own.{Called}
+use Rattle.kernel_spec.specs.views.Programs.{program_bytes}
+use Rattle.kernel_spec.specs.views.State.{named_file}
 use Rattle.kcall_core.specs.Kernel.{state_of}
 use Rattle.kcall_core.specs.Makes.{answer_of}
 use Rattle.kcall_core.proofs.table.Stops.{now-slot}

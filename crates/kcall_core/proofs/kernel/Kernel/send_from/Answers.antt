@@ -1,6 +1,6 @@
 use Rattle.std.proofs.Common.{arith}
 use Rattle.xk_base.specs.declared.access.Access.TheVariants.{Load}
-use Rattle.kcall_core.proofs.memory.Bringing.{touching-fewer}
+use Rattle.kernel_spec.proofs.memory.Bringing.{touching-fewer}
 use Rattle.kcall_core.specs.Holdings.{held_at}
 use Rattle.kcall_core.specs.Memories.{each_of}
 use Rattle.kcall_core.proofs.kernel.Kernel.send_from.Goals as goal

@@ -2,7 +2,7 @@ use Rattle.std.proofs.Common.{◌≡◌, None, refl, sym, ap, ◌∙◌, subst}
 use Rattle.file_table.specs.declared.open_file.OpenFile.{OpenFile}
 use Rattle.file_table.specs.declared.open_file.Target.{Target}
 use Rattle.file_table.specs.declared.open_file.Target.TheVariants.{Console as Terminal, Program as File, Pipe as Pipe_end}
-use Rattle.kcall_core.specs.Quiet.{pipe_of_target}
+use Rattle.kernel_spec.specs.others.Quiet.{pipe_of_target}
 use Rattle.kcall_core.specs.Sharings.{Joins}
 use Rattle.kcall_core.specs.declared.memories.Memories.{Memories}
 use Rattle.kcall_core.proofs.table.States.{none-some}

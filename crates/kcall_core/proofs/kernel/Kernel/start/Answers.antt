@@ -3,10 +3,10 @@ use Rattle.std.proofs.lemmas.Result.{err_from_is_err_and}
 use Rattle.xk_base.specs.Loaded.{loaded}
 use Rattle.exec_core.specs.declared.planning.Entry.{Entry}
 use Rattle.rv64i_core.specs.Registers.{fresh, put}
-use Rattle.kcall_core.specs.Words.{SP, A0, A1}
-use Rattle.kcall_core.specs.First.{first_regs}
-use Rattle.kcall_core.specs.Programs.{init_name, init_of, program_bytes}
-use Rattle.kcall_core.specs.State.{named_file}
+use Rattle.kernel_spec.specs.views.Words.{SP, A0, A1}
+use Rattle.kernel_spec.specs.runs.First.{first_regs}
+use Rattle.kernel_spec.specs.views.Programs.{init_name, init_of, program_bytes}
+use Rattle.kernel_spec.specs.views.State.{named_file}
 use Rattle.kcall_core.specs.Starts.{start_refusal}
 use Rattle.kcall_core.specs.Memories.{free_of}
 use Rattle.kcall_core.specs.Kernel.{state_of}

@@ -1,8 +1,8 @@
 use Rattle.std.proofs.Common.{◌∙◌, sym, ap, subst}
 use Rattle.proc_table.specs.Reaping.{HasChild, HasNoChild}
-use Rattle.kcall_core.specs.Calls.{wait, refused}
-use Rattle.kcall_core.specs.Own.{Own}
-use Rattle.kcall_core.specs.Processes.{Live}
+use Rattle.kernel_spec.specs.rows.Calls.{wait, refused}
+use Rattle.kernel_spec.specs.steps.Own.{Own}
+use Rattle.kernel_spec.specs.views.Processes.{Live}
 use Rattle.kcall_core.specs.Makes.{Makes, view_now, answer_of}
 use Rattle.kcall_core.specs.Touched.{IsReady, IsUnready}
 use Rattle.kcall_core.specs.declared.kernel.Kernel.{Kernel}

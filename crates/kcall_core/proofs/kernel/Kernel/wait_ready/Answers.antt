@@ -5,11 +5,11 @@ use Rattle.proc_table.specs.Slots.{Slots}
 use Rattle.proc_table.specs.Reaping.{HasChild, HasNoChild, HasNoneEnded, TakesLeast}
 use Rattle.proc_table.specs.declared.channel.Channel.TheVariants as on
 use Rattle.proc_table.specs.declared.process.Call.{Call}
-use Rattle.kcall_core.specs.Words.{minus_one}
-use Rattle.kcall_core.specs.Updates.{told_image}
+use Rattle.kernel_spec.specs.views.Words.{minus_one}
+use Rattle.kernel_spec.specs.steps.Updates.{told_image}
 use Rattle.kcall_core.specs.Kernel.{HasImage, live_now}
 use Rattle.kcall_core.specs.declared.kernel.Kernel.{Kernel}
-use Rattle.kcall_core.specs.Own.{Own, Called}
+use Rattle.kernel_spec.specs.steps.Own.{Own, Called}
 use Rattle.kcall_core.specs.Makes.{Makes, answer_of}
 use Rattle.kcall_core.proofs.table.Stops.{now-slot}
 use Rattle.kcall_core.proofs.turns.Chosen.{noted, pid-told}

@@ -4,8 +4,8 @@ use Rattle.std.proofs.lemmas.Int.{to_z_pos}
 use Rattle.file_table.specs.declared.open_file.End.TheVariants.{Reading}
 use Rattle.proc_table.specs.declared.process.Call.{Call}
 use Rattle.proc_table.specs.declared.channel.Channel.TheVariants as on
-use Rattle.kcall_core.specs.Own.{Own, Called}
-use Rattle.kcall_core.specs.PipeEnds.{count_on, fit}
+use Rattle.kernel_spec.specs.steps.Own.{Own, Called}
+use Rattle.kernel_spec.specs.views.PipeEnds.{count_on, fit}
 use Rattle.kcall_core.specs.Holdings.{pipe_named}
 use Rattle.kcall_core.specs.Memories.{pipes_of}
 use Rattle.kcall_core.specs.Makes.{Makes, answer_of}

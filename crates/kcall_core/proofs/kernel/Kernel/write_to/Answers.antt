@@ -1,5 +1,5 @@
 use Rattle.std.proofs.Common.{sym, ap, ◌∙◌, subst}
-use Rattle.kcall_core.specs.Own.{Own}
+use Rattle.kernel_spec.specs.steps.Own.{Own}
 use Rattle.kcall_core.specs.Makes.{Makes, answer_of}
 use Rattle.kcall_core.proofs.files.MovingRows.{writes-pipe, program-refused}
 use Rattle.kcall_core.proofs.kernel.Kernel.write_to.Goals as goal

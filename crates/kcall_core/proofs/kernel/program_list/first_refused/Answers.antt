@@ -2,8 +2,8 @@ use Rattle.std.proofs.Common.{◌≡◌, ◌∙◌, length, map, sym, subst, Non
 use Rattle.std.proofs.lemmas.List.{length-map}
 use Rattle.xk_base.specs.Words.{least_below}
 use Rattle.xk_base.proofs.Least.{least_below-zero, least_below-next, least_below-found}
-use Rattle.kcall_core.specs.State.{named_file}
-use Rattle.kcall_core.specs.Programs.{is_bad_program, first_bad}
+use Rattle.kernel_spec.specs.views.State.{named_file}
+use Rattle.kernel_spec.specs.views.Programs.{is_bad_program, first_bad}
 use Rattle.kcall_core.proofs.kernel.program_list.first_refused.Goals as goal
 
 pub loop-i-init : goal.loop-i-init

@@ -1,7 +1,7 @@
 use Rattle.std.proofs.Common.{◌≡◌, None, map}
 use Rattle.xk_base.specs.Words.{least_below}
-use Rattle.kcall_core.specs.State.{named_file}
-use Rattle.kcall_core.specs.Programs.{is_bad_program}
+use Rattle.kernel_spec.specs.views.State.{named_file}
+use Rattle.kernel_spec.specs.views.Programs.{is_bad_program}
 use Rattle.kcall_core.proofs.kernel.program_list.first_refused.Given as goal
 
 -- no program so far is refused

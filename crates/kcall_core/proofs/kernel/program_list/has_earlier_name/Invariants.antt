@@ -1,7 +1,7 @@
 use Rattle.std.proofs.Common.{◌≡◌, None, map}
 use Rattle.xk_base.specs.Words.{least_below}
-use Rattle.kcall_core.specs.State.{named_file}
-use Rattle.kcall_core.specs.Programs.{same_name}
+use Rattle.kernel_spec.specs.views.State.{named_file}
+use Rattle.kernel_spec.specs.views.Programs.{same_name}
 use Rattle.kcall_core.proofs.kernel.program_list.has_earlier_name.Given as goal
 
 -- no program so far has the name

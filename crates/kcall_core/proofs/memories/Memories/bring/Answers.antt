@@ -1,14 +1,12 @@
 use Rattle.std.proofs.Common.{◌≤◌, Some, refl, sym, ap, ◌∙◌, subst, arith}
 use Rattle.xk_base.specs.Image.{price}
-use Rattle.xk_base.specs.declared.limits.TheConstants.{SIZE_LIMIT}
 use Rattle.kcall_core.specs.Holdings.{held_at}
 use Rattle.kcall_core.specs.Memories.{each_of, free_of}
-use Rattle.kcall_core.specs.Touches.{pages_at}
+use Rattle.addr_space.specs.Absent.{pages_at}
 use Rattle.kcall_core.proofs.memory.Changes.{there-below, there-some, stands, belongs-of, image-seen, space-changes}
 use Rattle.kcall_core.proofs.memory.Lists.{set-twice}
 use Rattle.kcall_core.proofs.memory.Runs.{runs-on}
-use Rattle.kcall_core.proofs.memory.Written.{size-of, size-seen, touched-seen}
-use Rattle.kcall_core.proofs.rows.Settled.{brought-size}
+use Rattle.kcall_core.proofs.memory.Written.{touched-seen}
 use Rattle.kcall_core.proofs.memories.Memories.bring.Goals as goal
 
 pub index_mut-requires : goal.index_mut-requires
@@ -17,11 +15,8 @@ index_mut-requires c = there-below _ _ c.requires.there
 pub unreachable-requires : goal.unreachable-requires
 unreachable-requires c = there-some _ _ c.index_mut.result.now c.requires.there c.index_mut.ensures.value (sym c.take.ensures.value ∙ c.in_default.is)
 
-pub touch-requires-clause-belongs : goal.touch-requires-clause-belongs
-touch-requires-clause-belongs c = belongs-of (stands c.index_mut.result.now c.in-Some.memory c.requires.sound c.requires.there c.index_mut.ensures.value (sym c.take.ensures.value ∙ c.in-Some.is))
-
-pub touch-requires-clause-limit : goal.touch-requires-clause-limit
-touch-requires-clause-limit c = size-of (stands c.index_mut.result.now c.in-Some.memory c.requires.sound c.requires.there c.index_mut.ensures.value (sym c.take.ensures.value ∙ c.in-Some.is))
+pub touch-requires : goal.touch-requires
+touch-requires c = record { belongs = belongs-of (stands c.index_mut.result.now c.in-Some.memory c.requires.sound c.requires.there c.index_mut.ensures.value (sym c.take.ensures.value ∙ c.in-Some.is)) }
 
 pub unreachable-requires-in_default-touch : goal.unreachable-requires-in_default-touch
 unfolding free_of
@@ -36,7 +31,6 @@ pub returns-clause-touched : goal.returns-clause-touched
 returns-clause-touched c =
     let s = stands c.index_mut.result.now c.in-Some.memory c.requires.sound c.requires.there c.index_mut.ensures.value (sym c.take.ensures.value ∙ c.in-Some.is) in
     space-changes _ c.touch.new.self _ s c.in-Ok.ensures.changed (c.in-Ok.ensures.image ∙ sym (touched-seen s c.args.address c.args.len))
-    (subst (λ n. n ≤ SIZE_LIMIT) (sym (brought-size (pages_at c.args.address c.args.len) (held_at (each_of c.args.self.now) c.args.slot).image)) (size-seen s))
     (set-twice c.args.self.now.each.items c.args.slot c.take.new.self (Some record { space = c.touch.new.self; trapframe = c.in-Some.memory.trapframe })) refl
 
 pub returns-clause-runs : goal.returns-clause-runs

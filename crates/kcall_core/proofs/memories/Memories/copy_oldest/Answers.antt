@@ -1,17 +1,15 @@
 use Rattle.std.proofs.Common.{length, take, refl, sym, ap, ◌∙◌, subst, ◌≤◌, arith}
 use Rattle.xk_base.specs.Image.{Image}
-use Rattle.xk_base.specs.declared.limits.TheConstants.{SIZE_LIMIT}
 use Rattle.xk_base.specs.declared.access.Access.TheVariants.{Store}
 use Rattle.xk_base.specs.Bytes.{write_image}
-use Rattle.xk_base.proofs.Bytes.{size-write_image}
 use Rattle.user_copy.proofs.Ranges.{reached-mapped}
-use Rattle.kcall_core.specs.Buffers.{writable_now}
+use Rattle.kernel_spec.specs.rows.Buffers.{writable_now}
 use Rattle.kcall_core.specs.Memories.{each_of, pipes_of, free_of}
 use Rattle.kcall_core.specs.Holdings.{held_at, pipe_named}
 use Rattle.kcall_core.proofs.memory.Changes.{there-below, there-some, stands, image-seen, belongs-of, space-changes}
 use Rattle.kcall_core.proofs.memory.PipeEdges.{is-pipe}
 use Rattle.kcall_core.proofs.memory.PipeMoves.{pipe-no-page, bytes-named}
-use Rattle.kcall_core.proofs.memory.Written.{whole-of, size-seen, each-stays, free-stays, written-runs}
+use Rattle.kcall_core.proofs.memory.Written.{whole-of, each-stays, free-stays, written-runs}
 use Rattle.kcall_core.proofs.memories.Memories.copy_oldest.Goals as goal
 
 pub index-requires : goal.index-requires
@@ -46,7 +44,7 @@ returns-clause-written c =
     let same = bytes-named c.args.self.now c.number.ensures.range c.requires.sound c.requires.pipe in
     space-changes _ c.in-Some.memory.space (write_image image c.args.address bytes) s (c.copy_from_pipe.ensures.changed c.args.self.now.pool (belongs-of s))
     (c.copy_from_pipe.ensures.image ∙ (λ k. write_image (sym (image-seen s) k) c.args.address (take c.args.count (same k))))
-    (subst (λ n. n ≤ SIZE_LIMIT) (sym (size-write_image bytes image c.args.address)) (size-seen s)) (each-stays s) refl
+    (each-stays s) refl
 
 pub returns-clause-free : goal.returns-clause-free
 unfolding free_of

@@ -1,6 +1,6 @@
 use Rattle.std.proofs.Common.{rules, ◌≡◌, ℕ, List, Some, take, sym, ap, ◌∙◌}
 use Rattle.exec_core.specs.ArgTexts.{push_refusal}
-use Rattle.kcall_core.specs.Buffers.{text_at}
+use Rattle.kernel_spec.specs.rows.Buffers.{text_at}
 use Rattle.kcall_core.specs.Holdings.{held_at}
 use Rattle.kcall_core.specs.Memories.{each_of}
 use Rattle.kcall_core.proofs.memory.Arguments.{text-longer, taken-if, refused-if, same-some}

@@ -1,5 +1,5 @@
 use Rattle.xk_base.specs.declared.limits.TheConstants.{MAXARG, ARG_BYTES}
-use Rattle.kcall_core.specs.Buffers.{texts_at}
+use Rattle.kernel_spec.specs.rows.Buffers.{texts_at}
 use Rattle.kcall_core.specs.Holdings.{held_at}
 use Rattle.kcall_core.specs.Memories.{each_of}
 use Rattle.kcall_core.proofs.memory.Arguments.{Reading}

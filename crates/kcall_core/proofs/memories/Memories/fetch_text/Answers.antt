@@ -3,9 +3,9 @@ use Rattle.xk_base.specs.Image.{Image}
 use Rattle.addr_space.specs.Absent.{whole}
 use Rattle.addr_space.specs.Space.{image_of}
 use Rattle.addr_space.proofs.Touching.{low-pages}
-use Rattle.kcall_core.specs.Buffers.{text_at}
+use Rattle.kernel_spec.specs.rows.Buffers.{text_at}
 use Rattle.kcall_core.proofs.memory.Changes.{there-below, there-some, stands, image-seen}
-use Rattle.kcall_core.proofs.memory.UserBytes.{text-found, text-none, front-bytes}
+use Rattle.kernel_spec.proofs.memory.UserBytes.{text-found, text-none, front-bytes}
 use Rattle.kcall_core.proofs.memory.Written.{ok-both, err-map, whole-of, size-of}
 use Rattle.kcall_core.proofs.memories.Memories.fetch_text.Goals as goal
 

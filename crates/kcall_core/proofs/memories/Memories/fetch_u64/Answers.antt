@@ -1,11 +1,11 @@
-use Rattle.std.proofs.Common.{true, arith, ap, ◌∙◌}
+use Rattle.std.proofs.Common.{arith, ap, ◌∙◌}
 use Rattle.xk_base.specs.Image.{Image}
 use Rattle.addr_space.specs.Absent.{whole}
 use Rattle.addr_space.specs.Space.{image_of}
-use Rattle.addr_space.proofs.Touching.{low-pages, touched-low}
-use Rattle.kcall_core.specs.Buffers.{pointer_at}
+use Rattle.addr_space.proofs.Touching.{low-pages, whole-low}
+use Rattle.kernel_spec.specs.rows.Buffers.{pointer_at}
 use Rattle.kcall_core.proofs.memory.Changes.{there-below, there-some, stands, image-seen}
-use Rattle.kcall_core.proofs.memory.UserBytes.{pointer-there, pointer-none, low-read}
+use Rattle.kernel_spec.proofs.memory.UserBytes.{pointer-there, pointer-none, low-read}
 use Rattle.kcall_core.proofs.memory.Written.{ok-map, ok-both, err-map, whole-of, size-of}
 use Rattle.kcall_core.proofs.memories.Memories.fetch_u64.Goals as goal
 
@@ -29,4 +29,4 @@ returns-clause-refused c =
     err-map c.fetch_u64_lazily.result c.fetch_u64_lazily.ensures.refused (λ e bad. ap (λ (i : Image). pointer_at i c.args.address) (image-seen s) ∙ pointer-none (image_of c.args.self.now.ram c.in-Some.memory.space) (low-pages c.args.self.now.ram c.in-Some.memory.space) (size-of s) c.args.address bad)
 
 pub returns-clause-low : goal.returns-clause-low
-returns-clause-low c = ok-map c.fetch_u64_lazily.result c.fetch_u64_lazily.ensures.fine (λ n fine. low-read (whole (image_of c.args.self.now.ram c.in-Some.memory.space)) c.args.address 8 (touched-low (λ v. true) (image_of c.args.self.now.ram c.in-Some.memory.space)) (omega arith) fine)
+returns-clause-low c = ok-map c.fetch_u64_lazily.result c.fetch_u64_lazily.ensures.fine (λ n fine. low-read (whole (image_of c.args.self.now.ram c.in-Some.memory.space)) c.args.address 8 (whole-low (image_of c.args.self.now.ram c.in-Some.memory.space) (low-pages c.args.self.now.ram c.in-Some.memory.space)) (omega arith) fine)

@@ -1,7 +1,6 @@
 use Rattle.std.proofs.Common.{◌≤◌, [], ◌∷◌, length, refl, sym, ap, ◌∙◌, subst, arith}
 use Rattle.xk_base.specs.Frames.{copies}
 use Rattle.xk_base.specs.Image.{Image, price}
-use Rattle.xk_base.specs.declared.limits.TheConstants.{SIZE_LIMIT}
 use Rattle.frame_list.specs.Pool.{free_in}
 use Rattle.frame_list.specs.Traded.{Traded}
 use Rattle.frame_list.proofs.Trades.{trade-join}
@@ -49,4 +48,4 @@ index_mut-requires c = vacant-below _ _ c.requires.vacant
 pub returns-clause-copied : goal.returns-clause-copied
 returns-clause-copied c =
     let s = stands c.index.result.now c.in-Some-index.memory c.requires.sound c.requires.there c.index.ensures c.in-Some-index.is in
-    born _ c.in-Some.trapframe c.in-Ok.space _ c.requires.sound c.requires.vacant c.in-Some.ensures.taken c.in-Ok.ensures.made (c.in-Ok.ensures.image ∙ beside-image s c.in-Some.ensures.taken ∙ sym (image-seen s)) (subst (λ (n : Image). n.size ≤ SIZE_LIMIT) (sym (image-seen s)) (c.requires.sound.memories c.args.from c.in-Some-index.memory s.is).size) refl refl
+    born _ c.in-Some.trapframe c.in-Ok.space _ c.requires.sound c.requires.vacant c.in-Some.ensures.taken c.in-Ok.ensures.made (c.in-Ok.ensures.image ∙ beside-image s c.in-Some.ensures.taken ∙ sym (image-seen s)) refl refl

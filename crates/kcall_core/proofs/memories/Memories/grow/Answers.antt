@@ -32,7 +32,7 @@ pub returns-clause-grown : goal.returns-clause-grown
 returns-clause-grown c =
     let s = stands c.index_mut.result.now c.in-Some.memory c.requires.sound c.requires.there c.index_mut.ensures.value (sym c.take.ensures.value ∙ c.in-Some.is) in
     done-both c.grow-answer.result c.grow-answer.ensures.changed c.grow-answer.ensures.image (λ changed image.
-    space-changes _ c.grow-answer.new.self _ s changed (image ∙ ap (λ i. grown i c.args.size c.args.perm) (sym (image-seen s))) c.requires.limit
+    space-changes _ c.grow-answer.new.self _ s changed (image ∙ ap (λ i. grown i c.args.size c.args.perm) (sym (image-seen s)))
     (set-twice c.args.self.now.each.items c.args.slot c.take.new.self (Some record { space = c.grow-answer.new.self; trapframe = c.in-Some.memory.trapframe })) refl)
 
 pub returns-clause-refused : goal.returns-clause-refused

@@ -4,7 +4,7 @@ use Rattle.addr_space.specs.Absent.{is_absent}
 use Rattle.addr_space.specs.Space.{image_of}
 use Rattle.kcall_core.specs.Holdings.{held_at}
 use Rattle.kcall_core.specs.Memories.{each_of}
-use Rattle.kcall_core.proofs.memory.Bringing.{high-present}
+use Rattle.kernel_spec.proofs.memory.Bringing.{high-present}
 use Rattle.kcall_core.proofs.memory.Changes.{there-below, there-some, stands, image-seen}
 use Rattle.kcall_core.proofs.memory.Written.{whole-of, size-seen}
 use Rattle.kcall_core.proofs.memories.Memories.is_absent.Goals as goal

@@ -22,7 +22,7 @@ index_mut-requires c = vacant-below _ _ c.requires.vacant
 
 pub returns-clause-loaded : goal.returns-clause-loaded
 returns-clause-loaded c =
-    born _ c.in-Some.trapframe c.in-Ok.space _ c.requires.sound c.requires.vacant c.in-Some.ensures.taken c.in-Ok.ensures.made c.in-Ok.ensures.image c.in-Ok.ensures.limit refl refl
+    born _ c.in-Some.trapframe c.in-Ok.space _ c.requires.sound c.requires.vacant c.in-Some.ensures.taken c.in-Ok.ensures.made c.in-Ok.ensures.image refl refl
 
 pub returns-clause-fits : goal.returns-clause-fits
 unfolding free_of

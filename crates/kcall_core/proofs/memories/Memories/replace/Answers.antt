@@ -31,7 +31,7 @@ index_mut-requires-2 c = there-below _ _ c.requires.there
 pub returns-clause-replaced : goal.returns-clause-replaced
 returns-clause-replaced c =
     let s = stands c.index_mut.result.now c.in-Some.memory c.requires.sound c.requires.there c.index_mut.ensures.value (sym c.take.ensures.value ∙ c.in-Some.is) in
-    space-replaced s c.in-Ok.ensures.made c.drop_all.ensures.traded _ _ c.in-Ok.ensures.image c.in-Ok.ensures.limit refl refl
+    space-replaced s c.in-Ok.ensures.made c.drop_all.ensures.traded _ _ c.in-Ok.ensures.image refl refl
     (set-twice c.args.self.now.each.items c.args.slot c.take.new.self (Some record { space = c.in-Ok.new; trapframe = c.in-Some.memory.trapframe })) refl
 
 pub returns-clause-fits : goal.returns-clause-fits

@@ -34,7 +34,7 @@ index_mut-requires-2 c = there-below _ _ c.requires.there
 pub returns-clause-shrunk : goal.returns-clause-shrunk
 returns-clause-shrunk c =
     let s = stands c.index_mut.result.now c.in-Some.memory c.requires.sound c.requires.there c.index_mut.ensures.value (sym c.take.ensures.value ∙ c.in-Some.is) in
-    space-changes _ c.shrink.new.self _ s c.shrink.ensures.changed (c.shrink.ensures.image ∙ ap (λ i. shrunk i c.args.size) (sym (image-seen s))) c.requires.limit
+    space-changes _ c.shrink.new.self _ s c.shrink.ensures.changed (c.shrink.ensures.image ∙ ap (λ i. shrunk i c.args.size) (sym (image-seen s)))
     (set-twice c.args.self.now.each.items c.args.slot c.take.new.self (Some record { space = c.shrink.new.self; trapframe = c.in-Some.memory.trapframe })) refl
 
 -- the hart runs the memory that stands in the slot

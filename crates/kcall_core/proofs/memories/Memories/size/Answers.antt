@@ -17,4 +17,4 @@ returns-clause-value c =
 pub returns-clause-range : goal.returns-clause-range
 returns-clause-range c =
     let s = stands c.index.result.now c.in-Some.memory c.requires.sound c.requires.there c.index.ensures c.in-Some.is in
-    omega (arith, c.size.ensures, (c.requires.sound.memories c.args.slot c.in-Some.memory s.is).size)
+    omega (arith, c.size.ensures, (c.requires.sound.memories c.args.slot c.in-Some.memory s.is).space.size)

@@ -2,7 +2,7 @@ use Rattle.std.proofs.Common.{refl, ap, arith}
 use Rattle.xk_base.specs.Image.{price}
 use Rattle.kcall_core.specs.Memories.{free_of}
 use Rattle.kcall_core.proofs.memory.Changes.{there-below, there-some, stands, image-seen}
-use Rattle.kcall_core.proofs.memory.Written.{whole-of, size-of, touched-seen}
+use Rattle.kcall_core.proofs.memory.Written.{whole-of, touched-seen}
 use Rattle.kcall_core.proofs.memories.Memories.touch.Goals as goal
 
 pub index-requires : goal.index-requires
@@ -11,11 +11,8 @@ index-requires c = there-below _ _ c.requires.there
 pub unreachable-requires : goal.unreachable-requires
 unreachable-requires c = there-some _ _ c.index.result.now c.requires.there c.index.ensures c.in_default.is
 
-pub touch_price-price-requires-clause-whole : goal.touch_price-price-requires-clause-whole
-touch_price-price-requires-clause-whole c = whole-of (stands c.index.result.now c.in-Some.memory c.requires.sound c.requires.there c.index.ensures c.in-Some.is)
-
-pub touch_price-price-requires-clause-limit : goal.touch_price-price-requires-clause-limit
-touch_price-price-requires-clause-limit c = size-of (stands c.index.result.now c.in-Some.memory c.requires.sound c.requires.there c.index.ensures c.in-Some.is)
+pub touch_price-price-requires : goal.touch_price-price-requires
+touch_price-price-requires c = record { whole = whole-of (stands c.index.result.now c.in-Some.memory c.requires.sound c.requires.there c.index.ensures c.in-Some.is) }
 
 pub returns-then-from-clause-refused : goal.returns-then-from-clause-refused
 unfolding free_of

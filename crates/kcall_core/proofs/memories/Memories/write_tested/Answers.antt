@@ -1,15 +1,13 @@
 use Rattle.std.proofs.Common.{sym, ap, ◌∙◌, refl, length, subst, ◌≤◌}
 use Rattle.xk_base.specs.Image.{Image}
-use Rattle.xk_base.specs.declared.limits.TheConstants.{SIZE_LIMIT}
 use Rattle.xk_base.specs.declared.access.Access.TheVariants.{Store}
 use Rattle.xk_base.specs.Bytes.{write_image}
-use Rattle.xk_base.proofs.Bytes.{size-write_image}
 use Rattle.user_copy.proofs.Ranges.{reached-mapped}
-use Rattle.kcall_core.specs.Buffers.{writable_now}
+use Rattle.kernel_spec.specs.rows.Buffers.{writable_now}
 use Rattle.kcall_core.specs.Memories.{each_of, free_of}
 use Rattle.kcall_core.specs.Holdings.{held_at}
 use Rattle.kcall_core.proofs.memory.Changes.{there-below, there-some, stands, image-seen, belongs-of, space-changes}
-use Rattle.kcall_core.proofs.memory.Written.{whole-of, size-seen, each-stays, free-stays, written-runs}
+use Rattle.kcall_core.proofs.memory.Written.{whole-of, each-stays, free-stays, written-runs}
 use Rattle.kcall_core.proofs.memories.Memories.write_tested.Goals as goal
 
 pub index-requires : goal.index-requires
@@ -30,7 +28,7 @@ pub returns-clause-written : goal.returns-clause-written
 returns-clause-written c =
     let s = stands c.index.result.now c.in-Some.memory c.requires.sound c.requires.there c.index.ensures c.in-Some.is in
     space-changes _ c.in-Some.memory.space _ s (c.write_across.ensures.changed c.args.self.now.pool (belongs-of s)) (c.write_across.ensures.image ∙ ap (λ (i : Image). write_image i c.args.address c.args.bytes.now) (sym (image-seen s)))
-    (subst (λ n. n ≤ SIZE_LIMIT) (sym (size-write_image c.args.bytes.now (held_at (each_of c.args.self.now) c.args.slot).image c.args.address)) (size-seen s)) (each-stays s) refl
+    (each-stays s) refl
 
 pub returns-clause-free : goal.returns-clause-free
 unfolding free_of

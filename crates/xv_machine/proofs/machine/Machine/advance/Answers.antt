@@ -2,7 +2,7 @@ use Rattle.std.proofs.Common.{sym, ◌∙◌, subst, None, Some, Option}
 use Rattle.std.specs.Prelude.{ℤ}
 use Rattle.kcall_core.specs.Machine.{turns_of, world_of}
 use Rattle.kcall_core.specs.Kernel.{state_of}
-use Rattle.kcall_core.specs.Wakes.{IsPromised}
+use Rattle.kernel_spec.specs.waking.Wakes.{IsPromised}
 use Rattle.xv_machine.specs.declared.event.Outcome.{Outcome}
 use Rattle.xv_machine.specs.Sound.{IsHalted}
 use Rattle.xv_machine.specs.Steps.{Advanced, runs_made}

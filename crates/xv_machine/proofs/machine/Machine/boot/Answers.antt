@@ -1,8 +1,8 @@
 use Rattle.std.proofs.Common.{ap, sym, ◌∙◌, refl, subst, map, Err}
 use Rattle.std.specs.Prelude.{is_some}
 use Rattle.xk_base.specs.declared.errors.BootError.TheVariants.{BadConfig}
-use Rattle.kcall_core.specs.State.{named_file}
-use Rattle.kcall_core.specs.Programs.{first_bad, init_of}
+use Rattle.kernel_spec.specs.views.State.{named_file}
+use Rattle.kernel_spec.specs.views.Programs.{first_bad, init_of}
 use Rattle.xv_machine.specs.Boots.{Boots, without_init}
 use Rattle.xv_machine.proofs.Starts.{first-bad, programs-same, boots-kernel, boots-no_kernel, boots-without_init}
 use Rattle.xv_machine.proofs.machine.Machine.boot.Goals as goal

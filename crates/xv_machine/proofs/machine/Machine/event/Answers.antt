@@ -1,5 +1,5 @@
 use Rattle.std.proofs.Common.{rules, subst, sym}
-use Rattle.kcall_core.specs.Wakes.{Promised}
+use Rattle.kernel_spec.specs.waking.Wakes.{Promised}
 use Rattle.xv_machine.specs.declared.event.Outcome.{Outcome}
 use Rattle.xv_machine.specs.Events.{event_of, outcome_of}
 use Rattle.xv_machine.specs.Meaning.{Meaning}

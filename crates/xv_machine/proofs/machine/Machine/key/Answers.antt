@@ -1,6 +1,6 @@
 use Rattle.std.proofs.Common.{ap, sym, ◌∙◌, None}
-use Rattle.kcall_core.specs.State.{State}
-use Rattle.kcall_core.specs.Run as runs
+use Rattle.kernel_spec.specs.views.State.{State}
+use Rattle.kernel_spec.specs.runs.Run as runs
 use Rattle.xv_machine.proofs.Runs.{nothing-kept, now-frames, now-promised, key-over, count-is, run-key, lives-on-by}
 use Rattle.xv_machine.proofs.machine.Machine.key.Goals as goal
 

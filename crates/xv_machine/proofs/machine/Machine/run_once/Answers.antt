@@ -1,7 +1,7 @@
 use Rattle.std.proofs.Common.{sym, ◌∙◌, None, subst}
-use Rattle.kcall_core.specs.Run as runs
+use Rattle.kernel_spec.specs.runs.Run as runs
 use Rattle.kcall_core.specs.Machine.{world_of}
-use Rattle.kcall_core.specs.Wakes.{Promised}
+use Rattle.kernel_spec.specs.waking.Wakes.{Promised}
 use Rattle.xv_machine.specs.declared.event.Outcome.{Outcome}
 use Rattle.xv_machine.specs.Events.{outcome_of, halted_by}
 use Rattle.xv_machine.proofs.Runs.{current-pid, not-halted, count-is, now-frames, now-promised, run-step, run-ends, stepped-keeps}

@@ -1,6 +1,6 @@
 use Rattle.std.proofs.Common.{ap, ◌∙◌, subst, ◌∷◌, [], ◌++◌, None, Some, Option}
 use Rattle.circular_buffer.specs.Buffer.{keep_last}
-use Rattle.kcall_core.specs.Wakes.{IsPromised}
+use Rattle.kernel_spec.specs.waking.Wakes.{IsPromised}
 use Rattle.xv_machine.specs.declared.event.Outcome.{Outcome}
 use Rattle.xv_machine.specs.declared.trace.Note.{Note}
 use Rattle.xv_machine.specs.Events.{outcome_of}

@@ -1,5 +1,5 @@
 use Rattle.std.proofs.Common.{ap, ◌∙◌, length, map, None}
-use Rattle.kcall_core.specs.State.{named_file}
+use Rattle.kernel_spec.specs.views.State.{named_file}
 use Rattle.kcall_core.specs.Kernel.{state_of}
 use Rattle.kcall_core.specs.Machine.{world_of}
 use Rattle.hart_core.specs.declared.hart.Hart.{Hart}

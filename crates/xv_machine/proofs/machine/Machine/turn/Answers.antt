@@ -1,6 +1,6 @@
 use Rattle.std.proofs.Common.{sym, ◌∙◌, None}
-use Rattle.kcall_core.specs.Run as runs
-use Rattle.kcall_core.specs.Run.{World}
+use Rattle.kernel_spec.specs.runs.Run as runs
+use Rattle.kernel_spec.specs.runs.Run.{World}
 use Rattle.xv_machine.proofs.Runs.{nothing-kept, now-stopped, now-frames, now-promised, now-over, count-is, run-turn, run-idle}
 use Rattle.xv_machine.proofs.machine.Machine.turn.Goals as goal
 

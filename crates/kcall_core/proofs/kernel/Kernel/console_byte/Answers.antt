@@ -1,0 +1,6 @@
+use Rattle.kcall_core.specs.Kernel.{state_of}
+use Rattle.kcall_core.proofs.kernel.Kernel.console_byte.Goals as goal
+
+pub returns : goal.returns
+unfolding state_of
+returns c = λ hart. c.byte_of.ensures

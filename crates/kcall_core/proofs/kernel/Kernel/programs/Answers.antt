@@ -1,0 +1,7 @@
+use Rattle.std.proofs.Common.{rules}
+use Rattle.kcall_core.specs.Kernel.{state_of}
+use Rattle.kcall_core.proofs.kernel.Kernel.programs.Goals as goal
+
+pub returns : goal.returns
+unfolding state_of
+returns c = λ hart. search rules

@@ -1,0 +1,8 @@
+pub mod worked
+pub mod rows
+pub mod steps
+pub mod well
+pub mod waking
+pub mod turns
+pub mod runs
+pub mod memory

@@ -1,0 +1,177 @@
+-- Which case of its row a call comes to, by its number and arguments.
+use Rattle.std.proofs.Common.{◌≡◌, ℕ, ◌<◌, Bool, true, false, not, ◌&&◌, ◌||◌, List, refl, ap, ◌∙◌}
+use Rattle.std.specs.Prelude.{Option, None, Some, ℤ, pos, IsSome, is_none, option_map, nat_eq, nat_lt}
+use Rattle.std.specs.FinMap.{get}
+use Rattle.xk_base.specs.declared.limits.TheConstants.{NOFILE, MAXPATH, MAXARG, ARG_BYTES}
+use Rattle.kernel_spec.specs.views.State.{ProgramFile, State, live_part}
+use Rattle.xk_base.specs.Words.{least_below}
+use Rattle.xk_base.specs.Loaded.{loaded}
+use Rattle.file_table.specs.declared.open_file.OpenFile.{OpenFile}
+use Rattle.proc_table.specs.declared.process.Call.{Call}
+use Rattle.kernel_spec.specs.views.Words.{c_int}
+use Rattle.kernel_spec.specs.rows.Buffers.{readable, writable, writable_now, text_at, texts_at, no_slashes}
+use Rattle.kernel_spec.specs.views.Programs.{program_named}
+use Rattle.kernel_spec.specs.views.Processes.{Alive, Live}
+use Rattle.kernel_spec.specs.views.View.{View, Descriptor, view_of, numbered, rename, descriptor_at, descriptor_on, in_use}
+use Rattle.kernel_spec.specs.steps.Own.{Own}
+use Rattle.kernel_spec.specs.rows.Tables.{lowest_free, lowest_free_above}
+use Rattle.kernel_spec.specs.rows.Calls.{row_of, perform, refused, fork, wait, make_pipe, read, kill, exec, dup, getpid, sbrk, sbrklazy, sleep, uptime, open_file, write, close, Row, row, exit}
+use Rattle.kernel_spec.specs.others.Quiet.{file_of}
+use Rattle.kernel_spec.specs.views.WellFormed.{WellFormed}
+use Rattle.kernel_spec.proofs.steps.Least.{least_congr}
+use Rattle.kernel_spec.proofs.steps.Names.{named_at}
+use Rattle.kernel_spec.proofs.rows.RowParts.{piped, piped_from, read_on, read_from, kill_pid, killed_by, exec_path, exec_program, exec_loaded, dup_number, dup_on, dup_at, open_path, open_at, opened_as, kind_named, write_on, write_to, close_number, close_on, close_at, unless, unless_nothing, moving, length_of_int}
+use Rattle.kernel_spec.specs.rows.Lines.{◌>>=◌, ◌or◌}
+use Rattle.kernel_spec.proofs.rows.Settled.{there-ready, now-writable, counted-settled}
+use Rattle.kernel_spec.proofs.rows.RowsByParts.{dup_same, close_same, read_same, write_same, open_same, pipe_same, kill_same, exec_same}
+
+-- ---- which row
+
+module _ (c : Call) (v : View) where
+  by_number : (number : ℤ) → c.number ≡ number → perform c v ≡ ((row_of number or refused c v) >>= (λ r. row r c v))
+  unfolding perform
+  by_number number is = ap (λ (z : ℤ). (row_of z or refused c v) >>= (λ r. row r c v)) is
+
+  pub is_fork : c.number ≡ pos 1 → perform c v ≡ fork c v
+  unfolding row row_of ◌>>=◌ ◌or◌
+  is_fork is = by_number (pos 1) is
+
+  pub is_exit : c.number ≡ pos 2 → perform c v ≡ exit c v
+  unfolding row row_of ◌>>=◌ ◌or◌
+  is_exit is = by_number (pos 2) is
+
+  pub is_wait : c.number ≡ pos 3 → perform c v ≡ wait c v
+  unfolding row row_of ◌>>=◌ ◌or◌
+  is_wait is = by_number (pos 3) is
+
+  pub is_pipe : c.number ≡ pos 4 → perform c v ≡ make_pipe c v
+  unfolding row row_of ◌>>=◌ ◌or◌
+  is_pipe is = by_number (pos 4) is
+
+  pub is_read : c.number ≡ pos 5 → perform c v ≡ read c v
+  unfolding row row_of ◌>>=◌ ◌or◌
+  is_read is = by_number (pos 5) is
+
+  pub is_kill : c.number ≡ pos 6 → perform c v ≡ kill c v
+  unfolding row row_of ◌>>=◌ ◌or◌
+  is_kill is = by_number (pos 6) is
+
+  pub is_exec : c.number ≡ pos 7 → perform c v ≡ exec c v
+  unfolding row row_of ◌>>=◌ ◌or◌
+  is_exec is = by_number (pos 7) is
+
+  pub is_dup : c.number ≡ pos 10 → perform c v ≡ dup c v
+  unfolding row row_of ◌>>=◌ ◌or◌
+  is_dup is = by_number (pos 10) is
+
+  pub is_getpid : c.number ≡ pos 11 → perform c v ≡ getpid c v
+  unfolding row row_of ◌>>=◌ ◌or◌
+  is_getpid is = by_number (pos 11) is
+
+  pub is_sbrk : c.number ≡ pos 12 → perform c v ≡ sbrk c v
+  unfolding row row_of ◌>>=◌ ◌or◌
+  is_sbrk is = by_number (pos 12) is
+
+  pub is_sleep : c.number ≡ pos 13 → perform c v ≡ sleep c v
+  unfolding row row_of ◌>>=◌ ◌or◌
+  is_sleep is = by_number (pos 13) is
+
+  pub is_uptime : c.number ≡ pos 14 → perform c v ≡ uptime c v
+  unfolding row row_of ◌>>=◌ ◌or◌
+  is_uptime is = by_number (pos 14) is
+
+  pub is_open : c.number ≡ pos 15 → perform c v ≡ open_file c v
+  unfolding row row_of ◌>>=◌ ◌or◌
+  is_open is = by_number (pos 15) is
+
+  pub is_write : c.number ≡ pos 16 → perform c v ≡ write c v
+  unfolding row row_of ◌>>=◌ ◌or◌
+  is_write is = by_number (pos 16) is
+
+  pub is_close : c.number ≡ pos 21 → perform c v ≡ close c v
+  unfolding row row_of ◌>>=◌ ◌or◌
+  is_close is = by_number (pos 21) is
+
+  pub is_sbrklazy : c.number ≡ pos 22 → perform c v ≡ sbrklazy c v
+  unfolding row row_of ◌>>=◌ ◌or◌
+  is_sbrklazy is = by_number (pos 22) is
+
+  pub is_none_of_them : row_of c.number ≡ None → perform c v ≡ refused c v
+  unfolding perform ◌>>=◌ ◌or◌
+  is_none_of_them none = ap (λ (o : Option Row). (o or refused c v) >>= (λ r. row r c v)) none
+
+  -- ---- which case
+
+  module _ (d : Descriptor) (fd : ℕ) (n : ℕ) (is_fd : c_int c.a0 ≡ pos fd) (used : v.descriptors fd ≡ Some d) where
+    pub dup_case : dup c v ≡ dup_at c v fd d (lowest_free v.descriptors)
+    dup_case = dup_same c v ∙ ap (dup_number c v) is_fd ∙ ap (dup_on c v fd) used
+
+    pub close_case : close c v ≡ close_at c v fd d
+    close_case = close_same c v ∙ ap (close_number c v) is_fd ∙ ap (close_on c v fd) used
+
+    found : in_use v (c_int c.a0) ≡ Some d
+    found = ap (in_use v) is_fd ∙ used
+
+    module _ (count : c_int c.a2 ≡ pos n) (some : nat_eq n 0 ≡ false) where
+      by_count : (room : ℕ → Bool) (go : ℕ → Own) → room n ≡ true → moving c v (room (length_of_int (c_int c.a2))) (c_int c.a2) go ≡ go n
+      by_count room go there =
+          ap (λ (z : ℤ). moving c v (room (length_of_int z)) z go) count
+          ∙ ap (λ (b : Bool). unless_nothing b c v (λ _. unless (not (room n)) c v (λ _. go n))) some
+          ∙ ap (λ (b : Bool). unless (not b) c v (λ _. go n)) there
+
+      pub read_case : d.read ≡ true → writable_now v.image c.a1 n ≡ true → read c v ≡ read_from c v n d.file d.shown
+      read_case reads there =
+          read_same c v (counted-settled v.image c.a1 n (c_int c.a2) count there) ∙ ap (read_on c v) found
+          ∙ ap (λ (b : Bool). unless (not b) c v (λ _. moving c v (writable v.image c.a1 (length_of_int (c_int c.a2))) (c_int c.a2) (λ m. read_from c v m d.file d.shown))) reads
+          ∙ by_count (writable v.image c.a1) (λ m. read_from c v m d.file d.shown) (now-writable v.image c.a1 n there)
+
+      pub write_case : d.write ≡ true → readable v.image c.a1 n ≡ true → write c v ≡ write_to c v n d.shown
+      write_case writes there =
+          write_same c v ∙ ap (write_on c v) found
+          ∙ ap (λ (b : Bool). unless (not b) c v (λ _. moving c v (readable v.image c.a1 (length_of_int (c_int c.a2))) (c_int c.a2) (λ m. write_to c v m d.shown))) writes
+          ∙ by_count (readable v.image c.a1) (λ m. write_to c v m d.shown) there
+
+  pub open_case : (path : List ℕ) → text_at MAXPATH v.image c.a0 ≡ Some path → open_file c v ≡ open_at c v (lowest_free v.descriptors) (opened_as (kind_named (no_slashes path) v) (c_int c.a1))
+  open_case path is = open_same c v ∙ ap (open_path c v) is
+
+  pub pipe_case : (r : ℕ) → writable_now v.image c.a0 8 ≡ true → nat_eq v.free 0 ≡ false → lowest_free v.descriptors ≡ Some r → make_pipe c v ≡ piped c v r (lowest_free_above v.descriptors r)
+  pipe_case r there frame least =
+      let ready = there-ready v.image c.a0 8 there in
+      let room : (not (writable v.image c.a0 8) || nat_eq v.free 0) ≡ false = ap (λ b. not b || nat_eq v.free 0) ready.0 ∙ frame in
+      pipe_same c v ready.1 ∙ ap (λ (b : Bool). unless b c v (λ _. piped_from c v (lowest_free v.descriptors))) room ∙ ap (piped_from c v) least
+
+  pub kill_case : (q : ℕ) → c_int c.a0 ≡ pos q → nat_eq q 0 ≡ false → kill c v ≡ killed_by c v q
+  kill_case q is some = kill_same c v ∙ ap (kill_pid c v) is ∙ ap (λ (b : Bool). unless b c v (λ _. killed_by c v q)) some
+
+  pub exec_case : (path : List ℕ) (texts : List (List ℕ)) (program : ProgramFile) → text_at MAXPATH v.image c.a0 ≡ Some path → texts_at MAXARG ARG_BYTES v.image c.a1 ≡ Some texts
+      → program_named (no_slashes path) v.programs ≡ Some program → exec c v ≡ exec_loaded c v (loaded program.bytes texts)
+  exec_case path texts program is args named_so =
+      exec_same c v ∙ ap (exec_path c v) is
+      ∙ ap (λ (t : Option (List (List ℕ))). exec_program c v t (program_named (no_slashes path) v.programs)) args
+      ∙ ap (exec_program c v (Some texts)) named_so
+
+-- ---- what a view shows of descriptors that are free and in use
+
+module _ (frames : ℕ) (s : State) (well : WellFormed frames s) (p : ℕ) (l : Live) (was : get s.processes p ≡ Some (Alive l)) where
+  none_map : {A B : Type 0} (f : A → B) (o : Option A) → is_none (option_map f o) ≡ is_none o
+  none_map f None = refl
+  none_map f (Some x) = refl
+
+  none_on : (g : ℕ) (o : Option OpenFile) → IsSome o → is_none (descriptor_on s g o) ≡ false
+  none_on g None h = let no : ⊥ = cc in absurd no
+  none_on g (Some x) h = refl
+
+  none_at : (d : ℕ) (o : Option ℕ) → get l.descriptors d ≡ o → is_none (descriptor_at s o) ≡ is_none o
+  none_at d None e = refl
+  none_at d (Some g) e = none_on g (get s.files g) (well.descriptors p d g (ap (λ (x : Option Live). file_of x d) (ap live_part was) ∙ e)).1
+
+  -- a descriptor is free in the view exactly where it is free
+  pub free_shown : (d : ℕ) → d < NOFILE → is_none ((view_of s p l).descriptors d) ≡ is_none (get l.descriptors d)
+  unfolding view_of
+  free_shown d below = ap is_none (named_at (numbered s l) d below) ∙ none_map (rename (numbered s l)) (numbered s l d) ∙ none_at d (get l.descriptors d) refl
+
+  pub lowest_free_is : lowest_free (view_of s p l).descriptors ≡ least_below (λ d. is_none (get l.descriptors d)) NOFILE
+  lowest_free_is = least_congr NOFILE (λ d. is_none ((view_of s p l).descriptors d)) (λ d. is_none (get l.descriptors d)) free_shown
+
+  pub lowest_free_above_is : (low : ℕ) → lowest_free_above (view_of s p l).descriptors low ≡ least_below (λ d. nat_lt low d && is_none (get l.descriptors d)) NOFILE
+  lowest_free_above_is low = least_congr NOFILE (λ d. nat_lt low d && is_none ((view_of s p l).descriptors d)) (λ d. nat_lt low d && is_none (get l.descriptors d)) (λ d below. ap (λ (b : Bool). nat_lt low d && b) (free_shown d below))

@@ -1,0 +1,91 @@
+-- What the parts of rows do to the state. The laws of whole rows are these, with what each row tests before (RowLawsHold).
+use Rattle.std.specs.Prelude.{◌≡◌, ◌≢◌, ℕ, ◌+◌, ◌-◌, ◌++◌, pos, Bool, false, true, cond, List, length, None, Some, nat_eq, not, ◌<◌}
+use Rattle.std.specs.FinMap.{FinMap, get, insert, keys}
+use Rattle.std.specs.List.{list_any}
+use Rattle.std.specs.Ordering.{nat_cmp}
+use Rattle.xk_base.specs.declared.limits.TheConstants.{NOFILE}
+use Rattle.xk_base.specs.Words.{le_bytes}
+use Rattle.xk_base.specs.Image.{price}
+use Rattle.xk_base.specs.Loaded.{Loaded}
+use Rattle.pipe_core.specs.Pipe.{Pipe, new_pipe}
+use Rattle.file_table.specs.declared.open_file.End.{End}
+use Rattle.file_table.specs.declared.open_file.End.TheVariants.{Reading, Writing}
+use Rattle.file_table.specs.declared.open_file.Target.{Target}
+use Rattle.file_table.specs.declared.open_file.Target.TheVariants.{Program as File, Pipe as Pipe_end}
+use Rattle.file_table.specs.declared.open_file.OpenFile.{OpenFile}
+use Rattle.proc_table.specs.declared.process.Call.{Call}
+use Rattle.kernel_spec.specs.views.PipeEnds.{joined, parted, is_given_up}
+use Rattle.kernel_spec.specs.views.Processes.{Live}
+use Rattle.kernel_spec.specs.views.State.{State}
+use Rattle.kernel_spec.specs.views.View.{Descriptor, view_of, show}
+use Rattle.kernel_spec.specs.steps.Updates.{changed_state, own_state, alone_state, piped_state, filed_state, with_named, with_bytes, with_answer, started, forked_state, settled, kill_state, killer}
+use Rattle.kernel_spec.specs.others.Quiet.{pipe_of_target}
+use Rattle.kernel_spec.specs.views.WellFormed.{WellFormed}
+use Rattle.kernel_spec.specs.rows.Calls.{done, fork}
+use Rattle.kernel_spec.proofs.rows.RowParts.{running, cannot_fork, killed_by, read_file, open_at, piped, dup_at, close_at}
+use Rattle.kernel_spec.specs.laws.RowLaws.{After, IsLive, FilesLeft, OnPipe, NobodyNames, NobodyHas, closed_state}
+use Rattle.kernel_spec.proofs.steps.Names.{name_of_file}
+
+abbrev pub ExecPart : Type 0
+ExecPart =
+    (s : State) (p : ℕ) (l : Live) (c : Call) (new : Loaded) → IsLive s p l
+    → After s p l (done c (pos new.argc) (running new (view_of s p l))) (alone_state p (with_answer (pos new.argc) (started new l)) s.console (s.free + price l.image - price new.image) s)
+
+abbrev pub ForkPart : Type 0
+ForkPart =
+    (frames : ℕ) (s : State) (p : ℕ) (l : Live) (c : Call) → WellFormed frames s → IsLive s p l → cannot_fork (view_of s p l) ≡ false
+    → After s p l (fork c (view_of s p l)) (forked_state p l s)
+
+abbrev pub KillPart : Type 0
+KillPart =
+    (s : State) (p q : ℕ) (l : Live) (c : Call) → IsLive s p l → not (list_any (nat_eq q) (keys s.processes)) ≡ false
+    → After s p l (killed_by c (view_of s p l) q) (kill_state p (killer p q l) q s)
+
+abbrev pub FileReadPart : Type 0
+FileReadPart =
+    (s : State) (p : ℕ) (l : Live) (c : Call) (d f program offset : ℕ) (r w : Bool) (bytes : List ℕ) → IsLive s p l → d < NOFILE → get l.descriptors d ≡ Some f
+    → get s.files f ≡ Some (record { read = r; write = w; target = File program offset })
+    → After s p l (read_file c (view_of s p l) (name_of_file s l f) bytes)
+    (filed_state p (with_answer (pos (length bytes)) (with_bytes c.a1 bytes l)) f (record { read = r; write = w; target = File program (offset + length bytes) }) s)
+
+abbrev pub OpenPart : Type 0
+OpenPart =
+    (s : State) (p : ℕ) (l : Live) (c : Call) (k f : ℕ) (read write : Bool) (target : Target) → IsLive s p l → k < NOFILE → get l.descriptors k ≡ None
+    → NobodyNames s f → pipe_of_target target ≡ None
+    → After s p l (open_at c (view_of s p l) (Some k) (Some (read, write, show s target)))
+    (filed_state p (with_answer (pos k) (with_named k f l)) f (record { read = read; write = write; target = target }) s)
+
+abbrev pub PipePart : Type 0
+PipePart =
+    (s : State) (p : ℕ) (l : Live) (c : Call) (r w f g i : ℕ) → IsLive s p l → r < NOFILE → w < NOFILE → r ≢ w → f ≢ g → get l.descriptors r ≡ None → get l.descriptors w ≡ None
+    → NobodyNames s f → NobodyNames s g → NobodyHas s i
+    → After s p l (piped c (view_of s p l) r (Some w))
+    (changed_state p (with_answer (pos 0) (with_bytes c.a0 (le_bytes 4 r ++ le_bytes 4 w) (with_named w g (with_named r f l))))
+    (insert (insert s.files f (record { read = true; write = false; target = Pipe_end i Reading })) g (record { read = false; write = true; target = Pipe_end i Writing }))
+    (insert s.pipes i new_pipe) s.console (s.free - 1) s)
+
+abbrev pub DupPart : Type 0
+DupPart =
+    (s : State) (p : ℕ) (l : Live) (c : Call) (j k f : ℕ) (x : OpenFile) (d : Descriptor) → IsLive s p l → j < NOFILE → get l.descriptors j ≡ Some f → get l.descriptors k ≡ None
+    → get s.files f ≡ Some x → pipe_of_target x.target ≡ None → (view_of s p l).descriptors j ≡ Some d
+    → After s p l (dup_at c (view_of s p l) j d (Some k)) (own_state p (with_answer (pos k) (with_named k f l)) s)
+
+abbrev pub DupPipePart : Type 0
+DupPipePart =
+    (s : State) (p : ℕ) (l : Live) (c : Call) (j k i n : ℕ) (end : End) (x : Pipe) (d : Descriptor) (on : OnPipe s p l j i n end x) → get l.descriptors k ≡ None
+    → (view_of s p l).descriptors j ≡ Some d
+    → After s p l (dup_at c (view_of s p l) j d (Some k)) (piped_state p (with_answer (pos k) (with_named k on.file l)) i (joined x end 1) s)
+
+abbrev pub ClosePart : Type 0
+ClosePart =
+    (frames : ℕ) (s : State) (p : ℕ) (l : Live) (c : Call) (k f : ℕ) (x : OpenFile) (d : Descriptor) (files : FinMap nat_cmp OpenFile) → WellFormed frames s → IsLive s p l
+    → k < NOFILE → get l.descriptors k ≡ Some f → get s.files f ≡ Some x → pipe_of_target x.target ≡ None → (view_of s p l).descriptors k ≡ Some d
+    → FilesLeft s (closed_state p l k files s.pipes 0 s)
+    → After s p l (close_at c (view_of s p l) k d) (closed_state p l k files s.pipes 0 s)
+
+abbrev pub ClosePipePart : Type 0
+ClosePipePart =
+    (frames : ℕ) (s : State) (p : ℕ) (l : Live) (c : Call) (k i n : ℕ) (end : End) (x : Pipe) (d : Descriptor) (files : FinMap nat_cmp OpenFile) (on : OnPipe s p l k i n end x) → WellFormed frames s
+    → (view_of s p l).descriptors k ≡ Some d
+    → FilesLeft s (closed_state p l k files (settled i (parted x end 1) s.pipes) (cond (is_given_up (parted x end 1)) 1 0) s)
+    → After s p l (close_at c (view_of s p l) k d) (closed_state p l k files (settled i (parted x end 1) s.pipes) (cond (is_given_up (parted x end 1)) 1 0) s)

@@ -1,0 +1,39 @@
+-- A call whose buffer has no absent page keeps it so while it waits.
+use Rattle.std.proofs.Common.{◌≡◌, ℕ, List, refl, ap, ◌∙◌}
+use Rattle.std.specs.Prelude.{Option, None, Some}
+use Rattle.xk_base.specs.Bytes.{write_image}
+use Rattle.proc_table.specs.declared.process.Call.{Call}
+use Rattle.kernel_spec.specs.views.View.{View}
+use Rattle.kernel_spec.specs.rows.Touches.{has_absent}
+use Rattle.kernel_spec.specs.rows.Calls.{Row, Fork, Exit, Wait, Pipe_row, Read, Kill, Exec, Dup, Getpid, Sbrk, Sleep, Uptime, Open, Write, Close, Sbrklazy, row_of}
+use Rattle.kernel_spec.proofs.steps.Writes.{absent_written}
+use Rattle.kernel_spec.proofs.rows.RowParts.{buffer_of, IsSettled}
+
+-- how much a call has moved changes nothing of its buffer
+same_buffer : (c : Call) (moved : ℕ) (r : Option Row) → buffer_of (record c { moved = moved }) r ≡ buffer_of c r
+same_buffer c moved None = refl
+same_buffer c moved (Some Fork) = refl
+same_buffer c moved (Some Exit) = refl
+same_buffer c moved (Some Wait) = refl
+same_buffer c moved (Some Pipe_row) = refl
+same_buffer c moved (Some Read) = refl
+same_buffer c moved (Some Kill) = refl
+same_buffer c moved (Some Exec) = refl
+same_buffer c moved (Some Dup) = refl
+same_buffer c moved (Some Getpid) = refl
+same_buffer c moved (Some Sbrk) = refl
+same_buffer c moved (Some Sleep) = refl
+same_buffer c moved (Some Uptime) = refl
+same_buffer c moved (Some Open) = refl
+same_buffer c moved (Some Write) = refl
+same_buffer c moved (Some Close) = refl
+same_buffer c moved (Some Sbrklazy) = refl
+
+-- with the same image, and however much is moved
+pub still_settled : (c : Call) (moved : ℕ) (u m : View) → m.image ≡ u.image → IsSettled c u → IsSettled (record c { moved = moved }) m
+still_settled c moved u m same settled =
+    ap (λ (pages : List ℕ). has_absent pages m.image) (same_buffer c moved (row_of c.number)) ∙ ap (has_absent (buffer_of c (row_of c.number))) same ∙ settled
+
+-- and where bytes are written
+pub settled_written : (c : Call) (v : View) (bytes : List ℕ) (at : ℕ) → IsSettled c v → IsSettled c (record v { image = write_image v.image at bytes })
+settled_written c v bytes at settled = absent_written bytes v.image at (buffer_of c (row_of c.number)) ∙ settled

@@ -1,0 +1,20 @@
+-- Worked cases: views, rows, events and boots that are computed from the definitions. A definition that is turned fails one of them.
+pub mod WorkedViews
+pub mod Rows
+pub mod RowsOfBoot
+pub mod RowsOfBytes
+pub mod RowsOfEvents
+pub mod RowsOfFiles
+pub mod RowsOfLoads
+pub mod RowsOfMemory
+pub mod RowsOfProcesses
+pub mod RowsOfReady
+pub mod RowsOfSteps
+pub mod RowsOfRounds
+pub mod RowsOfRuns
+pub mod RowsOfStores
+pub mod RowsOfSources
+pub mod RowsOfTouches
+pub mod RowsOfTurns
+pub mod RowsOfIsolation
+pub mod RowsOfReplays

@@ -1,0 +1,2 @@
+-- What every other process sees of a step.
+pub mod Quiet

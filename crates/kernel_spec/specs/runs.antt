@@ -1,0 +1,5 @@
+-- The machine from boot on, event by event.
+pub mod Run
+pub mod Rounds
+pub mod First
+pub mod Sources

@@ -1,0 +1,72 @@
+-- The state after boot, or why there is none (the xv6 book, "Code: starting xv6, the first process and system call").
+use Rattle.std.specs.Prelude.{◌≡◌, ℕ, ◌+◌, ◌-◌, false, if◌then◌else◌, ◌||◌, List, [], ◌∷◌, Option, None, Some, Result, Ok, Err, nat_lt}
+use Rattle.std.specs.FinSet as set
+use Rattle.std.specs.FinMap.{empty, insert}
+use Rattle.xk_base.specs.declared.limits.TheConstants.{NPROC, FRAMES_MIN, FRAMES_MAX, TRACE_MAX}
+use Rattle.xk_base.specs.declared.errors.ExecError.{ExecError}
+use Rattle.xk_base.specs.declared.errors.ExecError.TheVariants.{NoFrames}
+use Rattle.xk_base.specs.declared.errors.BootError.{BootError}
+use Rattle.xk_base.specs.declared.errors.BootError.TheVariants.{BadConfig, BadPrograms, NoInit, Init}
+use Rattle.kernel_spec.specs.views.State.{ProgramFile, State}
+use Rattle.xk_base.specs.Image.{price}
+use Rattle.xk_base.specs.Loaded.{Loaded, loaded}
+use Rattle.rv64i_core.specs.Registers.{Registers, fresh, put}
+use Rattle.console_core.specs.Lists.{empty_console}
+use Rattle.kernel_spec.specs.views.Words.{SP, A0, A1}
+use Rattle.kernel_spec.specs.views.Programs.{init_name, first_bad, init_of}
+use Rattle.kernel_spec.specs.views.Processes.{Live, Alive}
+use Rattle.kernel_spec.specs.waking.Turns.{Turns}
+use Rattle.kernel_spec.specs.views.WellFormed.{WellFormed, HasSlots}
+use Rattle.kernel_spec.specs.runs.Run.{World}
+
+-- all registers 0, but for the stack pointer and the arguments
+abbrev pub first_regs : Loaded → Registers
+first_regs l = put (put (put (fresh l.pc) SP l.sp) A0 l.argc) A1 l.sp
+
+-- pid 1 has no parent and no descriptor in use
+abbrev pub first_process : Loaded → Live
+first_process l = record { regs = first_regs l; image = l.image; descriptors = empty; parent = None; killed = false; call = None }
+
+abbrev pub first_state : (frames : ℕ) → List ProgramFile → Loaded → State
+first_state frames programs l = record {
+  processes = insert empty 1 (Alive (first_process l));
+  files = empty;
+  pipes = empty;
+  console = empty_console;
+  clock = 0;
+  next_pid = 2;
+  free = frames - price l.image - 1;
+  programs = programs;
+}
+
+-- pid 1 is in slot 0, which has the first turn
+abbrev pub first_turns : Turns
+first_turns = record { slots = insert empty 1 0; sleepers = set.empty; last = NPROC - 1; current = None; halted = None }
+
+abbrev pub first_loaded : (frames : ℕ) → List ProgramFile → Result Loaded ExecError → Result World BootError
+first_loaded frames programs (Err e) = Err (Init e)
+first_loaded frames programs (Ok l) =
+    if nat_lt frames (price l.image + 1) then Err (Init NoFrames)
+    else Ok (record { state = first_state frames programs l; turns = first_turns })
+
+abbrev pub first_init : (frames : ℕ) → List ProgramFile → Option ProgramFile → Result World BootError
+first_init frames programs None = Err NoInit
+first_init frames programs (Some init) = first_loaded frames programs (loaded init.bytes (init_name ∷ []))
+
+abbrev pub first_programs : (frames : ℕ) → List ProgramFile → Option ℕ → Result World BootError
+first_programs frames programs (Some k) = Err (BadPrograms k)
+first_programs frames programs None = first_init frames programs (init_of programs)
+
+-- a machine of so many frames, whose trace keeps so many notes
+unfoldable pub first : (frames trace : ℕ) → List ProgramFile → Result World BootError
+first frames trace programs =
+    if nat_lt frames FRAMES_MIN || nat_lt FRAMES_MAX frames || nat_lt TRACE_MAX trace then Err BadConfig
+    else first_programs frames programs (first_bad programs)
+
+-- ---- laws: the state after boot is well-formed, and process 1 has its slot
+
+abbrev pub FirstWell : Type 0
+FirstWell = (frames trace : ℕ) (programs : List ProgramFile) (w : World) → first frames trace programs ≡ Ok w → WellFormed frames w.state
+
+abbrev pub FirstSlots : Type 0
+FirstSlots = (frames trace : ℕ) (programs : List ProgramFile) (w : World) → first frames trace programs ≡ Ok w → HasSlots w.state w.turns

@@ -1,0 +1,6 @@
+-- What one step of a process comes to.
+pub mod Own
+pub mod Step
+pub mod Updates
+pub mod Instruction
+pub mod Ticks

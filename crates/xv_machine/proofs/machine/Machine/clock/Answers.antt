@@ -1,0 +1,6 @@
+use Rattle.std.proofs.Common.{ap, ◌∙◌}
+use Rattle.xv_machine.specs.Meaning.{Meaning}
+use Rattle.xv_machine.proofs.machine.Machine.clock.Goals as goal
+
+pub returns : goal.returns
+returns c = c.clock.ensures c.self.inside.hart ∙ ap (λ (m : Meaning). m.world.state.clock) c.self.view_is

@@ -1,0 +1,7 @@
+use Rattle.std.proofs.Common.{ap, ◌∙◌}
+use Rattle.kcall_core.specs.Observers.{descriptor_of}
+use Rattle.xv_machine.specs.Meaning.{Meaning}
+use Rattle.xv_machine.proofs.machine.Machine.descriptor.Goals as goal
+
+pub returns : goal.returns
+returns c = c.descriptor.ensures c.self.inside.hart ∙ ap (λ (m : Meaning). descriptor_of m.world.state c.args.pid c.args.fd) c.self.view_is

@@ -1,0 +1,6 @@
+use Rattle.std.proofs.Common.{ap, ◌∙◌}
+use Rattle.xv_machine.specs.Meaning.{Meaning}
+use Rattle.xv_machine.proofs.machine.Machine.programs.Goals as goal
+
+pub returns : goal.returns
+returns c = c.programs.ensures c.self.inside.hart ∙ ap (λ (m : Meaning). m.world.state.programs) c.self.view_is
