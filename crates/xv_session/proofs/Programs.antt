@@ -1,0 +1,75 @@
+-- The programs of a machine are always those that it was booted with.
+use Rattle.std.proofs.Common.{◌≡◌, ℕ, List, [], ◌∷◌, ◌++◌, Option, Some, None, Ok, refl, sym, ap, ◌∙◌, subst}
+use Rattle.std.specs.Prelude.{ℤ}
+use Rattle.kernel_spec.specs.views.State.{State, ProgramFile}
+use Rattle.kernel_spec.specs.runs.First.{first}
+use Rattle.kernel_spec.specs.runs.Run.{World, Event, Run, Tick, Key, Send, Outcome, Step_of, Turn, Idle, Ticked, Typed, Sent, Halted, TurnTaken, RunHappens, TickHappens, KeyHappens, Happens}
+use Rattle.kernel_spec.specs.waking.Wakes.{IsPromised}
+use Rattle.kernel_spec.proofs.well.FirstWell.{has_its_programs}
+use Rattle.xv_machine.specs.Boots.{Boots, HasEmptyTrace}
+use Rattle.xv_machine.specs.Meaning.{Meaning}
+use Rattle.xv_machine.specs.Sound.{IsSoundMachine}
+use Rattle.xv_machine.proofs.Reached.{boot_reaches}
+use Rattle.xv_session.specs.Recorded.{IsPlayed, GoesBy}
+use Rattle.xv_session.proofs.Plays.{played-on}
+
+abbrev SamePrograms : World → World → Type 0
+SamePrograms w t = t.state.programs ≡ w.state.programs
+
+of-world : {w t : World} → t ≡ w → SamePrograms w t
+of-world e = ap (λ (x : World). x.state.programs) e
+
+of-state : {s t : State} → t ≡ s → t.programs ≡ s.programs
+of-state e = ap (λ (x : State). x.programs) e
+
+turn-keeps : (w t : World) (o : Outcome) → TurnTaken w o t → SamePrograms w t
+turn-keeps w t (Turn p) h = of-world h.3
+turn-keeps w t Idle h = of-world h
+turn-keeps w t (Step_of p a) h = absurd h
+turn-keeps w t Ticked h = absurd h
+turn-keeps w t (Typed echo) h = absurd h
+turn-keeps w t (Sent b) h = absurd h
+turn-keeps w t Halted h = absurd h
+
+run-keeps : (w t : World) (o : Outcome) (halted : Option ℤ) (current : Option ℕ) → RunHappens w halted current o t → SamePrograms w t
+run-keeps w t o (Some status) current h = of-world h.1
+run-keeps w t o None (Some p) h = h.state.left.programs
+run-keeps w t o None None h = turn-keeps w t o h
+
+event-keeps : (w t : World) (e : Event) (o : Outcome) → Happens w e o t → SamePrograms w t
+event-keeps w t Run o h = run-keeps w t o w.turns.halted w.turns.current h
+event-keeps w t Tick o h = by w.turns.halted h
+  where
+    by : (halted : Option ℤ) → TickHappens w halted o t → SamePrograms w t
+    by (Some status) h = of-world h.1
+    by None h = of-state h.1
+event-keeps w t (Key b) o h = by w.turns.halted h
+  where
+    by : (halted : Option ℤ) → KeyHappens w halted b o t → SamePrograms w t
+    by (Some status) h = of-world h.1
+    by None h = of-state h.1
+event-keeps w t Send o h = of-state h.1
+
+run-of-events-keeps : (w t : World) (list : List (Event × Outcome)) → IsPromised w list t → SamePrograms w t
+run-of-events-keeps w t [] h = of-world h
+run-of-events-keeps w t (e ∷ es) (mid, one, more) = run-of-events-keeps mid t es more ∙ event-keeps w mid e.0 e.1 one.0
+
+-- the machine has the programs that it was booted with
+pub played-programs : (frames trace : ℕ) (programs : List ProgramFile) (xs : List Event) (m : Meaning) → IsPlayed frames trace programs xs m → m.world.state.programs ≡ programs
+played-programs frames trace programs xs m (list, those, (booted, is, count, sound, empty, goes)) =
+    run-of-events-keeps booted.world m.world list goes.run ∙ has_its_programs frames trace programs booted.world is
+
+-- the machine that a boot made, by the programs that it holds
+pub booted-played : (frames trace : ℕ) (programs : List ProgramFile) (m : Meaning) → Boots frames (Ok m) (first frames trace programs) → IsSoundMachine m → HasEmptyTrace trace m
+    → IsPlayed frames trace m.world.state.programs [] m × (m.world.state.programs ≡ programs)
+booted-played frames trace programs m boots sound empty =
+    let played : IsPlayed frames trace programs [] m = ([], refl, boot_reaches frames trace programs m boots sound empty) in
+    let same : m.world.state.programs ≡ programs = played-programs frames trace programs [] m played in
+    (subst (λ ps. IsPlayed frames trace ps [] m) (sym same) played, same)
+
+-- a machine that goes on, by the programs that it holds
+pub goes-on : (frames trace : ℕ) (xs ys : List Event) (m n : Meaning) → IsPlayed frames trace m.world.state.programs xs m → GoesBy ys m n → IsPlayed frames trace n.world.state.programs (xs ++ ys) n × (n.world.state.programs ≡ m.world.state.programs)
+goes-on frames trace xs ys m n played more =
+    let on = played-on frames trace m.world.state.programs xs ys m n played more in
+    let same : n.world.state.programs ≡ m.world.state.programs = played-programs frames trace m.world.state.programs (xs ++ ys) n on in
+    (subst (λ ps. IsPlayed frames trace ps (xs ++ ys) n) (sym same) on, same)

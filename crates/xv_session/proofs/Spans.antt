@@ -1,0 +1,85 @@
+-- The events of spans, from the first on.
+use Rattle.std.proofs.Common.{◌≡◌, ℕ, ◌+◌, ◌-◌, ◌<◌, ◌≤◌, List, [], ◌∷◌, ◌++◌, length, take, get_or, replicate, min, inl, inr, sym, ap, ◌∙◌, arith}
+use Rattle.std.proofs.lemmas.Bool.{cases_lt}
+use Rattle.std.proofs.lemmas.Grind.{flat_map-append}
+use Rattle.std.proofs.lemmas.List.{take-append-le, append-nil, append_assoc, length-append, length-replicate, take_all, take-replicate, take_more, replicate-append-replicate}
+use Rattle.std.proofs.Math.Seq.{take-append-add}
+use Rattle.kernel_spec.specs.runs.Run.{Event}
+use Rattle.xv_machine.specs.Events.{event_of}
+use Rattle.xv_session.specs.declared.history.Span.{Span}
+use Rattle.xv_session.specs.Spans.{span_events, all_events, Kept, kept}
+
+-- ---- the first elements of two lists
+
+pub take-both : {X : Type 0} (n : ℕ) (xs ys : List X) → take n (xs ++ ys) ≡ take n xs ++ take (n - length xs) ys
+take-both n xs ys = elim (cases_lt (length xs) n) [
+  | inl lt ↦
+      let sum : n ≡ length xs + (n - length xs) = omega (arith, lt) in
+      ap (λ k. take k (xs ++ ys)) sum ∙ take-append-add xs ys (n - length xs) ∙ ap (λ zs. zs ++ take (n - length xs) ys) (sym (take_all n xs (omega (arith, lt))))
+  | inr ge ↦
+      let none : n - length xs ≡ 0 = omega (arith, ge) in
+      take-append-le n xs ys ge ∙ sym (append-nil (take n xs)) ∙ ap (λ k. take n xs ++ take k ys) (sym none)
+]
+
+pub take-equal : {X : Type 0} (n count : ℕ) (x : X) → take n (replicate count x) ≡ replicate (min count n) x
+take-equal n count x = elim (cases_lt count n) [
+  | inl lt ↦
+      let few : min count n ≡ count = omega (arith, lt) in
+      take_all n (replicate count x) (omega (arith, length-replicate count x, lt)) ∙ ap (λ k. replicate k x) (sym few)
+  | inr ge ↦
+      let few : min count n ≡ n = omega (arith, ge) in
+      take-replicate n count x ge ∙ ap (λ k. replicate k x) (sym few)
+]
+
+-- ---- spans
+
+pub one-span-more : (spans : List Span) (place : ℕ) (d : Span) → place < length spans → all_events (take (place + 1) spans) ≡ all_events (take place spans) ++ span_events (get_or spans place d)
+one-span-more spans place d lt =
+    ap all_events (take_more spans place d lt) ∙ flat_map-append span_events (take place spans) (get_or spans place d ∷ [])
+    ∙ ap (λ es. all_events (take place spans) ++ es) (append-nil (span_events (get_or spans place d)))
+
+-- a span that is over is the last of them
+pub over-now : (over : List Span) (last : Span) → all_events (over ++ last ∷ []) ++ [] ≡ all_events over ++ span_events last
+over-now over last = append-nil (all_events (over ++ last ∷ [])) ∙ flat_map-append span_events over (last ∷ []) ∙ ap (λ es. all_events over ++ es) (append-nil (span_events last))
+
+pub long-span : (s : Span) → length (span_events s) ≡ s.count
+long-span s = length-replicate s.count (event_of s.event)
+
+-- so many more of the last kind
+pub longer : (before : List Event) (count more : ℕ) (e : Event) → before ++ replicate (count + more) e ≡ (before ++ replicate count e) ++ replicate more e
+longer before count more e = ap (λ es. before ++ es) (sym (replicate-append-replicate count more e)) ∙ sym (append_assoc before (replicate count e) (replicate more e))
+
+-- ---- a history
+
+-- more of the last kind
+pub kept-more : (over : List Span) (last : Span) (more : ℕ) → kept over (record last { count = last.count + more }) ≡ record { events = (kept over last).events ++ replicate more (kept over last).next; next = (kept over last).next }
+kept-more over last more = ap (λ (es : List Event). let k : Kept = record { events = es; next = event_of last.event } in k) (longer (all_events over) last.count more (event_of last.event))
+
+-- the events before a place
+pub kept-first : (over : List Span) (last : Span) (place : ℕ) → take place (kept over last).events ≡ take place (all_events over) ++ replicate (min last.count (place - length (all_events over))) (event_of last.event)
+kept-first over last place = take-both place (all_events over) (span_events last) ∙ ap (λ es. take place (all_events over) ++ es) (take-equal (place - length (all_events over)) last.count (event_of last.event))
+
+-- the last span is cut, so that the events end at the place
+pub cut-last : (over : List Span) (last : Span) (count place : ℕ) → count ≡ length (kept over last).events → place < count → count - place ≤ last.count
+    → (place ≡ length (kept over (record last { count = last.count - (count - place) })).events) × (take place (kept over (record last { count = last.count - (count - place) })).events ≡ take place (kept over last).events)
+cut-last over last count place all before few =
+    let xs = all_events over in
+    let e = event_of last.event in
+    let less = last.count - (count - place) in
+    let long : length (xs ++ replicate last.count e) ≡ length xs + last.count = length-append xs (replicate last.count e) ∙ ap (λ n. length xs + n) (length-replicate last.count e) in
+    let short : length (xs ++ replicate less e) ≡ length xs + less = length-append xs (replicate less e) ∙ ap (λ n. length xs + n) (length-replicate less e) in
+    let ends : place ≡ length (xs ++ replicate less e) = omega (arith, all, long, short, before, few) in
+    let parts : replicate last.count e ≡ replicate less e ++ replicate (last.count - less) e = ap (λ n. replicate n e) (let sum : last.count ≡ less + (last.count - less) = omega (arith, few) in sum) ∙ sym (replicate-append-replicate less (last.count - less) e) in
+    let apart : xs ++ replicate last.count e ≡ (xs ++ replicate less e) ++ replicate (last.count - less) e = ap (λ es. xs ++ es) parts ∙ sym (append_assoc xs (replicate less e) (replicate (last.count - less) e)) in
+    (ends, sym (ap (take place) apart ∙ take-append-le place (xs ++ replicate less e) (replicate (last.count - less) e) (omega (arith, ends))))
+
+-- what one more span adds to the events before a place
+pub first-more : (spans : List Span) (place most : ℕ) (d : Span) → place < length spans
+    → (most - length (all_events (take (place + 1) spans)) ≡ most - length (all_events (take place spans)) - min (get_or spans place d).count (most - length (all_events (take place spans))))
+    × (take most (all_events (take (place + 1) spans)) ≡ take most (all_events (take place spans)) ++ replicate (min (get_or spans place d).count (most - length (all_events (take place spans)))) (event_of (get_or spans place d).event))
+first-more spans place most d lt =
+    let xs = all_events (take place spans) in
+    let s = get_or spans place d in
+    let more : all_events (take (place + 1) spans) ≡ xs ++ span_events s = one-span-more spans place d lt in
+    let long : length (all_events (take (place + 1) spans)) ≡ length xs + s.count = ap length more ∙ length-append xs (span_events s) ∙ ap (λ n. length xs + n) (long-span s) in
+    (omega (arith, long), ap (take most) more ∙ take-both most xs (span_events s) ∙ ap (λ es. take most xs ++ es) (take-equal (most - length xs) s.count (event_of s.event)))

@@ -1,0 +1,26 @@
+use Rattle.std.proofs.Common.{◌≡◌, ◌-◌, ◌∙◌, ℕ, List, length, take, replicate, min, get_or, sym, ap, subst}
+use Rattle.kernel_spec.specs.runs.Run.{Event}
+use Rattle.xv_machine.specs.Events.{event_of}
+use Rattle.xv_machine.specs.declared.event.Event.TheVariants.{Run}
+use Rattle.xv_session.specs.Recorded.{GoesBy}
+use Rattle.xv_session.specs.Spans.{all_events}
+use Rattle.xv_session.specs.declared.history.Span.{Span}
+use Rattle.xv_session.proofs.Plays.{goes-by-join}
+use Rattle.xv_session.proofs.Spans.{first-more}
+use Rattle.xv_session.proofs.playing.play_first.Goals as goal
+
+pub loop-place-preserved : goal.loop-place-preserved
+loop-place-preserved c =
+    let spans = c.args.spans.now in
+    let place = c.loop-place.place in
+    let none : Span = record { event = Run; count = 0 } in
+    let s = get_or spans place none in
+    let xs = all_events (take place spans) in
+    let left = c.args.most - length xs in
+    let count : c.min-count.result ≡ min s.count left = c.min-count.ensures ∙ ap (min s.count) c.loop-place.invariant.0 in
+    let more = first-more spans place c.args.most none c.loop-place-test.true in
+    let now : GoesBy (replicate (min s.count left) (event_of s.event)) c.loop-place.machine c.play.new.machine = subst (λ (n : ℕ). GoesBy (replicate n (event_of s.event)) c.loop-place.machine c.play.new.machine) count c.play.ensures.goes in (
+      (λ i. c.loop-place.invariant.0 i - count i) ∙ sym more.0,
+      subst (λ (es : List Event). GoesBy es c.args.machine.now c.play.new.machine) (sym more.1)
+          (goes-by-join (take c.args.most xs) (replicate (min s.count left) (event_of s.event)) c.args.machine.now c.loop-place.machine c.play.new.machine c.loop-place.invariant.1 now),
+    )

@@ -1,0 +1,133 @@
+//! The events of a run, kept as spans: equal events, one behind another, take the room of one.
+ghost use Rattle.std.specs.Prelude.{◌≡◌, ◌+◌, ◌<◌, ◌≤◌, ◌^◌, [], ◌++◌, replicate, length, take, OnOk, OnErr, IfOk};
+ghost use Rattle.kernel_spec.specs.runs.Run as runs;
+ghost use Rattle.xv_machine.specs.Events.{event_of};
+ghost use Rattle.xv_session.specs.Spans.{all_events, span_events};
+ghost use Rattle.xv_session.specs.declared.history.TheConstants.{EVENTS_MAX};
+
+use crate::SessionError;
+use crate::playing::{play, play_first};
+use std::alloc::Global;
+use std::marker::Model;
+use xv_machine::{Event, Machine};
+
+/// The most events that a session keeps, 2^63: more than any machine gets.
+pub const EVENTS_MAX: u64 = 9_223_372_036_854_775_808;
+
+/// So many equal events, one behind another.
+#[derive(Clone, Copy, Debug, PartialEq, Eq)]
+pub(crate) struct Span {
+    pub event: Event,
+    pub count: u64,
+}
+
+/// The events of a run, from the first on.
+#[derive(Drop)]
+pub(crate) struct History {
+    /// The spans that are over.
+    over: Vec<Span>,
+    /// The span that may go on.
+    last: Span,
+    /// How many events there are.
+    count: u64,
+}
+
+impl Model for History {
+    ghost use Rattle.std.specs.Prelude.{◌≡◌, length};
+    ghost use Rattle.xv_session.specs.Spans.{Kept, kept};
+    ghost use Rattle.xv_session.specs.Codes.{kept_code};
+
+    ghost Value = { Kept };
+
+    ghost coded = { kept_code };
+
+    ghost view = { λ h. kept h.over.items h.last };
+
+    ghost invariant = { λ h. h.count ≡ length (kept h.over.items h.last).events };
+}
+
+impl History {
+    /// No event.
+    pub fn new(alloc: Global) -> History
+        ensures { result.events ≡ [] }
+    {
+        History {
+            over: Vec::new(alloc),
+            last: Span {
+                event: Event::Run,
+                count: 0,
+            },
+            count: 0,
+        }
+    }
+
+    /// How many events there are.
+    pub fn len(&self) -> u64
+        ensures { result ≡ length self.now.events }
+    {
+        self.count
+    }
+
+    /// Makes room for one event, and for more of its kind behind it.
+    pub fn make_room(&mut self, event: Event) -> Result<(), SessionError>
+        ensures events { self.new.events ≡ self.old.events }
+        ensures next { OnOk result (self.new.next ≡ event_of event) }
+        ensures few { OnOk result (length self.new.events < EVENTS_MAX) }
+    {
+        if self.count >= EVENTS_MAX {
+            return Err(SessionError::Full);
+        }
+        if self.last.event == event {
+            return Ok(());
+        }
+        let Ok(()) = self.over.push(self.last) else {
+            return Err(SessionError::Memory);
+        };
+        self.last = Span { event, count: 0 };
+        Ok(())
+    }
+
+    /// Adds so many of the events that there is room for.
+    pub fn add(&mut self, count: u32)
+        requires { length self.old.events < EVENTS_MAX }
+        ensures { self.new ≡ record self.old { events = self.old.events ++ replicate count self.old.next } }
+    {
+        self.last.count += u64::from(count);
+        self.count += u64::from(count);
+    }
+}
+
+impl History {
+    ghost use Rattle.std.specs.Prelude.{◌≡◌, take};
+    ghost use Rattle.xv_machine.specs.Sound.{IsSoundMachine};
+    ghost use Rattle.xv_session.specs.Recorded.{GoesBy};
+
+    /// Forgets the events from a place on.
+    pub fn cut(&mut self, place: u64)
+        ensures { self.new.events ≡ take place self.old.events }
+    {
+        'cuts: while self.count > place {
+            let past = self.count - place;
+            if self.last.count >= past {
+                self.last.count -= past;
+                self.count = place;
+            } else {
+                self.count -= self.last.count;
+                let Some(span) = self.over.pop() else {
+                    unreachable!();
+                };
+                self.last = span;
+            }
+        }
+    }
+
+    /// Sends the events before a place to a machine, from the first on.
+    pub fn play(&self, machine: &mut Machine, place: u64)
+        requires { IsSoundMachine machine.old }
+        ensures goes { GoesBy (take place self.now.events) machine.old machine.new }
+        ensures sound { IsSoundMachine machine.new }
+    {
+        let left = play_first(machine, self.over.as_slice(), place);
+        play(machine, self.last.event, self.last.count.min(left));
+    }
+}

@@ -1,0 +1,9 @@
+//! What stands of a session whatever its machine went through.
+ghost use Rattle.xv_session.specs.Again.{PlayedAgain};
+
+/// The same programs and the same events make the same run.
+pub fn runs_are_determined()
+    // Two machines that were booted with the same numbers and programs, and got the same events, can't be told apart:
+    // each process sees the same in both, the outcomes were the same, and who runs and who sleeps are the same.
+    ensures { PlayedAgain }
+{}

@@ -1,0 +1,18 @@
+//! A run that can be looked into: a machine, with the events that it got since it was booted.
+//!
+//! A [`Session`] boots a machine and sends it events, and keeps them. So it can go back to any place of its run,
+//! by booting anew and sending the first of these events again: what a machine does is determined by its programs
+//! and its events. A contract sees a session as `Recorded` of `specs/Recorded.antt`.
+#![tactic(auto)]
+
+mod history;
+pub mod laws;
+mod looking;
+mod playing;
+mod session;
+mod until;
+
+pub use history::EVENTS_MAX;
+pub use looking::{Fault, NextStep, fault_of_run, next_step};
+pub use session::{Session, SessionError};
+pub use until::{Condition, Search};

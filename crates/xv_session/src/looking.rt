@@ -1,0 +1,149 @@
+//! What a process is about to do, and why it could not do it.
+ghost use Rattle.std.specs.Prelude.{◌≡◌, ◌%◌};
+ghost use Rattle.rv64i_core.specs.Step.{extended, data_address};
+ghost use Rattle.xv_session.specs.Looking.{word_at, address_of, next_step_of, FaultTold};
+
+use rv64i_core::{Imm12, Instr, Regs, decode};
+use std::fmt;
+use xk_base::{Cause, Pid, Reg};
+use xv_machine::{Event, Machine, Outcome};
+
+/// The step that a process is about to make, as it stands before it.
+#[derive(Clone, Copy, Debug, PartialEq, Eq)]
+pub struct NextStep {
+    pub pid: Pid,
+    /// Its registers, with the pc.
+    pub regs: Regs,
+    /// The four bytes at the pc, the first as the lowest; `None` where one of them isn't there.
+    pub word: Option<u32>,
+    /// The address that the instruction loads from or stores to; `None` where it does neither.
+    pub address: Option<u64>,
+}
+
+/// A step that a process could not make, which ended it.
+#[derive(Clone, Copy, Debug, PartialEq, Eq)]
+pub struct Fault {
+    /// The step, as it stood before.
+    pub step: NextStep,
+    /// Why it could not be made.
+    pub cause: Cause,
+}
+
+/// An immediate of 12 bits, sign-extended to 64.
+fn extended(imm: Imm12) -> u64
+    ensures { result ≡ extended 12 imm }
+{
+    let bits = imm.bits() as u64;
+    ((bits << 52).cast_signed() >> 52).cast_unsigned()
+}
+
+/// The address that an instruction loads from or stores to.
+#[tactic(auto, unfolding(rv64i_core::specs::Step::data_address))]
+fn data_address(regs: &Regs, instr: &Instr) -> Option<u64>
+    ensures { result ≡ data_address regs.now instr.now }
+{
+    match instr {
+        Instr::Load { rs1, imm, .. } => Some(regs.read(*rs1).wrapping_add(extended(*imm))),
+        Instr::Store { rs1, imm, .. } => Some(regs.read(*rs1).wrapping_add(extended(*imm))),
+        _ => None,
+    }
+}
+
+/// The address that the instruction of a word loads from or stores to.
+fn address_of(regs: &Regs, word: Option<u32>) -> Option<u64>
+    ensures { result ≡ address_of regs.now word }
+{
+    let instr = decode(word?)?;
+    data_address(regs, &instr)
+}
+
+/// The four bytes at an address.
+fn word_at(machine: &Machine, pid: Pid, address: u64) -> Option<u32>
+    requires { address % 4 ≡ 0 }
+    ensures { result ≡ word_at machine.now.world.state pid address }
+{
+    let first = u32::from(machine.peek(pid, address)?);
+    let second = u32::from(machine.peek(pid, address + 1)?);
+    let third = u32::from(machine.peek(pid, address + 2)?);
+    let fourth = u32::from(machine.peek(pid, address + 3)?);
+    Some(first + 256 * (second + 256 * (third + 256 * fourth)))
+}
+
+/// The step that a process is about to make; `None` where no live process has this pid.
+pub fn next_step(machine: &Machine, pid: Pid) -> Option<NextStep>
+    ensures { result ≡ next_step_of machine.now.world.state pid }
+{
+    let regs = machine.registers(pid)?;
+    let word = word_at(machine, pid, regs.pc());
+    Some(NextStep {
+        pid,
+        regs,
+        word,
+        address: address_of(&regs, word),
+    })
+}
+
+/// Sends a machine one Run, and tells the fault that came of it; `None` where something else came of it.
+pub fn fault_of_run(machine: &mut Machine) -> Option<Fault>
+    ensures { FaultTold result machine.old machine.new }
+{
+    let step = match machine.current() {
+        Some(pid) => next_step(machine, pid),
+        None => None,
+    };
+    let outcome = machine.event(Event::Run);
+    let Outcome::Faulted { cause, .. } = outcome else {
+        return None;
+    };
+    Some(Fault { step: step?, cause })
+}
+
+/// The names of the registers x1 to x31 (RISC-V Calling Conventions, "Integer Register Convention").
+const REGISTER_NAMES: [&str; 31] = [
+    "ra", "sp", "gp", "tp", "t0", "t1", "t2", "s0", "s1", "a0", "a1", "a2", "a3", "a4", "a5", "a6",
+    "a7", "s2", "s3", "s4", "s5", "s6", "s7", "s8", "s9", "s10", "s11", "t3", "t4", "t5", "t6",
+];
+
+impl Fault {
+    /// What the instruction did, and why it may not be done.
+    fn reason<W: fmt::Write>(&self, f: &mut fmt::Formatter<W>) -> fmt::Result {
+        let pc = self.step.regs.pc();
+        let address = self.step.address.unwrap_or(pc);
+        let word = self.step.word.unwrap_or(0);
+        match self.cause {
+            Cause::TargetMisaligned => write!(f, "jump to an address that is no multiple of 4"),
+            Cause::IllegalInstruction => write!(f, "the word {word:#x} is no instruction"),
+            Cause::Breakpoint => write!(f, "ebreak"),
+            Cause::LoadMisaligned => write!(
+                f,
+                "load from {address:#x}, which is no multiple of its size"
+            ),
+            Cause::StoreMisaligned => write!(
+                f,
+                "store to {address:#x}, which is no multiple of its size"
+            ),
+            Cause::FetchPageFault => write!(f, "no instruction may be fetched"),
+            Cause::LoadPageFault => write!(f, "load from {address:#x}, which may not be read"),
+            Cause::StorePageFault => write!(f, "store to {address:#x}, which may not be written"),
+        }
+    }
+}
+
+/// In one line the process, what it was about to do and why it could not, and the pc; then its registers, four in a
+/// line.
+impl fmt::Display for Fault {
+    fn fmt<W: fmt::Write>(&self, f: &mut fmt::Formatter<W>) -> fmt::Result {
+        let pid = self.step.pid.number();
+        let pc = self.step.regs.pc();
+        write!(f, "process {pid}: ")?;
+        self.reason(f)?;
+        write!(f, ", at pc {pc:#x}")?;
+        for place in 0..31 {
+            let end = if place % 4 == 0 { "\n" } else { "  " };
+            let name = REGISTER_NAMES[place];
+            let value = self.step.regs.read(Reg::new(place as u8 + 1));
+            write!(f, "{end}{name} {value:#x}")?;
+        }
+        Ok(())
+    }
+}

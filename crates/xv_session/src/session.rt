@@ -1,0 +1,197 @@
+//! The session.
+ghost use Rattle.std.specs.Prelude.{◌≡◌, IfOk, map};
+ghost use Rattle.kernel_spec.specs.views.State.{named_file};
+
+use crate::history::History;
+use crate::until::{Condition, Search, run_until};
+use std::alloc::{AllocError, Global};
+use std::marker::Model;
+use thiserror::Error;
+use xk_base::{BootError, Program};
+use xv_machine::{Config, Event, Machine, Outcome};
+
+/// Why a session didn't do what was asked for. It is as it was before.
+#[derive(Clone, Copy, Debug, PartialEq, Eq, Error)]
+pub enum SessionError {
+    /// The host has too little memory.
+    #[error("Memory")]
+    Memory,
+    /// It keeps [`EVENTS_MAX`](crate::EVENTS_MAX) events already.
+    #[error("Full")]
+    Full,
+}
+
+/// A copy of a program.
+fn copy_of(alloc: Global, program: &Program) -> Result<Program, AllocError>
+    ensures { IfOk result (λ copy. named_file copy ≡ named_file program.now) }
+{
+    let name = Vec::from_slice(alloc, program.name.as_slice())?;
+    let bytes = Vec::from_slice(alloc, program.bytes.as_slice())?;
+    Ok(Program { name, bytes })
+}
+
+/// A copy of programs.
+fn copied(alloc: Global, programs: &[Program]) -> Result<Vec<Program>, AllocError>
+    ensures { IfOk result (λ copy. map named_file copy.items ≡ map named_file programs.now) }
+{
+    let mut copy = Vec::with_capacity(alloc, programs.len())?;
+    for place in 0..programs.len() {
+        let program = copy_of(alloc, &programs[place])?;
+        let Ok(()) = copy.push(program) else {
+            return Err(AllocError);
+        };
+    }
+    Ok(copy)
+}
+
+/// A machine, with the events that it got since it was booted.
+#[derive(Drop)]
+pub struct Session {
+    config: Config,
+    machine: Machine,
+    history: History,
+}
+
+impl Model for Session {
+    ghost use Rattle.xv_session.specs.Recorded.{Recorded, IsRecorded};
+    ghost use Rattle.xv_session.specs.Codes.{recorded_code};
+
+    ghost Value = { Recorded };
+
+    ghost coded = { recorded_code };
+
+    ghost use Rattle.xv_session.specs.Inside.{recorded};
+
+    ghost view = { recorded };
+
+    ghost invariant = { λ s. IsRecorded (recorded s) };
+}
+
+impl Session {
+    ghost use Rattle.std.specs.Prelude.{◌≡◌, [], IfOk, IfErr, length, map, take};
+    ghost use Rattle.kernel_spec.specs.views.State.{named_file};
+    ghost use Rattle.kernel_spec.specs.runs.First.{first};
+    ghost use Rattle.xv_machine.specs.Boots.{Boots};
+    ghost use Rattle.xv_machine.specs.Events.{event_of, outcome_of};
+    ghost use Rattle.xv_machine.specs.Sound.{IsSoundMachine};
+    ghost use Rattle.xv_session.specs.Recorded.{IsPlayed, IsRecorded};
+    ghost use Rattle.xv_session.specs.Answers.{machine_of, IsNew, Sent, RunsSent, Found, WentBack};
+
+    /// A session whose machine was just booted, and has got no event. The refusals are those of
+    /// [`Machine::boot`].
+    ///
+    /// # Errors
+    ///
+    /// Those of [`Machine::boot`], in their order.
+    pub fn boot(alloc: Global, config: Config, programs: Vec<Program>) -> Result<Session, BootError>
+        ensures boots { Boots config.frames (machine_of result) (first config.frames config.trace (map named_file programs.items)) }
+        ensures fresh { IfOk result (IsNew config.frames config.trace (map named_file programs.items)) }
+    {
+        match Machine::boot(alloc, config, programs) {
+            Ok(machine) => Ok(Session {
+                config,
+                machine,
+                history: History::new(alloc),
+            }),
+            Err(error) => Err(error),
+        }
+    }
+
+    /// Sends an event, and tells what came of it.
+    ///
+    /// # Errors
+    ///
+    /// [`SessionError::Memory`] where the host has too little memory to keep the event, and
+    /// [`SessionError::Full`] where [`EVENTS_MAX`](crate::EVENTS_MAX) are kept: the event isn't sent.
+    pub fn send(&mut self, event: Event) -> Result<Outcome, SessionError>
+        ensures sent { IfOk result (λ o. Sent self.old (event_of event) (outcome_of o) self.new) }
+        ensures refused { IfErr result (λ _. self.new ≡ self.old) }
+    {
+        self.history.make_room(event)?;
+        let outcome = self.machine.event(event);
+        self.history.add(1);
+        Ok(outcome)
+    }
+
+    /// Sends Run, `most` times at most, as [`Machine::run`] does, and tells how often it was sent.
+    ///
+    /// # Errors
+    ///
+    /// As [`send`](Session::send): nothing is sent.
+    pub fn run(&mut self, most: u32) -> Result<u32, SessionError>
+        ensures sent { IfOk result (λ sent. RunsSent most sent self.old self.new) }
+        ensures refused { IfErr result (λ _. self.new ≡ self.old) }
+    {
+        self.history.make_room(Event::Run)?;
+        let sent = self.machine.run(most);
+        self.history.add(sent);
+        Ok(sent)
+    }
+
+    /// Sends Run, one by one, up to the first that is what is waited for, `most` times at most. It is sent once at
+    /// least, unless `most` is 0, so that a search goes on from where the last one ended.
+    ///
+    /// # Errors
+    ///
+    /// As [`send`](Session::send): nothing is sent.
+    pub fn until(&mut self, most: u32, condition: Condition) -> Result<Search, SessionError>
+        ensures found { IfOk result (λ s. Found condition most s.sent s.met self.old self.new) }
+        ensures refused { IfErr result (λ _. self.new ≡ self.old) }
+    {
+        self.history.make_room(Event::Run)?;
+        let found = run_until(&mut self.machine, most, &condition);
+        self.history.add(found.sent);
+        Ok(found)
+    }
+
+    /// How many events the machine has got since it was booted.
+    pub fn at(&self) -> u64
+        ensures { result ≡ length self.now.events }
+    {
+        self.history.len()
+    }
+
+    /// The machine as it was after the first events, so many, as a machine of its own; as it is, where there were no
+    /// more. It is booted anew and gets these events, some 300 million Runs a second.
+    ///
+    /// # Errors
+    ///
+    /// [`SessionError::Memory`] where the host has too little memory for a second machine.
+    pub fn machine_at(&self, alloc: Global, place: u64) -> Result<Machine, SessionError>
+        ensures { IfOk result (IsPlayed self.now.frames self.now.trace self.now.programs (take place self.now.events)) }
+    {
+        let Ok(programs) = copied(alloc, self.machine.programs()) else {
+            return Err(SessionError::Memory);
+        };
+        let Ok(mut machine) = Machine::boot(alloc, self.config, programs) else {
+            return Err(SessionError::Memory);
+        };
+        self.history.play(&mut machine, place);
+        Ok(machine)
+    }
+
+    /// Goes back to a place of the run: to the machine as it was after so many events; where there were no more, it
+    /// stays as it is. It takes the time of these events.
+    ///
+    /// # Errors
+    ///
+    /// [`SessionError::Memory`] where the host has too little memory for a second machine: nothing is changed.
+    pub fn back_to(&mut self, alloc: Global, place: u64) -> Result<(), SessionError>
+        ensures back { IfOk result (λ _. WentBack place self.old self.new) }
+        ensures refused { IfErr result (λ _. self.new ≡ self.old) }
+        ensures recorded { IsRecorded self.new }
+    {
+        let machine = self.machine_at(alloc, place)?;
+        self.machine = machine;
+        self.history.cut(place);
+        Ok(())
+    }
+
+    /// The machine, to be looked at.
+    pub fn machine(&self) -> &Machine
+        ensures machine { result.now ≡ self.now.machine }
+        ensures recorded { IsRecorded self.now }
+    {
+        &self.machine
+    }
+}
