@@ -1,27 +1,17 @@
 //! Why no machine runs.
 ghost use Rattle.std.specs.Prelude.{◌≡◌};
 
-use std::alloc::{AllocError, AllocFailed};
+use program_files::FileRefusal;
 use std::io::Write;
 use thiserror::Error;
-use uasm_core::AsmError;
 use xk_base::BootError;
 
 /// Why no machine runs, although the command line is right.
 #[derive(Debug, Drop, Error)]
 pub enum Failure<'a> {
-    /// The FILE of this path can't be read.
-    #[error("{0}: cannot be read")]
-    CannotBeRead(&'a str),
-    /// The FILE of this path has more bytes than a program may have.
-    #[error("{0}: too long")]
-    TooLong(&'a str),
-    /// The FILE of this path is to be assembled, and isn't UTF-8.
-    #[error("{0}: not text")]
-    NotText(&'a str),
-    /// The FILE of this path can't be assembled.
-    #[error("{0}: {1}")]
-    Assembly(&'a str, AsmError),
+    /// A FILE gives no program.
+    #[error("{0}")]
+    File(FileRefusal<'a>),
     /// The machine doesn't boot.
     #[error("boot: {0}")]
     Boot(BootError),
@@ -40,15 +30,9 @@ impl Failure<'_> {
     }
 }
 
-impl From<AllocError> for Failure<'_> {
-    fn from(_error: AllocError) -> Self {
-        Failure::OutOfMemory
-    }
-}
-
-impl<T: Drop> From<AllocFailed<T>> for Failure<'_> {
-    fn from(_error: AllocFailed<T>) -> Self {
-        Failure::OutOfMemory
+impl<'a> From<FileRefusal<'a>> for Failure<'a> {
+    fn from(refusal: FileRefusal<'a>) -> Self {
+        Failure::File(refusal)
     }
 }
 

@@ -7,7 +7,6 @@
 
 mod command_line;
 mod failure;
-mod files;
 mod line;
 mod running;
 #[cfg(test)]
@@ -15,24 +14,12 @@ mod tests;
 
 use crate::command_line::{not_text, settings};
 use crate::failure::Failure;
-use crate::files::programs;
-use crate::line::{Settings, SettingsError};
+use crate::line::Settings;
 use crate::running::run_with;
-use std::env;
+use program_files::{programs, words};
 use std::io::ErrorKind;
 use std::process::ExitCode;
-use std::rt::Env;
 use xv_machine::{Config, Counted, RunPlan};
-
-// The words of the command line, the program's name first.
-fn words<R: Env + AllocGlobal>(rt: &R) -> Result<Vec<String>, ErrorKind> {
-    match env::args(rt) {
-        Ok(words) => words
-            .collect(rt.alloc())
-            .map_err(|_| ErrorKind::OutOfMemory),
-        Err(error) => Err(error.kind()),
-    }
-}
 
 // Runs the programs that the settings name.
 fn run(rt: &HostRuntime, settings: &Settings) -> u8 {
@@ -58,7 +45,7 @@ fn run(rt: &HostRuntime, settings: &Settings) -> u8 {
                 &mut rt.stderr(),
             )
         }
-        Err(failure) => failure.close(&mut rt.stderr()),
+        Err(refusal) => Failure::File(refusal).close(&mut rt.stderr()),
     }
 }
 
@@ -71,7 +58,7 @@ fn obey(rt: &HostRuntime) -> u8 {
     };
     match asked {
         Ok(settings) => run(rt, &settings),
-        Err(error) => error.close(&mut rt.stdout(), &mut rt.stderr()),
+        Err(error) => error.close("xv_run", &mut rt.stdout(), &mut rt.stderr()),
     }
 }
 

@@ -4,9 +4,8 @@ ghost use Rattle.std.specs.Prelude.{◌≤◌, IfOk};
 use super::settings::Shut;
 use crate::command_line::settings;
 use crate::failure::Failure;
-use crate::files::{program, programs};
-use crate::line::SettingsError;
 use crate::running::run_with;
+use program_files::{FileRefusal, WordsError, program, programs};
 use std::alloc::Global;
 use std::io::{self, ErrorKind, Read, Write};
 use std::process::Abort;
@@ -253,9 +252,9 @@ fn read<F: Read + Drop>(alloc: Global, file: io::Result<F>, path: &str) -> Resul
             let name = std::str::from_utf8(made.name.as_slice()).map_err(|_| "text")?;
             Ok(format!(in alloc; "{name} {}", made.bytes.len())?)
         }
-        Err(failure) => {
+        Err(refusal) => {
             let mut said = Vec::new(alloc);
-            let status = failure.close(&mut said);
+            let status = Failure::File(refusal).close(&mut said);
             let line = std::str::from_utf8(said.as_slice()).map_err(|_| "text")?;
             Ok(format!(in alloc; "{status} {line}")?)
         }
@@ -333,8 +332,8 @@ fn scarce<R: Abort + AllocGlobal>(rt: &R) -> Option<u8> {
     let alloc = rt.alloc();
     let greeting = match program(alloc, Ok(GREETING.as_bytes()), "init.s") {
         Ok(made) => made,
-        Err(failure) => {
-            assert!(rt; matches!(&failure, Failure::OutOfMemory));
+        Err(refusal) => {
+            assert!(rt; matches!(&refusal, FileRefusal::OutOfMemory));
             return None;
         }
     };
@@ -367,8 +366,8 @@ fn a_growth_that_the_host_refuses_is_want_of_memory(rt: HostRuntime) {
     }
     match settings(rt.alloc(), ["xv_run", "f"].as_slice()) {
         Ok(settings) => assert_eq!(rt; settings.files.len(), 1),
-        Err(SettingsError::Memory) => {}
-        Err(SettingsError::Words(error)) => {
+        Err(WordsError::Memory) => {}
+        Err(WordsError::Words(error)) => {
             assert_eq!(rt; error.kind(), clap::error::ErrorKind::OutOfMemory);
         }
     }

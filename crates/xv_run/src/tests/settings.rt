@@ -1,6 +1,7 @@
 //! The command line.
 use crate::command_line::{not_text, settings};
-use crate::line::{Settings, SettingsError};
+use crate::line::Settings;
+use program_files::WordsError;
 use std::alloc::{AllocError, Global};
 use std::io::{self, ErrorKind, Write};
 use std::test::Fail;
@@ -29,10 +30,10 @@ fn shown(alloc: Global, it: &Settings) -> Result<String, AllocError> {
 }
 
 // The status of a refusal, what goes to which stream, and its first line.
-fn told(alloc: Global, error: &SettingsError) -> Result<String, Fail> {
+fn told(alloc: Global, error: &WordsError) -> Result<String, Fail> {
     let mut output = Vec::new(alloc);
     let mut errors = Vec::new(alloc);
-    let status = error.close(&mut output, &mut errors);
+    let status = error.close("xv_run", &mut output, &mut errors);
     let (stream, text) = if errors.is_empty() {
         ("output", output)
     } else {
@@ -95,14 +96,14 @@ fn other_refusals(rt: HostRuntime) -> Result<(), Fail> {
         not_utf8.as_str(),
         "1 errors error: a word is not UTF-8 text"
     );
-    let memory = told(alloc, &SettingsError::Memory)?;
+    let memory = told(alloc, &WordsError::Memory)?;
     assert_eq!(rt; memory.as_str(), "1 errors xv_run: out of memory");
     let Err(help) = settings(alloc, ["xv_run", "-h"].as_slice()) else {
         return Err(Fail::from("help is asked for"));
     };
     let mut errors = Vec::new(alloc);
-    assert_eq!(rt; help.close(&mut Shut, &mut errors), 5);
+    assert_eq!(rt; help.close("xv_run", &mut Shut, &mut errors), 5);
     assert_eq!(rt; errors.as_slice(), b"xv_run: write fault\n".as_slice());
-    assert_eq!(rt; SettingsError::Memory.close(&mut Shut, &mut Shut), 1);
+    assert_eq!(rt; WordsError::Memory.close("xv_run", &mut Shut, &mut Shut), 1);
     Ok(())
 }

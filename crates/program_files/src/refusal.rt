@@ -1,0 +1,36 @@
+//! Why the programs of FILEs can't be had.
+use std::alloc::{AllocError, AllocFailed};
+use thiserror::Error;
+use uasm_core::AsmError;
+
+/// Why a FILE gives no program.
+#[derive(Debug, Drop, Error)]
+pub enum FileRefusal<'a> {
+    /// The FILE of this path can't be read.
+    #[error("{0}: cannot be read")]
+    CannotBeRead(&'a str),
+    /// The FILE of this path has more bytes than a program may have.
+    #[error("{0}: too long")]
+    TooLong(&'a str),
+    /// The FILE of this path is to be assembled, and isn't UTF-8.
+    #[error("{0}: not text")]
+    NotText(&'a str),
+    /// The FILE of this path can't be assembled.
+    #[error("{0}: {1}")]
+    Assembly(&'a str, AsmError),
+    /// The host has too little memory.
+    #[error("out of memory")]
+    OutOfMemory,
+}
+
+impl From<AllocError> for FileRefusal<'_> {
+    fn from(_error: AllocError) -> Self {
+        FileRefusal::OutOfMemory
+    }
+}
+
+impl<T: Drop> From<AllocFailed<T>> for FileRefusal<'_> {
+    fn from(_error: AllocFailed<T>) -> Self {
+        FileRefusal::OutOfMemory
+    }
+}

@@ -1,0 +1,88 @@
+//! The words of a command line, and why they are refused.
+use clap::Command;
+use clap::error::ErrorKind as WordsErrorKind;
+use std::alloc::{AllocError, AllocFailed};
+use std::env;
+use std::io::{self, ErrorKind, Write};
+use std::rt::Env;
+
+/// Why the words of a command line are refused.
+#[derive(Debug, Drop)]
+pub enum WordsError {
+    /// The words themselves are refused, or ask for help. The text is for the user.
+    Words(clap::Error),
+    /// The host has too little memory for the paths.
+    Memory,
+}
+
+impl WordsError {
+    /// Tells why the words of the program of this name are refused, or shows the help that they ask for, and
+    /// gives the status: 0 for help that was shown, 5 for help that `output` didn't take, and else 1. What
+    /// `errors` doesn't take is left out.
+    pub fn close<W: Write, E: Write>(&self, name: &str, output: &mut W, errors: &mut E) -> u8 {
+        match self {
+            WordsError::Words(text) if text.use_stderr() => {
+                let _ = write!(errors, "{text}");
+                1
+            }
+            WordsError::Words(text) => match show(text, output) {
+                Ok(()) => 0,
+                Err(_) => {
+                    let _ = writeln!(errors, "{name}: write fault");
+                    5
+                }
+            },
+            WordsError::Memory => {
+                let _ = writeln!(errors, "{name}: out of memory");
+                1
+            }
+        }
+    }
+}
+
+// Writes a text, and flushes it.
+fn show<W: Write>(text: &clap::Error, output: &mut W) -> io::Result<()> {
+    write!(output, "{text}")?;
+    output.flush()
+}
+
+// Where `clap` itself gets no memory, it says so in an error of its own.
+impl From<clap::Error> for WordsError {
+    fn from(error: clap::Error) -> Self {
+        WordsError::Words(error)
+    }
+}
+
+impl From<AllocError> for WordsError {
+    fn from(_error: AllocError) -> Self {
+        WordsError::Memory
+    }
+}
+
+impl<T: Drop> From<AllocFailed<T>> for WordsError {
+    fn from(_error: AllocFailed<T>) -> Self {
+        WordsError::Memory
+    }
+}
+
+/// The words of the command line, the program's name first.
+///
+/// # Errors
+///
+/// `InvalidData` if a word isn't UTF-8, and `OutOfMemory` if the host has too little memory for them.
+pub fn words<R: Env + AllocGlobal>(rt: &R) -> Result<Vec<String>, ErrorKind> {
+    match env::args(rt) {
+        Ok(words) => words
+            .collect(rt.alloc())
+            .map_err(|_| ErrorKind::OutOfMemory),
+        Err(error) => Err(error.kind()),
+    }
+}
+
+/// The refusal of a command line, in the form of those that `clap` makes.
+pub fn refused(command: &mut Command<'_>, kind: WordsErrorKind, message: &str) -> WordsError {
+    match command.error(kind, message) {
+        Ok(error) => WordsError::Words(error),
+        Err(error) => WordsError::Words(clap::Error::from(error)),
+    }
+}
