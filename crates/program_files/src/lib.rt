@@ -2,12 +2,12 @@
 //! the FILEs hold.
 #![tactic(auto)]
 
+mod arguments;
 mod files;
 mod options;
 mod refusal;
-mod words;
 
+pub use arguments::{WordsError, refused, words};
 pub use files::{program, programs};
 pub use options::{FRAMES, NumberOption, QUANTUM, ROUNDS, TRACE, file_argument, number, paths};
 pub use refusal::FileRefusal;
-pub use words::{WordsError, refused, words};

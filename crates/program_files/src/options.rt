@@ -1,7 +1,7 @@
 //! Options that programs here have in common.
 ghost use Rattle.std.specs.Prelude.{◌≡◌, ◌≤◌, ◌<◌, IfOk, vec_len};
 
-use crate::words::{WordsError, refused};
+use crate::arguments::{WordsError, refused};
 use clap::error::ErrorKind;
 use clap::{Arg, ArgMatches, Command};
 use std::alloc::Global;
