@@ -1,9 +1,7 @@
 -- The first process: what it is made of, and when it can't be made.
-use Rattle.std.specs.Prelude.{◌≡◌, ℕ, ◌+◌, if◌then◌else◌, [], ◌∷◌, Option, None, Some, Result, Ok, Err, nat_lt}
+use Rattle.std.specs.Prelude.{◌≡◌, [], ◌∷◌, Result}
 use Rattle.std.specs.FinMap.{empty}
 use Rattle.xk_base.specs.declared.errors.ExecError.{ExecError}
-use Rattle.xk_base.specs.declared.errors.ExecError.TheVariants.{NoFrames}
-use Rattle.xk_base.specs.Image.{price}
 use Rattle.xk_base.specs.Loaded.{Loaded, loaded}
 use Rattle.console_core.specs.Lists.{empty_console}
 use Rattle.file_table.specs.OpenFiles.{none_open}
@@ -33,11 +31,6 @@ pub record IsBlank (k : Kernel) : Type 0 where
 -- the program `init` with its name as the one text
 abbrev pub init_loaded : State → Result Loaded ExecError
 init_loaded s = loaded (program_bytes (init_of s.programs)) (init_name ∷ [])
-
--- why it can't be the first process
-abbrev pub start_refusal : (free : ℕ) → Result Loaded ExecError → Option ExecError
-start_refusal free (Err e) = Some e
-start_refusal free (Ok l) = if nat_lt free (price l.image + 1) then Some NoFrames else None
 
 -- the world after: pid 1 has the frames that it costs, and the first turn; the console and the clock stay
 abbrev pub started_world : Loaded → State → World

@@ -2,7 +2,7 @@
 use Rattle.std.proofs.Common.{◌≡◌, ℕ, ◌+◌, ◌≤◌, Bool, true, false, cond, ◌||◌, List, [], ◌∷◌, Option, None, Some, Result, Ok, Err, inl, inr, ◌⊎◌, refl, sym, ap, ◌∙◌, subst, arith, nat_lt}
 use Rattle.std.specs.Prelude.{IsSome, is_some, option_map}
 use Rattle.std.proofs.lemmas.Bool.{le-ltb}
-use Rattle.xk_base.specs.declared.limits.TheConstants.{FRAMES_MIN, FRAMES_MAX, TRACE_MAX}
+use Rattle.xk_base.specs.declared.limits.TheConstants.{TRACE_MAX}
 use Rattle.xk_base.specs.declared.errors.ExecError.{ExecError}
 use Rattle.xk_base.specs.declared.errors.ExecError.TheVariants.{NoFrames}
 use Rattle.xk_base.specs.declared.errors.BootError.{BootError}
@@ -23,36 +23,48 @@ use Rattle.kernel_spec.specs.views.Programs.{first_bad, init_of, init_name, prog
 use Rattle.std.specs.Prelude.{find, bytes_eq}
 use Rattle.xk_base.specs.declared.program.Program.{Program}
 use Rattle.kcall_core.proofs.processes.Asking.{found-among}
-use Rattle.kernel_spec.specs.runs.First.{first, first_programs, first_init, first_loaded, first_state, first_turns, first_process}
-use Rattle.kernel_spec.specs.views.NewKernel.{refusal, or_memory, empty_state}
+use Rattle.kernel_spec.specs.runs.First.{first, unless_refused, within_frames, first_init, first_loaded, first_state, first_turns, first_process}
+use Rattle.kernel_spec.specs.views.NewKernel.{are_refused, refusal, or_memory, empty_state}
 use Rattle.kernel_spec.specs.runs.Run.{World}
 use Rattle.console_core.specs.Lists.{empty_console}
-use Rattle.kcall_core.specs.Starts.{IsBlank, init_loaded, start_refusal, started_world}
+use Rattle.kcall_core.specs.Starts.{IsBlank, init_loaded, started_world}
 use Rattle.kcall_core.proofs.table.States.{none-some}
-use Rattle.xv_machine.specs.Boots.{Boots, without_init}
+use Rattle.xv_machine.specs.Boots.{Boots}
 use Rattle.xv_machine.specs.Meaning.{Meaning}
 
 -- a number of the configuration is out of its range
 abbrev pub is_bad_config : (frames trace : ℕ) → Bool
-is_bad_config frames trace = nat_lt frames FRAMES_MIN || nat_lt FRAMES_MAX frames || nat_lt TRACE_MAX trace
+is_bad_config frames trace = are_refused frames || nat_lt TRACE_MAX trace
 
-few : (a b c : Bool) → (a || b || c) ≡ false → (a || b) ≡ false
-few true b c e = e
-few false true c e = e
-few false false c e = refl
+-- neither of the two
+first-false : (a b : Bool) → (a || b) ≡ false → a ≡ false
+first-false true b e = e
+first-false false b e = refl
+
+second-false : (a b : Bool) → (a || b) ≡ false → b ≡ false
+second-false true b e = let no : ⊥ = cc in absurd no
+second-false false b e = e
 
 module _ (frames trace : ℕ) (programs : List ProgramFile) where
   pub first-bad : is_bad_config frames trace ≡ true → first frames trace programs ≡ Err BadConfig
   unfolding first
-  first-bad bad = ap (λ b. cond b (Err BadConfig) (first_programs frames programs (first_bad programs))) bad
-
-  first-good : is_bad_config frames trace ≡ false → (o : Option ℕ) → first_bad programs ≡ o → first frames trace programs ≡ first_programs frames programs o
-  unfolding first
-  first-good good o is = ap (λ b. cond b (Err BadConfig) (first_programs frames programs (first_bad programs))) good ∙ ap (first_programs frames programs) is
+  first-bad bad = by (are_refused frames) (nat_lt TRACE_MAX trace) bad
+    where
+      by : (a b : Bool) → (a || b) ≡ true → cond b (Err BadConfig) (unless_refused (cond a (Some BadConfig) (option_map BadPrograms (first_bad programs))) (first_init frames programs (init_of programs))) ≡ Err BadConfig
+      by true true e = refl
+      by true false e = refl
+      by false true e = refl
+      by false false e = let no : ⊥ = cc in absurd no
 
   module _ (good : is_bad_config frames trace ≡ false) where
     refusal-is : refusal frames programs ≡ option_map BadPrograms (first_bad programs)
-    refusal-is = ap (λ b. cond b (Some BadConfig) (option_map BadPrograms (first_bad programs))) (few (nat_lt frames FRAMES_MIN) (nat_lt FRAMES_MAX frames) (nat_lt TRACE_MAX trace) good)
+    refusal-is = ap (λ b. cond b (Some BadConfig) (option_map BadPrograms (first_bad programs))) (first-false (are_refused frames) (nat_lt TRACE_MAX trace) good)
+
+    first-good : (o : Option ℕ) → first_bad programs ≡ o → first frames trace programs ≡ unless_refused (option_map BadPrograms o) (first_init frames programs (init_of programs))
+    unfolding first
+    first-good o is =
+        ap (λ b. cond b (Err BadConfig) (unless_refused (refusal frames programs) (first_init frames programs (init_of programs)))) (second-false (are_refused frames) (nat_lt TRACE_MAX trace) good)
+        ∙ ap (λ r. unless_refused r (first_init frames programs (init_of programs))) (refusal-is ∙ ap (option_map BadPrograms) is)
 
     -- why there is no kernel
     pub no-kernel : (e : BootError) → e ≡ or_memory (refusal frames programs) → ((first_bad programs ≡ None) × (e ≡ Memory)) ⊎ ((i : ℕ) × (first_bad programs ≡ Some i) × (e ≡ BadPrograms i))
@@ -71,40 +83,33 @@ module _ (frames trace : ℕ) (programs : List ProgramFile) where
         by (Some i) e = absurd (none-some (BadPrograms i) (sym e))
 
     pub first-is : first_bad programs ≡ None → first frames trace programs ≡ first_init frames programs (init_of programs)
-    first-is bad = first-good good None bad
+    first-is bad = first-good None bad
 
     pub first-bad_programs : (i : ℕ) → first_bad programs ≡ Some i → first frames trace programs ≡ Err (BadPrograms i)
-    first-bad_programs i bad = first-good good (Some i) bad
-
-    pub first-no_init : first_bad programs ≡ None → is_some (init_of programs) ≡ false → first frames trace programs ≡ Err NoInit
-    first-no_init bad missing = first-is bad ∙ ap (first_init frames programs) (by (init_of programs) missing)
-      where
-        by : (o : Option ProgramFile) → is_some o ≡ false → o ≡ None
-        by None e = refl
-        by (Some p) e = let no : ⊥ = cc in absurd no
+    first-bad_programs i bad = first-good (Some i) bad
 
 -- ---- the file of init
 
 module _ (frames : ℕ) (programs : List ProgramFile) where
-  file-loaded : (o : Option ProgramFile) → is_some o ≡ true → first_init frames programs o ≡ first_loaded frames programs (loaded (program_bytes o) (init_name ∷ []))
+  file-loaded : (o : Option ProgramFile) → is_some o ≡ true → first_init frames programs o ≡ first_loaded frames programs (within_frames frames (loaded (program_bytes o) (init_name ∷ [])))
   file-loaded None e = let no : ⊥ = cc in absurd no
   file-loaded (Some p) e = refl
 
   module _ (there : is_some (init_of programs) ≡ true) where
-    pub first-loaded : (r : Result Loaded ExecError) → loaded (program_bytes (init_of programs)) (init_name ∷ []) ≡ r → first_init frames programs (init_of programs) ≡ first_loaded frames programs r
-    first-loaded r is = file-loaded (init_of programs) there ∙ ap (first_loaded frames programs) is
+    pub first-loaded : (r : Result Loaded ExecError) → loaded (program_bytes (init_of programs)) (init_name ∷ []) ≡ r → first_init frames programs (init_of programs) ≡ first_loaded frames programs (within_frames frames r)
+    first-loaded r is = file-loaded (init_of programs) there ∙ ap (λ x. first_loaded frames programs (within_frames frames x)) is
 
     -- want of memory may come wherever a program was to be loaded
     pub boots-memory : Boots frames (Err Memory) (first_init frames programs (init_of programs))
     boots-memory = subst (Boots frames (Err Memory)) (sym (first-loaded (loaded (program_bytes (init_of programs)) (init_name ∷ [])) refl)) (by (loaded (program_bytes (init_of programs)) (init_name ∷ [])))
       where
-        either : (b : Bool) (w : World) → Boots frames (Err Memory) (cond b (Err (Init NoFrames)) (Ok w))
-        either true w = inr refl
-        either false w = inr refl
+        either : (l : Loaded) (b : Bool) → Boots frames (Err Memory) (first_loaded frames programs (cond b (Err NoFrames) (Ok l)))
+        either l true = inr refl
+        either l false = inr refl
 
-        by : (r : Result Loaded ExecError) → Boots frames (Err Memory) (first_loaded frames programs r)
+        by : (r : Result Loaded ExecError) → Boots frames (Err Memory) (first_loaded frames programs (within_frames frames r))
         by (Err e) = inr refl
-        by (Ok l) = either (nat_lt frames (price l.image + 1)) (record { state = first_state frames programs l; turns = first_turns })
+        by (Ok l) = either l (nat_lt frames (price l.image + 1))
 
 -- ---- no kernel
 
@@ -116,13 +121,22 @@ boots-no_kernel frames trace programs e good is there = elim (no-kernel frames t
 
 -- ---- no `init`
 
-pub boots-without_init : (frames trace : ℕ) (programs : List ProgramFile) (answer : BootError) → is_bad_config frames trace ≡ false → is_some (init_of programs) ≡ false → answer ≡ without_init (first_bad programs)
-    → Boots frames (Err answer) (first frames trace programs)
-boots-without_init frames trace programs answer good missing told = by (first_bad programs) refl
-  where
-    by : (o : Option ℕ) → first_bad programs ≡ o → Boots frames (Err answer) (first frames trace programs)
-    by None bad = subst (Boots frames (Err answer)) (sym (first-no_init frames trace programs good bad missing)) (ap Err (told ∙ ap without_init bad))
-    by (Some i) bad = subst (Boots frames (Err answer)) (sym (first-bad_programs frames trace programs good i bad)) (ap Err (told ∙ ap without_init bad))
+-- a refusal is answered as it stands
+boots-refusal : (frames : ℕ) (e : BootError) → Boots frames (Err e) (Err e)
+boots-refusal frames BadConfig = refl
+boots-refusal frames (BadPrograms i) = refl
+boots-refusal frames NoInit = refl
+boots-refusal frames Memory = refl
+boots-refusal frames (Init e) = inl refl
+
+pub boots-without_init : (frames trace : ℕ) (programs : List ProgramFile) (answer : BootError) → is_bad_config frames trace ≡ false
+    → unless_refused (option_map BadPrograms (first_bad programs)) (first_init frames programs (init_of programs)) ≡ Err answer → Boots frames (Err answer) (first frames trace programs)
+boots-without_init frames trace programs answer good told = subst (Boots frames (Err answer)) (sym (first-good frames trace programs good (first_bad programs) refl ∙ told)) (boots-refusal frames answer)
+
+-- a program that isn't there
+pub init-missing : (o : Option ProgramFile) → is_some o ≡ false → o ≡ None
+init-missing None e = refl
+init-missing (Some p) e = let no : ⊥ = cc in absurd no
 
 -- ---- a kernel
 
@@ -182,29 +196,16 @@ module _ (frames : ℕ) (programs : List ProgramFile) (s : State) (free : s.free
   boots-started console clock l m is enough world count =
       let low : nat_lt frames (price l.image + 1) ≡ false = le-ltb frames (price l.image + 1) (omega (arith, enough, free)) in
       let w : World = record { state = first_state frames programs l; turns = first_turns } in
-      let first_is : first_init frames programs (init_of programs) ≡ Ok w = first-loaded frames programs there (Ok l) (loads (Ok l) is) ∙ ap (λ b. cond b (Err (Init NoFrames)) (Ok w)) low in
+      let first_is : first_init frames programs (init_of programs) ≡ Ok w = first-loaded frames programs there (Ok l) (loads (Ok l) is) ∙ ap (λ b. first_loaded frames programs (cond b (Err NoFrames) (Ok l))) low in
       let now : m.world ≡ w = world ∙ (λ i. record { state = record (first_state (free i) (same i) l) { console = console i; clock = clock i }; turns = first_turns }) in
       subst (Boots frames (Ok m)) (sym first_is) (inl (now, count))
 
   -- it is refused
-  pub boots-refused : (e : ExecError) → start_refusal s.free (init_loaded s) ≡ Some e → Boots frames (Err (Init e)) (first_init frames programs (init_of programs))
-  boots-refused e refused = by (init_loaded s) refl (sym (ap (λ n. start_refusal n (init_loaded s)) free) ∙ refused)
-    where
-      same-error : (a b : ExecError) → Some a ≡ Some b → a ≡ b
-      same-error a b e = cc
-
-      either : (b : Bool) (w : World) → cond {A = Option ExecError} b (Some NoFrames) None ≡ Some e → cond {A = Result World BootError} b (Err (Init NoFrames)) (Ok w) ≡ Err (Init e)
-      either true w is = ap (λ x. Err (Init x)) (same-error NoFrames e is)
-      either false w is = absurd (none-some e is)
-
-      why : (r : Result Loaded ExecError) → start_refusal frames r ≡ Some e → first_loaded frames programs r ≡ Err (Init e)
-      why (Err x) is = ap (λ y. Err (Init y)) (same-error x e is)
-      why (Ok l) is = either (nat_lt frames (price l.image + 1)) (record { state = first_state frames programs l; turns = first_turns }) is
-
-      by : (r : Result Loaded ExecError) → init_loaded s ≡ r → start_refusal frames (init_loaded s) ≡ Some e → Boots frames (Err (Init e)) (first_init frames programs (init_of programs))
-      by r is told =
-          let first_is : first_init frames programs (init_of programs) ≡ Err (Init e) = first-loaded frames programs there r (loads r is) ∙ why r (ap (start_refusal frames) (sym is) ∙ told) in
-          subst (Boots frames (Err (Init e))) (sym first_is) (inl refl)
+  pub boots-refused : (e : ExecError) → within_frames s.free (init_loaded s) ≡ Err e → Boots frames (Err (Init e)) (first_init frames programs (init_of programs))
+  boots-refused e refused =
+      let now : within_frames s.free (init_loaded s) ≡ within_frames frames (loaded (program_bytes (init_of programs)) (init_name ∷ [])) = λ i. within_frames (free i) (loaded (program_bytes (init_of (same i))) (init_name ∷ [])) in
+      let first_is : first_init frames programs (init_of programs) ≡ Err (Init e) = first-loaded frames programs there (loaded (program_bytes (init_of programs)) (init_name ∷ [])) refl ∙ ap (first_loaded frames programs) (sym now ∙ refused) in
+      subst (Boots frames (Err (Init e))) (sym first_is) (inl refl)
 
 -- ---- the programs
 

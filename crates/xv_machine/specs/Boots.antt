@@ -1,14 +1,9 @@
 -- What boot answers.
-use Rattle.std.specs.Prelude.{◌≡◌, ◌⊎◌, ℕ, [], Option, Some, None, Result, Ok, Err}
+use Rattle.std.specs.Prelude.{◌≡◌, ◌⊎◌, ℕ, [], Result, Ok, Err}
 use Rattle.xk_base.specs.declared.errors.BootError.{BootError}
 use Rattle.xk_base.specs.declared.errors.BootError.TheVariants.{BadConfig, BadPrograms, NoInit, Memory, Init}
 use Rattle.kernel_spec.specs.runs.Run.{World}
 use Rattle.xv_machine.specs.Meaning.{Meaning}
-
--- why there is no machine of programs of which none is called `init`: the least of them that is bad, and else just that
-abbrev pub without_init : (bad : Option ℕ) → BootError
-without_init (Some i) = BadPrograms i
-without_init None = NoInit
 
 -- the machine stands for this world, in RAM of so many frames
 abbrev pub Starts : ℕ → World → Result Meaning BootError → Type 0

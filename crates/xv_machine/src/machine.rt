@@ -1,10 +1,11 @@
 //! The machine: how it is booted, what it makes of events, and what is told of it.
-ghost use Rattle.std.specs.Prelude.{◌≡◌, ◌∷◌, ◌++◌, [], is_some, map, replicate};
+ghost use Rattle.std.specs.Prelude.{◌≡◌, ℕ, ◌∷◌, ◌++◌, [], None, Err, is_some, map, option_map, replicate};
+ghost use Rattle.xk_base.specs.declared.errors.BootError.TheVariants.{BadPrograms};
 ghost use Rattle.circular_buffer.specs.Buffer.{buffer, keep_last};
 ghost use Rattle.xv_machine.specs.declared.trace.Note.TheVariants.{Stepped};
 ghost use Rattle.kernel_spec.specs.views.State.{named_file};
 ghost use Rattle.kernel_spec.specs.views.Programs.{first_bad, init_of};
-ghost use Rattle.xv_machine.specs.Boots.{without_init};
+ghost use Rattle.kernel_spec.specs.runs.First.{unless_refused, first_init};
 ghost use Rattle.kernel_spec.specs.waking.Wakes.{is_turn};
 ghost use Rattle.xv_machine.specs.Events.{outcome_of, halted_by};
 
@@ -33,11 +34,12 @@ pub struct Config {
 
 impl Config {
     ghost use Rattle.std.specs.Prelude.{◌||◌, nat_lt};
-    ghost use Rattle.xk_base.specs.declared.limits.TheConstants.{FRAMES_MIN, FRAMES_MAX, TRACE_MAX};
+    ghost use Rattle.xk_base.specs.declared.limits.TheConstants.{TRACE_MAX};
+    ghost use Rattle.kernel_spec.specs.views.NewKernel.{are_refused};
 
     // Whether a number is out of its range.
     fn is_refused(&self) -> bool
-        ensures { result ≡ (nat_lt self.now.frames FRAMES_MIN || nat_lt FRAMES_MAX self.now.frames || nat_lt TRACE_MAX self.now.trace) }
+        ensures { result ≡ (are_refused self.now.frames || nat_lt TRACE_MAX self.now.trace) }
     {
         (self.frames < FRAMES_MIN) | (self.frames > FRAMES_MAX) | (self.trace > TRACE_MAX)
     }
@@ -55,7 +57,8 @@ fn has_init(programs: &[Program]) -> bool
 
 // Why there is no machine of programs of which none is called `init`.
 fn without_init(programs: &[Program]) -> BootError
-    ensures { result ≡ without_init (first_bad (map named_file programs.now)) }
+    requires { init_of (map named_file programs.now) ≡ None }
+    ensures { let ps = map named_file programs.now in (frames : ℕ) → unless_refused (option_map BadPrograms (first_bad ps)) (first_init frames ps (init_of ps)) ≡ Err result }
 {
     match first_refused(programs) {
         Some(index) => BootError::BadPrograms(index),

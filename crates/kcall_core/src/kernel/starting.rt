@@ -1,13 +1,14 @@
 //! The first process (xv6's `userinit` of `proc.c`, and what its first program does; the xv6 book, "Code: starting
 //! xv6, the first process and system call").
-ghost use Rattle.std.specs.Prelude.{◌≡◌, ℕ, ◌+◌, ◌%◌, ◌≤◌, [], ◌∷◌, Some, None, Ok, IsSome, IfOk, IfErr, map};
+ghost use Rattle.std.specs.Prelude.{◌≡◌, ℕ, ◌+◌, ◌%◌, ◌≤◌, [], ◌∷◌, Some, None, Ok, Err, IsSome, IfOk, IfErr, map};
 ghost use Rattle.xk_base.specs.Image.{price};
 ghost use Rattle.xk_base.specs.Loaded.{Loaded, loaded};
 ghost use Rattle.rv64i_core.specs.Registers.{fresh, put};
 ghost use Rattle.kernel_spec.specs.views.Words.{SP, A0, A1};
 ghost use Rattle.kernel_spec.specs.views.Programs.{init_name, init_of, program_bytes};
 ghost use Rattle.kernel_spec.specs.views.State.{named_file};
-ghost use Rattle.kcall_core.specs.Starts.{HasNoProcess, init_loaded, start_refusal, started_world};
+ghost use Rattle.kernel_spec.specs.runs.First.{within_frames};
+ghost use Rattle.kcall_core.specs.Starts.{HasNoProcess, init_loaded, started_world};
 ghost use Rattle.kcall_core.specs.Holdings.{IsVacant};
 ghost use Rattle.kcall_core.specs.Memories as memory;
 ghost use Rattle.kcall_core.specs.Memories.{each_of, free_of, SlotChanges, Same};
@@ -55,7 +56,7 @@ fn load_first(memories: &mut Memories, programs: &[Program]) -> Result<Entry, Ex
     requires vacant { IsVacant (each_of memories.old) 0 }
     requires program { IsSome (init_of (map named_file programs.now)) }
     ensures loaded { IfOk result (λ start. (l : Loaded) × (loaded (program_bytes (init_of (map named_file programs.now))) (init_name ∷ []) ≡ Ok l) × (start ≡ record { pc = l.pc; sp = l.sp; argc = l.argc }) × (l.pc % 4 ≡ 0) × (price l.image + 1 ≤ free_of memories.old) × SlotChanges memories.old memories.new 0 (Some (record { image = l.image; saved = fresh 0 }))) }
-    ensures refused { IfErr result (λ e. (start_refusal (free_of memories.old) (loaded (program_bytes (init_of (map named_file programs.now))) (init_name ∷ [])) ≡ Some e) × (memories.new ≡ memories.old)) }
+    ensures refused { IfErr result (λ e. (within_frames (free_of memories.old) (loaded (program_bytes (init_of (map named_file programs.now))) (init_name ∷ [])) ≡ Err e) × (memories.new ≡ memories.old)) }
 {
     let Some(program) = program_named(programs, b"init".as_slice()) else {
         unreachable!();
@@ -85,7 +86,7 @@ impl Kernel {
         ensures whole { IsWhole self.new hart.new }
         ensures stopped { IsStopped self.new }
         ensures started { let s = state_of self.old hart.old in IfOk result (λ _. (l : Loaded) × (init_loaded s ≡ Ok l) × (price l.image + 1 ≤ s.free) × (world_of self.new hart.new None ≡ started_world l s)) }
-        ensures refused { let s = state_of self.old hart.old in IfErr result (λ e. (start_refusal s.free (init_loaded s) ≡ Some e) × (self.new ≡ self.old) × (hart.new ≡ hart.old)) }
+        ensures refused { let s = state_of self.old hart.old in IfErr result (λ e. (within_frames s.free (init_loaded s) ≡ Err e) × (self.new ≡ self.old) × (hart.new ≡ hart.old)) }
         ensures frames { frame_count self.new ≡ frame_count self.old }
     {
         let start = load_first(&mut self.memories, &self.programs)?;

@@ -8,18 +8,19 @@ use Rattle.xk_base.specs.declared.errors.ExecError.{ExecError}
 use Rattle.xk_base.specs.declared.errors.BootError.{BootError}
 use Rattle.xk_base.specs.declared.errors.BootError.TheVariants.{BadConfig, Init}
 use Rattle.xk_base.specs.declared.errors.ExecError.TheVariants.{NoFrames}
-use Rattle.xk_base.specs.declared.limits.TheConstants.{FRAMES_MIN, FRAMES_MAX, TRACE_MAX}
+use Rattle.xk_base.specs.declared.limits.TheConstants.{TRACE_MAX}
 use Rattle.kernel_spec.specs.views.State.{ProgramFile, State, live_part}
 use Rattle.xk_base.specs.Image.{price}
 use Rattle.xk_base.specs.Loaded.{Loaded, loaded}
 use Rattle.pipe_core.specs.Pipe.{Pipe}
-use Rattle.kernel_spec.specs.views.Programs.{init_name, first_bad, init_of}
+use Rattle.kernel_spec.specs.views.Programs.{init_name, init_of}
 use Rattle.kernel_spec.specs.views.Processes.{Process, Alive, Live}
 use Rattle.kernel_spec.specs.views.View.{View, view, view_of}
 use Rattle.kernel_spec.specs.others.Quiet.{file_at, file_of}
 use Rattle.kernel_spec.specs.views.WellFormed.{WellFormed, HasSlots, over_all, cost, sum_below}
 use Rattle.kernel_spec.specs.runs.Run.{World}
-use Rattle.kernel_spec.specs.runs.First.{first, first_programs, first_init, first_loaded, first_state, first_turns, first_process, FirstWell, FirstSlots}
+use Rattle.kernel_spec.specs.runs.First.{first, unless_refused, within_frames, first_init, first_loaded, first_state, first_turns, first_process, FirstWell, FirstSlots}
+use Rattle.kernel_spec.specs.views.NewKernel.{refusal}
 use Rattle.kernel_spec.specs.waking.Turns.{Sleeps, HasSlot}
 use Rattle.std.specs.FinSet.{contains, contains-empty}
 use Rattle.kernel_spec.proofs.steps.Maps.{get_at, get_same}
@@ -100,14 +101,14 @@ some_world : (a b : World) → ◌≡◌ {A = Result World BootError} (Ok a) (Ok
 some_world a b e = cc
 
 by_frames : (frames : ℕ) (programs : List ProgramFile) (l : Loaded) → IsLoaded l → (w : World) (b : Bool) → nat_lt frames (price l.image + 1) ≡ b
-    → cond {A = Result World BootError} b (Err (Init NoFrames)) (Ok (record { state = first_state frames programs l; turns = first_turns })) ≡ Ok w → IsFirst frames programs w
+    → first_loaded frames programs (cond {A = Result Loaded ExecError} b (Err NoFrames) (Ok l)) ≡ Ok w → IsFirst frames programs w
 by_frames frames programs l made w true e h = let no : ⊥ = cc in absurd no
 by_frames frames programs l made w false e h =
     let same : record { state = first_state frames programs l; turns = first_turns } ≡ w = some_world (record { state = first_state frames programs l; turns = first_turns }) w h in
     let enough : price l.image + 1 ≤ frames = elim (leb_tells (price l.image + 1) frames) [ inl t ↦ t.1 | inr t ↦ absurd (let less : nat_lt frames (price l.image + 1) ≡ true = lt-ltb frames (price l.image + 1) t.1 in let no : true ≡ false = sym less ∙ e in let bad : ⊥ = cc in bad) ] in
     (l, enough, sym same, made)
 
-by_loaded : (frames : ℕ) (programs : List ProgramFile) (r : Result Loaded ExecError) (file : List ℕ) (texts : List (List ℕ)) → loaded file texts ≡ r → (w : World) → first_loaded frames programs r ≡ Ok w → IsFirst frames programs w
+by_loaded : (frames : ℕ) (programs : List ProgramFile) (r : Result Loaded ExecError) (file : List ℕ) (texts : List (List ℕ)) → loaded file texts ≡ r → (w : World) → first_loaded frames programs (within_frames frames r) ≡ Ok w → IsFirst frames programs w
 by_loaded frames programs (Err e) file texts made w h = let no : ⊥ = cc in absurd no
 by_loaded frames programs (Ok l) file texts made w h = by_frames frames programs l (file, texts, made) w (nat_lt frames (price l.image + 1)) refl h
 
@@ -115,17 +116,17 @@ by_init : (frames : ℕ) (programs : List ProgramFile) (o : Option ProgramFile) 
 by_init frames programs None w h = let no : ⊥ = cc in absurd no
 by_init frames programs (Some program) w h = by_loaded frames programs (loaded program.bytes (init_name ∷ [])) program.bytes (init_name ∷ []) refl w h
 
-by_programs : (frames : ℕ) (programs : List ProgramFile) (o : Option ℕ) (w : World) → first_programs frames programs o ≡ Ok w → IsFirst frames programs w
-by_programs frames programs (Some k) w h = let no : ⊥ = cc in absurd no
-by_programs frames programs None w h = by_init frames programs (init_of programs) w h
+by_refusal : (frames : ℕ) (programs : List ProgramFile) (o : Option BootError) (w : World) → unless_refused o (first_init frames programs (init_of programs)) ≡ Ok w → IsFirst frames programs w
+by_refusal frames programs (Some e) w h = let no : ⊥ = cc in absurd no
+by_refusal frames programs None w h = by_init frames programs (init_of programs) w h
 
-by_config : (frames trace : ℕ) (programs : List ProgramFile) (w : World) (b : Bool) → cond b (Err BadConfig) (first_programs frames programs (first_bad programs)) ≡ Ok w → IsFirst frames programs w
-by_config frames trace programs w true h = let no : ⊥ = cc in absurd no
-by_config frames trace programs w false h = by_programs frames programs (first_bad programs) w h
+by_trace : (frames : ℕ) (programs : List ProgramFile) (w : World) (b : Bool) → cond b (Err BadConfig) (unless_refused (refusal frames programs) (first_init frames programs (init_of programs))) ≡ Ok w → IsFirst frames programs w
+by_trace frames programs w true h = let no : ⊥ = cc in absurd no
+by_trace frames programs w false h = by_refusal frames programs (refusal frames programs) w h
 
 is_first : (frames trace : ℕ) (programs : List ProgramFile) (w : World) → first frames trace programs ≡ Ok w → IsFirst frames programs w
 unfolding first
-is_first frames trace programs w h = by_config frames trace programs w (nat_lt frames FRAMES_MIN || nat_lt FRAMES_MAX frames || nat_lt TRACE_MAX trace) h
+is_first frames trace programs w h = by_trace frames programs w (nat_lt TRACE_MAX trace) h
 
 pub first_well : FirstWell
 first_well frames trace programs w h = let f = is_first frames trace programs w h in subst (λ (v : World). WellFormed frames v.state) (sym f.2) (state_well frames programs f.0 f.1)

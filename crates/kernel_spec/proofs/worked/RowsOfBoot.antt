@@ -14,7 +14,7 @@ use Rattle.rv64i_core.specs.Registers.{reg}
 use Rattle.console_core.specs.Lists.{empty_console}
 use Rattle.kernel_spec.specs.views.State.{ProgramFile}
 use Rattle.kernel_spec.specs.views.Programs.{is_bad_name, first_bad, is_bad_program, init_of, program_named}
-use Rattle.kernel_spec.specs.runs.First.{first, first_loaded, first_regs, first_state, first_turns}
+use Rattle.kernel_spec.specs.runs.First.{first, within_frames, first_loaded, first_regs, first_state, first_turns}
 use Rattle.kernel_spec.specs.runs.Run.{World}
 
 -- ---- the limits
@@ -130,24 +130,27 @@ bad_program = refl
 -- `init` itself isn't loaded
 bad_init : (e : ExecError) → loaded [] (codes "init" ∷ []) ≡ Err e → first 16 0 (empty_file (codes "init") ∷ []) ≡ Err (Init e)
 unfolding first first_bad is_bad_program least_below init_of
-bad_init e is = ap (first_loaded 16 (empty_file (codes "init") ∷ [])) is
+bad_init e is = ap (λ r. first_loaded 16 (empty_file (codes "init") ∷ []) (within_frames 16 r)) is
 
 -- ---- an `init` that costs 19 frames and one for its registers
 
 module _ (programs : List ProgramFile) (l : Loaded) (costs : price l.image ≡ 19) where
-  first_if : (frames : ℕ) → Bool → Result World BootError
-  first_if frames less = cond less (Err (Init NoFrames)) (Ok (record { state = first_state frames programs l; turns = first_turns }))
+  first_with : (frames : ℕ) → Result World BootError
+  first_with frames = first_loaded frames programs (within_frames frames (Ok l))
 
-  first_asks : (frames : ℕ) → first_loaded frames programs (Ok l) ≡ first_if frames (nat_lt frames 20)
-  unfolding first_if
+  first_if : (frames : ℕ) → Bool → Result World BootError
+  first_if frames less = first_loaded frames programs (cond less (Err NoFrames) (Ok l))
+
+  first_asks : (frames : ℕ) → first_with frames ≡ first_if frames (nat_lt frames 20)
+  unfolding first_with first_if
   first_asks frames = ap (λ (n : ℕ). first_if frames (nat_lt frames (n + 1))) costs
 
   -- one frame too few, and exactly as many as it takes
-  frames_19 : first_loaded 19 programs (Ok l) ≡ Err (Init NoFrames)
+  frames_19 : first_with 19 ≡ Err (Init NoFrames)
   unfolding first_if
   frames_19 = first_asks 19
 
-  frames_20 : first_loaded 20 programs (Ok l) ≡ Ok (record { state = first_state 20 programs l; turns = first_turns })
+  frames_20 : first_with 20 ≡ Ok (record { state = first_state 20 programs l; turns = first_turns })
   unfolding first_if
   frames_20 = first_asks 20
 

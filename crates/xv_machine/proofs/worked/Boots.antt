@@ -3,7 +3,7 @@ use Rattle.std.proofs.Common.{◌≡◌, Some, None, Ok, Err, inl, inr, refl, ar
 use Rattle.xk_base.specs.declared.errors.ExecError.TheVariants.{NoFrames, NotElf}
 use Rattle.xk_base.specs.declared.errors.BootError.TheVariants.{BadConfig, BadPrograms, NoInit, Memory, Init}
 use Rattle.kernel_spec.specs.runs.Run.{World}
-use Rattle.xv_machine.specs.Boots.{without_init, Boots}
+use Rattle.xv_machine.specs.Boots.{Boots}
 use Rattle.xv_machine.specs.Meaning.{Meaning}
 
 module _ (w : World) (m : Meaning) where
@@ -64,10 +64,3 @@ memory_before_no_init boots = let bad : ⊥ = cc in bad
 -- the program that is refused is the one that is told
 other_program : Boots 16 (Err (BadPrograms 1)) (Err (BadPrograms 0)) → ⊥
 other_program boots = let bad : ⊥ = cc in bad
-
--- without a program `init` the least that is bad is told first
-least_bad : without_init (Some 3) ≡ BadPrograms 3
-least_bad = refl
-
-none_bad : without_init None ≡ NoInit
-none_bad = refl

@@ -1,13 +1,12 @@
-use Rattle.std.proofs.Common.{◌≡◌, [], ◌∷◌, length, Some, IsSome, Ok, map, refl, sym, ap, ◌∙◌, subst}
+use Rattle.std.proofs.Common.{◌≡◌, [], ◌∷◌, length, Some, IsSome, Ok, Err, map, refl, sym, ap, ◌∙◌, subst}
 use Rattle.std.proofs.lemmas.Result.{err_from_is_err_and}
 use Rattle.xk_base.specs.Loaded.{loaded}
 use Rattle.exec_core.specs.declared.planning.Entry.{Entry}
 use Rattle.rv64i_core.specs.Registers.{fresh, put}
 use Rattle.kernel_spec.specs.views.Words.{SP, A0, A1}
-use Rattle.kernel_spec.specs.runs.First.{first_regs}
+use Rattle.kernel_spec.specs.runs.First.{first_regs, within_frames}
 use Rattle.kernel_spec.specs.views.Programs.{init_name, init_of, program_bytes}
 use Rattle.kernel_spec.specs.views.State.{named_file}
-use Rattle.kcall_core.specs.Starts.{start_refusal}
 use Rattle.kcall_core.specs.Memories.{free_of}
 use Rattle.kcall_core.specs.Kernel.{state_of}
 use Rattle.kcall_core.specs.Whole.{IsWhole}
@@ -29,7 +28,7 @@ returns-in_err-start-clause-refused c =
     let p = err_from_is_err_and c.from_residual.result c.from_residual.ensures.1 in
     let r = c.in_err-start.ensures.refused in
     rw (p.1, p.2) (
-      subst (λ ps. start_refusal (free_of c.args.self.now.memories) (loaded (program_bytes (init_of (map named_file ps))) (init_name ∷ [])) ≡ Some c.in_err-start.field-0.0) c.deref.ensures.value r.0,
+      subst (λ ps. within_frames (free_of c.args.self.now.memories) (loaded (program_bytes (init_of (map named_file ps))) (init_name ∷ [])) ≡ Err c.in_err-start.field-0.0) c.deref.ensures.value r.0,
       ap (λ m. record c.args.self.now { memories = m }) r.1,
       refl,
     )

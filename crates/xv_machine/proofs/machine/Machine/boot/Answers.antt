@@ -1,10 +1,11 @@
 use Rattle.std.proofs.Common.{ap, sym, ◌∙◌, refl, subst, map, Err}
-use Rattle.std.specs.Prelude.{is_some}
-use Rattle.xk_base.specs.declared.errors.BootError.TheVariants.{BadConfig}
+use Rattle.std.specs.Prelude.{◌≡◌, is_some, option_map}
+use Rattle.kernel_spec.specs.runs.First.{unless_refused, first_init}
+use Rattle.xk_base.specs.declared.errors.BootError.TheVariants.{BadConfig, BadPrograms}
 use Rattle.kernel_spec.specs.views.State.{named_file}
 use Rattle.kernel_spec.specs.views.Programs.{first_bad, init_of}
-use Rattle.xv_machine.specs.Boots.{Boots, without_init}
-use Rattle.xv_machine.proofs.Starts.{first-bad, programs-same, boots-kernel, boots-no_kernel, boots-without_init}
+use Rattle.xv_machine.specs.Boots.{Boots}
+use Rattle.xv_machine.proofs.Starts.{first-bad, programs-same, boots-kernel, boots-no_kernel, boots-without_init, init-missing}
 use Rattle.xv_machine.proofs.machine.Machine.boot.Goals as goal
 
 pub returns-then-is_refused-clause-boots : goal.returns-then-is_refused-clause-boots
@@ -13,9 +14,14 @@ returns-then-is_refused-clause-boots c =
 
 pub returns-then-not-has_init-clause-boots : goal.returns-then-not-has_init-clause-boots
 returns-then-not-has_init-clause-boots c =
-    boots-without_init c.args.config.frames c.args.config.trace (map named_file c.args.programs.items) c.without_init.result (sym c.is_refused.ensures ∙ c.if-is_refused.false)
-    (ap (λ qs. is_some (init_of (map named_file qs))) (sym c.deref.ensures.value) ∙ sym c.has_init.ensures ∙ c.if-not-has_init.true)
-    (c.without_init.ensures ∙ ap (λ qs. without_init (first_bad (map named_file qs))) c.deref-then-not-has_init.ensures.value)
+    let told = subst (λ qs. unless_refused (option_map BadPrograms (first_bad (map named_file qs))) (first_init c.args.config.frames (map named_file qs) (init_of (map named_file qs))) ≡ Err c.without_init.result)
+    c.deref-then-not-has_init.ensures.value (c.without_init.ensures c.args.config.frames) in
+    boots-without_init c.args.config.frames c.args.config.trace (map named_file c.args.programs.items) c.without_init.result (sym c.is_refused.ensures ∙ c.if-is_refused.false) told
+
+pub without_init-requires : goal.without_init-requires
+without_init-requires c =
+    init-missing (init_of (map named_file c.deref-then-not-has_init.result.now))
+    (ap (λ qs. is_some (init_of (map named_file qs))) (c.deref-then-not-has_init.ensures.value ∙ sym c.deref.ensures.value) ∙ sym c.has_init.ensures ∙ c.if-not-has_init.true)
 
 pub with_trace-requires-clause-program : goal.with_trace-requires-clause-program
 with_trace-requires-clause-program c =
