@@ -16,7 +16,10 @@
 #
 # The last line of keys and of what is shown ends in \c where no line's end follows.
 set -u
-program=${XV_RUN-$(dirname "$0")/../../crates/xv_run/out/xv_run}
+top=$(dirname "$0")/../..
+built=$top/crates/xv_run/out/xv_run
+[ ! -d "$top/bin" ] || built=$top/bin/xv_run
+program=${XV_RUN-$built}
 [ -x "$program" ] || { echo "there is no program $program: build it by ./xv" >&2; exit 2; }
 program=$(readlink -f "$program")
 cd "$(dirname "$0")" || exit 2
