@@ -3,6 +3,7 @@ pub mod Codes
 pub mod Devices
 pub mod Drives
 pub mod Events
+pub mod Instructions
 pub mod Machine
 pub mod Meaning
 pub mod Notes

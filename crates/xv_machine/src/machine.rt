@@ -11,7 +11,7 @@ ghost use Rattle.xv_machine.specs.Events.{outcome_of, halted_by};
 mod observers;
 
 use crate::event::{Event, Outcome};
-use crate::step::{Stretch, advance, step};
+use crate::step::{Stretch, advance, instructions, step};
 use crate::trace::Note;
 use crate::trace_runs::Trace;
 use hart_core::Hart;
@@ -141,6 +141,7 @@ impl Machine {
     ghost use Rattle.kernel_spec.specs.views.State.{named_file};
     ghost use Rattle.hart_core.specs.declared.hart.Hart.{Hart};
     ghost use Rattle.kernel_spec.specs.views.Programs.{init_of};
+    ghost use Rattle.kernel_spec.specs.views.Words.{or_zero};
     ghost use Rattle.kcall_core.specs.Starts.{IsBlank};
     ghost use Rattle.kcall_core.specs.Kernel as kernels;
     ghost use Rattle.kcall_core.specs.Whole.{IsWhole};
@@ -150,8 +151,9 @@ impl Machine {
     ghost use Rattle.kcall_core.specs.Observers.{registers_of, byte_at, child_at, shown};
     ghost use Rattle.circular_buffer.specs.Buffer.{keep_last};
     ghost use Rattle.xv_machine.specs.Boots.{Boots, HasEmptyTrace};
-    ghost use Rattle.xv_machine.specs.Drives.{Goes, Ran};
+    ghost use Rattle.xv_machine.specs.Drives.{Goes, Ran, done_by};
     ghost use Rattle.xv_machine.specs.Events.{event_of, outcome_of};
+    ghost use Rattle.xv_machine.specs.Instructions.{NextIsOther};
     ghost use Rattle.xv_machine.specs.Machine.{SameTrace};
     ghost use Rattle.xv_machine.specs.declared.trace.Note.TheVariants.{Stepped};
     ghost use Rattle.xv_machine.specs.Reached.{IsEvent};
@@ -405,6 +407,36 @@ impl Machine {
             made,
             end: Some(last),
         }
+    }
+
+    /// Sends Run as long as the next step of the current process is a done instruction, `most` times at most. So it
+    /// stops before a kernel call, before a fault, and before a step of a process that is marked or in a call; where
+    /// nobody runs it sends nothing. It tells how many were sent. The trace keeps a note of each.
+    #[inline(always)]
+    pub fn instructions(&mut self, most: u32) -> u32
+        ensures goes { Goes self.old (replicate result (done_by (or_zero self.old.world.turns.current))) self.new }
+        ensures within { result ≤ most }
+        ensures stops { result < most → NextIsOther self.new }
+    {
+        let Some(pid) = self.current() else {
+            return 0;
+        };
+        let made = self.make_instructions(pid, most);
+        self.keep_often(Note::Stepped { pid }, made);
+        made
+    }
+
+    // The process that runs does these instructions, of which the trace keeps no note yet.
+    #[inline(always)]
+    fn make_instructions(&mut self, pid: Pid, most: u32) -> u32
+        requires current { self.old.world.turns.current ≡ Some pid }
+        ensures run { IsPromised self.old.world (replicate result (done_by pid)) self.new.world }
+        ensures within { result ≤ most }
+        ensures stops { result < most → NextIsOther self.new }
+        ensures frames { self.new.frames.count ≡ self.old.frames.count }
+        ensures trace { SameTrace self.old self.new }
+    {
+        instructions(&mut self.kernel, &mut self.hart, most)
     }
 
     // The clock counts a tick, unless process 1 is gone.

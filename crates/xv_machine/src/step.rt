@@ -10,6 +10,7 @@ ghost use Rattle.kcall_core.specs.Whole.{IsWhole};
 ghost use Rattle.kcall_core.specs.Makes.{Makes, view_now, stop_now, answer_of};
 ghost use Rattle.rv64i_core.specs.declared.execution.Stop.TheVariants as stops;
 ghost use Rattle.xv_machine.specs.Events.{outcome_of};
+ghost use Rattle.xv_machine.specs.Instructions.{Instructed};
 ghost use Rattle.xv_machine.specs.Steps.{IsBusy, Advanced};
 
 use crate::event::Outcome;
@@ -169,4 +170,19 @@ pub(crate) fn advance(kernel: &mut Kernel, hart: &mut Hart, pid: Pid, most: u32)
             }
         }
     }
+}
+
+/// Instructions of the process that runs, up to the first step that is no done instruction, `most` at most. That step
+/// isn't made. How many were done.
+#[inline(always)]
+pub(crate) fn instructions(kernel: &mut Kernel, hart: &mut Hart, most: u32) -> u32
+    requires whole { IsWhole kernel.old hart.old }
+    requires running { IsRunning kernel.old }
+    requires first { IsSome (live (state_of kernel.old hart.old) 1) }
+    ensures { Instructed kernel.old hart.old most result kernel.new hart.new }
+{
+    if is_busy(kernel) {
+        return 0;
+    }
+    kernel.steps(hart, most).made
 }
