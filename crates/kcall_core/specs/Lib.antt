@@ -2,6 +2,7 @@ pub mod Holdings
 pub mod Memories
 pub mod Kernel
 pub mod Starts
+pub mod ObservedFrames
 pub mod ObservedPipes
 pub mod Observers
 pub mod Opens

@@ -54,7 +54,7 @@ pub use calls::call_number;
 use console_core::Console;
 use file_table::Files;
 use hart_core::{Hart, Series};
-pub use observers::{ChildState, Descriptor, ProcessState};
+pub use observers::{ChildState, Descriptor, FrameUse, ProcessState};
 use proc_table::Table;
 pub use program_list::first_refused;
 use rv64i_core::Stop;

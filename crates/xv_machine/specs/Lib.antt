@@ -3,6 +3,7 @@ pub mod Codes
 pub mod Devices
 pub mod Drives
 pub mod Events
+pub mod FrameUses
 pub mod Instructions
 pub mod Machine
 pub mod Meaning

@@ -20,7 +20,7 @@ pub use devices::{ByteSink, Counted, DeviceFault, KeySource};
 pub use driving::{DriveEnd, DriveError, RunPlan, drive};
 pub use event::{Event, Outcome};
 pub use kcall_core::{
-    Call, ChildState, ConsoleList, Descriptor, Echo, End, FileId, OpenFile, PipeCounts,
+    Call, ChildState, ConsoleList, Descriptor, Echo, End, FileId, FrameUse, OpenFile, PipeCounts,
     ProcessState, Target,
 };
 pub use machine::{Config, Machine};

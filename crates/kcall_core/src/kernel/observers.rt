@@ -12,10 +12,13 @@ ghost use Rattle.kcall_core.specs.Kernel.{state_of, IsSound};
 ghost use Rattle.kcall_core.specs.Machine.{turns_of, world_of};
 ghost use Rattle.kcall_core.specs.Whole.{IsWhole};
 
+mod frame_uses;
+
 use crate::kernel::Kernel;
 use crate::memories::PipeCounts;
 use console_core::ConsoleList;
 use file_table::{FileId, OpenFile};
+pub use frame_uses::FrameUse;
 use hart_core::Hart;
 use proc_table::Call;
 use rv64i_core::Regs;

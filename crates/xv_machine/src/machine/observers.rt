@@ -1,16 +1,18 @@
 //! What is told of a machine's processes, their memory and descriptors, its pipes and its console. No instruction
 //! passes here.
 use crate::machine::Machine;
-use kcall_core::{ConsoleList, Descriptor, PipeCounts, ProcessState};
+use kcall_core::{ConsoleList, Descriptor, FrameUse, PipeCounts, ProcessState};
 use xk_base::{Fd, Frame, Perm, Pid, Program, Vpn};
 
 impl Machine {
-    ghost use Rattle.std.specs.Prelude.{◌≡◌, IfSome, IfNone, map, slice_get};
+    ghost use Rattle.std.specs.Prelude.{◌≡◌, ◌≤◌, ◌↔◌, Some, None, IfSome, IfNone, map, slice_get};
     ghost use Rattle.console_core.specs.Lists.{list_of};
     ghost use Rattle.kernel_spec.specs.views.State.{named_file};
     ghost use Rattle.kernel_spec.specs.waking.Turns.{HasSlot, IsFreeSlot};
     ghost use Rattle.kcall_core.specs.ObservedPipes.{pipe_counts_of, pipe_byte_of};
     ghost use Rattle.kcall_core.specs.Observers.{process_at, size_of, rights_at, descriptor_of};
+    ghost use Rattle.kcall_core.specs.declared.kernel.observers.frame_uses.FrameUse.{FrameUse};
+    ghost use Rattle.xv_machine.specs.FrameUses.{IsUsed, page_frame_at};
 
     /// The pid of the process in a slot, live or not; `None` where the slot is free. Slots are numbered from 0
     /// on, and there are [`NPROC`](xk_base::limits::NPROC): each process has one.
@@ -40,6 +42,21 @@ impl Machine {
         ensures { result ≡ rights_at self.now.world.state pid vpn }
     {
         self.kernel.perm(pid, vpn)
+    }
+
+    /// The frame of a page of a live process; `None` for any other pid, and where there is no page.
+    pub fn page_frame(&self, pid: Pid, vpn: Vpn) -> Option<Frame>
+        ensures { result ≡ page_frame_at self.now.frames pid vpn }
+    {
+        self.kernel.page_frame(pid, vpn)
+    }
+
+    /// What a frame of RAM is used for, and by whom; `None` exactly where RAM has no frame of this number.
+    pub fn frame_use(&self, frame: Frame) -> Option<FrameUse>
+        ensures told { (told : FrameUse) → (result ≡ Some told) ↔ IsUsed self.now frame told }
+        ensures none { (result ≡ None) ↔ (self.now.frames.count ≤ frame) }
+    {
+        self.kernel.frame_use(frame)
     }
 
     /// What a descriptor of a live process names; `None` for any other pid, and where it isn't in use.
