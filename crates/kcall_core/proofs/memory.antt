@@ -13,6 +13,7 @@ pub mod PipeRest
 pub mod PipesTold
 pub mod Registers
 pub mod Replaced
+pub mod Roles
 pub mod Runs
 pub mod Stepping
 pub mod Written

@@ -3,6 +3,7 @@ pub mod Adopted
 pub mod ByPid
 pub mod Deserted
 pub mod FirstWhole
+pub mod FrameUses
 pub mod InCall
 pub mod NoProcess
 pub mod Observed

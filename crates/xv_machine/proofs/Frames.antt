@@ -90,7 +90,7 @@ module _ (k : Kernel) (h : Hart) (sound : IsSound k h) where
   no-memory i e = nothing-held k.memories.ram (get_or k.memories.each.items i None) (sym (held i) ∙ e)
 
   -- who owns frames is in a slot, and has a memory there
-  owner : (j : ℕ) (e : ℕ × Owned) → owned_at k j ≡ Some e → (p : Process) × (m : Memory) × (place_at k.table j ≡ Some p) × (get_or k.memories.each.items j None ≡ Some m) × (e.0 ≡ p.pid)
+  pub owner : (j : ℕ) (e : ℕ × Owned) → owned_at k j ≡ Some e → (p : Process) × (m : Memory) × (place_at k.table j ≡ Some p) × (get_or k.memories.each.items j None ≡ Some m) × (e.0 ≡ p.pid)
   owner j e is = by (place_at k.table j) (get_or k.memories.each.items j None) refl refl is
     where
       pid-of : (a b : ℕ × Owned) → Some a ≡ Some b → a.0 ≡ b.0
@@ -150,13 +150,13 @@ module _ (k : Kernel) (h : Hart) (sound : IsSound k h) where
 
   -- ---- the frames of each process
 
-  owned-none : (pid : ℕ) → get (state_of k h).processes pid ≡ None → get (by_pid (owned_at k) 64) pid ≡ None
+  pub owned-none : (pid : ℕ) → get (state_of k h).processes pid ≡ None → get (by_pid (owned_at k) 64) pid ≡ None
   owned-none pid missing = none (owned_at k) 64 pid (λ j e lt is same.
       let o = owner j e is in
       none-some _ (sym missing ∙ ap (get (state_of k h).processes) (same ∙ o.4) ∙ entry-held k h sound.table j o.0 o.2))
 
   module _ (i : ℕ) (p : Process) (is : place_at k.table i ≡ Some p) where
-    others : (j : ℕ) (e : ℕ × Owned) → j < 64 → j ≢ i → owned_at k j ≡ Some e → p.pid ≢ e.0
+    pub others : (j : ℕ) (e : ℕ × Owned) → j < 64 → j ≢ i → owned_at k j ≡ Some e → p.pid ≢ e.0
     others j e lt ne at same = let o = owner j e at in ne (sound.table.pids.apart j i o.0 p o.2 is (sym o.4 ∙ sym same))
 
     live-frames : status_of p ≡ None → HasFrames (live (state_of k h) p.pid) (get (by_pid (owned_at k) 64) p.pid)

@@ -14,6 +14,8 @@ pub mod Repeated
 pub mod Sent
 pub mod Idle
 pub mod Advances
+pub mod Instructed
+pub mod Uses
 pub mod Written
 pub mod WorkedFrames
 mod worked

@@ -27,3 +27,9 @@ joined-two x (xs ∷ rest) zero zero ne = absurd (ne refl)
 joined-two x (xs ∷ rest) zero (suc j) ne = omega (arith, joined-cons x xs rest, joined-has x rest j)
 joined-two x (xs ∷ rest) (suc i) zero ne = omega (arith, joined-cons x xs rest, joined-has x rest i)
 joined-two x (xs ∷ rest) (suc i) (suc j) ne = omega (arith, joined-cons x xs rest, joined-two x rest i j (λ e. ne (omega arith)))
+
+-- what stands in no list stands in none of all
+pub joined-none : (x : ℕ) (lists : List (List ℕ)) → ((i : ℕ) → copies x (get_or lists i []) ≡ 0) → copies x (all_joined lists) ≡ 0
+unfolding all_joined
+joined-none x [] none = copies-nil x
+joined-none x (xs ∷ rest) none = omega (arith, joined-cons x xs rest, none 0, joined-none x rest (λ i. none (suc i)))

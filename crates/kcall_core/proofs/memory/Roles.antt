@@ -1,0 +1,207 @@
+-- What a frame is used for in a tree of tables, and in the memory of a process: each frame for one thing.
+use Rattle.std.proofs.Common.{◌≡◌, ◌≢◌, ℕ, zero, suc, ◌+◌, ◌-◌, ◌*◌, ◌/◌, ◌%◌, ◌^◌, ◌<◌, ◌≤◌, List, [], ◌∷◌, length, Option, Some, None, inl, inr, refl, sym, ap, ◌∙◌, arith}
+use Rattle.std.specs.Prelude.{min}
+use Rattle.std.proofs.lemmas.Bool.{cases_lt, cases_eq}
+use Rattle.xk_base.specs.Frames.{copies}
+use Rattle.xk_base.proofs.Frames.{at, at-same, at-other, copies-nil, copies-cons}
+use Rattle.sv39_core.specs.Sv39.{entry_at, table_at, last, page_entry}
+use Rattle.sv39_core.specs.Listed.{push_some, listed}
+use Rattle.sv39_core.specs.Tree.{frame_of, uppers, lowers, page_frames, owned, IsTree}
+use Rattle.sv39_core.proofs.Listings.{listed-has}
+use Rattle.sv39_core.proofs.Places.{copies-owned, upper-place, lower-place, page-place, page-has, one-place, no-lower}
+use Rattle.addr_space.specs.Space.{IsSpace}
+use Rattle.addr_space.specs.declared.Space.{Space}
+use Rattle.kcall_core.specs.Memories.{slot_frames}
+use Rattle.kcall_core.specs.ObservedFrames.{IsInTree, IsOffTheWay, IsUsedBy}
+use Rattle.kcall_core.specs.declared.memories.Memory.{Memory}
+use Rattle.kcall_core.specs.declared.memories.frame_roles.FrameRole.{FrameRole}
+use Rattle.kcall_core.specs.declared.memories.frame_roles.FrameRole.TheVariants.{Trapframe, Root, Upper, Lower, Page}
+
+no-some : {X : Type 0} (x : X) → None ≡ Some x → ⊥
+no-some x e = cc
+
+-- ---- the walk over all pages below an end
+
+module _ (ram : List (List ℕ)) (root f end : ℕ) where
+  -- the pages below v are off the way
+  abbrev pub AreOff : ℕ → Type 0
+  AreOff v = (u : ℕ) → u < v → u < end → IsOffTheWay ram root f u
+
+  off : (o : Option ℕ) → o ≡ None → o ≢ Some f
+  off o none e = no-some f (sym none ∙ e)
+
+  other : (o : Option ℕ) (g : ℕ) → o ≡ Some g → g ≢ f → o ≢ Some f
+  other o g is ne e = let same : Some g ≡ Some f = sym is ∙ e in ne (cc)
+
+  no-page : (u : ℕ) → table_at ram root 2 (u / 512) ≡ None → frame_of (page_entry ram root u) ≡ None
+  no-page u none = ap (λ t. frame_of (last ram t (u % 512))) none
+
+  pub past-upper : (v : ℕ) → table_at ram root 1 (v / 262144) ≡ None → AreOff v → AreOff ((v / 262144 + 1) * 262144)
+  past-upper v none before u lt below = elim (cases_lt u v) [
+    | inl earlier ↦ before u earlier below
+    | inr ge ↦
+        let same : u / 262144 ≡ v / 262144 = omega (arith, lt, ge) in
+        let upper : table_at ram root 1 (u / 262144) ≡ None = ap (table_at ram root 1) same ∙ none in
+        let lower : table_at ram root 2 (u / 512) ≡ None = no-lower ram root u upper in
+        (off (table_at ram root 1 (u / 262144)) upper, off (table_at ram root 2 (u / 512)) lower, off (frame_of (page_entry ram root u)) (no-page u lower))
+  ]
+
+  module _ (v upper : ℕ) (whole : v % 512 ≡ 0) (up : table_at ram root 1 (v / 262144) ≡ Some upper) (up_other : upper ≢ f) where
+    upper-off : (u : ℕ) → v ≤ u → u < v + 512 → table_at ram root 1 (u / 262144) ≢ Some f
+    upper-off u ge lt =
+        let same : u / 262144 ≡ v / 262144 = omega (arith, whole, lt, ge) in
+        other (table_at ram root 1 (u / 262144)) upper (ap (table_at ram root 1) same ∙ up) up_other
+
+    table-same : (u : ℕ) → v ≤ u → u < v + 512 → table_at ram root 2 (u / 512) ≡ table_at ram root 2 (v / 512)
+    table-same u ge lt =
+        let same : u / 512 ≡ v / 512 = omega (arith, whole, lt, ge) in
+        ap (table_at ram root 2) same
+
+    pub past-lower : table_at ram root 2 (v / 512) ≡ None → AreOff v → AreOff (v + 512)
+    past-lower none before u lt below = elim (cases_lt u v) [
+      | inl earlier ↦ before u earlier below
+      | inr ge ↦
+          let lower : table_at ram root 2 (u / 512) ≡ None = table-same u ge lt ∙ none in
+          (upper-off u ge lt, off (table_at ram root 2 (u / 512)) lower, off (frame_of (page_entry ram root u)) (no-page u lower))
+    ]
+
+    pub past-pages : (lower count : ℕ) → count ≡ min (end - v) 512 → table_at ram root 2 (v / 512) ≡ Some lower → lower ≢ f → ((i : ℕ) → i < count → frame_of (entry_at ram lower i) ≢ Some f)
+        → AreOff v → AreOff (v + 512)
+    past-pages lower count many down down_other none before u lt below = elim (cases_lt u v) [
+      | inl earlier ↦ before u earlier below
+      | inr ge ↦
+          let there : table_at ram root 2 (u / 512) ≡ Some lower = table-same u ge lt ∙ down in
+          let inside : u % 512 < count = omega (arith, many, whole, lt, ge, below) in
+          let entry : frame_of (page_entry ram root u) ≡ frame_of (entry_at ram lower (u % 512)) = ap (λ t. frame_of (last ram t (u % 512))) there in
+          (upper-off u ge lt, other (table_at ram root 2 (u / 512)) lower there down_other, λ e. none (u % 512) inside (sym entry ∙ e))
+    ]
+
+    -- the page of an entry of the lower table
+    pub page-there : (lower i : ℕ) → i < 512 → table_at ram root 2 (v / 512) ≡ Some lower → frame_of (entry_at ram lower i) ≡ Some f → frame_of (page_entry ram root (v + i)) ≡ Some f
+    page-there lower i lt down is =
+        let there : table_at ram root 2 ((v + i) / 512) ≡ Some lower = table-same (v + i) (omega arith) (omega (arith, lt)) ∙ down in
+        let place : (v + i) % 512 ≡ i = omega (arith, whole, lt) in
+        ap (λ t. frame_of (last ram t ((v + i) % 512))) there ∙ ap (λ k. frame_of (entry_at ram lower k)) place ∙ is
+
+-- a frame that is off the way to all pages of a space is none of its tables or pages
+pub none-in-space : (ram : List (List ℕ)) (space : Space) (f end : ℕ) → IsSpace ram space → end ≡ min space.end (2 ^ 26) → space.root ≢ f → ((v : ℕ) → v < end → IsOffTheWay ram space.root f v) → (role : FrameRole) → ¬ IsInTree ram space.root f role
+none-in-space ram space f end whole until ne off role = by role
+  where
+    -- a page lies below the end
+    early : (v g : ℕ) → frame_of (page_entry ram space.root v) ≡ Some g → v < end
+    early v g is =
+        let low = page-place ram space.root v g whole.tree is in
+        elim (cases_lt v space.end) [
+          | inl lt ↦ omega (arith, until, low, lt)
+          | inr ge ↦ absurd (no-some g (sym (whole.ends v ge low) ∙ is))
+        ]
+
+    by : (r : FrameRole) → ¬ IsInTree ram space.root f r
+    by Trapframe e = e
+    by Root e = ne e
+    by (Upper place) e =
+        let l = whole.full.uppers place f e in
+        let p = whole.full.lowers (512 * place + l.0) l.1 l.3 in
+        let v = 512 * (512 * place + l.0) + p.0 in
+        let here : v / 262144 ≡ place = omega (arith, l.2, p.2) in
+        (off v (early v p.1 p.3)).0 (ap (table_at ram space.root 1) here ∙ e)
+    by (Lower place) e =
+        let p = whole.full.lowers place f e in
+        let v = 512 * place + p.0 in
+        let here : v / 512 ≡ place = omega (arith, p.2) in
+        (off v (early v p.1 p.3)).1 (ap (table_at ram space.root 2) here ∙ e)
+    by (Page v) e = (off v (early v f e)).2 e
+
+-- ---- a frame of a memory, by how often it stands among the memory's frames
+
+-- what isn't listed doesn't stand in the list
+listed-none : (g : ℕ → Option ℕ) (n x : ℕ) → ((k : ℕ) → g k ≢ Some x) → copies x (listed g n) ≡ 0
+unfolding listed
+listed-none g zero x none = copies-nil x
+listed-none g (suc n) x none = by (g n) (none n) (listed-none g n x none)
+  where
+    by : (o : Option ℕ) → o ≢ Some x → copies x (listed g n) ≡ 0 → copies x (push_some o (listed g n)) ≡ 0
+    by None ne rest = rest
+    by (Some y) ne rest = omega (arith, copies-cons x y (listed g n), at-other x y (λ e. ne (ap Some (sym e))), rest)
+
+module _ (ram : List (List ℕ)) (m : Memory) (f : ℕ) where
+  parts : copies f (slot_frames ram (Some m)) ≡ at f m.trapframe + (at f m.space.root + (copies f (uppers ram m.space.root) + (copies f (lowers ram m.space.root) + copies f (page_frames ram m.space.root))))
+  parts = omega (arith, copies-cons f m.trapframe (owned ram m.space.root), copies-owned f ram m.space.root)
+
+  -- a frame without a role isn't the memory's
+  pub unused-none : ((role : FrameRole) → ¬ IsUsedBy ram m f role) → copies f (slot_frames ram (Some m)) ≡ 0
+  unfolding uppers lowers page_frames
+  unused-none none =
+      omega (
+        arith,
+        parts,
+        at-other f m.trapframe (λ e. none Trapframe (sym e)),
+        at-other f m.space.root (λ e. none Root (sym e)),
+        listed-none (table_at ram m.space.root 1) 256 f (λ k. none (Upper k)),
+        listed-none (table_at ram m.space.root 2) (2 ^ 17) f (λ k. none (Lower k)),
+        listed-none (λ v. frame_of (page_entry ram m.space.root v)) (2 ^ 26) f (λ k. none (Page k)),
+      )
+
+  module _ (tree : IsTree ram m.space.root) where
+    here : (g : ℕ) → g ≡ f → at f g ≡ 1
+    here g e = ap (at f) e ∙ at-same f
+
+    upper-has : (p : ℕ) → table_at ram m.space.root 1 p ≡ Some f → 1 ≤ copies f (uppers ram m.space.root)
+    unfolding uppers
+    upper-has p e = listed-has (table_at ram m.space.root 1) 256 p f (upper-place ram m.space.root p f tree e) e
+
+    lower-has : (p : ℕ) → table_at ram m.space.root 2 p ≡ Some f → 1 ≤ copies f (lowers ram m.space.root)
+    unfolding lowers
+    lower-has p e = listed-has (table_at ram m.space.root 2) (2 ^ 17) p f (lower-place ram m.space.root p f tree e) e
+
+    -- a frame with a role is the memory's
+    pub used-has : (role : FrameRole) → IsUsedBy ram m f role → 1 ≤ copies f (slot_frames ram (Some m))
+    used-has Trapframe e = omega (arith, parts, here m.trapframe e)
+    used-has Root e = omega (arith, parts, here m.space.root e)
+    used-has (Upper p) e = omega (arith, parts, upper-has p e)
+    used-has (Lower p) e = omega (arith, parts, lower-has p e)
+    used-has (Page v) e = omega (arith, parts, page-has ram m.space.root v f tree e)
+
+    module _ (once : copies f (slot_frames ram (Some m)) ≤ 1) where
+      same-upper : (p q : ℕ) → table_at ram m.space.root 1 p ≡ Some f → table_at ram m.space.root 1 q ≡ Some f → p ≡ q
+      unfolding uppers
+      same-upper p q e d =
+          one-place (table_at ram m.space.root 1) 256 p q f (upper-place ram m.space.root p f tree e) (upper-place ram m.space.root q f tree d) e d (omega (arith, once, parts))
+
+      same-lower : (p q : ℕ) → table_at ram m.space.root 2 p ≡ Some f → table_at ram m.space.root 2 q ≡ Some f → p ≡ q
+      unfolding lowers
+      same-lower p q e d =
+          one-place (table_at ram m.space.root 2) (2 ^ 17) p q f (lower-place ram m.space.root p f tree e) (lower-place ram m.space.root q f tree d) e d (omega (arith, once, parts))
+
+      same-page : (p q : ℕ) → frame_of (page_entry ram m.space.root p) ≡ Some f → frame_of (page_entry ram m.space.root q) ≡ Some f → p ≡ q
+      unfolding page_frames
+      same-page p q e d =
+          one-place (λ v. frame_of (page_entry ram m.space.root v)) (2 ^ 26) p q f (page-place ram m.space.root p f tree e) (page-place ram m.space.root q f tree d) e d (omega (arith, once, parts))
+
+      -- it has one role
+      pub one-role : (r s : FrameRole) → IsUsedBy ram m f r → IsUsedBy ram m f s → r ≡ s
+      one-role Trapframe Trapframe e d = refl
+      one-role Trapframe Root e d = absurd (omega (arith, once, parts, here m.trapframe e, here m.space.root d))
+      one-role Trapframe (Upper q) e d = absurd (omega (arith, once, parts, here m.trapframe e, upper-has q d))
+      one-role Trapframe (Lower q) e d = absurd (omega (arith, once, parts, here m.trapframe e, lower-has q d))
+      one-role Trapframe (Page q) e d = absurd (omega (arith, once, parts, here m.trapframe e, page-has ram m.space.root q f tree d))
+      one-role Root Trapframe e d = absurd (omega (arith, once, parts, here m.space.root e, here m.trapframe d))
+      one-role Root Root e d = refl
+      one-role Root (Upper q) e d = absurd (omega (arith, once, parts, here m.space.root e, upper-has q d))
+      one-role Root (Lower q) e d = absurd (omega (arith, once, parts, here m.space.root e, lower-has q d))
+      one-role Root (Page q) e d = absurd (omega (arith, once, parts, here m.space.root e, page-has ram m.space.root q f tree d))
+      one-role (Upper p) Trapframe e d = absurd (omega (arith, once, parts, upper-has p e, here m.trapframe d))
+      one-role (Upper p) Root e d = absurd (omega (arith, once, parts, upper-has p e, here m.space.root d))
+      one-role (Upper p) (Upper q) e d = ap Upper (same-upper p q e d)
+      one-role (Upper p) (Lower q) e d = absurd (omega (arith, once, parts, upper-has p e, lower-has q d))
+      one-role (Upper p) (Page q) e d = absurd (omega (arith, once, parts, upper-has p e, page-has ram m.space.root q f tree d))
+      one-role (Lower p) Trapframe e d = absurd (omega (arith, once, parts, lower-has p e, here m.trapframe d))
+      one-role (Lower p) Root e d = absurd (omega (arith, once, parts, lower-has p e, here m.space.root d))
+      one-role (Lower p) (Upper q) e d = absurd (omega (arith, once, parts, lower-has p e, upper-has q d))
+      one-role (Lower p) (Lower q) e d = ap Lower (same-lower p q e d)
+      one-role (Lower p) (Page q) e d = absurd (omega (arith, once, parts, lower-has p e, page-has ram m.space.root q f tree d))
+      one-role (Page p) Trapframe e d = absurd (omega (arith, once, parts, page-has ram m.space.root p f tree e, here m.trapframe d))
+      one-role (Page p) Root e d = absurd (omega (arith, once, parts, page-has ram m.space.root p f tree e, here m.space.root d))
+      one-role (Page p) (Upper q) e d = absurd (omega (arith, once, parts, page-has ram m.space.root p f tree e, upper-has q d))
+      one-role (Page p) (Lower q) e d = absurd (omega (arith, once, parts, page-has ram m.space.root p f tree e, lower-has q d))
+      one-role (Page p) (Page q) e d = ap Page (same-page p q e d)
