@@ -28,7 +28,7 @@ IsInTree ram root f (role.Page vpn) = frame_of (page_entry ram root vpn) ≡ Som
 
 -- no table below the root on the way to page v, and not the page itself, is frame f
 abbrev pub IsOffTheWay : List (List ℕ) → (root f v : ℕ) → Type 0
-IsOffTheWay ram root f v = (table_at ram root 1 (v / 2 ^ 18) ≢ Some f) × (table_at ram root 2 (v / 512) ≢ Some f) × (frame_of (page_entry ram root v) ≢ Some f)
+IsOffTheWay ram root f v = (table_at ram root 1 (v / 262144) ≢ Some f) × (table_at ram root 2 (v / 512) ≢ Some f) × (frame_of (page_entry ram root v) ≢ Some f)
 
 -- a memory has frame f for this
 abbrev pub IsUsedBy : List (List ℕ) → Memory → (f : ℕ) → FrameRole → Type 0

@@ -53,7 +53,7 @@ impl Machine {
 
     /// What a frame of RAM is used for, and by whom; `None` exactly where RAM has no frame of this number.
     pub fn frame_use(&self, frame: Frame) -> Option<FrameUse>
-        ensures told { (told : FrameUse) → (result ≡ Some told) ↔ IsUsed self.now frame told }
+        ensures told { (used : FrameUse) → (result ≡ Some used) ↔ IsUsed self.now frame used }
         ensures none { (result ≡ None) ↔ (self.now.frames.count ≤ frame) }
     {
         self.kernel.frame_use(frame)

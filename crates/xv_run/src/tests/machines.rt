@@ -1,6 +1,7 @@
 //! What a machine prints, and how it boots and is driven. Programs are told event by event in the stories beside it,
 //! which have the assembler.
 mod drives;
+mod frames;
 mod kernels;
 mod refusals;
 mod scene;

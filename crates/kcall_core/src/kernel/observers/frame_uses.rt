@@ -75,7 +75,7 @@ impl Kernel {
     /// What a frame is used for, and by whom. `None` exactly where RAM has no frame of this number.
     pub fn frame_use(&self, frame: Frame) -> Option<FrameUse>
         requires { (hart : Hart) × IsSound self.now hart }
-        ensures told { (told : FrameUse) → (result ≡ Some told) ↔ IsUsed self.now frame told }
+        ensures told { (used : FrameUse) → (result ≡ Some used) ↔ IsUsed self.now frame used }
         ensures none { (result ≡ None) ↔ (frame_count self.now ≤ frame) }
     {
         if frame.number() >= self.memories.frames() {

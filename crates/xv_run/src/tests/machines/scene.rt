@@ -1,11 +1,13 @@
 //! Files of small programs, and the machines that tests ask.
+ghost use Rattle.std.specs.Prelude.{◌≤◌};
+
 use std::alloc::{AllocError, Global};
 use std::process::Abort;
 use std::test::Fail;
-use xk_base::{BootError, Pid, Program};
+use xk_base::{BootError, Frame, Pid, Program, Vpn};
 use xv_machine::{
-    ByteSink, Config, DriveEnd, DriveError, Event, KeySource, Machine, Note, Outcome, RunPlan,
-    drive,
+    ByteSink, Config, DriveEnd, DriveError, Event, FrameUse, KeySource, Machine, Note, Outcome,
+    RunPlan, drive,
 };
 
 pub(super) const SMALL: Config = Config {
@@ -221,6 +223,35 @@ impl Scene {
     /// Sends Run so many times at most.
     pub(super) fn run(&mut self, most: u32) {
         self.machine.run(most);
+    }
+
+    /// Sends Run as long as an instruction is done, so many times at most, and tells how often.
+    pub(super) fn instructions(&mut self, most: u32) -> u32 {
+        self.machine.instructions(most)
+    }
+
+    /// What the frame of this number, at most 16, is used for.
+    pub(super) fn frame_use(&self, number: u32) -> Option<FrameUse>
+        requires { number ≤ 16 }
+    {
+        self.machine.frame_use(Frame::new(number))
+    }
+
+    /// How many of the 16 frames have this use.
+    pub(super) fn frames_of(&self, wanted: &FrameUse) -> usize {
+        let mut count: usize = 0;
+        for number in 0..16 {
+            if self.frame_use(number) == Some(*wanted) {
+                count = count.wrapping_add(1);
+            }
+        }
+        count
+    }
+
+    /// What the frame of a page of process 1 is used for, if it has the page.
+    pub(super) fn use_of_page(&self, vpn: Vpn) -> Option<FrameUse> {
+        let frame = self.machine.page_frame(first(), vpn)?;
+        self.machine.frame_use(frame)
     }
 
     /// Sends Run so many times and once more, and tells what came last.

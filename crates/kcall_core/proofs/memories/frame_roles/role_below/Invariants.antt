@@ -1,0 +1,12 @@
+use Rattle.std.proofs.Common.{◌≡◌, ℕ, ◌-◌, ◌%◌, ◌<◌}
+use Rattle.kcall_core.specs.ObservedFrames.{IsOffTheWay}
+use Rattle.kcall_core.proofs.memories.frame_roles.role_below.Given as goal
+
+abbrev pub invariant-tables : goal.invariant-tables
+invariant-tables l = record {
+  whole : l.v % 512 ≡ 0;
+  off : (u : ℕ) → u < l.v → u < l.end → IsOffTheWay l.ram l.root l.frame u;
+}
+
+abbrev pub decreases-tables : goal.decreases-tables
+decreases-tables l = l.end - l.v
