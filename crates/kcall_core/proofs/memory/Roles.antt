@@ -1,87 +1,37 @@
 -- What a frame is used for in a tree of tables, and in the memory of a process: each frame for one thing.
-use Rattle.std.proofs.Common.{◌≡◌, ◌≢◌, ℕ, zero, suc, ◌+◌, ◌-◌, ◌*◌, ◌/◌, ◌%◌, ◌^◌, ◌<◌, ◌≤◌, List, [], ◌∷◌, length, Option, Some, None, inl, inr, refl, sym, ap, ◌∙◌, arith}
-use Rattle.std.specs.Prelude.{min}
+use Rattle.std.proofs.Common.{◌≡◌, ◌≢◌, ℕ, zero, suc, ◌+◌, ◌-◌, ◌*◌, ◌/◌, ◌%◌, ◌^◌, ◌<◌, ◌≤◌, List, [], ◌∷◌, length, get_or, Option, Some, None, inl, inr, refl, sym, ap, ◌∙◌, subst, arith}
+use Rattle.std.specs.Prelude.{min, IfNone}
+use Rattle.std.proofs.lemmas.List.{get_or_read}
 use Rattle.std.proofs.lemmas.Bool.{cases_lt, cases_eq}
 use Rattle.xk_base.specs.Frames.{copies}
+use Rattle.xk_base.specs.declared.limits.TheConstants.{NPROC}
 use Rattle.xk_base.proofs.Frames.{at, at-same, at-other, copies-nil, copies-cons}
 use Rattle.sv39_core.specs.Sv39.{entry_at, table_at, last, page_entry}
 use Rattle.sv39_core.specs.Listed.{push_some, listed}
 use Rattle.sv39_core.specs.Tree.{frame_of, uppers, lowers, page_frames, owned, IsTree}
 use Rattle.sv39_core.proofs.Listings.{listed-has}
-use Rattle.sv39_core.proofs.Places.{copies-owned, upper-place, lower-place, page-place, page-has, one-place, no-lower}
+use Rattle.sv39_core.proofs.Places.{copies-owned, upper-place, lower-place, page-place, page-has, one-place}
 use Rattle.addr_space.specs.Space.{IsSpace}
 use Rattle.addr_space.specs.declared.Space.{Space}
-use Rattle.kcall_core.specs.Memories.{slot_frames}
-use Rattle.kcall_core.specs.ObservedFrames.{IsInTree, IsOffTheWay, IsUsedBy}
+use Rattle.kcall_core.specs.Memories.{slot_frames, AreSound}
+use Rattle.kcall_core.specs.ObservedFrames.{IsInTree, IsOffTheWay, IsUsedBy, IsUsedIn}
 use Rattle.kcall_core.specs.declared.memories.Memory.{Memory}
+use Rattle.kcall_core.specs.declared.memories.Memories.{Memories}
 use Rattle.kcall_core.specs.declared.memories.frame_roles.FrameRole.{FrameRole}
 use Rattle.kcall_core.specs.declared.memories.frame_roles.FrameRole.TheVariants.{Trapframe, Root, Upper, Lower, Page}
 
 no-some : {X : Type 0} (x : X) → None ≡ Some x → ⊥
 no-some x e = cc
 
--- ---- the walk over all pages below an end
+-- ---- the walk over all pages
 
-module _ (ram : List (List ℕ)) (root f end : ℕ) where
-  -- the pages below v are off the way
-  abbrev pub AreOff : ℕ → Type 0
-  AreOff v = (u : ℕ) → u < v → u < end → IsOffTheWay ram root f u
-
-  off : (o : Option ℕ) → o ≡ None → o ≢ Some f
-  off o none e = no-some f (sym none ∙ e)
-
-  other : (o : Option ℕ) (g : ℕ) → o ≡ Some g → g ≢ f → o ≢ Some f
-  other o g is ne e = let same : Some g ≡ Some f = sym is ∙ e in ne (cc)
-
-  no-page : (u : ℕ) → table_at ram root 2 (u / 512) ≡ None → frame_of (page_entry ram root u) ≡ None
-  no-page u none = ap (λ t. frame_of (last ram t (u % 512))) none
-
-  pub past-upper : (v : ℕ) → table_at ram root 1 (v / 262144) ≡ None → AreOff v → AreOff ((v / 262144 + 1) * 262144)
-  past-upper v none before u lt below = elim (cases_lt u v) [
-    | inl earlier ↦ before u earlier below
-    | inr ge ↦
-        let same : u / 262144 ≡ v / 262144 = omega (arith, lt, ge) in
-        let upper : table_at ram root 1 (u / 262144) ≡ None = ap (table_at ram root 1) same ∙ none in
-        let lower : table_at ram root 2 (u / 512) ≡ None = no-lower ram root u upper in
-        (off (table_at ram root 1 (u / 262144)) upper, off (table_at ram root 2 (u / 512)) lower, off (frame_of (page_entry ram root u)) (no-page u lower))
-  ]
-
-  module _ (v upper : ℕ) (whole : v % 512 ≡ 0) (up : table_at ram root 1 (v / 262144) ≡ Some upper) (up_other : upper ≢ f) where
-    upper-off : (u : ℕ) → v ≤ u → u < v + 512 → table_at ram root 1 (u / 262144) ≢ Some f
-    upper-off u ge lt =
-        let same : u / 262144 ≡ v / 262144 = omega (arith, whole, lt, ge) in
-        other (table_at ram root 1 (u / 262144)) upper (ap (table_at ram root 1) same ∙ up) up_other
-
-    table-same : (u : ℕ) → v ≤ u → u < v + 512 → table_at ram root 2 (u / 512) ≡ table_at ram root 2 (v / 512)
-    table-same u ge lt =
-        let same : u / 512 ≡ v / 512 = omega (arith, whole, lt, ge) in
-        ap (table_at ram root 2) same
-
-    pub past-lower : table_at ram root 2 (v / 512) ≡ None → AreOff v → AreOff (v + 512)
-    past-lower none before u lt below = elim (cases_lt u v) [
-      | inl earlier ↦ before u earlier below
-      | inr ge ↦
-          let lower : table_at ram root 2 (u / 512) ≡ None = table-same u ge lt ∙ none in
-          (upper-off u ge lt, off (table_at ram root 2 (u / 512)) lower, off (frame_of (page_entry ram root u)) (no-page u lower))
-    ]
-
-    pub past-pages : (lower count : ℕ) → count ≡ min (end - v) 512 → table_at ram root 2 (v / 512) ≡ Some lower → lower ≢ f → ((i : ℕ) → i < count → frame_of (entry_at ram lower i) ≢ Some f)
-        → AreOff v → AreOff (v + 512)
-    past-pages lower count many down down_other none before u lt below = elim (cases_lt u v) [
-      | inl earlier ↦ before u earlier below
-      | inr ge ↦
-          let there : table_at ram root 2 (u / 512) ≡ Some lower = table-same u ge lt ∙ down in
-          let inside : u % 512 < count = omega (arith, many, whole, lt, ge, below) in
-          let entry : frame_of (page_entry ram root u) ≡ frame_of (entry_at ram lower (u % 512)) = ap (λ t. frame_of (last ram t (u % 512))) there in
-          (upper-off u ge lt, other (table_at ram root 2 (u / 512)) lower there down_other, λ e. none (u % 512) inside (sym entry ∙ e))
-    ]
-
-    -- the page of an entry of the lower table
-    pub page-there : (lower i : ℕ) → i < 512 → table_at ram root 2 (v / 512) ≡ Some lower → frame_of (entry_at ram lower i) ≡ Some f → frame_of (page_entry ram root (v + i)) ≡ Some f
-    page-there lower i lt down is =
-        let there : table_at ram root 2 ((v + i) / 512) ≡ Some lower = table-same (v + i) (omega arith) (omega (arith, lt)) ∙ down in
-        let place : (v + i) % 512 ≡ i = omega (arith, whole, lt) in
-        ap (λ t. frame_of (last ram t ((v + i) % 512))) there ∙ ap (λ k. frame_of (entry_at ram lower k)) place ∙ is
+-- the page of an entry of a lower table
+pub page-there : (ram : List (List ℕ)) (root f v lower i : ℕ) → v % 512 ≡ 0 → i < 512 → table_at ram root 2 (v / 512) ≡ Some lower → frame_of (entry_at ram lower i) ≡ Some f → frame_of (page_entry ram root (v + i)) ≡ Some f
+page-there ram root f v lower i whole lt down is =
+    let same : (v + i) / 512 ≡ v / 512 = omega (arith, whole, lt) in
+    let there : table_at ram root 2 ((v + i) / 512) ≡ Some lower = ap (table_at ram root 2) same ∙ down in
+    let place : (v + i) % 512 ≡ i = omega (arith, whole, lt) in
+    ap (λ t. frame_of (last ram t ((v + i) % 512))) there ∙ ap (λ k. frame_of (entry_at ram lower k)) place ∙ is
 
 -- a frame that is off the way to all pages of a space is none of its tables or pages
 pub none-in-space : (ram : List (List ℕ)) (space : Space) (f end : ℕ) → IsSpace ram space → end ≡ min space.end (2 ^ 26) → space.root ≢ f → ((v : ℕ) → v < end → IsOffTheWay ram space.root f v) → (role : FrameRole) → ¬ IsInTree ram space.root f role
@@ -205,3 +155,26 @@ module _ (ram : List (List ℕ)) (m : Memory) (f : ℕ) where
       one-role (Page p) (Upper q) e d = absurd (omega (arith, once, parts, page-has ram m.space.root p f tree e, upper-has q d))
       one-role (Page p) (Lower q) e d = absurd (omega (arith, once, parts, page-has ram m.space.root p f tree e, lower-has q d))
       one-role (Page p) (Page q) e d = ap Page (same-page p q e d)
+
+-- ---- the memory in a slot
+
+pub map-none : {X : Type 0} {P Q : Type 0} (o : Option X) → (P → Q) → IfNone o P → IfNone o Q
+map-none None f p = f p
+map-none (Some x) f p = p
+
+-- what is read of a slot
+pub slot-read : (m : Memories) (i : ℕ) (o : Option Memory) → AreSound m → i < NPROC → o ≡ get_or m.each.items i o → get_or m.each.items i None ≡ o
+slot-read m i o sound lt read = sym (get_or_read m.each.items i o (omega (arith, sound.slots, lt)) read None)
+
+some-same : {X : Type 0} (a b : X) → Some a ≡ Some b → a ≡ b
+some-same a b e = cc
+
+pub none-in-slot : (m : Memories) (i f : ℕ) (memory : Memory) → get_or m.each.items i None ≡ Some memory → memory.trapframe ≢ f → ((role : FrameRole) → ¬ IsInTree m.ram memory.space.root f role) → (role : FrameRole) → ¬ IsUsedIn m i f role
+none-in-slot m i f memory is ne none role (other, at, used) = by role (subst (λ (n : Memory). IsUsedBy m.ram n f role) (some-same other memory (sym at ∙ is)) used)
+  where
+    by : (r : FrameRole) → IsUsedBy m.ram memory f r → ⊥
+    by Trapframe e = ne e
+    by Root e = none Root e
+    by (Upper place) e = none (Upper place) e
+    by (Lower place) e = none (Lower place) e
+    by (Page v) e = none (Page v) e

@@ -1,6 +1,6 @@
 -- Each frame of RAM has one use, and one owner at most.
 use Rattle.std.proofs.Common.{◌≡◌, ◌≢◌, ℕ, ◌+◌, ◌<◌, ◌≤◌, Bool, true, false, cond, List, [], ◌∷◌, length, get_or, map, Option, Some, None, inl, inr, refl, sym, ap, ◌∙◌, subst, arith}
-use Rattle.std.specs.Prelude.{ℤ, IsSome, is_some, ◌⊎◌, ◌↔◌}
+use Rattle.std.specs.Prelude.{ℤ, IsSome, is_some, option_map, ◌⊎◌, ◌↔◌}
 use Rattle.std.specs.FinMap.{get}
 use Rattle.std.proofs.lemmas.Bool.{cases_lt, cases_eq}
 use Rattle.xk_base.specs.Frames.{copies}
@@ -10,6 +10,7 @@ use Rattle.sv39_core.specs.Sv39.{page_entry}
 use Rattle.sv39_core.specs.Tree.{frame_of}
 use Rattle.frame_list.specs.Pool.{free_in}
 use Rattle.hart_core.specs.declared.hart.Hart.{Hart}
+use Rattle.pipe_core.specs.Pipe as pipe
 use Rattle.proc_table.specs.Processes.{status_of}
 use Rattle.proc_table.specs.Slots.{place_at, pid_at}
 use Rattle.proc_table.specs.declared.process.Process.{Process}
@@ -18,8 +19,11 @@ use Rattle.kernel_spec.specs.views.State.{live}
 use Rattle.kcall_core.specs.Kernel.{frame_count, state_of, live_of, regs_at, IsSound}
 use Rattle.kcall_core.specs.Memories.{held_in, each_of, pipes_of, keeps_pipe, slot_frames, all_joined, process_frames, owners}
 use Rattle.kcall_core.specs.ObservedFrames.{IsUsedBy, IsUsedIn, page_frame_of, page_frame_in, IsOwned, IsUsed, use_of}
+use Rattle.kcall_core.specs.ObservedPipes.{counts_of}
 use Rattle.kcall_core.specs.Observers.{IsLiveIn}
 use Rattle.kcall_core.specs.declared.memories.Memory.{Memory}
+use Rattle.kcall_core.specs.declared.memories.Memories.{Memories}
+use Rattle.kcall_core.specs.declared.memories.piping.PipeCounts.{PipeCounts}
 use Rattle.kcall_core.specs.declared.memories.frame_roles.FrameRole.{FrameRole}
 use Rattle.kcall_core.specs.declared.memories.frame_roles.FrameRole.TheVariants as role
 use Rattle.kcall_core.specs.declared.kernel.Kernel.{Kernel}
@@ -180,7 +184,7 @@ module _ (k : Kernel) (h : Hart) (sound : IsSound k h) where
       back : IsUsed k f (Page pid vpn) → page_frame_in k.memories i vpn ≡ Some f
       back o = elim (cases_eq i o.0) [
         | inl same ↦ page-same i vpn o.4.0 (ap (λ j. get_or k.memories.each.items j None) same ∙ o.4.1) ∙ o.4.2
-        | inr ne ↦ absurd (sound.table.pids.apart i o.0 there.0 o.1 there.1 o.2 ne (there.3 ∙ sym o.3))
+        | inr ne ↦ absurd (ne (sound.table.pids.apart i o.0 there.0 o.1 there.1 o.2 (there.3 ∙ sym o.3)))
       ]
 
   pub no-page-told : (pid vpn : ℕ) → live (state_of k h) pid ≡ None → (f : ℕ) → (None ≡ Some f) ↔ IsUsed k f (Page pid vpn)
@@ -191,3 +195,19 @@ module _ (k : Kernel) (h : Hart) (sound : IsSound k h) where
           let p = memory-place o.0 o.4.0 o.4.1 in
           let same : o.1.pid ≡ p.0.pid = ap (λ (x : Process). x.pid) (some-same o.1 p.0 (sym o.2 ∙ p.1)) in
           none-some _ (sym missing ∙ ap (live (state_of k h)) (sym o.3 ∙ same) ∙ live-held k h sound.table o.0 p.0 p.1 p.2)
+
+-- ---- the search over all slots
+
+pub one-more : (m : Memories) (f slot : ℕ) → ((i : ℕ) → i < slot → (role : FrameRole) → ¬ IsUsedIn m i f role) → ((role : FrameRole) → ¬ IsUsedIn m slot f role) → (i : ℕ) → i < slot + 1 → (role : FrameRole) → ¬ IsUsedIn m i f role
+one-more m f slot before here i lt role used = elim (cases_lt i slot) [ inl earlier ↦ before i earlier role used | inr ge ↦ here role (subst (λ j. IsUsedIn m j f role) (same ge) used) ]
+  where
+    same : slot ≤ i → i ≡ slot
+    same ge = omega (arith, lt, ge)
+
+-- a pipe lies in a frame exactly where its counts are told
+pub some-counted : (m : Memories) (f : ℕ) (o : Option PipeCounts) → o ≡ option_map counts_of (get (pipes_of m) f) → is_some (get (pipes_of m) f) ≡ is_some o
+some-counted m f o told = sym (mapped (get (pipes_of m) f)) ∙ sym (ap is_some told)
+  where
+    mapped : (p : Option pipe.Pipe) → is_some (option_map counts_of p) ≡ is_some p
+    mapped None = refl
+    mapped (Some p) = refl

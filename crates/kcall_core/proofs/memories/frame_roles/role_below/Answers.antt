@@ -1,0 +1,11 @@
+use Rattle.std.proofs.Common.{sym, ap, ◌∙◌, arith}
+use Rattle.sv39_core.specs.Sv39.{page_entry}
+use Rattle.sv39_core.specs.Tree.{frame_of}
+use Rattle.kcall_core.proofs.memory.Roles.{page-there}
+use Rattle.kcall_core.proofs.memories.frame_roles.role_below.Goals as goal
+
+pub returns-in-Some-page_among-clause-some : goal.returns-in-Some-page_among-clause-some
+returns-in-Some-page_among-clause-some c =
+    let found = c.in-Some-page_among.ensures.some in
+    ap (λ v. frame_of (page_entry c.args.ram.now c.args.root v)) c.new.ensures
+    ∙ page-there c.args.ram.now c.args.root c.args.frame c.tables.v c.in-Some-lower_table.lower c.in-Some-page_among.i c.tables.invariant.whole (omega (arith, found.0, c.min.ensures)) (sym c.in-Some-lower_table.ensures.table) found.1
