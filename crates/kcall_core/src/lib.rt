@@ -13,6 +13,8 @@ mod memories;
 pub use call_end::CallEnd;
 pub use console_core::{ConsoleList, Echo};
 pub use file_table::{End, FileId, OpenFile, Target};
-pub use kernel::{ChildState, Descriptor, FrameUse, Kernel, ProcessState, call_number, first_refused};
+pub use kernel::{
+    ChildState, Descriptor, FrameUse, Kernel, ProcessState, call_number, first_refused,
+};
 pub use memories::PipeCounts;
 pub use proc_table::Call;

@@ -9,5 +9,5 @@ pub returns-clause-none : goal.returns-clause-none
 returns-clause-none c =
     map-none c.role_in_space.result
     (none-in-slot c.args.self.now c.args.slot c.args.frame c.in-Some.memory (slot-read c.args.self.now c.args.slot c.index.result.now c.requires.sound c.requires.slot c.index.ensures ∙ c.in-Some.is)
-      (λ e. c.if-number.false (c.number.ensures.value ∙ e ∙ sym c.number-2.ensures.value)))
+    (λ e. c.if-number.false (c.number.ensures.value ∙ e ∙ sym c.number-2.ensures.value)))
     c.role_in_space.ensures.none
