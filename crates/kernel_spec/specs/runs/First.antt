@@ -60,8 +60,8 @@ first_init frames programs (Some init) = first_loaded frames programs (within_fr
 
 -- a refusal, and else what comes behind it
 abbrev pub unless_refused : Option BootError → Result World BootError → Result World BootError
-unless_refused None then = then
-unless_refused (Some e) then = Err e
+unless_refused None next = next
+unless_refused (Some e) next = Err e
 
 -- a machine of so many frames, whose trace keeps so many notes
 unfoldable pub first : (frames trace : ℕ) → List ProgramFile → Result World BootError
