@@ -1,9 +1,5 @@
 -- What observers of a kernel are told of the frames of RAM: whose each is, and what for.
-<<<<<<< HEAD
-use Rattle.std.specs.Prelude.{◌≡◌, ◌≢◌, ℕ, ◌/◌, ◌^◌, ◌≤◌, List, get_or, Option, None, Some, IsSome}
-=======
 use Rattle.std.specs.Prelude.{◌≡◌, ◌≢◌, ℕ, ◌/◌, ◌≤◌, List, get_or, Option, None, Some, IsSome}
->>>>>>> b416b9f1c1bab9e0a05daada13f6d6f6b007e111
 use Rattle.std.specs.FinMap.{get}
 use Rattle.xk_base.specs.Frames.{copies}
 use Rattle.sv39_core.specs.Sv39.{table_at, page_entry}

@@ -13,12 +13,8 @@ mod memories;
 pub use call_end::CallEnd;
 pub use console_core::{ConsoleList, Echo};
 pub use file_table::{End, FileId, OpenFile, Target};
-<<<<<<< HEAD
-pub use kernel::{ChildState, Descriptor, FrameUse, Kernel, ProcessState, call_number, first_refused};
-=======
 pub use kernel::{
     ChildState, Descriptor, FrameUse, Kernel, ProcessState, call_number, first_refused,
 };
->>>>>>> b416b9f1c1bab9e0a05daada13f6d6f6b007e111
 pub use memories::PipeCounts;
 pub use proc_table::Call;

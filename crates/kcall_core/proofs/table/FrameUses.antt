@@ -1,11 +1,6 @@
 -- Each frame of RAM has one use, and one owner at most.
-<<<<<<< HEAD
-use Rattle.std.proofs.Common.{◌≡◌, ◌≢◌, ℕ, ◌+◌, ◌<◌, ◌≤◌, Bool, true, false, cond, List, [], ◌∷◌, length, get_or, map, Option, Some, None, inl, inr, refl, sym, ap, ◌∙◌, subst, arith}
-use Rattle.std.specs.Prelude.{ℤ, IsSome, is_some, option_map, ◌⊎◌, ◌↔◌}
-=======
 use Rattle.std.proofs.Common.{◌≡◌, ℕ, ◌+◌, ◌<◌, ◌≤◌, true, false, [], length, get_or, map, Option, Some, None, inl, inr, refl, sym, ap, ◌∙◌, subst, arith}
 use Rattle.std.specs.Prelude.{ℤ, is_some, option_map, ◌⊎◌, ◌↔◌}
->>>>>>> b416b9f1c1bab9e0a05daada13f6d6f6b007e111
 use Rattle.std.specs.FinMap.{get}
 use Rattle.std.proofs.lemmas.Bool.{cases_lt, cases_eq}
 use Rattle.xk_base.specs.Frames.{copies}
@@ -17,21 +12,12 @@ use Rattle.frame_list.specs.Pool.{free_in}
 use Rattle.hart_core.specs.declared.hart.Hart.{Hart}
 use Rattle.pipe_core.specs.Pipe as pipe
 use Rattle.proc_table.specs.Processes.{status_of}
-<<<<<<< HEAD
-use Rattle.proc_table.specs.Slots.{place_at, pid_at}
-use Rattle.proc_table.specs.declared.process.Process.{Process}
-use Rattle.kernel_spec.specs.views.Words.{count_if}
-use Rattle.kernel_spec.specs.views.State.{live}
-use Rattle.kcall_core.specs.Kernel.{frame_count, state_of, live_of, regs_at, IsSound}
-use Rattle.kcall_core.specs.Memories.{held_in, each_of, pipes_of, keeps_pipe, slot_frames, all_joined, process_frames, owners}
-=======
 use Rattle.proc_table.specs.Slots.{place_at}
 use Rattle.proc_table.specs.declared.process.Process.{Process}
 use Rattle.kernel_spec.specs.views.Words.{count_if}
 use Rattle.kernel_spec.specs.views.State.{live}
 use Rattle.kcall_core.specs.Kernel.{frame_count, state_of, IsSound}
 use Rattle.kcall_core.specs.Memories.{held_in, each_of, pipes_of, keeps_pipe, slot_frames, process_frames, owners}
->>>>>>> b416b9f1c1bab9e0a05daada13f6d6f6b007e111
 use Rattle.kcall_core.specs.ObservedFrames.{IsUsedBy, IsUsedIn, page_frame_of, page_frame_in, IsOwned, IsUsed, use_of}
 use Rattle.kcall_core.specs.ObservedPipes.{counts_of}
 use Rattle.kcall_core.specs.Observers.{IsLiveIn}
@@ -49,11 +35,7 @@ use Rattle.kcall_core.proofs.memory.Joined.{joined-has, joined-two, joined-none}
 use Rattle.kcall_core.proofs.memory.PipesTold.{keeps-told}
 use Rattle.kcall_core.proofs.memory.Roles.{unused-none, used-has, one-role}
 use Rattle.kcall_core.proofs.table.Observed.{live-held}
-<<<<<<< HEAD
-use Rattle.kcall_core.proofs.table.States.{none-some, slot-inside}
-=======
 use Rattle.kcall_core.proofs.table.States.{none-some}
->>>>>>> b416b9f1c1bab9e0a05daada13f6d6f6b007e111
 
 some-same : {X : Type 0} (a b : X) → Some a ≡ Some b → a ≡ b
 some-same a b e = cc
@@ -94,17 +76,10 @@ module _ (k : Kernel) (h : Hart) (sound : IsSound k h) where
   owned-once : (f p q : ℕ) (r s : FrameRole) → IsOwned k p f r → IsOwned k q f s → (p ≡ q) × (r ≡ s)
   owned-once f p q r s a b = elim (cases_eq a.0 b.0) [
     | inl same ↦ (
-<<<<<<< HEAD
-        sym a.3 ∙ ap (λ (x : Process). x.pid) (some-same a.1 b.1 (sym a.2 ∙ ap (place_at k.table) same ∙ b.2)) ∙ b.3,
-        one-role k.memories.ram a.4.0 f ((sound.memories.memories a.0 a.4.0 a.4.1).space.tree) (omega (arith, total f, slot-few f a.0 a.4.0 a.4.1)) r s a.4.2
-          (subst (λ (m : Memory). IsUsedBy k.memories.ram m f s) (some-same b.4.0 a.4.0 (sym b.4.1 ∙ ap (λ i. get_or k.memories.each.items i None) (sym same) ∙ a.4.1)) b.4.2),
-      )
-=======
       sym a.3 ∙ ap (λ (x : Process). x.pid) (some-same a.1 b.1 (sym a.2 ∙ ap (place_at k.table) same ∙ b.2)) ∙ b.3,
       one-role k.memories.ram a.4.0 f ((sound.memories.memories a.0 a.4.0 a.4.1).space.tree) (omega (arith, total f, slot-few f a.0 a.4.0 a.4.1)) r s a.4.2
           (subst (λ (m : Memory). IsUsedBy k.memories.ram m f s) (some-same b.4.0 a.4.0 (sym b.4.1 ∙ ap (λ i. get_or k.memories.each.items i None) (sym same) ∙ a.4.1)) b.4.2),
     )
->>>>>>> b416b9f1c1bab9e0a05daada13f6d6f6b007e111
     | inr ne ↦
         absurd (omega (
           arith,

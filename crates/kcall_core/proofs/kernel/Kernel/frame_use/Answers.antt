@@ -1,14 +1,6 @@
-<<<<<<< HEAD
-use Rattle.std.proofs.Common.{◌≡◌, ◌<◌, ◌≤◌, ◌∙◌, sym, ap, subst, arith}
-use Rattle.std.specs.Prelude.{is_some}
-use Rattle.kcall_core.specs.Kernel.{frame_count}
-use Rattle.kcall_core.specs.ObservedFrames.{IsUsed}
-use Rattle.kcall_core.specs.ObservedPipes.{counts_of}
-=======
 use Rattle.std.proofs.Common.{◌<◌, ◌≤◌, ◌∙◌, sym, subst, arith}
 use Rattle.kcall_core.specs.Kernel.{frame_count}
 use Rattle.kcall_core.specs.ObservedFrames.{IsUsed}
->>>>>>> b416b9f1c1bab9e0a05daada13f6d6f6b007e111
 use Rattle.kcall_core.specs.declared.kernel.observers.frame_uses.FrameUse.{FrameUse}
 use Rattle.kcall_core.specs.declared.kernel.observers.frame_uses.FrameUse.TheVariants.{Free, Pipe}
 use Rattle.kcall_core.proofs.memory.PipesTold.{keeps-told}

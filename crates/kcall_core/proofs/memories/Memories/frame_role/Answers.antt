@@ -9,9 +9,5 @@ pub returns-clause-none : goal.returns-clause-none
 returns-clause-none c =
     map-none c.role_in_space.result
     (none-in-slot c.args.self.now c.args.slot c.args.frame c.in-Some.memory (slot-read c.args.self.now c.args.slot c.index.result.now c.requires.sound c.requires.slot c.index.ensures ∙ c.in-Some.is)
-<<<<<<< HEAD
-      (λ e. c.if-number.false (c.number.ensures.value ∙ e ∙ sym c.number-2.ensures.value)))
-=======
     (λ e. c.if-number.false (c.number.ensures.value ∙ e ∙ sym c.number-2.ensures.value)))
->>>>>>> b416b9f1c1bab9e0a05daada13f6d6f6b007e111
     c.role_in_space.ensures.none

@@ -11,11 +11,6 @@ pub returns-clause-none : goal.returns-clause-none
 returns-clause-none c =
     map-none c.role_below.result
     (λ off. none-in-space c.args.ram.now c.args.space.now c.args.frame c.end.result c.requires c.end.ensures.value
-<<<<<<< HEAD
-      (λ e. c.if-number.false (c.number.ensures.value ∙ c.root.ensures ∙ e ∙ sym c.number-2.ensures.value))
-      (subst (λ r. (v : ℕ) → v < c.end.result → IsOffTheWay c.args.ram.now r c.args.frame v) c.root-2.ensures off))
-=======
     (λ e. c.if-number.false (c.number.ensures.value ∙ c.root.ensures ∙ e ∙ sym c.number-2.ensures.value))
     (subst (λ r. (v : ℕ) → v < c.end.result → IsOffTheWay c.args.ram.now r c.args.frame v) c.root-2.ensures off))
->>>>>>> b416b9f1c1bab9e0a05daada13f6d6f6b007e111
     c.role_below.ensures.none
