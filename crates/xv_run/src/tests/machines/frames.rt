@@ -2,7 +2,7 @@
 use super::scene::{Scene, first};
 use super::{called, stepped};
 use std::test::Fail;
-use xk_base::Vpn;
+use xk_base::{Frame, Vpn};
 use xv_machine::{FrameUse, Outcome};
 
 // Grows by a page, makes a pipe, whose descriptors go to the stack, and loops.
@@ -46,6 +46,6 @@ fn each_frame_has_one_use(rt: HostRuntime) -> Result<(), Fail> {
         assert_eq!(rt; scene.use_of_page(vpn), Some(FrameUse::Page { pid, vpn }));
     }
     assert_eq!(rt; scene.use_of_page(Vpn::new(4)), None);
-    assert_eq!(rt; scene.frame_use(16), None);
+    assert_eq!(rt; scene.frame_use(Frame::new(16)), None);
     Ok(())
 }

@@ -1,6 +1,4 @@
 //! Files of small programs, and the machines that tests ask.
-ghost use Rattle.std.specs.Prelude.{◌≤◌};
-
 use std::alloc::{AllocError, Global};
 use std::process::Abort;
 use std::test::Fail;
@@ -230,18 +228,16 @@ impl Scene {
         self.machine.instructions(most)
     }
 
-    /// What the frame of this number, at most 16, is used for.
-    pub(super) fn frame_use(&self, number: u32) -> Option<FrameUse>
-        requires { number ≤ 16 }
-    {
-        self.machine.frame_use(Frame::new(number))
+    /// What a frame is used for.
+    pub(super) fn frame_use(&self, frame: Frame) -> Option<FrameUse> {
+        self.machine.frame_use(frame)
     }
 
     /// How many of the 16 frames have this use.
     pub(super) fn frames_of(&self, wanted: &FrameUse) -> usize {
         let mut count: usize = 0;
         for number in 0..16 {
-            if self.frame_use(number) == Some(*wanted) {
+            if self.frame_use(Frame::new(number)) == Some(*wanted) {
                 count = count.wrapping_add(1);
             }
         }
