@@ -7,9 +7,10 @@ ghost use Rattle.xv_session.specs.declared.history.TheConstants.{EVENTS_MAX};
 
 use crate::SessionError;
 use crate::playing::{play, play_first};
+use crate::running::Running;
 use std::alloc::Global;
 use std::marker::Model;
-use xv_machine::{Event, Machine};
+use xv_machine::Event;
 
 /// The most events that a session keeps, 2^63: more than any machine gets.
 pub const EVENTS_MAX: u64 = 9_223_372_036_854_775_808;
@@ -98,6 +99,33 @@ impl History {
 }
 
 impl History {
+    /// The event at a place; `None` where there are fewer.
+    pub fn event(&self, place: u64) -> Option<Event> {
+        if place >= self.count {
+            return None;
+        }
+        let mut before = place;
+        for span in self.over.as_slice().iter() {
+            if before < span.count {
+                return Some(span.event);
+            }
+            before -= span.count;
+        }
+        Some(self.last.event)
+    }
+
+    /// The events at a place among the spans, and how many there are.
+    pub fn span(&self, place: usize) -> Option<(Event, u64)> {
+        let span = match self.over.as_slice().get(place) {
+            Some(span) => *span,
+            None if place == self.over.len() => self.last,
+            None => return None,
+        };
+        Some((span.event, span.count))
+    }
+}
+
+impl History {
     ghost use Rattle.std.specs.Prelude.{◌≡◌, take};
     ghost use Rattle.xv_machine.specs.Sound.{IsSoundMachine};
     ghost use Rattle.xv_session.specs.Recorded.{GoesBy};
@@ -122,12 +150,12 @@ impl History {
     }
 
     /// Sends the events before a place to a machine, from the first on.
-    pub fn play(&self, machine: &mut Machine, place: u64)
-        requires { IsSoundMachine machine.old }
-        ensures goes { GoesBy (take place self.now.events) machine.old machine.new }
-        ensures sound { IsSoundMachine machine.new }
+    pub fn play(&self, running: &mut Running, place: u64)
+        requires { IsSoundMachine running.old }
+        ensures goes { GoesBy (take place self.now.events) running.old running.new }
+        ensures sound { IsSoundMachine running.new }
     {
-        let left = play_first(machine, self.over.as_slice(), place);
-        play(machine, self.last.event, self.last.count.min(left));
+        let left = play_first(running, self.over.as_slice(), place);
+        play(running, self.last.event, self.last.count.min(left));
     }
 }
