@@ -1,4 +1,6 @@
+pub mod Names
 pub mod Recorded
+pub mod Steps
 pub mod Spans
 pub mod Codes
 pub mod Answers

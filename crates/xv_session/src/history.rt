@@ -99,29 +99,26 @@ impl History {
 }
 
 impl History {
-    /// The event at a place; `None` where there are fewer.
-    pub fn event(&self, place: u64) -> Option<Event> {
+    ghost use Rattle.std.specs.Prelude.{◌≡◌, option_map};
+    ghost use Rattle.xv_session.specs.Answers.{AreEqualFrom};
+    ghost use Rattle.xv_session.specs.Spans.{pair_of};
+
+    /// The event at a place, and how many events from there on are equal to it; `None` where there are fewer.
+    pub fn from_on(&self, place: u64) -> Option<(Event, u64)>
+        ensures { AreEqualFrom self.now.events place (option_map pair_of result) }
+    {
         if place >= self.count {
             return None;
         }
         let mut before = place;
-        for span in self.over.as_slice().iter() {
+        for at in 0..self.over.len() {
+            let span = self.over[at];
             if before < span.count {
-                return Some(span.event);
+                return Some((span.event, span.count - before));
             }
             before -= span.count;
         }
-        Some(self.last.event)
-    }
-
-    /// The events at a place among the spans, and how many there are.
-    pub fn span(&self, place: usize) -> Option<(Event, u64)> {
-        let span = match self.over.as_slice().get(place) {
-            Some(span) => *span,
-            None if place == self.over.len() => self.last,
-            None => return None,
-        };
-        Some((span.event, span.count))
+        Some((self.last.event, self.last.count - before))
     }
 }
 
@@ -151,9 +148,9 @@ impl History {
 
     /// Sends the events before a place to a machine, from the first on.
     pub fn play(&self, running: &mut Running, place: u64)
-        requires { IsSoundMachine running.old }
+        requires { IsSoundMachine running.old.machine }
         ensures goes { GoesBy (take place self.now.events) running.old running.new }
-        ensures sound { IsSoundMachine running.new }
+        ensures sound { IsSoundMachine running.new.machine }
     {
         let left = play_first(running, self.over.as_slice(), place);
         play(running, self.last.event, self.last.count.min(left));

@@ -1,6 +1,13 @@
 //! Which program each live process runs.
+ghost use Rattle.std.specs.Prelude.{◌≡◌, [], map};
+ghost use Rattle.kernel_spec.specs.rows.Buffers.{no_slashes};
+ghost use Rattle.kernel_spec.specs.views.Programs.{place_of};
+ghost use Rattle.kernel_spec.specs.views.State.{named_file};
+ghost use Rattle.xk_base.specs.declared.limits.TheConstants.{MAXPATH};
+ghost use Rattle.xv_session.specs.Names.{text_in, asked_in, child_of, gone_on_with};
+
 use arrayvec::ArrayVec;
-use rv64i_core::Regs;
+use std::marker::Model;
 use xk_base::limits::{MAXPATH, NPROC, PID_MAX};
 use xk_base::{Pid, Program, Reg};
 use xv_machine::{Machine, Outcome};
@@ -32,7 +39,9 @@ const EXEC: i32 = 7;
 const FIRST_ARGUMENT: u8 = 10;
 
 /// A name without its leading slashes.
-fn without_slashes(name: &[u8]) -> &[u8] {
+fn without_slashes(name: &[u8]) -> &[u8]
+    ensures { result.now ≡ no_slashes name.now }
+{
     let Some(first) = name.iter().position(|byte| *byte != b'/') else {
         return &[];
     };
@@ -40,33 +49,56 @@ fn without_slashes(name: &[u8]) -> &[u8] {
 }
 
 /// The place of the first program with this name.
-fn place_named(programs: &[Program], name: &[u8]) -> Option<usize> {
+fn place_named(programs: &[Program], name: &[u8]) -> Option<usize>
+    ensures { result ≡ place_of name.now (map named_file programs.now) }
+{
     programs
         .iter()
         .position(|program| program.name.as_slice() == name)
 }
 
 /// The text at an address of a process: its bytes up to the first that is zero, or that isn't there.
-fn text_at(machine: &Machine, pid: Pid, address: u64) -> ArrayVec<u8, MAXPATH> {
+fn text_at(machine: &Machine, pid: Pid, address: u64) -> ArrayVec<u8, MAXPATH>
+    ensures { result.items ≡ text_in MAXPATH machine.now.world.state pid address }
+{
     let mut text = ArrayVec::new();
     let mut at = address;
-    for _ in 0..MAXPATH {
+    for _place in 0..MAXPATH {
         let byte = machine.peek(pid, at).unwrap_or(0);
         if byte == 0 {
             return text;
         }
-        let _ = text.try_push(byte);
+        text.push(byte);
         at = at.wrapping_add(1);
     }
     text
 }
 
 /// The place of the program that the process that runs names by its first argument.
-pub(crate) fn named_now(machine: &Machine) -> Option<usize> {
+pub(crate) fn asked_now(machine: &Machine) -> Option<usize>
+    ensures { result ≡ asked_in machine.now.world }
+{
     let pid = machine.current()?;
     let regs = machine.registers(pid)?;
     let path = text_at(machine, pid, regs.read(Reg::new(FIRST_ARGUMENT)));
     place_named(machine.programs(), without_slashes(path.as_slice()))
+}
+
+/// The child that a fork with this answer made.
+fn child_of(value: i64) -> Option<Pid>
+    ensures { result ≡ child_of value }
+{
+    if value < 1 || value > i64::from(PID_MAX) {
+        return None;
+    }
+    Some(Pid::new(value as u32))
+}
+
+/// The program that an exec with this answer went on with.
+fn gone_on_with(value: i64, asked: Option<usize>) -> Option<usize>
+    ensures { result ≡ gone_on_with value asked }
+{
+    if value < 0 { None } else { asked }
 }
 
 /// The programs of the live processes.
@@ -75,69 +107,99 @@ pub(crate) struct Names {
     held: ArrayVec<Named, NPROC>,
 }
 
+impl Model for Names {
+    ghost use Rattle.std.specs.Prelude.{List};
+    ghost use Rattle.xv_session.specs.declared.names.Named.{Named};
+    ghost use Rattle.xv_session.specs.Codes.{names_code};
+
+    ghost Value = { List Named };
+
+    ghost coded = { names_code };
+
+    ghost view = { λ n. n.held.items };
+}
+
 impl Names {
+    ghost use Rattle.std.specs.Prelude.{◌≡◌, map};
+    ghost use Rattle.kernel_spec.specs.views.State.{named_file};
+    ghost use Rattle.xv_machine.specs.Events.{outcome_of};
+    ghost use Rattle.xv_session.specs.Names.{place_in, without, with_place, with_child, first_names, after_call, names_after};
+
     /// Process 1 runs the program called `init`.
-    pub fn at_boot(machine: &Machine) -> Names {
-        let mut held = ArrayVec::new();
-        if let Some(place) = place_named(machine.programs(), b"init".as_slice()) {
-            let _ = held.try_push(Named {
-                pid: Pid::new(1),
-                place,
-            });
-        }
-        Names { held }
+    pub fn at_boot(programs: &[Program]) -> Names
+        ensures { result ≡ first_names (map named_file programs.now) }
+    {
+        let mut names = Names {
+            held: ArrayVec::new(),
+        };
+        names.put(Pid::new(1), place_named(programs, b"init".as_slice()));
+        names
     }
 
-    /// The names, in the order in which the processes were born.
-    pub fn as_slice(&self) -> &[Named] {
+    /// The live processes, with the programs that they run.
+    pub fn as_slice(&self) -> &[Named]
+        ensures { result.now ≡ self.now }
+    {
         self.held.as_slice()
     }
 
     /// The place of the program that a process runs.
-    pub fn place(&self, pid: Pid) -> Option<usize> {
-        for named in self.held.as_slice().iter() {
-            if named.pid.number() == pid.number() {
-                return Some(named.place);
-            }
-        }
-        None
-    }
-
-    /// A process has a child, which runs what it runs.
-    fn bear(&mut self, parent: Pid, child: Pid) {
-        if let Some(place) = self.place(parent) {
-            let _ = self.held.try_push(Named { pid: child, place });
-        }
-    }
-
-    /// A process goes on with another program.
-    fn rename(&mut self, pid: Pid, place: usize) {
-        for named in self.held.as_mut_slice().iter_mut() {
-            if named.pid.number() == pid.number() {
-                named.place = place;
-            }
-        }
+    pub fn place(&self, pid: Pid) -> Option<usize>
+        ensures { result ≡ place_in pid self.now }
+    {
+        let named = self
+            .held
+            .as_slice()
+            .iter()
+            .find(|named| named.pid.number() == pid.number())?;
+        Some(named.place)
     }
 
     /// A process is gone.
-    fn forget(&mut self, pid: Pid) {
-        self.held.retain(|named| named.pid.number() != pid.number());
+    fn forget(&mut self, pid: Pid)
+        ensures { self.new ≡ without pid self.old }
+    {
+        let number = pid.number();
+        self.held.retain(|named| named.pid.number() != number);
     }
 
-    /// A call is done.
-    fn call(&mut self, asked: Option<usize>, pid: Pid, number: i32, value: i64) {
-        if number == FORK && value > 0 && value <= i64::from(PID_MAX) {
-            self.bear(pid, Pid::new(value as u32));
-        }
-        if number == EXEC && value >= 0 {
-            if let Some(place) = asked {
-                self.rename(pid, place);
-            }
+    /// A process runs the program at a place from now on, if it runs any.
+    fn put(&mut self, pid: Pid, place: Option<usize>)
+        ensures { self.new ≡ with_place pid place self.old }
+    {
+        let Some(place) = place else {
+            return;
+        };
+        self.forget(pid);
+        // There is always room, since each process has a slot of its own.
+        let _ = self.held.try_push(Named { pid, place });
+    }
+
+    /// A process has forked: its child runs what it runs.
+    fn bear(&mut self, parent: Pid, child: Option<Pid>)
+        ensures { self.new ≡ with_child parent child self.old }
+    {
+        let Some(child) = child else {
+            return;
+        };
+        self.put(child, self.place(parent));
+    }
+
+    /// A call of a process is done.
+    fn call(&mut self, asked: Option<usize>, pid: Pid, number: i32, value: i64)
+        ensures { self.new ≡ after_call asked pid number value self.old }
+    {
+        if number == FORK {
+            self.bear(pid, child_of(value));
+        } else if number == EXEC {
+            self.put(pid, gone_on_with(value, asked));
         }
     }
 
-    /// This came of an event, before which the process that runs named this program by its first argument.
-    pub fn note(&mut self, asked: Option<usize>, outcome: &Outcome) {
+    /// This came of an event, before which the process that runs asked for the program at this place.
+    pub fn note(&mut self, asked: Option<usize>, outcome: &Outcome)
+        ensures { self.new ≡ names_after asked (outcome_of outcome.now) self.old }
+    {
         match outcome {
             Outcome::Called { pid, number, value } => self.call(asked, *pid, *number, *value),
             Outcome::Exited { pid, .. } | Outcome::Faulted { pid, .. } => self.forget(*pid),

@@ -12,9 +12,9 @@ use xv_machine::Event;
 
 /// Sends Run so many times.
 fn send_runs(running: &mut Running, count: u64)
-    requires { IsSoundMachine running.old }
+    requires { IsSoundMachine running.old.machine }
     ensures goes { GoesBy (replicate count runs.Run) running.old running.new }
-    ensures sound { IsSoundMachine running.new }
+    ensures sound { IsSoundMachine running.new.machine }
 {
     let mut left = count;
     'runs: while left > 0 {
@@ -25,9 +25,9 @@ fn send_runs(running: &mut Running, count: u64)
 
 /// Sends an event so many times.
 fn send_often(running: &mut Running, event: Event, count: u64)
-    requires { IsSoundMachine running.old }
+    requires { IsSoundMachine running.old.machine }
     ensures goes { GoesBy (replicate count (event_of event)) running.old running.new }
-    ensures sound { IsSoundMachine running.new }
+    ensures sound { IsSoundMachine running.new.machine }
 {
     let mut left = count;
     'sends: while left > 0 {
@@ -38,9 +38,9 @@ fn send_often(running: &mut Running, event: Event, count: u64)
 
 /// Sends an event so many times: Runs as many at once as a machine makes.
 pub(crate) fn play(running: &mut Running, event: Event, count: u64)
-    requires { IsSoundMachine running.old }
+    requires { IsSoundMachine running.old.machine }
     ensures goes { GoesBy (replicate count (event_of event)) running.old running.new }
-    ensures sound { IsSoundMachine running.new }
+    ensures sound { IsSoundMachine running.new.machine }
 {
     match event {
         Event::Run => send_runs(running, count),
@@ -50,10 +50,10 @@ pub(crate) fn play(running: &mut Running, event: Event, count: u64)
 
 /// Sends the first events of spans, so many at most. The answer is how many there were too few.
 pub(crate) fn play_first(running: &mut Running, spans: &[Span], most: u64) -> u64
-    requires { IsSoundMachine running.old }
+    requires { IsSoundMachine running.old.machine }
     ensures left { result ≡ most - length (all_events spans.now) }
     ensures goes { GoesBy (take most (all_events spans.now)) running.old running.new }
-    ensures sound { IsSoundMachine running.new }
+    ensures sound { IsSoundMachine running.new.machine }
 {
     let mut left = most;
     for place in 0..spans.len() {

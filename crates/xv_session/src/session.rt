@@ -70,14 +70,16 @@ impl Model for Session {
 }
 
 impl Session {
-    ghost use Rattle.std.specs.Prelude.{◌≡◌, [], IfOk, IfErr, length, map, take};
+    ghost use Rattle.std.specs.Prelude.{◌≡◌, [], IfOk, IfErr, length, map, option_map, slice_get, take};
     ghost use Rattle.kernel_spec.specs.views.State.{named_file};
     ghost use Rattle.kernel_spec.specs.runs.First.{first};
     ghost use Rattle.xv_machine.specs.Boots.{Boots};
     ghost use Rattle.xv_machine.specs.Events.{event_of, outcome_of};
     ghost use Rattle.xv_machine.specs.Sound.{IsSoundMachine};
-    ghost use Rattle.xv_session.specs.Recorded.{IsPlayed, IsRecorded};
-    ghost use Rattle.xv_session.specs.Answers.{machine_of, IsNew, Sent, RunsSent, Found, WentBack};
+    ghost use Rattle.xv_session.specs.Recorded.{IsPlayed, IsLed, IsRecorded};
+    ghost use Rattle.xv_session.specs.Answers.{machine_of, IsNew, Sent, RunsSent, Found, WentBack, AreEqualFrom};
+    ghost use Rattle.xv_session.specs.Names.{place_in};
+    ghost use Rattle.xv_session.specs.Spans.{pair_of};
 
     /// A session whose machine was just booted, and has got no event. The refusals are those of
     /// [`Machine::boot`].
@@ -121,7 +123,7 @@ impl Session {
     ///
     /// As [`send`](Session::send): nothing is sent.
     pub fn run(&mut self, most: u32) -> Result<Runs, SessionError>
-        ensures sent { IfOk result (λ sent. RunsSent most sent self.old self.new) }
+        ensures sent { IfOk result (λ r. RunsSent most r.sent (option_map outcome_of r.last) self.old self.new) }
         ensures refused { IfErr result (λ _. self.new ≡ self.old) }
     {
         self.history.make_room(Event::Run)?;
@@ -137,7 +139,7 @@ impl Session {
     ///
     /// As [`send`](Session::send): nothing is sent.
     pub fn until(&mut self, most: u32, condition: Condition) -> Result<Search, SessionError>
-        ensures found { IfOk result (λ s. Found condition most s.sent s.met self.old self.new) }
+        ensures found { IfOk result (λ s. Found condition most s.sent s.met (option_map outcome_of s.last) self.old self.new) }
         ensures refused { IfErr result (λ _. self.new ≡ self.old) }
     {
         self.history.make_room(Event::Run)?;
@@ -154,19 +156,28 @@ impl Session {
     }
 
     /// The event at a place of the run: 0 is the first; `None` where there were fewer.
-    pub fn event(&self, place: u64) -> Option<Event> {
-        self.history.event(place)
+    pub fn event(&self, place: u64) -> Option<Event>
+        ensures { option_map event_of result ≡ slice_get self.now.events place }
+    {
+        match self.history.from_on(place) {
+            Some((event, _)) => Some(event),
+            None => None,
+        }
     }
 
-    /// Equal events, one behind another, and how many: those at this place among all such spans of the run, from
-    /// the first event on. `None` where there are fewer spans. Of two spans that follow each other the events may be
-    /// equal, and a span may have none.
-    pub fn span(&self, place: usize) -> Option<(Event, u64)> {
-        self.history.span(place)
+    /// The event at a place of the run, and how many events from there on are equal to it, one at least, as many as
+    /// are kept together; `None` where there were fewer. So all events are listed by a place that goes on from 0 by
+    /// these counts.
+    pub fn events_from(&self, place: u64) -> Option<(Event, u64)>
+        ensures { AreEqualFrom self.now.events place (option_map pair_of result) }
+    {
+        self.history.from_on(place)
     }
 
     /// The machine as it was after the first events, so many, booted anew, with its names.
-    fn running_at(&self, alloc: Global, place: u64) -> Result<Running, SessionError> {
+    fn running_at(&self, alloc: Global, place: u64) -> Result<Running, SessionError>
+        ensures { IfOk result (IsLed self.now.frames self.now.trace self.now.programs (take place self.now.events)) }
+    {
         let Ok(programs) = copied(alloc, self.running.machine.programs()) else {
             return Err(SessionError::Memory);
         };
@@ -218,12 +229,16 @@ impl Session {
 
     /// The place, among the machine's programs, of the program that a live process runs: process 1 runs `init`, a
     /// child what its parent ran at the fork, and an exec that is done sets it. `None` for any other pid.
-    pub fn program_of(&self, pid: Pid) -> Option<usize> {
+    pub fn program_of(&self, pid: Pid) -> Option<usize>
+        ensures { result ≡ place_in pid self.now.names }
+    {
         self.running.names.place(pid)
     }
 
-    /// The live processes, each with its program's place, in the order in which they were born.
-    pub fn names(&self) -> &[Named] {
+    /// The live processes, each with its program's place.
+    pub fn names(&self) -> &[Named]
+        ensures { result.now ≡ self.now.names }
+    {
         self.running.names.as_slice()
     }
 }

@@ -1,13 +1,15 @@
 //! Running on up to what is waited for.
-ghost use Rattle.std.specs.Prelude.{◌≡◌};
+ghost use Rattle.std.specs.Prelude.{◌≡◌, ◌&&◌, Some, option_map};
+ghost use Rattle.rv64i_core.specs.Memory.{bytes_of_width};
+ghost use Rattle.rv64i_core.specs.Step.{store_width};
 ghost use Rattle.xv_machine.specs.Events.{outcome_of};
-ghost use Rattle.xv_session.specs.Until.{makes_step, is_on_call, faults, ends, stands_at, meets, Searched};
+ghost use Rattle.xv_session.specs.Until.{makes_step, is_on_call, faults, ends, stands_at, is_done, instruction_in, puts_at, is_storing, store_awaited, meets_with, Searched};
 
 use crate::looking::next_step;
 use crate::running::Running;
 use rv64i_core::{Instr, StoreOp, decode};
 use xk_base::Pid;
-use xv_machine::{Event, Machine, Outcome};
+use xv_machine::{Machine, Outcome};
 
 /// What a search among Runs waits for.
 #[derive(Clone, Copy, Debug, PartialEq, Eq)]
@@ -98,7 +100,9 @@ fn stands_at(machine: &Machine, pid: Pid, pc: u64) -> bool
 }
 
 /// Whether an instruction was done.
-fn is_done(outcome: &Outcome) -> bool {
+fn is_done(outcome: &Outcome) -> bool
+    ensures { result ≡ is_done (outcome_of outcome.now) }
+{
     match outcome {
         Outcome::Stepped { .. } => true,
         _ => false,
@@ -106,7 +110,9 @@ fn is_done(outcome: &Outcome) -> bool {
 }
 
 /// How many bytes a store puts.
-fn store_size(op: StoreOp) -> u64 {
+fn store_size(op: StoreOp) -> u64
+    ensures { result ≡ bytes_of_width (store_width op) }
+{
     match op {
         StoreOp::Sb => 1,
         StoreOp::Sh => 2,
@@ -115,37 +121,55 @@ fn store_size(op: StoreOp) -> u64 {
     }
 }
 
-/// Whether the word spells a store whose bytes, from its own address on, hold this one.
-fn puts_at(word: Option<u32>, start: Option<u64>, address: u64) -> Option<bool> {
-    let Instr::Store { op, .. } = decode(word?)? else {
-        return None;
+/// Whether an instruction is a store, of whose bytes, from its own address on, one lies at this one.
+fn puts_at(address: u64, instr: Option<Instr>, own: Option<u64>) -> bool
+    ensures { result ≡ puts_at address instr own }
+{
+    let Some(Instr::Store { op, .. }) = instr else {
+        return false;
     };
-    let start = start?;
-    Some(start <= address && address - start < store_size(op))
+    let Some(own) = own else {
+        return false;
+    };
+    own <= address && address - own < store_size(op)
+}
+
+/// The instruction that a word spells.
+fn instruction_in(word: Option<u32>) -> Option<Instr>
+    ensures { result ≡ instruction_in word }
+{
+    decode(word?)
 }
 
 /// Whether the process that runs is about to store to this address.
-fn is_storing(machine: &Machine, address: u64) -> bool {
+fn is_storing(address: u64, machine: &Machine) -> bool
+    ensures { result ≡ is_storing address machine.now.world }
+{
     let Some(pid) = machine.current() else {
         return false;
     };
     let Some(step) = next_step(machine, pid) else {
         return false;
     };
-    puts_at(step.word, step.address, address) == Some(true)
+    puts_at(address, instruction_in(step.word), step.address)
 }
 
 impl Condition {
-    /// Whether the process that runs is about to make the store that is waited for.
-    fn is_at_store(&self, machine: &Machine) -> bool {
+    /// Whether it waits for a store, and the process that runs is about to make it.
+    fn is_at_store(&self, machine: &Machine) -> bool
+        ensures { result ≡ store_awaited self.now machine.now }
+    {
         match self {
-            Condition::StoreTo(address) => is_storing(machine, *address),
+            Condition::StoreTo(address) => is_storing(*address, machine),
             _ => false,
         }
     }
 
-    /// Whether the event of which this came, and which left this machine, is what is waited for.
-    fn is_met(&self, stores: bool, outcome: &Outcome, machine: &Machine) -> bool {
+    /// Whether the event of which this came, and which left this machine, is what is waited for; before it the store
+    /// that is waited for was the next step, or not.
+    fn is_met(&self, stores: bool, outcome: &Outcome, machine: &Machine) -> bool
+        ensures { result ≡ meets_with self.now stores (outcome_of outcome.now) machine.now }
+    {
         match self {
             Condition::StepOf(pid) => makes_step(outcome, *pid),
             Condition::Call(number) => is_on_call(outcome, *number),
@@ -158,10 +182,12 @@ impl Condition {
 }
 
 /// Sends Run, one by one, up to the first that is what is waited for, `most` at most.
-pub(crate) fn run_until(running: &mut Running, most: u32, condition: &Condition) -> Search {
+pub(crate) fn run_until(running: &mut Running, most: u32, condition: &Condition) -> Search
+    ensures { Searched condition.now most result.met (option_map outcome_of result.last) running.old running.new result.sent }
+{
     for before in 0..most {
         let stores = condition.is_at_store(&running.machine);
-        let outcome = running.event(Event::Run);
+        let outcome = running.run_once();
         let met = condition.is_met(stores, &outcome, &running.machine);
         let sent = before + 1;
         if met || sent == most {
