@@ -65,6 +65,3 @@ pub more-sent : (count left sent : ℕ) (e : Event) (a b c : Running) → left �
 more-sent count left sent e a b c within few before now =
     subst (λ es. GoesBy es a c) (replicate-append-replicate (count - left) sent e ∙ ap (λ n. replicate n e) (omega (arith, within, few)))
     (goes-by-join (replicate (count - left) e) (replicate sent e) a b c before now)
-
-pub goes-by-sound : (xs : List Event) (a b : Running) → GoesBy xs a b → IsSoundMachine b.machine
-goes-by-sound xs a b p = p.goes.sound

@@ -1,15 +1,14 @@
 -- Which program each live process runs: process 1 runs `init`; a child runs what its parent ran at the fork; an exec that is done sets it; a process that is gone runs none.
 -- A program is told by its place among those that the machine was booted with.
-use Rattle.std.specs.Prelude.{◌≡◌, ℕ, zero, suc, ◌≤◌, ℤ, pos, negsuc, Bool, not, ◌&&◌, if◌then◌else◌, nat_eq, nat_le, List, [], ◌∷◌, ◌++◌, take, filter, find, Option, None, Some, option_map}
+use Rattle.std.specs.Prelude.{◌≡◌, ◌⊎◌, ℕ, zero, suc, ℤ, pos, negsuc, not, ◌&&◌, if◌then◌else◌, nat_eq, nat_le, List, [], ◌∷◌, ◌++◌, filter, find, Option, None, Some, IsSome, option_map}
 use Rattle.std.specs.Ordering.{int_eq}
-use Rattle.xk_base.specs.declared.limits.TheConstants.{NPROC, PID_MAX, MAXPATH}
+use Rattle.xk_base.specs.declared.limits.TheConstants.{PID_MAX, MAXPATH}
 use Rattle.rv64i_core.specs.Registers.{Registers, reg, add}
 use Rattle.kernel_spec.specs.rows.Buffers.{no_slashes}
 use Rattle.kernel_spec.specs.steps.Own.{Answer, Stepped, Called, Blocked, Exited, Faulted}
-use Rattle.kernel_spec.specs.runs.First.{first}
 use Rattle.kernel_spec.specs.runs.Run.{World, Event, Outcome, Step_of}
 use Rattle.kernel_spec.specs.views.Programs.{place_of, init_name}
-use Rattle.kernel_spec.specs.views.State.{State, ProgramFile}
+use Rattle.kernel_spec.specs.views.State.{State, ProgramFile, live}
 use Rattle.kernel_spec.specs.views.Words.{A0}
 use Rattle.kernel_spec.specs.waking.Wakes.{Promised}
 use Rattle.kcall_core.specs.Observers.{registers_of, byte_at}
@@ -53,10 +52,10 @@ place_in p names = option_map (λ (n : Named). n.place) (named_of p names)
 abbrev pub without : ℕ → List Named → List Named
 without p names = filter (λ (n : Named). not (nat_eq n.pid p)) names
 
--- process p runs the program at a place, if it runs any. (A machine has no more than NPROC processes)
+-- process p runs the program at a place from now on; where no place is told, all stays
 abbrev pub with_place : ℕ → Option ℕ → List Named → List Named
 with_place p None names = names
-with_place p (Some place) names = take NPROC (without p names ++ record { pid = p; place = place } ∷ [])
+with_place p (Some place) names = without p names ++ record { pid = p; place = place } ∷ []
 
 -- process 1 runs `init`
 abbrev pub first_names : List ProgramFile → List Named
@@ -104,3 +103,19 @@ names_after asked _ names = names
 abbrev pub NamesGo : World → List (Event × Outcome) → World → List Named → List Named → Type 0
 NamesGo w [] t names after = (t ≡ w) × (after ≡ names)
 NamesGo w (e ∷ es) t names after = (mid : World) × Promised w e.0 e.1 mid × NamesGo mid es t (names_after (asked_in w) e.1 names) after
+
+-- ---- the named are live
+
+-- process p is named
+abbrev pub Among : ℕ → List Named → Type 0
+Among p [] = ⊥
+Among p (n ∷ ns) = (n.pid ≡ p) ⊎ Among p ns
+
+-- no process is named twice
+abbrev pub Apart : List Named → Type 0
+Apart [] = Unit {0}
+Apart (n ∷ ns) = (¬ Among n.pid ns) × Apart ns
+
+pub record AreLive (s : State) (names : List Named) : Type 0 where
+  pub apart : Apart names
+  pub lives : (p : ℕ) → Among p names → IsSome (live s p)

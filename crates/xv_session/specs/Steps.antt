@@ -7,8 +7,14 @@ use Rattle.kernel_spec.specs.steps.Own.{Stepped}
 use Rattle.kernel_spec.specs.views.Words.{or_zero}
 use Rattle.xv_machine.specs.Drives.{Goes, done_by}
 use Rattle.xv_machine.specs.Reached.{IsEvent}
-use Rattle.xv_session.specs.Names.{NamesGo, names_after, asked_in}
+use Rattle.xv_machine.specs.Sound.{IsSoundMachine}
+use Rattle.xv_session.specs.Names.{NamesGo, AreLive, names_after, asked_in}
 use Rattle.xv_session.specs.declared.running.Running.{Running}
+
+-- The machine is sound, and the named are live processes of it
+pub record IsSound (r : Running) : Type 0 where
+  pub machine : IsSoundMachine r.machine
+  pub names : AreLive r.machine.world.state r.names
 
 -- The machine goes from old to new by this event, and the names with it
 pub record Advances (old : Running) (e : Event) (o : Outcome) (new : Running) : Type 0 where

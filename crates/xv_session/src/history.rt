@@ -135,7 +135,7 @@ impl History {
 
 impl History {
     ghost use Rattle.std.specs.Prelude.{◌≡◌, take};
-    ghost use Rattle.xv_machine.specs.Sound.{IsSoundMachine};
+    ghost use Rattle.xv_session.specs.Steps.{IsSound};
     ghost use Rattle.xv_session.specs.Recorded.{GoesBy};
 
     /// Forgets the events from a place on.
@@ -159,9 +159,9 @@ impl History {
 
     /// Sends the events before a place to a machine, from the first on.
     pub fn play(&self, running: &mut Running, place: u64)
-        requires { IsSoundMachine running.old.machine }
+        requires { IsSound running.old }
         ensures goes { GoesBy (take place self.now.events) running.old running.new }
-        ensures sound { IsSoundMachine running.new.machine }
+        ensures sound { IsSound running.new }
     {
         let left = play_first(running, self.over.as_slice(), place);
         play(running, self.last.event, self.last.count.min(left));

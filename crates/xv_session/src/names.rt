@@ -1,5 +1,5 @@
 //! Which program each live process runs.
-ghost use Rattle.std.specs.Prelude.{◌≡◌, [], map};
+ghost use Rattle.std.specs.Prelude.{◌≡◌, map};
 ghost use Rattle.kernel_spec.specs.rows.Buffers.{no_slashes};
 ghost use Rattle.kernel_spec.specs.views.Programs.{place_of};
 ghost use Rattle.kernel_spec.specs.views.State.{named_file};
@@ -101,7 +101,7 @@ fn gone_on_with(value: i64, asked: Option<usize>) -> Option<usize>
     if value < 0 { None } else { asked }
 }
 
-/// The programs of the live processes.
+/// The programs of the live processes. There is room for all of them, since each has a slot of its own.
 #[derive(Drop)]
 pub(crate) struct Names {
     held: ArrayVec<Named, NPROC>,
@@ -120,7 +120,8 @@ impl Model for Names {
 }
 
 impl Names {
-    ghost use Rattle.std.specs.Prelude.{◌≡◌, map};
+    ghost use Rattle.std.specs.Prelude.{◌≡◌, ◌≤◌, length, map};
+    ghost use Rattle.xk_base.specs.declared.limits.TheConstants.{NPROC};
     ghost use Rattle.kernel_spec.specs.views.State.{named_file};
     ghost use Rattle.xv_machine.specs.Events.{outcome_of};
     ghost use Rattle.xv_session.specs.Names.{place_in, without, with_place, with_child, first_names, after_call, names_after};
@@ -165,18 +166,19 @@ impl Names {
 
     /// A process runs the program at a place from now on, if it runs any.
     fn put(&mut self, pid: Pid, place: Option<usize>)
+        requires { length (with_place pid place self.old) ≤ NPROC }
         ensures { self.new ≡ with_place pid place self.old }
     {
         let Some(place) = place else {
             return;
         };
         self.forget(pid);
-        // There is always room, since each process has a slot of its own.
-        let _ = self.held.try_push(Named { pid, place });
+        self.held.push(Named { pid, place });
     }
 
     /// A process has forked: its child runs what it runs.
     fn bear(&mut self, parent: Pid, child: Option<Pid>)
+        requires { length (with_child parent child self.old) ≤ NPROC }
         ensures { self.new ≡ with_child parent child self.old }
     {
         let Some(child) = child else {
@@ -187,6 +189,7 @@ impl Names {
 
     /// A call of a process is done.
     fn call(&mut self, asked: Option<usize>, pid: Pid, number: i32, value: i64)
+        requires { length (after_call asked pid number value self.old) ≤ NPROC }
         ensures { self.new ≡ after_call asked pid number value self.old }
     {
         if number == FORK {
@@ -198,6 +201,7 @@ impl Names {
 
     /// This came of an event, before which the process that runs asked for the program at this place.
     pub fn note(&mut self, asked: Option<usize>, outcome: &Outcome)
+        requires { length (names_after asked (outcome_of outcome.now) self.old) ≤ NPROC }
         ensures { self.new ≡ names_after asked (outcome_of outcome.now) self.old }
     {
         match outcome {

@@ -2,7 +2,7 @@
 ghost use Rattle.std.specs.Prelude.{◌≡◌, ◌-◌, replicate, take, length};
 ghost use Rattle.kernel_spec.specs.runs.Run as runs;
 ghost use Rattle.xv_machine.specs.Events.{event_of};
-ghost use Rattle.xv_machine.specs.Sound.{IsSoundMachine};
+ghost use Rattle.xv_session.specs.Steps.{IsSound};
 ghost use Rattle.xv_session.specs.Recorded.{GoesBy};
 ghost use Rattle.xv_session.specs.Spans.{all_events};
 
@@ -12,9 +12,9 @@ use xv_machine::Event;
 
 /// Sends Run so many times.
 fn send_runs(running: &mut Running, count: u64)
-    requires { IsSoundMachine running.old.machine }
+    requires { IsSound running.old }
     ensures goes { GoesBy (replicate count runs.Run) running.old running.new }
-    ensures sound { IsSoundMachine running.new.machine }
+    ensures sound { IsSound running.new }
 {
     let mut left = count;
     'runs: while left > 0 {
@@ -25,9 +25,9 @@ fn send_runs(running: &mut Running, count: u64)
 
 /// Sends an event so many times.
 fn send_often(running: &mut Running, event: Event, count: u64)
-    requires { IsSoundMachine running.old.machine }
+    requires { IsSound running.old }
     ensures goes { GoesBy (replicate count (event_of event)) running.old running.new }
-    ensures sound { IsSoundMachine running.new.machine }
+    ensures sound { IsSound running.new }
 {
     let mut left = count;
     'sends: while left > 0 {
@@ -38,9 +38,9 @@ fn send_often(running: &mut Running, event: Event, count: u64)
 
 /// Sends an event so many times: Runs as many at once as a machine makes.
 pub(crate) fn play(running: &mut Running, event: Event, count: u64)
-    requires { IsSoundMachine running.old.machine }
+    requires { IsSound running.old }
     ensures goes { GoesBy (replicate count (event_of event)) running.old running.new }
-    ensures sound { IsSoundMachine running.new.machine }
+    ensures sound { IsSound running.new }
 {
     match event {
         Event::Run => send_runs(running, count),
@@ -50,10 +50,10 @@ pub(crate) fn play(running: &mut Running, event: Event, count: u64)
 
 /// Sends the first events of spans, so many at most. The answer is how many there were too few.
 pub(crate) fn play_first(running: &mut Running, spans: &[Span], most: u64) -> u64
-    requires { IsSoundMachine running.old.machine }
+    requires { IsSound running.old }
     ensures left { result ≡ most - length (all_events spans.now) }
     ensures goes { GoesBy (take most (all_events spans.now)) running.old running.new }
-    ensures sound { IsSoundMachine running.new.machine }
+    ensures sound { IsSound running.new }
 {
     let mut left = most;
     for place in 0..spans.len() {

@@ -2,9 +2,8 @@
 ghost use Rattle.std.specs.Prelude.{◌≡◌, ◌≤◌, ◌<◌, None, IsSome, option_map};
 ghost use Rattle.kernel_spec.specs.runs.Run as runs;
 ghost use Rattle.xv_machine.specs.Events.{event_of, outcome_of};
-ghost use Rattle.xv_machine.specs.Sound.{IsSoundMachine};
 ghost use Rattle.xv_session.specs.Names.{first_names};
-ghost use Rattle.xv_session.specs.Steps.{Advances, RunsMade};
+ghost use Rattle.xv_session.specs.Steps.{Advances, IsSound, RunsMade};
 
 use crate::names::{Names, asked_now};
 use xv_machine::{Event, Machine, Outcome};
@@ -37,6 +36,7 @@ impl Running {
 
     /// What comes of an event.
     pub fn event(&mut self, event: Event) -> Outcome
+        requires sound { IsSound self.old }
         ensures { Advances self.old (event_of event) (outcome_of result) self.new }
     {
         let asked = asked_now(&self.machine);
@@ -47,6 +47,7 @@ impl Running {
 
     /// What comes of one Run.
     pub fn run_once(&mut self) -> Outcome
+        requires sound { IsSound self.old }
         ensures { Advances self.old runs.Run (outcome_of result) self.new }
     {
         if let Some(pid) = self.machine.current() {
@@ -83,6 +84,7 @@ impl Running {
     /// Sends Run to the process that runs, up to the first of which no done instruction comes.
     fn advance(&mut self, most: u32) -> Runs
         requires running { IsSome self.old.machine.world.turns.current }
+        requires sound { IsSound self.old }
         requires some { 0 < most }
         ensures made { RunsMade most result.sent (option_map outcome_of result.last) self.old self.new }
         ensures within { result.sent ≤ most }
@@ -105,7 +107,7 @@ impl Running {
     /// Sends Run, `most` times at most: as long as an instruction is done, and once more where something else
     /// comes of it. Where no process may run, before another event, all of them are sent.
     pub fn run(&mut self, most: u32) -> Runs
-        requires sound { IsSoundMachine self.old.machine }
+        requires sound { IsSound self.old }
         ensures made { RunsMade most result.sent (option_map outcome_of result.last) self.old self.new }
         ensures within { result.sent ≤ most }
         ensures some { 0 < most → 0 < result.sent }

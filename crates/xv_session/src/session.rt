@@ -70,15 +70,15 @@ impl Model for Session {
 }
 
 impl Session {
-    ghost use Rattle.std.specs.Prelude.{◌≡◌, [], IfOk, IfErr, length, map, option_map, slice_get, take};
-    ghost use Rattle.kernel_spec.specs.views.State.{named_file};
+    ghost use Rattle.std.specs.Prelude.{◌≡◌, [], IfOk, IfErr, IfSome, IsSome, length, map, option_map, slice_get, take};
+    ghost use Rattle.kernel_spec.specs.views.State.{named_file, live};
     ghost use Rattle.kernel_spec.specs.runs.First.{first};
     ghost use Rattle.xv_machine.specs.Boots.{Boots};
     ghost use Rattle.xv_machine.specs.Events.{event_of, outcome_of};
     ghost use Rattle.xv_machine.specs.Sound.{IsSoundMachine};
     ghost use Rattle.xv_session.specs.Recorded.{IsPlayed, IsLed, IsRecorded};
     ghost use Rattle.xv_session.specs.Answers.{machine_of, IsNew, Sent, RunsSent, Found, WentBack, AreEqualFrom, IsSpanOf};
-    ghost use Rattle.xv_session.specs.Names.{place_in};
+    ghost use Rattle.xv_session.specs.Names.{place_in, AreLive};
     ghost use Rattle.xv_session.specs.Spans.{pair_of};
 
     /// A session whose machine was just booted, and has got no event. The refusals are those of
@@ -238,14 +238,16 @@ impl Session {
     /// The place, among the machine's programs, of the program that a live process runs: process 1 runs `init`, a
     /// child what its parent ran at the fork, and an exec that is done sets it. `None` for any other pid.
     pub fn program_of(&self, pid: Pid) -> Option<usize>
-        ensures { result ≡ place_in pid self.now.names }
+        ensures place { result ≡ place_in pid self.now.names }
+        ensures live { IfSome result (λ _. IsSome (live self.now.machine.world.state pid)) }
     {
         self.running.names.place(pid)
     }
 
     /// The live processes, each with its program's place.
     pub fn names(&self) -> &[Named]
-        ensures { result.now ≡ self.now.names }
+        ensures names { result.now ≡ self.now.names }
+        ensures live { AreLive self.now.machine.world.state result.now }
     {
         self.running.names.as_slice()
     }

@@ -3,6 +3,7 @@ ghost use Rattle.std.specs.Prelude.{◌≡◌, ◌&&◌, Some, option_map};
 ghost use Rattle.rv64i_core.specs.Memory.{bytes_of_width};
 ghost use Rattle.rv64i_core.specs.Step.{store_width};
 ghost use Rattle.xv_machine.specs.Events.{outcome_of};
+ghost use Rattle.xv_session.specs.Steps.{IsSound};
 ghost use Rattle.xv_session.specs.Until.{makes_step, is_on_call, faults, ends, stands_at, is_done, instruction_in, puts_at, is_storing, store_awaited, meets_with, Searched};
 
 use crate::looking::next_step;
@@ -183,6 +184,7 @@ impl Condition {
 
 /// Sends Run, one by one, up to the first that is what is waited for, `most` at most.
 pub(crate) fn run_until(running: &mut Running, most: u32, condition: &Condition) -> Search
+    requires { IsSound running.old }
     ensures { Searched condition.now most result.met (option_map outcome_of result.last) running.old running.new result.sent }
 {
     for before in 0..most {

@@ -6,6 +6,6 @@ use Rattle.xv_session.proofs.playing.send_often.Goals as goal
 pub sends-preserved : goal.sends-preserved
 sends-preserved c = (
   omega (arith, c.sends.invariant.0),
-  more-sent c.args.count c.sends.left 1 (event_of c.args.event) c.args.machine.now c.sends.machine c.event.new.self c.sends.invariant.0 (omega (arith, c.sends-test.true)) c.sends.invariant.1
-      (goes-by-one (event_of c.args.event) (outcome_of c.event.result) c.sends.machine c.event.new.self c.event.ensures),
+  more-sent c.args.count c.sends.left 1 (event_of c.args.event) c.args.running.now c.sends.running c.event.new.self c.sends.invariant.0 (omega (arith, c.sends-test.true)) c.sends.invariant.1
+      (goes-by-one (event_of c.args.event) (outcome_of c.event.result) c.sends.running c.event.new.self c.event.ensures),
 )
