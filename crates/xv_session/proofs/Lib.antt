@@ -9,3 +9,4 @@ pub mod Programs
 pub mod RunsMade
 pub mod Searches
 pub mod Spans
+pub mod Texts

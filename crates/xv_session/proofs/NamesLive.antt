@@ -1,14 +1,15 @@
 -- The named are live, and no two are one. So there are no more of them than slots.
-use Rattle.std.proofs.Common.{◌≡◌, ◌≢◌, ◌⊎◌, ℕ, ◌+◌, ◌<◌, ◌≤◌, Bool, true, false, cond, not, List, [], ◌∷◌, ◌++◌, length, map, filter, eqb, Option, None, Some, Result, Ok, Err, inl, inr, refl, sym, ap, ◌∙◌, subst, arith}
+use Rattle.std.proofs.Common.{◌≡◌, ◌≢◌, ◌⊎◌, ℕ, ◌+◌, ◌<◌, ◌≤◌, Bool, true, false, cond, not, List, [], ◌∷◌, ◌++◌, length, map, filter, replicate, eqb, Option, None, Some, Result, Ok, Err, inl, inr, refl, sym, ap, ◌∙◌, subst, arith}
 use Rattle.std.specs.Prelude.{ℤ, pos, negsuc, IsSome, is_some, MatchOption, option_map, nat_eq, nat_le, ◌&&◌, ◌||◌}
 use Rattle.std.specs.List.{IsDistinct, AllByRecursion, list_any}
-use Rattle.std.specs.FinMap.{get}
-use Rattle.std.specs.Ordering.{int_eq}
+use Rattle.std.specs.FinMap.{FinMap, get}
+use Rattle.std.specs.Ordering.{int_eq, nat_cmp}
 use Rattle.std.proofs.lemmas.Bool.Decides.{eqb_tells, Decides-int_eq}
 use Rattle.std.proofs.lemmas.Bool.{or_cases, eqb-true}
 use Rattle.std.proofs.lemmas.List.{length-map, length-append}
 use Rattle.std.proofs.lemmas.Map.Steps.{length-le_from_distinct_below}
 use Rattle.xk_base.specs.declared.limits.TheConstants.{NPROC, PID_MAX}
+use Rattle.console_core.specs.Keys.{line}
 use Rattle.kernel_spec.specs.views.Processes.{Live, Process, Alive, Zombie}
 use Rattle.kernel_spec.specs.views.State.{State, ProgramFile, live, live_part}
 use Rattle.kernel_spec.specs.views.View.{View, view, view_of}
@@ -21,7 +22,7 @@ use Rattle.kernel_spec.specs.steps.Step.{own}
 use Rattle.kernel_spec.specs.runs.First.{first}
 use Rattle.xk_base.specs.declared.errors.BootError.{BootError}
 use Rattle.xv_machine.specs.Sound.{IsSoundMachine}
-use Rattle.kernel_spec.specs.runs.Run.{World, Event, Run, Tick, Key, Send, Outcome, Step_of, Turn, Idle, Halted, Ticked, Typed, Sent, TurnTaken, RunHappens, TickHappens, KeyHappens, Happens, StepOf}
+use Rattle.kernel_spec.specs.runs.Run.{World, Event, Run, Tick, Key, Send, Outcome, Step_of, Turn, Idle, Halted, Ticked, Typed, Sent, TurnTaken, RunHappens, TickHappens, KeyHappens, Happens, StepOf, first_sent}
 use Rattle.kernel_spec.proofs.rows.Pids.{own_sound}
 use Rattle.kernel_spec.proofs.steps.Kept.{pid_is}
 use Rattle.xv_session.specs.Names.{NamesGo, Among, Apart, AreLive, first_names, names_after, after_step, after_call, asked_in, without, with_place, with_child, child_of, gone_on_with, place_in}
@@ -33,7 +34,11 @@ use Rattle.xv_machine.specs.Meaning.{Meaning}
 use Rattle.xv_machine.specs.Reached.{IsEvent}
 use Rattle.xv_session.proofs.AtBoot.{first-lives}
 use Rattle.xv_session.proofs.Children.{own_tells}
+use Rattle.xv_machine.specs.Boots.{Boots, HasEmptyTrace}
+use Rattle.xv_machine.specs.Drives.{Goes, done_by}
+use Rattle.xv_session.proofs.NamesGo.{names-again, step-nameless}
 use Rattle.xv_session.proofs.Plays.{led-sound}
+use Rattle.xv_session.proofs.Programs.{booted-led}
 
 -- ---- lists of names
 
@@ -58,7 +63,7 @@ apart-without p (n ∷ ns) h = elim (eqb_tells n.pid p) [
 
 among-push : (q : ℕ) (ns : List Named) (x : Named) → Among q (ns ++ x ∷ []) → Among q ns ⊎ (x.pid ≡ q)
 among-push q [] x (inl is) = inr is
-among-push q [] x (inr no) = absurd no
+among-push q [] x (inr never) = absurd never
 among-push q (n ∷ ns) x (inl is) = inl (inl is)
 among-push q (n ∷ ns) x (inr rest) = elim (among-push q ns x rest) [ inl among ↦ inl (inr among) | inr is ↦ inr is ]
 
@@ -101,7 +106,7 @@ module _ (s : State) (turns : Turns) (slots : HasSlots s turns) where
 
   in-slot : (n : Named) → IsSome (live s n.pid) → get turns.slots n.pid ≡ Some (slot-at n)
   unfolding slot-at
-  in-slot n lives = let h = some-is (get turns.slots n.pid) (slots.some n.pid (some-process (get s.processes n.pid) lives)) in h.1 ∙ ap (λ o. Some (or_zero o)) (sym h.1)
+  in-slot n lives = let h = some-is (get turns.slots n.pid) (slots.some n.pid (some-process (get s.processes n.pid) lives)) in h.1 ∙ ap (λ (o : Option ℕ). Some (or_zero o)) (sym h.1)
 
   other-slots : (n : Named) (ns : List Named) → IsSome (live s n.pid) → ((p : ℕ) → Among p ns → IsSome (live s p)) → ¬ Among n.pid ns → AllByRecursion (λ y. eqb (slot-at n) y ≡ false) (map slot-at ns)
   other-slots n [] lives all new = tt
@@ -129,12 +134,12 @@ module _ (s : State) (turns : Turns) (slots : HasSlots s turns) where
   ]
 
   pub named-fit : (ns : List Named) → AreLive s ns → length ns ≤ NPROC
-  named-fit ns all = subst (λ n. n ≤ NPROC) (length-map slot-at ns) (length-le_from_distinct_below (map slot-at ns) NPROC (distinct-slots ns all) (slots-below ns all.lives))
+  named-fit ns all = subst (λ n. n ≤ NPROC) (length-map ns slot-at) (length-le_from_distinct_below (map slot-at ns) NPROC (distinct-slots ns all) (slots-below ns all.lives))
 
 -- ---- an event keeps it so
 
 same-processes : (s t : State) (names : List Named) → t.processes ≡ s.processes → AreLive s names → AreLive t names
-same-processes s t names same all = record { apart = all.apart; lives = λ p among. subst (λ ps. IsSome (live_part (get ps p))) (sym same) (all.lives p among) }
+same-processes s t names same all = record { apart = all.apart; lives = λ p among. subst (λ (ps : FinMap nat_cmp Process). IsSome (live_part (get ps p))) (sym same) (all.lives p among) }
 
 view-live : (s : State) (p : ℕ) → IsSome (view s p) → IsSome (live s p)
 view-live s p h = by (live s p) h
@@ -204,7 +209,7 @@ module _ (w t : World) (p : ℕ) (o : Outcome) (h : StepOf w p o t) where
       exec false = kept
 
       by : (b : Bool) → int_eq number (pos 1) ≡ b → AreLive t.state (cond b (with_child p (child_of value) names) (cond (int_eq number (pos 7)) (with_place p (gone_on_with value asked) names) names))
-      by true is = fork-live value names (answer ∙ ap (λ z. Called z value) ((Decides-int_eq number (pos 1)).0 is)) kept
+      by true is = fork-live value names (answer ∙ ap (λ (z : ℤ). Called z value) ((Decides-int_eq number (pos 1)).0 is)) kept
       by false is = exec (int_eq number (pos 7))
 
   step-live : (asked : Option ℕ) (names : List Named) (a : Answer) → (own h.before).answer ≡ a → AreLive w.state names → AreLive t.state (after_step asked p a names)
@@ -249,8 +254,8 @@ event-live w t (Key b) o asked names h all = by w.turns.halted h
   where
     by : (halted : Option ℤ) → KeyHappens w halted b o t → AreLive t.state (names_after asked o names)
     by (Some status) h = quiet-live w t o Halted asked names h.0 refl (of-world h.1) all
-    by None h = quiet-live w t o _ asked names h.0 refl (of-state h.1) all
-event-live w t Send o asked names h all = quiet-live w t o _ asked names h.0 refl (of-state h.1) all
+    by None h = quiet-live w t o (Typed (line w.state.console b).1) asked names h.0 refl (of-state h.1) all
+event-live w t Send o asked names h all = quiet-live w t o (Sent (first_sent w.state.console.to_send)) asked names h.0 refl (of-state h.1) all
 
 -- so does a run
 pub run-live : (list : List (Event × Outcome)) (w t : World) (names after : List Named) → NamesGo w list t names after → AreLive w.state names → AreLive t.state after
@@ -272,12 +277,6 @@ first-fit programs = by (place_of init_name programs)
     by : (place : Option ℕ) → length (with_place 1 place []) ≤ NPROC
     by None = omega arith
     by (Some place) = omega arith
-
-pub booted-sound : (frames trace : ℕ) (programs : List ProgramFile) (r : Running) → first frames trace programs ≡ Ok r.machine.world → IsSoundMachine r.machine → r.names ≡ first_names r.machine.world.state.programs → IsSound r
-booted-sound frames trace programs r is sound names = record {
-  machine = sound;
-  names = subst (AreLive r.machine.world.state) (sym names) (first-live r.machine.world.state r.machine.world.state.programs (first-lives frames trace programs r.machine is sound));
-}
 
 -- after an event there is room for the names
 pub event-fit : (e : Event) (o : Outcome) (asked : Option ℕ) (a b : Meaning) (names : List Named) → AreLive a.world.state names → IsEvent a e o b → length (names_after asked o names) ≤ NPROC
@@ -307,3 +306,14 @@ led-is-sound frames trace programs xs r (list, those, reached, (booted, is, name
   where
     ok-same : (a b : World) → ◌≡◌ {A = Result World BootError} (Ok a) (Ok b) → a ≡ b
     ok-same a b e = cc
+
+-- what was just booted
+pub anew-sound : (frames trace : ℕ) (programs : List ProgramFile) (r : Running) → Boots frames (Ok r.machine) (first frames trace programs) → IsSoundMachine r.machine → HasEmptyTrace trace r.machine → r.names ≡ first_names r.machine.world.state.programs → IsSound r
+anew-sound frames trace programs r boots sound empty names = led-is-sound frames trace programs [] r (booted-led frames trace programs r boots sound empty names).0
+
+-- instructions change no name
+pub instructed-sound : (made p : ℕ) (names : List Named) (a b : Meaning) → IsSound (record { machine = a; names = names }) → Goes a (replicate made (done_by p)) b → IsSound (record { machine = b; names = names })
+instructed-sound made p names a b sound goes = record {
+  machine = goes.sound;
+  names = run-live (replicate made (done_by p)) a.world b.world names names (names-again made a.world b.world Run (Step_of p Stepped) names (step-nameless p) goes.run) sound.names;
+}

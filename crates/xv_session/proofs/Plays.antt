@@ -8,7 +8,7 @@ use Rattle.xv_machine.specs.Reached.{IsReached}
 use Rattle.xv_machine.specs.Sound.{IsSoundMachine}
 use Rattle.xv_machine.proofs.Joins.{goes-none, goes-one, goes-join, events-join}
 use Rattle.xv_machine.proofs.Reached.{reaches_on, reached_is_sound}
-use Rattle.xv_session.specs.Names.{NamesGo}
+use Rattle.xv_session.specs.Names.{NamesGo, first_names}
 use Rattle.xv_session.specs.Recorded.{IsPlayed, IsLed, GoesBy}
 use Rattle.xv_session.specs.Steps.{Advances, RunsMade}
 use Rattle.xv_session.specs.declared.names.Named.{Named}
@@ -47,7 +47,7 @@ led-on frames trace programs xs ys r s (list, those, reached, (booted, is, named
   list ++ more.list,
   events-join list more.list ∙ ap₂ (λ u v. u ++ v) those more.those,
   reaches_on frames trace programs list more.list r.machine s.machine reached more.goes,
-  (booted, is, names-join list more.list booted r.machine.world s.machine.world _ r.names s.names named more.named),
+  (booted, is, names-join list more.list booted r.machine.world s.machine.world (first_names programs) r.names s.names named more.named),
 )
 
 pub played-sound : (frames trace : ℕ) (programs : List ProgramFile) (xs : List Event) (m : Meaning) → IsPlayed frames trace programs xs m → IsSoundMachine m

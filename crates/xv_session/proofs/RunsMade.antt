@@ -1,6 +1,6 @@
 -- Runs that were sent at once: of a process that runs, and where nobody runs.
 use Rattle.std.proofs.Common.{◌≡◌, ◌≢◌, ◌⊎◌, ℕ, zero, suc, ◌+◌, ◌<◌, ◌≤◌, List, [], ◌∷◌, ◌++◌, length, replicate, Option, None, Some, inl, inr, refl, sym, ap, ap₂, ◌∙◌, subst, arith}
-use Rattle.std.specs.Prelude.{ℤ}
+use Rattle.std.specs.Prelude.{ℤ, IsSome}
 use Rattle.std.proofs.lemmas.List.{length-replicate, replicate_more, length-append}
 use Rattle.kernel_spec.specs.runs.Run.{World, Event, Run, Outcome, Step_of, Turn, Idle, Halted, Ticked, Typed, Sent, TurnTaken, RunHappens, Happens, stays_current}
 use Rattle.kernel_spec.specs.runs.Rounds.{events}
@@ -17,22 +17,12 @@ use Rattle.xv_machine.specs.Sound.{IsSoundMachine, IsHalted}
 use Rattle.xv_machine.proofs.Joins.{events-join, goes-none, goes-one, goes-join}
 use Rattle.xv_machine.proofs.Sent.{events-again}
 use Rattle.xv_session.specs.Names.{NamesGo, names_after, asked_in}
-use Rattle.xv_session.specs.Steps.{Advances, RunsMade, AreRunsTo}
+use Rattle.xv_session.specs.Steps.{Advances, RunsMade, AreRunsTo, idle_or_halted, passed}
 use Rattle.xv_session.specs.declared.names.Named.{Named}
 use Rattle.xv_session.specs.declared.running.Running.{Running}
 use Rattle.xv_session.proofs.NamesGo.{names-one, names-join, names-again, names-along, IsNameless, step-nameless, turn-nameless, idle-nameless, halted-nameless}
 
 -- ---- where nobody runs
-
--- what comes of a Run by which nobody's turn comes
-abbrev pub idle_or_halted : Option ℤ → Outcome
-idle_or_halted (Some status) = Halted
-idle_or_halted None = Idle
-
--- what came of the last Run, by what the machine is then
-abbrev pub passed : Option ℕ → Option ℤ → Outcome
-passed (Some p) halted = Turn p
-passed None halted = idle_or_halted halted
 
 abbrev HasTurn : Outcome → World → Type 0
 HasTurn o t = (p : ℕ) × (o ≡ Turn p) × (t.turns.current ≡ Some p)
@@ -140,6 +130,9 @@ all-told (suc k) p list a b names some stopped run (inr (inr (o, is, which))) =
       names-along list (replicate (suc k) (Run, o)) a b names names is (names-again (suc k) a b Run o names (nameless o which) again),
     )
 
+pub one-more : (made p : ℕ) (o : Outcome) → events (replicate made (done_by p) ++ (Run, o) ∷ []) ≡ replicate (made + 1) Run
+one-more made p o = events-join (replicate made (done_by p)) ((Run, o) ∷ []) ∙ ap (λ es. es ++ Run ∷ []) (events-again made Run (Step_of p Stepped)) ∙ replicate_more made Run
+
 -- all of them are Runs
 are-runs : (most p sent : ℕ) (list : List (Event × Outcome)) → length list ≡ sent → AreRuns most p list → events list ≡ replicate sent Run
 are-runs most p sent list count (inl all) =
@@ -148,9 +141,6 @@ are-runs most p sent list count (inr (inl (made, o, is, fewer, other, idle, halt
     ap events is ∙ one-more made p o
     ∙ ap (λ n. replicate n Run) (sym (length-append (replicate made (done_by p)) ((Run, o) ∷ []) ∙ ap (λ n. n + 1) (length-replicate made (done_by p))) ∙ ap length (sym is) ∙ count)
 are-runs most p sent list count (inr (inr (o, is, which))) = ap events is ∙ events-again most Run o ∙ ap (λ n. replicate n Run) (sym (length-replicate most (Run, o)) ∙ ap length (sym is) ∙ count)
-
-pub one-more : (made p : ℕ) (o : Outcome) → events (replicate made (done_by p) ++ (Run, o) ∷ []) ≡ replicate (made + 1) Run
-one-more made p o = events-join (replicate made (done_by p)) ((Run, o) ∷ []) ∙ ap (λ es. es ++ Run ∷ []) (events-again made Run (Step_of p Stepped)) ∙ replicate_more made Run
 
 -- Runs that were sent where nobody runs
 pub passes : (most sent : ℕ) (names : List Named) (a b : Meaning) → a.world.turns.current ≡ None → 0 < most → Ran most sent a b
@@ -191,6 +181,11 @@ steps m t p o sound is h = by m.world.turns.halted m.world.turns.current is soun
     by (Some status) current e end h = let no : None ≡ Some p = sym end.1 ∙ is in let bad : ⊥ = cc in absurd bad
     by None None e end h = let bad : ⊥ = cc in absurd bad
     by None (Some q) e end h = let same : q ≡ p = cc in ((own h.before).answer, h.answer ∙ ap (λ r. Step_of r (own h.before).answer) same)
+
+-- the process that runs
+pub there : (o : Option ℕ) → IsSome o → o ≡ Some (or_zero o)
+there None e = let no : ⊥ = cc in absurd no
+there (Some p) e = refl
 
 -- all of them are done instructions
 pub all-done : (most made : ℕ) (names : List Named) (a b : Meaning) → made ≡ most → Goes a (replicate made (done_by (or_zero a.world.turns.current))) b
@@ -244,7 +239,7 @@ event-of e o a b goes = record {
 pub one-done : (p made : ℕ) (names : List Named) (a b : Meaning) → a.world.turns.current ≡ Some p → made ≡ 1 → Goes a (replicate made (done_by (or_zero a.world.turns.current))) b
     → Advances (record { machine = a; names = names }) Run (Step_of p Stepped) (record { machine = b; names = names })
 one-done p made names a b is one goes = record {
-  event = event-of Run (Step_of p Stepped) a b (subst (λ (list : List (Event × Outcome)). Goes a list b) (ap₂ (λ n q. replicate n (done_by q)) one (ap or_zero is)) goes);
+  event = event-of Run (Step_of p Stepped) a b (subst (λ (list : List (Event × Outcome)). Goes a list b) (ap₂ (λ (n q : ℕ). replicate n (done_by q)) one (ap or_zero is)) goes);
   names = refl;
 }
 

@@ -9,6 +9,7 @@ use Rattle.xv_machine.specs.Codes.{meaning_code}
 use Rattle.xv_machine.specs.Meaning.{Meaning}
 use Rattle.xv_session.specs.Recorded.{Recorded}
 use Rattle.xv_session.specs.Spans.{Kept}
+use Rattle.xv_session.specs.NameCodes.{names_code}
 use Rattle.xv_session.specs.declared.names.Named.{Named}
 
 -- an event: a key by its byte, the others by their place
@@ -35,12 +36,6 @@ event_code = code_by (ℕ ⊎ ℕ) (coded⊎ coded_ℕ coded_ℕ) event_out even
 
 abbrev pub kept_code : Coded Kept
 kept_code = code_by (List Event × Event) (coded× (coded_list event_code) event_code) (λ k. (k.events, k.next)) (λ t. record { events = t.0; next = t.1 }) (λ _. refl)
-
-abbrev pub named_code : Coded Named
-named_code = code_by (ℕ × ℕ) (coded× coded_ℕ coded_ℕ) (λ n. (n.pid, n.place)) (λ t. record { pid = t.0; place = t.1 }) (λ _. refl)
-
-abbrev pub names_code : Coded (List Named)
-names_code = coded_list named_code
 
 abbrev pub recorded_code : Coded Recorded
 recorded_code = code_by ((ℕ × ℕ) × (List ProgramFile × (List Event × (Meaning × List Named)))) (coded× (coded× coded_ℕ coded_ℕ) (coded× (coded_list program_code) (coded× (coded_list event_code) (coded× meaning_code names_code))))

@@ -1,3 +1,4 @@
+pub mod NameCodes
 pub mod Names
 pub mod Recorded
 pub mod Steps

@@ -1,5 +1,5 @@
 -- How a machine, with the names of its processes' programs, goes on.
-use Rattle.std.specs.Prelude.{◌≡◌, ◌≢◌, ◌⊎◌, ℕ, ◌<◌, List, [], ◌∷◌, ◌++◌, replicate, Option, None, Some}
+use Rattle.std.specs.Prelude.{◌≡◌, ◌≢◌, ◌⊎◌, ℕ, ◌<◌, List, [], ◌∷◌, ◌++◌, replicate, Option, None, Some, ℤ}
 use Rattle.kernel_spec.specs.runs.Run as runs
 use Rattle.kernel_spec.specs.runs.Run.{Event, Run, Outcome, Step_of}
 use Rattle.kernel_spec.specs.runs.Rounds.{events}
@@ -35,3 +35,15 @@ pub record RunsMade (most sent : ℕ) (last : Option Outcome) (old new : Running
   pub named : NamesGo old.machine.world list new.machine.world old.names new.names
   pub runs_are : AreRunsTo most (or_zero old.machine.world.turns.current) last list
   pub those : events list ≡ replicate sent Run
+
+-- ---- where nobody runs
+
+-- what comes of a Run by which nobody's turn comes
+abbrev pub idle_or_halted : Option ℤ → Outcome
+idle_or_halted (Some status) = runs.Halted
+idle_or_halted None = runs.Idle
+
+-- what came of the last Run, by what the machine is then
+abbrev pub passed : Option ℕ → Option ℤ → Outcome
+passed (Some p) halted = runs.Turn p
+passed None halted = idle_or_halted halted

@@ -63,7 +63,7 @@ fn text_at(machine: &Machine, pid: Pid, address: u64) -> ArrayVec<u8, MAXPATH>
 {
     let mut text = ArrayVec::new();
     let mut at = address;
-    for _place in 0..MAXPATH {
+    'bytes: while text.len() < MAXPATH {
         let byte = machine.peek(pid, at).unwrap_or(0);
         if byte == 0 {
             return text;
@@ -88,7 +88,10 @@ pub(crate) fn asked_now(machine: &Machine) -> Option<usize>
 fn child_of(value: i64) -> Option<Pid>
     ensures { result ≡ child_of value }
 {
-    if value < 1 || value > i64::from(PID_MAX) {
+    if value < 1 {
+        return None;
+    }
+    if value > i64::from(PID_MAX) {
         return None;
     }
     Some(Pid::new(value as u32))
@@ -110,7 +113,7 @@ pub(crate) struct Names {
 impl Model for Names {
     ghost use Rattle.std.specs.Prelude.{List};
     ghost use Rattle.xv_session.specs.declared.names.Named.{Named};
-    ghost use Rattle.xv_session.specs.Codes.{names_code};
+    ghost use Rattle.xv_session.specs.NameCodes.{names_code};
 
     ghost Value = { List Named };
 

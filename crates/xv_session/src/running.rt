@@ -3,7 +3,7 @@ ghost use Rattle.std.specs.Prelude.{◌≡◌, ◌≤◌, ◌<◌, None, IsSome,
 ghost use Rattle.kernel_spec.specs.runs.Run as runs;
 ghost use Rattle.xv_machine.specs.Events.{event_of, outcome_of};
 ghost use Rattle.xv_session.specs.Names.{first_names};
-ghost use Rattle.xv_session.specs.Steps.{Advances, IsSound, RunsMade};
+ghost use Rattle.xv_session.specs.Steps.{Advances, IsSound, RunsMade, passed};
 
 use crate::names::{Names, asked_now};
 use xv_machine::{Event, Machine, Outcome};
@@ -22,6 +22,19 @@ pub struct Runs {
     pub sent: u32,
     /// What came of the last one; `None` where all of them are done instructions.
     pub last: Option<Outcome>,
+}
+
+/// What came of the last Run where nobody ran before it, by what the machine is then.
+fn passed(machine: &Machine) -> Outcome
+    ensures { outcome_of result ≡ passed machine.now.world.turns.current machine.now.world.turns.halted }
+{
+    if let Some(pid) = machine.current() {
+        return Outcome::Turn { pid };
+    }
+    if machine.halted().is_some() {
+        return Outcome::Halted;
+    }
+    Outcome::Idle
 }
 
 impl Running {
@@ -50,11 +63,13 @@ impl Running {
         requires sound { IsSound self.old }
         ensures { Advances self.old runs.Run (outcome_of result) self.new }
     {
-        if let Some(pid) = self.machine.current() {
-            // No name changes by an instruction, so nothing is asked before it.
-            if self.machine.instructions(1) == 1 {
-                return Outcome::Stepped { pid };
-            }
+        let Some(pid) = self.machine.current() else {
+            return self.event(Event::Run);
+        };
+        // No name changes by an instruction, so nothing is asked before it.
+        let made = self.machine.instructions(1);
+        if made == 1 {
+            return Outcome::Stepped { pid };
         }
         self.event(Event::Run)
     }
@@ -68,13 +83,7 @@ impl Running {
         ensures sent { 0 < result.sent }
     {
         let sent = self.machine.run(most);
-        let last = if let Some(pid) = self.machine.current() {
-            Outcome::Turn { pid }
-        } else if self.machine.halted().is_some() {
-            Outcome::Halted
-        } else {
-            Outcome::Idle
-        };
+        let last = passed(&self.machine);
         Runs {
             sent,
             last: Some(last),

@@ -6,13 +6,14 @@ use Rattle.xv_session.specs.Answers.{RunsSent}
 use Rattle.xv_session.specs.Recorded.{Recorded}
 use Rattle.xv_session.specs.Spans.{Kept}
 use Rattle.xv_session.proofs.GoesOn.{recorded-on, stands-on}
-use Rattle.xv_session.proofs.Plays.{goes-by-runs, led-sound}
+use Rattle.xv_session.proofs.Plays.{goes-by-runs}
+use Rattle.xv_session.proofs.NamesLive.{led-is-sound}
 use Rattle.xv_session.proofs.session.Session.run.Goals as goal
 
 pub run-requires : goal.run-requires
 run-requires c =
     let s = c.self.inside in
-    led-sound s.config.frames s.config.trace s.running.machine.world.state.programs s.history.events s.running c.self.invariant
+    led-is-sound s.config.frames s.config.trace s.running.machine.world.state.programs s.history.events s.running c.self.invariant
 
 pub invariant_of-self-2 : goal.invariant_of-self-2
 invariant_of-self-2 c =
