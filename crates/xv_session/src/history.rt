@@ -125,10 +125,14 @@ impl History {
     pub fn span(&self, place: usize) -> Option<(Event, u64)>
         ensures { IsSpanOf self.now.events place (option_map pair_of result) }
     {
-        if place == self.over.len() {
+        let over = self.over.len();
+        if place > over {
+            return None;
+        }
+        if place == over {
             return Some((self.last.event, self.last.count));
         }
-        let span = *self.over.as_slice().get(place)?;
+        let span = self.over[place];
         Some((span.event, span.count))
     }
 }

@@ -192,10 +192,17 @@ pub(crate) fn run_until(running: &mut Running, most: u32, condition: &Condition)
         let outcome = running.run_once();
         let met = condition.is_met(stores, &outcome, &running.machine);
         let sent = before + 1;
-        if met || sent == most {
+        if met {
             return Search {
                 sent,
                 met,
+                last: Some(outcome),
+            };
+        }
+        if sent == most {
+            return Search {
+                sent,
+                met: false,
                 last: Some(outcome),
             };
         }

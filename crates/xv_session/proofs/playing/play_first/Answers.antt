@@ -7,6 +7,7 @@ use Rattle.xv_session.specs.Spans.{all_events}
 use Rattle.xv_session.specs.declared.history.Span.{Span}
 use Rattle.xv_session.proofs.Plays.{goes-by-join}
 use Rattle.xv_session.proofs.Spans.{first-more}
+use Rattle.xv_session.proofs.NamesLive.{goes-by-sound}
 use Rattle.xv_session.proofs.playing.play_first.Goals as goal
 
 pub loop-place-preserved : goal.loop-place-preserved
@@ -24,3 +25,9 @@ loop-place-preserved c =
       subst (λ (es : List Event). GoesBy es c.args.running.now c.play.new.running) (sym more.1)
           (goes-by-join (take c.args.most xs) (replicate (min s.count left) (event_of s.event)) c.args.running.now c.loop-place.running c.play.new.running c.loop-place.invariant.1 now),
     )
+
+pub play-requires : goal.play-requires
+play-requires c = goes-by-sound _ c.args.running.now c.loop-place.running c.requires c.loop-place.invariant.1
+
+pub returns-clause-sound : goal.returns-clause-sound
+returns-clause-sound c = goes-by-sound _ c.args.running.now c.loop-place.running c.requires c.loop-place.invariant.1

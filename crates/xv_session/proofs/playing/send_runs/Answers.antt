@@ -4,11 +4,14 @@ use Rattle.xv_machine.specs.Events.{outcome_of}
 use Rattle.std.specs.Prelude.{option_map}
 use Rattle.xv_session.specs.Recorded.{GoesBy}
 use Rattle.xv_session.proofs.NamesLive.{goes-by-sound}
-use Rattle.xv_session.proofs.Plays.{more-sent, goes-by-runs, goes-by-none}
+use Rattle.xv_session.proofs.Plays.{more-sent, goes-by-runs}
 use Rattle.xv_session.proofs.playing.send_runs.Goals as goal
 
 pub run-requires : goal.run-requires
-run-requires c = goes-by-sound _ c.args.running.now c.runs.running c.requires c.runs.invariant.1
+run-requires c = record { sound = goes-by-sound _ c.args.running.now c.runs.running c.requires c.runs.invariant.1 }
+
+pub returns-clause-sound : goal.returns-clause-sound
+returns-clause-sound c = goes-by-sound _ c.args.running.now c.runs.running c.requires c.runs.invariant.1
 
 pub runs-preserved : goal.runs-preserved
 runs-preserved c =
