@@ -1,6 +1,6 @@
 -- The named are live, and no two are one. So there are no more of them than slots.
 use Rattle.std.proofs.Common.{◌≡◌, ◌≢◌, ◌⊎◌, ℕ, ◌+◌, ◌<◌, ◌≤◌, Bool, true, false, cond, not, List, [], ◌∷◌, ◌++◌, length, map, filter, replicate, eqb, Option, None, Some, Result, Ok, Err, inl, inr, refl, sym, ap, ◌∙◌, subst, arith}
-use Rattle.std.specs.Prelude.{ℤ, pos, negsuc, IsSome, is_some, MatchOption, option_map, nat_eq, nat_le, ◌&&◌, ◌||◌}
+use Rattle.std.specs.Prelude.{ℤ, pos, negsuc, IsSome, IfSome, is_some, MatchOption, option_map, nat_eq, nat_le, ◌&&◌, ◌||◌}
 use Rattle.std.specs.List.{IsDistinct, AllByRecursion, list_any}
 use Rattle.std.specs.FinMap.{FinMap, get}
 use Rattle.std.specs.Ordering.{int_eq, nat_cmp}
@@ -25,9 +25,9 @@ use Rattle.xv_machine.specs.Sound.{IsSoundMachine}
 use Rattle.kernel_spec.specs.runs.Run.{World, Event, Run, Tick, Key, Send, Outcome, Step_of, Turn, Idle, Halted, Ticked, Typed, Sent, TurnTaken, RunHappens, TickHappens, KeyHappens, Happens, StepOf, first_sent}
 use Rattle.kernel_spec.proofs.rows.Pids.{own_sound}
 use Rattle.kernel_spec.proofs.steps.Kept.{pid_is}
-use Rattle.xv_session.specs.Names.{NamesGo, Among, Apart, AreLive, first_names, names_after, after_step, after_call, asked_in, without, with_place, with_child, child_of, gone_on_with, place_in}
+use Rattle.xv_session.specs.Names.{NamesGo, Among, Apart, AreLive, first_names, names_after, after_step, after_call, asked_in, without, with_place, with_child, child_of, gone_on_with, place_in, named_of}
 use Rattle.xv_session.specs.declared.names.Named.{Named}
-use Rattle.xv_session.specs.Recorded.{IsLed, GoesBy}
+use Rattle.xv_session.specs.Recorded.{Recorded, IsRecorded, IsLed, GoesBy, running_of}
 use Rattle.xv_session.specs.Steps.{IsSound, Advances, RunsMade}
 use Rattle.xv_session.specs.declared.running.Running.{Running}
 use Rattle.xv_machine.specs.Meaning.{Meaning}
@@ -317,3 +317,18 @@ instructed-sound made p names a b sound goes = record {
   machine = goes.sound;
   names = run-live (replicate made (done_by p)) a.world b.world names names (names-again made a.world b.world Run (Step_of p Stepped) names (step-nameless p) goes.run) sound.names;
 }
+
+-- who is told to run a program is live
+pub place-live : (s : State) (p : ℕ) (names : List Named) → AreLive s names → IfSome (place_in p names) (λ _. IsSome (live s p))
+place-live s p names all = by names (λ among. all.lives p among)
+  where
+    by : (ns : List Named) → (Among p ns → IsSome (live s p)) → IfSome (place_in p ns) (λ _. IsSome (live s p))
+    by [] lives = tt
+    by (n ∷ ns) lives = elim (eqb_tells n.pid p) [
+      | inl is ↦ subst (λ (b : Bool). IfSome (option_map (λ (m : Named). m.place) (cond b (Some n) (named_of p ns))) (λ _. IsSome (live s p))) (sym is.0) (lives (inl is.1))
+      | inr other ↦ subst (λ (b : Bool). IfSome (option_map (λ (m : Named). m.place) (cond b (Some n) (named_of p ns))) (λ _. IsSome (live s p))) (sym other.0) (by ns (λ among. lives (inr among)))
+    ]
+
+-- the named of a session are live
+pub recorded-live : (s : Recorded) → IsRecorded s → AreLive s.machine.world.state s.names
+recorded-live s led = (led-is-sound s.frames s.trace s.programs s.events (running_of s) led).names

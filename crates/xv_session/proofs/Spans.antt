@@ -157,3 +157,27 @@ pub span-at : (over : List Span) (last : Span) (place : ℕ) (d : Span) → plac
 span-at [] last place d lt = absurd (omega (arith, lt))
 span-at (s ∷ over) last zero d lt = refl
 span-at (s ∷ over) last (suc place) d lt = span-at over last place d (omega (arith, lt))
+
+-- ---- the event at a place
+
+pub none-there : (list : List Event) (place : ℕ) → length list ≤ place → None ≡ slice_get list place
+none-there [] zero past = refl
+none-there [] (suc place) past = refl
+none-there (x ∷ list) zero past = absurd (omega (arith, past))
+none-there (x ∷ list) (suc place) past = none-there list place (omega (arith, past))
+
+pub first-equal : (list : List Event) (place : ℕ) (e : Event) (count : ℕ) → 0 < count → take count (drop place list) ≡ replicate count e → Some e ≡ slice_get list place
+first-equal list place e zero some same = absurd (omega (arith, some))
+first-equal [] zero e (suc k) some same =
+    let no : [] ≡ e ∷ replicate k e = same in
+    let bad : ⊥ = cc in
+    absurd bad
+first-equal [] (suc place) e (suc k) some same =
+    let no : [] ≡ e ∷ replicate k e = same in
+    let bad : ⊥ = cc in
+    absurd bad
+first-equal (x ∷ list) zero e (suc k) some same =
+    let here : x ∷ take k list ≡ e ∷ replicate k e = same in
+    let is : x ≡ e = cc in
+    ap Some (sym is)
+first-equal (x ∷ list) (suc place) e (suc k) some same = first-equal list place e (suc k) some same

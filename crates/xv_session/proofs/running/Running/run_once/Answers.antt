@@ -10,8 +10,8 @@ pub returns-then-made-eq1 : goal.returns-then-made-eq1
 returns-then-made-eq1 c =
     one-done c.in-Some.pid c.instructions-made.result c.args.self.now.names c.args.self.now.machine c.instructions-made.new.self (sym c.in-Some.ensures.pid) c.if-made-eq1.true c.instructions-made.ensures.goes
 
-pub event-2-requires : goal.event-2-requires
-event-2-requires c = record {
+pub event-requires-2 : goal.event-requires-2
+event-requires-2 c = record {
   sound = instructed-sound c.instructions-made.result (or_zero c.args.self.now.machine.world.turns.current) c.args.self.now.names c.args.self.now.machine c.instructions-made.new.self c.requires.sound c.instructions-made.ensures.goes;
 }
 
