@@ -1,4 +1,5 @@
-use Rattle.std.proofs.Common.{◌≡◌, ◌<◌, ℕ, List, ◌++◌, ◌∷◌, [], map, Some, ap, ◌∙◌, arith}
+use Rattle.std.proofs.Common.{◌≡◌, ◌<◌, ℕ, List, ◌++◌, ◌∷◌, [], map, length, get_or, Some, ap, ◌∙◌, arith}
+use Rattle.std.proofs.lemmas.List.{get_or_read}
 use Rattle.std.specs.Prelude.{slice_get}
 use Rattle.xv_machine.specs.declared.event.Event.TheVariants.{Run}
 use Rattle.xv_session.specs.declared.history.Span.{Span}
@@ -25,8 +26,10 @@ returns-then-place-over-2 c =
 pub returns : goal.returns
 returns c =
     let h = c.self.inside in
-    let none : Span = record { event = Run; count = 0 } in (
+    let none : Span = record { event = Run; count = 0 } in
+    let lt : c.args.place < length h.over.items = omega (arith, c.if-place-over.false, c.if-place-over-2.false, c.len-over.ensures) in
+    let is : c.index-span.result.now ≡ get_or h.over.items c.args.place none = get_or_read h.over.items _ _ lt c.index-span.ensures none in (
       map pair (h.over.items ++ h.last ∷ []),
       kept-spans h.over.items h.last ∙ ap (λ (k : Kept). k.events) c.self.view_is,
-      span-at h.over.items h.last c.args.place none (omega (arith, c.if-place-over.false, c.if-place-over-2.false, c.len-over.ensures)),
+      ap (λ (s : Span). Some (pair s)) is ∙ span-at h.over.items h.last c.args.place none lt,
     )

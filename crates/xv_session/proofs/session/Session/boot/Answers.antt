@@ -21,7 +21,7 @@ invariant_of-result c =
     let sound : IsSoundMachine r.machine = subst (λ (m : Meaning). IsSoundMachine m) same c.in-Ok.ensures.sound in
     let empty : HasEmptyTrace t r.machine = subst (λ (m : Meaning). HasEmptyTrace t m) same c.in-Ok.ensures.trace in
     let names : r.names ≡ first_names r.machine.world.state.programs = c.new.ensures.names ∙ ap (λ (m : Meaning). first_names m.world.state.programs) same in
-    subst (λ (es : List Event). IsLed f t r.machine.world.state.programs es r) (sym c.new-2.ensures) (booted-led f t ps r boots sound empty names).1
+    subst (λ (es : List Event). IsLed f t r.machine.world.state.programs es r) (sym c.new-in-Ok.ensures) (booted-led f t ps r boots sound empty names).1
 
 pub returns-in-Ok-clause-boots : goal.returns-in-Ok-clause-boots
 returns-in-Ok-clause-boots c =
@@ -42,4 +42,4 @@ returns-in-Ok-clause-fresh c =
     let empty : HasEmptyTrace t r.machine = subst (λ (m : Meaning). HasEmptyTrace t m) same c.in-Ok.ensures.trace in
     let names : r.names ≡ first_names r.machine.world.state.programs = c.new.ensures.names ∙ ap (λ (m : Meaning). first_names m.world.state.programs) same in
     let those : r.machine.world.state.programs ≡ ps = (booted-led f t ps r boots sound empty names).2 in
-    record { frames_are = refl; trace_is = refl; programs_are = those; events = c.new-2.ensures; names = names ∙ ap first_names those }
+    record { frames_are = refl; trace_is = refl; programs_are = those; events = c.new-in-Ok.ensures; names = names ∙ ap first_names those }

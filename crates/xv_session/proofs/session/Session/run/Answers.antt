@@ -10,10 +10,10 @@ use Rattle.xv_session.proofs.Plays.{goes-by-runs}
 use Rattle.xv_session.proofs.NamesLive.{led-is-sound}
 use Rattle.xv_session.proofs.session.Session.run.Goals as goal
 
-pub run-requires : goal.run-requires
-run-requires c =
+pub run-runs-requires : goal.run-runs-requires
+run-runs-requires c =
     let s = c.self.inside in
-    led-is-sound s.config.frames s.config.trace s.running.machine.world.state.programs s.history.events s.running c.self.invariant
+    record { sound = led-is-sound s.config.frames s.config.trace s.running.machine.world.state.programs s.history.events s.running c.self.invariant }
 
 pub invariant_of-self-2 : goal.invariant_of-self-2
 invariant_of-self-2 c =

@@ -8,10 +8,10 @@ use Rattle.xv_session.proofs.Plays.{goes-by-one}
 use Rattle.xv_session.proofs.NamesLive.{led-is-sound}
 use Rattle.xv_session.proofs.session.Session.send.Goals as goal
 
-pub event-requires : goal.event-requires
-event-requires c =
+pub event-outcome-requires : goal.event-outcome-requires
+event-outcome-requires c =
     let s = c.self.inside in
-    led-is-sound s.config.frames s.config.trace s.running.machine.world.state.programs s.history.events s.running c.self.invariant
+    record { sound = led-is-sound s.config.frames s.config.trace s.running.machine.world.state.programs s.history.events s.running c.self.invariant }
 
 pub invariant_of-self-2 : goal.invariant_of-self-2
 invariant_of-self-2 c =

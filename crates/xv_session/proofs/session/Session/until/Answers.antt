@@ -10,8 +10,8 @@ use Rattle.xv_session.proofs.Searches.{searched-goes}
 use Rattle.xv_session.proofs.NamesLive.{led-is-sound}
 use Rattle.xv_session.proofs.session.Session.until.Goals as goal
 
-pub run_until-requires : goal.run_until-requires
-run_until-requires c =
+pub run_until-found-requires : goal.run_until-found-requires
+run_until-found-requires c =
     let s = c.self.inside in
     led-is-sound s.config.frames s.config.trace s.running.machine.world.state.programs s.history.events s.running c.self.invariant
 
