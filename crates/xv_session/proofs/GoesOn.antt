@@ -1,39 +1,40 @@
 -- A session whose machine has gone on.
-use Rattle.std.proofs.Common.{◌≡◌, ℕ, List, [], ◌++◌, Ok, take, refl, sym, subst}
+use Rattle.std.proofs.Common.{◌≡◌, ℕ, List, [], ◌++◌, Ok, take, refl, sym, ap, ◌∙◌, subst}
 use Rattle.kernel_spec.specs.runs.First.{first}
 use Rattle.kernel_spec.specs.runs.Run.{Event}
 use Rattle.kernel_spec.specs.views.State.{ProgramFile}
 use Rattle.xv_machine.specs.Boots.{Boots, HasEmptyTrace}
 use Rattle.xv_machine.specs.Meaning.{Meaning}
 use Rattle.xv_machine.specs.Sound.{IsSoundMachine}
-use Rattle.xv_machine.proofs.Reached.{boot_reaches}
 use Rattle.xv_session.specs.Answers.{stands}
-use Rattle.xv_session.specs.Recorded.{Recorded, IsPlayed, GoesBy}
-use Rattle.xv_session.proofs.Plays.{played-on}
-use Rattle.xv_session.proofs.Programs.{goes-on, played-programs}
+use Rattle.xv_session.specs.Names.{first_names}
+use Rattle.xv_session.specs.Recorded.{Recorded, IsLed, GoesBy, running_of}
+use Rattle.xv_session.specs.declared.running.Running.{Running}
+use Rattle.xv_session.proofs.Plays.{led-on}
+use Rattle.xv_session.proofs.Programs.{goes-on, led-programs, booted-led}
 
--- the machine m had got the events xs, and goes on by ys to n; the session keeps the events zs now, and its programs are those that n holds
-module _ (frames trace : ℕ) (xs ys zs : List Event) (m n : Meaning) (played : IsPlayed frames trace m.world.state.programs xs m) (more : GoesBy ys m n) (all : zs ≡ xs ++ ys) where
-  pub recorded-on : IsPlayed frames trace n.world.state.programs zs n
-  recorded-on = subst (λ (es : List Event). IsPlayed frames trace n.world.state.programs es n) (sym all) (goes-on frames trace xs ys m n played more).0
+-- r had got the events xs, and goes on by ys to s; the session keeps the events zs now, and its programs are those that the machine of s holds
+module _ (frames trace : ℕ) (xs ys zs : List Event) (r s : Running) (led : IsLed frames trace r.machine.world.state.programs xs r) (more : GoesBy ys r s) (all : zs ≡ xs ++ ys) where
+  pub recorded-on : IsLed frames trace s.machine.world.state.programs zs s
+  recorded-on = subst (λ (es : List Event). IsLed frames trace s.machine.world.state.programs es s) (sym all) (goes-on frames trace xs ys r s led more).0
 
-  pub stands-on : record { frames = frames; trace = trace; programs = n.world.state.programs; events = zs; machine = n } ≡ stands (record { frames = frames; trace = trace; programs = m.world.state.programs; events = xs; machine = m }) (xs ++ ys) n
-  stands-on = λ i. record { frames = frames; trace = trace; programs = (goes-on frames trace xs ys m n played more).1 i; events = all i; machine = n }
+  pub stands-on : record { frames = frames; trace = trace; programs = s.machine.world.state.programs; events = zs; machine = s.machine; names = s.names } ≡ stands (record { frames = frames; trace = trace; programs = r.machine.world.state.programs; events = xs; machine = r.machine; names = r.names }) (xs ++ ys) s.machine s.names
+  stands-on = λ i. record { frames = frames; trace = trace; programs = (goes-on frames trace xs ys r s led more).1 i; events = all i; machine = s.machine; names = s.names }
 
 -- a machine that was booted anew, and got the first events
-pub played-anew : (frames trace place : ℕ) (programs copied : List ProgramFile) (list : List Event) (m n : Meaning) → copied ≡ programs → Boots frames (Ok m) (first frames trace copied) → IsSoundMachine m → HasEmptyTrace trace m
-    → GoesBy (take place list) m n → IsPlayed frames trace programs (take place list) n
-played-anew frames trace place programs copied list m n same boots sound empty goes =
-    let those : Boots frames (Ok m) (first frames trace programs) = subst (λ (ps : List ProgramFile). Boots frames (Ok m) (first frames trace ps)) same boots in
-    played-on frames trace programs [] (take place list) m n ([], refl, boot_reaches frames trace programs m those sound empty) goes
+pub led-anew : (frames trace place : ℕ) (programs copied : List ProgramFile) (list : List Event) (r s : Running) → copied ≡ programs → Boots frames (Ok r.machine) (first frames trace copied) → IsSoundMachine r.machine → HasEmptyTrace trace r.machine
+    → r.names ≡ first_names r.machine.world.state.programs → GoesBy (take place list) r s → IsLed frames trace programs (take place list) s
+led-anew frames trace place programs copied list r s same boots sound empty names goes =
+    let those : Boots frames (Ok r.machine) (first frames trace programs) = subst (λ (ps : List ProgramFile). Boots frames (Ok r.machine) (first frames trace ps)) same boots in
+    led-on frames trace programs [] (take place list) r s (booted-led frames trace programs r those sound empty names).0 goes
 
--- a session that has gone back to a place: its machine is n, and it keeps these events
-module _ (s : Recorded) (place : ℕ) (kept : List Event) (n : Meaning) (played : IsPlayed s.frames s.trace s.programs (take place s.events) n) (those : kept ≡ take place s.events) where
-  its-programs : n.world.state.programs ≡ s.programs
-  its-programs = played-programs s.frames s.trace s.programs (take place s.events) n played
+-- a session that has gone back to a place: it is led to r, and keeps these events
+module _ (s : Recorded) (place : ℕ) (kept : List Event) (r : Running) (led : IsLed s.frames s.trace s.programs (take place s.events) r) (those : kept ≡ take place s.events) where
+  its-programs : r.machine.world.state.programs ≡ s.programs
+  its-programs = led-programs s.frames s.trace s.programs (take place s.events) r led
 
-  pub recorded-back : IsPlayed s.frames s.trace n.world.state.programs kept n
-  recorded-back = subst (λ (ps : List ProgramFile). IsPlayed s.frames s.trace ps kept n) (sym its-programs) (subst (λ (es : List Event). IsPlayed s.frames s.trace s.programs es n) (sym those) played)
+  pub recorded-back : IsLed s.frames s.trace r.machine.world.state.programs kept r
+  recorded-back = subst (λ (ps : List ProgramFile). IsLed s.frames s.trace ps kept r) (sym its-programs) (subst (λ (es : List Event). IsLed s.frames s.trace s.programs es r) (sym those) led)
 
-  pub stands-back : record { frames = s.frames; trace = s.trace; programs = n.world.state.programs; events = kept; machine = n } ≡ stands s (take place s.events) n
-  stands-back = λ i. record { frames = s.frames; trace = s.trace; programs = its-programs i; events = those i; machine = n }
+  pub stands-back : record { frames = s.frames; trace = s.trace; programs = r.machine.world.state.programs; events = kept; machine = r.machine; names = r.names } ≡ stands s (take place s.events) r.machine r.names
+  stands-back = λ i. record { frames = s.frames; trace = s.trace; programs = its-programs i; events = those i; machine = r.machine; names = r.names }

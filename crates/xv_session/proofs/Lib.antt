@@ -1,6 +1,12 @@
 pub mod Again
+pub mod AtBoot
+pub mod Children
 pub mod GoesOn
+pub mod NamesGo
+pub mod NamesLive
 pub mod Plays
 pub mod Programs
+pub mod RunsMade
 pub mod Searches
 pub mod Spans
+pub mod Texts

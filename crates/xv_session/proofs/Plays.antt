@@ -1,65 +1,67 @@
 -- Events that are sent one after another, and those of spans.
-use Rattle.std.proofs.Common.{◌≡◌, ℕ, ◌-◌, ◌≤◌, List, [], ◌∷◌, ◌++◌, replicate, refl, ap, ap₂, ◌∙◌, subst, arith}
+use Rattle.std.proofs.Common.{◌≡◌, ℕ, ◌-◌, ◌≤◌, List, [], ◌∷◌, ◌++◌, replicate, Option, refl, sym, ap, ap₂, ◌∙◌, subst, arith}
 use Rattle.std.proofs.lemmas.List.{replicate-append-replicate}
 use Rattle.kernel_spec.specs.views.State.{ProgramFile}
 use Rattle.kernel_spec.specs.runs.Run.{Event, Run, Outcome}
-use Rattle.xv_machine.specs.Drives.{Ran}
 use Rattle.xv_machine.specs.Meaning.{Meaning}
-use Rattle.xv_machine.specs.Reached.{IsEvent, IsReached}
+use Rattle.xv_machine.specs.Reached.{IsReached}
 use Rattle.xv_machine.specs.Sound.{IsSoundMachine}
-use Rattle.xv_machine.specs.Stretches.{Silent}
-use Rattle.xv_machine.proofs.Joins.{goes-none, goes-one, goes-join, events-join, none-silent}
-use Rattle.xv_machine.proofs.Sent.{quantum-more}
+use Rattle.xv_machine.proofs.Joins.{goes-none, goes-one, goes-join, events-join}
 use Rattle.xv_machine.proofs.Reached.{reaches_on, reached_is_sound}
-use Rattle.xv_session.specs.Recorded.{IsPlayed, GoesBy}
+use Rattle.xv_session.specs.Names.{NamesGo, first_names}
+use Rattle.xv_session.specs.Recorded.{IsPlayed, IsLed, GoesBy}
+use Rattle.xv_session.specs.Steps.{Advances, RunsMade}
+use Rattle.xv_session.specs.declared.names.Named.{Named}
+use Rattle.xv_session.specs.declared.running.Running.{Running}
+use Rattle.xv_session.proofs.NamesGo.{names-one, names-join}
 
 -- ---- events, one behind another
 
-pub goes-by-none : (m : Meaning) → IsSoundMachine m → GoesBy [] m m
-goes-by-none m sound = record { list = []; goes = goes-none m sound; those = refl }
+pub goes-by-none : (r : Running) → IsSoundMachine r.machine → GoesBy [] r r
+goes-by-none r sound = record { list = []; goes = goes-none r.machine sound; named = (refl, refl); those = refl }
 
-pub goes-by-one : (e : Event) (o : Outcome) (old new : Meaning) → IsEvent old e o new → GoesBy (e ∷ []) old new
-goes-by-one e o old new one = record { list = (e, o) ∷ []; goes = goes-one e o old new one.promised one.notes one.room one.frames one.sound; those = refl }
+pub goes-by-one : (e : Event) (o : Outcome) (old new : Running) → Advances old e o new → GoesBy (e ∷ []) old new
+goes-by-one e o old new one = record {
+  list = (e, o) ∷ [];
+  goes = goes-one e o old.machine new.machine one.event.promised one.event.notes one.event.room one.event.frames one.event.sound;
+  named = subst (λ (ns : List Named). NamesGo old.machine.world ((e, o) ∷ []) new.machine.world old.names ns) (sym one.names) (names-one old.machine.world new.machine.world e o old.names one.event.promised);
+  those = refl;
+}
 
-pub goes-by-join : (xs ys : List Event) (a b c : Meaning) → GoesBy xs a b → GoesBy ys b c → GoesBy (xs ++ ys) a c
+pub goes-by-join : (xs ys : List Event) (a b c : Running) → GoesBy xs a b → GoesBy ys b c → GoesBy (xs ++ ys) a c
 goes-by-join xs ys a b c p q = record {
   list = p.list ++ q.list;
-  goes = goes-join p.list q.list a b c p.goes q.goes;
+  goes = goes-join p.list q.list a.machine b.machine c.machine p.goes q.goes;
+  named = names-join p.list q.list a.machine.world b.machine.world c.machine.world a.names b.names c.names p.named q.named;
   those = events-join p.list q.list ∙ ap₂ (λ u v. u ++ v) p.those q.those;
 }
 
-pub silent-goes-by : (xs : List Event) (a b : Meaning) → Silent xs a b → GoesBy xs a b
-silent-goes-by xs a b p = record { list = p.list; goes = p.goes; those = p.those }
-
 -- ---- a machine that goes on
 
-pub played-on : (frames trace : ℕ) (programs : List ProgramFile) (xs ys : List Event) (m n : Meaning) → IsPlayed frames trace programs xs m → GoesBy ys m n → IsPlayed frames trace programs (xs ++ ys) n
-played-on frames trace programs xs ys m n (list, those, reached) more = (
+-- what a machine is led to, without the names
+pub led-played : (frames trace : ℕ) (programs : List ProgramFile) (xs : List Event) (r : Running) → IsLed frames trace programs xs r → IsPlayed frames trace programs xs r.machine
+led-played frames trace programs xs r (list, those, reached, named) = (list, those, reached)
+
+pub led-on : (frames trace : ℕ) (programs : List ProgramFile) (xs ys : List Event) (r s : Running) → IsLed frames trace programs xs r → GoesBy ys r s → IsLed frames trace programs (xs ++ ys) s
+led-on frames trace programs xs ys r s (list, those, reached, (booted, is, named)) more = (
   list ++ more.list,
   events-join list more.list ∙ ap₂ (λ u v. u ++ v) those more.those,
-  reaches_on frames trace programs list more.list m n reached more.goes,
+  reaches_on frames trace programs list more.list r.machine s.machine reached more.goes,
+  (booted, is, names-join list more.list booted r.machine.world s.machine.world (first_names programs) r.names s.names named more.named),
 )
-
-pub played-none : (frames trace : ℕ) (programs : List ProgramFile) (m : Meaning) → IsReached frames trace programs [] m → IsPlayed frames trace programs [] m
-played-none frames trace programs m reached = ([], refl, reached)
 
 pub played-sound : (frames trace : ℕ) (programs : List ProgramFile) (xs : List Event) (m : Meaning) → IsPlayed frames trace programs xs m → IsSoundMachine m
 played-sound frames trace programs xs m (list, those, reached) = (reached_is_sound frames trace programs list m reached).0
 
+pub led-sound : (frames trace : ℕ) (programs : List ProgramFile) (xs : List Event) (r : Running) → IsLed frames trace programs xs r → IsSoundMachine r.machine
+led-sound frames trace programs xs r led = played-sound frames trace programs xs r.machine (led-played frames trace programs xs r led)
+
 -- Runs that a machine was sent at once
-pub goes-by-ran : (most sent : ℕ) (a b : Meaning) → IsSoundMachine a → sent ≤ most → Ran most sent a b → GoesBy (replicate sent Run) a b
-goes-by-ran most sent a b sound few ran =
-    let none : 0 ≡ most - most = omega arith in
-    let all : most - (most - sent) ≡ sent = omega (arith, few) in
-    subst (λ n. GoesBy (replicate n Run) a b) all
-    (silent-goes-by (replicate (most - (most - sent)) Run) a b
-    (quantum-more most most sent a a b (omega arith) few (subst (λ n. Silent (replicate n Run) a a) none (none-silent a sound)) ran))
+pub goes-by-runs : (most sent : ℕ) (last : Option Outcome) (a b : Running) → RunsMade most sent last a b → GoesBy (replicate sent Run) a b
+goes-by-runs most sent last a b made = record { list = made.list; goes = made.goes; named = made.named; those = made.those }
 
 -- some of so many equal events, and then more
-pub more-sent : (count left sent : ℕ) (e : Event) (a b c : Meaning) → left ≤ count → sent ≤ left → GoesBy (replicate (count - left) e) a b → GoesBy (replicate sent e) b c → GoesBy (replicate (count - (left - sent)) e) a c
+pub more-sent : (count left sent : ℕ) (e : Event) (a b c : Running) → left ≤ count → sent ≤ left → GoesBy (replicate (count - left) e) a b → GoesBy (replicate sent e) b c → GoesBy (replicate (count - (left - sent)) e) a c
 more-sent count left sent e a b c within few before now =
     subst (λ es. GoesBy es a c) (replicate-append-replicate (count - left) sent e ∙ ap (λ n. replicate n e) (omega (arith, within, few)))
     (goes-by-join (replicate (count - left) e) (replicate sent e) a b c before now)
-
-pub goes-by-sound : (xs : List Event) (a b : Meaning) → GoesBy xs a b → IsSoundMachine b
-goes-by-sound xs a b p = p.goes.sound

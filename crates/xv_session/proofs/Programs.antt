@@ -10,8 +10,10 @@ use Rattle.xv_machine.specs.Boots.{Boots, HasEmptyTrace}
 use Rattle.xv_machine.specs.Meaning.{Meaning}
 use Rattle.xv_machine.specs.Sound.{IsSoundMachine}
 use Rattle.xv_machine.proofs.Reached.{boot_reaches}
-use Rattle.xv_session.specs.Recorded.{IsPlayed, GoesBy}
-use Rattle.xv_session.proofs.Plays.{played-on}
+use Rattle.xv_session.specs.Names.{first_names}
+use Rattle.xv_session.specs.Recorded.{IsPlayed, IsLed, GoesBy}
+use Rattle.xv_session.specs.declared.running.Running.{Running}
+use Rattle.xv_session.proofs.Plays.{led-played, led-on}
 
 abbrev SamePrograms : World → World → Type 0
 SamePrograms w t = t.state.programs ≡ w.state.programs
@@ -59,17 +61,22 @@ pub played-programs : (frames trace : ℕ) (programs : List ProgramFile) (xs : L
 played-programs frames trace programs xs m (list, those, (booted, is, count, sound, empty, goes)) =
     run-of-events-keeps booted.world m.world list goes.run ∙ has_its_programs frames trace programs booted.world is
 
--- the machine that a boot made, by the programs that it holds
-pub booted-played : (frames trace : ℕ) (programs : List ProgramFile) (m : Meaning) → Boots frames (Ok m) (first frames trace programs) → IsSoundMachine m → HasEmptyTrace trace m
-    → IsPlayed frames trace m.world.state.programs [] m × (m.world.state.programs ≡ programs)
-booted-played frames trace programs m boots sound empty =
-    let played : IsPlayed frames trace programs [] m = ([], refl, boot_reaches frames trace programs m boots sound empty) in
-    let same : m.world.state.programs ≡ programs = played-programs frames trace programs [] m played in
-    (subst (λ ps. IsPlayed frames trace ps [] m) (sym same) played, same)
+pub led-programs : (frames trace : ℕ) (programs : List ProgramFile) (xs : List Event) (r : Running) → IsLed frames trace programs xs r → r.machine.world.state.programs ≡ programs
+led-programs frames trace programs xs r led = played-programs frames trace programs xs r.machine (led-played frames trace programs xs r led)
+
+-- the machine that a boot made, and the first names
+pub booted-led : (frames trace : ℕ) (programs : List ProgramFile) (r : Running) → Boots frames (Ok r.machine) (first frames trace programs) → IsSoundMachine r.machine → HasEmptyTrace trace r.machine → r.names ≡ first_names r.machine.world.state.programs
+    → IsLed frames trace programs [] r × IsLed frames trace r.machine.world.state.programs [] r × (r.machine.world.state.programs ≡ programs)
+booted-led frames trace programs r boots sound empty names =
+    let reached = boot_reaches frames trace programs r.machine boots sound empty in
+    let same : r.machine.world.state.programs ≡ programs = played-programs frames trace programs [] r.machine ([], refl, reached) in
+    let led : IsLed frames trace programs [] r = ([], refl, reached, (reached.0.world, reached.1, (reached.5.run, names ∙ ap first_names same))) in
+    (led, subst (λ (ps : List ProgramFile). IsLed frames trace ps [] r) (sym same) led, same)
 
 -- a machine that goes on, by the programs that it holds
-pub goes-on : (frames trace : ℕ) (xs ys : List Event) (m n : Meaning) → IsPlayed frames trace m.world.state.programs xs m → GoesBy ys m n → IsPlayed frames trace n.world.state.programs (xs ++ ys) n × (n.world.state.programs ≡ m.world.state.programs)
-goes-on frames trace xs ys m n played more =
-    let on = played-on frames trace m.world.state.programs xs ys m n played more in
-    let same : n.world.state.programs ≡ m.world.state.programs = played-programs frames trace m.world.state.programs (xs ++ ys) n on in
-    (subst (λ ps. IsPlayed frames trace ps (xs ++ ys) n) (sym same) on, same)
+pub goes-on : (frames trace : ℕ) (xs ys : List Event) (r s : Running) → IsLed frames trace r.machine.world.state.programs xs r → GoesBy ys r s
+    → IsLed frames trace s.machine.world.state.programs (xs ++ ys) s × (s.machine.world.state.programs ≡ r.machine.world.state.programs)
+goes-on frames trace xs ys r s led more =
+    let on = led-on frames trace r.machine.world.state.programs xs ys r s led more in
+    let same : s.machine.world.state.programs ≡ r.machine.world.state.programs = led-programs frames trace r.machine.world.state.programs (xs ++ ys) s on in
+    (subst (λ (ps : List ProgramFile). IsLed frames trace ps (xs ++ ys) s) (sym same) on, same)

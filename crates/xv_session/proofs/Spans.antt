@@ -1,12 +1,14 @@
 -- The events of spans, from the first on.
-use Rattle.std.proofs.Common.{◌≡◌, ℕ, ◌+◌, ◌-◌, ◌<◌, ◌≤◌, List, [], ◌∷◌, ◌++◌, length, take, get_or, replicate, min, inl, inr, sym, ap, ◌∙◌, arith}
+use Rattle.std.proofs.Common.{◌≡◌, ℕ, zero, suc, ◌+◌, ◌-◌, ◌<◌, ◌≤◌, List, [], ◌∷◌, ◌++◌, length, map, take, drop, get_or, replicate, min, Option, None, Some, inl, inr, refl, sym, ap, ◌∙◌, subst, arith}
+use Rattle.std.specs.Prelude.{slice_get}
 use Rattle.std.proofs.lemmas.Bool.{cases_lt}
 use Rattle.std.proofs.lemmas.Grind.{flat_map-append}
-use Rattle.std.proofs.lemmas.List.{take-append-le, append-nil, append_assoc, length-append, length-replicate, take_all, take-replicate, take_more, replicate-append-replicate}
+use Rattle.std.proofs.lemmas.List.{take-append-le, append-nil, append_assoc, length-append, length-replicate, take_all, take-replicate, take_more, take-append-drop, replicate-append-replicate}
 use Rattle.std.proofs.Math.Seq.{take-append-add}
 use Rattle.kernel_spec.specs.runs.Run.{Event}
 use Rattle.xv_machine.specs.Events.{event_of}
 use Rattle.xv_session.specs.declared.history.Span.{Span}
+use Rattle.xv_session.specs.Answers.{events_in}
 use Rattle.xv_session.specs.Spans.{span_events, all_events, Kept, kept}
 
 -- ---- the first elements of two lists
@@ -83,3 +85,99 @@ first-more spans place most d lt =
     let more : all_events (take (place + 1) spans) ≡ xs ++ span_events s = one-span-more spans place d lt in
     let long : length (all_events (take (place + 1) spans)) ≡ length xs + s.count = ap length more ∙ length-append xs (span_events s) ∙ ap (λ n. length xs + n) (long-span s) in
     (omega (arith, long), ap (take most) more ∙ take-both most xs (span_events s) ∙ ap (λ es. take most xs ++ es) (take-equal (most - length xs) s.count (event_of s.event)))
+
+-- ---- the events from a place on
+
+drop-past : (xs zs : List Event) (b : ℕ) → drop (b + length xs) (xs ++ zs) ≡ drop b zs
+drop-past [] zs b = let same : b + 0 ≡ b = omega arith in ap (λ (k : ℕ). drop k zs) same
+drop-past (x ∷ xs) zs b = let more : b + suc (length xs) ≡ suc (b + length xs) = omega arith in ap (λ (k : ℕ). drop k (x ∷ (xs ++ zs))) more ∙ drop-past xs zs b
+
+drop-none : (zs : List Event) → drop 0 zs ≡ zs
+drop-none [] = refl
+drop-none (z ∷ zs) = refl
+
+drop-equal : (n b : ℕ) (e : Event) (ys : List Event) → b ≤ n → drop b (replicate n e ++ ys) ≡ replicate (n - b) e ++ ys
+drop-equal n zero e ys few = let same : n ≡ n - 0 = omega arith in drop-none (replicate n e ++ ys) ∙ ap (λ (k : ℕ). replicate k e ++ ys) same
+drop-equal zero (suc b) e ys few = absurd (omega (arith, few))
+drop-equal (suc n) (suc b) e ys few = let same : n - b ≡ suc n - suc b = omega arith in drop-equal n b e ys (omega (arith, few)) ∙ ap (λ (k : ℕ). replicate k e ++ ys) same
+
+take-front : (k : ℕ) (e : Event) (ys : List Event) → take k (replicate k e ++ ys) ≡ replicate k e
+take-front k e ys = take-append-le k (replicate k e) ys (omega (arith, length-replicate k e)) ∙ take_all k (replicate k e) (omega (arith, length-replicate k e))
+
+-- equal events behind others: those from the b-th on
+pub from-middle : (xs ys : List Event) (n b : ℕ) (e : Event) → b ≤ n → take (n - b) (drop (b + length xs) (xs ++ (replicate n e ++ ys))) ≡ replicate (n - b) e
+from-middle xs ys n b e few = ap (take (n - b)) (drop-past xs (replicate n e ++ ys) b ∙ drop-equal n b e ys few) ∙ take-front (n - b) e ys
+
+-- the events of spans, around one of them
+pub around : (spans : List Span) (rest : List Event) (at : ℕ) (d : Span) → at < length spans
+    → all_events spans ++ rest ≡ all_events (take at spans) ++ (span_events (get_or spans at d) ++ (all_events (drop (at + 1) spans) ++ rest))
+around spans rest at d lt =
+    let xs = all_events (take at spans) in
+    let s = span_events (get_or spans at d) in
+    let zs = all_events (drop (at + 1) spans) in
+    ap (λ (es : List Event). es ++ rest) (ap all_events (sym (take-append-drop (at + 1) spans)) ∙ flat_map-append span_events (take (at + 1) spans) (drop (at + 1) spans) ∙ ap (λ (es : List Event). es ++ zs) (one-span-more spans at d lt))
+    ∙ append_assoc (xs ++ s) zs rest ∙ append_assoc xs s (zs ++ rest)
+
+-- those behind the spans that are over
+pub from-last : (over : List Span) (last : Span) (at before place count : ℕ) → length over ≤ at → before + length (all_events (take at over)) ≡ place → count ≡ length (kept over last).events → place < count
+    → (before < last.count) × (take (last.count - before) (drop place (kept over last).events) ≡ replicate (last.count - before) (event_of last.event))
+from-last over last at before place count all is counted inside =
+    let xs = all_events over in
+    let there : before + length xs ≡ place = ap (λ (ss : List Span). before + length (all_events ss)) (sym (take_all at over all)) ∙ is in
+    let long : length (xs ++ span_events last) ≡ length xs + last.count = length-append xs (span_events last) ∙ ap (λ n. length xs + n) (long-span last) in
+    let few : before < last.count = omega (arith, there, long, counted, inside) in (
+      few,
+      subst (λ (p : ℕ). take (last.count - before) (drop p (xs ++ span_events last)) ≡ replicate (last.count - before) (event_of last.event)) there
+          (ap (λ (es : List Event). take (last.count - before) (drop (before + length xs) (xs ++ es))) (sym (append-nil (span_events last))) ∙ from-middle xs [] last.count before (event_of last.event) (omega (arith, few))),
+    )
+
+-- ---- spans, one by one
+
+abbrev pub pair : Span → Event × ℕ
+pair s = (event_of s.event, s.count)
+
+pub same-events : (spans : List Span) → events_in (map pair spans) ≡ all_events spans
+same-events [] = refl
+same-events (s ∷ spans) = ap (λ (es : List Event). span_events s ++ es) (same-events spans)
+
+pub kept-spans : (over : List Span) (last : Span) → events_in (map pair (over ++ last ∷ [])) ≡ (kept over last).events
+kept-spans over last = same-events (over ++ last ∷ []) ∙ sym (append-nil (all_events (over ++ last ∷ []))) ∙ over-now over last
+
+pub span-past : (over : List Span) (last : Span) (place : ℕ) → length over < place → None ≡ slice_get (map pair (over ++ last ∷ [])) place
+span-past [] last zero lt = absurd (omega (arith, lt))
+span-past [] last (suc place) lt = refl
+span-past (s ∷ over) last zero lt = absurd (omega (arith, lt))
+span-past (s ∷ over) last (suc place) lt = span-past over last place (omega (arith, lt))
+
+pub span-last : (over : List Span) (last : Span) → Some (pair last) ≡ slice_get (map pair (over ++ last ∷ [])) (length over)
+span-last [] last = refl
+span-last (s ∷ over) last = span-last over last
+
+pub span-at : (over : List Span) (last : Span) (place : ℕ) (d : Span) → place < length over → Some (pair (get_or over place d)) ≡ slice_get (map pair (over ++ last ∷ [])) place
+span-at [] last place d lt = absurd (omega (arith, lt))
+span-at (s ∷ over) last zero d lt = refl
+span-at (s ∷ over) last (suc place) d lt = span-at over last place d (omega (arith, lt))
+
+-- ---- the event at a place
+
+pub none-there : (list : List Event) (place : ℕ) → length list ≤ place → None ≡ slice_get list place
+none-there [] zero past = refl
+none-there [] (suc place) past = refl
+none-there (x ∷ list) zero past = absurd (omega (arith, past))
+none-there (x ∷ list) (suc place) past = none-there list place (omega (arith, past))
+
+pub first-equal : (list : List Event) (place : ℕ) (e : Event) (count : ℕ) → 0 < count → take count (drop place list) ≡ replicate count e → Some e ≡ slice_get list place
+first-equal list place e zero some same = absurd (omega (arith, some))
+first-equal [] zero e (suc k) some same =
+    let no : [] ≡ e ∷ replicate k e = same in
+    let bad : ⊥ = cc in
+    absurd bad
+first-equal [] (suc place) e (suc k) some same =
+    let no : [] ≡ e ∷ replicate k e = same in
+    let bad : ⊥ = cc in
+    absurd bad
+first-equal (x ∷ list) zero e (suc k) some same =
+    let here : x ∷ take k list ≡ e ∷ replicate k e = same in
+    let is : x ≡ e = cc in
+    ap Some (sym is)
+first-equal (x ∷ list) (suc place) e (suc k) some same = first-equal list place e (suc k) some same

@@ -1,13 +1,14 @@
 -- What the calls of a session answer, and what they leave.
-use Rattle.std.specs.Prelude.{◌≡◌, ℕ, Bool, List, [], ◌∷◌, ◌++◌, take, replicate, Result, Ok, Err}
+use Rattle.std.specs.Prelude.{◌≡◌, ℕ, ◌+◌, ◌<◌, ◌≤◌, Bool, List, [], ◌∷◌, ◌++◌, take, drop, length, replicate, flat_map, slice_get, Option, None, Some, Result, Ok, Err}
 use Rattle.xk_base.specs.declared.errors.BootError.{BootError}
 use Rattle.kernel_spec.specs.views.State.{ProgramFile}
 use Rattle.kernel_spec.specs.runs.Run.{Event, Run, Outcome}
-use Rattle.xv_machine.specs.Drives.{Ran}
 use Rattle.xv_machine.specs.Meaning.{Meaning}
-use Rattle.xv_machine.specs.Reached.{IsEvent}
-use Rattle.xv_session.specs.Recorded.{Recorded}
+use Rattle.xv_session.specs.Names.{first_names}
+use Rattle.xv_session.specs.Recorded.{Recorded, running_of}
+use Rattle.xv_session.specs.Steps.{Advances, RunsMade}
 use Rattle.xv_session.specs.Until.{Searched}
+use Rattle.xv_session.specs.declared.names.Named.{Named}
 use Rattle.xv_session.specs.declared.until.Condition.{Condition}
 
 -- the machine of a session, where there is one
@@ -21,23 +22,37 @@ pub record IsNew (frames trace : ℕ) (programs : List ProgramFile) (s : Recorde
   pub trace_is : s.trace ≡ trace
   pub programs_are : s.programs ≡ programs
   pub events : s.events ≡ []
+  pub names : s.names ≡ first_names programs
 
--- the machine is this one, which has got these events
-abbrev pub stands : Recorded → List Event → Meaning → Recorded
-stands s list m = record s { events = list; machine = m }
+-- the machine is this one, which has got these events, and its processes run these programs
+abbrev pub stands : Recorded → List Event → Meaning → List Named → Recorded
+stands s list m names = record s { events = list; machine = m; names = names }
 
 -- the event was sent, and this came of it
 abbrev pub Sent : Recorded → Event → Outcome → Recorded → Type 0
-Sent old e o new = IsEvent old.machine e o new.machine × (new ≡ stands old (old.events ++ e ∷ []) new.machine)
+Sent old e o new = Advances (running_of old) e o (running_of new) × (new ≡ stands old (old.events ++ e ∷ []) new.machine new.names)
 
 -- so many Runs were sent
-abbrev pub RunsSent : (most sent : ℕ) → Recorded → Recorded → Type 0
-RunsSent most sent old new = Ran most sent old.machine new.machine × (new ≡ stands old (old.events ++ replicate sent Run) new.machine)
+abbrev pub RunsSent : (most sent : ℕ) → (last : Option Outcome) → Recorded → Recorded → Type 0
+RunsSent most sent last old new = RunsMade most sent last (running_of old) (running_of new) × (new ≡ stands old (old.events ++ replicate sent Run) new.machine new.names)
 
 -- Runs were sent, up to the first that is what is waited for
-abbrev pub Found : Condition → (most sent : ℕ) → (met : Bool) → Recorded → Recorded → Type 0
-Found c most sent met old new = Searched c most sent met old.machine new.machine × (new ≡ stands old (old.events ++ replicate sent Run) new.machine)
+abbrev pub Found : Condition → (most sent : ℕ) → (met : Bool) → (last : Option Outcome) → Recorded → Recorded → Type 0
+Found c most sent met last old new = Searched c most met last (running_of old) (running_of new) sent × (new ≡ stands old (old.events ++ replicate sent Run) new.machine new.names)
 
 -- the machine is the one that the first events lead to, and these are all that it has got
 abbrev pub WentBack : (place : ℕ) → Recorded → Recorded → Type 0
-WentBack place old new = new ≡ stands old (take place old.events) new.machine
+WentBack place old new = new ≡ stands old (take place old.events) new.machine new.names
+
+-- the event at a place, and how many events from there on are equal to it, one at least; none where there are fewer events
+abbrev pub AreEqualFrom : List Event → (place : ℕ) → Option (Event × ℕ) → Type 0
+AreEqualFrom list place None = length list ≤ place
+AreEqualFrom list place (Some (e, count)) = (0 < count) × (take count (drop place list) ≡ replicate count e)
+
+-- a span of events: one event, and how many of it, one behind another
+abbrev pub events_in : List (Event × ℕ) → List Event
+events_in spans = flat_map (λ (s : Event × ℕ). replicate s.1 s.0) spans
+
+-- the events are spans, one behind another, and this is the one at a place among them; none where there are fewer spans
+abbrev pub IsSpanOf : List Event → (place : ℕ) → Option (Event × ℕ) → Type 0
+IsSpanOf list place answer = (spans : List (Event × ℕ)) × (events_in spans ≡ list) × (answer ≡ slice_get spans place)

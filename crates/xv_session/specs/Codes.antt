@@ -9,6 +9,8 @@ use Rattle.xv_machine.specs.Codes.{meaning_code}
 use Rattle.xv_machine.specs.Meaning.{Meaning}
 use Rattle.xv_session.specs.Recorded.{Recorded}
 use Rattle.xv_session.specs.Spans.{Kept}
+use Rattle.xv_session.specs.NameCodes.{names_code}
+use Rattle.xv_session.specs.declared.names.Named.{Named}
 
 -- an event: a key by its byte, the others by their place
 abbrev pub event_out : Event → ℕ ⊎ ℕ
@@ -36,5 +38,5 @@ abbrev pub kept_code : Coded Kept
 kept_code = code_by (List Event × Event) (coded× (coded_list event_code) event_code) (λ k. (k.events, k.next)) (λ t. record { events = t.0; next = t.1 }) (λ _. refl)
 
 abbrev pub recorded_code : Coded Recorded
-recorded_code = code_by ((ℕ × ℕ) × (List ProgramFile × (List Event × Meaning))) (coded× (coded× coded_ℕ coded_ℕ) (coded× (coded_list program_code) (coded× (coded_list event_code) meaning_code)))
-    (λ s. ((s.frames, s.trace), (s.programs, (s.events, s.machine)))) (λ t. record { frames = t.0.0; trace = t.0.1; programs = t.1.0; events = t.1.1.0; machine = t.1.1.1 }) (λ _. refl)
+recorded_code = code_by ((ℕ × ℕ) × (List ProgramFile × (List Event × (Meaning × List Named)))) (coded× (coded× coded_ℕ coded_ℕ) (coded× (coded_list program_code) (coded× (coded_list event_code) (coded× meaning_code names_code))))
+    (λ s. ((s.frames, s.trace), (s.programs, (s.events, (s.machine, s.names))))) (λ t. record { frames = t.0.0; trace = t.0.1; programs = t.1.0; events = t.1.1.0; machine = t.1.1.1.0; names = t.1.1.1.1 }) (λ _. refl)

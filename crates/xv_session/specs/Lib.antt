@@ -1,4 +1,7 @@
+pub mod NameCodes
+pub mod Names
 pub mod Recorded
+pub mod Steps
 pub mod Spans
 pub mod Codes
 pub mod Answers

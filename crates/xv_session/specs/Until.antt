@@ -1,15 +1,24 @@
 -- What a search among the events of a run waits for, and what it leaves.
-use Rattle.std.specs.Prelude.{◌≡◌, ℕ, zero, suc, ◌+◌, ◌≤◌, ◌&&◌, Bool, true, false, nat_eq, ℤ, Option, None, Some}
+use Rattle.std.specs.Prelude.{◌≡◌, ℕ, zero, suc, ◌-◌, ◌≤◌, ◌&&◌, Bool, true, false, nat_eq, nat_le, nat_lt, ℤ, Option, None, Some}
 use Rattle.std.specs.Ordering.{int_eq}
+use Rattle.rv64i_core.specs.Memory.{bytes_of_width}
 use Rattle.rv64i_core.specs.Registers.{Registers}
-use Rattle.kernel_spec.specs.steps.Own.{Called, Blocked, Exited, Faulted}
+use Rattle.rv64i_core.specs.Step.{store_width}
+use Rattle.rv64i_core.specs.Table.{decoded}
+use Rattle.rv64i_core.specs.declared.instruction.Instr.{Instr}
+use Rattle.rv64i_core.specs.declared.instruction.Instr.TheVariants.{Store}
+use Rattle.kernel_spec.specs.steps.Own.{Stepped, Called, Blocked, Exited, Faulted}
 use Rattle.kernel_spec.specs.runs.Run.{World, Run, Outcome, Step_of}
+use Rattle.kernel_spec.specs.views.State.{State}
 use Rattle.kernel_spec.specs.views.Words.{is_this}
 use Rattle.kcall_core.specs.Observers.{registers_of}
 use Rattle.xv_machine.specs.Meaning.{Meaning}
-use Rattle.xv_machine.specs.Reached.{IsEvent}
+use Rattle.xv_session.specs.Looking.{next_step_of}
+use Rattle.xv_session.specs.Steps.{Advances}
 use Rattle.xv_session.specs.declared.until.Condition.{Condition}
-use Rattle.xv_session.specs.declared.until.Condition.TheVariants.{StepOf, Call, At, Fault, Exit}
+use Rattle.xv_session.specs.declared.until.Condition.TheVariants.{StepOf, Call, At, Fault, Exit, StoreTo}
+use Rattle.xv_session.specs.declared.looking.NextStep.{NextStep}
+use Rattle.xv_session.specs.declared.running.Running.{Running}
 
 -- process p made a step
 abbrev pub makes_step : ℕ → Outcome → Bool
@@ -41,21 +50,61 @@ pc_is pc (Some regs) = nat_eq regs.pc pc
 abbrev pub stands_at : (p pc : ℕ) → World → Bool
 stands_at p pc w = is_this p w.turns.current && pc_is pc (registers_of w.state p)
 
--- the event of which this came, and which left this machine, is what is waited for
-abbrev pub meets : Condition → Outcome → Meaning → Bool
-meets (StepOf pid) o m = makes_step pid o
-meets (Call number) o m = is_on_call number o
-meets (At pid pc) o m = stands_at pid pc m.world
-meets Fault o m = faults o
-meets Exit o m = ends o
+-- an instruction was done
+abbrev pub is_done : Outcome → Bool
+is_done (Step_of p Stepped) = true
+is_done _ = false
+
+-- ---- a store to an address
+
+abbrev pub instruction_in : Option ℕ → Option Instr
+instruction_in None = None
+instruction_in (Some word) = decoded word
+
+-- the instruction is a store, and one of the bytes that it puts, from its own address on, lies at this one
+abbrev pub puts_at : (address : ℕ) → Option Instr → (own : Option ℕ) → Bool
+puts_at address (Some (Store op s t imm)) (Some own) = nat_le own address && nat_lt (address - own) (bytes_of_width (store_width op))
+puts_at address _ _ = false
+
+abbrev pub storing_by : (address : ℕ) → Option NextStep → Bool
+storing_by address None = false
+storing_by address (Some step) = puts_at address (instruction_in step.word) step.address
+
+abbrev pub storing_in : (address : ℕ) → State → Option ℕ → Bool
+storing_in address s None = false
+storing_in address s (Some p) = storing_by address (next_step_of s p)
+
+-- the process that runs is about to store to the address
+abbrev pub is_storing : (address : ℕ) → World → Bool
+is_storing address w = storing_in address w.state w.turns.current
+
+-- ---- what is waited for
+
+-- it is a store that is waited for, and the process that runs is about to make it
+abbrev pub store_awaited : Condition → Meaning → Bool
+store_awaited (StoreTo address) m = is_storing address m.world
+store_awaited _ m = false
+
+-- the event of which this came, and which left this machine, is what is waited for; before it that store was the next step, or not
+abbrev pub meets_with : Condition → (stores : Bool) → Outcome → Meaning → Bool
+meets_with (StepOf pid) stores o m = makes_step pid o
+meets_with (Call number) stores o m = is_on_call number o
+meets_with (At pid pc) stores o m = stands_at pid pc m.world
+meets_with Fault stores o m = faults o
+meets_with Exit stores o m = ends o
+meets_with (StoreTo address) stores o m = stores && is_done o
+
+-- the event of which this came, and which led from the one machine to the other, is what is waited for
+abbrev pub meets : Condition → (before : Meaning) → Outcome → (after : Meaning) → Bool
+meets c m o n = meets_with c (store_awaited c m) o n
 
 -- so many Runs were sent, one by one, and none of them was what is waited for
-abbrev pub Unmet : Condition → ℕ → Meaning → Meaning → Type 0
+abbrev pub Unmet : Condition → ℕ → Running → Running → Type 0
 Unmet c zero old new = new ≡ old
-Unmet c (suc n) old new = (mid : Meaning) × (o : Outcome) × Unmet c n old mid × IsEvent mid Run o new × (meets c o new ≡ false)
+Unmet c (suc n) old new = (mid : Running) × (o : Outcome) × Unmet c n old mid × Advances mid Run o new × (meets c mid.machine o new.machine ≡ false)
 
--- So many Runs were sent, `most` at most: the last was the first that is what is waited for; or none was, and all were sent
-abbrev pub Searched : Condition → (most sent : ℕ) → (met : Bool) → Meaning → Meaning → Type 0
-Searched c most sent true old new =
-    (n : ℕ) × (mid : Meaning) × (o : Outcome) × (sent ≡ n + 1) × (sent ≤ most) × Unmet c n old mid × IsEvent mid Run o new × (meets c o new ≡ true)
-Searched c most sent false old new = (sent ≡ most) × Unmet c most old new
+-- So many Runs were sent, `most` at most: the last was the first that is what is waited for, or none was, and all were sent; and this came of the last
+abbrev pub Searched : Condition → (most : ℕ) → (met : Bool) → (last : Option Outcome) → (old new : Running) → (sent : ℕ) → Type 0
+Searched c most met last old new zero = (most ≡ 0) × (met ≡ false) × (last ≡ None) × (new ≡ old)
+Searched c most met last old new (suc n) =
+    (mid : Running) × (o : Outcome) × Unmet c n old mid × Advances mid Run o new × (meets c mid.machine o new.machine ≡ met) × (last ≡ Some o) × (suc n ≤ most) × (met ≡ false → suc n ≡ most)

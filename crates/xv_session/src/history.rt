@@ -7,9 +7,10 @@ ghost use Rattle.xv_session.specs.declared.history.TheConstants.{EVENTS_MAX};
 
 use crate::SessionError;
 use crate::playing::{play, play_first};
+use crate::running::Running;
 use std::alloc::Global;
 use std::marker::Model;
-use xv_machine::{Event, Machine};
+use xv_machine::Event;
 
 /// The most events that a session keeps, 2^63: more than any machine gets.
 pub const EVENTS_MAX: u64 = 9_223_372_036_854_775_808;
@@ -98,8 +99,47 @@ impl History {
 }
 
 impl History {
+    ghost use Rattle.std.specs.Prelude.{◌≡◌, option_map};
+    ghost use Rattle.xv_session.specs.Answers.{AreEqualFrom, IsSpanOf};
+    ghost use Rattle.xv_session.specs.Spans.{pair_of};
+
+    /// The event at a place, and how many events from there on are equal to it; `None` where there are fewer.
+    pub fn from_on(&self, place: u64) -> Option<(Event, u64)>
+        ensures { AreEqualFrom self.now.events place (option_map pair_of result) }
+    {
+        if place >= self.count {
+            return None;
+        }
+        let mut before = place;
+        for at in 0..self.over.len() {
+            let span = self.over[at];
+            if before < span.count {
+                return Some((span.event, span.count - before));
+            }
+            before -= span.count;
+        }
+        Some((self.last.event, self.last.count - before))
+    }
+
+    /// The event of the span at a place, and how many there are; `None` where there are fewer spans.
+    pub fn span(&self, place: usize) -> Option<(Event, u64)>
+        ensures { IsSpanOf self.now.events place (option_map pair_of result) }
+    {
+        let over = self.over.len();
+        if place > over {
+            return None;
+        }
+        if place == over {
+            return Some((self.last.event, self.last.count));
+        }
+        let span = self.over[place];
+        Some((span.event, span.count))
+    }
+}
+
+impl History {
     ghost use Rattle.std.specs.Prelude.{◌≡◌, take};
-    ghost use Rattle.xv_machine.specs.Sound.{IsSoundMachine};
+    ghost use Rattle.xv_session.specs.Steps.{IsSound};
     ghost use Rattle.xv_session.specs.Recorded.{GoesBy};
 
     /// Forgets the events from a place on.
@@ -122,12 +162,12 @@ impl History {
     }
 
     /// Sends the events before a place to a machine, from the first on.
-    pub fn play(&self, machine: &mut Machine, place: u64)
-        requires { IsSoundMachine machine.old }
-        ensures goes { GoesBy (take place self.now.events) machine.old machine.new }
-        ensures sound { IsSoundMachine machine.new }
+    pub fn play(&self, running: &mut Running, place: u64)
+        requires { IsSound running.old }
+        ensures goes { GoesBy (take place self.now.events) running.old running.new }
+        ensures sound { IsSound running.new }
     {
-        let left = play_first(machine, self.over.as_slice(), place);
-        play(machine, self.last.event, self.last.count.min(left));
+        let left = play_first(running, self.over.as_slice(), place);
+        play(running, self.last.event, self.last.count.min(left));
     }
 }

@@ -8,11 +8,18 @@
 mod history;
 pub mod laws;
 mod looking;
+mod names;
 mod playing;
+mod running;
 mod session;
 mod until;
 
 pub use history::EVENTS_MAX;
 pub use looking::{Fault, NextStep, fault_of_run, next_step};
+pub use names::Named;
+pub use running::Runs;
 pub use session::{Session, SessionError};
 pub use until::{Condition, Search};
+
+#[cfg(test)]
+mod tests;

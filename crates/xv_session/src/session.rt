@@ -3,11 +3,13 @@ ghost use Rattle.std.specs.Prelude.{◌≡◌, IfOk, map};
 ghost use Rattle.kernel_spec.specs.views.State.{named_file};
 
 use crate::history::History;
+use crate::names::Named;
+use crate::running::{Running, Runs};
 use crate::until::{Condition, Search, run_until};
 use std::alloc::{AllocError, Global};
 use std::marker::Model;
 use thiserror::Error;
-use xk_base::{BootError, Program};
+use xk_base::{BootError, Pid, Program};
 use xv_machine::{Config, Event, Machine, Outcome};
 
 /// Why a session didn't do what was asked for. It is as it was before.
@@ -48,7 +50,7 @@ fn copied(alloc: Global, programs: &[Program]) -> Result<Vec<Program>, AllocErro
 #[derive(Drop)]
 pub struct Session {
     config: Config,
-    machine: Machine,
+    running: Running,
     history: History,
 }
 
@@ -68,14 +70,16 @@ impl Model for Session {
 }
 
 impl Session {
-    ghost use Rattle.std.specs.Prelude.{◌≡◌, [], IfOk, IfErr, length, map, take};
-    ghost use Rattle.kernel_spec.specs.views.State.{named_file};
+    ghost use Rattle.std.specs.Prelude.{◌≡◌, [], IfOk, IfErr, IfSome, IsSome, length, map, option_map, slice_get, take};
+    ghost use Rattle.kernel_spec.specs.views.State.{named_file, live};
     ghost use Rattle.kernel_spec.specs.runs.First.{first};
     ghost use Rattle.xv_machine.specs.Boots.{Boots};
     ghost use Rattle.xv_machine.specs.Events.{event_of, outcome_of};
     ghost use Rattle.xv_machine.specs.Sound.{IsSoundMachine};
-    ghost use Rattle.xv_session.specs.Recorded.{IsPlayed, IsRecorded};
-    ghost use Rattle.xv_session.specs.Answers.{machine_of, IsNew, Sent, RunsSent, Found, WentBack};
+    ghost use Rattle.xv_session.specs.Recorded.{IsPlayed, IsLed, IsRecorded};
+    ghost use Rattle.xv_session.specs.Answers.{machine_of, IsNew, Sent, RunsSent, Found, WentBack, AreEqualFrom, IsSpanOf};
+    ghost use Rattle.xv_session.specs.Names.{place_in, AreLive};
+    ghost use Rattle.xv_session.specs.Spans.{pair_of};
 
     /// A session whose machine was just booted, and has got no event. The refusals are those of
     /// [`Machine::boot`].
@@ -90,7 +94,7 @@ impl Session {
         match Machine::boot(alloc, config, programs) {
             Ok(machine) => Ok(Session {
                 config,
-                machine,
+                running: Running::new(machine),
                 history: History::new(alloc),
             }),
             Err(error) => Err(error),
@@ -108,7 +112,7 @@ impl Session {
         ensures refused { IfErr result (λ _. self.new ≡ self.old) }
     {
         self.history.make_room(event)?;
-        let outcome = self.machine.event(event);
+        let outcome = self.running.event(event);
         self.history.add(1);
         Ok(outcome)
     }
@@ -118,14 +122,14 @@ impl Session {
     /// # Errors
     ///
     /// As [`send`](Session::send): nothing is sent.
-    pub fn run(&mut self, most: u32) -> Result<u32, SessionError>
-        ensures sent { IfOk result (λ sent. RunsSent most sent self.old self.new) }
+    pub fn run(&mut self, most: u32) -> Result<Runs, SessionError>
+        ensures sent { IfOk result (λ r. RunsSent most r.sent (option_map outcome_of r.last) self.old self.new) }
         ensures refused { IfErr result (λ _. self.new ≡ self.old) }
     {
         self.history.make_room(Event::Run)?;
-        let sent = self.machine.run(most);
-        self.history.add(sent);
-        Ok(sent)
+        let runs = self.running.run(most);
+        self.history.add(runs.sent);
+        Ok(runs)
     }
 
     /// Sends Run, one by one, up to the first that is what is waited for, `most` times at most. It is sent once at
@@ -135,11 +139,11 @@ impl Session {
     ///
     /// As [`send`](Session::send): nothing is sent.
     pub fn until(&mut self, most: u32, condition: Condition) -> Result<Search, SessionError>
-        ensures found { IfOk result (λ s. Found condition most s.sent s.met self.old self.new) }
+        ensures found { IfOk result (λ s. Found condition most s.sent s.met (option_map outcome_of s.last) self.old self.new) }
         ensures refused { IfErr result (λ _. self.new ≡ self.old) }
     {
         self.history.make_room(Event::Run)?;
-        let found = run_until(&mut self.machine, most, &condition);
+        let found = run_until(&mut self.running, most, &condition);
         self.history.add(found.sent);
         Ok(found)
     }
@@ -151,6 +155,48 @@ impl Session {
         self.history.len()
     }
 
+    /// The event at a place of the run: 0 is the first; `None` where there were fewer.
+    pub fn event(&self, place: u64) -> Option<Event>
+        ensures { option_map event_of result ≡ slice_get self.now.events place }
+    {
+        match self.history.from_on(place) {
+            Some((event, _)) => Some(event),
+            None => None,
+        }
+    }
+
+    /// The event at a place of the run, and how many events from there on are equal to it, one at least, as many as
+    /// are kept together; `None` where there were fewer. So all events are listed by a place that goes on from 0 by
+    /// these counts.
+    pub fn events_from(&self, place: u64) -> Option<(Event, u64)>
+        ensures { AreEqualFrom self.now.events place (option_map pair_of result) }
+    {
+        self.history.from_on(place)
+    }
+
+    /// The spans of the run, one by one: the event of the span at this place, and how many of it came one behind
+    /// another. `None` where there are fewer spans. The next span may be of an equal event, and a span may have none.
+    pub fn span(&self, place: usize) -> Option<(Event, u64)>
+        ensures { IsSpanOf self.now.events place (option_map pair_of result) }
+    {
+        self.history.span(place)
+    }
+
+    /// The machine as it was after the first events, so many, booted anew, with its names.
+    fn running_at(&self, alloc: Global, place: u64) -> Result<Running, SessionError>
+        ensures { IfOk result (IsLed self.now.frames self.now.trace self.now.programs (take place self.now.events)) }
+    {
+        let Ok(programs) = copied(alloc, self.running.machine.programs()) else {
+            return Err(SessionError::Memory);
+        };
+        let Ok(machine) = Machine::boot(alloc, self.config, programs) else {
+            return Err(SessionError::Memory);
+        };
+        let mut running = Running::new(machine);
+        self.history.play(&mut running, place);
+        Ok(running)
+    }
+
     /// The machine as it was after the first events, so many, as a machine of its own; as it is, where there were no
     /// more. It is booted anew and gets these events, some 300 million Runs a second.
     ///
@@ -160,13 +206,7 @@ impl Session {
     pub fn machine_at(&self, alloc: Global, place: u64) -> Result<Machine, SessionError>
         ensures { IfOk result (IsPlayed self.now.frames self.now.trace self.now.programs (take place self.now.events)) }
     {
-        let Ok(programs) = copied(alloc, self.machine.programs()) else {
-            return Err(SessionError::Memory);
-        };
-        let Ok(mut machine) = Machine::boot(alloc, self.config, programs) else {
-            return Err(SessionError::Memory);
-        };
-        self.history.play(&mut machine, place);
+        let Running { machine, names: _ } = self.running_at(alloc, place)?;
         Ok(machine)
     }
 
@@ -181,8 +221,8 @@ impl Session {
         ensures refused { IfErr result (λ _. self.new ≡ self.old) }
         ensures recorded { IsRecorded self.new }
     {
-        let machine = self.machine_at(alloc, place)?;
-        self.machine = machine;
+        let running = self.running_at(alloc, place)?;
+        self.running = running;
         self.history.cut(place);
         Ok(())
     }
@@ -192,6 +232,23 @@ impl Session {
         ensures machine { result.now ≡ self.now.machine }
         ensures recorded { IsRecorded self.now }
     {
-        &self.machine
+        &self.running.machine
+    }
+
+    /// The place, among the machine's programs, of the program that a live process runs: process 1 runs `init`, a
+    /// child what its parent ran at the fork, and an exec that is done sets it. `None` for any other pid.
+    pub fn program_of(&self, pid: Pid) -> Option<usize>
+        ensures place { result ≡ place_in pid self.now.names }
+        ensures live { IfSome result (λ _. IsSome (live self.now.machine.world.state pid)) }
+    {
+        self.running.names.place(pid)
+    }
+
+    /// The live processes, each with its program's place.
+    pub fn names(&self) -> &[Named]
+        ensures names { result.now ≡ self.now.names }
+        ensures live { AreLive self.now.machine.world.state result.now }
+    {
+        self.running.names.as_slice()
     }
 }

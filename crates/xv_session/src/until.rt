@@ -1,10 +1,16 @@
 //! Running on up to what is waited for.
-ghost use Rattle.std.specs.Prelude.{◌≡◌};
+ghost use Rattle.std.specs.Prelude.{◌≡◌, ◌&&◌, Some, option_map};
+ghost use Rattle.rv64i_core.specs.Memory.{bytes_of_width};
+ghost use Rattle.rv64i_core.specs.Step.{store_width};
 ghost use Rattle.xv_machine.specs.Events.{outcome_of};
-ghost use Rattle.xv_session.specs.Until.{makes_step, is_on_call, faults, ends, stands_at, meets, Searched};
+ghost use Rattle.xv_session.specs.Steps.{IsSound};
+ghost use Rattle.xv_session.specs.Until.{makes_step, is_on_call, faults, ends, stands_at, is_done, instruction_in, puts_at, is_storing, store_awaited, meets_with, Searched};
 
+use crate::looking::next_step;
+use crate::running::Running;
+use rv64i_core::{Instr, StoreOp, decode};
 use xk_base::Pid;
-use xv_machine::{Event, Machine, Outcome};
+use xv_machine::{Machine, Outcome};
 
 /// What a search among Runs waits for.
 #[derive(Clone, Copy, Debug, PartialEq, Eq)]
@@ -19,15 +25,19 @@ pub enum Condition {
     Fault,
     /// A process is gone, by a call, a kill or a fault.
     Exit,
+    /// A process stores to this address of its memory: the store is done, and one of its bytes lies there.
+    StoreTo(u64),
 }
 
 /// What a search came to.
-#[derive(Clone, Copy, Debug, PartialEq, Eq)]
+#[derive(Debug, PartialEq, Eq, Drop)]
 pub struct Search {
     /// How many Runs were sent.
     pub sent: u32,
     /// Whether the last of them is what was waited for.
     pub met: bool,
+    /// What came of the last of them; `None` where none was sent.
+    pub last: Option<Outcome>,
 }
 
 /// Whether the process made a step.
@@ -90,10 +100,76 @@ fn stands_at(machine: &Machine, pid: Pid, pc: u64) -> bool
     }
 }
 
+/// Whether an instruction was done.
+fn is_done(outcome: &Outcome) -> bool
+    ensures { result ≡ is_done (outcome_of outcome.now) }
+{
+    match outcome {
+        Outcome::Stepped { .. } => true,
+        _ => false,
+    }
+}
+
+/// How many bytes a store puts.
+fn store_size(op: StoreOp) -> u64
+    ensures { result ≡ bytes_of_width (store_width op) }
+{
+    match op {
+        StoreOp::Sb => 1,
+        StoreOp::Sh => 2,
+        StoreOp::Sw => 4,
+        StoreOp::Sd => 8,
+    }
+}
+
+/// Whether an instruction is a store, of whose bytes, from its own address on, one lies at this one.
+fn puts_at(address: u64, instr: Option<Instr>, own: Option<u64>) -> bool
+    ensures { result ≡ puts_at address instr own }
+{
+    let Some(Instr::Store { op, .. }) = instr else {
+        return false;
+    };
+    let Some(own) = own else {
+        return false;
+    };
+    own <= address && address - own < store_size(op)
+}
+
+/// The instruction that a word spells.
+fn instruction_in(word: Option<u32>) -> Option<Instr>
+    ensures { result ≡ instruction_in word }
+{
+    decode(word?)
+}
+
+/// Whether the process that runs is about to store to this address.
+fn is_storing(address: u64, machine: &Machine) -> bool
+    ensures { result ≡ is_storing address machine.now.world }
+{
+    let Some(pid) = machine.current() else {
+        return false;
+    };
+    let Some(step) = next_step(machine, pid) else {
+        return false;
+    };
+    puts_at(address, instruction_in(step.word), step.address)
+}
+
 impl Condition {
-    /// Whether the event of which this came, and which left this machine, is what is waited for.
-    fn is_met(&self, outcome: &Outcome, machine: &Machine) -> bool
-        ensures { result ≡ meets self.now (outcome_of outcome.now) machine.now }
+    /// Whether it waits for a store, and the process that runs is about to make it.
+    fn is_at_store(&self, machine: &Machine) -> bool
+        ensures { result ≡ store_awaited self.now machine.now }
+    {
+        match self {
+            Condition::StoreTo(address) => is_storing(*address, machine),
+            _ => false,
+        }
+    }
+
+    /// Whether the event of which this came, and which left this machine, is what is waited for; before it the store
+    /// that is waited for was the next step, or not.
+    fn is_met(&self, stores: bool, outcome: &Outcome, machine: &Machine) -> bool
+        ensures { result ≡ meets_with self.now stores (outcome_of outcome.now) machine.now }
     {
         match self {
             Condition::StepOf(pid) => makes_step(outcome, *pid),
@@ -101,25 +177,39 @@ impl Condition {
             Condition::At { pid, pc } => stands_at(machine, *pid, *pc),
             Condition::Fault => faults(outcome),
             Condition::Exit => ends(outcome),
+            Condition::StoreTo(_) => stores && is_done(outcome),
         }
     }
 }
 
 /// Sends Run, one by one, up to the first that is what is waited for, `most` at most.
-pub(crate) fn run_until(machine: &mut Machine, most: u32, condition: &Condition) -> Search
-    ensures { Searched condition.now most result.sent result.met machine.old machine.new }
+pub(crate) fn run_until(running: &mut Running, most: u32, condition: &Condition) -> Search
+    requires { IsSound running.old }
+    ensures { Searched condition.now most result.met (option_map outcome_of result.last) running.old running.new result.sent }
 {
-    for sent in 0..most {
-        let outcome = machine.event(Event::Run);
-        if condition.is_met(&outcome, machine) {
+    for before in 0..most {
+        let stores = condition.is_at_store(&running.machine);
+        let outcome = running.run_once();
+        let met = condition.is_met(stores, &outcome, &running.machine);
+        let sent = before + 1;
+        if met {
             return Search {
-                sent: sent + 1,
-                met: true,
+                sent,
+                met,
+                last: Some(outcome),
+            };
+        }
+        if sent == most {
+            return Search {
+                sent,
+                met: false,
+                last: Some(outcome),
             };
         }
     }
     Search {
-        sent: most,
+        sent: 0,
         met: false,
+        last: None,
     }
 }

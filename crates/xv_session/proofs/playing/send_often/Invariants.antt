@@ -4,7 +4,7 @@ use Rattle.xv_session.specs.Recorded.{GoesBy}
 use Rattle.xv_session.proofs.playing.send_often.Given as goal
 
 abbrev pub invariant-sends : goal.invariant-sends
-invariant-sends l = (l.left ≤ l.count) × GoesBy (replicate (l.count - l.left) (event_of l.event)) l.fn.machine l.machine
+invariant-sends l = (l.left ≤ l.count) × GoesBy (replicate (l.count - l.left) (event_of l.event)) l.fn.running l.running
 
 abbrev pub decreases-sends : goal.decreases-sends
 decreases-sends l = l.left

@@ -1,13 +1,42 @@
-use Rattle.std.proofs.Common.{◌∙◌, sym, refl, subst, add-one, arith}
+use Rattle.std.proofs.Common.{◌≡◌, ◌≤◌, suc, ◌∙◌, Bool, true, false, Some, sym, ap, refl, subst, add-one, arith}
 use Rattle.xv_machine.specs.Events.{outcome_of}
-use Rattle.xv_session.specs.Until.{Unmet}
+use Rattle.xv_session.specs.Until.{Unmet, Searched, meets, meets_with}
+use Rattle.xv_session.proofs.Searches.{unmet-sound}
 use Rattle.xv_session.proofs.until.run_until.Goals as goal
 
-pub returns-then-is_met : goal.returns-then-is_met
-returns-then-is_met c =
-    (c.loop-sent.sent, c.loop-sent.machine, outcome_of c.event-outcome.result, refl, omega (arith, c.loop-sent-test.true), c.loop-sent.invariant, c.event-outcome.ensures, sym c.is_met.ensures ∙ c.if-is_met.true)
+pub run_once-outcome-requires : goal.run_once-outcome-requires
+run_once-outcome-requires c = record { sound = unmet-sound c.args.condition.now c.loop-before.before c.args.running.now c.loop-before.running c.requires c.loop-before.invariant.0 }
 
-pub loop-sent-preserved : goal.loop-sent-preserved
-loop-sent-preserved c =
-    subst (λ k. Unmet c.args.condition.now k c.args.machine.now c.event-outcome.new.self) (sym (add-one c.loop-sent.sent))
-    (c.loop-sent.machine, outcome_of c.event-outcome.result, c.loop-sent.invariant, c.event-outcome.ensures, sym c.is_met.ensures ∙ c.if-is_met.false)
+pub returns-then-met : goal.returns-then-met
+returns-then-met c =
+    let n = c.loop-before.before in
+    let mid = c.loop-before.running in
+    let new = c.run_once-outcome.new.self in
+    let o = outcome_of c.run_once-outcome.result in
+    let met = c.is_met-met.result in
+    let is : meets c.args.condition.now mid.machine o new.machine ≡ met = sym (c.is_met-met.ensures ∙ ap (λ (b : Bool). meets_with c.args.condition.now b o new.machine) c.is_at_store-stores.ensures) in
+    let within : suc n ≤ c.args.most = omega (arith, c.loop-before-test.true) in
+    let all : met ≡ false → suc n ≡ c.args.most = λ unmet. (let no : true ≡ false = sym c.if-met.true ∙ unmet in let bad : ⊥ = cc in absurd bad) in
+    subst (λ k. Searched c.args.condition.now c.args.most met (Some o) c.args.running.now new k) (sym (add-one n)) (mid, o, c.loop-before.invariant.0, c.run_once-outcome.ensures, is, refl, within, all)
+
+pub returns-then-sent-most : goal.returns-then-sent-most
+returns-then-sent-most c =
+    let n = c.loop-before.before in
+    let mid = c.loop-before.running in
+    let new = c.run_once-outcome.new.self in
+    let o = outcome_of c.run_once-outcome.result in
+    let is : meets c.args.condition.now mid.machine o new.machine ≡ false = sym (c.is_met-met.ensures ∙ ap (λ (b : Bool). meets_with c.args.condition.now b o new.machine) c.is_at_store-stores.ensures) ∙ c.if-met.false in
+    let within : suc n ≤ c.args.most = omega (arith, c.loop-before-test.true) in
+    let all : suc n ≡ c.args.most = omega (arith, c.if-sent-most.true) in
+    subst (λ k. Searched c.args.condition.now c.args.most false (Some o) c.args.running.now new k) (sym (add-one n)) (mid, o, c.loop-before.invariant.0, c.run_once-outcome.ensures, is, refl, within, λ _. all)
+
+pub loop-before-preserved : goal.loop-before-preserved
+loop-before-preserved c =
+    let n = c.loop-before.before in
+    let mid = c.loop-before.running in
+    let new = c.run_once-outcome.new.self in
+    let o = outcome_of c.run_once-outcome.result in
+    let is : meets c.args.condition.now mid.machine o new.machine ≡ false = sym (c.is_met-met.ensures ∙ ap (λ (b : Bool). meets_with c.args.condition.now b o new.machine) c.is_at_store-stores.ensures) ∙ c.if-met.false in (
+      subst (λ k. Unmet c.args.condition.now k c.args.running.now new) (sym (add-one n)) (mid, o, c.loop-before.invariant.0, c.run_once-outcome.ensures, is),
+      λ _. omega (arith, c.loop-before-test.true, c.if-sent-most.false),
+    )

@@ -1,5 +1,7 @@
+use Rattle.std.proofs.Common.{◌<◌}
 use Rattle.xv_session.specs.Until.{Unmet}
 use Rattle.xv_session.proofs.until.run_until.Given as goal
 
-abbrev pub invariant-loop-sent : goal.invariant-loop-sent
-invariant-loop-sent l = Unmet l.condition l.sent l.fn.machine l.machine
+-- none of the Runs so far is what is waited for, and there were fewer than all
+abbrev pub invariant-loop-before : goal.invariant-loop-before
+invariant-loop-before l = Unmet l.condition l.before l.fn.running l.running × (0 < l.before → l.before < l.most)

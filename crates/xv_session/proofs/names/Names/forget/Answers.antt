@@ -1,0 +1,10 @@
+use Rattle.std.proofs.Common.{rules, not, nat_eq, List, ap, ◌∙◌}
+use Rattle.arrayvec.proofs.ArrayVecLemmas.{filter-from_retain}
+use Rattle.xv_session.specs.Names.{without}
+use Rattle.xv_session.specs.declared.names.Named.{Named}
+use Rattle.xv_session.proofs.names.Names.forget.Goals as goal
+
+pub returns : goal.returns
+returns c =
+    filter-from_retain _ (λ (n : Named). not (nat_eq n.pid c.args.pid)) _ (λ x b f y. search rules) _ _ c.retain.ensures.filtered
+    ∙ ap (λ (ns : List Named). without c.args.pid ns) c.self.view_is

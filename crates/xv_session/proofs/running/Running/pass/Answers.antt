@@ -1,0 +1,13 @@
+use Rattle.std.proofs.Common.{Some, sym, subst}
+use Rattle.kernel_spec.specs.runs.Run.{Outcome}
+use Rattle.xv_session.specs.Steps.{RunsMade}
+use Rattle.xv_session.specs.declared.running.Running.{Running}
+use Rattle.xv_session.proofs.RunsMade.{passes}
+use Rattle.xv_session.proofs.running.Running.pass.Goals as goal
+
+pub returns-clause-made : goal.returns-clause-made
+returns-clause-made c =
+    let old : Running = c.args.self.now in
+    let new : Running = record { machine = c.run-sent.new.self; names = c.args.self.now.names } in
+    subst (λ (o : Outcome). RunsMade c.args.most c.run-sent.result (Some o) old new) (sym c.passed-last.ensures)
+    (passes c.args.most c.run-sent.result old.names old.machine c.run-sent.new.self c.requires.stopped c.requires.some c.run-sent.ensures.ran)
