@@ -1,8 +1,9 @@
 //! Sessions of small programs: that each call can succeed, and what a report of a fault says.
 use crate::{Condition, Session, fault_of_run, next_step};
 use std::alloc::{AllocError, Global};
+use std::process::Abort;
 use std::test::Fail;
-use xk_base::{BootError, Pid, Program, Reg};
+use xk_base::{BootError, Pid, Program};
 use xv_machine::{Config, Event, Outcome};
 
 /// Where the file of a program has its code: behind the header and one program header (ELF-64 Object File Format).
@@ -49,15 +50,15 @@ fn session_of(alloc: Global, frames: u32, programs: Vec<Program>) -> Result<Sess
     Session::boot(alloc, Config { frames, trace: 0 }, programs)
 }
 
-#[test]
-fn a_session_goes_on_and_back(rt: HostRuntime) -> Result<(), Fail> {
-    let alloc = rt.alloc();
+/// A session of the null store.
+fn null_store(alloc: Global) -> Result<Session, Fail> {
     let init = program(alloc, b"init", &NULL_STORE)?;
-    let mut session = session_of(alloc, 16, vec![in alloc; init]?)?;
-    let pid = Pid::new(1);
-    assert_eq!(rt; session.program_of(pid), Some(0));
-    assert_eq!(rt; session.program_of(Pid::new(2)), None);
+    Ok(session_of(alloc, 16, vec![in alloc; init]?)?)
+}
 
+/// A tick, and process 1 up to its store: four events.
+fn go_on<R: Abort>(rt: &R, session: &mut Session) -> Result<(), Fail> {
+    let pid = Pid::new(1);
     assert_eq!(rt; session.send(Event::Tick)?, Outcome::Ticked);
     let turn = session.run(10)?;
     assert_eq!(rt; turn.sent, 1);
@@ -65,18 +66,21 @@ fn a_session_goes_on_and_back(rt: HostRuntime) -> Result<(), Fail> {
     let found = session.until(10, Condition::At { pid, pc: 8 })?;
     assert_eq!(rt; found.sent, 2);
     assert!(rt; found.met);
-    assert_eq!(rt; session.at(), 4);
-    let there = next_step(session.machine(), pid);
-    assert!(rt; there.is_some());
+    Ok(())
+}
 
-    let fault = session.run(10)?;
-    assert_eq!(rt; fault.sent, 1);
-    assert_eq!(rt; session.program_of(pid), None);
+/// The store, behind which nothing runs.
+fn end<R: Abort>(rt: &R, session: &mut Session) -> Result<(), Fail> {
+    assert_eq!(rt; session.run(10)?.sent, 1);
+    assert_eq!(rt; session.program_of(Pid::new(1)), None);
     assert_eq!(rt; session.run(10)?.last, Some(Outcome::Halted));
-    assert_eq!(rt; session.at(), 15);
+    Ok(())
+}
 
+/// What is told of the store, of the machine before it.
+fn tell<R: Abort + AllocGlobal>(rt: &R, session: &Session) -> Result<(), Fail> {
+    let alloc = rt.alloc();
     let mut before = session.machine_at(alloc, 4)?;
-    assert_eq!(rt; next_step(&before, pid), there);
     let told = fault_of_run(&mut before).ok_or("no fault")?;
     let text = format!(in alloc; "{told}")?;
     assert!(rt;
@@ -85,125 +89,23 @@ fn a_session_goes_on_and_back(rt: HostRuntime) -> Result<(), Fail> {
         ),
         "{text}"
     );
+    Ok(())
+}
 
+#[test]
+fn a_session_goes_on_and_back(rt: HostRuntime) -> Result<(), Fail> {
+    let alloc = rt.alloc();
+    let pid = Pid::new(1);
+    let mut session = null_store(alloc)?;
+    go_on(&rt, &mut session)?;
+    assert_eq!(rt; session.at(), 4);
+    let there = next_step(session.machine(), pid);
+    end(&rt, &mut session)?;
+    assert_eq!(rt; session.at(), 15);
+    tell(&rt, &session)?;
     session.back_to(alloc, 4)?;
     assert_eq!(rt; session.at(), 4);
     assert_eq!(rt; next_step(session.machine(), pid), there);
     assert_eq!(rt; session.program_of(pid), Some(0));
-    Ok(())
-}
-
-#[test]
-fn events_are_told_by_their_place(rt: HostRuntime) -> Result<(), Fail> {
-    let alloc = rt.alloc();
-    let init = program(alloc, b"init", &NULL_STORE)?;
-    let mut session = session_of(alloc, 16, vec![in alloc; init]?)?;
-    session.send(Event::Tick)?;
-    session.run(1)?;
-    session.run(2)?;
-    session.send(Event::Key(b'a'))?;
-    for (place, event, from) in [
-        (0, Some(Event::Tick), Some((Event::Tick, 1))),
-        (1, Some(Event::Run), Some((Event::Run, 3))),
-        (3, Some(Event::Run), Some((Event::Run, 1))),
-        (4, Some(Event::Key(b'a')), Some((Event::Key(b'a'), 1))),
-        (5, None, None),
-    ] {
-        assert_eq!(rt; session.event(place), event, "at {place}");
-        assert_eq!(rt; session.events_from(place), from, "from {place}");
-    }
-    for (place, span) in [
-        (0, Some((Event::Run, 0))),
-        (1, Some((Event::Tick, 1))),
-        (2, Some((Event::Run, 3))),
-        (3, Some((Event::Key(b'a'), 1))),
-        (4, None),
-    ] {
-        assert_eq!(rt; session.span(place), span, "span {place}");
-    }
-    Ok(())
-}
-
-/// `sd x0, -8(sp)`, then the null store.
-const STACK_STORE: [u32; 2] = [0xfe01_3c23, 0x00a0_0023];
-
-#[test]
-fn a_search_finds_a_store(rt: HostRuntime) -> Result<(), Fail> {
-    let alloc = rt.alloc();
-    let pid = Pid::new(1);
-    for (offset, sent, met) in [(9, 10, false), (8, 2, true), (1, 2, true), (0, 10, false)] {
-        let init = program(alloc, b"init", &STACK_STORE)?;
-        let mut session = session_of(alloc, 16, vec![in alloc; init]?)?;
-        let regs = session.machine().registers(pid).ok_or("no process 1")?;
-        let address = regs.read(Reg::new(2)).wrapping_sub(offset);
-        let found = session.until(10, Condition::StoreTo(address))?;
-        assert_eq!(rt;
-            (found.sent, found.met),
-            (sent, met),
-            "at {offset} below sp"
-        );
-    }
-    // A store that faults is not done.
-    let init = program(alloc, b"init", &NULL_STORE)?;
-    let mut session = session_of(alloc, 16, vec![in alloc; init]?)?;
-    assert!(rt; !session.until(10, Condition::StoreTo(0))?.met);
-    Ok(())
-}
-
-/// Forks; the child goes on with the program at the path that lies behind the code, `//wc`, and the parent waits:
-/// `addi a7, x0, 1`, `ecall`, `bne a0, x0, 20`, `addi a0, x0, 56`, `addi a1, x0, 48`, `addi a7, x0, 7`, `ecall`,
-/// `addi a0, x0, 0`, `addi a7, x0, 3`, `ecall`, `addi a7, x0, 2`, `ecall`, and at 48 a pointer 0 and the path.
-const FORK_AND_EXEC: [u32; 16] = [
-    0x0010_0893,
-    0x0000_0073,
-    0x0005_1a63,
-    0x0380_0513,
-    0x0300_0593,
-    0x0070_0893,
-    0x0000_0073,
-    0x0000_0513,
-    0x0030_0893,
-    0x0000_0073,
-    0x0020_0893,
-    0x0000_0073,
-    0,
-    0,
-    0x6377_2f2f,
-    0,
-];
-
-#[test]
-fn names_go_by_forks_and_execs(rt: HostRuntime) -> Result<(), Fail> {
-    let alloc = rt.alloc();
-    let wc = program(alloc, b"wc", &NULL_STORE)?;
-    let init = program(alloc, b"init", &FORK_AND_EXEC)?;
-    let mut session = session_of(alloc, 32, vec![in alloc; wc, init]?)?;
-    let (parent, child) = (Pid::new(1), Pid::new(2));
-    assert_eq!(rt; session.program_of(parent), Some(1));
-
-    let fork = session.until(100, Condition::Call(1))?;
-    assert!(rt; fork.met);
-    assert_eq!(rt; session.program_of(child), Some(1));
-    let forked = session.at();
-
-    let exec = session.until(100, Condition::Call(7))?;
-    let done = Outcome::Called {
-        pid: child,
-        number: 7,
-        value: 0,
-    };
-    assert_eq!(rt; exec.last, Some(done));
-    assert_eq!(rt; session.program_of(child), Some(0));
-    assert_eq!(rt; session.program_of(parent), Some(1));
-    assert_eq!(rt; session.names().len(), 2);
-
-    let fault = session.until(100, Condition::Fault)?;
-    assert!(rt; fault.met);
-    assert_eq!(rt; session.program_of(child), None);
-
-    session.back_to(alloc, forked)?;
-    assert_eq!(rt; session.program_of(child), Some(1));
-    let last = session.run(1000)?.last;
-    assert!(rt; last.is_some());
     Ok(())
 }
