@@ -188,11 +188,7 @@ fn memory<'a>(tokens: &Tokens<'a>) -> Result<Word, WordErrorKind<'a>> {
 }
 
 /// The pages from an address on, of the process that is named at a place.
-fn pages_of<'a>(
-    tokens: &Tokens<'a>,
-    place: usize,
-    from: u64,
-) -> Result<Word, WordErrorKind<'a>> {
+fn pages_of<'a>(tokens: &Tokens<'a>, place: usize, from: u64) -> Result<Word, WordErrorKind<'a>> {
     match owner(tokens, place) {
         Ok(pid) => Ok(Word::Pages { from, pid }),
         Err(kind) => Err(kind),
@@ -318,12 +314,8 @@ fn owned<'a>(topic: Topic, tokens: &Tokens<'a>) -> Result<Word, WordErrorKind<'a
 /// What a word asks for, with what stands behind it.
 fn asked<'a>(topic: Topic, tokens: &Tokens<'a>) -> Result<Word, WordErrorKind<'a>> {
     match topic {
-        Topic::Step
-        | Topic::Run
-        | Topic::Tick
-        | Topic::Send
-        | Topic::Processes
-        | Topic::Trace => counted(topic, tokens),
+        Topic::Step | Topic::Run | Topic::Tick | Topic::Send | Topic::Processes | Topic::Trace =>
+            counted(topic, tokens),
         Topic::Where | Topic::Registers | Topic::Descriptors => owned(topic, tokens),
         Topic::Back => back(tokens),
         Topic::Until => until(tokens),
@@ -351,11 +343,7 @@ fn behind_first(line: &str) -> &str {
 }
 
 /// What a line asks for that begins with this word.
-fn read<'a>(
-    topic: Topic,
-    line: &'a str,
-    tokens: &Tokens<'a>,
-) -> Result<Word, WordErrorKind<'a>> {
+fn read<'a>(topic: Topic, line: &'a str, tokens: &Tokens<'a>) -> Result<Word, WordErrorKind<'a>> {
     match topic {
         Topic::Key => keyed(behind_first(line)),
         _ => asked(topic, tokens),
