@@ -1,0 +1,25 @@
+-- What GDB is told of registers and memory.
+use Rattle.std.specs.Prelude.{◌≡◌, ℕ, zero, suc, ◌+◌, ◌%◌, ◌^◌, ◌<◌, ◌⊎◌, ◌==◌, nat_lt, if◌then◌else◌, min, List, [], ◌++◌, length, slice_index, Option, Some, None}
+use Rattle.std.specs.Int.{w64, to_le_bytes}
+use Rattle.rv64i_core.specs.Registers.{Registers, reg}
+use Rattle.kernel_spec.specs.views.State.{State}
+use Rattle.kcall_core.specs.Observers.{byte_at}
+
+-- what the register of GDB's number holds: x0 to x31, and 32 is the pc
+abbrev pub held : Registers → ℕ → Option ℕ
+held regs number = if number == 32 then Some regs.pc else (if nat_lt number 32 then Some (reg regs number) else None)
+
+-- eight bytes, the lowest first
+abbrev pub word_bytes : Option ℕ → List ℕ
+word_bytes None = []
+word_bytes (Some value) = to_le_bytes w64 value
+
+-- the bytes of the registers below a number, in the order of their numbers
+abbrev pub bytes_below : Registers → ℕ → List ℕ
+bytes_below regs zero = []
+bytes_below regs (suc n) = bytes_below regs n ++ word_bytes (held regs n)
+
+-- These are bytes of a process's memory from an address on: so many, 1,024 at most, or fewer up to the first that isn't there
+pub record AreTheBytes (s : State) (p address size : ℕ) (bytes : List ℕ) : Type 0 where
+  pub each : (k : ℕ) → k < length bytes → byte_at s p ((address + k) % 2 ^ 64) ≡ Some (slice_index bytes k)
+  pub all : (length bytes ≡ min size 1024) ⊎ (byte_at s p ((address + length bytes) % 2 ^ 64) ≡ None)

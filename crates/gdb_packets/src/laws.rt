@@ -1,0 +1,17 @@
+//! What holds of packets, however they are cut.
+ghost use Rattle.gdb_packets.specs.Laws.{ReadsBack, WrongSumsShow, CutsShowNothing};
+
+/// A packet that is written, read again, gives the same payload.
+pub fn packets_read_back()
+    ensures { ReadsBack }
+{}
+
+/// A packet with a wrong checksum is told as damaged.
+pub fn wrong_sums_show()
+    ensures { WrongSumsShow }
+{}
+
+/// It is all the same where the input was cut.
+pub fn cuts_show_nothing()
+    ensures { CutsShowNothing }
+{}

@@ -1,0 +1,2 @@
+pub mod Arrangements
+pub mod Sequences

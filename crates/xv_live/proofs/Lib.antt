@@ -1,0 +1,3 @@
+pub mod Joined
+pub mod Played
+pub mod Lines

@@ -1,0 +1,5 @@
+use Rattle.std.proofs.Common.{◌≡◌}
+use Rattle.xv_live.proofs.attending.look.Given as goal
+
+abbrev pub invariant-looks : goal.invariant-looks
+invariant-looks g l = g.W.ByteSink.sink l.screen.sink ≡ g.W.ByteSink.sink l.fn.screen.sink

@@ -1,0 +1,3 @@
+pub mod Sleepers
+pub mod Ends
+pub mod Frames

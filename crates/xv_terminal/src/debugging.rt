@@ -1,0 +1,128 @@
+//! The debugger's prompt.
+use crate::line_editor::{Edit, LineEditor};
+use crate::notes::Notes;
+use crate::telling::tell_waits;
+use std::io::Write;
+use xv_debug::{Debugger, Next};
+use xv_live::{Host, Look, Trouble};
+use xv_session::Session;
+
+/// What stands before a line that is typed to the debugger.
+const PROMPT: &str = "(xv) ";
+
+/// What is said when the debugger opens.
+const WELCOME: &str = "the machine is stopped: `c` goes on, `help` tells the words, `quit` ends it";
+
+/// What comes behind a line.
+enum Line {
+    /// It was typed.
+    Typed,
+    /// The machine is to go on.
+    GoesOn,
+    /// The machine is to end.
+    Ends,
+}
+
+// Shows what a key did to the line.
+fn show_edit<E: Write>(edit: Edit, notes: &mut E) {
+    match edit {
+        Edit::Adds(byte) => {
+            let _ = notes.write_all(&[byte]);
+        }
+        Edit::Takes(count) => {
+            for _ in 0..count {
+                let _ = notes.write_all(b"\x08 \x08");
+            }
+        }
+        Edit::Over | Edit::GoesOn | Edit::Ends => {
+            let _ = notes.write_all(b"\n");
+        }
+    }
+    let _ = notes.flush();
+}
+
+// Reads a line of the keyboard. At its end the machine ends, since nobody is there to let it go on.
+fn read_line<H: Host, E: Write>(
+    host: &mut H,
+    editor: &mut LineEditor,
+    notes: &mut E,
+) -> Result<Line, Trouble> {
+    for _ in 0..u64::MAX {
+        let byte = match host.look()? {
+            Look::Came(byte) => byte,
+            Look::NoneNow => {
+                host.doze();
+                continue;
+            }
+            Look::Ended => return Ok(Line::Ends),
+        };
+        let edit = editor.key(byte);
+        show_edit(edit, notes);
+        match edit {
+            Edit::Over => return Ok(Line::Typed),
+            Edit::GoesOn => return Ok(Line::GoesOn),
+            Edit::Ends => return Ok(Line::Ends),
+            Edit::Adds(_) | Edit::Takes(_) => {}
+        }
+    }
+    Ok(Line::Ends)
+}
+
+// Obeys a line, and writes its answer.
+fn obey<E: Write>(
+    session: &mut Session,
+    debugger: &mut Debugger,
+    line: &[u8],
+    notes: &mut Notes<E>,
+) -> Result<Next, Trouble> {
+    let Ok(line) = std::str::from_utf8(line) else {
+        return Ok(Next::Stays);
+    };
+    let mut answer = String::new(notes.alloc);
+    let next = debugger.obey(notes.alloc, session, line, &mut answer)?;
+    let _ = notes.errors.write_all(answer.as_bytes());
+    let _ = notes.errors.flush();
+    Ok(next)
+}
+
+// A line of the debugger, and what comes behind it.
+fn converse<H: Host, E: Write>(
+    session: &mut Session,
+    host: &mut H,
+    debugger: &mut Debugger,
+    notes: &mut Notes<E>,
+) -> Result<Next, Trouble> {
+    let _ = notes.errors.write_all(PROMPT.as_bytes());
+    let _ = notes.errors.flush();
+    let mut editor = LineEditor::new();
+    match read_line(host, &mut editor, &mut notes.errors)? {
+        Line::Typed => obey(session, debugger, editor.bytes(), notes),
+        Line::GoesOn => Ok(Next::Continues),
+        Line::Ends => Ok(Next::Ends),
+    }
+}
+
+/// Lets the debugger look into the machine, up to a word that lets it go on or ends it. The first line tells who runs,
+/// and who waits for what.
+///
+/// # Errors
+///
+/// The trouble that the keyboard has, and [`Trouble::Memory`].
+pub fn debug<H: Host, E: Write>(
+    session: &mut Session,
+    host: &mut H,
+    debugger: &mut Debugger,
+    notes: &mut Notes<E>,
+) -> Result<Next, Trouble> {
+    notes.break_line();
+    notes.write_note(WELCOME);
+    tell_waits(session, notes);
+    for _ in 0..u64::MAX {
+        let next = converse(session, host, debugger, notes)?;
+        if next != Next::Stays {
+            notes.end_notes();
+            return Ok(next);
+        }
+    }
+    Ok(Next::Ends)
+}
