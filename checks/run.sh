@@ -17,6 +17,8 @@ tell_others() {
     tell hostile/run.sh 'hostile/run.sh' 'each refused growth of memory, read and write is answered: a minute'
     tell beside-qemu/run.sh 'beside-qemu/run.sh' '1,000 random programs do what they do under QEMU: some minutes; needs qemu-user'
     tell outside.sh 'outside.sh' "others' programs do what they do under QEMU: minutes, with \`torture\` an hour; needs packages, told by the script"
+    tell back-to/run.sh 'back-to/run.sh [N]' 'the stored runs, played back to 20 places each: slow; needs rt'
+    tell html-links.py 'html-links.py FOLDER' 'the links of a release that was untarred'
     tell gdb/run.sh 'gdb/run.sh' 'a debugger sees a run: a minute; needs gdb-multiarch'
     tell page/run.sh 'page/run.sh' 'the page shows what the program shows: some minutes; needs chromium'
     echo 'After a failed `rt check`: checks/why.sh CRATE tells what is open, in the order in which to read it.'
