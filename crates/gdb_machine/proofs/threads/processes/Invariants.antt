@@ -1,0 +1,5 @@
+use Rattle.gdb_machine.specs.Seen.{AreLiveBelow}
+use Rattle.gdb_machine.proofs.threads.processes.Given as goal
+
+abbrev pub invariant-loop-slot : goal.invariant-loop-slot
+invariant-loop-slot l = AreLiveBelow l.machine.world l.slot l.list.items

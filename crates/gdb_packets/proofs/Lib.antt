@@ -1,0 +1,4 @@
+pub mod Fed
+pub mod SixteenDigits
+pub mod Framed
+pub mod NumbersBack

@@ -1,0 +1,207 @@
+//! The payloads of answers (GDB manual, "Stop Reply Packets", "General Query Packets" and "Standard Replies").
+ghost use Rattle.std.specs.Prelude.{◌≡◌, ◌∷◌, ◌++◌, IfOk, OnOk};
+ghost use Rattle.hex.specs.Hex.{encode_lower};
+ghost use Rattle.gdb_packets.specs.Answers as meant;
+
+use crate::digits::{push_byte, push_number};
+use std::alloc::{AllocError, Global};
+
+/// Why the program stopped.
+#[derive(Clone, Copy, Debug, PartialEq, Eq)]
+pub enum StopReason {
+    /// A step is done, or a breakpoint is reached.
+    Trap,
+    /// Bytes that are watched became others; the first of them has this address.
+    Watch(u64),
+    /// It was interrupted, or went on for long enough.
+    Interrupt,
+    /// Its next instruction is none.
+    Illegal,
+    /// Its next instruction uses an address that it may not.
+    Segmentation,
+    /// Its next instruction uses an address that is no multiple of its size.
+    Misaligned,
+    /// It can go back no further.
+    Begin,
+    /// It is at its end.
+    End,
+}
+
+/// A stop: why, and of which thread.
+#[derive(Clone, Copy, Debug, PartialEq, Eq)]
+pub struct Stop {
+    pub reason: StopReason,
+    pub thread: u64,
+}
+
+/// Bytes in hexadecimal digits, two each.
+///
+/// # Errors
+///
+/// [`AllocError`] if the host has too little memory.
+pub fn hex_bytes(alloc: Global, bytes: &[u8]) -> Result<Vec<u8>, AllocError>
+    ensures { IfOk result (λ text. text.items ≡ encode_lower bytes.now) }
+{
+    let text = hex::encode(alloc, bytes)?;
+    Ok(text.into_bytes())
+}
+
+/// Bytes that the program's console shows: `O`, and the bytes in digits.
+///
+/// # Errors
+///
+/// [`AllocError`] if the host has too little memory.
+pub fn console(alloc: Global, bytes: &[u8]) -> Result<Vec<u8>, AllocError>
+    ensures { IfOk result (λ text. text.items ≡ 79 ∷ encode_lower bytes.now) }
+{
+    let digits = hex_bytes(alloc, bytes)?;
+    let mut text = Vec::new(alloc);
+    text.push(b'O')?;
+    text.extend_from_slice(digits.as_slice())?;
+    Ok(text)
+}
+
+/// A part of a document, so many bytes from an offset on at most: `m` before a part that more follow, `l` before the
+/// last.
+///
+/// # Errors
+///
+/// [`AllocError`] if the host has too little memory.
+pub fn part(alloc: Global, document: &[u8], offset: u64, length: u64) -> Result<Vec<u8>, AllocError>
+    ensures { IfOk result (λ text. text.items ≡ meant.part_of document.now offset length) }
+{
+    let begin = offset.min(document.len() as u64) as usize;
+    let rest = &document[begin..];
+    let mut text = Vec::new(alloc);
+    if length < rest.len() as u64 {
+        text.push(b'm')?;
+        text.extend_from_slice(&rest[..length as usize])?;
+    } else {
+        text.push(b'l')?;
+        text.extend_from_slice(rest)?;
+    }
+    Ok(text)
+}
+
+/// The refusal of this number: `E` and two digits.
+///
+/// # Errors
+///
+/// [`AllocError`] if the host has too little memory.
+pub fn refusal(alloc: Global, number: u8) -> Result<Vec<u8>, AllocError>
+    ensures { IfOk result (λ text. text.items ≡ meant.refusal number) }
+{
+    let mut text = Vec::new(alloc);
+    text.push(b'E')?;
+    push_byte(&mut text, number)?;
+    Ok(text)
+}
+
+/// The current thread.
+///
+/// # Errors
+///
+/// [`AllocError`] if the host has too little memory.
+pub fn current_thread(alloc: Global, thread: u64) -> Result<Vec<u8>, AllocError>
+    ensures { IfOk result (λ text. text.items ≡ meant.current_thread thread) }
+{
+    let mut text = Vec::new(alloc);
+    text.push(b'Q')?;
+    text.push(b'C')?;
+    push_number(&mut text, thread)?;
+    Ok(text)
+}
+
+/// Adds one thread more to a list.
+fn push_thread(text: &mut Vec<u8>, thread: u64) -> Result<(), AllocError>
+    ensures { OnOk result (text.new.items ≡ text.old.items ++ meant.one_more thread) }
+{
+    text.push(b',')?;
+    push_number(text, thread)
+}
+
+/// Threads, with `m` before them; `l`, which ends a list, if there is none.
+///
+/// # Errors
+///
+/// [`AllocError`] if the host has too little memory.
+pub fn thread_list(alloc: Global, threads: &[u64]) -> Result<Vec<u8>, AllocError>
+    ensures { IfOk result (λ text. text.items ≡ meant.thread_list threads.now) }
+{
+    let mut text = Vec::new(alloc);
+    let Some((first, others)) = threads.split_first() else {
+        text.push(b'l')?;
+        return Ok(text);
+    };
+    text.push(b'm')?;
+    push_number(&mut text, *first)?;
+    for thread in others {
+        push_thread(&mut text, *thread)?;
+    }
+    Ok(text)
+}
+
+/// The number of the signal that tells a reason (GDB's own numbers, `include/gdb/signals.def`).
+fn signal_number(reason: StopReason) -> u8
+    ensures { result ≡ meant.signal_number reason }
+{
+    match reason {
+        StopReason::Interrupt => 2,
+        StopReason::Illegal => 4,
+        StopReason::Misaligned => 10,
+        StopReason::Segmentation => 11,
+        StopReason::Trap | StopReason::Watch(_) | StopReason::Begin | StopReason::End => 5,
+    }
+}
+
+/// Adds what tells of a stop beside its signal and its thread.
+fn push_note(text: &mut Vec<u8>, reason: StopReason) -> Result<(), AllocError>
+    ensures { OnOk result (text.new.items ≡ text.old.items ++ meant.stop_note reason) }
+{
+    match reason {
+        StopReason::Watch(address) => {
+            text.extend_from_slice(b"watch:")?;
+            push_number(text, address)?;
+            text.extend_from_slice(b";")
+        }
+        StopReason::Begin => text.extend_from_slice(b"replaylog:begin;"),
+        StopReason::End => text.extend_from_slice(b"replaylog:end;"),
+        StopReason::Trap
+        | StopReason::Interrupt
+        | StopReason::Illegal
+        | StopReason::Segmentation
+        | StopReason::Misaligned => Ok(()),
+    }
+}
+
+/// A stop: its signal, what else is told of it, and its thread.
+///
+/// # Errors
+///
+/// [`AllocError`] if the host has too little memory.
+pub fn stop_reply(alloc: Global, stop: Stop) -> Result<Vec<u8>, AllocError>
+    ensures { IfOk result (λ text. text.items ≡ meant.stop_reply stop) }
+{
+    let mut text = Vec::new(alloc);
+    text.push(b'T')?;
+    push_byte(&mut text, signal_number(stop.reason))?;
+    push_note(&mut text, stop.reason)?;
+    text.extend_from_slice(b"thread:")?;
+    push_number(&mut text, stop.thread)?;
+    text.extend_from_slice(b";")?;
+    Ok(text)
+}
+
+/// The end of the program, with the low byte of its status: `W` and two digits.
+///
+/// # Errors
+///
+/// [`AllocError`] if the host has too little memory.
+pub fn exited(alloc: Global, status: u8) -> Result<Vec<u8>, AllocError>
+    ensures { IfOk result (λ text. text.items ≡ meant.exited status) }
+{
+    let mut text = Vec::new(alloc);
+    text.push(b'W')?;
+    push_byte(&mut text, status)?;
+    Ok(text)
+}

@@ -1,0 +1,361 @@
+//! What a packet asks for (GDB manual, "Packets").
+ghost use Rattle.std.specs.Prelude.{◌≡◌, true, false};
+ghost use Rattle.gdb_packets.specs.Commands as meant;
+ghost use Rattle.gdb_packets.specs.Digits as digits;
+
+use crate::number::{before, behind, number, two_numbers};
+use crate::query::{Document, query};
+
+/// Which threads are meant.
+#[derive(Clone, Copy, Debug, PartialEq, Eq)]
+pub enum Thread {
+    /// `-1`.
+    All,
+    /// `0`: whichever it is.
+    Any,
+    /// The one of this number.
+    One(u64),
+}
+
+/// How the program goes on.
+#[derive(Clone, Copy, Debug, PartialEq, Eq)]
+pub enum Resume {
+    /// Until something stops it.
+    Continue,
+    /// Until a thread has done an instruction. `Any` is the one that was chosen by [`Command::Choose`].
+    Step(Thread),
+}
+
+/// What the program stops at.
+#[derive(Clone, Copy, Debug, PartialEq, Eq)]
+pub enum Point {
+    /// An instruction that is about to be done (types 0 and 1).
+    Breakpoint,
+    /// Bytes that became others (type 2).
+    Watchpoint,
+}
+
+/// What is asked for.
+#[derive(Clone, Copy, Debug, PartialEq, Eq)]
+pub enum Command {
+    /// `?`: why the program stands.
+    Reason,
+    /// `g`: all registers of the thread that was chosen.
+    Registers,
+    /// `p`: the register of this number.
+    Register(u64),
+    /// `m`: so many bytes from an address on.
+    Memory {
+        address: u64,
+        length: u64,
+    },
+    /// `G`, `P`, `M`, `X`: to change registers or memory.
+    Change,
+    /// `vCont?`: how the program may go on.
+    ResumeKinds,
+    /// `vCont`, `c`, `s`, `C`, `S`: to go on.
+    Resume(Resume),
+    /// `bs`: back to before the last instruction.
+    ReverseStep,
+    /// `bc`: back to the last place that stops the program.
+    ReverseContinue,
+    /// `Z`: to stop at this point.
+    Insert {
+        point: Point,
+        address: u64,
+        length: u64,
+    },
+    /// `z`: to stop there no more.
+    Remove {
+        point: Point,
+        address: u64,
+        length: u64,
+    },
+    /// `Hg`, `Hc`: which thread the next commands mean; `resumes` is set for those that go on (`Hc`).
+    Choose {
+        thread: Thread,
+        resumes: bool,
+    },
+    /// `T`: whether the thread lives.
+    IsAlive(Thread),
+    /// `qC`: the current thread.
+    CurrentThread,
+    /// `qfThreadInfo`: the threads, the first part of them.
+    FirstThreads,
+    /// `qsThreadInfo`: the next part of them.
+    MoreThreads,
+    /// `qThreadExtraInfo`: a thread in words.
+    ThreadInfo(Thread),
+    /// `qSupported`: what is understood.
+    Supported,
+    /// `qXfer`: so many bytes of a document, from an offset on.
+    Part {
+        document: Document,
+        offset: u64,
+        length: u64,
+    },
+    /// `qOffsets`: how far the program's sections were moved.
+    Offsets,
+    /// `qAttached`: whether the program was there before.
+    Attached,
+    /// `QStartNoAckMode`: no acknowledgement from now on.
+    NoAcks,
+    /// `k`: the end of the program.
+    Kill,
+    /// `D`: the end of the debugging.
+    Detach,
+    /// One of these, whose text isn't right.
+    Malformed,
+    /// Nothing that is understood.
+    Unknown,
+}
+
+/// The threads that a text names.
+pub(crate) fn parse_thread(text: &[u8]) -> Option<Thread>
+    ensures { result ≡ meant.thread_of text.now }
+{
+    if text == b"-1".as_slice() {
+        return Some(Thread::All);
+    }
+    let number = number(text)?;
+    if number == 0 {
+        return Some(Thread::Any);
+    }
+    Some(Thread::One(number))
+}
+
+/// What `p` asks for.
+fn register(text: &[u8]) -> Command
+    ensures { result ≡ meant.register (digits.number text.now) }
+{
+    match number(text) {
+        Some(place) => Command::Register(place),
+        None => Command::Malformed,
+    }
+}
+
+/// What `m` asks for.
+fn memory(text: &[u8]) -> Command
+    ensures { result ≡ meant.memory (meant.two_numbers text.now) }
+{
+    match two_numbers(text) {
+        Some(numbers) => Command::Memory {
+            address: numbers.first,
+            length: numbers.second,
+        },
+        None => Command::Malformed,
+    }
+}
+
+/// What `T` asks for.
+fn is_alive(text: &[u8]) -> Command
+    ensures { result ≡ meant.is_alive (meant.thread_of text.now) }
+{
+    match parse_thread(text) {
+        Some(thread) => Command::IsAlive(thread),
+        None => Command::Malformed,
+    }
+}
+
+/// The choice of a thread.
+fn chosen(text: &[u8], resumes: bool) -> Command
+    ensures { result ≡ meant.chosen resumes (meant.thread_of text.now) }
+{
+    match parse_thread(text) {
+        Some(thread) => Command::Choose { thread, resumes },
+        None => Command::Malformed,
+    }
+}
+
+/// What `H` asks for.
+fn choose(text: &[u8]) -> Command
+    ensures { result ≡ meant.choose text.now }
+{
+    let Some((operation, text)) = text.split_first() else {
+        return Command::Malformed;
+    };
+    match *operation {
+        b'c' => chosen(text, true),
+        b'g' => chosen(text, false),
+        _ => Command::Malformed,
+    }
+}
+
+/// What `c` and `s` ask for: to go on elsewhere, at an address, would change a register.
+fn resume_here(text: &[u8], resume: Resume) -> Command
+    ensures { result ≡ meant.resume_here text.now resume }
+{
+    if text.is_empty() {
+        Command::Resume(resume)
+    } else {
+        Command::Change
+    }
+}
+
+/// What `C` and `S` ask for: no signal can be given to a process, so it is left out.
+fn resume_by_signal(text: &[u8], resume: Resume) -> Command
+    ensures { result ≡ meant.by_signal (digits.number text.now) resume }
+{
+    match number(text) {
+        Some(_signal) => Command::Resume(resume),
+        None => Command::Change,
+    }
+}
+
+/// The threads that an action of `vCont` is for: all, if it names none.
+fn action_thread(action: &[u8]) -> Option<Thread>
+    ensures { result ≡ meant.acting (meant.behind 58 action.now) }
+{
+    match behind(action, b':') {
+        Some(text) => parse_thread(text),
+        None => Some(Thread::All),
+    }
+}
+
+/// What the first action of `vCont` asks for. The others say what other threads do: they go on.
+fn action(text: &[u8]) -> Command
+    ensures { result ≡ meant.action text.now }
+{
+    let first = before(text, b';');
+    let Some((kind, _thread)) = first.split_first() else {
+        return Command::Malformed;
+    };
+    let Some(thread) = action_thread(first) else {
+        return Command::Malformed;
+    };
+    match *kind {
+        b'c' | b'C' => Command::Resume(Resume::Continue),
+        b's' | b'S' => Command::Resume(Resume::Step(thread)),
+        _ => Command::Malformed,
+    }
+}
+
+/// What a packet asks for that begins with `v`.
+fn long_named(text: &[u8]) -> Command
+    ensures { result ≡ meant.long_named text.now }
+{
+    if text == b"Cont?".as_slice() {
+        return Command::ResumeKinds;
+    }
+    match text.strip_prefix(b"Cont;".as_slice()) {
+        Some(actions) => action(actions),
+        None => Command::Unknown,
+    }
+}
+
+/// The point that a type stands for.
+fn point_of(kind: &[u8]) -> Option<Point>
+    ensures { result ≡ meant.point_of kind.now }
+{
+    if (kind == b"0".as_slice()) | (kind == b"1".as_slice()) {
+        Some(Point::Breakpoint)
+    } else if kind == b"2".as_slice() {
+        Some(Point::Watchpoint)
+    } else {
+        None
+    }
+}
+
+/// What `Z` and `z` ask for.
+fn parse_point(text: &[u8], inserts: bool) -> Command
+    ensures { result ≡ meant.point inserts text.now }
+{
+    let Some(place) = behind(text, b',') else {
+        return Command::Malformed;
+    };
+    let Some(numbers) = two_numbers(place) else {
+        return Command::Malformed;
+    };
+    let Some(point) = point_of(before(text, b',')) else {
+        return Command::Unknown;
+    };
+    let address = numbers.first;
+    let length = numbers.second;
+    if inserts {
+        Command::Insert {
+            point,
+            address,
+            length,
+        }
+    } else {
+        Command::Remove {
+            point,
+            address,
+            length,
+        }
+    }
+}
+
+/// What a packet asks for that begins with `b`.
+fn backwards(text: &[u8]) -> Command
+    ensures { result ≡ meant.backwards text.now }
+{
+    if text == b"s".as_slice() {
+        Command::ReverseStep
+    } else if text == b"c".as_slice() {
+        Command::ReverseContinue
+    } else {
+        Command::Unknown
+    }
+}
+
+/// What `Q` asks for.
+fn setting(text: &[u8]) -> Command
+    ensures { result ≡ meant.setting text.now }
+{
+    if text == b"StartNoAckMode".as_slice() {
+        Command::NoAcks
+    } else {
+        Command::Unknown
+    }
+}
+
+/// What a packet asks for by which the program goes on or back.
+fn going(name: u8, text: &[u8]) -> Command
+    ensures { result ≡ meant.going name text.now }
+{
+    match name {
+        b'v' => long_named(text),
+        b'c' => resume_here(text, Resume::Continue),
+        b's' => resume_here(text, Resume::Step(Thread::Any)),
+        b'C' => resume_by_signal(text, Resume::Continue),
+        b'S' => resume_by_signal(text, Resume::Step(Thread::Any)),
+        b'b' => backwards(text),
+        _ => Command::Unknown,
+    }
+}
+
+/// What a packet asks for that shows no registers or memory, and would change none.
+fn other(name: u8, text: &[u8]) -> Command
+    ensures { result ≡ meant.others name text.now }
+{
+    match name {
+        b'Z' => parse_point(text, true),
+        b'z' => parse_point(text, false),
+        b'H' => choose(text),
+        b'T' => is_alive(text),
+        b'q' => query(text),
+        b'Q' => setting(text),
+        b'k' => Command::Kill,
+        b'D' => Command::Detach,
+        _ => going(name, text),
+    }
+}
+
+/// What a packet asks for, by its payload. Any payload is answered: one that isn't understood is
+/// [`Command::Unknown`], and one whose text isn't right is [`Command::Malformed`].
+pub fn parse(payload: &[u8]) -> Command
+    ensures { result ≡ meant.asked payload.now }
+{
+    let Some((name, text)) = payload.split_first() else {
+        return Command::Unknown;
+    };
+    match *name {
+        b'?' => Command::Reason,
+        b'g' => Command::Registers,
+        b'p' => register(text),
+        b'm' => memory(text),
+        b'G' | b'P' | b'M' | b'X' => Command::Change,
+        _ => other(*name, text),
+    }
+}

@@ -1,0 +1,87 @@
+//! What general queries ask for (GDB manual, "General Query Packets").
+ghost use Rattle.std.specs.Prelude.{◌≡◌};
+ghost use Rattle.gdb_packets.specs.Commands as meant;
+
+use crate::command::{Command, parse_thread};
+use crate::number::{before, behind, two_numbers};
+
+/// A document that a part is read of (`qXfer`).
+#[derive(Clone, Copy, Debug, PartialEq, Eq)]
+pub enum Document {
+    /// `features`, annex `target.xml`: the registers.
+    Registers,
+    /// `exec-file`: the path of the program's file.
+    File,
+}
+
+/// The request for a part of a document: its offset and its length.
+fn part(document: Document, text: &[u8]) -> Command
+    ensures { result ≡ meant.part document (meant.two_numbers text.now) }
+{
+    match two_numbers(text) {
+        Some(numbers) => Command::Part {
+            document,
+            offset: numbers.first,
+            length: numbers.second,
+        },
+        None => Command::Malformed,
+    }
+}
+
+/// The request for a part of the path of the program's file: a process, if one is named, and then the part.
+fn file_part(text: &[u8]) -> Command
+    ensures { result ≡ meant.file_part (meant.behind 58 text.now) }
+{
+    match behind(text, b':') {
+        Some(text) => part(Document::File, text),
+        None => Command::Malformed,
+    }
+}
+
+/// A thread in words.
+fn thread_info(text: &[u8]) -> Command
+    ensures { result ≡ meant.thread_info (meant.thread_of text.now) }
+{
+    match parse_thread(text) {
+        Some(thread) => Command::ThreadInfo(thread),
+        None => Command::Malformed,
+    }
+}
+
+/// A query that has something behind its name.
+fn long_query(text: &[u8]) -> Command
+    ensures { result ≡ meant.long_query text.now }
+{
+    if let Some(rest) = text.strip_prefix(b"ThreadExtraInfo,".as_slice()) {
+        return thread_info(rest);
+    }
+    if let Some(rest) = text.strip_prefix(b"Xfer:features:read:target.xml:".as_slice()) {
+        return part(Document::Registers, rest);
+    }
+    if let Some(rest) = text.strip_prefix(b"Xfer:exec-file:read:".as_slice()) {
+        return file_part(rest);
+    }
+    Command::Unknown
+}
+
+/// What a query asks for: the payload behind its `q`.
+pub(crate) fn query(text: &[u8]) -> Command
+    ensures { result ≡ meant.query text.now }
+{
+    let name = before(text, b':');
+    if name == b"Supported".as_slice() {
+        Command::Supported
+    } else if name == b"Attached".as_slice() {
+        Command::Attached
+    } else if name == b"C".as_slice() {
+        Command::CurrentThread
+    } else if name == b"fThreadInfo".as_slice() {
+        Command::FirstThreads
+    } else if name == b"sThreadInfo".as_slice() {
+        Command::MoreThreads
+    } else if name == b"Offsets".as_slice() {
+        Command::Offsets
+    } else {
+        long_query(text)
+    }
+}
