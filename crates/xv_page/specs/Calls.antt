@@ -1,0 +1,73 @@
+-- What the calls leave that change a session.
+use Rattle.std.specs.Prelude.{◌≡◌, ℕ, Bool, false, List, Option, None, Some}
+use Rattle.kernel_spec.specs.runs.Run as runs
+use Rattle.kernel_spec.specs.runs.Run.{bytes_out}
+use Rattle.xv_session.specs.Answers.{Sent, RunsSent, Found, WentBack}
+use Rattle.xv_session.specs.Recorded.{Recorded, IsRecorded}
+use Rattle.xv_session.specs.declared.until.Condition.{Condition}
+use Rattle.xv_page.specs.Told.{told_of, runs_told, laid}
+use Rattle.xv_page.specs.declared.answers.Answer.{Answer}
+use Rattle.xv_page.specs.declared.answers.Answer.TheVariants.{Done, NotBooted, Memory, Full, NoCondition}
+use Rattle.xv_page.specs.declared.outcomes.Told.{Told}
+use Rattle.xv_page.specs.declared.outcomes.RunsTold.{RunsTold}
+
+-- Said of a call's answer and of the session before and after it. If there was none, the call says so, there still is none, and what is told stays as it was
+abbrev pub OnSession : (untold : Type 0) → (Answer → Recorded → Recorded → Type 0) → Answer → (old new : Option Recorded) → Type 0
+OnSession untold P answer None new = (answer ≡ NotBooted) × (new ≡ None) × untold
+OnSession untold P answer (Some s) None = ⊥
+OnSession untold P answer (Some s) (Some t) = P answer s t
+
+-- nothing is changed, and nothing told
+abbrev pub Unchanged : {A : Type 0} → (before told : A) → (old new : Recorded) → Type 0
+Unchanged before told old new = (new ≡ old) × (told ≡ before)
+
+-- the event was sent: what came of it is what the machine promises; it is told, and the bytes that it shows are laid into the room
+pub record EventDone (e : runs.Event) (before after : Told × List ℕ) (old new : Recorded) : Type 0 where
+  pub outcome : runs.Outcome
+  pub sent : Sent old e outcome new
+  pub is_told : after.0 ≡ told_of outcome
+  pub is_shown : after.1 ≡ laid (bytes_out outcome) before.1
+
+abbrev pub EventSent : runs.Event → (before after : Told × List ℕ) → Answer → (old new : Recorded) → Type 0
+EventSent e before after Done old new = EventDone e before after old new
+EventSent e before after Memory old new = Unchanged before after old new
+EventSent e before after Full old new = Unchanged before after old new
+EventSent e before after NotBooted old new = ⊥
+EventSent e before after NoCondition old new = ⊥
+
+-- so many Runs were sent as are told, and this came of the last
+pub record RunDone (most : ℕ) (told : RunsTold) (old new : Recorded) : Type 0 where
+  pub last : Option runs.Outcome
+  pub sent : RunsSent most told.sent last old new
+  pub is_told : told ≡ runs_told told.sent false last
+
+abbrev pub RunSent : (most : ℕ) → (before told : RunsTold) → Answer → (old new : Recorded) → Type 0
+RunSent most before told Done old new = RunDone most told old new
+RunSent most before told Memory old new = Unchanged before told old new
+RunSent most before told Full old new = Unchanged before told old new
+RunSent most before told NotBooted old new = ⊥
+RunSent most before told NoCondition old new = ⊥
+
+-- so many Runs were sent as are told, up to the first that is what is waited for
+pub record SearchDone (most : ℕ) (wanted : Option Condition) (told : RunsTold) (old new : Recorded) : Type 0 where
+  pub condition : Condition
+  pub is_wanted : wanted ≡ Some condition
+  pub met : Bool
+  pub last : Option runs.Outcome
+  pub found : Found condition most told.sent met last old new
+  pub is_told : told ≡ runs_told told.sent met last
+
+abbrev pub Searched : (most : ℕ) → (wanted : Option Condition) → (before told : RunsTold) → Answer → (old new : Recorded) → Type 0
+Searched most wanted before told Done old new = SearchDone most wanted told old new
+Searched most wanted before told NoCondition old new = (wanted ≡ None) × Unchanged before told old new
+Searched most wanted before told Memory old new = Unchanged before told old new
+Searched most wanted before told Full old new = Unchanged before told old new
+Searched most wanted before told NotBooted old new = ⊥
+
+-- the machine is the one that the first events led to, and these are all that it has got
+abbrev pub IsBack : (place : ℕ) → Answer → (old new : Recorded) → Type 0
+IsBack place Done old new = WentBack place old new × IsRecorded new
+IsBack place Memory old new = new ≡ old
+IsBack place Full old new = new ≡ old
+IsBack place NotBooted old new = ⊥
+IsBack place NoCondition old new = ⊥

@@ -1,0 +1,6 @@
+pub mod Named
+pub mod Told
+pub mod Observed
+pub mod Booting
+pub mod Calls
+pub mod Texts

@@ -1,0 +1,64 @@
+-- What the host's numbers name.
+use Rattle.std.specs.Prelude.{ℕ, ◌+◌, pos, Option, None, Some, nat_eq, nat_lt, nat_le, if◌then◌else◌}
+use Rattle.xk_base.specs.declared.limits.TheConstants.{PID_MAX, VPN_END, NOFILE, FRAMES_MAX}
+use Rattle.console_core.specs.declared.rings.ConsoleList.{ConsoleList}
+use Rattle.console_core.specs.declared.rings.ConsoleList.TheVariants.{Committed, Uncommitted, ToSend}
+use Rattle.kernel_spec.specs.runs.Run as runs
+use Rattle.xv_session.specs.declared.until.Condition.{Condition}
+use Rattle.xv_session.specs.declared.until.Condition.TheVariants as conditions
+
+-- a number below a limit
+abbrev pub below : ℕ → ℕ → Option ℕ
+below limit number = if nat_lt number limit then Some number else None
+
+-- the pid of this number: pids begin at 1
+abbrev pub pid_named : ℕ → Option ℕ
+pid_named number = if nat_eq number 0 then None else below (PID_MAX + 1) number
+
+abbrev pub page_named : ℕ → Option ℕ
+page_named number = below VPN_END number
+
+abbrev pub descriptor_named : ℕ → Option ℕ
+descriptor_named number = below NOFILE number
+
+abbrev pub frame_named : ℕ → Option ℕ
+frame_named number = below FRAMES_MAX number
+
+-- what is found under a name, if the number is one
+abbrev pub of_one : {A : Type 0} → (ℕ → Option A) → Option ℕ → Option A
+of_one find None = None
+of_one find (Some name) = find name
+
+-- the same under two names
+abbrev pub of_two : {A : Type 0} → (ℕ → ℕ → Option A) → Option ℕ → Option ℕ → Option A
+of_two find None second = None
+of_two find (Some first) second = of_one (find first) second
+
+-- 0 what was typed and may be read, 1 what may still be taken back, else what waits to be sent
+abbrev pub list_named : ℕ → ConsoleList
+list_named number = if nat_eq number 0 then Committed else (if nat_eq number 1 then Uncommitted else ToSend)
+
+-- 0 Run, 1 Tick, 2 the key of this byte, else Send
+abbrev pub event_named : (kind byte : ℕ) → runs.Event
+event_named kind byte = if nat_eq kind 0 then runs.Run else (if nat_eq kind 1 then runs.Tick else (if nat_eq kind 2 then runs.Key byte else runs.Send))
+
+-- ---- what may be waited for
+
+-- the kernel call of this number, which is an `int`
+abbrev pub call_named : ℕ → Option Condition
+call_named number = if nat_le number 2147483647 then Some (conditions.Call (pos number)) else None
+
+-- a step of a process
+abbrev pub step_wanted : Option ℕ → Option Condition
+step_wanted None = None
+step_wanted (Some pid) = Some (conditions.StepOf pid)
+
+-- a process at an address
+abbrev pub place_wanted : (pc : ℕ) → Option ℕ → Option Condition
+place_wanted pc None = None
+place_wanted pc (Some pid) = Some (conditions.At pid pc)
+
+-- 0 a step of the process, 1 the call of this number, 2 the process at this address, 3 a fault, 4 a store to this address, else an exit
+abbrev pub condition_named : (kind pid number : ℕ) → Option Condition
+condition_named kind pid number =
+    if nat_eq kind 0 then step_wanted (pid_named pid) else (if nat_eq kind 1 then call_named number else (if nat_eq kind 2 then place_wanted number (pid_named pid) else (if nat_eq kind 3 then Some conditions.Fault else (if nat_eq kind 4 then Some (conditions.StoreTo number) else Some conditions.Exit))))

@@ -1,0 +1,92 @@
+//! The one export of the library, from which each call is reached.
+use crate::booting::{BootTold, xv_page_add, xv_page_boot, xv_page_drop};
+use crate::outcomes::{RunsTold, Told};
+use crate::reading::{
+    xv_page_address, xv_page_byte, xv_page_console, xv_page_descriptor, xv_page_facts,
+    xv_page_frame, xv_page_note, xv_page_pipe, xv_page_pipe_byte, xv_page_process, xv_page_program,
+    xv_page_register, xv_page_rights, xv_page_size, xv_page_slot, xv_page_use,
+};
+use crate::texts::{Assembled, xv_page_assemble, xv_page_instruction};
+use crate::views::{Facts, descriptor_told, pipe_told, process_told, use_told, word_told};
+use crate::writing::{xv_page_back, xv_page_event, xv_page_run, xv_page_until};
+use std::alloc::Global;
+use xk_base::Program;
+use xv_session::Session;
+
+/// Makes each call that changes a session.
+fn change(alloc: Global, session: &mut Option<Box<Session>>, number: u32, bytes: &mut [u8]) {
+    let mut programs: Option<Box<Vec<Program>>> = None;
+    let mut boot = BootTold {
+        kind: 0,
+        cause: 0,
+        place: 0,
+    };
+    let mut told = Told::new();
+    let mut runs = RunsTold {
+        sent: 0,
+        met: 0,
+        has_last: 0,
+        last: told,
+    };
+    xv_page_add(alloc, &mut programs, b"init", b"");
+    xv_page_boot(alloc, session, &mut programs, number, number, &mut boot);
+    xv_page_event(session, number, 7, &mut told, bytes);
+    xv_page_run(session, number, &mut runs);
+    xv_page_until(session, number, number, number, 7, &mut runs);
+    xv_page_back(alloc, session, 7);
+}
+
+/// Makes each call that tells of a process.
+fn look_at_process(session: &Option<Box<Session>>, number: u32) {
+    let mut process = process_told(None);
+    let mut word = word_told(None);
+    let mut descriptor = descriptor_told(None);
+    let mut rights = 0;
+    xv_page_slot(session, 7, &mut word);
+    xv_page_process(session, number, &mut process);
+    xv_page_size(session, number, &mut word);
+    xv_page_register(session, number, 7, &mut word);
+    xv_page_byte(session, number, 7, &mut word);
+    xv_page_rights(session, number, number, &mut rights);
+    xv_page_frame(session, number, number, &mut word);
+    xv_page_descriptor(session, number, 7, &mut descriptor);
+    xv_page_address(session, number, &mut word);
+    xv_page_program(session, number, &mut word);
+}
+
+/// Makes each call that tells of the machine.
+fn look(session: &Option<Box<Session>>, number: u32) {
+    let mut facts = Facts {
+        at: 0,
+        free: 0,
+        current: 0,
+        halted: 0,
+        status: 0,
+        clock: 0,
+        notes: 0,
+    };
+    let mut word = word_told(None);
+    let mut pipe = pipe_told(None);
+    let mut note = Told::new();
+    let mut frame_use = use_told(None);
+    xv_page_facts(session, &mut facts);
+    xv_page_pipe(session, number, &mut pipe);
+    xv_page_pipe_byte(session, number, 7, &mut word);
+    xv_page_console(session, number, 7, &mut word);
+    xv_page_note(session, 7, &mut note);
+    xv_page_use(session, number, &mut frame_use);
+}
+
+/// Makes each call once: so the library has them all. The host calls them by themselves, and never this one.
+#[unsafe(no_mangle)]
+pub extern "C" fn xv_page_root(alloc: Global, block: &[u8], bytes: &mut [u8]) {
+    let mut session: Option<Box<Session>> = None;
+    let number = if block.is_empty() { 1 } else { 16 };
+    change(alloc, &mut session, number, bytes);
+    look_at_process(&session, number);
+    look(&session, number);
+    xv_page_drop(&mut session);
+    let mut answer = Assembled { kind: 0, count: 0 };
+    xv_page_assemble(alloc, block, bytes, &mut answer);
+    xv_page_instruction(number, answer.count, bytes);
+}
