@@ -1,0 +1,62 @@
+// A page in a headless Chromium, driven over a pipe by the DevTools protocol: open, type, press, evaluate, picture.
+import { spawn } from "node:child_process";
+import { mkdtempSync, rmSync, writeFileSync } from "node:fs";
+import { tmpdir } from "node:os";
+
+const sleep = (ms) => new Promise((done) => setTimeout(done, ms));
+
+export async function open(url, { width = 1400, height = 900, dark = false, mobile = false } = {}) {
+  const folder = mkdtempSync(tmpdir() + "/look-");
+  const chrome = spawn("chromium", ["--headless=new", "--no-sandbox", "--disable-gpu", "--hide-scrollbars", "--remote-debugging-pipe", `--user-data-dir=${folder}`, `--window-size=${width},${height}`], { stdio: ["ignore", "ignore", "ignore", "pipe", "pipe"] });
+  const [, , , input, output] = chrome.stdio, waiting = new Map(), logs = [];
+  let buffer = "", last = 0, session;
+  output.on("data", (part) => {
+    buffer += part;
+    for (let end; (end = buffer.indexOf("\0")) >= 0; buffer = buffer.slice(end + 1)) {
+      const it = JSON.parse(buffer.slice(0, end));
+      if (it.id) { waiting.get(it.id)(it); waiting.delete(it.id); }
+      else if (it.method === "Runtime.exceptionThrown") logs.push(it.params.exceptionDetails.exception?.description || it.params.exceptionDetails.text);
+      else if (it.method === "Runtime.consoleAPICalled") logs.push(it.params.args.map((arg) => arg.value ?? arg.description).join(" "));
+    }
+  });
+  const send = (method, params = {}) => new Promise((done, fail) => {
+    const id = ++last;
+    waiting.set(id, (it) => (it.error ? fail(new Error(`${method}: ${it.error.message}`)) : done(it.result)));
+    input.write(JSON.stringify({ id, method, params, sessionId: session }) + "\0");
+  });
+  const { targetInfos } = await send("Target.getTargets");
+  session = (await send("Target.attachToTarget", { targetId: targetInfos.find((it) => it.type === "page").targetId, flatten: true })).sessionId;
+  await send("Page.enable");
+  await send("Runtime.enable");
+  await send("Emulation.setDeviceMetricsOverride", { width, height, deviceScaleFactor: mobile ? 2 : 1, mobile });
+  await send("Emulation.setEmulatedMedia", { features: [{ name: "prefers-color-scheme", value: dark ? "dark" : "light" }] });
+  const page = {
+    logs, send, sleep,
+    async go(to) { await send("Page.navigate", { url: to }); await page.until("window.ready === true", 120000).catch((error) => logs.push(error.message)); },
+    async eval(expression) {
+      const { result, exceptionDetails } = await send("Runtime.evaluate", { expression, awaitPromise: true, returnByValue: true });
+      if (exceptionDetails) throw new Error(exceptionDetails.exception?.description || exceptionDetails.text);
+      return result.value;
+    },
+    async until(expression, ms = 40000) {
+      for (const end = Date.now() + ms; Date.now() < end; await sleep(50)) if (await page.eval(`!!(${expression})`)) return;
+      throw new Error(`not so after ${ms} ms: ${expression}`);
+    },
+    async key(key, { shift = false, control = false } = {}) {
+      const special = { Enter: 13, Backspace: 8, Escape: 27, Tab: 9, ArrowLeft: 37, ArrowUp: 38, ArrowRight: 39, ArrowDown: 40, " ": 32 };
+      const modifiers = (control ? 2 : 0) + (shift ? 8 : 0), code = special[key] ?? key.toUpperCase().charCodeAt(0), text = control ? undefined : key === "Enter" ? "\r" : key.length === 1 ? key : undefined;
+      await send("Input.dispatchKeyEvent", { type: text ? "keyDown" : "rawKeyDown", key, text, modifiers, windowsVirtualKeyCode: code });
+      await send("Input.dispatchKeyEvent", { type: "keyUp", key, modifiers, windowsVirtualKeyCode: code });
+    },
+    async type(text) { for (const it of text) await page.key(it === "\n" ? "Enter" : it); },
+    async click(selector) { await page.eval(`document.querySelector(${JSON.stringify(selector)}).click()`); },
+    async picture(path, { full = false } = {}) {
+      const clip = full ? await page.eval("({ x: 0, y: 0, width: innerWidth, height: Math.min(document.documentElement.scrollHeight, 6000), scale: 1 })") : undefined;
+      const { data } = await send("Page.captureScreenshot", { format: "png", captureBeyondViewport: full, ...(clip ? { clip } : {}) });
+      writeFileSync(path, Buffer.from(data, "base64"));
+    },
+    async close() { const gone = new Promise((done) => chrome.once("exit", done)); chrome.kill(); await gone; await sleep(300); try { rmSync(folder, { recursive: true, force: true, maxRetries: 5 }); } catch { /* a child of the browser may still write there */ } },
+  };
+  await page.go(url);
+  return page;
+}

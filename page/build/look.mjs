@@ -1,0 +1,163 @@
+// look.mjs PAGE.html FOLDER: tries the page in Chromium as a student would, and takes pictures of each panel into FOLDER. It
+// ends with the status 1 where something isn't as it should be.
+import { mkdirSync } from "node:fs";
+import { pathToFileURL } from "node:url";
+import { open } from "./browser.mjs";
+
+const [page_file, folder] = process.argv.slice(2), url = pathToFileURL(page_file).href;
+mkdirSync(folder, { recursive: true });
+let bad = 0;
+const holds = (is, what) => { console.log(`${is ? "  " : "NOT"} ${what}`); if (!is) bad++; };
+const screen = (page) => page.eval("document.getElementById('screen').textContent");
+const at = (page) => page.eval("page.app.view.at");
+const shows = (page, text) => page.until(`document.getElementById('screen').textContent.includes(${JSON.stringify(text)})`).then(() => holds(true, `the terminal shows ${JSON.stringify(text)}`), () => holds(false, `the terminal shows ${JSON.stringify(text)}`));
+
+async function session(page) {
+  await page.eval("document.getElementById('screen').focus()");
+  await shows(page, "$ ");
+  for (const [typed, shown] of [["echo hello | wc\n", "1 1 6"], ["cat poem.txt | sort | head -1\n", "Who would sleep"], ["ehco", "ehco"]]) { await page.type(typed); await shows(page, shown); }
+  for (let k = 0; k < 4; k++) await page.key("Backspace");
+  await page.type("echo mended\n");
+  await shows(page, "mended\n");
+  for (const [typed, shown] of [["primes 20\n", "prime 19"], ["pingpong 3\n", "$"], ["crash 13\n", "$"], ["echo a ; echo b\n", "a\nb"], ["grep writer poem.txt\n", "writer"], ["(echo x ; echo y) | wc\n", "2 2 4"], ["lazy\n", "$"], ["sleep 2\n", "$"], ["wc < poem.txt\n", "$"], ["echo one &\n", "one"], ["wait\n", "$"], ["cat nothing\n", "nothing"], ["kill 99\n", "$"], ["echo last | cat | cat | wc\n", "1 1 5"], ["# a remark\n", "$"], ["head -2 poem.txt\n", "should first"]]) { await page.type(typed); await page.sleep(500); await shows(page, shown); }
+  await page.picture(`${folder}/session.png`);
+}
+
+async function time(page) {
+  await page.key("c", { control: true });
+  await page.until("!page.app.view.playing");
+  const end = await at(page);
+  await page.eval("document.getElementById('play').focus()");
+  await page.key("S", { shift: true });
+  await page.until(`page.app.view.at < ${end}`);
+  holds(true, "a step back");
+  for (let k = 0; k < 5; k++) { const before = await at(page); await page.key("C", { shift: true }); await page.until(`page.app.view.at < ${before}`); }
+  const back = await at(page);
+  holds(back < end, `five calls back: from ${end} to ${back}`);
+  await page.key("c");
+  await page.until(`page.app.view.at > ${back}`);
+  holds(true, "a call forward");
+  await page.eval("page.ask('go', { place: Math.floor(page.app.line.end / 3) })");
+  await page.sleep(500);
+  const regs = await page.eval("String(page.app.view.registers)");
+  await page.eval("page.ask('step', { what: 'one', back: false })");
+  await page.sleep(400);
+  await page.eval("page.ask('step', { what: 'one', back: true })");
+  await page.sleep(400);
+  holds((await page.eval("String(page.app.view.registers)")) === regs, "forward and back gives the same registers");
+  await page.picture(`${folder}/past.png`);
+}
+
+async function panels(page, name) {
+  for (const tab of ["instruction", "pages", "opened", "why"]) { await page.eval(`show_tab('${tab}')`); await page.sleep(500); await page.picture(`${folder}/${name}-${tab}.png`, { full: true }); }
+}
+
+async function programs(page) {
+  await page.eval("page.programs.choose('pipeline'); page.programs.boot({ play: false })");
+  await page.until("page.app.booted.files[0].text && page.app.view.at === 0");
+  for (let k = 0; k < 12; k++) { await page.eval("page.ask('step', { what: 'event', back: false })"); await page.sleep(60); }
+  await panels(page, "pipeline");
+  await page.eval("(() => { const it = document.getElementById('source'); it.value = it.value.replace('ecall', 'beqz a0, x'); it.dispatchEvent(new Event('input')); })()");
+  await page.until("document.getElementById('mistake').textContent.includes('UnknownWord')");
+  holds((await page.eval("document.getElementById('mistake').textContent")).includes("beq a0, x0"), "a mistake is told with a hint");
+  await page.picture(`${folder}/mistake.png`);
+}
+
+async function share(page) {
+  await page.eval("page.programs.choose('hello'); page.programs.boot()");
+  await shows(page, "hi\n");
+  const link = await page.eval("page.programs.link()");
+  await page.eval("document.getElementById('share').click()");
+  await page.sleep(400);
+  await page.picture(`${folder}/share.png`);
+  const other = await open(link);
+  await shows(other, "hi\n");
+  holds(true, `a link of ${link.length} characters is followed`);
+  await other.eval("page.programs.take([new File(['  li a0, 7\\n  li a7, 2\\n  ecall\\n'], 'init.s')]).then(() => page.programs.boot())");
+  await other.until("page.app.view.facts.halted && page.app.view.facts.status === 7").catch(() => {});
+  holds(await other.eval("page.app.view.facts.status === 7"), "a dropped source runs");
+  const record = await other.eval("page.programs.record_text()"), end = await other.eval("page.app.line.end");
+  await other.eval("page.ask('go', { place: 0 })");
+  await other.eval(`page.programs.take([new File([${JSON.stringify(record)}], 'run.txt')])`);
+  await other.sleep(600);
+  holds(record.startsWith("xv record 1\nframes 4096\nprogram ") && (await other.eval("page.app.line.end")) === end && (await other.eval("page.app.view.at")) === end, "a record is played again");
+  await other.close();
+}
+
+// What a student answers to each question; an edit of the source, where a program is to be mended; null where it is left out.
+const CLOSES = ["  li s0, 0\n", "  lw a0, -12(sp)\n  li a7, 21\n  ecall\n  li s0, 0\n"];
+const CHAIN = ["  ecall\n  ecall\n  ecall\n  li s0, 1\n", "  li s1, 7\nfork:\n  li a7, 1\n  ecall\n  bne a0, x0, parent\n  addi s1, s1, -1\n  bne s1, x0, fork\nparent:\n  li s0, 1\n"];
+const LESSONS = [["2", "-1", "its load faults", "10"], ["8", "5", "8", CHAIN], ["1", "5", CLOSES], ["51", "55", "55"], ["1 2 3 1 2 3", null, null], ["7", "1 3 2 2 2", "17"]];
+const clicked = (page, k, given) => page.eval(`(() => { const it = document.querySelectorAll('#lessons .ask')[${k}], input = it.querySelector('input:not([type=radio])'); if (input) input.value = ${JSON.stringify(given)}; const radio = [...it.querySelectorAll('input[type=radio]')].find((one) => one.value === ${JSON.stringify(given)}); if (radio) radio.checked = true; it.querySelector('button.main').click(); })()`);
+const typed_over = (page, [from, to]) => page.eval(`(() => { const it = document.getElementById('source'); it.value = it.value.replace(${JSON.stringify(from)}, ${JSON.stringify(to)}); it.dispatchEvent(new Event('input')); })()`);
+
+/** Gives an answer to a question of the open lesson, and tells what the page says. */
+async function answered(page, k, given) {
+  await clicked(page, k, given);
+  const told = `document.querySelectorAll('#lessons .ask')[${k}].querySelector('[role=status]')`;
+  await page.until(`${told}.className !== ''`).catch(() => {});
+  return page.eval(`${told}.textContent`);
+}
+
+async function lessons(page) {
+  for (let lesson = 0; lesson < LESSONS.length; lesson++) {
+    await page.eval(`open_lesson(${lesson})`);
+    await page.sleep(700);
+    for (let k = 0; k < LESSONS[lesson].length; k++) {
+      const given = LESSONS[lesson][k];
+      if (given === null) continue;
+      if (Array.isArray(given)) {
+        holds((await answered(page, k, "")).startsWith("Not so"), `lesson ${lesson + 1}, question ${k + 1}: the program as it is isn't what is asked for`);
+        await typed_over(page, given);
+      }
+      const words = await answered(page, k, Array.isArray(given) ? "" : given);
+      holds(words.startsWith("Right"), `lesson ${lesson + 1}, question ${k + 1}: ${words}`);
+    }
+    await page.picture(`${folder}/lesson${lesson + 1}.png`, { full: true });
+  }
+}
+
+async function speed(page) {
+  const source = "  lui t0, 0x8000\nagain:\n  addi t0, t0, -1\n  bne t0, x0, again\n  li a0, 0\n  li a7, 2\n  ecall\n";
+  await page.eval(`page.programs.set_files([{ name: 'init.s', text: ${JSON.stringify(source)} }]); page.programs.boot({ play: false })`);
+  await page.until("page.app.view.at === 0 && page.app.booted.files.length === 1");
+  await page.eval("page.on('bench', (it) => { window.bench = it; }); page.on('back_bench', (it) => { window.back_bench = it; }); page.ask('bench', { rounds: 10000, quantum: 1000 })");
+  await page.until("window.bench", 60000);
+  const { ms, events } = await page.eval("window.bench");
+  console.log(`   ${events} events in ${ms.toFixed(0)} ms: ${(events / ms / 1000).toFixed(1)} million a second`);
+  await page.eval("page.ask('back_bench', { times: 30 })");
+  await page.until("window.back_bench", 60000);
+  const back = await page.eval("window.back_bench");
+  console.log(`   30 steps back at ${back.at} events: ${(30000 / back.ms).toFixed(1)} a second`);
+}
+
+const page = await open(url, { width: 1400, height: 950 });
+try {
+  const took = await page.eval("window.took");
+  console.log(`   boot ${took.boot.toFixed(0)} ms, shown after ${took.shown.toFixed(0)} ms`);
+  await session(page);
+  await panels(page, "shell");
+  await time(page);
+  await programs(page);
+  await lessons(page);
+  await share(page);
+  await speed(page);
+} catch (error) {
+  holds(false, error.stack);
+  await page.picture(`${folder}/error.png`);
+}
+holds(page.logs.length === 0, `no errors of the page: ${page.logs.join("; ")}`);
+await page.close();
+for (const [name, how] of [["dark", { width: 1400, height: 950, dark: true }], ["phone", { width: 420, height: 860, mobile: true }], ["phone-dark", { width: 420, height: 860, mobile: true, dark: true }]]) {
+  const other = await open(url, how);
+  await shows(other, "$ ");
+  await other.eval("document.getElementById('screen').focus()");
+  await other.type("primes 20\n");
+  await shows(other, "prime 19");
+  await other.picture(`${folder}/${name}.png`, { full: true });
+  await panels(other, name);
+  holds((await other.eval("document.documentElement.scrollWidth <= innerWidth + 1")), `${name}: nothing stands beyond the right edge`);
+  await other.close();
+}
+console.log(bad ? `${bad} not as they should be` : `all is as it should be; pictures in ${folder}`);
+process.exit(bad ? 1 : 0);

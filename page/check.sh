@@ -1,0 +1,21 @@
+#!/bin/bash
+# check.sh [PAGE.html]: plays the stored runs and the sessions of the repository by the module of the page, in Node, and compares; then
+# goes to and fro in a run and compares with the proved `back_to`, and gives the module bad input. It needs node (Debian's
+# nodejs) and python3.
+set -euo pipefail
+cd "$(dirname "$(readlink -f "$0")")"
+command -v node >/dev/null || { echo "check.sh: there is no node: apt-get install nodejs" >&2; exit 1; }
+page=$(readlink -f "${1-nektavoly.html}")
+work=$(mktemp -d) && trap 'rm -rf "$work"' EXIT
+python3 -B build/module_of.py "$page" "$work/page.wasm"
+cat >"$work/xv_run" <<END
+#!/bin/sh
+XV_MODULE=$work/page.wasm exec node $PWD/build/xv_run.mjs "\$@"
+END
+chmod +x "$work/xv_run"
+failed=
+XV_RUN=$work/xv_run ../checks/sessions/run.sh | tail -1 || failed=1
+python3 -B ../checks/stored-runs/run.py "$work/xv_run" | tail -1 || failed=1
+node build/back.mjs "$work/page.wasm" ../programs/bin || failed=1
+node build/bad.mjs "$work/page.wasm" ../programs/bin || failed=1
+[ -z "$failed" ]

@@ -1,0 +1,87 @@
+// What the panels share: the worker, the last view of the machine, the files, and who wants to hear of changes.
+import { Timeline } from "./timeline.mjs";
+
+export const $ = (id) => document.getElementById(id);
+
+export const app = {
+  worker: null,
+  view: null,
+  line: new Timeline(), // what came of the events so far, as the worker has it
+  text: new Uint8Array(0), // the bytes that the console has shown
+  files: [], // {name, text} or {name, bytes}
+  booted: null, // {files: [{name, bytes, text}], config}, of the machine that runs
+  chosen: 0, // the process that is looked at; 0: the one that runs
+  symbols: [], // for each file of the machine, its names of places
+};
+
+const listeners = new Map();
+export function on(what, call) {
+  if (!listeners.has(what)) listeners.set(what, []);
+  listeners.get(what).push(call);
+}
+export function tell(what, it) {
+  for (const call of listeners.get(what) || []) call(it);
+}
+export function ask(what, it = {}) {
+  app.worker.postMessage({ do: what, ...it });
+}
+
+/** Says something to readers of the screen, and in the status line. */
+export function say(text) {
+  $("status").textContent = text;
+}
+
+export function element(name, attributes = {}, ...children) {
+  const made = document.createElement(name);
+  for (const [key, value] of Object.entries(attributes)) {
+    if (key.startsWith("on")) made.addEventListener(key.slice(2), value);
+    else if (value === true) made.setAttribute(key, "");
+    else if (value !== false && value !== null && value !== undefined) made.setAttribute(key, value);
+  }
+  made.append(...children.filter((it) => it !== null && it !== undefined));
+  return made;
+}
+
+export const program_name = (place) => (place === null || place === undefined || !app.booted ? "" : app.booted.files[place]?.name ?? "");
+
+const HUES = [145, 215, 28, 285, 185, 345, 60, 250, 100, 320];
+/** The colour of a process. */
+export function color_of(pid, light = 0) {
+  const dark = document.documentElement.dataset.theme === "dark";
+  return `hsl(${HUES[pid % HUES.length]} ${dark ? 48 : 55}% ${(dark ? 56 : 42) + light}%)`;
+}
+export const style_of = (name) => getComputedStyle(document.documentElement).getPropertyValue(name).trim();
+
+/** A canvas of its size on the screen, cleared; its drawing is in CSS pixels. */
+export function fresh(canvas) {
+  const ratio = devicePixelRatio || 1, width = canvas.clientWidth, height = canvas.clientHeight;
+  if (canvas.width !== Math.round(width * ratio) || canvas.height !== Math.round(height * ratio)) {
+    canvas.width = Math.round(width * ratio);
+    canvas.height = Math.round(height * ratio);
+  }
+  const draw = canvas.getContext("2d");
+  draw.setTransform(ratio, 0, 0, ratio, 0, 0);
+  draw.clearRect(0, 0, width, height);
+  return { draw, width, height };
+}
+
+export const grouped = (number) => Math.round(number).toLocaleString("en");
+export const bytes_words = (count) => (count >= 1 << 20 ? `${+(count / (1 << 20)).toFixed(1)} MiB` : count >= 1024 ? `${+(count / 1024).toFixed(1)} KiB` : `${count} B`);
+
+/** Bytes as text, with what can't be shown as \n or \x07. */
+export function shown_bytes(bytes, most = 400) {
+  let text = "";
+  for (const byte of bytes.subarray(0, most)) text += byte === 10 ? "\\n" : byte === 9 ? "\\t" : byte === 13 ? "\\r" : byte === 92 ? "\\\\" : byte < 32 || byte > 126 ? "\\x" + byte.toString(16).padStart(2, "0") : String.fromCharCode(byte);
+  return text + (bytes.length > most ? " .." : "");
+}
+
+export const base64 = {
+  to(bytes) {
+    let text = "";
+    for (let k = 0; k < bytes.length; k += 8192) text += String.fromCharCode(...bytes.subarray(k, k + 8192));
+    return btoa(text);
+  },
+  of(text) {
+    return Uint8Array.from(atob(text), (it) => it.charCodeAt(0));
+  },
+};

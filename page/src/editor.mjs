@@ -1,0 +1,125 @@
+// The editor of a source: lines with numbers, words coloured, the refused line marked, the line of the pc, and break points
+// beside the lines.
+import { $, app, ask, element, on, tell } from "./app.mjs";
+import { layout_of, parts_of } from "./symbols.mjs";
+import { hint_of } from "./words.mjs";
+
+const state = { file: null, asked: 0, mistake: null, layout: null, pc: null, stops: new Set() };
+
+const escape = (text) => text.replace(/[&<>]/g, (it) => ({ "&": "&amp;", "<": "&lt;", ">": "&gt;" })[it]);
+const REGISTER = /\b(x[12]?\d|x3[01]|zero|ra|sp|gp|tp|t[0-6]|s\d|s1[01]|fp|a[0-7])\b|(-?\b(?:0x[0-9a-fA-F]+|\d+)\b)|("(?:[^"\\]|\\.)*"?)/g;
+
+/** A line with its words coloured. */
+export function coloured(line) {
+  const { label, word, end } = parts_of(line), code = line.slice(0, end), comment = line.slice(end);
+  let rest = code, made = "";
+  if (label) {
+    const at = rest.indexOf(":") + 1;
+    made += `<span class="l">${escape(rest.slice(0, at))}</span>`;
+    rest = rest.slice(at);
+  }
+  if (word) {
+    const at = rest.indexOf(word);
+    made += escape(rest.slice(0, at)) + `<span class="w">${escape(word)}</span>`;
+    rest = rest.slice(at + word.length);
+  }
+  let last = 0;
+  for (const found of rest.matchAll(REGISTER)) {
+    made += escape(rest.slice(last, found.index)) + `<span class="${found[1] ? "r" : found[2] ? "d" : "t"}">${escape(found[0])}</span>`;
+    last = found.index + found[0].length;
+  }
+  return made + escape(rest.slice(last)) + (comment ? `<span class="c">${escape(comment)}</span>` : "");
+}
+
+function draw() {
+  const { file } = state, is_source = file && file.text !== undefined && file.name.endsWith(".s");
+  const lines = $("source").value.split("\n"), bad = state.mistake ? state.mistake.line : 0;
+  $("editor").querySelector(".ink").innerHTML = lines.map((it, k) => `<span class="row${k + 1 === state.pc ? " pc" : ""}${k + 1 === bad ? " bad" : ""}">${(is_source ? coloured(it) : escape(it)) || " "}</span>`).join("");
+  const gutter = $("editor").querySelector(".gutter");
+  const places = new Set(is_source && state.layout ? state.layout.lines.map((it) => it.line) : []);
+  gutter.replaceChildren(...lines.map((_, k) => element("div", { class: [k + 1 === state.pc ? "pc" : "", k + 1 === bad ? "bad" : "", places.has(k + 1) ? "" : "no", state.stops.has(k + 1) ? "stop" : ""].join(" ") }, String(k + 1))));
+  $("source").style.height = "100%";
+}
+
+function assemble() {
+  const { file } = state;
+  if (!file || !file.name.endsWith(".s")) { state.mistake = null; said("", ""); return; }
+  state.asked++;
+  ask("assemble", { text: file.text, id: state.asked });
+}
+
+function said(text, kind) {
+  const it = $("mistake");
+  it.textContent = text;
+  it.className = kind;
+}
+
+/** Shows a file. */
+export function open(file) {
+  state.file = file;
+  state.mistake = null;
+  const is_text = file && file.text !== undefined;
+  $("source").value = is_text ? file.text : file ? `${file.name}: a program file of ${file.bytes.length} bytes, built from C.\n\nIts instructions and functions are shown at the right when it runs.` : "";
+  $("source").readOnly = !is_text;
+  $("editor").classList.toggle("is-binary", !is_text);
+  state.layout = is_text && file.name.endsWith(".s") ? layout_of(file.text) : null;
+  state.pc = null;
+  draw();
+  assemble();
+}
+export const opened = () => state.file;
+
+export function start() {
+  const source = $("source");
+  source.addEventListener("input", () => {
+    if (!state.file || state.file.text === undefined) return;
+    state.file.text = source.value;
+    state.file.changed = true;
+    state.layout = layout_of(source.value);
+    state.pc = null;
+    draw();
+    tell("edited", state.file);
+    clearTimeout(state.timer);
+    state.timer = setTimeout(assemble, 120);
+  });
+  source.addEventListener("keydown", (event) => {
+    if (event.key === "Enter" && (event.ctrlKey || event.metaKey)) { event.preventDefault(); $("boot").click(); }
+    if (event.key === "Escape") $("boot").focus();
+  });
+  $("editor").querySelector(".gutter").addEventListener("click", (event) => {
+    const line = [...event.currentTarget.children].indexOf(event.target) + 1, found = state.layout && state.layout.lines.find((it) => it.line === line);
+    if (found) tell("toggle break", { line, address: found.address, file: state.file });
+  });
+  on("assembled", (it) => {
+    if (it.id !== state.asked) return;
+    state.mistake = it.file ? null : it;
+    if (it.file) said(`assembles: ${it.file.length} bytes`, "good");
+    else {
+      const line = (state.file.text || "").split("\n")[it.line - 1] || "";
+      said(`line ${it.line}: ${it.kind}: ${hint_of(it.kind, line)}`, "bad");
+    }
+    draw();
+  });
+  on("view", () => {
+    const { view, booted } = app;
+    let pc = null;
+    if (view.registers && booted && state.file && state.layout) {
+      const process = view.processes.find((it) => it.pid === view.pid), running = process && booted.files[process.program];
+      if (running && running.from === state.file && running.text === state.file.text) {
+        const found = state.layout.lines.find((it) => view.registers[0] >= it.address && view.registers[0] < it.address + BigInt(4 * it.count));
+        if (found) pc = found.line;
+      }
+    }
+    if (pc === state.pc || (view.playing && pc === null)) return;
+    state.pc = pc;
+    draw();
+    if (pc !== null && !view.playing) {
+      const row = $("editor").querySelectorAll(".ink .row")[pc - 1], box = $("editor");
+      if (row && (row.offsetTop < box.scrollTop || row.offsetTop > box.scrollTop + box.clientHeight - 40)) box.scrollTop = row.offsetTop - box.clientHeight / 2;
+    }
+  });
+  on("breaks", (list) => {
+    state.stops = new Set(list.filter((it) => it.file && it.file === state.file).map((it) => it.line));
+    draw();
+  });
+}

@@ -1,0 +1,223 @@
+// Lessons: a text, a program, and questions. What is right is not written here: the machine runs the program, and tells.
+import { $, app, ask, element, on, say } from "./app.mjs";
+import { KIND } from "./machine.mjs";
+import * as programs from "./programs.mjs";
+
+const DATA = globalThis.PAGE_DATA;
+
+// ---- the machine as a judge
+
+const heard_once = (...names) => new Promise((done) => {
+  let is_open = true;
+  for (const name of names) on(name, (it) => { if (is_open) { is_open = false; done({ name, it }); } });
+});
+
+/** Boots files; null, or the refusal. */
+async function boot(changes = {}) {
+  for (const [name, value] of Object.entries(changes)) $(name).value = value;
+  const heard = heard_once("booted", "refused");
+  if (!(await programs.boot({ play: false }))) return "a source is refused";
+  const { name, it } = await heard;
+  if (name === "refused") return it;
+  await view_where(() => app.view && app.view.at === 0);
+  return null;
+}
+
+function view_where(holds) {
+  return new Promise((done) => {
+    let is_open = true;
+    const look = () => { if (is_open && holds()) { is_open = false; done(app.view); } };
+    on("view", look);
+    look();
+  });
+}
+
+async function finish(rounds = 60) {
+  const heard = heard_once("finished");
+  ask("finish", { rounds });
+  await heard;
+  await view_where(() => app.line.end === app.view.end);
+  return app.view;
+}
+
+async function at(place) {
+  ask("go", { place });
+  return view_where(() => app.view.at === place && !app.view.playing);
+}
+
+/** The machine at its beginning, with what each frame is used for. */
+async function with_frames() {
+  await at(0);
+  ask("look", { panels: { instruction: !$("instruction").hidden, pages: true, files: true } });
+  return view_where(() => app.view.frames && app.view.at === 0);
+}
+
+/** The stretches of the record as {kind, pid, number, value, from, count}. */
+function stretches() {
+  const { line } = app, found = [];
+  for (let k = 0; k < line.length; k++) found.push({ kind: line.kind[k], pid: line.pid[k], number: line.number[k], value: line.value[k], from: line.at[k], count: line.end_of(k) - line.at[k] });
+  return found;
+}
+const calls = (number) => stretches().filter((it) => it.kind === KIND.CALL && it.number === number);
+const ends = (pid) => stretches().find((it) => (it.kind === KIND.EXIT || it.kind === KIND.FAULT) && it.pid === pid);
+const forks = () => calls(1).filter((it) => it.value > 0).map((it) => [it.pid, it.value]);
+
+/** How many frames are in use after each event, up to the end of the record. */
+async function frames_used() {
+  const used = [];
+  for (let place = 0; place <= Math.min(app.line.end, 400); place++) used.push(app.booted.config.frames - (await at(place)).facts.free);
+  return used;
+}
+
+const numbers = (text) => (text.match(/-?\d+/g) || []).map(Number);
+const is_number = (truth) => (given) => numbers(given).length === 1 && numbers(given)[0] === truth;
+const is_list = (truth) => (given) => numbers(given).join(" ") === truth.join(" ");
+
+/**
+ * A question's `judge` answers {right, words}: whether the answer is right, by what the machine did, and what to look at. It is
+ * called after the lesson's program has run to its end, unless `alone`.
+ */
+const LESSONS = [
+  {
+    name: "A trace", example: "trace", how: { rounds: true, quantum: 6 }, page: "machine.md#events-and-outcomes",
+    about: "What a program does to the kernel, event by event.",
+    text: `<p>The program makes two calls that answer, a loop, a call that does not exist, and a load. It runs in rounds: 6 Runs, then a tick, then the terminal takes bytes. The first Run of a process that waits for its turn gives it the turn.</p><p>Read the source at the left (tab Programs), and answer before you run it. Then step through it by <b>event ⇥</b> and watch the registers.</p>`,
+    questions: [
+      { ask: "What does <code>uptime</code> (call 14) answer? It tells how many ticks have passed.", judge: (given) => { const [it] = calls(14); return { right: is_number(it.value)(given), words: `It answers ${it.value}.`, place: it.from + 1 }; } },
+      { ask: "What does call 99 answer, which the kernel does not have?", judge: (given) => { const [it] = calls(99); return { right: is_number(it.value)(given), words: `It answers ${it.value}, and the program goes on.`, place: it.from + 1 }; } },
+      { ask: "How does the program end?", choices: ["it exits with 0", "it exits with 99", "its load faults", "it never ends"], judge: (given) => { const it = ends(1); return { right: given === (it ? (it.kind === KIND.FAULT ? "its load faults" : `it exits with ${it.number}`) : "it never ends"), words: "sp is a multiple of 16, so sp + 2 is no multiple of 4, and lw wants one. The tab Why says it in words.", place: it ? it.from : 0 }; } },
+      { ask: "How many instructions does it make that are no calls and no faults?", judge: (given) => { const truth = stretches().filter((it) => it.kind === KIND.STEP).reduce((sum, it) => sum + it.count, 0); return { right: is_number(truth)(given), words: `${truth}: the loop's two instructions are made three times.` }; } },
+    ],
+  },
+  {
+    name: "A tree of forks", example: "tree", how: { rounds: true, quantum: 1000 }, page: "processes.md",
+    about: "Who is whose child, when each process forks.",
+    text: `<p><code>fork</code> makes a second process with the same memory and registers, but for the answer: 0 in the child, the child's pid in the parent. Both go on behind the call.</p><p>The program calls fork three times in a row, and each child does what is left of that row. Then each waits for all its children, and exits with 1 and the sum of their statuses. Draw the tree on paper first.</p>`,
+    questions: [
+      { ask: "How many processes are there in all, with process 1?", judge: (given) => { const truth = forks().length + 1; return { right: is_number(truth)(given), words: `${truth}: each fork doubles those that go on.` }; } },
+      { ask: "Who is the parent of process 8?", judge: (given) => { const found = forks().find(([, child]) => child === 8); return { right: found && is_number(found[0])(given), words: `Process ${found[0]}. The forks were ${forks().map(([a, b]) => `${a}→${b}`).join(", ")}.` }; } },
+      { ask: "With which status does process 1 exit?", judge: (given) => { const it = ends(1); return { right: is_number(it.number)(given), words: `With ${it.number}: it counts all.`, place: it.from }; } },
+      { ask: "Now change the program so that it makes a chain of eight processes, each the parent of the next.", alone: true, run: true, judge: async () => { const refusal = await boot(); if (refusal) return { right: false, words: refusal }; await finish(200); const made = forks(), right = made.length === 7 && made.every(([parent, child], k) => parent === k + 1 && child === k + 2); return { right, words: right ? "A chain: 1→2, 2→3 up to 7→8." : `The forks of your program are ${made.map(([a, b]) => `${a}→${b}`).join(", ") || "none"}.` }; } },
+    ],
+  },
+  {
+    name: "A pipe that hangs", example: "hang", how: { rounds: true, quantum: 1000 }, page: "pipes.md",
+    about: "Why a reader waits for an end that never comes.",
+    text: `<p>A child writes three bytes into a pipe and ends. Its parent reads until the pipe's end, and then exits with the number of bytes. It never does.</p><p>Run it, look at <b>Descriptors</b> and <b>Why</b>: the end of a pipe comes when no descriptor is left on its write end.</p>`,
+    questions: [
+      { ask: "Which process still holds the write end when nobody runs any more?", judge: (given) => { const holders = [...new Set(app.view.files.descriptors.filter((it) => it.kind === 4).map((it) => it.pid))]; return { right: is_list(holders)(given), words: `Process ${holders.join(" and ")}: the reader itself, so nobody can wake it.` }; } },
+      { ask: "In which call, by its number, does the parent sleep?", judge: (given) => { const it = app.view.processes.find((it) => it.pid === 1); return { right: is_number(it.call.number)(given), words: `In call ${it.call.number}, read.` }; } },
+      { ask: "Mend the program: the parent is to close its write end (call 21, its number lies at sp - 12) behind the fork. It then exits with 3.", alone: true, run: true, judge: async () => { const refusal = await boot(); if (refusal) return { right: false, words: refusal }; const view = await finish(100), right = view.facts.halted && view.facts.status === 3 && calls(21).some((it) => it.pid === 1 && it.value === 0); return { right, words: right ? "Process 1 closed its end, read three bytes and the end, and exited with 3." : view.facts.halted ? `It ended with ${view.facts.status}.` : "It still hangs: look at Why." }; } },
+    ],
+  },
+  {
+    name: "A page table by hand", example: "pages", how: { rounds: true, quantum: 1000 }, page: "address-spaces.md",
+    about: "What a program of 192 KiB costs.",
+    text: `<p>The program has one page of text and 196,608 bytes of data. A page has 4,096 bytes. Behind the data stand a guard page, which user code may not touch, and a page of stack. The page table has three levels: a root, and below it tables of the middle and of the last level, each a frame with 512 entries. A process has one more frame, its trapframe.</p><p>Count first. Then open <b>Page table</b>.</p>`,
+    questions: [
+      { ask: "How many pages does the process have, with guard and stack?", judge: async (given) => { const view = await with_frames(), truth = [...view.frames.kinds].filter((it) => it === 6).length; return { right: is_number(truth)(given), words: `${truth}: 1 of text, 48 of data, the guard page, the stack.` }; } },
+      { ask: "How many frames of RAM are in use before the first instruction?", judge: async (given) => { const view = await at(0), truth = app.booted.config.frames - view.facts.free; return { right: is_number(truth)(given), words: `${truth}: the pages, three tables and the trapframe.` }; } },
+      { ask: "What is the least number of frames with which it boots? The machine tries your number, and one less.", alone: true, judge: async (given) => { const [wanted] = numbers(given); if (!(wanted >= 17 && wanted <= 32768)) return { right: false, words: "A machine has from 16 to 32,768 frames." }; const fits = await boot({ frames: wanted }), less = await boot({ frames: wanted - 1 }); await boot({ frames: 4096 }); return { right: fits === null && less !== null, words: `With ${wanted} frames: ${fits === null ? "it boots" : fits}. With ${wanted - 1}: ${less === null ? "it boots" : less}.` }; } },
+    ],
+  },
+  {
+    name: "Turns", example: "turns", how: { rounds: true, quantum: 500 }, page: "processes.md#ticks-and-turns",
+    about: "Who runs when, in rounds of 500 Runs.",
+    text: `<p>Three processes count down, 2,000 instructions each, and end. A tick comes after each 500 Runs, and the turn goes on to the next process that may run, round by slots.</p><p>Write down the first six turns before you run it. Then look at the picture of turns under <b>Processes</b>.</p>`,
+    questions: [
+      { ask: "The pids of the first six turns, in order:", judge: (given) => { const truth = stretches().filter((it) => it.kind === KIND.TURN).slice(0, 6).map((it) => it.pid); return { right: is_list(truth)(given), words: `${truth.join(" ")}: round by slots.` }; } },
+      { ask: "Which process ends first?", judge: (given) => { const it = stretches().find((it) => it.kind === KIND.EXIT); return { right: is_number(it.pid)(given), words: `Process ${it.pid}, at event ${it.from}.`, place: it.from }; } },
+      { ask: "With 3,000 Runs in a round, how many turns are there in all? (Set it, count in your head: each process needs some 2,000.)", alone: true, judge: async (given) => { await boot({ quantum: 3000 }); await finish(60); const truth = stretches().filter((it) => it.kind === KIND.TURN).length; return { right: is_number(truth)(given), words: `${truth}: ${stretches().filter((it) => it.kind === KIND.TURN).map((it) => it.pid).join(" ")}. Process 1 counts to its end and waits within the first round, and what is left of it goes to the next.` }; } },
+    ],
+  },
+  {
+    name: "Memory that comes when it is touched", example: "lazy course", how: { rounds: true, quantum: 20, frames: 64 }, page: "machine.md#absent-pages",
+    about: "A gigabyte is promised, five pages are touched.",
+    text: `<p><code>sbrklazy</code> (call 22) makes the memory grow, and takes no frame for it. A page comes when it is first touched, with the tables that are missing on the way to it.</p><p>The program is promised a gigabyte, touches five pages that lie far apart, and exits with 5. Step over each touch with <b>Page table</b> open: what is new is marked.</p>`,
+    questions: [
+      { ask: "How many frames are in use before it grows?", judge: async (given) => { const [truth] = await frames_used(); return { right: is_number(truth)(given), words: `${truth}: three pages, three tables, the trapframe.` }; } },
+      { ask: "What does each of the five touches cost, in frames? Five numbers:", judge: async (given) => { const used = await frames_used(), truth = []; for (let k = 1; k < used.length; k++) if (used[k] > used[k - 1]) truth.push(used[k] - used[k - 1]); return { right: is_list(truth)(given), words: `${truth.join(" ")}: the page, and each table that was not there.` }; } },
+      { ask: "With how many frames at least does it exit with 5? The machine tries your number, and one less.", alone: true, judge: async (given) => { const [wanted] = numbers(given); if (!(wanted >= 17 && wanted <= 32768)) return { right: false, words: "A number from 17 on: the machine has 16 frames at least." }; const ends_with = async (frames) => { const refusal = await boot({ frames }); if (refusal) return refusal; const view = await finish(60); return view.facts.halted ? view.facts.status : "no end"; }; const fits = await ends_with(wanted), less = await ends_with(wanted - 1); return { right: fits === 5 && less !== 5, words: `With ${wanted} frames it ends with ${fits}, with ${wanted - 1} with ${less}.` }; } },
+    ],
+  },
+];
+
+// ---- the panel
+
+let chosen = null;
+
+async function load(lesson) {
+  programs.choose(lesson.example);
+  $("order").value = lesson.how.rounds ? "rounds" : "live";
+  $("quantum").value = lesson.how.quantum;
+  $("frames").value = lesson.how.frames || 4096;
+  $("keys").value = "";
+  programs.show_files();
+  return boot();
+}
+
+async function judge(lesson, question, given, told) {
+  told.replaceChildren("the machine runs it ..");
+  told.className = "";
+  try {
+    if (!question.alone) {
+      const refusal = await load(lesson);
+      if (refusal) throw new Error(refusal);
+      await finish();
+    }
+    const { right, words, place } = await question.judge(given);
+    told.className = right ? "right" : "wrong";
+    told.replaceChildren(right ? "Right. " : "Not so. ", words, place === undefined ? "" : " ");
+    if (place !== undefined) told.append(element("button", { onclick: () => ask("go", { place }) }, "See it"));
+    say(right ? "Right" : "Not so");
+    question.done = right || question.done;
+  } catch (error) {
+    told.className = "wrong";
+    told.textContent = String(error.message || error);
+  }
+}
+
+function asked(lesson, question, number) {
+  const told = element("p", { role: "status", "aria-live": "polite" }), name = `question-${number}`;
+  const words = element("p", { id: name });
+  words.innerHTML = question.ask;
+  if (question.run) return element("div", { class: "ask" }, words, element("button", { class: "main", onclick: () => judge(lesson, question, "", told) }, "Try my program"), told);
+  if (question.choices) return element("div", { class: "ask", role: "radiogroup", "aria-labelledby": name }, words, ...question.choices.map((it) => element("label", { style: "display:block" }, element("input", { type: "radio", name, value: it }), ` ${it}`)),
+    element("button", { class: "main", onclick: (event) => judge(lesson, question, event.target.parentElement.querySelector("input:checked")?.value || "", told) }, "Check"), told);
+  const input = element("input", { "aria-labelledby": name, size: 14, autocomplete: "off" });
+  const check = () => judge(lesson, question, input.value, told);
+  input.addEventListener("keydown", (event) => { if (event.key === "Enter") check(); });
+  return element("div", { class: "ask" }, words, input, " ", element("button", { class: "main", onclick: check }, "Check"), told);
+}
+
+function open(lesson) {
+  chosen = lesson;
+  draw();
+  load(lesson);
+  for (const question of lesson.questions) question.done = false;
+}
+
+function draw() {
+  const panel = $("lessons");
+  if (!chosen) {
+    panel.replaceChildren(element("h2", {}, element("span", {}, "Six lessons"), help_button()), element("p", { class: "dim" }, "Each has a program and questions. Answer first; then the machine runs the program and tells whether you were right."), element("div", { class: "list" }, ...LESSONS.map((it, k) => element("button", { onclick: () => open(it) }, `${k + 1}. ${it.name}`, element("small", {}, it.about)))));
+    return;
+  }
+  const text = element("div"), at = LESSONS.indexOf(chosen);
+  text.innerHTML = chosen.text;
+  panel.replaceChildren(element("h2", {}, element("button", { onclick: () => { chosen = null; draw(); } }, "← all lessons"), help_button()), element("h3", {}, `${at + 1}. ${chosen.name}`), text,
+    element("pre", {}, DATA.examples[chosen.example].files[0].text.trimEnd()),
+    element("div", { class: "bar" }, element("button", { onclick: () => load(chosen) }, "Boot it anew"), element("button", { onclick: () => globalThis.show_tab("programs") }, "Edit it")),
+    ...chosen.questions.map((it, k) => asked(chosen, it, k)),
+    element("p", {}, element("a", { href: `../docs/manual/${chosen.page}` }, "The rules, in the manual")),
+    at + 1 < LESSONS.length ? element("button", { onclick: () => open(LESSONS[at + 1]) }, `Next: ${LESSONS[at + 1].name} →`) : element("p", {}, "That was the last one. The course has more exercises."));
+}
+
+function help_button() {
+  return element("button", { class: "help", "aria-label": "Help: lessons", onclick: () => { const body = $("dialog").querySelector("div"); body.innerHTML = DATA.help.Lessons || ""; $("dialog").showModal(); } }, "?");
+}
+
+export function start() {
+  draw();
+  globalThis.open_lesson = (number) => { globalThis.show_tab("lessons"); open(LESSONS[number]); };
+}

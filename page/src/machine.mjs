@@ -1,0 +1,262 @@
+// The machine behind the module xv_page.wasm: numbers and bytes in, numbers and bytes out. It knows nothing of a page,
+// and meets what the calls ask for: a place for the session that is 8 zero bytes before the first boot, and rooms that
+// are there. What each call tells is said in crates/xv_page.
+
+/** Kinds of outcome, by their number. */
+export const KIND = { STEP: 0, CALL: 1, WAIT: 2, EXIT: 3, FAULT: 4, TURN: 5, IDLE: 6, TICK: 7, KEY: 8, SENT: 9, NONE: 10, HALTED: 11 };
+/** Events, by their number. */
+export const EVENT = { RUN: 0, TICK: 1, KEY: 2, SEND: 3 };
+/** What a search may wait for, by its number. */
+export const UNTIL = { STEP_OF: 0, CALL: 1, AT: 2, FAULT: 3, STORE: 4, EXIT: 5 };
+
+const ANSWERS = ["", "no machine is booted", "the page has too little memory", "the run is too long", "there is nothing of this number to wait for"];
+const REFUSALS = ["", "BadConfig", "BadPrograms", "NoInit", "Memory", "Init"];
+const EXEC = ["", "NotElf", "TooManyArgs", "ArgsTooLong", "NoFrames", "BadSegment"];
+const MISTAKES = ["", "Memory", "UnknownWord", "BadOperand", "OutOfRange", "DuplicateLabel", "UnknownLabel", "NotText", "Memory"];
+const ROOM = 65536;
+const ECHO = 384;
+const FILE = 1048576 + 65536;
+
+/** A refusal to boot, as `xv_page_boot` tells it, in xv_run's words; null where there is a machine. */
+export function boot_refusal({ kind, cause, place }) {
+  if (kind === 0) return null;
+  const words = [REFUSALS[kind]];
+  if (cause) words.push(EXEC[cause]);
+  if (kind === 2 || cause === 5) words.push(place);
+  return words.join(" ");
+}
+
+export class Machine {
+  constructor(module) {
+    this.module = module;
+    this.fresh();
+  }
+
+  /** A new instance has new memory: all that an earlier machine held is gone. */
+  fresh() {
+    this.calls = new WebAssembly.Instance(this.module, {}).exports;
+    const take = (bytes) => {
+      const at = this.calls.page_take(BigInt(bytes));
+      if (at === 0n) throw new Error(ANSWERS[2]);
+      return at;
+    };
+    this.session = take(16);
+    this.programs = take(16);
+    this.told = take(256);
+    this.room = take(ROOM);
+    this.view();
+    for (const at of [this.session, this.programs]) this.bytes.fill(0, Number(at), Number(at) + 16);
+    this.at = Number(this.told);
+  }
+
+  /** The module's memory. Its buffer is another one once it has grown. */
+  view() {
+    if (!this.data || this.data.buffer !== this.calls.memory.buffer) {
+      this.data = new DataView(this.calls.memory.buffer);
+      this.bytes = new Uint8Array(this.calls.memory.buffer);
+    }
+    return this.data;
+  }
+
+  put(bytes) {
+    const at = this.calls.page_take(BigInt(bytes.length || 1));
+    if (at === 0n) throw new Error(ANSWERS[2]);
+    this.view();
+    this.bytes.set(bytes, Number(at));
+    return at;
+  }
+
+  /** An answer is a byte: WebAssembly leaves the bits above it open. */
+  done(answer) {
+    const place = answer & 255;
+    if (place !== 0) throw new Error(ANSWERS[place] || `answer ${place}`);
+    this.view();
+  }
+
+  /** Boots a machine; files: [{name, bytes}]. Answers null, or why there is none. */
+  boot({ frames, trace }, files) {
+    this.fresh();
+    for (const { name, bytes } of files) {
+      const words = this.put(new TextEncoder().encode(name)), file = this.put(bytes);
+      const length = BigInt(new TextEncoder().encode(name).length);
+      const answer = this.calls.xv_page_add(this.programs, words, length, file, BigInt(bytes.length));
+      this.calls.page_give(words);
+      this.calls.page_give(file);
+      this.done(answer);
+    }
+    this.calls.xv_page_boot(this.session, this.programs, frames, trace, this.told);
+    const d = this.view(), at = this.at;
+    return boot_refusal({ kind: d.getUint32(at, true), cause: d.getUint32(at + 4, true), place: Number(d.getBigUint64(at + 8, true)) });
+  }
+
+  outcome(at) {
+    const d = this.data;
+    return { kind: d.getUint32(at, true), pid: d.getUint32(at + 4, true), number: d.getInt32(at + 8, true), shown: Number(d.getBigUint64(at + 16, true)), value: Number(d.getBigInt64(at + 24, true)) };
+  }
+
+  /** Sends an event, and tells what came of it, with the bytes that it shows. */
+  event(kind, byte = 0) {
+    this.done(this.calls.xv_page_event(this.session, kind, byte, this.told, this.room, BigInt(ECHO)));
+    const told = this.outcome(this.at), room = Number(this.room);
+    told.bytes = told.shown ? this.bytes.slice(room, room + told.shown) : NO_BYTES;
+    return told;
+  }
+
+  runs() {
+    const d = this.data, at = this.at;
+    return { sent: d.getUint32(at, true), met: d.getUint32(at + 4, true) === 1, last: d.getUint32(at + 8, true) ? this.outcome(at + 16) : null };
+  }
+
+  /** Sends Run, `most` times at most: {sent, last}; `last` is null where each is a done instruction. */
+  run(most) {
+    this.done(this.calls.xv_page_run(this.session, most, this.told));
+    return this.runs();
+  }
+
+  /** Sends Run up to the first that is what is waited for: {sent, met, last}. */
+  until(most, kind, pid = 0, number = 0n) {
+    this.done(this.calls.xv_page_until(this.session, most, kind, pid, BigInt(number), this.told));
+    return this.runs();
+  }
+
+  /** Goes back to the place after so many events. */
+  back(place) {
+    this.done(this.calls.xv_page_back(this.session, BigInt(place)));
+  }
+
+  facts() {
+    this.calls.xv_page_facts(this.session, this.told);
+    const d = this.view(), at = this.at;
+    return { at: Number(d.getBigUint64(at, true)), free: d.getUint32(at + 8, true), current: d.getUint32(at + 12, true), halted: d.getUint32(at + 16, true) === 1,
+      status: d.getInt32(at + 20, true), clock: d.getUint32(at + 24, true), notes: Number(d.getBigUint64(at + 32, true)) };
+  }
+
+  /** The pids of all processes, live or not, by their slots. */
+  pids() {
+    const found = [];
+    for (let slot = 0n; slot < 64n; slot++) {
+      const pid = this.word(this.calls.xv_page_slot(this.session, slot, this.told));
+      if (pid !== null) found.push(Number(pid));
+    }
+    return found;
+  }
+
+  process(pid) {
+    this.calls.xv_page_process(this.session, pid, this.told);
+    const d = this.view(), at = this.at, kind = d.getUint32(at, true);
+    if (kind === 0) return null;
+    return { pid, lives: kind === 1, parent: d.getUint32(at + 4, true), marked: d.getUint32(at + 8, true) === 1, asleep: d.getUint32(at + 12, true) === 1,
+      call: d.getUint32(at + 16, true) ? { number: d.getInt32(at + 20, true), words: [24, 32, 40].map((it) => d.getBigUint64(at + it, true)), moved: d.getUint32(at + 48, true), since: d.getUint32(at + 52, true) } : null,
+      status: d.getInt32(at + 56, true) };
+  }
+
+  word(answer) {
+    const d = this.view();
+    return answer && d.getUint32(this.at, true) ? d.getBigUint64(this.at + 8, true) : null;
+  }
+  size(pid) { return this.word(this.calls.xv_page_size(this.session, pid, this.told)); }
+  register(pid, number) { return this.word(this.calls.xv_page_register(this.session, pid, number, this.told)); }
+  byte(pid, address) { return this.word(this.calls.xv_page_byte(this.session, pid, BigInt.asUintN(64, address), this.told)); }
+  address(pid) { return this.word(this.calls.xv_page_address(this.session, pid, this.told)); }
+  program(pid) { const place = this.word(this.calls.xv_page_program(this.session, pid, this.told)); return place === null ? null : Number(place); }
+  frame(pid, page) { const frame = this.word(this.calls.xv_page_frame(this.session, pid, page, this.told)); return frame === null ? null : Number(frame); }
+
+  /** [pc, x1, .., x31] of a live process, or null. */
+  registers(pid) {
+    const words = new BigUint64Array(32);
+    for (let number = 0; number < 32; number++) {
+      const word = this.register(pid, number);
+      if (word === null) return null;
+      words[number] = word;
+    }
+    return words;
+  }
+
+  /** The bytes from an address on, up to the first that isn't there. */
+  peek(pid, address, count) {
+    const found = new Uint8Array(count);
+    for (let place = 0; place < count; place++) {
+      const byte = this.byte(pid, BigInt(address) + BigInt(place));
+      if (byte === null) return found.subarray(0, place);
+      found[place] = Number(byte);
+    }
+    return found;
+  }
+
+  /** What a page allows, by the bits of its entry: 1 V, 2 R, 4 W, 8 X, 16 U; 0 where it isn't there. */
+  rights(pid, page) {
+    this.calls.xv_page_rights(this.session, pid, page, this.told);
+    return this.view().getUint32(this.at, true);
+  }
+
+  /** What a frame is used for: {kind, pid, place}. */
+  use(frame) {
+    this.calls.xv_page_use(this.session, frame, this.told);
+    const d = this.view(), at = this.at;
+    return { kind: d.getUint32(at, true), pid: d.getUint32(at + 4, true), place: d.getUint32(at + 8, true) };
+  }
+
+  descriptor(pid, fd) {
+    this.calls.xv_page_descriptor(this.session, pid, fd, this.told);
+    const d = this.view(), at = this.at, kind = d.getUint32(at, true);
+    if (kind === 0) return null;
+    return { pid, fd, kind, read: d.getUint32(at + 4, true) === 1, write: d.getUint32(at + 8, true) === 1, frame: d.getUint32(at + 12, true), program: Number(d.getBigUint64(at + 16, true)), offset: Number(d.getBigUint64(at + 24, true)) };
+  }
+
+  pipe(frame) {
+    this.calls.xv_page_pipe(this.session, frame, this.told);
+    const d = this.view(), at = this.at;
+    if (!d.getUint32(at, true)) return null;
+    return { frame, readers: Number(d.getBigUint64(at + 8, true)), writers: Number(d.getBigUint64(at + 16, true)), bytes: Number(d.getBigUint64(at + 24, true)) };
+  }
+
+  /** The bytes in a pipe, or in a list of the console, from the oldest on. */
+  listed(tell) {
+    const found = [];
+    for (let place = 0n; ; place++) {
+      const byte = this.word(tell(place));
+      if (byte === null) return Uint8Array.from(found);
+      found.push(Number(byte));
+    }
+  }
+  pipe_bytes(frame) { return this.listed((place) => this.calls.xv_page_pipe_byte(this.session, frame, place, this.told)); }
+  console(list) { return this.listed((place) => this.calls.xv_page_console(this.session, list, place, this.told)); }
+  /** Whether a byte waits to be sent. */
+  has_output() { return this.word(this.calls.xv_page_console(this.session, 2, 0n, this.told)) !== null; }
+
+  note(place) {
+    return this.calls.xv_page_note(this.session, BigInt(place), this.told) ? (this.view(), this.outcome(this.at)) : null;
+  }
+
+  /** The text of an instruction, or null where the word is none. */
+  instruction(word, address) {
+    const count = Number(this.calls.xv_page_instruction(word, BigInt(address), this.room, 64n));
+    this.view();
+    return count ? String.fromCharCode(...this.bytes.subarray(Number(this.room), Number(this.room) + count)) : null;
+  }
+
+  /** { file } or { line, kind }: what is wrong with the first line that is refused. */
+  assemble(text) {
+    const source = new TextEncoder().encode(text);
+    const from = this.put(source), to = this.calls.page_take(BigInt(FILE));
+    if (to === 0n) return { line: 0, kind: "Memory" };
+    this.calls.xv_page_assemble(from, BigInt(source.length), to, BigInt(FILE), this.told);
+    const d = this.view(), kind = d.getUint32(this.at, true), count = Number(d.getBigUint64(this.at + 8, true));
+    const answer = kind === 0 ? { file: this.bytes.slice(Number(to), Number(to) + count) } : { line: count, kind: MISTAKES[kind] };
+    this.calls.page_give(from);
+    this.calls.page_give(to);
+    return answer;
+  }
+
+  /** A copy of the module's whole memory: the machine as it stands, to be put back later. */
+  copy() {
+    return new Uint8Array(this.calls.memory.buffer).slice();
+  }
+  /** Puts a copy back. What the memory has grown since is cleared. */
+  restore(copy) {
+    this.view();
+    this.bytes.set(copy);
+    this.bytes.fill(0, copy.length);
+  }
+}
+const NO_BYTES = new Uint8Array(0);

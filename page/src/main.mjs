@@ -1,0 +1,132 @@
+// The page: begins the worker and the panels, and hands what the worker tells to them.
+import { $, app, ask, element, on, say, tell } from "./app.mjs";
+import { Timeline } from "./timeline.mjs";
+import * as terminal from "./terminal.mjs";
+import * as editor from "./editor.mjs";
+import * as programs from "./programs.mjs";
+import * as time from "./time.mjs";
+import * as processes from "./processes.mjs";
+import * as instruction from "./instruction.mjs";
+import * as pages from "./pages.mjs";
+import * as opened from "./opened.mjs";
+import * as why from "./why.mjs";
+import * as lessons from "./lessons.mjs";
+import { base64 } from "./app.mjs";
+
+const DATA = globalThis.PAGE_DATA;
+let text_room = new Uint8Array(65536), drawn = 0, waits = false;
+
+function take_text({ from, bytes }) {
+  const length = from + bytes.length;
+  if (length > text_room.length) {
+    const room = new Uint8Array(2 * length);
+    room.set(text_room.subarray(0, from));
+    text_room = room;
+  }
+  text_room.set(bytes, from);
+  app.text = text_room.subarray(0, length);
+}
+
+function take_view(view) {
+  if (view.anew && view.line.from === 0) app.line = new Timeline();
+  app.line.take(view.line);
+  take_text(view.text);
+  const faults = app.view && waits ? app.view.faults : undefined;
+  app.view = view;
+  if (!view.faults && faults) view.faults = faults;
+  if (waits) return;
+  waits = true;
+  // At most a drawing a frame, also where the page isn't seen.
+  const draw = () => { if (!waits) return; waits = false; drawn++; tell("view"); };
+  if (document.hidden) setTimeout(draw, 100); else requestAnimationFrame(draw);
+}
+
+function heard({ data }) {
+  if (data.view) take_view(data.view);
+  else if (data.booted) { app.booted = { ...app.booting, took: data.booted.took }; programs.show_files(); tell("booted"); }
+  else if (data.refusal) { $("mistake").textContent = `boot: ${data.refusal}`; $("mistake").className = "bad"; say(`boot: ${data.refusal}`); tell("refused", data.refusal); }
+  else if (data.assembled) tell("assembled", data.assembled);
+  else if (data.record) app.on_record?.(data.record);
+  else if (data.finished) requestAnimationFrame(() => requestAnimationFrame(() => tell("finished")));
+  else if (data.bench) tell("bench", data.bench);
+  else if (data.back_bench) tell("back_bench", data.back_bench);
+  else if (data.error) { say(data.message); $("mistake").textContent = data.message; $("mistake").className = "bad"; console.error(data.error); }
+  else if (data.ready) tell("ready");
+}
+
+/** Shows a tab, and says to the worker which panels want to be told. */
+export function show_tab(tab) {
+  const list = tab.closest("[role=tablist]");
+  for (const it of list.querySelectorAll("[role=tab]")) {
+    const chosen = it === tab;
+    it.setAttribute("aria-selected", chosen);
+    it.tabIndex = chosen ? 0 : -1;
+    $(it.getAttribute("aria-controls")).hidden = !chosen;
+  }
+  look();
+}
+globalThis.show_tab = (name) => show_tab($("tab-" + name));
+
+function look() {
+  ask("look", { pid: app.chosen || (app.view ? app.view.pid : 1), follow: $("follow").checked, panels: { instruction: !$("instruction").hidden, pages: !$("pages").hidden, files: true } });
+}
+
+function tabs() {
+  for (const list of document.querySelectorAll("[role=tablist]")) {
+    const all = [...list.querySelectorAll("[role=tab]")];
+    for (const tab of all) tab.addEventListener("click", () => show_tab(tab));
+    list.addEventListener("keydown", (event) => {
+      const by = { ArrowRight: 1, ArrowLeft: -1 }[event.key];
+      if (!by) return;
+      const next = all[(all.indexOf(document.activeElement) + by + all.length) % all.length];
+      next.focus();
+      show_tab(next);
+    });
+  }
+}
+
+function help() {
+  for (const it of document.querySelectorAll("[data-help]")) it.addEventListener("click", () => {
+    const body = $("dialog").querySelector("div");
+    body.innerHTML = DATA.help[it.dataset.help] || "";
+    body.append(element("p", {}, element("a", { href: "../docs/manual/page.md#" + it.dataset.help.toLowerCase().replace(/[^a-z ]/g, "").replace(/ /g, "-") }, "This page of the manual")));
+    $("dialog").showModal();
+  });
+  $("dialog").addEventListener("click", (event) => { if (event.target === $("dialog")) $("dialog").close(); });
+}
+
+function theme() {
+  const root = document.documentElement;
+  let kept = null;
+  try { kept = localStorage.getItem("theme"); } catch { /* a file's page may have no storage */ }
+  const set = (name) => { root.dataset.theme = name; if (app.view) tell("view"); };
+  set(kept || (matchMedia("(prefers-color-scheme: dark)").matches ? "dark" : "light"));
+  $("theme").addEventListener("click", () => {
+    const name = root.dataset.theme === "dark" ? "light" : "dark";
+    set(name);
+    try { localStorage.setItem("theme", name); } catch { /* it is forgotten with the page */ }
+  });
+}
+
+function begin() {
+  const began = performance.now();
+  theme();
+  app.worker = new Worker(URL.createObjectURL(new Blob([DATA.worker], { type: "text/javascript" })));
+  app.worker.onmessage = heard;
+  app.worker.onerror = (event) => { say(event.message); console.error(event.message); };
+  for (const part of [terminal, editor, time, processes, instruction, pages, opened, why, programs, lessons]) part.start();
+  tabs();
+  help();
+  on("ready", async () => {
+    look();
+    if (!(await programs.follow(location.hash))) programs.choose("shell");
+    await programs.boot();
+    if (!matchMedia("(max-width: 820px)").matches) $("screen").focus({ preventScroll: true });
+  });
+  addEventListener("hashchange", async () => { if (await programs.follow(location.hash)) programs.boot(); });
+  addEventListener("resize", () => { if (app.view) tell("view"); });
+  ask("module", { bytes: base64.of(DATA.wasm) });
+  on("view", () => { if (!globalThis.ready) { globalThis.ready = true; globalThis.took = { page: began, boot: app.booted?.took, shown: performance.now() }; } });
+  globalThis.page = { app, ask, on, time, programs, drawn: () => drawn };
+}
+begin();

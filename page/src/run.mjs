@@ -1,0 +1,278 @@
+// A run: a machine, what came of each event since it was booted, and ways forward and back. The machine stands after
+// `at` events; the record may go on beyond, after a step back, and is cut there by the first event that differs.
+import { KIND, EVENT } from "./machine.mjs";
+import { Timeline } from "./timeline.mjs";
+
+const COPIES_BYTES = 256 * 1024 * 1024;
+const FIRST_SPACING = 400000;
+const PIECE = 200000;
+
+export class Run {
+  constructor(machine) {
+    this.machine = machine;
+    this.booted = false;
+  }
+
+  /** Boots; null, or the refusal. */
+  boot(config, files) {
+    const refusal = this.machine.boot(config, files);
+    this.booted = refusal === null;
+    if (refusal !== null) return refusal;
+    this.config = config;
+    this.files = files;
+    this.at = 0;
+    this.line = new Timeline();
+    this.shown = { at: new Float64Array(4096), bytes: new Uint8Array(4096), length: 0 };
+    this.names = [{ at: 0, pid: 1, place: this.machine.program(1) }];
+    this.edits = 0;
+    this.spacing = FIRST_SPACING;
+    this.copies = [{ at: 0, bytes: this.machine.copy() }];
+    this.halted = false;
+    return null;
+  }
+
+  get end() { return this.line.end; }
+  get is_past() { return this.at < this.line.end; }
+  get current() { return this.machine.facts().current; }
+
+  // ---- the record
+
+  heard(event, told, count) {
+    this.line.add(event, told, count);
+    this.at += count;
+    if (told.kind === KIND.CALL && (told.number === 7 || told.number === 1)) {
+      const pid = told.number === 1 ? told.value : told.pid;
+      if (told.value >= 0 && pid > 0) {
+        const place = this.machine.program(pid);
+        if (place !== null) this.names.push({ at: this.at, pid, place });
+      }
+    }
+    if (told.kind === KIND.HALTED || (told.pid === 1 && (told.kind === KIND.EXIT || told.kind === KIND.FAULT))) this.halted = true;
+  }
+
+  show(bytes) {
+    const { shown } = this;
+    for (const byte of bytes) {
+      if (shown.length === shown.at.length) {
+        const at = new Float64Array(2 * shown.length), all = new Uint8Array(2 * shown.length);
+        at.set(shown.at);
+        all.set(shown.bytes);
+        shown.at = at;
+        shown.bytes = all;
+      }
+      shown.at[shown.length] = this.at;
+      shown.bytes[shown.length++] = byte;
+    }
+  }
+
+  /** How many bytes the console has shown at this place. */
+  shown_count() {
+    const { shown } = this;
+    let low = 0, high = shown.length;
+    while (low < high) {
+      const middle = (low + high) >> 1;
+      if (shown.at[middle] <= this.at) low = middle + 1; else high = middle;
+    }
+    return low;
+  }
+
+  /** Forgets what the record has beyond this place. */
+  cut() {
+    if (!this.is_past) return;
+    this.shown.length = this.shown_count();
+    this.line.cut(this.at);
+    this.names = this.names.filter((it) => it.at <= this.at);
+    this.copies = this.copies.filter((it) => it.at <= this.at);
+    this.edits++;
+    this.halted = this.machine.facts().halted;
+  }
+
+  /** The program that a process runs at this place, by its place in the list of files; null where it isn't known. */
+  program_of(pid) {
+    for (let k = this.names.length - 1; k >= 0; k--) if (this.names[k].pid === pid && this.names[k].at <= this.at) return this.names[k].place;
+    return null;
+  }
+
+  // ---- forward
+
+  /** Sends an event at the end of the record. */
+  send(event, byte = 0) {
+    this.cut();
+    const told = this.machine.event(event, byte);
+    if (event === EVENT.KEY) told.number = byte;
+    this.heard(event, told, 1);
+    if (told.bytes.length) this.show(told.bytes);
+    this.keep();
+    return told;
+  }
+
+  /** Sends Run, `most` times at most, and tells how many were sent and what came of the last. */
+  run(most) {
+    this.cut();
+    const current = this.current;
+    if (!current && !this.halted) most = 1;
+    const { sent, last } = this.machine.run(most);
+    if (last === null) this.heard(EVENT.RUN, { kind: KIND.STEP, pid: current, number: 0, value: 0 }, sent);
+    else if (last.kind === KIND.IDLE || last.kind === KIND.HALTED) this.heard(EVENT.RUN, last, sent);
+    else {
+      if (sent > 1) this.heard(EVENT.RUN, { kind: KIND.STEP, pid: current, number: 0, value: 0 }, sent - 1);
+      this.heard(EVENT.RUN, last, 1);
+    }
+    this.keep();
+    return { sent, kind: last === null ? KIND.STEP : last.kind, last };
+  }
+
+  /** Sends again what the record has next, up to a place. */
+  replay(to) {
+    const { line, machine } = this;
+    const until = Math.min(to, line.end);
+    let place = line.find(this.at);
+    while (this.at < until) {
+      const event = line.event[place];
+      let stop = line.end_of(place);
+      if (event !== EVENT.RUN) {
+        for (; this.at < Math.min(stop, until); this.at++) machine.event(event, event === EVENT.KEY ? line.number[place] : 0);
+        place++;
+      } else {
+        while (place + 1 < line.length && line.event[place + 1] === EVENT.RUN && stop < until) stop = line.end_of(++place);
+        stop = Math.min(stop, until);
+        while (this.at < stop) {
+          this.at += machine.run(Math.min(stop - this.at, PIECE)).sent;
+          this.keep();
+        }
+        place++;
+      }
+    }
+  }
+
+  // ---- copies of the machine, to come back fast
+
+  most_copies() {
+    return Math.max(4, Math.min(32, Math.floor(COPIES_BYTES / this.copies[0].bytes.length)));
+  }
+
+  /** Keeps a copy where the last one is far behind. */
+  keep() {
+    const { copies } = this;
+    let last = copies.length - 1;
+    if (this.at - copies[last].at < this.spacing) return;
+    copies.push({ at: this.at, bytes: this.machine.copy() });
+    if (copies.length > this.most_copies()) {
+      this.spacing *= 2;
+      this.copies = copies.filter((_, k) => k % 2 === 0);
+    }
+  }
+
+  /** Goes to a place of the record. */
+  go(place) {
+    const to = Math.max(0, Math.min(place, this.line.end));
+    if (to < this.at) {
+      const copy = this.copies.findLast((it) => it.at <= to);
+      this.machine.restore(copy.bytes);
+      this.at = copy.at;
+    } else {
+      const copy = this.copies.findLast((it) => it.at <= to);
+      if (copy.at > this.at) {
+        this.machine.restore(copy.bytes);
+        this.at = copy.at;
+      }
+    }
+    this.replay(to);
+  }
+
+  /** Looks at the machine as it was at another place, and comes back. */
+  look(place, at_it) {
+    const here = { at: this.at, bytes: this.machine.copy() };
+    this.go(place);
+    const found = at_it();
+    this.machine.restore(here.bytes);
+    this.at = here.at;
+    return found;
+  }
+}
+
+/** The order of events by which a run goes on: what xv_run sends in its rounds, or what a terminal does. */
+export class Plan {
+  /**
+   * `quantum` Runs make a round, then comes a Tick and 32 Sends (`rounds`), or bytes are sent as soon as they wait
+   * (`live`), where a tick comes after so many Runs, or when nobody may run.
+   */
+  constructor(run, { rounds, quantum }) {
+    this.run = run;
+    this.rounds = rounds;
+    this.quantum = quantum;
+    this.keys = [];
+    this.is_idle = false;
+    this.find();
+  }
+
+  /** Finds where in a round the record ends. */
+  find() {
+    const { line } = this.run;
+    this.runs = 0;
+    this.sends = 0;
+    this.keyed = false;
+    this.ticked = false;
+    for (let place = line.length - 1; place >= 0; place--) {
+      const event = line.event[place], count = line.end_of(place) - line.at[place];
+      if (event === EVENT.TICK) { this.ticked = true; break; }
+      if (event === EVENT.SEND) this.sends += count;
+      else if (event === EVENT.KEY) this.keyed = true;
+      else this.runs += count;
+    }
+    if (this.sends >= 32 || !this.ticked) { this.ticked = false; this.sends = 0; }
+    else if (this.runs > 0 || this.keyed) this.ticked = false;
+    this.is_idle = line.length > 0 && line.kind[line.length - 1] === KIND.IDLE;
+  }
+
+  /** Sends what comes next, at most so many Runs; tells the outcome. */
+  next(most) {
+    return this.rounds ? this.next_of_round(most) : this.next_of_terminal(most, true);
+  }
+
+  next_of_round(most) {
+    const { run } = this;
+    if (this.ticked) {
+      const told = run.send(EVENT.SEND);
+      if (++this.sends >= 32) { this.ticked = false; this.sends = 0; this.runs = 0; this.keyed = false; }
+      return told;
+    }
+    if (this.runs === 0 && !this.keyed && this.keys.length) {
+      this.keyed = true;
+      return run.send(EVENT.KEY, this.keys.shift());
+    }
+    if (this.runs >= this.quantum) {
+      this.ticked = true;
+      this.sends = 0;
+      return run.send(EVENT.TICK);
+    }
+    const { sent, kind, last } = run.run(Math.min(most, this.quantum - this.runs));
+    this.runs += sent;
+    this.is_idle = kind === KIND.IDLE;
+    return last || { kind, pid: 0, number: 0, value: 0 };
+  }
+
+  /** What a terminal does. `ticks` says whether a tick comes by the number of Runs; else the caller sends ticks. */
+  next_of_terminal(most, ticks) {
+    const { run } = this;
+    if (this.keys.length) {
+      this.is_idle = false;
+      return run.send(EVENT.KEY, this.keys.shift());
+    }
+    if (run.machine.has_output()) {
+      this.is_idle = false;
+      return run.send(EVENT.SEND);
+    }
+    if (ticks && (this.is_idle || this.runs >= this.quantum)) return this.tick();
+    const { sent, kind, last } = run.run(ticks ? Math.min(most, this.quantum - this.runs) : most);
+    this.runs += sent;
+    this.is_idle = kind === KIND.IDLE;
+    return last || { kind, pid: 0, number: 0, value: 0 };
+  }
+
+  tick() {
+    this.runs = 0;
+    this.is_idle = false;
+    return this.run.send(EVENT.TICK);
+  }
+}

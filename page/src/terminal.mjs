@@ -1,0 +1,103 @@
+// The terminal: what the console shows, and keys for it.
+import { $, app, ask, on, tell, say } from "./app.mjs";
+
+const MOST_LINES = 3000;
+const shown = { bytes: 0, lines: [""], row: [], column: 0 };
+const decoder = new TextDecoder();
+
+function clear() {
+  shown.bytes = 0;
+  shown.lines = [];
+  shown.row = [];
+  shown.column = 0;
+}
+
+/** Takes bytes as a terminal does: a backspace goes left, a carriage return to the front, a line feed down. */
+function take(bytes) {
+  for (const byte of bytes) {
+    if (byte === 10) {
+      shown.lines.push(decoder.decode(Uint8Array.from(shown.row)));
+      if (shown.lines.length > MOST_LINES) shown.lines.splice(0, 500);
+      shown.row = [];
+      shown.column = 0;
+    } else if (byte === 8) shown.column = Math.max(0, shown.column - 1);
+    else if (byte === 13) shown.column = 0;
+    else if (byte !== 7) shown.row[shown.column++] = byte;
+  }
+  shown.bytes += bytes.length;
+}
+
+function draw() {
+  const { text } = app;
+  if (shown.bytes > text.length || shown.edits !== app.view.edits || shown.end > app.view.shown) clear();
+  shown.edits = app.view.edits;
+  if (shown.bytes === text.length && shown.drawn) return;
+  take(text.subarray(shown.bytes));
+  shown.end = app.view.shown;
+  const screen = $("screen"), row = [...shown.row], left = decoder.decode(Uint8Array.from(row.slice(0, shown.column))), under = row[shown.column] === undefined ? " " : String.fromCharCode(row[shown.column]), right = decoder.decode(Uint8Array.from(row.slice(shown.column + 1)));
+  const at_end = screen.scrollHeight - screen.scrollTop - screen.clientHeight < 60;
+  const pre = screen.firstElementChild, caret = document.createElement("span");
+  caret.className = "caret";
+  caret.textContent = under;
+  pre.replaceChildren(document.createTextNode(shown.lines.slice(-1000).map((it) => it + "\n").join("") + left), caret, document.createTextNode(right));
+  if (at_end) screen.scrollTop = screen.scrollHeight;
+  shown.drawn = true;
+}
+
+/** Types bytes into the machine. */
+export function type(bytes) {
+  if (!app.booted) return;
+  ask("keys", { bytes: [...bytes] });
+  if (!app.view?.playing) tell("play");
+}
+
+function key(event) {
+  if (event.key === "Escape") { $("play").focus(); return; }
+  if (event.metaKey || event.altKey) return;
+  const selected = String(getSelection()).length > 0;
+  if (event.ctrlKey) {
+    const letter = event.key.toLowerCase();
+    if (letter === "c") {
+      if (selected) return;
+      event.preventDefault();
+      ask("pause");
+      say("The machine is stopped. Play goes on.");
+      return;
+    }
+    if (letter === "p") {
+      event.preventDefault();
+      $("processes").scrollIntoView({ block: "nearest" });
+      say(app.view ? app.view.processes.map((it) => it.pid).join(", ") : "");
+      return;
+    }
+    if (letter === "v" || event.shiftKey) return;
+    if (/^[a-z]$/.test(letter)) { event.preventDefault(); type([letter.charCodeAt(0) - 96]); }
+    return;
+  }
+  const byte = { Enter: 10, Backspace: 127, Tab: 9 }[event.key];
+  if (event.key === "Tab" && event.shiftKey) return;
+  if (byte !== undefined) { event.preventDefault(); type([byte]); return; }
+  if (event.key.length === 1 || [...event.key].length === 1) { event.preventDefault(); type(new TextEncoder().encode(event.key)); }
+}
+
+export function start() {
+  const screen = $("screen"), typed = $("typed");
+  screen.addEventListener("keydown", key);
+  typed.addEventListener("keydown", (event) => { if (event.key !== "Unidentified" && event.keyCode !== 229) key(event); });
+  // (A phone's keyboard gives text, not keys.)
+  typed.addEventListener("input", () => { if (typed.value) type(new TextEncoder().encode(typed.value)); typed.value = ""; });
+  const paste = (event) => {
+    const text = event.clipboardData.getData("text");
+    event.preventDefault();
+    type(new TextEncoder().encode(text.replace(/\r\n?/g, "\n")));
+  };
+  screen.addEventListener("paste", paste);
+  typed.addEventListener("paste", paste);
+  for (const it of [screen, typed]) {
+    it.addEventListener("focus", () => screen.classList.add("has-keys"));
+    it.addEventListener("blur", () => screen.classList.remove("has-keys"));
+  }
+  screen.addEventListener("click", () => { if (!String(getSelection()) && matchMedia("(pointer: coarse)").matches) typed.focus(); });
+  on("view", draw);
+  on("boot", () => { clear(); shown.drawn = false; });
+}

@@ -1,0 +1,43 @@
+// Why: each fault of the run in words, with its line and registers, and who sleeps on what and who could wake it.
+import { $, app, ask, element, on, program_name } from "./app.mjs";
+import { line_at, name_at } from "./symbols.mjs";
+import { REGISTERS, hex, waits_for } from "./words.mjs";
+
+// The order of xv6's trapframe.
+const ORDER = [1, 2, 3, 4, 5, 6, 7, 8, 9, 10, 11, 12, 13, 14, 15, 16, 17, 18, 19, 20, 21, 22, 23, 24, 25, 26, 27, 28, 29, 30, 31];
+let faults = [];
+
+function fault_told(it) {
+  const { told } = it, symbols = app.symbols[told.program], pc = told.registers ? told.registers[0] : 0n, line = told.registers ? line_at(symbols, pc) : null, name = told.registers ? name_at(symbols, pc) : "";
+  const where = [name ? `<${name}>` : "", line ? `line ${line.line}: ${line.text}` : ""].filter(Boolean).join(", ");
+  const back = told.registers ? name_at(symbols, told.registers[1]) : "";
+  return element("div", { class: "fault" },
+    element("p", {}, element("b", {}, told.words.replace(/^process (\d+)/, `process $1 (${program_name(told.program)})`))),
+    element("p", { class: "mono" }, told.text ? `${hex(pc)}: ${told.text}` : "", where ? element("span", { class: "dim" }, `  ${where}`) : ""),
+    back ? element("p", { class: "dim" }, `ra is ${hex(told.registers[1])} <${back}>: the call came from there, if ra still has it`) : null,
+    element("p", {}, element("button", { onclick: () => ask("go", { place: it.at }) }, "Go to the instruction"), " ", element("span", { class: "dim" }, `event ${it.at}`)),
+    element("details", {}, element("summary", {}, "registers"), element("pre", {}, told.registers ? ORDER.map((k, n) => `${REGISTERS[k].padStart(3)} ${hex(told.registers[k]).padEnd(20)}${n % 3 === 2 ? "\n" : ""}`).join("") : "")));
+}
+
+function draw() {
+  const { view } = app, sleepers = view.processes.filter((it) => it.lives && it.asleep);
+  const gone = faults.filter((it) => it.at < view.at).reverse();
+  $("why-told").replaceChildren(
+    ...(gone.length ? gone.slice(0, 30).map(fault_told) : [element("p", { class: "dim" }, "No process has faulted up to here.")]),
+    element("h3", {}, "Who sleeps on what"),
+    ...(sleepers.length ? sleepers.map((it) => {
+      const { what, who } = waits_for(it, view.processes, view.files || null);
+      return element("div", { class: "sleeper" }, element("div", {}, element("b", {}, `process ${it.pid} (${program_name(it.program)})`), ` sleeps ${what}`), who ? element("div", { class: "dim" }, `who could wake it: ${who}`) : null);
+    }) : [element("p", { class: "dim" }, "Nobody sleeps.")]));
+}
+
+export function start() {
+  on("view", () => {
+    const { view } = app;
+    if (view.faults) faults = view.faults;
+    const count = faults.filter((it) => it.at < view.at).length;
+    $("why-count").textContent = count || "";
+    if (!$("why").hidden) draw();
+  });
+  on("boot", () => { faults = []; });
+}
