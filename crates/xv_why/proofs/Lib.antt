@@ -1,0 +1,2 @@
+mod Statuses
+mod Stretches

@@ -1,0 +1,18 @@
+//! What a command line asks for.
+
+/// What the words of a command line ask for.
+#[derive(Drop)]
+pub struct Settings {
+    /// Frames of RAM: 16 to 32,768.
+    pub frames: u32,
+    /// The most rounds that are made: 0 to 1,000,000,000.
+    pub rounds: u64,
+    /// Runs in each round: 1 to 1,000,000.
+    pub quantum: u32,
+    /// The most notes that the trace keeps: 0 to 65,536.
+    pub trace: u32,
+    /// Whether each event is told in words.
+    pub explain: bool,
+    /// The path of each FILE, in the order of the words: at least one.
+    pub files: Vec<String>,
+}

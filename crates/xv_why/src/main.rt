@@ -1,0 +1,75 @@
+//! Runs programs as `xv_run` does, and tells why processes end or wait.
+//!
+//! The command line, the rounds, the keys, what goes to standard output and the exit status are those of `xv_run`. On
+//! standard error it tells each fault as it comes, with the calls that led there, and at the end what each process
+//! sleeps on that has not exited, and who could wake it.
+#![tactic(auto)]
+
+mod command_line;
+mod failure;
+mod letters;
+mod line;
+mod running;
+mod symbols;
+mod teller;
+mod watching;
+
+use crate::command_line::{not_text, settings};
+use crate::failure::Failure;
+use crate::line::Settings;
+use crate::running::run_with;
+use crate::symbols::debug_files;
+use crate::teller::Teller;
+use program_files::{programs, words};
+use std::io::ErrorKind;
+use std::process::ExitCode;
+use xv_machine::{Config, Counted, RunPlan};
+
+// Runs the programs that the settings name.
+fn run(rt: &HostRuntime, settings: &Settings) -> u8 {
+    let config = Config {
+        frames: settings.frames,
+        trace: settings.trace,
+    };
+    let plan = RunPlan {
+        rounds: settings.rounds,
+        quantum: settings.quantum,
+    };
+    let paths = settings.files.as_slice();
+    let programs = match programs(rt, paths) {
+        Ok(programs) => programs,
+        Err(refusal) => return Failure::File(refusal).close(&mut rt.stderr()),
+    };
+    let Ok(symbols) = debug_files(rt, paths) else {
+        return Failure::OutOfMemory.close(&mut rt.stderr());
+    };
+    let mut keys = Counted::new(rt.stdin());
+    let mut sink = Counted::new(rt.stdout());
+    let mut teller = Teller::new(rt.alloc(), rt.stderr(), symbols, settings.explain);
+    run_with(
+        rt.alloc(),
+        config,
+        plan,
+        programs,
+        &mut keys,
+        &mut sink,
+        &mut teller,
+    )
+}
+
+// Does what the words ask for.
+fn obey(rt: &HostRuntime) -> u8 {
+    let asked = match words(rt) {
+        Ok(words) => settings(rt.alloc(), words.as_slice()),
+        Err(ErrorKind::InvalidData) => Err(not_text(rt.alloc())),
+        Err(_) => return Failure::OutOfMemory.close(&mut rt.stderr()),
+    };
+    match asked {
+        Ok(settings) => run(rt, &settings),
+        Err(error) => error.close("xv_why", &mut rt.stdout(), &mut rt.stderr()),
+    }
+}
+
+fn main(rt: HostRuntime) -> ExitCode {
+    ExitCode::from(obey(&rt))
+}

@@ -1,0 +1,101 @@
+//! A run: from boot to the closing line.
+ghost use Rattle.std.specs.Prelude.{◌≡◌, map};
+ghost use Rattle.kernel_spec.specs.views.State.{named_file};
+ghost use Rattle.xv_why.specs.Runs.{Says, Tells, exit_status, status_of};
+
+use crate::failure::Failure;
+use crate::teller::Teller;
+use crate::watching::watch;
+use std::alloc::Global;
+use std::io::Write;
+use xk_base::Program;
+use xv_machine::{ByteSink, Config, DriveEnd, DriveError, KeySource, RunPlan};
+use xv_session::Session;
+
+// The exit status of a run in which `init` went with this status; what isn't 0 is told.
+fn close_exit<E: Write>(status: i32, teller: &mut Teller<E>) -> u8
+    ensures { result ≡ exit_status status }
+{
+    if status == 0 {
+        return 0;
+    }
+    teller.say_exit(status);
+    3
+}
+
+// Writes the closing line of a run that ended so, and gives the exit status.
+fn close<E: Write>(end: Result<DriveEnd, DriveError>, teller: &mut Teller<E>) -> u8
+    ensures { result ≡ status_of end }
+{
+    match end {
+        Ok(DriveEnd::Halted(status)) => close_exit(status, teller),
+        Ok(DriveEnd::RoundsOver) => {
+            teller.say("rounds over");
+            4
+        }
+        Err(DriveError::Read) => {
+            teller.say("read fault");
+            5
+        }
+        Err(DriveError::Write) => {
+            teller.say("write fault");
+            5
+        }
+    }
+}
+
+// Drives a session's machine that has booted by the plan, tells what is left to tell, shows its trace and the closing
+// line, and gives the exit status.
+fn play<R: KeySource, W: ByteSink, E: Write>(
+    session: &mut Session,
+    plan: RunPlan,
+    keys: &mut R,
+    sink: &mut W,
+    teller: &mut Teller<E>,
+) -> u8
+    ensures { Tells result plan session.old.machine
+        (record { source = R.source keys.old; failed_reads = R.failures keys.old; sink = W.sink sink.old; failed_writes = W.failures sink.old })
+        (record { source = R.source keys.new; failed_reads = R.failures keys.new; sink = W.sink sink.new; failed_writes = W.failures sink.new }) }
+{
+    let watched = watch(session, plan, keys, sink, teller);
+    teller.close(session);
+    teller.show_trace(session);
+    teller.tell_waits(session);
+    match watched {
+        Ok(end) => close(end, teller),
+        Err(_) => {
+            teller.say("out of memory");
+            2
+        }
+    }
+}
+
+/// Boots a session of these programs, and drives its machine by the plan: keys come from `keys`, and the console's
+/// bytes go to `sink`. What comes of the events is told by `teller`; at the end the trace, a line a note, why each
+/// process that has not exited doesn't go on, and one closing line if `init` hasn't exited with 0. What can't be
+/// told is left out.
+///
+/// It gives the status to exit with: 0 if `init` exited with 0, 2 if the machine didn't boot or the host's memory ran
+/// out, 3 if `init` exited with another status, 4 if the rounds are over, 5 if `keys` or `sink` failed.
+pub(crate) fn run_with<R: KeySource, W: ByteSink, E: Write>(
+    alloc: Global,
+    config: Config,
+    plan: RunPlan,
+    programs: Vec<Program>,
+    keys: &mut R,
+    sink: &mut W,
+    teller: &mut Teller<E>,
+) -> u8
+    ensures { Says result config plan (map named_file programs.items)
+        (record { source = R.source keys.old; failed_reads = R.failures keys.old; sink = W.sink sink.old; failed_writes = W.failures sink.old })
+        (record { source = R.source keys.new; failed_reads = R.failures keys.new; sink = W.sink sink.new; failed_writes = W.failures sink.new }) }
+{
+    match Session::boot(alloc, config, programs) {
+        Ok(mut session) => play(&mut session, plan, keys, sink, teller),
+        Err(error) => {
+            let failure = Failure::from(error);
+            teller.say_failure(&failure);
+            2
+        }
+    }
+}

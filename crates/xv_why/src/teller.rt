@@ -1,0 +1,346 @@
+//! What is told of a run while it goes on, and at its end.
+use crate::failure::Failure;
+use crate::letters::{Key, Letter};
+use std::alloc::Global;
+use std::io::Write;
+use xk_base::Pid;
+use xk_base::limits::NPROC;
+use xv_machine::{Event, Outcome, ProcessState};
+use xv_report::text::{Asleep, FaultText, WaitLine, Who};
+use xv_report::{FaultReport, call_name, report_at, waits_for};
+use xv_session::{Runs, Session};
+
+/// The process that runs, as it is before Runs are sent: behind them it may be gone.
+#[derive(Clone, Copy)]
+pub(crate) struct Runner {
+    /// `None` if none runs.
+    pid: Option<Pid>,
+    /// The place of its program.
+    program: Option<usize>,
+}
+
+/// Tells of a run. What can't be written is left out.
+#[derive(Drop)]
+pub(crate) struct Teller<E> {
+    alloc: Global,
+    errors: E,
+    /// What stands for debuggers beside each program.
+    symbols: Vec<Vec<u8>>,
+    /// Whether each event is told in words.
+    explain: bool,
+    /// Done instructions that aren't told yet, and whose they are.
+    steps: u64,
+    stepper: Runner,
+    /// Runs in which nobody may run that aren't told yet.
+    idles: u64,
+    /// Whether it is told that the machine has halted.
+    halted: bool,
+}
+
+/// The process that runs.
+pub(crate) fn running_now(session: &Session) -> Runner {
+    let pid = session.machine().current();
+    let program = match pid {
+        Some(pid) => session.program_of(pid),
+        None => None,
+    };
+    Runner { pid, program }
+}
+
+/// A process, with the program of this place.
+fn who<'a>(session: &'a Session, pid: Pid, program: Option<usize>) -> Who<'a> {
+    let name = match program {
+        Some(place) => match session.machine().programs().get(place) {
+            Some(program) => Some(program.name.as_slice()),
+            None => None,
+        },
+        None => None,
+    };
+    Who { pid, program: name }
+}
+
+/// The bytes of a file with the symbols of the program of this place: what stands for debuggers beside it, or itself.
+fn symbols_of<'a>(beside: &'a [Vec<u8>], session: &'a Session, program: Option<usize>) -> &'a [u8] {
+    let Some(place) = program else {
+        return &[];
+    };
+    if let Some(bytes) = beside.get(place) {
+        if !bytes.is_empty() {
+            return bytes.as_slice();
+        }
+    }
+    match session.machine().programs().get(place) {
+        Some(program) => program.bytes.as_slice(),
+        None => &[],
+    }
+}
+
+/// A fault, as text; `None` if there is no memory for it.
+fn fault_text<'a>(
+    alloc: Global,
+    report: &'a FaultReport,
+    beside: &'a [Vec<u8>],
+    session: &'a Session,
+    program: Option<usize>,
+) -> Option<String> {
+    let text = FaultText {
+        report,
+        program: who(session, report.fault.step.pid, program).program,
+        symbols: symbols_of(beside, session, program),
+    };
+    text.to_string(alloc).ok()
+}
+
+/// Why a live process doesn't go on, as text; `None` if there is no memory for it.
+fn wait_text<'a>(
+    alloc: Global,
+    beside: &'a [Vec<u8>],
+    session: &'a Session,
+    pid: Pid,
+) -> Option<String> {
+    let line = WaitLine {
+        session,
+        pid,
+        symbols: symbols_of(beside, session, session.program_of(pid)),
+    };
+    line.to_string(alloc).ok()
+}
+
+impl<E: Write> Teller<E> {
+    /// Nothing is told yet.
+    pub fn new(alloc: Global, errors: E, symbols: Vec<Vec<u8>>, explain: bool) -> Teller<E> {
+        Teller {
+            alloc,
+            errors,
+            symbols,
+            explain,
+            steps: 0,
+            stepper: Runner {
+                pid: None,
+                program: None,
+            },
+            idles: 0,
+            halted: false,
+        }
+    }
+
+    /// Tells what came of Runs.
+    pub fn tell_runs(&mut self, session: &Session, runner: &Runner, runs: &Runs) {
+        if let Some(Outcome::Faulted { pid, .. }) = &runs.last {
+            self.tell_fault(session, *pid, runner);
+        }
+        if self.explain {
+            self.explain_runs(session, runner, runs);
+        }
+    }
+
+    /// Tells the fault of the last event.
+    fn tell_fault(&mut self, session: &Session, pid: Pid, runner: &Runner) {
+        let place = session.at().saturating_sub(1);
+        if let Ok(Some(report)) = report_at(self.alloc, session, place) {
+            let beside = self.symbols.as_slice();
+            if let Some(text) = fault_text(self.alloc, &report, beside, session, runner.program) {
+                let _ = writeln!(self.errors, "{text}");
+                return;
+            }
+        }
+        let who = who(session, pid, runner.program);
+        let _ = writeln!(self.errors, "{who}: a fault, and no memory to tell it");
+    }
+
+    /// Tells in words what came of Runs.
+    fn explain_runs(&mut self, session: &Session, runner: &Runner, runs: &Runs) {
+        let Some(last) = &runs.last else {
+            self.add_steps(runner, runs.sent);
+            return;
+        };
+        match last {
+            Outcome::Idle => {
+                self.close_steps(session);
+                self.idles = self.idles.saturating_add(u64::from(runs.sent));
+            }
+            Outcome::Halted => self.say_halted(session),
+            _ => {
+                self.add_steps(runner, runs.sent.saturating_sub(1));
+                self.explain(session, runner, last);
+            }
+        }
+    }
+
+    /// Counts done instructions.
+    fn add_steps(&mut self, runner: &Runner, count: u32) {
+        if count == 0 {
+            return;
+        }
+        self.close_idles();
+        self.stepper = Runner {
+            pid: runner.pid,
+            program: runner.program,
+        };
+        self.steps = self.steps.saturating_add(u64::from(count));
+    }
+
+    /// Tells the done instructions that were counted.
+    fn close_steps(&mut self, session: &Session) {
+        if self.steps == 0 {
+            return;
+        }
+        if let Some(pid) = self.stepper.pid {
+            let who = who(session, pid, self.stepper.program);
+            let steps = self.steps;
+            let _ = if steps == 1 {
+                writeln!(self.errors, "{who} does an instruction")
+            } else {
+                writeln!(self.errors, "{who} does {steps} instructions")
+            };
+        }
+        self.steps = 0;
+    }
+
+    /// Tells the Runs in which nobody could run.
+    fn close_idles(&mut self) {
+        if self.idles == 0 {
+            return;
+        }
+        let idles = self.idles;
+        let _ = if idles == 1 {
+            writeln!(self.errors, "nobody may run")
+        } else {
+            writeln!(self.errors, "nobody may run, in {idles} Runs")
+        };
+        self.idles = 0;
+    }
+
+    /// Tells all that was counted.
+    pub fn close(&mut self, session: &Session) {
+        self.close_steps(session);
+        self.close_idles();
+    }
+
+    /// Tells what came of a Run, but a done instruction, in words.
+    fn explain(&mut self, session: &Session, runner: &Runner, outcome: &Outcome) {
+        self.close(session);
+        let before = runner.program;
+        match outcome {
+            Outcome::Turn { pid } => {
+                let who = who(session, *pid, session.program_of(*pid));
+                let _ = writeln!(self.errors, "{who} has its turn");
+            }
+            Outcome::Called { pid, number, value } => {
+                let who = who(session, *pid, session.program_of(*pid));
+                let _ = match call_name(*number) {
+                    Some(name) => writeln!(self.errors, "{who}: {name} answers {value}"),
+                    None => writeln!(self.errors, "{who}: call {number} answers {value}"),
+                };
+            }
+            Outcome::Blocked { pid, .. } => {
+                let who = who(session, *pid, session.program_of(*pid));
+                let _ = match waits_for(session.machine(), *pid) {
+                    Some(wait) => {
+                        let asleep = Asleep(&wait);
+                        writeln!(self.errors, "{who} waits in {asleep}")
+                    }
+                    None => writeln!(self.errors, "{who} waits"),
+                };
+            }
+            Outcome::Exited { pid, status } => {
+                let who = who(session, *pid, before);
+                let _ = writeln!(self.errors, "{who} is gone, with status {status}");
+            }
+            Outcome::Faulted { pid, cause } => {
+                let who = who(session, *pid, before);
+                let code = cause.code();
+                let _ = writeln!(self.errors, "{who} is gone by a fault of cause {code}");
+            }
+            _ => {}
+        }
+    }
+
+    /// Tells once that the machine has halted.
+    fn say_halted(&mut self, session: &Session) {
+        self.close(session);
+        if !self.halted {
+            let _ = writeln!(self.errors, "the machine has halted");
+        }
+        self.halted = true;
+    }
+
+    /// Tells what came of an event other than Run.
+    pub fn tell_event(&mut self, session: &Session, event: Event, outcome: &Outcome) {
+        if !self.explain {
+            return;
+        }
+        match outcome {
+            Outcome::Ticked => {
+                self.close(session);
+                let _ = writeln!(self.errors, "-- a tick");
+            }
+            Outcome::Typed(echo) => {
+                self.close(session);
+                let Event::Key(key) = event else {
+                    return;
+                };
+                let key = Key(key);
+                let _ = if echo.is_empty() {
+                    writeln!(self.errors, "{key} is typed, and nothing is shown")
+                } else {
+                    writeln!(self.errors, "{key} is typed")
+                };
+            }
+            Outcome::Sent(Some(byte)) => {
+                self.close(session);
+                let byte = Letter(*byte);
+                let _ = writeln!(self.errors, "{byte} is sent to the terminal");
+            }
+            Outcome::Halted => self.say_halted(session),
+            _ => {}
+        }
+    }
+
+    /// Writes the notes that the machine keeps, the oldest first.
+    pub fn show_trace(&mut self, session: &Session) {
+        let machine = session.machine();
+        for place in 0..machine.trace_len() {
+            if let Some(note) = machine.trace(place) {
+                let _ = writeln!(self.errors, "{note}");
+            }
+        }
+    }
+
+    /// Tells of each process that has not ended why it doesn't go on; where the machine has halted, of none.
+    pub fn tell_waits(&mut self, session: &Session) {
+        if session.machine().halted().is_some() {
+            return;
+        }
+        for slot in 0..NPROC {
+            if let Some(pid) = session.machine().pid_in(slot) {
+                self.tell_wait(session, pid);
+            }
+        }
+    }
+
+    /// Tells why a live process doesn't go on.
+    fn tell_wait(&mut self, session: &Session, pid: Pid) {
+        let Some(ProcessState::Live { .. }) = session.machine().process(pid) else {
+            return;
+        };
+        if let Some(text) = wait_text(self.alloc, self.symbols.as_slice(), session, pid) {
+            let _ = writeln!(self.errors, "{text}");
+        }
+    }
+
+    /// Writes a closing line.
+    pub fn say(&mut self, what: &str) {
+        let _ = writeln!(self.errors, "xv_why: {what}");
+    }
+
+    /// Writes the closing line of a run in which `init` exited with this status.
+    pub fn say_exit(&mut self, status: i32) {
+        let _ = writeln!(self.errors, "xv_why: init exited with {status}");
+    }
+
+    /// Writes the closing line of a run that has not begun.
+    pub fn say_failure(&mut self, failure: &Failure<'_>) {
+        let _ = failure.close(&mut self.errors);
+    }
+}
