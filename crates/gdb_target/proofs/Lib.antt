@@ -1,0 +1,2 @@
+pub mod PlayedOn
+pub mod Sending

@@ -1,0 +1,25 @@
+use Rattle.std.proofs.Common.{◌≡◌, ◌∙◌, ◌+◌, true, length, sym, ap, arith}
+use Rattle.kernel_spec.specs.runs.Run.{Run}
+use Rattle.xv_machine.specs.Events.{event_of}
+use Rattle.gdb_target.specs.PlayedBy.{is_run}
+use Rattle.gdb_target.proofs.Sending.{runs_count}
+use Rattle.xv_session.specs.Recorded.{Recorded}
+use Rattle.gdb_target.proofs.PlayedOn.{after_result, played_runs, played_still, run_of_true}
+use Rattle.gdb_target.proofs.played.Played.run.Goals as goal
+
+pub invariant_of-self : goal.invariant_of-self
+invariant_of-self c =
+    let s = c.args.self.now in
+    let n = c.next-next in
+    let test : is_run (event_of n.result.event) ≡ true = cc in
+    let runs_next : event_of n.result.event ≡ Run = run_of_true (event_of n.result.event) test in
+    record {
+      played =
+          after_result c.run.result _ c.run.ensures.sent c.run.ensures.refused
+          (λ r sent.
+          let count = runs_count _ _ _ _ _ sent.0 in
+          let few = count.within in
+          played_runs s.rounds.keys.items s.rounds.quantum s.session.events c.run.new.self.events r.sent n.result.count s.played (omega (arith, c.min.ensures)) (λ k h. n.ensures.equal k h ∙ runs_next)
+          (ap (λ (x : Recorded). x.events) sent.1))
+          (λ e same. played_still s.rounds.keys.items s.rounds.quantum s.session.events c.run.new.self.events s.played (ap (λ (x : Recorded). x.events) same));
+    }

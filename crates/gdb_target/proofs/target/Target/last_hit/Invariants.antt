@@ -1,0 +1,10 @@
+use Rattle.std.proofs.Common.{◌≡◌, ◌-◌, ◌<◌, ◌≤◌, length, max}
+use Rattle.std.specs.Prelude.{IfSome}
+use Rattle.gdb_target.specs.SameRun.{beginning}
+use Rattle.gdb_target.proofs.target.Target.last_hit.Given as goal
+
+abbrev pub invariant-places : goal.invariant-places
+invariant-places l = record { within : length l.self.run.session.events ≤ l.end; hit : IfSome l.last (λ found. found.place < l.end); same : beginning l.self.run ≡ beginning l.fn.self.run }
+
+abbrev pub decreases-places : goal.decreases-places
+decreases-places l = l.end - length l.self.run.session.events

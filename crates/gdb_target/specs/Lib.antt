@@ -1,0 +1,5 @@
+pub mod PlayedBy
+pub mod SameRun
+pub mod Standing
+pub mod Found
+pub mod Told

@@ -1,0 +1,22 @@
+//! What GDB debugs: a machine that goes on by its rounds, and back, and what GDB is told of it.
+//!
+//! A [`Played`] run gets the events of its rounds, and no other, so each place of it is settled from the start. A
+//! [`Target`] has such a run, and what GDB has chosen of it. [`Target::answer`] answers each command that leaves the
+//! machine where it is; [`Target::go`] goes on, and [`Target::go_back`] goes back. What an answer tells of the
+//! machine stands in `specs/Told.antt`, and which events the machine has got in `specs/PlayedBy.antt`.
+#![tactic(auto)]
+
+mod answers;
+mod documents;
+mod places;
+mod played;
+mod points;
+mod reverse;
+mod target;
+mod words;
+
+pub use answers::{malformed, no_such_process};
+pub use played::Played;
+pub use points::{Points, Watched};
+pub use reverse::Back;
+pub use target::{Going, Pause, Stopped, Target, Until};

@@ -1,0 +1,155 @@
+//! What there is to see at a place of a run.
+ghost use Rattle.std.specs.Prelude.{◌≡◌, Some, IfSome};
+ghost use Rattle.gdb_target.specs.Standing.{Starts, StandsAt, does_instruction};
+
+use crate::played::{Played, is_run};
+use crate::points::{Points, Watched};
+use crate::target::Stopped;
+use gdb_packets::StopReason;
+use kcall_core::ProcessState;
+use std::alloc::{AllocError, Global};
+use xk_base::Pid;
+use xv_machine::Machine;
+
+/// Whether a process that is what this says does an instruction when it runs.
+fn does_instruction(state: &Option<ProcessState>) -> bool
+    ensures { result ≡ does_instruction state.now }
+{
+    match state {
+        Some(
+            ProcessState::Live {
+                marked,
+                call: None,
+                ..
+            },
+        ) => !*marked,
+        _ => false,
+    }
+}
+
+/// The process that does an instruction by the next event; `None` where the next event is none of an instruction.
+pub(crate) fn starts(run: &Played) -> Option<Pid>
+    ensures { IfSome result (λ pid. Starts run.now pid) }
+{
+    let machine = run.machine();
+    let pid = machine.current()?;
+    if is_run(run.next().event) && does_instruction(&machine.process(pid)) {
+        return Some(pid);
+    }
+    None
+}
+
+/// The process of this program that stands at a breakpoint, and does the instruction there by the next event.
+pub(crate) fn at_breakpoint(run: &Played, points: &Points, program: usize) -> Option<Pid>
+    ensures { IfSome result (λ pid. StandsAt run.now program points.now.breakpoints.items pid) }
+{
+    let pid = starts(run)?;
+    let regs = run.machine().registers(pid)?;
+    if !points.is_breakpoint(regs.pc()) || run.session.program_of(pid) != Some(program) {
+        return None;
+    }
+    Some(pid)
+}
+
+/// What stood in the bytes that are watched, of a process.
+#[derive(Drop)]
+pub(crate) struct Glimpse {
+    of: Option<Pid>,
+    bytes: Vec<Option<u8>>,
+}
+
+/// Adds what stands in the bytes that are watched.
+fn push_bytes(
+    machine: &Machine,
+    pid: Pid,
+    watched: &Watched,
+    bytes: &mut Vec<Option<u8>>,
+) -> Result<(), AllocError> {
+    for place in 0..watched.length {
+        bytes.push(machine.peek(pid, watched.address.wrapping_add(place)))?;
+    }
+    Ok(())
+}
+
+/// What stands in the bytes that are watched, of the process that runs; nothing where none of the program runs.
+pub(crate) fn watched_now(
+    alloc: Global,
+    run: &Played,
+    points: &Points,
+    program: usize,
+) -> Result<Glimpse, AllocError> {
+    let mut bytes = Vec::new(alloc);
+    let machine = run.machine();
+    let Some(pid) = machine.current() else {
+        return Ok(Glimpse { of: None, bytes });
+    };
+    if points.watched().is_empty() || run.session.program_of(pid) != Some(program) {
+        return Ok(Glimpse { of: None, bytes });
+    }
+    for watched in points.watched() {
+        push_bytes(machine, pid, watched, &mut bytes)?;
+    }
+    Ok(Glimpse {
+        of: Some(pid),
+        bytes,
+    })
+}
+
+/// Whether other bytes stand from an address on.
+fn differs(machine: &Machine, pid: Pid, address: u64, bytes: &[Option<u8>]) -> bool {
+    for place in 0..bytes.len() {
+        if machine.peek(pid, address.wrapping_add(place as u64)) != bytes[place] {
+            return true;
+        }
+    }
+    false
+}
+
+/// A change of bytes that are watched.
+#[derive(Clone, Copy)]
+pub(crate) struct Change {
+    /// The process whose bytes they are.
+    pub pid: Pid,
+    /// The address from which on they are watched.
+    pub address: u64,
+}
+
+impl Change {
+    /// The stop that tells it.
+    pub fn stopped(&self) -> Stopped
+        ensures reason { result.reason ≡ StopReason.Watch self.now.address }
+        ensures pid { result.pid ≡ self.now.pid }
+    {
+        Stopped {
+            reason: StopReason::Watch(self.address),
+            pid: self.pid,
+        }
+    }
+}
+
+/// The first change of bytes that are watched, of the process that was glimpsed.
+pub(crate) fn changed(
+    run: &Played,
+    points: &Points,
+    program: usize,
+    before: &Glimpse,
+) -> Option<Change> {
+    let pid = before.of?;
+    let machine = run.machine();
+    if machine.registers(pid).is_none() || run.session.program_of(pid) != Some(program) {
+        return None;
+    }
+    let mut rest = before.bytes.as_slice();
+    for watched in points.watched() {
+        let count = watched.length.min(rest.len() as u64) as usize;
+        let (bytes, others) = rest.split_at(count);
+        if differs(machine, pid, watched.address, bytes) {
+            return Some(Change {
+                pid,
+                address: watched.address,
+            });
+        }
+        rest = others;
+    }
+    None
+}

@@ -1,0 +1,134 @@
+//! A run on its way.
+ghost use Rattle.std.specs.Prelude.{◌≡◌, ℕ, ◌+◌, ◌≤◌, ◌<◌, IfOk, IfErr, length, min};
+ghost use Rattle.kernel_spec.specs.runs.Run as runs;
+ghost use Rattle.xv_machine.specs.Events.{event_of};
+ghost use Rattle.gdb_machine.specs.Rounds.{event_at};
+ghost use Rattle.gdb_target.specs.PlayedBy.{IsPlayedBy, is_run};
+
+use gdb_machine::{Next, Rounds};
+use std::alloc::Global;
+use xk_base::{BootError, Program};
+use xv_machine::{Config, Event, Machine, Outcome};
+use xv_session::{Runs, Session, SessionError};
+
+/// Whether an event is Run.
+pub(crate) fn is_run(event: Event) -> bool
+    ensures { result ≡ is_run (event_of event) }
+{
+    match event {
+        Event::Run => true,
+        Event::Tick | Event::Key(_) | Event::Send => false,
+    }
+}
+
+/// A session whose machine gets the events of its rounds, and no other: at each place of the run the next event is
+/// settled. So to go back and on again leads to the same.
+#[derive(Drop)]
+pub struct Played {
+    pub session: Session,
+    pub rounds: Rounds,
+    ghost played: { IsPlayedBy rounds session },
+}
+
+impl Played {
+    ghost use Rattle.std.specs.Prelude.{map};
+    ghost use Rattle.kernel_spec.specs.views.State.{named_file};
+    ghost use Rattle.xv_session.specs.Answers.{IsNew};
+    ghost use Rattle.gdb_target.specs.SameRun.{beginning};
+    ghost use Rattle.gdb_target.specs.Standing.{NextIsRun};
+
+    /// A run of these programs, which stands before its first event.
+    ///
+    /// # Errors
+    ///
+    /// Those of [`Session::boot`].
+    pub fn boot(
+        alloc: Global,
+        frames: u32,
+        programs: Vec<Program>,
+        rounds: Rounds,
+    ) -> Result<Played, BootError>
+        ensures { IfOk result (λ p. IsNew frames 0 (map named_file programs.items) p.session) }
+    {
+        match Session::boot(alloc, Config { frames, trace: 0 }, programs) {
+            Ok(session) => Ok(Played { session, rounds }),
+            Err(error) => Err(error),
+        }
+    }
+
+    /// The machine, to be looked at.
+    pub fn machine(&self) -> &Machine
+        ensures { result.now ≡ self.now.session.machine }
+    {
+        self.session.machine()
+    }
+
+    /// How many events the machine has got.
+    pub fn at(&self) -> u64
+        ensures { result ≡ length self.now.session.events }
+    {
+        self.session.at()
+    }
+
+    /// What comes next, and how many of its kind.
+    pub fn next(&self) -> Next
+        ensures event { event_at self.now.rounds.keys.items self.now.rounds.quantum (length self.now.session.events) ≡ event_of result.event }
+        ensures equal { (k : ℕ) → k < result.count → event_at self.now.rounds.keys.items self.now.rounds.quantum (length self.now.session.events + k) ≡ event_of result.event }
+        ensures some { 0 < result.count }
+    {
+        self.rounds.at(self.session.at())
+    }
+
+    /// Sends the next event, whatever it is, and tells what came of it.
+    ///
+    /// # Errors
+    ///
+    /// Those of [`Session::send`]: nothing is sent.
+    pub fn send(&mut self) -> Result<Outcome, SessionError>
+        ensures one { IfOk result (λ _. length self.new.session.events ≡ length self.old.session.events + 1) }
+        ensures refused { IfErr result (λ _. self.new.session ≡ self.old.session) }
+        ensures same { beginning self.new ≡ beginning self.old }
+    {
+        let next = self.next();
+        let outcome = self.session.send(next.event)?;
+        Ok(outcome)
+    }
+
+    /// Sends Runs as long as the next event is one, `most` at most, as [`Session::run`] does.
+    ///
+    /// # Errors
+    ///
+    /// Those of [`Session::run`]: nothing is sent.
+    pub fn run(&mut self, most: u32) -> Result<Runs, SessionError>
+        ensures sent { IfOk result (λ runs. length self.new.session.events ≡ length self.old.session.events + runs.sent) }
+        ensures within { IfOk result (λ runs. runs.sent ≤ most) }
+        ensures some { IfOk result (λ runs. 0 < most → NextIsRun self.old → 0 < runs.sent) }
+        ensures refused { IfErr result (λ _. self.new.session ≡ self.old.session) }
+        ensures same { beginning self.new ≡ beginning self.old }
+    {
+        let next = self.next();
+        if !is_run(next.event) {
+            return Ok(Runs {
+                sent: 0,
+                last: None,
+            });
+        }
+        let runs = self.session.run(most.min(next.count))?;
+        Ok(runs)
+    }
+
+    /// Goes back to a place of the run: its machine is then what it was there. If it has got fewer events, it stays
+    /// where it is.
+    ///
+    /// # Errors
+    ///
+    /// [`SessionError::Memory`] if the host has too little memory for a second machine: it stays where it is.
+    pub fn back_to(&mut self, alloc: Global, place: u64) -> Result<(), SessionError>
+        ensures back { IfOk result (λ _. length self.new.session.events ≡ min place (length self.old.session.events)) }
+        ensures refused { IfErr result (λ _. self.new.session ≡ self.old.session) }
+        ensures same { beginning self.new ≡ beginning self.old }
+    {
+        self.session.back_to(alloc, place)?;
+        Ok(())
+    }
+}

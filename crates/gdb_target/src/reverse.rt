@@ -1,0 +1,248 @@
+//! Going back.
+ghost use Rattle.std.specs.Prelude.{◌≡◌, ◌≤◌, ◌<◌, IfOk, IfSome, length};
+ghost use Rattle.gdb_target.specs.Found.{IsBefore, StandsFor, trapped};
+ghost use Rattle.gdb_target.specs.Standing.{Starts};
+ghost use Rattle.gdb_target.specs.SameRun.{beginning};
+
+use crate::places::{at_breakpoint, changed, starts, watched_now};
+use crate::played::is_run;
+use crate::target::{Stopped, Target};
+use gdb_packets::StopReason;
+use std::alloc::Global;
+use xk_base::Pid;
+use xv_session::SessionError;
+
+/// How far back is looked first, in events.
+const FIRST_WINDOW: u64 = 1024;
+
+/// How many times as far is looked each time.
+const WINDOW_GROWTH: u64 = 16;
+
+/// How often it is looked further back, so that all of a run is.
+const WINDOWS: u32 = 16;
+
+/// What is looked for, back in the run.
+#[derive(Clone, Copy, Debug, PartialEq, Eq)]
+pub enum Back {
+    /// The last place before here at which the process was about to do an instruction.
+    StepOf(Pid),
+    /// The last place before here at which a process of the program stood at a breakpoint, or was about to change
+    /// bytes that are watched.
+    Point,
+}
+
+/// A place of the run, and the process that stops there.
+#[derive(Clone, Copy)]
+struct Hit {
+    place: u64,
+    pid: Pid,
+    /// The address of watched bytes that it changes by the next event, if that is why it stops.
+    watched: Option<u64>,
+}
+
+impl Target {
+    /// Sends the next event; so many Runs at once, if nobody runs, as lie before the place `end`.
+    fn send_one(&mut self, end: u64) -> Result<(), SessionError>
+        requires { length self.old.run.session.events < end }
+        ensures more { IfOk result (λ _. length self.old.run.session.events < length self.new.run.session.events) }
+        ensures within { length self.new.run.session.events ≤ end }
+        ensures same { beginning self.new.run ≡ beginning self.old.run }
+    {
+        let next = self.run.next();
+        if !is_run(next.event) {
+            let _ = self.run.send()?;
+            return Ok(());
+        }
+        let left = end - self.run.at();
+        let most = if self.run.machine().current().is_some() {
+            1
+        } else {
+            u64::from(next.count).min(left) as u32
+        };
+        let _ = self.run.run(most)?;
+        Ok(())
+    }
+
+    /// Sends the next event, and tells whether the process was about to do an instruction.
+    fn look_for_step(&mut self, pid: Pid, place: u64, end: u64) -> Result<Option<Hit>, SessionError>
+        requires { length self.old.run.session.events < end }
+        ensures more { IfOk result (λ _. length self.old.run.session.events < length self.new.run.session.events) }
+        ensures within { length self.new.run.session.events ≤ end }
+        ensures hit { IfOk result (λ h. IfSome h (λ found. found.place ≡ place)) }
+        ensures same { beginning self.new.run ≡ beginning self.old.run }
+    {
+        let stood = starts(&self.run) == Some(pid);
+        self.send_one(end)?;
+        if !stood {
+            return Ok(None);
+        }
+        let watched = None;
+        Ok(Some(Hit {
+            place,
+            pid,
+            watched,
+        }))
+    }
+
+    /// Sends the next event, and tells whether a process stood at a breakpoint before it, or changed watched bytes.
+    fn look_for_point(
+        &mut self,
+        alloc: Global,
+        place: u64,
+        end: u64,
+    ) -> Result<Option<Hit>, SessionError>
+        requires { length self.old.run.session.events < end }
+        ensures more { IfOk result (λ _. length self.old.run.session.events < length self.new.run.session.events) }
+        ensures within { length self.new.run.session.events ≤ end }
+        ensures hit { IfOk result (λ h. IfSome h (λ found. found.place ≡ place)) }
+        ensures same { beginning self.new.run ≡ beginning self.old.run }
+    {
+        let stood = at_breakpoint(&self.run, &self.points, self.program);
+        let Ok(before) = watched_now(alloc, &self.run, &self.points, self.program) else {
+            return Err(SessionError::Memory);
+        };
+        self.send_one(end)?;
+        if let Some(change) = changed(&self.run, &self.points, self.program, &before) {
+            return Ok(Some(Hit {
+                place,
+                pid: change.pid,
+                watched: Some(change.address),
+            }));
+        }
+        let Some(pid) = stood else {
+            return Ok(None);
+        };
+        let watched = None;
+        Ok(Some(Hit {
+            place,
+            pid,
+            watched,
+        }))
+    }
+
+    /// Sends the next event, and tells whether what is looked for stood before it, at this place.
+    fn look(
+        &mut self,
+        alloc: Global,
+        back: &Back,
+        place: u64,
+        end: u64,
+    ) -> Result<Option<Hit>, SessionError>
+        requires { length self.old.run.session.events < end }
+        ensures more { IfOk result (λ _. length self.old.run.session.events < length self.new.run.session.events) }
+        ensures within { length self.new.run.session.events ≤ end }
+        ensures hit { IfOk result (λ h. IfSome h (λ found. found.place ≡ place)) }
+        ensures same { beginning self.new.run ≡ beginning self.old.run }
+    {
+        match back {
+            Back::StepOf(pid) => self.look_for_step(*pid, place, end),
+            Back::Point => self.look_for_point(alloc, place, end),
+        }
+    }
+
+    /// The last place, from here on and before `end`, at which what is looked for stood. The run is then at `end`.
+    fn last_hit(
+        &mut self,
+        alloc: Global,
+        back: &Back,
+        end: u64,
+    ) -> Result<Option<Hit>, SessionError>
+        requires { length self.old.run.session.events ≤ end }
+        ensures hit { IfOk result (λ h. IfSome h (λ found. found.place < end)) }
+        ensures end { IfOk result (λ _. length self.new.run.session.events ≡ end) }
+        ensures same { beginning self.new.run ≡ beginning self.old.run }
+    {
+        let mut last = None;
+        'places: while self.run.at() < end {
+            let place = self.run.at();
+            if let Some(hit) = self.look(alloc, back, place, end)? {
+                last = Some(hit);
+            }
+        }
+        Ok(last)
+    }
+
+    /// The last place before here at which what is looked for stood. It is looked for from ever further back on, and
+    /// the run is then where it was.
+    fn search(&mut self, alloc: Global, back: &Back) -> Result<Option<Hit>, SessionError>
+        ensures hit { IfOk result (λ h. IfSome h (λ found. found.place < length self.old.run.session.events)) }
+        ensures end { IfOk result (λ _. length self.new.run.session.events ≡ length self.old.run.session.events) }
+        ensures same { beginning self.new.run ≡ beginning self.old.run }
+    {
+        let end = self.run.at();
+        let mut window = FIRST_WINDOW;
+        'windows: for _ in 0..WINDOWS {
+            let begin = end.saturating_sub(window);
+            self.run.back_to(alloc, begin)?;
+            let hit = self.last_hit(alloc, back, end)?;
+            if hit.is_some() || begin == 0 {
+                return Ok(hit);
+            }
+            window = window.saturating_mul(WINDOW_GROWTH);
+        }
+        Ok(None)
+    }
+
+    /// The process, if it does an instruction by the next event.
+    fn stands_for_step(&self, wanted: Pid) -> Option<Pid>
+        ensures same { IfSome result (λ pid. pid ≡ wanted) }
+        ensures starts { IfSome result (λ _. Starts self.now.run wanted) }
+    {
+        let pid = starts(&self.run)?;
+        if pid == wanted {
+            return Some(pid);
+        }
+        None
+    }
+
+    /// The process that stands here for what was looked for, where no watched bytes were.
+    fn process_here(&self, back: &Back) -> Option<Pid>
+        ensures { IfSome result (λ pid. trapped self.now back.now pid) }
+    {
+        match back {
+            Back::StepOf(pid) => self.stands_for_step(*pid),
+            Back::Point => at_breakpoint(&self.run, &self.points, self.program),
+        }
+    }
+
+    /// What stands here of what was looked for, and was found here; the begin of the run, where nothing does.
+    fn standing(&self, back: &Back, hit: &Hit) -> Stopped
+        ensures { StandsFor self.now back.now result.reason result.pid }
+    {
+        if let Some(address) = hit.watched {
+            return Stopped {
+                reason: StopReason::Watch(address),
+                pid: hit.pid,
+            };
+        }
+        let Some(pid) = self.process_here(back) else {
+            return self.stop_here(StopReason::Begin);
+        };
+        Stopped {
+            reason: StopReason::Trap,
+            pid,
+        }
+    }
+
+    /// Goes back to where what is looked for stood last, and tells what stands there; where it never did, to the
+    /// place before the first event.
+    ///
+    /// # Errors
+    ///
+    /// [`SessionError::Memory`] where the host has too little memory for a second machine: the run may then stand at
+    /// any of its places up to where it was.
+    pub fn go_back(&mut self, alloc: Global, back: &Back) -> Result<Stopped, SessionError>
+        ensures before { IfOk result (λ _. IsBefore self.old.run self.new.run) }
+        ensures stands { IfOk result (λ s. StandsFor self.new back.now s.reason s.pid) }
+        ensures same { beginning self.new.run ≡ beginning self.old.run }
+    {
+        let hit = self.search(alloc, back)?;
+        self.forget_told();
+        let Some(hit) = hit else {
+            self.run.back_to(alloc, 0)?;
+            return Ok(self.stop_here(StopReason::Begin));
+        };
+        self.run.back_to(alloc, hit.place)?;
+        Ok(self.standing(back, &hit))
+    }
+}
