@@ -1,7 +1,8 @@
 #!/bin/sh
-# The checks beside the proofs: checks/run.sh plays the sessions and the stored runs by the program that is built, looks at
-# the links of the pages, and tells whether page/nektavoly.html is of these sources, in some seconds. The gate does the same
-# behind `rt ci`. `checks/run.sh --others` tells which other checks there are, how each is called, and how long it takes.
+# The checks beside the proofs: checks/run.sh plays the sessions, the stored runs and the reports by the programs that are
+# built, looks at the links of the pages, and tells whether page/nektavoly.html is of these sources, in some seconds. The gate
+# does the same behind `rt ci`. `checks/run.sh --others` tells which other checks there are, how each is called, and how long
+# it takes.
 set -u
 cd "$(dirname "$0")/.." || exit 2
 
@@ -38,7 +39,7 @@ case "$*" in
 esac
 
 failed=
-for check in checks/sessions/run.sh checks/stored-runs/run.sh 'python3 -B checks/links.py' page/is_current.sh; do
+for check in checks/sessions/run.sh checks/stored-runs/run.sh checks/why/run.sh 'python3 -B checks/links.py' page/is_current.sh; do
     $check || failed="$failed $check;"
 done
 [ -z "$failed" ] || {

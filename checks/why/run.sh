@@ -1,0 +1,71 @@
+#!/bin/sh
+# Runs the programs of this folder under the shell, as a student would, and compares what is told of why they end or
+# wait. A report that is another is shown with what differs, and a verdict comes at the end; the status is 0 if all are
+# as they should be. XV_WHY is the program, and without it the one that stands in this repository.
+#
+#   checks/why/run.sh           compares
+#   checks/why/run.sh --store   keeps what is told now
+#
+# NAME.s.txt and NAME.c.txt have what standard error gets. The programs in C need the compiler with which the texts were
+# made (Debian 12: apt-get install gcc-riscv64-unknown-elf, version 12.2): with no compiler or another one they are left
+# out, and the verdict says so.
+set -u
+here=$(dirname "$(readlink -f -- "$0")")
+root=$here/../..
+store=
+case "$*" in
+'') ;;
+--store) store=yes ;;
+*)
+    echo 'usage: checks/why/run.sh [--store]' >&2
+    exit 2
+    ;;
+esac
+built=$root/crates/xv_why/out/xv_why
+[ ! -d "$root/bin" ] || built=$root/bin/xv_why
+program=${XV_WHY-$built}
+[ -x "$program" ] || { echo "there is no program $program: build it by ./xv" >&2; exit 2; }
+XV_WHY=$(readlink -f -- "$program")
+export XV_WHY
+room=$(mktemp -d) || exit 2
+trap 'rm -rf "$room"' EXIT
+count=0
+others=0
+
+# Runs the program of file $1, which is named $2, and compares what is told with the text $3.
+try() {
+    printf '%s\n' "$2" |
+        "$root/programs/host/why.sh" --rounds 2000 "$root/programs/bin/init" "$root/programs/bin/sh" "$1" 2>"$room/told" >/dev/null
+    count=$((count + 1))
+    if [ -n "$store" ]; then
+        cp "$room/told" "$here/$3"
+    elif ! cmp -s "$room/told" "$here/$3"; then
+        echo "$3 is another:"
+        diff "$here/$3" "$room/told"
+        others=$((others + 1))
+    fi
+}
+
+for source in "$here"/*.s; do
+    name=$(basename "$source" .s)
+    try "$source" "$name" "$name.s.txt"
+done
+
+without=
+case $(riscv64-unknown-elf-gcc -dumpfullversion 2>/dev/null) in
+    12.2.*)
+        cp "$here"/*.c "$room"
+        # A chain of frames can be followed where the compiler keeps them.
+        CFLAGS='-fno-omit-frame-pointer -Wno-infinite-recursion -Wno-unused-variable'
+        export CFLAGS
+        "$root/programs/c/build.sh" "$room"/*.c || exit 2
+        for source in "$room"/*.c; do
+            name=$(basename "$source" .c)
+            try "$room/$name" "$name" "$name.c.txt"
+        done
+        ;;
+    *) without=', without those in C: there is no compiler of version 12.2' ;;
+esac
+[ "$others" = 0 ] && echo "all $count reports are as they should be$without" && exit 0
+echo "$others of $count reports are others$without"
+exit 1
