@@ -7,7 +7,7 @@ use std::rt::Files;
 /// The most bytes of a file for debuggers that are read: 64 MiB.
 const SYMBOL_BYTES: u64 = 67_108_864;
 
-/// The bytes of a file; none where it can't be read, or is longer.
+/// The bytes of a file; none if it can't be read, or is longer.
 fn bytes_of<F: Read + Drop>(alloc: Global, file: F) -> Vec<u8> {
     let mut bytes = Vec::new(alloc);
     match file.take(SYMBOL_BYTES).read_to_end(&mut bytes) {
@@ -16,7 +16,7 @@ fn bytes_of<F: Read + Drop>(alloc: Global, file: F) -> Vec<u8> {
     }
 }
 
-/// What stands for debuggers beside the FILE of this path, as compilers leave it: the bytes of PATH.debug; none where
+/// What stands for debuggers beside the FILE of this path, as compilers leave it: the bytes of PATH.debug; none if
 /// there is no such file.
 fn beside<R: Files + AllocGlobal>(rt: &R, path: &str) -> Result<Vec<u8>, AllocError> {
     let path = format!(in rt.alloc(); "{path}.debug")?;

@@ -126,11 +126,11 @@ impl<E: Write> Teller<E> {
 
     /// Tells what came of Runs.
     pub fn tell_runs(&mut self, session: &Session, runner: &Runner, runs: &Runs) {
-        if let Some(Outcome::Faulted { pid, .. }) = &runs.last {
-            self.tell_fault(session, *pid, runner);
-        }
         if self.explain {
             self.explain_runs(session, runner, runs);
+        }
+        if let Some(Outcome::Faulted { pid, .. }) = &runs.last {
+            self.tell_fault(session, *pid, runner);
         }
     }
 
@@ -307,7 +307,7 @@ impl<E: Write> Teller<E> {
         }
     }
 
-    /// Tells of each process that has not ended why it doesn't go on; where the machine has halted, of none.
+    /// Tells of each process that has not ended why it doesn't go on; if the machine has halted, of none.
     pub fn tell_waits(&mut self, session: &Session) {
         if session.machine().halted().is_some() {
             return;

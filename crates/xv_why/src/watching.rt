@@ -22,7 +22,7 @@ use xv_session::{Session, SessionError};
 /// Whether all bytes were written.
 type Written = Result<(), DeviceFault>;
 
-// Writes the bytes at once, where there are any.
+// Writes the bytes at once, if there are any.
 fn write_some<W: ByteSink>(sink: &mut W, bytes: &[u8]) -> Written
     ensures bytes { OnOk result (Appends (W.sink sink.old).held (W.sink sink.new).held bytes.now) }
     ensures call { OnOk result (Calls (W.sink sink.old).calls (W.sink sink.new).calls (call_of bytes.now)) }
@@ -52,7 +52,7 @@ fn perform<W: ByteSink, E: Write>(
     Ok(write_some(sink, outcome.shown()))
 }
 
-// Types the key, where there is one.
+// Types the key, if there is one.
 fn type_key<W: ByteSink, E: Write>(
     session: &mut Session,
     key: Option<u8>,
@@ -137,7 +137,7 @@ fn round<W: ByteSink, E: Write>(
     send_all(session, sink, teller)
 }
 
-// The next key; none where the source was at its end before.
+// The next key; none if the source was at its end before.
 fn take_key<R: KeySource>(at_end: bool, keys: &mut R) -> Result<Option<u8>, DeviceFault>
     ensures key { IfOk result (λ key. TakesKey at_end (R.source keys.old).left key (R.source keys.new).left) }
     ensures call { Asked (R.source keys.old).asked (R.source keys.new).asked (if at_end then 0 else 1) }
@@ -166,7 +166,7 @@ fn halted_now(session: &Session) -> Option<i32>
 ///
 /// # Errors
 ///
-/// A [`SessionError`] where the session has no room for an event: the events before it are sent.
+/// A [`SessionError`] if the session has no room for an event: the events before it are sent.
 pub(crate) fn watch<R: KeySource, W: ByteSink, E: Write>(
     session: &mut Session,
     plan: RunPlan,
