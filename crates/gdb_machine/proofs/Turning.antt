@@ -1,12 +1,12 @@
 -- The events of a run, place by place.
-use Rattle.std.proofs.Common.{◌≡◌, ◌∙◌, ℕ, zero, suc, ◌+◌, ◌-◌, ◌*◌, ◌/◌, ◌%◌, ◌<◌, ◌≤◌, ◌⊎◌, inl, inr, List, [], ◌∷◌, ◌++◌, Bool, true, false, cond, eqb, ltb, refl, sym, ap, subst, arith, length, length-append, take, append_assoc, append-nil, min}
+use Rattle.std.proofs.Common.{◌≡◌, ◌∙◌, ℕ, zero, suc, ◌+◌, ◌-◌, ◌*◌, ◌/◌, ◌%◌, ◌<◌, ◌≤◌, inl, inr, List, [], ◌∷◌, ◌++◌, refl, sym, ap, subst, arith, length, length-append, take, append_assoc, append-nil, min}
 use Rattle.std.specs.Prelude.{slice_index, replicate}
 use Rattle.std.proofs.lemmas.Bool.{cases_lt, lt-ltb, le-ltb, ne_eqb}
 use Rattle.std.proofs.Math.Nat.{mul-le-mul_right}
 use Rattle.std.proofs.lemmas.List.{take-append-le, take_all, replicate-append-replicate}
-use Rattle.std.proofs.lemmas.Nat.{div-mul-add, mod-mul-add, div-add-mod', mod_below, le-div}
-use Rattle.kernel_spec.specs.runs.Run.{Event, Run, Tick, Key, Send}
-use Rattle.gdb_machine.specs.Rounds.{behind_key, keyed, event_at, first_events, FirstOfFirst, MoreOfOneKind}
+use Rattle.std.proofs.lemmas.Nat.{div-mul-add, mod-mul-add, div-add-mod', le-div}
+use Rattle.kernel_spec.specs.runs.Run.{Event, Key}
+use Rattle.gdb_machine.specs.Rounds.{behind_key, event_at, first_events, FirstOfFirst, MoreOfOneKind}
 
 -- ---- the same round
 

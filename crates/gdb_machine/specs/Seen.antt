@@ -1,5 +1,5 @@
 -- What GDB is told of processes, registers and memory.
-use Rattle.std.specs.Prelude.{◌≡◌, ◌≢◌, ℕ, zero, suc, ◌+◌, ◌%◌, ◌^◌, ◌<◌, ◌⊎◌, ◌==◌, nat_lt, if◌then◌else◌, min, List, [], ◌++◌, length, slice_index, Option, Some, None, IsSome}
+use Rattle.std.specs.Prelude.{◌≡◌, ℕ, zero, suc, ◌+◌, ◌%◌, ◌^◌, ◌<◌, ◌⊎◌, ◌==◌, nat_lt, if◌then◌else◌, min, List, [], ◌++◌, length, slice_index, Option, Some, None, IsSome}
 use Rattle.std.specs.List.{All, Contains}
 use Rattle.std.specs.Int.{w64, to_le_bytes}
 use Rattle.rv64i_core.specs.Registers.{Registers, reg}

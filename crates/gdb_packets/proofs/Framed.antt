@@ -1,14 +1,12 @@
 -- What a packet gives that is read.
-use Rattle.std.proofs.Common.{◌≡◌, ◌≢◌, ◌∙◌, ℕ, ◌+◌, ◌*◌, ◌/◌, ◌%◌, ◌<◌, List, [], ◌∷◌, ◌++◌, Bool, true, false, eqb, refl, sym, ap, subst, Option, Some, None, arith, append_assoc, append-nil, zero-add, ne_eqb, lit<, cond}
+use Rattle.std.proofs.Common.{◌≡◌, ◌∙◌, ℕ, ◌+◌, ◌*◌, ◌/◌, ◌%◌, ◌<◌, List, [], ◌∷◌, ◌++◌, Bool, true, false, eqb, refl, sym, ap, subst, Some, arith, append_assoc, append-nil, zero-add, ne_eqb, lit<}
 use Rattle.std.proofs.lemmas.Bool.{eqb-true, eq-eqb}
 use Rattle.std.proofs.lemmas.List.Sums.{sum_by-append}
-use Rattle.gdb_packets.specs.Digits.{digit, digit_value}
+use Rattle.gdb_packets.specs.Digits.{digit}
 use Rattle.gdb_packets.specs.Laws.{ReadsBack, WrongSumsShow, with_digits}
-use Rattle.gdb_packets.specs.Packets.{Reading, begun, at, fed, fed_all, piece, pieces, added, escape, escaped, total, checksum, packet, summed, at_digit, behind_number}
-use Rattle.gdb_packets.specs.declared.reader.Phase.TheVariants.{Between, Body, FirstDigit, SecondDigit}
-use Rattle.gdb_packets.specs.declared.reader.Piece.{Piece}
-use Rattle.gdb_packets.specs.declared.reader.Piece.TheVariants.{Packet, Damaged}
-use Rattle.gdb_packets.proofs.SixteenDigits.{digit-value, IsDigitOf}
+use Rattle.gdb_packets.specs.Packets.{Reading, fed_all, pieces, escape, escaped, total, checksum, summed}
+use Rattle.gdb_packets.specs.declared.reader.Phase.TheVariants.{Body, FirstDigit}
+use Rattle.gdb_packets.proofs.SixteenDigits.{digit-value}
 use Rattle.gdb_packets.proofs.Fed.{fed_all-append, pieces-append}
 
 -- in the body, with a payload so far and a sum

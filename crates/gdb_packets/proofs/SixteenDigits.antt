@@ -1,5 +1,5 @@
 -- The sixteen digits.
-use Rattle.std.proofs.Common.{◌≡◌, ℕ, zero, suc, ◌<◌, Bool, false, eqb, refl, Some, arith}
+use Rattle.std.proofs.Common.{◌≡◌, ℕ, zero, suc, ◌<◌, false, eqb, refl, Some, arith}
 use Rattle.gdb_packets.specs.Digits.{digit, digit_value}
 
 -- a digit is no $, and stands for its number

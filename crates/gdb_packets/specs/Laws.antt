@@ -1,5 +1,5 @@
 -- What holds of packets, however they are cut.
-use Rattle.std.specs.Prelude.{◌≡◌, ◌≢◌, ℕ, ◌+◌, ◌*◌, ◌<◌, List, [], ◌∷◌, ◌++◌, Some}
+use Rattle.std.specs.Prelude.{◌≡◌, ◌≢◌, ℕ, ◌+◌, ◌*◌, ◌<◌, List, [], ◌∷◌, ◌++◌}
 use Rattle.gdb_packets.specs.Digits.{digit}
 use Rattle.gdb_packets.specs.Packets.{Reading, fed_all, pieces, packet, escaped, checksum}
 use Rattle.gdb_packets.specs.declared.reader.Piece.TheVariants.{Packet, Damaged}

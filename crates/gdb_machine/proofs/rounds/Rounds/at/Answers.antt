@@ -1,4 +1,4 @@
-use Rattle.std.proofs.Common.{◌≡◌, length, ◌+◌, ◌*◌, ◌-◌, ◌/◌, ◌%◌, arith}
+use Rattle.std.proofs.Common.{◌≡◌, length, arith}
 use Rattle.std.proofs.lemmas.Nat.{mod_below}
 use Rattle.gdb_machine.proofs.Turning.{unkeyed-goes, keyed-goes, inside-unkeyed, inside-keyed}
 use Rattle.gdb_machine.proofs.rounds.Rounds.at.Goals as goal
