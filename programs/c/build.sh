@@ -3,6 +3,7 @@
 #
 #   programs/c/build.sh            all programs of src/ into ../bin; programs/c/build.sh NAME.. builds some
 #   programs/c/build.sh --check    builds them into a folder of its own, and tells which of ../bin are others
+#   programs/c/build.sh --debug NAME..    leaves the names and lines of programs of src/ in ../bin/NAME.debug, for debuggers
 #   programs/c/build.sh my.c ..    programs of your own, from any folder: my.c gives the program my beside it, and
 #                                  my.debug for debuggers. What the compiler thinks strange is a warning, and no error
 #
@@ -27,6 +28,18 @@ build() {
     # shellcheck disable=SC2086
     (cd "$here/lib" && "${tools}gcc" $target $language -Os -ffreestanding $plain $warnings -Wstrict-prototypes -Werror \
         ${CFLAGS-} -I. $link -Wl,-s -o "$2" $library "../src/$1.c")
+}
+
+# Leaves the names and lines of program $1 of src/ beside the program, whose bytes stay.
+build_debug() {
+    file=$(readlink -f -- "$here/../bin")/$1
+    # shellcheck disable=SC2086
+    (cd "$here/lib" && "${tools}gcc" $target $language -Os -g -ffreestanding $plain $warnings ${CFLAGS-} -I. $link \
+        -o "$file.whole" $library "../src/$1.c")
+    "${tools}objcopy" --only-keep-debug "$file.whole" "$file.debug"
+    "${tools}strip" -o "$file.stripped" "$file.whole"
+    cmp -s "$file.stripped" "$file" || echo "build.sh: $1 is another; build it anew" >&2
+    rm "$file.whole" "$file.stripped"
 }
 
 # Builds the program of file $1 beside it. Its main need not say return.
@@ -65,6 +78,13 @@ command -v "${tools}gcc" >/dev/null || {
 # shellcheck disable=SC2046
 [ $# -gt 0 ] || set -- $(names)
 [ "$1" = --check ] && { check; exit; }
+if [ "$1" = --debug ]; then
+    shift
+    for word; do
+        build_debug "$word"
+    done
+    exit
+fi
 for word; do
     case $word in
         *.c) build_own "$word" ;;

@@ -1,0 +1,38 @@
+#!/bin/sh
+# Finds the bug of gdb/game.c with GDB, by the commands of gdb/game.gdb, and compares what GDB says with
+# gdb/game.wanted: checks/gdb.sh [PROGRAM], where PROGRAM serves GDB, and is without a word the one that is proved and
+# built. `checks/gdb.sh --by-hand [PROGRAM]` leaves you in GDB at the start. It takes a few seconds.
+#
+# It needs gdb-multiarch and a C compiler: apt-get install gdb-multiarch gcc-riscv64-unknown-elf.
+set -eu
+here=$(cd "$(dirname "$0")" && pwd)
+byhand=
+[ "${1-}" != --by-hand ] || { byhand=yes; shift; }
+program=$(readlink -f "${1-$here/../crates/xv_gdb/out/xv_gdb}")
+for tool in gdb-multiarch riscv64-unknown-elf-gcc; do
+    command -v "$tool" >/dev/null || { echo "gdb.sh: there is no $tool; apt-get install gdb-multiarch gcc-riscv64-unknown-elf" >&2; exit 2; }
+done
+[ -x "$program" ] || { echo "gdb.sh: there is no program $program: build it by ./xv" >&2; exit 2; }
+
+room=$(mktemp -d)
+trap 'rm -rf "$room"' EXIT
+cp "$here/gdb/game.c" "$room"
+cd "$room"
+"$here/../programs/c/build.sh" game.c
+bin=$here/../programs/bin
+echo game >rc
+serve="$program --frames 512 --file game $bin/init $bin/sh game rc"
+
+if [ -n "$byhand" ]; then
+    gdb-multiarch -q game.debug -ex "target remote | $serve"
+    exit
+fi
+# GDB's colours, the host's paths and the numbers of its own that differ from version to version are left out.
+gdb-multiarch -q -nx -batch -l 60 game.debug -ex "target remote | $serve" -x "$here/gdb/game.gdb" >said 2>&1 </dev/null || true
+sed -e '/^warning:/d' -e '/^Remote debugging/d' -e "s|$room/||g" said >kept
+if diff -u "$here/gdb/game.wanted" kept; then
+    echo "checks/gdb.sh: GDB says what it should say"
+else
+    echo "checks/gdb.sh: GDB says something else" >&2
+    exit 1
+fi

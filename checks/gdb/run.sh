@@ -1,0 +1,9 @@
+#!/bin/sh
+# Plays the stored conversations of GDB's remote protocol, without GDB: checks/gdb/run.sh [PROGRAM], where PROGRAM is
+# without a word the one that is proved and built. How a conversation is written says the head of talk.py. The status is
+# 0 if all are as they should be. checks/gdb.sh does the same with GDB itself.
+set -u
+here=$(cd "$(dirname "$0")" && pwd) || exit 2
+program=${1-$here/../../crates/xv_gdb/out/xv_gdb}
+[ -x "$program" ] || { echo "there is no program $program: build it by ./xv" >&2; exit 2; }
+exec python3 -B "$here/talk.py" "$program" "$here"/conversations/*
