@@ -6,15 +6,14 @@
 //! lists all that could wake one (`specs/Wakers.antt`), [`callers_of`] follows a process's frames
 //! (`specs/Callers.antt`), and [`report_at`] tells a fault of the machine as it was before that step
 //! (`specs/Reports.antt`). [`program_name`] and [`call_name`] have the names that belong to these
-//! (`specs/Names.antt`). What is printed of them, by the `Display` of the types in [`text`], is tested.
+//! (`specs/Names.antt`). What is printed of them, by the `Display` of the types in [`text`], is compared with stored
+//! reports (`checks/why`).
 #![tactic(auto)]
 
 mod callers;
 mod fault;
 mod jumps;
 mod names;
-#[cfg(test)]
-mod tests;
 pub mod text;
 mod waits;
 mod waking;

@@ -1,7 +1,8 @@
 //! What is told, as text.
 //!
-//! Each type here is printed by its `Display`, without a line's end behind it. The texts are tested (`tests.rt`), and
-//! no contract speaks of them. A program's name is bytes, as the machine has it: what isn't printable is shown as `?`.
+//! Each type here is printed by its `Display`, without a line's end behind it. The texts are compared with stored
+//! reports (`checks/why`), and no contract speaks of them. A program's name is bytes, as the machine has it: what isn't
+//! printable is shown as `?`.
 mod fault;
 mod place;
 mod process;
