@@ -1,5 +1,5 @@
 -- A run that goes on by its rounds, and back.
-use Rattle.std.proofs.Common.{◌≡◌, ◌∙◌, ℕ, zero, suc, ◌+◌, ◌<◌, ◌≤◌, List, [], ◌∷◌, ◌++◌, refl, sym, ap, subst, arith, length, length-append, take, min}
+use Rattle.std.proofs.Common.{◌≡◌, ◌∙◌, ℕ, suc, ◌+◌, ◌<◌, ◌≤◌, List, [], ◌∷◌, ◌++◌, refl, sym, ap, subst, arith, length, length-append, take, min}
 use Rattle.std.specs.Prelude.{replicate, Result, Ok, Err, IfOk, IfErr, true}
 use Rattle.std.proofs.lemmas.List.{length-replicate, length-take}
 use Rattle.kernel_spec.specs.runs.Run.{Event, Run, Tick, Key, Send}

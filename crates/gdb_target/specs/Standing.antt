@@ -2,12 +2,11 @@
 use Rattle.std.specs.Prelude.{◌≡◌, ℕ, Bool, true, false, not, ◌==◌, List, length, Option, None, Some}
 use Rattle.std.specs.List.{list_any}
 use Rattle.rv64i_core.specs.Registers.{Registers}
-use Rattle.kernel_spec.specs.runs.Run.{Event, Run, World}
+use Rattle.kernel_spec.specs.runs.Run.{Run}
 use Rattle.kcall_core.specs.Observers.{process_at, registers_of}
 use Rattle.kcall_core.specs.declared.kernel.observers.ProcessState.{ProcessState}
 use Rattle.kcall_core.specs.declared.kernel.observers.ProcessState.TheVariants.{Live, Zombie}
 use Rattle.xv_session.specs.Names.{place_in}
-use Rattle.xv_session.specs.Recorded.{Recorded}
 use Rattle.gdb_machine.specs.Rounds.{event_at}
 use Rattle.gdb_target.specs.declared.played.Played.{Played}
 

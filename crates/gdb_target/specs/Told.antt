@@ -1,5 +1,5 @@
 -- What GDB is told by answers after which the machine is where it was.
-use Rattle.std.specs.Prelude.{◌≡◌, ℕ, ◌⊎◌, ◌&&◌, not, ◌==◌, if◌then◌else◌, List, [], ◌∷◌, length, codes, Option, None, Some, IsSome}
+use Rattle.std.specs.Prelude.{◌≡◌, ℕ, ◌⊎◌, ◌&&◌, not, ◌==◌, if◌then◌else◌, List, [], length, codes, Option, None, Some, IsSome}
 use Rattle.std.specs.String.{string_bytes}
 use Rattle.std.specs.Int.{w64, to_le_bytes}
 use Rattle.hex.specs.Hex.{encode_lower}

@@ -1,4 +1,4 @@
-use Rattle.std.proofs.Common.{◌≡◌, ◌∙◌, ◌+◌, length, sym, ap, arith}
+use Rattle.std.proofs.Common.{ap}
 use Rattle.xv_session.specs.Recorded.{Recorded}
 use Rattle.gdb_target.proofs.PlayedOn.{after_result, played_back, played_still}
 use Rattle.gdb_target.proofs.played.Played.back_to.Goals as goal

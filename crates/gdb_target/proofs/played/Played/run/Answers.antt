@@ -1,4 +1,4 @@
-use Rattle.std.proofs.Common.{◌≡◌, ◌∙◌, ◌+◌, true, length, sym, ap, arith}
+use Rattle.std.proofs.Common.{◌≡◌, ◌∙◌, true, ap, arith}
 use Rattle.kernel_spec.specs.runs.Run.{Run}
 use Rattle.xv_machine.specs.Events.{event_of}
 use Rattle.gdb_target.specs.PlayedBy.{is_run}

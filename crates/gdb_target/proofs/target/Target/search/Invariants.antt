@@ -1,5 +1,4 @@
-use Rattle.std.proofs.Common.{◌≡◌, ◌-◌, ◌<◌, ◌≤◌, length, max}
-use Rattle.std.specs.Prelude.{IfSome}
+use Rattle.std.proofs.Common.{◌≡◌, length}
 use Rattle.gdb_target.specs.SameRun.{beginning}
 use Rattle.gdb_target.proofs.target.Target.search.Given as goal
 
