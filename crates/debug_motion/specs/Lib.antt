@@ -1,0 +1,7 @@
+pub mod Aims
+pub mod Effects
+pub mod Reaching
+pub mod Resting
+pub mod Rounds
+pub mod Sent
+pub mod Shown
