@@ -1,0 +1,283 @@
+//! The words that a line may begin with, and what help tells of them.
+
+/// What a line begins with.
+#[derive(Clone, Copy)]
+pub enum Topic {
+    Step,
+    Next,
+    Back,
+    Until,
+    Run,
+    Tick,
+    Key,
+    Send,
+    Where,
+    Registers,
+    Memory,
+    Pages,
+    Frames,
+    Processes,
+    Descriptors,
+    Pipe,
+    Console,
+    At,
+    Events,
+    Trace,
+    Help,
+    Continue,
+    Quit,
+}
+
+/// All topics, in the order in which help shows them.
+pub(crate) const TOPICS: [Topic; 23] = [
+    Topic::Step,
+    Topic::Next,
+    Topic::Back,
+    Topic::Until,
+    Topic::Run,
+    Topic::Tick,
+    Topic::Key,
+    Topic::Send,
+    Topic::Where,
+    Topic::Registers,
+    Topic::Memory,
+    Topic::Pages,
+    Topic::Frames,
+    Topic::Processes,
+    Topic::Descriptors,
+    Topic::Pipe,
+    Topic::Console,
+    Topic::At,
+    Topic::Events,
+    Topic::Trace,
+    Topic::Help,
+    Topic::Continue,
+    Topic::Quit,
+];
+
+impl Topic {
+    /// The topic of this name, long or short.
+    pub fn named(name: &str) -> Option<Topic> {
+        let topic = match name.as_bytes() {
+            b"step" | b"s" => Topic::Step,
+            b"next" | b"n" => Topic::Next,
+            b"back" | b"b" => Topic::Back,
+            b"until" | b"u" => Topic::Until,
+            b"run" | b"r" => Topic::Run,
+            b"tick" => Topic::Tick,
+            b"key" | b"k" => Topic::Key,
+            b"send" => Topic::Send,
+            b"where" | b"w" => Topic::Where,
+            b"regs" => Topic::Registers,
+            b"mem" | b"m" => Topic::Memory,
+            b"pages" => Topic::Pages,
+            b"frames" => Topic::Frames,
+            b"ps" => Topic::Processes,
+            b"fds" => Topic::Descriptors,
+            b"pipe" => Topic::Pipe,
+            b"console" => Topic::Console,
+            b"at" => Topic::At,
+            b"events" => Topic::Events,
+            b"trace" => Topic::Trace,
+            b"help" | b"h" => Topic::Help,
+            b"c" | b"continue" => Topic::Continue,
+            b"quit" | b"q" => Topic::Quit,
+            _ => return None,
+        };
+        Some(topic)
+    }
+
+    /// Its name.
+    pub(crate) fn name(self) -> &'static str {
+        match self {
+            Topic::Step => "step",
+            Topic::Next => "next",
+            Topic::Back => "back",
+            Topic::Until => "until",
+            Topic::Run => "run",
+            Topic::Tick => "tick",
+            Topic::Key => "key",
+            Topic::Send => "send",
+            Topic::Where => "where",
+            Topic::Registers => "regs",
+            Topic::Memory => "mem",
+            Topic::Pages => "pages",
+            Topic::Frames => "frames",
+            Topic::Processes => "ps",
+            Topic::Descriptors => "fds",
+            Topic::Pipe => "pipe",
+            Topic::Console => "console",
+            Topic::At => "at",
+            Topic::Events => "events",
+            Topic::Trace => "trace",
+            Topic::Help => "help",
+            Topic::Continue => "c",
+            Topic::Quit => "quit",
+        }
+    }
+
+    /// How it is written.
+    pub(crate) fn usage(self) -> &'static str {
+        match self {
+            Topic::Step => "step [N]",
+            Topic::Next => "next",
+            Topic::Back => "back [N]",
+            Topic::Until => "until GOAL",
+            Topic::Run => "run [N]",
+            Topic::Tick => "tick [N]",
+            Topic::Key => "key TEXT",
+            Topic::Send => "send [N]",
+            Topic::Where => "where [of P]",
+            Topic::Registers => "regs [of P]",
+            Topic::Memory => "mem [ADDRESS [N]] [of P]",
+            Topic::Pages => "pages [ADDRESS] [of P]",
+            Topic::Frames => "frames [N]",
+            Topic::Processes => "ps [P]",
+            Topic::Descriptors => "fds [of P]",
+            Topic::Pipe => "pipe",
+            Topic::Console => "console",
+            Topic::At => "at",
+            Topic::Events => "events [PLACE]",
+            Topic::Trace => "trace [N]",
+            Topic::Help => "help [WORD]",
+            Topic::Continue => "c",
+            Topic::Quit => "quit",
+        }
+    }
+
+    /// What it does, in 52 characters at most.
+    pub(crate) fn brief(self) -> &'static str {
+        match self {
+            Topic::Step => "send N Runs: N steps of whoever runs",
+            Topic::Next => "an instruction, over the call that it makes",
+            Topic::Back => "go back by N events",
+            Topic::Until => "send Runs up to a goal: help until lists them",
+            Topic::Run => "play N rounds of 1,000 Runs, a Tick, 32 Sends",
+            Topic::Tick => "send N Ticks: the clock counts N more",
+            Topic::Key => "type the bytes of TEXT; \\n is Enter",
+            Topic::Send => "send N Sends: the terminal takes N bytes",
+            Topic::Where => "who runs, and the instructions from its pc on",
+            Topic::Registers => "the registers",
+            Topic::Memory => "N bytes of memory from ADDRESS on",
+            Topic::Pages => "the tables and pages, as a tree",
+            Topic::Frames => "who owns how many frames of RAM; or frame N",
+            Topic::Processes => "the processes, from pid P on",
+            Topic::Descriptors => "the descriptors, and what they are on",
+            Topic::Pipe => "the pipes: their bytes, and who holds their ends",
+            Topic::Console => "the bytes that the console holds",
+            Topic::At => "how many events there were, the clock, who runs",
+            Topic::Events => "the events from PLACE on, equal ones in one line",
+            Topic::Trace => "the last N notes of the machine's trace",
+            Topic::Help => "all words; or what one of them does",
+            Topic::Continue => "leave the debugger, and let the machine go on",
+            Topic::Quit => "end the debugger and the machine",
+        }
+    }
+
+    /// What it does, its shorter name, and what else there is to know; lines.
+    pub(crate) fn text(self) -> &'static str {
+        match self {
+            Topic::Step => "\
+send N events Run: N steps, 1 if N is left out.
+Also: s.
+A Run is an instruction or a step of a call of the process that runs; where nobody runs,
+the next process has its turn. It stops early where all processes sleep.
+N is 1 to 100000000.",
+            Topic::Next => "\
+one instruction, over the whole function or kernel call that it calls.
+Also: n.
+A jump that keeps its return address in ra is a call of a function: it is over where the
+process is back behind the jump, with the stack pointer not below. An ecall is over where the kernel
+has answered. Other processes may run meanwhile. At most 100000000 events are sent.",
+            Topic::Back => "\
+go back by N events, of whatever kind; 1 if N is left out.
+Also: b.
+The session is then as it was, exactly. The events behind that place are forgotten.
+If there were fewer events, it goes back to the boot.",
+            Topic::Until => "\
+send Runs up to the first that is the goal.
+Also: u.
+until call CALL         a step of this kernel call, by its name or number: until call write
+until pc ADDRESS [of P] process P runs, and its next instruction stands at ADDRESS
+until store ADDRESS     an instruction has stored to this address, of whatever process
+until fault             a process is gone by a fault
+until exit              a process is gone, by a call, a kill or a fault
+One Run is sent at least, 100000000 at most. It stops early where all processes sleep.",
+            Topic::Run => "\
+play N rounds of 1,000 Runs, a Tick and 32 Sends; 1 if N is left out.
+Also: r.
+These are the rounds of xv_run, without its keys. What the console shows is told.
+It stops early where a process faults, and where the machine halts. N is 1 to 90000.",
+            Topic::Tick => "\
+send N events Tick: the clock counts N more; 1 if N is left out.
+A tick ends the turn of the process that runs, and wakes those whose time has come.
+N is 1 to 1000000.",
+            Topic::Key => "\
+type the bytes of TEXT, each by an event Key.
+Also: k.
+TEXT is the rest of the line. \\n is Enter, \\b Backspace, \\t Tab, \\s a blank, \\\\ a backslash,
+\\xHH the byte of these two hexadecimal digits: \\x04 is Ctrl-D. It has 1 to 128 bytes.",
+            Topic::Send => "\
+send N events Send: the terminal takes N bytes; 1 if N is left out.
+Bytes that programs write to the console wait for it: 32 at most, then the writers sleep.
+N is 1 to 1000000.",
+            Topic::Where => "\
+who runs, and the instructions from its pc on.
+Also: w.
+=> marks the instruction that is next. An instruction is told with the name of its function, if the
+program's file has a symbol table.",
+            Topic::Registers => "\
+the registers, in hexadecimal.
+The pc, and x1 to x31 by their names in programs.",
+            Topic::Memory => "\
+N bytes of a process's memory from ADDRESS on.
+Also: m.
+-- is a byte that isn't there. N is 1 to 256, and 64 if it is left out. Without ADDRESS
+it goes on behind the bytes that were shown last.",
+            Topic::Pages => "\
+the tables and pages of a process's memory from ADDRESS on, as a tree.
+Sv39 has three levels: a root table, upper tables for 1 GiB each, lower tables for
+2 MiB each, and in them pages of 4 KiB. r, w, x: the page may be read, written, executed;
+u: by the program itself. Pages one behind another that are alike take a line.",
+            Topic::Frames => "\
+who owns how many frames of RAM; or who owns frame N.
+A frame has 4,096 bytes. N is 0 to 32767.",
+            Topic::Processes => "\
+the processes, from pid P on: parents, states, what they wait for.
+At most 20 are shown at once.",
+            Topic::Descriptors => "\
+a process's descriptors, and what they are on.
+Descriptors that share an open file share its offset.",
+            Topic::Pipe => "\
+the pipes: their bytes, and who holds their ends.
+A pipe has room for 2,048 bytes, and lies in a frame.",
+            Topic::Console => "\
+the console's lists: typed, committed, to be sent.
+Bytes of the line that is typed can still be taken back; a read takes committed ones.",
+            Topic::At => "\
+how many events there were, the clock, and who runs.
+back N goes back by N of these events.",
+            Topic::Events => "\
+the events from PLACE on, equal ones in one line.
+PLACE counts from 0: the first event since the boot. Without it the last 1,033 are shown,
+as many as a round has. At most 20 lines are shown at once.",
+            Topic::Trace => "\
+the last N notes of the machine's trace; 20 if N is left out.
+The machine keeps as many notes as --trace says; none without it. N is 1 to 100.",
+            Topic::Help => "\
+all words; or what one of them does.
+Also: h.
+Numbers are decimal, or hexadecimal with 0x before them. of P names a process by its
+pid; without it, the words look at the process that runs, or, where nobody runs, at the
+one that made the last step.",
+            Topic::Continue => "\
+leave the debugger, and let the machine go on.
+Also: continue.
+Without a terminal there is nothing to go on to: the debugger ends.",
+            Topic::Quit => "\
+end the debugger and the machine.
+Also: q.
+The end of the input ends it too.",
+        }
+    }
+}
