@@ -1,0 +1,4 @@
+pub mod Least
+pub mod Lists
+pub mod Pids
+pub mod Uses

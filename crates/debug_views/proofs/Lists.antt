@@ -1,0 +1,24 @@
+-- The first elements of a list, one by one.
+use Rattle.std.proofs.Common.{◌≡◌, ℕ, zero, suc, All, ◌+◌, ◌<◌, ◌≤◌, inl, inr, List, [], ◌∷◌, ◌++◌, length, take, slice_get, get_or, Option, None, Some, sym, ◌∙◌, ap, subst, arith}
+use Rattle.std.proofs.lemmas.Bool.{cases_lt}
+use Rattle.std.proofs.lemmas.List.{take_all, take_more}
+use Rattle.std.proofs.lemmas.Option.{slice_get_within, slice_get-get_or, get_or_from_slice_get}
+
+none-some : (Q : Type 0) (o : Option ℕ) (x : ℕ) → o ≡ None → o ≡ Some x → Q
+none-some Q o x none some = let bad : ⊥ = cc in absurd bad
+
+-- behind the last one there is no more
+pub take-past : (xs : List ℕ) (place n : ℕ) → slice_get xs place ≡ None → place ≤ n → take place xs ≡ take n xs
+take-past xs place n none within = elim (cases_lt place (length xs)) [
+  | inl less ↦ none-some (take place xs ≡ take n xs) (slice_get xs place) (get_or xs place 0) none (slice_get-get_or xs place 0 less)
+  | inr more ↦ take_all place xs more ∙ sym (take_all n xs (omega (arith, more, within)))
+]
+
+-- and the one at a place comes next
+pub take-next : (xs : List ℕ) (place x : ℕ) → slice_get xs place ≡ Some x → take place xs ++ x ∷ [] ≡ take (place + 1) xs
+take-next xs place x is = ap (λ (y : ℕ). take place xs ++ y ∷ []) (sym (get_or_from_slice_get xs place x 0 is)) ∙ sym (take_more xs place 0 (slice_get_within xs place x is))
+
+-- a list of one
+pub all-one : {X : Type 0} (P : X → Type 0) (x : X) → P x → All P (x ∷ [])
+all-one P x p zero d lt = p
+all-one P x p (suc k) d lt = let bad : ⊥ = omega (arith, lt) in absurd bad

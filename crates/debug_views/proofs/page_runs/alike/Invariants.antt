@@ -1,0 +1,7 @@
+use Rattle.std.proofs.Common.{◌≡◌, ℕ, ◌<◌, ◌≤◌}
+use Rattle.kcall_core.specs.Observers.{rights_at}
+use Rattle.debug_views.specs.PageRuns.{kind_by}
+use Rattle.debug_views.proofs.page_runs.alike.Given as goal
+
+abbrev pub invariant-loop-number : goal.invariant-loop-number
+invariant-loop-number l = (n : ℕ) → l.first ≤ n → n < l.number → kind_by (rights_at l.machine.world.state l.pid n) ≡ l.kind

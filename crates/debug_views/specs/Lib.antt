@@ -1,0 +1,5 @@
+pub mod Bytes
+pub mod Focus
+pub mod FrameLists
+pub mod PageRuns
+pub mod Sharing

@@ -1,0 +1,72 @@
+//! The bytes that the console holds.
+ghost use Rattle.std.specs.Prelude.{◌≡◌, take};
+ghost use Rattle.arrayvec.specs.ArrayVec.{array_vec_len};
+ghost use Rattle.console_core.specs.Lists.{list_of};
+
+use arrayvec::ArrayVec;
+use debug_words::texts::{Many, Quoted};
+use std::alloc::AllocError;
+use xk_base::limits::{CONSOLE_BYTES, SEND_BYTES};
+use xv_machine::{ConsoleList, Machine};
+use xv_session::Session;
+
+/// The most bytes of a list that are shown.
+const SHOWN_MOST: usize = 128;
+
+/// The bytes of a list of the console: all, since no list has more.
+fn bytes_of(machine: &Machine, list: ConsoleList) -> ArrayVec<u8, SHOWN_MOST>
+    ensures { result.items ≡ take SHOWN_MOST (list_of list machine.now.world.state.console) }
+{
+    let mut bytes: ArrayVec<u8, SHOWN_MOST> = ArrayVec::new();
+    for place in 0..SHOWN_MOST {
+        let Some(byte) = machine.console_byte(list, place) else {
+            return bytes;
+        };
+        bytes.push(byte);
+    }
+    bytes
+}
+
+/// Writes one list of the console: what it is, how many bytes it has, and these.
+fn show_list(
+    machine: &Machine,
+    list: ConsoleList,
+    what: &str,
+    answer: &mut String,
+) -> Result<(), AllocError> {
+    let bytes = bytes_of(machine, list);
+    let many = Many(bytes.len() as u64, "byte");
+    write!(answer, "{what}: {many}")?;
+    if !bytes.is_empty() {
+        let quoted = Quoted(bytes.as_slice());
+        write!(answer, " {quoted}")?;
+    }
+    writeln!(answer)
+}
+
+/// Writes the console's lists.
+pub fn show_console(session: &Session, answer: &mut String) -> Result<(), AllocError> {
+    let machine = session.machine();
+    show_list(
+        machine,
+        ConsoleList::Uncommitted,
+        "typed, and may be taken back",
+        answer,
+    )?;
+    show_list(
+        machine,
+        ConsoleList::Committed,
+        "typed lines that a read may take",
+        answer,
+    )?;
+    show_list(
+        machine,
+        ConsoleList::ToSend,
+        "written, and wait to be sent",
+        answer,
+    )?;
+    writeln!(
+        answer,
+        "There is room for {CONSOLE_BYTES} typed bytes and {SEND_BYTES} that wait."
+    )
+}

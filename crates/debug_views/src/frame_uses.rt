@@ -1,0 +1,147 @@
+//! What each frame of RAM is used for.
+ghost use Rattle.std.specs.Prelude.{◌≡◌, IfOk, IfSome, IfNone, count_by, slice_get, Some};
+ghost use Rattle.debug_views.specs.Focus.{lesser};
+ghost use Rattle.debug_views.specs.FrameLists.{AreUses, IsAmong, IsLeastLower, is_page_of, is_table_of, is_trapframe_of, is_pipe, lower_in};
+
+use std::alloc::{AllocError, Global};
+use xk_base::limits::FRAMES_MAX;
+use xk_base::{Frame, Pid};
+use xv_machine::{FrameUse, Machine};
+
+/// What each frame of RAM is used for, from frame 0 on.
+///
+/// # Errors
+///
+/// The host has too little memory for the list.
+pub(crate) fn uses_of(alloc: Global, machine: &Machine) -> Result<Vec<FrameUse>, AllocError>
+    ensures { IfOk result (λ uses. AreUses machine.now uses.items) }
+{
+    let mut uses = Vec::new(alloc);
+    for number in 0..FRAMES_MAX {
+        let Some(used) = machine.frame_use(Frame::new(number)) else {
+            return Ok(uses);
+        };
+        uses.push(used)?;
+    }
+    Ok(uses)
+}
+
+/// Whether it is a page of the process.
+fn is_page_of(used: &FrameUse, owner: Pid) -> bool
+    ensures { result ≡ is_page_of owner used.now }
+{
+    match used {
+        FrameUse::Page { pid, .. } => pid.number() == owner.number(),
+        _ => false,
+    }
+}
+
+/// Whether it is a table of the process.
+fn is_table_of(used: &FrameUse, owner: Pid) -> bool
+    ensures { result ≡ is_table_of owner used.now }
+{
+    match used {
+        FrameUse::Root(pid) | FrameUse::Upper { pid, .. } | FrameUse::Lower { pid, .. } =>
+            pid.number() == owner.number(),
+        _ => false,
+    }
+}
+
+/// Whether it is the trapframe of the process.
+fn is_trapframe_of(used: &FrameUse, owner: Pid) -> bool
+    ensures { result ≡ is_trapframe_of owner used.now }
+{
+    match used {
+        FrameUse::Trapframe(pid) => pid.number() == owner.number(),
+        _ => false,
+    }
+}
+
+/// Whether it is a pipe.
+fn is_pipe(used: &FrameUse) -> bool
+    ensures { result ≡ is_pipe used.now }
+{
+    match used {
+        FrameUse::Pipe => true,
+        _ => false,
+    }
+}
+
+/// How many frames of these are pages of the process.
+pub(crate) fn pages_in(uses: &[FrameUse], owner: Pid) -> usize
+    ensures { result ≡ count_by (is_page_of owner) uses.now }
+{
+    uses.iter().filter(|used| is_page_of(used, owner)).count()
+}
+
+/// How many frames of these are tables of the process.
+pub(crate) fn tables_in(uses: &[FrameUse], owner: Pid) -> usize
+    ensures { result ≡ count_by (is_table_of owner) uses.now }
+{
+    uses.iter().filter(|used| is_table_of(used, owner)).count()
+}
+
+/// How many frames of these are the trapframe of the process.
+pub(crate) fn trapframes_in(uses: &[FrameUse], owner: Pid) -> usize
+    ensures { result ≡ count_by (is_trapframe_of owner) uses.now }
+{
+    uses.iter()
+        .filter(|used| is_trapframe_of(used, owner))
+        .count()
+}
+
+/// How many frames of these are pipes.
+pub(crate) fn pipes_in(uses: &[FrameUse]) -> usize
+    ensures { result ≡ count_by is_pipe uses.now }
+{
+    uses.iter().filter(|used| is_pipe(used)).count()
+}
+
+/// The first frame of these that is used so; `None` where none is.
+pub(crate) fn frame_with(uses: &[FrameUse], wanted: &FrameUse) -> Option<usize>
+    ensures some { IfSome result (λ frame. slice_get uses.now frame ≡ Some wanted.now) }
+    ensures none { IfNone result (¬ IsAmong uses.now wanted.now) }
+{
+    for frame in 0..uses.len() {
+        if uses[frame] == *wanted {
+            return Some(frame);
+        }
+    }
+    None
+}
+
+/// The place of the process's lower table that a frame has, if it is one from this place on.
+fn lower_in(used: &FrameUse, owner: Pid, from: u32) -> Option<u32>
+    ensures { result ≡ lower_in owner from used.now }
+{
+    match used {
+        FrameUse::Lower { pid, place } if pid.number() == owner.number() && *place >= from => Some(
+            *place,
+        ),
+        _ => None,
+    }
+}
+
+/// The lesser of two places.
+fn lesser(least: Option<u32>, place: Option<u32>) -> Option<u32>
+    ensures { result ≡ lesser least place }
+{
+    let Some(place) = place else {
+        return least;
+    };
+    match least {
+        Some(found) => Some(found.min(place)),
+        None => Some(place),
+    }
+}
+
+/// The place of the first lower table of a process, from this place on.
+pub(crate) fn next_lower(uses: &[FrameUse], owner: Pid, from: u32) -> Option<u32>
+    ensures { IsLeastLower uses.now owner from result }
+{
+    let mut least: Option<u32> = None;
+    for frame in 0..uses.len() {
+        least = lesser(least, lower_in(&uses[frame], owner, from));
+    }
+    least
+}

@@ -1,0 +1,133 @@
+//! Who owns the frames of RAM.
+use crate::focus::{least_from, program_name};
+use crate::frame_uses::{pages_in, pipes_in, tables_in, trapframes_in, uses_of};
+use crate::pages::RightsShown;
+use debug_words::texts::{Grouped, Many, Named, Plain};
+use std::alloc::{AllocError, Global};
+use xk_base::limits::PAGE_BYTES;
+use xk_base::{Frame, Pid};
+use xv_machine::FrameUse;
+use xv_session::Session;
+
+/// The most processes that are shown at once.
+const LINES_MOST: u32 = 16;
+
+/// Writes a process, with the name of its program, and ends the line.
+fn show_owner(session: &Session, pid: Pid, answer: &mut String) -> Result<(), AllocError> {
+    let number = pid.number();
+    let name = Named(program_name(session, pid));
+    writeln!(answer, "process {number}{name}")
+}
+
+/// Writes what a frame is used for.
+fn show_use(session: &Session, used: &FrameUse, answer: &mut String) -> Result<(), AllocError> {
+    match *used {
+        FrameUse::Free => writeln!(answer, "free"),
+        FrameUse::Pipe => writeln!(answer, "a pipe: pipe tells of it"),
+        FrameUse::Trapframe(pid) => {
+            answer.push_str("the trapframe of ")?;
+            show_owner(session, pid, answer)
+        }
+        FrameUse::Root(pid) => {
+            answer.push_str("the root table of ")?;
+            show_owner(session, pid, answer)
+        }
+        FrameUse::Upper { pid, place } => {
+            write!(answer, "upper table {place} of ")?;
+            show_owner(session, pid, answer)
+        }
+        FrameUse::Lower { pid, place } => {
+            write!(answer, "lower table {place} of ")?;
+            show_owner(session, pid, answer)
+        }
+        FrameUse::Page { pid, vpn } => {
+            let address = u64::from(vpn.number()) * PAGE_BYTES;
+            let rights = RightsShown(session.machine().perm(pid, vpn));
+            write!(answer, "the page at {address:#x}, {rights}, of ")?;
+            show_owner(session, pid, answer)
+        }
+    }
+}
+
+/// Writes the line of a process.
+fn show_share(
+    session: &Session,
+    uses: &[FrameUse],
+    pid: Pid,
+    answer: &mut String,
+) -> Result<(), AllocError> {
+    let number = pid.number();
+    let name = Plain(program_name(session, pid).unwrap_or(b"-"));
+    let pages = pages_in(uses, pid) as u64;
+    let tables = tables_in(uses, pid) as u64;
+    let trapframes = trapframes_in(uses, pid) as u64;
+    let all = Grouped(pages.saturating_add(tables).saturating_add(trapframes));
+    let pages = Grouped(pages);
+    let tables = Grouped(tables);
+    let trapframes = Grouped(trapframes);
+    writeln!(
+        answer,
+        "{number:>5} {name:<14} {pages:>7} {tables:>7} {trapframes:>10} {all:>7}"
+    )
+}
+
+/// Writes who owns how many frames.
+fn show_shares(alloc: Global, session: &Session, answer: &mut String) -> Result<(), AllocError> {
+    let machine = session.machine();
+    let uses = uses_of(alloc, machine)?;
+    let frames = Many(uses.len() as u64, "frame");
+    let free = Grouped(u64::from(machine.free_frames()));
+    let pipes = Grouped(pipes_in(&uses) as u64);
+    let bytes = Grouped(PAGE_BYTES);
+    writeln!(
+        answer,
+        "{frames} of {bytes} bytes: {free} are free, and pipes have {pipes}"
+    )?;
+    writeln!(
+        answer,
+        "  pid program          pages  tables  trapframe     all"
+    )?;
+    let mut next: u32 = 1;
+    for _ in 0..LINES_MOST {
+        let Some(pid) = least_from(machine, next) else {
+            return Ok(());
+        };
+        show_share(session, &uses, pid, answer)?;
+        next = pid.number().wrapping_add(1);
+    }
+    if let Some(pid) = least_from(machine, next) {
+        let number = pid.number();
+        writeln!(
+            answer,
+            "there are more, from process {number} on: ps lists them"
+        )?;
+    }
+    Ok(())
+}
+
+/// Writes who owns how many frames, or who owns this one.
+///
+/// # Errors
+///
+/// The host has too little memory.
+pub fn show_frames(
+    alloc: Global,
+    session: &Session,
+    frame: Option<Frame>,
+    answer: &mut String,
+) -> Result<(), AllocError> {
+    let Some(frame) = frame else {
+        return show_shares(alloc, session, answer);
+    };
+    let number = frame.number();
+    match session.machine().frame_use(frame) {
+        Some(used) => {
+            write!(answer, "frame {number}: ")?;
+            show_use(session, &used, answer)
+        }
+        None => writeln!(
+            answer,
+            "RAM has no frame {number}: frames tells how many there are"
+        ),
+    }
+}
