@@ -37,7 +37,7 @@ case "$*" in
 esac
 
 failed=
-for check in checks/sessions/run.sh checks/stored-runs/run.sh 'python3 -B checks/links.py'; do
+for check in checks/sessions/run.sh checks/stored-runs/run.sh checks/debugger/run.sh 'python3 -B checks/links.py'; do
     $check || failed="$failed $check;"
 done
 [ -z "$failed" ] || {

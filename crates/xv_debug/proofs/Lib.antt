@@ -1,0 +1,2 @@
+pub mod PipeBytes
+pub mod Results
