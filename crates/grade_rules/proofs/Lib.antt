@@ -1,0 +1,4 @@
+pub mod Arrangements
+pub mod Judgements
+pub mod Sequences
+mod Worked
