@@ -94,3 +94,21 @@ symbol_table file place count = option_map (section file place) (least_below (is
 abbrev pub function_at : List ℕ → ℕ → Option (List ℕ)
 function_at file address =
     if has_sections file then function_in file address (symbol_table file (sections_place file) (section_count file)) else None
+
+-- where the function of a symbol begins, if there is one
+abbrev pub start_of : Option Symbol → Option ℕ
+start_of (Some s) = Some s.value
+start_of None = None
+
+-- where the function begins that has the address, by a symbol table: none if it isn't wholly in the file
+abbrev pub start_by : List ℕ → Section → ℕ → Option ℕ
+start_by file table address = if is_within file table then start_of (first_function file table address) else None
+
+abbrev pub start_in : List ℕ → ℕ → Option Section → Option ℕ
+start_in file address (Some table) = start_by file table address
+start_in file address None = None
+
+-- by the first symbol table of the file: where its first function begins whose range has the address
+abbrev pub function_start : List ℕ → ℕ → Option ℕ
+function_start file address =
+    if has_sections file then start_in file address (symbol_table file (sections_place file) (section_count file)) else None

@@ -25,7 +25,7 @@ const FUNCTION: u8 = 2;
 pub(crate) struct Symbol {
     pub name: u32,
     info: u8,
-    value: u64,
+    pub value: u64,
     size: u64,
 }
 

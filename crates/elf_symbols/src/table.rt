@@ -69,6 +69,30 @@ fn function_by<'a>(
     name_at(file, strings, symbol.name)
 }
 
+/// The address of the first instruction of the function that has the address, by a symbol table.
+fn start_by(file: &[u8], table: &Section, address: u64) -> Option<u64>
+    ensures { result ≡ meant.start_by file.now table.now address }
+{
+    if !table.is_within(file) {
+        return None;
+    }
+    let symbol = first_function(file, table, address)?;
+    Some(symbol.value)
+}
+
+/// The address at which the function at an address begins: that of the first function, in the file's first symbol
+/// table, whose range [value, value + size) has the address. It is the function that [`function_at`] names.
+///
+/// There is none if no function has the address, and if the file has no symbol table, or its section headers or that
+/// table aren't wholly in the file. Names aren't read. It doesn't panic, whatever the bytes are, and takes no memory.
+pub fn function_start(file: &[u8], address: u64) -> Option<u64>
+    ensures { result ≡ meant.function_start file.now address }
+{
+    let headers = read_headers(file)?;
+    let table = symbol_table(file, headers.place, headers.count)?;
+    start_by(file, &table, address)
+}
+
 /// The name of the function at an address: of the first function, in the file's first symbol table, whose range
 /// [value, value + size) has the address. The name is as the file has it, without its zero byte, and need not be text.
 ///
