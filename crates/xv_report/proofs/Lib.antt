@@ -1,0 +1,5 @@
+pub mod Sleepers
+pub mod Ends
+pub mod Frames
+pub mod Finding
+pub mod Faulting

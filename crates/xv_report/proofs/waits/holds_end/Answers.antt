@@ -1,0 +1,24 @@
+use Rattle.std.proofs.Common.{◌≡◌, ◌∙◌, ◌<◌, ℕ, Bool, true, false, sym, ap, rules}
+use Rattle.xk_base.specs.declared.limits.TheConstants.{NOFILE}
+use Rattle.kernel_spec.specs.others.Quiet.{end_of, file_at}
+use Rattle.xv_report.specs.Waits.{is_end}
+use Rattle.xv_report.proofs.Ends.{some-none, some-more, some-here}
+use Rattle.xv_report.proofs.waits.holds_end.Goals as goal
+
+pub loop-number-init : goal.loop-number-init
+loop-number-init c = some-none _
+
+pub returns-then-is_on_end : goal.returns-then-is_on_end
+returns-then-is_on_end c =
+    let s = c.args.machine.now.world.state in
+    let test : ℕ → Bool = λ d. is_end c.args.pipe c.args.end (end_of s (file_at s c.args.pid d)) in
+    let inside : c.loop-number.number < NOFILE = search rules in
+    let here : test c.loop-number.number ≡ true = ap test (sym c.new.ensures) ∙ sym c.is_on_end.ensures ∙ c.if-is_on_end.true in
+    sym (some-here c.loop-number.number NOFILE test inside here)
+
+pub loop-number-preserved : goal.loop-number-preserved
+loop-number-preserved c =
+    let s = c.args.machine.now.world.state in
+    let test : ℕ → Bool = λ d. is_end c.args.pipe c.args.end (end_of s (file_at s c.args.pid d)) in
+    let here : test c.loop-number.number ≡ false = ap test (sym c.new.ensures) ∙ sym c.is_on_end.ensures ∙ c.if-is_on_end.false in
+    some-more c.loop-number.number test c.loop-number.invariant here

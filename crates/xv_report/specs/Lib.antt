@@ -1,0 +1,6 @@
+pub mod Waits
+pub mod Wakers
+pub mod Names
+pub mod Jumps
+pub mod Callers
+pub mod Reports

@@ -1,0 +1,27 @@
+//! What a run comes to, told so that its programmer understands it: why a process ended, on what each sleeper sleeps
+//! and who could wake it, and which instruction of which function stands where.
+//!
+//! It looks at the machine of a session (`xv_session`), or at one that was played again up to a place of its run.
+//! [`waits_for`] and [`could_wake`] tell of sleepers what `kernel_spec` says of them (`specs/Waits.antt`), [`wakers`]
+//! lists all that could wake one (`specs/Wakers.antt`), [`callers_of`] follows a process's frames
+//! (`specs/Callers.antt`), and [`report_at`] tells a fault of the machine as it was before that step
+//! (`specs/Reports.antt`). [`program_name`] and [`call_name`] have the names that belong to these
+//! (`specs/Names.antt`). What is printed of them, by the `Display` of the types in [`text`], is tested.
+#![tactic(auto)]
+
+mod callers;
+mod fault;
+mod jumps;
+mod names;
+#[cfg(test)]
+mod tests;
+pub mod text;
+mod waits;
+mod waking;
+
+pub use callers::{CALLERS_MAX, Caller, Callers, callers_of};
+pub use fault::{FaultReport, report_at, report_of_run};
+pub use jumps::jump_target;
+pub use names::{call_name, program_name};
+pub use waits::{EndsHeld, Wait, could_wake, ends_held, waits_for};
+pub use waking::wakers;

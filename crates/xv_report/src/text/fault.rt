@@ -1,0 +1,150 @@
+//! Faults.
+use crate::fault::FaultReport;
+use crate::jumps::jump_target;
+use crate::text::place::{Instruction, Place, Who};
+use rv64i_core::Regs;
+use std::fmt;
+use uasm_text::register_name;
+use xk_base::{Cause, Reg};
+use xv_session::Fault;
+
+/// A fault: in one line the process, its program, what it was about to do and why it could not, and the instruction;
+/// then its registers in the order of xv6's trapframe, four in a line; then the calls that led to it, from the last on.
+///
+/// `process 3 (null): store to 0x0, which may not be written, at pc 0xfa8 <main+0x10>: sd a5, 0(a4)`
+#[derive(Clone, Copy)]
+pub struct FaultText<'a> {
+    pub report: &'a FaultReport,
+    /// The name of the process's program, where it is known.
+    pub program: Option<&'a [u8]>,
+    /// The bytes of an ELF file with its symbols; none where there is no such file.
+    pub symbols: &'a [u8],
+}
+
+impl<'a> fmt::Display for FaultText<'a> {
+    fn fmt<W: fmt::Write>(&self, f: &mut fmt::Formatter<W>) -> fmt::Result {
+        let step = &self.report.fault.step;
+        let who = Who {
+            pid: step.pid,
+            program: self.program,
+        };
+        write!(f, "{who}: ")?;
+        write_reason(&self.report.fault, f)?;
+        let instruction = Instruction {
+            place: self.place(step.regs.pc()),
+            word: step.word,
+        };
+        write!(f, ", at pc {instruction}")?;
+        write_registers(&step.regs, f)?;
+        self.write_callers(f)
+    }
+}
+
+impl<'a> FaultText<'a> {
+    /// An address of the program.
+    fn place(&self, address: u64) -> Place<'a> {
+        Place {
+            address,
+            symbols: self.symbols,
+        }
+    }
+
+    /// The calls that led to the fault. A call stands in the four bytes before its return address.
+    fn write_callers<W: fmt::Write>(&self, f: &mut fmt::Formatter<W>) -> fmt::Result {
+        let callers = &self.report.callers;
+        let frames = callers.frames.as_slice();
+        // Where no instruction may be fetched, the call that led there has made no frame yet.
+        let has_no_frame = self.report.fault.cause == Cause::FetchPageFault;
+        if let Some(address) = callers.ra {
+            let call = self.place(address.wrapping_sub(4));
+            if frames.is_empty() {
+                write!(
+                    f,
+                    "\n  called at {call}, by ra alone: it may be of an earlier call"
+                )?;
+            } else if has_no_frame {
+                write!(f, "\n  called at {call}, by ra")?;
+            }
+        } else if frames.is_empty() {
+            f.write_str("\n  no call is told: s0 leads to no frame, and ra to no call")?;
+        }
+        for address in frames {
+            let call = self.place(address.wrapping_sub(4));
+            write!(f, "\n  called at {call}, by the frame pointers")?;
+        }
+        Ok(())
+    }
+}
+
+/// The registers x1 to x31, four in a line.
+fn write_registers<W: fmt::Write>(regs: &Regs, f: &mut fmt::Formatter<W>) -> fmt::Result {
+    for number in 1..32u8 {
+        let end = if number % 4 == 1 { "\n  " } else { "  " };
+        let register = Reg::new(number);
+        let name = register_name(register);
+        let value = regs.read(register);
+        write!(f, "{end}{name} {value:#x}")?;
+    }
+    Ok(())
+}
+
+/// An address, where it is known.
+#[derive(Clone, Copy)]
+struct Address(Option<u64>);
+
+impl fmt::Display for Address {
+    fn fmt<W: fmt::Write>(&self, f: &mut fmt::Formatter<W>) -> fmt::Result {
+        match self.0 {
+            Some(address) => write!(f, "{address:#x}"),
+            None => f.write_str("an address"),
+        }
+    }
+}
+
+/// What the instruction did, and why it may not be done.
+fn write_reason<W: fmt::Write>(fault: &Fault, f: &mut fmt::Formatter<W>) -> fmt::Result {
+    let step = &fault.step;
+    let address = Address(step.address);
+    match fault.cause {
+        Cause::TargetMisaligned => {
+            let target = Address(jump_target(&step.regs, step.word));
+            write!(f, "jump to {target}, which is no multiple of 4")
+        }
+        Cause::IllegalInstruction => {
+            let kind = kind_of(step.word.unwrap_or(0));
+            write!(f, "{kind}")
+        }
+        Cause::Breakpoint => write!(f, "ebreak, with which a program gives up"),
+        Cause::LoadMisaligned => {
+            write!(f, "load from {address}, which is no multiple of its size")
+        }
+        Cause::StoreMisaligned => {
+            write!(f, "store to {address}, which is no multiple of its size")
+        }
+        Cause::FetchPageFault => write!(f, "no instruction may be fetched"),
+        Cause::LoadPageFault => write!(f, "load from {address}, which may not be read"),
+        Cause::StorePageFault => write!(f, "store to {address}, which may not be written"),
+    }
+}
+
+/// What a word that is no instruction of the machine is by the ISA's opcodes (RISC-V Unprivileged ISA, "RV32/64G
+/// Instruction Set Listings").
+fn kind_of(word: u32) -> &'static str {
+    if word == 0 {
+        return "zeros are no instruction";
+    }
+    if word % 4 != 3 {
+        return "an instruction of 16 bits, which RV64I does not have";
+    }
+    let opcode = word % 128;
+    let upper = word >> 25;
+    match opcode {
+        0x33 | 0x3B if upper == 1 => "a multiplication or division, which RV64I does not have",
+        0x2F => "an atomic instruction, which RV64I does not have",
+        0x07 | 0x27 | 0x43 | 0x47 | 0x4B | 0x4F | 0x53 => {
+            "an instruction of floating point, which RV64I does not have"
+        }
+        0x73 => "an instruction of the system, which programs may not do",
+        _ => "no instruction",
+    }
+}

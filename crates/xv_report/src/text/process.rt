@@ -1,0 +1,240 @@
+//! Processes, and what they wait for.
+use crate::names::{call_name, program_name};
+use crate::text::place::{Instruction, Name, Place, Who};
+use crate::waits::{Wait, waits_for};
+use crate::waking::wakers;
+use std::fmt;
+use xk_base::{Fd, Pid};
+use xv_machine::{Machine, ProcessState};
+use xv_session::{Session, next_step};
+
+/// Processes by their numbers: `process 2`, `processes 1, 2 and 3`.
+#[derive(Clone, Copy)]
+struct Listed<'a>(&'a [u32]);
+
+impl<'a> fmt::Display for Listed<'a> {
+    fn fmt<W: fmt::Write>(&self, f: &mut fmt::Formatter<W>) -> fmt::Result {
+        let pids = self.0;
+        f.write_str(if pids.len() == 1 {
+            "process "
+        } else {
+            "processes "
+        })?;
+        for (place, pid) in pids.iter().enumerate() {
+            if place > 0 {
+                let last = place + 1 == pids.len();
+                f.write_str(if last { " and " } else { ", " })?;
+            }
+            write!(f, "{pid}")?;
+        }
+        Ok(())
+    }
+}
+
+/// The call in which a process sleeps, and on what: `read on descriptor 0, the read end of a pipe`.
+#[derive(Clone, Copy)]
+pub struct Asleep<'a>(pub &'a Wait);
+
+impl<'a> fmt::Display for Asleep<'a> {
+    fn fmt<W: fmt::Write>(&self, f: &mut fmt::Formatter<W>) -> fmt::Result {
+        let on = |fd: Fd| fd.number();
+        match *self.0 {
+            Wait::Until { tick } => write!(f, "sleep, until tick {tick}"),
+            Wait::Child => write!(f, "wait, for a child to end"),
+            Wait::PipeBytes { fd, .. } => {
+                let fd = on(fd);
+                write!(f, "read on descriptor {fd}, the read end of a pipe")
+            }
+            Wait::PipeRoom { fd, .. } => {
+                let fd = on(fd);
+                write!(f, "write on descriptor {fd}, the write end of a pipe")
+            }
+            Wait::Keys { fd } => {
+                let fd = on(fd);
+                write!(f, "read on descriptor {fd}, the console")
+            }
+            Wait::Sending { fd } => {
+                let fd = on(fd);
+                write!(f, "write on descriptor {fd}, the console")
+            }
+        }
+    }
+}
+
+/// A process: its number, its program, and what it does.
+///
+/// `3 wc  sleeps in read on descriptor 0, the read end of a pipe`
+#[derive(Clone, Copy)]
+pub struct ProcessLine<'a> {
+    pub session: &'a Session,
+    pub pid: Pid,
+}
+
+impl<'a> fmt::Display for ProcessLine<'a> {
+    fn fmt<W: fmt::Write>(&self, f: &mut fmt::Formatter<W>) -> fmt::Result {
+        let pid = self.pid.number();
+        write!(f, "{pid}")?;
+        if let Some(name) = program_name(self.session, self.pid) {
+            let name = Name(name);
+            write!(f, " {name}")?;
+        }
+        f.write_str("  ")?;
+        write_state(self.session.machine(), self.pid, f)
+    }
+}
+
+/// What a process does.
+fn write_state<W: fmt::Write>(
+    machine: &Machine,
+    pid: Pid,
+    f: &mut fmt::Formatter<W>,
+) -> fmt::Result {
+    match machine.process(pid) {
+        None => write!(f, "is no process"),
+        Some(ProcessState::Zombie { status, .. }) => write!(
+            f,
+            "has ended with status {status}, and its parent has not waited for it"
+        ),
+        Some(
+            ProcessState::Live {
+                marked,
+                call,
+                asleep,
+                ..
+            },
+        ) => {
+            if let Some(wait) = waits_for(machine, pid) {
+                let asleep = Asleep(&wait);
+                return write!(f, "sleeps in {asleep}");
+            }
+            if asleep {
+                return f.write_str("sleeps");
+            }
+            let runs = match machine.current() {
+                Some(current) => current.number() == pid.number(),
+                None => false,
+            };
+            f.write_str(if runs { "runs" } else { "may run" })?;
+            if marked {
+                f.write_str(", and is to be killed")?;
+            }
+            match call {
+                Some(call) => match call_name(call.number) {
+                    Some(name) => write!(f, ", in {name}"),
+                    None => Ok(()),
+                },
+                None => Ok(()),
+            }
+        }
+    }
+}
+
+/// A process that has not ended, and why it does not go on.
+///
+/// `process 3 (wc) sleeps in read on descriptor 0, the read end of a pipe: processes 1 and 3 can write, and 3 is the
+/// reader itself`. Of one that may run its next instruction is told.
+#[derive(Clone, Copy)]
+pub struct WaitLine<'a> {
+    pub session: &'a Session,
+    pub pid: Pid,
+    /// The bytes of an ELF file with the symbols of its program; none where there is no such file.
+    pub symbols: &'a [u8],
+}
+
+impl<'a> fmt::Display for WaitLine<'a> {
+    fn fmt<W: fmt::Write>(&self, f: &mut fmt::Formatter<W>) -> fmt::Result {
+        let who = Who {
+            pid: self.pid,
+            program: program_name(self.session, self.pid),
+        };
+        write!(f, "{who} ")?;
+        let machine = self.session.machine();
+        match waits_for(machine, self.pid) {
+            Some(wait) => {
+                let asleep = Asleep(&wait);
+                write!(f, "sleeps in {asleep}")?;
+                write_wakers(machine, self.pid, &wait, f)
+            }
+            None => {
+                write_state(machine, self.pid, f)?;
+                write_next(machine, self.pid, self.symbols, f)
+            }
+        }
+    }
+}
+
+/// Where a live process stands that doesn't sleep.
+fn write_next<W: fmt::Write>(
+    machine: &Machine,
+    pid: Pid,
+    symbols: &[u8],
+    f: &mut fmt::Formatter<W>,
+) -> fmt::Result {
+    let Some(step) = next_step(machine, pid) else {
+        return Ok(());
+    };
+    let next = Instruction {
+        place: Place {
+            address: step.regs.pc(),
+            symbols,
+        },
+        word: step.word,
+    };
+    write!(f, ", at {next}")
+}
+
+/// Who could wake a sleeper.
+fn write_wakers<W: fmt::Write>(
+    machine: &Machine,
+    sleeper: Pid,
+    wait: &Wait,
+    f: &mut fmt::Formatter<W>,
+) -> fmt::Result {
+    let pids = wakers(machine, sleeper, wait);
+    let pids = pids.as_slice();
+    match wait {
+        Wait::Until { .. } => {
+            let clock = machine.clock();
+            write!(f, "; the clock is at {clock}")
+        }
+        Wait::Keys { .. } => write!(f, ": a line of keys wakes it"),
+        Wait::Sending { .. } => write!(f, ": a byte that is sent wakes it"),
+        Wait::Child if pids.is_empty() => write!(f, ": it has no child that lives"),
+        Wait::Child => {
+            let listed = Listed(pids);
+            let children = if pids.len() == 1 {
+                "is its child"
+            } else {
+                "are its children"
+            };
+            write!(f, ": {listed} {children}")
+        }
+        Wait::PipeBytes { .. } => write_holders(pids, sleeper, "write", "reader", f),
+        Wait::PipeRoom { .. } => write_holders(pids, sleeper, "read", "writer", f),
+    }
+}
+
+/// Who holds the other end of the pipe on which a process sleeps.
+fn write_holders<W: fmt::Write>(
+    pids: &[u32],
+    sleeper: Pid,
+    verb: &str,
+    role: &str,
+    f: &mut fmt::Formatter<W>,
+) -> fmt::Result {
+    let own = sleeper.number();
+    if pids.is_empty() {
+        return write!(f, ": nobody can {verb}");
+    }
+    if let [only] = pids {
+        if *only == own {
+            return write!(f, ": only process {own} can {verb}, the {role} itself");
+        }
+    }
+    let listed = Listed(pids);
+    write!(f, ": {listed} can {verb}")?;
+    if pids.contains(&own) {
+        write!(f, ", and {own} is the {role} itself")?;
+    }
+    Ok(())
+}
