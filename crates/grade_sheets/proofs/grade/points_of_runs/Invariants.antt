@@ -1,0 +1,8 @@
+use Rattle.std.proofs.Common.{◌≡◌, take}
+use Rattle.std.specs.Prelude.{min}
+use Rattle.grade_sheets.proofs.Marking.{most}
+use Rattle.grade_sheets.specs.Points.{points_of_runs}
+use Rattle.grade_sheets.proofs.grade.points_of_runs.Given as goal
+
+abbrev pub invariant-loop-run : goal.invariant-loop-run
+invariant-loop-run l = l.all ≡ min (points_of_runs (take l.run-index l.runs)) most

@@ -1,0 +1,8 @@
+use Rattle.std.proofs.Common.{◌≡◌, take}
+use Rattle.std.specs.Prelude.{min, sum_by}
+use Rattle.grade_sheets.proofs.Marking.{most}
+use Rattle.grade_sheets.specs.Points.{given_for}
+use Rattle.grade_sheets.proofs.sums.points.Given as goal
+
+abbrev pub invariant-loop-mark : goal.invariant-loop-mark
+invariant-loop-mark l = l.sum ≡ min (sum_by given_for (take l.mark-index l.marks)) most

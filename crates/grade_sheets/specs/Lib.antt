@@ -1,0 +1,3 @@
+pub mod Grades
+pub mod Points
+pub mod Standings

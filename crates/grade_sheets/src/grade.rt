@@ -1,0 +1,299 @@
+//! What a run comes to, and what a submission does.
+ghost use Rattle.std.specs.Prelude.{◌≡◌, min, IfOk};
+ghost use Rattle.std.specs.List.{list_all, list_any};
+ghost use Rattle.grade_sheets.specs.Points.{points_of_runs, points_of_exercise};
+ghost use Rattle.grade_sheets.specs.Standings.{is_fault, may_fault, is_on_faults, names_faults, has, standing_of, first_standing, IsGraded};
+
+use crate::asked::{Asked, Check};
+use crate::exercise::{Exercise, Run};
+use crate::judging::{Mark, Seen, marks};
+use crate::sums::{points, points_asked};
+use grade_rules::{End, Note, Pattern, Rule};
+use std::alloc::{AllocError, Global};
+
+/// What a submission, or one of its runs, comes to.
+#[derive(Clone, Copy, Debug, PartialEq, Eq)]
+pub enum Standing {
+    /// It has all that is asked for.
+    Right,
+    /// It ends, and doesn't have all that is asked for.
+    Wrong,
+    /// A process ended by a fault that isn't asked for.
+    Fault,
+    /// It still computes when all Runs are over.
+    Loops,
+    /// All its processes sleep when all Runs are over.
+    Waits,
+    /// It made more notes, or showed more bytes, than are kept.
+    TooMuch,
+    /// It can't be run.
+    Refused,
+}
+
+impl Standing {
+    /// The word for it.
+    pub fn word(self) -> &'static str {
+        match self {
+            Standing::Right => "right",
+            Standing::Wrong => "wrong",
+            Standing::Fault => "fault",
+            Standing::Loops => "loops",
+            Standing::Waits => "waits",
+            Standing::TooMuch => "too much",
+            Standing::Refused => "refused",
+        }
+    }
+}
+
+/// What a run gave.
+#[derive(Drop)]
+pub struct RunGrade {
+    /// A mark for each thing that is asked of the run, in their order.
+    pub marks: Vec<Mark>,
+    pub standing: Standing,
+    /// What the run came to, in a student's words, if that isn't an exit; empty else.
+    pub cause: String,
+}
+
+/// What a submission gave.
+#[derive(Drop)]
+pub struct Grade {
+    pub standing: Standing,
+    pub points: u64,
+    /// The points of all that is asked.
+    pub of: u64,
+    /// Why it isn't right; empty if it is.
+    pub reason: String,
+    pub runs: Vec<RunGrade>,
+}
+
+// Whether a note is a fault.
+fn is_fault(note: Note) -> bool
+    ensures { result ≡ is_fault note }
+{
+    match note {
+        Note::Faulted { .. } => true,
+        _ => false,
+    }
+}
+
+// Whether a pattern is one of faults.
+fn is_on_faults(pattern: &Pattern) -> bool
+    ensures { result ≡ is_on_faults pattern.now }
+{
+    match *pattern {
+        Pattern::Faulted { .. } => true,
+        _ => false,
+    }
+}
+
+// Whether one of the patterns is one of faults.
+fn are_on_faults(patterns: &[Pattern]) -> bool
+    ensures { result ≡ list_any is_on_faults patterns.now }
+{
+    patterns.iter().any(|pattern| is_on_faults(pattern))
+}
+
+// Whether a rule asks for faults.
+fn names_faults(rule: &Rule) -> bool
+    ensures { result ≡ names_faults rule.now }
+{
+    match rule {
+        Rule::Count { pattern, .. } => is_on_faults(pattern),
+        Rule::InOrder { steps, .. } => are_on_faults(steps.as_slice()),
+        Rule::Exactly { wanted, .. } => are_on_faults(wanted.as_slice()),
+        _ => false,
+    }
+}
+
+// Whether a run that has what is asked may have faults: a rule asks for them, or the programs aren't the student's.
+fn may_fault(asked: &Asked) -> bool
+    ensures { result ≡ may_fault asked.now }
+{
+    match &asked.check {
+        Check::Notes { rule, .. } => names_faults(rule),
+        Check::Line(_) => true,
+        Check::Predicts(_) => true,
+        _ => false,
+    }
+}
+
+// Whether a run has what a mark is for.
+fn has(mark: &Mark) -> bool
+    ensures { result ≡ has mark.now }
+{
+    mark.why.is_none()
+}
+
+// Whether a run has all that the marks are for.
+fn is_right(marks: &[Mark]) -> bool
+    ensures { result ≡ list_all has marks.now }
+{
+    marks.iter().all(|mark| has(mark))
+}
+
+// Whether a run may have faults that has all that is asked.
+fn any_may_fault(asked: &[Asked]) -> bool
+    ensures { result ≡ list_any may_fault asked.now }
+{
+    asked.iter().any(|one| may_fault(one))
+}
+
+// Whether a note is there of a fault.
+fn has_faults(notes: &[Note]) -> bool
+    ensures { result ≡ list_any is_fault notes.now }
+{
+    notes.iter().any(|note| is_fault(*note))
+}
+
+// What a run comes to that has all that is asked, or not.
+fn standing_after(is_right: bool, may_fault: bool, faulted: bool, end: End) -> Standing
+    ensures { result ≡ standing_of is_right may_fault faulted end }
+{
+    if is_right {
+        return Standing::Right;
+    }
+    match end {
+        End::TooManyNotes => Standing::TooMuch,
+        End::TooMuchShown => Standing::TooMuch,
+        End::Computes => Standing::Loops,
+        End::Waits => Standing::Waits,
+        End::Exited(_) => {
+            if faulted && !may_fault {
+                Standing::Fault
+            } else {
+                Standing::Wrong
+            }
+        }
+    }
+}
+
+/// What a run gives by what is asked of it. What it came to is left empty.
+///
+/// # Errors
+///
+/// [`AllocError`] if the host has too little memory.
+pub fn graded(alloc: Global, asked: &[Asked], seen: &Seen<'_>) -> Result<RunGrade, AllocError>
+    ensures { IfOk result (IsGraded asked.now seen.now) }
+{
+    let given = marks(alloc, asked, seen)?;
+    let right = is_right(given.as_slice());
+    let allowed = any_may_fault(asked);
+    let faulted = has_faults(seen.notes);
+    Ok(RunGrade {
+        marks: given,
+        standing: standing_after(right, allowed, faulted, seen.end),
+        cause: String::new(alloc),
+    })
+}
+
+/// What a run gives that can't be made, and why it can't: nothing.
+///
+/// # Errors
+///
+/// [`AllocError`] if the host has too little memory.
+pub fn ungraded(alloc: Global, asked: &[Asked], why: String) -> Result<RunGrade, AllocError>
+    ensures { IfOk result (λ g. g.standing ≡ Standing.Refused) }
+{
+    let mut marks = Vec::new(alloc);
+    for one in asked {
+        marks.push(Mark {
+            points: one.points,
+            why: Some(String::from_str(alloc, "it can't be run")?),
+        })?;
+    }
+    Ok(RunGrade {
+        marks,
+        standing: Standing::Refused,
+        cause: why,
+    })
+}
+
+// The first thing that a run doesn't have, as text; empty if it has all.
+fn first_why(alloc: Global, run: &Run, grade: &RunGrade) -> Result<String, AllocError> {
+    for (asked, mark) in run.asked.iter().zip(grade.marks.iter()) {
+        if let Some(why) = &mark.why {
+            let (name, why) = (asked.name.as_str(), why.as_str());
+            return format!(in alloc; "{name}: {why}");
+        }
+    }
+    Ok(String::new(alloc))
+}
+
+// Why a run isn't right, as text; empty if it is.
+fn reason(alloc: Global, run: &Run, grade: &RunGrade) -> Result<String, AllocError> {
+    let why = first_why(alloc, run, grade)?;
+    let cause = grade.cause.as_str();
+    if cause.is_empty() {
+        return Ok(why);
+    }
+    let why = why.as_str();
+    format!(in alloc; "{cause}; {why}")
+}
+
+// Why the first run that isn't right isn't, as text; empty if all are.
+fn first_reason(alloc: Global, runs: &[Run], grades: &[RunGrade]) -> Result<String, AllocError> {
+    for (run, grade) in runs.iter().zip(grades.iter()) {
+        if grade.standing != Standing::Right {
+            return reason(alloc, run, grade);
+        }
+    }
+    Ok(String::new(alloc))
+}
+
+// What the first run comes to that isn't right.
+fn first_standing(runs: &[RunGrade]) -> Standing
+    ensures { result ≡ first_standing runs.now }
+{
+    for run in runs {
+        if run.standing != Standing::Right {
+            return run.standing;
+        }
+    }
+    Standing::Right
+}
+
+// The points of runs, 2^64 - 1 at most.
+fn points_of_runs(runs: &[RunGrade]) -> u64
+    ensures { result ≡ min (points_of_runs runs.now) u64.MAX }
+{
+    let mut all: u64 = 0;
+    for run in runs {
+        all = all.saturating_add(points(run.marks.as_slice()));
+    }
+    all
+}
+
+// The points of all that is asked of runs, 2^64 - 1 at most.
+fn points_of_exercise(runs: &[Run]) -> u64
+    ensures { result ≡ min (points_of_exercise runs.now) u64.MAX }
+{
+    let mut all: u64 = 0;
+    for run in runs {
+        all = all.saturating_add(points_asked(run.asked.as_slice()));
+    }
+    all
+}
+
+impl Grade {
+    /// What a submission gives whose runs gave this, one for each run of the exercise.
+    ///
+    /// # Errors
+    ///
+    /// [`AllocError`] if the host has too little memory.
+    pub fn of(alloc: Global, exercise: &Exercise, runs: Vec<RunGrade>) -> Result<Grade, AllocError>
+        ensures runs { IfOk result (λ g. g.runs ≡ runs) }
+        ensures standing { IfOk result (λ g. g.standing ≡ first_standing runs.items) }
+        ensures points { IfOk result (λ g. g.points ≡ min (points_of_runs runs.items) u64.MAX) }
+        ensures asked { IfOk result (λ g. g.of ≡ min (points_of_exercise exercise.now.runs.items) u64.MAX) }
+    {
+        let reason = first_reason(alloc, exercise.runs.as_slice(), runs.as_slice())?;
+        Ok(Grade {
+            standing: first_standing(runs.as_slice()),
+            points: points_of_runs(runs.as_slice()),
+            of: points_of_exercise(exercise.runs.as_slice()),
+            reason,
+            runs,
+        })
+    }
+}

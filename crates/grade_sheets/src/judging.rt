@@ -1,0 +1,253 @@
+//! Whether a run has what is asked of it, and why not.
+ghost use Rattle.std.specs.Prelude.{◌≡◌, ◌↔◌, IsTrue, is_none, IfOk};
+ghost use Rattle.grade_rules.specs.Judged.{HoldsOf};
+ghost use Rattle.grade_sheets.specs.Grades.{IsAnswered, IsMarked, AreMarked};
+ghost use Rattle.grade_sheets.specs.Points.{given_for};
+
+use crate::asked::{Asked, Check};
+use crate::texts::{first_difference, no_rise, not_predicted, not_said, not_shown};
+use grade_rules::{Edge, End, Judgement, Note, Pattern, Rule, count, fits_any, judge};
+use std::alloc::{AllocError, Global};
+
+/// What is known of a run.
+#[derive(Clone, Copy)]
+pub struct Seen<'a> {
+    /// Each turn, call, sleep, exit and fault, in their order.
+    pub notes: &'a [Note],
+    /// What the console showed.
+    pub shown: &'a [u8],
+    pub end: End,
+    /// The lines of the trace up to the end of `init`.
+    pub trace: &'a str,
+    /// The bytes of the file that was handed in.
+    pub handed_in: &'a [u8],
+}
+
+/// What a run gets for something that is asked of it.
+#[derive(Drop)]
+pub struct Mark {
+    /// The points that it gives.
+    pub points: u32,
+    /// Why the run doesn't have it, in a student's words: then there are no points. `None` if it has.
+    pub why: Option<String>,
+}
+
+impl Mark {
+    /// The points that it brings: none if the run doesn't have what is asked.
+    pub fn given(&self) -> u32
+        ensures { result ≡ given_for self.now }
+    {
+        match self.why {
+            None => self.points,
+            Some(_) => 0,
+        }
+    }
+}
+
+// How a run ended that should have ended otherwise.
+fn end_text(alloc: Global, end: End, wanted: i32) -> Result<String, AllocError> {
+    match end {
+        End::Exited(status) => {
+            format!(in alloc; "init exits with {status}, and not with {wanted}")
+        }
+        _ => format!(in alloc; "init does not exit"),
+    }
+}
+
+// Why an exit isn't the one that is asked for.
+fn other_end(alloc: Global, end: End, wanted: i32) -> Result<Option<String>, AllocError>
+    ensures { IfOk result (λ why. IsTrue (is_none why) ↔ (end ≡ End.Exited wanted)) }
+{
+    if end == End::Exited(wanted) {
+        return Ok(None);
+    }
+    Ok(Some(end_text(alloc, end, wanted)?))
+}
+
+// Why what was shown isn't exactly this.
+fn other_text(alloc: Global, wanted: &[u8], shown: &[u8]) -> Result<Option<String>, AllocError>
+    ensures { IfOk result (λ why. IsTrue (is_none why) ↔ (wanted.now ≡ shown.now)) }
+{
+    if wanted == shown {
+        return Ok(None);
+    }
+    Ok(Some(first_difference(alloc, wanted, shown)?))
+}
+
+// The text at a place; empty if there is none.
+fn text_at(texts: &[String], place: usize) -> &str {
+    match texts.get(place) {
+        Some(text) => text.as_str(),
+        None => "",
+    }
+}
+
+// Why steps can't be arranged: this one is missing.
+fn missing(
+    alloc: Global,
+    texts: &[String],
+    steps: &[Pattern],
+    edges: &[Edge],
+    place: usize,
+    notes: &[Note],
+) -> Result<String, AllocError> {
+    let own = text_at(texts, place);
+    let is_somewhere = match steps.get(place) {
+        Some(pattern) => count(pattern, notes) > 0,
+        None => false,
+    };
+    let mut text = format!(in alloc; "`{own}` is missing")?;
+    if let Some(edge) = edges
+        .iter()
+        .find(|edge| edge.behind == place && is_somewhere)
+    {
+        let before = text_at(texts, edge.before);
+        text.push_str(format!(in alloc; " behind `{before}`")?.as_str())?;
+    }
+    if let Some(edge) = edges.iter().find(|edge| edge.before == place) {
+        let behind = text_at(texts, edge.behind);
+        text.push_str(format!(in alloc; " before `{behind}`")?.as_str())?;
+    }
+    Ok(text)
+}
+
+// A note that isn't the one that should stand there.
+fn other_note(
+    alloc: Global,
+    texts: &[String],
+    of: &[Pattern],
+    place: usize,
+    notes: &[Note],
+) -> Result<String, AllocError> {
+    let before = notes
+        .iter()
+        .take(place)
+        .filter(|note| fits_any(of, **note))
+        .count();
+    let number = before.saturating_add(1);
+    let wanted = match text_at(texts, before) {
+        "" => "no more",
+        wanted => wanted,
+    };
+    match notes.get(place) {
+        Some(note) => format!(in alloc; "note {number}: expected `{wanted}`, got `{note}`"),
+        None => format!(in alloc; "note {number}: expected `{wanted}`, got no more"),
+    }
+}
+
+// The text of a note.
+fn note_text(alloc: Global, notes: &[Note], place: usize) -> Result<String, AllocError> {
+    match notes.get(place) {
+        Some(note) => format!(in alloc; "{note}"),
+        None => Ok(String::new(alloc)),
+    }
+}
+
+// How often a note may come.
+fn how_often(alloc: Global, least: usize, most: usize) -> Result<String, AllocError> {
+    if least == most {
+        format!(in alloc; "{least} are asked for")
+    } else if most >= u32::MAX as usize {
+        format!(in alloc; "{least} at least are asked for")
+    } else if least == 0 {
+        format!(in alloc; "{most} at most may be there")
+    } else {
+        format!(in alloc; "{least} to {most} are asked for")
+    }
+}
+
+// What shows that a rule doesn't hold, as text.
+fn shows(
+    alloc: Global,
+    texts: &[String],
+    rule: &Rule,
+    judgement: Judgement,
+    notes: &[Note],
+) -> Result<String, AllocError> {
+    match (judgement, rule) {
+        (Judgement::Counted(found), Rule::Count { least, most, .. }) => {
+            let note = text_at(texts, 0);
+            let asked = how_often(alloc, *least, *most)?;
+            format!(in alloc; "`{note}`: {asked}, and {found} are there")
+        }
+        (Judgement::Unwanted(place), _) => {
+            let note = note_text(alloc, notes, place)?;
+            format!(in alloc; "`{note}` may not come")
+        }
+        (Judgement::Alone(place), _) => {
+            let first = text_at(texts, 0);
+            let note = note_text(alloc, notes, place)?;
+            format!(in alloc; "`{first}` is missing before `{note}`")
+        }
+        (Judgement::Missing(place), Rule::InOrder { steps, edges }) => {
+            missing(
+                alloc,
+                texts,
+                steps.as_slice(),
+                edges.as_slice(),
+                place,
+                notes,
+            )
+        }
+        (Judgement::Other(place), Rule::Exactly { of, .. }) => {
+            other_note(alloc, texts, of.as_slice(), place, notes)
+        }
+        _ => String::from_str(alloc, "it doesn't hold"),
+    }
+}
+
+// Why a rule doesn't hold of notes.
+fn broken(
+    alloc: Global,
+    texts: &[String],
+    rule: &Rule,
+    notes: &[Note],
+) -> Result<Option<String>, AllocError>
+    ensures { IfOk result (λ why. IsTrue (is_none why) ↔ HoldsOf rule.now notes.now) }
+{
+    let judgement = judge(alloc, rule, notes)?;
+    if judgement.holds() {
+        return Ok(None);
+    }
+    Ok(Some(shows(alloc, texts, rule, judgement, notes)?))
+}
+
+// Why a run doesn't have what is asked of it.
+fn complaint(alloc: Global, check: &Check, seen: &Seen<'_>) -> Result<Option<String>, AllocError>
+    ensures { IfOk result (λ why. IsAnswered check.now seen.now (is_none why)) }
+{
+    match check {
+        Check::Status(wanted) => other_end(alloc, seen.end, *wanted),
+        Check::Shown(wanted) => other_text(alloc, wanted.as_str().as_bytes(), seen.shown),
+        Check::Shows(part) => not_shown(alloc, part.as_str().as_bytes(), seen.shown),
+        Check::Rise(least) => no_rise(alloc, seen.shown, *least),
+        Check::Line(line) => not_said(alloc, line.as_str(), seen),
+        Check::Predicts(words) => not_predicted(alloc, words.as_slice(), seen),
+        Check::Notes { rule, texts } => broken(alloc, texts.as_slice(), rule, seen.notes),
+    }
+}
+
+// What a run gets for one thing.
+fn mark_for(alloc: Global, asked: &Asked, seen: &Seen<'_>) -> Result<Mark, AllocError>
+    ensures { IfOk result (IsMarked asked.now seen.now) }
+{
+    Ok(Mark {
+        points: asked.points,
+        why: complaint(alloc, &asked.check, seen)?,
+    })
+}
+
+/// What a run gets for each thing that is asked of it, in their order.
+///
+/// # Errors
+///
+/// [`AllocError`] if the host has too little memory.
+pub fn marks(alloc: Global, asked: &[Asked], seen: &Seen<'_>) -> Result<Vec<Mark>, AllocError>
+    ensures { IfOk result (λ marks. AreMarked asked.now seen.now marks.items) }
+{
+    let mut marks = Vec::new(alloc);
+    for one in asked {
+        marks.push(mark_for(alloc, one, seen)?)?;
+    }
+    Ok(marks)
+}

@@ -1,0 +1,114 @@
+//! Patterns as text: a line of a trace, with `*`, `!1`, `>=2`, `3..9` or `13|15` in place of a number.
+use grade_rules::{Numbers, Pattern};
+
+// The number of a kernel call, by its name or its number.
+fn call_number(word: &str) -> Option<i64> {
+    match word {
+        "fork" => Some(1),
+        "exit" => Some(2),
+        "wait" => Some(3),
+        "pipe" => Some(4),
+        "read" => Some(5),
+        "kill" => Some(6),
+        "exec" => Some(7),
+        "dup" => Some(10),
+        "getpid" => Some(11),
+        "sbrk" => Some(12),
+        "sleep" => Some(13),
+        "uptime" => Some(14),
+        "open" => Some(15),
+        "write" => Some(16),
+        "close" => Some(21),
+        "sbrklazy" => Some(22),
+        _ => word.parse().ok(),
+    }
+}
+
+// From a number to another, both with them.
+fn within(least: i64, most: i64) -> Numbers {
+    Numbers::Within { least, most }
+}
+
+// The numbers of a word that begins with a sign of order.
+fn ordered(word: &str) -> Option<Numbers> {
+    if let Some(least) = word.strip_prefix(">=") {
+        return Some(within(least.parse().ok()?, i64::MAX));
+    }
+    if let Some(most) = word.strip_prefix("<=") {
+        return Some(within(i64::MIN, most.parse().ok()?));
+    }
+    if let Some(below) = word.strip_prefix(">") {
+        let below: i64 = below.parse().ok()?;
+        return Some(within(below.checked_add(1)?, i64::MAX));
+    }
+    let above: i64 = word.strip_prefix("<")?.parse().ok()?;
+    Some(within(i64::MIN, above.checked_sub(1)?))
+}
+
+// The numbers that a word stands for.
+fn numbers(word: &str) -> Option<Numbers> {
+    if word == "*" {
+        return Some(Numbers::Any);
+    }
+    if let Some(other) = word.strip_prefix("!") {
+        return Some(Numbers::Not(call_number(other)?));
+    }
+    if let Some((least, most)) = word.split_once("..") {
+        return Some(within(least.parse().ok()?, most.parse().ok()?));
+    }
+    if let Some((one, other)) = word.split_once("|") {
+        return Some(Numbers::Either(call_number(one)?, call_number(other)?));
+    }
+    if word.starts_with(">") || word.starts_with("<") {
+        return ordered(word);
+    }
+    let number = call_number(word)?;
+    Some(within(number, number))
+}
+
+// The pattern of a line of two words or of three, behind its kind.
+fn pattern_of_two(kind: &str, first: Numbers, second: Numbers) -> Option<Pattern> {
+    match kind {
+        "block" => Some(Pattern::Blocked {
+            pid: first,
+            number: second,
+        }),
+        "exit" => Some(Pattern::Exited {
+            pid: first,
+            status: second,
+        }),
+        "fault" => Some(Pattern::Faulted {
+            pid: first,
+            cause: second,
+        }),
+        _ => None,
+    }
+}
+
+/// The pattern that a text stands for: the words of a line of a trace, of the kinds `turn`, `call`, `block`, `exit` and
+/// `fault`, with a blank between them. In place of a number may stand `*` for each, `!N` for each but N, `>N`, `>=N`,
+/// `<N`, `<=N`, `N..M` for those from N to M, `N|M` for one of the two, and the name of a kernel call for its number.
+/// `None` for any other text.
+pub fn pattern(text: &str) -> Option<Pattern> {
+    let mut words = text.split(' ');
+    let kind = words.next()?;
+    let first = numbers(words.next()?)?;
+    let Some(second) = words.next() else {
+        return match kind {
+            "turn" => Some(Pattern::Turn { pid: first }),
+            _ => None,
+        };
+    };
+    let second = numbers(second)?;
+    let Some(third) = words.next() else {
+        return pattern_of_two(kind, first, second);
+    };
+    if kind != "call" || words.next().is_some() {
+        return None;
+    }
+    Some(Pattern::Called {
+        pid: first,
+        number: second,
+        answer: numbers(third)?,
+    })
+}

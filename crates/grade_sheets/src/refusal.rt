@@ -1,0 +1,26 @@
+//! Why an exercise isn't read.
+use std::alloc::{AllocError, AllocFailed};
+use thiserror::Error;
+
+/// Why there is no exercise, or no result.
+#[derive(Debug, Drop, Error)]
+pub enum SheetError {
+    /// What is wrong with the exercise, as text.
+    #[error("{0}")]
+    Text(String),
+    /// The host has too little memory.
+    #[error("out of memory")]
+    Memory,
+}
+
+impl From<AllocError> for SheetError {
+    fn from(_error: AllocError) -> Self {
+        SheetError::Memory
+    }
+}
+
+impl<T: Drop> From<AllocFailed<T>> for SheetError {
+    fn from(_error: AllocFailed<T>) -> Self {
+        SheetError::Memory
+    }
+}
