@@ -1,0 +1,12 @@
+use Rattle.std.proofs.Common.{◌+◌, ◌≤◌}
+use Rattle.grade_runs.specs.Plays.{PlaysOn}
+use Rattle.grade_runs.proofs.playing.Played.send_runs.Given as goal
+
+abbrev pub invariant-runs : goal.invariant-runs
+invariant-runs l = record {
+  plays : PlaysOn l.fn.self l.self;
+  few : l.self.kept.runs + l.left ≤ l.fn.self.kept.runs + l.quantum;
+}
+
+abbrev pub decreases-runs : goal.decreases-runs
+decreases-runs l = l.left

@@ -1,0 +1,138 @@
+-- What is told of a run: the notes of its events, what it showed, and how it ended.
+use Rattle.std.specs.Prelude.{◌≡◌, ℕ, zero, suc, ℤ, ◌+◌, ◌≤◌, Bool, true, false, if◌then◌else◌, nat_lt, List, [], ◌∷◌, ◌++◌, length, flat_map, Option, None, Some, Result, Ok, Err}
+use Rattle.grade_rules.specs.declared.note.Note.{Note}
+use Rattle.grade_rules.specs.declared.note.Note.TheVariants as note
+use Rattle.grade_rules.specs.declared.ending.End.{End}
+use Rattle.grade_rules.specs.declared.ending.End.TheVariants as ends
+use Rattle.kernel_spec.specs.runs.First.{first}
+use Rattle.kernel_spec.specs.runs.Run.{Event, Run, Tick, Key, Send, Outcome, Step_of, Turn, Idle, Ticked, Typed, Sent, Halted, bytes_out, out}
+use Rattle.kernel_spec.specs.steps.Own.{Answer, Stepped, Called, Blocked, Exited, Faulted}
+use Rattle.kernel_spec.specs.views.State.{ProgramFile}
+use Rattle.xk_base.specs.Access.{code_of}
+use Rattle.xk_base.specs.declared.errors.BootError.{BootError}
+use Rattle.xv_machine.specs.Reached.{IsReached}
+use Rattle.grade_runs.specs.declared.playing.TheConstants.{NOTES_MAX, SHOWN_MAX}
+use Rattle.grade_runs.specs.declared.playing.Kept.{Kept}
+use Rattle.grade_runs.specs.declared.playing.Played.{Played}
+
+-- ---- notes
+
+-- the note of a step: none of an instruction that is done
+abbrev pub note_of_step : ℕ → Answer → Option Note
+note_of_step p Stepped = None
+note_of_step p (Called number value) = Some (note.Called p number value)
+note_of_step p (Blocked number) = Some (note.Blocked p number)
+note_of_step p (Exited status) = Some (note.Exited p status)
+note_of_step p (Faulted cause) = Some (note.Faulted p (code_of cause))
+
+abbrev pub note_of : Outcome → Option Note
+note_of (Step_of p answer) = note_of_step p answer
+note_of (Turn p) = Some (note.Turn p)
+note_of Idle = None
+note_of Ticked = None
+note_of (Typed echo) = None
+note_of (Sent byte) = None
+note_of Halted = None
+
+abbrev pub all_of : Option Note → List Note
+all_of None = []
+all_of (Some n) = n ∷ []
+
+-- the notes of a run
+abbrev pub notes_of : List (Event × Outcome) → List Note
+notes_of list = flat_map (λ e. all_of (note_of e.1)) list
+
+-- ---- what is known behind each event
+
+pub record Told : Type 0 where
+  pub notes : List Note
+  pub shown : List ℕ
+  -- how many Runs were sent
+  pub runs : ℕ
+  -- the process that had the last turn
+  pub last : Option ℕ
+  -- no process could run at the last Run
+  pub idle : Bool
+
+abbrev pub nothing : Told
+nothing = record { notes = []; shown = []; runs = 0; last = None; idle = false }
+
+abbrev pub last_after : Option ℕ → Outcome → Option ℕ
+last_after before (Turn p) = Some p
+last_after before (Step_of p answer) = before
+last_after before Idle = before
+last_after before Ticked = before
+last_after before (Typed echo) = before
+last_after before (Sent byte) = before
+last_after before Halted = before
+
+abbrev pub is_idle : Outcome → Bool
+is_idle Idle = true
+is_idle (Step_of p answer) = false
+is_idle (Turn p) = false
+is_idle Ticked = false
+is_idle (Typed echo) = false
+is_idle (Sent byte) = false
+is_idle Halted = false
+
+-- behind so many Runs, the last of which gave this
+abbrev pub idle_after : Bool → ℕ → Outcome → Bool
+idle_after before zero o = before
+idle_after before (suc more) o = is_idle o
+
+abbrev pub runs_in : Event → ℕ
+runs_in Run = 1
+runs_in Tick = 0
+runs_in (Key byte) = 0
+runs_in Send = 0
+
+-- what an outcome adds, behind so many Runs
+abbrev pub told_with : Told → ℕ → Outcome → Told
+told_with t sent o = record { notes = t.notes ++ all_of (note_of o); shown = t.shown ++ bytes_out o; runs = t.runs + sent; last = last_after t.last o; idle = idle_after t.idle sent o }
+
+-- what is told behind a list of events
+abbrev pub told_by : Told → List (Event × Outcome) → Told
+told_by t [] = t
+told_by t (e ∷ list) = told_by (told_with t (runs_in e.0) e.1) list
+
+-- what Runs add that were sent at once: what came of the last one, unless each was a done instruction
+abbrev pub told_runs : Told → ℕ → Option Outcome → Told
+told_runs t sent None = record { notes = t.notes; shown = t.shown; runs = t.runs + sent; last = t.last; idle = false }
+told_runs t sent (Some o) = told_with t sent o
+
+abbrev pub told_of : Kept → Told
+told_of k = record { notes = k.notes.items; shown = k.shown.items; runs = k.runs; last = k.last; idle = k.idle }
+
+-- ---- a run that goes on
+
+-- The machine went on by these events, from wherever it came, and what is kept tells them
+pub record PlaysOn (old new : Played) : Type 0 where
+  pub list : List (Event × Outcome)
+  pub reaches : (frames trace : ℕ) (programs : List ProgramFile) (es : List (Event × Outcome)) → IsReached frames trace programs es old.session.machine → IsReached frames trace programs (es ++ list) new.session.machine
+  pub told : told_of new.kept ≡ told_by (told_of old.kept) list
+
+-- ---- the whole run
+
+-- A machine with so many frames, a trace of so many notes and these programs was booted, and has got these events: what is kept are their notes and what they showed, and so many of them, at most, are Runs
+pub record IsRunOf (frames trace : ℕ) (programs : List ProgramFile) (most : ℕ) (p : Played) : Type 0 where
+  pub list : List (Event × Outcome)
+  pub reached : IsReached frames trace programs list p.session.machine
+  pub notes : p.kept.notes.items ≡ notes_of list
+  pub shown : p.kept.shown.items ≡ out list
+  pub told : told_of p.kept ≡ told_by nothing list
+  pub few : p.kept.runs ≤ most
+
+-- a run, or why none could be booted
+abbrev pub IsPlayed : (frames trace : ℕ) → List ProgramFile → (most : ℕ) → Result Played BootError → Type 0
+IsPlayed frames trace programs most (Ok p) = IsRunOf frames trace programs most p
+IsPlayed frames trace programs most (Err e) = first frames trace programs ≡ Err e
+
+-- ---- its end
+
+-- how a run stands that hasn't ended: more notes or bytes than are kept; or it waits, or it computes
+abbrev pub unended : Told → End
+unended t = if nat_lt NOTES_MAX (length t.notes) then ends.TooManyNotes else (if nat_lt SHOWN_MAX (length t.shown) then ends.TooMuchShown else (if t.idle then ends.Waits else ends.Computes))
+
+abbrev pub end_of : Option ℤ → Told → End
+end_of None t = unended t
+end_of (Some status) t = ends.Exited status

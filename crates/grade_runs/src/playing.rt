@@ -1,0 +1,341 @@
+//! A run of what was handed in: what happened, and what was shown.
+ghost use Rattle.std.specs.Prelude.{◌≡◌, ◌+◌, ◌*◌, ◌<◌, ◌≤◌, ◌^◌, ◌++◌, map, option_map, IfOk};
+ghost use Rattle.kernel_spec.specs.views.State.{named_file};
+ghost use Rattle.xv_machine.specs.Events.{event_of, outcome_of};
+ghost use Rattle.xv_session.specs.Recorded.{IsRecorded};
+ghost use Rattle.grade_runs.specs.Plays.{note_of, all_of, nothing, runs_in, told_of, told_with, told_runs, last_after, idle_after, PlaysOn, IsPlayed, end_of};
+
+use grade_rules::{End, Note};
+use std::alloc::Global;
+use xk_base::{BootError, Pid, Program};
+use xv_machine::{Config, Event, Outcome};
+use xv_session::{Session, SessionError};
+
+/// The most notes that are kept of a run.
+pub const NOTES_MAX: usize = 1_000_000;
+
+/// The most bytes that are kept of what a run shows.
+pub const SHOWN_MAX: usize = 1_048_576;
+
+/// The most Sends in a round.
+const SENDS: u32 = 32;
+
+/// How a run is driven.
+#[derive(Clone, Copy, Debug, PartialEq, Eq)]
+pub struct Plan {
+    /// The most rounds.
+    pub rounds: u32,
+    /// Runs in each round.
+    pub quantum: u32,
+}
+
+/// What is kept of a run, event by event.
+#[derive(Drop)]
+pub struct Kept {
+    /// Each turn, call, sleep, exit and fault, in their order.
+    pub notes: Vec<Note>,
+    /// What the console showed.
+    pub shown: Vec<u8>,
+    /// How many Runs were sent.
+    pub runs: u64,
+    /// The process that had the last turn.
+    pub last: Option<Pid>,
+    /// Whether no process could run at the last Run.
+    pub idle: bool,
+    /// The place of the event that was a fault: that of process 1, if there is one, or else the first.
+    pub fault: Option<u64>,
+}
+
+/// A run.
+#[derive(Drop)]
+pub struct Played {
+    pub session: Session,
+    pub kept: Kept,
+}
+
+// The note of what came of an event, if it is a turn, a call, a sleep, an exit or a fault.
+fn note_of(outcome: &Outcome) -> Option<Note>
+    ensures { result ≡ note_of (outcome_of outcome.now) }
+{
+    match outcome {
+        Outcome::Called { pid, number, value } => Some(Note::Called {
+            pid: pid.number(),
+            number: *number,
+            value: *value,
+        }),
+        Outcome::Blocked { pid, number } => Some(Note::Blocked {
+            pid: pid.number(),
+            number: *number,
+        }),
+        Outcome::Exited { pid, status } => Some(Note::Exited {
+            pid: pid.number(),
+            status: *status,
+        }),
+        Outcome::Faulted { pid, cause } => Some(Note::Faulted {
+            pid: pid.number(),
+            cause: cause.code(),
+        }),
+        Outcome::Turn { pid } => Some(Note::Turn { pid: pid.number() }),
+        _ => None,
+    }
+}
+
+// Adds a note, if there is one.
+fn add_note(notes: &mut Vec<Note>, note: Option<Note>) -> Result<(), SessionError>
+    ensures { IfOk result (λ _. notes.new.items ≡ notes.old.items ++ all_of note) }
+{
+    let Some(note) = note else {
+        return Ok(());
+    };
+    let Ok(()) = notes.push(note) else {
+        return Err(SessionError::Memory);
+    };
+    Ok(())
+}
+
+// Adds bytes that were shown.
+fn add_bytes(shown: &mut Vec<u8>, bytes: &[u8]) -> Result<(), SessionError>
+    ensures { IfOk result (λ _. shown.new.items ≡ shown.old.items ++ bytes.now) }
+{
+    match shown.extend_from_slice(bytes) {
+        Ok(()) => Ok(()),
+        Err(_) => Err(SessionError::Memory),
+    }
+}
+
+// The process whose turn it was, behind what came of an event.
+fn last_after(before: Option<Pid>, outcome: &Outcome) -> Option<Pid>
+    ensures { result ≡ last_after before (outcome_of outcome.now) }
+{
+    match outcome {
+        Outcome::Turn { pid } => Some(*pid),
+        _ => before,
+    }
+}
+
+// Whether no process could run at the last Run, behind so many Runs, of the last of which this came.
+#[tactic(auto, using(crate::proofs::Telling::idle_none, crate::proofs::Telling::idle_some))]
+fn idle_after(before: bool, sent: u32, outcome: &Outcome) -> bool
+    ensures { result ≡ idle_after before sent (outcome_of outcome.now) }
+{
+    if sent == 0 {
+        return before;
+    }
+    match outcome {
+        Outcome::Idle => true,
+        _ => false,
+    }
+}
+
+// The place of the fault that is told, behind what came of the event at a place.
+fn fault_after(before: Option<u64>, place: u64, outcome: &Outcome) -> Option<u64> {
+    match outcome {
+        Outcome::Faulted { pid, .. } if before.is_none() || pid.number() == 1 => Some(place),
+        _ => before,
+    }
+}
+
+impl Kept {
+    // Nothing yet.
+    fn new(alloc: Global) -> Kept
+        ensures { told_of result ≡ nothing }
+    {
+        Kept {
+            notes: Vec::new(alloc),
+            shown: Vec::new(alloc),
+            runs: 0,
+            last: None,
+            idle: false,
+            fault: None,
+        }
+    }
+
+    // Keeps what came of the event at a place, behind so many Runs.
+    fn keep(&mut self, sent: u32, place: u64, outcome: &Outcome) -> Result<(), SessionError>
+        requires { self.old.runs + sent < 2 ^ 64 }
+        ensures { IfOk result (λ _. told_of self.new ≡ told_with (told_of self.old) sent (outcome_of outcome.now)) }
+    {
+        add_bytes(&mut self.shown, outcome.shown())?;
+        add_note(&mut self.notes, note_of(outcome))?;
+        self.runs += u64::from(sent);
+        self.last = last_after(self.last, outcome);
+        self.idle = idle_after(self.idle, sent, outcome);
+        self.fault = fault_after(self.fault, place, outcome);
+        Ok(())
+    }
+
+    // Keeps what came of Runs that were sent at once; the last one of them was the event at a place.
+    fn keep_runs(
+        &mut self,
+        sent: u32,
+        place: u64,
+        last: &Option<Outcome>,
+    ) -> Result<(), SessionError>
+        requires { self.old.runs + sent < 2 ^ 64 }
+        ensures { IfOk result (λ _. told_of self.new ≡ told_runs (told_of self.old) sent (option_map outcome_of last.now)) }
+    {
+        let Some(outcome) = last else {
+            self.runs += u64::from(sent);
+            self.idle = false;
+            return Ok(());
+        };
+        self.keep(sent, place, outcome)
+    }
+}
+
+impl Played {
+    // Sends Run so many times at most, and tells how often.
+    fn run(&mut self, most: u32) -> Result<u32, SessionError>
+        requires some { 0 < most }
+        requires room { self.old.kept.runs + most < 2 ^ 64 }
+        ensures plays { IfOk result (λ _. PlaysOn self.old self.new) }
+        ensures some { IfOk result (λ sent. 0 < sent) }
+        ensures within { IfOk result (λ sent. sent ≤ most) }
+        ensures runs { IfOk result (λ sent. self.new.kept.runs ≡ self.old.kept.runs + sent) }
+    {
+        let runs = self.session.run(most)?;
+        let place = self.session.at().saturating_sub(1);
+        self.kept.keep_runs(runs.sent, place, &runs.last)?;
+        Ok(runs.sent)
+    }
+
+    // The Runs of a round: fewer if more notes are there than are kept.
+    fn send_runs(&mut self, quantum: u32) -> Result<(), SessionError>
+        requires { self.old.kept.runs + quantum < 2 ^ 64 }
+        ensures plays { IfOk result (λ _. PlaysOn self.old self.new) }
+        ensures runs { IfOk result (λ _. self.new.kept.runs ≤ self.old.kept.runs + quantum) }
+    {
+        let mut left = quantum;
+        'runs: while left > 0 && self.kept.notes.len() <= NOTES_MAX {
+            left -= self.run(left)?;
+        }
+        Ok(())
+    }
+
+    // Sends an event that isn't Run, and tells whether bytes were shown.
+    fn show(&mut self, event: Event) -> Result<bool, SessionError>
+        requires other { runs_in (event_of event) ≡ 0 }
+        requires room { self.old.kept.runs < 2 ^ 64 }
+        ensures plays { IfOk result (λ _. PlaysOn self.old self.new) }
+        ensures runs { IfOk result (λ _. self.new.kept.runs ≡ self.old.kept.runs) }
+    {
+        let outcome = self.session.send(event)?;
+        let place = self.session.at().saturating_sub(1);
+        self.kept.keep(0, place, &outcome)?;
+        Ok(!outcome.shown().is_empty())
+    }
+
+    // Sends as long as bytes wait, so often at most as a round has Sends.
+    fn send_bytes(&mut self) -> Result<(), SessionError>
+        requires { self.old.kept.runs < 2 ^ 64 }
+        ensures plays { IfOk result (λ _. PlaysOn self.old self.new) }
+        ensures runs { IfOk result (λ _. self.new.kept.runs ≡ self.old.kept.runs) }
+    {
+        'sends: for _ in 0..SENDS {
+            if !self.show(Event::Send)? {
+                return Ok(());
+            }
+        }
+        Ok(())
+    }
+
+    // Types a key, if there is one left.
+    fn type_key(&mut self, key: Option<u8>) -> Result<(), SessionError>
+        requires { self.old.kept.runs < 2 ^ 64 }
+        ensures plays { IfOk result (λ _. PlaysOn self.old self.new) }
+        ensures runs { IfOk result (λ _. self.new.kept.runs ≡ self.old.kept.runs) }
+    {
+        let Some(key) = key else {
+            return Ok(());
+        };
+        self.show(Event::Key(key))?;
+        Ok(())
+    }
+
+    // A round: a key, if there is one left, Runs, a tick, and Sends as long as a byte waits.
+    fn play_round(&mut self, quantum: u32, key: Option<u8>) -> Result<(), SessionError>
+        requires { self.old.kept.runs + quantum < 2 ^ 64 }
+        ensures plays { IfOk result (λ _. PlaysOn self.old self.new) }
+        ensures runs { IfOk result (λ _. self.new.kept.runs ≤ self.old.kept.runs + quantum) }
+    {
+        self.type_key(key)?;
+        self.send_runs(quantum)?;
+        self.show(Event::Tick)?;
+        self.send_bytes()?;
+        Ok(())
+    }
+
+    /// How the run ended.
+    pub fn end(&self) -> End
+        ensures { result ≡ end_of self.now.session.machine.world.turns.halted (told_of self.now.kept) }
+    {
+        if let Some(status) = self.session.machine().halted() {
+            return End::Exited(status);
+        }
+        if self.kept.notes.len() > NOTES_MAX {
+            return End::TooManyNotes;
+        }
+        if self.kept.shown.len() > SHOWN_MAX {
+            return End::TooMuchShown;
+        }
+        if self.kept.idle {
+            return End::Waits;
+        }
+        End::Computes
+    }
+
+    // Whether no further round is played.
+    fn is_over(&self) -> bool {
+        match self.end() {
+            End::Exited(_) => true,
+            End::TooManyNotes => true,
+            End::TooMuchShown => true,
+            End::Waits => false,
+            End::Computes => false,
+        }
+    }
+}
+
+// A run in which nothing has happened yet.
+fn begin(alloc: Global, session: Session) -> Played
+    ensures session { result.session ≡ session }
+    ensures kept { told_of result.kept ≡ nothing }
+    ensures recorded { IsRecorded session }
+{
+    // That its events lead to where it is, is known once it is looked at.
+    let _machine = session.machine();
+    Played {
+        session,
+        kept: Kept::new(alloc),
+    }
+}
+
+/// Boots a machine of these programs, and plays rounds up to the end of the plan or of `init`. A byte of the keys is
+/// typed in each round, until there is none left. A boot that is refused is no error: its refusal is the result.
+///
+/// # Errors
+///
+/// [`SessionError`].
+pub fn play(
+    alloc: Global,
+    config: Config,
+    plan: Plan,
+    programs: Vec<Program>,
+    keys: &[u8],
+) -> Result<Result<Played, BootError>, SessionError>
+    ensures { IfOk result (IsPlayed config.frames config.trace (map named_file programs.items) (plan.rounds * plan.quantum)) }
+{
+    let session = match Session::boot(alloc, config, programs) {
+        Ok(session) => session,
+        Err(BootError::Memory) => return Err(SessionError::Memory),
+        Err(error) => return Ok(Err(error)),
+    };
+    let mut played = begin(alloc, session);
+    for round in 0..plan.rounds {
+        if played.is_over() {
+            break;
+        }
+        played.play_round(plan.quantum, keys.get(round as usize).copied())?;
+    }
+    Ok(Ok(played))
+}
