@@ -1,0 +1,84 @@
+-- A text of events is that of one list of lines only.
+use Rattle.std.proofs.Common.{◌≡◌, ◌≢◌, ℕ, zero, suc, ◌+◌, ◌<◌, ◌^◌, List, [], ◌∷◌, ◌++◌, length, get_or, codes, refl, sym, ◌∙◌, ap, ap₂, arith, append_assoc}
+use Rattle.std.proofs.lemmas.Fmt.{digits_decimal, decimal_injective}
+use Rattle.std.proofs.lemmas.List.{append_cancel_left}
+use Rattle.std.proofs.lemmas.List.Elements.{All-head, All-tail}
+use Rattle.std.proofs.lemmas.Str.Parse.{IsNumeralModel, numerals_by_value, tells_digits, not_in_digits}
+use Rattle.std.specs.Fmt.{decimal}
+use Rattle.std.specs.Str.Parse.{AllDigits, digits_value}
+use Rattle.xv_record.specs.declared.line.Line.{Line}
+use Rattle.xv_record.specs.declared.line.Line.TheVariants.{Run, Tick, Send, Key}
+use Rattle.xv_record.specs.Text.{worded, line_text, events_text_of, IsLine, AreLines}
+
+-- no byte of these is a line break
+abbrev HasNoBreak : List ℕ → Type 0
+HasNoBreak ds = (i : ℕ) → i < length ds → get_or ds i 0 ≢ 10
+
+head-is_none : (d : ℕ) (ds : List ℕ) → HasNoBreak (d ∷ ds) → d ≢ 10
+head-is_none d ds h = h 0 (omega arith)
+
+tail-has_none : (d : ℕ) (ds : List ℕ) → HasNoBreak (d ∷ ds) → HasNoBreak ds
+tail-has_none d ds h i below = h (suc i) (omega arith)
+
+-- what stands before the first line break, and behind it
+same-line : (ds es xs ys : List ℕ) → HasNoBreak ds → HasNoBreak es → ds ++ 10 ∷ xs ≡ es ++ 10 ∷ ys → (ds ≡ es) × (xs ≡ ys)
+same-line [] [] xs ys p q e = (refl, cc)
+same-line [] (b ∷ es) xs ys p q e = let first : b ≡ 10 = cc in absurd (head-is_none b es q first)
+same-line (a ∷ ds) [] xs ys p q e = let first : a ≡ 10 = cc in absurd (head-is_none a ds p first)
+same-line (a ∷ ds) (b ∷ es) xs ys p q e =
+    let first : a ≡ b = cc in
+    let rest : ds ++ 10 ∷ xs ≡ es ++ 10 ∷ ys = cc in
+    let both : (ds ≡ es) × (xs ≡ ys) = same-line ds es xs ys (tail-has_none a ds p) (tail-has_none b es q) rest in
+    (ap₂ (λ u v. u ∷ v) first both.0, both.1)
+
+digits : IsNumeralModel (AllDigits 10) (digits_value 10)
+digits = numerals_by_value (AllDigits 10) tells_digits
+
+decimal-no_break : (n : ℕ) → n < 2 ^ 64 → HasNoBreak (decimal n)
+decimal-no_break n small = not_in_digits digits (decimal n) 10 (digits_decimal digits n small) (λ r. omega (arith, r))
+
+same-number : (m n : ℕ) (xs ys : List ℕ) → m < 2 ^ 64 → n < 2 ^ 64 → decimal m ++ 10 ∷ xs ≡ decimal n ++ 10 ∷ ys → (m ≡ n) × (xs ≡ ys)
+same-number m n xs ys p q e =
+    let both : (decimal m ≡ decimal n) × (xs ≡ ys) = same-line (decimal m) (decimal n) xs ys (decimal-no_break m p) (decimal-no_break n q) e in
+    (decimal_injective m n p q both.0, both.1)
+
+worded-rest : (word : List ℕ) (n : ℕ) (xs : List ℕ) → worded word n ++ xs ≡ word ++ (decimal n ++ 10 ∷ xs)
+worded-rest word n xs = append_assoc word (decimal n ++ 10 ∷ []) xs ∙ ap (λ t. word ++ t) (append_assoc (decimal n) (10 ∷ []) xs)
+
+same-worded : (word : List ℕ) (m n : ℕ) (xs ys : List ℕ) → m < 2 ^ 64 → n < 2 ^ 64 → worded word m ++ xs ≡ worded word n ++ ys → (m ≡ n) × (xs ≡ ys)
+same-worded word m n xs ys p q e =
+    same-number m n xs ys p q (append_cancel_left word (decimal m ++ 10 ∷ xs) (decimal n ++ 10 ∷ ys) (sym (worded-rest word m xs) ∙ (e ∙ worded-rest word n ys)))
+
+-- a text that begins with a line begins with no other
+same-first : (a b : Line) (xs ys : List ℕ) → IsLine a → IsLine b → line_text a ++ xs ≡ line_text b ++ ys → (a ≡ b) × (xs ≡ ys)
+same-first (Run m) (Run n) xs ys p q e = let both : (m ≡ n) × (xs ≡ ys) = same-worded (codes "run ") m n xs ys p q e in (ap Run both.0, both.1)
+same-first (Tick m) (Tick n) xs ys p q e = let both : (m ≡ n) × (xs ≡ ys) = same-worded (codes "tick ") m n xs ys p q e in (ap Tick both.0, both.1)
+same-first (Send m) (Send n) xs ys p q e = let both : (m ≡ n) × (xs ≡ ys) = same-worded (codes "send ") m n xs ys p q e in (ap Send both.0, both.1)
+same-first (Key m) (Key n) xs ys p q e = let both : (m ≡ n) × (xs ≡ ys) = same-worded (codes "key ") m n xs ys (omega (arith, p)) (omega (arith, q)) e in (ap Key both.0, both.1)
+same-first (Run m) (Tick n) xs ys p q e = let bad : ◌≡◌ {A = ℕ} 114 116 = cc in absurd (omega (arith, bad))
+same-first (Run m) (Send n) xs ys p q e = let bad : ◌≡◌ {A = ℕ} 114 115 = cc in absurd (omega (arith, bad))
+same-first (Run m) (Key n) xs ys p q e = let bad : ◌≡◌ {A = ℕ} 114 107 = cc in absurd (omega (arith, bad))
+same-first (Tick m) (Run n) xs ys p q e = let bad : ◌≡◌ {A = ℕ} 116 114 = cc in absurd (omega (arith, bad))
+same-first (Tick m) (Send n) xs ys p q e = let bad : ◌≡◌ {A = ℕ} 116 115 = cc in absurd (omega (arith, bad))
+same-first (Tick m) (Key n) xs ys p q e = let bad : ◌≡◌ {A = ℕ} 116 107 = cc in absurd (omega (arith, bad))
+same-first (Send m) (Run n) xs ys p q e = let bad : ◌≡◌ {A = ℕ} 115 114 = cc in absurd (omega (arith, bad))
+same-first (Send m) (Tick n) xs ys p q e = let bad : ◌≡◌ {A = ℕ} 115 116 = cc in absurd (omega (arith, bad))
+same-first (Send m) (Key n) xs ys p q e = let bad : ◌≡◌ {A = ℕ} 115 107 = cc in absurd (omega (arith, bad))
+same-first (Key m) (Run n) xs ys p q e = let bad : ◌≡◌ {A = ℕ} 107 114 = cc in absurd (omega (arith, bad))
+same-first (Key m) (Tick n) xs ys p q e = let bad : ◌≡◌ {A = ℕ} 107 116 = cc in absurd (omega (arith, bad))
+same-first (Key m) (Send n) xs ys p q e = let bad : ◌≡◌ {A = ℕ} 107 115 = cc in absurd (omega (arith, bad))
+
+-- a line has a byte
+not-empty : (a : Line) (xs : List ℕ) → line_text a ++ xs ≡ [] → ⊥
+not-empty (Run n) xs e = cc
+not-empty (Tick n) xs e = cc
+not-empty (Send n) xs e = cc
+not-empty (Key n) xs e = cc
+
+pub same-lines : (us vs : List Line) → AreLines us → AreLines vs → events_text_of us ≡ events_text_of vs → us ≡ vs
+same-lines [] [] p q e = refl
+same-lines [] (b ∷ vs) p q e = absurd (not-empty b (events_text_of vs) (sym e))
+same-lines (a ∷ us) [] p q e = absurd (not-empty a (events_text_of us) e)
+same-lines (a ∷ us) (b ∷ vs) p q e =
+    let both : (a ≡ b) × (events_text_of us ≡ events_text_of vs) = same-first a b (events_text_of us) (events_text_of vs) (All-head IsLine a us p) (All-head IsLine b vs q) e in
+    ap₂ (λ u v. u ∷ v) both.0 (same-lines us vs (All-tail IsLine a us p) (All-tail IsLine b vs q) both.1)

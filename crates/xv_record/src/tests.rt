@@ -1,0 +1,2 @@
+//! Records that are written and read.
+mod texts;
