@@ -1,5 +1,5 @@
 -- A text of events is that of one list of lines only.
-use Rattle.std.proofs.Common.{◌≡◌, ◌≢◌, ℕ, zero, suc, ◌+◌, ◌<◌, ◌^◌, List, [], ◌∷◌, ◌++◌, length, get_or, codes, refl, sym, ◌∙◌, ap, ap₂, arith, append_assoc}
+use Rattle.std.proofs.Common.{◌≡◌, ◌≢◌, ℕ, suc, ◌<◌, ◌^◌, List, [], ◌∷◌, ◌++◌, length, get_or, codes, refl, sym, ◌∙◌, ap, ap₂, arith, append_assoc}
 use Rattle.std.proofs.lemmas.Fmt.{digits_decimal, decimal_injective}
 use Rattle.std.proofs.lemmas.List.{append_cancel_left}
 use Rattle.std.proofs.lemmas.List.Elements.{All-head, All-tail}
@@ -10,42 +10,48 @@ use Rattle.xv_record.specs.declared.line.Line.{Line}
 use Rattle.xv_record.specs.declared.line.Line.TheVariants.{Run, Tick, Send, Key}
 use Rattle.xv_record.specs.Text.{worded, line_text, events_text_of, IsLine, AreLines}
 
--- no byte of these is a line break
-abbrev HasNoBreak : List ℕ → Type 0
-HasNoBreak ds = (i : ℕ) → i < length ds → get_or ds i 0 ≢ 10
+-- none of these is c
+abbrev pub Lacks : ℕ → List ℕ → Type 0
+Lacks c ds = (i : ℕ) → i < length ds → get_or ds i 0 ≢ c
 
-head-is_none : (d : ℕ) (ds : List ℕ) → HasNoBreak (d ∷ ds) → d ≢ 10
-head-is_none d ds h = h 0 (omega arith)
+head-is_none : (c d : ℕ) (ds : List ℕ) → Lacks c (d ∷ ds) → d ≢ c
+head-is_none c d ds h = h 0 (omega arith)
 
-tail-has_none : (d : ℕ) (ds : List ℕ) → HasNoBreak (d ∷ ds) → HasNoBreak ds
-tail-has_none d ds h i below = h (suc i) (omega arith)
+tail-has_none : (c d : ℕ) (ds : List ℕ) → Lacks c (d ∷ ds) → Lacks c ds
+tail-has_none c d ds h i below = h (suc i) (omega arith)
 
--- what stands before the first line break, and behind it
-same-line : (ds es xs ys : List ℕ) → HasNoBreak ds → HasNoBreak es → ds ++ 10 ∷ xs ≡ es ++ 10 ∷ ys → (ds ≡ es) × (xs ≡ ys)
-same-line [] [] xs ys p q e = (refl, cc)
-same-line [] (b ∷ es) xs ys p q e = let first : b ≡ 10 = cc in absurd (head-is_none b es q first)
-same-line (a ∷ ds) [] xs ys p q e = let first : a ≡ 10 = cc in absurd (head-is_none a ds p first)
-same-line (a ∷ ds) (b ∷ es) xs ys p q e =
+-- what stands before the first c, and behind it
+pub same-part : (c : ℕ) (ds es xs ys : List ℕ) → Lacks c ds → Lacks c es → ds ++ c ∷ xs ≡ es ++ c ∷ ys → (ds ≡ es) × (xs ≡ ys)
+same-part c [] [] xs ys p q e = (refl, cc)
+same-part c [] (b ∷ es) xs ys p q e = let first : b ≡ c = cc in absurd (head-is_none c b es q first)
+same-part c (a ∷ ds) [] xs ys p q e = let first : a ≡ c = cc in absurd (head-is_none c a ds p first)
+same-part c (a ∷ ds) (b ∷ es) xs ys p q e =
     let first : a ≡ b = cc in
-    let rest : ds ++ 10 ∷ xs ≡ es ++ 10 ∷ ys = cc in
-    let both : (ds ≡ es) × (xs ≡ ys) = same-line ds es xs ys (tail-has_none a ds p) (tail-has_none b es q) rest in
+    let rest : ds ++ c ∷ xs ≡ es ++ c ∷ ys = cc in
+    let both : (ds ≡ es) × (xs ≡ ys) = same-part c ds es xs ys (tail-has_none c a ds p) (tail-has_none c b es q) rest in
     (ap₂ (λ u v. u ∷ v) first both.0, both.1)
 
 digits : IsNumeralModel (AllDigits 10) (digits_value 10)
 digits = numerals_by_value (AllDigits 10) tells_digits
 
-decimal-no_break : (n : ℕ) → n < 2 ^ 64 → HasNoBreak (decimal n)
+decimal-no_break : (n : ℕ) → n < 2 ^ 64 → Lacks 10 (decimal n)
 decimal-no_break n small = not_in_digits digits (decimal n) 10 (digits_decimal digits n small) (λ r. omega (arith, r))
 
-same-number : (m n : ℕ) (xs ys : List ℕ) → m < 2 ^ 64 → n < 2 ^ 64 → decimal m ++ 10 ∷ xs ≡ decimal n ++ 10 ∷ ys → (m ≡ n) × (xs ≡ ys)
-same-number m n xs ys p q e =
-    let both : (decimal m ≡ decimal n) × (xs ≡ ys) = same-line (decimal m) (decimal n) xs ys (decimal-no_break m p) (decimal-no_break n q) e in
+pub decimal-no_space : (n : ℕ) → n < 2 ^ 64 → Lacks 32 (decimal n)
+decimal-no_space n small = not_in_digits digits (decimal n) 32 (digits_decimal digits n small) (λ r. omega (arith, r))
+
+pub same-decimal : (c m n : ℕ) (xs ys : List ℕ) → m < 2 ^ 64 → n < 2 ^ 64 → Lacks c (decimal m) → Lacks c (decimal n) → decimal m ++ c ∷ xs ≡ decimal n ++ c ∷ ys → (m ≡ n) × (xs ≡ ys)
+same-decimal c m n xs ys p q lacks lack e =
+    let both : (decimal m ≡ decimal n) × (xs ≡ ys) = same-part c (decimal m) (decimal n) xs ys lacks lack e in
     (decimal_injective m n p q both.0, both.1)
+
+same-number : (m n : ℕ) (xs ys : List ℕ) → m < 2 ^ 64 → n < 2 ^ 64 → decimal m ++ 10 ∷ xs ≡ decimal n ++ 10 ∷ ys → (m ≡ n) × (xs ≡ ys)
+same-number m n xs ys p q e = same-decimal 10 m n xs ys p q (decimal-no_break m p) (decimal-no_break n q) e
 
 worded-rest : (word : List ℕ) (n : ℕ) (xs : List ℕ) → worded word n ++ xs ≡ word ++ (decimal n ++ 10 ∷ xs)
 worded-rest word n xs = append_assoc word (decimal n ++ 10 ∷ []) xs ∙ ap (λ t. word ++ t) (append_assoc (decimal n) (10 ∷ []) xs)
 
-same-worded : (word : List ℕ) (m n : ℕ) (xs ys : List ℕ) → m < 2 ^ 64 → n < 2 ^ 64 → worded word m ++ xs ≡ worded word n ++ ys → (m ≡ n) × (xs ≡ ys)
+pub same-worded : (word : List ℕ) (m n : ℕ) (xs ys : List ℕ) → m < 2 ^ 64 → n < 2 ^ 64 → worded word m ++ xs ≡ worded word n ++ ys → (m ≡ n) × (xs ≡ ys)
 same-worded word m n xs ys p q e =
     same-number m n xs ys p q (append_cancel_left word (decimal m ++ 10 ∷ xs) (decimal n ++ 10 ∷ ys) (sym (worded-rest word m xs) ∙ (e ∙ worded-rest word n ys)))
 

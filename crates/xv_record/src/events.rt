@@ -43,6 +43,7 @@ fn lines_of(alloc: Global, text: &str) -> Result<Vec<Line>, RecordError>
 /// [`RecordError::Line`] with the number of the first line that is none, [`RecordError::Form`] if a number or a line
 /// break is written in another way, and [`RecordError::Memory`].
 pub fn read_events(alloc: Global, text: &str) -> Result<Vec<Line>, RecordError>
+    ensures lines { IfOk result (λ lines. AreLines lines.items) }
     // its lines are this text
     ensures written { IfOk result (λ lines. events_text_of lines.items ≡ text.now) }
     // what was written is read as the same

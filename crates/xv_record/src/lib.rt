@@ -21,4 +21,4 @@ pub use events::{events_text, read_events};
 pub use file::{Record, read_record, record_text};
 pub use line::Line;
 pub use refusal::{RecordError, RecordRefusal};
-pub use sums::{ProgramSum, Sum, chosen, sum_of};
+pub use sums::{ProgramSum, chosen, sum_of};

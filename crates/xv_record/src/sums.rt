@@ -1,59 +1,36 @@
 //! The programs of a record, by their names and checksums.
-ghost use Rattle.std.specs.Prelude.{◌≡◌};
+ghost use Rattle.std.specs.Prelude.{◌≡◌, List, ℕ, length, map, IfOk, IfSome};
+ghost use Rattle.std.specs.String.{string_bytes};
 ghost use Rattle.sha2.specs.Sha256.{sha256};
+ghost use Rattle.xv_record.specs.Told.{IsProgramTold, program_told_of, program_told, told_program};
 
 use crate::RecordRefusal;
 use sha2::{Digest, Sha256};
 use std::alloc::{AllocError, Global};
-use std::fmt;
 use xk_base::Program;
-
-/// The SHA-256 of bytes.
-#[derive(Clone, Copy, Debug, PartialEq, Eq)]
-pub struct Sum {
-    pub bytes: [u8; 32],
-}
-
-/// In hexadecimal digits.
-impl fmt::Display for Sum {
-    fn fmt<W: fmt::Write>(&self, f: &mut fmt::Formatter<W>) -> fmt::Result {
-        for byte in &self.bytes {
-            write!(f, "{byte:02x}")?;
-        }
-        Ok(())
-    }
-}
 
 /// A program, by its name, its length and its checksum.
 #[derive(Drop)]
 pub struct ProgramSum {
+    /// Text of one line.
     pub name: String,
     /// How many bytes it has.
     pub size: u64,
-    /// The checksum of its bytes.
-    pub sum: Sum,
+    /// The SHA-256 of its bytes (FIPS 180-4).
+    pub sum: [u8; 32],
 }
 
-/// As a record's line has it, without the word in front.
-impl fmt::Display for ProgramSum {
-    fn fmt<W: fmt::Write>(&self, f: &mut fmt::Formatter<W>) -> fmt::Result {
-        let sum = &self.sum;
-        let size = self.size;
-        let name = self.name.as_str();
-        write!(f, "{sum} {size} {name}")
-    }
-}
-
-/// The SHA-256 of bytes.
-pub fn sum_of(bytes: &[u8]) -> Sum
-    ensures { result.bytes ≡ sha256 bytes.now }
+/// The SHA-256 of bytes (FIPS 180-4).
+pub fn sum_of(bytes: &[u8]) -> [u8; 32]
+    ensures { result ≡ sha256 bytes.now }
 {
-    let sum = Sha256::digest(bytes);
-    Sum { bytes: sum }
+    Sha256::digest(bytes)
 }
 
 // The program of this name, if there is one.
-fn named<'a>(programs: &'a [Program], name: &str) -> Option<&'a Program> {
+fn named<'a>(programs: &'a [Program], name: &str) -> Option<&'a Program>
+    ensures { IfSome result (λ p. p.now.name.items ≡ name.now) }
+{
     programs
         .iter()
         .find(|program| program.name.as_slice() == name.as_bytes())
@@ -64,11 +41,14 @@ fn found<'a>(
     alloc: Global,
     programs: &[Program],
     wanted: &'a ProgramSum,
-) -> Result<Program, RecordRefusal<'a>> {
+) -> Result<Program, RecordRefusal<'a>>
+    ensures { IfOk result (λ p. program_told p ≡ told_program wanted.now) }
+{
     let Some(program) = named(programs, wanted.name.as_str()) else {
         return Err(RecordRefusal::Missing(wanted.name.as_str()));
     };
-    if sum_of(program.bytes.as_slice()) != wanted.sum {
+    let size = program.bytes.len() as u64;
+    if size != wanted.size || sum_of(program.bytes.as_slice()) != wanted.sum {
         return Err(RecordRefusal::Differs(wanted.name.as_str()));
     }
     Ok(Program {
@@ -77,8 +57,8 @@ fn found<'a>(
     })
 }
 
-/// Those of the programs that a record names, in its order. Others are left out, so that the machine is the one that
-/// was recorded.
+/// Those of the programs that a record names, in its order: each has the name, the length and the checksum that were
+/// recorded. Others are left out, so that the machine is the one that was recorded.
 ///
 /// # Errors
 ///
@@ -88,7 +68,9 @@ pub fn chosen<'a>(
     alloc: Global,
     programs: &[Program],
     wanted: &'a [ProgramSum],
-) -> Result<Vec<Program>, RecordRefusal<'a>> {
+) -> Result<Vec<Program>, RecordRefusal<'a>>
+    ensures { IfOk result (λ list. map program_told list.items ≡ map told_program wanted.now) }
+{
     let mut list = Vec::new(alloc);
     for sum in wanted {
         list.push(found(alloc, programs, sum)?)?;
@@ -97,18 +79,36 @@ pub fn chosen<'a>(
 }
 
 impl ProgramSum {
+    ghost use Rattle.std.specs.Prelude.{◌≡◌, length, IfOk, IfSome};
+    ghost use Rattle.sha2.specs.Sha256.{sha256};
+    ghost use Rattle.xv_record.specs.Told.{IsProgramTold, program_told_of, program_told, told_program};
+
+    // A program by these; `None` if its name isn't one line.
+    pub(crate) fn new(
+        alloc: Global,
+        name: &str,
+        size: u64,
+        sum: [u8; 32],
+    ) -> Result<Option<ProgramSum>, AllocError>
+        ensures told { IfOk result (λ made. IfSome made (λ s. told_program s ≡ program_told_of sum size name.now)) }
+        ensures lines { IfOk result (λ made. IfSome made (λ s. IsProgramTold (told_program s))) }
+    {
+        if name.as_bytes().contains(&b'\n') {
+            return Ok(None);
+        }
+        let name = String::from_str(alloc, name)?;
+        Ok(Some(ProgramSum { name, size, sum }))
+    }
+
     /// The name, the length and the checksum of a program; `None` if its name isn't text of one line.
-    pub fn of(alloc: Global, program: &Program) -> Result<Option<ProgramSum>, AllocError> {
+    pub fn of(alloc: Global, program: &Program) -> Result<Option<ProgramSum>, AllocError>
+        ensures told { IfOk result (λ made. IfSome made (λ s. told_program s ≡ program_told program.now)) }
+        ensures lines { IfOk result (λ made. IfSome made (λ s. IsProgramTold (told_program s))) }
+    {
         let Ok(name) = std::str::from_utf8(program.name.as_slice()) else {
             return Ok(None);
         };
-        if name.contains('\n') {
-            return Ok(None);
-        }
-        Ok(Some(ProgramSum {
-            name: String::from_str(alloc, name)?,
-            size: program.bytes.len() as u64,
-            sum: sum_of(program.bytes.as_slice()),
-        }))
+        let sum = sum_of(program.bytes.as_slice());
+        ProgramSum::new(alloc, name, program.bytes.len() as u64, sum)
     }
 }
