@@ -1,0 +1,6 @@
+use Rattle.std.proofs.Common.{[]}
+use Rattle.xv_live.specs.Attends.{Types}
+use Rattle.xv_live.proofs.events.drain.Given as goal
+
+abbrev pub invariant-sends : goal.invariant-sends
+invariant-sends g l = Types [] l.fn.session l.session (g.W.ByteSink.sink l.fn.screen.sink).held (g.W.ByteSink.sink l.screen.sink).held

@@ -1,0 +1,6 @@
+use Rattle.std.proofs.Common.{take}
+use Rattle.xv_live.specs.Plays.{Plays, events_of_lines}
+use Rattle.xv_live.proofs.playing.play.Given as goal
+
+abbrev pub invariant-loop-line : goal.invariant-loop-line
+invariant-loop-line g l = Plays (events_of_lines (take l.line-index l.lines)) l.fn.session l.session (g.W.ByteSink.sink l.fn.screen.sink).held (g.W.ByteSink.sink l.screen.sink).held

@@ -1,0 +1,5 @@
+pub mod Attends
+pub mod Keys
+pub mod Pauses
+pub mod Plays
+pub mod Shown

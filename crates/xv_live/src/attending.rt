@@ -1,0 +1,233 @@
+//! A machine that is attended to: keys go in, bytes come out, and the clock ticks.
+ghost use Rattle.std.specs.Prelude.{◌≡◌, [], ◌++◌, OnOk, IfOk, IfSome};
+ghost use Rattle.xv_live.specs.Attends.{Types, TypesFirst, Attends};
+ghost use Rattle.xv_live.specs.Keys.{Looks, key_of, typed_by, waiting};
+ghost use Rattle.xv_live.specs.Pauses.{IsPauseOf};
+
+use crate::events::{drain, send, some_runs};
+use crate::host::{Host, Look};
+use crate::keys::Key;
+use crate::pauses::Pause;
+use crate::pending::{Pending, has_room};
+use crate::resting::{may_run, waits_for_ticks};
+use crate::screen::{Screen, Teller};
+use crate::trouble::Trouble;
+use xv_machine::{ByteSink, Event, Machine};
+use xv_session::Session;
+
+/// The Runs between two looks at the keyboard: far less than a hundredth of a second.
+const STRETCH: u32 = 200_000;
+
+/// The most keys that are looked at, and typed, in one turn.
+const KEYS_IN_TURN: usize = 64;
+
+/// What is asked for beside the machine.
+#[derive(Clone, Copy, Debug, PartialEq, Eq)]
+enum Asked {
+    Nothing,
+    Debugger,
+    End,
+    NoKeys,
+}
+
+// Does what a key asks for, or lets it wait until it is typed.
+fn take_key<W: ByteSink, T: Teller>(
+    session: &Session,
+    byte: u8,
+    pending: &mut Pending,
+    screen: &mut Screen<W, T>,
+) -> Result<Asked, Trouble>
+    ensures sink { W.sink screen.new.sink ≡ W.sink screen.old.sink }
+    ensures waits { OnOk result (waiting pending.new ≡ waiting pending.old ++ typed_by (key_of byte)) }
+{
+    match Key::of(byte) {
+        Key::Typed(key) => pending.add(key)?,
+        Key::Processes => screen.teller.tell_processes(session),
+        Key::Debugger => return Ok(Asked::Debugger),
+        Key::End => return Ok(Asked::End),
+    }
+    Ok(Asked::Nothing)
+}
+
+// How many bytes of the keyboard may be looked at now. A keyboard that isn't a terminal is looked at where nothing may
+// run and no key waits: so each of its keys is typed when it is waited for.
+fn looks_now<H: Host>(session: &Session, host: &H, pending: &Pending) -> usize {
+    if host.is_terminal() {
+        KEYS_IN_TURN
+    } else if pending.is_empty() && !may_run(session.machine()) {
+        1
+    } else {
+        0
+    }
+}
+
+// Looks at the keyboard, `most` bytes at most, up to one that leads away from the machine.
+fn look<H: Host, W: ByteSink, T: Teller>(
+    session: &Session,
+    host: &mut H,
+    most: usize,
+    pending: &mut Pending,
+    screen: &mut Screen<W, T>,
+) -> Result<Asked, Trouble>
+    ensures sink { W.sink screen.new.sink ≡ W.sink screen.old.sink }
+    ensures looks { OnOk result (Looks (H.coming host.old) (H.coming host.new) (waiting pending.old) (waiting pending.new)) }
+{
+    'looks: for _ in 0..most {
+        let asked = match host.look()? {
+            Look::Came(byte) => take_key(session, byte, pending, screen)?,
+            Look::NoneNow => return Ok(Asked::Nothing),
+            Look::Ended if waits_for_ticks(session.machine()) => return Ok(Asked::Nothing),
+            Look::Ended => return Ok(Asked::NoKeys),
+        };
+        if asked != Asked::Nothing {
+            return Ok(asked);
+        }
+    }
+    Ok(Asked::Nothing)
+}
+
+// Types keys that wait, as far as the console has room.
+fn type_keys<W: ByteSink, T: Teller>(
+    session: &mut Session,
+    pending: &mut Pending,
+    screen: &mut Screen<W, T>,
+) -> Result<(), Trouble>
+    ensures { OnOk result (TypesFirst session.old session.new (W.sink screen.old.sink).held (W.sink screen.new.sink).held (waiting pending.old) (waiting pending.new)) }
+{
+    'keys: for _ in 0..KEYS_IN_TURN {
+        if !has_room(session.machine()) {
+            return Ok(());
+        }
+        let Some(key) = pending.take() else {
+            return Ok(());
+        };
+        send(session, Event::Key(key), screen)?;
+    }
+    Ok(())
+}
+
+// Lets processes run for a stretch, or as long as one may.
+fn work<W: ByteSink, T: Teller>(
+    session: &mut Session,
+    screen: &mut Screen<W, T>,
+) -> Result<(), Trouble>
+    ensures { OnOk result (Types [] session.old session.new (W.sink screen.old.sink).held (W.sink screen.new.sink).held) }
+{
+    let mut left = STRETCH;
+    'runs: for _ in 0..STRETCH {
+        if left == 0 || !may_run(session.machine()) {
+            return Ok(());
+        }
+        let sent = some_runs(session, left, screen)?;
+        left = left.saturating_sub(sent);
+    }
+    Ok(())
+}
+
+// The tick, if it is due.
+fn tick<H: Host, W: ByteSink, T: Teller>(
+    session: &mut Session,
+    host: &mut H,
+    screen: &mut Screen<W, T>,
+) -> Result<(), Trouble>
+    ensures coming { H.coming host.new ≡ H.coming host.old }
+    ensures types { OnOk result (Types [] session.old session.new (W.sink screen.old.sink).held (W.sink screen.new.sink).held) }
+{
+    if !host.tick_is_due()? {
+        return Ok(());
+    }
+    send(session, Event::Tick, screen)
+}
+
+// What leads away from the machine.
+fn pause_for(session: &Session, asked: Asked) -> Option<Pause>
+    ensures { IfSome result (λ p. IsPauseOf session.now p) }
+{
+    match asked {
+        Asked::Nothing => None,
+        Asked::Debugger => Some(Pause::Debugger),
+        Asked::End => Some(Pause::End),
+        Asked::NoKeys => Some(Pause::NoKeys),
+    }
+}
+
+// Lets the machine go on: keys, the tick, a stretch, and what is to be sent.
+fn go_on<H: Host, W: ByteSink, T: Teller>(
+    session: &mut Session,
+    host: &mut H,
+    pending: &mut Pending,
+    screen: &mut Screen<W, T>,
+) -> Result<(), Trouble>
+    ensures coming { H.coming host.new ≡ H.coming host.old }
+    ensures types { OnOk result (TypesFirst session.old session.new (W.sink screen.old.sink).held (W.sink screen.new.sink).held (waiting pending.old) (waiting pending.new)) }
+{
+    type_keys(session, pending, screen)?;
+    tick(session, host, screen)?;
+    work(session, screen)?;
+    drain(session, screen)
+}
+
+// Whether nothing can be done but to wait.
+fn rests(machine: &Machine, pending: &Pending) -> bool {
+    !may_run(machine) && (pending.is_empty() || !has_room(machine))
+}
+
+// The pause of a machine that has halted. Where nothing can be done it rests for a moment.
+fn pause_behind<H: Host>(
+    session: &Session,
+    host: &mut H,
+    pending: &Pending,
+) -> Result<Option<Pause>, Trouble>
+    ensures coming { H.coming host.new ≡ H.coming host.old }
+    ensures pause { IfOk result (λ p. IfSome p (λ q. IsPauseOf session.now q)) }
+{
+    if let Some(status) = session.machine().halted() {
+        return Ok(Some(Pause::Halted(status)));
+    }
+    if rests(session.machine(), pending) {
+        host.rest()?;
+    }
+    Ok(None)
+}
+
+// A turn: a look at the keyboard, and then the machine goes on. A pause ends it.
+fn turn<H: Host, W: ByteSink, T: Teller>(
+    session: &mut Session,
+    host: &mut H,
+    pending: &mut Pending,
+    screen: &mut Screen<W, T>,
+) -> Result<Option<Pause>, Trouble>
+    ensures pause { IfOk result (λ p. IfSome p (λ q. IsPauseOf session.new q)) }
+    ensures attends { OnOk result (Attends session.old session.new (W.sink screen.old.sink).held (W.sink screen.new.sink).held (H.coming host.old) (H.coming host.new) (waiting pending.old) (waiting pending.new)) }
+{
+    let most = looks_now(session, host, pending);
+    let asked = look(session, host, most, pending, screen)?;
+    let pause = pause_for(session, asked);
+    if pause.is_some() {
+        return Ok(pause);
+    }
+    go_on(session, host, pending, screen)?;
+    pause_behind(session, host, pending)
+}
+
+/// Attends to the machine, up to a pause.
+///
+/// # Errors
+///
+/// The trouble that the host, the session or the screen has. The session keeps what was sent.
+pub fn attend<H: Host, W: ByteSink, T: Teller>(
+    session: &mut Session,
+    host: &mut H,
+    pending: &mut Pending,
+    screen: &mut Screen<W, T>,
+) -> Result<Pause, Trouble>
+    ensures pause { IfOk result (λ p. IsPauseOf session.new p) }
+    ensures attends { OnOk result (Attends session.old session.new (W.sink screen.old.sink).held (W.sink screen.new.sink).held (H.coming host.old) (H.coming host.new) (waiting pending.old) (waiting pending.new)) }
+{
+    'turns: for _ in 0..u64::MAX {
+        if let Some(pause) = turn(session, host, pending, screen)? {
+            return Ok(pause);
+        }
+    }
+    Ok(Pause::End)
+}

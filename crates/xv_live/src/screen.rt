@@ -1,0 +1,57 @@
+//! The screen, and who is told what isn't the machine's own.
+ghost use Rattle.std.specs.Prelude.{◌≡◌, OnOk};
+ghost use Rattle.std.specs.Io.KnownBytes.{Appends};
+
+use crate::trouble::Trouble;
+use xk_base::{Cause, Pid};
+use xv_machine::ByteSink;
+use xv_session::Session;
+
+/// A process that ended by a fault.
+#[derive(Clone, Copy, Debug, PartialEq, Eq)]
+pub struct FaultNote {
+    pub pid: Pid,
+    pub cause: Cause,
+    /// The place, among the machine's programs, of the one that it ran, if that is known.
+    pub program: Option<usize>,
+}
+
+/// Who is told what isn't the machine's own.
+pub trait Teller {
+    /// The screen shows these bytes of the machine.
+    fn follow(&mut self, bytes: &[u8]);
+
+    /// A fault came of the session's last event.
+    fn tell_fault(&mut self, session: &Session, fault: FaultNote);
+
+    /// The processes are asked for.
+    fn tell_processes(&mut self, session: &Session);
+}
+
+/// The screen, which shows what the machine sends, and who is told all else.
+#[derive(Drop)]
+pub struct Screen<W, T> {
+    /// What takes the machine's bytes.
+    pub sink: W,
+    pub teller: T,
+}
+
+impl<W: ByteSink, T: Teller> Screen<W, T> {
+    /// Shows bytes of the machine.
+    ///
+    /// # Errors
+    ///
+    /// [`Trouble::Screen`] if they can't be written.
+    pub fn show(&mut self, bytes: &[u8]) -> Result<(), Trouble>
+        ensures { OnOk result (Appends (W.sink self.old.sink).held (W.sink self.new.sink).held bytes.now) }
+    {
+        if bytes.is_empty() {
+            return Ok(());
+        }
+        let Ok(()) = self.sink.write_out(bytes) else {
+            return Err(Trouble::Screen);
+        };
+        self.teller.follow(bytes);
+        Ok(())
+    }
+}
