@@ -12,14 +12,15 @@ class Refusal:
     line: int
     name: str
     why: str
+    head: str = ""  # the first line of its file, where the crate's folder is known
 
     def __str__(self):
         return f"{self.file}:{self.line}: {self.name}: {self.why}" if self.name else f"{self.file}:{self.line}: {self.why}"
 
     @property
     def is_worked(self):
-        """It is a worked case: its file stands in proofs/worked, or is named so."""
-        return re.match(r"proofs/(worked/|(.*/)?Worked)", self.file) is not None
+        """It is a worked case: its file stands in proofs/worked, or is named so, or says so in its first line."""
+        return re.match(r"proofs/(worked/|(.*/)?Worked)", self.file) is not None or self.head.startswith("-- Worked cases")
 
     @property
     def is_of_form(self):
@@ -54,11 +55,13 @@ def why_of(text):
     return told if len(told) <= 160 else told[:157] + "..."
 
 
-def refusals(text):
-    """What is refused in definitions and proofs, in the order in which it is told."""
+def refusals(text, home=None):
+    """What is refused in definitions and proofs, in the order in which it is told. home is the crate's folder."""
     for file, line, error in re.findall(r"^\./(\S+?):(\d+):\d+: error: (.*(?:\n  .*)*)", text, re.M):
         name = re.match(r"`([^`]*)`: ", error)
-        yield Refusal(file, int(line), name[1] if name else "", why_of(error[name.end():] if name else error))
+        path = home and home / file
+        head = path.read_text(encoding="utf-8").partition("\n")[0] if path and path.exists() else ""
+        yield Refusal(file, int(line), name[1] if name else "", why_of(error[name.end():] if name else error), head)
 
 
 def errors_in_code(text):

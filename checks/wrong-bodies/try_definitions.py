@@ -63,7 +63,7 @@ def check(folder):
 
 def refused_by(text, folder):
     """What a check refuses for its meaning, as words: worked cases and contracts, and apart from them laws."""
-    told = [f"worked case {it.name} ({it.why})" for it in said.refusals(text) if it.is_worked and not it.is_of_form]
+    told = [f"worked case {it.name} ({it.why})" for it in said.refusals(text, folder) if it.is_worked and not it.is_of_form]
     functions = [it for it in said.open_functions(text, folder) if it.clauses]
     told += [f"contract {it.name.partition('::')[2]}: {', '.join(it.clauses)}" for it in functions if not it.is_law]
     return told, [f"law {it.name.partition('::')[2]}: {', '.join(it.clauses)}" for it in functions if it.is_law]
