@@ -1,5 +1,5 @@
 use Rattle.addr_space.proofs.Trades.{belongs-made, belongs-after}
-use Rattle.layer_tests.proofs.copies.memory.Goals as goal
+use Rattle.kernel_parts_tests.proofs.copies.memory.Goals as goal
 
 pub grow-requires-clause-belongs : goal.grow-requires-clause-belongs
 grow-requires-clause-belongs c = belongs-made c.args.pool.now c.empty.new.pool c.args.ram.now c.empty.new.ram c.in_ok-space.space c.requires c.in_ok-space.ensures.made

@@ -122,22 +122,32 @@ impl Scene {
     }
 }
 
+fn gone(pid: Pid, status: i32) -> Reaped {
+    Reaped::Gone { pid, status }
+}
+
 #[test]
 fn the_ended_child_of_least_pid_is_taken_first(rt: HostRuntime) -> Result<(), Fail> {
     let [one, two, three, four] = [Pid::new(1), Pid::new(2), Pid::new(3), Pid::new(4)];
     let mut scene = Scene::new(rt.alloc())?;
-    assert_eq!(rt; scene.spawn(None), Ok((0, one)));
-    assert_eq!(rt; scene.spawn(Some(one)), Ok((1, two)));
-    assert_eq!(rt; scene.spawn(Some(one)), Ok((2, three)));
+    for (parent, slot, pid) in [(None, 0, one), (Some(one), 1, two), (Some(one), 2, three)] {
+        assert_eq!(rt; scene.spawn(parent), Ok((slot, pid)));
+    }
     assert_eq!(rt; scene.reap(one), Reaped::NoneYet);
     assert!(rt; scene.end(two, 0));
-    let gone = |pid, status| Reaped::Gone { pid, status };
     assert_eq!(rt; scene.reap(one), gone(two, 0));
     assert_eq!(rt; scene.spawn(Some(one)), Ok((1, four)));
-    assert!(rt; scene.end(four, 40) && scene.end(three, 30) && !scene.end(three, 3));
-    assert_eq!(rt; scene.reap(one), gone(three, 30));
-    assert_eq!(rt; scene.reap(one), gone(four, 40));
-    assert_eq!(rt; scene.reap(one), Reaped::NoChild);
+    assert_eq!(rt;
+        [
+            scene.end(four, 40),
+            scene.end(three, 30),
+            scene.end(three, 3)
+        ],
+        [true, true, false]
+    );
+    for reaped in [gone(three, 30), gone(four, 40), Reaped::NoChild] {
+        assert_eq!(rt; scene.reap(one), reaped);
+    }
     Ok(())
 }
 

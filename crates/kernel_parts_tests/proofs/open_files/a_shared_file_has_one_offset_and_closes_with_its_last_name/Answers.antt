@@ -1,7 +1,7 @@
 use Rattle.std.proofs.Common.{◌≡◌, ap, ◌∙◌, Some, false, rules}
 use Rattle.file_table.specs.OpenFiles.{IsOpen}
 use Rattle.file_table.proofs.StaysOpen.{opened_is_open, shared_stays_open, moved_stays_open, shared_survives_close}
-use Rattle.layer_tests.proofs.open_files.a_shared_file_has_one_offset_and_closes_with_its_last_name.Goals as goal
+use Rattle.kernel_parts_tests.proofs.open_files.a_shared_file_has_one_offset_and_closes_with_its_last_name.Goals as goal
 
 pub share-requires-clause-there : goal.share-requires-clause-there
 share-requires-clause-there g c = opened_is_open _ _ _ _ c.open_program-file.ensures.place c.open_program-file.ensures.after

@@ -1,6 +1,6 @@
 use Rattle.std.proofs.Common.{◌≢◌, arith}
 use Rattle.frame_list.proofs.Trades.{untouched-none, given-other}
-use Rattle.layer_tests.proofs.free_frames.sixteen_frames_are_taken_and_two_given_back.Goals as goal
+use Rattle.kernel_parts_tests.proofs.free_frames.sixteen_frames_are_taken_and_two_given_back.Goals as goal
 
 pub give-requires-clause-not_free : goal.give-requires-clause-not_free
 give-requires-clause-not_free g c = let none = c.in-None.ensures.none in untouched-none _ _ _ _ none.0 none.1 c.new-three.result

@@ -190,30 +190,60 @@ fn told(rt: HostRuntime, file: &[u8]) -> Result<Result<Entry, ExecError>, Fail> 
     Ok(load(rt, 64, file, &[])?.map(|shown| shown.start))
 }
 
+/// How many frames a program of so much memory leaves of those that are free.
+fn left_of(rt: HostRuntime, free: u32, memsz: u64) -> Result<Result<u32, ExecError>, Fail> {
+    let header = ProgramHeader {
+        memsz,
+        ..text_header()
+    };
+    let file = file_with(rt, &[header])?;
+    Ok(load(rt, free, &file, &[])?.map(|shown| shown.free))
+}
+
+/// Bytes one behind another.
+fn joined(rt: HostRuntime, parts: &[&[u8]]) -> Result<Vec<u8>, AllocError> {
+    let mut bytes = Vec::new(rt.alloc());
+    for part in parts {
+        bytes.extend_from_slice(part)?;
+    }
+    Ok(bytes)
+}
+
 #[test]
 fn the_small_program_starts_with_its_name_on_the_stack(rt: HostRuntime) -> Result<(), Fail> {
     let file = file_with(rt, &[text_header()])?;
-    assert_eq!(rt; file.len(), 132);
     let shown = load(rt, 16, &file, &[b"init".as_slice()])??;
     let start = Entry {
         pc: 0,
         sp: 0x2FE0,
         argc: 1,
     };
-    assert_eq!(rt; shown.start, start);
-    assert_eq!(rt; shown.free, 10);
-    assert_eq!(rt; shown.size, 12288);
-    assert_eq!(rt; shown.rights[0], rights(false, true, true));
-    assert_eq!(rt; shown.rights[1], rights(true, false, false));
-    assert_eq!(rt; shown.rights[2], rights(true, false, true));
-    assert_eq!(rt; shown.rights[3], None);
-    let mut want = Vec::new(rt.alloc());
-    want.extend_from_slice(&TEXT)?;
-    want.extend_from_slice(&[0; 0x2FD4])?;
-    want.extend_from_slice(&0x2FF0_u64.to_le_bytes())?;
-    want.extend_from_slice(&0_u64.to_le_bytes())?;
-    want.extend_from_slice(b"init\0\0\0\0\0\0\0\0\0\0\0\0".as_slice())?;
-    want.extend_from_slice(&[0; 0x3000])?;
+    assert_eq!(rt;
+        (file.len(), shown.start, shown.free, shown.size),
+        (132, start, 10, 12288)
+    );
+    assert_eq!(rt;
+        shown.rights,
+        [
+            rights(false, true, true),
+            rights(true, false, false),
+            rights(true, false, true),
+            None,
+            None,
+            None,
+        ]
+    );
+    let want = joined(
+        rt,
+        &[
+            TEXT.as_slice(),
+            [0; 0x2FD4].as_slice(),
+            0x2FF0_u64.to_le_bytes().as_slice(),
+            0_u64.to_le_bytes().as_slice(),
+            b"init\0\0\0\0\0\0\0\0\0\0\0\0".as_slice(),
+            [0; 0x3000].as_slice(),
+        ],
+    )?;
     assert_eq!(rt; shown.bytes.as_slice(), want.as_slice());
     Ok(())
 }
@@ -223,8 +253,10 @@ fn texts_are_limited_in_number_and_length(rt: HostRuntime) -> Result<(), Fail> {
     let file = file_with(rt, &[text_header()])?;
     let one: &[u8] = b"x".as_slice();
     let shown = load(rt, 64, &file, &[one; 31])??;
-    assert_eq!(rt; shown.start.argc, 31);
-    assert_eq!(rt; shown.start.sp, 0x3000 - 31 * 16 - 256);
+    assert_eq!(rt;
+        (shown.start.argc, shown.start.sp),
+        (31, 0x3000 - 31 * 16 - 256)
+    );
     assert_eq!(rt;
         load(rt, 64, &file, &[one; 32])?.err(),
         Some(ExecError::TooManyArgs)
@@ -243,8 +275,7 @@ fn texts_are_limited_in_number_and_length(rt: HostRuntime) -> Result<(), Fail> {
         );
     }
     let shown = load(rt, 64, &file, &[])??;
-    assert_eq!(rt; shown.start.argc, 0);
-    assert_eq!(rt; shown.start.sp, 0x2FF0);
+    assert_eq!(rt; (shown.start.argc, shown.start.sp), (0, 0x2FF0));
     Ok(())
 }
 
@@ -262,26 +293,18 @@ fn a_refused_text_leaves_the_others(rt: HostRuntime) -> Result<(), Fail> {
 
 #[test]
 fn the_whole_price_must_be_free(rt: HostRuntime) -> Result<(), Fail> {
-    let four_pages = ProgramHeader {
-        memsz: 16384,
-        ..text_header()
-    };
-    let file = file_with(rt, &[four_pages])?;
-    assert_eq!(rt; load(rt, 9, &file, &[])??.free, 0);
-    assert_eq!(rt; load(rt, 8, &file, &[])?.err(), Some(ExecError::NoFrames));
-    let five_pages = ProgramHeader {
-        memsz: 20480,
-        ..text_header()
-    };
-    let file = file_with(rt, &[five_pages])?;
-    assert_eq!(rt; load(rt, 9, &file, &[])?.err(), Some(ExecError::NoFrames));
-    assert_eq!(rt; load(rt, 10, &file, &[])??.free, 0);
-    let all_memory = ProgramHeader {
-        memsz: 0x3F_FFFF_E000,
-        ..text_header()
-    };
-    let file = file_with(rt, &[all_memory])?;
-    assert_eq!(rt; load(rt, 64, &file, &[])?.err(), Some(ExecError::NoFrames));
+    for (memsz, free, left) in [
+        (16384, 9, Ok(0)),
+        (16384, 8, Err(ExecError::NoFrames)),
+        (20480, 9, Err(ExecError::NoFrames)),
+        (20480, 10, Ok(0)),
+        (0x3F_FFFF_E000, 64, Err(ExecError::NoFrames)),
+    ] {
+        assert_eq!(rt;
+            (memsz, free, left_of(rt, free, memsz)?),
+            (memsz, free, left)
+        );
+    }
     Ok(())
 }
 
@@ -363,10 +386,20 @@ fn a_program_without_memory_has_a_guard_page_and_a_stack(rt: HostRuntime) -> Res
     };
     let file = file_with(rt, &[empty])?;
     let shown = load(rt, 64, &file, &[])??;
-    assert_eq!(rt; shown.rights[0], rights(true, false, false));
-    assert_eq!(rt; shown.rights[1], rights(true, false, true));
-    assert_eq!(rt; shown.rights[2], None);
-    assert_eq!(rt; shown.size, 8192);
+    assert_eq!(rt;
+        (
+            shown.size,
+            shown.rights[0],
+            shown.rights[1],
+            shown.rights[2]
+        ),
+        (
+            8192,
+            rights(true, false, false),
+            rights(true, false, true),
+            None
+        )
+    );
     Ok(())
 }
 
@@ -400,17 +433,26 @@ fn segments_stand_on_pages_of_their_own(rt: HostRuntime) -> Result<(), Fail> {
     let file = file_with(rt, &[first, second])?;
     let shown = load(rt, 64, &file, &[])??;
     assert_eq!(rt; shown.size, 20480);
-    assert_eq!(rt; shown.rights[0], rights(false, true, true));
-    assert_eq!(rt; shown.rights[1], rights(true, false, true));
-    assert_eq!(rt; shown.rights[2], rights(true, false, true));
-    assert_eq!(rt; shown.rights[3], rights(true, false, false));
-    assert_eq!(rt; shown.rights[4], rights(true, false, true));
-    assert_eq!(rt; shown.rights[5], None);
-    let mut want = Vec::new(rt.alloc());
-    want.extend_from_slice(&TEXT)?;
-    want.extend_from_slice(&[0; 4084])?;
-    want.extend_from_slice(&TEXT[..4])?;
-    want.extend_from_slice(&[0; 20476])?;
+    assert_eq!(rt;
+        shown.rights,
+        [
+            rights(false, true, true),
+            rights(true, false, true),
+            rights(true, false, true),
+            rights(true, false, false),
+            rights(true, false, true),
+            None,
+        ]
+    );
+    let want = joined(
+        rt,
+        &[
+            TEXT.as_slice(),
+            [0; 4084].as_slice(),
+            &TEXT[..4],
+            [0; 20476].as_slice(),
+        ],
+    )?;
     assert_eq!(rt; shown.bytes.as_slice(), want.as_slice());
     Ok(())
 }
@@ -429,13 +471,24 @@ fn the_gap_before_a_segment_has_its_rights(rt: HostRuntime) -> Result<(), Fail> 
     };
     let file = file_with(rt, &[first, second])?;
     let shown = load(rt, 64, &file, &[])??;
-    assert_eq!(rt; shown.rights[0], rights(false, true, true));
-    assert_eq!(rt; shown.rights[1], rights(true, true, true));
-    assert_eq!(rt; shown.rights[2], rights(true, true, true));
-    assert_eq!(rt; shown.rights[3], rights(true, true, true));
-    assert_eq!(rt; shown.rights[4], rights(true, false, false));
-    assert_eq!(rt; shown.bytes.get(4096).copied(), Some(0));
-    assert_eq!(rt; shown.bytes.get(12288).copied(), Some(0x93));
+    assert_eq!(rt;
+        shown.rights,
+        [
+            rights(false, true, true),
+            rights(true, true, true),
+            rights(true, true, true),
+            rights(true, true, true),
+            rights(true, false, false),
+            rights(true, false, true),
+        ]
+    );
+    assert_eq!(rt;
+        (
+            shown.bytes.get(4096).copied(),
+            shown.bytes.get(12288).copied()
+        ),
+        (Some(0), Some(0x93))
+    );
     let below = ProgramHeader { vaddr: 0, ..second };
     let file = file_with(rt, &[first, below])?;
     assert_eq!(rt;
