@@ -90,6 +90,12 @@ pub record IsAccounted (pool : Pool) (ram : List (List ℕ)) (each : List (Optio
 abbrev pub AreSound : Memories → Type 0
 AreSound m = IsAccounted m.pool m.ram m.each.items m.pipes.items
 
+-- the memory m stands in slot i
+pub record Stands (old : Memories) (i : ℕ) (m : Memory) : Type 0 where
+  pub sound : AreSound old
+  pub inside : i < length old.each.items
+  pub is : get_or old.each.items i None ≡ Some m
+
 -- ---- a hart that runs the process in a slot
 
 -- the hart uses the tables of the memory in this slot, and what it keeps of them is true

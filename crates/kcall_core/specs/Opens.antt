@@ -11,8 +11,8 @@ use Rattle.kernel_spec.specs.rows.Buffers.{text_at, no_slashes}
 use Rattle.kernel_spec.specs.views.State.{ProgramFile}
 use Rattle.kernel_spec.specs.views.View.{Shown, Shown_terminal, Shown_file, Shown_pipe}
 use Rattle.kernel_spec.specs.rows.Calls.{what_is_named, has_mode}
-use Rattle.kcall_core.specs.declared.kernel.file_calls.Asked.{Asked}
-use Rattle.kcall_core.specs.declared.kernel.file_calls.Asked.TheVariants.{Terminal, Program}
+use Rattle.kcall_core.specs.declared.kernel.opening.Asked.{Asked}
+use Rattle.kcall_core.specs.declared.kernel.opening.Asked.TheVariants.{Terminal, Program}
 
 -- what a name asks for that names this, in a mode: 0 reads, 1 writes, 2 does both. No name names a pipe
 abbrev pub asked_as : Shown → (mode : ℕ) → Option Asked

@@ -4,61 +4,57 @@
 //! `IsWhole` of `specs/Whole.antt` is true of them before and after each step, turn and tick. Observers and
 //! private calls ask for a part of it, `IsSound`, and say which state comes after. That a step of a process
 //! comes to what the call table says is `Makes` of `specs/Makes.antt`.
-ghost use Rattle.std.specs.Prelude.{◌≡◌, ◌≢◌, ℕ, ◌+◌, Some, None, IfSome, IfNone};
+ghost use Rattle.std.specs.Prelude.{◌≡◌, ◌≢◌, ℕ, ◌+◌, ◌<◌, Some, None, IfSome, IfNone};
+ghost use Rattle.xk_base.specs.declared.limits.TheConstants.{NPROC};
 ghost use Rattle.xk_base.specs.Image.{price};
 ghost use Rattle.proc_table.specs.Processes.{status_of, ended};
-ghost use Rattle.proc_table.specs.Slots.{place_at, changed_at};
+ghost use Rattle.proc_table.specs.Slots.{place_at, changed_at, IsHeld, IsLiveAt};
 ghost use Rattle.hart_core.specs.declared.hart.Hart.{Hart};
 ghost use Rattle.proc_table.specs.declared.process.Process.{Process};
-ghost use Rattle.rv64i_core.specs.Step.{is_data_page_fault};
 ghost use Rattle.rv64i_core.specs.declared.execution.Stop.TheVariants as stops;
-ghost use Rattle.kernel_spec.specs.rows.Calls.{with_a0};
 ghost use Rattle.kernel_spec.specs.steps.Updates.{give_frames, end_process};
 ghost use Rattle.kernel_spec.specs.steps.Step.{own};
 ghost use Rattle.kernel_spec.specs.laws.RowLaws as laws;
 ghost use Rattle.kernel_spec.specs.runs.Run.{Turn, TurnTaken};
 ghost use Rattle.kernel_spec.specs.waking.Wakes.{IsRunnable, IsNearest};
+ghost use Rattle.kcall_core.specs.Holdings.{HasMemory};
+ghost use Rattle.kcall_core.specs.Memories.{each_of};
 ghost use Rattle.kcall_core.specs.Kernel.{frame_count, IsStopped, state_of, IsSound, IsRunning, slot_now, pid_now, live_now};
 ghost use Rattle.kcall_core.specs.Machine.{world_of};
 ghost use Rattle.kcall_core.specs.Starts.{HasNoProcess};
 ghost use Rattle.kcall_core.specs.Whole.{IsWhole};
 ghost use Rattle.kcall_core.specs.Makes.{Makes, MakesInARow, Stays, StillRuns, view_now, stop_now};
-ghost use Rattle.kcall_core.specs.Touched.{HasFaulted};
 
 mod booting;
-mod calls;
-mod children;
-mod closing;
-mod descriptors;
+mod console;
 mod exec;
 mod exit;
-mod file_calls;
+mod file;
 mod fork;
 mod kill;
 mod observers;
-mod piping;
+mod opening;
+mod page_fault;
+mod pipe;
 mod program_list;
 mod registers;
 mod sbrk;
-mod sharing;
 mod starting;
-mod terminal;
+mod syscall;
+mod sysfile;
 mod ticks;
-mod touching;
-mod uart;
 mod wait;
+mod wakeup;
 
-use crate::kernel::registers::FIRST_ARGUMENT;
 use crate::memories::Memories;
-pub use calls::call_number;
-use console_core::Console;
 use file_table::Files;
 use hart_core::{Hart, Series};
 pub use observers::{ChildState, Descriptor, FrameUse, ProcessState};
 use proc_table::Table;
 pub use program_list::first_refused;
 use rv64i_core::Stop;
-use xk_base::{Cause, Perm, Pid, Program, Reg, Rights};
+pub use syscall::call_number;
+use xk_base::{Pid, Program};
 
 /// The kernel of one machine.
 #[derive(Drop)]
@@ -69,30 +65,13 @@ pub struct Kernel {
     table: Table,
     /// The open files of all processes.
     files: Files,
-    console: Console,
+    console: console_core::Console,
     /// The program files, which are never changed: exec and open find them by name.
     programs: Vec<Program>,
     /// Ticks since boot, modulo 2^32.
     clock: u32,
     /// The slot of the process that runs.
     current: Option<usize>,
-}
-
-/// Puts the answer of a call into a0. Tables and translations stay.
-fn put_answer(hart: &mut Hart, value: u64)
-    ensures { hart.new ≡ record hart.old { regs = with_a0 hart.old.regs value } }
-{
-    hart.regs_mut().write(Reg::new(FIRST_ARGUMENT), value);
-}
-
-/// Whether it is a page fault of a load or a store, and not of a fetch.
-fn is_data_page_fault(cause: Cause) -> bool
-    ensures { result ≡ is_data_page_fault cause }
-{
-    match cause {
-        Cause::LoadPageFault | Cause::StorePageFault => true,
-        _ => false,
-    }
 }
 
 impl Kernel {
@@ -112,30 +91,6 @@ impl Kernel {
             Stop::Fault(cause) => self.step_touching(hart, cause),
             stop => stop,
         }
-    }
-
-    /// An instruction of the process that runs has faulted, and nothing that can be seen is another. Where it is a
-    /// load or a store on an absent page, and the page's frames are free, the page comes, and it is done.
-    #[cold]
-    #[inline(never)]
-    fn step_touching(&mut self, hart: &mut Hart, cause: Cause) -> Stop
-        requires whole { IsWhole self.old hart.old }
-        requires running { IsRunning self.old }
-        requires between_calls { laws.IsBetweenCalls (live_now self.old hart.old) }
-        requires faulted { HasFaulted cause self.old hart.old }
-        ensures stop { result ≡ stop_now self.old hart.old }
-        ensures done { result ≡ stops.Next → Makes self.old hart.old (own (view_now self.old hart.old)) self.new hart.new }
-        ensures running { result ≡ stops.Next → IsRunning self.new }
-        ensures between_calls { result ≡ stops.Next → laws.IsBetweenCalls (live_now self.new hart.new) }
-        ensures stays { result ≢ stops.Next → (self.new ≡ self.old) × (hart.new ≡ hart.old) }
-    {
-        if !is_data_page_fault(cause) {
-            return Stop::Fault(cause);
-        }
-        if !self.touch_page(hart.fault_address()) {
-            return Stop::Fault(cause);
-        }
-        self.memories.step_again(hart)
     }
 
     /// Instructions of the process that runs, one after another, as [`step`](Kernel::step) makes each: up to the
@@ -169,6 +124,23 @@ impl Kernel {
 }
 
 impl Kernel {
+    /// The slot of the process that runs. That process is live, and has a memory.
+    #[inline(always)]
+    fn running_slot(&self) -> usize
+        requires sound { (hart : Hart) × IsSound self.now hart }
+        requires running { IsRunning self.now }
+        ensures is { self.now.current ≡ Some result }
+        ensures within { result < NPROC }
+        ensures live { IsLiveAt self.now.table result }
+        ensures held { IsHeld self.now.table result }
+        ensures there { HasMemory (each_of self.now.memories) result }
+    {
+        let Some(slot) = self.current else {
+            unreachable!();
+        };
+        slot
+    }
+
     /// The process that runs stops running, and its registers go into its trapframe: the state is the same.
     fn suspend(&mut self, hart: &mut Hart)
         requires sound { IsSound self.old hart.old }
@@ -179,9 +151,7 @@ impl Kernel {
         ensures rest { self.new ≡ record self.old { memories = self.new.memories; current = None } }
         ensures frames { frame_count self.new ≡ frame_count self.old }
     {
-        let Some(slot) = self.current else {
-            unreachable!();
-        };
+        let slot = self.running_slot();
         self.memories.save(slot, hart.regs());
         hart.leave();
         self.current = None;
@@ -211,9 +181,7 @@ impl Kernel {
         ensures frames { frame_count self.new ≡ frame_count self.old }
         ensures state { let live = live_now self.old hart.old in state_of self.new hart.new ≡ give_frames (price live.image + 1) (end_process (pid_now self.old) live.parent status (state_of self.old hart.old)) }
     {
-        let Some(slot) = self.current else {
-            unreachable!();
-        };
+        let slot = self.running_slot();
         hart.leave();
         self.memories.give_back(slot);
         self.table.zombie(slot, status);

@@ -17,8 +17,8 @@ use Rattle.kernel_spec.specs.others.Quiet.{pipe_of_target}
 use Rattle.kernel_spec.specs.rows.Tables.{lowest_free}
 use Rattle.kernel_spec.specs.rows.Calls.{open_file, refused}
 use Rattle.kcall_core.specs.Opens.{asked_in, name_asked, asked, file_asked}
-use Rattle.kcall_core.specs.declared.kernel.file_calls.Asked.{Asked}
-use Rattle.kcall_core.specs.declared.kernel.file_calls.Asked.TheVariants.{Terminal, Program}
+use Rattle.kcall_core.specs.declared.kernel.opening.Asked.{Asked}
+use Rattle.kcall_core.specs.declared.kernel.opening.Asked.TheVariants.{Terminal, Program}
 use Rattle.kernel_spec.proofs.rows.RowParts.{Named, The_console, A_program, Nothing, program_place, kind_named, opened_as, open_at, open_path}
 use Rattle.kernel_spec.proofs.rows.RowsByParts.{open_same}
 

@@ -21,11 +21,11 @@ use Rattle.hart_core.specs.Trapframe.{saved}
 use Rattle.pipe_core.specs.Pipe.{pipe_in}
 use Rattle.kernel_spec.specs.views.Words.{count_if}
 use Rattle.kcall_core.specs.Holdings.{Held, or_nothing, HasMemory, IsVacant}
-use Rattle.kcall_core.specs.Memories.{held_in, keeps_pipe, kept_pipe, slot_frames, all_joined, process_frames, IsMemory, IsAccounted, AreSound, each_of, SlotChanges}
+use Rattle.kcall_core.specs.Memories.{held_in, keeps_pipe, kept_pipe, slot_frames, all_joined, process_frames, IsMemory, IsAccounted, AreSound, each_of, SlotChanges, Stands}
 use Rattle.kcall_core.specs.declared.memories.Memory.{Memory}
 use Rattle.kcall_core.specs.declared.memories.Memories.{Memories}
 use Rattle.kcall_core.proofs.memory.Frames.{saved-zero, slot-free, Stays, stays-if}
-use Rattle.kcall_core.proofs.memory.Changes.{Stands, each-at, trade-first, slot-filled, there-inside}
+use Rattle.kcall_core.proofs.memory.Changes.{each-at, trade-first, slot-filled, there-inside}
 
 -- ---- answers
 

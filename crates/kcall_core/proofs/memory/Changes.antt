@@ -19,7 +19,7 @@ use Rattle.rv64i_core.specs.Registers.{Registers}
 use Rattle.hart_core.specs.Trapframe.{saved}
 use Rattle.hart_core.specs.declared.hart.Hart.{Hart}
 use Rattle.kcall_core.specs.Holdings.{Held, held_at, or_nothing, HasMemory, IsVacant, with_image, held_cost}
-use Rattle.kcall_core.specs.Memories.{held_in, keeps_pipe, kept_pipe, slot_frames, all_joined, process_frames, IsMemory, IsAccounted, AreSound, each_of, pipes_of, free_of, RunsIn, SlotChanges, Same}
+use Rattle.kcall_core.specs.Memories.{held_in, keeps_pipe, kept_pipe, slot_frames, all_joined, process_frames, IsMemory, IsAccounted, AreSound, Stands, each_of, pipes_of, free_of, RunsIn, SlotChanges, Same}
 use Rattle.kcall_core.specs.declared.memories.Memory.{Memory}
 use Rattle.kcall_core.specs.declared.memories.Memories.{Memories}
 use Rattle.kcall_core.proofs.memory.Lists.{map-same, map-set_one}
@@ -152,12 +152,6 @@ trade-first pool pool' ram ram' mine mine' t traded = record {
   others = λ f free own. traded.others f free (omega (arith, own, copies-cons f t mine));
 }
 
--- the memory m stands in slot i
-pub record Stands (old : Memories) (i : ℕ) (m : Memory) : Type 0 where
-  pub sound : AreSound old
-  pub inside : i < length old.each.items
-  pub is : get_or old.each.items i None ≡ Some m
-
 pub belongs-of : {old : Memories} {i : ℕ} {m : Memory} → Stands old i m → Belongs old.pool old.ram m.space
 belongs-of {old} {i} {m} s = record {
   good = s.sound.good;
@@ -236,6 +230,13 @@ some-inside [] i h = absurd (false-true h)
 some-inside (x ∷ xs) zero h = omega arith
 some-inside (x ∷ xs) (suc i) h = omega (arith, some-inside xs i h)
 
+-- what is read from a place that has something
+pub read-some : {X : Type 0} (xs : List (Option X)) (i : ℕ) (o : Option X) → IsSome (get_or xs i None) → o ≡ get_or xs i o → o ≡ None → ⊥
+read-some xs i o has read none = no-such (subst IsSome (ap (get_or xs i) (sym none) ∙ sym read ∙ none) has)
+  where
+    no-such : false ≡ true → ⊥
+    no-such e = cc
+
 pub there-inside : (old : Memories) (i : ℕ) → HasMemory (each_of old) i → i < length old.each.items
 unfolding each_of
 there-inside old i there = omega (arith, some-inside (each_of old) i there, length-map old.each.items (held_in old.ram))
@@ -253,6 +254,21 @@ pub stands : {old : Memories} {i : ℕ} (o : Option Memory) (m : Memory) → Are
 stands {old} {i} o m sound there read some =
     let lt : i < length old.each.items = there-inside old i there in
     record { sound = sound; inside = lt; is = sym (get_or_read old.each.items i o lt read None) ∙ some }
+
+-- the slot has a memory of the kernel's, since what it stands for is one
+pub there-held : (old : Memories) (i : ℕ) → HasMemory (each_of old) i → IsSome (get_or old.each.items i None)
+there-held old i there = by (get_or old.each.items i None) refl
+  where
+    no-held : IsSome (held_in old.ram None) → ⊥
+    no-held h = cc
+
+    by : (o : Option Memory) → get_or old.each.items i None ≡ o → IsSome o
+    by None e = absurd (no-held (subst IsSome (each-at old i ∙ ap (held_in old.ram) e) there))
+    by (Some m) e = refl
+
+-- the memory that was found in a slot stands there
+pub stood : {old : Memories} {i : ℕ} {m : Memory} → AreSound old → HasMemory (each_of old) i → get_or old.each.items i None ≡ Some m → Stands old i m
+stood {old} {i} sound there is = record { sound = sound; inside = there-inside old i there; is = is }
 
 pub there-below : (old : Memories) (i : ℕ) → HasMemory (each_of old) i → i < old.each.len
 there-below old i there = omega (arith, there-inside old i there, old.each.ok.0)

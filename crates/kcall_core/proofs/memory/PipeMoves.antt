@@ -9,10 +9,10 @@ use Rattle.xk_base.specs.Bytes.{image_bytes}
 use Rattle.addr_space.specs.Space.{image_of, frames_of}
 use Rattle.pipe_core.specs.Pipe.{Pipe, Becomes, pipe_in, with_more}
 use Rattle.kcall_core.specs.Holdings.{held_at, pipe_named}
-use Rattle.kcall_core.specs.Memories.{AreSound, PipeChanges, each_of, pipes_of, slot_frames}
+use Rattle.kcall_core.specs.Memories.{AreSound, PipeChanges, each_of, pipes_of, slot_frames, Stands}
 use Rattle.kcall_core.specs.declared.memories.Memory.{Memory}
 use Rattle.kcall_core.specs.declared.memories.Memories.{Memories}
-use Rattle.kcall_core.proofs.memory.Changes.{Stands, image-seen}
+use Rattle.kcall_core.proofs.memory.Changes.{image-seen}
 use Rattle.kcall_core.proofs.memory.Frames.{pipe-apart}
 use Rattle.kcall_core.proofs.memory.PipeFrames.{pipe-keeps, pipe-becomes}
 use Rattle.kcall_core.proofs.memory.PipeEdges.{named-in}

@@ -16,11 +16,11 @@ use Rattle.hart_core.specs.Translations.{Fits}
 use Rattle.hart_core.specs.declared.hart.Hart.{Hart}
 use Rattle.hart_core.proofs.Caches.{fits-same}
 use Rattle.kcall_core.specs.Holdings.{held_at, with_saved}
-use Rattle.kcall_core.specs.Memories.{held_in, slot_frames, IsMemory, each_of, RunsIn, SlotChanges}
+use Rattle.kcall_core.specs.Memories.{held_in, slot_frames, IsMemory, each_of, RunsIn, SlotChanges, Stands}
 use Rattle.kcall_core.specs.declared.memories.Memory.{Memory}
 use Rattle.kcall_core.specs.declared.memories.Memories.{Memories}
 use Rattle.kcall_core.proofs.memory.Lists.{set-read}
-use Rattle.kcall_core.proofs.memory.Changes.{Stands, trapframe-apart, held-seen, slot-changes}
+use Rattle.kcall_core.proofs.memory.Changes.{trapframe-apart, held-seen, slot-changes}
 
 -- a trapframe that a pc which is a multiple of 4 was saved in
 pub saved-aligned : (ram : List (List ℕ)) (f : ℕ) → word_at ram f 0 % 4 ≡ 0 → (saved ram f).pc % 4 ≡ 0

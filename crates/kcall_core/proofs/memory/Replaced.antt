@@ -15,11 +15,11 @@ use Rattle.addr_space.proofs.Isolation.{spared}
 use Rattle.rv64i_core.specs.Registers.{Registers}
 use Rattle.hart_core.specs.Trapframe.{saved}
 use Rattle.kcall_core.specs.Holdings.{Held, held_at, with_image}
-use Rattle.kcall_core.specs.Memories.{held_in, slot_frames, IsMemory, each_of, SlotChanges}
+use Rattle.kcall_core.specs.Memories.{held_in, slot_frames, IsMemory, each_of, SlotChanges, Stands}
 use Rattle.kcall_core.specs.declared.memories.Memory.{Memory}
 use Rattle.kcall_core.specs.declared.memories.Memories.{Memories}
 use Rattle.kcall_core.proofs.memory.Frames.{saved-same, slot-free, Stays, stays-if}
-use Rattle.kcall_core.proofs.memory.Changes.{Stands, slot-changes, trapframe-apart, held-seen}
+use Rattle.kcall_core.proofs.memory.Changes.{slot-changes, trapframe-apart, held-seen}
 
 same-some : {X : Type 0} (x y : X) → Some x ≡ Some y → x ≡ y
 same-some x y e = cc

@@ -15,10 +15,9 @@ use Rattle.hart_core.specs.Translations.{Fits, FitsBut, but_not, nothing, Transl
 use Rattle.hart_core.proofs.Caches.{fits_root, fits-none_gone}
 use Rattle.hart_core.specs.declared.translation_cache.Cache.{Cache}
 use Rattle.hart_core.specs.declared.hart.Hart.{Hart}
-use Rattle.kcall_core.specs.Memories.{RunsIn, is_between}
+use Rattle.kcall_core.specs.Memories.{RunsIn, is_between, Stands}
 use Rattle.kcall_core.specs.declared.memories.Memory.{Memory}
 use Rattle.kcall_core.specs.declared.memories.Memories.{Memories}
-use Rattle.kcall_core.proofs.memory.Changes.{Stands}
 
 same-some : {X : Type 0} (x y : X) → Some x ≡ Some y → x ≡ y
 same-some x y e = cc

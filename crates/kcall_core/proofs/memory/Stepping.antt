@@ -29,10 +29,10 @@ use Rattle.rv64i_core.specs.UserImage.{user, with_store, write_pages}
 use Rattle.hart_core.specs.Translations.{Translations, Fits}
 use Rattle.hart_core.proofs.Caches.{fits_root, fits_hart}
 use Rattle.kcall_core.specs.Holdings.{held_at}
-use Rattle.kcall_core.specs.Memories.{AreSound, each_of, free_of, RunsIn, Steps, step_in, StepsDone, IsLastStep, StepsInARow}
+use Rattle.kcall_core.specs.Memories.{AreSound, each_of, free_of, RunsIn, Steps, step_in, StepsDone, IsLastStep, StepsInARow, Stands}
 use Rattle.kcall_core.specs.declared.memories.Memories.{Memories}
 use Rattle.kcall_core.proofs.memory.Lists.{set-read}
-use Rattle.kcall_core.proofs.memory.Changes.{Stands, belongs-of, image-seen, space-changes, runs-inside}
+use Rattle.kcall_core.proofs.memory.Changes.{belongs-of, image-seen, space-changes, runs-inside}
 
 changed-not : (pool : Pool) (ram : List (List ℕ)) (s : Space) → Belongs pool ram s → Changed pool ram s pool ram s
 changed-not pool ram s b = record { whole = b.whole; root = refl; traded = trade-none pool ram (space.frames_of ram s) b.good }

@@ -16,13 +16,13 @@ use Rattle.user_copy.specs.Reach.{allows, reaches}
 use Rattle.hart_core.specs.declared.hart.Hart.{Hart}
 use Rattle.user_copy.proofs.Ranges.{reached-mapped, mapped-inside}
 use Rattle.kernel_spec.specs.rows.Buffers.{reaches_touching, readable}
-use Rattle.kcall_core.specs.Memories.{RunsIn, each_of}
+use Rattle.kcall_core.specs.Memories.{RunsIn, each_of, Stands}
 use Rattle.kcall_core.specs.Holdings.{held_at}
 use Rattle.kcall_core.specs.declared.memories.Memory.{Memory}
 use Rattle.kcall_core.specs.declared.memories.Memories.{Memories}
 use Rattle.kcall_core.proofs.memory.Lists.{set-read}
 use Rattle.kernel_spec.proofs.memory.Bringing.{reaches-whole}
-use Rattle.kcall_core.proofs.memory.Changes.{Stands, image-seen}
+use Rattle.kcall_core.proofs.memory.Changes.{image-seen}
 use Rattle.kcall_core.proofs.memory.Runs.{runs-on, same-translations}
 
 -- ---- answers

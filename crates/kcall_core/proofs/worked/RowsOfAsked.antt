@@ -8,7 +8,7 @@ use Rattle.file_table.specs.declared.open_file.End.TheVariants.{Reading}
 use Rattle.pipe_core.specs.Pipe.{new_pipe}
 use Rattle.kernel_spec.specs.views.View.{Shown_terminal, Shown_file, Shown_pipe}
 use Rattle.kcall_core.specs.Opens.{asked_in, name_asked, file_asked}
-use Rattle.kcall_core.specs.declared.kernel.file_calls.Asked.TheVariants.{Terminal, Program}
+use Rattle.kcall_core.specs.declared.kernel.opening.Asked.TheVariants.{Terminal, Program}
 
 abbrev file_of : List ℕ → ProgramFile
 file_of name = record { name = name; bytes = [] }

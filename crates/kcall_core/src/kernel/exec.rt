@@ -105,9 +105,7 @@ impl Kernel {
         ensures made { Makes self.old hart.old (exec call.now (view_now self.old hart.old)) self.new hart.new }
         ensures answer { (exec call.now (view_now self.old hart.old)).answer ≡ answer_of call.now.number result }
     {
-        let Some(slot) = self.current else {
-            unreachable!();
-        };
+        let slot = self.running_slot();
         let Some(start) = replace_as_asked(
             &mut self.memories,
             &self.programs,

@@ -85,9 +85,7 @@ impl Kernel {
         ensures made { (call : Call) → Makes self.old hart.old (fork call (view_now self.old hart.old)) self.new hart.new }
         ensures answer { (call : Call) → (fork call (view_now self.old hart.old)).answer ≡ answer_of call.number result }
     {
-        let Some(slot) = self.current else {
-            unreachable!();
-        };
+        let slot = self.running_slot();
         let Some(child) = self.bear(slot) else {
             return self.done(hart, -1);
         };

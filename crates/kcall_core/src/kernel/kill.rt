@@ -8,7 +8,7 @@ ghost use Rattle.kcall_core.specs.Makes.{Makes, view_now, answer_of};
 
 use crate::call_end::CallEnd;
 use crate::kernel::Kernel;
-use crate::kernel::calls::c_int;
+use crate::kernel::syscall::c_int;
 use hart_core::Hart;
 use proc_table::Call;
 use xk_base::Pid;

@@ -11,7 +11,7 @@ ghost use Rattle.kcall_core.specs.Makes.{Makes, view_now, answer_of};
 
 use crate::call_end::CallEnd;
 use crate::kernel::Kernel;
-use crate::kernel::calls::c_int;
+use crate::kernel::syscall::c_int;
 use hart_core::Hart;
 use proc_table::Call;
 use xk_base::limits::SIZE_LIMIT;
@@ -66,9 +66,7 @@ impl Kernel {
         ensures resized { result ≡ true → HasImage self.old hart.old (at_size (live_now self.old hart.old).image size) self.new hart.new }
         ensures refused { result ≡ false → let image = (live_now self.old hart.old).image in (image.size ≤ size) × IsTooDear self.old image (grown image size) × HasImage self.old hart.old image self.new hart.new }
     {
-        let Some(slot) = self.current else {
-            unreachable!();
-        };
+        let slot = self.running_slot();
         if size < self.memories.size(slot) {
             self.memories.shrink(slot, size, hart);
             return true;
@@ -88,9 +86,7 @@ impl Kernel {
         ensures made { Makes self.old hart.old (sbrk call.now (view_now self.old hart.old)) self.new hart.new }
         ensures answer { (sbrk call.now (view_now self.old hart.old)).answer ≡ answer_of call.now.number result }
     {
-        let Some(slot) = self.current else {
-            unreachable!();
-        };
+        let slot = self.running_slot();
         let old = self.memories.size(slot);
         let Some(size) = resized(old, c_int(call.a0)) else {
             return self.done(hart, -1);
@@ -111,9 +107,7 @@ impl Kernel {
         ensures made { Makes self.old hart.old (sbrklazy call.now (view_now self.old hart.old)) self.new hart.new }
         ensures answer { (sbrklazy call.now (view_now self.old hart.old)).answer ≡ answer_of call.now.number result }
     {
-        let Some(slot) = self.current else {
-            unreachable!();
-        };
+        let slot = self.running_slot();
         let old = self.memories.size(slot);
         let Some(size) = resized_lazily(old, c_int(call.a0)) else {
             return self.refuse(hart);

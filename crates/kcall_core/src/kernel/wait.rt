@@ -12,7 +12,7 @@ ghost use Rattle.kcall_core.specs.Makes.{Makes, view_now, answer_of};
 
 use crate::call_end::CallEnd;
 use crate::kernel::Kernel;
-use crate::kernel::calls::with_moved;
+use crate::kernel::syscall::with_moved;
 use hart_core::Hart;
 use proc_table::{Call, Channel, Reaped};
 
@@ -79,9 +79,7 @@ impl Kernel {
         ensures made { Makes self.old hart.old (wait call.now (view_now self.old hart.old)) self.new hart.new }
         ensures answer { (wait call.now (view_now self.old hart.old)).answer ≡ answer_of call.now.number result }
     {
-        let Some(slot) = self.current else {
-            unreachable!();
-        };
+        let slot = self.running_slot();
         let pid = self.table.pid(slot);
         if !self.table.has_child(pid) {
             return self.refuse(hart);

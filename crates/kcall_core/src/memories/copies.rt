@@ -3,17 +3,37 @@
 //! It reads where user code may read, or may do so once the page is touched: an absent page reads as zeros, and none
 //! comes. It writes where user code may write: `readable`, `writable_now`, `text_at` and `pointer_at` of
 //! `specs/Buffers.antt`.
-ghost use Rattle.std.specs.Prelude.{◌≡◌, ℕ, ◌+◌, ◌^◌, ◌<◌, ◌≤◌, true, false, length, take, drop, Some, None, IfOk, IfErr};
+ghost use Rattle.std.specs.Prelude.{◌≡◌, ◌+◌, ◌^◌, ◌<◌, ◌≤◌, true, false, length, take, drop, Some, None, IfOk, IfErr};
 ghost use Rattle.xk_base.specs.Bytes.{image_bytes, write_image};
 ghost use Rattle.kernel_spec.specs.rows.Buffers.{readable, writable_now, text_at, pointer_at};
 ghost use Rattle.kcall_core.specs.Holdings.{held_at, HasMemory, with_image};
 ghost use Rattle.kcall_core.specs.Memories.{each_of, free_of, AreSound, RunsIn, SlotChanges, Same};
+ghost use Rattle.hart_core.specs.declared.hart.Hart.{Hart};
 
-use crate::memories::Memories;
-use hart_core::Hart;
-use xk_base::BadAddress;
+use crate::memories::{Memories, memory_in};
+use xk_base::{Access, BadAddress};
 
 impl Memories {
+    /// Whether user code may read all of so many bytes from an address on, now or once their absent pages are there.
+    pub fn may_read(&self, slot: usize, address: u64, len: usize) -> bool
+        requires sound { AreSound self.now }
+        requires there { HasMemory (each_of self.now) slot }
+        ensures { result ≡ readable (held_at (each_of self.now) slot).image address len }
+    {
+        let memory = self.memory(slot);
+        user_copy::check_range_lazily(&memory.space, &self.ram, address, len, Access::Load).is_ok()
+    }
+
+    /// Whether user code may write all of so many bytes from an address on.
+    pub fn may_write(&self, slot: usize, address: u64, len: usize) -> bool
+        requires sound { AreSound self.now }
+        requires there { HasMemory (each_of self.now) slot }
+        ensures { result ≡ writable_now (held_at (each_of self.now) slot).image address len }
+    {
+        let memory = self.memory(slot);
+        user_copy::check_range(&memory.space, &self.ram, address, len, Access::Store).is_ok()
+    }
+
     /// Copies bytes from the memory of a slot, as many as `out` holds. User code may read all of them, which
     /// was tested before: each page is walked to once.
     pub fn read_tested(&self, slot: usize, address: u64, out: &mut [u8])
@@ -22,10 +42,7 @@ impl Memories {
         requires readable { readable (held_at (each_of self.now) slot).image address (length out.old) ≡ true }
         ensures { out.new ≡ image_bytes (held_at (each_of self.now) slot).image address (length out.old) }
     {
-        let Some(memory) = &self.each[slot] else {
-            unreachable!();
-        };
-        memory.space.read_across(&self.ram, address, out);
+        self.memory(slot).space.read_across(&self.ram, address, out);
     }
 
     /// Copies bytes to the memory of a slot. User code may write all of them, which was tested before: each
@@ -39,9 +56,7 @@ impl Memories {
         ensures free { free_of self.new ≡ free_of self.old }
         ensures runs { (hart : Hart) → RunsIn self.old slot hart → RunsIn self.new slot hart }
     {
-        let Some(memory) = &self.each[slot] else {
-            unreachable!();
-        };
+        let memory = memory_in(&self.each, slot);
         memory.space.write_across(&mut self.ram, address, bytes);
     }
 
@@ -58,9 +73,7 @@ impl Memories {
         ensures runs { (hart : Hart) → RunsIn self.old slot hart → RunsIn self.new slot hart }
         ensures refused { IfErr result (λ _. (writable_now (held_at (each_of self.old) slot).image address (length bytes.now) ≡ false) × Same self.old self.new) }
     {
-        let Some(memory) = &self.each[slot] else {
-            unreachable!();
-        };
+        let memory = memory_in(&self.each, slot);
         user_copy::copy_out(&memory.space, &mut self.ram, address, bytes)
     }
 
@@ -75,10 +88,7 @@ impl Memories {
         ensures number { IfOk result (λ n. pointer_at (held_at (each_of self.now) slot).image address ≡ Some n) }
         ensures refused { IfErr result (λ _. pointer_at (held_at (each_of self.now) slot).image address ≡ None) }
     {
-        let Some(memory) = &self.each[slot] else {
-            unreachable!();
-        };
-        user_copy::fetch_u64_lazily(&memory.space, &self.ram, address)
+        user_copy::fetch_u64_lazily(&self.memory(slot).space, &self.ram, address)
     }
 
     /// Copies a text from the memory of a slot to the front of `text`, without its zero byte, and tells how
@@ -99,9 +109,31 @@ impl Memories {
         ensures rest { IfOk result (λ n. drop n text.new ≡ drop n text.old) }
         ensures refused { IfErr result (λ _. (text_at (length text.old) (held_at (each_of self.now) slot).image address ≡ None) × (text.new ≡ text.old)) }
     {
-        let Some(memory) = &self.each[slot] else {
-            unreachable!();
-        };
-        user_copy::fetch_text_lazily(&memory.space, &self.ram, address, text)
+        user_copy::fetch_text_lazily(&self.memory(slot).space, &self.ram, address, text)
+    }
+
+    /// Copies bytes from the memory of a slot, where user code may read them, to the front of a buffer.
+    pub fn fetch_front(&self, slot: usize, address: u64, bytes: &mut [u8], count: usize)
+        requires sound { AreSound self.now }
+        requires there { HasMemory (each_of self.now) slot }
+        requires fits { count ≤ length bytes.old }
+        requires readable { readable (held_at (each_of self.now) slot).image address count ≡ true }
+        ensures bytes { take count bytes.new ≡ image_bytes (held_at (each_of self.now) slot).image address count }
+        ensures length { length bytes.new ≡ length bytes.old }
+    {
+        self.read_tested(slot, address, &mut bytes[..count]);
+    }
+
+    /// Copies the first bytes of a buffer to the memory of a slot, where user code may write them.
+    pub fn put_front(&mut self, slot: usize, address: u64, bytes: &[u8], count: usize)
+        requires sound { AreSound self.old }
+        requires there { HasMemory (each_of self.old) slot }
+        requires fits { count ≤ length bytes.now }
+        requires writable { writable_now (held_at (each_of self.old) slot).image address count ≡ true }
+        ensures written { let held = held_at (each_of self.old) slot in SlotChanges self.old self.new slot (Some (with_image (write_image held.image address (take count bytes.now)) held)) }
+        ensures free { free_of self.new ≡ free_of self.old }
+        ensures runs { (hart : Hart) → RunsIn self.old slot hart → RunsIn self.new slot hart }
+    {
+        self.write_tested(slot, address, &bytes[..count]);
     }
 }

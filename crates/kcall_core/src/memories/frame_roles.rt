@@ -137,10 +137,7 @@ impl Memories {
         requires there { HasMemory (each_of self.now) slot }
         ensures { result ≡ page_frame_in self.now slot vpn }
     {
-        let Some(memory) = &self.each[slot] else {
-            unreachable!();
-        };
-        memory.space.page_frame(&self.ram, vpn)
+        self.memory(slot).space.page_frame(&self.ram, vpn)
     }
 
     /// What the memory of a slot has a frame for; none where it hasn't got it, or there is no memory.

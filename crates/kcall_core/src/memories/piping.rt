@@ -1,15 +1,22 @@
-//! The ends of the pipes, and how many descriptors are on each.
-ghost use Rattle.std.specs.Prelude.{◌≡◌, ◌<◌, ◌≤◌, IsSome, None, Some, cond, is_some, nat_eq, option_map};
+//! The pipes: their frames, how many descriptors are on each end, and the bytes between them and processes.
+ghost use Rattle.std.specs.Prelude.{◌≡◌, ◌<◌, ◌≤◌, IsSome, None, Some, cond, is_some, nat_eq, option_map, ◌+◌, take, length, true, not, IfSome, IfNone};
 ghost use Rattle.std.specs.FinMap.{get};
 ghost use Rattle.pipe_core.specs.declared.TheConstants.{END_COUNT_MAX};
-ghost use Rattle.kernel_spec.specs.views.PipeEnds.{count_on, joined, parted, is_given_up};
-ghost use Rattle.kcall_core.specs.Holdings.{pipe_named};
-ghost use Rattle.kcall_core.specs.Memories.{pipes_of, AreSound, PipeChanges};
+ghost use Rattle.kernel_spec.specs.views.PipeEnds.{count_on, joined, parted, is_given_up, there, fit, has_bytes};
+ghost use Rattle.kcall_core.specs.Holdings.{pipe_named, held_at, HasMemory, with_image};
+ghost use Rattle.kcall_core.specs.Memories.{pipes_of, AreSound, PipeChanges, each_of, free_of, RunsIn, SlotChanges, Same};
 ghost use Rattle.kcall_core.specs.ObservedPipes.{counts_of, byte_of_pipe};
+ghost use Rattle.xk_base.specs.declared.limits.TheConstants.{PIPE_BYTES};
+ghost use Rattle.xk_base.specs.Bytes.{image_bytes, write_image};
+ghost use Rattle.pipe_core.specs.Pipe.{with_more, without_first, new_pipe};
+ghost use Rattle.kernel_spec.specs.rows.Buffers.{readable, writable_now};
+ghost use Rattle.hart_core.specs.declared.hart.Hart.{Hart};
+ghost use Rattle.kcall_core.specs.Moves.{Moves};
 
-use crate::memories::Memories;
+use crate::memories::{Memories, memory_in};
 use file_table::End;
 use xk_base::Frame;
+use xk_base::limits::PIPE_BYTES;
 
 /// How many descriptors are on each end of a pipe, and how many bytes are in it.
 #[derive(Clone, Copy, Debug, PartialEq, Eq)]
@@ -20,6 +27,30 @@ pub struct PipeCounts {
 }
 
 impl Memories {
+    /// Makes a frame an empty pipe with one descriptor on each end; the frame names the pipe. None exactly
+    /// where no frame is free.
+    pub fn make_pipe(&mut self) -> Option<Frame>
+        requires { AreSound self.old }
+        ensures new { IfSome result (λ f. get (pipes_of self.old) f ≡ None) }
+        ensures made { IfSome result (λ f. PipeChanges self.old self.new f (Some new_pipe)) }
+        ensures refused { IfNone result ((free_of self.old ≡ 0) × Same self.old self.new) }
+    {
+        let frame = self.pool.take(&mut self.ram)?;
+        pipe_core::make(&mut self.ram, frame);
+        self.pipes[frame.index()] = true;
+        Some(frame)
+    }
+
+    /// Gives back the frame of a pipe.
+    pub fn drop_pipe(&mut self, frame: Frame)
+        requires sound { AreSound self.old }
+        requires there { IsSome (get (pipes_of self.old) frame) }
+        ensures { PipeChanges self.old self.new frame None }
+    {
+        self.pipes[frame.index()] = false;
+        self.pool.give(&mut self.ram, frame);
+    }
+
     /// Whether a frame keeps a pipe.
     fn keeps_pipe(&self, frame: Frame) -> bool
         ensures { result ≡ is_some (get (pipes_of self.now) frame) }
@@ -153,5 +184,108 @@ impl Memories {
         }
         self.drop_pipe(frame);
         last
+    }
+
+    /// Whether a pipe is empty, and somebody may still write to it.
+    pub fn must_wait(&self, frame: Frame) -> bool
+        requires sound { AreSound self.now }
+        requires pipe { IsSome (get (pipes_of self.now) frame) }
+        ensures { result ≡ not (has_bytes (pipe_named (pipes_of self.now) frame)) }
+    {
+        // (That its number is below `FRAMES_MAX`.)
+        let _ = frame.number();
+        let len = pipe_core::len(&self.ram, frame);
+        let writers = pipe_core::writers(&self.ram, frame);
+        !((0 < len) | (writers == 0))
+    }
+
+    /// How many bytes are in a pipe.
+    pub(crate) fn count(&self, frame: Frame) -> usize
+        requires sound { AreSound self.now }
+        requires pipe { IsSome (get (pipes_of self.now) frame) }
+        ensures value { result ≡ length (pipe_named (pipes_of self.now) frame).bytes }
+        ensures range { result ≤ PIPE_BYTES }
+    {
+        // (That its number is below `FRAMES_MAX`.)
+        let _ = frame.number();
+        pipe_core::len(&self.ram, frame)
+    }
+
+    /// Appends bytes from the memory of a slot, where user code may read them, to a pipe that has room for
+    /// them. They go from frame to frame.
+    fn push_tested(&mut self, frame: Frame, slot: usize, address: u64, count: usize)
+        requires sound { AreSound self.old }
+        requires pipe { IsSome (get (pipes_of self.old) frame) }
+        requires there { HasMemory (each_of self.old) slot }
+        requires room { length (pipe_named (pipes_of self.old) frame).bytes + count ≤ PIPE_BYTES }
+        requires readable { readable (held_at (each_of self.old) slot).image address count ≡ true }
+        ensures { PipeChanges self.old self.new frame (Some (with_more (image_bytes (held_at (each_of self.old) slot).image address count) (pipe_named (pipes_of self.old) frame))) }
+    {
+        // (That its number is below `FRAMES_MAX`.)
+        let _ = frame.number();
+        let memory = memory_in(&self.each, slot);
+        user_copy::push_to_pipe(&memory.space, &mut self.ram, frame, address, count);
+    }
+
+    /// Appends bytes from the memory of a slot to a pipe, as many of n as fit, and tells how many they are.
+    pub fn push_from(&mut self, frame: Frame, slot: usize, address: u64, n: usize) -> usize
+        requires sound { AreSound self.old }
+        requires pipe { IsSome (get (pipes_of self.old) frame) }
+        requires there { HasMemory (each_of self.old) slot }
+        requires readable { readable (held_at (each_of self.old) slot).image address n ≡ true }
+        ensures count { result ≡ fit (pipe_named (pipes_of self.old) frame) n }
+        ensures range { result ≤ PIPE_BYTES }
+        ensures moved { PipeChanges self.old self.new frame (Some (with_more (image_bytes (held_at (each_of self.old) slot).image address result) (pipe_named (pipes_of self.old) frame))) }
+    {
+        let count = n.min(PIPE_BYTES - self.count(frame));
+        self.push_tested(frame, slot, address, count);
+        count
+    }
+
+    /// Copies the oldest bytes of a pipe, which are there, to the memory of a slot, where user code may write
+    /// them. They go from frame to frame, and the pipe stays.
+    fn copy_oldest(&mut self, frame: Frame, slot: usize, address: u64, count: usize)
+        requires sound { AreSound self.old }
+        requires pipe { IsSome (get (pipes_of self.old) frame) }
+        requires there { HasMemory (each_of self.old) slot }
+        requires bytes { count ≤ length (pipe_named (pipes_of self.old) frame).bytes }
+        requires writable { writable_now (held_at (each_of self.old) slot).image address count ≡ true }
+        ensures written { let held = held_at (each_of self.old) slot in SlotChanges self.old self.new slot (Some (with_image (write_image held.image address (take count (pipe_named (pipes_of self.old) frame).bytes)) held)) }
+        ensures free { free_of self.new ≡ free_of self.old }
+        ensures runs { (hart : Hart) → RunsIn self.old slot hart → RunsIn self.new slot hart }
+    {
+        // (That its number is below `FRAMES_MAX`.)
+        let _ = frame.number();
+        let memory = memory_in(&self.each, slot);
+        user_copy::copy_from_pipe(&memory.space, &mut self.ram, frame, address, count);
+    }
+
+    /// Takes the oldest bytes out of a pipe, which are there.
+    fn drop_oldest(&mut self, frame: Frame, count: usize)
+        requires sound { AreSound self.old }
+        requires pipe { IsSome (get (pipes_of self.old) frame) }
+        requires bytes { count ≤ length (pipe_named (pipes_of self.old) frame).bytes }
+        ensures { PipeChanges self.old self.new frame (Some (without_first count (pipe_named (pipes_of self.old) frame))) }
+    {
+        // (That its number is below `FRAMES_MAX`.)
+        let _ = frame.number();
+        pipe_core::drop_first(&mut self.ram, frame, count);
+    }
+
+    /// Takes the oldest bytes out of a pipe, as many as there are but at most n, puts them into the memory of
+    /// a slot, and tells how many they are.
+    pub fn pull_to(&mut self, frame: Frame, slot: usize, address: u64, n: usize) -> usize
+        requires sound { AreSound self.old }
+        requires pipe { IsSome (get (pipes_of self.old) frame) }
+        requires there { HasMemory (each_of self.old) slot }
+        requires writable { writable_now (held_at (each_of self.old) slot).image address n ≡ true }
+        ensures count { result ≡ there (pipe_named (pipes_of self.old) frame) n }
+        ensures range { result ≤ PIPE_BYTES }
+        ensures moved { let pipe = pipe_named (pipes_of self.old) frame in let image = (held_at (each_of self.old) slot).image in Moves self.old self.new slot (write_image image address (take result pipe.bytes)) frame (without_first result pipe) }
+    {
+        let count = n.min(self.count(frame));
+        self.copy_oldest(frame, slot, address, count);
+        self.drop_oldest(frame, count);
+        count
     }
 }

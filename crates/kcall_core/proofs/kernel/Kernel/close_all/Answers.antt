@@ -5,7 +5,7 @@ use Rattle.kcall_core.proofs.files.AllClosed.{closes-none, closes-on}
 use Rattle.kcall_core.proofs.kernel.Kernel.close_all.Goals as goal
 
 pub loop-closed-init : goal.loop-closed-init
-loop-closed-init c = record { slot = c.in-Some.is; closed = λ hart closing. closes-none closing }
+loop-closed-init c = record { slot = c.running_slot-slot.ensures.is; closed = λ hart closing. closes-none closing }
 
 pub close_if_used-requires-clause-closing : goal.close_if_used-requires-clause-closing
 close_if_used-requires-clause-closing c = let r = c.loop-closed.invariant.closed c.requires.0 c.requires.1 in (c.requires.0, r.after)

@@ -3,39 +3,25 @@ use Rattle.std.proofs.lemmas.Int.{to_z-of_z}
 use Rattle.proc_table.specs.Processes.{ended}
 use Rattle.proc_table.specs.Slots.{changed_at}
 use Rattle.hart_core.specs.declared.hart.Hart.{Hart}
-use Rattle.kcall_core.proofs.table.States.{slot-inside}
-use Rattle.kcall_core.proofs.table.Stops.{now-has, now-slot, live-place, ended-sound, ended-state}
+use Rattle.kcall_core.proofs.table.Stops.{now-slot, ended-sound, ended-state}
 use Rattle.kcall_core.proofs.kernel.Kernel.end.Goals as goal
-
-pub give_back-requires-clause-there : goal.give_back-requires-clause-there
-give_back-requires-clause-there c = now-has c.in-Some.slot c.requires.sound c.in-Some.is
-
-pub zombie-requires-clause-within : goal.zombie-requires-clause-within
-zombie-requires-clause-within c =
-    let now = c.requires.sound.current c.in-Some.slot c.in-Some.is in
-    slot-inside c.args.self.now c.args.hart.now c.requires.sound c.in-Some.slot now.process now.is
-
-pub zombie-requires-clause-live : goal.zombie-requires-clause-live
-zombie-requires-clause-live c =
-    let now = c.requires.sound.current c.in-Some.slot c.in-Some.is in
-    live-place c.args.self.now c.in-Some.slot now.process now.is now.live
 
 pub returns-clause-sound : goal.returns-clause-sound
 returns-clause-sound c =
     let status = to_z-of_z _ c.args.status c.ranges.status in
-    let table = c.zombie.ensures ∙ ap (λ z. changed_at c.in-Some.slot (ended z) c.args.self.now.table) status in
-    ended-sound _ c.leave.new.self c.args.status c.requires.sound c.in-Some.is c.give_back.ensures table refl (ap (λ (h : Hart). h.root) c.leave.ensures.value) (ap (λ (h : Hart). h.cache) c.leave.ensures.value)
+    let table = c.zombie.ensures ∙ ap (λ z. changed_at c.running_slot-slot.result (ended z) c.args.self.now.table) status in
+    ended-sound _ c.leave.new.self c.args.status c.requires.sound c.running_slot-slot.ensures.is c.give_back.ensures table refl (ap (λ (h : Hart). h.root) c.leave.ensures.value) (ap (λ (h : Hart). h.cache) c.leave.ensures.value)
 
 pub returns-clause-state : goal.returns-clause-state
 returns-clause-state c =
     let status = to_z-of_z _ c.args.status c.ranges.status in
-    let table = c.zombie.ensures ∙ ap (λ z. changed_at c.in-Some.slot (ended z) c.args.self.now.table) status in
-    ended-state (record c.args.self.now { memories = c.give_back.new.self; table = c.zombie.new.self; current = None }) c.leave.new.self c.args.status c.requires.sound c.in-Some.is c.give_back.ensures table refl (record { files = refl; console = refl; programs = refl; clock = refl })
+    let table = c.zombie.ensures ∙ ap (λ z. changed_at c.running_slot-slot.result (ended z) c.args.self.now.table) status in
+    ended-state (record c.args.self.now { memories = c.give_back.new.self; table = c.zombie.new.self; current = None }) c.leave.new.self c.args.status c.requires.sound c.running_slot-slot.ensures.is c.give_back.ensures table refl (record { files = refl; console = refl; programs = refl; clock = refl })
 
 pub returns-clause-table : goal.returns-clause-table
 returns-clause-table c =
     let status = to_z-of_z _ c.args.status c.ranges.status in
-    c.zombie.ensures ∙ ap (λ z. changed_at c.in-Some.slot (ended z) c.args.self.now.table) status ∙ ap (λ n. changed_at n (ended c.args.status) c.args.self.now.table) (now-slot c.in-Some.slot c.requires.sound c.in-Some.is)
+    c.zombie.ensures ∙ ap (λ z. changed_at c.running_slot-slot.result (ended z) c.args.self.now.table) status ∙ ap (λ n. changed_at n (ended c.args.status) c.args.self.now.table) (now-slot c.running_slot-slot.result c.requires.sound c.running_slot-slot.ensures.is)
 
 pub returns-clause-frames : goal.returns-clause-frames
 returns-clause-frames c = c.give_back.ensures.frames

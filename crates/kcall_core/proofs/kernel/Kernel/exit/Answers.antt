@@ -1,22 +1,12 @@
-use Rattle.std.proofs.Common.{refl, sym, ap, ◌∙◌, subst}
-use Rattle.std.specs.Prelude.{IsSome}
+use Rattle.std.proofs.Common.{ap, ◌∙◌}
 use Rattle.std.proofs.lemmas.Int.{to_z-of_z}
 use Rattle.proc_table.specs.Processes.{given, woken, ended}
 use Rattle.proc_table.specs.Slots.{each_changed, changed_at}
 use Rattle.proc_table.specs.declared.channel.Channel.TheVariants as on
 use Rattle.kernel_spec.specs.steps.Updates.{gone_state}
 use Rattle.kcall_core.specs.Kernel.{state_of, slot_now, pid_now, live_now}
-use Rattle.kcall_core.proofs.table.States.{slot-inside}
 use Rattle.kcall_core.proofs.processes.Exits.{whole-closing, no-descriptors, not-own-parent, parent-now, exit-makes}
 use Rattle.kcall_core.proofs.kernel.Kernel.exit.Goals as goal
-
-pub parent-parent-requires-clause-within : goal.parent-parent-requires-clause-within
-parent-parent-requires-clause-within c =
-    let now = c.requires.whole.sound.current c.in-Some.slot c.in-Some.is in
-    slot-inside c.args.self.now c.args.hart.now c.requires.whole.sound c.in-Some.slot now.process now.is
-
-pub parent-parent-requires-clause-held : goal.parent-parent-requires-clause-held
-parent-parent-requires-clause-held c = subst (λ o. IsSome o) (sym (c.requires.whole.sound.current c.in-Some.slot c.in-Some.is).is) refl
 
 pub close_all-requires : goal.close_all-requires
 close_all-requires c = (c.args.hart.now, whole-closing c.requires.whole c.requires.running)
@@ -37,7 +27,7 @@ returns c =
     record {
       made = exit-makes c.args.self.now k1 c.go_closed.new.self k3 c.wake.new.self h after c.args.status c.parent-parent.result c.requires.whole c.requires.running
           (c.close_all.ensures h (whole-closing c.requires.whole c.requires.running))
-          (parent-now c.in-Some.slot c.parent-parent.result c.requires.whole.sound c.in-Some.is c.parent-parent.ensures)
+          (parent-now c.running_slot-slot.result c.parent-parent.result c.requires.whole.sound c.running_slot-slot.ensures.is c.parent-parent.ensures)
           c.go_closed.ensures.sound c.go_closed.ensures.stopped c.go_closed.ensures.files c.go_closed.ensures.frames
           (c.go_closed.ensures.table ∙ ap (λ z. changed_at (slot_now k1) (ended z) (each_changed (given (pid_now k1) 1) k1.table)) status)
           (c.go_closed.ensures.state ∙ ap (λ z. gone_state (pid_now k1) (live_now k1 h) z (state_of k1 h).files (state_of k1 h)) status)

@@ -1,27 +1,18 @@
-use Rattle.std.proofs.Common.{◌≡◌, refl, sym, ap, ◌∙◌, subst}
-use Rattle.std.specs.Prelude.{IsSome, pos}
+use Rattle.std.proofs.Common.{◌≡◌, sym, ap, ◌∙◌}
+use Rattle.std.specs.Prelude.{pos}
 use Rattle.std.specs.Int.{w64}
 use Rattle.std.proofs.lemmas.Int.{to_z-of_z}
 use Rattle.kcall_core.specs.Kernel.{pid_now}
 use Rattle.kernel_spec.specs.views.View.{view_of}
-use Rattle.kcall_core.proofs.table.States.{slot-inside}
 use Rattle.kcall_core.proofs.table.Stops.{now-slot}
 use Rattle.kcall_core.proofs.turns.Chosen.{pid-told}
 use Rattle.kcall_core.proofs.making.CallAnswers.{done-at-once}
 use Rattle.kcall_core.proofs.kernel.Kernel.getpid.Goals as goal
 
-pub pid-pid-requires-clause-within : goal.pid-pid-requires-clause-within
-pid-pid-requires-clause-within c =
-    let now = c.requires.whole.sound.current c.in-Some.slot c.in-Some.is in
-    slot-inside c.args.self.now c.args.hart.now c.requires.whole.sound c.in-Some.slot now.process now.is
-
-pub pid-pid-requires-clause-held : goal.pid-pid-requires-clause-held
-pid-pid-requires-clause-held c = subst (λ o. IsSome o) (sym (c.requires.whole.sound.current c.in-Some.slot c.in-Some.is).is) refl
-
 pub returns-clause-made : goal.returns-clause-made
 unfolding view_of
 returns-clause-made c call =
     let k = c.args.self.now in
-    let pid : pid_now k ≡ c.pid-pid.result = pid-told k c.in-Some.slot c.pid-pid.result (sym (now-slot c.in-Some.slot c.requires.whole.sound c.in-Some.is)) c.pid-pid.ensures in
+    let pid : pid_now k ≡ c.pid-pid.result = pid-told k c.running_slot-slot.result c.pid-pid.result (sym (now-slot c.running_slot-slot.result c.requires.whole.sound c.running_slot-slot.ensures.is)) c.pid-pid.ensures in
     done-at-once call (pos (pid_now k)) (to_z-of_z w64 c.from.result (record { sfits = c.from.type_inv }) ∙ c.from.ensures ∙ ap pos (c.number.ensures.value ∙ sym pid)) c.requires.whole c.requires.running
     (record { sound = c.done.ensures.sound; kernel = c.done.ensures.kernel; state = c.done.ensures.state })

@@ -1,4 +1,4 @@
-use Rattle.std.proofs.Common.{◌≡◌, ◌+◌, length, refl, sym, ap, ◌∙◌, subst}
+use Rattle.std.proofs.Common.{◌≡◌, ◌+◌, length, sym, ap, ◌∙◌, subst}
 use Rattle.std.specs.Prelude.{IsSome}
 use Rattle.std.proofs.lemmas.Int.{to_z-of_z}
 use Rattle.xk_base.specs.Image.{price}
@@ -9,20 +9,11 @@ use Rattle.kcall_core.specs.Kernel.{state_of, slot_now, pid_now, live_now, IsSou
 use Rattle.kcall_core.specs.declared.kernel.Kernel.{Kernel}
 use Rattle.proc_table.specs.Processes.{given, ended}
 use Rattle.proc_table.specs.Slots.{each_changed, changed_at}
-use Rattle.kcall_core.proofs.table.States.{slot-inside}
 use Rattle.kcall_core.proofs.table.Stops.{now-slot}
 use Rattle.kcall_core.proofs.turns.Chosen.{pid-told}
 use Rattle.kcall_core.proofs.turns.Turned.{live-is}
 use Rattle.kernel_spec.proofs.steps.Closed.{gone-closed, keeps-parent}
 use Rattle.kcall_core.proofs.kernel.Kernel.go_closed.Goals as goal
-
-pub pid-pid-requires-clause-within : goal.pid-pid-requires-clause-within
-pid-pid-requires-clause-within c =
-    let now = c.requires.sound.current c.in-Some.slot c.in-Some.is in
-    slot-inside c.args.self.now c.args.hart.now c.requires.sound c.in-Some.slot now.process now.is
-
-pub pid-pid-requires-clause-held : goal.pid-pid-requires-clause-held
-pid-pid-requires-clause-held c = subst (λ o. IsSome o) (sym (c.requires.sound.current c.in-Some.slot c.in-Some.is).is) refl
 
 pub end-requires-clause-sound : goal.end-requires-clause-sound
 end-requires-clause-sound c = c.orphan.ensures.sound c.args.hart.now c.requires.sound
@@ -37,7 +28,7 @@ returns-clause-state c =
     let k1 = c.orphan.new.self in
     let s = state_of k h in
     let p = pid_now k in
-    let told : p ≡ c.pid-pid.result = pid-told k c.in-Some.slot c.pid-pid.result (sym (now-slot c.in-Some.slot c.requires.sound c.in-Some.is)) c.pid-pid.ensures in
+    let told : p ≡ c.pid-pid.result = pid-told k c.running_slot-slot.result c.pid-pid.result (sym (now-slot c.running_slot-slot.result c.requires.sound c.running_slot-slot.ensures.is)) c.pid-pid.ensures in
     let sound1 : IsSound k1 h = c.orphan.ensures.sound h c.requires.sound in
     let runs1 : IsRunning k1 = subst (λ o. IsSome o) (sym c.orphan.ensures.current) c.requires.running in
     let state1 : state_of k1 h ≡ orphans p s = c.orphan.ensures.state h ∙ ap (λ n. orphans n s) (sym told) in
@@ -52,7 +43,7 @@ returns-clause-state c =
 pub returns-clause-table : goal.returns-clause-table
 returns-clause-table c =
     let k = c.args.self.now in
-    let told : pid_now k ≡ c.pid-pid.result = pid-told k c.in-Some.slot c.pid-pid.result (sym (now-slot c.in-Some.slot c.requires.sound c.in-Some.is)) c.pid-pid.ensures in
+    let told : pid_now k ≡ c.pid-pid.result = pid-told k c.running_slot-slot.result c.pid-pid.result (sym (now-slot c.running_slot-slot.result c.requires.sound c.running_slot-slot.ensures.is)) c.pid-pid.ensures in
     c.end.ensures.table
     ∙ (λ i. changed_at (or_zero (c.orphan.ensures.current i)) (ended (to_z-of_z _ c.args.status c.ranges.status i)) (c.orphan.ensures.table i))
     ∙ ap (λ n. changed_at (slot_now k) (ended c.args.status) (each_changed (given n 1) k.table)) (sym told)

@@ -10,7 +10,6 @@ use Rattle.kcall_core.specs.declared.kernel.Kernel.{Kernel}
 use Rattle.kcall_core.proofs.making.Touching.{files-stay}
 use Rattle.kernel_spec.specs.steps.Own.{Own}
 use Rattle.kcall_core.specs.Makes.{Makes, view_now, answer_of}
-use Rattle.kcall_core.proofs.table.States.{slot-inside}
 use Rattle.kcall_core.proofs.processes.Exits.{whole-closing}
 use Rattle.kcall_core.proofs.making.CallAnswers.{done-at-once}
 use Rattle.kcall_core.proofs.files.OneClosed.{used-open}
@@ -18,40 +17,35 @@ use Rattle.kcall_core.proofs.files.UsedDescriptor.{in-use-named, unused-shown}
 use Rattle.kcall_core.proofs.files.MovingRows.{in-use-as, read-unused, read-shut, read-below, read-nothing, read-unready, read-ready}
 use Rattle.kcall_core.proofs.kernel.Kernel.read.Goals as goal
 
-pub returns-in_default-used_descriptor-clause-made : goal.returns-in_default-used_descriptor-clause-made
-returns-in_default-used_descriptor-clause-made c =
+pub returns-in_default-clause-made : goal.returns-in_default-clause-made
+returns-in_default-clause-made c =
     let k = c.args.self.now in
     let h = c.args.hart.now in
     let asked = to_z-of_z w32 c.c_int.result (record { sfits = c.c_int.type_inv }) ∙ c.c_int.ensures in
-    let row = read-unused c.args.call.now (view_now k h) (unused-shown c.requires.whole c.requires.running c.in-Some.is (c_int c.args.call.now.a0) (λ d below e. c.in_default-used_descriptor.ensures.unused d below (asked ∙ e))) in
+    let row = read-unused c.args.call.now (view_now k h) (unused-shown c.requires.whole c.requires.running c.running_slot-slot.ensures.is (c_int c.args.call.now.a0) (λ d below e. c.in_default.ensures.unused d below (asked ∙ e))) in
     subst (λ (o : Own). Makes k h o c.refuse.new.self c.refuse.new.hart) (sym row) (c.refuse.ensures.made c.args.call.now)
 
-pub returns-in_default-used_descriptor-clause-answer : goal.returns-in_default-used_descriptor-clause-answer
-returns-in_default-used_descriptor-clause-answer c =
+pub returns-in_default-clause-answer : goal.returns-in_default-clause-answer
+returns-in_default-clause-answer c =
     let k = c.args.self.now in
     let h = c.args.hart.now in
     let asked = to_z-of_z w32 c.c_int.result (record { sfits = c.c_int.type_inv }) ∙ c.c_int.ensures in
-    let row = read-unused c.args.call.now (view_now k h) (unused-shown c.requires.whole c.requires.running c.in-Some.is (c_int c.args.call.now.a0) (λ d below e. c.in_default-used_descriptor.ensures.unused d below (asked ∙ e))) in
+    let row = read-unused c.args.call.now (view_now k h) (unused-shown c.requires.whole c.requires.running c.running_slot-slot.ensures.is (c_int c.args.call.now.a0) (λ d below e. c.in_default.ensures.unused d below (asked ∙ e))) in
     ap (λ (o : Own). o.answer) row ∙ ap (answer_of c.args.call.now.number) (sym c.refuse.ensures.end)
-
-pub used_descriptor-requires : goal.used_descriptor-requires
-used_descriptor-requires c =
-    let now = c.requires.whole.sound.current c.in-Some.slot c.in-Some.is in
-    slot-inside c.args.self.now c.args.hart.now c.requires.whole.sound c.in-Some.slot now.process now.is
 
 pub kind-kind-requires : goal.kind-kind-requires
 kind-kind-requires c =
-    used-open (whole-closing c.requires.whole c.requires.running) c.in-Some.is c.in-Some-used_descriptor.ensures.used.1
-    (ap (λ ds. named_by ds c.in-Some-used_descriptor.fd) (sym c.descriptors.ensures) ∙ sym c.get.ensures ∙ c.in-Some-get.is)
+    used-open (whole-closing c.requires.whole c.requires.running) c.running_slot-slot.ensures.is c.in-Some.ensures.used.1
+    (ap (λ ds. named_by ds c.in-Some.fd) (sym c.descriptors.ensures) ∙ sym c.get.ensures ∙ c.in-Some-get.is)
 
 pub returns-then-not-kind-clause-made : goal.returns-then-not-kind-clause-made
 returns-then-not-kind-clause-made c =
     let k = c.args.self.now in
     let h = c.args.hart.now in
     let asked = to_z-of_z w32 c.c_int.result (record { sfits = c.c_int.type_inv }) ∙ c.c_int.ensures in
-    let fd = c.in-Some-used_descriptor.ensures.used in
-    let names = ap (λ ds. named_by ds c.in-Some-used_descriptor.fd) (sym c.descriptors.ensures) ∙ sym c.get.ensures ∙ c.in-Some-get.is in
-    let there = in-use-named c.requires.whole c.requires.running c.in-Some.is fd.1 names in
+    let fd = c.in-Some.ensures.used in
+    let names = ap (λ ds. named_by ds c.in-Some.fd) (sym c.descriptors.ensures) ∙ sym c.get.ensures ∙ c.in-Some-get.is in
+    let there = in-use-named c.requires.whole c.requires.running c.running_slot-slot.ensures.is fd.1 names in
     let source = in-use-as there.0 c.kind-kind.result there.1 c.kind-kind.ensures in
     let number = sym asked ∙ fd.0 in
     let row = read-shut c.args.call.now c.requires.whole c.requires.running fd.1 number source c.if-not-kind.true in
@@ -62,9 +56,9 @@ returns-then-not-kind-clause-answer c =
     let k = c.args.self.now in
     let h = c.args.hart.now in
     let asked = to_z-of_z w32 c.c_int.result (record { sfits = c.c_int.type_inv }) ∙ c.c_int.ensures in
-    let fd = c.in-Some-used_descriptor.ensures.used in
-    let names = ap (λ ds. named_by ds c.in-Some-used_descriptor.fd) (sym c.descriptors.ensures) ∙ sym c.get.ensures ∙ c.in-Some-get.is in
-    let there = in-use-named c.requires.whole c.requires.running c.in-Some.is fd.1 names in
+    let fd = c.in-Some.ensures.used in
+    let names = ap (λ ds. named_by ds c.in-Some.fd) (sym c.descriptors.ensures) ∙ sym c.get.ensures ∙ c.in-Some-get.is in
+    let there = in-use-named c.requires.whole c.requires.running c.running_slot-slot.ensures.is fd.1 names in
     let source = in-use-as there.0 c.kind-kind.result there.1 c.kind-kind.ensures in
     let number = sym asked ∙ fd.0 in
     let row = read-shut c.args.call.now c.requires.whole c.requires.running fd.1 number source c.if-not-kind.true in
@@ -75,9 +69,9 @@ returns-in_default-byte_count-clause-made c =
     let k = c.args.self.now in
     let h = c.args.hart.now in
     let asked = to_z-of_z w32 c.c_int.result (record { sfits = c.c_int.type_inv }) ∙ c.c_int.ensures in
-    let fd = c.in-Some-used_descriptor.ensures.used in
-    let names = ap (λ ds. named_by ds c.in-Some-used_descriptor.fd) (sym c.descriptors.ensures) ∙ sym c.get.ensures ∙ c.in-Some-get.is in
-    let there = in-use-named c.requires.whole c.requires.running c.in-Some.is fd.1 names in
+    let fd = c.in-Some.ensures.used in
+    let names = ap (λ ds. named_by ds c.in-Some.fd) (sym c.descriptors.ensures) ∙ sym c.get.ensures ∙ c.in-Some-get.is in
+    let there = in-use-named c.requires.whole c.requires.running c.running_slot-slot.ensures.is fd.1 names in
     let source = in-use-as there.0 c.kind-kind.result there.1 c.kind-kind.ensures in
     let number = sym asked ∙ fd.0 in
     let size = to_z-of_z w32 c.c_int-2.result (record { sfits = c.c_int-2.type_inv }) ∙ c.c_int-2.ensures in
@@ -89,9 +83,9 @@ returns-in_default-byte_count-clause-answer c =
     let k = c.args.self.now in
     let h = c.args.hart.now in
     let asked = to_z-of_z w32 c.c_int.result (record { sfits = c.c_int.type_inv }) ∙ c.c_int.ensures in
-    let fd = c.in-Some-used_descriptor.ensures.used in
-    let names = ap (λ ds. named_by ds c.in-Some-used_descriptor.fd) (sym c.descriptors.ensures) ∙ sym c.get.ensures ∙ c.in-Some-get.is in
-    let there = in-use-named c.requires.whole c.requires.running c.in-Some.is fd.1 names in
+    let fd = c.in-Some.ensures.used in
+    let names = ap (λ ds. named_by ds c.in-Some.fd) (sym c.descriptors.ensures) ∙ sym c.get.ensures ∙ c.in-Some-get.is in
+    let there = in-use-named c.requires.whole c.requires.running c.running_slot-slot.ensures.is fd.1 names in
     let source = in-use-as there.0 c.kind-kind.result there.1 c.kind-kind.ensures in
     let number = sym asked ∙ fd.0 in
     let size = to_z-of_z w32 c.c_int-2.result (record { sfits = c.c_int-2.type_inv }) ∙ c.c_int-2.ensures in
@@ -103,9 +97,9 @@ returns-then-n-eq0-clause-made c =
     let k = c.args.self.now in
     let h = c.args.hart.now in
     let asked = to_z-of_z w32 c.c_int.result (record { sfits = c.c_int.type_inv }) ∙ c.c_int.ensures in
-    let fd = c.in-Some-used_descriptor.ensures.used in
-    let names = ap (λ ds. named_by ds c.in-Some-used_descriptor.fd) (sym c.descriptors.ensures) ∙ sym c.get.ensures ∙ c.in-Some-get.is in
-    let there = in-use-named c.requires.whole c.requires.running c.in-Some.is fd.1 names in
+    let fd = c.in-Some.ensures.used in
+    let names = ap (λ ds. named_by ds c.in-Some.fd) (sym c.descriptors.ensures) ∙ sym c.get.ensures ∙ c.in-Some-get.is in
+    let there = in-use-named c.requires.whole c.requires.running c.running_slot-slot.ensures.is fd.1 names in
     let source = in-use-as there.0 c.kind-kind.result there.1 c.kind-kind.ensures in
     let number = sym asked ∙ fd.0 in
     let size = to_z-of_z w32 c.c_int-2.result (record { sfits = c.c_int-2.type_inv }) ∙ c.c_int-2.ensures in
@@ -118,9 +112,9 @@ returns-then-n-eq0-clause-answer c =
     let k = c.args.self.now in
     let h = c.args.hart.now in
     let asked = to_z-of_z w32 c.c_int.result (record { sfits = c.c_int.type_inv }) ∙ c.c_int.ensures in
-    let fd = c.in-Some-used_descriptor.ensures.used in
-    let names = ap (λ ds. named_by ds c.in-Some-used_descriptor.fd) (sym c.descriptors.ensures) ∙ sym c.get.ensures ∙ c.in-Some-get.is in
-    let there = in-use-named c.requires.whole c.requires.running c.in-Some.is fd.1 names in
+    let fd = c.in-Some.ensures.used in
+    let names = ap (λ ds. named_by ds c.in-Some.fd) (sym c.descriptors.ensures) ∙ sym c.get.ensures ∙ c.in-Some-get.is in
+    let there = in-use-named c.requires.whole c.requires.running c.running_slot-slot.ensures.is fd.1 names in
     let source = in-use-as there.0 c.kind-kind.result there.1 c.kind-kind.ensures in
     let number = sym asked ∙ fd.0 in
     let size = to_z-of_z w32 c.c_int-2.result (record { sfits = c.c_int-2.type_inv }) ∙ c.c_int-2.ensures in
@@ -133,9 +127,9 @@ returns-then-not-ready_buffer-clause-made c =
     let k = c.args.self.now in
     let h = c.args.hart.now in
     let asked = to_z-of_z w32 c.c_int.result (record { sfits = c.c_int.type_inv }) ∙ c.c_int.ensures in
-    let fd = c.in-Some-used_descriptor.ensures.used in
-    let names = ap (λ ds. named_by ds c.in-Some-used_descriptor.fd) (sym c.descriptors.ensures) ∙ sym c.get.ensures ∙ c.in-Some-get.is in
-    let there = in-use-named c.requires.whole c.requires.running c.in-Some.is fd.1 names in
+    let fd = c.in-Some.ensures.used in
+    let names = ap (λ ds. named_by ds c.in-Some.fd) (sym c.descriptors.ensures) ∙ sym c.get.ensures ∙ c.in-Some-get.is in
+    let there = in-use-named c.requires.whole c.requires.running c.running_slot-slot.ensures.is fd.1 names in
     let source = in-use-as there.0 c.kind-kind.result there.1 c.kind-kind.ensures in
     let number = sym asked ∙ fd.0 in
     let size = to_z-of_z w32 c.c_int-2.result (record { sfits = c.c_int-2.type_inv }) ∙ c.c_int-2.ensures in
@@ -152,9 +146,9 @@ returns-then-not-ready_buffer-clause-answer c =
     let k = c.args.self.now in
     let h = c.args.hart.now in
     let asked = to_z-of_z w32 c.c_int.result (record { sfits = c.c_int.type_inv }) ∙ c.c_int.ensures in
-    let fd = c.in-Some-used_descriptor.ensures.used in
-    let names = ap (λ ds. named_by ds c.in-Some-used_descriptor.fd) (sym c.descriptors.ensures) ∙ sym c.get.ensures ∙ c.in-Some-get.is in
-    let there = in-use-named c.requires.whole c.requires.running c.in-Some.is fd.1 names in
+    let fd = c.in-Some.ensures.used in
+    let names = ap (λ ds. named_by ds c.in-Some.fd) (sym c.descriptors.ensures) ∙ sym c.get.ensures ∙ c.in-Some-get.is in
+    let there = in-use-named c.requires.whole c.requires.running c.running_slot-slot.ensures.is fd.1 names in
     let source = in-use-as there.0 c.kind-kind.result there.1 c.kind-kind.ensures in
     let number = sym asked ∙ fd.0 in
     let size = to_z-of_z w32 c.c_int-2.result (record { sfits = c.c_int-2.type_inv }) ∙ c.c_int-2.ensures in
@@ -176,7 +170,7 @@ read_from-requires-clause-running c =
 pub read_from-requires-clause-slot : goal.read_from-requires-clause-slot
 read_from-requires-clause-slot c =
     let ready = c.ready_buffer.ensures.ready c.if-not-ready_buffer.false c.args.hart.now c.requires.whole in
-    ap (λ (x : Kernel). x.current) ready.touched.kernel ∙ c.in-Some.is
+    ap (λ (x : Kernel). x.current) ready.touched.kernel ∙ c.running_slot-slot.ensures.is
 
 pub read_from-requires-clause-unmarked : goal.read_from-requires-clause-unmarked
 read_from-requires-clause-unmarked c =
@@ -193,9 +187,9 @@ read_from-requires-clause-file c =
     let k = c.args.self.now in
     let h = c.args.hart.now in
     let asked = to_z-of_z w32 c.c_int.result (record { sfits = c.c_int.type_inv }) ∙ c.c_int.ensures in
-    let fd = c.in-Some-used_descriptor.ensures.used in
-    let names = ap (λ ds. named_by ds c.in-Some-used_descriptor.fd) (sym c.descriptors.ensures) ∙ sym c.get.ensures ∙ c.in-Some-get.is in
-    let there = in-use-named c.requires.whole c.requires.running c.in-Some.is fd.1 names in
+    let fd = c.in-Some.ensures.used in
+    let names = ap (λ ds. named_by ds c.in-Some.fd) (sym c.descriptors.ensures) ∙ sym c.get.ensures ∙ c.in-Some-get.is in
+    let there = in-use-named c.requires.whole c.requires.running c.running_slot-slot.ensures.is fd.1 names in
     let source = in-use-as there.0 c.kind-kind.result there.1 c.kind-kind.ensures in
     let number = sym asked ∙ fd.0 in
     let size = to_z-of_z w32 c.c_int-2.result (record { sfits = c.c_int-2.type_inv }) ∙ c.c_int-2.ensures in
@@ -203,10 +197,10 @@ read_from-requires-clause-file c =
     let some = ne_eqb c.in-Some-byte_count.n 0 c.if-n-eq0.false in
     let ready = c.ready_buffer.ensures.ready c.if-not-ready_buffer.false c.args.hart.now c.requires.whole in
     record {
-      fd = c.in-Some-used_descriptor.fd;
+      fd = c.in-Some.fd;
       below = fd.1;
       number = number;
-      named_file = ap (λ (l : Live). get l.descriptors c.in-Some-used_descriptor.fd) ready.touched.live ∙ source.used;
+      named_file = ap (λ (l : Live). get l.descriptors c.in-Some.fd) ready.touched.live ∙ source.used;
       opened = files-stay ready.touched c.in-Some-get.file ∙ source.opened;
       buffer = (count, some, ready.there);
     }
@@ -216,9 +210,9 @@ returns-clause-made c =
     let k = c.args.self.now in
     let h = c.args.hart.now in
     let asked = to_z-of_z w32 c.c_int.result (record { sfits = c.c_int.type_inv }) ∙ c.c_int.ensures in
-    let fd = c.in-Some-used_descriptor.ensures.used in
-    let names = ap (λ ds. named_by ds c.in-Some-used_descriptor.fd) (sym c.descriptors.ensures) ∙ sym c.get.ensures ∙ c.in-Some-get.is in
-    let there = in-use-named c.requires.whole c.requires.running c.in-Some.is fd.1 names in
+    let fd = c.in-Some.ensures.used in
+    let names = ap (λ ds. named_by ds c.in-Some.fd) (sym c.descriptors.ensures) ∙ sym c.get.ensures ∙ c.in-Some-get.is in
+    let there = in-use-named c.requires.whole c.requires.running c.running_slot-slot.ensures.is fd.1 names in
     let source = in-use-as there.0 c.kind-kind.result there.1 c.kind-kind.ensures in
     let number = sym asked ∙ fd.0 in
     let size = to_z-of_z w32 c.c_int-2.result (record { sfits = c.c_int-2.type_inv }) ∙ c.c_int-2.ensures in
@@ -234,9 +228,9 @@ returns-clause-answer c =
     let k = c.args.self.now in
     let h = c.args.hart.now in
     let asked = to_z-of_z w32 c.c_int.result (record { sfits = c.c_int.type_inv }) ∙ c.c_int.ensures in
-    let fd = c.in-Some-used_descriptor.ensures.used in
-    let names = ap (λ ds. named_by ds c.in-Some-used_descriptor.fd) (sym c.descriptors.ensures) ∙ sym c.get.ensures ∙ c.in-Some-get.is in
-    let there = in-use-named c.requires.whole c.requires.running c.in-Some.is fd.1 names in
+    let fd = c.in-Some.ensures.used in
+    let names = ap (λ ds. named_by ds c.in-Some.fd) (sym c.descriptors.ensures) ∙ sym c.get.ensures ∙ c.in-Some-get.is in
+    let there = in-use-named c.requires.whole c.requires.running c.running_slot-slot.ensures.is fd.1 names in
     let source = in-use-as there.0 c.kind-kind.result there.1 c.kind-kind.ensures in
     let number = sym asked ∙ fd.0 in
     let size = to_z-of_z w32 c.c_int-2.result (record { sfits = c.c_int-2.type_inv }) ∙ c.c_int-2.ensures in

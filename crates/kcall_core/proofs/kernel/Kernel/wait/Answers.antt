@@ -16,7 +16,7 @@ returns-then-not-has_child-clause-made c =
     let k = c.args.self.now in
     let h = c.args.hart.now in
     let call = c.args.call.now in
-    let pid = pid-told k c.in-Some.slot c.pid-pid.result (sym (now-slot c.in-Some.slot c.requires.whole.sound c.in-Some.is)) c.pid-pid.ensures in
+    let pid = pid-told k c.running_slot-slot.result c.pid-pid.result (sym (now-slot c.running_slot-slot.result c.requires.whole.sound c.running_slot-slot.ensures.is)) c.pid-pid.ensures in
     let row = no-child k h c.requires.whole.sound c.requires.running call (subst (HasNoChild k.table) (sym pid) (c.has_child.ensures.none c.if-not-has_child.true)) in
     subst (λ (o : Own). Makes k h o c.refuse.new.self c.refuse.new.hart) (sym row) (c.refuse.ensures.made call)
 
@@ -25,7 +25,7 @@ returns-then-not-has_child-clause-answer c =
     let k = c.args.self.now in
     let h = c.args.hart.now in
     let call = c.args.call.now in
-    let pid = pid-told k c.in-Some.slot c.pid-pid.result (sym (now-slot c.in-Some.slot c.requires.whole.sound c.in-Some.is)) c.pid-pid.ensures in
+    let pid = pid-told k c.running_slot-slot.result c.pid-pid.result (sym (now-slot c.running_slot-slot.result c.requires.whole.sound c.running_slot-slot.ensures.is)) c.pid-pid.ensures in
     let row = no-child k h c.requires.whole.sound c.requires.running call (subst (HasNoChild k.table) (sym pid) (c.has_child.ensures.none c.if-not-has_child.true)) in
     ap (λ (o : Own). o.answer) row ∙ ap (answer_of call.number) (sym c.refuse.ensures.end)
 
@@ -34,7 +34,7 @@ returns-then-not-ready_buffer-clause-made c =
     let k = c.args.self.now in
     let h = c.args.hart.now in
     let call = c.args.call.now in
-    let pid = pid-told k c.in-Some.slot c.pid-pid.result (sym (now-slot c.in-Some.slot c.requires.whole.sound c.in-Some.is)) c.pid-pid.ensures in
+    let pid = pid-told k c.running_slot-slot.result c.pid-pid.result (sym (now-slot c.running_slot-slot.result c.requires.whole.sound c.running_slot-slot.ensures.is)) c.pid-pid.ensures in
     let unready = subst (λ n. IsUnready call.a0 n 0 k h) c.told_bytes.ensures (c.ready_buffer.ensures.unready c.if-not-ready_buffer.true h c.requires.whole) in
     let row = wait-unready k h c.requires.whole.sound c.requires.running call unready in
     let self = c.refuse-then-not-ready_buffer.new.self in
@@ -47,7 +47,7 @@ returns-then-not-ready_buffer-clause-answer c =
     let k = c.args.self.now in
     let h = c.args.hart.now in
     let call = c.args.call.now in
-    let pid = pid-told k c.in-Some.slot c.pid-pid.result (sym (now-slot c.in-Some.slot c.requires.whole.sound c.in-Some.is)) c.pid-pid.ensures in
+    let pid = pid-told k c.running_slot-slot.result c.pid-pid.result (sym (now-slot c.running_slot-slot.result c.requires.whole.sound c.running_slot-slot.ensures.is)) c.pid-pid.ensures in
     let unready = subst (λ n. IsUnready call.a0 n 0 k h) c.told_bytes.ensures (c.ready_buffer.ensures.unready c.if-not-ready_buffer.true h c.requires.whole) in
     let row = wait-unready k h c.requires.whole.sound c.requires.running call unready in
     ap (λ (o : Own). o.answer) row ∙ ap (answer_of call.number) (sym c.refuse-then-not-ready_buffer.ensures.end)
@@ -57,7 +57,7 @@ wait_ready-requires-clause-whole c =
     let k = c.args.self.now in
     let h = c.args.hart.now in
     let call = c.args.call.now in
-    let pid = pid-told k c.in-Some.slot c.pid-pid.result (sym (now-slot c.in-Some.slot c.requires.whole.sound c.in-Some.is)) c.pid-pid.ensures in
+    let pid = pid-told k c.running_slot-slot.result c.pid-pid.result (sym (now-slot c.running_slot-slot.result c.requires.whole.sound c.running_slot-slot.ensures.is)) c.pid-pid.ensures in
     let ready = subst (λ n. IsReady call.a0 n 0 k h c.ready_buffer.new.self h) c.told_bytes.ensures (c.ready_buffer.ensures.ready c.if-not-ready_buffer.false h c.requires.whole) in
     ready.touched.whole
 
@@ -66,7 +66,7 @@ wait_ready-requires-clause-running c =
     let k = c.args.self.now in
     let h = c.args.hart.now in
     let call = c.args.call.now in
-    let pid = pid-told k c.in-Some.slot c.pid-pid.result (sym (now-slot c.in-Some.slot c.requires.whole.sound c.in-Some.is)) c.pid-pid.ensures in
+    let pid = pid-told k c.running_slot-slot.result c.pid-pid.result (sym (now-slot c.running_slot-slot.result c.requires.whole.sound c.running_slot-slot.ensures.is)) c.pid-pid.ensures in
     let ready = subst (λ n. IsReady call.a0 n 0 k h c.ready_buffer.new.self h) c.told_bytes.ensures (c.ready_buffer.ensures.ready c.if-not-ready_buffer.false h c.requires.whole) in
     ready.touched.running
 
@@ -75,16 +75,16 @@ wait_ready-requires-clause-slot c =
     let k = c.args.self.now in
     let h = c.args.hart.now in
     let call = c.args.call.now in
-    let pid = pid-told k c.in-Some.slot c.pid-pid.result (sym (now-slot c.in-Some.slot c.requires.whole.sound c.in-Some.is)) c.pid-pid.ensures in
+    let pid = pid-told k c.running_slot-slot.result c.pid-pid.result (sym (now-slot c.running_slot-slot.result c.requires.whole.sound c.running_slot-slot.ensures.is)) c.pid-pid.ensures in
     let ready = subst (λ n. IsReady call.a0 n 0 k h c.ready_buffer.new.self h) c.told_bytes.ensures (c.ready_buffer.ensures.ready c.if-not-ready_buffer.false h c.requires.whole) in
-    ap (λ (x : Kernel). x.current) ready.touched.kernel ∙ c.in-Some.is
+    ap (λ (x : Kernel). x.current) ready.touched.kernel ∙ c.running_slot-slot.ensures.is
 
 pub wait_ready-requires-clause-unmarked : goal.wait_ready-requires-clause-unmarked
 wait_ready-requires-clause-unmarked c =
     let k = c.args.self.now in
     let h = c.args.hart.now in
     let call = c.args.call.now in
-    let pid = pid-told k c.in-Some.slot c.pid-pid.result (sym (now-slot c.in-Some.slot c.requires.whole.sound c.in-Some.is)) c.pid-pid.ensures in
+    let pid = pid-told k c.running_slot-slot.result c.pid-pid.result (sym (now-slot c.running_slot-slot.result c.requires.whole.sound c.running_slot-slot.ensures.is)) c.pid-pid.ensures in
     let ready = subst (λ n. IsReady call.a0 n 0 k h c.ready_buffer.new.self h) c.told_bytes.ensures (c.ready_buffer.ensures.ready c.if-not-ready_buffer.false h c.requires.whole) in
     ap (λ (l : Live). l.killed) ready.touched.live ∙ c.requires.unmarked
 
@@ -93,7 +93,7 @@ wait_ready-requires-clause-in_call c =
     let k = c.args.self.now in
     let h = c.args.hart.now in
     let call = c.args.call.now in
-    let pid = pid-told k c.in-Some.slot c.pid-pid.result (sym (now-slot c.in-Some.slot c.requires.whole.sound c.in-Some.is)) c.pid-pid.ensures in
+    let pid = pid-told k c.running_slot-slot.result c.pid-pid.result (sym (now-slot c.running_slot-slot.result c.requires.whole.sound c.running_slot-slot.ensures.is)) c.pid-pid.ensures in
     let ready = subst (λ n. IsReady call.a0 n 0 k h c.ready_buffer.new.self h) c.told_bytes.ensures (c.ready_buffer.ensures.ready c.if-not-ready_buffer.false h c.requires.whole) in
     ap (λ (l : Live). l.call) ready.touched.live ∙ c.requires.in_call
 
@@ -102,16 +102,16 @@ wait_ready-requires-clause-fits c =
     let k = c.args.self.now in
     let h = c.args.hart.now in
     let call = c.args.call.now in
-    let pid = pid-told k c.in-Some.slot c.pid-pid.result (sym (now-slot c.in-Some.slot c.requires.whole.sound c.in-Some.is)) c.pid-pid.ensures in
+    let pid = pid-told k c.running_slot-slot.result c.pid-pid.result (sym (now-slot c.running_slot-slot.result c.requires.whole.sound c.running_slot-slot.ensures.is)) c.pid-pid.ensures in
     let ready = subst (λ n. IsReady call.a0 n 0 k h c.ready_buffer.new.self h) c.told_bytes.ensures (c.ready_buffer.ensures.ready c.if-not-ready_buffer.false h c.requires.whole) in
-    told-room call c.in-Some.slot c.in-Some.is ready
+    told-room call c.running_slot-slot.result c.running_slot-slot.ensures.is ready
 
 pub returns-clause-made : goal.returns-clause-made
 returns-clause-made c =
     let k = c.args.self.now in
     let h = c.args.hart.now in
     let call = c.args.call.now in
-    let pid = pid-told k c.in-Some.slot c.pid-pid.result (sym (now-slot c.in-Some.slot c.requires.whole.sound c.in-Some.is)) c.pid-pid.ensures in
+    let pid = pid-told k c.running_slot-slot.result c.pid-pid.result (sym (now-slot c.running_slot-slot.result c.requires.whole.sound c.running_slot-slot.ensures.is)) c.pid-pid.ensures in
     let ready = subst (λ n. IsReady call.a0 n 0 k h c.ready_buffer.new.self h) c.told_bytes.ensures (c.ready_buffer.ensures.ready c.if-not-ready_buffer.false h c.requires.whole) in
     let row = wait-ready k h c.requires.whole.sound c.requires.running call (subst (HasChild k.table) (sym pid) (c.has_child.ensures.some c.if-not-has_child.false)) ready in
     ready.touched.makes (wait call (view_now k h)) c.wait_ready.new.self c.wait_ready.new.hart
@@ -122,7 +122,7 @@ returns-clause-answer c =
     let k = c.args.self.now in
     let h = c.args.hart.now in
     let call = c.args.call.now in
-    let pid = pid-told k c.in-Some.slot c.pid-pid.result (sym (now-slot c.in-Some.slot c.requires.whole.sound c.in-Some.is)) c.pid-pid.ensures in
+    let pid = pid-told k c.running_slot-slot.result c.pid-pid.result (sym (now-slot c.running_slot-slot.result c.requires.whole.sound c.running_slot-slot.ensures.is)) c.pid-pid.ensures in
     let ready = subst (λ n. IsReady call.a0 n 0 k h c.ready_buffer.new.self h) c.told_bytes.ensures (c.ready_buffer.ensures.ready c.if-not-ready_buffer.false h c.requires.whole) in
     let row = wait-ready k h c.requires.whole.sound c.requires.running call (subst (HasChild k.table) (sym pid) (c.has_child.ensures.some c.if-not-has_child.false)) ready in
     ap (λ (o : Own). o.answer) row ∙ c.wait_ready.ensures.answer

@@ -8,7 +8,6 @@ use Rattle.kcall_core.specs.Holdings.{held_at}
 use Rattle.kcall_core.specs.Memories.{each_of}
 use Rattle.kernel_spec.specs.steps.Own.{Own}
 use Rattle.kcall_core.specs.Makes.{Makes, view_now, answer_of}
-use Rattle.kcall_core.proofs.table.States.{slot-inside}
 use Rattle.kcall_core.proofs.table.Stops.{now-slot}
 use Rattle.kcall_core.proofs.processes.Exits.{whole-closing}
 use Rattle.kcall_core.proofs.making.CallAnswers.{done-at-once}
@@ -17,40 +16,35 @@ use Rattle.kcall_core.proofs.files.UsedDescriptor.{in-use-named, unused-shown}
 use Rattle.kcall_core.proofs.files.MovingRows.{in-use-as, write-unused, write-shut, write-below, write-nothing, write-absent}
 use Rattle.kcall_core.proofs.kernel.Kernel.write.Goals as goal
 
-pub returns-in_default-used_descriptor-clause-made : goal.returns-in_default-used_descriptor-clause-made
-returns-in_default-used_descriptor-clause-made c =
+pub returns-in_default-clause-made : goal.returns-in_default-clause-made
+returns-in_default-clause-made c =
     let k = c.args.self.now in
     let h = c.args.hart.now in
     let asked = to_z-of_z w32 c.c_int.result (record { sfits = c.c_int.type_inv }) ∙ c.c_int.ensures in
-    let row = write-unused c.args.call.now (view_now k h) (unused-shown c.requires.whole c.requires.running c.in-Some.is (c_int c.args.call.now.a0) (λ d below e. c.in_default-used_descriptor.ensures.unused d below (asked ∙ e))) in
+    let row = write-unused c.args.call.now (view_now k h) (unused-shown c.requires.whole c.requires.running c.running_slot-slot.ensures.is (c_int c.args.call.now.a0) (λ d below e. c.in_default.ensures.unused d below (asked ∙ e))) in
     subst (λ (o : Own). Makes k h o c.refuse.new.self c.refuse.new.hart) (sym row) (c.refuse.ensures.made c.args.call.now)
 
-pub returns-in_default-used_descriptor-clause-answer : goal.returns-in_default-used_descriptor-clause-answer
-returns-in_default-used_descriptor-clause-answer c =
+pub returns-in_default-clause-answer : goal.returns-in_default-clause-answer
+returns-in_default-clause-answer c =
     let k = c.args.self.now in
     let h = c.args.hart.now in
     let asked = to_z-of_z w32 c.c_int.result (record { sfits = c.c_int.type_inv }) ∙ c.c_int.ensures in
-    let row = write-unused c.args.call.now (view_now k h) (unused-shown c.requires.whole c.requires.running c.in-Some.is (c_int c.args.call.now.a0) (λ d below e. c.in_default-used_descriptor.ensures.unused d below (asked ∙ e))) in
+    let row = write-unused c.args.call.now (view_now k h) (unused-shown c.requires.whole c.requires.running c.running_slot-slot.ensures.is (c_int c.args.call.now.a0) (λ d below e. c.in_default.ensures.unused d below (asked ∙ e))) in
     ap (λ (o : Own). o.answer) row ∙ ap (answer_of c.args.call.now.number) (sym c.refuse.ensures.end)
-
-pub used_descriptor-requires : goal.used_descriptor-requires
-used_descriptor-requires c =
-    let now = c.requires.whole.sound.current c.in-Some.slot c.in-Some.is in
-    slot-inside c.args.self.now c.args.hart.now c.requires.whole.sound c.in-Some.slot now.process now.is
 
 pub kind-kind-requires : goal.kind-kind-requires
 kind-kind-requires c =
-    used-open (whole-closing c.requires.whole c.requires.running) c.in-Some.is c.in-Some-used_descriptor.ensures.used.1
-    (ap (λ ds. named_by ds c.in-Some-used_descriptor.fd) (sym c.descriptors.ensures) ∙ sym c.get.ensures ∙ c.in-Some-get.is)
+    used-open (whole-closing c.requires.whole c.requires.running) c.running_slot-slot.ensures.is c.in-Some.ensures.used.1
+    (ap (λ ds. named_by ds c.in-Some.fd) (sym c.descriptors.ensures) ∙ sym c.get.ensures ∙ c.in-Some-get.is)
 
 pub returns-then-not-kind-clause-made : goal.returns-then-not-kind-clause-made
 returns-then-not-kind-clause-made c =
     let k = c.args.self.now in
     let h = c.args.hart.now in
     let asked = to_z-of_z w32 c.c_int.result (record { sfits = c.c_int.type_inv }) ∙ c.c_int.ensures in
-    let fd = c.in-Some-used_descriptor.ensures.used in
-    let names = ap (λ ds. named_by ds c.in-Some-used_descriptor.fd) (sym c.descriptors.ensures) ∙ sym c.get.ensures ∙ c.in-Some-get.is in
-    let there = in-use-named c.requires.whole c.requires.running c.in-Some.is fd.1 names in
+    let fd = c.in-Some.ensures.used in
+    let names = ap (λ ds. named_by ds c.in-Some.fd) (sym c.descriptors.ensures) ∙ sym c.get.ensures ∙ c.in-Some-get.is in
+    let there = in-use-named c.requires.whole c.requires.running c.running_slot-slot.ensures.is fd.1 names in
     let source = in-use-as there.0 c.kind-kind.result there.1 c.kind-kind.ensures in
     let number = sym asked ∙ fd.0 in
     let row = write-shut c.args.call.now c.requires.whole c.requires.running fd.1 number source c.if-not-kind.true in
@@ -61,9 +55,9 @@ returns-then-not-kind-clause-answer c =
     let k = c.args.self.now in
     let h = c.args.hart.now in
     let asked = to_z-of_z w32 c.c_int.result (record { sfits = c.c_int.type_inv }) ∙ c.c_int.ensures in
-    let fd = c.in-Some-used_descriptor.ensures.used in
-    let names = ap (λ ds. named_by ds c.in-Some-used_descriptor.fd) (sym c.descriptors.ensures) ∙ sym c.get.ensures ∙ c.in-Some-get.is in
-    let there = in-use-named c.requires.whole c.requires.running c.in-Some.is fd.1 names in
+    let fd = c.in-Some.ensures.used in
+    let names = ap (λ ds. named_by ds c.in-Some.fd) (sym c.descriptors.ensures) ∙ sym c.get.ensures ∙ c.in-Some-get.is in
+    let there = in-use-named c.requires.whole c.requires.running c.running_slot-slot.ensures.is fd.1 names in
     let source = in-use-as there.0 c.kind-kind.result there.1 c.kind-kind.ensures in
     let number = sym asked ∙ fd.0 in
     let row = write-shut c.args.call.now c.requires.whole c.requires.running fd.1 number source c.if-not-kind.true in
@@ -74,9 +68,9 @@ returns-in_default-byte_count-clause-made c =
     let k = c.args.self.now in
     let h = c.args.hart.now in
     let asked = to_z-of_z w32 c.c_int.result (record { sfits = c.c_int.type_inv }) ∙ c.c_int.ensures in
-    let fd = c.in-Some-used_descriptor.ensures.used in
-    let names = ap (λ ds. named_by ds c.in-Some-used_descriptor.fd) (sym c.descriptors.ensures) ∙ sym c.get.ensures ∙ c.in-Some-get.is in
-    let there = in-use-named c.requires.whole c.requires.running c.in-Some.is fd.1 names in
+    let fd = c.in-Some.ensures.used in
+    let names = ap (λ ds. named_by ds c.in-Some.fd) (sym c.descriptors.ensures) ∙ sym c.get.ensures ∙ c.in-Some-get.is in
+    let there = in-use-named c.requires.whole c.requires.running c.running_slot-slot.ensures.is fd.1 names in
     let source = in-use-as there.0 c.kind-kind.result there.1 c.kind-kind.ensures in
     let number = sym asked ∙ fd.0 in
     let size = to_z-of_z w32 c.c_int-2.result (record { sfits = c.c_int-2.type_inv }) ∙ c.c_int-2.ensures in
@@ -88,9 +82,9 @@ returns-in_default-byte_count-clause-answer c =
     let k = c.args.self.now in
     let h = c.args.hart.now in
     let asked = to_z-of_z w32 c.c_int.result (record { sfits = c.c_int.type_inv }) ∙ c.c_int.ensures in
-    let fd = c.in-Some-used_descriptor.ensures.used in
-    let names = ap (λ ds. named_by ds c.in-Some-used_descriptor.fd) (sym c.descriptors.ensures) ∙ sym c.get.ensures ∙ c.in-Some-get.is in
-    let there = in-use-named c.requires.whole c.requires.running c.in-Some.is fd.1 names in
+    let fd = c.in-Some.ensures.used in
+    let names = ap (λ ds. named_by ds c.in-Some.fd) (sym c.descriptors.ensures) ∙ sym c.get.ensures ∙ c.in-Some-get.is in
+    let there = in-use-named c.requires.whole c.requires.running c.running_slot-slot.ensures.is fd.1 names in
     let source = in-use-as there.0 c.kind-kind.result there.1 c.kind-kind.ensures in
     let number = sym asked ∙ fd.0 in
     let size = to_z-of_z w32 c.c_int-2.result (record { sfits = c.c_int-2.type_inv }) ∙ c.c_int-2.ensures in
@@ -102,9 +96,9 @@ returns-then-n-eq0-clause-made c =
     let k = c.args.self.now in
     let h = c.args.hart.now in
     let asked = to_z-of_z w32 c.c_int.result (record { sfits = c.c_int.type_inv }) ∙ c.c_int.ensures in
-    let fd = c.in-Some-used_descriptor.ensures.used in
-    let names = ap (λ ds. named_by ds c.in-Some-used_descriptor.fd) (sym c.descriptors.ensures) ∙ sym c.get.ensures ∙ c.in-Some-get.is in
-    let there = in-use-named c.requires.whole c.requires.running c.in-Some.is fd.1 names in
+    let fd = c.in-Some.ensures.used in
+    let names = ap (λ ds. named_by ds c.in-Some.fd) (sym c.descriptors.ensures) ∙ sym c.get.ensures ∙ c.in-Some-get.is in
+    let there = in-use-named c.requires.whole c.requires.running c.running_slot-slot.ensures.is fd.1 names in
     let source = in-use-as there.0 c.kind-kind.result there.1 c.kind-kind.ensures in
     let number = sym asked ∙ fd.0 in
     let size = to_z-of_z w32 c.c_int-2.result (record { sfits = c.c_int-2.type_inv }) ∙ c.c_int-2.ensures in
@@ -117,9 +111,9 @@ returns-then-n-eq0-clause-answer c =
     let k = c.args.self.now in
     let h = c.args.hart.now in
     let asked = to_z-of_z w32 c.c_int.result (record { sfits = c.c_int.type_inv }) ∙ c.c_int.ensures in
-    let fd = c.in-Some-used_descriptor.ensures.used in
-    let names = ap (λ ds. named_by ds c.in-Some-used_descriptor.fd) (sym c.descriptors.ensures) ∙ sym c.get.ensures ∙ c.in-Some-get.is in
-    let there = in-use-named c.requires.whole c.requires.running c.in-Some.is fd.1 names in
+    let fd = c.in-Some.ensures.used in
+    let names = ap (λ ds. named_by ds c.in-Some.fd) (sym c.descriptors.ensures) ∙ sym c.get.ensures ∙ c.in-Some-get.is in
+    let there = in-use-named c.requires.whole c.requires.running c.running_slot-slot.ensures.is fd.1 names in
     let source = in-use-as there.0 c.kind-kind.result there.1 c.kind-kind.ensures in
     let number = sym asked ∙ fd.0 in
     let size = to_z-of_z w32 c.c_int-2.result (record { sfits = c.c_int-2.type_inv }) ∙ c.c_int-2.ensures in
@@ -132,14 +126,14 @@ returns-then-not-may_read-clause-made c =
     let k = c.args.self.now in
     let h = c.args.hart.now in
     let asked = to_z-of_z w32 c.c_int.result (record { sfits = c.c_int.type_inv }) ∙ c.c_int.ensures in
-    let fd = c.in-Some-used_descriptor.ensures.used in
-    let names = ap (λ ds. named_by ds c.in-Some-used_descriptor.fd) (sym c.descriptors.ensures) ∙ sym c.get.ensures ∙ c.in-Some-get.is in
-    let there = in-use-named c.requires.whole c.requires.running c.in-Some.is fd.1 names in
+    let fd = c.in-Some.ensures.used in
+    let names = ap (λ ds. named_by ds c.in-Some.fd) (sym c.descriptors.ensures) ∙ sym c.get.ensures ∙ c.in-Some-get.is in
+    let there = in-use-named c.requires.whole c.requires.running c.running_slot-slot.ensures.is fd.1 names in
     let source = in-use-as there.0 c.kind-kind.result there.1 c.kind-kind.ensures in
     let number = sym asked ∙ fd.0 in
     let size = to_z-of_z w32 c.c_int-2.result (record { sfits = c.c_int-2.type_inv }) ∙ c.c_int-2.ensures in
     let count = sym size ∙ c.in-Some-byte_count.ensures.some.0 in
-    let slot = now-slot c.in-Some.slot c.requires.whole.sound c.in-Some.is in
+    let slot = now-slot c.running_slot-slot.result c.requires.whole.sound c.running_slot-slot.ensures.is in
     let at = ap (λ n. readable (held_at (each_of k.memories) n).image c.args.call.now.a1 c.in-Some-byte_count.n) (sym slot) ∙ sym c.may_read.ensures in
     let row = write-absent c.args.call.now c.requires.whole c.requires.running fd.1 number source c.if-not-kind.false c.in-Some-byte_count.n count (ne_eqb c.in-Some-byte_count.n 0 c.if-n-eq0.false) (at ∙ c.if-not-may_read.true) in
     subst (λ (o : Own). Makes k h o c.refuse-then-not-may_read.new.self c.refuse-then-not-may_read.new.hart) (sym row) (c.refuse-then-not-may_read.ensures.made c.args.call.now)
@@ -149,14 +143,14 @@ returns-then-not-may_read-clause-answer c =
     let k = c.args.self.now in
     let h = c.args.hart.now in
     let asked = to_z-of_z w32 c.c_int.result (record { sfits = c.c_int.type_inv }) ∙ c.c_int.ensures in
-    let fd = c.in-Some-used_descriptor.ensures.used in
-    let names = ap (λ ds. named_by ds c.in-Some-used_descriptor.fd) (sym c.descriptors.ensures) ∙ sym c.get.ensures ∙ c.in-Some-get.is in
-    let there = in-use-named c.requires.whole c.requires.running c.in-Some.is fd.1 names in
+    let fd = c.in-Some.ensures.used in
+    let names = ap (λ ds. named_by ds c.in-Some.fd) (sym c.descriptors.ensures) ∙ sym c.get.ensures ∙ c.in-Some-get.is in
+    let there = in-use-named c.requires.whole c.requires.running c.running_slot-slot.ensures.is fd.1 names in
     let source = in-use-as there.0 c.kind-kind.result there.1 c.kind-kind.ensures in
     let number = sym asked ∙ fd.0 in
     let size = to_z-of_z w32 c.c_int-2.result (record { sfits = c.c_int-2.type_inv }) ∙ c.c_int-2.ensures in
     let count = sym size ∙ c.in-Some-byte_count.ensures.some.0 in
-    let slot = now-slot c.in-Some.slot c.requires.whole.sound c.in-Some.is in
+    let slot = now-slot c.running_slot-slot.result c.requires.whole.sound c.running_slot-slot.ensures.is in
     let at = ap (λ n. readable (held_at (each_of k.memories) n).image c.args.call.now.a1 c.in-Some-byte_count.n) (sym slot) ∙ sym c.may_read.ensures in
     let row = write-absent c.args.call.now c.requires.whole c.requires.running fd.1 number source c.if-not-kind.false c.in-Some-byte_count.n count (ne_eqb c.in-Some-byte_count.n 0 c.if-n-eq0.false) (at ∙ c.if-not-may_read.true) in
     ap (λ (o : Own). o.answer) row ∙ ap (answer_of c.args.call.now.number) (sym c.refuse-then-not-may_read.ensures.end)
@@ -166,16 +160,16 @@ write_to-requires-clause-file c =
     let k = c.args.self.now in
     let h = c.args.hart.now in
     let asked = to_z-of_z w32 c.c_int.result (record { sfits = c.c_int.type_inv }) ∙ c.c_int.ensures in
-    let fd = c.in-Some-used_descriptor.ensures.used in
-    let names = ap (λ ds. named_by ds c.in-Some-used_descriptor.fd) (sym c.descriptors.ensures) ∙ sym c.get.ensures ∙ c.in-Some-get.is in
-    let there = in-use-named c.requires.whole c.requires.running c.in-Some.is fd.1 names in
+    let fd = c.in-Some.ensures.used in
+    let names = ap (λ ds. named_by ds c.in-Some.fd) (sym c.descriptors.ensures) ∙ sym c.get.ensures ∙ c.in-Some-get.is in
+    let there = in-use-named c.requires.whole c.requires.running c.running_slot-slot.ensures.is fd.1 names in
     let source = in-use-as there.0 c.kind-kind.result there.1 c.kind-kind.ensures in
     let number = sym asked ∙ fd.0 in
     let size = to_z-of_z w32 c.c_int-2.result (record { sfits = c.c_int-2.type_inv }) ∙ c.c_int-2.ensures in
     let count = sym size ∙ c.in-Some-byte_count.ensures.some.0 in
-    let slot = now-slot c.in-Some.slot c.requires.whole.sound c.in-Some.is in
+    let slot = now-slot c.running_slot-slot.result c.requires.whole.sound c.running_slot-slot.ensures.is in
     let at = ap (λ n. readable (held_at (each_of k.memories) n).image c.args.call.now.a1 c.in-Some-byte_count.n) (sym slot) ∙ sym c.may_read.ensures in
-    (c.in-Some-get.file, record { fd = c.in-Some-used_descriptor.fd; below = fd.1; number = number; named_file = source.used; opened = source.opened; buffer = (count, ne_eqb c.in-Some-byte_count.n 0 c.if-n-eq0.false, at ∙ c.if-not-may_read.false) })
+    (c.in-Some-get.file, record { fd = c.in-Some.fd; below = fd.1; number = number; named_file = source.used; opened = source.opened; buffer = (count, ne_eqb c.in-Some-byte_count.n 0 c.if-n-eq0.false, at ∙ c.if-not-may_read.false) })
 
 pub returns-clause-made : goal.returns-clause-made
 returns-clause-made c = c.write_to.ensures.made

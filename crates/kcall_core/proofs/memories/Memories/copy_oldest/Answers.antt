@@ -1,4 +1,4 @@
-use Rattle.std.proofs.Common.{length, take, refl, sym, ap, ◌∙◌, subst, ◌≤◌, arith}
+use Rattle.std.proofs.Common.{length, take, refl, sym, ap, ◌∙◌, arith}
 use Rattle.xk_base.specs.Image.{Image}
 use Rattle.xk_base.specs.declared.access.Access.TheVariants.{Store}
 use Rattle.xk_base.specs.Bytes.{write_image}
@@ -6,31 +6,28 @@ use Rattle.user_copy.proofs.Ranges.{reached-mapped}
 use Rattle.kernel_spec.specs.rows.Buffers.{writable_now}
 use Rattle.kcall_core.specs.Memories.{each_of, pipes_of, free_of}
 use Rattle.kcall_core.specs.Holdings.{held_at, pipe_named}
-use Rattle.kcall_core.proofs.memory.Changes.{there-below, there-some, stands, image-seen, belongs-of, space-changes}
+use Rattle.kcall_core.proofs.memory.Changes.{there-held, stood, image-seen, belongs-of, space-changes}
 use Rattle.kcall_core.proofs.memory.PipeEdges.{is-pipe}
 use Rattle.kcall_core.proofs.memory.PipeMoves.{pipe-no-page, bytes-named}
 use Rattle.kcall_core.proofs.memory.Written.{whole-of, each-stays, free-stays, written-runs}
 use Rattle.kcall_core.proofs.memories.Memories.copy_oldest.Goals as goal
 
-pub index-requires : goal.index-requires
-index-requires c = there-below _ _ c.requires.there
-
-pub unreachable-requires : goal.unreachable-requires
-unreachable-requires c = there-some _ _ c.index.result.now c.requires.there c.index.ensures c.in_default.is
+pub memory_in-memory-requires : goal.memory_in-memory-requires
+memory_in-memory-requires c = there-held _ _ c.requires.there
 
 pub copy_from_pipe-requires-clause-whole : goal.copy_from_pipe-requires-clause-whole
-copy_from_pipe-requires-clause-whole c = whole-of (stands c.index.result.now c.in-Some.memory c.requires.sound c.requires.there c.index.ensures c.in-Some.is)
+copy_from_pipe-requires-clause-whole c = whole-of (stood c.requires.sound c.requires.there c.memory_in-memory.ensures)
 
 pub copy_from_pipe-requires-clause-pipe : goal.copy_from_pipe-requires-clause-pipe
 copy_from_pipe-requires-clause-pipe c = is-pipe c.args.self.now c.number.ensures.range c.requires.sound c.requires.pipe
 
 pub copy_from_pipe-requires-clause-apart : goal.copy_from_pipe-requires-clause-apart
 copy_from_pipe-requires-clause-apart c =
-    pipe-no-page c.args.self.now c.number.ensures.range c.requires.sound c.requires.pipe (stands c.index.result.now c.in-Some.memory c.requires.sound c.requires.there c.index.ensures c.in-Some.is)
+    pipe-no-page c.args.self.now c.number.ensures.range c.requires.sound c.requires.pipe (stood c.requires.sound c.requires.there c.memory_in-memory.ensures)
 
 pub copy_from_pipe-requires-clause-there : goal.copy_from_pipe-requires-clause-there
 copy_from_pipe-requires-clause-there c =
-    let s = stands c.index.result.now c.in-Some.memory c.requires.sound c.requires.there c.index.ensures c.in-Some.is in
+    let s = stood c.requires.sound c.requires.there c.memory_in-memory.ensures in
     reached-mapped Store _ c.args.address c.args.count (ap (λ (i : Image). writable_now i c.args.address c.args.count) (sym (image-seen s)) ∙ c.requires.writable)
 
 pub copy_from_pipe-requires-clause-bytes : goal.copy_from_pipe-requires-clause-bytes
@@ -38,21 +35,21 @@ copy_from_pipe-requires-clause-bytes c = omega (arith, c.requires.bytes, ap leng
 
 pub returns-clause-written : goal.returns-clause-written
 returns-clause-written c =
-    let s = stands c.index.result.now c.in-Some.memory c.requires.sound c.requires.there c.index.ensures c.in-Some.is in
+    let s = stood c.requires.sound c.requires.there c.memory_in-memory.ensures in
     let image = (held_at (each_of c.args.self.now) c.args.slot).image in
     let bytes = take c.args.count (pipe_named (pipes_of c.args.self.now) c.args.frame).bytes in
     let same = bytes-named c.args.self.now c.number.ensures.range c.requires.sound c.requires.pipe in
-    space-changes _ c.in-Some.memory.space (write_image image c.args.address bytes) s (c.copy_from_pipe.ensures.changed c.args.self.now.pool (belongs-of s))
+    space-changes _ c.memory_in-memory.result.now.space (write_image image c.args.address bytes) s (c.copy_from_pipe.ensures.changed c.args.self.now.pool (belongs-of s))
     (c.copy_from_pipe.ensures.image ∙ (λ k. write_image (sym (image-seen s) k) c.args.address (take c.args.count (same k))))
     (each-stays s) refl
 
 pub returns-clause-free : goal.returns-clause-free
 unfolding free_of
 returns-clause-free c =
-    let s = stands c.index.result.now c.in-Some.memory c.requires.sound c.requires.there c.index.ensures c.in-Some.is in
+    let s = stood c.requires.sound c.requires.there c.memory_in-memory.ensures in
     free-stays c.copy_from_pipe.new.ram s c.copy_from_pipe.ensures.in_place (c.copy_from_pipe.ensures.changed c.args.self.now.pool (belongs-of s))
 
 pub returns-clause-runs : goal.returns-clause-runs
 returns-clause-runs c =
-    let s = stands c.index.result.now c.in-Some.memory c.requires.sound c.requires.there c.index.ensures c.in-Some.is in
+    let s = stood c.requires.sound c.requires.there c.memory_in-memory.ensures in
     written-runs _ s c.copy_from_pipe.ensures.in_place refl

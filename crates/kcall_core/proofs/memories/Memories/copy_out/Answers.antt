@@ -1,51 +1,47 @@
-use Rattle.std.proofs.Common.{[], List, ℕ, sym, ap, ◌∙◌, refl, length, subst, ◌≤◌}
+use Rattle.std.proofs.Common.{[], List, ℕ, sym, ap, ◌∙◌, refl, length}
 use Rattle.xk_base.specs.Image.{Image}
 use Rattle.xk_base.specs.Bytes.{write_image}
 use Rattle.frame_list.specs.Pool.{free_in}
 use Rattle.kernel_spec.specs.rows.Buffers.{writable_now}
-use Rattle.kcall_core.specs.Memories.{each_of, free_of}
-use Rattle.kcall_core.specs.Holdings.{held_at}
+use Rattle.kcall_core.specs.Memories.{free_of}
 use Rattle.kcall_core.proofs.memory.Births.{untraded}
-use Rattle.kcall_core.proofs.memory.Changes.{there-below, there-some, stands, image-seen, belongs-of, space-changes, same-if}
+use Rattle.kcall_core.proofs.memory.Changes.{there-held, stood, image-seen, belongs-of, space-changes, same-if}
 use Rattle.kcall_core.proofs.memory.Written.{ok-map, ok-both, err-map, either, whole-of, each-stays, free-stays, written-runs, unwritten-runs}
 use Rattle.kcall_core.proofs.memories.Memories.copy_out.Goals as goal
 
-pub index-requires : goal.index-requires
-index-requires c = there-below _ _ c.requires.there
-
-pub unreachable-requires : goal.unreachable-requires
-unreachable-requires c = there-some _ _ c.index.result.now c.requires.there c.index.ensures c.in_default.is
+pub memory_in-memory-requires : goal.memory_in-memory-requires
+memory_in-memory-requires c = there-held _ _ c.requires.there
 
 pub copy_out-requires : goal.copy_out-requires
-copy_out-requires c = whole-of (stands c.index.result.now c.in-Some.memory c.requires.sound c.requires.there c.index.ensures c.in-Some.is)
+copy_out-requires c = whole-of (stood c.requires.sound c.requires.there c.memory_in-memory.ensures)
 
 pub returns-clause-fine : goal.returns-clause-fine
 returns-clause-fine c =
-    let s = stands c.index.result.now c.in-Some.memory c.requires.sound c.requires.there c.index.ensures c.in-Some.is in
+    let s = stood c.requires.sound c.requires.there c.memory_in-memory.ensures in
     ok-map c.copy_out.result c.copy_out.ensures.fine (λ x fine. ap (λ (i : Image). writable_now i c.args.address (length c.args.bytes.now)) (image-seen s) ∙ fine)
 
 pub returns-clause-written : goal.returns-clause-written
 returns-clause-written c =
-    let s = stands c.index.result.now c.in-Some.memory c.requires.sound c.requires.there c.index.ensures c.in-Some.is in
+    let s = stood c.requires.sound c.requires.there c.memory_in-memory.ensures in
     ok-both c.copy_out.result c.copy_out.ensures.copied c.copy_out.ensures.changed (λ x is changed.
-    space-changes _ c.in-Some.memory.space _ s (changed c.args.self.now.pool (belongs-of s)) (is ∙ ap (λ (i : Image). write_image i c.args.address c.args.bytes.now) (sym (image-seen s)))
+    space-changes _ c.memory_in-memory.result.now.space _ s (changed c.args.self.now.pool (belongs-of s)) (is ∙ ap (λ (i : Image). write_image i c.args.address c.args.bytes.now) (sym (image-seen s)))
     (each-stays s) refl)
 
 pub returns-clause-free : goal.returns-clause-free
 unfolding free_of
 returns-clause-free c =
-    let s = stands c.index.result.now c.in-Some.memory c.requires.sound c.requires.there c.index.ensures c.in-Some.is in
+    let s = stood c.requires.sound c.requires.there c.memory_in-memory.ensures in
     either c.copy_out.result (ok-both c.copy_out.result c.copy_out.ensures.in_place c.copy_out.ensures.changed (λ x place changed. free-stays c.copy_out.new.ram s place (changed c.args.self.now.pool (belongs-of s)))) c.copy_out.ensures.refused
     (λ x is. is) (λ e r. ap (λ (m : List (List ℕ)). length (free_in c.args.self.now.pool m)) r.1)
 
 pub returns-clause-runs : goal.returns-clause-runs
 returns-clause-runs c =
-    let s = stands c.index.result.now c.in-Some.memory c.requires.sound c.requires.there c.index.ensures c.in-Some.is in
+    let s = stood c.requires.sound c.requires.there c.memory_in-memory.ensures in
     either c.copy_out.result c.copy_out.ensures.in_place c.copy_out.ensures.refused (λ x place. written-runs _ s place refl) (λ e r. unwritten-runs _ s r.1 refl)
 
 pub returns-clause-refused : goal.returns-clause-refused
 returns-clause-refused c =
-    let s = stands c.index.result.now c.in-Some.memory c.requires.sound c.requires.there c.index.ensures c.in-Some.is in
+    let s = stood c.requires.sound c.requires.there c.memory_in-memory.ensures in
     err-map c.copy_out.result c.copy_out.ensures.refused (λ e r. (
       ap (λ (i : Image). writable_now i c.args.address (length c.args.bytes.now)) (image-seen s) ∙ r.0,
       same-if c.args.self.now _ c.requires.sound (untraded _ _ _ _ [] c.requires.sound.good refl r.1) refl refl,

@@ -4,29 +4,23 @@ use Rattle.addr_space.specs.Absent.{whole}
 use Rattle.addr_space.specs.Space.{image_of}
 use Rattle.addr_space.proofs.Touching.{low-pages, whole-low}
 use Rattle.kernel_spec.specs.rows.Buffers.{pointer_at}
-use Rattle.kcall_core.proofs.memory.Changes.{there-below, there-some, stands, image-seen}
+use Rattle.kcall_core.proofs.memory.Changes.{image-seen}
 use Rattle.kernel_spec.proofs.memory.UserBytes.{pointer-there, pointer-none, low-read}
 use Rattle.kcall_core.proofs.memory.Written.{ok-map, ok-both, err-map, whole-of, size-of}
 use Rattle.kcall_core.proofs.memories.Memories.fetch_u64.Goals as goal
 
-pub index-requires : goal.index-requires
-index-requires c = there-below _ _ c.requires.there
-
-pub unreachable-requires : goal.unreachable-requires
-unreachable-requires c = there-some _ _ c.index.result.now c.requires.there c.index.ensures c.in_default.is
-
 pub fetch_u64_lazily-requires : goal.fetch_u64_lazily-requires
-fetch_u64_lazily-requires c = whole-of (stands c.index.result.now c.in-Some.memory c.requires.sound c.requires.there c.index.ensures c.in-Some.is)
+fetch_u64_lazily-requires c = whole-of c.memory.ensures
 
 pub returns-clause-number : goal.returns-clause-number
 returns-clause-number c =
-    let s = stands c.index.result.now c.in-Some.memory c.requires.sound c.requires.there c.index.ensures c.in-Some.is in
-    ok-both c.fetch_u64_lazily.result c.fetch_u64_lazily.ensures.fine c.fetch_u64_lazily.ensures.number (λ n fine is. ap (λ (i : Image). pointer_at i c.args.address) (image-seen s) ∙ pointer-there (image_of c.args.self.now.ram c.in-Some.memory.space) (low-pages c.args.self.now.ram c.in-Some.memory.space) (size-of s) c.args.address n fine is)
+    let s = c.memory.ensures in
+    ok-both c.fetch_u64_lazily.result c.fetch_u64_lazily.ensures.fine c.fetch_u64_lazily.ensures.number (λ n fine is. ap (λ (i : Image). pointer_at i c.args.address) (image-seen s) ∙ pointer-there (image_of c.args.self.now.ram c.memory.result.now.space) (low-pages c.args.self.now.ram c.memory.result.now.space) (size-of s) c.args.address n fine is)
 
 pub returns-clause-refused : goal.returns-clause-refused
 returns-clause-refused c =
-    let s = stands c.index.result.now c.in-Some.memory c.requires.sound c.requires.there c.index.ensures c.in-Some.is in
-    err-map c.fetch_u64_lazily.result c.fetch_u64_lazily.ensures.refused (λ e bad. ap (λ (i : Image). pointer_at i c.args.address) (image-seen s) ∙ pointer-none (image_of c.args.self.now.ram c.in-Some.memory.space) (low-pages c.args.self.now.ram c.in-Some.memory.space) (size-of s) c.args.address bad)
+    let s = c.memory.ensures in
+    err-map c.fetch_u64_lazily.result c.fetch_u64_lazily.ensures.refused (λ e bad. ap (λ (i : Image). pointer_at i c.args.address) (image-seen s) ∙ pointer-none (image_of c.args.self.now.ram c.memory.result.now.space) (low-pages c.args.self.now.ram c.memory.result.now.space) (size-of s) c.args.address bad)
 
 pub returns-clause-low : goal.returns-clause-low
-returns-clause-low c = ok-map c.fetch_u64_lazily.result c.fetch_u64_lazily.ensures.fine (λ n fine. low-read (whole (image_of c.args.self.now.ram c.in-Some.memory.space)) c.args.address 8 (whole-low (image_of c.args.self.now.ram c.in-Some.memory.space) (low-pages c.args.self.now.ram c.in-Some.memory.space)) (omega arith) fine)
+returns-clause-low c = ok-map c.fetch_u64_lazily.result c.fetch_u64_lazily.ensures.fine (λ n fine. low-read (whole (image_of c.args.self.now.ram c.memory.result.now.space)) c.args.address 8 (whole-low (image_of c.args.self.now.ram c.memory.result.now.space) (low-pages c.args.self.now.ram c.memory.result.now.space)) (omega arith) fine)

@@ -1,11 +1,11 @@
-use Rattle.std.proofs.Common.{◌≤◌, [], ◌∷◌, length, refl, sym, ap, ◌∙◌, subst, arith}
+use Rattle.std.proofs.Common.{[], ◌∷◌, length, refl, sym, ap, ◌∙◌, arith}
 use Rattle.xk_base.specs.Frames.{copies}
-use Rattle.xk_base.specs.Image.{Image, price}
+use Rattle.xk_base.specs.Image.{price}
 use Rattle.frame_list.specs.Pool.{free_in}
 use Rattle.frame_list.specs.Traded.{Traded}
 use Rattle.frame_list.proofs.Trades.{trade-join}
 use Rattle.kcall_core.specs.Memories.{free_of}
-use Rattle.kcall_core.proofs.memory.Changes.{there-below, vacant-below, there-some, stands, image-seen, cost-seen, same-if}
+use Rattle.kcall_core.proofs.memory.Changes.{there-held, vacant-below, stood, image-seen, cost-seen, same-if}
 use Rattle.kcall_core.proofs.memory.Births.{untraded, taken-apart, taken-length, there-stands, beside-belongs, beside-image, born}
 use Rattle.kcall_core.proofs.memories.Memories.fork_into.Goals as goal
 
@@ -16,15 +16,12 @@ returns-in_default-clause-refused c =
     let none = c.in_default.ensures.none in
     (omega (arith, cost-seen found.1, ap length none.0), same-if c.args.self.now _ c.requires.sound (untraded _ _ _ _ [] c.requires.sound.good none.1.same_pool none.1.same_ram) refl refl)
 
-pub index-requires : goal.index-requires
-index-requires c = there-below _ _ c.requires.there
-
-pub unreachable-requires : goal.unreachable-requires
-unreachable-requires c = there-some _ _ c.index.result.now c.requires.there c.index.ensures c.in_default-index.is
+pub memory_in-memory-requires : goal.memory_in-memory-requires
+memory_in-memory-requires c = there-held _ _ c.requires.there
 
 pub copy-requires : goal.copy-requires
 copy-requires c =
-    record { belongs = beside-belongs (stands c.index.result.now c.in-Some-index.memory c.requires.sound c.requires.there c.index.ensures c.in-Some-index.is) c.in-Some.ensures.taken }
+    record { belongs = beside-belongs (stood c.requires.sound c.requires.there c.memory_in-memory.ensures) c.in-Some.ensures.taken }
 
 pub give-requires-clause-not_free : goal.give-requires-clause-not_free
 give-requires-clause-not_free c =
@@ -34,7 +31,7 @@ give-requires-clause-not_free c =
 pub returns-in_default-copy-clause-refused : goal.returns-in_default-copy-clause-refused
 unfolding free_of
 returns-in_default-copy-clause-refused c =
-    let s = stands c.index.result.now c.in-Some-index.memory c.requires.sound c.requires.there c.index.ensures c.in-Some-index.is in
+    let s = stood c.requires.sound c.requires.there c.memory_in-memory.ensures in
     let r = c.in_default-copy.ensures.refused in
     let t = c.in-Some.trapframe in
     let taken = c.in-Some.ensures.taken in
@@ -47,5 +44,5 @@ index_mut-requires c = vacant-below _ _ c.requires.vacant
 
 pub returns-clause-copied : goal.returns-clause-copied
 returns-clause-copied c =
-    let s = stands c.index.result.now c.in-Some-index.memory c.requires.sound c.requires.there c.index.ensures c.in-Some-index.is in
+    let s = stood c.requires.sound c.requires.there c.memory_in-memory.ensures in
     born _ c.in-Some.trapframe c.in-Ok.space _ c.requires.sound c.requires.vacant c.in-Some.ensures.taken c.in-Ok.ensures.made (c.in-Ok.ensures.image ∙ beside-image s c.in-Some.ensures.taken ∙ sym (image-seen s)) refl refl

@@ -5,25 +5,19 @@ use Rattle.addr_space.specs.Space.{image_of}
 use Rattle.kcall_core.specs.Holdings.{held_at}
 use Rattle.kcall_core.specs.Memories.{each_of}
 use Rattle.kernel_spec.proofs.memory.Bringing.{high-present}
-use Rattle.kcall_core.proofs.memory.Changes.{there-below, there-some, stands, image-seen}
+use Rattle.kcall_core.proofs.memory.Changes.{image-seen}
 use Rattle.kcall_core.proofs.memory.Written.{whole-of, size-seen}
 use Rattle.kcall_core.proofs.memories.Memories.is_absent.Goals as goal
 
-pub index-requires : goal.index-requires
-index-requires c = there-below _ _ c.requires.there
-
-pub unreachable-requires : goal.unreachable-requires
-unreachable-requires c = there-some _ _ c.index.result.now c.requires.there c.index.ensures c.in_default.is
-
 pub returns-then-address : goal.returns-then-address
 returns-then-address c =
-    let s = stands c.index.result.now c.in-Some.memory c.requires.sound c.requires.there c.index.ensures c.in-Some.is in
+    let s = c.memory-memory.ensures in
     sym (high-present (held_at (each_of c.args.self.now) c.args.slot).image (c.args.address / 4096) (size-seen s) c.if-address.true)
 
 pub absent-requires : goal.absent-requires
-absent-requires c = whole-of (stands c.index.result.now c.in-Some.memory c.requires.sound c.requires.there c.index.ensures c.in-Some.is)
+absent-requires c = whole-of c.memory-memory.ensures
 
 pub returns : goal.returns
 returns c =
-    let s = stands c.index.result.now c.in-Some.memory c.requires.sound c.requires.there c.index.ensures c.in-Some.is in
-    c.absent.ensures ∙ ap (is_absent (image_of c.args.self.now.ram c.in-Some.memory.space)) c.new.ensures ∙ ap (λ (i : Image). is_absent i (c.args.address / 4096)) (sym (image-seen s))
+    let s = c.memory-memory.ensures in
+    c.absent.ensures ∙ ap (is_absent (image_of c.args.self.now.ram c.memory-memory.result.now.space)) c.new.ensures ∙ ap (λ (i : Image). is_absent i (c.args.address / 4096)) (sym (image-seen s))

@@ -3,43 +3,37 @@ use Rattle.std.specs.FinMap.{get}
 use Rattle.addr_space.specs.Space.{image_of}
 use Rattle.hart_core.proofs.Ends.{low-pages}
 use Rattle.kcall_core.specs.Holdings.{byte_of}
-use Rattle.kcall_core.proofs.memory.Changes.{there-below, there-some, stands, image-seen}
+use Rattle.kcall_core.proofs.memory.Changes.{image-seen}
 use Rattle.kcall_core.proofs.memory.Peeks.{byte-none, byte-some, no-page, some-page}
 use Rattle.kcall_core.proofs.memories.Memories.peek.Goals as goal
 
-pub index-requires : goal.index-requires
-index-requires c = there-below _ _ c.requires.there
-
-pub unreachable-requires : goal.unreachable-requires
-unreachable-requires c = there-some _ _ c.index.result.now c.requires.there c.index.ensures c.in_default.is
-
 pub returns-then-address : goal.returns-then-address
 returns-then-address c =
-    let s = stands c.index.result.now c.in-Some.memory c.requires.sound c.requires.there c.index.ensures c.in-Some.is in
-    let tree = (c.requires.sound.memories c.args.slot c.in-Some.memory s.is).space.tree in
-    sym (ap (λ i. byte_of i c.args.address) (image-seen s) ∙ byte-none (image_of c.args.self.now.ram c.in-Some.memory.space) c.args.address (low-pages c.args.self.now.ram c.in-Some.memory.space.root tree (c.args.address / 4096) c.if-address.true))
+    let s = c.memory-memory.ensures in
+    let tree = (c.requires.sound.memories c.args.slot c.memory-memory.result.now s.is).space.tree in
+    sym (ap (λ i. byte_of i c.args.address) (image-seen s) ∙ byte-none (image_of c.args.self.now.ram c.memory-memory.result.now.space) c.args.address (low-pages c.args.self.now.ram c.memory-memory.result.now.space.root tree (c.args.address / 4096) c.if-address.true))
 
 pub perm-requires : goal.perm-requires
 perm-requires c =
-    let s = stands c.index.result.now c.in-Some.memory c.requires.sound c.requires.there c.index.ensures c.in-Some.is in
-    (c.requires.sound.memories c.args.slot c.in-Some.memory s.is).space
+    let s = c.memory-memory.ensures in
+    (c.requires.sound.memories c.args.slot c.memory-memory.result.now s.is).space
 
-pub returns-in_default-perm : goal.returns-in_default-perm
-returns-in_default-perm c =
-    let s = stands c.index.result.now c.in-Some.memory c.requires.sound c.requires.there c.index.ensures c.in-Some.is in
-    let pages = (image_of c.args.self.now.ram c.in-Some.memory.space).pages in
-    let none : get pages (c.args.address / 4096) ≡ None = ap (get pages) (sym c.new-vpn.ensures) ∙ no-page (get pages c.new-vpn.result) (sym c.perm.ensures ∙ c.in_default-perm.is) in
-    sym (ap (λ i. byte_of i c.args.address) (image-seen s) ∙ byte-none (image_of c.args.self.now.ram c.in-Some.memory.space) c.args.address none)
+pub returns-in_default : goal.returns-in_default
+returns-in_default c =
+    let s = c.memory-memory.ensures in
+    let pages = (image_of c.args.self.now.ram c.memory-memory.result.now.space).pages in
+    let none : get pages (c.args.address / 4096) ≡ None = ap (get pages) (sym c.new-vpn.ensures) ∙ no-page (get pages c.new-vpn.result) (sym c.perm.ensures ∙ c.in_default.is) in
+    sym (ap (λ i. byte_of i c.args.address) (image-seen s) ∙ byte-none (image_of c.args.self.now.ram c.memory-memory.result.now.space) c.args.address none)
 
 pub read_page-requires-clause-whole : goal.read_page-requires-clause-whole
 read_page-requires-clause-whole c =
-    let s = stands c.index.result.now c.in-Some.memory c.requires.sound c.requires.there c.index.ensures c.in-Some.is in
-    (c.requires.sound.memories c.args.slot c.in-Some.memory s.is).space
+    let s = c.memory-memory.ensures in
+    (c.requires.sound.memories c.args.slot c.memory-memory.result.now s.is).space
 
 pub returns : goal.returns
 returns c =
-    let s = stands c.index.result.now c.in-Some.memory c.requires.sound c.requires.there c.index.ensures c.in-Some.is in
-    let pages = (image_of c.args.self.now.ram c.in-Some.memory.space).pages in
-    let found = some-page (get pages c.new-vpn.result) c.in-Some-perm._perm (sym c.perm.ensures ∙ c.in-Some-perm.is) in
+    let s = c.memory-memory.ensures in
+    let pages = (image_of c.args.self.now.ram c.memory-memory.result.now.space).pages in
+    let found = some-page (get pages c.new-vpn.result) c.in-Some._perm (sym c.perm.ensures ∙ c.in-Some.is) in
     let there : get pages (c.args.address / 4096) ≡ Some found.0 = ap (get pages) (sym c.new-vpn.ensures) ∙ found.1 in
-    sym (ap (λ i. byte_of i c.args.address) (image-seen s) ∙ byte-some (image_of c.args.self.now.ram c.in-Some.memory.space) c.args.address found.0 c.read_page.new.out there (c.read_page.ensures found.0 found.1))
+    sym (ap (λ i. byte_of i c.args.address) (image-seen s) ∙ byte-some (image_of c.args.self.now.ram c.memory-memory.result.now.space) c.args.address found.0 c.read_page.new.out there (c.read_page.ensures found.0 found.1))

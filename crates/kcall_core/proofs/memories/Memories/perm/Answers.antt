@@ -1,20 +1,14 @@
 use Rattle.std.proofs.Common.{sym, ap, ◌∙◌}
 use Rattle.kcall_core.specs.Holdings.{rights_of}
-use Rattle.kcall_core.proofs.memory.Changes.{there-below, there-some, stands, image-seen}
+use Rattle.kcall_core.proofs.memory.Changes.{image-seen}
 use Rattle.kcall_core.proofs.memories.Memories.perm.Goals as goal
-
-pub index-requires : goal.index-requires
-index-requires c = there-below _ _ c.requires.there
-
-pub unreachable-requires : goal.unreachable-requires
-unreachable-requires c = there-some _ _ c.index.result.now c.requires.there c.index.ensures c.in_default.is
 
 pub perm-requires : goal.perm-requires
 perm-requires c =
-    let s = stands c.index.result.now c.in-Some.memory c.requires.sound c.requires.there c.index.ensures c.in-Some.is in
-    (c.requires.sound.memories c.args.slot c.in-Some.memory s.is).space
+    let s = c.memory.ensures in
+    (c.requires.sound.memories c.args.slot c.memory.result.now s.is).space
 
 pub returns : goal.returns
 returns c =
-    let s = stands c.index.result.now c.in-Some.memory c.requires.sound c.requires.there c.index.ensures c.in-Some.is in
+    let s = c.memory.ensures in
     c.perm.ensures ∙ sym (ap (λ i. rights_of i c.args.vpn) (image-seen s))

@@ -1,24 +1,18 @@
 use Rattle.std.proofs.Common.{sym, ap, ◌∙◌}
 use Rattle.kcall_core.specs.Holdings.{Held}
-use Rattle.kcall_core.proofs.memory.Changes.{there-below, there-some, stands, held-seen, trapframe-inside}
+use Rattle.kcall_core.proofs.memory.Changes.{held-seen, trapframe-inside}
 use Rattle.kcall_core.proofs.memory.Registers.{aligned-saved}
 use Rattle.kcall_core.proofs.memories.Memories.registers.Goals as goal
 
-pub index-requires : goal.index-requires
-index-requires c = there-below _ _ c.requires.there
-
-pub unreachable-requires : goal.unreachable-requires
-unreachable-requires c = there-some _ _ c.index.result.now c.requires.there c.index.ensures c.in_default.is
-
 pub saved_registers-requires-clause-frame_in : goal.saved_registers-requires-clause-frame_in
-saved_registers-requires-clause-frame_in c = trapframe-inside (stands c.index.result.now c.in-Some.memory c.requires.sound c.requires.there c.index.ensures c.in-Some.is)
+saved_registers-requires-clause-frame_in c = trapframe-inside c.memory.ensures
 
 pub saved_registers-requires-clause-aligned : goal.saved_registers-requires-clause-aligned
 saved_registers-requires-clause-aligned c =
-    let s = stands c.index.result.now c.in-Some.memory c.requires.sound c.requires.there c.index.ensures c.in-Some.is in
-    aligned-saved c.args.self.now.ram c.in-Some.memory.trapframe (c.requires.sound.memories c.args.slot c.in-Some.memory s.is).aligned
+    let s = c.memory.ensures in
+    aligned-saved c.args.self.now.ram c.memory.result.now.trapframe (c.requires.sound.memories c.args.slot c.memory.result.now s.is).aligned
 
 pub returns : goal.returns
 returns c =
-    let s = stands c.index.result.now c.in-Some.memory c.requires.sound c.requires.there c.index.ensures c.in-Some.is in
+    let s = c.memory.ensures in
     c.saved_registers.ensures ∙ ap (λ (h : Held). h.saved) (sym (held-seen s))

@@ -1,7 +1,8 @@
-//! The terminal: processes read the lines that are typed, and write the bytes that it is to show (xv6's
-//! `console.c`; the xv6 book, "Code: Console input" and "Code: Console output").
-ghost use Rattle.std.specs.Prelude.{◌≡◌, ◌-◌, ◌==◌, ◌<◌, ◌≤◌, Some, pos, true, false, length, min, take};
-ghost use Rattle.xk_base.specs.declared.limits.TheConstants.{CONSOLE_BYTES, SEND_BYTES};
+//! The console: processes read the lines that are typed, and write the bytes that the terminal is to show; the
+//! terminal interrupts where a key was typed, or a byte may be sent (xv6's `console.c` and `uart.c`; the xv6 book,
+//! "Code: Console input" and "Code: Console output").
+ghost use Rattle.std.specs.Prelude.{◌≡◌, ℤ, ◌<◌, ◌≤◌, Some, pos, true, false, length, take, Option, None, set};
+ghost use Rattle.xk_base.specs.declared.limits.TheConstants.{CONSOLE_BYTES, NPROC, OPEN_FILES};
 ghost use Rattle.xk_base.specs.Bytes.{image_bytes, write_image};
 ghost use Rattle.hart_core.specs.declared.hart.Hart.{Hart};
 ghost use Rattle.console_core.specs.Lists.{IsWithinLimits};
@@ -9,18 +10,28 @@ ghost use Rattle.kernel_spec.specs.rows.Buffers.{readable, writable_now};
 ghost use Rattle.kernel_spec.specs.rows.Calls.{read, write};
 ghost use Rattle.kcall_core.specs.Holdings.{held_at, HasMemory, with_image};
 ghost use Rattle.kcall_core.specs.Memories.{each_of, free_of, AreSound, RunsIn, SlotChanges};
-ghost use Rattle.kcall_core.specs.Kernel.{IsRunning, live_now};
+ghost use Rattle.kcall_core.specs.Kernel.{IsRunning, live_now, frame_count};
 ghost use Rattle.kcall_core.specs.Whole.{IsWhole};
 ghost use Rattle.kcall_core.specs.Makes.{Makes, view_now, answer_of};
 ghost use Rattle.kernel_spec.specs.rows.Terminal.{next_line, without_line, room_for, with_sent};
 ghost use Rattle.kcall_core.specs.Moves.{ReadsTerminal, WritesTerminal};
+ghost use Rattle.kernel_spec.specs.runs.Run.{Typed, Sent, KeyHappens, SendHappens};
+ghost use Rattle.kernel_spec.specs.waking.Wakes.{WakesWhereDue};
+ghost use Rattle.kcall_core.specs.Machine.{world_of};
+ghost use Rattle.kcall_core.specs.Starts.{HasNoProcess};
+ghost use Rattle.file_table.specs.Named.{named_by, with_named};
+ghost use Rattle.file_table.specs.OpenFiles.{lowest_place, open_count, console_file, with_opened};
+ghost use Rattle.proc_table.specs.Slots.{descriptors_at};
 
 use crate::call_end::CallEnd;
 use crate::kernel::Kernel;
-use crate::kernel::calls::{left_of, next_address, with_moved};
-use console_core::{Console, Pull};
+use crate::kernel::file::put_descriptor;
+use crate::kernel::syscall::{left_of, next_address, with_moved};
+use console_core::{Console, Echo, Pull};
+use file_table::FileId;
 use hart_core::Hart;
 use proc_table::{Call, Channel};
+use xk_base::Fd;
 use xk_base::limits::{CONSOLE_BYTES, SEND_BYTES};
 
 /// How many bytes a step of a read asks the console for at most. The console holds one fewer, so that more room
@@ -53,6 +64,21 @@ fn push_front(console: &mut Console, bytes: &[u8], count: usize) -> usize
 }
 
 impl Kernel {
+    /// A free descriptor of a slot names the terminal from now on, which is opened in these modes.
+    pub(crate) fn open_console_at(&mut self, slot: usize, fd: Fd, read: bool, write: bool) -> FileId
+        requires within { slot < NPROC }
+        requires free { named_by (descriptors_at self.old.table slot) fd ≡ None }
+        requires room { open_count self.old.files < OPEN_FILES }
+        ensures place { lowest_place self.old.files ≡ Some result }
+        ensures table { self.new.table ≡ record self.old.table { descriptors = set self.old.table.descriptors slot (with_named fd (Some result) (descriptors_at self.old.table slot)) } }
+        ensures files { self.new.files ≡ with_opened result (console_file read write) self.old.files }
+        ensures rest { self.new ≡ record self.old { table = self.new.table; files = self.new.files } }
+    {
+        let file = self.files.open_console(read, write);
+        put_descriptor(&mut self.table, slot, fd, file);
+        file
+    }
+
     /// Takes committed bytes for a read, of which `done` bytes were taken before: at most `n`, which go to the
     /// memory of a slot.
     fn take_line(&mut self, slot: usize, address: u64, n: usize, done: usize) -> Pull
@@ -146,5 +172,45 @@ impl Kernel {
             return self.done(hart, n as i64);
         }
         self.block(hart, with_moved(call, moved), Channel::Sending)
+    }
+
+    /// The terminal's key of this byte is typed: the console takes it, and what it shows for it is the answer, at
+    /// most [`ECHO_BYTES`](xk_base::limits::ECHO_BYTES) bytes. Where committed bytes are there afterwards, those
+    /// wake who wait for them.
+    #[cold]
+    #[inline(never)]
+    pub fn key(&mut self, byte: u8) -> Echo
+        ensures whole { (hart : Hart) → IsWhole self.old hart → IsWhole self.new hart }
+        ensures happens { (hart : Hart) → IsWhole self.old hart
+            → KeyHappens (world_of self.old hart None) None byte (Typed result.items) (world_of self.new hart None) }
+        ensures wakes { (hart : Hart) → IsWhole self.old hart
+            → WakesWhereDue (world_of self.old hart None) (Typed result.items) (world_of self.new hart None) }
+        ensures nobody { HasNoProcess self.old → HasNoProcess self.new }
+        ensures frames { frame_count self.new ≡ frame_count self.old }
+    {
+        let echo = self.console.key(byte);
+        let is_due = self.console.committed() > 0;
+        self.wake_if(is_due, Channel::Keys);
+        echo
+    }
+
+    /// The terminal can take a byte: the first that waits to be sent leaves, and is the answer. Then those wake
+    /// who wait for room. It is `None` where no byte waits, and then nobody waits for room.
+    ///
+    /// A machine whose process 1 is gone goes on sending.
+    #[cold]
+    #[inline(never)]
+    pub fn send(&mut self) -> Option<u8>
+        ensures whole { (hart : Hart) → IsWhole self.old hart → IsWhole self.new hart }
+        ensures happens { (hart : Hart) (halted : Option ℤ) → IsWhole self.old hart
+            → SendHappens (world_of self.old hart halted) (Sent result) (world_of self.new hart halted) }
+        ensures wakes { (hart : Hart) (halted : Option ℤ) → IsWhole self.old hart
+            → WakesWhereDue (world_of self.old hart halted) (Sent result) (world_of self.new hart halted) }
+        ensures nobody { HasNoProcess self.old → HasNoProcess self.new }
+        ensures frames { frame_count self.new ≡ frame_count self.old }
+    {
+        let byte = self.console.send();
+        self.wake_if(byte.is_some(), Channel::Sending);
+        byte
     }
 }

@@ -1,7 +1,7 @@
 use Rattle.std.proofs.Common.{Option, None, Some}
 use Rattle.std.specs.Prelude.{IfNone}
 use Rattle.std.proofs.lemmas.Option.{IfSome_then}
-use Rattle.kcall_core.proofs.kernel.closing.pipe_end_of.Goals as goal
+use Rattle.kcall_core.proofs.kernel.pipe.pipe_end_of.Goals as goal
 
 -- what follows where there is no value
 none-then : {T : Type 0} (o : Option T) {P Q : Type 0} → IfNone o P → (P → Q) → IfNone o Q

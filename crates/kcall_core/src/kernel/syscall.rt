@@ -22,8 +22,8 @@ ghost use Rattle.kcall_core.specs.Makes.{Makes, view_now, answer_of};
 ghost use Rattle.kcall_core.specs.declared.call_end.CallEnd.TheVariants.{Done, Wait};
 
 use crate::call_end::CallEnd;
+use crate::kernel::Kernel;
 use crate::kernel::registers::{CALL_NUMBER, FIRST_ARGUMENT, SECOND_ARGUMENT, THIRD_ARGUMENT};
-use crate::kernel::{Kernel, put_answer};
 use hart_core::Hart;
 use proc_table::{Call, Channel};
 use xk_base::Reg;
@@ -82,6 +82,13 @@ fn pass_call(hart: &mut Hart)
 {
     let next = hart.regs().pc().wrapping_add(4);
     hart.regs_mut().set_pc(next);
+}
+
+/// Puts the answer of a call into a0. Tables and translations stay.
+fn put_answer(hart: &mut Hart, value: u64)
+    ensures { hart.new ≡ record hart.old { regs = with_a0 hart.old.regs value } }
+{
+    hart.regs_mut().write(Reg::new(FIRST_ARGUMENT), value);
 }
 
 /// A C int: the low 32 bits of a register, read as signed.
@@ -145,9 +152,7 @@ impl Kernel {
         ensures live { live_now self.new hart.new ≡ begun_live (state_of self.old hart.old) (pid_now self.old) (live_now self.old hart.old) }
         ensures state { state_of self.new hart.new ≡ begun_state (pid_now self.old) (live_now self.old hart.old) (state_of self.old hart.old) }
     {
-        let Some(slot) = self.current else {
-            unreachable!();
-        };
+        let slot = self.running_slot();
         let call = asked_call(hart, self.clock);
         pass_call(hart);
         self.table.set_progress(slot, Some(call));
@@ -164,9 +169,7 @@ impl Kernel {
         ensures hart { hart.new ≡ record hart.old { regs = with_a0 hart.old.regs (word value) } }
         ensures state { state_of self.new hart.new ≡ own_state (pid_now self.old) (with_answer value (live_now self.old hart.old)) (state_of self.old hart.old) }
     {
-        let Some(slot) = self.current else {
-            unreachable!();
-        };
+        let slot = self.running_slot();
         self.table.set_progress(slot, None);
         put_answer(hart, value.cast_unsigned());
         CallEnd::Done(value)
@@ -184,9 +187,7 @@ impl Kernel {
         ensures frames { frame_count self.new ≡ frame_count self.old }
         ensures state { state_of self.new hart.new ≡ own_state (pid_now self.old) (in_call call (live_now self.old hart.old)) (state_of self.old hart.old) }
     {
-        let Some(slot) = self.current else {
-            unreachable!();
-        };
+        let slot = self.running_slot();
         self.table.set_progress(slot, Some(call));
         self.table.sleep(slot, channel);
         self.suspend(hart);
@@ -210,9 +211,7 @@ impl Kernel {
         ensures made { (call : Call) → Makes self.old hart.old (getpid call (view_now self.old hart.old)) self.new hart.new }
         ensures end { result ≡ Done (pos (pid_now self.old)) }
     {
-        let Some(slot) = self.current else {
-            unreachable!();
-        };
+        let slot = self.running_slot();
         let pid = self.table.pid(slot);
         self.done(hart, i64::from(pid.number()))
     }
@@ -272,9 +271,7 @@ impl Kernel {
         requires running { IsRunning self.now }
         ensures { (hart : Hart) → result ≡ (live_now self.now hart).killed }
     {
-        let Some(slot) = self.current else {
-            unreachable!();
-        };
+        let slot = self.running_slot();
         self.table.marked(slot)
     }
 
@@ -285,9 +282,7 @@ impl Kernel {
         requires running { IsRunning self.now }
         ensures { (hart : Hart) → result ≡ option_map (λ (call : Call). call.number) (live_now self.now hart).call }
     {
-        let Some(slot) = self.current else {
-            unreachable!();
-        };
+        let slot = self.running_slot();
         let call = self.table.progress(slot)?;
         Some(call.number)
     }
@@ -302,9 +297,7 @@ impl Kernel {
         ensures made { Makes self.old hart.old (own (view_now self.old hart.old)) self.new hart.new }
         ensures answer { let v = view_now self.old hart.old in (own v).answer ≡ answer_of (call_in v).number result }
     {
-        let Some(slot) = self.current else {
-            unreachable!();
-        };
+        let slot = self.running_slot();
         let Some(call) = self.table.progress(slot) else {
             unreachable!();
         };

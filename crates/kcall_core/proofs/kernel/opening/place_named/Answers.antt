@@ -6,7 +6,7 @@ use Rattle.std.proofs.lemmas.Iterator.Adapters.{position_from-zero}
 use Rattle.std.proofs.lemmas.Iterator.Search.{position_from_yields_List}
 use Rattle.xk_base.specs.declared.program.Program.{Program}
 use Rattle.kcall_core.proofs.files.OpenRows.{place-among}
-use Rattle.kcall_core.proofs.kernel.file_calls.place_named.Goals as goal
+use Rattle.kcall_core.proofs.kernel.opening.place_named.Goals as goal
 
 pub returns : goal.returns
 returns c =

@@ -1,35 +1,111 @@
-//! Calls that open files, and that move bytes between a process and its open files (xv6's `sysfile.c` and
-//! `file.c`; the xv6 book, "I/O and File descriptors").
-ghost use Rattle.std.specs.Prelude.{◌≡◌, ◌≢◌, ◌<◌, ℕ, Some, None, IfSome, IfNone, pos, true, false, take, drop, map, set, slice_get, length, ◌+◌};
-ghost use Rattle.xk_base.specs.declared.limits.TheConstants.{NPROC, OPEN_FILES};
-ghost use Rattle.hart_core.specs.declared.hart.Hart.{Hart};
-ghost use Rattle.file_table.specs.Named.{named_by, with_named};
-ghost use Rattle.file_table.specs.OpenFiles.{lowest_place, open_count, with_opened};
-ghost use Rattle.file_table.specs.declared.open_file.Target.TheVariants as on;
+//! The calls read, write, dup and close (xv6's `sysfile.c`; the xv6 book, "I/O and File descriptors"). Open stands
+//! in `opening.rt`, pipe in `pipe.rt`.
+ghost use Rattle.std.specs.Prelude.{◌≡◌, ℕ, ◌<◌, ◌&&◌, IsSome, IfSome, IfNone, None, is_none, nat_lt, pos, ◌≢◌, Some, true, false, take, drop, map, slice_get, length, ◌+◌};
+ghost use Rattle.xk_base.specs.declared.limits.TheConstants.{NPROC, NOFILE};
+ghost use Rattle.xk_base.specs.Words.{least_below};
+ghost use Rattle.file_table.specs.Named.{named_by};
 ghost use Rattle.proc_table.specs.Slots.{descriptors_at};
-ghost use Rattle.kernel_spec.specs.views.State.{named_file};
-ghost use Rattle.kernel_spec.specs.views.Programs.{program_bytes, place_of};
-ghost use Rattle.kernel_spec.specs.views.View.{Shown_terminal, Shown_file};
-ghost use Rattle.kernel_spec.specs.rows.Buffers.{readable, writable_now};
-ghost use Rattle.kernel_spec.specs.rows.Calls.{read, open_file, write};
-ghost use Rattle.kcall_core.specs.Opens.{asked_in, name_asked, asked, file_asked};
-ghost use Rattle.kcall_core.specs.Holdings.{held_at};
-ghost use Rattle.kcall_core.specs.Memories.{each_of};
+ghost use Rattle.kernel_spec.specs.rows.Calls.{close, dup, read, write};
 ghost use Rattle.kcall_core.specs.Kernel.{IsRunning, live_now};
 ghost use Rattle.kcall_core.specs.Whole.{IsWhole};
 ghost use Rattle.kcall_core.specs.Makes.{Makes, view_now, answer_of};
+ghost use Rattle.file_table.specs.declared.open_file.Target.TheVariants as on;
+ghost use Rattle.kernel_spec.specs.views.State.{named_file};
+ghost use Rattle.kernel_spec.specs.views.Programs.{program_bytes};
+ghost use Rattle.kernel_spec.specs.rows.Buffers.{readable, writable_now};
+ghost use Rattle.kcall_core.specs.Opens.{asked};
 ghost use Rattle.kcall_core.specs.Moves.{OnFile};
 
 use crate::call_end::CallEnd;
 use crate::kernel::Kernel;
-use crate::kernel::calls::c_int;
-use crate::kernel::descriptors::used_descriptor;
-use crate::kernel::exec::without_slashes;
+use crate::kernel::syscall::c_int;
 use file_table::{FileId, OpenFile, Target};
 use hart_core::Hart;
-use proc_table::Call;
-use xk_base::limits::MAXPATH;
+use proc_table::{Call, Table};
+use xk_base::limits::NOFILE;
 use xk_base::{Fd, Program};
+
+/// The descriptor of this number, if it is in use in a slot.
+pub(crate) fn used_descriptor(table: &Table, slot: usize, number: i32) -> Option<Fd>
+    requires { slot < NPROC }
+    ensures used { IfSome result (λ fd. (number ≡ pos fd) × (fd < NOFILE) × IsSome (named_by (descriptors_at table.now slot) fd)) }
+    ensures unused { IfNone result ((d : ℕ) → d < NOFILE → number ≡ pos d → named_by (descriptors_at table.now slot) d ≡ None) }
+{
+    if number < 0 {
+        return None;
+    }
+    if number >= NOFILE as i32 {
+        return None;
+    }
+    let fd = Fd::new(number as u8);
+    let Some(_) = table.descriptors(slot).get(fd) else {
+        return None;
+    };
+    Some(fd)
+}
+
+/// Whether a descriptor of a slot is free, and above another one.
+fn is_free_above(table: &Table, slot: usize, low: Fd, number: usize) -> bool
+    requires slot { slot < NPROC }
+    requires number { number < NOFILE }
+    ensures { result ≡ (nat_lt low number && is_none (named_by (descriptors_at table.now slot) number)) }
+{
+    let is_free = table.descriptors(slot).get(Fd::new(number as u8)).is_none();
+    (number > low.index()) & is_free
+}
+
+/// The lowest free descriptor of a slot above another one.
+pub(crate) fn lowest_above(table: &Table, slot: usize, low: Fd) -> Option<Fd>
+    requires { slot < NPROC }
+    ensures { result ≡ least_below (λ d. nat_lt low d && is_none (named_by (descriptors_at table.now slot) d)) NOFILE }
+{
+    for number in 0..NOFILE {
+        if is_free_above(table, slot, low, number) {
+            return Some(Fd::new(number as u8));
+        }
+    }
+    None
+}
+
+impl Kernel {
+    /// The call dup: the lowest free descriptor names what the descriptor of its first argument names, and
+    /// is the answer; -1 where that isn't in use, or no descriptor is free.
+    pub(crate) fn dup(&mut self, hart: &mut Hart, call: &Call) -> CallEnd
+        requires whole { IsWhole self.old hart.old }
+        requires running { IsRunning self.old }
+        ensures made { Makes self.old hart.old (dup call.now (view_now self.old hart.old)) self.new hart.new }
+        ensures answer { (dup call.now (view_now self.old hart.old)).answer ≡ answer_of call.now.number result }
+    {
+        let slot = self.running_slot();
+        let Some(fd) = used_descriptor(&self.table, slot, c_int(call.a0)) else {
+            return self.done(hart, -1);
+        };
+        let Some(file) = self.table.descriptors(slot).get(fd) else {
+            unreachable!();
+        };
+        let Some(new) = self.table.descriptors(slot).lowest() else {
+            return self.done(hart, -1);
+        };
+        self.share(slot, new, file);
+        self.done(hart, i64::from(new.number()))
+    }
+
+    /// The call close: the descriptor of its first argument is closed, and the answer is 0; -1 where it isn't
+    /// in use.
+    pub(crate) fn close(&mut self, hart: &mut Hart, call: &Call) -> CallEnd
+        requires whole { IsWhole self.old hart.old }
+        requires running { IsRunning self.old }
+        ensures made { Makes self.old hart.old (close call.now (view_now self.old hart.old)) self.new hart.new }
+        ensures answer { (close call.now (view_now self.old hart.old)).answer ≡ answer_of call.now.number result }
+    {
+        let slot = self.running_slot();
+        let Some(fd) = used_descriptor(&self.table, slot, c_int(call.a0)) else {
+            return self.done(hart, -1);
+        };
+        self.close_descriptor(slot, fd);
+        self.done(hart, 0)
+    }
+}
 
 /// How many bytes are asked for; `None` where the number is below 0.
 fn byte_count(asked: i32) -> Option<usize>
@@ -57,120 +133,7 @@ fn file_rest(programs: &[Program], program: usize, offset: u64, n: usize) -> &[u
     &left[..n.min(left.len())]
 }
 
-/// The place of the program of a name.
-fn place_named(programs: &[Program], name: &[u8]) -> Option<usize>
-    ensures { result ≡ place_of name.now (map named_file programs.now) }
-{
-    programs
-        .iter()
-        .position(|program| program.name.as_slice() == name)
-}
-
-/// What a process asks to open.
-#[derive(Clone, Copy)]
-pub(crate) enum Asked {
-    /// The terminal, to be read, to be written, or both.
-    Terminal { read: bool, write: bool },
-    /// The file of the program in this place, to be read from its first byte on.
-    Program { place: usize },
-}
-
-/// The terminal, by the mode of an open: 0 to read, 1 to write, 2 to do both.
-fn terminal_asked(mode: i32) -> Option<Asked>
-    ensures { result ≡ asked_in mode Shown_terminal }
-{
-    if mode < 0 {
-        return None;
-    }
-    if mode <= 2 {
-        return Some(Asked::Terminal {
-            read: mode != 1,
-            write: mode != 0,
-        });
-    }
-    None
-}
-
-/// A program's file, by the mode of an open: 0 alone, for it can only be read.
-fn program_asked(place: usize, mode: i32) -> Option<Asked>
-    ensures { result ≡ asked_in mode (Shown_file place 0) }
-{
-    if mode != 0 {
-        return None;
-    }
-    Some(Asked::Program { place })
-}
-
-/// What a name and a mode ask for; `None` where no program has the name, or it may not be opened so.
-fn name_asked(programs: &[Program], name: &[u8], mode: i32) -> Option<Asked>
-    ensures { result ≡ name_asked (map named_file programs.now) mode name.now }
-{
-    if name == b"console".as_slice() {
-        return terminal_asked(mode);
-    }
-    let place = place_named(programs, name)?;
-    program_asked(place, mode)
-}
-
 impl Kernel {
-    /// What the process in a slot, which runs, asks to open: the address of a path is in the call's first
-    /// argument, the mode in its second. `None` where a byte of the path can't be read, it has more than 128
-    /// bytes with its zero byte, nothing has the name, or it may not be opened in the mode.
-    fn asked(&self, slot: usize, call: &Call) -> Option<Asked>
-        requires whole { (hart : Hart) × IsWhole self.now hart }
-        requires slot { self.now.current ≡ Some slot }
-        ensures { result ≡ asked (map named_file self.now.programs.items) (held_at (each_of self.now.memories) slot).image call.now }
-    {
-        let mut text = [0; MAXPATH];
-        let Ok(len) = self.memories.fetch_text(slot, call.a0, &mut text) else {
-            return None;
-        };
-        name_asked(
-            &self.programs,
-            without_slashes(&text[..len]),
-            c_int(call.a1),
-        )
-    }
-
-    /// A free descriptor of a slot names from now on what is asked for, which is opened.
-    fn open_at(&mut self, slot: usize, fd: Fd, asked: &Asked) -> FileId
-        requires within { slot < NPROC }
-        requires free { named_by (descriptors_at self.old.table slot) fd ≡ None }
-        requires room { open_count self.old.files < OPEN_FILES }
-        ensures place { lowest_place self.old.files ≡ Some result }
-        ensures table { self.new.table ≡ record self.old.table { descriptors = set self.old.table.descriptors slot (with_named fd (Some result) (descriptors_at self.old.table slot)) } }
-        ensures files { self.new.files ≡ with_opened result (file_asked asked.now) self.old.files }
-        ensures rest { self.new ≡ record self.old { table = self.new.table; files = self.new.files } }
-    {
-        match *asked {
-            Asked::Terminal { read, write } => self.open_console_at(slot, fd, read, write),
-            Asked::Program { place } => self.open_program_at(slot, fd, place),
-        }
-    }
-
-    /// The call open: the lowest free descriptor names what the path at the address in the first argument says,
-    /// the terminal or a program's file from its first byte on, and is the answer. The mode is in the second
-    /// argument. Where there is no such name, it may not be opened in the mode, or no descriptor is free, the
-    /// answer is -1, and nothing else changes.
-    pub(crate) fn open_file(&mut self, hart: &mut Hart, call: &Call) -> CallEnd
-        requires whole { IsWhole self.old hart.old }
-        requires running { IsRunning self.old }
-        ensures made { Makes self.old hart.old (open_file call.now (view_now self.old hart.old)) self.new hart.new }
-        ensures answer { (open_file call.now (view_now self.old hart.old)).answer ≡ answer_of call.now.number result }
-    {
-        let Some(slot) = self.current else {
-            unreachable!();
-        };
-        let Some(asked) = self.asked(slot, call) else {
-            return self.refuse(hart);
-        };
-        let Some(fd) = self.table.descriptors(slot).lowest() else {
-            return self.refuse(hart);
-        };
-        let _ = self.open_at(slot, fd, &asked);
-        self.done(hart, i64::from(fd.number()))
-    }
-
     /// One step of a write of `n` bytes, all of which are in the buffer, to an open file that may be written.
     fn write_to(
         &mut self,
@@ -210,9 +173,7 @@ impl Kernel {
         ensures made { Makes self.old hart.old (write call.now (view_now self.old hart.old)) self.new hart.new }
         ensures answer { (write call.now (view_now self.old hart.old)).answer ≡ answer_of call.now.number result }
     {
-        let Some(slot) = self.current else {
-            unreachable!();
-        };
+        let slot = self.running_slot();
         let Some(fd) = used_descriptor(&self.table, slot, c_int(call.a0)) else {
             return self.refuse(hart);
         };
@@ -307,9 +268,7 @@ impl Kernel {
         ensures made { Makes self.old hart.old (read call.now (view_now self.old hart.old)) self.new hart.new }
         ensures answer { (read call.now (view_now self.old hart.old)).answer ≡ answer_of call.now.number result }
     {
-        let Some(slot) = self.current else {
-            unreachable!();
-        };
+        let slot = self.running_slot();
         let Some(fd) = used_descriptor(&self.table, slot, c_int(call.a0)) else {
             return self.refuse(hart);
         };

@@ -3,7 +3,7 @@ use Rattle.std.specs.Prelude.{is_none, nat_lt}
 use Rattle.xk_base.specs.Words.{least_below}
 use Rattle.file_table.specs.Named.{named_by}
 use Rattle.proc_table.specs.Slots.{descriptors_at}
-use Rattle.kcall_core.proofs.kernel.descriptors.lowest_above.Given as goal
+use Rattle.kcall_core.proofs.kernel.sysfile.lowest_above.Given as goal
 
 -- no number so far is free and above it
 abbrev pub invariant-loop-number : goal.invariant-loop-number

@@ -3,7 +3,7 @@ use Rattle.std.specs.Prelude.{is_none, nat_lt}
 use Rattle.xk_base.proofs.Least.{least_below-zero, least_below-next, least_below-found}
 use Rattle.file_table.specs.Named.{named_by}
 use Rattle.proc_table.specs.Slots.{descriptors_at}
-use Rattle.kcall_core.proofs.kernel.descriptors.lowest_above.Goals as goal
+use Rattle.kcall_core.proofs.kernel.sysfile.lowest_above.Goals as goal
 
 pub loop-number-init : goal.loop-number-init
 loop-number-init c = least_below-zero (λ d. nat_lt c.args.low d && is_none (named_by (descriptors_at c.args.table.now c.args.slot) d))

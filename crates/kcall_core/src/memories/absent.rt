@@ -1,5 +1,5 @@
 //! Pages of the processes that are absent: below the size, and not there (the xv6 book, "Page tables").
-ghost use Rattle.std.specs.Prelude.{◌≡◌, ℕ, ◌+◌, ◌/◌, ◌<◌, ◌≤◌, true, false, Some};
+ghost use Rattle.std.specs.Prelude.{◌≡◌, ◌+◌, ◌/◌, ◌<◌, ◌≤◌, true, false, Some};
 ghost use Rattle.xk_base.specs.Image.{price};
 ghost use Rattle.xk_base.specs.declared.limits.TheConstants.{SIZE_LIMIT};
 ghost use Rattle.addr_space.specs.Absent.{is_absent, grown_lazily, pages_at, brought};
@@ -19,9 +19,7 @@ impl Memories {
         requires there { HasMemory (each_of self.now) slot }
         ensures { result ≡ writable (held_at (each_of self.now) slot).image address len }
     {
-        let Some(memory) = &self.each[slot] else {
-            unreachable!();
-        };
+        let memory = self.memory(slot);
         user_copy::check_range_lazily(&memory.space, &self.ram, address, len, Access::Store).is_ok()
     }
 
@@ -31,9 +29,7 @@ impl Memories {
         requires there { HasMemory (each_of self.now) slot }
         ensures { result ≡ is_absent (held_at (each_of self.now) slot).image (address / 4096) }
     {
-        let Some(memory) = &self.each[slot] else {
-            unreachable!();
-        };
+        let memory = self.memory(slot);
         if address / 4096 >= VPN_END as u64 {
             return false;
         }
@@ -54,10 +50,7 @@ impl Memories {
         ensures fits { result ≡ true → let image = (held_at (each_of self.old) slot).image in price (brought (pages_at address len) image) + spare ≤ price image + free_of self.old }
         ensures refused { result ≡ false → let image = (held_at (each_of self.old) slot).image in (price image + free_of self.old < price (brought (pages_at address len) image) + spare) × (self.new ≡ self.old) }
     {
-        let Some(memory) = &self.each[slot] else {
-            unreachable!();
-        };
-        let price = memory.space.touch_price(&self.ram, address, len);
+        let price = self.memory(slot).space.touch_price(&self.ram, address, len);
         if u64::from(self.pool.free()) < u64::from(price) + u64::from(spare) {
             return false;
         }
