@@ -22,7 +22,7 @@ use Rattle.kernel_spec.specs.steps.Step.{after_instruction, own}
 use Rattle.kernel_spec.specs.rows.Stores.{nothing_stored, stored_by, stored_by_instruction}
 use Rattle.kernel_spec.specs.rows.Touches.{before_instruction, instruction_now, page_used, touch}
 use Rattle.kernel_spec.specs.views.View.{View}
-use Rattle.kernel_spec.proofs.memory.OnAbsent.{before_fault, before_same, before_touched, before_untouched, brought-one, page_not_on_absent, same_word, is_on_absent}
+use Rattle.kernel_spec.proofs.memory.OnAbsent.{before_same, before_touched, before_untouched, brought-one, page_not_on_absent, same_word, is_on_absent}
 use Rattle.kernel_spec.proofs.rows.Settled.{absent-not-there}
 use Rattle.kernel_spec.proofs.worked.WorkedViews.{call, in_call}
 
@@ -180,7 +180,7 @@ module _ (image : Image) where
 
     lw_untouched : before_instruction (between 9) ≡ between 9
     unfolding between in_call
-    lw_untouched = before_fault (between 9) LoadMisaligned lw_faults refl
+    lw_untouched = rw lw_faults refl
 
     lw_gone : own (between 9) ≡ gone (Faulted LoadMisaligned) (between 9)
     lw_gone = faulting LoadMisaligned lw_untouched lw_faults
@@ -193,7 +193,7 @@ module _ (image : Image) where
 
     fetch_untouched : before_instruction (between 9) ≡ between 9
     unfolding between in_call
-    fetch_untouched = before_fault (between 9) FetchPageFault fetch_faults refl
+    fetch_untouched = rw fetch_faults refl
 
     fetch_gone : own (between 9) ≡ gone (Faulted FetchPageFault) (between 9)
     fetch_gone = faulting FetchPageFault fetch_untouched fetch_faults
