@@ -1,8 +1,8 @@
 #!/bin/bash
 # Makes nektavoly-VERSION.tar.gz of the last commit: release.sh [FOLDER], into FOLDER or where it is called.
 #
-# It holds the programs, as `./xv` proved and built them, the programs for the machine with their sources, and the manual
-# and the course as HTML and as text. The same commit gives the same bytes. It needs pandoc,
+# It holds the programs, as `./xv` proved and built them, the page, the programs for the machine with their sources, and the
+# manual and the course as HTML and as text. The same commit gives the same bytes. It needs pandoc,
 # Debian's package of that name.
 set -euo pipefail
 export LC_ALL=C TZ=UTC
@@ -26,7 +26,7 @@ export RELEASE=$room/$name
 mkdir "$RELEASE"
 
 # What the commit holds of it. Answers of the course are a teacher's, and stay in the repository.
-git archive HEAD xv README.md LICENSE VERSION CHANGELOG.md docs programs checks/sessions | tar -x -C "$RELEASE"
+git archive HEAD xv README.md LICENSE VERSION CHANGELOG.md docs programs page/nektavoly.html checks/sessions checks/why | tar -x -C "$RELEASE"
 rm -rf "$RELEASE"/docs/COURSE-ANSWERS.md "$RELEASE"/docs/html
 
 mkdir "$RELEASE/bin"

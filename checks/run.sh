@@ -1,8 +1,8 @@
 #!/bin/sh
-# The checks beside the proofs: checks/run.sh plays the sessions, the stored runs and the reports by the programs that are
-# built, looks at the links of the pages, and tells whether page/nektavoly.html is of these sources, in some seconds. The gate
-# does the same behind `rt ci`. `checks/run.sh --others` tells which other checks there are, how each is called, and how long
-# it takes.
+# The checks beside the proofs: checks/run.sh plays the sessions, the stored runs, the reports and the conversations with GDB
+# by the programs that are built, looks at the links of the pages, and tells whether page/nektavoly.html is of these sources, in
+# some seconds. The gate does the same behind `rt ci`. `checks/run.sh --others` tells which other checks there are, how each is
+# called, and how long it takes.
 set -u
 cd "$(dirname "$0")/.." || exit 2
 
@@ -20,7 +20,7 @@ tell_others() {
     tell outside.sh 'outside.sh' "others' programs do what they do under QEMU: minutes, with \`torture\` an hour; needs packages, told by the script"
     tell back-to/run.sh 'back-to/run.sh [N]' 'the stored runs, played back to 20 places each: slow; needs rt'
     tell html-links.py 'html-links.py FOLDER' 'the links of a release that was untarred'
-    tell gdb/run.sh 'gdb/run.sh' 'a debugger sees a run: a minute; needs gdb-multiarch'
+    tell gdb.sh 'gdb.sh' 'gdb-multiarch finds a planted bug, forth and back: a minute; needs gdb-multiarch and the C compiler'
     tell ../page/check.sh '../page/check.sh' 'the page runs what the program runs, by Node: some minutes; needs nodejs'
     tell ../page/look.sh '../page/look.sh FOLDER' 'the page as a student sees it, with pictures: some minutes; needs nodejs, chromium'
     echo 'After a failed `rt check`: checks/why.sh CRATE tells what is open, in the order in which to read it.'
@@ -39,7 +39,7 @@ case "$*" in
 esac
 
 failed=
-for check in checks/sessions/run.sh checks/stored-runs/run.sh checks/why/run.sh 'python3 -B checks/links.py' page/is_current.sh; do
+for check in checks/sessions/run.sh checks/stored-runs/run.sh checks/why/run.sh checks/gdb/run.sh 'python3 -B checks/links.py' page/is_current.sh; do
     $check || failed="$failed $check;"
 done
 [ -z "$failed" ] || {
