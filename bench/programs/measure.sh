@@ -26,7 +26,7 @@ build() {
 }
 
 ours() { "$xv" --rounds 100000000 --quantum 1000 "$work/$1/init"; }
-plain() { "$work/interpreter" "$work/$1/init"; }
+plain() { "$work/plain-interpreter" "$work/$1/init"; }
 jit() { qemu-riscv64 "$work/$1/linux"; }
 
 # The seconds of the processor that a command takes, its output thrown away.
@@ -82,7 +82,7 @@ if [ "${1-}" = --count ]; then
     does=count
     shift
 fi
-rustc --edition 2021 -O -o "$work/interpreter" "$here/../pages/plain.rs"
+rustc --edition 2021 -O -o "$work/plain-interpreter" "$here/../pages/plain.rs"
 has_jit=$(command -v qemu-riscv64 || true)
 [ $# -gt 0 ] || set -- "$here"/*.c
 if [ $does = measure ]; then
