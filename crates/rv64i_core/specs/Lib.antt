@@ -3,8 +3,5 @@ pub mod Table
 pub mod Memory
 pub mod Registers
 pub mod Step
-pub mod Actions
-pub mod Acts
-pub mod DecodeCache
-pub mod Ways
 pub mod UserImage
+pub mod fast

@@ -3,19 +3,18 @@
 //! The base set alone, as the RISC-V Unprivileged ISA has it (chapters "RV32I Base Integer Instruction Set"
 //! and "RV64I Base Integer Instruction Set"). [`decode`] and [`encode`] go between words and [`Instr`],
 //! [`execute`] makes one instruction over a [`UserMemory`], and [`FlatMemory`] is the plainest of those.
-//! [`execute_cached`] does the same and keeps what words do in a [`DecodeCache`]: an operation of a flat list
-//! with its registers and its immediate (`Actions`), and what is done for it (`Acts`). [`execute_kept`] does what the
-//! cache keeps, without a fetch, where the caller knows that it is the word at the pc.
+//! The folder `fast` is there to save time alone, and what it promises is what [`execute`] promises:
+//! [`execute_cached`] keeps what words do in a [`DecodeCache`], and [`execute_kept`] does what the cache keeps, without
+//! a fetch, if the caller knows that it is the word at the pc.
 //! What an instruction means is written in `specs/`: the fields of a word in `Layout`, the table of
 //! instructions in `Table`, memory in `Memory`, registers in `Registers`, and the function `instr` in `Step`.
 #![tactic(auto)]
 
 mod access_width;
-mod action;
-mod decode_cache;
 mod decoding;
 mod encoding;
 mod execution;
+mod fast;
 mod flat_memory;
 mod instruction;
 mod layout;
@@ -25,10 +24,11 @@ mod user_memory;
 mod values;
 
 pub use access_width::Width;
-pub use decode_cache::DecodeCache;
 pub use decoding::decode;
 pub use encoding::encode;
-pub use execution::{Stop, Way, execute, execute_cached, execute_kept};
+pub use execution::{Stop, execute};
+pub use fast::decode_cache::DecodeCache;
+pub use fast::performing::{Way, execute_cached, execute_kept};
 pub use flat_memory::FlatMemory;
 pub use instruction::{BranchOp, ImmOp, Instr, LoadOp, RegOp, ShiftOp, StoreOp, WordOp};
 pub use operands::{Imm12, Imm20, Shift5, Shift6};

@@ -1,0 +1,4 @@
+pub mod Actions
+pub mod Acts
+pub mod DecodeCache
+pub mod Ways
