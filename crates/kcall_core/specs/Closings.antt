@@ -1,10 +1,8 @@
 -- A process that runs closes descriptors: what is left of the kernel, and who wakes.
-use Rattle.std.specs.Prelude.{◌≡◌, ℕ, ◌+◌, ◌&&◌, Bool, false, if◌then◌else◌, not, Option, None, Some, nat_eq, nat_lt, option_map}
-use Rattle.std.specs.FinMap.{FinMap, get}
-use Rattle.std.specs.Ordering.{nat_cmp}
+use Rattle.std.specs.Prelude.{◌≡◌, ℕ, ◌+◌, ◌&&◌, Bool, if◌then◌else◌, Option, None, Some, nat_lt, option_map}
+use Rattle.std.specs.FinMap.{get}
 use Rattle.xk_base.specs.declared.limits.TheConstants.{NOFILE}
 use Rattle.hart_core.specs.declared.hart.Hart.{Hart}
-use Rattle.pipe_core.specs.Pipe.{Pipe}
 use Rattle.file_table.specs.OpenFiles as files
 use Rattle.file_table.specs.OpenFiles.{open_file_at}
 use Rattle.file_table.specs.declared.open_file.End.{End}

@@ -1,9 +1,9 @@
 -- The state that the kernel and its hart stand for, and when the two are sound.
-use Rattle.std.specs.Prelude.{◌≡◌, ℕ, suc, ◌+◌, ◌-◌, ◌<◌, nat_le, nat_lt, ℤ, pos, negsuc, if◌then◌else◌, List, map, length, Option, Some, None, IsSome, get_or}
+use Rattle.std.specs.Prelude.{◌≡◌, ℕ, ◌+◌, ◌<◌, ℤ, if◌then◌else◌, List, map, length, Option, Some, None, IsSome, get_or}
 use Rattle.std.specs.Ordering.{nat_cmp}
 use Rattle.std.specs.FinMap.{FinMap}
 use Rattle.xk_base.specs.Gathered.{gathered}
-use Rattle.xk_base.specs.declared.limits.TheConstants.{NPROC, NOFILE, OPEN_FILES, SIZE_LIMIT}
+use Rattle.xk_base.specs.declared.limits.TheConstants.{NPROC, NOFILE, OPEN_FILES}
 use Rattle.xk_base.specs.Image.{Image, price}
 use Rattle.rv64i_core.specs.Registers.{Registers}
 use Rattle.hart_core.specs.Translations.{nothing_kept}
@@ -13,7 +13,6 @@ use Rattle.proc_table.specs.Processes.{status_of, is_marked, call_of, newborn}
 use Rattle.proc_table.specs.Slots.{place_at, descriptors_at, IsTable}
 use Rattle.proc_table.specs.declared.process.Process.{Process}
 use Rattle.kernel_spec.specs.views.Words.{is_this, or_zero}
-use Rattle.kernel_spec.specs.rows.Buffers.{grown, shrunk}
 use Rattle.kernel_spec.specs.views.Processes as meaning
 use Rattle.kernel_spec.specs.views.Processes.{Live, Alive, Zombie}
 use Rattle.kernel_spec.specs.views.State.{State, named_file}

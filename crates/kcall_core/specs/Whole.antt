@@ -1,5 +1,5 @@
 -- What is true of a kernel and its hart from the making of the kernel on, before and after each step, turn and tick.
-use Rattle.std.specs.Prelude.{◌≡◌, ℕ, ◌<◌, Bool, true, false, List, Option, Some, None, length, nat_eq}
+use Rattle.std.specs.Prelude.{◌≡◌, ℕ, ◌<◌, true, false, List, Option, Some, None, length}
 use Rattle.xk_base.specs.declared.limits.TheConstants.{NPROC, NOFILE}
 use Rattle.xk_base.specs.Words.{count_below}
 use Rattle.hart_core.specs.declared.hart.Hart.{Hart}
@@ -10,7 +10,6 @@ use Rattle.file_table.specs.declared.open_file.Entry.{Entry}
 use Rattle.proc_table.specs.Processes.{channel_of}
 use Rattle.proc_table.specs.Slots.{Slots, Holds, place_at, place_is_live, descriptors_at}
 use Rattle.proc_table.specs.declared.channel.Channel.{Channel}
-use Rattle.proc_table.specs.declared.channel.Channel.TheVariants as on
 use Rattle.proc_table.specs.declared.process.Process.{Process}
 use Rattle.kernel_spec.specs.views.Words.{or_zero}
 use Rattle.kernel_spec.specs.views.Words.{is_this}
@@ -18,7 +17,7 @@ use Rattle.kernel_spec.specs.views.Processes.{Live}
 use Rattle.kernel_spec.specs.views.State.{live}
 use Rattle.kernel_spec.specs.views.WellFormed.{WellFormed, sum_below}
 use Rattle.kernel_spec.specs.waking.Wakes.{NoReadySleeper}
-use Rattle.kernel_spec.specs.waking.Conditions.{Condition, Child_of, Bytes, Room, Time, Keys, Sending, waits_for}
+use Rattle.kernel_spec.specs.waking.Conditions.{waits_for}
 use Rattle.kcall_core.specs.Kernel.{frame_count, state_of, IsSound}
 use Rattle.kcall_core.specs.Machine.{world_of}
 use Rattle.kcall_core.specs.declared.kernel.Kernel.{Kernel}

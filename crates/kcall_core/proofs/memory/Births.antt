@@ -1,11 +1,11 @@
 -- A vacant slot gets a memory made of free frames; a call that is refused.
-use Rattle.std.proofs.Common.{◌≡◌, ℕ, zero, suc, ◌+◌, ◌%◌, ◌<◌, ◌≤◌, Bool, true, false, cond, List, [], ◌∷◌, ◌++◌, length, set, get_or, map, replicate, Option, Some, None, Result, Ok, Err, IfOk, IfErr, IsSome, inl, inr, refl, sym, ap, ◌∙◌, subst, arith}
+use Rattle.std.proofs.Common.{◌≡◌, ℕ, zero, suc, ◌+◌, ◌%◌, ◌<◌, Bool, true, false, cond, List, [], ◌∷◌, ◌++◌, length, set, get_or, map, replicate, Option, Some, None, Result, Ok, Err, IfOk, IfErr, IsSome, inl, inr, refl, sym, ap, ◌∙◌, subst, arith}
 use Rattle.std.proofs.lemmas.Bool.{cases_lt}
 use Rattle.std.proofs.lemmas.List.{length-replicate}
 use Rattle.std.specs.FinMap.{empty}
 use Rattle.xk_base.specs.Frames.{copies}
 use Rattle.xk_base.specs.Gathered.{gathered, insert_some}
-use Rattle.xk_base.specs.declared.limits.TheConstants.{NPROC, SIZE_LIMIT}
+use Rattle.xk_base.specs.declared.limits.TheConstants.{NPROC}
 use Rattle.xk_base.specs.Image.{Image}
 use Rattle.xk_base.specs.declared.errors.NoFrames.{NoFrames}
 use Rattle.xk_base.proofs.Frames.{at-same, copies-nil, copies-cons, copies-one, length-all}

@@ -1,11 +1,11 @@
 -- The one law of the memories: a change that moves frames only between the free ones and one owner changes that owner alone.
-use Rattle.std.proofs.Common.{◌≡◌, ◌≢◌, ℕ, zero, suc, ◌+◌, ◌%◌, ◌<◌, ◌≤◌, List, [], ◌∷◌, length, set, get_or, map, Bool, true, false, Option, Some, None, IsSome, inl, inr, refl, sym, ap, ◌∙◌, subst, arith}
+use Rattle.std.proofs.Common.{◌≡◌, ◌≢◌, ℕ, zero, suc, ◌+◌, ◌%◌, ◌<◌, List, [], ◌∷◌, length, set, get_or, map, Bool, true, false, Option, Some, None, IsSome, inl, inr, refl, sym, ap, ◌∙◌, subst, arith}
 use Rattle.std.proofs.lemmas.Bool.{cases_eq}
 use Rattle.std.proofs.lemmas.List.{get_or-set_same, get_or-set_other, get_or_read, length-set, length-map}
 use Rattle.std.proofs.Math.ListN.{get_or-map}
 use Rattle.xk_base.specs.Frames.{copies}
 use Rattle.xk_base.specs.Gathered.{gathered}
-use Rattle.xk_base.specs.declared.limits.TheConstants.{FRAMES_MAX, SIZE_LIMIT}
+use Rattle.xk_base.specs.declared.limits.TheConstants.{FRAMES_MAX}
 use Rattle.xk_base.specs.Image.{Image, price}
 use Rattle.xk_base.proofs.Frames.{at-same, copies-nil, copies-cons}
 use Rattle.frame_list.specs.declared.Pool.{Pool}

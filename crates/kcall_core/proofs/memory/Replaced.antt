@@ -2,7 +2,6 @@
 use Rattle.std.proofs.Common.{◌≡◌, ℕ, ◌+◌, ◌%◌, ◌≤◌, List, [], ◌∷◌, set, get_or, Some, None, refl, sym, ap, ◌∙◌, subst, arith}
 use Rattle.xk_base.specs.Frames.{copies}
 use Rattle.xk_base.specs.Image.{Image}
-use Rattle.xk_base.specs.declared.limits.TheConstants.{SIZE_LIMIT}
 use Rattle.xk_base.proofs.Frames.{copies-nil, copies-cons}
 use Rattle.phys_ram.specs.Ram.{frame_at}
 use Rattle.frame_list.specs.declared.Pool.{Pool}

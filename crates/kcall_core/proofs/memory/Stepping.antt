@@ -1,9 +1,7 @@
 -- One instruction of the process in a slot.
-use Rattle.std.proofs.Common.{◌≡◌, ◌≢◌, ℕ, zero, suc, ◌/◌, ◌%◌, ◌<◌, ◌≤◌, Bool, List, length, set, get_or, Option, Some, None, refl, sym, ap, ◌∙◌, subst, arith}
+use Rattle.std.proofs.Common.{◌≡◌, ◌≢◌, ℕ, zero, suc, ◌/◌, ◌%◌, ◌<◌, Bool, List, length, set, get_or, Option, Some, None, refl, sym, ap, ◌∙◌, subst, arith}
 use Rattle.xk_base.specs.declared.access.Cause.{Cause}
 use Rattle.xk_base.specs.declared.access.Rights.{Rights}
-use Rattle.xk_base.specs.Image.{Image}
-use Rattle.xk_base.specs.declared.limits.TheConstants.{SIZE_LIMIT}
 use Rattle.phys_ram.specs.Ram.{frame_at}
 use Rattle.phys_ram.proofs.Words.{others_stay-set}
 use Rattle.frame_list.specs.declared.Pool.{Pool}

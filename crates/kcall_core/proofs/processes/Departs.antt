@@ -1,19 +1,16 @@
 -- What a process that goes leaves in the kernel: the state without it, and who wakes.
-use Rattle.std.specs.Prelude.{◌≡◌, ◌≢◌, ℕ, ◌||◌, Bool, false, nat_eq, ℤ, Option, Some, None, option_map, length}
+use Rattle.std.specs.Prelude.{◌≡◌, ◌≢◌, ℕ, Bool, ℤ, Option, Some, None, option_map, length}
 use Rattle.std.specs.FinMap.{FinMap}
 use Rattle.std.specs.Ordering.{nat_cmp}
 use Rattle.hart_core.specs.declared.hart.Hart.{Hart}
-use Rattle.pipe_core.specs.Pipe.{Pipe}
 use Rattle.file_table.specs.OpenFiles as files
 use Rattle.file_table.specs.declared.open_file.OpenFile.{OpenFile}
 use Rattle.proc_table.specs.Processes.{status_of, channel_of}
 use Rattle.proc_table.specs.Slots.{Slots, Holds, place_at}
 use Rattle.proc_table.specs.declared.channel.Channel.{Channel}
-use Rattle.proc_table.specs.declared.channel.Channel.TheVariants as on
 use Rattle.proc_table.specs.declared.process.Process.{Process}
 pub use Rattle.kcall_core.specs.Closings.{unless_woken}
 pub use Rattle.kernel_spec.specs.waking.SleepsOn.{last_closes, closes_wake}
-use Rattle.kernel_spec.specs.views.Words.{is_this}
 use Rattle.kernel_spec.specs.steps.Updates.{gone_state}
 use Rattle.kernel_spec.specs.laws.RowLaws.{FilesLeft}
 use Rattle.kcall_core.specs.Kernel.{state_of, IsSound, slot_now, pid_now, live_now}

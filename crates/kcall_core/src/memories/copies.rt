@@ -111,29 +111,4 @@ impl Memories {
     {
         user_copy::fetch_text_lazily(&self.memory(slot).space, &self.ram, address, text)
     }
-
-    /// Copies bytes from the memory of a slot, where user code may read them, to the front of a buffer.
-    pub fn fetch_front(&self, slot: usize, address: u64, bytes: &mut [u8], count: usize)
-        requires sound { AreSound self.now }
-        requires there { HasMemory (each_of self.now) slot }
-        requires fits { count ≤ length bytes.old }
-        requires readable { readable (held_at (each_of self.now) slot).image address count ≡ true }
-        ensures bytes { take count bytes.new ≡ image_bytes (held_at (each_of self.now) slot).image address count }
-        ensures length { length bytes.new ≡ length bytes.old }
-    {
-        self.read_tested(slot, address, &mut bytes[..count]);
-    }
-
-    /// Copies the first bytes of a buffer to the memory of a slot, where user code may write them.
-    pub fn put_front(&mut self, slot: usize, address: u64, bytes: &[u8], count: usize)
-        requires sound { AreSound self.old }
-        requires there { HasMemory (each_of self.old) slot }
-        requires fits { count ≤ length bytes.now }
-        requires writable { writable_now (held_at (each_of self.old) slot).image address count ≡ true }
-        ensures written { let held = held_at (each_of self.old) slot in SlotChanges self.old self.new slot (Some (with_image (write_image held.image address (take count bytes.now)) held)) }
-        ensures free { free_of self.new ≡ free_of self.old }
-        ensures runs { (hart : Hart) → RunsIn self.old slot hart → RunsIn self.new slot hart }
-    {
-        self.write_tested(slot, address, &bytes[..count]);
-    }
 }
