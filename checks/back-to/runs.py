@@ -1,4 +1,4 @@
-"""Writes runs into a folder, as the walk reads them: the stored runs, or the stories of processes. See README.md.
+"""Writes runs into a folder, as the walk reads them: the stored runs, or the stories of machine_tests. See README.md.
 
 runs.py FOLDER runs [COUNT]: the first so many stored runs; runs.py FOLDER stories [WORD]: the stories of the groups with
 this word in their names.
@@ -12,7 +12,7 @@ sys.path.insert(0, str(HERE.parent / "stored-runs"))
 
 import programs  # noqa: E402  (its folder is known only now)
 
-STORIES = HERE.parents[1] / "crates/xv_run/src/tests/stories"
+STORIES = HERE.parents[1] / "crates/machine_tests/src/stories"
 NOTES = 64  # of the trace of a stored run
 
 
@@ -41,7 +41,7 @@ def stored(folder, count):
         yield written(folder, f"run {seed}", said["--frames"], NOTES, steps, files)
 
 
-# ---- stories, as crates/xv_run/src/tests/story.rt tells them
+# ---- stories, as crates/machine_tests/src/story.rt tells them
 
 def number(word):
     return int(word, 16 if word.startswith("0x") else 10)

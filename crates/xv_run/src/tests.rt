@@ -1,10 +1,3 @@
-//! Stories of processes on the machine, and the program itself.
-mod draft;
-mod isolation;
-mod machines;
+//! The command line, and the program itself. The stories of processes on the machine stand in `machine_tests`.
 mod program;
-mod scene;
 mod settings;
-mod stories;
-mod story;
-mod telling;

@@ -1,6 +1,6 @@
 //! The memory of a process: what it costs, and how it grows and shrinks.
 
-pub(in crate::tests) const STORIES: &str = r##"
+pub(crate) const STORIES: &str = r##"
 define two segments
     # The text at 0, and `data` in the second segment.
     lui a0, 1; sb a0, 0(a0); lbu a1, 0(a0); jalr x0, 0(a0)

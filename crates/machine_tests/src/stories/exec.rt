@@ -1,6 +1,6 @@
 //! Processes that go on with another program.
 
-pub(in crate::tests) const STORIES: &str = r##"
+pub(crate) const STORIES: &str = r##"
 define name b
     # The name `b` stands at sp - 16, and a0 points to it.
     li t0, 98; sd t0, -16(sp); addi a0, sp, -16

@@ -1,6 +1,6 @@
 //! Processes that kill others, or themselves.
 
-pub(in crate::tests) const STORIES: &str = r##"
+pub(crate) const STORIES: &str = r##"
 story a child kills process 1
 # The parent loops. The child kills 0, -1, 99 and 1, and loops.
 frames 32

@@ -1,6 +1,6 @@
 //! Memory that a process is promised, and that comes when it is touched.
 
-pub(in crate::tests) const STORIES: &str = r##"
+pub(crate) const STORIES: &str = r##"
 define a gigabyte more
     li a7, 22; lui a0, 0x40000; ecall
 

@@ -1,6 +1,6 @@
 //! Processes that wait: for a child that ends, or for the clock.
 
-pub(in crate::tests) const STORIES: &str = r##"
+pub(crate) const STORIES: &str = r##"
 define exit with ten times the pid
     li a7, 11; ecall
     slli t0, a0, 3; slli a0, a0, 1; add a0, a0, t0

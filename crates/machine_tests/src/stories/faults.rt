@@ -1,6 +1,6 @@
 //! Instructions that fault.
 
-pub(in crate::tests) const STORIES: &str = r##"
+pub(crate) const STORIES: &str = r##"
 story a load from the upper half of the addresses faults
 program init
     li a0, 1; slli a0, a0, 38; ld a1, 0(a0)

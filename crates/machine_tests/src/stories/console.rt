@@ -1,6 +1,6 @@
 //! The console: typed keys and their echoes, lines that are read, and bytes that are sent.
 
-pub(in crate::tests) const STORIES: &str = r##"
+pub(crate) const STORIES: &str = r##"
 define name console
     # The name `console` stands at sp - 16, and a0 points to it.
     li t0, 0x736E6F63; sw t0, -16(sp); li t0, 0x656C6F; sw t0, -12(sp); addi a0, sp, -16

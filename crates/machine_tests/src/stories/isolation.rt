@@ -1,7 +1,7 @@
 //! Pairs of machines: what a process meets is the same, whatever another process does beside it.
 
 /// What process 3 does in the second machine of each pair, it does in the first one later.
-pub(in crate::tests) const STORIES: &str = r##"
+pub(crate) const STORIES: &str = r##"
 define three processes
     # Process 1 makes the processes 2 and 3, and loops. The name `b` stands at sp - 16.
     li t0, 98; sd t0, -16(sp)
@@ -105,7 +105,7 @@ events
 "##;
 
 /// Process 2 has read its file, and has added its pid 165 times.
-pub(in crate::tests) const GONE_ON: &str = "process 2 has gone on
+pub(crate) const GONE_ON: &str = "process 2 has gone on
 events
     register 2 s1 330
     bytes 2 0x2000 68, bytes 2 0x2004 6F, bytes 2 0x2530 4A 01, bytes 2 0x3000 none

@@ -1,6 +1,6 @@
 //! The trace: notes of the last events.
 
-pub(in crate::tests) const STORIES: &str = r##"
+pub(crate) const STORIES: &str = r##"
 define exit
     li a7, 2; li a0, 0; ecall
 

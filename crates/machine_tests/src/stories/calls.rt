@@ -1,6 +1,6 @@
 //! What a process is told of its calls, and how a run ends.
 
-pub(in crate::tests) const STORIES: &str = r##"
+pub(crate) const STORIES: &str = r##"
 story three instructions exit
 program init
     li a7, 2; li a0, 0; ecall

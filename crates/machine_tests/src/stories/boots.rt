@@ -1,6 +1,6 @@
 //! Program files that a machine takes, and those that it refuses.
 
-pub(in crate::tests) const STORIES: &str = r##"
+pub(crate) const STORIES: &str = r##"
 define exit
     li a7, 2; li a0, 0; ecall
 

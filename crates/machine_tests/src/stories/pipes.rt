@@ -1,6 +1,6 @@
 //! Pipes, which processes make, share, read and write.
 
-pub(in crate::tests) const STORIES: &str = r##"
+pub(crate) const STORIES: &str = r##"
 define pipe
     # The numbers of its ends stand at sp - 16: 0 reads and 1 writes.
     addi a0, sp, -16; li a7, 4; ecall

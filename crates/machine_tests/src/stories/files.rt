@@ -1,6 +1,6 @@
 //! Program files and descriptors.
 
-pub(in crate::tests) const STORIES: &str = r##"
+pub(crate) const STORIES: &str = r##"
 define name b
     # The name `b` stands at sp - 16.
     li t0, 98; sd t0, -16(sp)

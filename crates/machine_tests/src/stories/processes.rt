@@ -1,6 +1,6 @@
 //! Processes that are copies of one another: their pids, slots, turns, frames and bytes.
 
-pub(in crate::tests) const STORIES: &str = r##"
+pub(crate) const STORIES: &str = r##"
 define fork until refused
     # The children go on at `child`; a0 is -1 when the parent comes behind these lines.
     li a7, 1
