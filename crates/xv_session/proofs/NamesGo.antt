@@ -1,9 +1,11 @@
 -- Names over runs.
+use Rattle.std.specs.Prelude.{ℤ}
 use Rattle.std.proofs.Common.{◌≡◌, ℕ, zero, suc, List, [], ◌∷◌, ◌++◌, replicate, Option, None, Some, refl, sym, ap, ◌∙◌, subst}
-use Rattle.kernel_spec.specs.runs.Run.{World, Event, Outcome, Step_of, Turn, Idle, Halted}
+use Rattle.kernel_spec.specs.runs.Run.{World, Event, Run, Tick, Key, Send, Outcome, Step_of, Turn, Idle, Ticked, Typed, Sent, Halted, TickHappens, KeyHappens, first_sent}
 use Rattle.kernel_spec.specs.steps.Own.{Stepped}
 use Rattle.kernel_spec.specs.waking.Wakes.{Promised, IsPromised}
-use Rattle.xv_session.specs.Names.{NamesGo, names_after, asked_in}
+use Rattle.console_core.specs.Keys.{line}
+use Rattle.xv_session.specs.Names.{NamesGo, names_after, asked_in, asked_for}
 use Rattle.xv_session.specs.declared.names.Named.{Named}
 
 pub names-one : (w t : World) (e : Event) (o : Outcome) (names : List Named) → Promised w e o t → NamesGo w ((e, o) ∷ []) t names (names_after (asked_in w) o names)
@@ -28,6 +30,34 @@ idle-nameless = record { keeps = λ asked names. refl }
 
 pub halted-nameless : IsNameless Halted
 halted-nameless = record { keeps = λ asked names. refl }
+
+pub ticked-nameless : IsNameless Ticked
+ticked-nameless = record { keeps = λ asked names. refl }
+
+pub typed-nameless : (echo : List ℕ) → IsNameless (Typed echo)
+typed-nameless echo = record { keeps = λ asked names. refl }
+
+pub sent-nameless : (byte : Option ℕ) → IsNameless (Sent byte)
+sent-nameless byte = record { keeps = λ asked names. refl }
+
+tick-nameless : (w t : World) (halted : Option ℤ) (o : Outcome) → TickHappens w halted o t → IsNameless o
+tick-nameless w t (Some status) o h = subst IsNameless (sym h.0) halted-nameless
+tick-nameless w t None o h = subst IsNameless (sym h.0) ticked-nameless
+
+key-nameless : (w t : World) (byte : ℕ) (halted : Option ℤ) (o : Outcome) → KeyHappens w halted byte o t → IsNameless o
+key-nameless w t byte (Some status) o h = subst IsNameless (sym h.0) halted-nameless
+key-nameless w t byte None o h = subst IsNameless (sym h.0) (typed-nameless (line w.state.console byte).1)
+
+-- of an event other than Run no name comes, whatever is asked for
+alike : (e : Event) (w : World) (o : Outcome) (names : List Named) → IsNameless o → names_after (asked_for e w) o names ≡ names_after (asked_in w) o names
+alike e w o names quiet = quiet.keeps (asked_for e w) names ∙ sym (quiet.keeps (asked_in w) names)
+
+-- so what may be asked for by an event is enough
+pub asked-enough : (w t : World) (e : Event) (o : Outcome) (names : List Named) → Promised w e o t → names_after (asked_for e w) o names ≡ names_after (asked_in w) o names
+asked-enough w t Run o names promised = refl
+asked-enough w t Tick o names promised = alike Tick w o names (tick-nameless w t w.turns.halted o promised.0)
+asked-enough w t (Key byte) o names promised = alike (Key byte) w o names (key-nameless w t byte w.turns.halted o promised.0)
+asked-enough w t Send o names promised = alike Send w o names (subst IsNameless (sym promised.0.0) (sent-nameless (first_sent w.state.console.to_send)))
 
 -- the same outcome again and again, of which no name comes
 pub names-again : (n : ℕ) (w t : World) (e : Event) (o : Outcome) (names : List Named) → IsNameless o → IsPromised w (replicate n (e, o)) t → NamesGo w (replicate n (e, o)) t names names

@@ -6,7 +6,7 @@ use Rattle.xk_base.specs.declared.limits.TheConstants.{PID_MAX, MAXPATH}
 use Rattle.rv64i_core.specs.Registers.{Registers, reg, add}
 use Rattle.kernel_spec.specs.rows.Buffers.{no_slashes}
 use Rattle.kernel_spec.specs.steps.Own.{Answer, Stepped, Called, Blocked, Exited, Faulted}
-use Rattle.kernel_spec.specs.runs.Run.{World, Event, Outcome, Step_of}
+use Rattle.kernel_spec.specs.runs.Run.{World, Event, Run, Outcome, Step_of}
 use Rattle.kernel_spec.specs.views.Programs.{place_of, init_name}
 use Rattle.kernel_spec.specs.views.State.{State, ProgramFile, live}
 use Rattle.kernel_spec.specs.views.Words.{A0}
@@ -38,6 +38,11 @@ asked_by s (Some p) = asked_with s p (registers_of s p)
 -- the program that the process that runs names by its first argument
 abbrev pub asked_in : World → Option ℕ
 asked_in w = asked_by w.state w.turns.current
+
+-- The program that may be asked for by an event: by a Run that of the process that runs; by any other event none, since no process makes a step
+abbrev pub asked_for : Event → World → Option ℕ
+asked_for Run w = asked_in w
+asked_for _ w = None
 
 -- ---- names
 

@@ -4,13 +4,14 @@ ghost use Rattle.kernel_spec.specs.rows.Buffers.{no_slashes};
 ghost use Rattle.kernel_spec.specs.views.Programs.{place_of};
 ghost use Rattle.kernel_spec.specs.views.State.{named_file};
 ghost use Rattle.xk_base.specs.declared.limits.TheConstants.{MAXPATH};
-ghost use Rattle.xv_session.specs.Names.{text_in, asked_in, child_of, gone_on_with};
+ghost use Rattle.xv_machine.specs.Events.{event_of};
+ghost use Rattle.xv_session.specs.Names.{text_in, asked_in, asked_for, child_of, gone_on_with};
 
 use arrayvec::ArrayVec;
 use std::marker::Model;
 use xk_base::limits::{MAXPATH, NPROC, PID_MAX};
 use xk_base::{Pid, Program, Reg};
-use xv_machine::{Machine, Outcome};
+use xv_machine::{Event, Machine, Outcome};
 
 /// A process, and the program that it runs, by its place among the programs of the machine.
 #[derive(Clone, Copy, Debug, PartialEq, Eq)]
@@ -75,13 +76,23 @@ fn text_at(machine: &Machine, pid: Pid, address: u64) -> ArrayVec<u8, MAXPATH>
 }
 
 /// The place of the program that the process that runs names by its first argument.
-pub(crate) fn asked_now(machine: &Machine) -> Option<usize>
+fn asked_now(machine: &Machine) -> Option<usize>
     ensures { result ≡ asked_in machine.now.world }
 {
     let pid = machine.current()?;
     let regs = machine.registers(pid)?;
     let path = text_at(machine, pid, regs.read(Reg::new(FIRST_ARGUMENT)));
     place_named(machine.programs(), without_slashes(path.as_slice()))
+}
+
+/// The place of the program that may be asked for by an event: by events other than Run none is, so nothing is read then.
+pub(crate) fn asked_for(machine: &Machine, event: Event) -> Option<usize>
+    ensures { result ≡ asked_for (event_of event) machine.now.world }
+{
+    match event {
+        Event::Run => asked_now(machine),
+        Event::Tick | Event::Key(_) | Event::Send => None,
+    }
 }
 
 /// The child that a fork with this answer made.

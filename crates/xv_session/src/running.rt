@@ -5,7 +5,7 @@ ghost use Rattle.xv_machine.specs.Events.{event_of, outcome_of};
 ghost use Rattle.xv_session.specs.Names.{first_names};
 ghost use Rattle.xv_session.specs.Steps.{Advances, IsSound, RunsMade, passed};
 
-use crate::names::{Names, asked_now};
+use crate::names::{Names, asked_for};
 use xv_machine::{Event, Machine, Outcome};
 
 /// A machine, and which program each of its live processes runs.
@@ -52,7 +52,7 @@ impl Running {
         requires sound { IsSound self.old }
         ensures { Advances self.old (event_of event) (outcome_of result) self.new }
     {
-        let asked = asked_now(&self.machine);
+        let asked = asked_for(&self.machine, event);
         let outcome = self.machine.event(event);
         self.names.note(asked, &outcome);
         outcome
