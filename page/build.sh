@@ -1,10 +1,21 @@
 #!/bin/bash
-# build.sh [--unproved]: proves crates/xv_page, makes the WebAssembly module of its static library and the page of it,
+# build.sh [--same-module | --unproved]: proves crates/xv_page, makes the WebAssembly module of its static library and the page of it,
 # page/nektavoly.html. The same sources give the same bytes. It needs `rt` of the Rattle kit, python3, and wasm-opt (Debian's
-# binaryen). With --unproved nothing is proved: for work on the page alone, and its foot says so.
+# binaryen). With --same-module the module is taken out of the page that stands here, if it was built of the crates' code as it is: for
+# changes of the page alone, in a second, by python3 alone. With --unproved nothing is proved: for work on the page alone, and its foot says so.
 set -eu
 cd "$(dirname "$(readlink -f "$0")")"
 root=$(dirname "$PWD") note=
+if [ "${1-}" = --same-module ]; then
+    grep -q "<!-- module $(python3 -B build/sources.py "$root" --module) -->" nektavoly.html || {
+        echo "build.sh: the code of the crates is other than that of the page's module: build it without --same-module" >&2
+        exit 1
+    }
+    work=$(mktemp -d) && trap 'rm -rf "$work"' EXIT
+    python3 -B build/module_of.py nektavoly.html "$work/page.wasm"
+    python3 -B build/build_page.py "$work/page.wasm" "$root" nektavoly.html
+    exit
+fi
 command -v wasm-opt >/dev/null || { echo "build.sh: there is no wasm-opt: apt-get install binaryen" >&2; exit 1; }
 work=$(mktemp -d) && trap 'rm -rf "$work"' EXIT
 if [ "${1-}" = --unproved ]; then

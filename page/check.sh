@@ -10,12 +10,12 @@ work=$(mktemp -d) && trap 'rm -rf "$work"' EXIT
 python3 -B build/module_of.py "$page" "$work/page.wasm"
 cat >"$work/xv_run" <<END
 #!/bin/sh
-XV_MODULE=$work/page.wasm exec node $PWD/build/xv_run.mjs "\$@"
+XV_MODULE=$work/page.wasm exec node $PWD/try/xv_run.mjs "\$@"
 END
 chmod +x "$work/xv_run"
 failed=
 XV_RUN=$work/xv_run ../checks/sessions/run.sh | tail -1 || failed=1
 python3 -B ../checks/stored-runs/run.py "$work/xv_run" | tail -1 || failed=1
-node build/back.mjs "$work/page.wasm" ../programs/bin || failed=1
-node build/bad.mjs "$work/page.wasm" ../programs/bin || failed=1
+node try/back.mjs "$work/page.wasm" ../programs/bin || failed=1
+node try/bad.mjs "$work/page.wasm" ../programs/bin || failed=1
 [ -z "$failed" ]

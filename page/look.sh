@@ -1,6 +1,7 @@
 #!/bin/sh
-# look.sh FOLDER [PAGE.html]: tries the page in Chromium as a student would, and takes pictures into the folder. It needs node and
-# chromium (Debian's nodejs and chromium).
+# look.sh FOLDER [PAGE.html]: tries the page in Chromium as a student would, and takes pictures into the folder; with BROWSER=firefox in
+# Firefox. It needs node and the browser (Debian's nodejs, chromium and firefox-esr).
 cd "$(dirname "$(readlink -f "$0")")" || exit 2
-for it in node chromium; do command -v $it >/dev/null || { echo "look.sh: there is no $it" >&2; exit 2; }; done
-exec node build/look.mjs "${2-nektavoly.html}" "${1:?a folder for the pictures}"
+browser=chromium; [ "${BROWSER-}" != firefox ] || browser=firefox-esr
+for it in node $browser; do command -v $it >/dev/null || { echo "look.sh: there is no $it" >&2; exit 2; }; done
+exec node try/look.mjs "${2-nektavoly.html}" "${1:?a folder for the pictures}"

@@ -120,7 +120,7 @@ parts = {
     "/*STYLE*/": text(os.path.join(here, "style.css")),
     "/*DATA*/": f"globalThis.PAGE_DATA = {packed(data)};",
     "/*SCRIPT*/": joined("main.mjs").replace("</", "<\\/"),
-    "/*BUILT*/": f"{note}Built of the sources with the sum <code>{sum_[:16]}</code>; the module has {len(read(module)):,} bytes.<!-- sources {sum_} -->",
+    "/*BUILT*/": f"{note}Built of the sources with the sum <code>{sum_[:16]}</code>; the module has {len(read(module)):,} bytes.<!-- module {'unproved' if note else sources.sum_of(root, True)} --><!-- sources {sum_} -->",
 }
 for mark, value in parts.items():
     assert page.count(mark) == 1, mark

@@ -1,7 +1,7 @@
 #!/usr/bin/env python3
-"""sources.py REPOSITORY: the sum of all that the page is built of: the code of xv_page and of the crates below it, the scripts
+"""sources.py REPOSITORY [--module]: the sum of all that the page is built of: the code of xv_page and of the crates below it, the scripts
 and modules of page/, the programs and the help. Definitions, contracts and proofs are left out: no byte of the
-page depends on them."""
+page depends on them. With --module it is the sum of what the page's WebAssembly is built of: the crates' code, and how it is translated."""
 import hashlib, os, re, sys
 
 
@@ -21,10 +21,16 @@ def crates_below(root, name):
     return sorted(done)
 
 
-def files_of(root):
+MODULE = [f"page/build/{name}" for name in ("heap.c", "lower.sh", "module.sh", "wasm.sh")]
+
+
+def files_of(root, is_module=False):
     folders = [f"crates/{crate}/src" for crate in crates_below(root, "xv_page")]
-    folders += ["page/build", "page/src", "programs/bin", "programs/examples", "programs/course"]
-    found = ["docs/manual/page.md"]
+    if is_module:
+        found = list(MODULE)
+    else:
+        folders += ["page/build", "page/src", "programs/bin", "programs/examples", "programs/course"]
+        found = ["docs/manual/page.md"]
     for folder in folders:
         for at, below, names in os.walk(f"{root}/{folder}"):
             below.sort()
@@ -41,12 +47,12 @@ def sum_of_file(path):
     return hashlib.sha256(content).hexdigest()
 
 
-def sum_of(root):
+def sum_of(root, is_module=False):
     sums = hashlib.sha256()
-    for path in files_of(root):
+    for path in files_of(root, is_module):
         sums.update(f"{path}\0{sum_of_file(f'{root}/{path}')}\n".encode())
     return sums.hexdigest()
 
 
 if __name__ == "__main__":
-    print(sum_of(sys.argv[1]))
+    print(sum_of(sys.argv[1], "--module" in sys.argv))

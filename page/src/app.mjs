@@ -7,6 +7,7 @@ export const app = {
   worker: null,
   view: null,
   line: new Timeline(), // what came of the events so far, as the worker has it
+  names: new Map(), // the program that each process of the run ran last, by its place among the files
   text: new Uint8Array(0), // the bytes that the console has shown
   files: [], // {name, text} or {name, bytes}
   booted: null, // {files: [{name, bytes, text}], config}, of the machine that runs
@@ -65,7 +66,28 @@ export function fresh(canvas) {
   return { draw, width, height };
 }
 
-export const grouped = (number) => Math.round(number).toLocaleString("en");
+/**
+ * Draws at once, unless the last drawing took long: then only after twice its time, so that the page stays smooth however long the
+ * run is. The last call is always followed by a drawing.
+ */
+export function in_time(draw) {
+  let next = 0, waits = 0;
+  const now = () => {
+    const began = performance.now();
+    waits = 0;
+    draw();
+    next = performance.now() + 2 * (performance.now() - began);
+  };
+  return () => {
+    if (waits) return;
+    const left = next - performance.now();
+    if (left > 4) waits = setTimeout(now, left);
+    else now();
+  };
+}
+
+const in_groups = new Intl.NumberFormat("en");
+export const grouped = (number) => in_groups.format(Math.round(number));
 export const bytes_words = (count) => (count >= 1 << 20 ? `${+(count / (1 << 20)).toFixed(1)} MiB` : count >= 1024 ? `${+(count / 1024).toFixed(1)} KiB` : `${count} B`);
 
 /** Bytes as text, with what can't be shown as \n or \x07. */

@@ -64,7 +64,7 @@ function meant(text) {
 }
 
 export function start() {
-  on("view", () => {
+  on("panels", () => {
     const { view } = app, process = view.processes.find((it) => it.pid === view.pid);
     for (const it of document.querySelectorAll(".who")) it.textContent = process ? `${view.pid} (${program_name(process.program)})` : "";
     if ($("instruction").hidden || !view.registers) return;

@@ -14,7 +14,8 @@ import * as lessons from "./lessons.mjs";
 import { base64 } from "./app.mjs";
 
 const DATA = globalThis.PAGE_DATA;
-let text_room = new Uint8Array(65536), drawn = 0, waits = false;
+const PANELS = ["code", "memory", "pages", "frames", "files"]; // what only a whole view has
+let text_room = new Uint8Array(65536), drawn = 0, waits = false, is_whole = false;
 
 function take_text({ from, bytes }) {
   const length = from + bytes.length;
@@ -27,17 +28,39 @@ function take_text({ from, bytes }) {
   app.text = text_room.subarray(0, length);
 }
 
+/** Draws all anew. */
+function redraw() {
+  if (!app.view) return;
+  tell("view");
+  tell("panels");
+}
+
+function take_names({ from, list }) {
+  if (from === 0) app.names = new Map();
+  for (const { pid, place } of list) app.names.set(pid, place);
+}
+
 function take_view(view) {
   if (view.anew && view.line.from === 0) app.line = new Timeline();
   app.line.take(view.line);
+  take_names(view.names);
   take_text(view.text);
   const faults = app.view && waits ? app.view.faults : undefined;
+  if (!view.is_whole) for (const name of PANELS) view[name] = app.view?.[name];
+  is_whole ||= view.is_whole;
   app.view = view;
   if (!view.faults && faults) view.faults = faults;
   if (waits) return;
   waits = true;
   // At most a drawing a frame, also where the page isn't seen.
-  const draw = () => { if (!waits) return; waits = false; drawn++; tell("view"); };
+  const draw = () => {
+    if (!waits) return;
+    waits = false;
+    drawn++;
+    tell("view");
+    if (is_whole) tell("panels");
+    is_whole = false;
+  };
   if (document.hidden) setTimeout(draw, 100); else requestAnimationFrame(draw);
 }
 
@@ -99,7 +122,7 @@ function theme() {
   const root = document.documentElement;
   let kept = null;
   try { kept = localStorage.getItem("theme"); } catch { /* a file's page may have no storage */ }
-  const set = (name) => { root.dataset.theme = name; if (app.view) tell("view"); };
+  const set = (name) => { root.dataset.theme = name; redraw(); };
   set(kept || (matchMedia("(prefers-color-scheme: dark)").matches ? "dark" : "light"));
   $("theme").addEventListener("click", () => {
     const name = root.dataset.theme === "dark" ? "light" : "dark";
@@ -124,7 +147,7 @@ function begin() {
     if (!matchMedia("(max-width: 820px)").matches) $("screen").focus({ preventScroll: true });
   });
   addEventListener("hashchange", async () => { if (await programs.follow(location.hash)) programs.boot(); });
-  addEventListener("resize", () => { if (app.view) tell("view"); });
+  addEventListener("resize", redraw);
   ask("module", { bytes: base64.of(DATA.wasm) });
   on("view", () => { if (!globalThis.ready) { globalThis.ready = true; globalThis.took = { page: began, boot: app.booted?.took, shown: performance.now() }; } });
   globalThis.page = { app, ask, on, time, programs, drawn: () => drawn };

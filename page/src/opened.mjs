@@ -23,7 +23,7 @@ function draw() {
     if (!lives) continue;
     const own = files.descriptors.filter((it) => it.pid === pid);
     if (!own.length) rows.push(element("tr", {}, element("td", {}, `${pid} ${program_name(program)}`), element("td", { colspan: 2, class: "dim" }, "no descriptor is open")));
-    own.forEach((it, k) => rows.push(element("tr", {}, element("td", {}, k ? "" : element("span", {}, element("span", { style: `display:inline-block;width:9px;height:9px;border-radius:2px;margin-right:6px;background:${color_of(pid)}` }), `${pid} ${program_name(program)}`)), element("td", { class: "number" }, String(it.fd)), element("td", {}, target(it), element("span", { class: "dim" }, ` ${it.read ? "r" : "-"}${it.write ? "w" : "-"}`)))));
+    own.forEach((it, k) => rows.push(element("tr", {}, element("td", {}, k ? "" : element("span", {}, element("span", { class: "swatch", style: `background:${color_of(pid)}` }), `${pid} ${program_name(program)}`)), element("td", { class: "number" }, String(it.fd)), element("td", {}, target(it), element("span", { class: "dim" }, ` ${it.read ? "r" : "-"}${it.write ? "w" : "-"}`)))));
   }
   const pipes = files.pipes.map((pipe) => element("div", { class: "sleeper" }, element("div", {}, element("b", {}, `the pipe in frame ${pipe.frame}`), ` · ${pipe.bytes} of 2048 bytes`),
     element("div", {}, `read end: ${held(pipe, 3, files.descriptors)}`), element("div", {}, `write end: ${held(pipe, 4, files.descriptors)}`),
@@ -35,5 +35,5 @@ function draw() {
 }
 
 export function start() {
-  on("view", () => { if (!$("opened").hidden) draw(); });
+  on("panels", () => { if (!$("opened").hidden) draw(); });
 }

@@ -114,7 +114,7 @@ function tell_point() {
 }
 
 export function start() {
-  on("view", () => {
+  on("panels", () => {
     const { view } = app;
     if ($("pages").hidden || !view.frames) return;
     const now = view.frames, key = `${view.at} ${view.edits}`;

@@ -1,5 +1,5 @@
 // The processes: a tree by parents, with what each does, and beside it the picture of turns.
-import { $, app, ask, bytes_words, color_of, element, fresh, grouped, on, program_name, style_of } from "./app.mjs";
+import { $, app, ask, bytes_words, color_of, element, fresh, grouped, in_time, on, program_name, style_of } from "./app.mjs";
 import { KIND } from "./machine.mjs";
 import { waits_for } from "./words.mjs";
 import { range } from "./time.mjs";
@@ -31,21 +31,42 @@ export function choose(pid) {
   ask("look", { pid, follow: false });
 }
 
-let rows = "";
+/** The row of a process, and what it shows: only what changes is written anew. */
+function new_row(pid) {
+  const name = element("button", { "aria-label": `Look at process ${pid}` }), state = element("span"), words = document.createTextNode(""), cells = [0, 1, 2, 3, 4].map((k) => element("td", { class: k > 2 ? "number" : null }));
+  const place = document.createTextNode("");
+  const swatch = element("span", { class: "swatch" });
+  cells[0].append(swatch, place);
+  cells[1].append(name);
+  cells[2].append(state, words);
+  return { row: element("tr", { onclick: () => choose(pid) }, ...cells), swatch, place, name, state, words, made: cells[3], size: cells[4], told: [] };
+}
+
+function show(held, told) {
+  const [chosen, place, name, kind, words, made, size, color] = told, was = held.told;
+  if (chosen !== was[0]) held.row.className = chosen ? "chosen" : "";
+  if (place !== was[1]) held.place.data = place;
+  if (name !== was[2]) held.name.textContent = name;
+  if (kind !== was[3]) held.state.className = `state ${kind}`;
+  if (words !== was[4]) held.words.data = words;
+  if (made !== was[5]) held.made.textContent = made;
+  if (size !== was[6]) held.size.textContent = size;
+  if (color !== was[7]) held.swatch.style.background = color;
+  held.told = told;
+}
+
+let rows = new Map(), order = "";
 function draw() {
-  const { view } = app, current = view.facts.current, made = tree_of(view.processes);
-  const told = JSON.stringify([view.pid, current, made.map(({ process: it, depth }) => [it.pid, depth, it.program, it.made, it.size, state_of(it, current)])]);
-  if (told === rows) return;
-  rows = told;
-  $("process-rows").replaceChildren(...made.map(({ process: it, depth }) => {
+  const { view } = app, current = view.facts.current, made = tree_of(view.processes), now = made.map(({ process }) => process.pid).join(" ");
+  if (now !== order) {
+    order = now;
+    rows = new Map(made.map(({ process: { pid } }) => [pid, rows.get(pid) || new_row(pid)]));
+    $("process-rows").replaceChildren(...[...rows.values()].map((it) => it.row));
+  }
+  for (const { process: it, depth } of made) {
     const [kind, words] = state_of(it, current);
-    return element("tr", { class: it.pid === view.pid ? "chosen" : "", onclick: () => choose(it.pid) },
-      element("td", {}, element("span", { style: `display:inline-block;width:9px;height:9px;border-radius:2px;margin-right:6px;background:${color_of(it.pid)}` }), `${depth ? "  ".repeat(depth - 1) + "└ " : ""}${it.pid}`),
-      element("td", {}, element("button", { "aria-label": `Look at process ${it.pid}` }, program_name(it.program) || "?")),
-      element("td", {}, element("span", { class: `state ${kind}` }), words),
-      element("td", { class: "number" }, grouped(it.made)),
-      element("td", { class: "number" }, it.lives ? bytes_words(it.size) : ""));
-  }));
+    show(rows.get(it.pid), [it.pid === view.pid, `${depth ? "  ".repeat(depth - 1) + "└ " : ""}${it.pid}`, program_name(it.program) || "?", kind, words, grouped(it.made), it.lives ? bytes_words(it.size) : "", color_of(it.pid)]);
+  }
 }
 
 // ---- the picture of turns
@@ -63,22 +84,51 @@ function lives() {
   return [...lives.by.values()];
 }
 
-/** So many of these lives at most: first those that go on, then the last that ended. */
-function fitting(all, most) {
-  const going = all.filter((it) => it.reaped === Infinity).slice(0, most), room = most - going.length, gone = room > 0 ? all.filter((it) => it.reaped !== Infinity).slice(-room) : [], kept = new Set([...going, ...gone]);
+/** So many of these lives at most: those that are nearest to a place of the run, first those that go on there. */
+function fitting(all, most, at) {
+  if (all.length <= most) return all;
+  const distance = (it) => (it.from > at ? it.from - at : it.reaped < at ? at - it.reaped : 0), kept = new Set([...all].sort((a, b) => distance(a) - distance(b)).slice(0, most));
   return all.filter((it) => kept.has(it));
 }
 
+/** The bars of these lives. Stretches of one row that stand less than half a pixel apart are drawn as one, so a long run is drawn as fast as a short one. */
+function draw_bars(draw, shown, { from, to, x_of, bar, top_of, ink, bad }) {
+  const { line } = app, count = shown.length, tops = shown.map((it) => top_of(it.pid)), colors = shown.map((it) => color_of(it.pid));
+  const rows = new Int32Array(shown.reduce((most, it) => Math.max(most, it.pid), 0) + 1).fill(-1);
+  shown.forEach((it, row) => { rows[it.pid] = row; });
+  const begun = new Float64Array(count).fill(-1), ended = new Float64Array(count).fill(-1), asleep = new Float64Array(count).fill(-1), marks = [];
+  const close = (row) => { draw.fillStyle = colors[row]; draw.fillRect(begun[row], tops[row], Math.max(0.8, ended[row] - begun[row]), bar); };
+  const sleep = (row, x) => { if (x - asleep[row] > 0.5) { draw.fillStyle = "#6d8fce66"; draw.fillRect(asleep[row], tops[row] + bar / 2 - 1, x - asleep[row], 3); } asleep[row] = -1; };
+  const { at, kind: kinds, pid: pids, length } = line;
+  for (let k = Math.max(0, line.find(from)); k < length && at[k] < to; k++) {
+    const kind = kinds[k], row = kind <= KIND.TURN && pids[k] < rows.length ? rows[pids[k]] : -1;
+    if (row < 0) continue;
+    const x = x_of(at[k]), end = x_of(line.end_of(k));
+    if (asleep[row] >= 0) sleep(row, x);
+    if (kind === KIND.TURN) continue;
+    if (begun[row] >= 0 && x > ended[row] + 0.5) { close(row); begun[row] = -1; }
+    if (begun[row] < 0) begun[row] = x;
+    ended[row] = end;
+    if (kind === KIND.WAIT) asleep[row] = end;
+    if (kind === KIND.FAULT || kind === KIND.EXIT) marks.push({ row, x, kind });
+  }
+  for (let row = 0; row < count; row++) {
+    if (begun[row] >= 0) close(row);
+    if (asleep[row] >= 0) sleep(row, x_of(Math.min(to, line.end)));
+  }
+  for (const { row, x, kind } of marks) { draw.fillStyle = kind === KIND.FAULT ? bad : ink; draw.fillRect(x, tops[row] - 1, 2, bar + 2); }
+}
+
 function draw_turns() {
-  const canvas = $("turns"), { draw, width, height } = fresh(canvas), { line, view } = app, { from, to } = range();
+  const canvas = $("turns"), { draw, width, height } = fresh(canvas), { view } = app, { from, to } = range();
   if (!view || width < 40) return;
-  const all = lives().filter((it) => it.from <= to && Math.min(it.to, it.reaped === Infinity ? it.to : it.reaped) >= from), shown = fitting(all, Math.max(2, Math.floor((height - 14) / 7)));
+  const all = lives().filter((it) => it.from <= to && Math.min(it.to, it.reaped === Infinity ? it.to : it.reaped) >= from), shown = fitting(all, Math.max(2, Math.floor((height - 14) / 7)), view.at);
   const left = 74, high = Math.min(26, (height - 14) / Math.max(1, shown.length)), row_of = new Map(shown.map((it, k) => [it.pid, 4 + k * high]));
   const scale = (width - left - 4) / (to - from), x_of = (at) => left + (Math.max(from, Math.min(to, at)) - from) * scale;
   const ink = style_of("--ink"), dim = style_of("--dim"), faint = style_of("--line"), bad = style_of("--bad"), bar = Math.max(2, high - 6);
   draw.font = `${Math.min(11, Math.max(7, high - 2))}px ui-monospace, monospace`;
   for (const it of shown) {
-    const y = row_of.get(it.pid), name = program_name(view.processes.find((p) => p.pid === it.pid)?.program ?? null);
+    const y = row_of.get(it.pid), name = program_name(app.names.get(it.pid));
     draw.fillStyle = it.pid === view.pid ? ink : dim;
     draw.fillText(`${it.pid} ${name}`.slice(0, 11), 2, y + high / 2 + 2);
     draw.fillStyle = faint;
@@ -102,34 +152,19 @@ function draw_turns() {
       draw.setLineDash([]);
     }
   }
-  const asleep = new Map(), done = new Map();
-  for (let k = Math.max(0, line.find(from)); k < line.length && line.at[k] < to; k++) {
-    const pid = line.pid[k], y = row_of.get(pid), kind = line.kind[k];
-    if (kind === KIND.TICK) continue;
-    if (y === undefined || kind > KIND.TURN) continue;
-    const x = x_of(line.at[k]), end = x_of(line.end_of(k));
-    if (asleep.has(pid)) {
-      draw.fillStyle = "#6d8fce66";
-      draw.fillRect(asleep.get(pid), y + bar / 2 - 1, x - asleep.get(pid), 3);
-      asleep.delete(pid);
-    }
-    if (kind === KIND.TURN) continue;
-    if (end > (done.get(pid) ?? -1)) { draw.fillStyle = color_of(pid); draw.fillRect(x, y, Math.max(0.8, end - x), bar); done.set(pid, end); }
-    if (kind === KIND.WAIT) asleep.set(pid, end);
-    if (kind === KIND.FAULT || kind === KIND.EXIT) { draw.fillStyle = kind === KIND.FAULT ? bad : ink; draw.fillRect(x, y - 1, 2, bar + 2); }
-  }
-  for (const [pid, x] of asleep) { draw.fillStyle = "#6d8fce66"; draw.fillRect(x, row_of.get(pid) + bar / 2 - 1, x_of(Math.min(to, line.end)) - x, 3); }
+  draw_bars(draw, shown, { from, to, x_of, bar, top_of: (pid) => row_of.get(pid), ink, bad });
   draw.fillStyle = ink;
   draw.fillRect(x_of(view.at) - 0.5, 0, 1, height - 10);
   draw.fillStyle = dim;
   draw.font = "10px system-ui";
-  draw.fillText("solid: it runs · blue: it sleeps · lines: forks · dotted: an end is waited for", left, height - 2);
+  draw.fillText("solid: it runs · blue: it sleeps · lines: forks · dotted: an end is waited for", width < 480 ? 2 : left, height - 2);
 }
 
 export function start() {
-  on("view", () => { draw(); draw_turns(); });
-  on("zoom", () => { if (app.view) draw_turns(); });
-  on("boot", () => { lives.edits = undefined; rows = ""; });
+  const show_turns = in_time(draw_turns);
+  on("panels", () => { draw(); show_turns(); });
+  on("zoom", () => { if (app.view) show_turns(); });
+  on("boot", () => { lives.edits = undefined; rows = new Map(); order = ""; });
   $("turns").addEventListener("click", (event) => {
     const box = event.currentTarget.getBoundingClientRect(), { from, to } = range(), x = event.clientX - box.left - 74;
     if (x >= 0) ask("go", { place: Math.round(from + (x / (box.width - 78)) * (to - from)) });

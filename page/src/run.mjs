@@ -148,7 +148,7 @@ export class Run {
   // ---- copies of the machine, to come back fast
 
   most_copies() {
-    return Math.max(4, Math.min(32, Math.floor(COPIES_BYTES / this.copies[0].bytes.length)));
+    return Math.max(4, Math.min(32, Math.floor(COPIES_BYTES / this.copies[this.copies.length - 1].bytes.length)));
   }
 
   /** Keeps a copy where the last one is far behind. */

@@ -1,5 +1,5 @@
 // Time: play and pause, steps forward and back, the slider over the whole run, zoom, break points.
-import { $, app, ask, color_of, element, fresh, grouped, on, program_name, say, style_of, tell } from "./app.mjs";
+import { $, app, ask, color_of, element, fresh, grouped, in_time, on, program_name, say, style_of, tell } from "./app.mjs";
 import { KIND } from "./machine.mjs";
 import { CALLS, call_name, hex } from "./words.mjs";
 import { type } from "./terminal.mjs";
@@ -32,19 +32,19 @@ function draw_slider() {
   if (!view || width < 10) return;
   const scale = width / (to - from), x_of = (at) => (at - from) * scale;
   const turns = height - 15;
-  let place = Math.max(0, line.find(from)), last = { tick: -9, call: -9, bad: -9, key: -9 }, done = -1;
+  let place = Math.max(0, line.find(from)), last = { tick: -9, call: -9, bad: -9, fault: -9, key: -9 }, done = -1;
   const accent = style_of("--accent"), dim = style_of("--dim"), warm = style_of("--warm"), bad = style_of("--bad"), faint = style_of("--line");
   draw.font = "10px system-ui";
   for (; place < line.length && line.at[place] < to; place++) {
     const kind = line.kind[place], x = x_of(line.at[place]), end = x_of(line.end_of(place));
     if (kind <= KIND.FAULT) {
       // One stretch a pixel is enough.
-      if (end > done) { draw.fillStyle = color_of(line.pid[place]); draw.fillRect(Math.max(x, done), turns, Math.max(0.6, end - Math.max(x, done)), 9); done = end; }
+      if (end > done + 0.5) { draw.fillStyle = color_of(line.pid[place]); draw.fillRect(Math.max(x, done), turns, Math.max(0.6, end - Math.max(x, done)), 9); done = end; }
     }
     if (kind === KIND.TICK && x - last.tick > 3) { draw.fillStyle = faint; draw.fillRect(x, 0, 1, turns - 2); last.tick = x; }
     else if ((kind === KIND.CALL || kind === KIND.WAIT) && x - last.call > 1.5) { draw.fillStyle = kind === KIND.CALL ? accent : dim; draw.fillRect(x, 10, 1, turns - 12); last.call = x; }
     else if (kind === KIND.EXIT && x - last.bad > 3) { draw.fillStyle = warm; draw.fillRect(x - 1, 5, 2.5, turns - 7); last.bad = x; }
-    else if (kind === KIND.FAULT) { draw.fillStyle = bad; draw.fillRect(x - 1.5, 0, 3.5, turns); draw.beginPath(); draw.arc(x, 4, 4, 0, 7); draw.fill(); last.bad = x; }
+    else if (kind === KIND.FAULT && x - last.fault > 1) { draw.fillStyle = bad; draw.fillRect(x - 1.5, 0, 3.5, turns); draw.beginPath(); draw.arc(x, 4, 4, 0, 7); draw.fill(); last.bad = last.fault = x; }
     else if (kind === KIND.KEY && x - last.key > 4) { draw.fillStyle = warm; draw.beginPath(); draw.moveTo(x, 8); draw.lineTo(x - 3, 2); draw.lineTo(x + 3, 2); draw.fill(); last.key = x; }
   }
   const x = Math.min(width - 1, Math.max(1, x_of(view.at)));
@@ -81,6 +81,8 @@ export function event_words(place) {
     default: return "process 1 is gone";
   }
 }
+
+const show_slider = in_time(draw_slider);
 
 function go(place) {
   const to = Math.round(Math.max(0, Math.min(place, app.line.end)));
@@ -209,9 +211,9 @@ export function start() {
     // The window follows the place.
     if (!window_.whole && (at < from || at > to)) { const width = to - from; window_.from = Math.max(0, at - width * 0.7); window_.to = window_.from + width; }
     told();
-    draw_slider();
+    show_slider();
   });
-  on("zoom", () => { if (app.view) draw_slider(); });
+  on("zoom", () => { if (app.view) show_slider(); });
   on("play", () => ask("play"));
   on("boot", () => { window_.whole = true; });
   on("booted", () => {

@@ -37,7 +37,7 @@ export function start() {
     if (view.faults) faults = view.faults;
     const count = faults.filter((it) => it.at < view.at).length;
     $("why-count").textContent = count || "";
-    if (!$("why").hidden) draw();
   });
+  on("panels", () => { if (!$("why").hidden) draw(); });
   on("boot", () => { faults = []; });
 }

@@ -4,6 +4,7 @@ import { Run, Plan } from "./run.mjs";
 import { describe_fault, store_width } from "./words.mjs";
 
 const SLICE = 9; // ms of play between two looks at the messages
+const WHOLE = 90; // ms between two views with all panels, while the machine plays
 const TICK = 100; // ms: a tick of the terminal is a tenth of a second
 const MOST = 30000000; // Runs that a search makes before it gives up
 const PAGE = 4096;
@@ -11,8 +12,9 @@ const PAGE = 4096;
 let machine = null, run = null, plan = null;
 let settings = { rounds: false, quantum: 1000, speed: 0 };
 let playing = false, timer = 0, next_tick = 0, owed = 0, slice_from = 0;
-let wanted = { pid: 1, panels: {}, memory: null, told: -1, edits: -1 };
+let wanted = { pid: 1, panels: {}, memory: null, told: -1, named: 0, edits: -1 };
 let breaks = [];
+let told_whole = 0;
 let stopped = "";
 let counts = { place: 0, by: new Map(), edits: 0 };
 let faults = [];
@@ -107,17 +109,23 @@ function files(list) {
   return { descriptors, pipes: [...pipes.values()], console: [0, 1, 2].map((list) => machine.console(list)) };
 }
 
+/** Tells how the machine stands. While it plays, what the panels show is told only so often that eyes can follow. */
 function view() {
   if (!run || !run.booted) return;
-  const { panels } = wanted, facts = machine.facts(), list = processes();
+  const now = performance.now(), is_whole = !playing || now - told_whole >= WHOLE, panels = is_whole ? wanted.panels : {};
+  if (is_whole) told_whole = now;
+  const facts = machine.facts(), list = processes();
   let pid = wanted.pid;
   if (wanted.follow && facts.current) pid = facts.current;
   if (!list.some((it) => it.pid === pid && it.lives)) pid = facts.current || (list.find((it) => it.lives) || { pid: 0 }).pid;
-  const told = { at: run.at, end: run.end, facts, processes: list, pid, playing, stopped, edits: run.edits, shown: run.shown_count(), copies: run.copies.length, memory_bytes: machine.calls.memory.buffer.byteLength };
+  const told = { at: run.at, end: run.end, facts, processes: list, pid, is_whole, playing, stopped, edits: run.edits, shown: run.shown_count(), copies: run.copies.length, copies_bytes: run.copies.reduce((sum, it) => sum + it.bytes.length, 0), memory_bytes: machine.calls.memory.buffer.byteLength };
   if (wanted.edits !== run.edits) { wanted.told = 0; wanted.edits = run.edits; told.anew = true; }
   const from = Math.max(0, wanted.told - 1);
   told.line = run.line.part(Math.min(from, run.line.length));
   wanted.told = run.line.length;
+  const named_from = told.anew ? 0 : Math.min(wanted.named, run.names.length);
+  told.names = { from: named_from, list: run.names.slice(named_from) };
+  wanted.named = run.names.length;
   const shown_from = Math.min(wanted.shown || 0, told.shown);
   told.text = { from: told.anew || wanted.shown > told.shown ? 0 : shown_from };
   told.text.bytes = run.shown.bytes.slice(told.text.from, told.shown);
@@ -339,7 +347,7 @@ const obey = {
     clearTimeout(timer);
     faults = [];
     counts = { place: 0, by: new Map(), edits: -1, at: 0 };
-    Object.assign(wanted, { told: 0, shown: 0, edits: -1, pid: 1, faults: -1 });
+    Object.assign(wanted, { told: 0, shown: 0, named: 0, edits: -1, pid: 1, faults: -1 });
     const before = performance.now(), refusal = run.boot(config, files);
     if (refusal !== null) { postMessage({ refusal }); return; }
     if (how) settings = { ...settings, ...how };

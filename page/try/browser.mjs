@@ -1,37 +1,55 @@
 // A page in a headless Chromium, driven over a pipe by the DevTools protocol: open, type, press, evaluate, picture.
 import { spawn } from "node:child_process";
-import { mkdtempSync, rmSync, writeFileSync } from "node:fs";
+import { mkdtempSync, readFileSync, readdirSync, rmSync, writeFileSync } from "node:fs";
 import { tmpdir } from "node:os";
 
 const sleep = (ms) => new Promise((done) => setTimeout(done, ms));
 
+/** The bytes of memory that the renderers below a process have, as the host counts them. */
+function resident(root) {
+  const told = (pid, file) => { try { return readFileSync(`/proc/${pid}/${file}`, "latin1"); } catch { return ""; } };
+  const all = readdirSync("/proc").filter((it) => /^\d+$/.test(it)), parents = new Map(all.map((pid) => [pid, told(pid, "stat").replace(/^.*\) . /s, "").split(" ")[0]]));
+  const is_below = (pid) => { for (let k = 0; k < 9 && pid; k++, pid = parents.get(pid)) if (pid === String(root)) return true; return false; };
+  const renderers = all.filter((pid) => told(pid, "cmdline").includes("--type=renderer") && is_below(pid));
+  return renderers.reduce((sum, pid) => sum + 1024 * Number(/VmRSS:\s*(\d+)/.exec(told(pid, "status"))?.[1] ?? 0), 0);
+}
+
 export async function open(url, { width = 1400, height = 900, dark = false, mobile = false } = {}) {
   const folder = mkdtempSync(tmpdir() + "/look-");
   const chrome = spawn("chromium", ["--headless=new", "--no-sandbox", "--disable-gpu", "--hide-scrollbars", "--remote-debugging-pipe", `--user-data-dir=${folder}`, `--window-size=${width},${height}`], { stdio: ["ignore", "ignore", "ignore", "pipe", "pipe"] });
-  const [, , , input, output] = chrome.stdio, waiting = new Map(), logs = [];
+  const [, , , input, output] = chrome.stdio, waiting = new Map(), logs = [], workers = [];
   let buffer = "", last = 0, session;
   output.on("data", (part) => {
     buffer += part;
     for (let end; (end = buffer.indexOf("\0")) >= 0; buffer = buffer.slice(end + 1)) {
       const it = JSON.parse(buffer.slice(0, end));
       if (it.id) { waiting.get(it.id)(it); waiting.delete(it.id); }
+      else if (it.method === "Target.attachedToTarget" && it.params.targetInfo.type === "worker") workers.push(it.params.sessionId);
       else if (it.method === "Runtime.exceptionThrown") logs.push(it.params.exceptionDetails.exception?.description || it.params.exceptionDetails.text);
       else if (it.method === "Runtime.consoleAPICalled") logs.push(it.params.args.map((arg) => arg.value ?? arg.description).join(" "));
     }
   });
-  const send = (method, params = {}) => new Promise((done, fail) => {
+  const send = (method, params = {}, to = session) => new Promise((done, fail) => {
     const id = ++last;
     waiting.set(id, (it) => (it.error ? fail(new Error(`${method}: ${it.error.message}`)) : done(it.result)));
-    input.write(JSON.stringify({ id, method, params, sessionId: session }) + "\0");
+    input.write(JSON.stringify({ id, method, params, sessionId: to }) + "\0");
   });
+  /** The bytes of JavaScript that are in use behind a collection of garbage. */
+  const heap_of = async (to) => {
+    await send("HeapProfiler.collectGarbage", {}, to);
+    return (await send("Runtime.getHeapUsage", {}, to)).usedSize;
+  };
   const { targetInfos } = await send("Target.getTargets");
   session = (await send("Target.attachToTarget", { targetId: targetInfos.find((it) => it.type === "page").targetId, flatten: true })).sessionId;
   await send("Page.enable");
   await send("Runtime.enable");
+  await send("Target.setAutoAttach", { autoAttach: true, waitForDebuggerOnStart: false, flatten: true });
   await send("Emulation.setDeviceMetricsOverride", { width, height, deviceScaleFactor: mobile ? 2 : 1, mobile });
   await send("Emulation.setEmulatedMedia", { features: [{ name: "prefers-color-scheme", value: dark ? "dark" : "light" }] });
   const page = {
     logs, send, sleep,
+    /** The memory of the page's JavaScript, and of its workers', in bytes. */
+    async heaps() { return { page: await heap_of(session), workers: await Promise.all(workers.map(heap_of)), resident: resident(chrome.pid) }; },
     async go(to) { await send("Page.navigate", { url: to }); await page.until("window.ready === true", 120000).catch((error) => logs.push(error.message)); },
     async eval(expression) {
       const { result, exceptionDetails } = await send("Runtime.evaluate", { expression, awaitPromise: true, returnByValue: true });

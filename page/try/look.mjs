@@ -2,7 +2,7 @@
 // ends with the status 1 where something isn't as it should be.
 import { mkdirSync } from "node:fs";
 import { pathToFileURL } from "node:url";
-import { open } from "./browser.mjs";
+const { open } = await import(process.env.BROWSER === "firefox" ? "./firefox.mjs" : "./browser.mjs");
 
 const [page_file, folder] = process.argv.slice(2), url = pathToFileURL(page_file).href;
 mkdirSync(folder, { recursive: true });
@@ -131,10 +131,26 @@ async function speed(page) {
   console.log(`   30 steps back at ${back.at} events: ${(30000 / back.ms).toFixed(1)} a second`);
 }
 
+/** 63 processes that count and sleep in turns, played at full speed: how many frames a second the page shows meanwhile. */
+async function crowd(page) {
+  const source = "  li s1, 62\nfork:\n  li a7, 1\n  ecall\n  beq a0, x0, child\n  addi s1, s1, -1\n  bne s1, x0, fork\nparent:\n  li a7, 14\n  ecall\n  j parent\nchild:\n  li a7, 13\n  li a0, 1\n  ecall\n  lui s2, 1\ncount:\n  addi s2, s2, -1\n  bne s2, x0, count\n  j child\n";
+  await page.eval(`page.programs.set_files([{ name: 'init.s', text: ${JSON.stringify(source)} }]); page.programs.boot({ play: false })`);
+  await page.until("page.app.view.at === 0 && page.app.booted.files.length === 1");
+  await page.eval("page.ask('settings', { rounds: true, quantum: 200 }); page.ask('play')");
+  await page.until("page.app.line.length > 100000", 120000);
+  await page.eval("window.frames_seen = 0; window.longest = 0; window.last_frame = performance.now(); requestAnimationFrame(function frame(now) { window.frames_seen++; window.longest = Math.max(window.longest, now - window.last_frame); window.last_frame = now; requestAnimationFrame(frame); })");
+  const began = Date.now();
+  await page.sleep(5000);
+  const { frames, longest, stretches, processes } = await page.eval("({ frames: window.frames_seen, longest: window.longest, stretches: page.app.line.length, processes: page.app.view.processes.length })");
+  console.log(`   ${processes} processes, ${stretches} stretches: ${((frames * 1000) / (Date.now() - began)).toFixed(1)} frames a second, the longest ${longest.toFixed(0)} ms`);
+  await page.eval("page.ask('pause')");
+  await page.picture(`${folder}/crowd.png`);
+}
+
 const page = await open(url, { width: 1400, height: 950 });
 try {
-  const took = await page.eval("window.took");
-  console.log(`   boot ${took.boot.toFixed(0)} ms, shown after ${took.shown.toFixed(0)} ms`);
+  const took = await page.eval("window.took"), paint = await page.eval("performance.getEntriesByType('paint').map((it) => it.startTime)[0] ?? 0");
+  console.log(`   first paint after ${paint.toFixed(0)} ms, boot ${took.boot.toFixed(0)} ms, shown after ${took.shown.toFixed(0)} ms`);
   await session(page);
   await panels(page, "shell");
   await time(page);
@@ -142,6 +158,7 @@ try {
   await lessons(page);
   await share(page);
   await speed(page);
+  await crowd(page);
 } catch (error) {
   holds(false, error.stack);
   await page.picture(`${folder}/error.png`);
