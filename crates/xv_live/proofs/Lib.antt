@@ -2,3 +2,4 @@ pub mod Joined
 pub mod Lines
 pub mod Played
 pub mod Typed
+pub mod Waits

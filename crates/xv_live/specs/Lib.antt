@@ -1,5 +1,7 @@
+pub mod Asks
 pub mod Attends
 pub mod Keys
 pub mod Pauses
 pub mod Plays
+pub mod Resting
 pub mod Shown

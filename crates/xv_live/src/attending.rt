@@ -3,13 +3,14 @@ ghost use Rattle.std.specs.Prelude.{◌≡◌, [], ◌++◌, OnOk, IfOk, IfSome}
 ghost use Rattle.xv_live.specs.Attends.{Types, TypesFirst, Attends};
 ghost use Rattle.xv_live.specs.Keys.{Looks, key_of, typed_by, waiting};
 ghost use Rattle.xv_live.specs.Pauses.{IsPauseOf};
+ghost use Rattle.xv_live.specs.Asks.{IsAskedOf};
 
 use crate::events::{drain, send, some_runs};
 use crate::host::{Host, Look};
 use crate::keys::Key;
 use crate::pauses::Pause;
 use crate::pending::{Pending, has_room};
-use crate::resting::{may_run, waits_for_ticks};
+use crate::resting::{goes_on_without_keys, may_run};
 use crate::screen::{Screen, Teller};
 use crate::trouble::Trouble;
 use xv_machine::{ByteSink, Event, Machine};
@@ -17,6 +18,9 @@ use xv_session::Session;
 
 /// The Runs between two looks at the keyboard: far less than a hundredth of a second.
 const STRETCH: u32 = 200_000;
+
+/// The most Runs among these that do something else than an instruction: a kernel call takes some microseconds.
+const CALLS_IN_STRETCH: u32 = 1_000;
 
 /// The most keys that are looked at, and typed, in one turn.
 const KEYS_IN_TURN: usize = 64;
@@ -37,6 +41,7 @@ fn take_key<W: ByteSink, T: Teller>(
     pending: &mut Pending,
     screen: &mut Screen<W, T>,
 ) -> Result<Asked, Trouble>
+    ensures asked { IfOk result (IsAskedOf session.now) }
     ensures sink { W.sink screen.new.sink ≡ W.sink screen.old.sink }
     ensures waits { OnOk result (waiting pending.new ≡ waiting pending.old ++ typed_by (key_of byte)) }
 {
@@ -69,6 +74,7 @@ fn look<H: Host, W: ByteSink, T: Teller>(
     pending: &mut Pending,
     screen: &mut Screen<W, T>,
 ) -> Result<Asked, Trouble>
+    ensures asked { IfOk result (IsAskedOf session.now) }
     ensures sink { W.sink screen.new.sink ≡ W.sink screen.old.sink }
     ensures looks { OnOk result (Looks (H.coming host.old) (H.coming host.new) (waiting pending.old) (waiting pending.new)) }
 {
@@ -76,7 +82,7 @@ fn look<H: Host, W: ByteSink, T: Teller>(
         let asked = match host.look()? {
             Look::Came(byte) => take_key(session, byte, pending, screen)?,
             Look::NoneNow => return Ok(Asked::Nothing),
-            Look::Ended if waits_for_ticks(session.machine()) => return Ok(Asked::Nothing),
+            Look::Ended if goes_on_without_keys(session.machine()) => return Ok(Asked::Nothing),
             Look::Ended => return Ok(Asked::NoKeys),
         };
         if asked != Asked::Nothing {
@@ -95,7 +101,7 @@ fn type_keys<W: ByteSink, T: Teller>(
     ensures { OnOk result (TypesFirst session.old session.new (W.sink screen.old.sink).held (W.sink screen.new.sink).held (waiting pending.old) (waiting pending.new)) }
 {
     'keys: for _ in 0..KEYS_IN_TURN {
-        if !has_room(session.machine()) {
+        if pending.is_empty() || !has_room(session.machine()) {
             return Ok(());
         }
         let Some(key) = pending.take() else {
@@ -114,7 +120,7 @@ fn work<W: ByteSink, T: Teller>(
     ensures { OnOk result (Types [] session.old session.new (W.sink screen.old.sink).held (W.sink screen.new.sink).held) }
 {
     let mut left = STRETCH;
-    'runs: for _ in 0..STRETCH {
+    'runs: for _ in 0..CALLS_IN_STRETCH {
         if left == 0 || !may_run(session.machine()) {
             return Ok(());
         }
@@ -141,6 +147,7 @@ fn tick<H: Host, W: ByteSink, T: Teller>(
 
 // What leads away from the machine.
 fn pause_for(session: &Session, asked: Asked) -> Option<Pause>
+    requires { IsAskedOf session.now asked }
     ensures { IfSome result (λ p. IsPauseOf session.now p) }
 {
     match asked {

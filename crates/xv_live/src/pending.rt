@@ -1,22 +1,30 @@
 //! Keys that were typed and that the machine hasn't got yet.
+ghost use Rattle.std.specs.Prelude.{◌≡◌, ◌<◌, ◌↔◌, IsTrue, length, min};
+ghost use Rattle.console_core.specs.Lists.{held_bytes, list_of};
+
 use crate::trouble::Trouble;
 use std::alloc::Global;
 use std::collections::VecDeque;
 use xk_base::limits::CONSOLE_BYTES;
 use xv_machine::{ConsoleList, Machine};
 
-/// How many typed bytes the console holds in one of its lists.
-fn held(machine: &Machine, list: ConsoleList) -> usize {
-    (0..CONSOLE_BYTES)
-        .filter(|place| machine.console_byte(list, *place).is_some())
-        .count()
+// How many bytes one of the console's lists holds, as far as [`CONSOLE_BYTES`].
+fn held(machine: &Machine, list: ConsoleList) -> usize
+    ensures { result ≡ min (length (list_of list machine.now.world.state.console)) CONSOLE_BYTES }
+{
+    'bytes: for place in 0..CONSOLE_BYTES {
+        if machine.console_byte(list, place).is_none() {
+            return place;
+        }
+    }
+    CONSOLE_BYTES
 }
 
 /// Whether the console has room for a typed byte. One that has none drops it.
-pub fn has_room(machine: &Machine) -> bool {
-    let committed = held(machine, ConsoleList::Committed);
-    let uncommitted = held(machine, ConsoleList::Uncommitted);
-    committed.saturating_add(uncommitted) < CONSOLE_BYTES
+pub fn has_room(machine: &Machine) -> bool
+    ensures { IsTrue result ↔ (held_bytes machine.now.world.state.console < CONSOLE_BYTES) }
+{
+    held(machine, ConsoleList::Committed) + held(machine, ConsoleList::Uncommitted) < CONSOLE_BYTES
 }
 
 /// Keys that wait for room in the console, the oldest first.

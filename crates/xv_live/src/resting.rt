@@ -1,34 +1,70 @@
 //! Whether there is anything for a machine to do.
+ghost use Rattle.std.specs.Prelude.{◌≡◌, ℕ, false};
+ghost use Rattle.kernel_spec.specs.waking.Turns.{HasSlot};
+ghost use Rattle.kernel_spec.specs.waking.Wakes.{IsRunnable};
+ghost use Rattle.xv_machine.specs.Sound.{IsSoundMachine};
+ghost use Rattle.xv_live.specs.Resting.{NothingHappens, RunsDoNothing, WaitsForTicks};
+
+use xk_base::Pid;
 use xk_base::limits::NPROC;
 use xv_machine::{Machine, ProcessState};
 
 /// The number of the kernel call `sleep`.
 const SLEEP: i32 = 13;
 
-// Whether a live process that may run is in this slot.
-fn is_awake(machine: &Machine, slot: usize) -> bool {
-    let Some(pid) = machine.pid_in(slot) else {
-        return false;
-    };
+// Whether the process of this pid lives, and doesn't sleep.
+fn is_runnable(machine: &Machine, pid: Pid) -> bool
+    ensures { result ≡ false → ¬ IsRunnable machine.now.world pid }
+{
     match machine.process(pid) {
         Some(ProcessState::Live { asleep, .. }) => !asleep,
         _ => false,
     }
 }
 
-/// Whether a process may run, so that Runs do something.
-pub fn may_run(machine: &Machine) -> bool {
+// Whether the process in a slot lives, and doesn't sleep.
+fn is_slot_runnable(machine: &Machine, slot: usize) -> bool
+    requires { IsSoundMachine machine.now }
+    ensures { result ≡ false → (p : ℕ) → HasSlot machine.now.world.turns p slot → ¬ IsRunnable machine.now.world p }
+{
+    match machine.pid_in(slot) {
+        Some(pid) => is_runnable(machine, pid),
+        None => false,
+    }
+}
+
+// Whether a process lives that doesn't sleep.
+fn is_any_runnable(machine: &Machine) -> bool
+    requires { IsSoundMachine machine.now }
+    ensures { result ≡ false → (p : ℕ) → ¬ IsRunnable machine.now.world p }
+{
+    for slot in 0..NPROC {
+        if is_slot_runnable(machine, slot) {
+            return true;
+        }
+    }
+    false
+}
+
+/// Whether Runs do something: a process runs, or may.
+pub fn may_run(machine: &Machine) -> bool
+    ensures rests { result ≡ false → RunsDoNothing machine.now.world }
+    ensures sound { IsSoundMachine machine.now }
+{
     if machine.halted().is_some() {
         return false;
     }
-    machine.current().is_some() || (0..NPROC).any(|slot| is_awake(machine, slot))
+    if machine.current().is_some() {
+        return true;
+    }
+    is_any_runnable(machine)
 }
 
-// Whether a process that waits for the clock is in this slot.
-fn waits_for_clock(machine: &Machine, slot: usize) -> bool {
-    let Some(pid) = machine.pid_in(slot) else {
-        return false;
-    };
+// Whether the process of this pid lives, and is in the kernel call sleep.
+#[tactic(auto, using(crate::proofs::Waits::sleep_told))]
+fn is_in_sleep(machine: &Machine, pid: Pid) -> bool
+    ensures { result ≡ false → ¬ WaitsForTicks machine.now.world pid }
+{
     match machine.process(pid) {
         Some(
             ProcessState::Live {
@@ -40,7 +76,37 @@ fn waits_for_clock(machine: &Machine, slot: usize) -> bool {
     }
 }
 
-/// Whether a process waits for the clock, so that ticks may do something.
-pub fn waits_for_ticks(machine: &Machine) -> bool {
-    (0..NPROC).any(|slot| waits_for_clock(machine, slot))
+// Whether the process in a slot is in the kernel call sleep.
+fn is_slot_in_sleep(machine: &Machine, slot: usize) -> bool
+    requires { IsSoundMachine machine.now }
+    ensures { result ≡ false → (p : ℕ) → HasSlot machine.now.world.turns p slot → ¬ WaitsForTicks machine.now.world p }
+{
+    match machine.pid_in(slot) {
+        Some(pid) => is_in_sleep(machine, pid),
+        None => false,
+    }
+}
+
+// Whether a process waits for the clock.
+#[tactic(auto, using(crate::proofs::Waits::sleep_there))]
+fn is_any_in_sleep(machine: &Machine) -> bool
+    requires { IsSoundMachine machine.now }
+    ensures { result ≡ false → (p : ℕ) → ¬ WaitsForTicks machine.now.world p }
+{
+    for slot in 0..NPROC {
+        if is_slot_in_sleep(machine, slot) {
+            return true;
+        }
+    }
+    false
+}
+
+/// Whether anything happens without a key: a process runs or may, or one waits for the clock.
+pub fn goes_on_without_keys(machine: &Machine) -> bool
+    ensures { result ≡ false → NothingHappens machine.now.world }
+{
+    if may_run(machine) {
+        return true;
+    }
+    is_any_in_sleep(machine)
 }

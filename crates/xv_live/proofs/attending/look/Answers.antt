@@ -1,4 +1,6 @@
-use Rattle.std.proofs.Common.{◌∙◌}
+use Rattle.std.proofs.Common.{◌∙◌, subst}
+use Rattle.xv_machine.specs.Meaning.{Meaning}
+use Rattle.xv_live.specs.Resting.{NothingHappens}
 use Rattle.xv_live.proofs.Typed.{looks-came}
 use Rattle.xv_live.proofs.attending.look.Goals as goal
 
@@ -10,3 +12,6 @@ looks-preserved g c = (
   c.in_ok-asked-in-Came.ensures.sink ∙ c.looks.invariant.0,
   looks-came c.in_ok-byte.field-0 c.in-Came.byte _ _ _ _ _ _ c.looks.invariant.1 c.in-Came.is c.in_ok-byte.ensures c.in_ok-asked-in-Came.ensures.waits,
 )
+
+pub returns-in-Ended-2-clause-asked : goal.returns-in-Ended-2-clause-asked
+returns-in-Ended-2-clause-asked g c = subst (λ (m : Meaning). NothingHappens m.world) c.machine.ensures.machine (c.goes_on_without_keys.ensures c.if-goes_on_without_keys.false)

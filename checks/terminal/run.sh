@@ -1,0 +1,123 @@
+#!/bin/sh
+# Plays the sessions of this folder by the built program xv_terminal, without a terminal, and compares what comes out:
+# checks/terminal/run.sh, or checks/terminal/run.sh NAME.. for some of them. A line for each that differs, and a verdict
+# at the end; the status is 0 where all are as they should be. XV_TERMINAL is the program, and without it the one that
+# stands in this repository.
+#
+# A session is a text. Its first line says what it shows; then come parts, each with a line `== NAME` at its head:
+#
+#   == words      the words of the command line; a FILE is one of the session's own, or a program of programs/bin, or
+#                 another file of programs/
+#   == file NAME  a file of the session
+#   == keys       what is typed: each line and its end; ^D is the byte 4 and so on, ^? is 127. The clock stands still
+#   == record     a record that is played, in place of keys: the clock ticks as it did
+#   == shows      what standard output must have, as `cat -v` writes it
+#   == errors     what standard error must have, as `cat -v` writes it; without this part it isn't looked at
+#   == status     the exit status that is wanted; without this part 0
+#
+# The last line of keys and of what is shown ends in \c where no line's end follows. A session with keys is recorded,
+# and its record is played: the same bytes must come out.
+set -u
+here=$(cd "$(dirname "$0")" && pwd) || exit 2
+top=$here/../..
+program=${1-}
+case $program in
+*/*) shift ;;
+*) program=${XV_TERMINAL-$top/crates/xv_terminal/out/xv_terminal} ;;
+esac
+[ -x "$program" ] || { echo "there is no program $program: build it by ./xv" >&2; exit 2; }
+program=$(readlink -f "$program")
+room=$(mktemp -d) || exit 2
+trap 'rm -rf "$room"' EXIT
+
+take_apart() {
+    rm -rf "${room:?}"/* && awk -v room="$room" '
+        /^== file / { part = room "/" $3; printf "" > part; next }
+        /^== / { part = room "/=" $2; printf "" > part; next }
+        part != "" { print > part }' "$1"
+}
+
+# The lines of a part, the last one without its end if it ends in \c.
+lines() {
+    awk 'NR > 1 { print last } { last = $0 }
+        END { if (sub(/\\c$/, "", last)) printf "%s", last; else if (NR > 0) print last }' "$1"
+}
+
+# The bytes that are typed.
+keys() {
+    [ -e "$room/=keys" ] || return 0
+    lines "$room/=keys" | LC_ALL=C awk '
+        function type(text,    control) {
+            while (match(text, /\^[?-_]/)) {
+                control = index("@ABCDEFGHIJKLMNOPQRSTUVWXYZ[\\]^_", substr(text, RSTART + 1, 1)) - 1
+                if (control < 0)
+                    control = 127
+                printf "%s%c", substr(text, 1, RSTART - 1), control
+                text = substr(text, RSTART + RLENGTH)
+            }
+            printf "%s", text
+        }
+        NR > 1 { printf "\n" }
+        { type($0) }
+        END { if (NR > 0) printf "\n" }' | { if [ "$(tail -c 2 "$room/=keys")" = '\c' ]; then head -c -1; else cat; fi; }
+}
+
+# The words, with the path of each FILE.
+words() {
+    for word in $(cat "$room/=words"); do
+        if [ -e "$room/$word" ]; then
+            echo "$room/$word"
+        elif [ -e "$top/programs/bin/$word" ]; then
+            echo "$top/programs/bin/$word"
+        elif [ -e "$top/programs/$word" ]; then
+            echo "$top/programs/$word"
+        else
+            echo "$word"
+        fi
+    done
+}
+
+# Compares a part with what came out, as `cat -v` writes it.
+is_part() {
+    [ -e "$room/=$1" ] || return 0
+    lines "$room/=$1" >"$room/=wanted"
+    cat -v "$2" >"$room/=came"
+    cmp -s "$room/=wanted" "$room/=came" || {
+        echo "$name: $1 differs: wanted < and came >"
+        diff "$room/=wanted" "$room/=came" | head -20
+        return 1
+    }
+}
+
+# Plays session $1.
+check() {
+    name=${1##*/}
+    name=${name%.txt}
+    take_apart "$1" || return 1
+    wanted=$(cat "$room/=status" 2>/dev/null || echo 0)
+    if [ -e "$room/=record" ]; then
+        "$program" --apart --replay "$room/=record" $(words) </dev/null >"$room/=out" 2>"$room/=err"
+    else
+        keys | "$program" --apart --tick 60000 --record "$room/=new" $(words) >"$room/=out" 2>"$room/=err"
+    fi
+    status=$?
+    [ "$status" = "$wanted" ] || { echo "$name: status $status, and $wanted is wanted"; return 1; }
+    is_part shows "$room/=out" || return 1
+    is_part errors "$room/=err" || return 1
+    [ -e "$room/=new" ] || return 0
+    "$program" --apart --replay "$room/=new" $(words) </dev/null >"$room/=again" 2>/dev/null
+    status=$?
+    [ "$status" = "$wanted" ] || { echo "$name: played again its status is $status"; return 1; }
+    cmp -s "$room/=out" "$room/=again" || { echo "$name: played again it shows other bytes"; return 1; }
+}
+
+[ $# -gt 0 ] || set -- "$here"/*.txt
+count=0
+bad=0
+for session; do
+    case $session in */*) ;; *) session=$here/$session.txt ;; esac
+    count=$((count + 1))
+    check "$session" || bad=$((bad + 1))
+done
+echo "checks/terminal: $count sessions, $bad of them differ"
+[ "$bad" = 0 ]

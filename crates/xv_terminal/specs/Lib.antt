@@ -1,0 +1,5 @@
+pub mod Lines
+pub mod Records
+pub mod Settings
+pub mod Statuses
+pub mod Tells

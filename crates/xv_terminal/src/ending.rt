@@ -1,0 +1,76 @@
+//! The end of a session.
+ghost use Rattle.std.specs.Prelude.{◌≡◌};
+ghost use Rattle.xv_terminal.specs.Statuses.{end_status, exit_status};
+
+use crate::NAME;
+use crate::notes::Notes;
+use crate::telling::tell_waits;
+use std::io::Write;
+use xv_machine::Machine;
+use xv_session::Session;
+
+/// How a session ended.
+#[derive(Clone, Copy, Debug, PartialEq, Eq)]
+pub enum End {
+    /// Process 1 went with this status.
+    Halted(i32),
+    /// The end was asked for.
+    Asked,
+    /// No key would come any more, and nothing happened without one.
+    NoKeys,
+    /// The record was played to its end.
+    Played,
+}
+
+// The exit status where process 1 went with this status.
+fn status_of_exit(status: i32) -> u8
+    ensures { result ≡ exit_status status }
+{
+    if status == 0 { 0 } else { 3 }
+}
+
+impl End {
+    // The exit status of a session that ended so.
+    fn status(&self) -> u8
+        ensures { result ≡ end_status self.now }
+    {
+        match self {
+            End::Halted(status) => status_of_exit(*status),
+            End::Asked | End::NoKeys | End::Played => 4,
+        }
+    }
+}
+
+// Writes the notes that the machine keeps, oldest first.
+fn show_trace<E: Write>(machine: &Machine, errors: &mut E) {
+    for place in 0..machine.trace_len() {
+        if let Some(note) = machine.trace(place) {
+            let _ = writeln!(errors, "{note}");
+        }
+    }
+}
+
+// Writes the closing line.
+fn show_end<E: Write>(end: End, errors: &mut E) {
+    let _ = match end {
+        End::Halted(0) => Ok(()),
+        End::Halted(status) => writeln!(errors, "{NAME}: init exited with {status}"),
+        End::Asked => writeln!(errors, "{NAME}: ended, and init has not exited"),
+        End::NoKeys => writeln!(errors, "{NAME}: no more keys"),
+        End::Played => writeln!(errors, "{NAME}: the record is over"),
+    };
+}
+
+/// Tells the end of a session: the trace, then why the processes that are left don't go on, then a closing line unless
+/// process 1 went with status 0. It gives the exit status: 0 and 3 as process 1 went, else 4.
+pub fn close<E: Write>(session: &Session, end: End, notes: &mut Notes<E>) -> u8
+    ensures { result ≡ end_status end }
+{
+    notes.leave_line();
+    show_trace(session.machine(), &mut notes.errors);
+    if !matches!(end, End::Halted(_)) {
+        tell_waits(session, notes);
+    }
+    show_end(end, &mut notes.errors);
+    end.status()
+}

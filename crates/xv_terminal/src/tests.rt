@@ -1,0 +1,3 @@
+//! What no clause says.
+mod keyboard;
+mod notes;

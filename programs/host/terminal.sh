@@ -1,0 +1,58 @@
+#!/bin/sh
+# The machine at a terminal: programs/host/terminal.sh [OPTION..] FILE.., with the options of xv_terminal (--help tells
+# them). Without words it runs the shell with all programs that stand in programs/bin.
+#
+# If standard input is a terminal, it hands over each key by itself while the machine runs, and a look at it answers at
+# once. It is as it was behind every end that the script can see, also one by a signal. XV_TERMINAL is the program, and
+# without it the one that is built. Status 125 says that it couldn't be started.
+set -u
+
+give_up() {
+    echo "terminal.sh: $*" >&2
+    exit 125
+}
+
+top=$(dirname "$(readlink -f -- "$0")")/../..
+program=$top/bin/xv_terminal
+[ -x "$program" ] || program=$top/crates/xv_terminal/out/xv_terminal
+program=${XV_TERMINAL-$program}
+[ -x "$program" ] || give_up "there is no program $program: ./xv builds it"
+
+if [ $# = 0 ]; then
+    for file in "$top"/programs/bin/*; do
+        set -- "$@" "$file"
+    done
+fi
+
+# Notes go to the terminal too, unless standard error leads elsewhere.
+[ -t 1 ] && [ -t 2 ] || set -- --apart "$@"
+
+[ -t 0 ] || exec "$program" "$@"
+
+command -v stty >/dev/null || give_up "there is no stty on the PATH (Debian: coreutils), by which each key is handed over"
+before=$(stty -g) || give_up "the terminal doesn't tell how it is set"
+machine=
+restore() {
+    stty "$before" 2>/dev/null
+}
+# A signal ends the machine first, so that nobody changes the terminal behind it.
+stop() {
+    trap '' HUP INT QUIT TERM
+    [ -z "$machine" ] || { kill "$machine" 2>/dev/null; wait "$machine" 2>/dev/null; }
+    restore
+    exit "$1"
+}
+trap 'stop 129' HUP
+trap 'stop 130' INT
+trap 'stop 131' QUIT
+trap 'stop 143' TERM
+
+# Keys one by one, none of them a signal's; a read answers with what is there, or with nothing.
+stty -icanon -echo -isig -iexten -ixon min 0 time 0 || { restore; give_up "the terminal can't be set"; }
+exec 3<&0
+"$program" --terminal "$@" <&3 3<&- &
+machine=$!
+wait "$machine"
+status=$?
+restore
+exit "$status"
