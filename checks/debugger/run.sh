@@ -1,0 +1,36 @@
+#!/bin/sh
+# Plays sessions of the debugger's words, and compares what it answers with what is stored: NAME.words goes to its standard
+# input, NAME.args has its command line, and NAME.out is what comes out, with its status.
+#
+#   checks/debugger/run.sh [PROGRAM [--store]]
+#
+# PROGRAM is the debugger: without it, the one that is proved and built. --store writes the outputs anew: look at each line
+# that changes.
+set -u
+cd "$(dirname "$0")/../.." || exit 2
+XV_DEBUGGER=$(readlink -f -- "${1-crates/xv_debugger/out/xv_debugger}")
+export XV_DEBUGGER
+[ -x "$XV_DEBUGGER" ] || { echo "there is no program $XV_DEBUGGER: build it by ./xv" >&2; exit 2; }
+
+scratch=$(mktemp -d) || exit 2
+trap 'rm -rf "$scratch"' EXIT
+count=0
+others=0
+for words in checks/debugger/*.words; do
+    name=${words%.words}
+    # The words of the file are the program's.
+    # shellcheck disable=SC2046
+    programs/host/debug.sh $(cat "$name.args") <"$words" >"$scratch/out" 2>&1
+    echo "status $?" >>"$scratch/out"
+    count=$((count + 1))
+    if [ "${2-}" = --store ]; then
+        cp "$scratch/out" "$name.out" || exit 2
+    elif ! cmp -s "$name.out" "$scratch/out"; then
+        echo "${name##*/} is another:"
+        diff "$name.out" "$scratch/out"
+        others=$((others + 1))
+    fi
+done
+[ "$others" = 0 ] && echo "all $count sessions of the debugger are as they should be" && exit 0
+echo "$others of $count sessions of the debugger are others"
+exit 1

@@ -1,0 +1,3 @@
+pub mod PipeBytes
+pub mod Results
+pub mod Searching

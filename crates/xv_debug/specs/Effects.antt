@@ -1,0 +1,135 @@
+-- What the words do to a session: words that look leave it as it was; the others send events, or go back.
+use Rattle.std.specs.Prelude.{◌≡◌, ◌≢◌, ◌⊎◌, ◌≤◌, ◌-◌, ℕ, Bool, List, map, take, length, replicate, Option, None, Some}
+use Rattle.kernel_spec.specs.runs.Run as runs
+use Rattle.kernel_spec.specs.runs.Run.{Event, Outcome, World}
+use Rattle.xv_machine.specs.Meaning.{Meaning}
+use Rattle.xv_session.specs.Answers.{WentBack}
+use Rattle.xv_session.specs.Recorded.{Recorded, running_of}
+use Rattle.xv_session.specs.Until.{meets}
+use Rattle.xv_session.specs.declared.until.Condition.{Condition}
+use Rattle.xv_session.specs.declared.until.Condition.TheVariants as waits_for
+use Rattle.debug_words.specs.declared.vocabulary.TheConstants.{EVENTS_MOST}
+use Rattle.debug_words.specs.declared.vocabulary.Goal.{Goal}
+use Rattle.debug_words.specs.declared.vocabulary.Goal.TheVariants.{Call, Pc, Store, Fault, Exit}
+use Rattle.debug_words.specs.declared.vocabulary.Word as words
+use Rattle.debug_words.specs.declared.vocabulary.Word.TheVariants.{Step, Next, Back, Until, Run, Tick, Key, Send, Continue, Quit}
+use Rattle.debug_words.specs.Ranges.{IsInRange}
+use Rattle.debug_motion.specs.Aims.{aim_in}
+use Rattle.debug_motion.specs.Effects.{AddsRuns}
+use Rattle.debug_motion.specs.Reaching.{Reaches, IsRefusal, meets_aim}
+use Rattle.debug_motion.specs.Resting.{RestsIf}
+use Rattle.debug_motion.specs.Rounds.{RoundsLeave}
+use Rattle.debug_motion.specs.Sent.{Sends}
+use Rattle.debug_motion.specs.declared.journey.Stop.{Stop}
+use Rattle.debug_motion.specs.declared.journey.Stop.TheVariants.{Done, Met}
+use Rattle.debug_motion.specs.declared.output.Output.{Output}
+use Rattle.xv_debug.specs.Focus.{IsFocus}
+use Rattle.xv_debug.specs.declared.debugger.Next as behind_words
+use Rattle.xv_debug.specs.declared.debugger.Next.TheVariants as ends
+
+-- ---- what `until` waits for
+
+abbrev pub at : (pc : ℕ) → Option ℕ → Option Condition
+at pc None = None
+at pc (Some p) = Some (waits_for.At p pc)
+
+abbrev pub IsConditionOf : (last : Option ℕ) → Goal → World → Option Condition → Type 0
+IsConditionOf last (Call number) w answer = answer ≡ Some (waits_for.Call number)
+IsConditionOf last (Pc address pid) w answer = (p : Option ℕ) × IsFocus last pid w p × (answer ≡ at address p)
+IsConditionOf last (Store address) w answer = answer ≡ Some (waits_for.StoreTo address)
+IsConditionOf last Fault w answer = answer ≡ Some waits_for.Fault
+IsConditionOf last Exit w answer = answer ≡ Some waits_for.Exit
+
+-- ---- what the words leave
+
+-- So many Runs were sent, or fewer, where nobody may run or the session keeps no more events
+pub record Steps (count : ℕ) (old new : Recorded) : Type 0 where
+  pub stop : Stop
+  pub sent : ℕ
+  pub added : AddsRuns sent old new
+  pub within : sent ≤ count
+  pub all : stop ≡ Done → sent ≡ count
+  pub unmet : stop ≢ Met
+  pub rests : RestsIf stop new.machine.world
+
+-- Runs were sent up to the first that is what is waited for; or fewer than that, where nobody may run, the session keeps no more events, or all that a word may send were sent
+pub record Searches (test : Meaning → Outcome → Meaning → Bool) (old new : Recorded) : Type 0 where
+  pub stop : Stop
+  pub sent : ℕ
+  pub last : Option Outcome
+  pub added : AddsRuns sent old new
+  pub within : sent ≤ EVENTS_MOST
+  pub all : stop ≡ Done → sent ≡ EVENTS_MOST
+  pub reaches : Reaches test stop sent last (running_of old) (running_of new)
+  pub rests : RestsIf stop new.machine.world
+
+-- up to this condition; where there is none, all stays
+abbrev pub SearchesFor : Option Condition → Recorded → Recorded → Type 0
+SearchesFor None old new = new ≡ old
+SearchesFor (Some c) old new = Searches (meets c) old new
+
+-- up to a goal
+pub record SearchesGoal (last : Option ℕ) (goal : Goal) (old new : Recorded) : Type 0 where
+  pub condition : Option Condition
+  pub is : IsConditionOf last goal old.machine.world condition
+  pub searches : SearchesFor condition old new
+
+-- These events were sent, or the first of them, where the session keeps no more
+pub record SendsFirst (wanted : ℕ → List Event) (all : ℕ) (old new : Recorded) : Type 0 where
+  pub sent : ℕ
+  pub stop : Stop
+  pub last : Option Outcome
+  pub had : Output
+  pub has : Output
+  pub sends : Sends (wanted sent) last old new had has
+  pub within : sent ≤ all
+  pub whole : stop ≡ Done → sent ≡ all
+  pub refused : IsRefusal stop
+
+-- Rounds were played
+pub record Plays (most : ℕ) (old new : Recorded) : Type 0 where
+  pub stop : Stop
+  pub had : Output
+  pub has : Output
+  pub leaves : RoundsLeave (record { steps = 1000; sends = 32 }) most stop old new had has
+
+-- It has gone back by so many events, to the boot where there were fewer; or it is as it was, where the host had too little memory
+abbrev pub GoesBack : (count : ℕ) → Recorded → Recorded → Type 0
+GoesBack count old new = (new ≡ old) ⊎ WentBack (length old.events - count) old new
+
+-- What a word leaves
+abbrev pub Does : (last : Option ℕ) → words.Word → Recorded → Recorded → Type 0
+Does last (Step count) old new = Steps count old new
+Does last Next old new = Searches (meets_aim (aim_in old.machine.world)) old new
+Does last (Until goal) old new = SearchesGoal last goal old new
+Does last (Run rounds) old new = Plays rounds old new
+Does last (Tick count) old new = SendsFirst (λ n. replicate n runs.Tick) count old new
+Does last (Send count) old new = SendsFirst (λ n. replicate n runs.Send) count old new
+Does last (Key keys) old new = SendsFirst (λ n. map runs.Key (take n keys.items)) (length keys.items) old new
+Does last (Back count) old new = GoesBack count old new
+Does last _ old new = new ≡ old
+
+-- Where the host had too little memory for its answer, it may have done nothing
+abbrev pub DoesOrStays : (last : Option ℕ) → words.Word → Recorded → Recorded → Type 0
+DoesOrStays last word old new = (new ≡ old) ⊎ Does last word old new
+
+-- ---- what a line leaves
+
+-- what comes behind the answer to a word
+abbrev pub next_of : words.Word → behind_words.Next
+next_of Continue = ends.Continues
+next_of Quit = ends.Ends
+next_of _ = ends.Stays
+
+-- What some word leaves whose numbers are in their ranges. A line that is no word is answered as the word Nothing is, which does nothing
+pub record DoesSome (last : Option ℕ) (old new : Recorded) : Type 0 where
+  pub word : words.Word
+  pub in_range : IsInRange word
+  pub does : Does last word old new
+
+-- and what comes behind its answer
+pub record Obeys (last : Option ℕ) (old new : Recorded) (next : behind_words.Next) : Type 0 where
+  pub word : words.Word
+  pub in_range : IsInRange word
+  pub does : Does last word old new
+  pub behind : next ≡ next_of word

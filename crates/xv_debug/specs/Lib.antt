@@ -1,0 +1,5 @@
+pub mod Effects
+pub mod Focus
+pub mod Instructions
+pub mod Lines
+pub mod Pipes

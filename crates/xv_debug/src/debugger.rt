@@ -1,0 +1,456 @@
+//! The debugger: a line goes in, its answer comes out.
+ghost use Rattle.std.specs.Prelude.{◌≡◌};
+ghost use Rattle.xv_debug.specs.Effects.{next_of};
+
+use crate::focus::{last_seen, running_or};
+use crate::pipes::show_pipes;
+use crate::processes::{show_processes, show_where};
+use crate::shown_output::show_output;
+use crate::sources::Sources;
+use crate::stops::{show_refusal, show_sent};
+use debug_motion::{self as motion, Journey, Output, Round};
+use debug_views::{
+    show_console, show_descriptors, show_events, show_frames, show_memory, show_pages,
+    show_registers, show_trace,
+};
+use debug_words::texts::Many;
+use debug_words::{EVENTS_MOST, Goal, Keys, Word, show_help};
+use std::alloc::{AllocError, Global};
+use xk_base::Pid;
+use xv_machine::Event;
+use xv_session::{Condition, Session};
+
+/// The instructions that `where` lists.
+const INSTRUCTIONS: u32 = 8;
+
+/// The rounds of `run`: those of `xv_run`.
+const ROUND: Round = Round {
+    steps: 1000,
+    sends: 32,
+};
+
+/// What comes behind an answer.
+#[derive(Clone, Copy, PartialEq, Eq)]
+pub enum Next {
+    /// The debugger waits for the next line.
+    Stays,
+    /// The machine goes on, without the debugger.
+    Continues,
+    /// The debugger ends, and so does the machine.
+    Ends,
+}
+
+/// A debugger: what it remembers between its words. The session isn't part of it.
+#[derive(Drop)]
+pub struct Debugger {
+    /// The process that made the last step that was seen.
+    last: Option<Pid>,
+    /// The address behind the memory that was shown last.
+    shown: u64,
+    /// What is known of the sources of the session's programs, if anything is.
+    sources: Option<Sources>,
+}
+
+/// What comes behind the answer to a word.
+fn next_of(word: &Word) -> Next
+    ensures { result ≡ next_of word.now }
+{
+    match word {
+        Word::Continue => Next::Continues,
+        Word::Quit => Next::Ends,
+        _ => Next::Stays,
+    }
+}
+
+impl Debugger {
+    ghost use Rattle.std.specs.Prelude.{◌≡◌, ◌⊎◌, IfOk, IfErr, length, map, option_map, replicate, take};
+    ghost use Rattle.kernel_spec.specs.runs.Run as runs;
+    ghost use Rattle.xv_machine.specs.Events.{event_of, outcome_of};
+    ghost use Rattle.debug_motion.specs.Aims.{aim_in};
+    ghost use Rattle.debug_motion.specs.Reaching.{meets_aim};
+    ghost use Rattle.xv_debug.specs.Effects.{Does, DoesOrStays, DoesSome, GoesBack, IsConditionOf, Obeys, Plays, Searches, SearchesFor, SearchesGoal, SendsFirst, Steps, next_of};
+    ghost use Rattle.xv_debug.specs.Focus.{IsFocus, last_seen};
+
+    /// A debugger that has seen nothing. The names of functions come from the programs' own symbols, and no line is
+    /// known.
+    pub fn new() -> Debugger
+        ensures { result.last ≡ None }
+    {
+        Debugger {
+            last: None,
+            shown: 0,
+            sources: None,
+        }
+    }
+
+    /// A debugger that has seen nothing, and knows this of the programs' sources.
+    pub fn with_sources(sources: Sources) -> Debugger
+        ensures last { result.last ≡ None }
+        ensures sources { result.sources ≡ Some sources }
+    {
+        Debugger {
+            last: None,
+            shown: 0,
+            sources: Some(sources),
+        }
+    }
+
+    /// Writes where the run is, what the process does that a word looks at, and so many instructions from its pc on.
+    fn show_focus(
+        &self,
+        session: &Session,
+        named: Option<Pid>,
+        count: u32,
+        answer: &mut String,
+    ) -> Result<(), AllocError> {
+        let focus = self.focus(session, named);
+        show_where(session, self.sources.as_ref(), focus, count, answer)
+    }
+
+    /// The process that a word looks at: the one that it names; else the one that runs; else the one that made the
+    /// last step, if it lives; else the one of the least pid.
+    fn focus(&self, session: &Session, named: Option<Pid>) -> Option<Pid>
+        ensures { IsFocus self.now.last named session.now.machine.world result }
+    {
+        match named {
+            Some(pid) => Some(pid),
+            None => running_or(session.machine(), self.last),
+        }
+    }
+
+    /// Obeys a line, and writes its answer.
+    ///
+    /// # Errors
+    ///
+    /// The host has too little memory for the answer.
+    pub fn obey(
+        &mut self,
+        alloc: Global,
+        session: &mut Session,
+        line: &str,
+        answer: &mut String,
+    ) -> Result<Next, AllocError>
+        ensures done { IfOk result (λ next. Obeys self.old.last session.old session.new next) }
+        ensures failed { IfErr result (λ _. (session.new ≡ session.old) ⊎ DoesSome self.old.last session.old session.new) }
+    {
+        match Word::of(line) {
+            Ok(word) => self.answer(alloc, session, &word, answer),
+            Err(error) => {
+                writeln!(answer, "{error}")?;
+                Ok(Next::Stays)
+            }
+        }
+    }
+
+    /// Does what a word asks for, and writes its answer.
+    ///
+    /// # Errors
+    ///
+    /// The host has too little memory for the answer. What the word asks for may be done then.
+    pub fn answer(
+        &mut self,
+        alloc: Global,
+        session: &mut Session,
+        word: &Word,
+        answer: &mut String,
+    ) -> Result<Next, AllocError>
+        ensures done { IfOk result (λ _. Does self.old.last word.now session.old session.new) }
+        ensures next { IfOk result (λ next. next ≡ next_of word.now) }
+        ensures failed { IfErr result (λ _. DoesOrStays self.old.last word.now session.old session.new) }
+    {
+        self.act(alloc, session, word, answer)?;
+        Ok(next_of(word))
+    }
+
+    /// Does what a word asks for, and writes its answer.
+    fn act(
+        &mut self,
+        alloc: Global,
+        session: &mut Session,
+        word: &Word,
+        answer: &mut String,
+    ) -> Result<(), AllocError>
+        ensures done { IfOk result (λ _. Does self.old.last word.now session.old session.new) }
+        ensures failed { IfErr result (λ _. DoesOrStays self.old.last word.now session.old session.new) }
+    {
+        match word {
+            Word::Back { count } => self.go_back(alloc, session, *count, answer),
+            Word::Step { count } => self.step(session, word, *count, answer),
+            Word::Next => self.next(session, word, answer),
+            Word::Until(goal) => self.seek(session, word, goal, answer),
+            Word::Run { rounds } => self.play(alloc, session, word, *rounds, answer),
+            Word::Tick { count } => self.send_often(
+                alloc,
+                session,
+                word,
+                Event::Tick,
+                *count,
+                answer,
+            ),
+            Word::Send { count } => self.send_often(
+                alloc,
+                session,
+                word,
+                Event::Send,
+                *count,
+                answer,
+            ),
+            Word::Key(keys) => self.type_in(alloc, session, word, keys, answer),
+            Word::Nothing
+            | Word::Where { .. }
+            | Word::Registers { .. }
+            | Word::Memory { .. }
+            | Word::Pages { .. }
+            | Word::Frames { .. }
+            | Word::Processes { .. }
+            | Word::Descriptors { .. }
+            | Word::Pipe
+            | Word::Console
+            | Word::At
+            | Word::Events { .. }
+            | Word::Trace { .. }
+            | Word::Help { .. }
+            | Word::Continue
+            | Word::Quit => self.look(alloc, session, word, answer),
+        }
+    }
+
+    /// Goes back by so many events, and tells where that is.
+    fn go_back(
+        &self,
+        alloc: Global,
+        session: &mut Session,
+        count: u64,
+        answer: &mut String,
+    ) -> Result<(), AllocError>
+        ensures { GoesBack count session.old session.new }
+    {
+        match motion::go_back(alloc, session, count) {
+            Ok(taken) => self.tell_back(session, taken, answer),
+            Err(error) => show_refusal(&error, answer),
+        }
+    }
+
+    /// Tells that it went back by so many events, and where that is.
+    fn tell_back(
+        &self,
+        session: &Session,
+        taken: u64,
+        answer: &mut String,
+    ) -> Result<(), AllocError> {
+        let many = Many(taken, "event");
+        writeln!(answer, "{many} back")?;
+        self.show_focus(session, None, 1, answer)
+    }
+
+    /// Sends so many Runs, and tells what came of them.
+    fn step(
+        &mut self,
+        session: &mut Session,
+        word: &Word,
+        count: u32,
+        answer: &mut String,
+    ) -> Result<(), AllocError>
+        ensures { Steps count session.old session.new }
+    {
+        let journey = motion::step(session, count);
+        self.tell(session, word, &journey, answer)
+    }
+
+    /// Sends Runs up to the end of an instruction, and of the call that it makes.
+    fn next(
+        &mut self,
+        session: &mut Session,
+        word: &Word,
+        answer: &mut String,
+    ) -> Result<(), AllocError>
+        ensures { Searches (meets_aim (aim_in session.old.machine.world)) session.old session.new }
+    {
+        let journey = motion::next(session, EVENTS_MOST);
+        self.tell(session, word, &journey, answer)
+    }
+
+    /// Sends Runs up to a goal.
+    fn seek(
+        &mut self,
+        session: &mut Session,
+        word: &Word,
+        goal: &Goal,
+        answer: &mut String,
+    ) -> Result<(), AllocError>
+        ensures { SearchesGoal self.old.last goal.now session.old session.new }
+    {
+        let condition = self.condition(session, goal);
+        self.search(session, word, condition, answer)
+    }
+
+    /// Sends Runs up to a condition; none where there is none, since it is asked of a process that isn't there.
+    fn search(
+        &mut self,
+        session: &mut Session,
+        word: &Word,
+        condition: Option<Condition>,
+        answer: &mut String,
+    ) -> Result<(), AllocError>
+        ensures { SearchesFor condition session.old session.new }
+    {
+        let Some(condition) = condition else {
+            return writeln!(answer, "there is no process");
+        };
+        let journey = motion::until(session, EVENTS_MOST, &condition);
+        self.tell(session, word, &journey, answer)
+    }
+
+    /// Plays rounds, and tells what came of them.
+    fn play(
+        &mut self,
+        alloc: Global,
+        session: &mut Session,
+        word: &Word,
+        rounds: u32,
+        answer: &mut String,
+    ) -> Result<(), AllocError>
+        ensures done { IfOk result (λ _. Plays rounds session.old session.new) }
+        ensures failed { IfErr result (λ _. (session.new ≡ session.old) ⊎ Plays rounds session.old session.new) }
+    {
+        let mut output = Output::new(alloc)?;
+        let journey = motion::play_rounds(session, &ROUND, rounds, &mut output);
+        self.tell_shown(session, word, &journey, &output, answer)
+    }
+
+    /// Sends an event so many times, and tells what came of it.
+    fn send_often(
+        &mut self,
+        alloc: Global,
+        session: &mut Session,
+        word: &Word,
+        event: Event,
+        count: u32,
+        answer: &mut String,
+    ) -> Result<(), AllocError>
+        ensures done { IfOk result (λ _. SendsFirst (λ n. replicate n (event_of event)) count session.old session.new) }
+        ensures failed { IfErr result (λ _. (session.new ≡ session.old) ⊎ SendsFirst (λ n. replicate n (event_of event)) count session.old session.new) }
+    {
+        let mut output = Output::new(alloc)?;
+        let journey = motion::send_often(session, event, count, &mut output);
+        self.tell_shown(session, word, &journey, &output, answer)
+    }
+
+    /// Types keys, and tells what came of them.
+    fn type_in(
+        &mut self,
+        alloc: Global,
+        session: &mut Session,
+        word: &Word,
+        keys: &Keys,
+        answer: &mut String,
+    ) -> Result<(), AllocError>
+        ensures done { IfOk result (λ _. SendsFirst (λ n. map runs.Key (take n keys.now.items)) (length keys.now.items) session.old session.new) }
+        ensures failed { IfErr result (λ _. (session.new ≡ session.old) ⊎ SendsFirst (λ n. map runs.Key (take n keys.now.items)) (length keys.now.items) session.old session.new) }
+    {
+        let mut output = Output::new(alloc)?;
+        let journey = motion::type_keys(session, keys.as_slice(), &mut output);
+        self.tell_shown(session, word, &journey, &output, answer)
+    }
+
+    /// What a search waits for; `None` where it is asked of a process, and there is none.
+    fn condition(&self, session: &Session, goal: &Goal) -> Option<Condition>
+        ensures { IsConditionOf self.now.last goal.now session.now.machine.world result }
+    {
+        match *goal {
+            Goal::Call(number) => Some(Condition::Call(number)),
+            Goal::Pc { address, pid } => Some(Condition::At {
+                pid: self.focus(session, pid)?,
+                pc: address,
+            }),
+            Goal::Store(address) => Some(Condition::StoreTo(address)),
+            Goal::Fault => Some(Condition::Fault),
+            Goal::Exit => Some(Condition::Exit),
+        }
+    }
+
+    /// Writes what was sent, and who runs now.
+    fn tell(
+        &mut self,
+        session: &Session,
+        word: &Word,
+        journey: &Journey,
+        answer: &mut String,
+    ) -> Result<(), AllocError>
+        ensures { self.new.last ≡ last_seen self.old.last (option_map outcome_of journey.now.last) }
+    {
+        self.last = last_seen(self.last, &journey.last);
+        show_sent(word, journey, answer)?;
+        self.show_focus(session, None, 1, answer)
+    }
+
+    /// Writes what was sent, what the console showed, and who runs now.
+    fn tell_shown(
+        &mut self,
+        session: &Session,
+        word: &Word,
+        journey: &Journey,
+        output: &Output,
+        answer: &mut String,
+    ) -> Result<(), AllocError>
+        ensures { self.new.last ≡ last_seen self.old.last (option_map outcome_of journey.now.last) }
+    {
+        self.last = last_seen(self.last, &journey.last);
+        show_sent(word, journey, answer)?;
+        show_output(output, answer)?;
+        self.show_focus(session, None, 1, answer)
+    }
+
+    /// Writes what a word that looks asks for; nothing for any other word.
+    fn look(
+        &mut self,
+        alloc: Global,
+        session: &Session,
+        word: &Word,
+        answer: &mut String,
+    ) -> Result<(), AllocError> {
+        match word {
+            Word::Where { pid } => self.show_focus(session, *pid, INSTRUCTIONS, answer),
+            Word::At => self.show_focus(session, None, 0, answer),
+            Word::Processes { from } => show_processes(session, *from, answer),
+            Word::Frames { frame } => show_frames(alloc, session, *frame, answer),
+            Word::Pipe => show_pipes(session, answer),
+            Word::Console => show_console(session, answer),
+            Word::Events { from } => show_events(session, *from, answer),
+            Word::Trace { count } => show_trace(session, *count, answer),
+            Word::Help { topic } => show_help(*topic, answer),
+            _ => self.look_at(alloc, session, word, answer),
+        }
+    }
+
+    /// Writes what a word asks for that looks at a process.
+    fn look_at(
+        &mut self,
+        alloc: Global,
+        session: &Session,
+        word: &Word,
+        answer: &mut String,
+    ) -> Result<(), AllocError> {
+        let named = match word {
+            Word::Registers { pid }
+            | Word::Descriptors { pid }
+            | Word::Memory { pid, .. }
+            | Word::Pages { pid, .. } => *pid,
+            _ => return Ok(()),
+        };
+        let Some(pid) = self.focus(session, named) else {
+            return writeln!(answer, "there is no process");
+        };
+        match word {
+            Word::Registers { .. } => show_registers(session, pid, answer),
+            Word::Descriptors { .. } => show_descriptors(session, pid, answer),
+            Word::Pages { from, .. } => show_pages(alloc, session, pid, *from, answer),
+            Word::Memory { address, count, .. } => {
+                let from = address.unwrap_or(self.shown);
+                self.shown = from.wrapping_add(u64::from(*count));
+                show_memory(session, pid, from, *count, answer)
+            }
+            _ => Ok(()),
+        }
+    }
+}

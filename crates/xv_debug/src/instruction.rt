@@ -1,0 +1,89 @@
+//! Instructions of a process, as text, with the functions and lines that they stand in.
+ghost use Rattle.std.specs.Prelude.{◌≡◌, ◌%◌, option_map};
+ghost use Rattle.xv_session.specs.Looking.{word_at};
+ghost use Rattle.xv_debug.specs.Instructions.{instruction_text};
+
+use crate::sources::{Sources, location_of};
+use rv64i_core::decode;
+use std::alloc::AllocError;
+use uasm_text::{InstructionText, text_at};
+use xk_base::Pid;
+use xv_machine::Machine;
+use xv_session::Session;
+
+/// The four bytes at an address, the first as the lowest; `None` where one of them isn't there.
+fn word_at(machine: &Machine, pid: Pid, address: u64) -> Option<u32>
+    requires { address % 4 ≡ 0 }
+    ensures { result ≡ word_at machine.now.world.state pid address }
+{
+    let first = u32::from(machine.peek(pid, address)?);
+    let second = u32::from(machine.peek(pid, address + 1)?);
+    let third = u32::from(machine.peek(pid, address + 2)?);
+    let fourth = u32::from(machine.peek(pid, address + 3)?);
+    Some(first + 256 * (second + 256 * (third + 256 * fourth)))
+}
+
+/// The text of the instruction at an address whose four bytes are these; `None` if they are none, or aren't there.
+fn instruction_text(word: Option<u32>, address: u64) -> Option<InstructionText>
+    ensures { option_map (λ text. text.bytes) result ≡ instruction_text address word }
+{
+    let instruction = decode(word?)?;
+    Some(text_at(&instruction, address))
+}
+
+/// Writes what stands at an address in place of an instruction.
+fn show_other(word: Option<u32>, answer: &mut String) -> Result<(), AllocError> {
+    match word {
+        Some(word) => writeln!(answer, "the word {word:#010x}"),
+        None => writeln!(answer, "nothing"),
+    }
+}
+
+/// Writes the line of the instruction at an address of a process.
+fn show_instruction(
+    session: &Session,
+    sources: Option<&Sources>,
+    pid: Pid,
+    address: u64,
+    mark: &str,
+    answer: &mut String,
+) -> Result<(), AllocError>
+    requires { address % 4 ≡ 0 }
+{
+    let word = word_at(session.machine(), pid, address);
+    write!(answer, "{mark} {address:>#8x}  ")?;
+    let Some(text) = instruction_text(word, address) else {
+        return show_other(word, answer);
+    };
+    let text = text.as_str();
+    let location = location_of(sources, session, pid, address);
+    if location.is_known() {
+        writeln!(answer, "{text:<28}  {location}")
+    } else {
+        writeln!(answer, "{text}")
+    }
+}
+
+/// Writes the lines of so many instructions of a process from an address on, of which the first is marked. Those behind
+/// 2^64 are left out.
+pub(crate) fn list(
+    session: &Session,
+    sources: Option<&Sources>,
+    pid: Pid,
+    from: u64,
+    count: u32,
+    answer: &mut String,
+) -> Result<(), AllocError>
+    requires { from % 4 ≡ 0 }
+{
+    let mut address = from;
+    for place in 0..count {
+        let mark = if place == 0 { "=>" } else { "  " };
+        show_instruction(session, sources, pid, address, mark, answer)?;
+        let Some(next) = address.checked_add(4) else {
+            return Ok(());
+        };
+        address = next;
+    }
+    Ok(())
+}

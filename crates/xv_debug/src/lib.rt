@@ -1,0 +1,25 @@
+//! The debugger: words that look into a session and move it, each answered by one screen of text.
+//!
+//! A [`Debugger`] obeys lines of words (`debug_words` reads them). What a word does to the session is `Does` of
+//! `specs/Effects.antt`: words that look leave it as it was, and the others send events up to what they wait for, or
+//! go back (`debug_motion`). It reads and writes nothing of the host: the lines come from its caller, and the answers
+//! go to it. What it shows comes from calls that are proved to tell what the machine holds (`debug_views`,
+//! `xv_report`).
+#![tactic(auto)]
+
+mod calls;
+mod debugger;
+mod focus;
+mod happened;
+mod instruction;
+mod lines;
+mod pipes;
+mod processes;
+mod shown_output;
+mod sources;
+mod stops;
+mod waits;
+
+pub use debugger::{Debugger, Next};
+pub use lines::Lines;
+pub use sources::Sources;

@@ -1,0 +1,2 @@
+pub mod Conversations
+pub mod Ranges

@@ -1,0 +1,135 @@
+//! Lines that are read, and their answers.
+use crate::failure::Failure;
+use std::alloc::{AllocError, Global};
+use std::io::{BufRead, Write};
+use xv_debug::{Debugger, Next};
+use xv_session::Session;
+
+/// What a person is told first.
+const GREETING: &str = "The machine is booted, and stands still. help lists the words.\n";
+
+/// What stands before a line.
+const PROMPT: &str = "(xv) ";
+
+/// Writes a text, and sees to it that it goes out.
+fn put<W: Write>(output: &mut W, text: &str) -> Result<(), Failure<'static>> {
+    match output.write_all(text.as_bytes()) {
+        Ok(()) => {}
+        Err(_) => return Err(Failure::Write),
+    }
+    match output.flush() {
+        Ok(()) => Ok(()),
+        Err(_) => Err(Failure::Write),
+    }
+}
+
+/// The bytes of a line as text, without the line's end. A byte that is no printable character is read as `?`.
+fn text_of(alloc: Global, bytes: &[u8]) -> Result<String, AllocError> {
+    let mut text = String::new(alloc);
+    for byte in bytes {
+        match *byte {
+            b'\n' | b'\r' => {}
+            b'\t' => text.push('\t')?,
+            32..=126 => text.push(char::from(*byte))?,
+            _ => text.push('?')?,
+        }
+    }
+    Ok(text)
+}
+
+/// The next line, without its end; `None` at the end of the input.
+fn next_line<R: BufRead>(alloc: Global, input: &mut R) -> Result<Option<String>, Failure<'static>> {
+    let mut bytes = Vec::new(alloc);
+    match input.read_until(b'\n', &mut bytes) {
+        Ok(0) => Ok(None),
+        Ok(_) => Ok(Some(text_of(alloc, bytes.as_slice())?)),
+        Err(_) => Err(Failure::Read),
+    }
+}
+
+/// Writes a text, if a person reads it.
+fn show<W: Write>(prompt: bool, text: &str, output: &mut W) -> Result<(), Failure<'static>> {
+    if prompt { put(output, text) } else { Ok(()) }
+}
+
+/// Writes a line again that was read, if no prompt stands before it.
+fn repeat<W: Write>(prompt: bool, line: &str, output: &mut W) -> Result<(), Failure<'static>> {
+    if prompt {
+        return Ok(());
+    }
+    put(output, "> ")?;
+    put(output, line)?;
+    put(output, "\n")
+}
+
+/// A conversation: a session, and the debugger that looks into it.
+#[derive(Drop)]
+pub(crate) struct Conversation {
+    pub session: Session,
+    pub debugger: Debugger,
+    /// Whether a prompt is written before each line is read, and the line isn't written again.
+    pub prompt: bool,
+}
+
+impl Conversation {
+    ghost use Rattle.xv_debugger.specs.Conversations.{Converses, MovesByWord};
+
+    /// Obeys a line, and writes its answer.
+    fn obey<W: Write>(
+        &mut self,
+        alloc: Global,
+        line: &str,
+        output: &mut W,
+    ) -> Result<Next, Failure<'static>>
+        ensures { MovesByWord self.old.session self.new.session }
+    {
+        let mut answer = String::new(alloc);
+        let next = self
+            .debugger
+            .obey(alloc, &mut self.session, line, &mut answer)?;
+        put(output, answer.as_str())?;
+        Ok(next)
+    }
+
+    /// Reads a line and obeys it. The answer tells whether there may be another.
+    fn exchange<R: BufRead, W: Write>(
+        &mut self,
+        alloc: Global,
+        input: &mut R,
+        output: &mut W,
+    ) -> Result<bool, Failure<'static>>
+        ensures { MovesByWord self.old.session self.new.session }
+    {
+        show(self.prompt, PROMPT, output)?;
+        let Some(line) = next_line(alloc, input)? else {
+            show(self.prompt, "\n", output)?;
+            return Ok(false);
+        };
+        repeat(self.prompt, line.as_str(), output)?;
+        let next = self.obey(alloc, line.as_str(), output)?;
+        Ok(next == Next::Stays)
+    }
+
+    /// Obeys lines up to the end of the input, or up to a word that ends it.
+    ///
+    /// # Errors
+    ///
+    /// The input or the output failed, or the host has too little memory for an answer.
+    #[tactic(auto, using(crate::proofs::Lines::no_line, crate::proofs::Lines::one_more))]
+    pub(crate) fn converse<R: BufRead, W: Write>(
+        &mut self,
+        alloc: Global,
+        input: &mut R,
+        output: &mut W,
+    ) -> Result<(), Failure<'static>>
+        ensures { Converses self.old.session self.new.session }
+    {
+        show(self.prompt, GREETING, output)?;
+        for _ in 0..u64::MAX {
+            if !self.exchange(alloc, input, output)? {
+                return Ok(());
+            }
+        }
+        Ok(())
+    }
+}
