@@ -6,6 +6,8 @@
 #   checks/why/run.sh           compares
 #   checks/why/run.sh --store   keeps what is told now
 #
+# Then it compares the notes of a run with its trace.
+#
 # NAME.s.txt and NAME.c.txt have what standard error gets. The programs in C need the compiler with which the texts were
 # made (Debian 12: apt-get install gcc-riscv64-unknown-elf, version 12.2): with no compiler or another one they are left
 # out, and the verdict says so.
@@ -66,6 +68,20 @@ case $(riscv64-unknown-elf-gcc -dumpfullversion 2>/dev/null) in
         ;;
     *) without=', without those in C: there is no compiler of version 12.2' ;;
 esac
+# Each event as a line (--notes) is the trace, with the names of programs and what sleepers wait for between its lines.
+run_pipeline() {
+    echo 'echo a | wc' | "$XV_WHY" --rounds 60 --quantum 100 "$@" "$root/programs/bin/init" "$root/programs/bin/sh" \
+        "$root/programs/bin/echo" "$root/programs/bin/wc" 2>&1 >/dev/null
+}
+count=$((count + 1))
+run_pipeline --trace 65536 >"$room/trace"
+run_pipeline --notes >"$room/notes"
+sed '/^name /d; /^waits /d' "$room/notes" >"$room/alone"
+grep -q '^name 4 wc$' "$room/notes" && grep -q '^waits 4 read on descriptor 0, the read end of a pipe$' "$room/notes" &&
+    cmp "$room/alone" "$room/trace" || {
+    echo 'the notes of a pipeline are not its trace with names'
+    others=$((others + 1))
+}
 [ "$others" = 0 ] && echo "all $count reports are as they should be$without" && exit 0
 echo "$others of $count reports are others$without"
 exit 1

@@ -1,6 +1,4 @@
 //! The lines of a trace, as far as a picture shows them.
-use std::alloc::{AllocError, Global};
-
 /// What a line of a trace tells. A process is named by its pid.
 #[derive(Clone, Copy, Debug, PartialEq, Eq)]
 pub enum Note {
@@ -89,19 +87,4 @@ pub fn note_of_line(line: &str) -> Option<Note> {
         None => note_of_four(kind, first, second, third),
         Some(_) => None,
     }
-}
-
-/// The notes of a text, in the order of its lines. Lines without a note are passed over.
-///
-/// # Errors
-///
-/// [`AllocError`] where the host has too little memory.
-pub fn notes(alloc: Global, text: &str) -> Result<Vec<Note>, AllocError> {
-    let mut notes = Vec::new(alloc);
-    for line in text.lines() {
-        if let Some(note) = note_of_line(line) {
-            notes.push(note)?;
-        }
-    }
-    Ok(notes)
 }

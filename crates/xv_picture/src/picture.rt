@@ -1,15 +1,14 @@
 //! The picture of a chart, in SVG (Scalable Vector Graphics 1.1).
 use crate::chart::{Chart, Row, newborn};
+use crate::label::{RowName, Text, names_room, wait_in, who_at};
 use crate::note::Note;
-use crate::row::State;
+use crate::remark::Remarks;
+use crate::row::{State, Stretch};
 use std::fmt::{self, Display};
 use std::io::{self, Write};
 
 /// How wide the bars of a whole trace are, in pixels.
 const WIDTH: u64 = 1_200;
-
-/// Where the bars begin, in pixels.
-const LEFT: u64 = 90;
 
 /// Where the first row begins, in pixels.
 const TOP: u64 = 44;
@@ -36,11 +35,22 @@ impl Display for Length {
     }
 }
 
-// Where the bars of the first `event` events end, of a trace that has `events` of them.
-fn across(event: usize, events: usize) -> Length {
-    let all = (events as u64).max(1);
-    let width = (event as u64).saturating_mul(WIDTH * 100) / all;
-    Length(width.saturating_add(LEFT * 100))
+// Where the events of a trace stand.
+#[derive(Clone, Copy)]
+struct Axis {
+    // Where the bars begin, in pixels.
+    left: u64,
+    // How many events there are.
+    events: usize,
+}
+
+impl Axis {
+    // Where the bars of the first `event` events end.
+    fn across(self, event: usize) -> Length {
+        let all = (self.events as u64).max(1);
+        let width = (event as u64).saturating_mul(WIDTH * 100) / all;
+        Length(width.saturating_add(self.left.saturating_mul(100)))
+    }
 }
 
 // The upper edge of the row at this place.
@@ -88,8 +98,7 @@ fn call_name(number: i32) -> &'static str {
 }
 
 // The head of the picture.
-fn draw_head<W: Write>(height: u64, output: &mut W) -> io::Result<()> {
-    let width = WIDTH + LEFT + 30;
+fn draw_head<W: Write>(width: u64, height: u64, output: &mut W) -> io::Result<()> {
     writeln!(
         output,
         "<svg xmlns=\"http://www.w3.org/2000/svg\" width=\"{width}\" height=\"{height}\" font-family=\"sans-serif\" font-size=\"11\">"
@@ -120,8 +129,8 @@ fn draw_head<W: Write>(height: u64, output: &mut W) -> io::Result<()> {
 }
 
 // What the colours mean.
-fn draw_legend<W: Write>(output: &mut W) -> io::Result<()> {
-    let mut left = LEFT;
+fn draw_legend<W: Write>(axis: Axis, output: &mut W) -> io::Result<()> {
+    let mut left = axis.left;
     for class in ["running", "ready", "asleep", "ended", "call", "gone"] {
         let text = left.saturating_add(16);
         writeln!(
@@ -135,7 +144,7 @@ fn draw_legend<W: Write>(output: &mut W) -> io::Result<()> {
 }
 
 // The ticks of the clock, as lines from the first row to the last.
-fn draw_ticks<W: Write>(chart: &Chart, bottom: u64, output: &mut W) -> io::Result<()> {
+fn draw_ticks<W: Write>(chart: &Chart, axis: Axis, bottom: u64, output: &mut W) -> io::Result<()> {
     let ticks = chart
         .notes
         .iter()
@@ -146,7 +155,7 @@ fn draw_ticks<W: Write>(chart: &Chart, bottom: u64, output: &mut W) -> io::Resul
     }
     for (event, &note) in chart.notes.iter().enumerate() {
         if note == Note::Tick {
-            let x = across(event, chart.notes.len());
+            let x = axis.across(event);
             writeln!(
                 output,
                 "<line class=\"tick\" x1=\"{x}\" y1=\"{TOP}\" x2=\"{x}\" y2=\"{bottom}\"/>"
@@ -156,26 +165,60 @@ fn draw_ticks<W: Write>(chart: &Chart, bottom: u64, output: &mut W) -> io::Resul
     Ok(())
 }
 
-// The name and the bar of a process.
-fn draw_row<W: Write>(row: &Row, place: usize, events: usize, output: &mut W) -> io::Result<()> {
-    let pid = row.pid;
+// What is drawn: a chart, what lines tell of its processes besides, and where its events stand.
+#[derive(Clone, Copy)]
+struct Picture<'a> {
+    chart: &'a Chart,
+    remarks: &'a Remarks,
+    axis: Axis,
+}
+
+// A part of the bar of the row at this place, from the event `first` on; its text shows under the pointer.
+fn draw_stretch<W: Write>(
+    picture: Picture<'_>,
+    pid: u32,
+    place: usize,
+    first: usize,
+    stretch: &Stretch,
+    output: &mut W,
+) -> io::Result<()> {
+    let behind = first.saturating_add(stretch.events);
+    if stretch.state == State::Absent || behind <= first {
+        return Ok(());
+    }
+    let word = word(stretch.state);
+    let left = picture.axis.across(first);
+    let width = Length(picture.axis.across(behind).0.saturating_sub(left.0));
     let top = row_top(place);
-    let base = top.saturating_add(10);
-    writeln!(output, "<text x=\"8\" y=\"{base}\">process {pid}</text>")?;
+    let last = behind - 1;
+    let who = who_at(picture.remarks, pid, behind);
+    write!(
+        output,
+        "<rect class=\"{word}\" x=\"{left}\" y=\"{top}\" width=\"{width}\" height=\"{BAR}\"><title>{who}: {word}"
+    )?;
+    if stretch.state == State::Asleep {
+        if let Some(wait) = wait_in(picture.remarks, pid, first, behind) {
+            let wait = Text(wait);
+            write!(output, " in {wait}")?;
+        }
+    }
+    writeln!(output, ", events {first} to {last}</title></rect>")
+}
+
+// The name and the bar of a process.
+fn draw_row<W: Write>(
+    picture: Picture<'_>,
+    row: &Row,
+    place: usize,
+    output: &mut W,
+) -> io::Result<()> {
+    let base = row_top(place).saturating_add(10);
+    let name = RowName(who_at(picture.remarks, row.pid, picture.axis.events));
+    writeln!(output, "<text x=\"8\" y=\"{base}\">{name}</text>")?;
     let mut first: usize = 0;
     for stretch in &row.stretches {
-        let behind = first.saturating_add(stretch.events);
-        if stretch.state != State::Absent && first < behind {
-            let word = word(stretch.state);
-            let left = across(first, events);
-            let width = Length(across(behind, events).0.saturating_sub(left.0));
-            let last = behind - 1;
-            writeln!(
-                output,
-                "<rect class=\"{word}\" x=\"{left}\" y=\"{top}\" width=\"{width}\" height=\"{BAR}\"><title>process {pid}: {word}, events {first} to {last}</title></rect>"
-            )?;
-        }
-        first = behind;
+        draw_stretch(picture, row.pid, place, first, stretch, output)?;
+        first = first.saturating_add(stretch.events);
     }
     Ok(())
 }
@@ -257,14 +300,20 @@ fn draw_birth<W: Write>(x: Length, parent: usize, child: usize, output: &mut W) 
 }
 
 // What stands on the bars for this event.
-fn draw_event<W: Write>(chart: &Chart, event: usize, note: Note, output: &mut W) -> io::Result<()> {
+fn draw_event<W: Write>(
+    chart: &Chart,
+    axis: Axis,
+    event: usize,
+    note: Note,
+    output: &mut W,
+) -> io::Result<()> {
     let Some((pid, mark)) = mark_of(note) else {
         return Ok(());
     };
     let Some(place) = chart.place_of(pid) else {
         return Ok(());
     };
-    let x = across(event, chart.notes.len());
+    let x = axis.across(event);
     if let Some(child) = newborn(note) {
         if let Some(child) = chart.place_of(child) {
             draw_birth(x, place, child, output)?;
@@ -296,15 +345,22 @@ fn byte_in(line: &str, note: Note) -> Option<u8> {
 
 // A line of the bytes that were typed, or sent. Where there is no room for a letter, it is put behind the
 // one before it, and it is left out where that is behind the right edge.
-fn draw_bytes<W: Write>(line: &str, chart: &Chart, base: u64, output: &mut W) -> io::Result<()> {
+fn draw_bytes<W: Write>(
+    line: &str,
+    chart: &Chart,
+    axis: Axis,
+    base: u64,
+    output: &mut W,
+) -> io::Result<()> {
     writeln!(output, "<text x=\"8\" y=\"{base}\">{line}</text>")?;
+    let right = axis.left.saturating_add(WIDTH).saturating_mul(100);
     let mut free: u64 = 0;
     for (event, &note) in chart.notes.iter().enumerate() {
-        if free > (LEFT + WIDTH) * 100 {
+        if free > right {
             break;
         }
         if let Some(byte) = byte_in(line, note) {
-            let x = Length(across(event, chart.notes.len()).0.max(free));
+            let x = Length(axis.across(event).0.max(free));
             write!(
                 output,
                 "<text x=\"{x}\" y=\"{base}\" font-family=\"monospace\">"
@@ -318,48 +374,58 @@ fn draw_bytes<W: Write>(line: &str, chart: &Chart, base: u64, output: &mut W) ->
 }
 
 // The numbers of five events under the bars.
-fn draw_numbers<W: Write>(events: usize, base: u64, output: &mut W) -> io::Result<()> {
+fn draw_numbers<W: Write>(axis: Axis, base: u64, output: &mut W) -> io::Result<()> {
     writeln!(output, "<text x=\"8\" y=\"{base}\">event</text>")?;
     for quarter in 0..5usize {
-        let event = events.saturating_mul(quarter) / 4;
-        let x = across(event, events);
+        let event = axis.events.saturating_mul(quarter) / 4;
+        let x = axis.across(event);
         writeln!(output, "<text x=\"{x}\" y=\"{base}\">{event}</text>")?;
     }
     Ok(())
 }
 
 // The name and the bar of each process, from the first row on.
-fn draw_rows<W: Write>(chart: &Chart, output: &mut W) -> io::Result<()> {
-    let events = chart.notes.len();
-    for (place, row) in chart.rows.iter().enumerate() {
-        draw_row(row, place, events, output)?;
+fn draw_rows<W: Write>(picture: Picture<'_>, output: &mut W) -> io::Result<()> {
+    for (place, row) in picture.chart.rows.iter().enumerate() {
+        draw_row(picture, row, place, output)?;
     }
     Ok(())
 }
 
 // What stands on the bars, event by event.
-fn draw_events<W: Write>(chart: &Chart, output: &mut W) -> io::Result<()> {
+fn draw_events<W: Write>(chart: &Chart, axis: Axis, output: &mut W) -> io::Result<()> {
     for (event, &note) in chart.notes.iter().enumerate() {
-        draw_event(chart, event, note, output)?;
+        draw_event(chart, axis, event, note, output)?;
     }
     Ok(())
 }
 
 /// Writes the picture of a chart: a row for each process, in the order of their pids, with its bar and its
-/// marks; below them the bytes that were sent and typed, and the numbers of events.
+/// marks; below them the bytes that were sent and typed, and the numbers of events. A row has the name of its
+/// process's last program, and a sleeper's bar what it waits for, where `remarks` tell them.
 ///
 /// # Errors
 ///
 /// That of `output`, where it doesn't take all of the picture.
-pub fn draw<W: Write>(chart: &Chart, output: &mut W) -> io::Result<()> {
+pub fn draw<W: Write>(chart: &Chart, remarks: &Remarks, output: &mut W) -> io::Result<()> {
+    let axis = Axis {
+        left: names_room(chart, remarks),
+        events: chart.notes.len(),
+    };
+    let picture = Picture {
+        chart,
+        remarks,
+        axis,
+    };
     let bottom = row_top(chart.rows.len());
-    draw_head(bottom.saturating_add(70), output)?;
-    draw_legend(output)?;
-    draw_ticks(chart, bottom, output)?;
-    draw_rows(chart, output)?;
-    draw_events(chart, output)?;
-    draw_bytes("sent", chart, bottom.saturating_add(16), output)?;
-    draw_bytes("typed", chart, bottom.saturating_add(34), output)?;
-    draw_numbers(chart.notes.len(), bottom.saturating_add(54), output)?;
+    let width = axis.left.saturating_add(WIDTH + 30);
+    draw_head(width, bottom.saturating_add(70), output)?;
+    draw_legend(axis, output)?;
+    draw_ticks(chart, axis, bottom, output)?;
+    draw_rows(picture, output)?;
+    draw_events(chart, axis, output)?;
+    draw_bytes("sent", chart, axis, bottom.saturating_add(16), output)?;
+    draw_bytes("typed", chart, axis, bottom.saturating_add(34), output)?;
+    draw_numbers(axis, bottom.saturating_add(54), output)?;
     writeln!(output, "</svg>")
 }

@@ -1,5 +1,16 @@
 //! What a command line asks for.
 
+/// What is told of events as they come.
+#[derive(Clone, Copy, Debug, PartialEq, Eq)]
+pub enum Telling {
+    /// Faults alone.
+    Faults,
+    /// Each event in words.
+    Words,
+    /// Each event as a line of a trace, with the names of programs and what sleepers wait for.
+    Notes,
+}
+
 /// What the words of a command line ask for.
 #[derive(Drop)]
 pub struct Settings {
@@ -11,8 +22,8 @@ pub struct Settings {
     pub quantum: u32,
     /// The most notes that the trace keeps: 0 to 65,536.
     pub trace: u32,
-    /// Whether each event is told in words.
-    pub explain: bool,
+    /// What is told of events as they come.
+    pub telling: Telling,
     /// The path of each FILE, in the order of the words: at least one.
     pub files: Vec<String>,
 }

@@ -2,7 +2,8 @@
 //!
 //! The command line, the rounds, the keys, what goes to standard output and the exit status are those of `xv_run`. On
 //! standard error it tells each fault as it comes, with the calls that led there, and at the end what each process
-//! sleeps on that has not exited, and who could wake it.
+//! sleeps on that has not exited, and who could wake it; with `--explain` each event in words, with `--notes` each as a line
+//! for `xv_picture`.
 #![tactic(auto)]
 
 mod command_line;
@@ -45,7 +46,7 @@ fn run(rt: &HostRuntime, settings: &Settings) -> u8 {
     };
     let mut keys = Counted::new(rt.stdin());
     let mut sink = Counted::new(rt.stdout());
-    let mut teller = Teller::new(rt.alloc(), rt.stderr(), symbols, settings.explain);
+    let mut teller = Teller::new(rt.alloc(), rt.stderr(), symbols, settings.telling);
     run_with(
         rt.alloc(),
         config,

@@ -91,7 +91,10 @@ pub(crate) fn run_with<R: KeySource, W: ByteSink, E: Write>(
         (record { source = R.source keys.new; failed_reads = R.failures keys.new; sink = W.sink sink.new; failed_writes = W.failures sink.new }) }
 {
     match Session::boot(alloc, config, programs) {
-        Ok(mut session) => play(&mut session, plan, keys, sink, teller),
+        Ok(mut session) => {
+            teller.note_names(&session);
+            play(&mut session, plan, keys, sink, teller)
+        }
         Err(error) => {
             let failure = Failure::from(error);
             teller.say_failure(&failure);

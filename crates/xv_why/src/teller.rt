@@ -1,14 +1,15 @@
 //! What is told of a run while it goes on, and at its end.
 use crate::failure::Failure;
 use crate::letters::{Key, Letter};
+use crate::line::Telling;
 use std::alloc::Global;
 use std::io::Write;
 use xk_base::Pid;
 use xk_base::limits::NPROC;
 use xv_machine::{Event, Outcome, ProcessState};
-use xv_report::text::{Asleep, FaultText, WaitLine, Who};
+use xv_report::text::{Asleep, FaultText, Name, WaitLine, Who};
 use xv_report::{FaultReport, call_name, report_at, waits_for};
-use xv_session::{Runs, Session};
+use xv_session::{Named, Runs, Session};
 
 /// The process that runs, as it is before Runs are sent: behind them it may be gone.
 #[derive(Clone, Copy)]
@@ -26,8 +27,10 @@ pub(crate) struct Teller<E> {
     errors: E,
     /// What stands for debuggers beside each program.
     symbols: Vec<Vec<u8>>,
-    /// Whether each event is told in words.
-    explain: bool,
+    /// What is told of events as they come.
+    telling: Telling,
+    /// Which program each process runs, as it was told last by lines of a trace.
+    named: Vec<Named>,
     /// Done instructions that aren't told yet, and whose they are.
     steps: u64,
     stepper: Runner,
@@ -108,12 +111,13 @@ fn wait_text<'a>(
 
 impl<E: Write> Teller<E> {
     /// Nothing is told yet.
-    pub fn new(alloc: Global, errors: E, symbols: Vec<Vec<u8>>, explain: bool) -> Teller<E> {
+    pub fn new(alloc: Global, errors: E, symbols: Vec<Vec<u8>>, telling: Telling) -> Teller<E> {
         Teller {
             alloc,
             errors,
             symbols,
-            explain,
+            telling,
+            named: Vec::new(alloc),
             steps: 0,
             stepper: Runner {
                 pid: None,
@@ -126,8 +130,10 @@ impl<E: Write> Teller<E> {
 
     /// Tells what came of Runs.
     pub fn tell_runs(&mut self, session: &Session, runner: &Runner, runs: &Runs) {
-        if self.explain {
-            self.explain_runs(session, runner, runs);
+        match self.telling {
+            Telling::Faults => {}
+            Telling::Words => self.explain_runs(session, runner, runs),
+            Telling::Notes => self.note_runs(session, runner, runs),
         }
         if let Some(Outcome::Faulted { pid, .. }) = &runs.last {
             self.tell_fault(session, *pid, runner);
@@ -267,9 +273,94 @@ impl<E: Write> Teller<E> {
 
     /// Tells what came of an event other than Run.
     pub fn tell_event(&mut self, session: &Session, event: Event, outcome: &Outcome) {
-        if !self.explain {
+        match self.telling {
+            Telling::Faults => {}
+            Telling::Words => self.explain_event(session, event, outcome),
+            Telling::Notes => self.note_event(event, outcome),
+        }
+    }
+
+    /// Writes which programs live processes run that were not told yet, each in a line: `name 3 wc`.
+    pub fn note_names(&mut self, session: &Session) {
+        if self.telling != Telling::Notes {
             return;
         }
+        let now = session.names();
+        for named in now {
+            if !self.named.contains(named) {
+                let pid = named.pid.number();
+                if let Some(program) = session.machine().programs().get(named.place) {
+                    let name = Name(program.name.as_slice());
+                    let _ = writeln!(self.errors, "name {pid} {name}");
+                }
+            }
+        }
+        if let Ok(named) = Vec::from_slice(self.alloc, now) {
+            self.named = named;
+        }
+    }
+
+    /// Writes what came of Runs, each in the trace's line.
+    fn note_runs(&mut self, session: &Session, runner: &Runner, runs: &Runs) {
+        let Some(last) = &runs.last else {
+            self.note_steps(runner, runs.sent);
+            return;
+        };
+        match last {
+            // (Nobody could run before any of them.)
+            Outcome::Idle | Outcome::Halted => {
+                for _ in 0..runs.sent {
+                    let _ = writeln!(self.errors, "{last}");
+                }
+            }
+            _ => {
+                self.note_steps(runner, runs.sent.saturating_sub(1));
+                let _ = writeln!(self.errors, "{last}");
+                self.note_more(session, last);
+            }
+        }
+    }
+
+    /// Writes done instructions, a line each.
+    fn note_steps(&mut self, runner: &Runner, count: u32) {
+        let Some(pid) = runner.pid else {
+            return;
+        };
+        let pid = pid.number();
+        for _ in 0..count {
+            let _ = writeln!(self.errors, "step {pid}");
+        }
+    }
+
+    /// Writes what a trace's line doesn't hold: the names that a call has changed, and what a process waits for that has
+    /// fallen asleep: `waits 3 read on descriptor 0, the read end of a pipe`.
+    fn note_more(&mut self, session: &Session, outcome: &Outcome) {
+        match outcome {
+            Outcome::Called { .. } => self.note_names(session),
+            Outcome::Blocked { pid, .. } => {
+                if let Some(wait) = waits_for(session.machine(), *pid) {
+                    let pid = pid.number();
+                    let asleep = Asleep(&wait);
+                    let _ = writeln!(self.errors, "waits {pid} {asleep}");
+                }
+            }
+            _ => {}
+        }
+    }
+
+    /// Writes what came of an event other than Run, in the trace's line.
+    fn note_event(&mut self, event: Event, outcome: &Outcome) {
+        let _ = match (event, outcome) {
+            (Event::Key(key), Outcome::Typed(echo)) => {
+                let echo = echo.len();
+                writeln!(self.errors, "key {key} {echo}")
+            }
+            _ => writeln!(self.errors, "{outcome}"),
+        };
+    }
+
+    /// Tells in words what came of an event other than Run.
+    fn explain_event(&mut self, session: &Session, event: Event, outcome: &Outcome) {
         match outcome {
             Outcome::Ticked => {
                 self.close(session);
