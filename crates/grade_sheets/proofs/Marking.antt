@@ -2,11 +2,15 @@
 use Rattle.std.proofs.Common.{◌≡◌, ℕ, ◌+◌, ◌<◌, List, [], ◌∷◌, ◌++◌, length, take, get_or, sym, ap, subst, ◌∙◌, arith}
 use Rattle.std.proofs.lemmas.List.{take_more}
 use Rattle.std.proofs.lemmas.List.Sums.{sum_by_more}
-use Rattle.std.specs.Prelude.{min, sum_by}
+use Rattle.std.specs.Prelude.{Bool, false, if◌then◌else◌, min, sum_by, refl}
+use Rattle.std.specs.List.{list_any}
+use Rattle.std.proofs.lemmas.Bool.{or_parts}
 use Rattle.grade_sheets.specs.declared.asked.Asked.{Asked}
 use Rattle.grade_sheets.specs.declared.judging.Mark.{Mark}
 use Rattle.grade_sheets.specs.declared.judging.Seen.{Seen}
 use Rattle.grade_sheets.specs.Grades.{IsMarked, AreMarked}
+use Rattle.grade_sheets.specs.Points.{given_for}
+use Rattle.grade_sheets.specs.Standings.{has}
 
 one_more : (asked : List Asked) (seen : Seen) (marks : List Mark) (one : Asked) (mark : Mark) → AreMarked asked seen marks → IsMarked one seen mark → AreMarked (asked ++ one ∷ []) seen (marks ++ mark ∷ [])
 one_more [] seen [] one mark all here = (here, tt)
@@ -33,3 +37,11 @@ more_points {X} f xs place x old part new within is before its after =
     let more : sum_by f (take (place + 1) xs) ≡ sum_by f (take place xs) + f (get_or xs place x) = sum_by_more f xs place x within in
     let that : f (get_or xs place x) ≡ f x = ap f (sym is) in
     omega (arith, more, that, before, its, after)
+
+-- marks none of which is for what the run has bring no points
+pub none_given : (marks : List Mark) → list_any has marks ≡ false → sum_by given_for marks ≡ 0
+none_given [] none = refl
+none_given (mark ∷ marks) none =
+    let parts = or_parts (has mark) (list_any has marks) none in
+    let here : given_for mark ≡ 0 = ap (λ (b : Bool). if b then mark.points else 0) parts.0 in
+    rw (here, none_given marks parts.1) refl

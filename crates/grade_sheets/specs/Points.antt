@@ -9,6 +9,10 @@ use Rattle.grade_sheets.specs.declared.judging.Mark.{Mark}
 abbrev pub given_for : Mark → ℕ
 given_for mark = if is_none mark.why then mark.points else 0
 
+-- those that it is for
+abbrev pub points_for : Mark → ℕ
+points_for mark = mark.points
+
 abbrev pub asked_for : Asked → ℕ
 asked_for one = one.points
 

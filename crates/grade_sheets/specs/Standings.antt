@@ -1,5 +1,5 @@
 -- What a run comes to, and what a submission does.
-use Rattle.std.specs.Prelude.{◌≡◌, Bool, true, false, List, [], ◌∷◌, is_none}
+use Rattle.std.specs.Prelude.{◌≡◌, ℕ, Bool, true, false, List, [], ◌∷◌, map, is_none}
 use Rattle.std.specs.List.{list_any, list_all}
 use Rattle.grade_rules.specs.declared.note.Note.{Note}
 use Rattle.grade_rules.specs.declared.note.Note.TheVariants as note
@@ -8,6 +8,7 @@ use Rattle.grade_rules.specs.declared.pattern.Pattern.TheVariants as shapes
 use Rattle.grade_rules.specs.declared.rule.Rule.{Rule}
 use Rattle.grade_rules.specs.declared.rule.Rule.TheVariants.{Count, NoneOf, Before, InOrder, Exactly}
 use Rattle.grade_sheets.specs.Grades.{AreMarked}
+use Rattle.grade_sheets.specs.Points.{asked_for, points_for}
 use Rattle.grade_sheets.specs.declared.asked.Asked.{Asked}
 use Rattle.grade_sheets.specs.declared.asked.Check.{Check}
 use Rattle.grade_sheets.specs.declared.asked.Check.TheVariants.{Line, Predicts, Notes}
@@ -68,6 +69,12 @@ standing_of false may_fault faulted ends.TooMuchShown = TooMuch
 pub record IsGraded (asked : List Asked) (seen : Seen) (grade : RunGrade) : Type 0 where
   pub marks : AreMarked asked seen grade.marks.items
   pub standing : grade.standing ≡ standing_of (list_all has grade.marks.items) (list_any may_fault asked) (list_any is_fault seen.notes.now) seen.end
+
+-- What is told of a run that can't be made: it is refused, and there is a mark for each thing that is asked, in their order, for what it isn't given
+pub record IsUngraded (asked : List Asked) (grade : RunGrade) : Type 0 where
+  pub marks : map points_for grade.marks.items ≡ map asked_for asked
+  pub none : list_any has grade.marks.items ≡ false
+  pub standing : grade.standing ≡ Refused
 
 -- what runs come to together: what the first comes to that isn't right
 abbrev pub unless_right : Standing → Standing → Standing

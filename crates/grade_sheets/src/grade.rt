@@ -1,8 +1,9 @@
 //! What a run comes to, and what a submission does.
-ghost use Rattle.std.specs.Prelude.{◌≡◌, min, IfOk};
+ghost use Rattle.std.specs.Prelude.{◌≡◌, false, min, is_none, IfOk};
 ghost use Rattle.std.specs.List.{list_all, list_any};
-ghost use Rattle.grade_sheets.specs.Points.{points_of_runs, points_of_exercise};
-ghost use Rattle.grade_sheets.specs.Standings.{is_fault, may_fault, is_on_faults, names_faults, has, standing_of, first_standing, IsGraded};
+ghost use Rattle.grade_sheets.specs.Points.{points_of_run, points_of_runs, points_of_exercise};
+ghost use Rattle.grade_sheets.specs.Standings.{is_fault, may_fault, is_on_faults, names_faults, has, standing_of, first_standing, IsGraded, IsUngraded};
+ghost use Rattle.grade_sheets.specs.Records.{word_of};
 
 use crate::asked::{Asked, Check};
 use crate::exercise::{Exercise, Run};
@@ -32,7 +33,9 @@ pub enum Standing {
 
 impl Standing {
     /// The word for it.
-    pub fn word(self) -> &'static str {
+    pub fn word(self) -> &'static str
+        ensures { result.now ≡ word_of self }
+    {
         match self {
             Standing::Right => "right",
             Standing::Wrong => "wrong",
@@ -187,20 +190,30 @@ pub fn graded(alloc: Global, asked: &[Asked], seen: &Seen<'_>) -> Result<RunGrad
     })
 }
 
-/// What a run gives that can't be made, and why it can't: nothing.
+// The mark for what is asked of a run that can't be made.
+fn unmet(alloc: Global, asked: &Asked) -> Result<Mark, AllocError>
+    ensures points { IfOk result (λ mark. mark.points ≡ asked.now.points) }
+    ensures why { IfOk result (λ mark. is_none mark.why ≡ false) }
+{
+    Ok(Mark {
+        points: asked.points,
+        why: Some(String::from_str(alloc, "it can't be run")?),
+    })
+}
+
+/// What a run gives that can't be made, and why it can't: no points.
 ///
 /// # Errors
 ///
 /// [`AllocError`] if the host has too little memory.
 pub fn ungraded(alloc: Global, asked: &[Asked], why: String) -> Result<RunGrade, AllocError>
-    ensures { IfOk result (λ g. g.standing ≡ Standing.Refused) }
+    ensures refused { IfOk result (IsUngraded asked.now) }
+    ensures points { IfOk result (λ g. points_of_run g ≡ 0) }
+    ensures cause { IfOk result (λ g. g.cause ≡ why) }
 {
     let mut marks = Vec::new(alloc);
     for one in asked {
-        marks.push(Mark {
-            points: one.points,
-            why: Some(String::from_str(alloc, "it can't be run")?),
-        })?;
+        marks.push(unmet(alloc, one)?)?;
     }
     Ok(RunGrade {
         marks,
@@ -222,8 +235,11 @@ fn first_why(alloc: Global, run: &Run, grade: &RunGrade) -> Result<String, Alloc
 
 // Why a run isn't right, as text; empty if it is.
 fn reason(alloc: Global, run: &Run, grade: &RunGrade) -> Result<String, AllocError> {
-    let why = first_why(alloc, run, grade)?;
     let cause = grade.cause.as_str();
+    if grade.standing == Standing::Refused {
+        return String::from_str(alloc, cause);
+    }
+    let why = first_why(alloc, run, grade)?;
     if cause.is_empty() {
         return Ok(why);
     }

@@ -5,6 +5,7 @@ ghost use Rattle.grade_sheets.specs.Grades.{IsAnswered, IsMarked, AreMarked};
 ghost use Rattle.grade_sheets.specs.Points.{given_for};
 
 use crate::asked::{Asked, Check};
+use crate::notation::Named;
 use crate::texts::{first_difference, no_rise, not_predicted, not_said, not_shown};
 use grade_rules::{Edge, End, Judgement, Note, Pattern, Rule, count, fits_any, judge};
 use std::alloc::{AllocError, Global};
@@ -130,7 +131,10 @@ fn other_note(
         wanted => wanted,
     };
     match notes.get(place) {
-        Some(note) => format!(in alloc; "note {number}: expected `{wanted}`, got `{note}`"),
+        Some(note) => {
+            let note = Named(*note);
+            format!(in alloc; "note {number}: expected `{wanted}`, got `{note}`")
+        }
         None => format!(in alloc; "note {number}: expected `{wanted}`, got no more"),
     }
 }
@@ -138,7 +142,10 @@ fn other_note(
 // The text of a note.
 fn note_text(alloc: Global, notes: &[Note], place: usize) -> Result<String, AllocError> {
     match notes.get(place) {
-        Some(note) => format!(in alloc; "{note}"),
+        Some(note) => {
+            let note = Named(*note);
+            format!(in alloc; "{note}")
+        }
         None => Ok(String::new(alloc)),
     }
 }

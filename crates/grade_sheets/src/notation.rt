@@ -1,5 +1,6 @@
 //! Patterns as text: a line of a trace, with `*`, `!1`, `>=2`, `3..9` or `13|15` in place of a number.
-use grade_rules::{Numbers, Pattern};
+use grade_rules::{Note, Numbers, Pattern};
+use std::fmt;
 
 // The number of a kernel call, by its name or its number.
 fn call_number(word: &str) -> Option<i64> {
@@ -111,4 +112,61 @@ pub fn pattern(text: &str) -> Option<Pattern> {
         number: second,
         answer: numbers(third)?,
     })
+}
+
+// The name of the kernel call of a number, if it is one's.
+fn call_name(number: i32) -> Option<&'static str> {
+    match number {
+        1 => Some("fork"),
+        2 => Some("exit"),
+        3 => Some("wait"),
+        4 => Some("pipe"),
+        5 => Some("read"),
+        6 => Some("kill"),
+        7 => Some("exec"),
+        10 => Some("dup"),
+        11 => Some("getpid"),
+        12 => Some("sbrk"),
+        13 => Some("sleep"),
+        14 => Some("uptime"),
+        15 => Some("open"),
+        16 => Some("write"),
+        21 => Some("close"),
+        22 => Some("sbrklazy"),
+        _ => None,
+    }
+}
+
+// The name of a kernel call, or its number if it has none.
+#[derive(Clone, Copy)]
+struct Call(i32);
+
+impl fmt::Display for Call {
+    fn fmt<W: fmt::Write>(&self, f: &mut fmt::Formatter<W>) -> fmt::Result {
+        let number = self.0;
+        match call_name(number) {
+            Some(name) => f.write_str(name),
+            None => write!(f, "{number}"),
+        }
+    }
+}
+
+/// A note as an exercise has it: the line of a trace, with the name of the call for its number.
+#[derive(Clone, Copy)]
+pub struct Named(pub Note);
+
+impl fmt::Display for Named {
+    fn fmt<W: fmt::Write>(&self, f: &mut fmt::Formatter<W>) -> fmt::Result {
+        match self.0 {
+            Note::Called { pid, number, value } => {
+                let call = Call(number);
+                write!(f, "call {pid} {call} {value}")
+            }
+            Note::Blocked { pid, number } => {
+                let call = Call(number);
+                write!(f, "block {pid} {call}")
+            }
+            note => write!(f, "{note}"),
+        }
+    }
 }

@@ -1,4 +1,9 @@
 //! Grades as text: a line of CSV (RFC 4180), and a test suite of JUnit's XML.
+ghost use Rattle.std.specs.Prelude.{◌≡◌, IfOk};
+ghost use Rattle.csv.specs.Records.{fields_of};
+ghost use Rattle.csv.specs.Writing.{default_writer, row_text};
+ghost use Rattle.grade_sheets.specs.Records.{fields_of_line, line_of};
+
 use crate::exercise::{Exercise, Run};
 use crate::grade::{Grade, RunGrade};
 use crate::refusal::SheetError;
@@ -11,13 +16,10 @@ impl From<csv::Error> for SheetError {
     }
 }
 
-/// The line of a submission of this name, which may be any bytes: the name, the points, of how many, the standing,
-/// and the reason.
-///
-/// # Errors
-///
-/// [`SheetError::Memory`].
-pub fn csv_line(alloc: Global, name: &[u8], grade: &Grade) -> Result<Vec<u8>, SheetError> {
+// The fields of a submission's line.
+fn fields(alloc: Global, name: &[u8], grade: &Grade) -> Result<ByteRecord, SheetError>
+    ensures { IfOk result (λ row. fields_of row ≡ fields_of_line name.now grade.now) }
+{
     let (points, of) = (grade.points, grade.of);
     let mut row = ByteRecord::new(alloc);
     row.push_field(name)?;
@@ -25,12 +27,32 @@ pub fn csv_line(alloc: Global, name: &[u8], grade: &Grade) -> Result<Vec<u8>, Sh
     row.push_field(format!(in alloc; "{of}")?.as_str().as_bytes())?;
     row.push_field(grade.standing.word().as_bytes())?;
     row.push_field(grade.reason.as_str().as_bytes())?;
+    Ok(row)
+}
+
+// A row as a line.
+fn row_line(alloc: Global, row: &ByteRecord) -> Result<Vec<u8>, SheetError>
+    ensures { IfOk result (λ line. line.items ≡ row_text default_writer (fields_of row.now)) }
+{
     let mut writer = WriterBuilder::new().from_writer(Vec::new(alloc));
-    writer.write_byte_record(&row)?;
+    writer.write_byte_record(row)?;
     match writer.into_inner() {
         Ok(line) => Ok(line),
         Err(_) => Err(SheetError::Memory),
     }
+}
+
+/// The line of a submission of this name, which may be any bytes: the name, the points, of how many, the standing,
+/// and the reason.
+///
+/// # Errors
+///
+/// [`SheetError::Memory`].
+pub fn csv_line(alloc: Global, name: &[u8], grade: &Grade) -> Result<Vec<u8>, SheetError>
+    ensures { IfOk result (λ line. line.items ≡ line_of name.now grade.now) }
+{
+    let row = fields(alloc, name, grade)?;
+    row_line(alloc, &row)
 }
 
 // Adds a character to a text of XML, as an entity if it has a meaning there.

@@ -1,0 +1,74 @@
+//! The file of an exercise: what it asks for, and what it says of files.
+use crate::command_line::Settings;
+use crate::host_files::{folder_of, refused, text_of};
+use crate::refusal::Refusal;
+use grade_sheets::Exercise;
+use std::alloc::Global;
+use std::io::Write;
+use std::rt::Files;
+
+/// The exercise of a file.
+///
+/// # Errors
+///
+/// [`Refusal::File`] if it can't be read, is longer than 1,048,576 bytes or is no exercise, and [`Refusal::Memory`].
+pub fn read_exercise<R: Files + AllocGlobal>(rt: &R, path: &str) -> Result<Exercise, Refusal> {
+    let alloc = rt.alloc();
+    let text = text_of(rt, path)?;
+    match Exercise::read(alloc, text.as_str()) {
+        Ok(exercise) => Ok(exercise),
+        Err(error) => {
+            let why = format!(in alloc; "{error}")?;
+            Err(refused(alloc, path, why.as_str()))
+        }
+    }
+}
+
+// Shows a line.
+fn show_line<W: Write>(output: &mut W, line: &str) -> Result<(), Refusal> {
+    match writeln!(output, "{line}") {
+        Ok(()) => Ok(()),
+        Err(_) => Err(Refusal::Write),
+    }
+}
+
+// Shows the paths of an exercise's own files, a line each.
+fn show_inputs<W: Write>(
+    alloc: Global,
+    settings: &Settings,
+    exercise: &Exercise,
+    output: &mut W,
+) -> Result<(), Refusal> {
+    let folder = folder_of(settings.exercise.as_str());
+    show_line(output, settings.exercise.as_str())?;
+    for run in &exercise.runs {
+        for file in &run.with {
+            let path = format!(in alloc; "{folder}/{file}")?;
+            show_line(output, path.as_str())?;
+        }
+    }
+    Ok(())
+}
+
+/// Shows the names of the files that may be handed in for an exercise, a line each; a name may come twice. If they are
+/// asked for, the paths of the exercise's own files are shown instead.
+///
+/// # Errors
+///
+/// [`Refusal::File`] for the exercise's file, [`Refusal::Memory`], and [`Refusal::Write`].
+pub fn show_files<R: Files + AllocGlobal, W: Write>(
+    rt: &R,
+    settings: &Settings,
+    output: &mut W,
+) -> Result<(), Refusal> {
+    let exercise = read_exercise(rt, settings.exercise.as_str())?;
+    if settings.inputs {
+        return show_inputs(rt.alloc(), settings, &exercise, output);
+    }
+    for run in &exercise.runs {
+        for file in &run.files {
+            show_line(output, file.as_str())?;
+        }
+    }
+    Ok(())
+}

@@ -1,0 +1,78 @@
+//! Small files of the host, and their paths.
+use crate::refusal::Refusal;
+use std::alloc::Global;
+use std::fs;
+use std::io::{self, ErrorKind};
+use std::rt::Files;
+
+/// The most bytes of a file that is read here.
+const FILE_BYTES: u64 = 1_048_576;
+
+/// The part of a path before its last slash.
+pub fn folder_of(path: &str) -> &str {
+    match path.rsplit_once('/') {
+        Some((folder, _)) => folder,
+        None => ".",
+    }
+}
+
+/// The part of a path behind its last slash.
+pub fn last_part(path: &str) -> &str {
+    let path = path.strip_suffix("/").unwrap_or(path);
+    match path.rsplit_once('/') {
+        Some((_, name)) => name,
+        None => path,
+    }
+}
+
+/// The refusal of the file of a path.
+pub fn refused(alloc: Global, path: &str, why: &str) -> Refusal {
+    match format!(in alloc; "{path}: {why}") {
+        Ok(text) => Refusal::File(text),
+        Err(_) => Refusal::Memory,
+    }
+}
+
+// What a call on the file of a path comes to that failed.
+fn failed(alloc: Global, path: &str, error: &io::Error) -> Refusal {
+    match error.kind() {
+        ErrorKind::OutOfMemory => Refusal::Memory,
+        ErrorKind::InvalidData => refused(alloc, path, "not text"),
+        _ => refused(alloc, path, "cannot be read"),
+    }
+}
+
+// That a file isn't too long.
+fn check_length<R: Files + AllocGlobal>(rt: &R, path: &str) -> Result<(), Refusal> {
+    match fs::metadata(rt, path) {
+        Ok(found) if found.len() <= FILE_BYTES => Ok(()),
+        Ok(_) => Err(refused(rt.alloc(), path, "too long")),
+        Err(error) => Err(failed(rt.alloc(), path, &error)),
+    }
+}
+
+/// The text of a file.
+///
+/// # Errors
+///
+/// [`Refusal::File`] if it can't be read, has more than 1,048,576 bytes or isn't UTF-8, and [`Refusal::Memory`].
+pub fn text_of<R: Files + AllocGlobal>(rt: &R, path: &str) -> Result<String, Refusal> {
+    check_length(rt, path)?;
+    match fs::read_to_string(rt, path) {
+        Ok(text) => Ok(text),
+        Err(error) => Err(failed(rt.alloc(), path, &error)),
+    }
+}
+
+/// The bytes of a file.
+///
+/// # Errors
+///
+/// [`Refusal::File`] if it can't be read or has more than 1,048,576 bytes, and [`Refusal::Memory`].
+pub fn bytes_of<R: Files + AllocGlobal>(rt: &R, path: &str) -> Result<Vec<u8>, Refusal> {
+    check_length(rt, path)?;
+    match fs::read(rt, path) {
+        Ok(bytes) => Ok(bytes),
+        Err(error) => Err(failed(rt.alloc(), path, &error)),
+    }
+}

@@ -1,0 +1,19 @@
+  li a7, 1          # fork
+  ecall
+  beq a0, x0, child
+  li a7, 1          # fork
+  ecall
+  beq a0, x0, child
+  li a0, 0
+  li a7, 3          # wait
+  ecall
+  li a0, 0
+  li a7, 3          # wait
+  ecall
+  li a0, 0
+  li a7, 2          # exit
+  ecall
+child:
+again:
+  addi t0, t0, 1
+  j again
