@@ -27,7 +27,7 @@ mkdir "$RELEASE"
 
 # What the commit holds of it. Answers of the course are a teacher's, and stay in the repository.
 git archive HEAD xv README.md LICENSE VERSION CHANGELOG.md docs programs page/nektavoly.html checks/sessions checks/why | tar -x -C "$RELEASE"
-rm -rf "$RELEASE"/docs/COURSE-ANSWERS.md "$RELEASE"/docs/html
+rm -rf "$RELEASE"/docs/COURSE-ANSWERS.md "$RELEASE"/docs/html "$RELEASE"/programs/course/exercises
 
 mkdir "$RELEASE/bin"
 for main in crates/*/src/main.rt; do
