@@ -1,6 +1,6 @@
 -- What is told of a descriptor, by what the tables keep.
-use Rattle.std.proofs.Common.{◌≡◌, ℕ, ◌<◌, ◌≤◌, cond, Some, None, sym, ap, ◌∙◌, arith}
-use Rattle.std.specs.Prelude.{is_some, option_map}
+use Rattle.std.proofs.Common.{◌≡◌, ℕ, ◌<◌, ◌≤◌, Bool, true, false, cond, ltb, Option, Some, None, refl, sym, ap, ◌∙◌, subst, arith}
+use Rattle.std.specs.Prelude.{is_some, IsSome, option_map}
 use Rattle.xk_base.specs.declared.limits.TheConstants.{NOFILE}
 use Rattle.sv39_core.proofs.Words.{ltb-yes}
 use Rattle.hart_core.specs.declared.hart.Hart.{Hart}
@@ -16,6 +16,7 @@ use Rattle.kcall_core.specs.Kernel.{state_of}
 use Rattle.kcall_core.specs.Whole.{IsWhole}
 use Rattle.kcall_core.specs.declared.kernel.Kernel.{Kernel}
 use Rattle.kcall_core.specs.declared.kernel.observers.Descriptor.{Descriptor}
+use Rattle.kcall_core.proofs.memory.Changes.{some-inside}
 use Rattle.kcall_core.proofs.table.Observed.{live-held}
 use Rattle.kcall_core.proofs.table.States.{slot-inside}
 use Rattle.kcall_core.proofs.files.Namings.{named-counts, named-seen, counted-entry, file-seen, file-inside}
@@ -41,5 +42,18 @@ module _ (k : Kernel) (h : Hart) (whole : IsWhole k h) (pid i : ℕ) (there : Is
         ap (opened (state_of k h')) (file-told h' ∙ is)
         ∙ ap (option_map (λ (y : OpenFile). let told : Descriptor = record { file = file; open_file = y } in told)) (file-seen k h' file (file-inside k.files file x whole.files kind) ∙ kind)
 
-    pub descriptor-unused : (h' : Hart) → named_by (descriptors_at k.table i) d ≡ None → descriptor_of (state_of k h') pid d ≡ None
-    descriptor-unused h' is = ap (opened (state_of k h')) (file-told h' ∙ is)
+  pub descriptor-unused : (d : ℕ) (h' : Hart) → named_by (descriptors_at k.table i) d ≡ None → descriptor_of (state_of k h') pid d ≡ None
+  descriptor-unused d h' is =
+      ap (opened (state_of k h'))
+      (ap (λ n. file_of (live (state_of k h') n) d) (sym there.3)
+      ∙ ap (λ o. file_of o d) (live-held k h' whole.sound.table i there.0 there.1 there.2)
+      ∙ named-seen (descriptors_at k.table i) d
+      ∙ none-either (ltb d NOFILE) (named_by (descriptors_at k.table i) d) is)
+    where
+      none-either : (b : Bool) (o : Option ℕ) → o ≡ None → cond b o None ≡ None
+      none-either true o e = e
+      none-either false o e = refl
+
+  -- a descriptor that is in use has one of the numbers of descriptors
+  pub named-below : (d file : ℕ) → named_by (descriptors_at k.table i) d ≡ Some file → d < NOFILE
+  named-below d file is = omega (arith, some-inside (descriptors_at k.table i) d (subst (λ o. IsSome o) (sym is) refl), whole.counted.lists i told-inside)

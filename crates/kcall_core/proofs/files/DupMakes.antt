@@ -61,7 +61,7 @@ use Rattle.kcall_core.proofs.files.Taking.{Shares}
 use Rattle.kcall_core.proofs.files.Putting.{put-sound, put-state}
 use Rattle.kcall_core.proofs.files.Sharing.{more-file, more-table, shared-counted}
 use Rattle.kcall_core.proofs.files.OpenRoom.{whole_has_room}
-use Rattle.kcall_core.proofs.files.UsedDescriptor.{InUse}
+use Rattle.kcall_core.specs.Moves.{InUse}
 use Rattle.kcall_core.proofs.making.Midway.{WakeOn, Midway, midway-done}
 use Rattle.kcall_core.proofs.making.Moved.{nobody}
 use Rattle.kernel_spec.proofs.rows.RowParts.{dup_at, dup_on, dup_number}

@@ -8,6 +8,7 @@ use Rattle.pipe_core.specs.Pipe.{Pipe}
 use Rattle.file_table.specs.OpenFiles.{open_file_at}
 use Rattle.file_table.specs.declared.open_file.OpenFile.{OpenFile}
 use Rattle.file_table.specs.declared.open_file.End.{End}
+use Rattle.file_table.specs.declared.open_file.End.TheVariants.{Reading, Writing}
 use Rattle.file_table.specs.declared.open_file.Target.{Target}
 use Rattle.file_table.specs.declared.open_file.Target.TheVariants.{Program as File, Pipe as Pipe_end}
 use Rattle.proc_table.specs.declared.process.Call.{Call}
@@ -22,13 +23,12 @@ use Rattle.kernel_spec.specs.laws.RowLaws.{OnPipe}
 use Rattle.kcall_core.specs.Kernel.{state_of, IsRunning, pid_now, live_now}
 use Rattle.kcall_core.specs.Whole.{IsWhole}
 use Rattle.kcall_core.specs.Makes.{view_now}
-use Rattle.kcall_core.specs.Moves.{OnFile, ReadsPipe, WritesPipe}
+use Rattle.kcall_core.specs.Moves.{OnFile, ReadsPipe, WritesPipe, allows, row_on, InUse}
 use Rattle.kcall_core.specs.declared.kernel.Kernel.{Kernel}
 use Rattle.kcall_core.proofs.turns.Turned.{live-is}
 use Rattle.kernel_spec.proofs.steps.Names.{named_at}
 use Rattle.kernel_spec.proofs.steps.Pipes.{least_there}
 use Rattle.kernel_spec.proofs.rows.Decoding.{write_case}
-use Rattle.kcall_core.proofs.files.UsedDescriptor.{InUse}
 use Rattle.kernel_spec.proofs.rows.RowParts.{write_on, write_to, moving, unless, unless_nothing, length_of_int}
 use Rattle.kernel_spec.proofs.rows.RowsByParts.{write_same, read_unused, read_shut, read_below, read_nothing, read_unwritable, read_dear, read_ready}
 use Rattle.kernel_spec.proofs.rows.Settled.{touch-dear}
@@ -46,6 +46,10 @@ read-unused c v none = read_unused c v (unused-in v (c_int c.a0) none)
 
 pub write-unused : (c : Call) (v : View) → ((d : ℕ) → c_int c.a0 ≡ pos d → v.descriptors d ≡ None) → write c v ≡ refused c v
 write-unused c v none = write_same c v ∙ ap (write_on c v) (unused-in v (c_int c.a0) none)
+
+pub unused-row : (end : End) (c : Call) (v : View) → ((d : ℕ) → c_int c.a0 ≡ pos d → v.descriptors d ≡ None) → row_on end c v ≡ refused c v
+unused-row Reading c v none = read-unused c v none
+unused-row Writing c v none = write-unused c v none
 
 moving-below : (c : Call) (v : View) (b : Bool) (z : ℤ) (go : ℕ → Own) → ((n : ℕ) → z ≢ pos n) → moving c v b z go ≡ refused c v
 moving-below c v b (pos n) go none = absurd (none n refl)
@@ -126,6 +130,15 @@ module _ {k : Kernel} {h : Hart} (c : Call) {fd file : ℕ} {x : OpenFile} (whol
     pub write-absent : (n : ℕ) → c_int c.a2 ≡ pos n → nat_eq n 0 ≡ false → readable l.image c.a1 n ≡ false → write c v ≡ refused c v
     unfolding view_of
     write-absent n e some absent = asked-to ∙ moving-absent c v (readable v.image c.a1) (c_int c.a2) (λ n. write_to c v n shown.shown) n e some absent
+
+  -- the tests that read and write have in common
+  pub shut-row : (end : End) → allows end x ≡ false → row_on end c v ≡ refused c v
+  shut-row Reading shut = read-shut shut
+  shut-row Writing shut = write-shut shut
+
+  pub below-row : (end : End) → allows end x ≡ true → ((n : ℕ) → c_int c.a2 ≢ pos n) → row_on end c v ≡ refused c v
+  below-row Reading allowed none = read-below allowed none
+  below-row Writing allowed none = write-below allowed none
 
 -- ---- what the open file is on
 

@@ -33,6 +33,7 @@ use Rattle.kcall_core.specs.Whole.{AreCounted}
 use Rattle.kcall_core.specs.Closings.{woken_by, IsClosing, target_now, Closes}
 use Rattle.kernel_spec.specs.waking.SleepsOn.{closes_wake}
 use Rattle.kcall_core.specs.declared.kernel.Kernel.{Kernel}
+use Rattle.kcall_core.proofs.memory.Changes.{some-inside}
 use Rattle.kcall_core.proofs.turns.Turned.{live-is}
 use Rattle.kernel_spec.proofs.steps.Counts.{hits, hits_at}
 use Rattle.kernel_spec.proofs.steps.Closes.{count_some}
@@ -47,6 +48,12 @@ use Rattle.kcall_core.proofs.table.Woken.{place-each, live-woken, each-none, sti
 use Rattle.kcall_core.proofs.files.PipeLeft.{remainder, with-settled, ends-stay, same-wakes}
 
 -- ---- what a descriptor in use names
+
+-- it has one of the numbers of descriptors
+pub used-below : {k : Kernel} {h : Hart} {slot d : ℕ} → IsClosing k h → k.current ≡ Some slot → IsSome (named_by (descriptors_at k.table slot) d) → d < NOFILE
+used-below {k} {h} {slot} {d} closing is used =
+    let now = closing.sound.current slot is in
+    omega (arith, some-inside (descriptors_at k.table slot) d used, closing.counted.lists slot (slot-inside k h closing.sound slot now.process now.is))
 
 module _ {k : Kernel} {h : Hart} {slot d g : ℕ} (closing : IsClosing k h) (is : k.current ≡ Some slot) (below : d < NOFILE) (used : named_by (descriptors_at k.table slot) d ≡ Some g) where
   slot-is : slot ≡ slot_now k

@@ -1,5 +1,5 @@
 -- A descriptor that a call names by its number: what is in use, and what is not.
-use Rattle.std.proofs.Common.{◌≡◌, ℕ, ◌<◌, Bool, cond, Option, Some, None, inl, inr, refl, sym, ap, ◌∙◌}
+use Rattle.std.proofs.Common.{◌≡◌, ℕ, ◌<◌, Bool, cond, Option, Some, None, inl, inr, refl, sym, ap, ◌∙◌, subst}
 use Rattle.std.specs.Prelude.{ℤ, pos, IsSome, option_map}
 use Rattle.std.specs.FinMap.{get}
 use Rattle.std.proofs.lemmas.Bool.{cases_lt, le-ltb}
@@ -14,6 +14,7 @@ use Rattle.kernel_spec.specs.views.View.{view_of, named, numbered, rename, descr
 use Rattle.kcall_core.specs.Kernel.{state_of, IsRunning, slot_now, live_now}
 use Rattle.kcall_core.specs.Whole.{IsWhole}
 use Rattle.kcall_core.specs.Makes.{view_now}
+use Rattle.kcall_core.specs.Moves.{InUse}
 use Rattle.kcall_core.specs.declared.kernel.Kernel.{Kernel}
 use Rattle.kernel_spec.proofs.steps.Names.{named_at}
 use Rattle.kcall_core.proofs.table.Stops.{now-slot}
@@ -21,11 +22,8 @@ use Rattle.kcall_core.proofs.files.Namings.{named-seen}
 use Rattle.kcall_core.proofs.files.OneClosed.{used-entry, used-seen, opened-seen}
 use Rattle.kcall_core.proofs.processes.Exits.{whole-closing}
 
--- descriptor d of the process that runs names the open file g, which is x
-pub record InUse (k : Kernel) (h : Hart) (d g : ℕ) (x : OpenFile) : Type 0 where
-  pub used : get (live_now k h).descriptors d ≡ Some g
-  pub opened : get (state_of k h).files g ≡ Some x
-  pub kind : open_file_at k.files g ≡ Some x
+pub runs-now : (k : Kernel) (slot : ℕ) → k.current ≡ Some slot → IsRunning k
+runs-now k slot is = subst (λ o. IsSome o) (sym is) refl
 
 module _ {k : Kernel} {h : Hart} {slot : ℕ} (whole : IsWhole k h) (runs : IsRunning k) (is : k.current ≡ Some slot) where
   pub in-use-named : {d g : ℕ} → d < NOFILE → named_by (descriptors_at k.table slot) d ≡ Some g → (x : OpenFile) × InUse k h d g x

@@ -1,6 +1,7 @@
 -- What is told of the pipe in a frame.
-use Rattle.std.proofs.Common.{◌≡◌, ℕ, ◌<◌, Bool, true, false, cond, Option, Some, None, refl, ap, ◌∙◌}
-use Rattle.std.specs.Prelude.{is_some}
+use Rattle.std.proofs.Common.{◌≡◌, ℕ, ◌<◌, Bool, true, false, cond, Option, Some, None, inl, inr, refl, ap, ◌∙◌, subst}
+use Rattle.std.specs.Prelude.{is_some, IsSome}
+use Rattle.std.proofs.lemmas.Bool.{cases_lt, le-ltb}
 use Rattle.std.specs.Ordering.{nat_cmp}
 use Rattle.std.specs.FinMap.{FinMap, get}
 use Rattle.xk_base.specs.declared.limits.TheConstants.{FRAMES_MAX}
@@ -10,6 +11,17 @@ use Rattle.pipe_core.specs.Pipe.{Pipe, pipe_in}
 use Rattle.kcall_core.specs.Holdings.{or_new, pipe_named}
 use Rattle.kcall_core.specs.Memories.{keeps_pipe, kept_pipe, pipes_of}
 use Rattle.kcall_core.specs.declared.memories.Memories.{Memories}
+
+-- a pipe lies in a frame, so its number is a frame's
+pub pipe-below : (m : Memories) (f : ℕ) → IsSome (get (pipes_of m) f) → f < FRAMES_MAX
+unfolding pipes_of
+pipe-below m f there = elim (cases_lt f FRAMES_MAX) [
+  | inl below ↦ below
+  | inr past ↦ absurd (no-pipe (subst (λ o. IsSome o) (gathered-get (kept_pipe m.ram m.pipes.items) FRAMES_MAX f ∙ ap (λ (b : Bool). cond b (kept_pipe m.ram m.pipes.items f) None) (le-ltb f FRAMES_MAX past)) there))
+]
+  where
+    no-pipe : false ≡ true → ⊥
+    no-pipe e = cc
 
 pub keeps-told : (m : Memories) (f : ℕ) → f < FRAMES_MAX → is_some (get (pipes_of m) f) ≡ keeps_pipe m.pipes.items f
 unfolding pipes_of

@@ -97,7 +97,8 @@ impl Kernel {
     {
         let mut line = [0; LINE_ROOM];
         let pull = pull_front(&mut self.console, &mut line, n.min(LINE_ROOM), done);
-        self.memories.put_front(slot, address, &line, pull.taken);
+        self.memories
+            .write_tested(slot, address, &line[..pull.taken]);
         pull
     }
 

@@ -81,8 +81,6 @@ impl Kernel {
         requires used { IsSome (named_by (descriptors_at self.old.table slot) fd) }
         ensures { (hart : Hart) → IsClosing self.old hart → Closes self.old hart fd self.new }
     {
-        // (That the number is below `NOFILE`.)
-        let _ = fd.number();
         let file = take_descriptor(&mut self.table, slot, fd);
         let pipe = pipe_end_of(&self.files, file);
         let _ = self.files.close(file);

@@ -190,8 +190,6 @@ impl Kernel {
         requires { (hart : Hart) × IsWhole self.now hart }
         ensures { (hart : Hart) → result ≡ descriptor_of (state_of self.now hart) pid fd }
     {
-        // (That its number is below `NOFILE`.)
-        let _ = fd.number();
         let slot = self.find_live(pid)?;
         let file = self.table.descriptors(slot).get(fd)?;
         Some(Descriptor {

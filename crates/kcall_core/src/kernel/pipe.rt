@@ -113,8 +113,7 @@ impl Kernel {
             unreachable!();
         };
         let numbers = two_numbers(read, write);
-        self.memories
-            .put_front(slot, call.a0, &numbers, NUMBERS_BYTES);
+        self.memories.write_tested(slot, call.a0, &numbers);
         let _ = self.open_pipe_at(slot, read, frame, End::Reading);
         let _ = self.open_pipe_at(slot, write, frame, End::Writing);
         self.done(hart, 0)
@@ -199,7 +198,7 @@ impl Kernel {
         let count = self
             .memories
             .push_from(frame, slot, next_address(call), left);
-        self.wake_readers(frame, count);
+        self.wake_if(count > 0, Channel::Bytes(frame));
         let moved = call.moved + count as u32;
         if moved as usize >= n {
             return self.done(hart, n as i64);

@@ -5,7 +5,8 @@ ghost use Rattle.xk_base.specs.declared.limits.TheConstants.{NPROC, NOFILE};
 ghost use Rattle.xk_base.specs.Words.{least_below};
 ghost use Rattle.file_table.specs.Named.{named_by};
 ghost use Rattle.proc_table.specs.Slots.{descriptors_at};
-ghost use Rattle.kernel_spec.specs.rows.Calls.{close, dup, read, write};
+ghost use Rattle.kernel_spec.specs.rows.Calls.{close, dup, read, write, refused};
+ghost use Rattle.hart_core.specs.declared.hart.Hart.{Hart};
 ghost use Rattle.kcall_core.specs.Kernel.{IsRunning, live_now};
 ghost use Rattle.kcall_core.specs.Whole.{IsWhole};
 ghost use Rattle.kcall_core.specs.Makes.{Makes, view_now, answer_of};
@@ -13,13 +14,12 @@ ghost use Rattle.file_table.specs.declared.open_file.Target.TheVariants as on;
 ghost use Rattle.kernel_spec.specs.views.State.{named_file};
 ghost use Rattle.kernel_spec.specs.views.Programs.{program_bytes};
 ghost use Rattle.kernel_spec.specs.rows.Buffers.{readable, writable_now};
-ghost use Rattle.kcall_core.specs.Opens.{asked};
-ghost use Rattle.kcall_core.specs.Moves.{OnFile};
+ghost use Rattle.kcall_core.specs.Moves.{OnFile, IsAsked, allows, row_on};
 
 use crate::call_end::CallEnd;
 use crate::kernel::Kernel;
 use crate::kernel::syscall::c_int;
-use file_table::{FileId, OpenFile, Target};
+use file_table::{End, FileId, OpenFile, Target};
 use hart_core::Hart;
 use proc_table::{Call, Table};
 use xk_base::limits::NOFILE;
@@ -118,6 +118,24 @@ fn byte_count(asked: i32) -> Option<usize>
     Some(asked as usize)
 }
 
+/// What a read or a write is on: an open file, and how many bytes are asked for.
+#[derive(Clone, Copy)]
+pub(crate) struct Transfer {
+    file: FileId,
+    kind: OpenFile,
+    count: usize,
+}
+
+/// Whether an open file may be read, or written.
+fn allows(kind: &OpenFile, end: End) -> bool
+    ensures { result ≡ allows end kind.now }
+{
+    match end {
+        End::Reading => kind.read,
+        End::Writing => kind.write,
+    }
+}
+
 /// What is left of a program's file from an offset on, but at most so many bytes; no bytes where there is no
 /// such program.
 fn file_rest(programs: &[Program], program: usize, offset: u64, n: usize) -> &[u8]
@@ -134,36 +152,54 @@ fn file_rest(programs: &[Program], program: usize, offset: u64, n: usize) -> &[u
 }
 
 impl Kernel {
-    /// One step of a write of `n` bytes, all of which are in the buffer, to an open file that may be written.
-    fn write_to(
-        &mut self,
-        hart: &mut Hart,
-        call: &Call,
-        slot: usize,
-        kind: &OpenFile,
-        n: usize,
-    ) -> CallEnd
+    /// What a read (from the reading end) or a write is on. The tests that the two have in common come in their rows'
+    /// order: the descriptor, its mode, the number of bytes. `None` where one of them fails.
+    fn transfer(&self, slot: usize, call: &Call, end: End) -> Option<Transfer>
+        requires whole { (hart : Hart) × IsWhole self.now hart }
+        requires slot { self.now.current ≡ Some slot }
+        ensures size { IfSome result (λ asked. asked.count < 2147483648) }
+        ensures allowed { IfSome result (λ asked. allows end asked.kind ≡ true) }
+        ensures asked { IfSome result (λ asked. (hart : Hart) → IsWhole self.now hart → IsAsked self.now hart call.now asked.file asked.kind asked.count) }
+        ensures refused { IfNone result ((hart : Hart) → IsWhole self.now hart → row_on end call.now (view_now self.now hart) ≡ refused call.now (view_now self.now hart)) }
+    {
+        let Some(fd) = used_descriptor(&self.table, slot, c_int(call.a0)) else {
+            return None;
+        };
+        let Some(file) = self.table.descriptors(slot).get(fd) else {
+            unreachable!();
+        };
+        let kind = self.files.kind(file);
+        if !allows(&kind, end) {
+            return None;
+        }
+        let Some(count) = byte_count(c_int(call.a2)) else {
+            return None;
+        };
+        Some(Transfer { file, kind, count })
+    }
+
+    /// One step of a write to an open file that may be written. All bytes that are asked for are in the buffer.
+    fn write_to(&mut self, hart: &mut Hart, call: &Call, slot: usize, asked: &Transfer) -> CallEnd
         requires whole { IsWhole self.old hart.old }
         requires running { IsRunning self.old }
         requires slot { self.old.current ≡ Some slot }
         requires unmarked { (live_now self.old hart.old).killed ≡ false }
         requires in_call { (live_now self.old hart.old).call ≡ Some call.now }
         requires row { call.now.number ≡ pos 16 }
-        requires size { n < 2147483648 }
-        requires writes { kind.now.write ≡ true }
-        requires file { (file : ℕ) × OnFile self.old hart.old call.now file kind.now (readable (live_now self.old hart.old).image call.now.a1) n }
+        requires size { asked.now.count < 2147483648 }
+        requires writes { asked.now.kind.write ≡ true }
+        requires file { OnFile self.old hart.old call.now asked.now.file asked.now.kind (readable (live_now self.old hart.old).image call.now.a1) asked.now.count }
         ensures made { Makes self.old hart.old (write call.now (view_now self.old hart.old)) self.new hart.new }
         ensures answer { (write call.now (view_now self.old hart.old)).answer ≡ answer_of call.now.number result }
     {
-        match kind.target {
-            Target::Console => self.write_terminal(hart, call, slot, n),
+        match asked.kind.target {
+            Target::Console => self.write_terminal(hart, call, slot, asked.count),
             Target::Program { .. } => self.refuse(hart),
-            Target::Pipe { frame, .. } => self.write_pipe(hart, call, slot, frame, n),
+            Target::Pipe { frame, .. } => self.write_pipe(hart, call, slot, frame, asked.count),
         }
     }
 
-    /// One step of the call write. The tests come in the row's order: the descriptor, its mode, the number of
-    /// bytes, and the buffer, where there are bytes to move.
+    /// One step of the call write. Where there are bytes to move, all of the buffer is tested.
     pub(crate) fn write(&mut self, hart: &mut Hart, call: &Call) -> CallEnd
         requires whole { IsWhole self.old hart.old }
         requires running { IsRunning self.old }
@@ -174,91 +210,70 @@ impl Kernel {
         ensures answer { (write call.now (view_now self.old hart.old)).answer ≡ answer_of call.now.number result }
     {
         let slot = self.running_slot();
-        let Some(fd) = used_descriptor(&self.table, slot, c_int(call.a0)) else {
+        let Some(asked) = self.transfer(slot, call, End::Writing) else {
             return self.refuse(hart);
         };
-        let Some(file) = self.table.descriptors(slot).get(fd) else {
-            unreachable!();
-        };
-        let kind = self.files.kind(file);
-        if !kind.write {
-            return self.refuse(hart);
-        }
-        let Some(n) = byte_count(c_int(call.a2)) else {
-            return self.refuse(hart);
-        };
-        if n == 0 {
+        if asked.count == 0 {
             return self.done(hart, 0);
         }
-        if !self.memories.may_read(slot, call.a1, n) {
+        if !self.memories.may_read(slot, call.a1, asked.count) {
             return self.refuse(hart);
         }
-        self.write_to(hart, call, slot, &kind, n)
+        self.write_to(hart, call, slot, &asked)
     }
 
-    /// A read of `n` bytes at most, for which the buffer has room, from a program's file: the answer is how many
-    /// were left in it.
+    /// A read from a program's file, at an offset, of as many bytes at most as are asked for, for which the buffer has
+    /// room: the answer is how many were left in the file.
     fn read_program(
         &mut self,
         hart: &mut Hart,
         call: &Call,
         slot: usize,
-        file: FileId,
-        kind: &OpenFile,
+        asked: &Transfer,
         program: usize,
         offset: u64,
-        n: usize,
     ) -> CallEnd
         requires whole { IsWhole self.old hart.old }
         requires running { IsRunning self.old }
         requires slot { self.old.current ≡ Some slot }
-        requires target { kind.now.target ≡ on.Program program offset }
-        requires size { n < 2147483648 }
-        requires reads { kind.now.read ≡ true }
-        requires file { OnFile self.old hart.old call.now file kind.now (writable_now (live_now self.old hart.old).image call.now.a1) n }
+        requires target { asked.now.kind.target ≡ on.Program program offset }
+        requires size { asked.now.count < 2147483648 }
+        requires reads { asked.now.kind.read ≡ true }
+        requires file { OnFile self.old hart.old call.now asked.now.file asked.now.kind (writable_now (live_now self.old hart.old).image call.now.a1) asked.now.count }
         ensures made { Makes self.old hart.old (read call.now (view_now self.old hart.old)) self.new hart.new }
         ensures answer { (read call.now (view_now self.old hart.old)).answer ≡ answer_of call.now.number result }
     {
-        let bytes = file_rest(&self.programs, program, offset, n);
+        let bytes = file_rest(&self.programs, program, offset, asked.count);
         let count = bytes.len();
-        self.memories.put_front(slot, call.a1, bytes, count);
-        self.files.move_to(file, offset + count as u64);
+        self.memories.write_tested(slot, call.a1, bytes);
+        self.files.move_to(asked.file, offset + count as u64);
         self.done(hart, count as i64)
     }
 
-    /// One step of a read of `n` bytes at most, for which the buffer has room, from an open file that may be read.
-    fn read_from(
-        &mut self,
-        hart: &mut Hart,
-        call: &Call,
-        slot: usize,
-        file: FileId,
-        kind: &OpenFile,
-        n: usize,
-    ) -> CallEnd
+    /// One step of a read from an open file that may be read. The buffer has room for all bytes that are asked for.
+    fn read_from(&mut self, hart: &mut Hart, call: &Call, slot: usize, asked: &Transfer) -> CallEnd
         requires whole { IsWhole self.old hart.old }
         requires running { IsRunning self.old }
         requires slot { self.old.current ≡ Some slot }
         requires unmarked { (live_now self.old hart.old).killed ≡ false }
         requires in_call { (live_now self.old hart.old).call ≡ Some call.now }
         requires row { call.now.number ≡ pos 5 }
-        requires size { n < 2147483648 }
-        requires reads { kind.now.read ≡ true }
-        requires file { OnFile self.old hart.old call.now file kind.now (writable_now (live_now self.old hart.old).image call.now.a1) n }
+        requires size { asked.now.count < 2147483648 }
+        requires reads { asked.now.kind.read ≡ true }
+        requires file { OnFile self.old hart.old call.now asked.now.file asked.now.kind (writable_now (live_now self.old hart.old).image call.now.a1) asked.now.count }
         ensures made { Makes self.old hart.old (read call.now (view_now self.old hart.old)) self.new hart.new }
         ensures answer { (read call.now (view_now self.old hart.old)).answer ≡ answer_of call.now.number result }
     {
-        match kind.target {
-            Target::Console => self.read_terminal(hart, call, slot, n),
-            Target::Program { program, offset } => self.read_program(
-                hart, call, slot, file, kind, program, offset, n,
-            ),
-            Target::Pipe { frame, .. } => self.read_pipe(hart, call, slot, frame, n),
+        match asked.kind.target {
+            Target::Console => self.read_terminal(hart, call, slot, asked.count),
+            Target::Program { program, offset } => {
+                self.read_program(hart, call, slot, asked, program, offset)
+            }
+            Target::Pipe { frame, .. } => self.read_pipe(hart, call, slot, frame, asked.count),
         }
     }
 
-    /// One step of the call read. The tests come in the row's order: the descriptor, its mode, the number of
-    /// bytes, and the buffer, where there are bytes to move.
+    /// One step of the call read. Where there are bytes to move, all of the buffer is tested, and its absent pages come.
     pub(crate) fn read(&mut self, hart: &mut Hart, call: &Call) -> CallEnd
         requires whole { IsWhole self.old hart.old }
         requires running { IsRunning self.old }
@@ -269,25 +284,15 @@ impl Kernel {
         ensures answer { (read call.now (view_now self.old hart.old)).answer ≡ answer_of call.now.number result }
     {
         let slot = self.running_slot();
-        let Some(fd) = used_descriptor(&self.table, slot, c_int(call.a0)) else {
+        let Some(asked) = self.transfer(slot, call, End::Reading) else {
             return self.refuse(hart);
         };
-        let Some(file) = self.table.descriptors(slot).get(fd) else {
-            unreachable!();
-        };
-        let kind = self.files.kind(file);
-        if !kind.read {
-            return self.refuse(hart);
-        }
-        let Some(n) = byte_count(c_int(call.a2)) else {
-            return self.refuse(hart);
-        };
-        if n == 0 {
+        if asked.count == 0 {
             return self.done(hart, 0);
         }
-        if !self.ready_buffer(slot, call.a1, n, 0) {
+        if !self.ready_buffer(slot, call.a1, asked.count, 0) {
             return self.refuse(hart);
         }
-        self.read_from(hart, call, slot, file, &kind, n)
+        self.read_from(hart, call, slot, &asked)
     }
 }

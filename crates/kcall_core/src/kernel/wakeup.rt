@@ -6,7 +6,6 @@ ghost use Rattle.proc_table.specs.Processes.{woken};
 ghost use Rattle.proc_table.specs.Slots.{each_changed};
 ghost use Rattle.kcall_core.specs.Closings.{parent_woken, across, woken_by, wakes_if};
 ghost use Rattle.kcall_core.specs.Kernel.{state_of, IsSound};
-ghost use Rattle.kcall_core.specs.Moves.{wakes_readers};
 
 use crate::kernel::Kernel;
 use file_table::End;
@@ -49,6 +48,7 @@ impl Kernel {
 
     /// All who sleep on a channel wake, where that is due.
     pub(crate) fn wake_if(&mut self, is_due: bool, channel: Channel)
+        ensures sound { (hart : Hart) → IsSound self.old hart → IsSound self.new hart }
         ensures table { self.new.table ≡ each_changed (woken_by (wakes_if is_due channel)) self.old.table }
         ensures rest { self.new ≡ record self.old { table = self.new.table } }
     {
@@ -56,17 +56,5 @@ impl Kernel {
             return;
         }
         self.wake(channel);
-    }
-
-    /// `count` bytes came into a pipe: unless that is none, those wake who wait for bytes there.
-    pub(crate) fn wake_readers(&mut self, frame: Frame, count: usize)
-        ensures sound { (hart : Hart) → IsSound self.old hart → IsSound self.new hart }
-        ensures table { self.new.table ≡ each_changed (woken_by (wakes_readers frame count)) self.old.table }
-        ensures rest { self.new ≡ record self.old { table = self.new.table } }
-    {
-        if count == 0 {
-            return;
-        }
-        self.wake(Channel::Bytes(frame));
     }
 }

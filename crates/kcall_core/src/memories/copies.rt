@@ -123,17 +123,4 @@ impl Memories {
     {
         self.read_tested(slot, address, &mut bytes[..count]);
     }
-
-    /// Copies the first bytes of a buffer to the memory of a slot, where user code may write them.
-    pub fn put_front(&mut self, slot: usize, address: u64, bytes: &[u8], count: usize)
-        requires sound { AreSound self.old }
-        requires there { HasMemory (each_of self.old) slot }
-        requires fits { count ≤ length bytes.now }
-        requires writable { writable_now (held_at (each_of self.old) slot).image address count ≡ true }
-        ensures written { let held = held_at (each_of self.old) slot in SlotChanges self.old self.new slot (Some (with_image (write_image held.image address (take count bytes.now)) held)) }
-        ensures free { free_of self.new ≡ free_of self.old }
-        ensures runs { (hart : Hart) → RunsIn self.old slot hart → RunsIn self.new slot hart }
-    {
-        self.write_tested(slot, address, &bytes[..count]);
-    }
 }

@@ -32,6 +32,12 @@ pub enum FrameRole {
     Page(Vpn),
 }
 
+/// Entries of a table (RISC-V Privileged ISA, Sv39).
+const TABLE_ENTRIES: usize = 512;
+
+/// Pages below an upper table, one that the root leads to.
+const UPPER_PAGES: usize = TABLE_ENTRIES * TABLE_ENTRIES;
+
 /// Whether an entry leads to the page in a frame.
 fn leads_to(entry: &Entry, frame: Frame) -> bool
     ensures yes { result ≡ true → frame_of entry.now ≡ Some frame }
@@ -44,24 +50,23 @@ fn leads_to(entry: &Entry, frame: Frame) -> bool
 }
 
 /// The upper table on the way to a page.
-fn upper_table(ram: &Ram, root: Frame, v: usize) -> Option<Frame>
+fn upper_table(ram: &Ram, root: Frame, page: usize) -> Option<Frame>
     requires root_in { root < length ram.now }
-    requires page { v < 2 ^ 26 }
-    ensures table { result ≡ table_at ram.now root 1 (v / 262144) }
+    requires page { page < 2 ^ 26 }
+    ensures table { result ≡ table_at ram.now root 1 (page / 262144) }
     ensures inside { IfSome result (λ f. f < length ram.now) }
 {
-    read_table(ram, root, v / 262144)
+    read_table(ram, root, page / UPPER_PAGES)
 }
 
 /// The lower table on the way to a page below an upper table.
-fn lower_table(ram: &Ram, root: Frame, upper: Frame, v: usize) -> Option<Frame>
+fn lower_table(ram: &Ram, root: Frame, upper: Frame, page: usize) -> Option<Frame>
     requires upper_in { upper < length ram.now }
-    requires upper_is { table_at ram.now root 1 (v / 262144) ≡ Some upper }
-    ensures table { result ≡ table_at ram.now root 2 (v / 512) }
+    requires upper_is { table_at ram.now root 1 (page / 262144) ≡ Some upper }
+    ensures table { result ≡ table_at ram.now root 2 (page / 512) }
     ensures inside { IfSome result (λ f. f < length ram.now) }
 {
-    let _ = root.number();
-    read_table(ram, upper, v / 512 % 512)
+    read_table(ram, upper, page / TABLE_ENTRIES % TABLE_ENTRIES)
 }
 
 /// The entry of a lower table, of the first `count`, that leads to the page in a frame.
@@ -71,9 +76,9 @@ fn page_among(ram: &Ram, table: Frame, count: usize, frame: Frame) -> Option<usi
     ensures some { IfSome result (λ i. (i < count) × (frame_of (entry_at ram.now table i) ≡ Some frame)) }
     ensures none { IfNone result ((i : ℕ) → i < count → frame_of (entry_at ram.now table i) ≢ Some frame) }
 {
-    for i in 0..count {
-        if leads_to(&read_entry(ram, table, i), frame) {
-            return Some(i);
+    for entry in 0..count {
+        if leads_to(&read_entry(ram, table, entry), frame) {
+            return Some(entry);
         }
     }
     None
@@ -87,26 +92,26 @@ fn role_below(ram: &Ram, root: Frame, end: usize, frame: Frame) -> Option<FrameR
     ensures some { IfSome result (IsInTree ram.now root frame) }
     ensures none { IfNone result ((v : ℕ) → v < end → IsOffTheWay ram.now root frame v) }
 {
-    let mut v = 0;
-    'tables: while v < end {
-        let Some(upper) = upper_table(ram, root, v) else {
-            v = (v / 262144 + 1) * 262144;
+    let mut page = 0;
+    'tables: while page < end {
+        let Some(upper) = upper_table(ram, root, page) else {
+            page = (page / UPPER_PAGES + 1) * UPPER_PAGES;
             continue 'tables;
         };
         if upper.number() == frame.number() {
-            return Some(FrameRole::Upper((v / 262144) as u32));
+            return Some(FrameRole::Upper((page / UPPER_PAGES) as u32));
         }
-        let Some(lower) = lower_table(ram, root, upper, v) else {
-            v += 512;
+        let Some(lower) = lower_table(ram, root, upper, page) else {
+            page += TABLE_ENTRIES;
             continue 'tables;
         };
         if lower.number() == frame.number() {
-            return Some(FrameRole::Lower((v / 512) as u32));
+            return Some(FrameRole::Lower((page / TABLE_ENTRIES) as u32));
         }
-        if let Some(i) = page_among(ram, lower, (end - v).min(512), frame) {
-            return Some(FrameRole::Page(Vpn::new((v + i) as u32)));
+        if let Some(entry) = page_among(ram, lower, (end - page).min(TABLE_ENTRIES), frame) {
+            return Some(FrameRole::Page(Vpn::new((page + entry) as u32)));
         }
-        v += 512;
+        page += TABLE_ENTRIES;
     }
     None
 }

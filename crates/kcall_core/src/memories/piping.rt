@@ -55,8 +55,6 @@ impl Memories {
     fn keeps_pipe(&self, frame: Frame) -> bool
         ensures { result ≡ is_some (get (pipes_of self.now) frame) }
     {
-        // (That its number is below `FRAMES_MAX`.)
-        let _ = frame.number();
         let index = frame.index();
         if index >= self.pipes.len() {
             return false;
@@ -85,8 +83,6 @@ impl Memories {
         requires { AreSound self.now }
         ensures { result ≡ byte_of_pipe place (get (pipes_of self.now) frame) }
     {
-        // (That its number is below `FRAMES_MAX`.)
-        let _ = frame.number();
         if !self.keeps_pipe(frame) {
             return None;
         }
@@ -99,8 +95,6 @@ impl Memories {
         requires there { IsSome (get (pipes_of self.now) frame) }
         ensures { result ≡ (pipe_named (pipes_of self.now) frame).readers }
     {
-        // (That its number is below `FRAMES_MAX`.)
-        let _ = frame.number();
         pipe_core::readers(&self.ram, frame)
     }
 
@@ -110,8 +104,6 @@ impl Memories {
         requires there { IsSome (get (pipes_of self.now) frame) }
         ensures { result ≡ (pipe_named (pipes_of self.now) frame).writers }
     {
-        // (That its number is below `FRAMES_MAX`.)
-        let _ = frame.number();
         pipe_core::writers(&self.ram, frame)
     }
 
@@ -145,8 +137,6 @@ impl Memories {
         requires room { count_on end (pipe_named (pipes_of self.old) frame) < END_COUNT_MAX }
         ensures { PipeChanges self.old self.new frame (Some (joined (pipe_named (pipes_of self.old) frame) end 1)) }
     {
-        // (That its number is below `FRAMES_MAX`.)
-        let _ = frame.number();
         match end {
             End::Reading => pipe_core::add_reader(&mut self.ram, frame),
             End::Writing => pipe_core::add_writer(&mut self.ram, frame),
@@ -160,8 +150,6 @@ impl Memories {
         requires some { 1 ≤ count_on end (pipe_named (pipes_of self.old) frame) }
         ensures { PipeChanges self.old self.new frame (Some (parted (pipe_named (pipes_of self.old) frame) end 1)) }
     {
-        // (That its number is below `FRAMES_MAX`.)
-        let _ = frame.number();
         match end {
             End::Reading => pipe_core::drop_reader(&mut self.ram, frame),
             End::Writing => pipe_core::drop_writer(&mut self.ram, frame),
@@ -192,11 +180,9 @@ impl Memories {
         requires pipe { IsSome (get (pipes_of self.now) frame) }
         ensures { result ≡ not (has_bytes (pipe_named (pipes_of self.now) frame)) }
     {
-        // (That its number is below `FRAMES_MAX`.)
-        let _ = frame.number();
-        let len = pipe_core::len(&self.ram, frame);
-        let writers = pipe_core::writers(&self.ram, frame);
-        !((0 < len) | (writers == 0))
+        let count = self.count(frame);
+        let writers = self.writers(frame);
+        !((0 < count) | (writers == 0))
     }
 
     /// How many bytes are in a pipe.
@@ -206,8 +192,6 @@ impl Memories {
         ensures value { result ≡ length (pipe_named (pipes_of self.now) frame).bytes }
         ensures range { result ≤ PIPE_BYTES }
     {
-        // (That its number is below `FRAMES_MAX`.)
-        let _ = frame.number();
         pipe_core::len(&self.ram, frame)
     }
 
@@ -221,8 +205,6 @@ impl Memories {
         requires readable { readable (held_at (each_of self.old) slot).image address count ≡ true }
         ensures { PipeChanges self.old self.new frame (Some (with_more (image_bytes (held_at (each_of self.old) slot).image address count) (pipe_named (pipes_of self.old) frame))) }
     {
-        // (That its number is below `FRAMES_MAX`.)
-        let _ = frame.number();
         let memory = memory_in(&self.each, slot);
         user_copy::push_to_pipe(&memory.space, &mut self.ram, frame, address, count);
     }
@@ -254,8 +236,6 @@ impl Memories {
         ensures free { free_of self.new ≡ free_of self.old }
         ensures runs { (hart : Hart) → RunsIn self.old slot hart → RunsIn self.new slot hart }
     {
-        // (That its number is below `FRAMES_MAX`.)
-        let _ = frame.number();
         let memory = memory_in(&self.each, slot);
         user_copy::copy_from_pipe(&memory.space, &mut self.ram, frame, address, count);
     }
@@ -267,8 +247,6 @@ impl Memories {
         requires bytes { count ≤ length (pipe_named (pipes_of self.old) frame).bytes }
         ensures { PipeChanges self.old self.new frame (Some (without_first count (pipe_named (pipes_of self.old) frame))) }
     {
-        // (That its number is below `FRAMES_MAX`.)
-        let _ = frame.number();
         pipe_core::drop_first(&mut self.ram, frame, count);
     }
 

@@ -3,11 +3,11 @@ use Rattle.hart_core.specs.Translations.{FitsBut, kept_frame}
 use Rattle.kcall_core.specs.Memories.{is_between}
 use Rattle.kcall_core.proofs.memories.forget_from.Given as goal
 
-abbrev pub invariant-loop-v : goal.invariant-loop-v
-invariant-loop-v l = record {
+abbrev pub invariant-loop-page : goal.invariant-loop-page
+invariant-loop-page l = record {
   regs : l.hart.regs ≡ l.initial.hart.regs;
   root : l.hart.root ≡ l.initial.hart.root;
-  ahead : l.first ≤ l.v;
-  fits : (ram : List (List ℕ)) (root : ℕ) → FitsBut ram root l.initial.hart.cache (is_between l.first l.end) → FitsBut ram root l.hart.cache (is_between l.v l.end);
+  ahead : l.first ≤ l.page;
+  fits : (ram : List (List ℕ)) (root : ℕ) → FitsBut ram root l.initial.hart.cache (is_between l.first l.end) → FitsBut ram root l.hart.cache (is_between l.page l.end);
   kept : (page : ℕ) → page < l.first → kept_frame l.hart.cache page ≡ kept_frame l.initial.hart.cache page;
 }

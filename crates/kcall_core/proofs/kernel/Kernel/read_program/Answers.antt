@@ -1,7 +1,6 @@
 use Rattle.std.proofs.Common.{sym, ap, ◌∙◌, w64, length, take, drop, map, arith}
 use Rattle.std.specs.Prelude.{slice_get}
 use Rattle.std.proofs.lemmas.Int.{to_z_pos}
-use Rattle.std.proofs.lemmas.List.{take_all}
 use Rattle.xk_base.specs.Bytes.{write_image}
 use Rattle.kernel_spec.specs.rows.Buffers.{writable_now}
 use Rattle.kcall_core.specs.Holdings.{held_at}
@@ -16,47 +15,47 @@ use Rattle.kcall_core.proofs.memory.PipeRest.{writable-fewer}
 use Rattle.kcall_core.proofs.files.FileReads.{slot-memory, few, is-open, file-sound, file-answer, file-done}
 use Rattle.kcall_core.proofs.kernel.Kernel.read_program.Goals as goal
 
-pub put_front-requires-clause-there : goal.put_front-requires-clause-there
-put_front-requires-clause-there c = slot-memory c.requires.whole c.requires.slot
+pub write_tested-requires-clause-there : goal.write_tested-requires-clause-there
+write_tested-requires-clause-there c = slot-memory c.requires.whole c.requires.slot
 
-pub put_front-requires-clause-writable : goal.put_front-requires-clause-writable
+pub write_tested-requires-clause-writable : goal.write_tested-requires-clause-writable
 unfolding state_of
-put_front-requires-clause-writable c =
-    let are = c.file_rest-bytes.ensures.bytes ∙ ap (λ xs. take c.args.n (drop c.args.offset (program_bytes (slice_get (map named_file xs) c.args.program)))) c.deref.ensures.value in
+write_tested-requires-clause-writable c =
+    let are = c.file_rest-bytes.ensures.bytes ∙ ap (λ xs. take c.args.asked.now.count (drop c.args.offset (program_bytes (slice_get (map named_file xs) c.args.program)))) c.deref.ensures.value in
     let slot = now-slot c.args.slot c.requires.whole.sound c.requires.slot in
     ap (λ i. writable_now (held_at (each_of c.args.self.now.memories) i).image c.args.call.now.a1 (length c.file_rest-bytes.result.now)) slot
-    ∙ writable-fewer _ c.args.call.now.a1 c.args.n (length c.file_rest-bytes.result.now) (few c.requires.whole c.requires.running c.requires.file c.requires.reads c.args.program c.args.offset c.requires.target c.file_rest-bytes.result.now are) c.requires.file.buffer.2
+    ∙ writable-fewer _ c.args.call.now.a1 c.args.asked.now.count (length c.file_rest-bytes.result.now) (few c.requires.whole c.requires.running c.requires.file c.requires.reads c.args.program c.args.offset c.requires.target c.file_rest-bytes.result.now are) c.requires.file.buffer.2
 
 pub move_to-requires : goal.move_to-requires
 unfolding state_of
 move_to-requires c =
-    let are = c.file_rest-bytes.ensures.bytes ∙ ap (λ xs. take c.args.n (drop c.args.offset (program_bytes (slice_get (map named_file xs) c.args.program)))) c.deref.ensures.value in
+    let are = c.file_rest-bytes.ensures.bytes ∙ ap (λ xs. take c.args.asked.now.count (drop c.args.offset (program_bytes (slice_get (map named_file xs) c.args.program)))) c.deref.ensures.value in
     is-open c.requires.whole c.requires.running c.requires.file c.requires.reads c.args.program c.args.offset c.requires.target c.file_rest-bytes.result.now are
 
 pub done-requires-clause-sound : goal.done-requires-clause-sound
 unfolding state_of
 done-requires-clause-sound c =
-    let are = c.file_rest-bytes.ensures.bytes ∙ ap (λ xs. take c.args.n (drop c.args.offset (program_bytes (slice_get (map named_file xs) c.args.program)))) c.deref.ensures.value in
+    let are = c.file_rest-bytes.ensures.bytes ∙ ap (λ xs. take c.args.asked.now.count (drop c.args.offset (program_bytes (slice_get (map named_file xs) c.args.program)))) c.deref.ensures.value in
     let slot = now-slot c.args.slot c.requires.whole.sound c.requires.slot in
     file-sound c.requires.whole c.requires.running c.requires.file c.requires.reads c.args.program c.args.offset c.requires.target c.file_rest-bytes.result.now are
-    c.put_front.new.self _ ((λ i. write_image (held_at (each_of c.args.self.now.memories) (slot i)).image c.args.call.now.a1 (take_all (length c.file_rest-bytes.result.now) c.file_rest-bytes.result.now (omega arith) i))) c.args.slot slot c.put_front.ensures.written c.put_front.ensures.free c.put_front.ensures.runs
-    _ (λ i. record c.args.self.now { memories = c.put_front.new.self; files = c.move_to.ensures i })
+    c.write_tested.new.self _ ((λ i. write_image (held_at (each_of c.args.self.now.memories) (slot i)).image c.args.call.now.a1 c.file_rest-bytes.result.now)) c.args.slot slot c.write_tested.ensures.written c.write_tested.ensures.free c.write_tested.ensures.runs
+    _ (λ i. record c.args.self.now { memories = c.write_tested.new.self; files = c.move_to.ensures i })
 
 pub returns-clause-made : goal.returns-clause-made
 unfolding state_of
 returns-clause-made c =
-    let are = c.file_rest-bytes.ensures.bytes ∙ ap (λ xs. take c.args.n (drop c.args.offset (program_bytes (slice_get (map named_file xs) c.args.program)))) c.deref.ensures.value in
+    let are = c.file_rest-bytes.ensures.bytes ∙ ap (λ xs. take c.args.asked.now.count (drop c.args.offset (program_bytes (slice_get (map named_file xs) c.args.program)))) c.deref.ensures.value in
     let slot = now-slot c.args.slot c.requires.whole.sound c.requires.slot in
     file-done c.requires.whole c.requires.running c.requires.file c.requires.reads c.args.program c.args.offset c.requires.target c.file_rest-bytes.result.now are
-    c.put_front.new.self _ ((λ i. write_image (held_at (each_of c.args.self.now.memories) (slot i)).image c.args.call.now.a1 (take_all (length c.file_rest-bytes.result.now) c.file_rest-bytes.result.now (omega arith) i))) c.args.slot slot c.put_front.ensures.written c.put_front.ensures.free c.put_front.ensures.runs
-    _ (λ i. record c.args.self.now { memories = c.put_front.new.self; files = c.move_to.ensures i })
+    c.write_tested.new.self _ ((λ i. write_image (held_at (each_of c.args.self.now.memories) (slot i)).image c.args.call.now.a1 c.file_rest-bytes.result.now)) c.args.slot slot c.write_tested.ensures.written c.write_tested.ensures.free c.write_tested.ensures.runs
+    _ (λ i. record c.args.self.now { memories = c.write_tested.new.self; files = c.move_to.ensures i })
     c.done.new.self c.done.new.hart _ (to_z_pos w64 (length c.file_rest-bytes.result.now) (omega (arith, c.requires.size, few c.requires.whole c.requires.running c.requires.file c.requires.reads c.args.program c.args.offset c.requires.target c.file_rest-bytes.result.now are)))
     (record { sound = c.done.ensures.sound; kernel = c.done.ensures.kernel; state = c.done.ensures.state })
 
 pub returns-clause-answer : goal.returns-clause-answer
 unfolding state_of
 returns-clause-answer c =
-    let are = c.file_rest-bytes.ensures.bytes ∙ ap (λ xs. take c.args.n (drop c.args.offset (program_bytes (slice_get (map named_file xs) c.args.program)))) c.deref.ensures.value in
+    let are = c.file_rest-bytes.ensures.bytes ∙ ap (λ xs. take c.args.asked.now.count (drop c.args.offset (program_bytes (slice_get (map named_file xs) c.args.program)))) c.deref.ensures.value in
     file-answer c.requires.whole c.requires.running c.requires.file c.requires.reads c.args.program c.args.offset c.requires.target c.file_rest-bytes.result.now are
     ∙ ap (Called c.args.call.now.number) (sym (to_z_pos w64 (length c.file_rest-bytes.result.now) (omega (arith, c.requires.size, few c.requires.whole c.requires.running c.requires.file c.requires.reads c.args.program c.args.offset c.requires.target c.file_rest-bytes.result.now are))))
     ∙ ap (answer_of c.args.call.now.number) (sym c.done.ensures.end)

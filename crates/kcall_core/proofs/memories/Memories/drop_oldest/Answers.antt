@@ -3,14 +3,15 @@ use Rattle.pipe_core.specs.Pipe.{without_first}
 use Rattle.kcall_core.proofs.memory.PipeEdges.{is-pipe}
 use Rattle.kcall_core.proofs.memory.PipeFrames.{pipe-keeps, pipe-becomes}
 use Rattle.kcall_core.proofs.memory.PipeMoves.{bytes-named}
+use Rattle.kcall_core.proofs.memory.PipesTold.{pipe-below}
 use Rattle.kcall_core.proofs.memories.Memories.drop_oldest.Goals as goal
 
 pub drop_first-requires-clause-pipe : goal.drop_first-requires-clause-pipe
-drop_first-requires-clause-pipe c = is-pipe c.args.self.now c.number.ensures.range c.requires.sound c.requires.pipe
+drop_first-requires-clause-pipe c = is-pipe c.args.self.now (pipe-below c.args.self.now c.args.frame c.requires.pipe) c.requires.sound c.requires.pipe
 
 pub drop_first-requires-clause-there : goal.drop_first-requires-clause-there
-drop_first-requires-clause-there c = omega (arith, c.requires.bytes, ap length (bytes-named c.args.self.now c.number.ensures.range c.requires.sound c.requires.pipe))
+drop_first-requires-clause-there c = omega (arith, c.requires.bytes, ap length (bytes-named c.args.self.now (pipe-below c.args.self.now c.args.frame c.requires.pipe) c.requires.sound c.requires.pipe))
 
 pub returns : goal.returns
 returns c =
-    pipe-becomes _ (without_first c.args.count) c.number.ensures.range c.requires.sound (pipe-keeps c.args.self.now c.args.frame c.number.ensures.range c.requires.pipe) c.drop_first.ensures refl refl refl
+    pipe-becomes _ (without_first c.args.count) (pipe-below c.args.self.now c.args.frame c.requires.pipe) c.requires.sound (pipe-keeps c.args.self.now c.args.frame (pipe-below c.args.self.now c.args.frame c.requires.pipe) c.requires.pipe) c.drop_first.ensures refl refl refl

@@ -1,10 +1,11 @@
 use Rattle.std.proofs.Common.{ap, ◌∙◌}
 use Rattle.pipe_core.specs.Pipe.{Pipe}
 use Rattle.kcall_core.proofs.memory.PipeEdges.{is-pipe, named-in}
+use Rattle.kcall_core.proofs.memory.PipesTold.{pipe-below}
 use Rattle.kcall_core.proofs.memories.Memories.writers.Goals as goal
 
 pub writers-requires : goal.writers-requires
-writers-requires c = is-pipe c.args.self.now c.number.ensures.range c.requires.sound c.requires.there
+writers-requires c = is-pipe c.args.self.now (pipe-below c.args.self.now c.args.frame c.requires.there) c.requires.sound c.requires.there
 
 pub returns : goal.returns
-returns c = c.writers.ensures.value ∙ ap (λ (p : Pipe). p.writers) (named-in c.args.self.now c.number.ensures.range c.requires.sound c.requires.there)
+returns c = c.writers.ensures.value ∙ ap (λ (p : Pipe). p.writers) (named-in c.args.self.now (pipe-below c.args.self.now c.args.frame c.requires.there) c.requires.sound c.requires.there)

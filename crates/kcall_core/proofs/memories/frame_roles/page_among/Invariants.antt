@@ -3,5 +3,5 @@ use Rattle.sv39_core.specs.Sv39.{entry_at}
 use Rattle.sv39_core.specs.Tree.{frame_of}
 use Rattle.kcall_core.proofs.memories.frame_roles.page_among.Given as goal
 
-abbrev pub invariant-loop-i : goal.invariant-loop-i
-invariant-loop-i l = (k : ℕ) → k < l.i → frame_of (entry_at l.ram l.table k) ≢ Some l.frame
+abbrev pub invariant-loop-entry : goal.invariant-loop-entry
+invariant-loop-entry l = (k : ℕ) → k < l.entry → frame_of (entry_at l.ram l.table k) ≢ Some l.frame
