@@ -16,4 +16,5 @@ pub mod Replaced
 pub mod Roles
 pub mod Runs
 pub mod Stepping
+pub mod Vectors
 pub mod Written

@@ -1,14 +1,17 @@
 -- Bytes are written to the space in a slot; answers that are good or refused.
-use Rattle.std.proofs.Common.{◌≡◌, ℕ, ◌+◌, ◌^◌, ◌<◌, Bool, true, false, List, length, set, Some, None, Result, Ok, Err, IfOk, IfErr, refl, sym, ap, ◌∙◌, arith, subst, ◌≤◌}
+use Rattle.std.proofs.Common.{◌≡◌, ℕ, ◌+◌, ◌*◌, ◌^◌, ◌<◌, Bool, true, false, not, ◌&&◌, cond, ltb, is_some, List, length, set, Option, Some, None, Result, Ok, Err, IfOk, IfErr, refl, sym, ap, ◌∙◌, arith, subst, ◌≤◌}
 use Rattle.std.specs.Prelude.{is_ok}
-use Rattle.xk_base.specs.Image.{Image}
+use Rattle.std.proofs.lemmas.Bool.{false≢true}
+use Rattle.std.specs.FinMap.{get}
+use Rattle.xk_base.specs.Image.{Image, Page, with_page}
 use Rattle.xk_base.specs.declared.access.Access.{Access}
 use Rattle.xk_base.specs.declared.access.Access.TheVariants.{Load}
 use Rattle.xk_base.specs.declared.limits.TheConstants.{SIZE_LIMIT}
 use Rattle.frame_list.specs.Pool.{free_in}
 use Rattle.frame_list.proofs.Trades.{trade-lengths}
 use Rattle.addr_space.specs.Space.{IsSpace, Changed, frames_of, image_of}
-use Rattle.addr_space.specs.Absent.{whole, pages_at, brought}
+use Rattle.addr_space.specs.Absent.{whole, pages_at, brought, bring, is_absent}
+use Rattle.addr_space.specs.Changes.{zeroed}
 use Rattle.xk_base.specs.Access.{data_rights}
 use Rattle.addr_space.specs.InPlace.{WrittenInPlace}
 use Rattle.addr_space.proofs.Touching.{LowPages, low-pages, whole-low}
@@ -43,6 +46,16 @@ err-map (Err e) a f = f e a
 pub either : {X E C : Type 0} {A : X → Type 0} {B : E → Type 0} (r : Result X E) → IfOk r A → IfErr r B → ((x : X) → A x → C) → ((e : E) → B e → C) → C
 either (Ok x) a b f g = f x a
 either (Err e) a b f g = g e b
+
+-- what follows from an answer that is good
+pub if-fine : {X E A : Type 0} (r : Result X E) → is_ok r ≡ true → IfOk r (λ _. A) → A
+if-fine (Ok x) is a = a
+if-fine (Err e) is a = absurd (false≢true is)
+
+-- and from one that is refused
+pub if-refused : {X E A : Type 0} (r : Result X E) → is_ok r ≡ false → IfErr r (λ _. A) → A
+if-refused (Ok x) is a = absurd (false≢true (sym is))
+if-refused (Err e) is a = a
 
 -- an answer that tells a truth value
 pub told : {X E : Type 0} (r : Result X E) (b : Bool) → IfOk r (λ _. b ≡ true) → IfErr r (λ _. b ≡ false) → is_ok r ≡ b
@@ -79,6 +92,21 @@ readable-inside {old} {i} {m} s a n may =
 -- the pages that a range touches, as the space adds them
 pub touched-seen : {old : Memories} {i : ℕ} {m : Memory} → Stands old i m → (a n : ℕ) → brought (pages_at a n) (held_at (each_of old) i).image ≡ brought (pages_at a n) (image_of old.ram m.space)
 touched-seen {old} {i} {m} s a n = ap (brought (pages_at a n)) (image-seen s)
+
+-- an absent page, as the space adds it
+pub bring-seen : {old : Memories} {i : ℕ} {m : Memory} → Stands old i m → (v : ℕ) → is_absent (held_at (each_of old) i).image v ≡ true → with_page (image_of old.ram m.space) v (zeroed data_rights) ≡ bring v (held_at (each_of old) i).image
+bring-seen {old} {i} {m} s v absent =
+    let image = (held_at (each_of old) i).image in
+    ap (λ (j : Image). with_page j v (zeroed data_rights)) (sym (image-seen s)) ∙ sym (ap (λ b. cond b (with_page image v (zeroed data_rights)) image) absent)
+
+-- a page that is absent isn't there
+pub absent-none : (i : Image) (v : ℕ) → is_absent i v ≡ true → get i.pages v ≡ None
+absent-none i v absent = by (get i.pages v) (ltb (4096 * v) i.size) absent
+  where
+    by : (o : Option Page) (b : Bool) → (b && not (is_some o)) ≡ true → o ≡ None
+    by None b e = refl
+    by (Some page) true e = absurd (false≢true e)
+    by (Some page) false e = absurd (false≢true e)
 
 pub each-stays : {old : Memories} {i : ℕ} {m : Memory} → Stands old i m → old.each.items ≡ set old.each.items i (Some (record { space = m.space; trapframe = m.trapframe }))
 each-stays {old} {i} {m} s = sym (set-read old.each.items i (Some m) None s.inside s.is)

@@ -21,7 +21,7 @@ use xk_base::{BootError, Pid, Program};
 fn are_refused(frames: u32) -> bool
     ensures { result ≡ are_refused frames }
 {
-    (frames < FRAMES_MIN) | (frames > FRAMES_MAX)
+    frames < FRAMES_MIN || frames > FRAMES_MAX
 }
 
 impl Kernel {

@@ -27,7 +27,7 @@ use crate::call_end::CallEnd;
 use crate::kernel::Kernel;
 use crate::kernel::file::put_descriptor;
 use crate::kernel::syscall::{left_of, next_address, with_moved};
-use console_core::{Console, Echo, Pull};
+use console_core::{Echo, Pull};
 use file_table::FileId;
 use hart_core::Hart;
 use proc_table::{Call, Channel};
@@ -37,31 +37,6 @@ use xk_base::limits::{CONSOLE_BYTES, SEND_BYTES};
 /// How many bytes a step of a read asks the console for at most. The console holds one fewer, so that more room
 /// would make no difference.
 const LINE_ROOM: usize = CONSOLE_BYTES + 1;
-
-/// Takes committed bytes for a read, of which `done` bytes were taken before: at most `n`, which go to the front
-/// of a buffer.
-fn pull_front(console: &mut Console, bytes: &mut [u8], n: usize, done: usize) -> Pull
-    requires fits { n ≤ length bytes.old }
-    ensures count { result.taken ≡ length (next_line console.old done n).taken }
-    ensures ended { result.ended ≡ (next_line console.old done n).ended }
-    ensures bytes { take result.taken bytes.new ≡ (next_line console.old done n).taken }
-    ensures length { length bytes.new ≡ length bytes.old }
-    ensures within { result.taken ≤ n }
-    ensures after { console.new ≡ without_line (next_line console.old done n) console.old }
-    ensures limits { IsWithinLimits console.new }
-{
-    console.pull_line(&mut bytes[..n], done)
-}
-
-/// The first bytes of a buffer wait to be sent, as many as there is room for; how many they are.
-fn push_front(console: &mut Console, bytes: &[u8], count: usize) -> usize
-    requires fits { count ≤ length bytes.now }
-    ensures count { result ≡ room_for console.old count }
-    ensures after { console.new ≡ with_sent (take result (take count bytes.now)) console.old }
-    ensures limits { IsWithinLimits console.new }
-{
-    console.push_out(&bytes[..count])
-}
 
 impl Kernel {
     /// A free descriptor of a slot names the terminal from now on, which is opened in these modes.
@@ -95,8 +70,9 @@ impl Kernel {
         ensures limits { IsWithinLimits self.new.console }
         ensures rest { self.new ≡ record self.old { memories = self.new.memories; console = without_line (next_line self.old.console done n) self.old.console } }
     {
-        let mut line = [0; LINE_ROOM];
-        let pull = pull_front(&mut self.console, &mut line, n.min(LINE_ROOM), done);
+        let mut room = [0; LINE_ROOM];
+        let line = &mut room[..n.min(LINE_ROOM)];
+        let pull = self.console.pull_line(line, done);
         self.memories
             .write_tested(slot, address, &line[..pull.taken]);
         pull
@@ -140,10 +116,10 @@ impl Kernel {
         ensures limits { IsWithinLimits self.new.console }
         ensures rest { self.new ≡ record self.old { console = with_sent (image_bytes (held_at (each_of self.old.memories) slot).image address result) self.old.console } }
     {
-        let mut bytes = [0; SEND_BYTES];
-        let count = n.min(self.console.room());
-        self.memories.fetch_front(slot, address, &mut bytes, count);
-        push_front(&mut self.console, &bytes, count)
+        let mut room = [0; SEND_BYTES];
+        let bytes = &mut room[..n.min(self.console.room())];
+        self.memories.read_tested(slot, address, bytes);
+        self.console.push_out(bytes)
     }
 
     /// One step of a write to the terminal: as many bytes as there is room for wait to be sent. It is done when

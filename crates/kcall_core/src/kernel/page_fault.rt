@@ -63,10 +63,10 @@ impl Kernel {
         ensures refused { result ≡ false → (hart : Hart) → IsWhole self.old hart → (is_absent (live_now self.old hart).image (address / 4096) ≡ false) ⊎ (touch (pages_at address 1) (view_now self.old hart) ≡ None) }
     {
         let slot = self.running_slot();
-        if !self.memories.is_absent(slot, address) {
+        let Some(vpn) = self.memories.absent_page(slot, address) else {
             return false;
-        }
-        self.memories.touch(slot, address, 1, 0)
+        };
+        self.memories.bring_page(slot, vpn)
     }
 
     /// Whether user code may write all of the buffer of so many bytes at an address, in the slot of the process that

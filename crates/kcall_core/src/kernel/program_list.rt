@@ -18,9 +18,9 @@ fn is_refused_name(name: &[u8]) -> bool
     ensures { result ≡ is_bad_name name.now }
 {
     name.is_empty()
-        | (name.len() > NAME_MAX)
-        | holds_slash_or_zero(name)
-        | (name == b"console".as_slice())
+        || name.len() > NAME_MAX
+        || holds_slash_or_zero(name)
+        || name == b"console".as_slice()
 }
 
 /// Whether programs `i` and `k` have the same name.
@@ -53,10 +53,10 @@ fn is_refused(programs: &[Program], i: usize) -> bool
     ensures { result ≡ is_bad_program (map named_file programs.now) i }
 {
     let program = &programs[i];
-    (i >= PROGRAMS_MAX)
-        | is_refused_name(program.name.as_slice())
-        | has_earlier_name(programs, i)
-        | (program.bytes.len() > PROGRAM_BYTES)
+    i >= PROGRAMS_MAX
+        || is_refused_name(program.name.as_slice())
+        || has_earlier_name(programs, i)
+        || program.bytes.len() > PROGRAM_BYTES
 }
 
 /// The least index of a program that no kernel is made with: one that has 64 before it, or a name that is

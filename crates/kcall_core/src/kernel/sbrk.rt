@@ -2,7 +2,6 @@
 ghost use Rattle.std.specs.Prelude.{◌≡◌, ◌≤◌, true, false, Some, IfSome};
 ghost use Rattle.xk_base.specs.declared.limits.TheConstants.{SIZE_LIMIT};
 ghost use Rattle.kernel_spec.specs.rows.Buffers.{grown};
-ghost use Rattle.xk_base.specs.Access.{data_rights};
 ghost use Rattle.kernel_spec.specs.rows.Calls.{sbrk, sbrklazy};
 ghost use Rattle.kcall_core.specs.Kernel.{IsRunning, IsSound, IsTooDear, HasImage, live_now};
 ghost use Rattle.kernel_spec.specs.rows.Sizes.{resized, resized_lazily, at_size};
@@ -12,10 +11,10 @@ ghost use Rattle.kcall_core.specs.Makes.{Makes, view_now, answer_of};
 use crate::call_end::CallEnd;
 use crate::kernel::Kernel;
 use crate::kernel::syscall::c_int;
+use crate::memories::data_rights;
 use hart_core::Hart;
 use proc_table::Call;
 use xk_base::limits::SIZE_LIMIT;
-use xk_base::{Perm, Rights};
 
 /// The size after a call of sbrk; `None` where it would be below 0 or above the limit.
 fn resized(size: u64, n: i32) -> Option<u64>
@@ -41,18 +40,6 @@ fn resized_lazily(size: u64, n: i32) -> Option<u64>
     }
     let new = size + n as u64;
     if new > SIZE_LIMIT { None } else { Some(new) }
-}
-
-/// What a process may do with the pages that it grows by.
-fn data_rights() -> Perm
-    ensures { result ≡ data_rights }
-{
-    Perm::new(Rights {
-        read: true,
-        write: true,
-        execute: false,
-        user: true,
-    })
 }
 
 impl Kernel {

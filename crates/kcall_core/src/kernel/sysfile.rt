@@ -50,8 +50,7 @@ fn is_free_above(table: &Table, slot: usize, low: Fd, number: usize) -> bool
     requires number { number < NOFILE }
     ensures { result ≡ (nat_lt low number && is_none (named_by (descriptors_at table.now slot) number)) }
 {
-    let is_free = table.descriptors(slot).get(Fd::new(number as u8)).is_none();
-    (number > low.index()) & is_free
+    number > low.index() && table.descriptors(slot).get(Fd::new(number as u8)).is_none()
 }
 
 /// The lowest free descriptor of a slot above another one.

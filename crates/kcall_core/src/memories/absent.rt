@@ -1,14 +1,14 @@
 //! Pages of the processes that are absent: below the size, and not there (the xv6 book, "Page tables").
-ghost use Rattle.std.specs.Prelude.{◌≡◌, ◌+◌, ◌/◌, ◌<◌, ◌≤◌, true, false, Some};
+ghost use Rattle.std.specs.Prelude.{◌≡◌, ◌+◌, ◌/◌, ◌<◌, ◌≤◌, true, false, Some, IfSome, IfNone};
 ghost use Rattle.xk_base.specs.Image.{price};
 ghost use Rattle.xk_base.specs.declared.limits.TheConstants.{SIZE_LIMIT};
-ghost use Rattle.addr_space.specs.Absent.{is_absent, grown_lazily, pages_at, brought};
+ghost use Rattle.addr_space.specs.Absent.{is_absent, bring, grown_lazily, pages_at, brought};
 ghost use Rattle.hart_core.specs.declared.hart.Hart.{Hart};
 ghost use Rattle.kernel_spec.specs.rows.Buffers.{writable};
 ghost use Rattle.kcall_core.specs.Holdings.{held_at, HasMemory, with_image};
 ghost use Rattle.kcall_core.specs.Memories.{each_of, free_of, AreSound, RunsIn, SlotChanges};
 
-use crate::memories::Memories;
+use crate::memories::{Memories, data_rights};
 use xk_base::limits::{PAGE_BYTES, VPN_END};
 use xk_base::{Access, Vpn};
 
@@ -23,19 +23,44 @@ impl Memories {
         user_copy::check_range_lazily(&memory.space, &self.ram, address, len, Access::Store).is_ok()
     }
 
-    /// Whether the page of an address is absent in a slot.
-    pub fn is_absent(&self, slot: usize, address: u64) -> bool
+    /// The page of an address, if it is absent in a slot.
+    pub fn absent_page(&self, slot: usize, address: u64) -> Option<Vpn>
         requires sound { AreSound self.now }
         requires there { HasMemory (each_of self.now) slot }
-        ensures { result ≡ is_absent (held_at (each_of self.now) slot).image (address / 4096) }
+        ensures absent { IfSome result (λ vpn. (vpn ≡ address / 4096) × (is_absent (held_at (each_of self.now) slot).image (address / 4096) ≡ true)) }
+        ensures present { IfNone result (is_absent (held_at (each_of self.now) slot).image (address / 4096) ≡ false) }
     {
         let memory = self.memory(slot);
         if address / PAGE_BYTES >= VPN_END as u64 {
-            return false;
+            return None;
         }
-        memory
+        let vpn = Vpn::new((address / PAGE_BYTES) as u32);
+        if !memory.space.absent(&self.ram, vpn) {
+            return None;
+        }
+        Some(vpn)
+    }
+
+    /// An absent page of a slot comes, with zeros, if its frames are free; the answer is whether they are. If they
+    /// aren't, nothing is changed.
+    ///
+    /// What a hart keeps of the slot's translations stays true.
+    pub fn bring_page(&mut self, slot: usize, vpn: Vpn) -> bool
+        requires sound { AreSound self.old }
+        requires there { HasMemory (each_of self.old) slot }
+        requires absent { is_absent (held_at (each_of self.old) slot).image vpn ≡ true }
+        ensures brought { result ≡ true → let held = held_at (each_of self.old) slot in SlotChanges self.old self.new slot (Some (with_image (bring vpn held.image) held)) }
+        ensures runs { (hart : Hart) → RunsIn self.old slot hart → RunsIn self.new slot hart }
+        ensures refused { result ≡ false → let image = (held_at (each_of self.old) slot).image in (price image + free_of self.old < price (bring vpn image)) × (self.new ≡ self.old) }
+    {
+        let Some(mut memory) = self.each[slot].take() else {
+            unreachable!();
+        };
+        let came = memory
             .space
-            .absent(&self.ram, Vpn::new((address / PAGE_BYTES) as u32))
+            .map_zeroed(&mut self.pool, &mut self.ram, vpn, data_rights());
+        self.each[slot] = Some(memory);
+        came.is_ok()
     }
 
     /// The absent pages in which one of so many bytes from an address on lies come, with zeros. They come where

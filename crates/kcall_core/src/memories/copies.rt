@@ -111,16 +111,4 @@ impl Memories {
     {
         user_copy::fetch_text_lazily(&self.memory(slot).space, &self.ram, address, text)
     }
-
-    /// Copies bytes from the memory of a slot, where user code may read them, to the front of a buffer.
-    pub fn fetch_front(&self, slot: usize, address: u64, bytes: &mut [u8], count: usize)
-        requires sound { AreSound self.now }
-        requires there { HasMemory (each_of self.now) slot }
-        requires fits { count ≤ length bytes.old }
-        requires readable { readable (held_at (each_of self.now) slot).image address count ≡ true }
-        ensures bytes { take count bytes.new ≡ image_bytes (held_at (each_of self.now) slot).image address count }
-        ensures length { length bytes.new ≡ length bytes.old }
-    {
-        self.read_tested(slot, address, &mut bytes[..count]);
-    }
 }

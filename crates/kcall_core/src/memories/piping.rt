@@ -113,9 +113,7 @@ impl Memories {
         requires there { IsSome (get (pipes_of self.now) frame) }
         ensures { result ≡ is_given_up (pipe_named (pipes_of self.now) frame) }
     {
-        let readers = self.readers(frame);
-        let writers = self.writers(frame);
-        (readers == 0) & (writers == 0)
+        self.readers(frame) == 0 && self.writers(frame) == 0
     }
 
     /// Whether no descriptor is on an end of a pipe.
@@ -180,9 +178,7 @@ impl Memories {
         requires pipe { IsSome (get (pipes_of self.now) frame) }
         ensures { result ≡ not (has_bytes (pipe_named (pipes_of self.now) frame)) }
     {
-        let count = self.count(frame);
-        let writers = self.writers(frame);
-        !((0 < count) | (writers == 0))
+        self.count(frame) == 0 && self.writers(frame) > 0
     }
 
     /// How many bytes are in a pipe.

@@ -1,17 +1,46 @@
-use Rattle.std.proofs.Common.{◌≡◌, length, take, ap, ◌∙◌, arith}
+use Rattle.std.proofs.Common.{◌≡◌, ◌≤◌, ℕ, List, length, take, replicate, Some, ap, ◌∙◌, subst, arith}
+use Rattle.std.specs.Prelude.{nat_eq}
 use Rattle.std.proofs.lemmas.List.{length-take-le}
+use Rattle.xk_base.specs.Bytes.{write_image}
 use Rattle.xk_base.specs.declared.access.Access.TheVariants.{Store}
 use Rattle.user_copy.proofs.Ranges.{reaches-fewer}
+use Rattle.console_core.specs.Lists.{Console}
+use Rattle.console_core.specs.Reads.{Pulled}
 use Rattle.kernel_spec.specs.rows.Buffers.{writable_now}
-use Rattle.kcall_core.specs.Holdings.{held_at}
-use Rattle.kcall_core.specs.Memories.{each_of}
+use Rattle.kernel_spec.specs.rows.Terminal.{without_line}
+use Rattle.kcall_core.specs.Holdings.{held_at, with_image}
+use Rattle.kcall_core.specs.Memories.{each_of, SlotChanges}
+use Rattle.kcall_core.specs.declared.kernel.Kernel.{Kernel}
+use Rattle.kcall_core.proofs.files.LineRoom.{line-pulled, front-is, front-long}
 use Rattle.kcall_core.proofs.kernel.Kernel.take_line.Goals as goal
 
 pub write_tested-requires-clause-writable : goal.write_tested-requires-clause-writable
 write_tested-requires-clause-writable c =
     let image = (held_at (each_of c.args.self.now.memories) c.args.slot).image in
-    let taken = c.pull_front-pull.result.taken in
-    let room : length c.pull_front-pull.new.bytes ≡ 129 = c.pull_front-pull.ensures.length in
-    let long : length (take taken c.pull_front-pull.new.bytes) ≡ taken = length-take-le taken c.pull_front-pull.new.bytes (omega (arith, room, c.pull_front-pull.ensures.within, c.min.ensures)) in
-    ap (λ n. writable_now image c.args.address n) long
-    ∙ reaches-fewer Store image c.args.address c.args.n taken (omega (arith, c.pull_front-pull.ensures.within, c.min.ensures)) c.requires.writable
+    let taken = c.pull_line-pull.result.taken in
+    let fits : c.min.result ≤ 129 = omega (arith, c.min.ensures) in
+    let room : length (take c.min.result (replicate {A = ℕ} 129 0)) ≡ c.min.result = length-take-le {A = ℕ} c.min.result (replicate 129 0) fits in
+    let few : taken ≤ length (take c.min.result (replicate {A = ℕ} 129 0)) = c.pull_line-pull.ensures.within in
+    ap (λ n. writable_now image c.args.address n) (front-long taken _ _ c.pull_line-pull.new.buf c.pull_line-pull.ensures.count c.pull_line-pull.ensures.bytes)
+    ∙ reaches-fewer Store image c.args.address c.args.n taken (omega (arith, few, room, c.min.ensures)) c.requires.writable
+
+pub returns-clause-count : goal.returns-clause-count
+returns-clause-count c =
+    c.pull_line-pull.ensures.count ∙ ap (λ (p : Pulled). length p.taken) (line-pulled (nat_eq c.args.done 0) c.args.n c.min.result c.args.self.now.console.committed c.requires.keys c.min.ensures)
+
+pub returns-clause-ended : goal.returns-clause-ended
+returns-clause-ended c =
+    c.pull_line-pull.ensures.ended ∙ ap (λ (p : Pulled). p.ended) (line-pulled (nat_eq c.args.done 0) c.args.n c.min.result c.args.self.now.console.committed c.requires.keys c.min.ensures)
+
+pub returns-clause-written : goal.returns-clause-written
+returns-clause-written c =
+    let held = held_at (each_of c.args.self.now.memories) c.args.slot in
+    subst (λ (bytes : List ℕ). SlotChanges c.args.self.now.memories c.write_tested.new.self c.args.slot (Some (with_image (write_image held.image c.args.address bytes) held)))
+    (front-is c.pull_line-pull.result.taken _ _ c.pull_line-pull.new.buf c.pull_line-pull.ensures.count c.pull_line-pull.ensures.bytes
+    ∙ ap (λ (p : Pulled). p.taken) (line-pulled (nat_eq c.args.done 0) c.args.n c.min.result c.args.self.now.console.committed c.requires.keys c.min.ensures))
+    c.write_tested.ensures.written
+
+pub returns-clause-rest : goal.returns-clause-rest
+returns-clause-rest c =
+    ap (λ (x : Console). let k : Kernel = record c.args.self.now { memories = c.write_tested.new.self; console = x } in k)
+    (c.pull_line-pull.ensures.after ∙ ap (λ (p : Pulled). without_line p c.args.self.now.console) (line-pulled (nat_eq c.args.done 0) c.args.n c.min.result c.args.self.now.console.committed c.requires.keys c.min.ensures))
