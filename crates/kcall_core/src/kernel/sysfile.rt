@@ -152,7 +152,7 @@ fn file_rest(programs: &[Program], program: usize, offset: u64, n: usize) -> &[u
 
 impl Kernel {
     /// What a read (from the reading end) or a write is on. The tests that the two have in common come in their rows'
-    /// order: the descriptor, its mode, the number of bytes. `None` where one of them fails.
+    /// order: the descriptor, its mode, the number of bytes. `None` if one of them fails.
     fn transfer(&self, slot: usize, call: &Call, end: End) -> Option<Transfer>
         requires whole { (hart : Hart) × IsWhole self.now hart }
         requires slot { self.now.current ≡ Some slot }
@@ -198,7 +198,7 @@ impl Kernel {
         }
     }
 
-    /// One step of the call write. Where there are bytes to move, all of the buffer is tested.
+    /// One step of the call write. If there are bytes to move, all of the buffer is tested.
     pub(crate) fn write(&mut self, hart: &mut Hart, call: &Call) -> CallEnd
         requires whole { IsWhole self.old hart.old }
         requires running { IsRunning self.old }
@@ -272,7 +272,7 @@ impl Kernel {
         }
     }
 
-    /// One step of the call read. Where there are bytes to move, all of the buffer is tested, and its absent pages come.
+    /// One step of the call read. If there are bytes to move, all of the buffer is tested, and its absent pages come.
     pub(crate) fn read(&mut self, hart: &mut Hart, call: &Call) -> CallEnd
         requires whole { IsWhole self.old hart.old }
         requires running { IsRunning self.old }

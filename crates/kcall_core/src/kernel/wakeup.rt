@@ -46,7 +46,7 @@ impl Kernel {
         self.wake(Channel::Children(parent));
     }
 
-    /// All who sleep on a channel wake, where that is due.
+    /// All who sleep on a channel wake, if that is due.
     pub(crate) fn wake_if(&mut self, is_due: bool, channel: Channel)
         ensures sound { (hart : Hart) → IsSound self.old hart → IsSound self.new hart }
         ensures table { self.new.table ≡ each_changed (woken_by (wakes_if is_due channel)) self.old.table }
