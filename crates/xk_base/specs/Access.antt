@@ -1,6 +1,8 @@
 -- What the rights of a page are, and the number of each cause.
 use Rattle.std.specs.Prelude.{ℕ, Bool, true, false, IsTrue, ◌||◌, ◌&&◌, not}
 use Rattle.xk_base.specs.declared.access.Rights.{Rights}
+use Rattle.xk_base.specs.declared.access.Access.{Access}
+use Rattle.xk_base.specs.declared.access.Access.TheVariants.{Fetch, Load, Store}
 use Rattle.xk_base.specs.declared.access.Cause.{Cause}
 use Rattle.xk_base.specs.declared.access.Cause.TheVariants.{TargetMisaligned, IllegalInstruction, Breakpoint, LoadMisaligned, StoreMisaligned, FetchPageFault, LoadPageFault, StorePageFault}
 
@@ -14,6 +16,12 @@ IsPerm r = IsTrue (is_perm r)
 -- what user code may do with its data, and with its stack: read and write
 abbrev pub data_rights : Rights
 data_rights = record { read = true; write = true; execute = false; user = true }
+
+-- the right that an access needs is given
+abbrev pub right_for : Access → Rights → Bool
+right_for Fetch r = r.execute
+right_for Load r = r.read
+right_for Store r = r.write
 
 -- the numbers of the `scause` register
 abbrev pub code_of : Cause → ℕ

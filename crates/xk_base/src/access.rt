@@ -1,6 +1,6 @@
 //! Kinds of access to memory, what a page allows, and why an instruction can't go on.
 ghost use Rattle.std.specs.Prelude.{◌≡◌};
-ghost use Rattle.xk_base.specs.Access.{IsPerm, code_of};
+ghost use Rattle.xk_base.specs.Access.{IsPerm, code_of, data_rights, right_for};
 
 use std::marker::Model;
 
@@ -20,6 +20,20 @@ pub struct Rights {
     pub execute: bool,
     /// Whether user code has the other three.
     pub user: bool,
+}
+
+impl Rights {
+    /// Whether the right that an access needs is given: X, R or W. Whether it is user code's, U says.
+    #[inline(always)]
+    pub fn allow(self, access: Access) -> bool
+        ensures { result ≡ right_for access self }
+    {
+        match access {
+            Access::Fetch => self.execute,
+            Access::Load => self.read,
+            Access::Store => self.write,
+        }
+    }
 }
 
 /// The rights of a page: R or X is among them, and W only with R
@@ -50,6 +64,20 @@ impl Perm {
         ensures { result ≡ rights }
     {
         Perm { rights }
+    }
+
+    /// What user code may do with its data, and with its stack: read and write.
+    pub fn data() -> Perm
+        ensures { result ≡ data_rights }
+    {
+        Perm {
+            rights: Rights {
+                read: true,
+                write: true,
+                execute: false,
+                user: true,
+            },
+        }
     }
 
     /// Each of the rights.

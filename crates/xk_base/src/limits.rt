@@ -3,8 +3,11 @@
 //! The names in capitals without a break (`NPROC`, `NOFILE`, `MAXPATH`, `MAXARG`) are xv6's own.
 //! `NOFILE`, `OPEN_FILES` and `PIPE_BYTES` are larger than in xv6; their lines say what it has.
 
-/// Bytes of a page, and of a frame (RISC-V Privileged ISA, Sv39).
+/// Bytes of a page, and of a frame (RISC-V Privileged ISA, Sv39; xv6's `PGSIZE`).
 pub const PAGE_BYTES: u64 = 4096;
+
+/// The same, as the length of a list of bytes.
+pub const FRAME_BYTES: usize = PAGE_BYTES as usize;
 
 /// The fewest frames that RAM may have.
 pub const FRAMES_MIN: u32 = 16;
@@ -17,6 +20,9 @@ pub const RAM_BASE: u64 = 0x8000_0000;
 
 /// Virtual pages that a process may have are numbered below this: the lower half of Sv39's addresses.
 pub const VPN_END: u32 = 0x400_0000;
+
+/// The first address behind the last page that a process may have.
+pub const ADDRESS_END: u64 = VPN_END as u64 * PAGE_BYTES;
 
 /// The largest size of a process's memory, in bytes: where xv6 puts its trapframe page.
 pub const SIZE_LIMIT: u64 = 0x3F_FFFF_E000;
