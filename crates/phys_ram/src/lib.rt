@@ -1,8 +1,9 @@
-//! RAM: a list of frames of 4,096 bytes.
+//! RAM: a list of frames of [`PAGE_BYTES`](xk_base::limits::PAGE_BYTES) bytes.
 //!
 //! Contracts see RAM as the list of its frames, and a frame as the list of its bytes. Each call that
-//! writes changes one frame, or one word of it, and says that all others stay. `Frame` f is the
-//! physical page at [`RAM_BASE`](xk_base::limits::RAM_BASE)` + 4096 * f`.
+//! writes changes one frame, or one word of it, and says that all others stay.
+//! The frame of number 0 is the physical page at [`RAM_BASE`](xk_base::limits::RAM_BASE), and the others follow
+//! behind it.
 #![tactic(auto)]
 
 ghost use Rattle.std.specs.Prelude.{◌≡◌, ◌≢◌, ◌+◌, ◌<◌, ◌≤◌, length, set, take, drop, replicate, IfOk, IfErr};
@@ -11,13 +12,13 @@ ghost use Rattle.phys_ram.specs.Ram.{frame_at, word_at, with_bytes, zero_frame, 
 use byteorder::{ByteOrder, LittleEndian};
 use std::alloc::Global;
 use std::marker::Model;
-use xk_base::limits::{FRAMES_MAX, FRAMES_MIN};
-use xk_base::{BootError, Frame};
+use xk_base::limits::{FRAME_BYTES, FRAMES_MAX, FRAMES_MIN};
+use xk_base::{BootError, Frame, FrameBytes};
 
 /// The machine's memory.
 #[derive(Drop)]
 pub struct Ram {
-    frames: Vec<[u8; 4096]>,
+    frames: Vec<FrameBytes>,
 }
 
 impl Model for Ram {
@@ -31,34 +32,34 @@ impl Model for Ram {
     ghost invariant = { λ r. IsFrameCount (length r.frames.items) };
 }
 
-/// Copies `n` bytes of one frame, from byte `start` on, over those of another, from byte `at` on.
-fn copy_bytes(from: &[u8; 4096], start: usize, to: &mut [u8; 4096], at: usize, n: usize)
-    requires start_in { start + n ≤ 4096 }
-    requires at_in { at + n ≤ 4096 }
+/// Copies `count` bytes of one frame, from byte `start` on, over those of another, from byte `at` on.
+fn copy_bytes(from: &FrameBytes, start: usize, to: &mut FrameBytes, at: usize, count: usize)
+    requires start_in { start + count ≤ 4096 }
+    requires at_in { at + count ≤ 4096 }
     ensures whole { (length from.now ≡ 4096) × (length to.old ≡ 4096) }
-    ensures copied { to.new ≡ with_bytes at (take n (drop start from.now)) to.old }
+    ensures copied { to.new ≡ with_bytes at (take count (drop start from.now)) to.old }
 {
-    to[at..at + n].copy_from_slice(&from[start..start + n]);
+    to[at..at + count].copy_from_slice(&from[start..start + count]);
 }
 
 impl Ram {
     ghost use Rattle.std.specs.Borrow.{sem};
     ghost use Rattle.phys_ram.specs.Lending.{LendsFrame};
 
-    /// RAM of `n` frames of zeros. All of it is asked of the host at once.
+    /// RAM of `count` frames of zeros. All of it is asked of the host at once.
     ///
-    /// Errors: `BadConfig` exactly where `n` is not in
+    /// Errors: `BadConfig` exactly where `count` is not in
     /// [`FRAMES_MIN`](xk_base::limits::FRAMES_MIN)..=[`FRAMES_MAX`](xk_base::limits::FRAMES_MAX),
     /// else `Memory` where the host has too little memory.
-    pub fn new(alloc: Global, n: u32) -> Result<Ram, BootError>
-        ensures zeros { IfOk result (λ ram. ram ≡ replicate n zero_frame) }
-        ensures range { IfOk result (λ _. IsFrameCount n) }
-        ensures refused { IfErr result (IsRefused n) }
+    pub fn new(alloc: Global, count: u32) -> Result<Ram, BootError>
+        ensures zeros { IfOk result (λ ram. ram ≡ replicate count zero_frame) }
+        ensures range { IfOk result (λ _. IsFrameCount count) }
+        ensures refused { IfErr result (IsRefused count) }
     {
-        if n < FRAMES_MIN || n > FRAMES_MAX {
+        if count < FRAMES_MIN || count > FRAMES_MAX {
             return Err(BootError::BadConfig);
         }
-        let frames = vec![in alloc; [0; 4096]; n as usize]?;
+        let frames = vec![in alloc; [0; FRAME_BYTES]; count as usize]?;
         Ok(Ram { frames })
     }
 
@@ -71,38 +72,38 @@ impl Ram {
     }
 
     /// The bytes of a frame.
-    pub fn frame(&self, f: Frame) -> &[u8; 4096]
-        requires { f < length self.now }
-        ensures { result.now ≡ frame_at self.now f }
+    pub fn frame(&self, frame: Frame) -> &FrameBytes
+        requires { frame < length self.now }
+        ensures { result.now ≡ frame_at self.now frame }
     {
-        &self.frames[f.index()]
+        &self.frames[frame.index()]
     }
 
     /// The bytes of a frame, to be written. All other frames stay.
-    pub fn frame_mut(&mut self, f: Frame) -> &mut [u8; 4096]
-        requires { f < length self.old }
-        ensures* writes_back { sem 𝓛 (LendsFrame self.entry f result) }
-        ensures value { result.now ≡ frame_at self.old f }
+    pub fn frame_mut(&mut self, frame: Frame) -> &mut FrameBytes
+        requires { frame < length self.old }
+        ensures* writes_back { sem 𝓛 (LendsFrame self.entry frame result) }
+        ensures value { result.now ≡ frame_at self.old frame }
     {
-        &mut self.frames[f.index()]
+        &mut self.frames[frame.index()]
     }
 
-    /// Word `i` of a frame, below 512: the number, little-endian, in its eight bytes from byte `8 * i` on.
-    pub fn read_u64(&self, f: Frame, i: usize) -> u64
-        requires frame_in { f < length self.now }
-        requires word_in { i < 512 }
-        ensures { result ≡ word_at self.now f i }
+    /// Word `word` of a frame, below 512, little-endian, in its eight bytes from byte `8 * word` on.
+    pub fn read_u64(&self, frame: Frame, word: usize) -> u64
+        requires frame_in { frame < length self.now }
+        requires word_in { word < 512 }
+        ensures { result ≡ word_at self.now frame word }
     {
-        LittleEndian::read_u64(&self.frame(f)[8 * i..])
+        LittleEndian::read_u64(&self.frame(frame)[8 * word..])
     }
 
-    /// Writes a number, little-endian, into word `i` of a frame, below 512. Nothing else changes.
-    pub fn write_u64(&mut self, f: Frame, i: usize, v: u64)
-        requires frame_in { f < length self.old }
-        requires word_in { i < 512 }
-        ensures { WordWritten self.old self.new f i v }
+    /// Writes a number, little-endian, into word `word` of a frame, below 512. Nothing else changes.
+    pub fn write_u64(&mut self, frame: Frame, word: usize, number: u64)
+        requires frame_in { frame < length self.old }
+        requires word_in { word < 512 }
+        ensures { WordWritten self.old self.new frame word number }
     {
-        LittleEndian::write_u64(&mut self.frame_mut(f)[8 * i..8 * i + 8], v);
+        LittleEndian::write_u64(&mut self.frame_mut(frame)[8 * word..8 * word + 8], number);
     }
 
     /// Copies all bytes of the frame `from` into the frame `to`. All other frames stay.
@@ -115,43 +116,43 @@ impl Ram {
         self.frames.copy_within(from..from + 1, to.index());
     }
 
-    /// Copies `n` bytes of the frame `from`, from byte `start` on, over those of another frame `to`, from
+    /// Copies `count` bytes of the frame `from`, from byte `start` on, over those of another frame `to`, from
     /// byte `at` on. All other bytes stay.
-    pub fn copy_part(&mut self, from: Frame, start: usize, to: Frame, at: usize, n: usize)
+    pub fn copy_part(&mut self, from: Frame, start: usize, to: Frame, at: usize, count: usize)
         requires from_in { from < length self.old }
         requires to_in { to < length self.old }
         requires apart { from ≢ to }
-        requires start_in { start + n ≤ 4096 }
-        requires at_in { at + n ≤ 4096 }
+        requires start_in { start + count ≤ 4096 }
+        requires at_in { at + count ≤ 4096 }
         ensures whole { (length (frame_at self.old from) ≡ 4096) × (length (frame_at self.old to) ≡ 4096) }
-        ensures copied { self.new ≡ set self.old to (with_bytes at (take n (drop start (frame_at self.old from))) (frame_at self.old to)) }
+        ensures copied { self.new ≡ set self.old to (with_bytes at (take count (drop start (frame_at self.old from))) (frame_at self.old to)) }
     {
         let source = from.index();
         let target = to.index();
         if source < target {
             let (low, high) = self.frames.split_at_mut(target);
-            copy_bytes(&low[source], start, &mut high[0], at, n);
+            copy_bytes(&low[source], start, &mut high[0], at, count);
         } else {
             let (low, high) = self.frames.split_at_mut(source);
-            copy_bytes(&high[0], start, &mut low[target], at, n);
+            copy_bytes(&high[0], start, &mut low[target], at, count);
         }
     }
 
-    /// Makes `n` bytes of a frame 0, from byte `at` on. All other bytes stay.
-    pub fn clear_part(&mut self, f: Frame, at: usize, n: usize)
-        requires frame_in { f < length self.old }
-        requires at_in { at + n ≤ 4096 }
-        ensures whole { length (frame_at self.old f) ≡ 4096 }
-        ensures cleared { self.new ≡ set self.old f (with_bytes at (replicate n 0) (frame_at self.old f)) }
+    /// Makes `count` bytes of a frame 0, from byte `at` on. All other bytes stay.
+    pub fn clear_part(&mut self, frame: Frame, at: usize, count: usize)
+        requires frame_in { frame < length self.old }
+        requires at_in { at + count ≤ 4096 }
+        ensures whole { length (frame_at self.old frame) ≡ 4096 }
+        ensures cleared { self.new ≡ set self.old frame (with_bytes at (replicate count 0) (frame_at self.old frame)) }
     {
-        self.frame_mut(f)[at..at + n].fill(0);
+        self.frame_mut(frame)[at..at + count].fill(0);
     }
 
     /// Makes all bytes of a frame 0. All other frames stay.
-    pub fn zero_frame(&mut self, f: Frame)
-        requires { f < length self.old }
-        ensures { self.new ≡ set self.old f zero_frame }
+    pub fn zero_frame(&mut self, frame: Frame)
+        requires { frame < length self.old }
+        ensures { self.new ≡ set self.old frame zero_frame }
     {
-        self.frame_mut(f).fill(0);
+        self.frame_mut(frame).fill(0);
     }
 }

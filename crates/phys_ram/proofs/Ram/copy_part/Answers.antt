@@ -16,7 +16,7 @@ returns-then-source-target-clause-copied c =
     let first : target + 0 ≡ target = omega arith in
     let from = ap (λ xs. get_or xs source []) low ∙ get_or-take target items source [] c.if-source-target.true ∙ (λ k. get_or (c.self.view_is k) (c.index-source.ensures.value k) []) in
     let to = ap (λ xs. get_or xs 0 []) high ∙ get_or-drop target items 0 [] ∙ ap (λ k. get_or items k []) first ∙ (λ k. get_or (c.self.view_is k) (c.index-target.ensures.value k) []) in
-    let bytes = c.copy_bytes.ensures.copied ∙ (λ k. with_bytes c.args.at (take c.args.n (drop c.args.start (from k))) (to k)) in
+    let bytes = c.copy_bytes.ensures.copied ∙ (λ k. with_bytes c.args.at (take c.args.count (drop c.args.start (from k))) (to k)) in
     set_in_upper items c.self.inside.frames.len c.self.inside.frames.ok.0 target c.copy_bytes.new.to inside c.split_at_mut-low.result.0.now c.split_at_mut-low.result.1.now low high
     ∙ (λ k. set (c.self.view_is k) (c.index-target.ensures.value k) (bytes k))
 
@@ -35,6 +35,6 @@ returns-else-source-target-clause-copied c =
     let first : source + 0 ≡ source = omega arith in
     let from = ap (λ xs. get_or xs 0 []) high ∙ get_or-drop source items 0 [] ∙ ap (λ k. get_or items k []) first ∙ (λ k. get_or (c.self.view_is k) (c.index-source.ensures.value k) []) in
     let to = ap (λ xs. get_or xs target []) low ∙ get_or-take source items target [] below ∙ (λ k. get_or (c.self.view_is k) (c.index-target.ensures.value k) []) in
-    let bytes = c.copy_bytes-else-source-target.ensures.copied ∙ (λ k. with_bytes c.args.at (take c.args.n (drop c.args.start (from k))) (to k)) in
+    let bytes = c.copy_bytes-else-source-target.ensures.copied ∙ (λ k. with_bytes c.args.at (take c.args.count (drop c.args.start (from k))) (to k)) in
     set_in_lower items c.self.inside.frames.len c.self.inside.frames.ok.0 target c.copy_bytes-else-source-target.new.to inside low_part high_part source below (omega (arith, source_in)) low high
     ∙ (λ k. set (c.self.view_is k) (c.index-target.ensures.value k) (bytes k))
