@@ -9,7 +9,7 @@ use Rattle.std.proofs.lemmas.Bool.Decides.{nat_tests}
 use Rattle.xk_base.specs.declared.access.Rights.{Rights}
 use Rattle.xk_base.specs.declared.access.Access.{Access}
 use Rattle.xk_base.specs.declared.access.Access.TheVariants.{Fetch, Load, Store}
-use Rattle.xk_base.specs.Access.{is_perm}
+use Rattle.xk_base.specs.Access.{is_perm, right_for}
 use Rattle.sv39_core.specs.declared.entry.Entry.{Entry}
 use Rattle.sv39_core.specs.declared.entry.Entry.TheVariants.{Invalid, Table, Leaf}
 use Rattle.sv39_core.specs.Sv39.{allowed, flag, given, is_in_ram, page_number, permits, rights_of, is_usable, entry_of, entry_permits, table_of, bit_if, leaf_word, table_word}
@@ -28,6 +28,12 @@ ltb-yes a b e = grind (arith, nat_tests)
 
 pub ltb-no : (a b : ℕ) → b ≤ a → ltb a b ≡ false
 ltb-no a b e = grind (arith, nat_tests)
+
+-- user code may make an access by U and the access's right
+pub permits_by_right : (access : Access) (r : Rights) → (r.user && right_for access r) ≡ permits access r
+permits_by_right Fetch r = refl
+permits_by_right Load r = refl
+permits_by_right Store r = refl
 
 -- the test of one flag
 pub flag-has : (w k : ℕ) → eqb (bit_and w (2 ^ k)) (2 ^ k) ≡ flag w k

@@ -229,25 +229,15 @@ impl Pte {
         Some(self.frame())
     }
 
-    /// Whether the bits below the page number let user code make an access: the entry is valid and has no W
-    /// without R, and its rights, A and D permit it.
+    /// Whether the bits below the page number let user code make an access: its rights give it, A is set, and for a
+    /// store D too.
     fn permits(self, access: Access) -> bool
         ensures { result ≡ (flag self 0 && (not (flag self 2) || flag self 1) && permits access (given (rights_of self) (flag self 6) (flag self 7))) }
     {
-        let used = self.has(PteFlags::VALID)
-            & self.has(PteFlags::USER)
-            & self.has(PteFlags::ACCESSED);
+        let granted = self.has_right(access) & self.has(PteFlags::ACCESSED);
         match access {
-            Access::Fetch => {
-                used & self.has(PteFlags::EXECUTE)
-                    & (!self.has(PteFlags::WRITE) | self.has(PteFlags::READ))
-            }
-            Access::Load => used & self.has(PteFlags::READ),
-            Access::Store => {
-                used & self.has(PteFlags::READ)
-                    & self.has(PteFlags::WRITE)
-                    & self.has(PteFlags::DIRTY)
-            }
+            Access::Store => granted & self.has(PteFlags::DIRTY),
+            _ => granted,
         }
     }
 
@@ -273,12 +263,8 @@ impl Pte {
         ensures { result ≡ (flag self 0 && (not (flag self 2) || flag self 1) && permits access (rights_of self)) }
     {
         let rights = self.rights();
-        let of_user = self.has(PteFlags::VALID) & rights.user;
-        match access {
-            Access::Fetch => of_user & rights.execute & (!rights.write | rights.read),
-            Access::Load => of_user & rights.read,
-            Access::Store => of_user & rights.read & rights.write,
-        }
+        let right = rights.allow(access) & (!rights.write | rights.read);
+        self.has(PteFlags::VALID) & rights.user & right
     }
 
     /// Whether the entry leads to a page whose rights permit user code an access, where RAM has so many frames.

@@ -6,7 +6,15 @@
 #![tactic(auto)]
 
 mod entry;
+mod index;
 mod walking;
 
 pub use entry::{Entry, Pte, Reached};
-pub use walking::{entry_permits, reach, read_entry, read_table, split, walk};
+pub use index::{
+    TABLE_ENTRIES, UPPER_TABLE_PAGES, lower_index, lower_table_end, lower_table_start, root_index,
+    upper_index, upper_table_end,
+};
+pub use walking::{
+    entry_permits, reach, read_entry, read_lower_table, read_page_entry, read_table,
+    read_upper_table, split, walk,
+};

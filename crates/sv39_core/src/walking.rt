@@ -5,10 +5,11 @@ ghost use Rattle.xk_base.specs.declared.access.Access.TheVariants.{Fetch, Load, 
 ghost use Rattle.sv39_core.specs.Sv39.{allowed, entry_at, entry_of, entry_permits, is_canonical, table_of, walked, page_fault};
 
 use crate::entry::{Entry, Pte, Reached};
+use crate::index::{TABLE_ENTRIES, lower_index, root_index, upper_index};
 use phys_ram::Ram;
-use xk_base::{Access, Cause, Frame};
+use xk_base::{Access, Cause, Frame, page_offset};
 
-/// Entry `i`, below 512, of the table in a frame.
+/// Entry `i`, below [`TABLE_ENTRIES`], of the table in a frame.
 pub fn read_entry(ram: &Ram, table: Frame, i: usize) -> Entry
     requires table_in { table < length ram.now }
     requires entry_in { i < 512 }
@@ -17,7 +18,7 @@ pub fn read_entry(ram: &Ram, table: Frame, i: usize) -> Entry
     Pte::from_bits(ram.read_u64(table, i)).entry(ram.frames())
 }
 
-/// Whether entry `i`, below 512, of the table in a frame leads to a page whose rights let user code make an access. A
+/// Whether entry `i`, below [`TABLE_ENTRIES`], of the table in a frame leads to a page whose rights let user code make an access. A
 /// and D decide nothing here.
 #[inline(always)]
 pub fn entry_permits(ram: &Ram, table: Frame, i: usize, access: Access) -> bool
@@ -28,7 +29,7 @@ pub fn entry_permits(ram: &Ram, table: Frame, i: usize, access: Access) -> bool
     Pte::from_bits(ram.read_u64(table, i)).grants(access, ram.frames())
 }
 
-/// The table that entry `i`, below 512, of the table in a frame leads to; None where it leads to none.
+/// The table that entry `i`, below [`TABLE_ENTRIES`], of the table in a frame leads to; None where it leads to none.
 pub fn read_table(ram: &Ram, table: Frame, i: usize) -> Option<Frame>
     requires table_in { table < length ram.now }
     requires entry_in { i < 512 }
@@ -36,6 +37,36 @@ pub fn read_table(ram: &Ram, table: Frame, i: usize) -> Option<Frame>
     ensures inside { IfSome result (λ f. f < length ram.now) }
 {
     Pte::from_bits(ram.read_u64(table, i)).next_table(ram.frames())
+}
+
+/// The upper table on the way to a page of a root; None where there is none.
+#[inline(always)]
+pub fn read_upper_table(ram: &Ram, root: Frame, page: usize) -> Option<Frame>
+    requires table_in { root < length ram.now }
+    requires page { page < 2 ^ 27 }
+    ensures table { result ≡ table_of (entry_at ram.now root (page / 262144)) }
+    ensures inside { IfSome result (λ f. f < length ram.now) }
+{
+    read_table(ram, root, root_index(page))
+}
+
+/// The lower table on the way to a page below an upper table; None where there is none.
+#[inline(always)]
+pub fn read_lower_table(ram: &Ram, upper: Frame, page: usize) -> Option<Frame>
+    requires table_in { upper < length ram.now }
+    ensures table { result ≡ table_of (entry_at ram.now upper (page / 512 % 512)) }
+    ensures inside { IfSome result (λ f. f < length ram.now) }
+{
+    read_table(ram, upper, upper_index(page))
+}
+
+/// The entry of a page in a lower table.
+#[inline(always)]
+pub fn read_page_entry(ram: &Ram, lower: Frame, page: usize) -> Entry
+    requires table_in { lower < length ram.now }
+    ensures { result ≡ entry_at ram.now lower (page % 512) }
+{
+    read_entry(ram, lower, lower_index(page))
 }
 
 /// The three indexes of a virtual address, the root's first. None exactly where the address isn't
@@ -48,9 +79,9 @@ pub fn split(va: u64) -> Option<[usize; 3]>
         return None;
     }
     Some([
-        (va >> 30) as usize % 512,
-        (va >> 21) as usize % 512,
-        (va >> 12) as usize % 512,
+        (va >> 30) as usize % TABLE_ENTRIES,
+        (va >> 21) as usize % TABLE_ENTRIES,
+        (va >> 12) as usize % TABLE_ENTRIES,
     ])
 }
 
@@ -76,7 +107,7 @@ fn page_fault(access: Access) -> Cause
     }
 }
 
-/// The frame, and the offset in it (below 4096), that an access to a virtual address reaches through
+/// The frame, and the offset in it (below [`FRAME_BYTES`](xk_base::limits::FRAME_BYTES)), that an access to a virtual address reaches through
 /// the tables below a root. Otherwise the page fault of the access's kind.
 pub fn walk(ram: &Ram, root: Frame, va: u64, access: Access) -> Result<(Frame, usize), Cause>
     requires { root < length ram.now }
@@ -89,7 +120,7 @@ pub fn walk(ram: &Ram, root: Frame, va: u64, access: Access) -> Result<(Frame, u
     let Some(frame) = entry.reached(access, ram.frames()) else {
         return Err(page_fault(access));
     };
-    Ok((frame, (va % 4096) as usize))
+    Ok((frame, page_offset(va)))
 }
 
 /// The frame of the page at a virtual address, through the tables below a root, and for each kind of access
