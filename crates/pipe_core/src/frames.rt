@@ -9,69 +9,69 @@ use phys_ram::Ram;
 use xk_base::Frame;
 use xk_base::limits::PIPE_BYTES;
 
-/// Appends `n` bytes of another frame, from byte `at` on. There is room for them.
+/// Appends `size` bytes of another frame, from byte `at` on. There is room for them.
 #[tactic(auto, using(crate::proofs::Changes::bytes_fit))]
-pub fn push_part(ram: &mut Ram, f: Frame, from: Frame, at: usize, n: usize)
-    requires pipe { IsPipe ram.old f }
+pub fn push_part(ram: &mut Ram, frame: Frame, from: Frame, at: usize, size: usize)
+    requires pipe { IsPipe ram.old frame }
     requires from_in { from < length ram.old }
-    requires apart { from ≢ f }
-    requires at_in { at + n ≤ 4096 }
-    requires room { length (pipe_in ram.old f).bytes + n ≤ PIPE_BYTES }
+    requires apart { from ≢ frame }
+    requires at_in { at + size ≤ 4096 }
+    requires room { length (pipe_in ram.old frame).bytes + size ≤ PIPE_BYTES }
     ensures whole { length (frame_at ram.old from) ≡ 4096 }
-    ensures pushed { Becomes ram.old ram.new f (with_more (take n (drop at (frame_at ram.old from))) (pipe_in ram.old f)) }
+    ensures pushed { Becomes ram.old ram.new frame (with_more (take size (drop at (frame_at ram.old from))) (pipe_in ram.old frame)) }
 {
-    let oldest = ram.read_u64(f, OLDEST) as usize;
-    let count = len(ram, f);
+    let oldest = ram.read_u64(frame, OLDEST) as usize;
+    let count = len(ram, frame);
     let place = (oldest + count) % PIPE_BYTES;
-    let before = n.min(PIPE_BYTES - place);
-    ram.copy_part(from, at, f, RING + place, before);
-    ram.copy_part(from, at + before, f, RING, n - before);
-    ram.write_u64(f, COUNT, (count + n) as u64);
+    let before = size.min(PIPE_BYTES - place);
+    ram.copy_part(from, at, frame, RING + place, before);
+    ram.copy_part(from, at + before, frame, RING, size - before);
+    ram.write_u64(frame, COUNT, (count + size) as u64);
 }
 
-/// Appends `n` zeros. There is room for them.
+/// Appends `size` zeros. There is room for them.
 #[tactic(auto, using(crate::proofs::Changes::bytes_fit))]
-pub fn push_zeros(ram: &mut Ram, f: Frame, n: usize)
-    requires pipe { IsPipe ram.old f }
-    requires room { length (pipe_in ram.old f).bytes + n ≤ PIPE_BYTES }
-    ensures { Becomes ram.old ram.new f (with_more (replicate n 0) (pipe_in ram.old f)) }
+pub fn push_zeros(ram: &mut Ram, frame: Frame, size: usize)
+    requires pipe { IsPipe ram.old frame }
+    requires room { length (pipe_in ram.old frame).bytes + size ≤ PIPE_BYTES }
+    ensures { Becomes ram.old ram.new frame (with_more (replicate size 0) (pipe_in ram.old frame)) }
 {
-    let oldest = ram.read_u64(f, OLDEST) as usize;
-    let count = len(ram, f);
+    let oldest = ram.read_u64(frame, OLDEST) as usize;
+    let count = len(ram, frame);
     let place = (oldest + count) % PIPE_BYTES;
-    let before = n.min(PIPE_BYTES - place);
-    ram.clear_part(f, RING + place, before);
-    ram.clear_part(f, RING, n - before);
-    ram.write_u64(f, COUNT, (count + n) as u64);
+    let before = size.min(PIPE_BYTES - place);
+    ram.clear_part(frame, RING + place, before);
+    ram.clear_part(frame, RING, size - before);
+    ram.write_u64(frame, COUNT, (count + size) as u64);
 }
 
-/// Copies `n` of the bytes of a pipe, from number `skip` on, the oldest being number 0, over those of
+/// Copies `size` of the bytes of a pipe, from number `skip` on, the oldest being number 0, over those of
 /// another frame, from byte `at` on. The pipe stays, and so do all other bytes.
 #[tactic(auto, using(crate::proofs::Changes::bytes_fit))]
-pub fn copy_bytes(ram: &mut Ram, f: Frame, skip: usize, to: Frame, at: usize, n: usize)
-    requires pipe { IsPipe ram.old f }
+pub fn copy_bytes(ram: &mut Ram, frame: Frame, skip: usize, to: Frame, at: usize, size: usize)
+    requires pipe { IsPipe ram.old frame }
     requires to_in { to < length ram.old }
-    requires apart { to ≢ f }
-    requires at_in { at + n ≤ 4096 }
-    requires there { skip + n ≤ length (pipe_in ram.old f).bytes }
+    requires apart { to ≢ frame }
+    requires at_in { at + size ≤ 4096 }
+    requires there { skip + size ≤ length (pipe_in ram.old frame).bytes }
     ensures whole { length (frame_at ram.old to) ≡ 4096 }
-    ensures copied { ram.new ≡ set ram.old to (with_bytes at (take n (drop skip (pipe_in ram.old f).bytes)) (frame_at ram.old to)) }
+    ensures copied { ram.new ≡ set ram.old to (with_bytes at (take size (drop skip (pipe_in ram.old frame).bytes)) (frame_at ram.old to)) }
 {
-    let oldest = ram.read_u64(f, OLDEST) as usize;
+    let oldest = ram.read_u64(frame, OLDEST) as usize;
     let place = (oldest + skip) % PIPE_BYTES;
-    let before = n.min(PIPE_BYTES - place);
-    ram.copy_part(f, RING + place, to, at, before);
-    ram.copy_part(f, RING, to, at + before, n - before);
+    let before = size.min(PIPE_BYTES - place);
+    ram.copy_part(frame, RING + place, to, at, before);
+    ram.copy_part(frame, RING, to, at + before, size - before);
 }
 
-/// Takes out the `n` oldest bytes, which are there.
-pub fn drop_first(ram: &mut Ram, f: Frame, n: usize)
-    requires pipe { IsPipe ram.old f }
-    requires there { n ≤ length (pipe_in ram.old f).bytes }
-    ensures { Becomes ram.old ram.new f (without_first n (pipe_in ram.old f)) }
+/// Takes out the `size` oldest bytes, which are there.
+pub fn drop_first(ram: &mut Ram, frame: Frame, size: usize)
+    requires pipe { IsPipe ram.old frame }
+    requires there { size ≤ length (pipe_in ram.old frame).bytes }
+    ensures { Becomes ram.old ram.new frame (without_first size (pipe_in ram.old frame)) }
 {
-    let oldest = ram.read_u64(f, OLDEST) as usize;
-    let count = len(ram, f);
-    ram.write_u64(f, OLDEST, ((oldest + n) % PIPE_BYTES) as u64);
-    ram.write_u64(f, COUNT, (count - n) as u64);
+    let oldest = ram.read_u64(frame, OLDEST) as usize;
+    let count = len(ram, frame);
+    ram.write_u64(frame, OLDEST, ((oldest + size) % PIPE_BYTES) as u64);
+    ram.write_u64(frame, COUNT, (count - size) as u64);
 }

@@ -18,8 +18,8 @@ mod frames;
 
 pub use frames::{copy_bytes, drop_first, push_part, push_zeros};
 use phys_ram::Ram;
-use xk_base::Frame;
 use xk_base::limits::PIPE_BYTES;
+use xk_base::{Frame, FrameBytes};
 
 /// The most descriptors that may be on one end of a pipe: more than all processes have together.
 pub const END_COUNT_MAX: u64 = 4096;
@@ -37,137 +37,137 @@ const COUNT: usize = 3;
 const RING: usize = 32;
 
 /// Makes a frame an empty pipe with one descriptor on each end, whatever it held before.
-pub fn make(ram: &mut Ram, f: Frame)
-    requires { f < length ram.old }
-    ensures { Becomes ram.old ram.new f new_pipe }
+pub fn make(ram: &mut Ram, frame: Frame)
+    requires { frame < length ram.old }
+    ensures { Becomes ram.old ram.new frame new_pipe }
 {
-    ram.write_u64(f, READERS, 1);
-    ram.write_u64(f, WRITERS, 1);
-    ram.write_u64(f, OLDEST, 0);
-    ram.write_u64(f, COUNT, 0);
+    ram.write_u64(frame, READERS, 1);
+    ram.write_u64(frame, WRITERS, 1);
+    ram.write_u64(frame, OLDEST, 0);
+    ram.write_u64(frame, COUNT, 0);
 }
 
 /// How many bytes are in the pipe.
 #[tactic(auto, using(crate::proofs::Values::length_values), unfolding(crate::specs::Pipe::pipe_in))]
-pub fn len(ram: &Ram, f: Frame) -> usize
-    requires { IsPipe ram.now f }
-    ensures value { result ≡ length (pipe_in ram.now f).bytes }
+pub fn len(ram: &Ram, frame: Frame) -> usize
+    requires { IsPipe ram.now frame }
+    ensures value { result ≡ length (pipe_in ram.now frame).bytes }
     ensures range { result ≤ PIPE_BYTES }
 {
-    ram.read_u64(f, COUNT) as usize
+    ram.read_u64(frame, COUNT) as usize
 }
 
 /// How many descriptors are on the read end.
 #[tactic(auto, unfolding(crate::specs::Pipe::pipe_in))]
-pub fn readers(ram: &Ram, f: Frame) -> u64
-    requires { IsPipe ram.now f }
-    ensures value { result ≡ (pipe_in ram.now f).readers }
+pub fn readers(ram: &Ram, frame: Frame) -> u64
+    requires { IsPipe ram.now frame }
+    ensures value { result ≡ (pipe_in ram.now frame).readers }
     ensures range { result ≤ END_COUNT_MAX }
 {
-    ram.read_u64(f, READERS)
+    ram.read_u64(frame, READERS)
 }
 
 /// How many descriptors are on the write end.
 #[tactic(auto, unfolding(crate::specs::Pipe::pipe_in))]
-pub fn writers(ram: &Ram, f: Frame) -> u64
-    requires { IsPipe ram.now f }
-    ensures value { result ≡ (pipe_in ram.now f).writers }
+pub fn writers(ram: &Ram, frame: Frame) -> u64
+    requires { IsPipe ram.now frame }
+    ensures value { result ≡ (pipe_in ram.now frame).writers }
     ensures range { result ≤ END_COUNT_MAX }
 {
-    ram.read_u64(f, WRITERS)
+    ram.read_u64(frame, WRITERS)
 }
 
 /// The byte at a place of the pipe: 0 is the oldest. `None` where it has fewer bytes.
-pub fn byte(ram: &Ram, f: Frame, place: usize) -> Option<u8>
-    requires { IsPipe ram.now f }
-    ensures { result ≡ slice_get (pipe_in ram.now f).bytes place }
+pub fn byte(ram: &Ram, frame: Frame, place: usize) -> Option<u8>
+    requires { IsPipe ram.now frame }
+    ensures { result ≡ slice_get (pipe_in ram.now frame).bytes place }
 {
-    if place >= len(ram, f) {
+    if place >= len(ram, frame) {
         return None;
     }
-    let oldest = ram.read_u64(f, OLDEST) as usize;
-    Some(ram.frame(f)[RING + (oldest + place) % PIPE_BYTES])
+    let oldest = ram.read_u64(frame, OLDEST) as usize;
+    Some(ram.frame(frame)[RING + (oldest + place) % PIPE_BYTES])
 }
 
 /// One descriptor more on the read end.
-pub fn add_reader(ram: &mut Ram, f: Frame)
-    requires pipe { IsPipe ram.old f }
-    requires fits { (pipe_in ram.old f).readers < END_COUNT_MAX }
-    ensures { let pipe = pipe_in ram.old f in Becomes ram.old ram.new f (with_readers (pipe.readers + 1) pipe) }
+pub fn add_reader(ram: &mut Ram, frame: Frame)
+    requires pipe { IsPipe ram.old frame }
+    requires fits { (pipe_in ram.old frame).readers < END_COUNT_MAX }
+    ensures { let pipe = pipe_in ram.old frame in Becomes ram.old ram.new frame (with_readers (pipe.readers + 1) pipe) }
 {
-    let count = readers(ram, f);
-    ram.write_u64(f, READERS, count + 1);
+    let count = readers(ram, frame);
+    ram.write_u64(frame, READERS, count + 1);
 }
 
 /// One descriptor more on the write end.
-pub fn add_writer(ram: &mut Ram, f: Frame)
-    requires pipe { IsPipe ram.old f }
-    requires fits { (pipe_in ram.old f).writers < END_COUNT_MAX }
-    ensures { let pipe = pipe_in ram.old f in Becomes ram.old ram.new f (with_writers (pipe.writers + 1) pipe) }
+pub fn add_writer(ram: &mut Ram, frame: Frame)
+    requires pipe { IsPipe ram.old frame }
+    requires fits { (pipe_in ram.old frame).writers < END_COUNT_MAX }
+    ensures { let pipe = pipe_in ram.old frame in Becomes ram.old ram.new frame (with_writers (pipe.writers + 1) pipe) }
 {
-    let count = writers(ram, f);
-    ram.write_u64(f, WRITERS, count + 1);
+    let count = writers(ram, frame);
+    ram.write_u64(frame, WRITERS, count + 1);
 }
 
 /// One descriptor fewer on the read end. The bytes stay, also where it was the last.
-pub fn drop_reader(ram: &mut Ram, f: Frame)
-    requires pipe { IsPipe ram.old f }
-    requires some { 1 ≤ (pipe_in ram.old f).readers }
-    ensures { let pipe = pipe_in ram.old f in Becomes ram.old ram.new f (with_readers (pipe.readers - 1) pipe) }
+pub fn drop_reader(ram: &mut Ram, frame: Frame)
+    requires pipe { IsPipe ram.old frame }
+    requires some { 1 ≤ (pipe_in ram.old frame).readers }
+    ensures { let pipe = pipe_in ram.old frame in Becomes ram.old ram.new frame (with_readers (pipe.readers - 1) pipe) }
 {
-    let count = readers(ram, f);
-    ram.write_u64(f, READERS, count - 1);
+    let count = readers(ram, frame);
+    ram.write_u64(frame, READERS, count - 1);
 }
 
 /// One descriptor fewer on the write end. The bytes stay, also where it was the last.
-pub fn drop_writer(ram: &mut Ram, f: Frame)
-    requires pipe { IsPipe ram.old f }
-    requires some { 1 ≤ (pipe_in ram.old f).writers }
-    ensures { let pipe = pipe_in ram.old f in Becomes ram.old ram.new f (with_writers (pipe.writers - 1) pipe) }
+pub fn drop_writer(ram: &mut Ram, frame: Frame)
+    requires pipe { IsPipe ram.old frame }
+    requires some { 1 ≤ (pipe_in ram.old frame).writers }
+    ensures { let pipe = pipe_in ram.old frame in Becomes ram.old ram.new frame (with_writers (pipe.writers - 1) pipe) }
 {
-    let count = writers(ram, f);
-    ram.write_u64(f, WRITERS, count - 1);
+    let count = writers(ram, frame);
+    ram.write_u64(frame, WRITERS, count - 1);
 }
 
 /// Appends as many of the bytes, from the first on, as there is room for, and tells how many they are.
 #[tactic(auto, unfolding(crate::specs::Pipe::pipe_in))]
-pub fn push(ram: &mut Ram, f: Frame, bytes: &[u8]) -> usize
-    requires { IsPipe ram.old f }
-    ensures count { result ≡ min (length bytes.now) (PIPE_BYTES - length (pipe_in ram.old f).bytes) }
-    ensures pipe { Becomes ram.old ram.new f (with_more (take result bytes.now) (pipe_in ram.old f)) }
+pub fn push(ram: &mut Ram, frame: Frame, bytes: &[u8]) -> usize
+    requires { IsPipe ram.old frame }
+    ensures count { result ≡ min (length bytes.now) (PIPE_BYTES - length (pipe_in ram.old frame).bytes) }
+    ensures pipe { Becomes ram.old ram.new frame (with_more (take result bytes.now) (pipe_in ram.old frame)) }
 {
-    let oldest = ram.read_u64(f, OLDEST) as usize;
-    let count = len(ram, f);
+    let oldest = ram.read_u64(frame, OLDEST) as usize;
+    let count = len(ram, frame);
     let moved = bytes.len().min(PIPE_BYTES - count);
     put_bytes(
-        ram.frame_mut(f),
+        ram.frame_mut(frame),
         (oldest + count) % PIPE_BYTES,
         &bytes[..moved],
     );
-    ram.write_u64(f, COUNT, (count + moved) as u64);
+    ram.write_u64(frame, COUNT, (count + moved) as u64);
     moved
 }
 
 /// Takes out as many of the oldest bytes as there are and as the buffer holds, puts them at the
 /// buffer's front, and tells how many they are. The rest of the buffer stays.
 #[tactic(auto, unfolding(crate::specs::Pipe::pipe_in))]
-pub fn pull(ram: &mut Ram, f: Frame, bytes: &mut [u8]) -> usize
-    requires { IsPipe ram.old f }
-    ensures count { result ≡ min (length bytes.old) (length (pipe_in ram.old f).bytes) }
-    ensures bytes { bytes.new ≡ take result (pipe_in ram.old f).bytes ++ drop result bytes.old }
-    ensures pipe { Becomes ram.old ram.new f (without_first result (pipe_in ram.old f)) }
+pub fn pull(ram: &mut Ram, frame: Frame, bytes: &mut [u8]) -> usize
+    requires { IsPipe ram.old frame }
+    ensures count { result ≡ min (length bytes.old) (length (pipe_in ram.old frame).bytes) }
+    ensures bytes { bytes.new ≡ take result (pipe_in ram.old frame).bytes ++ drop result bytes.old }
+    ensures pipe { Becomes ram.old ram.new frame (without_first result (pipe_in ram.old frame)) }
 {
-    let oldest = ram.read_u64(f, OLDEST) as usize;
-    let count = len(ram, f);
+    let oldest = ram.read_u64(frame, OLDEST) as usize;
+    let count = len(ram, frame);
     let moved = bytes.len().min(count);
-    get_bytes(ram.frame(f), oldest, &mut bytes[..moved]);
-    ram.write_u64(f, OLDEST, ((oldest + moved) % PIPE_BYTES) as u64);
-    ram.write_u64(f, COUNT, (count - moved) as u64);
+    get_bytes(ram.frame(frame), oldest, &mut bytes[..moved]);
+    ram.write_u64(frame, OLDEST, ((oldest + moved) % PIPE_BYTES) as u64);
+    ram.write_u64(frame, COUNT, (count - moved) as u64);
     moved
 }
 
 // Copies bytes into the ring of a frame, from a place on: first up to the ring's end, then from its start on.
-fn put_bytes(frame: &mut [u8; 4096], from: usize, bytes: &[u8])
+fn put_bytes(frame: &mut FrameBytes, from: usize, bytes: &[u8])
     requires from { from < PIPE_BYTES }
     requires fits { length bytes.now ≤ PIPE_BYTES }
     ensures { IsPlaced frame.old frame.new from bytes.now }
@@ -179,7 +179,7 @@ fn put_bytes(frame: &mut [u8; 4096], from: usize, bytes: &[u8])
 }
 
 // Copies bytes out of the ring of a frame, from a place on: first up to the ring's end, then from its start on.
-fn get_bytes(frame: &[u8; 4096], from: usize, bytes: &mut [u8])
+fn get_bytes(frame: &FrameBytes, from: usize, bytes: &mut [u8])
     requires from { from < PIPE_BYTES }
     requires fits { length bytes.old ≤ PIPE_BYTES }
     ensures { bytes.new ≡ values_below (length bytes.old) (ring_byte frame.now from) }
