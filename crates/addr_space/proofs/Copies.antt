@@ -1,5 +1,5 @@
 -- A space is copied page by page.
-use Rattle.std.proofs.Common.{◌≡◌, ℕ, zero, suc, ◌+◌, ◌-◌, ◌*◌, ◌/◌, ◌%◌, ◌^◌, ◌<◌, ◌≤◌, Bool, true, cond, is_some, List, [], length, set, Option, Some, None, inl, inr, refl, sym, ap, ◌∙◌, subst, arith}
+use Rattle.std.proofs.Common.{◌≡◌, ℕ, zero, suc, ◌+◌, ◌-◌, ◌*◌, ◌/◌, ◌%◌, ◌^◌, ◌<◌, ◌≤◌, Bool, true, cond, List, [], length, set, Option, Some, None, inl, inr, refl, sym, ap, ◌∙◌, subst, arith}
 use Rattle.std.proofs.lemmas.Bool.{cases_eq}
 use Rattle.std.specs.Ordering.{nat_cmp}
 use Rattle.std.specs.FinMap.{FinMap, empty, insert, get, len, get-insert, same_map, nat_cmp-IsAntisymmetric}
@@ -27,7 +27,7 @@ use Rattle.addr_space.proofs.Pages.{leaf-given, page-is, page-written}
 use Rattle.sv39_core.proofs.Owned.{Kept, kept-image, kept-tables, kept-pages, kept-owned}
 use Rattle.sv39_core.proofs.Gathered.{gathered-get, tie-yes, tie-no}
 use Rattle.addr_space.proofs.Steps.{gathered-same}
-use Rattle.addr_space.proofs.Prices.{page-got, price-more, length-kinds, same-page, how_many-same, len-gathered, pages-count, page-end}
+use Rattle.addr_space.proofs.Prices.{page-got, price-more, length-kinds}
 use Rattle.addr_space.proofs.Growing.{cost}
 use Rattle.addr_space.proofs.PriceTo.{cost-size}
 use Rattle.addr_space.proofs.Trades.{belongs-after, free-after, space-price}
@@ -175,14 +175,6 @@ copied-all pool pool0 pool1 ram ram0 ram1 self child0 child from made same so no
       },
       ap (λ m. record { pages = m; size = self.size }) (so.pages ∙ sym all ∙ gathered-same (page_at ram self.root) (page_at ram0 self.root) (2 ^ 26) same),
     )
-
--- where the copy has as many pages as the original, none is left to copy
-pub copied-end : (pool0 pool : Pool) (ram0 ram : List (List ℕ)) (child0 self child : Space) (from : ℕ) → Copied pool0 ram0 child0 self from pool ram child → child.pages ≡ self.pages → (u : ℕ) → from ≤ u → u < 67108864 → frame_of (page_entry ram self.root u) ≡ None
-copied-end pool0 pool ram0 ram child0 self child from so equal =
-    let here : (v : ℕ) → is_some (page_at ram0 self.root v) ≡ is_some (frame_of (page_entry ram self.root v)) = λ v. sym (ap is_some (so.same v)) ∙ same-page ram (page_entry ram self.root v) in
-    page-end ram self.root from so.inside
-    (sym so.whole.pages ∙ sym equal ∙ so.changed.whole.pages ∙ pages-count ram child.root ∙ ap len so.pages ∙ len-gathered (page_at ram0 self.root) from
-    ∙ how_many-same from (λ v. is_some (page_at ram0 self.root v)) (λ v. is_some (frame_of (page_entry ram self.root v))) (λ v lt. here v))
 
 -- there is room for the next page
 pub room-for : (pool0 pool : Pool) (ram0 ram : List (List ℕ)) (child0 self child : Space) (from v f : ℕ) (page : Page) → Copied pool0 ram0 child0 self from pool ram child → from ≤ v → v < 67108864 → frame_of (page_entry ram self.root v) ≡ Some f

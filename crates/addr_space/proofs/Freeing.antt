@@ -1,5 +1,5 @@
 -- A page goes, and the tables that then map nothing.
-use Rattle.std.proofs.Common.{◌≡◌, ℕ, ◌+◌, ◌-◌, ◌*◌, ◌/◌, ◌^◌, ◌<◌, ◌≤◌, cond, ltb, List, [], ◌∷◌, ◌++◌, length, Option, Some, None, inl, inr, refl, sym, ap, ◌∙◌, subst, arith}
+use Rattle.std.proofs.Common.{◌≡◌, ℕ, ◌+◌, ◌-◌, ◌*◌, ◌/◌, ◌%◌, ◌^◌, ◌<◌, ◌≤◌, cond, ltb, List, [], ◌∷◌, ◌++◌, length, Option, Some, None, inl, inr, refl, sym, ap, ◌∙◌, subst, arith}
 use Rattle.std.specs.Prelude.{IsSome}
 use Rattle.std.proofs.lemmas.Bool.{cases_lt, cases_eq, false≢true}
 use Rattle.std.specs.FinMap.{get, same_map, nat_cmp-IsAntisymmetric}
@@ -21,10 +21,10 @@ use Rattle.xk_base.specs.Image.{Image}
 use Rattle.sv39_core.specs.Tree.{page_of, page_at, pages_of, frame_of, uppers, lowers, page_frames, owned, IsTree}
 use Rattle.addr_space.specs.Space.{NoneEmpty, frames_of, Belongs, Changed, Usual}
 use Rattle.addr_space.specs.Changes.{shrunk}
-use Rattle.addr_space.specs.Steps.{Beside, Freed}
+use Rattle.addr_space.specs.Steps.{Beside, Freed, Holds}
 use Rattle.sv39_core.proofs.Listings.{listed-same}
 use Rattle.sv39_core.proofs.Gathered.{gathered-get}
-use Rattle.addr_space.proofs.Paths.{beside-join, leaves-after}
+use Rattle.addr_space.proofs.Paths.{beside-join, beside-none, leaves-after}
 use Rattle.addr_space.proofs.Prices.{length-kinds}
 use Rattle.frame_list.proofs.Trades.{trade-join, given-free}
 use Rattle.addr_space.proofs.Mapping.{counted}
@@ -65,7 +65,7 @@ unfolding page_frames
 same-frames ram ram' root same = listed-same (λ v. frame_of (page_entry ram' root v)) (λ v. frame_of (page_entry ram root v)) (2 ^ 26) (λ k lt. ap frame_of (same k))
 
 -- the three steps together
-pub page-freed : (pool0 pool1 pool2 pool3 : Pool) (ram0 ram1 ram2 ram3 : List (List ℕ)) (space : Space) (v n m : ℕ) → Belongs pool0 ram0 space → Freed pool0 ram0 pool1 ram1 space.root v 1 → Freed pool1 ram1 pool2 ram2 space.root v n → Freed pool2 ram2 pool3 ram3 space.root v m
+page-freed : (pool0 pool1 pool2 pool3 : Pool) (ram0 ram1 ram2 ram3 : List (List ℕ)) (space : Space) (v n m : ℕ) → Belongs pool0 ram0 space → Freed pool0 ram0 pool1 ram1 space.root v 1 → Freed pool1 ram1 pool2 ram2 space.root v n → Freed pool2 ram2 pool3 ram3 space.root v m
     → page_entry ram1 space.root v ≡ Invalid → length (page_frames ram0 space.root) ≡ 1 + length (page_frames ram1 space.root)
     → ((u : ℕ) → page_entry ram2 space.root u ≡ page_entry ram1 space.root u) → ((u : ℕ) → page_entry ram3 space.root u ≡ page_entry ram2 space.root u)
     → ((p : ℕ) → table_at ram3 space.root 2 p ≡ table_at ram2 space.root 2 p)
@@ -183,3 +183,57 @@ root-given pool pool' ram ram' root one given =
 pub shrunk-keeps : (image : Image) (size v : ℕ) → v < (size + 4095) / 4096 → get (shrunk image size).pages v ≡ get image.pages v
 shrunk-keeps image size v lt =
     gathered-get (get image.pages) ((size + 4095) / 4096) v ∙ ap (λ b. cond b (get image.pages v) None) (ltb-yes v ((size + 4095) / 4096) lt)
+
+-- ---- the three ends of freeing a page
+
+freed-none : (pool : Pool) (ram : List (List ℕ)) (root v : ℕ) → Holds pool ram root → Freed pool ram pool ram root v 0
+freed-none pool ram root v h = record {
+  holds = h;
+  traded = record { good = h.good; count = refl; frames = λ f. refl; others = λ f x y. refl };
+  beside = beside-none ram root v;
+  less = omega arith;
+}
+
+-- the tables that went were counted
+pub tables-freed : (pool0 pool1 pool2 : Pool) (ram0 ram1 ram2 : List (List ℕ)) (space : Space) (v n : ℕ) → Belongs pool0 ram0 space → Freed pool0 ram0 pool1 ram1 space.root v 1 → Freed pool1 ram1 pool2 ram2 space.root v n
+    → length (page_frames ram0 space.root) ≡ 1 + length (page_frames ram1 space.root) → ((u : ℕ) → page_entry ram2 space.root u ≡ page_entry ram1 space.root u) → n ≤ space.tables
+tables-freed pool0 pool1 pool2 ram0 ram1 ram2 space v n b a1 a2 fewer same =
+    let root = space.root in
+    let all = freed-join pool0 pool1 pool2 ram0 ram1 ram2 root v 1 n a1 a2 in
+    let frames : length (page_frames ram2 root) ≡ length (page_frames ram1 root) = ap length (same-frames ram1 ram2 root same) in
+    let is = b.whole in
+    omega (arith, is.tables, is.pages, length-kinds ram0 root, length-kinds ram2 root, all.less, frames, fewer)
+
+-- the page alone went: its lower table leads to another page
+pub page-went : (pool0 pool1 : Pool) (ram0 ram1 : List (List ℕ)) (space : Space) (v : ℕ) → Belongs pool0 ram0 space → Freed pool0 ram0 pool1 ram1 space.root v 1
+    → page_entry ram1 space.root v ≡ Invalid → length (page_frames ram0 space.root) ≡ 1 + length (page_frames ram1 space.root) → IsSome (table_at ram1 space.root 2 (v / 512))
+    → ((i : ℕ) × (g : ℕ) × (i < 512) × (frame_of (page_entry ram1 space.root (512 * (v / 512) + i)) ≡ Some g)) → Changed pool0 ram0 space pool1 ram1 (counted space (space.pages - 1) space.tables)
+page-went pool0 pool1 ram0 ram1 space v b a1 gone fewer there used =
+    let root = space.root in
+    let none = freed-none pool1 ram1 root v a1.holds in
+    let at : 512 * (v / 262144) + v / 512 % 512 ≡ v / 512 = omega arith in
+    let lower = some-of (table_at ram1 root 2 (v / 512)) there in
+    let kept : space.tables - 0 ≡ space.tables = omega arith in
+    subst (λ t. Changed pool0 ram0 space pool1 ram1 (counted space (space.pages - 1) t)) kept
+    (page-freed pool0 pool1 pool1 pool1 ram0 ram1 ram1 ram1 space v 0 0 b a1 none none gone fewer (λ u. refl) (λ u. refl) (λ p. refl) (λ f e. used) (λ f e. (v / 512 % 512, lower.0, omega arith, ap (table_at ram1 root 2) at ∙ lower.1))).1
+
+-- the page went and its lower table: the upper table leads to another
+pub lower-went : (pool0 pool1 pool2 : Pool) (ram0 ram1 ram2 : List (List ℕ)) (space : Space) (v : ℕ) → Belongs pool0 ram0 space → Freed pool0 ram0 pool1 ram1 space.root v 1 → Freed pool1 ram1 pool2 ram2 space.root v 1
+    → page_entry ram1 space.root v ≡ Invalid → length (page_frames ram0 space.root) ≡ 1 + length (page_frames ram1 space.root)
+    → ((u : ℕ) → page_entry ram2 space.root u ≡ page_entry ram1 space.root u) → table_at ram2 space.root 2 (v / 512) ≡ None
+    → ((i : ℕ) × (g : ℕ) × (i < 512) × (table_at ram2 space.root 2 (512 * (v / 262144) + i) ≡ Some g)) → Changed pool0 ram0 space pool2 ram2 (counted space (space.pages - 1) (space.tables - 1))
+lower-went pool0 pool1 pool2 ram0 ram1 ram2 space v b a1 a2 gone fewer same away used =
+    (page-freed pool0 pool1 pool2 pool2 ram0 ram1 ram2 ram2 space v 1 0 b a1 a2 (freed-none pool2 ram2 space.root v a2.holds) gone fewer same (λ u. refl) (λ p. refl)
+    (λ f e. let w : None ≡ Some f = sym away ∙ e in absurd (cc)) (λ f e. used)).1
+
+-- the page went, and both tables
+pub upper-went : (pool0 pool1 pool2 pool3 : Pool) (ram0 ram1 ram2 ram3 : List (List ℕ)) (space : Space) (v : ℕ) → Belongs pool0 ram0 space → Freed pool0 ram0 pool1 ram1 space.root v 1 → Freed pool1 ram1 pool2 ram2 space.root v 1
+    → Freed pool2 ram2 pool3 ram3 space.root v 1 → page_entry ram1 space.root v ≡ Invalid → length (page_frames ram0 space.root) ≡ 1 + length (page_frames ram1 space.root)
+    → ((u : ℕ) → page_entry ram2 space.root u ≡ page_entry ram1 space.root u) → ((u : ℕ) → page_entry ram3 space.root u ≡ page_entry ram2 space.root u)
+    → ((p : ℕ) → table_at ram3 space.root 2 p ≡ table_at ram2 space.root 2 p) → table_at ram2 space.root 2 (v / 512) ≡ None → table_at ram3 space.root 1 (v / 262144) ≡ None
+    → Changed pool0 ram0 space pool3 ram3 (counted space (space.pages - 1) (space.tables - 1 - 1))
+upper-went pool0 pool1 pool2 pool3 ram0 ram1 ram2 ram3 space v b a1 a2 a3 gone fewer same2 same3 lowers low high =
+    let both : space.tables - 2 ≡ space.tables - 1 - 1 = omega arith in
+    subst (λ t. Changed pool0 ram0 space pool3 ram3 (counted space (space.pages - 1) t)) both
+    (page-freed pool0 pool1 pool2 pool3 ram0 ram1 ram2 ram3 space v 1 1 b a1 a2 a3 gone fewer same2 same3 lowers
+    (λ f e. let w : None ≡ Some f = sym low ∙ e in absurd (cc)) (λ f e. let w : None ≡ Some f = sym high ∙ e in absurd (cc))).1

@@ -3,7 +3,6 @@
 
 ghost use Rattle.std.specs.Prelude.{◌≡◌, ℕ, ◌+◌, ◌-◌, ◌*◌, ◌/◌, ◌^◌, ◌≤◌, ◌<◌, ◌&&◌, true, false, None, Some, List, length, nat_lt, option_map, IfOk, IfErr};
 ghost use Rattle.std.specs.FinMap.{get};
-ghost use Rattle.xk_base.specs.Access.{data_rights};
 ghost use Rattle.xk_base.specs.declared.access.Rights.{Rights};
 ghost use Rattle.xk_base.specs.declared.limits.TheConstants.{SIZE_LIMIT};
 ghost use Rattle.xk_base.specs.Image.{price};
@@ -19,8 +18,9 @@ ghost use Rattle.addr_space.specs.Translations.{TranslationsStay};
 use crate::{Space, entry_of_page, lower_table, upper_table};
 use frame_list::Pool;
 use phys_ram::Ram;
-use sv39_core::Entry;
-use xk_base::{Frame, NoFrames, Perm, Rights, Vpn};
+use sv39_core::{Entry, TABLE_ENTRIES, lower_table_end, upper_table_end};
+use xk_base::limits::PAGE_BYTES;
+use xk_base::{Frame, NoFrames, Perm, Vpn, page_count};
 
 /// Pages from one number on, and below another.
 #[derive(Clone, Copy)]
@@ -38,27 +38,15 @@ fn pages_below(size: u64, address: u64, len: usize) -> Pages
     ensures before { (v : ℕ) → v < result.first → 4096 * v < size → is_among v (pages_at address len) ≡ false }
     ensures behind { (v : ℕ) → result.end ≤ v → 4096 * v < size → is_among v (pages_at address len) ≡ false }
 {
-    let top = (size + 4095) / 4096 * 4096;
+    let top = page_count(size) as u64 * PAGE_BYTES;
     if address >= top || len == 0 {
         return Pages { first: 0, end: 0 };
     }
     let end = address + (len as u64).min(top - address);
     Pages {
-        first: (address / 4096) as usize,
-        end: ((end + 4095) / 4096) as usize,
+        first: (address / PAGE_BYTES) as usize,
+        end: page_count(end) as usize,
     }
-}
-
-/// What a page allows that comes by a touch.
-fn touched_rights() -> Perm
-    ensures { result ≡ data_rights }
-{
-    Perm::new(Rights {
-        read: true,
-        write: true,
-        execute: false,
-        user: true,
-    })
 }
 
 impl Space {
@@ -72,29 +60,29 @@ impl Space {
         requires limit { last ≤ 2 ^ 26 }
         ensures { (perm : Rights) → price (filled (image_of ram.now self.now) first (last - first) perm) ≡ price (image_of ram.now self.now) + result }
     {
-        let mut v = first;
+        let mut number = first;
         let mut count: u32 = 0;
-        'pages: while v < last {
-            let Some(_) = upper_table(ram, self.root, v) else {
-                let end = ((v / 262144 + 1) * 262144).min(last);
-                count += 1 + tables_for(v, end) + (end - v) as u32;
-                v = end;
+        'pages: while number < last {
+            let Some(_) = upper_table(ram, self.root, number) else {
+                let end = upper_table_end(number).min(last);
+                count += 1 + tables_for(number, end) + (end - number) as u32;
+                number = end;
                 continue 'pages;
             };
-            let Some(_) = lower_table(ram, self.root, v) else {
-                let end = ((v / 512 + 1) * 512).min(last);
-                count += 1 + (end - v) as u32;
-                v = end;
+            let Some(_) = lower_table(ram, self.root, number) else {
+                let end = lower_table_end(number).min(last);
+                count += 1 + (end - number) as u32;
+                number = end;
                 continue 'pages;
             };
-            if self.end as usize <= v {
-                let end = ((v / 512 + 1) * 512).min(last);
-                count += (end - v) as u32;
-                v = end;
+            if self.end as usize <= number {
+                let end = lower_table_end(number).min(last);
+                count += (end - number) as u32;
+                number = end;
                 continue 'pages;
             }
-            count += new_page(ram, self.root, v);
-            v += 1;
+            count += new_page(ram, self.root, number);
+            number += 1;
         }
         count
     }
@@ -127,8 +115,8 @@ impl Space {
         if pool.free() < extra {
             return Err(NoFrames);
         }
-        for v in first..last {
-            let vpn = Vpn::new(v as u32);
+        for number in first..last {
+            let vpn = Vpn::new(number as u32);
             if let None = self.perm(ram, vpn) {
                 let Ok(()) = self.map_zeroed(pool, ram, vpn, perm) else {
                     unreachable!();
@@ -139,24 +127,24 @@ impl Space {
     }
 }
 
-/// How many lower tables the pages from `v` to below `end` take where there is none.
-fn tables_for(v: usize, end: usize) -> u32
-    requires some { v < end }
+/// How many lower tables the pages from `number` to below `end` take where there is none.
+fn tables_for(number: usize, end: usize) -> u32
+    requires some { number < end }
     requires page { end ≤ 2 ^ 26 }
-    ensures { result ≡ (end - 1) / 512 - v / 512 + 1 }
+    ensures { result ≡ (end - 1) / 512 - number / 512 + 1 }
 {
-    ((end - 1) / 512 - v / 512 + 1) as u32
+    ((end - 1) / TABLE_ENTRIES - number / TABLE_ENTRIES + 1) as u32
 }
 
 /// Whether a growth needs a page.
-fn new_page(ram: &Ram, root: Frame, v: usize) -> u32
+fn new_page(ram: &Ram, root: Frame, number: usize) -> u32
     requires root_in { root < length ram.now }
-    requires page { v < 2 ^ 26 }
+    requires page { number < 2 ^ 26 }
     ensures few { result ≤ 1 }
-    ensures there { (f : ℕ) → frame_of (page_entry ram.now root v) ≡ Some f → result ≡ 0 }
-    ensures new { frame_of (page_entry ram.now root v) ≡ None → result ≡ 1 }
+    ensures there { (f : ℕ) → frame_of (page_entry ram.now root number) ≡ Some f → result ≡ 0 }
+    ensures new { frame_of (page_entry ram.now root number) ≡ None → result ≡ 1 }
 {
-    if let Entry::Leaf(..) = entry_of_page(ram, root, v) {
+    if let Entry::Leaf(..) = entry_of_page(ram, root, number) {
         return 0;
     }
     1
@@ -167,7 +155,7 @@ impl Space {
     fn begins_below_size(&self, vpn: Vpn) -> bool
         ensures { result ≡ nat_lt (4096 * vpn) self.now.size }
     {
-        u64::from(vpn.number()) * 4096 < self.size
+        vpn.address() < self.size
     }
 
     /// Whether a page is absent: its first byte lies below the size, and it isn't there.
@@ -188,7 +176,7 @@ impl Space {
             return Some(perm);
         }
         if self.begins_below_size(vpn) {
-            return Some(touched_rights());
+            return Some(Perm::data());
         }
         None
     }
@@ -227,7 +215,7 @@ impl Space {
         ensures refused { IfErr result (λ _. (price (image_of ram.old self.old) + length (free_in pool.old ram.old) < price (brought (pages_at address len) (image_of ram.old self.old))) × Unchanged pool.old ram.old self.old pool.new ram.new self.new) }
     {
         let pages = pages_below(self.size, address, len);
-        self.fill(pool, ram, pages.first, pages.end, touched_rights())
+        self.fill(pool, ram, pages.first, pages.end, Perm::data())
     }
 
     /// Makes the size greater, up to [`SIZE_LIMIT`](xk_base::limits::SIZE_LIMIT), and adds no page: those

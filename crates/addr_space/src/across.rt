@@ -16,11 +16,12 @@ ghost use Rattle.addr_space.specs.InPlace.{WrittenInPlace};
 use crate::{Space, entry_of_page};
 use phys_ram::Ram;
 use sv39_core::Entry;
-use xk_base::{Frame, Vpn};
+use xk_base::limits::FRAME_BYTES;
+use xk_base::{Frame, FrameBytes, Vpn, page_offset};
 
 impl Space {
     /// The bytes of a page; none where it isn't there.
-    pub fn page_bytes<'a>(&self, ram: &'a Ram, vpn: Vpn) -> Option<&'a [u8; 4096]>
+    pub fn page_bytes<'a>(&self, ram: &'a Ram, vpn: Vpn) -> Option<&'a FrameBytes>
         requires { IsSpace ram.now self.now }
         ensures there { IfSome result (λ bytes. (page : Page) × (get (image_of ram.now self.now).pages vpn ≡ Some page) × (bytes.now ≡ page.bytes)) }
         ensures none { IfNone result (get (image_of ram.now self.now).pages vpn ≡ None) }
@@ -53,9 +54,9 @@ impl Space {
         requires fits { at + length out.old ≤ 4096 }
         ensures { out.new ≡ image_bytes (image_of ram.now self.now) (4096 * vpn + at) (length out.old) }
     {
-        let n = out.len();
+        let count = out.len();
         match self.page_bytes(ram, vpn) {
-            Some(page) => out.copy_from_slice(&page[at..at + n]),
+            Some(page) => out.copy_from_slice(&page[at..at + count]),
             None => out.fill(0),
         }
     }
@@ -69,12 +70,12 @@ impl Space {
     {
         let mut done = 0;
         'parts: while done < out.len() {
-            let place = address as usize + done;
-            let at = place % 4096;
-            let n = (4096 - at).min(out.len() - done);
-            let vpn = Vpn::new((place / 4096) as u32);
-            self.read_part(ram, vpn, at, &mut out[done..done + n]);
-            done += n;
+            let place = address + done as u64;
+            let at = page_offset(place);
+            let part = (FRAME_BYTES - at).min(out.len() - done);
+            let vpn = Vpn::of_address(place);
+            self.read_part(ram, vpn, at, &mut out[done..done + part]);
+            done += part;
         }
     }
 
@@ -92,12 +93,12 @@ impl Space {
     {
         let mut done = 0;
         'parts: while done < bytes.len() {
-            let place = address as usize + done;
-            let at = place % 4096;
-            let n = (4096 - at).min(bytes.len() - done);
-            let vpn = Vpn::new((place / 4096) as u32);
-            self.write_page(ram, vpn, at, &bytes[done..done + n]);
-            done += n;
+            let place = address + done as u64;
+            let at = page_offset(place);
+            let part = (FRAME_BYTES - at).min(bytes.len() - done);
+            let vpn = Vpn::of_address(place);
+            self.write_page(ram, vpn, at, &bytes[done..done + part]);
+            done += part;
         }
     }
 }

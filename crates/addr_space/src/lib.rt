@@ -24,7 +24,7 @@ ghost use Rattle.addr_space.specs.Changes.{zeroed, grown, perm_of_page, shrunk, 
 ghost use Rattle.addr_space.specs.InPlace.{WrittenInPlace};
 ghost use Rattle.xk_base.specs.Bytes.{write_image};
 ghost use Rattle.addr_space.specs.Steps.{Hanging, Placing, Holds, SameImage, PageAdded, missing, rise, Beside, Cleared, Freed};
-ghost use Rattle.sv39_core.specs.Tree.{page_at, pages_of, page_frames, frame_of};
+ghost use Rattle.sv39_core.specs.Tree.{IsTree, page_at, pages_of, page_frames, frame_of};
 ghost use Rattle.addr_space.specs.Space.{image_of, Belongs, Changed, Unchanged, Made, IsSpace, Usual, frames_of, SparesOthers, Isolation};
 ghost use Rattle.addr_space.specs.Translations.{TranslationsStay, WalksStay, WalksStayBelow, WalksStayBeside};
 ghost use Rattle.frame_list.specs.Traded.{Traded};
@@ -33,14 +33,18 @@ ghost use Rattle.sv39_core.specs.declared.entry.Entry.TheVariants.{Invalid, Leaf
 
 use frame_list::Pool;
 use phys_ram::Ram;
-use sv39_core::{Entry, Pte, read_entry, read_table};
+use sv39_core::{
+    Entry, Pte, TABLE_ENTRIES, lower_index, lower_table_end, lower_table_start, read_entry,
+    read_lower_table, read_page_entry, read_table, read_upper_table, root_index, upper_index,
+    upper_table_end,
+};
 
 mod absent;
 mod across;
 mod permitting;
 
 use xk_base::limits::VPN_END;
-use xk_base::{Frame, NoFrames, Perm, Rights, Vpn};
+use xk_base::{Frame, NoFrames, Perm, Rights, Vpn, page_count};
 
 /// The memory of a process: its pages as tables in frames of RAM, and its size in bytes.
 ///
@@ -127,20 +131,20 @@ impl Space {
         requires { IsSpace ram.now self.now }
         ensures { result ≡ option_map perm_of_page (get (image_of ram.now self.now).pages vpn) }
     {
-        let v = vpn.number();
-        if v >= self.end {
+        let number = vpn.number();
+        if number >= self.end {
             return None; // all pages lie below
         }
-        self.perm_at(ram, v as usize)
+        self.perm_at(ram, number as usize)
     }
 
     /// What a page allows, by its number.
-    fn perm_at(&self, ram: &Ram, v: usize) -> Option<Perm>
+    fn perm_at(&self, ram: &Ram, number: usize) -> Option<Perm>
         requires whole { IsSpace ram.now self.now }
-        requires page { v < 2 ^ 26 }
-        ensures { result ≡ option_map perm_of_page (page_at ram.now self.now.root v) }
+        requires page { number < 2 ^ 26 }
+        ensures { result ≡ option_map perm_of_page (page_at ram.now self.now.root number) }
     {
-        let Entry::Leaf(_, perm, _, _) = entry_of_page(ram, self.root, v) else {
+        let Entry::Leaf(_, perm, _, _) = entry_of_page(ram, self.root, number) else {
             return None;
         };
         Some(perm)
@@ -149,116 +153,115 @@ impl Space {
 
 /// The entry of a page. It stands in each of its callers, which builds of it only what it needs.
 #[inline(always)]
-fn entry_of_page(ram: &Ram, root: Frame, v: usize) -> Entry
+fn entry_of_page(ram: &Ram, root: Frame, number: usize) -> Entry
     requires root_in { root < length ram.now }
-    requires page { v < 2 ^ 26 }
-    ensures { result ≡ page_entry ram.now root v }
+    requires page { number < 2 ^ 26 }
+    ensures { result ≡ page_entry ram.now root number }
 {
-    let Some(upper) = read_table(ram, root, v / 262144) else {
+    let Some(upper) = read_upper_table(ram, root, number) else {
         return Entry::Invalid;
     };
-    let Some(lower) = read_table(ram, upper, v / 512 % 512) else {
+    let Some(lower) = read_lower_table(ram, upper, number) else {
         return Entry::Invalid;
     };
-    read_entry(ram, lower, v % 512)
+    read_page_entry(ram, lower, number)
 }
 
 /// Takes a free frame and hangs it, a table of zeros, into an entry of a table.
-fn hang(pool: &mut Pool, ram: &mut Ram, table: Frame, i: usize) -> Frame
+fn hang(pool: &mut Pool, ram: &mut Ram, table: Frame, index: usize) -> Frame
     requires good { Good pool.old ram.old }
     requires some_free { 0 < length (free_in pool.old ram.old) }
     requires table_in { table < length ram.old }
-    requires entry_in { i < 512 }
-    ensures { Hanging pool.old ram.old pool.new ram.new table i result }
+    requires entry_in { index < 512 }
+    ensures { Hanging pool.old ram.old pool.new ram.new table index result }
 {
     let Some(frame) = pool.take(ram) else {
         unreachable!();
     };
-    ram.write_u64(table, i, Pte::table(frame).bits());
+    ram.write_u64(table, index, Pte::table(frame).bits());
     let _ = frame.number();
     frame
 }
 
 /// The upper table of an index, made where there is none.
-fn upper_for(pool: &mut Pool, ram: &mut Ram, root: Frame, v: usize) -> Frame
+fn upper_for(pool: &mut Pool, ram: &mut Ram, root: Frame, number: usize) -> Frame
     requires holds { Holds pool.old ram.old root }
-    requires page { v < 2 ^ 26 }
-    requires room { table_at ram.old root 1 (v / 262144) ≡ None → 0 < length (free_in pool.old ram.old) }
+    requires page { number < 2 ^ 26 }
+    requires room { table_at ram.old root 1 (number / 262144) ≡ None → 0 < length (free_in pool.old ram.old) }
     ensures same { SameImage pool.old ram.old pool.new ram.new root }
-    ensures beside { Beside ram.old ram.new root v }
-    ensures found { table_at ram.new root 1 (v / 262144) ≡ Some result }
+    ensures beside { Beside ram.old ram.new root number }
+    ensures found { table_at ram.new root 1 (number / 262144) ≡ Some result }
     ensures lowers { (p : ℕ) → table_at ram.new root 2 p ≡ table_at ram.old root 2 p }
-    ensures left { length (free_in pool.old ram.old) ≤ length (free_in pool.new ram.new) + missing (table_at ram.old root 1 (v / 262144)) }
+    ensures left { length (free_in pool.old ram.old) ≤ length (free_in pool.new ram.new) + missing (table_at ram.old root 1 (number / 262144)) }
 {
-    let i = v / 262144;
-    if let Some(table) = read_table(ram, root, i) {
+    if let Some(table) = read_upper_table(ram, root, number) {
         return table;
     }
-    hang(pool, ram, root, i)
+    hang(pool, ram, root, root_index(number))
 }
 
 /// The lower table of a page, made where there is none.
-fn lower_for(pool: &mut Pool, ram: &mut Ram, root: Frame, upper: Frame, v: usize) -> Frame
+fn lower_for(pool: &mut Pool, ram: &mut Ram, root: Frame, upper: Frame, number: usize) -> Frame
     requires holds { Holds pool.old ram.old root }
-    requires page { v < 2 ^ 26 }
-    requires upper_is { table_at ram.old root 1 (v / 262144) ≡ Some upper }
-    requires room { table_at ram.old root 2 (v / 512) ≡ None → 0 < length (free_in pool.old ram.old) }
+    requires page { number < 2 ^ 26 }
+    requires upper_is { table_at ram.old root 1 (number / 262144) ≡ Some upper }
+    requires room { table_at ram.old root 2 (number / 512) ≡ None → 0 < length (free_in pool.old ram.old) }
     ensures same { SameImage pool.old ram.old pool.new ram.new root }
-    ensures beside { Beside ram.old ram.new root v }
-    ensures found { table_at ram.new root 2 (v / 512) ≡ Some result }
-    ensures left { length (free_in pool.old ram.old) ≤ length (free_in pool.new ram.new) + missing (table_at ram.old root 2 (v / 512)) }
+    ensures beside { Beside ram.old ram.new root number }
+    ensures found { table_at ram.new root 2 (number / 512) ≡ Some result }
+    ensures left { length (free_in pool.old ram.old) ≤ length (free_in pool.new ram.new) + missing (table_at ram.old root 2 (number / 512)) }
 {
     let _ = root.number();
-    if let Some(table) = read_table(ram, upper, v / 512 % 512) {
+    if let Some(table) = read_lower_table(ram, upper, number) {
         return table;
     }
-    hang(pool, ram, upper, v / 512 % 512)
+    hang(pool, ram, upper, upper_index(number))
 }
 
 /// Takes a free frame as the page of an entry of a table.
-fn place(pool: &mut Pool, ram: &mut Ram, table: Frame, i: usize, perm: Perm)
+fn place(pool: &mut Pool, ram: &mut Ram, table: Frame, index: usize, perm: Perm)
     requires good { Good pool.old ram.old }
     requires some_free { 0 < length (free_in pool.old ram.old) }
     requires table_in { table < length ram.old }
-    requires entry_in { i < 512 }
+    requires entry_in { index < 512 }
     ensures allowed { IsPerm perm }
-    ensures placed { (g : ℕ) × Placing pool.old ram.old pool.new ram.new table i g perm }
+    ensures placed { (g : ℕ) × Placing pool.old ram.old pool.new ram.new table index g perm }
 {
     let Some(frame) = pool.take(ram) else {
         unreachable!();
     };
-    ram.write_u64(table, i, Pte::leaf(frame, perm).bits());
+    ram.write_u64(table, index, Pte::leaf(frame, perm).bits());
     let _ = (frame.number(), perm.rights());
 }
 
 /// How many frames a page would take.
-fn frames_for(ram: &Ram, root: Frame, v: usize) -> u32
+fn frames_for(ram: &Ram, root: Frame, number: usize) -> u32
     requires root_in { root < length ram.now }
-    requires page { v < 2 ^ 26 }
-    ensures { result ≡ rise ram.now root v }
+    requires page { number < 2 ^ 26 }
+    ensures { result ≡ rise ram.now root number }
 {
-    let Some(upper) = read_table(ram, root, v / 262144) else {
+    let Some(upper) = read_upper_table(ram, root, number) else {
         return 3;
     };
-    let Some(_) = read_table(ram, upper, v / 512 % 512) else {
+    let Some(_) = read_lower_table(ram, upper, number) else {
         return 2;
     };
     1
 }
 
 /// Adds a page of zeros where there is none, and the tables that are missing on the way to it.
-fn add_page(pool: &mut Pool, ram: &mut Ram, root: Frame, v: usize, perm: Perm)
+fn add_page(pool: &mut Pool, ram: &mut Ram, root: Frame, number: usize, perm: Perm)
     requires holds { Holds pool.old ram.old root }
-    requires page { v < 2 ^ 26 }
-    requires absent { page_at ram.old root v ≡ None }
-    requires room { rise ram.old root v ≤ length (free_in pool.old ram.old) }
-    ensures added { PageAdded pool.old ram.old pool.new ram.new root v perm }
-    ensures beside { Beside ram.old ram.new root v }
-    ensures there { (g : ℕ) × (page_entry ram.new root v ≡ Leaf g perm true true) }
+    requires page { number < 2 ^ 26 }
+    requires absent { page_at ram.old root number ≡ None }
+    requires room { rise ram.old root number ≤ length (free_in pool.old ram.old) }
+    ensures added { PageAdded pool.old ram.old pool.new ram.new root number perm }
+    ensures beside { Beside ram.old ram.new root number }
+    ensures there { (g : ℕ) × (page_entry ram.new root number ≡ Leaf g perm true true) }
 {
-    let upper = upper_for(pool, ram, root, v);
-    let lower = lower_for(pool, ram, root, upper, v);
-    place(pool, ram, lower, v % 512, perm);
+    let upper = upper_for(pool, ram, root, number);
+    let lower = lower_for(pool, ram, root, upper, number);
+    place(pool, ram, lower, lower_index(number), perm);
 }
 
 impl Space {
@@ -283,70 +286,66 @@ impl Space {
         ensures fits { IfOk result (λ _. price (with_page (image_of ram.old self.old) vpn (zeroed perm)) ≤ price (image_of ram.old self.old) + length (free_in pool.old ram.old)) }
         ensures refused { IfErr result (λ _. (price (image_of ram.old self.old) + length (free_in pool.old ram.old) < price (with_page (image_of ram.old self.old) vpn (zeroed perm))) × Unchanged pool.old ram.old self.old pool.new ram.new self.new) }
     {
-        let v = vpn.number() as usize;
-        let needed = frames_for(ram, self.root, v);
+        let number = vpn.number() as usize;
+        let needed = frames_for(ram, self.root, number);
         if pool.free() < needed {
             return Err(NoFrames);
         }
-        add_page(pool, ram, self.root, v, perm);
+        add_page(pool, ram, self.root, number, perm);
         self.pages += 1;
         self.tables += needed - 1;
-        self.end = self.end.max(v as u32 + 1);
+        self.end = self.end.max(number as u32 + 1);
         Ok(())
     }
 }
 
 /// Makes an entry of a table blank and gives back the frame that it led to.
-fn clear(pool: &mut Pool, ram: &mut Ram, table: Frame, i: usize, frame: Frame)
+fn clear(pool: &mut Pool, ram: &mut Ram, table: Frame, index: usize, frame: Frame)
     requires good { Good pool.old ram.old }
     requires table_in { table < length ram.old }
     requires table_taken { copies table (free_in pool.old ram.old) ≡ 0 }
-    requires entry_in { i < 512 }
+    requires entry_in { index < 512 }
     requires frame_in { frame < length ram.old }
     requires frame_taken { copies frame (free_in pool.old ram.old) ≡ 0 }
-    ensures { Cleared pool.old ram.old pool.new ram.new table i frame }
+    ensures { Cleared pool.old ram.old pool.new ram.new table index frame }
 {
-    ram.write_u64(table, i, 0);
+    ram.write_u64(table, index, 0);
     pool.give(ram, frame);
 }
 
 /// The upper table on the way to a page.
-fn upper_table(ram: &Ram, root: Frame, v: usize) -> Option<Frame>
+fn upper_table(ram: &Ram, root: Frame, number: usize) -> Option<Frame>
     requires root_in { root < length ram.now }
-    requires page { v < 2 ^ 26 }
-    ensures { result ≡ table_at ram.now root 1 (v / 262144) }
+    requires page { number < 2 ^ 26 }
+    ensures { result ≡ table_at ram.now root 1 (number / 262144) }
 {
-    read_table(ram, root, v / 262144)
+    read_upper_table(ram, root, number)
 }
 
 /// The lower table on the way to a page.
-fn lower_table(ram: &Ram, root: Frame, v: usize) -> Option<Frame>
+fn lower_table(ram: &Ram, root: Frame, number: usize) -> Option<Frame>
     requires root_in { root < length ram.now }
-    requires page { v < 2 ^ 26 }
-    ensures { result ≡ table_at ram.now root 2 (v / 512) }
+    requires page { number < 2 ^ 26 }
+    ensures { result ≡ table_at ram.now root 2 (number / 512) }
 {
-    let Some(upper) = read_table(ram, root, v / 262144) else {
+    let Some(upper) = read_upper_table(ram, root, number) else {
         return None;
     };
-    read_table(ram, upper, v / 512 % 512)
+    read_lower_table(ram, upper, number)
 }
 
 /// Whether an entry of a table leads to a page. It looks at the entry behind `from`, and then from `from`
 /// down. Where pages are freed in order, the first look finds the next page to be freed, or, if that was
-/// the last one, a later look finds a page that stays. `none_left` says that there is none; then it looks
-/// at no entry.
-fn has_page(ram: &Ram, table: Frame, from: usize, none_left: bool) -> bool
+/// the last one, a later look finds a page that stays.
+fn has_page(ram: &Ram, table: Frame, from: usize) -> bool
     requires table_in { table < length ram.now }
     requires from_in { from < 512 }
-    requires none_left { none_left ≡ true → (k : ℕ) → k < 512 → frame_of (entry_at ram.now table k) ≡ None }
     ensures none { result ≡ false → (k : ℕ) → k < 512 → frame_of (entry_at ram.now table k) ≡ None }
     ensures some { result ≡ true → (k : ℕ) × (f : ℕ) × (k < 512) × (frame_of (entry_at ram.now table k) ≡ Some f) }
 {
-    if none_left {
-        return false;
-    }
-    for i in 0..512 {
-        if let Entry::Leaf(..) = read_entry(ram, table, (from + 513 - i) % 512) {
+    for i in 0..TABLE_ENTRIES {
+        let entry = (from + (TABLE_ENTRIES + 1) - i) % TABLE_ENTRIES;
+        if let Entry::Leaf(..) = read_entry(ram, table, entry) {
             return true;
         }
     }
@@ -354,18 +353,15 @@ fn has_page(ram: &Ram, table: Frame, from: usize, none_left: bool) -> bool
 }
 
 /// Whether an entry of a table leads to a table, looked for as [`has_page`] does.
-fn has_table(ram: &Ram, table: Frame, from: usize, none_left: bool) -> bool
+fn has_table(ram: &Ram, table: Frame, from: usize) -> bool
     requires table_in { table < length ram.now }
     requires from_in { from < 512 }
-    requires none_left { none_left ≡ true → (k : ℕ) → k < 512 → table_of (entry_at ram.now table k) ≡ None }
     ensures none { result ≡ false → (k : ℕ) → k < 512 → table_of (entry_at ram.now table k) ≡ None }
     ensures some { result ≡ true → (k : ℕ) × (f : ℕ) × (k < 512) × (table_of (entry_at ram.now table k) ≡ Some f) }
 {
-    if none_left {
-        return false;
-    }
-    for i in 0..512 {
-        if let Some(_) = read_table(ram, table, (from + 513 - i) % 512) {
+    for i in 0..TABLE_ENTRIES {
+        let entry = (from + (TABLE_ENTRIES + 1) - i) % TABLE_ENTRIES;
+        if let Some(_) = read_table(ram, table, entry) {
             return true;
         }
     }
@@ -373,89 +369,66 @@ fn has_table(ram: &Ram, table: Frame, from: usize, none_left: bool) -> bool
 }
 
 /// Frees a page, but not the tables on the way to it.
-fn free_leaf(pool: &mut Pool, ram: &mut Ram, root: Frame, v: usize)
+fn free_leaf(pool: &mut Pool, ram: &mut Ram, root: Frame, number: usize)
     requires holds { Holds pool.old ram.old root }
-    requires page { v < 2 ^ 26 }
-    requires there { (f : ℕ) × (frame_of (page_entry ram.old root v) ≡ Some f) }
-    ensures freed { Freed pool.old ram.old pool.new ram.new root v 1 }
-    ensures gone { page_entry ram.new root v ≡ Invalid }
+    requires page { number < 2 ^ 26 }
+    requires there { (f : ℕ) × (frame_of (page_entry ram.old root number) ≡ Some f) }
+    ensures freed { Freed pool.old ram.old pool.new ram.new root number 1 }
+    ensures gone { page_entry ram.new root number ≡ Invalid }
     ensures pages { length (page_frames ram.old root) ≡ 1 + length (page_frames ram.new root) }
-    ensures image { (u : ℕ) → (u ≡ v → ⊥) → page_at ram.new root u ≡ page_at ram.old root u }
-    ensures table { IsSome (table_at ram.new root 2 (v / 512)) }
+    ensures image { (u : ℕ) → (u ≡ number → ⊥) → page_at ram.new root u ≡ page_at ram.old root u }
+    ensures table { IsSome (table_at ram.new root 2 (number / 512)) }
 {
-    let Some(lower) = lower_table(ram, root, v) else {
+    let Some(lower) = lower_table(ram, root, number) else {
         unreachable!();
     };
-    let Entry::Leaf(frame, ..) = read_entry(ram, lower, v % 512) else {
+    let Entry::Leaf(frame, ..) = read_page_entry(ram, lower, number) else {
         unreachable!();
     };
-    clear(pool, ram, lower, v % 512, frame);
+    clear(pool, ram, lower, lower_index(number), frame);
 }
 
-/// Frees the lower table on the way to a page where it maps nothing; how many frames that gave. It
-/// isn't searched where `none_left` tells that the space has no page left.
-fn free_lower(pool: &mut Pool, ram: &mut Ram, root: Frame, v: usize, none_left: bool) -> u32
+/// Frees the lower table on the way to a page, which leads to no page.
+fn free_lower(pool: &mut Pool, ram: &mut Ram, root: Frame, number: usize)
     requires holds { Holds pool.old ram.old root }
-    requires page { v < 2 ^ 26 }
+    requires page { number < 2 ^ 26 }
     requires usual { (u : ℕ) → Usual (page_entry ram.old root u) }
-    requires there { IsSome (table_at ram.old root 2 (v / 512)) }
-    requires none_left { none_left ≡ true → (u : ℕ) → u < 2 ^ 26 → frame_of (page_entry ram.old root u) ≡ None }
-    ensures freed { Freed pool.old ram.old pool.new ram.new root v result }
-    ensures few { result ≤ 1 }
-    ensures stays { result ≡ 0 → IsSome (table_at ram.new root 2 (v / 512)) }
-    ensures full { (f : ℕ) → table_at ram.new root 2 (v / 512) ≡ Some f → (i : ℕ) × (g : ℕ) × (i < 512) × (frame_of (page_entry ram.new root (512 * (v / 512) + i)) ≡ Some g) }
+    requires there { IsSome (table_at ram.old root 2 (number / 512)) }
+    requires empty { (i : ℕ) → i < 512 → frame_of (page_entry ram.old root (512 * (number / 512) + i)) ≡ None }
+    ensures freed { Freed pool.old ram.old pool.new ram.new root number 1 }
+    ensures gone { table_at ram.new root 2 (number / 512) ≡ None }
+    ensures upper { IsSome (table_at ram.new root 1 (number / 262144)) }
     ensures entries { (u : ℕ) → page_entry ram.new root u ≡ page_entry ram.old root u }
     ensures image { (u : ℕ) → page_at ram.new root u ≡ page_at ram.old root u }
 {
-    let Some(upper) = upper_table(ram, root, v) else {
-        return 0;
+    let Some(upper) = upper_table(ram, root, number) else {
+        unreachable!();
     };
-    let Some(lower) = lower_table(ram, root, v) else {
-        return 0;
+    let Some(lower) = lower_table(ram, root, number) else {
+        unreachable!();
     };
-    if has_page(ram, lower, v % 512, none_left) {
-        return 0;
-    }
-    clear(pool, ram, upper, v / 512 % 512, lower);
-    1
+    clear(pool, ram, upper, upper_index(number), lower);
 }
 
-/// Frees the upper table on the way to a page where it maps nothing; how many frames that gave. It
-/// isn't searched where `none_left` tells that the space has no lower table left, and not looked at where
-/// `stays` tells that the lower table on the way is still there.
-fn free_upper(
-    pool: &mut Pool,
-    ram: &mut Ram,
-    root: Frame,
-    v: usize,
-    stays: bool,
-    none_left: bool,
-) -> u32
+/// Frees the upper table on the way to a page, which leads to no table.
+fn free_upper(pool: &mut Pool, ram: &mut Ram, root: Frame, number: usize)
     requires holds { Holds pool.old ram.old root }
-    requires page { v < 2 ^ 26 }
-    requires stays { stays ≡ true → IsSome (table_at ram.old root 2 (v / 512)) }
-    requires none_left { none_left ≡ true → (p : ℕ) → table_at ram.old root 2 p ≡ None }
-    ensures freed { Freed pool.old ram.old pool.new ram.new root v result }
-    ensures few { result ≤ 1 }
-    ensures full { (f : ℕ) → table_at ram.new root 1 (v / 262144) ≡ Some f → (i : ℕ) × (g : ℕ) × (i < 512) × (table_at ram.new root 2 (512 * (v / 262144) + i) ≡ Some g) }
+    requires page { number < 2 ^ 26 }
+    requires there { IsSome (table_at ram.old root 1 (number / 262144)) }
+    requires empty { (i : ℕ) → i < 512 → table_at ram.old root 2 (512 * (number / 262144) + i) ≡ None }
+    ensures freed { Freed pool.old ram.old pool.new ram.new root number 1 }
+    ensures gone { table_at ram.new root 1 (number / 262144) ≡ None }
     ensures lowers { (p : ℕ) → table_at ram.new root 2 p ≡ table_at ram.old root 2 p }
     ensures entries { (u : ℕ) → page_entry ram.new root u ≡ page_entry ram.old root u }
     ensures image { (u : ℕ) → page_at ram.new root u ≡ page_at ram.old root u }
 {
-    if stays {
-        return 0;
-    }
-    let Some(upper) = upper_table(ram, root, v) else {
-        return 0;
+    let Some(upper) = upper_table(ram, root, number) else {
+        unreachable!();
     };
-    if has_table(ram, upper, v / 512 % 512, none_left) {
-        return 0;
-    }
-    clear(pool, ram, root, v / 262144, upper);
-    1
+    clear(pool, ram, root, root_index(number), upper);
 }
 
-/// The least entry of a table, from one on, that leads to a page; 512 where there is none.
+/// The least entry of a table, from one on, that leads to a page; [`TABLE_ENTRIES`] where there is none.
 fn next_leaf(ram: &Ram, table: Frame, from: usize) -> usize
     requires table_in { table < length ram.now }
     requires from_in { from < 512 }
@@ -464,12 +437,12 @@ fn next_leaf(ram: &Ram, table: Frame, from: usize) -> usize
     ensures none { (k : ℕ) → from ≤ k → k < result → frame_of (entry_at ram.now table k) ≡ None }
     ensures found { result < 512 → (f : ℕ) × (frame_of (entry_at ram.now table result) ≡ Some f) }
 {
-    for i in from..512 {
+    for i in from..TABLE_ENTRIES {
         if let Entry::Leaf(..) = read_entry(ram, table, i) {
             return i;
         }
     }
-    512
+    TABLE_ENTRIES
 }
 
 /// The least page from a place on. It stands in its caller, so that the entries that it reads need not be
@@ -481,59 +454,102 @@ fn next_page(ram: &Ram, root: Frame, from: usize) -> Option<usize>
     ensures some { IfSome result (λ v. (v < 2 ^ 26) × (from ≤ v) × ((f : ℕ) × (frame_of (page_entry ram.now root v) ≡ Some f)) × ((u : ℕ) → from ≤ u → u < v → frame_of (page_entry ram.now root u) ≡ None)) }
     ensures none { IfNone result ((u : ℕ) → from ≤ u → u < 2 ^ 26 → frame_of (page_entry ram.now root u) ≡ None) }
 {
-    let mut v = from;
-    'pages: while v < VPN_END as usize {
-        let Some(_) = upper_table(ram, root, v) else {
-            v = (v / 262144 + 1) * 262144;
+    let mut number = from;
+    'pages: while number < VPN_END as usize {
+        let Some(_) = upper_table(ram, root, number) else {
+            number = upper_table_end(number);
             continue 'pages;
         };
-        let Some(lower) = lower_table(ram, root, v) else {
-            v = (v / 512 + 1) * 512;
+        let Some(lower) = lower_table(ram, root, number) else {
+            number = lower_table_end(number);
             continue 'pages;
         };
-        let i = next_leaf(ram, lower, v % 512);
-        v = v / 512 * 512 + i;
-        if i < 512 {
-            return Some(v);
+        let index = next_leaf(ram, lower, lower_index(number));
+        number = lower_table_start(number) + index;
+        if index < TABLE_ENTRIES {
+            return Some(number);
         }
     }
     None
 }
 
-/// The least page from a number on. `none_left` says that there is none; then no table is read.
-#[inline(always)]
-fn page_left(ram: &Ram, root: Frame, from: usize, none_left: bool) -> Option<usize>
-    requires root_in { root < length ram.now }
-    requires from_in { from ≤ 2 ^ 26 }
-    requires none_left { none_left ≡ true → (u : ℕ) → from ≤ u → u < 2 ^ 26 → frame_of (page_entry ram.now root u) ≡ None }
-    ensures some { IfSome result (λ v. (v < 2 ^ 26) × (from ≤ v) × ((f : ℕ) × (frame_of (page_entry ram.now root v) ≡ Some f)) × ((u : ℕ) → from ≤ u → u < v → frame_of (page_entry ram.now root u) ≡ None)) }
-    ensures none { IfNone result ((u : ℕ) → from ≤ u → u < 2 ^ 26 → frame_of (page_entry ram.now root u) ≡ None) }
-{
-    if none_left {
-        return None;
+impl Space {
+    /// The least page from a number on. All pages lie below the end, so that no table is read from there on.
+    #[inline(always)]
+    fn page_from(&self, ram: &Ram, from: usize) -> Option<usize>
+        requires whole { IsSpace ram.now self.now }
+        requires from_in { from ≤ 2 ^ 26 }
+        ensures some { IfSome result (λ v. (v < 2 ^ 26) × (from ≤ v) × ((f : ℕ) × (frame_of (page_entry ram.now self.now.root v) ≡ Some f)) × ((u : ℕ) → from ≤ u → u < v → frame_of (page_entry ram.now self.now.root u) ≡ None)) }
+        ensures none { IfNone result ((u : ℕ) → from ≤ u → u < 2 ^ 26 → frame_of (page_entry ram.now self.now.root u) ≡ None) }
+    {
+        if self.end as usize <= from {
+            return None;
+        }
+        next_page(ram, self.root, from)
     }
-    next_page(ram, root, from)
 }
 
 impl Space {
-    /// Frees a page, and each table that then maps nothing.
-    fn free_page(&mut self, pool: &mut Pool, ram: &mut Ram, v: usize)
+    /// Whether the lower table on the way to a page leads to a page. Where the space has none, it isn't searched.
+    fn lower_in_use(&self, ram: &Ram, number: usize) -> bool
+        requires tree { IsTree ram.now self.now.root }
+        requires page { number < 2 ^ 26 }
+        requires there { IsSome (table_at ram.now self.now.root 2 (number / 512)) }
+        requires count { self.now.pages ≡ length (page_frames ram.now self.now.root) }
+        ensures used { result ≡ true → (i : ℕ) × (g : ℕ) × (i < 512) × (frame_of (page_entry ram.now self.now.root (512 * (number / 512) + i)) ≡ Some g) }
+        ensures unused { result ≡ false → (i : ℕ) → i < 512 → frame_of (page_entry ram.now self.now.root (512 * (number / 512) + i)) ≡ None }
+    {
+        if self.pages == 0 {
+            return false;
+        }
+        let Some(lower) = lower_table(ram, self.root, number) else {
+            unreachable!();
+        };
+        has_page(ram, lower, lower_index(number))
+    }
+
+    /// Whether the upper table on the way to a page leads to a table. Where the space has no page, it isn't searched.
+    fn upper_in_use(&self, ram: &Ram, number: usize) -> bool
+        requires tree { IsTree ram.now self.now.root }
+        requires page { number < 2 ^ 26 }
+        requires there { IsSome (table_at ram.now self.now.root 1 (number / 262144)) }
+        requires none { self.now.pages ≡ 0 → (p : ℕ) → table_at ram.now self.now.root 2 p ≡ None }
+        ensures used { result ≡ true → (i : ℕ) × (g : ℕ) × (i < 512) × (table_at ram.now self.now.root 2 (512 * (number / 262144) + i) ≡ Some g) }
+        ensures unused { result ≡ false → (i : ℕ) → i < 512 → table_at ram.now self.now.root 2 (512 * (number / 262144) + i) ≡ None }
+    {
+        if self.pages == 0 {
+            return false;
+        }
+        let Some(upper) = upper_table(ram, self.root, number) else {
+            unreachable!();
+        };
+        has_table(ram, upper, upper_index(number))
+    }
+
+    /// Frees a page, and each table that then leads to none.
+    fn free_page(&mut self, pool: &mut Pool, ram: &mut Ram, number: usize)
         requires belongs { Belongs pool.old ram.old self.old }
-        requires page { v < 2 ^ 26 }
-        requires there { (f : ℕ) × (frame_of (page_entry ram.old self.old.root v) ≡ Some f) }
+        requires page { number < 2 ^ 26 }
+        requires there { (f : ℕ) × (frame_of (page_entry ram.old self.old.root number) ≡ Some f) }
         ensures changed { Changed pool.old ram.old self.old pool.new ram.new self.new }
         ensures size { self.new.size ≡ self.old.size }
         ensures fewer { self.old.pages ≡ 1 + self.new.pages }
-        ensures gone { page_entry ram.new self.old.root v ≡ Invalid }
-        ensures entries { (u : ℕ) → (u ≡ v → ⊥) → page_entry ram.new self.old.root u ≡ page_entry ram.old self.old.root u }
-        ensures others { (u : ℕ) → (u ≡ v → ⊥) → page_at ram.new self.old.root u ≡ page_at ram.old self.old.root u }
+        ensures gone { page_entry ram.new self.old.root number ≡ Invalid }
+        ensures entries { (u : ℕ) → (u ≡ number → ⊥) → page_entry ram.new self.old.root u ≡ page_entry ram.old self.old.root u }
+        ensures others { (u : ℕ) → (u ≡ number → ⊥) → page_at ram.new self.old.root u ≡ page_at ram.old self.old.root u }
     {
-        let last = self.pages == 1;
-        free_leaf(pool, ram, self.root, v);
-        let lower = free_lower(pool, ram, self.root, v, last);
-        let upper = free_upper(pool, ram, self.root, v, lower == 0, last);
+        free_leaf(pool, ram, self.root, number);
         self.pages -= 1;
-        self.tables -= lower + upper;
+        if self.lower_in_use(ram, number) {
+            return;
+        }
+        free_lower(pool, ram, self.root, number);
+        self.tables -= 1;
+        if self.upper_in_use(ram, number) {
+            return;
+        }
+        free_upper(pool, ram, self.root, number);
+        self.tables -= 1;
     }
 
     /// Frees each page from a place on, and each table that then maps nothing.
@@ -547,9 +563,9 @@ impl Space {
         ensures above { (u : ℕ) → first ≤ u → u < 2 ^ 26 → frame_of (page_entry ram.new self.old.root u) ≡ None }
     {
         let mut from = first;
-        'pages: while let Some(v) = page_left(ram, self.root, from, self.end <= from as u32) {
-            self.free_page(pool, ram, v);
-            from = v + 1;
+        'pages: while let Some(number) = self.page_from(ram, from) {
+            self.free_page(pool, ram, number);
+            from = number + 1;
         }
     }
 
@@ -564,7 +580,7 @@ impl Space {
         ensures walks { WalksStayBelow (4096 * page_count size) ram.old ram.new self.old.root }
         ensures others { SparesOthers pool.old ram.old (frames_of ram.old self.old) ram.new }
     {
-        let first = ((size + 4095) / 4096) as u32;
+        let first = page_count(size);
         self.free_from(pool, ram, first as usize);
         self.size = size;
         self.end = self.end.min(first);
@@ -590,8 +606,8 @@ impl Space {
         requires limit { size ≤ SIZE_LIMIT }
         ensures { (perm : Rights) → price (grown (image_of ram.now self.now) size perm) ≡ price (image_of ram.now self.now) + result }
     {
-        let first = ((self.size + 4095) / 4096) as usize;
-        let last = ((size + 4095) / 4096) as usize;
+        let first = page_count(self.size) as usize;
+        let last = page_count(size) as usize;
         self.price_between(ram, first, last)
     }
 
@@ -619,8 +635,8 @@ impl Space {
         ensures fits { IfOk result (λ _. price (grown (image_of ram.old self.old) size perm) ≤ price (image_of ram.old self.old) + length (free_in pool.old ram.old)) }
         ensures refused { IfErr result (λ _. (price (image_of ram.old self.old) + length (free_in pool.old ram.old) < price (grown (image_of ram.old self.old) size perm)) × Unchanged pool.old ram.old self.old pool.new ram.new self.new) }
     {
-        let first = ((self.size + 4095) / 4096) as usize;
-        let last = ((size + 4095) / 4096) as usize;
+        let first = page_count(self.size) as usize;
+        let last = page_count(size) as usize;
         self.fill(pool, ram, first, last, perm)?;
         self.size = size; // all its pages are there
         Ok(())
@@ -649,33 +665,33 @@ impl Space {
             unreachable!();
         };
         let mut from = 0;
-        'pages: while let Some(v) = page_left(ram, self.root, from, child.pages == self.pages) {
-            self.copy_page(pool, ram, &mut child, v);
-            from = v + 1;
+        'pages: while let Some(number) = self.page_from(ram, from) {
+            self.copy_page(pool, ram, &mut child, number);
+            from = number + 1;
         }
         child.size = self.size;
         Ok(child)
     }
 
     /// Copies a page into another space, where there is none.
-    fn copy_page(&self, pool: &mut Pool, ram: &mut Ram, child: &mut Space, v: usize)
+    fn copy_page(&self, pool: &mut Pool, ram: &mut Ram, child: &mut Space, number: usize)
         requires whole { IsSpace ram.old self.now }
         requires belongs { Belongs pool.old ram.old child.old }
         requires apart { (f : ℕ) → 1 ≤ copies f (frames_of ram.old self.now) → copies f (free_in pool.old ram.old) + copies f (frames_of ram.old child.old) ≡ 0 }
-        requires page { v < 2 ^ 26 }
-        requires there { (f : ℕ) × (frame_of (page_entry ram.old self.now.root v) ≡ Some f) }
-        requires absent { get (image_of ram.old child.old).pages v ≡ None }
-        requires room { (page : Page) → price (with_page (image_of ram.old child.old) v page) ≤ price (image_of ram.old child.old) + length (free_in pool.old ram.old) }
+        requires page { number < 2 ^ 26 }
+        requires there { (f : ℕ) × (frame_of (page_entry ram.old self.now.root number) ≡ Some f) }
+        requires absent { get (image_of ram.old child.old).pages number ≡ None }
+        requires room { (page : Page) → price (with_page (image_of ram.old child.old) number page) ≤ price (image_of ram.old child.old) + length (free_in pool.old ram.old) }
         ensures changed { Changed pool.old ram.old child.old pool.new ram.new child.new }
-        ensures image { (page : Page) → page_at ram.old self.now.root v ≡ Some page → image_of ram.new child.new ≡ with_page (image_of ram.old child.old) v page }
+        ensures image { (page : Page) → page_at ram.old self.now.root number ≡ Some page → image_of ram.new child.new ≡ with_page (image_of ram.old child.old) number page }
     {
-        let Entry::Leaf(source, perm, ..) = entry_of_page(ram, self.root, v) else {
+        let Entry::Leaf(source, perm, ..) = entry_of_page(ram, self.root, number) else {
             unreachable!();
         };
-        let Ok(()) = child.map_zeroed(pool, ram, Vpn::new(v as u32), perm) else {
+        let Ok(()) = child.map_zeroed(pool, ram, Vpn::new(number as u32), perm) else {
             unreachable!();
         };
-        let Entry::Leaf(target, ..) = entry_of_page(ram, child.root, v) else {
+        let Entry::Leaf(target, ..) = entry_of_page(ram, child.root, number) else {
             unreachable!();
         };
         ram.copy_frame(source, target);
@@ -693,11 +709,11 @@ impl Space {
         ensures others { (pool : Pool) → Belongs pool ram.old self.now → SparesOthers pool ram.old (frames_of ram.old self.now) ram.new }
         ensures walks { WalksStayBeside vpn ram.old ram.new self.now.root }
     {
-        let v = vpn.number() as usize;
-        let Some(lower) = lower_table(ram, self.root, v) else {
+        let number = vpn.number() as usize;
+        let Some(lower) = lower_table(ram, self.root, number) else {
             unreachable!();
         };
-        let Entry::Leaf(frame, perm, ..) = read_entry(ram, lower, v % 512) else {
+        let Entry::Leaf(frame, perm, ..) = read_page_entry(ram, lower, number) else {
             unreachable!();
         };
         let _ = frame.number();
@@ -708,7 +724,7 @@ impl Space {
             execute: rights.execute,
             user: false,
         });
-        ram.write_u64(lower, v % 512, Pte::leaf(frame, kept).bits());
+        ram.write_u64(lower, lower_index(number), Pte::leaf(frame, kept).bits());
     }
 
     /// Reads bytes of a page from place `at` on, as many as `out` holds, within the page.
@@ -722,8 +738,8 @@ impl Space {
             unreachable!();
         };
         let bytes = ram.frame(frame);
-        let n = out.len();
-        out.copy_from_slice(&bytes[at..at + n]);
+        let count = out.len();
+        out.copy_from_slice(&bytes[at..at + count]);
     }
 
     /// Writes bytes into a page from place `at` on, within the page. The others stay.

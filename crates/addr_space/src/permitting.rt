@@ -9,11 +9,8 @@ ghost use Rattle.addr_space.specs.Permits.{page_permits};
 
 use crate::{Space, lower_table};
 use phys_ram::Ram;
-use sv39_core::entry_permits;
+use sv39_core::{TABLE_ENTRIES, entry_permits, lower_index};
 use xk_base::{Access, Frame, Vpn};
-
-/// How many entries a table has.
-const ENTRIES: usize = 512;
 
 /// How many entries of a lower table, one after another from one on, lead to pages that permit an access; `most` at
 /// most. It is inlined, so that where the access is known, so are the bits that each entry is asked for.
@@ -26,7 +23,7 @@ fn count_permitting(ram: &Ram, table: Frame, from: usize, access: Access, most: 
     ensures each { (k : ℕ) → k < result → entry_permits access (entry_at ram.now table (from + k)) ≡ true }
     ensures ends { result < most → (from + result ≡ 512) ⊎ (entry_permits access (entry_at ram.now table (from + result)) ≡ false) }
 {
-    let count = most.min(ENTRIES - from);
+    let count = most.min(TABLE_ENTRIES - from);
     for i in 0..count {
         if !entry_permits(ram, table, from + i, access) {
             return i;
@@ -61,10 +58,10 @@ impl Space {
         ensures each { (k : ℕ) → k < result → page_permits access (get (image_of ram.now self.now).pages (vpn + k)) ≡ true }
         ensures ends { result < most → (vpn % 512 + result ≡ 512) ⊎ (page_permits access (get (image_of ram.now self.now).pages (vpn + result)) ≡ false) }
     {
-        let v = vpn.number() as usize;
-        let Some(lower) = lower_table(ram, self.root, v) else {
+        let number = vpn.number() as usize;
+        let Some(lower) = lower_table(ram, self.root, number) else {
             return 0;
         };
-        entries_permitting(ram, lower, v % ENTRIES, access, most)
+        entries_permitting(ram, lower, lower_index(number), access, most)
     }
 }

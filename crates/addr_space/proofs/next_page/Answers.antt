@@ -18,5 +18,5 @@ table-inside ram root v f found =
     is-table (Table g) h = let same : g ≡ f = cc in ap Table same
     is-table (Leaf g r a d) h = absurd (cc)
 
-pub next_leaf-i-requires-clause-table_in : goal.next_leaf-i-requires-clause-table_in
-next_leaf-i-requires-clause-table_in c = table-inside c.args.ram.now c.args.root c.pages.v c.in-Some-lower_table.lower (sym c.in-Some-lower_table.ensures)
+pub next_leaf-index-requires-clause-table_in : goal.next_leaf-index-requires-clause-table_in
+next_leaf-index-requires-clause-table_in c = table-inside c.args.ram.now c.args.root c.pages.number c.in-Some-lower_table.lower (sym c.in-Some-lower_table.ensures)

@@ -10,7 +10,7 @@ returns-clause-placed c =
       record {
         mid = c.take.new.ram;
         taken = c.in-Some.ensures.taken;
-        put = subst (λ v. WordWritten c.take.new.ram c.write_u64.new.self c.args.table c.args.i v) e c.write_u64.ensures;
+        put = subst (λ v. WordWritten c.take.new.ram c.write_u64.new.self c.args.table c.args.index v) e c.write_u64.ensures;
         small = c.number.ensures.range;
       },
     )

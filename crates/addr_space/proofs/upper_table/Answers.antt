@@ -3,4 +3,4 @@ use Rattle.sv39_core.proofs.Places.{upper-entry}
 use Rattle.addr_space.proofs.upper_table.Goals as goal
 
 pub returns : goal.returns
-returns c = c.read_table.ensures.table ∙ sym (upper-entry c.args.ram.now c.args.root (c.args.v / 262144) (omega (arith, c.requires.page)))
+returns c = c.read_upper_table.ensures.table ∙ sym (upper-entry c.args.ram.now c.args.root (c.args.number / 262144) (omega (arith, c.requires.page)))

@@ -10,7 +10,7 @@ pub returns-then-begins_below_size : goal.returns-then-begins_below_size
 returns-then-begins_below_size c =
     let image = image_of c.args.ram.now c.args.self.now in
     let absent = away-absent image c.args.vpn (sym c.in_default.is ∙ c.perm.ensures) ∙ sym c.begins_below_size.ensures ∙ c.if-begins_below_size.true in
-    ap Some c.touched_rights.ensures ∙ absent-allows image c.args.vpn (search rules) absent
+    ap Some c.data.ensures ∙ absent-allows image c.args.vpn (search rules) absent
 
 pub returns : goal.returns
 returns c =

@@ -10,25 +10,22 @@ use Rattle.addr_space.proofs.Space.read_across.Goals as goal
 pub overflow_add-place : goal.overflow_add-place
 overflow_add-place c = omega (arith, c.requires.inside c.parts.done (search rules))
 
-pub overflow_cast-place : goal.overflow_cast-place
-overflow_cast-place c = omega (arith, c.requires.inside c.parts.done (search rules))
-
-pub new-vpn-requires : goal.new-vpn-requires
-new-vpn-requires c = omega (arith, c.requires.inside c.parts.done (search rules))
+pub of_address-vpn-requires : goal.of_address-vpn-requires
+of_address-vpn-requires c = omega (arith, c.requires.inside c.parts.done (search rules))
 
 pub parts-preserved : goal.parts-preserved
 parts-preserved c =
     let i = image_of c.args.ram.now c.args.self.now in
     let a = c.args.address in
     let d = c.parts.done in
-    let n = c.min-n.result in
+    let n = c.min-part.result in
     let out = c.parts.out in
     let ys = c.read_part.new.out in
-    let fits : c.parts.done + c.min-n.result ≤ length c.parts.out = search rules in
+    let fits : c.parts.done + c.min-part.result ≤ length c.parts.out = search rules in
     let got : ys ≡ image_bytes i (a + d) n =
-    let at : 4096 * c.new-vpn.result + (c.args.address + c.parts.done) % 4096 ≡ c.args.address + c.parts.done = omega (arith, c.new-vpn.ensures) in
-    let long : length (take (c.parts.done + c.min-n.result - c.parts.done) (drop c.parts.done c.parts.out)) ≡ c.min-n.result = length-take-le (c.parts.done + c.min-n.result - c.parts.done) (drop c.parts.done c.parts.out) (omega (arith, length-drop c.parts.done c.parts.out, fits)) ∙ omega arith in
-    c.read_part.ensures ∙ ap (λ x. image_bytes i x (length (take (c.parts.done + c.min-n.result - c.parts.done) (drop c.parts.done c.parts.out)))) at ∙ ap (image_bytes i (a + d)) long in
+    let at : 4096 * c.of_address-vpn.result + c.page_offset-at.result ≡ c.args.address + c.parts.done = omega (arith, c.of_address-vpn.ensures, c.page_offset-at.ensures.value) in
+    let long : length (take (c.parts.done + c.min-part.result - c.parts.done) (drop c.parts.done c.parts.out)) ≡ c.min-part.result = length-take-le (c.parts.done + c.min-part.result - c.parts.done) (drop c.parts.done c.parts.out) (omega (arith, length-drop c.parts.done c.parts.out, fits)) ∙ omega arith in
+    c.read_part.ensures ∙ ap (λ x. image_bytes i x (length (take (c.parts.done + c.min-part.result - c.parts.done) (drop c.parts.done c.parts.out)))) at ∙ ap (image_bytes i (a + d)) long in
     let long : length ys ≡ n = ap length got ∙ length-image_bytes i (a + d) n in
     let more : take (d + n) (put_mid d (d + n - d) out ys) ≡ image_bytes i a (d + n) =
     take-put_mid d (d + n - d) out ys (d + n) (omega (arith, long)) (omega (arith, fits))

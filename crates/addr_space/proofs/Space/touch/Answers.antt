@@ -10,10 +10,10 @@ use Rattle.addr_space.proofs.Space.touch.Goals.{After-fill}
 use Rattle.addr_space.proofs.Space.touch.Goals as goal
 
 -- the run of pages is what was to be touched
-same : (c : After-fill) → filled (image_of c.args.ram.now c.args.self.now) c.pages_below-pages.result.first (c.pages_below-pages.result.end - c.pages_below-pages.result.first) c.touched_rights.result ≡ brought (pages_at c.args.address c.args.len) (image_of c.args.ram.now c.args.self.now)
+same : (c : After-fill) → filled (image_of c.args.ram.now c.args.self.now) c.pages_below-pages.result.first (c.pages_below-pages.result.end - c.pages_below-pages.result.first) c.data.result ≡ brought (pages_at c.args.address c.args.len) (image_of c.args.ram.now c.args.self.now)
 same c =
     let run = c.pages_below-pages.ensures in
-    ap (filled (image_of c.args.ram.now c.args.self.now) c.pages_below-pages.result.first (c.pages_below-pages.result.end - c.pages_below-pages.result.first)) c.touched_rights.ensures
+    ap (filled (image_of c.args.ram.now c.args.self.now) c.pages_below-pages.result.first (c.pages_below-pages.result.end - c.pages_below-pages.result.first)) c.data.ensures
     ∙ filled-brought (pages_at c.args.address c.args.len) (image_of c.args.ram.now c.args.self.now) c.pages_below-pages.result.first c.pages_below-pages.result.end
     (run-of-range c.args.self.now.size c.args.address c.args.len c.pages_below-pages.result.first c.pages_below-pages.result.end run.order run.inside run.before run.behind)
 

@@ -20,16 +20,13 @@ parts-init c = (
 pub overflow_add-place : goal.overflow_add-place
 overflow_add-place c = omega (arith, page-small c.args.ram.now c.args.self.now ((c.args.address + c.parts.done) / 4096) (c.requires.there c.parts.done (omega arith)))
 
-pub overflow_cast-place : goal.overflow_cast-place
-overflow_cast-place c = omega (arith, page-small c.args.ram.now c.args.self.now ((c.args.address + c.parts.done) / 4096) (c.requires.there c.parts.done (omega arith)))
-
-pub new-vpn-requires : goal.new-vpn-requires
-new-vpn-requires c = omega (arith, page-small c.args.ram.now c.args.self.now ((c.args.address + c.parts.done) / 4096) (c.requires.there c.parts.done (omega arith)))
+pub of_address-vpn-requires : goal.of_address-vpn-requires
+of_address-vpn-requires c = omega (arith, page-small c.args.ram.now c.args.self.now ((c.args.address + c.parts.done) / 4096) (c.requires.there c.parts.done (omega arith)))
 
 pub write_page-requires-clause-there : goal.write_page-requires-clause-there
 write_page-requires-clause-there c =
     let v = (c.args.address + c.parts.done) / 4096 in
-    subst (λ w. HasPage (image_of c.parts.ram c.args.self.now) w) (sym c.new-vpn.ensures)
+    subst (λ w. HasPage (image_of c.parts.ram c.args.self.now) w) (sym c.of_address-vpn.ensures)
     (subst (λ i. HasPage i v) (sym c.parts.invariant.1)
     (has-write_image (take c.parts.done c.args.bytes.now) (image_of c.args.ram.now c.args.self.now) c.args.address v (c.requires.there c.parts.done (omega arith))))
 
@@ -39,11 +36,11 @@ parts-preserved c =
     let self = c.args.self.now in
     let a = c.args.address in
     let d = c.parts.done in
-    let n = c.min-n.result in
-    let fits : c.parts.done + c.min-n.result ≤ length c.args.bytes.now = search rules in
-    let place : 4096 * c.new-vpn.result + (a + d) % 4096 ≡ a + d = omega (arith, c.new-vpn.ensures) in (
+    let n = c.min-part.result in
+    let fits : c.parts.done + c.min-part.result ≤ length c.args.bytes.now = search rules in
+    let place : 4096 * c.of_address-vpn.result + c.page_offset-at.result ≡ a + d = omega (arith, c.of_address-vpn.ensures, c.page_offset-at.ensures.value) in (
       fits,
-      write-more (image_of ram self) (image_of c.parts.ram self) (image_of c.write_page.new.ram self) a d n (4096 * c.new-vpn.result + (a + d) % 4096) c.args.bytes.now c.parts.invariant.1 fits place c.write_page.ensures.written,
+      write-more (image_of ram self) (image_of c.parts.ram self) (image_of c.write_page.new.ram self) a d n (4096 * c.of_address-vpn.result + c.page_offset-at.result) c.args.bytes.now c.parts.invariant.1 fits place c.write_page.ensures.written,
       in_place-join ram c.parts.ram c.write_page.new.ram self c.parts.invariant.2 c.write_page.ensures.in_place,
       λ pool b. changed-join pool pool pool ram c.parts.ram c.write_page.new.ram self self self (c.parts.invariant.3 pool b)
           (c.write_page.ensures.changed pool (belongs-after pool pool ram c.parts.ram self self b (c.parts.invariant.3 pool b))),
