@@ -91,11 +91,11 @@ pub fn fetch_text_lazily(
     ensures copied { IfOk result (λ n. text.new ≡ image_bytes (whole (image_of ram.now space.now)) address n ++ drop n text.old) }
     ensures refused { IfErr result (λ _. (text_length (whole (image_of ram.now space.now)) address (length text.old) ≡ None) × (text.new ≡ text.old)) }
 {
-    let Some(n) = text_end(space, ram, address, text.len(), AbsentPages::Zeros) else {
+    let Some(count) = text_end(space, ram, address, text.len(), AbsentPages::Zeros) else {
         return Err(BadAddress);
     };
-    space.read_across(ram, address, &mut text[..n]);
-    Ok(n)
+    space.read_across(ram, address, &mut text[..count]);
+    Ok(count)
 }
 
 /// The law of present pages: where no page is absent, what these calls take the image for is the image itself. It

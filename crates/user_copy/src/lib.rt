@@ -21,8 +21,8 @@ ghost use Rattle.user_copy.specs.Reach.{allows, image_seen, reaches, text_length
 use addr_space::Space;
 use byteorder::{ByteOrder, LittleEndian};
 use phys_ram::Ram;
-use xk_base::limits::{PAGE_BYTES, VPN_END};
-use xk_base::{Access, BadAddress, Perm, Vpn};
+use xk_base::limits::{ADDRESS_END, FRAME_BYTES};
+use xk_base::{Access, BadAddress, Perm, Vpn, page_offset};
 
 mod lazily;
 mod pipes;
@@ -31,9 +31,6 @@ pub use lazily::{
     check_range_lazily, copy_in_lazily, fetch_text_lazily, fetch_u64_lazily, law_of_present_pages,
 };
 pub use pipes::{copy_from_pipe, push_to_pipe};
-
-/// The first address behind the last page that a process may have.
-const ADDRESS_END: u64 = VPN_END as u64 * PAGE_BYTES;
 
 /// Where a byte lies: its page, and how far behind the page's first byte.
 #[derive(Clone, Copy)]
@@ -52,12 +49,13 @@ fn place_at(address: u64, done: usize) -> Option<Place>
         return None;
     }
     Some(Place {
-        page: Vpn::new((at / 4096) as u32),
-        offset: (at % 4096) as usize,
+        page: Vpn::of_address(at),
+        offset: page_offset(at),
     })
 }
 
 /// Whether user code may make an access to a page with these rights.
+#[tactic(auto, using(sv39_core::proofs::Words::permits_by_right))]
 fn allows(perm: Option<Perm>, access: Access) -> bool
     ensures { result ≡ allows access perm }
 {
@@ -65,12 +63,7 @@ fn allows(perm: Option<Perm>, access: Access) -> bool
         return false;
     };
     let rights = perm.rights();
-    rights.user
-        && match access {
-            Access::Fetch => rights.execute,
-            Access::Load => rights.read,
-            Access::Store => rights.write,
-        }
+    rights.user && rights.allow(access)
 }
 
 /// What a copy makes of pages that are absent: below the size, and not there.
@@ -133,12 +126,12 @@ fn reaches(
             return false;
         };
         // As many pages as the rest of the range touches.
-        let most = (len - done - 1).saturating_add(place.offset) / 4096 + 1;
+        let most = (len - done - 1).saturating_add(place.offset) / FRAME_BYTES + 1;
         let pages = pages_reached(space, ram, place.page, access, absent, most);
         if pages == 0 {
             return false;
         }
-        done += (4096 * pages - place.offset).min(len - done);
+        done += (FRAME_BYTES * pages - place.offset).min(len - done);
     }
     true
 }
@@ -229,11 +222,11 @@ pub fn fetch_text(
     ensures copied { IfOk result (λ n. text.new ≡ image_bytes (image_of ram.now space.now) address n ++ drop n text.old) }
     ensures refused { IfErr result (λ _. (text_length (image_of ram.now space.now) address (length text.old) ≡ None) × (text.new ≡ text.old)) }
 {
-    let Some(n) = text_end(space, ram, address, text.len(), AbsentPages::Refused) else {
+    let Some(count) = text_end(space, ram, address, text.len(), AbsentPages::Refused) else {
         return Err(BadAddress);
     };
-    space.read_across(ram, address, &mut text[..n]);
-    Ok(n)
+    space.read_across(ram, address, &mut text[..count]);
+    Ok(count)
 }
 
 /// How many bytes of a text stand before its zero byte, which is one of the first `limit` bytes.
@@ -258,11 +251,11 @@ fn text_end(
         let Some(page) = space.page_bytes(ram, place.page) else {
             return Some(done); // an absent page, whose bytes are 0
         };
-        let n = (4096 - place.offset).min(limit - done);
-        if let Some(k) = first_zero(&page[place.offset..place.offset + n]) {
-            return Some(done + k);
+        let part = (FRAME_BYTES - place.offset).min(limit - done);
+        if let Some(end) = first_zero(&page[place.offset..place.offset + part]) {
+            return Some(done + end);
         }
-        done += n;
+        done += part;
     }
     None
 }

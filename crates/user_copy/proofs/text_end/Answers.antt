@@ -51,16 +51,16 @@ returns-in-Some-first_zero c =
     let i = image_seen c.args.absent (image_of c.args.ram.now c.args.space.now) in
     let a = c.args.address in
     let d = c.pages.done in
-    let n = c.min-n.result in
-    let k = c.in-Some-first_zero.k in
+    let n = c.min-part.result in
+    let k = c.in-Some-first_zero.end in
     let quotient : c.in-Some.place.page ≡ (c.args.address + c.pages.done) / 4096 = search rules in
     let remainder : c.in-Some.place.offset ≡ (c.args.address + c.pages.done) % 4096 = search rules in
     let allowed : c.allows.result ≡ true = search rules in
     let got = c.in-Some-page_bytes.ensures.there in
     let there = sym (ap (get i.pages) quotient) ∙ seen-there c.args.absent c.args.ram.now c.args.space.now c.in-Some.place.page got.0 got.1 in
     let here : may Load i (c.args.address + c.pages.done) ≡ true = ap (λ v. allows Load (option_map perm_of_page (get i.pages v))) (sym quotient) ∙ ap (allows Load) (sym c.rights_of.ensures) ∙ sym c.allows.ensures ∙ allowed in
-    let fits : c.pages.done + c.min-n.result ≤ c.args.limit = search rules in
-    let within : (c.args.address + c.pages.done) % 4096 + c.min-n.result ≤ 4096 = search rules in
+    let fits : c.pages.done + c.min-part.result ≤ c.args.limit = search rules in
+    let within : (c.args.address + c.pages.done) % 4096 + c.min-part.result ≤ 4096 = search rules in
     let array : length c.in-Some-page_bytes.page.now ≡ 4096 = search rules in
     let page : c.in-Some-page_bytes.page.now ≡ got.0.bytes = got.2 in
     let at = c.in-Some.place.offset in
@@ -69,9 +69,9 @@ returns-in-Some-first_zero c =
     ap (λ m. take m (drop at c.in-Some-page_bytes.page.now)) count ∙ ap (λ b. take n (drop at b)) page ∙ ap (λ p. take n (drop p got.0.bytes)) remainder
     ∙ part-read i (a + d) n got.0 there (ap length (sym page) ∙ array) within in
     let bytes : List ℕ = take (at + n - at) (drop at c.in-Some-page_bytes.page.now) in
-    let lt : c.in-Some-first_zero.k < c.min-n.result = search rules in
-    let some : (j : ℕ) → j < c.in-Some-first_zero.k → get_or bytes j 0 ≢ 0 = search rules in
-    let zero : get_or bytes c.in-Some-first_zero.k 0 ≡ 0 = search rules in
+    let lt : c.in-Some-first_zero.end < c.min-part.result = search rules in
+    let some : (j : ℕ) → j < c.in-Some-first_zero.end → get_or bytes j 0 ≢ 0 = search rules in
+    let zero : get_or bytes c.in-Some-first_zero.end 0 ≡ 0 = search rules in
     sym (end-found i a d n k c.args.limit c.pages.invariant.2 c.pages.invariant.1 here within fits lt
     (λ j below is. some j below (part-byte i a d n j bytes part (omega (arith, below, lt)) ∙ is))
     (sym (part-byte i a d n k bytes part lt) ∙ zero))
@@ -81,15 +81,15 @@ pages-preserved c =
     let i = image_seen c.args.absent (image_of c.args.ram.now c.args.space.now) in
     let a = c.args.address in
     let d = c.pages.done in
-    let n = c.min-n.result in
+    let n = c.min-part.result in
     let quotient : c.in-Some.place.page ≡ (c.args.address + c.pages.done) / 4096 = search rules in
     let remainder : c.in-Some.place.offset ≡ (c.args.address + c.pages.done) % 4096 = search rules in
     let allowed : c.allows.result ≡ true = search rules in
     let got = c.in-Some-page_bytes.ensures.there in
     let there = sym (ap (get i.pages) quotient) ∙ seen-there c.args.absent c.args.ram.now c.args.space.now c.in-Some.place.page got.0 got.1 in
     let here : may Load i (c.args.address + c.pages.done) ≡ true = ap (λ v. allows Load (option_map perm_of_page (get i.pages v))) (sym quotient) ∙ ap (allows Load) (sym c.rights_of.ensures) ∙ sym c.allows.ensures ∙ allowed in
-    let fits : c.pages.done + c.min-n.result ≤ c.args.limit = search rules in
-    let within : (c.args.address + c.pages.done) % 4096 + c.min-n.result ≤ 4096 = search rules in
+    let fits : c.pages.done + c.min-part.result ≤ c.args.limit = search rules in
+    let within : (c.args.address + c.pages.done) % 4096 + c.min-part.result ≤ 4096 = search rules in
     let array : length c.in-Some-page_bytes.page.now ≡ 4096 = search rules in
     let page : c.in-Some-page_bytes.page.now ≡ got.0.bytes = got.2 in
     let at = c.in-Some.place.offset in

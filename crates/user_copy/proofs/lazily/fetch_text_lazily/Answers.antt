@@ -11,26 +11,26 @@ use Rattle.user_copy.proofs.lazily.fetch_text_lazily.Goals as goal
 
 pub slice_bounds-read_across-end : goal.slice_bounds-read_across-end
 slice_bounds-read_across-end c =
-    let r = text-readable (whole (image_of c.args.ram.now c.args.space.now)) c.args.address (length c.args.text.now) c.in-Some.n (sym c.in-Some.ensures) in
+    let r = text-readable (whole (image_of c.args.ram.now c.args.space.now)) c.args.address (length c.args.text.now) c.in-Some.count (sym c.in-Some.ensures) in
     omega (arith, r.0)
 
 pub slice_bounds-read_across-end-2 : goal.slice_bounds-read_across-end-2
 slice_bounds-read_across-end-2 c =
-    let r = text-readable (whole (image_of c.args.ram.now c.args.space.now)) c.args.address (length c.args.text.now) c.in-Some.n (sym c.in-Some.ensures) in
-    sym (length-take-le c.in-Some.n c.args.text.now (omega (arith, r.0)))
+    let r = text-readable (whole (image_of c.args.ram.now c.args.space.now)) c.args.address (length c.args.text.now) c.in-Some.count (sym c.in-Some.ensures) in
+    sym (length-take-le c.in-Some.count c.args.text.now (omega (arith, r.0)))
 
 pub read_across-requires-clause-inside : goal.read_across-requires-clause-inside
 read_across-requires-clause-inside c k lt =
     let i = whole (image_of c.args.ram.now c.args.space.now) in
-    let r = text-readable i c.args.address (length c.args.text.now) c.in-Some.n (sym c.in-Some.ensures) in
-    mapped-inside i c.args.address (c.in-Some.n + 1) (whole-low (image_of c.args.ram.now c.args.space.now) (low-pages c.args.ram.now c.args.space.now)) (reached-mapped Load i c.args.address (c.in-Some.n + 1) r.1) k (omega (arith, lt, length-take-le c.in-Some.n c.args.text.now (omega (arith, r.0))))
+    let r = text-readable i c.args.address (length c.args.text.now) c.in-Some.count (sym c.in-Some.ensures) in
+    mapped-inside i c.args.address (c.in-Some.count + 1) (whole-low (image_of c.args.ram.now c.args.space.now) (low-pages c.args.ram.now c.args.space.now)) (reached-mapped Load i c.args.address (c.in-Some.count + 1) r.1) k (omega (arith, lt, length-take-le c.in-Some.count c.args.text.now (omega (arith, r.0))))
 
 pub returns-clause-short : goal.returns-clause-short
-returns-clause-short c = (text-readable (whole (image_of c.args.ram.now c.args.space.now)) c.args.address (length c.args.text.now) c.in-Some.n (sym c.in-Some.ensures)).0
+returns-clause-short c = (text-readable (whole (image_of c.args.ram.now c.args.space.now)) c.args.address (length c.args.text.now) c.in-Some.count (sym c.in-Some.ensures)).0
 
 pub returns-clause-copied : goal.returns-clause-copied
 returns-clause-copied c =
     let i = whole (image_of c.args.ram.now c.args.space.now) in
-    let r = text-readable i c.args.address (length c.args.text.now) c.in-Some.n (sym c.in-Some.ensures) in
-    ap (λ xs. xs ++ drop c.in-Some.n c.args.text.now)
-    (c.read_across.ensures ∙ sym (whole-bytes (image_of c.args.ram.now c.args.space.now) c.args.address _) ∙ ap (image_bytes i c.args.address) (length-take-le c.in-Some.n c.args.text.now (omega (arith, r.0))))
+    let r = text-readable i c.args.address (length c.args.text.now) c.in-Some.count (sym c.in-Some.ensures) in
+    ap (λ xs. xs ++ drop c.in-Some.count c.args.text.now)
+    (c.read_across.ensures ∙ sym (whole-bytes (image_of c.args.ram.now c.args.space.now) c.args.address _) ∙ ap (image_bytes i c.args.address) (length-take-le c.in-Some.count c.args.text.now (omega (arith, r.0))))

@@ -21,11 +21,8 @@ parts-init c = (
 pub overflow_add-place : goal.overflow_add-place
 overflow_add-place c = omega (arith, page-small c.args.ram.now c.args.space.now ((c.args.address + c.parts.done) / 4096) (c.requires.there c.parts.done (omega arith)))
 
-pub overflow_cast-place : goal.overflow_cast-place
-overflow_cast-place c = omega (arith, page-small c.args.ram.now c.args.space.now ((c.args.address + c.parts.done) / 4096) (c.requires.there c.parts.done (omega arith)))
-
-pub new-page-requires : goal.new-page-requires
-new-page-requires c = omega (arith, page-small c.args.ram.now c.args.space.now ((c.args.address + c.parts.done) / 4096) (c.requires.there c.parts.done (omega arith)))
+pub of_address-page-requires : goal.of_address-page-requires
+of_address-page-requires c = omega (arith, page-small c.args.ram.now c.args.space.now ((c.args.address + c.parts.done) / 4096) (c.requires.there c.parts.done (omega arith)))
 
 pub fill_page-requires-clause-whole : goal.fill_page-requires-clause-whole
 fill_page-requires-clause-whole c = c.parts.invariant.2.whole
@@ -39,13 +36,13 @@ fill_page-requires-clause-apart c = pages_apart c.args.ram.now c.parts.ram c.arg
 pub fill_page-requires-clause-there : goal.fill_page-requires-clause-there
 fill_page-requires-clause-there c =
     let v = (c.args.address + c.parts.done) / 4096 in
-    subst (λ w. HasPage (image_of c.parts.ram c.args.space.now) w) (sym c.new-page.ensures)
+    subst (λ w. HasPage (image_of c.parts.ram c.args.space.now) w) (sym c.of_address-page.ensures)
     (subst (λ i. HasPage i v) (sym c.parts.invariant.1)
     (has-write_image (take c.parts.done (pipe_in c.args.ram.now c.args.pipe).bytes) (image_of c.args.ram.now c.args.space.now) c.args.address v (c.requires.there c.parts.done (omega arith))))
 
 pub fill_page-requires-clause-bytes : goal.fill_page-requires-clause-bytes
 fill_page-requires-clause-bytes c =
-    let fits : c.parts.done + c.min-part.result ≤ c.args.n = search rules in
+    let fits : c.parts.done + c.min-part.result ≤ c.args.size = search rules in
     omega (arith, fits, c.requires.bytes, ap length (bytes_same c.args.ram.now c.parts.ram c.args.space.now c.args.pipe c.requires.pipe c.requires.apart c.parts.invariant.2))
 
 pub parts-preserved : goal.parts-preserved
@@ -56,13 +53,13 @@ parts-preserved c =
     let d = c.parts.done in
     let n = c.min-part.result in
     let bytes = (pipe_in ram c.args.pipe).bytes in
-    let fits : c.parts.done + c.min-part.result ≤ c.args.n = search rules in
-    let place : 4096 * c.new-page.result + (a + d) % 4096 ≡ a + d = omega (arith, c.new-page.ensures) in
+    let fits : c.parts.done + c.min-part.result ≤ c.args.size = search rules in
+    let place : 4096 * c.of_address-page.result + c.page_offset-at.result ≡ a + d = omega (arith, c.of_address-page.ensures, c.page_offset-at.ensures.value) in
     let count : n ≡ d + n - d = omega arith in
     let same = bytes_same ram c.parts.ram space c.args.pipe c.requires.pipe c.requires.apart c.parts.invariant.2 in
-    let written = c.fill_page.ensures.image ∙ (λ k. write_image (image_of c.parts.ram space) (4096 * c.new-page.result + (a + d) % 4096) (take (count k) (drop d (same k)))) in (
+    let written = c.fill_page.ensures.image ∙ (λ k. write_image (image_of c.parts.ram space) (4096 * c.of_address-page.result + c.page_offset-at.result) (take (count k) (drop d (same k)))) in (
       fits,
-      write-more (image_of ram space) (image_of c.parts.ram space) (image_of c.fill_page.new.ram space) a d n (4096 * c.new-page.result + (a + d) % 4096) bytes c.parts.invariant.1 (omega (arith, fits, c.requires.bytes)) place written,
+      write-more (image_of ram space) (image_of c.parts.ram space) (image_of c.fill_page.new.ram space) a d n (4096 * c.of_address-page.result + c.page_offset-at.result) bytes c.parts.invariant.1 (omega (arith, fits, c.requires.bytes)) place written,
       in_place-join ram c.parts.ram c.fill_page.new.ram space c.parts.invariant.2 c.fill_page.ensures.in_place,
       λ pool b. changed-join pool pool pool ram c.parts.ram c.fill_page.new.ram space space space (c.parts.invariant.3 pool b)
           (c.fill_page.ensures.changed pool (belongs-after pool pool ram c.parts.ram space space b (c.parts.invariant.3 pool b))),

@@ -10,7 +10,7 @@ returns-in-Some c =
     let ram = c.args.ram.now in
     let i = image_of ram c.args.space.now in
     let a = 4096 * c.args.page + c.args.at in
-    let n = c.args.n in
+    let n = c.args.size in
     let there = c.in-Some.ensures.there in
     let quotient : (4096 * c.args.page + c.args.at) / 4096 ≡ c.args.page = omega (arith, c.requires.inside) in
     let remainder : (4096 * c.args.page + c.args.at) % 4096 ≡ c.args.at = omega (arith, c.requires.inside) in
@@ -26,5 +26,5 @@ returns-in-None c =
     let a = 4096 * c.args.page + c.args.at in
     let quotient : (4096 * c.args.page + c.args.at) / 4096 ≡ c.args.page = omega (arith, c.requires.inside) in
     let remainder : (4096 * c.args.page + c.args.at) % 4096 ≡ c.args.at = omega (arith, c.requires.inside) in
-    let got = part-zeros i a c.args.n (ap (get i.pages) quotient ∙ c.in-None.ensures.none) (omega (arith, remainder, c.requires.fits)) in
+    let got = part-zeros i a c.args.size (ap (get i.pages) quotient ∙ c.in-None.ensures.none) (omega (arith, remainder, c.requires.fits)) in
     subst (λ xs. Becomes ram c.push_zeros.new.ram c.args.pipe (with_more xs (pipe_in ram c.args.pipe))) got c.push_zeros.ensures
