@@ -19,27 +19,23 @@ use addr_space::Space;
 use elf_image::Segments;
 use frame_list::Pool;
 use phys_ram::Ram;
+use sv39_core::{TABLE_ENTRIES, UPPER_TABLE_PAGES};
 use xk_base::limits::PAGE_BYTES;
-use xk_base::{ExecError, Perm, Rights, Vpn};
+use xk_base::{ExecError, Perm, Vpn};
 
-/// The rights of the stack page, and of the guard page before it is taken from user code.
-fn stack_perm() -> Perm
-    ensures { result ≡ data_rights }
-{
-    Perm::new(Rights {
-        read: true,
-        write: true,
-        execute: false,
-        user: true,
-    })
-}
+/// How many pages lie below an upper table, and below a lower one.
+const UPPER_PAGES: u64 = UPPER_TABLE_PAGES as u64;
+
+const LOWER_PAGES: u64 = TABLE_ENTRIES as u64;
 
 /// How many frames the first pages take: the root, the tables of the two levels below it, and the pages.
 fn price(pages: u64) -> u64
     requires { pages ≤ 2 ^ 26 }
     ensures { result ≡ price_first pages }
 {
-    1 + (pages + 262_143) / 262_144 + (pages + 511) / 512 + pages
+    let uppers = (pages + (UPPER_PAGES - 1)) / UPPER_PAGES;
+    let lowers = (pages + (LOWER_PAGES - 1)) / LOWER_PAGES;
+    1 + uppers + lowers + pages
 }
 
 /// Maps the segments into a space without pages, and copies their bytes of the file.
@@ -76,7 +72,7 @@ fn map_stack(space: &mut Space, pool: &mut Pool, ram: &mut Ram, guard: u64)
     ensures changed { Changed pool.old ram.old space.old pool.new ram.new space.new }
     ensures image { image_of ram.new space.new ≡ with_stack (image_of ram.old space.old) guard }
 {
-    let Ok(()) = space.grow(pool, ram, PAGE_BYTES * (guard + 2), stack_perm()) else {
+    let Ok(()) = space.grow(pool, ram, PAGE_BYTES * (guard + 2), Perm::data()) else {
         unreachable!();
     };
     space.protect(ram, Vpn::new(guard as u32));

@@ -8,8 +8,8 @@ ghost use Rattle.exec_core.specs.Plans.{Within};
 use crate::arg_list::ArgList;
 use elf_image::{Segments, read_header, segments};
 use std::marker::Model;
-use xk_base::ExecError;
 use xk_base::limits::PAGE_BYTES;
+use xk_base::{ExecError, page_count};
 
 /// What a program starts with: its registers besides those that stay as they were.
 #[derive(Clone, Copy, Debug, PartialEq, Eq)]
@@ -105,7 +105,7 @@ pub fn plan<'a>(file: &'a [u8], args: &'a ArgList) -> Result<ExecPlan<'a>, ExecE
 {
     let header = read_header(file)?;
     let end = end_of(segments(file, &header)?);
-    let guard = (end + (PAGE_BYTES - 1)) / PAGE_BYTES;
+    let guard = page_count(end) as u64;
     let (lengths, _) = args.parts();
     let sp = stack_pointer(lengths, PAGE_BYTES * (guard + 2));
     if sp < PAGE_BYTES * (guard + 1) {

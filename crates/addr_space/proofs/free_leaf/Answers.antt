@@ -5,7 +5,7 @@ use Rattle.addr_space.specs.Steps.{Cleared}
 use Rattle.sv39_core.specs.Tree.{frame_of}
 use Rattle.sv39_core.proofs.Places.{root-inside, page-owned}
 use Rattle.addr_space.proofs.Clearing.{PageGone, page-gone, inside-of, taken-of}
-use Rattle.addr_space.proofs.free_leaf.Goals.{After-clear, After-read_page_entry}
+use Rattle.addr_space.proofs.free_leaf.Goals.{After-clear}
 use Rattle.addr_space.proofs.free_leaf.Goals as goal
 
 pub lower_table-requires-clause-root_in : goal.lower_table-requires-clause-root_in

@@ -1,4 +1,4 @@
-use Rattle.std.proofs.Common.{◌≡◌, ℕ, ◌+◌, ◌*◌, ◌/◌, ◌%◌, ◌<◌, true, Some, None, sym, ap, ◌∙◌, subst, arith}
+use Rattle.std.proofs.Common.{◌≡◌, ◌+◌, ◌*◌, ◌/◌, ◌%◌, Some, None, sym, ap, ◌∙◌, subst, arith}
 use Rattle.sv39_core.specs.Sv39.{entry_at, table_at}
 use Rattle.sv39_core.specs.Tree.{frame_of}
 use Rattle.addr_space.specs.Space.{Usual}

@@ -1,5 +1,5 @@
-use Rattle.std.proofs.Common.{◌≡◌, ℕ, ◌+◌, ◌*◌, ◌/◌, ◌%◌, ◌<◌, true, Some, None, refl, sym, ap, ◌∙◌, subst, arith}
-use Rattle.sv39_core.specs.Sv39.{entry_at, table_of, table_at}
+use Rattle.std.proofs.Common.{◌≡◌, ◌/◌, Some, None, refl, sym, ◌∙◌, subst, arith}
+use Rattle.sv39_core.specs.Sv39.{entry_at, table_at}
 use Rattle.addr_space.specs.Steps.{Cleared}
 use Rattle.sv39_core.proofs.Places.{root-inside, upper-entry}
 use Rattle.addr_space.proofs.Clearing.{TableGone, upper-gone, inside-of, taken-of, entry-lower, table-is, freed-upper}

@@ -1,4 +1,4 @@
-use Rattle.std.proofs.Common.{Some, sym, ap, ◌∙◌, ◌<◌, ◌%◌, ◌+◌, arith}
+use Rattle.std.proofs.Common.{Some, sym, ◌∙◌, ◌<◌, ◌%◌, ◌+◌, arith}
 use Rattle.std.specs.Prelude.{slice_index}
 use Rattle.phys_ram.specs.Ram.{word_at, frame_at}
 use Rattle.xk_base.specs.declared.limits.TheConstants.{PIPE_BYTES}

@@ -1,4 +1,4 @@
-use Rattle.std.proofs.Common.{◌≡◌, ◌/◌, Some, None, sym, ap, ◌∙◌, subst, arith}
+use Rattle.std.proofs.Common.{◌≡◌, Some, None, sym, ap, ◌∙◌, subst, arith}
 use Rattle.addr_space.specs.Space.{Usual}
 use Rattle.sv39_core.specs.Tree.{frame_of}
 use Rattle.addr_space.proofs.Paths.{leaves-after, beside-join}

@@ -12,7 +12,7 @@ use Rattle.xk_base.specs.Access.{data_rights}
 
 pub protect-requires-clause-there : goal.protect-requires-clause-there
 protect-requires-clause-there c =
-    let grew : image_of c.grow.new.ram c.grow.new.self ≡ grown (image_of c.args.ram.now c.args.space.now) (4096 * (c.args.guard + 2)) data_rights = c.in-Ok.ensures.image ∙ ap (grown (image_of c.args.ram.now c.args.space.now) (4096 * (c.args.guard + 2))) c.stack_perm.ensures in
+    let grew : image_of c.grow.new.ram c.grow.new.self ≡ grown (image_of c.args.ram.now c.args.space.now) (4096 * (c.args.guard + 2)) data_rights = c.in-Ok.ensures.image ∙ ap (grown (image_of c.args.ram.now c.args.space.now) (4096 * (c.args.guard + 2))) c.data.ensures in
     subst (HasPage (image_of c.grow.new.ram c.grow.new.self)) (sym c.new.ensures)
     (grown-has (image_of c.args.ram.now c.args.space.now) (image_of c.grow.new.ram c.grow.new.self) (4096 * (c.args.guard + 2)) c.args.guard data_rights grew (omega (arith, c.requires.behind)) (omega arith))
 
@@ -25,7 +25,7 @@ pub returns-clause-image : goal.returns-clause-image
 returns-clause-image c =
     let image = image_of c.args.ram.now c.args.space.now in
     let mid = image_of c.grow.new.ram c.grow.new.self in
-    let grew : mid ≡ grown image (4096 * (c.args.guard + 2)) data_rights = c.in-Ok.ensures.image ∙ ap (grown image (4096 * (c.args.guard + 2))) c.stack_perm.ensures in
+    let grew : mid ≡ grown image (4096 * (c.args.guard + 2)) data_rights = c.in-Ok.ensures.image ∙ ap (grown image (4096 * (c.args.guard + 2))) c.data.ensures in
     let there = grown-has image mid (4096 * (c.args.guard + 2)) c.args.guard data_rights grew (omega (arith, c.requires.behind)) (omega arith) in
     stack-is image mid (image_of c.protect.new.ram c.grow.new.self) c.args.guard there.0 grew there.1
     (subst (λ v. image_of c.protect.new.ram c.grow.new.self ≡ with_page mid v (protected there.0)) c.new.ensures

@@ -1,4 +1,4 @@
-use Rattle.std.proofs.Common.{arith, true, ◌+◌, ◌++◌, length, drop, sym, ap, ◌∙◌}
+use Rattle.std.proofs.Common.{arith, ◌+◌, ◌++◌, length, drop, sym, ap, ◌∙◌}
 use Rattle.std.proofs.lemmas.List.{length-take-le}
 use Rattle.xk_base.specs.declared.access.Access.TheVariants.{Load}
 use Rattle.xk_base.specs.Bytes.{image_bytes}

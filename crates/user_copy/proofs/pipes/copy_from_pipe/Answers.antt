@@ -1,4 +1,4 @@
-use Rattle.std.proofs.Common.{rules, arith, ◌≡◌, ◌+◌, ◌*◌, ◌-◌, ◌/◌, ◌%◌, ◌≤◌, length, take, drop, sym, ap, ◌∙◌, subst}
+use Rattle.std.proofs.Common.{rules, arith, ◌≡◌, ◌+◌, ◌*◌, ◌-◌, ◌/◌, ◌≤◌, length, take, drop, sym, ap, ◌∙◌, subst}
 use Rattle.xk_base.specs.Bytes.{HasPage, write_image}
 use Rattle.xk_base.proofs.Bytes.{write_image-nil, has-write_image}
 use Rattle.addr_space.specs.Space.{image_of}
