@@ -263,8 +263,12 @@ impl Pte {
         ensures { result ≡ (flag self 0 && (not (flag self 2) || flag self 1) && permits access (rights_of self)) }
     {
         let rights = self.rights();
-        let right = rights.allow(access) & (!rights.write | rights.read);
-        self.has(PteFlags::VALID) & rights.user & right
+        let of_user = self.has(PteFlags::VALID) & rights.user;
+        match access {
+            Access::Fetch => of_user & rights.execute & (!rights.write | rights.read),
+            Access::Load => of_user & rights.read,
+            Access::Store => of_user & rights.read & rights.write,
+        }
     }
 
     /// Whether the entry leads to a page whose rights permit user code an access, where RAM has so many frames.
