@@ -9,7 +9,7 @@ ghost use Rattle.kcall_core.specs.Holdings.{held_at, HasMemory, with_image};
 ghost use Rattle.kcall_core.specs.Memories.{each_of, free_of, AreSound, RunsIn, SlotChanges};
 
 use crate::memories::Memories;
-use xk_base::limits::VPN_END;
+use xk_base::limits::ADDRESS_END;
 use xk_base::{Access, Vpn};
 
 impl Memories {
@@ -30,12 +30,10 @@ impl Memories {
         ensures { result ≡ is_absent (held_at (each_of self.now) slot).image (address / 4096) }
     {
         let memory = self.memory(slot);
-        if address / 4096 >= VPN_END as u64 {
+        if address >= ADDRESS_END {
             return false;
         }
-        memory
-            .space
-            .absent(&self.ram, Vpn::new((address / 4096) as u32))
+        memory.space.absent(&self.ram, Vpn::of_address(address))
     }
 
     /// The absent pages in which one of so many bytes from an address on lies come, with zeros. They come where

@@ -12,7 +12,10 @@ ghost use Rattle.kcall_core.specs.ObservedFrames.{page_frame_in, IsInTree, IsOff
 use crate::memories::Memories;
 use addr_space::Space;
 use phys_ram::Ram;
-use sv39_core::{Entry, read_entry, read_table};
+use sv39_core::{
+    Entry, TABLE_ENTRIES, UPPER_TABLE_PAGES, read_entry, read_lower_table, read_upper_table,
+    upper_table_end,
+};
 use xk_base::limits::NPROC;
 use xk_base::{Frame, Vpn};
 
@@ -50,7 +53,7 @@ fn upper_table(ram: &Ram, root: Frame, v: usize) -> Option<Frame>
     ensures table { result ≡ table_at ram.now root 1 (v / 262144) }
     ensures inside { IfSome result (λ f. f < length ram.now) }
 {
-    read_table(ram, root, v / 262144)
+    read_upper_table(ram, root, v)
 }
 
 /// The lower table on the way to a page below an upper table.
@@ -61,7 +64,7 @@ fn lower_table(ram: &Ram, root: Frame, upper: Frame, v: usize) -> Option<Frame>
     ensures inside { IfSome result (λ f. f < length ram.now) }
 {
     let _ = root.number();
-    read_table(ram, upper, v / 512 % 512)
+    read_lower_table(ram, upper, v)
 }
 
 /// The entry of a lower table, of the first `count`, that leads to the page in a frame.
@@ -90,23 +93,23 @@ fn role_below(ram: &Ram, root: Frame, end: usize, frame: Frame) -> Option<FrameR
     let mut v = 0;
     'tables: while v < end {
         let Some(upper) = upper_table(ram, root, v) else {
-            v = (v / 262144 + 1) * 262144;
+            v = upper_table_end(v);
             continue 'tables;
         };
         if upper.number() == frame.number() {
-            return Some(FrameRole::Upper((v / 262144) as u32));
+            return Some(FrameRole::Upper((v / UPPER_TABLE_PAGES) as u32));
         }
         let Some(lower) = lower_table(ram, root, upper, v) else {
-            v += 512;
+            v += TABLE_ENTRIES;
             continue 'tables;
         };
         if lower.number() == frame.number() {
-            return Some(FrameRole::Lower((v / 512) as u32));
+            return Some(FrameRole::Lower((v / TABLE_ENTRIES) as u32));
         }
-        if let Some(i) = page_among(ram, lower, (end - v).min(512), frame) {
+        if let Some(i) = page_among(ram, lower, (end - v).min(TABLE_ENTRIES), frame) {
             return Some(FrameRole::Page(Vpn::new((v + i) as u32)));
         }
-        v += 512;
+        v += TABLE_ENTRIES;
     }
     None
 }
