@@ -19,8 +19,6 @@ mod playing;
 mod recording;
 mod resting;
 mod screen;
-#[cfg(test)]
-mod tests;
 mod trouble;
 
 pub use attending::attend;

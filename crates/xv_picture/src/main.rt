@@ -12,8 +12,6 @@ mod note;
 mod picture;
 mod remark;
 mod row;
-#[cfg(test)]
-mod tests;
 
 use crate::chart::Chart;
 use crate::line::{Told, lines_of};

@@ -14,8 +14,6 @@ mod file;
 mod line;
 mod refusal;
 mod sums;
-#[cfg(test)]
-mod tests;
 
 pub use events::{events_text, read_events};
 pub use file::{Record, read_record, record_text};

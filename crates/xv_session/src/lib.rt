@@ -20,6 +20,3 @@ pub use names::Named;
 pub use running::Runs;
 pub use session::{Session, SessionError};
 pub use until::{Condition, Search};
-
-#[cfg(test)]
-mod tests;

@@ -1,11 +1,11 @@
 //! The text of a record, to the letter, and what is refused.
-use crate::{
-    Line, ProgramSum, Record, RecordError, RecordRefusal, chosen, read_record, record_text, sum_of,
-};
 use std::alloc::{AllocError, Global};
 use std::process::Abort;
 use std::test::Fail;
 use xk_base::Program;
+use xv_record::{
+    Line, ProgramSum, Record, RecordError, RecordRefusal, chosen, read_record, record_text, sum_of,
+};
 
 fn program(alloc: Global, name: &str, bytes: &[u8]) -> Result<Program, AllocError> {
     Ok(Program {

@@ -1,5 +1,5 @@
-//! What no clause says.
-use crate::keys::Key;
+//! Keys that the terminal takes for itself.
+use xv_live::Key;
 
 #[test]
 fn three_keys_are_not_the_machines(rt: HostRuntime) {

@@ -1,10 +1,10 @@
 //! Sessions of small programs: that each call can succeed, and what a report of a fault says.
-use crate::{Condition, Session, fault_of_run, next_step};
 use std::alloc::{AllocError, Global};
 use std::process::Abort;
 use std::test::Fail;
 use xk_base::{BootError, Pid, Program};
 use xv_machine::{Config, Event, Outcome};
+use xv_session::{Condition, Session, fault_of_run, next_step};
 
 /// Where the file of a program has its code: behind the header and one program header (ELF-64 Object File Format).
 const CODE_AT: u64 = 64 + 56;

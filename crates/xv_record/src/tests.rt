@@ -1,2 +1,0 @@
-//! Records that are written and read.
-mod texts;
