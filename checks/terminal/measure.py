@@ -2,8 +2,8 @@
 """Measures xv_terminal, beside xv_run, in one run: checks/terminal/measure.py [XV_TERMINAL [XV_RUN]].
 
 speed  a program that computes, by both programs in turn: the ratio of the least processor times, which is to be 0.8 at least
-echo   how long a key takes to be echoed while a program computes, and while one forks, the median and the worst of 100 keys:
-       20 milliseconds at most, if a processor is free; and how much of that is processor time of xv_terminal's own
+echo   how long a key takes to be echoed while a program computes, and while one forks: 20 milliseconds at most, if a
+       processor is free; and how much of that is processor time of xv_terminal's own
 idle   the processor time that is taken while all sleep: 1 hundredth at most
 
 The programs are those that are built, unless they are given. The status is 0 if all are as they should be.
@@ -19,9 +19,8 @@ import termios
 import time
 
 TOP = os.path.dirname(os.path.dirname(os.path.dirname(os.path.abspath(__file__))))
-PLACE = TOP + ("/libexec/{0}" if os.path.isdir(TOP + "/libexec") else "/crates/{0}/out/{0}")
-TERMINAL = sys.argv[1] if len(sys.argv) > 1 else PLACE.format("xv_terminal")
-RUN = sys.argv[2] if len(sys.argv) > 2 else PLACE.format("xv_run")
+TERMINAL = sys.argv[1] if len(sys.argv) > 1 else TOP + "/crates/xv_terminal/out/xv_terminal"
+RUN = sys.argv[2] if len(sys.argv) > 2 else TOP + "/crates/xv_run/out/xv_run"
 
 # 400 million instructions, and then the end.
 COMPUTES = """
@@ -163,10 +162,8 @@ def echo(init, what):
     end(pid, fd)
     waits.sort()
     own.sort()
-    print(
-        f"echo while it {what}: median {1000 * waits[50]:.2f} ms, worst {1000 * waits[-1]:.2f} ms, of 100 keys;"
-        f" of that xv_terminal's own processor time: median {1000 * own[50]:.2f} ms, worst {1000 * own[-1]:.2f} ms"
-    )
+    print(f"echo while it {what}: {1000 * waits[50]:.2f} ms in the middle, {1000 * waits[-1]:.2f} ms at most, of 100 keys")
+    print(f"    its own processor time: {1000 * own[50]:.2f} ms in the middle, {1000 * own[-1]:.2f} ms at most")
     return waits[-1] <= 0.02
 
 

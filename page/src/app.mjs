@@ -27,16 +27,9 @@ export function ask(what, it = {}) {
   app.worker.postMessage({ do: what, ...it });
 }
 
-let hushes = 0;
-/** Says something, seen and read out, for some seconds. */
+/** Says something to readers of the screen, and in the status line. */
 export function say(text) {
-  clearTimeout(hushes);
   $("status").textContent = text;
-  hushes = setTimeout(hush, 4000 + 60 * text.length);
-}
-/** Takes away what was said. */
-export function hush() {
-  $("status").textContent = "";
 }
 
 export function element(name, attributes = {}, ...children) {

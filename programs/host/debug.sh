@@ -3,14 +3,32 @@
 #
 #   programs/host/debug.sh [--frames N] [--trace N] FILE..
 #
-# Lines come from lines.sh. XV_DEBUGGER is another program than the one that stands built, or came with a release.
+# Lines come from lines.sh. XV_DEBUGGER is another program than the one that stands built.
 set -u
 root=$(dirname "$(readlink -f -- "$0")")/../..
-program=$root/bin/xv_debugger
-[ -x "$program" ] || program=$root/crates/xv_debugger/out/xv_debugger
-program=${XV_DEBUGGER:-$program}
+program=${XV_DEBUGGER:-$root/crates/xv_debugger/out/xv_debugger}
 
-table=$("$root/programs/host/lines.sh" "$@")
+# The words that are no option stay: the FILEs.
+files() {
+    before=
+    for word; do
+        case $before in
+            --frames | --trace) before= && continue ;;
+        esac
+        before=$word
+        case $word in
+            -*) ;;
+            *) printf '%s\n' "$word" ;;
+        esac
+    done
+}
+
+IFS='
+'
+set -f
+# A path may hold a blank, and no line's end.
+# shellcheck disable=SC2046
+table=$("$root/programs/host/lines.sh" $(files "$@"))
 [ ! -t 0 ] || set -- --prompt "$@"
 exec "$program" --lines /dev/fd/3 "$@" 3<<END
 $table

@@ -1,3 +1,2 @@
 pub mod Played
 pub mod Reached
-pub mod Stretched

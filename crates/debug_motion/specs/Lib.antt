@@ -1,6 +1,5 @@
 pub mod Aims
 pub mod Effects
-pub mod Ran
 pub mod Reaching
 pub mod Resting
 pub mod Rounds

@@ -20,6 +20,8 @@ const STACK_POINTER: u8 = 2;
 /// What Runs are sent for.
 #[derive(Clone, Copy)]
 pub enum Aim {
+    /// Nothing: no Run is what is waited for.
+    Nothing,
     /// Any event.
     Anything,
     /// The process's next step, which may be its end.
@@ -163,6 +165,7 @@ pub(crate) fn is_met(aim: &Aim, outcome: &Outcome, machine: &Machine) -> bool
     ensures { result ≡ meant.meets aim.now (outcome_of outcome.now) machine.now.world }
 {
     match *aim {
+        Aim::Nothing => false,
         Aim::Anything => true,
         Aim::Step(pid) => is_step(outcome, pid),
         Aim::Answer(pid) => is_answer(outcome, pid),

@@ -1,4 +1,3 @@
-pub mod Common
 pub mod worked
 pub mod rows
 pub mod steps

@@ -15,6 +15,7 @@ pub mod RowNumbers
 pub mod Decoding
 pub mod NoRow
 pub mod Falls
+pub mod Plain
 pub mod Resized
 pub mod Pids
 pub mod CleanPages
@@ -25,6 +26,5 @@ pub mod OwnBytes
 pub mod SetBytes
 pub mod WholePages
 pub mod MayStore
-pub mod BareDescriptors
 pub mod Again
 pub mod Asleep

@@ -1,4 +1,3 @@
-pub mod Conversed
 pub mod PipeBytes
 pub mod Results
 pub mod Searching

@@ -1,4 +1,3 @@
-pub mod Conversations
 pub mod Effects
 pub mod Focus
 pub mod Instructions

@@ -2,5 +2,4 @@ pub mod Lines
 pub mod Records
 pub mod Settings
 pub mod Statuses
-pub mod Stretches
 pub mod Tells

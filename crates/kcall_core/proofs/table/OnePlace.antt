@@ -3,7 +3,6 @@ use Rattle.std.proofs.Common.{◌≡◌, ◌≢◌, ℕ, ◌<◌, List, length, 
 use Rattle.std.specs.Prelude.{option_map, is_none}
 use Rattle.std.proofs.lemmas.Bool.{cases_eq}
 use Rattle.std.proofs.lemmas.List.{get_or-set_same, get_or-set_other}
-use Rattle.std.proofs.lemmas.Option.{none-some}
 use Rattle.xk_base.specs.declared.limits.TheConstants.{NPROC}
 use Rattle.file_table.specs.Named.{none_named}
 use Rattle.proc_table.specs.Processes.{status_of, channel_of, state_channel, state_status, in_call, asleep, state_in_call, state_asleep}
@@ -17,6 +16,7 @@ use Rattle.file_table.specs.declared.open_file.Entry.{Entry}
 use Rattle.kernel_spec.specs.views.WellFormed.{sum_below}
 use Rattle.kcall_core.specs.Machine.{slots_of, sleeper_in, sleepers_below}
 use Rattle.kcall_core.specs.Whole.{AreCounted, named_in}
+use Rattle.kcall_core.proofs.table.States.{none-some}
 use Rattle.kcall_core.proofs.turns.Turned.{slots-same, sleepers-same, sleeper-same}
 
 -- one place has another process of the same pid, and nothing else of the table is another
@@ -78,28 +78,28 @@ pub in-call-lives : (call : Option Call) (p : Process) → status_of p ≡ None 
 in-call-lives call p lives = by p.state lives
   where
     by : (s : table.State) → state_status s ≡ None → state_status (state_in_call call s) ≡ None
-    by (table_state.Live life) e = refl
+    by (table_state.Live marked before channel) e = refl
     by (table_state.Zombie status) e = e
 
 pub in-call-channel : (call : Option Call) (p : Process) → channel_of (in_call call p) ≡ channel_of p
 in-call-channel call p = by p.state
   where
     by : (s : table.State) → state_channel (state_in_call call s) ≡ state_channel s
-    by (table_state.Live life) = refl
+    by (table_state.Live marked before channel) = refl
     by (table_state.Zombie status) = refl
 
 pub asleep-lives : (on : Channel) (p : Process) → status_of p ≡ None → status_of (asleep on p) ≡ None
 asleep-lives on p lives = by p.state lives
   where
     by : (s : table.State) → state_status s ≡ None → state_status (state_asleep on s) ≡ None
-    by (table_state.Live life) e = refl
+    by (table_state.Live marked call channel) e = refl
     by (table_state.Zombie status) e = e
 
 pub asleep-channel : (on : Channel) (p : Process) → status_of p ≡ None → channel_of (asleep on p) ≡ Some on
 asleep-channel on p lives = by p.state lives
   where
     by : (s : table.State) → state_status s ≡ None → state_channel (state_asleep on s) ≡ Some on
-    by (table_state.Live life) e = refl
+    by (table_state.Live marked call channel) e = refl
     by (table_state.Zombie status) e = absurd (none-some status (sym e))
 
 -- what is another twice in one place is another

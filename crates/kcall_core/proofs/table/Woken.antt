@@ -5,7 +5,6 @@ use Rattle.std.specs.FinMap.{get}
 use Rattle.std.proofs.Math.Path.{fun_ext}
 use Rattle.std.proofs.lemmas.Bool.{cases_lt}
 use Rattle.std.proofs.lemmas.List.{get_or_past, get_or-map, length-map}
-use Rattle.std.proofs.lemmas.Iterator.Adapters.{option_map_id}
 use Rattle.xk_base.specs.declared.limits.TheConstants.{NPROC}
 use Rattle.rv64i_core.specs.Registers.{Registers}
 use Rattle.hart_core.specs.declared.hart.Hart.{Hart}
@@ -21,7 +20,7 @@ use Rattle.kcall_core.specs.Closings.{unless_woken, state_woken_by, woken_by}
 use Rattle.kcall_core.specs.Holdings.{Held}
 use Rattle.kcall_core.specs.Kernel.{process_of, entry_at, state_of, IsSound}
 use Rattle.kcall_core.specs.declared.kernel.Kernel.{Kernel}
-use Rattle.kcall_core.proofs.table.Adopted.{changed-state, changed-sound}
+use Rattle.kcall_core.proofs.table.Adopted.{changed-state, changed-sound, same-all}
 
 -- ---- one process
 
@@ -34,7 +33,7 @@ woken-is wakes on is p = ap (λ s. record p { state = s }) (by p.state)
     left (Some c) = ap (λ b. cond b None (Some c)) (sym (is c))
 
     by : (s : table.State) → state_woken on s ≡ state_woken_by wakes s
-    by (Live_state life) = ap (λ o. Live_state (record life { channel = o })) (left life.channel)
+    by (Live_state marked call channel) = ap (Live_state marked call) (left channel)
     by (Zombie_state status) = refl
 
 -- nobody wakes
@@ -46,7 +45,7 @@ woken-none wakes none p = ap (λ s. record p { state = s }) (by p.state)
     left (Some c) = ap (λ b. cond b None (Some c)) (none c)
 
     by : (s : table.State) → state_woken_by wakes s ≡ s
-    by (Live_state life) = ap (λ o. Live_state (record life { channel = o })) (left life.channel)
+    by (Live_state marked call channel) = ap (Live_state marked call) (left channel)
     by (Zombie_state status) = refl
 
 -- those on some channels wake, and then those on others
@@ -62,7 +61,7 @@ woken-twice first then_on both is p = ap (λ s. record p { state = s }) (by p.st
     left (Some c) = one c (first c) ∙ ap (λ b. cond b None (Some c)) (is c)
 
     by : (s : table.State) → state_woken_by then_on (state_woken_by first s) ≡ state_woken_by both s
-    by (Live_state life) = ap (λ o. Live_state (record life { channel = o })) (left life.channel)
+    by (Live_state marked call channel) = ap (Live_state marked call) (left channel)
     by (Zombie_state status) = refl
 
 -- who sleeps on one of them sleeps no more
@@ -70,21 +69,21 @@ pub woken-channel : (wakes : Channel → Bool) (p : Process) → channel_of (wok
 woken-channel wakes p = by p.state
   where
     by : (s : table.State) → state_channel (state_woken_by wakes s) ≡ unless_woken wakes (state_channel s)
-    by (Live_state life) = refl
+    by (Live_state marked call channel) = refl
     by (Zombie_state status) = refl
 
 pub woken_by-status : (wakes : Channel → Bool) (p : Process) → status_of (woken_by wakes p) ≡ status_of p
 woken_by-status wakes p = by p.state
   where
     by : (s : table.State) → state_status (state_woken_by wakes s) ≡ state_status s
-    by (Live_state life) = refl
+    by (Live_state marked call channel) = refl
     by (Zombie_state status) = refl
 
 pub woken_by-means : (wakes : Channel → Bool) (x : Process) (files : List (Option ℕ)) (held : Held) (regs : Registers) → process_of (woken_by wakes x) files held regs ≡ process_of x files held regs
 woken_by-means wakes x files held regs = by x.state
   where
     by : (s : table.State) → process_of (record x { state = state_woken_by wakes s }) files held regs ≡ process_of (record x { state = s }) files held regs
-    by (Live_state life) = refl
+    by (Live_state marked call channel) = refl
     by (Zombie_state status) = refl
 
 -- ---- the table
@@ -101,7 +100,7 @@ live-woken wakes None = refl
 live-woken wakes (Some p) = by p.state
   where
     by : (s : table.State) → place_is_live (Some (record p { state = state_woken_by wakes s })) ≡ place_is_live (Some (record p { state = s }))
-    by (Live_state life) = refl
+    by (Live_state marked call channel) = refl
     by (Zombie_state status) = refl
 
 pub each-woken : (wakes : Channel → Bool) (on : Channel) (t : Slots) → ((c : Channel) → wakes c ≡ same_channel c on) → each_changed (woken on) t ≡ each_changed (woken_by wakes) t
@@ -127,7 +126,7 @@ option-twice f g u is (Some p) = ap Some (is p)
 module _ (k k' : Kernel) (wakes : Channel → Bool) (table : k'.table ≡ each_changed (woken_by wakes) k.table) (rest : k' ≡ record k { table = k'.table }) where
   pub stirred-state : (h : Hart) → state_of k' h ≡ state_of k h
   unfolding state_of
-  stirred-state h = changed-state k k' (woken_by wakes) (λ x. x) table rest (λ x. refl) (woken_by-status wakes) (woken_by-means wakes) h (by_pid (entry_at k h) NPROC) (λ q. option_map_id (get (by_pid (entry_at k h) NPROC) q))
+  stirred-state h = changed-state k k' (woken_by wakes) (λ x. x) table rest (λ x. refl) (woken_by-status wakes) (woken_by-means wakes) h (by_pid (entry_at k h) NPROC) (λ q. same-all (get (by_pid (entry_at k h) NPROC) q))
 
   pub stirred-sound : (h : Hart) → IsSound k h → IsSound k' h
   stirred-sound h sound = changed-sound k k' (woken_by wakes) (λ x. x) table rest (λ x. refl) (woken_by-status wakes) (woken_by-means wakes) h sound

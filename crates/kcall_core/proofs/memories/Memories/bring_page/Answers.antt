@@ -12,9 +12,8 @@ use Rattle.kcall_core.proofs.memory.Changes.{there-below, there-some, stands, be
 use Rattle.kcall_core.proofs.memory.Lists.{set-twice, set-read}
 use Rattle.kcall_core.proofs.memory.Vectors.{vec-same}
 use Rattle.kcall_core.proofs.memory.Runs.{grown-runs}
-use Rattle.kcall_core.proofs.memory.Written.{bring-seen, if-fine, if-refused}
+use Rattle.kcall_core.proofs.memory.Written.{absent-none, bring-seen, if-fine, if-refused}
 use Rattle.kcall_core.proofs.memories.Memories.bring_page.Goals as goal
-use Rattle.kernel_spec.proofs.rows.Settled.{absent-not-there}
 
 pub index_mut-requires : goal.index_mut-requires
 index_mut-requires c = there-below _ _ c.requires.there
@@ -28,7 +27,7 @@ map_zeroed-came-requires-clause-belongs c = belongs-of (stands c.index_mut.resul
 pub map_zeroed-came-requires-clause-absent : goal.map_zeroed-came-requires-clause-absent
 map_zeroed-came-requires-clause-absent c =
     let s = stands c.index_mut.result.now c.in-Some.memory c.requires.sound c.requires.there c.index_mut.ensures.value (sym c.take.ensures.value ∙ c.in-Some.is) in
-    ap (λ (i : Image). get i.pages c.args.vpn) (sym (image-seen s)) ∙ absent-not-there (held_at (each_of c.args.self.now) c.args.slot).image c.args.vpn c.requires.absent
+    ap (λ (i : Image). get i.pages c.args.vpn) (sym (image-seen s)) ∙ absent-none (held_at (each_of c.args.self.now) c.args.slot).image c.args.vpn c.requires.absent
 
 pub index_mut-requires-2 : goal.index_mut-requires-2
 index_mut-requires-2 c = there-below _ _ c.requires.there
@@ -39,7 +38,7 @@ returns-clause-brought c e =
     let came = c.map_zeroed-came.result in
     let fine = sym c.is_ok.ensures.value ∙ e in
     space-changes _ c.map_zeroed-came.new.self _ s (if-fine came fine c.map_zeroed-came.ensures.changed)
-    (if-fine came fine c.map_zeroed-came.ensures.image ∙ ap (λ p. with_page (image_of c.args.self.now.ram c.in-Some.memory.space) c.args.vpn (zeroed p)) c.data.ensures ∙ bring-seen s c.args.vpn c.requires.absent)
+    (if-fine came fine c.map_zeroed-came.ensures.image ∙ ap (λ p. with_page (image_of c.args.self.now.ram c.in-Some.memory.space) c.args.vpn (zeroed p)) c.data_rights.ensures ∙ bring-seen s c.args.vpn c.requires.absent)
     (set-twice c.args.self.now.each.items c.args.slot c.take.new.self (Some record { space = c.map_zeroed-came.new.self; trapframe = c.in-Some.memory.trapframe })) refl
 
 pub returns-clause-runs : goal.returns-clause-runs
@@ -58,5 +57,5 @@ returns-clause-refused c e =
     let put : Space → List (Option Memory) = λ x. set items c.args.slot (Some record { space = x; trapframe = c.in-Some.memory.trapframe }) in
     let back = set-twice items c.args.slot c.take.new.self (Some record { space = c.map_zeroed-came.new.self; trapframe = c.in-Some.memory.trapframe }) ∙ ap put h.1.same_space ∙ set-read items c.args.slot (Some c.in-Some.memory) None s.inside s.is in
     let set_back = with_item (with_item old.each c.args.slot c.take.new.self) c.args.slot (Some record { space = c.map_zeroed-came.new.self; trapframe = c.in-Some.memory.trapframe }) in
-    let brought = ap (λ p. with_page (image_of old.ram c.in-Some.memory.space) c.args.vpn (zeroed p)) c.data.ensures ∙ bring-seen s c.args.vpn c.requires.absent in
+    let brought = ap (λ p. with_page (image_of old.ram c.in-Some.memory.space) c.args.vpn (zeroed p)) c.data_rights.ensures ∙ bring-seen s c.args.vpn c.requires.absent in
     (omega (arith, h.0, ap price (image-seen s), ap price brought), λ i. record { ram = h.1.same_ram i; pool = h.1.same_pool i; each = vec-same old.each set_back.items set_back.ok back i; pipes = old.pipes })

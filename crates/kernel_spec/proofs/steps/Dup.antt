@@ -1,0 +1,118 @@
+-- Dup.
+use Rattle.std.proofs.Common.{◌≡◌, ◌≢◌, ℕ, ◌<◌, Bool, true, false, cond, refl, ap, sym, ◌∙◌, subst}
+use Rattle.std.proofs.Math.Path.{fun_ext}
+use Rattle.std.specs.Prelude.{Option, None, Some, pos, option_map, nat_eq}
+use Rattle.std.specs.FinMap.{FinMap, get, insert}
+use Rattle.std.specs.Ordering.{nat_cmp}
+use Rattle.xk_base.specs.declared.limits.TheConstants.{NOFILE}
+use Rattle.kernel_spec.specs.views.Words.{word, with_value}
+use Rattle.pipe_core.specs.Pipe.{Pipe}
+use Rattle.file_table.specs.declared.open_file.OpenFile.{OpenFile}
+use Rattle.file_table.specs.declared.open_file.Target.{Target}
+use Rattle.file_table.specs.declared.open_file.Target.TheVariants.{Console as Terminal, Program as File, Pipe as Pipe_end}
+use Rattle.kernel_spec.specs.views.Processes.{Alive, Live}
+use Rattle.proc_table.specs.declared.process.Call.{Call}
+use Rattle.kernel_spec.specs.views.State.{State, live, live_part}
+use Rattle.kernel_spec.specs.views.View.{Descriptors, Descriptor, named, numbered, rename, descriptor_at, descriptor_on, show, or_gone, view_of}
+use Rattle.kernel_spec.specs.steps.Own.{Own, Called, goes_on}
+use Rattle.kernel_spec.specs.rows.Tables.{with_copy, one_more_on}
+use Rattle.kernel_spec.specs.rows.Calls.{with_a0}
+use Rattle.kernel_spec.specs.others.Quiet.{Quiet, file_at, file_of, pipe_at, pipe_of_file, pipe_of_open, pipe_of_target, offset_left, pipe_left, shown_offset, shown_pipe}
+use Rattle.kernel_spec.specs.steps.Updates.{changed_state}
+use Rattle.kernel_spec.proofs.steps.Maps.{get_at, get_other}
+use Rattle.kernel_spec.proofs.steps.Frame.{Tells, Spares, OtherNames, open_offset, target_offset}
+use Rattle.kernel_spec.proofs.steps.Tell.{quiet_from}
+use Rattle.kernel_spec.proofs.steps.Names.{named_at, named_copy}
+use Rattle.kernel_spec.proofs.steps.Change.{view_changed, leaves_changed}
+use Rattle.kernel_spec.proofs.rows.RowParts.{dup_at}
+
+-- ---- a table with more descriptors tells what p's descriptors were on
+
+module _ (s t : State) (p : ℕ) (l m : Live) (is : live s p ≡ Some l) (wider : (e g : ℕ) → get l.descriptors e ≡ Some g → get m.descriptors e ≡ Some g)
+    (same_files : (g : ℕ) → OtherNames s p g → get t.files g ≡ get s.files g) (same_opened : (e g : ℕ) → get l.descriptors e ≡ Some g → get t.files g ≡ get s.files g) where
+  abbrev table : Descriptors
+  table = numbered t m
+
+  file_here : (e g : ℕ) → file_at s p e ≡ Some g → get l.descriptors e ≡ Some g
+  file_here e g h = sym (ap (λ (o : Option Live). file_of o e) is) ∙ h
+
+  offset_shown : (n : ℕ) (x : Target) → shown_offset n (rename table (record { file = 0; read = true; write = true; shown = show t x })).shown ≡ target_offset n x
+  offset_shown n Terminal = refl
+  offset_shown n (File program offset) = refl
+  offset_shown n (Pipe_end j e) = refl
+
+  offset_on : (g n : ℕ) (o : Option OpenFile) → offset_left n (option_map (rename table) (descriptor_on t g o)) ≡ open_offset n o
+  offset_on g n None = refl
+  offset_on g n (Some x) = offset_shown n x.target
+
+  pipe_shown : (j : ℕ) (x : Pipe) (y : Target) → pipe_of_target y ≡ Some j → shown_pipe x (rename table (record { file = 0; read = true; write = true; shown = show t y })).shown ≡ or_gone (get t.pipes j)
+  pipe_shown j x Terminal e = let no : ⊥ = cc in absurd no
+  pipe_shown j x (File program offset) e = let no : ⊥ = cc in absurd no
+  pipe_shown j x (Pipe_end k end) e = let same : k ≡ j = cc in ap (λ (i : ℕ). or_gone (get t.pipes i)) same
+
+  pipe_on : (g j : ℕ) (x : Pipe) (o : Option OpenFile) → pipe_of_open o ≡ Some j → pipe_left x (option_map (rename table) (descriptor_on t g o)) ≡ or_gone (get t.pipes j)
+  pipe_on g j x None e = let no : ⊥ = cc in absurd no
+  pipe_on g j x (Some y) e = pipe_shown j x y.target e
+
+  pipe_case : (e j : ℕ) (x : Pipe) (o : Option ℕ) → get l.descriptors e ≡ o → pipe_of_file s o ≡ Some j → pipe_left x (option_map (rename table) (descriptor_at t (get m.descriptors e))) ≡ or_gone (get t.pipes j)
+  pipe_case e j x None is_o h = let no : ⊥ = cc in absurd no
+  pipe_case e j x (Some g) is_o h =
+      ap (λ (o : Option ℕ). pipe_left x (option_map (rename table) (descriptor_at t o))) (wider e g is_o)
+      ∙ pipe_on g j x (get t.files g) (ap pipe_of_open (same_opened e g is_o) ∙ h)
+
+  pub wider_tells : Tells s t p (named table)
+  wider_tells = record {
+    offset = λ e g n other below h.
+        ap (offset_left n) (named_at table e below ∙ ap (λ (o : Option ℕ). option_map (rename table) (descriptor_at t o)) (wider e g (file_here e g h)))
+        ∙ offset_on g n (get t.files g);
+    pipe = λ e j x other below h.
+        ap (pipe_left x) (named_at table e below) ∙ pipe_case e j x (get l.descriptors e) refl (sym (ap (λ (o : Option Live). pipe_of_file s (file_of o e)) is) ∙ h);
+  }
+
+-- ---- dup
+
+module _ (s : State) (p : ℕ) (old : Live) (was : get s.processes p ≡ Some (Alive old)) (c : Call) (j k f : ℕ) (below : j < NOFILE)
+    (source : get old.descriptors j ≡ Some f) (unused : get old.descriptors k ≡ None) (x : Descriptor) (seen : (view_of s p old).descriptors j ≡ Some x)
+    (pipes : FinMap nat_cmp Pipe) where
+  abbrev pub duplicated : Live
+  duplicated = record old { regs = with_a0 old.regs (word (pos k)); call = None; descriptors = insert old.descriptors k f }
+
+  abbrev pub after : State
+  after = changed_state p duplicated s.files pipes s.console s.free s
+
+  -- the table under the kernel's own numbers, with the pipes as they are after the step
+  abbrev counted : Descriptors
+  counted = numbered after old
+
+  copied_at : (d : ℕ) (b : Bool) → descriptor_at after (cond b (Some f) (get old.descriptors d)) ≡ cond b (counted j) (counted d)
+  copied_at d true = ap (descriptor_at after) (sym source)
+  copied_at d false = refl
+
+  copied : numbered after duplicated ≡ with_value counted k (counted j)
+  copied = fun_ext (λ d. ap (descriptor_at after) (get_at old.descriptors k f d) ∙ copied_at d (nat_eq d k))
+
+  module _ (more : one_more_on x.shown (named (numbered s old)) ≡ named counted) where
+    next_table : with_copy k j (one_more_on x.shown (named (numbered s old))) ≡ named (numbered after duplicated)
+    next_table = ap (with_copy k j) more ∙ named_copy counted k j below ∙ sym (ap named copied)
+
+    pub dup_own : dup_at c (view_of s p old) j x (Some k) ≡ goes_on (Called c.number (pos k)) (view_of after p duplicated)
+    unfolding view_of
+    dup_own = ap (goes_on (Called c.number (pos k))) (view_changed s p old was (with_a0 old.regs (word (pos k))) old.image None old.killed (insert old.descriptors k f) s.files pipes s.console s.free (with_copy k j (one_more_on x.shown (named (numbered s old)))) next_table)
+
+  module _ (spared : (i : ℕ) → ((e : ℕ) → e < NOFILE → pipe_at s p e ≢ Some i) → get pipes i ≡ get s.pipes i) where
+    apart : (d g : ℕ) → get old.descriptors d ≡ Some g → d ≢ k
+    apart d g e h = let i : get old.descriptors d ≡ get old.descriptors k = ap (get old.descriptors) h in let no : ⊥ = cc in no
+
+    pub dup_tells : Tells s after p (named (numbered after duplicated))
+    dup_tells = wider_tells s after p old duplicated (ap live_part was) (λ e g h. get_other old.descriptors k f e (apart e g h) ∙ h) (λ g other. refl) (λ e g h. refl)
+
+    pub dup_spares : Spares s after p
+    dup_spares = record { file = λ g other h. refl; pipe = λ i other h. spared i h; kinds = λ g other. refl }
+
+    pub dup_quiet : (o : Own) → o ≡ goes_on (Called c.number (pos k)) (view_of after p duplicated) → Quiet s (view_of s p old) o after
+    unfolding view_of
+    dup_quiet o is = subst (λ (z : Own). Quiet s (view_of s p old) z after) (sym is)
+        (quiet_from s after (view_of s p old) (goes_on (Called c.number (pos k)) (view_of after p duplicated))
+        (leaves_changed s p old was (with_a0 old.regs (word (pos k))) old.image None old.killed (insert old.descriptors k f) s.files pipes s.console s.free (Called c.number (pos k)) refl (named (numbered after duplicated))
+        (wider_tells s after p old duplicated (ap live_part was) (λ e g h. get_other old.descriptors k f e (apart e g h) ∙ h) (λ g other. refl) (λ e g h. refl))
+        (record { file = λ g other h. refl; pipe = λ i other h. spared i h; kinds = λ g other. refl })))

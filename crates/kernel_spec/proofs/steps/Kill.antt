@@ -1,0 +1,108 @@
+-- Kill.
+use Rattle.std.proofs.Common.{◌≡◌, ℕ, Bool, true, false, cond, not, ◌||◌, refl, ap, sym, ◌∙◌, subst}
+use Rattle.std.specs.Prelude.{Option, None, Some, pos, option_map, nat_eq}
+use Rattle.std.specs.List.{list_any}
+use Rattle.std.specs.FinMap.{get, keys}
+use Rattle.kernel_spec.specs.views.Words.{is_this, word}
+use Rattle.kernel_spec.specs.views.Processes.{Process, Alive, Live, Zombie}
+use Rattle.proc_table.specs.declared.process.Call.{Call}
+use Rattle.kernel_spec.specs.views.State.{State, live, live_part}
+use Rattle.kernel_spec.specs.views.View.{view, view_of, child_of}
+use Rattle.kernel_spec.specs.steps.Own.{Own, Called, goes_on}
+use Rattle.kernel_spec.specs.rows.Calls.{done, with_a0}
+use Rattle.kernel_spec.specs.others.Quiet.{Quiet}
+use Rattle.kernel_spec.specs.steps.Updates.{kill_state, own_state, marked}
+use Rattle.kernel_spec.proofs.steps.Maps.{get_same}
+use Rattle.kernel_spec.proofs.steps.SetLive.{same_child, same_keys, live-set_live_there}
+use Rattle.kernel_spec.proofs.steps.Tell.{Leaves, quiet_from, own_table_tells}
+use Rattle.kernel_spec.proofs.steps.Gone.{turn}
+use Rattle.kernel_spec.proofs.steps.Orphans.{get-change, keys-change}
+use Rattle.kernel_spec.proofs.rows.RowParts.{killed_by, unless}
+
+marked_again : (x : Process) → marked (marked x) ≡ marked x
+marked_again (Alive l) = refl
+marked_again (Zombie parent status) = refl
+
+same_child_marked : (q : ℕ) (b : Bool) (o : Option Process) → child_of q (cond b (option_map marked o) o) ≡ child_of q o
+same_child_marked q true None = refl
+same_child_marked q true (Some (Alive l)) = refl
+same_child_marked q true (Some (Zombie parent status)) = refl
+same_child_marked q false o = refl
+
+module _ (s : State) (p q : ℕ) (old : Live) (was : get s.processes p ≡ Some (Alive old)) (c : Call) where
+  abbrev pub killer : Live
+  killer = record old { regs = with_a0 old.regs (word (pos 0)); call = None; killed = old.killed || nat_eq q p }
+
+  abbrev pub before : State
+  before = own_state p killer s
+
+  abbrev pub after : State
+  after = kill_state p killer q s
+
+  pub process_at : (r : ℕ) → get after.processes r ≡ cond (nat_eq r q) (option_map marked (get before.processes r)) (get before.processes r)
+  process_at r = get-change marked marked_again before.processes q r (get before.processes q) refl
+
+  children_at : (m r : ℕ) → child_of m (get after.processes r) ≡ child_of m (get s.processes r)
+  children_at m r = ap (child_of m) (process_at r) ∙ same_child_marked m (nat_eq r q) (get before.processes r) ∙ same_child s p old killer was refl m r
+
+  pids_after : keys after.processes ≡ keys s.processes
+  pids_after = keys-change marked marked_again before.processes q (get before.processes q) refl ∙ same_keys s p old killer was refl
+
+  pub kill_own : not (list_any (nat_eq q) (keys s.processes)) ≡ false → killed_by c (view_of s p old) q ≡ record (goes_on (Called c.number (pos 0)) (view_of after p killer)) { marked = Some q }
+  unfolding view_of
+  kill_own known =
+      ap (λ (b : Bool). unless b c (view_of s p old) (λ _. record (done c (pos 0) (record (view_of s p old) { killed = old.killed || nat_eq q p })) { marked = Some q })) known
+      ∙ (λ i. record (goes_on (Called c.number (pos 0)) (record (view_of after p killer) { children = λ r. sym (children_at p r) i; pids = sym pids_after i })) { marked = Some q })
+
+  marked_live : (m : Live) (b : Bool) → live_part (cond b (option_map marked (Some (Alive m))) (Some (Alive m))) ≡ Some (record m { killed = m.killed || b })
+  marked_live m true = λ i. Some (record m { killed = or_true m.killed i })
+    where
+      or_true : (b : Bool) → true ≡ (b || true)
+      or_true true = refl
+      or_true false = refl
+  marked_live m false = λ i. Some (record m { killed = or_false m.killed i })
+    where
+      or_false : (b : Bool) → b ≡ (b || false)
+      or_false true = refl
+      or_false false = refl
+
+  alive : (o : Option Process) (m : Live) → live_part o ≡ Some m → o ≡ Some (Alive m)
+  alive None m e = let no : ⊥ = cc in absurd no
+  alive (Some (Alive l)) m e = let same : l ≡ m = cc in ap (λ (x : Live). Some (Alive x)) same
+  alive (Some (Zombie parent status)) m e = let no : ⊥ = cc in absurd no
+
+  pub live_after : (r : ℕ) (m : Live) → live before r ≡ Some m → live after r ≡ Some (record m { killed = m.killed || is_this r (Some q) })
+  live_after r m is =
+      ap live_part (process_at r)
+      ∙ ap (λ (o : Option Process). live_part (cond (nat_eq r q) (option_map marked o) o)) (alive (get before.processes r) m is)
+      ∙ marked_live m (nat_eq r q)
+      ∙ ap (λ (b : Bool). Some (record m { killed = m.killed || b })) (turn r q)
+
+  pub kill_leaves : Leaves s after (view_of s p old) (record (goes_on (Called c.number (pos 0)) (view_of after p killer)) { marked = Some q })
+  unfolding view_of
+  kill_leaves = record {
+    tells = own_table_tells s after p old (ap live_part was) (λ f. refl);
+    spares = record { file = λ f other h. refl; pipe = λ j other h. refl; kinds = λ f other. refl };
+    keeps = λ r m other is. (m.parent, live_after r m (live-set_live_there s p old killer was refl r other ∙ is));
+    children = λ m l other is r. children_at m r;
+    pids = refl;
+    console = refl;
+    next_pid = refl;
+    free = refl;
+    clock = refl;
+    programs = refl;
+  }
+
+  pub kill_quiet : (o : Own) → o ≡ record (goes_on (Called c.number (pos 0)) (view_of after p killer)) { marked = Some q } → Quiet s (view_of s p old) o after
+  kill_quiet o is = subst (λ (x : Own). Quiet s (view_of s p old) x after) (sym is) (quiet_from s after (view_of s p old) (record (goes_on (Called c.number (pos 0)) (view_of after p killer)) { marked = Some q }) kill_leaves)
+
+  twice : (b : Bool) → ((old.killed || b) || b) ≡ (old.killed || b)
+  twice b = by old.killed b
+    where
+      by : (a b : Bool) → ((a || b) || b) ≡ (a || b)
+      by true b = refl
+      by false true = refl
+      by false false = refl
+
+  pub view_killer : view after p ≡ Some (view_of after p killer)
+  view_killer = ap (option_map (view_of after p)) (live_after p killer (ap live_part (get_same s.processes p (Alive killer))) ∙ (λ i. Some (record killer { killed = twice (nat_eq q p) i })))

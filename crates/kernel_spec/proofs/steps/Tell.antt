@@ -1,0 +1,110 @@
+-- A process's own table tells what its descriptors are on.
+use Rattle.std.proofs.Common.{◌≡◌, ◌≢◌, ℕ, ◌<◌, Bool, cond, ◌||◌, refl, ap, sym, ◌∙◌}
+use Rattle.std.proofs.Common.{lt-ltb}
+use Rattle.std.specs.Prelude.{Option, None, Some, option_map}
+use Rattle.std.specs.FinMap.{get, keys}
+use Rattle.xk_base.specs.declared.limits.TheConstants.{NOFILE}
+use Rattle.kernel_spec.specs.views.Words.{is_this}
+use Rattle.pipe_core.specs.Pipe.{Pipe}
+use Rattle.file_table.specs.declared.open_file.OpenFile.{OpenFile}
+use Rattle.file_table.specs.declared.open_file.Target.{Target}
+use Rattle.file_table.specs.declared.open_file.Target.TheVariants.{Console as Terminal, Program as File, Pipe as Pipe_end}
+use Rattle.kernel_spec.specs.views.Processes.{Live}
+use Rattle.kernel_spec.specs.views.State.{State, live}
+use Rattle.kernel_spec.specs.steps.Own.{Own, gone_with}
+use Rattle.kernel_spec.specs.views.View.{View, Descriptors, named, numbered, rename, rename_shown, descriptor_at, descriptor_on, show, or_gone, view, view_of, child_of}
+use Rattle.kernel_spec.specs.others.Quiet.{file_at, file_of, pipe_of_file, pipe_of_open, pipe_of_target, offset_left, pipe_left, shown_offset, shown_pipe, seen, seen_children, Quiet}
+use Rattle.kernel_spec.proofs.steps.Frame.{open_offset, target_offset, start_target, kind, Tells, Spares, seen_table_is}
+
+shown_offset_is : (t : State) (names : Descriptors) (n : ℕ) (x : Target) → shown_offset n (rename_shown names (show t x)) ≡ target_offset n x
+shown_offset_is t names n Terminal = refl
+shown_offset_is t names n (File program offset) = refl
+shown_offset_is t names n (Pipe_end pipe end) = refl
+
+shown_pipe_is : (t : State) (names : Descriptors) (x : Pipe) (j : ℕ) (y : Target) → pipe_of_target y ≡ Some j → shown_pipe x (rename_shown names (show t y)) ≡ or_gone (get t.pipes j)
+shown_pipe_is t names x j Terminal e = let no : ⊥ = cc in absurd no
+shown_pipe_is t names x j (File program offset) e = let no : ⊥ = cc in absurd no
+shown_pipe_is t names x j (Pipe_end pipe end) e = let same : pipe ≡ j = cc in ap (λ (k : ℕ). or_gone (get t.pipes k)) same
+
+module _ (s t : State) (p : ℕ) (l : Live) (is : live s p ≡ Some l) (kinds : (f : ℕ) → kind (get t.files f) ≡ kind (get s.files f)) where
+  file_here : (e f : ℕ) → file_at s p e ≡ Some f → get l.descriptors e ≡ Some f
+  file_here e f h = sym (ap (λ (o : Option Live). file_of o e) is) ∙ h
+
+  offset_on : (f n : ℕ) (o : Option OpenFile) → offset_left n (option_map (rename (numbered t l)) (descriptor_on t f o)) ≡ open_offset n o
+  offset_on f n None = refl
+  offset_on f n (Some x) = shown_offset_is t (numbered t l) n x.target
+
+  pipe_on : (f j : ℕ) (x : Pipe) (o : Option OpenFile) → pipe_of_open o ≡ Some j → pipe_left x (option_map (rename (numbered t l)) (descriptor_on t f o)) ≡ or_gone (get t.pipes j)
+  pipe_on f j x None e = let no : ⊥ = cc in absurd no
+  pipe_on f j x (Some y) e = shown_pipe_is t (numbered t l) x j y.target e
+
+  same_pipe_of : (o : Option OpenFile) → pipe_of_open (kind o) ≡ pipe_of_open o
+  same_pipe_of None = refl
+  same_pipe_of (Some x) = start_pipe x.target
+    where
+      start_pipe : (y : Target) → pipe_of_target (start_target y) ≡ pipe_of_target y
+      start_pipe Terminal = refl
+      start_pipe (File program offset) = refl
+      start_pipe (Pipe_end pipe end) = refl
+
+  in_range : (e : ℕ) → e < NOFILE → named (numbered t l) e ≡ option_map (rename (numbered t l)) (numbered t l e)
+  unfolding named
+  in_range e below = ap (λ (b : Bool). cond b (option_map (rename (numbered t l)) (numbered t l e)) None) (lt-ltb e NOFILE below)
+
+  pipe_case : (e j : ℕ) (x : Pipe) (o : Option ℕ) → pipe_of_file s o ≡ Some j → pipe_left x (option_map (rename (numbered t l)) (descriptor_at t o)) ≡ or_gone (get t.pipes j)
+  pipe_case e j x None h = let no : ⊥ = cc in absurd no
+  pipe_case e j x (Some f) h = pipe_on f j x (get t.files f) (sym (same_pipe_of (get t.files f)) ∙ ap pipe_of_open (kinds f) ∙ same_pipe_of (get s.files f) ∙ h)
+
+  -- the table that p has in t tells what p's descriptors in s are on
+  pub own_table_tells : Tells s t p (named (numbered t l))
+  own_table_tells = record {
+    offset = λ e f n other below h. ap (offset_left n) (in_range e below ∙ ap (λ (o : Option ℕ). option_map (rename (numbered t l)) (descriptor_at t o)) (file_here e f h)) ∙ offset_on f n (get t.files f);
+    pipe = λ e j x other below h. ap (pipe_left x) (in_range e below) ∙ pipe_case e j x (get l.descriptors e) (sym (ap (λ (o : Option Live). pipe_of_file s (file_of o e)) is) ∙ h);
+  }
+
+-- ---- what has to be known of a step, for every other process to see of it only that
+
+pub record Leaves (s t : State) (v : View) (o : Own) : Type 0 where
+  pub tells : Tells s t v.pid o.left.descriptors
+  pub spares : Spares s t v.pid
+  -- another process keeps all but its parent, and is marked where the step marked it
+  pub keeps : (q : ℕ) (m : Live) → q ≢ v.pid → live s q ≡ Some m → (parent : Option ℕ) × (live t q ≡ Some (record m { killed = m.killed || is_this q o.marked; parent = parent }))
+  pub children : (q : ℕ) (m : Live) → q ≢ v.pid → live s q ≡ Some m → (r : ℕ) → child_of q (get t.processes r) ≡ seen_children (gone_with o.answer) v (view_of s q m) r
+  pub pids : keys t.processes ≡ o.left.pids
+  pub console : t.console ≡ o.left.console
+  pub next_pid : t.next_pid ≡ o.left.next_pid
+  pub free : t.free ≡ o.left.free
+  pub clock : t.clock ≡ s.clock
+  pub programs : t.programs ≡ s.programs
+
+some_view : (a b : View) → Some a ≡ Some b → a ≡ b
+some_view a b e = cc
+
+module _ (s t : State) (v : View) (o : Own) (h : Leaves s t v o) where
+  sees : (q : ℕ) (m : Live) (apart : q ≢ v.pid) (is : live s q ≡ Some m) → view_of t q (record m { killed = m.killed || is_this q o.marked; parent = (h.keeps q m apart is).0 }) ≡ seen s v o (view_of s q m)
+  unfolding view_of seen
+  sees q m apart is = λ i. record {
+    pid = q;
+    regs = m.regs;
+    image = m.image;
+    call = m.call;
+    killed = m.killed || is_this q o.marked;
+    descriptors = sym (seen_table_is s t v.pid q o.left.descriptors h.tells h.spares m is apart) i;
+    children = λ r. h.children q m apart is r i;
+    console = h.console i;
+    pids = h.pids i;
+    clock = h.clock i;
+    next_pid = h.next_pid i;
+    free = h.free i;
+    programs = h.programs i;
+  }
+
+  quiet_at : (q : ℕ) (w : View) (apart : q ≢ v.pid) (m : Option Live) → live s q ≡ m → option_map (view_of s q) m ≡ Some w → view t q ≡ Some (seen s v o w)
+  quiet_at q w apart None is e = let no : ⊥ = cc in absurd no
+  quiet_at q w apart (Some m) is e =
+      ap (option_map (view_of t q)) ((h.keeps q m apart is).1)
+      ∙ ap Some (sees q m apart is)
+      ∙ ap (λ (u : View). Some (seen s v o u)) (some_view (view_of s q m) w e)
+
+  pub quiet_from : Quiet s v o t
+  quiet_from = λ q w apart is. quiet_at q w apart (live s q) refl is
