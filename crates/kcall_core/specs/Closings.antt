@@ -40,7 +40,7 @@ unless_woken wakes None = None
 unless_woken wakes (Some channel) = if wakes channel then None else Some channel
 
 abbrev pub state_woken_by : (Channel → Bool) → table.State → table.State
-state_woken_by wakes (Live_state marked call channel) = Live_state marked call (unless_woken wakes channel)
+state_woken_by wakes (Live_state life) = Live_state (record life { channel = unless_woken wakes life.channel })
 state_woken_by wakes (Zombie_state status) = Zombie_state status
 
 -- awake, if it sleeps on one of these channels

@@ -75,7 +75,7 @@ pub struct Kernel {
 }
 
 impl Kernel {
-    /// One instruction of the process that runs. Where it is an ECALL or faults, nothing that can be seen
+    /// One instruction of the process that runs. If it is an ECALL or faults, nothing that can be seen
     /// is another.
     #[inline(always)]
     pub fn step(&mut self, hart: &mut Hart) -> Stop
@@ -157,7 +157,7 @@ impl Kernel {
         self.current = None;
     }
 
-    /// The live process in a slot runs, where none did: the state is the same.
+    /// The live process in a slot runs, and none did before: the state is the same.
     fn enter(&mut self, hart: &mut Hart, slot: usize)
         requires sound { IsSound self.old hart.old }
         requires stopped { IsStopped self.old }
@@ -199,7 +199,7 @@ impl Kernel {
     }
 
     /// The turn: of the processes that may run, the one in the next slot after the slot that ran last,
-    /// cyclically, runs from now on. Its pid, or `None` where no process may run.
+    /// cyclically, runs from now on. Its pid, or `None` if no process may run.
     #[cold]
     #[inline(never)]
     pub fn turn(&mut self, hart: &mut Hart) -> Option<Pid>

@@ -4,6 +4,6 @@ ghost use Rattle.kcall_core.specs.Room.{WholeHasRoom};
 /// What the kernel's code counts has bounds.
 pub fn bounds()
     // Between two calls of the kernel each open file and each end of a pipe may count one descriptor more, and
-    // where a process has a free descriptor a file more may be opened.
+    // if a process has a free descriptor, a file more may be opened.
     ensures { WholeHasRoom }
 {}

@@ -1,5 +1,5 @@
 -- Which slots are held, by what was told of them.
-use Rattle.std.proofs.Common.{◌≡◌, ℕ, true, Option, Some, None, refl}
+use Rattle.std.proofs.Common.{◌≡◌, ℕ, true, false, Option, Some, None, get_or, refl, sym, subst}
 use Rattle.std.specs.Prelude.{IsTrue, IsSome, option_map}
 use Rattle.std.proofs.lemmas.List.Quantifiers.{position-Some}
 use Rattle.proc_table.specs.declared.process.Process.{Process}
@@ -14,6 +14,14 @@ has_one pid (Some p) h = refl
 -- a process that is found is in its slot
 pub found_is_held : (t : Slots) (pid slot : ℕ) → slot_of t pid ≡ Some slot → IsHeld t slot
 found_is_held t pid slot found = has_one pid (place_at t slot) (position-Some (place_has_pid pid) t.places slot None found).1
+
+no-place : false ≡ true → ⊥
+no-place e = cc
+
+-- so a place that is read there isn't empty
+pub found_is_some : (t : Slots) (pid slot : ℕ) (place : Option Process) → slot_of t pid ≡ Some slot → place ≡ get_or t.places slot place → place ≡ None → ⊥
+found_is_some t pid slot None found read none = no-place (subst (λ o. IsSome o) (sym read) (found_is_held t pid slot found))
+found_is_some t pid slot (Some p) found read none = cc
 
 -- a process without a status lives
 lives : (place : Option Process) → option_map status_of place ≡ Some None → IsTrue (place_is_live place)

@@ -22,7 +22,7 @@ is_child_of parent p = is_parent parent p.parent
 
 -- the status of a zombie
 abbrev pub state_status : State → Option ℤ
-state_status (Live marked call channel) = None
+state_status (Live life) = None
 state_status (Zombie status) = Some status
 
 -- the status with which it ended; none while it lives
@@ -39,7 +39,7 @@ is_live p = is_none (status_of p)
 
 -- the kill mark of a live process
 abbrev pub state_mark : State → Bool
-state_mark (Live marked call channel) = marked
+state_mark (Live life) = life.marked
 state_mark (Zombie status) = false
 
 -- its kill mark is set
@@ -48,7 +48,7 @@ is_marked p = state_mark p.state
 
 -- the call of a live process
 abbrev pub state_call : State → Option Call
-state_call (Live marked call channel) = call
+state_call (Live life) = life.call
 state_call (Zombie status) = None
 
 -- the call that it is in, if any
@@ -57,7 +57,7 @@ call_of p = state_call p.state
 
 -- the channel of a live process
 abbrev pub state_channel : State → Option Channel
-state_channel (Live marked call channel) = channel
+state_channel (Live life) = life.channel
 state_channel (Zombie status) = None
 
 -- what it sleeps on, if it sleeps
@@ -70,7 +70,7 @@ is_asleep p = is_some (channel_of p)
 
 -- live, and on no channel
 abbrev pub state_runnable : State → Bool
-state_runnable (Live marked call channel) = is_none channel
+state_runnable (Live life) = is_none life.channel
 state_runnable (Zombie status) = false
 
 -- live, and not asleep
@@ -81,7 +81,7 @@ is_runnable p = state_runnable p.state
 
 -- the channel is left, if it is this one
 abbrev pub state_woken : Channel → State → State
-state_woken on (Live marked call channel) = Live marked call (without on channel)
+state_woken on (Live life) = Live (record life { channel = without on life.channel })
 state_woken on (Zombie status) = Zombie status
 
 -- awake, if it sleeps on the channel
@@ -90,7 +90,7 @@ woken on p = record p { state = state_woken on p.state }
 
 -- the mark is set, and the channel left
 abbrev pub state_killed : State → State
-state_killed (Live marked call channel) = Live true call None
+state_killed (Live life) = Live (record life { marked = true; channel = None })
 state_killed (Zombie status) = Zombie status
 
 -- marked and awake
@@ -99,7 +99,7 @@ killed p = record p { state = state_killed p.state }
 
 -- the channel is entered
 abbrev pub state_asleep : Channel → State → State
-state_asleep on (Live marked call channel) = Live marked call (Some on)
+state_asleep on (Live life) = Live (record life { channel = Some on })
 state_asleep on (Zombie status) = Zombie status
 
 -- asleep on the channel
@@ -108,7 +108,7 @@ asleep on p = record p { state = state_asleep on p.state }
 
 -- the call is noted
 abbrev pub state_in_call : Option Call → State → State
-state_in_call call (Live marked before channel) = Live marked call channel
+state_in_call call (Live life) = Live (record life { call = call })
 state_in_call call (Zombie status) = Zombie status
 
 -- in this call, or in none
@@ -129,4 +129,4 @@ given from to p = record p { parent = parent_given from to p.parent }
 
 -- a new process is live, unmarked, in no call and awake
 abbrev pub newborn : ℕ → Option ℕ → Process
-newborn pid parent = record { pid = pid; parent = parent; state = Live false None None }
+newborn pid parent = record { pid = pid; parent = parent; state = Live (record { marked = false; call = None; channel = None }) }

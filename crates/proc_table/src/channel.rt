@@ -1,7 +1,4 @@
 //! What a process sleeps on.
-ghost use Rattle.std.specs.Prelude.{◌≡◌};
-ghost use Rattle.proc_table.specs.Channels.{same_channel};
-
 use xk_base::{Frame, Pid};
 
 /// What a process sleeps on until it is woken (the xv6 book, "Sleep and wakeup").
@@ -19,13 +16,4 @@ pub enum Channel {
     Keys,
     /// Room among the bytes that the console has to send.
     Sending,
-}
-
-impl Channel {
-    /// Whether the two are one channel.
-    pub(crate) fn is(&self, other: &Channel) -> bool
-        ensures { result ≡ same_channel self.now other.now }
-    {
-        self == other
-    }
 }

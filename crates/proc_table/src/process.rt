@@ -1,6 +1,6 @@
 //! A process, as the table keeps it.
 ghost use Rattle.std.specs.Prelude.{◌≡◌, false};
-ghost use Rattle.proc_table.specs.Channels.{is_on, without};
+ghost use Rattle.proc_table.specs.Channels.{is_on};
 ghost use Rattle.proc_table.specs.Processes.{is_runnable, is_child_of, is_zombie, is_marked, is_asleep, status_of, call_of, has_pid, woken, killed, given, asleep, ended, in_call};
 
 use crate::channel::Channel;
@@ -21,19 +21,24 @@ pub struct Call {
     pub clock: u32,
 }
 
+/// What a live process does.
+#[derive(Clone, Copy, Debug, PartialEq, Eq)]
+pub struct Life {
+    /// Its kill mark.
+    pub marked: bool,
+    /// The call that it is in, if any.
+    pub call: Option<Call>,
+    /// What it sleeps on, if it sleeps.
+    pub channel: Option<Channel>,
+}
+
 /// Whether a process lives.
 #[derive(Clone, Copy, Debug, PartialEq, Eq)]
 pub enum State {
-    /// It lives: its kill mark, the call that it is in, and the channel that it sleeps on, if any.
-    Live {
-        marked: bool,
-        call: Option<Call>,
-        channel: Option<Channel>,
-    },
+    /// It lives, and does this.
+    Live(Life),
     /// It has ended with this status, for which nobody has waited yet.
-    Zombie {
-        status: i32,
-    },
+    Zombie { status: i32 },
 }
 
 /// A process in a slot.
@@ -47,21 +52,16 @@ pub struct Process {
     pub state: State,
 }
 
-/// Whether this is what it sleeps on.
-fn is_on(channel: &Option<Channel>, on: &Channel) -> bool
-    ensures { result ≡ is_on on.now channel.now }
-{
-    match channel {
-        None => false,
-        Some(channel) => channel.is(on),
+impl Life {
+    /// Whether it sleeps on the channel.
+    fn sleeps_on(&self, on: &Channel) -> bool
+        ensures { result ≡ is_on on.now self.now.channel }
+    {
+        match &self.channel {
+            None => false,
+            Some(channel) => channel == on,
+        }
     }
-}
-
-/// What a process sleeps on once those who sleep on `on` are woken.
-fn without(channel: Option<Channel>, on: Channel) -> Option<Channel>
-    ensures { result ≡ without on channel }
-{
-    if is_on(&channel, &on) { None } else { channel }
 }
 
 impl Process {
@@ -82,7 +82,7 @@ impl Process {
         ensures { result ≡ is_zombie self.now }
     {
         match self.state {
-            State::Live { .. } => false,
+            State::Live(_) => false,
             State::Zombie { .. } => true,
         }
     }
@@ -92,7 +92,7 @@ impl Process {
         ensures { result ≡ is_runnable self.now }
     {
         match self.state {
-            State::Live { channel, .. } => channel.is_none(),
+            State::Live(life) => life.channel.is_none(),
             State::Zombie { .. } => false,
         }
     }
@@ -101,7 +101,7 @@ impl Process {
         ensures { result ≡ is_marked self.now }
     {
         match self.state {
-            State::Live { marked, .. } => marked,
+            State::Live(life) => life.marked,
             State::Zombie { .. } => false,
         }
     }
@@ -110,7 +110,7 @@ impl Process {
         ensures { result ≡ is_asleep self.now }
     {
         match self.state {
-            State::Live { channel, .. } => channel.is_some(),
+            State::Live(life) => life.channel.is_some(),
             State::Zombie { .. } => false,
         }
     }
@@ -119,7 +119,7 @@ impl Process {
         ensures { result ≡ status_of self.now }
     {
         match self.state {
-            State::Live { .. } => None,
+            State::Live(_) => None,
             State::Zombie { status } => Some(status),
         }
     }
@@ -128,118 +128,63 @@ impl Process {
         ensures { result ≡ call_of self.now }
     {
         match self.state {
-            State::Live { call, .. } => call,
+            State::Live(life) => life.call,
             State::Zombie { .. } => None,
         }
     }
 
-    /// Whether it sleeps on the channel. Where it doesn't, waking the channel changes nothing.
-    pub(crate) fn sleeps_on(&self, on: &Channel) -> bool
-        ensures { result ≡ false → woken on.now self.now ≡ self.now }
+    /// It wakes if it sleeps on the channel.
+    pub(crate) fn wake(&mut self, on: &Channel)
+        ensures { self.new ≡ woken on.now self.old }
     {
-        match &self.state {
-            State::Live { channel, .. } => is_on(channel, on),
-            State::Zombie { .. } => false,
+        if let State::Live(life) = &mut self.state {
+            if life.sleeps_on(on) {
+                life.channel = None;
+            }
         }
     }
 
-    /// The process, awake if it sleeps on the channel.
-    pub(crate) fn woken(&self, on: Channel) -> Process
-        ensures { result ≡ woken on self.now }
+    /// It is marked and awake if it lives.
+    pub(crate) fn kill(&mut self)
+        ensures { self.new ≡ killed self.old }
     {
-        match self.state {
-            State::Live {
-                marked,
-                call,
-                channel,
-            } => Process {
-                state: State::Live {
-                    marked,
-                    call,
-                    channel: without(channel, on),
-                },
-                ..*self
-            },
-            State::Zombie { .. } => *self,
+        if let State::Live(life) = &mut self.state {
+            life.marked = true;
+            life.channel = None;
         }
     }
 
-    /// The process, marked and awake if it lives.
-    pub(crate) fn killed(&self) -> Process
-        ensures { result ≡ killed self.now }
+    /// It sleeps on the channel if it lives.
+    pub(crate) fn sleep(&mut self, on: Channel)
+        ensures { self.new ≡ asleep on self.old }
     {
-        match self.state {
-            State::Live { call, .. } => Process {
-                state: State::Live {
-                    marked: true,
-                    call,
-                    channel: None,
-                },
-                ..*self
-            },
-            State::Zombie { .. } => *self,
+        if let State::Live(life) = &mut self.state {
+            life.channel = Some(on);
         }
     }
 
-    /// The process, asleep if it lives.
-    pub(crate) fn asleep(&self, on: Channel) -> Process
-        ensures { result ≡ asleep on self.now }
+    /// It is in this call, or in none, if it lives.
+    pub(crate) fn note(&mut self, call: Option<Call>)
+        ensures { self.new ≡ in_call call self.old }
     {
-        match self.state {
-            State::Live { marked, call, .. } => Process {
-                state: State::Live {
-                    marked,
-                    call,
-                    channel: Some(on),
-                },
-                ..*self
-            },
-            State::Zombie { .. } => *self,
+        if let State::Live(life) = &mut self.state {
+            life.call = call;
         }
     }
 
-    /// The process, in this call if it lives.
-    pub(crate) fn in_call(&self, call: Option<Call>) -> Process
-        ensures { result ≡ in_call call self.now }
+    /// It has ended with this status.
+    pub(crate) fn end(&mut self, status: i32)
+        ensures { self.new ≡ ended status self.old }
     {
-        match self.state {
-            State::Live {
-                marked,
-                channel,
-                ..
-            } => Process {
-                state: State::Live {
-                    marked,
-                    call,
-                    channel,
-                },
-                ..*self
-            },
-            State::Zombie { .. } => *self,
-        }
+        self.state = State::Zombie { status };
     }
 
-    /// The process, ended.
-    pub(crate) fn ended(&self, status: i32) -> Process
-        ensures { result ≡ ended status self.now }
-    {
-        Process {
-            state: State::Zombie { status },
-            ..*self
-        }
-    }
-
-    /// The process, as a child of `to` if it was one of `from`.
-    pub(crate) fn given(&self, from: Pid, to: Pid) -> Process
-        ensures { result ≡ given from to self.now }
+    /// It is a child of `to` if it was one of `from`.
+    pub(crate) fn give(&mut self, from: Pid, to: Pid)
+        ensures { self.new ≡ given from to self.old }
     {
         if self.is_child_of(from) {
-            Process {
-                parent: Some(to),
-                ..*self
-            }
-        } else {
-            *self
+            self.parent = Some(to);
         }
     }
 }

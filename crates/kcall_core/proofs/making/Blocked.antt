@@ -34,7 +34,7 @@ asleep-means : (on : Channel) (p : Process) (files : List (Option ℕ)) (held : 
 asleep-means on p files held regs = by p.state
   where
     by : (s : table.State) → process_of (asleep on (record p { state = s })) files held regs ≡ process_of (record p { state = s }) files held regs
-    by (Live_state marked call channel) = refl
+    by (Live_state life) = refl
     by (Zombie_state status) = refl
 
 -- the kernel in which the process that runs sleeps on a channel

@@ -111,7 +111,7 @@ in-call-again : (p : Process) → in_call (call_of p) p ≡ p
 in-call-again p = λ t. record p { state = again p.state t }
   where
     again : (s : table.State) → state_in_call (state_call s) s ≡ s
-    again (table_state.Live marked call channel) = refl
+    again (table_state.Live life) = refl
     again (table_state.Zombie status) = refl
 
 pub table-again : (t : Slots) (slot : ℕ) (p : Process) → slot < length t.places → place_at t slot ≡ Some p → t ≡ changed_at slot (in_call (call_of p)) t

@@ -86,7 +86,7 @@ live-woken channel None = refl
 live-woken channel (Some p) = by p.state
   where
     by : (s : table.State) → is_live (record p { state = state_woken channel s }) ≡ is_live (record p { state = s })
-    by (Live_state marked call o) = refl
+    by (Live_state life) = refl
     by (Zombie_state status) = refl
 
 live-given : (pid : ℕ) (o : Option Process) → place_is_live (option_map (given pid 1) o) ≡ place_is_live o

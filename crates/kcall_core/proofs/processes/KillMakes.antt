@@ -119,21 +119,21 @@ killed-status : (x : Process) → status_of (killed x) ≡ status_of x
 killed-status x = by x.state
   where
     by : (s : table.State) → state_status (state_killed s) ≡ state_status s
-    by (Live_state marked call channel) = refl
+    by (Live_state life) = refl
     by (Zombie_state status) = refl
 
 killed-awake : (x : Process) → channel_of (killed x) ≡ None
 killed-awake x = by x.state
   where
     by : (s : table.State) → state_channel (state_killed s) ≡ None
-    by (Live_state marked call channel) = refl
+    by (Live_state life) = refl
     by (Zombie_state status) = refl
 
 killed-means : (x : Process) (fs : List (Option ℕ)) (held : Held) (regs : Registers) → process_of (killed x) fs held regs ≡ marked (process_of x fs held regs)
 killed-means x fs held regs = by x.state
   where
     by : (s : table.State) → process_of (killed (record x { state = s })) fs held regs ≡ marked (process_of (record x { state = s }) fs held regs)
-    by (Live_state marked call channel) = refl
+    by (Live_state life) = refl
     by (Zombie_state status) = refl
 
 marked_again : (x : meaning.Process) → marked (marked x) ≡ marked x

@@ -166,14 +166,14 @@ woken-means : (on : Channel) (x : Process) (files : List (Option ℕ)) (held : H
 woken-means on x files held regs = by x.state
   where
     by : (s : table.State) → process_of (record x { state = state_woken on s }) files held regs ≡ process_of (record x { state = s }) files held regs
-    by (Live_state marked call channel) = refl
+    by (Live_state life) = refl
     by (Zombie_state status) = refl
 
 woken-status : (on : Channel) (x : Process) → status_of (woken on x) ≡ status_of x
 woken-status on x = by x.state
   where
     by : (s : table.State) → state_status (state_woken on s) ≡ state_status s
-    by (Live_state marked call channel) = refl
+    by (Live_state life) = refl
     by (Zombie_state status) = refl
 
 pub same-all : {X : Type 0} (o : Option X) → option_map (λ x. x) o ≡ o

@@ -26,7 +26,7 @@ use Rattle.kcall_core.proofs.turns.Chosen.{noted}
 -- ---- a process in another call
 
 status-stays : (call : Option Call) (s : State) → state_status (state_in_call call s) ≡ state_status s
-status-stays call (Live marked before channel) = refl
+status-stays call (Live life) = refl
 status-stays call (Zombie status) = refl
 
 -- what a live process means, in the other call and with other registers
@@ -36,7 +36,7 @@ live-stays call p files held before regs live = by p.state live
   where
     by : (s : State) → state_status s ≡ None
         → live_of (in_call call (record p { state = s })) files held regs ≡ record (live_of (record p { state = s }) files held before) { regs = regs; call = call }
-    by (Live marked old channel) e = refl
+    by (Live life) e = refl
     by (Zombie status) e = absurd (none-some status (sym e))
 
 -- ---- the kernel

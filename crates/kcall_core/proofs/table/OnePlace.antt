@@ -78,28 +78,28 @@ pub in-call-lives : (call : Option Call) (p : Process) → status_of p ≡ None 
 in-call-lives call p lives = by p.state lives
   where
     by : (s : table.State) → state_status s ≡ None → state_status (state_in_call call s) ≡ None
-    by (table_state.Live marked before channel) e = refl
+    by (table_state.Live life) e = refl
     by (table_state.Zombie status) e = e
 
 pub in-call-channel : (call : Option Call) (p : Process) → channel_of (in_call call p) ≡ channel_of p
 in-call-channel call p = by p.state
   where
     by : (s : table.State) → state_channel (state_in_call call s) ≡ state_channel s
-    by (table_state.Live marked before channel) = refl
+    by (table_state.Live life) = refl
     by (table_state.Zombie status) = refl
 
 pub asleep-lives : (on : Channel) (p : Process) → status_of p ≡ None → status_of (asleep on p) ≡ None
 asleep-lives on p lives = by p.state lives
   where
     by : (s : table.State) → state_status s ≡ None → state_status (state_asleep on s) ≡ None
-    by (table_state.Live marked call channel) e = refl
+    by (table_state.Live life) e = refl
     by (table_state.Zombie status) e = e
 
 pub asleep-channel : (on : Channel) (p : Process) → status_of p ≡ None → channel_of (asleep on p) ≡ Some on
 asleep-channel on p lives = by p.state lives
   where
     by : (s : table.State) → state_status s ≡ None → state_channel (state_asleep on s) ≡ Some on
-    by (table_state.Live marked call channel) e = refl
+    by (table_state.Live life) e = refl
     by (table_state.Zombie status) e = absurd (none-some status (sym e))
 
 -- what is another twice in one place is another

@@ -43,7 +43,7 @@ woken-on channel p = by p.state
     left (Some c) = refl
 
     by : (s : table.State) → state_channel (state_woken channel s) ≡ unless_woken (λ c. same_channel c channel) (state_channel s)
-    by (Live_state marked call o) = left o
+    by (Live_state life) = left life.channel
     by (Zombie_state status) = refl
 
 -- ---- all others
@@ -155,7 +155,7 @@ module _ (slot pid : ℕ) (parent : Option ℕ) (status : ℤ) where
   woken-zombie channel p e = by p.state e
     where
       by : (s : table.State) → state_status s ≡ Some status → state_status (state_woken channel s) ≡ Some status
-      by (Live_state marked call o) f = f
+      by (Live_state life) f = f
       by (Zombie_state other) f = f
 
   -- a zombie of this status and pid is in the slot

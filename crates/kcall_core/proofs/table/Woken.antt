@@ -33,7 +33,7 @@ woken-is wakes on is p = ap (λ s. record p { state = s }) (by p.state)
     left (Some c) = ap (λ b. cond b None (Some c)) (sym (is c))
 
     by : (s : table.State) → state_woken on s ≡ state_woken_by wakes s
-    by (Live_state marked call channel) = ap (Live_state marked call) (left channel)
+    by (Live_state life) = ap (λ o. Live_state (record life { channel = o })) (left life.channel)
     by (Zombie_state status) = refl
 
 -- nobody wakes
@@ -45,7 +45,7 @@ woken-none wakes none p = ap (λ s. record p { state = s }) (by p.state)
     left (Some c) = ap (λ b. cond b None (Some c)) (none c)
 
     by : (s : table.State) → state_woken_by wakes s ≡ s
-    by (Live_state marked call channel) = ap (Live_state marked call) (left channel)
+    by (Live_state life) = ap (λ o. Live_state (record life { channel = o })) (left life.channel)
     by (Zombie_state status) = refl
 
 -- those on some channels wake, and then those on others
@@ -61,7 +61,7 @@ woken-twice first then_on both is p = ap (λ s. record p { state = s }) (by p.st
     left (Some c) = one c (first c) ∙ ap (λ b. cond b None (Some c)) (is c)
 
     by : (s : table.State) → state_woken_by then_on (state_woken_by first s) ≡ state_woken_by both s
-    by (Live_state marked call channel) = ap (Live_state marked call) (left channel)
+    by (Live_state life) = ap (λ o. Live_state (record life { channel = o })) (left life.channel)
     by (Zombie_state status) = refl
 
 -- who sleeps on one of them sleeps no more
@@ -69,21 +69,21 @@ pub woken-channel : (wakes : Channel → Bool) (p : Process) → channel_of (wok
 woken-channel wakes p = by p.state
   where
     by : (s : table.State) → state_channel (state_woken_by wakes s) ≡ unless_woken wakes (state_channel s)
-    by (Live_state marked call channel) = refl
+    by (Live_state life) = refl
     by (Zombie_state status) = refl
 
 pub woken_by-status : (wakes : Channel → Bool) (p : Process) → status_of (woken_by wakes p) ≡ status_of p
 woken_by-status wakes p = by p.state
   where
     by : (s : table.State) → state_status (state_woken_by wakes s) ≡ state_status s
-    by (Live_state marked call channel) = refl
+    by (Live_state life) = refl
     by (Zombie_state status) = refl
 
 pub woken_by-means : (wakes : Channel → Bool) (x : Process) (files : List (Option ℕ)) (held : Held) (regs : Registers) → process_of (woken_by wakes x) files held regs ≡ process_of x files held regs
 woken_by-means wakes x files held regs = by x.state
   where
     by : (s : table.State) → process_of (record x { state = state_woken_by wakes s }) files held regs ≡ process_of (record x { state = s }) files held regs
-    by (Live_state marked call channel) = refl
+    by (Live_state life) = refl
     by (Zombie_state status) = refl
 
 -- ---- the table
@@ -100,7 +100,7 @@ live-woken wakes None = refl
 live-woken wakes (Some p) = by p.state
   where
     by : (s : table.State) → place_is_live (Some (record p { state = state_woken_by wakes s })) ≡ place_is_live (Some (record p { state = s }))
-    by (Live_state marked call channel) = refl
+    by (Live_state life) = refl
     by (Zombie_state status) = refl
 
 pub each-woken : (wakes : Channel → Bool) (on : Channel) (t : Slots) → ((c : Channel) → wakes c ≡ same_channel c on) → each_changed (woken on) t ≡ each_changed (woken_by wakes) t

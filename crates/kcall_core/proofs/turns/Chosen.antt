@@ -17,7 +17,7 @@ false-true : false ≡ true → ⊥
 false-true e = cc
 
 live-state : (s : State) → state_runnable s ≡ true → state_status s ≡ None
-live-state (Live marked call channel) e = refl
+live-state (Live life) e = refl
 live-state (Zombie status) e = absurd (false-true e)
 
 -- a process that may run is live

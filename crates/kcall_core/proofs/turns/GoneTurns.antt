@@ -37,7 +37,7 @@ zombie-awake : (x : Process) (status : ℤ) → status_of x ≡ Some status → 
 zombie-awake x status e = by x.state e
   where
     by : (s : table.State) → state_status s ≡ Some status → state_channel s ≡ None
-    by (Live_state marked call channel) f = absurd (none-some status f)
+    by (Live_state life) f = absurd (none-some status f)
     by (Zombie_state other) f = refl
 
 -- the pid in a place is in what the turns see of it

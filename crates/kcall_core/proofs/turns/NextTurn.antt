@@ -43,17 +43,20 @@ same-process p q e = cc
 
 -- ---- who may run
 
+no-channel : (o : Option Channel) → is_none o ≡ true → o ≡ None
+no-channel None e = refl
+no-channel (Some channel) e = absurd (true-false (sym e))
+
 awake-state : (s : State) → state_runnable s ≡ true → state_channel s ≡ None
-awake-state (Live marked call None) e = refl
-awake-state (Live marked call (Some channel)) e = absurd (true-false (sym e))
+awake-state (Live life) e = no-channel life.channel e
 awake-state (Zombie status) e = absurd (true-false (sym e))
 
 live-state : (s : State) → state_runnable s ≡ true → state_status s ≡ None
-live-state (Live marked call channel) e = refl
+live-state (Live life) e = refl
 live-state (Zombie status) e = absurd (true-false (sym e))
 
 runnable-state : (s : State) → state_status s ≡ None → state_channel s ≡ None → state_runnable s ≡ true
-runnable-state (Live marked call channel) lives awake = ap is_none awake
+runnable-state (Live life) lives awake = ap is_none awake
 runnable-state (Zombie status) lives awake = absurd (none-some status (sym lives))
 
 no-view : (s : states.State) (p : ℕ) → live s p ≡ None → IsSome (view s p) → ⊥

@@ -90,7 +90,7 @@ pub sleeper-lives : (p : Process) (c : Channel) → channel_of p ≡ Some c → 
 sleeper-lives p c on = by p.state on
   where
     by : (s : table.State) → state_channel s ≡ Some c → state_status s ≡ None
-    by (table_state.Live marked call channel) on = refl
+    by (table_state.Live life) on = refl
     by (table_state.Zombie status) on = absurd (none-some c on)
 
 module _ (t : Slots) where

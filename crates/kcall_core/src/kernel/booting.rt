@@ -30,10 +30,10 @@ impl Kernel {
     ///
     /// # Errors
     ///
-    /// The first that stands of these: [`BootError::BadConfig`] where the number of frames is not from 16
+    /// The first that stands of these: [`BootError::BadConfig`] if the number of frames is not from 16
     /// to 32,768; [`BootError::BadPrograms`] of the least program that is refused: one that has 64 before
     /// it, or a name that is empty, longer than 14 bytes, holds a slash or a zero byte, is `console` or an
-    /// earlier one's, or a file of more than 1,048,576 bytes; [`BootError::Memory`] where the host has too
+    /// earlier one's, or a file of more than 1,048,576 bytes; [`BootError::Memory`] if the host has too
     /// little memory. The programs are then dropped.
     pub fn new(alloc: Global, frames: u32, programs: Vec<Program>) -> Result<Kernel, BootError>
         ensures blank { IfOk result IsBlank }

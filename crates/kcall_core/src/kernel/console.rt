@@ -1,5 +1,5 @@
 //! The console: processes read the lines that are typed, and write the bytes that the terminal is to show; the
-//! terminal interrupts where a key was typed, or a byte may be sent (xv6's `console.c` and `uart.c`; the xv6 book,
+//! terminal interrupts when a key was typed, or a byte may be sent (xv6's `console.c` and `uart.c`; the xv6 book,
 //! "Code: Console input" and "Code: Console output").
 ghost use Rattle.std.specs.Prelude.{◌≡◌, ℤ, ◌<◌, ◌≤◌, Some, pos, true, false, length, take, Option, None, set};
 ghost use Rattle.xk_base.specs.declared.limits.TheConstants.{CONSOLE_BYTES, NPROC, OPEN_FILES};
@@ -152,7 +152,7 @@ impl Kernel {
     }
 
     /// The terminal's key of this byte is typed: the console takes it, and what it shows for it is the answer, at
-    /// most [`ECHO_BYTES`](xk_base::limits::ECHO_BYTES) bytes. Where committed bytes are there afterwards, those
+    /// most [`ECHO_BYTES`](xk_base::limits::ECHO_BYTES) bytes. If committed bytes are there afterwards, those
     /// wake who wait for them.
     #[cold]
     #[inline(never)]
@@ -172,7 +172,7 @@ impl Kernel {
     }
 
     /// The terminal can take a byte: the first that waits to be sent leaves, and is the answer. Then those wake
-    /// who wait for room. It is `None` where no byte waits, and then nobody waits for room.
+    /// who wait for room. It is `None` if no byte waits, and then nobody waits for room.
     ///
     /// A machine whose process 1 is gone goes on sending.
     #[cold]

@@ -57,7 +57,7 @@ fn start_program(hart: &mut Hart, start: Entry)
 }
 
 /// Replaces the image of a slot by the program that its process asks for, and tells with which registers
-/// that starts. None where the path or one of the texts can't be read, no program has the name, its file
+/// that starts. None if the path or one of the texts can't be read, no program has the name, its file
 /// or its texts are refused, or it costs more than the free frames; then nothing is changed.
 fn replace_as_asked(
     memories: &mut Memories,
@@ -93,7 +93,7 @@ fn replace_as_asked(
 
 impl Kernel {
     /// The call exec: the process that runs goes on with the program that it asks for, by the addresses of
-    /// a path and of pointers to texts; the answer is the number of texts. Where a byte of them can't be read,
+    /// a path and of pointers to texts; the answer is the number of texts. If a byte of them can't be read,
     /// the path has more than 128 bytes with its zero byte, there are more than 31 texts or the texts don't
     /// fit into the stack page, no program has the name, its file can't be loaded, or its memory costs more
     /// than the free frames, the answer is -1, and nothing else changes.

@@ -30,8 +30,8 @@ impl Kernel {
         self.table.adopt(pid, Pid::new(1));
     }
 
-    /// The process that runs ends with a status, where it has no descriptor in use and isn't its own
-    /// parent: its children go to pid 1, and its frames are free. Nobody is woken.
+    /// The process that runs ends with a status; it has no descriptor in use, and isn't its own parent. Its
+    /// children go to pid 1, and its frames are free. Nobody is woken.
     fn go_closed(&mut self, hart: &mut Hart, status: i32)
         requires sound { IsSound self.old hart.old }
         requires running { IsRunning self.old }
@@ -51,7 +51,7 @@ impl Kernel {
     }
 
     /// The process that runs ends with a status: its descriptors are closed, its children go to pid 1, its
-    /// frames are free, and its parent and pid 1 wake where they wait for a child.
+    /// frames are free, and its parent and pid 1 wake if they wait for a child.
     #[cold]
     pub fn exit(&mut self, hart: &mut Hart, status: i32)
         requires whole { IsWhole self.old hart.old }

@@ -30,7 +30,7 @@ struct Child {
 }
 
 impl Kernel {
-    /// A child of the process in a slot, with a copy of its memory, and no descriptor yet. None where there is
+    /// A child of the process in a slot, with a copy of its memory, and no descriptor yet. None if there is
     /// no slot, no pid or too few frames for it; then nothing is changed.
     fn bear(&mut self, slot: usize) -> Option<Child>
         requires sound { (hart : Hart) × IsSound self.old hart }
@@ -49,7 +49,7 @@ impl Kernel {
         Some(Child { slot: child, pid })
     }
 
-    /// A descriptor that is in use in one slot names the same open file in another, where it is free.
+    /// A descriptor that is in use in one slot names the same open file in another, in which it is free.
     fn hand_down(&mut self, from: usize, to: usize, fd: Fd)
         requires from { from < NPROC }
         requires to { to < NPROC }
@@ -78,7 +78,7 @@ impl Kernel {
     }
 
     /// The call fork: a new process is there, a copy of the one that runs, which has the same open files. The
-    /// answer is its pid, and 0 to itself; -1 where there is no slot, no pid or too few frames for it.
+    /// answer is its pid, and 0 to itself; -1 if there is no slot, no pid or too few frames for it.
     pub(crate) fn fork(&mut self, hart: &mut Hart) -> CallEnd
         requires whole { IsWhole self.old hart.old }
         requires running { IsRunning self.old }

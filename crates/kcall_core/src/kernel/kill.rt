@@ -25,7 +25,7 @@ fn asked_pid(asked: i32) -> Option<Pid>
 
 impl Kernel {
     /// The call kill: the kill mark of the process whose pid is its first argument is set, and it wakes,
-    /// whatever it sleeps on; the answer is 0. Where the pid is below 1, or no process has it, the answer
+    /// whatever it sleeps on; the answer is 0. If the pid is below 1, or no process has it, the answer
     /// is -1, and nothing else changes. A zombie stays as it is.
     pub(crate) fn kill(&mut self, hart: &mut Hart, call: &Call) -> CallEnd
         requires whole { IsWhole self.old hart.old }

@@ -114,7 +114,7 @@ impl Kernel {
         Some(self.table.pid(slot))
     }
 
-    /// The pid of the process in a slot, live or not; `None` where the slot is free. Slots are numbered from 0
+    /// The pid of the process in a slot, live or not; `None` if the slot is free. Slots are numbered from 0
     /// on, and there are [`NPROC`](xk_base::limits::NPROC).
     pub fn pid_in(&self, slot: usize) -> Option<Pid>
         requires { (hart : Hart) × IsSound self.now hart }
@@ -127,7 +127,7 @@ impl Kernel {
         self.table.pid_in(slot)
     }
 
-    /// What the process of this pid is; `None` where no process has it.
+    /// What the process of this pid is; `None` if no process has it.
     pub fn process(&self, pid: Pid) -> Option<ProcessState>
         requires { (hart : Hart) × IsSound self.now hart }
         ensures { (hart : Hart) (halted : Option ℤ) → result ≡ process_at (world_of self.now hart halted) pid }
@@ -167,7 +167,7 @@ impl Kernel {
         self.memories.peek(slot, address)
     }
 
-    /// What a page of a live process allows. `None` for any other pid, and where there is no page.
+    /// What a page of a live process allows. `None` for any other pid, and if there is no page.
     pub fn perm(&self, pid: Pid, vpn: Vpn) -> Option<Perm>
         requires { (hart : Hart) × IsSound self.now hart }
         ensures { (hart : Hart) → result ≡ rights_at (state_of self.now hart) pid vpn }
@@ -185,7 +185,7 @@ impl Kernel {
         Some(self.memories.size(slot))
     }
 
-    /// What a descriptor of a live process names. `None` for any other pid, and where it isn't in use.
+    /// What a descriptor of a live process names. `None` for any other pid, and if it isn't in use.
     pub fn descriptor(&self, pid: Pid, fd: Fd) -> Option<Descriptor>
         requires { (hart : Hart) × IsWhole self.now hart }
         ensures { (hart : Hart) → result ≡ descriptor_of (state_of self.now hart) pid fd }
@@ -198,7 +198,7 @@ impl Kernel {
         })
     }
 
-    /// The counts of a pipe, which is named by the frame that it lies in. `None` where none lies there.
+    /// The counts of a pipe, which is named by the frame that it lies in. `None` if none lies there.
     pub fn pipe_counts(&self, frame: Frame) -> Option<PipeCounts>
         requires { (hart : Hart) × IsSound self.now hart }
         ensures { (hart : Hart) → result ≡ pipe_counts_of (state_of self.now hart) frame }
@@ -206,7 +206,7 @@ impl Kernel {
         self.memories.pipe_counts(frame)
     }
 
-    /// The byte at a place of a pipe: 0 is the oldest. `None` where it has fewer bytes, or there is no such pipe.
+    /// The byte at a place of a pipe: 0 is the oldest. `None` if it has fewer bytes, or there is no such pipe.
     pub fn pipe_byte(&self, frame: Frame, place: usize) -> Option<u8>
         requires { (hart : Hart) × IsSound self.now hart }
         ensures { (hart : Hart) → result ≡ pipe_byte_of (state_of self.now hart) frame place }
@@ -214,7 +214,7 @@ impl Kernel {
         self.memories.pipe_byte(frame, place)
     }
 
-    /// The byte at a place of one of the console's lists: 0 is the oldest. `None` where the list is shorter.
+    /// The byte at a place of one of the console's lists: 0 is the oldest. `None` if the list is shorter.
     pub fn console_byte(&self, list: ConsoleList, place: usize) -> Option<u8>
         ensures { (hart : Hart) → result ≡ slice_get (list_of list (state_of self.now hart).console) place }
     {
@@ -235,7 +235,7 @@ impl Kernel {
         self.clock
     }
 
-    /// Whether a child of a live process lives, or with which status it ended. `None` where there is no
+    /// Whether a child of a live process lives, or with which status it ended. `None` if there is no
     /// such process, or no such child of it.
     pub fn child_state(&self, pid: Pid, child: Pid) -> Option<ChildState>
         requires { (hart : Hart) × IsSound self.now hart }

@@ -70,7 +70,7 @@ fn program_asked(place: usize, mode: i32) -> Option<Asked>
     Some(Asked::Program { place })
 }
 
-/// What a name and a mode ask for; `None` where no program has the name, or it may not be opened so.
+/// What a name and a mode ask for; `None` if no program has the name, or it may not be opened so.
 fn name_asked(programs: &[Program], name: &[u8], mode: i32) -> Option<Asked>
     ensures { result ≡ name_asked (map named_file programs.now) mode name.now }
 {
@@ -83,7 +83,7 @@ fn name_asked(programs: &[Program], name: &[u8], mode: i32) -> Option<Asked>
 
 impl Kernel {
     /// What the process in a slot, which runs, asks to open: the address of a path is in the call's first
-    /// argument, the mode in its second. `None` where a byte of the path can't be read, it has more than 128
+    /// argument, the mode in its second. `None` if a byte of the path can't be read, it has more than 128
     /// bytes with its zero byte, nothing has the name, or it may not be opened in the mode.
     fn asked(&self, slot: usize, call: &Call) -> Option<Asked>
         requires whole { (hart : Hart) × IsWhole self.now hart }
@@ -119,7 +119,7 @@ impl Kernel {
 
     /// The call open: the lowest free descriptor names what the path at the address in the first argument says,
     /// the terminal or a program's file from its first byte on, and is the answer. The mode is in the second
-    /// argument. Where there is no such name, it may not be opened in the mode, or no descriptor is free, the
+    /// argument. If there is no such name, it may not be opened in the mode, or no descriptor is free, the
     /// answer is -1, and nothing else changes.
     pub(crate) fn open_file(&mut self, hart: &mut Hart, call: &Call) -> CallEnd
         requires whole { IsWhole self.old hart.old }

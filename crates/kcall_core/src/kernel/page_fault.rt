@@ -29,7 +29,7 @@ fn is_data_page_fault(cause: Cause) -> bool
 }
 
 impl Kernel {
-    /// An instruction of the process that runs has faulted, and nothing that can be seen is another. Where it is a
+    /// An instruction of the process that runs has faulted, and nothing that can be seen is another. If it is a
     /// load or a store on an absent page, and the page's frames are free, the page comes, and it is done.
     #[cold]
     #[inline(never)]

@@ -89,8 +89,7 @@ impl Kernel {
         file
     }
 
-    /// The call pipe, where these are the descriptors that it gives, their numbers could be stored, and a frame is
-    /// free.
+    /// The call pipe, which gives these descriptors. Their numbers can be stored, and a frame is free.
     fn pipe_ready(
         &mut self,
         hart: &mut Hart,
@@ -121,7 +120,7 @@ impl Kernel {
 
     /// The call pipe: the lowest free descriptor names the read end of a new pipe, the lowest above it the
     /// write end, their numbers stand at the address in the first argument as two C ints, and the answer is
-    /// 0. Where not all of these 8 bytes may be written, no frame is free, or fewer than two descriptors
+    /// 0. If not all of these 8 bytes may be written, no frame is free, or fewer than two descriptors
     /// are, the answer is -1, and nothing else changes.
     pub(crate) fn pipe(&mut self, hart: &mut Hart, call: &Call) -> CallEnd
         requires whole { IsWhole self.old hart.old }
@@ -171,7 +170,7 @@ impl Kernel {
     }
 
     /// One step of a write to a pipe: as many bytes as fit go in. It is done when all `n` are in, it waits
-    /// for room until then, and it is refused where nobody can read any more.
+    /// for room until then, and it is refused if nobody can read any more.
     pub(crate) fn write_pipe(
         &mut self,
         hart: &mut Hart,

@@ -11,12 +11,12 @@ ghost use Rattle.kcall_core.specs.Makes.{Makes, view_now, answer_of};
 use crate::call_end::CallEnd;
 use crate::kernel::Kernel;
 use crate::kernel::syscall::c_int;
-use crate::memories::data_rights;
 use hart_core::Hart;
 use proc_table::Call;
+use xk_base::Perm;
 use xk_base::limits::SIZE_LIMIT;
 
-/// The size after a call of sbrk; `None` where it would be below 0 or above the limit.
+/// The size after a call of sbrk; `None` if it would be below 0 or above the limit.
 fn resized(size: u64, n: i32) -> Option<u64>
     requires { size ≤ SIZE_LIMIT }
     ensures value { result ≡ resized size n }
@@ -29,7 +29,7 @@ fn resized(size: u64, n: i32) -> Option<u64>
     if new > SIZE_LIMIT { None } else { Some(new) }
 }
 
-/// The size after a call of sbrklazy; `None` where it would be smaller, or above the limit.
+/// The size after a call of sbrklazy; `None` if it would be smaller, or above the limit.
 fn resized_lazily(size: u64, n: i32) -> Option<u64>
     requires { size ≤ SIZE_LIMIT }
     ensures value { result ≡ resized_lazily size n }
@@ -44,7 +44,7 @@ fn resized_lazily(size: u64, n: i32) -> Option<u64>
 
 impl Kernel {
     /// The image of the process that runs becomes greater, by pages of zeros, or smaller. The answer is
-    /// whether it did. It didn't where the greater image costs more than the one that is there and the
+    /// whether it did. It doesn't if the greater image costs more than the one that is there and the
     /// free frames; then nothing is changed.
     fn resize(&mut self, hart: &mut Hart, size: u64) -> bool
         requires sound { IsSound self.old hart.old }
@@ -58,11 +58,11 @@ impl Kernel {
             self.memories.shrink(slot, size, hart);
             return true;
         }
-        self.memories.grow(slot, size, data_rights()).is_ok()
+        self.memories.grow(slot, size, Perm::data()).is_ok()
     }
 
-    /// The call sbrk: the image of the process that runs grows by `n` bytes, or shrinks by `-n`, where `n`
-    /// is its first argument; the answer is the size that it had. Where the size would be below 0 or above
+    /// The call sbrk: the image of the process that runs grows by `n` bytes, its first argument, or
+    /// shrinks by `-n`; the answer is the size that it had. If the size would be below 0 or above
     /// [`SIZE_LIMIT`](xk_base::limits::SIZE_LIMIT), or the image would cost more than the one that is there
     /// and the free frames, the answer is -1, and nothing else changes.
     pub(crate) fn sbrk(&mut self, hart: &mut Hart, call: &Call) -> CallEnd
@@ -85,7 +85,7 @@ impl Kernel {
     }
 
     /// The call sbrklazy: the size of the process that runs grows by `n` bytes, its first argument, and no page
-    /// comes: the new ones are absent until they are touched. The answer is the size that it had. Where `n` is below
+    /// comes: the new ones are absent until they are touched. The answer is the size that it had. If `n` is below
     /// 0, or the size would be above [`SIZE_LIMIT`](xk_base::limits::SIZE_LIMIT), the answer is -1, and nothing else
     /// changes.
     pub(crate) fn sbrklazy(&mut self, hart: &mut Hart, call: &Call) -> CallEnd

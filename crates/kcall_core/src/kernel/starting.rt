@@ -77,7 +77,7 @@ impl Kernel {
     ///
     /// # Errors
     ///
-    /// The refusal of [`plan`], else [`ExecError::NoFrames`] exactly where the image's price and a frame
+    /// The refusal of [`plan`], else [`ExecError::NoFrames`] exactly if the image's price and a frame
     /// for the registers exceed the free frames. Then nothing is changed.
     pub fn start(&mut self, hart: &mut Hart) -> Result<(), ExecError>
         requires whole { IsWhole self.old hart.old }

@@ -1,6 +1,6 @@
 //! Kernel calls of the process that runs (the xv6 book, "Code: Calling system calls").
 //!
-//! A call begins at its ECALL and is in progress from then on, until it is done. Where it has to wait it
+//! A call begins at its ECALL and is in progress from then on, until it is done. If it has to wait it
 //! stays in progress, and goes on by the same row of the call table when its process runs again.
 ghost use Rattle.std.specs.Prelude.{◌≡◌, ◌+◌, ◌-◌, ◌%◌, ◌^◌, pos, false, None, Some, IsSome, option_map};
 ghost use Rattle.rv64i_core.specs.Registers.{reg, with_pc, after};
@@ -28,52 +28,37 @@ use hart_core::Hart;
 use proc_table::{Call, Channel};
 use xk_base::Reg;
 
-/// The number of the call fork (xv6's `syscall.h`, as for the others).
+// The numbers of the calls, as in xv6's `syscall.h`.
 const FORK: i32 = 1;
 
-/// The number of the call exit.
 const EXIT: i32 = 2;
 
-/// The number of the call wait.
 const WAIT: i32 = 3;
 
-/// The number of the call pipe.
 const PIPE: i32 = 4;
 
-/// The number of the call read.
 const READ: i32 = 5;
 
-/// The number of the call kill.
 const KILL: i32 = 6;
 
-/// The number of the call exec.
 const EXEC: i32 = 7;
 
-/// The number of the call dup.
 const DUP: i32 = 10;
 
-/// The number of the call getpid.
 const GETPID: i32 = 11;
 
-/// The number of the call sbrk.
 const SBRK: i32 = 12;
 
-/// The number of the call sleep.
 const SLEEP: i32 = 13;
 
-/// The number of the call uptime.
 const UPTIME: i32 = 14;
 
-/// The number of the call open.
 const OPEN: i32 = 15;
 
-/// The number of the call write.
 const WRITE: i32 = 16;
 
-/// The number of the call close.
 const CLOSE: i32 = 21;
-
-/// The number of the call sbrklazy, which is this project's own.
+/// This project's own.
 const SBRKLAZY: i32 = 22;
 
 /// A hart goes past its ECALL.
@@ -275,7 +260,7 @@ impl Kernel {
         self.table.marked(slot)
     }
 
-    /// The number of the call that the process that runs is in; `None` where it is in none.
+    /// The number of the call that the process that runs is in; `None` if it is in none.
     #[inline(always)]
     pub fn in_call(&self) -> Option<i32>
         requires sound { (hart : Hart) × IsSound self.now hart }

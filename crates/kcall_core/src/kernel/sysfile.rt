@@ -68,7 +68,7 @@ pub(crate) fn lowest_above(table: &Table, slot: usize, low: Fd) -> Option<Fd>
 
 impl Kernel {
     /// The call dup: the lowest free descriptor names what the descriptor of its first argument names, and
-    /// is the answer; -1 where that isn't in use, or no descriptor is free.
+    /// is the answer; -1 if that isn't in use, or no descriptor is free.
     pub(crate) fn dup(&mut self, hart: &mut Hart, call: &Call) -> CallEnd
         requires whole { IsWhole self.old hart.old }
         requires running { IsRunning self.old }
@@ -89,7 +89,7 @@ impl Kernel {
         self.done(hart, i64::from(new.number()))
     }
 
-    /// The call close: the descriptor of its first argument is closed, and the answer is 0; -1 where it isn't
+    /// The call close: the descriptor of its first argument is closed, and the answer is 0; -1 if it isn't
     /// in use.
     pub(crate) fn close(&mut self, hart: &mut Hart, call: &Call) -> CallEnd
         requires whole { IsWhole self.old hart.old }
@@ -106,7 +106,7 @@ impl Kernel {
     }
 }
 
-/// How many bytes are asked for; `None` where the number is below 0.
+/// How many bytes are asked for; `None` if the number is below 0.
 fn byte_count(asked: i32) -> Option<usize>
     ensures some { IfSome result (λ n. (asked ≡ pos n) × (n < 2147483648)) }
     ensures none { IfNone result ((n : ℕ) → asked ≢ pos n) }
@@ -135,7 +135,7 @@ fn allows(kind: &OpenFile, end: End) -> bool
     }
 }
 
-/// What is left of a program's file from an offset on, but at most so many bytes; no bytes where there is no
+/// What is left of a program's file from an offset on, but at most so many bytes; no bytes if there is no
 /// such program.
 fn file_rest(programs: &[Program], program: usize, offset: u64, n: usize) -> &[u8]
     ensures bytes { result.now ≡ take n (drop offset (program_bytes (slice_get (map named_file programs.now) program))) }

@@ -19,7 +19,7 @@ use proc_table::{Call, Channel, Reaped};
 /// How many bytes a status has.
 const STATUS_BYTES: usize = 4;
 
-/// How many bytes a wait stores at the address in its first argument, where that isn't 0.
+/// How many bytes a wait stores at the address in its first argument, if that isn't 0.
 fn told_bytes(call: &Call) -> usize
     ensures { result ≡ cond (nat_eq call.now.a0 0) 0 4 }
 {
@@ -27,7 +27,7 @@ fn told_bytes(call: &Call) -> usize
 }
 
 impl Kernel {
-    /// Stores a status at an address of the process in a slot, which runs, where the address isn't 0.
+    /// Stores a status at an address of the process in a slot, which runs, if the address isn't 0.
     fn tell(&mut self, slot: usize, address: u64, status: i32)
         requires sound { (hart : Hart) × IsSound self.old hart }
         requires current { self.old.current ≡ Some slot }
@@ -43,7 +43,7 @@ impl Kernel {
         };
     }
 
-    /// The call wait, where the process has a child, and the status could be stored.
+    /// The call wait, of a process that has a child. The status can be stored.
     fn wait_ready(&mut self, hart: &mut Hart, call: &Call, slot: usize) -> CallEnd
         requires whole { IsWhole self.old hart.old }
         requires running { IsRunning self.old }
@@ -67,8 +67,8 @@ impl Kernel {
     }
 
     /// The call wait: the child of least pid among those that have ended is gone, its status stands at the
-    /// address that the first argument says, where that isn't 0, and the answer is its pid. Where none has
-    /// ended the call waits. Without a child, or where the status couldn't be stored, the answer is -1,
+    /// address that the first argument says, if that isn't 0, and the answer is its pid. If none has
+    /// ended the call waits. Without a child, or if the status can't be stored, the answer is -1,
     /// and nothing else changes.
     pub(crate) fn wait(&mut self, hart: &mut Hart, call: &Call) -> CallEnd
         requires whole { IsWhole self.old hart.old }

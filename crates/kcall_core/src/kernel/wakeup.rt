@@ -1,5 +1,6 @@
-//! Sleepers wake (xv6's `wakeup` of `proc.c`; the xv6 book, "Code: Sleep and wakeup"): all places of the kernel where
-//! they do, but for the mark of a kill, which wakes the process that it is set on.
+//! Sleepers wake (xv6's `wakeup` of `proc.c`; the xv6 book, "Code: Sleep and wakeup"), by a channel that they sleep on.
+//! Two wake-ups stand elsewhere: `leave_pipe` of `pipe.rt`, in the middle of a close, and the mark of a kill, which
+//! wakes the process that it is set on.
 ghost use Rattle.std.specs.Prelude.{◌≡◌};
 ghost use Rattle.hart_core.specs.declared.hart.Hart.{Hart};
 ghost use Rattle.proc_table.specs.Processes.{woken};
@@ -33,7 +34,7 @@ impl Kernel {
         self.table.wake(channel);
     }
 
-    /// The parent of a process that ends wakes where it waits for a child.
+    /// The parent of a process that ends wakes if it waits for a child.
     pub(crate) fn wake_parent(&mut self, parent: Option<Pid>)
         ensures sound { (hart : Hart) → IsSound self.old hart → IsSound self.new hart }
         ensures state { (hart : Hart) → state_of self.new hart ≡ state_of self.old hart }

@@ -8,9 +8,9 @@ ghost use Rattle.kernel_spec.specs.rows.Buffers.{writable};
 ghost use Rattle.kcall_core.specs.Holdings.{held_at, HasMemory, with_image};
 ghost use Rattle.kcall_core.specs.Memories.{each_of, free_of, AreSound, RunsIn, SlotChanges};
 
-use crate::memories::{Memories, data_rights};
-use xk_base::limits::{PAGE_BYTES, VPN_END};
-use xk_base::{Access, Vpn};
+use crate::memories::Memories;
+use xk_base::limits::ADDRESS_END;
+use xk_base::{Access, Perm, Vpn};
 
 impl Memories {
     /// Whether user code may write all of so many bytes from an address on, once their absent pages are there.
@@ -31,10 +31,10 @@ impl Memories {
         ensures present { IfNone result (is_absent (held_at (each_of self.now) slot).image (address / 4096) ≡ false) }
     {
         let memory = self.memory(slot);
-        if address / PAGE_BYTES >= VPN_END as u64 {
+        if address >= ADDRESS_END {
             return None;
         }
-        let vpn = Vpn::new((address / PAGE_BYTES) as u32);
+        let vpn = Vpn::of_address(address);
         if !memory.space.absent(&self.ram, vpn) {
             return None;
         }
@@ -58,12 +58,12 @@ impl Memories {
         };
         let came = memory
             .space
-            .map_zeroed(&mut self.pool, &mut self.ram, vpn, data_rights());
+            .map_zeroed(&mut self.pool, &mut self.ram, vpn, Perm::data());
         self.each[slot] = Some(memory);
         came.is_ok()
     }
 
-    /// The absent pages in which one of so many bytes from an address on lies come, with zeros. They come where
+    /// The absent pages in which one of so many bytes from an address on lies come, with zeros. They come if
     /// so many frames are free that `spare` are left; the answer is whether they do. Else nothing is changed.
     ///
     /// What a hart keeps of the slot's translations stays true.
@@ -83,7 +83,7 @@ impl Memories {
         true
     }
 
-    /// The same, where so many frames are free.
+    /// The same, if so many frames are free.
     fn bring(&mut self, slot: usize, address: u64, len: usize)
         requires sound { AreSound self.old }
         requires there { HasMemory (each_of self.old) slot }

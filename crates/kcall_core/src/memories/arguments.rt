@@ -52,8 +52,8 @@ impl Memories {
     /// Adds the texts that the pointers from an address on lead to, up to a null pointer, to an empty list,
     /// and tells whether all of them are there.
     ///
-    /// They are not where the pointers or one of the texts can't be read, where there are more than
-    /// [`MAXARG`] texts or one that has, with its zero byte, more than [`ARG_BYTES`] bytes, or where all have
+    /// They are not if the pointers or one of the texts can't be read, if there are more than
+    /// [`MAXARG`] texts or one that has, with its zero byte, more than [`ARG_BYTES`] bytes, or if all have
     /// so together, which no stack page holds. Then it is open which texts the list has.
     pub fn fetch_args(&self, slot: usize, pointers: u64, args: &mut ArgList) -> bool
         requires sound { AreSound self.now }

@@ -63,7 +63,7 @@ impl Memories {
     /// Copies bytes to the memory of a slot. What a hart keeps of the slot's translations stays true, and
     /// as many frames are free as before.
     ///
-    /// Errors: `BadAddress` exactly where user code may not write one of them; then nothing is changed.
+    /// Errors: `BadAddress` exactly if user code may not write one of them; then nothing is changed.
     pub fn copy_out(&mut self, slot: usize, address: u64, bytes: &[u8]) -> Result<(), BadAddress>
         requires sound { AreSound self.old }
         requires there { HasMemory (each_of self.old) slot }
@@ -77,10 +77,10 @@ impl Memories {
         user_copy::copy_out(&memory.space, &mut self.ram, address, bytes)
     }
 
-    /// The number in eight bytes of the memory of a slot, little-endian. Where it answers, the bytes end at
+    /// The number in eight bytes of the memory of a slot, little-endian. If it answers, the bytes end at
     /// or below 2^38.
     ///
-    /// Errors: `BadAddress` exactly where user code may not read one of them.
+    /// Errors: `BadAddress` exactly if user code may not read one of them.
     pub fn fetch_u64(&self, slot: usize, address: u64) -> Result<u64, BadAddress>
         requires sound { AreSound self.now }
         requires there { HasMemory (each_of self.now) slot }
@@ -94,7 +94,7 @@ impl Memories {
     /// Copies a text from the memory of a slot to the front of `text`, without its zero byte, and tells how
     /// many bytes it has. With its zero byte it has at most as many as `text`, whose rest stays.
     ///
-    /// Errors: `BadAddress` exactly where there is no such text that user code may read; then `text` is as
+    /// Errors: `BadAddress` exactly if there is no such text that user code may read; then `text` is as
     /// it was.
     pub fn fetch_text(
         &self,

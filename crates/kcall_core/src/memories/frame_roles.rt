@@ -12,7 +12,10 @@ ghost use Rattle.kcall_core.specs.ObservedFrames.{page_frame_in, IsInTree, IsOff
 use crate::memories::Memories;
 use addr_space::Space;
 use phys_ram::Ram;
-use sv39_core::{Entry, read_entry, read_table};
+use sv39_core::{
+    Entry, TABLE_ENTRIES, UPPER_TABLE_PAGES, read_entry, read_lower_table, read_upper_table,
+    upper_table_end,
+};
 use xk_base::limits::NPROC;
 use xk_base::{Frame, Vpn};
 
@@ -32,12 +35,6 @@ pub enum FrameRole {
     Page(Vpn),
 }
 
-/// Entries of a table (RISC-V Privileged ISA, Sv39).
-const TABLE_ENTRIES: usize = 512;
-
-/// Pages below an upper table, one that the root leads to.
-const UPPER_PAGES: usize = TABLE_ENTRIES * TABLE_ENTRIES;
-
 /// Whether an entry leads to the page in a frame.
 fn leads_to(entry: &Entry, frame: Frame) -> bool
     ensures yes { result ≡ true → frame_of entry.now ≡ Some frame }
@@ -56,7 +53,7 @@ fn upper_table(ram: &Ram, root: Frame, page: usize) -> Option<Frame>
     ensures table { result ≡ table_at ram.now root 1 (page / 262144) }
     ensures inside { IfSome result (λ f. f < length ram.now) }
 {
-    read_table(ram, root, page / UPPER_PAGES)
+    read_upper_table(ram, root, page)
 }
 
 /// The lower table on the way to a page below an upper table.
@@ -66,7 +63,7 @@ fn lower_table(ram: &Ram, root: Frame, upper: Frame, page: usize) -> Option<Fram
     ensures table { result ≡ table_at ram.now root 2 (page / 512) }
     ensures inside { IfSome result (λ f. f < length ram.now) }
 {
-    read_table(ram, upper, page / TABLE_ENTRIES % TABLE_ENTRIES)
+    read_lower_table(ram, upper, page)
 }
 
 /// The entry of a lower table, of the first `count`, that leads to the page in a frame.
@@ -95,11 +92,11 @@ fn role_below(ram: &Ram, root: Frame, end: usize, frame: Frame) -> Option<FrameR
     let mut page = 0;
     'tables: while page < end {
         let Some(upper) = upper_table(ram, root, page) else {
-            page = (page / UPPER_PAGES + 1) * UPPER_PAGES;
+            page = upper_table_end(page);
             continue 'tables;
         };
         if upper.number() == frame.number() {
-            return Some(FrameRole::Upper((page / UPPER_PAGES) as u32));
+            return Some(FrameRole::Upper((page / UPPER_TABLE_PAGES) as u32));
         }
         let Some(lower) = lower_table(ram, root, upper, page) else {
             page += TABLE_ENTRIES;
@@ -116,7 +113,7 @@ fn role_below(ram: &Ram, root: Frame, end: usize, frame: Frame) -> Option<FrameR
     None
 }
 
-/// What a space has a frame for; none where it hasn't got it.
+/// What a space has a frame for; none if it hasn't got it.
 fn role_in_space(ram: &Ram, space: &Space, frame: Frame) -> Option<FrameRole>
     requires { IsSpace ram.now space.now }
     ensures some { IfSome result (IsInTree ram.now space.now.root frame) }
@@ -136,7 +133,7 @@ impl Memories {
         self.ram.frames()
     }
 
-    /// The frame of a page of a slot; none where there is no page.
+    /// The frame of a page of a slot; none if there is no page.
     pub fn page_frame(&self, slot: usize, vpn: Vpn) -> Option<Frame>
         requires sound { AreSound self.now }
         requires there { HasMemory (each_of self.now) slot }
@@ -145,7 +142,7 @@ impl Memories {
         self.memory(slot).space.page_frame(&self.ram, vpn)
     }
 
-    /// What the memory of a slot has a frame for; none where it hasn't got it, or there is no memory.
+    /// What the memory of a slot has a frame for; none if it hasn't got it, or there is no memory.
     pub fn frame_role(&self, slot: usize, frame: Frame) -> Option<FrameRole>
         requires sound { AreSound self.now }
         requires slot { slot < NPROC }

@@ -14,7 +14,7 @@ impl Memories {
     /// Gives a vacant slot the image of a planned program, and a trapframe of zeros; tells with which
     /// registers the program starts.
     ///
-    /// Errors: `NoFrames` exactly where the image's price and the trapframe exceed the free frames; then
+    /// Errors: `NoFrames` exactly if the image's price and the trapframe exceed the free frames; then
     /// nothing is changed.
     pub fn load_into(&mut self, slot: usize, plan: ExecPlan<'_>) -> Result<Entry, NoFrames>
         requires sound { AreSound self.old }
@@ -43,7 +43,7 @@ impl Memories {
     ///
     /// Both images are held for a moment: the new one's frames all come from the free ones.
     ///
-    /// Errors: `NoFrames` exactly where the new image's price exceeds the free frames; then nothing is
+    /// Errors: `NoFrames` exactly if the new image's price exceeds the free frames; then nothing is
     /// changed.
     pub fn replace(
         &mut self,

@@ -28,7 +28,7 @@ pub struct PipeCounts {
 
 impl Memories {
     /// Makes a frame an empty pipe with one descriptor on each end; the frame names the pipe. None exactly
-    /// where no frame is free.
+    /// if no frame is free.
     pub fn make_pipe(&mut self) -> Option<Frame>
         requires { AreSound self.old }
         ensures new { IfSome result (λ f. get (pipes_of self.old) f ≡ None) }
@@ -62,7 +62,7 @@ impl Memories {
         self.pipes[index]
     }
 
-    /// The counts of the pipe in a frame; none where it keeps no pipe.
+    /// The counts of the pipe in a frame; none if it keeps no pipe.
     pub fn pipe_counts(&self, frame: Frame) -> Option<PipeCounts>
         requires { AreSound self.now }
         ensures { result ≡ option_map counts_of (get (pipes_of self.now) frame) }
@@ -77,7 +77,7 @@ impl Memories {
         })
     }
 
-    /// The byte at a place of the pipe in a frame: 0 is the oldest. None where it has fewer bytes, or the frame
+    /// The byte at a place of the pipe in a frame: 0 is the oldest. None if it has fewer bytes, or the frame
     /// keeps no pipe.
     pub fn pipe_byte(&self, frame: Frame, place: usize) -> Option<u8>
         requires { AreSound self.now }
@@ -141,7 +141,7 @@ impl Memories {
         }
     }
 
-    /// One descriptor fewer is on an end of a pipe. The pipe stays, also where nobody is on it any more.
+    /// One descriptor fewer is on an end of a pipe. The pipe stays, also if nobody is on it any more.
     fn part(&mut self, frame: Frame, end: End)
         requires sound { AreSound self.old }
         requires there { IsSome (get (pipes_of self.old) frame) }

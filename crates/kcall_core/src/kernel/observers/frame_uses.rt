@@ -58,7 +58,7 @@ impl FrameUse {
 }
 
 impl Kernel {
-    /// The process that has a frame, and what for; none where no process has it.
+    /// The process that has a frame, and what for; none if no process has it.
     fn owner(&self, frame: Frame) -> Option<(Pid, FrameRole)>
         requires { (hart : Hart) × IsSound self.now hart }
         ensures some { IfSome result (λ owner. IsOwned self.now owner.0 frame owner.1) }
@@ -72,7 +72,7 @@ impl Kernel {
         None
     }
 
-    /// What a frame is used for, and by whom. `None` exactly where RAM has no frame of this number.
+    /// What a frame is used for, and by whom. `None` exactly if RAM has no frame of this number.
     pub fn frame_use(&self, frame: Frame) -> Option<FrameUse>
         requires { (hart : Hart) × IsSound self.now hart }
         ensures told { (used : FrameUse) → (result ≡ Some used) ↔ IsUsed self.now frame used }
@@ -90,7 +90,7 @@ impl Kernel {
         Some(FrameUse::of(pid, role))
     }
 
-    /// The frame of a page of a live process. `None` for any other pid, and where there is no page.
+    /// The frame of a page of a live process. `None` for any other pid, and if there is no page.
     pub fn page_frame(&self, pid: Pid, vpn: Vpn) -> Option<Frame>
         requires { (hart : Hart) × IsSound self.now hart }
         ensures { (frame : ℕ) → (result ≡ Some frame) ↔ IsUsed self.now frame (Page pid vpn) }

@@ -1,13 +1,17 @@
-use Rattle.std.proofs.Common.{arith, ◌∙◌}
-use Rattle.std.specs.Prelude.{option_map}
+use Rattle.std.proofs.Common.{◌<◌, length, arith, ◌∙◌}
 use Rattle.proc_table.specs.Processes.{given}
-use Rattle.proc_table.proofs.Changes.{change_more}
+use Rattle.proc_table.proofs.Changes.{changed_more, empty_more}
 use Rattle.proc_table.proofs.Tops.{all_changed}
 use Rattle.proc_table.proofs.table.give_places.Goals as goal
+use Rattle.proc_table.proofs.table.give_places.Goals.{in-Some, in_default}
 
 pub loop-slot-preserved : goal.loop-slot-preserved
 loop-slot-preserved c =
-    change_more (option_map (given c.args.from c.args.to)) c.args.places.now c.loop-slot.places c.loop-slot.slot c.index-places-slot.result c.give_place.new.place (omega (arith, c.requires.length, c.requires.top.within, c.loop-slot-test.true)) c.loop-slot.invariant c.index-places-slot.is c.give_place.ensures
+    let within : c.loop-slot.slot < length c.args.places.now = omega (arith, c.requires.length, c.requires.top.within, c.loop-slot-test.true) in
+    elim c.match-places-slot.branch [
+      | in-Some w ↦ changed_more (given c.args.from c.args.to) c.args.places.now c.loop-slot.places c.match-places-slot.places c.loop-slot.slot c.index-places-slot.result w.in-Some.process w.give.new.self within c.loop-slot.invariant c.index-places-slot.is (c.index-places-slot.is ∙ w.in-Some.is) w.give.ensures w.places-is
+      | in_default w ↦ empty_more (given c.args.from c.args.to) c.args.places.now c.loop-slot.places c.match-places-slot.places c.loop-slot.slot c.index-places-slot.result within c.loop-slot.invariant c.index-places-slot.is (c.index-places-slot.is ∙ w.in_default.is) w.places-is
+    ]
 
 pub returns : goal.returns
 returns c = c.loop-slot.invariant ∙ all_changed (given c.args.from c.args.to) c.loop-slot.slot c.args.places.now (λ k le. c.requires.top.free k (omega (arith, le, c.loop-slot-test.false)))

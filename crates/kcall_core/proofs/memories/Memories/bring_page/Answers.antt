@@ -38,7 +38,7 @@ returns-clause-brought c e =
     let came = c.map_zeroed-came.result in
     let fine = sym c.is_ok.ensures.value ∙ e in
     space-changes _ c.map_zeroed-came.new.self _ s (if-fine came fine c.map_zeroed-came.ensures.changed)
-    (if-fine came fine c.map_zeroed-came.ensures.image ∙ ap (λ p. with_page (image_of c.args.self.now.ram c.in-Some.memory.space) c.args.vpn (zeroed p)) c.data_rights.ensures ∙ bring-seen s c.args.vpn c.requires.absent)
+    (if-fine came fine c.map_zeroed-came.ensures.image ∙ ap (λ p. with_page (image_of c.args.self.now.ram c.in-Some.memory.space) c.args.vpn (zeroed p)) c.data.ensures ∙ bring-seen s c.args.vpn c.requires.absent)
     (set-twice c.args.self.now.each.items c.args.slot c.take.new.self (Some record { space = c.map_zeroed-came.new.self; trapframe = c.in-Some.memory.trapframe })) refl
 
 pub returns-clause-runs : goal.returns-clause-runs
@@ -57,5 +57,5 @@ returns-clause-refused c e =
     let put : Space → List (Option Memory) = λ x. set items c.args.slot (Some record { space = x; trapframe = c.in-Some.memory.trapframe }) in
     let back = set-twice items c.args.slot c.take.new.self (Some record { space = c.map_zeroed-came.new.self; trapframe = c.in-Some.memory.trapframe }) ∙ ap put h.1.same_space ∙ set-read items c.args.slot (Some c.in-Some.memory) None s.inside s.is in
     let set_back = with_item (with_item old.each c.args.slot c.take.new.self) c.args.slot (Some record { space = c.map_zeroed-came.new.self; trapframe = c.in-Some.memory.trapframe }) in
-    let brought = ap (λ p. with_page (image_of old.ram c.in-Some.memory.space) c.args.vpn (zeroed p)) c.data_rights.ensures ∙ bring-seen s c.args.vpn c.requires.absent in
+    let brought = ap (λ p. with_page (image_of old.ram c.in-Some.memory.space) c.args.vpn (zeroed p)) c.data.ensures ∙ bring-seen s c.args.vpn c.requires.absent in
     (omega (arith, h.0, ap price (image-seen s), ap price brought), λ i. record { ram = h.1.same_ram i; pool = h.1.same_pool i; each = vec-same old.each set_back.items set_back.ok back i; pipes = old.pipes })

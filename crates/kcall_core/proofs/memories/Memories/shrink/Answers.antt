@@ -1,6 +1,7 @@
-use Rattle.std.proofs.Common.{◌≡◌, ℕ, ◌+◌, ◌/◌, ◌≤◌, Option, Some, None, refl, sym, ◌∙◌, ap, subst, arith}
+use Rattle.std.proofs.Common.{◌≡◌, ℕ, ◌*◌, ◌≤◌, Option, Some, None, refl, sym, ◌∙◌, ap, subst, arith}
 use Rattle.xk_base.specs.Image.{Image}
 use Rattle.addr_space.specs.Changes.{shrunk}
+use Rattle.addr_space.specs.Translations.{WalksStayBelow}
 use Rattle.kcall_core.proofs.memory.Lists.{set-twice}
 use Rattle.hart_core.specs.Translations.{Fits, FitsBut}
 use Rattle.kcall_core.specs.Memories.{is_between}
@@ -47,13 +48,13 @@ pub returns-clause-runs : goal.returns-clause-runs
 returns-clause-runs c =
     let s = stands c.index_mut.result.now c.in-Some.memory c.requires.sound c.requires.there c.index_mut.ensures.value (sym c.take.ensures.value ∙ c.in-Some.is) in
     let ram = c.shrink.new.ram in
-    let first = (c.args.size + 4095) / 4096 in
+    let first = c.page_count-first.result in
     let end = c.end-end.result in
     let old = c.args.hart.now.cache in
     let new = c.forget_from.new.hart.cache in
     forgot-runs _ c.shrink.new.self s c.shrink.ensures.changed.root
     (set-twice c.args.self.now.each.items c.args.slot c.take.new.self (Some record { space = c.shrink.new.self; trapframe = c.in-Some.memory.trapframe }))
-    first end c.shrink.ensures.walks (λ va access far. c.end-end.ensures.unreached c.args.self.now.ram va access (belongs-of s).whole far)
+    first end (subst (λ n. WalksStayBelow (4096 * n) c.args.self.now.ram ram c.in-Some.memory.space.root) (sym c.page_count-first.ensures.value) c.shrink.ensures.walks) (λ va access far. c.end-end.ensures.unreached c.args.self.now.ram va access (belongs-of s).whole far)
     c.args.hart.now c.forget_from.new.hart c.requires.running (c.forget_from.ensures.root ∙ ap Some c.root.ensures)
     (subst (λ (r : ℕ). FitsBut ram r old (is_between first end) → Fits ram r new) c.root.ensures (c.forget_from.ensures.fits ram))
 
@@ -61,4 +62,4 @@ pub returns-clause-kept : goal.returns-clause-kept
 returns-clause-kept c memory is few page lt =
     let s = stands c.index_mut.result.now c.in-Some.memory c.requires.sound c.requires.there c.index_mut.ensures.value (sym c.take.ensures.value ∙ c.in-Some.is) in
     let end : memory.space.end ≡ c.in-Some.memory.space.end = ap end_of (sym is ∙ s.is) in
-    c.forget_from.ensures.kept (omega (arith, few, end, c.end-end.ensures.value)) page lt
+    c.forget_from.ensures.kept (omega (arith, few, end, c.end-end.ensures.value, c.page_count-first.ensures.value)) page (omega (arith, lt, c.page_count-first.ensures.value))
