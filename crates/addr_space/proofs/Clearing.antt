@@ -60,20 +60,28 @@ pub after-clear : (pool pool' : Pool) (ram ram' : List (List ℕ)) (root f i g :
     → Half c.mid root → 1 ≤ copies f (owned ram root) → AfterClear pool ram pool' c.mid ram' root
 after-clear pool pool' ram ram' root f i g h c more half own =
     let split : (x : ℕ) → copies x (owned ram root) ≡ at x g + copies x (owned c.mid root) = λ x. same-cons x g (owned ram root) (owned c.mid root) more in
-    let tree : IsTree c.mid root = record { once = Once-less (length c.mid) g (owned ram root) (owned c.mid root) more (subst (λ n. Once n (owned ram root)) (sym c.put.stay.count) h.tree.once); lower_half = half } in
+    let tree : IsTree c.mid root = record {
+      once = Once-less (length c.mid) g (owned ram root) (owned c.mid root) more
+          (subst (λ n. Once n (owned ram root)) (sym c.put.stay.count) h.tree.once);
+      lower_half = half;
+    } in
     let unfree : (x : ℕ) → 1 ≤ copies x (owned ram root) → copies x (free_in pool c.mid) ≡ 0 = λ x o. omega (arith, h.apart x, o, ap (copies x) c.same) in
     let kept : Kept c.mid ram' root = record {
       count = c.given.count;
-      bytes = λ x o. given-others pool pool' c.mid ram' g c.given x (λ is. omega (arith, o, h.tree.once.once g, split g, at-same g, ap (λ y. copies y (owned c.mid root)) is)) (unfree x (omega (arith, o, split x)));
+      bytes = λ x o. given-others pool pool' c.mid ram' g c.given x
+          (λ is. omega (arith, o, h.tree.once.once g, split g, at-same g, ap (λ y. copies y (owned c.mid root)) is)) (unfree x (omega (arith, o, split x)));
     } in
     let same = kept-owned c.mid ram' root tree kept in
-    let free : (x : ℕ) → copies x (free_in pool' ram') ≡ at x g + copies x (free_in pool ram) = λ x. same-cons x g (free_in pool' ram') (free_in pool c.mid) (given-free pool pool' c.mid ram' g c.given) ∙ ap (λ l. at x g + copies x l) c.same in
-    let frames : (x : ℕ) → copies x (free_in pool' ram') + copies x (owned ram' root) ≡ copies x (free_in pool ram) + copies x (owned ram root) = λ x. omega (arith, free x, split x, ap (copies x) same) in
+    let free : (x : ℕ) → copies x (free_in pool' ram') ≡ at x g + copies x (free_in pool ram) =
+    λ x. same-cons x g (free_in pool' ram') (free_in pool c.mid) (given-free pool pool' c.mid ram' g c.given) ∙ ap (λ l. at x g + copies x l) c.same in
+    let frames : (x : ℕ) → copies x (free_in pool' ram') + copies x (owned ram' root) ≡ copies x (free_in pool ram) + copies x (owned ram root) =
+    λ x. omega (arith, free x, split x, ap (copies x) same) in
     let traded : Traded pool ram pool' ram' (owned ram root) (owned ram' root) = record {
       good = c.given.good;
       count = c.given.count ∙ c.put.stay.count;
       frames = frames;
-      others = λ x fx ox. given-others pool pool' c.mid ram' g c.given x (λ is. omega (arith, ox, split x, ap (at x) (sym is), at-same x)) (ap (copies x) c.same ∙ fx) ∙ c.put.stay.others x (λ is. omega (arith, own, ox, ap (λ y. copies y (owned ram root)) is));
+      others = λ x fx ox. given-others pool pool' c.mid ram' g c.given x (λ is. omega (arith, ox, split x, ap (at x) (sym is), at-same x))
+          (ap (copies x) c.same ∙ fx) ∙ c.put.stay.others x (λ is. omega (arith, own, ox, ap (λ y. copies y (owned ram root)) is));
     } in
     record {
       tree = tree;
@@ -98,7 +106,8 @@ pub record PageGone (pool : Pool) (ram : List (List ℕ)) (pool' : Pool) (ram' :
   pub image : (u : ℕ) → (u ≡ v → ⊥) → page_at ram' root u ≡ page_at ram root u
   pub lowers : (q : ℕ) → table_at ram' root 2 q ≡ table_at ram root 2 q
 
-pub page-gone : (pool pool' : Pool) (ram ram' : List (List ℕ)) (root f i g p : ℕ) (perm : Rights) (a d : Bool) → Holds pool ram root → Cleared pool ram pool' ram' f i g → i < 512 → table_at ram root 2 p ≡ Some f → entry_at ram f i ≡ Leaf g perm a d
+pub page-gone : (pool pool' : Pool) (ram ram' : List (List ℕ)) (root f i g p : ℕ) (perm : Rights) (a d : Bool) → Holds pool ram root
+    → Cleared pool ram pool' ram' f i g → i < 512 → table_at ram root 2 p ≡ Some f → entry_at ram f i ≡ Leaf g perm a d
     → PageGone pool ram pool' ram' root (512 * p + i)
 unfolding page_frames
 page-gone pool pool' ram ram' root f i g p perm a d h c inside found leaf =
@@ -112,13 +121,17 @@ page-gone pool pool' ram ram' root f i g p perm a d h c inside found leaf =
     let was : entry_of (length c.mid) (word_at ram f i) ≡ Leaf g perm a d = ap (λ n. entry_of n (word_at ram f i)) put.stay.count ∙ leaf in
     let undo = back ram c.mid f i 0 put in
     let more : SameFrames (owned ram root) (g ∷ owned c.mid root) = leaf-owned c.mid ram root f i (word_at ram f i) p g undo spot' inside low (ap frame_of blank) (ap frame_of was) in
-    let after = after-clear pool pool' ram ram' root f i g h c more (half-written ram c.mid root f i 0 h.tree put (λ same. absurd (not-root ram root f 2 p h.tree (omega arith) (omega arith) found same))) own in
+    let after = after-clear pool pool' ram ram' root f i g h c more
+    (half-written ram c.mid root f i 0 h.tree put (λ same. absurd (not-root ram root f 2 p h.tree (omega arith) (omega arith) found same))) own in
     let there : page_entry ram root (512 * p + i) ≡ Leaf g perm a d = leaf-here c.mid ram root f i (word_at ram f i) p undo spot' inside ∙ was in
     let others : (u : ℕ) → (u ≡ 512 * p + i → ⊥) → page_entry c.mid root u ≡ page_entry ram root u = λ u ne. leaf-others ram c.mid root f i 0 p put spot u ne in
-    let pages : page_frames ram' root ≡ page_frames c.mid root = listed-same (λ v. frame_of (page_entry ram' root v)) (λ v. frame_of (page_entry c.mid root v)) (2 ^ 26) (λ k lt. ap frame_of (kept-pages c.mid ram' root after.tree after.kept k)) in
+    let pages : page_frames ram' root ≡ page_frames c.mid root =
+    listed-same (λ v. frame_of (page_entry ram' root v)) (λ v. frame_of (page_entry c.mid root v)) (2 ^ 26)
+    (λ k lt. ap frame_of (kept-pages c.mid ram' root after.tree after.kept k)) in
     let one : SameFrames (page_frames ram root) (g ∷ page_frames c.mid root) = record {
       each = λ x.
-          listed-more (λ v. frame_of (page_entry c.mid root v)) (λ v. frame_of (page_entry ram root v)) (2 ^ 26) (512 * p + i) g (omega arith) (ap frame_of blank) (ap frame_of there) (λ k lt ne. ap frame_of (sym (others k ne))) x ∙ sym (copies-cons x g (page_frames c.mid root));
+          listed-more (λ v. frame_of (page_entry c.mid root v)) (λ v. frame_of (page_entry ram root v)) (2 ^ 26) (512 * p + i) g (omega arith)
+          (ap frame_of blank) (ap frame_of there) (λ k lt ne. ap frame_of (sym (others k ne))) x ∙ sym (copies-cons x g (page_frames c.mid root));
     } in
     record {
       freed = record {
@@ -163,7 +176,8 @@ unhung ram mid root f i g l p tree put level inside found leads empty blank apar
       spot = record { found = found'; only = λ m q le e. spot.only m q le (cleared-sub ram mid root f i put m q f e) };
       level = level;
       entry_in = inside;
-      free = ap (λ t. below mid t ((512 * p + i) % 512)) (ap (table_at mid root l) quotient ∙ found') ∙ ap (λ j. table_of (entry_at mid f j)) remainder ∙ ap table_of (entry-here ram mid f i 0 put ∙ entry_of-zero (length ram));
+      free = ap (λ t. below mid t ((512 * p + i) % 512)) (ap (table_at mid root l) quotient ∙ found')
+          ∙ ap (λ j. table_of (entry_at mid f j)) remainder ∙ ap table_of (entry-here ram mid f i 0 put ∙ entry_of-zero (length ram));
       empty = λ j lt. ap table_of (stay j) ∙ empty j lt;
       blank = λ e j lt. stay j ∙ blank e j lt;
       apart = apart;
@@ -193,18 +207,26 @@ apart-of : (ram : List (List ℕ)) (root f g l p m q : ℕ) → IsTree ram root 
 apart-of ram root f g l p m q tree le me found leads ne is =
     ne ((spot-of ram root l p f tree le found).only m q me (leads ∙ ap Some is)).0
 
-pub upper-gone : (pool pool' : Pool) (ram ram' : List (List ℕ)) (root i g : ℕ) → Holds pool ram root → Cleared pool ram pool' ram' root i g → i < 256 → table_at ram root 1 i ≡ Some g → entry_at ram root i ≡ Table g
+pub upper-gone : (pool pool' : Pool) (ram ram' : List (List ℕ)) (root i g : ℕ) → Holds pool ram root → Cleared pool ram pool' ram' root i g → i < 256
+    → table_at ram root 1 i ≡ Some g → entry_at ram root i ≡ Table g
     → ((j : ℕ) → j < 512 → table_of (entry_at ram g j) ≡ None) → TableGone pool ram pool' ram' root 0 i
 upper-gone pool pool' ram ram' root i g h c inside there leads empty =
-    let hung = unhung ram c.mid root root i g 0 0 h.tree c.put (omega arith) (omega arith) refl leads empty (λ e. absurd (omega (arith, e))) (apart-of ram root root g 0 0 1 i h.tree (omega arith) (omega arith) refl there (λ e. omega (arith, e))) in
+    let hung = unhung ram c.mid root root i g 0 0 h.tree c.put (omega arith) (omega arith) refl leads empty (λ e. absurd (omega (arith, e)))
+    (apart-of ram root root g 0 0 1 i h.tree (omega arith) (omega arith) refl there (λ e. omega (arith, e))) in
     let at : 512 * 0 + i ≡ i = omega arith in
-    subst (λ q. TableGone pool ram pool' ram' root 0 q) at (table-gone pool pool' ram ram' root root i g 0 0 h c (omega arith) (omega arith) refl (λ same. inside) hung (hung-owned-upper c.mid ram root root i g hung inside))
+    subst (λ q. TableGone pool ram pool' ram' root 0 q) at
+    (table-gone pool pool' ram ram' root root i g 0 0 h c (omega arith) (omega arith) refl (λ same. inside) hung
+    (hung-owned-upper c.mid ram root root i g hung inside))
 
-pub lower-gone : (pool pool' : Pool) (ram ram' : List (List ℕ)) (root f i g p : ℕ) → Holds pool ram root → Cleared pool ram pool' ram' f i g → i < 512 → table_at ram root 1 p ≡ Some f → table_at ram root 2 (512 * p + i) ≡ Some g → entry_at ram f i ≡ Table g
+pub lower-gone : (pool pool' : Pool) (ram ram' : List (List ℕ)) (root f i g p : ℕ) → Holds pool ram root → Cleared pool ram pool' ram' f i g
+    → i < 512 → table_at ram root 1 p ≡ Some f → table_at ram root 2 (512 * p + i) ≡ Some g → entry_at ram f i ≡ Table g
     → ((j : ℕ) → j < 512 → entry_at ram g j ≡ Invalid) → TableGone pool ram pool' ram' root 1 (512 * p + i)
 lower-gone pool pool' ram ram' root f i g p h c inside found there leads blank =
-    let hung = unhung ram c.mid root f i g 1 p h.tree c.put (omega arith) inside found leads (λ j lt. ap table_of (blank j lt)) (λ e. blank) (apart-of ram root f g 1 p 2 (512 * p + i) h.tree (omega arith) (omega arith) found there (λ e. omega (arith, e))) in
-    table-gone pool pool' ram ram' root f i g 1 p h c (omega arith) inside found (λ same. absurd (not-root ram root f 1 p h.tree (omega arith) (omega arith) found same)) hung (hung-owned-lower c.mid ram root f i g p hung (upper-place ram root p f h.tree found))
+    let hung = unhung ram c.mid root f i g 1 p h.tree c.put (omega arith) inside found leads (λ j lt. ap table_of (blank j lt)) (λ e. blank)
+    (apart-of ram root f g 1 p 2 (512 * p + i) h.tree (omega arith) (omega arith) found there (λ e. omega (arith, e))) in
+    table-gone pool pool' ram ram' root f i g 1 p h c (omega arith) inside found
+    (λ same. absurd (not-root ram root f 1 p h.tree (omega arith) (omega arith) found same)) hung
+    (hung-owned-lower c.mid ram root f i g p hung (upper-place ram root p f h.tree found))
 
 pub inside-of : (pool : Pool) (ram : List (List ℕ)) (root l p f : ℕ) → Holds pool ram root → l ≤ 2 → table_at ram root l p ≡ Some f → f < length ram
 inside-of pool ram root l p f h le e = h.tree.once.inside f (table-owned ram root l p f h.tree le e)

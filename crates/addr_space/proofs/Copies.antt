@@ -1,6 +1,6 @@
 -- A space is copied page by page.
 use Rattle.std.proofs.Common.{◌≡◌, ℕ, zero, suc, ◌+◌, ◌-◌, ◌*◌, ◌/◌, ◌%◌, ◌^◌, ◌<◌, ◌≤◌, Bool, true, cond, List, [], length, set, Option, Some, None, inl, inr, refl, sym, ap, ◌∙◌, subst, arith}
-use Rattle.std.proofs.lemmas.Bool.{cases_eq}
+use Rattle.std.proofs.lemmas.Bool.{cases_eq, le-ltb}
 use Rattle.std.specs.Ordering.{nat_cmp}
 use Rattle.std.specs.FinMap.{FinMap, empty, insert, get, get-insert, same_map, nat_cmp-IsAntisymmetric}
 use Rattle.std.specs.Cmp.{nat_cmp_total}
@@ -14,7 +14,7 @@ use Rattle.frame_list.specs.Pool.{free_in}
 use Rattle.sv39_core.specs.declared.entry.Entry.{Entry}
 use Rattle.sv39_core.specs.declared.entry.Entry.TheVariants.{Invalid, Table, Leaf}
 use Rattle.sv39_core.specs.Sv39.{given, table_at, page_entry, last}
-use Rattle.sv39_core.proofs.Words.{ltb-no, leaf-perm}
+use Rattle.sv39_core.proofs.Words.{leaf-perm}
 use Rattle.xk_base.specs.Access.{is_perm}
 use Rattle.addr_space.specs.declared.Space.{Space}
 use Rattle.sv39_core.specs.Listed.{gathered, insert_some}
@@ -34,7 +34,7 @@ use Rattle.addr_space.proofs.Trades.{belongs-after, free-after, space-price}
 use Rattle.frame_list.proofs.Trades.{trade-lengths, trade-join}
 use Rattle.addr_space.proofs.Half.{half-kept}
 use Rattle.phys_ram.proofs.Words.{others_stay-set}
-use Rattle.addr_space.proofs.Freeing.{changed-none, changed-join, same-frames}
+use Rattle.addr_space.proofs.Freeing.{changed-none, changed-join, same-frames, page-none}
 
 abbrev image_pages : Image → FinMap nat_cmp Page
 image_pages i = i.pages
@@ -58,7 +58,11 @@ gathered-cost f n size lt = by (f n) refl
   where
     by : (o : Option Page) → f n ≡ o → cost (gathered f n) size ≤ cost (insert_some (gathered f n) n (f n)) size
     by None e = omega (arith, ap (λ x. cost (insert_some (gathered f n) n x) size) e)
-    by (Some p) e = omega (arith, ap (λ x. cost (insert_some (gathered f n) n x) size) e, price-more (gathered f n) size n p lt (gathered-get f n n ∙ ap (λ b. cond b (f n) None) (ltb-no n n (omega arith))))
+    by (Some p) e = omega (
+      arith,
+      ap (λ x. cost (insert_some (gathered f n) n x) size) e,
+      price-more (gathered f n) size n p lt (gathered-get f n n ∙ ap (λ b. cond b (f n) None) (le-ltb n n (omega arith))),
+    )
 
 pub gathered-costs : (f : ℕ → Option Page) (n k size : ℕ) → n + k ≤ 67108864 → cost (gathered f n) size ≤ cost (gathered f (n + k)) size
 gathered-costs f n zero size le = let e : n + 0 ≡ n = omega arith in omega (arith, ap (λ m. cost (gathered f m) size) e)
@@ -103,13 +107,10 @@ page-some ram Invalid f h = absurd (cc)
 page-some ram (Table g) f h = absurd (cc)
 page-some ram (Leaf g p a d) f h = (record { perm = given p a d; bytes = frame_at ram g }, refl)
 
-page-none : (ram : List (List ℕ)) (e : Entry) → frame_of e ≡ None → page_of ram e ≡ None
-page-none ram Invalid h = refl
-page-none ram (Table f) h = refl
-page-none ram (Leaf f p a d) h = absurd (cc)
-
-pub copied-step : (pool0 pool1 pool2 : Pool) (ram0 ram1 ram2 : List (List ℕ)) (child0 self child1 child2 : Space) (from v f : ℕ) → Copied pool0 ram0 child0 self from pool1 ram1 child1 → Changed pool1 ram1 child1 pool2 ram2 child2
-    → ((page : Page) → page_at ram1 self.root v ≡ Some page → image_of ram2 child2 ≡ with_page (image_of ram1 child1) v page) → from ≤ v → v < 67108864 → frame_of (page_entry ram1 self.root v) ≡ Some f
+pub copied-step : (pool0 pool1 pool2 : Pool) (ram0 ram1 ram2 : List (List ℕ)) (child0 self child1 child2 : Space) (from v f : ℕ)
+    → Copied pool0 ram0 child0 self from pool1 ram1 child1 → Changed pool1 ram1 child1 pool2 ram2 child2
+    → ((page : Page) → page_at ram1 self.root v ≡ Some page → image_of ram2 child2 ≡ with_page (image_of ram1 child1) v page) → from ≤ v
+    → v < 67108864 → frame_of (page_entry ram1 self.root v) ≡ Some f
     → ((u : ℕ) → from ≤ u → u < v → frame_of (page_entry ram1 self.root u) ≡ None) → Copied pool0 ram0 child0 self (v + 1) pool2 ram2 child2
 copied-step pool0 pool1 pool2 ram0 ram1 ram2 child0 self child1 child2 from v f so c image ge small there none =
     let kept : Kept ram1 ram2 self.root = record { count = c.traded.count; bytes = λ x own. c.traded.others x (omega (arith, so.apart x own)) (omega (arith, so.apart x own)) } in
@@ -117,7 +118,8 @@ copied-step pool0 pool1 pool2 ram0 ram1 ram2 child0 self child1 child2 from v f 
     let page = page-some ram1 (page_entry ram1 self.root v) f there in
     let k : from + (v - from) ≡ v = omega arith in
     let skip : gathered (page_at ram0 self.root) v ≡ gathered (page_at ram0 self.root) from =
-    sym (ap (gathered (page_at ram0 self.root)) k) ∙ gathered-skip (page_at ram0 self.root) from (v - from) (λ u gu lu. sym (so.same u) ∙ page-none ram1 (page_entry ram1 self.root u) (none u gu (omega (arith, lu, ge)))) in
+    sym (ap (gathered (page_at ram0 self.root)) k) ∙ gathered-skip (page_at ram0 self.root) from (v - from)
+    (λ u gu lu. sym (so.same u) ∙ page-none ram1 (page_entry ram1 self.root u) (none u gu (omega (arith, lu, ge)))) in
     record {
       inside = omega arith;
       belongs = belongs-after pool1 pool2 ram1 ram2 child1 child2 so.belongs c;
@@ -139,7 +141,8 @@ unfolding gathered
 gathered-zero f = refl
 
 -- the start: an empty child
-pub copied-none : (pool pool0 : Pool) (ram ram0 : List (List ℕ)) (self child : Space) → Belongs pool ram self → Made pool ram pool0 ram0 child → image_of ram0 child ≡ no_pages → price (image_of ram self) ≤ length (free_in pool ram)
+pub copied-none : (pool pool0 : Pool) (ram ram0 : List (List ℕ)) (self child : Space) → Belongs pool ram self → Made pool ram pool0 ram0 child
+    → image_of ram0 child ≡ no_pages → price (image_of ram self) ≤ length (free_in pool ram)
     → Copied pool0 ram0 child self 0 pool0 ram0 child × ((v : ℕ) → page_at ram0 self.root v ≡ page_at ram self.root v)
 copied-none pool pool0 ram ram0 self child b made image room =
     let kept : Kept ram ram0 self.root = record { count = made.traded.count; bytes = λ x own. made.traded.others x (omega (arith, b.apart x, own)) (copies-nil x) } in
@@ -154,21 +157,30 @@ copied-none pool pool0 ram ram0 self child b made image room =
         apart = λ x mine. omega (arith, made.traded.frames x, copies-nil x, b.apart x, mine, ap (copies x) own);
         same = λ v. refl;
         pages = ap image_pages image ∙ sym (gathered-zero (page_at ram0 self.root));
-        room = omega (arith, room, space-price ram0 child made.whole, trade-lengths pool pool0 ram ram0 [] (frames_of ram0 child) made.traded, ap (λ m. cost m self.size) (same-price ram ram0 self same));
+        room = omega (
+          arith,
+          room,
+          space-price ram0 child made.whole,
+          trade-lengths pool pool0 ram ram0 [] (frames_of ram0 child) made.traded,
+          ap (λ m. cost m self.size) (same-price ram ram0 self same),
+        );
       },
       same,
     )
 
 -- the end: all pages are there
-pub copied-all : (pool pool0 pool1 : Pool) (ram ram0 ram1 : List (List ℕ)) (self child0 child : Space) (from : ℕ) → Made pool ram pool0 ram0 child0 → ((v : ℕ) → page_at ram0 self.root v ≡ page_at ram self.root v) → Copied pool0 ram0 child0 self from pool1 ram1 child
+pub copied-all : (pool pool0 pool1 : Pool) (ram ram0 ram1 : List (List ℕ)) (self child0 child : Space) (from : ℕ) → Made pool ram pool0 ram0 child0
+    → ((v : ℕ) → page_at ram0 self.root v ≡ page_at ram self.root v) → Copied pool0 ram0 child0 self from pool1 ram1 child
     → ((u : ℕ) → from ≤ u → u < 67108864 → frame_of (page_entry ram1 self.root u) ≡ None)
-    → Made pool ram pool1 ram1 (record { root = child.root; size = self.size; pages = child.pages; tables = child.tables; end = child.end }) × (image_of ram1 (record { root = child.root; size = self.size; pages = child.pages; tables = child.tables; end = child.end }) ≡ image_of ram self)
+    → Made pool ram pool1 ram1 (record { root = child.root; size = self.size; pages = child.pages; tables = child.tables; end = child.end })
+    × (image_of ram1 (record { root = child.root; size = self.size; pages = child.pages; tables = child.tables; end = child.end }) ≡ image_of ram self)
 unfolding pages_of
 copied-all pool pool0 pool1 ram ram0 ram1 self child0 child from made same so none =
     let w = so.changed.whole in
     let k : from + (67108864 - from) ≡ 67108864 = omega (arith, so.inside) in
     let all : gathered (page_at ram0 self.root) (2 ^ 26) ≡ gathered (page_at ram0 self.root) from =
-    sym (ap (gathered (page_at ram0 self.root)) k) ∙ gathered-skip (page_at ram0 self.root) from (67108864 - from) (λ u gu lu. sym (so.same u) ∙ page-none ram1 (page_entry ram1 self.root u) (none u gu (omega (arith, lu, so.inside)))) in (
+    sym (ap (gathered (page_at ram0 self.root)) k) ∙ gathered-skip (page_at ram0 self.root) from (67108864 - from)
+    (λ u gu lu. sym (so.same u) ∙ page-none ram1 (page_entry ram1 self.root u) (none u gu (omega (arith, lu, so.inside)))) in (
       record {
         whole = record { tree = w.tree; full = w.full; leaves = w.leaves; pages = w.pages; tables = w.tables; ends = w.ends; size = so.whole.size };
         traded = trade-join pool pool0 pool1 ram ram0 ram1 [] (frames_of ram0 child0) (frames_of ram1 child) made.traded so.changed.traded;
@@ -177,27 +189,41 @@ copied-all pool pool0 pool1 ram ram0 ram1 self child0 child from made same so no
     )
 
 -- there is room for the next page
-pub room-for : (pool0 pool : Pool) (ram0 ram : List (List ℕ)) (child0 self child : Space) (from v f : ℕ) (page : Page) → Copied pool0 ram0 child0 self from pool ram child → from ≤ v → v < 67108864 → frame_of (page_entry ram self.root v) ≡ Some f
+pub room-for : (pool0 pool : Pool) (ram0 ram : List (List ℕ)) (child0 self child : Space) (from v f : ℕ) (page : Page)
+    → Copied pool0 ram0 child0 self from pool ram child → from ≤ v → v < 67108864 → frame_of (page_entry ram self.root v) ≡ Some f
     → ((u : ℕ) → from ≤ u → u < v → frame_of (page_entry ram self.root u) ≡ None) → price (with_page (image_of ram child) v page) ≤ price (image_of ram child) + length (free_in pool ram)
 unfolding pages_of
 room-for pool0 pool ram0 ram child0 self child from v f page so ge small there none =
     let k : from + (v - from) ≡ v = omega arith in
     let skip : gathered (page_at ram0 self.root) v ≡ gathered (page_at ram0 self.root) from =
-    sym (ap (gathered (page_at ram0 self.root)) k) ∙ gathered-skip (page_at ram0 self.root) from (v - from) (λ u gu lu. sym (so.same u) ∙ page-none ram (page_entry ram self.root u) (none u gu (omega (arith, lu, ge)))) in
+    sym (ap (gathered (page_at ram0 self.root)) k) ∙ gathered-skip (page_at ram0 self.root) from (v - from)
+    (λ u gu lu. sym (so.same u) ∙ page-none ram (page_entry ram self.root u) (none u gu (omega (arith, lu, ge)))) in
     let is : pages_of ram child.root ≡ gathered (page_at ram0 self.root) v = so.pages ∙ sym skip in
-    let gone : get (gathered (page_at ram0 self.root) v) v ≡ None = gathered-get (page_at ram0 self.root) v v ∙ ap (λ b. cond b (page_at ram0 self.root v) None) (ltb-no v v (omega arith)) in
+    let gone : get (gathered (page_at ram0 self.root) v) v ≡ None = gathered-get (page_at ram0 self.root) v v ∙ ap (λ b. cond b (page_at ram0 self.root v) None) (le-ltb v v (omega arith)) in
     let there' = page-some ram (page_entry ram self.root v) f there in
     let mine = price-more (gathered (page_at ram0 self.root) v) child.size v page small gone in
     let its = price-more (gathered (page_at ram0 self.root) v) child.size v there'.0 small gone in
     let next = gathered-next (page_at ram0 self.root) v there'.0 (sym (so.same v) ∙ there'.1) in
     let total : v + 1 + (67108864 - (v + 1)) ≡ 67108864 = omega arith in
     let more = gathered-costs (page_at ram0 self.root) (v + 1) (67108864 - (v + 1)) child.size (omega arith) in
-    omega (arith, so.room, mine, its, more, ap (λ m. cost (gathered (page_at ram0 self.root) m) child.size) total, ap (λ m. cost m child.size) next, ap (λ m. cost (insert m v page) child.size) is, cost-size (gathered (page_at ram0 self.root) 67108864) child.size self.size)
+    omega (
+      arith,
+      so.room,
+      mine,
+      its,
+      more,
+      ap (λ m. cost (gathered (page_at ram0 self.root) m) child.size) total,
+      ap (λ m. cost m child.size) next,
+      ap (λ m. cost (insert m v page) child.size) is,
+      cost-size (gathered (page_at ram0 self.root) 67108864) child.size self.size,
+    )
 
 -- the page that came
-pub came-page : (ram ram' : List (List ℕ)) (child child' : Space) (v : ℕ) (page : Page) → image_of ram' child' ≡ with_page (image_of ram child) v page → v < 67108864 → page_at ram' child'.root v ≡ Some page
+pub came-page : (ram ram' : List (List ℕ)) (child child' : Space) (v : ℕ) (page : Page)
+    → image_of ram' child' ≡ with_page (image_of ram child) v page → v < 67108864 → page_at ram' child'.root v ≡ Some page
 came-page ram ram' child child' v page e small =
-    sym (page-got ram' child'.root v small) ∙ ap (λ i. get (image_pages i) v) e ∙ get-insert nat_cmp_total (pages_of ram child.root) v page v ∙ ap (λ b. cond b (Some page) (get (pages_of ram child.root) v)) (tie-yes v v refl)
+    sym (page-got ram' child'.root v small) ∙ ap (λ i. get (image_pages i) v) e ∙ get-insert nat_cmp_total (pages_of ram child.root) v page v
+    ∙ ap (λ b. cond b (Some page) (get (pages_of ram child.root) v)) (tie-yes v v refl)
 
 pub no-leaf : (ram : List (List ℕ)) (e : Entry) (page : Page) → page_of ram e ≡ Some page → ((f : ℕ) (p : Rights) (a d : Bool) → e ≡ Leaf f p a d → ⊥) → ⊥
 no-leaf ram Invalid page h never = absurd (cc)
@@ -222,7 +248,8 @@ put-twice m v p q =
     same_map nat_cmp_total nat_cmp-IsAntisymmetric (insert (insert m v p) v q) (insert m v q) (λ u.
     get-insert nat_cmp_total (insert m v p) v q u ∙ (elim (cases_eq u v) [
       | inl e ↦ ap (λ b. cond b (Some q) (get (insert m v p) u)) (tie-yes u v e) ∙ sym (ap (λ b. cond b (Some q) (get m u)) (tie-yes u v e))
-      | inr ne ↦ ap (λ b. cond b (Some q) (get (insert m v p) u)) (tie-no u v ne) ∙ get-insert nat_cmp_total m v p u ∙ ap (λ b. cond b (Some p) (get m u)) (tie-no u v ne) ∙ sym (ap (λ b. cond b (Some q) (get m u)) (tie-no u v ne))
+      | inr ne ↦ ap (λ b. cond b (Some q) (get (insert m v p) u)) (tie-no u v ne) ∙ get-insert nat_cmp_total m v p u
+          ∙ ap (λ b. cond b (Some p) (get m u)) (tie-no u v ne) ∙ sym (ap (λ b. cond b (Some q) (get m u)) (tie-no u v ne))
     ]) ∙ sym (get-insert nat_cmp_total m v q u))
 
 pub set-stays : (ram ram' : List (List ℕ)) (f : ℕ) (bytes : List ℕ) → ram' ≡ set ram f bytes → OthersStay ram ram' f
@@ -234,7 +261,8 @@ set-here ram ram' f bytes e inside = ap (λ r. frame_at r f) e ∙ get_or-set_sa
 -- a page is mapped, and then its bytes are copied
 pub page-copied : (pool pool1 : Pool) (ram ram1 ram2 : List (List ℕ)) (self child child1 : Space) (v source target : ℕ) (perm p : Rights) (a d a' d' : Bool) → IsSpace ram self → Belongs pool ram child
     → ((f : ℕ) → 1 ≤ copies f (frames_of ram self) → copies f (free_in pool ram) + copies f (frames_of ram child) ≡ 0) → v < 67108864 → page_entry ram self.root v ≡ Leaf source perm a d
-    → Changed pool ram child pool1 ram1 child1 → image_of ram1 child1 ≡ with_page (image_of ram child) v (zeroed perm) → page_entry ram1 child1.root v ≡ Leaf target p a' d' → ram2 ≡ set ram1 target (frame_at ram1 source)
+    → Changed pool ram child pool1 ram1 child1 → image_of ram1 child1 ≡ with_page (image_of ram child) v (zeroed perm)
+    → page_entry ram1 child1.root v ≡ Leaf target p a' d' → ram2 ≡ set ram1 target (frame_at ram1 source)
     → Changed pool ram child pool1 ram2 child1 × ((page : Page) → page_at ram self.root v ≡ Some page → image_of ram2 child1 ≡ with_page (image_of ram child) v page)
 page-copied pool pool1 ram ram1 ram2 self child child1 v source target perm p a d a' d' is b apart small leaf c image leaf1 e =
     let b1 = belongs-after pool pool1 ram ram1 child child1 b c in
@@ -242,12 +270,14 @@ page-copied pool pool1 ram ram1 ram2 self child child1 v source target perm p a 
     let own : 1 ≤ copies source (frames_of ram self) = page-owned ram self.root v source is.tree (ap frame_of leaf) in
     let bytes : frame_at ram1 source ≡ frame_at ram source = c.traded.others source (omega (arith, apart source own)) (omega (arith, apart source own)) in
     let w = page-written pool1 ram1 ram2 child1 v target p a' d' b1 leaf1 (set-stays ram1 ram2 target (frame_at ram1 source) e) in
-    let same : p ≡ perm = sym (leaf-given ram1 child1 v target p a' d' b1.whole leaf1) ∙ perm-is ram1 target p perm a' d' zero_frame (sym (ap (page_of ram1) leaf1) ∙ came-page ram ram1 child child1 v (zeroed perm) image small) in
+    let same : p ≡ perm = sym (leaf-given ram1 child1 v target p a' d' b1.whole leaf1)
+    ∙ perm-is ram1 target p perm a' d' zero_frame (sym (ap (page_of ram1) leaf1) ∙ came-page ram ram1 child child1 v (zeroed perm) image small) in
     let new : frame_at ram2 target ≡ frame_at ram source = set-here ram1 ram2 target (frame_at ram1 source) e inside ∙ bytes in (
       changed-join pool pool1 pool1 ram ram1 ram2 child child1 child1 c w.changed,
       λ page there.
           let is_page : Some page ≡ Some (record { perm = perm; bytes = frame_at ram source }) = sym there ∙ page-is ram self v source perm a d is leaf in
-          let page_is : record { perm = p; bytes = frame_at ram2 target } ≡ page = ap (λ q. record { perm = q; bytes = frame_at ram2 target }) same ∙ ap (λ x. record { perm = perm; bytes = x }) new ∙ (cc) in
+          let page_is : record { perm = p; bytes = frame_at ram2 target } ≡ page = ap (λ q. record { perm = q; bytes = frame_at ram2 target }) same
+          ∙ ap (λ x. record { perm = perm; bytes = x }) new ∙ (cc) in
           w.image ∙ ap (λ i. with_page i v (record { perm = p; bytes = frame_at ram2 target })) image
           ∙ ap (λ m. record { pages = m; size = child.size }) (put-twice (pages_of ram child.root) v (zeroed perm) (record { perm = p; bytes = frame_at ram2 target }))
           ∙ ap (λ x. with_page (image_of ram child) v x) page_is,
@@ -259,11 +289,3 @@ leaf-allowed ram root v f p a d e = by (table_at ram root 2 (v / 512)) e
     by : (t : Option ℕ) → last ram t (v % 512) ≡ Leaf f p a d → is_perm p ≡ true
     by None h = absurd (cc)
     by (Some g) h = leaf-perm (length ram) (word_at ram g (v % 512)) f p a d h
-
-page_or : Page → Option Page → Page
-page_or p None = p
-page_or p (Some q) = q
-
-pub some-is : (p q : Page) → Some p ≡ Some q → p ≡ q
-unfolding page_or
-some-is p q e = ap (page_or p) e

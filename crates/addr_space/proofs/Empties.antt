@@ -13,7 +13,7 @@ use Rattle.frame_list.proofs.Trades.{taken-free}
 use Rattle.sv39_core.specs.Sv39.{flag, entry_of, entry_at, table_of, below, table_at, last, page_entry}
 use Rattle.sv39_core.proofs.Words.{entry_of-zero}
 use Rattle.sv39_core.specs.Listed.{push_some, listed, gathered, insert_some}
-use Rattle.xk_base.specs.Image.{Page, no_pages}
+use Rattle.xk_base.specs.Image.{no_pages}
 use Rattle.sv39_core.specs.Tree.{page_of, page_at, pages_of, frame_of, uppers, lowers, page_frames, owned}
 use Rattle.addr_space.specs.Space.{image_of, Made, Usual}
 
@@ -22,14 +22,10 @@ unfolding listed
 listed-none f zero h = refl
 listed-none f (suc n) h = ap (λ o. push_some o (listed f n)) (h n) ∙ listed-none f n h
 
-pub gathered-none : (f : ℕ → Option Page) (n : ℕ) → ((k : ℕ) → f k ≡ None) → gathered f n ≡ empty
+pub gathered-none : {X : Type 0} (f : ℕ → Option X) (n : ℕ) → ((k : ℕ) → f k ≡ None) → gathered f n ≡ empty
 unfolding gathered
 gathered-none f zero h = refl
 gathered-none f (suc n) h = ap (insert_some (gathered f n) n) (h n) ∙ gathered-none f n h
-
--- nothing is below a root without entries
-Bare : List (List ℕ) → ℕ → Type 0
-Bare ram root = (i : ℕ) → entry_at ram root i ≡ Invalid
 
 no-upper : (ram : List (List ℕ)) (root p : ℕ) → ((i : ℕ) → entry_at ram root i ≡ Invalid) → table_at ram root 1 p ≡ None
 no-upper ram root p bare = step (p / 512)

@@ -1,7 +1,7 @@
 -- A page goes, and the tables that then map nothing.
 use Rattle.std.proofs.Common.{◌≡◌, ℕ, ◌+◌, ◌-◌, ◌*◌, ◌/◌, ◌%◌, ◌^◌, ◌<◌, ◌≤◌, cond, ltb, List, [], ◌∷◌, ◌++◌, length, Option, Some, None, inl, inr, refl, sym, ap, ◌∙◌, subst, arith}
 use Rattle.std.specs.Prelude.{IsSome}
-use Rattle.std.proofs.lemmas.Bool.{cases_lt, cases_eq, false≢true}
+use Rattle.std.proofs.lemmas.Bool.{cases_lt, cases_eq, le-ltb, lt-ltb}
 use Rattle.std.specs.FinMap.{get, same_map, nat_cmp-IsAntisymmetric}
 use Rattle.std.specs.Cmp.{nat_cmp_total}
 use Rattle.xk_base.specs.Frames.{copies}
@@ -14,23 +14,21 @@ use Rattle.frame_list.specs.Traded.{Given, Traded}
 use Rattle.sv39_core.specs.declared.entry.Entry.{Entry}
 use Rattle.sv39_core.specs.declared.entry.Entry.TheVariants.{Invalid, Table, Leaf}
 use Rattle.sv39_core.specs.Sv39.{table_at, page_entry}
-use Rattle.sv39_core.proofs.Words.{ltb-yes, ltb-no}
 use Rattle.addr_space.specs.declared.Space.{Space}
 use Rattle.sv39_core.specs.Listed.{gathered}
-use Rattle.xk_base.specs.Image.{Image}
 use Rattle.sv39_core.specs.Tree.{page_of, page_at, pages_of, frame_of, uppers, lowers, page_frames, owned, IsTree}
 use Rattle.addr_space.specs.Space.{NoneEmpty, frames_of, Belongs, Changed, Usual}
-use Rattle.addr_space.specs.Changes.{shrunk}
 use Rattle.addr_space.specs.Steps.{Beside, Freed, Holds}
 use Rattle.sv39_core.proofs.Listings.{listed-same}
 use Rattle.sv39_core.proofs.Gathered.{gathered-get}
 use Rattle.addr_space.proofs.Paths.{beside-join, beside-none, leaves-after}
-use Rattle.addr_space.proofs.Prices.{length-kinds}
+use Rattle.addr_space.proofs.Prices.{length-kinds, some-of-is}
 use Rattle.frame_list.proofs.Trades.{trade-join, given-free}
 use Rattle.addr_space.proofs.Mapping.{counted}
 use Rattle.addr_space.proofs.Trades.{given-others}
 
-pub freed-join : (pool0 pool1 pool2 : Pool) (ram0 ram1 ram2 : List (List ℕ)) (root v n m : ℕ) → Freed pool0 ram0 pool1 ram1 root v n → Freed pool1 ram1 pool2 ram2 root v m → Freed pool0 ram0 pool2 ram2 root v (n + m)
+pub freed-join : (pool0 pool1 pool2 : Pool) (ram0 ram1 ram2 : List (List ℕ)) (root v n m : ℕ) → Freed pool0 ram0 pool1 ram1 root v n
+    → Freed pool1 ram1 pool2 ram2 root v m → Freed pool0 ram0 pool2 ram2 root v (n + m)
 freed-join pool0 pool1 pool2 ram0 ram1 ram2 root v n m a b = record {
   holds = b.holds;
   traded = trade-join pool0 pool1 pool2 ram0 ram1 ram2 (owned ram0 root) (owned ram1 root) (owned ram2 root) a.traded b.traded;
@@ -65,7 +63,8 @@ unfolding page_frames
 same-frames ram ram' root same = listed-same (λ v. frame_of (page_entry ram' root v)) (λ v. frame_of (page_entry ram root v)) (2 ^ 26) (λ k lt. ap frame_of (same k))
 
 -- the three steps together
-page-freed : (pool0 pool1 pool2 pool3 : Pool) (ram0 ram1 ram2 ram3 : List (List ℕ)) (space : Space) (v n m : ℕ) → Belongs pool0 ram0 space → Freed pool0 ram0 pool1 ram1 space.root v 1 → Freed pool1 ram1 pool2 ram2 space.root v n → Freed pool2 ram2 pool3 ram3 space.root v m
+page-freed : (pool0 pool1 pool2 pool3 : Pool) (ram0 ram1 ram2 ram3 : List (List ℕ)) (space : Space) (v n m : ℕ) → Belongs pool0 ram0 space
+    → Freed pool0 ram0 pool1 ram1 space.root v 1 → Freed pool1 ram1 pool2 ram2 space.root v n → Freed pool2 ram2 pool3 ram3 space.root v m
     → page_entry ram1 space.root v ≡ Invalid → length (page_frames ram0 space.root) ≡ 1 + length (page_frames ram1 space.root)
     → ((u : ℕ) → page_entry ram2 space.root u ≡ page_entry ram1 space.root u) → ((u : ℕ) → page_entry ram3 space.root u ≡ page_entry ram2 space.root u)
     → ((p : ℕ) → table_at ram3 space.root 2 p ≡ table_at ram2 space.root 2 p)
@@ -99,7 +98,8 @@ page-freed pool0 pool1 pool2 pool3 ram0 ram1 ram2 ram3 space v n m b a1 a2 a3 go
       },
     )
 
-pub changed-join : (pool0 pool1 pool2 : Pool) (ram0 ram1 ram2 : List (List ℕ)) (s0 s1 s2 : Space) → Changed pool0 ram0 s0 pool1 ram1 s1 → Changed pool1 ram1 s1 pool2 ram2 s2 → Changed pool0 ram0 s0 pool2 ram2 s2
+pub changed-join : (pool0 pool1 pool2 : Pool) (ram0 ram1 ram2 : List (List ℕ)) (s0 s1 s2 : Space) → Changed pool0 ram0 s0 pool1 ram1 s1
+    → Changed pool1 ram1 s1 pool2 ram2 s2 → Changed pool0 ram0 s0 pool2 ram2 s2
 changed-join pool0 pool1 pool2 ram0 ram1 ram2 s0 s1 s2 a b = record {
   whole = b.whole;
   root = b.root ∙ a.root;
@@ -109,39 +109,36 @@ changed-join pool0 pool1 pool2 ram0 ram1 ram2 s0 s1 s2 a b = record {
 pub changed-none : (pool : Pool) (ram : List (List ℕ)) (space : Space) → Belongs pool ram space → Changed pool ram space pool ram space
 changed-none pool ram space b = record { whole = b.whole; root = refl; traded = record { good = b.good; count = refl; frames = λ f. refl; others = λ f x y. refl } }
 
-page-none : (ram : List (List ℕ)) (e : Entry) → frame_of e ≡ None → page_of ram e ≡ None
+pub page-none : (ram : List (List ℕ)) (e : Entry) → frame_of e ≡ None → page_of ram e ≡ None
 page-none ram Invalid h = refl
 page-none ram (Table f) h = refl
 page-none ram (Leaf f p a d) h = absurd (cc)
 
 -- the pages below a place are those that are left
-pub pages-below : (ram ram' : List (List ℕ)) (root first : ℕ) → first ≤ 67108864 → ((u : ℕ) → u < first → page_at ram' root u ≡ page_at ram root u) → ((u : ℕ) → first ≤ u → u < 67108864 → frame_of (page_entry ram' root u) ≡ None)
+pub pages-below : (ram ram' : List (List ℕ)) (root first : ℕ) → first ≤ 67108864 → ((u : ℕ) → u < first → page_at ram' root u ≡ page_at ram root u)
+    → ((u : ℕ) → first ≤ u → u < 67108864 → frame_of (page_entry ram' root u) ≡ None)
     → pages_of ram' root ≡ gathered (get (pages_of ram root)) first
 unfolding pages_of
 pages-below ram ram' root first inside low high =
     same_map nat_cmp_total nat_cmp-IsAntisymmetric (gathered (page_at ram' root) (2 ^ 26)) (gathered (get (gathered (page_at ram root) (2 ^ 26))) first) (λ q.
     gathered-get (page_at ram' root) (2 ^ 26) q ∙ (elim (cases_lt q first) [
       | inl lt ↦
-          ap (λ b. cond b (page_at ram' root q) None) (ltb-yes q 67108864 (omega arith)) ∙ low q lt
-          ∙ sym (ap (λ b. cond b (page_at ram root q) None) (ltb-yes q 67108864 (omega arith))) ∙ sym (gathered-get (page_at ram root) (2 ^ 26) q)
-          ∙ sym (ap (λ b. cond b (get (gathered (page_at ram root) (2 ^ 26)) q) None) (ltb-yes q first lt))
+          ap (λ b. cond b (page_at ram' root q) None) (lt-ltb q 67108864 (omega arith)) ∙ low q lt
+          ∙ sym (ap (λ b. cond b (page_at ram root q) None) (lt-ltb q 67108864 (omega arith))) ∙ sym (gathered-get (page_at ram root) (2 ^ 26) q)
+          ∙ sym (ap (λ b. cond b (get (gathered (page_at ram root) (2 ^ 26)) q) None) (lt-ltb q first lt))
       | inr ge ↦
-          none q ge ∙ sym (ap (λ b. cond b (get (gathered (page_at ram root) (2 ^ 26)) q) None) (ltb-no q first ge))
+          none q ge ∙ sym (ap (λ b. cond b (get (gathered (page_at ram root) (2 ^ 26)) q) None) (le-ltb q first ge))
     ]) ∙ sym (gathered-get (get (gathered (page_at ram root) (2 ^ 26))) first q))
   where
     none : (q : ℕ) → first ≤ q → cond (ltb q (2 ^ 26)) (page_at ram' root q) None ≡ None
     none q ge = elim (cases_lt q 67108864) [
-      | inl lt ↦ ap (λ b. cond b (page_at ram' root q) None) (ltb-yes q 67108864 lt) ∙ page-none ram' (page_entry ram' root q) (high q ge lt)
-      | inr past ↦ ap (λ b. cond b (page_at ram' root q) None) (ltb-no q 67108864 past)
+      | inl lt ↦ ap (λ b. cond b (page_at ram' root q) None) (lt-ltb q 67108864 lt) ∙ page-none ram' (page_entry ram' root q) (high q ge lt)
+      | inr past ↦ ap (λ b. cond b (page_at ram' root q) None) (le-ltb q 67108864 past)
     ]
 
-none-of : (o : Option ℕ) → ((k : ℕ) → o ≡ Some k → ⊥) → o ≡ None
+pub none-of : (o : Option ℕ) → ((k : ℕ) → o ≡ Some k → ⊥) → o ≡ None
 none-of None never = refl
 none-of (Some k) never = absurd (never k refl)
-
-pub some-of : (o : Option ℕ) → IsSome o → (f : ℕ) × (o ≡ Some f)
-some-of None s = absurd (false≢true s)
-some-of (Some f) s = (f, refl)
 
 -- where no page is left after one went, no lower table is
 pub no-lowers : (ram ram' : List (List ℕ)) (root v : ℕ) → IsTree ram' root → NoneEmpty ram root → Beside ram ram' root v
@@ -161,9 +158,14 @@ no-lowers ram ram' root v tree full beside low none p = none-of (table_at ram' r
 pub only-root : (ram : List (List ℕ)) (root : ℕ) → IsTree ram root → NoneEmpty ram root → ((u : ℕ) → u < 67108864 → frame_of (page_entry ram root u) ≡ None) → owned ram root ≡ root ∷ []
 unfolding owned uppers lowers page_frames
 only-root ram root tree full none =
-    let no_page : (u : ℕ) → frame_of (page_entry ram root u) ≡ None = λ u. none-of (frame_of (page_entry ram root u)) (λ k e. let w : None ≡ Some k = sym (none u (page-place ram root u k tree e)) ∙ e in absurd (cc)) in
-    let no_lower : (p : ℕ) → table_at ram root 2 p ≡ None = λ p. none-of (table_at ram root 2 p) (λ k e. let r = full.lowers p k e in let w : None ≡ Some r.1 = sym (no_page (512 * p + r.0)) ∙ r.3 in absurd (cc)) in
-    let no_upper : (p : ℕ) → table_at ram root 1 p ≡ None = λ p. none-of (table_at ram root 1 p) (λ k e. let r = full.uppers p k e in let w : None ≡ Some r.1 = sym (no_lower (512 * p + r.0)) ∙ r.3 in absurd (cc)) in
+    let no_page : (u : ℕ) → frame_of (page_entry ram root u) ≡ None =
+    λ u. none-of (frame_of (page_entry ram root u)) (λ k e. let w : None ≡ Some k = sym (none u (page-place ram root u k tree e)) ∙ e in absurd (cc)) in
+    let no_lower : (p : ℕ) → table_at ram root 2 p ≡ None =
+    λ p. none-of (table_at ram root 2 p) (λ k e. let r = full.lowers p k e in let w : None ≡ Some r.1 = sym (no_page (512 * p + r.0)) ∙ r.3 in
+    absurd (cc)) in
+    let no_upper : (p : ℕ) → table_at ram root 1 p ≡ None =
+    λ p. none-of (table_at ram root 1 p) (λ k e. let r = full.uppers p k e in let w : None ≡ Some r.1 = sym (no_lower (512 * p + r.0)) ∙ r.3 in
+    absurd (cc)) in
     ap (λ a. root ∷ (a ++ (lowers ram root ++ page_frames ram root))) (listed-none (table_at ram root 1) 256 no_upper)
     ∙ ap (λ a. root ∷ (a ++ page_frames ram root)) (listed-none (table_at ram root 2) (2 ^ 17) no_lower)
     ∙ ap (λ a. root ∷ a) (listed-none (λ v. frame_of (page_entry ram root v)) (2 ^ 26) no_page)
@@ -179,11 +181,6 @@ root-given pool pool' ram ram' root one given =
       others = λ f free own. given-others pool pool' ram ram' root given f (λ is. omega (arith, own, mine f, ap (at f) (sym is), at-same f)) free;
     }
 
--- a page below the rounded-up new size keeps its bytes, also the page that the new size ends in
-pub shrunk-keeps : (image : Image) (size v : ℕ) → v < (size + 4095) / 4096 → get (shrunk image size).pages v ≡ get image.pages v
-shrunk-keeps image size v lt =
-    gathered-get (get image.pages) ((size + 4095) / 4096) v ∙ ap (λ b. cond b (get image.pages v) None) (ltb-yes v ((size + 4095) / 4096) lt)
-
 -- ---- the three ends of freeing a page
 
 freed-none : (pool : Pool) (ram : List (List ℕ)) (root v : ℕ) → Holds pool ram root → Freed pool ram pool ram root v 0
@@ -195,7 +192,8 @@ freed-none pool ram root v h = record {
 }
 
 -- the tables that went were counted
-pub tables-freed : (pool0 pool1 pool2 : Pool) (ram0 ram1 ram2 : List (List ℕ)) (space : Space) (v n : ℕ) → Belongs pool0 ram0 space → Freed pool0 ram0 pool1 ram1 space.root v 1 → Freed pool1 ram1 pool2 ram2 space.root v n
+pub tables-freed : (pool0 pool1 pool2 : Pool) (ram0 ram1 ram2 : List (List ℕ)) (space : Space) (v n : ℕ) → Belongs pool0 ram0 space
+    → Freed pool0 ram0 pool1 ram1 space.root v 1 → Freed pool1 ram1 pool2 ram2 space.root v n
     → length (page_frames ram0 space.root) ≡ 1 + length (page_frames ram1 space.root) → ((u : ℕ) → page_entry ram2 space.root u ≡ page_entry ram1 space.root u) → n ≤ space.tables
 tables-freed pool0 pool1 pool2 ram0 ram1 ram2 space v n b a1 a2 fewer same =
     let root = space.root in
@@ -212,13 +210,15 @@ page-went pool0 pool1 ram0 ram1 space v b a1 gone fewer there used =
     let root = space.root in
     let none = freed-none pool1 ram1 root v a1.holds in
     let at : 512 * (v / 262144) + v / 512 % 512 ≡ v / 512 = omega arith in
-    let lower = some-of (table_at ram1 root 2 (v / 512)) there in
+    let lower = some-of-is (table_at ram1 root 2 (v / 512)) there in
     let kept : space.tables - 0 ≡ space.tables = omega arith in
     subst (λ t. Changed pool0 ram0 space pool1 ram1 (counted space (space.pages - 1) t)) kept
-    (page-freed pool0 pool1 pool1 pool1 ram0 ram1 ram1 ram1 space v 0 0 b a1 none none gone fewer (λ u. refl) (λ u. refl) (λ p. refl) (λ f e. used) (λ f e. (v / 512 % 512, lower.0, omega arith, ap (table_at ram1 root 2) at ∙ lower.1))).1
+    (page-freed pool0 pool1 pool1 pool1 ram0 ram1 ram1 ram1 space v 0 0 b a1 none none gone fewer (λ u. refl) (λ u. refl) (λ p. refl) (λ f e. used)
+    (λ f e. (v / 512 % 512, lower.0, omega arith, ap (table_at ram1 root 2) at ∙ lower.1))).1
 
 -- the page went and its lower table: the upper table leads to another
-pub lower-went : (pool0 pool1 pool2 : Pool) (ram0 ram1 ram2 : List (List ℕ)) (space : Space) (v : ℕ) → Belongs pool0 ram0 space → Freed pool0 ram0 pool1 ram1 space.root v 1 → Freed pool1 ram1 pool2 ram2 space.root v 1
+pub lower-went : (pool0 pool1 pool2 : Pool) (ram0 ram1 ram2 : List (List ℕ)) (space : Space) (v : ℕ) → Belongs pool0 ram0 space
+    → Freed pool0 ram0 pool1 ram1 space.root v 1 → Freed pool1 ram1 pool2 ram2 space.root v 1
     → page_entry ram1 space.root v ≡ Invalid → length (page_frames ram0 space.root) ≡ 1 + length (page_frames ram1 space.root)
     → ((u : ℕ) → page_entry ram2 space.root u ≡ page_entry ram1 space.root u) → table_at ram2 space.root 2 (v / 512) ≡ None
     → ((i : ℕ) × (g : ℕ) × (i < 512) × (table_at ram2 space.root 2 (512 * (v / 262144) + i) ≡ Some g)) → Changed pool0 ram0 space pool2 ram2 (counted space (space.pages - 1) (space.tables - 1))
@@ -227,7 +227,8 @@ lower-went pool0 pool1 pool2 ram0 ram1 ram2 space v b a1 a2 gone fewer same away
     (λ f e. let w : None ≡ Some f = sym away ∙ e in absurd (cc)) (λ f e. used)).1
 
 -- the page went, and both tables
-pub upper-went : (pool0 pool1 pool2 pool3 : Pool) (ram0 ram1 ram2 ram3 : List (List ℕ)) (space : Space) (v : ℕ) → Belongs pool0 ram0 space → Freed pool0 ram0 pool1 ram1 space.root v 1 → Freed pool1 ram1 pool2 ram2 space.root v 1
+pub upper-went : (pool0 pool1 pool2 pool3 : Pool) (ram0 ram1 ram2 ram3 : List (List ℕ)) (space : Space) (v : ℕ) → Belongs pool0 ram0 space
+    → Freed pool0 ram0 pool1 ram1 space.root v 1 → Freed pool1 ram1 pool2 ram2 space.root v 1
     → Freed pool2 ram2 pool3 ram3 space.root v 1 → page_entry ram1 space.root v ≡ Invalid → length (page_frames ram0 space.root) ≡ 1 + length (page_frames ram1 space.root)
     → ((u : ℕ) → page_entry ram2 space.root u ≡ page_entry ram1 space.root u) → ((u : ℕ) → page_entry ram3 space.root u ≡ page_entry ram2 space.root u)
     → ((p : ℕ) → table_at ram3 space.root 2 p ≡ table_at ram2 space.root 2 p) → table_at ram2 space.root 2 (v / 512) ≡ None → table_at ram3 space.root 1 (v / 262144) ≡ None

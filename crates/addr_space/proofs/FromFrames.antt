@@ -32,7 +32,7 @@ no-frame (Table f) none = refl
 no-frame (Leaf f r a d) none = absurd (none f r a d refl)
 
 -- an entry with a frame is a leaf
-leaf-of : (e : Entry) (f : ℕ) → frame_of e ≡ Some f → (r : Rights) × (a : Bool) × (d : Bool) × (e ≡ Leaf f r a d)
+pub leaf-of : (e : Entry) (f : ℕ) → frame_of e ≡ Some f → (r : Rights) × (a : Bool) × (d : Bool) × (e ≡ Leaf f r a d)
 leaf-of Invalid f is = absurd (cc)
 leaf-of (Table g) f is = absurd (cc)
 leaf-of (Leaf g r a d) f is = let same : g ≡ f = cc in (r, a, d, ap (λ x. Leaf x r a d) same)
@@ -44,7 +44,8 @@ pub record BytesWritten (ram ram' : List (List ℕ)) (space : Space) (a : ℕ) (
   pub changed : (pool : Pool) → Belongs pool ram space → Changed pool ram space pool ram' space
 
 -- a part of the frame of page v is written
-pub frame-written : (ram ram' : List (List ℕ)) (space : Space) (v f at : ℕ) (bytes : List ℕ) → IsSpace ram space → v < 2 ^ 26 → frame_of (page_entry ram space.root v) ≡ Some f → length (frame_at ram f) ≡ 4096 → at + length bytes ≤ 4096
+pub frame-written : (ram ram' : List (List ℕ)) (space : Space) (v f at : ℕ) (bytes : List ℕ) → IsSpace ram space → v < 2 ^ 26
+    → frame_of (page_entry ram space.root v) ≡ Some f → length (frame_at ram f) ≡ 4096 → at + length bytes ≤ 4096
     → ram' ≡ set ram f (with_bytes at bytes (frame_at ram f)) → BytesWritten ram ram' space (4096 * v + at) bytes
 frame-written ram ram' space v f at bytes is low framed long fits after =
     let (r, a, d, leaf) = leaf-of (page_entry ram space.root v) f framed in

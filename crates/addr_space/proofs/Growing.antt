@@ -1,11 +1,11 @@
 -- What a growth costs.
-use Rattle.std.proofs.Common.{◌≡◌, ◌≢◌, ℕ, zero, suc, ◌+◌, ◌-◌, ◌*◌, ◌/◌, ◌%◌, ◌^◌, ◌<◌, ◌≤◌, Bool, true, false, cond, is_some, Option, Some, None, inl, inr, ◌⊎◌, refl, sym, ap, ◌∙◌, arith}
-use Rattle.std.proofs.lemmas.Bool.{cases_lt, cases_eq, false≢true}
+use Rattle.std.proofs.Common.{◌≡◌, ◌≢◌, ℕ, zero, suc, ◌+◌, ◌-◌, ◌*◌, ◌/◌, ◌%◌, ◌^◌, ◌<◌, ◌≤◌, Bool, true, false, cond, is_some, None, inl, inr, ◌⊎◌, refl, ap, ◌∙◌, arith}
+use Rattle.std.proofs.lemmas.Bool.{cases_lt, cases_eq}
 use Rattle.std.specs.Ordering.{nat_cmp}
 use Rattle.std.specs.FinMap.{FinMap, empty, insert, get}
 use Rattle.xk_base.specs.Image.{Page, some_below, price}
 use Rattle.addr_space.specs.Changes.{add_absent, with_absent}
-use Rattle.addr_space.proofs.Prices.{price-more, some-yes, some-found, some_below-same, insert-here, insert-other}
+use Rattle.addr_space.proofs.Prices.{price-more, some-yes, some-found, some_below-same, insert-here, insert-other, none-of-is}
 
 -- a page below t, of those that go into one table of each level
 abbrev pub low : FinMap nat_cmp Page → ℕ → Bool
@@ -17,13 +17,10 @@ high pages t = some_below (2 ^ 18) (λ k. is_some (get pages (2 ^ 18 * t + k)))
 abbrev pub cost : FinMap nat_cmp Page → ℕ → ℕ
 cost pages size = price (record { pages = pages; size = size })
 
-by_some : (pages : FinMap nat_cmp Page) (v : ℕ) (page : Page) (b : Bool) → is_some (get pages v) ≡ b → (add_absent pages v page ≡ pages) × (b ≡ true) ⊎ (add_absent pages v page ≡ insert pages v page) × (b ≡ false)
+by_some : (pages : FinMap nat_cmp Page) (v : ℕ) (page : Page) (b : Bool) → is_some (get pages v) ≡ b
+    → (add_absent pages v page ≡ pages) × (b ≡ true) ⊎ (add_absent pages v page ≡ insert pages v page) × (b ≡ false)
 by_some pages v page true e = inl (ap (λ b. cond b pages (insert pages v page)) e, refl)
 by_some pages v page false e = inr (ap (λ b. cond b pages (insert pages v page)) e, refl)
-
-none-is : (o : Option Page) → is_some o ≡ false → o ≡ None
-none-is None e = refl
-none-is (Some p) e = absurd (false≢true (sym e))
 
 -- away from the added pages nothing changed
 pub absent-out : (pages : FinMap nat_cmp Page) (first n : ℕ) (page : Page) (u : ℕ) → (u < first) ⊎ (first + n ≤ u) → get (with_absent pages first n page) u ≡ get pages u
@@ -70,7 +67,8 @@ unfolding with_absent
 absent-there pages first n page there =
     ap (λ b. cond b (with_absent pages first n page) (insert (with_absent pages first n page) (first + n) page)) (ap is_some (absent-out pages first n page (first + n) (inr (omega arith))) ∙ there)
 
-pub absent-new : (pages : FinMap nat_cmp Page) (first n : ℕ) (page : Page) → get pages (first + n) ≡ None → with_absent pages first (suc n) page ≡ insert (with_absent pages first n page) (first + n) page
+pub absent-new : (pages : FinMap nat_cmp Page) (first n : ℕ) (page : Page) → get pages (first + n) ≡ None
+    → with_absent pages first (suc n) page ≡ insert (with_absent pages first n page) (first + n) page
 unfolding with_absent
 absent-new pages first n page none =
     ap (λ b. cond b (with_absent pages first n page) (insert (with_absent pages first n page) (first + n) page)) (ap is_some (absent-out pages first n page (first + n) (inr (omega arith)) ∙ none))
@@ -90,7 +88,8 @@ low-new pages first n page some off =
     some-yes 512 (λ k. is_some (get (with_absent pages first n page) (512 * ((first + n) / 512) + k))) ((first + n) % 512 - 1) (omega arith)
     (ap (λ u. is_some (get (with_absent pages first n page) u)) at ∙ absent-in pages first n page (first + n - 1) (omega arith) (omega arith))
 
-pub high-old : (pages : FinMap nat_cmp Page) (first n : ℕ) (page : Page) → (0 < n → (first + n) % 262144 ≡ 0) → high (with_absent pages first n page) ((first + n) / 262144) ≡ high pages ((first + n) / 262144)
+pub high-old : (pages : FinMap nat_cmp Page) (first n : ℕ) (page : Page) → (0 < n → (first + n) % 262144 ≡ 0)
+    → high (with_absent pages first n page) ((first + n) / 262144) ≡ high pages ((first + n) / 262144)
 unfolding with_absent
 high-old pages first zero page start = refl
 high-old pages first (suc n) page start =
@@ -106,9 +105,11 @@ high-new pages first n page some off =
 
 -- what the next page costs
 pub next-cost : (pages : FinMap nat_cmp Page) (first n size : ℕ) (page : Page) → first + n < 67108864 → get pages (first + n) ≡ None
-    → cost (with_absent pages first (suc n) page) size ≡ cost (with_absent pages first n page) size + (1 + (cond (low (with_absent pages first n page) ((first + n) / 512)) 0 1 + cond (high (with_absent pages first n page) ((first + n) / 262144)) 0 1))
+    → cost (with_absent pages first (suc n) page) size ≡ cost (with_absent pages first n page) size +
+    (1 + (cond (low (with_absent pages first n page) ((first + n) / 512)) 0 1 + cond (high (with_absent pages first n page) ((first + n) / 262144)) 0 1))
 next-cost pages first n size page lt none =
-    ap (λ m. cost m size) (absent-new pages first n page none) ∙ price-more (with_absent pages first n page) size (first + n) page lt (absent-out pages first n page (first + n) (inr (omega arith)) ∙ none)
+    ap (λ m. cost m size) (absent-new pages first n page none)
+    ∙ price-more (with_absent pages first n page) size (first + n) page lt (absent-out pages first n page (first + n) (inr (omega arith)) ∙ none)
 
 -- a growth never makes it cheaper
 pub next-more : (pages : FinMap nat_cmp Page) (first n size : ℕ) (page : Page) → first + n < 67108864 → cost (with_absent pages first n page) size ≤ cost (with_absent pages first (suc n) page) size
@@ -117,9 +118,10 @@ next-more pages first n size page lt =
   where
     by : (b : Bool) → is_some (get pages (first + n)) ≡ b → cost (with_absent pages first n page) size ≤ cost (with_absent pages first (suc n) page) size
     by true e = omega (arith, ap (λ m. cost m size) (absent-there pages first n page e))
-    by false e = omega (arith, next-cost pages first n size page lt (none-is (get pages (first + n)) e))
+    by false e = omega (arith, next-cost pages first n size page lt (none-of-is (get pages (first + n)) e))
 
-pub later-more : (pages : FinMap nat_cmp Page) (first n k size : ℕ) (page : Page) → first + (n + k) ≤ 67108864 → cost (with_absent pages first n page) size ≤ cost (with_absent pages first (n + k) page) size
+pub later-more : (pages : FinMap nat_cmp Page) (first n k size : ℕ) (page : Page) → first + (n + k) ≤ 67108864
+    → cost (with_absent pages first n page) size ≤ cost (with_absent pages first (n + k) page) size
 later-more pages first n zero size page le = let e : n + 0 ≡ n = omega arith in omega (arith, ap (λ m. cost (with_absent pages first m page) size) e)
 later-more pages first n (suc k) size page le =
     let e : n + suc k ≡ suc (n + k) = omega arith in
@@ -151,7 +153,8 @@ cost-one pages first n size page lt none there =
     high-kept old = kept-yes (2 ^ 18) (λ k. 2 ^ 18 * ((first + n) / 262144) + k) old
 
 -- a page in a table of its own
-pub cost-new : (pages : FinMap nat_cmp Page) (first n size : ℕ) (page : Page) → first + n < 67108864 → get pages (first + n) ≡ None → low pages ((first + n) / 512) ≡ false → (0 < n → (first + n) % 512 ≡ 0)
+pub cost-new : (pages : FinMap nat_cmp Page) (first n size : ℕ) (page : Page) → first + n < 67108864 → get pages (first + n) ≡ None
+    → low pages ((first + n) / 512) ≡ false → (0 < n → (first + n) % 512 ≡ 0)
     → cost (with_absent pages first (suc n) page) size ≡ cost (with_absent pages first n page) size + (2 + cond (high (with_absent pages first n page) ((first + n) / 262144)) 0 1)
 cost-new pages first n size page lt none empty aligned =
     omega (arith, next-cost pages first n size page lt none, ap (λ b. cond b 0 (suc zero)) (low-old pages first n page aligned ∙ empty))

@@ -9,8 +9,7 @@ use Rattle.sv39_core.specs.Sv39.{page_entry, is_canonical, allowed, walked}
 use Rattle.sv39_core.specs.Tree.{frame_of, owned, page_at, pages_of}
 use Rattle.sv39_core.proofs.Gathered.{gathered-get}
 use Rattle.sv39_core.proofs.Places.{page-owned}
-use Rattle.sv39_core.proofs.Words.{ltb-no}
-use Rattle.std.proofs.lemmas.Bool.{cases_lt}
+use Rattle.std.proofs.lemmas.Bool.{cases_lt, le-ltb}
 use Rattle.std.proofs.Common.{inl, inr}
 use Rattle.addr_space.specs.declared.Space.{Space}
 use Rattle.addr_space.specs.Space.{image_of, IsSpace, Usual}
@@ -41,13 +40,20 @@ space-same ram ram' space is s =
     }
 
 -- one page's frame is written
-pub written-in-place : (ram ram' : List (List ℕ)) (space : Space) (v g : ℕ) (perm : Rights) (a d : Bool) → IsSpace ram space → page_entry ram space.root v ≡ Leaf g perm a d → OthersStay ram ram' g → WrittenInPlace ram ram' space
+pub written-in-place : (ram ram' : List (List ℕ)) (space : Space) (v g : ℕ) (perm : Rights) (a d : Bool) → IsSpace ram space
+    → page_entry ram space.root v ≡ Leaf g perm a d → OthersStay ram ram' g → WrittenInPlace ram ram' space
 unfolding walked
 written-in-place ram ram' space v g perm a d is leaf stay =
     let root = space.root in
     let kept = kept-but ram ram' root v g perm a d is.tree leaf stay in
     let entries = still-entries ram ram' root stay.count kept in
-    let same : SameTables ram ram' root = record { tables = still-tables ram ram' root stay.count kept; frames = λ u. ap frame_of (entries u); usual = λ u. subst (λ e. Usual e) (sym (entries u)) (is.leaves u); count = stay.count; half = half-still ram ram' root is.tree (kept 0 0 root (omega arith) refl) } in
+    let same : SameTables ram ram' root = record {
+      tables = still-tables ram ram' root stay.count kept;
+      frames = λ u. ap frame_of (entries u);
+      usual = λ u. subst (λ e. Usual e) (sym (entries u)) (is.leaves u);
+      count = stay.count;
+      half = half-still ram ram' root is.tree (kept 0 0 root (omega arith) refl);
+    } in
     let own = page-owned ram root v g is.tree (ap frame_of leaf) in
     record {
       whole = space-same ram ram' space is same;
@@ -76,7 +82,7 @@ pub page-small : (ram : List (List ℕ)) (space : Space) (v : ℕ) → HasPage (
 unfolding pages_of
 page-small ram space v (page, there) = elim (cases_lt v 67108864) [
   | inl lt ↦ lt
-  | inr ge ↦ none (sym there ∙ gathered-get (page_at ram space.root) (2 ^ 26) v ∙ ap (λ b. cond b (page_at ram space.root v) None) (ltb-no v 67108864 ge))
+  | inr ge ↦ none (sym there ∙ gathered-get (page_at ram space.root) (2 ^ 26) v ∙ ap (λ b. cond b (page_at ram space.root v) None) (le-ltb v 67108864 ge))
 ]
   where
     none : Some page ≡ None → v < 67108864

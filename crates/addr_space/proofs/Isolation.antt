@@ -31,12 +31,9 @@ spared pool pool' ram ram' mine mine' other t s =
 
 -- ---- several owners
 
--- two spaces of one pool that share no frame are strangers
-pub strangers : (pool : Pool) (ram : List (List ℕ)) (space other : Space) → Belongs pool ram space → Belongs pool ram other → ((f : ℕ) → copies f (frames_of ram space) + copies f (frames_of ram other) ≤ 1) → IsStranger pool ram (frames_of ram space) other
-strangers pool ram space other b o apart = record { whole = o.whole; apart = λ f own. omega (arith, own, o.apart f, apart f) }
-
 -- a stranger stays one
-pub stranger-after : (pool pool' : Pool) (ram ram' : List (List ℕ)) (mine mine' : List ℕ) (other : Space) → Traded pool ram pool' ram' mine mine' → IsStranger pool ram mine other → IsStranger pool' ram' mine' other
+pub stranger-after : (pool pool' : Pool) (ram ram' : List (List ℕ)) (mine mine' : List ℕ) (other : Space) → Traded pool ram pool' ram' mine mine'
+    → IsStranger pool ram mine other → IsStranger pool' ram' mine' other
 stranger-after pool pool' ram ram' mine mine' other t s =
     let same = spared pool pool' ram ram' mine mine' other t s in
     record { whole = same.whole; apart = λ f own. omega (arith, t.frames f, s.apart f (omega (arith, own, ap (copies f) same.frames))) }

@@ -39,7 +39,8 @@ pub costs : (ram : List (List ℕ)) (space : Space) (v need : ℕ) (page : Page)
     → price (with_page (image_of ram space) v page) ≡ price (image_of ram space) + need
 costs ram space v need page is small none e = omega (arith, price-rise ram space.root space.size v page is.tree is.full small none, e)
 
-pub mapped : (pool pool' : Pool) (ram ram' : List (List ℕ)) (space : Space) (v g need end : ℕ) (perm : Rights) → IsSpace ram space → v < 67108864 → page_at ram space.root v ≡ None → need ≡ rise ram space.root v → end ≡ max space.end (v + 1)
+pub mapped : (pool pool' : Pool) (ram ram' : List (List ℕ)) (space : Space) (v g need end : ℕ) (perm : Rights) → IsSpace ram space → v < 67108864
+    → page_at ram space.root v ≡ None → need ≡ rise ram space.root v → end ≡ max space.end (v + 1)
     → PageAdded pool ram pool' ram' space.root v perm → Beside ram ram' space.root v → page_entry ram' space.root v ≡ Leaf g perm true true
     → Changed pool ram space pool' ram' (with_more space (space.tables + (need - 1)) end)
 mapped pool pool' ram ram' space v g need end perm is small none e more_end added beside there =
@@ -48,7 +49,8 @@ mapped pool pool' ram ram' space v g need end perm is small none e more_end adde
     let old = space-counts ram space is in
     let new = length-owned ram' space.root space.size added.holds.tree full in
     let cost : price (with_page (image_of ram space) v (zeroed perm)) ≡ price (image_of ram space) + need = costs ram space v need (zeroed perm) is small none e in
-    let same : price (record { pages = pages_of ram' space.root; size = space.size }) ≡ price (with_page (image_of ram space) v (zeroed perm)) = ap (λ m. price (record { pages = m; size = space.size })) added.pages in
+    let same : price (record { pages = pages_of ram' space.root; size = space.size }) ≡ price (with_page (image_of ram space) v (zeroed perm)) =
+    ap (λ m. price (record { pages = m; size = space.size })) added.pages in
     record {
       whole = record {
         tree = added.holds.tree;
@@ -63,7 +65,8 @@ mapped pool pool' ram ram' space v g need end perm is small none e more_end adde
       traded = trade-added pool pool' ram ram' space.root v perm added;
     }
 
-pub image-more : (pool pool' : Pool) (ram ram' : List (List ℕ)) (space : Space) (v pages tables : ℕ) (perm : Rights) → PageAdded pool ram pool' ram' space.root v perm → image_of ram' (counted space pages tables) ≡ with_page (image_of ram space) v (zeroed perm)
+pub image-more : (pool pool' : Pool) (ram ram' : List (List ℕ)) (space : Space) (v pages tables : ℕ) (perm : Rights)
+    → PageAdded pool ram pool' ram' space.root v perm → image_of ram' (counted space pages tables) ≡ with_page (image_of ram space) v (zeroed perm)
 image-more pool pool' ram ram' space v pages tables perm added = ap (λ m. record { pages = m; size = space.size }) added.pages
 
 -- the counts are small

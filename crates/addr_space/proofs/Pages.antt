@@ -32,7 +32,9 @@ pub record SameTables (ram ram' : List (List ℕ)) (root : ℕ) : Type 0 where
   pub count : length ram' ≡ length ram
   pub half : Half ram' root
 
-pub still-tables : (ram ram' : List (List ℕ)) (root : ℕ) → length ram' ≡ length ram → ((l p f : ℕ) → l ≤ 2 → table_at ram root l p ≡ Some f → frame_at ram' f ≡ frame_at ram f) → (l p : ℕ) → l ≤ 2 → table_at ram' root l p ≡ table_at ram root l p
+pub still-tables : (ram ram' : List (List ℕ)) (root : ℕ) → length ram' ≡ length ram
+    → ((l p f : ℕ) → l ≤ 2 → table_at ram root l p ≡ Some f → frame_at ram' f ≡ frame_at ram f) → (l p : ℕ) → l ≤ 2
+    → table_at ram' root l p ≡ table_at ram root l p
 still-tables ram ram' root count kept zero zero le = refl
 still-tables ram ram' root count kept zero (suc p) le = refl
 still-tables ram ram' root count kept (suc l) p le =
@@ -42,7 +44,8 @@ still-tables ram ram' root count kept (suc l) p le =
     step None i h = refl
     step (Some f) i h = ap table_of (ap (λ n. entry_of n (word_at ram' f i)) count ∙ ap (entry_of (length ram)) (word_at-same ram ram' f i (h f refl)))
 
-pub still-entries : (ram ram' : List (List ℕ)) (root : ℕ) → length ram' ≡ length ram → ((l p f : ℕ) → l ≤ 2 → table_at ram root l p ≡ Some f → frame_at ram' f ≡ frame_at ram f) → (v : ℕ) → page_entry ram' root v ≡ page_entry ram root v
+pub still-entries : (ram ram' : List (List ℕ)) (root : ℕ) → length ram' ≡ length ram
+    → ((l p f : ℕ) → l ≤ 2 → table_at ram root l p ≡ Some f → frame_at ram' f ≡ frame_at ram f) → (v : ℕ) → page_entry ram' root v ≡ page_entry ram root v
 still-entries ram ram' root count kept v =
     ap (λ t. last ram' t (v % 512)) (still-tables ram ram' root count kept 2 (v / 512) (omega arith)) ∙ step (table_at ram root 2 (v / 512)) (v % 512) (λ f e. kept 2 (v / 512) f (omega arith) e)
   where
@@ -56,14 +59,16 @@ same-owned ram ram' root s =
     let u : uppers ram' root ≡ uppers ram root = listed-same (table_at ram' root 1) (table_at ram root 1) 256 (λ k h. s.tables 1 k (omega arith)) in
     let l : lowers ram' root ≡ lowers ram root = listed-same (table_at ram' root 2) (table_at ram root 2) (2 ^ 17) (λ k h. s.tables 2 k (omega arith)) in
     let p : page_frames ram' root ≡ page_frames ram root = listed-same (λ v. frame_of (page_entry ram' root v)) (λ v. frame_of (page_entry ram root v)) (2 ^ 26) (λ k h. s.frames k) in
-    ap (λ a. root ∷ (a ++ (lowers ram' root ++ page_frames ram' root))) u ∙ ap (λ a. root ∷ (uppers ram root ++ (a ++ page_frames ram' root))) l ∙ ap (λ a. root ∷ (uppers ram root ++ (lowers ram root ++ a))) p
+    ap (λ a. root ∷ (a ++ (lowers ram' root ++ page_frames ram' root))) u ∙ ap (λ a. root ∷ (uppers ram root ++ (a ++ page_frames ram' root))) l
+    ∙ ap (λ a. root ∷ (uppers ram root ++ (lowers ram root ++ a))) p
 
 pub same-pages : (ram ram' : List (List ℕ)) (root : ℕ) → SameTables ram ram' root → page_frames ram' root ≡ page_frames ram root
 unfolding page_frames
 same-pages ram ram' root s = listed-same (λ v. frame_of (page_entry ram' root v)) (λ v. frame_of (page_entry ram root v)) (2 ^ 26) (λ k h. s.frames k)
 
 -- a write to one frame of a space that leaves its tables
-pub changed-same : (pool : Pool) (ram ram' : List (List ℕ)) (space : Space) (g : ℕ) → Belongs pool ram space → SameTables ram ram' space.root → OthersStay ram ram' g → 1 ≤ copies g (frames_of ram space) → Changed pool ram space pool ram' space
+pub changed-same : (pool : Pool) (ram ram' : List (List ℕ)) (space : Space) (g : ℕ) → Belongs pool ram space → SameTables ram ram' space.root
+    → OthersStay ram ram' g → 1 ≤ copies g (frames_of ram space) → Changed pool ram space pool ram' space
 changed-same pool ram ram' space g b s stay own =
     let root = space.root in
     let free : copies g (free_in pool ram) ≡ 0 = omega (arith, b.apart g, own) in
@@ -104,7 +109,8 @@ pub record Written (pool : Pool) (ram ram' : List (List ℕ)) (space : Space) (v
   pub changed : Changed pool ram space pool ram' space
   pub image : image_of ram' space ≡ with_page (image_of ram space) v page
 
-pub kept-but : (ram ram' : List (List ℕ)) (root v g : ℕ) (perm : Rights) (a d : Bool) → IsTree ram root → page_entry ram root v ≡ Leaf g perm a d → OthersStay ram ram' g → (l p f : ℕ) → l ≤ 2 → table_at ram root l p ≡ Some f → frame_at ram' f ≡ frame_at ram f
+pub kept-but : (ram ram' : List (List ℕ)) (root v g : ℕ) (perm : Rights) (a d : Bool) → IsTree ram root → page_entry ram root v ≡ Leaf g perm a d
+    → OthersStay ram ram' g → (l p f : ℕ) → l ≤ 2 → table_at ram root l p ≡ Some f → frame_at ram' f ≡ frame_at ram f
 kept-but ram ram' root v g perm a d tree leaf stay l p f le e = stay.others f (λ is. page-apart ram root v g l p tree (ap frame_of leaf) le (e ∙ ap Some is))
 
 -- a leaf whose bits A and D are set gives all of its rights
@@ -115,7 +121,8 @@ pub leaf-given : (ram : List (List ℕ)) (space : Space) (v g : ℕ) (perm : Rig
 leaf-given ram space v g perm a d is leaf = given-all perm a d (subst (λ e. Usual e) leaf (is.leaves v))
 
 -- the page that a leaf of a space stands for
-pub page-is : (ram : List (List ℕ)) (space : Space) (v g : ℕ) (perm : Rights) (a d : Bool) → IsSpace ram space → page_entry ram space.root v ≡ Leaf g perm a d → page_at ram space.root v ≡ Some (record { perm = perm; bytes = frame_at ram g })
+pub page-is : (ram : List (List ℕ)) (space : Space) (v g : ℕ) (perm : Rights) (a d : Bool) → IsSpace ram space
+    → page_entry ram space.root v ≡ Leaf g perm a d → page_at ram space.root v ≡ Some (record { perm = perm; bytes = frame_at ram g })
 page-is ram space v g perm a d is leaf = ap (page_of ram) leaf ∙ ap (λ p. Some (record { perm = p; bytes = frame_at ram g })) (leaf-given ram space v g perm a d is leaf)
 
 -- the bytes of a page are written
@@ -126,22 +133,34 @@ bytes-image ram ram' space v g perm a d is leaf stay =
     let root = space.root in
     let there : frame_of (page_entry ram root v) ≡ Some g = ap frame_of leaf in
     let entries = still-entries ram ram' root stay.count (kept-but ram ram' root v g perm a d is.tree leaf stay) in
-    let here : page_at ram' root v ≡ Some (record { perm = perm; bytes = frame_at ram' g }) = ap (page_of ram') (entries v ∙ leaf) ∙ ap (λ p. Some (record { perm = p; bytes = frame_at ram' g })) (leaf-given ram space v g perm a d is leaf) in
-    let others : (u : ℕ) → u ≢ v → page_at ram' root u ≡ page_at ram root u = λ u ne. ap (page_of ram') (entries u) ∙ page_of-same ram ram' (page_entry ram root u) (λ f e. stay.others f (λ h. ne (page-one ram root u v g is.tree (e ∙ ap Some h) there))) in
-    ap (λ m. record { pages = m; size = space.size }) (gathered-insert (page_at ram root) (page_at ram' root) (2 ^ 26) v (record { perm = perm; bytes = frame_at ram' g }) (page-place ram root v g is.tree there) here others)
+    let here : page_at ram' root v ≡ Some (record { perm = perm; bytes = frame_at ram' g }) = ap (page_of ram') (entries v ∙ leaf)
+    ∙ ap (λ p. Some (record { perm = p; bytes = frame_at ram' g })) (leaf-given ram space v g perm a d is leaf) in
+    let others : (u : ℕ) → u ≢ v → page_at ram' root u ≡ page_at ram root u = λ u ne. ap (page_of ram') (entries u)
+    ∙ page_of-same ram ram' (page_entry ram root u) (λ f e. stay.others f (λ h. ne (page-one ram root u v g is.tree (e ∙ ap Some h) there))) in
+    ap (λ m. record { pages = m; size = space.size }) (gathered-insert (page_at ram root) (page_at ram' root) (2 ^ 26) v
+    (record { perm = perm; bytes = frame_at ram' g }) (page-place ram root v g is.tree there) here others)
 
-pub bytes-changed : (pool : Pool) (ram ram' : List (List ℕ)) (space : Space) (v g : ℕ) (perm : Rights) (a d : Bool) → Belongs pool ram space → page_entry ram space.root v ≡ Leaf g perm a d → OthersStay ram ram' g → Changed pool ram space pool ram' space
+pub bytes-changed : (pool : Pool) (ram ram' : List (List ℕ)) (space : Space) (v g : ℕ) (perm : Rights) (a d : Bool) → Belongs pool ram space
+    → page_entry ram space.root v ≡ Leaf g perm a d → OthersStay ram ram' g → Changed pool ram space pool ram' space
 bytes-changed pool ram ram' space v g perm a d b leaf stay =
     let root = space.root in
     let tree = b.whole.tree in
     let kept = kept-but ram ram' root v g perm a d tree leaf stay in
     let entries = still-entries ram ram' root stay.count kept in
-    let same : SameTables ram ram' root = record { tables = still-tables ram ram' root stay.count kept; frames = λ u. ap frame_of (entries u); usual = λ u. subst (λ e. Usual e) (sym (entries u)) (b.whole.leaves u); count = stay.count; half = half-still ram ram' root tree (kept 0 0 root (omega arith) refl) } in
+    let same : SameTables ram ram' root = record {
+      tables = still-tables ram ram' root stay.count kept;
+      frames = λ u. ap frame_of (entries u);
+      usual = λ u. subst (λ e. Usual e) (sym (entries u)) (b.whole.leaves u);
+      count = stay.count;
+      half = half-still ram ram' root tree (kept 0 0 root (omega arith) refl);
+    } in
     changed-same pool ram ram' space g b same stay (page-owned ram root v g tree (ap frame_of leaf))
 
-pub page-written : (pool : Pool) (ram ram' : List (List ℕ)) (space : Space) (v g : ℕ) (perm : Rights) (a d : Bool) → Belongs pool ram space → page_entry ram space.root v ≡ Leaf g perm a d → OthersStay ram ram' g
+pub page-written : (pool : Pool) (ram ram' : List (List ℕ)) (space : Space) (v g : ℕ) (perm : Rights) (a d : Bool) → Belongs pool ram space
+    → page_entry ram space.root v ≡ Leaf g perm a d → OthersStay ram ram' g
     → Written pool ram ram' space v (record { perm = perm; bytes = frame_at ram' g })
-page-written pool ram ram' space v g perm a d b leaf stay = record { changed = bytes-changed pool ram ram' space v g perm a d b leaf stay; image = bytes-image ram ram' space v g perm a d b.whole leaf stay }
+page-written pool ram ram' space v g perm a d b leaf stay =
+    record { changed = bytes-changed pool ram ram' space v g perm a d b leaf stay; image = bytes-image ram ram' space v g perm a d b.whole leaf stay }
 
 -- the permissions of a page are written
 pub record Rewritten (ram ram' : List (List ℕ)) (root f i p g : ℕ) (perm perm' : Rights) (a d : Bool) : Type 0 where
@@ -150,7 +169,8 @@ pub record Rewritten (ram ram' : List (List ℕ)) (root f i p g : ℕ) (perm per
   pub here : page_entry ram' root (512 * p + i) ≡ Leaf g perm' true true
   pub others : (u : ℕ) → u ≢ 512 * p + i → page_entry ram' root u ≡ page_entry ram root u
 
-pub rewritten : (ram ram' : List (List ℕ)) (root f i p g : ℕ) (perm perm' : Rights) (a d : Bool) → IsTree ram root → table_at ram root 2 p ≡ Some f → i < 512 → entry_at ram f i ≡ Leaf g perm a d → WordWritten ram ram' f i (leaf_word g perm') → is_perm perm' ≡ true → g < 32768
+pub rewritten : (ram ram' : List (List ℕ)) (root f i p g : ℕ) (perm perm' : Rights) (a d : Bool) → IsTree ram root → table_at ram root 2 p ≡ Some f
+    → i < 512 → entry_at ram f i ≡ Leaf g perm a d → WordWritten ram ram' f i (leaf_word g perm') → is_perm perm' ≡ true → g < 32768
     → Rewritten ram ram' root f i p g perm perm' a d
 rewritten ram ram' root f i p g perm perm' a d tree found inside leaf put ok small =
     let spot = spot-of ram root 2 p f tree (omega arith) found in
@@ -160,25 +180,38 @@ rewritten ram ram' root f i p g perm perm' a d tree found inside leaf put ok sma
     record {
       tables = λ l q le. leaf-tables ram ram' root f i (leaf_word g perm') p put spot l q le;
       was = was;
-      here = leaf-here ram ram' root f i (leaf_word g perm') p put spot inside ∙ entry_of-leaf_word (length ram) g perm' ok (tree.once.inside g (page-owned ram root (512 * p + i) g tree (ap frame_of was))) small;
+      here = leaf-here ram ram' root f i (leaf_word g perm') p put spot inside
+          ∙ entry_of-leaf_word (length ram) g perm' ok (tree.once.inside g (page-owned ram root (512 * p + i) g tree (ap frame_of was))) small;
       others = λ u ne. leaf-others ram ram' root f i (leaf_word g perm') p put spot u ne;
     }
 
-pub perm-changed : (pool : Pool) (ram ram' : List (List ℕ)) (space : Space) (f i p g : ℕ) (perm perm' : Rights) (a d : Bool) → Belongs pool ram space → table_at ram space.root 2 p ≡ Some f → i < 512 → entry_at ram f i ≡ Leaf g perm a d → WordWritten ram ram' f i (leaf_word g perm') → is_perm perm' ≡ true → g < 32768
+pub perm-changed : (pool : Pool) (ram ram' : List (List ℕ)) (space : Space) (f i p g : ℕ) (perm perm' : Rights) (a d : Bool) → Belongs pool ram space
+    → table_at ram space.root 2 p ≡ Some f → i < 512 → entry_at ram f i ≡ Leaf g perm a d → WordWritten ram ram' f i (leaf_word g perm')
+    → is_perm perm' ≡ true → g < 32768
     → Changed pool ram space pool ram' space
 perm-changed pool ram ram' space f i p g perm perm' a d b found inside leaf put ok small =
     let tree = b.whole.tree in
     let r = rewritten ram ram' space.root f i p g perm perm' a d tree found inside leaf put ok small in
     let same : SameTables ram ram' space.root = record {
       tables = r.tables;
-      frames = λ u. elim (cases_eq u (512 * p + i)) [ inl e ↦ ap (λ x. frame_of (page_entry ram' space.root x)) e ∙ ap frame_of r.here ∙ sym (ap frame_of r.was) ∙ sym (ap (λ x. frame_of (page_entry ram space.root x)) e) | inr ne ↦ ap frame_of (r.others u ne) ];
-      usual = λ u. elim (cases_eq u (512 * p + i)) [ inl e ↦ subst (λ x. Usual x) (sym (ap (page_entry ram' space.root) e ∙ r.here)) (refl, refl) | inr ne ↦ subst (λ x. Usual x) (sym (r.others u ne)) (b.whole.leaves u) ];
+      frames = λ u. elim (cases_eq u (512 * p + i)) [
+        | inl e ↦ ap (λ x. frame_of (page_entry ram' space.root x)) e ∙ ap frame_of r.here
+            ∙ sym (ap frame_of r.was) ∙ sym (ap (λ x. frame_of (page_entry ram space.root x)) e)
+        | inr ne ↦ ap frame_of (r.others u ne)
+      ];
+      usual = λ u. elim (cases_eq u (512 * p + i)) [
+        | inl e ↦ subst (λ x. Usual x) (sym (ap (page_entry ram' space.root) e ∙ r.here))
+            (refl, refl)
+        | inr ne ↦ subst (λ x. Usual x) (sym (r.others u ne)) (b.whole.leaves u)
+      ];
       count = put.stay.count;
       half = half-written ram ram' space.root f i (leaf_word g perm') tree put (λ is. absurd (not-root ram space.root f 2 p tree (omega arith) (omega arith) found is));
     } in
     changed-same pool ram ram' space f b same put.stay (table-owned ram space.root 2 p f tree (omega arith) found)
 
-pub perm-image : (ram ram' : List (List ℕ)) (space : Space) (f i p g : ℕ) (perm perm' : Rights) (a d : Bool) → IsSpace ram space → table_at ram space.root 2 p ≡ Some f → i < 512 → entry_at ram f i ≡ Leaf g perm a d → WordWritten ram ram' f i (leaf_word g perm') → is_perm perm' ≡ true → g < 32768
+pub perm-image : (ram ram' : List (List ℕ)) (space : Space) (f i p g : ℕ) (perm perm' : Rights) (a d : Bool) → IsSpace ram space
+    → table_at ram space.root 2 p ≡ Some f → i < 512 → entry_at ram f i ≡ Leaf g perm a d → WordWritten ram ram' f i (leaf_word g perm')
+    → is_perm perm' ≡ true → g < 32768
     → image_of ram' space ≡ with_page (image_of ram space) (512 * p + i) (record { perm = perm'; bytes = frame_at ram g })
 unfolding pages_of
 perm-image ram ram' space f i p g perm perm' a d is found inside leaf put ok small =
@@ -186,5 +219,6 @@ perm-image ram ram' space f i p g perm perm' a d is found inside leaf put ok sma
     let r = rewritten ram ram' root f i p g perm perm' a d is.tree found inside leaf put ok small in
     let bytes : frame_at ram' g ≡ frame_at ram g = put.stay.others g (λ e. page-apart ram root (512 * p + i) g 2 p is.tree (ap frame_of r.was) (omega arith) (found ∙ ap Some (sym e))) in
     let here : page_at ram' root (512 * p + i) ≡ Some (record { perm = perm'; bytes = frame_at ram g }) = ap (page_of ram') r.here ∙ ap (λ x. Some (record { perm = perm'; bytes = x })) bytes in
-    ap (λ m. record { pages = m; size = space.size }) (gathered-insert (page_at ram root) (page_at ram' root) (2 ^ 26) (512 * p + i) (record { perm = perm'; bytes = frame_at ram g }) (page-place ram root (512 * p + i) g is.tree (ap frame_of r.was)) here
+    ap (λ m. record { pages = m; size = space.size }) (gathered-insert (page_at ram root) (page_at ram' root) (2 ^ 26) (512 * p + i)
+    (record { perm = perm'; bytes = frame_at ram g }) (page-place ram root (512 * p + i) g is.tree (ap frame_of r.was)) here
     (λ u ne. table-write-image ram ram' root f 2 p is.tree put.stay (omega arith) found u (r.others u ne)))

@@ -61,7 +61,8 @@ image_bytes-append i a d (suc m) =
     ∙ ap (λ n. image_bytes i a d ++ image_bytes i (a + d) n) (sym (suc-one m))
 
 -- what a loop has written after one part more
-pub write-more : (i j k : Image) (a d n place : ℕ) (bytes : List ℕ) → j ≡ write_image i a (take d bytes) → d + n ≤ length bytes → place ≡ a + d → k ≡ write_image j place (take (d + n - d) (drop d bytes)) → k ≡ write_image i a (take (d + n) bytes)
+pub write-more : (i j k : Image) (a d n place : ℕ) (bytes : List ℕ) → j ≡ write_image i a (take d bytes) → d + n ≤ length bytes → place ≡ a + d
+    → k ≡ write_image j place (take (d + n - d) (drop d bytes)) → k ≡ write_image i a (take (d + n) bytes)
 write-more i j k a d n place bytes before inside at after =
     let long : length (take d bytes) ≡ d = length-take-le d bytes (omega (arith, inside)) in
     let seam : place ≡ a + length (take d bytes) = at ∙ ap (λ x. a + x) (sym long) in

@@ -48,34 +48,42 @@ full-after ram ram' root v g full beside there = record {
   ];
 }
 
-pub leaves-after : (ram ram' : List (List ℕ)) (root v : ℕ) → ((u : ℕ) → Usual (page_entry ram root u)) → Beside ram ram' root v → Usual (page_entry ram' root v) → (u : ℕ) → Usual (page_entry ram' root u)
+pub leaves-after : (ram ram' : List (List ℕ)) (root v : ℕ) → ((u : ℕ) → Usual (page_entry ram root u)) → Beside ram ram' root v
+    → Usual (page_entry ram' root v) → (u : ℕ) → Usual (page_entry ram' root u)
 leaves-after ram ram' root v leaves beside there u =
     elim (cases_eq u v) [
       | inl same ↦ subst (λ e. Usual e) (ap (page_entry ram' root) (sym same)) there
       | inr ne ↦ subst (λ e. Usual e) (sym (beside.pages u ne)) (leaves u)
     ]
 
-pub hang-upper-beside : (pool pool' : Pool) (ram ram' : List (List ℕ)) (root v g : ℕ) → Holds pool ram root → Hanging pool ram pool' ram' root (v / 262144) g → v < 67108864 → table_at ram root 1 (512 * 0 + v / 262144) ≡ None → Beside ram ram' root v
+pub hang-upper-beside : (pool pool' : Pool) (ram ram' : List (List ℕ)) (root v g : ℕ) → Holds pool ram root
+    → Hanging pool ram pool' ram' root (v / 262144) g → v < 67108864 → table_at ram root 1 (512 * 0 + v / 262144) ≡ None → Beside ram ram' root v
 hang-upper-beside pool pool' ram ram' root v g h hang small none =
     let after = after-take pool pool' ram hang.mid root g h hang.taken.traded.count hang.taken in
     let hung = hung-of pool pool' ram hang.mid ram' root root (v / 262144) g 0 0 h after hang.put hang.small (omega arith) refl (omega arith) none in
     record {
-      uppers = λ p ne. hung-others hang.mid ram' root root (v / 262144) g 0 0 hung 1 p (omega arith) (λ e is. ne (omega (arith, is))) ∙ kept-tables ram hang.mid root h.tree after.kept 1 p (omega arith);
+      uppers = λ p ne. hung-others hang.mid ram' root root (v / 262144) g 0 0 hung 1 p (omega arith) (λ e is. ne (omega (arith, is)))
+          ∙ kept-tables ram hang.mid root h.tree after.kept 1 p (omega arith);
       lowers = λ p ne. hung-others hang.mid ram' root root (v / 262144) g 0 0 hung 2 p (omega arith) (λ e is. absurd (omega arith)) ∙ kept-tables ram hang.mid root h.tree after.kept 2 p (omega arith);
       pages = λ u ne. hung-pages hang.mid ram' root root (v / 262144) g 0 0 hung u ∙ kept-pages ram hang.mid root h.tree after.kept u;
     }
 
-pub hang-lower-beside : (pool pool' : Pool) (ram ram' : List (List ℕ)) (root f v g : ℕ) → Holds pool ram root → Hanging pool ram pool' ram' f (v / 512 % 512) g → v < 67108864 → table_at ram root 1 (v / 262144) ≡ Some f → table_at ram root 2 (512 * (v / 262144) + v / 512 % 512) ≡ None → Beside ram ram' root v
+pub hang-lower-beside : (pool pool' : Pool) (ram ram' : List (List ℕ)) (root f v g : ℕ) → Holds pool ram root
+    → Hanging pool ram pool' ram' f (v / 512 % 512) g → v < 67108864 → table_at ram root 1 (v / 262144) ≡ Some f
+    → table_at ram root 2 (512 * (v / 262144) + v / 512 % 512) ≡ None → Beside ram ram' root v
 hang-lower-beside pool pool' ram ram' root f v g h hang small found none =
     let after = after-take pool pool' ram hang.mid root g h hang.taken.traded.count hang.taken in
     let hung = hung-of pool pool' ram hang.mid ram' root f (v / 512 % 512) g 1 (v / 262144) h after hang.put hang.small (omega arith) found (omega arith) none in
     record {
-      uppers = λ p ne. hung-others hang.mid ram' root f (v / 512 % 512) g 1 (v / 262144) hung 1 p (omega arith) (λ e is. absurd (omega arith)) ∙ kept-tables ram hang.mid root h.tree after.kept 1 p (omega arith);
-      lowers = λ p ne. hung-others hang.mid ram' root f (v / 512 % 512) g 1 (v / 262144) hung 2 p (omega arith) (λ e is. ne (omega (arith, is))) ∙ kept-tables ram hang.mid root h.tree after.kept 2 p (omega arith);
+      uppers = λ p ne. hung-others hang.mid ram' root f (v / 512 % 512) g 1 (v / 262144) hung 1 p (omega arith) (λ e is. absurd (omega arith))
+          ∙ kept-tables ram hang.mid root h.tree after.kept 1 p (omega arith);
+      lowers = λ p ne. hung-others hang.mid ram' root f (v / 512 % 512) g 1 (v / 262144) hung 2 p (omega arith) (λ e is. ne (omega (arith, is)))
+          ∙ kept-tables ram hang.mid root h.tree after.kept 2 p (omega arith);
       pages = λ u ne. hung-pages hang.mid ram' root f (v / 512 % 512) g 1 (v / 262144) hung u ∙ kept-pages ram hang.mid root h.tree after.kept u;
     }
 
-pub place-beside : (pool pool' : Pool) (ram ram' : List (List ℕ)) (root f i g p : ℕ) (perm : Rights) → Holds pool ram root → Placing pool ram pool' ram' f i g perm → is_perm perm ≡ true → i < 512 → table_at ram root 2 p ≡ Some f
+pub place-beside : (pool pool' : Pool) (ram ram' : List (List ℕ)) (root f i g p : ℕ) (perm : Rights) → Holds pool ram root
+    → Placing pool ram pool' ram' f i g perm → is_perm perm ≡ true → i < 512 → table_at ram root 2 p ≡ Some f
     → Beside ram ram' root (512 * p + i) × (page_entry ram' root (512 * p + i) ≡ Leaf g perm true true)
 place-beside pool pool' ram ram' root f i g p perm h placing ok inside found =
     let after = after-take pool pool' ram placing.mid root g h placing.taken.traded.count placing.taken in

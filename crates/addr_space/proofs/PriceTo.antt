@@ -13,15 +13,11 @@ use Rattle.addr_space.specs.Space.{NoneEmpty}
 use Rattle.sv39_core.proofs.Places.{below-some, no-lower}
 use Rattle.addr_space.proofs.Prices.{lower-test, upper-test, page-got}
 use Rattle.addr_space.proofs.Growing.{low, high, cost, high-old, high-new, cost-run, cost-one, absent-there}
+use Rattle.addr_space.proofs.Freeing.{page-none}
 
 pub cost-size : (pages : FinMap nat_cmp Page) (s t : ℕ) → cost pages s ≡ cost pages t
 unfolding price
 cost-size pages s t = refl
-
-page-none : (ram : List (List ℕ)) (e : Entry) → frame_of e ≡ None → page_of ram e ≡ None
-page-none ram Invalid h = refl
-page-none ram (Table f) h = refl
-page-none ram (Leaf f p a d) h = absurd (cc)
 
 pub got-none : (ram : List (List ℕ)) (root u : ℕ) → u < 67108864 → frame_of (page_entry ram root u) ≡ None → get (pages_of ram root) u ≡ None
 got-none ram root u lt none = page-got ram root u lt ∙ page-none ram (page_entry ram root u) none
@@ -38,7 +34,8 @@ no-table : (ram : List (List ℕ)) (root u t : ℕ) → u / 512 ≡ t → table_
 no-table ram root u t at none = ap (λ x. frame_of (last ram x (u % 512))) (ap (table_at ram root 2) at ∙ none)
 
 upper-cost : (ram : List (List ℕ)) (root first n need : ℕ) (page : Page) → IsTree ram root → NoneEmpty ram root
-    → (table_at ram root 1 ((first + n) / 262144) ≢ None → need ≡ 0) → ((0 < n) → ((first + n) % 262144 ≡ 0 → ⊥) → need ≡ 0) → (table_at ram root 1 ((first + n) / 262144) ≡ None → (0 < n → (first + n) % 262144 ≡ 0) → need ≡ 1)
+    → (table_at ram root 1 ((first + n) / 262144) ≢ None → need ≡ 0) → ((0 < n) → ((first + n) % 262144 ≡ 0 → ⊥) → need ≡ 0)
+    → (table_at ram root 1 ((first + n) / 262144) ≡ None → (0 < n → (first + n) % 262144 ≡ 0) → need ≡ 1)
     → cond (high (with_absent (pages_of ram root) first n page) ((first + n) / 262144)) 0 1 ≡ need
 upper-cost ram root first n need page tree full there later new =
     elim (cases_eq n 0) [
@@ -56,12 +53,15 @@ upper-cost ram root first n need page tree full there later new =
     old : (0 < n → (first + n) % 262144 ≡ 0) → cond (high (with_absent (pages_of ram root) first n page) ((first + n) / 262144)) 0 1 ≡ need
     old a = ap (λ b. cond b 0 1) (high-old (pages_of ram root) first n page a ∙ sym (upper-test ram root ((first + n) / 262144) tree full)) ∙ by (table_at ram root 1 ((first + n) / 262144)) refl a
 
-run-at : (ram : List (List ℕ)) (root first n k size need : ℕ) (page : Page) → IsTree ram root → NoneEmpty ram root → first + (n + suc k) ≤ 67108864 → first + (n + suc k) ≤ ((first + n) / 512 + 1) * 512
+run-at : (ram : List (List ℕ)) (root first n k size need : ℕ) (page : Page) → IsTree ram root → NoneEmpty ram root → first + (n + suc k) ≤ 67108864
+    → first + (n + suc k) ≤ ((first + n) / 512 + 1) * 512
     → table_at ram root 2 ((first + n) / 512) ≡ None → (0 < n → (first + n) % 512 ≡ 0)
-    → (table_at ram root 1 ((first + n) / 262144) ≢ None → need ≡ 0) → ((0 < n) → ((first + n) % 262144 ≡ 0 → ⊥) → need ≡ 0) → (table_at ram root 1 ((first + n) / 262144) ≡ None → (0 < n → (first + n) % 262144 ≡ 0) → need ≡ 1)
+    → (table_at ram root 1 ((first + n) / 262144) ≢ None → need ≡ 0) → ((0 < n) → ((first + n) % 262144 ≡ 0 → ⊥) → need ≡ 0)
+    → (table_at ram root 1 ((first + n) / 262144) ≡ None → (0 < n → (first + n) % 262144 ≡ 0) → need ≡ 1)
     → cost (with_absent (pages_of ram root) first (n + suc k) page) size ≡ cost (with_absent (pages_of ram root) first n page) size + (need + 1 + suc k)
 run-at ram root first n k size need page tree full small group none aligned there later new =
-    let run = cost-run (pages_of ram root) first n k size page small (λ u ge lt. got-none ram root u (omega (arith, lt)) (no-table ram root u ((first + n) / 512) (omega (arith, ge, lt)) none)) (omega (arith, group))
+    let run = cost-run (pages_of ram root) first n k size page small
+    (λ u ge lt. got-none ram root u (omega (arith, lt)) (no-table ram root u ((first + n) / 512) (omega (arith, ge, lt)) none)) (omega (arith, group))
     (sym (lower-test ram root ((first + n) / 512) tree full) ∙ ap is_some none) aligned in
     omega (arith, run, upper-cost ram root first n need page tree full there later new)
 
@@ -73,14 +73,16 @@ price-run ram root first v end size need page tree full ge lt group small none a
     let at : first + (v - first) ≡ v = omega arith in
     let total : v - first + suc (end - v - 1) ≡ end - first = omega arith in
     let last : suc (end - v - 1) ≡ end - v = omega arith in
-    let run = run-at ram root first (v - first) (end - v - 1) size need page tree full (omega arith) (omega (arith, group, at)) (ap (λ x. table_at ram root 2 (x / 512)) at ∙ none) (λ p. ap (λ x. x % 512) at ∙ aligned (omega (arith, p)))
+    let run = run-at ram root first (v - first) (end - v - 1) size need page tree full (omega arith) (omega (arith, group, at))
+    (ap (λ x. table_at ram root 2 (x / 512)) at ∙ none) (λ p. ap (λ x. x % 512) at ∙ aligned (omega (arith, p)))
     (λ some. there (λ e. some (ap (λ x. table_at ram root 1 (x / 262144)) at ∙ e)))
     (λ p off. later (λ e. omega (arith, e, p)) (λ z. off (ap (λ x. x % 262144) at ∙ z)))
     (λ e a. new (sym (ap (λ x. table_at ram root 1 (x / 262144)) at) ∙ e) (λ ne. sym (ap (λ x. x % 262144) at) ∙ a (omega (arith, ge, ne)))) in
     omega (arith, run, last, ap (λ m. cost (with_absent (pages_of ram root) first m page) size) total)
 
 -- a run of pages without an upper table: so many lower tables, and the upper one once
-pub price-span : (fuel : ℕ) (ram : List (List ℕ)) (root first v end size need : ℕ) (page : Page) → IsTree ram root → NoneEmpty ram root → first ≤ v → v < end → end ≤ 512 * (v / 512 + fuel) → end ≤ (v / 262144 + 1) * 262144 → end ≤ 67108864
+pub price-span : (fuel : ℕ) (ram : List (List ℕ)) (root first v end size need : ℕ) (page : Page) → IsTree ram root → NoneEmpty ram root → first ≤ v
+    → v < end → end ≤ 512 * (v / 512 + fuel) → end ≤ (v / 262144 + 1) * 262144 → end ≤ 67108864
     → table_at ram root 1 (v / 262144) ≡ None → (first < v → v % 512 ≡ 0)
     → ((v ≡ first → ⊥) → (v % 262144 ≡ 0 → ⊥) → need ≡ 0) → ((v ≢ first → v % 262144 ≡ 0) → need ≡ 1)
     → cost (with_absent (pages_of ram root) first (end - first) page) size ≡ cost (with_absent (pages_of ram root) first (v - first) page) size + (need + ((end - 1) / 512 - v / 512 + 1) + (end - v))
@@ -89,10 +91,13 @@ price-span (suc fuel) ram root first v end size need page tree full ge lt few gr
     let mid = (v / 512 + 1) * 512 in
     elim (cases_lt mid end) [
       | inl more ↦
-          let one = price-run ram root first v mid size need page tree full ge (omega arith) (omega arith) (omega (arith, more, small)) (no-lower ram root v none) aligned (λ ne. absurd (ne none)) later (λ e. new) in
+          let one = price-run ram root first v mid size need page tree full ge (omega arith) (omega arith) (omega (arith, more, small))
+          (no-lower ram root v none) aligned (λ ne. absurd (ne none)) later (λ e. new) in
           let same : mid / 262144 ≡ v / 262144 = omega (arith, more, group) in
           let next : mid / 512 ≡ v / 512 + 1 = omega arith in
-          let rest = price-span fuel ram root first mid end size 0 page tree full (omega (arith, ge)) more (omega (arith, few, next)) (omega (arith, group, same)) small (ap (table_at ram root 1) same ∙ none) (λ p. omega arith) (λ a b. refl) (λ a. absurd (omega (arith, more, group, a (λ e. omega (arith, e, ge))))) in
+          let rest = price-span fuel ram root first mid end size 0 page tree full (omega (arith, ge)) more (omega (arith, few, next))
+          (omega (arith, group, same)) small (ap (table_at ram root 1) same ∙ none) (λ p. omega arith) (λ a b. refl)
+          (λ a. absurd (omega (arith, more, group, a (λ e. omega (arith, e, ge))))) in
           omega (arith, one, rest, next, more)
       | inr whole ↦
           let one = price-run ram root first v end size need page tree full ge lt whole small (no-lower ram root v none) aligned (λ ne. absurd (ne none)) later (λ e. new) in
@@ -114,7 +119,8 @@ price-one ram root first v size need f page tree full ge small table there new =
     more : cost (with_absent (pages_of ram root) first (suc (v - first)) page) size ≡ cost (with_absent (pages_of ram root) first (v + 1 - first) page) size
     more = ap (λ m. cost (with_absent (pages_of ram root) first m page) size) next
 
-    by : (o : Option ℕ) → frame_of (page_entry ram root v) ≡ o → cost (with_absent (pages_of ram root) first (v + 1 - first) page) size ≡ cost (with_absent (pages_of ram root) first (v - first) page) size + need
+    by : (o : Option ℕ) → frame_of (page_entry ram root v) ≡ o
+        → cost (with_absent (pages_of ram root) first (v + 1 - first) page) size ≡ cost (with_absent (pages_of ram root) first (v - first) page) size + need
     by (Some g) e =
         let same = absent-there (pages_of ram root) first (v - first) page (ap (λ x. is_some (get (pages_of ram root) x)) at ∙ got-some ram root v g small e) in
         omega (arith, ap (λ m. cost m size) same, more, there g e)
@@ -122,12 +128,14 @@ price-one ram root first v size need f page tree full ge small table there new =
         let upper = below-some ram (table_at ram root 1 (v / 512 / 512)) (v / 512 % 512) f table in
         let place : v / 512 / 512 ≡ v / 262144 = omega arith in
         let lows : low (pages_of ram root) ((first + (v - first)) / 512) ≡ true = ap (λ x. low (pages_of ram root) (x / 512)) at ∙ sym (lower-test ram root (v / 512) tree full) ∙ ap is_some table in
-        let highs : high (pages_of ram root) ((first + (v - first)) / 262144) ≡ true = ap (λ x. high (pages_of ram root) (x / 262144)) at ∙ sym (upper-test ram root (v / 262144) tree full) ∙ ap is_some (ap (table_at ram root 1) (sym place) ∙ upper.1) in
+        let highs : high (pages_of ram root) ((first + (v - first)) / 262144) ≡ true = ap (λ x. high (pages_of ram root) (x / 262144)) at
+        ∙ sym (upper-test ram root (v / 262144) tree full) ∙ ap is_some (ap (table_at ram root 1) (sym place) ∙ upper.1) in
         let one = cost-one (pages_of ram root) first (v - first) size page (omega (arith, small, at)) (ap (get (pages_of ram root)) at ∙ got-none ram root v small e) (inl (lows, highs)) in
         omega (arith, one, more, new e)
 
 -- the pages from v on within one table, none of which is there
-pub price-rest : (k : ℕ) (ram : List (List ℕ)) (root first v size f : ℕ) (page : Page) → IsTree ram root → NoneEmpty ram root → first ≤ v → v + k ≤ 67108864 → v + k ≤ (v / 512 + 1) * 512 → table_at ram root 2 (v / 512) ≡ Some f
+pub price-rest : (k : ℕ) (ram : List (List ℕ)) (root first v size f : ℕ) (page : Page) → IsTree ram root → NoneEmpty ram root → first ≤ v
+    → v + k ≤ 67108864 → v + k ≤ (v / 512 + 1) * 512 → table_at ram root 2 (v / 512) ≡ Some f
     → ((u : ℕ) → v ≤ u → u < v + k → frame_of (page_entry ram root u) ≡ None)
     → cost (with_absent (pages_of ram root) first (v + k - first) page) size ≡ cost (with_absent (pages_of ram root) first (v - first) page) size + k
 price-rest zero ram root first v size f page tree full ge small group table none =
@@ -137,7 +145,8 @@ price-rest (suc k) ram root first v size f page tree full ge small group table n
     let same : (v + k) / 512 ≡ v / 512 = omega (arith, group) in
     let here : frame_of (page_entry ram root (v + k)) ≡ None = none (v + k) (omega arith) (omega arith) in
     let one =
-    price-one ram root first (v + k) size 1 f page tree full (omega (arith, ge)) (omega (arith, small)) (ap (table_at ram root 2) same ∙ table) (λ g e. let w : None ≡ Some g = sym here ∙ e in absurd (cc)) (λ e. refl) in
+    price-one ram root first (v + k) size 1 f page tree full (omega (arith, ge)) (omega (arith, small)) (ap (table_at ram root 2) same ∙ table)
+    (λ g e. let w : None ≡ Some g = sym here ∙ e in absurd (cc)) (λ e. refl) in
     let rest = price-rest k ram root first v size f page tree full ge (omega (arith, small)) (omega (arith, group)) table (λ u a b. none u a (omega (arith, b))) in
     let next : v + suc k - first ≡ v + k + 1 - first = omega arith in
     omega (arith, one, rest, ap (λ n. cost (with_absent (pages_of ram root) first n page) size) next)

@@ -1,14 +1,14 @@
 -- The owned frames are as many as the image's price.
-use Rattle.std.proofs.Common.{◌≡◌, ◌≢◌, ℕ, zero, suc, ◌+◌, ◌-◌, ◌*◌, ◌/◌, ◌%◌, ◌^◌, ◌<◌, ◌≤◌, ◌||◌, Bool, true, false, cond, ltb, is_some, List, ◌++◌, length, Option, Some, None, inl, inr, refl, sym, ap, ◌∙◌, arith}
+use Rattle.std.proofs.Common.{◌≡◌, ◌≢◌, ℕ, zero, suc, ◌+◌, ◌-◌, ◌*◌, ◌/◌, ◌%◌, ◌^◌, ◌<◌, ◌≤◌, ◌||◌, Bool, true, false}
+use Rattle.std.proofs.Common.{cond, ltb, is_some, List, ◌++◌, length, Option, Some, None, inl, inr, refl, sym, ap, ◌∙◌, arith}
 use Rattle.std.proofs.lemmas.List.{length-append}
-use Rattle.std.proofs.lemmas.Bool.{cases_lt, cases_eq, false≢true}
+use Rattle.std.proofs.lemmas.Bool.{cases_lt, cases_eq, false≢true, le-ltb, lt-ltb, or_right}
 use Rattle.std.specs.Ordering.{nat_cmp}
 use Rattle.std.specs.FinMap.{FinMap, insert, get, len, len-empty, len-insert, get-insert}
 use Rattle.std.specs.Cmp.{nat_cmp_total}
 use Rattle.sv39_core.specs.declared.entry.Entry.{Entry}
 use Rattle.sv39_core.specs.declared.entry.Entry.TheVariants.{Invalid, Table, Leaf}
-use Rattle.sv39_core.specs.Sv39.{below, last, table_at, page_entry}
-use Rattle.sv39_core.proofs.Words.{ltb-yes, ltb-no}
+use Rattle.sv39_core.specs.Sv39.{last, table_at, page_entry}
 use Rattle.sv39_core.specs.Listed.{push_some, listed, insert_some, gathered}
 use Rattle.xk_base.specs.Words.{count_below}
 use Rattle.xk_base.specs.Image.{Page, some_below, groups, price}
@@ -16,7 +16,7 @@ use Rattle.sv39_core.specs.Tree.{page_of, page_at, pages_of, frame_of, uppers, l
 use Rattle.addr_space.specs.Steps.{missing, rise}
 use Rattle.addr_space.specs.Space.{NoneEmpty}
 use Rattle.sv39_core.proofs.Gathered.{gathered-get, tie-yes, tie-no}
-use Rattle.sv39_core.proofs.Places.{page-place}
+use Rattle.sv39_core.proofs.Places.{page-place, below-some}
 
 -- the count, with the bound first
 abbrev pub how_many : ℕ → (ℕ → Bool) → ℕ
@@ -66,7 +66,7 @@ how_many-end n (suc k) p e u ge lt =
 pub len-gathered : (f : ℕ → Option Page) (n : ℕ) → len (gathered f n) ≡ how_many n (λ k. is_some (f k))
 unfolding gathered count_below
 len-gathered f zero = len-empty nat_cmp Page
-len-gathered f (suc n) = one (f n) (gathered f n) (how_many n (λ k. is_some (f k))) (ap is_some (gathered-get f n n ∙ ap (λ b. cond b (f n) None) (ltb-no n n (omega arith)))) (len-gathered f n)
+len-gathered f (suc n) = one (f n) (gathered f n) (how_many n (λ k. is_some (f k))) (ap is_some (gathered-get f n n ∙ ap (λ b. cond b (f n) None) (le-ltb n n (omega arith)))) (len-gathered f n)
   where
     one : (o : Option Page) (m : FinMap nat_cmp Page) (c : ℕ) → is_some (get m n) ≡ false → len m ≡ c → len (insert_some m n o) ≡ c + cond (is_some o) 1 0
     one None m c new e = omega (arith, e)
@@ -78,12 +78,8 @@ some-yes zero p k lt e = absurd (omega arith)
 some-yes (suc n) p k lt e =
     elim (cases_eq k n) [
       | inl same ↦ ap (λ b. b || some_below n p) (ap p (sym same) ∙ e)
-      | inr ne ↦ ap (λ b. p n || b) (some-yes n p k (omega (arith, ne)) e) ∙ or_true (p n)
+      | inr ne ↦ ap (λ b. p n || b) (some-yes n p k (omega (arith, ne)) e) ∙ or_right (p n) true refl
     ]
-  where
-    or_true : (b : Bool) → (b || true) ≡ true
-    or_true true = refl
-    or_true false = refl
 
 pub some-found : (n : ℕ) (p : ℕ → Bool) → some_below n p ≡ true → (k : ℕ) × (k < n) × (p k ≡ true)
 unfolding some_below
@@ -113,10 +109,6 @@ same-page ram Invalid = refl
 same-page ram (Table f) = refl
 same-page ram (Leaf f p a d) = refl
 
-below-parent : (ram : List (List ℕ)) (t : Option ℕ) (i f : ℕ) → below ram t i ≡ Some f → (h : ℕ) × (t ≡ Some h)
-below-parent ram None i f e = absurd (cc)
-below-parent ram (Some h) i f e = (h, refl)
-
 last-parent : (ram : List (List ℕ)) (t : Option ℕ) (i f : ℕ) → frame_of (last ram t i) ≡ Some f → (h : ℕ) × (t ≡ Some h)
 last-parent ram None i f e = absurd (cc)
 last-parent ram (Some h) i f e = (h, refl)
@@ -126,7 +118,7 @@ pub page-lower : (ram : List (List ℕ)) (root v f : ℕ) → frame_of (page_ent
 page-lower ram root v f e = last-parent ram (table_at ram root 2 (v / 512)) (v % 512) f e
 
 pub page-upper : (ram : List (List ℕ)) (root v f : ℕ) → frame_of (page_entry ram root v) ≡ Some f → (h : ℕ) × (table_at ram root 1 (v / 512 / 512) ≡ Some h)
-page-upper ram root v f e = let low = page-lower ram root v f e in below-parent ram (table_at ram root 1 (v / 512 / 512)) (v / 512 % 512) low.0 low.1
+page-upper ram root v f e = let low = page-lower ram root v f e in below-some ram (table_at ram root 1 (v / 512 / 512)) (v / 512 % 512) low.0 low.1
 
 pub has : (ram : List (List ℕ)) (root v : ℕ) → IsTree ram root → (get (pages_of ram root) v ≡ cond (ltb v (2 ^ 26)) (page_at ram root v) None)
 unfolding pages_of
@@ -134,13 +126,15 @@ has ram root v tree = gathered-get (page_at ram root) (2 ^ 26) v
 
 pub has-yes : (ram : List (List ℕ)) (root v f : ℕ) → IsTree ram root → frame_of (page_entry ram root v) ≡ Some f → is_some (get (pages_of ram root) v) ≡ true
 has-yes ram root v f tree e =
-    ap is_some (has ram root v tree ∙ ap (λ b. cond b (page_at ram root v) None) (ltb-yes v 67108864 (page-place ram root v f tree e))) ∙ same-page ram (page_entry ram root v) ∙ ap is_some e
+    ap is_some (has ram root v tree ∙ ap (λ b. cond b (page_at ram root v) None) (lt-ltb v 67108864 (page-place ram root v f tree e))) ∙ same-page ram (page_entry ram root v) ∙ ap is_some e
 
 pub has-found : (ram : List (List ℕ)) (root v : ℕ) → IsTree ram root → is_some (get (pages_of ram root) v) ≡ true → (f : ℕ) × (frame_of (page_entry ram root v) ≡ Some f)
 has-found ram root v tree e =
     elim (cases_lt v 67108864) [
-      | inl lt ↦ some-of-is (frame_of (page_entry ram root v)) (sym (same-page ram (page_entry ram root v)) ∙ sym (ap is_some (has ram root v tree ∙ ap (λ b. cond b (page_at ram root v) None) (ltb-yes v 67108864 lt))) ∙ e)
-      | inr ge ↦ absurd (false≢true (sym (ap is_some (has ram root v tree ∙ ap (λ b. cond b (page_at ram root v) None) (ltb-no v 67108864 ge))) ∙ e))
+      | inl lt ↦ some-of-is (frame_of (page_entry ram root v))
+          (sym (same-page ram (page_entry ram root v)) ∙ sym
+          (ap is_some (has ram root v tree ∙ ap (λ b. cond b (page_at ram root v) None) (lt-ltb v 67108864 lt))) ∙ e)
+      | inr ge ↦ absurd (false≢true (sym (ap is_some (has ram root v tree ∙ ap (λ b. cond b (page_at ram root v) None) (le-ltb v 67108864 ge))) ∙ e))
     ]
 
 -- a lower table stands exactly where the image has a page below it
@@ -154,12 +148,14 @@ lower-test ram root t tree full =
     let at : (512 * t + k.0) / 512 ≡ t = omega (arith, k.1) in
     is-some-of (table_at ram root 2 t) table.0 (ap (table_at ram root 2) (sym at) ∙ table.1))
 
-pub upper-test : (ram : List (List ℕ)) (root t : ℕ) → IsTree ram root → NoneEmpty ram root → is_some (table_at ram root 1 t) ≡ some_below (2 ^ 18) (λ k. is_some (get (pages_of ram root) (2 ^ 18 * t + k)))
+pub upper-test : (ram : List (List ℕ)) (root t : ℕ) → IsTree ram root → NoneEmpty ram root
+    → is_some (table_at ram root 1 t) ≡ some_below (2 ^ 18) (λ k. is_some (get (pages_of ram root) (2 ^ 18 * t + k)))
 upper-test ram root t tree full =
     same_test (is_some (table_at ram root 1 t)) (some_below (2 ^ 18) (λ k. is_some (get (pages_of ram root) (2 ^ 18 * t + k))))
     (λ e. let f = some-of-is (table_at ram root 1 t) e in let low = full.uppers t f.0 f.1 in let page = full.lowers (512 * t + low.0) low.1 low.3 in
     let at : 512 * (512 * t + low.0) + page.0 ≡ 262144 * t + (512 * low.0 + page.0) = omega arith in
-    some-yes (2 ^ 18) (λ k. is_some (get (pages_of ram root) (2 ^ 18 * t + k))) (512 * low.0 + page.0) (omega (arith, low.2, page.2)) (ap (λ v. is_some (get (pages_of ram root) v)) (sym at) ∙ has-yes ram root (512 * (512 * t + low.0) + page.0) page.1 tree page.3))
+    some-yes (2 ^ 18) (λ k. is_some (get (pages_of ram root) (2 ^ 18 * t + k))) (512 * low.0 + page.0) (omega (arith, low.2, page.2))
+    (ap (λ v. is_some (get (pages_of ram root) v)) (sym at) ∙ has-yes ram root (512 * (512 * t + low.0) + page.0) page.1 tree page.3))
     (λ e. let k = some-found (2 ^ 18) (λ k. is_some (get (pages_of ram root) (2 ^ 18 * t + k))) e in let page = has-found ram root (2 ^ 18 * t + k.0) tree k.2 in
     let table = page-upper ram root (2 ^ 18 * t + k.0) page.0 page.1 in
     let at : (262144 * t + k.0) / 512 / 512 ≡ t = omega (arith, k.1) in
@@ -168,30 +164,37 @@ upper-test ram root t tree full =
 lowers-count : (ram : List (List ℕ)) (root : ℕ) → IsTree ram root → NoneEmpty ram root → length (lowers ram root) ≡ groups (pages_of ram root) (2 ^ 17) 512
 unfolding lowers
 lowers-count ram root tree full =
-    length-listed (table_at ram root 2) (2 ^ 17) ∙ how_many-same (2 ^ 17) (λ t. is_some (table_at ram root 2 t)) (λ t. some_below 512 (λ k. is_some (get (pages_of ram root) (512 * t + k)))) (λ t lt. lower-test ram root t tree full)
+    length-listed (table_at ram root 2) (2 ^ 17) ∙ how_many-same (2 ^ 17) (λ t. is_some (table_at ram root 2 t))
+    (λ t. some_below 512 (λ k. is_some (get (pages_of ram root) (512 * t + k)))) (λ t lt. lower-test ram root t tree full)
 
 uppers-count : (ram : List (List ℕ)) (root : ℕ) → IsTree ram root → NoneEmpty ram root → length (uppers ram root) ≡ groups (pages_of ram root) 256 (2 ^ 18)
 unfolding uppers
 uppers-count ram root tree full =
-    length-listed (table_at ram root 1) 256 ∙ how_many-same 256 (λ t. is_some (table_at ram root 1 t)) (λ t. some_below (2 ^ 18) (λ k. is_some (get (pages_of ram root) (2 ^ 18 * t + k)))) (λ t lt. upper-test ram root t tree full)
+    length-listed (table_at ram root 1) 256 ∙ how_many-same 256 (λ t. is_some (table_at ram root 1 t))
+    (λ t. some_below (2 ^ 18) (λ k. is_some (get (pages_of ram root) (2 ^ 18 * t + k)))) (λ t lt. upper-test ram root t tree full)
 
 pub pages-count : (ram : List (List ℕ)) (root : ℕ) → length (page_frames ram root) ≡ len (pages_of ram root)
 unfolding page_frames pages_of
 pages-count ram root =
-    length-listed (λ v. frame_of (page_entry ram root v)) (2 ^ 26) ∙ how_many-same (2 ^ 26) (λ v. is_some (frame_of (page_entry ram root v))) (λ v. is_some (page_at ram root v)) (λ v lt. sym (same-page ram (page_entry ram root v))) ∙ sym (len-gathered (page_at ram root) (2 ^ 26))
+    length-listed (λ v. frame_of (page_entry ram root v)) (2 ^ 26)
+    ∙ how_many-same (2 ^ 26) (λ v. is_some (frame_of (page_entry ram root v))) (λ v. is_some (page_at ram root v))
+    (λ v lt. sym (same-page ram (page_entry ram root v))) ∙ sym (len-gathered (page_at ram root) (2 ^ 26))
 
-none-of-is : (o : Option ℕ) → is_some o ≡ false → o ≡ None
+pub none-of-is : {X : Type 0} (o : Option X) → is_some o ≡ false → o ≡ None
 none-of-is None e = refl
 none-of-is (Some f) e = absurd (false≢true (sym e))
 
 -- where all pages are counted below a place, none is left from there on
-pub page-end : (ram : List (List ℕ)) (root from : ℕ) → from ≤ 67108864 → length (page_frames ram root) ≡ how_many from (λ v. is_some (frame_of (page_entry ram root v))) → (u : ℕ) → from ≤ u → u < 67108864 → frame_of (page_entry ram root u) ≡ None
+pub page-end : (ram : List (List ℕ)) (root from : ℕ) → from ≤ 67108864
+    → length (page_frames ram root) ≡ how_many from (λ v. is_some (frame_of (page_entry ram root v))) → (u : ℕ) → from ≤ u → u < 67108864
+    → frame_of (page_entry ram root u) ≡ None
 unfolding page_frames
 page-end ram root from inside all u ge lt =
     let end : from + (67108864 - from) ≡ 67108864 = omega (arith, inside) in
     let counted = length-listed (λ v. frame_of (page_entry ram root v)) (2 ^ 26) in
     none-of-is (frame_of (page_entry ram root u))
-    (how_many-end from (67108864 - from) (λ v. is_some (frame_of (page_entry ram root v))) (ap (λ n. how_many n (λ v. is_some (frame_of (page_entry ram root v)))) end ∙ sym counted ∙ all) u ge (omega (arith, lt, end)))
+    (how_many-end from (67108864 - from) (λ v. is_some (frame_of (page_entry ram root v)))
+    (ap (λ n. how_many n (λ v. is_some (frame_of (page_entry ram root v)))) end ∙ sym counted ∙ all) u ge (omega (arith, lt, end)))
 
 -- where no page is counted, there is none
 pub page-none-counted : (ram : List (List ℕ)) (root : ℕ) → length (page_frames ram root) ≡ 0 → (u : ℕ) → u < 67108864 → frame_of (page_entry ram root u) ≡ None
@@ -202,7 +205,14 @@ page-none-counted ram root none u lt = page-end ram root 0 (omega arith) none u 
 pub length-owned : (ram : List (List ℕ)) (root size : ℕ) → IsTree ram root → NoneEmpty ram root → length (owned ram root) ≡ price (record { pages = pages_of ram root; size = size })
 unfolding owned price
 length-owned ram root size tree full =
-    omega (arith, length-append (uppers ram root) (lowers ram root ++ page_frames ram root), length-append (lowers ram root) (page_frames ram root), uppers-count ram root tree full, lowers-count ram root tree full, pages-count ram root)
+    omega (
+      arith,
+      length-append (uppers ram root) (lowers ram root ++ page_frames ram root),
+      length-append (lowers ram root) (page_frames ram root),
+      uppers-count ram root tree full,
+      lowers-count ram root tree full,
+      pages-count ram root,
+    )
 
 -- the owned frames by kind
 pub length-kinds : (ram : List (List ℕ)) (root : ℕ) → length (owned ram root) ≡ 1 + (length (uppers ram root) + length (lowers ram root)) + length (page_frames ram root)
@@ -252,7 +262,8 @@ groups-more : (pages : FinMap nat_cmp Page) (n m v t0 k0 : ℕ) (page : Page) �
 groups-more pages n m v t0 k0 page lt klt at apart =
     how_many-more n (λ t. some_below m (λ k. is_some (get pages (m * t + k)))) (λ t. some_below m (λ k. is_some (get (insert pages v page) (m * t + k)))) t0 lt
     (some-yes m (λ k. is_some (get (insert pages v page) (m * t0 + k))) k0 klt (insert-here pages v page (m * t0 + k0) at))
-    (λ t tlt ne. some_below-same m (λ k. is_some (get (insert pages v page) (m * t + k))) (λ k. is_some (get pages (m * t + k))) (λ k h. ap is_some (insert-other pages v page (m * t + k) (λ is. ne (apart t k h is)))))
+    (λ t tlt ne. some_below-same m (λ k. is_some (get (insert pages v page) (m * t + k))) (λ k. is_some (get pages (m * t + k)))
+    (λ k h. ap is_some (insert-other pages v page (m * t + k) (λ is. ne (apart t k h is)))))
 
 -- what a page more costs
 pub price-more : (pages : FinMap nat_cmp Page) (size v : ℕ) (page : Page) → v < 67108864 → get pages v ≡ None
@@ -271,7 +282,7 @@ missing-is (Some f) = refl
 
 pub page-got : (ram : List (List ℕ)) (root v : ℕ) → v < 67108864 → get (pages_of ram root) v ≡ page_at ram root v
 unfolding pages_of
-page-got ram root v lt = gathered-get (page_at ram root) (2 ^ 26) v ∙ ap (λ b. cond b (page_at ram root v) None) (ltb-yes v 67108864 lt)
+page-got ram root v lt = gathered-get (page_at ram root) (2 ^ 26) v ∙ ap (λ b. cond b (page_at ram root v) None) (lt-ltb v 67108864 lt)
 
 pub price-rise : (ram : List (List ℕ)) (root size v : ℕ) (page : Page) → IsTree ram root → NoneEmpty ram root → v < 67108864 → page_at ram root v ≡ None
     → price (record { pages = insert (pages_of ram root) v page; size = size }) ≡ price (record { pages = pages_of ram root; size = size }) + rise ram root v
@@ -285,7 +296,9 @@ price-rise ram root size v page tree full lt none =
     omega (arith, more, low, high)
 
 -- a page more in the list of pages
-pub pages-more : (ram ram' : List (List ℕ)) (root v : ℕ) (page : Page) → v < 67108864 → page_at ram root v ≡ None → pages_of ram' root ≡ insert (pages_of ram root) v page → length (page_frames ram' root) ≡ length (page_frames ram root) + 1
+pub pages-more : (ram ram' : List (List ℕ)) (root v : ℕ) (page : Page) → v < 67108864 → page_at ram root v ≡ None
+    → pages_of ram' root ≡ insert (pages_of ram root) v page → length (page_frames ram' root) ≡ length (page_frames ram root) + 1
 pages-more ram ram' root v page lt none is =
-    let more : len (insert (pages_of ram root) v page) ≡ len (pages_of ram root) + 1 = len-insert nat_cmp_total (pages_of ram root) v page ∙ ap (λ b. cond b (len (pages_of ram root)) (len (pages_of ram root) + 1)) (ap is_some (page-got ram root v lt ∙ none)) in
+    let more : len (insert (pages_of ram root) v page) ≡ len (pages_of ram root) + 1 = len-insert nat_cmp_total (pages_of ram root) v page
+    ∙ ap (λ b. cond b (len (pages_of ram root)) (len (pages_of ram root) + 1)) (ap is_some (page-got ram root v lt ∙ none)) in
     omega (arith, pages-count ram' root, ap len is, more, pages-count ram root)

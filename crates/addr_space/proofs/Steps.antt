@@ -1,6 +1,6 @@
 -- The steps by which a page comes into a space: a frame is taken, and a word of a table is written.
 use Rattle.std.proofs.Common.{◌≡◌, ◌≢◌, ℕ, suc, ◌+◌, ◌*◌, ◌^◌, ◌<◌, ◌≤◌, true, cond, ltb, List, ◌∷◌, length, Option, Some, None, inl, inr, refl, sym, ap, ◌∙◌, arith}
-use Rattle.std.proofs.lemmas.Bool.{cases_eq}
+use Rattle.std.proofs.lemmas.Bool.{cases_eq, lt-ltb}
 use Rattle.xk_base.specs.Frames.{copies}
 use Rattle.xk_base.specs.declared.access.Rights.{Rights}
 use Rattle.xk_base.proofs.Frames.{length-same, at, at-same, copies-nil, same-cons, Once-more, SameFrames}
@@ -16,7 +16,7 @@ use Rattle.sv39_core.proofs.Gathered.{gathered-get, tie-yes, tie-no}
 use Rattle.sv39_core.specs.declared.entry.Entry.{Entry}
 use Rattle.sv39_core.specs.declared.entry.Entry.TheVariants.{Invalid, Table, Leaf}
 use Rattle.sv39_core.specs.Sv39.{entry_of, table_of, table_at, page_entry, leaf_word, table_word}
-use Rattle.sv39_core.proofs.Words.{entry_of-zero, entry_of-table_word, entry_of-leaf_word, ltb-yes}
+use Rattle.sv39_core.proofs.Words.{entry_of-zero, entry_of-table_word, entry_of-leaf_word}
 use Rattle.xk_base.specs.Access.{is_perm}
 use Rattle.xk_base.specs.Image.{Page}
 use Rattle.sv39_core.specs.Tree.{page_of, page_at, pages_of, frame_of, owned, IsTree}
@@ -66,7 +66,8 @@ after-take pool pool' ram ram' root g h size taken =
     }
 
 -- a page's bytes aren't changed by a write to a table
-pub table-write-image : (ram ram' : List (List ℕ)) (root f l p : ℕ) → IsTree ram root → OthersStay ram ram' f → l ≤ 2 → table_at ram root l p ≡ Some f → (v : ℕ) → page_entry ram' root v ≡ page_entry ram root v → page_at ram' root v ≡ page_at ram root v
+pub table-write-image : (ram ram' : List (List ℕ)) (root f l p : ℕ) → IsTree ram root → OthersStay ram ram' f → l ≤ 2
+    → table_at ram root l p ≡ Some f → (v : ℕ) → page_entry ram' root v ≡ page_entry ram root v → page_at ram' root v ≡ page_at ram root v
 table-write-image ram ram' root f l p tree stay le found v same =
     ap (page_of ram') same ∙ page_of-same ram ram' (page_entry ram root v) (λ h e. stay.others h (λ is. page-apart ram root v h l p tree e le (found ∙ ap Some (sym is))))
 
@@ -77,7 +78,8 @@ others-stay pool pool' ram mid ram' root g f h taken stay own x free none =
     stay.others x (λ is. omega (arith, own, none, ap (λ y. copies y (owned ram root)) is)) ∙ taken.traded.others x free (copies-nil x)
 
 -- what holds after one more frame is the space's
-pub holds-more : (pool pool' : Pool) (ram mid ram' : List (List ℕ)) (root g f : ℕ) → Holds pool ram root → Good pool' mid → AfterTake pool ram pool' mid root g → OthersStay mid ram' f → 1 ≤ copies f (owned ram root)
+pub holds-more : (pool pool' : Pool) (ram mid ram' : List (List ℕ)) (root g f : ℕ) → Holds pool ram root → Good pool' mid
+    → AfterTake pool ram pool' mid root g → OthersStay mid ram' f → 1 ≤ copies f (owned ram root)
     → SameFrames (owned ram' root) (g ∷ owned mid root) → Half ram' root
     → Holds pool' ram' root × ((x : ℕ) → copies x (free_in pool' ram') + copies x (owned ram' root) ≡ copies x (free_in pool ram) + copies x (owned ram root))
 holds-more pool pool' ram mid ram' root g f h good after stay own more half =
@@ -112,13 +114,15 @@ hung-of pool pool' ram mid ram' root f i g l p h after put small lt found inside
     }
 
 -- a frame that is taken leaves one less
-pub taken-length : (pool pool' : Pool) (ram mid ram' : List (List ℕ)) (f g : ℕ) → Good pool' mid → Taken pool ram pool' mid g → OthersStay mid ram' f → copies f (free_in pool' mid) ≡ 0 → length (free_in pool ram) ≡ 1 + length (free_in pool' ram')
+pub taken-length : (pool pool' : Pool) (ram mid ram' : List (List ℕ)) (f g : ℕ) → Good pool' mid → Taken pool ram pool' mid g → OthersStay mid ram' f
+    → copies f (free_in pool' mid) ≡ 0 → length (free_in pool ram) ≡ 1 + length (free_in pool' ram')
 taken-length pool pool' ram mid ram' f g good taken stay free =
     omega (arith, length-same (free_in pool ram) (g ∷ free_in pool' mid) (taken-free pool pool' ram mid g taken), ap length (free_in-written pool' mid ram' f good stay free))
 
 -- hanging a table of zeros below another leaves the image
 pub hang-upper : (pool pool' : Pool) (ram ram' : List (List ℕ)) (root i g : ℕ) → Holds pool ram root → Hanging pool ram pool' ram' root i g → i < 256 → table_at ram root 1 (512 * 0 + i) ≡ None
-    → SameImage pool ram pool' ram' root × (table_at ram' root 1 (512 * 0 + i) ≡ Some g) × ((p : ℕ) → table_at ram' root 2 p ≡ table_at ram root 2 p) × (length (free_in pool ram) ≡ 1 + length (free_in pool' ram'))
+    → SameImage pool ram pool' ram' root × (table_at ram' root 1 (512 * 0 + i) ≡ Some g) × ((p : ℕ) → table_at ram' root 2 p ≡ table_at ram root 2 p)
+    × (length (free_in pool ram) ≡ 1 + length (free_in pool' ram'))
 hang-upper pool pool' ram ram' root i g h hang low none =
     let after = after-take pool pool' ram hang.mid root g h hang.taken.traded.count hang.taken in
     let hung = hung-of pool pool' ram hang.mid ram' root root i g 0 0 h after hang.put hang.small (omega arith) refl (omega arith) none in
@@ -129,7 +133,8 @@ hang-upper pool pool' ram ram' root i g h hang low none =
       record {
         holds = held.0;
         count = hang.put.stay.count ∙ hang.taken.traded.count;
-        image = λ v. table-write-image hang.mid ram' root root 0 0 after.tree hang.put.stay (omega arith) refl v (hung-pages hang.mid ram' root root i g 0 0 hung v) ∙ kept-image ram hang.mid root h.tree after.kept v;
+        image = λ v. table-write-image hang.mid ram' root root 0 0 after.tree hang.put.stay (omega arith) refl v
+            (hung-pages hang.mid ram' root root i g 0 0 hung v) ∙ kept-image ram hang.mid root h.tree after.kept v;
         frames = held.1;
         others = others-stay pool pool' ram hang.mid ram' root g root h hang.taken hang.put.stay own;
       },
@@ -138,7 +143,8 @@ hang-upper pool pool' ram ram' root i g h hang low none =
       taken-length pool pool' ram hang.mid ram' root g hang.taken.traded.good hang.taken hang.put.stay (omega (arith, h.apart root, own, after.split root)),
     )
 
-pub hang-lower : (pool pool' : Pool) (ram ram' : List (List ℕ)) (root f i g p : ℕ) → Holds pool ram root → Hanging pool ram pool' ram' f i g → p < 256 → i < 512 → table_at ram root 1 p ≡ Some f → table_at ram root 2 (512 * p + i) ≡ None
+pub hang-lower : (pool pool' : Pool) (ram ram' : List (List ℕ)) (root f i g p : ℕ) → Holds pool ram root → Hanging pool ram pool' ram' f i g
+    → p < 256 → i < 512 → table_at ram root 1 p ≡ Some f → table_at ram root 2 (512 * p + i) ≡ None
     → SameImage pool ram pool' ram' root × (table_at ram' root 2 (512 * p + i) ≡ Some g) × (length (free_in pool ram) ≡ 1 + length (free_in pool' ram'))
 hang-lower pool pool' ram ram' root f i g p h hang low inside found none =
     let after = after-take pool pool' ram hang.mid root g h hang.taken.traded.count hang.taken in
@@ -151,7 +157,8 @@ hang-lower pool pool' ram ram' root f i g p h hang low inside found none =
       record {
         holds = held.0;
         count = hang.put.stay.count ∙ hang.taken.traded.count;
-        image = λ v. table-write-image hang.mid ram' root f 1 p after.tree hang.put.stay (omega arith) found' v (hung-pages hang.mid ram' root f i g 1 p hung v) ∙ kept-image ram hang.mid root h.tree after.kept v;
+        image = λ v. table-write-image hang.mid ram' root f 1 p after.tree hang.put.stay (omega arith) found' v
+            (hung-pages hang.mid ram' root f i g 1 p hung v) ∙ kept-image ram hang.mid root h.tree after.kept v;
         frames = held.1;
         others = others-stay pool pool' ram hang.mid ram' root g f h hang.taken hang.put.stay own;
       },
@@ -164,12 +171,13 @@ pub gathered-insert : (f g : ℕ → Option Page) (n v : ℕ) (p : Page) → v <
 gathered-insert f g n v p lt new others =
     same_map nat_cmp_total nat_cmp-IsAntisymmetric (gathered g n) (insert (gathered f n) v p) (λ q.
     gathered-get g n q ∙ (elim (cases_eq q v) [
-      | inl e ↦ ap (λ b. cond b (g q) None) (ltb-yes q n (omega arith)) ∙ ap g e ∙ new ∙ sym (ap (λ b. cond b (Some p) (get (gathered f n) q)) (tie-yes q v e))
+      | inl e ↦ ap (λ b. cond b (g q) None) (lt-ltb q n (omega arith)) ∙ ap g e ∙ new ∙ sym (ap (λ b. cond b (Some p) (get (gathered f n) q)) (tie-yes q v e))
       | inr ne ↦ ap (λ o. cond (ltb q n) o None) (others q ne) ∙ sym (gathered-get f n q) ∙ sym (ap (λ b. cond b (Some p) (get (gathered f n) q)) (tie-no q v ne))
     ]) ∙ sym (get-insert nat_cmp_total (gathered f n) v p q))
 
 -- a page of zeros is put where none was
-pub place-page : (pool pool' : Pool) (ram ram' : List (List ℕ)) (root f i g p : ℕ) (perm : Rights) → Holds pool ram root → Placing pool ram pool' ram' f i g perm → is_perm perm ≡ true → i < 512 → table_at ram root 2 p ≡ Some f
+pub place-page : (pool pool' : Pool) (ram ram' : List (List ℕ)) (root f i g p : ℕ) (perm : Rights) → Holds pool ram root
+    → Placing pool ram pool' ram' f i g perm → is_perm perm ≡ true → i < 512 → table_at ram root 2 p ≡ Some f
     → frame_of (page_entry ram root (512 * p + i)) ≡ None → PageAdded pool ram pool' ram' root (512 * p + i) perm
 unfolding pages_of
 place-page pool pool' ram ram' root f i g p perm h placing ok inside found none =
@@ -189,7 +197,8 @@ place-page pool pool' ram ram' root f i g p perm h placing ok inside found none 
     let here : page_at ram' root (512 * p + i) ≡ Some (record { perm = perm; bytes = zero_frame }) =
     ap (page_of ram') (leaf-here placing.mid ram' root f i (leaf_word g perm) p placing.put spot inside ∙ leaf) ∙ ap (λ b. Some (record { perm = perm; bytes = b })) zeros in
     let others : (u : ℕ) → u ≢ 512 * p + i → page_at ram' root u ≡ page_at ram root u =
-    λ u ne. table-write-image placing.mid ram' root f 2 p after.tree placing.put.stay (omega arith) found' u (leaf-others placing.mid ram' root f i (leaf_word g perm) p placing.put spot u ne) ∙ kept-image ram placing.mid root h.tree after.kept u in
+    λ u ne. table-write-image placing.mid ram' root f 2 p after.tree placing.put.stay (omega arith) found' u
+    (leaf-others placing.mid ram' root f i (leaf_word g perm) p placing.put spot u ne) ∙ kept-image ram placing.mid root h.tree after.kept u in
     record {
       holds = held.0;
       count = placing.put.stay.count ∙ placing.taken.traded.count;
@@ -198,11 +207,12 @@ place-page pool pool' ram ram' root f i g p perm h placing ok inside found none 
       others = others-stay pool pool' ram placing.mid ram' root g f h placing.taken placing.put.stay own;
     }
 
-pub gathered-same : (f g : ℕ → Option Page) (n : ℕ) → ((k : ℕ) → g k ≡ f k) → gathered g n ≡ gathered f n
+pub gathered-same : {X : Type 0} (f g : ℕ → Option X) (n : ℕ) → ((k : ℕ) → g k ≡ f k) → gathered g n ≡ gathered f n
 gathered-same f g n h = same_map nat_cmp_total nat_cmp-IsAntisymmetric (gathered g n) (gathered f n) (λ q. gathered-get g n q ∙ ap (λ o. cond (ltb q n) o None) (h q) ∙ sym (gathered-get f n q))
 
 -- the image stays, and then a page comes
-pub same-then-added : (pool0 pool1 pool2 : Pool) (ram0 ram1 ram2 : List (List ℕ)) (root v : ℕ) (perm : Rights) → SameImage pool0 ram0 pool1 ram1 root → PageAdded pool1 ram1 pool2 ram2 root v perm → PageAdded pool0 ram0 pool2 ram2 root v perm
+pub same-then-added : (pool0 pool1 pool2 : Pool) (ram0 ram1 ram2 : List (List ℕ)) (root v : ℕ) (perm : Rights) → SameImage pool0 ram0 pool1 ram1 root
+    → PageAdded pool1 ram1 pool2 ram2 root v perm → PageAdded pool0 ram0 pool2 ram2 root v perm
 unfolding pages_of
 same-then-added pool0 pool1 pool2 ram0 ram1 ram2 root v perm same added = record {
   holds = added.holds;

@@ -1,6 +1,7 @@
 -- What a touch makes of an image: a run of pages, each added where there was none, is what was to be touched and absent.
-use Rattle.std.proofs.Common.{◌≡◌, ◌≢◌, ℕ, zero, suc, ◌+◌, ◌-◌, ◌*◌, ◌/◌, ◌%◌, ◌^◌, ◌<◌, ◌≤◌, Bool, true, false, not, ◌&&◌, ◌||◌, cond, ltb, is_some, List, Option, Some, None, inl, inr, ◌⊎◌, refl, sym, ap, ◌∙◌, arith}
-use Rattle.std.proofs.lemmas.Bool.{cases_lt, cases_eq, false≢true, eq-eqb, ne_eqb}
+use Rattle.std.proofs.Common.{◌≡◌, ◌≢◌, ℕ, zero, suc, ◌+◌, ◌-◌, ◌*◌, ◌/◌, ◌%◌, ◌^◌, ◌<◌, ◌≤◌, Bool, true, false, not}
+use Rattle.std.proofs.Common.{◌&&◌, ◌||◌, cond, ltb, is_some, List, Option, Some, None, inl, inr, ◌⊎◌, refl, sym, ap, ◌∙◌, arith}
+use Rattle.std.proofs.lemmas.Bool.{cases_lt, cases_eq, false≢true, eq-eqb, ne_eqb, le-ltb, lt-ltb, and_right}
 use Prim.Native.Nat.{min}
 use Rattle.std.specs.Ordering.{nat_cmp}
 use Rattle.std.specs.FinMap.{FinMap, insert, get, get-insert, same_map, nat_cmp-IsAntisymmetric}
@@ -14,7 +15,6 @@ use Rattle.xk_base.specs.declared.access.Rights.{Rights}
 use Rattle.xk_base.specs.Image.{Page, Image, with_page}
 use Rattle.sv39_core.specs.Tree.{pages_of, page_at}
 use Rattle.sv39_core.proofs.Gathered.{gathered-get, tie-yes}
-use Rattle.sv39_core.proofs.Words.{ltb-yes, ltb-no}
 use Rattle.addr_space.specs.declared.Space.{Space}
 use Rattle.addr_space.specs.Changes.{zeroed, with_absent, filled, perm_of_page}
 use Rattle.addr_space.specs.Absent.{is_absent, is_among, pages_at, bring, brought, all_pages, whole}
@@ -31,7 +31,8 @@ zeros = zeroed data_rights
 pub among-yes : (a n v : ℕ) → 0 < n → a / 4096 ≤ v → 4096 * v < a + n → is_among v (pages_at a n) ≡ true
 among-yes a zero v some ge lt = absurd (omega (arith, some))
 among-yes a (suc n) v some ge lt = elim (cases_lt (a / 4096) v) [
-  | inl past ↦ ap (λ b. b || is_among v (pages_at (a + 1) n)) (ne_eqb v (a / 4096) (λ e. omega (arith, e, past))) ∙ among-yes (a + 1) n v (omega (arith, past, lt)) (omega (arith, past)) (omega (arith, lt))
+  | inl past ↦ ap (λ b. b || is_among v (pages_at (a + 1) n)) (ne_eqb v (a / 4096) (λ e. omega (arith, e, past)))
+      ∙ among-yes (a + 1) n v (omega (arith, past, lt)) (omega (arith, past)) (omega (arith, lt))
   | inr here ↦ ap (λ b. b || is_among v (pages_at (a + 1) n)) (eq-eqb v (a / 4096) (omega (arith, ge, here)))
 ]
 
@@ -76,7 +77,8 @@ least-of r a b e = elim (cases_lt a b) [
 -- ---- a run of pages, each where there was none
 
 -- the next page of the run, where another one is asked for
-kept-step : (pages m : FinMap nat_cmp Page) (v : ℕ) (page : Page) (u : ℕ) (b : Bool) → is_some (get m v) ≡ b → get m u ≡ get pages u → is_some (get pages u) ≡ true → get (cond (is_some (get m v)) m (insert m v page)) u ≡ get pages u
+kept-step : (pages m : FinMap nat_cmp Page) (v : ℕ) (page : Page) (u : ℕ) (b : Bool) → is_some (get m v) ≡ b → get m u ≡ get pages u
+    → is_some (get pages u) ≡ true → get (cond (is_some (get m v)) m (insert m v page)) u ≡ get pages u
 kept-step pages m v page u true e before there = ap (λ b. get (cond b m (insert m v page)) u) e ∙ before
 kept-step pages m v page u false e before there = ap (λ b. get (cond b m (insert m v page)) u) e ∙ elim (cases_eq u v) [
   | inl same ↦ absurd (false≢true (sym e ∙ ap (λ x. is_some (get m x)) (sym same) ∙ ap is_some before ∙ there))
@@ -87,7 +89,8 @@ kept-step pages m v page u false e before there = ap (λ b. get (cond b m (inser
 kept : (pages : FinMap nat_cmp Page) (first n : ℕ) (page : Page) (u : ℕ) → is_some (get pages u) ≡ true → get (with_absent pages first n page) u ≡ get pages u
 unfolding with_absent
 kept pages first zero page u there = refl
-kept pages first (suc n) page u there = kept-step pages (with_absent pages first n page) (first + n) page u (is_some (get (with_absent pages first n page) (first + n))) refl (kept pages first n page u there) there
+kept pages first (suc n) page u there = kept-step pages (with_absent pages first n page) (first + n) page u
+    (is_some (get (with_absent pages first n page) (first + n))) refl (kept pages first n page u there) there
 
 came-step : (m : FinMap nat_cmp Page) (v : ℕ) (page : Page) (u : ℕ) (b : Bool) → is_some (get m v) ≡ b → u ≢ v → get m u ≡ Some page → get (cond (is_some (get m v)) m (insert m v page)) u ≡ Some page
 came-step m v page u true e ne before = ap (λ b. get (cond b m (insert m v page)) u) e ∙ before
@@ -102,7 +105,8 @@ unfolding with_absent
 came pages first zero page u ge lt none = absurd (omega (arith, ge, lt))
 came pages first (suc n) page u ge lt none = elim (cases_eq u (first + n)) [
   | inl same ↦ came-here (with_absent pages first n page) (first + n) page u same (absent-out pages first n page (first + n) (inr (omega arith)) ∙ sym (ap (get pages) same) ∙ none)
-  | inr ne ↦ came-step (with_absent pages first n page) (first + n) page u (is_some (get (with_absent pages first n page) (first + n))) refl ne (came pages first n page u ge (omega (arith, lt, ne)) none)
+  | inr ne ↦ came-step (with_absent pages first n page) (first + n) page u (is_some (get (with_absent pages first n page) (first + n))) refl ne
+      (came pages first n page u ge (omega (arith, lt, ne)) none)
 ]
 
 -- ---- page by page
@@ -148,22 +152,18 @@ again i j v chosen size is = by (is_absent i v) refl chosen refl
     absent : (o : Option Page) → get j.pages v ≡ o → is_absent j v ≡ (ltb (4096 * v) i.size && not (is_some o))
     absent o e = λ k. ltb (4096 * v) (size k) && not (is_some (e k))
 
-    none : (b : Bool) → (b && false) ≡ false
-    none true = refl
-    none false = refl
-
     same : (b c : Bool) → is_absent i v ≡ b → get j.pages v ≡ get i.pages v → is_absent j v ≡ b
     same b c e p = absent (get i.pages v) p ∙ e
 
     by : (b : Bool) → is_absent i v ≡ b → (c : Bool) → chosen ≡ c → cond (is_absent j v) (Some zeros) (get j.pages v) ≡ page_after true i v
     by true e true ch =
         let came : get j.pages v ≡ Some zeros = is ∙ (λ k. cond (ch k && e k) (Some zeros) (get i.pages v)) in
-        (λ k. cond ((absent (Some zeros) came ∙ none (ltb (4096 * v) i.size)) k) (Some zeros) (came k)) ∙ sym (ap (λ b. cond b (Some zeros) (get i.pages v)) e)
+        (λ k. cond ((absent (Some zeros) came ∙ and_right (ltb (4096 * v) i.size) false refl) k) (Some zeros) (came k)) ∙ sym (ap (λ b. cond b (Some zeros) (get i.pages v)) e)
     by true e false ch =
         let stays : get j.pages v ≡ get i.pages v = is ∙ (λ k. cond (ch k && is_absent i v) (Some zeros) (get i.pages v)) in
         ap (λ b. cond b (Some zeros) (get j.pages v)) (same true chosen e stays) ∙ sym (ap (λ b. cond b (Some zeros) (get i.pages v)) e)
     by false e c ch =
-        let stays : get j.pages v ≡ get i.pages v = is ∙ (λ k. cond (chosen && e k) (Some zeros) (get i.pages v)) ∙ ap (λ b. cond b (Some zeros) (get i.pages v)) (none chosen) in
+        let stays : get j.pages v ≡ get i.pages v = is ∙ (λ k. cond (chosen && e k) (Some zeros) (get i.pages v)) ∙ ap (λ b. cond b (Some zeros) (get i.pages v)) (and_right chosen false refl) in
         ap (λ b. cond b (Some zeros) (get j.pages v)) (same false chosen e stays) ∙ stays ∙ sym (ap (λ b. cond b (Some zeros) (get i.pages v)) e)
 
 pub brought-get : (ps : List ℕ) (i : Image) (v : ℕ) → get (brought ps i).pages v ≡ page_after (is_among v ps) i v
@@ -189,7 +189,7 @@ pub record IsRun (chosen : ℕ → Bool) (size first end : ℕ) : Type 0 where
 out : (chosen : Bool) (i : Image) (v : ℕ) → (4096 * v < i.size → chosen ≡ false) → page_after chosen i v ≡ get i.pages v
 out chosen i v not-chosen = elim (cases_lt (4096 * v) i.size) [
   | inl lt ↦ ap (λ b. cond (b && is_absent i v) (Some zeros) (get i.pages v)) (not-chosen lt)
-  | inr ge ↦ ap (λ b. cond (chosen && (b && not (is_some (get i.pages v)))) (Some zeros) (get i.pages v)) (ltb-no (4096 * v) i.size ge) ∙ both chosen
+  | inr ge ↦ ap (λ b. cond (chosen && (b && not (is_some (get i.pages v)))) (Some zeros) (get i.pages v)) (le-ltb (4096 * v) i.size ge) ∙ both chosen
 ]
   where
     both : (b : Bool) → cond (b && false) (Some zeros) (get i.pages v) ≡ get i.pages v
@@ -199,7 +199,7 @@ out chosen i v not-chosen = elim (cases_lt (4096 * v) i.size) [
 in-run : (chosen : Bool) (i : Image) (v : ℕ) → chosen ≡ true → 4096 * v < i.size → (o : Option Page) → get i.pages v ≡ o → page_after chosen i v ≡ cond (is_some o) o (Some zeros)
 in-run chosen i v picked lt o is =
     ap (λ b. cond (b && is_absent i v) (Some zeros) (get i.pages v)) picked
-    ∙ ap (λ b. cond (b && not (is_some (get i.pages v))) (Some zeros) (get i.pages v)) (ltb-yes (4096 * v) i.size lt)
+    ∙ ap (λ b. cond (b && not (is_some (get i.pages v))) (Some zeros) (get i.pages v)) (lt-ltb (4096 * v) i.size lt)
     ∙ ap (λ p. cond (not (is_some p)) (Some zeros) p) is ∙ by o
   where
     by : (o : Option Page) → cond (not (is_some o)) (Some zeros) o ≡ cond (is_some o) o (Some zeros)
@@ -224,9 +224,11 @@ pub filled-brought : (ps : List ℕ) (i : Image) (first end : ℕ) → IsRun (λ
 filled-brought ps i first end run = λ k. record { pages = pages k; size = sym (brought-size ps i) k }
   where
     pages : with_absent i.pages first (end - first) zeros ≡ (brought ps i).pages
-    pages = same_map nat_cmp_total nat_cmp-IsAntisymmetric (with_absent i.pages first (end - first) zeros) (brought ps i).pages (λ v. run-page (λ v. is_among v ps) i first end run v ∙ sym (brought-get ps i v))
+    pages = same_map nat_cmp_total nat_cmp-IsAntisymmetric (with_absent i.pages first (end - first) zeros) (brought ps i).pages
+        (λ v. run-page (λ v. is_among v ps) i first end run v ∙ sym (brought-get ps i v))
 
-pub run-of-range : (size a n first end : ℕ) → first ≤ end → ((v : ℕ) → first ≤ v → v < end → (is_among v (pages_at a n) ≡ true) × (4096 * v < size)) → ((v : ℕ) → v < first → 4096 * v < size → is_among v (pages_at a n) ≡ false)
+pub run-of-range : (size a n first end : ℕ) → first ≤ end → ((v : ℕ) → first ≤ v → v < end → (is_among v (pages_at a n) ≡ true) × (4096 * v < size))
+    → ((v : ℕ) → v < first → 4096 * v < size → is_among v (pages_at a n) ≡ false)
     → ((v : ℕ) → end ≤ v → 4096 * v < size → is_among v (pages_at a n) ≡ false) → IsRun (λ v. is_among v (pages_at a n)) size first end
 run-of-range size a n first end order inside before behind = record { order = order; inside = inside; before = before; behind = behind }
 
@@ -244,7 +246,7 @@ pub record LowPages (i : Image) : Type 0 where
 
 pub low-pages : (ram : List (List ℕ)) (space : Space) → LowPages (image_of ram space)
 unfolding pages_of
-low-pages ram space = record { none = λ v ge. gathered-get (page_at ram space.root) (2 ^ 26) v ∙ ap (λ b. cond b (page_at ram space.root v) None) (ltb-no v (2 ^ 26) ge) }
+low-pages ram space = record { none = λ v ge. gathered-get (page_at ram space.root) (2 ^ 26) v ∙ ap (λ b. cond b (page_at ram space.root v) None) (le-ltb v (2 ^ 26) ge) }
 
 pub whole-get : (i : Image) (v : ℕ) → v < 2 ^ 26 → get (whole i).pages v ≡ cond (is_absent i v) (Some zeros) (get i.pages v)
 whole-get i v lt = brought-get all_pages i v ∙ ap (λ b. page_after b i v) (all-have v lt)

@@ -12,20 +12,15 @@ use Rattle.addr_space.specs.declared.Space.{Space}
 use Rattle.sv39_core.specs.Listed.{push_some, listed}
 use Rattle.sv39_core.specs.Sv39.{table_at, page_entry}
 use Rattle.sv39_core.specs.Tree.{frame_of, uppers, lowers, page_frames, owned, IsTree}
-use Rattle.addr_space.specs.Steps.{Holds, SameImage, PageAdded}
+use Rattle.addr_space.specs.Steps.{PageAdded}
 use Rattle.xk_base.specs.Image.{price}
 use Rattle.addr_space.specs.Space.{image_of, frames_of, IsSpace, Belongs, Changed, Made}
 use Rattle.frame_list.specs.Traded.{Traded, Given}
 use Rattle.frame_list.proofs.Trades.{trade-lengths}
 use Rattle.addr_space.proofs.Prices.{length-owned, length-kinds}
 
-pub holds-of : (pool : Pool) (ram : List (List ℕ)) (space : Space) → Belongs pool ram space → Holds pool ram space.root
-holds-of pool ram space b = record { good = b.good; tree = b.whole.tree; apart = b.apart }
-
-pub trade-image : (pool pool' : Pool) (ram ram' : List (List ℕ)) (root : ℕ) → SameImage pool ram pool' ram' root → Traded pool ram pool' ram' (owned ram root) (owned ram' root)
-trade-image pool pool' ram ram' root s = record { good = s.holds.good; count = s.count; frames = s.frames; others = s.others }
-
-pub trade-added : (pool pool' : Pool) (ram ram' : List (List ℕ)) (root v : ℕ) (perm : Rights) → PageAdded pool ram pool' ram' root v perm → Traded pool ram pool' ram' (owned ram root) (owned ram' root)
+pub trade-added : (pool pool' : Pool) (ram ram' : List (List ℕ)) (root v : ℕ) (perm : Rights) → PageAdded pool ram pool' ram' root v perm
+    → Traded pool ram pool' ram' (owned ram root) (owned ram' root)
 trade-added pool pool' ram ram' root v perm a = record { good = a.holds.good; count = a.count; frames = a.frames; others = a.others }
 
 -- another frame than the one given back keeps its bytes
@@ -39,7 +34,9 @@ pub space-counts : (ram : List (List ℕ)) (space : Space) → IsSpace ram space
 space-counts ram space is = omega (arith, space-price ram space is, length-kinds ram space.root, is.pages, is.tables)
 
 -- the price and the free frames
-pub free-after : (pool pool' : Pool) (ram ram' : List (List ℕ)) (space space' : Space) → Belongs pool ram space → Changed pool ram space pool' ram' space' → length (free_in pool' ram') + price (image_of ram' space') ≡ length (free_in pool ram) + price (image_of ram space)
+pub free-after : (pool pool' : Pool) (ram ram' : List (List ℕ)) (space space' : Space) → Belongs pool ram space
+    → Changed pool ram space pool' ram' space' → length (free_in pool' ram') + price (image_of ram' space') ≡ length (free_in pool ram) + price
+    (image_of ram space)
 free-after pool pool' ram ram' space space' b c =
     omega (arith, trade-lengths pool pool' ram ram' (frames_of ram space) (frames_of ram' space') c.traded, space-price ram space b.whole, space-price ram' space' c.whole)
 
@@ -62,7 +59,8 @@ belongs-resized pool ram space size limit b = record {
 }
 
 -- a space without pages from a number on may end there
-pub belongs-ended : (pool : Pool) (ram : List (List ℕ)) (space : Space) (first size end : ℕ) → end ≡ min space.end first → size ≤ SIZE_LIMIT → Belongs pool ram space → ((u : ℕ) → first ≤ u → u < 67108864 → frame_of (page_entry ram space.root u) ≡ None)
+pub belongs-ended : (pool : Pool) (ram : List (List ℕ)) (space : Space) (first size end : ℕ) → end ≡ min space.end first → size ≤ SIZE_LIMIT
+    → Belongs pool ram space → ((u : ℕ) → first ≤ u → u < 67108864 → frame_of (page_entry ram space.root u) ≡ None)
     → Belongs pool ram (record space { size = size; end = end })
 belongs-ended pool ram space first size end less limit b none = record {
   good = b.good;

@@ -1,6 +1,6 @@
 -- Where accesses lead after a change of the tables: only the last entry on the way to a page tells.
 use Rattle.std.proofs.Common.{◌≡◌, ℕ, ◌-◌, ◌*◌, ◌/◌, ◌%◌, ◌^◌, ◌<◌, ◌≤◌, min, ◌⊎◌, eqb, Bool, true, false, cond, List, Option, Some, None, inl, inr, refl, sym, ap, ◌∙◌, subst, arith}
-use Rattle.std.proofs.lemmas.Bool.{cases_eq, cases_lt}
+use Rattle.std.proofs.lemmas.Bool.{cases_eq, cases_lt, ne_eqb}
 use Rattle.xk_base.specs.declared.access.Access.{Access}
 use Rattle.sv39_core.specs.declared.entry.Entry.{Entry}
 use Rattle.sv39_core.specs.declared.entry.Entry.TheVariants.{Invalid, Table, Leaf}
@@ -8,14 +8,15 @@ use Rattle.sv39_core.specs.Sv39.{is_canonical, allowed, page_entry, walked}
 use Rattle.sv39_core.specs.Tree.{page_of, page_at, frame_of}
 use Rattle.sv39_core.proofs.Walks.{walked-not_canonical}
 use Rattle.sv39_core.proofs.Places.{page-place}
-use Rattle.sv39_core.proofs.Words.{eqb-no}
 use Rattle.std.specs.Int.{bit_at}
 use Rattle.addr_space.specs.Translations.{TranslationsStay, WalksStay, WalksStayBelow, WalksStayBeside}
 use Rattle.addr_space.specs.Steps.{Beside}
 use Rattle.addr_space.specs.Space.{IsSpace}
 use Rattle.addr_space.specs.declared.Space.{Space}
+use Rattle.addr_space.proofs.Freeing.{none-of, page-none}
 
-pub walk-same : (ram ram' : List (List ℕ)) (root va : ℕ) (access : Access) → page_entry ram' root (va / 4096 % 134217728) ≡ page_entry ram root (va / 4096 % 134217728) → walked ram' root va access ≡ walked ram root va access
+pub walk-same : (ram ram' : List (List ℕ)) (root va : ℕ) (access : Access)
+    → page_entry ram' root (va / 4096 % 134217728) ≡ page_entry ram root (va / 4096 % 134217728) → walked ram' root va access ≡ walked ram root va access
 unfolding walked
 walk-same ram ram' root va access same = ap (λ e. cond (is_canonical va) (allowed access e (va % 4096)) None) same
 
@@ -71,7 +72,7 @@ page-of-address va v same small =
     low x e = e
 
     far : (top bit : ℕ) → 1 ≤ top → bit ≡ 0 → eqb top ((2 ^ 25 - 1) * bit) ≡ false
-    far top bit some zero = eqb-no top ((2 ^ 25 - 1) * bit) (λ e. omega (arith, some, ap (λ b. (2 ^ 25 - 1) * b) zero, e))
+    far top bit some zero = ne_eqb top ((2 ^ 25 - 1) * bit) (λ e. omega (arith, some, ap (λ b. (2 ^ 25 - 1) * b) zero, e))
 
 -- the entries of all other pages stay
 pub walks-beside : (ram ram' : List (List ℕ)) (root v : ℕ) → v < 67108864 → ((u : ℕ) → (u ≡ v → ⊥) → page_entry ram' root u ≡ page_entry ram root u) → WalksStayBeside v ram ram' root
@@ -84,16 +85,6 @@ walks-beside ram ram' root v small same va access away =
       | inr ne ↦ walk-same ram ram' root va access (same (va / 4096 % 134217728) ne)
     ]
 
--- a page without a frame is none
-bare : (ram : List (List ℕ)) (e : Entry) → frame_of e ≡ None → page_of ram e ≡ None
-bare ram Invalid h = refl
-bare ram (Table f) h = refl
-bare ram (Leaf f p a d) h = absurd (cc)
-
-none-of : (o : Option ℕ) → ((f : ℕ) → o ≡ Some f → ⊥) → o ≡ None
-none-of None never = refl
-none-of (Some f) never = absurd (never f refl)
-
 -- no access reaches an address behind the end of a space
 pub unreached : (ram : List (List ℕ)) (space : Space) (end va : ℕ) (access : Access) → IsSpace ram space → end ≡ min space.end 67108864 → 4096 * end ≤ va → walked ram space.root va access ≡ None
 unreached ram space end va access is least behind =
@@ -101,8 +92,8 @@ unreached ram space end va access is least behind =
     let e = page_entry ram space.root v in
     elim (cases_lt v 67108864) [
       | inl small ↦ elim (page-of-address va v refl small) [
-        | inl here ↦ walk-none ram space.root va access (bare ram e (is.ends v (omega (arith, here, behind, least, small)) small))
+        | inl here ↦ walk-none ram space.root va access (page-none ram e (is.ends v (omega (arith, here, behind, least, small)) small))
         | inr far ↦ walked-not_canonical ram space.root va access far
       ]
-      | inr big ↦ walk-none ram space.root va access (bare ram e (none-of (frame_of e) (λ f there. omega (arith, page-place ram space.root v f is.tree there, big))))
+      | inr big ↦ walk-none ram space.root va access (page-none ram e (none-of (frame_of e) (λ f there. omega (arith, page-place ram space.root v f is.tree there, big))))
     ]

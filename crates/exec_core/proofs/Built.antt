@@ -3,10 +3,9 @@ use Rattle.std.proofs.Common.{◌≡◌, ℕ, suc, ◌+◌, ◌*◌, ◌^◌, �
 use Rattle.std.proofs.lemmas.List.{length-take, length-append}
 use Rattle.std.specs.Option.{option_map}
 use Rattle.std.specs.List.{flat_map}
-use Rattle.std.proofs.lemmas.Bool.{cases_lt, cases_eq}
+use Rattle.std.proofs.lemmas.Bool.{cases_lt, cases_eq, eq-eqb, ne_eqb}
 use Rattle.std.specs.FinMap.{get}
 use Rattle.xk_base.specs.declared.access.Rights.{Rights}
-use Rattle.xk_base.specs.declared.limits.TheConstants.{SIZE_LIMIT}
 use Rattle.xk_base.specs.declared.program.Segment.{Segment}
 use Rattle.xk_base.specs.Gathered.{gathered}
 use Rattle.xk_base.specs.Words.{le_bytes}
@@ -14,8 +13,8 @@ use Rattle.xk_base.proofs.Words.{length-le_bytes}
 use Rattle.xk_base.specs.ProgramFile.{page_up, Fit}
 use Rattle.xk_base.specs.Image.{Image, page_count, no_pages, price}
 use Rattle.xk_base.specs.Bytes.{HasPage, write_image}
-use Rattle.xk_base.specs.Loaded.{over, zeros, page_by, image_by, end_after, perm_at, file_bytes, segments_over, down, text_places, lowest, stack_pointer, pointers, texts_over, stack_over, guard, page_perm, program_image}
-use Rattle.sv39_core.proofs.Words.{eqb-yes, eqb-no}
+use Rattle.xk_base.specs.Loaded.{over, zeros, page_by, image_by, end_after, perm_at, file_bytes, segments_over, down}
+use Rattle.xk_base.specs.Loaded.{text_places, lowest, stack_pointer, pointers, texts_over, stack_over, guard, page_perm, program_image}
 use Rattle.addr_space.specs.Changes.{grown}
 use Rattle.exec_core.specs.Building.{with_segment, with_segments, protected_in, with_stack, with_texts, price_first}
 use Rattle.exec_core.proofs.Images.{cond-lt, cond-ge, get-image_by, image-same, perm_grown, grown-by, without_user, perm_protected, protected-by, over-above, written-by}
@@ -58,7 +57,8 @@ laid-grown image n e perm byte p h le = record {
   zero_from = λ a ge. h.zero_from a (omega (arith, ge, le));
 }
 
-pub laid-written : (image : Image) (n a : ℕ) (bytes : List ℕ) (perm : ℕ → Option Rights) (byte : ℕ → ℕ) → Laid image n perm byte → a + length bytes ≤ n → Laid (write_image image a bytes) n perm (over a bytes byte)
+pub laid-written : (image : Image) (n a : ℕ) (bytes : List ℕ) (perm : ℕ → Option Rights) (byte : ℕ → ℕ) → Laid image n perm byte
+    → a + length bytes ≤ n → Laid (write_image image a bytes) n perm (over a bytes byte)
 laid-written image n a bytes perm byte h fits = record {
   is = ap (λ i. write_image i a bytes) h.is ∙ written-by bytes perm byte n a fits;
   there = h.there;
@@ -117,17 +117,15 @@ pub fit-end : (len n : ℕ) (later : List Segment) → Fit len n later → n ≤
 fit-end len n [] fit = omega arith
 fit-end len n (s ∷ later) fit = omega (arith, fit.0, fit-end len (s.vaddr + s.memsz) later fit.4)
 
-fit-limit : (len n : ℕ) (later : List Segment) → Fit len n later → n ≤ SIZE_LIMIT → end_after n later ≤ SIZE_LIMIT
-fit-limit len n [] fit le = le
-fit-limit len n (s ∷ later) fit le = fit-limit len (s.vaddr + s.memsz) later fit.4 fit.3
-
 laid-segments : (file : List ℕ) (segments : List Segment) (image : Image) (n : ℕ) (perm : ℕ → Option Rights) (byte : ℕ → ℕ) → Laid image n perm byte → Fit (length file) n segments
     → Laid (with_segments file image segments) (end_after n segments) (perms_after n perm segments) (segments_over file segments byte)
 laid-segments file [] image n perm byte h fit = laid-rights image n perm (perms_after n perm []) byte h (λ v lt. sym (cond-lt v (page_count n) (perm v) None lt))
 laid-segments file (s ∷ later) image n perm byte h fit =
     let e = s.vaddr + s.memsz in
-    let rest = laid-segments file later (with_segment file image s) e (perm_grown (page_count n) perm s.perm) (over s.vaddr (file_bytes file s) byte) (laid-segment file s later image n perm byte h fit) fit.4 in
-    laid-rights (with_segments file image (s ∷ later)) (end_after e later) (perms_after e (perm_grown (page_count n) perm s.perm) later) (perms_after n perm (s ∷ later)) (segments_over file (s ∷ later) byte) rest
+    let rest = laid-segments file later (with_segment file image s) e (perm_grown (page_count n) perm s.perm) (over s.vaddr (file_bytes file s) byte)
+    (laid-segment file s later image n perm byte h fit) fit.4 in
+    laid-rights (with_segments file image (s ∷ later)) (end_after e later) (perms_after e (perm_grown (page_count n) perm s.perm) later)
+    (perms_after n perm (s ∷ later)) (segments_over file (s ∷ later) byte) rest
     (λ v lt. same-perms n e perm s.perm (perm_at later v) v (omega (arith, fit.0)))
 
 pub no-image : no_pages ≡ image_by (λ v. None) zeros 0
@@ -142,36 +140,38 @@ same-page segments n v u is lt =
     let grown_perm = perm_grown (page_count n) (perms_after 0 (λ w. None) segments) data_rights in
     elim (cases_eq u v) [
       | inl here ↦
-          ap (λ b. cond b (option_map without_user (grown_perm u)) (grown_perm u)) (eqb-yes u v here)
+          ap (λ b. cond b (option_map without_user (grown_perm u)) (grown_perm u)) (eq-eqb u v here)
           ∙ ap (option_map without_user) (cond-ge u (page_count n) (perms_after 0 (λ w. None) segments u) (Some data_rights) (omega (arith, here, is)))
-          ∙ sym (ap (λ b. cond b (Some guard) (cond (eqb (4096 * u) (4096 * v + 4096)) (Some data_rights) (perm_at segments u))) (eqb-yes (4096 * u) (4096 * v) (omega (arith, here))))
+          ∙ sym (ap (λ b. cond b (Some guard) (cond (eqb (4096 * u) (4096 * v + 4096)) (Some data_rights) (perm_at segments u))) (eq-eqb (4096 * u) (4096 * v) (omega (arith, here))))
       | inr other ↦
-          ap (λ b. cond b (option_map without_user (grown_perm u)) (grown_perm u)) (eqb-no u v other)
+          ap (λ b. cond b (option_map without_user (grown_perm u)) (grown_perm u)) (ne_eqb u v other)
           ∙ (elim (cases_lt u (page_count n)) [
             | inl low ↦
                 cond-lt u (page_count n) (perms_after 0 (λ w. None) segments u) (Some data_rights) low ∙ cond-ge u (page_count 0) None (perm_at segments u) (omega arith)
-                ∙ sym (ap (λ b. cond b (Some data_rights) (perm_at segments u)) (eqb-no (4096 * u) (4096 * v + 4096) (λ e. omega (arith, e, low, is))))
+                ∙ sym (ap (λ b. cond b (Some data_rights) (perm_at segments u)) (ne_eqb (4096 * u) (4096 * v + 4096) (λ e. omega (arith, e, low, is))))
             | inr high ↦
                 cond-ge u (page_count n) (perms_after 0 (λ w. None) segments u) (Some data_rights) high
-                ∙ sym (ap (λ b. cond b (Some data_rights) (perm_at segments u)) (eqb-yes (4096 * u) (4096 * v + 4096) (omega (arith, high, other, lt, is))))
+                ∙ sym (ap (λ b. cond b (Some data_rights) (perm_at segments u)) (eq-eqb (4096 * u) (4096 * v + 4096) (omega (arith, high, other, lt, is))))
           ])
-          ∙ sym (ap (λ b. cond b (Some guard) (cond (eqb (4096 * u) (4096 * v + 4096)) (Some data_rights) (perm_at segments u))) (eqb-no (4096 * u) (4096 * v) (λ e. other (omega (arith, e)))))
+          ∙ sym (ap (λ b. cond b (Some guard) (cond (eqb (4096 * u) (4096 * v + 4096)) (Some data_rights) (perm_at segments u))) (ne_eqb (4096 * u) (4096 * v) (λ e. other (omega (arith, e)))))
     ]
 
 pages-of : (v : ℕ) → page_count (4096 * (v + 2)) ≡ v + 2
 pages-of v = omega arith
 
-laid-protected : (image : Image) (n w : ℕ) (perm : ℕ → Option Rights) (byte : ℕ → ℕ) → Laid image n perm byte → w < page_count n → Laid (protected_in image w (get image.pages w)) n (perm_protected w perm) byte
+laid-protected : (image : Image) (n w : ℕ) (perm : ℕ → Option Rights) (byte : ℕ → ℕ) → Laid image n perm byte → w < page_count n
+    → Laid (protected_in image w (get image.pages w)) n (perm_protected w perm) byte
 laid-protected image n w perm byte h lt = record {
   is = ap (λ i. protected_in i w (get i.pages w)) h.is ∙ protected-by perm byte n w (h.there w lt).0 lt (h.there w lt).1;
   there = λ v below. elim (cases_eq v w) [
-    | inl e ↦ (without_user (h.there v below).0, ap (λ b. cond b (option_map without_user (perm v)) (perm v)) (eqb-yes v w e) ∙ ap (option_map without_user) (h.there v below).1)
-    | inr ne ↦ ((h.there v below).0, ap (λ b. cond b (option_map without_user (perm v)) (perm v)) (eqb-no v w ne) ∙ (h.there v below).1)
+    | inl e ↦ (without_user (h.there v below).0, ap (λ b. cond b (option_map without_user (perm v)) (perm v)) (eq-eqb v w e) ∙ ap (option_map without_user) (h.there v below).1)
+    | inr ne ↦ ((h.there v below).0, ap (λ b. cond b (option_map without_user (perm v)) (perm v)) (ne_eqb v w ne) ∙ (h.there v below).1)
   ];
   zero_from = h.zero_from;
 }
 
-pub laid-stack : (image : Image) (segments : List Segment) (n v : ℕ) (byte : ℕ → ℕ) → Laid image n (perms_after 0 (λ w. None) segments) byte → v ≡ page_count n → Laid (with_stack image v) (4096 * (v + 2)) (page_perm segments (4096 * v)) byte
+pub laid-stack : (image : Image) (segments : List Segment) (n v : ℕ) (byte : ℕ → ℕ) → Laid image n (perms_after 0 (λ w. None) segments) byte
+    → v ≡ page_count n → Laid (with_stack image v) (4096 * (v + 2)) (page_perm segments (4096 * v)) byte
 laid-stack image segments n v byte h is =
     let perm = perms_after 0 (λ w. None) segments in
     let big = laid-grown image n (4096 * (v + 2)) perm byte data_rights h (omega (arith, is)) in
@@ -206,7 +206,8 @@ length-places (text ∷ later) top = ap (λ n. suc n) (length-places later (down
 pub length-pointers : (texts : List (List ℕ)) (top : ℕ) → length (pointers top texts) ≡ 8 * (length texts + 1)
 length-pointers texts top = length-words (text_places top texts ++ 0 ∷ []) ∙ omega (arith, length-append (text_places top texts) (0 ∷ []), length-places texts top)
 
-laid-first-stack : (texts : List (List ℕ)) (image : Image) (n : ℕ) (perm : ℕ → Option Rights) (byte : ℕ → ℕ) → Laid image n perm byte → 0 < stack_pointer n texts → Laid (with_first_stack image n texts) n perm (stack_over n texts byte)
+laid-first-stack : (texts : List (List ℕ)) (image : Image) (n : ℕ) (perm : ℕ → Option Rights) (byte : ℕ → ℕ) → Laid image n perm byte
+    → 0 < stack_pointer n texts → Laid (with_first_stack image n texts) n perm (stack_over n texts byte)
 laid-first-stack texts image n perm byte h some =
     let low = lowest-le texts n in
     let laid = laid-texts texts image n n perm byte h (omega arith) (omega (arith, some)) in
@@ -214,14 +215,16 @@ laid-first-stack texts image n perm byte h some =
 
 -- ---- the whole
 
-pub all-segments : (file : List ℕ) (segments : List Segment) → Fit (length file) 0 segments → Laid (with_segments file no_pages segments) (end_after 0 segments) (perms_after 0 (λ w. None) segments) (segments_over file segments zeros)
+pub all-segments : (file : List ℕ) (segments : List Segment) → Fit (length file) 0 segments
+    → Laid (with_segments file no_pages segments) (end_after 0 segments) (perms_after 0 (λ w. None) segments) (segments_over file segments zeros)
 all-segments file segments fit = laid-segments file segments no_pages 0 (λ w. None) zeros (laid-none no_pages no-image) fit
 
 pub all-stacked : (file : List ℕ) (segments : List Segment) (v : ℕ) → Fit (length file) 0 segments → v ≡ page_count (end_after 0 segments)
     → Laid (with_stack (with_segments file no_pages segments) v) (4096 * (v + 2)) (page_perm segments (4096 * v)) (segments_over file segments zeros)
 all-stacked file segments v fit is = laid-stack (with_segments file no_pages segments) segments (end_after 0 segments) v (segments_over file segments zeros) (all-segments file segments fit) is
 
-pub built-is : (file : List ℕ) (segments : List Segment) (v : ℕ) (texts : List (List ℕ)) → Fit (length file) 0 segments → v ≡ page_count (end_after 0 segments) → 0 < stack_pointer (4096 * (v + 2)) texts
+pub built-is : (file : List ℕ) (segments : List Segment) (v : ℕ) (texts : List (List ℕ)) → Fit (length file) 0 segments
+    → v ≡ page_count (end_after 0 segments) → 0 < stack_pointer (4096 * (v + 2)) texts
     → built file segments v texts ≡ program_image file segments texts
 unfolding program_image
 built-is file segments v texts fit is some =
@@ -235,11 +238,13 @@ built-is file segments v texts fit is some =
 
 -- ---- prices
 
-pub built-price : (file : List ℕ) (segments : List Segment) (v : ℕ) (texts : List (List ℕ)) → Fit (length file) 0 segments → v ≡ page_count (end_after 0 segments) → v + 2 ≤ 2 ^ 26 → 0 < stack_pointer (4096 * (v + 2)) texts
+pub built-price : (file : List ℕ) (segments : List Segment) (v : ℕ) (texts : List (List ℕ)) → Fit (length file) 0 segments
+    → v ≡ page_count (end_after 0 segments) → v + 2 ≤ 2 ^ 26 → 0 < stack_pointer (4096 * (v + 2)) texts
     → price (program_image file segments texts) ≡ price_first (v + 2)
 built-price file segments v texts fit is limit some =
     let byte = segments_over file segments zeros in
     sym (ap price (built-is file segments v texts fit is some))
     ∙ laid-price (built file segments v texts) (4096 * (v + 2)) (page_perm segments (4096 * v)) (stack_over (4096 * (v + 2)) texts byte)
-    (laid-first-stack texts (with_stack (with_segments file no_pages segments) v) (4096 * (v + 2)) (page_perm segments (4096 * v)) byte (all-stacked file segments v fit is) some) (omega (arith, limit))
+    (laid-first-stack texts (with_stack (with_segments file no_pages segments) v) (4096 * (v + 2)) (page_perm segments (4096 * v)) byte
+    (all-stacked file segments v fit is) some) (omega (arith, limit))
     ∙ ap price_first (pages-of v)

@@ -1,8 +1,9 @@
 -- Images that are said by rights of pages and bytes at addresses, through growth, writes and the guard page.
-use Rattle.std.proofs.Common.{◌≡◌, ◌≢◌, ℕ, zero, suc, ◌+◌, ◌-◌, ◌*◌, ◌/◌, ◌%◌, ◌<◌, ◌≤◌, Bool, true, false, cond, ltb, leb, eqb, ◌&&◌, List, [], ◌∷◌, length, map, replicate, set, get_or, Option, Some, None, inl, inr, refl, sym, ap, ◌∙◌, arith}
+use Rattle.std.proofs.Common.{◌≡◌, ◌≢◌, ℕ, zero, suc, ◌+◌, ◌-◌, ◌*◌, ◌/◌, ◌%◌, ◌<◌, ◌≤◌, Bool, true, false, cond, ltb, leb, eqb}
+use Rattle.std.proofs.Common.{◌&&◌, List, [], ◌∷◌, length, map, replicate, set, get_or, Option, Some, None, inl, inr, refl, sym, ap, ◌∙◌, arith}
 use Rattle.std.specs.Option.{option_map}
 use Rattle.std.specs.List.{range_with_len}
-use Rattle.std.proofs.lemmas.Bool.{cases_lt, cases_eq, lt-leb}
+use Rattle.std.proofs.lemmas.Bool.{cases_lt, cases_eq, lt-leb, eq-eqb, le-leb, le-ltb, lt-ltb, ne_eqb}
 use Rattle.std.specs.Ordering.{nat_cmp}
 use Rattle.std.specs.FinMap.{FinMap, insert, get, get-insert, same_map, nat_cmp-IsAntisymmetric}
 use Rattle.std.specs.Cmp.{nat_cmp_total}
@@ -11,17 +12,17 @@ use Rattle.xk_base.specs.Image.{Page, Image, with_page, page_count}
 use Rattle.xk_base.specs.Bytes.{put_in, put_byte, write_image}
 use Rattle.xk_base.specs.Loaded.{over, addresses, page_by, image_by}
 use Rattle.phys_ram.specs.Ram.{zero_frame}
-use Rattle.sv39_core.proofs.Words.{ltb-yes, ltb-no, leb-yes, eqb-yes, eqb-no}
-use Rattle.sv39_core.proofs.Gathered.{gathered-get, tie-yes, tie-no}
+use Rattle.sv39_core.proofs.Gathered.{gathered-get, tie-yes}
 use Rattle.addr_space.specs.Changes.{zeroed, with_absent, grown}
 use Rattle.addr_space.proofs.Growing.{absent-out, absent-new}
+use Rattle.addr_space.proofs.Prices.{insert-other}
 use Rattle.exec_core.specs.Building.{protected_in}
 
 pub cond-lt : {X : Type 0} (a b : ℕ) (x y : X) → a < b → cond (ltb a b) x y ≡ x
-cond-lt a b x y lt = ap (λ t. cond t x y) (ltb-yes a b lt)
+cond-lt a b x y lt = ap (λ t. cond t x y) (lt-ltb a b lt)
 
 pub cond-ge : {X : Type 0} (a b : ℕ) (x y : X) → b ≤ a → cond (ltb a b) x y ≡ y
-cond-ge a b x y ge = ap (λ t. cond t x y) (ltb-no a b ge)
+cond-ge a b x y ge = ap (λ t. cond t x y) (le-ltb a b ge)
 
 -- ---- lists by address
 
@@ -56,7 +57,8 @@ page-zeros : (f : ℕ → ℕ) (v : ℕ) (p : Rights) → ((a : ℕ) → 4096 * 
 unfolding addresses zero_frame
 page-zeros f v p h = ap (λ b. record { perm = p; bytes = b }) (map-zeros f (4096 * v) 4096 h)
 
-page-set : (f g : ℕ → ℕ) (v : ℕ) (p : Rights) (k b : ℕ) → k < 4096 → g (4096 * v + k) ≡ b → ((x : ℕ) → 4096 * v ≤ x → x ≢ 4096 * v + k → g x ≡ f x) → record { perm = p; bytes = set (page_by f v p).bytes k b } ≡ page_by g v p
+page-set : (f g : ℕ → ℕ) (v : ℕ) (p : Rights) (k b : ℕ) → k < 4096 → g (4096 * v + k) ≡ b → ((x : ℕ) → 4096 * v ≤ x → x ≢ 4096 * v + k → g x ≡ f x)
+    → record { perm = p; bytes = set (page_by f v p).bytes k b } ≡ page_by g v p
 unfolding addresses
 page-set f g v p k b lt here other = ap (λ bytes. record { perm = p; bytes = bytes }) (map-set f g (4096 * v) 4096 k b lt here other)
 
@@ -75,7 +77,8 @@ option-same f g v (Some p) h = ap Some (page-same f g v p h)
 -- the same rights and bytes make the same image
 pub image-same : (perm perm' : ℕ → Option Rights) (f g : ℕ → ℕ) (n : ℕ) → ((v : ℕ) → v < page_count n → perm v ≡ perm' v) → ((a : ℕ) → f a ≡ g a) → image_by perm f n ≡ image_by perm' g n
 image-same perm perm' f g n rights bytes = same-image (image_by perm f n) (image_by perm' g n) refl (λ v. get-image_by perm f n v ∙ (elim (cases_lt v (page_count n)) [
-  | inl lt ↦ cond-lt v (page_count n) (option_map (page_by f v) (perm v)) None lt ∙ option-same f g v (perm v) (λ a lo hi. bytes a) ∙ ap (option_map (page_by g v)) (rights v lt) ∙ sym (cond-lt v (page_count n) (option_map (page_by g v) (perm' v)) None lt)
+  | inl lt ↦ cond-lt v (page_count n) (option_map (page_by f v) (perm v)) None lt ∙ option-same f g v (perm v) (λ a lo hi. bytes a)
+      ∙ ap (option_map (page_by g v)) (rights v lt) ∙ sym (cond-lt v (page_count n) (option_map (page_by g v) (perm' v)) None lt)
   | inr ge ↦ cond-ge v (page_count n) (option_map (page_by f v) (perm v)) None ge ∙ sym (cond-ge v (page_count n) (option_map (page_by g v) (perm' v)) None ge)
 ]) ∙ sym (get-image_by perm' g n v))
 
@@ -84,10 +87,8 @@ image-same perm perm' f g n rights bytes = same-image (image_by perm f n) (image
 insert-here : (m : FinMap nat_cmp Page) (v : ℕ) (page : Page) (u : ℕ) → u ≡ v → get (insert m v page) u ≡ Some page
 insert-here m v page u e = get-insert nat_cmp_total m v page u ∙ ap (λ b. cond b (Some page) (get m u)) (tie-yes u v e)
 
-insert-other : (m : FinMap nat_cmp Page) (v : ℕ) (page : Page) (u : ℕ) → u ≢ v → get (insert m v page) u ≡ get m u
-insert-other m v page u ne = get-insert nat_cmp_total m v page u ∙ ap (λ b. cond b (Some page) (get m u)) (tie-no u v ne)
-
-absent-value : (pages : FinMap nat_cmp Page) (first n : ℕ) (page : Page) (u : ℕ) → ((w : ℕ) → first ≤ w → get pages w ≡ None) → first ≤ u → u < first + n → get (with_absent pages first n page) u ≡ Some page
+absent-value : (pages : FinMap nat_cmp Page) (first n : ℕ) (page : Page) (u : ℕ) → ((w : ℕ) → first ≤ w → get pages w ≡ None) → first ≤ u
+    → u < first + n → get (with_absent pages first n page) u ≡ Some page
 absent-value pages first zero page u none lo hi = absurd (omega (arith, lo, hi))
 absent-value pages first (suc n) page u none lo hi =
     ap (λ m. get m u) (absent-new pages first n page (none (first + n) (omega arith)))
@@ -100,7 +101,8 @@ absent-value pages first (suc n) page u none lo hi =
 abbrev pub perm_grown : ℕ → (ℕ → Option Rights) → Rights → ℕ → Option Rights
 perm_grown m perm p v = cond (ltb v m) (perm v) (Some p)
 
-pub grown-by : (perm : ℕ → Option Rights) (byte : ℕ → ℕ) (n e : ℕ) (p : Rights) → n ≤ e → ((a : ℕ) → n ≤ a → byte a ≡ 0) → grown (image_by perm byte n) e p ≡ image_by (perm_grown (page_count n) perm p) byte e
+pub grown-by : (perm : ℕ → Option Rights) (byte : ℕ → ℕ) (n e : ℕ) (p : Rights) → n ≤ e → ((a : ℕ) → n ≤ a → byte a ≡ 0)
+    → grown (image_by perm byte n) e p ≡ image_by (perm_grown (page_count n) perm p) byte e
 grown-by perm byte n e p le zero-from =
     let first = page_count n in
     let last = page_count e in
@@ -132,7 +134,8 @@ without_user p = record { read = p.read; write = p.write; execute = p.execute; u
 abbrev pub perm_protected : ℕ → (ℕ → Option Rights) → ℕ → Option Rights
 perm_protected w perm v = cond (eqb v w) (option_map without_user (perm v)) (perm v)
 
-pub protected-by : (perm : ℕ → Option Rights) (byte : ℕ → ℕ) (n w : ℕ) (p : Rights) → w < page_count n → perm w ≡ Some p → protected_in (image_by perm byte n) w (get (image_by perm byte n).pages w) ≡ image_by (perm_protected w perm) byte n
+pub protected-by : (perm : ℕ → Option Rights) (byte : ℕ → ℕ) (n w : ℕ) (p : Rights) → w < page_count n → perm w ≡ Some p
+    → protected_in (image_by perm byte n) w (get (image_by perm byte n).pages w) ≡ image_by (perm_protected w perm) byte n
 protected-by perm byte n w p lt is =
     let i = image_by perm byte n in
     let page : Page = page_by byte w (without_user p) in
@@ -141,11 +144,11 @@ protected-by perm byte n w p lt is =
     ∙ same-image (with_page i w page) (image_by (perm_protected w perm) byte n) refl (λ v. (elim (cases_eq v w) [
       | inl e ↦
           insert-here i.pages w page v e ∙ ap (λ u. Some (page_by byte u (without_user p))) (sym e)
-          ∙ ap (option_map (page_by byte v)) (sym (ap (λ b. cond b (option_map without_user (perm v)) (perm v)) (eqb-yes v w e) ∙ ap (option_map without_user) (ap perm e ∙ is)))
+          ∙ ap (option_map (page_by byte v)) (sym (ap (λ b. cond b (option_map without_user (perm v)) (perm v)) (eq-eqb v w e) ∙ ap (option_map without_user) (ap perm e ∙ is)))
           ∙ sym (cond-lt v (page_count n) (option_map (page_by byte v) (perm_protected w perm v)) None (omega (arith, e, lt)))
       | inr ne ↦
           insert-other i.pages w page v ne ∙ get-image_by perm byte n v
-          ∙ ap (λ o. cond (ltb v (page_count n)) (option_map (page_by byte v) o) None) (sym (ap (λ b. cond b (option_map without_user (perm v)) (perm v)) (eqb-no v w ne)))
+          ∙ ap (λ o. cond (ltb v (page_count n)) (option_map (page_by byte v) o) None) (sym (ap (λ b. cond b (option_map without_user (perm v)) (perm v)) (ne_eqb v w ne)))
     ]) ∙ sym (get-image_by (perm_protected w perm) byte n v))
 
 -- ---- writes
@@ -155,16 +158,17 @@ abbrev put_at : ℕ → ℕ → (ℕ → ℕ) → ℕ → ℕ
 put_at a b byte x = cond (eqb x a) b (byte x)
 
 put-other : (a b : ℕ) (byte : ℕ → ℕ) (x : ℕ) → x ≢ a → put_at a b byte x ≡ byte x
-put-other a b byte x ne = ap (λ t. cond t b (byte x)) (eqb-no x a ne)
+put-other a b byte x ne = ap (λ t. cond t b (byte x)) (ne_eqb x a ne)
 
 put-here : (a b : ℕ) (byte : ℕ → ℕ) (x : ℕ) → x ≡ a → put_at a b byte x ≡ b
-put-here a b byte x e = ap (λ t. cond t b (byte x)) (eqb-yes x a e)
+put-here a b byte x e = ap (λ t. cond t b (byte x)) (eq-eqb x a e)
 
 -- other pages than that of the address stay
 page-other : (a b : ℕ) (byte : ℕ → ℕ) (v : ℕ) (o : Option Rights) → v ≢ a / 4096 → option_map (page_by byte v) o ≡ option_map (page_by (put_at a b byte) v) o
 page-other a b byte v o ne = option-same byte (put_at a b byte) v o (λ x lo hi. sym (put-other a b byte x (λ e. ne (omega (arith, e, lo, hi)))))
 
-put-by : (perm : ℕ → Option Rights) (byte : ℕ → ℕ) (n a b : ℕ) (o : Option Rights) → a / 4096 < page_count n → perm (a / 4096) ≡ o → put_byte (image_by perm byte n) a b ≡ image_by perm (put_at a b byte) n
+put-by : (perm : ℕ → Option Rights) (byte : ℕ → ℕ) (n a b : ℕ) (o : Option Rights) → a / 4096 < page_count n → perm (a / 4096) ≡ o
+    → put_byte (image_by perm byte n) a b ≡ image_by perm (put_at a b byte) n
 put-by perm byte n a b None lt is =
     let i = image_by perm byte n in
     let w = a / 4096 in
@@ -180,7 +184,8 @@ put-by perm byte n a b (Some p) lt is =
     let o = a % 4096 in
     let page : Page = record { perm = p; bytes = set (page_by byte w p).bytes o b } in
     let at : 4096 * w + o ≡ a = omega arith in
-    let new : page ≡ page_by (put_at a b byte) w p = page-set byte (put_at a b byte) w p o b (omega arith) (put-here a b byte (4096 * w + o) at) (λ x lo ne. put-other a b byte x (λ e. ne (e ∙ sym at))) in
+    let new : page ≡ page_by (put_at a b byte) w p = page-set byte (put_at a b byte) w p o b (omega arith) (put-here a b byte (4096 * w + o) at)
+    (λ x lo ne. put-other a b byte x (λ e. ne (e ∙ sym at))) in
     let there : get i.pages w ≡ Some (page_by byte w p) = get-image_by perm byte n w ∙ cond-lt w (page_count n) (option_map (page_by byte w) (perm w)) None lt ∙ ap (option_map (page_by byte w)) is in
     ap (λ q. put_in i w q o b) there
     ∙ same-image (with_page i w page) (image_by perm (put_at a b byte) n) refl (λ v. (elim (cases_eq v w) [
@@ -193,13 +198,14 @@ put-by perm byte n a b (Some p) lt is =
     ]) ∙ sym (get-image_by perm (put_at a b byte) n v))
 
 over-in : (s : ℕ) (bytes : List ℕ) (byte : ℕ → ℕ) (a : ℕ) → s ≤ a → a < s + length bytes → over s bytes byte a ≡ get_or bytes (a - s) 0
-over-in s bytes byte a lo hi = ap (λ t. cond (t && ltb a (s + length bytes)) (get_or bytes (a - s) 0) (byte a)) (leb-yes s a lo) ∙ ap (λ t. cond (true && t) (get_or bytes (a - s) 0) (byte a)) (ltb-yes a (s + length bytes) hi)
+over-in s bytes byte a lo hi = ap (λ t. cond (t && ltb a (s + length bytes)) (get_or bytes (a - s) 0) (byte a)) (le-leb s a lo)
+    ∙ ap (λ t. cond (true && t) (get_or bytes (a - s) 0) (byte a)) (lt-ltb a (s + length bytes) hi)
 
 over-below : (s : ℕ) (bytes : List ℕ) (byte : ℕ → ℕ) (a : ℕ) → a < s → over s bytes byte a ≡ byte a
 over-below s bytes byte a lo = ap (λ t. cond (t && ltb a (s + length bytes)) (get_or bytes (a - s) 0) (byte a)) (lt-leb s a lo)
 
 pub over-above : (s : ℕ) (bytes : List ℕ) (byte : ℕ → ℕ) (a : ℕ) → s + length bytes ≤ a → over s bytes byte a ≡ byte a
-over-above s bytes byte a h = ap (λ t. cond (leb s a && t) (get_or bytes (a - s) 0) (byte a)) (ltb-no a (s + length bytes) h) ∙ no (leb s a)
+over-above s bytes byte a h = ap (λ t. cond (leb s a && t) (get_or bytes (a - s) 0) (byte a)) (le-ltb a (s + length bytes) h) ∙ no (leb s a)
   where
     no : (b : Bool) → cond (b && false) (get_or bytes (a - s) 0) (byte a) ≡ byte a
     no true = refl

@@ -9,7 +9,8 @@ use Rattle.xk_base.specs.ProgramFile.{page_up, header_of, segments_of, Fit}
 use Rattle.xk_base.specs.Loaded.{end_after, stack_pointer, program_image, aligned, with_texts, loaded, ◌>>=◌}
 use Rattle.exec_core.specs.Plans.{Within}
 
-loaded-at : (file : List ℕ) (texts : List (List ℕ)) (header : Header) (segments : List Segment) → header_of file ≡ Ok header → segments_of file header ≡ Ok segments → loaded file texts ≡ with_texts file header texts segments
+loaded-at : (file : List ℕ) (texts : List (List ℕ)) (header : Header) (segments : List Segment) → header_of file ≡ Ok header
+    → segments_of file header ≡ Ok segments → loaded file texts ≡ with_texts file header texts segments
 loaded-at file texts header segments read listed =
     ap (λ r. r >>= λ h. segments_of file h >>= λ ss. with_texts file h texts ss) read ∙ ap (λ r. r >>= λ ss. with_texts file header texts ss) listed
 
@@ -25,7 +26,9 @@ plan-loaded file texts header segments guard sp argc read listed is at room coun
     let fits : s + 4096 ≤ stack_pointer (s + 8192) texts = omega (arith, pointer, room, whole (end_after 0 segments) guard is) in
     ap (λ p. Ok (record { image = program_image file segments texts; pc = aligned header.entry; sp = p; argc = argc })) pointer
     ∙ ap (λ n. Ok (record { image = program_image file segments texts; pc = aligned header.entry; sp = stack_pointer (s + 8192) texts; argc = n })) count
-    ∙ sym (ap (λ b. cond b (Err ArgsTooLong) (Ok (record { image = program_image file segments texts; pc = aligned header.entry; sp = stack_pointer (s + 8192) texts; argc = length texts }))) (le-ltb (stack_pointer (s + 8192) texts) (s + 4096) fits))
+    ∙ sym (ap (λ b. cond b (Err ArgsTooLong) (Ok (record
+    { image = program_image file segments texts; pc = aligned header.entry; sp = stack_pointer (s + 8192) texts; argc = length texts })))
+    (le-ltb (stack_pointer (s + 8192) texts) (s + 4096) fits))
     ∙ sym (loaded-at file texts header segments read listed)
 
 pub refused-loaded : (file : List ℕ) (texts : List (List ℕ)) (header : Header) (segments : List Segment) (guard sp : ℕ) → header_of file ≡ Ok header → segments_of file header ≡ Ok segments
@@ -34,7 +37,9 @@ refused-loaded file texts header segments guard sp read listed is at low =
     let s = page_up (end_after 0 segments) in
     let pointer : sp ≡ stack_pointer (s + 8192) texts = at ∙ ap (λ t. stack_pointer t texts) (whole (end_after 0 segments) guard is) in
     let less : stack_pointer (s + 8192) texts < s + 4096 = omega (arith, pointer, low, whole (end_after 0 segments) guard is) in
-    sym (ap (λ b. cond b (Err ArgsTooLong) (Ok (record { image = program_image file segments texts; pc = aligned header.entry; sp = stack_pointer (s + 8192) texts; argc = length texts }))) (lt-ltb (stack_pointer (s + 8192) texts) (s + 4096) less))
+    sym (ap (λ b. cond b (Err ArgsTooLong) (Ok (record
+    { image = program_image file segments texts; pc = aligned header.entry; sp = stack_pointer (s + 8192) texts; argc = length texts })))
+    (lt-ltb (stack_pointer (s + 8192) texts) (s + 4096) less))
     ∙ sym (loaded-at file texts header segments read listed)
 
 pub same-segments : (file : List ℕ) (header : Header) (xs ys : List Segment) → segments_of file header ≡ Ok xs → segments_of file header ≡ Ok ys → xs ≡ ys

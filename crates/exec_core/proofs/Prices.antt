@@ -1,7 +1,7 @@
 -- The price of an image whose pages are the first ones.
 use Rattle.std.proofs.Common.{◌≡◌, ℕ, zero, suc, ◌+◌, ◌*◌, ◌/◌, ◌^◌, ◌<◌, ◌≤◌, Bool, true, false, cond, ◌||◌, Option, Some, None, is_some, inl, inr, refl, ap, ◌∙◌, arith}
 use Rattle.std.specs.Option.{option_map}
-use Rattle.std.proofs.lemmas.Bool.{cases_lt}
+use Rattle.std.proofs.lemmas.Bool.{cases_lt, or_right}
 use Rattle.std.specs.Ordering.{nat_cmp}
 use Rattle.std.specs.Cmp.{nat_cmp_total}
 use Rattle.std.specs.FinMap.{FinMap, get, len, len-empty, len-insert}
@@ -19,7 +19,7 @@ record FirstPages (pages : FinMap nat_cmp Page) (m : ℕ) : Type 0 where
   there : (v : ℕ) → v < m → is_some (get pages v) ≡ true
   none : (v : ℕ) → m ≤ v → get pages v ≡ None
 
-count-all : (n : ℕ) (test : ℕ → Bool) → ((t : ℕ) → t < n → test t ≡ true) → count_below test n ≡ n
+pub count-all : (n : ℕ) (test : ℕ → Bool) → ((t : ℕ) → t < n → test t ≡ true) → count_below test n ≡ n
 unfolding count_below
 count-all zero test holds = refl
 count-all (suc n) test holds =
@@ -50,11 +50,7 @@ some-first : (n : ℕ) (test : ℕ → Bool) → 0 < n → test 0 ≡ true → s
 unfolding some_below
 some-first zero test lt e = absurd (omega (arith, lt))
 some-first (suc zero) test lt e = ap (λ b. b || false) e
-some-first (suc (suc n)) test lt e = ap (λ b. test (suc n) || b) (some-first (suc n) test (omega arith) e) ∙ or_true (test (suc n))
-  where
-    or_true : (b : Bool) → (b || true) ≡ true
-    or_true true = refl
-    or_true false = refl
+some-first (suc (suc n)) test lt e = ap (λ b. test (suc n) || b) (some-first (suc n) test (omega arith) e) ∙ or_right (test (suc n)) true refl
 
 some-none : (n : ℕ) (test : ℕ → Bool) → ((k : ℕ) → test k ≡ false) → some_below n test ≡ false
 unfolding some_below
@@ -68,7 +64,8 @@ first-groups pages m n size c h pos le low high =
     (λ t ge. some-none size (λ k. is_some (get pages (size * t + k))) (λ k. ap is_some (h.none (size * t + k) (omega (arith, high t ge)))))
 
 -- all pages below the size are there
-pub price-by : (perm : ℕ → Option Rights) (byte : ℕ → ℕ) (n : ℕ) → ((v : ℕ) → v < page_count n → (q : Rights) × (perm v ≡ Some q)) → n ≤ 2 ^ 38 → price (image_by perm byte n) ≡ price_first (page_count n)
+pub price-by : (perm : ℕ → Option Rights) (byte : ℕ → ℕ) (n : ℕ) → ((v : ℕ) → v < page_count n → (q : Rights) × (perm v ≡ Some q)) → n ≤ 2 ^ 38
+    → price (image_by perm byte n) ≡ price_first (page_count n)
 unfolding price
 price-by perm byte n there le =
     let m = page_count n in
@@ -78,7 +75,10 @@ price-by perm byte n there le =
       there = λ v lt. ap is_some (get-image_by perm byte n v ∙ cond-lt v m (option_map (page_by byte v) (perm v)) None lt ∙ ap (option_map (page_by byte v)) (there v lt).1);
       none = λ v ge. get-image_by perm byte n v ∙ cond-ge v m (option_map (page_by byte v) (perm v)) None ge;
     } in
-    let upper : groups pages 256 (2 ^ 18) ≡ (m + 262143) / 262144 = first-groups pages m 256 (2 ^ 18) ((m + 262143) / 262144) h (omega arith) (omega (arith, few)) (λ t lt. omega (arith, lt)) (λ t ge. omega (arith, ge)) in
-    let lower : groups pages (2 ^ 17) 512 ≡ (m + 511) / 512 = first-groups pages m (2 ^ 17) 512 ((m + 511) / 512) h (omega arith) (omega (arith, few)) (λ t lt. omega (arith, lt)) (λ t ge. omega (arith, ge)) in
+    let upper : groups pages 256 (2 ^ 18) ≡ (m + 262143) / 262144 =
+    first-groups pages m 256 (2 ^ 18) ((m + 262143) / 262144) h (omega arith) (omega (arith, few)) (λ t lt. omega (arith, lt))
+    (λ t ge. omega (arith, ge)) in
+    let lower : groups pages (2 ^ 17) 512 ≡ (m + 511) / 512 =
+    first-groups pages m (2 ^ 17) 512 ((m + 511) / 512) h (omega arith) (omega (arith, few)) (λ t lt. omega (arith, lt)) (λ t ge. omega (arith, ge)) in
     let all : len pages ≡ m = len-gathered (λ v. option_map (page_by byte v) (perm v)) m (λ v lt. (page_by byte v (there v lt).0, ap (option_map (page_by byte v)) (there v lt).1)) in
     omega (arith, upper, lower, all)

@@ -1,9 +1,8 @@
 -- The loops and steps of building: what each turn keeps.
 use Rattle.std.proofs.Common.{◌≡◌, ℕ, ◌+◌, ◌-◌, ◌*◌, ◌/◌, ◌<◌, ◌≤◌, true, List, [], ◌∷◌, ◌++◌, length, take, drop, get_or, Option, Some, None, is_some, refl, sym, ap, ◌∙◌, subst, arith}
-use Rattle.std.proofs.lemmas.List.{length-take, length-take-le, length-drop, drop_more, drop_all, drop-drop, take_more, append-nil}
+use Rattle.std.proofs.lemmas.List.{length-take, length-take-le, length-drop, drop_more, drop-drop, take_more}
 use Rattle.std.specs.FinMap.{get}
 use Rattle.xk_base.specs.declared.access.Rights.{Rights}
-use Rattle.xk_base.specs.declared.limits.TheConstants.{SIZE_LIMIT}
 use Rattle.xk_base.specs.declared.program.Segment.{Segment}
 use Rattle.xk_base.specs.Words.{le_bytes}
 use Rattle.xk_base.proofs.Words.{length-le_bytes}
@@ -27,9 +26,6 @@ use Rattle.exec_core.proofs.Built.{Laid, laid-none, laid-grown, laid-segment, la
 use Rattle.exec_core.proofs.Texts.{lowest_by-le, next-place}
 use Rattle.xk_base.specs.Access.{data_rights}
 
-abbrev image_size : Image → ℕ
-image_size i = i.size
-
 -- ---- the segments
 
 -- some segments are mapped, the rest are still to come
@@ -44,7 +40,8 @@ pub record Mapping (file : List ℕ) (segments rest : List Segment) (pool0 : Poo
   pub belongs : Belongs pool ram space
   pub changed : Changed pool0 ram0 space0 pool ram space
 
-pub mapping-start : (file : List ℕ) (segments : List Segment) (pool : Pool) (ram : List (List ℕ)) (space : Space) → Belongs pool ram space → image_of ram space ≡ no_pages → Fit (length file) 0 segments → Mapping file segments segments pool ram space pool ram space
+pub mapping-start : (file : List ℕ) (segments : List Segment) (pool : Pool) (ram : List (List ℕ)) (space : Space) → Belongs pool ram space
+    → image_of ram space ≡ no_pages → Fit (length file) 0 segments → Mapping file segments segments pool ram space pool ram space
 mapping-start file segments pool ram space b empty fit = record {
   n = 0;
   perm = λ v. None;
@@ -57,26 +54,22 @@ mapping-start file segments pool ram space b empty fit = record {
   changed = changed-none pool ram space b;
 }
 
-pub mapping-size : (file : List ℕ) (segments later : List Segment) (s : Segment) (pool0 pool : Pool) (ram0 ram : List (List ℕ)) (space0 space : Space) → Mapping file segments (s ∷ later) pool0 ram0 space0 pool ram space → space.size ≤ s.vaddr + s.memsz
-mapping-size file segments later s pool0 pool ram0 ram space0 space m = omega (arith, ap image_size m.laid.is, m.fit.0)
-
-pub mapping-fits : (file : List ℕ) (segments later : List Segment) (s : Segment) (pool0 pool : Pool) (ram0 ram : List (List ℕ)) (space0 space : Space) → Mapping file segments (s ∷ later) pool0 ram0 space0 pool ram space
-    → (s.vaddr + s.memsz ≤ SIZE_LIMIT) × (s.off + s.filesz ≤ length file) × (s.filesz ≤ s.memsz)
-mapping-fits file segments later s pool0 pool ram0 ram space0 space m = (m.fit.3, m.fit.2, m.fit.1)
-
 -- no growth is refused
-pub mapping-room : (file : List ℕ) (segments later : List Segment) (s : Segment) (pool0 pool : Pool) (ram0 ram : List (List ℕ)) (space0 space : Space) → Belongs pool0 ram0 space0 → Mapping file segments (s ∷ later) pool0 ram0 space0 pool ram space
+pub mapping-room : (file : List ℕ) (segments later : List Segment) (s : Segment) (pool0 pool : Pool) (ram0 ram : List (List ℕ))
+    (space0 space : Space) → Belongs pool0 ram0 space0 → Mapping file segments (s ∷ later) pool0 ram0 space0 pool ram space
     → image_of ram0 space0 ≡ no_pages → price_first (page_count (end_after 0 segments)) ≤ 1 + length (free_in pool0 ram0)
     → price (image_of ram space) + length (free_in pool ram) < price (grown (image_of ram space) (s.vaddr + s.memsz) s.perm) → ⊥
 mapping-room file segments later s pool0 pool ram0 ram space0 space b m empty room refused =
     let e = s.vaddr + s.memsz in
     let one : price (image_of ram0 space0) ≡ price_first 0 = laid-price (image_of ram0 space0) 0 (λ v. None) zeros (laid-none (image_of ram0 space0) (empty ∙ no-image)) (omega arith) in
     let big = laid-grown (image_of ram space) m.n e m.perm m.byte s.perm m.laid (omega (arith, m.fit.0)) in
-    let cost : price (grown (image_of ram space) e s.perm) ≡ price_first (page_count e) = laid-price (grown (image_of ram space) e s.perm) e (perm_grown (page_count m.n) m.perm s.perm) m.byte big (omega (arith, m.fit.3)) in
+    let cost : price (grown (image_of ram space) e s.perm) ≡ price_first (page_count e) =
+    laid-price (grown (image_of ram space) e s.perm) e (perm_grown (page_count m.n) m.perm s.perm) m.byte big (omega (arith, m.fit.3)) in
     omega (arith, refused, one, cost, free-after pool0 pool ram0 ram space0 space b m.changed, room, fit-end (length file) e later m.fit.4, m.ends)
 
 -- the segment's bytes lie in its pages
-pub mapping-mapped : (file : List ℕ) (segments later : List Segment) (s : Segment) (pool0 pool : Pool) (ram0 ram : List (List ℕ)) (space0 space : Space) (grew : Image) → Mapping file segments (s ∷ later) pool0 ram0 space0 pool ram space
+pub mapping-mapped : (file : List ℕ) (segments later : List Segment) (s : Segment) (pool0 pool : Pool) (ram0 ram : List (List ℕ))
+    (space0 space : Space) (grew : Image) → Mapping file segments (s ∷ later) pool0 ram0 space0 pool ram space
     → grew ≡ grown (image_of ram space) (s.vaddr + s.memsz) s.perm → IsMapped grew s.vaddr (length (take (s.off + s.filesz - s.off) (drop s.off file)))
 mapping-mapped file segments later s pool0 pool ram0 ram space0 space grew m is k lt =
     let e = s.vaddr + s.memsz in
@@ -85,13 +78,16 @@ mapping-mapped file segments later s pool0 pool ram0 ram space0 space grew m is 
     (laid-has (grown (image_of ram space) e s.perm) e (perm_grown (page_count m.n) m.perm s.perm) m.byte big ((s.vaddr + k) / 4096)
     (omega (arith, lt, m.fit.1, length-take (s.off + s.filesz - s.off) (drop s.off file))))
 
-pub mapping-next : (file : List ℕ) (segments later : List Segment) (s : Segment) (pool0 pool1 pool2 : Pool) (ram0 ram1 ram2 ram3 : List (List ℕ)) (space0 space1 space2 : Space) → Mapping file segments (s ∷ later) pool0 ram0 space0 pool1 ram1 space1
+pub mapping-next : (file : List ℕ) (segments later : List Segment) (s : Segment) (pool0 pool1 pool2 : Pool) (ram0 ram1 ram2 ram3 : List (List ℕ))
+    (space0 space1 space2 : Space) → Mapping file segments (s ∷ later) pool0 ram0 space0 pool1 ram1 space1
     → Changed pool1 ram1 space1 pool2 ram2 space2 → image_of ram2 space2 ≡ grown (image_of ram1 space1) (s.vaddr + s.memsz) s.perm
-    → ((pool : Pool) → Belongs pool ram2 space2 → Changed pool ram2 space2 pool ram3 space2) → image_of ram3 space2 ≡ write_image (image_of ram2 space2) s.vaddr (take (s.off + s.filesz - s.off) (drop s.off file))
+    → ((pool : Pool) → Belongs pool ram2 space2 → Changed pool ram2 space2 pool ram3 space2)
+    → image_of ram3 space2 ≡ write_image (image_of ram2 space2) s.vaddr (take (s.off + s.filesz - s.off) (drop s.off file))
     → Mapping file segments later pool0 ram0 space0 pool2 ram3 space2
 mapping-next file segments later s pool0 pool1 pool2 ram0 ram1 ram2 ram3 space0 space1 space2 m grew is wrote put =
     let all : s.off + s.filesz - s.off ≡ s.filesz = omega arith in
-    let made : image_of ram3 space2 ≡ with_segment file (image_of ram1 space1) s = put ∙ ap (λ n. write_image (image_of ram2 space2) s.vaddr (take n (drop s.off file))) all ∙ ap (λ i. write_image i s.vaddr (file_bytes file s)) is in
+    let made : image_of ram3 space2 ≡ with_segment file (image_of ram1 space1) s = put
+    ∙ ap (λ n. write_image (image_of ram2 space2) s.vaddr (take n (drop s.off file))) all ∙ ap (λ i. write_image i s.vaddr (file_bytes file s)) is in
     let mid = belongs-after pool1 pool2 ram1 ram2 space1 space2 m.belongs grew in
     let laid = laid-segment file s later (image_of ram1 space1) m.n m.perm m.byte m.laid m.fit in
     record {
@@ -114,9 +110,12 @@ some-is (Some x) e = (x, refl)
 
 pub grown-has : (image grew : Image) (size v : ℕ) (perm : Rights) → grew ≡ grown image size perm → page_count image.size ≤ v → v < page_count size → HasPage grew v
 grown-has image grew size v perm is lo hi =
-    subst (λ i. HasPage i v) (sym is) (some-is (get (grown image size perm).pages v) (absent-in image.pages (page_count image.size) (page_count size - page_count image.size) (record { perm = perm; bytes = _ }) v lo (omega (arith, lo, hi))))
+    subst (λ i. HasPage i v) (sym is) (some-is (get (grown image size perm).pages v)
+    (absent-in image.pages (page_count image.size) (page_count size - page_count image.size) (record { perm = perm; bytes = _ }) v lo
+    (omega (arith, lo, hi))))
 
-pub stack-is : (image grew last : Image) (v : ℕ) (page : Page) → grew ≡ grown image (4096 * (v + 2)) data_rights → get grew.pages v ≡ Some page → last ≡ with_page grew v (protected page) → last ≡ with_stack image v
+pub stack-is : (image grew last : Image) (v : ℕ) (page : Page) → grew ≡ grown image (4096 * (v + 2)) data_rights → get grew.pages v ≡ Some page
+    → last ≡ with_page grew v (protected page) → last ≡ with_stack image v
 stack-is image grew last v page is there done =
     done ∙ sym (ap (protected_in grew v) there) ∙ ap (λ i. protected_in i v (get i.pages v)) is
 
@@ -136,19 +135,9 @@ pub record Laying (ram0 ram : List (List ℕ)) (space : Space) (page : ℕ) (ns 
   pub low : lowest_by place (drop i ns) ≡ lowest_by (4096 * (page + 1)) ns
   pub high : place ≤ 4096 * (page + 1)
 
-pub laying-start : (ram : List (List ℕ)) (space : Space) (page : ℕ) (ns bytes : List ℕ) → IsSpace ram space → HasPage (image_of ram space) page → IsSplit ns bytes → Laying ram ram space page ns bytes 0 0 (4096 * (page + 1))
-laying-start ram space page ns bytes whole there split = record {
-  whole = whole;
-  there = there;
-  changed = λ pool b. changed-none pool ram space b;
-  split = split;
-  left = refl;
-  low = refl;
-  high = omega arith;
-}
-
 -- the next text: its bytes, and its place
-pub laying-text : (ram0 ram : List (List ℕ)) (space : Space) (page : ℕ) (ns bytes : List ℕ) (i from place : ℕ) → Laying ram0 ram space page ns bytes i from place → i < length ns → 0 < page → 4096 * page ≤ lowest_by (4096 * (page + 1)) ns
+pub laying-text : (ram0 ram : List (List ℕ)) (space : Space) (page : ℕ) (ns bytes : List ℕ) (i from place : ℕ)
+    → Laying ram0 ram space page ns bytes i from place → i < length ns → 0 < page → 4096 * page ≤ lowest_by (4096 * (page + 1)) ns
     → (from + get_or ns i 0 + 1 ≤ length bytes) × (4096 * page ≤ down place (get_or ns i 0 + 1)) × (down place (get_or ns i 0 + 1) + (get_or ns i 0 + 1) ≤ place)
 laying-text ram0 ram space page ns bytes i from place l lt some room =
     let n = get_or ns i 0 in
@@ -159,7 +148,8 @@ laying-text ram0 ram space page ns bytes i from place l lt some room =
 
 pub laying-next : (ram0 ram ram' : List (List ℕ)) (space : Space) (page : ℕ) (ns bytes written : List ℕ) (i from place : ℕ) → Laying ram0 ram space page ns bytes i from place → i < length ns
     → written ≡ take (get_or ns i 0 + 1) (drop from bytes)
-    → ((pool : Pool) → Belongs pool ram space → Changed pool ram space pool ram' space) → IsSpace ram' space → image_of ram' space ≡ write_image (image_of ram space) (down place (get_or ns i 0 + 1)) written
+    → ((pool : Pool) → Belongs pool ram space → Changed pool ram space pool ram' space) → IsSpace ram' space
+    → image_of ram' space ≡ write_image (image_of ram space) (down place (get_or ns i 0 + 1)) written
     → Laying ram0 ram' space page ns bytes (i + 1) (from + (get_or ns i 0 + 1)) (down place (get_or ns i 0 + 1))
 laying-next ram0 ram ram' space page ns bytes written i from place l lt is wrote whole put =
     let n = get_or ns i 0 in
@@ -185,8 +175,10 @@ laying-next ram0 ram ram' space page ns bytes written i from place l lt is wrote
       high = omega (arith, l.high);
     }
 
-pub laying-turn : (ram0 ram ram' : List (List ℕ)) (space : Space) (page : ℕ) (ns bytes : List ℕ) (i from place p : ℕ) → Laying ram0 ram space page ns bytes i from place → i < length ns → p ≡ down place (get_or ns i 0 + 1)
-    → ((pool : Pool) → Belongs pool ram space → Changed pool ram space pool ram' space) → IsSpace ram' space → image_of ram' space ≡ write_image (image_of ram space) p (take (from + get_or ns i 0 + 1 - from) (drop from bytes))
+pub laying-turn : (ram0 ram ram' : List (List ℕ)) (space : Space) (page : ℕ) (ns bytes : List ℕ) (i from place p : ℕ)
+    → Laying ram0 ram space page ns bytes i from place → i < length ns → p ≡ down place (get_or ns i 0 + 1)
+    → ((pool : Pool) → Belongs pool ram space → Changed pool ram space pool ram' space) → IsSpace ram' space
+    → image_of ram' space ≡ write_image (image_of ram space) p (take (from + get_or ns i 0 + 1 - from) (drop from bytes))
     → Laying ram0 ram' space page ns bytes (i + 1) (from + (get_or ns i 0 + 1)) p
 laying-turn ram0 ram ram' space page ns bytes i from place p l lt is wrote whole put =
     let n = get_or ns i 0 in
@@ -194,9 +186,6 @@ laying-turn ram0 ram ram' space page ns bytes i from place p l lt is wrote whole
     subst (λ q. Laying ram0 ram' space page ns bytes (i + 1) (from + (n + 1)) q) (sym is)
     (laying-next ram0 ram ram' space page ns bytes (take (from + n + 1 - from) (drop from bytes)) i from place l lt (ap (λ k. take k (drop from bytes)) all) wrote whole
     (put ∙ ap (λ q. write_image (image_of ram space) q (take (from + n + 1 - from) (drop from bytes))) is))
-
-pub laying-done : (ram0 ram : List (List ℕ)) (space : Space) (page : ℕ) (ns bytes : List ℕ) (i from place : ℕ) → Laying ram0 ram space page ns bytes i from place → length ns ≤ i → image_of ram space ≡ with_texts (image_of ram0 space) (4096 * (page + 1)) (texts_of ns bytes)
-laying-done ram0 ram space page ns bytes i from place l all = sym (ap (λ xs. with_texts (image_of ram space) place (texts_of xs (drop from bytes))) (drop_all i ns all)) ∙ l.left
 
 -- ---- the pointers
 
@@ -207,15 +196,6 @@ pub record Pointing (ram0 ram : List (List ℕ)) (space : Space) (page sp : ℕ)
   pub changed : (pool : Pool) → Belongs pool ram0 space → Changed pool ram0 space pool ram space
   pub left : write_image (image_of ram space) at (pointers_by place (drop i ns)) ≡ write_image (image_of ram0 space) sp (pointers_by (4096 * (page + 1)) ns)
   pub next : at ≡ sp + 8 * i
-
-pub pointing-start : (ram : List (List ℕ)) (space : Space) (page sp : ℕ) (ns : List ℕ) → IsSpace ram space → HasPage (image_of ram space) page → Pointing ram ram space page sp ns 0 sp (4096 * (page + 1))
-pointing-start ram space page sp ns whole there = record {
-  whole = whole;
-  there = there;
-  changed = λ pool b. changed-none pool ram space b;
-  left = refl;
-  next = omega arith;
-}
 
 pub pointing-next : (ram0 ram ram' : List (List ℕ)) (space : Space) (page sp : ℕ) (ns written : List ℕ) (i at place : ℕ) → Pointing ram0 ram space page sp ns i at place → i < length ns
     → written ≡ le_bytes 8 (down place (get_or ns i 0 + 1))
@@ -238,15 +218,11 @@ pointing-next ram0 ram ram' space page sp ns written i at place l lt is wrote wh
       next = omega (arith, l.next);
     }
 
-pub pointing-turn : (ram0 ram ram' : List (List ℕ)) (space : Space) (page sp : ℕ) (ns written : List ℕ) (i at place p : ℕ) → Pointing ram0 ram space page sp ns i at place → i < length ns → p ≡ down place (get_or ns i 0 + 1)
-    → written ≡ le_bytes 8 p → ((pool : Pool) → Belongs pool ram space → Changed pool ram space pool ram' space) → IsSpace ram' space → image_of ram' space ≡ write_image (image_of ram space) at written
+pub pointing-turn : (ram0 ram ram' : List (List ℕ)) (space : Space) (page sp : ℕ) (ns written : List ℕ) (i at place p : ℕ)
+    → Pointing ram0 ram space page sp ns i at place → i < length ns → p ≡ down place (get_or ns i 0 + 1)
+    → written ≡ le_bytes 8 p → ((pool : Pool) → Belongs pool ram space → Changed pool ram space pool ram' space) → IsSpace ram' space
+    → image_of ram' space ≡ write_image (image_of ram space) at written
     → Pointing ram0 ram' space page sp ns (i + 1) (at + 8) p
 pointing-turn ram0 ram ram' space page sp ns written i at place p l lt is bytes wrote whole put =
     subst (λ q. Pointing ram0 ram' space page sp ns (i + 1) (at + 8) q) (sym is)
     (pointing-next ram0 ram ram' space page sp ns written i at place l lt (bytes ∙ ap (le_bytes 8) is) wrote whole put)
-
-pub pointing-done : (ram0 ram ram' : List (List ℕ)) (space : Space) (page sp : ℕ) (ns written : List ℕ) (i at place : ℕ) → Pointing ram0 ram space page sp ns i at place → length ns ≤ i → written ≡ le_bytes 8 0
-    → image_of ram' space ≡ write_image (image_of ram space) at written → image_of ram' space ≡ write_image (image_of ram0 space) sp (pointers_by (4096 * (page + 1)) ns)
-pointing-done ram0 ram ram' space page sp ns written i at place l all is put =
-    put ∙ ap (write_image (image_of ram space) at) (is ∙ sym (append-nil (le_bytes 8 0)))
-    ∙ sym (ap (λ xs. write_image (image_of ram space) at (pointers_by place xs)) (drop_all i ns all)) ∙ l.left

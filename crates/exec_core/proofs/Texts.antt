@@ -32,7 +32,8 @@ refusal-full ns bytes text full =
     ap (λ b. cond b (Err TooManyArgs) (cond (ltb ARG_BYTES (length (terminated (texts_of ns bytes ++ text ∷ [])))) (Err ArgsTooLong) (Ok tt)))
     (eq-eqb (length (texts_of ns bytes)) MAXARG (length-texts_of ns bytes ∙ full))
 
-not-full : (ns bytes text : List ℕ) → (length ns ≡ MAXARG → ⊥) → push_refusal (texts_of ns bytes) text ≡ cond (ltb ARG_BYTES (length (terminated (texts_of ns bytes ++ text ∷ [])))) (Err ArgsTooLong) (Ok tt)
+not-full : (ns bytes text : List ℕ) → (length ns ≡ MAXARG → ⊥)
+    → push_refusal (texts_of ns bytes) text ≡ cond (ltb ARG_BYTES (length (terminated (texts_of ns bytes ++ text ∷ [])))) (Err ArgsTooLong) (Ok tt)
 not-full ns bytes text few =
     ap (λ b. cond b (Err TooManyArgs) (cond (ltb ARG_BYTES (length (terminated (texts_of ns bytes ++ text ∷ [])))) (Err ArgsTooLong) (Ok tt)))
     (ne_eqb (length (texts_of ns bytes)) MAXARG (λ e. few (sym (length-texts_of ns bytes) ∙ e)))
@@ -40,12 +41,14 @@ not-full ns bytes text few =
 pub refusal-long : (ns bytes text : List ℕ) → IsSplit ns bytes → (length ns ≡ MAXARG → ⊥) → ARG_BYTES ≤ length bytes + length text → push_refusal (texts_of ns bytes) text ≡ Err ArgsTooLong
 refusal-long ns bytes text split few long =
     not-full ns bytes text few
-    ∙ ap (λ b. cond b (Err ArgsTooLong) (Ok tt)) (lt-ltb ARG_BYTES (length (terminated (texts_of ns bytes ++ text ∷ []))) (omega (arith, long, length-more (texts_of ns bytes) text, length-terminated ns bytes split)))
+    ∙ ap (λ b. cond b (Err ArgsTooLong) (Ok tt)) (lt-ltb ARG_BYTES (length (terminated (texts_of ns bytes ++ text ∷ [])))
+    (omega (arith, long, length-more (texts_of ns bytes) text, length-terminated ns bytes split)))
 
 pub refusal-none : (ns bytes text : List ℕ) → IsSplit ns bytes → (length ns ≡ MAXARG → ⊥) → length bytes + length text < ARG_BYTES → push_refusal (texts_of ns bytes) text ≡ Ok tt
 refusal-none ns bytes text split few fits =
     not-full ns bytes text few
-    ∙ ap (λ b. cond b (Err ArgsTooLong) (Ok tt)) (le-ltb ARG_BYTES (length (terminated (texts_of ns bytes ++ text ∷ []))) (omega (arith, fits, length-more (texts_of ns bytes) text, length-terminated ns bytes split)))
+    ∙ ap (λ b. cond b (Err ArgsTooLong) (Ok tt)) (le-ltb ARG_BYTES (length (terminated (texts_of ns bytes ++ text ∷ [])))
+    (omega (arith, fits, length-more (texts_of ns bytes) text, length-terminated ns bytes split)))
 
 zero-last : (text : List ℕ) → get_or (text ++ 0 ∷ []) (length text) 0 ≡ 0
 zero-last [] = refl
@@ -54,10 +57,6 @@ zero-last (x ∷ later) = zero-last later
 take-all : (text : List ℕ) → take (length text) (text ++ 0 ∷ []) ≡ text
 take-all [] = refl
 take-all (x ∷ later) = ap (λ xs. x ∷ xs) (take-all later)
-
-none-left : (xs : List ℕ) → length xs ≡ 0 → xs ≡ []
-none-left [] e = refl
-none-left (x ∷ later) e = absurd (omega (arith, e))
 
 pub split-more : (ns bytes text : List ℕ) → IsSplit ns bytes → IsSplit (ns ++ length text ∷ []) (bytes ++ (text ++ 0 ∷ []))
 split-more [] [] text split = (omega (arith, length-append text (0 ∷ [])), zero-last text, omega (arith, length-drop (length text + 1) (text ++ 0 ∷ []), length-append text (0 ∷ [])))

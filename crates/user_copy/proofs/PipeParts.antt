@@ -22,7 +22,8 @@ bytes_of : Pipe → List ℕ
 bytes_of pipe = pipe.bytes
 
 -- so many bytes from an address on are in the pipe
-module _ (old now : List (List ℕ)) (space : Space) (f a d : ℕ) (is : IsSpace old space) (none : copies f (frames_of old space) ≡ 0) (pushed : Becomes old now f (with_more (image_bytes (image_of old space) a d) (pipe_in old f))) where
+module _ (old now : List (List ℕ)) (space : Space) (f a d : ℕ) (is : IsSpace old space) (none : copies f (frames_of old space) ≡ 0)
+    (pushed : Becomes old now f (with_more (image_bytes (image_of old space) a d) (pipe_in old f))) where
   space_spared : Spared old now space
   space_spared = pipe_spares old now space f is none pushed.stay
 
@@ -37,10 +38,13 @@ module _ (old now : List (List ℕ)) (space : Space) (f a d : ℕ) (is : IsSpace
   room_left n part room fits =
       omega (arith, room, fits, ap length (ap bytes_of pushed.is), length-append (pipe_in old f).bytes (image_bytes (image_of old space) a d), length-image_bytes (image_of old space) a d)
 
-  pub more_pushed : (new : List (List ℕ)) (place n : ℕ) → place ≡ a + d → Becomes now new f (with_more (image_bytes (image_of now space) place n) (pipe_in now f)) → Becomes old new f (with_more (image_bytes (image_of old space) a (d + n)) (pipe_in old f))
+  pub more_pushed : (new : List (List ℕ)) (place n : ℕ) → place ≡ a + d
+      → Becomes now new f (with_more (image_bytes (image_of now space) place n) (pipe_in now f))
+      → Becomes old new f (with_more (image_bytes (image_of old space) a (d + n)) (pipe_in old f))
   more_pushed new place n at more =
       let i = image_of old space in
-      let next : Becomes now new f (with_more (image_bytes i (a + d) n) (pipe_in now f)) = subst (λ xs. Becomes now new f (with_more xs (pipe_in now f))) (λ k. image_bytes (space_spared.image k) (at k) n) more in
+      let next : Becomes now new f (with_more (image_bytes i (a + d) n) (pipe_in now f)) =
+      subst (λ xs. Becomes now new f (with_more xs (pipe_in now f))) (λ k. image_bytes (space_spared.image k) (at k) n) more in
       subst (λ xs. Becomes old new f (with_more xs (pipe_in old f))) (sym (image_bytes-append i a d n)) (becomes-more old now new f (image_bytes i a d) (image_bytes i (a + d) n) pushed next)
 
 -- bytes were written to pages, and the pipe stays

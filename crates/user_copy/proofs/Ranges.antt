@@ -1,6 +1,6 @@
 -- Ranges of a process's memory, page by page.
 use Rattle.std.proofs.Common.{◌≡◌, ℕ, zero, suc, ◌+◌, ◌*◌, ◌/◌, ◌%◌, ◌^◌, ◌<◌, ◌≤◌, Bool, true, false, ◌&&◌, List, Option, Some, None, inl, inr, refl, sym, ap, ◌∙◌, arith, ◌-◌}
-use Rattle.std.proofs.lemmas.Bool.{cases_lt, and_from, false≢true}
+use Rattle.std.proofs.lemmas.Bool.{cases_lt, and_from, false≢true, and_right}
 use Rattle.std.specs.List.{list_all, range_with_len}
 use Rattle.std.specs.Option.{option_map}
 use Rattle.std.specs.FinMap.{get}
@@ -30,11 +30,7 @@ all-not zero a k test lt fails = absurd (omega (arith, lt))
 all-not (suc n) a zero test lt fails = let here : a + 0 ≡ a = omega arith in ap (λ b. b && list_all test (range_with_len (a + 1) n)) (sym (ap test here) ∙ fails)
 all-not (suc n) a (suc k) test lt fails =
     let e : a + 1 + k ≡ a + suc k = omega arith in
-    ap (λ b. test a && b) (all-not n (a + 1) k test (omega (arith, lt)) (ap test e ∙ fails)) ∙ both (test a)
-  where
-    both : (b : Bool) → (b && false) ≡ false
-    both true = refl
-    both false = refl
+    ap (λ b. test a && b) (all-not n (a + 1) k test (omega (arith, lt)) (ap test e ∙ fails)) ∙ and_right (test a) false refl
 
 all-at : (n a : ℕ) (test : ℕ → Bool) → list_all test (range_with_len a n) ≡ true → (k : ℕ) → k < n → test (a + k) ≡ true
 all-at n a test all k lt = by (test (a + k)) refl
@@ -63,7 +59,9 @@ reaches-more access i a d n before here within = all-from (d + n) a (may access 
 ])
 
 -- parts of so many pages more
-pub reaches-pages : (access : Access) (i : Image) (a d n p : ℕ) → reaches access i a d ≡ true → ((k : ℕ) → k < p → allows access (option_map perm_of_page (get i.pages ((a + d) / 4096 + k))) ≡ true) → (a + d) % 4096 + n ≤ 4096 * p → reaches access i a (d + n) ≡ true
+pub reaches-pages : (access : Access) (i : Image) (a d n p : ℕ) → reaches access i a d ≡ true
+    → ((k : ℕ) → k < p → allows access (option_map perm_of_page (get i.pages ((a + d) / 4096 + k))) ≡ true) → (a + d) % 4096 + n ≤ 4096 * p
+    → reaches access i a (d + n) ≡ true
 unfolding reaches
 reaches-pages access i a d n p before each within = all-from (d + n) a (may access i) (λ k lt. elim (cases_lt k d) [
   | inl low ↦ all-at d a (may access i) before k low
@@ -86,16 +84,8 @@ reaches-fewer access i a n m le all = all-from m a (may access i) (λ k lt. all-
 -- the bytes from one of them on
 pub reaches-rest : (access : Access) (i : Image) (a n d : ℕ) → reaches access i a n ≡ true → d ≤ n → reaches access i (a + d) (n - d) ≡ true
 unfolding reaches
-reaches-rest access i a n d all le = all-from (n - d) (a + d) (may access i) (λ k lt. let e : a + d + k ≡ a + (d + k) = omega arith in ap (may access i) e ∙ all-at n a (may access i) all (d + k) (omega (arith, lt, le)))
-
--- the same bytes, where the pages have the same rights
-pub reaches-same : (access : Access) (i j : Image) (a n : ℕ) → ((x : ℕ) → may access i x ≡ may access j x) → reaches access i a n ≡ reaches access j a n
-unfolding reaches
-reaches-same access i j a n same = by n a
-  where
-    by : (n a : ℕ) → list_all (may access i) (range_with_len a n) ≡ list_all (may access j) (range_with_len a n)
-    by zero a = refl
-    by (suc n) a = λ k. same a k && by n (a + 1) k
+reaches-rest access i a n d all le = all-from (n - d) (a + d) (may access i)
+    (λ k lt. let e : a + d + k ≡ a + (d + k) = omega arith in ap (may access i) e ∙ all-at n a (may access i) all (d + k) (omega (arith, lt, le)))
 
 -- ---- absent pages
 
@@ -109,12 +99,15 @@ seen-byte Refused ram space a = refl
 seen-byte Zeros ram space a = whole-byte (image_of ram space) a
 
 -- a page that is there is seen as it is
-pub seen-there : (absent : AbsentPages) (ram : List (List ℕ)) (space : Space) (v : ℕ) (page : Page) → get (image_of ram space).pages v ≡ Some page → get (image_seen absent (image_of ram space)).pages v ≡ Some page
+pub seen-there : (absent : AbsentPages) (ram : List (List ℕ)) (space : Space) (v : ℕ) (page : Page) → get (image_of ram space).pages v ≡ Some page
+    → get (image_seen absent (image_of ram space)).pages v ≡ Some page
 seen-there Refused ram space v page is = is
 seen-there Zeros ram space v page is = whole-there (image_of ram space) v page is
 
 -- a page that permits an access is seen as one that does
-pub seen-permitted : (absent : AbsentPages) (ram : List (List ℕ)) (space : Space) (access : Access) (v : ℕ) → page_permits access (get (image_of ram space).pages v) ≡ true → allows access (option_map perm_of_page (get (image_seen absent (image_of ram space)).pages v)) ≡ true
+pub seen-permitted : (absent : AbsentPages) (ram : List (List ℕ)) (space : Space) (access : Access) (v : ℕ)
+    → page_permits access (get (image_of ram space).pages v) ≡ true
+    → allows access (option_map perm_of_page (get (image_seen absent (image_of ram space)).pages v)) ≡ true
 seen-permitted absent ram space access v = by (get (image_of ram space).pages v) refl
   where
     by : (o : Option Page) → get (image_of ram space).pages v ≡ o → page_permits access o ≡ true → allows access (option_map perm_of_page (get (image_seen absent (image_of ram space)).pages v)) ≡ true

@@ -1,6 +1,6 @@
 -- Texts of a process's memory, page by page.
 use Rattle.std.proofs.Common.{◌≡◌, ◌≢◌, ℕ, zero, suc, ◌+◌, ◌-◌, ◌%◌, ◌<◌, ◌≤◌, Bool, true, false, ◌&&◌, eqb, List, get_or, Option, Some, None, inl, inr, refl, sym, ap, ◌∙◌, arith}
-use Rattle.std.proofs.lemmas.Bool.{cases_lt, and_from, and_parts, eq-eqb, ne_eqb}
+use Rattle.std.proofs.lemmas.Bool.{cases_lt, and_from, and_parts, eq-eqb, ne_eqb, and_right}
 use Rattle.std.proofs.lemmas.List.FromFn.{get_or-map-range_with_len}
 use Rattle.xk_base.specs.Image.{Image}
 use Rattle.xk_base.specs.Bytes.{image_byte, image_bytes}
@@ -18,11 +18,7 @@ none-found test (suc n) fails =
     sym (ap (least_below test) e) ∙ least_below-next test n (none-found test n (λ k lt. fails k (omega (arith, lt)))) (fails n (omega arith))
 
 no-end : (i : Image) (a k : ℕ) → image_byte i (a + k) ≢ 0 → ends_after i a k ≡ false
-no-end i a k some = ap (λ b. reaches Load i a (k + 1) && b) (ne_eqb (image_byte i (a + k)) 0 some) ∙ both (reaches Load i a (k + 1))
-  where
-    both : (b : Bool) → (b && false) ≡ false
-    both true = refl
-    both false = refl
+no-end i a k some = ap (λ b. reaches Load i a (k + 1) && b) (ne_eqb (image_byte i (a + k)) 0 some) ∙ and_right (reaches Load i a (k + 1)) false refl
 
 -- no text ends within the first d bytes
 pub NoneWithin : Image → ℕ → ℕ → Type 0
@@ -59,7 +55,8 @@ unfolding NoneWithin text_length
 end-found i a d n k limit none before here within fits lt some is =
     let e : d + (k + 1) ≡ d + k + 1 = omega arith in
     least_below-found (ends_after i a) limit (d + k) (none-more i a d k none some)
-    (and_from (reaches Load i a (d + k + 1)) (eqb (image_byte i (a + (d + k))) 0) (sym (ap (reaches Load i a) e) ∙ reaches-more Load i a d (k + 1) before here (omega (arith, lt, within))) (eq-eqb (image_byte i (a + (d + k))) 0 is))
+    (and_from (reaches Load i a (d + k + 1)) (eqb (image_byte i (a + (d + k))) 0)
+    (sym (ap (reaches Load i a) e) ∙ reaches-more Load i a d (k + 1) before here (omega (arith, lt, within))) (eq-eqb (image_byte i (a + (d + k))) 0 is))
     (omega (arith, lt, fits))
 
 -- a byte of a part that was read

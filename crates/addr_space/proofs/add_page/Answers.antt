@@ -46,10 +46,14 @@ came c =
     let same2 = c.lower_for-lower.ensures.same in
     let absent : page_at c.args.ram.now root (512 * (n / 512) + n % 512) ≡ None = ap (page_at c.args.ram.now root) v ∙ c.requires.absent in
     let none = absent-after c.args.ram.now c.lower_for-lower.new.ram root (512 * (n / 512) + n % 512) (same2.image (512 * (n / 512) + n % 512) ∙ same1.image (512 * (n / 512) + n % 512)) absent in
-    let placed = subst (λ i. Placing c.lower_for-lower.new.pool c.lower_for-lower.new.ram c.place.new.pool c.place.new.ram c.lower_for-lower.result i c.place.ensures.placed.0 c.args.perm) c.lower_index.ensures c.place.ensures.placed.1 in
-    let added = place-page c.lower_for-lower.new.pool c.place.new.pool c.lower_for-lower.new.ram c.place.new.ram root c.lower_for-lower.result (n % 512) c.place.ensures.placed.0 (n / 512) c.args.perm same2.holds placed c.place.ensures.allowed (omega arith) c.lower_for-lower.ensures.found none in
+    let placed = subst (λ i. Placing c.lower_for-lower.new.pool c.lower_for-lower.new.ram c.place.new.pool c.place.new.ram c.lower_for-lower.result i
+    c.place.ensures.placed.0 c.args.perm) c.lower_index.ensures c.place.ensures.placed.1 in
+    let added = place-page c.lower_for-lower.new.pool c.place.new.pool c.lower_for-lower.new.ram c.place.new.ram root c.lower_for-lower.result
+    (n % 512) c.place.ensures.placed.0 (n / 512) c.args.perm same2.holds placed c.place.ensures.allowed
+    (omega arith) c.lower_for-lower.ensures.found none in
     let whole = same-then-added _ _ _ _ _ _ root (512 * (n / 512) + n % 512) c.args.perm same1 (same-then-added _ _ _ _ _ _ root (512 * (n / 512) + n % 512) c.args.perm same2 added) in
-    let last = place-beside c.lower_for-lower.new.pool c.place.new.pool c.lower_for-lower.new.ram c.place.new.ram root c.lower_for-lower.result (n % 512) c.place.ensures.placed.0 (n / 512) c.args.perm same2.holds placed c.place.ensures.allowed (omega arith) c.lower_for-lower.ensures.found in
+    let last = place-beside c.lower_for-lower.new.pool c.place.new.pool c.lower_for-lower.new.ram c.place.new.ram root c.lower_for-lower.result
+    (n % 512) c.place.ensures.placed.0 (n / 512) c.args.perm same2.holds placed c.place.ensures.allowed (omega arith) c.lower_for-lower.ensures.found in
     let last' : Beside c.lower_for-lower.new.ram c.place.new.ram root n = subst (λ u. Beside c.lower_for-lower.new.ram c.place.new.ram root u) v last.0 in
     record {
       added = subst (λ u. PageAdded c.args.pool.now c.args.ram.now c.place.new.pool c.place.new.ram root u c.args.perm) v whole;

@@ -17,7 +17,8 @@ read_page_entry-requires c = record { table_in = inside-of c.args.pool.now c.arg
 pub clear-requires : goal.clear-requires
 clear-requires c =
     let found : table_at c.args.ram.now c.args.root 2 (c.args.number / 512) ≡ Some c.in-Some.lower = sym c.in-Some.ensures in
-    let there : frame_of (page_entry c.args.ram.now c.args.root c.args.number) ≡ Some c.in-Leaf.frame = ap (λ t. frame_of (last c.args.ram.now t (c.args.number % 512))) found ∙ ap frame_of (sym c.in-Leaf.ensures) in
+    let there : frame_of (page_entry c.args.ram.now c.args.root c.args.number) ≡ Some c.in-Leaf.frame =
+    ap (λ t. frame_of (last c.args.ram.now t (c.args.number % 512))) found ∙ ap frame_of (sym c.in-Leaf.ensures) in
     let own = page-owned c.args.ram.now c.args.root c.args.number c.in-Leaf.frame c.requires.holds.tree there in
     record {
       good = c.requires.holds.good;
@@ -33,7 +34,9 @@ all c =
     let at : 512 * (c.args.number / 512) + c.args.number % 512 ≡ c.args.number = omega arith in
     let cleared = subst (λ i. Cleared c.args.pool.now c.args.ram.now c.clear.new.pool c.clear.new.ram c.in-Some.lower i c.in-Leaf.frame) c.lower_index.ensures c.clear.ensures in
     subst (λ u. PageGone c.args.pool.now c.args.ram.now c.clear.new.pool c.clear.new.ram c.args.root u) at
-    (page-gone c.args.pool.now c.clear.new.pool c.args.ram.now c.clear.new.ram c.args.root c.in-Some.lower (c.args.number % 512) c.in-Leaf.frame (c.args.number / 512) c.in-Leaf.field-1 c.in-Leaf.field-2 c.in-Leaf.field-3 c.requires.holds cleared (omega arith) (sym c.in-Some.ensures) (sym c.in-Leaf.ensures))
+    (page-gone c.args.pool.now c.clear.new.pool c.args.ram.now c.clear.new.ram c.args.root c.in-Some.lower (c.args.number % 512) c.in-Leaf.frame
+    (c.args.number / 512) c.in-Leaf.field-1 c.in-Leaf.field-2 c.in-Leaf.field-3 c.requires.holds cleared (omega arith) (sym c.in-Some.ensures)
+    (sym c.in-Leaf.ensures))
 
 pub returns-clause-freed : goal.returns-clause-freed
 returns-clause-freed c = (all c).freed

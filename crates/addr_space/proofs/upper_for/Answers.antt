@@ -33,5 +33,13 @@ returns c =
     let none = upper-entry c.args.ram.now c.args.root (c.args.number / 262144) (omega (arith, c.requires.page)) ∙ sym c.in_default.ensures.table in
     let hangs = subst (λ i. Hanging c.args.pool.now c.args.ram.now c.hang.new.pool c.hang.new.ram c.args.root i c.hang.result) c.root_index.ensures c.hang.ensures in
     let at : 512 * 0 + (c.args.number / 262144) ≡ (c.args.number / 262144) = omega arith in
-    let hung = hang-upper c.args.pool.now c.hang.new.pool c.args.ram.now c.hang.new.ram c.args.root (c.args.number / 262144) c.hang.result c.requires.holds hangs (omega (arith, c.requires.page)) (ap (table_at c.args.ram.now c.args.root 1) at ∙ none) in
-    record { same = hung.0; beside = hang-upper-beside c.args.pool.now c.hang.new.pool c.args.ram.now c.hang.new.ram c.args.root c.args.number c.hang.result c.requires.holds hangs c.requires.page (ap (table_at c.args.ram.now c.args.root 1) at ∙ none); found = ap (table_at c.hang.new.ram c.args.root 1) (sym at) ∙ hung.1; lowers = hung.2; left = omega (arith, hung.3, ap missing none) }
+    let hung = hang-upper c.args.pool.now c.hang.new.pool c.args.ram.now c.hang.new.ram c.args.root
+    (c.args.number / 262144) c.hang.result c.requires.holds hangs (omega (arith, c.requires.page)) (ap (table_at c.args.ram.now c.args.root 1) at ∙ none) in
+    record {
+      same = hung.0;
+      beside = hang-upper-beside c.args.pool.now c.hang.new.pool c.args.ram.now c.hang.new.ram c.args.root c.args.number
+          c.hang.result c.requires.holds hangs c.requires.page (ap (table_at c.args.ram.now c.args.root 1) at ∙ none);
+      found = ap (table_at c.hang.new.ram c.args.root 1) (sym at) ∙ hung.1;
+      lowers = hung.2;
+      left = omega (arith, hung.3, ap missing none);
+    }

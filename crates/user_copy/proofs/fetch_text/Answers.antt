@@ -22,7 +22,9 @@ pub read_across-requires-clause-inside : goal.read_across-requires-clause-inside
 read_across-requires-clause-inside c k lt =
     let i = image_of c.args.ram.now c.args.space.now in
     let r = text-readable i c.args.address (length c.args.text.now) c.in-Some.count (sym c.in-Some.ensures) in
-    mapped-inside i c.args.address (c.in-Some.count + 1) (low-pages c.args.ram.now c.args.space.now) (reached-mapped Load i c.args.address (c.in-Some.count + 1) r.1) k (omega (arith, lt, length-take-le c.in-Some.count c.args.text.now (omega (arith, r.0))))
+    mapped-inside i c.args.address (c.in-Some.count + 1) (low-pages c.args.ram.now c.args.space.now)
+    (reached-mapped Load i c.args.address (c.in-Some.count + 1) r.1) k
+    (omega (arith, lt, length-take-le c.in-Some.count c.args.text.now (omega (arith, r.0))))
 
 pub returns-clause-short : goal.returns-clause-short
 returns-clause-short c = (text-readable (image_of c.args.ram.now c.args.space.now) c.args.address (length c.args.text.now) c.in-Some.count (sym c.in-Some.ensures)).0

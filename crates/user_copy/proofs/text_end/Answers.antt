@@ -40,11 +40,13 @@ returns-in_default-page_bytes c =
     let d = c.pages.done in
     let quotient : c.in-Some.place.page ≡ (c.args.address + c.pages.done) / 4096 = search rules in
     let allowed : c.allows.result ≡ true = search rules in
-    let here : may Load i (c.args.address + c.pages.done) ≡ true = ap (λ v. allows Load (option_map perm_of_page (get i.pages v))) (sym quotient) ∙ ap (allows Load) (sym c.rights_of.ensures) ∙ sym c.allows.ensures ∙ allowed in
+    let here : may Load i (c.args.address + c.pages.done) ≡ true = ap (λ v. allows Load (option_map perm_of_page (get i.pages v))) (sym quotient)
+    ∙ ap (allows Load) (sym c.rights_of.ensures) ∙ sym c.allows.ensures ∙ allowed in
     let none : get seen.pages ((c.args.address + c.pages.done) / 4096) ≡ None = ap (get seen.pages) (sym quotient) ∙ c.in_default-page_bytes.ensures.none in
     let zero_byte : image_byte i (c.args.address + c.pages.done) ≡ 0 = seen-byte c.args.absent c.args.ram.now c.args.space.now (a + d) ∙ ap (λ o. byte_in o ((a + d) % 4096)) none in
     let same : c.pages.done + 0 ≡ c.pages.done = omega arith in
-    sym (end-found i a d 1 0 c.args.limit c.pages.invariant.2 c.pages.invariant.1 here (omega arith) (omega (arith, c.pages-test.true)) (omega arith) (λ j lt. absurd (omega (arith, lt))) (ap (λ x. image_byte i (a + x)) same ∙ zero_byte) ∙ ap Some same)
+    sym (end-found i a d 1 0 c.args.limit c.pages.invariant.2 c.pages.invariant.1 here (omega arith) (omega (arith, c.pages-test.true)) (omega arith)
+    (λ j lt. absurd (omega (arith, lt))) (ap (λ x. image_byte i (a + x)) same ∙ zero_byte) ∙ ap Some same)
 
 pub returns-in-Some-first_zero : goal.returns-in-Some-first_zero
 returns-in-Some-first_zero c =
@@ -58,7 +60,8 @@ returns-in-Some-first_zero c =
     let allowed : c.allows.result ≡ true = search rules in
     let got = c.in-Some-page_bytes.ensures.there in
     let there = sym (ap (get i.pages) quotient) ∙ seen-there c.args.absent c.args.ram.now c.args.space.now c.in-Some.place.page got.0 got.1 in
-    let here : may Load i (c.args.address + c.pages.done) ≡ true = ap (λ v. allows Load (option_map perm_of_page (get i.pages v))) (sym quotient) ∙ ap (allows Load) (sym c.rights_of.ensures) ∙ sym c.allows.ensures ∙ allowed in
+    let here : may Load i (c.args.address + c.pages.done) ≡ true = ap (λ v. allows Load (option_map perm_of_page (get i.pages v))) (sym quotient)
+    ∙ ap (allows Load) (sym c.rights_of.ensures) ∙ sym c.allows.ensures ∙ allowed in
     let fits : c.pages.done + c.min-part.result ≤ c.args.limit = search rules in
     let within : (c.args.address + c.pages.done) % 4096 + c.min-part.result ≤ 4096 = search rules in
     let array : length c.in-Some-page_bytes.page.now ≡ 4096 = search rules in
@@ -87,7 +90,8 @@ pages-preserved c =
     let allowed : c.allows.result ≡ true = search rules in
     let got = c.in-Some-page_bytes.ensures.there in
     let there = sym (ap (get i.pages) quotient) ∙ seen-there c.args.absent c.args.ram.now c.args.space.now c.in-Some.place.page got.0 got.1 in
-    let here : may Load i (c.args.address + c.pages.done) ≡ true = ap (λ v. allows Load (option_map perm_of_page (get i.pages v))) (sym quotient) ∙ ap (allows Load) (sym c.rights_of.ensures) ∙ sym c.allows.ensures ∙ allowed in
+    let here : may Load i (c.args.address + c.pages.done) ≡ true = ap (λ v. allows Load (option_map perm_of_page (get i.pages v))) (sym quotient)
+    ∙ ap (allows Load) (sym c.rights_of.ensures) ∙ sym c.allows.ensures ∙ allowed in
     let fits : c.pages.done + c.min-part.result ≤ c.args.limit = search rules in
     let within : (c.args.address + c.pages.done) % 4096 + c.min-part.result ≤ 4096 = search rules in
     let array : length c.in-Some-page_bytes.page.now ≡ 4096 = search rules in

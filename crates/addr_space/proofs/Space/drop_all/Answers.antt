@@ -19,7 +19,8 @@ give-requires-clause-not_free c =
 pub returns-clause-traded : goal.returns-clause-traded
 returns-clause-traded c =
     let root : c.free_from.new.self.root ≡ c.args.self.root = c.free_from.ensures.changed.root in
-    let none : (u : ℕ) → u < 67108864 → frame_of (page_entry c.free_from.new.ram c.free_from.new.self.root u) ≡ None = λ u lt. ap (λ r. frame_of (page_entry c.free_from.new.ram r u)) root ∙ c.free_from.ensures.above u (omega arith) lt in
+    let none : (u : ℕ) → u < 67108864 → frame_of (page_entry c.free_from.new.ram c.free_from.new.self.root u) ≡ None =
+    λ u lt. ap (λ r. frame_of (page_entry c.free_from.new.ram r u)) root ∙ c.free_from.ensures.above u (omega arith) lt in
     let one = only-root c.free_from.new.ram c.free_from.new.self.root c.free_from.ensures.changed.whole.tree c.free_from.ensures.changed.whole.full none in
     trade-join _ _ _ _ _ _ (owned c.args.ram.now c.args.self.root) (owned c.free_from.new.ram c.free_from.new.self.root) [] c.free_from.ensures.changed.traded
     (root-given c.free_from.new.pool c.give.new.self c.free_from.new.ram c.give.new.ram c.free_from.new.self.root one c.give.ensures)

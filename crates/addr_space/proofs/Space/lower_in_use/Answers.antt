@@ -3,8 +3,7 @@ use Rattle.sv39_core.specs.Sv39.{table_at}
 use Rattle.sv39_core.specs.Tree.{frame_of}
 use Rattle.sv39_core.proofs.Places.{root-inside, table-owned}
 use Rattle.addr_space.proofs.Clearing.{entry-page}
-use Rattle.addr_space.proofs.Freeing.{some-of}
-use Rattle.addr_space.proofs.Prices.{page-none-counted}
+use Rattle.addr_space.proofs.Prices.{page-none-counted, some-of-is}
 use Rattle.addr_space.proofs.Space.lower_in_use.Goals as goal
 
 -- the space has no page
@@ -17,11 +16,12 @@ lower_table-requires-clause-root_in c = root-inside c.args.ram.now c.args.self.n
 
 pub unreachable-requires : goal.unreachable-requires
 unreachable-requires c =
-    let some = some-of (table_at c.args.ram.now c.args.self.now.root 2 (c.args.number / 512)) c.requires.there in
+    let some = some-of-is (table_at c.args.ram.now c.args.self.now.root 2 (c.args.number / 512)) c.requires.there in
     let w : None ≡ Some some.0 = sym c.in_default.is ∙ c.lower_table.ensures ∙ some.1 in absurd (cc)
 
 pub has_page-requires-clause-table_in : goal.has_page-requires-clause-table_in
-has_page-requires-clause-table_in c = c.requires.tree.once.inside c.in-Some.lower (table-owned c.args.ram.now c.args.self.now.root 2 (c.args.number / 512) c.in-Some.lower c.requires.tree (omega arith) (sym c.in-Some.ensures))
+has_page-requires-clause-table_in c = c.requires.tree.once.inside c.in-Some.lower
+    (table-owned c.args.ram.now c.args.self.now.root 2 (c.args.number / 512) c.in-Some.lower c.requires.tree (omega arith) (sym c.in-Some.ensures))
 
 pub returns-clause-used : goal.returns-clause-used
 returns-clause-used c e =

@@ -23,8 +23,12 @@ pub returns-clause-there : goal.returns-clause-there
 returns-clause-there c =
     let ram = c.args.ram.now in
     let root = c.args.self.now.root in
-    let page = page-is ram c.args.self.now c.number.result c.in-Leaf.frame c.in-Leaf.field-1 c.in-Leaf.field-2 c.in-Leaf.field-3 c.requires (sym c.in-Leaf.ensures) in
-    (record { perm = c.in-Leaf.field-1; bytes = frame_at ram c.in-Leaf.frame }, page-got ram root c.args.vpn (omega (arith, c.number.ensures.range)) ∙ ap (page_at ram root) (sym c.number.ensures.value) ∙ page, refl)
+    let page = page-is ram c.args.self.now c.number.result c.in-Leaf.frame c.in-Leaf.field-1 c.in-Leaf.field-2 c.in-Leaf.field-3 c.requires (sym c.in-Leaf.ensures) in (
+      record { perm = c.in-Leaf.field-1; bytes = frame_at ram c.in-Leaf.frame },
+      page-got ram root c.args.vpn (omega (arith, c.number.ensures.range))
+          ∙ ap (page_at ram root) (sym c.number.ensures.value) ∙ page,
+      refl,
+    )
 
 pub returns-in_default-clause-frame : goal.returns-in_default-clause-frame
 returns-in_default-clause-frame c =
@@ -35,4 +39,5 @@ pub returns-in_default-clause-none : goal.returns-in_default-clause-none
 returns-in_default-clause-none c =
     let ram = c.args.ram.now in
     let root = c.args.self.now.root in
-    page-got ram root c.args.vpn (omega (arith, c.number.ensures.range)) ∙ ap (page_at ram root) (sym c.number.ensures.value) ∙ sym (ap (page_of ram) c.entry_of_page.ensures) ∙ no-page ram c.entry_of_page.result c.in_default.not-Leaf
+    page-got ram root c.args.vpn (omega (arith, c.number.ensures.range)) ∙ ap (page_at ram root) (sym c.number.ensures.value)
+    ∙ sym (ap (page_of ram) c.entry_of_page.ensures) ∙ no-page ram c.entry_of_page.result c.in_default.not-Leaf

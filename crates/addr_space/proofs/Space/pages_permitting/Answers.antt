@@ -12,7 +12,8 @@ pub lower_table-requires-clause-root_in : goal.lower_table-requires-clause-root_
 lower_table-requires-clause-root_in c = root-inside c.args.ram.now c.args.self.now.root c.requires.tree
 
 pub entries_permitting-requires-clause-table_in : goal.entries_permitting-requires-clause-table_in
-entries_permitting-requires-clause-table_in c = c.requires.tree.once.inside c.in-Some.lower (table-owned c.args.ram.now c.args.self.now.root 2 (c.number-number.result / 512) c.in-Some.lower c.requires.tree (omega arith) (sym c.in-Some.ensures))
+entries_permitting-requires-clause-table_in c = c.requires.tree.once.inside c.in-Some.lower
+    (table-owned c.args.ram.now c.args.self.now.root 2 (c.number-number.result / 512) c.in-Some.lower c.requires.tree (omega arith) (sym c.in-Some.ensures))
 
 pub returns-in_default-clause-ends : goal.returns-in_default-clause-ends
 returns-in_default-clause-ends c = λ _.
@@ -25,7 +26,8 @@ returns-in_default-clause-ends c = λ _.
 pub returns-clause-each : goal.returns-clause-each
 returns-clause-each c = λ k lt.
     let value = c.number-number.ensures.value in
-    let found : table_at c.args.ram.now c.args.self.now.root 2 (c.args.vpn / 512) ≡ Some c.in-Some.lower = ap (λ x. table_at c.args.ram.now c.args.self.now.root 2 (x / 512)) (sym value) ∙ sym c.in-Some.ensures in
+    let found : table_at c.args.ram.now c.args.self.now.root 2 (c.args.vpn / 512) ≡ Some c.in-Some.lower =
+    ap (λ x. table_at c.args.ram.now c.args.self.now.root 2 (x / 512)) (sym value) ∙ sym c.in-Some.ensures in
     let inside = c.entries_permitting.ensures.inside in
     let from : c.args.vpn % 512 ≡ c.lower_index.result = ap (λ x. x % 512) (sym value) ∙ sym c.lower_index.ensures in
     page-permitted c.args.ram.now c.args.self.now c.args.access c.args.vpn c.in-Some.lower k c.requires (omega (arith, value, c.number-number.ensures.range)) found (omega (arith, from, inside, lt))
@@ -35,7 +37,8 @@ returns-clause-each c = λ k lt.
 pub returns-clause-ends : goal.returns-clause-ends
 returns-clause-ends c = λ lt.
     let value = c.number-number.ensures.value in
-    let found : table_at c.args.ram.now c.args.self.now.root 2 (c.args.vpn / 512) ≡ Some c.in-Some.lower = ap (λ x. table_at c.args.ram.now c.args.self.now.root 2 (x / 512)) (sym value) ∙ sym c.in-Some.ensures in
+    let found : table_at c.args.ram.now c.args.self.now.root 2 (c.args.vpn / 512) ≡ Some c.in-Some.lower =
+    ap (λ x. table_at c.args.ram.now c.args.self.now.root 2 (x / 512)) (sym value) ∙ sym c.in-Some.ensures in
     let inside = c.entries_permitting.ensures.inside in
     let from : c.args.vpn % 512 ≡ c.lower_index.result = ap (λ x. x % 512) (sym value) ∙ sym c.lower_index.ensures in
     let n = c.entries_permitting.result in

@@ -9,7 +9,8 @@ use Rattle.addr_space.proofs.Space.perm.Goals as goal
 pub returns-then-number-self : goal.returns-then-number-self
 returns-then-number-self c =
     let v = c.number-number.ensures.value in
-    sym (ap (option_map perm_of_page) (got-none c.args.ram.now c.args.self.now.root c.args.vpn c.number-number.ensures.range (c.requires.ends c.args.vpn (omega (arith, v, c.if-number-self.true)) c.number-number.ensures.range)))
+    sym (ap (option_map perm_of_page) (got-none c.args.ram.now c.args.self.now.root c.args.vpn c.number-number.ensures.range
+    (c.requires.ends c.args.vpn (omega (arith, v, c.if-number-self.true)) c.number-number.ensures.range)))
 
 pub returns : goal.returns
 returns c =

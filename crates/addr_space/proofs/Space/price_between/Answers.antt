@@ -1,13 +1,13 @@
-use Rattle.std.proofs.Common.{◌≡◌, ℕ, ◌+◌, ◌-◌, ◌/◌, ◌<◌, ◌≤◌, List, Some, None, inl, inr, ◌⊎◌, refl, sym, ap, ◌∙◌, arith}
-use Rattle.std.proofs.lemmas.Bool.{cases_eq, cases_lt}
+use Rattle.std.proofs.Common.{◌≡◌, ℕ, ◌+◌, ◌-◌, ◌/◌, ◌<◌, List, Some, None, inl, inr, refl, sym, ap, ◌∙◌, arith}
+use Rattle.std.proofs.lemmas.Bool.{cases_eq}
 use Rattle.sv39_core.specs.Sv39.{table_at}
 use Rattle.sv39_core.specs.Tree.{pages_of}
 use Rattle.addr_space.specs.Changes.{zeroed, with_absent}
 use Rattle.sv39_core.proofs.Places.{root-inside, no-lower}
 use Rattle.addr_space.proofs.Growing.{cost}
 use Rattle.addr_space.proofs.PriceTo.{price-span, price-run, price-one, price-rest}
-use Prim.Native.Nat.{min}
 use Rattle.addr_space.proofs.Space.price_between.Goals as goal
+use Rattle.addr_space.proofs.Touching.{least-of}
 
 pub lower_table-requires-clause-root_in : goal.lower_table-requires-clause-root_in
 lower_table-requires-clause-root_in c = root-inside c.args.ram.now c.args.self.now.root c.requires.whole.tree
@@ -34,16 +34,10 @@ pages-init c = record {
   count = λ perm. none-yet c.args.ram.now c.args.self.now.root c.args.first c.args.self.now.size perm;
 }
 
-ends : (r a b : ℕ) → r ≡ min a b → (r ≤ a) × (r ≤ b) × ((r ≡ a) ⊎ (r ≡ b))
-ends r a b e = elim (cases_lt a b) [
-  | inl lt ↦ (omega (arith, e), omega (arith, e), inl (omega (arith, e, lt)))
-  | inr ge ↦ (omega (arith, e), omega (arith, e), inr (omega (arith, e, ge)))
-]
-
 pub pages-preserved-in_default : goal.pages-preserved-in_default
 pages-preserved-in_default c =
     let inv = c.pages.invariant in
-    let end = ends c.min-end.result c.upper_table_end.result c.args.last c.min-end.ensures in
+    let end = least-of c.min-end.result c.upper_table_end.result c.args.last c.min-end.ensures in
     let none : table_at c.args.ram.now c.args.self.now.root 1 (c.pages.number / 262144) ≡ None = sym c.upper_table.ensures ∙ c.in_default.is in
     let past : c.pages.number < c.min-end.result = elim end.2 [ inl e ↦ omega (arith, e) | inr e ↦ omega (arith, e, c.pages-test.true) ] in
     let lower = no-lower c.args.ram.now c.args.self.now.root c.pages.number none in
@@ -53,13 +47,21 @@ pages-preserved-in_default c =
       small = omega (arith, inv.small, inv.from, past, c.tables_for.ensures);
       aligned = λ a b w. elim end.2 [ inl e ↦ omega (arith, e) | inr e ↦ absurd (omega (arith, e, a)) ];
       span = λ a b w. elim end.2 [ inl e ↦ omega (arith, e) | inr e ↦ absurd (omega (arith, e, a)) ];
-      count = λ perm. omega (arith, inv.count perm, c.tables_for.ensures, price-span 131072 c.args.ram.now c.args.self.now.root c.args.first c.pages.number c.min-end.result c.args.self.now.size 1 (zeroed perm) c.requires.whole.tree c.requires.whole.full inv.from past (omega (arith, end.1, c.requires.limit)) (omega (arith, end.0)) (omega (arith, end.1, c.requires.limit)) none (λ lt. inv.aligned c.pages-test.true lt lower) (λ ne off. absurd (off (inv.span c.pages-test.true (omega (arith, ne, inv.from)) none))) (λ a. refl));
+      count = λ perm. omega (
+        arith,
+        inv.count perm,
+        c.tables_for.ensures,
+        price-span 131072 c.args.ram.now c.args.self.now.root c.args.first c.pages.number c.min-end.result c.args.self.now.size 1
+            (zeroed perm) c.requires.whole.tree c.requires.whole.full inv.from past (omega (arith, end.1, c.requires.limit)) (omega (arith, end.0))
+            (omega (arith, end.1, c.requires.limit)) none (λ lt. inv.aligned c.pages-test.true lt lower)
+            (λ ne off. absurd (off (inv.span c.pages-test.true (omega (arith, ne, inv.from)) none))) (λ a. refl),
+      );
     }
 
 pub pages-preserved-in_default-lower_table : goal.pages-preserved-in_default-lower_table
 pages-preserved-in_default-lower_table c =
     let inv = c.pages.invariant in
-    let end = ends c.min-end-in_default-lower_table.result c.lower_table_end.result c.args.last c.min-end-in_default-lower_table.ensures in
+    let end = least-of c.min-end-in_default-lower_table.result c.lower_table_end.result c.args.last c.min-end-in_default-lower_table.ensures in
     let upper : table_at c.args.ram.now c.args.self.now.root 1 (c.pages.number / 262144) ≡ Some c.in-Some.field-0 = sym c.in-Some.ensures in
     let none : table_at c.args.ram.now c.args.self.now.root 2 (c.pages.number / 512) ≡ None = sym c.lower_table.ensures ∙ c.in_default-lower_table.is in
     let past : c.pages.number < c.min-end-in_default-lower_table.result = elim end.2 [ inl e ↦ omega (arith, e) | inr e ↦ omega (arith, e, c.pages-test.true) ] in
@@ -73,13 +75,20 @@ pages-preserved-in_default-lower_table c =
         | inl same ↦ absurd (there (ap (table_at c.args.ram.now c.args.self.now.root 1) (sym same) ∙ w))
         | inr ne ↦ elim end.2 [ inl e ↦ omega (arith, e, ne) | inr e ↦ absurd (omega (arith, e, a)) ]
       ];
-      count = λ perm. omega (arith, inv.count perm, price-run c.args.ram.now c.args.self.now.root c.args.first c.pages.number c.min-end-in_default-lower_table.result c.args.self.now.size 0 (zeroed perm) c.requires.whole.tree c.requires.whole.full inv.from past (omega (arith, end.0)) (omega (arith, end.1, c.requires.limit)) none (λ lt. inv.aligned c.pages-test.true lt none) (λ ne. refl) (λ ne off. refl) (λ e a. absurd (there e)));
+      count = λ perm. omega (
+        arith,
+        inv.count perm,
+        price-run c.args.ram.now c.args.self.now.root c.args.first c.pages.number
+            c.min-end-in_default-lower_table.result c.args.self.now.size 0 (zeroed perm) c.requires.whole.tree c.requires.whole.full inv.from past
+            (omega (arith, end.0)) (omega (arith, end.1, c.requires.limit)) none (λ lt. inv.aligned c.pages-test.true lt none) (λ ne. refl)
+            (λ ne off. refl) (λ e a. absurd (there e)),
+      );
     }
 
 pub pages-preserved-then-self-number : goal.pages-preserved-then-self-number
 pages-preserved-then-self-number c =
     let inv = c.pages.invariant in
-    let end = ends c.min-end-then-self-number.result c.lower_table_end-then-self-number.result c.args.last c.min-end-then-self-number.ensures in
+    let end = least-of c.min-end-then-self-number.result c.lower_table_end-then-self-number.result c.args.last c.min-end-then-self-number.ensures in
     let upper : table_at c.args.ram.now c.args.self.now.root 1 (c.pages.number / 262144) ≡ Some c.in-Some.field-0 = sym c.in-Some.ensures in
     let table : table_at c.args.ram.now c.args.self.now.root 2 (c.pages.number / 512) ≡ Some c.in-Some-lower_table.field-0 = sym c.in-Some-lower_table.ensures in
     let past : c.pages.number < c.min-end-then-self-number.result = elim end.2 [ inl e ↦ omega (arith, e) | inr e ↦ omega (arith, e, c.pages-test.true) ] in
@@ -97,7 +106,9 @@ pages-preserved-then-self-number c =
         arith,
         inv.count perm,
         ap (λ n. cost (with_absent (pages_of c.args.ram.now c.args.self.now.root) c.args.first (n - c.args.first) (zeroed perm)) c.args.self.now.size) back,
-        price-rest (c.min-end-then-self-number.result - c.pages.number) c.args.ram.now c.args.self.now.root c.args.first c.pages.number c.args.self.now.size c.in-Some-lower_table.field-0 (zeroed perm) c.requires.whole.tree c.requires.whole.full inv.from (omega (arith, back, end.1, c.requires.limit)) (omega (arith, back, end.0)) table
+        price-rest (c.min-end-then-self-number.result - c.pages.number) c.args.ram.now c.args.self.now.root c.args.first c.pages.number
+            c.args.self.now.size c.in-Some-lower_table.field-0 (zeroed perm) c.requires.whole.tree c.requires.whole.full inv.from
+            (omega (arith, back, end.1, c.requires.limit)) (omega (arith, back, end.0)) table
             (λ u ge lt. c.requires.whole.ends u (omega (arith, c.if-self-number.true, ge)) (omega (arith, lt, back, end.1, c.requires.limit))),
       );
     }
@@ -119,7 +130,13 @@ pages-preserved c =
         | inl same ↦ let w : None ≡ Some c.in-Some.field-0 = sym none ∙ ap (table_at c.args.ram.now c.args.self.now.root 1) same ∙ upper in absurd (cc)
         | inr ne ↦ omega (arith, ne)
       ];
-      count = λ perm. omega (arith, inv.count perm, price-one c.args.ram.now c.args.self.now.root c.args.first c.pages.number c.args.self.now.size c.new_page-count.result c.in-Some-lower_table.field-0 (zeroed perm) c.requires.whole.tree c.requires.whole.full inv.from (omega (arith, c.pages-test.true, c.requires.limit)) table c.new_page-count.ensures.there c.new_page-count.ensures.new);
+      count = λ perm. omega (
+        arith,
+        inv.count perm,
+        price-one c.args.ram.now c.args.self.now.root c.args.first c.pages.number c.args.self.now.size
+            c.new_page-count.result c.in-Some-lower_table.field-0 (zeroed perm) c.requires.whole.tree c.requires.whole.full inv.from
+            (omega (arith, c.pages-test.true, c.requires.limit)) table c.new_page-count.ensures.there c.new_page-count.ensures.new,
+      );
     }
 
 pub returns : goal.returns

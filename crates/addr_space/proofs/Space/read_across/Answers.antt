@@ -24,7 +24,9 @@ parts-preserved c =
     let fits : c.parts.done + c.min-part.result ≤ length c.parts.out = search rules in
     let got : ys ≡ image_bytes i (a + d) n =
     let at : 4096 * c.of_address-vpn.result + c.page_offset-at.result ≡ c.args.address + c.parts.done = omega (arith, c.of_address-vpn.ensures, c.page_offset-at.ensures.value) in
-    let long : length (take (c.parts.done + c.min-part.result - c.parts.done) (drop c.parts.done c.parts.out)) ≡ c.min-part.result = length-take-le (c.parts.done + c.min-part.result - c.parts.done) (drop c.parts.done c.parts.out) (omega (arith, length-drop c.parts.done c.parts.out, fits)) ∙ omega arith in
+    let long : length (take (c.parts.done + c.min-part.result - c.parts.done) (drop c.parts.done c.parts.out)) ≡ c.min-part.result =
+    length-take-le (c.parts.done + c.min-part.result - c.parts.done) (drop c.parts.done c.parts.out)
+    (omega (arith, length-drop c.parts.done c.parts.out, fits)) ∙ omega arith in
     c.read_part.ensures ∙ ap (λ x. image_bytes i x (length (take (c.parts.done + c.min-part.result - c.parts.done) (drop c.parts.done c.parts.out)))) at ∙ ap (image_bytes i (a + d)) long in
     let long : length ys ≡ n = ap length got ∙ length-image_bytes i (a + d) n in
     let more : take (d + n) (put_mid d (d + n - d) out ys) ≡ image_bytes i a (d + n) =

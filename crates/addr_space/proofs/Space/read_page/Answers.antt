@@ -1,23 +1,27 @@
 use Rattle.std.proofs.Common.{◌≡◌, ℕ, ◌+◌, ◌-◌, List, length, take, drop, sym, ap, ◌∙◌, arith}
+use Rattle.std.proofs.lemmas.Option.{same_Some}
 use Rattle.sv39_core.specs.Tree.{frame_of, page_of}
 use Rattle.sv39_core.proofs.Places.{root-inside, page-owned}
 use Rattle.phys_ram.specs.Ram.{frame_at}
 use Rattle.xk_base.specs.Image.{Page}
 use Rattle.addr_space.proofs.Pages.{page-is}
-use Rattle.addr_space.proofs.Copies.{no-leaf, there-at, some-is}
+use Rattle.addr_space.proofs.Copies.{no-leaf, there-at}
 use Rattle.addr_space.proofs.Space.read_page.Goals as goal
 
 pub entry_of_page-requires-clause-root_in : goal.entry_of_page-requires-clause-root_in
 entry_of_page-requires-clause-root_in c = root-inside c.args.ram.now c.args.self.now.root c.requires.whole.tree
 
 pub frame-bytes-requires : goal.frame-bytes-requires
-frame-bytes-requires c = c.requires.whole.tree.once.inside c.in-Leaf.frame (page-owned c.args.ram.now c.args.self.now.root c.number.result c.in-Leaf.frame c.requires.whole.tree (ap frame_of (sym c.in-Leaf.ensures)))
+frame-bytes-requires c = c.requires.whole.tree.once.inside c.in-Leaf.frame
+    (page-owned c.args.ram.now c.args.self.now.root c.number.result c.in-Leaf.frame c.requires.whole.tree (ap frame_of (sym c.in-Leaf.ensures)))
 
 pub unreachable-requires : goal.unreachable-requires
 unreachable-requires c =
     let root = c.args.self.now.root in
     no-leaf c.args.ram.now c.entry_of_page.result c.requires.there.0
-    (ap (page_of c.args.ram.now) c.entry_of_page.ensures ∙ there-at c.args.ram.now root c.args.vpn c.number.result c.requires.there.0 c.number.ensures.range c.number.ensures.value c.requires.there.1) c.in_default.not-Leaf
+    (ap (page_of c.args.ram.now) c.entry_of_page.ensures
+    ∙ there-at c.args.ram.now root c.args.vpn c.number.result c.requires.there.0 c.number.ensures.range c.number.ensures.value
+    c.requires.there.1) c.in_default.not-Leaf
 
 abbrev bytes_of : Page → List ℕ
 bytes_of page = page.bytes
@@ -29,7 +33,8 @@ returns c page there =
     let f = c.in-Leaf.frame in
     let at = c.args.at in
     let n = length c.args.out.now in
-    let reached = sym (page-is ram self c.number.result f c.in-Leaf.field-1 c.in-Leaf.field-2 c.in-Leaf.field-3 c.requires.whole (sym c.in-Leaf.ensures)) ∙ there-at ram self.root c.args.vpn c.number.result page c.number.ensures.range c.number.ensures.value there in
-    let same = some-is (record { perm = c.in-Leaf.field-1; bytes = frame_at ram f }) page reached in
+    let reached = sym (page-is ram self c.number.result f c.in-Leaf.field-1 c.in-Leaf.field-2 c.in-Leaf.field-3 c.requires.whole
+    (sym c.in-Leaf.ensures)) ∙ there-at ram self.root c.args.vpn c.number.result page c.number.ensures.range c.number.ensures.value there in
+    let same = same_Some {A = Page} (record { perm = c.in-Leaf.field-1; bytes = frame_at ram f }) page reached in
     let count : at + n - at ≡ n = omega arith in
     c.copy_from_slice.ensures.after ∙ ap (λ k. take k (drop at c.frame-bytes.result.now)) count ∙ ap (λ b. take n (drop at b)) (c.frame-bytes.ensures ∙ ap bytes_of same)

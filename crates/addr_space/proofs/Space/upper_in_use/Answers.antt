@@ -2,8 +2,8 @@ use Rattle.std.proofs.Common.{◌≡◌, ◌+◌, ◌*◌, ◌/◌, Some, None, 
 use Rattle.sv39_core.specs.Sv39.{table_at}
 use Rattle.sv39_core.proofs.Places.{root-inside, table-owned}
 use Rattle.addr_space.proofs.Clearing.{entry-lower}
-use Rattle.addr_space.proofs.Freeing.{some-of}
 use Rattle.addr_space.proofs.Space.upper_in_use.Goals as goal
+use Rattle.addr_space.proofs.Prices.{some-of-is}
 
 -- the space has no page, and so no lower table
 pub returns-then-self-eq0-clause-unused : goal.returns-then-self-eq0-clause-unused
@@ -14,11 +14,12 @@ upper_table-requires-clause-root_in c = root-inside c.args.ram.now c.args.self.n
 
 pub unreachable-requires : goal.unreachable-requires
 unreachable-requires c =
-    let some = some-of (table_at c.args.ram.now c.args.self.now.root 1 (c.args.number / 262144)) c.requires.there in
+    let some = some-of-is (table_at c.args.ram.now c.args.self.now.root 1 (c.args.number / 262144)) c.requires.there in
     let w : None ≡ Some some.0 = sym c.in_default.is ∙ c.upper_table.ensures ∙ some.1 in absurd (cc)
 
 pub has_table-requires-clause-table_in : goal.has_table-requires-clause-table_in
-has_table-requires-clause-table_in c = c.requires.tree.once.inside c.in-Some.upper (table-owned c.args.ram.now c.args.self.now.root 1 (c.args.number / 262144) c.in-Some.upper c.requires.tree (omega arith) (sym c.in-Some.ensures))
+has_table-requires-clause-table_in c = c.requires.tree.once.inside c.in-Some.upper
+    (table-owned c.args.ram.now c.args.self.now.root 1 (c.args.number / 262144) c.in-Some.upper c.requires.tree (omega arith) (sym c.in-Some.ensures))
 
 pub returns-clause-used : goal.returns-clause-used
 returns-clause-used c e =

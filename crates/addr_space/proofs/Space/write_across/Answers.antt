@@ -40,7 +40,8 @@ parts-preserved c =
     let fits : c.parts.done + c.min-part.result ≤ length c.args.bytes.now = search rules in
     let place : 4096 * c.of_address-vpn.result + c.page_offset-at.result ≡ a + d = omega (arith, c.of_address-vpn.ensures, c.page_offset-at.ensures.value) in (
       fits,
-      write-more (image_of ram self) (image_of c.parts.ram self) (image_of c.write_page.new.ram self) a d n (4096 * c.of_address-vpn.result + c.page_offset-at.result) c.args.bytes.now c.parts.invariant.1 fits place c.write_page.ensures.written,
+      write-more (image_of ram self) (image_of c.parts.ram self) (image_of c.write_page.new.ram self) a d n
+          (4096 * c.of_address-vpn.result + c.page_offset-at.result) c.args.bytes.now c.parts.invariant.1 fits place c.write_page.ensures.written,
       in_place-join ram c.parts.ram c.write_page.new.ram self c.parts.invariant.2 c.write_page.ensures.in_place,
       λ pool b. changed-join pool pool pool ram c.parts.ram c.write_page.new.ram self self self (c.parts.invariant.3 pool b)
           (c.write_page.ensures.changed pool (belongs-after pool pool ram c.parts.ram self self b (c.parts.invariant.3 pool b))),

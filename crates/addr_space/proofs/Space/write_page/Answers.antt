@@ -1,4 +1,5 @@
 use Rattle.std.proofs.Common.{rules, ◌≡◌, ℕ, ◌+◌, ◌-◌, ◌<◌, List, length, take, drop, ◌++◌, set, Some, refl, sym, ap, ◌∙◌, arith}
+use Rattle.std.proofs.lemmas.Option.{same_Some}
 use Rattle.phys_ram.specs.Ram.{frame_at}
 use Rattle.sv39_core.specs.Tree.{frame_of, page_of, page_at}
 use Rattle.addr_space.specs.Space.{image_of}
@@ -10,7 +11,7 @@ use Rattle.addr_space.proofs.Isolation.{spared}
 use Rattle.addr_space.proofs.Trades.{belongs-after}
 use Rattle.addr_space.proofs.Translations.{walks-same}
 use Rattle.addr_space.proofs.Prices.{page-got}
-use Rattle.addr_space.proofs.Copies.{no-leaf, there-at, set-stays, set-here, some-is}
+use Rattle.addr_space.proofs.Copies.{no-leaf, there-at, set-stays, set-here}
 use Rattle.xk_base.proofs.Bytes.{write_image-page}
 use Rattle.addr_space.proofs.InPlace.{written-in-place}
 use borrow.Rule.Slice.PartMut.{post_of, Post-is}
@@ -20,10 +21,12 @@ pub entry_of_page-requires-clause-root_in : goal.entry_of_page-requires-clause-r
 entry_of_page-requires-clause-root_in c = root-inside c.args.ram.now c.args.self.now.root c.requires.whole.tree
 
 pub frame_mut-page-requires : goal.frame_mut-page-requires
-frame_mut-page-requires c = c.requires.whole.tree.once.inside c.in-Leaf.frame (page-owned c.args.ram.now c.args.self.now.root c.number.result c.in-Leaf.frame c.requires.whole.tree (ap frame_of (sym c.in-Leaf.ensures)))
+frame_mut-page-requires c = c.requires.whole.tree.once.inside c.in-Leaf.frame
+    (page-owned c.args.ram.now c.args.self.now.root c.number.result c.in-Leaf.frame c.requires.whole.tree (ap frame_of (sym c.in-Leaf.ensures)))
 
 pub returns-clause-changed : goal.returns-clause-changed
-returns-clause-changed c pool b = bytes-changed pool c.args.ram.now _ c.args.self.now c.number.result c.in-Leaf.frame c.in-Leaf.field-1 c.in-Leaf.field-2 c.in-Leaf.field-3 b (sym c.in-Leaf.ensures) (set-stays c.args.ram.now _ c.in-Leaf.frame _ refl)
+returns-clause-changed c pool b = bytes-changed pool c.args.ram.now _ c.args.self.now c.number.result c.in-Leaf.frame c.in-Leaf.field-1
+    c.in-Leaf.field-2 c.in-Leaf.field-3 b (sym c.in-Leaf.ensures) (set-stays c.args.ram.now _ c.in-Leaf.frame _ refl)
 
 pub returns-clause-belongs : goal.returns-clause-belongs
 returns-clause-belongs c pool b = belongs-after _ _ _ _ _ _ b (returns-clause-changed c pool b)
@@ -34,7 +37,9 @@ returns-clause-others c pool b other s = spared _ _ _ _ _ _ other (returns-claus
 pub returns-clause-walks : goal.returns-clause-walks
 returns-clause-walks c =
     let stay = set-stays c.args.ram.now _ c.in-Leaf.frame _ refl in
-    walks-same c.args.ram.now _ c.args.self.now.root (still-entries c.args.ram.now _ c.args.self.now.root stay.count (kept-but c.args.ram.now _ c.args.self.now.root c.number.result c.in-Leaf.frame c.in-Leaf.field-1 c.in-Leaf.field-2 c.in-Leaf.field-3 c.requires.whole.tree (sym c.in-Leaf.ensures) stay))
+    walks-same c.args.ram.now _ c.args.self.now.root (still-entries c.args.ram.now _ c.args.self.now.root stay.count
+    (kept-but c.args.ram.now _ c.args.self.now.root c.number.result c.in-Leaf.frame c.in-Leaf.field-1 c.in-Leaf.field-2 c.in-Leaf.field-3
+    c.requires.whole.tree (sym c.in-Leaf.ensures) stay))
 
 pub returns-clause-image : goal.returns-clause-image
 returns-clause-image c page there =
@@ -52,8 +57,11 @@ returns-clause-image c page there =
     let stay = set-stays ram (set ram f new) f new refl in
     let image = bytes-image ram (set ram f new) c.args.self.now c.number.result f c.in-Leaf.field-1 c.in-Leaf.field-2 c.in-Leaf.field-3 c.requires.whole (sym c.in-Leaf.ensures) stay in
     let v : c.number.result ≡ c.args.vpn = c.number.ensures.value in
-    let is_page : Some (record { perm = c.in-Leaf.field-1; bytes = old }) ≡ Some page = sym (page-is ram c.args.self.now c.number.result f c.in-Leaf.field-1 c.in-Leaf.field-2 c.in-Leaf.field-3 c.requires.whole (sym c.in-Leaf.ensures)) ∙ ap (page_at ram c.args.self.now.root) v ∙ sym (page-got ram c.args.self.now.root c.args.vpn c.number.ensures.range) ∙ there in
-    let same = some-is (record { perm = c.in-Leaf.field-1; bytes = old }) page is_page in
+    let is_page : Some (record { perm = c.in-Leaf.field-1; bytes = old }) ≡ Some page =
+    sym (page-is ram c.args.self.now c.number.result f c.in-Leaf.field-1 c.in-Leaf.field-2 c.in-Leaf.field-3 c.requires.whole
+    (sym c.in-Leaf.ensures)) ∙ ap (page_at ram c.args.self.now.root) v
+    ∙ sym (page-got ram c.args.self.now.root c.args.vpn c.number.ensures.range) ∙ there in
+    let same = same_Some {A = Page} (record { perm = c.in-Leaf.field-1; bytes = old }) page is_page in
     image
     ∙ ap (λ b. with_page (image_of ram c.args.self.now) c.number.result (record { perm = c.in-Leaf.field-1; bytes = b })) (set-here ram (set ram f new) f new refl inside ∙ is_new)
     ∙ ap (λ u. with_page (image_of ram c.args.self.now) u (overwritten (record { perm = c.in-Leaf.field-1; bytes = old }) at bytes)) v
@@ -63,7 +71,9 @@ pub unreachable-requires : goal.unreachable-requires
 unreachable-requires c =
     let root = c.args.self.now.root in
     no-leaf c.args.ram.now c.entry_of_page.result c.requires.there.0
-    (ap (page_of c.args.ram.now) c.entry_of_page.ensures ∙ there-at c.args.ram.now root c.args.vpn c.number.result c.requires.there.0 c.number.ensures.range c.number.ensures.value c.requires.there.1) c.in_default.not-Leaf
+    (ap (page_of c.args.ram.now) c.entry_of_page.ensures
+    ∙ there-at c.args.ram.now root c.args.vpn c.number.result c.requires.there.0 c.number.ensures.range c.number.ensures.value
+    c.requires.there.1) c.in_default.not-Leaf
 
 bytes_of : Page → List ℕ
 bytes_of page = page.bytes
@@ -76,12 +86,15 @@ returns-clause-written c =
     let f = c.in-Leaf.frame in
     let page = c.requires.there.0 in
     let there = c.requires.there.1 in
-    let is_page : Some (record { perm = c.in-Leaf.field-1; bytes = frame_at ram f }) ≡ Some page = sym (page-is ram self c.number.result f c.in-Leaf.field-1 c.in-Leaf.field-2 c.in-Leaf.field-3 c.requires.whole (sym c.in-Leaf.ensures)) ∙ there-at ram self.root c.args.vpn c.number.result page c.number.ensures.range c.number.ensures.value there in
-    let same : frame_at ram f ≡ page.bytes = ap bytes_of (some-is (record { perm = c.in-Leaf.field-1; bytes = frame_at ram f }) page is_page) in
+    let is_page : Some (record { perm = c.in-Leaf.field-1; bytes = frame_at ram f }) ≡ Some page =
+    sym (page-is ram self c.number.result f c.in-Leaf.field-1 c.in-Leaf.field-2 c.in-Leaf.field-3 c.requires.whole (sym c.in-Leaf.ensures))
+    ∙ there-at ram self.root c.args.vpn c.number.result page c.number.ensures.range c.number.ensures.value there in
+    let same : frame_at ram f ≡ page.bytes = ap bytes_of (same_Some {A = Page} (record { perm = c.in-Leaf.field-1; bytes = frame_at ram f }) page is_page) in
     let array : length c.frame_mut-page.result.now ≡ 4096 = search rules in
     let long : length page.bytes ≡ 4096 = ap length (sym (c.frame_mut-page.ensures.value ∙ same)) ∙ array in
     returns-clause-image c page there
     ∙ sym (write_image-page c.args.bytes.now (image_of ram self) c.args.vpn c.args.at page there (omega (arith, long, c.requires.fits)) c.requires.fits)
 
 pub returns-clause-in_place : goal.returns-clause-in_place
-returns-clause-in_place c = written-in-place c.args.ram.now _ c.args.self.now c.number.result c.in-Leaf.frame c.in-Leaf.field-1 c.in-Leaf.field-2 c.in-Leaf.field-3 c.requires.whole (sym c.in-Leaf.ensures) (set-stays c.args.ram.now _ c.in-Leaf.frame _ refl)
+returns-clause-in_place c = written-in-place c.args.ram.now _ c.args.self.now c.number.result c.in-Leaf.frame c.in-Leaf.field-1 c.in-Leaf.field-2
+    c.in-Leaf.field-3 c.requires.whole (sym c.in-Leaf.ensures) (set-stays c.args.ram.now _ c.in-Leaf.frame _ refl)

@@ -12,14 +12,17 @@ use Rattle.xk_base.specs.Access.{data_rights}
 
 pub protect-requires-clause-there : goal.protect-requires-clause-there
 protect-requires-clause-there c =
-    let grew : image_of c.grow.new.ram c.grow.new.self ≡ grown (image_of c.args.ram.now c.args.space.now) (4096 * (c.args.guard + 2)) data_rights = c.in-Ok.ensures.image ∙ ap (grown (image_of c.args.ram.now c.args.space.now) (4096 * (c.args.guard + 2))) c.data.ensures in
+    let grew : image_of c.grow.new.ram c.grow.new.self ≡ grown (image_of c.args.ram.now c.args.space.now) (4096 * (c.args.guard + 2)) data_rights =
+    c.in-Ok.ensures.image ∙ ap (grown (image_of c.args.ram.now c.args.space.now) (4096 * (c.args.guard + 2))) c.data.ensures in
     subst (HasPage (image_of c.grow.new.ram c.grow.new.self)) (sym c.new.ensures)
-    (grown-has (image_of c.args.ram.now c.args.space.now) (image_of c.grow.new.ram c.grow.new.self) (4096 * (c.args.guard + 2)) c.args.guard data_rights grew (omega (arith, c.requires.behind)) (omega arith))
+    (grown-has (image_of c.args.ram.now c.args.space.now) (image_of c.grow.new.ram c.grow.new.self)
+    (4096 * (c.args.guard + 2)) c.args.guard data_rights grew (omega (arith, c.requires.behind)) (omega arith))
 
 pub returns-clause-changed : goal.returns-clause-changed
 returns-clause-changed c =
     let b = belongs-after c.args.pool.now c.grow.new.pool c.args.ram.now c.grow.new.ram c.args.space.now c.grow.new.self c.requires.belongs c.in-Ok.ensures.changed in
-    changed-join c.args.pool.now c.grow.new.pool c.grow.new.pool c.args.ram.now c.grow.new.ram c.protect.new.ram c.args.space.now c.grow.new.self c.grow.new.self c.in-Ok.ensures.changed (c.protect.ensures.changed c.grow.new.pool b)
+    changed-join c.args.pool.now c.grow.new.pool c.grow.new.pool c.args.ram.now c.grow.new.ram c.protect.new.ram c.args.space.now c.grow.new.self
+    c.grow.new.self c.in-Ok.ensures.changed (c.protect.ensures.changed c.grow.new.pool b)
 
 pub returns-clause-image : goal.returns-clause-image
 returns-clause-image c =

@@ -12,7 +12,8 @@ returns c =
     let guard = c.page_count-guard.result in
     let first : segments_of file header ≡ Ok c.in_ok-segments.field-0 = sym c.segments.ensures.listed ∙ c.in_ok-segments.was in
     let again : segments_of file header ≡ Ok c.in_ok-segments-2.field-0 = sym c.segments-2.ensures.listed ∙ c.in_ok-segments-2.was in
-    let end : c.end_of-end.result ≡ end_after 0 c.in_ok-segments-2.field-0 = c.end_of-end.ensures.end ∙ ap (end_after 0) (same-segments file header c.in_ok-segments.field-0 c.in_ok-segments-2.field-0 first again) in
+    let end : c.end_of-end.result ≡ end_after 0 c.in_ok-segments-2.field-0 = c.end_of-end.ensures.end
+    ∙ ap (end_after 0) (same-segments file header c.in_ok-segments.field-0 c.in_ok-segments-2.field-0 first again) in
     plan-loaded file c.args.args.now header c.in_ok-segments-2.field-0 guard c.stack_pointer-sp.result (length c.parts.result.0.now)
     (sym c.read_header.ensures ∙ c.in_ok-header.was) again (c.page_count-guard.ensures.value ∙ ap (λ e. (e + 4095) / 4096) end)
     (c.stack_pointer-sp.ensures ∙ pointer-is c.parts.result.0.now c.parts.result.1.now (4096 * (guard + 2)) c.parts.ensures.split ∙ ap (stack_pointer (4096 * (guard + 2))) (sym c.parts.ensures.texts))
@@ -40,11 +41,13 @@ invariant_of-result c =
     let guard = c.page_count-guard.result in
     let first : segments_of file header ≡ Ok c.in_ok-segments.field-0 = sym c.segments.ensures.listed ∙ c.in_ok-segments.was in
     let again : segments_of file header ≡ Ok c.in_ok-segments-2.field-0 = sym c.segments-2.ensures.listed ∙ c.in_ok-segments-2.was in
-    let end : c.end_of-end.result ≡ end_after 0 c.in_ok-segments-2.field-0 = c.end_of-end.ensures.end ∙ ap (end_after 0) (same-segments file header c.in_ok-segments.field-0 c.in_ok-segments-2.field-0 first again) in
+    let end : c.end_of-end.result ≡ end_after 0 c.in_ok-segments-2.field-0 = c.end_of-end.ensures.end
+    ∙ ap (end_after 0) (same-segments file header c.in_ok-segments.field-0 c.in_ok-segments-2.field-0 first again) in
     record {
       fit = c.in_ok-segments-2.ensures.fit;
       behind = c.page_count-guard.ensures.value ∙ ap (λ e. (e + 4095) / 4096) end;
       limit = omega (arith, c.end_of-end.ensures.limit);
-      below = c.stack_pointer-sp.ensures ∙ pointer-is c.parts.result.0.now c.parts.result.1.now (4096 * (guard + 2)) c.parts.ensures.split ∙ ap (stack_pointer (4096 * (guard + 2))) (sym c.parts.ensures.texts);
+      below = c.stack_pointer-sp.ensures ∙ pointer-is c.parts.result.0.now c.parts.result.1.now (4096 * (guard + 2)) c.parts.ensures.split
+          ∙ ap (stack_pointer (4096 * (guard + 2))) (sym c.parts.ensures.texts);
       room = omega (arith, c.if-sp-guard.false);
     }

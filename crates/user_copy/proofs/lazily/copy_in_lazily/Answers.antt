@@ -1,4 +1,4 @@
-use Rattle.std.proofs.Common.{rules, true, length, sym, ◌∙◌}
+use Rattle.std.proofs.Common.{rules, length, sym, ◌∙◌}
 use Rattle.xk_base.specs.declared.access.Access.TheVariants.{Load}
 use Rattle.addr_space.specs.Absent.{whole}
 use Rattle.addr_space.specs.Space.{image_of}
@@ -9,7 +9,8 @@ use Rattle.user_copy.proofs.lazily.copy_in_lazily.Goals as goal
 pub read_across-requires-clause-inside : goal.read_across-requires-clause-inside
 read_across-requires-clause-inside c =
     let i = whole (image_of c.args.ram.now c.args.space.now) in
-    mapped-inside i c.args.address _ (whole-low (image_of c.args.ram.now c.args.space.now) (low-pages c.args.ram.now c.args.space.now)) (reached-mapped Load i c.args.address (length c.args.out.now) (search rules))
+    mapped-inside i c.args.address _ (whole-low (image_of c.args.ram.now c.args.space.now) (low-pages c.args.ram.now c.args.space.now))
+    (reached-mapped Load i c.args.address (length c.args.out.now) (search rules))
 
 pub returns-clause-copied : goal.returns-clause-copied
 returns-clause-copied c = c.read_across.ensures ∙ sym (whole-bytes (image_of c.args.ram.now c.args.space.now) c.args.address (length c.args.out.now))

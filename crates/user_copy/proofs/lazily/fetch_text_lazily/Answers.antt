@@ -23,7 +23,10 @@ pub read_across-requires-clause-inside : goal.read_across-requires-clause-inside
 read_across-requires-clause-inside c k lt =
     let i = whole (image_of c.args.ram.now c.args.space.now) in
     let r = text-readable i c.args.address (length c.args.text.now) c.in-Some.count (sym c.in-Some.ensures) in
-    mapped-inside i c.args.address (c.in-Some.count + 1) (whole-low (image_of c.args.ram.now c.args.space.now) (low-pages c.args.ram.now c.args.space.now)) (reached-mapped Load i c.args.address (c.in-Some.count + 1) r.1) k (omega (arith, lt, length-take-le c.in-Some.count c.args.text.now (omega (arith, r.0))))
+    mapped-inside i c.args.address (c.in-Some.count + 1)
+    (whole-low (image_of c.args.ram.now c.args.space.now) (low-pages c.args.ram.now c.args.space.now))
+    (reached-mapped Load i c.args.address (c.in-Some.count + 1) r.1) k
+    (omega (arith, lt, length-take-le c.in-Some.count c.args.text.now (omega (arith, r.0))))
 
 pub returns-clause-short : goal.returns-clause-short
 returns-clause-short c = (text-readable (whole (image_of c.args.ram.now c.args.space.now)) c.args.address (length c.args.text.now) c.in-Some.count (sym c.in-Some.ensures)).0
@@ -33,4 +36,5 @@ returns-clause-copied c =
     let i = whole (image_of c.args.ram.now c.args.space.now) in
     let r = text-readable i c.args.address (length c.args.text.now) c.in-Some.count (sym c.in-Some.ensures) in
     ap (λ xs. xs ++ drop c.in-Some.count c.args.text.now)
-    (c.read_across.ensures ∙ sym (whole-bytes (image_of c.args.ram.now c.args.space.now) c.args.address _) ∙ ap (image_bytes i c.args.address) (length-take-le c.in-Some.count c.args.text.now (omega (arith, r.0))))
+    (c.read_across.ensures ∙ sym (whole-bytes (image_of c.args.ram.now c.args.space.now) c.args.address _)
+    ∙ ap (image_bytes i c.args.address) (length-take-le c.in-Some.count c.args.text.now (omega (arith, r.0))))

@@ -59,7 +59,8 @@ parts-preserved c =
     let same = bytes_same ram c.parts.ram space c.args.pipe c.requires.pipe c.requires.apart c.parts.invariant.2 in
     let written = c.fill_page.ensures.image ∙ (λ k. write_image (image_of c.parts.ram space) (4096 * c.of_address-page.result + c.page_offset-at.result) (take (count k) (drop d (same k)))) in (
       fits,
-      write-more (image_of ram space) (image_of c.parts.ram space) (image_of c.fill_page.new.ram space) a d n (4096 * c.of_address-page.result + c.page_offset-at.result) bytes c.parts.invariant.1 (omega (arith, fits, c.requires.bytes)) place written,
+      write-more (image_of ram space) (image_of c.parts.ram space) (image_of c.fill_page.new.ram space) a d n
+          (4096 * c.of_address-page.result + c.page_offset-at.result) bytes c.parts.invariant.1 (omega (arith, fits, c.requires.bytes)) place written,
       in_place-join ram c.parts.ram c.fill_page.new.ram space c.parts.invariant.2 c.fill_page.ensures.in_place,
       λ pool b. changed-join pool pool pool ram c.parts.ram c.fill_page.new.ram space space space (c.parts.invariant.3 pool b)
           (c.fill_page.ensures.changed pool (belongs-after pool pool ram c.parts.ram space space b (c.parts.invariant.3 pool b))),

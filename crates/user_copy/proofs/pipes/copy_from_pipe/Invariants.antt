@@ -7,7 +7,8 @@ use Rattle.pipe_core.specs.Pipe.{pipe_in}
 use Rattle.user_copy.proofs.pipes.copy_from_pipe.Given as goal
 
 abbrev pub invariant-parts : goal.invariant-parts
-invariant-parts l = (l.done ≤ l.size) × (image_of l.ram l.space ≡ write_image (image_of l.fn.ram l.space) l.address (take l.done (pipe_in l.fn.ram l.pipe).bytes)) × WrittenInPlace l.fn.ram l.ram l.space
+invariant-parts l = (l.done ≤ l.size) × (image_of l.ram l.space ≡ write_image (image_of l.fn.ram l.space) l.address
+    (take l.done (pipe_in l.fn.ram l.pipe).bytes)) × WrittenInPlace l.fn.ram l.ram l.space
     × ((pool : Pool) → Belongs pool l.fn.ram l.space → Changed pool l.fn.ram l.space pool l.ram l.space)
 
 abbrev pub decreases-parts : goal.decreases-parts

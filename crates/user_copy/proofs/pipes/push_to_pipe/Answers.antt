@@ -20,10 +20,13 @@ push_page-requires-clause-apart c = still_apart c.args.ram.now c.parts.ram c.arg
 
 pub push_page-requires-clause-room : goal.push_page-requires-clause-room
 push_page-requires-clause-room c =
-    room_left c.args.ram.now c.parts.ram c.args.space.now c.args.pipe c.args.address c.parts.done c.requires.whole c.requires.apart c.parts.invariant.1 c.args.size c.min-part.result c.requires.room (search rules)
+    room_left c.args.ram.now c.parts.ram c.args.space.now c.args.pipe c.args.address c.parts.done c.requires.whole c.requires.apart
+    c.parts.invariant.1 c.args.size c.min-part.result c.requires.room (search rules)
 
 pub parts-preserved : goal.parts-preserved
 parts-preserved c = (
   search rules,
-  more_pushed c.args.ram.now c.parts.ram c.args.space.now c.args.pipe c.args.address c.parts.done c.requires.whole c.requires.apart c.parts.invariant.1 c.push_page.new.ram _ c.min-part.result (omega (arith, c.of_address-page.ensures, c.page_offset-at.ensures.value)) c.push_page.ensures,
+  more_pushed c.args.ram.now c.parts.ram c.args.space.now c.args.pipe c.args.address c.parts.done c.requires.whole c.requires.apart
+      c.parts.invariant.1 c.push_page.new.ram _ c.min-part.result
+      (omega (arith, c.of_address-page.ensures, c.page_offset-at.ensures.value)) c.push_page.ensures,
 )

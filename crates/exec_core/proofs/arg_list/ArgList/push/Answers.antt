@@ -10,11 +10,15 @@ returns-then-is_full-clause-refusal c =
 
 pub returns-then-text-remaining_capacity-clause-refusal : goal.returns-then-text-remaining_capacity-clause-refusal
 returns-then-text-remaining_capacity-clause-refusal c =
-    sym (ap (λ t. push_refusal t c.args.text.now) (sym c.self.view_is) ∙ refusal-long c.self.inside.lengths.items c.self.inside.bytes.items c.args.text.now c.self.invariant (search rules) (omega (arith, c.remaining_capacity.ensures, c.if-text-remaining_capacity.true)))
+    sym (ap (λ t. push_refusal t c.args.text.now) (sym c.self.view_is)
+    ∙ refusal-long c.self.inside.lengths.items c.self.inside.bytes.items c.args.text.now c.self.invariant (search rules)
+    (omega (arith, c.remaining_capacity.ensures, c.if-text-remaining_capacity.true)))
 
 pub returns-clause-refusal : goal.returns-clause-refusal
 returns-clause-refusal c =
-    sym (ap (λ t. push_refusal t c.args.text.now) (sym c.self.view_is) ∙ refusal-none c.self.inside.lengths.items c.self.inside.bytes.items c.args.text.now c.self.invariant (search rules) (omega (arith, c.remaining_capacity.ensures, c.if-text-remaining_capacity.false)))
+    sym (ap (λ t. push_refusal t c.args.text.now) (sym c.self.view_is)
+    ∙ refusal-none c.self.inside.lengths.items c.self.inside.bytes.items c.args.text.now c.self.invariant (search rules)
+    (omega (arith, c.remaining_capacity.ensures, c.if-text-remaining_capacity.false)))
 
 pub invariant_of-self : goal.invariant_of-self
 invariant_of-self c =
