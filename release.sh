@@ -1,9 +1,10 @@
 #!/bin/bash
 # Makes nektavoly-VERSION.tar.gz of the last commit: release.sh [FOLDER], into FOLDER or where it is called.
 #
-# It holds the programs, as `./xv` proved and built them, the page, the programs for the machine with their sources, and the
-# manual and the course as HTML and as text. The same commit gives the same bytes. It needs pandoc,
-# Debian's package of that name.
+# It holds the programs, as `./xv` proved and built them, the page, the programs for the machine with their sources, and
+# the manual and the course as HTML and as text. Beside it comes nektavoly-VERSION-teacher.tar.gz, which isn't handed
+# out: the answers, and the exercises as files for grading. It is untarred over the other one.
+# The same commit gives the same bytes. It needs pandoc, Debian's package of that name.
 set -euo pipefail
 export LC_ALL=C TZ=UTC
 into=$(cd "${1-.}" && pwd)
@@ -16,40 +17,65 @@ stop() {
 
 command -v pandoc >/dev/null || stop "there is no pandoc: apt-get install pandoc"
 [ -z "$(git status --porcelain)" ] || stop "there are changes that no commit has"
-[ "$(./xv --status 2>&1 | head -n 1)" = "xv: proved and built of these sources" ] || stop "the programs aren't built: ./xv"
+[ "$(./xv --status 2>&1 | head -n 1)" = "xv: proved and built of these sources" ] ||
+    stop "the programs aren't built: ./xv"
 
 version=$(cat VERSION)
 name=nektavoly-$version
 room=$(mktemp -d)
 trap 'rm -rf "$room"' EXIT
 export RELEASE=$room/$name
-mkdir "$RELEASE"
+TEACHER=$room/teacher/$name
+mkdir -p "$RELEASE" "$TEACHER"
 
-# What the commit holds of it. Answers of the course are a teacher's, and stay in the repository.
-git archive HEAD xv README.md LICENSE VERSION CHANGELOG.md docs programs page/nektavoly.html checks/sessions checks/why | tar -x -C "$RELEASE"
-rm -rf "$RELEASE"/docs/COURSE-ANSWERS.md "$RELEASE"/docs/html "$RELEASE"/programs/course/exercises
+# What the commit holds of it.
+git archive HEAD xv README.md LICENSE VERSION CHANGELOG.md docs programs page/nektavoly.html checks/sessions \
+    checks/why checks/terminal checks/debugger checks/gdb checks/gdb.sh checks/grading | tar -x -C "$RELEASE"
+rm -r "$RELEASE/docs/html"
 
-mkdir "$RELEASE/bin"
+# A program's own file lies in libexec/, and bin/ has a script of its name, which knows --version.
+mkdir "$RELEASE/bin" "$RELEASE/libexec"
 for main in crates/*/src/main.rt; do
     program=$(basename "${main%/src/main.rt}")
-    cp "crates/$program/out/$program" "$RELEASE/bin/"
+    cp "crates/$program/out/$program" "$RELEASE/libexec/"
+    cp programs/host/launch.sh "$RELEASE/bin/$program"
 done
 { git log -1 --format='commit %H of %cs'; rt version; } >"$RELEASE/BUILT"
 
-# The pages, each as HTML beside its text.
-cp docs/html/style.css "$RELEASE/docs/style.css"
 # The way from a page's folder up to the release's.
 up_from() {
     dirname "$1" | awk -F/ '{ up = $0 == "." ? "." : ".."; for (at = 2; at <= NF; at++) up = up "/.."; print up }'
 }
 
-find "$RELEASE" -name '*.md' -printf '%P\n' | sort | while read -r page; do
-    title=$(sed -n 's/^# //p' "$RELEASE/$page" | head -n 1)
-    PAGE=$page pandoc -f gfm -t html5 -s --metadata pagetitle="$title" --lua-filter docs/html/links.lua \
-        --css "$(up_from "$page")/docs/style.css" -o "$RELEASE/${page%.md}.html" "$RELEASE/$page"
-done
+# Makes HTML of each page of those in the lines of standard input, beside its text.
+as_html() {
+    while read -r page; do
+        title=$(sed -n 's/^# //p' "$RELEASE/$page" | head -n 1)
+        PAGE=$page pandoc -f gfm -t html5 -s --metadata pagetitle="$title" --lua-filter docs/html/links.lua \
+            --css "$(up_from "$page")/docs/style.css" -o "$RELEASE/${page%.md}.html" "$RELEASE/$page"
+    done
+}
 
-(cd "$RELEASE" && find . -type f ! -name SHA256SUMS | sort | xargs -d '\n' sha256sum >SHA256SUMS)
-tar -c --sort=name --mtime="@$(git log -1 --format=%ct)" --owner=0 --group=0 --numeric-owner --mode=u=rwX,go=rX \
-    --format=gnu -C "$room" "$name" | gzip -n9 >"$into/$name.tar.gz"
-echo "release.sh: $into/$name.tar.gz, $(stat -c %s "$into/$name.tar.gz") bytes"
+cp docs/html/style.css "$RELEASE/docs/style.css"
+# The page in the browser leads to the manual's HTML, too.
+sed -i -E 's/([A-Za-z0-9-]+)\.md(\\?[#"`)])/\1.html\2/g' "$RELEASE/page/nektavoly.html"
+
+# What is a teacher's goes apart; its page is made while all that it leads to is there.
+echo docs/COURSE-ANSWERS.md | as_html
+(cd "$RELEASE" && ls -d docs/COURSE-ANSWERS.* programs/course/exercises checks/grading checks/sessions/course_* \
+    checks/debugger/overrun.* checks/debugger/fork.*) | while read -r its; do
+    mkdir -p "$TEACHER/$(dirname "$its")"
+    mv "$RELEASE/$its" "$TEACHER/$its"
+done
+find "$RELEASE" -name '*.md' -printf '%P\n' | sort | as_html
+
+# Packs the folder in $1 as the archive $2, with the sums of its files in the file $3.
+pack() {
+    (cd "$1/$name" && find . -type f ! -name "$3" | sort | xargs -d '\n' sha256sum >"$3")
+    tar -c --sort=name --mtime="@$(git log -1 --format=%ct)" --owner=0 --group=0 --numeric-owner --mode=u=rwX,go=rX \
+        --format=gnu -C "$1" "$name" | gzip -n9 >"$into/$2"
+    echo "release.sh: $into/$2, $(stat -c %s "$into/$2") bytes"
+}
+
+pack "$room" "$name.tar.gz" SHA256SUMS
+pack "$room/teacher" "$name-teacher.tar.gz" SHA256SUMS-teacher

@@ -8,7 +8,9 @@ set -eu
 here=$(cd "$(dirname "$0")" && pwd)
 byhand=
 [ "${1-}" != --by-hand ] || { byhand=yes; shift; }
-program=$(readlink -f "${1-$here/../crates/xv_gdb/out/xv_gdb}")
+built=$here/../crates/xv_gdb/out/xv_gdb
+[ ! -d "$here/../bin" ] || built=$here/../bin/xv_gdb
+program=$(readlink -f "${1-$built}")
 for tool in gdb-multiarch riscv64-unknown-elf-gcc; do
     command -v "$tool" >/dev/null || { echo "gdb.sh: there is no $tool; apt-get install gdb-multiarch gcc-riscv64-unknown-elf" >&2; exit 2; }
 done

@@ -1,13 +1,18 @@
 #!/usr/bin/env python3
 """Follows each link of the HTML pages below a folder, by hand: checks/html-links.py FOLDER
 
-A link to a file must lead to one, and a link to a place in a page to an element of that name. Links to other hosts
-aren't followed. A line for each that leads nowhere; the status is 0 where none does.
+A link to a file must lead to one, and a link to a place in a page to an element of that name. So must the links to the
+manual that the page in the browser makes when it runs: they stand in its scripts. Links to other hosts aren't
+followed. A line for each that leads nowhere; the status is 0 if there is none.
 """
 import html.parser
 import os
+import re
 import sys
 import urllib.parse
+
+# What a script of page/nektavoly.html has of the manual: a path, or a page's name with a place in it.
+IN_SCRIPTS = re.compile(r"(\.\./docs/[\w./-]+\.(?:html|md)(?:#[\w-]+)?)|\"(\w[\w-]*\.(?:html|md)(?:#[\w-]+)?)\"")
 
 
 class Page(html.parser.HTMLParser):
@@ -16,26 +21,37 @@ class Page(html.parser.HTMLParser):
     def __init__(self, path):
         super().__init__()
         self.names, self.targets = set(), []
+        self.is_script = False
         with open(path, encoding="utf-8") as file:
             self.feed(file.read())
 
     def handle_starttag(self, tag, attributes):
+        self.is_script = tag == "script"
         for name, value in attributes:
             if name == "id" or (tag == "a" and name == "name"):
                 self.names.add(value)
             if value and ((tag, name) in (("a", "href"), ("link", "href"), ("img", "src"), ("script", "src"))):
                 self.targets.append(value)
+            if name == "data-help":
+                place = re.sub("[^a-z ]", "", value.lower()).replace(" ", "-")
+                self.targets.append(f"../docs/manual/page.html#{place}")
+
+    def handle_endtag(self, tag):
+        self.is_script = self.is_script and tag != "script"
+
+    def handle_data(self, data):
+        if self.is_script:
+            self.targets += [path or f"../docs/manual/{name}" for path, name in IN_SCRIPTS.findall(data)]
 
 
-def wrong_links(folder):
-    paths = [os.path.join(at, name) for at, _, names in os.walk(folder) for name in names if name.endswith(".html")]
-    pages = {os.path.realpath(path): Page(path) for path in paths}
+def wrong_links(pages):
     for path, page in sorted(pages.items()):
         for target in page.targets:
             if urllib.parse.urlparse(target).scheme:
                 continue
             file, _, place = target.partition("#")
-            to = os.path.realpath(os.path.join(os.path.dirname(path), urllib.parse.unquote(file))) if file else path
+            folder = os.path.dirname(path)
+            to = os.path.realpath(os.path.join(folder, urllib.parse.unquote(file))) if file else path
             if not os.path.exists(to):
                 yield path, target, "there is no such file"
             elif place and to in pages and urllib.parse.unquote(place) not in pages[to].names:
@@ -45,11 +61,15 @@ def wrong_links(folder):
 def main():
     if len(sys.argv) != 2:
         sys.exit(__doc__)
-    wrong = list(wrong_links(sys.argv[1]))
+    found = [os.path.join(at, name) for at, _, names in os.walk(sys.argv[1]) for name in names]
+    paths = [path for path in found if path.endswith(".html")]
+    pages = {os.path.realpath(path): Page(path) for path in paths}
+    wrong = list(wrong_links(pages))
     for path, target, why in wrong:
         print(f"{os.path.relpath(path, sys.argv[1])}: {target}: {why}")
-    print(f"{len(wrong)} links lead nowhere")
-    sys.exit(1 if wrong else 0)
+    count = sum(len(page.targets) for page in pages.values())
+    print(f"{count} links of {len(pages)} pages: {len(wrong)} lead nowhere")
+    sys.exit(1 if wrong or not pages else 0)
 
 
 main()

@@ -8,7 +8,7 @@ cd "$(dirname "$0")/.." || exit 2
 
 # A check that is run by hand: its path, how it is called, and what it does.
 tell() {
-    [ ! -e "checks/$1" ] || printf '    %-52s %s\n' "checks/$2" "$3"
+    [ ! -e "checks/$1" ] || printf '    %-52s %s\n' "$(echo "checks/$2" | sed 's|^checks/\.\./||')" "$3"
 }
 
 tell_others() {
@@ -19,6 +19,7 @@ tell_others() {
     tell beside-qemu/run.sh 'beside-qemu/run.sh' '1,000 random programs do what they do under QEMU: some minutes; needs qemu-user'
     tell outside.sh 'outside.sh' "others' programs do what they do under QEMU: minutes, with \`torture\` an hour; needs packages, told by the script"
     tell back-to/run.sh 'back-to/run.sh [N]' 'the stored runs, played back to 20 places each: slow; needs rt'
+    tell release.sh 'release.sh FOLDER' 'a release, tried in a bare Debian 12: two minutes; needs root, debootstrap and the network'
     tell html-links.py 'html-links.py FOLDER' 'the links of a release that was untarred'
     tell terminal/by_hand.sh 'terminal/by_hand.sh [FOLDER]' 'sessions at a real terminal, with their screens: a minute; needs tmux'
     tell terminal/measure.py 'terminal/measure.py' 'the terminal'"'"'s speed beside xv_run, its echo, and what it takes while all sleep: a minute'
@@ -26,6 +27,7 @@ tell_others() {
     tell grading/run.sh 'grading/run.sh --many' 'a thousand submissions by GNU parallel (Debian: parallel): two minutes'
     tell gdb.sh 'gdb.sh' 'gdb-multiarch finds a planted bug, forth and back: a minute; needs gdb-multiarch and the C compiler'
     tell ../page/check.sh '../page/check.sh' 'the page runs what the program runs, by Node: some minutes; needs nodejs'
+    tell ../page/measure.sh '../page/measure.sh' 'how fast the page is, in a browser on a host that does nothing else: two minutes; needs the same'
     tell ../page/look.sh '../page/look.sh FOLDER' 'the page as a student sees it, with pictures: some minutes; needs nodejs, chromium (or firefox-esr, by BROWSER=firefox)'
     echo 'After a failed `rt check`: checks/why.sh CRATE tells what is open, in the order in which to read it.'
 }

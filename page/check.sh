@@ -14,7 +14,9 @@ XV_MODULE=$work/page.wasm exec node $PWD/try/xv_run.mjs "\$@"
 END
 chmod +x "$work/xv_run"
 failed=
-XV_RUN=$work/xv_run ../checks/sessions/run.sh | tail -1 || failed=1
+# By Node, on a host with other work, a session or a run may take long: it gets ten minutes.
+export PATIENCE=600
+XV_RUN=$work/xv_run ../checks/sessions/run.sh | grep -v '^ok ' || failed=1
 python3 -B ../checks/stored-runs/run.py "$work/xv_run" | tail -1 || failed=1
 node try/back.mjs "$work/page.wasm" ../programs/bin || failed=1
 node try/bad.mjs "$work/page.wasm" ../programs/bin || failed=1

@@ -8,7 +8,9 @@
 # that changes.
 set -u
 cd "$(dirname "$0")/../.." || exit 2
-XV_DEBUGGER=$(readlink -f -- "${1-crates/xv_debugger/out/xv_debugger}")
+built=crates/xv_debugger/out/xv_debugger
+[ ! -d bin ] || built=bin/xv_debugger
+XV_DEBUGGER=$(readlink -f -- "${1-$built}")
 export XV_DEBUGGER
 [ -x "$XV_DEBUGGER" ] || { echo "there is no program $XV_DEBUGGER: build it by ./xv" >&2; exit 2; }
 

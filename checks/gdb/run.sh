@@ -4,6 +4,8 @@
 # 0 if all are as they should be. checks/gdb.sh does the same with GDB itself.
 set -u
 here=$(cd "$(dirname "$0")" && pwd) || exit 2
-program=${1-$here/../../crates/xv_gdb/out/xv_gdb}
+built=$here/../../crates/xv_gdb/out/xv_gdb
+[ ! -d "$here/../../bin" ] || built=$here/../../bin/xv_gdb
+program=${1-$built}
 [ -x "$program" ] || { echo "there is no program $program: build it by ./xv" >&2; exit 2; }
 exec python3 -B "$here/talk.py" "$program" "$here"/conversations/*

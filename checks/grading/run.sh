@@ -12,7 +12,9 @@ top=$PWD
 here=$top/checks/grading
 mode=quick
 case ${1-} in --all | --many | --store) mode=${1#--} && shift ;; esac
-export XV_GRADE=${1-$top/crates/xv_grade/out/xv_grade}
+built=$top/crates/xv_grade/out/xv_grade
+[ ! -d "$top/libexec" ] || built=$top/libexec/xv_grade
+export XV_GRADE=${1-$built}
 [ -x "$XV_GRADE" ] || { echo "grading: there is no program $XV_GRADE" >&2; exit 2; }
 XV_GRADE=$(readlink -f "$XV_GRADE")
 # Pictures are not compared, and so none are drawn.

@@ -1,7 +1,8 @@
 #!/bin/sh
 # Plays the sessions of this folder by the built program, and compares what comes out: checks/sessions/run.sh, or
 # checks/sessions/run.sh NAME.. for some of them. A line for each, and a verdict at the end; the status is 0 where all are as
-# they should be. XV_RUN is the program, and without it the one that stands in this repository.
+# they should be. XV_RUN is the program, and without it the one that stands in this repository. A session may take 60
+# seconds, or as many as PATIENCE says.
 #
 # A session is a text. Its first line says what it shows; then come parts, each with a line `== NAME` at its head:
 #
@@ -26,6 +27,7 @@ cd "$(dirname "$0")" || exit 2
 programs=$(cd ../../programs && pwd) || exit 2
 room=$(mktemp -d) || exit 2
 trap 'rm -rf "$room"' EXIT
+patience=${PATIENCE-60}
 
 # Takes session $1 apart: each part becomes a file =NAME of the folder $room, and each file of the session stands
 # there under its own name.
@@ -94,8 +96,9 @@ play() {
     take_apart "$1" || return
     keys >"$room/=typed"
     # shellcheck disable=SC2046
-    timeout 60 "$program" $(words) <"$room/=typed" >"$room/=out" 2>"$room/=err"
+    timeout "$patience" "$program" $(words) <"$room/=typed" >"$room/=out" 2>"$room/=err"
     echo $? >"$room/=ended"
+    [ "$(cat "$room/=ended")" != 124 ] || echo "FAILED $name: it took longer than $patience seconds, on a busy host perhaps"
     [ -e "$room/=status" ] || echo 0 >"$room/=status"
     cat -v "$room/=out" >"$room/=seen"
     [ ! -e "$room/=trace" ] || grep -E -- "$(cat "$room/=pattern")" "$room/=err" >"$room/=noted"

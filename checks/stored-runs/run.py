@@ -11,6 +11,9 @@ import programs
 COUNT = 260
 HERE = os.path.dirname(os.path.abspath(__file__))
 
+# Seconds that a run may take.
+PATIENCE = int(os.environ.get("PATIENCE", "60"))
+
 
 def counted(items, of_one):
     """The items, where those that are alike and follow one another are one, with their number."""
@@ -44,7 +47,7 @@ def played(xv_run, seed):
         for name, content in files.items():
             with open(os.path.join(folder, name), "wb") as file:
                 file.write(content)
-        run = subprocess.run([xv_run, *words, "--trace", "65536", *files], cwd=folder, input=keys, capture_output=True, timeout=60)
+        run = subprocess.run([xv_run, *words, "--trace", "65536", *files], cwd=folder, input=keys, capture_output=True, timeout=PATIENCE)
     lines = run.stderr.decode(errors="backslashreplace").splitlines()
     head = [f"run {seed}: {' '.join(words)}, keys {ascii(keys)[1:]}", f"status {run.returncode}", f"output {ascii(run.stdout)[1:]}"]
     return "\n".join(head + rounds(lines))
@@ -57,7 +60,7 @@ def booted(xv_run, file):
         with open(os.path.join(folder, "init"), "wb") as target:
             target.write(content)
         words = [xv_run, "--frames", "16", "--rounds", "2", "--quantum", "5", "--trace", "65536", "init"]
-        run = subprocess.run(words, cwd=folder, input=b"", capture_output=True, timeout=60)
+        run = subprocess.run(words, cwd=folder, input=b"", capture_output=True, timeout=PATIENCE)
     return what, place, f"status {run.returncode}; {'; '.join(rounds(run.stderr.decode().splitlines()))}"
 
 

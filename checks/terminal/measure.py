@@ -19,8 +19,9 @@ import termios
 import time
 
 TOP = os.path.dirname(os.path.dirname(os.path.dirname(os.path.abspath(__file__))))
-TERMINAL = sys.argv[1] if len(sys.argv) > 1 else TOP + "/crates/xv_terminal/out/xv_terminal"
-RUN = sys.argv[2] if len(sys.argv) > 2 else TOP + "/crates/xv_run/out/xv_run"
+PLACE = TOP + ("/libexec/{0}" if os.path.isdir(TOP + "/libexec") else "/crates/{0}/out/{0}")
+TERMINAL = sys.argv[1] if len(sys.argv) > 1 else PLACE.format("xv_terminal")
+RUN = sys.argv[2] if len(sys.argv) > 2 else PLACE.format("xv_run")
 
 # 400 million instructions, and then the end.
 COMPUTES = """

@@ -23,7 +23,11 @@ top=$here/../..
 program=${1-}
 case $program in
 */*) shift ;;
-*) program=${XV_TERMINAL-$top/crates/xv_terminal/out/xv_terminal} ;;
+*)
+    program=$top/bin/xv_terminal
+    [ -x "$program" ] || program=$top/crates/xv_terminal/out/xv_terminal
+    program=${XV_TERMINAL-$program}
+    ;;
 esac
 [ -x "$program" ] || { echo "there is no program $program: build it by ./xv" >&2; exit 2; }
 program=$(readlink -f "$program")

@@ -194,6 +194,16 @@ function breaks_here() {
 const stops_on = (told) => told && (told.kind === KIND.CALL || told.kind === KIND.WAIT) && breaks.some((it) => it.kind === "call" && it.number === told.number);
 const looks_at_each = () => breaks.some((it) => it.kind !== "call");
 
+/** The place behind the next call of the record, up to a place, at which a break point stops; null if there is none. */
+function stop_of_record(to) {
+  const { line } = run;
+  if (!breaks.some((it) => it.kind === "call")) return null;
+  for (let k = Math.max(0, line.find(run.at)); k < line.length && line.at[k] < to; k++) {
+    if (stops_on({ kind: line.kind[k], number: line.number[k] })) return Math.max(run.at, line.at[k]) + 1;
+  }
+  return null;
+}
+
 function stop(why) {
   playing = false;
   stopped = why;
@@ -204,15 +214,16 @@ function stop(why) {
 /** One piece of play: many Runs, or one where break points look at each. Tells whether to go on. */
 function piece(most) {
   if (run.is_past) {
-    if (looks_at_each()) { run.replay(run.at + 1); return after_step(null); }
-    run.replay(Math.min(run.end, run.at + Math.max(1, most)));
-    return true;
+    const to = Math.min(run.end, run.at + (looks_at_each() ? 1 : Math.max(1, most))), at_call = stop_of_record(to);
+    run.replay(at_call ?? to);
+    if (at_call !== null) { stop("at a kernel call"); return false; }
+    return after_step();
   }
   if (halted()) { stop("process 1 is gone: nobody runs again"); return false; }
   const told = settings.rounds || settings.speed ? plan.next(looks_at_each() ? 1 : most) : plan.next_of_terminal(looks_at_each() ? 1 : most, false);
   heard(told);
   if (stops_on(told)) { stop("at a kernel call"); return false; }
-  return after_step(told);
+  return after_step();
 }
 function after_step() {
   if (!looks_at_each()) return true;

@@ -61,7 +61,7 @@ export async function open(url, { width = 1400, height = 900, dark = false, mobi
       throw new Error(`not so after ${ms} ms: ${expression}`);
     },
     async key(key, { shift = false, control = false } = {}) {
-      const special = { Enter: 13, Backspace: 8, Escape: 27, Tab: 9, ArrowLeft: 37, ArrowUp: 38, ArrowRight: 39, ArrowDown: 40, " ": 32 };
+      const special = { Enter: 13, Backspace: 8, Escape: 27, Tab: 9, ArrowLeft: 37, ArrowUp: 38, ArrowRight: 39, ArrowDown: 40, Home: 36, " ": 32 };
       const modifiers = (control ? 2 : 0) + (shift ? 8 : 0), code = special[key] ?? key.toUpperCase().charCodeAt(0), text = control ? undefined : key === "Enter" ? "\r" : key.length === 1 ? key : undefined;
       await send("Input.dispatchKeyEvent", { type: text ? "keyDown" : "rawKeyDown", key, text, modifiers, windowsVirtualKeyCode: code });
       await send("Input.dispatchKeyEvent", { type: "keyUp", key, modifiers, windowsVirtualKeyCode: code });

@@ -5,7 +5,7 @@ import { connect } from "node:net";
 import { tmpdir } from "node:os";
 
 const sleep = (ms) => new Promise((done) => setTimeout(done, ms));
-const SPECIAL = { Enter: "\uE007", Backspace: "\uE003", Escape: "\uE00C", Tab: "\uE004", ArrowLeft: "\uE012", ArrowUp: "\uE013", ArrowRight: "\uE014", ArrowDown: "\uE015" };
+const SPECIAL = { Enter: "\uE007", Backspace: "\uE003", Escape: "\uE00C", Tab: "\uE004", ArrowLeft: "\uE012", ArrowUp: "\uE013", ArrowRight: "\uE014", ArrowDown: "\uE015", Home: "\uE011" };
 
 /** The connection to a browser's Marionette: packets are LENGTH:JSON. */
 async function marionette(folder) {

@@ -2,6 +2,8 @@
 // ends with the status 1 where something isn't as it should be.
 import { mkdirSync } from "node:fs";
 import { pathToFileURL } from "node:url";
+import { full, sieve } from "./exercises.mjs";
+import { crowd, instructions, steps_back } from "./measures.mjs";
 const { open } = await import(process.env.BROWSER === "firefox" ? "./firefox.mjs" : "./browser.mjs");
 
 const [page_file, folder] = process.argv.slice(2), url = pathToFileURL(page_file).href;
@@ -73,7 +75,9 @@ async function share(page) {
   const other = await open(link);
   await shows(other, "hi\n");
   holds(true, `a link of ${link.length} characters is followed`);
-  await other.eval("page.programs.take([new File(['  li a0, 7\\n  li a7, 2\\n  ecall\\n'], 'init.s')]).then(() => page.programs.boot())");
+  await other.eval("(() => { const data = new DataTransfer(); data.items.add(new File(['  li a0, 7\\n  li a7, 2\\n  ecall\\n'], 'init.s')); document.body.dispatchEvent(new DragEvent('drop', { dataTransfer: data, bubbles: true, cancelable: true })); })()");
+  await other.until("page.app.files.some((it) => it.text?.includes('li a0, 7'))");
+  await other.click("#boot");
   await other.until("page.app.view.facts.halted && page.app.view.facts.status === 7").catch(() => {});
   holds(await other.eval("page.app.view.facts.status === 7"), "a dropped source runs");
   const record = await other.eval("page.programs.record_text()"), end = await other.eval("page.app.line.end");
@@ -118,32 +122,13 @@ async function lessons(page) {
 }
 
 async function speed(page) {
-  const source = "  lui t0, 0x8000\nagain:\n  addi t0, t0, -1\n  bne t0, x0, again\n  li a0, 0\n  li a7, 2\n  ecall\n";
-  await page.eval(`page.programs.set_files([{ name: 'init.s', text: ${JSON.stringify(source)} }]); page.programs.boot({ play: false })`);
-  await page.until("page.app.view.at === 0 && page.app.booted.files.length === 1");
-  await page.eval("page.on('bench', (it) => { window.bench = it; }); page.on('back_bench', (it) => { window.back_bench = it; }); page.ask('bench', { rounds: 10000, quantum: 1000 })");
-  await page.until("window.bench", 60000);
-  const { ms, events } = await page.eval("window.bench");
-  console.log(`   ${events} events in ${ms.toFixed(0)} ms: ${(events / ms / 1000).toFixed(1)} million a second`);
-  await page.eval("page.ask('back_bench', { times: 30 })");
-  await page.until("window.back_bench", 60000);
-  const back = await page.eval("window.back_bench");
-  console.log(`   30 steps back at ${back.at} events: ${(30000 / back.ms).toFixed(1)} a second`);
-}
-
-/** 63 processes that count and sleep in turns, played at full speed: how many frames a second the page shows meanwhile. */
-async function crowd(page) {
-  const source = "  li s1, 62\nfork:\n  li a7, 1\n  ecall\n  beq a0, x0, child\n  addi s1, s1, -1\n  bne s1, x0, fork\nparent:\n  li a7, 14\n  ecall\n  j parent\nchild:\n  li a7, 13\n  li a0, 1\n  ecall\n  lui s2, 1\ncount:\n  addi s2, s2, -1\n  bne s2, x0, count\n  j child\n";
-  await page.eval(`page.programs.set_files([{ name: 'init.s', text: ${JSON.stringify(source)} }]); page.programs.boot({ play: false })`);
-  await page.until("page.app.view.at === 0 && page.app.booted.files.length === 1");
-  await page.eval("page.ask('settings', { rounds: true, quantum: 200 }); page.ask('play')");
-  await page.until("page.app.line.length > 100000", 120000);
-  await page.eval("window.frames_seen = 0; window.longest = 0; window.last_frame = performance.now(); requestAnimationFrame(function frame(now) { window.frames_seen++; window.longest = Math.max(window.longest, now - window.last_frame); window.last_frame = now; requestAnimationFrame(frame); })");
-  const began = Date.now();
-  await page.sleep(5000);
-  const { frames, longest, stretches, processes } = await page.eval("({ frames: window.frames_seen, longest: window.longest, stretches: page.app.line.length, processes: page.app.view.processes.length })");
-  console.log(`   ${processes} processes, ${stretches} stretches: ${((frames * 1000) / (Date.now() - began)).toFixed(1)} frames a second, the longest ${longest.toFixed(0)} ms`);
-  await page.eval("page.ask('pause')");
+  const { events, ms, millions } = await instructions(page);
+  console.log(`   ${events} events in ${ms.toFixed(0)} ms: ${millions.toFixed(1)} million a second`);
+  const back = await steps_back(page);
+  console.log(`   30 steps back at ${back.at} events: ${back.steps.toFixed(1)} a second`);
+  const { processes, stretches, frames, longest } = await crowd(page);
+  console.log(`   ${processes} processes, ${stretches} stretches: ${frames.toFixed(1)} frames a second, the longest ${longest.toFixed(0)} ms`);
+  holds(processes === 64, "64 processes");
   await page.picture(`${folder}/crowd.png`);
 }
 
@@ -156,9 +141,13 @@ try {
   await time(page);
   await programs(page);
   await lessons(page);
+  const other = await open(await full(page, holds, folder));
+  await other.until("page.app.view.facts.halted && page.app.view.facts.status === -1").catch(() => {});
+  holds(await other.eval("page.app.view.facts.status === -1"), "exercise 13: who follows its link has the changed program");
+  await other.close();
+  await sieve(page, holds, folder);
   await share(page);
   await speed(page);
-  await crowd(page);
 } catch (error) {
   holds(false, error.stack);
   await page.picture(`${folder}/error.png`);

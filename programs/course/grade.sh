@@ -23,8 +23,8 @@ most=1048576
 
 # Where a program stands that was built here, or came with a release.
 path_of() {
-    if [ -d "$here/../../bin" ]; then
-        printf '%s' "$here/../../bin/$1"
+    if [ -d "$here/../../libexec" ]; then
+        printf '%s' "$here/../../libexec/$1"
     else
         printf '%s' "$here/../../crates/$1/out/$1"
     fi

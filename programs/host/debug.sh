@@ -3,10 +3,12 @@
 #
 #   programs/host/debug.sh [--frames N] [--trace N] FILE..
 #
-# Lines come from lines.sh. XV_DEBUGGER is another program than the one that stands built.
+# Lines come from lines.sh. XV_DEBUGGER is another program than the one that stands built, or came with a release.
 set -u
 root=$(dirname "$(readlink -f -- "$0")")/../..
-program=${XV_DEBUGGER:-$root/crates/xv_debugger/out/xv_debugger}
+program=$root/bin/xv_debugger
+[ -x "$program" ] || program=$root/crates/xv_debugger/out/xv_debugger
+program=${XV_DEBUGGER:-$program}
 
 # The words that are no option stay: the FILEs.
 files() {

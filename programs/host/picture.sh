@@ -8,7 +8,9 @@
 # the run. XV_WHY and XV_PICTURE are other programs than those that stand built.
 set -u
 root=$(dirname "$(readlink -f -- "$0")")/../..
-picture=${XV_PICTURE:-$root/crates/xv_picture/out/xv_picture}
+picture=$root/bin/xv_picture
+[ -x "$picture" ] || picture=$root/crates/xv_picture/out/xv_picture
+picture=${XV_PICTURE:-$picture}
 
 # Hands on the lines of a trace; all others are for who runs it.
 lines_of_trace() {

@@ -9,7 +9,9 @@
 # the report stays as it is. XV_WHY is another program than the one that stands built.
 set -u
 root=$(dirname "$(readlink -f -- "$0")")/../..
-program=${XV_WHY:-$root/crates/xv_why/out/xv_why}
+program=$root/bin/xv_why
+[ -x "$program" ] || program=$root/crates/xv_why/out/xv_why
+program=${XV_WHY:-$program}
 
 # The first of the host's tools that knows the lines of a program.
 tool=

@@ -1,0 +1,34 @@
+#!/bin/bash
+# Tries a release as a new user does, in a bare Debian 12, by hand: checks/release.sh FOLDER, where release.sh left its two
+# archives. It makes that system by debootstrap, with no compiler, no kit and no python3, and runs there as a user of no
+# rights. It follows all links of the HTML too. It needs root, debootstrap, python3 and the network, and two minutes.
+# Each thing that was tried is a line; the status is 0 if all are as they should be.
+set -u
+here=$(cd "$(dirname "$0")" && pwd) || exit 2
+folder=$(cd "${1:?a folder with the two archives}" && pwd) || exit 2
+command -v debootstrap >/dev/null || { echo "release.sh: there is no debootstrap: apt-get install debootstrap" >&2; exit 2; }
+[ "$(id -u)" = 0 ] || { echo "release.sh: only root can make a system" >&2; exit 2; }
+students=$(cd "$folder" && ls nektavoly-*.tar.gz | grep -v teacher)
+teachers=$(cd "$folder" && ls nektavoly-*-teacher.tar.gz)
+name=${students%.tar.gz}
+
+room=$(mktemp -d)
+bare=$room/bare
+leave() {
+    umount "$bare/dev/pts" "$bare/proc" 2>/dev/null
+    rm -rf --one-file-system "$room"
+}
+trap leave EXIT
+
+debootstrap --variant=minbase bookworm "$bare" >"$room/log" 2>&1 || { tail -5 "$room/log"; exit 2; }
+mount -t proc proc "$bare/proc" && mount -t devpts -o newinstance,ptmxmode=0666 devpts "$bare/dev/pts" || exit 2
+ln -sf pts/ptmx "$bare/dev/ptmx"
+chroot "$bare" useradd -m -s /bin/bash student
+cp "$folder/$students" "$folder/$teachers" "$bare/home/student"
+cp "$here/release/tour.sh" "$bare/home/student"
+chroot "$bare" su - student -c "bash tour.sh $name"
+status=$?
+
+echo "the links of the HTML:"
+python3 -B "$here/html-links.py" "$bare/home/student/$name" || status=1
+exit "$status"

@@ -1,0 +1,83 @@
+#!/bin/bash
+# What a new user of a release does, one thing after another, for release.sh: tour.sh NAME, where NAME.tar.gz and
+# NAME-teacher.tar.gz lie. A line for each; the status is 0 if all are as they should be.
+set -u
+export LC_ALL=C
+name=$1
+bad=0
+
+# Says what is so, or isn't.
+so() {
+    if [ "$1" = 0 ]; then
+        echo "    $2"
+    else
+        echo "NOT $2"
+        bad=$((bad + 1))
+    fi
+}
+
+# Runs a command, and says whether its output has a line that fits a pattern of grep -E.
+has() {
+    local words=$1 pattern=$2 told
+    shift 2
+    told=$("$@" 2>&1)
+    grep -qE -- "$pattern" <<<"$told"
+    local status=$?
+    so "$status" "$words"
+    [ "$status" = 0 ] || tail -5 <<<"$told"
+}
+
+# Types lines at a terminal of their own: the command is the first word.
+at_terminal() {
+    (sleep 1; printf '%b' "$2"; sleep 2) | timeout 20 script -qec "$1" /dev/null
+}
+
+for tool in cc gcc clang rustc rt python3 parallel; do
+    ! command -v "$tool" >/dev/null || so 1 "there is no $tool"
+done
+so 0 "there is no compiler, no kit, no python3"
+
+from=$(date +%s%N)
+tar xf "$name.tar.gz" && cd "$name" || exit 2
+told=$(./xv programs/examples/hello/init.s </dev/null)
+[ "$told" = hi ]
+so $? "from the archive to 'hi' in $((($(date +%s%N) - from) / 1000000)) ms"
+
+sha256sum --quiet -c SHA256SUMS
+so $? "all sums are as SHA256SUMS has them"
+has './xv --status names the builds proved' '^xv: a release: its programs are proved builds$' ./xv --status
+has './xv --version has the version' "^Nektavoly $(cat VERSION)\$" ./xv --version
+for program in bin/*; do
+    has "$program --version has the version, the commit and the kit" "^${program#bin/} of Nektavoly $(cat VERSION) commit [0-9a-f]{40} of [-0-9]{10} rattle-kit-.*logic" \
+        sh -c "$program --version | tr '\n' ' '"
+done
+has './xv --help' '^Usage: ./xv' ./xv --help
+
+has 'the shell at a terminal' '^1 1 6' at_terminal './xv programs/bin/*' 'echo hello | wc\nexit\n'
+has 'Ctrl-C at a terminal, and why nobody goes on' 'only process 1 can write' at_terminal './xv programs/course/hang/init.s' '\003quit\n'
+has 'the shell by a pipe' '^1 2 12' sh -c 'printf "echo hello world | wc\nexit\n" | ./xv programs/bin/init programs/bin/sh programs/bin/echo programs/bin/wc'
+has 'why a process ended' 'store to 0x.*may not be written' sh -c 'echo null | ./xv --why checks/why/null.s programs/bin/init programs/bin/sh'
+has 'a trace in words' 'fork answers 2' ./xv --explain --quantum 20 --rounds 40 programs/examples/fork/init.s
+has 'a picture' '</svg>' ./xv --picture --rounds 20 --quantum 50 programs/examples/pipeline/init.s
+has 'the debugger, forth and back' 'sleeps' sh -c 'printf "until call wait\nps\nback\nregs\n" | ./xv --debug programs/examples/fork/init.s'
+has 'GDB is answered' '^\+\$.*multiprocess' sh -c "printf '\$qSupported#37' | ./xv --gdb programs/examples/fork/init.s | tr -d '\000'"
+programs/course/grade.sh programs/course/grading/children.toml programs/course/grading/submissions/* >graded.csv 2>graded.errors
+has 'grading: right' '^anna,6,6,right,$' cat graded.csv
+has 'grading: a fault with its line' '^chris,1,6,fault,.*line 14' cat graded.csv
+has 'grading: a name that no file has' '^gero,0,6,refused' cat graded.csv
+
+for check in sessions why terminal debugger; do
+    has "checks/$check/run.sh" '(are as they should be|0 of them differ)' "checks/$check/run.sh"
+done
+(cd .. && tar xf "$name-teacher.tar.gz")
+sha256sum --quiet -c SHA256SUMS-teacher
+so $? "all sums of the teacher's archive are as SHA256SUMS-teacher has them"
+for check in sessions debugger; do
+    told=$("checks/$check/run.sh" | tail -n 1)
+    [[ $told == *"are as they should be"* ]]
+    so $? "with the teacher's: $told"
+done
+programs/course/grade.sh programs/course/exercises/3-chain.toml checks/grading/answers/3-chain/* >graded.csv 2>graded.errors
+cmp -s graded.csv checks/grading/stored/3-chain.csv
+so $? "an exercise of the course is graded as stored"
+[ "$bad" = 0 ]
