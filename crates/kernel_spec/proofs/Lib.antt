@@ -1,3 +1,4 @@
+pub mod Common
 pub mod worked
 pub mod rows
 pub mod steps

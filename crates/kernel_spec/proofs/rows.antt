@@ -15,7 +15,6 @@ pub mod RowNumbers
 pub mod Decoding
 pub mod NoRow
 pub mod Falls
-pub mod Plain
 pub mod Resized
 pub mod Pids
 pub mod CleanPages
@@ -26,5 +25,6 @@ pub mod OwnBytes
 pub mod SetBytes
 pub mod WholePages
 pub mod MayStore
+pub mod BareDescriptors
 pub mod Again
 pub mod Asleep

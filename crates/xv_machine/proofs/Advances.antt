@@ -21,7 +21,7 @@ use Rattle.xv_machine.specs.Machine.{meaning_of}
 use Rattle.xv_machine.specs.Meaning.{Meaning}
 use Rattle.xv_machine.specs.Sound.{IsHalted}
 use Rattle.xv_machine.specs.Steps.{Did, Advanced, runs_made, IsEnd}
-use Rattle.xv_machine.proofs.Runs.{current-pid, not-halted, first-lives, still-lives, run-step, run-halts}
+use Rattle.xv_machine.proofs.Runs.{current-pid, not-halted, first-lives, run-step, run-halts}
 
 abbrev Steps : Type 0
 Steps = List (runs.Event × runs.Outcome)
@@ -34,7 +34,8 @@ step-is-on : {p : ℕ} {answer : Answer} → Step_of p answer ≡ Halted → ⊥
 step-is-on e = cc
 
 -- who runs, as the machine's calls know it
-pub now-running : (k : Kernel) (h : Hart) (halted : Option ℤ) (trace : Buffer Note) (now : Meaning) (pid : ℕ) → meaning_of (record { kernel = k; hart = h; halted = halted; trace = trace }) ≡ now → now.world.turns.current ≡ Some pid
+pub now-running : (k : Kernel) (h : Hart) (halted : Option ℤ) (trace : Buffer Note) (now : Meaning) (pid : ℕ)
+    → meaning_of (record { kernel = k; hart = h; halted = halted; trace = trace }) ≡ now → now.world.turns.current ≡ Some pid
     → (turns_of k None).current ≡ Some pid
 unfolding turns_of
 now-running k h halted trace now pid is current = ap (λ (m : Meaning). m.world.turns.current) is ∙ current
@@ -50,18 +51,8 @@ module _ (k : Kernel) (h : Hart) (halted : Option ℤ) (pid : ℕ) (current : (t
     none-did : Advanced k h most made None k' h' → Did k h made k' h'
     none-did a = subst (λ (x : Kernel). Did k h made x h') (sym a.ends.1) (subst (λ (y : Hart). Did k h made a.kernel y) (sym a.ends.2) a.did)
 
-    -- all were done
-    pub none-whole : Advanced k h most made None k' h' → IsWhole k' h'
-    none-whole a = (none-did a).whole
-
-    pub none-halted : Advanced k h most made None k' h' → IsHalted (state_of k' h') (turns_of k' halted) halted
-    none-halted a = still-lives k' h' halted is-on (none-did a).first
-
     pub none-frames : Advanced k h most made None k' h' → frame_count k' ≡ frame_count k
     none-frames a = (none-did a).frames
-
-    pub none-end : Advanced k h most made None k' h' → IsEnd most made None
-    none-end a = a.ends.0
 
     pub none-run : Advanced k h most made None k' h' → IsPromised (world_of k h None) (runs_made pid made None) (world_of k' h' None)
     none-run a = subst (λ p. IsPromised (world_of k h None) (replicate made (done_by p)) (world_of k' h' None)) (sym (current-pid k pid current).1) (none-did a).run
@@ -86,10 +77,12 @@ module _ (k : Kernel) (h : Hart) (halted : Option ℤ) (pid : ℕ) (current : (t
           run-step a.kernel k' a.hart h' (pid_now a.kernel) o a.did.whole a.did.running refl a.ends.1 a.ends.2 in
           let before : IsPromised (world_of k h None) (replicate made (done_by pid)) (world_of a.kernel a.hart None) =
           subst (λ p. IsPromised (world_of k h None) (replicate made (done_by p)) (world_of a.kernel a.hart None)) (sym (current-pid k pid current).1) a.did.run in
-          promised_runs_join (world_of k h None) (world_of a.kernel a.hart None) (world_of k' h' (halted_by o)) (replicate made (done_by pid)) ((Run, outcome_of o) ∷ []) before (world_of k' h' (halted_by o), one, refl)
+          promised_runs_join (world_of k h None) (world_of a.kernel a.hart None) (world_of k' h' (halted_by o)) (replicate made (done_by pid))
+          ((Run, outcome_of o) ∷ []) before (world_of k' h' (halted_by o), one, refl)
 
 -- the same from where the machine stood
-pub now-ran : (k : Kernel) (h : Hart) (halted : Option ℤ) (trace : Buffer Note) (now : Meaning) (is : meaning_of (record { kernel = k; hart = h; halted = halted; trace = trace }) ≡ now) (list : Steps) (w : World) → halted ≡ None
+pub now-ran : (k : Kernel) (h : Hart) (halted : Option ℤ) (trace : Buffer Note) (now : Meaning)
+    (is : meaning_of (record { kernel = k; hart = h; halted = halted; trace = trace }) ≡ now) (list : Steps) (w : World) → halted ≡ None
     → IsPromised (world_of k h None) list w → IsPromised now.world list w
 now-ran k h halted trace now is list w none run =
     subst (λ (m : Meaning). IsPromised m.world list w) is (subst (λ s. IsPromised (world_of k h s) list w) (sym none) run)

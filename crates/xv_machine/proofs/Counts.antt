@@ -7,12 +7,12 @@ use Rattle.std.specs.Ordering.{nat_cmp, is_eq}
 use Rattle.std.specs.Cmp.{nat_cmp_total}
 use Rattle.std.specs.FinMap.{FinMap, empty, insert, get, len, values, entries, get-entries, len-entries, len-empty, entries-insert}
 use Rattle.std.specs.FinMap.Entries.{find, put, by_order}
+use Rattle.std.proofs.lemmas.Option.{none-some}
+use Rattle.std.proofs.lemmas.Bool.{le-ltb}
 use Rattle.xk_base.specs.Frames.{copies}
 use Rattle.xk_base.proofs.Frames.{at, copies-nil, copies-cons, length-same}
 use Rattle.sv39_core.specs.Listed.{push_some, listed, insert_some, gathered}
 use Rattle.sv39_core.proofs.Gathered.{gathered-get}
-use Rattle.sv39_core.proofs.Words.{ltb-no}
-use Rattle.kcall_core.proofs.table.States.{none-some}
 
 -- ---- one frame more
 
@@ -59,7 +59,7 @@ pub gathered-counted : (f : ℕ → Option ℕ) (n x : ℕ) → copies x (values
 unfolding gathered listed
 gathered-counted f zero x = none-counted x ∙ sym (copies-nil x)
 gathered-counted f (suc n) x =
-    let new : get (gathered f n) n ≡ None = gathered-get f n n ∙ ap (λ b. cond b (f n) None) (ltb-no n n (omega arith)) in
+    let new : get (gathered f n) n ≡ None = gathered-get f n n ∙ ap (λ b. cond b (f n) None) (le-ltb n n (omega arith)) in
     counted-step x n (gathered f n) (listed f n) (f n) new (gathered-counted f n x)
 
 -- and they are as many

@@ -2,14 +2,13 @@
 use Rattle.std.proofs.Common.{◌≡◌, ℕ, ◌+◌, ◌^◌, ◌<◌, ◌≤◌, Bool, true, false, cond, ltb, List, Option, Some, None, inl, inr, refl, sym, ap, ◌∙◌, arith}
 use Rattle.std.specs.Prelude.{is_some}
 use Rattle.std.specs.FinMap.{get, len}
-use Rattle.std.proofs.lemmas.Bool.{cases_lt}
+use Rattle.std.proofs.lemmas.Bool.{cases_lt, le-ltb, lt-ltb}
 use Rattle.xk_base.specs.Gathered.{gathered}
 use Rattle.xk_base.specs.Image.{price}
 use Rattle.sv39_core.specs.Sv39.{table_at, page_entry}
 use Rattle.sv39_core.specs.Tree.{page_at, pages_of, frame_of, uppers, lowers, page_frames}
 use Rattle.sv39_core.proofs.Gathered.{gathered-get}
 use Rattle.sv39_core.proofs.Places.{upper-place, lower-place}
-use Rattle.sv39_core.proofs.Words.{ltb-yes, ltb-no}
 use Rattle.addr_space.specs.Space as space
 use Rattle.addr_space.proofs.Prices.{same-page, length-kinds, some-of-is, upper-test, lower-test}
 use Rattle.addr_space.proofs.Trades.{space-price}
@@ -21,8 +20,8 @@ use Rattle.xv_machine.proofs.Counts.{gathered-many}
 -- where nothing stands from the bound on, the map has all
 gathered-all : (f : ℕ → Option ℕ) (n : ℕ) → ((t y : ℕ) → f t ≡ Some y → t < n) → (t : ℕ) → is_some (get (gathered f n) t) ≡ is_some (f t)
 gathered-all f n low t = ap is_some (gathered-get f n t) ∙ elim (cases_lt t n) [
-  | inl lt ↦ ap (λ b. is_some (cond b (f t) None)) (ltb-yes t n lt)
-  | inr ge ↦ ap (λ b. is_some (cond b (f t) None)) (ltb-no t n ge) ∙ by (is_some (f t)) refl ge
+  | inl lt ↦ ap (λ b. is_some (cond b (f t) None)) (lt-ltb t n lt)
+  | inr ge ↦ ap (λ b. is_some (cond b (f t) None)) (le-ltb t n ge) ∙ by (is_some (f t)) refl ge
 ]
   where
     by : (b : Bool) → is_some (f t) ≡ b → n ≤ t → false ≡ is_some (f t)

@@ -3,8 +3,9 @@ use Rattle.std.proofs.Common.{◌≡◌, ◌≤◌, ◌≢◌, ℕ, ◌^◌, ◌
 use Rattle.std.specs.Prelude.{ℤ, IsSome, is_some, option_map}
 use Rattle.std.specs.FinMap.{get, values}
 use Rattle.std.proofs.Math.ListN.{get_or-map}
-use Rattle.std.proofs.lemmas.Bool.{cases_eq}
+use Rattle.std.proofs.lemmas.Bool.{cases_eq, lt-ltb}
 use Rattle.std.proofs.lemmas.List.{length-map}
+use Rattle.std.proofs.lemmas.Option.{none-some}
 use Rattle.xk_base.specs.Frames.{copies}
 use Rattle.xk_base.specs.Image.{Image}
 use Rattle.xk_base.specs.declared.limits.TheConstants.{FRAMES_MAX}
@@ -13,7 +14,6 @@ use Rattle.sv39_core.specs.Sv39.{table_at, page_entry}
 use Rattle.sv39_core.specs.Tree.{frame_of, uppers, lowers, page_frames, owned}
 use Rattle.sv39_core.proofs.Gathered.{gathered-get}
 use Rattle.sv39_core.proofs.Places.{copies-owned}
-use Rattle.sv39_core.proofs.Words.{ltb-yes}
 use Rattle.frame_list.specs.Pool.{free_in}
 use Rattle.addr_space.specs.Space as space
 use Rattle.pipe_core.specs.Pipe.{Pipe, pipe_in}
@@ -37,10 +37,12 @@ use Rattle.kcall_core.specs.declared.kernel.Kernel.{Kernel}
 use Rattle.kcall_core.specs.declared.memories.Memory.{Memory}
 use Rattle.kcall_core.proofs.table.ByPid.{found, none}
 use Rattle.kcall_core.proofs.memory.Frames.{frames-at}
-use Rattle.kcall_core.proofs.table.States.{none-some, slot-inside}
+use Rattle.kcall_core.proofs.table.States.{slot-inside}
 use Rattle.kernel_spec.proofs.well.Sums.{sum_same}
 use Rattle.kcall_core.proofs.table.Observed.{slot-found, entry-held, live-held, ended-held, pid-missing, missing-live}
 use Rattle.kcall_core.proofs.turns.Turned.{has-slots}
+use Rattle.kcall_core.proofs.memory.Births.{no-none}
+use Rattle.kcall_core.proofs.memory.Changes.{none-held}
 use Rattle.xv_machine.specs.declared.trace.Note.{Note}
 use Rattle.xv_machine.specs.Machine.{owned_by, owned_entry, owned_at, frames_in}
 use Rattle.xv_machine.specs.Meaning.{Owned}
@@ -69,14 +71,6 @@ used x ram m =
       gathered-counted (λ v. frame_of (page_entry ram root v)) (2 ^ 26) x,
     )
 
-nothing-held : (ram : List (List ℕ)) (m : Option Memory) → held_in ram m ≡ None → m ≡ None
-nothing-held ram None e = refl
-nothing-held ram (Some m) e = absurd (cc)
-
-something-held : (ram : List (List ℕ)) (m : Option Memory) → IsSome (held_in ram m) → (n : Memory) × (m ≡ Some n)
-something-held ram None e = let no : false ≡ true = e in absurd (cc)
-something-held ram (Some n) e = (n, refl)
-
 -- the frames of a process, for what they are
 frames-fit : (ram : List (List ℕ)) (m : Memory) (l : Live) → space.IsSpace ram m.space → l.image ≡ space.image_of ram m.space → HasFrames (Some l) (Some (owned_by ram m))
 frames-fit ram m l is image = subst (λ (i : Image). FitsImage i (owned_by ram m)) (sym image) (fits-image ram m is)
@@ -87,7 +81,7 @@ module _ (k : Kernel) (h : Hart) (sound : IsSound k h) where
   held i = get_or-map (held_in k.memories.ram) k.memories.each.items i None
 
   no-memory : (i : ℕ) → get_or (each_of k.memories) i None ≡ None → get_or k.memories.each.items i None ≡ None
-  no-memory i e = nothing-held k.memories.ram (get_or k.memories.each.items i None) (sym (held i) ∙ e)
+  no-memory i e = none-held k.memories.ram (get_or k.memories.each.items i None) (sym (held i) ∙ e)
 
   -- who owns frames is in a slot, and has a memory there
   pub owner : (j : ℕ) (e : ℕ × Owned) → owned_at k j ≡ Some e → (p : Process) × (m : Memory) × (place_at k.table j ≡ Some p) × (get_or k.memories.each.items j None ≡ Some m) × (e.0 ≡ p.pid)
@@ -96,7 +90,9 @@ module _ (k : Kernel) (h : Hart) (sound : IsSound k h) where
       pid-of : (a b : ℕ × Owned) → Some a ≡ Some b → a.0 ≡ b.0
       pid-of a b same = let both : a ≡ b = cc in ap (λ (x : ℕ × Owned). x.0) both
 
-      by : (o : Option Process) (n : Option Memory) → place_at k.table j ≡ o → get_or k.memories.each.items j None ≡ n → owned_entry k.memories.ram o n ≡ Some e → (p : Process) × (m : Memory) × (place_at k.table j ≡ Some p) × (get_or k.memories.each.items j None ≡ Some m) × (e.0 ≡ p.pid)
+      by : (o : Option Process) (n : Option Memory) → place_at k.table j ≡ o → get_or k.memories.each.items j None ≡ n
+          → owned_entry k.memories.ram o n ≡ Some e → (p : Process) × (m : Memory) × (place_at k.table j ≡ Some p)
+          × (get_or k.memories.each.items j None ≡ Some m) × (e.0 ≡ p.pid)
       by None n place memory same = absurd (none-some e same)
       by (Some p) None place memory same = absurd (none-some e same)
       by (Some p) (Some m) place memory same = (p, m, place, memory, pid-of e (p.pid, owned_by k.memories.ram m) (sym same))
@@ -141,7 +137,7 @@ module _ (k : Kernel) (h : Hart) (sound : IsSound k h) where
       by : (b : Bool) → keeps_pipe k.memories.pipes.items f ≡ b → is_some (cond (ltb f FRAMES_MAX) (cond b (Some (pipe_in k.memories.ram f)) None) None) ≡ b
       by true is =
           let low : f < FRAMES_MAX = omega (arith, (sound.memories.keeps f is).inside, sound.memories.good.small) in
-          ap (λ b. is_some (cond b (Some (pipe_in k.memories.ram f)) None)) (ltb-yes f FRAMES_MAX low)
+          ap (λ b. is_some (cond b (Some (pipe_in k.memories.ram f)) None)) (lt-ltb f FRAMES_MAX low)
       by false is = neither (ltb f FRAMES_MAX)
 
   pub uses-owners : (f : ℕ) → uses (state_of k h) (frames_in k) f ≡ owners k.memories.pool k.memories.ram k.memories.each.items k.memories.pipes.items f
@@ -162,10 +158,11 @@ module _ (k : Kernel) (h : Hart) (sound : IsSound k h) where
     live-frames : status_of p ≡ None → HasFrames (live (state_of k h) p.pid) (get (by_pid (owned_at k) 64) p.pid)
     live-frames alive =
         let there : IsSome (held_in k.memories.ram (get_or k.memories.each.items i None)) = subst (λ o. IsSome o) (held i) (sound.lives i p is alive) in
-        let m = something-held k.memories.ram (get_or k.memories.each.items i None) there in
+        let m = no-none k.memories.ram (get_or k.memories.each.items i None) there in
         let l = live_of p (descriptors_at k.table i) (held_at (each_of k.memories) i) (regs_at k h i) in
         let image : l.image ≡ space.image_of k.memories.ram m.0.space = ap (λ o. (or_nothing o).image) (held i ∙ ap (held_in k.memories.ram) m.1) in
-        let entry : owned_at k i ≡ Some (p.pid, owned_by k.memories.ram m.0) = ap (λ o. owned_entry k.memories.ram o (get_or k.memories.each.items i None)) is ∙ ap (owned_entry k.memories.ram (Some p)) m.1 in
+        let entry : owned_at k i ≡ Some (p.pid, owned_by k.memories.ram m.0) =
+        ap (λ o. owned_entry k.memories.ram o (get_or k.memories.each.items i None)) is ∙ ap (owned_entry k.memories.ram (Some p)) m.1 in
         let owns : get (by_pid (owned_at k) 64) p.pid ≡ Some (owned_by k.memories.ram m.0) = found (owned_at k) 64 i p.pid (owned_by k.memories.ram m.0) (slot-inside k h sound i p is) entry others in
         subst (λ o. HasFrames o (get (by_pid (owned_at k) 64) p.pid)) (sym (live-held k h sound.table i p is alive))
         (subst (HasFrames (Some l)) (sym owns) (frames-fit k.memories.ram m.0 l (sound.memories.memories i m.0 m.1).space image))
@@ -190,7 +187,8 @@ module _ (k : Kernel) (h : Hart) (sound : IsSound k h) where
     where
       by : (o : Option ℕ) → slot_of k.table pid ≡ o → HasFrames (live (state_of k h) pid) (get (by_pid (owned_at k) 64) pid)
       by None is =
-          subst (λ o. HasFrames o (get (by_pid (owned_at k) 64) pid)) (sym (missing-live k h sound.table pid is)) (subst (HasFrames None) (sym (owned-none pid (pid-missing k h sound.table pid is))) tt)
+          subst (λ o. HasFrames o (get (by_pid (owned_at k) 64) pid)) (sym (missing-live k h sound.table pid is))
+          (subst (HasFrames None) (sym (owned-none pid (pid-missing k h sound.table pid is))) tt)
       by (Some i) is = let f = slot-found k.table pid i is in subst (λ n. HasFrames (live (state_of k h) n) (get (by_pid (owned_at k) 64) n)) f.2 (slot-owned i f.0 f.1)
 
 -- ---- a machine

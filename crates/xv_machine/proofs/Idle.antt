@@ -49,9 +49,11 @@ none-sent (suc n) old mid new some promised frames trace is sound =
     let before : old.world.state.console.to_send ≡ [] = none-waits old.world.state.console.to_send promised.0.0 in
     let empty : mid.world.state.console.to_send ≡ [] = ap (λ s. s.console.to_send) promised.0.1 ∙ ap (drop 1) before in
     let here = idle-send mid.world (subst NoReadySleeper world sound.unready) empty in
-    goes-kept (replicate (suc n) (Send, Sent None)) (replicate (suc n) (Note.Sent None)) old mid new (mid.world, promised, again n mid.world Send (Sent None) here) frames trace (notes-again (suc n) Send (Sent None)) is sound
+    goes-kept (replicate (suc n) (Send, Sent None)) (replicate (suc n) (Note.Sent None)) old mid new
+    (mid.world, promised, again n mid.world Send (Sent None) here) frames trace (notes-again (suc n) Send (Sent None)) is sound
 
-pub none-left : (most : ℕ) (byte : Option ℕ) (old mid new : Meaning) → 0 < most → is_some byte ≡ false → Promised old.world Send (Sent byte) mid.world → mid.frames.count ≡ old.frames.count → SameTrace old mid
+pub none-left : (most : ℕ) (byte : Option ℕ) (old mid new : Meaning) → 0 < most → is_some byte ≡ false
+    → Promised old.world Send (Sent byte) mid.world → mid.frames.count ≡ old.frames.count → SameTrace old mid
     → new ≡ record mid { notes = keep_last mid.room (mid.notes ++ replicate most (Note.Sent None)) } → IsSoundMachine new → Goes old (sends most None) new
 none-left most (Some b) old mid new some none promised frames trace is sound = let no : ⊥ = cc in absurd no
 none-left most None old mid new some none promised frames trace is sound = none-sent most old mid new some promised frames trace is sound
@@ -59,7 +61,8 @@ none-left most None old mid new some none promised frames trace is sound = none-
 pub byte-left : (most : ℕ) (byte : Option ℕ) (old mid new : Meaning) → is_some byte ≡ true → Promised old.world Send (Sent byte) mid.world → mid.frames.count ≡ old.frames.count → SameTrace old mid
     → new ≡ record mid { notes = keep_last mid.room (mid.notes ++ Note.Sent byte ∷ []) } → IsSoundMachine new → Goes old (sends most byte) new
 byte-left most None old mid new some promised frames trace is sound = let no : ⊥ = cc in absurd no
-byte-left most (Some b) old mid new some promised frames trace is sound = goes-kept ((Send, Sent (Some b)) ∷ []) (Note.Sent (Some b) ∷ []) old mid new (mid.world, promised, refl) frames trace refl is sound
+byte-left most (Some b) old mid new some promised frames trace is sound =
+    goes-kept ((Send, Sent (Some b)) ∷ []) (Note.Sent (Some b) ∷ []) old mid new (mid.world, promised, refl) frames trace refl is sound
 
 -- ---- the Sends of a round
 
@@ -68,7 +71,8 @@ out-again zero = refl
 out-again (suc n) = out-again n
 
 -- no byte waits: all that were left are sent, and nothing has to be written
-pub rest-played : (n sent left : ℕ) (byte : Option ℕ) (old mid new : Meaning) (h k : Sink) → sent + left ≡ n → is_some byte ≡ false → Played (replicate sent Send) old mid h k → Goes mid (sends left byte) new
+pub rest-played : (n sent left : ℕ) (byte : Option ℕ) (old mid new : Meaning) (h k : Sink) → sent + left ≡ n → is_some byte ≡ false
+    → Played (replicate sent Send) old mid h k → Goes mid (sends left byte) new
     → Played (replicate n Send) old new h k
 rest-played n sent left (Some b) old mid new h k all none p goes = let no : ⊥ = cc in absurd no
 rest-played n sent left None old mid new h k all none p goes =

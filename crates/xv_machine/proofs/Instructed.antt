@@ -1,7 +1,7 @@
 -- The instructions of the process that runs, without the step behind them.
-use Rattle.std.proofs.Common.{◌≡◌, ◌≢◌, ℕ, ◌<◌, ◌≤◌, Bool, true, false, List, replicate, ◌++◌, Option, None, Some, inl, inr, refl, sym, ap, ◌∙◌, subst, arith}
+use Rattle.std.proofs.Common.{◌≡◌, ◌≢◌, ℕ, ◌<◌, ◌≤◌, Bool, true, false, replicate, ◌++◌, Option, None, Some, inl, inr, refl, sym, ap, ◌∙◌, subst, arith}
 use Rattle.std.specs.Prelude.{ℤ, IsSome, is_some}
-use Rattle.xk_base.specs.declared.access.Cause.{Cause}
+use Rattle.std.proofs.lemmas.Option.{same_Some}
 use Rattle.rv64i_core.specs.Step.{Step, Next, Ecall, Fault, stop_of}
 use Rattle.rv64i_core.specs.declared.execution.Stop.{Stop}
 use Rattle.rv64i_core.specs.declared.execution.Stop.TheVariants as stops
@@ -18,23 +18,24 @@ use Rattle.kernel_spec.specs.steps.Step.{own, unless_killed, going_on, after_ins
 use Rattle.kernel_spec.specs.runs.Run.{World, Run, Step_of, Halted, Happens, RunHappens}
 use Rattle.kernel_spec.specs.waking.Wakes.{IsPromised}
 use Rattle.kernel_spec.proofs.rows.Outcomes.{Comes, perform_comes}
-use Rattle.kcall_core.specs.Kernel.{frame_count, state_of, IsRunning, pid_now, live_now}
+use Rattle.kcall_core.specs.Kernel.{state_of, IsRunning, live_now}
 use Rattle.kcall_core.specs.Machine.{turns_of, world_of}
 use Rattle.kcall_core.specs.Whole.{IsWhole}
 use Rattle.kcall_core.specs.Makes.{MakesInARow, IsLastMade, view_now, stop_now}
 use Rattle.kcall_core.specs.declared.kernel.Kernel.{Kernel}
 use Rattle.kcall_core.proofs.runs.Promises.{view-is}
+use Rattle.kcall_core.proofs.making.TouchedSteps.{fault-no-next}
+use Rattle.kcall_core.proofs.making.Series.{ecall-next}
 use Rattle.xv_machine.specs.declared.trace.Note.{Note}
 use Rattle.xv_machine.specs.Drives.{Goes, done_by}
-use Rattle.xv_machine.specs.Instructions.{NextIsOther, Instructed}
+use Rattle.xv_machine.specs.Instructions.{Instructed}
 use Rattle.xv_machine.specs.Machine.{SameTrace, meaning_of}
 use Rattle.xv_machine.specs.Meaning.{Meaning}
 use Rattle.xv_machine.specs.Sound.{IsHalted, IsSoundMachine}
-use Rattle.xv_machine.specs.Steps.{IsBusy, Did}
-use Rattle.xv_machine.proofs.Advances.{is-on, first-there, now-ran}
-use Rattle.xv_machine.proofs.Joins.{goes-none}
-use Rattle.xv_machine.proofs.Repeated.{did-none, row-did, row-stop, row-undone}
-use Rattle.xv_machine.proofs.Runs.{current-pid, still-lives, count-is}
+use Rattle.xv_machine.specs.Steps.{IsBusy}
+use Rattle.xv_machine.proofs.Advances.{is-on, now-ran}
+use Rattle.xv_machine.proofs.Repeated.{did-none, row-did, row-stop}
+use Rattle.xv_machine.proofs.Runs.{current-pid, still-lives}
 use Rattle.xv_machine.proofs.Sent.{goes-kept, notes-again}
 
 -- ---- which step is a done instruction
@@ -89,7 +90,8 @@ module _ (k : Kernel) (h : Hart) where
 pub busy-instructed : (k : Kernel) (h : Hart) (most : ℕ) → IsWhole k h → IsRunning k → IsSome (live (state_of k h) 1) → IsBusy (live_now k h) → Instructed k h most 0 k h
 busy-instructed k h most whole runs first busy = record { did = did-none k h whole runs first; within = omega arith; stops = λ few. busy-stops k h busy }
 
-pub row-instructed : (k k' : Kernel) (h h' : Hart) (most made : ℕ) (stop : Stop) → MakesInARow most made stop k h k' h' → IsWhole k h → IsRunning k → IsSome (live (state_of k h) 1) → Instructed k h most made k' h'
+pub row-instructed : (k k' : Kernel) (h h' : Hart) (most made : ℕ) (stop : Stop) → MakesInARow most made stop k h k' h' → IsWhole k h → IsRunning k
+    → IsSome (live (state_of k h) 1) → Instructed k h most made k' h'
 row-instructed k k' h h' most made stop row whole runs first = record {
   did = row-did k k' h h' most made stop row whole runs first;
   within = within stop row;
@@ -107,16 +109,10 @@ row-instructed k k' h h' most made stop row whole runs first = record {
     next-all : (row : MakesInARow most made stops.Next k h k' h') → made < most → ⊥
     next-all row few = omega (arith, row.last.0, few)
 
-    ecall-other : stops.Ecall ≢ stops.Next
-    ecall-other e = cc
-
-    fault-other : (cause : Cause) → stops.Fault cause ≢ stops.Next
-    fault-other cause e = cc
-
     stops-by : (s : Stop) → MakesInARow most made s k h k' h' → made < most → (own (view_now k' h')).answer ≢ Stepped
     stops-by stops.Next row few = absurd (next-all row few)
-    stops-by stops.Ecall row few = undone-stops k' h' stops.Ecall (row-stop k k' h h' most made stops.Ecall row ecall-other) ecall-other
-    stops-by (stops.Fault cause) row few = undone-stops k' h' (stops.Fault cause) (row-stop k k' h h' most made (stops.Fault cause) row (fault-other cause)) (fault-other cause)
+    stops-by stops.Ecall row few = undone-stops k' h' stops.Ecall (row-stop k k' h h' most made stops.Ecall row ecall-next) ecall-next
+    stops-by (stops.Fault cause) row few = undone-stops k' h' (stops.Fault cause) (row-stop k k' h h' most made (stops.Fault cause) row (fault-no-next cause)) (fault-no-next cause)
 
 -- ---- as the machine sees them
 
@@ -135,29 +131,25 @@ other-next w other p t h = by w.turns.halted w.turns.current refl h
     by None (Some q) is h = other q h.before is h.was (answer-is q (own h.before).answer h.answer)
     by None None is h = h
 
--- nobody runs
-pub nobody-next : (m : Meaning) → m.world.turns.current ≡ None → NextIsOther m
-nobody-next m nobody = other-next m.world (λ p v is. let no : None ≡ Some p = sym nobody ∙ is in let bad : ⊥ = cc in absurd bad)
-
-some-same : {X : Type 0} (a b : X) → Some a ≡ Some b → a ≡ b
-some-same a b e = cc
-
 -- somebody does
-runs-next : (k : Kernel) (h : Hart) (halted : Option ℤ) → IsWhole k h → IsRunning k → (own (view_now k h)).answer ≢ Stepped → (p : ℕ) (t : World) → ¬ Happens (world_of k h halted) Run (Step_of p Stepped) t
+runs-next : (k : Kernel) (h : Hart) (halted : Option ℤ) → IsWhole k h → IsRunning k → (own (view_now k h)).answer ≢ Stepped → (p : ℕ) (t : World)
+    → ¬ Happens (world_of k h halted) Run (Step_of p Stepped) t
 unfolding turns_of
 runs-next k h halted whole runs stops = other-next (world_of k h halted) (λ p v is sees. λ e.
     let now = current-pid k p is in
-    let same : view_now k h ≡ v = some-same (view_now k h) v (sym (view-is k h whole.sound runs) ∙ ap (view (state_of k h)) (sym now.1) ∙ sees) in
+    let same : view_now k h ≡ v = same_Some (view_now k h) v (sym (view-is k h whole.sound runs) ∙ ap (view (state_of k h)) (sym now.1) ∙ sees) in
     stops (ap (λ (u : View). (own u).answer) same ∙ e))
 
-module _ (k : Kernel) (h : Hart) (halted : Option ℤ) (pid : ℕ) (current : (turns_of k None).current ≡ Some pid) (end : IsHalted (state_of k h) (turns_of k halted) halted) (most made : ℕ) (k' : Kernel) (h' : Hart) (is : Instructed k h most made k' h') where
+module _ (k : Kernel) (h : Hart) (halted : Option ℤ) (pid : ℕ) (current : (turns_of k None).current ≡ Some pid)
+    (end : IsHalted (state_of k h) (turns_of k halted) halted) (most made : ℕ) (k' : Kernel) (h' : Hart) (is : Instructed k h most made k' h') where
   pub did-halted : IsHalted (state_of k' h') (turns_of k' halted) halted
   did-halted = still-lives k' h' halted (is-on k h halted pid current end) is.did.first
 
   pub did-next : made < most → (p : ℕ) (t : World) → ¬ Happens (world_of k' h' halted) Run (Step_of p Stepped) t
   did-next few = runs-next k' h' halted is.did.whole is.did.running (is.stops few)
 
-  pub did-run : (trace : Buffer Note) (now : Meaning) → meaning_of (record { kernel = k; hart = h; halted = halted; trace = trace }) ≡ now → IsPromised now.world (replicate made (done_by pid)) (world_of k' h' halted)
+  pub did-run : (trace : Buffer Note) (now : Meaning) → meaning_of (record { kernel = k; hart = h; halted = halted; trace = trace }) ≡ now
+      → IsPromised now.world (replicate made (done_by pid)) (world_of k' h' halted)
   did-run trace now same =
       let on = is-on k h halted pid current end in
       let run : IsPromised (world_of k h None) (replicate made (done_by pid)) (world_of k' h' None) =
@@ -166,12 +158,9 @@ module _ (k : Kernel) (h : Hart) (halted : Option ℤ) (pid : ℕ) (current : (t
       (subst (λ (s : Option ℤ). IsPromised (world_of k h None) (replicate made (done_by pid)) (world_of k' h' s)) (sym on) run)
 
 -- with a note of each
-pub instructions-go : (made p : ℕ) (old mid new : Meaning) → old.world.turns.current ≡ Some p → IsPromised old.world (replicate made (done_by p)) mid.world → mid.frames.count ≡ old.frames.count → SameTrace old mid
+pub instructions-go : (made p : ℕ) (old mid new : Meaning) → old.world.turns.current ≡ Some p
+    → IsPromised old.world (replicate made (done_by p)) mid.world → mid.frames.count ≡ old.frames.count → SameTrace old mid
     → new ≡ record mid { notes = keep_last mid.room (mid.notes ++ replicate made (Note.Stepped p)) } → IsSoundMachine new → Goes old (replicate made (done_by (or_zero old.world.turns.current))) new
 instructions-go made p old mid new current run frames trace is sound =
     subst (λ o. Goes old (replicate made (done_by (or_zero o))) new) (sym current)
     (goes-kept (replicate made (done_by p)) (replicate made (Note.Stepped p)) old mid new run frames trace (notes-again made Run (Step_of p Stepped)) is sound)
-
--- the next Run of a machine with other notes is the same
-pub next-kept : (mid new : Meaning) (notes : List Note) → new ≡ record mid { notes = notes } → NextIsOther mid → NextIsOther new
-next-kept mid new notes is other = subst NextIsOther (sym is) other

@@ -1,22 +1,23 @@
 -- Stretches of a drive, one behind another.
-use Rattle.std.proofs.Common.{append-nil, ◌≡◌, ◌≢◌, ◌∙◌, ℕ, ◌+◌, ◌-◌, ◌<◌, subst, refl, sym, ap, ap₂, arith, List, [], ◌∷◌, ◌++◌, append_assoc, replicate, Option, None, Some, Result, Ok, Err, OnOk, OnErr}
+use Rattle.std.proofs.Common.{append-nil, ◌≡◌, ◌≢◌, ◌∙◌, ℕ, ◌+◌, ◌-◌, ◌<◌, subst, refl, sym, ap, ap₂, arith}
+use Rattle.std.proofs.Common.{List, [], ◌∷◌, ◌++◌, append_assoc, replicate, Option, None, Some, Result, Ok, Err, OnOk, OnErr}
 use Rattle.std.proofs.lemmas.List.{map-append, replicate-append-replicate, replicate_more}
 use Rattle.std.proofs.lemmas.Grind.{flat_map-append}
 use Rattle.std.proofs.KnownBytes.{Appends-nil, Appends-trans}
 use Rattle.std.specs.Io.KnownBytes.{Appends}
 use Rattle.circular_buffer.specs.Buffer.{keep_last}
-use Rattle.kernel_spec.specs.runs.Run.{Event, Run, Tick, Outcome, bytes_out, out}
+use Rattle.kernel_spec.specs.runs.Run.{Event, Tick, Outcome, bytes_out, out}
 use Rattle.kernel_spec.specs.runs.Rounds.{events}
 use Rattle.kernel_spec.specs.waking.Wakes.{Promised}
 use Rattle.kernel_spec.proofs.runs.Boot.{promised_runs_join}
-use Rattle.xv_machine.specs.Devices.{Given, Sink, Calls, took, failed}
+use Rattle.xv_machine.specs.Devices.{Given, Sink, Calls, failed}
 use Rattle.xv_machine.specs.Drives.{Goes, Wrote, call_of, calls_of}
 use Rattle.xv_machine.specs.Meaning.{Meaning}
 use Rattle.xv_machine.specs.Notes.{note, notes_of}
 use Rattle.xv_machine.specs.Sound.{IsSoundMachine}
 use Rattle.xv_machine.specs.Stretches.{Silent, Played, BrokeOff, Plays}
 use Rattle.xv_machine.proofs.Kept.{keep-all, keep-more}
-use Rattle.xv_machine.proofs.Shown.{run-shows, tick-shows}
+use Rattle.xv_machine.proofs.Shown.{tick-shows}
 
 abbrev Steps : Type 0
 Steps = List (Event × Outcome)
@@ -44,11 +45,6 @@ calls-nil (Some calls) = ap Some (sym (append-nil calls))
 pub calls-trans : (a b c : Option (List Given)) (xs ys : List Given) → Calls a b xs → Calls b c ys → Calls a c (xs ++ ys)
 calls-trans None b c xs ys p q = tt
 calls-trans (Some calls) b c xs ys p q = subst (λ z. Calls z c ys) p q ∙ ap Some (append_assoc calls xs ys)
-
--- bytes are written by one call, where there are any
-pub one-call : (bytes : List ℕ) → bytes ≢ [] → call_of bytes ≡ took bytes ∷ []
-one-call [] some = absurd (some refl)
-one-call (b ∷ bytes) some = refl
 
 pub wrote-nil : (h : Sink) → Wrote h h []
 wrote-nil h = record { bytes = Appends-nil h.held; calls = calls-nil h.calls }
@@ -82,7 +78,8 @@ wrote-silent h list e = record {
 pub goes-none : (m : Meaning) → IsSoundMachine m → Goes m [] m
 goes-none m sound = record { run = refl; notes = sym (keep-all m.room m.notes sound.kept); room = refl; frames = refl; sound = sound }
 
-pub goes-one : (e : Event) (o : Outcome) (old new : Meaning) → Promised old.world e o new.world → new.notes ≡ keep_last old.room (old.notes ++ note e o ∷ []) → new.room ≡ old.room → new.frames.count ≡ old.frames.count → IsSoundMachine new
+pub goes-one : (e : Event) (o : Outcome) (old new : Meaning) → Promised old.world e o new.world
+    → new.notes ≡ keep_last old.room (old.notes ++ note e o ∷ []) → new.room ≡ old.room → new.frames.count ≡ old.frames.count → IsSoundMachine new
     → Goes old ((e, o) ∷ []) new
 goes-one e o old new promised notes room frames sound = record { run = (new.world, promised, refl); notes = notes; room = room; frames = frames; sound = sound }
 
@@ -101,15 +98,13 @@ goes-join xs ys old mid new p q = record {
 pub one-silent : (e : Event) (o : Outcome) (old new : Meaning) → Goes old ((e, o) ∷ []) new → bytes_out o ≡ [] → Silent (e ∷ []) old new
 one-silent e o old new goes none = record { list = (e, o) ∷ []; goes = goes; those = refl; silent = ap (λ bs. bs ++ []) none }
 
-pub run-silent : (o : Outcome) (old new : Meaning) → Promised old.world Run o new.world → Goes old ((Run, o) ∷ []) new → Silent (Run ∷ []) old new
-run-silent o old new promised goes = one-silent Run o old new goes (run-shows old.world new.world o promised.0)
-
 pub tick-silent : (o : Outcome) (old new : Meaning) → Promised old.world Tick o new.world → Goes old ((Tick, o) ∷ []) new → Silent (Tick ∷ []) old new
 tick-silent o old new promised goes = one-silent Tick o old new goes (tick-shows old.world new.world o promised.0)
 
 -- an event whose bytes were written, or couldn't be
 pub event-plays : {E : Type 0} (r : Result (Unit {0}) E) (e : Event) (o : Outcome) (old new : Meaning) (h k : Sink) (bytes : List ℕ)
-    → Goes old ((e, o) ∷ []) new → bytes ≡ bytes_out o → OnOk r (Appends h.held k.held bytes) → OnOk r (Calls h.calls k.calls (call_of bytes)) → OnErr r (Calls h.calls k.calls (failed bytes ∷ [])) → OnErr r (bytes ≢ []) → Plays r (e ∷ []) old new h k
+    → Goes old ((e, o) ∷ []) new → bytes ≡ bytes_out o → OnOk r (Appends h.held k.held bytes) → OnOk r (Calls h.calls k.calls (call_of bytes))
+    → OnErr r (Calls h.calls k.calls (failed bytes ∷ [])) → OnErr r (bytes ≢ []) → Plays r (e ∷ []) old new h k
 event-plays (Ok x) e o old new h k bytes goes is written called broken some = record {
   list = (e, o) ∷ [];
   goes = goes;
@@ -130,9 +125,6 @@ event-plays (Err x) e o old new h k bytes goes is written called broken some = r
 }
 
 -- ---- one behind another
-
-pub none-silent : (m : Meaning) → IsSoundMachine m → Silent [] m m
-none-silent m sound = record { list = []; goes = goes-none m sound; those = refl; silent = refl }
 
 pub none-played : (m : Meaning) (h : Sink) → IsSoundMachine m → Played [] m m h h
 none-played m h sound = record { list = []; goes = goes-none m sound; those = refl; written = wrote-nil h }
@@ -192,9 +184,6 @@ later-plays (Ok x) xs ys s t u h k m p q = played-join xs ys s t u h k m p q
 later-plays (Err x) xs ys s t u h k m p q = broke-later xs ys s t u h k m p q
 
 -- ---- the same event again and again
-
-pub silent-more : (e : Event) (n : ℕ) (s t u : Meaning) → Silent (replicate n e) s t → Silent (e ∷ []) t u → Silent (replicate (n + 1) e) s u
-silent-more e n s t u p q = subst (λ (z : List Event). Silent z s u) (replicate_more n e) (silent-join (replicate n e) (e ∷ []) s t u p q)
 
 pub played-more : (e : Event) (n : ℕ) (s t u : Meaning) (h k m : Sink) → Played (replicate n e) s t h k → Played (e ∷ []) t u k m
     → Played (replicate (n + 1) e) s u h m

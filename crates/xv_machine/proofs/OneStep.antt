@@ -1,7 +1,7 @@
 -- A step of the process that runs: what it comes to, and what it answers.
 use Rattle.std.proofs.Common.{◌≡◌, ℕ, true, Option, Some, None, refl, sym, ap, ◌∙◌, subst}
-use Rattle.std.specs.Prelude.{ℤ, IsSome, is_some, option_map}
-use Rattle.xk_base.specs.declared.access.Cause.{Cause}
+use Rattle.std.specs.Prelude.{ℤ, IsSome, option_map}
+use Rattle.std.proofs.lemmas.Option.{none-some, same_Some}
 use Rattle.rv64i_core.specs.Registers.{reg}
 use Rattle.rv64i_core.specs.Step.{stop_of}
 use Rattle.rv64i_core.specs.declared.execution.Stop.{Stop}
@@ -20,18 +20,11 @@ use Rattle.kcall_core.specs.Kernel.{state_of, IsRunning, pid_now, live_now}
 use Rattle.kcall_core.specs.Whole.{IsWhole}
 use Rattle.kcall_core.specs.Makes.{Makes, Stays, view_now, stop_now, answer_of}
 use Rattle.kcall_core.specs.declared.kernel.Kernel.{Kernel}
-use Rattle.kernel_spec.proofs.steps.Alone.{end}
+use Rattle.kernel_spec.proofs.steps.AloneLawsHold.{end}
 use Rattle.kernel_spec.proofs.rows.Pids.{own_sound}
-use Rattle.kcall_core.proofs.making.Staying.{stays-view, makes-from}
+use Rattle.kcall_core.proofs.making.Staying.{stays-view}
 use Rattle.kcall_core.proofs.making.Undone.{next-now}
 use Rattle.kcall_core.specs.declared.call_end.CallEnd.{CallEnd}
-use Rattle.kcall_core.proofs.table.States.{none-some}
-
-pub next-ecall : stops.Next ≡ stops.Ecall → ⊥
-next-ecall e = cc
-
-pub fault-next : (cause : Cause) → stops.Fault cause ≡ stops.Next → ⊥
-fault-next cause e = cc
 
 -- ---- what a step comes to
 
@@ -56,15 +49,9 @@ module _ (k : Kernel) (h : Hart) where
   pub call-there : (number : ℤ) → option_map (λ (c : Call). c.number) (live_now k h).call ≡ Some number → (c : Call) × ((live_now k h).call ≡ Some c) × (c.number ≡ number)
   call-there number told = by (live_now k h).call refl told
     where
-      same : (a b : ℤ) → Some a ≡ Some b → a ≡ b
-      same a b e = cc
-
       by : (o : Option Call) → (live_now k h).call ≡ o → option_map (λ (c : Call). c.number) o ≡ Some number → (c : Call) × ((live_now k h).call ≡ Some c) × (c.number ≡ number)
       by None is e = absurd (none-some number e)
-      by (Some c) is e = (c, is, same c.number number e)
-
-  pub call-is : (number : ℤ) → option_map (λ (c : Call). c.number) (live_now k h).call ≡ Some number → IsSome (live_now k h).call
-  call-is number told = ap is_some (call-there number told).1
+      by (Some c) is e = (c, is, same_Some c.number number e)
 
   pub call-missing : option_map (λ (c : Call). c.number) (live_now k h).call ≡ None → (live_now k h).call ≡ None
   call-missing told = by (live_now k h).call told
@@ -90,12 +77,6 @@ module _ (k k' : Kernel) (h h' : Hart) where
 -- its instruction isn't done, which leaves the kernel as it was: it ends so behind, too
 pub stop-behind : (k mid : Kernel) (h hart : Hart) (stop : Stop) → IsWhole k h → IsRunning k → Stays k h mid hart → stop ≡ stop_now k h → stop ≡ stop_now mid hart
 stop-behind k mid h hart stop whole runs stays is = is ∙ ap (λ (v : View). stop_of (instruction_now v)) (sym (stays-view k mid h hart whole.sound runs stays))
-
--- and what comes of it is what the step comes to
-pub makes-call : (k mid k' : Kernel) (h hart h' : Hart) → IsWhole k h → IsRunning k → Stays k h mid hart → Makes mid hart (own (view_now mid hart)) k' h' → Makes k h (own (view_now k h)) k' h'
-makes-call k mid k' h hart h' whole runs stays made =
-    makes-from k mid h hart whole.sound runs stays (own (view_now k h)) k' h'
-    (subst (λ (v : View). Makes mid hart (own v) k' h') (stays-view k mid h hart whole.sound runs stays) made)
 
 -- a call that was in progress goes on
 pub resume-answer : (k : Kernel) (h : Hart) (pid : ℕ) (number : ℤ) (end : CallEnd) (outcome : Outcome) → Some number ≡ option_map (λ (c : Call). c.number) (live_now k h).call

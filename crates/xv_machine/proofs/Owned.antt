@@ -9,27 +9,18 @@ use Rattle.kernel_spec.specs.views.ByPid.{by_pid, put}
 use Rattle.kernel_spec.specs.views.WellFormed.{sum_below}
 use Rattle.kcall_core.specs.Memories.{all_joined}
 use Rattle.kcall_core.proofs.table.ByPid.{none}
-use Rattle.kernel_spec.proofs.steps.Maps.{get_same, get_other}
+use Rattle.kcall_core.proofs.files.OpenRoom.{sum-first}
+use Rattle.kernel_spec.proofs.steps.MapsAfterChange.{get_same, get_other}
 use Rattle.kernel_spec.proofs.well.Sums.{sum_change}
+use Rattle.kernel_spec.proofs.Common.{sum_below-zero}
 
 -- ---- sums
-
-sum-zeros : (n : ℕ) (f : ℕ → ℕ) → ((k : ℕ) → f k ≡ 0) → sum_below n f ≡ 0
-unfolding sum_below
-sum-zeros zero f h = refl
-sum-zeros (suc n) f h = omega (arith, sum-zeros n f h, h n)
-
--- the first term apart
-sum-front : (n : ℕ) (f : ℕ → ℕ) → sum_below (suc n) f ≡ f 0 + sum_below n (λ k. f (suc k))
-unfolding sum_below
-sum-front zero f = omega arith
-sum-front (suc n) f = omega (arith, sum-front n f)
 
 -- how often a frame stands in lists that are all_joined
 pub joined-sum : (x : ℕ) (lists : List (List ℕ)) → copies x (all_joined lists) ≡ sum_below (length lists) (λ k. copies x (get_or lists k []))
 unfolding all_joined sum_below
 joined-sum x [] = copies-nil x
-joined-sum x (xs ∷ rest) = omega (arith, copies-append x xs (all_joined rest), joined-sum x rest, sum-front (length rest) (λ k. copies x (get_or (xs ∷ rest) k [])))
+joined-sum x (xs ∷ rest) = omega (arith, copies-append x xs (all_joined rest), joined-sum x rest, sum-first (length rest) (λ k. copies x (get_or (xs ∷ rest) k [])))
 
 -- ---- by slot, and by pid
 
@@ -55,5 +46,5 @@ module _ {X : Type 0} (value : Option X → ℕ) (nothing : value None ≡ 0) wh
   pub by_pid-sum : (g : ℕ → Option (ℕ × X)) (n next : ℕ) → ((j : ℕ) (e : ℕ × X) → g j ≡ Some e → e.0 < next) → ((i j : ℕ) (e f : ℕ × X) → g i ≡ Some e → g j ≡ Some f → i ≢ j → e.0 ≢ f.0)
       → sum_below next (λ p. value (get (by_pid g n) p)) ≡ sum_below n (λ j. value (option_map (λ (e : ℕ × X). e.1) (g j)))
   unfolding by_pid sum_below
-  by_pid-sum g zero next below apart = sum-zeros next (λ p. value (get (by_pid g 0) p)) (λ p. ap value (get-empty nat_cmp p) ∙ nothing)
+  by_pid-sum g zero next below apart = sum_below-zero next (λ p. value (get (by_pid g 0) p)) (λ p low. ap value (get-empty nat_cmp p) ∙ nothing)
   by_pid-sum g (suc n) next below apart = slot-sum g n next below apart (by_pid-sum g n next below apart) (g n) refl

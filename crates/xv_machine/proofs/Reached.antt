@@ -57,9 +57,12 @@ steps_are_own frames trace programs list m n p o reached his event =
 
 pub two_machines : TwoMachines
 two_machines frames trace frames_too trace_too programs programs_too list list_too es fs a b c d p one other goes goes_too lives same =
-    let first_cut = runs_are_cut p a.world c.world es (promised_is_run a.world c.world es goes.run) lives (pids_are_given frames trace programs list a.world p (reached_is_run frames trace programs list a one).0 lives) in
+    let first_cut = runs_are_cut p a.world c.world es (promised_is_run a.world c.world es goes.run) lives
+    (pids_are_given frames trace programs list a.world p (reached_is_run frames trace programs list a one).0 lives) in
     let lives_too : IsSome (view b.world.state p) = subst (λ (o : Option View). IsSome o) same lives in
-    let other_cut = runs_are_cut p b.world d.world fs (promised_is_run b.world d.world fs goes_too.run) lives_too (pids_are_given frames_too trace_too programs_too list_too b.world p (reached_is_run frames_too trace_too programs_too list_too b other).0 lives_too) in (
+    let other_cut = runs_are_cut p b.world d.world fs (promised_is_run b.world d.world fs goes_too.run) lives_too
+    (pids_are_given frames_too trace_too programs_too list_too b.world p
+    (reached_is_run frames_too trace_too programs_too list_too b other).0 lives_too) in (
       (first_cut.0, (first_cut.1, first_cut.2)),
       (other_cut.0, (other_cut.1, other_cut.2)),
       λ ms ns cut cut_too shared. two_worlds p a.world b.world ms ns lives same (es, c.world, cut.0) (fs, d.world, cut_too.0) shared,
@@ -82,7 +85,8 @@ no_byte_is_shown frames trace programs list m p page i byte (booted, is, count, 
 -- ---- nobody waits for nothing, and nothing is lost
 
 pub turns_come : TurnsCome
-turns_come frames trace programs es fs m n p (booted, is, count, sound, empty, goes) more may apart none = turn_comes frames trace programs booted.world m.world n.world es fs p is goes.run more.run may apart none
+turns_come frames trace programs es fs m n p (booted, is, count, sound, empty, goes) more may apart none =
+    turn_comes frames trace programs booted.world m.world n.world es fs p is goes.run more.run may apart none
 
 pub reached_is_sound : ReachedIsSound
 reached_is_sound frames trace programs list m (booted, is, count, sound, empty, goes) = (goes.sound, goes.frames ∙ count)

@@ -1,8 +1,9 @@
 -- Steps of the process that runs, one after another.
-use Rattle.std.proofs.Common.{◌≡◌, ◌≢◌, inl, inr, ℕ, zero, suc, arith, ◌+◌, ◌<◌, true, false, replicate, List, ◌∷◌, [], Option, Some, None, refl, sym, ap, ◌∙◌, subst}
-use Rattle.std.specs.Prelude.{ℤ, IsSome, is_some, option_map}
+use Rattle.std.proofs.Common.{◌≡◌, ◌≢◌, inl, inr, ℕ, zero, suc, arith, ◌+◌, ◌<◌, false, replicate, List, ◌∷◌, [], Option, Some, None, refl, sym, ap, ◌∙◌, subst}
+use Rattle.std.specs.Prelude.{IsSome, is_some, option_map}
 use Rattle.std.proofs.lemmas.List.{replicate_more}
-use Rattle.xk_base.specs.declared.access.Cause.{Cause}
+use Rattle.std.proofs.lemmas.Bool.{true≢false}
+use Rattle.std.proofs.lemmas.Option.{same_Some}
 use Rattle.rv64i_core.specs.Registers.{Registers}
 use Rattle.rv64i_core.specs.Memory.{Store}
 use Rattle.rv64i_core.specs.declared.execution.Stop.{Stop}
@@ -11,8 +12,8 @@ use Rattle.hart_core.specs.declared.hart.Hart.{Hart}
 use Rattle.proc_table.specs.declared.process.Call.{Call}
 use Rattle.kernel_spec.specs.views.Processes.{Live}
 use Rattle.kernel_spec.specs.views.State.{live}
-use Rattle.kernel_spec.specs.views.View.{View, view, view_of}
-use Rattle.kernel_spec.specs.steps.Own.{Own, Stepped, Exited, goes_on}
+use Rattle.kernel_spec.specs.views.View.{view, view_of}
+use Rattle.kernel_spec.specs.steps.Own.{Own, Stepped, goes_on}
 use Rattle.kernel_spec.specs.steps.Step.{own, stored}
 use Rattle.kernel_spec.specs.rows.Touches.{before_instruction}
 use Rattle.kernel_spec.specs.laws.RowLaws as laws
@@ -22,13 +23,10 @@ use Rattle.kernel_spec.specs.waking.Wakes.{Promised, IsPromised}
 use Rattle.kcall_core.specs.Kernel.{state_of, IsRunning, pid_now, live_now}
 use Rattle.kcall_core.specs.Machine.{turns_of, world_of}
 use Rattle.kcall_core.specs.Whole.{IsWhole}
-use Rattle.kcall_core.specs.Makes.{Makes, MakesDone, IsUndone, IsLastMade, MakesInARow, Stays, StillRuns, view_now, stop_now, answer_of}
+use Rattle.kcall_core.specs.Makes.{Makes, MakesDone, IsUndone, IsLastMade, MakesInARow, Stays, StillRuns, view_now, stop_now}
 use Rattle.kcall_core.specs.declared.kernel.Kernel.{Kernel}
-use Rattle.kcall_core.specs.declared.call_end.CallEnd.{CallEnd}
-use Rattle.kcall_core.specs.declared.call_end.CallEnd.TheVariants.{Done, Wait, Gone}
 use Rattle.kernel_spec.proofs.runs.Boot.{promised_runs_join}
 use Rattle.kcall_core.proofs.runs.Promises.{step-promised, view-is}
-use Rattle.kcall_core.proofs.making.Undone.{before-pages, next-now}
 use Rattle.xv_machine.specs.declared.event.Outcome.{Outcome}
 use Rattle.xv_machine.specs.Drives.{done_by}
 use Rattle.xv_machine.specs.Events.{outcome_of}
@@ -39,52 +37,19 @@ use Rattle.xv_machine.proofs.Runs.{current-pid, halts-after}
 
 -- ---- what isn't a done instruction
 
-pub call-not-done : (pid p : ℕ) (number : ℤ) (end : CallEnd) → Step_of pid (answer_of number end) ≢ Step_of p Stepped
-call-not-done pid p number (Done value) e = cc
-call-not-done pid p number Wait e = cc
-call-not-done pid p number (Gone status) e = cc
-
-pub exit-not-done : (pid p : ℕ) (status : ℤ) → Step_of pid (Exited status) ≢ Step_of p Stepped
-exit-not-done pid p status e = cc
-
 -- a process that is busy and not marked is in a call
 pub busy-in-call : (l : Live) → IsBusy l → l.killed ≡ false → IsSome l.call
-busy-in-call l (inl marked) free = absurd (true-false (sym marked ∙ free))
-  where
-    true-false : true ≡ false → ⊥
-    true-false e = cc
+busy-in-call l (inl marked) free = absurd (true≢false (sym marked ∙ free))
 busy-in-call l (inr call) free = call
 
 pub number-some : (o : Option Call) → is_some (option_map (λ (c : Call). c.number) o) ≡ is_some o
 number-some None = refl
 number-some (Some c) = refl
 
-pub none-of-some : {X : Type 0} (o : Option X) → is_some o ≡ false → o ≡ None
-none-of-some None e = refl
-none-of-some (Some x) e = let no : ⊥ = cc in absurd no
-
 -- ---- a done instruction
 
-stored-killed : (v : View) (r : Registers) (st : Option Store) → (stored v r st).killed ≡ v.killed
-stored-killed v r None = refl
-stored-killed v r (Some s) = refl
-
-stored-call : (v : View) (r : Registers) (st : Option Store) → (stored v r st).call ≡ v.call
-stored-call v r None = refl
-stored-call v r (Some s) = refl
-
-some-same : {X : Type 0} (a b : X) → Some a ≡ Some b → a ≡ b
-some-same a b e = cc
-
-view-killed : (k : Kernel) (h : Hart) → (view_now k h).killed ≡ (live_now k h).killed
-unfolding view_of
-view-killed k h = refl
-
-view-call : (k : Kernel) (h : Hart) → (view_now k h).call ≡ (live_now k h).call
-unfolding view_of
-view-call k h = refl
-
-module _ (k k' : Kernel) (h h' : Hart) (whole : IsWhole k h) (runs : IsRunning k) (free : laws.IsBetweenCalls (live_now k h)) (next : stop_now k h ≡ stops.Next) (made : Makes k h (own (view_now k h)) k' h') where
+module _ (k k' : Kernel) (h h' : Hart) (whole : IsWhole k h) (runs : IsRunning k) (free : laws.IsBetweenCalls (live_now k h))
+    (next : stop_now k h ≡ stops.Next) (made : Makes k h (own (view_now k h)) k' h') where
   answer-is : (own (view_now k h)).answer ≡ Stepped
   answer-is = next-answer k h free next
 
@@ -105,20 +70,11 @@ module _ (k k' : Kernel) (h h' : Hart) (whole : IsWhole k h) (runs : IsRunning k
   unfolding view_of
   next-view = made.state.next
 
-  next-is : (r : Registers) (st : Option Store) → own (view_now k h) ≡ goes_on Stepped (stored (before_instruction (view_now k h)) r st) → view_now k' h' ≡ stored (before_instruction (view_now k h)) r st
+  next-is : (r : Registers) (st : Option Store) → own (view_now k h) ≡ goes_on Stepped (stored (before_instruction (view_now k h)) r st)
+      → view_now k' h' ≡ stored (before_instruction (view_now k h)) r st
   next-is r st is =
-      some-same (view_now k' h') (stored (before_instruction (view_now k h)) r st)
+      same_Some (view_now k' h') (stored (before_instruction (view_now k h)) r st)
       (sym (view-is k' h' made.whole.sound runs-on.0) ∙ ap (view (state_of k' h')) (sym runs-on.1) ∙ next-view ∙ ap (λ (o : Own). o.next) is)
-
-  pub still-free : laws.IsBetweenCalls (live_now k' h')
-  still-free =
-      let n = next-now k h free next in
-      let now = next-is n.0 n.1 n.2 in
-      let v = before_instruction (view_now k h) in
-      let before = before-pages (view_now k h) in (
-        sym (view-killed k' h') ∙ ap (λ (v : View). v.killed) now ∙ stored-killed v n.0 n.1 ∙ ap (λ (v : View). v.killed) before ∙ view-killed k h ∙ free.0,
-        sym (view-call k' h') ∙ ap (λ (v : View). v.call) now ∙ stored-call v n.0 n.1 ∙ ap (λ (v : View). v.call) before ∙ view-call k h ∙ free.1,
-      )
 
 -- ---- one after another
 
@@ -137,7 +93,8 @@ did-more k mid k' h hart h' n did free next made =
       pid = sym on.1 ∙ did.pid;
       first = first-lives-on mid k' hart h' did.whole did.running free next made did.first;
       run = subst (λ (es : List (runs.Event × runs.Outcome)). IsPromised (world_of k h None) es (world_of k' h' None)) (replicate_more n (done_by (pid_now k)))
-          (promised_runs_join (world_of k h None) (world_of mid hart None) (world_of k' h' None) (replicate n (done_by (pid_now k))) (done_by (pid_now k) ∷ []) did.run (world_of k' h' None, one, refl));
+          (promised_runs_join (world_of k h None) (world_of mid hart None) (world_of k' h' None) (replicate n (done_by (pid_now k)))
+          (done_by (pid_now k) ∷ []) did.run (world_of k' h' None, one, refl));
       frames = made.frames ∙ did.frames;
     }
 
@@ -154,7 +111,8 @@ did-stays k mid k' h hart h' n did stays still = record {
 
 -- ---- the kernel's instructions in a row
 
-made-did : (count : ℕ) (k : Kernel) (h : Hart) (mid : Kernel) (between : Hart) → IsWhole k h → IsRunning k → IsSome (live (state_of k h) 1) → MakesDone count k h mid between → Did k h count mid between
+made-did : (count : ℕ) (k : Kernel) (h : Hart) (mid : Kernel) (between : Hart) → IsWhole k h → IsRunning k → IsSome (live (state_of k h) 1)
+    → MakesDone count k h mid between → Did k h count mid between
 made-did zero k h mid between whole runs first done = subst (λ x. Did k h 0 x between) (sym done.0) (subst (λ x. Did k h 0 k x) (sym done.1) (did-none k h whole runs first))
 made-did (suc count) k h mid between whole runs first (last, hart, before, free, next, made) =
     subst (λ n. Did k h n mid between) (next-is count) (did-more k last mid h hart between count (made-did count k h last hart whole runs first before) free next made)
@@ -170,9 +128,6 @@ module _ (k k' : Kernel) (h h' : Hart) (most made : ℕ) (stop : Stop) (row : Ma
       by stops.Next last other = absurd (other refl)
       by stops.Ecall last other = last
       by (stops.Fault cause) last other = last
-
-  pub row-free : stop ≢ stops.Next → laws.IsBetweenCalls (live_now k' h')
-  row-free other = subst laws.IsBetweenCalls (sym (row-undone other).same.live) row.free
 
   pub row-stop : stop ≢ stops.Next → stop ≡ stop_now k' h'
   row-stop other = stop-behind row.mid k' row.between h' stop row.whole row.running (row-undone other).stays (row-undone other).ends
@@ -202,7 +157,8 @@ module _ (k k' : Kernel) (h h' : Hart) (most made : ℕ) (stop : Stop) (row : Ma
         by (stops.Fault cause) last e = let bad : ⊥ = cc in absurd bad
 
     -- the one behind them isn't done, and this came of it
-    pub row-trap : stop ≢ stops.Next → (pid : ℕ) (o : Outcome) (k'' : Kernel) (h'' : Hart) → pid ≡ pid_now k → Makes k' h' (own (view_now k' h')) k'' h'' → outcome_of o ≡ Step_of pid (own (view_now k' h')).answer
+    pub row-trap : stop ≢ stops.Next → (pid : ℕ) (o : Outcome) (k'' : Kernel) (h'' : Hart) → pid ≡ pid_now k
+        → Makes k' h' (own (view_now k' h')) k'' h'' → outcome_of o ≡ Step_of pid (own (view_now k' h')).answer
         → ((p : ℕ) → outcome_of o ≢ Step_of p Stepped) → Advanced k h most made (Some o) k'' h''
     row-trap other pid o k'' h'' is made answer not_done = record {
       kernel = k';
@@ -212,7 +168,8 @@ module _ (k k' : Kernel) (h h' : Hart) (most made : ℕ) (stop : Stop) (row : Ma
     }
 
 -- a step of a process that is busy
-pub busy-advanced : (k k' : Kernel) (h h' : Hart) (most pid : ℕ) (o : Outcome) → IsWhole k h → IsRunning k → IsSome (live (state_of k h) 1) → 0 < most → pid ≡ pid_now k → Makes k h (own (view_now k h)) k' h'
+pub busy-advanced : (k k' : Kernel) (h h' : Hart) (most pid : ℕ) (o : Outcome) → IsWhole k h → IsRunning k → IsSome (live (state_of k h) 1)
+    → 0 < most → pid ≡ pid_now k → Makes k h (own (view_now k h)) k' h'
     → outcome_of o ≡ Step_of pid (own (view_now k h)).answer → ((p : ℕ) → outcome_of o ≢ Step_of p Stepped) → Advanced k h most 0 (Some o) k' h'
 busy-advanced k k' h h' most pid o whole runs first some is made answer not_done = record {
   kernel = k;
@@ -224,9 +181,3 @@ busy-advanced k k' h h' most pid o whole runs first some is made answer not_done
 pub some-none : (o : Option Call) → IsSome o → o ≡ None → ⊥
 some-none None some none = let bad : ⊥ = cc in bad
 some-none (Some c) some none = let bad : ⊥ = cc in bad
-
-pub ecall-done : stops.Ecall ≢ stops.Next
-ecall-done e = cc
-
-pub fault-done : (cause : Cause) → stops.Fault cause ≢ stops.Next
-fault-done cause e = cc

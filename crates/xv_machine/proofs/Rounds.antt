@@ -1,14 +1,16 @@
 -- Whole rounds, as far as a drive has come, and how it ends.
-use Rattle.std.proofs.Common.{◌≡◌, ◌∙◌, ℕ, zero, suc, ◌+◌, ◌<◌, ◌≤◌, ◌⊎◌, cond, inl, inr, subst, refl, sym, ap, ap₂, arith, List, [], ◌∷◌, ◌++◌, append-nil, append_assoc, length, length-append, drop, replicate, slice_get, Bool, true, false, ◌||◌, Option, None, Some, IfSome}
+use Rattle.std.proofs.Common.{◌≡◌, ◌∙◌, ℕ, zero, suc, ◌+◌, ◌<◌, ◌≤◌, ◌⊎◌, cond, inl, inr, subst}
+use Rattle.std.proofs.Common.{refl, sym, ap, ap₂, arith, List, [], ◌∷◌, ◌++◌, append-nil, append_assoc, length, length-append}
+use Rattle.std.proofs.Common.{drop, replicate, slice_get, Bool, true, false, ◌||◌, Option, None, Some, IfSome}
 use Rattle.std.specs.Prelude.{not, is_none, is_some}
 use Rattle.std.specs.Option.{option_to_list}
 use Rattle.std.proofs.lemmas.Grind.{flat_map-append}
 use Rattle.std.specs.Io.KnownBytes.{Consumes}
+use Rattle.std.proofs.lemmas.Bool.{le-ltb, lt-ltb}
 use Rattle.xk_base.specs.declared.limits.TheConstants.{SEND_BYTES}
 use Rattle.kernel_spec.specs.runs.Run.{Event, Run, Tick, Key, Send, Outcome, bytes_out}
 use Rattle.kernel_spec.specs.runs.Rounds.{key_events, round, events, halts, AreRounds}
 use Rattle.kernel_spec.proofs.runs.Plans.{rounds_follow_rounds}
-use Rattle.sv39_core.proofs.Words.{ltb-yes, ltb-no}
 use Rattle.xv_machine.specs.Devices.{Source, Asked, Sink, Calls, failed}
 use Rattle.xv_machine.specs.declared.driving.RunPlan.{RunPlan}
 use Rattle.xv_machine.specs.Drives.{Goes, Wrote, calls_of, AskedFor, is_halted, key_in, keys_in, Done, StoppedByRead, StoppedByWrite}
@@ -83,10 +85,6 @@ abbrev Pace : (at_end : Bool) → (read rest : List ℕ) → (count : ℕ) → T
 Pace false read rest count = length read ≡ count
 Pace true read rest count = (rest ≡ []) × (length read < count)
 
-behind : (at_end : Bool) (read rest : List ℕ) (count : ℕ) → Pace at_end read rest count → drop count (read ++ rest) ≡ rest
-behind false read rest count pace = drop-front read rest count pace
-behind true read rest count pace = ap (λ ks. drop count (read ++ ks)) pace.0 ∙ drop-all read count (omega (arith, pace.1)) ∙ sym pace.0
-
 -- what is left behind the keys that were read; nothing is known of it where the source doesn't tell
 abbrev Leaves : (left now : Option (List ℕ)) → (read rest : List ℕ) → Type 0
 Leaves None now read rest = rest ≡ []
@@ -94,12 +92,19 @@ Leaves (Some bytes) now read rest = (bytes ≡ read ++ rest) × (now ≡ Some re
 
 -- ---- the same rounds with more keys
 
-more-rounds : (count quantum : ℕ) (keys more : List ℕ) (halted : Bool) (list : Steps) → count ≤ length keys → AreRounds count quantum keys halted list → AreRounds count quantum (keys ++ more) halted list
+more-rounds : (count quantum : ℕ) (keys more : List ℕ) (halted : Bool) (list : Steps) → count ≤ length keys
+    → AreRounds count quantum keys halted list → AreRounds count quantum (keys ++ more) halted list
 more-rounds zero quantum keys more halted list le are = are
 more-rounds (suc count) quantum keys more true list le are = are
 more-rounds (suc count) quantum [] more false list le are = absurd (omega (arith, le))
-more-rounds (suc count) quantum (k ∷ keys) more false list le are =
-    (are.0, are.1, are.2, are.3, subst (λ ks. AreRounds count quantum ks (halts are.0) are.1) (first (keys ++ more)) (more-rounds count quantum (drop 1 (k ∷ keys)) more (halts are.0) are.1 (omega (arith, le, ap length (first keys))) are.4))
+more-rounds (suc count) quantum (k ∷ keys) more false list le are = (
+  are.0,
+  are.1,
+  are.2,
+  are.3,
+  subst (λ ks. AreRounds count quantum ks (halts are.0) are.1) (first (keys ++ more))
+      (more-rounds count quantum (drop 1 (k ∷ keys)) more (halts are.0) are.1 (omega (arith, le, ap length (first keys))) are.4),
+)
   where
     first : (xs : List ℕ) → xs ≡ drop 0 xs
     first [] = refl
@@ -121,7 +126,8 @@ equal-rounds : (quantum count : ℕ) (keys more : List ℕ) → keys ≡ more �
 equal-rounds quantum count keys more e halted list are = subst (λ ks. AreRounds count quantum ks halted list) e are
 
 -- no key: nothing is left
-none-taken : (quantum count : ℕ) (left after : Option (List ℕ)) (read rest : List ℕ) → rest ≡ [] → length read ≤ count → Leaves left after (read ++ []) [] → Taken quantum count left after None read rest
+none-taken : (quantum count : ℕ) (left after : Option (List ℕ)) (read rest : List ℕ) → rest ≡ [] → length read ≤ count
+    → Leaves left after (read ++ []) [] → Taken quantum count left after None read rest
 none-taken quantum count left after read rest none le leaves = record {
   more = [];
   leaves = leaves;
@@ -134,9 +140,11 @@ no-more : (left now after : Option (List ℕ)) (read rest : List ℕ) → Leaves
 no-more None now after read rest leaves none gave = refl
 no-more (Some bytes) now after read rest leaves none gave = (leaves.0 ∙ ap (λ ks. read ++ ks) none ∙ sym (append-nil (read ++ [])), gave)
 
-taken : (quantum count : ℕ) (at_end : Bool) (left now after : Option (List ℕ)) (key : Option ℕ) (read rest : List ℕ) → Leaves left now read rest → Pace at_end read rest count → TakesKey at_end now key after
+taken : (quantum count : ℕ) (at_end : Bool) (left now after : Option (List ℕ)) (key : Option ℕ) (read rest : List ℕ) → Leaves left now read rest
+    → Pace at_end read rest count → TakesKey at_end now key after
     → Taken quantum count left after key read rest
-taken quantum count true left now after None read rest leaves pace takes = none-taken quantum count left after read rest pace.0 (omega (arith, pace.1)) (no-more left now after read rest leaves pace.0 (by left leaves))
+taken quantum count true left now after None read rest leaves pace takes =
+    none-taken quantum count left after read rest pace.0 (omega (arith, pace.1)) (no-more left now after read rest leaves pace.0 (by left leaves))
   where
     by : (l : Option (List ℕ)) → Leaves l now read rest → IfSome l (λ _. after ≡ Some [])
     by None h = tt
@@ -203,8 +211,8 @@ asked-typed None a after keys typed is asked = let same : keys + 1 ≡ typed + 1
 asked-typed (Some b) a after keys typed is asked = subst (λ n. Asked a after n) (sym is) asked
 
 asked-for : (at_end : Bool) (a after : Option ℕ) (read rest : List ℕ) (rounds : ℕ) → Pace at_end read rest rounds → AskedSo at_end a after (length read) → AskedFor a after (length read) rounds
-asked-for false a after read rest rounds pace so = subst (λ b. Asked a after (cond b (length read + 1) (length read))) (sym (ltb-no (length read) rounds (omega (arith, pace)))) so
-asked-for true a after read rest rounds pace so = subst (λ b. Asked a after (cond b (length read + 1) (length read))) (sym (ltb-yes (length read) rounds pace.1)) so
+asked-for false a after read rest rounds pace so = subst (λ b. Asked a after (cond b (length read + 1) (length read))) (sym (le-ltb (length read) rounds (omega (arith, pace)))) so
+asked-for true a after read rest rounds pace so = subst (λ b. Asked a after (cond b (length read + 1) (length read))) (sym (lt-ltb (length read) rounds pace.1)) so
 
 -- ---- rounds
 
@@ -243,7 +251,9 @@ none-going quantum left m sink asked sound = record {
 goes-on : (old : Meaning) (list : Steps) (new : Meaning) → Goes old list new → new.world.turns.halted ≡ None → (is_halted old || halts list) ≡ false
 goes-on old list new goes on = sym (ends-in old.world list new.world goes.run) ∙ ap is_some on
 
-module _ (quantum count : ℕ) (at_end : Bool) (left now after : Option (List ℕ)) (key : Option ℕ) (old mid : Meaning) (sink sink_now : Sink) (asked asked_now asked_after : Option ℕ) (g : Going quantum count at_end left now old mid sink sink_now asked asked_now) (takes : TakesKey at_end now key after) (call : Asked asked_now asked_after (cond at_end 0 1)) where
+module _ (quantum count : ℕ) (at_end : Bool) (left now after : Option (List ℕ)) (key : Option ℕ) (old mid : Meaning) (sink sink_now : Sink)
+    (asked asked_now asked_after : Option ℕ) (g : Going quantum count at_end left now old mid sink sink_now asked asked_now)
+    (takes : TakesKey at_end now key after) (call : Asked asked_now asked_after (cond at_end 0 1)) where
   abbrev took : Taken quantum count left after key (keys_in (events g.list)) g.rest
   took = taken quantum count at_end left now after key (keys_in (events g.list)) g.rest g.leaves g.pace takes
 
@@ -255,14 +265,19 @@ module _ (quantum count : ℕ) (at_end : Bool) (left now after : Option (List �
   begun : round quantum (option_to_list key) ≡ round quantum (drop count ((keys_in (events g.list) ++ option_to_list key) ++ took.more))
   begun = ap (λ es. es ++ replicate quantum Run ++ Tick ∷ replicate SEND_BYTES Send) (sym took.key_is)
 
-  pub one-more : (new : Meaning) (sink_after : Sink) → mid.world.turns.halted ≡ None → Played (round quantum (option_to_list key)) mid new sink_now sink_after → Going quantum (count + 1) (is_none key) left after old new sink sink_after asked asked_after
+  pub one-more : (new : Meaning) (sink_after : Sink) → mid.world.turns.halted ≡ None
+      → Played (round quantum (option_to_list key)) mid new sink_now sink_after
+      → Going quantum (count + 1) (is_none key) left after old new sink sink_after asked asked_after
   one-more new sink_after on p =
       let read : keys_in (events (g.list ++ p.list)) ≡ keys_in (events g.list) ++ option_to_list key =
-      ap keys_in (events-join g.list p.list) ∙ keys-join (events g.list) (events p.list) ∙ ap (λ es. keys_in (events g.list) ++ keys_in es) p.those ∙ ap (λ ks. keys_in (events g.list) ++ ks) (keys-of-round quantum key) in
+      ap keys_in (events-join g.list p.list) ∙ keys-join (events g.list) (events p.list) ∙ ap (λ es. keys_in (events g.list) ++ keys_in es) p.those
+      ∙ ap (λ ks. keys_in (events g.list) ++ ks) (keys-of-round quantum key) in
       let keys : List ℕ = (keys_in (events g.list) ++ option_to_list key) ++ took.more in
       let now_one : AreRounds 1 quantum (drop count keys) false p.list = (p.list, [], sym (append-nil p.list), p.those ∙ begun, refl) in
-      let one : AreRounds 1 quantum (drop count keys) (is_halted old || halts g.list) p.list = subst (λ b. AreRounds 1 quantum (drop count keys) b p.list) (sym (goes-on old g.list mid g.goes on)) now_one in
-      let all : AreRounds (count + 1) quantum keys (is_halted old) (g.list ++ p.list) = rounds_follow_rounds count 1 quantum keys (is_halted old) g.list p.list (took.same (is_halted old) g.list g.rounds) one in
+      let one : AreRounds 1 quantum (drop count keys) (is_halted old || halts g.list) p.list =
+      subst (λ b. AreRounds 1 quantum (drop count keys) b p.list) (sym (goes-on old g.list mid g.goes on)) now_one in
+      let all : AreRounds (count + 1) quantum keys (is_halted old) (g.list ++ p.list) =
+      rounds_follow_rounds count 1 quantum keys (is_halted old) g.list p.list (took.same (is_halted old) g.list g.rounds) one in
       let next : suc count ≡ count + 1 = omega arith in
       record {
         list = g.list ++ p.list;
@@ -272,7 +287,8 @@ module _ (quantum count : ℕ) (at_end : Bool) (left now after : Option (List �
         pace = subst (λ n. Pace (is_none key) (keys_in (events (g.list ++ p.list))) took.more n) next (subst (λ ks. Pace (is_none key) ks took.more (suc count)) (sym read) took.pace);
         rounds = subst (λ ks. AreRounds (count + 1) quantum (ks ++ took.more) (is_halted old) (g.list ++ p.list)) (sym read) all;
         written = wrote-join sink sink_now sink_after g.list p.list g.written p.written;
-        calls = asked-typed key asked asked_after (length (keys_in (events g.list))) (length (keys_in (events (g.list ++ p.list)))) (ap length read ∙ length-append (keys_in (events g.list)) (option_to_list key)) one_asked;
+        calls = asked-typed key asked asked_after (length (keys_in (events g.list))) (length (keys_in (events (g.list ++ p.list))))
+            (ap length read ∙ length-append (keys_in (events g.list)) (option_to_list key)) one_asked;
       }
 
 pub none-from-some : (key : Option ℕ) (b : Bool) → is_some key ≡ not b → b ≡ is_none key
@@ -294,7 +310,8 @@ leaves-typed (Some bytes) (Some now) read rest h =
     let same : now ≡ rest = cc in
     h.0 ∙ ap (λ ks. read ++ ks) (sym same)
 
-pub all-done : (plan : RunPlan) (count : ℕ) (at_end : Bool) (source source_now : Source) (old new : Meaning) (sink sink_now : Sink) → count ≤ plan.rounds → Going plan.quantum count at_end source.left source_now.left old new sink sink_now source.asked source_now.asked
+pub all-done : (plan : RunPlan) (count : ℕ) (at_end : Bool) (source source_now : Source) (old new : Meaning) (sink sink_now : Sink)
+    → count ≤ plan.rounds → Going plan.quantum count at_end source.left source_now.left old new sink sink_now source.asked source_now.asked
     → (count ≡ plan.rounds) ⊎ (is_halted new ≡ true) → Done plan source source_now old new sink sink_now
 all-done plan count at_end source source_now old new sink sink_now within g why =
     let keys : List ℕ = keys_in (events g.list) ++ g.rest in
@@ -313,7 +330,8 @@ all-done plan count at_end source source_now old new sink sink_now within g why 
       asked = asked-for at_end source.asked source_now.asked (keys_in (events g.list)) g.rest count g.pace g.calls;
     }
 
-pub read-stops : (plan : RunPlan) (count : ℕ) (at_end : Bool) (source source_now source_after : Source) (old new : Meaning) (sink sink_now : Sink) → count < plan.rounds → Going plan.quantum count at_end source.left source_now.left old new sink sink_now source.asked source_now.asked
+pub read-stops : (plan : RunPlan) (count : ℕ) (at_end : Bool) (source source_now source_after : Source) (old new : Meaning) (sink sink_now : Sink)
+    → count < plan.rounds → Going plan.quantum count at_end source.left source_now.left old new sink sink_now source.asked source_now.asked
     → new.world.turns.halted ≡ None → at_end ≡ false → Asked source_now.asked source_after.asked (cond at_end 0 1) → StoppedByRead plan source source_after old new sink sink_now
 read-stops plan count at_end source source_now source_after old new sink sink_now within g on reads call = record {
   list = g.list;
@@ -327,8 +345,12 @@ read-stops plan count at_end source source_now source_after old new sink sink_no
   written = g.written;
 }
 
-pub write-stops : (plan : RunPlan) (count : ℕ) (at_end : Bool) (source source_now source_after : Source) (key : Option ℕ) (old mid new : Meaning) (sink sink_now sink_after : Sink) → count < plan.rounds
-    → (g : Going plan.quantum count at_end source.left source_now.left old mid sink sink_now source.asked source_now.asked) → mid.world.turns.halted ≡ None → TakesKey at_end source_now.left key source_after.left → Asked source_now.asked source_after.asked (cond at_end 0 1) → BrokeOff (round plan.quantum (option_to_list key)) mid new sink_now sink_after → StoppedByWrite plan source source_after old new sink sink_after
+pub write-stops : (plan : RunPlan) (count : ℕ) (at_end : Bool) (source source_now source_after : Source) (key : Option ℕ) (old mid new : Meaning)
+    (sink sink_now sink_after : Sink) → count < plan.rounds
+    → (g : Going plan.quantum count at_end source.left source_now.left old mid sink sink_now source.asked source_now.asked)
+    → mid.world.turns.halted ≡ None → TakesKey at_end source_now.left key source_after.left
+    → Asked source_now.asked source_after.asked (cond at_end 0 1) → BrokeOff (round plan.quantum (option_to_list key)) mid new sink_now sink_after
+    → StoppedByWrite plan source source_after old new sink sink_after
 write-stops plan count at_end source source_now source_after key old mid new sink sink_now sink_after within g on takes call q =
     let t = took plan.quantum count at_end source.left source_now.left source_after.left key old mid sink sink_now source.asked source_now.asked source_after.asked g takes call in
     let read : List ℕ = keys_in (events g.list) in
@@ -346,8 +368,19 @@ write-stops plan count at_end source source_now source_after key old mid new sin
       goes = goes-join g.list part old mid new g.goes q.goes;
       keys = keys;
       known = leaves-known source.left source_after.left (read ++ option_to_list key) t.more t.leaves;
-      cut =
-          (count, g.list, q.before, q.rest, refl, within, t.same (is_halted old) g.list g.rounds, goes-on old g.list mid g.goes on, q.those ∙ begun plan.quantum count at_end source.left source_now.left source_after.left key old mid sink sink_now source.asked source_now.asked source_after.asked g takes call);
+      cut = (
+        count,
+        g.list,
+        q.before,
+        q.rest,
+        refl,
+        within,
+        t.same (is_halted old) g.list g.rounds,
+        goes-on old g.list mid g.goes on,
+        q.those
+            ∙ begun plan.quantum count at_end source.left source_now.left source_after.left key old mid sink sink_now source.asked source_now.asked
+            source_after.asked g takes call,
+      );
       shows = q.shows;
       before = g.list ++ q.before;
       ends = sym (append_assoc g.list q.before (q.last ∷ []));

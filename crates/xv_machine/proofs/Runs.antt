@@ -4,9 +4,10 @@ use Rattle.std.specs.Prelude.{ℤ, IsSome, is_some, option_map}
 use Rattle.std.proofs.lemmas.Bool.Decides.{eqb_tells}
 use Rattle.hart_core.specs.declared.hart.Hart.{Hart}
 use Rattle.std.specs.FinMap.{get}
+use Rattle.std.proofs.lemmas.Option.{none-some, same_Some}
 use Rattle.circular_buffer.specs.Buffer.{Buffer}
 use Rattle.kernel_spec.specs.views.Processes.{Process, Alive, Zombie, parent_of}
-use Rattle.kernel_spec.specs.views.State.{State, live, live_part}
+use Rattle.kernel_spec.specs.views.State.{live, live_part}
 use Rattle.kernel_spec.specs.views.View.{view, view_of}
 use Rattle.kernel_spec.specs.steps.Own.{Answer, Stepped, Called, Blocked, Exited, Faulted, gone_with}
 use Rattle.kernel_spec.specs.steps.Step.{own}
@@ -14,13 +15,13 @@ use Rattle.kernel_spec.specs.runs.Run as runs
 use Rattle.kernel_spec.specs.runs.Run.{World, Step_of, TurnTaken, TickHappens, KeyHappens, SendHappens, IsButWoken, of_first, halts_with, stays_current}
 use Rattle.kernel_spec.specs.waking.Wakes.{IsRunnable, IsNearest, WakesWhereDue, Promised}
 use Rattle.kernel_spec.specs.waking.Turns.{Turns}
+use Rattle.kernel_spec.proofs.Common.{the_value}
 use Rattle.kcall_core.specs.Kernel.{state_of, IsRunning, pid_now, live_now}
 use Rattle.kcall_core.specs.Machine.{turns_of, world_of}
 use Rattle.kcall_core.specs.Whole.{IsWhole}
 use Rattle.kcall_core.specs.Makes.{Makes, view_now}
 use Rattle.kcall_core.specs.declared.kernel.Kernel.{Kernel}
 use Rattle.kcall_core.proofs.runs.Promises.{step-promised, turn-promised, idle-promised, halted-promised, tick-promised, key-promised, send-promised}
-use Rattle.kcall_core.proofs.table.States.{none-some}
 use Rattle.kcall_core.proofs.turns.Turned.{live-is}
 use Rattle.xv_machine.specs.declared.trace.Note.{Note}
 use Rattle.xv_machine.specs.declared.event.Outcome.{Outcome}
@@ -38,10 +39,6 @@ none-of f (Some x) e = absurd (none-some (f x) (sym e))
 some-of : {X Y : Type 0} (f : X → Y) (o : Option X) → IsSome (option_map f o) → IsSome o
 some-of f None e = e
 some-of f (Some x) e = refl
-
-some-value : {X : Type 0} (o : Option X) → IsSome o → (x : X) × (o ≡ Some x)
-some-value None e = let no : ⊥ = cc in absurd no
-some-value (Some x) e = (x, refl)
 
 gone-stops : (p : ℕ) (a : Answer) (status : ℤ) → gone_with a ≡ Some status → stays_current p a ≡ None
 gone-stops p Stepped status e = absurd (none-some status e)
@@ -90,14 +87,15 @@ module _ (k k' : Kernel) (h h' : Hart) (whole : IsWhole k h) (runs : IsRunning k
   other-halts : pid_now k ≢ 1 → IsSome (live (state_of k' h') 1)
   unfolding view_of
   other-halts other =
-      let was = some-value (live (state_of k h) 1) first in
+      let was = the_value (live (state_of k h) 1) first in
       let seen : view (state_of k h) 1 ≡ Some (view_of (state_of k h) 1 was.0) = ap (option_map (view_of (state_of k h) 1)) was.1 in
       let sees = made.state.others 1 (view_of (state_of k h) 1 was.0) (λ e. other (sym e)) seen in
       some-of (view_of (state_of k' h') 1) (live (state_of k' h') 1) (ap is_some sees)
 
   pub halts-after : let status = halts_with (pid_now k) (own (view_now k h)).answer in IsHalted (state_of k' h') (turns_of k' status) status
   halts-after = elim (eqb_tells (pid_now k) 1) [
-    | inl is ↦ subst (λ o. IsHalted (state_of k' h') (turns_of k' o) o) (sym (first-is (pid_now k) (gone_with (own (view_now k h)).answer) is.0)) (first-halts is.1 (gone_with (own (view_now k h)).answer) refl)
+    | inl is ↦ subst (λ o. IsHalted (state_of k' h') (turns_of k' o) o) (sym (first-is (pid_now k) (gone_with (own (view_now k h)).answer) is.0))
+        (first-halts is.1 (gone_with (own (view_now k h)).answer) refl)
     | inr other ↦ subst (λ o. IsHalted (state_of k' h') (turns_of k' o) o) (sym (first-not (pid_now k) (gone_with (own (view_now k h)).answer) other.0)) (other-halts other.1)
   ]
 
@@ -112,15 +110,18 @@ not-halted k h (Some status) end runs = absurd (no k.current runs end.1)
     no (Some i) some none = none-some (pid_now k) (sym none)
 
 -- a step, with what the machine answers and keeps
-pub run-step : (k k' : Kernel) (h h' : Hart) (pid : ℕ) (outcome : Outcome) → IsWhole k h → IsRunning k → pid ≡ pid_now k → Makes k h (own (view_now k h)) k' h' → outcome_of outcome ≡ Step_of pid (own (view_now k h)).answer
+pub run-step : (k k' : Kernel) (h h' : Hart) (pid : ℕ) (outcome : Outcome) → IsWhole k h → IsRunning k → pid ≡ pid_now k
+    → Makes k h (own (view_now k h)) k' h' → outcome_of outcome ≡ Step_of pid (own (view_now k h)).answer
     → Promised (world_of k h None) runs.Run (outcome_of outcome) (world_of k' h' (halted_by outcome))
 run-step k k' h h' pid outcome whole now is made answer =
     let told : outcome_of outcome ≡ Step_of (pid_now k) (own (view_now k h)).answer = answer ∙ ap (λ p. Step_of p (own (view_now k h)).answer) is in
     let promised = step-promised k k' h h' whole now made in
     subst (λ o. Promised (world_of k h None) runs.Run o (world_of k' h' (halted_by outcome))) (sym told)
-    (subst (λ s. Promised (world_of k h None) runs.Run (Step_of (pid_now k) (own (view_now k h)).answer) (world_of k' h' s)) (sym (halts-as outcome (pid_now k) (own (view_now k h)).answer told)) promised)
+    (subst (λ s. Promised (world_of k h None) runs.Run (Step_of (pid_now k) (own (view_now k h)).answer) (world_of k' h' s))
+    (sym (halts-as outcome (pid_now k) (own (view_now k h)).answer told)) promised)
 
-pub run-halts : (k k' : Kernel) (h h' : Hart) (pid : ℕ) (outcome : Outcome) → IsWhole k h → IsRunning k → IsSome (live (state_of k h) 1) → pid ≡ pid_now k → Makes k h (own (view_now k h)) k' h' → outcome_of outcome ≡ Step_of pid (own (view_now k h)).answer
+pub run-halts : (k k' : Kernel) (h h' : Hart) (pid : ℕ) (outcome : Outcome) → IsWhole k h → IsRunning k → IsSome (live (state_of k h) 1)
+    → pid ≡ pid_now k → Makes k h (own (view_now k h)) k' h' → outcome_of outcome ≡ Step_of pid (own (view_now k h)).answer
     → IsHalted (state_of k' h') (turns_of k' (halted_by outcome)) (halted_by outcome)
 run-halts k k' h h' pid outcome whole now first is made answer =
     let told : outcome_of outcome ≡ Step_of (pid_now k) (own (view_now k h)).answer = answer ∙ ap (λ p. Step_of p (own (view_now k h)).answer) is in
@@ -134,7 +135,8 @@ module _ (k : Kernel) (h : Hart) (whole : IsWhole k h) (stopped : k.current ≡ 
   unfolding turns_of
   run-turn k' h' pid taken near = turn-promised k k' h h' whole stopped pid taken near.0 near.1
 
-  pub run-idle : (k' : Kernel) (h' : Hart) → world_of k' h' None ≡ world_of k h None → ((p : ℕ) → ¬ IsRunnable (world_of k h None) p) → Promised (world_of k h None) runs.Run runs.Idle (world_of k' h' None)
+  pub run-idle : (k' : Kernel) (h' : Hart) → world_of k' h' None ≡ world_of k h None → ((p : ℕ) → ¬ IsRunnable (world_of k h None) p)
+      → Promised (world_of k h None) runs.Run runs.Idle (world_of k' h' None)
   unfolding turns_of
   run-idle k' h' same none = idle-promised k k' h h' whole stopped same none
 
@@ -152,7 +154,8 @@ unfolding turns_of
 tick-halted k h whole status = halted-promised k h status runs.Tick whole (refl, refl)
 
 -- a key
-pub run-key : (k k' : Kernel) (h : Hart) (b : ℕ) (echo : List ℕ) → KeyHappens (world_of k h None) None b (runs.Typed echo) (world_of k' h None) → WakesWhereDue (world_of k h None) (runs.Typed echo) (world_of k' h None)
+pub run-key : (k k' : Kernel) (h : Hart) (b : ℕ) (echo : List ℕ) → KeyHappens (world_of k h None) None b (runs.Typed echo) (world_of k' h None)
+    → WakesWhereDue (world_of k h None) (runs.Typed echo) (world_of k' h None)
     → Promised (world_of k h None) (runs.Key b) (runs.Typed echo) (world_of k' h None)
 run-key k k' h b echo happens wakes = key-promised k k' h h b (runs.Typed echo) happens wakes
 
@@ -160,30 +163,19 @@ key-halted : (k : Kernel) (h : Hart) → IsWhole k h → (b : ℕ) (status : ℤ
 unfolding turns_of
 key-halted k h whole b status = halted-promised k h status (runs.Key b) whole (refl, refl)
 
--- process 1 lives after a turn
-pub first-stays : (k k' : Kernel) (h h' : Hart) → (world_of k' h' None).state ≡ (world_of k h None).state → IsSome (live (state_of k h) 1) → IsSome (live (state_of k' h') 1)
-first-stays k k' h h' same first = ap (λ (s : State). is_some (live s 1)) same ∙ first
-
 -- ---- at the machine's own calls
 
 pub current-pid : (k : Kernel) (pid : ℕ) → (turns_of k None).current ≡ Some pid → IsRunning k × (pid ≡ pid_now k)
 unfolding turns_of
 current-pid k pid told = by k.current told
   where
-    same : (a b : ℕ) → Some a ≡ Some b → b ≡ a
-    same a b e = cc
-
     by : (o : Option ℕ) → option_map (λ (i : ℕ). pid_now k) o ≡ Some pid → IsSome o × (pid ≡ pid_now k)
     by None e = absurd (none-some pid e)
-    by (Some i) e = (refl, same (pid_now k) pid e)
+    by (Some i) e = (refl, sym (same_Some (pid_now k) pid e))
 
 pub count-is : (k : Kernel) → (frames_in k).count ≡ length k.memories.ram
 unfolding frames_in
 count-is k = refl
-
-pub nothing-kept : (o : Option ℤ) → is_some o ≡ false → o ≡ None
-nothing-kept None e = refl
-nothing-kept (Some x) e = let no : ⊥ = cc in absurd no
 
 module _ (k : Kernel) (h : Hart) (halted : Option ℤ) (trace : Buffer Note) (now : Meaning) (is : meaning_of (record { kernel = k; hart = h; halted = halted; trace = trace }) ≡ now) where
   pub now-stopped : now.world.turns.current ≡ None → k.current ≡ None
@@ -193,15 +185,13 @@ module _ (k : Kernel) (h : Hart) (halted : Option ℤ) (trace : Buffer Note) (no
   pub now-sound : IsWhole k h → IsHalted (state_of k h) (turns_of k halted) halted → length trace.items ≤ trace.capacity → IsSoundMachine now
   now-sound whole end kept = subst IsSoundMachine is (sound-of k h halted trace kept whole end)
 
-  pub now-trace : (trace.items ≡ now.notes) × (trace.capacity ≡ now.room)
-  now-trace = (ap (λ (m : Meaning). m.notes) is, ap (λ (m : Meaning). m.room) is)
-
   pub now-frames : length k.memories.ram ≡ now.frames.count
   unfolding frames_in
   now-frames = ap (λ (m : Meaning). m.frames.count) is
 
   -- a machine that isn't halted
-  pub now-promised : (event : runs.Event) (k' : Kernel) (h' : Hart) (kept : Option ℤ) (outcome : runs.Outcome) (after : Option ℤ) → halted ≡ None → after ≡ kept → Promised (world_of k h None) event outcome (world_of k' h' kept)
+  pub now-promised : (event : runs.Event) (k' : Kernel) (h' : Hart) (kept : Option ℤ) (outcome : runs.Outcome) (after : Option ℤ) → halted ≡ None
+      → after ≡ kept → Promised (world_of k h None) event outcome (world_of k' h' kept)
       → Promised now.world event outcome (world_of k' h' after)
   now-promised event k' h' kept outcome after none same promised =
       let at_world : Promised now.world event outcome (world_of k' h' kept) =
@@ -210,9 +200,10 @@ module _ (k : Kernel) (h : Hart) (halted : Option ℤ) (trace : Buffer Note) (no
       subst (λ s. Promised now.world event outcome (world_of k' h' s)) (sym same) at_world
 
   -- one that is
-  over : (event : runs.Event) → is_some halted ≡ true → ((status : ℤ) → Promised (world_of k h (Some status)) event runs.Halted (world_of k h (Some status))) → Promised now.world event runs.Halted now.world
+  over : (event : runs.Event) → is_some halted ≡ true
+      → ((status : ℤ) → Promised (world_of k h (Some status)) event runs.Halted (world_of k h (Some status))) → Promised now.world event runs.Halted now.world
   over event some promised =
-      let status = some-value halted some in
+      let status = the_value halted some in
       subst (λ (m : Meaning). Promised m.world event runs.Halted m.world) is
       (subst (λ s. Promised (world_of k h s) event runs.Halted (world_of k h s)) (sym status.1) (promised status.0))
 
@@ -226,7 +217,8 @@ module _ (k : Kernel) (h : Hart) (halted : Option ℤ) (trace : Buffer Note) (no
   key-over whole some b = over (runs.Key b) some (key-halted k h whole b)
 
   -- a byte that is sent, on a machine that is halted too
-  pub now-sent : (k' : Kernel) (byte : Option ℕ) → SendHappens (world_of k h halted) (runs.Sent byte) (world_of k' h halted) → WakesWhereDue (world_of k h halted) (runs.Sent byte) (world_of k' h halted)
+  pub now-sent : (k' : Kernel) (byte : Option ℕ) → SendHappens (world_of k h halted) (runs.Sent byte) (world_of k' h halted)
+      → WakesWhereDue (world_of k h halted) (runs.Sent byte) (world_of k' h halted)
       → Promised now.world runs.Send (runs.Sent byte) (world_of k' h halted)
   now-sent k' byte happens wakes =
       subst (λ (m : Meaning). Promised m.world runs.Send (runs.Sent byte) (world_of k' h halted)) is (send-promised (world_of k h halted) (world_of k' h halted) (runs.Sent byte) happens wakes)
@@ -239,26 +231,28 @@ pub still-lives : (k : Kernel) (h : Hart) (halted : Option ℤ) → halted ≡ N
 still-lives k h halted none lives = subst (λ s. IsHalted (state_of k h) (turns_of k s) s) (sym none) lives
 
 -- and still does after a turn, a tick or a key, which leave the processes
-pub lives-on-by : (k k' : Kernel) (h h' : Hart) (halted : Option ℤ) → halted ≡ None → (state_of k' h').processes ≡ (state_of k h).processes → IsHalted (state_of k h) (turns_of k halted) halted → IsHalted (state_of k' h') (turns_of k' halted) halted
+pub lives-on-by : (k k' : Kernel) (h h' : Hart) (halted : Option ℤ) → halted ≡ None → (state_of k' h').processes ≡ (state_of k h).processes
+    → IsHalted (state_of k h) (turns_of k halted) halted → IsHalted (state_of k' h') (turns_of k' halted) halted
 lives-on-by k k' h h' halted none same end = still-lives k' h' halted none (ap (λ ps. is_some (live_part (get ps 1))) same ∙ first-lives k h halted end none)
 
-pub lives-on : (k k' : Kernel) (h h' : Hart) (halted : Option ℤ) → halted ≡ None → (world_of k' h' None).state ≡ (world_of k h None).state → IsHalted (state_of k h) (turns_of k halted) halted → IsHalted (state_of k' h') (turns_of k' halted) halted
-lives-on k k' h h' halted none same end = still-lives k' h' halted none (first-stays k k' h h' same (first-lives k h halted end none))
-
 -- whether the machine is halted after a byte that is sent
-pub sent-ends : (k k' : Kernel) (h : Hart) (halted : Option ℤ) → (state_of k' h).processes ≡ (state_of k h).processes → IsButWoken (turns_of k halted) (turns_of k' halted) → IsHalted (state_of k h) (turns_of k halted) halted → IsHalted (state_of k' h) (turns_of k' halted) halted
+pub sent-ends : (k k' : Kernel) (h : Hart) (halted : Option ℤ) → (state_of k' h).processes ≡ (state_of k h).processes
+    → IsButWoken (turns_of k halted) (turns_of k' halted) → IsHalted (state_of k h) (turns_of k halted) halted
+    → IsHalted (state_of k' h) (turns_of k' halted) halted
 sent-ends k k' h None same stirs lives = ap (λ ps. is_some (live_part (get ps 1))) same ∙ lives
 sent-ends k k' h (Some status) same stirs ended = (ap (λ ps. get ps 1) same ∙ ended.0, ap (λ (u : Turns). u.current) stirs.0 ∙ ended.1)
 
 -- whether the machine is halted after a step
-pub run-ends : (k k' : Kernel) (h h' : Hart) (halted after : Option ℤ) (pid : ℕ) (outcome : Outcome) → IsWhole k h → (turns_of k None).current ≡ Some pid → IsHalted (state_of k h) (turns_of k halted) halted → Makes k h (own (view_now k h)) k' h'
+pub run-ends : (k k' : Kernel) (h h' : Hart) (halted after : Option ℤ) (pid : ℕ) (outcome : Outcome) → IsWhole k h
+    → (turns_of k None).current ≡ Some pid → IsHalted (state_of k h) (turns_of k halted) halted → Makes k h (own (view_now k h)) k' h'
     → outcome_of outcome ≡ Step_of pid (own (view_now k h)).answer → after ≡ halted_by outcome → IsHalted (state_of k' h') (turns_of k' after) after
 run-ends k k' h h' halted after pid outcome whole current end made answer kept =
     let now = current-pid k pid current in
     subst (λ s. IsHalted (state_of k' h') (turns_of k' s) s) (sym kept) (run-halts k k' h h' pid outcome whole now.0 (first-lives k h halted end (not-halted k h halted end now.0)) now.1 made answer)
 
 -- after an instruction that is done the status of process 1 is as it was: none
-pub stepped-keeps : (k : Kernel) (h : Hart) (halted : Option ℤ) (pid p : ℕ) (outcome : Outcome) → outcome ≡ Outcome.Stepped p → (turns_of k None).current ≡ Some pid → IsHalted (state_of k h) (turns_of k halted) halted → halted ≡ halted_by outcome
+pub stepped-keeps : (k : Kernel) (h : Hart) (halted : Option ℤ) (pid p : ℕ) (outcome : Outcome) → outcome ≡ Outcome.Stepped p
+    → (turns_of k None).current ≡ Some pid → IsHalted (state_of k h) (turns_of k halted) halted → halted ≡ halted_by outcome
 stepped-keeps k h halted pid p outcome is current end =
     not-halted k h halted end (current-pid k pid current).0 ∙ sym (ap halted_by is)
 

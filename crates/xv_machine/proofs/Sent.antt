@@ -1,7 +1,9 @@
 -- Runs that were sent one after another: what they give, and the notes that are kept of them.
-use Rattle.std.proofs.Common.{◌≡◌, ◌≢◌, ◌⊎◌, inl, inr, ◌∙◌, ℕ, zero, suc, ◌+◌, ◌-◌, ◌<◌, ◌≤◌, subst, refl, sym, ap, ap₂, arith, List, [], ◌∷◌, ◌++◌, append_assoc, length, length-append, replicate, Option, None, Some, true, false}
+use Rattle.std.proofs.Common.{◌≡◌, ◌≢◌, ◌⊎◌, inl, inr, ◌∙◌, ℕ, zero, suc, ◌+◌, ◌-◌, ◌<◌, ◌≤◌, subst, refl, sym}
+use Rattle.std.proofs.Common.{ap, ap₂, arith, List, [], ◌∷◌, ◌++◌, append_assoc, length, length-append, replicate, Option, None, Some, true, false}
 use Rattle.std.specs.Prelude.{ℤ}
 use Rattle.std.proofs.lemmas.List.{length-replicate, replicate-append-replicate, replicate_more}
+use Rattle.std.proofs.lemmas.Bool.{true≢false}
 use Rattle.circular_buffer.specs.Buffer.{keep_last}
 use Rattle.kernel_spec.specs.steps.Own.{Stepped}
 use Rattle.kernel_spec.specs.views.Words.{or_zero}
@@ -84,7 +86,8 @@ pub none-ran : (m : Meaning) → IsSoundMachine m → Ran 0 0 m m
 none-ran m sound = record { list = []; goes = goes-none m sound; runs_are = inl refl; count = refl }
 
 -- all were instructions that are done
-pub all-ran : (most made p : ℕ) (old mid new : Meaning) → old.world.turns.current ≡ Some p → made ≡ most → IsPromised old.world (replicate made (done_by p)) mid.world → mid.frames.count ≡ old.frames.count → SameTrace old mid
+pub all-ran : (most made p : ℕ) (old mid new : Meaning) → old.world.turns.current ≡ Some p → made ≡ most
+    → IsPromised old.world (replicate made (done_by p)) mid.world → mid.frames.count ≡ old.frames.count → SameTrace old mid
     → new ≡ record mid { notes = keep_last mid.room (mid.notes ++ replicate made (Note.Stepped p)) } → IsSoundMachine new → Ran most made old new
 all-ran most made p old mid new current all run frames trace is sound = record {
   list = replicate made (done_by p);
@@ -106,7 +109,15 @@ some-ran most made p o old mid kept new current fewer other idle halted run fram
       list = list;
       goes = goes-kept list (replicate made (Note.Stepped p) ++ note Run o ∷ []) old mid new run frames trace those
           (kept-twice (replicate made (Note.Stepped p)) (note Run o ∷ []) mid kept new first second) sound;
-      runs_are = inr (inl (made, o, ap (λ q. replicate made (done_by (or_zero q)) ++ (Run, o) ∷ []) (sym current), fewer, subst (λ q. o ≢ Step_of (or_zero q) Stepped) (sym current) other, idle, halted));
+      runs_are = inr (inl (
+        made,
+        o,
+        ap (λ q. replicate made (done_by (or_zero q)) ++ (Run, o) ∷ []) (sym current),
+        fewer,
+        subst (λ q. o ≢ Step_of (or_zero q) Stepped) (sym current) other,
+        idle,
+        halted,
+      ));
       count = length-append (replicate made (done_by p)) ((Run, o) ∷ []) ∙ ap (λ n. n + 1) (length-replicate made (done_by p));
     }
 
@@ -116,15 +127,13 @@ pub turn-ran : (most : ℕ) (o : Outcome) (old mid new : Meaning) → 0 < most �
 turn-ran most o old mid new some turn promised frames trace is sound = record {
   list = (Run, o) ∷ [];
   goes = goes-kept ((Run, o) ∷ []) (note Run o ∷ []) old mid new (mid.world, promised, refl) frames trace refl is sound;
-  runs_are = inr (inl (0, o, refl, some, λ e. other (sym turn ∙ ap is_turn e), λ e. other (sym turn ∙ ap is_turn e), λ e. other (sym turn ∙ ap is_turn e)));
+  runs_are = inr (inl (0, o, refl, some, λ e. true≢false (sym turn ∙ ap is_turn e), λ e. true≢false (sym turn ∙ ap is_turn e), λ e. true≢false (sym turn ∙ ap is_turn e)));
   count = refl;
 }
-  where
-    other : true ≡ false → ⊥
-    other e = cc
 
 -- nothing may run: each of them gives the same
-pub idle-ran : (most : ℕ) (o : Outcome) (old mid new : Meaning) → old.world.turns.current ≡ None → is_turn o ≡ false → Promised old.world Run o mid.world → mid.frames.count ≡ old.frames.count → SameTrace old mid
+pub idle-ran : (most : ℕ) (o : Outcome) (old mid new : Meaning) → old.world.turns.current ≡ None → is_turn o ≡ false
+    → Promised old.world Run o mid.world → mid.frames.count ≡ old.frames.count → SameTrace old mid
     → new ≡ record mid { notes = keep_last mid.room (mid.notes ++ replicate most (note Run o)) } → IsSoundMachine new → Ran most most old new
 idle-ran most o old mid new stopped idle promised frames trace is sound =
     let same = nothing-runs old.world mid.world o stopped idle promised.0 in
@@ -161,7 +170,8 @@ ran-silent most sent old new ran =
     record { list = ran.list; goes = ran.goes; those = those; silent = runs-show old.world new.world sent ran.list those ran.goes.run }
 
 -- some of the Runs of a quantum, and then more
-pub quantum-more : (quantum left sent : ℕ) (old mid new : Meaning) → left ≤ quantum → sent ≤ left → Silent (replicate (quantum - left) Run) old mid → Ran left sent mid new → Silent (replicate (quantum - (left - sent)) Run) old new
+pub quantum-more : (quantum left sent : ℕ) (old mid new : Meaning) → left ≤ quantum → sent ≤ left → Silent (replicate (quantum - left) Run) old mid
+    → Ran left sent mid new → Silent (replicate (quantum - (left - sent)) Run) old new
 quantum-more quantum left sent old mid new within few before ran =
     let both : replicate (quantum - left) Run ++ replicate sent Run ≡ replicate (quantum - (left - sent)) Run =
     replicate-append-replicate (quantum - left) sent Run ∙ ap (λ n. replicate n Run) (omega (arith, within, few)) in

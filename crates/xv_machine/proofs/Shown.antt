@@ -1,10 +1,12 @@
 -- Which events show bytes, and which halt the machine.
-use Rattle.std.proofs.Common.{◌≡◌, ◌∙◌, ℕ, Bool, true, false, ◌||◌, List, [], ◌∷◌, Option, None, Some, refl, sym, ap}
+use Rattle.std.proofs.Common.{◌≡◌, ◌∙◌, ℕ, ◌||◌, List, [], ◌∷◌, Option, None, Some, refl, sym, ap}
 use Rattle.std.specs.Prelude.{ℤ, is_some}
 use Rattle.kernel_spec.specs.runs.Rounds.{halts}
-use Rattle.kernel_spec.specs.runs.Run.{World, Event, Run, Tick, Key, Send, Outcome, Step_of, Turn, Idle, Ticked, Typed, Sent, Halted, Happens, RunHappens, TickHappens, KeyHappens, TurnTaken, halted_by, bytes_out}
+use Rattle.kernel_spec.specs.runs.Run.{World, Event, Run, Tick, Key, Send, Outcome, Step_of, Turn, Idle, Ticked}
+use Rattle.kernel_spec.specs.runs.Run.{Typed, Sent, Halted, Happens, RunHappens, TickHappens, KeyHappens, TurnTaken, halted_by, bytes_out}
 use Rattle.kernel_spec.specs.waking.Turns.{Turns}
 use Rattle.kernel_spec.specs.waking.Wakes.{IsPromised}
+use Rattle.kernel_spec.proofs.Common.{or_assoc, or_false}
 
 module _ (w t : World) (o : Outcome) where
   -- ---- bytes
@@ -37,10 +39,6 @@ module _ (w t : World) (o : Outcome) where
 
   abbrev Ends : Option ℤ → Type 0
   Ends was = is_some t.turns.halted ≡ (is_some was || is_some (halted_by o))
-
-  or_false : (b : Bool) → b ≡ (b || false)
-  or_false true = refl
-  or_false false = refl
 
   abbrev Was : Option ℤ → Type 0
   Was was = w.turns.halted ≡ was
@@ -83,16 +81,8 @@ module _ (w t : World) (o : Outcome) where
   ends-by (Key b) h = by-key b w.turns.halted refl h
   ends-by Send h = same-turns w.turns.halted refl (ap (λ (x : Turns). x.halted) h.2.0) (ap halted_by h.0)
 
-or_again : (a b c : Bool) → ((a || b) || c) ≡ (a || (b || c))
-or_again true b c = refl
-or_again false b c = refl
-
 -- after a list of events it is halted where it was, or where one of them halts it
 pub ends-in : (w : World) (es : List (Event × Outcome)) (t : World) → IsPromised w es t → is_some t.turns.halted ≡ (is_some w.turns.halted || halts es)
-ends-in w [] t h = ap (λ (x : World). is_some x.turns.halted) h ∙ plain (is_some w.turns.halted)
-  where
-    plain : (b : Bool) → b ≡ (b || false)
-    plain true = refl
-    plain false = refl
+ends-in w [] t h = ap (λ (x : World). is_some x.turns.halted) h ∙ or_false (is_some w.turns.halted)
 ends-in w (e ∷ es) t h =
-    ends-in h.0 es t h.2 ∙ ap (λ b. b || halts es) (ends-by w h.0 e.1 e.0 h.1.0) ∙ or_again (is_some w.turns.halted) (is_some (halted_by e.1)) (halts es)
+    ends-in h.0 es t h.2 ∙ ap (λ b. b || halts es) (ends-by w h.0 e.1 e.0 h.1.0) ∙ or_assoc (is_some w.turns.halted) (is_some (halted_by e.1)) (halts es)

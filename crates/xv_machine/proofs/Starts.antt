@@ -17,10 +17,11 @@ use Rattle.hart_core.specs.declared.hart.Hart.{Hart}
 use Rattle.kernel_spec.specs.views.Processes.{Alive}
 use Rattle.kcall_core.specs.Kernel.{state_of, IsIdle, IsSound}
 use Rattle.kcall_core.specs.declared.kernel.Kernel.{Kernel}
-use Rattle.kernel_spec.proofs.steps.Maps.{get_same}
+use Rattle.kernel_spec.proofs.steps.MapsAfterChange.{get_same}
 use Rattle.kernel_spec.specs.views.State.{ProgramFile, State, named_file, live, live_part}
 use Rattle.kernel_spec.specs.views.Programs.{first_bad, init_of, init_name, program_bytes, program_named}
 use Rattle.std.specs.Prelude.{find, bytes_eq}
+use Rattle.std.proofs.lemmas.Option.{none-some}
 use Rattle.xk_base.specs.declared.program.Program.{Program}
 use Rattle.kcall_core.proofs.processes.Asking.{found-among}
 use Rattle.kernel_spec.specs.runs.First.{first, unless_refused, within_frames, first_init, first_loaded, first_state, first_turns, first_process}
@@ -28,7 +29,6 @@ use Rattle.kernel_spec.specs.views.NewKernel.{are_refused, refusal, or_memory, e
 use Rattle.kernel_spec.specs.runs.Run.{World}
 use Rattle.console_core.specs.Lists.{empty_console}
 use Rattle.kcall_core.specs.Starts.{IsBlank, init_loaded, started_world}
-use Rattle.kcall_core.proofs.table.States.{none-some}
 use Rattle.xv_machine.specs.Boots.{Boots}
 use Rattle.xv_machine.specs.Meaning.{Meaning}
 
@@ -50,7 +50,9 @@ module _ (frames trace : ℕ) (programs : List ProgramFile) where
   unfolding first
   first-bad bad = by (are_refused frames) (nat_lt TRACE_MAX trace) bad
     where
-      by : (a b : Bool) → (a || b) ≡ true → cond b (Err BadConfig) (unless_refused (cond a (Some BadConfig) (option_map BadPrograms (first_bad programs))) (first_init frames programs (init_of programs))) ≡ Err BadConfig
+      by : (a b : Bool) → (a || b) ≡ true → cond b (Err BadConfig)
+          (unless_refused (cond a (Some BadConfig) (option_map BadPrograms (first_bad programs))) (first_init frames programs (init_of programs)))
+          ≡ Err BadConfig
       by true true e = refl
       by true false e = refl
       by false true e = refl
@@ -96,12 +98,14 @@ module _ (frames : ℕ) (programs : List ProgramFile) where
   file-loaded (Some p) e = refl
 
   module _ (there : is_some (init_of programs) ≡ true) where
-    pub first-loaded : (r : Result Loaded ExecError) → loaded (program_bytes (init_of programs)) (init_name ∷ []) ≡ r → first_init frames programs (init_of programs) ≡ first_loaded frames programs (within_frames frames r)
+    pub first-loaded : (r : Result Loaded ExecError) → loaded (program_bytes (init_of programs)) (init_name ∷ []) ≡ r
+        → first_init frames programs (init_of programs) ≡ first_loaded frames programs (within_frames frames r)
     first-loaded r is = file-loaded (init_of programs) there ∙ ap (λ x. first_loaded frames programs (within_frames frames x)) is
 
     -- want of memory may come wherever a program was to be loaded
     pub boots-memory : Boots frames (Err Memory) (first_init frames programs (init_of programs))
-    boots-memory = subst (Boots frames (Err Memory)) (sym (first-loaded (loaded (program_bytes (init_of programs)) (init_name ∷ [])) refl)) (by (loaded (program_bytes (init_of programs)) (init_name ∷ [])))
+    boots-memory = subst (Boots frames (Err Memory)) (sym (first-loaded (loaded (program_bytes (init_of programs)) (init_name ∷ [])) refl))
+        (by (loaded (program_bytes (init_of programs)) (init_name ∷ [])))
       where
         either : (l : Loaded) (b : Bool) → Boots frames (Err Memory) (first_loaded frames programs (cond b (Err NoFrames) (Ok l)))
         either l true = inr refl
@@ -113,9 +117,11 @@ module _ (frames : ℕ) (programs : List ProgramFile) where
 
 -- ---- no kernel
 
-pub boots-no_kernel : (frames trace : ℕ) (programs : List ProgramFile) (e : BootError) → is_bad_config frames trace ≡ false → e ≡ or_memory (refusal frames programs) → is_some (init_of programs) ≡ true → Boots frames (Err e) (first frames trace programs)
+pub boots-no_kernel : (frames trace : ℕ) (programs : List ProgramFile) (e : BootError) → is_bad_config frames trace ≡ false
+    → e ≡ or_memory (refusal frames programs) → is_some (init_of programs) ≡ true → Boots frames (Err e) (first frames trace programs)
 boots-no_kernel frames trace programs e good is there = elim (no-kernel frames trace programs good e is) [
-  | inl memory ↦ subst (λ x. Boots frames (Err x) (first frames trace programs)) (sym memory.1) (subst (Boots frames (Err Memory)) (sym (first-is frames trace programs good memory.0)) (boots-memory frames programs there))
+  | inl memory ↦ subst (λ x. Boots frames (Err x) (first frames trace programs)) (sym memory.1)
+      (subst (Boots frames (Err Memory)) (sym (first-is frames trace programs good memory.0)) (boots-memory frames programs there))
   | inr bad ↦ subst (Boots frames (Err e)) (sym (first-bad_programs frames trace programs good bad.0 bad.1)) (ap Err bad.2)
 ]
 
@@ -131,12 +137,8 @@ boots-refusal frames (Init e) = inl refl
 
 pub boots-without_init : (frames trace : ℕ) (programs : List ProgramFile) (answer : BootError) → is_bad_config frames trace ≡ false
     → unless_refused (option_map BadPrograms (first_bad programs)) (first_init frames programs (init_of programs)) ≡ Err answer → Boots frames (Err answer) (first frames trace programs)
-boots-without_init frames trace programs answer good told = subst (Boots frames (Err answer)) (sym (first-good frames trace programs good (first_bad programs) refl ∙ told)) (boots-refusal frames answer)
-
--- a program that isn't there
-pub init-missing : (o : Option ProgramFile) → is_some o ≡ false → o ≡ None
-init-missing None e = refl
-init-missing (Some p) e = let no : ⊥ = cc in absurd no
+boots-without_init frames trace programs answer good told =
+    subst (Boots frames (Err answer)) (sym (first-good frames trace programs good (first_bad programs) refl ∙ told)) (boots-refusal frames answer)
 
 -- ---- a kernel
 
@@ -155,7 +157,8 @@ programs-same k frames programs is = ap (λ (s : State). s.programs) (is any_har
 
 pub boots-kernel : (k : Kernel) (frames trace : ℕ) (programs : List ProgramFile) (result : Result Meaning BootError) → is_bad_config frames trace ≡ false → refusal frames programs ≡ None
     → length k.memories.ram ≡ frames → map named_file k.programs.items ≡ programs
-    → Boots (length k.memories.ram) result (first_init (length k.memories.ram) (map named_file k.programs.items) (init_of (map named_file k.programs.items))) → Boots frames result (first frames trace programs)
+    → Boots (length k.memories.ram) result (first_init (length k.memories.ram) (map named_file k.programs.items)
+    (init_of (map named_file k.programs.items))) → Boots frames result (first frames trace programs)
 boots-kernel k frames trace programs result good made count same boots =
     subst (Boots frames result) (sym (first-is frames trace programs good (none-bad frames trace programs good made)))
     (subst (λ n. Boots n result (first_init n programs (init_of programs))) count (subst (λ ps. Boots (length k.memories.ram) result (first_init (length k.memories.ram) ps (init_of ps))) same boots))
@@ -192,19 +195,24 @@ module _ (frames : ℕ) (programs : List ProgramFile) (s : State) (free : s.free
   loads r is = ap (λ ps. loaded (program_bytes (init_of ps)) (init_name ∷ [])) (sym same) ∙ is
 
   -- it is there
-  pub boots-started : s.console ≡ empty_console → s.clock ≡ 0 → (l : Loaded) (m : Meaning) → init_loaded s ≡ Ok l → price l.image + 1 ≤ s.free → m.world ≡ started_world l s → m.frames.count ≡ frames → Boots frames (Ok m) (first_init frames programs (init_of programs))
+  pub boots-started : s.console ≡ empty_console → s.clock ≡ 0 → (l : Loaded) (m : Meaning) → init_loaded s ≡ Ok l → price l.image + 1 ≤ s.free
+      → m.world ≡ started_world l s → m.frames.count ≡ frames → Boots frames (Ok m) (first_init frames programs (init_of programs))
   boots-started console clock l m is enough world count =
       let low : nat_lt frames (price l.image + 1) ≡ false = le-ltb frames (price l.image + 1) (omega (arith, enough, free)) in
       let w : World = record { state = first_state frames programs l; turns = first_turns } in
-      let first_is : first_init frames programs (init_of programs) ≡ Ok w = first-loaded frames programs there (Ok l) (loads (Ok l) is) ∙ ap (λ b. first_loaded frames programs (cond b (Err NoFrames) (Ok l))) low in
+      let first_is : first_init frames programs (init_of programs) ≡ Ok w = first-loaded frames programs there (Ok l) (loads (Ok l) is)
+      ∙ ap (λ b. first_loaded frames programs (cond b (Err NoFrames) (Ok l))) low in
       let now : m.world ≡ w = world ∙ (λ i. record { state = record (first_state (free i) (same i) l) { console = console i; clock = clock i }; turns = first_turns }) in
       subst (Boots frames (Ok m)) (sym first_is) (inl (now, count))
 
   -- it is refused
   pub boots-refused : (e : ExecError) → within_frames s.free (init_loaded s) ≡ Err e → Boots frames (Err (Init e)) (first_init frames programs (init_of programs))
   boots-refused e refused =
-      let now : within_frames s.free (init_loaded s) ≡ within_frames frames (loaded (program_bytes (init_of programs)) (init_name ∷ [])) = λ i. within_frames (free i) (loaded (program_bytes (init_of (same i))) (init_name ∷ [])) in
-      let first_is : first_init frames programs (init_of programs) ≡ Err (Init e) = first-loaded frames programs there (loaded (program_bytes (init_of programs)) (init_name ∷ [])) refl ∙ ap (first_loaded frames programs) (sym now ∙ refused) in
+      let now : within_frames s.free (init_loaded s) ≡ within_frames frames (loaded (program_bytes (init_of programs)) (init_name ∷ [])) =
+      λ i. within_frames (free i) (loaded (program_bytes (init_of (same i))) (init_name ∷ [])) in
+      let first_is : first_init frames programs (init_of programs) ≡ Err (Init e) =
+      first-loaded frames programs there (loaded (program_bytes (init_of programs)) (init_name ∷ [])) refl
+      ∙ ap (first_loaded frames programs) (sym now ∙ refused) in
       subst (Boots frames (Err (Init e))) (sym first_is) (inl refl)
 
 -- ---- the programs

@@ -1,8 +1,9 @@
 -- What each frame is used for: what the kernel keeps, by pid.
-use Rattle.std.proofs.Common.{◌≡◌, ◌≢◌, ℕ, zero, suc, ◌^◌, ◌<◌, ◌≤◌, Bool, true, false, cond, ltb, List, [], ◌∷◌, length, get_or, Option, Some, None, inl, inr, refl, sym, ap, ◌∙◌, subst, arith}
+use Rattle.std.proofs.Common.{◌≡◌, ℕ, zero, suc, ◌^◌, ◌<◌, ◌≤◌, Bool, true, false, cond, ltb, List, [], ◌∷◌, length, get_or, Option, Some, None, inl, inr, refl, sym, ap, ◌∙◌, subst, arith}
 use Rattle.std.specs.Prelude.{ℤ, ◌↔◌, Contains}
 use Rattle.std.specs.FinMap.{get}
-use Rattle.std.proofs.lemmas.Bool.{cases_lt, cases_eq}
+use Rattle.std.proofs.lemmas.Bool.{cases_eq, lt-ltb}
+use Rattle.std.proofs.lemmas.Option.{none-some, same_Some}
 use Rattle.xk_base.specs.Frames.{copies}
 use Rattle.xk_base.specs.Gathered.{gathered}
 use Rattle.xk_base.proofs.Frames.{at, at-same, at-other, copies-nil, copies-cons}
@@ -10,7 +11,6 @@ use Rattle.sv39_core.specs.Sv39.{table_at, page_entry}
 use Rattle.sv39_core.specs.Tree.{frame_of, IsTree}
 use Rattle.sv39_core.proofs.Gathered.{gathered-get}
 use Rattle.sv39_core.proofs.Places.{upper-place, lower-place, page-place}
-use Rattle.sv39_core.proofs.Words.{ltb-yes, ltb-no}
 use Rattle.frame_list.specs.Pool.{free_in}
 use Rattle.hart_core.specs.declared.hart.Hart.{Hart}
 use Rattle.proc_table.specs.Slots.{place_at, slot_of}
@@ -28,16 +28,13 @@ use Rattle.kcall_core.specs.declared.memories.frame_roles.FrameRole.{FrameRole}
 use Rattle.kcall_core.specs.declared.memories.frame_roles.FrameRole.TheVariants.{Trapframe, Root, Upper, Lower, Page}
 use Rattle.kcall_core.proofs.table.ByPid.{found, none}
 use Rattle.kcall_core.proofs.table.Observed.{slot-found, pid-missing}
-use Rattle.kcall_core.proofs.table.States.{none-some, slot-inside}
+use Rattle.kcall_core.proofs.table.States.{slot-inside}
 use Rattle.xv_machine.specs.FrameUses as machine
 use Rattle.xv_machine.specs.FrameUses.{page_frame_in, page_frame_at}
 use Rattle.xv_machine.specs.Machine.{owned_by, owned_entry, owned_at, frames_in}
-use Rattle.xv_machine.specs.Meaning.{Owned, Frames, Meaning}
+use Rattle.xv_machine.specs.Meaning.{Owned, Frames}
 use Rattle.xv_machine.specs.declared.trace.Note.{Note}
 use Rattle.xv_machine.proofs.Frames.{owner, others, owned-none}
-
-some-same : {X : Type 0} (a b : X) → Some a ≡ Some b → a ≡ b
-some-same a b e = cc
 
 -- ---- what stands in a list of frames
 
@@ -56,7 +53,7 @@ contains-copies x (y ∷ ys) (suc k) lt is = omega (arith, copies-cons x y ys, c
 -- ---- what is gathered
 
 gathered-has : (g : ℕ → Option ℕ) (n v f : ℕ) → v < n → g v ≡ Some f → get (gathered g n) v ≡ Some f
-gathered-has g n v f lt is = gathered-get g n v ∙ ap (λ b. cond b (g v) None) (ltb-yes v n lt) ∙ is
+gathered-has g n v f lt is = gathered-get g n v ∙ ap (λ b. cond b (g v) None) (lt-ltb v n lt) ∙ is
 
 gathered-from : (g : ℕ → Option ℕ) (n v f : ℕ) → get (gathered g n) v ≡ Some f → g v ≡ Some f
 gathered-from g n v f is = by (ltb v n) (sym (gathered-get g n v) ∙ is)
@@ -102,7 +99,8 @@ module _ (k : Kernel) (h : Hart) (sound : IsSound k h) where
   -- of who has a memory
   owned-found : (i : ℕ) (p : Process) (m : Memory) → place_at k.table i ≡ Some p → get_or k.memories.each.items i None ≡ Some m → get (by_pid (owned_at k) 64) p.pid ≡ Some (owned_by k.memories.ram m)
   owned-found i p m at is =
-      let entry : owned_at k i ≡ Some (p.pid, owned_by k.memories.ram m) = ap (λ o. owned_entry k.memories.ram o (get_or k.memories.each.items i None)) at ∙ ap (owned_entry k.memories.ram (Some p)) is in
+      let entry : owned_at k i ≡ Some (p.pid, owned_by k.memories.ram m) =
+      ap (λ o. owned_entry k.memories.ram o (get_or k.memories.each.items i None)) at ∙ ap (owned_entry k.memories.ram (Some p)) is in
       found (owned_at k) 64 i p.pid (owned_by k.memories.ram m) (slot-inside k h sound i p at) entry (others k h sound i p at)
 
   -- nobody else has frames
@@ -130,7 +128,7 @@ module _ (k : Kernel) (h : Hart) (sound : IsSound k h) where
 
           memory : (x : Option Memory) → get_or k.memories.each.items i None ≡ x → IsOf pid o
           memory None none = absurd (none-some o (sym (no-memory-owned i p.0 p.1 none) ∙ here))
-          memory (Some m) some = (i, p.0, m, p.1, p.2, some, some-same o (owned_by k.memories.ram m) (sym here ∙ owned-found i p.0 m p.1 some))
+          memory (Some m) some = (i, p.0, m, p.1, p.2, some, same_Some o (owned_by k.memories.ram m) (sym here ∙ owned-found i p.0 m p.1 some))
 
   module _ (f pid : ℕ) (r : FrameRole) where
     owned-is : kernel.IsOwned k pid f r → machine.IsOwned (frames_in k) pid (Claim r f)
@@ -198,5 +196,7 @@ same-option None None both = refl
 same-option None (Some y) both = (both y).1 refl
 same-option (Some x) b both = sym ((both x).0 refl)
 
-pub page-told : (k : Kernel) (h : Hart) → IsSound k h → (halted : Option ℤ) (notes : List Note) (room pid v : ℕ) (result : Option ℕ) → ((f : ℕ) → (result ≡ Some f) ↔ kernel.IsUsed k f (told.Page pid v)) → result ≡ page_frame_at (frames_in k) pid v
-page-told k h sound halted notes room pid v result both = same-option result (page_frame_at (frames_in k) pid v) (λ f. use-told k h sound halted notes room f (result ≡ Some f) (told.Page pid v) (both f))
+pub page-told : (k : Kernel) (h : Hart) → IsSound k h → (halted : Option ℤ) (notes : List Note) (room pid v : ℕ) (result : Option ℕ)
+    → ((f : ℕ) → (result ≡ Some f) ↔ kernel.IsUsed k f (told.Page pid v)) → result ≡ page_frame_at (frames_in k) pid v
+page-told k h sound halted notes room pid v result both =
+    same-option result (page_frame_at (frames_in k) pid v) (λ f. use-told k h sound halted notes room f (result ≡ Some f) (told.Page pid v) (both f))

@@ -1,5 +1,6 @@
 -- What runs of equal notes stand for, as runs come and go.
-use Rattle.std.proofs.Common.{◌≡◌, ℕ, zero, suc, ◌+◌, ◌-◌, ◌*◌, ◌%◌, ◌^◌, ◌<◌, ◌≤◌, ◌⊎◌, inl, inr, List, [], ◌∷◌, ◌++◌, Some, None, length, get_or, take, drop, replicate, min, refl, sym, ap, ◌∙◌, subst, arith, append-nil, append_assoc, length-append}
+use Rattle.std.proofs.Common.{◌≡◌, ℕ, zero, suc, ◌+◌, ◌-◌, ◌*◌, ◌%◌, ◌^◌, ◌<◌, ◌≤◌, ◌⊎◌, inl, inr, List, [], ◌∷◌, ◌++◌}
+use Rattle.std.proofs.Common.{Some, None, length, get_or, take, drop, replicate, min, refl, sym, ap, ◌∙◌, subst, arith, append-nil, append_assoc, length-append}
 use Rattle.std.proofs.lemmas.List.{drop-append-le, drop-drop, drop_all, drop_at, length-drop, length-take, length-replicate, replicate-append-replicate, get_or-replicate}
 use Rattle.std.proofs.lemmas.Option.{slice_get-get_or, get_or_from_slice_get}
 use Rattle.std.specs.Prelude.{slice_get}
@@ -76,7 +77,8 @@ keep-taken c (suc n) count (r ∷ rs) fits are =
 -- ---- notes that come
 
 -- the newest run goes on
-pub written-longer : (count more : ℕ) (r : Run) (rs : List Run) → count < 2 ^ 64 → IsRun count r → gap r.begin count + more < 2 ^ 32 → written ((count + more) % 2 ^ 64) (r ∷ rs) ≡ written count (r ∷ rs) ++ replicate more r.note
+pub written-longer : (count more : ℕ) (r : Run) (rs : List Run) → count < 2 ^ 64 → IsRun count r → gap r.begin count + more < 2 ^ 32
+    → written ((count + more) % 2 ^ 64) (r ∷ rs) ≡ written count (r ∷ rs) ++ replicate more r.note
 written-longer count more r rs small is fits =
     let begins : r.begin < 2 ^ 64 = is.begins in
     let g : ℕ = gap r.begin count in
@@ -121,7 +123,8 @@ runs-go-on : (count more : ℕ) (rs : List Run) (note : Note) → count < 2 ^ 64
 runs-go-on count more [] note small are on = absurd on
 runs-go-on count more (r ∷ rs) note small are on = (run-longer count more r small are.0 on.1, are.1)
 
-written-goes-on : (count more : ℕ) (rs : List Run) (note : Note) → count < 2 ^ 64 → AreRuns count rs → GoesOn count rs note more → written ((count + more) % 2 ^ 64) rs ≡ written count rs ++ replicate more note
+written-goes-on : (count more : ℕ) (rs : List Run) (note : Note) → count < 2 ^ 64 → AreRuns count rs → GoesOn count rs note more
+    → written ((count + more) % 2 ^ 64) rs ≡ written count rs ++ replicate more note
 written-goes-on count more [] note small are on = absurd on
 written-goes-on count more (r ∷ rs) note small are on = written-longer count more r rs small are.0 on.1 ∙ ap (λ n. written count (r ∷ rs) ++ replicate more n) on.0
 
@@ -155,25 +158,31 @@ puts-run t note more small some fits is =
     }
 
 -- both, where the fields are known by equations
-puts-along : (old now then : Inside) (note : Note) (more added : ℕ) → now ≡ then → added ≡ more → Puts old (record { runs = then.runs; count = (then.count + more) % 2 ^ 64 }) note more → Puts old (record { runs = now.runs; count = (now.count + added) % 2 ^ 64 }) note more
+puts-along : (old now then : Inside) (note : Note) (more added : ℕ) → now ≡ then → added ≡ more
+    → Puts old (record { runs = then.runs; count = (then.count + more) % 2 ^ 64 }) note more
+    → Puts old (record { runs = now.runs; count = (now.count + added) % 2 ^ 64 }) note more
 puts-along old now then note more added same sum puts =
     subst (λ (t : Inside). Puts old (record { runs = t.runs; count = (t.count + added) % 2 ^ 64 }) note more) (sym same)
     (subst (λ n. Puts old (record { runs = then.runs; count = (then.count + n) % 2 ^ 64 }) note more) (sym sum) puts)
 
-pub puts-longer : (old now : Inside) (note : Note) (more added : ℕ) → old.count < 2 ^ 64 → IsTrace old → GoesOn old.count old.runs.items note more → now ≡ old → added ≡ more → Puts old (record { runs = now.runs; count = (now.count + added) % 2 ^ 64 }) note more
+pub puts-longer : (old now : Inside) (note : Note) (more added : ℕ) → old.count < 2 ^ 64 → IsTrace old → GoesOn old.count old.runs.items note more
+    → now ≡ old → added ≡ more → Puts old (record { runs = now.runs; count = (now.count + added) % 2 ^ 64 }) note more
 puts-longer old now note more added small is on same sum = puts-along old now old note more added same sum (puts-on old note more small is on)
 
-pub puts-begun : (old now : Inside) (runs : Buffer Run) (note : Note) (more added : ℕ) → old.count < 2 ^ 64 → 0 < more → more < 2 ^ 32 → IsTrace old → runs ≡ buffer (take old.runs.capacity (record { note = note; begin = old.count } ∷ old.runs.items)) old.runs.capacity
+pub puts-begun : (old now : Inside) (runs : Buffer Run) (note : Note) (more added : ℕ) → old.count < 2 ^ 64 → 0 < more → more < 2 ^ 32 → IsTrace old
+    → runs ≡ buffer (take old.runs.capacity (record { note = note; begin = old.count } ∷ old.runs.items)) old.runs.capacity
     → now ≡ record { runs = runs; count = old.count } → added ≡ more → Puts old (record { runs = now.runs; count = (now.count + added) % 2 ^ 64 }) note more
 unfolding begun
 puts-begun old now runs note more added small some fits is begins same sum =
     puts-along old now (begun old note) note more added (same ∙ ap (λ (b : Buffer Run). record { runs = b; count = old.count }) begins) sum (puts-run old note more small some fits is)
 
-pub puts-view : (old new : Inside) (before : Buffer Note) (note : Note) (more : ℕ) → notes_of old ≡ before → Puts old new note more → notes_of new ≡ buffer (keep_last before.capacity (before.items ++ replicate more note)) before.capacity
+pub puts-view : (old new : Inside) (before : Buffer Note) (note : Note) (more : ℕ) → notes_of old ≡ before → Puts old new note more
+    → notes_of new ≡ buffer (keep_last before.capacity (before.items ++ replicate more note)) before.capacity
 puts-view old new before note more is puts = puts.notes ∙ ap (λ (b : Buffer Note). buffer (keep_last b.capacity (b.items ++ replicate more note)) b.capacity) is
 
 -- nothing is put
-pub puts-none : (old : Inside) (before : Buffer Note) (note : Note) (more : ℕ) → notes_of old ≡ before → more ≡ 0 → before ≡ buffer (keep_last before.capacity (before.items ++ replicate more note)) before.capacity
+pub puts-none : (old : Inside) (before : Buffer Note) (note : Note) (more : ℕ) → notes_of old ≡ before → more ≡ 0
+    → before ≡ buffer (keep_last before.capacity (before.items ++ replicate more note)) before.capacity
 puts-none old before note more is none =
     let cap : ℕ = old.runs.capacity in
     let ws : List Note = written old.count old.runs.items in
@@ -201,7 +210,8 @@ taken-shorter (suc n) count (r ∷ rs) =
     omega (arith, taken-shorter n r.begin rs, length-append (written r.begin rs) ys, length-append (written r.begin (take n rs)) ys)
 
 -- the notes of the newest runs, up to one and with it
-pub length-taken : (count k : ℕ) (rs : List Run) (d : Run) → count < 2 ^ 64 → AreRuns count rs → k < length rs → length rs < 2 ^ 32 → gap (get_or rs k d).begin count ≡ length (written count (take (suc k) rs))
+pub length-taken : (count k : ℕ) (rs : List Run) (d : Run) → count < 2 ^ 64 → AreRuns count rs → k < length rs → length rs < 2 ^ 32
+    → gap (get_or rs k d).begin count ≡ length (written count (take (suc k) rs))
 length-taken count k [] d small are within few = absurd (omega arith)
 length-taken count zero (r ∷ rs) d small are within few = sym (length-replicate (gap r.begin count) r.note)
 length-taken count (suc k) (r ∷ rs) d small are within few =
@@ -211,11 +221,13 @@ length-taken count (suc k) (r ∷ rs) d small are within few =
     let before : gap (get_or rs k d).begin r.begin ≡ length ws = length-taken r.begin k rs d begins are.1 (omega arith) (omega arith) in
     let bound : length ws ≤ 2 ^ 32 * length (take (suc k) rs) = length-written r.begin (take (suc k) rs) (runs-taken (suc k) r.begin rs are.1) in
     let taken : length (take (suc k) rs) ≡ min (suc k) (length rs) = length-take (suc k) rs in
-    let sum : gap (get_or rs k d).begin count ≡ gap (get_or rs k d).begin r.begin + gap r.begin count = gap-sum (get_or rs k d).begin r.begin count (begins-fit r.begin k rs d are.1 (omega arith)) begins small (omega arith) in
+    let sum : gap (get_or rs k d).begin count ≡ gap (get_or rs k d).begin r.begin + gap r.begin count =
+    gap-sum (get_or rs k d).begin r.begin count (begins-fit r.begin k rs d are.1 (omega arith)) begins small (omega arith) in
     omega (arith, sum, before, length-append ws (replicate (gap r.begin count) r.note), length-replicate (gap r.begin count) r.note)
 
 -- the note that so many others follow: the newer runs have no more than those, and with its own run they have more
-pub written-at : (count k later : ℕ) (rs : List Run) (d : Run) → k < length rs → length (written count (take k rs)) ≤ later → later < length (written count (take (suc k) rs)) → slice_get (written count rs) (length (written count rs) - 1 - later) ≡ Some (get_or rs k d).note
+pub written-at : (count k later : ℕ) (rs : List Run) (d : Run) → k < length rs → length (written count (take k rs)) ≤ later
+    → later < length (written count (take (suc k) rs)) → slice_get (written count rs) (length (written count rs) - 1 - later) ≡ Some (get_or rs k d).note
 written-at count k later [] d within from to = absurd (omega arith)
 written-at count zero later (r ∷ rs) d within from to =
     let ws : List Note = written r.begin rs in
@@ -248,7 +260,8 @@ written-at count (suc k) later (r ∷ rs) d within from to =
 pub kept-at : (c place : ℕ) (xs : List Note) → place < min (length xs) c → slice_get (keep_last c xs) place ≡ slice_get xs (length xs - 1 - (min (length xs) c - 1 - place))
 kept-at c place xs within = slice_get-drop (length xs - c) xs place (length xs - 1 - (min (length xs) c - 1 - place)) (omega arith)
 
-pub taken-at : (count n k : ℕ) (rs : List Run) (r : Run) → count < 2 ^ 64 → AreRuns count rs → length rs < 2 ^ 32 → n ≤ length rs → n ≡ suc k → slice_get rs k ≡ Some r → gap r.begin count ≡ length (written count (take n rs))
+pub taken-at : (count n k : ℕ) (rs : List Run) (r : Run) → count < 2 ^ 64 → AreRuns count rs → length rs < 2 ^ 32 → n ≤ length rs → n ≡ suc k
+    → slice_get rs k ≡ Some r → gap r.begin count ≡ length (written count (take n rs))
 taken-at count n k rs r small are few within next at =
     ap (λ (x : Run). gap x.begin count) (sym (get_or_from_slice_get rs k r r at))
     ∙ length-taken count k rs r small are (omega arith) few
@@ -266,12 +279,10 @@ kept-length t b is =
     rest : (n c : ℕ) → n - (n - c) ≡ min n c
     rest n c = omega arith
 
-pub later-within : (t : Inside) (b : Buffer Note) (len place : ℕ) → notes_of t ≡ b → len ≡ length b.items → place < len → len - 1 - place < length (written t.count t.runs.items)
-later-within t b len place is long within = omega (arith, kept-length t b is)
-
 -- the note at a place, by its run
 pub note-at : (t : Inside) (b : Buffer Note) (len place k : ℕ) (r : Run) → notes_of t ≡ b → len ≡ length b.items → place < len → k < length t.runs.items
-    → length (written t.count (take k t.runs.items)) ≤ len - 1 - place → len - 1 - place < length (written t.count (take (k + 1) t.runs.items)) → slice_get t.runs.items k ≡ Some r → slice_get b.items place ≡ Some r.note
+    → length (written t.count (take k t.runs.items)) ≤ len - 1 - place → len - 1 - place < length (written t.count (take (k + 1) t.runs.items))
+    → slice_get t.runs.items k ≡ Some r → slice_get b.items place ≡ Some r.note
 note-at t b len place k r is long within inside from to at =
     let rs : List Run = t.runs.items in
     let ws : List Note = written t.count rs in

@@ -1,5 +1,5 @@
 -- Process 1 lives in the machine that was just booted.
-use Rattle.std.proofs.Common.{◌≡◌, ℕ, ◌+◌, Bool, true, false, cond, List, [], ◌∷◌, Option, None, Some, Result, Ok, Err, refl, sym, ap, ◌∙◌, subst}
+use Rattle.std.proofs.Common.{◌≡◌, ℕ, ◌+◌, Bool, true, false, cond, List, [], ◌∷◌, Option, None, Some, Result, Ok, Err, sym, ap, subst}
 use Rattle.std.specs.Prelude.{IsSome, nat_lt}
 use Rattle.xk_base.specs.Image.{price}
 use Rattle.xk_base.specs.Loaded.{Loaded, loaded}
@@ -13,19 +13,17 @@ use Rattle.kernel_spec.specs.views.NewKernel.{refusal}
 use Rattle.kernel_spec.specs.runs.Run.{World}
 use Rattle.kernel_spec.specs.views.Programs.{init_name, init_of}
 use Rattle.kernel_spec.specs.views.State.{ProgramFile, live}
+use Rattle.kernel_spec.proofs.Common.{same_Ok}
 use Rattle.xv_machine.specs.Meaning.{Meaning}
 use Rattle.xv_machine.specs.Sound.{IsSoundMachine, IsHalted}
-use Rattle.std.specs.Prelude.{ℤ}
 
 abbrev NotHalted : World → Type 0
 NotHalted w = w.turns.halted ≡ None
 
-some_world : (a b : World) → ◌≡◌ {A = Result World BootError} (Ok a) (Ok b) → a ≡ b
-some_world a b e = cc
-
-by_frames : (frames : ℕ) (programs : List ProgramFile) (l : Loaded) (w : World) (b : Bool) → first_loaded frames programs (cond {A = Result Loaded ExecError} b (Err NoFrames) (Ok l)) ≡ Ok w → NotHalted w
+by_frames : (frames : ℕ) (programs : List ProgramFile) (l : Loaded) (w : World) (b : Bool)
+    → first_loaded frames programs (cond {A = Result Loaded ExecError} b (Err NoFrames) (Ok l)) ≡ Ok w → NotHalted w
 by_frames frames programs l w true h = let no : ⊥ = cc in absurd no
-by_frames frames programs l w false h = ap (λ (v : World). v.turns.halted) (sym (some_world (record { state = first_state frames programs l; turns = first_turns }) w h))
+by_frames frames programs l w false h = ap (λ (v : World). v.turns.halted) (sym (same_Ok (record { state = first_state frames programs l; turns = first_turns }) w h))
 
 by_loaded : (frames : ℕ) (programs : List ProgramFile) (r : Result Loaded ExecError) (w : World) → first_loaded frames programs (within_frames frames r) ≡ Ok w → NotHalted w
 by_loaded frames programs (Err e) w h = let no : ⊥ = cc in absurd no
@@ -39,7 +37,8 @@ by_refusal : (frames : ℕ) (programs : List ProgramFile) (o : Option BootError)
 by_refusal frames programs (Some e) w h = let no : ⊥ = cc in absurd no
 by_refusal frames programs None w h = by_init frames programs (init_of programs) w h
 
-by_trace : (frames : ℕ) (programs : List ProgramFile) (w : World) (b : Bool) → cond b (Err BadConfig) (unless_refused (refusal frames programs) (first_init frames programs (init_of programs))) ≡ Ok w → NotHalted w
+by_trace : (frames : ℕ) (programs : List ProgramFile) (w : World) (b : Bool)
+    → cond b (Err BadConfig) (unless_refused (refusal frames programs) (first_init frames programs (init_of programs))) ≡ Ok w → NotHalted w
 by_trace frames programs w true h = let no : ⊥ = cc in absurd no
 by_trace frames programs w false h = by_refusal frames programs (refusal frames programs) w h
 

@@ -1,6 +1,6 @@
 -- What the answer of a fork tells: the pid of the child that it made.
-use Rattle.std.proofs.Common.{◌≡◌, ℕ, Bool, true, false, Option, None, Some, inl, inr, refl, sym, ap, ◌∙◌, subst}
-use Rattle.std.specs.Prelude.{ℤ, pos, negsuc, IsSome, MatchOption}
+use Rattle.std.proofs.Common.{◌≡◌, ℕ, Bool, true, false, Option, None, Some, inl, inr, sym, ap, ◌∙◌, subst}
+use Rattle.std.specs.Prelude.{ℤ, pos, IsSome, MatchOption}
 use Rattle.rv64i_core.specs.Step.{Step, Next, Ecall, Fault}
 use Rattle.proc_table.specs.declared.process.Call.{Call}
 use Rattle.kernel_spec.specs.rows.Calls.{Row, Fork, row_of, perform, refused}
@@ -11,7 +11,7 @@ use Rattle.kernel_spec.specs.views.View.{View}
 use Rattle.kernel_spec.specs.views.Words.{minus_one}
 use Rattle.kernel_spec.proofs.rows.ByTouch.{by_call, by_instruction}
 use Rattle.kernel_spec.proofs.rows.Outcomes.{Comes, perform_comes}
-use Rattle.kernel_spec.proofs.rows.RowParts.{perform_parts, perform_row, fork_parts, cannot_fork, forked, unless}
+use Rattle.kernel_spec.proofs.rows.RowParts.{perform_parts, perform_row, cannot_fork, forked, unless, fork_parts}
 use Rattle.kernel_spec.proofs.rows.Touched.{touched_view}
 
 -- call 1 that answers n has made a process of pid n

@@ -1,34 +1,37 @@
 -- The named are live, and no two are one. So there are no more of them than slots.
-use Rattle.std.proofs.Common.{◌≡◌, ◌≢◌, ◌⊎◌, ℕ, ◌+◌, ◌<◌, ◌≤◌, Bool, true, false, cond, not, List, [], ◌∷◌, ◌++◌, length, map, filter, replicate, eqb, Option, None, Some, Result, Ok, Err, inl, inr, refl, sym, ap, ◌∙◌, subst, arith}
-use Rattle.std.specs.Prelude.{ℤ, pos, negsuc, IsSome, IfSome, is_some, MatchOption, option_map, nat_eq, nat_le, ◌&&◌, ◌||◌}
+use Rattle.std.proofs.Common.{◌≡◌, ◌≢◌, ◌⊎◌, ℕ, ◌<◌, ◌≤◌, Bool, true, false, cond, not, List, [], ◌∷◌, ◌++◌, length}
+use Rattle.std.proofs.Common.{map, replicate, eqb, Option, None, Some, Ok, inl, inr, refl, sym, ap, ◌∙◌, subst}
+use Rattle.std.specs.Prelude.{ℤ, pos, negsuc, IsSome, IfSome, is_some, MatchOption, option_map, nat_le, ◌&&◌}
 use Rattle.std.specs.List.{IsDistinct, AllByRecursion, list_any}
 use Rattle.std.specs.FinMap.{FinMap, get}
 use Rattle.std.specs.Ordering.{int_eq, nat_cmp}
 use Rattle.std.proofs.lemmas.Bool.Decides.{eqb_tells, Decides-int_eq}
 use Rattle.std.proofs.lemmas.Bool.{or_cases, eqb-true}
-use Rattle.std.proofs.lemmas.List.{length-map, length-append}
+use Rattle.std.proofs.lemmas.List.{length-map}
 use Rattle.std.proofs.lemmas.Map.Steps.{length-le_from_distinct_below}
 use Rattle.xk_base.specs.declared.limits.TheConstants.{NPROC, PID_MAX}
 use Rattle.console_core.specs.Keys.{line}
-use Rattle.kernel_spec.specs.views.Processes.{Live, Process, Alive, Zombie}
+use Rattle.kernel_spec.specs.views.Processes.{Live, Process}
 use Rattle.kernel_spec.specs.views.State.{State, ProgramFile, live, live_part}
 use Rattle.kernel_spec.specs.views.View.{View, view, view_of}
 use Rattle.kernel_spec.specs.views.WellFormed.{HasSlots}
 use Rattle.kernel_spec.specs.views.Programs.{place_of, init_name}
 use Rattle.kernel_spec.specs.views.Words.{or_zero}
 use Rattle.kernel_spec.specs.waking.Turns.{Turns}
-use Rattle.kernel_spec.specs.steps.Own.{Own, Answer, Stepped, Called, Blocked, Exited, Faulted, gone_with}
+use Rattle.kernel_spec.specs.steps.Own.{Answer, Stepped, Called, Blocked, Exited, Faulted, gone_with}
 use Rattle.kernel_spec.specs.steps.Step.{own}
 use Rattle.kernel_spec.specs.runs.First.{first}
-use Rattle.xk_base.specs.declared.errors.BootError.{BootError}
 use Rattle.xv_machine.specs.Sound.{IsSoundMachine}
-use Rattle.kernel_spec.specs.runs.Run.{World, Event, Run, Tick, Key, Send, Outcome, Step_of, Turn, Idle, Halted, Ticked, Typed, Sent, TurnTaken, RunHappens, TickHappens, KeyHappens, Happens, StepOf, first_sent}
+use Rattle.kernel_spec.specs.runs.Run.{World, Event, Run, Tick, Key, Send, Outcome, Step_of, Turn, Idle, Halted}
+use Rattle.kernel_spec.specs.runs.Run.{Ticked, Typed, Sent, TurnTaken, RunHappens, TickHappens, KeyHappens, Happens, StepOf, first_sent}
 use Rattle.kernel_spec.proofs.rows.Pids.{own_sound}
-use Rattle.kernel_spec.proofs.steps.Kept.{pid_is}
-use Rattle.xv_session.specs.Names.{NamesGo, Among, Apart, AreLive, first_names, names_after, after_step, after_call, asked_in, without, with_place, with_child, child_of, gone_on_with, place_in, named_of}
+use Rattle.kernel_spec.proofs.steps.OthersKeepTheRest.{pid_is}
+use Rattle.kernel_spec.proofs.Common.{same_Ok, the_value, there_if_alive}
+use Rattle.xv_session.specs.Names.{NamesGo, Among, Apart, AreLive, first_names, names_after, after_step, after_call}
+use Rattle.xv_session.specs.Names.{asked_in, without, with_place, with_child, child_of, gone_on_with, place_in, named_of}
 use Rattle.xv_session.specs.declared.names.Named.{Named}
 use Rattle.xv_session.specs.Recorded.{Recorded, IsRecorded, IsLed, GoesBy, running_of}
-use Rattle.xv_session.specs.Steps.{IsSound, Advances, RunsMade}
+use Rattle.xv_session.specs.Steps.{IsSound, Advances}
 use Rattle.xv_session.specs.declared.running.Running.{Running}
 use Rattle.xv_machine.specs.Meaning.{Meaning}
 use Rattle.xv_machine.specs.Reached.{IsEvent}
@@ -92,21 +95,13 @@ with-place-live s p (Some place) names all lives = put-live s p place names all 
 
 -- ---- no more than slots
 
-some-process : (o : Option Process) → IsSome (live_part o) → IsSome o
-some-process None h = h
-some-process (Some x) h = refl
-
-some-is : {X : Type 0} (o : Option X) → IsSome o → (x : X) × (o ≡ Some x)
-some-is None e = let no : ⊥ = cc in absurd no
-some-is (Some x) e = (x, refl)
-
 module _ (s : State) (turns : Turns) (slots : HasSlots s turns) where
   slot-at : Named → ℕ
   slot-at n = or_zero (get turns.slots n.pid)
 
   in-slot : (n : Named) → IsSome (live s n.pid) → get turns.slots n.pid ≡ Some (slot-at n)
   unfolding slot-at
-  in-slot n lives = let h = some-is (get turns.slots n.pid) (slots.some n.pid (some-process (get s.processes n.pid) lives)) in h.1 ∙ ap (λ (o : Option ℕ). Some (or_zero o)) (sym h.1)
+  in-slot n lives = let h = the_value (get turns.slots n.pid) (slots.some n.pid (there_if_alive (get s.processes n.pid) lives)) in h.1 ∙ ap (λ (o : Option ℕ). Some (or_zero o)) (sym h.1)
 
   other-slots : (n : Named) (ns : List Named) → IsSome (live s n.pid) → ((p : ℕ) → Among p ns → IsSome (live s p)) → ¬ Among n.pid ns → AllByRecursion (λ y. eqb (slot-at n) y ≡ false) (map slot-at ns)
   other-slots n [] lives all new = tt
@@ -149,7 +144,7 @@ view-live s p h = by (live s p) h
     by (Some l) e = refl
 
 live-view : (s : State) (p : ℕ) → IsSome (live s p) → (v : View) × (view s p ≡ Some v)
-live-view s p h = let l = some-is (live s p) h in (view_of s p l.0, ap (option_map (view_of s p)) l.1)
+live-view s p h = let l = the_value (live s p) h in (view_of s p l.0, ap (option_map (view_of s p)) l.1)
 
 module _ (w t : World) (p : ℕ) (o : Outcome) (h : StepOf w p o t) where
   its-pid : h.before.pid ≡ p
@@ -195,7 +190,8 @@ module _ (w t : World) (p : ℕ) (o : Outcome) (h : StepOf w p o t) where
       by true = with-place-live t.state n (place_in p names) names all (child-live n answer)
       by false = all
 
-  called-live : (asked : Option ℕ) (number value : ℤ) (names : List Named) → (own h.before).answer ≡ Called number value → AreLive w.state names → AreLive t.state (after_call asked p number value names)
+  called-live : (asked : Option ℕ) (number value : ℤ) (names : List Named) → (own h.before).answer ≡ Called number value → AreLive w.state names
+      → AreLive t.state (after_call asked p number value names)
   called-live asked number value names answer all = by (int_eq number (pos 1)) refl
     where
       stays : gone_with (own h.before).answer ≡ None
@@ -229,7 +225,8 @@ turn-live w t (Sent b) asked names h all = absurd h
 turn-live w t Halted asked names h all = absurd h
 
 -- an event of which no name comes, and that changes no process
-quiet-live : (w t : World) (o x : Outcome) (asked : Option ℕ) (names : List Named) → o ≡ x → names_after asked x names ≡ names → t.state.processes ≡ w.state.processes → AreLive w.state names → AreLive t.state (names_after asked o names)
+quiet-live : (w t : World) (o x : Outcome) (asked : Option ℕ) (names : List Named) → o ≡ x → names_after asked x names ≡ names
+    → t.state.processes ≡ w.state.processes → AreLive w.state names → AreLive t.state (names_after asked o names)
 quiet-live w t o x asked names is quiet same all = subst (AreLive t.state) (sym (ap (λ y. names_after asked y names) is ∙ quiet)) (same-processes w.state t.state names same all)
 
 of-world : {w t : World} → t ≡ w → t.state.processes ≡ w.state.processes
@@ -270,14 +267,6 @@ no-names s = record { apart = tt; lives = λ p among. absurd among }
 first-live : (s : State) (programs : List ProgramFile) → IsSome (live s 1) → AreLive s (first_names programs)
 first-live s programs lives = with-place-live s 1 (place_of init_name programs) [] (no-names s) lives
 
--- there is room for the first name
-pub first-fit : (programs : List ProgramFile) → length (first_names programs) ≤ NPROC
-first-fit programs = by (place_of init_name programs)
-  where
-    by : (place : Option ℕ) → length (with_place 1 place []) ≤ NPROC
-    by None = omega arith
-    by (Some place) = omega arith
-
 -- after an event there is room for the names
 pub event-fit : (e : Event) (o : Outcome) (asked : Option ℕ) (a b : Meaning) (names : List Named) → AreLive a.world.state names → IsEvent a e o b → length (names_after asked o names) ≤ NPROC
 event-fit e o asked a b names all one = named-fit b.world.state b.world.turns one.sound.slots (names_after asked o names) (event-live a.world b.world e o asked names one.promised.0 all)
@@ -291,28 +280,25 @@ advances-sound e o old new sound one = record {
 pub goes-by-sound : (xs : List Event) (old new : Running) → IsSound old → GoesBy xs old new → IsSound new
 goes-by-sound xs old new sound p = record { machine = p.goes.sound; names = run-live p.list old.machine.world new.machine.world old.names new.names p.named sound.names }
 
-pub runs-sound : (most sent : ℕ) (last : Option Outcome) (old new : Running) → IsSound old → RunsMade most sent last old new → IsSound new
-runs-sound most sent last old new sound p = record { machine = p.goes.sound; names = run-live p.list old.machine.world new.machine.world old.names new.names p.named sound.names }
-
 -- what is led on from a boot
 pub led-is-sound : (frames trace : ℕ) (programs : List ProgramFile) (xs : List Event) (r : Running) → IsLed frames trace programs xs r → IsSound r
 led-is-sound frames trace programs xs r (list, those, reached, (booted, is, named)) = record {
   machine = led-sound frames trace programs xs r (list, those, reached, (booted, is, named));
   names =
       let m = reached.0 in
-      let same : m.world ≡ booted = ok-same m.world booted (sym reached.1 ∙ is) in
-      run-live list booted r.machine.world (first_names programs) r.names named (first-live booted.state programs (subst (λ (w : World). IsSome (live w.state 1)) same (first-lives frames trace programs m reached.1 reached.3)));
+      let same : m.world ≡ booted = same_Ok m.world booted (sym reached.1 ∙ is) in
+      run-live list booted r.machine.world (first_names programs) r.names named
+      (first-live booted.state programs (subst (λ (w : World). IsSome (live w.state 1)) same (first-lives frames trace programs m reached.1 reached.3)));
 }
-  where
-    ok-same : (a b : World) → ◌≡◌ {A = Result World BootError} (Ok a) (Ok b) → a ≡ b
-    ok-same a b e = cc
 
 -- what was just booted
-pub anew-sound : (frames trace : ℕ) (programs : List ProgramFile) (r : Running) → Boots frames (Ok r.machine) (first frames trace programs) → IsSoundMachine r.machine → HasEmptyTrace trace r.machine → r.names ≡ first_names r.machine.world.state.programs → IsSound r
+pub anew-sound : (frames trace : ℕ) (programs : List ProgramFile) (r : Running) → Boots frames (Ok r.machine) (first frames trace programs)
+    → IsSoundMachine r.machine → HasEmptyTrace trace r.machine → r.names ≡ first_names r.machine.world.state.programs → IsSound r
 anew-sound frames trace programs r boots sound empty names = led-is-sound frames trace programs [] r (booted-led frames trace programs r boots sound empty names).0
 
 -- instructions change no name
-pub instructed-sound : (made p : ℕ) (names : List Named) (a b : Meaning) → IsSound (record { machine = a; names = names }) → Goes a (replicate made (done_by p)) b → IsSound (record { machine = b; names = names })
+pub instructed-sound : (made p : ℕ) (names : List Named) (a b : Meaning) → IsSound (record { machine = a; names = names })
+    → Goes a (replicate made (done_by p)) b → IsSound (record { machine = b; names = names })
 instructed-sound made p names a b sound goes = record {
   machine = goes.sound;
   names = run-live (replicate made (done_by p)) a.world b.world names names (names-again made a.world b.world Run (Step_of p Stepped) names (step-nameless p) goes.run) sound.names;

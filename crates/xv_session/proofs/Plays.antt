@@ -1,10 +1,9 @@
 -- Events that are sent one after another, and those of spans.
-use Rattle.std.proofs.Common.{◌≡◌, ℕ, ◌-◌, ◌≤◌, List, [], ◌∷◌, ◌++◌, replicate, Option, refl, sym, ap, ap₂, ◌∙◌, subst, arith}
+use Rattle.std.proofs.Common.{ℕ, ◌-◌, ◌≤◌, List, [], ◌∷◌, ◌++◌, replicate, Option, refl, sym, ap, ap₂, ◌∙◌, subst, arith}
 use Rattle.std.proofs.lemmas.List.{replicate-append-replicate}
 use Rattle.kernel_spec.specs.views.State.{ProgramFile}
 use Rattle.kernel_spec.specs.runs.Run.{Event, Run, Outcome}
 use Rattle.xv_machine.specs.Meaning.{Meaning}
-use Rattle.xv_machine.specs.Reached.{IsReached}
 use Rattle.xv_machine.specs.Sound.{IsSoundMachine}
 use Rattle.xv_machine.proofs.Joins.{goes-none, goes-one, goes-join, events-join}
 use Rattle.xv_machine.proofs.Reached.{reaches_on, reached_is_sound}
@@ -24,7 +23,8 @@ pub goes-by-one : (e : Event) (o : Outcome) (old new : Running) → Advances old
 goes-by-one e o old new one = record {
   list = (e, o) ∷ [];
   goes = goes-one e o old.machine new.machine one.event.promised one.event.notes one.event.room one.event.frames one.event.sound;
-  named = subst (λ (ns : List Named). NamesGo old.machine.world ((e, o) ∷ []) new.machine.world old.names ns) (sym one.names) (names-one old.machine.world new.machine.world e o old.names one.event.promised);
+  named = subst (λ (ns : List Named). NamesGo old.machine.world ((e, o) ∷ []) new.machine.world old.names ns) (sym one.names)
+      (names-one old.machine.world new.machine.world e o old.names one.event.promised);
   those = refl;
 }
 
@@ -61,7 +61,8 @@ pub goes-by-runs : (most sent : ℕ) (last : Option Outcome) (a b : Running) →
 goes-by-runs most sent last a b made = record { list = made.list; goes = made.goes; named = made.named; those = made.those }
 
 -- some of so many equal events, and then more
-pub more-sent : (count left sent : ℕ) (e : Event) (a b c : Running) → left ≤ count → sent ≤ left → GoesBy (replicate (count - left) e) a b → GoesBy (replicate sent e) b c → GoesBy (replicate (count - (left - sent)) e) a c
+pub more-sent : (count left sent : ℕ) (e : Event) (a b c : Running) → left ≤ count → sent ≤ left → GoesBy (replicate (count - left) e) a b
+    → GoesBy (replicate sent e) b c → GoesBy (replicate (count - (left - sent)) e) a c
 more-sent count left sent e a b c within few before now =
     subst (λ es. GoesBy es a c) (replicate-append-replicate (count - left) sent e ∙ ap (λ n. replicate n e) (omega (arith, within, few)))
     (goes-by-join (replicate (count - left) e) (replicate sent e) a b c before now)

@@ -65,7 +65,8 @@ pub led-programs : (frames trace : ℕ) (programs : List ProgramFile) (xs : List
 led-programs frames trace programs xs r led = played-programs frames trace programs xs r.machine (led-played frames trace programs xs r led)
 
 -- the machine that a boot made, and the first names
-pub booted-led : (frames trace : ℕ) (programs : List ProgramFile) (r : Running) → Boots frames (Ok r.machine) (first frames trace programs) → IsSoundMachine r.machine → HasEmptyTrace trace r.machine → r.names ≡ first_names r.machine.world.state.programs
+pub booted-led : (frames trace : ℕ) (programs : List ProgramFile) (r : Running) → Boots frames (Ok r.machine) (first frames trace programs)
+    → IsSoundMachine r.machine → HasEmptyTrace trace r.machine → r.names ≡ first_names r.machine.world.state.programs
     → IsLed frames trace programs [] r × IsLed frames trace r.machine.world.state.programs [] r × (r.machine.world.state.programs ≡ programs)
 booted-led frames trace programs r boots sound empty names =
     let reached = boot_reaches frames trace programs r.machine boots sound empty in

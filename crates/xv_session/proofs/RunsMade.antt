@@ -1,5 +1,5 @@
 -- Runs that were sent at once: of a process that runs, and where nobody runs.
-use Rattle.std.proofs.Common.{◌≡◌, ◌≢◌, ◌⊎◌, ℕ, zero, suc, ◌+◌, ◌<◌, ◌≤◌, List, [], ◌∷◌, ◌++◌, length, replicate, Option, None, Some, inl, inr, refl, sym, ap, ap₂, ◌∙◌, subst, arith}
+use Rattle.std.proofs.Common.{◌≡◌, ◌≢◌, ◌⊎◌, ℕ, zero, suc, ◌+◌, ◌<◌, List, [], ◌∷◌, ◌++◌, length, replicate, Option, None, Some, inl, inr, refl, sym, ap, ap₂, ◌∙◌, subst, arith}
 use Rattle.std.specs.Prelude.{ℤ, IsSome}
 use Rattle.std.proofs.lemmas.List.{length-replicate, replicate_more, length-append}
 use Rattle.kernel_spec.specs.runs.Run.{World, Event, Run, Outcome, Step_of, Turn, Idle, Halted, Ticked, Typed, Sent, TurnTaken, RunHappens, Happens, stays_current}
@@ -7,14 +7,13 @@ use Rattle.kernel_spec.specs.runs.Rounds.{events}
 use Rattle.kernel_spec.specs.steps.Own.{Answer, Stepped}
 use Rattle.kernel_spec.specs.steps.Step.{own}
 use Rattle.kernel_spec.specs.views.Words.{or_zero}
-use Rattle.kernel_spec.specs.waking.Turns.{Turns}
 use Rattle.kernel_spec.specs.waking.Wakes.{Promised, IsPromised}
 use Rattle.xv_machine.specs.Drives.{Goes, Ran, AreRuns, done_by}
 use Rattle.xv_machine.specs.Instructions.{NextIsOther}
 use Rattle.xv_machine.specs.Meaning.{Meaning}
 use Rattle.xv_machine.specs.Reached.{IsEvent}
 use Rattle.xv_machine.specs.Sound.{IsSoundMachine, IsHalted}
-use Rattle.xv_machine.proofs.Joins.{events-join, goes-none, goes-one, goes-join}
+use Rattle.xv_machine.proofs.Joins.{events-join, goes-one, goes-join}
 use Rattle.xv_machine.proofs.Sent.{events-again}
 use Rattle.xv_session.specs.Names.{NamesGo, names_after, asked_in}
 use Rattle.xv_session.specs.Steps.{Advances, RunsMade, AreRunsTo, idle_or_halted, passed}
@@ -47,10 +46,6 @@ one-passes w t o stopped h = by w.turns.halted w.turns.current stopped h
     by (Some status) current none h = inr (h.1, h.0)
     by None (Some p) none h = let bad : ⊥ = cc in absurd bad
     by None None none h = taken o h
-
-no-turn : (halted : Option ℤ) (p : ℕ) → idle_or_halted halted ≡ Turn p → ⊥
-no-turn None p e = cc
-no-turn (Some status) p e = cc
 
 no-step : (halted : Option ℤ) (p : ℕ) → Step_of p Stepped ≡ idle_or_halted halted → ⊥
 no-step None p e = cc
@@ -201,7 +196,8 @@ all-done most made names a b all goes =
     }
 
 -- something else came of the last one
-pub some-done : (most made p : ℕ) (o : Outcome) (names : List Named) (a mid : Meaning) (new : Running) → IsSoundMachine a → a.world.turns.current ≡ Some p → made < most → Goes a (replicate made (done_by (or_zero a.world.turns.current))) mid → NextIsOther mid
+pub some-done : (most made p : ℕ) (o : Outcome) (names : List Named) (a mid : Meaning) (new : Running) → IsSoundMachine a
+    → a.world.turns.current ≡ Some p → made < most → Goes a (replicate made (done_by (or_zero a.world.turns.current))) mid → NextIsOther mid
     → Advances (record { machine = mid; names = names }) Run o new → RunsMade most (made + 1) (Some o) (record { machine = a; names = names }) new
 some-done most made p o names a mid new sound is fewer goes next one =
     let q = or_zero a.world.turns.current in
@@ -212,9 +208,18 @@ some-done most made p o names a mid new sound is fewer goes next one =
     record {
       list = replicate made (done_by q) ++ (Run, o) ∷ [];
       goes = goes-join (replicate made (done_by q)) ((Run, o) ∷ []) a mid new.machine goes last;
-      named = names-join (replicate made (done_by q)) ((Run, o) ∷ []) a.world mid.world new.machine.world names names new.names (names-again made a.world mid.world Run (Step_of q Stepped) names (step-nameless q) goes.run)
+      named = names-join (replicate made (done_by q)) ((Run, o) ∷ []) a.world mid.world new.machine.world names names new.names
+          (names-again made a.world mid.world Run (Step_of q Stepped) names (step-nameless q) goes.run)
           (subst (λ (ns : List Named). NamesGo mid.world ((Run, o) ∷ []) new.machine.world names ns) (sym one.names) (names-one mid.world new.machine.world Run o names one.event.promised));
-      runs_are = inl (made, refl, fewer, (λ e. next q new.machine.world (subst (λ x. Happens mid.world Run x new.machine.world) e one.event.promised.0)), (λ e. no-idle step.0 (sym step.1 ∙ e)), (λ e. no-halted step.0 (sym step.1 ∙ e)));
+      runs_are = inl (
+        made,
+        refl,
+        fewer,
+        (λ e. next q new.machine.world
+            (subst (λ x. Happens mid.world Run x new.machine.world) e one.event.promised.0)),
+        (λ e. no-idle step.0 (sym step.1 ∙ e)),
+        (λ e. no-halted step.0 (sym step.1 ∙ e)),
+      );
       those = one-more made q o;
     }
   where
@@ -244,11 +249,13 @@ one-done p made names a b is one goes = record {
 }
 
 -- none was done, and then an event comes
-pub none-done : (p made : ℕ) (e : Event) (o : Outcome) (names : List Named) (a mid : Meaning) (new : Running) → made ≡ 0 → Goes a (replicate made (done_by p)) mid → Advances (record { machine = mid; names = names }) e o new
+pub none-done : (p made : ℕ) (e : Event) (o : Outcome) (names : List Named) (a mid : Meaning) (new : Running) → made ≡ 0
+    → Goes a (replicate made (done_by p)) mid → Advances (record { machine = mid; names = names }) e o new
     → Advances (record { machine = a; names = names }) e o new
 none-done p made e o names a mid new none goes one =
     let nothing : Goes a [] mid = subst (λ n. Goes a (replicate n (done_by p)) mid) none goes in
     record {
-      event = event-of e o a new.machine (goes-join [] ((e, o) ∷ []) a mid new.machine nothing (goes-one e o mid new.machine one.event.promised one.event.notes one.event.room one.event.frames one.event.sound));
+      event = event-of e o a new.machine (goes-join [] ((e, o) ∷ []) a mid new.machine nothing
+          (goes-one e o mid new.machine one.event.promised one.event.notes one.event.room one.event.frames one.event.sound));
       names = one.names ∙ ap (λ (w : World). names_after (asked_in w) o names) nothing.run;
     }

@@ -16,7 +16,8 @@ unmet-goes c (suc n) old new sound (mid, o, before, one, unmet) =
     subst (λ es. GoesBy es old new) (replicate_more n Run ∙ ap (λ k. replicate k Run) (add-one n))
     (goes-by-join (replicate n Run) (Run ∷ []) old mid new (unmet-goes c n old mid sound before) (goes-by-one Run o mid new one))
 
-pub searched-goes : (c : Condition) (most : ℕ) (met : Bool) (last : Option Outcome) (old new : Running) (sent : ℕ) → IsSound old → Searched c most met last old new sent → GoesBy (replicate sent Run) old new
+pub searched-goes : (c : Condition) (most : ℕ) (met : Bool) (last : Option Outcome) (old new : Running) (sent : ℕ) → IsSound old
+    → Searched c most met last old new sent → GoesBy (replicate sent Run) old new
 searched-goes c most met last old new zero sound (none, unmet, nothing, same) = subst (GoesBy [] old) (sym same) (goes-by-none old sound.machine)
 searched-goes c most met last old new (suc n) sound (mid, o, before, one, is, told, within, all) =
     subst (λ es. GoesBy es old new) (replicate_more n Run ∙ ap (λ k. replicate k Run) (add-one n))

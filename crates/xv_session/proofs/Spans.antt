@@ -1,5 +1,6 @@
 -- The events of spans, from the first on.
-use Rattle.std.proofs.Common.{◌≡◌, ℕ, zero, suc, ◌+◌, ◌-◌, ◌<◌, ◌≤◌, List, [], ◌∷◌, ◌++◌, length, map, take, drop, get_or, replicate, min, Option, None, Some, inl, inr, refl, sym, ap, ◌∙◌, subst, arith}
+use Rattle.std.proofs.Common.{◌≡◌, ℕ, zero, suc, ◌+◌, ◌-◌, ◌<◌, ◌≤◌, List, [], ◌∷◌, ◌++◌, length, map, take}
+use Rattle.std.proofs.Common.{drop, get_or, replicate, min, None, Some, inl, inr, refl, sym, ap, ◌∙◌, subst, arith}
 use Rattle.std.specs.Prelude.{slice_get}
 use Rattle.std.proofs.lemmas.Bool.{cases_lt}
 use Rattle.std.proofs.lemmas.Grind.{flat_map-append}
@@ -54,16 +55,21 @@ longer before count more e = ap (λ es. before ++ es) (sym (replicate-append-rep
 -- ---- a history
 
 -- more of the last kind
-pub kept-more : (over : List Span) (last : Span) (more : ℕ) → kept over (record last { count = last.count + more }) ≡ record { events = (kept over last).events ++ replicate more (kept over last).next; next = (kept over last).next }
+pub kept-more : (over : List Span) (last : Span) (more : ℕ)
+    → kept over (record last { count = last.count + more }) ≡ record
+    { events = (kept over last).events ++ replicate more (kept over last).next; next = (kept over last).next }
 kept-more over last more = ap (λ (es : List Event). let k : Kept = record { events = es; next = event_of last.event } in k) (longer (all_events over) last.count more (event_of last.event))
 
 -- the events before a place
-pub kept-first : (over : List Span) (last : Span) (place : ℕ) → take place (kept over last).events ≡ take place (all_events over) ++ replicate (min last.count (place - length (all_events over))) (event_of last.event)
-kept-first over last place = take-both place (all_events over) (span_events last) ∙ ap (λ es. take place (all_events over) ++ es) (take-equal (place - length (all_events over)) last.count (event_of last.event))
+pub kept-first : (over : List Span) (last : Span) (place : ℕ)
+    → take place (kept over last).events ≡ take place (all_events over) ++ replicate (min last.count (place - length (all_events over))) (event_of last.event)
+kept-first over last place = take-both place (all_events over) (span_events last)
+    ∙ ap (λ es. take place (all_events over) ++ es) (take-equal (place - length (all_events over)) last.count (event_of last.event))
 
 -- the last span is cut, so that the events end at the place
 pub cut-last : (over : List Span) (last : Span) (count place : ℕ) → count ≡ length (kept over last).events → place < count → count - place ≤ last.count
-    → (place ≡ length (kept over (record last { count = last.count - (count - place) })).events) × (take place (kept over (record last { count = last.count - (count - place) })).events ≡ take place (kept over last).events)
+    → (place ≡ length (kept over (record last { count = last.count - (count - place) })).events)
+    × (take place (kept over (record last { count = last.count - (count - place) })).events ≡ take place (kept over last).events)
 cut-last over last count place all before few =
     let xs = all_events over in
     let e = event_of last.event in
@@ -71,14 +77,18 @@ cut-last over last count place all before few =
     let long : length (xs ++ replicate last.count e) ≡ length xs + last.count = length-append xs (replicate last.count e) ∙ ap (λ n. length xs + n) (length-replicate last.count e) in
     let short : length (xs ++ replicate less e) ≡ length xs + less = length-append xs (replicate less e) ∙ ap (λ n. length xs + n) (length-replicate less e) in
     let ends : place ≡ length (xs ++ replicate less e) = omega (arith, all, long, short, before, few) in
-    let parts : replicate last.count e ≡ replicate less e ++ replicate (last.count - less) e = ap (λ n. replicate n e) (let sum : last.count ≡ less + (last.count - less) = omega (arith, few) in sum) ∙ sym (replicate-append-replicate less (last.count - less) e) in
-    let apart : xs ++ replicate last.count e ≡ (xs ++ replicate less e) ++ replicate (last.count - less) e = ap (λ es. xs ++ es) parts ∙ sym (append_assoc xs (replicate less e) (replicate (last.count - less) e)) in
+    let parts : replicate last.count e ≡ replicate less e ++ replicate (last.count - less) e =
+    ap (λ n. replicate n e) (let sum : last.count ≡ less + (last.count - less) = omega (arith, few) in sum)
+    ∙ sym (replicate-append-replicate less (last.count - less) e) in
+    let apart : xs ++ replicate last.count e ≡ (xs ++ replicate less e) ++ replicate (last.count - less) e = ap (λ es. xs ++ es) parts
+    ∙ sym (append_assoc xs (replicate less e) (replicate (last.count - less) e)) in
     (ends, sym (ap (take place) apart ∙ take-append-le place (xs ++ replicate less e) (replicate (last.count - less) e) (omega (arith, ends))))
 
 -- what one more span adds to the events before a place
 pub first-more : (spans : List Span) (place most : ℕ) (d : Span) → place < length spans
     → (most - length (all_events (take (place + 1) spans)) ≡ most - length (all_events (take place spans)) - min (get_or spans place d).count (most - length (all_events (take place spans))))
-    × (take most (all_events (take (place + 1) spans)) ≡ take most (all_events (take place spans)) ++ replicate (min (get_or spans place d).count (most - length (all_events (take place spans)))) (event_of (get_or spans place d).event))
+    × (take most (all_events (take (place + 1) spans)) ≡ take most (all_events (take place spans)) ++ replicate
+    (min (get_or spans place d).count (most - length (all_events (take place spans)))) (event_of (get_or spans place d).event))
 first-more spans place most d lt =
     let xs = all_events (take place spans) in
     let s = get_or spans place d in
@@ -115,11 +125,13 @@ around spans rest at d lt =
     let xs = all_events (take at spans) in
     let s = span_events (get_or spans at d) in
     let zs = all_events (drop (at + 1) spans) in
-    ap (λ (es : List Event). es ++ rest) (ap all_events (sym (take-append-drop (at + 1) spans)) ∙ flat_map-append span_events (take (at + 1) spans) (drop (at + 1) spans) ∙ ap (λ (es : List Event). es ++ zs) (one-span-more spans at d lt))
+    ap (λ (es : List Event). es ++ rest) (ap all_events (sym (take-append-drop (at + 1) spans))
+    ∙ flat_map-append span_events (take (at + 1) spans) (drop (at + 1) spans) ∙ ap (λ (es : List Event). es ++ zs) (one-span-more spans at d lt))
     ∙ append_assoc (xs ++ s) zs rest ∙ append_assoc xs s (zs ++ rest)
 
 -- those behind the spans that are over
-pub from-last : (over : List Span) (last : Span) (at before place count : ℕ) → length over ≤ at → before + length (all_events (take at over)) ≡ place → count ≡ length (kept over last).events → place < count
+pub from-last : (over : List Span) (last : Span) (at before place count : ℕ) → length over ≤ at → before + length (all_events (take at over)) ≡ place
+    → count ≡ length (kept over last).events → place < count
     → (before < last.count) × (take (last.count - before) (drop place (kept over last).events) ≡ replicate (last.count - before) (event_of last.event))
 from-last over last at before place count all is counted inside =
     let xs = all_events over in
@@ -128,7 +140,8 @@ from-last over last at before place count all is counted inside =
     let few : before < last.count = omega (arith, there, long, counted, inside) in (
       few,
       subst (λ (p : ℕ). take (last.count - before) (drop p (xs ++ span_events last)) ≡ replicate (last.count - before) (event_of last.event)) there
-          (ap (λ (es : List Event). take (last.count - before) (drop (before + length xs) (xs ++ es))) (sym (append-nil (span_events last))) ∙ from-middle xs [] last.count before (event_of last.event) (omega (arith, few))),
+          (ap (λ (es : List Event). take (last.count - before) (drop (before + length xs) (xs ++ es))) (sym (append-nil (span_events last)))
+          ∙ from-middle xs [] last.count before (event_of last.event) (omega (arith, few))),
     )
 
 -- ---- spans, one by one

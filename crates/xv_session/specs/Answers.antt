@@ -1,5 +1,5 @@
 -- What the calls of a session answer, and what they leave.
-use Rattle.std.specs.Prelude.{◌≡◌, ℕ, ◌+◌, ◌<◌, ◌≤◌, Bool, List, [], ◌∷◌, ◌++◌, take, drop, length, replicate, flat_map, slice_get, Option, None, Some, Result, Ok, Err}
+use Rattle.std.specs.Prelude.{◌≡◌, ℕ, ◌<◌, ◌≤◌, Bool, List, [], ◌∷◌, ◌++◌, take, drop, length, replicate, flat_map, slice_get, Option, None, Some, Result, Ok, Err}
 use Rattle.xk_base.specs.declared.errors.BootError.{BootError}
 use Rattle.kernel_spec.specs.views.State.{ProgramFile}
 use Rattle.kernel_spec.specs.runs.Run.{Event, Run, Outcome}

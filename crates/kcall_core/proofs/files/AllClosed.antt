@@ -3,11 +3,10 @@ use Rattle.std.proofs.Common.{◌≡◌, ◌≢◌, ℕ, suc, ◌+◌, Bool, tru
 use Rattle.std.specs.Prelude.{nat_eq, nat_lt, option_map}
 use Rattle.std.specs.Ordering.{nat_cmp}
 use Rattle.std.specs.FinMap.{FinMap, get, insert, remove}
-use Rattle.std.proofs.lemmas.Bool.{cases_eq, cases_lt}
+use Rattle.std.proofs.lemmas.Bool.{cases_lt, le-ltb, lt-ltb}
 use Rattle.std.proofs.lemmas.Bool.Decides.{eqb_tells}
 use Rattle.xk_base.specs.declared.limits.TheConstants.{NOFILE}
 use Rattle.sv39_core.proofs.Gathered.{same_pages}
-use Rattle.sv39_core.proofs.Words.{ltb-yes, ltb-no}
 use Rattle.hart_core.specs.declared.hart.Hart.{Hart}
 use Rattle.pipe_core.specs.Pipe.{Pipe}
 use Rattle.file_table.specs.Named.{named_by}
@@ -15,7 +14,6 @@ use Rattle.file_table.specs.declared.open_file.OpenFile.{OpenFile}
 use Rattle.proc_table.specs.Slots.{place_at, descriptors_at}
 use Rattle.proc_table.specs.declared.process.Process.{Process}
 use Rattle.kernel_spec.specs.views.Words.{or_zero}
-use Rattle.kernel_spec.specs.views.Processes as meaning
 use Rattle.kernel_spec.specs.views.Processes.{Live, Alive}
 use Rattle.kernel_spec.specs.views.State.{State, live_part}
 use Rattle.kernel_spec.specs.others.Quiet.{file_of, end_of, target_of_open}
@@ -26,25 +24,13 @@ use Rattle.kcall_core.specs.Closings.{woken_by, IsClosing, Remains, target_now, 
 use Rattle.kernel_spec.specs.waking.SleepsOn.{closes_wake}
 use Rattle.kcall_core.specs.declared.kernel.Kernel.{Kernel}
 use Rattle.kcall_core.proofs.turns.Turned.{live-is}
-use Rattle.kernel_spec.proofs.steps.Maps.{get_same, get_other, get_without}
+use Rattle.kernel_spec.proofs.steps.MapsAfterChange.{get_same, get_without, insert-twice, insert_again}
+use Rattle.kernel_spec.proofs.Common.{same_live}
 use Rattle.kcall_core.proofs.files.Namings.{named-seen, files-kept}
 use Rattle.kcall_core.proofs.table.Woken.{woken-none, woken-twice, option-twice}
 use Rattle.kcall_core.proofs.files.PipeLeft.{same-wakes, wakes-twice}
 
 -- ---- maps
-
--- what is put in twice stands as it was put in last
-insert-twice : (m : FinMap nat_cmp meaning.Process) (k : ℕ) (x y : meaning.Process) → insert (insert m k x) k y ≡ insert m k y
-insert-twice m k x y = same_pages (insert (insert m k x) k y) (insert m k y) (λ q. elim (cases_eq q k) [
-  | inl e ↦ ap (get (insert (insert m k x) k y)) e ∙ get_same (insert m k x) k y ∙ sym (ap (get (insert m k y)) e ∙ get_same m k y)
-  | inr apart ↦ get_other (insert m k x) k y q apart ∙ get_other m k x q apart ∙ sym (get_other m k y q apart)
-])
-
-insert-there : (m : FinMap nat_cmp meaning.Process) (k : ℕ) (x : meaning.Process) → get m k ≡ Some x → insert m k x ≡ m
-insert-there m k x is = same_pages (insert m k x) m (λ q. elim (cases_eq q k) [
-  | inl e ↦ ap (get (insert m k x)) e ∙ get_same m k x ∙ sym (ap (get m) e ∙ is)
-  | inr apart ↦ get_other m k x q apart
-])
 
 remove-absent : (m : FinMap nat_cmp ℕ) (k : ℕ) → get m k ≡ None → remove m k ≡ m
 remove-absent m k none = same_pages (remove m k) m (λ q. get_without m k q ∙ elim (eqb_tells q k) [
@@ -85,7 +71,8 @@ unused-closed {k} {h} {slot} {d} closing is unused =
       remains = remains-all k h;
       state =
           (λ t. record s {
-            processes = (sym (insert-there s.processes p (Alive l) (live-is k h closing.sound closing.running)) ∙ ap (λ ds. insert s.processes p (Alive (record l { descriptors = ds }))) (sym (remove-absent l.descriptors d none))) t;
+            processes = (sym (insert_again s.processes p (Alive l) (live-is k h closing.sound closing.running))
+                ∙ ap (λ ds. insert s.processes p (Alive (record l { descriptors = ds }))) (sym (remove-absent l.descriptors d none))) t;
             free = free t;
           })
           ∙ ap (λ o. changed_state p (with_closed d l) s.files (fewer_on o s.pipes) s.console (s.free + freed_on o s.pipes) s) (sym target);
@@ -111,7 +98,7 @@ closes-none {k} {h} closing = record {
       named-seen (descriptors_at k.table (slot_now k)) d
       ∙ past-none (descriptors_at k.table (slot_now k)) d
       ∙ ap (λ o. cond (nat_lt d NOFILE) o None) (sym (named-seen (descriptors_at k.table (slot_now k)) d));
-  state = λ t. record (state_of k h) { processes = sym (insert-there (state_of k h).processes (pid_now k) (Alive (live_now k h)) (live-is k h closing.sound closing.running)) t };
+  state = λ t. record (state_of k h) { processes = sym (insert_again (state_of k h).processes (pid_now k) (Alive (live_now k h)) (live-is k h closing.sound closing.running)) t };
   pipes = refl;
   free = refl;
 }
@@ -128,13 +115,11 @@ same-pid {k} {k'} {h} remains =
     by None = refl
     by (Some p) = refl
 
-same-live : (a b : Live) → Some (Alive a) ≡ Some (Alive b) → a ≡ b
-same-live a b e = cc
-
 -- it is what the state says
-now-is : {k k' : Kernel} {h : Hart} (l : Live) (s : State) (files : FinMap nat_cmp OpenFile) (pipes : FinMap nat_cmp Pipe) (free : ℕ) → IsClosing k' h → Remains k h k' → state_of k' h ≡ changed_state (pid_now k) l files pipes s.console free s → live_now k' h ≡ l
+now-is : {k k' : Kernel} {h : Hart} (l : Live) (s : State) (files : FinMap nat_cmp OpenFile) (pipes : FinMap nat_cmp Pipe) (free : ℕ)
+    → IsClosing k' h → Remains k h k' → state_of k' h ≡ changed_state (pid_now k) l files pipes s.console free s → live_now k' h ≡ l
 now-is {k} {k'} {h} l s files pipes free closing remains state =
-    same-live (live_now k' h) l
+    same_live (live_now k' h) l
     (sym (live-is k' h closing.sound closing.running)
     ∙ ap (get (state_of k' h).processes) (same-pid remains)
     ∙ ap (λ (t : State). get t.processes (pid_now k)) state
@@ -163,20 +148,22 @@ joined-remains {k} {k1} {k2} {h} first second = record {
 -- below a bound, but not one number
 below-less : (e d : ℕ) (o : Option ℕ) → cond (nat_eq e d) None (cond (nat_lt e (suc d)) o None) ≡ cond (nat_lt e d) o None
 below-less e d o = elim (eqb_tells e d) [
-  | inl h ↦ ap (λ b. cond b None (cond (nat_lt e (suc d)) o None)) h.0 ∙ sym (ap (λ b. cond b o None) (ltb-no e d (omega (arith, h.1))))
+  | inl h ↦ ap (λ b. cond b None (cond (nat_lt e (suc d)) o None)) h.0 ∙ sym (ap (λ b. cond b o None) (le-ltb e d (omega (arith, h.1))))
   | inr h ↦ ap (λ b. cond b None (cond (nat_lt e (suc d)) o None)) h.0 ∙ elim (cases_lt e d) [
-    | inl lt ↦ ap (λ b. cond b o None) (ltb-yes e (suc d) (omega (arith, lt)) ∙ sym (ltb-yes e d lt))
-    | inr ge ↦ let ne : e ≢ d = h.1 in ap (λ b. cond b o None) (ltb-no e (suc d) (omega (arith, ge, ne)) ∙ sym (ltb-no e d ge))
+    | inl lt ↦ ap (λ b. cond b o None) (lt-ltb e (suc d) (omega (arith, lt)) ∙ sym (lt-ltb e d lt))
+    | inr ge ↦ let ne : e ≢ d = h.1 in ap (λ b. cond b o None) (le-ltb e (suc d) (omega (arith, ge, ne)) ∙ sym (le-ltb e d ge))
   ]
 ]
 
 module _ {k k1 k2 : Kernel} {h : Hart} (d : ℕ) (closing : IsClosing k h) (first : ClosesFrom k h (suc d) k1) (second : Closes k1 h d k2) where
   live-first : live_now k1 h ≡ record (live_now k h) { descriptors = (live_now k1 h).descriptors }
-  live-first = now-is (record (live_now k h) { descriptors = (live_now k1 h).descriptors }) (state_of k h) (state_of k1 h).files (state_of k1 h).pipes (state_of k1 h).free first.after first.remains first.state
+  live-first = now-is (record (live_now k h) { descriptors = (live_now k1 h).descriptors }) (state_of k h) (state_of k1 h).files
+      (state_of k1 h).pipes (state_of k1 h).free first.after first.remains first.state
 
   live-second : live_now k2 h ≡ with_closed d (live_now k1 h)
   live-second =
-      now-is (with_closed d (live_now k1 h)) (state_of k1 h) (state_of k2 h).files (fewer_on (target_now k1 h d) (state_of k1 h).pipes) ((state_of k1 h).free + freed_on (target_now k1 h d) (state_of k1 h).pipes) second.after second.remains second.state
+      now-is (with_closed d (live_now k1 h)) (state_of k1 h) (state_of k2 h).files (fewer_on (target_now k1 h d) (state_of k1 h).pipes)
+      ((state_of k1 h).free + freed_on (target_now k1 h d) (state_of k1 h).pipes) second.after second.remains second.state
 
   next-descriptors : (e : ℕ) → get (live_now k2 h).descriptors e ≡ cond (nat_lt e d) (get (live_now k h).descriptors e) None
   next-descriptors e =
@@ -186,7 +173,7 @@ module _ {k k1 k2 : Kernel} {h : Hart} (d : ℕ) (closing : IsClosing k h) (firs
       ∙ below-less e d (get (live_now k h).descriptors e)
 
   here : get (live_now k1 h).descriptors d ≡ get (live_now k h).descriptors d
-  here = first.descriptors d ∙ ap (λ b. cond b (get (live_now k h).descriptors d) None) (ltb-yes d (suc d) (omega arith))
+  here = first.descriptors d ∙ ap (λ b. cond b (get (live_now k h).descriptors d) None) (lt-ltb d (suc d) (omega arith))
 
   same-end : (o : Option ℕ) → get (live_now k1 h).descriptors d ≡ o → end_of (state_of k1 h) o ≡ end_of (state_of k h) o
   same-end None is = refl
@@ -213,7 +200,8 @@ module _ {k k1 k2 : Kernel} {h : Hart} (d : ℕ) (closing : IsClosing k h) (firs
       let s = state_of k h in
       let p = pid_now k in
       let last : with_closed d (live_now k1 h) ≡ record (live_now k h) { descriptors = (live_now k2 h).descriptors } =
-      (λ t. record (live-first t) { descriptors = remove (live_now k1 h).descriptors d }) ∙ ap (λ ds. record (live_now k h) { descriptors = ds }) (ap (λ (l : Live). l.descriptors) (sym live-second)) in
+      (λ t. record (live-first t) { descriptors = remove (live_now k1 h).descriptors d })
+      ∙ ap (λ ds. record (live_now k h) { descriptors = ds }) (ap (λ (l : Live). l.descriptors) (sym live-second)) in
       ap (λ (t : State). t.processes) second.state
       ∙ ap (λ n. insert (state_of k1 h).processes n (Alive (with_closed d (live_now k1 h)))) (same-pid first.remains)
       ∙ ap (λ (t : State). insert t.processes p (Alive (with_closed d (live_now k1 h)))) first.state

@@ -3,6 +3,7 @@ use Rattle.std.proofs.Common.{◌≡◌, ℕ, ◌+◌, ◌<◌, Bool, true, cond
 use Rattle.std.specs.Prelude.{ℤ, pos, negsuc, IsSome, is_some, option_map}
 use Rattle.std.specs.Ordering.{nat_cmp}
 use Rattle.std.specs.FinMap.{FinMap, get}
+use Rattle.std.proofs.lemmas.Option.{none-some}
 use Rattle.xk_base.specs.declared.limits.TheConstants.{NOFILE}
 use Rattle.hart_core.specs.declared.hart.Hart.{Hart}
 use Rattle.pipe_core.specs.Pipe.{Pipe}
@@ -33,28 +34,29 @@ use Rattle.kcall_core.specs.Kernel.{frame_count, state_of, IsRunning, slot_now, 
 use Rattle.kcall_core.specs.Whole.{IsWhole, AreCounted}
 use Rattle.kcall_core.specs.Makes.{Makes, view_now}
 use Rattle.kcall_core.specs.declared.kernel.Kernel.{Kernel}
-use Rattle.kernel_spec.proofs.steps.Maps.{get_same, insert-twice}
-use Rattle.kcall_core.proofs.table.States.{none-some, running}
-use Rattle.kernel_spec.proofs.steps.Names.{named_at}
+use Rattle.kernel_spec.proofs.steps.MapsAfterChange.{get_same, insert-twice}
+use Rattle.kcall_core.proofs.table.States.{running}
+use Rattle.kernel_spec.proofs.steps.NamesAreChosenAgain.{named_at}
 use Rattle.kcall_core.proofs.turns.Turned.{live-is}
 use Rattle.kcall_core.proofs.table.OnePlace.{ItsPlace, changed-place, place-counted, in-call-lives, in-call-channel}
 use Rattle.kcall_core.proofs.turns.WhoRuns.{place-is, place-lives, now-is}
 use Rattle.kcall_core.proofs.table.Woken.{woken_by-status, woken-channel}
 use Rattle.kcall_core.proofs.making.CallAnswers.{IsDone}
 use Rattle.kcall_core.proofs.files.Namings.{files-left}
-use Rattle.kernel_spec.proofs.steps.Pipes.{least_there}
+use Rattle.kernel_spec.proofs.steps.OnePipeChanges.{least_there}
 use Rattle.kernel_spec.proofs.well.WellLaws as well
-use Rattle.kernel_spec.proofs.steps.Descriptors.{close_law, close_pipe_law}
+use Rattle.kernel_spec.proofs.steps.DupCloseLawsHold.{close_law, close_pipe_law}
 use Rattle.kernel_spec.proofs.rows.Decoding.{close_case}
 use Rattle.kcall_core.proofs.files.AllClosed.{same-pid}
 use Rattle.kcall_core.proofs.files.PipeOpens.{opens-on-pipes, fewer-wake}
 use Rattle.kcall_core.proofs.making.Filing.{Filed, filed-makes}
-use Rattle.kernel_spec.proofs.rows.RowParts.{close_at, close_on, close_number}
+use Rattle.kernel_spec.proofs.rows.RowParts.{close_at, close_number, close_on}
 use Rattle.kernel_spec.proofs.rows.RowsByParts.{close_same}
 
 -- ---- what its row tells, whatever the descriptor is on
 
-module _ (k : Kernel) (h : Hart) (c : Call) (d g : ℕ) (x : OpenFile) (whole : IsWhole k h) (runs : IsRunning k) (below : d < NOFILE) (used : get (live_now k h).descriptors d ≡ Some g) (opened : get (state_of k h).files g ≡ Some x) where
+module _ (k : Kernel) (h : Hart) (c : Call) (d g : ℕ) (x : OpenFile) (whole : IsWhole k h) (runs : IsRunning k) (below : d < NOFILE)
+    (used : get (live_now k h).descriptors d ≡ Some g) (opened : get (state_of k h).files g ≡ Some x) where
   abbrev s : State
   s = state_of k h
 
@@ -93,7 +95,8 @@ module _ (k : Kernel) (h : Hart) (c : Call) (d g : ℕ) (x : OpenFile) (whole : 
       on-pipe None at some = let no : ⊥ = cc in absurd no
       on-pipe (Some z) at some = by (least_on_pipe (numbered s l) i) refl (least_there (numbered s l) i d below is-there (least_on_pipe (numbered s l) i) refl)
         where
-          to : closed_to (Pipe_end i end) left ≡ changed_state p (with_answer (pos 0) (with_closed d l)) left (settled i (parted z end 1) s.pipes) s.console (s.free + cond (is_given_up (parted z end 1)) 1 0) s
+          to : closed_to (Pipe_end i end) left ≡ changed_state p (with_answer (pos 0) (with_closed d l)) left
+              (settled i (parted z end 1) s.pipes) s.console (s.free + cond (is_given_up (parted z end 1)) 1 0) s
           to = λ t. changed_state p (with_answer (pos 0) (with_closed d l)) left (fewer_at i end s.pipes (at t)) s.console (s.free + freed_at end (at t)) s
 
           by : (o : Option ℕ) → least_on_pipe (numbered s l) i ≡ o → is_some o ≡ true → After s p l (close_at c (view_now k h) d shown) (closed_to (Pipe_end i end) left)
@@ -125,10 +128,12 @@ module _ (k : Kernel) (h : Hart) (c : Call) (d g : ℕ) (x : OpenFile) (whole : 
     slot1 = ap or_zero closed.remains.current
 
     state1 : state_of k1 h ≡ changed_state p (with_closed d l) left ends s.console free s
-    state1 = closed.state ∙ ap (λ (o : Option Target). changed_state p (with_closed d l) left (fewer_on o s.pipes) s.console (s.free + freed_on o s.pipes) s) (ap (end_of s) used ∙ ap target_of_open opened)
+    state1 = closed.state ∙ ap (λ (o : Option Target). changed_state p (with_closed d l) left (fewer_on o s.pipes) s.console
+        (s.free + freed_on o s.pipes) s) (ap (end_of s) used ∙ ap target_of_open opened)
 
     live1 : live_now k1 h ≡ with_closed d l
-    live1 = now-is k1 h (with_closed d l) closed.after.sound closed.after.running (ap (λ n. get (state_of k1 h).processes n) pid1 ∙ ap (λ (u : State). get u.processes p) state1 ∙ get_same s.processes p (Alive (with_closed d l)))
+    live1 = now-is k1 h (with_closed d l) closed.after.sound closed.after.running
+        (ap (λ n. get (state_of k1 h).processes n) pid1 ∙ ap (λ (u : State). get u.processes p) state1 ∙ get_same s.processes p (Alive (with_closed d l)))
 
     after-state : state_of k' h' ≡ closed_to x.target left
     after-state =
@@ -178,7 +183,8 @@ module _ (k : Kernel) (h : Hart) (c : Call) (d g : ℕ) (x : OpenFile) (whole : 
         subst (WellFormed (frame_count k)) after-state
         (subst (WellFormed (frame_count k)) (sym done.state)
         (subst (λ n. WellFormed n (own_state (pid_now k1) (with_answer (pos 0) (live_now k1 h)) (state_of k1 h))) closed.remains.frames
-        (well.alone (frame_count k1) (state_of k1 h) (pid_now k1) (live_now k1 h) (with_a0 (live_now k1 h).regs (word (pos 0))) (live_now k1 h).image None (live_now k1 h).killed (state_of k1 h).console (state_of k1 h).free closed.after.well
+        (well.alone (frame_count k1) (state_of k1 h) (pid_now k1) (live_now k1 h) (with_a0 (live_now k1 h).regs (word (pos 0)))
+        (live_now k1 h).image None (live_now k1 h).killed (state_of k1 h).console (state_of k1 h).free closed.after.well
         (live-is k1 h closed.after.sound closed.after.running) refl (record { typed = closed.after.well.keys; sent_later = closed.after.well.to_send }))))
 
     not-blocked : IsBlocked (close_at c (view_now k h) d shown).answer → ⊥

@@ -1,8 +1,8 @@
 -- What is told of a descriptor, by what the tables keep.
-use Rattle.std.proofs.Common.{◌≡◌, ℕ, ◌<◌, ◌≤◌, Bool, true, false, cond, ltb, Option, Some, None, refl, sym, ap, ◌∙◌, subst, arith}
+use Rattle.std.proofs.Common.{◌≡◌, ℕ, ◌<◌, ◌≤◌, cond, ltb, Some, None, refl, sym, ap, ◌∙◌, subst, arith}
 use Rattle.std.specs.Prelude.{is_some, IsSome, option_map}
+use Rattle.std.proofs.lemmas.Bool.{lt-ltb}
 use Rattle.xk_base.specs.declared.limits.TheConstants.{NOFILE}
-use Rattle.sv39_core.proofs.Words.{ltb-yes}
 use Rattle.hart_core.specs.declared.hart.Hart.{Hart}
 use Rattle.file_table.specs.Named.{named_by}
 use Rattle.file_table.specs.OpenFiles.{IsOpen, open_file_at, count_at}
@@ -11,6 +11,7 @@ use Rattle.proc_table.specs.Slots.{descriptors_at}
 use Rattle.kernel_spec.specs.views.Words.{or_zero}
 use Rattle.kernel_spec.specs.views.State.{live}
 use Rattle.kernel_spec.specs.others.Quiet.{file_of}
+use Rattle.kernel_spec.proofs.Common.{none_either_way}
 use Rattle.kcall_core.specs.Observers.{IsLiveIn, opened, descriptor_of}
 use Rattle.kcall_core.specs.Kernel.{state_of}
 use Rattle.kcall_core.specs.Whole.{IsWhole}
@@ -32,12 +33,14 @@ module _ (k : Kernel) (h : Hart) (whole : IsWhole k h) (pid i : ℕ) (there : Is
         ap (λ n. file_of (live (state_of k h') n) d) (sym there.3)
         ∙ ap (λ o. file_of o d) (live-held k h' whole.sound.table i there.0 there.1 there.2)
         ∙ named-seen (descriptors_at k.table i) d
-        ∙ ap (λ b. cond b (named_by (descriptors_at k.table i) d) None) (ltb-yes d NOFILE below)
+        ∙ ap (λ b. cond b (named_by (descriptors_at k.table i) d) None) (lt-ltb d NOFILE below)
 
     pub named-open : (file : ℕ) → named_by (descriptors_at k.table i) d ≡ Some file → IsOpen k.files file
-    named-open file is = let many : 1 ≤ or_zero (count_at k.files file) = omega (arith, whole.counted.counts file, named-counts k.table i d file told-inside below is) in ap is_some (counted-entry k.files file many).1
+    named-open file is = let many : 1 ≤ or_zero (count_at k.files file) =
+        omega (arith, whole.counted.counts file, named-counts k.table i d file told-inside below is) in ap is_some (counted-entry k.files file many).1
 
-    pub descriptor-told : (h' : Hart) (file : ℕ) (x : OpenFile) → named_by (descriptors_at k.table i) d ≡ Some file → open_file_at k.files file ≡ Some x → descriptor_of (state_of k h') pid d ≡ Some (record { file = file; open_file = x })
+    pub descriptor-told : (h' : Hart) (file : ℕ) (x : OpenFile) → named_by (descriptors_at k.table i) d ≡ Some file
+        → open_file_at k.files file ≡ Some x → descriptor_of (state_of k h') pid d ≡ Some (record { file = file; open_file = x })
     descriptor-told h' file x is kind =
         ap (opened (state_of k h')) (file-told h' ∙ is)
         ∙ ap (option_map (λ (y : OpenFile). let told : Descriptor = record { file = file; open_file = y } in told)) (file-seen k h' file (file-inside k.files file x whole.files kind) ∙ kind)
@@ -48,11 +51,7 @@ module _ (k : Kernel) (h : Hart) (whole : IsWhole k h) (pid i : ℕ) (there : Is
       (ap (λ n. file_of (live (state_of k h') n) d) (sym there.3)
       ∙ ap (λ o. file_of o d) (live-held k h' whole.sound.table i there.0 there.1 there.2)
       ∙ named-seen (descriptors_at k.table i) d
-      ∙ none-either (ltb d NOFILE) (named_by (descriptors_at k.table i) d) is)
-    where
-      none-either : (b : Bool) (o : Option ℕ) → o ≡ None → cond b o None ≡ None
-      none-either true o e = e
-      none-either false o e = refl
+      ∙ none_either_way (ltb d NOFILE) (named_by (descriptors_at k.table i) d) is)
 
   -- a descriptor that is in use has one of the numbers of descriptors
   pub named-below : (d file : ℕ) → named_by (descriptors_at k.table i) d ≡ Some file → d < NOFILE

@@ -4,9 +4,9 @@ use Rattle.std.specs.Prelude.{ℤ, pos, negsuc, IsSome, is_some, option_map, nat
 use Rattle.std.specs.Ordering.{nat_cmp}
 use Rattle.std.specs.FinMap.{FinMap, get, insert}
 use Rattle.std.proofs.Math.Path.{fun_ext}
-use Rattle.std.proofs.lemmas.Bool.{or_parts}
+use Rattle.std.proofs.lemmas.Bool.{or_parts, lt-ltb}
 use Rattle.std.proofs.lemmas.Bool.Decides.{eqb_tells}
-use Rattle.sv39_core.proofs.Words.{ltb-yes}
+use Rattle.std.proofs.lemmas.Option.{none-some}
 use Rattle.xk_base.specs.Gathered.{gathered}
 use Rattle.xk_base.specs.declared.limits.TheConstants.{NOFILE, OPEN_FILES, PIPE_BYTES}
 use Rattle.hart_core.specs.declared.hart.Hart.{Hart}
@@ -44,16 +44,16 @@ use Rattle.kcall_core.specs.Whole.{IsWhole, AreCounted}
 use Rattle.kcall_core.specs.Makes.{Makes, view_now}
 use Rattle.kcall_core.specs.declared.kernel.Kernel.{Kernel}
 use Rattle.kcall_core.specs.declared.memories.Memories.{Memories}
-use Rattle.kernel_spec.proofs.steps.Maps.{get_at}
-use Rattle.kcall_core.proofs.table.States.{none-some, slot-inside}
+use Rattle.kernel_spec.proofs.steps.MapsAfterChange.{get_at}
+use Rattle.kcall_core.proofs.table.States.{slot-inside}
 use Rattle.kcall_core.proofs.table.Stops.{live-place, now-slot}
 use Rattle.kcall_core.proofs.turns.Turned.{live-is}
-use Rattle.kernel_spec.proofs.steps.Names.{named_at}
-use Rattle.kernel_spec.proofs.steps.Pipes.{least_there}
+use Rattle.kernel_spec.proofs.steps.NamesAreChosenAgain.{named_at}
+use Rattle.kernel_spec.proofs.steps.OnePipeChanges.{least_there}
 use Rattle.kcall_core.proofs.table.Woken.{place-each, each-none}
 use Rattle.kcall_core.proofs.files.Namings.{named-seen}
 use Rattle.kernel_spec.proofs.well.WellOpens.{well_dup, well_dup_pipe}
-use Rattle.kernel_spec.proofs.steps.Descriptors.{dup_law, dup_pipe_law}
+use Rattle.kernel_spec.proofs.steps.DupCloseLawsHold.{dup_law, dup_pipe_law}
 use Rattle.kernel_spec.proofs.rows.Decoding.{dup_case}
 use Rattle.kcall_core.proofs.turns.StepSlots.{KeepsAll}
 use Rattle.kcall_core.proofs.making.CallAnswers.{IsDone}
@@ -98,11 +98,13 @@ more-wake (Pipe_end i end) m k h = by (get m i) refl
     by None is = same-wake m k h
     by (Some x) is = record {
       bytes = λ j shut. elim (eqb_tells j i) [
-        | inl e ↦ sym (ap (λ o. has_bytes (or_gone o)) (get_at m i (joined x end 1) j ∙ ap (λ b. cond b (Some (joined x end 1)) (get m j)) e.0) ∙ bytes-shut x end (sym (ap (λ o. has_bytes (or_gone o)) (ap (get m) e.1 ∙ is)) ∙ shut))
+        | inl e ↦ sym (ap (λ o. has_bytes (or_gone o)) (get_at m i (joined x end 1) j ∙ ap (λ b. cond b (Some (joined x end 1)) (get m j)) e.0)
+            ∙ bytes-shut x end (sym (ap (λ o. has_bytes (or_gone o)) (ap (get m) e.1 ∙ is)) ∙ shut))
         | inr e ↦ sym (ap (λ o. has_bytes (or_gone o)) (get_at m i (joined x end 1) j ∙ ap (λ b. cond b (Some (joined x end 1)) (get m j)) e.0) ∙ shut)
       ];
       room = λ j shut. elim (eqb_tells j i) [
-        | inl e ↦ sym (ap (λ o. has_room (or_gone o)) (get_at m i (joined x end 1) j ∙ ap (λ b. cond b (Some (joined x end 1)) (get m j)) e.0) ∙ room-shut x end (sym (ap (λ o. has_room (or_gone o)) (ap (get m) e.1 ∙ is)) ∙ shut))
+        | inl e ↦ sym (ap (λ o. has_room (or_gone o)) (get_at m i (joined x end 1) j ∙ ap (λ b. cond b (Some (joined x end 1)) (get m j)) e.0)
+            ∙ room-shut x end (sym (ap (λ o. has_room (or_gone o)) (ap (get m) e.1 ∙ is)) ∙ shut))
         | inr e ↦ sym (ap (λ o. has_room (or_gone o)) (get_at m i (joined x end 1) j ∙ ap (λ b. cond b (Some (joined x end 1)) (get m j)) e.0) ∙ shut)
       ];
       keys = λ shut. sym shut;
@@ -111,7 +113,8 @@ more-wake (Pipe_end i end) m k h = by (get m i) refl
       clock = refl;
     }
 
-module _ (k : Kernel) (h : Hart) (c : Call) (slot j d g : ℕ) (x : OpenFile) (whole : IsWhole k h) (runs : IsRunning k) (is : k.current ≡ Some slot) (source-below : j < NOFILE) (source : InUse k h j g x) (below : d < NOFILE) (free : named_by (descriptors_at k.table slot) d ≡ None) where
+module _ (k : Kernel) (h : Hart) (c : Call) (slot j d g : ℕ) (x : OpenFile) (whole : IsWhole k h) (runs : IsRunning k) (is : k.current ≡ Some slot)
+    (source-below : j < NOFILE) (source : InUse k h j g x) (below : d < NOFILE) (free : named_by (descriptors_at k.table slot) d ≡ None) where
   abbrev s : State
   s = state_of k h
 
@@ -130,7 +133,7 @@ module _ (k : Kernel) (h : Hart) (c : Call) (slot j d g : ℕ) (x : OpenFile) (w
   unused : get l.descriptors d ≡ None
   unused =
       named-seen (descriptors_at k.table (slot_now k)) d
-      ∙ ap (λ b. cond b (named_by (descriptors_at k.table (slot_now k)) d) None) (ltb-yes d NOFILE below)
+      ∙ ap (λ b. cond b (named_by (descriptors_at k.table (slot_now k)) d) None) (lt-ltb d NOFILE below)
       ∙ ap (λ n. named_by (descriptors_at k.table n) d) (sym (now-slot slot whole.sound is)) ∙ free
 
   abbrev shown : Descriptor
@@ -200,8 +203,10 @@ module _ (k : Kernel) (h : Hart) (c : Call) (slot j d g : ℕ) (x : OpenFile) (w
 
   joined-at : (m : Memories) (target : Target) → x.target ≡ target → Joins target k.memories m → Joined m target
   unfolding state_of
-  joined-at m Terminal e same = subst (λ n. Joined n Terminal) (sym same) (record { shares = record { sound = whole.sound.memories; each = refl; runs = λ a hart r. r }; pipes = refl; free-same = refl; frames = refl })
-  joined-at m (File program offset) e same = subst (λ n. Joined n (File program offset)) (sym same) (record { shares = record { sound = whole.sound.memories; each = refl; runs = λ a hart r. r }; pipes = refl; free-same = refl; frames = refl })
+  joined-at m Terminal e same = subst (λ n. Joined n Terminal) (sym same)
+      (record { shares = record { sound = whole.sound.memories; each = refl; runs = λ a hart r. r }; pipes = refl; free-same = refl; frames = refl })
+  joined-at m (File program offset) e same = subst (λ n. Joined n (File program offset)) (sym same)
+      (record { shares = record { sound = whole.sound.memories; each = refl; runs = λ a hart r. r }; pipes = refl; free-same = refl; frames = refl })
   joined-at m (Pipe_end i end) e changes =
       let z = pipe-some i end e in
       let new : joined (pipe_named (pipes_of k.memories) i) end 1 ≡ joined z.0 end 1 = ap (λ o. joined (or_new o) end 1) z.1 in
@@ -214,7 +219,9 @@ module _ (k : Kernel) (h : Hart) (c : Call) (slot j d g : ℕ) (x : OpenFile) (w
 
   -- ---- the code: the descriptor is there, and the call is done
 
-  module _ (k1 : Kernel) (table : k1.table ≡ record k.table { descriptors = set k.table.descriptors slot (with_named d (Some g) (descriptors_at k.table slot)) }) (kept : k1.files ≡ with_sharer g k.files) (joins : Joins x.target k.memories k1.memories) (rest : k1 ≡ record k { table = k1.table; files = k1.files; memories = k1.memories }) where
+  module _ (k1 : Kernel) (table : k1.table ≡ record k.table
+      { descriptors = set k.table.descriptors slot (with_named d (Some g) (descriptors_at k.table slot)) }) (kept : k1.files ≡ with_sharer g k.files)
+      (joins : Joins x.target k.memories k1.memories) (rest : k1 ≡ record k { table = k1.table; files = k1.files; memories = k1.memories }) where
     its-memories : Joined k1.memories x.target
     its-memories = joined-at k1.memories x.target refl joins
 
@@ -241,13 +248,15 @@ module _ (k : Kernel) (h : Hart) (c : Call) (slot j d g : ℕ) (x : OpenFile) (w
     state1 : state_of k1 h ≡ shared_to (update.with_named d g l) x.target
     unfolding state_of
     state1 =
-        put-state k k1 h slot d g whole.sound is current1 its-memories.shares fits below table (ap (λ (n : Kernel). n.console) rest) (ap (λ (n : Kernel). n.programs.items) rest) (ap (λ (n : Kernel). n.clock) rest)
+        put-state k k1 h slot d g whole.sound is current1 its-memories.shares fits below table (ap (λ (n : Kernel). n.console) rest)
+        (ap (λ (n : Kernel). n.programs.items) rest) (ap (λ (n : Kernel). n.clock) rest)
         ∙ (λ i. changed_state p (update.with_named d g l) (same-files i) (its-memories.pipes i) s.console (its-memories.free-same i) s)
 
     midway : Midway k h k1 h nobody (update.with_named d g l) s.files (more_on (Some x.target) s.pipes) s.console s.free
     midway = record {
       sound = shared-sound;
-      table = subst files.IsTable (sym kept) (more-table k.files g whole.files its-entry.0 its-entry.1 ((whole_has_room k h whole).sharers g its-entry.0.count (ap (option_map files.entry_count) its-entry.1)));
+      table = subst files.IsTable (sym kept) (more-table k.files g whole.files its-entry.0 its-entry.1
+          ((whole_has_room k h whole).sharers g its-entry.0.count (ap (option_map files.entry_count) its-entry.1)));
       counted = subst (λ fs. AreCounted fs k1.table) (sym kept)
           (shared-counted k.files k.table k1.table slot d g its-entry.0 whole.counted whole.files its-entry.1 inside below whole.sound.table.descriptors free (ap (λ (t : Slots). t.descriptors) table)
           (λ n. ap (λ (t : Slots). place_is_live (place_at t n)) table) (let now = whole.sound.current slot is in live-place k slot now.process now.is now.live));
@@ -275,7 +284,8 @@ module _ (k : Kernel) (h : Hart) (c : Call) (slot j d g : ℕ) (x : OpenFile) (w
       keeps = subst (KeepsAll s) (sym row) (record { child = refl; stays = refl; pids = refl })
 
       pub dup-makes : (k' : Kernel) (h' : Hart) → IsDone k1 h (pos d) k' h' → Makes k h (dup c (view_now k h)) k' h'
-      dup-makes k' h' done = midway-done whole runs midway k' h' (pos d) (dup c (view_now k h)) c.number done dup-answer keeps (subst (λ o. After s p l o (shared_to (with_answer (pos d) (update.with_named d g l)) x.target)) (sym row) (law-at x.target refl))
+      dup-makes k' h' done = midway-done whole runs midway k' h' (pos d) (dup c (view_now k h)) c.number done dup-answer keeps
+          (subst (λ o. After s p l o (shared_to (with_answer (pos d) (update.with_named d g l)) x.target)) (sym row) (law-at x.target refl))
 
 -- ---- no descriptor in use, or none free
 
@@ -286,7 +296,8 @@ dup-unused c v (negsuc k) none = refl
 pub dup-refused : (c : Call) (v : View) → ((d : ℕ) → c_int c.a0 ≡ pos d → v.descriptors d ≡ None) → dup c v ≡ refused c v
 dup-refused c v none = dup_same c v ∙ dup-unused c v (c_int c.a0) none
 
-pub dup-full : (k : Kernel) (h : Hart) (c : Call) (j g : ℕ) (x : OpenFile) → j < NOFILE → InUse k h j g x → c_int c.a0 ≡ pos j → lowest_free (view_now k h).descriptors ≡ None → dup c (view_now k h) ≡ refused c (view_now k h)
+pub dup-full : (k : Kernel) (h : Hart) (c : Call) (j g : ℕ) (x : OpenFile) → j < NOFILE → InUse k h j g x → c_int c.a0 ≡ pos j
+    → lowest_free (view_now k h).descriptors ≡ None → dup c (view_now k h) ≡ refused c (view_now k h)
 unfolding view_of
 dup-full k h c j g x below source is-fd full =
     let t = numbered (state_of k h) (live_now k h) in

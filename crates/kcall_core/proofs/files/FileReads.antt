@@ -1,10 +1,11 @@
 -- A read from a program's file, as the code goes through it.
-use Rattle.std.proofs.Common.{◌≡◌, ◌≢◌, ℕ, ◌+◌, ◌≤◌, ◌<◌, Bool, true, false, cond, ltb, List, length, take, drop, subst, Option, Some, None, IsSome, inl, inr, refl, sym, ap, ◌∙◌, arith}
+use Rattle.std.proofs.Common.{◌≡◌, ◌≢◌, ℕ, ◌+◌, ◌≤◌, ◌<◌, true, cond, ltb, List, length, take, drop, subst, Option, Some, None, IsSome, inl, inr, refl, sym, ap, ◌∙◌, arith}
 use Rattle.std.specs.Prelude.{ℤ, pos, option_map, slice_get}
 use Rattle.std.specs.FinMap.{get, insert}
 use Rattle.std.proofs.lemmas.Bool.{cases_eq, ltb-true}
 use Rattle.std.proofs.lemmas.Bool.Decides.{eqb_tells}
 use Rattle.std.proofs.lemmas.List.{length-take, length-set, get_or-set_same, get_or-set_other}
+use Rattle.std.proofs.lemmas.Option.{same_Some}
 use Rattle.xk_base.specs.declared.limits.TheConstants.{OPEN_FILES}
 use Rattle.xk_base.specs.Image.{Image}
 use Rattle.xk_base.specs.Bytes.{write_image}
@@ -31,7 +32,7 @@ use Rattle.kernel_spec.specs.others.Quiet.{target_of_open}
 use Rattle.kernel_spec.specs.steps.Updates.{changed_state, filed_state, set_file, with_answer, with_bytes}
 use Rattle.kernel_spec.specs.waking.Conditions.{at_start}
 use Rattle.kernel_spec.specs.laws.RowLaws.{After}
-use Rattle.kernel_spec.proofs.steps.Names.{name_of_file}
+use Rattle.kernel_spec.proofs.steps.NamesAreChosenAgain.{name_of_file}
 use Rattle.kernel_spec.specs.views.WellFormed.{WellFormed}
 use Rattle.kcall_core.specs.Holdings.{held_at, or_nothing, with_image, HasMemory}
 use Rattle.kcall_core.specs.Memories.{each_of, free_of, RunsIn, SlotChanges}
@@ -41,12 +42,12 @@ use Rattle.kcall_core.specs.Makes.{Makes, view_now}
 use Rattle.kcall_core.specs.Moves.{OnFile}
 use Rattle.kcall_core.specs.declared.kernel.Kernel.{Kernel}
 use Rattle.kcall_core.specs.declared.memories.Memories.{Memories}
-use Rattle.kernel_spec.proofs.steps.Maps.{get_at, get_same, get_other}
+use Rattle.kernel_spec.proofs.steps.MapsAfterChange.{get_at, get_same, get_other}
 use Rattle.kcall_core.proofs.files.Namings.{files-seen}
 use Rattle.kcall_core.proofs.table.States.{running, goes-processes, goes-sound, changed-here, changed-has, changed-goes}
 use Rattle.kcall_core.proofs.turns.Turned.{live-is}
 use Rattle.kernel_spec.proofs.rows.Decoding.{read_case}
-use Rattle.kernel_spec.proofs.steps.OnFiles.{file_read}
+use Rattle.kernel_spec.proofs.steps.FileLawsHold.{file_read}
 use Rattle.kernel_spec.proofs.well.WellLaws as well
 use Rattle.kernel_spec.proofs.well.WellSteps as steps
 use Rattle.kcall_core.proofs.turns.StepSlots.{KeepsAll}
@@ -55,19 +56,13 @@ use Rattle.kcall_core.proofs.making.Midway.{Midway, midway-done}
 use Rattle.kcall_core.proofs.making.Moved.{nobody, still}
 use Rattle.kcall_core.proofs.files.MovingRows.{shown-at, shown-there}
 use Rattle.kernel_spec.proofs.rows.RowParts.{read_from, read_file}
+use Rattle.kernel_spec.proofs.Common.{there_if_so}
 
 -- ---- the table of open files, with another offset
-
-there-if : (b : Bool) (o : Option OpenFile) (x : OpenFile) → cond b o None ≡ Some x → (b ≡ true) × (o ≡ Some x)
-there-if true o x e = (refl, e)
-there-if false o x e = let no : ⊥ = cc in absurd no
 
 entry-of : (o : Option Entry) (x : OpenFile) → option_map entry_file o ≡ Some x → (e : Entry) × (o ≡ Some e)
 entry-of None x e = let no : ⊥ = cc in absurd no
 entry-of (Some y) x e = (y, refl)
-
-same-entry : (y e : Entry) → Some y ≡ Some e → y ≡ e
-same-entry y e p = cc
 
 module _ (xs : List (Option Entry)) (g to : ℕ) (e : Entry) (is : entry_at xs g ≡ Some e) (inside : g < length xs) where
   offset-here : entry_at (with_offset g to xs) g ≡ Some (entry_moved to e)
@@ -87,7 +82,7 @@ module _ (xs : List (Option Entry)) (g to : ℕ) (e : Entry) (is : entry_at xs g
     places = length-set xs g (option_map (entry_moved to) (entry_at xs g)) ∙ table.places;
     counts = λ f y at. elim (cases_eq f g) [
       | inl same ↦
-          let moved : entry_moved to e ≡ y = same-entry (entry_moved to e) y (sym offset-here ∙ sym (ap (entry_at (with_offset g to xs)) same) ∙ at) in
+          let moved : entry_moved to e ≡ y = same_Some (entry_moved to e) y (sym offset-here ∙ sym (ap (entry_at (with_offset g to xs)) same) ∙ at) in
           subst (λ (z : Entry). (1 ≤ z.count) × (z.count ≤ SHARERS_MAX)) moved (table.counts g e is)
       | inr ne ↦ table.counts f y (sym (offset-other f ne) ∙ at)
     ];
@@ -97,7 +92,8 @@ module _ (xs : List (Option Entry)) (g to : ℕ) (e : Entry) (is : entry_at xs g
 pub slot-memory : {k : Kernel} {h : Hart} {slot : ℕ} → IsWhole k h → k.current ≡ Some slot → HasMemory (each_of k.memories) slot
 slot-memory {k} {h} {slot} whole is = let r = whole.sound.current slot is in whole.sound.lives slot r.process r.is r.live
 
-module _ {k : Kernel} {h : Hart} {c : Call} {file : ℕ} {x : OpenFile} {n : ℕ} (whole : IsWhole k h) (runs : IsRunning k) (on : OnFile k h c file x (writable_now (live_now k h).image c.a1) n) (reads : x.read ≡ true) (program offset : ℕ) (target : x.target ≡ File program offset)
+module _ {k : Kernel} {h : Hart} {c : Call} {file : ℕ} {x : OpenFile} {n : ℕ} (whole : IsWhole k h) (runs : IsRunning k)
+    (on : OnFile k h c file x (writable_now (live_now k h).image c.a1) n) (reads : x.read ≡ true) (program offset : ℕ) (target : x.target ≡ File program offset)
     (bytes : List ℕ) (bytes-are : bytes ≡ take n (drop offset (program_bytes (slice_get (state_of k h).programs program)))) where
   abbrev s : State
   s = state_of k h
@@ -138,10 +134,11 @@ module _ {k : Kernel} {h : Hart} {c : Call} {file : ℕ} {x : OpenFile} {n : ℕ
   file-keeps = subst (KeepsAll s) (sym row) (record { child = refl; stays = refl; pids = refl })
 
   file-law : After s p l (read c v) (filed_state p (with_answer (pos (length bytes)) (with_bytes c.a1 bytes l)) file y s)
-  file-law = subst (λ o. After s p l o (filed_state p (with_answer (pos (length bytes)) (with_bytes c.a1 bytes l)) file y s)) (sym row) (file_read s p l c on.fd file program offset x.read x.write bytes (live-is k h whole.sound runs) on.below on.named_file opened)
+  file-law = subst (λ o. After s p l o (filed_state p (with_answer (pos (length bytes)) (with_bytes c.a1 bytes l)) file y s)) (sym row)
+      (file_read s p l c on.fd file program offset x.read x.write bytes (live-is k h whole.sound runs) on.below on.named_file opened)
 
   here : (ltb file OPEN_FILES ≡ true) × (open_file_at k.files file ≡ Some x)
-  here = there-if (ltb file OPEN_FILES) (open_file_at k.files file) x (sym (files-seen k h file) ∙ on.opened)
+  here = there_if_so (ltb file OPEN_FILES) (open_file_at k.files file) x (sym (files-seen k h file) ∙ on.opened)
 
   entry : (e : Entry) × (entry_at k.files file ≡ Some e)
   entry = entry-of (entry_at k.files file) x here.1
@@ -152,7 +149,8 @@ module _ {k : Kernel} {h : Hart} {c : Call} {file : ℕ} {x : OpenFile} {n : ℕ
   inside : file < length k.files
   inside = omega (arith, ltb-true file OPEN_FILES here.0, whole.files.places)
 
-  module _ (m : Memories) (image : Image) (image-is : image ≡ write_image l.image c.a1 bytes) (slot : ℕ) (slot-is : slot ≡ slot_now k) (written : SlotChanges k.memories m slot (Some (with_image image (held_at (each_of k.memories) slot)))) (free : free_of m ≡ free_of k.memories)
+  module _ (m : Memories) (image : Image) (image-is : image ≡ write_image l.image c.a1 bytes) (slot : ℕ) (slot-is : slot ≡ slot_now k)
+      (written : SlotChanges k.memories m slot (Some (with_image image (held_at (each_of k.memories) slot)))) (free : free_of m ≡ free_of k.memories)
       (keeps-runs : (hart : Hart) → RunsIn k.memories slot hart → RunsIn m slot hart) (k1 : Kernel) (is-k1 : k1 ≡ record k { memories = m; files = with_offset file to k.files }) where
     abbrev mid : Kernel
     mid = record k { memories = m; files = with_offset file to k.files }
@@ -199,7 +197,8 @@ module _ {k : Kernel} {h : Hart} {c : Call} {file : ℕ} {x : OpenFile} {n : ℕ
     mid-state =
         let processes = goes-processes k mid h h whole.sound runs (changed-goes mid whole.sound runs refl refl changes) in
         (λ t. record (state_of mid h) { processes = processes t; files = files-now t; pipes = changes.pipes t; free = free t })
-        ∙ ap (λ o. changed_state p (live_of (place_now k) (descriptors_at k.table (slot_now k)) (or_nothing o) h.regs) (insert s.files file y) s.pipes s.console s.free s) (changed-here mid whole.sound runs refl refl changes)
+        ∙ ap (λ o. changed_state p (live_of (place_now k) (descriptors_at k.table (slot_now k)) (or_nothing o) h.regs)
+        (insert s.files file y) s.pipes s.console s.free s) (changed-here mid whole.sound runs refl refl changes)
 
     mid-well : WellFormed (frame_count k) (changed_state p moved (insert s.files file y) s.pipes s.console s.free s)
     mid-well =
@@ -239,4 +238,5 @@ module _ {k : Kernel} {h : Hart} {c : Call} {file : ℕ} {x : OpenFile} {n : ℕ
     }
 
     pub file-done : (k' : Kernel) (h' : Hart) (value : ℤ) → value ≡ pos (length bytes) → IsDone k1 h value k' h' → Makes k h (read c v) k' h'
-    file-done k' h' value is finished = midway-done whole runs file-midway k' h' (pos (length bytes)) (read c v) c.number (subst (λ (z : Kernel × ℤ). IsDone z.0 h z.1 k' h') (λ i. (is-k1 i, is i)) finished) file-answer file-keeps file-law
+    file-done k' h' value is finished = midway-done whole runs file-midway k' h' (pos (length bytes)) (read c v) c.number
+        (subst (λ (z : Kernel × ℤ). IsDone z.0 h z.1 k' h') (λ i. (is-k1 i, is i)) finished) file-answer file-keeps file-law

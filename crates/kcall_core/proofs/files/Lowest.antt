@@ -1,13 +1,13 @@
 -- The lowest free descriptor, as the table finds it and as the process sees it.
-use Rattle.std.proofs.Common.{◌≡◌, ℕ, ◌<◌, Bool, true, false, ◌&&◌, cond, List, length, get_or, Option, Some, None, refl, sym, ap, ◌∙◌, arith}
+use Rattle.std.proofs.Common.{◌≡◌, ℕ, ◌<◌, ◌&&◌, cond, List, length, get_or, Option, Some, None, refl, sym, ap, ◌∙◌, arith}
 use Rattle.std.specs.Prelude.{is_none, nat_lt, position}
 use Rattle.std.specs.List.{position_or_len}
-use Rattle.std.proofs.lemmas.Bool.{lt-ltb, le-ltb, ltb-true}
+use Rattle.std.proofs.lemmas.Bool.{lt-ltb, le-ltb, ltb-true, and_parts}
 use Rattle.std.proofs.lemmas.List.Sums.{position_or_len_is}
-use Rattle.sv39_core.proofs.Words.{ltb-yes}
 use Rattle.std.specs.FinMap.{get}
 use Rattle.xk_base.specs.Words.{least_below}
 use Rattle.xk_base.specs.declared.limits.TheConstants.{NOFILE}
+use Rattle.xk_base.proofs.Least.{none_below}
 use Rattle.hart_core.specs.declared.hart.Hart.{Hart}
 use Rattle.file_table.specs.Named.{named_by}
 use Rattle.proc_table.specs.Slots.{Slots, descriptors_at}
@@ -16,18 +16,19 @@ use Rattle.kcall_core.specs.Kernel.{frame_count, state_of, IsRunning, slot_now, 
 use Rattle.kcall_core.specs.Whole.{IsWhole}
 use Rattle.kcall_core.specs.Makes.{view_now}
 use Rattle.kcall_core.specs.declared.kernel.Kernel.{Kernel}
-use Rattle.kernel_spec.proofs.steps.Least.{least_passes, none_passes, least_congr, least_least}
+use Rattle.kernel_spec.proofs.steps.LeastPasses.{least_passes, least_congr, least_least}
 use Rattle.kcall_core.proofs.table.Stops.{now-slot}
 use Rattle.kcall_core.proofs.turns.Turned.{live-is}
 use Rattle.kcall_core.proofs.files.Namings.{named-seen}
 use Rattle.kernel_spec.proofs.rows.Decoding.{lowest_free_is, lowest_free_above_is}
+use Rattle.kernel_spec.proofs.Common.{none_from_is_none}
 
 pub least-position : {X : Type 0} (ds : List (Option X)) (n : ℕ) → length ds ≡ n → least_below (λ d. is_none (get_or ds d None)) n ≡ position is_none ds
 least-position ds n long = by (least_below (λ d. is_none (get_or ds d None)) n) refl
   where
     by : (o : Option ℕ) → least_below (λ d. is_none (get_or ds d None)) n ≡ o → least_below (λ d. is_none (get_or ds d None)) n ≡ position is_none ds
     by None e =
-        let none = none_passes n (λ d. is_none (get_or ds d None)) e in
+        let none = none_below (λ d. is_none (get_or ds d None)) n e in
         let at : position_or_len is_none ds ≡ length ds = position_or_len_is is_none ds (length ds) None (omega arith) (λ k lt. none k (omega (arith, lt, long))) (λ lt. absurd (omega (arith, lt))) in
         e ∙ sym (ap (λ i. cond (nat_lt i (length ds)) (Some i) None) at ∙ ap (λ b. cond b (Some (length ds)) None) (le-ltb (length ds) (length ds) (omega arith)))
     by (Some i) e =
@@ -36,47 +37,40 @@ least-position ds n long = by (least_below (λ d. is_none (get_or ds d None)) n)
         let at : position_or_len is_none ds ≡ i = position_or_len_is is_none ds i None (omega (arith, found.1, long)) earlier (λ lt. found.0) in
         e ∙ sym (ap (λ j. cond (nat_lt j (length ds)) (Some j) None) at ∙ ap (λ b. cond b (Some i) None) (lt-ltb i (length ds) (omega (arith, found.1, long))))
 
-pub lowest-shown : {k : Kernel} {h : Hart} {slot : ℕ} → IsWhole k h → IsRunning k → k.current ≡ Some slot → slot < 64 → lowest_free (view_now k h).descriptors ≡ position is_none (descriptors_at k.table slot)
+pub lowest-shown : {k : Kernel} {h : Hart} {slot : ℕ} → IsWhole k h → IsRunning k → k.current ≡ Some slot → slot < 64
+    → lowest_free (view_now k h).descriptors ≡ position is_none (descriptors_at k.table slot)
 lowest-shown {k} {h} {slot} whole runs is inside =
     let ds = descriptors_at k.table slot in
     lowest_free_is (frame_count k) (state_of k h) whole.well (pid_now k) (live_now k h) (live-is k h whole.sound runs)
     ∙ least_congr NOFILE (λ d. is_none (get (live_now k h).descriptors d)) (λ d. is_none (get_or ds d None)) (λ d below. ap is_none (
     named-seen (descriptors_at k.table (slot_now k)) d
-    ∙ ap (λ b. cond b (named_by (descriptors_at k.table (slot_now k)) d) None) (ltb-yes d NOFILE below)
+    ∙ ap (λ b. cond b (named_by (descriptors_at k.table (slot_now k)) d) None) (lt-ltb d NOFILE below)
     ∙ ap (λ n. named_by (descriptors_at k.table n) d) (sym (now-slot slot whole.sound is))))
     ∙ least-position ds NOFILE (whole.counted.lists slot inside)
 
 -- it is free
-pub lowest-free : {k : Kernel} {h : Hart} {slot d : ℕ} → IsWhole k h → slot < 64 → position is_none (descriptors_at k.table slot) ≡ Some d → (d < NOFILE) × (named_by (descriptors_at k.table slot) d ≡ None)
+pub lowest-free : {k : Kernel} {h : Hart} {slot d : ℕ} → IsWhole k h → slot < 64 → position is_none (descriptors_at k.table slot) ≡ Some d
+    → (d < NOFILE) × (named_by (descriptors_at k.table slot) d ≡ None)
 lowest-free {k} {h} {slot} {d} whole inside e =
     let ds = descriptors_at k.table slot in
     let found = least_passes NOFILE (λ n. is_none (get_or ds n None)) d (least-position ds NOFILE (whole.counted.lists slot inside) ∙ e) in
-    (found.1, none (named_by ds d) found.0)
-  where
-    none : (o : Option ℕ) → is_none o ≡ true → o ≡ None
-    none None e = refl
-    none (Some n) e = let no : ⊥ = cc in absurd no
+    (found.1, none_from_is_none (named_by ds d) found.0)
 
 -- the lowest above another one
-pub above-shown : {k : Kernel} {h : Hart} {slot : ℕ} → IsWhole k h → IsRunning k → k.current ≡ Some slot → (low : ℕ) → lowest_free_above (view_now k h).descriptors low ≡ least_below (λ d. nat_lt low d && is_none (named_by (descriptors_at k.table slot) d)) NOFILE
+pub above-shown : {k : Kernel} {h : Hart} {slot : ℕ} → IsWhole k h → IsRunning k → k.current ≡ Some slot → (low : ℕ)
+    → lowest_free_above (view_now k h).descriptors low ≡ least_below (λ d. nat_lt low d && is_none (named_by (descriptors_at k.table slot) d)) NOFILE
 above-shown {k} {h} {slot} whole runs is low =
     lowest_free_above_is (frame_count k) (state_of k h) whole.well (pid_now k) (live_now k h) (live-is k h whole.sound runs) low
-    ∙ least_congr NOFILE (λ d. nat_lt low d && is_none (get (live_now k h).descriptors d)) (λ d. nat_lt low d && is_none (named_by (descriptors_at k.table slot) d)) (λ d below. ap (λ o. nat_lt low d && is_none o) (
+    ∙ least_congr NOFILE (λ d. nat_lt low d && is_none (get (live_now k h).descriptors d))
+    (λ d. nat_lt low d && is_none (named_by (descriptors_at k.table slot) d)) (λ d below. ap (λ o. nat_lt low d && is_none o) (
     named-seen (descriptors_at k.table (slot_now k)) d
-    ∙ ap (λ b. cond b (named_by (descriptors_at k.table (slot_now k)) d) None) (ltb-yes d NOFILE below)
+    ∙ ap (λ b. cond b (named_by (descriptors_at k.table (slot_now k)) d) None) (lt-ltb d NOFILE below)
     ∙ ap (λ n. named_by (descriptors_at k.table n) d) (sym (now-slot slot whole.sound is))))
 
 -- it is free, and another one
-pub above-free : (t : Slots) (slot : ℕ) {low d : ℕ} → least_below (λ e. nat_lt low e && is_none (named_by (descriptors_at t slot) e)) NOFILE ≡ Some d → (d < NOFILE) × (named_by (descriptors_at t slot) d ≡ None) × (low < d)
+pub above-free : (t : Slots) (slot : ℕ) {low d : ℕ} → least_below (λ e. nat_lt low e && is_none (named_by (descriptors_at t slot) e)) NOFILE ≡ Some d
+    → (d < NOFILE) × (named_by (descriptors_at t slot) d ≡ None) × (low < d)
 above-free t slot {low} {d} e =
     let found = least_passes NOFILE (λ n. nat_lt low n && is_none (named_by (descriptors_at t slot) n)) d e in
-    let both = and-parts (nat_lt low d) (is_none (named_by (descriptors_at t slot) d)) found.0 in
-    (found.1, none (named_by (descriptors_at t slot) d) both.1, ltb-true low d both.0)
-  where
-    and-parts : (a b : Bool) → (a && b) ≡ true → (a ≡ true) × (b ≡ true)
-    and-parts true b e = (refl, e)
-    and-parts false b e = let no : ⊥ = cc in absurd no
-
-    none : (o : Option ℕ) → is_none o ≡ true → o ≡ None
-    none None e = refl
-    none (Some n) e = let no : ⊥ = cc in absurd no
+    let both = and_parts (nat_lt low d) (is_none (named_by (descriptors_at t slot) d)) found.0 in
+    (found.1, none_from_is_none (named_by (descriptors_at t slot) d) both.1, ltb-true low d both.0)

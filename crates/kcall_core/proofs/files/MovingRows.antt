@@ -2,6 +2,7 @@
 use Rattle.std.proofs.Common.{◌≡◌, ◌≢◌, ℕ, ◌<◌, Bool, true, false, not, Option, Some, None, inl, inr, refl, sym, ap, ◌∙◌, subst, arith}
 use Rattle.std.specs.Prelude.{ℤ, pos, negsuc, IsSome, is_some, option_map, nat_eq}
 use Rattle.std.specs.FinMap.{get}
+use Rattle.std.proofs.lemmas.Option.{same_Some}
 use Rattle.xk_base.specs.declared.limits.TheConstants.{NOFILE}
 use Rattle.hart_core.specs.declared.hart.Hart.{Hart}
 use Rattle.pipe_core.specs.Pipe.{Pipe}
@@ -26,8 +27,8 @@ use Rattle.kcall_core.specs.Makes.{view_now}
 use Rattle.kcall_core.specs.Moves.{OnFile, ReadsPipe, WritesPipe, allows, row_on, InUse}
 use Rattle.kcall_core.specs.declared.kernel.Kernel.{Kernel}
 use Rattle.kcall_core.proofs.turns.Turned.{live-is}
-use Rattle.kernel_spec.proofs.steps.Names.{named_at}
-use Rattle.kernel_spec.proofs.steps.Pipes.{least_there}
+use Rattle.kernel_spec.proofs.steps.NamesAreChosenAgain.{named_at}
+use Rattle.kernel_spec.proofs.steps.OnePipeChanges.{least_there}
 use Rattle.kernel_spec.proofs.rows.Decoding.{write_case}
 use Rattle.kernel_spec.proofs.rows.RowParts.{write_on, write_to, moving, unless, unless_nothing, length_of_int}
 use Rattle.kernel_spec.proofs.rows.RowsByParts.{write_same, read_unused, read_shut, read_below, read_nothing, read_unwritable, read_dear, read_ready}
@@ -64,14 +65,11 @@ moving-absent c v room z go n e some absent =
     ∙ ap (λ (b : Bool). unless_nothing b c v (λ _. unless (not (room n)) c v (λ _. go n))) some
     ∙ ap (λ (b : Bool). unless (not b) c v (λ _. go n)) absent
 
--- what stands in a place is one open file
-same-kind : (x y : OpenFile) → Some x ≡ Some y → x ≡ y
-same-kind x y e = cc
-
 pub in-use-as : {k : Kernel} {h : Hart} {d g : ℕ} (x y : OpenFile) → InUse k h d g x → open_file_at k.files g ≡ Some y → InUse k h d g y
-in-use-as {k} {h} {d} {g} x y source e = subst (InUse k h d g) (same-kind x y (sym source.kind ∙ e)) source
+in-use-as {k} {h} {d} {g} x y source e = subst (InUse k h d g) (same_Some x y (sym source.kind ∙ e)) source
 
-module _ {k : Kernel} {h : Hart} (c : Call) {fd file : ℕ} {x : OpenFile} (whole : IsWhole k h) (runs : IsRunning k) (below : fd < NOFILE) (number : c_int c.a0 ≡ pos fd) (source : InUse k h fd file x) where
+module _ {k : Kernel} {h : Hart} (c : Call) {fd file : ℕ} {x : OpenFile} (whole : IsWhole k h) (runs : IsRunning k) (below : fd < NOFILE)
+    (number : c_int c.a0 ≡ pos fd) (source : InUse k h fd file x) where
   abbrev s : State
   s = state_of k h
 
@@ -95,7 +93,9 @@ module _ {k : Kernel} {h : Hart} (c : Call) {fd file : ℕ} {x : OpenFile} (whol
   read-shut shut = read_shut c v fd shown number seen shut
 
   pub write-shut : x.write ≡ false → write c v ≡ refused c v
-  write-shut shut = write_same c v ∙ ap (write_on c v) found ∙ ap (λ (b : Bool). unless (not b) c v (λ _. moving c v (readable v.image c.a1 (length_of_int (c_int c.a2))) (c_int c.a2) (λ n. write_to c v n shown.shown))) shut
+  write-shut shut = write_same c v ∙ ap (write_on c v) found
+      ∙ ap (λ (b : Bool). unless (not b) c v (λ _. moving c v (readable v.image c.a1 (length_of_int (c_int c.a2))) (c_int c.a2)
+      (λ n. write_to c v n shown.shown))) shut
 
   module _ (reads : x.read ≡ true) where
     pub read-below : ((n : ℕ) → c_int c.a2 ≢ pos n) → read c v ≡ refused c v
@@ -119,7 +119,9 @@ module _ {k : Kernel} {h : Hart} (c : Call) {fd file : ℕ} {x : OpenFile} (whol
 
   module _ (writes : x.write ≡ true) where
     asked-to : write c v ≡ moving c v (readable v.image c.a1 (length_of_int (c_int c.a2))) (c_int c.a2) (λ n. write_to c v n shown.shown)
-    asked-to = write_same c v ∙ ap (write_on c v) found ∙ ap (λ (b : Bool). unless (not b) c v (λ _. moving c v (readable v.image c.a1 (length_of_int (c_int c.a2))) (c_int c.a2) (λ n. write_to c v n shown.shown))) writes
+    asked-to = write_same c v ∙ ap (write_on c v) found
+        ∙ ap (λ (b : Bool). unless (not b) c v (λ _. moving c v (readable v.image c.a1 (length_of_int (c_int c.a2))) (c_int c.a2)
+        (λ n. write_to c v n shown.shown))) writes
 
     pub write-below : ((n : ℕ) → c_int c.a2 ≢ pos n) → write c v ≡ refused c v
     write-below none = asked-to ∙ moving-below c v (readable v.image c.a1 (length_of_int (c_int c.a2))) (c_int c.a2) (λ n. write_to c v n shown.shown) none
@@ -148,7 +150,9 @@ module _ {k : Kernel} {h : Hart} {c : Call} {file : ℕ} {x : OpenFile} {is_ther
 
   pub shown-there : (view_now k h).descriptors on.fd ≡ Some shown-at
   unfolding view_of
-  shown-there = named_at (numbered (state_of k h) (live_now k h)) on.fd on.below ∙ ap (option_map (rename (numbered (state_of k h) (live_now k h)))) (ap (descriptor_at (state_of k h)) on.named_file ∙ ap (descriptor_on (state_of k h) file) on.opened)
+  shown-there = named_at (numbered (state_of k h) (live_now k h)) on.fd on.below
+      ∙ ap (option_map (rename (numbered (state_of k h) (live_now k h))))
+      (ap (descriptor_at (state_of k h)) on.named_file ∙ ap (descriptor_on (state_of k h) file) on.opened)
 
   module _ {i : ℕ} {end : End} (e : x.target ≡ Pipe_end i end) where
     opened-there : get (state_of k h).files file ≡ Some (record { read = x.read; write = x.write; target = Pipe_end i end })
@@ -158,7 +162,8 @@ module _ {k : Kernel} {h : Hart} {c : Call} {file : ℕ} {x : OpenFile} {is_ther
     is-there = ap (λ o. pipe_name (descriptor_at (state_of k h) o)) on.named_file ∙ ap (λ o. pipe_name (descriptor_on (state_of k h) file o)) opened-there
 
     named-least : (m : ℕ) × (least_on_pipe (numbered (state_of k h) (live_now k h)) i ≡ Some m)
-    named-least = by (least_on_pipe (numbered (state_of k h) (live_now k h)) i) refl (least_there (numbered (state_of k h) (live_now k h)) i on.fd on.below is-there (least_on_pipe (numbered (state_of k h) (live_now k h)) i) refl)
+    named-least = by (least_on_pipe (numbered (state_of k h) (live_now k h)) i) refl
+        (least_there (numbered (state_of k h) (live_now k h)) i on.fd on.below is-there (least_on_pipe (numbered (state_of k h) (live_now k h)) i) refl)
       where
         by : (o : Option ℕ) → least_on_pipe (numbered (state_of k h) (live_now k h)) i ≡ o → is_some o ≡ true → (m : ℕ) × (least_on_pipe (numbered (state_of k h) (live_now k h)) i ≡ Some m)
         by None least some = let no : ⊥ = cc in absurd no
@@ -172,18 +177,50 @@ module _ {k : Kernel} {h : Hart} {c : Call} {file : ℕ} {x : OpenFile} {is_ther
         by (Some z) at some = (z, at)
 
     abbrev on-it : OnPipe (state_of k h) (pid_now k) (live_now k h) on.fd i named-least.0 end its-pipe.0
-    on-it = record { was = live-is k h whole.sound runs; below = on.below; file = file; named_file = on.named_file; read = x.read; write = x.write; opened = opened-there; pipe = its-pipe.1; names = named-least.1 }
+    on-it = record {
+      was = live-is k h whole.sound runs;
+      below = on.below;
+      file = file;
+      named_file = on.named_file;
+      read = x.read;
+      write = x.write;
+      opened = opened-there;
+      pipe = its-pipe.1;
+      names = named-least.1;
+    }
 
 -- a write to a pipe
-pub writes-pipe : {k : Kernel} {h : Hart} {c : Call} {file : ℕ} {x : OpenFile} {n i : ℕ} {end : End} → IsWhole k h → IsRunning k → OnFile k h c file x (readable (live_now k h).image c.a1) n → x.write ≡ true → x.target ≡ Pipe_end i end → WritesPipe k h c i n
-writes-pipe {end} whole runs on writes e = record { fd = on.fd; name = (named-least whole runs on e).0; end = end; pipe = (its-pipe whole runs on e).0; on = on-it whole runs on e; writes = writes; number = on.number; buffer = on.buffer }
+pub writes-pipe : {k : Kernel} {h : Hart} {c : Call} {file : ℕ} {x : OpenFile} {n i : ℕ} {end : End} → IsWhole k h → IsRunning k
+    → OnFile k h c file x (readable (live_now k h).image c.a1) n → x.write ≡ true → x.target ≡ Pipe_end i end → WritesPipe k h c i n
+writes-pipe {end} whole runs on writes e = record {
+  fd = on.fd;
+  name = (named-least whole runs on e).0;
+  end = end;
+  pipe = (its-pipe whole runs on e).0;
+  on = on-it whole runs on e;
+  writes = writes;
+  number = on.number;
+  buffer = on.buffer;
+}
 
 -- a read from a pipe
-pub reads-pipe : {k : Kernel} {h : Hart} {c : Call} {file : ℕ} {x : OpenFile} {n i : ℕ} {end : End} → IsWhole k h → IsRunning k → OnFile k h c file x (writable_now (live_now k h).image c.a1) n → x.read ≡ true → x.target ≡ Pipe_end i end → ReadsPipe k h c i n
-reads-pipe {end} whole runs on reads e = record { fd = on.fd; name = (named-least whole runs on e).0; end = end; pipe = (its-pipe whole runs on e).0; on = on-it whole runs on e; reads = reads; number = on.number; buffer = on.buffer }
+pub reads-pipe : {k : Kernel} {h : Hart} {c : Call} {file : ℕ} {x : OpenFile} {n i : ℕ} {end : End} → IsWhole k h → IsRunning k
+    → OnFile k h c file x (writable_now (live_now k h).image c.a1) n → x.read ≡ true → x.target ≡ Pipe_end i end → ReadsPipe k h c i n
+reads-pipe {end} whole runs on reads e = record {
+  fd = on.fd;
+  name = (named-least whole runs on e).0;
+  end = end;
+  pipe = (its-pipe whole runs on e).0;
+  on = on-it whole runs on e;
+  reads = reads;
+  number = on.number;
+  buffer = on.buffer;
+}
 
 -- a program's file takes no bytes
-pub program-refused : {k : Kernel} {h : Hart} {c : Call} {file : ℕ} {x : OpenFile} {n : ℕ} (program offset : ℕ) → IsWhole k h → IsRunning k → OnFile k h c file x (readable (live_now k h).image c.a1) n → x.write ≡ true → x.target ≡ File program offset → write c (view_now k h) ≡ refused c (view_now k h)
+pub program-refused : {k : Kernel} {h : Hart} {c : Call} {file : ℕ} {x : OpenFile} {n : ℕ} (program offset : ℕ) → IsWhole k h → IsRunning k
+    → OnFile k h c file x (readable (live_now k h).image c.a1) n → x.write ≡ true → x.target ≡ File program offset
+    → write c (view_now k h) ≡ refused c (view_now k h)
 unfolding view_of
 program-refused {k} {h} {c} {file} {x} {n} program offset whole runs on writes e =
     write_case c (view_now k h) (shown-at whole runs on) on.fd n on.number (shown-there whole runs on) on.buffer.0 on.buffer.1 writes on.buffer.2

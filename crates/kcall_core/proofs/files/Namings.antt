@@ -1,15 +1,16 @@
 -- Open files count the descriptors that name them: in the slots, and in the state.
-use Rattle.std.proofs.Common.{◌≡◌, ◌≢◌, ℕ, zero, suc, ◌+◌, ◌-◌, ◌<◌, ◌≤◌, Bool, true, false, cond, ltb, List, length, get_or, set, Option, Some, None, IsSome, inl, inr, refl, sym, ap, ◌∙◌, subst, arith}
+use Rattle.std.proofs.Common.{◌≡◌, ◌≢◌, ℕ, zero, suc, ◌+◌, ◌-◌, ◌<◌, ◌≤◌, Bool, true, false, cond, ltb, List}
+use Rattle.std.proofs.Common.{length, get_or, set, Option, Some, None, IsSome, inl, inr, refl, sym, ap, ◌∙◌, subst, arith}
 use Rattle.std.specs.Prelude.{ℤ, option_map, is_some, is_none, nat_eq}
 use Rattle.std.specs.FinMap.{get}
 use Rattle.std.specs.Option.{option_and_then}
-use Rattle.std.proofs.lemmas.Bool.{cases_eq, cases_lt, eq-eqb, eqb-true}
+use Rattle.std.proofs.lemmas.Bool.{cases_eq, cases_lt, eq-eqb, eqb-true, false≢true, le-ltb, lt-ltb}
 use Rattle.std.proofs.lemmas.Bool.Decides.{eqb_tells}
 use Rattle.std.proofs.lemmas.List.{get_or_past, get_or-set_same, get_or-set_other, get_or-replicate, length-set}
+use Rattle.std.proofs.lemmas.Option.{none-some}
 use Rattle.xk_base.specs.declared.limits.TheConstants.{NOFILE, OPEN_FILES}
 use Rattle.xk_base.specs.Words.{count_below}
 use Rattle.sv39_core.proofs.Gathered.{gathered-get}
-use Rattle.sv39_core.proofs.Words.{ltb-yes, ltb-no}
 use Rattle.hart_core.specs.declared.hart.Hart.{Hart}
 use Rattle.file_table.specs.Named.{named_by, none_named, with_named}
 use Rattle.file_table.specs.OpenFiles.{IsTable, open_file_at, count_at, entry_at, entry_file, entry_count, once_less, without_sharer}
@@ -28,12 +29,13 @@ use Rattle.kernel_spec.specs.views.WellFormed.{sum_below}
 use Rattle.kcall_core.specs.Kernel.{descriptor_map, state_of, IsSound}
 use Rattle.kcall_core.specs.Whole.{named_in, namings, AreCounted}
 use Rattle.kcall_core.specs.declared.kernel.Kernel.{Kernel}
-use Rattle.kernel_spec.proofs.steps.Counts.{one}
-use Rattle.kernel_spec.proofs.steps.Closes.{count_some}
+use Rattle.kernel_spec.proofs.steps.EndsAreCounted.{one}
+use Rattle.kernel_spec.proofs.steps.ClosingCountsDown.{count_some}
 use Rattle.kernel_spec.proofs.well.WellTable.{count_change}
 use Rattle.kernel_spec.proofs.well.Sums.{sum_change, sum_term}
+use Rattle.kernel_spec.proofs.Common.{there_if_so, this_is}
 use Rattle.kcall_core.proofs.table.Observed.{slot-found, missing-live, live-held, ended-held}
-use Rattle.kcall_core.proofs.table.States.{none-some, slot-inside}
+use Rattle.kcall_core.proofs.table.States.{slot-inside}
 
 -- ---- sums and counts that aren't 0
 
@@ -53,10 +55,6 @@ count-some (suc n) P many = elim (P n) as (λ b. P n ≡ b → (d : ℕ) × (d <
   | false ↦ λ e. let none : one (P n) ≡ 0 = ap one e in let r = count-some n P (omega (arith, many, none)) in (r.0, omega (arith, r.1), r.2)
 ] refl
 
-this-is : (n : ℕ) (o : Option ℕ) → is_this n o ≡ true → o ≡ Some n
-this-is n None h = let no : ⊥ = cc in absurd no
-this-is n (Some k) h = ap Some (eqb-true k n h)
-
 -- ---- in the slots
 
 -- a descriptor that names an open file is one of its namings
@@ -71,35 +69,29 @@ pub counts-named : (t : Slots) (file : ℕ) → 1 ≤ namings t file → (slot :
 counts-named t file many =
     let s = sum-some 64 (λ i. named_in (descriptors_at t i) file) many in
     let d = count-some NOFILE (λ e. is_this file (named_by (descriptors_at t s.0) e)) s.2 in
-    (s.0, d.0, s.1, d.1, this-is file (named_by (descriptors_at t s.0) d.0) d.2)
+    (s.0, d.0, s.1, d.1, this_is file (named_by (descriptors_at t s.0) d.0) d.2)
 
 -- ---- in the state
 
 pub named-seen : (ds : List (Option ℕ)) (d : ℕ) → get (descriptor_map ds) d ≡ cond (ltb d NOFILE) (named_by ds d) None
 named-seen ds d = gathered-get (λ e. get_or ds e None) NOFILE d
 
-cond-some : {X : Type 0} (b : Bool) (o : Option X) (x : X) → cond b o None ≡ Some x → (b ≡ true) × (o ≡ Some x)
-cond-some true o x e = (refl, e)
-cond-some false o x e = absurd (none-some x e)
-
 below-last : (d : ℕ) → ltb d NOFILE ≡ true → d < NOFILE
 below-last d e = elim (cases_lt d NOFILE) [
   | inl lt ↦ lt
-  | inr ge ↦ absurd (false-true (sym (ltb-no d NOFILE ge) ∙ e))
+  | inr ge ↦ absurd (false≢true (sym (le-ltb d NOFILE ge) ∙ e))
 ]
-  where
-    false-true : false ≡ true → ⊥
-    false-true e = cc
 
 module _ (k : Kernel) (h : Hart) (sound : IsSound k h) where
   -- what a live process names, a descriptor of its slot names
   pub names-slot : (q d file : ℕ) → quiet.file_at (state_of k h) q d ≡ Some file → (slot : ℕ) × (slot < 64) × (d < NOFILE) × (named_by (descriptors_at k.table slot) d ≡ Some file)
   names-slot q d file is = by (slot_of k.table q) refl
     where
-      under : (i : ℕ) (p : Process) → place_at k.table i ≡ Some p → p.pid ≡ q → (o : Option ℤ) → status_of p ≡ o → (slot : ℕ) × (slot < 64) × (d < NOFILE) × (named_by (descriptors_at k.table slot) d ≡ Some file)
+      under : (i : ℕ) (p : Process) → place_at k.table i ≡ Some p → p.pid ≡ q → (o : Option ℤ) → status_of p ≡ o
+          → (slot : ℕ) × (slot < 64) × (d < NOFILE) × (named_by (descriptors_at k.table slot) d ≡ Some file)
       under i p at pid None alive =
           let seen = sym (ap (λ o. file_of o d) (sym (ap (live (state_of k h)) pid) ∙ live-held k h sound.table i p at alive)) ∙ is in
-          let r = cond-some (ltb d NOFILE) (named_by (descriptors_at k.table i) d) file (sym (named-seen (descriptors_at k.table i) d) ∙ seen) in
+          let r = there_if_so (ltb d NOFILE) (named_by (descriptors_at k.table i) d) file (sym (named-seen (descriptors_at k.table i) d) ∙ seen) in
           (i, slot-inside k h sound i p at, below-last d r.0, r.1)
       under i p at pid (Some status) over =
           absurd (none-some file (sym (ap (λ o. file_of o d) (sym (ap (live (state_of k h)) pid) ∙ ended-held k h sound.table i p status at over)) ∙ is))
@@ -109,9 +101,11 @@ module _ (k : Kernel) (h : Hart) (sound : IsSound k h) where
       by (Some i) at = let f = slot-found k.table q i at in under i f.0 f.1 f.2 (status_of f.0) refl
 
   -- and the other way round
-  pub slot-names : (slot d file : ℕ) (p : Process) → place_at k.table slot ≡ Some p → status_of p ≡ None → d < NOFILE → named_by (descriptors_at k.table slot) d ≡ Some file → quiet.file_at (state_of k h) p.pid d ≡ Some file
+  pub slot-names : (slot d file : ℕ) (p : Process) → place_at k.table slot ≡ Some p → status_of p ≡ None → d < NOFILE
+      → named_by (descriptors_at k.table slot) d ≡ Some file → quiet.file_at (state_of k h) p.pid d ≡ Some file
   slot-names slot d file p at alive below is =
-      ap (λ o. file_of o d) (live-held k h sound.table slot p at alive) ∙ named-seen (descriptors_at k.table slot) d ∙ ap (λ b. cond b (named_by (descriptors_at k.table slot) d) None) (ltb-yes d NOFILE below) ∙ is
+      ap (λ o. file_of o d) (live-held k h sound.table slot p at alive) ∙ named-seen (descriptors_at k.table slot) d
+      ∙ ap (λ b. cond b (named_by (descriptors_at k.table slot) d) None) (lt-ltb d NOFILE below) ∙ is
 
 -- the open files of the state are those of the table
 pub files-seen : (k : Kernel) (h : Hart) (file : ℕ) → get (state_of k h).files file ≡ cond (ltb file OPEN_FILES) (open_file_at k.files file) None
@@ -119,12 +113,13 @@ unfolding state_of
 files-seen k h file = gathered-get (open_file_at k.files) OPEN_FILES file
 
 pub file-seen : (k : Kernel) (h : Hart) (file : ℕ) → file < OPEN_FILES → get (state_of k h).files file ≡ open_file_at k.files file
-file-seen k h file lt = files-seen k h file ∙ ap (λ b. cond b (open_file_at k.files file) None) (ltb-yes file OPEN_FILES lt)
+file-seen k h file lt = files-seen k h file ∙ ap (λ b. cond b (open_file_at k.files file) None) (lt-ltb file OPEN_FILES lt)
 
 -- and where none is another than before, so it is in the state
-pub files-kept : (k k' : Kernel) (h h' : Hart) → ((file : ℕ) (x : OpenFile) → open_file_at k'.files file ≡ Some x → open_file_at k.files file ≡ Some x) → (file : ℕ) (x : OpenFile) → get (state_of k' h').files file ≡ Some x → get (state_of k h).files file ≡ Some x
+pub files-kept : (k k' : Kernel) (h h' : Hart) → ((file : ℕ) (x : OpenFile) → open_file_at k'.files file ≡ Some x
+    → open_file_at k.files file ≡ Some x) → (file : ℕ) (x : OpenFile) → get (state_of k' h').files file ≡ Some x → get (state_of k h).files file ≡ Some x
 files-kept k k' h h' kept file x is =
-    let r = cond-some (ltb file OPEN_FILES) (open_file_at k'.files file) x (sym (files-seen k' h' file) ∙ is) in
+    let r = there_if_so (ltb file OPEN_FILES) (open_file_at k'.files file) x (sym (files-seen k' h' file) ∙ is) in
     files-seen k h file ∙ ap (λ b. cond b (open_file_at k.files file) None) r.0 ∙ kept file x r.1
 
 pub file-inside : (files : List (Option Entry)) (file : ℕ) (x : OpenFile) → IsTable files → open_file_at files file ≡ Some x → file < OPEN_FILES
@@ -142,7 +137,8 @@ counted-entry files file many = by (entry_at files file) refl
     by (Some e) is = (e, is)
 
 -- Open files are those that a live process names, where none that is there is another than before
-pub files-left : (k k' : Kernel) (h h' : Hart) → IsSound k' h' → AreCounted k'.files k'.table → IsTable k'.files → ((file : ℕ) (x : OpenFile) → open_file_at k'.files file ≡ Some x → open_file_at k.files file ≡ Some x) → FilesLeft (state_of k h) (state_of k' h')
+pub files-left : (k k' : Kernel) (h h' : Hart) → IsSound k' h' → AreCounted k'.files k'.table → IsTable k'.files
+    → ((file : ℕ) (x : OpenFile) → open_file_at k'.files file ≡ Some x → open_file_at k.files file ≡ Some x) → FilesLeft (state_of k h) (state_of k' h')
 files-left k k' h h' sound counted table kept = record {
   stay = λ q d g names.
       let at = names-slot k' h' sound q d g names in
@@ -154,22 +150,20 @@ files-left k k' h h' sound counted table kept = record {
   named = λ g there. by g (entry_at k'.files g) refl (subst (λ o. IsSome o) (files-seen k' h' g) there);
 }
   where
-    false-true : false ≡ true → ⊥
-    false-true e = cc
-
     cond-none : (b : Bool) (o : Option OpenFile) → o ≡ None → IsSome (cond b o None) → ⊥
-    cond-none true o e some = false-true (sym (ap is_some e) ∙ some)
-    cond-none false o e some = false-true some
+    cond-none true o e some = false≢true (sym (ap is_some e) ∙ some)
+    cond-none false o e some = false≢true some
 
     alive : (o : Option Process) → place_is_live o ≡ true → (p : Process) × (o ≡ Some p) × (status_of p ≡ None)
-    alive None e = absurd (false-true e)
+    alive None e = absurd (false≢true e)
     alive (Some p) e = (p, refl, no-status (status_of p) refl)
       where
         no-status : (s : Option ℤ) → status_of p ≡ s → status_of p ≡ None
         no-status None is = is
-        no-status (Some z) is = absurd (false-true (sym (ap is_none is) ∙ e))
+        no-status (Some z) is = absurd (false≢true (sym (ap is_none is) ∙ e))
 
-    live_by : (slot d g : ℕ) → slot < 64 → named_by (descriptors_at k'.table slot) d ≡ Some g → d < NOFILE → (b : Bool) → place_is_live (place_at k'.table slot) ≡ b → (q : ℕ) × (e : ℕ) × (quiet.file_at (state_of k' h') q e ≡ Some g)
+    live_by : (slot d g : ℕ) → slot < 64 → named_by (descriptors_at k'.table slot) d ≡ Some g → d < NOFILE → (b : Bool)
+        → place_is_live (place_at k'.table slot) ≡ b → (q : ℕ) × (e : ℕ) × (quiet.file_at (state_of k' h') q e ≡ Some g)
     live_by slot d g inside names below true is = let p = alive (place_at k'.table slot) is in (p.0.pid, d, slot-names k' h' sound slot d g p.0 p.1 p.2 below names)
     live_by slot d g inside names below false is = absurd (none-some g (sym (ap (λ ds. named_by ds d) (counted.closed slot is) ∙ get_or-replicate NOFILE d None None below) ∙ names))
 
@@ -183,7 +177,8 @@ files-left k k' h h' sound counted table kept = record {
 -- ---- a descriptor is closed
 
 -- one naming fewer
-module _ (t t' : Slots) (slot d g : ℕ) (inside : slot < 64) (below : d < NOFILE) (room : length t.descriptors ≡ 64) (long : length (descriptors_at t slot) ≡ NOFILE) (names : named_by (descriptors_at t slot) d ≡ Some g)
+module _ (t t' : Slots) (slot d g : ℕ) (inside : slot < 64) (below : d < NOFILE) (room : length t.descriptors ≡ 64)
+    (long : length (descriptors_at t slot) ≡ NOFILE) (names : named_by (descriptors_at t slot) d ≡ Some g)
     (after : t'.descriptors ≡ set t.descriptors slot (with_named d None (descriptors_at t slot))) where
   pub closed-here : descriptors_at t' slot ≡ with_named d None (descriptors_at t slot)
   closed-here = ap (λ xs. get_or xs slot none_named) after ∙ get_or-set_same t.descriptors slot (with_named d None (descriptors_at t slot)) none_named (omega (arith, inside, room))
@@ -235,10 +230,7 @@ module _ (files : List (Option Entry)) (g : ℕ) (table : IsTable files) (e : En
       by true last never = absurd (none-some x never)
       by false more rest =
           let same : record e { count = e.count - 1 } ≡ x = cc in
-          (sym (ap (λ (y : Entry). y.file) same), omega (arith, ap (λ (y : Entry). y.count) same, (table.counts g e is).0), λ q. false-true (sym more ∙ eq-eqb e.count 1 q))
-        where
-          false-true : false ≡ true → ⊥
-          false-true e = cc
+          (sym (ap (λ (y : Entry). y.file) same), omega (arith, ap (λ (y : Entry). y.count) same, (table.counts g e is).0), λ q. false≢true (sym more ∙ eq-eqb e.count 1 q))
 
   -- open files that are left are those that were
   pub fewer-kept : (f : ℕ) (x : OpenFile) → open_file_at (without_sharer g files) f ≡ Some x → open_file_at files f ≡ Some x
@@ -284,8 +276,10 @@ module _ (files : List (Option Entry)) (g : ℕ) (table : IsTable files) (e : En
       )
 
 -- the counts are right again
-pub closed-counted : (files : List (Option Entry)) (t t' : Slots) (slot d g : ℕ) (e : Entry) → AreCounted files t → IsTable files → entry_at files g ≡ Some e → slot < 64 → d < NOFILE → length t.descriptors ≡ 64 → named_by (descriptors_at t slot) d ≡ Some g
-    → t'.descriptors ≡ set t.descriptors slot (with_named d None (descriptors_at t slot)) → ((j : ℕ) → place_is_live (place_at t' j) ≡ place_is_live (place_at t j)) → place_is_live (place_at t slot) ≡ true → AreCounted (without_sharer g files) t'
+pub closed-counted : (files : List (Option Entry)) (t t' : Slots) (slot d g : ℕ) (e : Entry) → AreCounted files t → IsTable files
+    → entry_at files g ≡ Some e → slot < 64 → d < NOFILE → length t.descriptors ≡ 64 → named_by (descriptors_at t slot) d ≡ Some g
+    → t'.descriptors ≡ set t.descriptors slot (with_named d None (descriptors_at t slot))
+    → ((j : ℕ) → place_is_live (place_at t' j) ≡ place_is_live (place_at t j)) → place_is_live (place_at t slot) ≡ true → AreCounted (without_sharer g files) t'
 closed-counted files t t' slot d g e counted table is inside below room names after lives here =
     let long : length (descriptors_at t slot) ≡ NOFILE = counted.lists slot inside in
     record {
@@ -295,10 +289,7 @@ closed-counted files t t' slot d g e counted table is inside below room names af
         | inr ne ↦ ap length (closed-other t t' slot d g inside below room long names after j ne) ∙ counted.lists j lt
       ];
       closed = λ j dead. elim (cases_eq j slot) [
-        | inl same ↦ absurd (false-true (sym dead ∙ lives j ∙ ap (λ n. place_is_live (place_at t n)) same ∙ here))
+        | inl same ↦ absurd (false≢true (sym dead ∙ lives j ∙ ap (λ n. place_is_live (place_at t n)) same ∙ here))
         | inr ne ↦ closed-other t t' slot d g inside below room long names after j ne ∙ counted.closed j (sym (lives j) ∙ dead)
       ];
     }
-  where
-    false-true : false ≡ true → ⊥
-    false-true e = cc

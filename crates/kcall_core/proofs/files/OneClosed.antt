@@ -3,9 +3,9 @@ use Rattle.std.proofs.Common.{◌≡◌, ℕ, ◌+◌, ◌<◌, ◌≤◌, ◌&&
 use Rattle.std.specs.Prelude.{nat_eq, is_some, option_map}
 use Rattle.std.specs.Ordering.{nat_cmp}
 use Rattle.std.specs.FinMap.{FinMap, get}
-use Rattle.std.proofs.lemmas.Bool.{eq-eqb}
+use Rattle.std.proofs.lemmas.Bool.{eq-eqb, lt-ltb}
+use Rattle.std.proofs.lemmas.Option.{none-some}
 use Rattle.xk_base.specs.declared.limits.TheConstants.{NOFILE}
-use Rattle.sv39_core.proofs.Words.{ltb-yes}
 use Rattle.xk_base.specs.Words.{count_below}
 use Rattle.hart_core.specs.declared.hart.Hart.{Hart}
 use Rattle.pipe_core.specs.Pipe.{Pipe}
@@ -35,12 +35,12 @@ use Rattle.kernel_spec.specs.waking.SleepsOn.{closes_wake}
 use Rattle.kcall_core.specs.declared.kernel.Kernel.{Kernel}
 use Rattle.kcall_core.proofs.memory.Changes.{some-inside}
 use Rattle.kcall_core.proofs.turns.Turned.{live-is}
-use Rattle.kernel_spec.proofs.steps.Counts.{hits, hits_at}
-use Rattle.kernel_spec.proofs.steps.Closes.{count_some}
+use Rattle.kernel_spec.proofs.steps.EndsAreCounted.{hits, hits_at}
+use Rattle.kernel_spec.proofs.steps.ClosingCountsDown.{count_some}
 use Rattle.kernel_spec.proofs.well.Sums.{sum_term}
-use Rattle.kernel_spec.proofs.steps.Pipes.{least_there}
+use Rattle.kernel_spec.proofs.steps.OnePipeChanges.{least_there}
 use Rattle.kernel_spec.proofs.well.WellCloses.{well_closed, well_closed_pipe}
-use Rattle.kcall_core.proofs.table.States.{none-some, slot-inside}
+use Rattle.kcall_core.proofs.table.States.{slot-inside}
 use Rattle.kcall_core.proofs.table.Stops.{live-place}
 use Rattle.kcall_core.proofs.files.Namings.{named-seen, file-seen, file-inside, named-counts, counted-entry, files-left, fewer-kept, fewer-table, closed-counted}
 use Rattle.kcall_core.proofs.files.Taking.{Shares, taken-sound, taken-state}
@@ -72,7 +72,7 @@ module _ {k : Kernel} {h : Hart} {slot d g : ℕ} (closing : IsClosing k h) (is 
   pub used-seen : get (live_now k h).descriptors d ≡ Some g
   used-seen =
       named-seen (descriptors_at k.table (slot_now k)) d
-      ∙ ap (λ b. cond b (named_by (descriptors_at k.table (slot_now k)) d) None) (ltb-yes d NOFILE below)
+      ∙ ap (λ b. cond b (named_by (descriptors_at k.table (slot_now k)) d) None) (lt-ltb d NOFILE below)
       ∙ ap (λ n. named_by (descriptors_at k.table n) d) (sym slot-is)
       ∙ used
 
@@ -114,13 +114,17 @@ module _ {k : Kernel} {h : Hart} {slot d g : ℕ} (closing : IsClosing k h) (is 
 
 -- ---- what is left
 
-module _ {k : Kernel} (k' : Kernel) {h : Hart} {slot d g : ℕ} {x : OpenFile} (closing : IsClosing k h) (is : k.current ≡ Some slot) (below : d < NOFILE) (used : named_by (descriptors_at k.table slot) d ≡ Some g) (kind : open_file_at k.files g ≡ Some x)
+module _ {k : Kernel} (k' : Kernel) {h : Hart} {slot d g : ℕ} {x : OpenFile} (closing : IsClosing k h) (is : k.current ≡ Some slot)
+    (below : d < NOFILE) (used : named_by (descriptors_at k.table slot) d ≡ Some g) (kind : open_file_at k.files g ≡ Some x)
     (files : k'.files ≡ without_sharer g k.files) (current : k'.current ≡ k.current) (shares : Shares k.memories k'.memories) (frames : length k'.memories.ram ≡ length k.memories.ram)
-    (table : k'.table ≡ each_changed (woken_by (closes_wake (state_of k h).pipes (state_of k' h).pipes)) (record k.table { descriptors = set k.table.descriptors slot (with_named d None (descriptors_at k.table slot)) }))
+    (table : k'.table ≡ each_changed (woken_by (closes_wake (state_of k h).pipes (state_of k' h).pipes))
+    (record k.table { descriptors = set k.table.descriptors slot (with_named d None (descriptors_at k.table slot)) }))
     (console : k'.console ≡ k.console) (programs : k'.programs.items ≡ k.programs.items) (clock : k'.clock ≡ k.clock)
     (pipes : (state_of k' h).pipes ≡ fewer_on (Some x.target) (state_of k h).pipes) (free : (state_of k' h).free ≡ (state_of k h).free + freed_on (Some x.target) (state_of k h).pipes)
     (ends : (i : ℕ) (e : End) → count_on e (or_gone (get (state_of k h).pipes i)) ≡ 0 → count_on e (or_gone (get (state_of k' h).pipes i)) ≡ 0)
-    (law : (left : FinMap nat_cmp OpenFile) → let s = state_of k h in let u = changed_state (pid_now k) (with_closed d (live_now k h)) left (fewer_on (Some x.target) s.pipes) s.console (s.free + freed_on (Some x.target) s.pipes) s in
+    (law : (left : FinMap nat_cmp OpenFile) → let s = state_of k h in
+    let u = changed_state (pid_now k) (with_closed d (live_now k h)) left (fewer_on (Some x.target) s.pipes) s.console
+    (s.free + freed_on (Some x.target) s.pipes) s in
     FilesLeft s u → WellFormed (length k.memories.ram) u) where
   -- before sleepers wake
   abbrev middle : Kernel
@@ -194,7 +198,8 @@ module _ {k : Kernel} (k' : Kernel) {h : Hart} {slot d g : ℕ} {x : OpenFile} (
           ends = ends;
           places = place-after;
         };
-        state = subst (λ o. state_of k' h ≡ changed_state p m (state_of k' h).files (fewer_on o s.pipes) s.console (s.free + freed_on o s.pipes) s) (sym (target-is closing is below used kind)) state-after;
+        state = subst (λ o. state_of k' h ≡ changed_state p m (state_of k' h).files (fewer_on o s.pipes) s.console (s.free + freed_on o s.pipes) s)
+            (sym (target-is closing is below used kind)) state-after;
       }
 
 -- ---- what is no pipe
@@ -204,8 +209,12 @@ no-fewer Terminal m none = (refl, refl)
 no-fewer (File program offset) m none = (refl, refl)
 no-fewer (Pipe_end i end) m none = absurd (none-some i (sym none))
 
-module _ {k : Kernel} (k' : Kernel) {h : Hart} {slot d g : ℕ} {x : OpenFile} (closing : IsClosing k h) (is : k.current ≡ Some slot) (below : d < NOFILE) (used : named_by (descriptors_at k.table slot) d ≡ Some g) (kind : open_file_at k.files g ≡ Some x) (files : k'.files ≡ without_sharer g k.files) where
-  pub plain-closed : (none : pipe_of_target x.target ≡ None) → k'.table ≡ record k.table { descriptors = set k.table.descriptors slot (with_named d None (descriptors_at k.table slot)) } → k' ≡ record k { table = k'.table; files = k'.files } → Closes k h d k'
+module _ {k : Kernel} (k' : Kernel) {h : Hart} {slot d g : ℕ} {x : OpenFile} (closing : IsClosing k h) (is : k.current ≡ Some slot)
+    (below : d < NOFILE) (used : named_by (descriptors_at k.table slot) d ≡ Some g) (kind : open_file_at k.files g ≡ Some x)
+    (files : k'.files ≡ without_sharer g k.files) where
+  pub plain-closed : (none : pipe_of_target x.target ≡ None)
+      → k'.table ≡ record k.table { descriptors = set k.table.descriptors slot (with_named d None (descriptors_at k.table slot)) }
+      → k' ≡ record k { table = k'.table; files = k'.files } → Closes k h d k'
   unfolding state_of
   plain-closed none table rest =
       let s = state_of k h in
@@ -224,10 +233,12 @@ module _ {k : Kernel} (k' : Kernel) {h : Hart} {slot d g : ℕ} {x : OpenFile} (
       (ap (λ (n : Kernel). free_of n.memories) rest ∙ omega (arith, plain.1))
       (λ i e zero. ap (λ m. count_on e (or_gone (get m i))) same ∙ zero)
       (λ left left_ok.
-      let to : changed_state p (with_closed d l) left (fewer_on (Some x.target) s.pipes) s.console (s.free + freed_on (Some x.target) s.pipes) s ≡ changed_state p (with_closed d l) left s.pipes s.console (s.free + 0) s =
+      let to : changed_state p (with_closed d l) left (fewer_on (Some x.target) s.pipes) s.console (s.free + freed_on (Some x.target) s.pipes) s
+      ≡ changed_state p (with_closed d l) left s.pipes s.console (s.free + 0) s =
       λ t. changed_state p (with_closed d l) left (plain.0 t) s.console (s.free + plain.1 t) s in
       subst (WellFormed (length k.memories.ram)) (sym to)
-      (well_closed (length k.memories.ram) s p l (with_closed d l) d g x left closing.well (live-is k h closing.sound closing.running) below (used-seen closing is below used) (opened-seen closing is below used kind) none (refl, refl, refl) (subst (FilesLeft s) to left_ok)))
+      (well_closed (length k.memories.ram) s p l (with_closed d l) d g x left closing.well (live-is k h closing.sound closing.running) below
+      (used-seen closing is below used) (opened-seen closing is below used kind) none (refl, refl, refl) (subst (FilesLeft s) to left_ok)))
 
   -- ---- an end of a pipe
 
@@ -257,13 +268,18 @@ module _ {k : Kernel} (k' : Kernel) {h : Hart} {slot d g : ℕ} {x : OpenFile} (
         ∙ ap (λ o. pipe_name (descriptor_on (state_of k h) g o)) (opened-seen closing is below used kind ∙ ap (λ (t : Target). Some (record x { target = t })) at)
 
     pipe-law : (left : FinMap nat_cmp OpenFile) → let s = state_of k h in let z = parted y end 1 in
-        let u = changed_state (pid_now k) (with_closed d (live_now k h)) left (settled i z s.pipes) s.console (s.free + cond (is_given_up z) 1 0) s in FilesLeft s u → WellFormed (length k.memories.ram) u
-    pipe-law left left_ok = by (least_on_pipe (numbered (state_of k h) (live_now k h)) i) refl (least_there (numbered (state_of k h) (live_now k h)) i d below named-there (least_on_pipe (numbered (state_of k h) (live_now k h)) i) refl)
+        let u = changed_state (pid_now k) (with_closed d (live_now k h)) left (settled i z s.pipes) s.console
+        (s.free + cond (is_given_up z) 1 0) s in FilesLeft s u → WellFormed (length k.memories.ram) u
+    pipe-law left left_ok = by (least_on_pipe (numbered (state_of k h) (live_now k h)) i) refl
+        (least_there (numbered (state_of k h) (live_now k h)) i d below named-there (least_on_pipe (numbered (state_of k h) (live_now k h)) i) refl)
       where
         by : (o : Option ℕ) → least_on_pipe (numbered (state_of k h) (live_now k h)) i ≡ o → is_some o ≡ true
-            → WellFormed (length k.memories.ram) (changed_state (pid_now k) (with_closed d (live_now k h)) left (settled i (parted y end 1) (state_of k h).pipes) (state_of k h).console ((state_of k h).free + cond (is_given_up (parted y end 1)) 1 0) (state_of k h))
+            → WellFormed (length k.memories.ram) (changed_state (pid_now k) (with_closed d (live_now k h)) left
+            (settled i (parted y end 1) (state_of k h).pipes) (state_of k h).console ((state_of k h).free + cond (is_given_up (parted y end 1)) 1 0)
+            (state_of k h))
         by None least some = let no : ⊥ = cc in absurd no
-        by (Some n) least some = well_closed_pipe (length k.memories.ram) (state_of k h) (pid_now k) (live_now k h) (with_closed d (live_now k h)) d i n end y left (is-named n least) closing.well (refl, refl, refl) left_ok
+        by (Some n) least some = well_closed_pipe (length k.memories.ram) (state_of k h) (pid_now k) (live_now k h)
+            (with_closed d (live_now k h)) d i n end y left (is-named n least) closing.well (refl, refl, refl) left_ok
 
     remainder-cost : (z : Pipe) → pipe_cost (remainder z) + cond (is_given_up z) 1 0 ≡ 1
     remainder-cost z = by (is_given_up z)
@@ -272,7 +288,9 @@ module _ {k : Kernel} (k' : Kernel) {h : Hart} {slot d g : ℕ} {x : OpenFile} (
         by true = refl
         by false = refl
 
-    pub pipe-closed : PipeChanges k.memories k'.memories i (remainder (parted y end 1)) → k'.table ≡ each_changed (woken_by (closes_wake (state_of k h).pipes (state_of k' h).pipes)) (record k.table { descriptors = set k.table.descriptors slot (with_named d None (descriptors_at k.table slot)) })
+    pub pipe-closed : PipeChanges k.memories k'.memories i (remainder (parted y end 1))
+        → k'.table ≡ each_changed (woken_by (closes_wake (state_of k h).pipes (state_of k' h).pipes))
+        (record k.table { descriptors = set k.table.descriptors slot (with_named d None (descriptors_at k.table slot)) })
         → k' ≡ record k { table = k'.table; files = k'.files; memories = k'.memories } → Closes k h d k'
     unfolding state_of
     pipe-closed changes table rest =
@@ -289,6 +307,7 @@ module _ {k : Kernel} (k' : Kernel) {h : Hart} {slot d g : ℕ} {x : OpenFile} (
         (omega (arith, changes.free, remainder-cost z, ap pipe_cost there, at-freed))
         (λ j e zero. ap (λ m. count_on e (or_gone (get m j))) changes.pipes ∙ ends-stay s.pipes i end y there j e zero)
         (λ left left_ok.
-        let to : changed_state p (with_closed d l) left (fewer_on (Some x.target) s.pipes) s.console (s.free + freed_on (Some x.target) s.pipes) s ≡ changed_state p (with_closed d l) left (settled i z s.pipes) s.console (s.free + cond (is_given_up z) 1 0) s =
+        let to : changed_state p (with_closed d l) left (fewer_on (Some x.target) s.pipes) s.console (s.free + freed_on (Some x.target) s.pipes) s
+        ≡ changed_state p (with_closed d l) left (settled i z s.pipes) s.console (s.free + cond (is_given_up z) 1 0) s =
         λ t. changed_state p (with_closed d l) left (at-pipe t) s.console (s.free + at-freed t) s in
         subst (WellFormed (length k.memories.ram)) (sym to) (pipe-law left (subst (FilesLeft s) to left_ok)))

@@ -17,35 +17,34 @@ use Rattle.kcall_core.specs.Room.{HasRoom, WholeHasRoom}
 use Rattle.kcall_core.specs.declared.kernel.Kernel.{Kernel}
 use Rattle.kcall_core.specs.Whole.{AreCounted, namings, named_in}
 use Rattle.kernel_spec.proofs.well.Sums.{sum_same}
+use Rattle.kernel_spec.proofs.Common.{sum_below-zero}
 use Rattle.kcall_core.proofs.files.Room.{count-few, sum-few, file-room, ends-few}
 
 -- ---- sums
 
 -- the first term apart
-sum-first : (n : ℕ) (f : ℕ → ℕ) → sum_below (suc n) f ≡ f 0 + sum_below n (λ i. f (suc i))
+pub sum-first : (n : ℕ) (f : ℕ → ℕ) → sum_below (suc n) f ≡ f 0 + sum_below n (λ i. f (suc i))
 unfolding sum_below
 sum-first zero f = omega arith
-sum-first (suc n) f = let a : ℕ = sum_below n f + f n in let b : ℕ = sum_below n (λ i. f (suc i)) in let c : ℕ = f 0 in let d : ℕ = f (suc n) in let r : a ≡ c + b = sum-first n f in let goal : a + d ≡ c + (b + d) = omega arith in goal
+sum-first (suc n) f = let a : ℕ = sum_below n f + f n in let b : ℕ = sum_below n (λ i. f (suc i)) in let c : ℕ = f 0 in let d : ℕ = f (suc n) in
+    let r : a ≡ c + b = sum-first n f in let goal : a + d ≡ c + (b + d) = omega arith in goal
 
 sum-plus : (n : ℕ) (f g : ℕ → ℕ) → sum_below n (λ i. f i + g i) ≡ sum_below n f + sum_below n g
 unfolding sum_below
 sum-plus zero f g = refl
-sum-plus (suc n) f g = let a : ℕ = sum_below n (λ i. f i + g i) in let b : ℕ = sum_below n f in let c : ℕ = sum_below n g in let x : ℕ = f n in let y : ℕ = g n in let r : a ≡ b + c = sum-plus n f g in let goal : a + (x + y) ≡ (b + x) + (c + y) = omega arith in goal
-
-sum-zero : (n : ℕ) (f : ℕ → ℕ) → ((i : ℕ) → i < n → f i ≡ 0) → sum_below n f ≡ 0
-unfolding sum_below
-sum-zero zero f none = refl
-sum-zero (suc n) f none = let a : ℕ = sum_below n f in let c : ℕ = f n in let l : a ≡ 0 = sum-zero n f (λ i low. none i (omega arith)) in let r : c ≡ 0 = none n (omega arith) in let goal : a + c ≡ 0 = omega arith in goal
+sum-plus (suc n) f g = let a : ℕ = sum_below n (λ i. f i + g i) in let b : ℕ = sum_below n f in let c : ℕ = sum_below n g in let x : ℕ = f n in
+    let y : ℕ = g n in let r : a ≡ b + c = sum-plus n f g in let goal : a + (x + y) ≡ (b + x) + (c + y) = omega arith in goal
 
 sum-less : (n : ℕ) (f g : ℕ → ℕ) → ((i : ℕ) → f i ≤ g i) → sum_below n f ≤ sum_below n g
 unfolding sum_below
 sum-less zero f g less = omega arith
-sum-less (suc n) f g less = let a : ℕ = sum_below n f in let b : ℕ = sum_below n g in let x : ℕ = f n in let y : ℕ = g n in let l : a ≤ b = sum-less n f g less in let r : x ≤ y = less n in let goal : a + x ≤ b + y = omega arith in goal
+sum-less (suc n) f g less = let a : ℕ = sum_below n f in let b : ℕ = sum_below n g in let x : ℕ = f n in let y : ℕ = g n in
+    let l : a ≤ b = sum-less n f g less in let r : x ≤ y = less n in let goal : a + x ≤ b + y = omega arith in goal
 
 -- a sum of sums, the other way round
 sum-swap : (m n : ℕ) (f : ℕ → ℕ → ℕ) → sum_below m (λ i. sum_below n (f i)) ≡ sum_below n (λ j. sum_below m (λ i. f i j))
 unfolding sum_below
-sum-swap zero n f = sym (sum-zero n (λ j. 0) (λ j low. refl))
+sum-swap zero n f = sym (sum_below-zero n (λ j. 0) (λ j low. refl))
 sum-swap (suc m) n f =
     let a : ℕ = sum_below m (λ i. sum_below n (f i)) in
     let b : ℕ = sum_below n (λ j. sum_below m (λ i. f i j)) in
@@ -108,7 +107,8 @@ count-room-two (suc n) k j test below lower apart free empty =
       | inr e ↦
           let other : k ≢ n = e.1 in
           elim (eqb_tells j n) [
-            | inl q ↦ let at : j ≡ n = q.1 in let none : c ≡ 0 = ap (λ m. count (test m)) (sym at) ∙ ap count empty in let less : a + 1 ≤ n = count-room n k test (omega arith) free in let goal : a + c + 2 ≤ suc n = omega arith in goal
+            | inl q ↦ let at : j ≡ n = q.1 in let none : c ≡ 0 = ap (λ m. count (test m)) (sym at) ∙ ap count empty in
+                let less : a + 1 ≤ n = count-room n k test (omega arith) free in let goal : a + c + 2 ≤ suc n = omega arith in goal
             | inr q ↦ let more : j ≢ n = q.1 in let less : a + 2 ≤ n = count-room-two n k j test (omega arith) (omega arith) apart free empty in let goal : a + c + 2 ≤ suc n = omega arith in goal
           ]
     ]
@@ -123,18 +123,19 @@ one-name (suc n) g =
     elim (eqb_tells g n) [
       | inl e ↦
           let at : g ≡ n = e.1 in
-          let none : a ≡ 0 = sum-zero n (λ f. count (nat_eq g f)) (λ f low. elim (eqb_tells g f) [ inl q ↦ let same : g ≡ f = q.1 in absurd (omega (arith, at, same, low)) | inr q ↦ ap count q.0 ]) in
+          let none : a ≡ 0 = sum_below-zero n (λ f. count (nat_eq g f))
+          (λ f low. elim (eqb_tells g f) [ inl q ↦ let same : g ≡ f = q.1 in absurd (omega (arith, at, same, low)) | inr q ↦ ap count q.0 ]) in
           let most : c ≤ 1 = at-most (nat_eq g n) in let goal : a + c ≤ 1 = omega arith in goal
       | inr e ↦ let none : c ≡ 0 = ap count e.0 in let less : a ≤ 1 = one-name n g in let goal : a + c ≤ 1 = omega arith in goal
     ]
 
 names-one : (n : ℕ) (o : Option ℕ) → sum_below n (λ f. count (is_this f o)) ≤ count (is_some o)
-names-one n None = let e : sum_below n (λ f. count (is_this f None)) ≡ 0 = sum-zero n (λ f. count (is_this f None)) (λ f low. refl) in omega (arith, e)
+names-one n None = let e : sum_below n (λ f. count (is_this f None)) ≡ 0 = sum_below-zero n (λ f. count (is_this f None)) (λ f low. refl) in omega (arith, e)
 names-one n (Some g) = one-name n g
 
 names-few : (n m : ℕ) (named : ℕ → Option ℕ) → sum_below n (λ f. count_below (λ d. is_this f (named d)) m) ≤ count_below (λ d. is_some (named d)) m
 unfolding count_below
-names-few n zero named = let e : sum_below n (λ f. 0) ≡ 0 = sum-zero n (λ f. 0) (λ f low. refl) in omega (arith, e)
+names-few n zero named = let e : sum_below n (λ f. 0) ≡ 0 = sum_below-zero n (λ f. 0) (λ f low. refl) in omega (arith, e)
 names-few n (suc m) named =
     let a : ℕ = sum_below n (λ f. count_below (λ d. is_this f (named d)) m) in
     let b : ℕ = sum_below n (λ f. count (is_this f (named m))) in
@@ -157,12 +158,15 @@ used t = sum_below NPROC (λ slot. used_in (descriptors_at t slot))
 namings-used : (n : ℕ) (t : Slots) → sum_below n (namings t) ≤ used t
 namings-used n t =
     let swapped : sum_below n (namings t) ≡ sum_below NPROC (λ slot. sum_below n (λ f. named_in (descriptors_at t slot) f)) = sum-swap n NPROC (λ f slot. named_in (descriptors_at t slot) f) in
-    let less : sum_below NPROC (λ slot. sum_below n (λ f. named_in (descriptors_at t slot) f)) ≤ used t = sum-less NPROC (λ slot. sum_below n (λ f. named_in (descriptors_at t slot) f)) (λ slot. used_in (descriptors_at t slot)) (λ slot. names-few n NOFILE (named_by (descriptors_at t slot))) in
+    let less : sum_below NPROC (λ slot. sum_below n (λ f. named_in (descriptors_at t slot) f)) ≤ used t =
+    sum-less NPROC (λ slot. sum_below n (λ f. named_in (descriptors_at t slot) f)) (λ slot. used_in (descriptors_at t slot))
+    (λ slot. names-few n NOFILE (named_by (descriptors_at t slot))) in
     omega (arith, swapped, less)
 
 -- ---- each open file is named
 
-open-few : (xs : List (Option Entry)) → ((f : ℕ) (e : Entry) → get_or xs f None ≡ Some e → 1 ≤ e.count) → count_by is_some xs ≤ sum_below (length xs) (λ f. or_zero (option_map entry_count (get_or xs f None)))
+open-few : (xs : List (Option Entry)) → ((f : ℕ) (e : Entry) → get_or xs f None ≡ Some e → 1 ≤ e.count)
+    → count_by is_some xs ≤ sum_below (length xs) (λ f. or_zero (option_map entry_count (get_or xs f None)))
 unfolding sum_below
 open-few [] named = omega arith
 open-few (x ∷ xs) named =
@@ -184,7 +188,8 @@ open-few (x ∷ xs) named =
 pub open-used : (files : List (Option Entry)) (t : Slots) → IsTable files → AreCounted files t → open_count files ≤ used t
 open-used files t table counted =
     let few : open_count files ≤ sum_below (length files) (λ f. or_zero (option_map entry_count (get_or files f None))) = open-few files (λ f e is. (table.counts f e is).0) in
-    let same : sum_below (length files) (λ f. or_zero (option_map entry_count (get_or files f None))) ≡ sum_below (length files) (namings t) = sum_same (length files) (λ f. or_zero (option_map entry_count (get_or files f None))) (namings t) (λ f low. counted.counts f) in
+    let same : sum_below (length files) (λ f. or_zero (option_map entry_count (get_or files f None))) ≡ sum_below (length files) (namings t) =
+    sum_same (length files) (λ f. or_zero (option_map entry_count (get_or files f None))) (namings t) (λ f low. counted.counts f) in
     omega (arith, few, same, namings-used (length files) t)
 
 pub open-room : (files : List (Option Entry)) (t : Slots) (n : ℕ) → IsTable files → AreCounted files t → used t + n ≤ OPEN_FILES → open_count files + n ≤ OPEN_FILES
@@ -193,14 +198,16 @@ open-room files t n table counted room = omega (arith, room, open-used files t t
 -- ---- where descriptors are free
 
 -- a free descriptor leaves room for an open file
-pub room-for-one : (files : List (Option Entry)) (t : Slots) (slot d : ℕ) → IsTable files → AreCounted files t → slot < NPROC → d < NOFILE → named_by (descriptors_at t slot) d ≡ None → open_count files < OPEN_FILES
+pub room-for-one : (files : List (Option Entry)) (t : Slots) (slot d : ℕ) → IsTable files → AreCounted files t → slot < NPROC → d < NOFILE
+    → named_by (descriptors_at t slot) d ≡ None → open_count files < OPEN_FILES
 room-for-one files t slot d table counted inside below free =
     let here : used_in (descriptors_at t slot) + 1 ≤ NOFILE = count-room NOFILE d (λ e. is_some (named_by (descriptors_at t slot) e)) below (ap is_some free) in
     let all : used t + 1 ≤ OPEN_FILES = sum-room NPROC NOFILE 1 slot (λ j. used_in (descriptors_at t j)) (λ j. count-few _ NOFILE) inside here in
     omega (arith, open-room files t 1 table counted all)
 
 -- and two leave room for two
-pub room-for-two : (files : List (Option Entry)) (t : Slots) (slot d e : ℕ) → IsTable files → AreCounted files t → slot < NPROC → d < NOFILE → e < NOFILE → d ≢ e → named_by (descriptors_at t slot) d ≡ None → named_by (descriptors_at t slot) e ≡ None → open_count files + 1 < OPEN_FILES
+pub room-for-two : (files : List (Option Entry)) (t : Slots) (slot d e : ℕ) → IsTable files → AreCounted files t → slot < NPROC → d < NOFILE
+    → e < NOFILE → d ≢ e → named_by (descriptors_at t slot) d ≡ None → named_by (descriptors_at t slot) e ≡ None → open_count files + 1 < OPEN_FILES
 room-for-two files t slot d e table counted inside below lower apart free empty =
     let here : used_in (descriptors_at t slot) + 2 ≤ NOFILE = count-room-two NOFILE d e (λ f. is_some (named_by (descriptors_at t slot) f)) below lower apart (ap is_some free) (ap is_some empty) in
     let all : used t + 2 ≤ OPEN_FILES = sum-room NPROC NOFILE 2 slot (λ j. used_in (descriptors_at t j)) (λ j. count-few _ NOFILE) inside here in

@@ -25,7 +25,9 @@ use Rattle.kernel_spec.proofs.rows.RowsByParts.{open_same}
 -- ---- which program
 
 -- a program's place is found among the programs as among their names and files
-pub place-among : (name : List ℕ) (k : ℕ) (programs : List file.Program) → position_from (λ (p : file.Program). bytes_eq p.name.items name) k programs ≡ position_from (λ (p : ProgramFile). bytes_eq p.name name) k (map named_file programs)
+pub place-among : (name : List ℕ) (k : ℕ) (programs : List file.Program)
+    → position_from (λ (p : file.Program). bytes_eq p.name.items name) k programs ≡ position_from (λ (p : ProgramFile). bytes_eq p.name name) k
+    (map named_file programs)
 place-among name k [] = refl
 place-among name k (p ∷ later) = ap (λ o. cond (bytes_eq p.name.items name) (Some k) o) (place-among name (k + 1) later)
 
@@ -69,7 +71,8 @@ above-2 mode = elim (cases_lt 2 mode) [
 terminal-opened : (mode : ℤ) → opened_as The_console mode ≡ option_map shown_asked (asked_in mode Shown_terminal)
 terminal-opened (pos mode) = ap (λ (b : Bool). cond {A = Option (Bool × Bool × Shown)} b None (Some (not (nat_eq mode 1), not (nat_eq mode 0), Shown_terminal))) (above-2 mode) ∙ by (nat_le mode 2)
   where
-    by : (b : Bool) → cond {A = Option (Bool × Bool × Shown)} (not b) None (Some (not (nat_eq mode 1), not (nat_eq mode 0), Shown_terminal)) ≡ option_map shown_asked (cond b (Some (Terminal (not (nat_eq mode 1)) (not (nat_eq mode 0)))) None)
+    by : (b : Bool) → cond {A = Option (Bool × Bool × Shown)} (not b) None (Some (not (nat_eq mode 1), not (nat_eq mode 0), Shown_terminal))
+        ≡ option_map shown_asked (cond b (Some (Terminal (not (nat_eq mode 1)) (not (nat_eq mode 0)))) None)
     by true = refl
     by false = refl
 terminal-opened (negsuc k) = refl

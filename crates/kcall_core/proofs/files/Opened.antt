@@ -2,13 +2,13 @@
 use Rattle.std.proofs.Common.{◌≡◌, ◌≢◌, ℕ, ◌+◌, ◌<◌, Bool, true, false, cond, ltb, List, length, get_or, set, subst, Option, Some, None, IsSome, inl, inr, refl, sym, ap, ◌∙◌, arith}
 use Rattle.std.specs.Prelude.{option_map, is_none, pos}
 use Rattle.std.specs.FinMap.{get, insert}
-use Rattle.std.proofs.lemmas.Bool.{cases_eq, eq-eqb}
+use Rattle.std.proofs.lemmas.Bool.{cases_eq, eq-eqb, false≢true, lt-ltb}
 use Rattle.std.proofs.lemmas.Bool.Decides.{eqb_tells}
 use Rattle.std.proofs.lemmas.List.{length-set, get_or-set_same, get_or-set_other}
+use Rattle.std.proofs.lemmas.Option.{same_Some}
 use Rattle.xk_base.specs.Gathered.{gathered}
 use Rattle.xk_base.specs.declared.limits.TheConstants.{NOFILE, OPEN_FILES}
 use Rattle.sv39_core.proofs.Gathered.{gathered-get, same_pages}
-use Rattle.sv39_core.proofs.Words.{ltb-yes}
 use Rattle.hart_core.specs.declared.hart.Hart.{Hart}
 use Rattle.file_table.specs.Named.{named_by, with_named}
 use Rattle.file_table.specs.OpenFiles as files
@@ -32,8 +32,8 @@ use Rattle.kernel_spec.specs.views.WellFormed.{WellFormed}
 use Rattle.kcall_core.specs.Kernel.{frame_count, state_of, IsSound, IsRunning, slot_now, pid_now, live_now}
 use Rattle.kcall_core.specs.Whole.{IsWhole, AreCounted}
 use Rattle.kcall_core.specs.declared.kernel.Kernel.{Kernel}
-use Rattle.kernel_spec.proofs.steps.Counts.{one}
-use Rattle.kernel_spec.proofs.steps.Maps.{get_at, get_other}
+use Rattle.kernel_spec.proofs.steps.EndsAreCounted.{one}
+use Rattle.kernel_spec.proofs.steps.MapsAfterChange.{get_at, get_other}
 use Rattle.kcall_core.proofs.files.Namings.{named-seen, files-seen}
 use Rattle.kcall_core.proofs.table.States.{slot-inside}
 use Rattle.kcall_core.proofs.table.Stops.{live-place}
@@ -46,26 +46,23 @@ use Rattle.kcall_core.proofs.files.Sharing.{put-here, put-other, one-more}
 use Rattle.kcall_core.proofs.making.Midway.{Midway, midway-done}
 use Rattle.kcall_core.proofs.turns.StepSlots.{KeepsAll}
 use Rattle.kcall_core.proofs.making.CallAnswers.{IsDone}
-use Rattle.kernel_spec.proofs.steps.Least.{least_passes}
+use Rattle.kernel_spec.proofs.steps.LeastPasses.{least_passes}
 use Rattle.kcall_core.proofs.files.Lowest.{least-position}
-use Rattle.kernel_spec.proofs.steps.OnFiles.{open_law}
+use Rattle.kernel_spec.proofs.steps.FileLawsHold.{open_law}
 use Rattle.kcall_core.proofs.making.Moved.{nobody, still}
 use Rattle.kernel_spec.proofs.rows.RowParts.{open_at}
+use Rattle.kernel_spec.proofs.Common.{none_from_is_none}
 
 abbrev no-file : Option OpenFile
 no-file = None
 
 -- ---- the table of open files
 
-none-is : (o : Option Entry) → is_none o ≡ true → o ≡ None
-none-is None e = refl
-none-is (Some x) e = let no : ⊥ = cc in absurd no
-
 -- the lowest place is free
 pub lowest-place-free : (xs : List (Option Entry)) (g : ℕ) → files.lowest_place xs ≡ Some g → (entry_at xs g ≡ None) × (g < length xs)
 lowest-place-free xs g e =
     let found = least_passes (length xs) (λ d. is_none (get_or xs d None)) g (least-position xs (length xs) refl ∙ e) in
-    (none-is (get_or xs g None) found.0, found.1)
+    (none_from_is_none (get_or xs g None) found.0, found.1)
 
 module _ (xs : List (Option Entry)) (g : ℕ) (y : OpenFile) (empty : entry_at xs g ≡ None) (inside : g < length xs) where
   pub new-here : entry_at (with_opened g y xs) g ≡ Some (record { file = y; count = 1 })
@@ -74,15 +71,12 @@ module _ (xs : List (Option Entry)) (g : ℕ) (y : OpenFile) (empty : entry_at x
   pub new-other : (f : ℕ) → f ≢ g → entry_at (with_opened g y xs) f ≡ entry_at xs f
   new-other f ne = get_or-set_other xs g f (Some (record { file = y; count = 1 })) None ne
 
-  same-entry : (a b : Entry) → Some a ≡ Some b → a ≡ b
-  same-entry a b p = cc
-
   pub new-table : files.IsTable xs → files.IsTable (with_opened g y xs)
   new-table table = record {
     places = length-set xs g (Some (record { file = y; count = 1 })) ∙ table.places;
     counts = λ f e at. elim (cases_eq f g) [
       | inl same ↦
-          let is : record { file = y; count = 1 } ≡ e = same-entry (record { file = y; count = 1 }) e (sym new-here ∙ sym (ap (entry_at (with_opened g y xs)) same) ∙ at) in
+          let is : record { file = y; count = 1 } ≡ e = same_Some (record { file = y; count = 1 }) e (sym new-here ∙ sym (ap (entry_at (with_opened g y xs)) same) ∙ at) in
           let count : 1 ≡ e.count = ap (λ (z : Entry). z.count) is in
           (omega (arith, count), omega (arith, count))
       | inr ne ↦ table.counts f e (sym (new-other f ne) ∙ at)
@@ -106,8 +100,10 @@ module _ (xs : List (Option Entry)) (g : ℕ) (y : OpenFile) (empty : entry_at x
       not-this ne = elim (eqb_tells g f) [ inl h ↦ absurd (ne (sym h.1)) | inr h ↦ h.0 ]
 
 -- one descriptor names the new open file: the counts are right again
-pub opened-counted : (xs : List (Option Entry)) (t t' : Slots) (slot d g : ℕ) (y : OpenFile) → AreCounted xs t → entry_at xs g ≡ None → g < length xs → slot < 64 → d < NOFILE → length t.descriptors ≡ 64 → named_by (descriptors_at t slot) d ≡ None
-    → t'.descriptors ≡ set t.descriptors slot (with_named d (Some g) (descriptors_at t slot)) → ((j : ℕ) → place_is_live (place_at t' j) ≡ place_is_live (place_at t j)) → place_is_live (place_at t slot) ≡ true → AreCounted (with_opened g y xs) t'
+pub opened-counted : (xs : List (Option Entry)) (t t' : Slots) (slot d g : ℕ) (y : OpenFile) → AreCounted xs t → entry_at xs g ≡ None → g < length xs
+    → slot < 64 → d < NOFILE → length t.descriptors ≡ 64 → named_by (descriptors_at t slot) d ≡ None
+    → t'.descriptors ≡ set t.descriptors slot (with_named d (Some g) (descriptors_at t slot))
+    → ((j : ℕ) → place_is_live (place_at t' j) ≡ place_is_live (place_at t j)) → place_is_live (place_at t slot) ≡ true → AreCounted (with_opened g y xs) t'
 opened-counted xs t t' slot d g y counted empty within inside below room free after lives here =
     let long : length (descriptors_at t slot) ≡ NOFILE = counted.lists slot inside in
     record {
@@ -117,21 +113,19 @@ opened-counted xs t t' slot d g y counted empty within inside below room free af
         | inr ne ↦ ap length (put-other t t' slot d g inside below room long free after j ne) ∙ counted.lists j lt
       ];
       closed = λ j dead. elim (cases_eq j slot) [
-        | inl same ↦ absurd (false-true (sym dead ∙ lives j ∙ ap (λ n. place_is_live (place_at t n)) same ∙ here))
+        | inl same ↦ absurd (false≢true (sym dead ∙ lives j ∙ ap (λ n. place_is_live (place_at t n)) same ∙ here))
         | inr ne ↦ put-other t t' slot d g inside below room long free after j ne ∙ counted.closed j (sym (lives j) ∙ dead)
       ];
     }
-  where
-    false-true : false ≡ true → ⊥
-    false-true e = cc
 
 -- the open files of a state, with a new one
-pub opened-files : (xs : List (Option Entry)) (g : ℕ) (y : OpenFile) → entry_at xs g ≡ None → g < length xs → length xs ≡ OPEN_FILES → gathered (open_file_at (with_opened g y xs)) OPEN_FILES ≡ insert (gathered (open_file_at xs) OPEN_FILES) g y
+pub opened-files : (xs : List (Option Entry)) (g : ℕ) (y : OpenFile) → entry_at xs g ≡ None → g < length xs → length xs ≡ OPEN_FILES
+    → gathered (open_file_at (with_opened g y xs)) OPEN_FILES ≡ insert (gathered (open_file_at xs) OPEN_FILES) g y
 opened-files xs g y empty within places = same_pages (gathered (open_file_at (with_opened g y xs)) OPEN_FILES) (insert (gathered (open_file_at xs) OPEN_FILES) g y) (λ e. elim (eqb_tells e g) [
   | inl same ↦
       gathered-get (open_file_at (with_opened g y xs)) OPEN_FILES e
       ∙ ap (λ o. cond (ltb e OPEN_FILES) o None) (ap (open_file_at (with_opened g y xs)) same.1 ∙ ap (option_map entry_file) (new-here xs g y empty within))
-      ∙ ap (λ b. cond b (Some y) None) (ap (λ z. ltb z OPEN_FILES) same.1 ∙ ltb-yes g OPEN_FILES (omega (arith, within, places)))
+      ∙ ap (λ b. cond b (Some y) None) (ap (λ z. ltb z OPEN_FILES) same.1 ∙ lt-ltb g OPEN_FILES (omega (arith, within, places)))
       ∙ sym (get_at (gathered (open_file_at xs) OPEN_FILES) g y e ∙ ap (λ b. cond b (Some y) (get (gathered (open_file_at xs) OPEN_FILES) e)) same.0)
   | inr other ↦
       gathered-get (open_file_at (with_opened g y xs)) OPEN_FILES e
@@ -143,7 +137,7 @@ opened-files xs g y empty within places = same_pages (gathered (open_file_at (wi
 pub free-seen : {k : Kernel} {h : Hart} {slot d : ℕ} → IsWhole k h → k.current ≡ Some slot → d < NOFILE → named_by (descriptors_at k.table slot) d ≡ None → get (live_now k h).descriptors d ≡ None
 free-seen {k} {h} {slot} {d} whole is below free =
     named-seen (descriptors_at k.table (slot_now k)) d
-    ∙ ap (λ b. cond b (named_by (descriptors_at k.table (slot_now k)) d) None) (ltb-yes d NOFILE below)
+    ∙ ap (λ b. cond b (named_by (descriptors_at k.table (slot_now k)) d) None) (lt-ltb d NOFILE below)
     ∙ ap (λ n. named_by (descriptors_at k.table n) d) (sym (now-slot slot whole.sound is)) ∙ free
 
 -- no process names an open file that isn't there
@@ -160,7 +154,8 @@ unnamed {k} {h} {g} whole empty q e named = no (subst (λ o. IsSome o) not-there
     not-there : get (state_of k h).files g ≡ None
     not-there = files-seen k h g ∙ ap (λ o. cond (ltb g OPEN_FILES) (option_map entry_file o) None) empty ∙ both (ltb g OPEN_FILES)
 
-module _ (k : Kernel) (h : Hart) (slot d g : ℕ) (y : OpenFile) (whole : IsWhole k h) (runs : IsRunning k) (is : k.current ≡ Some slot) (below : d < NOFILE) (free : named_by (descriptors_at k.table slot) d ≡ None)
+module _ (k : Kernel) (h : Hart) (slot d g : ℕ) (y : OpenFile) (whole : IsWhole k h) (runs : IsRunning k) (is : k.current ≡ Some slot)
+    (below : d < NOFILE) (free : named_by (descriptors_at k.table slot) d ≡ None)
     (empty : entry_at k.files g ≡ None) (inside-files : g < length k.files) (no-pipe : pipe_of_target y.target ≡ None) where
   abbrev s : State
   s = state_of k h
@@ -184,7 +179,9 @@ module _ (k : Kernel) (h : Hart) (slot d g : ℕ) (y : OpenFile) (whole : IsWhol
   unfolding view_of
   keeps c o row = subst (KeepsAll s) (sym row) (record { child = refl; stays = refl; pids = refl })
 
-  module _ (k1 : Kernel) (table : k1.table ≡ record k.table { descriptors = set k.table.descriptors slot (with_named d (Some g) (descriptors_at k.table slot)) }) (kept : k1.files ≡ with_opened g y k.files) (rest : k1 ≡ record k { table = k1.table; files = k1.files }) where
+  module _ (k1 : Kernel) (table : k1.table ≡ record k.table
+      { descriptors = set k.table.descriptors slot (with_named d (Some g) (descriptors_at k.table slot)) })
+      (kept : k1.files ≡ with_opened g y k.files) (rest : k1 ≡ record k { table = k1.table; files = k1.files }) where
     current1 : k1.current ≡ k.current
     current1 = ap (λ (n : Kernel). n.current) rest
 
@@ -232,7 +229,9 @@ module _ (k : Kernel) (h : Hart) (slot d g : ℕ) (y : OpenFile) (whole : IsWhol
     }
 
     -- the call is done, in a row that opens
-    pub opened-makes : (c : Call) (o : Own) → o ≡ open_at c (view_now k h) (Some d) (Some (y.read, y.write, show s y.target)) → (k' : Kernel) (h' : Hart) → IsDone k1 h (pos d) k' h' → Makes k h o k' h'
+    pub opened-makes : (c : Call) (o : Own) → o ≡ open_at c (view_now k h) (Some d) (Some (y.read, y.write, show s y.target))
+        → (k' : Kernel) (h' : Hart) → IsDone k1 h (pos d) k' h' → Makes k h o k' h'
     opened-makes c o row k' h' finished =
         midway-done whole runs opened-midway k' h' (pos d) o c.number finished (ap (λ (z : Own). z.answer) row) (keeps c o row)
-        (subst (λ z. After s p l z (filed_state p (with_answer (pos d) (update.with_named d g l)) g y s)) (sym row) (open_law s p l c d g y.read y.write y.target (live-is k h whole.sound runs) below unused nobody-names no-pipe))
+        (subst (λ z. After s p l z (filed_state p (with_answer (pos d) (update.with_named d g l)) g y s)) (sym row)
+        (open_law s p l c d g y.read y.write y.target (live-is k h whole.sound runs) below unused nobody-names no-pipe))

@@ -3,7 +3,7 @@ use Rattle.std.proofs.Common.{◌≡◌, ℕ, ◌-◌, ◌≤◌, ◌&&◌, ◌|
 use Rattle.std.specs.Prelude.{nat_eq}
 use Rattle.std.specs.Ordering.{nat_cmp}
 use Rattle.std.specs.FinMap.{FinMap, get, insert, remove}
-use Rattle.std.proofs.lemmas.Bool.{eq-eqb, eqb-true, and_parts}
+use Rattle.std.proofs.lemmas.Bool.{eq-eqb, eqb-true, and_parts, and_right, true≢false}
 use Rattle.std.proofs.lemmas.Bool.Decides.{eqb_tells}
 use Rattle.sv39_core.proofs.Gathered.{same_pages}
 use Rattle.pipe_core.specs.Pipe.{Pipe}
@@ -18,7 +18,8 @@ use Rattle.kernel_spec.specs.views.View.{or_gone}
 use Rattle.kernel_spec.specs.steps.Updates.{settled}
 use Rattle.kcall_core.specs.Closings.{across}
 use Rattle.kernel_spec.specs.waking.SleepsOn.{last_closes, closes_wake}
-use Rattle.kernel_spec.proofs.steps.Maps.{get_at, get_without}
+use Rattle.kernel_spec.proofs.steps.MapsAfterChange.{get_at, get_without}
+use Rattle.kernel_spec.proofs.Common.{and_true}
 
 -- what is left of a pipe
 abbrev pub remainder : Pipe → Option Pipe
@@ -115,16 +116,10 @@ module _ (m : FinMap nat_cmp Pipe) (i : ℕ) (end : End) (x : Pipe) (is : get m 
   some-not : (n : ℕ) → 1 ≤ n → nat_eq n 0 ≡ false
   some-not n some = elim (eqb_tells n 0) [ inl h ↦ absurd (omega (arith, some, h.1)) | inr h ↦ h.0 ]
 
-  right-false : (b : Bool) → (b && false) ≡ false
-  right-false true = refl
-  right-false false = refl
-
-  right-true : (b : Bool) → (b && true) ≡ b
-  right-true true = refl
-  right-true false = refl
-
   -- the end that a channel tells of
-  wakes-end : (some : 1 ≤ count_on end x) (j : ℕ) (e : End) → last_closes (count_on e (or_gone (get m j))) (count_on e (or_gone (get after j))) ≡ (nat_eq (count_on end (parted x end 1)) 0 && (nat_eq j i && same_end e end))
+  wakes-end : (some : 1 ≤ count_on end x) (j : ℕ) (e : End)
+      → last_closes (count_on e (or_gone (get m j))) (count_on e (or_gone (get after j))) ≡
+      (nat_eq (count_on end (parted x end 1)) 0 && (nat_eq j i && same_end e end))
   wakes-end some j e = elim (eqb_tells j i) [
     | inl h ↦
         let before : count_on e (or_gone (get m j)) ≡ count_on e x = ap (λ o. count_on e (or_gone o)) (ap (get m) h.1 ∙ is) in
@@ -135,46 +130,46 @@ module _ (m : FinMap nat_cmp Pipe) (i : ℕ) (end : End) (x : Pipe) (is : get m 
     | inr h ↦
         ap (λ o. last_closes (count_on e (or_gone (get m j))) (count_on e (or_gone o))) (same-there j h.0)
         ∙ steady (count_on e (or_gone (get m j)))
-        ∙ sym (ap (λ b. nat_eq (count_on end (parted x end 1)) 0 && (b && same_end e end)) h.0 ∙ right-false (nat_eq (count_on end (parted x end 1)) 0))
+        ∙ sym (ap (λ b. nat_eq (count_on end (parted x end 1)) 0 && (b && same_end e end)) h.0 ∙ and_right (nat_eq (count_on end (parted x end 1)) 0) false refl)
   ]
     where
       here : (end e : End) → 1 ≤ count_on end x → last_closes (count_on e x) (cond (same_end e end) (count_on e x - 1) (count_on e x)) ≡ (nat_eq (count_on end (parted x end 1)) 0 && same_end e end)
-      here Reading Reading some = ap (λ b. not b && nat_eq (x.readers - 1) 0) (some-not x.readers some) ∙ sym (right-true (nat_eq (x.readers - 1) 0))
-      here Writing Writing some = ap (λ b. not b && nat_eq (x.writers - 1) 0) (some-not x.writers some) ∙ sym (right-true (nat_eq (x.writers - 1) 0))
-      here Reading Writing some = steady x.writers ∙ sym (right-false (nat_eq (x.readers - 1) 0))
-      here Writing Reading some = steady x.readers ∙ sym (right-false (nat_eq (x.writers - 1) 0))
+      here Reading Reading some = ap (λ b. not b && nat_eq (x.readers - 1) 0) (some-not x.readers some) ∙ sym (and_true (nat_eq (x.readers - 1) 0))
+      here Writing Writing some = ap (λ b. not b && nat_eq (x.writers - 1) 0) (some-not x.writers some) ∙ sym (and_true (nat_eq (x.writers - 1) 0))
+      here Reading Writing some = steady x.writers ∙ sym (and_right (nat_eq (x.readers - 1) 0) false refl)
+      here Writing Reading some = steady x.readers ∙ sym (and_right (nat_eq (x.writers - 1) 0) false refl)
 
   across-is : (c : Channel) → 1 ≤ count_on end x → closes_wake m after c ≡ (nat_eq (count_on end (parted x end 1)) 0 && same_channel c (across i end))
   across-is (on.Bytes j) some = wakes-end some j Writing ∙ ap (λ a. nat_eq (count_on end (parted x end 1)) 0 && a) (by end)
     where
       by : (end : End) → (nat_eq j i && same_end Writing end) ≡ same_channel (on.Bytes j) (across i end)
-      by Reading = right-false (nat_eq j i)
-      by Writing = right-true (nat_eq j i)
+      by Reading = and_right (nat_eq j i) false refl
+      by Writing = and_true (nat_eq j i)
   across-is (on.Room j) some = wakes-end some j Reading ∙ ap (λ a. nat_eq (count_on end (parted x end 1)) 0 && a) (by end)
     where
       by : (end : End) → (nat_eq j i && same_end Reading end) ≡ same_channel (on.Room j) (across i end)
-      by Reading = right-true (nat_eq j i)
-      by Writing = right-false (nat_eq j i)
+      by Reading = and_true (nat_eq j i)
+      by Writing = and_right (nat_eq j i) false refl
   across-is (on.Children p) some = sym (none end)
     where
       none : (e : End) → (nat_eq (count_on end (parted x end 1)) 0 && same_channel (on.Children p) (across i e)) ≡ false
-      none Reading = right-false (nat_eq (count_on end (parted x end 1)) 0)
-      none Writing = right-false (nat_eq (count_on end (parted x end 1)) 0)
+      none Reading = and_right (nat_eq (count_on end (parted x end 1)) 0) false refl
+      none Writing = and_right (nat_eq (count_on end (parted x end 1)) 0) false refl
   across-is on.Clock some = sym (none end)
     where
       none : (e : End) → (nat_eq (count_on end (parted x end 1)) 0 && same_channel on.Clock (across i e)) ≡ false
-      none Reading = right-false (nat_eq (count_on end (parted x end 1)) 0)
-      none Writing = right-false (nat_eq (count_on end (parted x end 1)) 0)
+      none Reading = and_right (nat_eq (count_on end (parted x end 1)) 0) false refl
+      none Writing = and_right (nat_eq (count_on end (parted x end 1)) 0) false refl
   across-is on.Keys some = sym (none end)
     where
       none : (e : End) → (nat_eq (count_on end (parted x end 1)) 0 && same_channel on.Keys (across i e)) ≡ false
-      none Reading = right-false (nat_eq (count_on end (parted x end 1)) 0)
-      none Writing = right-false (nat_eq (count_on end (parted x end 1)) 0)
+      none Reading = and_right (nat_eq (count_on end (parted x end 1)) 0) false refl
+      none Writing = and_right (nat_eq (count_on end (parted x end 1)) 0) false refl
   across-is on.Sending some = sym (none end)
     where
       none : (e : End) → (nat_eq (count_on end (parted x end 1)) 0 && same_channel on.Sending (across i e)) ≡ false
-      none Reading = right-false (nat_eq (count_on end (parted x end 1)) 0)
-      none Writing = right-false (nat_eq (count_on end (parted x end 1)) 0)
+      none Reading = and_right (nat_eq (count_on end (parted x end 1)) 0) false refl
+      none Writing = and_right (nat_eq (count_on end (parted x end 1)) 0) false refl
 
   -- those wake who wait across, where the end's last descriptor went
   pub wakes-across : 1 ≤ count_on end x → nat_eq (count_on end (parted x end 1)) 0 ≡ true → (c : Channel) → closes_wake m after c ≡ same_channel c (across i end)
@@ -207,18 +202,16 @@ last-twice a b c ab bc = by (nat_eq a 0) (nat_eq b 0) (nat_eq c 0) refl refl ref
     yes : (n : ℕ) → n ≡ 0 → nat_eq n 0 ≡ true
     yes n z = eq-eqb n 0 z
 
-    no : {A : Type 0} → true ≡ false → A
-    no e = let bad : ⊥ = cc in absurd bad
-
     by : (x y z : Bool) → nat_eq a 0 ≡ x → nat_eq b 0 ≡ y → nat_eq c 0 ≡ z → ((not (nat_eq a 0) && nat_eq b 0) || (not (nat_eq b 0) && nat_eq c 0)) ≡ (not (nat_eq a 0) && nat_eq c 0)
     by true true true ea eb ec = (λ t. (not (ea t) && eb t) || (not (eb t) && ec t)) ∙ sym (λ t. not (ea t) && ec t)
-    by true true false ea eb ec = no (sym (yes c (bc (eqb-true b 0 eb))) ∙ ec)
-    by true false z ea eb ec = no (sym (yes b (ab (eqb-true a 0 ea))) ∙ eb)
+    by true true false ea eb ec = absurd (true≢false (sym (yes c (bc (eqb-true b 0 eb))) ∙ ec))
+    by true false z ea eb ec = absurd (true≢false (sym (yes b (ab (eqb-true a 0 ea))) ∙ eb))
     by false true true ea eb ec = (λ t. (not (ea t) && eb t) || (not (eb t) && ec t)) ∙ sym (λ t. not (ea t) && ec t)
-    by false true false ea eb ec = no (sym (yes c (bc (eqb-true b 0 eb))) ∙ ec)
+    by false true false ea eb ec = absurd (true≢false (sym (yes c (bc (eqb-true b 0 eb))) ∙ ec))
     by false false z ea eb ec = (λ t. (not (ea t) && eb t) || (not (eb t) && ec t)) ∙ sym (λ t. not (ea t) && ec t)
 
-pub wakes-twice : (m n o : FinMap nat_cmp Pipe) → ((j : ℕ) (e : End) → count_on e (or_gone (get m j)) ≡ 0 → count_on e (or_gone (get n j)) ≡ 0) → ((j : ℕ) (e : End) → count_on e (or_gone (get n j)) ≡ 0 → count_on e (or_gone (get o j)) ≡ 0)
+pub wakes-twice : (m n o : FinMap nat_cmp Pipe) → ((j : ℕ) (e : End) → count_on e (or_gone (get m j)) ≡ 0 → count_on e (or_gone (get n j)) ≡ 0)
+    → ((j : ℕ) (e : End) → count_on e (or_gone (get n j)) ≡ 0 → count_on e (or_gone (get o j)) ≡ 0)
     → (c : Channel) → (closes_wake m n c || closes_wake n o c) ≡ closes_wake m o c
 wakes-twice m n o first second c = by c
   where

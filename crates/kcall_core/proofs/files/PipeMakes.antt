@@ -1,11 +1,12 @@
 -- The call pipe: what it leaves makes the step that its row tells.
-use Rattle.std.proofs.Common.{◌≡◌, ◌≢◌, ℕ, ◌-◌, ◌+◌, ◌<◌, ◌||◌, ◌++◌, Bool, true, false, cond, List, length, get_or, set, subst, Option, Some, None, IsSome, inl, inr, refl, sym, ap, ◌∙◌, arith}
+use Rattle.std.proofs.Common.{◌≡◌, ◌≢◌, ℕ, ◌-◌, ◌+◌, ◌<◌, ◌++◌, Bool, true, false, cond, List, length, get_or, set, subst, Option, Some, None, IsSome, inl, inr, refl, sym, ap, ◌∙◌, arith}
 use Rattle.std.specs.Prelude.{pos, nat_eq}
 use Rattle.std.specs.Ordering.{nat_cmp}
 use Rattle.std.specs.FinMap.{FinMap, get, insert}
-use Rattle.std.proofs.lemmas.Bool.{cases_lt}
+use Rattle.std.proofs.lemmas.Bool.{cases_lt, true≢false}
 use Rattle.std.proofs.lemmas.Bool.Decides.{eqb_tells}
 use Rattle.std.proofs.lemmas.List.{get_or-set_same, get_or-set_other}
+use Rattle.std.proofs.lemmas.Option.{none-some, same_Some}
 use Rattle.xk_base.specs.Gathered.{gathered}
 use Rattle.xk_base.specs.Words.{le_bytes}
 use Rattle.xk_base.specs.Image.{price}
@@ -49,8 +50,8 @@ use Rattle.kcall_core.specs.Whole.{IsWhole, AreCounted}
 use Rattle.kcall_core.specs.Makes.{Makes, view_now}
 use Rattle.kcall_core.specs.declared.kernel.Kernel.{Kernel}
 use Rattle.kcall_core.specs.declared.memories.Memories.{Memories}
-use Rattle.kernel_spec.proofs.steps.Maps.{get_at, get_other, insert-twice}
-use Rattle.kcall_core.proofs.table.States.{none-some, running, slot-inside, Goes, goes-processes, goes-sound}
+use Rattle.kernel_spec.proofs.steps.MapsAfterChange.{get_at, get_other, insert-twice}
+use Rattle.kcall_core.proofs.table.States.{running, slot-inside, Goes, goes-processes, goes-sound}
 use Rattle.kcall_core.proofs.table.Stops.{live-place, now-slot}
 use Rattle.kcall_core.proofs.memory.Changes.{some-inside}
 use Rattle.kcall_core.proofs.turns.Turned.{live-is}
@@ -60,7 +61,7 @@ use Rattle.kcall_core.proofs.files.Putting.{put-sound, put-state, put-pid, put-n
 use Rattle.kcall_core.proofs.files.Opened.{lowest-place-free, new-here, new-other, new-table, opened-counted, opened-files, unnamed, free-seen}
 use Rattle.kernel_spec.proofs.well.WellLaws as well
 use Rattle.kernel_spec.proofs.well.WellCloses.{well_made_pipe}
-use Rattle.kernel_spec.proofs.steps.OnFiles.{pipe_law}
+use Rattle.kernel_spec.proofs.steps.FileLawsHold.{pipe_law}
 use Rattle.kernel_spec.proofs.rows.Decoding.{pipe_case}
 use Rattle.kcall_core.proofs.turns.StepSlots.{KeepsAll}
 use Rattle.kcall_core.proofs.making.CallAnswers.{IsDone}
@@ -71,10 +72,6 @@ use Rattle.kernel_spec.proofs.rows.RowParts.{piped}
 use Rattle.kernel_spec.proofs.rows.RowsByParts.{pipe_unwritable, pipe_none, pipe_full, pipe_ready, pipe_no_read, pipe_no_write}
 
 -- ---- the tests
-
-or-true : (b : Bool) → (b || true) ≡ true
-or-true true = refl
-or-true false = refl
 
 module _ (k : Kernel) (h : Hart) (c : Call) where
   -- where its buffer can't be written, or its absent pages and the pipe's frame aren't free, a pipe is refused
@@ -94,7 +91,8 @@ module _ (k : Kernel) (h : Hart) (c : Call) where
       ]
 
   -- its buffer and a frame are there: what the row comes to then
-  pub pipe-ready : {k' : Kernel} (r w : ℕ) → lowest_free (view_now k h).descriptors ≡ Some r → lowest_free_above (view_now k h).descriptors r ≡ Some w → IsReady c.a0 8 1 k h k' h → make_pipe c (view_now k h) ≡ make_pipe c (view_now k' h)
+  pub pipe-ready : {k' : Kernel} (r w : ℕ) → lowest_free (view_now k h).descriptors ≡ Some r
+      → lowest_free_above (view_now k h).descriptors r ≡ Some w → IsReady c.a0 8 1 k h k' h → make_pipe c (view_now k h) ≡ make_pipe c (view_now k' h)
   unfolding view_of
   pipe-ready {k'} r w least above ready = pipe_ready c (view_now k h) (view_now k' h) r w ready.may least above ready.touched.view (elim (eqb_tells (state_of k' h).free 0) [
     | inl zero ↦ absurd (omega (arith, ready.free, zero.1))
@@ -110,17 +108,14 @@ module _ (c : Call) (v : View) where
 
 -- ---- nobody waits for a pipe that isn't there
 
-true-false : {A : Type 0} → true ≡ false → A
-true-false e = let no : ⊥ = cc in absurd no
-
 pub new-wake : (m : FinMap nat_cmp Pipe) (i : ℕ) (console : Console) → get m i ≡ None → WakeOn nobody m (insert m i new_pipe) console console
 new-wake m i console absent = record {
   bytes = λ j shut. elim (eqb_tells j i) [
-    | inl e ↦ true-false (sym (ap (λ o. has_bytes (or_gone o)) (ap (get m) e.1 ∙ absent)) ∙ shut)
+    | inl e ↦ absurd (true≢false (sym (ap (λ o. has_bytes (or_gone o)) (ap (get m) e.1 ∙ absent)) ∙ shut))
     | inr e ↦ sym (ap (λ o. has_bytes (or_gone o)) (get_at m i new_pipe j ∙ ap (λ b. cond b (Some new_pipe) (get m j)) e.0) ∙ shut)
   ];
   room = λ j shut. elim (eqb_tells j i) [
-    | inl e ↦ true-false (sym (ap (λ o. has_room (or_gone o)) (ap (get m) e.1 ∙ absent)) ∙ shut)
+    | inl e ↦ absurd (true≢false (sym (ap (λ o. has_room (or_gone o)) (ap (get m) e.1 ∙ absent)) ∙ shut))
     | inr e ↦ sym (ap (λ o. has_room (or_gone o)) (get_at m i new_pipe j ∙ ap (λ b. cond b (Some new_pipe) (get m j)) e.0) ∙ shut)
   ];
   keys = λ shut. sym shut;
@@ -140,13 +135,10 @@ nobody-on {k} {h} {i} whole absent q d on = by (quiet.file_at (state_of k h) q d
         is-there None = false
         is-there (Some x) = true
 
-    same : (a b : ℕ) → Some a ≡ Some b → a ≡ b
-    same a b e = cc
-
     by-target : (n : ℕ) (x : OpenFile) → get (state_of k h).files n ≡ Some x → (t : Target) → x.target ≡ t → pipe_of_target t ≡ Some i → ⊥
     by-target n x at Terminal is e = none-some i e
     by-target n x at (File program offset) is e = none-some i e
-    by-target n x at (Pipe_end j end) is e = missing (subst (λ z. IsSome (get (state_of k h).pipes z)) (same j i e) (whole.well.ends n j x end at is))
+    by-target n x at (Pipe_end j end) is e = missing (subst (λ z. IsSome (get (state_of k h).pipes z)) (same_Some j i e) (whole.well.ends n j x end at is))
 
     by-file : (n : ℕ) (o : Option OpenFile) → get (state_of k h).files n ≡ o → pipe_of_open o ≡ Some i → ⊥
     by-file n None at e = none-some i e
@@ -168,7 +160,8 @@ pub record Equips (old new : Memories) (slot i a : ℕ) (bytes : List ℕ) : Typ
   pub runs : (hart : Hart) → RunsIn old slot hart → RunsIn new slot hart
 
 pub equips : {old mid new : Memories} {slot i a : ℕ} {bytes : List ℕ} → get (pipes_of old) i ≡ None → PipeChanges old mid i (Some new_pipe)
-    → SlotChanges mid new slot (Some (with_image (write_image (held_at (each_of mid) slot).image a bytes) (held_at (each_of mid) slot))) → free_of new ≡ free_of mid → ((hart : Hart) → RunsIn mid slot hart → RunsIn new slot hart)
+    → SlotChanges mid new slot (Some (with_image (write_image (held_at (each_of mid) slot).image a bytes) (held_at (each_of mid) slot)))
+    → free_of new ≡ free_of mid → ((hart : Hart) → RunsIn mid slot hart → RunsIn new slot hart)
     → Equips old new slot i a bytes
 equips {old} {mid} {new} {slot} {i} {a} {bytes} absent made written free runs = record {
   sound = written.sound;
@@ -180,7 +173,8 @@ equips {old} {mid} {new} {slot} {i} {a} {bytes} absent made written free runs = 
   runs = λ hart x. runs hart (made.runs slot hart x);
 }
 
-module _ {k : Kernel} {h : Hart} {slot i a : ℕ} {bytes : List ℕ} {m : Memories} (whole : IsWhole k h) (runs : IsRunning k) (is : k.current ≡ Some slot) (equipped : Equips k.memories m slot i a bytes) where
+module _ {k : Kernel} {h : Hart} {slot i a : ℕ} {bytes : List ℕ} {m : Memories} (whole : IsWhole k h) (runs : IsRunning k)
+    (is : k.current ≡ Some slot) (equipped : Equips k.memories m slot i a bytes) where
   abbrev s : State
   s = state_of k h
 
@@ -205,13 +199,16 @@ module _ {k : Kernel} {h : Hart} {slot i a : ℕ} {bytes : List ℕ} {m : Memori
   here : get_or (each_of m) (slot_now k) None ≡ Some (with_image (write_image (held_at (each_of k.memories) (slot_now k)).image a bytes) (held_at (each_of k.memories) (slot_now k)))
   here =
       ap (λ e. get_or e (slot_now k) None) each-now
-      ∙ get_or-set_same (each_of k.memories) (slot_now k) (Some (with_image (write_image (held_at (each_of k.memories) (slot_now k)).image a bytes) (held_at (each_of k.memories) (slot_now k)))) None (some-inside (each_of k.memories) (slot_now k) its-memory)
+      ∙ get_or-set_same (each_of k.memories) (slot_now k)
+      (Some (with_image (write_image (held_at (each_of k.memories) (slot_now k)).image a bytes) (held_at (each_of k.memories) (slot_now k)))) None
+      (some-inside (each_of k.memories) (slot_now k) its-memory)
 
   goes : Goes k (over k m)
   goes = record {
     table = refl;
     current = refl;
-    each = λ j ne. ap (λ e. get_or e j None) each-now ∙ get_or-set_other (each_of k.memories) (slot_now k) j (Some (with_image (write_image (held_at (each_of k.memories) (slot_now k)).image a bytes) (held_at (each_of k.memories) (slot_now k)))) None ne;
+    each = λ j ne. ap (λ e. get_or e j None) each-now ∙ get_or-set_other (each_of k.memories) (slot_now k) j
+        (Some (with_image (write_image (held_at (each_of k.memories) (slot_now k)).image a bytes) (held_at (each_of k.memories) (slot_now k)))) None ne;
   }
 
   pub equipped-sound : IsSound (over k m) h
@@ -289,7 +286,8 @@ module _ {k : Kernel} {h : Hart} {slot r w i a : ℕ} {bytes : List ℕ} {m : Me
   place1 : (j : ℕ) → place_at k1.table j ≡ place_at k.table j
   place1 j = ap (λ (t : Slots). place_at t j) first.table
 
-  state1 : state_of k1 h ≡ changed_state pid (update.with_named r f (live_now (over k m) h)) (state_of k1 h).files (pipes_of k1.memories) (state_of (over k m) h).console (free_of k1.memories) (state_of (over k m) h)
+  state1 : state_of k1 h ≡ changed_state pid (update.with_named r f (live_now (over k m) h)) (state_of k1 h).files (pipes_of k1.memories)
+      (state_of (over k m) h).console (free_of k1.memories) (state_of (over k m) h)
   state1 =
       put-state (over k m) k1 h slot r f sound0 is current1 shares1 fits1 r-below first.table
       (ap (λ (n : Kernel). n.console) first.rest) (ap (λ (n : Kernel). n.programs.items) first.rest) (ap (λ (n : Kernel). n.clock) first.rest)
@@ -308,7 +306,8 @@ module _ {k : Kernel} {h : Hart} {slot r w i a : ℕ} {bytes : List ℕ} {m : Me
   -- the write end is still free then
   pub write-end-free : named_by (descriptors_at k1.table slot) w ≡ None
   write-end-free =
-      ap (λ ds. named_by ds w) (sharing.put-here k.table k1.table slot r f inside r-below whole.sound.table.descriptors (whole.counted.lists slot inside) r-free (ap (λ (t : Slots). t.descriptors) first.table))
+      ap (λ ds. named_by ds w) (sharing.put-here k.table k1.table slot r f inside r-below whole.sound.table.descriptors
+      (whole.counted.lists slot inside) r-free (ap (λ (t : Slots). t.descriptors) first.table))
       ∙ get_or-set_other (descriptors_at k.table slot) r w (Some f) None (λ e. apart (sym e)) ∙ w-free
 
   -- ---- the write end
@@ -342,14 +341,16 @@ module _ {k : Kernel} {h : Hart} {slot r w i a : ℕ} {bytes : List ℕ} {m : Me
     pub ends-sound : IsSound k2 h
     ends-sound = put-sound k1 k2 h slot w g read-end-sound is1 current2 shares2 fits2 w-below second.table
 
-    state2 : state_of k2 h ≡ changed_state (pid_now k1) (update.with_named w g (live_now k1 h)) (state_of k2 h).files (pipes_of k2.memories) (state_of k1 h).console (free_of k2.memories) (state_of k1 h)
+    state2 : state_of k2 h ≡ changed_state (pid_now k1) (update.with_named w g (live_now k1 h)) (state_of k2 h).files (pipes_of k2.memories)
+        (state_of k1 h).console (free_of k2.memories) (state_of k1 h)
     state2 =
         put-state k1 k2 h slot w g read-end-sound is1 current2 shares2 fits2 w-below second.table
         (ap (λ (n : Kernel). n.console) second.rest) (ap (λ (n : Kernel). n.programs.items) second.rest) (ap (λ (n : Kernel). n.clock) second.rest)
 
     counted2 : AreCounted k2.files k2.table
     counted2 = subst (λ fs. AreCounted fs k2.table) (sym second.files)
-        (opened-counted k1.files k1.table k2.table slot w g writer read-end-counted empty2.0 empty2.1 inside w-below read-end-sound.table.descriptors write-end-free (ap (λ (t : Slots). t.descriptors) second.table)
+        (opened-counted k1.files k1.table k2.table slot w g writer read-end-counted empty2.0 empty2.1 inside w-below read-end-sound.table.descriptors
+        write-end-free (ap (λ (t : Slots). t.descriptors) second.table)
         (λ j. ap (λ (t : Slots). place_is_live (place_at t j)) second.table) (ap place_is_live (place1 slot) ∙ lives))
 
     table2 : files.IsTable k2.files
@@ -382,9 +383,13 @@ module _ {k : Kernel} {h : Hart} {slot r w i a : ℕ} {bytes : List ℕ} {m : Me
     ends-state =
         state2
         ∙ (λ t. changed_state (pid1 t) (update.with_named w g (live1 t)) (files-now t) (pipes-now t) (console-now t) (free-now t) (state1 t))
-        ∙ ap (λ u. changed_state pid maker two-more (insert st.pipes i new_pipe) st.console (st.free - 1) (changed_state pid (update.with_named r f (live_now (over k m) h)) (state_of k1 h).files (pipes_of k1.memories) (state_of (over k m) h).console (free_of k1.memories) u)) (equipped-state whole runs is equipped)
+        ∙ ap (λ u. changed_state pid maker two-more (insert st.pipes i new_pipe) st.console (st.free - 1)
+        (changed_state pid (update.with_named r f (live_now (over k m) h)) (state_of k1 h).files (pipes_of k1.memories)
+        (state_of (over k m) h).console (free_of k1.memories) u)) (equipped-state whole runs is equipped)
         ∙ (λ t. record (changed_state pid maker two-more (insert st.pipes i new_pipe) st.console (st.free - 1) st) {
-          processes = (insert-twice (insert st.processes pid (Alive (with_bytes a bytes lv))) pid (Alive (update.with_named r f (live_now (over k m) h))) (Alive maker) ∙ insert-twice st.processes pid (Alive (with_bytes a bytes lv)) (Alive maker)) t;
+          processes = (insert-twice (insert st.processes pid (Alive (with_bytes a bytes lv))) pid
+              (Alive (update.with_named r f (live_now (over k m) h))) (Alive maker)
+              ∙ insert-twice st.processes pid (Alive (with_bytes a bytes lv)) (Alive maker)) t;
         })
 
     -- ---- it is well-formed
@@ -449,9 +454,12 @@ module _ {k : Kernel} {h : Hart} {slot r w i a : ℕ} {bytes : List ℕ} {m : Me
 
       law : After st pid lv (make_pipe c (view_now k h)) (changed_state pid (with_answer (pos 0) maker) two-more (insert st.pipes i new_pipe) st.console (st.free - 1) st)
       law =
-          let at-once = pipe_law st pid lv c r w f g i was r-below w-below apart apart-files (free-seen whole is r-below r-free) (free-seen whole is w-below w-free) nobody-f nobody-g (nobody-on whole absent) in
+          let at-once = pipe_law st pid lv c r w f g i was r-below w-below apart apart-files (free-seen whole is r-below r-free)
+          (free-seen whole is w-below w-free) nobody-f nobody-g (nobody-on whole absent) in
           subst (λ o. After st pid lv o (changed_state pid (with_answer (pos 0) maker) two-more (insert st.pipes i new_pipe) st.console (st.free - 1) st)) (sym row)
-          (subst (λ (z : ℕ × List ℕ). After st pid lv (piped c (view_now k h) r (Some w)) (changed_state pid (with_answer (pos 0) (update.with_named w g (update.with_named r f (with_bytes z.0 z.1 lv)))) two-more (insert st.pipes i new_pipe) st.console (st.free - 1) st))
+          (subst (λ (z : ℕ × List ℕ). After st pid lv (piped c (view_now k h) r (Some w))
+          (changed_state pid (with_answer (pos 0) (update.with_named w g (update.with_named r f (with_bytes z.0 z.1 lv)))) two-more
+          (insert st.pipes i new_pipe) st.console (st.free - 1) st))
           (λ t. (address t, sym numbers t)) at-once)
 
       pub pipe-makes : (k' : Kernel) (h' : Hart) → IsDone k2 h (pos 0) k' h' → Makes k h (make_pipe c (view_now k h)) k' h'

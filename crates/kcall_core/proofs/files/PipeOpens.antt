@@ -35,7 +35,8 @@ pub record WakeOnPipes (wakes : Channel → Bool) (before after : FinMap nat_cmp
   pub sending : wakes on.Sending ≡ false
 
 -- so they are those who may go on
-pub opens-on-pipes : (s : State) (p : ℕ) (l m : Live) (files : FinMap nat_cmp OpenFile) (pipes : FinMap nat_cmp Pipe) (free : ℕ) (wakes : Channel → Bool) → get s.processes p ≡ Some (Alive l) → m.parent ≡ l.parent → WakeOnPipes wakes s.pipes pipes
+pub opens-on-pipes : (s : State) (p : ℕ) (l m : Live) (files : FinMap nat_cmp OpenFile) (pipes : FinMap nat_cmp Pipe) (free : ℕ)
+    (wakes : Channel → Bool) → get s.processes p ≡ Some (Alive l) → m.parent ≡ l.parent → WakeOnPipes wakes s.pipes pipes
     → (c : Condition) (channel : Channel) → is_for c channel ≡ true → is_open s c ≡ false → wakes channel ≡ is_open (changed_state p m files pipes s.console free s) c
 opens-on-pipes s p l m files pipes free wakes was parent x (Child_of q) (on.Children r) e shut = x.children r ∙ sym (family s p l m files pipes s.console free was parent q ∙ shut)
 opens-on-pipes s p l m files pipes free wakes was parent x (Bytes i) (on.Bytes f) e shut = ap (λ n. wakes (on.Bytes n)) (sym (eqb-true i f e)) ∙ x.bytes i shut
@@ -99,8 +100,10 @@ fewer-wake (Some (Pipe_end i end)) m = by (get m i) refl
         let z = parted x end 1 in
         let after : (j : ℕ) → get (settled i z m) j ≡ cond (nat_eq j i) (remainder z) (get m j) = λ j. ap (λ n. get n j) (sym (with-settled i z m)) ∙ get-with i z m j in
         record {
-          bytes = λ j shut. ap (λ (o : Option Pipe). last_closes (or_gone (get m j)).writers (or_gone o).writers) (after j) ∙ bytes j shut ∙ sym (ap (λ (o : Option Pipe). has_bytes (or_gone o)) (after j));
-          room = λ j shut. ap (λ (o : Option Pipe). last_closes (or_gone (get m j)).readers (or_gone o).readers) (after j) ∙ room j shut ∙ sym (ap (λ (o : Option Pipe). has_room (or_gone o)) (after j));
+          bytes = λ j shut. ap (λ (o : Option Pipe). last_closes (or_gone (get m j)).writers (or_gone o).writers) (after j) ∙ bytes j shut
+              ∙ sym (ap (λ (o : Option Pipe). has_bytes (or_gone o)) (after j));
+          room = λ j shut. ap (λ (o : Option Pipe). last_closes (or_gone (get m j)).readers (or_gone o).readers) (after j) ∙ room j shut
+              ∙ sym (ap (λ (o : Option Pipe). has_room (or_gone o)) (after j));
           children = λ q. refl;
           clock = refl;
           keys = refl;
@@ -111,7 +114,8 @@ fewer-wake (Some (Pipe_end i end)) m = by (get m i) refl
         here j e = ap (λ n. or_gone (get m n)) e ∙ ap or_gone is
 
         bytes : (j : ℕ) → has_bytes (or_gone (get m j)) ≡ false
-            → last_closes (or_gone (get m j)).writers (or_gone (cond (nat_eq j i) (remainder (parted x end 1)) (get m j))).writers ≡ has_bytes (or_gone (cond (nat_eq j i) (remainder (parted x end 1)) (get m j)))
+            → last_closes (or_gone (get m j)).writers (or_gone (cond (nat_eq j i) (remainder (parted x end 1)) (get m j))).writers ≡ has_bytes
+            (or_gone (cond (nat_eq j i) (remainder (parted x end 1)) (get m j)))
         bytes j shut = elim (eqb_tells j i) [
           | inl e ↦
               (λ t. last_closes (here j e.1 t).writers (or_gone (cond (e.0 t) (remainder (parted x end 1)) (get m j))).writers)
@@ -124,7 +128,8 @@ fewer-wake (Some (Pipe_end i end)) m = by (get m i) refl
         ]
 
         room : (j : ℕ) → has_room (or_gone (get m j)) ≡ false
-            → last_closes (or_gone (get m j)).readers (or_gone (cond (nat_eq j i) (remainder (parted x end 1)) (get m j))).readers ≡ has_room (or_gone (cond (nat_eq j i) (remainder (parted x end 1)) (get m j)))
+            → last_closes (or_gone (get m j)).readers (or_gone (cond (nat_eq j i) (remainder (parted x end 1)) (get m j))).readers ≡ has_room
+            (or_gone (cond (nat_eq j i) (remainder (parted x end 1)) (get m j)))
         room j shut = elim (eqb_tells j i) [
           | inl e ↦
               (λ t. last_closes (here j e.1 t).readers (or_gone (cond (e.0 t) (remainder (parted x end 1)) (get m j))).readers)

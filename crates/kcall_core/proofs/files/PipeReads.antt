@@ -2,7 +2,7 @@
 use Rattle.std.proofs.Common.{◌≡◌, ℕ, ◌≤◌, ◌<◌, ◌||◌, Bool, true, false, cond, length, take, drop, subst, Some, None, inl, inr, refl, sym, ap, ◌∙◌, arith}
 use Rattle.std.specs.Prelude.{ℤ, pos, IsSome, nat_eq, nat_lt, not}
 use Rattle.std.specs.FinMap.{get, insert}
-use Rattle.std.proofs.lemmas.Bool.{cases_lt, eq-eqb, lt-ltb, le-ltb, or_parts}
+use Rattle.std.proofs.lemmas.Bool.{eq-eqb, lt-ltb, le-ltb, or_parts, ltb-false, not-false, not-true, both_ways}
 use Rattle.std.proofs.lemmas.Bool.Decides.{eqb_tells}
 use Rattle.std.proofs.lemmas.List.{length-drop}
 use Rattle.xk_base.specs.declared.limits.TheConstants.{PIPE_BYTES, NOFILE}
@@ -36,12 +36,12 @@ use Rattle.kernel_spec.specs.waking.SleepsOn.{is_for}
 use Rattle.kcall_core.specs.Makes.{Makes, view_now}
 use Rattle.kcall_core.specs.declared.kernel.Kernel.{Kernel}
 use Rattle.kcall_core.specs.declared.memories.Memories.{Memories}
-use Rattle.kernel_spec.proofs.steps.Maps.{get_same, get_other}
+use Rattle.kernel_spec.proofs.steps.MapsAfterChange.{get_same, get_other}
 use Rattle.kcall_core.proofs.table.Woken.{each-woken}
-use Rattle.kernel_spec.proofs.steps.Alone as law
+use Rattle.kernel_spec.proofs.steps.AloneLawsHold as law
 use Rattle.kernel_spec.proofs.rows.Decoding.{is_read}
 use Rattle.kernel_spec.proofs.well.WellLaws as well
-use Rattle.kernel_spec.proofs.steps.OnFiles.{read_is, read_takes, read_waits}
+use Rattle.kernel_spec.proofs.steps.FileLawsHold.{read_is, read_takes, read_waits}
 use Rattle.kcall_core.proofs.turns.StepSlots.{KeepsAll}
 use Rattle.kcall_core.proofs.making.CallAnswers.{IsDone}
 use Rattle.kcall_core.proofs.making.Prepared.{over}
@@ -50,20 +50,6 @@ use Rattle.kcall_core.proofs.making.Moved.{still, moved-sound, moved-midway, sle
 
 cond-at : {A : Type 0} (b c : Bool) (x y : A) → b ≡ c → cond b x y ≡ cond c x y
 cond-at b c x y e = ap (λ z. cond z x y) e
-
-above : (a b : ℕ) → nat_lt a b ≡ false → b ≤ a
-above a b e = elim (cases_lt a b) [ inl less ↦ absurd (clash (lt-ltb a b less) e) | inr more ↦ more ]
-  where
-    clash : {x : Bool} → x ≡ true → x ≡ false → ⊥
-    clash t f = cc
-
-not-true : (b : Bool) → not b ≡ true → b ≡ false
-not-true true e = sym e
-not-true false e = refl
-
-not-false : (b : Bool) → not b ≡ false → b ≡ true
-not-false true e = refl
-not-false false e = sym e
 
 module _ {k : Kernel} {h : Hart} {c : Call} {f n : ℕ} (whole : IsWhole k h) (runs : IsRunning k) (x : ReadsPipe k h c f n) where
   abbrev s : State
@@ -147,7 +133,8 @@ module _ {k : Kernel} {h : Hart} {c : Call} {f n : ℕ} (whole : IsWhole k h) (r
 
     takes-keeps : KeepsAll s (read c v)
     unfolding view_of
-    takes-keeps = keeps-all (read_is s p l c x.fd f x.name n x.end x.pipe x.on x.reads x.number x.buffer ∙ cond-at (not (has_bytes x.pipe)) false (waits c 0 v) _ some) (record { child = refl; stays = refl; pids = refl })
+    takes-keeps = keeps-all (read_is s p l c x.fd f x.name n x.end x.pipe x.on x.reads x.number x.buffer
+        ∙ cond-at (not (has_bytes x.pipe)) false (waits c 0 v) _ some) (record { child = refl; stays = refl; pids = refl })
 
     few : length x.pipe.bytes ≤ PIPE_BYTES
     few = whole.well.pipe_bytes f x.pipe x.on.pipe
@@ -164,19 +151,16 @@ module _ {k : Kernel} {h : Hart} {c : Call} {f n : ℕ} (whole : IsWhole k h) (r
     bytes-left : has_bytes x.pipe ≡ false → has_bytes taken ≡ false
     bytes-left shut =
         let e = or_parts (nat_lt 0 (length x.pipe.bytes)) (nat_eq x.pipe.writers 0) shut in
-        let none = above 0 (length x.pipe.bytes) e.0 in
+        let none = ltb-false 0 (length x.pipe.bytes) e.0 in
         (λ i. le-ltb 0 (length (drop count x.pipe.bytes)) (omega (arith, none, length-drop count x.pipe.bytes)) i || e.1 i)
 
     room-left : has_room x.pipe ≡ false → has_room taken ≡ true
     room-left shut =
         let e = or_parts (nat_lt (length x.pipe.bytes) PIPE_BYTES) (nat_eq x.pipe.readers 0) shut in
-        let full = above (length x.pipe.bytes) PIPE_BYTES e.0 in
-        let more : 1 ≤ n = elim (eqb_tells n 0) [ inl zero ↦ absurd (clash zero.0 x.buffer.1) | inr other ↦ omega (arith, other.1) ] in
+        let full = ltb-false (length x.pipe.bytes) PIPE_BYTES e.0 in
+        let more : 1 ≤ n = elim (eqb_tells n 0) [ inl zero ↦ absurd (both_ways _ x.buffer.1 zero.0) | inr other ↦ omega (arith, other.1) ] in
         let less : length (drop count x.pipe.bytes) < PIPE_BYTES = omega (arith, full, few, more, length-drop count x.pipe.bytes) in
         (λ i. lt-ltb (length (drop count x.pipe.bytes)) PIPE_BYTES less i || nat_eq x.pipe.readers 0)
-      where
-        clash : {b : Bool} → b ≡ true → b ≡ false → ⊥
-        clash t f = cc
 
     wake : WakeOn wakes s.pipes (insert s.pipes f taken) s.console s.console
     wake = record {
@@ -195,24 +179,30 @@ module _ {k : Kernel} {h : Hart} {c : Call} {f n : ℕ} (whole : IsWhole k h) (r
     }
 
     module _ (m : Memories) (told : ℕ) (told-is : told ≡ there (pipe_named (pipes_of k.memories) f) n) (slot : ℕ) (slot-is : slot ≡ slot_now k)
-        (moves : Moves k.memories m slot (write_image (held_at (each_of k.memories) slot).image c.a1 (take told (pipe_named (pipes_of k.memories) f).bytes)) f (without_first told (pipe_named (pipes_of k.memories) f))) where
+        (moves : Moves k.memories m slot (write_image (held_at (each_of k.memories) slot).image c.a1
+        (take told (pipe_named (pipes_of k.memories) f).bytes)) f (without_first told (pipe_named (pipes_of k.memories) f))) where
       pub told-count : told ≡ count
       told-count = told-is ∙ ap (λ (y : Pipe). there y n) pipe-is
 
       its-moves : Moves k.memories m (slot_now k) (write_image l.image c.a1 (take count x.pipe.bytes)) f taken
-      its-moves = subst (λ (z : ℕ × ℕ × Pipe). Moves k.memories m z.0 (write_image (held_at (each_of k.memories) z.0).image c.a1 (take z.1 z.2.bytes)) f (without_first z.1 z.2)) (λ i. (slot-is i, told-count i, pipe-is i)) moves
+      its-moves = subst (λ (z : ℕ × ℕ × Pipe). Moves k.memories m z.0
+          (write_image (held_at (each_of k.memories) z.0).image c.a1 (take z.1 z.2.bytes)) f (without_first z.1 z.2))
+          (λ i. (slot-is i, told-count i, pipe-is i)) moves
 
       left-few : length taken.bytes ≤ PIPE_BYTES
       left-few = omega (arith, few, length-drop count x.pipe.bytes)
 
       pub read-sound : IsSound (over k m) h
       read-sound =
-          moved-sound whole runs m (write_image l.image c.a1 (take count x.pipe.bytes)) f x.pipe taken its-moves x.on.pipe refl refl left-few (well.writes_take_nothing l.image c.a1 (take count x.pipe.bytes))
+          moved-sound whole runs m (write_image l.image c.a1 (take count x.pipe.bytes)) f x.pipe taken its-moves x.on.pipe refl refl left-few
+          (well.writes_take_nothing l.image c.a1 (take count x.pipe.bytes))
 
-      pub read-done : (k1 : Kernel) → k1.table ≡ each_changed (woken (on.Room f)) k.table → k1 ≡ record (over k m) { table = k1.table } → (k' : Kernel) (h' : Hart) (value : ℤ) → value ≡ pos told → IsDone k1 h value k' h' → Makes k h (read c v) k' h'
+      pub read-done : (k1 : Kernel) → k1.table ≡ each_changed (woken (on.Room f)) k.table → k1 ≡ record (over k m) { table = k1.table }
+          → (k' : Kernel) (h' : Hart) (value : ℤ) → value ≡ pos told → IsDone k1 h value k' h' → Makes k h (read c v) k' h'
       read-done k1 table rest k' h' value is done =
           midway-done whole runs
-          (moved-midway whole runs m (write_image l.image c.a1 (take count x.pipe.bytes)) f x.pipe taken its-moves x.on.pipe refl refl left-few (well.writes_take_nothing l.image c.a1 (take count x.pipe.bytes))
+          (moved-midway whole runs m (write_image l.image c.a1 (take count x.pipe.bytes)) f x.pipe taken its-moves x.on.pipe refl refl left-few
+          (well.writes_take_nothing l.image c.a1 (take count x.pipe.bytes))
           wakes k1 (table ∙ each-woken wakes (on.Room f) k.table (λ d. refl)) rest wake)
           k' h' (pos count) (read c v) c.number (subst (λ z. IsDone k1 h z k' h') (is ∙ ap pos told-count) done) takes-answer takes-keeps
           (read_takes s p l c x.fd f x.name n x.end x.pipe x.on x.reads x.number x.buffer (not-false (has_bytes x.pipe) some))

@@ -1,8 +1,8 @@
 -- A write to a pipe, as the code goes through it.
-use Rattle.std.proofs.Common.{◌≡◌, ◌≢◌, ℕ, ◌+◌, ◌-◌, ◌%◌, ◌^◌, ◌≤◌, ◌<◌, ◌||◌, ◌&&◌, Bool, true, false, cond, length, get_or, set, subst, Option, Some, None, inl, inr, refl, sym, ap, ◌∙◌, arith}
+use Rattle.std.proofs.Common.{◌≡◌, ℕ, ◌+◌, ◌-◌, ◌%◌, ◌^◌, ◌≤◌, ◌<◌, ◌||◌, ◌&&◌, Bool, true, false, cond, length, get_or, set, subst, Some, None, inl, inr, refl, sym, ap, ◌∙◌, arith}
 use Rattle.std.specs.Prelude.{ℤ, pos, IsSome, nat_eq, nat_lt, nat_le}
 use Rattle.std.specs.FinMap.{get, insert}
-use Rattle.std.proofs.lemmas.Bool.{cases_lt, eq-eqb, lt-ltb, le-ltb, le-leb, lt-leb, or_parts}
+use Rattle.std.proofs.lemmas.Bool.{cases_lt, eq-eqb, lt-ltb, le-ltb, le-leb, lt-leb, or_parts, ltb-false}
 use Rattle.std.proofs.lemmas.Bool.Decides.{eqb_tells}
 use Rattle.std.proofs.lemmas.List.{length-append, set-get_or}
 use Rattle.std.proofs.lemmas.List.FromFn.{length-map-range_with_len}
@@ -10,7 +10,6 @@ use Rattle.xk_base.specs.declared.limits.TheConstants.{PIPE_BYTES, NOFILE}
 use Rattle.xk_base.specs.Bytes.{image_bytes, image_byte}
 use Rattle.hart_core.specs.declared.hart.Hart.{Hart}
 use Rattle.pipe_core.specs.Pipe.{Pipe, with_more}
-use Rattle.proc_table.specs.Channels.{same_channel}
 use Rattle.proc_table.specs.Slots.{each_changed}
 use Rattle.proc_table.specs.declared.channel.Channel.{Channel}
 use Rattle.proc_table.specs.declared.channel.Channel.TheVariants as on
@@ -38,36 +37,19 @@ use Rattle.kernel_spec.specs.waking.SleepsOn.{is_for}
 use Rattle.kcall_core.specs.Makes.{Makes, view_now}
 use Rattle.kcall_core.specs.declared.kernel.Kernel.{Kernel}
 use Rattle.kcall_core.specs.declared.memories.Memories.{Memories}
-use Rattle.kernel_spec.proofs.steps.Maps.{get_same, get_other}
+use Rattle.kernel_spec.proofs.steps.MapsAfterChange.{get_same, get_other}
 use Rattle.kcall_core.proofs.table.States.{running}
-use Rattle.kernel_spec.proofs.steps.Alone as law
+use Rattle.kernel_spec.proofs.steps.AloneLawsHold as law
 use Rattle.kernel_spec.proofs.rows.Decoding.{is_write}
-use Rattle.kernel_spec.proofs.steps.PipeCalls as pipes
-use Rattle.kernel_spec.proofs.steps.OnFiles.{pipe_write}
+use Rattle.kernel_spec.proofs.steps.PipeWriteIsItsRow as pipes
+use Rattle.kernel_spec.proofs.steps.FileLawsHold.{pipe_write}
+use Rattle.kernel_spec.proofs.Common.{or_false, the_value}
 use Rattle.kcall_core.proofs.memory.PipeRest.{next-read, rest-read}
 use Rattle.kcall_core.proofs.turns.StepSlots.{KeepsAll}
 use Rattle.kcall_core.proofs.making.CallAnswers.{IsDone}
 use Rattle.kcall_core.proofs.making.Prepared.{over}
 use Rattle.kcall_core.proofs.making.Midway.{WakeOn, Midway, IsAsleep, midway-done, midway-sleeps}
 use Rattle.kcall_core.proofs.making.Moved.{moved-sound, moved-midway, sleeps-unready}
-
-above : (a b : ℕ) → nat_lt a b ≡ false → b ≤ a
-above a b e = elim (cases_lt a b) [ inl less ↦ absurd (clash (lt-ltb a b less) e) | inr more ↦ more ]
-  where
-    clash : {x : Bool} → x ≡ true → x ≡ false → ⊥
-    clash t f = cc
-
--- nobody wakes where no byte came
-pub none-came : (f n : ℕ) (d : Channel) → n ≡ 0 → wakes_readers f n d ≡ false
-none-came f n d e = ap (λ z. wakes_readers f z d) e
-
--- who waits for bytes wakes where some came
-pub some-came : (f n : ℕ) (d : Channel) → n ≢ 0 → wakes_readers f n d ≡ same_channel d (on.Bytes f)
-some-came f n d apart = ap (λ b. b && same_channel d (on.Bytes f)) (lt-ltb 0 n (omega (arith, apart)))
-
-held-there : {X : Type 0} (o : Option X) → IsSome o → (x : X) × (o ≡ Some x)
-held-there None h = let no : ⊥ = cc in absurd no
-held-there (Some x) h = (x, refl)
 
 module _ {k : Kernel} {h : Hart} {c : Call} {f n : ℕ} (whole : IsWhole k h) (runs : IsRunning k) (x : WritesPipe k h c f n) where
   abbrev s : State
@@ -134,18 +116,14 @@ module _ {k : Kernel} {h : Hart} {c : Call} {f n : ℕ} (whole : IsWhole k h) (r
   bytes-came : has_bytes x.pipe ≡ false → has_bytes after ≡ nat_lt 0 count
   bytes-came shut =
       let e = or_parts (nat_lt 0 (length x.pipe.bytes)) (nat_eq x.pipe.writers 0) shut in
-      let none = above 0 (length x.pipe.bytes) e.0 in
+      let none = ltb-false 0 (length x.pipe.bytes) e.0 in
       let size : length after.bytes ≡ count = omega (arith, none, size-after) in
-      (λ i. nat_lt 0 (size i) || e.1 i) ∙ or-false (nat_lt 0 count)
-    where
-      or-false : (b : Bool) → (b || false) ≡ b
-      or-false true = refl
-      or-false false = refl
+      (λ i. nat_lt 0 (size i) || e.1 i) ∙ sym (or_false (nat_lt 0 count))
 
   room-stays : has_room x.pipe ≡ false → has_room after ≡ false
   room-stays shut =
       let e = or_parts (nat_lt (length x.pipe.bytes) PIPE_BYTES) (nat_eq x.pipe.readers 0) shut in
-      let full = above (length x.pipe.bytes) PIPE_BYTES e.0 in
+      let full = ltb-false (length x.pipe.bytes) PIPE_BYTES e.0 in
       (λ i. le-ltb (length after.bytes) PIPE_BYTES (omega (arith, full, size-after)) i || e.1 i)
 
   and-true : (b c : Bool) → c ≡ true → (b && c) ≡ b
@@ -172,7 +150,8 @@ module _ {k : Kernel} {h : Hart} {c : Call} {f n : ℕ} (whole : IsWhole k h) (r
     clock = and-false (nat_lt 0 count) false refl;
   }
 
-  module _ (read : nat_eq x.pipe.readers 0 ≡ false) (slot : ℕ) (slot-is : slot ≡ slot_now k) (to : ℕ) (to-is : to ≡ (c.a1 + c.moved) % 2 ^ 64) (told : ℕ) (told-is : told ≡ fit (pipe_named (pipes_of k.memories) f) left) (m : Memories)
+  module _ (read : nat_eq x.pipe.readers 0 ≡ false) (slot : ℕ) (slot-is : slot ≡ slot_now k) (to : ℕ) (to-is : to ≡ (c.a1 + c.moved) % 2 ^ 64)
+      (told : ℕ) (told-is : told ≡ fit (pipe_named (pipes_of k.memories) f) left) (m : Memories)
       (moves : PipeChanges k.memories m f (Some (with_more (image_bytes (held_at (each_of k.memories) slot).image to told) (pipe_named (pipes_of k.memories) f)))) where
     pub told-count : told ≡ count
     told-count = told-is ∙ ap (λ (y : Pipe). fit y left) pipe-is
@@ -193,7 +172,7 @@ module _ {k : Kernel} {h : Hart} {c : Call} {f n : ℕ} (whole : IsWhole k h) (r
     its-moves : Moves k.memories m (slot_now k) l.image f after
     unfolding state_of
     its-moves =
-        let (held, is) = held-there (get_or (each_of k.memories) (slot_now k) None) its-memory in
+        let (held, is) = the_value (get_or (each_of k.memories) (slot_now k) None) its-memory in
         record {
           sound = its-changes.sound;
           each = its-changes.each ∙ sym (ap (λ y. set (each_of k.memories) (slot_now k) y) (ap (λ o. Some (or_nothing o)) is ∙ sym is) ∙ set-get_or (each_of k.memories) (slot_now k) None);
@@ -211,7 +190,8 @@ module _ {k : Kernel} {h : Hart} {c : Call} {f n : ℕ} (whole : IsWhole k h) (r
 
     module _ (k1 : Kernel) (table : k1.table ≡ each_changed (woken_by (wakes_readers f told)) k.table) (rest : k1 ≡ record (over k m) { table = k1.table }) where
       mid : Midway k h k1 h wakes l s.files (insert s.pipes f after) s.console s.free
-      mid = moved-midway whole runs m l.image f x.pipe after its-moves x.on.pipe refl refl left-few refl wakes k1 (table ∙ ap (λ n. each_changed (woken_by (wakes_readers f n)) k.table) told-count) rest wake
+      mid = moved-midway whole runs m l.image f x.pipe after its-moves x.on.pipe refl refl left-few refl wakes k1
+          (table ∙ ap (λ n. each_changed (woken_by (wakes_readers f n)) k.table) told-count) rest wake
 
       -- all bytes are in
       module _ (moved : ℕ) (moved-is : moved ≡ c.moved + told) where
@@ -277,6 +257,9 @@ module _ {k : Kernel} {h : Hart} {c : Call} {f n : ℕ} (whole : IsWhole k h) (r
           unready number unmarked busy = sleeps-unready s then p l asleep (write c v) c.number
               (law.resume s p l c unmarked busy ∙ is_write c v number) waits-answer waits-law.next (ap live_part (get_same s.processes p (Alive asleep)))
 
-          pub write-waits : (k' : Kernel) (h' : Hart) → c.number ≡ pos 16 → l.killed ≡ false → l.call ≡ Some c → IsAsleep k1 h (record c { moved = moved }) (on.Room f) k' h' → Makes k h (write c v) k' h'
+          pub write-waits : (k' : Kernel) (h' : Hart) → c.number ≡ pos 16 → l.killed ≡ false → l.call ≡ Some c
+              → IsAsleep k1 h (record c { moved = moved }) (on.Room f) k' h' → Makes k h (write c v) k' h'
           write-waits k' h' number unmarked busy slept =
-              midway-sleeps whole runs mid k' h' d (on.Room f) (write c v) c.number (subst (λ z. IsAsleep k1 h (record c { moved = z }) (on.Room f) k' h') same-moved slept) waits-answer waits-keeps waits-law (for-room number, unready number unmarked busy)
+              midway-sleeps whole runs mid k' h' d (on.Room f) (write c v) c.number
+              (subst (λ z. IsAsleep k1 h (record c { moved = z }) (on.Room f) k' h') same-moved slept) waits-answer waits-keeps waits-law
+              (for-room number, unready number unmarked busy)

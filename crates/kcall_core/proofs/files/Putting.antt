@@ -2,7 +2,7 @@
 use Rattle.std.proofs.Common.{◌≡◌, ◌≢◌, ℕ, ◌<◌, cond, ltb, List, length, get_or, set, Option, Some, None, IsSome, inl, inr, refl, sym, ap, ◌∙◌, subst, arith}
 use Rattle.std.specs.Prelude.{map}
 use Rattle.std.specs.FinMap.{get, insert}
-use Rattle.std.proofs.lemmas.Bool.{eq-eqb}
+use Rattle.std.proofs.lemmas.Bool.{eq-eqb, lt-ltb}
 use Rattle.std.proofs.lemmas.Bool.Decides.{eqb_tells}
 use Rattle.std.proofs.lemmas.List.{get_or-set_same, get_or-set_other, length-set}
 use Rattle.xk_base.specs.declared.limits.TheConstants.{NPROC, NOFILE, OPEN_FILES}
@@ -23,10 +23,9 @@ use Rattle.kcall_core.specs.Holdings.{or_nothing, held_at}
 use Rattle.kcall_core.specs.Memories.{each_of, pipes_of, free_of}
 use Rattle.kcall_core.specs.Kernel.{descriptor_map, live_of, by_status, process_of, entry_of, entry_at, state_of, or_nobody, slot_now, place_now, pid_now, live_now, IsCurrent, IsSound}
 use Rattle.kcall_core.specs.declared.kernel.Kernel.{Kernel}
-use Rattle.kernel_spec.proofs.steps.Maps.{get_at}
+use Rattle.kernel_spec.proofs.steps.MapsAfterChange.{get_at}
 use Rattle.kcall_core.proofs.files.Namings.{named-seen}
 use Rattle.kcall_core.proofs.files.Taking.{Shares}
-use Rattle.sv39_core.proofs.Words.{ltb-yes}
 use Rattle.kcall_core.proofs.table.States.{Alone, slot-state, slot-inside, not-this}
 
 -- a descriptor of a list that names an open file now
@@ -35,7 +34,7 @@ map-named ds d g lt below = same_pages (descriptor_map (with_named d (Some g) ds
   | inl h ↦
       named-seen (with_named d (Some g) ds) e
       ∙ ap (λ o. cond (ltb e NOFILE) o None) (ap (named_by (with_named d (Some g) ds)) h.1 ∙ get_or-set_same ds d (Some g) None lt)
-      ∙ ap (λ b. cond b (Some g) None) (ap (λ n. ltb n NOFILE) h.1 ∙ ltb-yes d NOFILE below)
+      ∙ ap (λ b. cond b (Some g) None) (ap (λ n. ltb n NOFILE) h.1 ∙ lt-ltb d NOFILE below)
       ∙ sym (get_at (descriptor_map ds) d g e ∙ ap (λ b. cond b (Some g) (get (descriptor_map ds) e)) h.0)
   | inr h ↦
       named-seen (with_named d (Some g) ds) e
@@ -43,7 +42,8 @@ map-named ds d g lt below = same_pages (descriptor_map (with_named d (Some g) ds
       ∙ sym (get_at (descriptor_map ds) d g e ∙ ap (λ b. cond b (Some g) (get (descriptor_map ds) e)) h.0 ∙ named-seen ds e)
 ])
 
-module _ (k k1 : Kernel) (h : Hart) (slot d g : ℕ) (sound : IsSound k h) (is : k.current ≡ Some slot) (current : k1.current ≡ k.current) (shares : Shares k.memories k1.memories) (long : d < length (descriptors_at k.table slot)) (below : d < NOFILE)
+module _ (k k1 : Kernel) (h : Hart) (slot d g : ℕ) (sound : IsSound k h) (is : k.current ≡ Some slot) (current : k1.current ≡ k.current)
+    (shares : Shares k.memories k1.memories) (long : d < length (descriptors_at k.table slot)) (below : d < NOFILE)
     (table : k1.table ≡ record k.table { descriptors = set k.table.descriptors slot (with_named d (Some g) (descriptors_at k.table slot)) }) where
   now : IsCurrent k h slot
   now = sound.current slot is

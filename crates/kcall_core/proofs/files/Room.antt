@@ -25,8 +25,9 @@ use Rattle.kernel_spec.specs.views.WellFormed.{WellFormed, sum_below, on, over_a
 use Rattle.kcall_core.specs.Kernel.{state_of, entry_at}
 use Rattle.kcall_core.specs.Whole.{AreCounted, namings, named_in}
 use Rattle.kcall_core.specs.declared.kernel.Kernel.{Kernel}
-use Rattle.kernel_spec.proofs.steps.Maps.{get_other}
+use Rattle.kernel_spec.proofs.steps.MapsAfterChange.{get_other}
 use Rattle.kernel_spec.proofs.well.Sums.{sum_change, sum_same}
+use Rattle.kernel_spec.proofs.Common.{sum_below-zero}
 
 -- ---- counts and sums
 
@@ -42,15 +43,11 @@ count-few test (suc n) = by (test n) (count-few test n)
 pub sum-few : (n b : ℕ) (f : ℕ → ℕ) → ((i : ℕ) → f i ≤ b) → sum_below n f ≤ n * b
 unfolding sum_below
 sum-few zero b f few = omega arith
-sum-few (suc n) b f few = let a : ℕ = sum_below n f in let c : ℕ = f n in let m : ℕ = n * b in let l : a ≤ m = sum-few n b f few in let r : c ≤ b = few n in let goal : a + c ≤ m + b = omega arith in by goal
+sum-few (suc n) b f few = let a : ℕ = sum_below n f in let c : ℕ = f n in let m : ℕ = n * b in let l : a ≤ m = sum-few n b f few in
+    let r : c ≤ b = few n in let goal : a + c ≤ m + b = omega arith in by goal
   where
     by : sum_below n f + f n ≤ n * b + b → sum_below n f + f n ≤ suc n * b
     by less = omega (arith, less)
-
-sum-none : (n : ℕ) (f : ℕ → ℕ) → ((i : ℕ) → f i ≡ 0) → sum_below n f ≡ 0
-unfolding sum_below
-sum-none zero f none = refl
-sum-none (suc n) f none = let a : ℕ = sum_below n f in let c : ℕ = f n in let l : a ≡ 0 = sum-none n f none in let r : c ≡ 0 = none n in let goal : a + c ≡ 0 = omega arith in goal
 
 -- ---- open files
 
@@ -77,13 +74,15 @@ module _ {X : Type 0} (f : Option X → ℕ) (b : ℕ) (nothing : f None ≡ 0) 
     | inr outside ↦
         let before : ℕ = sum_below N (λ q. f (get m q)) in
         let after : ℕ = sum_below N (λ q. f (get (insert m e.0 e.1) q)) in
-        let same : after ≡ before = sum_same N (λ q. f (get (insert m e.0 e.1) q)) (λ q. f (get m q)) (λ q below. ap f (get_other m e.0 e.1 q (λ at. let here : q ≡ e.0 = at in omega (arith, here, below, outside)))) in
+        let same : after ≡ before = sum_same N (λ q. f (get (insert m e.0 e.1) q)) (λ q. f (get m q))
+        (λ q below. ap f (get_other m e.0 e.1 q (λ at. let here : q ≡ e.0 = at in omega (arith, here, below, outside)))) in
         let goal : after ≤ before + b = omega arith in goal
   ]
 
   pub by_pid-few : (g : ℕ → Option (ℕ × X)) (n N : ℕ) → sum_below N (λ q. f (get (by_pid g n) q)) ≤ n * b
   unfolding by_pid
-  by_pid-few g zero N = let none : sum_below N (λ q. f (get (by_pid g zero) q)) ≡ 0 = sum-none N (λ q. f (get (by_pid g zero) q)) (λ q. ap f (get-empty nat_cmp q) ∙ nothing) in omega (arith, none)
+  by_pid-few g zero N = let none : sum_below N (λ q. f (get (by_pid g zero) q)) ≡ 0 =
+      sum_below-zero N (λ q. f (get (by_pid g zero) q)) (λ q low. ap f (get-empty nat_cmp q) ∙ nothing) in omega (arith, none)
   by_pid-few g (suc n) N =
       let before : ℕ = sum_below N (λ q. f (get (by_pid g n) q)) in
       let after : ℕ = sum_below N (λ q. f (get (put (by_pid g n) (g n)) q)) in

@@ -1,9 +1,10 @@
 -- One descriptor more names an open file: the counts are right again.
 use Rattle.std.proofs.Common.{◌≡◌, ◌≢◌, ℕ, ◌+◌, ◌<◌, Bool, true, false, List, length, get_or, set, Option, Some, None, inl, inr, refl, sym, ap, ◌∙◌, arith}
 use Rattle.std.specs.Prelude.{option_map}
-use Rattle.std.proofs.lemmas.Bool.{cases_eq, cases_lt, eq-eqb}
+use Rattle.std.proofs.lemmas.Bool.{cases_eq, cases_lt, eq-eqb, false≢true}
 use Rattle.std.proofs.lemmas.Bool.Decides.{eqb_tells}
 use Rattle.std.proofs.lemmas.List.{get_or_past, get_or-set_same, get_or-set_other, length-set}
+use Rattle.std.proofs.lemmas.Option.{none-some}
 use Rattle.xk_base.specs.declared.limits.TheConstants.{NOFILE}
 use Rattle.xk_base.specs.Words.{count_below}
 use Rattle.file_table.specs.Named.{named_by, none_named, with_named}
@@ -13,12 +14,12 @@ use Rattle.file_table.specs.declared.open_file.TheConstants.{SHARERS_MAX}
 use Rattle.proc_table.specs.Slots.{Slots, place_at, place_is_live, descriptors_at}
 use Rattle.kernel_spec.specs.views.Words.{is_this, or_zero}
 use Rattle.kcall_core.specs.Whole.{AreCounted, namings, named_in}
-use Rattle.kernel_spec.proofs.steps.Counts.{one}
+use Rattle.kernel_spec.proofs.steps.EndsAreCounted.{one}
 use Rattle.kernel_spec.proofs.well.Sums.{sum_change}
 use Rattle.kernel_spec.proofs.well.WellTable.{count_change}
-use Rattle.kcall_core.proofs.table.States.{none-some}
 
-module _ (t t' : Slots) (slot d g : ℕ) (inside : slot < 64) (below : d < NOFILE) (room : length t.descriptors ≡ 64) (long : length (descriptors_at t slot) ≡ NOFILE) (free : named_by (descriptors_at t slot) d ≡ None)
+module _ (t t' : Slots) (slot d g : ℕ) (inside : slot < 64) (below : d < NOFILE) (room : length t.descriptors ≡ 64)
+    (long : length (descriptors_at t slot) ≡ NOFILE) (free : named_by (descriptors_at t slot) d ≡ None)
     (after : t'.descriptors ≡ set t.descriptors slot (with_named d (Some g) (descriptors_at t slot))) where
   pub put-here : descriptors_at t' slot ≡ with_named d (Some g) (descriptors_at t slot)
   put-here = ap (λ xs. get_or xs slot none_named) after ∙ get_or-set_same t.descriptors slot (with_named d (Some g) (descriptors_at t slot)) none_named (omega (arith, inside, room))
@@ -86,8 +87,10 @@ module _ (files : List (Option Entry)) (g : ℕ) (table : IsTable files) (e : En
       here = omega (arith, ap (λ o. or_zero (option_map entry_count o)) more-here, ap one (eq-eqb g g refl), ap (λ o. or_zero (option_map entry_count o)) is)
 
 -- the counts are right again
-pub shared-counted : (files : List (Option Entry)) (t t' : Slots) (slot d g : ℕ) (e : Entry) → AreCounted files t → IsTable files → entry_at files g ≡ Some e → slot < 64 → d < NOFILE → length t.descriptors ≡ 64 → named_by (descriptors_at t slot) d ≡ None
-    → t'.descriptors ≡ set t.descriptors slot (with_named d (Some g) (descriptors_at t slot)) → ((j : ℕ) → place_is_live (place_at t' j) ≡ place_is_live (place_at t j)) → place_is_live (place_at t slot) ≡ true → AreCounted (with_sharer g files) t'
+pub shared-counted : (files : List (Option Entry)) (t t' : Slots) (slot d g : ℕ) (e : Entry) → AreCounted files t → IsTable files
+    → entry_at files g ≡ Some e → slot < 64 → d < NOFILE → length t.descriptors ≡ 64 → named_by (descriptors_at t slot) d ≡ None
+    → t'.descriptors ≡ set t.descriptors slot (with_named d (Some g) (descriptors_at t slot))
+    → ((j : ℕ) → place_is_live (place_at t' j) ≡ place_is_live (place_at t j)) → place_is_live (place_at t slot) ≡ true → AreCounted (with_sharer g files) t'
 shared-counted files t t' slot d g e counted table is inside below room free after lives here =
     let long : length (descriptors_at t slot) ≡ NOFILE = counted.lists slot inside in
     record {
@@ -97,10 +100,7 @@ shared-counted files t t' slot d g e counted table is inside below room free aft
         | inr ne ↦ ap length (put-other t t' slot d g inside below room long free after j ne) ∙ counted.lists j lt
       ];
       closed = λ j dead. elim (cases_eq j slot) [
-        | inl same ↦ absurd (false-true (sym dead ∙ lives j ∙ ap (λ n. place_is_live (place_at t n)) same ∙ here))
+        | inl same ↦ absurd (false≢true (sym dead ∙ lives j ∙ ap (λ n. place_is_live (place_at t n)) same ∙ here))
         | inr ne ↦ put-other t t' slot d g inside below room long free after j ne ∙ counted.closed j (sym (lives j) ∙ dead)
       ];
     }
-  where
-    false-true : false ≡ true → ⊥
-    false-true e = cc

@@ -24,7 +24,7 @@ use Rattle.kcall_core.specs.Memories.{each_of, pipes_of, free_of, RunsIn}
 use Rattle.kcall_core.specs.Kernel.{descriptor_map, live_of, by_status, process_of, entry_of, entry_at, state_of, or_nobody, slot_now, place_now, pid_now, live_now, IsCurrent, IsSound}
 use Rattle.kcall_core.specs.declared.kernel.Kernel.{Kernel}
 use Rattle.kcall_core.specs.declared.memories.Memories.{Memories}
-use Rattle.kernel_spec.proofs.steps.Maps.{get_without}
+use Rattle.kernel_spec.proofs.steps.MapsAfterChange.{get_without}
 use Rattle.kcall_core.proofs.files.Namings.{named-seen}
 use Rattle.kcall_core.proofs.table.States.{Alone, slot-state, slot-inside, not-this}
 
@@ -52,7 +52,8 @@ map-closed ds d lt = same_pages (descriptor_map (with_named d None ds)) (remove 
     both true = refl
     both false = refl
 
-module _ (k k1 : Kernel) (h : Hart) (slot d : ℕ) (sound : IsSound k h) (is : k.current ≡ Some slot) (current : k1.current ≡ k.current) (shares : Shares k.memories k1.memories) (long : d < length (descriptors_at k.table slot))
+module _ (k k1 : Kernel) (h : Hart) (slot d : ℕ) (sound : IsSound k h) (is : k.current ≡ Some slot) (current : k1.current ≡ k.current)
+    (shares : Shares k.memories k1.memories) (long : d < length (descriptors_at k.table slot))
     (table : k1.table ≡ record k.table { descriptors = set k.table.descriptors slot (with_named d None (descriptors_at k.table slot)) }) where
   now : IsCurrent k h slot
   now = sound.current slot is

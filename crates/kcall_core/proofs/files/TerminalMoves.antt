@@ -53,7 +53,8 @@ module _ {k : Kernel} {h : Hart} {m : Memories} {image : Image} {now : Console} 
   moving-state =
       let processes = goes-processes k mid h h whole.sound runs (changed-goes mid whole.sound runs refl refl x.written) in
       (λ t. record (state_of mid h) { processes = processes t; pipes = x.written.pipes t; free = x.free t })
-      ∙ ap (λ o. changed_state p (live_of (place_now k) (descriptors_at k.table (slot_now k)) (or_nothing o) h.regs) s.files s.pipes now s.free s) (changed-here mid whole.sound runs refl refl x.written)
+      ∙ ap (λ o. changed_state p (live_of (place_now k) (descriptors_at k.table (slot_now k)) (or_nothing o) h.regs) s.files s.pipes now s.free s)
+      (changed-here mid whole.sound runs refl refl x.written)
 
   moving-well : WellFormed (frame_count k) (changed_state p moved s.files s.pipes now s.free s)
   moving-well = well.alone (frame_count k) s p l l.regs image l.call l.killed now s.free whole.well (live-is k h whole.sound runs) (ap (λ z. s.free + (z + 1)) x.paid) x.limits

@@ -8,6 +8,7 @@ use Rattle.xk_base.specs.declared.limits.TheConstants.{NOFILE}
 use Rattle.xk_base.specs.declared.access.Access.TheVariants.{Store}
 use Rattle.xk_base.specs.Image.{Image}
 use Rattle.xk_base.specs.Bytes.{write_image}
+use Rattle.xk_base.proofs.Bytes.{write_image-nil}
 use Rattle.hart_core.specs.declared.hart.Hart.{Hart}
 use Rattle.console_core.specs.Lists.{Console, IsWithinLimits}
 use Rattle.console_core.specs.Reads.{Pulled, pulled, line_length, first_bytes, up_to}
@@ -25,7 +26,7 @@ use Rattle.kernel_spec.specs.steps.Updates.{changed_state}
 use Rattle.kernel_spec.specs.steps.Updates as update
 use Rattle.kernel_spec.specs.waking.Conditions.{read_waits_for, row_waits_for, target_at, waits_for}
 use Rattle.kernel_spec.specs.laws.RowLaws.{After}
-use Rattle.kernel_spec.proofs.steps.Names.{name_of_file}
+use Rattle.kernel_spec.proofs.steps.NamesAreChosenAgain.{name_of_file}
 use Rattle.kcall_core.specs.Holdings.{held_at, with_image, HasMemory}
 use Rattle.kcall_core.specs.Memories.{each_of, free_of, RunsIn, SlotChanges}
 use Rattle.kcall_core.specs.Kernel.{state_of, IsSound, IsRunning, slot_now, pid_now, live_now}
@@ -36,10 +37,10 @@ use Rattle.kernel_spec.specs.rows.Terminal.{next_line, without_line}
 use Rattle.kcall_core.specs.Moves.{ReadsTerminal}
 use Rattle.kcall_core.specs.declared.kernel.Kernel.{Kernel}
 use Rattle.kcall_core.specs.declared.memories.Memories.{Memories}
-use Rattle.kernel_spec.proofs.steps.Maps.{get_same}
+use Rattle.kernel_spec.proofs.steps.MapsAfterChange.{get_same}
 use Rattle.kcall_core.proofs.table.States.{running}
 use Rattle.kcall_core.proofs.turns.Turned.{live-is}
-use Rattle.kernel_spec.proofs.steps.Alone as law
+use Rattle.kernel_spec.proofs.steps.AloneLawsHold as law
 use Rattle.kernel_spec.proofs.rows.Decoding.{is_read, read_case}
 use Rattle.kernel_spec.proofs.rows.RowParts.{read_from}
 use Rattle.kernel_spec.proofs.well.WellLaws as well
@@ -70,10 +71,6 @@ none-taken first n bytes e =
 no-bytes : (xs : List ℕ) → nat_lt 0 (length xs) ≡ false → xs ≡ []
 no-bytes [] e = refl
 no-bytes (x ∷ xs) e = let more : nat_lt 0 (length (x ∷ xs)) ≡ true = lt-ltb 0 (length (x ∷ xs)) (omega arith) in let no : ⊥ = cc in absurd no
-
-nothing-written : (i : Image) (a : ℕ) → write_image i a [] ≡ i
-unfolding write_image
-nothing-written i a = refl
 
 module _ {k : Kernel} {h : Hart} {c : Call} {n : ℕ} (whole : IsWhole k h) (runs : IsRunning k) (x : ReadsTerminal k h c n) where
   abbrev s : State
@@ -132,14 +129,16 @@ module _ {k : Kernel} {h : Hart} {c : Call} {n : ℕ} (whole : IsWhole k h) (run
   wake = record {
     bytes = λ i shut. sym shut;
     room = λ i shut. sym shut;
-    keys = λ shut. sym (ap (λ xs. nat_lt 0 (length (pulled (nat_eq c.moved 0) left xs).left)) (no-bytes s.console.committed shut) ∙ ap (λ xs. nat_lt 0 (length xs)) (none-left (nat_eq c.moved 0) left));
+    keys = λ shut. sym (ap (λ xs. nat_lt 0 (length (pulled (nat_eq c.moved 0) left xs).left)) (no-bytes s.console.committed shut)
+        ∙ ap (λ xs. nat_lt 0 (length xs)) (none-left (nat_eq c.moved 0) left));
     sending = λ shut. sym shut;
     children = λ q. refl;
     clock = refl;
   }
 
   module _ (m : Memories) (slot : ℕ) (slot-is : slot ≡ slot_now k) (at : ℕ) (at-is : at ≡ (c.a1 + c.moved) % 2 ^ 64) (told-left : ℕ) (told-left-is : told-left ≡ left)
-      (written : SlotChanges k.memories m slot (Some (with_image (write_image (held_at (each_of k.memories) slot).image at (next_line k.console c.moved told-left).taken) (held_at (each_of k.memories) slot))))
+      (written : SlotChanges k.memories m slot (Some (with_image
+      (write_image (held_at (each_of k.memories) slot).image at (next_line k.console c.moved told-left).taken) (held_at (each_of k.memories) slot))))
       (free : free_of m ≡ free_of k.memories) (keeps-runs : (hart : Hart) → RunsIn k.memories slot hart → RunsIn m slot hart)
       (k1 : Kernel) (rest : k1 ≡ record k { memories = m; console = without_line (next_line k.console c.moved told-left) k.console }) (limits : IsWithinLimits k1.console) where
     pub same-line : next_line k.console c.moved told-left ≡ line
@@ -154,9 +153,9 @@ module _ {k : Kernel} {h : Hart} {c : Call} {n : ℕ} (whole : IsWhole k h) (run
       | inr over ↦
           let none : line.taken ≡ [] = none-taken (nat_eq c.moved 0) left s.console.committed (omega (arith, over)) in
           ap (λ (y : Pulled). write_image (held_at (each_of k.memories) slot).image at y.taken) same-line
-          ∙ ap (write_image (held_at (each_of k.memories) slot).image at) none ∙ nothing-written (held_at (each_of k.memories) slot).image at
+          ∙ ap (write_image (held_at (each_of k.memories) slot).image at) none ∙ write_image-nil (held_at (each_of k.memories) slot).image at
           ∙ ap (λ j. (held_at (each_of k.memories) j).image) slot-is
-          ∙ sym (ap (write_image l.image (c.a1 + c.moved)) none ∙ nothing-written l.image (c.a1 + c.moved))
+          ∙ sym (ap (write_image l.image (c.a1 + c.moved)) none ∙ write_image-nil l.image (c.a1 + c.moved))
     ]
 
     kernel-is : k1 ≡ record k { memories = m; console = console }
@@ -197,7 +196,9 @@ module _ {k : Kernel} {h : Hart} {c : Call} {n : ℕ} (whole : IsWhole k h) (run
 
         ends-law : After s p l (read c v) (changed_state p (update.with_answer (pos count) (record l { image = image })) s.files s.pipes console s.free s)
         unfolding view_of
-        ends-law = subst (λ o. After s p l o (changed_state p (update.with_answer (pos count) (record l { image = image })) s.files s.pipes console s.free s)) (sym ends) (law.answer s p l c (pos count) image console s.free (live-is k h whole.sound runs))
+        ends-law = subst (λ o. After s p l o (changed_state p
+            (update.with_answer (pos count) (record l { image = image })) s.files s.pipes console s.free s)) (sym ends)
+            (law.answer s p l c (pos count) image console s.free (live-is k h whole.sound runs))
 
         pub line-done : (k' : Kernel) (h' : Hart) (value : ℤ) → value ≡ pos (c.moved + told) → IsDone k1 h value k' h' → Makes k h (read c v) k' h'
         line-done k' h' value is finished =
@@ -245,7 +246,9 @@ module _ {k : Kernel} {h : Hart} {c : Call} {n : ℕ} (whole : IsWhole k h) (run
         unready number unmarked busy = sleeps-unready s then p l asleep (read c v) c.number
             (law.resume s p l c unmarked busy ∙ is_read c v number) waits-answer waits-law.next (ap live_part (get_same s.processes p (Alive asleep)))
 
-        pub line-waits : (k' : Kernel) (h' : Hart) (moved : ℕ) → moved ≡ c.moved + told → c.number ≡ pos 5 → l.killed ≡ false → l.call ≡ Some c → IsAsleep k1 h (record c { moved = moved }) on.Keys k' h' → Makes k h (read c v) k' h'
+        pub line-waits : (k' : Kernel) (h' : Hart) (moved : ℕ) → moved ≡ c.moved + told → c.number ≡ pos 5 → l.killed ≡ false → l.call ≡ Some c
+            → IsAsleep k1 h (record c { moved = moved }) on.Keys k' h' → Makes k h (read c v) k' h'
         line-waits k' h' moved is number unmarked busy slept =
             midway-sleeps whole runs (moving-midway whole runs moving) k' h' d on.Keys (read c v) c.number
-            (subst (λ (z : Kernel × ℕ). IsAsleep z.0 h (record c { moved = z.1 }) on.Keys k' h') (λ i. (kernel-is i, (is ∙ told-count) i)) slept) waits-answer waits-keeps waits-law (for-keys number, unready number unmarked busy)
+            (subst (λ (z : Kernel × ℕ). IsAsleep z.0 h (record c { moved = z.1 }) on.Keys k' h') (λ i. (kernel-is i, (is ∙ told-count) i)) slept)
+            waits-answer waits-keeps waits-law (for-keys number, unready number unmarked busy)

@@ -1,8 +1,8 @@
 -- A write to the terminal, as the code goes through it.
-use Rattle.std.proofs.Common.{◌≡◌, ℕ, ◌+◌, ◌-◌, ◌%◌, ◌^◌, ◌≤◌, ◌<◌, Bool, true, false, cond, List, length, get_or, set, subst, Option, Some, None, inl, inr, refl, sym, ap, ◌∙◌, arith}
-use Rattle.std.specs.Prelude.{ℤ, pos, IsSome, nat_le, nat_lt}
+use Rattle.std.proofs.Common.{◌≡◌, ℕ, ◌+◌, ◌-◌, ◌%◌, ◌^◌, ◌≤◌, ◌<◌, true, false, cond, List, length, get_or, set, subst, Some, None, inl, inr, refl, sym, ap, ◌∙◌, arith}
+use Rattle.std.specs.Prelude.{ℤ, pos, nat_le}
 use Rattle.std.specs.FinMap.{get}
-use Rattle.std.proofs.lemmas.Bool.{cases_lt, lt-ltb, le-ltb, le-leb, lt-leb}
+use Rattle.std.proofs.lemmas.Bool.{cases_lt, lt-ltb, le-ltb, le-leb, lt-leb, ltb-false}
 use Rattle.std.proofs.lemmas.List.{length-append, set-get_or}
 use Rattle.xk_base.specs.declared.limits.TheConstants.{NOFILE, SEND_BYTES}
 use Rattle.xk_base.specs.Bytes.{image_bytes}
@@ -24,36 +24,27 @@ use Rattle.kernel_spec.specs.waking.Conditions.{write_waits_for, row_waits_for, 
 use Rattle.kernel_spec.specs.laws.RowLaws.{After}
 use Rattle.kcall_core.specs.Holdings.{held_at, or_nothing, held_cost, with_image, HasMemory}
 use Rattle.kcall_core.specs.Memories.{each_of, free_of, SlotChanges}
-use Rattle.kcall_core.specs.Kernel.{state_of, IsSound, IsRunning, slot_now, pid_now, live_now}
+use Rattle.kcall_core.specs.Kernel.{state_of, IsRunning, slot_now, pid_now, live_now}
 use Rattle.kcall_core.specs.Whole.{IsWhole}
 use Rattle.kernel_spec.specs.waking.SleepsOn.{is_for}
 use Rattle.kcall_core.specs.Makes.{Makes, view_now}
 use Rattle.kernel_spec.specs.rows.Terminal.{room_for, with_sent}
 use Rattle.kcall_core.specs.Moves.{WritesTerminal}
 use Rattle.kcall_core.specs.declared.kernel.Kernel.{Kernel}
-use Rattle.kernel_spec.proofs.steps.Maps.{get_same}
+use Rattle.kernel_spec.proofs.steps.MapsAfterChange.{get_same}
 use Rattle.kcall_core.proofs.table.States.{running}
 use Rattle.kcall_core.proofs.turns.Turned.{live-is}
-use Rattle.kernel_spec.proofs.steps.Alone as law
+use Rattle.kernel_spec.proofs.steps.AloneLawsHold as law
 use Rattle.kernel_spec.proofs.rows.Decoding.{is_write, write_case}
 use Rattle.kernel_spec.proofs.rows.RowParts.{write_to}
+use Rattle.kernel_spec.proofs.Common.{the_value}
 use Rattle.kcall_core.proofs.memory.PipeRest.{next-read, rest-read}
 use Rattle.kcall_core.proofs.turns.StepSlots.{KeepsAll}
 use Rattle.kcall_core.proofs.making.CallAnswers.{IsDone}
 use Rattle.kcall_core.proofs.making.Midway.{WakeOn, IsAsleep, midway-done, midway-sleeps}
 use Rattle.kcall_core.proofs.making.Moved.{nobody, sleeps-unready}
 use Rattle.kcall_core.proofs.files.MovingRows.{shown-at, shown-there}
-use Rattle.kcall_core.proofs.files.TerminalMoves.{Moving, moving-sound, moving-midway}
-
-above : (a b : ℕ) → nat_lt a b ≡ false → b ≤ a
-above a b e = elim (cases_lt a b) [ inl less ↦ absurd (clash (lt-ltb a b less) e) | inr more ↦ more ]
-  where
-    clash : {x : Bool} → x ≡ true → x ≡ false → ⊥
-    clash t f = cc
-
-held-there : {X : Type 0} (o : Option X) → IsSome o → (x : X) × (o ≡ Some x)
-held-there None h = let no : ⊥ = cc in absurd no
-held-there (Some x) h = (x, refl)
+use Rattle.kcall_core.proofs.files.TerminalMoves.{Moving, moving-midway}
 
 module _ {k : Kernel} {h : Hart} {c : Call} {n : ℕ} (whole : IsWhole k h) (runs : IsRunning k) (x : WritesTerminal k h c n) where
   abbrev s : State
@@ -109,14 +100,14 @@ module _ {k : Kernel} {h : Hart} {c : Call} {n : ℕ} (whole : IsWhole k h) (run
     bytes = λ i shut. sym shut;
     room = λ i shut. sym shut;
     keys = λ shut. sym shut;
-    sending = λ shut. let full = above (length s.console.to_send) SEND_BYTES shut in sym (le-ltb (length console.to_send) SEND_BYTES (omega (arith, full, length-append s.console.to_send bytes)));
+    sending = λ shut. let full = ltb-false (length s.console.to_send) SEND_BYTES shut in sym (le-ltb (length console.to_send) SEND_BYTES (omega (arith, full, length-append s.console.to_send bytes)));
     children = λ q. refl;
     clock = refl;
   }
 
   -- the process's memory stays
   same-held : Some (held_at (each_of k.memories) (slot_now k)) ≡ get_or (each_of k.memories) (slot_now k) None
-  same-held = let (held, is) = held-there (get_or (each_of k.memories) (slot_now k) None) its-memory in ap (λ o. Some (or_nothing o)) is ∙ sym is
+  same-held = let (held, is) = the_value (get_or (each_of k.memories) (slot_now k) None) its-memory in ap (λ o. Some (or_nothing o)) is ∙ sym is
 
   unchanged : SlotChanges k.memories k.memories (slot_now k) (Some (with_image l.image (held_at (each_of k.memories) (slot_now k))))
   unchanged = record {
@@ -128,7 +119,8 @@ module _ {k : Kernel} {h : Hart} {c : Call} {n : ℕ} (whole : IsWhole k h) (run
     runs = λ other hart ne r. r;
   }
 
-  module _ (slot : ℕ) (slot-is : slot ≡ slot_now k) (at : ℕ) (at-is : at ≡ (c.a1 + c.moved) % 2 ^ 64) (told-left : ℕ) (told-left-is : told-left ≡ left) (told : ℕ) (told-is : told ≡ room_for k.console told-left)
+  module _ (slot : ℕ) (slot-is : slot ≡ slot_now k) (at : ℕ) (at-is : at ≡ (c.a1 + c.moved) % 2 ^ 64) (told-left : ℕ)
+      (told-left-is : told-left ≡ left) (told : ℕ) (told-is : told ≡ room_for k.console told-left)
       (k1 : Kernel) (rest : k1 ≡ record k { console = with_sent (image_bytes (held_at (each_of k.memories) slot).image at told) k.console }) (limits : IsWithinLimits k1.console) where
     told-count : told ≡ count
     unfolding state_of
@@ -158,9 +150,6 @@ module _ {k : Kernel} {h : Hart} {c : Call} {n : ℕ} (whole : IsWhole k h) (run
       wake = wake;
     }
 
-    pub send-sound : IsSound k1 h
-    send-sound = subst (λ y. IsSound y h) (sym kernel-is) (moving-sound whole runs moving)
-
     pub told-moves : c.moved + told ≡ moves
     told-moves = ap (λ z. c.moved + z) told-count
 
@@ -181,7 +170,8 @@ module _ {k : Kernel} {h : Hart} {c : Call} {n : ℕ} (whole : IsWhole k h) (run
 
       ends-law : After s p l (write c v) (changed_state p (update.with_answer (pos n) l) s.files s.pipes console s.free s)
       unfolding view_of
-      ends-law = subst (λ o. After s p l o (changed_state p (update.with_answer (pos n) l) s.files s.pipes console s.free s)) (sym ends) (law.answer s p l c (pos n) l.image console s.free (live-is k h whole.sound runs))
+      ends-law = subst (λ o. After s p l o (changed_state p (update.with_answer (pos n) l) s.files s.pipes console s.free s)) (sym ends)
+          (law.answer s p l c (pos n) l.image console s.free (live-is k h whole.sound runs))
 
       pub send-done : (k' : Kernel) (h' : Hart) (value : ℤ) → value ≡ pos n → IsDone k1 h value k' h' → Makes k h (write c v) k' h'
       send-done k' h' value is finished =
@@ -231,7 +221,9 @@ module _ {k : Kernel} {h : Hart} {c : Call} {n : ℕ} (whole : IsWhole k h) (run
       unready number unmarked busy = sleeps-unready s then p l asleep (write c v) c.number
           (law.resume s p l c unmarked busy ∙ is_write c v number) waits-answer waits-law.next (ap live_part (get_same s.processes p (Alive asleep)))
 
-      pub send-waits : (k' : Kernel) (h' : Hart) (moved : ℕ) → moved ≡ c.moved + told → c.number ≡ pos 16 → l.killed ≡ false → l.call ≡ Some c → IsAsleep k1 h (record c { moved = moved }) on.Sending k' h' → Makes k h (write c v) k' h'
+      pub send-waits : (k' : Kernel) (h' : Hart) (moved : ℕ) → moved ≡ c.moved + told → c.number ≡ pos 16 → l.killed ≡ false → l.call ≡ Some c
+          → IsAsleep k1 h (record c { moved = moved }) on.Sending k' h' → Makes k h (write c v) k' h'
       send-waits k' h' moved is number unmarked busy slept =
           midway-sleeps whole runs (moving-midway whole runs moving) k' h' d on.Sending (write c v) c.number
-          (subst (λ (z : Kernel × ℕ). IsAsleep z.0 h (record c { moved = z.1 }) on.Sending k' h') (λ i. (kernel-is i, (is ∙ told-moves) i)) slept) waits-answer waits-keeps waits-law (for-sending number, unready number unmarked busy)
+          (subst (λ (z : Kernel × ℕ). IsAsleep z.0 h (record c { moved = z.1 }) on.Sending k' h') (λ i. (kernel-is i, (is ∙ told-moves) i)) slept)
+          waits-answer waits-keeps waits-law (for-sending number, unready number unmarked busy)

@@ -2,9 +2,8 @@
 use Rattle.std.proofs.Common.{◌≡◌, ℕ, ◌<◌, Bool, cond, Option, Some, None, inl, inr, refl, sym, ap, ◌∙◌, subst}
 use Rattle.std.specs.Prelude.{ℤ, pos, IsSome, option_map}
 use Rattle.std.specs.FinMap.{get}
-use Rattle.std.proofs.lemmas.Bool.{cases_lt, le-ltb}
+use Rattle.std.proofs.lemmas.Bool.{cases_lt, le-ltb, lt-ltb}
 use Rattle.xk_base.specs.declared.limits.TheConstants.{NOFILE}
-use Rattle.sv39_core.proofs.Words.{ltb-yes}
 use Rattle.hart_core.specs.declared.hart.Hart.{Hart}
 use Rattle.file_table.specs.Named.{named_by}
 use Rattle.file_table.specs.OpenFiles.{open_file_at, entry_file}
@@ -16,7 +15,7 @@ use Rattle.kcall_core.specs.Whole.{IsWhole}
 use Rattle.kcall_core.specs.Makes.{view_now}
 use Rattle.kcall_core.specs.Moves.{InUse}
 use Rattle.kcall_core.specs.declared.kernel.Kernel.{Kernel}
-use Rattle.kernel_spec.proofs.steps.Names.{named_at}
+use Rattle.kernel_spec.proofs.steps.NamesAreChosenAgain.{named_at}
 use Rattle.kcall_core.proofs.table.Stops.{now-slot}
 use Rattle.kcall_core.proofs.files.Namings.{named-seen}
 use Rattle.kcall_core.proofs.files.OneClosed.{used-entry, used-seen, opened-seen}
@@ -51,7 +50,7 @@ module _ {k : Kernel} {h : Hart} {slot : ℕ} (whole : IsWhole k h) (runs : IsRu
     | inl below ↦
         let free : get (live_now k h).descriptors d ≡ None =
         named-seen (descriptors_at k.table (slot_now k)) d
-        ∙ ap (λ b. cond b (named_by (descriptors_at k.table (slot_now k)) d) None) (ltb-yes d NOFILE below)
+        ∙ ap (λ b. cond b (named_by (descriptors_at k.table (slot_now k)) d) None) (lt-ltb d NOFILE below)
         ∙ ap (λ n. named_by (descriptors_at k.table n) d) (sym (now-slot slot whole.sound is)) ∙ none d below e in
         named_at (numbered (state_of k h) (live_now k h)) d below ∙ ap (λ o. option_map (rename (numbered (state_of k h) (live_now k h))) (descriptor_at (state_of k h) o)) free
     | inr past ↦ ap (λ (b : Bool). cond b (option_map (rename (numbered (state_of k h) (live_now k h))) (numbered (state_of k h) (live_now k h) d)) None) (le-ltb d NOFILE past)

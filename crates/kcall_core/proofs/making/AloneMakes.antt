@@ -4,6 +4,7 @@ use Rattle.std.specs.Prelude.{ℤ, IsSome, is_some, option_map}
 use Rattle.std.specs.FinMap.{get}
 use Rattle.std.proofs.lemmas.Bool.{false_from_ne_true}
 use Rattle.std.proofs.Math.ListN.{length-set}
+use Rattle.std.proofs.lemmas.Option.{none-some, same_Some}
 use Rattle.xk_base.specs.Image.{Image, price}
 use Rattle.rv64i_core.specs.Registers.{Registers}
 use Rattle.hart_core.specs.declared.hart.Hart.{Hart}
@@ -34,14 +35,14 @@ use Rattle.kcall_core.specs.declared.kernel.Kernel.{Kernel}
 use Rattle.kernel_spec.specs.views.Words.{word, or_zero}
 use Rattle.kernel_spec.specs.rows.Calls.{done, with_a0, waits}
 use Rattle.kcall_core.specs.Makes.{Makes, view_now}
-use Rattle.kernel_spec.proofs.steps.Maps.{get_same, get_other, insert-twice}
-use Rattle.kcall_core.proofs.table.States.{none-some, running}
+use Rattle.kernel_spec.proofs.steps.MapsAfterChange.{get_same, get_other, insert-twice}
+use Rattle.kcall_core.proofs.table.States.{running}
 use Rattle.kernel_spec.proofs.well.WellLaws as well
 use Rattle.kernel_spec.proofs.waking.Openings.{opens_nothing}
-use Rattle.kcall_core.proofs.turns.Turned.{same-some, live-is}
+use Rattle.kcall_core.proofs.turns.Turned.{live-is}
 use Rattle.kcall_core.proofs.table.OnePlace.{ItsPlace, place-slots, place-counted, place-sleepers, changed-place, in-call-lives, in-call-channel, asleep-lives, asleep-channel, place-join}
-use Rattle.kernel_spec.proofs.steps.Alone.{alone_law, by_own, mid_after, waiting}
-use Rattle.kernel_spec.proofs.steps.Change.{view_alone}
+use Rattle.kernel_spec.proofs.steps.AloneLawsHold.{alone_law, by_own, mid_after, waiting}
+use Rattle.kernel_spec.proofs.steps.ChangeIsSeen.{view_alone}
 use Rattle.kcall_core.proofs.turns.WhoRuns.{place-is, place-lives, now-is}
 use Rattle.kcall_core.proofs.turns.StepSlots.{KeepsAll, slots-kept}
 use Rattle.kcall_core.proofs.making.Making.{Itself, Others, Leaves, leaves-whole, made}
@@ -61,7 +62,8 @@ record ItsStep (k : Kernel) (h : Hart) (k' : Kernel) (h' : Hart) (after : Proces
   state : state_of k' h' ≡ alone_state (pid_now k) (record (live_now k h) { regs = regs; image = image; call = call }) (state_of k h).console free (state_of k h)
   paid : free + (price image + 1) ≡ (state_of k h).free + (price (live_now k h).image + 1)
   waits : (c : Channel) → on ≡ Some c
-      → (is_for (waits_for (state_of k' h') (pid_now k) (record (live_now k h) { regs = regs; image = image; call = call })) c ≡ true) × (ready (view_of (state_of k' h') (pid_now k) (record (live_now k h) { regs = regs; image = image; call = call })) ≡ false)
+      → (is_for (waits_for (state_of k' h') (pid_now k) (record (live_now k h) { regs = regs; image = image; call = call })) c ≡ true)
+      × (ready (view_of (state_of k' h') (pid_now k) (record (live_now k h) { regs = regs; image = image; call = call })) ≡ false)
 
 module _ {k : Kernel} {h : Hart} {k' : Kernel} {h' : Hart} {after : Process} {on : Option Channel} (whole : IsWhole k h) (runs : IsRunning k) (x : ItsStep k h k' h' after on) where
   abbrev s : State
@@ -87,7 +89,7 @@ module _ {k : Kernel} {h : Hart} {k' : Kernel} {h' : Hart} {after : Process} {on
 
   -- each other process is what it was
   same-live : (q : ℕ) (l m : Live) → q ≢ pid → live s q ≡ Some l → live t q ≡ Some m → m ≡ l
-  same-live q l m other was is = same-some m l (sym is ∙ ap (λ (u : State). live u q) x.state ∙ ap live_part (get_other s.processes pid (Alive next) q other) ∙ was)
+  same-live q l m other was is = same_Some m l (sym is ∙ ap (λ (u : State). live u q) x.state ∙ ap live_part (get_other s.processes pid (Alive next) q other) ∙ was)
 
   -- and nothing opens
   still : (c : Condition) → is_open s c ≡ false → is_open t c ≡ false
@@ -100,7 +102,7 @@ module _ {k : Kernel} {h : Hart} {k' : Kernel} {h' : Hart} {after : Process} {on
     pid = x.place.pid;
     channel = x.channel;
     current = x.current;
-    waits = λ c m is-on lives. subst (λ (l : Live). (is_for (waits_for t pid l) c ≡ true) × (ready (view_of t pid l) ≡ false)) (same-some next m (sym live-here ∙ lives)) (x.waits c is-on);
+    waits = λ c m is-on lives. subst (λ (l : Live). (is_for (waits_for t pid l) c ≡ true) × (ready (view_of t pid l) ≡ false)) (same_Some next m (sym live-here ∙ lives)) (x.waits c is-on);
   }
 
   others : Others k h k' h' (λ q c. false)
@@ -110,7 +112,8 @@ module _ {k : Kernel} {h : Hart} {k' : Kernel} {h' : Hart} {after : Process} {on
     waits = λ q l m other was is.
         let same = same-live q l m other was is in
         (ap (waits_for t q) same ∙ ap (λ (u : State). waits_for u q l) x.state, λ marked. ap (λ (y : Live). y.killed) same ∙ marked);
-    due = λ q l m c other was is its unmarked shut. sym ((λ i. (ap (λ (y : Live). y.killed) (same-live q l m other was is) ∙ unmarked) i || is_open t (waits_for s q l)) ∙ still (waits_for s q l) shut);
+    due = λ q l m c other was is its unmarked shut. sym
+        ((λ i. (ap (λ (y : Live). y.killed) (same-live q l m other was is) ∙ unmarked) i || is_open t (waits_for s q l)) ∙ still (waits_for s q l) shut);
   }
 
   alone : Leaves k h k' h' (λ q c. false) on
@@ -225,7 +228,8 @@ answered-only {k} {h} {k'} {h'} {value} {regs} {image} {free} x = record {
 }
 
 -- with other registers, another image and other free frames before its answer
-pub done-makes : (k : Kernel) (h : Hart) (k' : Kernel) (h' : Hart) (c : Call) (value : ℤ) (regs : Registers) (image : Image) (free : ℕ) (o : Own) → IsWhole k h → IsRunning k → IsAnswered k h k' h' value regs image free
+pub done-makes : (k : Kernel) (h : Hart) (k' : Kernel) (h' : Hart) (c : Call) (value : ℤ) (regs : Registers) (image : Image) (free : ℕ) (o : Own)
+    → IsWhole k h → IsRunning k → IsAnswered k h k' h' value regs image free
     → o ≡ done c value (record (view_now k h) { regs = regs; image = image; free = free }) → Makes k h o k' h'
 unfolding view_of
 done-makes k h k' h' c value regs image free o whole runs x is =
@@ -235,8 +239,11 @@ done-makes k h k' h' c value regs image free o whole runs x is =
     let r = with_a0 regs (word value) in
     let after : After s (pid_now k) l (done c value (record (view_now k h) { regs = regs; image = image; free = free })) (state_of k' h') =
     subst (After s (pid_now k) l (done c value (record (view_now k h) { regs = regs; image = image; free = free }))) (sym x.state)
-    (by_own s (alone_state (pid_now k) (with_answer value (record l { regs = regs; image = image })) s.console free s) (view_of s (pid_now k) l) (done c value (record (view_now k h) { regs = regs; image = image; free = free }))
-    (goes_on (Called c.number value) (view_of (alone_state (pid_now k) (with_answer value (record l { regs = regs; image = image })) s.console free s) (pid_now k) (with_answer value (record l { regs = regs; image = image }))))
+    (by_own s (alone_state (pid_now k) (with_answer value (record l { regs = regs; image = image })) s.console free s) (view_of s (pid_now k) l)
+    (done c value (record (view_now k h) { regs = regs; image = image; free = free }))
+    (goes_on (Called c.number value) (view_of (alone_state (pid_now k)
+    (with_answer value (record l { regs = regs; image = image })) s.console free s) (pid_now k)
+    (with_answer value (record l { regs = regs; image = image }))))
     (ap (goes_on (Called c.number value)) (view_alone s (pid_now k) l was r image None l.killed s.console free))
     (alone_law s (pid_now k) l was r image None l.killed s.console free (Called c.number value) refl)) in
     subst (λ (u : Own). Makes k h u k' h') (sym is)
@@ -246,7 +253,8 @@ done-makes k h k' h' c value regs image free o whole runs x is =
     not-blocked b = let e : Called c.number value ≡ Blocked b.0 = b.1 in cc
 
 -- with its answer alone
-pub answer-makes : (k : Kernel) (h : Hart) (k' : Kernel) (h' : Hart) (c : Call) (value : ℤ) (o : Own) → IsWhole k h → IsRunning k → IsAnswered k h k' h' value (live_now k h).regs (live_now k h).image (state_of k h).free
+pub answer-makes : (k : Kernel) (h : Hart) (k' : Kernel) (h' : Hart) (c : Call) (value : ℤ) (o : Own) → IsWhole k h → IsRunning k
+    → IsAnswered k h k' h' value (live_now k h).regs (live_now k h).image (state_of k h).free
     → o ≡ done c value (view_now k h) → Makes k h o k' h'
 unfolding view_of
 answer-makes k h k' h' c value o whole runs x is = done-makes k h k' h' c value (live_now k h).regs (live_now k h).image (state_of k h).free o whole runs x is
@@ -266,12 +274,16 @@ mid-makes k h k1 h1 k' h' o whole runs x made =
     let pid : pid_now k1 ≡ pid_now k = only-pid whole runs x in
     let turns : turns_of k1 None ≡ turns_of k None = only-turns whole runs x in
     let runs1 : IsRunning k1 = subst (λ c. IsSome c) (sym x.current) runs in
-    let live1 : live_now k1 h1 ≡ mid = now-is k1 h1 mid x.sound runs1 (ap (λ n. get (state_of k1 h1).processes n) pid ∙ ap (λ (t : State). get t.processes (pid_now k)) x.state ∙ get_same s.processes (pid_now k) (Alive mid)) in
+    let live1 : live_now k1 h1 ≡ mid = now-is k1 h1 mid x.sound runs1
+    (ap (λ n. get (state_of k1 h1).processes n) pid ∙ ap (λ (t : State). get t.processes (pid_now k)) x.state
+    ∙ get_same s.processes (pid_now k) (Alive mid)) in
     record {
       whole = made.whole;
-      state = mid_after s (pid_now k) l (live-is k h whole.sound runs) x.regs x.image x.call x.free o (state_of k' h') (subst (λ (y : State × ℕ × Live). After y.0 y.1 y.2 o (state_of k' h')) (λ i. (x.state i, pid i, live1 i)) made.state);
+      state = mid_after s (pid_now k) l (live-is k h whole.sound runs) x.regs x.image x.call x.free o (state_of k' h')
+          (subst (λ (y : State × ℕ × Live). After y.0 y.1 y.2 o (state_of k' h')) (λ i. (x.state i, pid i, live1 i)) made.state);
       turns = subst (λ (y : Turns × ℕ). TurnsAfter y.0 y.1 o (turns_of k' (halts_with y.1 o.answer))) (λ i. (turns i, pid i)) made.turns;
-      wakes = subst (λ n. WakesWhereDue (world_of k h None) (Step_of n o.answer) (world_of k' h' (halts_with n o.answer))) pid (λ p v asleep see. made.wakes p v (subst (λ (y : Turns). Sleeps y p) (sym turns) asleep) see);
+      wakes = subst (λ n. WakesWhereDue (world_of k h None) (Step_of n o.answer) (world_of k' h' (halts_with n o.answer))) pid
+          (λ p v asleep see. made.wakes p v (subst (λ (y : Turns). Sleeps y p) (sym turns) asleep) see);
       kept = λ status is. ap (get (state_of k' h').processes) (sym pid) ∙ made.kept status is ∙ ap (λ (m : Live). Some (Zombie m.parent status)) live1;
       frames = made.frames ∙ x.frames;
     }
@@ -290,7 +302,8 @@ pub record IsWaiting (k : Kernel) (h : Hart) (k' : Kernel) (h' : Hart) (call : C
   pub waits : is_for (waits_for (state_of k' h') (pid_now k) (record (live_now k h) { image = image; call = Some call })) channel ≡ true
   pub unready : ready (view_of (state_of k' h') (pid_now k) (record (live_now k h) { image = image; call = Some call })) ≡ false
 
-module _ {k : Kernel} {h : Hart} {k' : Kernel} {h' : Hart} {call : Call} {image : Image} {free : ℕ} {channel : Channel} (whole : IsWhole k h) (runs : IsRunning k) (x : IsWaiting k h k' h' call image free channel) where
+module _ {k : Kernel} {h : Hart} {k' : Kernel} {h' : Hart} {call : Call} {image : Image} {free : ℕ} {channel : Channel} (whole : IsWhole k h)
+    (runs : IsRunning k) (x : IsWaiting k h k' h' call image free channel) where
   abbrev called : Process
   called = in_call (Some call) (place_now k)
 
@@ -302,11 +315,14 @@ module _ {k : Kernel} {h : Hart} {k' : Kernel} {h' : Hart} {call : Call} {image 
 
   called-place : ItsPlace k.table between (slot_now k) (place_now k) called
   called-place =
-      changed-place k.table between (slot_now k) (place_now k) (in_call (Some call)) whole.sound.table.places (running k h whole.sound runs).inside (place-is k h whole.sound runs) (place-lives k h whole.sound runs) refl called-lives refl
+      changed-place k.table between (slot_now k) (place_now k) (in_call (Some call)) whole.sound.table.places (running k h whole.sound runs).inside
+      (place-is k h whole.sound runs) (place-lives k h whole.sound runs) refl called-lives refl
 
   sleeper-place : ItsPlace between k'.table (slot_now k) called (asleep channel called)
   sleeper-place =
-      changed-place between k'.table (slot_now k) called (asleep channel) (length-set k.table.places (slot_now k) (option_map (in_call (Some call)) (place_at k.table (slot_now k))) ∙ whole.sound.table.places) (running k h whole.sound runs).inside called-place.is called-lives refl (asleep-lives channel called called-lives) x.table
+      changed-place between k'.table (slot_now k) called (asleep channel)
+      (length-set k.table.places (slot_now k) (option_map (in_call (Some call)) (place_at k.table (slot_now k))) ∙ whole.sound.table.places)
+      (running k h whole.sound runs).inside called-place.is called-lives refl (asleep-lives channel called called-lives) x.table
 
   waiting-step : ItsStep k h k' h' (asleep channel called) (Some channel)
   waiting-step = record {
@@ -324,13 +340,14 @@ module _ {k : Kernel} {h : Hart} {k' : Kernel} {h' : Hart} {call : Call} {image 
     paid = x.paid;
     waits = λ c is.
         let l : Live = record (live_now k h) { image = image; call = Some call } in
-        subst (λ (d : Channel). (is_for (waits_for (state_of k' h') (pid_now k) l) d ≡ true) × (ready (view_of (state_of k' h') (pid_now k) l) ≡ false)) (same-some channel c is) (x.waits, x.unready);
+        subst (λ (d : Channel). (is_for (waits_for (state_of k' h') (pid_now k) l) d ≡ true) × (ready (view_of (state_of k' h') (pid_now k) l) ≡ false)) (same_Some channel c is) (x.waits, x.unready);
   }
 
   waits-makes : (o : Own) (number : ℤ) → KeepsAll (state_of k h) o → o.answer ≡ Blocked number → After (state_of k h) (pid_now k) (live_now k h) o (state_of k' h') → Makes k h o k' h'
   waits-makes o number keeps blocked law = alone-makes whole runs waiting-step o keeps (λ is. refl) (λ some. (number, blocked)) law
 
-pub wait-makes : (k : Kernel) (h : Hart) (k' : Kernel) (h' : Hart) (c : Call) (moved : ℕ) (image : Image) (free : ℕ) (channel : Channel) (o : Own) → IsWhole k h → IsRunning k → IsWaiting k h k' h' (record c { moved = moved }) image free channel
+pub wait-makes : (k : Kernel) (h : Hart) (k' : Kernel) (h' : Hart) (c : Call) (moved : ℕ) (image : Image) (free : ℕ) (channel : Channel) (o : Own)
+    → IsWhole k h → IsRunning k → IsWaiting k h k' h' (record c { moved = moved }) image free channel
     → o ≡ waits c moved (record (view_now k h) { image = image; free = free }) → Makes k h o k' h'
 unfolding view_of
 wait-makes k h k' h' c moved image free channel o whole runs x is =

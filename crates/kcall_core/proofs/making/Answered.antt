@@ -17,7 +17,8 @@ use Rattle.kcall_core.proofs.table.Stops.{Rest, cost-held}
 same-goes : (k k' : Kernel) → Same k.memories k'.memories → k'.table ≡ k.table → k'.current ≡ k.current → Goes k k'
 same-goes k k' same table current = record { table = table; current = current; each = λ j ne. ap (λ l. get_or l j None) same.each }
 
-pub answered-same : (k k' : Kernel) (h h' : Hart) (regs : Registers) → IsSound k h → IsRunning k → Same k.memories k'.memories → k'.table ≡ k.table → k'.current ≡ k.current → Rest k k' → h' ≡ record h { regs = regs }
+pub answered-same : (k k' : Kernel) (h h' : Hart) (regs : Registers) → IsSound k h → IsRunning k → Same k.memories k'.memories → k'.table ≡ k.table
+    → k'.current ≡ k.current → Rest k k' → h' ≡ record h { regs = regs }
     → IsSound k' h' × (state_of k' h' ≡ set_live (pid_now k) (record (live_now k h) { regs = regs }) (state_of k h))
 unfolding state_of
 answered-same k k' h h' regs sound runs same table current rest e =
@@ -30,7 +31,8 @@ answered-same k k' h h' regs sound runs same table current rest e =
     )
 
 -- the image in the slot that runs is another, and so may be what the hart keeps
-pub answered-anew : (k k' : Kernel) (h h' : Hart) (regs : Registers) (image : Image) → IsSound k h → IsRunning k → SlotChanges k.memories k'.memories (slot_now k) (Some (with_image image (held_at (each_of k.memories) (slot_now k)))) → RunsIn k'.memories (slot_now k) h'
+pub answered-anew : (k k' : Kernel) (h h' : Hart) (regs : Registers) (image : Image) → IsSound k h → IsRunning k
+    → SlotChanges k.memories k'.memories (slot_now k) (Some (with_image image (held_at (each_of k.memories) (slot_now k)))) → RunsIn k'.memories (slot_now k) h'
     → k'.table ≡ k.table → k'.current ≡ k.current → Rest k k' → h'.regs ≡ regs
     → IsSound k' h' × IsRepriced (state_of k h) (live_now k h).image image (set_live (pid_now k) (record (live_now k h) { image = image; regs = regs }) (state_of k h)) (state_of k' h')
 unfolding state_of
@@ -46,10 +48,3 @@ answered-anew k k' h h' regs image sound runs changes runs' table current rest e
         free = omega (arith, changes.free, cost-held (get_or (each_of k.memories) (slot_now k) None) (sound.lives (slot_now k) r.is.process r.is.is r.is.live));
       },
     )
-
--- the same, where the hart keeps what it kept
-pub answered-changed : (k k' : Kernel) (h h' : Hart) (regs : Registers) (image : Image) → IsSound k h → IsRunning k → SlotChanges k.memories k'.memories (slot_now k) (Some (with_image image (held_at (each_of k.memories) (slot_now k)))) → RunsIn k'.memories (slot_now k) h
-    → k'.table ≡ k.table → k'.current ≡ k.current → Rest k k' → h' ≡ record h { regs = regs }
-    → IsSound k' h' × IsRepriced (state_of k h) (live_now k h).image image (set_live (pid_now k) (record (live_now k h) { image = image; regs = regs }) (state_of k h)) (state_of k' h')
-answered-changed k k' h h' regs image sound runs changes runs' table current rest e =
-    answered-anew k k' h h' regs image sound runs changes (runs-same regs e runs') table current rest (ap (λ (x : Hart). x.regs) e)

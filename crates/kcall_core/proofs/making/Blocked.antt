@@ -3,6 +3,7 @@ use Rattle.std.proofs.Common.{◌≡◌, ◌≢◌, ℕ, List, set, Option, Some
 use Rattle.std.specs.Prelude.{ℤ, option_map}
 use Rattle.std.proofs.lemmas.Bool.{cases_eq}
 use Rattle.std.proofs.lemmas.List.{get_or-set_same, get_or-set_other}
+use Rattle.std.proofs.lemmas.Option.{none-some, same_Some}
 use Rattle.xk_base.specs.declared.limits.TheConstants.{NPROC}
 use Rattle.rv64i_core.specs.Registers.{Registers}
 use Rattle.hart_core.specs.declared.hart.Hart.{Hart}
@@ -23,7 +24,7 @@ use Rattle.kcall_core.specs.Memories.{each_of}
 use Rattle.kcall_core.specs.Kernel.{process_of, regs_at, entry_of, entry_at, state_of, IsSound, IsRunning, IsCurrent, slot_now, pid_now, live_now}
 use Rattle.kcall_core.specs.declared.kernel.Kernel.{Kernel}
 use Rattle.kcall_core.proofs.table.ByPid.{by_pid-same}
-use Rattle.kcall_core.proofs.table.States.{Alone, Running, running, alone-entries, not-this, none-some}
+use Rattle.kcall_core.proofs.table.States.{Alone, Running, running, alone-entries, not-this}
 use Rattle.kcall_core.proofs.table.Stops.{read-some, live-place}
 use Rattle.kcall_core.proofs.turns.Chosen.{noted}
 use Rattle.kcall_core.proofs.table.OnePlace.{asleep-lives}
@@ -78,14 +79,11 @@ module _ (k : Kernel) (h : Hart) (on : Channel) (sound : IsSound k h) (runs : Is
       | inr ne ↦ sound.vacant j (sym (there j ne) ∙ at)
     ];
     current = λ j at.
-        let slot : slot_now k ≡ j = one (slot_now k) j (sym now.current ∙ at) in
+        let slot : slot_now k ≡ j = same_Some (slot_now k) j (sym now.current ∙ at) in
         subst (IsCurrent (drowsing on k) h) slot (record { process = asleep on now.is.process; is = here; live = lives-here; runs = now.is.runs });
     idle = sound.idle;
   }
     where
-      one : (a b : ℕ) → Some a ≡ Some b → a ≡ b
-      one a b e = cc
-
       not-over : (p q : Process) (status : ℤ) → Some p ≡ Some q → status_of p ≡ None → status_of q ≡ Some status → ⊥
       not-over p q status same live over = let e : p ≡ q = cc in none-some status (sym live ∙ ap status_of e ∙ over)
 

@@ -19,7 +19,7 @@ use Rattle.kcall_core.specs.Whole.{IsWhole}
 use Rattle.kcall_core.specs.Makes.{Makes, view_now, answer_of}
 use Rattle.kcall_core.specs.declared.kernel.Kernel.{Kernel}
 use Rattle.kcall_core.specs.declared.call_end.CallEnd.{CallEnd}
-use Rattle.kernel_spec.proofs.steps.Alone as law
+use Rattle.kernel_spec.proofs.steps.AloneLawsHold as law
 use Rattle.kcall_core.proofs.table.InCall.{calling, moved, is-in-call}
 use Rattle.kcall_core.proofs.turns.Turned.{live-is}
 use Rattle.kcall_core.proofs.making.AloneMakes.{OnlyItself, only-pid, only-whole, answer-makes, mid-makes}
@@ -32,7 +32,8 @@ pub record IsDone (k : Kernel) (h : Hart) (value : ℤ) (k' : Kernel) (h' : Hart
   pub kernel : k' ≡ calling None k
   pub state : state_of k' h' ≡ own_state (pid_now k) (with_answer value (live_now k h)) (state_of k h)
 
-pub done-at-once : {k : Kernel} {h : Hart} {k' : Kernel} {h' : Hart} {value : ℤ} (c : Call) (told : ℤ) → value ≡ told → IsWhole k h → IsRunning k → IsDone k h value k' h' → Makes k h (done c told (view_now k h)) k' h'
+pub done-at-once : {k : Kernel} {h : Hart} {k' : Kernel} {h' : Hart} {value : ℤ} (c : Call) (told : ℤ) → value ≡ told → IsWhole k h → IsRunning k
+    → IsDone k h value k' h' → Makes k h (done c told (view_now k h)) k' h'
 done-at-once {k} {h} {k'} {h'} {value} c told is whole runs x =
     answer-makes k h k' h' c value (done c told (view_now k h)) whole runs (record {
       sound = x.sound;
@@ -62,7 +63,8 @@ pub asked-begun : (k : Kernel) (h : Hart) (c : Call) → c ≡ asked k h → c �
 unfolding view_of state_of
 asked-begun k h c is = is
 
-pub has-begun : (k : Kernel) (h : Hart) (c : Call) (k' : Kernel) (h' : Hart) → IsSound k h → IsRunning k → k' ≡ calling (Some c) k → h' ≡ moved (with_pc h.regs (after h.regs)) h → c ≡ call_begun (view_now k h) → HasBegun k h c k' h'
+pub has-begun : (k : Kernel) (h : Hart) (c : Call) (k' : Kernel) (h' : Hart) → IsSound k h → IsRunning k → k' ≡ calling (Some c) k
+    → h' ≡ moved (with_pc h.regs (after h.regs)) h → c ≡ call_begun (view_now k h) → HasBegun k h c k' h'
 has-begun k h c k' h' sound runs kernel hart call =
     let l = live_now k h in
     let regs = with_pc h.regs (after h.regs) in
@@ -105,12 +107,15 @@ module _ {k : Kernel} {h : Hart} {c : Call} {k' : Kernel} {h' : Hart} (whole : I
       ∙ ap (perform (call_begun (view_now k h))) view-begun
       ∙ sym (law.ecall (state_of k h) (pid_now k) (live_now k h) (live-is k h whole.sound runs) unmarked is).0
 
-  pub begun-made : {k'' : Kernel} {h'' : Hart} → laws.IsBetweenCalls (live_now k h) → next_instruction (live_now k h).regs (live_now k h).image ≡ Ecall → Makes k' h' (perform c (view_now k' h')) k'' h'' → Makes k h (own (view_now k h)) k'' h''
+  pub begun-made : {k'' : Kernel} {h'' : Hart} → laws.IsBetweenCalls (live_now k h)
+      → next_instruction (live_now k h).regs (live_now k h).image ≡ Ecall → Makes k' h' (perform c (view_now k' h')) k'' h''
+      → Makes k h (own (view_now k h)) k'' h''
   begun-made {k''} {h''} unmarked is made =
       mid-makes k h k' h' k'' h'' (own (view_now k h)) whole runs begun-itself (subst (λ o. Makes k' h' o k'' h'') (begun-row unmarked is) made)
 
   -- and it answers so
-  pub begun-answer : (end : CallEnd) → laws.IsBetweenCalls (live_now k h) → next_instruction (live_now k h).regs (live_now k h).image ≡ Ecall → (perform c (view_now k' h')).answer ≡ answer_of c.number end
+  pub begun-answer : (end : CallEnd) → laws.IsBetweenCalls (live_now k h) → next_instruction (live_now k h).regs (live_now k h).image ≡ Ecall
+      → (perform c (view_now k' h')).answer ≡ answer_of c.number end
       → (own (view_now k h)).answer ≡ answer_of (call_in (view_now k h)).number end
   unfolding view_of
   begun-answer end unmarked is told =

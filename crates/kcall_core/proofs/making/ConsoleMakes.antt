@@ -1,7 +1,8 @@
 -- A key is typed, or a byte is sent: the console is another, and those wake who wait for what has come.
-use Rattle.std.proofs.Common.{◌≡◌, ◌≢◌, ℕ, ◌≤◌, ◌||◌, ◌&&◌, Bool, true, false, List, [], ◌∷◌, length, drop, subst, Option, Some, None, inl, inr, ◌⊎◌, refl, sym, ap, ◌∙◌, arith}
+use Rattle.std.proofs.Common.{◌≡◌, ◌≢◌, ℕ, ◌≤◌, ◌||◌, Bool, true, false, List, [], ◌∷◌, length, drop, subst, Option, Some, None, inl, inr, ◌⊎◌, refl, sym, ap, ◌∙◌, arith}
 use Rattle.std.specs.Prelude.{ℤ, option_map, is_some, nat_lt, slice_get}
-use Rattle.std.proofs.lemmas.Bool.{lt-ltb}
+use Rattle.std.proofs.lemmas.Bool.{lt-ltb, and_right}
+use Rattle.std.proofs.lemmas.Option.{none-some, same_Some}
 use Rattle.xk_base.specs.declared.limits.TheConstants.{NPROC, SEND_BYTES}
 use Rattle.console_core.specs.Lists.{Console, IsWithinLimits}
 use Rattle.console_core.specs.Keys.{line}
@@ -30,14 +31,14 @@ use Rattle.kernel_spec.specs.views.Words.{or_zero}
 use Rattle.kcall_core.specs.Whole.{IsWhole, AreCounted, namings}
 use Rattle.kernel_spec.specs.waking.SleepsOn.{is_for}
 use Rattle.kcall_core.specs.declared.kernel.Kernel.{Kernel}
-use Rattle.kcall_core.proofs.table.States.{none-some}
 use Rattle.kcall_core.proofs.table.Deserted.{wakes-nobody, console-within}
 use Rattle.kcall_core.proofs.table.Woken.{woken-channel, place-each, live-woken, stirred-state, stirred-sound}
 use Rattle.kcall_core.proofs.turns.StepSlots.{same-pid}
-use Rattle.kcall_core.proofs.turns.Turned.{slots-same, same-some}
+use Rattle.kcall_core.proofs.turns.Turned.{slots-same}
 use Rattle.kernel_spec.proofs.waking.Wakes.{ready_is}
 use Rattle.kcall_core.proofs.making.Sleepers.{Sleeping, changed-stays, changed-slept, slept-before, wakes-due, on-channels, unready}
 use Rattle.kernel_spec.proofs.well.WellLaws as well
+use Rattle.kernel_spec.proofs.Common.{and_true}
 
 -- What is left: the console is another, those on some channels woke, and all else stays
 pub record HasConsole (k : Kernel) (console : Console) (wakes : Channel → Bool) (k' : Kernel) : Type 0 where
@@ -113,7 +114,8 @@ module _ {k : Kernel} {console : Console} {wakes : Channel → Bool} {k' : Kerne
 
 -- ---- a whole kernel
 
-module _ {k : Kernel} {console : Console} {wakes : Channel → Bool} {k' : Kernel} {h : Hart} {o : Outcome} (x : HasConsole k console wakes k') (whole : IsWhole k h) (due : WakeOnConsole wakes (state_of k h).console console) (no-tick : o ≢ Ticked) (no-end : IsEnd o → ⊥) where
+module _ {k : Kernel} {console : Console} {wakes : Channel → Bool} {k' : Kernel} {h : Hart} {o : Outcome} (x : HasConsole k console wakes k')
+    (whole : IsWhole k h) (due : WakeOnConsole wakes (state_of k h).console console) (no-tick : o ≢ Ticked) (no-end : IsEnd o → ⊥) where
   abbrev s : State
   s = state_of k h
 
@@ -133,7 +135,8 @@ module _ {k : Kernel} {console : Console} {wakes : Channel → Bool} {k' : Kerne
   slots = slots-same k.table k'.table (λ j. ap (option_map process_pid) (places x j) ∙ same-pid (woken_by wakes) (λ y. refl) (place_at k.table j))
 
   pids : pid_now k' ≡ pid_now k
-  pids = ap (λ (i : Option ℕ). (or_nobody (place_at k'.table (or_zero i))).pid) current-same ∙ ap (λ (y : Option Process). (or_nobody y).pid) (places x (slot_now k)) ∙ by (place_at k.table (slot_now k))
+  pids = ap (λ (i : Option ℕ). (or_nobody (place_at k'.table (or_zero i))).pid) current-same
+      ∙ ap (λ (y : Option Process). (or_nobody y).pid) (places x (slot_now k)) ∙ by (place_at k.table (slot_now k))
     where
       by : (y : Option Process) → (or_nobody (option_map (woken_by wakes) y)).pid ≡ (or_nobody y).pid
       by None = refl
@@ -145,7 +148,7 @@ module _ {k : Kernel} {console : Console} {wakes : Channel → Bool} {k' : Kerne
   is-due q v d is (inr (inr (one, call, end))) = absurd (no-end end)
 
   same-live : (q : ℕ) (l m : Live) → live s q ≡ Some l → live (state_of k' h) q ≡ Some m → m ≡ l
-  same-live q l m was is = same-some m l (sym is ∙ ap (λ (u : State). live u q) state ∙ was)
+  same-live q l m was is = same_Some m l (sym is ∙ ap (λ (u : State). live u q) state ∙ was)
 
   sleeping : Sleeping k h k' h o (pid_now k) None (λ q. wakes)
   sleeping = record {
@@ -204,14 +207,6 @@ module _ {k : Kernel} {console : Console} {wakes : Channel → Bool} {k' : Kerne
 
 -- ---- who wakes
 
-and-false : (a : Bool) → (a && false) ≡ false
-and-false true = refl
-and-false false = refl
-
-and-true : (a : Bool) → (a && true) ≡ a
-and-true true = refl
-and-true false = refl
-
 abbrev typed : Console → ℕ → Console
 typed c b = (line c b).0
 
@@ -222,12 +217,12 @@ key-wakes : (before : Console) (b : ℕ) → WakeOnConsole (wakes_if (has-keys (
 key-wakes before b =
     let due = has-keys (typed before b) in
     record {
-      keys = λ shut. and-true due;
-      sending = λ shut. and-false due ∙ sym (ap (λ (bytes : List ℕ). nat_lt (length bytes) SEND_BYTES) (key-sends-nothing before b) ∙ shut);
-      children = λ q. and-false due;
-      bytes = λ i. and-false due;
-      room = λ i. and-false due;
-      clock = and-false due;
+      keys = λ shut. and_true due;
+      sending = λ shut. and_right due false refl ∙ sym (ap (λ (bytes : List ℕ). nat_lt (length bytes) SEND_BYTES) (key-sends-nothing before b) ∙ shut);
+      children = λ q. and_right due false refl;
+      bytes = λ i. and_right due false refl;
+      room = λ i. and_right due false refl;
+      clock = and_right due false refl;
     }
 
 abbrev has-bytes : Console → Bool
@@ -237,12 +232,12 @@ send-wakes : (before : Console) → IsWithinLimits before → WakeOnConsole (wak
 send-wakes before within =
     let due = has-bytes before in
     record {
-      keys = λ shut. and-false due ∙ sym shut;
-      sending = λ shut. and-true due ∙ by before.to_send within.sent_later shut;
-      children = λ q. and-false due;
-      bytes = λ i. and-false due;
-      room = λ i. and-false due;
-      clock = and-false due;
+      keys = λ shut. and_right due false refl ∙ sym shut;
+      sending = λ shut. and_true due ∙ by before.to_send within.sent_later shut;
+      children = λ q. and_right due false refl;
+      bytes = λ i. and_right due false refl;
+      room = λ i. and_right due false refl;
+      clock = and_right due false refl;
     }
   where
     by : (bytes : List ℕ) → length bytes ≤ SEND_BYTES → nat_lt (length bytes) SEND_BYTES ≡ false → is_some (slice_get bytes 0) ≡ nat_lt (length (drop 1 bytes)) SEND_BYTES

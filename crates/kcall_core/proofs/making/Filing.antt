@@ -4,6 +4,7 @@ use Rattle.std.specs.Prelude.{IsSome, is_some, option_map}
 use Rattle.std.specs.Ordering.{nat_cmp}
 use Rattle.std.specs.FinMap.{FinMap}
 use Rattle.std.proofs.lemmas.Bool.{cases_eq}
+use Rattle.std.proofs.lemmas.Option.{same_Some}
 use Rattle.hart_core.specs.declared.hart.Hart.{Hart}
 use Rattle.pipe_core.specs.Pipe.{Pipe}
 use Rattle.console_core.specs.Lists.{Console}
@@ -30,9 +31,9 @@ use Rattle.kcall_core.specs.Whole.{IsWhole, AreCounted}
 use Rattle.kernel_spec.specs.waking.SleepsOn.{is_for}
 use Rattle.kcall_core.specs.Makes.{Makes}
 use Rattle.kcall_core.specs.declared.kernel.Kernel.{Kernel}
-use Rattle.kernel_spec.proofs.steps.Maps.{get_same, get_other}
+use Rattle.kernel_spec.proofs.steps.MapsAfterChange.{get_same, get_other}
 use Rattle.kcall_core.proofs.table.States.{running}
-use Rattle.kcall_core.proofs.turns.Turned.{slots-same, same-some, live-is}
+use Rattle.kcall_core.proofs.turns.Turned.{slots-same, live-is}
 use Rattle.kernel_spec.proofs.waking.WaitsOn.{waits_stay}
 use Rattle.kcall_core.proofs.turns.StepSlots.{KeepsAll, same-pid, slots-kept}
 use Rattle.kcall_core.proofs.table.Woken.{woken-channel}
@@ -40,7 +41,8 @@ use Rattle.kcall_core.proofs.making.Sleepers.{changed-stays, changed-slept}
 use Rattle.kcall_core.proofs.making.Making.{Itself, Others, made}
 
 -- The state after it: process p is m, with these open files, pipes, console and free frames
-pub record Filed (k : Kernel) (h : Hart) (k' : Kernel) (h' : Hart) (o : Own) (wakes : Channel → Bool) (on : Option Channel) (m : Live) (left : FinMap nat_cmp OpenFile) (ends : FinMap nat_cmp Pipe) (console : Console) (free : ℕ) : Type 0 where
+pub record Filed (k : Kernel) (h : Hart) (k' : Kernel) (h' : Hart) (o : Own) (wakes : Channel → Bool) (on : Option Channel) (m : Live)
+    (left : FinMap nat_cmp OpenFile) (ends : FinMap nat_cmp Pipe) (console : Console) (free : ℕ) : Type 0 where
   pub sound : IsSound k' h'
   pub table : files.IsTable k'.files
   pub counted : AreCounted k'.files k'.table
@@ -58,15 +60,18 @@ pub record Filed (k : Kernel) (h : Hart) (k' : Kernel) (h' : Hart) (o : Own) (wa
   pub well : WellFormed (frame_count k) (changed_state (pid_now k) m left ends console free (state_of k h))
   pub targets : KeepsTargets (state_of k h) (pid_now k) left ⊎ FilesLeft (state_of k h) (changed_state (pid_now k) m left ends console free (state_of k h))
   -- who waits for something that was shut wakes exactly where it is open now
-  pub opens : (c : Condition) (channel : Channel) → is_for c channel ≡ true → is_open (state_of k h) c ≡ false → wakes channel ≡ is_open (changed_state (pid_now k) m left ends console free (state_of k h)) c
+  pub opens : (c : Condition) (channel : Channel) → is_for c channel ≡ true → is_open (state_of k h) c ≡ false
+      → wakes channel ≡ is_open (changed_state (pid_now k) m left ends console free (state_of k h)) c
   -- where the process sleeps, it does so on a channel of what it waits for, and couldn't go on
-  pub waits : (c : Channel) → on ≡ Some c → let t = changed_state (pid_now k) m left ends console free (state_of k h) in (is_for (waits_for t (pid_now k) m) c ≡ true) × (ready (view_of t (pid_now k) m) ≡ false)
+  pub waits : (c : Channel) → on ≡ Some c → let t = changed_state (pid_now k) m left ends console free (state_of k h) in
+      (is_for (waits_for t (pid_now k) m) c ≡ true) × (ready (view_of t (pid_now k) m) ≡ false)
   pub law : After (state_of k h) (pid_now k) (live_now k h) o (changed_state (pid_now k) m left ends console free (state_of k h))
   pub keeps : KeepsAll (state_of k h) o
   pub blocked : IsBlocked o.answer → IsSome on
   pub sleeps : IsSome on → IsBlocked o.answer
 
-module _ {k : Kernel} {h : Hart} {k' : Kernel} {h' : Hart} {o : Own} {wakes : Channel → Bool} {on : Option Channel} {m : Live} {left : FinMap nat_cmp OpenFile} {ends : FinMap nat_cmp Pipe} {console : Console} {free : ℕ}
+module _ {k : Kernel} {h : Hart} {k' : Kernel} {h' : Hart} {o : Own} {wakes : Channel → Bool} {on : Option Channel} {m : Live}
+    {left : FinMap nat_cmp OpenFile} {ends : FinMap nat_cmp Pipe} {console : Console} {free : ℕ}
     (whole : IsWhole k h) (runs : IsRunning k) (x : Filed k h k' h' o wakes on m left ends console free) where
   abbrev s : State
   s = state_of k h
@@ -91,7 +96,7 @@ module _ {k : Kernel} {h : Hart} {k' : Kernel} {h' : Hart} {o : Own} {wakes : Ch
     channel = x.channel;
     current = x.current;
     waits = λ c n is-on lives.
-        let same : n ≡ m = same-some n m (sym lives ∙ ap (λ (u : State). live u p) x.state ∙ live-here) in
+        let same : n ≡ m = same_Some n m (sym lives ∙ ap (λ (u : State). live u p) x.state ∙ live-here) in
         subst (λ (y : State × Live). (is_for (waits_for y.0 p y.1) c ≡ true) × (ready (view_of y.0 p y.1) ≡ false)) (λ i. (sym x.state i, sym same i)) (x.waits c is-on);
   }
 
@@ -102,7 +107,7 @@ module _ {k : Kernel} {h : Hart} {k' : Kernel} {h' : Hart} {o : Own} {wakes : Ch
     waits = subst (λ u. (q : ℕ) (l n : Live) → q ≢ p → live s q ≡ Some l → live u q ≡ Some n → (waits_for u q n ≡ waits_for s q l) × (l.killed ≡ true → n.killed ≡ true)) (sym x.state)
         ((waits_stay (frame_count k) s p (live_now k h) whole.well (live-is k h whole.sound runs)).0 m left ends console free x.targets);
     due = λ q l n c other was now for-c unmarked shut.
-        let same : n ≡ l = same-some n l (sym now ∙ ap (λ (u : State). live u q) x.state ∙ live-other q other ∙ was) in
+        let same : n ≡ l = same_Some n l (sym now ∙ ap (λ (u : State). live u q) x.state ∙ live-other q other ∙ was) in
         x.opens (waits_for s q l) c for-c shut
         ∙ (λ i. (sym (ap (λ (y : Live). y.killed) same ∙ unmarked)) i || is_open (sym x.state i) (waits_for s q l));
   }

@@ -1,6 +1,7 @@
 -- The process that runs has another image, and then its call is done.
 use Rattle.std.proofs.Common.{◌≡◌, ℕ, ◌+◌, ◌<◌, ◌≤◌, length, Some, None, refl, sym, ap, ◌∙◌, subst, arith}
 use Rattle.std.specs.Prelude.{ℤ, true, false, Result, Ok, Err, IfOk, IfErr, is_ok}
+use Rattle.std.proofs.lemmas.Bool.{true≢false}
 use Rattle.xk_base.specs.Image.{Image, price}
 use Rattle.xk_base.specs.declared.access.Rights.{Rights}
 use Rattle.addr_space.specs.Absent.{grown_lazily}
@@ -33,22 +34,21 @@ use Rattle.kcall_core.proofs.making.AloneMakes.{IsAnswered, alone-twice, done-ma
 
 -- ---- by the answer of a growth
 
-clash : true ≡ false → ⊥
-clash e = cc
-
 pub where-ok : {A E P : Type 0} (r : Result A E) → IfOk r (λ _. P) → is_ok r ≡ true → P
 where-ok (Ok x) holds is = holds
-where-ok (Err x) holds is = absurd (clash (sym is))
+where-ok (Err x) holds is = absurd (true≢false (sym is))
 
 pub where-err : {A E P : Type 0} (r : Result A E) → IfErr r (λ _. P) → is_ok r ≡ false → P
-where-err (Ok x) holds is = absurd (clash is)
+where-err (Ok x) holds is = absurd (true≢false is)
 where-err (Err x) holds is = holds
 
 -- ---- its image
 
 module _ (k : Kernel) (h : Hart) (sound : IsSound k h) (runs : IsRunning k) where
   -- the memory in its slot has another image
-  pub image-changed : (m : Memories) (h' : Hart) (image : Image) → SlotChanges k.memories m (slot_now k) (Some (with_image image (held_at (each_of k.memories) (slot_now k)))) → RunsIn m (slot_now k) h' → h'.regs ≡ h.regs
+  pub image-changed : (m : Memories) (h' : Hart) (image : Image)
+      → SlotChanges k.memories m (slot_now k) (Some (with_image image (held_at (each_of k.memories) (slot_now k)))) → RunsIn m (slot_now k) h'
+      → h'.regs ≡ h.regs
       → HasImage k h image (record k { memories = m }) h'
   image-changed m h' image changes on regs =
       let k' : Kernel = record k { memories = m } in
@@ -85,7 +85,8 @@ module _ (k : Kernel) (h : Hart) (sound : IsSound k h) (runs : IsRunning k) wher
   image-same = image-kept k.memories (record { sound = sound.memories; each = refl; pipes = refl; free = refl; frames = refl; runs = λ slot hart r. r })
 
   -- the image in slot i, in which it runs, is smaller
-  pub image-shrunk : (i : ℕ) (m : Memories) (h' : Hart) (size : ℕ) → k.current ≡ Some i → let held = held_at (each_of k.memories) i in size < held.image.size → SlotChanges k.memories m i (Some (with_image (shrunk held.image size) held)) → RunsIn m i h' → h'.regs ≡ h.regs
+  pub image-shrunk : (i : ℕ) (m : Memories) (h' : Hart) (size : ℕ) → k.current ≡ Some i → let held = held_at (each_of k.memories) i in
+      size < held.image.size → SlotChanges k.memories m i (Some (with_image (shrunk held.image size) held)) → RunsIn m i h' → h'.regs ≡ h.regs
       → HasImage k h (at_size (live_now k h).image size) (record k { memories = m }) h'
   image-shrunk i m h' size is less changes on regs =
       let each = each_of k.memories in
@@ -112,7 +113,8 @@ module _ (k : Kernel) (h : Hart) (sound : IsSound k h) (runs : IsRunning k) wher
       (subst (λ n. RunsIn m n h) slot (on h (subst (λ n. RunsIn k.memories n h) (sym slot) r.is.runs))) refl
 
   -- or greater by its size alone
-  pub image-lazily : (i : ℕ) (m : Memories) (size : ℕ) → k.current ≡ Some i → let held = held_at (each_of k.memories) i in SlotChanges k.memories m i (Some (with_image (grown_lazily held.image size) held)) → ((hart : Hart) → RunsIn k.memories i hart → RunsIn m i hart)
+  pub image-lazily : (i : ℕ) (m : Memories) (size : ℕ) → k.current ≡ Some i → let held = held_at (each_of k.memories) i in
+      SlotChanges k.memories m i (Some (with_image (grown_lazily held.image size) held)) → ((hart : Hart) → RunsIn k.memories i hart → RunsIn m i hart)
       → HasImage k h (grown_lazily (live_now k h).image size) (record k { memories = m }) h
   image-lazily i m size is changes on =
       let each = each_of k.memories in
@@ -130,15 +132,18 @@ module _ (k : Kernel) (h : Hart) (sound : IsSound k h) (runs : IsRunning k) wher
       let each = each_of k.memories in
       let slot : i ≡ slot_now k = now-slot i sound is in (
         subst (λ n. (held_at each n).image.size ≤ size) slot more,
-        subst (λ n. IsTooDear k (held_at each n).image (grown (held_at each n).image size)) slot (subst (λ (p : Rights). IsTooDear k (held_at each i).image (grown_with (held_at each i).image size p)) same-rights dear),
+        subst (λ n. IsTooDear k (held_at each n).image (grown (held_at each n).image size)) slot
+            (subst (λ (p : Rights). IsTooDear k (held_at each i).image (grown_with (held_at each i).image size p)) same-rights dear),
         image-kept m same,
       )
 
 -- ---- its call
 
 -- what `done` leaves: no call is in progress, and a0 has the answer
-module _ (k : Kernel) (h : Hart) (whole : IsWhole k h) (runs : IsRunning k) {image : Image} {mid : Kernel} {hm : Hart} (has : HasImage k h image mid hm) (k' : Kernel) (h' : Hart) (value : ℤ) (sound : IsSound k' h')
-    (kernel : k' ≡ record mid { table = changed_at (slot_now mid) (in_call None) mid.table }) (state : state_of k' h' ≡ own_state (pid_now mid) (with_answer value (live_now mid hm)) (state_of mid hm)) where
+module _ (k : Kernel) (h : Hart) (whole : IsWhole k h) (runs : IsRunning k) {image : Image} {mid : Kernel} {hm : Hart}
+    (has : HasImage k h image mid hm) (k' : Kernel) (h' : Hart) (value : ℤ) (sound : IsSound k' h')
+    (kernel : k' ≡ record mid { table = changed_at (slot_now mid) (in_call None) mid.table })
+    (state : state_of k' h' ≡ own_state (pid_now mid) (with_answer value (live_now mid hm)) (state_of mid hm)) where
   image-answered : IsAnswered k h k' h' value (live_now k h).regs image (state_of mid hm).free
   image-answered =
       let slot : slot_now mid ≡ slot_now k = ap slot_now has.kernel in

@@ -1,10 +1,7 @@
 -- One instruction of the process that runs, as a step of its own and nothing else.
-use Rattle.std.proofs.Common.{◌≡◌, ◌≢◌, ℕ, ◌+◌, ◌<◌, true, length, set, arith, Option, Some, None, inl, inr, refl, sym, ap, ◌∙◌, subst}
+use Rattle.std.proofs.Common.{◌≡◌, ◌≢◌, ℕ, ◌+◌, ◌<◌, true, length, set, arith, Option, Some, None, refl, sym, ap, ◌∙◌, subst}
 use Rattle.std.specs.Prelude.{ℤ, option_map}
-use Rattle.std.specs.FinMap.{FinMap, get, insert, same_map, nat_cmp-IsAntisymmetric}
-use Rattle.std.specs.Cmp.{nat_cmp_total}
-use Rattle.std.specs.Ordering.{nat_cmp}
-use Rattle.std.proofs.lemmas.Bool.{cases_eq}
+use Rattle.std.specs.FinMap.{get}
 use Rattle.rv64i_core.specs.Registers.{Registers}
 use Rattle.rv64i_core.specs.Memory.{Store}
 use Rattle.rv64i_core.specs.Step.{Step, Next, Ecall, Fault, stop_of, regs_after, state_after}
@@ -39,24 +36,19 @@ use Rattle.kcall_core.specs.Makes.{Makes, Stays, view_now}
 use Rattle.kcall_core.specs.declared.kernel.Kernel.{Kernel}
 use Rattle.kcall_core.specs.declared.memories.Memories.{Memories}
 use Rattle.kernel_spec.specs.steps.Updates.{set_live, stepped}
-use Rattle.kernel_spec.proofs.steps.Maps.{get_same, get_other}
+use Rattle.kernel_spec.proofs.steps.MapsAfterChange.{insert_again}
 use Rattle.kcall_core.proofs.memory.Lists.{set-read}
 use Rattle.kcall_core.proofs.table.States.{running, Goes, goes-sound, goes-state, changed-here, changed-has, changed-goes}
 use Rattle.kcall_core.proofs.turns.Turned.{live-is}
 use Rattle.kernel_spec.proofs.well.WellLaws.{stores_take_nothing}
-use Rattle.kernel_spec.proofs.steps.Alone.{begins, before-next, instruction}
+use Rattle.kernel_spec.proofs.steps.AloneLawsHold.{begins, before-next, instruction}
+use Rattle.kernel_spec.proofs.memory.OnAbsent.{next_of_stop}
 use Rattle.kcall_core.proofs.turns.StepSlots.{KeepsAll}
 use Rattle.kcall_core.proofs.making.AloneMakes.{OnlyItself, only-makes}
 
 -- the process after a step
 abbrev pub after_step : Step → Live → Live
 after_step step l = record l { regs = regs_after l.regs step; image = state_after with_store l.image step }
-
--- an instruction that is done
-pub next-of : (step : Step) → stop_of step ≡ stops.Next → (r : Registers) × (st : Option Store) × (step ≡ Next r st)
-next-of (Next r st) e = (r, st, refl)
-next-of Ecall e = let no : ⊥ = cc in absurd no
-next-of (Fault cause) e = let no : ⊥ = cc in absurd no
 
 pub after-next : (l : Live) (r : Registers) (st : Option Store) → after_step (Next r st) l ≡ stepped r st l
 after-next l r None = refl
@@ -67,13 +59,6 @@ pub after-stop : (l : Live) (step : Step) → stop_of step ≢ stops.Next → af
 after-stop l (Next r st) other = absurd (other refl)
 after-stop l Ecall other = refl
 after-stop l (Fault cause) other = refl
-
--- what stands at a key is put there again
-insert_again : {X : Type 0} (m : FinMap nat_cmp X) (k : ℕ) (x : X) → get m k ≡ Some x → insert m k x ≡ m
-insert_again m k x is = same_map nat_cmp_total nat_cmp-IsAntisymmetric (insert m k x) m (λ q. elim (cases_eq q k) [
-  | inl e ↦ ap (get (insert m k x)) e ∙ get_same m k x ∙ sym (ap (get m) e ∙ is)
-  | inr apart ↦ get_other m k x q apart
-])
 
 pub set-again : (s : State) (p : ℕ) (l : Live) → get s.processes p ≡ Some (Alive l) → set_live p l s ≡ s
 set-again s p l is = λ t. record s { processes = insert_again s.processes p (Alive l) is t }
@@ -183,7 +168,7 @@ module _ (k : Kernel) (new : Memories) (h h' : Hart) (stop : Stop) (whole : IsWh
 
   pub step-done : laws.IsBetweenCalls (live_now k h) → stop ≡ stops.Next → Makes k h (own (view_now k h)) (record k { memories = new }) h'
   step-done free ends =
-      let n = next-of step (sym s.ends ∙ ends) in
+      let n = next_of_stop step (sym s.ends ∙ ends) in
       instruction-makes k new h h' n.0 n.1 whole runs free n.2 s.changes.frames step-sound (step-state ∙ ap (λ x. set_live (pid_now k) (after_step x (live_now k h)) (state_of k h)) n.2)
 
   pub step-stays : stop ≢ stops.Next → Stays k h (record k { memories = new }) h'

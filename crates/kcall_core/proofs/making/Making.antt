@@ -3,7 +3,8 @@
 use Rattle.std.proofs.Common.{◌≡◌, ◌≢◌, ℕ, Bool, true, false, cond, ◌||◌, subst, Option, Some, None, inl, inr, refl, sym, ap, ◌∙◌}
 use Rattle.std.specs.Prelude.{IsSome, is_some, option_map}
 use Rattle.std.specs.FinSet.{contains}
-use Rattle.std.proofs.lemmas.Bool.{cases_eq}
+use Rattle.std.proofs.lemmas.Bool.{cases_eq, both_ways}
+use Rattle.std.proofs.lemmas.Option.{none-some, same_Some}
 use Rattle.xk_base.specs.declared.limits.TheConstants.{NPROC}
 use Rattle.hart_core.specs.declared.hart.Hart.{Hart}
 use Rattle.file_table.specs.OpenFiles as files
@@ -28,8 +29,7 @@ use Rattle.kcall_core.specs.Whole.{IsWhole, AreCounted}
 use Rattle.kernel_spec.specs.waking.SleepsOn.{is_for}
 use Rattle.kcall_core.specs.Makes.{Makes}
 use Rattle.kcall_core.specs.declared.kernel.Kernel.{Kernel}
-use Rattle.kcall_core.proofs.table.States.{none-some}
-use Rattle.kcall_core.proofs.turns.Turned.{sleeps-is, not-both, same-some}
+use Rattle.kcall_core.proofs.turns.Turned.{sleeps-is}
 use Rattle.kernel_spec.proofs.waking.Wakes.{ready_is}
 use Rattle.kcall_core.proofs.turns.StepSlots.{SlotsAfter}
 use Rattle.kcall_core.proofs.making.Sleepers.{Sleeping, elsewhere, another, slept-before, wakes-due, on-channels, unready}
@@ -41,7 +41,8 @@ pub record Itself (k : Kernel) (h : Hart) (k' : Kernel) (h' : Hart) (on : Option
   pub pid : after.pid ≡ pid_now k
   pub channel : channel_of after ≡ on
   pub current : k'.current ≡ cond (is_some on) None (Some (slot_now k))
-  pub waits : (c : Channel) (m : Live) → on ≡ Some c → live (state_of k' h') (pid_now k) ≡ Some m → (is_for (waits_for (state_of k' h') (pid_now k) m) c ≡ true) × (ready (view_of (state_of k' h') (pid_now k) m) ≡ false)
+  pub waits : (c : Channel) (m : Live) → on ≡ Some c → live (state_of k' h') (pid_now k) ≡ Some m
+      → (is_for (waits_for (state_of k' h') (pid_now k) m) c ≡ true) × (ready (view_of (state_of k' h') (pid_now k) m) ≡ false)
 
 -- Those in other slots who slept sleep on, but for those who wake; nobody else sleeps there. Each waits for what it waited for, and those wake who are marked now, or may go on
 pub record Others (k : Kernel) (h : Hart) (k' : Kernel) (h' : Hart) (wakes : ℕ → Channel → Bool) : Type 0 where
@@ -73,9 +74,6 @@ pub record IsMade (k : Kernel) (h : Hart) (k' : Kernel) (h' : Hart) (o : Own) (w
   pub sleeps : IsSome on → IsBlocked o.answer
 
 module _ {k : Kernel} {h : Hart} {k' : Kernel} {h' : Hart} {wakes : ℕ → Channel → Bool} {on : Option Channel} (whole : IsWhole k h) (runs : IsRunning k) (x : Leaves k h k' h' wakes on) where
-  abbrev s : State
-  s = state_of k h
-
   abbrev t : State
   t = state_of k' h'
 
@@ -88,7 +86,7 @@ module _ {k : Kernel} {h : Hart} {k' : Kernel} {h' : Hart} {wakes : ℕ → Chan
   no-tick answer e = cc
 
   no-end : (answer : Answer) → gone_with answer ≡ None → IsEnd (Step_of pid answer) → ⊥
-  no-end answer alive (p, a, e, some) = let same : answer ≡ a = cc in not-both some (ap is_some (ap gone_with (sym same) ∙ alive))
+  no-end answer alive (p, a, e, some) = let same : answer ≡ a = cc in both_ways _ (ap is_some (ap gone_with (sym same) ∙ alive)) some
 
   -- whatever it answered, unless it is gone
   sleeping : (answer : Answer) → gone_with answer ≡ None → Sleeping k h k' h' (Step_of pid answer) pid on wakes
@@ -96,7 +94,7 @@ module _ {k : Kernel} {h : Hart} {k' : Kernel} {h' : Hart} {wakes : ℕ → Chan
     stays = λ j y c at on-it. x.others.stays j y c (elsewhere whole runs j y c at on-it) at on-it;
     slept = λ j y c at on-it. elim (cases_eq j (slot_now k)) [
       | inl here ↦
-          let same : y ≡ x.itself.after = same-some y x.itself.after (sym at ∙ ap (place_at k'.table) here ∙ x.itself.is) in
+          let same : y ≡ x.itself.after = same_Some y x.itself.after (sym at ∙ ap (place_at k'.table) here ∙ x.itself.is) in
           inr (ap (λ (p : Process). p.pid) same ∙ x.itself.pid, sym x.itself.channel ∙ sym (ap channel_of same) ∙ on-it)
       | inr other ↦ inl (x.others.slept j y c other at on-it)
     ];
@@ -104,7 +102,8 @@ module _ {k : Kernel} {h : Hart} {k' : Kernel} {h' : Hart} {wakes : ℕ → Chan
     waits = λ q z l m was is. (x.others.waits q l m (another whole runs q z) was is).0;
     due = λ q z l m was is its unmarked shut.
         let exactly : wakes q z.channel ≡ ready (view_of t q m) =
-        x.others.due q l m z.channel (another whole runs q z) was is its unmarked shut ∙ ap (λ c. m.killed || is_open t c) (sym (x.others.waits q l m (another whole runs q z) was is).0) ∙ sym (ready_is t q m) in (
+        x.others.due q l m z.channel (another whole runs q z) was is its unmarked shut
+        ∙ ap (λ c. m.killed || is_open t c) (sym (x.others.waits q l m (another whole runs q z) was is).0) ∙ sym (ready_is t q m) in (
           λ up. inl (sym exactly ∙ up),
           λ due. elim due [
             | inl may ↦ exactly ∙ may
@@ -121,7 +120,7 @@ module _ {k : Kernel} {h : Hart} {k' : Kernel} {h' : Hart} {wakes : ℕ → Chan
       by : (a : Option Channel) → on ≡ a → channel_of p ≡ None
       by None e =
           let here : Some slot ≡ Some (slot_now k) = sym is ∙ x.itself.current ∙ ap (λ (a : Option Channel). cond (is_some a) None (Some (slot_now k))) e in
-          let same : p ≡ x.itself.after = same-some p x.itself.after (sym at ∙ ap (place_at k'.table) (same-some slot (slot_now k) here) ∙ x.itself.is) in
+          let same : p ≡ x.itself.after = same_Some p x.itself.after (sym at ∙ ap (place_at k'.table) (same_Some slot (slot_now k) here) ∙ x.itself.is) in
           ap channel_of same ∙ x.itself.channel ∙ e
       by (Some c) e = absurd (none-some slot (sym (x.itself.current ∙ ap (λ (a : Option Channel). cond (is_some a) None (Some (slot_now k))) e) ∙ is))
 
@@ -138,7 +137,8 @@ module _ {k : Kernel} {h : Hart} {k' : Kernel} {h' : Hart} {wakes : ℕ → Chan
 
 -- ---- so it makes the step
 
-module _ {k : Kernel} {h : Hart} {k' : Kernel} {h' : Hart} {o : Own} {wakes : ℕ → Channel → Bool} {on : Option Channel} (whole : IsWhole k h) (runs : IsRunning k) (x : IsMade k h k' h' o wakes on) where
+module _ {k : Kernel} {h : Hart} {k' : Kernel} {h' : Hart} {o : Own} {wakes : ℕ → Channel → Bool} {on : Option Channel} (whole : IsWhole k h)
+    (runs : IsRunning k) (x : IsMade k h k' h' o wakes on) where
   slept : Sleeping k h k' h' (Step_of (pid_now k) o.answer) (pid_now k) on wakes
   slept = sleeping whole runs x.leaves o.answer x.alive
 
@@ -151,11 +151,12 @@ module _ {k : Kernel} {h : Hart} {k' : Kernel} {h' : Hart} {o : Own} {wakes : �
           ap (λ c. (or_nobody (place_at k'.table (or_zero c))).pid) current ∙ ap (λ c. (or_nobody c).pid) x.leaves.itself.is ∙ x.leaves.itself.pid
 
       clash : {A : Type 0} → on ≡ None → IsSome on → A
-      clash e some = let no : ⊥ = not-both some (ap is_some e) in absurd no
+      clash e some = let no : ⊥ = both_ways _ (ap is_some e) some in absurd no
 
       by : (a : Option Channel) → on ≡ a → (answer : Answer) → o.answer ≡ answer → gone_with answer ≡ None → option_map (λ _. pid_now k') k'.current ≡ stays_current (pid_now k) answer
       by None e Stepped is alive = ap (option_map (λ _. pid_now k')) (x.leaves.itself.current ∙ ap (λ (a : Option Channel). cond (is_some a) None (Some (slot_now k))) e) ∙ ap Some (here e)
-      by None e (Called number value) is alive = ap (option_map (λ _. pid_now k')) (x.leaves.itself.current ∙ ap (λ (a : Option Channel). cond (is_some a) None (Some (slot_now k))) e) ∙ ap Some (here e)
+      by None e (Called number value) is alive = ap (option_map (λ _. pid_now k'))
+          (x.leaves.itself.current ∙ ap (λ (a : Option Channel). cond (is_some a) None (Some (slot_now k))) e) ∙ ap Some (here e)
       by None e (Blocked number) is alive = clash e (x.blocked (number, is))
       by None e (Exited status) is alive = absurd (none-some status (sym alive))
       by None e (Faulted cause) is alive = absurd (none-some minus_one (sym alive))
@@ -188,4 +189,5 @@ module _ {k : Kernel} {h : Hart} {k' : Kernel} {h' : Hart} {o : Own} {wakes : �
         where
           by : (a : Option Channel) → on ≡ a → IsSome a → contains (sleepers_below k'.table NPROC) (pid_now k) ≡ true
           by None e is = let no : ⊥ = cc in absurd no
-          by (Some c) e is = ap (contains (sleepers_below k'.table NPROC)) (sym x.leaves.itself.pid) ∙ sleeps-is k'.table x.leaves.sound.table (slot_now k) x.leaves.itself.after c x.leaves.itself.is (x.leaves.itself.channel ∙ e)
+          by (Some c) e is = ap (contains (sleepers_below k'.table NPROC)) (sym x.leaves.itself.pid)
+              ∙ sleeps-is k'.table x.leaves.sound.table (slot_now k) x.leaves.itself.after c x.leaves.itself.is (x.leaves.itself.channel ∙ e)

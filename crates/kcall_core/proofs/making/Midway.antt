@@ -6,6 +6,7 @@ use Rattle.std.specs.Ordering.{nat_cmp}
 use Rattle.std.specs.FinMap.{FinMap, get}
 use Rattle.std.proofs.lemmas.Bool.{eqb-true}
 use Rattle.std.proofs.Math.ListN.{length-set}
+use Rattle.std.proofs.lemmas.Option.{none-some, same_Some}
 use Rattle.xk_base.specs.declared.limits.TheConstants.{SEND_BYTES}
 use Rattle.rv64i_core.specs.Registers.{Registers}
 use Rattle.hart_core.specs.declared.hart.Hart.{Hart}
@@ -39,8 +40,8 @@ use Rattle.kcall_core.specs.Whole.{IsWhole, AreCounted}
 use Rattle.kernel_spec.specs.waking.SleepsOn.{is_for}
 use Rattle.kcall_core.specs.Makes.{Makes}
 use Rattle.kcall_core.specs.declared.kernel.Kernel.{Kernel}
-use Rattle.kernel_spec.proofs.steps.Maps.{get_same, insert-twice}
-use Rattle.kcall_core.proofs.table.States.{none-some, running}
+use Rattle.kernel_spec.proofs.steps.MapsAfterChange.{get_same, insert-twice}
+use Rattle.kcall_core.proofs.table.States.{running}
 use Rattle.kcall_core.proofs.turns.Turned.{live-is}
 use Rattle.kcall_core.proofs.table.OnePlace.{ItsPlace, changed-place, place-counted, place-join, in-call-lives, in-call-channel, asleep-lives, asleep-channel}
 use Rattle.kcall_core.proofs.turns.WhoRuns.{place-is, place-lives, now-is}
@@ -63,7 +64,8 @@ pub record WakeOn (wakes : Channel → Bool) (before after : FinMap nat_cmp Pipe
   pub children : (q : ℕ) → wakes (on.Children q) ≡ false
   pub clock : wakes on.Clock ≡ false
 
-pub wakes-open : (s : State) (p : ℕ) (l m : Live) (files : FinMap nat_cmp OpenFile) (pipes : FinMap nat_cmp Pipe) (console : Console) (free : ℕ) (wakes : Channel → Bool) → get s.processes p ≡ Some (Alive l) → m.parent ≡ l.parent → WakeOn wakes s.pipes pipes s.console console
+pub wakes-open : (s : State) (p : ℕ) (l m : Live) (files : FinMap nat_cmp OpenFile) (pipes : FinMap nat_cmp Pipe) (console : Console) (free : ℕ)
+    (wakes : Channel → Bool) → get s.processes p ≡ Some (Alive l) → m.parent ≡ l.parent → WakeOn wakes s.pipes pipes s.console console
     → (c : Condition) (channel : Channel) → is_for c channel ≡ true → is_open s c ≡ false → wakes channel ≡ is_open (changed_state p m files pipes console free s) c
 wakes-open s p l m files pipes console free wakes was parent x (Child_of q) (on.Children r) e shut = x.children r ∙ sym (family s p l m files pipes console free was parent q ∙ shut)
 wakes-open s p l m files pipes console free wakes was parent x (Bytes i) (on.Bytes f) e shut = ap (λ n. wakes (on.Bytes n)) (sym (eqb-true i f e)) ∙ x.bytes i shut
@@ -76,7 +78,8 @@ wakes-open s p l m files pipes console free wakes was parent x c channel e shut 
 -- ---- midway
 
 -- The process that runs is b now, which has the parent that it had; these are the open files, pipes, console and free frames; and those who sleep on these channels were woken
-pub record Midway (k : Kernel) (h : Hart) (k1 : Kernel) (h1 : Hart) (wakes : Channel → Bool) (b : Live) (left : FinMap nat_cmp OpenFile) (ends : FinMap nat_cmp Pipe) (console : Console) (free : ℕ) : Type 0 where
+pub record Midway (k : Kernel) (h : Hart) (k1 : Kernel) (h1 : Hart) (wakes : Channel → Bool) (b : Live) (left : FinMap nat_cmp OpenFile)
+    (ends : FinMap nat_cmp Pipe) (console : Console) (free : ℕ) : Type 0 where
   pub sound : IsSound k1 h1
   pub table : files.IsTable k1.files
   pub counted : AreCounted k1.files k1.table
@@ -148,7 +151,9 @@ module _ {k : Kernel} {h : Hart} {k1 : Kernel} {h1 : Hart} {wakes : Channel → 
       (e ∙ ap (λ n. changed_at n (in_call call) k1.table) slot1)
 
   -- what it is afterwards has the parent, the mark and the price that it had
-  well-for : (k' : Kernel) (h' : Hart) (m : Live) → state_of k' h' ≡ changed_state p m left ends console free s → (regs : Registers) (call : Option Call) → m ≡ record b { regs = regs; call = call } → WellFormed (frame_count k) (changed_state p m left ends console free s)
+  well-for : (k' : Kernel) (h' : Hart) (m : Live) → state_of k' h' ≡ changed_state p m left ends console free s
+      → (regs : Registers) (call : Option Call) → m ≡ record b { regs = regs; call = call }
+      → WellFormed (frame_count k) (changed_state p m left ends console free s)
   well-for k' h' m state regs call is =
       let s1 = state_of k1 h1 in
       let lives : IsLive s1 (pid_now k1) b = subst (IsLive s1 (pid_now k1)) midway-live (live-is k1 h1 x.sound runs1) in
@@ -157,8 +162,10 @@ module _ {k : Kernel} {h : Hart} {k1 : Kernel} {h1 : Hart} {wakes : Channel → 
       subst (WellFormed (frame_count k)) own
       (well.alone (frame_count k) s1 (pid_now k1) b regs b.image call b.killed s1.console s1.free x.well lives refl (record { typed = x.well.keys; sent_later = x.well.to_send }))
 
-  module _ (k' : Kernel) (h' : Hart) (m : Live) (after : Process) (on : Option Channel) (regs : Registers) (call : Option Call) (is-m : m ≡ record b { regs = regs; call = call }) (sound : IsSound k' h') (kept-files : k'.files ≡ k1.files) (frames : frame_count k' ≡ frame_count k1)
-      (place : ItsPlace k1.table k'.table (slot_now k) mid after) (channel : channel_of after ≡ on) (current : k'.current ≡ cond (is_some on) None (Some (slot_now k))) (state : state_of k' h' ≡ changed_state p m left ends console free s) where
+  module _ (k' : Kernel) (h' : Hart) (m : Live) (after : Process) (on : Option Channel) (regs : Registers) (call : Option Call)
+      (is-m : m ≡ record b { regs = regs; call = call }) (sound : IsSound k' h') (kept-files : k'.files ≡ k1.files) (frames : frame_count k' ≡ frame_count k1)
+      (place : ItsPlace k1.table k'.table (slot_now k) mid after) (channel : channel_of after ≡ on)
+      (current : k'.current ≡ cond (is_some on) None (Some (slot_now k))) (state : state_of k' h' ≡ changed_state p m left ends console free s) where
     counted : AreCounted k'.files k'.table
     counted = subst (λ f. AreCounted f k'.table) (sym kept-files) (place-counted place x.counted)
 
@@ -199,9 +206,11 @@ module _ {k : Kernel} {h : Hart} {k1 : Kernel} {h1 : Hart} {wakes : Channel → 
 
   -- ---- the call is done
 
-  pub midway-done : (k' : Kernel) (h' : Hart) (value : ℤ) (o : Own) (number : ℤ) → IsDone k1 h1 value k' h' → o.answer ≡ Called number value → KeepsAll s o → After s p l o (changed_state p (with_answer value b) left ends console free s) → Makes k h o k' h'
+  pub midway-done : (k' : Kernel) (h' : Hart) (value : ℤ) (o : Own) (number : ℤ) → IsDone k1 h1 value k' h' → o.answer ≡ Called number value
+      → KeepsAll s o → After s p l o (changed_state p (with_answer value b) left ends console free s) → Makes k h o k' h'
   midway-done k' h' value o number done answer keeps law =
-      midway-makes k' h' (with_answer value b) (in_call None mid) None (with_a0 b.regs (word value)) None refl done.sound (ap (λ (y : Kernel). y.files) done.kernel) (ap (λ (y : Kernel). length y.memories.ram) done.kernel)
+      midway-makes k' h' (with_answer value b) (in_call None mid) None (with_a0 b.regs (word value)) None refl done.sound
+      (ap (λ (y : Kernel). y.files) done.kernel) (ap (λ (y : Kernel). length y.memories.ram) done.kernel)
       (called-place None k'.table (ap (λ (y : Kernel). y.table) done.kernel)) (in-call-channel None mid ∙ mid-awake)
       (ap (λ (y : Kernel). y.current) done.kernel ∙ x.current ∙ (running k h whole.sound runs).current)
       (done.state ∙ (λ i. own_state (midway-pid i) (with_answer value (midway-live i)) (x.state i)) ∙ changed-twice (with_answer value b))
@@ -212,19 +221,21 @@ module _ {k : Kernel} {h : Hart} {k1 : Kernel} {h1 : Hart} {wakes : Channel → 
 
   -- ---- the process sleeps
 
-  pub midway-sleeps : (k' : Kernel) (h' : Hart) (c : Call) (on : Channel) (o : Own) (number : ℤ) → IsAsleep k1 h1 c on k' h' → o.answer ≡ Blocked number → KeepsAll s o → After s p l o (changed_state p (update.in_call c b) left ends console free s)
+  pub midway-sleeps : (k' : Kernel) (h' : Hart) (c : Call) (on : Channel) (o : Own) (number : ℤ) → IsAsleep k1 h1 c on k' h'
+      → o.answer ≡ Blocked number → KeepsAll s o → After s p l o (changed_state p (update.in_call c b) left ends console free s)
       → (let t = changed_state p (update.in_call c b) left ends console free s in (is_for (waits_for t p (update.in_call c b)) on ≡ true) × (ready (view_of t p (update.in_call c b)) ≡ false))
       → Makes k h o k' h'
   midway-sleeps k' h' c on o number slept answer keeps law waits =
       let between : Slots = changed_at (slot_now k1) (in_call (Some c)) k1.table in
       let called = called-place (Some c) between refl in
       let sleeper : ItsPlace between k'.table (slot_now k) (in_call (Some c) mid) (asleep on (in_call (Some c) mid)) =
-      changed-place between k'.table (slot_now k) (in_call (Some c) mid) (asleep on) (length-set k1.table.places (slot_now k1) (option_map (in_call (Some c)) (place_at k1.table (slot_now k1))) ∙ x.sound.table.places) (running k h whole.sound runs).inside
+      changed-place between k'.table (slot_now k) (in_call (Some c) mid) (asleep on)
+      (length-set k1.table.places (slot_now k1) (option_map (in_call (Some c)) (place_at k1.table (slot_now k1))) ∙ x.sound.table.places)
+      (running k h whole.sound runs).inside
       called.is called.lives refl (asleep-lives on (in_call (Some c) mid) called.lives) (slept.table ∙ ap (λ n. changed_at n (asleep on) between) slot1) in
       midway-makes k' h' (update.in_call c b) (asleep on (in_call (Some c) mid)) (Some on) b.regs (Some c) refl slept.sound slept.files slept.frames
       (place-join called sleeper) (asleep-channel on (in_call (Some c) mid) called.lives) slept.stopped
       (slept.state ∙ (λ i. own_state (midway-pid i) (update.in_call c (midway-live i)) (x.state i)) ∙ changed-twice (update.in_call c b))
-      o law keeps (λ is. refl) (λ some. (number, answer)) (λ d is. subst (λ a. let t = changed_state p (update.in_call c b) left ends console free s in (is_for (waits_for t p (update.in_call c b)) a ≡ true) × (ready (view_of t p (update.in_call c b)) ≡ false)) (one on d is) waits)
-    where
-      one : (a d : Channel) → Some a ≡ Some d → a ≡ d
-      one a d e = cc
+      o law keeps (λ is. refl) (λ some. (number, answer))
+      (λ d is. subst (λ a. let t = changed_state p (update.in_call c b) left ends console free s in
+      (is_for (waits_for t p (update.in_call c b)) a ≡ true) × (ready (view_of t p (update.in_call c b)) ≡ false)) (same_Some on d is) waits)

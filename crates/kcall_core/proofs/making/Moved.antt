@@ -1,10 +1,7 @@
 -- A call that moves bytes between a pipe and its process, or that only waits: what it has left before its answer.
 use Rattle.std.proofs.Common.{◌≡◌, ℕ, ◌+◌, ◌≤◌, Bool, false, length, subst, get_or, Some, None, inl, inr, refl, sym, ap, ◌∙◌}
 use Rattle.std.specs.Prelude.{ℤ, IsSome, option_map}
-use Rattle.std.specs.Ordering.{nat_cmp}
-use Rattle.std.specs.Cmp.{nat_cmp_total}
-use Rattle.std.specs.FinMap.{FinMap, get, insert, same_map, nat_cmp-IsAntisymmetric}
-use Rattle.std.proofs.lemmas.Bool.{cases_eq}
+use Rattle.std.specs.FinMap.{get, insert}
 use Rattle.std.proofs.lemmas.List.{get_or-set_same, get_or-set_other}
 use Rattle.xk_base.specs.declared.limits.TheConstants.{PIPE_BYTES}
 use Rattle.xk_base.specs.Image.{Image, price}
@@ -29,7 +26,7 @@ use Rattle.kcall_core.specs.Kernel.{frame_count, state_of, IsSound, IsRunning, s
 use Rattle.kcall_core.specs.Whole.{IsWhole, AreCounted, namings}
 use Rattle.kcall_core.specs.declared.kernel.Kernel.{Kernel}
 use Rattle.kcall_core.specs.declared.memories.Memories.{Memories}
-use Rattle.kernel_spec.proofs.steps.Maps.{get_same, get_other}
+use Rattle.kernel_spec.proofs.steps.MapsAfterChange.{insert_again}
 use Rattle.kcall_core.proofs.table.States.{running, Goes, goes-processes, goes-sound}
 use Rattle.kcall_core.proofs.memory.Changes.{some-inside}
 use Rattle.kcall_core.proofs.turns.Turned.{live-is}
@@ -40,15 +37,9 @@ use Rattle.kernel_spec.proofs.well.WellSteps as steps
 use Rattle.kcall_core.proofs.making.Prepared.{over}
 use Rattle.kcall_core.proofs.making.Midway.{WakeOn, Midway}
 
--- what is put in where it stands changes nothing
-insert-there : {X : Type 0} (m : FinMap nat_cmp X) (k : ℕ) (x : X) → get m k ≡ Some x → insert m k x ≡ m
-insert-there m k x is = same_map nat_cmp_total nat_cmp-IsAntisymmetric (insert m k x) m (λ q. elim (cases_eq q k) [
-  | inl e ↦ ap (get (insert m k x)) e ∙ get_same m k x ∙ sym (ap (get m) e ∙ is)
-  | inr apart ↦ get_other m k x q apart
-])
-
 -- a process that sleeps by its step isn't ready then
-pub sleeps-unready : (s t : State) (p : ℕ) (l m : Live) (o : Own) (number : ℤ) → own (view_of s p l) ≡ o → o.answer ≡ Blocked number → view t p ≡ o.next → live t p ≡ Some m → ready (view_of t p m) ≡ false
+pub sleeps-unready : (s t : State) (p : ℕ) (l m : Live) (o : Own) (number : ℤ) → own (view_of s p l) ≡ o → o.answer ≡ Blocked number
+    → view t p ≡ o.next → live t p ≡ Some m → ready (view_of t p m) ≡ false
 unfolding view_of
 sleeps-unready s t p l m o number is answer next lives =
     blocks_unready (view_of s p l) (view_of t p m) number (ap (λ (x : Own). x.answer) is ∙ answer)
@@ -79,7 +70,7 @@ module _ {k : Kernel} {h : Hart} (whole : IsWhole k h) (runs : IsRunning k) wher
     current = refl;
     last = refl;
     places = λ j. ap (λ (t : Slots). place_at t j) (each-none nobody k.table (λ c. refl)) ∙ place-each (woken_by nobody) k.table j;
-    state = ap (λ m. record (state_of k h) { processes = m }) (sym (insert-there (state_of k h).processes (pid_now k) (Alive (live_now k h)) (live-is k h whole.sound runs)));
+    state = ap (λ m. record (state_of k h) { processes = m }) (sym (insert_again (state_of k h).processes (pid_now k) (Alive (live_now k h)) (live-is k h whole.sound runs)));
     well = whole.well;
     parent = refl;
     wake = none-wake;
@@ -88,7 +79,8 @@ module _ {k : Kernel} {h : Hart} (whole : IsWhole k h) (runs : IsRunning k) wher
 
   -- ---- bytes have moved
 
-  module _ (m : Memories) (image : Image) (f : ℕ) (x y : Pipe) (moves : Moves k.memories m (slot_now k) image f y) (there : get (state_of k h).pipes f ≡ Some x) (readers : y.readers ≡ x.readers) (writers : y.writers ≡ x.writers) (fits : length y.bytes ≤ PIPE_BYTES)
+  module _ (m : Memories) (image : Image) (f : ℕ) (x y : Pipe) (moves : Moves k.memories m (slot_now k) image f y)
+      (there : get (state_of k h).pipes f ≡ Some x) (readers : y.readers ≡ x.readers) (writers : y.writers ≡ x.writers) (fits : length y.bytes ≤ PIPE_BYTES)
       (paid : price image ≡ price (live_now k h).image) where
     abbrev s : State
     s = state_of k h
@@ -133,7 +125,8 @@ module _ {k : Kernel} {h : Hart} (whole : IsWhole k h) (runs : IsRunning k) wher
         (ap (λ n. s.free + (n + 1)) paid) (record { typed = whole.well.keys; sent_later = whole.well.to_send })
 
     -- and those who wait for them wake
-    module _ (wakes : Channel → Bool) (k1 : Kernel) (table : k1.table ≡ each_changed (woken_by wakes) k.table) (rest : k1 ≡ record (over k m) { table = k1.table }) (wake : WakeOn wakes s.pipes (insert s.pipes f y) s.console s.console) where
+    module _ (wakes : Channel → Bool) (k1 : Kernel) (table : k1.table ≡ each_changed (woken_by wakes) k.table)
+        (rest : k1 ≡ record (over k m) { table = k1.table }) (wake : WakeOn wakes s.pipes (insert s.pipes f y) s.console s.console) where
       place1 : (j : ℕ) → place_at k1.table j ≡ option_map (woken_by wakes) (place_at k.table j)
       place1 j = ap (λ (t : Slots). place_at t j) table ∙ place-each (woken_by wakes) k.table j
 

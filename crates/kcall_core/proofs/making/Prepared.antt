@@ -77,13 +77,15 @@ prepared-same {k} {h} {m} sound runs same =
 
 -- then its call is done: the row is `done` of what was prepared
 pub prepared-makes : {k k1 k2 : Kernel} {h h1 h2 : Hart} {image : Image} {regs : Registers} {free : ℕ} (c : Call) (value : ℤ) (o : Own) → IsWhole k h → IsRunning k → Prepared k h k1 h1 image regs free
-    → IsSound k2 h2 → k2 ≡ record k1 { table = changed_at (slot_now k1) (process.in_call None) k1.table } → state_of k2 h2 ≡ own_state (pid_now k1) (with_answer value (live_now k1 h1)) (state_of k1 h1)
+    → IsSound k2 h2 → k2 ≡ record k1 { table = changed_at (slot_now k1) (process.in_call None) k1.table }
+    → state_of k2 h2 ≡ own_state (pid_now k1) (with_answer value (live_now k1 h1)) (state_of k1 h1)
     → o ≡ done c value (record (view_now k h) { regs = regs; image = image; free = free }) → Makes k h o k2 h2
 prepared-makes {k} {k1} {k2} {h} {h1} {h2} {image} {regs} {free} c value o whole runs p sound kernel state is =
     let s : State = state_of k h in
     let m = record (live_now k h) { image = image; regs = regs } in
     let pid : pid_now k1 ≡ pid_now k = λ t. (or_nobody (place_at (p.table t) (or_zero (p.current t)))).pid in
-    let told : state_of k2 h2 ≡ own_state (pid_now k) (with_answer value m) (alone_state (pid_now k) m s.console free s) = state ∙ (λ t. own_state (pid t) (with_answer value (p.live t)) (p.state t)) in
+    let told : state_of k2 h2 ≡ own_state (pid_now k) (with_answer value m) (alone_state (pid_now k) m s.console free s) = state
+    ∙ (λ t. own_state (pid t) (with_answer value (p.live t)) (p.state t)) in
     done-makes k h k2 h2 c value regs image free o whole runs
     (record {
       sound = sound;

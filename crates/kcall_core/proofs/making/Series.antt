@@ -15,9 +15,10 @@ use Rattle.kcall_core.specs.declared.memories.Memories.{Memories}
 use Rattle.kcall_core.proofs.table.States.{running}
 use Rattle.kcall_core.proofs.making.Instructions.{step-done, step-stays}
 use Rattle.kcall_core.proofs.making.Staying.{still-runs}
-use Rattle.kcall_core.proofs.making.TouchedSteps.{IsTried, tried-here, stop-plain, made-before, stop-before, stays-there, runs-there, next-no-fault, ecall-no-fault}
+use Rattle.kcall_core.proofs.making.TouchedSteps.{IsTried, tried-here, stop-plain, made-before, stop-before, stays-there, runs-there}
+use Rattle.kcall_core.proofs.memory.Stepping.{ecall-no-fault, next-no-fault}
 
-ecall-next : stops.Ecall ≢ stops.Next
+pub ecall-next : stops.Ecall ≢ stops.Next
 ecall-next e = cc
 
 -- so many instructions are done, and the process is between two of them
@@ -33,7 +34,8 @@ pub record IsMade (most made : ℕ) (k : Kernel) (h : Hart) (k' : Kernel) (h' : 
 at-count : (m n : ℕ) (k : Kernel) (h : Hart) (k' : Kernel) (h' : Hart) → m ≡ n → MakesDone m k h k' h' → MakesDone n k h k' h'
 at-count m n k h k' h' e done = subst (λ c. MakesDone c k h k' h') e done
 
-joined : (made count : ℕ) (k : Kernel) (h : Hart) (mid : Kernel) (between : Hart) (k' : Kernel) (h' : Hart) → MakesDone made k h mid between → MakesDone count mid between k' h' → MakesDone (made + count) k h k' h'
+joined : (made count : ℕ) (k : Kernel) (h : Hart) (mid : Kernel) (between : Hart) (k' : Kernel) (h' : Hart) → MakesDone made k h mid between
+    → MakesDone count mid between k' h' → MakesDone (made + count) k h k' h'
 joined made zero k h mid between k' h' before done =
     at-count made (made + zero) k h k' h' (omega arith) (subst (λ x. MakesDone made k h x h') (sym done.0) (subst (λ x. MakesDone made k h mid x) (sym done.1) before))
 joined made (suc count) k h mid between k' h' before (last, hart, more, free, next, one) =
@@ -90,7 +92,8 @@ undone-last most made stops.Next k h k' h' other u = absurd (other refl)
 undone-last most made stops.Ecall k h k' h' other u = u
 undone-last most made (stops.Fault cause) k h k' h' other u = u
 
-last-made : (most made count : ℕ) (stop : Stop) (k : Kernel) (mid new : Memories) (between h' : Hart) → IsWhole (record k { memories = mid }) between → IsRunning k → made + count ≤ most → ((cause : Cause) → stop ≢ stops.Fault cause)
+last-made : (most made count : ℕ) (stop : Stop) (k : Kernel) (mid new : Memories) (between h' : Hart) → IsWhole (record k { memories = mid }) between
+    → IsRunning k → made + count ≤ most → ((cause : Cause) → stop ≢ stops.Fault cause)
     → IsLastStep (slot_now k) (most - made) count stop mid between new h' → IsLastMade most (made + count) stop (record k { memories = mid }) between (record k { memories = new }) h'
 last-made most made count stops.Next k mid new between h' so runs fits other last = (omega (arith, fits, last.0), ap (λ x. record k { memories = x }) last.1, last.2)
 last-made most made count stops.Ecall k mid new between h' so runs fits other last =
@@ -138,7 +141,8 @@ module _ {most made count : ℕ} {stop : Stop} {first : Kernel} {start : Hart} {
     fault-tried = tried-here before new x.between h' (stops.Fault cause) x.so_far.whole x.so_far.running last-fault.1 cause refl
 
     -- the instruction isn't done
-    pub fault-ends : (last : Kernel) (hart : Hart) (end : Stop) → end ≢ stops.Next → end ≡ stop_now behind h' → (last ≡ behind) × (hart ≡ h') → MakesInARow most (made + count) end first start last hart
+    pub fault-ends : (last : Kernel) (hart : Hart) (end : Stop) → end ≢ stops.Next → end ≡ stop_now behind h' → (last ≡ behind) × (hart ≡ h')
+        → MakesInARow most (made + count) end first start last hart
     fault-ends last hart end other ends same = record {
       mid = before;
       between = x.between;
@@ -155,11 +159,19 @@ module _ {most made count : ℕ} {stop : Stop} {first : Kernel} {start : Hart} {
     }
 
     -- it is done
-    pub fault-done : (last : Kernel) (hart : Hart) (end : Stop) → end ≡ stops.Next → end ≡ stop_now behind h' → Makes behind h' (own (view_now behind h')) last hart → IsRunning last → laws.IsBetweenCalls (live_now last hart)
+    pub fault-done : (last : Kernel) (hart : Hart) (end : Stop) → end ≡ stops.Next → end ≡ stop_now behind h'
+        → Makes behind h' (own (view_now behind h')) last hart → IsRunning last → laws.IsBetweenCalls (live_now last hart)
         → IsMade most (made + count + 1) first start last hart
     fault-done last hart end next ends makes runs free = record {
-      done = at-count (suc (made + count)) (made + count + 1) first start last hart (omega arith)
-          (before, x.between, x.so_far.done, x.so_far.free, sym (stop-before before behind x.between h' end x.so_far.whole x.so_far.running fault-tried.stays ends) ∙ next, made-before before behind x.between h' last hart x.so_far.whole x.so_far.running fault-tried.stays makes);
+      done = at-count (suc (made + count)) (made + count + 1) first start last hart (omega arith) (
+        before,
+        x.between,
+        x.so_far.done,
+        x.so_far.free,
+        sym (stop-before before behind x.between h' end x.so_far.whole x.so_far.running fault-tried.stays ends)
+            ∙ next,
+        made-before before behind x.between h' last hart x.so_far.whole x.so_far.running fault-tried.stays makes,
+      );
       whole = makes.whole;
       running = runs;
       free = free;

@@ -2,7 +2,8 @@
 use Rattle.std.proofs.Common.{◌≡◌, ◌≢◌, ℕ, Bool, true, false, cond, subst, Option, Some, None, inl, inr, ◌⊎◌, refl, sym, ap, ◌∙◌}
 use Rattle.std.specs.Prelude.{ℤ, ◌↔◌, IsSome, is_some, option_map}
 use Rattle.std.specs.FinSet.{contains}
-use Rattle.std.proofs.lemmas.Bool.{or_parts, false_from_ne_true}
+use Rattle.std.proofs.lemmas.Bool.{or_parts, false_from_ne_true, both_ways}
+use Rattle.std.proofs.lemmas.Option.{none-some, same_Some}
 use Rattle.xk_base.specs.declared.limits.TheConstants.{NPROC}
 use Rattle.hart_core.specs.declared.hart.Hart.{Hart}
 use Rattle.proc_table.specs.Processes.{channel_of}
@@ -25,9 +26,9 @@ use Rattle.kcall_core.specs.Machine.{sleepers_below, turns_of, world_of}
 use Rattle.kcall_core.specs.Whole.{IsWhole, SleepOnTheirChannels}
 use Rattle.kernel_spec.specs.waking.SleepsOn.{is_for}
 use Rattle.kcall_core.specs.declared.kernel.Kernel.{Kernel}
-use Rattle.kcall_core.proofs.table.States.{none-some, running}
+use Rattle.kcall_core.proofs.table.States.{running}
 use Rattle.kcall_core.proofs.table.Observed.{live-held}
-use Rattle.kcall_core.proofs.turns.Turned.{sleeps-is, sleeps-from, awake-is, sleeper-lives, not-both, same-some}
+use Rattle.kcall_core.proofs.turns.Turned.{sleeps-is, sleeps-from, awake-is, sleeper-lives}
 use Rattle.kernel_spec.proofs.waking.Wakes.{ready_is, view_is}
 
 -- A process that sleeps, in its slot, on its channel
@@ -39,14 +40,17 @@ pub record Sleeper (k : Kernel) (q : ℕ) : Type 0 where
   pub named : process.pid ≡ q
   pub on-it : channel_of process ≡ Some channel
 
--- What becomes of those who slept: they sleep on, but for those who wake, and each waits for what it waited for. Nobody else sleeps but process p, where it falls asleep on a channel. Those wake who are due after this outcome
+-- What becomes of those who slept: they sleep on, but for those who wake, and each waits for what it waited for. Nobody
+-- else sleeps but process p, where it falls asleep on a channel. Those wake who are due after this outcome
 pub record Sleeping (k : Kernel) (h : Hart) (k' : Kernel) (h' : Hart) (o : Outcome) (p : ℕ) (falls : Option Channel) (wakes : ℕ → Channel → Bool) : Type 0 where
-  pub stays : (j : ℕ) (x : Process) (c : Channel) → place_at k.table j ≡ Some x → channel_of x ≡ Some c → (y : Process) × (place_at k'.table j ≡ Some y) × (y.pid ≡ x.pid) × (channel_of y ≡ cond (wakes x.pid c) None (Some c))
+  pub stays : (j : ℕ) (x : Process) (c : Channel) → place_at k.table j ≡ Some x → channel_of x ≡ Some c
+      → (y : Process) × (place_at k'.table j ≡ Some y) × (y.pid ≡ x.pid) × (channel_of y ≡ cond (wakes x.pid c) None (Some c))
   pub slept : (j : ℕ) (y : Process) (c : Channel) → place_at k'.table j ≡ Some y → channel_of y ≡ Some c
       → ((x : Process) × (place_at k.table j ≡ Some x) × (y.pid ≡ x.pid) × (channel_of x ≡ Some c)) ⊎ ((y.pid ≡ p) × (falls ≡ Some c))
   pub itself : (c : Channel) (m : Live) → falls ≡ Some c → live (state_of k' h') p ≡ Some m → (is_for (waits_for (state_of k' h') p m) c ≡ true) × (ready (view_of (state_of k' h') p m) ≡ false)
   pub waits : (q : ℕ) (z : Sleeper k q) (l m : Live) → live (state_of k h) q ≡ Some l → live (state_of k' h') q ≡ Some m → waits_for (state_of k' h') q m ≡ waits_for (state_of k h) q l
-  pub due : (q : ℕ) (z : Sleeper k q) (l m : Live) → live (state_of k h) q ≡ Some l → live (state_of k' h') q ≡ Some m → is_for (waits_for (state_of k h) q l) z.channel ≡ true → l.killed ≡ false → is_open (state_of k h) (waits_for (state_of k h) q l) ≡ false
+  pub due : (q : ℕ) (z : Sleeper k q) (l m : Live) → live (state_of k h) q ≡ Some l → live (state_of k' h') q ≡ Some m
+      → is_for (waits_for (state_of k h) q l) z.channel ≡ true → l.killed ≡ false → is_open (state_of k h) (waits_for (state_of k h) q l) ≡ false
       → (wakes q z.channel ≡ true)
       ↔ ((ready (view_of (state_of k' h') q m) ≡ true) ⊎ (IsInCall 13 (view_of (state_of k' h') q m) × (o ≡ Ticked)) ⊎ ((q ≡ 1) × IsInCall 3 (view_of (state_of k' h') q m) × IsEnd o))
 
@@ -61,7 +65,8 @@ on-it-still wakes (Some d) c e = by (wakes d) e
     by true e = absurd (none-some c e)
     by false e = e
 
-module _ (wakes : ℕ → Channel → Bool) (f : Process → Process) (pids : (y : Process) → (f y).pid ≡ y.pid) (channels : (y : Process) → channel_of (f y) ≡ unless_woken (wakes y.pid) (channel_of y)) {a b : Option Process} (changed : b ≡ option_map f a) where
+module _ (wakes : ℕ → Channel → Bool) (f : Process → Process) (pids : (y : Process) → (f y).pid ≡ y.pid)
+    (channels : (y : Process) → channel_of (f y) ≡ unless_woken (wakes y.pid) (channel_of y)) {a b : Option Process} (changed : b ≡ option_map f a) where
   pub changed-stays : (y : Process) (c : Channel) → a ≡ Some y → channel_of y ≡ Some c → (z : Process) × (b ≡ Some z) × (z.pid ≡ y.pid) × (channel_of z ≡ cond (wakes y.pid c) None (Some c))
   changed-stays y c at on-it = (f y, changed ∙ ap (option_map f) at, pids y, channels y ∙ ap (unless_woken (wakes y.pid)) on-it)
 
@@ -71,7 +76,7 @@ module _ (wakes : ℕ → Channel → Bool) (f : Process → Process) (pids : (y
       by : (o : Option Process) → a ≡ o → option_map f o ≡ Some z → (y : Process) × (a ≡ Some y) × (z.pid ≡ y.pid) × (channel_of y ≡ Some c)
       by None was e = absurd (none-some z e)
       by (Some y) was e =
-          let same : f y ≡ z = same-some (f y) z e in
+          let same : f y ≡ z = same_Some (f y) z e in
           (y, was, ap (λ (r : Process). r.pid) (sym same) ∙ pids y, on-it-still (wakes y.pid) (channel_of y) c (sym (channels y) ∙ ap channel_of same ∙ on-it))
 
 -- ---- one kernel
@@ -83,7 +88,8 @@ sleeper : (k : Kernel) → IsTable k.table → (q : ℕ) → contains (sleepers_
 sleeper k is_table q e = let (j, y, c, at, named, on-it) = sleeps-from k.table is_table q e in subst (Sleeper k) named (sleeper-in k j y c at on-it)
 
 -- it is live
-its-live : (k : Kernel) (h : Hart) → IsTable k.table → (q : ℕ) (z : Sleeper k q) → live (state_of k h) q ≡ Some (live_of z.process (descriptors_at k.table z.slot) (held_at (each_of k.memories) z.slot) (regs_at k h z.slot))
+its-live : (k : Kernel) (h : Hart) → IsTable k.table → (q : ℕ) (z : Sleeper k q)
+    → live (state_of k h) q ≡ Some (live_of z.process (descriptors_at k.table z.slot) (held_at (each_of k.memories) z.slot) (regs_at k h z.slot))
 its-live k h is_table q z = ap (live (state_of k h)) (sym z.named) ∙ live-held k h is_table z.slot z.process z.at (sleeper-lives z.process z.channel z.on-it)
 
 -- it isn't the process that runs
@@ -94,7 +100,9 @@ module _ {k : Kernel} {h : Hart} (whole : IsWhole k h) (runs : IsRunning k) wher
   pub another : (q : ℕ) → Sleeper k q → q ≢ pid_now k
   another q z e =
       let now = running k h whole.sound runs in
-      elsewhere z.slot z.process z.channel z.at z.on-it (whole.sound.table.pids.apart z.slot (slot_now k) z.process now.is.process z.at now.is.is (z.named ∙ e ∙ ap (λ (o : Option Process). (or_nobody o).pid) now.is.is))
+      elsewhere z.slot z.process z.channel z.at z.on-it
+      (whole.sound.table.pids.apart z.slot (slot_now k) z.process now.is.process z.at now.is.is
+      (z.named ∙ e ∙ ap (λ (o : Option Process). (or_nobody o).pid) now.is.is))
 
 -- where those wake that have to, and whoever falls asleep isn't ready, no sleeper is ready
 pub none-ready : (w t : World) (o : Outcome) → WakesWhereDue w o t → ((q : ℕ) → Sleeps t.turns q → Sleeps w.turns q ⊎ ((v : View) → view t.state q ≡ Some v → ready v ≡ false)) → NoReadySleeper t
@@ -105,7 +113,8 @@ none-ready w t o due was q v asleep see = elim (was q asleep) [
 
 -- ---- before and after
 
-module _ {k : Kernel} {h : Hart} {k' : Kernel} {h' : Hart} {o : Outcome} {p : ℕ} {falls : Option Channel} {wakes : ℕ → Channel → Bool} (whole : IsWhole k h) (sound : IsSound k' h') (x : Sleeping k h k' h' o p falls wakes) where
+module _ {k : Kernel} {h : Hart} {k' : Kernel} {h' : Hart} {o : Outcome} {p : ℕ} {falls : Option Channel} {wakes : ℕ → Channel → Bool}
+    (whole : IsWhole k h) (sound : IsSound k' h') (x : Sleeping k h k' h' o p falls wakes) where
   abbrev s : State
   s = state_of k h
 
@@ -113,14 +122,17 @@ module _ {k : Kernel} {h : Hart} {k' : Kernel} {h' : Hart} {o : Outcome} {p : �
   t = state_of k' h'
 
   -- who slept wakes exactly where it is due
-  exactly : (q : ℕ) (v : View) (z : Sleeper k q) → contains (sleepers_below k.table NPROC) q ≡ true → view t q ≡ Some v → (wakes q z.channel ≡ true) ↔ ((ready v ≡ true) ⊎ (IsInCall 13 v × (o ≡ Ticked)) ⊎ ((q ≡ 1) × IsInCall 3 v × IsEnd o))
+  exactly : (q : ℕ) (v : View) (z : Sleeper k q) → contains (sleepers_below k.table NPROC) q ≡ true → view t q ≡ Some v
+      → (wakes q z.channel ≡ true) ↔ ((ready v ≡ true) ⊎ (IsInCall 13 v × (o ≡ Ticked)) ⊎ ((q ≡ 1) × IsInCall 3 v × IsEnd o))
   unfolding turns_of
   exactly q v z asleep see =
       let was = its-live k h whole.sound.table q z in
       let l = live_of z.process (descriptors_at k.table z.slot) (held_at (each_of k.memories) z.slot) (regs_at k h z.slot) in
       let (m, is, same) = view_is t q (live t q) v see in
       let shut = or_parts l.killed (is_open s (waits_for s q l)) (sym (ready_is s q l) ∙ whole.unready q (view_of s q l) asleep (ap (option_map (view_of s q)) was)) in
-      let its : is_for (waits_for s q l) z.channel ≡ true = subst (λ (n : ℕ). is_for (waits_for s n l) z.channel ≡ true) z.named (whole.channels z.slot z.process l z.channel z.at (ap (live s) z.named ∙ was) z.on-it) in
+      let its : is_for (waits_for s q l) z.channel ≡ true =
+      subst (λ (n : ℕ). is_for (waits_for s n l) z.channel ≡ true) z.named
+      (whole.channels z.slot z.process l z.channel z.at (ap (live s) z.named ∙ was) z.on-it) in
       subst (λ (u : View). (wakes q z.channel ≡ true) ↔ ((ready u ≡ true) ⊎ (IsInCall 13 u × (o ≡ Ticked)) ⊎ ((q ≡ 1) × IsInCall 3 u × IsEnd o))) same (x.due q z l m was is its shut.0 shut.1)
 
   wakes-up : (q : ℕ) (z : Sleeper k q) → wakes q z.channel ≡ true → contains (sleepers_below k'.table NPROC) q ≡ false
@@ -141,7 +153,7 @@ module _ {k : Kernel} {h : Hart} {k' : Kernel} {h' : Hart} {o : Outcome} {p : �
       let z = sleeper k whole.sound.table q asleep in
       let is = exactly q v z asleep see in (
         λ awake. is.0 (by q z (wakes q z.channel) refl awake),
-        λ due. λ does. not-both does (wakes-up q z (is.1 due)),
+        λ due. λ does. both_ways _ (wakes-up q z (is.1 due)) does,
       )
     where
       by : (q : ℕ) (z : Sleeper k q) (b : Bool) → wakes q z.channel ≡ b → ¬ (contains (sleepers_below k'.table NPROC) q ≡ true) → wakes q z.channel ≡ true
@@ -182,4 +194,5 @@ module _ {k : Kernel} {h : Hart} {k' : Kernel} {h' : Hart} {o : Outcome} {p : �
   -- and couldn't go on
   pub unready : NoReadySleeper (world_of k' h' None)
   unfolding turns_of
-  unready = none-ready (world_of k h None) (world_of k' h' None) o (wakes-due None) (λ q asleep. elim (slept-before q asleep) [ inl before ↦ inl before | inr ran ↦ inr (λ v see. its-view q v ran.0 ran.1 see) ])
+  unready = none-ready (world_of k h None) (world_of k' h' None) o (wakes-due None)
+      (λ q asleep. elim (slept-before q asleep) [ inl before ↦ inl before | inr ran ↦ inr (λ v see. its-view q v ran.0 ran.1 see) ])

@@ -2,23 +2,22 @@
 use Rattle.std.proofs.Common.{◌≡◌, ℕ, Option, Some, None, refl, sym, ap, ◌∙◌, subst}
 use Rattle.std.specs.Prelude.{IsSome, option_map}
 use Rattle.std.specs.FinMap.{get}
+use Rattle.std.proofs.lemmas.Option.{none-some, same_Some}
 use Rattle.hart_core.specs.declared.hart.Hart.{Hart}
-use Rattle.kernel_spec.specs.views.Processes.{Live, Alive, Zombie}
+use Rattle.kernel_spec.specs.views.Processes.{Live, Zombie}
 use Rattle.kernel_spec.specs.views.State.{State}
 use Rattle.kernel_spec.specs.views.View.{view_of}
 use Rattle.kernel_spec.specs.steps.Own.{Own}
 use Rattle.kernel_spec.specs.laws.RowLaws.{After}
 use Rattle.kernel_spec.specs.runs.Run.{World, Step_of, TurnsAfter, halts_with}
 use Rattle.kernel_spec.specs.waking.Wakes.{WakesWhereDue}
+use Rattle.kernel_spec.proofs.Common.{same_live}
 use Rattle.kcall_core.specs.Kernel.{state_of, IsSound, IsRunning, pid_now, live_now}
 use Rattle.kcall_core.specs.Machine.{turns_of, world_of}
 use Rattle.kcall_core.specs.Makes.{Makes, Stays, StillRuns, view_now}
 use Rattle.kcall_core.specs.declared.kernel.Kernel.{Kernel}
-use Rattle.kcall_core.proofs.table.States.{none-some, running}
+use Rattle.kcall_core.proofs.table.States.{running}
 use Rattle.kcall_core.proofs.turns.Turned.{live-is}
-
-same-live : (l m : Live) → Some (Alive l) ≡ Some (Alive m) → l ≡ m
-same-live l m e = cc
 
 module _ (k k' : Kernel) (h h' : Hart) (sound : IsSound k h) (runs : IsRunning k) (stays : Stays k h k' h') where
   current : option_map (λ (i : ℕ). pid_now k') k'.current ≡ Some (pid_now k)
@@ -28,18 +27,17 @@ module _ (k k' : Kernel) (h h' : Hart) (sound : IsSound k h) (runs : IsRunning k
   pub still-runs : StillRuns k h k' h'
   still-runs = by k'.current refl
     where
-      same-pid : (p q : ℕ) → Some p ≡ Some q → p ≡ q
-      same-pid p q e = cc
-
       by : (o : Option ℕ) → k'.current ≡ o → StillRuns k h k' h'
       by None is = absurd (none-some (pid_now k) (sym (ap (option_map (λ (i : ℕ). pid_now k')) is) ∙ current))
       by (Some i) is =
-          let pid : pid_now k' ≡ pid_now k = same-pid (pid_now k') (pid_now k) (sym (ap (option_map (λ (i : ℕ). pid_now k')) is) ∙ current) in
+          let pid : pid_now k' ≡ pid_now k = same_Some (pid_now k') (pid_now k) (sym (ap (option_map (λ (i : ℕ). pid_now k')) is) ∙ current) in
           let now : IsRunning k' = subst (λ o. IsSome o) (sym is) refl in
           record {
             running = now;
             pid = pid;
-            live = same-live (live_now k' h') (live_now k h) (sym (live-is k' h' stays.whole.sound now) ∙ ap (λ (s : State). get s.processes (pid_now k')) (ap (λ (w : World). w.state) stays.world) ∙ ap (get (state_of k h).processes) pid ∙ live-is k h sound runs);
+            live = same_live (live_now k' h') (live_now k h)
+                (sym (live-is k' h' stays.whole.sound now) ∙ ap (λ (s : State). get s.processes (pid_now k'))
+                (ap (λ (w : World). w.state) stays.world) ∙ ap (get (state_of k h).processes) pid ∙ live-is k h sound runs);
           }
 
   pub stays-view : view_now k' h' ≡ view_now k h
@@ -47,7 +45,8 @@ module _ (k k' : Kernel) (h h' : Hart) (sound : IsSound k h) (runs : IsRunning k
 
   -- what is made of a step of process p, which is l, in the world w
   abbrev MadeFrom : (o : Own) (last : Kernel) (hart : Hart) → World → ℕ → Live → Type 0
-  MadeFrom o last hart w p l = After w.state p l o (state_of last hart) × TurnsAfter w.turns p o (turns_of last (halts_with p o.answer)) × WakesWhereDue w (Step_of p o.answer) (world_of last hart (halts_with p o.answer))
+  MadeFrom o last hart w p l = After w.state p l o (state_of last hart) × TurnsAfter w.turns p o (turns_of last (halts_with p o.answer))
+      × WakesWhereDue w (Step_of p o.answer) (world_of last hart (halts_with p o.answer))
 
   pub makes-from : (o : Own) (last : Kernel) (hart : Hart) → Makes k' h' o last hart → Makes k h o last hart
   makes-from o last hart made =

@@ -1,6 +1,7 @@
 -- The timer interrupts: the clock counts, nobody runs, and those who count ticks wake.
 use Rattle.std.proofs.Common.{◌≡◌, ℕ, ◌+◌, ◌%◌, ◌||◌, Bool, true, false, length, subst, Some, None, inl, inr, ◌⊎◌, refl, sym, ap, ◌∙◌}
 use Rattle.std.specs.Prelude.{option_map}
+use Rattle.std.proofs.lemmas.Option.{none-some, same_Some}
 use Rattle.xk_base.specs.declared.limits.TheConstants.{NPROC}
 use Rattle.hart_core.specs.declared.hart.Hart.{Hart}
 use Rattle.file_table.specs.OpenFiles as files
@@ -25,8 +26,7 @@ use Rattle.kcall_core.specs.Machine.{slots_of, sleepers_below, turns_of, world_o
 use Rattle.kcall_core.specs.Whole.{IsWhole, AreCounted, namings}
 use Rattle.kernel_spec.specs.waking.SleepsOn.{is_for}
 use Rattle.kcall_core.specs.declared.kernel.Kernel.{Kernel}
-use Rattle.kcall_core.proofs.table.States.{none-some}
-use Rattle.kcall_core.proofs.turns.Turned.{slots-same, same-some}
+use Rattle.kcall_core.proofs.turns.Turned.{slots-same}
 use Rattle.kernel_spec.proofs.waking.Wakes.{ready_is}
 use Rattle.kernel_spec.proofs.waking.Openings.{opens_tick}
 use Rattle.kcall_core.proofs.table.Woken.{woken-channel, place-each, live-woken, each-woken}
@@ -82,7 +82,7 @@ module _ {k : Kernel} {h : Hart} {k' : Kernel} {h' : Hart} (whole : IsWhole k h)
   }
     where
       same-live : (q : ℕ) (l m : Live) → live s q ≡ Some l → live (state_of k' h') q ≡ Some m → m ≡ l
-      same-live q l m was is = same-some m l (sym is ∙ ap (λ (u : State). live u q) x.state ∙ was)
+      same-live q l m was is = same_Some m l (sym is ∙ ap (λ (u : State). live u q) x.state ∙ was)
 
   counted : AreCounted k'.files k'.table
   counted = subst (λ fs. AreCounted fs k'.table) (sym x.files) (record {
@@ -95,7 +95,10 @@ module _ {k : Kernel} {h : Hart} {k' : Kernel} {h' : Hart} (whole : IsWhole k h)
   unfolding turns_of
   tick-whole = record {
     sound = x.sound;
-    well = subst (λ n. WellFormed n (state_of k' h')) (sym x.frames) (subst (WellFormed (frame_count k)) (sym x.state) (well.outside (frame_count k) s ((s.clock + 1) % CLOCK_ROUND) s.console whole.well (record { typed = whole.well.keys; sent_later = whole.well.to_send })));
+    well = subst (λ n. WellFormed n (state_of k' h')) (sym x.frames)
+        (subst (WellFormed (frame_count k)) (sym x.state)
+        (well.outside (frame_count k) s ((s.clock + 1) % CLOCK_ROUND) s.console whole.well
+        (record { typed = whole.well.keys; sent_later = whole.well.to_send })));
     files = subst files.IsTable (sym x.files) whole.files;
     counted = counted;
     channels = on-channels whole x.sound sleeping;
@@ -105,7 +108,20 @@ module _ {k : Kernel} {h : Hart} {k' : Kernel} {h' : Hart} (whole : IsWhole k h)
 
   pub tick-happens : TickHappens (world_of k h None) None Ticked (world_of k' h' None)
   unfolding turns_of
-  tick-happens = (refl, x.state, ((λ i. record { slots = slots i; sleepers = sleepers_below k'.table NPROC; last = (x.table i).last; current = option_map (λ _. pid_now k') (x.stopped i); halted = None }), λ q asleep. elim (slept-before whole x.sound sleeping q asleep) [ inl before ↦ before | inr fell ↦ let no : ⊥ = cc in absurd no ]))
+  tick-happens = (
+    refl,
+    x.state,
+    (
+      (λ i. record {
+        slots = slots i;
+        sleepers = sleepers_below k'.table NPROC;
+        last = (x.table i).last;
+        current = option_map (λ _. pid_now k') (x.stopped i);
+        halted = None;
+      }),
+      λ q asleep. elim (slept-before whole x.sound sleeping q asleep) [ inl before ↦ before | inr fell ↦ let no : ⊥ = cc in absurd no ],
+    ),
+  )
 
   pub tick-due : WakesWhereDue (world_of k h None) Ticked (world_of k' h' None)
   tick-due = wakes-due whole x.sound sleeping None
@@ -134,8 +150,11 @@ now-clock : (k : Kernel) (h : Hart) → (state_of k h).clock ≡ k.clock
 unfolding state_of
 now-clock k h = refl
 
-pub has-ticked : (k k0 k' : Kernel) (h h1 : Hart) (n : ℕ) → IsSound k0 h1 → k0.current ≡ None → k0 ≡ record k { memories = k0.memories; current = None } → frame_count k0 ≡ frame_count k → state_of k0 h1 ≡ state_of k h → n ≡ (k0.clock + 1) % CLOCK_ROUND
-    → k'.table ≡ each_changed (woken on.Clock) k0.table → k' ≡ record (clocked n k0) { table = k'.table } → (IsSound (clocked n k0) h1 → IsSound k' h1) → state_of k' h1 ≡ state_of (clocked n k0) h1 → HasTicked k h k' h1
+pub has-ticked : (k k0 k' : Kernel) (h h1 : Hart) (n : ℕ) → IsSound k0 h1 → k0.current ≡ None
+    → k0 ≡ record k { memories = k0.memories; current = None } → frame_count k0 ≡ frame_count k → state_of k0 h1 ≡ state_of k h
+    → n ≡ (k0.clock + 1) % CLOCK_ROUND
+    → k'.table ≡ each_changed (woken on.Clock) k0.table → k' ≡ record (clocked n k0) { table = k'.table }
+    → (IsSound (clocked n k0) h1 → IsSound k' h1) → state_of k' h1 ≡ state_of (clocked n k0) h1 → HasTicked k h k' h1
 has-ticked k k0 k' h h1 n sound0 stopped0 rest0 frames0 state0 count table rest sound state = record {
   sound = sound (clocked-sound k0 h1 n sound0);
   stopped = ap (λ (y : Kernel). y.current) rest ∙ stopped0;

@@ -24,17 +24,13 @@ use Rattle.kcall_core.specs.Touched.{IsTouched, HasFaulted}
 use Rattle.kcall_core.specs.declared.kernel.Kernel.{Kernel}
 use Rattle.kcall_core.specs.declared.memories.Memories.{Memories}
 use Rattle.kcall_core.proofs.table.States.{running}
-use Rattle.kernel_spec.proofs.memory.OnAbsent.{not_on_absent, page_not_on_absent, before_same, before_fault, before_touched, before_untouched, off_absent_once_touched, done_once_touched, faults_on_data, is_on_absent}
+use Rattle.kernel_spec.proofs.memory.OnAbsent.{not_on_absent, page_not_on_absent, before_same, before_fault, before_touched}
+use Rattle.kernel_spec.proofs.memory.OnAbsent.{before_untouched, off_absent_once_touched, done_once_touched, faults_on_data, is_on_absent}
 use Rattle.kcall_core.proofs.making.Instructions.{step-done, step-stays}
 use Rattle.kcall_core.proofs.making.Staying.{still-runs, stays-view, makes-from}
+use Rattle.kcall_core.proofs.memory.Stepping.{ecall-no-fault}
 
 -- ---- an instruction that doesn't fault
-
-pub next-no-fault : (cause : Cause) → stops.Next ≢ stops.Fault cause
-next-no-fault cause e = cc
-
-pub ecall-no-fault : (cause : Cause) → stops.Ecall ≢ stops.Fault cause
-ecall-no-fault cause e = cc
 
 pub fault-no-next : (cause : Cause) → stops.Fault cause ≢ stops.Next
 fault-no-next cause e = cc
@@ -67,7 +63,8 @@ pub record IsTried (cause : Cause) (k : Kernel) (h : Hart) (k' : Kernel) (h' : H
   pub same : StillRuns k h k' h'
   pub faulted : HasFaulted cause k' h'
 
-pub tried-here : (k : Kernel) (new : Memories) (h h' : Hart) (stop : Stop) → IsWhole k h → IsRunning k → Steps k.memories new (slot_now k) h h' stop → (cause : Cause) → stop ≡ stops.Fault cause → IsTried cause k h (record k { memories = new }) h'
+pub tried-here : (k : Kernel) (new : Memories) (h h' : Hart) (stop : Stop) → IsWhole k h → IsRunning k → Steps k.memories new (slot_now k) h h' stop
+    → (cause : Cause) → stop ≡ stops.Fault cause → IsTried cause k h (record k { memories = new }) h'
 tried-here k new h h' stop whole runs s cause is =
     let stays = step-stays k new h h' stop whole runs s (λ e. fault-no-next cause (sym is ∙ e)) in
     let same = still-runs k (record k { memories = new }) h h' whole.sound runs stays in
@@ -105,7 +102,8 @@ module _ (k : Kernel) (new : Memories) (h h' : Hart) (stop : Stop) (whole : IsWh
   plain-same other = still-runs k (record k { memories = new }) h h' whole.sound runs (plain-stays other)
 
 -- what is made of its next instruction behind is made of it from before
-pub made-before : (k k' : Kernel) (h h' : Hart) (last : Kernel) (hart : Hart) → IsWhole k h → IsRunning k → Stays k h k' h' → Makes k' h' (own (view_now k' h')) last hart → Makes k h (own (view_now k h)) last hart
+pub made-before : (k k' : Kernel) (h h' : Hart) (last : Kernel) (hart : Hart) → IsWhole k h → IsRunning k → Stays k h k' h'
+    → Makes k' h' (own (view_now k' h')) last hart → Makes k h (own (view_now k h)) last hart
 made-before k k' h h' last hart whole runs stays made =
     subst (λ v. Makes k h (own v) last hart) (stays-view k k' h h' whole.sound runs stays) (makes-from k k' h h' whole.sound runs stays (own (view_now k' h')) last hart made)
 

@@ -21,7 +21,7 @@ use Rattle.kcall_core.specs.Touched.{IsTouched, IsReady, IsUnready}
 use Rattle.kcall_core.specs.declared.kernel.Kernel.{Kernel}
 use Rattle.kcall_core.specs.declared.memories.Memories.{Memories}
 use Rattle.kernel_spec.proofs.rows.Settled.{brought-none, touch-view, touch-dear, there-ready, ready-there}
-use Rattle.kernel_spec.proofs.steps.Change.{view_alone}
+use Rattle.kernel_spec.proofs.steps.ChangeIsSeen.{view_alone}
 use Rattle.kcall_core.proofs.table.States.{running}
 use Rattle.kcall_core.proofs.table.Stops.{now-slot}
 use Rattle.kcall_core.proofs.turns.Turned.{live-is}
@@ -60,7 +60,8 @@ module _ {k : Kernel} {h : Hart} (whole : IsWhole k h) (runs : IsRunning k) wher
       let fits : price (brought pages l.image) ≤ price l.image + s.free = omega (arith, has.state.free) in
       let free : s.free + price l.image - price (brought pages l.image) ≡ (state_of k' h).free = omega (arith, has.state.free) in
       let seen : view_now k' h ≡ record (view_now k h) { image = brought pages l.image; free = (state_of k' h).free } =
-      (λ i. view_of (has.state.state i) (only-pid whole runs x i) (has.live i)) ∙ sym (view_alone s (pid_now k) l (live-is k h whole.sound runs) l.regs (brought pages l.image) l.call l.killed s.console (state_of k' h).free) in
+      (λ i. view_of (has.state.state i) (only-pid whole runs x i) (has.live i))
+      ∙ sym (view_alone s (pid_now k) l (live-is k h whole.sound runs) l.regs (brought pages l.image) l.call l.killed s.console (state_of k' h).free) in
       record {
         whole = only-whole whole runs x;
         running = ap is_some x.current ∙ runs;
@@ -136,7 +137,8 @@ module _ {k : Kernel} {h : Hart} {slot : ℕ} (whole : IsWhole k h) (is : k.curr
 
   pub unready-dear : let image = (held_at (each_of k.memories) slot).image in price image + free_of k.memories < price (brought (pages_at a n) image) + spare → IsUnready a n spare k h
   unfolding state_of
-  unready-dear dear = inr (subst (λ (i : ℕ). price (held_at (each_of k.memories) i).image + free_of k.memories < price (brought (pages_at a n) (held_at (each_of k.memories) i).image) + spare) at-slot dear)
+  unready-dear dear = inr (subst (λ (i : ℕ). price (held_at (each_of k.memories) i).image + free_of k.memories < price
+      (brought (pages_at a n) (held_at (each_of k.memories) i).image) + spare) at-slot dear)
 
   pub ready-came : {m : Memories} → writable (held_at (each_of k.memories) slot).image a n ≡ true
       → (let held = held_at (each_of k.memories) slot in SlotChanges k.memories m slot (Some (with_image (brought (pages_at a n) held.image) held)))
@@ -157,11 +159,13 @@ module _ {k : Kernel} {h : Hart} {slot : ℕ} (whole : IsWhole k h) (is : k.curr
   pub page-absent : (v : ℕ) (b : Bool) → is_absent (held_at (each_of k.memories) slot).image v ≡ b → is_absent (live_now k h).image v ≡ b
   page-absent v b e = (λ i. is_absent (held_at (each_of k.memories) (sym (now-slot slot whole.sound is) i)).image v) ∙ e
 
-  pub page-dear : (address : ℕ) → (let image = (held_at (each_of k.memories) slot).image in price image + free_of k.memories < price (brought (pages_at address 1) image) + 0) → touch (pages_at address 1) (view_now k h) ≡ None
+  pub page-dear : (address : ℕ) → (let image = (held_at (each_of k.memories) slot).image in
+      price image + free_of k.memories < price (brought (pages_at address 1) image) + 0) → touch (pages_at address 1) (view_now k h) ≡ None
   unfolding view_of state_of
   page-dear address dear =
       touch-dear (view_now k h) (pages_at address 1)
-      (subst (λ (i : ℕ). price (held_at (each_of k.memories) i).image + free_of k.memories < price (brought (pages_at address 1) (held_at (each_of k.memories) i).image)) (now-slot slot whole.sound is) (omega (arith, dear)))
+      (subst (λ (i : ℕ). price (held_at (each_of k.memories) i).image + free_of k.memories < price
+      (brought (pages_at address 1) (held_at (each_of k.memories) i).image)) (now-slot slot whole.sound is) (omega (arith, dear)))
 
   pub page-came : (address : ℕ) {m : Memories} → (let held = held_at (each_of k.memories) slot in SlotChanges k.memories m slot (Some (with_image (brought (pages_at address 1) held.image) held)))
       → ((hart : Hart) → RunsIn k.memories slot hart → RunsIn m slot hart) → IsTouched (pages_at address 1) k h (record k { memories = m }) h

@@ -1,5 +1,5 @@
 -- How the instruction of the process that runs ends, seen in the view before it: no page comes where it isn't done, and what comes changes the image and the free frames alone.
-use Rattle.std.proofs.Common.{◌≡◌, ◌≢◌, Bool, true, false, [], ◌∷◌, Option, Some, None, refl, sym, ap, ◌∙◌, subst}
+use Rattle.std.proofs.Common.{◌≡◌, ◌≢◌, Bool, true, false, [], ◌∷◌, Option, Some, None, refl, ap, ◌∙◌}
 use Rattle.xk_base.specs.declared.access.Cause.{Cause}
 use Rattle.rv64i_core.specs.Registers.{Registers}
 use Rattle.rv64i_core.specs.Memory.{Store}
@@ -19,21 +19,10 @@ use Rattle.kcall_core.specs.Makes.{view_now, stop_now}
 use Rattle.kcall_core.specs.declared.kernel.Kernel.{Kernel}
 use Rattle.kernel_spec.proofs.memory.OnAbsent.{before_same, before_touched, before_untouched, done_once_touched, next_of_stop, is_on_absent}
 use Rattle.kernel_spec.proofs.rows.Settled.{touch-comes}
-use Rattle.kcall_core.proofs.making.TouchedSteps.{own-is, fault-of}
+use Rattle.kcall_core.proofs.making.TouchedSteps.{own-is, fault-of, fault-no-next}
+use Rattle.kcall_core.proofs.making.Series.{ecall-next}
 
 -- ---- the view in which it is done
-
--- only the image and the free frames of a view are others
-abbrev pub OnlyPages : View → View → Type 0
-OnlyPages v t = t ≡ record v { image = t.image; free = t.free }
-
-pub before-pages : (v : View) → OnlyPages v (before_instruction v)
-before-pages v = by (is_on_absent v.regs v.image) refl (touch (page_used v.regs v.image ∷ []) v) refl
-  where
-    by : (b : Bool) → is_on_absent v.regs v.image ≡ b → (o : Option View) → touch (page_used v.regs v.image ∷ []) v ≡ o → OnlyPages v (before_instruction v)
-    by false off o come = subst (OnlyPages v) (sym (before_same v off)) refl
-    by true on None come = subst (OnlyPages v) (sym (before_untouched v come)) refl
-    by true on (Some t) come = subst (OnlyPages v) (sym (before_touched v t on come)) (touch-comes (page_used v.regs v.image ∷ []) v t come).view
 
 -- an instruction that isn't done is on no absent page that comes
 pub undone-before : (v : View) → stop_of (instruction_now v) ≢ stops.Next → before_instruction v ≡ v
@@ -59,7 +48,8 @@ module _ (k : Kernel) (h : Hart) where
   own-now free = own-is (view_now k h) free.0 free.1
 
   -- it is done
-  pub next-now : laws.IsBetweenCalls (live_now k h) → stop_now k h ≡ stops.Next → (r : Registers) × (st : Option Store) × (own (view_now k h) ≡ goes_on Stepped (stored (before_instruction (view_now k h)) r st))
+  pub next-now : laws.IsBetweenCalls (live_now k h) → stop_now k h ≡ stops.Next
+      → (r : Registers) × (st : Option Store) × (own (view_now k h) ≡ goes_on Stepped (stored (before_instruction (view_now k h)) r st))
   next-now free next =
       let n = next_of_stop (instruction_now (view_now k h)) next in
       (n.0, n.1, own-now free ∙ ap (after_instruction (before_instruction (view_now k h))) n.2)
@@ -74,18 +64,12 @@ module _ (k : Kernel) (h : Hart) where
   ecall-of Ecall e = refl
   ecall-of (Fault cause) e = let no : ⊥ = cc in absurd no
 
-  ecall-next : stops.Ecall ≢ stops.Next
-  ecall-next e = cc
-
   -- it is an ECALL
   pub ecall-now : stops.Ecall ≡ stop_now k h → next_instruction (live_now k h).regs (live_now k h).image ≡ Ecall
   ecall-now ends = ecall-of (next_instruction (live_now k h).regs (live_now k h).image) (undone-stop stops.Ecall ends ecall-next)
 
-  fault-next : (cause : Cause) → stops.Fault cause ≢ stops.Next
-  fault-next cause e = cc
-
   -- it faults, and the process ends
   pub fault-now : (cause : Cause) → laws.IsBetweenCalls (live_now k h) → stops.Fault cause ≡ stop_now k h → own (view_now k h) ≡ gone (Faulted cause) (view_now k h)
   fault-now cause free ends =
-      let same = undone-before (view_now k h) (λ e. fault-next cause (ends ∙ e)) in
+      let same = undone-before (view_now k h) (λ e. fault-no-next cause (ends ∙ e)) in
       own-now free ∙ ap (after_instruction (before_instruction (view_now k h))) (fault-of (instruction_now (view_now k h)) cause ends) ∙ ap (gone (Faulted cause)) same

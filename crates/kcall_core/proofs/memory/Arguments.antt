@@ -3,13 +3,13 @@ use Rattle.std.proofs.Common.{◌≡◌, ◌≢◌, ℕ, zero, suc, ◌+◌, ◌
 use Rattle.std.specs.Prelude.{Bool, true, false, nat_eq, is_ok, OnOk, option_map, if◌then◌else◌, nat_lt}
 use Rattle.xk_base.specs.Bytes.{image_byte}
 use Rattle.xk_base.specs.declared.access.Access.TheVariants.{Load}
-use Rattle.std.proofs.lemmas.Bool.{cases_lt, eq-eqb, ne_eqb, false≢true}
+use Rattle.std.proofs.lemmas.Bool.{cases_lt, eq-eqb, ne_eqb, false≢true, le-ltb}
 use Rattle.std.proofs.lemmas.List.{append_assoc, append-nil, length-append}
+use Rattle.std.proofs.lemmas.Option.{none-some, same_Some}
 use Rattle.xk_base.specs.Image.{Image}
 use Rattle.xk_base.specs.declared.limits.TheConstants.{MAXARG, ARG_BYTES}
 use Rattle.xk_base.specs.declared.errors.ExecError.{ExecError}
 use Rattle.xk_base.specs.declared.errors.ExecError.TheVariants.{TooManyArgs, ArgsTooLong}
-use Rattle.sv39_core.proofs.Words.{ltb-no}
 use Rattle.exec_core.specs.ArgTexts.{terminated, push_refusal}
 use Rattle.kernel_spec.specs.rows.Buffers.{text_at, text_from, texts_at, texts_from, with_text, pointer_at, may_touching}
 
@@ -47,12 +47,6 @@ pub record Reading (whole : Option (List (List ℕ))) (i : Image) (texts : List 
   pub texts_read : whole ≡ behind texts (texts_at more ARG_BYTES i at)
   pub count : length texts + more ≡ MAXARG
 
-no-some : {X : Type 0} (x : X) → None ≡ Some x → ⊥
-no-some x e = cc
-
-pub same-some : {X : Type 0} (x y : X) → Some x ≡ Some y → x ≡ y
-same-some x y e = cc
-
 all-here : (texts : List (List ℕ)) → behind texts (Some []) ≡ Some texts
 all-here texts = ap Some (append-nil texts)
 
@@ -75,8 +69,9 @@ push-long texts text e few refused = elim (cases_lt ARG_BYTES (length (terminate
 
     fits : length (terminated (texts ++ text ∷ [])) ≤ ARG_BYTES → push_refusal texts text ≡ done
     fits short =
-        ap (λ b. if b then Err TooManyArgs else if nat_lt ARG_BYTES (length (terminated (texts ++ text ∷ []))) then Err ArgsTooLong else Ok tt) (ne_eqb (length texts) MAXARG (λ is. absurd (omega (arith, is, few))))
-        ∙ ap (λ b. if b then Err ArgsTooLong else Ok tt) (ltb-no ARG_BYTES (length (terminated (texts ++ text ∷ []))) short)
+        ap (λ b. if b then Err TooManyArgs else if nat_lt ARG_BYTES (length (terminated (texts ++ text ∷ []))) then Err ArgsTooLong else Ok tt)
+        (ne_eqb (length texts) MAXARG (λ is. absurd (omega (arith, is, few))))
+        ∙ ap (λ b. if b then Err ArgsTooLong else Ok tt) (le-ltb ARG_BYTES (length (terminated (texts ++ text ∷ []))) short)
 
 longer : (xs ys : List (List ℕ)) → length (terminated xs) ≤ length (terminated (xs ++ ys))
 longer [] ys = omega arith
@@ -85,7 +80,7 @@ longer (x ∷ xs) ys = omega (arith, longer xs ys, length-append (x ++ 0 ∷ [])
 module _ {whole : Option (List (List ℕ))} {i : Image} {texts : List (List ℕ)} {more at : ℕ} (r : Reading whole i texts more at) where
   -- the pointer can't be read
   pub no-pointer : pointer_at i at ≡ None → (xs : List (List ℕ)) → whole ≡ Some xs → ARG_BYTES < length (terminated xs)
-  no-pointer none xs is = absurd (no-some xs (sym (r.texts_read ∙ ap (behind texts) (from-none i ARG_BYTES at more none)) ∙ is))
+  no-pointer none xs is = absurd (none-some xs (sym (r.texts_read ∙ ap (behind texts) (from-none i ARG_BYTES at more none)) ∙ is))
 
   -- a null pointer
   pub all-read : (p : ℕ) → pointer_at i at ≡ Some p → p ≡ 0 → whole ≡ Some texts
@@ -93,7 +88,7 @@ module _ {whole : Option (List (List ℕ))} {i : Image} {texts : List (List ℕ)
 
   -- one text too many
   pub too-many : (p : ℕ) → more ≡ 0 → pointer_at i at ≡ Some p → p ≢ 0 → (xs : List (List ℕ)) → whole ≡ Some xs → ARG_BYTES < length (terminated xs)
-  too-many p none is some xs e = absurd (no-some xs (sym (r.texts_read ∙ ap (behind texts) (ap (λ n. texts_at n ARG_BYTES i at) none ∙ from-more i ARG_BYTES at p is some)) ∙ e))
+  too-many p none is some xs e = absurd (none-some xs (sym (r.texts_read ∙ ap (behind texts) (ap (λ n. texts_at n ARG_BYTES i at) none ∙ from-more i ARG_BYTES at p is some)) ∙ e))
 
   next : (p : ℕ) → 0 < more → pointer_at i at ≡ Some p → p ≢ 0 → whole ≡ behind texts (with_text (text_at ARG_BYTES i p) (texts_at (more - 1) ARG_BYTES i (at + 8)))
   next p lt is some =
@@ -102,13 +97,15 @@ module _ {whole : Option (List (List ℕ))} {i : Image} {texts : List (List ℕ)
 
   -- the text can't be read
   pub no-text : (p : ℕ) → 0 < more → pointer_at i at ≡ Some p → p ≢ 0 → text_at ARG_BYTES i p ≡ None → (xs : List (List ℕ)) → whole ≡ Some xs → ARG_BYTES < length (terminated xs)
-  no-text p lt is some none xs e = absurd (no-some xs (sym (next p lt is some ∙ ap (λ o. behind texts (with_text o (texts_at (more - 1) ARG_BYTES i (at + 8)))) none) ∙ e))
+  no-text p lt is some none xs e = absurd (none-some xs (sym (next p lt is some ∙ ap (λ o. behind texts (with_text o (texts_at (more - 1) ARG_BYTES i (at + 8)))) none) ∙ e))
 
   taken : (p : ℕ) (text : List ℕ) → 0 < more → pointer_at i at ≡ Some p → p ≢ 0 → text_at ARG_BYTES i p ≡ Some text → whole ≡ behind (texts ++ text ∷ []) (texts_at (more - 1) ARG_BYTES i (at + 8))
-  taken p text lt is some there = next p lt is some ∙ ap (λ o. behind texts (with_text o (texts_at (more - 1) ARG_BYTES i (at + 8)))) there ∙ one-behind texts text (texts_at (more - 1) ARG_BYTES i (at + 8))
+  taken p text lt is some there = next p lt is some ∙ ap (λ o. behind texts (with_text o (texts_at (more - 1) ARG_BYTES i (at + 8)))) there
+      ∙ one-behind texts text (texts_at (more - 1) ARG_BYTES i (at + 8))
 
   -- one text more is read
-  pub reading-next : (p : ℕ) (text : List ℕ) (texts' : List (List ℕ)) (more' at' : ℕ) → 0 < more → pointer_at i at ≡ Some p → p ≢ 0 → text_at ARG_BYTES i p ≡ Some text → texts' ≡ texts ++ text ∷ [] → more' + 1 ≡ more → at' ≡ at + 8
+  pub reading-next : (p : ℕ) (text : List ℕ) (texts' : List (List ℕ)) (more' at' : ℕ) → 0 < more → pointer_at i at ≡ Some p → p ≢ 0
+      → text_at ARG_BYTES i p ≡ Some text → texts' ≡ texts ++ text ∷ [] → more' + 1 ≡ more → at' ≡ at + 8
       → Reading whole i texts' more' at'
   reading-next p text texts' more' at' lt is some there added fewer on =
       let e : more - 1 ≡ more' = omega (arith, fewer) in
@@ -118,15 +115,18 @@ module _ {whole : Option (List (List ℕ))} {i : Image} {texts : List (List ℕ)
       }
 
   -- the texts are too long together
-  pub too-long : (p : ℕ) (text : List ℕ) → 0 < more → pointer_at i at ≡ Some p → p ≢ 0 → text_at ARG_BYTES i p ≡ Some text → ARG_BYTES < length (terminated (texts ++ text ∷ [])) → (xs : List (List ℕ)) → whole ≡ Some xs → ARG_BYTES < length (terminated xs)
+  pub too-long : (p : ℕ) (text : List ℕ) → 0 < more → pointer_at i at ≡ Some p → p ≢ 0 → text_at ARG_BYTES i p ≡ Some text
+      → ARG_BYTES < length (terminated (texts ++ text ∷ [])) → (xs : List (List ℕ)) → whole ≡ Some xs → ARG_BYTES < length (terminated xs)
   too-long p text lt is some there long xs e = by (texts_at (more - 1) ARG_BYTES i (at + 8)) (sym (taken p text lt is some there) ∙ e)
     where
       by : (o : Option (List (List ℕ))) → behind (texts ++ text ∷ []) o ≡ Some xs → ARG_BYTES < length (terminated xs)
-      by None is = absurd (no-some xs is)
-      by (Some rest) is = omega (arith, long, longer (texts ++ text ∷ []) rest, ap (λ ys. length (terminated ys)) (same-some _ _ is))
+      by None is = absurd (none-some xs is)
+      by (Some rest) is = omega (arith, long, longer (texts ++ text ∷ []) rest, ap (λ ys. length (terminated ys)) (same_Some _ _ is))
 
   -- the text can't be read, or the list doesn't take it
-  pub no-more : (p : ℕ) → 0 < more → pointer_at i at ≡ Some p → p ≢ 0 → ((text : List ℕ) → text_at ARG_BYTES i p ≡ Some text → (e : ExecError) × (push_refusal texts text ≡ Err e)) → (xs : List (List ℕ)) → whole ≡ Some xs → ARG_BYTES < length (terminated xs)
+  pub no-more : (p : ℕ) → 0 < more → pointer_at i at ≡ Some p → p ≢ 0
+      → ((text : List ℕ) → text_at ARG_BYTES i p ≡ Some text → (e : ExecError) × (push_refusal texts text ≡ Err e)) → (xs : List (List ℕ))
+      → whole ≡ Some xs → ARG_BYTES < length (terminated xs)
   no-more p lt is some refused xs e = by (text_at ARG_BYTES i p) refl
     where
       by : (o : Option (List ℕ)) → text_at ARG_BYTES i p ≡ o → ARG_BYTES < length (terminated xs)
@@ -150,7 +150,8 @@ text-longer (suc n) k i a text is =
     ends true w = w
     ends false w = absurd (cc)
 
-    rest : ((later : List ℕ) → text_at n i (a + 1) ≡ Some later → text_at (n + k) i (a + 1) ≡ Some later) → (o : Option (List ℕ)) → text_at n i (a + 1) ≡ o → text_from (image_byte i a) o ≡ Some text → text_from (image_byte i a) (text_at (n + k) i (a + 1)) ≡ Some text
+    rest : ((later : List ℕ) → text_at n i (a + 1) ≡ Some later → text_at (n + k) i (a + 1) ≡ Some later) → (o : Option (List ℕ))
+        → text_at n i (a + 1) ≡ o → text_from (image_byte i a) o ≡ Some text → text_from (image_byte i a) (text_at (n + k) i (a + 1)) ≡ Some text
     rest more None e w = ends (nat_eq (image_byte i a) 0) w
     rest more (Some later) e w = ap (text_from (image_byte i a)) (more later e) ∙ w
 

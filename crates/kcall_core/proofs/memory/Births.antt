@@ -1,8 +1,10 @@
 -- A vacant slot gets a memory made of free frames; a call that is refused.
-use Rattle.std.proofs.Common.{◌≡◌, ℕ, zero, suc, ◌+◌, ◌%◌, ◌<◌, Bool, true, false, cond, List, [], ◌∷◌, ◌++◌, length, set, get_or, map, replicate, Option, Some, None, Result, Ok, Err, IfOk, IfErr, IsSome, inl, inr, refl, sym, ap, ◌∙◌, subst, arith}
-use Rattle.std.proofs.lemmas.Bool.{cases_lt}
+use Rattle.std.proofs.Common.{◌≡◌, ℕ, zero, suc, ◌+◌, ◌%◌, ◌<◌, Bool, false, cond, List, [], ◌∷◌, ◌++◌, length, set, get_or, map}
+use Rattle.std.proofs.Common.{replicate, Option, Some, None, Result, Ok, Err, IfOk, IfErr, IsSome, inl, inr, refl, sym, ap, ◌∙◌, subst, arith}
+use Rattle.std.proofs.lemmas.Bool.{cases_lt, true≢false}
 use Rattle.std.proofs.lemmas.List.{length-replicate}
 use Rattle.std.specs.FinMap.{empty}
+use Rattle.std.proofs.lemmas.Option.{none-some}
 use Rattle.xk_base.specs.Frames.{copies}
 use Rattle.xk_base.specs.Gathered.{gathered, insert_some}
 use Rattle.xk_base.specs.declared.limits.TheConstants.{NPROC}
@@ -28,10 +30,6 @@ use Rattle.kcall_core.proofs.memory.Frames.{saved-zero, slot-free, Stays, stays-
 use Rattle.kcall_core.proofs.memory.Changes.{each-at, trade-first, slot-filled, there-inside}
 
 -- ---- answers
-
-pub done : {X A B : Type 0} (r : Result X NoFrames) → IfOk r (λ _. A) → (A → B) → IfOk r (λ _. B)
-done (Ok u) a f = f a
-done (Err u) a f = tt
 
 pub done-both : {X A B C : Type 0} (r : Result X NoFrames) → IfOk r (λ _. A) → IfOk r (λ _. B) → (A → B → C) → IfOk r (λ _. C)
 done-both (Ok u) a b f = f a b
@@ -63,7 +61,8 @@ module _ {pool pool1 pool2 : Pool} {ram ram1 ram2 : List (List ℕ)} {t : ℕ} {
   born-whole = record { space = made.whole; aligned = ap (λ (r : Registers). r.pc % 4) born-saved }
 
 -- the slot gets this space, and a trapframe of zeros
-pub born : {old : Memories} {i : ℕ} {pool1 : Pool} {ram1 : List (List ℕ)} (new : Memories) (t : ℕ) (s : Space) (image : Image) → AreSound old → IsVacant (each_of old) i → Taken old.pool old.ram pool1 ram1 t → Made pool1 ram1 new.pool new.ram s → image_of new.ram s ≡ image
+pub born : {old : Memories} {i : ℕ} {pool1 : Pool} {ram1 : List (List ℕ)} (new : Memories) (t : ℕ) (s : Space) (image : Image) → AreSound old
+    → IsVacant (each_of old) i → Taken old.pool old.ram pool1 ram1 t → Made pool1 ram1 new.pool new.ram s → image_of new.ram s ≡ image
     → new.each.items ≡ set old.each.items i (Some (record { space = s; trapframe = t })) → new.pipes.items ≡ old.pipes.items → SlotChanges old new i (Some (record { image = image; saved = fresh 0 }))
 born {old} {i} new t s image sound vacant taken made is each pipes =
     let filled = slot-filled new (record { space = s; trapframe = t }) sound vacant (born-traded sound.good taken made) (born-whole sound.good taken made) each pipes in
@@ -73,7 +72,7 @@ born {old} {i} new t s image sound vacant taken made is each pipes =
 
 -- ---- the memory that is copied
 
-no-none : (ram : List (List ℕ)) (o : Option Memory) → IsSome (held_in ram o) → (m : Memory) × (o ≡ Some m)
+pub no-none : (ram : List (List ℕ)) (o : Option Memory) → IsSome (held_in ram o) → (m : Memory) × (o ≡ Some m)
 no-none ram None h = absurd (no h)
   where
     no : IsSome (held_in ram None) → ⊥
@@ -88,7 +87,8 @@ there-stands old i sound there =
 
 module _ {old : Memories} {i : ℕ} {m : Memory} {pool1 : Pool} {ram1 : List (List ℕ)} {t : ℕ} (s : Stands old i m) (taken : Taken old.pool old.ram pool1 ram1 t) where
   stays : Stays old.ram ram1 (Some m)
-  stays = subst (Stays old.ram ram1) s.is (stays-if old.pool pool1 old.ram ram1 [] (t ∷ []) (get_or old.each.items i None) taken.traded (s.sound.memories i) (λ f has. omega (arith, slot-free s.sound f i, has, copies-nil f)))
+  stays = subst (Stays old.ram ram1) s.is (stays-if old.pool pool1 old.ram ram1 [] (t ∷ []) (get_or old.each.items i None) taken.traded
+      (s.sound.memories i) (λ f has. omega (arith, slot-free s.sound f i, has, copies-nil f)))
 
   pub beside-belongs : Belongs pool1 ram1 m.space
   beside-belongs = record {
@@ -130,7 +130,8 @@ map-none f zero e = refl
 map-none f (suc n) e = ap (λ y. y ∷ map f (replicate n None)) e ∙ ap (λ l. None ∷ l) (map-none f n e)
 
 -- where all frames are free, no slot has a memory and no frame keeps a pipe, each frame is accounted for
-pub none-sound : (pool : Pool) (ram : List (List ℕ)) (ms : List (Option Memory)) (ps : List Bool) (n k : ℕ) → Good pool ram → ((f : ℕ) → f < length ram → copies f (free_in pool ram) ≡ 1) → n ≡ NPROC → k ≡ length ram → ms ≡ replicate n None → ps ≡ replicate k false
+pub none-sound : (pool : Pool) (ram : List (List ℕ)) (ms : List (Option Memory)) (ps : List Bool) (n k : ℕ) → Good pool ram
+    → ((f : ℕ) → f < length ram → copies f (free_in pool ram) ≡ 1) → n ≡ NPROC → k ≡ length ram → ms ≡ replicate n None → ps ≡ replicate k false
     → IsAccounted pool ram ms ps
 none-sound pool ram ms ps n k good free is_n is_k slots places =
     let processes : process_frames ram ms ≡ [] = ap (λ l. all_joined (map (slot_frames ram) l)) slots ∙ joined-none (slot_frames ram) n refl in
@@ -139,20 +140,14 @@ none-sound pool ram ms ps n k good free is_n is_k slots places =
       good = good;
       slots = ap length slots ∙ length-replicate n None ∙ is_n;
       places = ap length places ∙ length-replicate k false ∙ is_k;
-      memories = λ i m e. absurd (no-memory m (sym (ap (λ l. get_or l i None) slots ∙ get_or-same None n i) ∙ e));
-      keeps = λ f e. absurd (true-false (sym e ∙ pipes f));
+      memories = λ i m e. absurd (none-some m (sym (ap (λ l. get_or l i None) slots ∙ get_or-same None n i) ∙ e));
+      keeps = λ f e. absurd (true≢false (sym e ∙ pipes f));
       once = λ f inside. omega (arith, free f inside, ap (copies f) processes, ap count_if (pipes f), copies-nil f);
       inside = λ f outside. elim (cases_lt 0 (copies f (free_in pool ram))) [
         | inl some ↦ absurd (omega (arith, good.frames.inside f some, outside))
         | inr none ↦ omega (arith, none, ap (copies f) processes, ap count_if (pipes f), copies-nil f)
       ];
     }
-  where
-    no-memory : (m : Memory) → None ≡ Some m → ⊥
-    no-memory m e = cc
-
-    true-false : true ≡ false → ⊥
-    true-false e = cc
 
 -- there are no pipes
 pub no-pipes : (ram : List (List ℕ)) (ps : List Bool) (k n : ℕ) → ps ≡ replicate k false → gathered (kept_pipe ram ps) n ≡ empty

@@ -1,8 +1,9 @@
 -- The one law of the memories: a change that moves frames only between the free ones and one owner changes that owner alone.
-use Rattle.std.proofs.Common.{◌≡◌, ◌≢◌, ℕ, zero, suc, ◌+◌, ◌%◌, ◌<◌, List, [], ◌∷◌, length, set, get_or, map, Bool, true, false, Option, Some, None, IsSome, inl, inr, refl, sym, ap, ◌∙◌, subst, arith}
-use Rattle.std.proofs.lemmas.Bool.{cases_eq}
+use Rattle.std.proofs.Common.{◌≡◌, ◌≢◌, ℕ, zero, suc, ◌+◌, ◌%◌, ◌<◌, List, [], ◌∷◌, length, set, get_or, map, Bool, true, Option, Some, None, IsSome, inl, inr, refl, sym, ap, ◌∙◌, subst, arith}
+use Rattle.std.proofs.lemmas.Bool.{cases_eq, false≢true}
 use Rattle.std.proofs.lemmas.List.{get_or-set_same, get_or-set_other, get_or_read, length-set, length-map}
 use Rattle.std.proofs.Math.ListN.{get_or-map}
+use Rattle.std.proofs.lemmas.Option.{none-some, same_Some}
 use Rattle.xk_base.specs.Frames.{copies}
 use Rattle.xk_base.specs.Gathered.{gathered}
 use Rattle.xk_base.specs.declared.limits.TheConstants.{FRAMES_MAX}
@@ -19,12 +20,14 @@ use Rattle.rv64i_core.specs.Registers.{Registers}
 use Rattle.hart_core.specs.Trapframe.{saved}
 use Rattle.hart_core.specs.declared.hart.Hart.{Hart}
 use Rattle.kcall_core.specs.Holdings.{Held, held_at, or_nothing, HasMemory, IsVacant, with_image, held_cost}
-use Rattle.kcall_core.specs.Memories.{held_in, keeps_pipe, kept_pipe, slot_frames, all_joined, process_frames, IsMemory, IsAccounted, AreSound, Stands, each_of, pipes_of, free_of, RunsIn, SlotChanges, Same}
+use Rattle.kcall_core.specs.Memories.{held_in, keeps_pipe, kept_pipe, slot_frames, all_joined, process_frames, IsMemory, IsAccounted}
+use Rattle.kcall_core.specs.Memories.{AreSound, Stands, each_of, pipes_of, free_of, RunsIn, SlotChanges, Same}
 use Rattle.kcall_core.specs.declared.memories.Memory.{Memory}
 use Rattle.kcall_core.specs.declared.memories.Memories.{Memories}
 use Rattle.kcall_core.proofs.memory.Lists.{map-same, map-set_one}
 use Rattle.kcall_core.proofs.memory.Joined.{joined-set}
-use Rattle.kcall_core.proofs.memory.Frames.{saved-same, fits-stay, frames-at, slot-free, slot-inside, pipe-free, slots-apart, pipe-apart, Stays, stays-if, PipeStays, pipe-stays-if, pipes-seen, cost-frames}
+use Rattle.kcall_core.proofs.memory.Frames.{saved-same, fits-stay, frames-at, slot-free, slot-inside, pipe-free, slots-apart}
+use Rattle.kcall_core.proofs.memory.Frames.{pipe-apart, Stays, stays-if, PipeStays, pipe-stays-if, pipes-seen, cost-frames}
 
 -- ---- one slot
 
@@ -68,23 +71,19 @@ module _ {pool pool' : Pool} {ram ram' : List (List ℕ)} {ms : List (Option Mem
   free-after =
       omega (arith, trade-lengths pool pool' ram ram' (slot_frames ram (get_or ms i None)) (slot_frames ram' m) traded, cost-frames ram' m is, cost-frames ram (get_or ms i None) (sound.memories i))
 
-same-some : {X : Type 0} (x y : X) → Some x ≡ Some y → x ≡ y
-same-some x y e = cc
-
-no-some : {X : Type 0} (x : X) → None ≡ Some x → ⊥
-no-some x e = cc
-
 -- the memory in a slot, as it is seen
 pub each-at : (old : Memories) (i : ℕ) → get_or (each_of old) i None ≡ held_in old.ram (get_or old.each.items i None)
 unfolding each_of
 each-at old i = get_or-map (held_in old.ram) old.each.items i None
 
 -- the memory in a slot is another
-pub slot-changes : (old new : Memories) (i : ℕ) (m : Option Memory) → AreSound old → i < length old.each.items → Traded old.pool old.ram new.pool new.ram (slot_frames old.ram (get_or old.each.items i None)) (slot_frames new.ram m)
+pub slot-changes : (old new : Memories) (i : ℕ) (m : Option Memory) → AreSound old → i < length old.each.items
+    → Traded old.pool old.ram new.pool new.ram (slot_frames old.ram (get_or old.each.items i None)) (slot_frames new.ram m)
     → ((n : Memory) → m ≡ Some n → IsMemory new.ram n) → new.each.items ≡ set old.each.items i m → new.pipes.items ≡ old.pipes.items → SlotChanges old new i (held_in new.ram m)
 unfolding each_of pipes_of free_of
 slot-changes old new i m sound lt traded is each pipes = record {
-  sound = subst (λ e. IsAccounted new.pool new.ram e new.pipes.items) (sym each) (subst (λ p. IsAccounted new.pool new.ram (set old.each.items i m) p) (sym pipes) (sound-after i m sound lt traded is));
+  sound = subst (λ e. IsAccounted new.pool new.ram e new.pipes.items) (sym each)
+      (subst (λ p. IsAccounted new.pool new.ram (set old.each.items i m) p) (sym pipes) (sound-after i m sound lt traded is));
   each = ap (map (held_in new.ram)) each ∙ each-after i m sound lt traded is;
   pipes = ap (λ l. gathered (kept_pipe new.ram l) FRAMES_MAX) pipes ∙ pipes-after i m sound lt traded is FRAMES_MAX;
   free = omega (arith, free-after i m sound lt traded is, ap held_cost (get_or-map (held_in old.ram) old.each.items i None));
@@ -182,30 +181,36 @@ image-seen {old} {i} {m} s = ap (λ (h : Held). h.image) (held-seen s)
 pub cost-seen : {old : Memories} {i : ℕ} {m : Memory} → Stands old i m → held_cost (get_or (each_of old) i None) ≡ price (image_of old.ram m.space) + 1
 cost-seen {old} {i} {m} s = ap held_cost (each-at old i ∙ ap (held_in old.ram) s.is)
 
-pub space-changes : {old : Memories} {i : ℕ} {m : Memory} (new : Memories) (space' : Space) (image : Image) → Stands old i m → Changed old.pool old.ram m.space new.pool new.ram space' → image_of new.ram space' ≡ image
-    → new.each.items ≡ set old.each.items i (Some (record { space = space'; trapframe = m.trapframe })) → new.pipes.items ≡ old.pipes.items → SlotChanges old new i (Some (with_image image (held_at (each_of old) i)))
+pub space-changes : {old : Memories} {i : ℕ} {m : Memory} (new : Memories) (space' : Space) (image : Image) → Stands old i m
+    → Changed old.pool old.ram m.space new.pool new.ram space' → image_of new.ram space' ≡ image
+    → new.each.items ≡ set old.each.items i (Some (record { space = space'; trapframe = m.trapframe })) → new.pipes.items ≡ old.pipes.items
+    → SlotChanges old new i (Some (with_image image (held_at (each_of old) i)))
 space-changes {old} {i} {m} new space' image s changed is_image each pipes =
     let after : Memory = record { space = space'; trapframe = m.trapframe } in
     let apart = trapframe-apart s in
     let registers : saved new.ram m.trapframe ≡ saved old.ram m.trapframe = saved-same old.ram new.ram m.trapframe (changed.traded.others m.trapframe apart.0 apart.1) in
     let whole : IsMemory new.ram after = record { space = changed.whole; aligned = ap (λ (r : Registers). r.pc % 4) registers ∙ (s.sound.memories i m s.is).aligned } in
     let traded : Traded old.pool old.ram new.pool new.ram (slot_frames old.ram (get_or old.each.items i None)) (slot_frames new.ram (Some after)) =
-    subst (λ o. Traded old.pool old.ram new.pool new.ram (slot_frames old.ram o) (slot_frames new.ram (Some after))) (sym s.is) (trade-first old.pool new.pool old.ram new.ram (space.frames_of old.ram m.space) (space.frames_of new.ram space') m.trapframe changed.traded) in
-    let changes = slot-changes old new i (Some after) s.sound s.inside traded (λ n e. subst (IsMemory new.ram) (same-some after n e) whole) each pipes in
-    let seen : held_in new.ram (Some after) ≡ Some (with_image image (record { image = image_of old.ram m.space; saved = saved old.ram m.trapframe })) = λ k. Some (record { image = is_image k; saved = registers k }) in
+    subst (λ o. Traded old.pool old.ram new.pool new.ram (slot_frames old.ram o) (slot_frames new.ram (Some after))) (sym s.is)
+    (trade-first old.pool new.pool old.ram new.ram (space.frames_of old.ram m.space) (space.frames_of new.ram space') m.trapframe changed.traded) in
+    let changes = slot-changes old new i (Some after) s.sound s.inside traded (λ n e. subst (IsMemory new.ram) (same_Some after n e) whole) each pipes in
+    let seen : held_in new.ram (Some after) ≡ Some (with_image image
+    (record { image = image_of old.ram m.space; saved = saved old.ram m.trapframe })) = λ k. Some (record { image = is_image k; saved = registers k }) in
     subst (λ h. SlotChanges old new i h) (seen ∙ ap (λ h. Some (with_image image h)) (sym (held-seen s))) changes
 
 -- ---- the memory of a slot goes
 
-pub slot-gone : {old : Memories} {i : ℕ} {m : Memory} (new : Memories) → Stands old i m → Traded old.pool old.ram new.pool new.ram (m.trapframe ∷ space.frames_of old.ram m.space) [] → new.each.items ≡ set old.each.items i None → new.pipes.items ≡ old.pipes.items → SlotChanges old new i None
+pub slot-gone : {old : Memories} {i : ℕ} {m : Memory} (new : Memories) → Stands old i m
+    → Traded old.pool old.ram new.pool new.ram (m.trapframe ∷ space.frames_of old.ram m.space) [] → new.each.items ≡ set old.each.items i None
+    → new.pipes.items ≡ old.pipes.items → SlotChanges old new i None
 slot-gone {old} {i} {m} new s traded each pipes =
-    slot-changes old new i None s.sound s.inside (subst (λ o. Traded old.pool old.ram new.pool new.ram (slot_frames old.ram o) []) (sym s.is) traded) (λ n e. absurd (no-some n e)) each pipes
+    slot-changes old new i None s.sound s.inside (subst (λ o. Traded old.pool old.ram new.pool new.ram (slot_frames old.ram o) []) (sym s.is) traded) (λ n e. absurd (none-some n e)) each pipes
 
 -- ---- a vacant slot gets a memory
 
-none-held : (ram : List (List ℕ)) (o : Option Memory) → held_in ram o ≡ None → o ≡ None
+pub none-held : (ram : List (List ℕ)) (o : Option Memory) → held_in ram o ≡ None → o ≡ None
 none-held ram None e = refl
-none-held ram (Some m) e = absurd (no-some (or_nothing (held_in ram (Some m))) (sym e))
+none-held ram (Some m) e = absurd (none-some (or_nothing (held_in ram (Some m))) (sym e))
 
 pub vacant-inside : (old : Memories) (i : ℕ) → IsVacant (each_of old) i → i < length old.each.items
 unfolding each_of
@@ -214,28 +219,24 @@ vacant-inside old i vacant = omega (arith, vacant.0, length-map old.each.items (
 pub vacant-is : (old : Memories) (i : ℕ) → IsVacant (each_of old) i → get_or old.each.items i None ≡ None
 vacant-is old i vacant = none-held old.ram (get_or old.each.items i None) (sym (each-at old i) ∙ vacant.1)
 
-pub slot-filled : {old : Memories} {i : ℕ} (new : Memories) (n : Memory) → AreSound old → IsVacant (each_of old) i → Traded old.pool old.ram new.pool new.ram [] (n.trapframe ∷ space.frames_of new.ram n.space) → IsMemory new.ram n
+pub slot-filled : {old : Memories} {i : ℕ} (new : Memories) (n : Memory) → AreSound old → IsVacant (each_of old) i
+    → Traded old.pool old.ram new.pool new.ram [] (n.trapframe ∷ space.frames_of new.ram n.space) → IsMemory new.ram n
     → new.each.items ≡ set old.each.items i (Some n) → new.pipes.items ≡ old.pipes.items → SlotChanges old new i (held_in new.ram (Some n))
 slot-filled {old} {i} new n sound vacant traded whole each pipes =
-    slot-changes old new i (Some n) sound (vacant-inside old i vacant) (subst (λ o. Traded old.pool old.ram new.pool new.ram (slot_frames old.ram o) (slot_frames new.ram (Some n))) (sym (vacant-is old i vacant)) traded)
-    (λ m e. subst (IsMemory new.ram) (same-some n m e) whole) each pipes
+    slot-changes old new i (Some n) sound (vacant-inside old i vacant)
+    (subst (λ o. Traded old.pool old.ram new.pool new.ram (slot_frames old.ram o) (slot_frames new.ram (Some n))) (sym (vacant-is old i vacant)) traded)
+    (λ m e. subst (IsMemory new.ram) (same_Some n m e) whole) each pipes
 
 -- ---- a slot that has a memory
 
 pub some-inside : {X : Type 0} (xs : List (Option X)) (i : ℕ) → IsSome (get_or xs i None) → i < length xs
-some-inside [] i h = absurd (false-true h)
-  where
-    false-true : false ≡ true → ⊥
-    false-true e = cc
+some-inside [] i h = absurd (false≢true h)
 some-inside (x ∷ xs) zero h = omega arith
 some-inside (x ∷ xs) (suc i) h = omega (arith, some-inside xs i h)
 
 -- what is read from a place that has something
 pub read-some : {X : Type 0} (xs : List (Option X)) (i : ℕ) (o : Option X) → IsSome (get_or xs i None) → o ≡ get_or xs i o → o ≡ None → ⊥
-read-some xs i o has read none = no-such (subst IsSome (ap (get_or xs i) (sym none) ∙ sym read ∙ none) has)
-  where
-    no-such : false ≡ true → ⊥
-    no-such e = cc
+read-some xs i o has read none = false≢true (subst IsSome (ap (get_or xs i) (sym none) ∙ sym read ∙ none) has)
 
 pub there-inside : (old : Memories) (i : ℕ) → HasMemory (each_of old) i → i < length old.each.items
 unfolding each_of

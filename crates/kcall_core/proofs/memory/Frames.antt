@@ -1,7 +1,9 @@
 -- What a change of one owner's frames leaves of all other owners.
-use Rattle.std.proofs.Common.{◌≡◌, ◌≢◌, ℕ, zero, suc, ◌+◌, ◌*◌, ◌%◌, ◌<◌, ◌≤◌, Bool, true, false, cond, List, [], ◌∷◌, length, get_or, map, replicate, Option, Some, None, inl, inr, refl, ap, ◌∙◌, subst, arith}
+use Rattle.std.proofs.Common.{◌≡◌, ◌≢◌, ℕ, zero, suc, ◌+◌, ◌*◌, ◌%◌, ◌<◌, ◌≤◌, Bool, true, false, cond, List, []}
+use Rattle.std.proofs.Common.{◌∷◌, length, get_or, map, replicate, Option, Some, None, inl, inr, refl, ap, ◌∙◌, subst, arith}
 use Rattle.std.proofs.lemmas.Bool.{cases_lt, cases_eq}
 use Rattle.std.proofs.Math.ListN.{get_or-map}
+use Rattle.std.proofs.lemmas.Option.{none-some, same_Some}
 use Rattle.xk_base.specs.Frames.{copies}
 use Rattle.xk_base.specs.Gathered.{gathered}
 use Rattle.xk_base.specs.declared.access.Access.{Access}
@@ -16,6 +18,7 @@ use Rattle.addr_space.specs.Space as space
 use Rattle.addr_space.specs.Space.{Spared}
 use Rattle.addr_space.proofs.Isolation.{spared}
 use Rattle.addr_space.proofs.Trades.{space-price}
+use Rattle.addr_space.proofs.Steps.{gathered-same}
 use Rattle.rv64i_core.specs.Registers.{Registers, fresh}
 use Rattle.hart_core.specs.Trapframe.{saved, words_from}
 use Rattle.hart_core.specs.Translations.{Translations, Fits, nothing}
@@ -24,7 +27,6 @@ use Rattle.kernel_spec.specs.views.Words.{count_if}
 use Rattle.kcall_core.specs.Holdings.{held_cost}
 use Rattle.kcall_core.specs.Memories.{held_in, keeps_pipe, kept_pipe, slot_frames, process_frames, owners, IsMemory, IsAccounted}
 use Rattle.kcall_core.specs.declared.memories.Memory.{Memory}
-use Rattle.kcall_core.proofs.memory.Lists.{gathered-same}
 use Rattle.kcall_core.proofs.memory.Joined.{joined-has, joined-two}
 
 -- ---- what one frame holds
@@ -59,7 +61,8 @@ is-pipe-same ram ram' f count e p = record {
 }
 
 -- what a hart keeps is true as long as the walks stay
-pub fits-stay : (ram ram' : List (List ℕ)) (root : ℕ) (cache : Translations) → ((va : ℕ) (access : Access) → walked ram' root va access ≡ walked ram root va access) → Fits ram root cache → Fits ram' root cache
+pub fits-stay : (ram ram' : List (List ℕ)) (root : ℕ) (cache : Translations)
+    → ((va : ℕ) (access : Access) → walked ram' root va access ≡ walked ram root va access) → Fits ram root cache → Fits ram' root cache
 fits-stay ram ram' root cache walks fits = record {
   each = λ i access allowed. ((fits.each i access allowed).0, λ offset lt. walks (4096 * (get_or cache.places i nothing).page + offset) access ∙ (fits.each i access allowed).1 offset lt);
 }
@@ -117,31 +120,26 @@ pub record Stays (ram ram' : List (List ℕ)) (m : Option Memory) : Type 0 where
   pub memory : (n : Memory) → m ≡ Some n → IsMemory ram' n
   pub walks : (n : Memory) → m ≡ Some n → (va : ℕ) (access : Access) → walked ram' n.space.root va access ≡ walked ram n.space.root va access
 
-no-some : {X : Type 0} (x : X) → None ≡ Some x → ⊥
-no-some x e = cc
-
-some-is : {X : Type 0} (x y : X) → Some x ≡ Some y → x ≡ y
-some-is x y e = cc
-
 pub stays-if : (pool pool' : Pool) (ram ram' : List (List ℕ)) (mine mine' : List ℕ) (m : Option Memory) → Traded pool ram pool' ram' mine mine' → ((n : Memory) → m ≡ Some n → IsMemory ram n)
     → ((f : ℕ) → 1 ≤ copies f (slot_frames ram m) → copies f (free_in pool ram) + copies f mine ≡ 0) → Stays ram ram' m
 stays-if pool pool' ram ram' mine mine' None traded is apart = record {
   frames = refl;
   held = refl;
-  memory = λ n e. absurd (no-some n e);
-  walks = λ n e. absurd (no-some n e);
+  memory = λ n e. absurd (none-some n e);
+  walks = λ n e. absurd (none-some n e);
 }
 stays-if pool pool' ram ram' mine mine' (Some m) traded is apart =
     let own = space.frames_of ram m.space in
-    let s : Spared ram ram' m.space = spared pool pool' ram ram' mine mine' m.space traded (record { whole = (is m refl).space; apart = λ f has. apart f (omega (arith, copies-cons f m.trapframe own, has)) }) in
+    let s : Spared ram ram' m.space = spared pool pool' ram ram' mine mine' m.space traded
+    (record { whole = (is m refl).space; apart = λ f has. apart f (omega (arith, copies-cons f m.trapframe own, has)) }) in
     let none = apart m.trapframe (omega (arith, copies-cons m.trapframe m.trapframe own, at-same m.trapframe)) in
     let registers : saved ram' m.trapframe ≡ saved ram m.trapframe = saved-same ram ram' m.trapframe (traded.others m.trapframe (omega (arith, none)) (omega (arith, none))) in
     let memory : IsMemory ram' m = record { space = s.whole; aligned = ap (λ (r : Registers). r.pc % 4) registers ∙ (is m refl).aligned } in
     record {
       frames = ap (λ l. m.trapframe ∷ l) s.frames;
       held = λ k. Some (record { image = s.image k; saved = registers k });
-      memory = λ n e. subst (IsMemory ram') (some-is m n e) memory;
-      walks = λ n e. subst (λ (x : Memory). (va : ℕ) (access : Access) → walked ram' x.space.root va access ≡ walked ram x.space.root va access) (some-is m n e) s.walks;
+      memory = λ n e. subst (IsMemory ram') (same_Some m n e) memory;
+      walks = λ n e. subst (λ (x : Memory). (va : ℕ) (access : Access) → walked ram' x.space.root va access ≡ walked ram x.space.root va access) (same_Some m n e) s.walks;
     }
 
 -- a pipe is as it was
@@ -149,7 +147,8 @@ pub record PipeStays (ram ram' : List (List ℕ)) (f : ℕ) : Type 0 where
   pub keeps : IsPipe ram' f
   pub same : pipe_in ram' f ≡ pipe_in ram f
 
-pub pipe-stays-if : (pool pool' : Pool) (ram ram' : List (List ℕ)) (mine mine' : List ℕ) (f : ℕ) → Traded pool ram pool' ram' mine mine' → IsPipe ram f → copies f (free_in pool ram) + copies f mine ≡ 0 → PipeStays ram ram' f
+pub pipe-stays-if : (pool pool' : Pool) (ram ram' : List (List ℕ)) (mine mine' : List ℕ) (f : ℕ) → Traded pool ram pool' ram' mine mine'
+    → IsPipe ram f → copies f (free_in pool ram) + copies f mine ≡ 0 → PipeStays ram ram' f
 pipe-stays-if pool pool' ram ram' mine mine' f traded is none =
     let bytes : frame_at ram' f ≡ frame_at ram f = traded.others f (omega (arith, none)) (omega (arith, none)) in
     record { keeps = is-pipe-same ram ram' f traded.count bytes is; same = pipe-same ram ram' f bytes }
@@ -159,7 +158,8 @@ pub pipe-seen : (ram ram' : List (List ℕ)) (f : ℕ) (b : Bool) → (b ≡ tru
 pipe-seen ram ram' f true same = ap Some (same refl)
 pipe-seen ram ram' f false same = refl
 
-pub pipes-seen : (ram ram' : List (List ℕ)) (ps : List Bool) (n : ℕ) → ((f : ℕ) → keeps_pipe ps f ≡ true → pipe_in ram' f ≡ pipe_in ram f) → gathered (kept_pipe ram' ps) n ≡ gathered (kept_pipe ram ps) n
+pub pipes-seen : (ram ram' : List (List ℕ)) (ps : List Bool) (n : ℕ) → ((f : ℕ) → keeps_pipe ps f ≡ true → pipe_in ram' f ≡ pipe_in ram f)
+    → gathered (kept_pipe ram' ps) n ≡ gathered (kept_pipe ram ps) n
 pipes-seen ram ram' ps n same = gathered-same (kept_pipe ram ps) (kept_pipe ram' ps) n (λ f. pipe-seen ram ram' f (keeps_pipe ps f) (same f))
 
 -- what a memory costs is how many frames it has

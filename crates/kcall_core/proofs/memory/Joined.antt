@@ -9,7 +9,8 @@ unfolding all_joined
 joined-cons x xs rest = copies-append x xs (all_joined rest)
 
 -- one list is another
-pub joined-set : (x : ℕ) (lists : List (List ℕ)) (i : ℕ) (ys : List ℕ) → i < length lists → copies x (all_joined (set lists i ys)) + copies x (get_or lists i []) ≡ copies x (all_joined lists) + copies x ys
+pub joined-set : (x : ℕ) (lists : List (List ℕ)) (i : ℕ) (ys : List ℕ) → i < length lists
+    → copies x (all_joined (set lists i ys)) + copies x (get_or lists i []) ≡ copies x (all_joined lists) + copies x ys
 joined-set x [] i ys lt = absurd (omega arith)
 joined-set x (xs ∷ rest) zero ys lt = omega (arith, joined-cons x ys rest, joined-cons x xs rest)
 joined-set x (xs ∷ rest) (suc i) ys lt = omega (arith, joined-cons x xs (set rest i ys), joined-cons x xs rest, joined-set x rest i ys (omega arith))

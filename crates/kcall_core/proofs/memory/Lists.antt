@@ -1,6 +1,5 @@
 -- A list of which one element changes.
-use Rattle.std.proofs.Common.{◌≡◌, ◌≢◌, ℕ, zero, suc, ◌<◌, List, [], ◌∷◌, length, set, get_or, map, Option, refl, sym, ap, ◌∙◌, arith}
-use Rattle.xk_base.specs.Gathered.{gathered, insert_some}
+use Rattle.std.proofs.Common.{◌≡◌, ◌≢◌, ℕ, zero, suc, ◌<◌, List, [], ◌∷◌, length, set, get_or, map, refl, sym, ap, arith}
 
 pub map-same : {A B : Type 0} (f g : A → B) (xs : List A) (d : A) → ((j : ℕ) → j < length xs → g (get_or xs j d) ≡ f (get_or xs j d)) → map g xs ≡ map f xs
 map-same f g [] d h = refl
@@ -28,9 +27,3 @@ pub set-read : {A : Type 0} (xs : List A) (i : ℕ) (a d : A) → i < length xs 
 set-read [] i a d lt e = refl
 set-read (x ∷ xs) zero a d lt e = ap (λ y. y ∷ xs) (sym e)
 set-read (x ∷ xs) (suc i) a d lt e = ap (λ l. x ∷ l) (set-read xs i a d (omega arith) e)
-
--- a map that is gathered from two functions that are the same
-pub gathered-same : {X : Type 0} (f g : ℕ → Option X) (n : ℕ) → ((k : ℕ) → g k ≡ f k) → gathered g n ≡ gathered f n
-unfolding gathered
-gathered-same f g zero h = refl
-gathered-same f g (suc n) h = ap (λ m. insert_some m n (g n)) (gathered-same f g n h) ∙ ap (insert_some (gathered f n) n) (h n)

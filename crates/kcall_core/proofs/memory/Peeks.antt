@@ -23,13 +23,6 @@ pub byte-some : (image : Image) (va : ℕ) (page : Page) (out : List ℕ) → ge
 byte-some image va page out e read =
     ap (option_map (λ (p : Page). slice_index p.bytes (va % 4096))) e ∙ ap Some (sym (ap (λ l. get_or l 0 0) read ∙ first (drop (va % 4096) page.bytes) ∙ at-drop page.bytes (va % 4096)))
 
-pub no-page : (o : Option Page) → option_map perm_of_page o ≡ None → o ≡ None
-no-page None e = refl
-no-page (Some page) e = absurd (no e)
-  where
-    no : Some page.perm ≡ None → ⊥
-    no h = cc
-
 pub some-page : (o : Option Page) (perm : Rights) → option_map perm_of_page o ≡ Some perm → (page : Page) × (o ≡ Some page)
 some-page None perm e = absurd (no e)
   where

@@ -2,6 +2,7 @@
 use Rattle.std.proofs.Common.{◌≡◌, ℕ, ◌<◌, ◌≤◌, Bool, true, false, cond, Option, Some, None, IsSome, refl, sym, ap, ◌∙◌, subst, arith}
 use Rattle.std.specs.Prelude.{nat_eq}
 use Rattle.std.specs.FinMap.{get}
+use Rattle.std.proofs.lemmas.Bool.{false≢true}
 use Rattle.proc_table.specs.declared.channel.Channel.{Channel}
 use Rattle.proc_table.specs.Processes.{woken}
 use Rattle.proc_table.specs.Slots.{Slots, each_changed}
@@ -12,7 +13,7 @@ use Rattle.kernel_spec.specs.views.PipeEnds.{count_on, joined, parted, is_given_
 use Rattle.kcall_core.specs.Holdings.{or_new, pipe_named, pipe_cost, with_pipe}
 use Rattle.kcall_core.specs.Memories.{AreSound, pipes_of, PipeChanges}
 use Rattle.kcall_core.specs.declared.memories.Memories.{Memories}
-use Rattle.kernel_spec.proofs.steps.Maps.{get_same}
+use Rattle.kernel_spec.proofs.steps.MapsAfterChange.{get_same}
 use Rattle.kcall_core.proofs.memory.PipeFrames.{pipe-keeps, pipe-named, pipe-becomes}
 use Rattle.kcall_core.specs.Closings.{across, woken_by}
 use Rattle.kernel_spec.specs.waking.SleepsOn.{closes_wake}
@@ -29,12 +30,14 @@ module _ (old : Memories) {f : ℕ} (small : f < FRAMES_MAX) (sound : AreSound o
   pub counted-in : (end e : End) → end ≡ e → count_on end (pipe_named (pipes_of old) f) ≡ count_on e (pipe_in old.ram f)
   counted-in end e is = λ t. count_on (is t) (sym named-in t)
 
-  pub joins : (new : Memories) (end e : End) → end ≡ e → Becomes old.ram new.ram f (joined (pipe_in old.ram f) e 1) → new.pool ≡ old.pool → new.each.items ≡ old.each.items → new.pipes.items ≡ old.pipes.items → PipeChanges old new f (Some (joined (pipe_named (pipes_of old) f) end 1))
+  pub joins : (new : Memories) (end e : End) → end ≡ e → Becomes old.ram new.ram f (joined (pipe_in old.ram f) e 1) → new.pool ≡ old.pool
+      → new.each.items ≡ old.each.items → new.pipes.items ≡ old.pipes.items → PipeChanges old new f (Some (joined (pipe_named (pipes_of old) f) end 1))
   joins new end e is made pool each pipes =
       subst (λ n. PipeChanges old new f (Some (joined (pipe_named (pipes_of old) f) n 1))) (sym is)
       (pipe-becomes new (λ p. joined p e 1) small sound (pipe-keeps old f small there) made pool each pipes)
 
-  pub parts : (new : Memories) (end e : End) → end ≡ e → Becomes old.ram new.ram f (parted (pipe_in old.ram f) e 1) → new.pool ≡ old.pool → new.each.items ≡ old.each.items → new.pipes.items ≡ old.pipes.items → PipeChanges old new f (Some (parted (pipe_named (pipes_of old) f) end 1))
+  pub parts : (new : Memories) (end e : End) → end ≡ e → Becomes old.ram new.ram f (parted (pipe_in old.ram f) e 1) → new.pool ≡ old.pool
+      → new.each.items ≡ old.each.items → new.pipes.items ≡ old.pipes.items → PipeChanges old new f (Some (parted (pipe_named (pipes_of old) f) end 1))
   parts new end e is made pool each pipes =
       subst (λ n. PipeChanges old new f (Some (parted (pipe_named (pipes_of old) f) n 1))) (sym is)
       (pipe-becomes new (λ p. parted p e 1) small sound (pipe-keeps old f small there) made pool each pipes)
@@ -67,19 +70,18 @@ module _ {old mid : Memories} {f : ℕ} {y : Pipe} (changes : PipeChanges old mi
 -- ---- who wakes
 
 pub there-is : (o : Option Pipe) → IsSome o → o ≡ Some (or_new o)
-there-is None some = absurd (false-true some)
-  where
-    false-true : false ≡ true → ⊥
-    false-true e = cc
+there-is None some = absurd (false≢true some)
 there-is (Some y) some = refl
 
-module _ {old new : Memories} {f : ℕ} (end : End) (there : IsSome (get (pipes_of old) f)) (some : 1 ≤ count_on end (pipe_named (pipes_of old) f)) (changes : PipeChanges old new f (remainder (parted (pipe_named (pipes_of old) f) end 1))) where
+module _ {old new : Memories} {f : ℕ} (end : End) (there : IsSome (get (pipes_of old) f)) (some : 1 ≤ count_on end (pipe_named (pipes_of old) f))
+    (changes : PipeChanges old new f (remainder (parted (pipe_named (pipes_of old) f) end 1))) where
   pub left-nobody : nat_eq (count_on end (parted (pipe_named (pipes_of old) f) end 1)) 0 ≡ false → (t : Slots) → t ≡ each_changed (woken_by (closes_wake (pipes_of old) (pipes_of new))) t
   left-nobody more t =
       each-none (closes_wake (pipes_of old) (pipes_of new)) t
       (λ c. ap (λ m. closes_wake (pipes_of old) m c) changes.pipes ∙ wakes-nobody (pipes_of old) f end (pipe_named (pipes_of old) f) (there-is (get (pipes_of old) f) there) some more c)
 
-  pub left-wakes : nat_eq (count_on end (parted (pipe_named (pipes_of old) f) end 1)) 0 ≡ true → (channel : Channel) → channel ≡ across f end → (t t' : Slots) → t' ≡ each_changed (woken channel) t → t' ≡ each_changed (woken_by (closes_wake (pipes_of old) (pipes_of new))) t
+  pub left-wakes : nat_eq (count_on end (parted (pipe_named (pipes_of old) f) end 1)) 0 ≡ true → (channel : Channel) → channel ≡ across f end
+      → (t t' : Slots) → t' ≡ each_changed (woken channel) t → t' ≡ each_changed (woken_by (closes_wake (pipes_of old) (pipes_of new))) t
   left-wakes last channel is t t' after =
       after ∙ ap (λ c. each_changed (woken c) t) is
       ∙ each-woken (closes_wake (pipes_of old) (pipes_of new)) (across f end) t

@@ -3,7 +3,7 @@ use Rattle.std.proofs.Common.{◌≡◌, ◌≢◌, ℕ, ◌+◌, ◌<◌, ◌�
 use Rattle.std.specs.Ordering.{nat_cmp, eq_by_cmp}
 use Rattle.std.specs.Cmp.{nat_cmp_total}
 use Rattle.std.specs.FinMap.{FinMap, get, get-insert, get-remove}
-use Rattle.std.proofs.lemmas.Bool.{cases_eq}
+use Rattle.std.proofs.lemmas.Bool.{cases_eq, false≢true, lt-ltb}
 use Rattle.std.proofs.lemmas.List.{get_or-set_same, get_or-set_other, length-set}
 use Rattle.xk_base.specs.Frames.{copies}
 use Rattle.xk_base.specs.Gathered.{gathered}
@@ -16,7 +16,6 @@ use Rattle.frame_list.specs.Traded.{Traded, Taken, Given}
 use Rattle.frame_list.proofs.FreeList.{free_in-written, Good-written}
 use Rattle.frame_list.proofs.Trades.{trade-lengths, trade-join}
 use Rattle.sv39_core.proofs.Gathered.{tie-yes, tie-no, gathered-get, same_pages}
-use Rattle.sv39_core.proofs.Words.{ltb-yes}
 use Rattle.pipe_core.specs.Pipe.{Pipe, IsPipe, Becomes, pipe_in}
 use Rattle.kernel_spec.specs.views.Words.{count_if}
 use Rattle.kcall_core.specs.Holdings.{pipe_cost, with_pipe, or_new, pipe_named}
@@ -25,6 +24,7 @@ use Rattle.kcall_core.specs.declared.memories.Memory.{Memory}
 use Rattle.kcall_core.specs.declared.memories.Memories.{Memories}
 use Rattle.kcall_core.proofs.memory.Lists.{map-same, set-read}
 use Rattle.kcall_core.proofs.memory.Frames.{fits-stay, slot-free, slot-pipe-apart, pipe-free, pipes-apart, Stays, stays-if, PipeStays, pipe-stays-if, pipe-seen}
+use Rattle.kcall_core.proofs.memory.Births.{taken-apart}
 
 -- the frame of a pipe, if there is one
 abbrev pub own_pipe : Bool → ℕ → List ℕ
@@ -102,9 +102,6 @@ module _ {pool pool' : Pool} {ram ram' : List (List ℕ)} {ms : List (Option Mem
   pub piped-each : map (held_in ram') ms ≡ map (held_in ram) ms
   piped-each = map-same (held_in ram) (held_in ram') ms None (λ j lt. (slots j).held)
 
-  after : Option Pipe
-  after = cond b (Some (pipe_in ram' f)) None
-
   other-seen : (v : ℕ) → v ≢ f → kept_pipe ram' (set ps f b) v ≡ kept_pipe ram ps v
   other-seen v ne =
       ap (λ k. cond k (Some (pipe_in ram' v)) None) (get_or-set_other ps f v b false ne) ∙ pipe-seen ram ram' v (keeps_pipe ps v) (λ e. (others v ne e).same)
@@ -113,19 +110,22 @@ module _ {pool pool' : Pool} {ram ram' : List (List ℕ)} {ms : List (Option Mem
   piped-pipes n lt = same_pages (gathered (kept_pipe ram' (set ps f b)) n) (with_pipe f (cond b (Some (pipe_in ram' f)) None) (gathered (kept_pipe ram ps) n)) (λ v. elim (cases_eq v f) [
     | inl e ↦
         let here : kept_pipe ram' (set ps f b) f ≡ cond b (Some (pipe_in ram' f)) None = ap (λ k. cond k (Some (pipe_in ram' f)) None) (get_or-set_same ps f b false listed) in
-        gathered-get (kept_pipe ram' (set ps f b)) n v ∙ ap (λ k. cond k (kept_pipe ram' (set ps f b) v) None) (ltb-yes v n (omega (arith, lt, e))) ∙ ap (kept_pipe ram' (set ps f b)) e ∙ here
-        ∙ sym (get-with (gathered (kept_pipe ram ps) n) f (cond b (Some (pipe_in ram' f)) None) v ∙ ap (λ k. cond k (cond b (Some (pipe_in ram' f)) None) (get (gathered (kept_pipe ram ps) n) v)) (tie-yes v f e))
+        gathered-get (kept_pipe ram' (set ps f b)) n v ∙ ap (λ k. cond k (kept_pipe ram' (set ps f b) v) None) (lt-ltb v n (omega (arith, lt, e))) ∙ ap (kept_pipe ram' (set ps f b)) e ∙ here
+        ∙ sym (get-with (gathered (kept_pipe ram ps) n) f (cond b (Some (pipe_in ram' f)) None) v
+        ∙ ap (λ k. cond k (cond b (Some (pipe_in ram' f)) None) (get (gathered (kept_pipe ram ps) n) v)) (tie-yes v f e))
     | inr ne ↦
         gathered-get (kept_pipe ram' (set ps f b)) n v ∙ ap (λ o. cond (ltb v n) o None) (other-seen v ne) ∙ sym (gathered-get (kept_pipe ram ps) n v)
-        ∙ sym (get-with (gathered (kept_pipe ram ps) n) f (cond b (Some (pipe_in ram' f)) None) v ∙ ap (λ k. cond k (cond b (Some (pipe_in ram' f)) None) (get (gathered (kept_pipe ram ps) n) v)) (tie-no v f ne))
+        ∙ sym (get-with (gathered (kept_pipe ram ps) n) f (cond b (Some (pipe_in ram' f)) None) v
+        ∙ ap (λ k. cond k (cond b (Some (pipe_in ram' f)) None) (get (gathered (kept_pipe ram ps) n) v)) (tie-no v f ne))
   ])
 
 -- the pipe in a frame, as it is seen
 pub pipes-at : (old : Memories) (f : ℕ) → f < FRAMES_MAX → get (pipes_of old) f ≡ kept_pipe old.ram old.pipes.items f
 unfolding pipes_of
-pipes-at old f lt = gathered-get (kept_pipe old.ram old.pipes.items) FRAMES_MAX f ∙ ap (λ k. cond k (kept_pipe old.ram old.pipes.items f) None) (ltb-yes f FRAMES_MAX lt)
+pipes-at old f lt = gathered-get (kept_pipe old.ram old.pipes.items) FRAMES_MAX f ∙ ap (λ k. cond k (kept_pipe old.ram old.pipes.items f) None) (lt-ltb f FRAMES_MAX lt)
 
-pub pipe-changes : (old new : Memories) (f : ℕ) (b : Bool) → AreSound old → f < length old.ram → Traded old.pool old.ram new.pool new.ram (own_pipe (keeps_pipe old.pipes.items f) f) (own_pipe b f) → (b ≡ true → IsPipe new.ram f)
+pub pipe-changes : (old new : Memories) (f : ℕ) (b : Bool) → AreSound old → f < length old.ram
+    → Traded old.pool old.ram new.pool new.ram (own_pipe (keeps_pipe old.pipes.items f) f) (own_pipe b f) → (b ≡ true → IsPipe new.ram f)
     → new.each.items ≡ old.each.items → new.pipes.items ≡ set old.pipes.items f b → PipeChanges old new f (cond b (Some (pipe_in new.ram f)) None)
 unfolding each_of pipes_of free_of
 pipe-changes old new f b sound inside traded is each pipes =
@@ -141,7 +141,7 @@ pipe-changes old new f b sound inside traded is each pipes =
         own-length (keeps_pipe old.pipes.items f) f,
         cost-count b (pipe_in new.ram f),
         cost-count (keeps_pipe old.pipes.items f) (pipe_in old.ram f),
-        ap pipe_cost (gathered-get (kept_pipe old.ram old.pipes.items) FRAMES_MAX f ∙ ap (λ k. cond k (kept_pipe old.ram old.pipes.items f) None) (ltb-yes f FRAMES_MAX small)),
+        ap pipe_cost (gathered-get (kept_pipe old.ram old.pipes.items) FRAMES_MAX f ∙ ap (λ k. cond k (kept_pipe old.ram old.pipes.items f) None) (lt-ltb f FRAMES_MAX small)),
       );
       frames = traded.count;
       runs = λ j hart r. record {
@@ -190,21 +190,23 @@ free-keeps {pool} {ram} {ms} {ps} sound f free = by (keeps_pipe ps f) refl
 was-free : {pool pool' : Pool} {ram ram' : List (List ℕ)} {f : ℕ} → Taken pool ram pool' ram' f → 1 ≤ copies f (free_in pool ram)
 was-free {pool} {pool'} {ram} {ram'} {f} taken = omega (arith, taken.traded.frames f, copies-one f f, at-same f, copies-nil f)
 
-not-free : {pool pool' : Pool} {ram ram' : List (List ℕ)} {f : ℕ} → Good pool ram → Taken pool ram pool' ram' f → copies f (free_in pool' ram') ≡ 0
-not-free {pool} {pool'} {ram} {ram'} {f} good taken = omega (arith, taken.traded.frames f, good.frames.once f, copies-one f f, at-same f, copies-nil f)
-
 -- a frame that is free names no pipe
 pub pipe-absent : (old : Memories) (f : ℕ) {pool1 : Pool} {ram1 : List (List ℕ)} → AreSound old → Taken old.pool old.ram pool1 ram1 f → get (pipes_of old) f ≡ None
 pipe-absent old f sound taken =
     pipes-at old f (omega (arith, taken.inside, taken.traded.count, sound.good.small)) ∙ ap (λ b. cond b (Some (pipe_in old.ram f)) None) (free-keeps sound f (was-free taken))
 
-pub pipe-made : {old : Memories} {f : ℕ} {pool1 : Pool} {ram1 : List (List ℕ)} (new : Memories) (pipe : Pipe) → AreSound old → Taken old.pool old.ram pool1 ram1 f → new.pool ≡ pool1 → Becomes ram1 new.ram f pipe → new.each.items ≡ old.each.items → new.pipes.items ≡ set old.pipes.items f true
+pub pipe-made : {old : Memories} {f : ℕ} {pool1 : Pool} {ram1 : List (List ℕ)} (new : Memories) (pipe : Pipe) → AreSound old
+    → Taken old.pool old.ram pool1 ram1 f → new.pool ≡ pool1 → Becomes ram1 new.ram f pipe → new.each.items ≡ old.each.items
+    → new.pipes.items ≡ set old.pipes.items f true
     → PipeChanges old new f (Some pipe)
 pipe-made {old} {f} {pool1} {ram1} new pipe sound taken pool made each pipes =
     let none = free-keeps sound f (was-free taken) in
-    let all_joined : Traded old.pool old.ram pool1 new.ram [] (f ∷ []) = trade-join old.pool pool1 pool1 old.ram ram1 new.ram [] (f ∷ []) (f ∷ []) taken.traded (written pool1 ram1 new.ram f taken.traded.good made.stay (not-free sound.good taken)) in
+    let all_joined : Traded old.pool old.ram pool1 new.ram [] (f ∷ []) =
+    trade-join old.pool pool1 pool1 old.ram ram1 new.ram [] (f ∷ []) (f ∷ []) taken.traded
+    (written pool1 ram1 new.ram f taken.traded.good made.stay (taken-apart sound.good taken)) in
     let traded : Traded old.pool old.ram new.pool new.ram (own_pipe (keeps_pipe old.pipes.items f) f) (own_pipe true f) =
-    subst (λ p. Traded old.pool old.ram p new.ram (own_pipe (keeps_pipe old.pipes.items f) f) (own_pipe true f)) (sym pool) (subst (λ b. Traded old.pool old.ram pool1 new.ram (own_pipe b f) (own_pipe true f)) (sym none) all_joined) in
+    subst (λ p. Traded old.pool old.ram p new.ram (own_pipe (keeps_pipe old.pipes.items f) f) (own_pipe true f)) (sym pool)
+    (subst (λ b. Traded old.pool old.ram pool1 new.ram (own_pipe b f) (own_pipe true f)) (sym none) all_joined) in
     let changes : PipeChanges old new f (Some (pipe_in new.ram f)) = pipe-changes old new f true sound (omega (arith, taken.inside, taken.traded.count)) traded (λ e. made.good) each pipes in
     subst (λ p. PipeChanges old new f (Some p)) made.is changes
 
@@ -212,20 +214,22 @@ pipe-made {old} {f} {pool1} {ram1} new pipe sound taken pool made each pipes =
 pub pipe-taken : (old : Memories) (f : ℕ) → AreSound old → keeps_pipe old.pipes.items f ≡ true → copies f (free_in old.pool old.ram) ≡ 0
 pipe-taken old f sound keeps = pipe-free sound f keeps
 
-pub pipe-dropped : {old : Memories} {f : ℕ} (new : Memories) → AreSound old → keeps_pipe old.pipes.items f ≡ true → Given old.pool old.ram new.pool new.ram f → new.each.items ≡ old.each.items → new.pipes.items ≡ set old.pipes.items f false → PipeChanges old new f None
+pub pipe-dropped : {old : Memories} {f : ℕ} (new : Memories) → AreSound old → keeps_pipe old.pipes.items f ≡ true
+    → Given old.pool old.ram new.pool new.ram f → new.each.items ≡ old.each.items → new.pipes.items ≡ set old.pipes.items f false → PipeChanges old new f None
 pipe-dropped {old} {f} new sound keeps given each pipes =
-    let traded : Traded old.pool old.ram new.pool new.ram (own_pipe (keeps_pipe old.pipes.items f) f) (own_pipe false f) = subst (λ b. Traded old.pool old.ram new.pool new.ram (own_pipe b f) (own_pipe false f)) (sym keeps) given in
-    pipe-changes old new f false sound (pipe-inside old f sound keeps) traded (λ e. absurd (false-true e)) each pipes
-  where
-    false-true : false ≡ true → ⊥
-    false-true e = cc
+    let traded : Traded old.pool old.ram new.pool new.ram (own_pipe (keeps_pipe old.pipes.items f) f) (own_pipe false f) =
+    subst (λ b. Traded old.pool old.ram new.pool new.ram (own_pipe b f) (own_pipe false f)) (sym keeps) given in
+    pipe-changes old new f false sound (pipe-inside old f sound keeps) traded (λ e. absurd (false≢true e)) each pipes
 
-pub pipe-changed : {old : Memories} {f : ℕ} (new : Memories) (pipe : Pipe) → AreSound old → keeps_pipe old.pipes.items f ≡ true → Becomes old.ram new.ram f pipe → new.pool ≡ old.pool → new.each.items ≡ old.each.items → new.pipes.items ≡ old.pipes.items → PipeChanges old new f (Some pipe)
+pub pipe-changed : {old : Memories} {f : ℕ} (new : Memories) (pipe : Pipe) → AreSound old → keeps_pipe old.pipes.items f ≡ true
+    → Becomes old.ram new.ram f pipe → new.pool ≡ old.pool → new.each.items ≡ old.each.items → new.pipes.items ≡ old.pipes.items
+    → PipeChanges old new f (Some pipe)
 pipe-changed {old} {f} new pipe sound keeps made pool each pipes =
     let inside = pipe-inside old f sound keeps in
     let one : Traded old.pool old.ram old.pool new.ram (f ∷ []) (f ∷ []) = written old.pool old.ram new.ram f sound.good made.stay (pipe-free sound f keeps) in
     let traded : Traded old.pool old.ram new.pool new.ram (own_pipe (keeps_pipe old.pipes.items f) f) (own_pipe true f) =
-    subst (λ p. Traded old.pool old.ram p new.ram (own_pipe (keeps_pipe old.pipes.items f) f) (own_pipe true f)) (sym pool) (subst (λ b. Traded old.pool old.ram old.pool new.ram (own_pipe b f) (own_pipe true f)) (sym keeps) one) in
+    subst (λ p. Traded old.pool old.ram p new.ram (own_pipe (keeps_pipe old.pipes.items f) f) (own_pipe true f)) (sym pool)
+    (subst (λ b. Traded old.pool old.ram old.pool new.ram (own_pipe b f) (own_pipe true f)) (sym keeps) one) in
     let changes : PipeChanges old new f (Some (pipe_in new.ram f)) =
     pipe-changes old new f true sound inside traded (λ e. made.good) each (pipes ∙ sym (set-read old.pipes.items f true false (omega (arith, inside, sound.places)) keeps)) in
     subst (λ p. PipeChanges old new f (Some p)) made.is changes
@@ -235,7 +239,8 @@ pub pipe-named : (old : Memories) (f : ℕ) → f < FRAMES_MAX → keeps_pipe ol
 pipe-named old f lt keeps = ap or_new (pipes-at old f lt ∙ ap (λ b. cond b (Some (pipe_in old.ram f)) None) keeps)
 
 -- the pipe of a name is changed
-pub pipe-becomes : {old : Memories} {f : ℕ} (new : Memories) (change : Pipe → Pipe) → f < FRAMES_MAX → AreSound old → keeps_pipe old.pipes.items f ≡ true → Becomes old.ram new.ram f (change (pipe_in old.ram f)) → new.pool ≡ old.pool → new.each.items ≡ old.each.items
+pub pipe-becomes : {old : Memories} {f : ℕ} (new : Memories) (change : Pipe → Pipe) → f < FRAMES_MAX → AreSound old
+    → keeps_pipe old.pipes.items f ≡ true → Becomes old.ram new.ram f (change (pipe_in old.ram f)) → new.pool ≡ old.pool → new.each.items ≡ old.each.items
     → new.pipes.items ≡ old.pipes.items → PipeChanges old new f (Some (change (pipe_named (pipes_of old) f)))
 pipe-becomes {old} {f} new change lt sound keeps made pool each pipes =
     subst (λ p. PipeChanges old new f (Some (change p))) (sym (pipe-named old f lt keeps)) (pipe-changed new (change (pipe_in old.ram f)) sound keeps made pool each pipes)

@@ -32,7 +32,9 @@ module _ (old : Memories) {f : ℕ} (small : f < FRAMES_MAX) (sound : AreSound o
   bytes-named = ap bytes_of (named-in old small sound pipe)
 
   -- bytes of a slot's pages went into the pipe
-  pub pages-pushed : {i : ℕ} {m : Memory} → Stands old i m → (new : Memories) (a n : ℕ) → Becomes old.ram new.ram f (with_more (image_bytes (image_of old.ram m.space) a n) (pipe_in old.ram f)) → new.pool ≡ old.pool → new.each.items ≡ old.each.items
+  pub pages-pushed : {i : ℕ} {m : Memory} → Stands old i m → (new : Memories) (a n : ℕ)
+      → Becomes old.ram new.ram f (with_more (image_bytes (image_of old.ram m.space) a n) (pipe_in old.ram f)) → new.pool ≡ old.pool
+      → new.each.items ≡ old.each.items
       → new.pipes.items ≡ old.pipes.items → PipeChanges old new f (Some (with_more (image_bytes (held_at (each_of old) i).image a n) (pipe_named (pipes_of old) f)))
   pages-pushed {i} {m} s new a n made pool each pipes =
       subst (λ (x : Image). PipeChanges old new f (Some (with_more (image_bytes x a n) (pipe_named (pipes_of old) f)))) (sym (image-seen s))

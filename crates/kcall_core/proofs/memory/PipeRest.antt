@@ -1,6 +1,6 @@
 -- What of a buffer is left, from a place in it on.
-use Rattle.std.proofs.Common.{◌≡◌, ℕ, ◌+◌, ◌-◌, ◌%◌, ◌^◌, ◌<◌, ◌≤◌, Bool, true, false, get_or, Option, Some, None, IsSome, inl, inr, refl, sym, ap, ◌∙◌, subst, arith}
-use Rattle.std.proofs.lemmas.Bool.{cases_lt}
+use Rattle.std.proofs.Common.{◌≡◌, ℕ, ◌+◌, ◌-◌, ◌%◌, ◌^◌, ◌<◌, ◌≤◌, true, get_or, Option, Some, None, IsSome, inl, inr, refl, sym, ap, ◌∙◌, subst, arith}
+use Rattle.std.proofs.lemmas.Bool.{cases_lt, both_ways}
 use Rattle.xk_base.specs.Image.{Image}
 use Rattle.xk_base.specs.declared.access.Access.{Access}
 use Rattle.xk_base.specs.declared.access.Access.TheVariants.{Load, Store}
@@ -23,20 +23,18 @@ reached-low access m slot a n d there all lt = by (get_or m.each.items slot None
     none-held : IsSome (held_in m.ram None) → ⊥
     none-held h = cc
 
-    clash : {x : Bool} → x ≡ false → x ≡ true → ⊥
-    clash f t = cc
-
     by : (o : Option Memory) → get_or (each_of m) slot None ≡ held_in m.ram o → a + d < 2 ^ 38
     by None is = absurd (none-held (subst IsSome is there))
     by (Some memory) is =
         let seen : reaches access (image_of m.ram memory.space) a n ≡ true = ap (λ o. reaches access (or_nothing o).image a n) (sym is) ∙ all in
         elim (cases_lt (a + d) (2 ^ 38)) [
           | inl low ↦ low
-          | inr high ↦ absurd (clash (reaches-not access (image_of m.ram memory.space) a n d lt (may-beyond access m.ram memory.space (a + d) high)) seen)
+          | inr high ↦ absurd (both_ways _ (reaches-not access (image_of m.ram memory.space) a n d lt (may-beyond access m.ram memory.space (a + d) high)) seen)
         ]
 
 -- the rest of a buffer can be reached from its next byte on, wherever the sum of two words lies
-module _ (access : Access) (m : Memories) (slot a n d : ℕ) (there : HasMemory (each_of m) slot) (all : reaches access (held_at (each_of m) slot).image a n ≡ true) (at : ℕ) (at-is : at ≡ (a + d) % 2 ^ 64) where
+module _ (access : Access) (m : Memories) (slot a n d : ℕ) (there : HasMemory (each_of m) slot)
+    (all : reaches access (held_at (each_of m) slot).image a n ≡ true) (at : ℕ) (at-is : at ≡ (a + d) % 2 ^ 64) where
   pub next-at : d < n → at ≡ a + d
   next-at less = let low : a + d < 2 ^ 38 = reached-low access m slot a n d there all less in omega (arith, at-is, low)
 
@@ -47,7 +45,8 @@ module _ (access : Access) (m : Memories) (slot a n d : ℕ) (there : HasMemory 
   ]
 
 -- the same of a buffer that is read, whose absent pages read as zeros
-module _ (m : Memories) (slot a n d : ℕ) (sound : AreSound m) (there : HasMemory (each_of m) slot) (all : readable (held_at (each_of m) slot).image a n ≡ true) (at : ℕ) (at-is : at ≡ (a + d) % 2 ^ 64) where
+module _ (m : Memories) (slot a n d : ℕ) (sound : AreSound m) (there : HasMemory (each_of m) slot)
+    (all : readable (held_at (each_of m) slot).image a n ≡ true) (at : ℕ) (at-is : at ≡ (a + d) % 2 ^ 64) where
   readable-low : d < n → a + d < 2 ^ 38
   readable-low lt = by (get_or m.each.items slot None) refl
     where

@@ -1,5 +1,6 @@
 -- The trapframe of a slot is written.
 use Rattle.std.proofs.Common.{◌≡◌, ℕ, ◌%◌, List, ◌∷◌, get_or, Some, None, sym, ap, ◌∙◌, subst, arith}
+use Rattle.std.proofs.lemmas.Option.{same_Some}
 use Rattle.xk_base.specs.Frames.{copies}
 use Rattle.xk_base.proofs.Frames.{at, at-same, copies-cons}
 use Rattle.phys_ram.specs.Ram.{word_at, OthersStay}
@@ -31,10 +32,8 @@ pub aligned-saved : (ram : List (List ℕ)) (f : ℕ) → (saved ram f).pc % 4 �
 unfolding saved
 aligned-saved ram f e = e
 
-same-some : {X : Type 0} (x y : X) → Some x ≡ Some y → x ≡ y
-same-some x y e = cc
-
-module _ {old : Memories} (new : Memories) {i : ℕ} {m : Memory} (s : Stands old i m) (stay : OthersStay old.ram new.ram m.trapframe) (pool : new.pool ≡ old.pool) (each : new.each.items ≡ old.each.items) where
+module _ {old : Memories} (new : Memories) {i : ℕ} {m : Memory} (s : Stands old i m) (stay : OthersStay old.ram new.ram m.trapframe)
+    (pool : new.pool ≡ old.pool) (each : new.each.items ≡ old.each.items) where
   kept : Kept old.ram new.ram m.space.root
   kept = record { count = stay.count; bytes = λ f has. stay.others f (λ e. absurd (omega (arith, has, ap (λ x. copies x (space.frames_of old.ram m.space)) e, (trapframe-apart s).1))) }
 
@@ -55,20 +54,23 @@ module _ {old : Memories} (new : Memories) {i : ℕ} {m : Memory} (s : Stands ol
     others = λ f _ none. stay.others f (λ e. absurd (omega (arith, none, copies-cons f m.trapframe (space.frames_of old.ram m.space), ap (at f) e, at-same f)));
   }
 
-  pub saved-changes : (regs : Registers) → saved new.ram m.trapframe ≡ regs → word_at new.ram m.trapframe 0 % 4 ≡ 0 → new.pipes.items ≡ old.pipes.items → SlotChanges old new i (Some (with_saved regs (held_at (each_of old) i)))
+  pub saved-changes : (regs : Registers) → saved new.ram m.trapframe ≡ regs → word_at new.ram m.trapframe 0 % 4 ≡ 0
+      → new.pipes.items ≡ old.pipes.items → SlotChanges old new i (Some (with_saved regs (held_at (each_of old) i)))
   saved-changes regs is aligned pipes =
       let whole : IsMemory new.ram m = record { space = space-kept old.ram new.ram m.space (s.sound.memories i m s.is).space kept; aligned = saved-aligned new.ram m.trapframe aligned } in
       let traded : Traded old.pool old.ram new.pool new.ram (slot_frames old.ram (get_or old.each.items i None)) (slot_frames new.ram (Some m)) =
       subst (λ p. Traded old.pool old.ram p new.ram (slot_frames old.ram (get_or old.each.items i None)) (slot_frames new.ram (Some m))) (sym pool)
       (subst (λ o. Traded old.pool old.ram old.pool new.ram (slot_frames old.ram o) (slot_frames new.ram (Some m))) (sym s.is) written) in
-      let changes = slot-changes old new i (Some m) s.sound s.inside traded (λ n e. subst (IsMemory new.ram) (same-some m n e) whole) (each ∙ sym (set-read old.each.items i (Some m) None s.inside s.is)) pipes in
-      let seen : held_in new.ram (Some m) ≡ Some (with_saved regs (record { image = image_of old.ram m.space; saved = saved old.ram m.trapframe })) = λ k. Some (record { image = image k; saved = is k }) in
+      let changes = slot-changes old new i (Some m) s.sound s.inside traded (λ n e. subst (IsMemory new.ram) (same_Some m n e) whole)
+      (each ∙ sym (set-read old.each.items i (Some m) None s.inside s.is)) pipes in
+      let seen : held_in new.ram (Some m) ≡ Some (with_saved regs (record { image = image_of old.ram m.space; saved = saved old.ram m.trapframe })) =
+      λ k. Some (record { image = image k; saved = is k }) in
       subst (λ h. SlotChanges old new i h) (seen ∙ ap (λ h. Some (with_saved regs h)) (sym (held-seen s))) changes
 
   -- the hart that runs there goes on
   pub saved-runs : (hart : Hart) → RunsIn old i hart → RunsIn new i hart
   saved-runs hart r =
-      let same : m ≡ r.memory = same-some m r.memory (sym s.is ∙ r.is) in
+      let same : m ≡ r.memory = same_Some m r.memory (sym s.is ∙ r.is) in
       let entries = kept-pages old.ram new.ram m.space.root (s.sound.memories i m s.is).space.tree kept in
       record {
         memory = m;

@@ -1,5 +1,6 @@
 -- A slot's space is replaced by one that was made beside it.
 use Rattle.std.proofs.Common.{◌≡◌, ℕ, ◌+◌, ◌%◌, ◌≤◌, List, [], ◌∷◌, set, get_or, Some, None, refl, sym, ap, ◌∙◌, subst, arith}
+use Rattle.std.proofs.lemmas.Option.{same_Some}
 use Rattle.xk_base.specs.Frames.{copies}
 use Rattle.xk_base.specs.Image.{Image}
 use Rattle.xk_base.proofs.Frames.{copies-nil, copies-cons}
@@ -20,12 +21,10 @@ use Rattle.kcall_core.specs.declared.memories.Memories.{Memories}
 use Rattle.kcall_core.proofs.memory.Frames.{saved-same, slot-free, Stays, stays-if}
 use Rattle.kcall_core.proofs.memory.Changes.{slot-changes, trapframe-apart, held-seen}
 
-same-some : {X : Type 0} (x y : X) → Some x ≡ Some y → x ≡ y
-same-some x y e = cc
-
 module _ {old : Memories} {i : ℕ} {m : Memory} {pool1 : Pool} {ram1 : List (List ℕ)} {n : Space} (s : Stands old i m) (made : Made old.pool old.ram pool1 ram1 n) where
   stays : Stays old.ram ram1 (Some m)
-  stays = subst (Stays old.ram ram1) s.is (stays-if old.pool pool1 old.ram ram1 [] (space.frames_of ram1 n) (get_or old.each.items i None) made.traded (s.sound.memories i) (λ f has. omega (arith, slot-free s.sound f i, has, copies-nil f)))
+  stays = subst (Stays old.ram ram1) s.is (stays-if old.pool pool1 old.ram ram1 [] (space.frames_of ram1 n)
+      (get_or old.each.items i None) made.traded (s.sound.memories i) (λ f has. omega (arith, slot-free s.sound f i, has, copies-nil f)))
 
   -- the old space has as many places for a frame as before
   same-own : (f : ℕ) → copies f (space.frames_of ram1 m.space) ≡ copies f (space.frames_of old.ram m.space)
@@ -82,7 +81,8 @@ module _ {old : Memories} {i : ℕ} {m : Memory} {pool1 : Pool} {ram1 : List (Li
     new-image image is = new-stays.image ∙ is
 
     pub space-replaced : (new : Memories) (image : Image) → image_of ram1 n ≡ image → new.pool ≡ pool2 → new.ram ≡ ram2
-        → new.each.items ≡ set old.each.items i (Some (record { space = n; trapframe = m.trapframe })) → new.pipes.items ≡ old.pipes.items → SlotChanges old new i (Some (with_image image (held_at (each_of old) i)))
+        → new.each.items ≡ set old.each.items i (Some (record { space = n; trapframe = m.trapframe })) → new.pipes.items ≡ old.pipes.items
+        → SlotChanges old new i (Some (with_image image (held_at (each_of old) i)))
     space-replaced new image is same-pool same-ram each pipes =
         let after : Memory = record { space = n; trapframe = m.trapframe } in
         let traded : Traded old.pool old.ram new.pool new.ram (slot_frames old.ram (get_or old.each.items i None)) (slot_frames new.ram (Some after)) =
@@ -90,8 +90,9 @@ module _ {old : Memories} {i : ℕ} {m : Memory} {pool1 : Pool} {ram1 : List (Li
         (subst (λ r. Traded old.pool old.ram pool2 r (slot_frames old.ram (get_or old.each.items i None)) (slot_frames r (Some after))) (sym same-ram)
         (subst (λ o. Traded old.pool old.ram pool2 ram2 (slot_frames old.ram o) (slot_frames ram2 (Some after))) (sym s.is) all-traded)) in
         let memory : IsMemory new.ram after = subst (λ r. IsMemory r after) (sym same-ram) whole in
-        let changes = slot-changes old new i (Some after) s.sound s.inside traded (λ x e. subst (IsMemory new.ram) (same-some after x e) memory) each pipes in
+        let changes = slot-changes old new i (Some after) s.sound s.inside traded (λ x e. subst (IsMemory new.ram) (same_Some after x e) memory) each pipes in
         let shown : image_of new.ram n ≡ image = ap (λ r. image_of r n) same-ram ∙ new-image image is in
         let registers : saved new.ram m.trapframe ≡ saved old.ram m.trapframe = ap (λ r. saved r m.trapframe) same-ram ∙ same-registers in
-        let seen : held_in new.ram (Some after) ≡ Some (with_image image (record { image = image_of old.ram m.space; saved = saved old.ram m.trapframe })) = λ k. Some (record { image = shown k; saved = registers k }) in
+        let seen : held_in new.ram (Some after) ≡ Some (with_image image
+        (record { image = image_of old.ram m.space; saved = saved old.ram m.trapframe })) = λ k. Some (record { image = shown k; saved = registers k }) in
         subst (λ h. SlotChanges old new i h) (seen ∙ ap (λ (h : Held). Some (with_image image h)) (sym (held-seen s))) changes

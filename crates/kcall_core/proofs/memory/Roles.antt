@@ -3,6 +3,7 @@ use Rattle.std.proofs.Common.{◌≡◌, ◌≢◌, ℕ, zero, suc, ◌+◌, ◌
 use Rattle.std.specs.Prelude.{min, IfNone}
 use Rattle.std.proofs.lemmas.List.{get_or_read}
 use Rattle.std.proofs.lemmas.Bool.{cases_lt}
+use Rattle.std.proofs.lemmas.Option.{none-some, same_Some}
 use Rattle.xk_base.specs.Frames.{copies}
 use Rattle.xk_base.specs.declared.limits.TheConstants.{NPROC}
 use Rattle.xk_base.proofs.Frames.{at, at-same, at-other, copies-nil, copies-cons}
@@ -20,13 +21,11 @@ use Rattle.kcall_core.specs.declared.memories.Memories.{Memories}
 use Rattle.kcall_core.specs.declared.memories.frame_roles.FrameRole.{FrameRole}
 use Rattle.kcall_core.specs.declared.memories.frame_roles.FrameRole.TheVariants.{Trapframe, Root, Upper, Lower, Page}
 
-no-some : {X : Type 0} (x : X) → None ≡ Some x → ⊥
-no-some x e = cc
-
 -- ---- the walk over all pages
 
 -- the page of an entry of a lower table
-pub page-there : (ram : List (List ℕ)) (root f v lower i : ℕ) → v % 512 ≡ 0 → i < 512 → table_at ram root 2 (v / 512) ≡ Some lower → frame_of (entry_at ram lower i) ≡ Some f → frame_of (page_entry ram root (v + i)) ≡ Some f
+pub page-there : (ram : List (List ℕ)) (root f v lower i : ℕ) → v % 512 ≡ 0 → i < 512 → table_at ram root 2 (v / 512) ≡ Some lower
+    → frame_of (entry_at ram lower i) ≡ Some f → frame_of (page_entry ram root (v + i)) ≡ Some f
 page-there ram root f v lower i whole lt down is =
     let same : (v + i) / 512 ≡ v / 512 = omega (arith, whole, lt) in
     let there : table_at ram root 2 ((v + i) / 512) ≡ Some lower = ap (table_at ram root 2) same ∙ down in
@@ -34,7 +33,8 @@ page-there ram root f v lower i whole lt down is =
     ap (λ t. frame_of (last ram t ((v + i) % 512))) there ∙ ap (λ k. frame_of (entry_at ram lower k)) place ∙ is
 
 -- a frame that is off the way to all pages of a space is none of its tables or pages
-pub none-in-space : (ram : List (List ℕ)) (space : Space) (f end : ℕ) → IsSpace ram space → end ≡ min space.end (2 ^ 26) → space.root ≢ f → ((v : ℕ) → v < end → IsOffTheWay ram space.root f v) → (role : FrameRole) → ¬ IsInTree ram space.root f role
+pub none-in-space : (ram : List (List ℕ)) (space : Space) (f end : ℕ) → IsSpace ram space → end ≡ min space.end (2 ^ 26) → space.root ≢ f
+    → ((v : ℕ) → v < end → IsOffTheWay ram space.root f v) → (role : FrameRole) → ¬ IsInTree ram space.root f role
 none-in-space ram space f end whole until ne off role = by role
   where
     -- a page lies below the end
@@ -43,7 +43,7 @@ none-in-space ram space f end whole until ne off role = by role
         let low = page-place ram space.root v g whole.tree is in
         elim (cases_lt v space.end) [
           | inl lt ↦ omega (arith, until, low, lt)
-          | inr ge ↦ absurd (no-some g (sym (whole.ends v ge low) ∙ is))
+          | inr ge ↦ absurd (none-some g (sym (whole.ends v ge low) ∙ is))
         ]
 
     by : (r : FrameRole) → ¬ IsInTree ram space.root f r
@@ -75,7 +75,8 @@ listed-none g (suc n) x none = by (g n) (none n) (listed-none g n x none)
     by (Some y) ne rest = omega (arith, copies-cons x y (listed g n), at-other x y (λ e. ne (ap Some (sym e))), rest)
 
 module _ (ram : List (List ℕ)) (m : Memory) (f : ℕ) where
-  parts : copies f (slot_frames ram (Some m)) ≡ at f m.trapframe + (at f m.space.root + (copies f (uppers ram m.space.root) + (copies f (lowers ram m.space.root) + copies f (page_frames ram m.space.root))))
+  parts : copies f (slot_frames ram (Some m)) ≡ at f m.trapframe +
+      (at f m.space.root + (copies f (uppers ram m.space.root) + (copies f (lowers ram m.space.root) + copies f (page_frames ram m.space.root))))
   parts = omega (arith, copies-cons f m.trapframe (owned ram m.space.root), copies-owned f ram m.space.root)
 
   -- a frame without a role isn't the memory's
@@ -166,11 +167,9 @@ map-none (Some x) f p = p
 pub slot-read : (m : Memories) (i : ℕ) (o : Option Memory) → AreSound m → i < NPROC → o ≡ get_or m.each.items i o → get_or m.each.items i None ≡ o
 slot-read m i o sound lt read = sym (get_or_read m.each.items i o (omega (arith, sound.slots, lt)) read None)
 
-some-same : {X : Type 0} (a b : X) → Some a ≡ Some b → a ≡ b
-some-same a b e = cc
-
-pub none-in-slot : (m : Memories) (i f : ℕ) (memory : Memory) → get_or m.each.items i None ≡ Some memory → memory.trapframe ≢ f → ((role : FrameRole) → ¬ IsInTree m.ram memory.space.root f role) → (role : FrameRole) → ¬ IsUsedIn m i f role
-none-in-slot m i f memory is ne none role (other, at, used) = by role (subst (λ (n : Memory). IsUsedBy m.ram n f role) (some-same other memory (sym at ∙ is)) used)
+pub none-in-slot : (m : Memories) (i f : ℕ) (memory : Memory) → get_or m.each.items i None ≡ Some memory → memory.trapframe ≢ f
+    → ((role : FrameRole) → ¬ IsInTree m.ram memory.space.root f role) → (role : FrameRole) → ¬ IsUsedIn m i f role
+none-in-slot m i f memory is ne none role (other, at, used) = by role (subst (λ (n : Memory). IsUsedBy m.ram n f role) (same_Some other memory (sym at ∙ is)) used)
   where
     by : (r : FrameRole) → IsUsedBy m.ram memory f r → ⊥
     by Trapframe e = ne e

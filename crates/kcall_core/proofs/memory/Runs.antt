@@ -4,6 +4,7 @@ use Rattle.std.specs.Prelude.{◌&&◌, nat_lt}
 use Rattle.std.proofs.lemmas.Bool.{cases_lt, le-leb, lt-ltb, false≢true}
 use Rattle.std.proofs.lemmas.Bool.Decides.{nat_tests}
 use Rattle.std.proofs.lemmas.List.{get_or-set_same}
+use Rattle.std.proofs.lemmas.Option.{same_Some}
 use Rattle.xk_base.specs.declared.access.Access.{Access}
 use Rattle.xk_base.specs.declared.errors.NoFrames.{NoFrames}
 use Rattle.sv39_core.specs.Sv39.{walked}
@@ -19,9 +20,6 @@ use Rattle.kcall_core.specs.Memories.{RunsIn, is_between, Stands}
 use Rattle.kcall_core.specs.declared.memories.Memory.{Memory}
 use Rattle.kcall_core.specs.declared.memories.Memories.{Memories}
 
-same-some : {X : Type 0} (x y : X) → Some x ≡ Some y → x ≡ y
-same-some x y e = cc
-
 -- what is kept stays true as long as each present translation stays
 fits-on : (ram ram' : List (List ℕ)) (root : ℕ) (cache : Translations) → TranslationsStay ram ram' root → Fits ram root cache → Fits ram' root cache
 fits-on ram ram' root cache stay fits = record {
@@ -31,10 +29,11 @@ fits-on ram ram' root cache stay fits = record {
   );
 }
 
-pub runs-on : {old : Memories} {i : ℕ} {m : Memory} (new : Memories) (space' : Space) → Stands old i m → space'.root ≡ m.space.root → TranslationsStay old.ram new.ram m.space.root → new.each.items ≡ set old.each.items i (Some (record { space = space'; trapframe = m.trapframe }))
+pub runs-on : {old : Memories} {i : ℕ} {m : Memory} (new : Memories) (space' : Space) → Stands old i m → space'.root ≡ m.space.root
+    → TranslationsStay old.ram new.ram m.space.root → new.each.items ≡ set old.each.items i (Some (record { space = space'; trapframe = m.trapframe }))
     → (hart : Hart) → RunsIn old i hart → RunsIn new i hart
 runs-on {old} {i} {m} new space' s root stay each hart r =
-    let same : m ≡ r.memory = same-some m r.memory (sym s.is ∙ r.is) in
+    let same : m ≡ r.memory = same_Some m r.memory (sym s.is ∙ r.is) in
     let fits : Fits old.ram m.space.root hart.cache = subst (λ (x : Memory). Fits old.ram x.space.root hart.cache) (sym same) r.fits in
     record {
       memory = record { space = space'; trapframe = m.trapframe };
@@ -48,13 +47,19 @@ pub same-translations : (ram ram' : List (List ℕ)) (root : ℕ) → ram' ≡ r
 same-translations ram ram' root e va access place is = ap (λ r. walked r root va access) e ∙ is
 
 -- a growth, done or refused
-pub grown-runs : {old : Memories} {i : ℕ} {m : Memory} (refusal : Type 0) (new : Memories) (space' : Space) → Stands old i m → (r : Result (Unit {0}) NoFrames) → IfOk r (λ _. Changed old.pool old.ram m.space new.pool new.ram space') → IfOk r (λ _. TranslationsStay old.ram new.ram m.space.root)
-    → IfErr r (λ _. refusal × Unchanged old.pool old.ram m.space new.pool new.ram space') → new.each.items ≡ set old.each.items i (Some (record { space = space'; trapframe = m.trapframe })) → (hart : Hart) → RunsIn old i hart → RunsIn new i hart
+pub grown-runs : {old : Memories} {i : ℕ} {m : Memory} (refusal : Type 0) (new : Memories) (space' : Space) → Stands old i m
+    → (r : Result (Unit {0}) NoFrames) → IfOk r (λ _. Changed old.pool old.ram m.space new.pool new.ram space')
+    → IfOk r (λ _. TranslationsStay old.ram new.ram m.space.root)
+    → IfErr r (λ _. refusal × Unchanged old.pool old.ram m.space new.pool new.ram space')
+    → new.each.items ≡ set old.each.items i (Some (record { space = space'; trapframe = m.trapframe })) → (hart : Hart) → RunsIn old i hart → RunsIn new i hart
 grown-runs {old} {i} {m} refusal new space' s (Ok u) changed stay refused each hart r = runs-on new space' s changed.root stay each hart r
-grown-runs {old} {i} {m} refusal new space' s (Err e) changed stay refused each hart r = runs-on new space' s (ap (λ (x : Space). x.root) refused.1.same_space) (same-translations old.ram new.ram m.space.root refused.1.same_ram) each hart r
+grown-runs {old} {i} {m} refusal new space' s (Err e) changed stay refused each hart r =
+    runs-on new space' s (ap (λ (x : Space). x.root) refused.1.same_space) (same-translations old.ram new.ram m.space.root refused.1.same_ram) each hart r
 
 -- a hart that was switched to the slot's tables
-pub switched-runs : {old : Memories} {i : ℕ} {m : Memory} (new : Memories) (space' : Space) → Stands old i m → new.each.items ≡ set old.each.items i (Some (record { space = space'; trapframe = m.trapframe })) → (hart : Hart) → hart.root ≡ Some space'.root → FitsHart new.ram hart.root hart.cache → RunsIn new i hart
+pub switched-runs : {old : Memories} {i : ℕ} {m : Memory} (new : Memories) (space' : Space) → Stands old i m
+    → new.each.items ≡ set old.each.items i (Some (record { space = space'; trapframe = m.trapframe })) → (hart : Hart)
+    → hart.root ≡ Some space'.root → FitsHart new.ram hart.root hart.cache → RunsIn new i hart
 switched-runs {old} {i} {m} new space' s each hart root fits = record {
   memory = record { space = space'; trapframe = m.trapframe };
   is = ap (λ l. get_or l i None) each ∙ get_or-set_same old.each.items i (Some (record { space = space'; trapframe = m.trapframe })) None s.inside;
@@ -65,7 +70,8 @@ switched-runs {old} {i} {m} new space' s each hart root fits = record {
 -- ---- pages are gone, and forgotten
 
 -- the pages from `first` on are gone, and none stood behind `end`
-pub fits-shrunk : (ram ram' : List (List ℕ)) (root : ℕ) (cache : Cache) (first end : ℕ) → WalksStayBelow (4096 * first) ram ram' root → ((va : ℕ) (access : Access) → 4096 * end ≤ va → walked ram root va access ≡ None) → Fits ram root cache
+pub fits-shrunk : (ram ram' : List (List ℕ)) (root : ℕ) (cache : Cache) (first end : ℕ) → WalksStayBelow (4096 * first) ram ram' root
+    → ((va : ℕ) (access : Access) → 4096 * end ≤ va → walked ram root va access ≡ None) → Fits ram root cache
     → FitsBut ram' root cache (is_between first end)
 fits-shrunk ram ram' root cache first end below behind fits = record {
   placed = λ i access allowed. (fits.each i access allowed).0;
@@ -102,14 +108,16 @@ but-none ram root cache v end past fits = fits-none_gone ram root cache (is_betw
 
 -- the hart that runs in a slot has its root
 pub runs-root : {old : Memories} {i : ℕ} {m : Memory} {hart : Hart} → Stands old i m → RunsIn old i hart → hart.root ≡ Some m.space.root
-runs-root {old} {i} {m} s r = r.root ∙ ap (λ (x : Memory). Some x.space.root) (same-some r.memory m (sym r.is ∙ s.is))
+runs-root {old} {i} {m} s r = r.root ∙ ap (λ (x : Memory). Some x.space.root) (same_Some r.memory m (sym r.is ∙ s.is))
 
 -- the slot's hart has forgotten what is gone from its tables
-pub forgot-runs : {old : Memories} {i : ℕ} {m : Memory} (new : Memories) (space' : Space) → Stands old i m → space'.root ≡ m.space.root → new.each.items ≡ set old.each.items i (Some (record { space = space'; trapframe = m.trapframe }))
+pub forgot-runs : {old : Memories} {i : ℕ} {m : Memory} (new : Memories) (space' : Space) → Stands old i m → space'.root ≡ m.space.root
+    → new.each.items ≡ set old.each.items i (Some (record { space = space'; trapframe = m.trapframe }))
     → (first end : ℕ) → WalksStayBelow (4096 * first) old.ram new.ram m.space.root → ((va : ℕ) (access : Access) → 4096 * end ≤ va → walked old.ram m.space.root va access ≡ None)
-    → (hart hart' : Hart) → RunsIn old i hart → hart'.root ≡ Some space'.root → (FitsBut new.ram space'.root hart.cache (is_between first end) → Fits new.ram space'.root hart'.cache) → RunsIn new i hart'
+    → (hart hart' : Hart) → RunsIn old i hart → hart'.root ≡ Some space'.root
+    → (FitsBut new.ram space'.root hart.cache (is_between first end) → Fits new.ram space'.root hart'.cache) → RunsIn new i hart'
 forgot-runs {old} {i} {m} new space' s root each first end below behind hart hart' r root' forgets =
-    let same : m ≡ r.memory = same-some m r.memory (sym s.is ∙ r.is) in
+    let same : m ≡ r.memory = same_Some m r.memory (sym s.is ∙ r.is) in
     let fits : Fits old.ram m.space.root hart.cache = subst (λ (x : Memory). Fits old.ram x.space.root hart.cache) (sym same) r.fits in
     record {
       memory = record { space = space'; trapframe = m.trapframe };

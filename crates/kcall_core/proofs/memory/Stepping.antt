@@ -1,20 +1,19 @@
 -- One instruction of the process in a slot.
-use Rattle.std.proofs.Common.{◌≡◌, ◌≢◌, ℕ, zero, suc, ◌/◌, ◌%◌, ◌<◌, Bool, List, length, set, get_or, Option, Some, None, refl, sym, ap, ◌∙◌, subst, arith}
+use Rattle.std.proofs.Common.{◌≡◌, ◌≢◌, ℕ, zero, suc, ◌/◌, ◌%◌, ◌<◌, List, length, set, get_or, Option, Some, None, refl, sym, ap, ◌∙◌, subst, arith}
 use Rattle.xk_base.specs.declared.access.Cause.{Cause}
-use Rattle.xk_base.specs.declared.access.Rights.{Rights}
 use Rattle.phys_ram.specs.Ram.{frame_at}
 use Rattle.phys_ram.proofs.Words.{others_stay-set}
 use Rattle.frame_list.specs.declared.Pool.{Pool}
 use Rattle.frame_list.specs.Pool.{free_in}
-use Rattle.frame_list.proofs.Trades.{trade-none, trade-lengths}
-use Rattle.sv39_core.specs.declared.entry.Entry.{Entry}
-use Rattle.sv39_core.specs.declared.entry.Entry.TheVariants.{Invalid, Table, Leaf}
+use Rattle.frame_list.proofs.Trades.{trade-lengths}
 use Rattle.sv39_core.specs.Sv39.{page_entry}
 use Rattle.sv39_core.specs.Tree.{frame_of, pages_of, owned}
 use Rattle.addr_space.specs.Space as space
 use Rattle.addr_space.specs.Space.{image_of, Belongs, Changed}
 use Rattle.addr_space.specs.declared.Space.{Space}
 use Rattle.addr_space.proofs.Pages.{bytes-changed}
+use Rattle.addr_space.proofs.Freeing.{changed-none}
+use Rattle.addr_space.proofs.FromFrames.{leaf-of}
 use Rattle.rv64i_core.specs.Memory.{written}
 use Rattle.rv64i_core.specs.Step.{Step, Next, Ecall, Fault, instr, stop_of, regs_after, state_after, address_used}
 use Rattle.rv64i_core.specs.Registers.{Registers}
@@ -32,39 +31,27 @@ use Rattle.kcall_core.specs.declared.memories.Memories.{Memories}
 use Rattle.kcall_core.proofs.memory.Lists.{set-read}
 use Rattle.kcall_core.proofs.memory.Changes.{belongs-of, image-seen, space-changes, runs-inside}
 
-changed-not : (pool : Pool) (ram : List (List ℕ)) (s : Space) → Belongs pool ram s → Changed pool ram s pool ram s
-changed-not pool ram s b = record { whole = b.whole; root = refl; traded = trade-none pool ram (space.frames_of ram s) b.good }
-
--- the entry of a page that has a frame
-leaf-of : (e : Entry) (g : ℕ) → frame_of e ≡ Some g → (perm : Rights) × (a : Bool) × (d : Bool) × (e ≡ Leaf g perm a d)
-leaf-of (Leaf f r a d) g is = (r, a, d, let same : f ≡ g = cc in ap (λ x. Leaf x r a d) same)
-leaf-of (Table f) g is = absurd (none g is)
-  where
-    none : (x : ℕ) → None ≡ Some x → ⊥
-    none x e = cc
-leaf-of Invalid g is = absurd (none g is)
-  where
-    none : (x : ℕ) → None ≡ Some x → ⊥
-    none x e = cc
-
 -- a store changes the frame of one page, or nothing
-put-changed : (pool : Pool) (ram : List (List ℕ)) (s : Space) (v o : ℕ) (bytes : List ℕ) → Belongs pool ram s → (t : Option ℕ) → frame_of (page_entry ram s.root v) ≡ t → Changed pool ram s pool (put_bytes ram t o bytes) s
-put-changed pool ram s v o bytes b None is = changed-not pool ram s b
+put-changed : (pool : Pool) (ram : List (List ℕ)) (s : Space) (v o : ℕ) (bytes : List ℕ) → Belongs pool ram s → (t : Option ℕ)
+    → frame_of (page_entry ram s.root v) ≡ t → Changed pool ram s pool (put_bytes ram t o bytes) s
+put-changed pool ram s v o bytes b None is = changed-none pool ram s b
 put-changed pool ram s v o bytes b (Some g) is =
     let leaf = leaf-of (page_entry ram s.root v) g is in
     bytes-changed pool ram (set ram g (written (frame_at ram g) o bytes)) s v g leaf.0 leaf.1 leaf.2 b leaf.3 (others_stay-set ram g (written (frame_at ram g) o bytes))
 
 after-changed : (pool : Pool) (ram : List (List ℕ)) (s : Space) (step : Step) → Belongs pool ram s → Changed pool ram s pool (state_after space_store (space_state s.root ram) step).ram s
 unfolding store_in
-after-changed pool ram s (Next regs None) b = changed-not pool ram s b
+after-changed pool ram s (Next regs None) b = changed-none pool ram s b
 after-changed pool ram s (Next regs (Some store)) b = put-changed pool ram s (store.address / 4096) (store.address % 4096) store.bytes b (frame_of (page_entry ram s.root (store.address / 4096))) refl
-after-changed pool ram s Ecall b = changed-not pool ram s b
-after-changed pool ram s (Fault cause) b = changed-not pool ram s b
+after-changed pool ram s Ecall b = changed-none pool ram s b
+after-changed pool ram s (Fault cause) b = changed-none pool ram s b
 
-step-changed : (pool : Pool) (ram ram' : List (List ℕ)) (s : Space) (step : Step) → Belongs pool ram s → space_state s.root ram' ≡ state_after space_store (space_state s.root ram) step → Changed pool ram s pool ram' s
+step-changed : (pool : Pool) (ram ram' : List (List ℕ)) (s : Space) (step : Step) → Belongs pool ram s
+    → space_state s.root ram' ≡ state_after space_store (space_state s.root ram) step → Changed pool ram s pool ram' s
 step-changed pool ram ram' s step b e = subst (λ r. Changed pool ram s pool r s) (sym (ap (λ (x : SpaceState). x.ram) e)) (after-changed pool ram s step b)
 
-step-image : (ram ram' : List (List ℕ)) (s : Space) (step : Step) → pages_of ram' s.root ≡ state_after write_pages (pages_of ram s.root) step → image_of ram' s ≡ state_after with_store (image_of ram s) step
+step-image : (ram ram' : List (List ℕ)) (s : Space) (step : Step) → pages_of ram' s.root ≡ state_after write_pages (pages_of ram s.root) step
+    → image_of ram' s ≡ state_after with_store (image_of ram s) step
 step-image ram ram' s (Next regs None) e = ap (λ p. record { pages = p; size = s.size }) e
 step-image ram ram' s (Next regs (Some store)) e = ap (λ p. record { pages = p; size = s.size }) e
 step-image ram ram' s Ecall e = ap (λ p. record { pages = p; size = s.size }) e
@@ -91,7 +78,8 @@ free-same : (old new : Memories) → new.pool ≡ old.pool → length (free_in n
 unfolding free_of
 free-same old new pool e = e
 
-pub steps : (old new : Memories) (slot : ℕ) (hart hart' : Hart) (stop : Stop) → (r : RunsIn old slot hart) → Stands old slot r.memory → Made old.ram new.ram hart hart' stop → new.pool ≡ old.pool → new.each.items ≡ old.each.items → new.pipes.items ≡ old.pipes.items
+pub steps : (old new : Memories) (slot : ℕ) (hart hart' : Hart) (stop : Stop) → (r : RunsIn old slot hart) → Stands old slot r.memory
+    → Made old.ram new.ram hart hart' stop → new.pool ≡ old.pool → new.each.items ≡ old.each.items → new.pipes.items ≡ old.pipes.items
     → Steps old new slot hart hart' stop
 steps old new slot hart hart' stop r s made pool each pipes =
     let space' = r.memory.space in
@@ -99,16 +87,23 @@ steps old new slot hart hart' stop r s made pool each pipes =
     let memory : user_at old.ram (root_of hart.root) ≡ user (held_at (each_of old) slot).image = ap (user_at old.ram) root ∙ user-space old.ram space' ∙ ap user (sym (image-seen s)) in
     let step : instr hart.regs (user_at old.ram (root_of hart.root)) ≡ step_in old slot hart.regs = ap (instr hart.regs) memory in
     let state : space_state space'.root new.ram ≡ state_after space_store (space_state space'.root old.ram) (step_in old slot hart.regs) =
-    sym (ap (λ x. space_state x new.ram) root) ∙ made.stepped.state ∙ ap (λ x. state_after space_store (space_state x old.ram) (instr hart.regs (user_at old.ram (root_of hart.root)))) root ∙ ap (state_after space_store (space_state space'.root old.ram)) step in
+    sym (ap (λ x. space_state x new.ram) root) ∙ made.stepped.state
+    ∙ ap (λ x. state_after space_store (space_state x old.ram) (instr hart.regs (user_at old.ram (root_of hart.root)))) root
+    ∙ ap (state_after space_store (space_state space'.root old.ram)) step in
     let pages : pages_of new.ram space'.root ≡ state_after write_pages (pages_of old.ram space'.root) (step_in old slot hart.regs) =
-    sym (ap (λ x. pages_of new.ram x) root) ∙ made.stepped.pages ∙ ap (λ x. state_after write_pages (pages_of old.ram x) (instr hart.regs (user_at old.ram (root_of hart.root)))) root ∙ ap (state_after write_pages (pages_of old.ram space'.root)) step in
-    let changed : Changed old.pool old.ram space' new.pool new.ram space' = subst (λ p. Changed old.pool old.ram space' p new.ram space') (sym pool) (step-changed old.pool old.ram new.ram space' (step_in old slot hart.regs) (belongs-of s) state) in
+    sym (ap (λ x. pages_of new.ram x) root) ∙ made.stepped.pages
+    ∙ ap (λ x. state_after write_pages (pages_of old.ram x) (instr hart.regs (user_at old.ram (root_of hart.root)))) root
+    ∙ ap (state_after write_pages (pages_of old.ram space'.root)) step in
+    let changed : Changed old.pool old.ram space' new.pool new.ram space' =
+    subst (λ p. Changed old.pool old.ram space' p new.ram space') (sym pool)
+    (step-changed old.pool old.ram new.ram space' (step_in old slot hart.regs) (belongs-of s) state) in
     let image : image_of new.ram space' ≡ state_after with_store (held_at (each_of old) slot).image (step_in old slot hart.regs) =
     step-image old.ram new.ram space' (step_in old slot hart.regs) pages ∙ ap (λ i. state_after with_store i (step_in old slot hart.regs)) (sym (image-seen s)) in
     record {
       ends = made.ends ∙ ap stop_of step;
       regs = made.regs ∙ ap (regs_after hart.regs) step;
-      changes = space-changes new space' (state_after with_store (held_at (each_of old) slot).image (step_in old slot hart.regs)) s changed image (each ∙ sym (set-read old.each.items slot (Some r.memory) None s.inside s.is)) pipes;
+      changes = space-changes new space' (state_after with_store (held_at (each_of old) slot).image (step_in old slot hart.regs)) s changed image
+          (each ∙ sym (set-read old.each.items slot (Some r.memory) None s.inside s.is)) pipes;
       free = free-same old new pool (omega (
         arith,
         trade-lengths old.pool new.pool old.ram new.ram (space.frames_of old.ram space') (space.frames_of new.ram space') changed.traded,
@@ -136,10 +131,10 @@ fault-stays stop (Next regs store) old address ends other = refl
 fault-stays stop Ecall old address ends other = refl
 fault-stays stop (Fault cause) old address ends other = absurd (other cause ends)
 
-next-no-fault : (cause : Cause) → stops.Next ≢ stops.Fault cause
+pub next-no-fault : (cause : Cause) → stops.Next ≢ stops.Fault cause
 next-no-fault cause e = cc
 
-ecall-no-fault : (cause : Cause) → stops.Ecall ≢ stops.Fault cause
+pub ecall-no-fault : (cause : Cause) → stops.Ecall ≢ stops.Fault cause
 ecall-no-fault cause e = cc
 
 -- one instruction, from where others have led
@@ -167,9 +162,11 @@ module _ (old : Memories) (slot : ℕ) (hart : Hart) (ready : Ready old slot har
   AreThere count m h = StepsDone count slot old hart m h × Ready m slot h
 
   -- where the instruction at the pc doesn't fault
-  quiet : (stop : Stop) (ram ram' : List (List ℕ)) (regs regs' : Registers) (cache' : Translations) → Instructed (root_of hart.root) ram regs stop ram' regs' cache' → ((cause : Cause) → stop ≢ stops.Fault cause)
+  quiet : (stop : Stop) (ram ram' : List (List ℕ)) (regs regs' : Registers) (cache' : Translations)
+      → Instructed (root_of hart.root) ram regs stop ram' regs' cache' → ((cause : Cause) → stop ≢ stops.Fault cause)
       → hart.fault_address ≡ last_fault hart.fault_address (address_used regs (user_at ram (root_of hart.root))) (instr regs (user_at ram (root_of hart.root)))
-  quiet stop ram ram' regs regs' cache' one other = fault-stays stop (instr regs (user_at ram (root_of hart.root))) hart.fault_address (address_used regs (user_at ram (root_of hart.root))) one.ends other
+  quiet stop ram ram' regs regs' cache' one other = fault-stays stop (instr regs (user_at ram (root_of hart.root))) hart.fault_address
+      (address_used regs (user_at ram (root_of hart.root))) one.ends other
 
   series : (count : ℕ) (ram' : List (List ℕ)) (regs' : Registers) (cache' : Translations) → AreDone count (root_of hart.root) old.ram hart.regs hart.cache ram' regs' cache'
       → AreThere count (record old { ram = ram' }) (record hart { regs = regs'; cache = cache' })
@@ -187,11 +184,16 @@ module _ (old : Memories) (slot : ℕ) (hart : Hart) (ready : Ready old slot har
   last-step : (most made : ℕ) (stop : Stop) (mid : List (List ℕ)) (mid_regs : Registers) (mid_cache : Translations) (ram' : List (List ℕ)) (regs' : Registers) (cache' : Translations) (fault' : ℕ)
       → Ready (record old { ram = mid }) slot (record hart { regs = mid_regs; cache = mid_cache })
       → IsLast (root_of hart.root) most made stop mid mid_regs mid_cache hart.fault_address ram' regs' cache' fault'
-      → IsLastStep slot most made stop (record old { ram = mid }) (record hart { regs = mid_regs; cache = mid_cache }) (record old { ram = ram' }) (record hart { regs = regs'; cache = cache'; fault_address = fault' })
+      → IsLastStep slot most made stop (record old { ram = mid }) (record hart { regs = mid_regs; cache = mid_cache }) (record old { ram = ram' })
+      (record hart { regs = regs'; cache = cache'; fault_address = fault' })
   last-step most made stops.Next mid mid_regs mid_cache ram' regs' cache' fault' so last =
       (last.0, ap (λ x. record old { ram = x }) last.1, λ t. record hart { regs = last.2 t; cache = last.3 t; fault_address = last.4 t })
-  last-step most made stops.Ecall mid mid_regs mid_cache ram' regs' cache' fault' so last =
-      (last.0, one-step (record old { ram = mid }) slot (record hart { regs = mid_regs; cache = mid_cache }) ram' regs' cache' fault' stops.Ecall so last.1 (last.2 ∙ quiet stops.Ecall mid ram' mid_regs regs' cache' last.1 ecall-no-fault))
+  last-step most made stops.Ecall mid mid_regs mid_cache ram' regs' cache' fault' so last = (
+    last.0,
+    one-step (record old { ram = mid }) slot
+        (record hart { regs = mid_regs; cache = mid_cache }) ram' regs' cache' fault' stops.Ecall so last.1
+        (last.2 ∙ quiet stops.Ecall mid ram' mid_regs regs' cache' last.1 ecall-no-fault),
+  )
   last-step most made (stops.Fault cause) mid mid_regs mid_cache ram' regs' cache' fault' so last =
       (last.0, one-step (record old { ram = mid }) slot (record hart { regs = mid_regs; cache = mid_cache }) ram' regs' cache' fault' (stops.Fault cause) so last.1 last.2)
 
@@ -209,7 +211,8 @@ module _ (old : Memories) (slot : ℕ) (hart : Hart) (ready : Ready old slot har
 
 -- the hart as it is behind them
 pub steps-in-a-row : (old : Memories) (slot : ℕ) (hart hart' : Hart) (ram' : List (List ℕ)) (most made : ℕ) (stop : Stop) → AreSound old → RunsIn old slot hart → hart'.root ≡ hart.root
-    → InARow (root_of hart.root) most made stop old.ram hart.regs hart.cache hart.fault_address ram' hart'.regs hart'.cache hart'.fault_address → StepsInARow slot most made stop old hart (record old { ram = ram' }) hart'
+    → InARow (root_of hart.root) most made stop old.ram hart.regs hart.cache hart.fault_address ram' hart'.regs hart'.cache hart'.fault_address
+    → StepsInARow slot most made stop old hart (record old { ram = ram' }) hart'
 steps-in-a-row old slot hart hart' ram' most made stop sound runs root row =
     let P = λ (h : Hart). StepsInARow slot most made stop old hart (record old { ram = ram' }) h in
     subst P (λ t. record hart' { root = sym root t }) (in-a-row old slot hart (record { sound = sound; runs = runs }) most made stop ram' hart'.regs hart'.cache hart'.fault_address row)

@@ -1,9 +1,8 @@
 -- Bytes are written to the space in a slot; answers that are good or refused.
-use Rattle.std.proofs.Common.{◌≡◌, ℕ, ◌+◌, ◌*◌, ◌^◌, ◌<◌, Bool, true, false, not, ◌&&◌, cond, ltb, is_some, List, length, set, Option, Some, None, Result, Ok, Err, IfOk, IfErr, refl, sym, ap, ◌∙◌, arith, subst, ◌≤◌}
+use Rattle.std.proofs.Common.{◌≡◌, ℕ, ◌+◌, ◌^◌, ◌<◌, Bool, true, false, cond, List, length, set, Some, None, Result, Ok, Err, IfOk, IfErr, refl, sym, ap, ◌∙◌, arith, subst, ◌≤◌}
 use Rattle.std.specs.Prelude.{is_ok}
 use Rattle.std.proofs.lemmas.Bool.{false≢true}
-use Rattle.std.specs.FinMap.{get}
-use Rattle.xk_base.specs.Image.{Image, Page, with_page}
+use Rattle.xk_base.specs.Image.{Image, with_page}
 use Rattle.xk_base.specs.declared.access.Access.{Access}
 use Rattle.xk_base.specs.declared.access.Access.TheVariants.{Load}
 use Rattle.xk_base.specs.declared.limits.TheConstants.{SIZE_LIMIT}
@@ -14,7 +13,7 @@ use Rattle.addr_space.specs.Absent.{whole, pages_at, brought, bring, is_absent}
 use Rattle.addr_space.specs.Changes.{zeroed}
 use Rattle.xk_base.specs.Access.{data_rights}
 use Rattle.addr_space.specs.InPlace.{WrittenInPlace}
-use Rattle.addr_space.proofs.Touching.{LowPages, low-pages, whole-low}
+use Rattle.addr_space.proofs.Touching.{low-pages, whole-low}
 use Rattle.user_copy.specs.Reach.{allows, reaches}
 use Rattle.hart_core.specs.declared.hart.Hart.{Hart}
 use Rattle.user_copy.proofs.Ranges.{reached-mapped, mapped-inside}
@@ -73,10 +72,6 @@ size-of {old} {i} {m} s = (whole-of s).size
 pub size-seen : {old : Memories} {i : ℕ} {m : Memory} → Stands old i m → (held_at (each_of old) i).image.size ≤ SIZE_LIMIT
 size-seen {old} {i} {m} s = subst (λ (n : Image). n.size ≤ SIZE_LIMIT) (sym (image-seen s)) (whole-of s).size
 
--- no page of it lies in the upper half
-pub low-of : {old : Memories} {i : ℕ} {m : Memory} → Stands old i m → LowPages (held_at (each_of old) i).image
-low-of {old} {i} {m} s = subst LowPages (sym (image-seen s)) (low-pages old.ram m.space)
-
 -- what may be read or written once absent pages are touched is what may be in the whole image
 pub touching-seen : {old : Memories} {i : ℕ} {m : Memory} (access : Access) → allows access (Some data_rights) ≡ true → Stands old i m → (a n : ℕ)
     → reaches_touching access (held_at (each_of old) i).image a n ≡ reaches access (whole (image_of old.ram m.space)) a n
@@ -94,30 +89,25 @@ pub touched-seen : {old : Memories} {i : ℕ} {m : Memory} → Stands old i m �
 touched-seen {old} {i} {m} s a n = ap (brought (pages_at a n)) (image-seen s)
 
 -- an absent page, as the space adds it
-pub bring-seen : {old : Memories} {i : ℕ} {m : Memory} → Stands old i m → (v : ℕ) → is_absent (held_at (each_of old) i).image v ≡ true → with_page (image_of old.ram m.space) v (zeroed data_rights) ≡ bring v (held_at (each_of old) i).image
+pub bring-seen : {old : Memories} {i : ℕ} {m : Memory} → Stands old i m → (v : ℕ) → is_absent (held_at (each_of old) i).image v ≡ true
+    → with_page (image_of old.ram m.space) v (zeroed data_rights) ≡ bring v (held_at (each_of old) i).image
 bring-seen {old} {i} {m} s v absent =
     let image = (held_at (each_of old) i).image in
     ap (λ (j : Image). with_page j v (zeroed data_rights)) (sym (image-seen s)) ∙ sym (ap (λ b. cond b (with_page image v (zeroed data_rights)) image) absent)
-
--- a page that is absent isn't there
-pub absent-none : (i : Image) (v : ℕ) → is_absent i v ≡ true → get i.pages v ≡ None
-absent-none i v absent = by (get i.pages v) (ltb (4096 * v) i.size) absent
-  where
-    by : (o : Option Page) (b : Bool) → (b && not (is_some o)) ≡ true → o ≡ None
-    by None b e = refl
-    by (Some page) true e = absurd (false≢true e)
-    by (Some page) false e = absurd (false≢true e)
 
 pub each-stays : {old : Memories} {i : ℕ} {m : Memory} → Stands old i m → old.each.items ≡ set old.each.items i (Some (record { space = m.space; trapframe = m.trapframe }))
 each-stays {old} {i} {m} s = sym (set-read old.each.items i (Some m) None s.inside s.is)
 
 -- as many frames are free
-pub free-stays : {old : Memories} {i : ℕ} {m : Memory} (ram' : List (List ℕ)) → Stands old i m → WrittenInPlace old.ram ram' m.space → Changed old.pool old.ram m.space old.pool ram' m.space → length (free_in old.pool ram') ≡ length (free_in old.pool old.ram)
+pub free-stays : {old : Memories} {i : ℕ} {m : Memory} (ram' : List (List ℕ)) → Stands old i m → WrittenInPlace old.ram ram' m.space
+    → Changed old.pool old.ram m.space old.pool ram' m.space → length (free_in old.pool ram') ≡ length (free_in old.pool old.ram)
 free-stays {old} {i} {m} ram' s place changed = omega (arith, trade-lengths old.pool old.pool old.ram ram' (frames_of old.ram m.space) (frames_of ram' m.space) changed.traded, ap length place.frames)
 
 -- a hart goes on
-pub written-runs : {old : Memories} {i : ℕ} {m : Memory} (new : Memories) → Stands old i m → WrittenInPlace old.ram new.ram m.space → new.each.items ≡ old.each.items → (hart : Hart) → RunsIn old i hart → RunsIn new i hart
+pub written-runs : {old : Memories} {i : ℕ} {m : Memory} (new : Memories) → Stands old i m → WrittenInPlace old.ram new.ram m.space
+    → new.each.items ≡ old.each.items → (hart : Hart) → RunsIn old i hart → RunsIn new i hart
 written-runs {old} {i} {m} new s place each = runs-on new m.space s refl (λ va access at is. place.walks va access ∙ is) (each ∙ each-stays s)
 
-pub unwritten-runs : {old : Memories} {i : ℕ} {m : Memory} (new : Memories) → Stands old i m → new.ram ≡ old.ram → new.each.items ≡ old.each.items → (hart : Hart) → RunsIn old i hart → RunsIn new i hart
+pub unwritten-runs : {old : Memories} {i : ℕ} {m : Memory} (new : Memories) → Stands old i m → new.ram ≡ old.ram → new.each.items ≡ old.each.items
+    → (hart : Hart) → RunsIn old i hart → RunsIn new i hart
 unwritten-runs {old} {i} {m} new s same each = runs-on new m.space s refl (same-translations old.ram new.ram m.space.root same) (each ∙ each-stays s)

@@ -1,8 +1,10 @@
 -- The program that a process asks exec for.
-use Rattle.std.proofs.Common.{◌≡◌, ◌≢◌, ℕ, zero, suc, ◌+◌, ◌-◌, ◌%◌, ◌<◌, ◌≤◌, Bool, true, false, cond, List, [], ◌∷◌, ◌++◌, length, drop, Option, Some, None, Result, Ok, Err, refl, sym, ap, ◌∙◌, arith}
+use Rattle.std.proofs.Common.{◌≡◌, ◌≢◌, ℕ, zero, suc, ◌+◌, ◌-◌, ◌%◌, ◌<◌, ◌≤◌, Bool, true, false, cond, List, []}
+use Rattle.std.proofs.Common.{◌∷◌, ◌++◌, length, drop, Option, Some, None, Result, Ok, Err, refl, sym, ap, ◌∙◌, arith}
 use Rattle.std.specs.Prelude.{if◌then◌else◌, nat_lt, slice_index, map, find, option_map, bytes_eq}
 use Rattle.std.proofs.lemmas.Bool.{eq-eqb, ne_eqb, ltb-false}
 use Rattle.std.proofs.lemmas.List.{length-append}
+use Rattle.std.proofs.lemmas.Option.{none-some}
 use Rattle.xk_base.specs.declared.limits.TheConstants.{MAXPATH, MAXARG, ARG_BYTES}
 use Rattle.xk_base.specs.declared.errors.ExecError.{ExecError}
 use Rattle.xk_base.specs.declared.errors.ExecError.TheVariants.{ArgsTooLong}
@@ -17,6 +19,7 @@ use Rattle.kernel_spec.specs.rows.Buffers.{text_at, texts_at, no_slashes}
 use Rattle.kernel_spec.specs.views.Programs.{program_named}
 use Rattle.kernel_spec.specs.views.State.{ProgramFile, named_file}
 use Rattle.kernel_spec.specs.rows.Execs.{Asks}
+use Rattle.kernel_spec.proofs.rows.WholePages.{bound}
 
 -- ---- names
 
@@ -34,7 +37,8 @@ slashes-only (x ∷ xs) all = slashes-only xs (λ j below. all (suc j) (omega (a
 
 -- ---- programs
 
-either : (b : Bool) (p : Program) (rest : Option Program) (rest' : Option ProgramFile) → option_map named_file rest ≡ rest' → option_map named_file (cond b (Some p) rest) ≡ cond b (Some (named_file p)) rest'
+either : (b : Bool) (p : Program) (rest : Option Program) (rest' : Option ProgramFile) → option_map named_file rest ≡ rest'
+    → option_map named_file (cond b (Some p) rest) ≡ cond b (Some (named_file p)) rest'
 either true p rest rest' e = refl
 either false p rest rest' e = e
 
@@ -44,10 +48,6 @@ found-among name [] = refl
 found-among name (p ∷ later) = either (bytes_eq p.name.items name) p (find (λ q. bytes_eq q.name.items name) later) (program_named name (map named_file later)) (found-among name later)
 
 -- ---- what can be loaded
-
-bound : {A B : Type 0} (r : Result A ExecError) (f : A → Result B ExecError) (b : B) → (r >>= f) ≡ Ok b → (a : A) × (r ≡ Ok a) × (f a ≡ Ok b)
-bound (Ok a) f b e = (a, refl, e)
-bound (Err x) f b e = absurd (cc)
 
 picked : (b : Bool) (x l : Loaded) → (if b then Err ArgsTooLong else Ok x) ≡ Ok l → (b ≡ false) × (x ≡ l)
 picked true x l e = absurd (cc)
@@ -62,7 +62,8 @@ few : (texts : List (List ℕ)) → length texts ≤ length (terminated texts)
 few [] = omega arith
 few (text ∷ later) = omega (arith, few later, length-append (text ++ 0 ∷ []) (terminated later), length-append text (0 ∷ []))
 
-texts-fit : (file : List ℕ) (header : Header) (texts : List (List ℕ)) (segments : List Segment) (l : Loaded) → with_texts file header texts segments ≡ Ok l → (l.pc % 4 ≡ 0) × (length (terminated texts) ≤ ARG_BYTES) × (l.argc ≡ length texts)
+texts-fit : (file : List ℕ) (header : Header) (texts : List (List ℕ)) (segments : List Segment) (l : Loaded)
+    → with_texts file header texts segments ≡ Ok l → (l.pc % 4 ≡ 0) × (length (terminated texts) ≤ ARG_BYTES) × (l.argc ≡ length texts)
 texts-fit file header texts segments l e =
     let s = page_up (end_after 0 segments) in
     let sp = stack_pointer (s + 8192) texts in
@@ -98,9 +99,6 @@ asked_path programs texts (Some path) = asked_program texts (program_named (no_s
 abbrev pub asked : List ProgramFile → Image → (path pointers : ℕ) → Option Loaded
 asked programs image path pointers = asked_path programs (texts_at MAXARG ARG_BYTES image pointers) (text_at MAXPATH image path)
 
-no-some : {X : Type 0} (x : X) → None ≡ Some x → ⊥
-no-some x e = cc
-
 pub asks-given : {programs : List ProgramFile} {image : Image} {path pointers : ℕ} {l : Loaded} → Asks programs image path pointers l → asked programs image path pointers ≡ Some l
 asks-given {programs} {image} {path} {pointers} {l} a =
     ap (asked_path programs (texts_at MAXARG ARG_BYTES image pointers)) a.name_is
@@ -111,20 +109,24 @@ asks-given {programs} {image} {path} {pointers} {l} a =
 pub asks-of : (programs : List ProgramFile) (image : Image) (path pointers : ℕ) (l : Loaded) → asked programs image path pointers ≡ Some l → Asks programs image path pointers l
 asks-of programs image path pointers l e = by-name (text_at MAXPATH image path) refl (texts_at MAXARG ARG_BYTES image pointers) refl e
   where
-    by-file : (name : List ℕ) (texts : List (List ℕ)) (program : ProgramFile) → text_at MAXPATH image path ≡ Some name → texts_at MAXARG ARG_BYTES image pointers ≡ Some texts → program_named (no_slashes name) programs ≡ Some program
+    by-file : (name : List ℕ) (texts : List (List ℕ)) (program : ProgramFile) → text_at MAXPATH image path ≡ Some name
+        → texts_at MAXARG ARG_BYTES image pointers ≡ Some texts → program_named (no_slashes name) programs ≡ Some program
         → (r : Result Loaded ExecError) → loaded program.bytes texts ≡ r → if_loaded r ≡ Some l → Asks programs image path pointers l
-    by-file name texts program n t p (Err x) is same = absurd (no-some l same)
+    by-file name texts program n t p (Err x) is same = absurd (none-some l same)
     by-file name texts program n t p (Ok x) is same =
         let e : x ≡ l = cc in
         record { name = name; texts = texts; program = program; name_is = n; texts_is = t; program_is = p; loaded_is = is ∙ ap Ok e }
 
-    by-program : (name : List ℕ) → text_at MAXPATH image path ≡ Some name → (t : Option (List (List ℕ))) → texts_at MAXARG ARG_BYTES image pointers ≡ t → (p : Option ProgramFile) → program_named (no_slashes name) programs ≡ p → asked_program t p ≡ Some l → Asks programs image path pointers l
-    by-program name n None t p is same = absurd (no-some l same)
-    by-program name n (Some texts) t None is same = absurd (no-some l same)
+    by-program : (name : List ℕ) → text_at MAXPATH image path ≡ Some name → (t : Option (List (List ℕ)))
+        → texts_at MAXARG ARG_BYTES image pointers ≡ t → (p : Option ProgramFile) → program_named (no_slashes name) programs ≡ p
+        → asked_program t p ≡ Some l → Asks programs image path pointers l
+    by-program name n None t p is same = absurd (none-some l same)
+    by-program name n (Some texts) t None is same = absurd (none-some l same)
     by-program name n (Some texts) t (Some program) is same = by-file name texts program n t is (loaded program.bytes texts) refl same
 
-    by-name : (n : Option (List ℕ)) → text_at MAXPATH image path ≡ n → (t : Option (List (List ℕ))) → texts_at MAXARG ARG_BYTES image pointers ≡ t → asked_path programs t n ≡ Some l → Asks programs image path pointers l
-    by-name None n t is same = absurd (no-some l same)
+    by-name : (n : Option (List ℕ)) → text_at MAXPATH image path ≡ n → (t : Option (List (List ℕ))) → texts_at MAXARG ARG_BYTES image pointers ≡ t
+        → asked_path programs t n ≡ Some l → Asks programs image path pointers l
+    by-name None n t is same = absurd (none-some l same)
     by-name (Some name) n t is same = by-program name n t is (program_named (no_slashes name) programs) refl same
 
 -- the texts of a program that is asked for are few

@@ -4,11 +4,10 @@ use Rattle.std.specs.Prelude.{ℤ, option_map}
 use Rattle.std.specs.Ordering.{nat_cmp}
 use Rattle.std.specs.Cmp.{nat_cmp_total}
 use Rattle.std.specs.FinMap.{get, get-empty, empty, same_map, nat_cmp-IsAntisymmetric}
-use Rattle.std.proofs.lemmas.Bool.{cases_eq}
+use Rattle.std.proofs.lemmas.Bool.{cases_eq, lt-ltb}
 use Rattle.std.proofs.lemmas.List.{get_or-replicate, length-replicate, ext_get_or, get_or-set_other}
 use Rattle.xk_base.specs.declared.limits.TheConstants.{NOFILE}
 use Rattle.sv39_core.proofs.Gathered.{gathered-get}
-use Rattle.sv39_core.proofs.Words.{ltb-yes}
 use Rattle.hart_core.specs.declared.hart.Hart.{Hart}
 use Rattle.file_table.specs.Named.{none_named}
 use Rattle.file_table.specs.OpenFiles as files
@@ -21,7 +20,7 @@ use Rattle.proc_table.specs.declared.process.State as table
 use Rattle.proc_table.specs.declared.process.State.TheVariants.{Live as Live_state, Zombie as Zombie_state}
 use Rattle.proc_table.specs.declared.process.Process.{Process}
 use Rattle.kernel_spec.specs.views.Words.{or_zero}
-use Rattle.kernel_spec.specs.views.Processes.{Live, Alive}
+use Rattle.kernel_spec.specs.views.Processes.{Alive}
 use Rattle.kernel_spec.specs.views.State.{State}
 use Rattle.kernel_spec.specs.steps.Updates.{changed_state, fewer_on_all, freed_on_all, gone_state}
 use Rattle.kernel_spec.specs.laws.RowLaws.{FilesLeft}
@@ -31,12 +30,13 @@ use Rattle.kernel_spec.specs.rows.Calls.{gone}
 use Rattle.kcall_core.specs.Makes.{view_now, Makes}
 use Rattle.kcall_core.specs.Whole.{namings, IsWhole, AreCounted}
 use Rattle.kcall_core.specs.declared.kernel.Kernel.{Kernel}
-use Rattle.kernel_spec.proofs.steps.Maps.{get_same}
+use Rattle.kernel_spec.proofs.steps.MapsAfterChange.{get_same}
 use Rattle.kcall_core.proofs.table.States.{running}
 use Rattle.kcall_core.proofs.turns.Turned.{live-is}
 use Rattle.kcall_core.proofs.processes.Departs.{OthersWake, Departs}
 use Rattle.kernel_spec.specs.waking.SleepsOn.{closes_wake}
 use Rattle.kernel_spec.specs.waking.SleepsOn.{family_wakes, end_wakes}
+use Rattle.kernel_spec.proofs.Common.{same_live}
 use Rattle.kcall_core.proofs.table.OthersWake.{others-join, others-end, own-end, end_in, parent_woken}
 use Rattle.kcall_core.proofs.table.Woken.{place-each}
 use Rattle.kcall_core.proofs.processes.GoneAfter.{gone-after}
@@ -77,7 +77,7 @@ nothing-named ds long none = ext_get_or None ds none_named (long ∙ sym (length
     nobody = None
 
     seen : (d : ℕ) → d < NOFILE → get_or ds d None ≡ None
-    seen d below = sym (gathered-get (λ e. get_or ds e None) NOFILE d ∙ ap (λ b. cond b (get_or ds d None) None) (ltb-yes d NOFILE below)) ∙ none d
+    seen d below = sym (gathered-get (λ e. get_or ds e None) NOFILE d ∙ ap (λ b. cond b (get_or ds d None) None) (lt-ltb d NOFILE below)) ∙ none d
 
 -- ---- the open files count as many
 
@@ -154,11 +154,8 @@ module _ (k k1 k' : Kernel) (h h' : Hart) (status : ℤ) (bared : IsBared k h k1
   bare-live : live_now k1 h ≡ record (live_now k h) { descriptors = (live_now k1 h).descriptors }
   bare-live =
       let bare = record (live_now k h) { descriptors = (live_now k1 h).descriptors } in
-      one (live_now k1 h) bare
+      same_live (live_now k1 h) bare
       (sym (live-is k1 h bared.sound bared.running) ∙ (λ i. get (bared.state i).processes (bared.pid i)) ∙ get_same (state_of k h).processes (pid_now k) (Alive bare))
-    where
-      one : (a b : Live) → Some (Alive a) ≡ Some (Alive b) → a ≡ b
-      one a b e = cc
 
   no-descriptors : (live_now k1 h).descriptors ≡ empty
   no-descriptors = same_map nat_cmp_total nat_cmp-IsAntisymmetric (live_now k1 h).descriptors empty (λ d. bared.none d ∙ sym (get-empty nat_cmp d))

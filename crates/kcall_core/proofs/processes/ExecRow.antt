@@ -13,7 +13,7 @@ use Rattle.kernel_spec.specs.views.View.{View}
 use Rattle.kernel_spec.specs.steps.Own.{Own}
 use Rattle.kernel_spec.specs.rows.Calls.{exec, done, refused}
 use Rattle.kcall_core.proofs.processes.Asking.{asked, asked_path, asked_program, if_loaded}
-use Rattle.kernel_spec.proofs.rows.RowParts.{exec_path, exec_program, exec_loaded, running, unless}
+use Rattle.kernel_spec.proofs.rows.RowParts.{exec_path, exec_program, exec_loaded, unless, running}
 use Rattle.kernel_spec.proofs.rows.RowsByParts.{exec_same}
 
 abbrev pub exec_asked : Call → View → Option Loaded → Own

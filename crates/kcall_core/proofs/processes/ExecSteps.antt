@@ -33,7 +33,7 @@ use Rattle.kcall_core.proofs.table.States.{runs-same}
 use Rattle.kcall_core.proofs.processes.ExecRow.{exec_asked, exec-is}
 use Rattle.kcall_core.proofs.processes.Asking.{asked-few, asked, asks-given, asks-of}
 use Rattle.kcall_core.proofs.making.Prepared.{Prepared, over, prepared-anew, prepared-same, prepared-makes}
-use Rattle.kernel_spec.proofs.rows.RowParts.{running, unless}
+use Rattle.kernel_spec.proofs.rows.RowParts.{unless, running}
 
 -- the memories now hold the program that was asked for, and the hart uses its tables
 abbrev pub Replaced : Memories → Memories → List ProgramFile → (slot path pointers : ℕ) → Entry → Hart → Type 0
@@ -74,7 +74,8 @@ pub record IsDone (k1 : Kernel) (h1 : Hart) (k2 : Kernel) (h2 : Hart) (value : �
   pub state : state_of k2 h2 ≡ own_state (pid_now k1) (with_answer value (live_now k1 h1)) (state_of k1 h1)
 
 module _ (k : Kernel) (h h1 : Hart) (m : Memories) (c : Call) (whole : IsWhole k h) (runs : IsRunning k) where
-  module _ (start : Entry) (h' : Hart) (to : Replaced k.memories m (map named_file k.programs.items) (slot_now k) c.a0 c.a1 start h1) (regs1 : h1.regs ≡ h.regs) (e : h' ≡ record h1 { regs = begun h1.regs start }) where
+  module _ (start : Entry) (h' : Hart) (to : Replaced k.memories m (map named_file k.programs.items) (slot_now k) c.a0 c.a1 start h1)
+      (regs1 : h1.regs ≡ h.regs) (e : h' ≡ record h1 { regs = begun h1.regs start }) where
     abbrev now : Registers
     now = (started to.0 (live_now k h)).regs
 

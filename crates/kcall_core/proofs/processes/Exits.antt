@@ -3,7 +3,8 @@ use Rattle.std.proofs.Common.{◌≡◌, ◌≢◌, ℕ, cond, length, Option, S
 use Rattle.std.specs.Prelude.{ℤ, is_some}
 use Rattle.std.specs.FinMap.{get, get-empty, empty}
 use Rattle.std.specs.Ordering.{nat_cmp}
-use Rattle.sv39_core.proofs.Words.{ltb-no}
+use Rattle.std.proofs.lemmas.Option.{none-some, same_Some}
+use Rattle.std.proofs.lemmas.Bool.{le-ltb}
 use Rattle.sv39_core.proofs.Gathered.{same_pages}
 use Rattle.hart_core.specs.declared.hart.Hart.{Hart}
 use Rattle.file_table.specs.OpenFiles.{IsTable, open_file_at}
@@ -23,7 +24,6 @@ use Rattle.kcall_core.specs.Closings.{woken_by, parent_woken, IsClosing, ClosesF
 use Rattle.kernel_spec.specs.waking.SleepsOn.{closes_wake}
 use Rattle.kcall_core.specs.declared.kernel.Kernel.{Kernel}
 use Rattle.kcall_core.proofs.turns.Turned.{live-is}
-use Rattle.kcall_core.proofs.table.States.{none-some}
 use Rattle.kcall_core.proofs.table.Stops.{now-slot}
 use Rattle.kcall_core.proofs.table.Observed.{parent-told}
 use Rattle.kcall_core.proofs.files.Namings.{files-left}
@@ -38,7 +38,7 @@ whole-closing whole runs = record { sound = whole.sound; running = runs; well = 
 
 module _ {k k1 : Kernel} {h : Hart} (all : ClosesFrom k h 0 k1) where
   none-left : (d : ℕ) → get (live_now k1 h).descriptors d ≡ None
-  none-left d = all.descriptors d ∙ ap (λ b. cond b (get (live_now k h).descriptors d) None) (ltb-no d 0 (omega arith))
+  none-left d = all.descriptors d ∙ ap (λ b. cond b (get (live_now k h).descriptors d) None) (le-ltb d 0 (omega arith))
 
   pub bared : IsBared k h k1
   unfolding fewer_on_all freed_on_all
@@ -73,14 +73,11 @@ not-own-parent {k} {h} closing own =
           let first = closing.well.first (pid_now k) (ap is_some live) in
           let same : Some first.0 ≡ Some (Alive (live_now k h)) = sym first.1 ∙ sym (ap (get s.processes) one) ∙ live in
           none-some (pid_now k) (sym first.2 ∙ parent-same first.0 (live_now k h) same ∙ own)
-      | inr has ↦ has.other (some-same has.parent (pid_now k) (sym has.is ∙ own))
+      | inr has ↦ has.other (same_Some has.parent (pid_now k) (sym has.is ∙ own))
     ]
   where
     parent-same : (x : meaning.Process) (l : Live) → Some x ≡ Some (Alive l) → parent_of x ≡ l.parent
     parent-same x l e = let same : x ≡ Alive l = cc in ap parent_of same
-
-    some-same : (a b : ℕ) → Some a ≡ Some b → a ≡ b
-    some-same a b e = cc
 
 -- the parent that the table tells
 pub parent-now : {k : Kernel} {h : Hart} (slot : ℕ) (parent : Option ℕ) → IsSound k h → k.current ≡ Some slot → parent_at k.table slot ≡ Some parent → (live_now k h).parent ≡ parent
@@ -96,7 +93,8 @@ module _ (k k1 k2 k3 k' : Kernel) (h h' : Hart) (status : ℤ) (parent : Option 
     (table2 : k2.table ≡ changed_at (slot_now k1) (ended status) (each_changed (given (pid_now k1) 1) k1.table))
     (state2 : state_of k2 h' ≡ gone_state (pid_now k1) (live_now k1 h) status (state_of k1 h).files (state_of k1 h))
     (table3 : k3.table ≡ parent_woken parent k2.table) (rest3 : k3 ≡ record k2 { table = k3.table }) (sound3 : IsSound k2 h' → IsSound k3 h') (state3 : state_of k3 h' ≡ state_of k2 h')
-    (table4 : k'.table ≡ each_changed (woken (on.Children 1)) k3.table) (rest4 : k' ≡ record k3 { table = k'.table }) (sound4 : IsSound k3 h' → IsSound k' h') (state4 : state_of k' h' ≡ state_of k3 h') where
+    (table4 : k'.table ≡ each_changed (woken (on.Children 1)) k3.table) (rest4 : k' ≡ record k3 { table = k'.table })
+    (sound4 : IsSound k3 h' → IsSound k' h') (state4 : state_of k' h' ≡ state_of k3 h') where
   same-files : k'.files ≡ k1.files
   same-files = ap (λ (n : Kernel). n.files) rest4 ∙ ap (λ (n : Kernel). n.files) rest3 ∙ files2
 

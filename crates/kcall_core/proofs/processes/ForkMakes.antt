@@ -1,9 +1,10 @@
 -- A call that makes a process: what fork has to leave to make the step that its row tells.
-use Rattle.std.proofs.Common.{◌≡◌, ◌≢◌, ℕ, ◌≤◌, ◌+◌, ◌||◌, Bool, true, false, subst, Option, Some, None, inl, inr, refl, sym, ap, ◌∙◌, arith}
+use Rattle.std.proofs.Common.{◌≡◌, ◌≢◌, ℕ, ◌+◌, ◌||◌, Bool, true, false, subst, Option, Some, None, inl, inr, refl, sym, ap, ◌∙◌, arith}
 use Rattle.std.specs.Prelude.{pos, IsSome, is_some, nat_lt, MatchOption, Contains}
 use Rattle.std.specs.FinMap.{get, keys}
 use Rattle.std.specs.FinSet.{contains}
-use Rattle.std.proofs.lemmas.Bool.{cases_eq, cases_lt, lt-ltb}
+use Rattle.std.proofs.lemmas.Bool.{cases_eq, ltb-false, both_ways}
+use Rattle.std.proofs.lemmas.Option.{none-some, same_Some}
 use Rattle.xk_base.specs.declared.limits.TheConstants.{NPROC, PID_MAX}
 use Rattle.xk_base.specs.Image.{price}
 use Rattle.hart_core.specs.declared.hart.Hart.{Hart}
@@ -30,15 +31,15 @@ use Rattle.kcall_core.specs.Machine.{slots_of, sleepers_below, turns_of}
 use Rattle.kcall_core.specs.Whole.{IsWhole, AreCounted}
 use Rattle.kcall_core.specs.Makes.{Makes, view_now}
 use Rattle.kcall_core.specs.declared.kernel.Kernel.{Kernel}
-use Rattle.kernel_spec.proofs.steps.Maps.{get_other}
-use Rattle.kcall_core.proofs.table.States.{none-some, running}
-use Rattle.kcall_core.proofs.turns.Turned.{slot-is, slot-from, awake-is, not-both, same-some, live-is}
+use Rattle.kernel_spec.proofs.steps.MapsAfterChange.{get_other}
+use Rattle.kcall_core.proofs.table.States.{running}
+use Rattle.kcall_core.proofs.turns.Turned.{slot-is, slot-from, awake-is, live-is}
 use Rattle.kcall_core.proofs.table.OnePlace.{in-call-channel}
 use Rattle.kcall_core.proofs.turns.WhoRuns.{place-is}
 use Rattle.kernel_spec.proofs.waking.Openings.{opens_forked}
 use Rattle.kernel_spec.proofs.waking.WaitsOn.{waits_stay}
 use Rattle.kernel_spec.proofs.well.WellLaws as well
-use Rattle.kernel_spec.proofs.steps.Family.{fork_law}
+use Rattle.kernel_spec.proofs.steps.FamilyLawsHold.{fork_law}
 use Rattle.kcall_core.proofs.turns.StepSlots.{SlotsAfter, no-slot}
 use Rattle.kcall_core.proofs.making.Making.{Itself, Others, made}
 use Rattle.kernel_spec.proofs.rows.RowParts.{forked, cannot_fork, slots_are_full, unless}
@@ -88,10 +89,6 @@ module _ {k : Kernel} {h : Hart} {k' : Kernel} {h' : Hart} {child : ℕ} (whole 
   abbrev t : State
   t = forked_state p l s
 
-  -- its pid is new
-  p-old : p ≢ s.next_pid
-  p-old e = let r = whole.well.pids p (ap is_some was) in omega (arith, r.1, e)
-
   old : (q : ℕ) (m : Live) → live s q ≡ Some m → q ≢ s.next_pid
   old q m is e = by (get s.processes q) refl is
     where
@@ -131,15 +128,16 @@ module _ {k : Kernel} {h : Hart} {k' : Kernel} {h' : Hart} {child : ℕ} (whole 
     waits = subst (λ u. (q : ℕ) (m n : Live) → q ≢ p → live s q ≡ Some m → live u q ≡ Some n → (waits_for u q n ≡ waits_for s q m) × (m.killed ≡ true → n.killed ≡ true)) (sym x.state)
         (waits_stay (frame_count k) s p l whole.well was).3;
     due = λ q m n d other is now for-d unmarked shut.
-        let same : n ≡ m = same-some n m (sym now ∙ ap (λ (u : State). live u q) x.state ∙ live-other q m other is ∙ is) in
+        let same : n ≡ m = same_Some n m (sym now ∙ ap (λ (u : State). live u q) x.state ∙ live-other q m other is ∙ is) in
         (nothing-opens (is_open t (waits_for s q m)) (λ opens. opens_forked (frame_count k) s p l whole.well was (waits_for s q m) shut opens))
         ∙ (λ i. (sym (ap (λ (y : Live). y.killed) same ∙ unmarked)) i || is_open (sym x.state i) (waits_for s q m));
   }
     where
-      slept : (j : ℕ) (y : Process) (d : Channel) → j ≢ slot_now k → place_at k'.table j ≡ Some y → channel_of y ≡ Some d → (z : Process) × (place_at k.table j ≡ Some z) × (y.pid ≡ z.pid) × (channel_of z ≡ Some d)
+      slept : (j : ℕ) (y : Process) (d : Channel) → j ≢ slot_now k → place_at k'.table j ≡ Some y → channel_of y ≡ Some d
+          → (z : Process) × (place_at k.table j ≡ Some z) × (y.pid ≡ z.pid) × (channel_of z ≡ Some d)
       slept j y d other at on = elim (cases_eq j child) [
         | inl e ↦
-            let same : y ≡ newborn k.table.next (Some p) = same-some y (newborn k.table.next (Some p)) (sym at ∙ ap (place_at k'.table) e ∙ x.newborn) in
+            let same : y ≡ newborn k.table.next (Some p) = same_Some y (newborn k.table.next (Some p)) (sym at ∙ ap (place_at k'.table) e ∙ x.newborn) in
             absurd (none-some d (sym (ap channel_of same) ∙ on))
         | inr new ↦ (y, sym (x.others j other new) ∙ at, refl, on)
       ]
@@ -151,7 +149,7 @@ module _ {k : Kernel} {h : Hart} {k' : Kernel} {h' : Hart} {child : ℕ} (whole 
       let (y, at, named, below) = slot-from k.table whole.sound.table j q e in
       elim (cases_eq j (slot_now k)) [
         | inl here ↦
-            let same : place_now k ≡ y = same-some (place_now k) y (sym (place-is k h whole.sound runs) ∙ sym (ap (place_at k.table) here) ∙ at) in
+            let same : place_now k ≡ y = same_Some (place_now k) y (sym (place-is k h whole.sound runs) ∙ sym (ap (place_at k.table) here) ∙ at) in
             ap (get (slots_of k'.table)) (sym named ∙ sym (ap (λ (z : Process). z.pid) same))
             ∙ slot-is k'.table x.sound.table j (in_call None (place_now k)) (ap (place_at k'.table) here ∙ x.own)
         | inr other ↦ ap (get (slots_of k'.table)) (sym named) ∙ slot-is k'.table x.sound.table j y (x.others j other (apart j y at) ∙ at)
@@ -162,7 +160,9 @@ module _ {k : Kernel} {h : Hart} {k' : Kernel} {h' : Hart} {child : ℕ} (whole 
   slots = record {
     held = λ q among some. by q (get (slots_of k.table) q) refl some;
     given_up = λ q absent. no-slot k' h' x.sound.table q (λ among. absent (subst (λ pids. Contains pids q) (ap (λ (u : State). keys u.processes) x.state ∙ laws.left.pids) among));
-    newborn = subst (λ (o : Own). MatchOption o.child (Unit {0}) (λ d. ((slot : ℕ) × (get (slots_of k'.table) d.pid ≡ Some slot) × IsLowestFree (turns_of k None) slot) × ¬ (contains (sleepers_below k'.table NPROC) d.pid ≡ true))) (sym row) born;
+    newborn = subst (λ (o : Own). MatchOption o.child (Unit {0})
+        (λ d. ((slot : ℕ) × (get (slots_of k'.table) d.pid ≡ Some slot) × IsLowestFree (turns_of k None) slot)
+        × ¬ (contains (sleepers_below k'.table NPROC) d.pid ≡ true))) (sym row) born;
   }
     where
       by : (q : ℕ) (o : Option ℕ) → get (slots_of k.table) q ≡ o → IsSome o → get (slots_of k'.table) q ≡ get (slots_of k.table) q
@@ -172,7 +172,7 @@ module _ {k : Kernel} {h : Hart} {k' : Kernel} {h' : Hart} {child : ℕ} (whole 
       born : ((slot : ℕ) × (get (slots_of k'.table) s.next_pid ≡ Some slot) × IsLowestFree (turns_of k None) slot) × ¬ (contains (sleepers_below k'.table NPROC) s.next_pid ≡ true)
       born = (
         (child, slot-is k'.table x.sound.table child (newborn k.table.next (Some p)) x.newborn, x.lowest),
-        λ sleeps. not-both sleeps (awake-is k'.table x.sound.table child (newborn k.table.next (Some p)) x.newborn refl),
+        λ sleeps. both_ways _ (awake-is k'.table x.sound.table child (newborn k.table.next (Some p)) x.newborn refl) sleeps,
       )
 
   -- and it answers the child's pid
@@ -185,7 +185,7 @@ module _ {k : Kernel} {h : Hart} {k' : Kernel} {h' : Hart} {child : ℕ} (whole 
   fork-makes = made whole runs (record {
     leaves = record {
       sound = x.sound;
-      well = subst (WellFormed (frame_count k)) (sym x.state) (well.forked (frame_count k) s p l whole.well was (fits (price l.image + 1) s.free x.room));
+      well = subst (WellFormed (frame_count k)) (sym x.state) (well.forked (frame_count k) s p l whole.well was (ltb-false s.free (price l.image + 1) x.room));
       files = x.files;
       counted = x.counted;
       frames = x.frames;
@@ -202,6 +202,3 @@ module _ {k : Kernel} {h : Hart} {k' : Kernel} {h' : Hart} {child : ℕ} (whole 
     where
       not-blocked : IsBlocked (fork c v).answer → ⊥
       not-blocked (n, is) = let e : Called c.number (pos v.next_pid) ≡ Blocked n = sym (ap (λ (o : Own). o.answer) row) ∙ is in cc
-
-      fits : (a b : ℕ) → nat_lt b a ≡ false → a ≤ b
-      fits a b e = elim (cases_lt b a) [ inl less ↦ absurd (not-both (lt-ltb b a less) e) | inr more ↦ more ]

@@ -4,11 +4,13 @@ use Rattle.std.specs.Prelude.{if◌then◌else◌, is_none, is_some, nat_le, nat
 use Rattle.std.specs.Ordering.{nat_cmp}
 use Rattle.std.specs.Cmp.{nat_cmp_total}
 use Rattle.std.specs.FinMap.{get, insert, len, len-empty, len-insert, len-entries, entries}
-use Rattle.std.proofs.lemmas.Bool.{cases_eq, cases_lt, lt-ltb, le-ltb}
+use Rattle.std.proofs.lemmas.Bool.{cases_eq, cases_lt, lt-ltb, le-ltb, both_ways, or_right}
 use Rattle.std.proofs.lemmas.Bool.Decides.{leb_tells}
 use Rattle.std.proofs.lemmas.List.{length-map}
+use Rattle.std.proofs.lemmas.Option.{none-some}
 use Rattle.xk_base.specs.declared.limits.TheConstants.{NPROC, PID_MAX}
 use Rattle.xk_base.specs.Words.{count_below}
+use Rattle.xk_base.proofs.Least.{none_below}
 use Rattle.hart_core.specs.declared.hart.Hart.{Hart}
 use Rattle.proc_table.specs.Slots.{place_at, slot_for_new}
 use Rattle.proc_table.specs.declared.process.Process.{Process}
@@ -21,12 +23,14 @@ use Rattle.kcall_core.specs.Machine.{turns_of}
 use Rattle.kcall_core.specs.Makes.{view_now}
 use Rattle.kcall_core.specs.declared.kernel.Kernel.{Kernel}
 use Rattle.kcall_core.proofs.table.ByPid.{none}
-use Rattle.kernel_spec.proofs.steps.Least.{least_passes, none_passes, least_least}
+use Rattle.kernel_spec.proofs.steps.LeastPasses.{least_passes, least_least}
 use Rattle.kcall_core.proofs.files.Lowest.{least-position}
 use Rattle.kcall_core.proofs.files.Room.{count-few}
-use Rattle.kcall_core.proofs.table.States.{none-some, entry-pid}
-use Rattle.kcall_core.proofs.turns.Turned.{slot-is, slot-from, not-both}
+use Rattle.kcall_core.proofs.table.States.{entry-pid}
+use Rattle.kcall_core.proofs.turns.Turned.{slot-is, slot-from}
 use Rattle.kernel_spec.proofs.rows.RowParts.{slots_are_full}
+use Rattle.kernel_spec.proofs.Common.{none_from_is_none}
+use Rattle.exec_core.proofs.Prices.{count-all}
 
 -- ---- as many pids as slots that are held
 
@@ -40,17 +44,9 @@ module _ {X : Type 0} where
       by None at same = omega (arith, same)
       by (Some e) at same =
           let new : get (by_pid g n) e.0 ≡ None = none g n e.0 (λ j y lt is pid. let here : j ≡ n = apart j n y e is at (sym pid) in omega (arith, here, lt)) in
-          let more : len (insert (by_pid g n) e.0 e.1) ≡ len (by_pid g n) + 1 = len-insert nat_cmp_total (by_pid g n) e.0 e.1 ∙ ap (λ o. cond (is_some o) (len (by_pid g n)) (len (by_pid g n) + 1)) new in
+          let more : len (insert (by_pid g n) e.0 e.1) ≡ len (by_pid g n) + 1 = len-insert nat_cmp_total (by_pid g n) e.0 e.1
+          ∙ ap (λ o. cond (is_some o) (len (by_pid g n)) (len (by_pid g n) + 1)) new in
           omega (arith, same, more)
-
-count-all : (test : ℕ → Bool) (n : ℕ) → ((i : ℕ) → i < n → test i ≡ true) → count_below test n ≡ n
-unfolding count_below
-count-all test zero all = refl
-count-all test (suc n) all = by (test n) (all n (omega arith)) (count-all test n (λ i lt. all i (omega arith)))
-  where
-    by : (b : Bool) → b ≡ true → count_below test n ≡ n → count_below test n + (if b then 1 else 0) ≡ suc n
-    by true is same = omega (arith, same)
-    by false is same = let wrong : ⊥ = cc in absurd wrong
 
 count-missing : (test : ℕ → Bool) (n i : ℕ) → i < n → test i ≡ false → count_below test n < n
 unfolding count_below
@@ -60,7 +56,7 @@ count-missing test (suc n) i lt not = by (test n) refl (λ below. count-missing 
     by : (b : Bool) → test n ≡ b → (i < n → count_below test n < n) → count_below test n + (if b then 1 else 0) < suc n
     by false at rest = let few : count_below test n ≤ n = count-few test n in omega (arith, few)
     by true at rest = elim (cases_eq i n) [
-      | inl here ↦ absurd (not-both at (sym (ap test here) ∙ not))
+      | inl here ↦ absurd (both_ways _ (sym (ap test here) ∙ not) at)
       | inr other ↦ let less : count_below test n < n = rest (omega (arith, lt, other)) in omega (arith, less)
     ]
 
@@ -90,29 +86,22 @@ module _ (k : Kernel) (h : Hart) (sound : IsSound k h) where
   held-there None e = let wrong : ⊥ = cc in absurd wrong
   held-there (Some p) e = refl
 
-  absent-there : (o : Option Process) → is_none o ≡ true → o ≡ None
-  absent-there None e = refl
-  absent-there (Some p) e = let wrong : ⊥ = cc in absurd wrong
-
   full-if : position is_none places-of ≡ None → slots_are_full (view_now k h) ≡ true
   full-if e =
-      let passes = none_passes 64 (λ d. is_none (get_or places-of d None)) (least-position places-of 64 sound.table.places ∙ e) in
-      let all : count_below (λ j. is_some (entry_at k h j)) 64 ≡ 64 = count-all (λ j. is_some (entry_at k h j)) 64 (λ j lt. entry-some j (place_at k.table j) ∙ held-there (place_at k.table j) (passes j lt)) in
+      let passes = none_below (λ d. is_none (get_or places-of d None)) 64 (least-position places-of 64 sound.table.places ∙ e) in
+      let all : count_below (λ j. is_some (entry_at k h j)) 64 ≡ 64 =
+      count-all 64 (λ j. is_some (entry_at k h j)) (λ j lt. entry-some j (place_at k.table j) ∙ held-there (place_at k.table j) (passes j lt)) in
       elim (leb_tells NPROC (length (view_now k h).pids)) [ inl fits ↦ fits.0 | inr less ↦ absurd (omega (arith, less.1, pids-counted, all)) ]
 
   pub no-slot : slot_for_new k.table ≡ None → (slots_are_full (view_now k h) || nat_lt PID_MAX (state_of k h).next_pid) ≡ true
   unfolding state_of
   no-slot e = by (nat_le k.table.next PID_MAX) refl e
     where
-      last : (a : Bool) → (a || true) ≡ true
-      last true = refl
-      last false = refl
-
       by : (b : Bool) → nat_le k.table.next PID_MAX ≡ b → (if b then position is_none places-of else None) ≡ None → (slots_are_full (view_now k h) || nat_lt PID_MAX k.table.next) ≡ true
       by true is absent = ap (λ a. a || nat_lt PID_MAX k.table.next) (full-if absent)
       by false is absent = elim (leb_tells k.table.next PID_MAX) [
-        | inl fits ↦ absurd (not-both fits.0 is)
-        | inr more ↦ ap (λ b. slots_are_full (view_now k h) || b) (lt-ltb PID_MAX k.table.next (omega (arith, more.1))) ∙ last (slots_are_full (view_now k h))
+        | inl fits ↦ absurd (both_ways _ is fits.0)
+        | inr more ↦ ap (λ b. slots_are_full (view_now k h) || b) (lt-ltb PID_MAX k.table.next (omega (arith, more.1))) ∙ or_right (slots_are_full (view_now k h)) true refl
       ]
 
   -- a slot that the table gives to a new process: it is vacant, and the process sees that there is one
@@ -133,7 +122,7 @@ module _ (k : Kernel) (h : Hart) (sound : IsSound k h) where
           let least = least-position places-of 64 sound.table.places ∙ at in
           let found = least_passes 64 (λ d. is_none (get_or places-of d None)) i least in
           let earlier = least_least 64 (λ d. is_none (get_or places-of d None)) i least in
-          let vacant : place_at k.table i ≡ None = absent-there (place_at k.table i) found.0 in
+          let vacant : place_at k.table i ≡ None = none_from_is_none (place_at k.table i) found.0 in
           let missing : count_below (λ j. is_some (entry_at k h j)) 64 < 64 = count-missing (λ j. is_some (entry_at k h j)) 64 i found.1 (entry-some i (place_at k.table i) ∙ ap is_some vacant) in
           record {
             below = found.1;
@@ -147,7 +136,7 @@ module _ (k : Kernel) (h : Hart) (sound : IsSound k h) where
               ],
             );
             slots = elim (leb_tells NPROC (length (view_now k h).pids)) [ inl full ↦ absurd (omega (arith, full.1, pids-counted, missing)) | inr less ↦ less.0 ];
-            pids = elim (leb_tells k.table.next PID_MAX) [ inl low ↦ le-ltb PID_MAX k.table.next low.1 | inr more ↦ absurd (not-both is more.0) ];
+            pids = elim (leb_tells k.table.next PID_MAX) [ inl low ↦ le-ltb PID_MAX k.table.next low.1 | inr more ↦ absurd (both_ways _ more.0 is) ];
           }
         where
           taken : (j : ℕ) → IsFreeSlot (turns_of k None) j → (o : Option Process) → place_at k.table j ≡ o → is_none o ≡ false → ⊥

@@ -12,9 +12,9 @@ use Rattle.file_table.specs.declared.open_file.OpenFile.{OpenFile}
 use Rattle.kernel_spec.specs.views.Processes.{Process, Live, Alive, Zombie}
 use Rattle.kernel_spec.specs.views.State.{State}
 use Rattle.kernel_spec.specs.steps.Updates.{orphan, orphans, changed_state, fewer_on_all, freed_on_all, gone_state}
-use Rattle.kernel_spec.proofs.steps.Maps.{get_same, get_other}
-use Rattle.kernel_spec.proofs.steps.Orphans.{get-orphans}
-use Rattle.kernel_spec.proofs.steps.Closed.{gone-closed}
+use Rattle.kernel_spec.proofs.steps.MapsAfterChange.{get_same, get_other}
+use Rattle.kernel_spec.proofs.steps.OrphansKeepKeys.{get-orphans}
+use Rattle.kernel_spec.proofs.steps.ClosedProcessGoes.{gone-closed}
 
 module _ (s : State) (p : ℕ) (l : Live) (status : ℤ) (descriptors : FinMap nat_cmp ℕ) (files : FinMap nat_cmp OpenFile) (pipes : FinMap nat_cmp Pipe) (free : ℕ) where
   abbrev bare : Live
@@ -29,13 +29,15 @@ module _ (s : State) (p : ℕ) (l : Live) (status : ℤ) (descriptors : FinMap n
 
   same-processes : insert (orphans p closed).processes p zombie ≡ insert (orphans p s).processes p zombie
   same-processes = same_map nat_cmp_total nat_cmp-IsAntisymmetric (insert (orphans p closed).processes p zombie) (insert (orphans p s).processes p zombie) (λ q. elim (cases_eq q p) [
-    | inl e ↦ ap (get (insert (orphans p closed).processes p zombie)) e ∙ get_same (orphans p closed).processes p zombie ∙ sym (ap (get (insert (orphans p s).processes p zombie)) e ∙ get_same (orphans p s).processes p zombie)
+    | inl e ↦ ap (get (insert (orphans p closed).processes p zombie)) e ∙ get_same (orphans p closed).processes p zombie
+        ∙ sym (ap (get (insert (orphans p s).processes p zombie)) e ∙ get_same (orphans p s).processes p zombie)
     | inr apart ↦
         get_other (orphans p closed).processes p zombie q apart ∙ get-orphans p closed q ∙ ap (option_map (orphan p)) (get_other s.processes p (Alive bare) q apart) ∙ sym (get-orphans p s q)
         ∙ sym (get_other (orphans p s).processes p zombie q apart)
   ])
 
-  pub gone-after : descriptors ≡ empty → pipes ≡ fewer_on_all s l NOFILE s.pipes → free ≡ s.free + freed_on_all s l NOFILE s.pipes → gone_state p bare status files closed ≡ gone_state p l status files s
+  pub gone-after : descriptors ≡ empty → pipes ≡ fewer_on_all s l NOFILE s.pipes → free ≡ s.free + freed_on_all s l NOFILE s.pipes
+      → gone_state p bare status files closed ≡ gone_state p l status files s
   gone-after none ends frames =
       let count : free + (price l.image + 1) ≡ s.free + price l.image + 1 + freed_on_all s l NOFILE s.pipes = omega (arith, frames) in
       sym (gone-closed closed bare none p status) ∙ (λ t. record s { processes = same-processes t; files = files; pipes = ends t; free = count t })

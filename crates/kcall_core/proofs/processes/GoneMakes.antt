@@ -5,6 +5,7 @@ use Rattle.std.specs.FinMap.{FinMap, get}
 use Rattle.std.specs.FinSet.{contains}
 use Rattle.std.specs.Ordering.{nat_cmp}
 use Rattle.std.proofs.lemmas.Bool.{or_right}
+use Rattle.std.proofs.lemmas.Option.{none-some}
 use Rattle.xk_base.specs.declared.limits.TheConstants.{NPROC}
 use Rattle.hart_core.specs.declared.hart.Hart.{Hart}
 use Rattle.file_table.specs.declared.open_file.OpenFile.{OpenFile}
@@ -27,10 +28,9 @@ use Rattle.kcall_core.specs.Whole.{IsWhole}
 use Rattle.kernel_spec.specs.waking.SleepsOn.{is_for}
 use Rattle.kcall_core.specs.Makes.{view_now, Makes}
 use Rattle.kcall_core.specs.declared.kernel.Kernel.{Kernel}
-use Rattle.kernel_spec.proofs.steps.Maps.{get_same}
+use Rattle.kernel_spec.proofs.steps.MapsAfterChange.{get_same}
 use Rattle.kcall_core.proofs.turns.Turned.{live-is}
-use Rattle.kcall_core.proofs.table.States.{none-some}
-use Rattle.kernel_spec.proofs.steps.Family.{gone_law}
+use Rattle.kernel_spec.proofs.steps.FamilyLawsHold.{gone_law}
 use Rattle.kernel_spec.proofs.well.WellLaws as well
 use Rattle.kernel_spec.proofs.waking.Wakes.{ready_is}
 use Rattle.kcall_core.proofs.making.Sleepers.{Sleeper, Sleeping, another, slept-before, wakes-due, on-channels, unready}
@@ -63,7 +63,8 @@ module _ (k k' : Kernel) (h h' : Hart) (status : ℤ) (left : FinMap nat_cmp Ope
 
   -- each other process is what it was, without the parent that is gone
   others-away : (q : ℕ) (m n : Live) → q ≢ p → live s q ≡ Some m → live dead q ≡ Some n → n ≡ opens.away frames s p l status left whole.well was d.named m
-  others-away q m n other is after = let e : Some (opens.away frames s p l status left whole.well was d.named m) ≡ Some n = sym (opens.live-away frames s p l status left whole.well was d.named q m other is) ∙ after in cc
+  others-away q m n other is after = let e : Some (opens.away frames s p l status left whole.well was d.named m) ≡ Some n =
+      sym (opens.live-away frames s p l status left whole.well was d.named q m other is) ∙ after in cc
 
   waits-same : (q : ℕ) (m n : Live) → q ≢ p → live s q ≡ Some m → live dead q ≡ Some n → waits_for dead q n ≡ waits_for s q m
   waits-same q m n other is after =
@@ -76,7 +77,8 @@ module _ (k k' : Kernel) (h h' : Hart) (status : ℤ) (left : FinMap nat_cmp Ope
     is-end : IsEnd event
     is-end = (p, answer, refl, ap is_some ends)
 
-    module _ (q : ℕ) (z : Sleeper k q) (m n : Live) (is : live s q ≡ Some m) (now : live dead q ≡ Some n) (its : is_for (waits_for s q m) z.channel ≡ true) (unmarked : m.killed ≡ false) (shut : is_open s (waits_for s q m) ≡ false) where
+    module _ (q : ℕ) (z : Sleeper k q) (m n : Live) (is : live s q ≡ Some m) (now : live dead q ≡ Some n)
+        (its : is_for (waits_for s q m) z.channel ≡ true) (unmarked : m.killed ≡ false) (shut : is_open s (waits_for s q m) ≡ false) where
       abbrev c : Condition
       c = waits_for s q m
 
@@ -104,7 +106,8 @@ module _ (k k' : Kernel) (h h' : Hart) (status : ℤ) (left : FinMap nat_cmp Ope
 
       may-wakes : ready (view_of dead q n) ≡ true → wakes z.channel ≡ true
       may-wakes may =
-          let opened : is_open dead c ≡ true = ap (is_open dead) (sym (waits-same q m n other is now)) ∙ (λ i. sym still-unmarked i || is_open dead (waits_for dead q n)) ∙ sym (ready_is dead q n) ∙ may in
+          let opened : is_open dead c ≡ true = ap (is_open dead) (sym (waits-same q m n other is now))
+          ∙ (λ i. sym still-unmarked i || is_open dead (waits_for dead q n)) ∙ sym (ready_is dead q n) ∙ may in
           by-condition ∙ opens.due-wakes frames s p l status left whole.well was d.named c shut opened (λ own. other (calls.waits-for-child s q m p own).0)
 
       first-wakes : q ≡ 1 → IsInCall 3 (view_of dead q n) → wakes z.channel ≡ true
@@ -130,7 +133,9 @@ module _ (k k' : Kernel) (h h' : Hart) (status : ℤ) (left : FinMap nat_cmp Ope
       waits = λ q z m n is now.
           ap (λ (t : State). waits_for t q n) d.state ∙ waits-same q m n (another whole runs q z) is (ap (λ (t : State). live t q) (sym d.state) ∙ now);
       due = λ q z m n is now its unmarked shut.
-          subst (λ (t : State). (wakes z.channel ≡ true) ↔ ((ready (view_of t q n) ≡ true) ⊎ (IsInCall 13 (view_of t q n) × (event ≡ Ticked)) ⊎ ((q ≡ 1) × IsInCall 3 (view_of t q n) × IsEnd event))) (sym d.state)
+          subst (λ (t : State). (wakes z.channel ≡ true) ↔
+          ((ready (view_of t q n) ≡ true) ⊎ (IsInCall 13 (view_of t q n) × (event ≡ Ticked))
+          ⊎ ((q ≡ 1) × IsInCall 3 (view_of t q n) × IsEnd event))) (sym d.state)
           (exactly-due q z m n is (ap (λ (t : State). live t q) (sym d.state) ∙ now) its unmarked shut);
     }
 

@@ -7,6 +7,7 @@ use Rattle.std.specs.FinMap.{FinMap, get, insert, same_map, nat_cmp-IsAntisymmet
 use Rattle.std.proofs.Math.Path.{fun_ext}
 use Rattle.std.proofs.lemmas.Bool.{cases_eq, cases_lt, lt-ltb, le-ltb}
 use Rattle.std.proofs.lemmas.List.{get_or-set_same, get_or-set_other, length-set}
+use Rattle.std.proofs.lemmas.Option.{none-some, same_Some}
 use Rattle.xk_base.specs.declared.limits.TheConstants.{NPROC, NOFILE, OPEN_FILES, PID_MAX}
 use Rattle.xk_base.specs.Gathered.{gathered}
 use Rattle.xk_base.specs.Image.{price}
@@ -36,9 +37,9 @@ use Rattle.kcall_core.specs.Forks.{IsBarren}
 use Rattle.kcall_core.proofs.processes.HandedDown.{IsHanded}
 use Rattle.kcall_core.specs.declared.kernel.Kernel.{Kernel}
 use Rattle.kcall_core.proofs.memory.Changes.{some-inside}
-use Rattle.kernel_spec.proofs.steps.Maps.{get_same, get_other}
+use Rattle.kernel_spec.proofs.steps.MapsAfterChange.{get_same, get_other}
 use Rattle.kcall_core.proofs.files.Namings.{named-seen}
-use Rattle.kcall_core.proofs.table.States.{none-some, Running, running, not-this, slot-born, slot-anew, current-beside}
+use Rattle.kcall_core.proofs.table.States.{Running, running, not-this, slot-born, slot-anew, current-beside}
 use Rattle.kcall_core.proofs.table.OnePlace.{ItsPlace, changed-place, place-counted, in-call-lives}
 use Rattle.kcall_core.proofs.turns.WhoRuns.{place-is, place-lives}
 use Rattle.kcall_core.proofs.making.Imaged.{image-kept}
@@ -70,7 +71,9 @@ module _ {k : Kernel} {h : Hart} (whole : IsWhole k h) (runs : IsRunning k) (k1 
   unfolding view_of state_of
   cannot = elim b.why [
     | inl none ↦ first-two (slots_are_full (view_now k h)) (nat_lt PID_MAX (state_of k h).next_pid) (nat_lt (view_now k h).free (price (view_now k h).image + 1)) (no-slot k h whole.sound none)
-    | inr few ↦ the-third (slots_are_full (view_now k h)) (nat_lt PID_MAX (state_of k h).next_pid) (nat_lt (view_now k h).free (price (view_now k h).image + 1)) (lt-ltb (free_of k.memories) (price (held_at (each_of k.memories) (slot_now k)).image + 1) few)
+    | inr few ↦ the-third (slots_are_full (view_now k h)) (nat_lt PID_MAX (state_of k h).next_pid)
+        (nat_lt (view_now k h).free (price (view_now k h).image + 1))
+        (lt-ltb (free_of k.memories) (price (held_at (each_of k.memories) (slot_now k)).image + 1) few)
   ]
 
   pub barren-row : (c : Call) → fork c (view_now k h) ≡ done c minus_one (record (view_now k h) { image = (live_now k h).image; free = (state_of k1 h).free })
@@ -122,9 +125,6 @@ module _ {k : Kernel} {h : Hart} (whole : IsWhole k h) (runs : IsRunning k) (chi
   current1 : k1.current ≡ k.current
   current1 = ap (λ (y : Kernel). y.current) x.rest
 
-  pub handed-runs : IsRunning k1
-  handed-runs = subst (λ o. IsSome o) (sym current1) runs
-
   slot1 : slot_now k1 ≡ slot
   slot1 = ap or_zero current1
 
@@ -138,7 +138,8 @@ module _ {k : Kernel} {h : Hart} (whole : IsWhole k h) (runs : IsRunning k) (chi
   each1 = by (some-inside (each_of k1.memories) child (x.sound.lives child first here1 refl))
     where
       by : child < length (each_of k1.memories) → get_or (each_of k1.memories) child None ≡ Some (with_saved (fresh 0) theirs)
-      by lt = ap (λ xs. get_or xs child None) x.each ∙ get_or-set_same (each_of k.memories) child (Some (with_saved (fresh 0) theirs)) None (omega (arith, lt, ap length x.each, length-set (each_of k.memories) child (Some (with_saved (fresh 0) theirs))))
+      by lt = ap (λ xs. get_or xs child None) x.each ∙ get_or-set_same (each_of k.memories) child (Some (with_saved (fresh 0) theirs)) None
+          (omega (arith, lt, ap length x.each, length-set (each_of k.memories) child (Some (with_saved (fresh 0) theirs))))
 
   each-other : (j : ℕ) → j ≢ child → get_or (each_of k1.memories) j None ≡ get_or (each_of k.memories) j None
   each-other j ne = ap (λ xs. get_or xs j None) x.each ∙ get_or-set_other (each_of k.memories) child j (Some (with_saved (fresh 0) theirs)) None ne
@@ -164,7 +165,11 @@ module _ {k : Kernel} {h : Hart} (whole : IsWhole k h) (runs : IsRunning k) (chi
   processes1 : by_pid (entry_at k1 h) NPROC ≡ insert (by_pid (entry_at k h) NPROC) k.table.next (Alive child1)
   processes1 =
       slot-born k k1 h h child (Alive child1) whole.sound new.below new.vacant (current-beside k k1 h child current1 other1 x.others each-other)
-      (ap (entry_of k1 h child) here1 ∙ ap (λ b. Some (k.table.next, process_of first (descriptors_at k1.table child) (held_at (each_of k1.memories) child) (cond b h.regs (held_at (each_of k1.memories) child).saved))) (not-current k1 current1))
+      (ap (entry_of k1 h child) here1 ∙ ap (λ b. Some (
+        k.table.next,
+        process_of first (descriptors_at k1.table child) (held_at (each_of k1.memories) child)
+            (cond b h.regs (held_at (each_of k1.memories) child).saved),
+      )) (not-current k1 current1))
 
   pub handed-has : HasMemory (each_of k1.memories) child
   handed-has = subst (λ o. IsSome o) (sym each1) refl
@@ -186,7 +191,8 @@ module _ {k : Kernel} {h : Hart} (whole : IsWhole k h) (runs : IsRunning k) (chi
     place-slot = other1 slot away ∙ place-is k h whole.sound runs
 
     its : ItsPlace k1.table k2.table slot (place_now k) (in_call None (place_now k))
-    its = changed-place k1.table k2.table slot (place_now k) (in_call None) x.sound.table.places now.inside place-slot (place-lives k h whole.sound runs) refl (in-call-lives None (place_now k) (place-lives k h whole.sound runs)) table2
+    its = changed-place k1.table k2.table slot (place_now k) (in_call None) x.sound.table.places now.inside place-slot
+        (place-lives k h whole.sound runs) refl (in-call-lives None (place_now k) (place-lives k h whole.sound runs)) table2
 
     here2 : place_at k2.table child ≡ Some first
     here2 = its.others child (λ e. away (sym e)) ∙ here1
@@ -198,7 +204,8 @@ module _ {k : Kernel} {h : Hart} (whole : IsWhole k h) (runs : IsRunning k) (chi
     unfolding state_of
     processes2 = ap (λ (t : State). t.processes) d.state ∙ (λ t. insert (processes1 t) (pid1 t) (Alive (with_answer (named t) (live1 t))))
 
-    module _ (k3 : Kernel) (saved : SlotChanges k2.memories k3.memories child (Some (with_saved (with_a0 h2.regs 0) (held_at (each_of k2.memories) child)))) (rest : k3 ≡ record k2 { memories = k3.memories }) where
+    module _ (k3 : Kernel) (saved : SlotChanges k2.memories k3.memories child
+        (Some (with_saved (with_a0 h2.regs 0) (held_at (each_of k2.memories) child)))) (rest : k3 ≡ record k2 { memories = k3.memories }) where
       table3 : k3.table ≡ k2.table
       table3 = ap (λ (y : Kernel). y.table) rest
 
@@ -212,7 +219,9 @@ module _ {k : Kernel} {h : Hart} (whole : IsWhole k h) (runs : IsRunning k) (chi
       place3 j = ap (λ (t : Slots). place_at t j) table3
 
       each3 : get_or (each_of k3.memories) child None ≡ Some (with_saved (with_a0 h2.regs 0) (held_at (each_of k2.memories) child))
-      each3 = ap (λ xs. get_or xs child None) saved.each ∙ get_or-set_same (each_of k2.memories) child (Some (with_saved (with_a0 h2.regs 0) (held_at (each_of k2.memories) child))) None (some-inside (each_of k2.memories) child done-has)
+      each3 = ap (λ xs. get_or xs child None) saved.each
+          ∙ get_or-set_same (each_of k2.memories) child (Some (with_saved (with_a0 h2.regs 0) (held_at (each_of k2.memories) child))) None
+          (some-inside (each_of k2.memories) child done-has)
 
       each3-other : (j : ℕ) → j ≢ child → get_or (each_of k3.memories) j None ≡ get_or (each_of k2.memories) j None
       each3-other j ne = ap (λ xs. get_or xs j None) saved.each ∙ get_or-set_other (each_of k2.memories) child j (Some (with_saved (with_a0 h2.regs 0) (held_at (each_of k2.memories) child))) None ne
@@ -244,14 +253,11 @@ module _ {k : Kernel} {h : Hart} (whole : IsWhole k h) (runs : IsRunning k) (chi
         ];
         current = λ j at.
             let c = d.sound.current j (sym current3 ∙ at) in
-            let ne : j ≢ child = λ e. away (one slot child (sym now.current ∙ sym current2 ∙ sym current3 ∙ at ∙ ap Some e)) in
+            let ne : j ≢ child = λ e. away (same_Some slot child (sym now.current ∙ sym current2 ∙ sym current3 ∙ at ∙ ap Some e)) in
             record { process = c.process; is = place3 j ∙ c.is; live = c.live; runs = saved.runs j h2 ne c.runs };
         idle = λ at. d.sound.idle (sym current3 ∙ at);
       }
         where
-          one : (a b : ℕ) → Some a ≡ Some b → a ≡ b
-          one a b e = cc
-
           not-zombie : (q : Process) (status : ℤ) → Some first ≡ Some q → status_of q ≡ Some status → ⊥
           not-zombie q status same over = let e : first ≡ q = cc in none-some status (ap status_of e ∙ over)
 
@@ -264,7 +270,8 @@ module _ {k : Kernel} {h : Hart} (whole : IsWhole k h) (runs : IsRunning k) (chi
 
       processes3 : by_pid (entry_at k3 h2) NPROC ≡ insert (by_pid (entry_at k2 h2) NPROC) k.table.next (Alive (forked_child s p l))
       processes3 =
-          slot-anew k2 k3 h2 h2 child first (Alive (forked_child s p l)) d.sound here2 (current-beside k2 k3 h2 child current3 (λ j ne. place3 j) (λ j ne. ap (λ (t : Slots). descriptors_at t j) table3) each3-other) entry3
+          slot-anew k2 k3 h2 h2 child first (Alive (forked_child s p l)) d.sound here2
+          (current-beside k2 k3 h2 child current3 (λ j ne. place3 j) (λ j ne. ap (λ (t : Slots). descriptors_at t j) table3) each3-other) entry3
 
       old-pid : p ≢ k.table.next
       old-pid e = omega (arith, e, whole.sound.table.pids.below slot (place_now k) (place-is k h whole.sound runs))

@@ -2,8 +2,9 @@
 use Rattle.std.proofs.Common.{◌≡◌, ◌≢◌, ℕ, suc, ◌+◌, ◌^◌, ◌<◌, ◌≤◌, true, cond, length, get_or, subst, Option, Some, None, IsSome, inl, inr, refl, sym, ap, ◌∙◌, arith}
 use Rattle.std.specs.Prelude.{ℤ, nat_lt, option_map}
 use Rattle.std.specs.FinMap.{get}
-use Rattle.std.proofs.lemmas.Bool.{cases_eq, cases_lt, lt-ltb, le-ltb}
+use Rattle.std.proofs.lemmas.Bool.{cases_eq, cases_lt, lt-ltb, le-ltb, both_ways}
 use Rattle.std.proofs.lemmas.List.{get_or-set_same, get_or-set_other, length-map, length-set}
+use Rattle.std.proofs.lemmas.Option.{none-some}
 use Rattle.xk_base.specs.declared.limits.TheConstants.{NPROC, NOFILE, OPEN_FILES, PID_MAX}
 use Rattle.rv64i_core.specs.Registers.{fresh}
 use Rattle.hart_core.specs.declared.hart.Hart.{Hart}
@@ -40,7 +41,7 @@ use Rattle.kcall_core.proofs.processes.HandedDown.{IsHanded}
 use Rattle.kcall_core.specs.declared.kernel.Kernel.{Kernel}
 use Rattle.kcall_core.specs.declared.memories.Memories.{Memories}
 use Rattle.kcall_core.proofs.memory.Births.{get_or-same}
-use Rattle.kernel_spec.proofs.steps.Counts.{plus, among, get-more_on_all}
+use Rattle.kernel_spec.proofs.steps.EndsAreCounted.{plus, among, get-more_on_all}
 use Rattle.kcall_core.proofs.files.Namings.{named-seen, file-seen, file-inside, named-counts, counted-entry}
 use Rattle.kcall_core.proofs.memory.PipeEdges.{there-is}
 use Rattle.kcall_core.specs.Room.{HasRoom}
@@ -48,11 +49,9 @@ use Rattle.kcall_core.proofs.files.OpenRoom.{has-room}
 use Rattle.kcall_core.proofs.files.Room.{file-room, ends-few, count-few}
 use Rattle.kernel_spec.proofs.well.Sums.{sum_same}
 use Rattle.kcall_core.proofs.files.Sharing.{more-file, more-table, shared-counted}
-use Rattle.kcall_core.proofs.table.States.{none-some, Running, running}
+use Rattle.kcall_core.proofs.table.States.{Running, running}
 use Rattle.kcall_core.proofs.files.Taking.{Shares}
-use Rattle.kcall_core.proofs.turns.Turned.{not-both}
 use Rattle.kcall_core.proofs.processes.FreeSlot.{IsForNew}
-use Rattle.sv39_core.proofs.Words.{ltb-yes}
 
 -- between calls each open file may have one descriptor more
 pub closing-may : (k : Kernel) (h : Hart) (file : ℕ) → IsClosing k h → IsSome (entry_at k.files file) → MayShare k file
@@ -78,9 +77,13 @@ record Joined (old new : Memories) (target : Target) : Type 0 where
   free : free_of new ≡ free_of old
   frames : length new.ram ≡ length old.ram
 
-joined-at : (old new : Memories) (target : Target) → memories.AreSound old → ((i : ℕ) (end : End) → target ≡ Pipe_end i end → IsSome (get (pipes_of old) i)) → Joins target old new → Joined old new target
-joined-at old new Terminal sound there same = subst (λ n. Joined old n Terminal) (sym same) (record { shares = record { sound = sound; each = refl; runs = λ a hart r. r }; pipes = refl; free = refl; frames = refl })
-joined-at old new (File program offset) sound there same = subst (λ n. Joined old n (File program offset)) (sym same) (record { shares = record { sound = sound; each = refl; runs = λ a hart r. r }; pipes = refl; free = refl; frames = refl })
+joined-at : (old new : Memories) (target : Target) → memories.AreSound old
+    → ((i : ℕ) (end : End) → target ≡ Pipe_end i end → IsSome (get (pipes_of old) i)) → Joins target old new → Joined old new target
+joined-at old new Terminal sound there same = subst (λ n. Joined old n Terminal) (sym same)
+    (record { shares = record { sound = sound; each = refl; runs = λ a hart r. r }; pipes = refl; free = refl; frames = refl })
+joined-at old new (File program offset) sound there same =
+    subst (λ n. Joined old n (File program offset)) (sym same)
+    (record { shares = record { sound = sound; each = refl; runs = λ a hart r. r }; pipes = refl; free = refl; frames = refl })
 joined-at old new (Pipe_end i end) sound there changes =
     let at = there-is (get (pipes_of old) i) (there i end refl) in
     record {
@@ -141,7 +144,8 @@ module _ {k : Kernel} {h : Hart} (whole : IsWhole k h) (runs : IsRunning k) (chi
     inside-each = omega (arith, new.below, whole.sound.memories.slots, length-map k.memories.each.items (memories.held_in k.memories.ram))
 
     memory-here : IsSome (get_or (each_of k1.memories) child None)
-    memory-here = subst (λ o. IsSome o) (sym (ap (λ xs. get_or xs child None) b.memories.each ∙ get_or-set_same (each_of k.memories) child (Some (with_saved (fresh 0) (held_at (each_of k.memories) slot))) None inside-each)) refl
+    memory-here = subst (λ o. IsSome o) (sym (ap (λ xs. get_or xs child None) b.memories.each
+        ∙ get_or-set_same (each_of k.memories) child (Some (with_saved (fresh 0) (held_at (each_of k.memories) slot))) None inside-each)) refl
 
     memory-other : (j : ℕ) → j ≢ child → get_or (each_of k1.memories) j None ≡ get_or (each_of k.memories) j None
     memory-other j ne = ap (λ xs. get_or xs j None) b.memories.each ∙ get_or-set_other (each_of k.memories) child j (Some (with_saved (fresh 0) (held_at (each_of k.memories) slot))) None ne
@@ -157,7 +161,7 @@ module _ {k : Kernel} {h : Hart} (whole : IsWhole k h) (runs : IsRunning k) (chi
 
     pids-left : k.table.next < 2 ^ 31
     unfolding state_of
-    pids-left = elim (cases_lt PID_MAX k.table.next) [ inl less ↦ absurd (not-both (lt-ltb PID_MAX k.table.next less) new.pids) | inr more ↦ omega (arith, more) ]
+    pids-left = elim (cases_lt PID_MAX k.table.next) [ inl less ↦ absurd (both_ways _ new.pids (lt-ltb PID_MAX k.table.next less)) | inr more ↦ omega (arith, more) ]
 
     born-sound : IsSound k1 h
     born-sound = record {
@@ -190,7 +194,9 @@ module _ {k : Kernel} {h : Hart} (whole : IsWhole k h) (runs : IsRunning k) (chi
       table = b.table ∙ (λ t. record (with_new child (Some (pid_now k)) k.table) { descriptors = sym (ap (λ (u : Slots). u.descriptors) b.table) t });
       files = subst files.IsTable (sym kept) whole.files;
       counted = record {
-        counts = λ f. ap (λ fs. or_zero (files.count_at fs f)) kept ∙ whole.counted.counts f ∙ sym (sum_same NPROC (λ j. named_in (descriptors_at k1.table j) f) (λ j. named_in (descriptors_at k.table j) f) (λ j lt. ap (λ ds. named_in ds f) (all-same j)));
+        counts = λ f. ap (λ fs. or_zero (files.count_at fs f)) kept ∙ whole.counted.counts f
+            ∙ sym (sum_same NPROC (λ j. named_in (descriptors_at k1.table j) f) (λ j. named_in (descriptors_at k.table j) f)
+            (λ j lt. ap (λ ds. named_in ds f) (all-same j)));
         lists = λ j lt. ap length (all-same j) ∙ whole.counted.lists j lt;
         closed = λ j dead. elim (cases_eq j child) [
           | inl e ↦ ap (descriptors_at k1.table) e ∙ none-here
@@ -219,7 +225,8 @@ module _ {k : Kernel} {h : Hart} (whole : IsWhole k h) (runs : IsRunning k) (chi
     pub next-none : named_by (descriptors_at k1.table slot) n ≡ None → IsHanded k h child (suc n) k1
     unfolding more_on_all
     next-none none =
-        let unused : get l.descriptors n ≡ None = named-seen (descriptors_at k.table slot) n ∙ ap (λ b. cond b (named_by (descriptors_at k.table slot) n) None) (ltb-yes n NOFILE below) ∙ sym theirs ∙ none in
+        let unused : get l.descriptors n ≡ None = named-seen (descriptors_at k.table slot) n
+        ∙ ap (λ b. cond b (named_by (descriptors_at k.table slot) n) None) (lt-ltb n NOFILE below) ∙ sym theirs ∙ none in
         record {
           sound = x.sound;
           rest = x.rest;
@@ -229,7 +236,9 @@ module _ {k : Kernel} {h : Hart} (whole : IsWhole k h) (runs : IsRunning k) (chi
           same = x.same;
           others = x.others;
           given = λ d. elim (cases_eq d n) [
-            | inl e ↦ ap (named_by (descriptors_at k1.table child)) e ∙ child-free ∙ sym (sym theirs ∙ none) ∙ sym (ap (λ b. cond b (named_by (descriptors_at k.table slot) n) None) (lt-ltb n (suc n) (omega arith))) ∙ ap (λ m. cond (nat_lt m (suc n)) (named_by (descriptors_at k.table slot) m) None) (sym e)
+            | inl e ↦ ap (named_by (descriptors_at k1.table child)) e ∙ child-free ∙ sym (sym theirs ∙ none)
+                ∙ sym (ap (λ b. cond b (named_by (descriptors_at k.table slot) n) None) (lt-ltb n (suc n) (omega arith)))
+                ∙ ap (λ m. cond (nat_lt m (suc n)) (named_by (descriptors_at k.table slot) m) None) (sym e)
             | inr ne ↦ x.given d ∙ ap (λ b. cond b (named_by (descriptors_at k.table slot) d) None) (lt-more d n ne)
           ];
           each = x.each;
@@ -258,10 +267,12 @@ module _ {k : Kernel} {h : Hart} (whole : IsWhole k h) (runs : IsRunning k) (chi
       few i end some =
           let at = there-is (get s.pipes i) some in
           let z = or_new (get s.pipes i) in
-          let is : pipe_named (pipes_of k1.memories) i ≡ plus z (among s l n i Reading) (among s l n i Writing) = ap or_new (pipe-now i ∙ ap (option_map (λ (w : Pipe). plus w (among s l n i Reading) (among s l n i Writing))) at) in
+          let is : pipe_named (pipes_of k1.memories) i ≡ plus z (among s l n i Reading) (among s l n i Writing) =
+          ap or_new (pipe-now i ∙ ap (option_map (λ (w : Pipe). plus w (among s l n i Reading) (among s l n i Writing))) at) in
           by end z is (ends-few k h _ i z end whole.well at)
         where
-          by : (e : End) (z : Pipe) → pipe_named (pipes_of k1.memories) i ≡ plus z (among s l n i Reading) (among s l n i Writing) → count_on e z ≤ OPEN_FILES → count_on e (pipe_named (pipes_of k1.memories) i) < END_COUNT_MAX
+          by : (e : End) (z : Pipe) → pipe_named (pipes_of k1.memories) i ≡ plus z (among s l n i Reading) (among s l n i Writing)
+              → count_on e z ≤ OPEN_FILES → count_on e (pipe_named (pipes_of k1.memories) i) < END_COUNT_MAX
           by Reading z is most = let a : among s l n i Reading ≤ n = count-few _ n in omega (arith, ap (count_on Reading) is, most, a, below)
           by Writing z is most = let a : among s l n i Writing ≤ n = count-few _ n in omega (arith, ap (count_on Writing) is, most, a, below)
 
@@ -320,10 +331,12 @@ module _ {k : Kernel} {h : Hart} (whole : IsWhole k h) (runs : IsRunning k) (chi
         long = omega (arith, below, x.counted.lists child new.below)
 
         put-here : descriptors_at k2.table child ≡ with_named n (Some g) (descriptors_at k1.table child)
-        put-here = ap (λ (t : Slots). descriptors_at t child) z.table ∙ get_or-set_same k1.table.descriptors child (with_named n (Some g) (descriptors_at k1.table child)) none_named (omega (arith, new.below, x.sound.table.descriptors))
+        put-here = ap (λ (t : Slots). descriptors_at t child) z.table
+            ∙ get_or-set_same k1.table.descriptors child (with_named n (Some g) (descriptors_at k1.table child)) none_named
+            (omega (arith, new.below, x.sound.table.descriptors))
 
         named-now : get l.descriptors n ≡ Some g
-        named-now = named-seen (descriptors_at k.table slot) n ∙ ap (λ b. cond b (named_by (descriptors_at k.table slot) n) None) (ltb-yes n NOFILE below) ∙ sym theirs ∙ used
+        named-now = named-seen (descriptors_at k.table slot) n ∙ ap (λ b. cond b (named_by (descriptors_at k.table slot) n) None) (lt-ltb n NOFILE below) ∙ sym theirs ∙ used
 
         end-now : end_of s (get l.descriptors n) ≡ Some y.target
         end-now = ap (end_of s) named-now ∙ ap target_of_open (opened y is-open)
@@ -336,15 +349,19 @@ module _ {k : Kernel} {h : Hart} (whole : IsWhole k h) (runs : IsRunning k) (chi
           table =
               z.table ∙ (λ t. record k1.table { descriptors = sym (ap (λ (u : Slots). u.descriptors) z.table) t })
               ∙ ap (λ (u : Slots). record u { descriptors = k2.table.descriptors }) x.table;
-          files = subst files.IsTable (sym z.files) (more-table k1.files g x.files its-entry.0 its-entry.1 (file-room k1.files k1.table g x.counted its-entry.0.count (ap (option_map files.entry_count) its-entry.1)));
+          files = subst files.IsTable (sym z.files) (more-table k1.files g x.files its-entry.0 its-entry.1
+              (file-room k1.files k1.table g x.counted its-entry.0.count (ap (option_map files.entry_count) its-entry.1)));
           counted = subst (λ fs. AreCounted fs k2.table) (sym z.files)
-              (shared-counted k1.files k1.table k2.table child n g its-entry.0 x.counted x.files its-entry.1 new.below below x.sound.table.descriptors child-free (ap (λ (u : Slots). u.descriptors) z.table) (λ j. ap place_is_live (put-place j)) lives-there);
+              (shared-counted k1.files k1.table k2.table child n g its-entry.0 x.counted x.files its-entry.1 new.below below
+              x.sound.table.descriptors child-free (ap (λ (u : Slots). u.descriptors) z.table) (λ j. ap place_is_live (put-place j)) lives-there);
           same = λ f. ap (λ fs. open_file_at fs f) z.files ∙ more-file k1.files g x.files its-entry.0 its-entry.1 f ∙ x.same f;
-          others = λ j ne. ap (λ (t : Slots). descriptors_at t j) z.table ∙ get_or-set_other k1.table.descriptors child j (with_named n (Some g) (descriptors_at k1.table child)) none_named ne ∙ x.others j ne;
+          others = λ j ne. ap (λ (t : Slots). descriptors_at t j) z.table
+              ∙ get_or-set_other k1.table.descriptors child j (with_named n (Some g) (descriptors_at k1.table child)) none_named ne ∙ x.others j ne;
           given = λ d. elim (cases_eq d n) [
             | inl e ↦
                 ap (named_by (descriptors_at k2.table child)) e ∙ ap (λ ds. named_by ds n) put-here ∙ get_or-set_same (descriptors_at k1.table child) n (Some g) None long
-                ∙ sym (sym theirs ∙ used) ∙ sym (ap (λ b. cond b (named_by (descriptors_at k.table slot) n) None) (lt-ltb n (suc n) (omega arith))) ∙ ap (λ m. cond (nat_lt m (suc n)) (named_by (descriptors_at k.table slot) m) None) (sym e)
+                ∙ sym (sym theirs ∙ used) ∙ sym (ap (λ b. cond b (named_by (descriptors_at k.table slot) n) None) (lt-ltb n (suc n) (omega arith)))
+                ∙ ap (λ m. cond (nat_lt m (suc n)) (named_by (descriptors_at k.table slot) m) None) (sym e)
             | inr ne ↦
                 ap (λ ds. named_by ds d) put-here ∙ get_or-set_other (descriptors_at k1.table child) n d (Some g) None ne
                 ∙ x.given d ∙ ap (λ b. cond b (named_by (descriptors_at k.table slot) d) None) (lt-more d n ne)

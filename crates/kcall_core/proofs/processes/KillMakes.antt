@@ -5,9 +5,10 @@ use Rattle.std.specs.Ordering.{nat_cmp}
 use Rattle.std.specs.Cmp.{nat_cmp_total}
 use Rattle.std.specs.List.{list_any}
 use Rattle.std.specs.FinMap.{FinMap, get, insert, keys, same_map, nat_cmp-IsAntisymmetric}
-use Rattle.std.proofs.lemmas.Bool.{cases_eq, eq-eqb, false_from_ne_true, or_right}
+use Rattle.std.proofs.lemmas.Bool.{cases_eq, eq-eqb, false_from_ne_true, or_right, eqb-true}
 use Rattle.std.proofs.lemmas.Bool.Decides.{eqb_tells}
 use Rattle.std.proofs.lemmas.List.{get_or-set_same, get_or-set_other}
+use Rattle.std.proofs.lemmas.Option.{none-some, same_Some}
 use Rattle.xk_base.specs.declared.limits.TheConstants.{NPROC}
 use Rattle.rv64i_core.specs.Registers.{Registers}
 use Rattle.hart_core.specs.declared.hart.Hart.{Hart}
@@ -22,7 +23,7 @@ use Rattle.proc_table.specs.declared.process.Process.{Process}
 use Rattle.proc_table.proofs.Pids.{table_at}
 use Rattle.kernel_spec.specs.views.Words.{c_int, is_this}
 use Rattle.kernel_spec.specs.views.Processes as meaning
-use Rattle.kernel_spec.specs.views.Processes.{Live, Alive, Zombie}
+use Rattle.kernel_spec.specs.views.Processes.{Live, Alive}
 use Rattle.kernel_spec.specs.views.State.{State, live}
 use Rattle.kernel_spec.specs.views.View.{View, view_of}
 use Rattle.kernel_spec.specs.steps.Own.{Own, Called, Blocked}
@@ -42,22 +43,22 @@ use Rattle.kcall_core.specs.Machine.{slots_of}
 use Rattle.kcall_core.specs.Whole.{IsWhole, AreCounted}
 use Rattle.kcall_core.specs.Makes.{Makes, view_now}
 use Rattle.kcall_core.specs.declared.kernel.Kernel.{Kernel}
-use Rattle.kernel_spec.proofs.steps.Maps.{get_at}
-use Rattle.kernel_spec.proofs.steps.SetLive.{live-set_live_there}
-use Rattle.kernel_spec.proofs.steps.Orphans.{get-change}
+use Rattle.kernel_spec.proofs.steps.MapsAfterChange.{get_at}
+use Rattle.kernel_spec.proofs.steps.ViewsAfterSetLive.{live-set_live_there}
+use Rattle.kernel_spec.proofs.steps.OrphansKeepKeys.{get-change}
 use Rattle.kcall_core.proofs.table.ByPid.{by_pid-insert}
-use Rattle.kcall_core.proofs.table.States.{none-some, entry-pid, slot-inside, running}
+use Rattle.kcall_core.proofs.table.States.{entry-pid, slot-inside, running}
 use Rattle.kcall_core.proofs.table.Stops.{read-some}
 use Rattle.kcall_core.proofs.turns.Chosen.{noted}
 use Rattle.kcall_core.proofs.table.Observed.{slot-found, entry-held, pid-missing}
 use Rattle.kernel_spec.proofs.turns.KeepsSlots.{listed}
-use Rattle.kcall_core.proofs.turns.Turned.{slots-same, live-is, same-some, not-both}
+use Rattle.kcall_core.proofs.turns.Turned.{slots-same, live-is}
 use Rattle.kcall_core.proofs.table.OnePlace.{ItsPlace, changed-place, place-counted, place-slots, in-call-lives, in-call-channel}
 use Rattle.kcall_core.proofs.turns.WhoRuns.{place-is, place-lives, now-is}
 use Rattle.kcall_core.proofs.turns.StepSlots.{KeepsAll, same-pid, slots-kept}
-use Rattle.kernel_spec.proofs.steps.Gone.{turn}
-use Rattle.kernel_spec.proofs.steps.Kill as step
-use Rattle.kernel_spec.proofs.steps.Family as family
+use Rattle.kernel_spec.proofs.steps.GoneIsItsRow.{turn}
+use Rattle.kernel_spec.proofs.steps.KillIsItsRow as step
+use Rattle.kernel_spec.proofs.steps.FamilyLawsHold as family
 use Rattle.kernel_spec.proofs.waking.Openings.{opens_nothing, opens_marked}
 use Rattle.kernel_spec.proofs.waking.WaitsOn.{waits_stay}
 use Rattle.kernel_spec.proofs.well.WellLaws as well
@@ -65,14 +66,15 @@ use Rattle.kernel_spec.proofs.well.WellSteps as steps
 use Rattle.kcall_core.proofs.making.CallAnswers.{IsDone}
 use Rattle.kcall_core.proofs.making.Sleepers.{changed-stays, changed-slept}
 use Rattle.kcall_core.proofs.making.Making.{Itself, Others, made}
-use Rattle.kernel_spec.proofs.rows.RowParts.{kill_pid, killed_by, unless}
+use Rattle.kernel_spec.proofs.rows.RowParts.{killed_by, unless, kill_pid}
 use Rattle.kernel_spec.proofs.rows.RowsByParts.{kill_same}
+use Rattle.kernel_spec.proofs.Common.{marked_again, or_false}
 
 -- ---- the row
 
 shut-at : (b : Bool) (n q : ℕ) → nat_eq n 0 ≡ b → cond b None (Some n) ≡ Some q → (n ≡ q) × (nat_eq n 0 ≡ false)
 shut-at true n q is e = absurd (none-some q e)
-shut-at false n q is e = (same-some n q e, is)
+shut-at false n q is e = (same_Some n q e, is)
 
 -- a pid above 0
 pub asked-is : (z : ℤ) (q : ℕ) → asked_pid z ≡ Some q → (z ≡ pos q) × (nat_eq q 0 ≡ false)
@@ -108,11 +110,6 @@ unfolding view_of
 unknown-row k h c q is_table e =
     ap (λ b. unless (not b) c (view_now k h) (λ _. record (done c (pos 0) (record (view_now k h) { killed = (view_now k h).killed || nat_eq q (view_now k h).pid })) { marked = Some q })) (in-use k h q None is_table e)
 
--- a slot is found
-pub some-slot : (o : Option ℕ) → is_some o ≡ true → (slot : ℕ) × (o ≡ Some slot)
-some-slot None e = let no : ⊥ = cc in absurd no
-some-slot (Some slot) e = (slot, refl)
-
 -- ---- a process that is killed
 
 killed-status : (x : Process) → status_of (killed x) ≡ status_of x
@@ -135,10 +132,6 @@ killed-means x fs held regs = by x.state
     by : (s : table.State) → process_of (killed (record x { state = s })) fs held regs ≡ marked (process_of (record x { state = s }) fs held regs)
     by (Live_state life) = refl
     by (Zombie_state status) = refl
-
-marked_again : (x : meaning.Process) → marked (marked x) ≡ marked x
-marked_again (Alive l) = refl
-marked_again (Zombie parent status) = refl
 
 -- marked, if it has this pid
 abbrev pub marker : ℕ → Process → Process
@@ -209,7 +202,7 @@ module _ {k : Kernel} {h : Hart} (q slot : ℕ) (sound : IsSound k h) (at : slot
     where
       by : (o : Option Process) → place_at k.table j ≡ o → option_map (marker q) o ≡ Some y → (x : Process) × (place_at k.table j ≡ Some x) × (marker q x ≡ y)
       by None was e = absurd (none-some y e)
-      by (Some x) was e = (x, was, same-some (marker q x) y e)
+      by (Some x) was e = (x, was, same_Some (marker q x) y e)
 
   vacant-before : (j : ℕ) → place_at k1.table j ≡ None → place_at k.table j ≡ None
   vacant-before j is = by (place_at k.table j) refl (sym (places j) ∙ is)
@@ -260,9 +253,6 @@ module _ {k : Kernel} {h : Hart} (q slot : ℕ) (sound : IsSound k h) (at : slot
 
 -- ---- the call is done
 
-nat-turn : (q p : ℕ) (b : Bool) → nat_eq q p ≡ b → nat_eq p q ≡ b
-nat-turn q p b e = turn p q ∙ e
-
 or-after : (a b : Bool) (l : Live) → l.killed ≡ a → cond b (option_map marked (Some (Alive l))) (Some (Alive l)) ≡ Some (Alive (record l { killed = a || b }))
 or-after true true l e = refl
 or-after true false l e = λ i. Some (Alive (record l { killed = e i }))
@@ -275,12 +265,9 @@ either-order : (m : FinMap nat_cmp meaning.Process) (p q : ℕ) (l : Live) → (
 either-order m p q l itself = same_map nat_cmp_total nat_cmp-IsAntisymmetric (insert (change marked q m (get m q)) p (Alive l)) (change marked q (insert m p (Alive l)) (get (insert m p (Alive l)) q)) (λ r.
     get_at (change marked q m (get m q)) p (Alive l) r
     ∙ ap (cond (nat_eq r p) (Some (Alive l))) (get-change marked marked_again m q r (get m q) refl)
-    ∙ by r (nat_eq r p) (nat_eq r q) (λ a b. itself (eq-eqb q p (sym (same r q b) ∙ same r p a)))
+    ∙ by r (nat_eq r p) (nat_eq r q) (λ a b. itself (eq-eqb q p (sym (eqb-true r q b) ∙ eqb-true r p a)))
     ∙ sym (get-change marked marked_again (insert m p (Alive l)) q r (get (insert m p (Alive l)) q) refl ∙ ap (λ o. cond (nat_eq r q) (option_map marked o) o) (get_at m p (Alive l) r)))
   where
-    same : (a b : ℕ) → nat_eq a b ≡ true → a ≡ b
-    same a b e = elim (eqb_tells a b) [ inl f ↦ f.1 | inr f ↦ absurd (not-both e f.0) ]
-
     by : (r : ℕ) (a b : Bool) → (a ≡ true → b ≡ true → l.killed ≡ true)
         → cond a (Some (Alive l)) (cond b (option_map marked (get m r)) (get m r)) ≡ cond b (option_map marked (cond a (Some (Alive l)) (get m r))) (cond a (Some (Alive l)) (get m r))
     by r true true itself = λ i. Some (Alive (record l { killed = itself refl refl i }))
@@ -360,7 +347,7 @@ module _ {k : Kernel} {h : Hart} (q slot : ℕ) (whole : IsWhole k h) (runs : Is
   other-live : (r : ℕ) (a m : Live) → r ≢ p → live s r ≡ Some a → live t r ≡ Some m → m.killed ≡ (a.killed || nat_eq r q)
   other-live r a m apart before after =
       let now : live t r ≡ Some (record a { killed = a.killed || is_this r (Some q) }) = step.live_after s p q l was c r a (live-set_live_there s p l next was refl r apart ∙ before) in
-      ap (λ (y : Live). y.killed) (same-some m (record a { killed = a.killed || is_this r (Some q) }) (sym after ∙ now)) ∙ ap (λ b. a.killed || b) (turn q r)
+      ap (λ (y : Live). y.killed) (same_Some m (record a { killed = a.killed || is_this r (Some q) }) (sym after ∙ now)) ∙ ap (λ b. a.killed || b) (turn q r)
 
   -- nothing else comes
   stays-shut : (r : ℕ) (a : Live) → is_open s (waits_for s r a) ≡ false → is_open t (waits_for s r a) ≡ false
@@ -416,12 +403,8 @@ module _ {k : Kernel} {h : Hart} (q slot : ℕ) (whole : IsWhole k h) (runs : Is
       waits = subst (OthersWaitOn s p) (sym state-after) ((waits_stay (frame_count k) s p l whole.well was).1 next q);
       due = λ r a m d apart before after for-d unmarked shut.
           let now : live t r ≡ Some m = ap (λ (u : State). live u r) (sym state-after) ∙ after in
-          sym ((λ i. other-live r a m apart before now i || is_open (state-after i) (waits_for s r a)) ∙ (λ i. (unmarked i || nat_eq r q) || stays-shut r a shut i) ∙ or-no (nat_eq r q));
+          sym ((λ i. other-live r a m apart before now i || is_open (state-after i) (waits_for s r a)) ∙ (λ i. (unmarked i || nat_eq r q) || stays-shut r a shut i) ∙ sym (or_false (nat_eq r q)));
     }
-      where
-        or-no : (b : Bool) → (b || false) ≡ b
-        or-no true = refl
-        or-no false = refl
 
     keeps-slots : slots_of k'.table ≡ slots_of k.table
     keeps-slots = place-slots place ∙ slots-same k.table mid.table (λ j. ap (option_map process_pid) (place1 j) ∙ same-pid (marker q) (marker-pid q) (place_at k.table j))

@@ -18,7 +18,8 @@ use Rattle.kernel_spec.proofs.rows.Resized.{lazily-price, lazy-outside, lazy-ins
 use Rattle.kernel_spec.proofs.rows.RowsByParts.{sbrklazy_same}
 
 -- the size that the code comes to
-pub lazy-size : (k : Kernel) (h : Hart) (sound : IsSound k h) (i : ℕ) → k.current ≡ Some i → (c : Call) (old : ℕ) → old ≡ (held_at (each_of k.memories) i).image.size → (n : ℤ) → n ≡ c_int c.a0 → (found new : Option ℕ) → found ≡ resized_lazily old n → found ≡ new
+pub lazy-size : (k : Kernel) (h : Hart) (sound : IsSound k h) (i : ℕ) → k.current ≡ Some i → (c : Call) (old : ℕ)
+    → old ≡ (held_at (each_of k.memories) i).image.size → (n : ℤ) → n ≡ c_int c.a0 → (found new : Option ℕ) → found ≡ resized_lazily old n → found ≡ new
     → resized_lazily (live_now k h).image.size (c_int c.a0) ≡ new
 lazy-size k h sound i is c old size n arg found new value here =
     let slot : i ≡ slot_now k = now-slot i sound is in
@@ -32,7 +33,8 @@ module _ (k : Kernel) (h : Hart) (c : Call) where
   row-lazily-refused none = sbrklazy_same c (view_now k h) ∙ lazy-outside c (view_now k h) (c_int c.a0) none
 
   -- or it is the process's, and no frame is taken
-  pub row-lazily : {mid : Kernel} {hm : Hart} (size : ℕ) → resized_lazily (live_now k h).image.size (c_int c.a0) ≡ Some size → (value : ℤ) → value ≡ pos (live_now k h).image.size → HasImage k h (grown_lazily (live_now k h).image size) mid hm
+  pub row-lazily : {mid : Kernel} {hm : Hart} (size : ℕ) → resized_lazily (live_now k h).image.size (c_int c.a0) ≡ Some size → (value : ℤ)
+      → value ≡ pos (live_now k h).image.size → HasImage k h (grown_lazily (live_now k h).image size) mid hm
       → sbrklazy c (view_now k h) ≡ done c value (record (view_now k h) { image = grown_lazily (live_now k h).image size; free = (state_of mid hm).free })
   unfolding view_of
   row-lazily {mid} {hm} size is value told has =

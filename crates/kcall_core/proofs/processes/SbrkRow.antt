@@ -20,7 +20,8 @@ use Rattle.kernel_spec.proofs.rows.Resized.{sbrk-outside, sbrk-resized, sbrk-too
 use Rattle.kernel_spec.proofs.rows.RowsByParts.{sbrk_same}
 
 -- the size that the code comes to
-pub row-size : (k : Kernel) (h : Hart) (sound : IsSound k h) (i : ℕ) → k.current ≡ Some i → (c : Call) (old : ℕ) → old ≡ (held_at (each_of k.memories) i).image.size → (n : ℤ) → n ≡ c_int c.a0 → (found new : Option ℕ) → found ≡ resized old n → found ≡ new
+pub row-size : (k : Kernel) (h : Hart) (sound : IsSound k h) (i : ℕ) → k.current ≡ Some i → (c : Call) (old : ℕ)
+    → old ≡ (held_at (each_of k.memories) i).image.size → (n : ℤ) → n ≡ c_int c.a0 → (found new : Option ℕ) → found ≡ resized old n → found ≡ new
     → resized (live_now k h).image.size (c_int c.a0) ≡ new
 row-size k h sound i is c old size n arg found new value here =
     let slot : i ≡ slot_now k = now-slot i sound is in
@@ -28,7 +29,8 @@ row-size k h sound i is c old size n arg found new value here =
     sym (value ∙ (λ j. resized (same j) (arg j))) ∙ here
 
 -- and the answer that it gives
-pub row-answer : (k : Kernel) (h : Hart) (sound : IsSound k h) (i : ℕ) → k.current ≡ Some i → (old : ℕ) → old ≡ (held_at (each_of k.memories) i).image.size → old ≤ SIZE_LIMIT → (value : ℤ) → value ≡ to_z w64 old → value ≡ pos (live_now k h).image.size
+pub row-answer : (k : Kernel) (h : Hart) (sound : IsSound k h) (i : ℕ) → k.current ≡ Some i → (old : ℕ)
+    → old ≡ (held_at (each_of k.memories) i).image.size → old ≤ SIZE_LIMIT → (value : ℤ) → value ≡ to_z w64 old → value ≡ pos (live_now k h).image.size
 row-answer k h sound i is old size limit value told =
     let slot : i ≡ slot_now k = now-slot i sound is in
     let same : old ≡ (live_now k h).image.size = size ∙ ap (λ j. (held_at (each_of k.memories) j).image.size) slot in

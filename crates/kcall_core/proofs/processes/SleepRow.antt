@@ -71,7 +71,8 @@ pub record IsBlocked (k : Kernel) (h : Hart) (c : Call) (k' : Kernel) (h' : Hart
   pub frames : frame_count k' ≡ frame_count k
   pub state : state_of k' h' ≡ own_state (pid_now k) (in_call c (live_now k h)) (state_of k h)
 
-pub sleep-makes : (k : Kernel) (h : Hart) (k' : Kernel) (h' : Hart) (c : Call) → IsWhole k h → IsRunning k → (live_now k h).killed ≡ false → c.number ≡ pos 13 → has_passed (passed k.clock c) (c_int c.a0) ≡ false → IsBlocked k h (record c { moved = 0 }) k' h'
+pub sleep-makes : (k : Kernel) (h : Hart) (k' : Kernel) (h' : Hart) (c : Call) → IsWhole k h → IsRunning k → (live_now k h).killed ≡ false
+    → c.number ≡ pos 13 → has_passed (passed k.clock c) (c_int c.a0) ≡ false → IsBlocked k h (record c { moved = 0 }) k' h'
     → Makes k h (waits c 0 (view_now k h)) k' h'
 unfolding view_of state_of
 sleep-makes k h k' h' c whole runs alive number early x =

@@ -5,10 +5,11 @@ use Rattle.std.specs.Int.{cast_unsigned, w32}
 use Rattle.std.specs.Ordering.{nat_cmp}
 use Rattle.std.specs.Cmp.{nat_cmp_total}
 use Rattle.std.specs.FinMap.{FinMap, get, insert, remove, keys, same_map, nat_cmp-IsAntisymmetric}
-use Rattle.std.proofs.lemmas.Bool.{cases_eq, eq-eqb, false_from_ne_true}
+use Rattle.std.proofs.lemmas.Bool.{cases_eq, eq-eqb, false_from_ne_true, eqb-true}
 use Rattle.std.proofs.lemmas.Bool.Decides.{eqb_tells}
 use Rattle.std.proofs.lemmas.List.{get_or-set_same, get_or-set_other}
 use Rattle.std.proofs.Math.ListN.{length-set}
+use Rattle.std.proofs.lemmas.Option.{none-some, same_Some}
 use Rattle.xk_base.specs.declared.limits.TheConstants.{NPROC}
 use Rattle.xk_base.specs.Words.{le_bytes}
 use Rattle.xk_base.specs.Image.{Image, price}
@@ -41,17 +42,17 @@ use Rattle.kcall_core.specs.Machine.{slot_entry, slots_of, turns_of}
 use Rattle.kcall_core.specs.Whole.{IsWhole, AreCounted}
 use Rattle.kcall_core.specs.Makes.{Makes, view_now}
 use Rattle.kcall_core.specs.declared.kernel.Kernel.{Kernel}
-use Rattle.kernel_spec.proofs.steps.Maps.{get_at, get_other, get_without}
+use Rattle.kernel_spec.proofs.steps.MapsAfterChange.{get_at, get_other, get_without}
 use Rattle.kcall_core.proofs.table.ByPid.{by_pid-remove}
-use Rattle.kcall_core.proofs.table.States.{none-some, entry-pid, slot-inside, running}
+use Rattle.kcall_core.proofs.table.States.{entry-pid, slot-inside, running}
 use Rattle.kcall_core.proofs.turns.Chosen.{noted}
 use Rattle.kernel_spec.proofs.turns.KeepsSlots.{is_listed, not_listed}
-use Rattle.kcall_core.proofs.turns.Turned.{sleeper-lives, live-is, same-some, not-both}
+use Rattle.kcall_core.proofs.turns.Turned.{sleeper-lives, live-is}
 use Rattle.kcall_core.proofs.table.OnePlace.{ItsPlace, changed-place, place-counted, place-slots, in-call-lives, in-call-channel}
 use Rattle.kcall_core.proofs.turns.WhoRuns.{place-is, place-lives}
 use Rattle.kcall_core.proofs.turns.StepSlots.{SlotsAfter, none-born, has-entry}
-use Rattle.kernel_spec.proofs.steps.Wait as step
-use Rattle.kernel_spec.proofs.steps.Family as family
+use Rattle.kernel_spec.proofs.steps.WaitIsItsRow as step
+use Rattle.kernel_spec.proofs.steps.FamilyLawsHold as family
 use Rattle.kernel_spec.proofs.waking.Openings.{opens_reaped}
 use Rattle.kernel_spec.proofs.waking.ChildWaits.{waits-for-child}
 use Rattle.kernel_spec.proofs.waking.WaitsOn.{waits_stay}
@@ -67,7 +68,7 @@ no-process = None
 
 slot-pid : (j : ℕ) (o : Option Process) (e : ℕ × ℕ) → slot_entry j o ≡ Some e → (y : Process) × (o ≡ Some y) × (e.0 ≡ y.pid)
 slot-pid j None e is = absurd (none-some e is)
-slot-pid j (Some y) e is = (y, refl, ap (λ (z : ℕ × ℕ). z.0) (sym (same-some (y.pid, j) e is)))
+slot-pid j (Some y) e is = (y, refl, ap (λ (z : ℕ × ℕ). z.0) (sym (same_Some (y.pid, j) e is)))
 
 told-price : (a : ℕ) (status : ℤ) (i : Image) → price (told_image a status i) ≡ price i
 told-price a status i = by (nat_eq a 0)
@@ -84,11 +85,8 @@ either-order m p q a b ne = same_map nat_cmp_total nat_cmp-IsAntisymmetric (inse
     ∙ by r (nat_eq r p) (nat_eq r q) refl refl
     ∙ sym (get_without (insert m p b) q r ∙ ap (cond (nat_eq r q) None) (get_at m p b r)))
   where
-    same : (x y : ℕ) → nat_eq x y ≡ true → x ≡ y
-    same x y e = elim (eqb_tells x y) [ inl f ↦ f.1 | inr f ↦ absurd (not-both e f.0) ]
-
     by : (r : ℕ) (u w : Bool) → nat_eq r p ≡ u → nat_eq r q ≡ w → cond u (Some b) (cond u (Some a) (cond w None (get m r))) ≡ cond w None (cond u (Some b) (get m r))
-    by r true true is at = absurd (ne (sym (same r q at) ∙ same r p is))
+    by r true true is at = absurd (ne (sym (eqb-true r q at) ∙ eqb-true r p is))
     by r true false is at = refl
     by r false w is at = refl
 
@@ -121,7 +119,7 @@ module _ {k : Kernel} {h : Hart} (q : ℕ) (status : ℤ) (whole : IsWhole k h) 
   there j ne = get_or-set_other k.table.places z j no-process no-process ne
 
   not-ended : (j : ℕ) (y : Process) → place_at k.table j ≡ Some y → status_of y ≡ None → j ≢ z
-  not-ended j y at lives e = none-some status (sym lives ∙ ap status_of (same-some y x.child (sym at ∙ ap (place_at k.table) e ∙ x.held)) ∙ x.status_is)
+  not-ended j y at lives e = none-some status (sym lives ∙ ap status_of (same_Some y x.child (sym at ∙ ap (place_at k.table) e ∙ x.held)) ∙ x.status_is)
 
   running-apart : slot_now k ≢ z
   running-apart = not-ended (slot_now k) (place_now k) (place-is k h whole.sound runs) (place-lives k h whole.sound runs)
@@ -227,12 +225,13 @@ module _ {k : Kernel} {h : Hart} (q : ℕ) (status : ℤ) (whole : IsWhole k h) 
     well-after : WellFormed (frame_count k) t
     well-after =
         well.reaped (frame_count k) (own_state p next s) p q status
-        (well.alone (frame_count k) s p l next.regs next.image None l.killed s.console s.free whole.well was (ap (λ n. s.free + (n + 1)) (told-price c.a0 status l.image)) (record { typed = whole.well.keys; sent_later = whole.well.to_send }))
+        (well.alone (frame_count k) s p l next.regs next.image None l.killed s.console s.free whole.well was
+        (ap (λ n. s.free + (n + 1)) (told-price c.a0 status l.image)) (record { typed = whole.well.keys; sent_later = whole.well.to_send }))
         (get_other s.processes p (Alive next) q apart ∙ zombie)
 
     -- another process is what it was
     other-live : (r : ℕ) (a m : Live) → r ≢ p → live s r ≡ Some a → live t r ≡ Some m → m ≡ a
-    other-live r a m ne before after = same-some m a (sym after ∙ step.stays s p q l was c status zombie r a ne before ∙ before)
+    other-live r a m ne before after = same_Some m a (sym after ∙ step.stays s p q l was c status zombie r a ne before ∙ before)
 
     stays-shut : (r : ℕ) (a : Live) → r ≢ p → is_open s (waits_for s r a) ≡ false → is_open t (waits_for s r a) ≡ false
     stays-shut r a ne shut =
@@ -266,7 +265,8 @@ module _ {k : Kernel} {h : Hart} (q : ℕ) (status : ℤ) (whole : IsWhole k h) 
         place : ItsPlace k1.table k'.table (slot_now k) (place_now k) (in_call None (place_now k))
         place =
             let lives = place-lives k h whole.sound runs in
-            changed-place k1.table k'.table (slot_now k) (place_now k) (in_call None) table1.places (running k h whole.sound runs).inside (there (slot_now k) running-apart ∙ place-is k h whole.sound runs) lives refl (in-call-lives None (place_now k) lives)
+            changed-place k1.table k'.table (slot_now k) (place_now k) (in_call None) table1.places (running k h whole.sound runs).inside
+            (there (slot_now k) running-apart ∙ place-is k h whole.sound runs) lives refl (in-call-lives None (place_now k) lives)
             (ap (λ (y : Kernel). y.table) done.kernel ∙ (λ i. changed_at (slot_now (has.kernel i)) (in_call None) (has.kernel i).table))
 
         same-files : k'.files ≡ k.files
@@ -314,7 +314,9 @@ module _ {k : Kernel} {h : Hart} (q : ℕ) (status : ℤ) (whole : IsWhole k h) 
             by : (a : Option ℕ) → get (slots_of k.table) r ≡ a → nat_eq r q ≡ false → a ≡ None
             by None e ne = refl
             by (Some j) e ne =
-                absurd (absent (is_listed t.processes r (ap is_some (get_without (insert s.processes p (Alive next)) q r ∙ ap (λ (b : Bool). cond b None (get (insert s.processes p (Alive next)) r)) ne ∙ get_at s.processes p (Alive next) r)
+                absurd (absent (is_listed t.processes r (ap is_some
+                (get_without (insert s.processes p (Alive next)) q r
+                ∙ ap (λ (b : Bool). cond b None (get (insert s.processes p (Alive next)) r)) ne ∙ get_at s.processes p (Alive next) r)
                 ∙ some-other (nat_eq r p) (get s.processes r) (has-entry k h whole.sound.table r j e))))
 
         slots : SlotsAfter k k' (wait c (view_now k h))

@@ -3,7 +3,7 @@ use Rattle.std.proofs.Common.{◌≡◌, ◌≢◌, ℕ, ◌||◌, ◌&&◌, not
 use Rattle.std.specs.Prelude.{ℤ, is_some, nat_eq}
 use Rattle.std.specs.Int.{cast_unsigned, w32}
 use Rattle.std.specs.FinMap.{get, keys}
-use Rattle.std.proofs.lemmas.Bool.{eq-eqb}
+use Rattle.std.proofs.lemmas.Bool.{eq-eqb, true≢false}
 use Rattle.std.proofs.lemmas.Bool.Decides.{eqb_tells}
 use Rattle.xk_base.specs.Words.{le_bytes}
 use Rattle.xk_base.specs.Image.{Image}
@@ -96,7 +96,8 @@ module _ (k : Kernel) (h : Hart) (slot : ℕ) (sound : IsSound k h) (is : k.curr
     childless-row none =
         tested fits
         ∙ ap (reaped c (view_now k h)) (find-none (λ r. has_status (child_of p (get s.processes r))) (keys s.processes) (λ r. ap has_status (none-seen k h p sound.table none r)))
-        ∙ ap (λ b. cond b (waits c 0 (view_now k h)) (refused c (view_now k h))) (any-none (λ r. is_some (child_of p (get s.processes r))) (keys s.processes) (λ r. ap is_some (none-seen k h p sound.table none r)))
+        ∙ ap (λ b. cond b (waits c 0 (view_now k h)) (refused c (view_now k h)))
+        (any-none (λ r. is_some (child_of p (get s.processes r))) (keys s.processes) (λ r. ap is_some (none-seen k h p sound.table none r)))
 
     pub waiting-row : HasChild k.table p → HasNoneEnded k.table p → wait c (view_now k h) ≡ waits c 0 (view_now k h)
     unfolding view_of
@@ -111,7 +112,8 @@ module _ (k : Kernel) (h : Hart) (slot : ℕ) (sound : IsSound k h) (is : k.curr
 module _ (k : Kernel) (h : Hart) (sound : IsSound k h) (runs : IsRunning k) (c : Call) where
   pub no-child : HasNoChild k.table (pid_now k) → wait c (view_now k h) ≡ refused c (view_now k h)
   unfolding view_of
-  no-child none = wait_childless c (view_now k h) (any-none (λ r. is_some (child_of (pid_now k) (get (state_of k h).processes r))) (keys (state_of k h).processes) (λ r. ap is_some (none-seen k h (pid_now k) sound.table none r)))
+  no-child none = wait_childless c (view_now k h) (any-none (λ r. is_some (child_of (pid_now k) (get (state_of k h).processes r)))
+      (keys (state_of k h).processes) (λ r. ap is_some (none-seen k h (pid_now k) sound.table none r)))
 
   -- the status can't be stored, or the absent pages there cost more than is free
   pub wait-unready : IsUnready c.a0 (told_bytes c) 0 k h → wait c (view_now k h) ≡ refused c (view_now k h)
@@ -121,11 +123,8 @@ module _ (k : Kernel) (h : Hart) (sound : IsSound k h) (runs : IsRunning k) (c :
     | inr dear ↦ wait_none c (view_now k h) (touch-dear (view_now k h) (pages_at c.a0 (told_bytes c)) (omega (arith, dear)))
   ]
     where
-      true-false : true ≡ false → ⊥
-      true-false e = cc
-
       at : (b : Bool) → writable (live_now k h).image c.a0 (cond b 0 4) ≡ false → (not b && not (writable (live_now k h).image c.a0 4)) ≡ true
-      at true bad = absurd (true-false bad)
+      at true bad = absurd (true≢false bad)
       at false bad = ap not bad
 
   -- its buffer is there: what the row comes to then
@@ -138,7 +137,8 @@ module _ (k : Kernel) (h : Hart) (sound : IsSound k h) (runs : IsRunning k) (c :
       room false fine = ap not fine
 
 -- room for the status, where its buffer is there
-pub told-room : {k k' : Kernel} {h : Hart} (c : Call) (slot : ℕ) → k.current ≡ Some slot → IsReady c.a0 (told_bytes c) 0 k h k' h → (nat_eq c.a0 0 || writable_now (held_at (each_of k'.memories) slot).image c.a0 4) ≡ true
+pub told-room : {k k' : Kernel} {h : Hart} (c : Call) (slot : ℕ) → k.current ≡ Some slot → IsReady c.a0 (told_bytes c) 0 k h k' h
+    → (nat_eq c.a0 0 || writable_now (held_at (each_of k'.memories) slot).image c.a0 4) ≡ true
 told-room {k} {k'} {h} c slot is ready =
     let same : k'.current ≡ Some slot = ap (λ (y : Kernel). y.current) ready.touched.kernel ∙ is in
     let at : slot ≡ slot_now k' = now-slot slot ready.touched.whole.sound same in

@@ -1,15 +1,18 @@
 -- Each event keeps all that is promised of it: a step, a turn, nothing to do, a tick, a key, a byte that is sent, and nothing after the end.
 use Rattle.std.proofs.Common.{◌≡◌, ℕ, Some, None, inl, inr, ◌⊎◌, refl, sym, ap, ◌∙◌, subst}
-use Rattle.std.specs.Prelude.{ℤ, option_map, true, false}
+use Rattle.std.specs.Prelude.{ℤ, option_map, true}
 use Rattle.std.specs.Ordering.{nat_cmp}
 use Rattle.std.specs.FinSet.{FinSet, contains}
+use Rattle.std.proofs.lemmas.Bool.{true≢false}
+use Rattle.std.proofs.lemmas.Option.{none-some}
 use Rattle.hart_core.specs.declared.hart.Hart.{Hart}
 use Rattle.kernel_spec.specs.views.State.{live_part}
 use Rattle.kernel_spec.specs.views.View.{view, view_of}
 use Rattle.kernel_spec.specs.steps.Own.{Answer}
 use Rattle.kernel_spec.specs.waking.Ready.{ready}
 use Rattle.kernel_spec.specs.steps.Step.{own}
-use Rattle.kernel_spec.specs.runs.Run.{World, Event, Run, Tick, Key, Send, Outcome, Step_of, Turn, Idle, Ticked, Halted, Happens, RunHappens, TickHappens, KeyHappens, SendHappens, TurnTaken, StepOf, halts_with}
+use Rattle.kernel_spec.specs.runs.Run.{World, Event, Run, Tick, Key, Send, Outcome, Step_of, Turn, Idle}
+use Rattle.kernel_spec.specs.runs.Run.{Ticked, Halted, Happens, RunHappens, TickHappens, KeyHappens, SendHappens, TurnTaken, StepOf, halts_with}
 use Rattle.kernel_spec.specs.waking.Wakes.{IsRunnable, IsNearest, NoReadySleeper, IsInCall, IsEnd, WakesWhereDue, Promised}
 use Rattle.kernel_spec.specs.views.WellFormed.{AreShown}
 use Rattle.kcall_core.specs.Kernel.{state_of, IsSound, IsRunning, pid_now}
@@ -17,7 +20,7 @@ use Rattle.kcall_core.specs.Machine.{turns_of, world_of}
 use Rattle.kcall_core.specs.Whole.{IsWhole}
 use Rattle.kcall_core.specs.Makes.{Makes, view_now}
 use Rattle.kcall_core.specs.declared.kernel.Kernel.{Kernel}
-use Rattle.kcall_core.proofs.table.States.{none-some, running}
+use Rattle.kcall_core.proofs.table.States.{running}
 use Rattle.kcall_core.proofs.turns.Turned.{live-is}
 
 -- what the process that runs sees is its view in the state
@@ -51,11 +54,8 @@ none-wakes w t o state sleepers unready tick end p v asleep sees = (
   λ due. absurd (by due),
 )
   where
-    true-false : true ≡ false → ⊥
-    true-false e = cc
-
     by : (ready v ≡ true) ⊎ (IsInCall 13 v × (o ≡ Ticked)) ⊎ ((p ≡ 1) × IsInCall 3 v × IsEnd o) → ⊥
-    by (inl shows) = true-false (sym shows ∙ unready p v asleep (sym (ap (λ s. view s p) state) ∙ sees))
+    by (inl shows) = true≢false (sym shows ∙ unready p v asleep (sym (ap (λ s. view s p) state) ∙ sees))
     by (inr (inl ticks)) = tick ticks.1
     by (inr (inr ends)) = end ends.2
 
@@ -86,7 +86,8 @@ module _ (k k' : Kernel) (h h' : Hart) (whole : IsWhole k h) (stopped : k.curren
   current : option_map (λ (i : ℕ). pid_now k) k.current ≡ None
   current = ap (option_map (λ (i : ℕ). pid_now k)) stopped
 
-  pub turn-promised : (p : ℕ) → TurnTaken (world_of k h None) (Turn p) (world_of k' h' None) → IsRunnable (world_of k h None) p → IsNearest (world_of k h None) p → Promised (world_of k h None) Run (Turn p) (world_of k' h' None)
+  pub turn-promised : (p : ℕ) → TurnTaken (world_of k h None) (Turn p) (world_of k' h' None) → IsRunnable (world_of k h None) p
+      → IsNearest (world_of k h None) p → Promised (world_of k h None) Run (Turn p) (world_of k' h' None)
   unfolding turns_of
   turn-promised p taken can near =
       let w = world_of k h None in
@@ -120,7 +121,8 @@ halted-tick : Halted ≡ Ticked → ⊥
 halted-tick e = cc
 
 -- on a machine that is halted nothing happens
-pub halted-promised : (k : Kernel) (h : Hart) (status : ℤ) (e : Event) → IsWhole k h → Happens (world_of k h (Some status)) e Halted (world_of k h (Some status)) → Promised (world_of k h (Some status)) e Halted (world_of k h (Some status))
+pub halted-promised : (k : Kernel) (h : Hart) (status : ℤ) (e : Event) → IsWhole k h
+    → Happens (world_of k h (Some status)) e Halted (world_of k h (Some status)) → Promised (world_of k h (Some status)) e Halted (world_of k h (Some status))
 unfolding turns_of
 halted-promised k h status e whole happens =
     let w = world_of k h (Some status) in (
@@ -135,7 +137,8 @@ halted-promised k h status e whole happens =
 tick-run : Tick ≡ Run → ⊥
 tick-run e = cc
 
-pub tick-promised : (k k' : Kernel) (h h' : Hart) → TickHappens (world_of k h None) None Ticked (world_of k' h' None) → WakesWhereDue (world_of k h None) Ticked (world_of k' h' None) → Promised (world_of k h None) Tick Ticked (world_of k' h' None)
+pub tick-promised : (k k' : Kernel) (h h' : Hart) → TickHappens (world_of k h None) None Ticked (world_of k' h' None)
+    → WakesWhereDue (world_of k h None) Ticked (world_of k' h' None) → Promised (world_of k h None) Tick Ticked (world_of k' h' None)
 unfolding turns_of
 tick-promised k k' h h' happens wakes = (happens, wakes, λ e halted idle. absurd (tick-run e), λ shown. subst AreShown (sym happens.1) shown)
 
@@ -144,7 +147,8 @@ tick-promised k k' h h' happens wakes = (happens, wakes, λ e halted idle. absur
 key-run : (b : ℕ) → Key b ≡ Run → ⊥
 key-run b e = cc
 
-pub key-promised : (k k' : Kernel) (h h' : Hart) (b : ℕ) (o : Outcome) → KeyHappens (world_of k h None) None b o (world_of k' h' None) → WakesWhereDue (world_of k h None) o (world_of k' h' None) → Promised (world_of k h None) (Key b) o (world_of k' h' None)
+pub key-promised : (k k' : Kernel) (h h' : Hart) (b : ℕ) (o : Outcome) → KeyHappens (world_of k h None) None b o (world_of k' h' None)
+    → WakesWhereDue (world_of k h None) o (world_of k' h' None) → Promised (world_of k h None) (Key b) o (world_of k' h' None)
 unfolding turns_of
 key-promised k k' h h' b o happens wakes = (happens, wakes, λ e halted idle. absurd (key-run b e), λ shown. subst AreShown (sym happens.1) shown)
 

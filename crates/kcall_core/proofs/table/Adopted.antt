@@ -6,6 +6,8 @@ use Rattle.std.specs.Cmp.{nat_cmp_total}
 use Rattle.std.specs.FinMap.{FinMap, get, get-empty, insert, same_map, nat_cmp-IsAntisymmetric}
 use Rattle.std.proofs.lemmas.Bool.{cases_eq, cases_lt}
 use Rattle.std.proofs.lemmas.List.{get_or_past, get_or-map, length-map}
+use Rattle.std.proofs.lemmas.Iterator.Adapters.{option_map_id}
+use Rattle.std.proofs.lemmas.Option.{none-some}
 use Rattle.xk_base.specs.Gathered.{gathered}
 use Rattle.xk_base.specs.declared.limits.TheConstants.{NPROC, OPEN_FILES}
 use Rattle.rv64i_core.specs.Registers.{Registers}
@@ -28,9 +30,9 @@ use Rattle.kcall_core.specs.Holdings.{Held, held_at}
 use Rattle.kcall_core.specs.Memories.{each_of, pipes_of, free_of}
 use Rattle.kcall_core.specs.Kernel.{live_of, by_status, process_of, regs_at, entry_of, entry_at, state_of, IsSound, IsRunning, or_nobody, slot_now, pid_now}
 use Rattle.kcall_core.specs.declared.kernel.Kernel.{Kernel}
-use Rattle.kernel_spec.proofs.steps.Maps.{get_same, get_other}
-use Rattle.kernel_spec.proofs.steps.Orphans.{get-orphans}
-use Rattle.kcall_core.proofs.table.States.{none-some, running}
+use Rattle.kernel_spec.proofs.steps.MapsAfterChange.{get_same, get_other}
+use Rattle.kernel_spec.proofs.steps.OrphansKeepKeys.{get-orphans}
+use Rattle.kcall_core.proofs.table.States.{running}
 
 -- each entry is changed by one function
 module _ {X : Type 0} (F : X → X) where
@@ -176,14 +178,10 @@ woken-status on x = by x.state
     by (Live_state life) = refl
     by (Zombie_state status) = refl
 
-pub same-all : {X : Type 0} (o : Option X) → option_map (λ x. x) o ≡ o
-same-all None = refl
-same-all (Some x) = refl
-
 module _ (k k' : Kernel) (on : Channel) (table : k'.table ≡ each_changed (woken on) k.table) (rest : k' ≡ record k { table = k'.table }) where
   pub woken-state : (h : Hart) → state_of k' h ≡ state_of k h
   unfolding state_of
-  woken-state h = changed-state k k' (woken on) (λ x. x) table rest (λ x. refl) (woken-status on) (woken-means on) h (by_pid (entry_at k h) NPROC) (λ q. same-all (get (by_pid (entry_at k h) NPROC) q))
+  woken-state h = changed-state k k' (woken on) (λ x. x) table rest (λ x. refl) (woken-status on) (woken-means on) h (by_pid (entry_at k h) NPROC) (λ q. option_map_id (get (by_pid (entry_at k h) NPROC) q))
 
   pub woken-sound : (h : Hart) → IsSound k h → IsSound k' h
   woken-sound h sound = changed-sound k k' (woken on) (λ x. x) table rest (λ x. refl) (woken-status on) (woken-means on) h sound

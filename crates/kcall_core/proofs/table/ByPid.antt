@@ -2,21 +2,18 @@
 use Rattle.std.proofs.Common.{◌≡◌, ◌≢◌, ℕ, zero, suc, ◌<◌, cond, Option, Some, None, inl, inr, refl, sym, ap, ◌∙◌, arith}
 use Rattle.std.proofs.lemmas.Bool.{cases_eq}
 use Rattle.std.specs.Ordering.{nat_cmp}
-use Rattle.std.specs.Cmp.{nat_cmp_total}
-use Rattle.std.specs.FinMap.{FinMap, insert, remove, get, get-empty, same_map, nat_cmp-IsAntisymmetric}
+use Rattle.std.specs.FinMap.{FinMap, insert, remove, get, get-empty}
+use Rattle.sv39_core.proofs.Gathered.{same_pages}
 use Rattle.kernel_spec.specs.views.ByPid.{by_pid, put}
 use Rattle.std.proofs.lemmas.Bool.{eq-eqb}
 use Rattle.std.proofs.lemmas.Bool.Decides.{eqb_tells}
-use Rattle.kernel_spec.proofs.steps.Maps.{get_same, get_other, get_without}
+use Rattle.kernel_spec.proofs.steps.MapsAfterChange.{get_same, get_other, get_without}
 
 gone_same : {X : Type 0} (m : FinMap nat_cmp X) (k : ℕ) → get (remove m k) k ≡ None
 gone_same m k = get_without m k k ∙ ap (λ b. cond b None (get m k)) (eq-eqb k k refl)
 
 gone_other : {X : Type 0} (m : FinMap nat_cmp X) (k : ℕ) (q : ℕ) → q ≢ k → get (remove m k) q ≡ get m q
 gone_other m k q apart = get_without m k q ∙ elim (eqb_tells q k) [ inl h ↦ absurd (apart h.1) | inr h ↦ ap (λ b. cond b None (get m q)) h.0 ]
-
-same : {X : Type 0} (m n : FinMap nat_cmp X) → ((q : ℕ) → get m q ≡ get n q) → m ≡ n
-same m n h = same_map nat_cmp_total nat_cmp-IsAntisymmetric m n h
 
 module _ {X : Type 0} where
   put-other : (m : FinMap nat_cmp X) (o : Option (ℕ × X)) (q : ℕ) → ((e : ℕ × X) → o ≡ Some e → q ≢ e.0) → get (put m o) q ≡ get m q
@@ -27,7 +24,8 @@ module _ {X : Type 0} where
   put-here m o p x is = ap (λ v. get (put m v) p) is ∙ get_same m p x
 
   -- at pids that aren't the slot's
-  elsewhere : (f g : ℕ → Option (ℕ × X)) (n i q : ℕ) → ((j : ℕ) → j < n → j ≢ i → g j ≡ f j) → ((e : ℕ × X) → f i ≡ Some e → q ≢ e.0) → ((e : ℕ × X) → g i ≡ Some e → q ≢ e.0) → get (by_pid g n) q ≡ get (by_pid f n) q
+  elsewhere : (f g : ℕ → Option (ℕ × X)) (n i q : ℕ) → ((j : ℕ) → j < n → j ≢ i → g j ≡ f j) → ((e : ℕ × X) → f i ≡ Some e → q ≢ e.0)
+      → ((e : ℕ × X) → g i ≡ Some e → q ≢ e.0) → get (by_pid g n) q ≡ get (by_pid f n) q
   unfolding by_pid
   elsewhere f g zero i q stays was becomes = refl
   elsewhere f g (suc n) i q stays was becomes =
@@ -62,10 +60,13 @@ module _ {X : Type 0} where
   ]
 
   -- slot i has, or gets, an entry of pid p
-  pub by_pid-insert : (f g : ℕ → Option (ℕ × X)) (n i p : ℕ) (x : X) → i < n → g i ≡ Some (p, x) → ((j : ℕ) → j < n → j ≢ i → g j ≡ f j) → ((e : ℕ × X) → f i ≡ Some e → e.0 ≡ p) → ((j : ℕ) (e : ℕ × X) → j < n → j ≢ i → f j ≡ Some e → e.0 ≢ p)
+  pub by_pid-insert : (f g : ℕ → Option (ℕ × X)) (n i p : ℕ) (x : X) → i < n → g i ≡ Some (p, x) → ((j : ℕ) → j < n → j ≢ i → g j ≡ f j)
+      → ((e : ℕ × X) → f i ≡ Some e → e.0 ≡ p) → ((j : ℕ) (e : ℕ × X) → j < n → j ≢ i → f j ≡ Some e → e.0 ≢ p)
       → by_pid g n ≡ insert (by_pid f n) p x
-  by_pid-insert f g n i p x lt becomes stays was others = same (by_pid g n) (insert (by_pid f n) p x) (λ q. elim (cases_eq q p) [
-    | inl e ↦ ap (get (by_pid g n)) e ∙ found g n i p x lt becomes (λ j y below ne is same. others j y below ne (sym (stays j below ne) ∙ is) (sym same)) ∙ sym (ap (get (insert (by_pid f n) p x)) e ∙ get_same (by_pid f n) p x)
+  by_pid-insert f g n i p x lt becomes stays was others = same_pages (by_pid g n) (insert (by_pid f n) p x) (λ q. elim (cases_eq q p) [
+    | inl e ↦ ap (get (by_pid g n)) e ∙ found g n i p x lt becomes
+        (λ j y below ne is same. others j y below ne (sym (stays j below ne) ∙ is) (sym same))
+        ∙ sym (ap (get (insert (by_pid f n) p x)) e ∙ get_same (by_pid f n) p x)
     | inr apart ↦ elsewhere f g n i q stays (λ e is at. apart (at ∙ was e is)) (λ e is at. apart (at ∙ same_pid e (sym is ∙ becomes))) ∙ sym (get_other (by_pid f n) p x q apart)
   ])
     where
@@ -73,9 +74,10 @@ module _ {X : Type 0} where
       same_pid e h = let k : e ≡ (p, x) = cc in ap (λ (y : ℕ × X). y.0) k
 
   -- slot i loses its entry
-  pub by_pid-remove : (f g : ℕ → Option (ℕ × X)) (n i p : ℕ) → i < n → g i ≡ None → ((j : ℕ) → j < n → j ≢ i → g j ≡ f j) → ((e : ℕ × X) → f i ≡ Some e → e.0 ≡ p) → ((j : ℕ) (e : ℕ × X) → j < n → j ≢ i → f j ≡ Some e → e.0 ≢ p)
+  pub by_pid-remove : (f g : ℕ → Option (ℕ × X)) (n i p : ℕ) → i < n → g i ≡ None → ((j : ℕ) → j < n → j ≢ i → g j ≡ f j)
+      → ((e : ℕ × X) → f i ≡ Some e → e.0 ≡ p) → ((j : ℕ) (e : ℕ × X) → j < n → j ≢ i → f j ≡ Some e → e.0 ≢ p)
       → by_pid g n ≡ remove (by_pid f n) p
-  by_pid-remove f g n i p lt becomes stays was others = same (by_pid g n) (remove (by_pid f n) p) (λ q. elim (cases_eq q p) [
+  by_pid-remove f g n i p lt becomes stays was others = same_pages (by_pid g n) (remove (by_pid f n) p) (λ q. elim (cases_eq q p) [
     | inl e ↦ ap (get (by_pid g n)) e ∙ none g n p (gone) ∙ sym (ap (get (remove (by_pid f n) p)) e ∙ gone_same (by_pid f n) p)
     | inr apart ↦ elsewhere f g n i q stays (λ e is at. apart (at ∙ was e is)) (λ e is at. absurd (cc)) ∙ sym (gone_other (by_pid f n) p q apart)
   ])

@@ -1,10 +1,12 @@
 -- A kernel without a process is whole: nothing is open, nobody sleeps, and all frames are free. A tick leaves it so.
-use Rattle.std.proofs.Common.{◌≡◌, ℕ, zero, suc, ◌∷◌, true, false, length, replicate, map, Some, None, refl, sym, ap, ◌∙◌, subst, arith}
+use Rattle.std.proofs.Common.{◌≡◌, ℕ, zero, suc, ◌∷◌, false, length, replicate, map, Some, None, refl, sym, ap, ◌∙◌, subst, arith}
 use Rattle.std.specs.Prelude.{List, Option, option_map, IsSome, is_some}
 use Rattle.std.specs.FinMap.{get, get-empty, len-empty}
 use Rattle.std.specs.FinSet as set
 use Rattle.std.specs.FinSet.{contains, contains-empty}
 use Rattle.std.specs.Ordering.{nat_cmp}
+use Rattle.std.proofs.lemmas.Bool.{false≢true}
+use Rattle.std.proofs.lemmas.Option.{none-some}
 use Rattle.hart_core.specs.declared.hart.Hart.{Hart}
 use Rattle.console_core.specs.Lists.{Console, held_bytes, empty_console, IsWithinLimits}
 use Rattle.pipe_core.specs.Pipe.{Pipe}
@@ -31,14 +33,10 @@ use Rattle.kcall_core.specs.declared.kernel.Kernel.{Kernel}
 use Rattle.kcall_core.proofs.memory.Births.{get_or-same}
 use Rattle.kcall_core.proofs.table.FirstWhole.{none-asleep, none-counted, none-open-table}
 use Rattle.kcall_core.proofs.table.NoProcess.{no-process-state}
-use Rattle.kcall_core.proofs.table.States.{none-some}
 
 -- a place that nobody has
 abbrev no-one : Option Process
 no-one = None
-
-true-none : false ≡ true → ⊥
-true-none e = cc
 
 -- ---- the state
 
@@ -47,7 +45,7 @@ module _ (frames : ℕ) (programs : List ProgramFile) (console : Console) (clock
   s = record (empty_state frames programs) { console = console; clock = clock }
 
   no-process-at : (p : ℕ) → IsSome (get s.processes p) → ⊥
-  no-process-at p there = true-none (sym (ap is_some (get-empty nat_cmp p)) ∙ there)
+  no-process-at p there = false≢true (sym (ap is_some (get-empty nat_cmp p)) ∙ there)
 
   no-file-at : (p d : ℕ) → file_at s p d ≡ None
   no-file-at p d = ap (λ (o : Option meaning.Process). file_of (live_part o) d) (get-empty nat_cmp p)
@@ -69,7 +67,7 @@ module _ (frames : ℕ) (programs : List ProgramFile) (console : Console) (clock
     parents = λ p x is. absurd (no-process-at p (ap is_some is));
     descriptors = λ p d f is. absurd (none-some f (sym (no-file-at p d) ∙ is));
     ends = λ f i x end is on. absurd (no-open f x is);
-    named = λ f there. absurd (true-none (sym (ap is_some (get-empty nat_cmp f)) ∙ there));
+    named = λ f there. absurd (false≢true (sym (ap is_some (get-empty nat_cmp f)) ∙ there));
     readers = λ i x is. absurd (no-pipe i x is);
     writers = λ i x is. absurd (no-pipe i x is);
     held = λ i x is. absurd (no-pipe i x is);
@@ -96,12 +94,13 @@ module _ (k : Kernel) (nobody : HasNoProcess k) where
 
   none-waits : (h : Hart) → NoReadySleeper (world_of k h None)
   unfolding turns_of
-  none-waits h p v asleep seen = absurd (true-none (sym (nobody-sleeps p) ∙ asleep))
+  none-waits h p v asleep seen = absurd (false≢true (sym (nobody-sleeps p) ∙ asleep))
 
   pub no-process-whole : (h : Hart) → IsSound k h → IsWithinLimits k.console → IsWhole k h
   no-process-whole h sound within = record {
     sound = sound;
-    well = subst (WellFormed (frame_count k)) (sym (no-process-state k h nobody.table (frame_count k) nobody.files nobody.pipes nobody.free)) (no-process-well (frame_count k) (map named_file k.programs.items) k.console k.clock within);
+    well = subst (WellFormed (frame_count k)) (sym (no-process-state k h nobody.table (frame_count k) nobody.files nobody.pipes nobody.free))
+        (no-process-well (frame_count k) (map named_file k.programs.items) k.console k.clock within);
     files = subst files.IsTable (sym nobody.files) none-open-table;
     counted = subst (λ fs. AreCounted fs k.table) (sym nobody.files) (none-counted k.table shut);
     channels = λ j p m channel held is asleep. absurd (not-held j p held);
@@ -134,7 +133,8 @@ pub wakes-nobody : (f : Process → Process) (n : ℕ) → map (option_map f) (r
 wakes-nobody f zero = refl
 wakes-nobody f (suc n) = ap (λ ps. no-one ∷ ps) (wakes-nobody f n)
 
-pub tick-leaves : (k k' : Kernel) (h h' : Hart) (on : Channel) (clock : ℕ) → HasNoProcess k → k'.table ≡ each_changed (woken on) k.table → k'.current ≡ None → k'.files ≡ k.files → frame_count k' ≡ frame_count k
+pub tick-leaves : (k k' : Kernel) (h h' : Hart) (on : Channel) (clock : ℕ) → HasNoProcess k → k'.table ≡ each_changed (woken on) k.table
+    → k'.current ≡ None → k'.files ≡ k.files → frame_count k' ≡ frame_count k
     → state_of k' h' ≡ record (state_of k h) { clock = clock } → HasNoProcess k'
 tick-leaves k k' h h' on clock nobody table stopped opened frames state = record {
   table = table ∙ ap (each_changed (woken on)) nobody.table ∙ ap (λ ps. record (no_process 1) { places = ps }) (wakes-nobody (woken on) NPROC);

@@ -7,6 +7,7 @@ use Rattle.std.specs.FinSet.{contains, contains-empty}
 use Rattle.std.specs.Ordering.{nat_cmp}
 use Rattle.std.proofs.lemmas.Bool.{cases_eq}
 use Rattle.std.proofs.lemmas.List.{get_or-set_same, get_or-set_other, length-replicate}
+use Rattle.std.proofs.lemmas.Option.{none-some}
 use Rattle.xk_base.specs.Words.{count_below}
 use Rattle.xk_base.specs.Image.{price}
 use Rattle.xk_base.specs.Loaded.{Loaded}
@@ -39,9 +40,6 @@ use Rattle.kernel_spec.proofs.well.FirstWell.{state_well}
 use Rattle.kernel_spec.proofs.well.WellLaws as well
 use Rattle.kcall_core.proofs.table.NoProcess.{none-by-pid}
 use Rattle.kcall_core.proofs.table.Starting.{Begins}
-
-none-some : {X : Type 0} (x : X) → None ≡ Some x → ⊥
-none-some x e = cc
 
 -- a place that nobody has, a descriptor that isn't in use, and a place without an open file
 abbrev no-one : Option Process
@@ -159,7 +157,8 @@ module _ (k : Kernel) (h : Hart) (l : Loaded) (frames : ℕ) (programs : List Pr
   pub first-whole : IsSound k h → k.files ≡ none_open → price l.image + 1 ≤ frames → length k.memories.ram ≡ frames → IsWithinLimits console → IsWhole k h
   first-whole sound opened fits long within = record {
     sound = sound;
-    well = subst (λ n. WellFormed n (state_of k h)) (sym long) (subst (WellFormed frames) (sym state) (well.outside frames (first_state frames programs l) clock console (state_well frames programs l fits) within));
+    well = subst (λ n. WellFormed n (state_of k h)) (sym long)
+        (subst (WellFormed frames) (sym state) (well.outside frames (first_state frames programs l) clock console (state_well frames programs l fits) within));
     files = subst files.IsTable (sym opened) none-open-table;
     counted = subst (λ fs. AreCounted fs k.table) (sym opened) (none-counted k.table first.closed);
     channels = λ slot p m channel held is asleep. absurd (none-some channel (sym (all-awake k.table first slot p held) ∙ asleep));
@@ -174,8 +173,11 @@ module _ {k k' : Kernel} {h h' : Hart} {l : Loaded} (begins : Begins k h k' h' l
   first-there = subst HoldsFirst (sym begins.table) holds-first
 
   pub begun-whole : HasNoProcess k → IsWithinLimits k.console → price l.image + 1 ≤ free_of k.memories → IsWhole k' h'
-  begun-whole nobody within fits = first-whole k' h' l (free_of k.memories) (map named_file k.programs.items) k.console k.clock first-there begins.current begins.state begins.sound begins.files fits (begins.frames ∙ sym nobody.free) within
+  begun-whole nobody within fits = first-whole k' h' l (free_of k.memories)
+      (map named_file k.programs.items) k.console k.clock first-there begins.current begins.state begins.sound begins.files fits
+      (begins.frames ∙ sym nobody.free) within
 
-  pub begun-world : price l.image + 1 ≤ free_of k.memories → init_loaded (state_of k h) ≡ Ok l → (m : Loaded) × (init_loaded (state_of k h) ≡ Ok m) × (price m.image + 1 ≤ (state_of k h).free) × (world_of k' h' None ≡ started_world m (state_of k h))
+  pub begun-world : price l.image + 1 ≤ free_of k.memories → init_loaded (state_of k h) ≡ Ok l
+      → (m : Loaded) × (init_loaded (state_of k h) ≡ Ok m) × (price m.image + 1 ≤ (state_of k h).free) × (world_of k' h' None ≡ started_world m (state_of k h))
   unfolding state_of
   begun-world fits is = (l, is, fits, first-world k' h' l (free_of k.memories) (map named_file k.programs.items) k.console k.clock first-there begins.current begins.state)

@@ -3,6 +3,7 @@ use Rattle.std.proofs.Common.{◌≡◌, ℕ, ◌+◌, ◌<◌, ◌≤◌, true,
 use Rattle.std.specs.Prelude.{ℤ, is_some, option_map, ◌⊎◌, ◌↔◌}
 use Rattle.std.specs.FinMap.{get}
 use Rattle.std.proofs.lemmas.Bool.{cases_lt, cases_eq}
+use Rattle.std.proofs.lemmas.Option.{none-some, same_Some}
 use Rattle.xk_base.specs.Frames.{copies}
 use Rattle.xk_base.specs.declared.limits.TheConstants.{FRAMES_MAX}
 use Rattle.xk_base.proofs.Frames.{copies-nil}
@@ -35,10 +36,6 @@ use Rattle.kcall_core.proofs.memory.Joined.{joined-has, joined-two, joined-none}
 use Rattle.kcall_core.proofs.memory.PipesTold.{keeps-told}
 use Rattle.kcall_core.proofs.memory.Roles.{unused-none, used-has, one-role}
 use Rattle.kcall_core.proofs.table.Observed.{live-held}
-use Rattle.kcall_core.proofs.table.States.{none-some}
-
-some-same : {X : Type 0} (a b : X) → Some a ≡ Some b → a ≡ b
-some-same a b e = cc
 
 module _ (k : Kernel) (h : Hart) (sound : IsSound k h) where
   -- a slot with a memory has a process
@@ -60,7 +57,8 @@ module _ (k : Kernel) (h : Hart) (sound : IsSound k h) where
   total : (f : ℕ) → owners k.memories.pool k.memories.ram k.memories.each.items k.memories.pipes.items f ≤ 1
   total f = elim (cases_lt f (length k.memories.ram)) [ inl lt ↦ omega (arith, sound.memories.once f lt) | inr ge ↦ omega (arith, sound.memories.inside f ge) ]
 
-  slot-many : (f i : ℕ) (m : Memory) → get_or k.memories.each.items i None ≡ Some m → copies f (get_or (map (slot_frames k.memories.ram) k.memories.each.items) i []) ≡ copies f (slot_frames k.memories.ram (Some m))
+  slot-many : (f i : ℕ) (m : Memory) → get_or k.memories.each.items i None ≡ Some m
+      → copies f (get_or (map (slot_frames k.memories.ram) k.memories.each.items) i []) ≡ copies f (slot_frames k.memories.ram (Some m))
   slot-many f i m is = ap (copies f) (frames-at k.memories.ram k.memories.each.items i) ∙ ap (λ o. copies f (slot_frames k.memories.ram o)) is
 
   slot-few : (f i : ℕ) (m : Memory) → get_or k.memories.each.items i None ≡ Some m → copies f (slot_frames k.memories.ram (Some m)) ≤ copies f (process_frames k.memories.ram k.memories.each.items)
@@ -76,9 +74,9 @@ module _ (k : Kernel) (h : Hart) (sound : IsSound k h) where
   owned-once : (f p q : ℕ) (r s : FrameRole) → IsOwned k p f r → IsOwned k q f s → (p ≡ q) × (r ≡ s)
   owned-once f p q r s a b = elim (cases_eq a.0 b.0) [
     | inl same ↦ (
-      sym a.3 ∙ ap (λ (x : Process). x.pid) (some-same a.1 b.1 (sym a.2 ∙ ap (place_at k.table) same ∙ b.2)) ∙ b.3,
+      sym a.3 ∙ ap (λ (x : Process). x.pid) (same_Some a.1 b.1 (sym a.2 ∙ ap (place_at k.table) same ∙ b.2)) ∙ b.3,
       one-role k.memories.ram a.4.0 f ((sound.memories.memories a.0 a.4.0 a.4.1).space.tree) (omega (arith, total f, slot-few f a.0 a.4.0 a.4.1)) r s a.4.2
-          (subst (λ (m : Memory). IsUsedBy k.memories.ram m f s) (some-same b.4.0 a.4.0 (sym b.4.1 ∙ ap (λ i. get_or k.memories.each.items i None) (sym same) ∙ a.4.1)) b.4.2),
+          (subst (λ (m : Memory). IsUsedBy k.memories.ram m f s) (same_Some b.4.0 a.4.0 (sym b.4.1 ∙ ap (λ i. get_or k.memories.each.items i None) (sym same) ∙ a.4.1)) b.4.2),
     )
     | inr ne ↦
         absurd (omega (
@@ -95,7 +93,8 @@ module _ (k : Kernel) (h : Hart) (sound : IsSound k h) where
   -- ---- the uses of a frame
 
   abbrev Kind : (f : ℕ) → FrameUse → Type 0
-  Kind f u = ((u ≡ Free) × (1 ≤ copies f (free_in k.memories.pool k.memories.ram))) ⊎ ((u ≡ Pipe) × (keeps_pipe k.memories.pipes.items f ≡ true)) ⊎ ((pid : ℕ) × (r : FrameRole) × (u ≡ use_of pid r) × IsOwned k pid f r)
+  Kind f u = ((u ≡ Free) × (1 ≤ copies f (free_in k.memories.pool k.memories.ram))) ⊎ ((u ≡ Pipe) × (keeps_pipe k.memories.pipes.items f ≡ true))
+      ⊎ ((pid : ℕ) × (r : FrameRole) × (u ≡ use_of pid r) × IsOwned k pid f r)
 
   module _ (f : ℕ) (low : f < FRAMES_MAX) where
     kind : (u : FrameUse) → IsUsed k f u → Kind f u
@@ -149,13 +148,10 @@ module _ (k : Kernel) (h : Hart) (sound : IsSound k h) where
     -- ---- what is told of it
 
     pub told-some : (u : FrameUse) → IsUsed k f u → (v : FrameUse) → (Some u ≡ Some v) ↔ IsUsed k f v
-    told-some u used v = (λ e. subst (IsUsed k f) (some-same u v e) used, λ other. ap Some (one-use u v used other))
+    told-some u used v = (λ e. subst (IsUsed k f) (same_Some u v e) used, λ other. ap Some (one-use u v used other))
 
     pub told-none : frame_count k ≤ f → (v : FrameUse) → (None ≡ Some v) ↔ IsUsed k f v
     told-none ge v = (λ e. absurd (none-some v e), λ used. absurd (omega (arith, ge, use-inside v used)))
-
-    pub not-none : (u : FrameUse) → f < frame_count k → (Some u ≡ None) ↔ (frame_count k ≤ f)
-    not-none u lt = (λ e. absurd (none-some u (sym e)), λ ge. absurd (omega (arith, lt, ge)))
 
     -- a frame that no process has, and no pipe lies in, is free
     pub left-free : f < frame_count k → keeps_pipe k.memories.pipes.items f ≡ false → ((pid : ℕ) (r : FrameRole) → ¬ IsOwned k pid f r) → IsUsed k f Free
@@ -193,12 +189,13 @@ module _ (k : Kernel) (h : Hart) (sound : IsSound k h) where
       gone : IsUsed k f (Page pid vpn) → ⊥
       gone o =
           let p = memory-place o.0 o.4.0 o.4.1 in
-          let same : o.1.pid ≡ p.0.pid = ap (λ (x : Process). x.pid) (some-same o.1 p.0 (sym o.2 ∙ p.1)) in
+          let same : o.1.pid ≡ p.0.pid = ap (λ (x : Process). x.pid) (same_Some o.1 p.0 (sym o.2 ∙ p.1)) in
           none-some _ (sym missing ∙ ap (live (state_of k h)) (sym o.3 ∙ same) ∙ live-held k h sound.table o.0 p.0 p.1 p.2)
 
 -- ---- the search over all slots
 
-pub one-more : (m : Memories) (f slot : ℕ) → ((i : ℕ) → i < slot → (role : FrameRole) → ¬ IsUsedIn m i f role) → ((role : FrameRole) → ¬ IsUsedIn m slot f role) → (i : ℕ) → i < slot + 1 → (role : FrameRole) → ¬ IsUsedIn m i f role
+pub one-more : (m : Memories) (f slot : ℕ) → ((i : ℕ) → i < slot → (role : FrameRole) → ¬ IsUsedIn m i f role)
+    → ((role : FrameRole) → ¬ IsUsedIn m slot f role) → (i : ℕ) → i < slot + 1 → (role : FrameRole) → ¬ IsUsedIn m i f role
 one-more m f slot before here i lt role used = elim (cases_lt i slot) [ inl earlier ↦ before i earlier role used | inr ge ↦ here role (subst (λ j. IsUsedIn m j f role) (same ge) used) ]
   where
     same : slot ≤ i → i ≡ slot

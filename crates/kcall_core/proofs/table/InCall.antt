@@ -3,6 +3,7 @@ use Rattle.std.proofs.Common.{◌≡◌, ◌≢◌, ℕ, Bool, cond, List, set, 
 use Rattle.std.specs.Prelude.{ℤ, option_map}
 use Rattle.std.proofs.lemmas.Bool.{cases_eq, eq-eqb}
 use Rattle.std.proofs.lemmas.List.{get_or-set_same, get_or-set_other}
+use Rattle.std.proofs.lemmas.Option.{none-some, same_Some}
 use Rattle.rv64i_core.specs.Registers.{Registers}
 use Rattle.hart_core.specs.declared.hart.Hart.{Hart}
 use Rattle.proc_table.specs.Processes.{state_status, state_in_call, status_of, is_marked, call_of, in_call}
@@ -19,7 +20,7 @@ use Rattle.kcall_core.specs.Holdings.{Held, held_at}
 use Rattle.kcall_core.specs.Memories.{each_of}
 use Rattle.kcall_core.specs.Kernel.{live_of, by_status, process_of, entry_of, entry_at, state_of, IsSound, IsRunning, IsCurrent, or_nobody, slot_now, place_now, pid_now, live_now}
 use Rattle.kcall_core.specs.declared.kernel.Kernel.{Kernel}
-use Rattle.kcall_core.proofs.table.States.{Alone, Running, running, slot-state, not-this, none-some, runs-regs}
+use Rattle.kcall_core.proofs.table.States.{Alone, Running, running, slot-state, not-this, runs-regs}
 use Rattle.kcall_core.proofs.table.Stops.{read-some}
 use Rattle.kcall_core.proofs.turns.Chosen.{noted}
 
@@ -88,14 +89,11 @@ module _ (k : Kernel) (h : Hart) (call : Option Call) (regs : Registers) (sound 
       | inr ne ↦ sound.vacant j (sym (there j ne) ∙ at)
     ];
     current = λ j at.
-        let slot : slot_now k ≡ j = one (slot_now k) j (sym now.current ∙ at) in
+        let slot : slot_now k ≡ j = same_Some (slot_now k) j (sym now.current ∙ at) in
         subst (IsCurrent (calling call k) (moved regs h)) slot (record { process = in_call call now.is.process; is = here; live = live-here; runs = runs-regs k.memories (slot_now k) h regs now.is.runs });
     idle = sound.idle;
   }
     where
-      one : (a b : ℕ) → Some a ≡ Some b → a ≡ b
-      one a b e = cc
-
       not-over : (p q : Process) (status : ℤ) → Some p ≡ Some q → status_of p ≡ None → status_of q ≡ Some status → ⊥
       not-over p q status same live over = let e : p ≡ q = cc in none-some status (sym live ∙ ap status_of e ∙ over)
 

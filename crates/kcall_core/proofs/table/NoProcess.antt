@@ -3,7 +3,8 @@ use Rattle.std.proofs.Common.{◌≡◌, ℕ, zero, suc, map, replicate, get_or,
 use Rattle.std.specs.Prelude.{option_map}
 use Rattle.std.proofs.lemmas.List.{length-replicate}
 use Rattle.std.specs.FinMap.{empty}
-use Rattle.xk_base.specs.Gathered.{gathered, insert_some}
+use Rattle.std.proofs.lemmas.Option.{none-some}
+use Rattle.xk_base.specs.Gathered.{gathered}
 use Rattle.xk_base.specs.declared.limits.TheConstants.{NPROC, OPEN_FILES}
 use Rattle.hart_core.specs.Translations.{nothing_kept}
 use Rattle.hart_core.specs.declared.hart.Hart.{Hart}
@@ -21,7 +22,7 @@ use Rattle.kernel_spec.specs.views.NewKernel.{empty_state}
 use Rattle.kcall_core.specs.Kernel.{entry_of, entry_at, state_of, IsSound}
 use Rattle.kcall_core.specs.declared.kernel.Kernel.{Kernel}
 use Rattle.kcall_core.proofs.memory.Births.{get_or-same}
-use Rattle.kcall_core.proofs.table.States.{none-some}
+use Rattle.addr_space.proofs.Empties.{gathered-none}
 
 -- an empty place
 abbrev no-one : Option Process
@@ -34,11 +35,6 @@ pub none-by-pid : {X : Type 0} (f : ℕ → Option (ℕ × X)) (n : ℕ) → ((i
 unfolding by_pid
 none-by-pid f zero none = refl
 none-by-pid f (suc n) none = ap (put (by_pid f n)) (none n) ∙ none-by-pid f n none
-
-none-gathered : {X : Type 0} (f : ℕ → Option X) (n : ℕ) → ((i : ℕ) → f i ≡ None) → gathered f n ≡ empty
-unfolding gathered
-none-gathered f zero none = refl
-none-gathered f (suc n) none = ap (insert_some (gathered f n) n) (none n) ∙ none-gathered f n none
 
 no-file : (i : ℕ) → open_file_at none_open i ≡ None
 no-file i = under (get_or none_open i None) (get_or-same None OPEN_FILES i)
@@ -63,11 +59,12 @@ module _ (k : Kernel) (h : Hart) (table : k.table ≡ no_process 1) where
   vacant : (i : ℕ) → place_at k.table i ≡ None
   vacant i = ap (λ (t : Slots). place_at t i) table ∙ nobody i
 
-  pub no-process-state : (frames : ℕ) → k.files ≡ none_open → pipes_of k.memories ≡ empty → free_of k.memories ≡ frames → state_of k h ≡ record (empty_state frames (map named_file k.programs.items)) { console = k.console; clock = k.clock }
+  pub no-process-state : (frames : ℕ) → k.files ≡ none_open → pipes_of k.memories ≡ empty → free_of k.memories ≡ frames
+      → state_of k h ≡ record (empty_state frames (map named_file k.programs.items)) { console = k.console; clock = k.clock }
   unfolding state_of
   no-process-state frames files pipes free =
       let processes : by_pid (entry_at k h) NPROC ≡ empty = none-by-pid (entry_at k h) NPROC (λ i. ap (entry_of k h i) (vacant i)) in
-      let opened : gathered (open_file_at k.files) OPEN_FILES ≡ empty = ap (λ fs. gathered (open_file_at fs) OPEN_FILES) files ∙ none-gathered (open_file_at none_open) OPEN_FILES no-file in
+      let opened : gathered (open_file_at k.files) OPEN_FILES ≡ empty = ap (λ fs. gathered (open_file_at fs) OPEN_FILES) files ∙ gathered-none (open_file_at none_open) OPEN_FILES no-file in
       λ t. record {
         processes = processes t;
         files = opened t;
@@ -79,8 +76,10 @@ module _ (k : Kernel) (h : Hart) (table : k.table ≡ no_process 1) where
         programs = map named_file k.programs.items;
       }
 
-  pub new-state : (frames : ℕ) → k.files ≡ none_open → k.console ≡ empty_console → k.clock ≡ 0 → pipes_of k.memories ≡ empty → free_of k.memories ≡ frames → state_of k h ≡ empty_state frames (map named_file k.programs.items)
-  new-state frames files console clock pipes free = no-process-state frames files pipes free ∙ (λ t. record (empty_state frames (map named_file k.programs.items)) { console = console t; clock = clock t })
+  pub new-state : (frames : ℕ) → k.files ≡ none_open → k.console ≡ empty_console → k.clock ≡ 0 → pipes_of k.memories ≡ empty
+      → free_of k.memories ≡ frames → state_of k h ≡ empty_state frames (map named_file k.programs.items)
+  new-state frames files console clock pipes free = no-process-state frames files pipes free
+      ∙ (λ t. record (empty_state frames (map named_file k.programs.items)) { console = console t; clock = clock t })
 
   pub new-sound : k.current ≡ None → memories.AreSound k.memories → each_of k.memories ≡ replicate NPROC None → h.root ≡ None → h.cache ≡ nothing_kept → IsSound k h
   new-sound stopped sound each root cache =

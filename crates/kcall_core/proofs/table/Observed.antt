@@ -1,13 +1,14 @@
 -- What stands in a slot is what the state has under its pid.
-use Rattle.std.proofs.Common.{Bool, ◌≡◌, ℕ, ◌<◌, ◌≤◌, true, false, cond, length, Option, Some, None, inl, inr, refl, sym, ap, ◌∙◌, arith, nat_lt}
+use Rattle.std.proofs.Common.{◌≡◌, ℕ, ◌<◌, ◌≤◌, true, false, cond, length, Option, Some, None, inl, inr, refl, sym, ap, ◌∙◌, arith, nat_lt}
 use Rattle.std.specs.Prelude.{ℤ, option_map, is_some}
 use Rattle.std.specs.List.{position_or_len}
 use Rattle.std.specs.FinMap.{get}
-use Rattle.std.proofs.lemmas.Bool.{cases_lt, eq-eqb}
+use Rattle.std.proofs.lemmas.Bool.{cases_lt, eq-eqb, both_ways}
 use Rattle.std.proofs.lemmas.Bool.Decides.{eqb_tells, nat_tests}
 use Rattle.std.proofs.lemmas.List.{get_or_past}
 use Rattle.std.proofs.lemmas.List.Sums.{fails_before_first}
 use Rattle.std.proofs.lemmas.List.Quantifiers.{position-Some}
+use Rattle.std.proofs.lemmas.Option.{none-some}
 use Rattle.hart_core.specs.declared.hart.Hart.{Hart}
 use Rattle.proc_table.specs.Processes.{status_of}
 use Rattle.proc_table.specs.Slots.{Slots, place_at, descriptors_at, place_has_pid, slot_of, status_at, parent_at, process_parent, IsTable}
@@ -22,18 +23,15 @@ use Rattle.kcall_core.specs.Observers.{IsLiveIn, registers_of, size_of, byte_in,
 use Rattle.kcall_core.specs.Kernel.{live_of, by_status, process_of, regs_at, entry_of, entry_at, state_of, IsSound}
 use Rattle.kcall_core.specs.declared.kernel.Kernel.{Kernel}
 use Rattle.kcall_core.proofs.table.ByPid.{found, none}
-use Rattle.kcall_core.proofs.table.States.{none-some, entry-pid}
-
-true-not : {b : Bool} → b ≡ true → b ≡ false → ⊥
-true-not is not = let e : true ≡ false = sym is ∙ not in cc
+use Rattle.kcall_core.proofs.table.States.{entry-pid}
 
 -- the slot that the table finds has a process of this pid
 pub slot-found : (t : Slots) (pid i : ℕ) → slot_of t pid ≡ Some i → (p : Process) × (place_at t i ≡ Some p) × (p.pid ≡ pid)
 slot-found t pid i is = by (place_at t i) refl (position-Some (place_has_pid pid) t.places i None is).1
   where
     by : (o : Option Process) → place_at t i ≡ o → place_has_pid pid o ≡ true → (p : Process) × (place_at t i ≡ Some p) × (p.pid ≡ pid)
-    by None at has = absurd (true-not has refl)
-    by (Some p) at has = (p, at, elim (eqb_tells p.pid pid) [ inl h ↦ h.1 | inr h ↦ absurd (true-not has h.0) ])
+    by None at has = absurd (both_ways _ refl has)
+    by (Some p) at has = (p, at, elim (eqb_tells p.pid pid) [ inl h ↦ h.1 | inr h ↦ absurd (both_ways _ h.0 has) ])
 
 -- what the table tells of the process in a slot
 pub status-told : (t : Slots) (i : ℕ) (p : Process) (r : Option ℤ) → place_at t i ≡ Some p → status_at t i ≡ Some r → status_of p ≡ r
@@ -41,10 +39,6 @@ status-told t i p r is told = let e : Some (status_of p) ≡ Some r = sym (ap (o
 
 pub parent-told : (t : Slots) (i : ℕ) (p : Process) (r : Option ℕ) → place_at t i ≡ Some p → parent_at t i ≡ Some r → p.parent ≡ r
 parent-told t i p r is told = let e : Some p.parent ≡ Some r = sym (ap (option_map process_parent) is) ∙ told in cc
-
-pub none-told : {X : Type 0} (o : Option X) → is_some o ≡ false → o ≡ None
-none-told None e = refl
-none-told (Some x) e = absurd (true-not refl e)
 
 module _ (k : Kernel) (h : Hart) (table : IsTable k.table) where
   entry-inside : (i : ℕ) (p : Process) → place_at k.table i ≡ Some p → i < 64
@@ -54,17 +48,21 @@ module _ (k : Kernel) (h : Hart) (table : IsTable k.table) where
   ]
 
   -- the process in a slot
-  pub entry-held : (i : ℕ) (p : Process) → place_at k.table i ≡ Some p → get (state_of k h).processes p.pid ≡ Some (process_of p (descriptors_at k.table i) (held_at (each_of k.memories) i) (regs_at k h i))
+  pub entry-held : (i : ℕ) (p : Process) → place_at k.table i ≡ Some p
+      → get (state_of k h).processes p.pid ≡ Some (process_of p (descriptors_at k.table i) (held_at (each_of k.memories) i) (regs_at k h i))
   unfolding state_of
   entry-held i p is =
       found (entry_at k h) 64 i p.pid (process_of p (descriptors_at k.table i) (held_at (each_of k.memories) i) (regs_at k h i)) (entry-inside i p is) (ap (entry_of k h i) is)
       (λ j e lt ne at same. let f = entry-pid k h j (place_at k.table j) e at in ne (table.pids.apart j i f.0 p f.1 is (sym f.2 ∙ sym same)))
 
-  pub live-held : (i : ℕ) (p : Process) → place_at k.table i ≡ Some p → status_of p ≡ None → live (state_of k h) p.pid ≡ Some (live_of p (descriptors_at k.table i) (held_at (each_of k.memories) i) (regs_at k h i))
-  live-held i p is alive = ap live_part (entry-held i p is) ∙ ap (λ o. live_part (Some (by_status p.parent (live_of p (descriptors_at k.table i) (held_at (each_of k.memories) i) (regs_at k h i)) o))) alive
+  pub live-held : (i : ℕ) (p : Process) → place_at k.table i ≡ Some p → status_of p ≡ None
+      → live (state_of k h) p.pid ≡ Some (live_of p (descriptors_at k.table i) (held_at (each_of k.memories) i) (regs_at k h i))
+  live-held i p is alive = ap live_part (entry-held i p is)
+      ∙ ap (λ o. live_part (Some (by_status p.parent (live_of p (descriptors_at k.table i) (held_at (each_of k.memories) i) (regs_at k h i)) o))) alive
 
   pub ended-held : (i : ℕ) (p : Process) (status : ℤ) → place_at k.table i ≡ Some p → status_of p ≡ Some status → live (state_of k h) p.pid ≡ None
-  ended-held i p status is over = ap live_part (entry-held i p is) ∙ ap (λ o. live_part (Some (by_status p.parent (live_of p (descriptors_at k.table i) (held_at (each_of k.memories) i) (regs_at k h i)) o))) over
+  ended-held i p status is over = ap live_part (entry-held i p is)
+      ∙ ap (λ o. live_part (Some (by_status p.parent (live_of p (descriptors_at k.table i) (held_at (each_of k.memories) i) (regs_at k h i)) o))) over
 
   -- no slot has a process of this pid
   pub pid-missing : (pid : ℕ) → slot_of k.table pid ≡ None → get (state_of k h).processes pid ≡ None
@@ -72,7 +70,7 @@ module _ (k : Kernel) (h : Hart) (table : IsTable k.table) where
   pid-missing pid is =
       none (entry_at k h) 64 pid (λ j e lt at same.
       let f = entry-pid k h j (place_at k.table j) e at in
-      true-not (ap (place_has_pid pid) f.1 ∙ eq-eqb f.0.pid pid (sym f.2 ∙ sym same)) (fails j (omega (arith, lt, table.places))))
+      both_ways _ (fails j (omega (arith, lt, table.places))) (ap (place_has_pid pid) f.1 ∙ eq-eqb f.0.pid pid (sym f.2 ∙ sym same)))
     where
       late : length k.table.places ≤ position_or_len (place_has_pid pid) k.table.places
       late = elim (cases_lt (position_or_len (place_has_pid pid) k.table.places) (length k.table.places)) [
@@ -97,7 +95,7 @@ module _ (k : Kernel) (h : Hart) (table : IsTable k.table) where
       f = slot-found k.table pid i is
 
       by : (o : Option ℤ) → status_of f.0 ≡ o → is_some o ≡ true → live (state_of k h) pid ≡ None
-      by None over one = absurd (true-not one refl)
+      by None over one = absurd (both_ways _ refl one)
       by (Some status) over one = ap (live (state_of k h)) (sym f.2) ∙ ended-held i f.0 status f.1 over
 
   module _ (pid i : ℕ) (there : IsLiveIn k pid i) where
@@ -122,7 +120,8 @@ module _ (k : Kernel) (h : Hart) (table : IsTable k.table) where
   pub child-missing : (pid q : ℕ) → slot_of k.table q ≡ None → child_of pid (get (state_of k h).processes q) ≡ None
   child-missing pid q is = ap (child_of pid) (pid-missing q is)
 
-  pub child-held : (pid q i : ℕ) (parent : Option ℕ) (r : Option ℤ) → slot_of k.table q ≡ Some i → parent_at k.table i ≡ Some parent → status_at k.table i ≡ Some r → child_of pid (get (state_of k h).processes q) ≡ cond (is_this pid parent) (Some (child_seen r)) None
+  pub child-held : (pid q i : ℕ) (parent : Option ℕ) (r : Option ℤ) → slot_of k.table q ≡ Some i → parent_at k.table i ≡ Some parent
+      → status_at k.table i ≡ Some r → child_of pid (get (state_of k h).processes q) ≡ cond (is_this pid parent) (Some (child_seen r)) None
   child-held pid q i parent r is told told_status =
       let f = slot-found k.table q i is in
       let l = live_of f.0 (descriptors_at k.table i) (held_at (each_of k.memories) i) (regs_at k h i) in

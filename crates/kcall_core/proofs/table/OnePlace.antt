@@ -3,6 +3,7 @@ use Rattle.std.proofs.Common.{◌≡◌, ◌≢◌, ℕ, ◌<◌, List, length, 
 use Rattle.std.specs.Prelude.{option_map, is_none}
 use Rattle.std.proofs.lemmas.Bool.{cases_eq}
 use Rattle.std.proofs.lemmas.List.{get_or-set_same, get_or-set_other}
+use Rattle.std.proofs.lemmas.Option.{none-some}
 use Rattle.xk_base.specs.declared.limits.TheConstants.{NPROC}
 use Rattle.file_table.specs.Named.{none_named}
 use Rattle.proc_table.specs.Processes.{status_of, channel_of, state_channel, state_status, in_call, asleep, state_in_call, state_asleep}
@@ -16,7 +17,6 @@ use Rattle.file_table.specs.declared.open_file.Entry.{Entry}
 use Rattle.kernel_spec.specs.views.WellFormed.{sum_below}
 use Rattle.kcall_core.specs.Machine.{slots_of, sleeper_in, sleepers_below}
 use Rattle.kcall_core.specs.Whole.{AreCounted, named_in}
-use Rattle.kcall_core.proofs.table.States.{none-some}
 use Rattle.kcall_core.proofs.turns.Turned.{slots-same, sleepers-same, sleeper-same}
 
 -- one place has another process of the same pid, and nothing else of the table is another

@@ -1,7 +1,6 @@
 -- Changes of the table that wake some of the others, one after another.
-use Rattle.std.proofs.Common.{◌≡◌, ℕ, ◌<◌, Bool, true, false, cond, ◌||◌, length, Option, Some, None, inl, inr, refl, sym, ap, ◌∙◌, arith}
+use Rattle.std.proofs.Common.{◌≡◌, ℕ, ◌<◌, Bool, true, false, cond, ◌||◌, length, Option, Some, None, refl, sym, ap, ◌∙◌, arith}
 use Rattle.std.specs.Prelude.{ℤ, option_map, nat_eq}
-use Rattle.std.proofs.lemmas.Bool.Decides.{eqb_tells}
 use Rattle.std.proofs.lemmas.List.{get_or-set_same, get_or-set_other, length-map}
 use Rattle.proc_table.specs.Channels.{same_channel, without}
 use Rattle.proc_table.specs.Processes.{status_of, state_status, channel_of, state_channel, given, woken, state_woken, ended}
@@ -16,6 +15,7 @@ use Rattle.kcall_core.proofs.table.Woken.{place-each}
 use Rattle.kcall_core.proofs.processes.Departs.{seat, seat_woken, OthersWake}
 use Rattle.kcall_core.specs.Closings.{unless_woken}
 use Rattle.kernel_spec.specs.waking.SleepsOn.{family_wakes}
+use Rattle.kernel_spec.proofs.steps.GoneIsItsRow.{turn}
 
 -- ---- one process
 
@@ -117,16 +117,10 @@ module _ (slot pid : ℕ) (parent : Option ℕ) (status : ℤ) where
       by (Some p) = ap (λ (x : Option Channel). Some (p.pid, x)) (sym (left-alone (channel_of p)))
   others-parent (Some q) t j other = others-woken (on.Children q) t j other
 
-  turned : (a b : ℕ) → nat_eq a b ≡ nat_eq b a
-  turned a b = elim (eqb_tells a b) [
-    | inl e ↦ λ i. nat_eq (e.1 i) (sym e.1 i)
-    | inr e ↦ e.0 ∙ elim (eqb_tells b a) [ inl f ↦ absurd (e.1 (sym f.1)) | inr f ↦ sym f.0 ]
-  ]
-
   -- together the channels of the family
   family : (o : Option ℕ) (c : Channel) → (((false || false) || parent_wakes o c) || same_channel c (on.Children 1)) ≡ family_wakes o c
   family None (on.Children q) = refl
-  family (Some k) (on.Children q) = ap (λ (b : Bool). b || nat_eq q 1) (turned q k)
+  family (Some k) (on.Children q) = ap (λ (b : Bool). b || nat_eq q 1) (turn q k)
   family None (on.Bytes i) = refl
   family None (on.Room i) = refl
   family None on.Clock = refl

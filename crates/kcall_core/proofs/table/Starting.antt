@@ -4,6 +4,7 @@ use Rattle.std.specs.Prelude.{ℤ}
 use Rattle.std.specs.FinMap.{insert, empty}
 use Rattle.std.proofs.lemmas.Bool.{cases_eq}
 use Rattle.std.proofs.lemmas.List.{get_or-set_same, get_or-set_other, length-map}
+use Rattle.std.proofs.lemmas.Option.{none-some, same_Some}
 use Rattle.xk_base.specs.Gathered.{gathered}
 use Rattle.xk_base.specs.Image.{price}
 use Rattle.xk_base.specs.Loaded.{Loaded}
@@ -35,9 +36,6 @@ use Rattle.kcall_core.proofs.memory.Lists.{set-twice}
 use Rattle.kcall_core.proofs.table.NoProcess.{no-process-state}
 use Rattle.kcall_core.proofs.table.Stops.{Rest}
 
-none-some : {X : Type 0} (x : X) → None ≡ Some x → ⊥
-none-some x e = cc
-
 -- pid 1 is there, and its frames are taken
 abbrev pub started_state : Loaded → State → State
 started_state l s = record s {
@@ -61,10 +59,12 @@ pub record Filled (old new : Memories) (l : Loaded) : Type 0 where
 pub vacant-slot : {k : Kernel} {h : Hart} → IsSound k h → HasNoProcess k → (j : ℕ) → get_or (each_of k.memories) j None ≡ None
 vacant-slot {k} {h} sound blank j = sound.vacant j (ap (λ (t : Slots). place_at t j) blank.table ∙ get_or-same None NPROC j)
 
-pub filled : {old middle new : Memories} {l : Loaded} (regs : Registers) → 0 < length (each_of old) → get_or (each_of old) 0 None ≡ None → SlotChanges old middle 0 (Some (record { image = l.image; saved = fresh 0 }))
+pub filled : {old middle new : Memories} {l : Loaded} (regs : Registers) → 0 < length (each_of old) → get_or (each_of old) 0 None ≡ None
+    → SlotChanges old middle 0 (Some (record { image = l.image; saved = fresh 0 }))
     → SlotChanges middle new 0 (Some (with_saved regs (held_at (each_of middle) 0))) → regs ≡ first_regs l → Filled old new l
 filled {old} {middle} {new} {l} regs lt vacant first second is =
-    let here : get_or (each_of middle) 0 None ≡ Some (record { image = l.image; saved = fresh 0 }) = ap (λ xs. get_or xs 0 None) first.each ∙ get_or-set_same (each_of old) 0 (Some (record { image = l.image; saved = fresh 0 })) None lt in
+    let here : get_or (each_of middle) 0 None ≡ Some (record { image = l.image; saved = fresh 0 }) = ap (λ xs. get_or xs 0 None) first.each
+    ∙ get_or-set_same (each_of old) 0 (Some (record { image = l.image; saved = fresh 0 })) None lt in
     let held : with_saved regs (held_at (each_of middle) 0) ≡ first_held l = ap (λ o. with_saved regs (or_nothing o)) here ∙ ap (λ r. with_saved r (record { image = l.image; saved = fresh 0 })) is in
     record {
       sound = second.sound;
@@ -74,7 +74,8 @@ filled {old} {middle} {new} {l} regs lt vacant first second is =
       frames = second.frames ∙ first.frames;
     }
 
-module _ (k k' : Kernel) (h h' : Hart) (l : Loaded) (sound : IsSound k h) (blank : HasNoProcess k) (lt : 0 < length (each_of k.memories)) (changes : Filled k.memories k'.memories l) (table : k'.table ≡ with_new 0 None k.table) (current : k'.current ≡ k.current) where
+module _ (k k' : Kernel) (h h' : Hart) (l : Loaded) (sound : IsSound k h) (blank : HasNoProcess k) (lt : 0 < length (each_of k.memories))
+    (changes : Filled k.memories k'.memories l) (table : k'.table ≡ with_new 0 None k.table) (current : k'.current ≡ k.current) where
   was-none : (j : ℕ) → place_at k.table j ≡ None
   was-none j = ap (λ (t : Slots). place_at t j) blank.table ∙ get_or-same None NPROC j
 
@@ -164,11 +165,8 @@ each-length m sound = length-map m.each.items (held_in m.ram) ∙ sound.slots
 pub blank-vacant : {k : Kernel} {h : Hart} → IsSound k h → HasNoProcess k → IsVacant (each_of k.memories) 0
 blank-vacant {k} {h} sound blank = (omega (arith, each-length k.memories sound.memories), vacant-slot sound blank 0)
 
-same-some : {X : Type 0} (x y : X) → Some x ≡ Some y → x ≡ y
-same-some x y e = cc
-
 pub slot-zero : (k : Kernel) (slot : ℕ) → HasNoProcess k → slot_for_new k.table ≡ Some slot → slot ≡ 0
-slot-zero k slot blank is = same-some slot 0 (sym is ∙ ap slot_for_new blank.table)
+slot-zero k slot blank is = same_Some slot 0 (sym is ∙ ap slot_for_new blank.table)
 
 -- slot 0 has a memory once it is filled
 pub first-has : {k : Kernel} {h : Hart} (middle : Memories) (slot : ℕ) (x : Held) → IsSound k h → SlotChanges k.memories middle 0 (Some x) → slot ≡ 0 → HasMemory (each_of middle) slot
@@ -186,14 +184,18 @@ pub record Begins (k : Kernel) (h : Hart) (k' : Kernel) (h' : Hart) (l : Loaded)
   pub files : k'.files ≡ none_open
   pub frames : length k'.memories.ram ≡ length k.memories.ram
 
-pub begins : {k k' : Kernel} {h h' : Hart} {middle : Memories} {slot : ℕ} (l : Loaded) (regs : Registers) → IsSound k h → HasNoProcess k → SlotChanges k.memories middle 0 (Some (record { image = l.image; saved = fresh 0 }))
-    → SlotChanges middle k'.memories slot (Some (with_saved regs (held_at (each_of middle) slot))) → slot ≡ 0 → regs ≡ first_regs l → k'.table ≡ with_new slot None k.table → k'.current ≡ k.current → h'.root ≡ h.root → h'.cache ≡ h.cache → Rest k k'
+pub begins : {k k' : Kernel} {h h' : Hart} {middle : Memories} {slot : ℕ} (l : Loaded) (regs : Registers) → IsSound k h → HasNoProcess k
+    → SlotChanges k.memories middle 0 (Some (record { image = l.image; saved = fresh 0 }))
+    → SlotChanges middle k'.memories slot (Some (with_saved regs (held_at (each_of middle) slot))) → slot ≡ 0 → regs ≡ first_regs l
+    → k'.table ≡ with_new slot None k.table → k'.current ≡ k.current → h'.root ≡ h.root → h'.cache ≡ h.cache → Rest k k'
     → Begins k h k' h' l
 begins {k} {k'} {h} {h'} {middle} {slot} l regs sound blank first second zero-slot is table current root cache rest =
     let lt : 0 < length (each_of k.memories) = omega (arith, each-length k.memories sound.memories) in
-    let changes : Filled k.memories k'.memories l = filled regs lt (vacant-slot sound blank 0) first (subst (λ n. SlotChanges middle k'.memories n (Some (with_saved regs (held_at (each_of middle) n)))) zero-slot second) is in
+    let changes : Filled k.memories k'.memories l = filled regs lt (vacant-slot sound blank 0) first
+    (subst (λ n. SlotChanges middle k'.memories n (Some (with_saved regs (held_at (each_of middle) n)))) zero-slot second) is in
     let made : k'.table ≡ with_new 0 None k.table = table ∙ ap (λ n. with_new n None k.table) zero-slot in
-    let before : state_of k h ≡ record (empty_state (free_of k.memories) (map named_file k.programs.items)) { console = k.console; clock = k.clock } = no-process-state k h blank.table (free_of k.memories) blank.files blank.pipes refl in
+    let before : state_of k h ≡ record (empty_state (free_of k.memories) (map named_file k.programs.items))
+    { console = k.console; clock = k.clock } = no-process-state k h blank.table (free_of k.memories) blank.files blank.pipes refl in
     record {
       sound = started-sound k k' h h' l sound blank lt changes made current root cache;
       state = started-is k k' h h' l sound blank lt changes made current rest ∙ ap (started_state l) before;

@@ -1,10 +1,11 @@
 -- How a change of one slot shows in the state.
-use Rattle.std.proofs.Common.{◌≡◌, ◌≢◌, ℕ, ◌<◌, true, false, cond, List, length, subst, get_or, Option, Some, None, IsSome, inl, inr, refl, sym, ap, ◌∙◌, arith}
+use Rattle.std.proofs.Common.{◌≡◌, ◌≢◌, ℕ, ◌<◌, false, cond, List, length, subst, get_or, Option, Some, None, IsSome, inl, inr, refl, sym, ap, ◌∙◌, arith}
 use Rattle.std.specs.Prelude.{map, ℤ}
 use Rattle.std.specs.FinMap.{insert}
-use Rattle.std.proofs.lemmas.Bool.{cases_eq, cases_lt, eq-eqb}
+use Rattle.std.proofs.lemmas.Bool.{cases_eq, cases_lt, eq-eqb, false≢true}
 use Rattle.std.proofs.lemmas.Bool.Decides.{eqb_tells}
 use Rattle.std.proofs.lemmas.List.{get_or_past, get_or-set_same, get_or-set_other}
+use Rattle.std.proofs.lemmas.Option.{none-some, same_Some}
 use Rattle.xk_base.specs.declared.limits.TheConstants.{NPROC, OPEN_FILES}
 use Rattle.xk_base.specs.Gathered.{gathered}
 use Rattle.file_table.specs.OpenFiles.{open_file_at}
@@ -27,9 +28,6 @@ use Rattle.kcall_core.specs.declared.kernel.Kernel.{Kernel}
 use Rattle.kcall_core.specs.declared.memories.Memories.{Memories}
 use Rattle.kcall_core.proofs.table.ByPid.{by_pid-insert}
 use Rattle.kcall_core.proofs.memory.Changes.{some-inside}
-
-pub none-some : {X : Type 0} (x : X) → None ≡ Some x → ⊥
-none-some x e = cc
 
 -- the pid of an entry
 pub entry-pid : (k : Kernel) (h : Hart) (j : ℕ) (o : Option Process) (e : ℕ × meaning.Process) → entry_of k h j o ≡ Some e → (p : Process) × (o ≡ Some p) × (e.0 ≡ p.pid)
@@ -60,11 +58,8 @@ pub record Running (k : Kernel) (h : Hart) : Type 0 where
 pub running : (k : Kernel) (h : Hart) → IsSound k h → IsRunning k → Running k h
 running k h sound runs = by k.current refl runs
   where
-    false-true : false ≡ true → ⊥
-    false-true e = cc
-
     by : (o : Option ℕ) → k.current ≡ o → IsSome o → Running k h
-    by None is some = absurd (false-true some)
+    by None is some = absurd (false≢true some)
     by (Some i) is some =
         let slot : i ≡ slot_now k = sym (ap or_zero is) in
         let c : IsCurrent k h (slot_now k) = subst (IsCurrent k h) slot (sound.current i is) in
@@ -100,14 +95,16 @@ alone-beside k k' h h' i a = record {
 }
 
 -- or the one that ran runs on, on the same hart
-pub current-beside : (k k' : Kernel) (h : Hart) (i : ℕ) → k'.current ≡ k.current → ((j : ℕ) → j ≢ i → place_at k'.table j ≡ place_at k.table j) → ((j : ℕ) → j ≢ i → descriptors_at k'.table j ≡ descriptors_at k.table j)
+pub current-beside : (k k' : Kernel) (h : Hart) (i : ℕ) → k'.current ≡ k.current → ((j : ℕ) → j ≢ i → place_at k'.table j ≡ place_at k.table j)
+    → ((j : ℕ) → j ≢ i → descriptors_at k'.table j ≡ descriptors_at k.table j)
     → ((j : ℕ) → j ≢ i → get_or (each_of k'.memories) j None ≡ get_or (each_of k.memories) j None) → Beside k k' h h i
 current-beside k k' h i current places files each = record { places = places; files = files; each = each; regs = λ j ne. (λ t. cond (is_this j (current t)) h.regs (or_nothing (each j ne t)).saved) }
 
 beside-entries : (k k' : Kernel) (h h' : Hart) (i : ℕ) → Beside k k' h h' i → (j : ℕ) → j ≢ i → entry_at k' h' j ≡ entry_at k h j
 beside-entries k k' h h' i a j ne = ap (entry_of k' h' j) (a.places j ne) ∙ under (place_at k.table j) (ap or_nothing (a.each j ne)) (a.regs j ne) (a.files j ne)
   where
-    under : (o : Option Process) → held_at (each_of k'.memories) j ≡ held_at (each_of k.memories) j → regs_at k' h' j ≡ regs_at k h j → descriptors_at k'.table j ≡ descriptors_at k.table j → entry_of k' h' j o ≡ entry_of k h j o
+    under : (o : Option Process) → held_at (each_of k'.memories) j ≡ held_at (each_of k.memories) j → regs_at k' h' j ≡ regs_at k h j
+        → descriptors_at k'.table j ≡ descriptors_at k.table j → entry_of k' h' j o ≡ entry_of k h j o
     under None held regs files = refl
     under (Some p) held regs files = λ t. Some (p.pid, process_of p (files t) (held t) (regs t))
 
@@ -115,18 +112,21 @@ pub alone-entries : (k k' : Kernel) (h h' : Hart) (i : ℕ) → Alone k k' i →
 alone-entries k k' h h' i a = beside-entries k k' h h' i (alone-beside k k' h h' i a)
 
 -- slot i, which has a process, now stands for another process of the same pid
-pub slot-anew : (k k' : Kernel) (h h' : Hart) (i : ℕ) (p : Process) (x : meaning.Process) → IsSound k h → place_at k.table i ≡ Some p → Beside k k' h h' i → entry_at k' h' i ≡ Some (p.pid, x) → by_pid (entry_at k' h') NPROC ≡ insert (by_pid (entry_at k h) NPROC) p.pid x
+pub slot-anew : (k k' : Kernel) (h h' : Hart) (i : ℕ) (p : Process) (x : meaning.Process) → IsSound k h → place_at k.table i ≡ Some p
+    → Beside k k' h h' i → entry_at k' h' i ≡ Some (p.pid, x) → by_pid (entry_at k' h') NPROC ≡ insert (by_pid (entry_at k h) NPROC) p.pid x
 slot-anew k k' h h' i p x sound is a here =
     by_pid-insert (entry_at k h) (entry_at k' h') 64 i p.pid x (slot-inside k h sound i p is) here
     (λ j lt ne. beside-entries k k' h h' i a j ne)
     (λ e at. let found = entry-pid k h i (place_at k.table i) e at in found.2 ∙ ap (λ o. (or_nobody o).pid) (sym found.1 ∙ is))
     (λ j e lt ne at same. pids-apart k h sound i p is j e ne at same)
 
-pub slot-state : (k k' : Kernel) (h h' : Hart) (i : ℕ) (p : Process) (x : meaning.Process) → IsSound k h → place_at k.table i ≡ Some p → Alone k k' i → entry_at k' h' i ≡ Some (p.pid, x) → by_pid (entry_at k' h') NPROC ≡ insert (by_pid (entry_at k h) NPROC) p.pid x
+pub slot-state : (k k' : Kernel) (h h' : Hart) (i : ℕ) (p : Process) (x : meaning.Process) → IsSound k h → place_at k.table i ≡ Some p → Alone k k' i
+    → entry_at k' h' i ≡ Some (p.pid, x) → by_pid (entry_at k' h') NPROC ≡ insert (by_pid (entry_at k h) NPROC) p.pid x
 slot-state k k' h h' i p x sound is a here = slot-anew k k' h h' i p x sound is (alone-beside k k' h h' i a) here
 
 -- slot i, which was vacant, now stands for a process of the next pid
-pub slot-born : (k k' : Kernel) (h h' : Hart) (i : ℕ) (x : meaning.Process) → IsSound k h → i < 64 → place_at k.table i ≡ None → Beside k k' h h' i → entry_at k' h' i ≡ Some (k.table.next, x) → by_pid (entry_at k' h') NPROC ≡ insert (by_pid (entry_at k h) NPROC) k.table.next x
+pub slot-born : (k k' : Kernel) (h h' : Hart) (i : ℕ) (x : meaning.Process) → IsSound k h → i < 64 → place_at k.table i ≡ None → Beside k k' h h' i
+    → entry_at k' h' i ≡ Some (k.table.next, x) → by_pid (entry_at k' h') NPROC ≡ insert (by_pid (entry_at k h) NPROC) k.table.next x
 slot-born k k' h h' i x sound below vacant a here =
     by_pid-insert (entry_at k h) (entry_at k' h') 64 i k.table.next x below here
     (λ j lt ne. beside-entries k k' h h' i a j ne)
@@ -155,7 +155,8 @@ goes-alone k k' h r goes = record {
 }
 
 pub goes-processes : (k k' : Kernel) (h h' : Hart) → IsSound k h → IsRunning k → Goes k k'
-    → by_pid (entry_at k' h') NPROC ≡ insert (by_pid (entry_at k h) NPROC) (pid_now k) (Alive (live_of (place_now k) (descriptors_at k.table (slot_now k)) (held_at (each_of k'.memories) (slot_now k)) h'.regs))
+    → by_pid (entry_at k' h') NPROC ≡ insert (by_pid (entry_at k h) NPROC) (pid_now k)
+    (Alive (live_of (place_now k) (descriptors_at k.table (slot_now k)) (held_at (each_of k'.memories) (slot_now k)) h'.regs))
 goes-processes k k' h h' sound runs goes =
     let r = running k h sound runs in
     let i = slot_now k in
@@ -183,7 +184,8 @@ pub record GoesOn (k k' : Kernel) : Type 0 where
 
 -- then the state's process is another, and so is the count of free frames
 pub goes-state : (k k' : Kernel) (h h' : Hart) → IsSound k h → IsRunning k → GoesOn k k'
-    → state_of k' h' ≡ record (set_live (pid_now k) (live_of (place_now k) (descriptors_at k.table (slot_now k)) (held_at (each_of k'.memories) (slot_now k)) h'.regs) (state_of k h)) { free = free_of k'.memories }
+    → state_of k' h' ≡ record (set_live (pid_now k) (live_of (place_now k) (descriptors_at k.table (slot_now k))
+    (held_at (each_of k'.memories) (slot_now k)) h'.regs) (state_of k h)) { free = free_of k'.memories }
 unfolding state_of
 goes-state k k' h h' sound runs on =
     let processes = goes-processes k k' h h' sound runs on.goes in
@@ -199,7 +201,8 @@ goes-state k k' h h' sound runs on =
     }
 
 -- and the kernel is sound, as long as the hart runs on in the slot
-pub goes-sound : (k k' : Kernel) (h h' : Hart) → IsSound k h → IsRunning k → Goes k k' → memories.AreSound k'.memories → HasMemory (each_of k'.memories) (slot_now k) → RunsIn k'.memories (slot_now k) h' → IsSound k' h'
+pub goes-sound : (k k' : Kernel) (h h' : Hart) → IsSound k h → IsRunning k → Goes k k' → memories.AreSound k'.memories
+    → HasMemory (each_of k'.memories) (slot_now k) → RunsIn k'.memories (slot_now k) h' → IsSound k' h'
 goes-sound k k' h h' sound runs goes sound' has runs' =
     let r = running k h sound runs in
     let table : (i : ℕ) → place_at k'.table i ≡ place_at k.table i = λ i. ap (λ (t : Slots). place_at t i) goes.table in
@@ -219,14 +222,11 @@ goes-sound k k' h h' sound runs goes sound' has runs' =
         | inr ne ↦ goes.each i ne ∙ sound.vacant i (sym (table i) ∙ at)
       ];
       current = λ i is.
-          let slot : slot_now k ≡ i = one (slot_now k) i (sym r.current ∙ sym goes.current ∙ is) in
+          let slot : slot_now k ≡ i = same_Some (slot_now k) i (sym r.current ∙ sym goes.current ∙ is) in
           subst (IsCurrent k' h') slot (record { process = r.is.process; is = table (slot_now k) ∙ r.is.is; live = r.is.live; runs = runs' });
       idle = λ is. absurd (none-some (slot_now k) (sym is ∙ goes.current ∙ r.current));
     }
   where
-    one : (a b : ℕ) → Some a ≡ Some b → a ≡ b
-    one a b e = cc
-
     not-over : (p q : Process) (status : ℤ) → Some p ≡ Some q → status_of q ≡ None → status_of p ≡ Some status → ⊥
     not-over p q status same live over = let e : p ≡ q = cc in none-some status (sym live ∙ sym (ap status_of e) ∙ over)
 
@@ -237,7 +237,8 @@ runs-regs m slot h regs r = record { memory = r.memory; is = r.is; root = r.root
 
 -- ---- the memory in the slot that runs becomes another
 
-module _ {k : Kernel} (k' : Kernel) {h : Hart} {x : Held} (sound : IsSound k h) (runs : IsRunning k) (table : k'.table ≡ k.table) (current : k'.current ≡ k.current) (changes : SlotChanges k.memories k'.memories (slot_now k) (Some x)) where
+module _ {k : Kernel} (k' : Kernel) {h : Hart} {x : Held} (sound : IsSound k h) (runs : IsRunning k) (table : k'.table ≡ k.table)
+    (current : k'.current ≡ k.current) (changes : SlotChanges k.memories k'.memories (slot_now k) (Some x)) where
   changed-inside : slot_now k < length (each_of k.memories)
   changed-inside =
       let r = running k h sound runs in

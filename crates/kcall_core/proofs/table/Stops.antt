@@ -1,9 +1,10 @@
 -- The process that runs stops running, a process begins to run, and a process ends.
-use Rattle.std.proofs.Common.{◌≡◌, ◌≢◌, ℕ, zero, suc, ◌+◌, ◌<◌, true, false, cond, List, [], ◌∷◌, length, set, subst, get_or, Option, Some, None, IsSome, inl, inr, refl, sym, ap, ◌∙◌, arith}
+use Rattle.std.proofs.Common.{◌≡◌, ◌≢◌, ℕ, zero, suc, ◌+◌, ◌<◌, cond, List, [], ◌∷◌, length, set, subst, get_or, Option, Some, None, IsSome, inl, inr, refl, sym, ap, ◌∙◌, arith}
 use Rattle.std.specs.Prelude.{map, ℤ, option_map, is_none, IsTrue}
 use Rattle.std.specs.FinMap.{insert}
-use Rattle.std.proofs.lemmas.Bool.{cases_eq, eq-eqb}
+use Rattle.std.proofs.lemmas.Bool.{cases_eq, eq-eqb, false≢true}
 use Rattle.std.proofs.lemmas.List.{get_or-set_same, get_or-set_other}
+use Rattle.std.proofs.lemmas.Option.{none-some}
 use Rattle.xk_base.specs.Gathered.{gathered}
 use Rattle.xk_base.specs.Image.{price}
 use Rattle.xk_base.specs.declared.limits.TheConstants.{NPROC, OPEN_FILES}
@@ -26,7 +27,7 @@ use Rattle.kcall_core.specs.Kernel.{process_of, regs_at, entry_of, entry_at, sta
 use Rattle.kcall_core.specs.declared.kernel.Kernel.{Kernel}
 use Rattle.kcall_core.proofs.table.ByPid.{by_pid-same}
 use Rattle.kcall_core.proofs.memory.Changes.{some-inside}
-use Rattle.kcall_core.proofs.table.States.{Alone, alone-entries, slot-inside, slot-state, not-this, none-some}
+use Rattle.kcall_core.proofs.table.States.{Alone, alone-entries, slot-inside, slot-state, not-this}
 
 -- all of the kernel but the table, the memories and who runs
 pub record Rest (k k' : Kernel) : Type 0 where
@@ -52,13 +53,12 @@ module _ {k : Kernel} {h : Hart} (i : ℕ) (sound : IsSound k h) (is : k.current
 -- ---- suspended
 
 cost-saved : (o : Option Held) (regs : Registers) → IsSome o → held_cost (Some (with_saved regs (or_nothing o))) ≡ held_cost o
-cost-saved None regs some = absurd (false-true some)
-  where
-    false-true : false ≡ true → ⊥
-    false-true e = cc
+cost-saved None regs some = absurd (false≢true some)
 cost-saved (Some held) regs some = refl
 
-pub suspended-state : (k k' : Kernel) (h h' : Hart) (i : ℕ) → IsSound k h → k.current ≡ Some i → SlotChanges k.memories k'.memories i (Some (with_saved h.regs (held_at (each_of k.memories) i))) → k'.table ≡ k.table → k'.current ≡ None → Rest k k' → state_of k' h' ≡ state_of k h
+pub suspended-state : (k k' : Kernel) (h h' : Hart) (i : ℕ) → IsSound k h → k.current ≡ Some i
+    → SlotChanges k.memories k'.memories i (Some (with_saved h.regs (held_at (each_of k.memories) i))) → k'.table ≡ k.table → k'.current ≡ None
+    → Rest k k' → state_of k' h' ≡ state_of k h
 unfolding state_of
 suspended-state k k' h h' i sound is changes table stopped rest =
     let held = held_at (each_of k.memories) i in
@@ -97,11 +97,13 @@ suspended-state k k' h h' i sound is changes table stopped rest =
       programs = map named_file (rest.programs t);
     }
 
-pub suspended-sound : (k k' : Kernel) (h h' : Hart) (i : ℕ) (x : Held) → IsSound k h → k.current ≡ Some i → SlotChanges k.memories k'.memories i (Some x) → k'.table ≡ k.table → k'.current ≡ None → h'.root ≡ None → h'.cache ≡ nothing_kept → IsSound k' h'
+pub suspended-sound : (k k' : Kernel) (h h' : Hart) (i : ℕ) (x : Held) → IsSound k h → k.current ≡ Some i
+    → SlotChanges k.memories k'.memories i (Some x) → k'.table ≡ k.table → k'.current ≡ None → h'.root ≡ None → h'.cache ≡ nothing_kept → IsSound k' h'
 suspended-sound k k' h h' i x sound is changes table stopped root cache =
     let now = sound.current i is in
     let here : get_or (each_of k'.memories) i None ≡ Some x = ap (λ l. get_or l i None) changes.each ∙ get_or-set_same (each_of k.memories) i (Some x) None (now-inside i sound is) in
-    let other : (j : ℕ) → j ≢ i → get_or (each_of k'.memories) j None ≡ get_or (each_of k.memories) j None = λ j ne. ap (λ l. get_or l j None) changes.each ∙ get_or-set_other (each_of k.memories) i j (Some x) None ne in
+    let other : (j : ℕ) → j ≢ i → get_or (each_of k'.memories) j None ≡ get_or (each_of k.memories) j None =
+    λ j ne. ap (λ l. get_or l j None) changes.each ∙ get_or-set_other (each_of k.memories) i j (Some x) None ne in
     let place : (j : ℕ) → place_at k'.table j ≡ place_at k.table j = λ j. ap (λ (t : Slots). place_at t j) table in
     record {
       memories = changes.sound;
@@ -127,7 +129,9 @@ suspended-sound k k' h h' i x sound is changes table stopped root cache =
 
 -- ---- entered
 
-pub entered-state : (k k' : Kernel) (h h' : Hart) (i : ℕ) (p : Process) → IsSound k h → k.current ≡ None → place_at k.table i ≡ Some p → h'.regs ≡ (held_at (each_of k.memories) i).saved → k'.memories ≡ k.memories → k'.table ≡ k.table → k'.current ≡ Some i → Rest k k' → state_of k' h' ≡ state_of k h
+pub entered-state : (k k' : Kernel) (h h' : Hart) (i : ℕ) (p : Process) → IsSound k h → k.current ≡ None → place_at k.table i ≡ Some p
+    → h'.regs ≡ (held_at (each_of k.memories) i).saved → k'.memories ≡ k.memories → k'.table ≡ k.table → k'.current ≡ Some i → Rest k k'
+    → state_of k' h' ≡ state_of k h
 unfolding state_of
 entered-state k k' h h' i p sound stopped is regs memories table current rest =
     let held = held_at (each_of k.memories) i in
@@ -143,7 +147,11 @@ entered-state k k' h h' i p sound stopped is regs memories table current rest =
     let after : entry_at k' h' i ≡ Some (p.pid, process_of p (descriptors_at k.table i) held held.saved) =
     ap (λ (t : Slots). entry_of k' h' i (place_at t i)) table ∙ ap (entry_of k' h' i) is
     ∙ ap (λ (t : Slots). Some (p.pid, process_of p (descriptors_at t i) (held_at (each_of k'.memories) i) (regs_at k' h' i))) table
-    ∙ ap (λ b. Some (p.pid, process_of p (descriptors_at k.table i) (held_at (each_of k'.memories) i) (cond b h'.regs (held_at (each_of k'.memories) i).saved))) (ap (is_this i) current ∙ eq-eqb i i refl)
+    ∙ ap (λ b. Some (
+      p.pid,
+      process_of p (descriptors_at k.table i) (held_at (each_of k'.memories) i)
+          (cond b h'.regs (held_at (each_of k'.memories) i).saved),
+    )) (ap (is_this i) current ∙ eq-eqb i i refl)
     ∙ (λ t. Some (p.pid, process_of p (descriptors_at k.table i) (held_at (each_of (memories t)) i) (regs t))) in
     let processes : by_pid (entry_at k' h') NPROC ≡ by_pid (entry_at k h) NPROC =
     by_pid-same (entry_at k h) (entry_at k' h') NPROC (λ j. elim (cases_eq j i) [
@@ -169,17 +177,16 @@ read-some (y ∷ ys) zero x e = e
 read-some (y ∷ ys) (suc i) x e = read-some ys i x e
 
 pub cost-held : (o : Option Held) → IsSome o → held_cost o ≡ price (or_nothing o).image + 1
-cost-held None some = absurd (false-true some)
-  where
-    false-true : false ≡ true → ⊥
-    false-true e = cc
+cost-held None some = absurd (false≢true some)
 cost-held (Some held) some = refl
 
-module _ {k : Kernel} (k' : Kernel) {h : Hart} (h' : Hart) {i : ℕ} (status : ℤ) (sound : IsSound k h) (is : k.current ≡ Some i) (changes : SlotChanges k.memories k'.memories i None) (table : k'.table ≡ changed_at i (ended status) k.table) (stopped : k'.current ≡ None) where
+module _ {k : Kernel} (k' : Kernel) {h : Hart} (h' : Hart) {i : ℕ} (status : ℤ) (sound : IsSound k h) (is : k.current ≡ Some i)
+    (changes : SlotChanges k.memories k'.memories i None) (table : k'.table ≡ changed_at i (ended status) k.table) (stopped : k'.current ≡ None) where
   gone-place : place_at k'.table i ≡ Some (ended status (sound.current i is).process)
   gone-place =
       let now = sound.current i is in
-      ap (λ (t : Slots). place_at t i) table ∙ get_or-set_same k.table.places i (option_map (ended status) (place_at k.table i)) None (omega (arith, slot-inside k h sound i now.process now.is, sound.table.places)) ∙ ap (option_map (ended status)) now.is
+      ap (λ (t : Slots). place_at t i) table ∙ get_or-set_same k.table.places i (option_map (ended status) (place_at k.table i)) None
+      (omega (arith, slot-inside k h sound i now.process now.is, sound.table.places)) ∙ ap (option_map (ended status)) now.is
 
   gone-other : (j : ℕ) → j ≢ i → place_at k'.table j ≡ place_at k.table j
   gone-other j ne = ap (λ (t : Slots). place_at t j) table ∙ get_or-set_other k.table.places i j (option_map (ended status) (place_at k.table i)) None ne
@@ -194,7 +201,8 @@ module _ {k : Kernel} (k' : Kernel) {h : Hart} (h' : Hart) {i : ℕ} (status : �
   gone-table =
       let now = sound.current i is in
       let p = now.process in
-      let same : record k.table { places = set k.table.places i (Some (ended status p)) } ≡ changed_at i (ended status) k.table = ap (λ o. record k.table { places = set k.table.places i (option_map (ended status) o) }) (sym now.is) in
+      let same : record k.table { places = set k.table.places i (Some (ended status p)) } ≡ changed_at i (ended status) k.table =
+      ap (λ o. record k.table { places = set k.table.places i (option_map (ended status) o) }) (sym now.is) in
       subst IsTable (same ∙ sym table) (table_at k.table i (Some p) p (ended status p) sound.table (slot-inside k h sound i p now.is) (sym (read-some k.table.places i p now.is)) refl refl)
 
   pub ended-sound : h'.root ≡ None → h'.cache ≡ nothing_kept → IsSound k' h'

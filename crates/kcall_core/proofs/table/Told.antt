@@ -3,6 +3,7 @@ use Rattle.std.proofs.Common.{◌≡◌, ◌≤◌, ℕ, Bool, Option, Some, Non
 use Rattle.std.specs.Prelude.{ℤ, IfSome, IfNone, is_some, option_map}
 use Rattle.std.specs.FinMap.{get}
 use Rattle.std.specs.FinSet.{contains}
+use Rattle.std.proofs.lemmas.Option.{none-some, same_Some}
 use Rattle.xk_base.specs.declared.limits.TheConstants.{NPROC}
 use Rattle.hart_core.specs.declared.hart.Hart.{Hart}
 use Rattle.proc_table.specs.Processes.{is_marked, is_asleep, call_of, channel_of}
@@ -18,9 +19,8 @@ use Rattle.kcall_core.specs.Kernel.{live_of, by_status, process_of, regs_at, sta
 use Rattle.kcall_core.specs.Machine.{sleepers_below, turns_of, world_of}
 use Rattle.kcall_core.specs.declared.kernel.Kernel.{Kernel}
 use Rattle.kcall_core.specs.declared.kernel.observers.ProcessState.TheVariants as state
-use Rattle.kcall_core.proofs.table.States.{none-some}
 use Rattle.kcall_core.proofs.table.Observed.{entry-held, parent-told, status-told}
-use Rattle.kcall_core.proofs.turns.Turned.{same-some, slot-is, slot-from, sleeps-is, awake-is}
+use Rattle.kcall_core.proofs.turns.Turned.{slot-is, slot-from, sleeps-is, awake-is}
 
 asleep-is : (t : Slots) → IsTable t → (i : ℕ) (p : Process) → place_at t i ≡ Some p → contains (sleepers_below t NPROC) p.pid ≡ is_asleep p
 asleep-is t table i p is = by (channel_of p) refl
@@ -30,13 +30,13 @@ asleep-is t table i p is = by (channel_of p) refl
     by (Some c) on = sleeps-is t table i p c is on ∙ ap is_some (sym on)
 
 mark-told : (t : Slots) (i : ℕ) (p : Process) (r : Bool) → place_at t i ≡ Some p → mark_at t i ≡ Some r → is_marked p ≡ r
-mark-told t i p r is known = let e : Some (is_marked p) ≡ Some r = sym (ap (option_map is_marked) is) ∙ known in same-some (is_marked p) r e
+mark-told t i p r is known = let e : Some (is_marked p) ≡ Some r = sym (ap (option_map is_marked) is) ∙ known in same_Some (is_marked p) r e
 
 sleep-told : (t : Slots) (i : ℕ) (p : Process) (r : Bool) → place_at t i ≡ Some p → sleep_at t i ≡ Some r → is_asleep p ≡ r
-sleep-told t i p r is known = let e : Some (is_asleep p) ≡ Some r = sym (ap (option_map is_asleep) is) ∙ known in same-some (is_asleep p) r e
+sleep-told t i p r is known = let e : Some (is_asleep p) ≡ Some r = sym (ap (option_map is_asleep) is) ∙ known in same_Some (is_asleep p) r e
 
 call-told : (t : Slots) (i : ℕ) (p : Process) (r : Option Call) → place_at t i ≡ Some p → call_at t i ≡ Some r → call_of p ≡ r
-call-told t i p r is known = let e : Some (call_of p) ≡ Some r = sym (ap (option_map call_of) is) ∙ known in same-some (call_of p) r e
+call-told t i p r is known = let e : Some (call_of p) ≡ Some r = sym (ap (option_map call_of) is) ∙ known in same_Some (call_of p) r e
 
 module _ (k : Kernel) (h : Hart) (halted : Option ℤ) (table : IsTable k.table) where
   module _ (pid i : ℕ) (p : Process) (is : place_at k.table i ≡ Some p) (named : p.pid ≡ pid) (parent : Option ℕ) (its : parent_at k.table i ≡ Some parent) where
@@ -50,7 +50,8 @@ module _ (k : Kernel) (h : Hart) (halted : Option ℤ) (table : IsTable k.table)
     pub zombie-told : (status : ℤ) → status_at k.table i ≡ Some (Some status) → process_at (world_of k h halted) pid ≡ Some (state.Zombie parent status)
     zombie-told status over =
         process-told
-        ∙ ap (λ o. Some (told (is_asleep p) (by_status p.parent (live_of p (descriptors_at k.table i) (held_at (each_of k.memories) i) (regs_at k h i)) o))) (status-told k.table i p (Some status) is over)
+        ∙ ap (λ o. Some (told (is_asleep p) (by_status p.parent
+        (live_of p (descriptors_at k.table i) (held_at (each_of k.memories) i) (regs_at k h i)) o))) (status-told k.table i p (Some status) is over)
         ∙ ap (λ o. Some (state.Zombie o status)) (parent-told k.table i p parent is its)
 
     pub alive-told : (marked asleep : Bool) (call : Option Call) → status_at k.table i ≡ Some None → mark_at k.table i ≡ Some marked → call_at k.table i ≡ Some call → sleep_at k.table i ≡ Some asleep
@@ -58,7 +59,8 @@ module _ (k : Kernel) (h : Hart) (halted : Option ℤ) (table : IsTable k.table)
     alive-told marked asleep call alive mark calls sleeps =
         process-told
         ∙ ap (λ o. Some (told (is_asleep p) (by_status p.parent (live_of p (descriptors_at k.table i) (held_at (each_of k.memories) i) (regs_at k h i)) o))) (status-told k.table i p None is alive)
-        ∙ (λ j. Some (state.Live (parent-told k.table i p parent is its j) (mark-told k.table i p marked is mark j) (call-told k.table i p call is calls j) (sleep-told k.table i p asleep is sleeps j)))
+        ∙ (λ j. Some (state.Live (parent-told k.table i p parent is its j) (mark-told k.table i p marked is mark j)
+        (call-told k.table i p call is calls j) (sleep-told k.table i p asleep is sleeps j)))
 
   -- ---- slots
 
@@ -68,7 +70,7 @@ module _ (k : Kernel) (h : Hart) (halted : Option ℤ) (table : IsTable k.table)
     where
       by : (o : Option Process) → place_at k.table slot ≡ o → option_map process_pid o ≡ Some pid → HasSlot (turns_of k halted) pid slot
       by None at e = absurd (none-some pid e)
-      by (Some p) at e = subst (λ n. HasSlot (turns_of k halted) n slot) (same-some p.pid pid e) (slot-is k.table table slot p at)
+      by (Some p) at e = subst (λ n. HasSlot (turns_of k halted) n slot) (same_Some p.pid pid e) (slot-is k.table table slot p at)
 
   pub slot-free : (slot : ℕ) → pid_at k.table slot ≡ None → IsFreeSlot (turns_of k halted) slot
   unfolding turns_of

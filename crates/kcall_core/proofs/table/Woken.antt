@@ -5,6 +5,7 @@ use Rattle.std.specs.FinMap.{get}
 use Rattle.std.proofs.Math.Path.{fun_ext}
 use Rattle.std.proofs.lemmas.Bool.{cases_lt}
 use Rattle.std.proofs.lemmas.List.{get_or_past, get_or-map, length-map}
+use Rattle.std.proofs.lemmas.Iterator.Adapters.{option_map_id}
 use Rattle.xk_base.specs.declared.limits.TheConstants.{NPROC}
 use Rattle.rv64i_core.specs.Registers.{Registers}
 use Rattle.hart_core.specs.declared.hart.Hart.{Hart}
@@ -20,7 +21,7 @@ use Rattle.kcall_core.specs.Closings.{unless_woken, state_woken_by, woken_by}
 use Rattle.kcall_core.specs.Holdings.{Held}
 use Rattle.kcall_core.specs.Kernel.{process_of, entry_at, state_of, IsSound}
 use Rattle.kcall_core.specs.declared.kernel.Kernel.{Kernel}
-use Rattle.kcall_core.proofs.table.Adopted.{changed-state, changed-sound, same-all}
+use Rattle.kcall_core.proofs.table.Adopted.{changed-state, changed-sound}
 
 -- ---- one process
 
@@ -126,7 +127,7 @@ option-twice f g u is (Some p) = ap Some (is p)
 module _ (k k' : Kernel) (wakes : Channel → Bool) (table : k'.table ≡ each_changed (woken_by wakes) k.table) (rest : k' ≡ record k { table = k'.table }) where
   pub stirred-state : (h : Hart) → state_of k' h ≡ state_of k h
   unfolding state_of
-  stirred-state h = changed-state k k' (woken_by wakes) (λ x. x) table rest (λ x. refl) (woken_by-status wakes) (woken_by-means wakes) h (by_pid (entry_at k h) NPROC) (λ q. same-all (get (by_pid (entry_at k h) NPROC) q))
+  stirred-state h = changed-state k k' (woken_by wakes) (λ x. x) table rest (λ x. refl) (woken_by-status wakes) (woken_by-means wakes) h (by_pid (entry_at k h) NPROC) (λ q. option_map_id (get (by_pid (entry_at k h) NPROC) q))
 
   pub stirred-sound : (h : Hart) → IsSound k h → IsSound k' h
   stirred-sound h sound = changed-sound k k' (woken_by wakes) (λ x. x) table rest (λ x. refl) (woken_by-status wakes) (woken_by-means wakes) h sound

@@ -7,7 +7,7 @@ use Rattle.std.specs.Cmp.{nat_cmp_is}
 use Rattle.std.specs.List.{list_any}
 use Rattle.std.specs.FinMap.{get, keys, entries, entries_sorted}
 use Rattle.std.specs.FinMap.Entries.{is_sorted, below_all}
-use Rattle.std.proofs.lemmas.Bool.{cases_eq, cases_lt}
+use Rattle.std.proofs.lemmas.Bool.{cases_eq, cases_lt, both_ways, or_right}
 use Rattle.std.proofs.lemmas.Bool.Decides.{eqb_tells}
 use Rattle.hart_core.specs.declared.hart.Hart.{Hart}
 use Rattle.rv64i_core.specs.Registers.{Registers}
@@ -24,10 +24,10 @@ use Rattle.kcall_core.specs.Holdings.{Held, held_at}
 use Rattle.kcall_core.specs.Memories.{each_of}
 use Rattle.kcall_core.specs.Kernel.{live_of, by_status, process_of, regs_at, state_of}
 use Rattle.kcall_core.specs.declared.kernel.Kernel.{Kernel}
-use Rattle.kernel_spec.proofs.steps.Maps.{first, second}
-use Rattle.kcall_core.proofs.table.Observed.{slot-found, entry-held, pid-missing, none-told}
+use Rattle.kernel_spec.proofs.steps.MapsAfterChange.{first, second}
+use Rattle.kcall_core.proofs.table.Observed.{slot-found, entry-held, pid-missing}
 use Rattle.kernel_spec.proofs.turns.KeepsSlots.{listed}
-use Rattle.kcall_core.proofs.turns.Turned.{not-both}
+use Rattle.kernel_spec.proofs.Common.{none_from_is_some}
 
 -- ---- lists of pids
 
@@ -39,15 +39,11 @@ pub any-none : (test : ℕ → Bool) (ks : List ℕ) → ((r : ℕ) → test r �
 any-none test [] never = refl
 any-none test (k ∷ ks) never = ap (λ b. b || list_any test ks) (never k) ∙ any-none test ks never
 
-or-true : (b : Bool) → (b || true) ≡ true
-or-true true = refl
-or-true false = refl
-
 any-by : (test : ℕ → Bool) (ks : List ℕ) (q : ℕ) → list_any (nat_eq q) ks ≡ true → test q ≡ true → list_any test ks ≡ true
 any-by test [] q among holds = let no : ⊥ = cc in absurd no
 any-by test (k ∷ ks) q among holds = elim (eqb_tells q k) [
   | inl e ↦ ap (λ b. b || list_any test ks) (ap test (sym e.1) ∙ holds)
-  | inr e ↦ (λ i. test k || any-by test ks q (sym (ap (λ b. b || list_any (nat_eq q) ks) e.0) ∙ among) holds i) ∙ or-true (test k)
+  | inr e ↦ (λ i. test k || any-by test ks q (sym (ap (λ b. b || list_any (nat_eq q) ks) e.0) ∙ among) holds i) ∙ or_right (test k) true refl
 ]
 
 less-than : (a b : ℕ) → T (is_lt (nat_cmp a b)) → a < b
@@ -67,7 +63,8 @@ above-all a (e ∷ es) q below among = elim (eqb_tells q e.0) [
 ]
 
 -- the least of those that are looked for is found
-find-least : {X : Type 0} (es : List (ℕ × X)) (test : ℕ → Bool) (q : ℕ) → T (is_sorted nat_cmp es) → list_any (nat_eq q) (map (λ e. e.0) es) ≡ true → test q ≡ true → ((r : ℕ) → test r ≡ true → q ≤ r) → find test (map (λ e. e.0) es) ≡ Some q
+find-least : {X : Type 0} (es : List (ℕ × X)) (test : ℕ → Bool) (q : ℕ) → T (is_sorted nat_cmp es) → list_any (nat_eq q) (map (λ e. e.0) es) ≡ true
+    → test q ≡ true → ((r : ℕ) → test r ≡ true → q ≤ r) → find test (map (λ e. e.0) es) ≡ Some q
 find-least [] test q sorted among holds least = let no : ⊥ = cc in absurd no
 find-least (e ∷ es) test q sorted among holds least = by (λ later. find-least es test q (second (below_all nat_cmp e.0 es) (is_sorted nat_cmp es) sorted) later holds least) (test e.0) refl
   where
@@ -82,7 +79,7 @@ find-least (e ∷ es) test q sorted among holds least = by (λ later. find-least
           let low = least e.0 is in
           absurd (omega (arith, after, low))
     ]
-    by rest false is = rest (later (λ same. not-both (ap test (sym same) ∙ holds) is))
+    by rest false is = rest (later (λ same. both_ways _ is (ap test (sym same) ∙ holds)))
 
 any-at : (test : Option Process → Bool) (xs : List (Option Process)) → list_any test xs ≡ true → (j : ℕ) × (test (get_or xs j None) ≡ true)
 any-at test [] e = let no : ⊥ = cc in absurd no
@@ -138,7 +135,7 @@ module _ (k : Kernel) (h : Hart) (p : ℕ) (is_table : IsTable k.table) where
   ]
     where
       by : (j : ℕ) (x : Process) → place_at k.table j ≡ Some x → (b : Bool) → is_this p x.parent ≡ b → has_status (cond b (Some (child_seen (status_of x))) None) ≡ false
-      by j x at true is = ap (λ (o : Option ℤ). has_status (Some (child_seen o))) (none-told (status_of x) (none j x at (same-parent p x.parent ∙ is)))
+      by j x at true is = ap (λ (o : Option ℤ). has_status (Some (child_seen o))) (none_from_is_some (status_of x) (none j x at (same-parent p x.parent ∙ is)))
       by j x at false is = refl
 
   pub some-child : HasChild k.table p → list_any (λ r. is_some (sees r)) (keys s.processes) ≡ true
@@ -155,7 +152,7 @@ module _ (k : Kernel) (h : Hart) (p : ℕ) (is_table : IsTable k.table) where
 
   parent-is : (o : Option ℕ) → is_parent p o ≡ true → o ≡ Some p
   parent-is None e = let no : ⊥ = cc in absurd no
-  parent-is (Some q) e = elim (eqb_tells q p) [ inl same ↦ ap Some same.1 | inr apart ↦ absurd (not-both e apart.0) ]
+  parent-is (Some q) e = elim (eqb_tells q p) [ inl same ↦ ap Some same.1 | inr apart ↦ absurd (both_ways _ apart.0 e) ]
 
   module _ (new : Slots) (q : ℕ) (status : ℤ) (x : TakesLeast k.table new p q status) where
     -- the zombie
@@ -172,11 +169,12 @@ module _ (k : Kernel) (h : Hart) (p : ℕ) (is_table : IsTable k.table) where
 
     lowest : (r : ℕ) → has_status (sees r) ≡ true → q ≤ r
     lowest r e = elim (seen r) [
-      | inl none ↦ absurd (not-both e (ap has_status none))
+      | inl none ↦ absurd (both_ways _ (ap has_status none) e)
       | inr f ↦ subst (λ n. q ≤ n) f.3 (by f.0 f.1 f.2 (is_this p f.1.parent) (status_of f.1) refl refl (sym (ap has_status f.4) ∙ e))
     ]
       where
-        by : (j : ℕ) (y : Process) → place_at k.table j ≡ Some y → (b : Bool) (o : Option ℤ) → is_this p y.parent ≡ b → status_of y ≡ o → has_status (cond b (Some (child_seen o)) None) ≡ true → q ≤ y.pid
+        by : (j : ℕ) (y : Process) → place_at k.table j ≡ Some y → (b : Bool) (o : Option ℤ) → is_this p y.parent ≡ b → status_of y ≡ o
+            → has_status (cond b (Some (child_seen o)) None) ≡ true → q ≤ y.pid
         by j y at true None is over e = let no : ⊥ = cc in absurd no
         by j y at true (Some z) is over e = x.least j y at (same-parent p y.parent ∙ is) (ap is_some over)
         by j y at false o is over e = let no : ⊥ = cc in absurd no

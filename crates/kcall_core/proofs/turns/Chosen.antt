@@ -1,6 +1,8 @@
 -- A turn: the slot that runs next is noted, and nothing else of the state is another.
-use Rattle.std.proofs.Common.{◌≡◌, ℕ, ◌<◌, true, false, Option, Some, None, refl, sym, ap, ◌∙◌, subst}
+use Rattle.std.proofs.Common.{◌≡◌, ℕ, ◌<◌, true, Option, Some, None, refl, sym, ap, ◌∙◌, subst}
 use Rattle.std.specs.Prelude.{option_map}
+use Rattle.std.proofs.lemmas.Option.{none-some}
+use Rattle.std.proofs.lemmas.Bool.{false≢true}
 use Rattle.xk_base.specs.declared.limits.TheConstants.{NPROC}
 use Rattle.hart_core.specs.declared.hart.Hart.{Hart}
 use Rattle.proc_table.specs.declared.process.State.{State}
@@ -10,19 +12,15 @@ use Rattle.proc_table.specs.Processes.{state_runnable, state_status, status_of}
 use Rattle.proc_table.specs.Slots.{Slots, place_at, pid_at, process_pid}
 use Rattle.proc_table.specs.Turns.{place_is_runnable}
 use Rattle.kcall_core.specs.Kernel.{or_nobody, slot_now, pid_now, state_of, IsSound}
-use Rattle.kcall_core.proofs.table.States.{none-some}
 use Rattle.kcall_core.specs.declared.kernel.Kernel.{Kernel}
-
-false-true : false ≡ true → ⊥
-false-true e = cc
 
 live-state : (s : State) → state_runnable s ≡ true → state_status s ≡ None
 live-state (Live life) e = refl
-live-state (Zombie status) e = absurd (false-true e)
+live-state (Zombie status) e = absurd (false≢true e)
 
 -- a process that may run is live
 pub chosen : (o : Option Process) → place_is_runnable o ≡ true → (p : Process) × (o ≡ Some p) × (status_of p ≡ None)
-chosen None e = absurd (false-true e)
+chosen None e = absurd (false≢true e)
 chosen (Some p) e = (p, refl, live-state p.state e)
 
 -- the kernel with another slot that ran last

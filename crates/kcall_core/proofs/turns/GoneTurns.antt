@@ -5,6 +5,7 @@ use Rattle.std.specs.FinMap.{FinMap, get}
 use Rattle.std.specs.FinSet.{contains}
 use Rattle.std.specs.Ordering.{nat_cmp}
 use Rattle.std.proofs.lemmas.Bool.{cases_eq}
+use Rattle.std.proofs.lemmas.Option.{none-some}
 use Rattle.xk_base.specs.declared.limits.TheConstants.{NPROC}
 use Rattle.hart_core.specs.declared.hart.Hart.{Hart}
 use Rattle.file_table.specs.declared.open_file.OpenFile.{OpenFile}
@@ -23,7 +24,7 @@ use Rattle.kcall_core.specs.Whole.{IsWhole}
 use Rattle.kcall_core.specs.Makes.{view_now}
 use Rattle.kernel_spec.specs.views.View.{view_of}
 use Rattle.kcall_core.specs.declared.kernel.Kernel.{Kernel}
-use Rattle.kcall_core.proofs.table.States.{none-some, Running, running}
+use Rattle.kcall_core.proofs.table.States.{Running, running}
 use Rattle.kcall_core.proofs.turns.Turned.{slots-same}
 use Rattle.kcall_core.proofs.turns.StepSlots.{no-slot}
 use Rattle.kcall_core.proofs.making.Sleepers.{elsewhere, on-it-still}

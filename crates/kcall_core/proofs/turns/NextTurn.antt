@@ -4,6 +4,8 @@ use Rattle.std.specs.Prelude.{IsSome, option_map, is_some, is_none, ℤ}
 use Rattle.std.specs.Ordering.{nat_cmp}
 use Rattle.std.specs.FinMap.{get}
 use Rattle.std.specs.FinSet.{FinSet, contains}
+use Rattle.std.proofs.lemmas.Option.{none-some, same_Some}
+use Rattle.std.proofs.lemmas.Bool.{true≢false}
 use Rattle.xk_base.specs.declared.limits.TheConstants.{NPROC}
 use Rattle.hart_core.specs.declared.hart.Hart.{Hart}
 use Rattle.proc_table.specs.declared.channel.Channel.{Channel}
@@ -27,40 +29,30 @@ use Rattle.kcall_core.specs.Machine.{slots_of, sleepers_below, turns_of, world_o
 use Rattle.kcall_core.specs.Whole.{IsWhole}
 use Rattle.kernel_spec.specs.waking.SleepsOn.{is_for}
 use Rattle.kcall_core.specs.declared.kernel.Kernel.{Kernel}
-use Rattle.kcall_core.proofs.table.States.{none-some}
 use Rattle.kcall_core.proofs.turns.Chosen.{pid-told}
 use Rattle.kcall_core.proofs.table.Observed.{slot-found, live-held, ended-held, missing-live}
 use Rattle.kcall_core.proofs.turns.Turned.{slot-is, slot-from, sleeps-is, awake-is, sleepers-same}
-
-true-false : true ≡ false → ⊥
-true-false e = cc
-
-same-number : (a b : ℕ) → Some a ≡ Some b → a ≡ b
-same-number a b e = cc
-
-same-process : (p q : Process) → Some p ≡ Some q → p ≡ q
-same-process p q e = cc
 
 -- ---- who may run
 
 no-channel : (o : Option Channel) → is_none o ≡ true → o ≡ None
 no-channel None e = refl
-no-channel (Some channel) e = absurd (true-false (sym e))
+no-channel (Some channel) e = absurd (true≢false (sym e))
 
 awake-state : (s : State) → state_runnable s ≡ true → state_channel s ≡ None
 awake-state (Live life) e = no-channel life.channel e
-awake-state (Zombie status) e = absurd (true-false (sym e))
+awake-state (Zombie status) e = absurd (true≢false (sym e))
 
 live-state : (s : State) → state_runnable s ≡ true → state_status s ≡ None
 live-state (Live life) e = refl
-live-state (Zombie status) e = absurd (true-false (sym e))
+live-state (Zombie status) e = absurd (true≢false (sym e))
 
 runnable-state : (s : State) → state_status s ≡ None → state_channel s ≡ None → state_runnable s ≡ true
 runnable-state (Live life) lives awake = ap is_none awake
 runnable-state (Zombie status) lives awake = absurd (none-some status (sym lives))
 
 no-view : (s : states.State) (p : ℕ) → live s p ≡ None → IsSome (view s p) → ⊥
-no-view s p none some = true-false (sym some ∙ ap (λ o. is_some (option_map (view_of s p) o)) none)
+no-view s p none some = true≢false (sym some ∙ ap (λ o. is_some (option_map (view_of s p) o)) none)
 
 -- the process in this slot may run
 pub record Runs (t : Slots) (slot : ℕ) (p : Process) : Type 0 where
@@ -72,7 +64,7 @@ module _ (k : Kernel) (h : Hart) (table : IsTable k.table) where
   unfolding turns_of
   runnable-is slot p r = (
     ap (λ o. is_some (option_map (view_of (state_of k h) p.pid) o)) (live-held k h table slot p r.is (live-state p.state r.may)),
-    λ asleep. true-false (sym asleep ∙ awake-is k.table table slot p r.is (awake-state p.state r.may)),
+    λ asleep. true≢false (sym asleep ∙ awake-is k.table table slot p r.is (awake-state p.state r.may)),
   )
 
   runs-status : (pid slot : ℕ) (p : Process) → place_at k.table slot ≡ Some p → p.pid ≡ pid → IsRunnable (world_of k h None) pid → status_of p ≡ None
@@ -107,7 +99,7 @@ module _ (k : Kernel) (h : Hart) (table : IsTable k.table) where
       let s = slot-seen pid can in
       let r = runnable-from pid s.0 s.1 s.2 s.3 can in
       let inside = slot-from k.table table s.0 s.1.pid (slot-is k.table table s.0 s.1 s.2) in
-      true-false (sym r.may ∙ sym (ap place_is_runnable s.2) ∙ none s.0 inside.3)
+      true≢false (sym r.may ∙ sym (ap place_is_runnable s.2) ∙ none s.0 inside.3)
 
   -- the nearest slot is that of the nearest process
   pub nearest-is : (slot : ℕ) (p : Process) → Runs k.table slot p → ((j : ℕ) → j < NPROC → place_is_runnable (place_at k.table j) ≡ true → distance k.table.last slot ≤ distance k.table.last j) → IsNearest (world_of k h None) p.pid
@@ -115,7 +107,7 @@ module _ (k : Kernel) (h : Hart) (table : IsTable k.table) where
   nearest-is slot p r near q i j can mine its =
       let other = slot-from k.table table j q its in
       let runs = runnable-from q j other.0 other.1 other.2 can in
-      let here : slot ≡ i = same-number slot i (sym (slot-is k.table table slot p r.is) ∙ mine) in
+      let here : slot ≡ i = same_Some slot i (sym (slot-is k.table table slot p r.is) ∙ mine) in
       subst (λ (n : ℕ). distance k.table.last n ≤ distance k.table.last j) here (near j other.3 (ap place_is_runnable runs.is ∙ runs.may))
 
 -- ---- the kernel afterwards
@@ -125,7 +117,7 @@ pub runs-in : (t : Slots) (slot : ℕ) → place_is_runnable (place_at t slot) �
 runs-in t slot may = by (place_at t slot) refl may
   where
     by : (o : Option Process) → place_at t slot ≡ o → place_is_runnable o ≡ true → (p : Process) × Runs t slot p
-    by None at e = absurd (true-false (sym e))
+    by None at e = absurd (true≢false (sym e))
     by (Some p) at e = (p, record { is = at; may = e })
 
 -- the process in a slot runs, and its slot had the last turn
@@ -159,7 +151,7 @@ whole-then k h h' slot p whole r sound same = record {
   counted = record { counts = whole.counted.counts; lists = whole.counted.lists; closed = whole.counted.closed };
   channels = subst (SleepSo k.table) (sym same) whole.channels;
   awake = λ i q at held.
-      let e : p ≡ q = same-process p q (sym r.is ∙ ap (place_at k.table) (same-number slot i at) ∙ held) in
+      let e : p ≡ q = same_Some p q (sym r.is ∙ ap (place_at k.table) (same_Some slot i at) ∙ held) in
       sym (ap channel_of e) ∙ awake-state p.state r.may;
   unready = λ q v asleep see. whole.unready q v (subst (λ (s : FinSet nat_cmp). contains s q ≡ true) (same-sleepers k.table slot) asleep) (sym (ap (λ (s : states.State). view s q) same) ∙ see);
 }
@@ -171,7 +163,7 @@ module _ (k k' : Kernel) (h h' : Hart) (slot : ℕ) (p : Process) (whole : IsWho
   pub turned-world : (pid : ℕ) → pid_at k.table slot ≡ Some pid → TurnTaken (world_of k h None) (Turn pid) (world_of k' h' None)
   unfolding turns_of
   turned-world pid told =
-      let named : p.pid ≡ pid = same-number p.pid pid (sym (ap (option_map process_pid) r.is) ∙ told) in
+      let named : p.pid ≡ pid = same_Some p.pid pid (sym (ap (option_map process_pid) r.is) ∙ told) in
       let can = runnable-is k h whole.sound.table slot p r in
       let turns : turns_of k' None ≡ record (turns_of k None) { current = Some pid; last = slot } = ap (λ (x : Kernel). turns_of x None) is ∙ turned k slot pid told in (
         slot,
@@ -182,5 +174,5 @@ module _ (k k' : Kernel) (h h' : Hart) (slot : ℕ) (p : Process) (whole : IsWho
 
   pub turned-nearest : (pid : ℕ) → pid_at k.table slot ≡ Some pid → ((j : ℕ) → j < NPROC → place_is_runnable (place_at k.table j) ≡ true → distance k.table.last slot ≤ distance k.table.last j) → IsRunnable (world_of k h None) pid × IsNearest (world_of k h None) pid
   turned-nearest pid told near =
-      let named : p.pid ≡ pid = same-number p.pid pid (sym (ap (option_map process_pid) r.is) ∙ told) in
+      let named : p.pid ≡ pid = same_Some p.pid pid (sym (ap (option_map process_pid) r.is) ∙ told) in
       subst (λ (n : ℕ). IsRunnable (world_of k h None) n × IsNearest (world_of k h None) n) named (runnable-is k h whole.sound.table slot p r, nearest-is k h whole.sound.table slot p r near)

@@ -2,6 +2,7 @@
 use Rattle.std.proofs.Common.{◌≡◌, ℕ, true, subst, Option, Some, None, refl, sym, ap, ◌∙◌}
 use Rattle.std.specs.Prelude.{IsSome, is_some, option_map, Contains, MatchOption}
 use Rattle.std.specs.FinMap.{get, keys}
+use Rattle.std.proofs.lemmas.Option.{none-some}
 use Rattle.hart_core.specs.declared.hart.Hart.{Hart}
 use Rattle.proc_table.specs.Slots.{IsTable, process_pid}
 use Rattle.proc_table.specs.declared.process.Process.{Process}
@@ -13,7 +14,6 @@ use Rattle.kernel_spec.specs.runs.Run.{halts_with}
 use Rattle.kcall_core.specs.Kernel.{state_of, pid_now}
 use Rattle.kcall_core.specs.Machine.{slots_of, turns_of}
 use Rattle.kcall_core.specs.declared.kernel.Kernel.{Kernel}
-use Rattle.kcall_core.proofs.table.States.{none-some}
 use Rattle.kcall_core.proofs.table.Observed.{entry-held}
 use Rattle.kernel_spec.proofs.turns.KeepsSlots.{is_listed}
 use Rattle.kcall_core.proofs.turns.Turned.{slot-from}
@@ -22,7 +22,9 @@ use Rattle.kcall_core.proofs.turns.Turned.{slot-from}
 pub record SlotsAfter (k : Kernel) (k' : Kernel) (o : Own) : Type 0 where
   pub held : (q : ℕ) → Contains o.left.pids q → IsSome (get (slots_of k.table) q) → get (slots_of k'.table) q ≡ get (slots_of k.table) q
   pub given_up : (q : ℕ) → ¬ Contains o.left.pids q → get (slots_of k'.table) q ≡ None
-  pub newborn : MatchOption o.child (Unit {0}) (λ c. ((slot : ℕ) × HasSlot (turns_of k' (halts_with (pid_now k) o.answer)) c.pid slot × IsLowestFree (turns_of k None) slot) × ¬ Sleeps (turns_of k' (halts_with (pid_now k) o.answer)) c.pid)
+  pub newborn : MatchOption o.child (Unit {0}) (λ c.
+      ((slot : ℕ) × HasSlot (turns_of k' (halts_with (pid_now k) o.answer)) c.pid slot × IsLowestFree (turns_of k None) slot)
+      × ¬ Sleeps (turns_of k' (halts_with (pid_now k) o.answer)) c.pid)
 
 -- what a step comes to that makes no process, ends none and takes none away
 pub record KeepsAll (s : State) (o : Own) : Type 0 where

@@ -5,9 +5,10 @@ use Rattle.std.specs.Ordering.{nat_cmp}
 use Rattle.std.specs.Cmp.{nat_cmp_total, unsigned_tied}
 use Rattle.std.specs.FinMap.{get, get-empty}
 use Rattle.std.specs.FinSet.{FinSet, contains, insert, contains-empty, contains-insert}
-use Rattle.std.proofs.lemmas.Bool.{cases_eq, cases_lt, eq-eqb}
+use Rattle.std.proofs.lemmas.Bool.{cases_eq, cases_lt, eq-eqb, false≢true, both_ways}
 use Rattle.std.proofs.lemmas.Bool.Decides.{eqb_tells}
 use Rattle.std.proofs.lemmas.List.{get_or_past}
+use Rattle.std.proofs.lemmas.Option.{none-some, same_Some}
 use Rattle.xk_base.specs.declared.limits.TheConstants.{NPROC}
 use Rattle.hart_core.specs.declared.hart.Hart.{Hart}
 use Rattle.proc_table.specs.Processes.{status_of, state_status, channel_of, state_channel}
@@ -29,15 +30,12 @@ use Rattle.kcall_core.specs.Kernel.{live_of, by_status, process_of, entry_at, st
 use Rattle.kcall_core.specs.Machine.{slot_entry, slots_of, sleeper_in, with_sleeper, sleepers_below, turns_of}
 use Rattle.kcall_core.specs.Whole.{IsWhole}
 use Rattle.kcall_core.specs.declared.kernel.Kernel.{Kernel}
-use Rattle.kernel_spec.proofs.steps.Maps.{get_same, get_other}
+use Rattle.kernel_spec.proofs.steps.MapsAfterChange.{get_same, get_other}
 use Rattle.kcall_core.proofs.table.ByPid.{found, by_pid-same}
-use Rattle.kcall_core.proofs.table.States.{none-some, entry-pid, running}
+use Rattle.kcall_core.proofs.table.States.{entry-pid, running}
 use Rattle.kcall_core.proofs.table.Observed.{entry-held, live-held}
 
 -- ---- entries by pid
-
-pub same-some : {X : Type 0} (a b : X) → Some a ≡ Some b → a ≡ b
-same-some a b e = cc
 
 module _ {X : Type 0} where
   last-from : (g : ℕ → Option (ℕ × X)) (n q : ℕ) (x : X) (o : Option (ℕ × X)) → g n ≡ o → (get (by_pid g n) q ≡ Some x → (i : ℕ) × (i < n) × (g i ≡ Some (q, x)))
@@ -45,7 +43,7 @@ module _ {X : Type 0} where
   last-from g n q x None at before is = let r = before is in (r.0, omega (arith, r.1), r.2)
   last-from g n q x (Some e) at before is = elim (cases_eq q e.0) [
     | inl here ↦
-        let value : e.1 ≡ x = same-some e.1 x (sym (ap (get (put (by_pid g n) (Some e))) here ∙ get_same (by_pid g n) e.0 e.1) ∙ is) in
+        let value : e.1 ≡ x = same_Some e.1 x (sym (ap (get (put (by_pid g n) (Some e))) here ∙ get_same (by_pid g n) e.0 e.1) ∙ is) in
         (n, omega arith, at ∙ (λ i. Some (sym here i, value i)))
     | inr apart ↦ let r = before (sym (get_other (by_pid g n) e.0 e.1 q apart) ∙ is) in (r.0, omega (arith, r.1), r.2)
   ]
@@ -83,7 +81,7 @@ sleeper-is (Some p) pid is = by (channel_of p) refl is
   where
     by : (o : Option Channel) → channel_of p ≡ o → cond (is_some o) (Some p.pid) None ≡ Some pid → (q : Process) × (c : Channel) × (Some p ≡ Some q) × (q.pid ≡ pid) × (channel_of q ≡ Some c)
     by None at e = absurd (none-some pid e)
-    by (Some c) at e = (p, c, refl, same-some p.pid pid e, at)
+    by (Some c) at e = (p, c, refl, same_Some p.pid pid e, at)
 
 -- who sleeps on a channel is live
 pub sleeper-lives : (p : Process) (c : Channel) → channel_of p ≡ Some c → status_of p ≡ None
@@ -123,7 +121,7 @@ slots-same t u same = by_pid-same (λ slot. slot_entry slot (place_at t slot)) (
     by slot None None e = refl
     by slot None (Some q) e = absurd (none-some q.pid e)
     by slot (Some p) None e = absurd (none-some p.pid (sym e))
-    by slot (Some p) (Some q) e = ap (λ n. Some (n, slot)) (same-some p.pid q.pid e)
+    by slot (Some p) (Some q) e = ap (λ n. Some (n, slot)) (same_Some p.pid q.pid e)
 
 -- where the same processes sleep in all slots, the same processes sleep
 pub sleepers-same : (t u : Slots) (n : ℕ) → ((slot : ℕ) → sleeper_in (place_at u slot) ≡ sleeper_in (place_at t slot)) → sleepers_below u n ≡ sleepers_below t n
@@ -147,7 +145,7 @@ module _ (t : Slots) (is_table : IsTable t) where
 
   entry-from : (slot pid n : ℕ) (o : Option Process) → slot_entry slot o ≡ Some (pid, n) → (p : Process) × (o ≡ Some p) × (p.pid ≡ pid) × (slot ≡ n)
   entry-from slot pid n None is = absurd (none-some (pid, n) is)
-  entry-from slot pid n (Some p) is = let e : (p.pid, slot) ≡ (pid, n) = same-some (p.pid, slot) (pid, n) is in (p, refl, ap (λ (x : ℕ × ℕ). x.0) e, ap (λ (x : ℕ × ℕ). x.1) e)
+  entry-from slot pid n (Some p) is = let e : (p.pid, slot) ≡ (pid, n) = same_Some (p.pid, slot) (pid, n) is in (p, refl, ap (λ (x : ℕ × ℕ). x.0) e, ap (λ (x : ℕ × ℕ). x.1) e)
 
   -- the slot of a process
   pub slot-is : (slot : ℕ) (p : Process) → place_at t slot ≡ Some p → get (slots_of t) p.pid ≡ Some slot
@@ -179,12 +177,9 @@ module _ (t : Slots) (is_table : IsTable t) where
       by true e =
           let r = sleeps-from p.pid e in
           let place : Some r.1 ≡ Some p = sym r.3 ∙ ap (place_at t) (is_table.pids.apart r.0 slot r.1 p r.3 is r.4) ∙ is in
-          absurd (none-some r.2 (sym awake ∙ ap channel_of (sym (same-some r.1 p place)) ∙ r.5))
+          absurd (none-some r.2 (sym awake ∙ ap channel_of (sym (same_Some r.1 p place)) ∙ r.5))
 
 -- ---- the turn part
-
-pub not-both : {b : Bool} → b ≡ true → b ≡ false → ⊥
-not-both is not = let e : true ≡ false = sym is ∙ not in cc
 
 -- each process has its slot, and who runs doesn't sleep
 pub has-slots : (k : Kernel) (h : Hart) (halted : Option ℤ) → IsWhole k h → HasSlots (state_of k h) (turns_of k halted)
@@ -195,20 +190,17 @@ has-slots k h halted whole = record {
   below = λ p slot has. (slot-from k.table table slot p has).3;
   last = table.last;
   current = λ p is. runs k.current p refl is;
-  apart = λ p q slot a b. let r = slot-from k.table table slot p a in let z = slot-from k.table table slot q b in sym r.2 ∙ ap (λ (x : Process). x.pid) (same-some r.0 z.0 (sym r.1 ∙ z.1)) ∙ z.2;
+  apart = λ p q slot a b. let r = slot-from k.table table slot p a in let z = slot-from k.table table slot q b in sym r.2 ∙ ap (λ (x : Process). x.pid) (same_Some r.0 z.0 (sym r.1 ∙ z.1)) ∙ z.2;
 }
   where
     table : IsTable k.table
     table = whole.sound.table
 
-    false-true : false ≡ true → ⊥
-    false-true e = cc
-
     some-is : {x : meaning.Process} {n p : ℕ} → get (state_of k h).processes n ≡ Some x → n ≡ p → IsSome (get (state_of k h).processes p)
     some-is {x} {n} {p} is same = ap is_some (ap (get (state_of k h).processes) (sym same) ∙ is)
 
     by : (p : ℕ) (o : Option meaning.Process) → get (state_of k h).processes p ≡ o → IsSome o → IsSome (get (slots_of k.table) p)
-    by p None is there = absurd (false-true there)
+    by p None is there = absurd (false≢true there)
     by p (Some x) is there =
         let r = by_pid-from (entry_at k h) NPROC p x is in
         let e = entry-pid k h r.0 (place_at k.table r.0) (p, x) r.2 in
@@ -218,9 +210,9 @@ has-slots k h halted whole = record {
     runs None p is e = absurd (none-some p e)
     runs (Some slot) p is e =
         let now = whole.sound.current slot is in
-        let same : now.process.pid ≡ p = ap (λ o. (or_nobody o).pid) (sym now.is) ∙ sym (ap (λ o. (or_nobody (place_at k.table (or_zero o))).pid) is) ∙ same-some (pid_now k) p e in (
+        let same : now.process.pid ≡ p = ap (λ o. (or_nobody o).pid) (sym now.is) ∙ sym (ap (λ o. (or_nobody (place_at k.table (or_zero o))).pid) is) ∙ same_Some (pid_now k) p e in (
           ap is_some (ap (live (state_of k h)) (sym same) ∙ live-held k h table slot now.process now.is now.live),
-          λ asleep. not-both asleep (ap (contains (sleepers_below k.table NPROC)) (sym same) ∙ awake-is k.table table slot now.process now.is (whole.awake slot now.process is now.is)),
+          λ asleep. both_ways _ (ap (contains (sleepers_below k.table NPROC)) (sym same) ∙ awake-is k.table table slot now.process now.is (whole.awake slot now.process is now.is)) asleep,
         )
 
 -- ---- the process that runs

@@ -31,4 +31,5 @@ module _ (k : Kernel) (h : Hart) (room : HasRoom k h) where
   not_all_files free many = let less : open_count k.files < OPEN_FILES = room.one_file (NPROC - 1) (NOFILE - 1) (omega arith) (omega arith) free in omega (arith, less, many)
 
   not_all_but_one : named_by (descriptors_at k.table (NPROC - 1)) (NOFILE - 2) ≡ None → named_by (descriptors_at k.table (NPROC - 1)) (NOFILE - 1) ≡ None → open_count k.files ≡ OPEN_FILES - 1 → ⊥
-  not_all_but_one free empty many = let less : open_count k.files + 1 < OPEN_FILES = room.two_files (NPROC - 1) (NOFILE - 2) (NOFILE - 1) (omega arith) (omega arith) (omega arith) (omega arith) free empty in omega (arith, less, many)
+  not_all_but_one free empty many = let less : open_count k.files + 1 < OPEN_FILES =
+      room.two_files (NPROC - 1) (NOFILE - 2) (NOFILE - 1) (omega arith) (omega arith) (omega arith) (omega arith) free empty in omega (arith, less, many)

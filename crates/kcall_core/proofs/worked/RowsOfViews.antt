@@ -146,11 +146,13 @@ module _ (l : Live) (mine : l.parent ≡ Some 1) (other : Live) (its : other.par
   others_child = ap (λ (parent : Option ℕ). child_of 1 (Some (Alive (record other { parent = parent })))) its
 
 -- of a zombie its status; of no process nothing
-children_gone : child_of 1 (Some (Zombie (Some 1) (negsuc 0))) ∷ child_of 1 (Some (Zombie (Some 2) (negsuc 0))) ∷ child_of 1 (Some (Zombie None (pos 0))) ∷ child_of 1 None ∷ [] ≡ Some (Status (negsuc 0)) ∷ None ∷ None ∷ None ∷ []
+children_gone : child_of 1 (Some (Zombie (Some 1) (negsuc 0))) ∷ child_of 1 (Some (Zombie (Some 2) (negsuc 0))) ∷ child_of 1
+    (Some (Zombie None (pos 0))) ∷ child_of 1 None ∷ [] ≡ Some (Status (negsuc 0)) ∷ None ∷ None ∷ None ∷ []
 children_gone = refl
 
 -- what an observer of the machine is told of a child: nothing if the parent isn't live
-module _ (s : State) (gone : live s 1 ≡ None) (l : Live) (here : live s 2 ≡ Some l) (child : get s.processes 3 ≡ Some (Zombie (Some 1) (pos 7))) (its : get s.processes 4 ≡ Some (Zombie (Some 2) (pos 7))) where
+module _ (s : State) (gone : live s 1 ≡ None) (l : Live) (here : live s 2 ≡ Some l) (child : get s.processes 3 ≡ Some (Zombie (Some 1) (pos 7)))
+    (its : get s.processes 4 ≡ Some (Zombie (Some 2) (pos 7))) where
   no_parent : child_at s 1 3 ≡ None
   no_parent = ap (λ (o : Option Live). if_live o (child_of 1 (get s.processes 3))) gone
 
@@ -189,7 +191,8 @@ module _ (x : Pipe) where
 
 module _ (s : State) (v : View) (o : Own) (w : View) where
   -- it keeps its pid, registers, image, call and programs, and the clock
-  seen_keeps : ((seen s v o w).pid ≡ w.pid) × ((seen s v o w).regs ≡ w.regs) × ((seen s v o w).image ≡ w.image) × ((seen s v o w).call ≡ w.call) × ((seen s v o w).programs ≡ w.programs) × ((seen s v o w).clock ≡ w.clock)
+  seen_keeps : ((seen s v o w).pid ≡ w.pid) × ((seen s v o w).regs ≡ w.regs) × ((seen s v o w).image ≡ w.image) × ((seen s v o w).call ≡ w.call)
+      × ((seen s v o w).programs ≡ w.programs) × ((seen s v o w).clock ≡ w.clock)
   unfolding seen
   seen_keeps = (refl, refl, refl, refl, refl, refl)
 
@@ -199,10 +202,12 @@ module _ (s : State) (v : View) (o : Own) (w : View) where
   seen_left = (refl, refl, refl, refl)
 
 -- a descriptor keeps its name, its modes, its program, and its pipe's name and end; one that isn't in use stays so
-descriptor_keeps_file : (f p : Option Descriptor) (file program offset : ℕ) (r w : Bool) → (now : ℕ) × (seen_descriptor f p (on file r w (Shown_file program offset)) ≡ on file r w (Shown_file program now))
+descriptor_keeps_file : (f p : Option Descriptor) (file program offset : ℕ) (r w : Bool)
+    → (now : ℕ) × (seen_descriptor f p (on file r w (Shown_file program offset)) ≡ on file r w (Shown_file program now))
 descriptor_keeps_file f p file program offset r w = (_, refl)
 
-descriptor_keeps_pipe : (f p : Option Descriptor) (file name : ℕ) (end : End) (pipe : Pipe) (r w : Bool) → (now : Pipe) × (seen_descriptor f p (on file r w (Shown_pipe name end pipe)) ≡ on file r w (Shown_pipe name end now))
+descriptor_keeps_pipe : (f p : Option Descriptor) (file name : ℕ) (end : End) (pipe : Pipe) (r w : Bool)
+    → (now : Pipe) × (seen_descriptor f p (on file r w (Shown_pipe name end pipe)) ≡ on file r w (Shown_pipe name end now))
 descriptor_keeps_pipe f p file name end pipe r w = (_, refl)
 
 descriptor_keeps_console : (f p : Option Descriptor) (file : ℕ) (r w : Bool) → seen_descriptor f p (on file r w Shown_terminal) ≡ on file r w Shown_terminal

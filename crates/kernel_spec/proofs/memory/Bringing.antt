@@ -3,24 +3,20 @@ use Rattle.std.proofs.Common.{◌≡◌, ℕ, zero, suc, ◌+◌, ◌-◌, ◌*�
 use Rattle.std.specs.Prelude.{is_some, not, option_map}
 use Rattle.std.specs.List.{list_all, range_with_len}
 use Rattle.std.specs.FinMap.{get}
-use Rattle.std.proofs.lemmas.Bool.{cases_lt, and_from, and_parts, false≢true}
+use Rattle.std.proofs.lemmas.Bool.{cases_lt, and_from, and_parts, le-ltb}
 use Rattle.xk_base.specs.Image.{Image}
 use Rattle.xk_base.specs.declared.limits.TheConstants.{SIZE_LIMIT}
 use Rattle.xk_base.specs.declared.access.Access.{Access}
-use Rattle.xk_base.specs.declared.access.Access.TheVariants.{Store}
-use Rattle.sv39_core.proofs.Words.{ltb-no}
-use Rattle.addr_space.specs.Absent.{is_absent, whole, pages_at, brought}
+use Rattle.addr_space.specs.Absent.{is_absent, whole}
 use Rattle.xk_base.specs.Access.{data_rights}
 use Rattle.addr_space.specs.Changes.{zeroed, perm_of_page}
 use Rattle.addr_space.proofs.Touching.{whole-get, whole-past}
 use Rattle.user_copy.specs.Reach.{allows, may, reaches}
 use Rattle.kernel_spec.specs.rows.Buffers.{may_touching, reaches_touching}
-use Rattle.kernel_spec.specs.rows.Touches.{has_absent}
-use Rattle.kernel_spec.proofs.rows.Settled.{brought-settled, store-brought}
 
 -- no page of the upper half is absent
 pub high-present : (i : Image) (v : ℕ) → i.size ≤ SIZE_LIMIT → 2 ^ 26 ≤ v → is_absent i v ≡ false
-high-present i v small high = ap (λ b. b && not (is_some (get i.pages v))) (ltb-no (4096 * v) i.size (omega (arith, small, high)))
+high-present i v small high = ap (λ b. b && not (is_some (get i.pages v))) (le-ltb (4096 * v) i.size (omega (arith, small, high)))
 
 -- ---- what may be read and written
 
@@ -31,7 +27,8 @@ may-whole access i a free small = elim (cases_lt (a / 4096) (2 ^ 26)) [
   | inr high ↦ ap (λ b. b || may access i a) (high-present i (a / 4096) small high) ∙ sym (ap (λ o. allows access (option_map perm_of_page o)) (whole-past i (a / 4096) high))
 ]
   where
-    near : (b : Bool) → is_absent i (a / 4096) ≡ b → may_touching access i a ≡ allows access (option_map perm_of_page (cond (is_absent i (a / 4096)) (Some (zeroed data_rights)) (get i.pages (a / 4096))))
+    near : (b : Bool) → is_absent i (a / 4096) ≡ b → may_touching access i a ≡ allows access
+        (option_map perm_of_page (cond (is_absent i (a / 4096)) (Some (zeroed data_rights)) (get i.pages (a / 4096))))
     near true e = ap (λ b. b || may access i a) e ∙ sym free ∙ sym (ap (λ b. allows access (option_map perm_of_page (cond b (Some (zeroed data_rights)) (get i.pages (a / 4096))))) e)
     near false e = ap (λ b. b || may access i a) e ∙ sym (ap (λ b. allows access (option_map perm_of_page (cond b (Some (zeroed data_rights)) (get i.pages (a / 4096))))) e)
 
@@ -60,22 +57,3 @@ touching-rest access i a (suc n) (suc d) all le =
     let fewer : suc n - suc d ≡ n - d = omega arith in
     let parts = and_parts (may_touching access i a) (list_all (may_touching access i) (range_with_len (a + 1) n)) all in
     (λ k. reaches_touching access i (next k) (fewer k)) ∙ touching-rest access i (a + 1) n d parts.1 (omega (arith, le))
-
--- where none of the pages is absent, what may be written once they are touched may be written
-pub settled-ready : (n a : ℕ) (i : Image) → reaches_touching Store i a n ≡ true → has_absent (pages_at a n) i ≡ false → reaches Store i a n ≡ true
-unfolding reaches reaches_touching
-settled-ready zero a i fine none = refl
-settled-ready (suc n) a i fine none = by (settled-ready n (a + 1) i) (is_absent i (a / 4096)) refl (may Store i a) refl fine none
-  where
-    by : (list_all (may_touching Store i) (range_with_len (a + 1) n) ≡ true → has_absent (pages_at (a + 1) n) i ≡ false → list_all (may Store i) (range_with_len (a + 1) n) ≡ true)
-        → (b : Bool) → is_absent i (a / 4096) ≡ b → (d : Bool) → may Store i a ≡ d → (may_touching Store i a && list_all (may_touching Store i) (range_with_len (a + 1) n)) ≡ true → (is_absent i (a / 4096) || has_absent (pages_at (a + 1) n) i) ≡ false
-        → (may Store i a && list_all (may Store i) (range_with_len (a + 1) n)) ≡ true
-    by rest true is d can e none = absurd (false≢true (sym none ∙ ap (λ b. b || has_absent (pages_at (a + 1) n) i) is))
-    by rest false is true can e none =
-        ap (λ b. b && list_all (may Store i) (range_with_len (a + 1) n)) can
-        ∙ rest (sym (ap (λ b. (b || may Store i a) && list_all (may_touching Store i) (range_with_len (a + 1) n)) is ∙ ap (λ b. b && list_all (may_touching Store i) (range_with_len (a + 1) n)) can) ∙ e) (sym (ap (λ b. b || has_absent (pages_at (a + 1) n) i) is) ∙ none)
-    by rest false is false can e none = absurd (false≢true (sym (ap (λ b. (b || may Store i a) && list_all (may_touching Store i) (range_with_len (a + 1) n)) is ∙ ap (λ b. b && list_all (may_touching Store i) (range_with_len (a + 1) n)) can) ∙ e))
-
--- behind the touch of a buffer that may be written, it may be written as it stands
-pub ready-there : (i : Image) (a n : ℕ) → reaches_touching Store i a n ≡ true → reaches Store (brought (pages_at a n) i) a n ≡ true
-ready-there i a n fine = settled-ready n a (brought (pages_at a n) i) (store-brought (pages_at a n) i a n fine) (brought-settled (pages_at a n) i)

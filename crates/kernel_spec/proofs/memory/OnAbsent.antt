@@ -2,7 +2,7 @@
 -- and one that is on an absent page is done once that page is there.
 use Rattle.std.proofs.Common.{◌≡◌, ℕ, zero, suc, ◌+◌, ◌*◌, ◌/◌, ◌%◌, ◌^◌, ◌<◌, ◌≤◌, Bool, true, false, cond, eqb, ◌&&◌, ◌||◌, List, [], ◌∷◌, Option, Some, None, refl, sym, ap, subst, ◌∙◌, arith}
 use Rattle.std.specs.Prelude.{Result, Ok, Err, slice_index, if◌then◌else◌}
-use Rattle.std.proofs.lemmas.Bool.{and_parts, false≢true, eqb-true}
+use Rattle.std.proofs.lemmas.Bool.{and_parts, false≢true, eqb-true, and_right}
 use Rattle.std.specs.FinMap.{get}
 use Rattle.xk_base.specs.Image.{Page, Image, with_page}
 use Rattle.xk_base.specs.Words.{le, le_bytes}
@@ -12,11 +12,14 @@ use Rattle.phys_ram.specs.Ram.{zero_frame}
 use Rattle.rv64i_core.specs.Registers.{Registers, reg, add, put, with_pc, after}
 use Rattle.rv64i_core.specs.Table.{decoded}
 use Rattle.rv64i_core.specs.Memory.{Cell, Memory, Store, cell_byte, bytes_at, or_fault, bytes_of_width, fetched, loaded, storing}
-use Rattle.rv64i_core.specs.Step.{Step, Next, Ecall, Fault, instr, row, row_of, step_of_word, load_step, load_width, store_step, store_width, jump, branch, is_taken, extended, address_used, data_address, data_address_of, instruction_of, or_pc, is_data_page_fault, stop_of}
+use Rattle.rv64i_core.specs.Step.{Step, Next, Ecall, Fault, instr, row, row_of, step_of_word}
+use Rattle.rv64i_core.specs.Step.{load_step, load_width, store_step, store_width, jump, branch, is_taken, extended}
+use Rattle.rv64i_core.specs.Step.{address_used, data_address, data_address_of, instruction_of, or_pc, is_data_page_fault, stop_of}
 use Rattle.rv64i_core.specs.declared.execution.Stop.TheVariants as stops
 use Rattle.rv64i_core.specs.declared.access_width.Width.{Width}
 use Rattle.rv64i_core.specs.declared.instruction.Instr.{Instr}
-use Rattle.rv64i_core.specs.declared.instruction.Instr.TheVariants.{Lui, Auipc, Jal, Jalr, Branch, Load, Store as StoreInstr, OpImm, ShiftImm, Op, AddImmW, ShiftImmW, OpW, Fence, Ecall as EcallInstr, Ebreak}
+use Rattle.rv64i_core.specs.declared.instruction.Instr.TheVariants.{Lui, Auipc, Jal, Jalr, Branch, Load, Store as StoreInstr, OpImm}
+use Rattle.rv64i_core.specs.declared.instruction.Instr.TheVariants.{ShiftImm, Op, AddImmW, ShiftImmW, OpW, Fence, Ecall as EcallInstr, Ebreak}
 use Rattle.rv64i_core.specs.declared.instruction.LoadOp.{LoadOp}
 use Rattle.rv64i_core.specs.declared.instruction.StoreOp.{StoreOp}
 use Rattle.rv64i_core.specs.UserImage.{user, cell_in}
@@ -25,10 +28,10 @@ use Rattle.addr_space.specs.Absent.{is_absent, brought}
 use Rattle.xk_base.specs.Access.{data_rights}
 use Rattle.addr_space.specs.Changes.{zeroed}
 use Rattle.kernel_spec.specs.steps.Instruction.{next_instruction}
-use Rattle.kernel_spec.specs.rows.Touches.{before_step, touch, page_used, view_or, before_instruction, instruction_now}
+use Rattle.kernel_spec.specs.rows.Touches.{before_step, touch, page_used, view_or, before_instruction}
 use Rattle.kernel_spec.specs.views.View.{View}
 use Rattle.kernel_spec.proofs.rows.Settled.{there-not-absent, brought-there, touch-none}
-use Rattle.kernel_spec.proofs.steps.Maps.{get_same}
+use Rattle.kernel_spec.proofs.steps.MapsAfterChange.{get_same}
 
 -- a load or a store faults for its page
 abbrev pub faults_on_data : Step → Bool
@@ -39,10 +42,6 @@ faults_on_data (Fault cause) = is_data_page_fault cause
 -- the instruction at the pc loads from an absent page, or stores to one
 unfoldable pub is_on_absent : Registers → Image → Bool
 is_on_absent regs image = faults_on_data (next_instruction regs image) && is_absent image (page_used regs image)
-
-and-false : (b : Bool) → (b && false) ≡ false
-and-false true = refl
-and-false false = refl
 
 -- the page that is touched alone, where it was absent
 pub brought-one : (v : ℕ) (i : Image) → is_absent i v ≡ true → get (brought (v ∷ []) i).pages v ≡ Some (zeroed data_rights)
@@ -63,7 +62,8 @@ user-keeps ps i a cell is = by (get i.pages (a / 4096)) refl is
     by None e h = absurd (cc)
     by (Some page) e h = ap (λ o. cell_in o (a % 4096)) (brought-there ps i (a / 4096) page e) ∙ h
 
-one-kept : (allows : Cell → Bool) (n : Memory) (a : ℕ) (c : Option Cell) (r rest : Option (List ℕ)) (bs : List ℕ) → ((cell : Cell) → c ≡ Some cell → n a ≡ Some cell) → ((l : List ℕ) → r ≡ Some l → rest ≡ Some l)
+one-kept : (allows : Cell → Bool) (n : Memory) (a : ℕ) (c : Option Cell) (r rest : Option (List ℕ)) (bs : List ℕ)
+    → ((cell : Cell) → c ≡ Some cell → n a ≡ Some cell) → ((l : List ℕ) → r ≡ Some l → rest ≡ Some l)
     → cell_byte allows c r ≡ Some bs → cell_byte allows (n a) rest ≡ Some bs
 one-kept allows n a None r rest bs here behind h = absurd (cc)
 one-kept allows n a (Some cell) None rest bs here behind h = absurd (cc)
@@ -84,86 +84,10 @@ pub fetched-held : (m n : Memory) → Holds m n → (pc w : ℕ) → fetched m p
 unfolding fetched
 fetched-held m n holds pc w h = answer-held FetchPageFault le (bytes_at (λ c. c.execute) m pc 4) (bytes_at (λ c. c.execute) n pc 4) w (bytes-held (λ c. c.execute) m n holds 4 pc) h
 
-if-aligned : {B : Type 0} (b : Bool) (x y : Result B Cause) (cause : Cause) (v : B) → (x ≡ Ok v → y ≡ Ok v) → (if b then x else Err cause) ≡ Ok v → (if b then y else Err cause) ≡ Ok v
-if-aligned true x y cause v held h = held h
-if-aligned false x y cause v held h = h
-
-pub loaded-held : (m n : Memory) → Holds m n → (a : ℕ) (w : Width) (v : ℕ) → loaded m a w ≡ Ok v → loaded n a w ≡ Ok v
-unfolding loaded
-loaded-held m n holds a w v h = if-aligned (eqb (a % bytes_of_width w) 0) (or_fault LoadPageFault le (bytes_at (λ c. c.read) m a (bytes_of_width w))) (or_fault LoadPageFault le (bytes_at (λ c. c.read) n a (bytes_of_width w))) LoadMisaligned v
-    (λ e. answer-held LoadPageFault le (bytes_at (λ c. c.read) m a (bytes_of_width w)) (bytes_at (λ c. c.read) n a (bytes_of_width w)) v (bytes-held (λ c. c.read) m n holds (bytes_of_width w) a) e) h
-
 abbrev puts : ℕ → Width → ℕ → List ℕ → Store
 puts a w v = λ _. record { address = a; bytes = le_bytes (bytes_of_width w) v }
 
-pub storing-held : (m n : Memory) → Holds m n → (a : ℕ) (w : Width) (v : ℕ) (s : Store) → storing m a w v ≡ Ok s → storing n a w v ≡ Ok s
-unfolding storing
-storing-held m n holds a w v s h = if-aligned (eqb (a % bytes_of_width w) 0) (or_fault StorePageFault (puts a w v) (bytes_at (λ c. c.write) m a (bytes_of_width w))) (or_fault StorePageFault (puts a w v) (bytes_at (λ c. c.write) n a (bytes_of_width w))) StoreMisaligned s
-    (λ e. answer-held StorePageFault (puts a w v) (bytes_at (λ c. c.write) m a (bytes_of_width w)) (bytes_at (λ c. c.write) n a (bytes_of_width w)) s (bytes-held (λ c. c.write) m n holds (bytes_of_width w) a) e) h
-
 -- ---- the instruction
-
--- how a step ends that isn't a fault
-abbrev pub is_fault : Step → Bool
-is_fault (Next regs store) = false
-is_fault Ecall = false
-is_fault (Fault cause) = true
-
-load-held : (regs : Registers) (op : LoadOp) (d : ℕ) (x y : Result ℕ Cause) → ((v : ℕ) → x ≡ Ok v → y ≡ Ok v) → is_fault (load_step regs op d x) ≡ false → load_step regs op d y ≡ load_step regs op d x
-load-held regs op d (Ok v) y held h = ap (load_step regs op d) (held v refl)
-load-held regs op d (Err cause) y held h = absurd (false≢true (sym h))
-
-store-held : (regs : Registers) (x y : Result Store Cause) → ((s : Store) → x ≡ Ok s → y ≡ Ok s) → is_fault (store_step regs x) ≡ false → store_step regs y ≡ store_step regs x
-store-held regs (Ok s) y held h = ap (store_step regs) (held s refl)
-store-held regs (Err cause) y held h = absurd (false≢true (sym h))
-
-row-held : (m n : Memory) → Holds m n → (regs : Registers) (i : Instr) → is_fault (row i regs m) ≡ false → row i regs n ≡ row i regs m
-unfolding row
-row-held m n holds regs (Lui d imm) h = refl
-row-held m n holds regs (Auipc d imm) h = refl
-row-held m n holds regs (Jal d offset) h = refl
-row-held m n holds regs (Jalr d s imm) h = refl
-row-held m n holds regs (Branch op s t offset) h = refl
-row-held m n holds regs (Load op d s imm) h =
-    let a = add (reg regs s) (extended 12 imm) in
-    load-held regs op d (loaded m a (load_width op)) (loaded n a (load_width op)) (loaded-held m n holds a (load_width op)) h
-row-held m n holds regs (StoreInstr op s t imm) h =
-    let a = add (reg regs s) (extended 12 imm) in
-    store-held regs (storing m a (store_width op) (reg regs t)) (storing n a (store_width op) (reg regs t)) (storing-held m n holds a (store_width op) (reg regs t)) h
-row-held m n holds regs (OpImm op d s imm) h = refl
-row-held m n holds regs (ShiftImm op d s places) h = refl
-row-held m n holds regs (Op op d s t) h = refl
-row-held m n holds regs (AddImmW d s imm) h = refl
-row-held m n holds regs (ShiftImmW op d s places) h = refl
-row-held m n holds regs (OpW op d s t) h = refl
-row-held m n holds regs (Fence d s imm) h = refl
-row-held m n holds regs EcallInstr h = refl
-row-held m n holds regs Ebreak h = refl
-
-row_of-held : (m n : Memory) → Holds m n → (regs : Registers) (i : Option Instr) → is_fault (row_of i regs m) ≡ false → row_of i regs n ≡ row_of i regs m
-row_of-held m n holds regs None h = refl
-row_of-held m n holds regs (Some i) h = row-held m n holds regs i h
-
-word-held : (m n : Memory) → Holds m n → (regs : Registers) (x y : Result ℕ Cause) → ((w : ℕ) → x ≡ Ok w → y ≡ Ok w) → is_fault (step_of_word x regs m) ≡ false → step_of_word y regs n ≡ step_of_word x regs m
-word-held m n holds regs (Ok w) y held h = ap (λ r. step_of_word r regs n) (held w refl) ∙ row_of-held m n holds regs (decoded w) h
-word-held m n holds regs (Err cause) y held h = absurd (false≢true (sym h))
-
-pub instr-held : (m n : Memory) → Holds m n → (regs : Registers) → is_fault (instr regs m) ≡ false → instr regs n ≡ instr regs m
-unfolding instr
-instr-held m n holds regs h = word-held m n holds regs (fetched m regs.pc) (fetched n regs.pc) (λ w e. fetched-held m n holds regs.pc w e) h
-
--- an instruction that doesn't fault comes to the same once some pages are touched
-pub same_instruction : (ps : List ℕ) (regs : Registers) (i : Image) → is_fault (next_instruction regs i) ≡ false → next_instruction regs (brought ps i) ≡ next_instruction regs i
-same_instruction ps regs i h = instr-held (user i) (user (brought ps i)) (user-keeps ps i) regs h
-
-pub same_next : (ps : List ℕ) (regs new : Registers) (i : Image) (store : Option Store) → next_instruction regs i ≡ Next new store → next_instruction regs (brought ps i) ≡ Next new store
-same_next ps regs new i store h = same_instruction ps regs i (ap is_fault h) ∙ h
-
-pub same_ecall : (ps : List ℕ) (regs : Registers) (i : Image) → next_instruction regs i ≡ Ecall → next_instruction regs (brought ps i) ≡ Ecall
-same_ecall ps regs i h = same_instruction ps regs i (ap is_fault h) ∙ h
-
-pub same_bytes : (ps : List ℕ) (i : Image) (allows : Cell → Bool) (a n : ℕ) (bs : List ℕ) → bytes_at allows (user i) a n ≡ Some bs → bytes_at allows (user (brought ps i)) a n ≡ Some bs
-same_bytes ps i allows a n bs h = bytes-held allows (user i) (user (brought ps i)) (user-keeps ps i) n a bs h
 
 pub same_word : (ps : List ℕ) (i : Image) (pc w : ℕ) → fetched (user i) pc ≡ Ok w → fetched (user (brought ps i)) pc ≡ Ok w
 same_word ps i pc w h = fetched-held (user i) (user (brought ps i)) (user-keeps ps i) pc w h
@@ -177,7 +101,8 @@ pub record IsOpen (m : Memory) (v : ℕ) : Type 0 where
 touched-cell : ℕ → Cell
 touched-cell byte = record { read = true; write = true; execute = false; byte = byte }
 
-open-cell : (pages : ℕ → Option Page) (v o : ℕ) → o < 4096 → pages v ≡ Some (zeroed data_rights) → cell_in (pages ((4096 * v + o) / 4096)) ((4096 * v + o) % 4096) ≡ Some (touched-cell (slice_index zero_frame o))
+open-cell : (pages : ℕ → Option Page) (v o : ℕ) → o < 4096 → pages v ≡ Some (zeroed data_rights)
+    → cell_in (pages ((4096 * v + o) / 4096)) ((4096 * v + o) % 4096) ≡ Some (touched-cell (slice_index zero_frame o))
 unfolding touched-cell
 open-cell pages v o lt is =
     let q : (4096 * v + o) / 4096 ≡ v = omega arith in
@@ -188,11 +113,14 @@ pub touched-open : (i : Image) (v : ℕ) → get i.pages v ≡ Some (zeroed data
 unfolding user touched-cell
 touched-open i v is = record { cell = λ o lt. (touched-cell (slice_index zero_frame o), open-cell (get i.pages) v o lt is, refl, refl) }
 
-one-more : (allows : Cell → Bool) (m : Memory) (a v o : ℕ) (c : Cell) (bs : List ℕ) (rest : Option (List ℕ)) → a % 2 ^ 64 ≡ 4096 * v + o → m (4096 * v + o) ≡ Some c → allows c ≡ true → rest ≡ Some bs → cell_byte allows (m (a % 2 ^ 64)) rest ≡ Some (c.byte ∷ bs)
+one-more : (allows : Cell → Bool) (m : Memory) (a v o : ℕ) (c : Cell) (bs : List ℕ) (rest : Option (List ℕ)) → a % 2 ^ 64 ≡ 4096 * v + o
+    → m (4096 * v + o) ≡ Some c → allows c ≡ true → rest ≡ Some bs → cell_byte allows (m (a % 2 ^ 64)) rest ≡ Some (c.byte ∷ bs)
 one-more allows m a v o c bs rest at is may behind =
     ap (λ x. cell_byte allows (m x) rest) at ∙ ap (λ x. cell_byte allows x rest) is ∙ ap (cell_byte allows (Some c)) behind ∙ ap (λ b. cond b (Some (c.byte ∷ bs)) None) may
 
-bytes-there : (allows : Cell → Bool) (m : Memory) (v : ℕ) → v < 2 ^ 52 → ((o : ℕ) → o < 4096 → (c : Cell) × (m (4096 * v + o) ≡ Some c) × (allows c ≡ true)) → (k o : ℕ) → o + k ≤ 4096 → (bs : List ℕ) × (bytes_at allows m (4096 * v + o) k ≡ Some bs)
+bytes-there : (allows : Cell → Bool) (m : Memory) (v : ℕ) → v < 2 ^ 52
+    → ((o : ℕ) → o < 4096 → (c : Cell) × (m (4096 * v + o) ≡ Some c) × (allows c ≡ true)) → (k o : ℕ) → o + k ≤ 4096
+    → (bs : List ℕ) × (bytes_at allows m (4096 * v + o) k ≡ Some bs)
 unfolding bytes_at
 bytes-there allows m v small each zero o fits = ([], refl)
 bytes-there allows m v small each (suc k) o fits =
@@ -202,7 +130,8 @@ bytes-there allows m v small each (suc k) o fits =
     let here = each o (omega (arith, fits)) in
     (here.0.byte ∷ rest.0, one-more allows m (4096 * v + o) v o here.0 rest.0 (bytes_at allows m (4096 * v + o + 1) k) at here.1 here.2 (ap (λ a. bytes_at allows m a k) next ∙ rest.1))
 
-bytes-within : (allows : Cell → Bool) (m : Memory) (a k : ℕ) → a < 2 ^ 64 → a % 4096 + k ≤ 4096 → ((o : ℕ) → o < 4096 → (c : Cell) × (m (4096 * (a / 4096) + o) ≡ Some c) × (allows c ≡ true)) → (bs : List ℕ) × (bytes_at allows m a k ≡ Some bs)
+bytes-within : (allows : Cell → Bool) (m : Memory) (a k : ℕ) → a < 2 ^ 64 → a % 4096 + k ≤ 4096
+    → ((o : ℕ) → o < 4096 → (c : Cell) × (m (4096 * (a / 4096) + o) ≡ Some c) × (allows c ≡ true)) → (bs : List ℕ) × (bytes_at allows m a k ≡ Some bs)
 bytes-within allows m a k small fits each =
     let all = bytes-there allows m (a / 4096) (omega (arith, small)) each k (a % 4096) fits in
     let at : 4096 * (a / 4096) + a % 4096 ≡ a = omega arith in
@@ -214,7 +143,8 @@ loads-there m a w small aligned there =
     let bs = bytes-within (λ c. c.read) m a (bytes_of_width w) small (within-page a w aligned) (λ o lt. let c = there.cell o lt in (c.0, c.1, c.2)) in
     (le bs.0, ap (λ x. cond (eqb x 0) (or_fault LoadPageFault le (bytes_at (λ c. c.read) m a (bytes_of_width w))) (Err LoadMisaligned)) aligned ∙ ap (or_fault LoadPageFault le) bs.1)
 
-pub stores-there : (m : Memory) (a : ℕ) (w : Width) (v : ℕ) → a < 2 ^ 64 → a % bytes_of_width w ≡ 0 → IsOpen m (a / 4096) → storing m a w v ≡ Ok (record { address = a; bytes = le_bytes (bytes_of_width w) v })
+pub stores-there : (m : Memory) (a : ℕ) (w : Width) (v : ℕ) → a < 2 ^ 64 → a % bytes_of_width w ≡ 0 → IsOpen m (a / 4096)
+    → storing m a w v ≡ Ok (record { address = a; bytes = le_bytes (bytes_of_width w) v })
 unfolding storing
 stores-there m a w v small aligned there =
     let bs = bytes-within (λ c. c.write) m a (bytes_of_width w) small (within-page a w aligned) (λ o lt. let c = there.cell o lt in (c.0, c.1, c.3)) in
@@ -226,19 +156,26 @@ not-even : {B : Type 0} (b : Bool) (x : Result B Cause) (cause : Cause) (asked :
 not-even true x cause asked other h = refl
 not-even false x cause asked other h = absurd (false≢true (sym other ∙ h))
 
-load-comes : (m n : Memory) (regs : Registers) (op : LoadOp) (d a : ℕ) → a < 2 ^ 64 → faults_on_data (load_step regs op d (loaded m a (load_width op))) ≡ true → IsOpen n (a / 4096) → stop_of (load_step regs op d (loaded n a (load_width op))) ≡ stops.Next
+load-comes : (m n : Memory) (regs : Registers) (op : LoadOp) (d a : ℕ) → a < 2 ^ 64
+    → faults_on_data (load_step regs op d (loaded m a (load_width op))) ≡ true → IsOpen n (a / 4096)
+    → stop_of (load_step regs op d (loaded n a (load_width op))) ≡ stops.Next
 unfolding loaded
 load-comes m n regs op d a small h there =
     let w = load_width op in
-    let even = eqb-true (a % bytes_of_width w) 0 (not-even (eqb (a % bytes_of_width w) 0) (or_fault LoadPageFault le (bytes_at (λ c. c.read) m a (bytes_of_width w))) LoadMisaligned (λ x. faults_on_data (load_step regs op d x)) refl h) in
+    let even = eqb-true (a % bytes_of_width w) 0 (not-even (eqb (a % bytes_of_width w) 0)
+    (or_fault LoadPageFault le (bytes_at (λ c. c.read) m a (bytes_of_width w))) LoadMisaligned (λ x. faults_on_data (load_step regs op d x)) refl h) in
     let done = loads-there n a w small even there in
     ap (λ x. stop_of (load_step regs op d x)) done.1
 
-store-comes : (m n : Memory) (regs : Registers) (op : StoreOp) (a v : ℕ) → a < 2 ^ 64 → faults_on_data (store_step regs (storing m a (store_width op) v)) ≡ true → IsOpen n (a / 4096) → stop_of (store_step regs (storing n a (store_width op) v)) ≡ stops.Next
+store-comes : (m n : Memory) (regs : Registers) (op : StoreOp) (a v : ℕ) → a < 2 ^ 64
+    → faults_on_data (store_step regs (storing m a (store_width op) v)) ≡ true → IsOpen n (a / 4096)
+    → stop_of (store_step regs (storing n a (store_width op) v)) ≡ stops.Next
 unfolding storing
 store-comes m n regs op a v small h there =
     let w = store_width op in
-    let even = eqb-true (a % bytes_of_width w) 0 (not-even (eqb (a % bytes_of_width w) 0) (or_fault StorePageFault (puts a w v) (bytes_at (λ c. c.write) m a (bytes_of_width w))) StoreMisaligned (λ x. faults_on_data (store_step regs x)) refl h) in
+    let even = eqb-true (a % bytes_of_width w) 0 (not-even (eqb (a % bytes_of_width w) 0)
+    (or_fault StorePageFault (puts a w v) (bytes_at (λ c. c.write) m a (bytes_of_width w))) StoreMisaligned
+    (λ x. faults_on_data (store_step regs x)) refl h) in
     ap (λ x. stop_of (store_step regs x)) (stores-there n a w v small even there)
 
 sum-small : (a b : ℕ) → add a b < 2 ^ 64
@@ -276,7 +213,8 @@ row-comes m n regs (Fence d s imm) h there = absurd (false≢true h)
 row-comes m n regs EcallInstr h there = absurd (false≢true h)
 row-comes m n regs Ebreak h there = absurd (false≢true h)
 
-row_of-comes : (m n : Memory) (regs : Registers) (i : Option Instr) → faults_on_data (row_of i regs m) ≡ true → IsOpen n (or_pc regs (data_address_of regs i) / 4096) → stop_of (row_of i regs n) ≡ stops.Next
+row_of-comes : (m n : Memory) (regs : Registers) (i : Option Instr) → faults_on_data (row_of i regs m) ≡ true
+    → IsOpen n (or_pc regs (data_address_of regs i) / 4096) → stop_of (row_of i regs n) ≡ stops.Next
 row_of-comes m n regs None h there = absurd (false≢true h)
 row_of-comes m n regs (Some i) h there = row-comes m n regs i h there
 
@@ -309,10 +247,6 @@ on-absent : (regs : Registers) (i : Image) → is_on_absent regs i ≡ true → 
 unfolding is_on_absent
 on-absent regs i h = and_parts (faults_on_data (next_instruction regs i)) (is_absent i (page_used regs i)) h
 
--- the page that it is on is absent
-pub absent_page_used : (regs : Registers) (i : Image) → is_on_absent regs i ≡ true → is_absent i (page_used regs i) ≡ true
-absent_page_used regs i h = (on-absent regs i h).1
-
 -- it is on the same page, whichever pages are touched
 pub same_page_used : (ps : List ℕ) (regs : Registers) (i : Image) → is_on_absent regs i ≡ true → page_used regs (brought ps i) ≡ page_used regs i
 same_page_used ps regs i h =
@@ -331,7 +265,7 @@ off_absent_once_touched regs i h =
     let t = brought (page_used regs i ∷ []) i in
     ap (λ p. faults_on_data (next_instruction regs t) && is_absent t p) (same_page_used (page_used regs i ∷ []) regs i h)
     ∙ ap (λ b. faults_on_data (next_instruction regs t) && b) (there-not-absent t (page_used regs i) (zeroed data_rights) (page_used_comes regs i h))
-    ∙ and-false (faults_on_data (next_instruction regs t))
+    ∙ and_right (faults_on_data (next_instruction regs t)) false refl
 
 -- it is done then: it neither faults nor calls the kernel
 pub done_once_touched : (regs : Registers) (i : Image) → is_on_absent regs i ≡ true → stop_of (next_instruction regs (brought (page_used regs i ∷ []) i)) ≡ stops.Next
@@ -344,7 +278,8 @@ next_of_stop (Next new store) h = (new, store, refl)
 next_of_stop Ecall h = absurd (cc)
 next_of_stop (Fault cause) h = absurd (cc)
 
-pub next_once_touched : (regs : Registers) (i : Image) → is_on_absent regs i ≡ true → (new : Registers) × (store : Option Store) × (next_instruction regs (brought (page_used regs i ∷ []) i) ≡ Next new store)
+pub next_once_touched : (regs : Registers) (i : Image) → is_on_absent regs i ≡ true
+    → (new : Registers) × (store : Option Store) × (next_instruction regs (brought (page_used regs i ∷ []) i) ≡ Next new store)
 next_once_touched regs i h = next_of_stop (next_instruction regs (brought (page_used regs i ∷ []) i)) (done_once_touched regs i h)
 
 -- ---- an instruction that is on no absent page
@@ -366,7 +301,7 @@ fault_not_on_absent regs i cause h other = not_on_absent regs i (ap faults_on_da
 -- a page that is there, or lies past the size
 pub page_not_on_absent : (regs : Registers) (i : Image) → is_absent i (page_used regs i) ≡ false → is_on_absent regs i ≡ false
 unfolding is_on_absent
-page_not_on_absent regs i h = ap (λ b. faults_on_data (next_instruction regs i) && b) h ∙ and-false (faults_on_data (next_instruction regs i))
+page_not_on_absent regs i h = ap (λ b. faults_on_data (next_instruction regs i) && b) h ∙ and_right (faults_on_data (next_instruction regs i)) false refl
 
 -- ---- the view in which an instruction is done
 
@@ -409,10 +344,3 @@ before_untouched v none = before-is v ∙ ap (λ o. if is_on_absent v.regs v.ima
     either : (b : Bool) → (if b then v else v) ≡ v
     either true = refl
     either false = refl
-
--- what the instruction comes to there
-pub now_next : (v : View) (new : Registers) (store : Option Store) → next_instruction v.regs v.image ≡ Next new store → instruction_now v ≡ Next new store
-now_next v new store h = ap (λ u. next_instruction u.regs u.image) (before_next v new store h) ∙ h
-
-pub now_ecall : (v : View) → next_instruction v.regs v.image ≡ Ecall → instruction_now v ≡ Ecall
-now_ecall v h = ap (λ u. next_instruction u.regs u.image) (before_ecall v h) ∙ h

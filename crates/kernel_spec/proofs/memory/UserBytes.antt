@@ -1,5 +1,6 @@
 -- What the kernel may read and write for a process is what user code may; and numbers and texts, byte by byte. Absent pages read as zeros.
-use Rattle.std.proofs.Common.{◌≡◌, ◌≢◌, ℕ, zero, suc, ◌+◌, ◌-◌, ◌/◌, ◌%◌, ◌^◌, ◌<◌, ◌≤◌, Bool, true, false, cond, ◌&&◌, List, take, ◌++◌, [], ◌∷◌, Option, Some, None, inl, inr, refl, sym, ap, ◌∙◌, arith}
+use Rattle.std.proofs.Common.{◌≡◌, ◌≢◌, ℕ, zero, suc, ◌+◌, ◌-◌, ◌/◌, ◌%◌, ◌^◌, ◌<◌, ◌≤◌, Bool, true, false, cond}
+use Rattle.std.proofs.Common.{◌&&◌, List, take, ◌++◌, [], ◌∷◌, Option, Some, None, inl, inr, refl, sym, ap, ◌∙◌, arith}
 use Rattle.std.specs.Prelude.{option_map, if◌then◌else◌, ◌==◌}
 use Rattle.std.proofs.lemmas.Bool.{cases_lt, cases_eq, and_from, and_parts, eq-eqb, ne_eqb, false≢true}
 use Rattle.std.proofs.Math.Seq.{take-append_seam}
@@ -10,6 +11,7 @@ use Rattle.xk_base.specs.Bytes.{image_byte, image_bytes, byte_in}
 use Rattle.xk_base.specs.Words.{le}
 use Rattle.xk_base.specs.declared.limits.TheConstants.{SIZE_LIMIT}
 use Rattle.xk_base.specs.declared.access.Access.TheVariants.{Load, Store}
+use Rattle.xk_base.proofs.Least.{none_below}
 use Rattle.addr_space.specs.Changes.{perm_of_page}
 use Rattle.addr_space.specs.Absent.{whole}
 use Rattle.addr_space.proofs.Touching.{LowPages, whole-byte, whole-bytes}
@@ -20,7 +22,7 @@ use Rattle.user_copy.proofs.Ranges.{reaches-none, reaches-not, reaches-fewer, ma
 use Rattle.user_copy.proofs.Texts.{text-readable}
 use Rattle.kernel_spec.specs.rows.Buffers.{text_from, text_at, pointer_at}
 use Rattle.kernel_spec.proofs.memory.Bringing.{may-whole, reaches-whole}
-use Rattle.kernel_spec.proofs.steps.Least.{least_passes, none_passes, least_least}
+use Rattle.kernel_spec.proofs.steps.LeastPasses.{least_passes, least_least}
 
 -- ---- one byte
 
@@ -43,9 +45,6 @@ shown-read false c = refl
 shown-write : (u : Bool) (c : Cell) → (u && c.write) ≡ may_write (if u then Some c else None)
 shown-write true c = refl
 shown-write false c = refl
-
-cell-of : Page → ℕ → Cell
-cell-of page o = record { read = page.perm.read; write = page.perm.write; execute = page.perm.execute; byte = byte_in (Some page) o }
 
 cell-read : (o : Option Page) (k : ℕ) → allows Load (option_map perm_of_page o) ≡ may_read (cell_in o k)
 cell-read None k = refl
@@ -103,7 +102,8 @@ at-once b rest e = ap (λ c. cond c (Some []) (option_map (λ bytes. b ∷ bytes
 one-more : (b : ℕ) (rest : Option (List ℕ)) → b ≢ 0 → text_from b rest ≡ option_map (λ bytes. b ∷ bytes) rest
 one-more b rest ne = ap (λ c. cond c (Some []) (option_map (λ bytes. b ∷ bytes) rest)) (ne_eqb b 0 ne)
 
-text-there : (n limit a : ℕ) (i : Image) → n < limit → reaches Load i a (suc n) ≡ true → ((j : ℕ) → j < n → image_byte i (a + j) ≢ 0) → image_byte i (a + n) ≡ 0 → read_text limit i a ≡ Some (image_bytes i a n)
+text-there : (n limit a : ℕ) (i : Image) → n < limit → reaches Load i a (suc n) ≡ true → ((j : ℕ) → j < n → image_byte i (a + j) ≢ 0)
+    → image_byte i (a + n) ≡ 0 → read_text limit i a ≡ Some (image_bytes i a n)
 text-there n zero a i lt all some last = absurd (omega (arith, lt))
 text-there zero (suc m) a i lt all some last =
     let here : a ≡ a + 0 = omega arith in
@@ -113,7 +113,8 @@ text-there (suc n) (suc m) a i lt all some last =
     let here : a ≡ a + 0 = omega arith in
     let parts = and_parts (may Load i a) (reaches Load i (a + 1) (suc n)) (sym (reaches-first i a (suc n)) ∙ all) in
     let next : (j : ℕ) → a + 1 + j ≡ a + suc j = λ j. omega arith in
-    let rest = text-there n m (a + 1) i (omega (arith, lt)) parts.1 (λ j below zero-byte. some (suc j) (omega (arith, below)) (sym (ap (image_byte i) (next j)) ∙ zero-byte)) (ap (image_byte i) (next n) ∙ last) in
+    let rest = text-there n m (a + 1) i (omega (arith, lt)) parts.1
+    (λ j below zero-byte. some (suc j) (omega (arith, below)) (sym (ap (image_byte i) (next j)) ∙ zero-byte)) (ap (image_byte i) (next n) ∙ last) in
     text-first m a i parts.0
     ∙ one-more (image_byte i a) (read_text m i (a + 1)) (λ zero-byte. some 0 (omega arith) (sym (ap (image_byte i) here) ∙ zero-byte))
     ∙ ap (option_map (λ bytes. image_byte i a ∷ bytes)) rest
@@ -132,7 +133,8 @@ text-not (suc m) a i some =
     let next : (j : ℕ) → a + 1 + j ≡ a + suc j = λ j. omega arith in
     text-goes-on m a i (may Load i a) refl
     (λ is zero-byte. some 0 (omega arith) (reaches-first i a 0 ∙ and_from (may Load i a) (reaches Load i (a + 1) 0) is (reaches-none Load i (a + 1))) (sym (ap (image_byte i) here) ∙ zero-byte))
-    (λ is. text-not m (a + 1) i (λ k lt all zero-byte. some (suc k) (omega (arith, lt)) (reaches-first i a (suc k) ∙ and_from (may Load i a) (reaches Load i (a + 1) (suc k)) is all) (sym (ap (image_byte i) (next k)) ∙ zero-byte)))
+    (λ is. text-not m (a + 1) i (λ k lt all zero-byte. some (suc k) (omega (arith, lt))
+    (reaches-first i a (suc k) ∙ and_from (may Load i a) (reaches Load i (a + 1) (suc k)) is all) (sym (ap (image_byte i) (next k)) ∙ zero-byte)))
 
 ends-if : (i : Image) (a k : ℕ) → reaches Load i a (suc k) ≡ true → image_byte i (a + k) ≡ 0 → ends_after i a k ≡ true
 ends-if i a k all is =
@@ -141,7 +143,7 @@ ends-if i a k all is =
 
 read-none : (i : Image) (a limit : ℕ) → text_length i a limit ≡ None → read_text limit i a ≡ None
 unfolding text_length
-read-none i a limit none = text-not limit a i (λ k lt all zero-byte. false≢true (sym (none_passes limit (ends_after i a) none k lt) ∙ ends-if i a k all zero-byte))
+read-none i a limit none = text-not limit a i (λ k lt all zero-byte. false≢true (sym (none_below (ends_after i a) limit none k lt) ∙ ends-if i a k all zero-byte))
 
 eqb-is : (b : ℕ) → (b == 0) ≡ true → b ≡ 0
 eqb-is b e = elim (cases_eq b 0) [

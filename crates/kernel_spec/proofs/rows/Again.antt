@@ -1,9 +1,10 @@
 -- A process that waits, and isn't ready, waits again and changes nothing.
 use Rattle.std.proofs.Common.{◌≡◌, ℕ, suc, ◌<◌, ◌≤◌, ◌+◌, ◌-◌, ◌++◌, Bool, true, false, cond, not, ◌&&◌, ◌||◌, List, [], ◌∷◌, length, refl, ap, sym, ◌∙◌, subst, arith, inl, inr, lt-ltb}
 use Rattle.std.specs.Prelude.{Option, None, Some, ℤ, pos, negsuc, nat_eq, nat_lt, nat_le, is_some, min, slice_get, take, drop, option_map}
-use Rattle.std.proofs.lemmas.Bool.{ltb-true, or_parts}
+use Rattle.std.proofs.lemmas.Bool.{ltb-true, or_parts, cond-false, cond-true, ltb-false, not-false}
 use Rattle.std.proofs.lemmas.Bool.Decides.{leb_tells}
 use Rattle.std.proofs.lemmas.List.{append-nil, length-take}
+use Rattle.std.proofs.lemmas.Option.{same_Some}
 use Rattle.xk_base.specs.declared.limits.TheConstants.{PIPE_BYTES, SEND_BYTES}
 use Rattle.xk_base.specs.Image.{Image}
 use Rattle.xk_base.specs.Bytes.{write_image}
@@ -18,31 +19,27 @@ use Rattle.kernel_spec.specs.views.Programs.{program_bytes}
 use Rattle.kernel_spec.specs.views.Processes.{Live, child_status}
 use Rattle.kernel_spec.specs.views.State.{State, live}
 use Rattle.kernel_spec.specs.views.View.{View, Descriptor, Shown, Shown_terminal, Shown_file, Shown_pipe, view, view_of, in_use}
-use Rattle.kernel_spec.specs.steps.Own.{Own, Blocked, goes_on}
-use Rattle.kernel_spec.specs.rows.Tables.{advance, change_pipe, changed, change_shown}
+use Rattle.kernel_spec.specs.steps.Own.{Blocked, goes_on}
+use Rattle.kernel_spec.specs.rows.Tables.{advance, change_pipe}
 use Rattle.kernel_spec.specs.rows.Calls.{Row, Wait, Read, Write, Sleep, row_of, refused, done, waits, least_zombie, has_child, done_at, next_bytes}
 use Rattle.kernel_spec.specs.steps.Step.{own, unless_killed, going_on}
 use Rattle.kernel_spec.specs.waking.Ready.{ready, call_ready, row_ready, on_shown, can_read, can_write}
 use Rattle.kernel_spec.specs.laws.Worlds.{SameRest, SameDescriptors, bare, bare_shown, UnreadyWaits}
 use Rattle.kernel_spec.proofs.rows.Falls.{Falls, falls_done, falls_unless, falls_moving, falls_cond, own_falls}
-use Rattle.kernel_spec.proofs.steps.SamePipe.{shown_of, unchanged_by}
-use Rattle.kernel_spec.proofs.steps.Writes.{writable_written}
-use Rattle.kernel_spec.proofs.rows.RowParts.{IsSettled, perform_parts, perform_row, unless, reaped, told, without_child, wait_parts, read_parts, read_on, read_from, read_line, moving, unless_nothing, write_parts, write_on, write_to, write_terminal, write_pipe, length_of_int, sleep_parts, sleep_for}
+use Rattle.kernel_spec.proofs.steps.OneNameOnePipe.{shown_of, unchanged_by}
+use Rattle.kernel_spec.proofs.steps.WritesKeepRights.{writable_written}
+use Rattle.kernel_spec.proofs.rows.RowParts.{IsSettled, perform_parts, perform_row, unless, reaped, wait_parts, read_parts, read_on}
+use Rattle.kernel_spec.proofs.rows.RowParts.{read_from, read_line, moving, unless_nothing, write_parts, write_on, write_to, write_terminal}
+use Rattle.kernel_spec.proofs.rows.RowParts.{write_pipe, length_of_int, sleep_parts, sleep_for, told, without_child}
 use Rattle.kernel_spec.specs.rows.Terminal.{room_for}
 use Rattle.kernel_spec.proofs.rows.RowsByParts.{perform_same}
 use Rattle.kernel_spec.proofs.rows.SettledWaits.{still_settled, settled_written}
 use Rattle.kernel_spec.specs.steps.Ticks.{ticks_since, has_passed}
+use Rattle.kernel_spec.proofs.rows.BareDescriptors.{bare_alike, bare_changed, in_use_bare}
 
 -- whoever is in such a view, and is not ready, waits again
 abbrev pub Again : View → ℤ → Type 0
 Again n k = (s : State) (p : ℕ) (m : View) → view s p ≡ Some m → SameRest m n → SameDescriptors m n → ready m ≡ false → own m ≡ goes_on (Blocked k) m
-
-not_false : (b : Bool) → not b ≡ false → b ≡ true
-not_false true e = refl
-not_false false e = let no : ⊥ = cc in absurd no
-
-one_of : (a b : View) → Some a ≡ Some b → a ≡ b
-one_of a b e = cc
 
 -- ---- what is known of the view m in which a call c is in progress that isn't ready
 
@@ -51,7 +48,7 @@ stays : (c : Call) (m : View) → m.call ≡ Some c → waits c c.moved m ≡ go
 stays c m e = λ i. goes_on (Blocked c.number) (record m { call = sym e i })
 
 -- its row is what its step does, where no page of its buffer is absent
-by_perform : (c : Call) (r : Row) (m : View) → m.killed ≡ false → m.call ≡ Some c → IsSettled c m → row_of c.number ≡ Some r → own m ≡ perform_row c m (Some r)
+pub by_perform : (c : Call) (r : Row) (m : View) → m.killed ≡ false → m.call ≡ Some c → IsSettled c m → row_of c.number ≡ Some r → own m ≡ perform_row c m (Some r)
 unfolding own perform_parts
 by_perform c r m alive busy settled row = ap (unless_killed m) alive ∙ ap (going_on m) busy ∙ perform_same c m settled ∙ ap (perform_row c m) row
 
@@ -65,7 +62,7 @@ falls_waits : (r : Row) (c : Call) (moved : ℕ) (u : View) → IsSettled c u �
 unfolding ready
 falls_waits r c moved u settled row h k n a e s p m see rest same shut =
     let now : Call = record c { moved = moved } in
-    let is : record u { call = Some now } ≡ n = one_of (record u { call = Some now }) n e in
+    let is : record u { call = Some now } ≡ n = same_Some (record u { call = Some now }) n e in
     let parts = or_parts m.killed (call_ready m m.call) shut in
     let busy : m.call ≡ Some now = rest.3 ∙ sym (ap (λ (x : View). x.call) is) in
     let unready : row_ready m now (Some r) ≡ false = sym (ap (row_ready m now) row) ∙ sym (ap (call_ready m) busy) ∙ parts.1 in
@@ -96,17 +93,11 @@ is_sleep : (c : Call) (m : View) → perform_row c m (Some Sleep) ≡ sleep_part
 unfolding perform_row
 is_sleep c m = refl
 
-pick : (b : Bool) (x y : Own) → b ≡ true → cond b x y ≡ x
-pick b x y e = ap (λ (t : Bool). cond t x y) e
-
-pick_no : (b : Bool) (x y : Own) → b ≡ false → cond b x y ≡ y
-pick_no b x y e = ap (λ (t : Bool). cond t x y) e
-
 -- ---- wait
 
 no_zombie : (c : Call) (m : View) (o : Option ℕ) → (is_some o || not (has_child m)) ≡ false → reaped c m o ≡ waits c 0 m
 no_zombie c m (Some q) e = let no : ⊥ = cc in absurd no
-no_zombie c m None e = ap (λ (b : Bool). cond b (waits c 0 m) (refused c m)) (not_false (has_child m) e)
+no_zombie c m None e = ap (λ (b : Bool). cond b (waits c 0 m) (refused c m)) (not-false (has_child m) e)
 
 module _ (c : Call) (v : View) (alive : v.killed ≡ false) (settled : IsSettled c v) where
   wait_by : row_of c.number ≡ Some Wait → (not (nat_eq c.a0 0) && not (writable v.image c.a0 4)) ≡ false → (o : Option ℕ) → Falls Again (reaped c v o)
@@ -132,33 +123,10 @@ zero_more n = omega arith
 under : (a b : ℕ) → nat_le a b ≡ false → nat_lt b a ≡ true
 under a b e = elim (leb_tells a b) [ inl h ↦ let yes : nat_le a b ≡ true = h.0 in let no : ⊥ = cc in absurd no | inr h ↦ lt-ltb b a h.1 ]
 
-not_under : (a b : ℕ) → nat_lt a b ≡ false → b ≤ a
-not_under a b e = elim (leb_tells b a) [ inl h ↦ h.1 | inr h ↦ let yes : nat_lt a b ≡ true = lt-ltb a b h.1 in let no : ⊥ = cc in absurd no ]
-
 no_room : (x had bound : ℕ) → nat_lt had bound ≡ false → min x (bound - had) ≡ 0
-no_room x had bound e = let full : bound ≤ had = not_under had bound e in omega arith
+no_room x had bound e = let full : bound ≤ had = ltb-false had bound e in omega arith
 
 -- ---- descriptors
-
-in_use_bare : (m u : View) → SameDescriptors m u → (z : ℤ) → bare (in_use m z) ≡ bare (in_use u z)
-in_use_bare m u same (pos d) = same d
-in_use_bare m u same (negsuc k) = refl
-
-abbrev read_of : Option Descriptor → Bool
-read_of None = true
-read_of (Some d) = d.read
-
-abbrev write_of : Option Descriptor → Bool
-write_of None = true
-write_of (Some d) = d.write
-
-abbrev shown_in : Option Descriptor → Shown
-shown_in None = Shown_terminal
-shown_in (Some d) = d.shown
-
-found : (o : Option Descriptor) (d : Descriptor) → bare o ≡ bare (Some d) → (e : Descriptor) × (o ≡ Some e) × (e.read ≡ d.read) × (e.write ≡ d.write) × (bare_shown e.shown ≡ bare_shown d.shown)
-found None d h = let no : ⊥ = cc in absurd no
-found (Some e) d h = (e, refl, ap read_of h, ap write_of h, ap shown_in h)
 
 terminal_like : (x : Shown) → bare_shown x ≡ Shown_terminal → x ≡ Shown_terminal
 terminal_like Shown_terminal e = refl
@@ -207,12 +175,14 @@ pull_short : (first : Bool) (n : ℕ) (bytes : List ℕ) → (pulled first n byt
 pull_short first n bytes h = by (nat_le n (line_length bytes)) refl h
   where
     rest : (o : Option ℕ) → line_length bytes < n → (up_to first bytes (line_length bytes) o).ended ≡ false → length (up_to first bytes (line_length bytes) o).taken < n
-    rest None low g = let k : ℕ = line_length bytes in let t : ℕ = length (take k bytes) in let b : ℕ = length bytes in let e : t ≡ min k b = length-take k bytes in let less : k < n = low in let goal : t < n = omega arith in goal
+    rest None low g = let k : ℕ = line_length bytes in let t : ℕ = length (take k bytes) in let b : ℕ = length bytes in
+        let e : t ≡ min k b = length-take k bytes in let less : k < n = low in let goal : t < n = omega arith in goal
     rest (Some byte) low g = inner (nat_eq byte 10) (first && nat_eq (line_length bytes) 0) g
       where
         inner : (x y : Bool)
             → (cond x (first_bytes (line_length bytes + 1) true bytes) (cond y (record { taken = []; ended = true; left = drop 1 bytes }) (first_bytes (line_length bytes) true bytes))).ended ≡ false
-            → length (cond x (first_bytes (line_length bytes + 1) true bytes) (cond y (record { taken = []; ended = true; left = drop 1 bytes }) (first_bytes (line_length bytes) true bytes))).taken < n
+            → length (cond x (first_bytes (line_length bytes + 1) true bytes)
+            (cond y (record { taken = []; ended = true; left = drop 1 bytes }) (first_bytes (line_length bytes) true bytes))).taken < n
         inner true y f = let no : ⊥ = cc in absurd no
         inner false true f = let no : ⊥ = cc in absurd no
         inner false false f = let no : ⊥ = cc in absurd no
@@ -222,31 +192,36 @@ pull_short first n bytes h = by (nat_le n (line_length bytes)) refl h
     by true e g = let no : ⊥ = cc in absurd no
     by false e g = rest (slice_get bytes (line_length bytes)) (ltb-true (line_length bytes) n (under n (line_length bytes) e)) g
 
-module _ (c : Call) (v : View) (settled : IsSettled c v) (row : row_of c.number ≡ Some Read) (d : Descriptor) (on : in_use v (c_int c.a0) ≡ Some d) (reads : not d.read ≡ false) (n : ℕ) (size : c_int c.a2 ≡ pos n) (some : nat_eq n 0 ≡ false) (there : not (writable v.image c.a1 (length_of_int (c_int c.a2))) ≡ false) where
+module _ (c : Call) (v : View) (settled : IsSettled c v) (row : row_of c.number ≡ Some Read) (d : Descriptor) (on : in_use v (c_int c.a0) ≡ Some d)
+    (reads : not d.read ≡ false) (n : ℕ) (size : c_int c.a2 ≡ pos n) (some : nat_eq n 0 ≡ false)
+    (there : not (writable v.image c.a1 (length_of_int (c_int c.a2))) ≡ false) where
   pipe_read : (name : ℕ) (end : End) (pipe : Pipe) → d.shown ≡ Shown_pipe name end pipe → Waits_on Read (record c { moved = 0 }) v
   pipe_read name end pipe shows s p m see image same shut =
       let now : Call = record c { moved = 0 } in
-      let here = found (in_use m (c_int c.a0)) d (in_use_bare m v same (c_int c.a0) ∙ ap bare on) in
+      let here = bare_alike (in_use m (c_int c.a0)) d (in_use_bare m v same (c_int c.a0) ∙ ap bare on) in
       let e : Descriptor = here.0 in
       let shown = pipe_like e.shown name end _ (here.4 ∙ ap bare_shown shows) in
       let empty : has_bytes shown.0 ≡ false = sym (ap (on_shown (can_read m)) here.1 ∙ ap (can_read m) shown.1) ∙ shut in
       read_again now m e n (Shown_pipe name end shown.0) here.1 (ap not here.2 ∙ reads) size some (ap (λ (i : Image). not (writable i c.a1 (length_of_int (c_int c.a2)))) image ∙ there) shown.1
-      ∙ pick (not (has_bytes shown.0)) (waits now 0 m) _ (ap not empty)
+      ∙ cond-true (not (has_bytes shown.0)) (waits now 0 m) _ (ap not empty)
 
-  line_read : (k : ℕ) (u : View) (a : ℕ) (bytes : List ℕ) → d.shown ≡ Shown_terminal → 0 < n - k → u.image ≡ write_image v.image a bytes → u.descriptors ≡ v.descriptors → Waits_on Read (record c { moved = k }) u
+  line_read : (k : ℕ) (u : View) (a : ℕ) (bytes : List ℕ) → d.shown ≡ Shown_terminal → 0 < n - k → u.image ≡ write_image v.image a bytes
+      → u.descriptors ≡ v.descriptors → Waits_on Read (record c { moved = k }) u
   line_read k u a bytes shows more image_u table_u s p m see image same shut =
       let now : Call = record c { moved = k } in
-      let here = found (in_use m (c_int c.a0)) d (in_use_bare m v (λ x. same x ∙ ap (λ (t : ℕ → Option Descriptor). bare (t x)) table_u) (c_int c.a0) ∙ ap bare on) in
+      let here = bare_alike (in_use m (c_int c.a0)) d (in_use_bare m v (λ x. same x ∙ ap (λ (t : ℕ → Option Descriptor). bare (t x)) table_u) (c_int c.a0) ∙ ap bare on) in
       let e : Descriptor = here.0 in
       let shown = terminal_like e.shown (here.4 ∙ ap bare_shown shows) in
       let shuts : nat_lt 0 (length m.console.committed) ≡ false = sym (ap (on_shown (can_read m)) here.1 ∙ ap (can_read m) shown) ∙ shut in
-      let still : not (writable m.image c.a1 (length_of_int (c_int c.a2))) ≡ false = ap (λ (i : Image). not (writable i c.a1 (length_of_int (c_int c.a2)))) (image ∙ image_u) ∙ ap not (writable_written bytes v.image a c.a1 (length_of_int (c_int c.a2))) ∙ there in
+      let still : not (writable m.image c.a1 (length_of_int (c_int c.a2))) ≡ false =
+      ap (λ (i : Image). not (writable i c.a1 (length_of_int (c_int c.a2)))) (image ∙ image_u)
+      ∙ ap not (writable_written bytes v.image a c.a1 (length_of_int (c_int c.a2))) ∙ there in
       read_again now m e n Shown_terminal here.1 (ap not here.2 ∙ reads) size some still shown
       ∙ line_waits now m n more (no_bytes m.console.committed shuts)
     where
       no_bytes : (xs : List ℕ) → nat_lt 0 (length xs) ≡ false → xs ≡ []
       no_bytes [] e = refl
-      no_bytes (x ∷ xs) e = let k : ℕ = length xs in let low : suc k ≤ 0 = not_under 0 (suc k) e in absurd (omega arith)
+      no_bytes (x ∷ xs) e = let k : ℕ = length xs in let low : suc k ≤ 0 = ltb-false 0 (suc k) e in absurd (omega arith)
 
   abbrev taken_view : Pulled → View
   taken_view q = record v { image = write_image v.image (c.a1 + c.moved) q.taken; console = record v.console { committed = q.left } }
@@ -257,16 +232,21 @@ module _ (c : Call) (v : View) (settled : IsSettled c v) (row : row_of c.number 
       line : (q : Pulled) → (q.ended ≡ false → length q.taken < n - c.moved) → Falls Again (read_line c v q)
       line q short = falls_cond Again q.ended _ _ (λ _. falls_done Again c (pos (c.moved + length q.taken)) (taken_view q))
           (λ over. falls_waits Read c (c.moved + length q.taken) (taken_view q) (settled_written c v q.taken (c.a1 + c.moved) settled) row
-          (line_read (c.moved + length q.taken) (taken_view q) (c.a1 + c.moved) q.taken shows (let t : ℕ = length q.taken in let less : t < n - c.moved = short over in let goal : 0 < n - (c.moved + t) = omega arith in goal) refl refl))
+          (line_read (c.moved + length q.taken) (taken_view q) (c.a1 + c.moved) q.taken shows
+          (let t : ℕ = length q.taken in let less : t < n - c.moved = short over in let goal : 0 < n - (c.moved + t) = omega arith in goal) refl refl))
   read_by (Shown_file program offset) shows =
       let bytes : List ℕ = take n (drop offset (program_bytes (slice_get v.programs program))) in
       falls_done Again c (pos (length bytes)) (record v { image = write_image v.image c.a1 bytes; descriptors = advance d.file (length bytes) v.descriptors })
   read_by (Shown_pipe name end pipe) shows = falls_cond Again (not (has_bytes pipe)) (waits c 0 v) _ (λ _. falls_waits Read c 0 v settled row (pipe_read name end pipe shows))
-      (λ _. falls_done Again c (pos (there_in pipe n)) (record v { image = write_image v.image c.a1 (take (there_in pipe n) pipe.bytes); descriptors = change_pipe name (without_first (there_in pipe n) pipe) v.descriptors }))
+      (λ _. falls_done Again c (pos (there_in pipe n)) (record v {
+        image = write_image v.image c.a1 (take (there_in pipe n) pipe.bytes);
+        descriptors = change_pipe name (without_first (there_in pipe n) pipe) v.descriptors;
+      }))
 
 read_on_row : (c : Call) (v : View) → IsSettled c v → row_of c.number ≡ Some Read → (o : Option Descriptor) → in_use v (c_int c.a0) ≡ o → Falls Again (read_on c v o)
 read_on_row c v settled row None on = falls_done Again c _ v
-read_on_row c v settled row (Some d) on = falls_unless Again (not d.read) c v _ (λ reads. falls_moving Again c v (writable v.image c.a1 (length_of_int (c_int c.a2))) (c_int c.a2) (λ n. read_from c v n d.file d.shown)
+read_on_row c v settled row (Some d) on = falls_unless Again (not d.read) c v _
+    (λ reads. falls_moving Again c v (writable v.image c.a1 (length_of_int (c_int c.a2))) (c_int c.a2) (λ n. read_from c v n d.file d.shown)
     (λ n size some there. read_by c v settled row d on reads n size some there d.shown refl))
 
 -- ---- write
@@ -289,16 +269,19 @@ module _ (c : Call) (m : View) (n : ℕ) (more : nat_le n c.moved ≡ false) whe
   full_console full =
       ap (λ (k : ℕ). done_at c n (c.moved + k) (sent_view (m.console.to_send ++ next_bytes c m k))) (no_room (n - c.moved) (length m.console.to_send) SEND_BYTES full)
       ∙ (λ i. done_at c n (zero_more c.moved i) (sent_view (append-nil m.console.to_send i)))
-      ∙ pick_no (nat_le n c.moved) (done c (pos n) m) (waits c c.moved m) more
+      ∙ cond-false (nat_le n c.moved) (done c (pos n) m) (waits c c.moved m) more
 
-  full_pipe : (name : ℕ) (pipe : Pipe) → (nat_lt (length pipe.bytes) PIPE_BYTES || nat_eq pipe.readers 0) ≡ false → change_pipe name pipe m.descriptors ≡ m.descriptors → write_pipe c m name pipe n ≡ waits c c.moved m
+  full_pipe : (name : ℕ) (pipe : Pipe) → (nat_lt (length pipe.bytes) PIPE_BYTES || nat_eq pipe.readers 0) ≡ false
+      → change_pipe name pipe m.descriptors ≡ m.descriptors → write_pipe c m name pipe n ≡ waits c c.moved m
   full_pipe name pipe full same =
       let parts = or_parts (nat_lt (length pipe.bytes) PIPE_BYTES) (nat_eq pipe.readers 0) full in
-      ap (λ (b : Bool). unless b c m (λ _. done_at c n (c.moved + fit pipe (n - c.moved)) (record m { descriptors = change_pipe name (with_more (next_bytes c m (fit pipe (n - c.moved))) pipe) m.descriptors }))) parts.1
-      ∙ ap (λ (k : ℕ). done_at c n (c.moved + k) (record m { descriptors = change_pipe name (with_more (next_bytes c m k) pipe) m.descriptors })) (no_room (n - c.moved) (length pipe.bytes) PIPE_BYTES parts.0)
+      ap (λ (b : Bool). unless b c m (λ _. done_at c n (c.moved + fit pipe (n - c.moved))
+      (record m { descriptors = change_pipe name (with_more (next_bytes c m (fit pipe (n - c.moved))) pipe) m.descriptors }))) parts.1
+      ∙ ap (λ (k : ℕ). done_at c n (c.moved + k) (record m { descriptors = change_pipe name (with_more (next_bytes c m k) pipe) m.descriptors }))
+      (no_room (n - c.moved) (length pipe.bytes) PIPE_BYTES parts.0)
       ∙ (λ i. done_at c n (zero_more c.moved i) (record m { descriptors = change_pipe name (record pipe { bytes = append-nil pipe.bytes i }) m.descriptors }))
       ∙ (λ i. done_at c n c.moved (record m { descriptors = same i }))
-      ∙ pick_no (nat_le n c.moved) (done c (pos n) m) (waits c c.moved m) more
+      ∙ cond-false (nat_le n c.moved) (done c (pos n) m) (waits c c.moved m) more
 
 -- a pipe that the view shows, put in its own place
 module _ (s : State) (p : ℕ) (d name : ℕ) (end : End) (x : Pipe) where
@@ -309,45 +292,39 @@ module _ (s : State) (p : ℕ) (d name : ℕ) (end : End) (x : Pipe) where
   put_back_in : (o : Option Live) (m : View) → option_map (view_of s p) o ≡ Some m → shown_of (m.descriptors d) ≡ Some (Shown_pipe name end x) → change_pipe name x m.descriptors ≡ m.descriptors
   put_back_in None m see is = let no : ⊥ = cc in absurd no
   put_back_in (Some l) m see is =
-      let same : view_of s p l ≡ m = one_of (view_of s p l) m see in
+      let same : view_of s p l ≡ m = same_Some (view_of s p l) m see in
       subst (λ (u : View). change_pipe name x u.descriptors ≡ u.descriptors) same (put_back l (ap (λ (u : View). shown_of (u.descriptors d)) same ∙ is))
 
 on_number : (m : View) (e : Descriptor) (z : ℤ) → in_use m z ≡ Some e → (d : ℕ) × (m.descriptors d ≡ Some e)
 on_number m e (pos d) h = (d, h)
 on_number m e (negsuc k) h = let no : ⊥ = cc in absurd no
 
-module _ (c : Call) (v : View) (settled : IsSettled c v) (row : row_of c.number ≡ Some Write) (d : Descriptor) (on : in_use v (c_int c.a0) ≡ Some d) (writes : not d.write ≡ false) (n : ℕ) (size : c_int c.a2 ≡ pos n) (some : nat_eq n 0 ≡ false) (there : not (readable v.image c.a1 (length_of_int (c_int c.a2))) ≡ false) where
+module _ (c : Call) (v : View) (settled : IsSettled c v) (row : row_of c.number ≡ Some Write) (d : Descriptor) (on : in_use v (c_int c.a0) ≡ Some d)
+    (writes : not d.write ≡ false) (n : ℕ) (size : c_int c.a2 ≡ pos n) (some : nat_eq n 0 ≡ false)
+    (there : not (readable v.image c.a1 (length_of_int (c_int c.a2))) ≡ false) where
   module _ (k : ℕ) (more : nat_le n k ≡ false) (u : View) (image_u : u.image ≡ v.image) (table_u : (x : ℕ) → bare (u.descriptors x) ≡ bare (v.descriptors x)) where
     abbrev now : Call
     now = record c { moved = k }
 
     pipe_write : (name : ℕ) (end : End) (pipe : Pipe) → d.shown ≡ Shown_pipe name end pipe → Waits_on Write now u
     pipe_write name end pipe shows s p m see image same shut =
-        let here = found (in_use m (c_int c.a0)) d (in_use_bare m v (λ x. same x ∙ table_u x) (c_int c.a0) ∙ ap bare on) in
+        let here = bare_alike (in_use m (c_int c.a0)) d (in_use_bare m v (λ x. same x ∙ table_u x) (c_int c.a0) ∙ ap bare on) in
         let e : Descriptor = here.0 in
         let shown = pipe_like e.shown name end _ (here.4 ∙ ap bare_shown shows) in
         let full : (nat_lt (length shown.0.bytes) PIPE_BYTES || nat_eq shown.0.readers 0) ≡ false = sym (ap (on_shown (can_write m)) here.1 ∙ ap (can_write m) shown.1) ∙ shut in
         let place = on_number m e (c_int c.a0) here.1 in
-        write_again now m e n (Shown_pipe name end shown.0) here.1 (ap not here.3 ∙ writes) size some (ap (λ (i : Image). not (readable i c.a1 (length_of_int (c_int c.a2)))) (image ∙ image_u) ∙ there) shown.1
+        write_again now m e n (Shown_pipe name end shown.0) here.1 (ap not here.3 ∙ writes) size some
+        (ap (λ (i : Image). not (readable i c.a1 (length_of_int (c_int c.a2)))) (image ∙ image_u) ∙ there) shown.1
         ∙ full_pipe now m n more name shown.0 full (put_back_in s p place.0 name end shown.0 (live s p) m see (ap shown_of place.1 ∙ ap Some shown.1))
 
     terminal_write : d.shown ≡ Shown_terminal → Waits_on Write now u
     terminal_write shows s p m see image same shut =
-        let here = found (in_use m (c_int c.a0)) d (in_use_bare m v (λ x. same x ∙ table_u x) (c_int c.a0) ∙ ap bare on) in
+        let here = bare_alike (in_use m (c_int c.a0)) d (in_use_bare m v (λ x. same x ∙ table_u x) (c_int c.a0) ∙ ap bare on) in
         let e : Descriptor = here.0 in
         let shown = terminal_like e.shown (here.4 ∙ ap bare_shown shows) in
         let full : nat_lt (length m.console.to_send) SEND_BYTES ≡ false = sym (ap (on_shown (can_write m)) here.1 ∙ ap (can_write m) shown) ∙ shut in
         write_again now m e n Shown_terminal here.1 (ap not here.3 ∙ writes) size some (ap (λ (i : Image). not (readable i c.a1 (length_of_int (c_int c.a2)))) (image ∙ image_u) ∙ there) shown
         ∙ full_console now m n more full
-
-  bare_changed : (f : ℕ → Pipe → Pipe) (o : Option Descriptor) → bare (changed f o) ≡ bare o
-  bare_changed f None = refl
-  bare_changed f (Some e) = ap (λ (x : Shown). Some (record e { shown = x })) (by e.shown)
-    where
-      by : (x : Shown) → bare_shown (change_shown f x) ≡ bare_shown x
-      by Shown_terminal = refl
-      by (Shown_file program offset) = refl
-      by (Shown_pipe name end pipe) = refl
 
   abbrev room : ℕ
   room = room_for v.console (n - c.moved)
@@ -363,13 +340,15 @@ module _ (c : Call) (v : View) (settled : IsSettled c v) (row : row_of c.number 
       (λ more. falls_waits Write c (c.moved + room) sending settled row (terminal_write (c.moved + room) more sending refl (λ x. refl) shows))
   write_by (Shown_file program offset) shows = falls_done Again c minus_one v
   write_by (Shown_pipe name end pipe) shows = falls_unless Again (nat_eq pipe.readers 0) c v (λ _. done_at c n (c.moved + fit pipe (n - c.moved)) (pushed name pipe))
-      (λ _. falls_cond Again (nat_le n (c.moved + fit pipe (n - c.moved))) (done c (pos n) (pushed name pipe)) (waits c (c.moved + fit pipe (n - c.moved)) (pushed name pipe)) (λ _. falls_done Again c (pos n) (pushed name pipe))
+      (λ _. falls_cond Again (nat_le n (c.moved + fit pipe (n - c.moved))) (done c (pos n) (pushed name pipe))
+      (waits c (c.moved + fit pipe (n - c.moved)) (pushed name pipe)) (λ _. falls_done Again c (pos n) (pushed name pipe))
       (λ more. falls_waits Write c (c.moved + fit pipe (n - c.moved)) (pushed name pipe) settled row
       (pipe_write (c.moved + fit pipe (n - c.moved)) more (pushed name pipe) refl (λ x. bare_changed _ (v.descriptors x)) name end pipe shows)))
 
 write_on_row : (c : Call) (v : View) → IsSettled c v → row_of c.number ≡ Some Write → (o : Option Descriptor) → in_use v (c_int c.a0) ≡ o → Falls Again (write_on c v o)
 write_on_row c v settled row None on = falls_done Again c _ v
-write_on_row c v settled row (Some d) on = falls_unless Again (not d.write) c v _ (λ writes. falls_moving Again c v (readable v.image c.a1 (length_of_int (c_int c.a2))) (c_int c.a2) (λ n. write_to c v n d.shown)
+write_on_row c v settled row (Some d) on = falls_unless Again (not d.write) c v _
+    (λ writes. falls_moving Again c v (readable v.image c.a1 (length_of_int (c_int c.a2))) (c_int c.a2) (λ n. write_to c v n d.shown)
     (λ n size some there. write_by c v settled row d on writes n size some there d.shown refl))
 
 -- ---- sleep
@@ -381,11 +360,13 @@ sleep_by c v settled row z is = falls_cond Again (not (has_passed (ticks_since v
     still s p m see image same shut =
         let now : Call = record c { moved = 0 } in
         is_sleep now m ∙ ap (sleep_for now m) is
-        ∙ pick (not (has_passed (ticks_since m.clock c.clock) z)) (waits now 0 m) (done now (pos 0) m) (ap not (sym (ap (has_passed (ticks_since m.clock c.clock)) is) ∙ shut))
+        ∙ cond-true (not (has_passed (ticks_since m.clock c.clock) z)) (waits now 0 m) (done now (pos 0) m) (ap not (sym (ap (has_passed (ticks_since m.clock c.clock)) is) ∙ shut))
 
 -- ---- every step
 
 pub unready_waits : UnreadyWaits
 unready_waits s p v n m number answer next see rest same shut =
-    own_falls Again (λ c u alive settled row. wait_row c u alive settled row) (λ c u alive settled row. read_on_row c u settled row (in_use u (c_int c.a0)) refl) (λ c u alive settled row. write_on_row c u settled row (in_use u (c_int c.a0)) refl)
+    own_falls Again (λ c u alive settled row. wait_row c u alive settled row)
+    (λ c u alive settled row. read_on_row c u settled row (in_use u (c_int c.a0)) refl)
+    (λ c u alive settled row. write_on_row c u settled row (in_use u (c_int c.a0)) refl)
     (λ c u alive settled row. sleep_by c u settled row (c_int c.a0) refl) v number n answer next s p m see rest same shut

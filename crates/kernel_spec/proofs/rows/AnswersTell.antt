@@ -1,6 +1,7 @@
 -- What the answer of a step tells of what the step leaves.
 use Rattle.std.proofs.Common.{◌≡◌, ℕ, ◌<◌, arith, get_or, Bool, true, false, Option, None, Some, inl, inr, refl, ap, sym, ◌∙◌, subst}
-use Rattle.std.specs.Prelude.{ℤ, pos, IsSome, is_some, Contains}
+use Rattle.std.specs.Prelude.{ℤ, pos, IsSome, Contains}
+use Rattle.std.proofs.lemmas.Option.{same_Some}
 use Rattle.proc_table.specs.declared.process.Call.{Call}
 use Rattle.kernel_spec.specs.views.Words.{minus_one}
 use Rattle.kernel_spec.specs.views.View.{View}
@@ -13,9 +14,7 @@ use Rattle.kernel_spec.specs.rows.Calls.{with_a0}
 use Rattle.kernel_spec.specs.views.Words.{word}
 use Rattle.kernel_spec.proofs.rows.Outcomes.{StepComes, in_call, may_wait, own_comes}
 use Rattle.kernel_spec.proofs.rows.RowNumbers.{row-number}
-
-same_view : (a b : View) → Some a ≡ Some b → a ≡ b
-same_view a b e = cc
+use Rattle.kernel_spec.proofs.Common.{none_has_no_value}
 
 not_gone : (a : Answer) (number value : ℤ) → IsSome (gone_with a) → a ≡ Called number value → ⊥
 not_gone a number value goes is = let no : IsSome (gone_with (Called number value)) = subst (λ (x : Answer). IsSome (gone_with x)) is goes in let bad : ⊥ = cc in bad
@@ -34,15 +33,18 @@ module _ (v : View) (number : ℤ) where
       number_is : Called (call_or_begun v call).number minus_one ≡ Called number minus_one → (call_or_begun v call).number ≡ number
       number_is e = cc
 
-      by : (call : Option Call) → refused (call_or_begun v call) (in_call v call) ≡ goes_on (Called (call_or_begun v call).number minus_one) (record v { regs = with_a0 (regs_in_call v call) (word minus_one); call = None })
+      by : (call : Option Call) → refused (call_or_begun v call) (in_call v call) ≡ goes_on (Called (call_or_begun v call).number minus_one)
+          (record v { regs = with_a0 (regs_in_call v call) (word minus_one); call = None })
       by None = refl
       by (Some c) = refl
 
   by_outcome : (call : Option Call) (o : Own) → StepComes v call o → o.answer ≡ Called number minus_one → NothingElse call o
   by_outcome call o (inl step) answer = let no : Stepped ≡ Called number minus_one = sym step.answer ∙ answer in let bad : ⊥ = cc in absurd bad
   by_outcome call o (inr (inl is)) answer = refused_call call o answer is
-  by_outcome call o (inr (inr (inl done))) answer = let no : Called (call_or_begun v call).number (pos done.value) ≡ Called number minus_one = sym done.answer ∙ answer in let bad : ⊥ = cc in absurd bad
-  by_outcome call o (inr (inr (inr (inl waits)))) answer = let no : Blocked (call_or_begun v call).number ≡ Called number minus_one = sym (ap (λ (x : Own). x.answer) waits.is) ∙ answer in let bad : ⊥ = cc in absurd bad
+  by_outcome call o (inr (inr (inl done))) answer = let no : Called (call_or_begun v call).number (pos done.value) ≡ Called number minus_one =
+      sym done.answer ∙ answer in let bad : ⊥ = cc in absurd bad
+  by_outcome call o (inr (inr (inr (inl waits)))) answer = let no : Blocked (call_or_begun v call).number ≡ Called number minus_one =
+      sym (ap (λ (x : Own). x.answer) waits.is) ∙ answer in let bad : ⊥ = cc in absurd bad
   by_outcome call o (inr (inr (inr (inr gone)))) answer = absurd (not_gone o.answer number minus_one gone.ends answer)
 
 pub refusals_change_nothing : RefusalsChangeNothing
@@ -54,16 +56,13 @@ refusals_change_nothing v number answer = by_outcome v number v.call (own v) (ow
 abbrev Tells : Answer → Option Call → Type 0
 Tells answer call = (IsBlocked answer → IsSome call) × (IsSome call → IsBlocked answer)
 
-no_call : (call : Option Call) → call ≡ None → IsSome call → ⊥
-no_call call none some = let no : false ≡ true = sym (ap is_some none) ∙ some in let bad : ⊥ = cc in bad
-
 -- no call, and an answer that is another
 neither : (a b : Answer) (call : Option Call) → a ≡ b → ((number : ℤ) → b ≡ Blocked number → ⊥) → call ≡ None → Tells a call
-neither a b call is apart none = (λ blocked. absurd (apart blocked.0 (sym is ∙ blocked.1)), λ some. absurd (no_call call none some))
+neither a b call is apart none = (λ blocked. absurd (apart blocked.0 (sym is ∙ blocked.1)), λ some. absurd (none_has_no_value call none some))
 
 module _ (v n : View) where
   tells : (call : Option Call) (o : Own) → StepComes v call o → o.next ≡ Some n → Tells o.answer n.call
-  tells call o (inl step) next = neither o.answer Stepped n.call step.answer (λ k e. let no : ⊥ = cc in no) (ap (λ (w : View). w.call) (same_view n step.after (sym next ∙ step.next)) ∙ step.idle)
+  tells call o (inl step) next = neither o.answer Stepped n.call step.answer (λ k e. let no : ⊥ = cc in no) (ap (λ (w : View). w.call) (same_Some n step.after (sym next ∙ step.next)) ∙ step.idle)
   tells call o (inr (inl is)) next =
       let c : Call = call_or_begun v call in
       neither o.answer (Called c.number minus_one) n.call (ap (λ (x : Own). x.answer) is) (λ k e. let no : ⊥ = cc in no) (ap call_of (sym next ∙ ap (λ (x : Own). x.next) is))
@@ -72,9 +71,10 @@ module _ (v n : View) where
       call_of None = None
       call_of (Some w) = w.call
   tells call o (inr (inr (inl done))) next =
-      neither o.answer (Called (call_or_begun v call).number (pos done.value)) n.call done.answer (λ k e. let no : ⊥ = cc in no) (ap (λ (w : View). w.call) (same_view n done.after (sym next ∙ done.next)) ∙ done.idle)
+      neither o.answer (Called (call_or_begun v call).number (pos done.value)) n.call done.answer (λ k e. let no : ⊥ = cc in no)
+      (ap (λ (w : View). w.call) (same_Some n done.after (sym next ∙ done.next)) ∙ done.idle)
   tells call o (inr (inr (inr (inl wait)))) next = (
-    λ blocked. subst (λ (w : View). IsSome w.call) (same_view _ n (sym (ap (λ (x : Own). x.next) wait.is) ∙ next)) refl,
+    λ blocked. subst (λ (w : View). IsSome w.call) (same_Some _ n (sym (ap (λ (x : Own). x.next) wait.is) ∙ next)) refl,
     λ some. ((call_or_begun v call).number, ap (λ (x : Own). x.answer) wait.is),
   )
   tells call o (inr (inr (inr (inr gone)))) next = let no : None ≡ Some n = sym gone.next ∙ next in let bad : ⊥ = cc in absurd bad
@@ -113,13 +113,15 @@ waiting z _ row may = let no : ⊥ = cc in absurd no
 blocked_is : (v n : View) (number : ℤ) (call : Option Call) (o : Own) → StepComes v call o → o.answer ≡ Blocked number → o.next ≡ Some n
     → (moved : ℕ) × (n.call ≡ Some (record (call_or_begun v call) { moved = moved })) × ((call_or_begun v call).number ≡ number) × Contains waiting_calls number
 blocked_is v n number call o (inl step) answer next = let no : Stepped ≡ Blocked number = sym step.answer ∙ answer in let bad : ⊥ = cc in absurd bad
-blocked_is v n number call o (inr (inl is)) answer next = let no : Called (call_or_begun v call).number minus_one ≡ Blocked number = sym (ap (λ (x : Own). x.answer) is) ∙ answer in let bad : ⊥ = cc in absurd bad
-blocked_is v n number call o (inr (inr (inl done))) answer next = let no : Called (call_or_begun v call).number (pos done.value) ≡ Blocked number = sym done.answer ∙ answer in let bad : ⊥ = cc in absurd bad
+blocked_is v n number call o (inr (inl is)) answer next = let no : Called (call_or_begun v call).number minus_one ≡ Blocked number =
+    sym (ap (λ (x : Own). x.answer) is) ∙ answer in let bad : ⊥ = cc in absurd bad
+blocked_is v n number call o (inr (inr (inl done))) answer next = let no : Called (call_or_begun v call).number (pos done.value) ≡ Blocked number =
+    sym done.answer ∙ answer in let bad : ⊥ = cc in absurd bad
 blocked_is v n number call o (inr (inr (inr (inl wait)))) answer next =
     let c : Call = call_or_begun v call in
     let same : c.number ≡ number = number_is (sym (ap (λ (x : Own). x.answer) wait.is) ∙ answer) in (
       wait.moved,
-      sym (ap (λ (w : View). w.call) (same_view _ n (sym (ap (λ (x : Own). x.next) wait.is) ∙ next))),
+      sym (ap (λ (w : View). w.call) (same_Some _ n (sym (ap (λ (x : Own). x.next) wait.is) ∙ next))),
       same,
       subst (λ (z : ℤ). Contains waiting_calls z) same (waiting c.number (row_of c.number) refl wait.row),
     )

@@ -1,7 +1,7 @@
 -- A process that falls asleep isn't ready.
 use Rattle.std.proofs.Common.{◌≡◌, ℕ, suc, ◌<◌, ◌≤◌, ◌+◌, ◌-◌, ◌++◌, Bool, true, false, cond, not, ◌&&◌, ◌||◌, List, [], ◌∷◌, length, refl, ap, sym, ◌∙◌, subst, inl, inr, arith}
 use Rattle.std.specs.Prelude.{Option, None, Some, ℤ, pos, negsuc, nat_eq, nat_lt, nat_le, is_some, min, slice_get, take, drop}
-use Rattle.std.proofs.lemmas.Bool.{eq-eqb, ltb-true}
+use Rattle.std.proofs.lemmas.Bool.{eq-eqb, le-ltb, not-true}
 use Rattle.std.proofs.lemmas.Bool.Decides.{leb_tells}
 use Rattle.xk_base.specs.declared.limits.TheConstants.{PIPE_BYTES, SEND_BYTES}
 use Rattle.kernel_spec.specs.views.Words.{c_int, minus_one}
@@ -11,7 +11,7 @@ use Rattle.kernel_spec.specs.rows.Tables.{advance, change_pipe, changed, change_
 use Rattle.pipe_core.specs.Pipe.{Pipe, without_first, with_more}
 use Rattle.kernel_spec.specs.views.PipeEnds.{fit, there, has_bytes}
 use Rattle.console_core.specs.Reads.{Pulled, pulled, up_to, first_bytes, line_length}
-use Rattle.std.proofs.lemmas.Option.{slice_get_cases}
+use Rattle.std.proofs.lemmas.Option.{slice_get_cases, none-some, same_Some}
 use Rattle.std.proofs.lemmas.List.{drop_all}
 use Rattle.std.proofs.lemmas.List.FromFn.{length-map-range_with_len}
 use Rattle.kernel_spec.specs.rows.Calls.{Row, Wait, Read, Sleep, Write, row_of, refused, done, waits, least_zombie, has_child, done_at, next_bytes}
@@ -35,25 +35,13 @@ Unready n k = ready n ≡ false
 abbrev pub Sleeps_unready : Own → Type 0
 Sleeps_unready o = Falls Unready o
 
-same_view : (a b : View) → Some a ≡ Some b → a ≡ b
-same_view a b e = cc
-
-pub falls_waits : (c : Call) (moved : ℕ) (v : View) → v.killed ≡ false → row_ready (record v { call = Some (record c { moved = moved }) }) (record c { moved = moved }) (row_of c.number) ≡ false → Sleeps_unready (waits c moved v)
+pub falls_waits : (c : Call) (moved : ℕ) (v : View) → v.killed ≡ false
+    → row_ready (record v { call = Some (record c { moved = moved }) }) (record c { moved = moved }) (row_of c.number) ≡ false
+    → Sleeps_unready (waits c moved v)
 unfolding ready
-falls_waits c moved v alive h k n a e = sym (ap ready (same_view (record v { call = Some (record c { moved = moved }) }) n e)) ∙ (λ i. alive i || h i)
+falls_waits c moved v alive h k n a e = sym (ap ready (same_Some (record v { call = Some (record c { moved = moved }) }) n e)) ∙ (λ i. alive i || h i)
 
 -- ---- numbers
-
-not_under : (a b : ℕ) → b ≤ a → nat_lt a b ≡ false
-not_under a b h = by (nat_lt a b) refl
-  where
-    by : (t : Bool) → nat_lt a b ≡ t → t ≡ false
-    by true e = let x : a < b = ltb-true a b e in absurd (omega arith)
-    by false e = refl
-
-not_true : (b : Bool) → not b ≡ true → b ≡ false
-not_true true e = sym e
-not_true false e = refl
 
 length_both : (xs ys : List ℕ) → length (xs ++ ys) ≡ length xs + length ys
 length_both [] ys = let n : ℕ = length ys in let g : n ≡ 0 + n = omega arith in g
@@ -66,7 +54,9 @@ filled moved n bound had h = elim (leb_tells (n - moved) (bound - had)) [
       let fits : n - moved ≤ bound - had = g.1 in
       let is : min (n - moved) (bound - had) ≡ n - moved = omega arith in
       let all : n ≤ moved + min (n - moved) (bound - had) = subst (λ (k : ℕ). n ≤ moved + k) (sym is) (omega arith) in
-      let yes : nat_le n (moved + min (n - moved) (bound - had)) ≡ true = elim (leb_tells n (moved + min (n - moved) (bound - had))) [ inl t ↦ t.0 | inr t ↦ absurd (let less : moved + min (n - moved) (bound - had) < n = t.1 in omega arith) ] in
+      let yes : nat_le n (moved + min (n - moved) (bound - had)) ≡ true =
+      elim (leb_tells n (moved + min (n - moved) (bound - had)))
+      [ inl t ↦ t.0 | inr t ↦ absurd (let less : moved + min (n - moved) (bound - had) < n = t.1 in omega arith) ] in
       let no : ⊥ = cc in absurd no
   | inr g ↦
       let less : bound - had < n - moved = g.1 in let is : min (n - moved) (bound - had) ≡ bound - had = omega arith in
@@ -77,12 +67,9 @@ filled moved n bound had h = elim (leb_tells (n - moved) (bound - had)) [
 
 up_to_empty : (first : Bool) (bytes : List ℕ) (k : ℕ) (o : Option ℕ) → slice_get bytes k ≡ o → (up_to first bytes k o).ended ≡ false → (up_to first bytes k o).left ≡ []
 up_to_empty first bytes k None e h = elim ((slice_get_cases bytes k).1) [
-  | inl within ↦ let no : ⊥ = past within.0 (sym e ∙ within.2) in absurd no
+  | inl within ↦ absurd (none-some within.0 (sym e ∙ within.2))
   | inr past ↦ drop_all k bytes past.0
 ]
-  where
-    past : (x : ℕ) → None ≡ Some x → ⊥
-    past x f = cc
 up_to_empty first bytes k (Some byte) e h = by (nat_eq byte 10) (first && nat_eq k 0) h
   where
     by : (x y : Bool) → (cond x (first_bytes (k + 1) true bytes) (cond y (record { taken = []; ended = true; left = drop 1 bytes }) (first_bytes k true bytes))).ended ≡ false
@@ -103,7 +90,8 @@ pull_empty first n bytes h = by (nat_le n (line_length bytes)) h
 -- ---- the rows
 
 module _ (c : Call) (v : View) (alive : v.killed ≡ false) where
-  row_waits : (moved : ℕ) (u : View) (r : Row) → u.killed ≡ false → row_of c.number ≡ Some r → row_ready (record u { call = Some (record c { moved = moved }) }) (record c { moved = moved }) (Some r) ≡ false → Sleeps_unready (waits c moved u)
+  row_waits : (moved : ℕ) (u : View) (r : Row) → u.killed ≡ false → row_of c.number ≡ Some r
+      → row_ready (record u { call = Some (record c { moved = moved }) }) (record c { moved = moved }) (Some r) ≡ false → Sleeps_unready (waits c moved u)
   row_waits moved u r live is shut = falls_waits c moved u live (ap (row_ready (record u { call = Some (record c { moved = moved }) }) (record c { moved = moved })) is ∙ shut)
 
   wait_by : row_of c.number ≡ Some Wait → (o : Option ℕ) → least_zombie v ≡ o → Sleeps_unready (reaped c v o)
@@ -126,7 +114,8 @@ module _ (c : Call) (v : View) (alive : v.killed ≡ false) where
 
       line_row : (p.ended ≡ false → p.left ≡ []) → on_shown (can_read line_waiting) (in_use v (c_int c.a0)) ≡ can_read line_waiting Shown_terminal → Sleeps_unready (read_line c v p)
       line_row empty on =
-          falls_cond Unready p.ended (done c (pos (c.moved + length p.taken)) line_read) (waits c (c.moved + length p.taken) line_read) (λ _. falls_done Unready c (pos (c.moved + length p.taken)) line_read)
+          falls_cond Unready p.ended (done c (pos (c.moved + length p.taken)) line_read) (waits c (c.moved + length p.taken) line_read)
+          (λ _. falls_done Unready c (pos (c.moved + length p.taken)) line_read)
           (λ over. row_waits (c.moved + length p.taken) line_read Read alive row (on ∙ ap (λ (xs : List ℕ). nat_lt 0 (length xs)) (empty over)))
 
     abbrev waiting : View
@@ -135,14 +124,25 @@ module _ (c : Call) (v : View) (alive : v.killed ≡ false) where
     read_by : (n : ℕ) (d : Descriptor) (x : Shown) → in_use v (c_int c.a0) ≡ Some d → d.shown ≡ x → Sleeps_unready (read_from c v n d.file x)
     read_by n d Shown_terminal on shows =
         line_row (pulled (nat_eq c.moved 0) (n - c.moved) v.console.committed) (pull_empty (nat_eq c.moved 0) (n - c.moved) v.console.committed)
-        (ap (on_shown (can_read (line_waiting (pulled (nat_eq c.moved 0) (n - c.moved) v.console.committed)))) on ∙ ap (can_read (line_waiting (pulled (nat_eq c.moved 0) (n - c.moved) v.console.committed))) shows)
+        (ap (on_shown (can_read (line_waiting (pulled (nat_eq c.moved 0) (n - c.moved) v.console.committed)))) on
+        ∙ ap (can_read (line_waiting (pulled (nat_eq c.moved 0) (n - c.moved) v.console.committed))) shows)
     read_by n d (Shown_file program offset) on shows =
         falls_done Unready c (pos (length (take n (drop offset (program_bytes (slice_get v.programs program))))))
-        (record v { image = write_image v.image c.a1 (take n (drop offset (program_bytes (slice_get v.programs program)))); descriptors = advance d.file (length (take n (drop offset (program_bytes (slice_get v.programs program))))) v.descriptors })
+        (record v {
+          image = write_image v.image c.a1 (take n (drop offset (program_bytes (slice_get v.programs program))));
+          descriptors = advance d.file (length (take n (drop offset (program_bytes (slice_get v.programs program))))) v.descriptors;
+        })
     read_by n d (Shown_pipe name end pipe) on shows =
-        falls_cond Unready (not (has_bytes pipe)) (waits c 0 v) (done c (pos (there pipe n)) (record v { image = write_image v.image c.a1 (take (there pipe n) pipe.bytes); descriptors = change_pipe name (without_first (there pipe n) pipe) v.descriptors }))
-        (λ h. row_waits 0 v Read alive row (ap (on_shown (can_read waiting)) on ∙ ap (can_read waiting) shows ∙ not_true (has_bytes pipe) h))
-        (λ _. falls_done Unready c (pos (there pipe n)) (record v { image = write_image v.image c.a1 (take (there pipe n) pipe.bytes); descriptors = change_pipe name (without_first (there pipe n) pipe) v.descriptors }))
+        falls_cond Unready (not (has_bytes pipe)) (waits c 0 v)
+        (done c (pos (there pipe n)) (record v {
+          image = write_image v.image c.a1 (take (there pipe n) pipe.bytes);
+          descriptors = change_pipe name (without_first (there pipe n) pipe) v.descriptors;
+        }))
+        (λ h. row_waits 0 v Read alive row (ap (on_shown (can_read waiting)) on ∙ ap (can_read waiting) shows ∙ not-true (has_bytes pipe) h))
+        (λ _. falls_done Unready c (pos (there pipe n)) (record v {
+          image = write_image v.image c.a1 (take (there pipe n) pipe.bytes);
+          descriptors = change_pipe name (without_first (there pipe n) pipe) v.descriptors;
+        }))
 
     read_on_row : (o : Option Descriptor) → in_use v (c_int c.a0) ≡ o → Sleeps_unready (read_on c v o)
     read_on_row None on = falls_done Unready c minus_one v
@@ -166,8 +166,10 @@ module _ (c : Call) (v : View) (alive : v.killed ≡ false) where
     console_moved = c.moved + room_for v.console (n - c.moved)
 
     queue_full : nat_le n console_moved ≡ false → nat_lt (length (v.console.to_send ++ next_bytes c v (room_for v.console (n - c.moved)))) SEND_BYTES ≡ false
-    queue_full h = not_under (length (v.console.to_send ++ next_bytes c v (room_for v.console (n - c.moved)))) SEND_BYTES
-        (subst (λ (z : ℕ). SEND_BYTES ≤ z) (sym (length_both v.console.to_send (next_bytes c v (room_for v.console (n - c.moved))) ∙ ap (λ (z : ℕ). length v.console.to_send + z) (length-map-range_with_len (image_byte v.image) (c.a1 + c.moved) (room_for v.console (n - c.moved)))))
+    queue_full h = le-ltb (length (v.console.to_send ++ next_bytes c v (room_for v.console (n - c.moved)))) SEND_BYTES
+        (subst (λ (z : ℕ). SEND_BYTES ≤ z) (sym (length_both v.console.to_send (next_bytes c v (room_for v.console (n - c.moved)))
+        ∙ ap (λ (z : ℕ). length v.console.to_send + z) (length-map-range_with_len (image_byte v.image) (c.a1 + c.moved)
+        (room_for v.console (n - c.moved)))))
         (filled c.moved n SEND_BYTES (length v.console.to_send) h))
 
     module _ (name : ℕ) (pipe : Pipe) where
@@ -181,8 +183,9 @@ module _ (c : Call) (v : View) (alive : v.killed ≡ false) where
       pushed_view = record v { descriptors = change_pipe name pipe_after v.descriptors }
 
       pipe_full : nat_le n pipe_moved ≡ false → nat_lt (length pipe_after.bytes) PIPE_BYTES ≡ false
-      pipe_full h = not_under (length pipe_after.bytes) PIPE_BYTES
-          (subst (λ (z : ℕ). PIPE_BYTES ≤ z) (sym (length_both pipe.bytes (next_bytes c v (fit pipe (n - c.moved))) ∙ ap (λ (z : ℕ). length pipe.bytes + z) (length-map-range_with_len (image_byte v.image) (c.a1 + c.moved) (fit pipe (n - c.moved)))))
+      pipe_full h = le-ltb (length pipe_after.bytes) PIPE_BYTES
+          (subst (λ (z : ℕ). PIPE_BYTES ≤ z) (sym (length_both pipe.bytes (next_bytes c v (fit pipe (n - c.moved)))
+          ∙ ap (λ (z : ℕ). length pipe.bytes + z) (length-map-range_with_len (image_byte v.image) (c.a1 + c.moved) (fit pipe (n - c.moved)))))
           (filled c.moved n PIPE_BYTES (length pipe.bytes) h))
 
       in_use_changed : (z : ℤ) → in_use pushed_view z ≡ changed (λ m x. cond (nat_eq m name) pipe_after x) (in_use v z)
@@ -193,14 +196,18 @@ module _ (c : Call) (v : View) (alive : v.killed ≡ false) where
     write_by d Shown_terminal on shows =
         falls_cond Unready (nat_le n console_moved) (done c (pos n) written) (waits c console_moved written) (λ _. falls_done Unready c (pos n) written)
         (λ h. row_waits console_moved written Write alive row
-        (ap (on_shown (can_write (record written { call = Some (record c { moved = console_moved }) }))) on ∙ ap (can_write (record written { call = Some (record c { moved = console_moved }) })) shows ∙ queue_full h))
+        (ap (on_shown (can_write (record written { call = Some (record c { moved = console_moved }) }))) on
+        ∙ ap (can_write (record written { call = Some (record c { moved = console_moved }) })) shows ∙ queue_full h))
     write_by d (Shown_file program offset) on shows = falls_done Unready c minus_one v
     write_by d (Shown_pipe name end pipe) on shows =
         falls_unless Unready (nat_eq pipe.readers 0) c v (λ _. done_at c n (pipe_moved name pipe) (pushed_view name pipe))
-        (λ read. falls_cond Unready (nat_le n (pipe_moved name pipe)) (done c (pos n) (pushed_view name pipe)) (waits c (pipe_moved name pipe) (pushed_view name pipe)) (λ _. falls_done Unready c (pos n) (pushed_view name pipe))
+        (λ read. falls_cond Unready (nat_le n (pipe_moved name pipe)) (done c (pos n) (pushed_view name pipe))
+        (waits c (pipe_moved name pipe) (pushed_view name pipe)) (λ _. falls_done Unready c (pos n) (pushed_view name pipe))
         (λ h. row_waits (pipe_moved name pipe) (pushed_view name pipe) Write alive row
-        (ap (on_shown (can_write (record (pushed_view name pipe) { call = Some (record c { moved = pipe_moved name pipe }) }))) (in_use_changed name pipe (c_int c.a0) ∙ ap (changed (λ m x. cond (nat_eq m name) (pipe_after name pipe) x)) on)
-        ∙ ap (λ (z : Shown). can_write (record (pushed_view name pipe) { call = Some (record c { moved = pipe_moved name pipe }) }) (change_shown (λ m x. cond (nat_eq m name) (pipe_after name pipe) x) z)) shows
+        (ap (on_shown (can_write (record (pushed_view name pipe) { call = Some (record c { moved = pipe_moved name pipe }) })))
+        (in_use_changed name pipe (c_int c.a0) ∙ ap (changed (λ m x. cond (nat_eq m name) (pipe_after name pipe) x)) on)
+        ∙ ap (λ (z : Shown). can_write (record (pushed_view name pipe) { call = Some (record c { moved = pipe_moved name pipe }) })
+        (change_shown (λ m x. cond (nat_eq m name) (pipe_after name pipe) x) z)) shows
         ∙ (λ i. has_room_in (cond (eq-eqb name name refl i) (pipe_after name pipe) pipe))
         ∙ (λ i. pipe_full name pipe h i || read i))))
       where
@@ -211,7 +218,8 @@ module _ (c : Call) (v : View) (alive : v.killed ≡ false) where
     write_on_row None on = falls_done Unready c minus_one v
     write_on_row (Some d) on =
         falls_unless Unready (not d.write) c v (λ _. moving c v (readable v.image c.a1 (length_of_int (c_int c.a2))) (c_int c.a2) (λ m. write_to c v m d.shown))
-        (λ _. falls_moving Unready c v (readable v.image c.a1 (length_of_int (c_int c.a2))) (c_int c.a2) (λ m. write_to c v m d.shown) (λ m e _ _. subst (λ (k : ℕ). Sleeps_unready (write_to c v k d.shown)) (ap length_of_int e) (write_by d d.shown on refl)))
+        (λ _. falls_moving Unready c v (readable v.image c.a1 (length_of_int (c_int c.a2))) (c_int c.a2) (λ m. write_to c v m d.shown)
+        (λ m e _ _. subst (λ (k : ℕ). Sleeps_unready (write_to c v k d.shown)) (ap length_of_int e) (write_by d d.shown on refl)))
 
     write_row : Sleeps_unready (write_parts c v)
     write_row = write_on_row (in_use v (c_int c.a0)) refl
@@ -221,12 +229,13 @@ module _ (c : Call) (v : View) (alive : v.killed ≡ false) where
   sleep_by : row_of c.number ≡ Some Sleep → (z : ℤ) → c_int c.a0 ≡ z → Sleeps_unready (sleep_for c v z)
   sleep_by is z e =
       falls_cond Unready (not (has_passed (ticks_since v.clock c.clock) z)) (waits c 0 v) (done c (pos 0) v)
-      (λ h. row_waits 0 v Sleep alive is (ap (has_passed (ticks_since v.clock c.clock)) e ∙ not_true (has_passed (ticks_since v.clock c.clock) z) h))
+      (λ h. row_waits 0 v Sleep alive is (ap (has_passed (ticks_since v.clock c.clock)) e ∙ not-true (has_passed (ticks_since v.clock c.clock) z) h))
       (λ _. falls_done Unready c (pos 0) v)
 
 -- who falls asleep isn't ready
 pub own_unready : (v : View) → Sleeps_unready (own v)
-own_unready v = own_falls Unready (λ c u alive settled row. wait_row c u alive row) (λ c u alive settled row. read_row c u alive row) (λ c u alive settled row. write_row c u alive row) (λ c u alive settled row. sleep_by c u alive row (c_int c.a0) refl) v
+own_unready v = own_falls Unready (λ c u alive settled row. wait_row c u alive row) (λ c u alive settled row. read_row c u alive row)
+    (λ c u alive settled row. write_row c u alive row) (λ c u alive settled row. sleep_by c u alive row (c_int c.a0) refl) v
 
 pub blocks_unready : BlocksUnready
 blocks_unready v n number a e = own_unready v number n a e

@@ -29,7 +29,9 @@ NotRefused o = (number : ℤ) → o.answer ≡ Called number minus_one → ⊥
 module _ (P : Own → Type 0) (c : Call) (v : View) where
   -- of a call: of the refusal, of the row's parts, and of the row's parts once the pages of its buffer came that were absent
   pub by_call_apart : P (refused c v) → (IsSettled c v → P (perform_parts c v))
-      → ((image : Image) (free : ℕ) → IsTouched v.image image → IsSettled c (touched_view v image free) → has_absent (buffer_of c (row_of c.number)) v.image ≡ true → NotRefused (perform_parts c (touched_view v image free)) → P (perform_parts c (touched_view v image free)))
+      → ((image : Image) (free : ℕ) → IsTouched v.image image → IsSettled c (touched_view v image free)
+      → has_absent (buffer_of c (row_of c.number)) v.image ≡ true → NotRefused (perform_parts c (touched_view v image free))
+      → P (perform_parts c (touched_view v image free)))
       → P (perform c v)
   by_call_apart refusal same parts = by (has_absent (buffer_of c (row_of c.number)) v.image) refl
     where
@@ -58,7 +60,8 @@ module _ (P : Step → Own → Type 0) (v : View) where
 
   -- of an instruction: of the one that is done in the view as it is, and of the one that is done once the page that it is on came, which is no ECALL
   pub by_instruction_apart : P (next_instruction v.regs v.image) (after_instruction v (next_instruction v.regs v.image))
-      → ((image : Image) (free : ℕ) → IsTouched v.image image → (next_instruction v.regs image ≡ Ecall → ⊥) → P (next_instruction v.regs image) (after_instruction (touched_view v image free) (next_instruction v.regs image)))
+      → ((image : Image) (free : ℕ) → IsTouched v.image image → (next_instruction v.regs image ≡ Ecall → ⊥)
+      → P (next_instruction v.regs image) (after_instruction (touched_view v image free) (next_instruction v.regs image)))
       → P (instruction_now v) (going_on v None)
   by_instruction_apart same there = subst At (sym (before-is v)) (by (is_on_absent v.regs v.image) refl)
     where
@@ -69,12 +72,15 @@ module _ (P : Step → Own → Type 0) (v : View) where
       came absent None e = same
       came absent (Some t) e =
           let next = next_once_touched v.regs v.image absent in
-          subst At (sym (touch_view page v t e)) (there t.image t.free (touch_touched page v t e) (next_no_ecall (next_instruction v.regs t.image) next.0 next.1 (ap (next_instruction v.regs) (touch-comes page v t e).image ∙ next.2)))
+          subst At (sym (touch_view page v t e)) (there t.image t.free (touch_touched page v t e)
+          (next_no_ecall (next_instruction v.regs t.image) next.0 next.1 (ap (next_instruction v.regs) (touch-comes page v t e).image ∙ next.2)))
 
       by : (b : Bool) → is_on_absent v.regs v.image ≡ b → At (cond b (view_or (touch page v) v) v)
       by false e = same
       by true e = came e (touch page v) refl
 
   -- of an instruction, once the page that it is on is there
-  pub by_instruction : ((image : Image) (free : ℕ) → IsTouched v.image image → P (next_instruction v.regs image) (after_instruction (touched_view v image free) (next_instruction v.regs image))) → P (instruction_now v) (going_on v None)
+  pub by_instruction : ((image : Image) (free : ℕ) → IsTouched v.image image
+      → P (next_instruction v.regs image) (after_instruction (touched_view v image free) (next_instruction v.regs image)))
+      → P (instruction_now v) (going_on v None)
   by_instruction there = by_instruction_apart (there v.image v.free (touched_none v.image)) (λ image free touched other. there image free touched)

@@ -1,5 +1,6 @@
 -- A row adds no page but of zeros, or the pages of the program that an exec names.
-use Rattle.std.proofs.Common.{◌≡◌, ◌≢◌, ℕ, zero, suc, ◌+◌, ◌-◌, ◌/◌, ◌%◌, ◌++◌, Bool, true, false, cond, not, ◌&&◌, ◌||◌, List, [], ◌∷◌, length, refl, ap, sym, ◌∙◌, inl, inr, ◌⊎◌, replicate, take, drop}
+use Rattle.std.proofs.Common.{◌≡◌, ◌≢◌, ℕ, zero, suc, ◌+◌, ◌-◌, ◌/◌, ◌%◌, ◌++◌, Bool, true, false, cond, not, ◌&&◌}
+use Rattle.std.proofs.Common.{◌||◌, List, [], ◌∷◌, length, refl, ap, sym, ◌∙◌, inl, inr, ◌⊎◌, replicate, take, drop}
 use Rattle.std.specs.Prelude.{Option, None, Some, ℤ, pos, negsuc, nat_eq, nat_lt, nat_le, is_some, slice_get, Result, Ok, Err}
 use Rattle.std.specs.FinMap.{FinMap, get, insert}
 use Rattle.std.specs.Ordering.{nat_cmp}
@@ -23,7 +24,8 @@ use Rattle.xk_base.specs.Bytes.{write_image}
 use Rattle.proc_table.specs.declared.process.Call.{Call}
 use Rattle.kernel_spec.specs.views.View.{View, Descriptor, Shown, Shown_terminal, Shown_file, Shown_pipe, in_use}
 use Rattle.kernel_spec.specs.steps.Own.{Own, Stepped, Called, Exited}
-use Rattle.kernel_spec.specs.rows.Calls.{Row, Fork, Exit, Wait, Pipe_row, Read, Kill, Exec, Dup, Getpid, Sbrk, Sleep, Uptime, Open, Write, Close, Sbrklazy, row_of, answered, gone, done, refused, waits, least_zombie, has_child, done_at, next_bytes}
+use Rattle.kernel_spec.specs.rows.Calls.{Row, Fork, Exit, Wait, Pipe_row, Read, Kill, Exec, Dup, Getpid, Sbrk, Sleep, Uptime, Open}
+use Rattle.kernel_spec.specs.rows.Calls.{Write, Close, Sbrklazy, row_of, answered, gone, done, refused, waits, least_zombie, has_child, done_at, next_bytes}
 use Rattle.kernel_spec.specs.views.Programs.{program_bytes, program_named}
 use Rattle.kernel_spec.specs.steps.Step.{after_instruction}
 use Rattle.xk_base.specs.Words.{le_bytes}
@@ -34,20 +36,20 @@ use Rattle.console_core.specs.Reads.{Pulled, pulled}
 use Rattle.kernel_spec.specs.views.State.{ProgramFile}
 use Rattle.std.specs.Int.{cast_unsigned, w32}
 use Rattle.std.specs.List.{list_any}
+use Rattle.std.proofs.lemmas.Option.{same_Some}
 use Rattle.kernel_spec.specs.laws.Worlds.{IsExecOf, IsExecDone, IsNewPage}
 use Rattle.xk_base.specs.Bytes.{put_in, put_byte}
 use Rattle.xk_base.specs.Gathered.{insert_some}
-use Rattle.kernel_spec.proofs.steps.Maps.{get_same, get_other}
+use Rattle.kernel_spec.proofs.steps.MapsAfterChange.{get_same, get_other}
 use Rattle.kernel_spec.specs.views.Processes.{child_status}
-use Rattle.kernel_spec.proofs.rows.RowParts.{perform_parts, perform_row, unless, unless_nothing, moving, length_of_int, reaped, without_child, piped, piped_from, with_pipe, read_on, read_from, write_on, write_to, kill_pid, killed_by, exec_program, exec_path, dup_at, dup_on, dup_number, close_at, close_on, close_number, sbrk_by, grow_to, shrink_to, lazy_by, exec_loaded, running, sleep_for, open_at, open_path, opened_as, kind_named, fork_parts, forked, cannot_fork, with_child}
+use Rattle.kernel_spec.proofs.rows.RowParts.{perform_parts, perform_row, unless, unless_nothing, moving, length_of_int, reaped, piped}
+use Rattle.kernel_spec.proofs.rows.RowParts.{piped_from, with_pipe, read_on, read_from, write_on, write_to, killed_by, exec_program}
+use Rattle.kernel_spec.proofs.rows.RowParts.{exec_path, dup_at, dup_on, dup_number, close_at, sbrk_by, grow_to, shrink_to}
+use Rattle.kernel_spec.proofs.rows.RowParts.{lazy_by, exec_loaded, sleep_for, open_at, open_path, opened_as, kind_named, forked}
+use Rattle.kernel_spec.proofs.rows.RowParts.{cannot_fork, with_child, close_number, close_on, fork_parts, kill_pid, running, without_child}
 use Rattle.kernel_spec.specs.rows.Terminal.{room_for}
 use Rattle.kernel_spec.specs.steps.Ticks.{ticks_since, has_passed}
-
-same_view : (a b : View) → Some a ≡ Some b → a ≡ b
-same_view a b e = cc
-
-some_page : (a b : Page) → Some a ≡ Some b → a ≡ b
-some_page a b e = cc
+use Rattle.kernel_spec.proofs.Common.{none_either_way}
 
 -- the pages that the next view has more hold zeros
 abbrev pub NewPagesAreZeros : View → View → Type 0
@@ -95,7 +97,7 @@ store_absent i st q absent = insert_absent i.pages (st.address / 4096) (get i.pa
 added : (b : Bool) (m : FinMap nat_cmp Page) (v : ℕ) (page : Page) (q : ℕ) (x : Page) → get (cond b m (insert m v page)) q ≡ Some x → (get m q ≡ Some x) ⊎ (x ≡ page)
 added true m v page q x is = inl is
 added false m v page q x is = elim (eqb_tells q v) [
-  | inl h ↦ inr (some_page x page (sym is ∙ ap (get (insert m v page)) h.1 ∙ get_same m v page))
+  | inl h ↦ inr (same_Some x page (sym is ∙ ap (get (insert m v page)) h.1 ∙ get_same m v page))
   | inr h ↦ inl (sym (get_other m v page q h.1) ∙ is)
 ]
 
@@ -118,7 +120,7 @@ grown_zeros i size page x none is = ap (λ (y : Page). y.bytes) (grown_page i.pa
 
 pub zeroed_view : (v u : View) → ((page : ℕ) → get v.image.pages page ≡ None → get u.image.pages page ≡ None) → (o : Own) → o.next ≡ Some u → Zeroed v o
 zeroed_view v u keeps o is n e = (λ page x added. let none = added.0 in let there = added.1 in
-    let same : u ≡ n = same_view u n (sym is ∙ e) in
+    let same : u ≡ n = same_Some u n (sym is ∙ e) in
     let some : get u.image.pages page ≡ Some x = ap (λ (w : View). get w.image.pages page) same ∙ there in
     let nothing : get u.image.pages page ≡ None = keeps page none in
     let no : ⊥ = cc in absurd no)
@@ -151,12 +153,8 @@ zeroed_grow c v size = zeroed_unless (nat_lt SIZE_LIMIT size || nat_lt v.free (p
 pub zeroed_shrink : (c : Call) (v : View) (size : ℕ) → Zeroed v (shrink_to c v size)
 zeroed_shrink c v size = zeroed_view v _ (λ page none. shrunk_none page none) (shrink_to c v size) refl
   where
-    cut : (b : Bool) (o : Option Page) → o ≡ None → cond b o None ≡ None
-    cut true o e = e
-    cut false o e = refl
-
     shrunk_none : (page : ℕ) → get v.image.pages page ≡ None → get (shrunk v.image size).pages page ≡ None
-    shrunk_none page none = gathered-get (get v.image.pages) (page_count size) page ∙ cut (nat_lt page (page_count size)) (get v.image.pages page) none
+    shrunk_none page none = gathered-get (get v.image.pages) (page_count size) page ∙ none_either_way (nat_lt page (page_count size)) (get v.image.pages page) none
 
 -- ---- an exec that is done, and any other step
 
@@ -187,7 +185,9 @@ clean_row c v r o row other zeros = clean_other c v o (λ yes. exec_apart (ap is
 
 -- ---- exec
 
-module _ (c : Call) (v : View) (row : row_of c.number ≡ Some Exec) (path : List ℕ) (texts : List (List ℕ)) (p : ProgramFile) (read : text_at MAXPATH v.image c.a0 ≡ Some path) (found : program_named (no_slashes path) v.programs ≡ Some p) (given : texts_at MAXARG ARG_BYTES v.image c.a1 ≡ Some texts) where
+module _ (c : Call) (v : View) (row : row_of c.number ≡ Some Exec) (path : List ℕ) (texts : List (List ℕ)) (p : ProgramFile)
+    (read : text_at MAXPATH v.image c.a0 ≡ Some path) (found : program_named (no_slashes path) v.programs ≡ Some p)
+    (given : texts_at MAXARG ARG_BYTES v.image c.a1 ≡ Some texts) where
   loaded_row : (l : Loaded) → loaded p.bytes texts ≡ Ok l → (b : Bool) → Clean c v (unless b c v (λ _. done c (pos l.argc) (running l v)))
   loaded_row l is true = clean_refused c v
   loaded_row l is false = λ n e. (λ _. (path, texts, p, l, row, read, found, given, is, ap image_of (sym e), refl), λ other. absurd (other (l.argc, row, refl)))
@@ -230,12 +230,14 @@ module _ (c : Call) (v : View) where
   moving_row r (negsuc k) go h = refusal
   moving_row r (pos n) go h = nothing_row (nat_eq n 0) (λ _. unless (not r) c v (λ _. go n)) (zeroed_unless (not r) c v (λ _. go n) (h n))
 
-  told_row : (b : Bool) (q : ℕ) (image : Image) (u : View) (a : ℕ) (bytes : List ℕ) → u.image ≡ v.image → image ≡ write_image v.image a bytes → Zeroed v (done c (pos q) (cond b u (record u { image = image })))
+  told_row : (b : Bool) (q : ℕ) (image : Image) (u : View) (a : ℕ) (bytes : List ℕ) → u.image ≡ v.image → image ≡ write_image v.image a bytes
+      → Zeroed v (done c (pos q) (cond b u (record u { image = image })))
   told_row true q image u a bytes e f = same_done (pos q) u e
   told_row false q image u a bytes e f = written_done (pos q) (record u { image = image }) a bytes f
 
   reaped_row : (o : Option ℕ) → Zeroed v (reaped c v o)
-  reaped_row (Some q) = told_row (nat_eq c.a0 0) q (write_image v.image c.a0 (le_bytes 4 (cast_unsigned w32 (child_status (v.children q))))) (without_child q v) c.a0 (le_bytes 4 (cast_unsigned w32 (child_status (v.children q)))) refl refl
+  reaped_row (Some q) = told_row (nat_eq c.a0 0) q (write_image v.image c.a0 (le_bytes 4 (cast_unsigned w32 (child_status (v.children q)))))
+      (without_child q v) c.a0 (le_bytes 4 (cast_unsigned w32 (child_status (v.children q)))) refl refl
   reaped_row None = whichever (has_child v) (waits c 0 v) (refused c v) (same_waits 0 v refl) refusal
 
   piped_row : (r : ℕ) (o : Option ℕ) → Zeroed v (piped c v r o)
@@ -269,7 +271,8 @@ module _ (c : Call) (v : View) where
   done_at_row n moved u e = whichever (nat_le n moved) (done c (pos n) u) (waits c moved u) (same_done (pos n) u e) (same_waits moved u e)
 
   write_to_row : (n : ℕ) (x : Shown) → Zeroed v (write_to c v n x)
-  write_to_row n Shown_terminal = done_at_row n (c.moved + room_for v.console (n - c.moved)) (record v { console = record v.console { to_send = v.console.to_send ++ next_bytes c v (room_for v.console (n - c.moved)) } }) refl
+  write_to_row n Shown_terminal = done_at_row n (c.moved + room_for v.console (n - c.moved))
+      (record v { console = record v.console { to_send = v.console.to_send ++ next_bytes c v (room_for v.console (n - c.moved)) } }) refl
   write_to_row n (Shown_file program offset) = refusal
   write_to_row n (Shown_pipe name end pipe) = zeroed_unless (nat_eq pipe.readers 0) c v
       (λ _. done_at c n (c.moved + fit pipe (n - c.moved)) (record v { descriptors = change_pipe name (with_more (next_bytes c v (fit pipe (n - c.moved))) pipe) v.descriptors }))
@@ -310,7 +313,11 @@ module _ (c : Call) (v : View) where
 
   close_from : (k : ℕ) (o : Option Descriptor) → Zeroed v (close_on c v k o)
   close_from k None = refusal
-  close_from k (Some d) = zeroed_same v (answered (pos 0) (record v { descriptors = without_descriptor k (one_less_on d.shown v.descriptors); free = v.free + pipes_given_up (one_less_on d.shown v.descriptors) })) refl (close_at c v k d) refl
+  close_from k (Some d) = zeroed_same v (answered (pos 0)
+      (record v {
+        descriptors = without_descriptor k (one_less_on d.shown v.descriptors);
+        free = v.free + pipes_given_up (one_less_on d.shown v.descriptors);
+      })) refl (close_at c v k d) refl
 
   close_row : (z : ℤ) → Zeroed v (close_number c v z)
   close_row (negsuc k) = refusal
@@ -323,7 +330,8 @@ module _ (c : Call) (v : View) where
   sbrklazy_row : (z : ℤ) → Zeroed v (lazy_by c v z)
   sbrklazy_row (negsuc k) = refusal
   sbrklazy_row (pos n) = zeroed_unless (nat_lt SIZE_LIMIT (v.image.size + n)) c v (λ _. done c (pos v.image.size) (record v { image = grown_lazily v.image (v.image.size + n) }))
-      (zeroed_view v (answered (pos v.image.size) (record v { image = grown_lazily v.image (v.image.size + n) })) (λ page none. none) (done c (pos v.image.size) (record v { image = grown_lazily v.image (v.image.size + n) })) refl)
+      (zeroed_view v (answered (pos v.image.size) (record v { image = grown_lazily v.image (v.image.size + n) })) (λ page none. none)
+      (done c (pos v.image.size) (record v { image = grown_lazily v.image (v.image.size + n) })) refl)
 
   sleep_row : (z : ℤ) → Zeroed v (sleep_for c v z)
   sleep_row z = whichever (not (has_passed (ticks_since v.clock c.clock) z)) (waits c 0 v) (done c (pos 0) v) (same_waits 0 v refl) (same_done (pos 0) v refl)
@@ -349,7 +357,9 @@ module _ (c : Call) (v : View) where
   by_row (Some Fork) e = other (Some Fork) e refl fork_row
   by_row (Some Exit) e = other (Some Exit) e refl (zeroed_gone v (gone (Exited (c_int c.a0)) v) refl)
   by_row (Some Wait) e = other (Some Wait) e refl (zeroed_unless (not (nat_eq c.a0 0) && not (writable v.image c.a0 4)) c v (λ _. reaped c v (least_zombie v)) (reaped_row (least_zombie v)))
-  by_row (Some Pipe_row) e = other (Some Pipe_row) e refl (zeroed_unless (not (writable v.image c.a0 8) || nat_eq v.free 0) c v (λ _. piped_from c v (lowest_free v.descriptors)) (piped_from_row (lowest_free v.descriptors)))
+  by_row (Some Pipe_row) e = other (Some Pipe_row) e refl
+      (zeroed_unless (not (writable v.image c.a0 8) || nat_eq v.free 0) c v (λ _. piped_from c v (lowest_free v.descriptors))
+      (piped_from_row (lowest_free v.descriptors)))
   by_row (Some Read) e = other (Some Read) e refl (read_on_row (in_use v (c_int c.a0)))
   by_row (Some Kill) e = other (Some Kill) e refl (kill_row (c_int c.a0))
   by_row (Some Exec) e = exec_row e (text_at MAXPATH v.image c.a0) refl

@@ -18,12 +18,14 @@ use Rattle.kernel_spec.specs.rows.Tables.{lowest_free, lowest_free_above}
 use Rattle.kernel_spec.specs.rows.Calls.{row_of, perform, refused, fork, wait, make_pipe, read, kill, exec, dup, getpid, sbrk, sbrklazy, sleep, uptime, open_file, write, close, Row, row, exit}
 use Rattle.kernel_spec.specs.others.Quiet.{file_of}
 use Rattle.kernel_spec.specs.views.WellFormed.{WellFormed}
-use Rattle.kernel_spec.proofs.steps.Least.{least_congr}
-use Rattle.kernel_spec.proofs.steps.Names.{named_at}
-use Rattle.kernel_spec.proofs.rows.RowParts.{piped, piped_from, read_on, read_from, kill_pid, killed_by, exec_path, exec_program, exec_loaded, dup_number, dup_on, dup_at, open_path, open_at, opened_as, kind_named, write_on, write_to, close_number, close_on, close_at, unless, unless_nothing, moving, length_of_int}
+use Rattle.kernel_spec.proofs.steps.LeastPasses.{least_congr}
+use Rattle.kernel_spec.proofs.steps.NamesAreChosenAgain.{named_at}
+use Rattle.kernel_spec.proofs.rows.RowParts.{piped, piped_from, read_on, read_from, killed_by, exec_path, exec_program}
+use Rattle.kernel_spec.proofs.rows.RowParts.{exec_loaded, dup_number, dup_on, dup_at, write_on, write_to, close_at}
+use Rattle.kernel_spec.proofs.rows.RowParts.{unless, unless_nothing, moving, length_of_int, close_number, close_on, kill_pid}
 use Rattle.kernel_spec.specs.rows.Lines.{◌>>=◌, ◌or◌}
 use Rattle.kernel_spec.proofs.rows.Settled.{there-ready, now-writable, counted-settled}
-use Rattle.kernel_spec.proofs.rows.RowsByParts.{dup_same, close_same, read_same, write_same, open_same, pipe_same, kill_same, exec_same}
+use Rattle.kernel_spec.proofs.rows.RowsByParts.{dup_same, close_same, read_same, write_same, pipe_same, kill_same, exec_same}
 
 -- ---- which row
 
@@ -131,9 +133,6 @@ module _ (c : Call) (v : View) where
           ∙ ap (λ (b : Bool). unless (not b) c v (λ _. moving c v (readable v.image c.a1 (length_of_int (c_int c.a2))) (c_int c.a2) (λ m. write_to c v m d.shown))) writes
           ∙ by_count (readable v.image c.a1) (λ m. write_to c v m d.shown) there
 
-  pub open_case : (path : List ℕ) → text_at MAXPATH v.image c.a0 ≡ Some path → open_file c v ≡ open_at c v (lowest_free v.descriptors) (opened_as (kind_named (no_slashes path) v) (c_int c.a1))
-  open_case path is = open_same c v ∙ ap (open_path c v) is
-
   pub pipe_case : (r : ℕ) → writable_now v.image c.a0 8 ≡ true → nat_eq v.free 0 ≡ false → lowest_free v.descriptors ≡ Some r → make_pipe c v ≡ piped c v r (lowest_free_above v.descriptors r)
   pipe_case r there frame least =
       let ready = there-ready v.image c.a0 8 there in
@@ -174,4 +173,5 @@ module _ (frames : ℕ) (s : State) (well : WellFormed frames s) (p : ℕ) (l : 
   lowest_free_is = least_congr NOFILE (λ d. is_none ((view_of s p l).descriptors d)) (λ d. is_none (get l.descriptors d)) free_shown
 
   pub lowest_free_above_is : (low : ℕ) → lowest_free_above (view_of s p l).descriptors low ≡ least_below (λ d. nat_lt low d && is_none (get l.descriptors d)) NOFILE
-  lowest_free_above_is low = least_congr NOFILE (λ d. nat_lt low d && is_none ((view_of s p l).descriptors d)) (λ d. nat_lt low d && is_none (get l.descriptors d)) (λ d below. ap (λ (b : Bool). nat_lt low d && b) (free_shown d below))
+  lowest_free_above_is low = least_congr NOFILE (λ d. nat_lt low d && is_none ((view_of s p l).descriptors d))
+      (λ d. nat_lt low d && is_none (get l.descriptors d)) (λ d below. ap (λ (b : Bool). nat_lt low d && b) (free_shown d below))

@@ -19,7 +19,10 @@ use Rattle.kernel_spec.specs.steps.Own.{Own, Blocked, Called, Exited, Faulted, A
 use Rattle.std.specs.List.{list_any}
 use Rattle.kernel_spec.specs.steps.Step.{own, unless_killed, going_on, after_instruction, call_begun, begun}
 use Rattle.kernel_spec.specs.views.Programs.{program_named}
-use Rattle.kernel_spec.proofs.rows.RowParts.{IsSettled, perform_parts, perform_row, unless, wait_parts, read_parts, moving, unless_nothing, write_parts, sleep_parts, fork_parts, forked, cannot_fork, piped, piped_from, pipe_parts, kill_pid, killed_by, exec_loaded, exec_program, exec_path, running, dup_at, dup_on, dup_number, close_at, close_on, close_number, sbrk_by, shrink_to, lazy_by, open_at, open_path, opened_as, kind_named}
+use Rattle.kernel_spec.proofs.rows.RowParts.{IsSettled, perform_parts, perform_row, unless, wait_parts, read_parts, moving, unless_nothing, write_parts}
+use Rattle.kernel_spec.proofs.rows.RowParts.{sleep_parts, forked, cannot_fork, piped, piped_from, pipe_parts, killed_by, exec_loaded, exec_program}
+use Rattle.kernel_spec.proofs.rows.RowParts.{exec_path, dup_at, dup_on, dup_number, close_at, sbrk_by, shrink_to, lazy_by, open_at}
+use Rattle.kernel_spec.proofs.rows.RowParts.{open_path, opened_as, kind_named, close_number, close_on, fork_parts, kill_pid, running}
 use Rattle.kernel_spec.proofs.rows.Touched.{touched_view}
 use Rattle.kernel_spec.proofs.rows.ByTouch.{by_call, by_instruction}
 
@@ -117,7 +120,8 @@ module _ (Q : View → ℤ → Type 0) where
     sbrk_row (pos n) = falls_unless (nat_lt SIZE_LIMIT (v.image.size + n) || nat_lt v.free (price (grown v.image (v.image.size + n)) - price v.image)) c v
         (λ _. done c (pos v.image.size) (record v { image = grown v.image (v.image.size + n); free = v.free - (price (grown v.image (v.image.size + n)) - price v.image) }))
         (λ _. falls_done c (pos v.image.size) (record v { image = grown v.image (v.image.size + n); free = v.free - (price (grown v.image (v.image.size + n)) - price v.image) }))
-    sbrk_row (negsuc k) = falls_unless (nat_le v.image.size k || nat_lt SIZE_LIMIT (v.image.size - suc k)) c v (λ _. shrink_to c v (v.image.size - suc k)) (λ _. called (shrink_to c v (v.image.size - suc k)) c.number (pos v.image.size) refl)
+    sbrk_row (negsuc k) = falls_unless (nat_le v.image.size k || nat_lt SIZE_LIMIT (v.image.size - suc k)) c v
+        (λ _. shrink_to c v (v.image.size - suc k)) (λ _. called (shrink_to c v (v.image.size - suc k)) c.number (pos v.image.size) refl)
 
     sbrklazy_by : (z : ℤ) → Falls Q (lazy_by c v z)
     sbrklazy_by (negsuc k) = falls_done c minus_one v

@@ -3,10 +3,11 @@ use Rattle.std.proofs.Common.{◌≡◌, ℕ, ◌+◌, ◌-◌, ◌<◌, ◌≤�
 use Rattle.std.specs.Prelude.{Option, None, Some, ℤ, pos, negsuc, nat_eq, nat_lt, nat_le, slice_get}
 use Rattle.std.specs.Int.{cast_unsigned, w32}
 use Rattle.std.proofs.lemmas.List.{length-take}
-use Rattle.std.proofs.lemmas.Bool.{leb-false, eqb-true, or_parts, cases_lt, lt-ltb}
+use Rattle.std.proofs.lemmas.Bool.{leb-false, eqb-true, or_parts, cases_lt, lt-ltb, both_ways}
+use Rattle.std.proofs.lemmas.Option.{same_Some}
 use Rattle.xk_base.specs.Words.{le_bytes}
-use Rattle.xk_base.specs.Image.{Image}
 use Rattle.xk_base.specs.Bytes.{write_image}
+use Rattle.xk_base.proofs.Bytes.{write_image-nil}
 use Rattle.rv64i_core.specs.Memory.{Store}
 use Rattle.console_core.specs.Reads.{Pulled, pulled, line_length, up_to, first_bytes}
 use Rattle.pipe_core.specs.Pipe.{Pipe, without_first}
@@ -22,10 +23,7 @@ use Rattle.kernel_spec.specs.rows.Lines.{natural}
 use Rattle.kernel_spec.specs.steps.Own.{Own}
 use Rattle.kernel_spec.specs.rows.Calls.{Wait, Pipe_row, Read, answered, done, refused, waits, least_zombie, has_child, ends_stored, read_stored}
 use Rattle.kernel_spec.specs.rows.Stores.{nothing_stored, stored_by_wait, next_ends, stored_by_pipe, stored_from, unless_refused, stored_by_row}
-use Rattle.kernel_spec.proofs.rows.RowParts.{wait_parts, pipe_parts, read_parts, unless, unless_nothing, moving, length_of_int, reaped, without_child, piped, piped_from, with_pipe, read_on, read_from}
-
-same_view : (a b : View) → Some a ≡ Some b → a ≡ b
-same_view a b e = cc
+use Rattle.kernel_spec.proofs.rows.RowParts.{wait_parts, pipe_parts, read_parts, unless, unless_nothing, moving, length_of_int, reaped, piped, piped_from, with_pipe, read_on, read_from, without_child}
 
 empty_list : (xs : List ℕ) → length xs ≤ 0 → xs ≡ []
 empty_list [] le = refl
@@ -71,12 +69,9 @@ none_there pipe n none = empty_list (take (there pipe n) pipe.bytes) (omega (ari
   where
     short : length pipe.bytes ≤ 0
     short = elim (cases_lt 0 (length pipe.bytes)) [
-      | inl some ↦ absurd (clash (lt-ltb 0 (length pipe.bytes) some) (or_parts (nat_lt 0 (length pipe.bytes)) (nat_eq pipe.writers 0) none).0)
+      | inl some ↦ absurd (both_ways _ (or_parts (nat_lt 0 (length pipe.bytes)) (nat_eq pipe.writers 0) none).0 (lt-ltb 0 (length pipe.bytes) some))
       | inr few ↦ few
     ]
-      where
-        clash : {b : Bool} → b ≡ true → b ≡ false → ⊥
-        clash t f = cc
 
 -- ---- what is filled
 
@@ -85,15 +80,11 @@ abbrev pub Fills : View → Store → Own → Type 0
 Fills v s o = (n : View) → o.next ≡ Some n → n.image ≡ write_image v.image s.address s.bytes
 
 fills_by : (v u : View) (s : Store) (o : Own) → o.next ≡ Some u → u.image ≡ write_image v.image s.address s.bytes → Fills v s o
-fills_by v u s o is same n next = ap (λ (w : View). w.image) (same_view n u (sym next ∙ is)) ∙ same
-
-written_none : (i : Image) (a : ℕ) → write_image i a [] ≡ i
-unfolding write_image
-written_none i a = refl
+fills_by v u s o is same n next = ap (λ (w : View). w.image) (same_Some n u (sym next ∙ is)) ∙ same
 
 -- without a byte it is the same
 fills_none : (v u : View) (s : Store) (o : Own) → s.bytes ≡ [] → o.next ≡ Some u → u.image ≡ v.image → Fills v s o
-fills_none v u s o none is same = fills_by v u s o is (same ∙ sym (ap (write_image v.image s.address) none ∙ written_none v.image s.address))
+fills_none v u s o none is same = fills_by v u s o is (same ∙ sym (ap (write_image v.image s.address) none ∙ write_image-nil v.image s.address))
 
 module _ (c : Call) (v : View) where
   fills_refused : Fills v nothing_stored (refused c v)
@@ -105,7 +96,8 @@ module _ (c : Call) (v : View) where
       → Fills v (record { address = c.a0; bytes = cond b [] bytes }) (done c (pos q) (cond b u (record u { image = write_image u.image c.a0 bytes })))
   wait_told true q bytes u same = fills_none v (answered (pos q) u) (record { address = c.a0; bytes = [] }) (done c (pos q) u) refl refl same
   wait_told false q bytes u same =
-      fills_by v (answered (pos q) (record u { image = write_image u.image c.a0 bytes })) (record { address = c.a0; bytes = bytes }) (done c (pos q) (record u { image = write_image u.image c.a0 bytes })) refl (ap (λ i. write_image i c.a0 bytes) same)
+      fills_by v (answered (pos q) (record u { image = write_image u.image c.a0 bytes })) (record { address = c.a0; bytes = bytes })
+      (done c (pos q) (record u { image = write_image u.image c.a0 bytes })) refl (ap (λ i. write_image i c.a0 bytes) same)
 
   wait_reaped : (o : Option ℕ) → Fills v (stored_by_wait c v.children (reaped c v o).answer) (reaped c v o)
   wait_reaped (Some q) = wait_told (nat_eq c.a0 0) q (le_bytes 4 (cast_unsigned w32 (child_status (v.children q)))) (without_child q v) refl
@@ -141,7 +133,8 @@ module _ (c : Call) (v : View) where
   pub pipe_fills : Fills v (stored_by_row c v (Some Pipe_row) (pipe_parts c v).answer) (pipe_parts c v)
   pipe_fills = by (not (writable v.image c.a0 8) || nat_eq v.free 0)
     where
-      by : (b : Bool) → Fills v (stored_by_pipe c v.descriptors (unless b c v (λ _. piped_from c v (lowest_free v.descriptors))).answer) (unless b c v (λ _. piped_from c v (lowest_free v.descriptors)))
+      by : (b : Bool) → Fills v (stored_by_pipe c v.descriptors (unless b c v (λ _. piped_from c v (lowest_free v.descriptors))).answer)
+          (unless b c v (λ _. piped_from c v (lowest_free v.descriptors)))
       by true = fills_refused
       by false = pipe_begun (lowest_free v.descriptors) refl
 
@@ -202,7 +195,8 @@ module _ (c : Call) (v : View) where
 
   on_row : (o : Option Descriptor) → FillsRead (stored_from c v o) (read_on c v o)
   on_row None = fills_refused
-  on_row (Some d) = read_unless (read_stored c v (or_zero (natural (c_int c.a2))) d.shown) (not d.read) (λ _. moving c v (writable v.image c.a1 (length_of_int (c_int c.a2))) (c_int c.a2) (λ n. read_from c v n d.file d.shown))
+  on_row (Some d) = read_unless (read_stored c v (or_zero (natural (c_int c.a2))) d.shown) (not d.read)
+      (λ _. moving c v (writable v.image c.a1 (length_of_int (c_int c.a2))) (c_int c.a2) (λ n. read_from c v n d.file d.shown))
       (moving_row (writable v.image c.a1 (length_of_int (c_int c.a2))) (c_int c.a2) d.file d.shown)
 
   pub read_fills : Fills v (stored_by_row c v (Some Read) (read_parts c v).answer) (read_parts c v)

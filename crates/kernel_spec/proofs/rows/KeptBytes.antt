@@ -1,5 +1,6 @@
 -- In a page that stays, a row changes only bytes that it stores, but for an exec that succeeds.
-use Rattle.std.proofs.Common.{◌≡◌, ◌≢◌, ℕ, zero, suc, ◌+◌, ◌-◌, ◌*◌, ◌/◌, ◌%◌, ◌++◌, Bool, true, false, cond, not, ◌||◌, List, [], ◌∷◌, length, refl, ap, sym, ◌∙◌, inl, inr, ◌<◌, ◌≤◌, set, take, drop, subst, arith}
+use Rattle.std.proofs.Common.{◌≡◌, ◌≢◌, ℕ, zero, suc, ◌+◌, ◌-◌, ◌*◌, ◌/◌, ◌%◌, ◌++◌, Bool, true, false, cond, not, ◌||◌}
+use Rattle.std.proofs.Common.{List, [], ◌∷◌, length, refl, ap, sym, ◌∙◌, inl, inr, ◌<◌, ◌≤◌, set, take, drop, subst, arith}
 use Rattle.std.specs.Prelude.{slice_index, Option, None, Some, ℤ, pos, negsuc, nat_eq, nat_lt, nat_le, is_some, Result, Ok, Err}
 use Rattle.std.specs.FinMap.{FinMap, get, insert}
 use Rattle.std.specs.Ordering.{nat_cmp}
@@ -21,28 +22,27 @@ use Rattle.xk_base.specs.Bytes.{write_image}
 use Rattle.proc_table.specs.declared.process.Call.{Call}
 use Rattle.kernel_spec.specs.views.View.{View, Descriptor, Shown, Shown_terminal, Shown_file, Shown_pipe, in_use}
 use Rattle.kernel_spec.specs.steps.Own.{Own, Exited}
-use Rattle.kernel_spec.specs.rows.Calls.{Row, Fork, Exit, Wait, Pipe_row, Read, Kill, Exec, Dup, Getpid, Sbrk, Sleep, Uptime, Open, Write, Close, Sbrklazy, row_of, answered, gone, done, refused, waits, done_at, next_bytes}
+use Rattle.kernel_spec.specs.rows.Calls.{Row, Fork, Exit, Wait, Pipe_row, Read, Kill, Exec, Dup, Getpid, Sbrk, Sleep, Uptime}
+use Rattle.kernel_spec.specs.rows.Calls.{Open, Write, Close, Sbrklazy, row_of, answered, gone, done, refused, waits, done_at, next_bytes}
 use Rattle.kernel_spec.specs.views.Programs.{program_named}
 use Rattle.kernel_spec.specs.rows.Tables.{lowest_free, change_pipe, with_copy, one_more_on, one_less_on, without_descriptor, with_descriptor, pipes_given_up}
 use Rattle.kernel_spec.specs.views.PipeEnds.{there, fit}
 use Rattle.pipe_core.specs.Pipe.{with_more}
 use Rattle.kernel_spec.specs.views.State.{ProgramFile}
 use Rattle.std.specs.List.{list_any}
+use Rattle.std.proofs.lemmas.Option.{same_Some}
 use Rattle.kernel_spec.specs.laws.Worlds.{IsExecDone}
 use Rattle.kernel_spec.specs.rows.Stores.{nothing_stored, stored_by_row, Lies}
 use Rattle.xk_base.specs.Bytes.{put_in, put_byte}
 use Rattle.xk_base.specs.Gathered.{insert_some}
-use Rattle.kernel_spec.proofs.steps.Maps.{get_same, get_other}
+use Rattle.kernel_spec.proofs.steps.MapsAfterChange.{get_same, get_other}
 use Rattle.kernel_spec.proofs.rows.Filled.{Fills, wait_fills, pipe_fills, read_fills}
-use Rattle.kernel_spec.proofs.rows.RowParts.{wait_parts, pipe_parts, read_parts, perform_parts, perform_row, unless, unless_nothing, moving, length_of_int, write_on, write_to, kill_pid, killed_by, exec_program, exec_path, dup_at, dup_on, dup_number, close_at, close_on, close_number, sbrk_by, grow_to, shrink_to, lazy_by, exec_loaded, running, sleep_for, open_at, open_path, opened_as, kind_named, fork_parts, forked, cannot_fork, with_child}
+use Rattle.kernel_spec.proofs.rows.RowParts.{wait_parts, pipe_parts, read_parts, perform_parts, perform_row, unless, unless_nothing, moving, length_of_int}
+use Rattle.kernel_spec.proofs.rows.RowParts.{write_on, write_to, killed_by, exec_program, exec_path, dup_at, dup_on, dup_number, close_at}
+use Rattle.kernel_spec.proofs.rows.RowParts.{sbrk_by, grow_to, shrink_to, lazy_by, exec_loaded, sleep_for, open_at, open_path, opened_as}
+use Rattle.kernel_spec.proofs.rows.RowParts.{kind_named, forked, cannot_fork, with_child, close_number, close_on, fork_parts, kill_pid, running}
 use Rattle.kernel_spec.specs.rows.Terminal.{room_for}
 use Rattle.kernel_spec.specs.steps.Ticks.{ticks_since, has_passed}
-
-same_view : (a b : View) → Some a ≡ Some b → a ≡ b
-same_view a b e = cc
-
-some_page : (a b : Page) → Some a ≡ Some b → a ≡ b
-some_page a b e = cc
 
 -- ---- what a step may change
 
@@ -84,10 +84,16 @@ put_stays i a b page x at = by (get i.pages (a / 4096)) refl
     by None e = (x, at, same_but (record { address = a; bytes = b ∷ [] }) page x x refl)
     by (Some p) e = elim (cases_eq page (a / 4096)) [
       | inl same ↦
-          let is : p ≡ x = some_page p x (sym e ∙ ap (get i.pages) (sym same) ∙ at) in (
+          let is : p ≡ x = same_Some p x (sym e ∙ ap (get i.pages) (sym same) ∙ at) in (
             record { perm = p.perm; bytes = set p.bytes (a % 4096) b },
             ap (get (insert i.pages (a / 4096) (record { perm = p.perm; bytes = set p.bytes (a % 4096) b }))) same ∙ get_same i.pages (a / 4096) _,
-            (ap (λ (q : Page). q.perm) is, length-set p.bytes (a % 4096) b ∙ ap (λ (q : Page). length q.bytes) is, λ k below apart. get_or-set_other p.bytes (a % 4096) k b 0 (λ here. apart (omega (arith, same, here), omega (arith, same, here))) ∙ ap (λ (q : Page). slice_index q.bytes k) is),
+            (
+              ap (λ (q : Page). q.perm) is,
+              length-set p.bytes (a % 4096) b
+                  ∙ ap (λ (q : Page). length q.bytes) is,
+              λ k below apart. get_or-set_other p.bytes (a % 4096) k b 0
+                  (λ here. apart (omega (arith, same, here), omega (arith, same, here))) ∙ ap (λ (q : Page). slice_index q.bytes k) is,
+            ),
           )
       | inr other ↦ (x, get_other i.pages (a / 4096) _ page other ∙ at, same_but (record { address = a; bytes = b ∷ [] }) page x x refl)
     ]
@@ -97,13 +103,21 @@ unfolding write_image
 write_stays [] i a page x at = (x, at, same_but (record { address = a; bytes = [] }) page x x refl)
 write_stays (b ∷ bs) i a page x at =
     let (y, here, first) = put_stays i a b page x at in
-    let (z, there, others) = write_stays bs (put_byte i a b) (a + 1) page y here in
-    (z, there, (others.0 ∙ first.0, others.1 ∙ first.1, λ k below apart. others.2 k below (λ l. let low = l.0 in let high = l.1 in apart (omega (arith, low), omega (arith, high))) ∙ first.2 k below (λ l. let low = l.0 in let high = l.1 in apart (omega (arith, low), omega (arith, high)))))
+    let (z, there, others) = write_stays bs (put_byte i a b) (a + 1) page y here in (
+      z,
+      there,
+      (
+        others.0 ∙ first.0,
+        others.1 ∙ first.1,
+        λ k below apart. others.2 k below (λ l. let low = l.0 in let high = l.1 in apart (omega (arith, low), omega (arith, high)))
+            ∙ first.2 k below (λ l. let low = l.0 in let high = l.1 in apart (omega (arith, low), omega (arith, high))),
+      ),
+    )
 
 written_stays : (bytes : List ℕ) (i : Image) (a : ℕ) → Stay (record { address = a; bytes = bytes }) i (write_image i a bytes)
 written_stays bytes i a page x y was is =
     let (z, there, but) = write_stays bytes i a page x was in
-    let same : z ≡ y = some_page z y (sym there ∙ is) in
+    let same : z ≡ y = same_Some z y (sym there ∙ is) in
     subst (λ (p : Page). IsBut (record { address = a; bytes = bytes }) page x p) same but
 
 -- ---- a store of user code
@@ -152,20 +166,31 @@ module _ (i : Image) (st : Store) (page : ℕ) (fits : st.address % 4096 + lengt
     ]
   ]
 
-  stores_in : (q : Option Page) (x y : Page) → length x.bytes ≡ 4096 → get i.pages page ≡ Some x → get i.pages at ≡ q → get (insert_some i.pages at (written_page q o st.bytes)) page ≡ Some y → IsBut these page x y
-  stores_in None x y whole was e found = same_but these page x y (some_page y x (sym found ∙ was))
+  stores_in : (q : Option Page) (x y : Page) → length x.bytes ≡ 4096 → get i.pages page ≡ Some x → get i.pages at ≡ q
+      → get (insert_some i.pages at (written_page q o st.bytes)) page ≡ Some y → IsBut these page x y
+  stores_in None x y whole was e found = same_but these page x y (same_Some y x (sym found ∙ was))
   stores_in (Some p) x y whole was e found = elim (cases_eq page at) [
     | inl same ↦
-        let same_one : p ≡ x = some_page p x (sym e ∙ ap (get i.pages) (sym same) ∙ was) in
-        let new : record p { bytes = written p.bytes o st.bytes } ≡ y = some_page (record p { bytes = written p.bytes o st.bytes }) y (sym (ap (get (insert i.pages at (record p { bytes = written p.bytes o st.bytes }))) same ∙ get_same i.pages at (record p { bytes = written p.bytes o st.bytes })) ∙ found) in
+        let same_one : p ≡ x = same_Some p x (sym e ∙ ap (get i.pages) (sym same) ∙ was) in
+        let new : record p { bytes = written p.bytes o st.bytes } ≡ y =
+        same_Some (record p { bytes = written p.bytes o st.bytes }) y
+        (sym (ap (get (insert i.pages at (record p { bytes = written p.bytes o st.bytes }))) same
+        ∙ get_same i.pages at (record p { bytes = written p.bytes o st.bytes })) ∙ found) in
         let full : length p.bytes ≡ 4096 = ap (λ (z : Page). length z.bytes) same_one ∙ whole in
-        let long : o ≤ length p.bytes = omega (arith, full) in
-        (ap (λ (z : Page). z.perm) (sym new) ∙ ap (λ (z : Page). z.perm) same_one, ap (λ (z : Page). length z.bytes) (sym new) ∙ as_long p.bytes o st.bytes (omega (arith, fits, full)) ∙ ap (λ (z : Page). length z.bytes) same_one, λ k below apart. ap (λ (z : Page). slice_index z.bytes k) (sym new) ∙ outside p k long same apart ∙ ap (λ (z : Page). slice_index z.bytes k) same_one)
-    | inr other ↦ same_but these page x y (some_page y x (sym found ∙ get_other i.pages at (record p { bytes = written p.bytes o st.bytes }) page other ∙ was))
+        let long : o ≤ length p.bytes = omega (arith, full) in (
+          ap (λ (z : Page). z.perm) (sym new) ∙ ap (λ (z : Page). z.perm) same_one,
+          ap (λ (z : Page). length z.bytes) (sym new)
+              ∙ as_long p.bytes o st.bytes (omega (arith, fits, full))
+              ∙ ap (λ (z : Page). length z.bytes) same_one,
+          λ k below apart. ap (λ (z : Page). slice_index z.bytes k) (sym new)
+              ∙ outside p k long same apart ∙ ap (λ (z : Page). slice_index z.bytes k) same_one,
+        )
+    | inr other ↦ same_but these page x y (same_Some y x (sym found ∙ get_other i.pages at (record p { bytes = written p.bytes o st.bytes }) page other ∙ was))
   ]
 
 -- so it is of a page of 4,096 bytes
-pub store_stays : (i : Image) (st : Store) → st.address % 4096 + length st.bytes ≤ 4096 → (page : ℕ) (x y : Page) → length x.bytes ≡ 4096 → get i.pages page ≡ Some x → get (with_store i st).pages page ≡ Some y → IsBut (record { address = st.address; bytes = st.bytes }) page x y
+pub store_stays : (i : Image) (st : Store) → st.address % 4096 + length st.bytes ≤ 4096 → (page : ℕ) (x y : Page) → length x.bytes ≡ 4096
+    → get i.pages page ≡ Some x → get (with_store i st).pages page ≡ Some y → IsBut (record { address = st.address; bytes = st.bytes }) page x y
 unfolding write_pages
 store_stays i st fits page x y whole was is = stores_in i st page fits (get i.pages (st.address / 4096)) x y whole was refl is
 
@@ -184,10 +209,10 @@ grown_keeps m first zero page q x at = at
 grown_keeps m first (suc n) page q x at = kept_page (is_some (get (with_absent m first n page) (first + n))) (with_absent m first n page) (first + n) q page x refl (grown_keeps m first n page q x at)
 
 grown_same : (i : Image) (size : ℕ) → SamePages i (grown i size)
-grown_same i size page x y was is = some_page y x (sym is ∙ grown_keeps i.pages (page_count i.size) (page_count size - page_count i.size) (zeroed data_rights) page x was)
+grown_same i size page x y was is = same_Some y x (sym is ∙ grown_keeps i.pages (page_count i.size) (page_count size - page_count i.size) (zeroed data_rights) page x was)
 
 shrunk_same : (i : Image) (size : ℕ) → SamePages i (shrunk i size)
-shrunk_same i size page x y was is = some_page y x (sym (cut (nat_lt page (page_count size)) (get i.pages page) (sym (gathered-get (get i.pages) (page_count size) page) ∙ is)) ∙ was)
+shrunk_same i size page x y was is = same_Some y x (sym (cut (nat_lt page (page_count size)) (get i.pages page) (sym (gathered-get (get i.pages) (page_count size) page) ∙ is)) ∙ was)
   where
     cut : (b : Bool) (o : Option Page) → cond b o None ≡ Some y → o ≡ Some y
     cut true o e = e
@@ -196,10 +221,10 @@ shrunk_same i size page x y was is = some_page y x (sym (cut (nat_lt page (page_
 -- ---- how a row ends
 
 calm_by : (v u : View) → SamePages v.image u.image → (o : Own) → o.next ≡ Some u → Calm v o
-calm_by v u keeps o is n e page x y was there = keeps page x y was (ap (λ (w : View). get w.image.pages page) (same_view u n (sym is ∙ e)) ∙ there)
+calm_by v u keeps o is n e page x y was there = keeps page x y was (ap (λ (w : View). get w.image.pages page) (same_Some u n (sym is ∙ e)) ∙ there)
 
 same_pages : (i j : Image) → j ≡ i → SamePages i j
-same_pages i j e page x y was is = some_page y x (sym is ∙ ap (λ (k : Image). get k.pages page) e ∙ was)
+same_pages i j e page x y was is = same_Some y x (sym is ∙ ap (λ (k : Image). get k.pages page) e ∙ was)
 
 calm_same : (v u : View) → u.image ≡ v.image → (o : Own) → o.next ≡ Some u → Calm v o
 calm_same v u same o is = calm_by v u (same_pages v.image u.image same) o is
@@ -254,7 +279,8 @@ module _ (c : Call) (v : View) where
   done_at_row n moved u e = whichever (nat_le n moved) (done c (pos n) u) (waits c moved u) (same_done (pos n) u e) (same_waits moved u e)
 
   write_to_row : (n : ℕ) (x : Shown) → Calm v (write_to c v n x)
-  write_to_row n Shown_terminal = done_at_row n (c.moved + room_for v.console (n - c.moved)) (record v { console = record v.console { to_send = v.console.to_send ++ next_bytes c v (room_for v.console (n - c.moved)) } }) refl
+  write_to_row n Shown_terminal = done_at_row n (c.moved + room_for v.console (n - c.moved))
+      (record v { console = record v.console { to_send = v.console.to_send ++ next_bytes c v (room_for v.console (n - c.moved)) } }) refl
   write_to_row n (Shown_file program offset) = refusal
   write_to_row n (Shown_pipe name end pipe) = calm_unless (nat_eq pipe.readers 0) c v
       (λ _. done_at c n (c.moved + fit pipe (n - c.moved)) (record v { descriptors = change_pipe name (with_more (next_bytes c v (fit pipe (n - c.moved))) pipe) v.descriptors }))
@@ -271,7 +297,8 @@ module _ (c : Call) (v : View) where
       (calm_unless (not (list_any (nat_eq q) v.pids)) c v (λ _. record (done c (pos 0) (record v { killed = v.killed || nat_eq q v.pid })) { marked = Some q })
       (calm_same v (answered (pos 0) (record v { killed = v.killed || nat_eq q v.pid })) refl (record (done c (pos 0) (record v { killed = v.killed || nat_eq q v.pid })) { marked = Some q }) refl))
 
-  loaded_row : row_of c.number ≡ Some Exec → (l : Loaded) (b : Bool) → ¬ IsExecDone c (unless b c v (λ _. done c (pos l.argc) (running l v))) → Calm v (unless b c v (λ _. done c (pos l.argc) (running l v)))
+  loaded_row : row_of c.number ≡ Some Exec → (l : Loaded) (b : Bool) → ¬ IsExecDone c (unless b c v (λ _. done c (pos l.argc) (running l v)))
+      → Calm v (unless b c v (λ _. done c (pos l.argc) (running l v)))
   loaded_row row l true apart = refusal
   loaded_row row l false apart = absurd (apart (l.argc, row, refl))
 
@@ -302,7 +329,11 @@ module _ (c : Call) (v : View) where
 
   close_from : (k : ℕ) (o : Option Descriptor) → Calm v (close_on c v k o)
   close_from k None = refusal
-  close_from k (Some d) = calm_same v (answered (pos 0) (record v { descriptors = without_descriptor k (one_less_on d.shown v.descriptors); free = v.free + pipes_given_up (one_less_on d.shown v.descriptors) })) refl (close_at c v k d) refl
+  close_from k (Some d) = calm_same v (answered (pos 0)
+      (record v {
+        descriptors = without_descriptor k (one_less_on d.shown v.descriptors);
+        free = v.free + pipes_given_up (one_less_on d.shown v.descriptors);
+      })) refl (close_at c v k d) refl
 
   close_row : (z : ℤ) → Calm v (close_number c v z)
   close_row (negsuc k) = refusal
@@ -315,7 +346,8 @@ module _ (c : Call) (v : View) where
   sbrklazy_row : (z : ℤ) → Calm v (lazy_by c v z)
   sbrklazy_row (negsuc k) = refusal
   sbrklazy_row (pos n) = calm_unless (nat_lt SIZE_LIMIT (v.image.size + n)) c v (λ _. done c (pos v.image.size) (record v { image = grown_lazily v.image (v.image.size + n) }))
-      (calm_by v (answered (pos v.image.size) (record v { image = grown_lazily v.image (v.image.size + n) })) (λ page x y was is. some_page y x (sym is ∙ was)) (done c (pos v.image.size) (record v { image = grown_lazily v.image (v.image.size + n) })) refl)
+      (calm_by v (answered (pos v.image.size) (record v { image = grown_lazily v.image (v.image.size + n) }))
+      (λ page x y was is. same_Some y x (sym is ∙ was)) (done c (pos v.image.size) (record v { image = grown_lazily v.image (v.image.size + n) })) refl)
 
   sleep_row : (z : ℤ) → Calm v (sleep_for c v z)
   sleep_row z = whichever (not (has_passed (ticks_since v.clock c.clock) z)) (waits c 0 v) (done c (pos 0) v) (same_waits 0 v refl) (same_done (pos 0) v refl)

@@ -1,10 +1,11 @@
 -- A call that has waited isn't refused later, but for a write to a pipe that nobody reads any more.
 use Rattle.std.proofs.Common.{◌≡◌, ◌≢◌, ℕ, ◌+◌, ◌-◌, ◌++◌, Bool, true, false, cond, not, ◌&&◌, ◌||◌, List, [], ◌∷◌, length, take, drop, refl, ap, sym, ◌∙◌, subst, inl, inr}
 use Rattle.std.specs.Prelude.{Option, None, Some, ℤ, pos, negsuc, nat_eq, nat_le, IsSome, is_some, slice_get, option_map}
-use Rattle.std.specs.FinMap.{FinMap, get, keys}
+use Rattle.std.specs.FinMap.{FinMap, get}
 use Rattle.std.specs.Ordering.{nat_cmp}
 use Rattle.std.specs.List.{list_any}
-use Rattle.std.proofs.lemmas.Bool.{eqb-true}
+use Rattle.std.proofs.lemmas.Bool.{eqb-true, or_right}
+use Rattle.std.proofs.lemmas.Option.{same_Some}
 use Rattle.xk_base.specs.Image.{Image}
 use Rattle.xk_base.specs.Bytes.{write_image}
 use Rattle.pipe_core.specs.Pipe.{Pipe, with_more, without_first}
@@ -20,27 +21,27 @@ use Rattle.kernel_spec.specs.views.State.{State, live}
 use Rattle.kernel_spec.specs.views.View.{View, Descriptor, Shown, Shown_terminal, Shown_file, Shown_pipe, view, view_of, child_of, in_use}
 use Rattle.kernel_spec.specs.steps.Own.{Own, Called, Exited, gone_with}
 use Rattle.kernel_spec.specs.others.Quiet.{seen, seen_children, or_child, same_child}
-use Rattle.kernel_spec.specs.rows.Tables.{advance, change_pipe, changed, change_shown}
+use Rattle.kernel_spec.specs.rows.Tables.{advance, change_pipe}
 use Rattle.kernel_spec.specs.rows.Calls.{Row, Wait, Read, Write, Sleep, row_of, gone, refused, done, waits, least_zombie, has_child, done_at, next_bytes}
-use Rattle.kernel_spec.specs.steps.Step.{own, unless_killed, going_on}
+use Rattle.kernel_spec.specs.steps.Step.{own, unless_killed}
 use Rattle.kernel_spec.specs.runs.Run.{World, Event, Outcome, Happens, StepOf}
 use Rattle.kernel_spec.specs.laws.Worlds.{IsStepOf, SameRest, SameDescriptors, bare, bare_shown, Others, IsBrokenWrite, OnlyBrokenWritesFailLate}
 use Rattle.kernel_spec.proofs.rows.Falls.{Falls, falls_done, falls_unless, falls_moving, falls_cond, own_falls}
-use Rattle.kernel_spec.proofs.steps.Writes.{writable_written}
+use Rattle.kernel_spec.proofs.steps.WritesKeepRights.{writable_written}
 use Rattle.kernel_spec.proofs.rows.RowNumbers.{row-number}
-use Rattle.kernel_spec.proofs.steps.Rest.{rest}
-use Rattle.kernel_spec.proofs.steps.Kept.{kept, kept_others, pid_is}
+use Rattle.kernel_spec.proofs.steps.ViewIsSharedAndRest.{rest}
+use Rattle.kernel_spec.proofs.steps.OthersKeepTheRest.{kept, kept_others, pid_is}
 use Rattle.kernel_spec.proofs.turns.KeepsSlots.{listed}
 use Rattle.kernel_spec.proofs.rows.Pids.{has}
 use Rattle.kernel_spec.proofs.runs.Cuts.{IsOutside, kind}
-use Rattle.kernel_spec.proofs.rows.RowParts.{IsSettled, perform_row, unless, reaped, told, without_child, read_on, read_from, moving, unless_nothing, write_on, write_to, length_of_int, sleep_for, perform_parts, wait_parts}
+use Rattle.kernel_spec.proofs.rows.RowParts.{IsSettled, perform_row, unless, reaped, read_on, read_from, moving, unless_nothing}
+use Rattle.kernel_spec.proofs.rows.RowParts.{write_on, write_to, length_of_int, sleep_for, wait_parts, told, without_child}
 use Rattle.kernel_spec.specs.rows.Terminal.{room_for}
-use Rattle.kernel_spec.proofs.rows.RowsByParts.{perform_same}
 use Rattle.kernel_spec.proofs.rows.SettledWaits.{still_settled, settled_written}
 use Rattle.kernel_spec.specs.steps.Ticks.{ticks_since, has_passed}
-
-one_of : (a b : View) → Some a ≡ Some b → a ≡ b
-one_of a b e = cc
+use Rattle.kernel_spec.proofs.Common.{view_pids}
+use Rattle.kernel_spec.proofs.rows.BareDescriptors.{bare_alike, bare_changed, in_use_bare}
+use Rattle.kernel_spec.proofs.rows.Again.{by_perform}
 
 -- ---- a step that is refused is a write to a pipe that nobody reads
 
@@ -79,7 +80,8 @@ module _ (c : Call) (m : View) where
   fine_read n file Shown_terminal =
       let p : Pulled = pulled (nat_eq c.moved 0) (n - c.moved) m.console.committed in
       let after : View = record m { image = write_image m.image (c.a1 + c.moved) p.taken; console = record m.console { committed = p.left } } in
-      fine_cond p.ended (done c (pos (c.moved + length p.taken)) after) (waits c (c.moved + length p.taken) after) (fine_done (c.moved + length p.taken) after) (fine_waits (c.moved + length p.taken) after)
+      fine_cond p.ended (done c (pos (c.moved + length p.taken)) after) (waits c (c.moved + length p.taken) after)
+      (fine_done (c.moved + length p.taken) after) (fine_waits (c.moved + length p.taken) after)
   fine_read n file (Shown_file program offset) =
       let bytes : List ℕ = take n (drop offset (program_bytes (slice_get m.programs program))) in
       fine_done (length bytes) (record m { image = write_image m.image c.a1 bytes; descriptors = advance file (length bytes) m.descriptors })
@@ -92,8 +94,11 @@ module _ (c : Call) (m : View) where
   fine_at n moved u = fine_cond (nat_le n moved) (done c (pos n) u) (waits c moved u) (fine_done n u) (fine_waits moved u)
 
   -- on the console or a pipe
-  fine_write : row_of c.number ≡ Some Write → (d : ℕ) (e : Descriptor) → c_int c.a0 ≡ pos d → m.descriptors d ≡ Some e → (n : ℕ) (x : Shown) → e.shown ≡ x → ((program offset : ℕ) → x ≢ Shown_file program offset) → OnlyBroken m c (write_to c m n x)
-  fine_write row d e at on n Shown_terminal is other = fine_at n (c.moved + room_for m.console (n - c.moved)) (record m { console = record m.console { to_send = m.console.to_send ++ next_bytes c m (room_for m.console (n - c.moved)) } })
+  fine_write : row_of c.number ≡ Some Write → (d : ℕ) (e : Descriptor) → c_int c.a0 ≡ pos d → m.descriptors d ≡ Some e → (n : ℕ) (x : Shown)
+      → e.shown ≡ x → ((program offset : ℕ) → x ≢ Shown_file program offset) → OnlyBroken m c (write_to c m n x)
+  fine_write row d e at on n Shown_terminal is other =
+      fine_at n (c.moved + room_for m.console (n - c.moved))
+      (record m { console = record m.console { to_send = m.console.to_send ++ next_bytes c m (room_for m.console (n - c.moved)) } })
   fine_write row d e at on n (Shown_file program offset) is other = absurd (other program offset refl)
   fine_write row d e at on n (Shown_pipe name end pipe) is other = by (nat_eq pipe.readers 0) refl
     where
@@ -102,7 +107,8 @@ module _ (c : Call) (m : View) where
 
       by : (b : Bool) → nat_eq pipe.readers 0 ≡ b → OnlyBroken m c (unless b c m go)
       by true none number answer = (d, e, name, end, pipe, row, at, on, is, eqb-true pipe.readers 0 none)
-      by false some number answer = fine_at n (c.moved + fit pipe (n - c.moved)) (record m { descriptors = change_pipe name (with_more (next_bytes c m (fit pipe (n - c.moved))) pipe) m.descriptors }) number answer
+      by false some number answer = fine_at n (c.moved + fit pipe (n - c.moved))
+          (record m { descriptors = change_pipe name (with_more (next_bytes c m (fit pipe (n - c.moved))) pipe) m.descriptors }) number answer
 
 -- ---- whoever waits in such a view n, and sees m later
 
@@ -117,10 +123,6 @@ marked_own : (m : View) → m.killed ≡ true → own m ≡ gone (Exited minus_o
 unfolding own
 marked_own m marked = ap (unless_killed m) marked
 
-by_perform : (c : Call) (r : Row) (m : View) → m.killed ≡ false → m.call ≡ Some c → IsSettled c m → row_of c.number ≡ Some r → own m ≡ perform_row c m (Some r)
-unfolding own perform_parts
-by_perform c r m alive busy settled row = ap (unless_killed m) alive ∙ ap (going_on m) busy ∙ perform_same c m settled ∙ ap (perform_row c m) row
-
 -- what is to be shown of a row that waits
 abbrev Goes_on : Row → Call → View → Type 0
 Goes_on r c u = (m : View) → m.image ≡ u.image → SameDescriptors m u → (has_child u ≡ true → has_child m ≡ true) → OnlyBroken m c (perform_row c m (Some r))
@@ -129,7 +131,7 @@ falls_waits : (r : Row) (c : Call) (moved : ℕ) (u : View) → IsSettled c u �
 falls_waits r c moved u settled row h k n a e m rest same kids number answer = by m.killed refl
   where
     is : record u { call = Some (record c { moved = moved }) } ≡ n
-    is = one_of (record u { call = Some (record c { moved = moved }) }) n e
+    is = same_Some (record u { call = Some (record c { moved = moved }) }) n e
 
     busy : m.call ≡ Some (record c { moved = moved })
     busy = rest.3 ∙ sym (ap (λ (x : View). x.call) is)
@@ -140,7 +142,10 @@ falls_waits r c moved u settled row h k n a e m rest same kids number answer = b
     by : (b : Bool) → m.killed ≡ b → IsBrokenWrite m
     by true marked = let no : Exited minus_one ≡ Called number minus_one = sym (ap (λ (o : Own). o.answer) (marked_own m marked)) ∙ answer in let bad : ⊥ = cc in absurd bad
     by false alive =
-        let broken = h m image (λ d. same d ∙ sym (ap (λ (x : View). bare (x.descriptors d)) is)) (λ some. kids (sym (ap has_child is) ∙ some)) number (sym (ap (λ (o : Own). o.answer) (by_perform (record c { moved = moved }) r m alive busy (still_settled c moved u m image settled) row)) ∙ answer) in
+        let broken = h m image (λ d. same d ∙ sym (ap (λ (x : View). bare (x.descriptors d)) is))
+        (λ some. kids (sym (ap has_child is) ∙ some)) number
+        (sym (ap (λ (o : Own). o.answer) (by_perform (record c { moved = moved }) r m alive busy (still_settled c moved u m image settled) row))
+        ∙ answer) in
         (record c { moved = moved }, broken.0, broken.1, broken.2, broken.3, broken.4, busy, row-number is_write_row Write 16 refl refl c.number broken.5, broken.6, broken.7, broken.8, broken.9)
 
 -- ---- wait and sleep
@@ -149,11 +154,14 @@ module _ (c : Call) (v : View) where
   wait_later : (not (nat_eq c.a0 0) && not (writable v.image c.a0 4)) ≡ false → has_child v ≡ true → Goes_on Wait (record c { moved = 0 }) v
   unfolding perform_row
   wait_later there some m image same kids =
-      fine_unless (record c { moved = 0 }) m (not (nat_eq c.a0 0) && not (writable m.image c.a0 4)) (λ _. reaped (record c { moved = 0 }) m (least_zombie m)) (ap (λ (i : Image). not (nat_eq c.a0 0) && not (writable i c.a0 4)) image ∙ there) (by (least_zombie m))
+      fine_unless (record c { moved = 0 }) m (not (nat_eq c.a0 0) && not (writable m.image c.a0 4))
+      (λ _. reaped (record c { moved = 0 }) m (least_zombie m))
+      (ap (λ (i : Image). not (nat_eq c.a0 0) && not (writable i c.a0 4)) image ∙ there) (by (least_zombie m))
     where
       by : (o : Option ℕ) → OnlyBroken m (record c { moved = 0 }) (reaped (record c { moved = 0 }) m o)
       by (Some q) = fine_done (record c { moved = 0 }) m q (told c.a0 (child_status (m.children q)) (without_child q m))
-      by None = subst (λ (b : Bool). OnlyBroken m (record c { moved = 0 }) (cond b (waits (record c { moved = 0 }) 0 m) (refused (record c { moved = 0 }) m))) (sym (kids some)) (fine_waits (record c { moved = 0 }) m 0 m)
+      by None = subst (λ (b : Bool). OnlyBroken m (record c { moved = 0 })
+          (cond b (waits (record c { moved = 0 }) 0 m) (refused (record c { moved = 0 }) m))) (sym (kids some)) (fine_waits (record c { moved = 0 }) m 0 m)
 
   wait_by : IsSettled c v → row_of c.number ≡ Some Wait → (not (nat_eq c.a0 0) && not (writable v.image c.a0 4)) ≡ false → (o : Option ℕ) → Falls Late (reaped c v o)
   wait_by settled row there (Some q) = falls_done Late c (pos q) (told c.a0 (child_status (v.children q)) (without_child q v))
@@ -167,32 +175,14 @@ module _ (c : Call) (v : View) where
   sleep_later m image same kids = by (c_int c.a0)
     where
       by : (z : ℤ) → OnlyBroken m (record c { moved = 0 }) (sleep_for (record c { moved = 0 }) m z)
-      by z = fine_cond (record c { moved = 0 }) m (not (has_passed (ticks_since m.clock c.clock) z)) (waits (record c { moved = 0 }) 0 m) (done (record c { moved = 0 }) (pos 0) m) (fine_waits (record c { moved = 0 }) m 0 m) (fine_done (record c { moved = 0 }) m 0 m)
+      by z = fine_cond (record c { moved = 0 }) m (not (has_passed (ticks_since m.clock c.clock) z)) (waits (record c { moved = 0 }) 0 m)
+          (done (record c { moved = 0 }) (pos 0) m) (fine_waits (record c { moved = 0 }) m 0 m) (fine_done (record c { moved = 0 }) m 0 m)
 
   sleep_by : IsSettled c v → row_of c.number ≡ Some Sleep → (z : ℤ) → Falls Late (sleep_for c v z)
-  sleep_by settled row z = falls_cond Late (not (has_passed (ticks_since v.clock c.clock) z)) (waits c 0 v) (done c (pos 0) v) (λ _. falls_waits Sleep c 0 v settled row sleep_later) (λ _. falls_done Late c (pos 0) v)
+  sleep_by settled row z = falls_cond Late (not (has_passed (ticks_since v.clock c.clock) z)) (waits c 0 v) (done c (pos 0) v)
+      (λ _. falls_waits Sleep c 0 v settled row sleep_later) (λ _. falls_done Late c (pos 0) v)
 
 -- ---- descriptors
-
-in_use_bare : (m u : View) → SameDescriptors m u → (z : ℤ) → bare (in_use m z) ≡ bare (in_use u z)
-in_use_bare m u same (pos d) = same d
-in_use_bare m u same (negsuc k) = refl
-
-abbrev read_of : Option Descriptor → Bool
-read_of None = true
-read_of (Some d) = d.read
-
-abbrev write_of : Option Descriptor → Bool
-write_of None = true
-write_of (Some d) = d.write
-
-abbrev shown_in : Option Descriptor → Shown
-shown_in None = Shown_terminal
-shown_in (Some d) = d.shown
-
-found : (o : Option Descriptor) (d : Descriptor) → bare o ≡ bare (Some d) → (e : Descriptor) × (o ≡ Some e) × (e.read ≡ d.read) × (e.write ≡ d.write) × (bare_shown e.shown ≡ bare_shown d.shown)
-found None d h = let no : ⊥ = cc in absurd no
-found (Some e) d h = (e, refl, ap read_of h, ap write_of h, ap shown_in h)
 
 on_number : (m : View) (e : Descriptor) (z : ℤ) → in_use m z ≡ Some e → (d : ℕ) × (z ≡ pos d) × (m.descriptors d ≡ Some e)
 on_number m e (pos d) h = (d, refl, h)
@@ -201,18 +191,23 @@ on_number m e (negsuc k) h = let no : ⊥ = cc in absurd no
 -- ---- read
 
 module _ (c : Call) (v : View) (d : Descriptor) (on : in_use v (c_int c.a0) ≡ Some d) (n : ℕ) (size : c_int c.a2 ≡ pos n) where
-  read_later : not d.read ≡ false → not (writable v.image c.a1 (length_of_int (c_int c.a2))) ≡ false → (k : ℕ) (u : View) → (writable u.image c.a1 (length_of_int (c_int c.a2)) ≡ writable v.image c.a1 (length_of_int (c_int c.a2))) → u.descriptors ≡ v.descriptors → Goes_on Read (record c { moved = k }) u
+  read_later : not d.read ≡ false → not (writable v.image c.a1 (length_of_int (c_int c.a2))) ≡ false → (k : ℕ) (u : View)
+      → (writable u.image c.a1 (length_of_int (c_int c.a2)) ≡ writable v.image c.a1 (length_of_int (c_int c.a2))) → u.descriptors ≡ v.descriptors
+      → Goes_on Read (record c { moved = k }) u
   unfolding perform_row
   read_later reads there k u buffer table m image same kids =
-      let here = found (in_use m (c_int c.a0)) d (in_use_bare m v (λ x. same x ∙ ap (λ (t : ℕ → Option Descriptor). bare (t x)) table) (c_int c.a0) ∙ ap bare on) in
+      let here = bare_alike (in_use m (c_int c.a0)) d (in_use_bare m v (λ x. same x ∙ ap (λ (t : ℕ → Option Descriptor). bare (t x)) table) (c_int c.a0) ∙ ap bare on) in
       subst (λ (o : Option Descriptor). OnlyBroken m (record c { moved = k }) (read_on (record c { moved = k }) m o)) (sym here.1) (by here.0 (ap not here.2 ∙ reads))
     where
       still : not (writable m.image c.a1 (length_of_int (c_int c.a2))) ≡ false
       still = ap (λ (i : Image). not (writable i c.a1 (length_of_int (c_int c.a2)))) image ∙ ap not buffer ∙ there
 
       by : (e : Descriptor) → not e.read ≡ false → OnlyBroken m (record c { moved = k }) (read_on (record c { moved = k }) m (Some e))
-      by e can = fine_unless (record c { moved = k }) m (not e.read) (λ _. moving (record c { moved = k }) m (writable m.image c.a1 (length_of_int (c_int c.a2))) (c_int c.a2) (λ j. read_from (record c { moved = k }) m j e.file e.shown)) can
-          (fine_moving (record c { moved = k }) m (writable m.image c.a1 (length_of_int (c_int c.a2))) (c_int c.a2) (λ j. read_from (record c { moved = k }) m j e.file e.shown) n size still (λ j. fine_read (record c { moved = k }) m j e.file e.shown))
+      by e can = fine_unless (record c { moved = k }) m (not e.read)
+          (λ _. moving (record c { moved = k }) m (writable m.image c.a1 (length_of_int (c_int c.a2))) (c_int c.a2)
+          (λ j. read_from (record c { moved = k }) m j e.file e.shown)) can
+          (fine_moving (record c { moved = k }) m (writable m.image c.a1 (length_of_int (c_int c.a2))) (c_int c.a2)
+          (λ j. read_from (record c { moved = k }) m j e.file e.shown) n size still (λ j. fine_read (record c { moved = k }) m j e.file e.shown))
 
   module _ (settled : IsSettled c v) (row : row_of c.number ≡ Some Read) (reads : not d.read ≡ false) (room : not (writable v.image c.a1 (length_of_int (c_int c.a2))) ≡ false) where
     read_by : (x : Shown) → Falls Late (read_from c v n d.file x)
@@ -220,18 +215,21 @@ module _ (c : Call) (v : View) (d : Descriptor) (on : in_use v (c_int c.a0) ≡ 
         let p : Pulled = pulled (nat_eq c.moved 0) (n - c.moved) v.console.committed in
         let after : View = record v { image = write_image v.image (c.a1 + c.moved) p.taken; console = record v.console { committed = p.left } } in
         falls_cond Late p.ended (done c (pos (c.moved + length p.taken)) after) (waits c (c.moved + length p.taken) after) (λ _. falls_done Late c (pos (c.moved + length p.taken)) after)
-        (λ _. falls_waits Read c (c.moved + length p.taken) after (settled_written c v p.taken (c.a1 + c.moved) settled) row (read_later reads room (c.moved + length p.taken) after (writable_written p.taken v.image (c.a1 + c.moved) c.a1 (length_of_int (c_int c.a2))) refl))
+        (λ _. falls_waits Read c (c.moved + length p.taken) after (settled_written c v p.taken (c.a1 + c.moved) settled) row
+        (read_later reads room (c.moved + length p.taken) after (writable_written p.taken v.image (c.a1 + c.moved) c.a1 (length_of_int (c_int c.a2))) refl))
     read_by (Shown_file program offset) =
         let bytes : List ℕ = take n (drop offset (program_bytes (slice_get v.programs program))) in
         falls_done Late c (pos (length bytes)) (record v { image = write_image v.image c.a1 bytes; descriptors = advance d.file (length bytes) v.descriptors })
     read_by (Shown_pipe name end pipe) =
         let k : ℕ = there pipe n in
         let after : View = record v { image = write_image v.image c.a1 (take k pipe.bytes); descriptors = change_pipe name (without_first k pipe) v.descriptors } in
-        falls_cond Late (not (has_bytes pipe)) (waits c 0 v) (done c (pos k) after) (λ _. falls_waits Read c 0 v settled row (read_later reads room 0 v refl refl)) (λ _. falls_done Late c (pos k) after)
+        falls_cond Late (not (has_bytes pipe)) (waits c 0 v) (done c (pos k) after)
+        (λ _. falls_waits Read c 0 v settled row (read_later reads room 0 v refl refl)) (λ _. falls_done Late c (pos k) after)
 
 read_on_row : (c : Call) (v : View) → IsSettled c v → row_of c.number ≡ Some Read → (o : Option Descriptor) → in_use v (c_int c.a0) ≡ o → Falls Late (read_on c v o)
 read_on_row c v settled row None on = falls_done Late c minus_one v
-read_on_row c v settled row (Some d) on = falls_unless Late (not d.read) c v _ (λ reads. falls_moving Late c v (writable v.image c.a1 (length_of_int (c_int c.a2))) (c_int c.a2) (λ n. read_from c v n d.file d.shown)
+read_on_row c v settled row (Some d) on = falls_unless Late (not d.read) c v _
+    (λ reads. falls_moving Late c v (writable v.image c.a1 (length_of_int (c_int c.a2))) (c_int c.a2) (λ n. read_from c v n d.file d.shown)
     (λ n size some room. read_by c v d on n size settled row reads room d.shown))
 
 -- ---- write
@@ -246,20 +244,12 @@ bare_file Shown_terminal = refl
 bare_file (Shown_file program offset) = refl
 bare_file (Shown_pipe name end pipe) = refl
 
-bare_changed : (f : ℕ → Pipe → Pipe) (o : Option Descriptor) → bare (changed f o) ≡ bare o
-bare_changed f None = refl
-bare_changed f (Some e) = ap (λ (x : Shown). Some (record e { shown = x })) (by e.shown)
-  where
-    by : (x : Shown) → bare_shown (change_shown f x) ≡ bare_shown x
-    by Shown_terminal = refl
-    by (Shown_file program offset) = refl
-    by (Shown_pipe name end pipe) = refl
-
-module _ (c : Call) (v : View) (d : Descriptor) (on : in_use v (c_int c.a0) ≡ Some d) (n : ℕ) (size : c_int c.a2 ≡ pos n) (settled : IsSettled c v) (row : row_of c.number ≡ Some Write) (writes : not d.write ≡ false) (room : not (readable v.image c.a1 (length_of_int (c_int c.a2))) ≡ false) where
+module _ (c : Call) (v : View) (d : Descriptor) (on : in_use v (c_int c.a0) ≡ Some d) (n : ℕ) (size : c_int c.a2 ≡ pos n) (settled : IsSettled c v)
+    (row : row_of c.number ≡ Some Write) (writes : not d.write ≡ false) (room : not (readable v.image c.a1 (length_of_int (c_int c.a2))) ≡ false) where
   write_later : is_file d.shown ≡ false → (k : ℕ) (u : View) → u.image ≡ v.image → ((x : ℕ) → bare (u.descriptors x) ≡ bare (v.descriptors x)) → Goes_on Write (record c { moved = k }) u
   unfolding perform_row
   write_later kind k u same_image table m image same kids =
-      let here = found (in_use m (c_int c.a0)) d (in_use_bare m v (λ x. same x ∙ table x) (c_int c.a0) ∙ ap bare on) in
+      let here = bare_alike (in_use m (c_int c.a0)) d (in_use_bare m v (λ x. same x ∙ table x) (c_int c.a0) ∙ ap bare on) in
       let at = on_number m here.0 (c_int c.a0) here.1 in
       let other : is_file here.0.shown ≡ false = sym (bare_file here.0.shown) ∙ ap is_file here.4 ∙ bare_file d.shown ∙ kind in
       subst (λ (o : Option Descriptor). OnlyBroken m (record c { moved = k }) (write_on (record c { moved = k }) m o)) (sym here.1) (by here.0 at.0 at.1 at.2 (ap not here.3 ∙ writes) other)
@@ -267,8 +257,11 @@ module _ (c : Call) (v : View) (d : Descriptor) (on : in_use v (c_int c.a0) ≡ 
       still : not (readable m.image c.a1 (length_of_int (c_int c.a2))) ≡ false
       still = ap (λ (i : Image). not (readable i c.a1 (length_of_int (c_int c.a2)))) (image ∙ same_image) ∙ room
 
-      by : (e : Descriptor) (x : ℕ) → c_int c.a0 ≡ pos x → m.descriptors x ≡ Some e → not e.write ≡ false → is_file e.shown ≡ false → OnlyBroken m (record c { moved = k }) (write_on (record c { moved = k }) m (Some e))
-      by e x at is can other = fine_unless (record c { moved = k }) m (not e.write) (λ _. moving (record c { moved = k }) m (readable m.image c.a1 (length_of_int (c_int c.a2))) (c_int c.a2) (λ j. write_to (record c { moved = k }) m j e.shown)) can
+      by : (e : Descriptor) (x : ℕ) → c_int c.a0 ≡ pos x → m.descriptors x ≡ Some e → not e.write ≡ false → is_file e.shown ≡ false
+          → OnlyBroken m (record c { moved = k }) (write_on (record c { moved = k }) m (Some e))
+      by e x at is can other = fine_unless (record c { moved = k }) m (not e.write)
+          (λ _. moving (record c { moved = k }) m (readable m.image c.a1 (length_of_int (c_int c.a2))) (c_int c.a2)
+          (λ j. write_to (record c { moved = k }) m j e.shown)) can
           (fine_moving (record c { moved = k }) m (readable m.image c.a1 (length_of_int (c_int c.a2))) (c_int c.a2) (λ j. write_to (record c { moved = k }) m j e.shown) n size still
           (λ j. fine_write (record c { moved = k }) m row x e at is j e.shown refl (λ program offset file. let no : false ≡ true = sym other ∙ ap is_file file in let bad : ⊥ = cc in bad)))
 
@@ -288,12 +281,15 @@ module _ (c : Call) (v : View) (d : Descriptor) (on : in_use v (c_int c.a0) ≡ 
 
 write_on_row : (c : Call) (v : View) → IsSettled c v → row_of c.number ≡ Some Write → (o : Option Descriptor) → in_use v (c_int c.a0) ≡ o → Falls Late (write_on c v o)
 write_on_row c v settled row None on = falls_done Late c minus_one v
-write_on_row c v settled row (Some d) on = falls_unless Late (not d.write) c v _ (λ writes. falls_moving Late c v (readable v.image c.a1 (length_of_int (c_int c.a2))) (c_int c.a2) (λ n. write_to c v n d.shown)
+write_on_row c v settled row (Some d) on = falls_unless Late (not d.write) c v _
+    (λ writes. falls_moving Late c v (readable v.image c.a1 (length_of_int (c_int c.a2))) (c_int c.a2) (λ n. write_to c v n d.shown)
     (λ n size some room. write_by c v d on n size settled row writes room d.shown refl))
 
 own_late : (v : View) → Falls Late (own v)
 own_late v =
-    own_falls Late (λ c u alive settled row. wait_row c u settled row) (λ c u alive settled row. read_on_row c u settled row (in_use u (c_int c.a0)) refl) (λ c u alive settled row. write_on_row c u settled row (in_use u (c_int c.a0)) refl)
+    own_falls Late (λ c u alive settled row. wait_row c u settled row)
+    (λ c u alive settled row. read_on_row c u settled row (in_use u (c_int c.a0)) refl)
+    (λ c u alive settled row. write_on_row c u settled row (in_use u (c_int c.a0)) refl)
     (λ c u alive settled row. sleep_by c u settled row (c_int c.a0)) v
 
 -- ---- children stay children while others make steps
@@ -314,19 +310,22 @@ seen_keeps (Some status) v w q some = by (nat_eq q v.pid) (w.children q) some
 children_are : (s : State) (p : ℕ) (o : Option Live) (v : View) → option_map (view_of s p) o ≡ Some v → (q : ℕ) → v.children q ≡ child_of p (get s.processes q)
 unfolding view_of
 children_are s p None v e q = let no : ⊥ = cc in absurd no
-children_are s p (Some l) v e q = ap (λ (x : View). x.children q) (sym (one_of (view_of s p l) v e))
+children_are s p (Some l) v e q = ap (λ (x : View). x.children q) (sym (same_Some (view_of s p l) v e))
 
 -- one event that is no step of p's
 module _ (p : ℕ) (w t : World) (n m : View) (before : view w.state p ≡ Some n) (after : view t.state p ≡ Some m) where
   step_keeps : (q : ℕ) (o : Outcome) → StepOf w q o t → p ≢ q → Keeps n m
   unfolding seen
   step_keeps q o h apart =
-      let is : seen w.state h.before (own h.before) n ≡ m = one_of (seen w.state h.before (own h.before) n) m (sym (h.state.others p n (λ e. apart (e ∙ pid_is w.state q (live w.state q) h.before h.was)) before) ∙ after) in
+      let is : seen w.state h.before (own h.before) n ≡ m =
+      same_Some (seen w.state h.before (own h.before) n) m
+      (sym (h.state.others p n (λ e. apart (e ∙ pid_is w.state q (live w.state q) h.before h.was)) before) ∙ after) in
       λ c some. subst (λ (x : View). IsSome (x.children c)) is (seen_keeps (gone_with (own h.before).answer) h.before n c some)
 
   outside_keeps : (o : Outcome) → IsOutside w o t → Keeps n m
   outside_keeps o h c some =
-      sym (ap is_some (children_are w.state p (live w.state p) n before c ∙ ap (λ (x : FinMap nat_cmp Process). child_of p (get x c)) (sym h.processes) ∙ sym (children_are t.state p (live t.state p) m after c))) ∙ some
+      sym (ap is_some (children_are w.state p (live w.state p) n before c
+      ∙ ap (λ (x : FinMap nat_cmp Process). child_of p (get x c)) (sym h.processes) ∙ sym (children_are t.state p (live t.state p) m after c))) ∙ some
 
   event_keeps : (e : Event) (o : Outcome) → Happens w e o t → ¬ IsStepOf p w e → Keeps n m
   event_keeps e o h apart = elim (kind w t e o h) [
@@ -335,23 +334,19 @@ module _ (p : ℕ) (w t : World) (n m : View) (before : view w.state p ≡ Some 
   ]
 
 others_keep_children : (p : ℕ) (w t : World) (es : List (Event × Outcome)) (n m : View) → Others p w es t → view w.state p ≡ Some n → view t.state p ≡ Some m → Keeps n m
-others_keep_children p w t [] n m others before after q some = subst (λ (x : View). IsSome (x.children q)) (one_of n m (sym before ∙ ap (λ (x : World). view x.state p) (sym others) ∙ after)) some
+others_keep_children p w t [] n m others before after q some = subst (λ (x : View). IsSome (x.children q)) (same_Some n m (sym before ∙ ap (λ (x : World). view x.state p) (sym others) ∙ after)) some
 others_keep_children p w t (e ∷ es) n m others before after q some =
     let one = kept p n w others.0 e.0 e.1 others.1 others.2 before in
     others_keep_children p others.0 t es one.after m others.3 one.is after q (event_keeps p w others.0 n one.after before one.is e.0 e.1 others.1 others.2 q some)
 
 -- a child is among the pids
-or_true : (a b : Bool) → b ≡ true → (a || b) ≡ true
-or_true true b e = refl
-or_true false b e = e
-
 any_of : (q : ℕ) (f : ℕ → Bool) (xs : List ℕ) → has q xs ≡ true → f q ≡ true → list_any f xs ≡ true
 any_of q f [] e g = let no : ⊥ = cc in absurd no
 any_of q f (x ∷ xs) e g = by (λ h. any_of q f xs h g) (nat_eq q x) refl e
   where
     by : (has q xs ≡ true → list_any f xs ≡ true) → (b : Bool) → nat_eq q x ≡ b → (b || has q xs) ≡ true → (f x || list_any f xs) ≡ true
     by later true same h = ap (λ (k : ℕ). f k || list_any f xs) (sym (eqb-true q x same)) ∙ ap (λ (b : Bool). b || list_any f xs) g
-    by later false apart h = or_true (f x) (list_any f xs) (later h)
+    by later false apart h = or_right (f x) (list_any f xs) (later h)
 
 some_of : (f : ℕ → Bool) (xs : List ℕ) → list_any f xs ≡ true → (q : ℕ) × (f q ≡ true)
 some_of f [] e = let no : ⊥ = cc in absurd no
@@ -365,24 +360,19 @@ there_is : (p : ℕ) (o : Option Process) → IsSome (child_of p o) → IsSome o
 there_is p None h = let no : ⊥ = cc in absurd no
 there_is p (Some x) h = refl
 
-pids_are : (s : State) (p : ℕ) (o : Option Live) (v : View) → option_map (view_of s p) o ≡ Some v → v.pids ≡ keys s.processes
-unfolding view_of
-pids_are s p None v e = let no : ⊥ = cc in absurd no
-pids_are s p (Some l) v e = sym (ap (λ (u : View). u.pids) (one_of (view_of s p l) v e))
-
 still_child : (s : State) (p : ℕ) (n m : View) → view s p ≡ Some m → Keeps n m → has_child n ≡ true → has_child m ≡ true
 still_child s p n m see keeps some =
     let q = some_of (λ q. is_some (n.children q)) n.pids some in
     let child : IsSome (m.children q.0) = keeps q.0 q.1 in
     let process : IsSome (get s.processes q.0) = there_is p (get s.processes q.0) (ap is_some (sym (children_are s p (live s p) m see q.0)) ∙ child) in
-    any_of q.0 (λ q. is_some (m.children q)) m.pids (ap (has q.0) (pids_are s p (live s p) m see) ∙ listed s.processes q.0 ∙ process) child
+    any_of q.0 (λ q. is_some (m.children q)) m.pids (ap (has q.0) (view_pids s p (live s p) m see) ∙ listed s.processes q.0 ∙ process) child
 
 -- ---- as a law
 
 pub only_broken_writes_fail_late : OnlyBrokenWritesFailLate
 only_broken_writes_fail_late p w t es v n m number waited answer next before others after refusal =
     let k = kept_others p n w t es others before in
-    let same : rest m ≡ rest n = ap rest (one_of m k.after (sym after ∙ k.is)) ∙ k.same in
+    let same : rest m ≡ rest n = ap rest (same_Some m k.after (sym after ∙ k.is)) ∙ k.same in
     own_late v waited n answer next m
     (ap (λ (u : View). u.pid) same, ap (λ (u : View). u.regs) same, ap (λ (u : View). u.image) same, ap (λ (u : View). u.call) same, ap (λ (u : View). u.programs) same)
     (λ d. ap (λ (u : View). u.descriptors d) same)

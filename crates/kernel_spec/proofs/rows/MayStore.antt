@@ -3,7 +3,7 @@ use Rattle.std.proofs.Common.{◌≡◌, ℕ, zero, suc, ◌+◌, ◌-◌, ◌/�
 use Rattle.std.specs.Prelude.{Option, None, Some, ℤ, pos, negsuc, nat_eq, option_map, Result, Ok, Err}
 use Rattle.std.specs.List.{list_all, range_with_len}
 use Rattle.std.specs.FinMap.{get}
-use Rattle.std.proofs.lemmas.Bool.{eqb-true, or_parts, and_parts, and_from}
+use Rattle.std.proofs.lemmas.Bool.{eqb-true, or_parts, and_parts, and_from, or_right, both_ways}
 use Rattle.xk_base.specs.Words.{le_bytes}
 use Rattle.xk_base.proofs.Words.{length-le_bytes}
 use Rattle.xk_base.specs.Image.{Image, Page}
@@ -34,7 +34,8 @@ use Rattle.kernel_spec.specs.rows.Buffers.{writable, may_touching, reaches_touch
 use Rattle.kernel_spec.specs.rows.Touches.{has_absent}
 use Rattle.kernel_spec.specs.views.View.{View, Descriptor, Shown, Shown_terminal, Shown_file, Shown_pipe, in_use}
 use Rattle.kernel_spec.specs.steps.Own.{Own, Answer, Stepped, Called, Blocked, Exited, Faulted}
-use Rattle.kernel_spec.specs.rows.Calls.{Row, Fork, Exit, Wait, Pipe_row, Read, Kill, Exec, Dup, Getpid, Sbrk, Sleep, Uptime, Open, Write, Close, Sbrklazy, row_of, perform, refused, least_zombie, read_stored}
+use Rattle.kernel_spec.specs.rows.Calls.{Row, Fork, Exit, Wait, Pipe_row, Read, Kill, Exec, Dup, Getpid, Sbrk}
+use Rattle.kernel_spec.specs.rows.Calls.{Sleep, Uptime, Open, Write, Close, Sbrklazy, row_of, perform, refused, least_zombie, read_stored}
 use Rattle.kernel_spec.specs.steps.Step.{own, unless_killed, going_on, after_instruction, call_begun, begun}
 use Rattle.kernel_spec.specs.rows.Tables.{lowest_free}
 use Rattle.kernel_spec.specs.rows.Stores.{Lies, nothing_stored, stored_by_wait, next_ends, stored_by_pipe, stored_from, unless_refused, stored_by_row, stored_by_instruction, stored_in}
@@ -54,9 +55,6 @@ none_allowed i a l = let high = l.1 in absurd (omega (arith, high))
 nothing_lies : (a : ℕ) → Lies nothing_stored a → ⊥
 nothing_lies a l = let high = l.1 in omega (arith, high)
 
-not_both : {b : Bool} → b ≡ true → b ≡ false → ⊥
-not_both e f = let no : true ≡ false = sym e ∙ f in let bad : ⊥ = cc in bad
-
 -- bytes of a buffer that may be written
 of_buffer : (i : Image) (from n m : ℕ) (s : Store) → reaches Storing i from n ≡ true → s.address ≡ from + m → length s.bytes ≤ n - m → Allowed i s
 of_buffer i from n m s all at few a l = by (may Storing i a) refl
@@ -67,7 +65,7 @@ of_buffer i from n m s all at few a l = by (may Storing i a) refl
         let low = l.0 in
         let high = l.1 in
         let here : from + (a - from) ≡ a = omega (arith, low, at) in
-        absurd (not_both all (reaches-not Storing i from n (a - from) (omega (arith, low, high, at, few)) (ap (may Storing i) here ∙ e)))
+        absurd (both_ways _ (reaches-not Storing i from n (a - from) (omega (arith, low, high, at, few)) (ap (may Storing i) here ∙ e)) all)
 
 -- bytes of a buffer that has no absent page may be written as they stand
 settled_reaches : (i : Image) (a n : ℕ) → has_absent (pages_at a n) i ≡ false → writable i a n ≡ true → reaches Storing i a n ≡ true
@@ -97,8 +95,9 @@ module _ (c : Call) (v : View) where
   wait_told (Exited status) all = none_allowed v.image
   wait_told (Faulted cause) all = none_allowed v.image
 
-  wait_allowed : (z w : Bool) (o : Own) → nat_eq c.a0 0 ≡ z → (z ≡ false → w ≡ true → reaches Storing v.image c.a0 4 ≡ true) → Allowed v.image (stored_by_wait c v.children (unless (not z && not w) c v (λ _. o)).answer)
-  wait_allowed true w o is all = wait_told o.answer (λ some. absurd (not_both is some))
+  wait_allowed : (z w : Bool) (o : Own) → nat_eq c.a0 0 ≡ z → (z ≡ false → w ≡ true → reaches Storing v.image c.a0 4 ≡ true)
+      → Allowed v.image (stored_by_wait c v.children (unless (not z && not w) c v (λ _. o)).answer)
+  wait_allowed true w o is all = wait_told o.answer (λ some. absurd (both_ways _ some is))
   wait_allowed false true o is all = wait_told o.answer (λ some. all refl refl)
   wait_allowed false false o is all = none_allowed v.image
 
@@ -147,11 +146,13 @@ module _ (c : Call) (v : View) where
     where
       by : (b : Bool) → nat_eq n 0 ≡ b → Allowed v.image (unless_refused (unless_nothing b c v (λ _. unless (not (writable v.image c.a1 n)) c v (λ _. go n))).answer (read_stored c v n x))
       by true none = nothing_read n x none
-      by false some = unless_read (read_stored c v n x) (writable v.image c.a1 n) (go n) (λ all. not_refused (go n).answer (read_stored c v n x) (from_row n x (settled_reaches v.image c.a1 n settled all)))
+      by false some = unless_read (read_stored c v n x) (writable v.image c.a1 n) (go n)
+          (λ all. not_refused (go n).answer (read_stored c v n x) (from_row n x (settled_reaches v.image c.a1 n settled all)))
 
   on_row : has_absent (pages_at c.a1 (length_of_int (c_int c.a2))) v.image ≡ false → (o : Option Descriptor) → Allowed v.image (unless_refused (read_on c v o).answer (stored_from c v o))
   on_row settled None = none_allowed v.image
-  on_row settled (Some d) = unless_read (read_stored c v (or_zero (natural (c_int c.a2))) d.shown) d.read (moving c v (writable v.image c.a1 (length_of_int (c_int c.a2))) (c_int c.a2) (λ n. read_from c v n d.file d.shown))
+  on_row settled (Some d) = unless_read (read_stored c v (or_zero (natural (c_int c.a2))) d.shown) d.read
+      (moving c v (writable v.image c.a1 (length_of_int (c_int c.a2))) (c_int c.a2) (λ n. read_from c v n d.file d.shown))
       (λ _. moving_read (c_int c.a2) d.shown (λ n. read_from c v n d.file d.shown) settled)
 
   by_row : (r : Option Row) → has_absent (buffer_of c r) v.image ≡ false → Allowed v.image (stored_by_row c v r (perform_row c v r).answer)
@@ -229,7 +230,8 @@ one_or_rest memory n address bytes (Some cell) (Some rest) is later e (suc k) lt
 cells_at : (memory : Memory) (n address : ℕ) (bytes : List ℕ) → bytes_at (λ c. c.write) memory address n ≡ Some bytes → (k : ℕ) → k < n → Writable memory ((address + k) % 2 ^ 64)
 unfolding bytes_at
 cells_at memory zero address bytes e k lt = absurd (omega (arith, lt))
-cells_at memory (suc n) address bytes e k lt = one_or_rest memory n address bytes (memory (address % 2 ^ 64)) (bytes_at (λ c. c.write) memory (address + 1) n) refl (λ rest left. cells_at memory n (address + 1) rest left) e k lt
+cells_at memory (suc n) address bytes e k lt = one_or_rest memory n address bytes (memory (address % 2 ^ 64))
+    (bytes_at (λ c. c.write) memory (address + 1) n) refl (λ rest left. cells_at memory n (address + 1) rest left) e k lt
 
 -- a width's bytes, from an address that is a multiple of it on, don't go round
 no_wrap : (w : Width) (address k : ℕ) → address < 2 ^ 64 → address % bytes_of_width w ≡ 0 → k < bytes_of_width w → (address + k) % 2 ^ 64 ≡ address + k
@@ -270,7 +272,9 @@ storing_writes memory address w value s small e = by (nat_eq (address % bytes_of
           subst (Writable memory) (no_wrap w address (a - address) small even below ∙ here) (cells_at memory (bytes_of_width w) address bytes is (a - address) below),
     )
 
-    by : (b : Bool) → nat_eq (address % bytes_of_width w) 0 ≡ b → cond b (or_fault StorePageFault (λ _. record { address = address; bytes = le_bytes (bytes_of_width w) value }) (bytes_at (λ c. c.write) memory address (bytes_of_width w))) (Err StoreMisaligned) ≡ Ok s → WhereWritable memory s
+    by : (b : Bool) → nat_eq (address % bytes_of_width w) 0 ≡ b
+        → cond b (or_fault StorePageFault (λ _. record { address = address; bytes = le_bytes (bytes_of_width w) value })
+        (bytes_at (λ c. c.write) memory address (bytes_of_width w))) (Err StoreMisaligned) ≡ Ok s → WhereWritable memory s
     by true even f = found (bytes_at (λ c. c.write) memory address (bytes_of_width w)) (eqb-true (address % bytes_of_width w) 0 even) refl f
     by false even f = let no : ⊥ = cc in absurd no
 
@@ -313,7 +317,8 @@ module _ (regs : Registers) (memory : Memory) (r : Registers) (s : Store) where
   row_writes (op.Jalr d t imm) e = no_jump _ _ r _ s e
   row_writes (op.Branch b t u offset) e = no_branch _ _ e
   row_writes (op.Load l d t imm) e = no_load l d _ e
-  row_writes (op.Store w t u imm) e = store_writes (storing memory (add (reg regs t) (extended 12 imm)) (store_width w) (reg regs u)) (add (reg regs t) (extended 12 imm)) (store_width w) (reg regs u) (omega arith) refl e
+  row_writes (op.Store w t u imm) e = store_writes (storing memory (add (reg regs t) (extended 12 imm)) (store_width w) (reg regs u))
+      (add (reg regs t) (extended 12 imm)) (store_width w) (reg regs u) (omega arith) refl e
   row_writes (op.OpImm o d t imm) e = no_store _ r s e
   row_writes (op.ShiftImm o d t places) e = no_store _ r s e
   row_writes (op.Op o d t u) e = no_store _ r s e
@@ -363,10 +368,6 @@ instruction_may regs image r s is a l = user_may image a ((instruction_writes re
 abbrev AllowedTouching : Image → Store → Type 0
 AllowedTouching i s = (a : ℕ) → Lies s a → may_touching Storing i a ≡ true
 
-touching : (b c : Bool) → c ≡ true → (b || c) ≡ true
-touching true c e = refl
-touching false c e = e
-
 -- where user code may store once pages are touched, it may do so before, or may do so once the page is touched
 may_before : (i j : Image) → IsTouched i j → (a : ℕ) → may Storing j a ≡ true → may_touching Storing i a ≡ true
 may_before i j t a e = by (get i.pages (a / 4096)) (get j.pages (a / 4096)) refl refl e
@@ -375,7 +376,7 @@ may_before i j t a e = by (get i.pages (a / 4096)) (get j.pages (a / 4096)) refl
     by None None was is h = let no : ⊥ = cc in absurd no
     by None (Some y) was is h = ap (λ (b : Bool). b || may Storing i a) (t.new (a / 4096) y was is).0
     by (Some x) q was is h =
-        touching (is_absent i (a / 4096)) (may Storing i a) (ap (λ (p : Option Page). allows Storing (option_map perm_of_page p)) (was ∙ sym (t.kept (a / 4096) x was) ∙ is) ∙ h)
+        or_right (is_absent i (a / 4096)) (may Storing i a) (ap (λ (p : Option Page). allows Storing (option_map perm_of_page p)) (was ∙ sym (t.kept (a / 4096) x was) ∙ is) ∙ h)
 
 touching_before : (i j : Image) → IsTouched i j → (a : ℕ) → may_touching Storing j a ≡ true → may_touching Storing i a ≡ true
 touching_before i j t a e = by (is_absent j (a / 4096)) refl e
@@ -445,7 +446,7 @@ row_allowed c v = by_call (λ (o : Own). AllowedTouching v.image (stored_by_row 
 
 instruction_allowed : (v : View) (st : Step) → next_instruction v.regs v.image ≡ st → AllowedTouching v.image (stored_by_instruction v st (after_instruction v st).answer)
 instruction_allowed v (Next r None) is = λ a l. absurd (nothing_lies a l)
-instruction_allowed v (Next r (Some st)) is = λ a l. touching (is_absent v.image (a / 4096)) (may Storing v.image a) (instruction_may v.regs v.image r st is a l)
+instruction_allowed v (Next r (Some st)) is = λ a l. or_right (is_absent v.image (a / 4096)) (may Storing v.image a) (instruction_may v.regs v.image r st is a l)
 instruction_allowed v Ecall is = λ a l. row_allowed (call_begun v) (begun v) a (subst (λ (s : Store). Lies s a) (sym (same_begun v (perform (call_begun v) (begun v)).answer)) l)
 instruction_allowed v (Fault cause) is = λ a l. absurd (nothing_lies a l)
 

@@ -7,7 +7,7 @@ use Rattle.std.proofs.lemmas.Bool.Decides.{eqb_tells}
 use Rattle.xk_base.specs.declared.limits.TheConstants.{NOFILE, SIZE_LIMIT, MAXPATH, MAXARG, ARG_BYTES}
 use Rattle.xk_base.specs.declared.errors.ExecError.{ExecError}
 use Rattle.kernel_spec.specs.steps.Instruction.{next_instruction}
-use Rattle.kernel_spec.specs.views.State.{ProgramFile, State, live}
+use Rattle.kernel_spec.specs.views.State.{ProgramFile, live}
 use Rattle.xk_base.specs.Words.{le_bytes}
 use Rattle.xk_base.specs.Image.{Image, price}
 use Rattle.xk_base.specs.Bytes.{write_image}
@@ -24,21 +24,30 @@ use Rattle.kernel_spec.specs.rows.Buffers.{readable, writable, text_at, texts_at
 use Rattle.kernel_spec.specs.rows.Touches.{has_absent}
 use Rattle.kernel_spec.specs.views.PipeEnds.{there, fit, has_bytes}
 use Rattle.kernel_spec.specs.views.Programs.{program_bytes, program_named}
-use Rattle.kernel_spec.specs.views.Processes.{Live, child_status}
-use Rattle.kernel_spec.specs.views.View.{View, Descriptors, Descriptor, numbered, Shown, Shown_terminal, Shown_file, Shown_pipe, view_of, named, rename, rename_shown, pipe_name, shown_pipe_name, in_use}
+use Rattle.kernel_spec.specs.views.Processes.{child_status}
+use Rattle.kernel_spec.specs.views.View.{View, Descriptors, Descriptor, Shown, Shown_terminal, Shown_file, Shown_pipe, named, rename, rename_shown, pipe_name, shown_pipe_name, in_use}
 use Rattle.kernel_spec.specs.steps.Own.{Own, Exited, Faulted}
-use Rattle.kernel_spec.specs.rows.Tables.{lowest_free, lowest_free_above, with_descriptor, without_descriptor, with_copy, change_pipes, changed, change_pipe, advance, advanced, one_more_on, one_less_on, pipes_given_up}
-use Rattle.kernel_spec.specs.rows.Calls.{Row, Fork, Exit, Wait, Pipe_row, Read, Kill, Exec, Dup, Getpid, Sbrk, Sleep, Uptime, Open, Write, Close, Sbrklazy, row_of, perform, answered, gone, done, refused, waits, least_zombie, has_child, done_at, next_bytes}
+use Rattle.kernel_spec.specs.rows.Tables.{lowest_free, lowest_free_above, with_descriptor, without_descriptor, with_copy, changed}
+use Rattle.kernel_spec.specs.rows.Tables.{change_pipe, advance, advanced, one_more_on, one_less_on, pipes_given_up}
+use Rattle.kernel_spec.specs.rows.Calls.{Row, Fork, Exit, Wait, Pipe_row, Read, Kill, Exec, Dup, Getpid}
+use Rattle.kernel_spec.specs.rows.Calls.{Sbrk, Sleep, Uptime, Open, Write, Close, Sbrklazy, row_of, perform, answered}
+use Rattle.kernel_spec.specs.rows.Calls.{gone, done, refused, waits, least_zombie, has_child, done_at, next_bytes}
 use Rattle.kernel_spec.specs.steps.Step.{own, unless_killed, going_on, after_instruction, call_begun, begun, stored}
 use Rattle.kernel_spec.specs.laws.Worlds.{IsNewPipe, NoOldPipe, NoOldChild}
-use Rattle.std.proofs.lemmas.Bool.{eq-eqb, ltb-true}
-use Rattle.kernel_spec.proofs.steps.Least.{least_passes}
-use Rattle.kernel_spec.proofs.steps.Names.{named_at}
-use Rattle.kernel_spec.proofs.rows.RowParts.{buffer_of, perform_parts, perform_row, unless, unless_nothing, moving, length_of_int, reaped, without_child, piped, piped_from, with_pipe, read_on, read_from, write_on, write_to, kill_pid, killed_by, exec_program, exec_path, dup_at, dup_on, dup_number, close_at, close_on, close_number, sbrk_by, shrink_to, lazy_by, exec_loaded, running, sleep_for, open_at, open_path, opened_as, kind_named, fork_parts, forked, cannot_fork, with_child, Named, The_console, A_program, Nothing}
+use Rattle.std.proofs.lemmas.Bool.{eq-eqb}
+use Rattle.std.proofs.lemmas.Option.{same_Some}
+use Rattle.kernel_spec.proofs.steps.LeastPasses.{least_passes}
+use Rattle.kernel_spec.proofs.steps.NamesAreChosenAgain.{named_at}
+use Rattle.kernel_spec.proofs.rows.RowParts.{buffer_of, perform_parts, perform_row, unless, unless_nothing, moving, length_of_int, reaped, piped}
+use Rattle.kernel_spec.proofs.rows.RowParts.{piped_from, with_pipe, read_on, read_from, write_on, write_to, killed_by, exec_program, exec_path}
+use Rattle.kernel_spec.proofs.rows.RowParts.{dup_at, dup_on, dup_number, close_at, sbrk_by, shrink_to, lazy_by, exec_loaded, sleep_for}
+use Rattle.kernel_spec.proofs.rows.RowParts.{open_at, open_path, opened_as, kind_named, forked, cannot_fork, with_child, Named, The_console}
+use Rattle.kernel_spec.proofs.rows.RowParts.{A_program, Nothing, close_number, close_on, fork_parts, kill_pid, running, without_child}
 use Rattle.kernel_spec.specs.rows.Terminal.{room_for}
 use Rattle.kernel_spec.proofs.rows.Touched.{touched_view}
 use Rattle.kernel_spec.proofs.rows.ByTouch.{by_call_apart, by_instruction_apart}
 use Rattle.kernel_spec.specs.steps.Ticks.{ticks_since, has_passed}
+use Rattle.kernel_spec.proofs.Common.{view_low}
 
 abbrev Fine : View → Own → Type 0
 Fine v o = ((n : View) → o.next ≡ Some n → (x : Pipe) → IsNewPipe v n x → x.bytes ≡ []) × ((c : View) → o.child ≡ Some c → c.image ≡ v.image)
@@ -46,9 +55,6 @@ Fine v o = ((n : View) → o.next ≡ Some n → (x : Pipe) → IsNewPipe v n x 
 -- no descriptor is in use in u that wasn't in v
 abbrev NoMore : Descriptors → Descriptors → Type 0
 NoMore t u = (d : ℕ) → t d ≡ None → u d ≡ None
-
-some_view : (a b : View) → Some a ≡ Some b → a ≡ b
-some_view a b e = cc
 
 no_child : (o : Own) (v c : View) → o.child ≡ None → o.child ≡ Some c → c.image ≡ v.image
 no_child o v c none is = let no : ⊥ = cc in absurd no
@@ -58,15 +64,12 @@ nothing_shown o name end x none is = let e : None ≡ Some (Shown_pipe name end 
 
 name_shown : (o : Option Descriptor) (name : ℕ) (end : End) (x : Pipe) → option_map (λ y. y.shown) o ≡ Some (Shown_pipe name end x) → pipe_name o ≡ Some name
 name_shown None name end x is = let no : ⊥ = cc in absurd no
-name_shown (Some d) name end x is = ap shown_pipe_name (shown_of d.shown (Shown_pipe name end x) is)
-  where
-    shown_of : (a b : Shown) → Some a ≡ Some b → a ≡ b
-    shown_of a b e = cc
+name_shown (Some d) name end x is = ap shown_pipe_name (same_Some d.shown (Shown_pipe name end x) is)
 
 fine_by : (v u : View) (o : Own) → o.next ≡ Some u → o.child ≡ None → NoMore v.descriptors u.descriptors → Fine v o
 fine_by v u o next none more = (
   λ n e x new.
-      let same : n.descriptors new.0 ≡ None = ap (λ (w : View). w.descriptors new.0) (some_view n u (sym e ∙ next)) ∙ more new.0 (new.4 new.0 (name_shown (n.descriptors new.0) new.1 new.2 x new.3)) in
+      let same : n.descriptors new.0 ≡ None = ap (λ (w : View). w.descriptors new.0) (same_Some n u (sym e ∙ next)) ∙ more new.0 (new.4 new.0 (name_shown (n.descriptors new.0) new.1 new.2 x new.3)) in
       absurd (nothing_shown (n.descriptors new.0) new.1 new.2 x same new.3),
   λ c is. no_child o v c none is,
 )
@@ -83,9 +86,6 @@ named_none t d e = by (nat_lt d NOFILE)
     by : (b : Bool) → cond b (option_map (rename t) (t d)) None ≡ None
     by true = ap (option_map (rename t)) e
     by false = refl
-
-changed_more : (f : ℕ → Pipe → Pipe) (t : Descriptors) → NoMore t (change_pipes f t)
-changed_more f t d e = ap (changed f) e
 
 advanced_more : (file n : ℕ) (t : Descriptors) → NoMore t (advance file n t)
 advanced_more file n t d e = ap (advanced file n) e
@@ -116,7 +116,7 @@ fine_empty : (v u : View) (o : Own) → o.next ≡ Some u → o.child ≡ None �
 fine_empty v u o next none empty = (
   λ n e x new.
       let before : v.descriptors new.0 ≡ None = new.4 new.0 (name_shown (n.descriptors new.0) new.1 new.2 x new.3) in
-      empty new.0 before new.1 new.2 x (ap (λ (w : View). option_map (λ y. y.shown) (w.descriptors new.0)) (some_view u n (sym next ∙ e)) ∙ new.3),
+      empty new.0 before new.1 new.2 x (ap (λ (w : View). option_map (λ y. y.shown) (w.descriptors new.0)) (same_Some u n (sym next ∙ e)) ∙ new.3),
   λ c is. no_child o v c none is,
 )
 
@@ -132,14 +132,12 @@ renamed_empty : (t : Descriptors) (o : Option Descriptor) → EmptyPipe o → Em
 renamed_empty t None h = none_empty None refl
 renamed_empty t (Some d) h = by d.shown (λ name end x is. h name end x is)
   where
-    inside : (a b : Shown) → Some a ≡ Some b → a ≡ b
-    inside a b e = cc
-
-    by : (shown : Shown) → ((name : ℕ) (end : End) (x : Pipe) → Some shown ≡ Some (Shown_pipe name end x) → x.bytes ≡ []) → (name : ℕ) (end : End) (x : Pipe) → Some (rename_shown t shown) ≡ Some (Shown_pipe name end x) → x.bytes ≡ []
+    by : (shown : Shown) → ((name : ℕ) (end : End) (x : Pipe) → Some shown ≡ Some (Shown_pipe name end x) → x.bytes ≡ [])
+        → (name : ℕ) (end : End) (x : Pipe) → Some (rename_shown t shown) ≡ Some (Shown_pipe name end x) → x.bytes ≡ []
     by Shown_terminal g name end x is = let no : ⊥ = cc in absurd no
     by (Shown_file program offset) g name end x is = let no : ⊥ = cc in absurd no
     by (Shown_pipe m f y) g name end x is =
-        let same : y ≡ x = ap (pipe_of_shown y) (inside (rename_shown t (Shown_pipe m f y)) (Shown_pipe name end x) is) in
+        let same : y ≡ x = ap (pipe_of_shown y) (same_Some (rename_shown t (Shown_pipe m f y)) (Shown_pipe name end x) is) in
         ap (λ (z : Pipe). z.bytes) (sym same) ∙ g m f y refl
 
 named_empty : (t : Descriptors) (d : ℕ) → EmptyPipe (t d) → EmptyPipe (named t d)
@@ -158,14 +156,12 @@ value_empty t k o d h g = by (nat_eq d k)
     by false = g
 
 no_pipe_empty : (file : ℕ) (r w : Bool) (shown : Shown) → shown_pipe_name shown ≡ None → EmptyPipe (Some (record { file = file; read = r; write = w; shown = shown }))
-no_pipe_empty file r w shown none name end x is = let e : None ≡ Some name = sym none ∙ name_shown (Some (record { file = file; read = r; write = w; shown = shown })) name end x is in let no : ⊥ = cc in absurd no
+no_pipe_empty file r w shown none name end x is = let e : None ≡ Some name = sym none
+    ∙ name_shown (Some (record { file = file; read = r; write = w; shown = shown })) name end x is in let no : ⊥ = cc in absurd no
 
 new_empty : (file n : ℕ) (r w : Bool) (e : End) → EmptyPipe (Some (record { file = file; read = r; write = w; shown = Shown_pipe n e new_pipe }))
 unfolding new_pipe
-new_empty file n r w e name end x is = ap (λ (z : Pipe). z.bytes) (sym (ap (pipe_of_shown new_pipe) (inside (Shown_pipe n e new_pipe) (Shown_pipe name end x) is)))
-  where
-    inside : (a b : Shown) → Some a ≡ Some b → a ≡ b
-    inside a b f = cc
+new_empty file n r w e name end x is = ap (λ (z : Pipe). z.bytes) (sym (ap (pipe_of_shown new_pipe) (same_Some (Shown_pipe n e new_pipe) (Shown_pipe name end x) is)))
 
 module _ (c : Call) (v : View) where
   fine_done : (value : ℤ) (u : View) → NoMore v.descriptors u.descriptors → Fine v (done c value u)
@@ -198,14 +194,16 @@ module _ (c : Call) (v : View) where
   told_row false value u w h g = fine_done value w g
 
   reaped_row : (o : Option ℕ) → Fine v (reaped c v o)
-  reaped_row (Some q) = told_row (nat_eq c.a0 0) (pos q) (without_child q v) (record (without_child q v) { image = write_image v.image c.a0 (le_bytes 4 (cast_unsigned w32 (child_status (v.children q)))) }) (λ d e. e) (λ d e. e)
+  reaped_row (Some q) = told_row (nat_eq c.a0 0) (pos q) (without_child q v)
+      (record (without_child q v) { image = write_image v.image c.a0 (le_bytes 4 (cast_unsigned w32 (child_status (v.children q)))) }) (λ d e. e) (λ d e. e)
   reaped_row None = either (has_child v) (waits c 0 v) (refused c v) (fine_waits 0 v (λ d e. e)) refusal
 
   read_from_row : (n file : ℕ) (x : Shown) → Fine v (read_from c v n file x)
   read_from_row n file Shown_terminal =
       let p : Pulled = pulled (nat_eq c.moved 0) (n - c.moved) v.console.committed in
       let after : View = record v { image = write_image v.image (c.a1 + c.moved) p.taken; console = record v.console { committed = p.left } } in
-      either p.ended (done c (pos (c.moved + length p.taken)) after) (waits c (c.moved + length p.taken) after) (fine_done (pos (c.moved + length p.taken)) after (λ d e. e)) (fine_waits (c.moved + length p.taken) after (λ d e. e))
+      either p.ended (done c (pos (c.moved + length p.taken)) after) (waits c (c.moved + length p.taken) after)
+      (fine_done (pos (c.moved + length p.taken)) after (λ d e. e)) (fine_waits (c.moved + length p.taken) after (λ d e. e))
   read_from_row n file (Shown_file program offset) =
       let bytes : List ℕ = take n (drop offset (program_bytes (slice_get v.programs program))) in
       fine_done (pos (length bytes)) (record v { image = write_image v.image c.a1 bytes; descriptors = advance file (length bytes) v.descriptors }) (advanced_more file (length bytes) v.descriptors)
@@ -223,11 +221,13 @@ module _ (c : Call) (v : View) where
   done_at_row n moved u more = either (nat_le n moved) (done c (pos n) u) (waits c moved u) (fine_done (pos n) u more) (fine_waits moved u more)
 
   write_to_row : (n : ℕ) (x : Shown) → Fine v (write_to c v n x)
-  write_to_row n Shown_terminal = done_at_row n (c.moved + room_for v.console (n - c.moved)) (record v { console = record v.console { to_send = v.console.to_send ++ next_bytes c v (room_for v.console (n - c.moved)) } }) (λ d e. e)
+  write_to_row n Shown_terminal = done_at_row n (c.moved + room_for v.console (n - c.moved))
+      (record v { console = record v.console { to_send = v.console.to_send ++ next_bytes c v (room_for v.console (n - c.moved)) } }) (λ d e. e)
   write_to_row n (Shown_file program offset) = refusal
   write_to_row n (Shown_pipe name end pipe) = fine_unless (nat_eq pipe.readers 0)
       (λ _. done_at c n (c.moved + fit pipe (n - c.moved)) (record v { descriptors = change_pipe name (with_more (next_bytes c v (fit pipe (n - c.moved))) pipe) v.descriptors }))
-      (done_at_row n (c.moved + fit pipe (n - c.moved)) (record v { descriptors = change_pipe name (with_more (next_bytes c v (fit pipe (n - c.moved))) pipe) v.descriptors }) (λ d e. ap (changed _) e))
+      (done_at_row n (c.moved + fit pipe (n - c.moved))
+      (record v { descriptors = change_pipe name (with_more (next_bytes c v (fit pipe (n - c.moved))) pipe) v.descriptors }) (λ d e. ap (changed _) e))
 
   write_on_row : (o : Option Descriptor) → Fine v (write_on c v o)
   write_on_row None = refusal
@@ -238,7 +238,8 @@ module _ (c : Call) (v : View) where
   kill_row (negsuc k) = refusal
   kill_row (pos q) = fine_unless (nat_eq q 0) (λ _. killed_by c v q)
       (fine_unless (not (list_any (nat_eq q) v.pids)) (λ _. record (done c (pos 0) (record v { killed = v.killed || nat_eq q v.pid })) { marked = Some q })
-      (fine_by v (answered (pos 0) (record v { killed = v.killed || nat_eq q v.pid })) (record (done c (pos 0) (record v { killed = v.killed || nat_eq q v.pid })) { marked = Some q }) refl refl (λ d e. e)))
+      (fine_by v (answered (pos 0) (record v { killed = v.killed || nat_eq q v.pid }))
+      (record (done c (pos 0) (record v { killed = v.killed || nat_eq q v.pid })) { marked = Some q }) refl refl (λ d e. e)))
 
   loaded_row : (r : Result Loaded ExecError) → Fine v (exec_loaded c v r)
   loaded_row (Err e) = refusal
@@ -255,7 +256,11 @@ module _ (c : Call) (v : View) where
 
   close_from : (k : ℕ) (o : Option Descriptor) → Fine v (close_on c v k o)
   close_from k None = refusal
-  close_from k (Some d) = fine_by v (answered (pos 0) (record v { descriptors = without_descriptor k (one_less_on d.shown v.descriptors); free = v.free + pipes_given_up (one_less_on d.shown v.descriptors) })) (close_at c v k d) refl refl
+  close_from k (Some d) = fine_by v (answered (pos 0)
+      (record v {
+        descriptors = without_descriptor k (one_less_on d.shown v.descriptors);
+        free = v.free + pipes_given_up (one_less_on d.shown v.descriptors);
+      })) (close_at c v k d) refl refl
       (λ e h. without_more k (one_less_on d.shown v.descriptors) e (one_less d.shown v.descriptors e h))
 
   close_row : (z : ℤ) → Fine v (close_number c v z)
@@ -289,9 +294,6 @@ module _ (c : Call) (v : View) where
 
   -- ---- the rows that use one descriptor more
 
-  some_shown : (o : Option Descriptor) (x y : Shown) → option_map (λ z. z.shown) o ≡ Some x → option_map (λ z. z.shown) o ≡ Some y → x ≡ y
-  some_shown o x y a b = let e : Some x ≡ Some y = sym a ∙ b in cc
-
   abbrev what_shown : Option (Bool × Bool × Shown) → Shown
   what_shown None = Shown_terminal
   what_shown (Some what) = what.2
@@ -316,13 +318,18 @@ module _ (c : Call) (v : View) where
   open_to None what plain = refusal
   open_to (Some k) None plain = refusal
   open_to (Some k) (Some what) plain =
-      fine_empty v (answered (pos k) (record v { descriptors = with_descriptor k (record { file = k; read = what.0; write = what.1; shown = what.2 }) v.descriptors })) (open_at c v (Some k) (Some what)) refl refl
+      fine_empty v (answered (pos k) (record v {
+        descriptors = with_descriptor k
+            (record { file = k; read = what.0; write = what.1; shown = what.2 }) v.descriptors;
+      })) (open_at c v (Some k) (Some what)) refl refl
       (λ d e. named_empty (with_value v.descriptors k (Some (record { file = k; read = what.0; write = what.1; shown = what.2 }))) d
-      (value_empty v.descriptors k (Some (record { file = k; read = what.0; write = what.1; shown = what.2 })) d (no_pipe_empty k what.0 what.1 what.2 (plain what.0 what.1 what.2 refl)) (none_empty (v.descriptors d) e)))
+      (value_empty v.descriptors k (Some (record { file = k; read = what.0; write = what.1; shown = what.2 })) d
+      (no_pipe_empty k what.0 what.1 what.2 (plain what.0 what.1 what.2 refl)) (none_empty (v.descriptors d) e)))
 
   open_row : (o : Option (List ℕ)) → Fine v (open_path c v o)
   open_row None = refusal
-  open_row (Some path) = open_to (lowest_free v.descriptors) (opened_as (kind_named (no_slashes path) v) (c_int c.a1)) (λ r w shown e. no_pipe (kind_named (no_slashes path) v) (c_int c.a1) r w shown e)
+  open_row (Some path) = open_to (lowest_free v.descriptors) (opened_as (kind_named (no_slashes path) v) (c_int c.a1))
+      (λ r w shown e. no_pipe (kind_named (no_slashes path) v) (c_int c.a1) r w shown e)
 
   -- pipe: both ends are on an empty one
   piped_row : (r : ℕ) (o : Option ℕ) → Fine v (piped c v r o)
@@ -383,14 +390,14 @@ module _ (c : Call) (v : View) where
         by n e y new = elim (eqb_tells new.0 k) [
           | inl same ↦
               let here : pipe_name (n.descriptors j) ≡ Some new.1 =
-              ap (λ (w : View). pipe_name (w.descriptors j)) (sym (some_view after n e)) ∙ ap pipe_name same_place ∙ ap (λ (m : ℕ). pipe_name (named t m)) (sym same.1)
-              ∙ ap (λ (w : View). pipe_name (w.descriptors new.0)) (some_view after n e) ∙ name_shown (n.descriptors new.0) new.1 new.2 y new.3 in
+              ap (λ (w : View). pipe_name (w.descriptors j)) (sym (same_Some after n e)) ∙ ap pipe_name same_place ∙ ap (λ (m : ℕ). pipe_name (named t m)) (sym same.1)
+              ∙ ap (λ (w : View). pipe_name (w.descriptors new.0)) (same_Some after n e) ∙ name_shown (n.descriptors new.0) new.1 new.2 y new.3 in
               let gone_j : v.descriptors j ≡ None = new.4 j here in
               let no : None ≡ Some x = sym gone_j ∙ is in (let bad : ⊥ = cc in bad)
           | inr other ↦
               let unused : v.descriptors new.0 ≡ None = new.4 new.0 (name_shown (n.descriptors new.0) new.1 new.2 y new.3) in
               let nothing : n.descriptors new.0 ≡ None =
-              ap (λ (w : View). w.descriptors new.0) (sym (some_view after n e))
+              ap (λ (w : View). w.descriptors new.0) (sym (same_Some after n e))
               ∙ named_none t new.0 (ap (λ (b : Bool). cond b (u j) (u new.0)) other.0 ∙ one_more x.shown v.descriptors new.0 unused) in
               nothing_shown (n.descriptors new.0) new.1 new.2 y nothing new.3
         ]
@@ -474,7 +481,8 @@ module _ (c : Call) (v : View) where
   alone_row : (r : Option Row) (image : Image) → has_absent (buffer_of c r) image ≡ true → NoChild (perform_row c v r)
   unfolding perform_row
   alone_row (Some Wait) image absent = alone_unless (not (nat_eq c.a0 0) && not (writable v.image c.a0 4)) (λ _. reaped c v (least_zombie v)) (alone_reaped (least_zombie v))
-  alone_row (Some Pipe_row) image absent = alone_unless (not (writable v.image c.a0 8) || nat_eq v.free 0) (λ _. piped_from c v (lowest_free v.descriptors)) (alone_piped_from (lowest_free v.descriptors))
+  alone_row (Some Pipe_row) image absent = alone_unless (not (writable v.image c.a0 8) || nat_eq v.free 0)
+      (λ _. piped_from c v (lowest_free v.descriptors)) (alone_piped_from (lowest_free v.descriptors))
   alone_row (Some Read) image absent = alone_read_on (in_use v (c_int c.a0))
   alone_row _ image absent = let no : ⊥ = cc in absurd no
 
@@ -490,7 +498,8 @@ fine_before v image free o none h = (h.0, λ child is. no_child o v child none i
 
 perform_fine : (c : Call) (v : View) → ((d : ℕ) → IsSome (v.descriptors d) → d < NOFILE) → Fine v (perform c v)
 perform_fine c v low = by_call_apart (Fine v) c v (refusal c v) (λ settled. parts_fine c v low)
-    (λ image free touched settled absent goes. fine_before v image free (perform_parts c (touched_view v image free)) (alone_parts c (touched_view v image free) v.image absent) (parts_fine c (touched_view v image free) low))
+    (λ image free touched settled absent goes. fine_before v image free (perform_parts c (touched_view v image free))
+    (alone_parts c (touched_view v image free) v.image absent) (parts_fine c (touched_view v image free) low))
 
 -- ---- a step
 
@@ -507,7 +516,8 @@ module _ (v : View) (low : (d : ℕ) → IsSome (v.descriptors d) → d < NOFILE
   instruction_fine (Fault cause) = fine_gone v (gone (Faulted cause) v) refl refl
 
   going_fine : (o : Option Call) → Fine v (going_on v o)
-  going_fine None = by_instruction_apart (λ st o. Fine v o) v (instruction_fine (next_instruction v.regs v.image)) (λ image free touched other. stepped_fine v image free (next_instruction v.regs image) other)
+  going_fine None = by_instruction_apart (λ st o. Fine v o) v (instruction_fine (next_instruction v.regs v.image))
+      (λ image free touched other. stepped_fine v image free (next_instruction v.regs image) other)
   going_fine (Some c) = perform_fine c v low
 
   unless_fine : (b : Bool) → Fine v (unless_killed v b)
@@ -518,22 +528,8 @@ module _ (v : View) (low : (d : ℕ) → IsSome (v.descriptors d) → d < NOFILE
   unfolding own
   own_fine = unless_fine v.killed
 
--- a view's descriptors are below NOFILE
-named_low : (t : Descriptors) (d : ℕ) → IsSome (named t d) → d < NOFILE
-unfolding named
-named_low t d there = by (nat_lt d NOFILE) refl there
-  where
-    by : (b : Bool) → nat_lt d NOFILE ≡ b → IsSome (cond b (option_map (rename t) (t d)) None) → d < NOFILE
-    by true e h = ltb-true d NOFILE e
-    by false e h = let no : ⊥ = cc in absurd no
-
-all_low : (s : State) (p : ℕ) (o : Option Live) (v : View) → option_map (view_of s p) o ≡ Some v → (d : ℕ) → IsSome (v.descriptors d) → d < NOFILE
-unfolding view_of
-all_low s p None v e d there = let no : ⊥ = cc in absurd no
-all_low s p (Some l) v e d there = named_low (numbered s l) d (ap (λ (w : View). is_some (w.descriptors d)) (some_view (view_of s p l) v e) ∙ there)
-
 pub no_old_pipe : NoOldPipe
-no_old_pipe s p v n see next x new = (own_fine v (all_low s p (live s p) v see)).0 n next x new
+no_old_pipe s p v n see next x new = (own_fine v (view_low s p (live s p) v see)).0 n next x new
 
 pub no_old_child : NoOldChild
-no_old_child s p v c see is = (own_fine v (all_low s p (live s p) v see)).1 c is
+no_old_child s p v c see is = (own_fine v (view_low s p (live s p) v see)).1 c is

@@ -3,6 +3,7 @@ use Rattle.std.proofs.Common.{◌≡◌, ℕ, ◌+◌, ◌*◌, ◌<◌, Bool, t
 use Rattle.std.specs.Prelude.{Option, None, Some, pos, slice_index}
 use Rattle.std.specs.FinMap.{get}
 use Rattle.std.proofs.lemmas.List.{get_or-replicate, length-replicate}
+use Rattle.std.proofs.lemmas.Option.{same_Some}
 use Rattle.xk_base.specs.Image.{Image, Page}
 use Rattle.rv64i_core.specs.Step.{Step, Next, Ecall, Fault}
 use Rattle.rv64i_core.specs.UserImage.{user, with_store}
@@ -56,7 +57,10 @@ leaves_nothing s v o gone = (λ n next. absurd (none_left n next), λ n next. ab
 
 -- of a page that came by a touch: it was zeros, and the step changed what it stores
 leaves_before : (s : Store) (v : View) (image : Image) (free : ℕ) (o : Own) → IsTouched v.image image → Leaves s (touched_view v image free) o → Leaves s v o
-leaves_before s v image free o touched h = (λ n next page x y whole was is. h.0 n next page x y whole (touched.kept page x was) is, λ n next page y none is. by n next page y none is (get image.pages page) refl)
+leaves_before s v image free o touched h = (
+  λ n next page x y whole was is. h.0 n next page x y whole (touched.kept page x was) is,
+  λ n next page y none is. by n next page y none is (get image.pages page) refl,
+)
   where
     by : (n : View) → o.next ≡ Some n → (page : ℕ) (y : Page) → get v.image.pages page ≡ None → get n.image.pages page ≡ Some y → (q : Option Page) → get image.pages page ≡ q → IsZeroBut s page y
     by n next page y none is None e = h.1 n next page y e is
@@ -84,11 +88,13 @@ perform_pages c v = by_call_apart (λ (o : Own). Pages c (stored_by_row c v (row
     let u : View = touched_view v image free in
     pages_other c (stored_by_row c v (row_of c.number) (perform_parts c u).answer) v (perform_parts c u) (λ exec. not_exec c (row_of c.number) v.image absent exec.1)
     (subst (λ (s : Store). Leaves s v (perform_parts c u)) (same_row c v image free (row_of c.number) (perform_parts c u).answer)
-    (leaves_before (stored_by_row c u (row_of c.number) (perform_parts c u).answer) v image free (perform_parts c u) touched ((parts u).1 (λ exec. not_exec c (row_of c.number) v.image absent exec.1)))))
+    (leaves_before (stored_by_row c u (row_of c.number) (perform_parts c u).answer) v image free (perform_parts c u) touched
+    ((parts u).1 (λ exec. not_exec c (row_of c.number) v.image absent exec.1)))))
   where
     refusal : Pages c (stored_by_row c v (row_of c.number) (refused c v).answer) v (refused c v)
     refusal = pages_other c (stored_by_row c v (row_of c.number) (refused c v).answer) v (refused c v) (λ exec. refused_apart c.number exec.0 exec.2)
-        (leaves (stored_by_row c v (row_of c.number) (refused c v).answer) v (refused c v) (refused_keeps c v (stored_by_row c v (row_of c.number) (refused c v).answer)) (zeroed_same v _ refl (refused c v) refl))
+        (leaves (stored_by_row c v (row_of c.number) (refused c v).answer) v (refused c v)
+        (refused_keeps c v (stored_by_row c v (row_of c.number) (refused c v).answer)) (zeroed_same v _ refl (refused c v) refl))
 
     parts : (u : View) → Pages c (stored_by_row c u (row_of c.number) (perform_parts c u).answer) u (perform_parts c u)
     parts u = (
@@ -98,20 +104,18 @@ perform_pages c v = by_call_apart (λ (o : Own). Pages c (stored_by_row c v (row
 
 -- ---- an instruction
 
-same_view : (a b : View) → Some a ≡ Some b → a ≡ b
-same_view a b e = cc
-
 -- an instruction that is no ECALL
 instruction_leaves : (v : View) (st : Step) → next_instruction v.regs v.image ≡ st → (st ≡ Ecall → ⊥) → Leaves (stored_by_instruction v st (after_instruction v st).answer) v (after_instruction v st)
-instruction_leaves v (Next r None) made other = leaves nothing_stored v (after_instruction v (Next r None)) (λ n next page x y was is. same_but page x y (ap (λ (w : View). get w.image.pages page) (same_view (record v { regs = r }) n next) ∙ is) was) (zeroed_stored v r None)
+instruction_leaves v (Next r None) made other = leaves nothing_stored v (after_instruction v (Next r None))
+    (λ n next page x y was is. same_but page x y (ap (λ (w : View). get w.image.pages page) (same_Some (record v { regs = r }) n next) ∙ is) was)
+    (zeroed_stored v r None)
   where
-    same : (a b : Page) → Some a ≡ Some b → a ≡ b
-    same a b e = cc
-
     same_but : (page : ℕ) (x y : Page) → get v.image.pages page ≡ Some y → get v.image.pages page ≡ Some x → IsBut nothing_stored page x y
-    same_but page x y is was = let e : y ≡ x = same y x (sym is ∙ was) in (ap (λ (p : Page). p.perm) e, ap (λ (p : Page). length p.bytes) e, λ i below apart. ap (λ (p : Page). slice_index p.bytes i) e)
+    same_but page x y is was = let e : y ≡ x = same_Some y x (sym is ∙ was) in
+        (ap (λ (p : Page). p.perm) e, ap (λ (p : Page). length p.bytes) e, λ i below apart. ap (λ (p : Page). slice_index p.bytes i) e)
 instruction_leaves v (Next r (Some st)) made other = (
-  λ n next page x y whole was is. store_stays v.image st (store_in_page v.regs (user v.image) r st made) page x y whole was (ap (λ (w : View). get w.image.pages page) (same_view (record v { regs = r; image = with_store v.image st }) n next) ∙ is),
+  λ n next page x y whole was is. store_stays v.image st (store_in_page v.regs (user v.image) r st made) page x y whole was
+      (ap (λ (w : View). get w.image.pages page) (same_Some (record v { regs = r; image = with_store v.image st }) n next) ∙ is),
   λ n next page y none is. zeros_are st page y (zeroed_stored v r (Some st) n next page y (none, is)),
 )
 instruction_leaves v Ecall made other = absurd (other refl)
@@ -126,8 +130,10 @@ instruction_pages : (v : View) (st : Step) → next_instruction v.regs v.image �
 instruction_pages v (Next r s) made = by (λ e. let no : ⊥ = cc in no)
   where
     by : (Next r s ≡ Ecall → ⊥) → Pages (call_begun v) (stored_by_instruction v (Next r s) (after_instruction v (Next r s)).answer) v (after_instruction v (Next r s))
-    by other = pages_other (call_begun v) (stored_by_instruction v (Next r s) (after_instruction v (Next r s)).answer) v (after_instruction v (Next r s)) (called_not (call_begun v) (Next r s) v other) (instruction_leaves v (Next r s) made other)
-instruction_pages v Ecall made = subst (λ (s : Store). Pages (call_begun v) s v (after_instruction v Ecall)) (same_begun v (perform (call_begun v) (begun v)).answer) (perform_pages (call_begun v) (begun v))
+    by other = pages_other (call_begun v) (stored_by_instruction v (Next r s) (after_instruction v (Next r s)).answer) v
+        (after_instruction v (Next r s)) (called_not (call_begun v) (Next r s) v other) (instruction_leaves v (Next r s) made other)
+instruction_pages v Ecall made = subst (λ (s : Store). Pages (call_begun v) s v (after_instruction v Ecall))
+    (same_begun v (perform (call_begun v) (begun v)).answer) (perform_pages (call_begun v) (begun v))
 instruction_pages v (Fault cause) made = by (λ e. let no : ⊥ = cc in no)
   where
     by : (Fault cause ≡ Ecall → ⊥) → Pages (call_begun v) nothing_stored v (gone (Faulted cause) v)
@@ -139,7 +145,8 @@ module _ (v : View) where
   abbrev PagesBy : Step → Own → Type 0
   PagesBy st o = Pages (call_begun v) (stored_by_instruction v st o.answer) v o
 
-  instruction_before : (image : Image) (free : ℕ) → IsTouched v.image image → (st : Step) → next_instruction v.regs image ≡ st → (st ≡ Ecall → ⊥) → PagesBy st (after_instruction (touched_view v image free) st)
+  instruction_before : (image : Image) (free : ℕ) → IsTouched v.image image → (st : Step) → next_instruction v.regs image ≡ st → (st ≡ Ecall → ⊥)
+      → PagesBy st (after_instruction (touched_view v image free) st)
   instruction_before image free touched st made other =
       let u : View = touched_view v image free in
       let o : Own = after_instruction u st in
@@ -147,11 +154,14 @@ module _ (v : View) where
       (subst (λ (s : Store). Leaves s v o) (same_stores v image free st o.answer) (leaves_before (stored_by_instruction u st o.answer) v image free o touched (instruction_leaves u st made other)))
 
   going_pages : (o : Option Call) → Pages (call_or_begun v o) (stored_in v o (going_on v o).answer) v (going_on v o)
-  going_pages None = by_instruction_apart PagesBy v (instruction_pages v (next_instruction v.regs v.image) refl) (λ image free touched other. instruction_before image free touched (next_instruction v.regs image) refl other)
+  going_pages None = by_instruction_apart PagesBy v (instruction_pages v (next_instruction v.regs v.image) refl)
+      (λ image free touched other. instruction_before image free touched (next_instruction v.regs image) refl other)
   going_pages (Some c) = perform_pages c v
 
   unless_pages : (b : Bool) → Pages (call_in v) (cond b nothing_stored (stored_in v v.call (unless_killed v b).answer)) v (unless_killed v b)
-  unless_pages true = pages_other (call_in v) nothing_stored v (gone (Exited minus_one) v) (λ exec. let no : Exited minus_one ≡ Called (call_in v).number (pos exec.0) = exec.2 in let bad : ⊥ = cc in bad) (leaves_nothing nothing_stored v (gone (Exited minus_one) v) refl)
+  unless_pages true = pages_other (call_in v) nothing_stored v (gone (Exited minus_one) v)
+      (λ exec. let no : Exited minus_one ≡ Called (call_in v).number (pos exec.0) = exec.2 in let bad : ⊥ = cc in bad)
+      (leaves_nothing nothing_stored v (gone (Exited minus_one) v) refl)
   unless_pages false = going_pages v.call
 
   own_pages : Pages (call_in v) (cond v.killed nothing_stored (stored_in v v.call (own v).answer)) v (own v)
@@ -165,5 +175,6 @@ pub only_stores_change_bytes : OnlyStoresChangeBytes
 only_stores_change_bytes v n whole next apart page x y was is = let kept = ((own_pages v).1 apart).0 n next page x y (whole page x was) was is in (kept.0, kept.2)
 
 -- and it is as long as it was
-pub same_lengths : (v n : View) → HasWholePages v.image → (own v).next ≡ Some n → ¬ IsExecDone (call_in v) (own v) → (page : ℕ) (x y : Page) → get v.image.pages page ≡ Some x → get n.image.pages page ≡ Some y → length y.bytes ≡ length x.bytes
+pub same_lengths : (v n : View) → HasWholePages v.image → (own v).next ≡ Some n → ¬ IsExecDone (call_in v) (own v) → (page : ℕ) (x y : Page)
+    → get v.image.pages page ≡ Some x → get n.image.pages page ≡ Some y → length y.bytes ≡ length x.bytes
 same_lengths v n whole next apart page x y was is = (((own_pages v).1 apart).0 n next page x y (whole page x was) was is).1

@@ -46,8 +46,40 @@ none-other : (number : ℤ) → IsOther number → row_of number ≡ None
 unfolding row_of
 none-other (negsuc n) other = refl
 none-other (pos n) other =
-    none-there n table
-    (apart 1 n other.fork, (apart 2 n other.exit, (apart 3 n other.wait, (apart 4 n other.pipe, (apart 5 n other.read, (apart 6 n other.kill, (apart 7 n other.exec, (apart 10 n other.dup, (apart 11 n other.getpid, (apart 12 n other.sbrk, (apart 13 n other.sleep, (apart 14 n other.uptime, (apart 15 n other.opening, (apart 16 n other.write, (apart 21 n other.close, (apart 22 n other.sbrklazy, tt))))))))))))))))
+    none-there n table (
+      apart 1 n other.fork,
+      (
+        apart 2 n other.exit,
+        (
+          apart 3 n other.wait,
+          (
+            apart 4 n other.pipe,
+            (
+              apart 5 n other.read,
+              (
+                apart 6 n other.kill,
+                (
+                  apart 7 n other.exec,
+                  (
+                    apart 10 n other.dup,
+                    (
+                      apart 11 n other.getpid,
+                      (
+                        apart 12 n other.sbrk,
+                        (
+                          apart 13 n other.sleep,
+                          (apart 14 n other.uptime, (apart 15 n other.opening, (apart 16 n other.write, (apart 21 n other.close, (apart 22 n other.sbrklazy, tt))))),
+                        ),
+                      ),
+                    ),
+                  ),
+                ),
+              ),
+            ),
+          ),
+        ),
+      ),
+    )
 
 -- it is refused
 pub other-row : (c : Call) (v : View) → IsOther c.number → perform c v ≡ refused c v

@@ -23,10 +23,15 @@ use Rattle.kernel_spec.specs.views.Programs.{program_bytes, program_named}
 use Rattle.kernel_spec.specs.views.View.{View, Descriptor, Shown, Shown_terminal, Shown_file, Shown_pipe, in_use}
 use Rattle.kernel_spec.specs.steps.Own.{Own, Answer, Stepped, Called, Exited, gone_with}
 use Rattle.kernel_spec.specs.rows.Tables.{lowest_free, lowest_free_above, advance, change_pipe, with_copy, one_more_on, one_less_on, without_descriptor, with_descriptor, pipes_given_up}
-use Rattle.kernel_spec.specs.rows.Calls.{Row, Fork, Exit, Wait, Pipe_row, Read, Kill, Exec, Dup, Getpid, Sbrk, Sleep, Uptime, Open, Write, Close, Sbrklazy, row_of, perform, answered, gone, done, refused, waits, least_zombie, has_child, done_at, next_bytes}
+use Rattle.kernel_spec.specs.rows.Calls.{Row, Fork, Exit, Wait, Pipe_row, Read, Kill, Exec, Dup, Getpid}
+use Rattle.kernel_spec.specs.rows.Calls.{Sbrk, Sleep, Uptime, Open, Write, Close, Sbrklazy, row_of, perform, answered}
+use Rattle.kernel_spec.specs.rows.Calls.{gone, done, refused, waits, least_zombie, has_child, done_at, next_bytes}
 use Rattle.kernel_spec.specs.steps.Step.{own, unless_killed, going_on, after_instruction, call_begun, call_or_begun, begun, stored}
 use Rattle.kernel_spec.specs.views.Processes.{child_status}
-use Rattle.kernel_spec.proofs.rows.RowParts.{perform_row, unless, unless_nothing, moving, length_of_int, reaped, without_child, piped, piped_from, with_pipe, read_on, read_from, write_on, write_to, kill_pid, killed_by, exec_program, exec_path, dup_at, dup_on, dup_number, close_on, close_number, sbrk_by, shrink_to, lazy_by, exec_loaded, running, sleep_for, open_at, open_path, opened_as, kind_named, forked, cannot_fork, perform_parts, fork_parts}
+use Rattle.kernel_spec.proofs.rows.RowParts.{perform_row, unless, unless_nothing, moving, length_of_int, reaped, piped, piped_from, with_pipe, read_on}
+use Rattle.kernel_spec.proofs.rows.RowParts.{read_from, write_on, write_to, killed_by, exec_program, exec_path, dup_at, dup_on, dup_number, sbrk_by}
+use Rattle.kernel_spec.proofs.rows.RowParts.{shrink_to, lazy_by, exec_loaded, sleep_for, open_at, open_path, opened_as, kind_named, forked, cannot_fork}
+use Rattle.kernel_spec.proofs.rows.RowParts.{perform_parts, close_number, close_on, fork_parts, kill_pid, running, without_child}
 use Rattle.kernel_spec.specs.rows.Terminal.{room_for}
 use Rattle.kernel_spec.proofs.rows.Touched.{touched_view}
 use Rattle.kernel_spec.proofs.rows.ByTouch.{NotRefused, by_call_apart, by_instruction_apart}
@@ -190,7 +195,8 @@ module _ (c : Call) (v : View) where
   -- the rows that may wait
   module _ (row : may_wait (row_of c.number) ≡ true) where
     reaped_row : (o : Option ℕ) → Comes c v (reaped c v o)
-    reaped_row (Some q) = told_row (nat_eq c.a0 0) q (without_child q v) (record (without_child q v) { image = write_image v.image c.a0 (le_bytes 4 (cast_unsigned w32 (child_status (v.children q)))) }) refl refl
+    reaped_row (Some q) = told_row (nat_eq c.a0 0) q (without_child q v)
+        (record (without_child q v) { image = write_image v.image c.a0 (le_bytes 4 (cast_unsigned w32 (child_status (v.children q)))) }) refl refl
     reaped_row None = whichever (has_child v) (waits c 0 v) (refused c v) (does_wait row 0 v refl) refusal
 
     read_from_row : (n file : ℕ) (x : Shown) → Comes c v (read_from c v n file x)
@@ -216,7 +222,8 @@ module _ (c : Call) (v : View) where
     done_at_row n moved u e = whichever (nat_le n moved) (done c (pos n) u) (waits c moved u) (is_done n u e) (does_wait row moved u e)
 
     write_to_row : (n : ℕ) (x : Shown) → Comes c v (write_to c v n x)
-    write_to_row n Shown_terminal = done_at_row n (c.moved + room_for v.console (n - c.moved)) (record v { console = record v.console { to_send = v.console.to_send ++ next_bytes c v (room_for v.console (n - c.moved)) } }) refl
+    write_to_row n Shown_terminal = done_at_row n (c.moved + room_for v.console (n - c.moved))
+        (record v { console = record v.console { to_send = v.console.to_send ++ next_bytes c v (room_for v.console (n - c.moved)) } }) refl
     write_to_row n (Shown_file program offset) = refusal
     write_to_row n (Shown_pipe name end pipe) = guarded (nat_eq pipe.readers 0)
         (λ _. done_at c n (c.moved + fit pipe (n - c.moved)) (record v { descriptors = change_pipe name (with_more (next_bytes c v (fit pipe (n - c.moved))) pipe) v.descriptors }))
@@ -299,7 +306,8 @@ module _ (v : View) where
   instruction_before image free idle (Fault cause) other = inr (inr (inr (inr (record { next = refl; ends = refl; pids = refl }))))
 
   going_comes : (call : Option Call) → v.call ≡ call → StepComes v call (going_on v call)
-  going_comes None idle = by_instruction_apart (λ st o. StepComes v None o) v (instruction_comes v idle (next_instruction v.regs v.image)) (λ image free touched other. instruction_before image free idle (next_instruction v.regs image) other)
+  going_comes None idle = by_instruction_apart (λ st o. StepComes v None o) v (instruction_comes v idle (next_instruction v.regs v.image))
+      (λ image free touched other. instruction_before image free idle (next_instruction v.regs image) other)
   going_comes (Some c) busy = inr (perform_comes c v)
 
   marked_comes : (call : Option Call) → StepComes v call (gone (Exited minus_one) v)

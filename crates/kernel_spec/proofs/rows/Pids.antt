@@ -26,11 +26,16 @@ use Rattle.kernel_spec.specs.views.State.{ProgramFile}
 use Rattle.kernel_spec.specs.views.View.{View, Descriptor, Shown, Shown_terminal, Shown_file, Shown_pipe, in_use}
 use Rattle.kernel_spec.specs.steps.Own.{Own, Answer, Exited, Faulted, gone_with}
 use Rattle.kernel_spec.specs.rows.Tables.{lowest_free, lowest_free_above, advance, change_pipe, with_copy, one_more_on, one_less_on, without_descriptor, with_descriptor, pipes_given_up}
-use Rattle.kernel_spec.specs.rows.Calls.{Row, Fork, Exit, Wait, Pipe_row, Read, Kill, Exec, Dup, Getpid, Sbrk, Sleep, Uptime, Open, Write, Close, Sbrklazy, row_of, perform, answered, gone, done, refused, waits, least_zombie, has_child, done_at, next_bytes}
+use Rattle.kernel_spec.specs.rows.Calls.{Row, Fork, Exit, Wait, Pipe_row, Read, Kill, Exec, Dup, Getpid}
+use Rattle.kernel_spec.specs.rows.Calls.{Sbrk, Sleep, Uptime, Open, Write, Close, Sbrklazy, row_of, perform, answered}
+use Rattle.kernel_spec.specs.rows.Calls.{gone, done, refused, waits, least_zombie, has_child, done_at, next_bytes}
 use Rattle.kernel_spec.specs.steps.Step.{own, unless_killed, going_on, after_instruction, call_begun, begun, stored}
 use Rattle.kernel_spec.specs.runs.Run.{IsNewbornOf}
 use Rattle.kernel_spec.specs.views.Processes.{child_status}
-use Rattle.kernel_spec.proofs.rows.RowParts.{perform_parts, perform_row, unless, unless_nothing, moving, length_of_int, reaped, without_child, piped, piped_from, with_pipe, read_on, read_from, write_on, write_to, kill_pid, killed_by, exec_program, exec_path, dup_at, dup_on, dup_number, close_at, close_on, close_number, sbrk_by, shrink_to, lazy_by, exec_loaded, running, sleep_for, open_at, open_path, opened_as, kind_named, fork_parts, forked, cannot_fork}
+use Rattle.kernel_spec.proofs.rows.RowParts.{perform_parts, perform_row, unless, unless_nothing, moving, length_of_int, reaped, piped, piped_from, with_pipe}
+use Rattle.kernel_spec.proofs.rows.RowParts.{read_on, read_from, write_on, write_to, killed_by, exec_program, exec_path, dup_at, dup_on, dup_number}
+use Rattle.kernel_spec.proofs.rows.RowParts.{close_at, sbrk_by, shrink_to, lazy_by, exec_loaded, sleep_for, open_at, open_path, opened_as, kind_named}
+use Rattle.kernel_spec.proofs.rows.RowParts.{forked, cannot_fork, close_number, close_on, fork_parts, kill_pid, running, without_child}
 use Rattle.kernel_spec.specs.rows.Terminal.{room_for}
 use Rattle.kernel_spec.proofs.rows.Touched.{touched_view}
 use Rattle.kernel_spec.proofs.rows.ByTouch.{by_call, by_instruction}
@@ -137,7 +142,8 @@ module _ (c : Call) (v : View) where
   done_at_row n moved u e = whichever (nat_le n moved) (done c (pos n) u) (waits c moved u) (same_done (pos n) u e) (same_waits moved u e)
 
   write_to_row : (n : ℕ) (x : Shown) → Sound v (write_to c v n x)
-  write_to_row n Shown_terminal = done_at_row n (c.moved + room_for v.console (n - c.moved)) (record v { console = record v.console { to_send = v.console.to_send ++ next_bytes c v (room_for v.console (n - c.moved)) } }) refl
+  write_to_row n Shown_terminal = done_at_row n (c.moved + room_for v.console (n - c.moved))
+      (record v { console = record v.console { to_send = v.console.to_send ++ next_bytes c v (room_for v.console (n - c.moved)) } }) refl
   write_to_row n (Shown_file program offset) = refusal
   write_to_row n (Shown_pipe name end pipe) = sound_unless (nat_eq pipe.readers 0)
       (λ _. done_at c n (c.moved + fit pipe (n - c.moved)) (record v { descriptors = change_pipe name (with_more (next_bytes c v (fit pipe (n - c.moved))) pipe) v.descriptors }))
@@ -152,7 +158,8 @@ module _ (c : Call) (v : View) where
   kill_row (negsuc k) = refusal
   kill_row (pos q) = sound_unless (nat_eq q 0) (λ _. killed_by c v q)
       (sound_unless (not (list_any (nat_eq q) v.pids)) (λ _. record (done c (pos 0) (record v { killed = v.killed || nat_eq q v.pid })) { marked = Some q })
-      (sound_same (answered (pos 0) (record v { killed = v.killed || nat_eq q v.pid })) (record (done c (pos 0) (record v { killed = v.killed || nat_eq q v.pid })) { marked = Some q }) refl refl refl))
+      (sound_same (answered (pos 0) (record v { killed = v.killed || nat_eq q v.pid }))
+      (record (done c (pos 0) (record v { killed = v.killed || nat_eq q v.pid })) { marked = Some q }) refl refl refl))
 
   loaded_row : (r : Result Loaded ExecError) → Sound v (exec_loaded c v r)
   loaded_row (Err e) = refusal
@@ -181,7 +188,11 @@ module _ (c : Call) (v : View) where
 
   close_from : (k : ℕ) (o : Option Descriptor) → Sound v (close_on c v k o)
   close_from k None = refusal
-  close_from k (Some d) = sound_same (answered (pos 0) (record v { descriptors = without_descriptor k (one_less_on d.shown v.descriptors); free = v.free + pipes_given_up (one_less_on d.shown v.descriptors) })) (close_at c v k d) refl refl refl
+  close_from k (Some d) = sound_same (answered (pos 0)
+      (record v {
+        descriptors = without_descriptor k (one_less_on d.shown v.descriptors);
+        free = v.free + pipes_given_up (one_less_on d.shown v.descriptors);
+      })) (close_at c v k d) refl refl refl
 
   close_row : (z : ℤ) → Sound v (close_number c v z)
   close_row (negsuc k) = refusal
@@ -243,7 +254,8 @@ sound_before : (v : View) (image : Image) (free : ℕ) (o : Own) → Sound (touc
 sound_before v image free o h = record { left = h.left; pids = h.pids }
 
 pub perform_sound : (c : Call) (v : View) → Sound v (perform c v)
-perform_sound c v = by_call (Sound v) c v (refusal c v) (λ image free touched settled. sound_before v image free (perform_parts c (touched_view v image free)) (parts_sound c (touched_view v image free)))
+perform_sound c v = by_call (Sound v) c v (refusal c v)
+    (λ image free touched settled. sound_before v image free (perform_parts c (touched_view v image free)) (parts_sound c (touched_view v image free)))
 
 -- ---- a step
 

@@ -1,15 +1,15 @@
 -- What sbrk and sbrklazy come to, case by case.
 use Rattle.std.proofs.Common.{◌≡◌, ℕ, suc, ◌+◌, ◌-◌, ◌<◌, ◌≤◌, ◌||◌, ◌⊎◌, Bool, true, false, cond, Some, None, inl, inr, refl, sym, ap, ◌∙◌, arith}
 use Rattle.std.specs.Prelude.{ℤ, pos, negsuc, nat_le, nat_lt}
-use Rattle.std.specs.Ordering.{nat_cmp}
-use Rattle.std.specs.FinMap.{FinMap}
 use Rattle.std.proofs.lemmas.Bool.{cases_lt, lt-ltb, le-ltb, le-leb, lt-leb}
+use Rattle.std.proofs.lemmas.Option.{none-some, same_Some}
 use Rattle.xk_base.specs.declared.limits.TheConstants.{SIZE_LIMIT}
-use Rattle.xk_base.specs.Image.{Image, Page, page_count, price}
+use Rattle.xk_base.specs.Image.{Image, page_count, price}
 use Rattle.addr_space.specs.Absent.{grown_lazily}
 use Rattle.addr_space.specs.Changes.{with_absent, zeroed}
 use Rattle.addr_space.proofs.Growing.{cost, later-more}
 use Rattle.addr_space.proofs.PriceTo.{cost-size}
+use Rattle.addr_space.proofs.Grown.{none-yet}
 use Rattle.proc_table.specs.declared.process.Call.{Call}
 use Rattle.kernel_spec.specs.rows.Buffers.{grown, shrunk}
 use Rattle.xk_base.specs.Access.{data_rights}
@@ -20,10 +20,6 @@ use Rattle.kernel_spec.specs.rows.Sizes.{resized, resized_lazily, at_size}
 use Rattle.kernel_spec.proofs.rows.RowParts.{unless, grow_to, shrink_to, sbrk_by, lazy_by}
 
 -- ---- prices
-
-none-yet : (pages : FinMap nat_cmp Page) (first : ℕ) (page : Page) → with_absent pages first 0 page ≡ pages
-unfolding with_absent
-none-yet pages first page = refl
 
 -- a growth never makes an image cheaper
 pub grown-price : (i : Image) (size : ℕ) → i.size ≤ size → size ≤ SIZE_LIMIT → price i ≤ price (grown i size)
@@ -43,12 +39,6 @@ lazily-price i size = cost-size i.pages size i.size
 
 no-size : (size : ℕ) → Some size ≡ None → ⊥
 no-size size e = cc
-
-none-some : (size : ℕ) → None ≡ Some size → ⊥
-none-some size e = cc
-
-same-size : (a b : ℕ) → Some a ≡ Some b → a ≡ b
-same-size a b e = cc
 
 more-fits : (size n : ℕ) → size + n ≤ SIZE_LIMIT → resized size (pos n) ≡ Some (size + n)
 more-fits size n fits = ap (λ (b : Bool). cond b (Some (size + n)) None) (le-leb (size + n) SIZE_LIMIT fits)
@@ -98,15 +88,16 @@ module _ (c : Call) (v : View) where
   sbrk-inside (pos n) size some limit = elim (cases_lt SIZE_LIMIT (v.image.size + n)) [
     | inl above ↦ absurd (none-some size (sym (too-many v.image.size n above) ∙ some))
     | inr fits ↦
-        let e : v.image.size + n ≡ size = same-size (v.image.size + n) size (sym (more-fits v.image.size n fits) ∙ some) in
+        let e : v.image.size + n ≡ size = same_Some (v.image.size + n) size (sym (more-fits v.image.size n fits) ∙ some) in
         inl (omega (arith, e), ap (grow_to c v) e)
   ]
   sbrk-inside (negsuc k) size some limit = elim (cases_lt k v.image.size) [
     | inl below ↦
-        let e : v.image.size - suc k ≡ size = same-size (v.image.size - suc k) size (sym (fewer-fit v.image.size k below) ∙ some) in
+        let e : v.image.size - suc k ≡ size = same_Some (v.image.size - suc k) size (sym (fewer-fit v.image.size k below) ∙ some) in
         inr (
           omega (arith, e, below),
-          unless-neither (nat_le v.image.size k) (nat_lt SIZE_LIMIT (v.image.size - suc k)) c v (λ _. shrink_to c v (v.image.size - suc k)) (lt-leb v.image.size k below) (le-ltb SIZE_LIMIT (v.image.size - suc k) (omega (arith, e, limit)))
+          unless-neither (nat_le v.image.size k) (nat_lt SIZE_LIMIT (v.image.size - suc k)) c v (λ _. shrink_to c v (v.image.size - suc k))
+              (lt-leb v.image.size k below) (le-ltb SIZE_LIMIT (v.image.size - suc k) (omega (arith, e, limit)))
               ∙ ap (shrink_to c v) e,
         )
     | inr past ↦ absurd (none-some size (sym (too-few v.image.size k past) ∙ some))
@@ -121,7 +112,8 @@ module _ (c : Call) (v : View) where
       let frames = price (grown v.image size) - price v.image in
       let dearer = grown-price v.image size more limit in
       let left : v.free - frames ≡ free = omega (arith, paid, dearer) in
-      unless-neither (nat_lt SIZE_LIMIT size) (nat_lt v.free frames) c v (λ _. resized_row (grown v.image size) (v.free - frames)) (le-ltb SIZE_LIMIT size limit) (le-ltb v.free frames (omega (arith, paid, dearer)))
+      unless-neither (nat_lt SIZE_LIMIT size) (nat_lt v.free frames) c v (λ _. resized_row (grown v.image size) (v.free - frames))
+      (le-ltb SIZE_LIMIT size limit) (le-ltb v.free frames (omega (arith, paid, dearer)))
       ∙ ap (resized_row (grown v.image size)) left
 
   shrink-done : (size free : ℕ) → free + price (shrunk v.image size) ≡ v.free + price v.image → shrink_to c v size ≡ resized_row (shrunk v.image size) free
@@ -142,9 +134,11 @@ module _ (c : Call) (v : View) where
   ]
 
   -- or they don't
-  pub sbrk-too-dear : (n : ℤ) (size : ℕ) → resized v.image.size n ≡ Some size → size ≤ SIZE_LIMIT → v.image.size ≤ size → price v.image + v.free < price (grown v.image size) → sbrk_by c v n ≡ refused c v
+  pub sbrk-too-dear : (n : ℤ) (size : ℕ) → resized v.image.size n ≡ Some size → size ≤ SIZE_LIMIT → v.image.size ≤ size
+      → price v.image + v.free < price (grown v.image size) → sbrk_by c v n ≡ refused c v
   sbrk-too-dear n size some limit more dear = elim (sbrk-inside n size some limit) [
-    | inl row ↦ row.1 ∙ unless-second (nat_lt SIZE_LIMIT size) (nat_lt v.free (price (grown v.image size) - price v.image)) c v _ (lt-ltb v.free (price (grown v.image size) - price v.image) (omega (arith, dear)))
+    | inl row ↦ row.1 ∙ unless-second (nat_lt SIZE_LIMIT size) (nat_lt v.free (price (grown v.image size) - price v.image)) c v _
+        (lt-ltb v.free (price (grown v.image size) - price v.image) (omega (arith, dear)))
     | inr row ↦ absurd (omega (arith, row.0, more))
   ]
 
@@ -164,7 +158,7 @@ module _ (c : Call) (v : View) where
   lazy-inside (pos n) size some = elim (cases_lt SIZE_LIMIT (v.image.size + n)) [
     | inl above ↦ absurd (none-some size (sym (too-many v.image.size n above) ∙ some))
     | inr fits ↦
-        let e : v.image.size + n ≡ size = same-size (v.image.size + n) size (sym (more-fits v.image.size n fits) ∙ some) in
+        let e : v.image.size + n ≡ size = same_Some (v.image.size + n) size (sym (more-fits v.image.size n fits) ∙ some) in
         ap (λ (b : Bool). unless b c v (λ _. done c (pos v.image.size) (record v { image = grown_lazily v.image (v.image.size + n) }))) (le-ltb SIZE_LIMIT (v.image.size + n) fits)
         ∙ ap (λ (k : ℕ). done c (pos v.image.size) (record v { image = grown_lazily v.image k })) e
   ]

@@ -1,5 +1,5 @@
 -- What each row does to the state, from the laws of its parts.
-use Rattle.std.proofs.Common.{◌≡◌, ℕ, ◌<◌, ◌+◌, ◌-◌, ◌++◌, cond, inl, inr, Bool, true, false, not, ◌||◌, List, Option, Some, refl, sym, ap, ◌∙◌, subst, length, take, drop, arith}
+use Rattle.std.proofs.Common.{◌≡◌, ℕ, ◌<◌, ◌+◌, ◌-◌, ◌++◌, cond, inl, inr, Bool, true, false, not, ◌||◌, List, Some, refl, sym, ap, ◌∙◌, subst, length, take, drop, arith}
 use Rattle.std.specs.Prelude.{pos, nat_eq, ◌==◌, option_map, slice_get}
 use Rattle.std.specs.FinMap.{get, insert}
 use Rattle.std.proofs.lemmas.Bool.{le-ltb, lt-leb}
@@ -23,28 +23,19 @@ use Rattle.kernel_spec.specs.views.State.{State}
 use Rattle.kernel_spec.specs.views.View.{View, Descriptor, Shown, view_of, show, numbered, rename, descriptor_at, descriptor_on}
 use Rattle.kernel_spec.specs.steps.Own.{Own}
 use Rattle.kernel_spec.specs.rows.Tables.{lowest_free, lowest_free_above}
-use Rattle.kernel_spec.specs.rows.Lines.{◌>>=◌, ◌>>◌, ◌when◌, ◌or◌, natural}
+use Rattle.kernel_spec.specs.rows.Lines.{natural}
 use Rattle.kernel_spec.specs.steps.Updates.{alone_state, changed_state, own_state, piped_state, filed_state, with_answer, with_named, with_bytes, started, kill_state, killer, settled}
 use Rattle.kernel_spec.specs.rows.Calls.{exec, read, open_file, make_pipe, done, refused, what_is_named, has_mode}
 use Rattle.kernel_spec.specs.laws.RowLaws.{After, ExecLaw, ForkLaw, KillLaw, FileReadLaw, closed_state, OpenLaw, PipeLaw, DupLaw, DupPipeLaw, CloseLaw, ClosePipeLaw}
-use Rattle.kernel_spec.proofs.rows.RowParts.{cannot_fork, exec_loaded, running, unless, read_file, open_at, piped, dup_at}
+use Rattle.kernel_spec.proofs.rows.RowParts.{cannot_fork, exec_loaded, unless, read_file, open_at, piped, dup_at, running}
 use Rattle.kernel_spec.proofs.rows.Decoding.{exec_case, kill_case, read_case, dup_case, close_case}
-use Rattle.kernel_spec.proofs.steps.Names.{named_at, name_of_file}
+use Rattle.kernel_spec.proofs.steps.NamesAreChosenAgain.{named_at, name_of_file}
 use Rattle.kernel_spec.proofs.turns.KeepsSlots.{listed}
-use Rattle.kernel_spec.proofs.steps.Alone as in-alone
-use Rattle.kernel_spec.proofs.steps.Descriptors as in-descriptors
-use Rattle.kernel_spec.proofs.steps.Family as in-family
-use Rattle.kernel_spec.proofs.steps.OnFiles as in-on-files
-
--- ---- a line of a row that is passed
-
-pub takes : {A : Type 0} (o : Option A) (a : A) (e : Own) (f : A → Own) → o ≡ Some a → ((o or e) >>= f) ≡ f a
-unfolding ◌>>=◌ ◌or◌
-takes {A = A} o a e f is = ap (λ (o : Option A). (o or e) >>= f) is
-
-pub passes : (b : Bool) (e x : Own) → b ≡ false → ((e when b) >> x) ≡ x
-unfolding ◌>>◌ ◌when◌
-passes b e x is = ap (λ (b : Bool). (e when b) >> x) is
+use Rattle.kernel_spec.proofs.steps.AloneLawsHold as in-alone
+use Rattle.kernel_spec.proofs.steps.DupCloseLawsHold as in-descriptors
+use Rattle.kernel_spec.proofs.steps.FamilyLawsHold as in-family
+use Rattle.kernel_spec.proofs.steps.FileLawsHold as in-on-files
+use Rattle.kernel_spec.proofs.Common.{passes, takes}
 
 -- ---- exec, fork, kill
 
@@ -87,14 +78,16 @@ file_read_law s p l c d f program offset n w was number below names opened buffe
     let x : OpenFile = record { read = true; write = w; target = File program offset } in
     let bytes = take n (drop offset (program_bytes (slice_get s.programs program))) in
     let row : read c v ≡ read_file c v (name_of_file s l f) bytes = read_case c v (seen_as s l f x) d n number (seen s p l d f x below names opened) buffer.0 buffer.1 refl buffer.2 in
-    subst (λ (o : Own). After s p l o (filed_state p (with_answer (pos (length bytes)) (with_bytes c.a1 bytes l)) f (record { read = true; write = w; target = File program (offset + length bytes) }) s)) (sym row)
+    subst (λ (o : Own). After s p l o (filed_state p (with_answer (pos (length bytes)) (with_bytes c.a1 bytes l)) f
+    (record { read = true; write = w; target = File program (offset + length bytes) }) s)) (sym row)
     (in-on-files.file_read s p l c d f program offset true w bytes was below names opened)
 
 opened : (c : Call) (v : View) (path : List ℕ) (shown : Shown) (mode k : ℕ) → text_at MAXPATH v.image c.a0 ≡ Some path → what_is_named (no_slashes path) v.programs ≡ Some shown → c_int c.a1 ≡ pos mode
     → has_mode shown mode ≡ true → lowest_free v.descriptors ≡ Some k → open_file c v ≡ open_at c v (Some k) (Some (not (mode == 1), not (mode == 0), shown))
 unfolding open_file
 opened c v path shown mode k path-is named mode-is allowed lowest =
-    takes _ path (refused c v) _ path-is ∙ takes _ shown (refused c v) _ named ∙ takes _ mode (refused c v) _ (ap natural mode-is) ∙ passes _ (refused c v) _ (ap not allowed) ∙ takes _ k (refused c v) _ lowest
+    takes _ path (refused c v) _ path-is ∙ takes _ shown (refused c v) _ named ∙ takes _ mode (refused c v) _ (ap natural mode-is)
+    ∙ passes _ (refused c v) _ (ap not allowed) ∙ takes _ k (refused c v) _ lowest
 
 pub open_law : OpenLaw
 unfolding view_of
@@ -106,11 +99,13 @@ open_law s p l c k f mode path target was path-is named no_pipe mode-is allowed 
     subst (λ (o : Own). After s p l o (filed_state p (with_answer (pos k) (with_named k f l)) f (record { read = reads; write = writes; target = target }) s)) (sym row)
     (in-on-files.open_law s p l c k f reads writes target was free.below free.unused nobody no_pipe)
 
-made : (c : Call) (v : View) (r w : ℕ) → writable_now v.image c.a0 8 ≡ true → (v.free == 0) ≡ false → lowest_free v.descriptors ≡ Some r → lowest_free_above v.descriptors r ≡ Some w → make_pipe c v ≡ piped c v r (Some w)
+made : (c : Call) (v : View) (r w : ℕ) → writable_now v.image c.a0 8 ≡ true → (v.free == 0) ≡ false → lowest_free v.descriptors ≡ Some r
+    → lowest_free_above v.descriptors r ≡ Some w → make_pipe c v ≡ piped c v r (Some w)
 unfolding make_pipe
 made c v r w there some lowest next =
     let ready = there-ready v.image c.a0 8 there in
-    passes _ (refused c v) _ (ap not ready.0) ∙ takes _ r (refused c v) _ lowest ∙ takes _ w (refused c v) _ next ∙ takes _ v (refused c v) _ (touch-none (pages_at c.a0 8) v ready.1) ∙ passes _ (refused c v) _ some
+    passes _ (refused c v) _ (ap not ready.0) ∙ takes _ r (refused c v) _ lowest ∙ takes _ w (refused c v) _ next
+    ∙ takes _ v (refused c v) _ (touch-none (pages_at c.a0 8) v ready.1) ∙ passes _ (refused c v) _ some
 
 room_left : (free : ℕ) → 0 < free → (free == 0) ≡ false
 room_left free some = elim (eqb_tells free 0) [ inl zero ↦ absurd (omega (arith, some, zero.1)) | inr other ↦ other.0 ]
@@ -143,5 +138,6 @@ close_law frames s p l c k f x d files well was number below names opened no_pip
 
 pub close_pipe_law : ClosePipeLaw
 close_pipe_law frames s p l c k i n end x d files on well number sees left =
-    subst (λ (o : Own). After s p l o (closed_state p l k files (settled i (parted x end 1) s.pipes) (cond (is_given_up (parted x end 1)) 1 0) s)) (sym (close_case c (view_of s p l) d k 0 number sees))
+    subst (λ (o : Own). After s p l o (closed_state p l k files (settled i (parted x end 1) s.pipes) (cond (is_given_up (parted x end 1)) 1 0) s))
+    (sym (close_case c (view_of s p l) d k 0 number sees))
     (in-descriptors.close_pipe_law frames s p l c k i n end x d files on well sees left)

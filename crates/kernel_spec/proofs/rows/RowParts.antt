@@ -1,6 +1,7 @@
 -- The rows of the call table in parts: a word for what is left of a row behind each test that has passed, where no page of the call's buffer is absent.
 -- The proofs go by them; that a row is what its parts say, once its buffer is touched, is in RowsByParts.
-use Rattle.std.specs.Prelude.{◌≡◌, ℕ, suc, ◌+◌, ◌-◌, Bool, true, false, cond, not, ◌&&◌, ◌||◌, List, [], ◌∷◌, ◌++◌, length, take, drop, Option, None, Some, Result, Ok, Err, ℤ, pos, negsuc, nat_eq, nat_lt, nat_le, filter, slice_get, bytes_eq}
+use Rattle.std.specs.Prelude.{◌≡◌, ℕ, suc, ◌+◌, ◌-◌, Bool, true, false, cond, not, ◌&&◌, ◌||◌, List, [], ◌∷◌, ◌++◌, length}
+use Rattle.std.specs.Prelude.{take, drop, Option, None, Some, Result, Ok, Err, ℤ, pos, negsuc, nat_eq, nat_lt, nat_le, filter, slice_get, bytes_eq}
 use Rattle.std.specs.List.{list_any}
 use Rattle.std.specs.Int.{cast_unsigned, w32}
 use Rattle.xk_base.specs.declared.limits.TheConstants.{NPROC, PID_MAX, MAXPATH, MAXARG, ARG_BYTES, SIZE_LIMIT}
@@ -25,7 +26,9 @@ use Rattle.kernel_spec.specs.rows.Tables.{lowest_free, lowest_free_above, with_d
 use Rattle.kernel_spec.specs.views.Words.{SP, A1, c_int, with_value}
 use Rattle.kernel_spec.specs.views.Processes.{Running, child_status}
 use Rattle.kernel_spec.specs.steps.Own.{Own, Called, Exited, goes_on}
-use Rattle.kernel_spec.specs.rows.Calls.{Row, Fork, Exit, Wait, Pipe_row, Read, Kill, Exec, Dup, Getpid, Sbrk, Sleep, Uptime, Open, Write, Close, Sbrklazy, row_of, with_a0, answered, gone, done, refused, waits, least_zombie, has_child, done_at, next_bytes}
+use Rattle.kernel_spec.specs.rows.Calls.{Row, Fork, Exit, Wait, Pipe_row, Read, Kill, Exec, Dup, Getpid}
+use Rattle.kernel_spec.specs.rows.Calls.{Sbrk, Sleep, Uptime, Open, Write, Close, Sbrklazy, row_of, with_a0, answered}
+use Rattle.kernel_spec.specs.rows.Calls.{gone, done, refused, waits, least_zombie, has_child, done_at, next_bytes}
 use Rattle.kernel_spec.specs.steps.Ticks.{ticks_since, has_passed}
 use Rattle.kernel_spec.specs.rows.Terminal.{room_for}
 
@@ -111,7 +114,8 @@ wait_parts c v = unless (not (nat_eq c.a0 0) && not (writable v.image c.a0 4)) c
 -- r is the lowest free descriptor, w the lowest above it
 abbrev pub with_pipe : ℕ → ℕ → View → View
 with_pipe r w v = record v {
-  descriptors = with_descriptor w (record { file = w; read = false; write = true; shown = Shown_pipe r Writing new_pipe }) (with_descriptor r (record { file = r; read = true; write = false; shown = Shown_pipe r Reading new_pipe }) v.descriptors);
+  descriptors = with_descriptor w (record { file = w; read = false; write = true; shown = Shown_pipe r Writing new_pipe })
+      (with_descriptor r (record { file = r; read = true; write = false; shown = Shown_pipe r Reading new_pipe }) v.descriptors);
   free = v.free - 1;
 }
 

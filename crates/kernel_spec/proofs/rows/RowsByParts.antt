@@ -20,7 +20,7 @@ use Rattle.kernel_spec.specs.views.PipeEnds.{fit, has_bytes, there}
 use Rattle.kernel_spec.specs.views.Processes.{Child, has_status, child_status}
 use Rattle.kernel_spec.specs.views.Programs.{program_named, console_name, place_of}
 use Rattle.kernel_spec.proofs.rows.Resized.{grown-price}
-use Rattle.std.proofs.lemmas.Bool.{cases_lt, lt-ltb, le-ltb, le-leb, lt-leb}
+use Rattle.std.proofs.lemmas.Bool.{cases_lt, lt-ltb, le-ltb, le-leb, lt-leb, false≢true, not-false, or_right, both_ways}
 use Rattle.std.proofs.lemmas.Bool.Decides.{eqb_tells}
 use Rattle.kernel_spec.specs.rows.Tables.{lowest_free, lowest_free_above, change_pipe, advance, with_descriptor}
 use Rattle.xk_base.specs.Loaded.{Loaded, loaded}
@@ -30,11 +30,21 @@ use Rattle.kernel_spec.specs.views.Words.{c_int, minus_one, with_value, or_zero}
 use Rattle.kernel_spec.specs.views.State.{ProgramFile}
 use Rattle.kernel_spec.specs.views.View.{View, Descriptor, Shown, Shown_terminal, Shown_file, Shown_pipe, in_use}
 use Rattle.kernel_spec.specs.steps.Own.{Own, Called, Blocked, Exited}
-use Rattle.kernel_spec.proofs.rows.RowParts.{IsBrought, IsSettled, buffer_of, told_bytes, lazy_by, sbrklazy_parts, unless, unless_nothing, moving, length_of_int, A_program, Named, Nothing, The_console, close_number, close_on, close_parts, dup_at, dup_number, dup_on, dup_parts, exec_loaded, exec_parts, exec_path, exec_program, fork_parts, forked, grow_to, kill_parts, kill_pid, killed_by, kind_named, open_at, open_parts, open_path, opened_as, perform_parts, perform_row, pipe_parts, piped, piped_from, program_place, read_on, read_parts, reaped, running, sbrk_by, sbrk_parts, shrink_to, sleep_parts, told, wait_parts, without_child, write_on, write_parts, write_pipe}
-use Rattle.kernel_spec.specs.rows.Calls.{Row, Fork, Exit, Wait, Pipe_row, Read, Kill, Exec, Dup, Getpid, Sbrk, Sleep, Uptime, Open, Write, Close, Sbrklazy, row_of, refused, done, waits, has_mode, close, dup, exec, exit, fork, getpid, gone, has_child, kill, least_zombie, make_pipe, open_file, perform, read, row, sbrk, sbrklazy, sleep, uptime, wait, what_is_named, write, done_at, next_bytes, storing, status_stored, read_stored}
+use Rattle.kernel_spec.proofs.rows.RowParts.{IsBrought, IsSettled, buffer_of, told_bytes, lazy_by, sbrklazy_parts, unless, unless_nothing}
+use Rattle.kernel_spec.proofs.rows.RowParts.{moving, length_of_int, A_program, Named, Nothing, The_console, dup_at, dup_number}
+use Rattle.kernel_spec.proofs.rows.RowParts.{dup_on, dup_parts, exec_loaded, exec_parts, exec_path, exec_program, forked, grow_to}
+use Rattle.kernel_spec.proofs.rows.RowParts.{killed_by, kind_named, open_at, open_parts, open_path, opened_as, perform_parts, perform_row}
+use Rattle.kernel_spec.proofs.rows.RowParts.{pipe_parts, piped, piped_from, program_place, read_on, read_parts, reaped, sbrk_by}
+use Rattle.kernel_spec.proofs.rows.RowParts.{sbrk_parts, shrink_to, sleep_parts, wait_parts, write_on, write_parts, write_pipe, close_number}
+use Rattle.kernel_spec.proofs.rows.RowParts.{close_on, close_parts, fork_parts, kill_parts, kill_pid, running, told, without_child}
+use Rattle.kernel_spec.specs.rows.Calls.{Row, Fork, Exit, Wait, Pipe_row, Read, Kill, Exec, Dup, Getpid, Sbrk, Sleep, Uptime}
+use Rattle.kernel_spec.specs.rows.Calls.{Open, Write, Close, Sbrklazy, row_of, refused, done, waits, has_mode, close, dup, exec, exit}
+use Rattle.kernel_spec.specs.rows.Calls.{fork, getpid, gone, has_child, kill, least_zombie, make_pipe, open_file, perform, read, row, sbrk, sbrklazy}
+use Rattle.kernel_spec.specs.rows.Calls.{sleep, uptime, wait, what_is_named, write, done_at, next_bytes, storing, status_stored, read_stored}
 use Rattle.kernel_spec.specs.rows.Lines.{◌>>=◌, ◌>>◌, ◌when◌, ◌or◌, natural, result_of}
 use Rattle.kernel_spec.specs.steps.Ticks.{ticks_since, has_passed}
 use Rattle.kernel_spec.specs.rows.Terminal.{next_line, without_line}
+use Rattle.kernel_spec.proofs.Common.{passes, takes}
 
 -- ---- the lines of a row
 
@@ -72,8 +82,11 @@ ends_so (Some a) e f same = same a
 -- a descriptor on the console, on a file or on a pipe
 by_kind : (f g : Descriptor → Own)
     → ((file : ℕ) (r w : Bool) → f (record { file = file; read = r; write = w; shown = Shown_terminal }) ≡ g (record { file = file; read = r; write = w; shown = Shown_terminal }))
-    → ((file : ℕ) (r w : Bool) (program offset : ℕ) → f (record { file = file; read = r; write = w; shown = Shown_file program offset }) ≡ g (record { file = file; read = r; write = w; shown = Shown_file program offset }))
-    → ((file : ℕ) (r w : Bool) (name : ℕ) (end : End) (pipe : Pipe) → f (record { file = file; read = r; write = w; shown = Shown_pipe name end pipe }) ≡ g (record { file = file; read = r; write = w; shown = Shown_pipe name end pipe }))
+    → ((file : ℕ) (r w : Bool) (program offset : ℕ) → f (record { file = file; read = r; write = w; shown = Shown_file program offset }) ≡ g
+    (record { file = file; read = r; write = w; shown = Shown_file program offset }))
+    → ((file : ℕ) (r w : Bool) (name : ℕ) (end : End) (pipe : Pipe)
+    → f (record { file = file; read = r; write = w; shown = Shown_pipe name end pipe }) ≡ g
+    (record { file = file; read = r; write = w; shown = Shown_pipe name end pipe }))
     → (d : Descriptor) → f d ≡ g d
 by_kind f g terminal a_file a_pipe d = by d.shown
   where
@@ -82,10 +95,6 @@ by_kind f g terminal a_file a_pipe d = by d.shown
     by (Shown_file program offset) = a_file d.file d.read d.write program offset
     by (Shown_pipe name end pipe) = a_pipe d.file d.read d.write name end pipe
 
-or_true : (a b : Bool) → b ≡ true → (a || b) ≡ true
-or_true true b e = refl
-or_true false b e = e
-
 -- where one is found, one is there
 any_found : (test other : ℕ → Bool) → ((k : ℕ) → test k ≡ true → other k ≡ true) → (ks : List ℕ) (q : ℕ) → find test ks ≡ Some q → list_any other ks ≡ true
 any_found test other h [] q is = let no : ⊥ = cc in absurd no
@@ -93,7 +102,7 @@ any_found test other h (k ∷ ks) q is = by (any_found test other h ks q) (test 
   where
     by : (find test ks ≡ Some q → list_any other ks ≡ true) → (b : Bool) → test k ≡ b → cond b (Some k) (find test ks) ≡ Some q → (other k || list_any other ks) ≡ true
     by rest true passes is = ap (λ b. b || list_any other ks) (h k passes)
-    by rest false fails is = or_true (other k) (list_any other ks) (rest is)
+    by rest false fails is = or_right (other k) (list_any other ks) (rest is)
 
 status_child : (o : Option Child) → has_status o ≡ true → is_some o ≡ true
 status_child None e = e
@@ -133,11 +142,8 @@ above_2 mode = elim (cases_lt 2 mode) [
 is_zero : (mode : ℕ) → nat_eq mode 0 ≡ true → mode ≡ 0
 is_zero mode e = elim (eqb_tells mode 0) [
   | inl is ↦ is.1
-  | inr no_zero ↦ let no : ⊥ = false-true (sym no_zero.0 ∙ e) in absurd no
+  | inr no_zero ↦ let no : ⊥ = false≢true (sym no_zero.0 ∙ e) in absurd no
 ]
-  where
-    false-true : false ≡ true → ⊥
-    false-true e = cc
 
 module _ (c : Call) (v : View) where
   pub when_unless : (b : Bool) (x : Own) (go : Unit {0} → Own) → x ≡ go tt → ((refused c v when b) >> x) ≡ unless b c v go
@@ -237,7 +243,8 @@ module _ (c : Call) (v : View) where
 
   -- ---- pipe
 
-  pipe_by : (a b : Bool) → ((refused c v when a) >> ((lowest_free v.descriptors or refused c v) >>= (λ r. (lowest_free_above v.descriptors r or refused c v) >>= (λ w. (refused c v when b) >> piped c v r (Some w)))))
+  pipe_by : (a b : Bool) → ((refused c v when a) >> ((lowest_free v.descriptors or refused c v) >>=
+      (λ r. (lowest_free_above v.descriptors r or refused c v) >>= (λ w. (refused c v when b) >> piped c v r (Some w)))))
       ≡ unless (a || b) c v (λ _. piped_from c v (lowest_free v.descriptors))
   unfolding ◌>>=◌ ◌>>◌ ◌when◌ ◌or◌
   pipe_by true b = refl
@@ -251,7 +258,9 @@ module _ (c : Call) (v : View) where
   pub pipe_same : has_absent (pages_at c.a0 8) v.image ≡ false → make_pipe c v ≡ pipe_parts c v
   unfolding make_pipe ◌>>=◌ ◌>>◌ ◌when◌ ◌or◌
   pipe_same none =
-      (λ i. (refused c v when not (writable v.image c.a0 8)) >> ((lowest_free v.descriptors or refused c v) >>= (λ r. (lowest_free_above v.descriptors r or refused c v) >>= (λ w. touched_same (pages_at c.a0 8) none (piping r w) i))))
+      (λ i. (refused c v when not (writable v.image c.a0 8)) >>
+      ((lowest_free v.descriptors or refused c v) >>= (λ r. (lowest_free_above v.descriptors r or refused c v) >>=
+      (λ w. touched_same (pages_at c.a0 8) none (piping r w) i))))
       ∙ pipe_by (not (writable v.image c.a0 8)) (nat_eq v.free 0)
 
   -- ---- exec
@@ -264,7 +273,9 @@ module _ (c : Call) (v : View) where
   by_loaded (Err e) = refl
   by_loaded (Ok l) = when_unless (nat_lt v.free (price l.image)) _ (λ _. done c (pos l.argc) (running l v)) refl
 
-  by_program : (texts : Option (List (List ℕ))) (program : Option ProgramFile) → ((texts or refused c v) >>= (λ ts. (program or refused c v) >>= (λ p. (result_of (loaded p.bytes ts) or refused c v) >>= run))) ≡ exec_program c v texts program
+  by_program : (texts : Option (List (List ℕ))) (program : Option ProgramFile)
+      → ((texts or refused c v) >>= (λ ts. (program or refused c v) >>= (λ p. (result_of (loaded p.bytes ts) or refused c v) >>= run)))
+      ≡ exec_program c v texts program
   unfolding ◌>>=◌ ◌>>◌ ◌when◌ ◌or◌
   by_program None program = refl
   by_program (Some ts) None = refl
@@ -277,7 +288,9 @@ module _ (c : Call) (v : View) where
   -- ---- read and write
 
   moving_same : (b : Bool) (is_there : ℕ → Bool) (z : ℤ) (f g : ℕ → Own) → ((n : ℕ) → z ≡ pos n → f n ≡ g n)
-      → ((refused c v when not b) >> ((natural z or refused c v) >>= (λ n. (done c (pos 0) v when nat_eq n 0) >> ((refused c v when not (is_there n)) >> f n)))) ≡ unless (not b) c v (λ _. moving c v (is_there (length_of_int z)) z g)
+      → ((refused c v when not b) >> ((natural z or refused c v) >>=
+      (λ n. (done c (pos 0) v when nat_eq n 0) >> ((refused c v when not (is_there n)) >> f n)))) ≡ unless (not b) c v
+      (λ _. moving c v (is_there (length_of_int z)) z g)
   moving_same b is_there z f g same = when_unless (not b) _ (λ _. moving c v (is_there (length_of_int z)) z g)
       (natural_at z (refused c v) _ (λ z. moving c v (is_there (length_of_int z)) z g) (λ k. refl)
       (λ n is. when_nothing (nat_eq n 0) _ (λ _. unless (not (is_there n)) c v (λ _. g n)) (when_unless (not (is_there n)) (f n) (λ _. g n) (same n is))))
@@ -298,7 +311,8 @@ module _ (c : Call) (v : View) where
       (λ file r w. moving_same w (readable v.image c.a1) (c_int c.a2) _ _ (λ n is. refl))
       (λ file r w program offset. moving_same w (readable v.image c.a1) (c_int c.a2) _ _ (λ n is. refl))
       (λ file r w name end pipe. moving_same w (readable v.image c.a1) (c_int c.a2) _ (λ n. write_pipe c v name pipe n)
-      (λ n is. when_unless (nat_eq pipe.readers 0) _ (λ _. done_at c n (c.moved + fit pipe (n - c.moved)) (record v { descriptors = change_pipe name (with_more (next_bytes c v (fit pipe (n - c.moved))) pipe) v.descriptors })) refl)))
+      (λ n is. when_unless (nat_eq pipe.readers 0) _ (λ _. done_at c n (c.moved + fit pipe (n - c.moved))
+      (record v { descriptors = change_pipe name (with_more (next_bytes c v (fit pipe (n - c.moved))) pipe) v.descriptors })) refl)))
 
   -- ---- sbrk
 
@@ -387,7 +401,9 @@ module _ (c : Call) (v : View) where
     program_mode true mode place zero = ap (λ m. Some (not (nat_eq m 1), not (nat_eq m 0), Shown_file place 0)) (zero refl)
     program_mode false mode place zero = refl
 
-    by_name : (what : Named) (z : ℤ) → ((shown_of what or refused c v) >>= (λ shown. (natural z or refused c v) >>= (λ mode. (refused c v when not (has_mode shown mode)) >> ((o or refused c v) >>= opened mode shown)))) ≡ open_at c v o (opened_as what z)
+    by_name : (what : Named) (z : ℤ) → ((shown_of what or refused c v) >>=
+        (λ shown. (natural z or refused c v) >>= (λ mode. (refused c v when not (has_mode shown mode)) >>
+        ((o or refused c v) >>= opened mode shown)))) ≡ open_at c v o (opened_as what z)
     unfolding ◌>>=◌ ◌>>◌ ◌when◌ ◌or◌
     by_name The_console (pos mode) = ap (λ b. (refused c v when b) >> ((o or refused c v) >>= opened mode Shown_terminal)) (above_2 mode) ∙ at_mode (nat_lt 2 mode) mode Shown_terminal
     by_name The_console (negsuc k) = none_opened
@@ -398,7 +414,9 @@ module _ (c : Call) (v : View) where
   pub open_same : open_file c v ≡ open_parts c v
   unfolding open_file
   open_same = or_same (text_at MAXPATH v.image c.a0) (refused c v) _ (open_path c v) refl
-      (λ path. ap (λ o. (o or refused c v) >>= (λ shown. (natural (c_int c.a1) or refused c v) >>= (λ mode. (refused c v when not (has_mode shown mode)) >> ((lowest_free v.descriptors or refused c v) >>= opened mode shown)))) (named_same v (no_slashes path))
+      (λ path. ap (λ o. (o or refused c v) >>= (λ shown. (natural (c_int c.a1) or refused c v) >>=
+      (λ mode. (refused c v when not (has_mode shown mode)) >> ((lowest_free v.descriptors or refused c v) >>= opened mode shown))))
+      (named_same v (no_slashes path))
       ∙ by_name (lowest_free v.descriptors) (kind_named (no_slashes path) v) (c_int c.a1))
 
   -- ---- sbrklazy
@@ -496,11 +514,7 @@ module _ (c : Call) (v : View) where
 
   -- a buffer that may be written may be so once its pages are there
   room-there : (i : Image) (ps : List ℕ) (a n : ℕ) → i ≡ brought ps v.image → not (writable v.image a n) ≡ false → not (writable i a n) ≡ false
-  room-there i ps a n is fits = ap not (ap (λ j. writable j a n) is ∙ store-brought ps v.image a n (not-not (writable v.image a n) fits))
-    where
-      not-not : (b : Bool) → not b ≡ false → b ≡ true
-      not-not true e = refl
-      not-not false e = sym e
+  room-there i ps a n is fits = ap not (ap (λ j. writable j a n) is ∙ store-brought ps v.image a n (not-false (writable v.image a n) fits))
 
   room-where : (z : Bool) (i : Image) (ps : List ℕ) (a n : ℕ) → i ≡ brought ps v.image → (z && not (writable v.image a n)) ≡ false → (z && not (writable i a n)) ≡ false
   room-where true i ps a n is fits = room-there i ps a n is fits
@@ -526,7 +540,8 @@ module _ (c : Call) (v : View) where
   pub pipe_none : touch (pages_at c.a0 8) v ≡ None → make_pipe c v ≡ refused c v
   unfolding make_pipe
   pipe_none e =
-      when_refused (not (writable v.image c.a0 8)) _ (or_refused (lowest_free v.descriptors) _ (λ r there. or_refused (lowest_free_above v.descriptors r) _ (λ w above. none_refused (touch (pages_at c.a0 8) v) _ e)))
+      when_refused (not (writable v.image c.a0 8)) _ (or_refused (lowest_free v.descriptors) _
+      (λ r there. or_refused (lowest_free_above v.descriptors r) _ (λ w above. none_refused (touch (pages_at c.a0 8) v) _ e)))
 
   pub read_none : has_absent (pages_at c.a1 (length_of_int (c_int c.a2))) v.image ≡ true → touch (pages_at c.a1 (length_of_int (c_int c.a2))) v ≡ None → read c v ≡ refused c v
   unfolding read
@@ -590,7 +605,8 @@ module _ (c : Call) (v : View) where
     unfolding wait
     wait_either comes =
         let ps = pages_at c.a0 (told_bytes c) in
-        when_either (not (nat_eq c.a0 0) && not (writable v.image c.a0 4)) (not (nat_eq c.a0 0) && not (writable i c.a0 4)) (refused c t) _ _ (room-where (not (nat_eq c.a0 0)) i ps c.a0 4 (touch-comes ps v t comes).image)
+        when_either (not (nat_eq c.a0 0) && not (writable v.image c.a0 4)) (not (nat_eq c.a0 0) && not (writable i c.a0 4)) (refused c t) _ _
+        (room-where (not (nat_eq c.a0 0)) i ps c.a0 4 (touch-comes ps v t comes).image)
         (when_either (not (has_child v)) (not (has_child v)) (refused c t) _ _ (λ e. e) (touch_either ps _ _ comes (inr (refl, taking_answers t (least_zombie t)))))
 
     pipe_either : touch (pages_at c.a0 8) v ≡ Some t → Either (make_pipe c v) (make_pipe c t)
@@ -609,12 +625,16 @@ module _ (c : Call) (v : View) where
         by (Shown_file program offset) = called_not c.number (length (take n (drop offset (program_bytes (slice_get v.programs program)))))
         by (Shown_pipe name end pipe) =
             when_answers (not (has_bytes pipe)) (waits c 0 t)
-            (done c (pos (there pipe n)) (record t { image = write_image t.image c.a1 (take (there pipe n) pipe.bytes); descriptors = change_pipe name (without_first (there pipe n) pipe) t.descriptors }))
+            (done c (pos (there pipe n)) (record t {
+              image = write_image t.image c.a1 (take (there pipe n) pipe.bytes);
+              descriptors = change_pipe name (without_first (there pipe n) pipe) t.descriptors;
+            }))
             (blocked_not c.number) (called_not c.number (there pipe n))
         by Shown_terminal =
             let line = pulled (c.moved == 0) (n - c.moved) v.console.committed in
             let after = record t { image = write_image t.image (c.a1 + c.moved) line.taken; console = record t.console { committed = line.left } } in
-            either_answers line.ended (done c (pos (c.moved + length line.taken)) after) (waits c (c.moved + length line.taken) after) (called_not c.number (c.moved + length line.taken)) (blocked_not c.number)
+            either_answers line.ended (done c (pos (c.moved + length line.taken)) after) (waits c (c.moved + length line.taken) after)
+            (called_not c.number (c.moved + length line.taken)) (blocked_not c.number)
 
     read_either : has_absent (pages_at c.a1 (length_of_int (c_int c.a2))) v.image ≡ true → touch (pages_at c.a1 (length_of_int (c_int c.a2))) v ≡ Some t → Either (read c v) (read c t)
     unfolding read
@@ -630,18 +650,11 @@ module _ (c : Call) (v : View) where
 
   -- ---- a row, behind the tests that it passes
 
-  past : (b : Bool) (d x : Own) → b ≡ false → ((d when b) >> x) ≡ x
-  unfolding ◌>>=◌ ◌>>◌ ◌when◌ ◌or◌
-  past b d x fails = ap (λ b. (d when b) >> x) fails
-
-  there-is : {A : Type 0} (o : Option A) (a : A) (e : Own) (f : A → Own) → o ≡ Some a → ((o or e) >>= f) ≡ f a
-  unfolding ◌>>=◌ ◌>>◌ ◌when◌ ◌or◌
-  there-is {A = A} o a e f is = ap (λ (o : Option A). (o or e) >>= f) is
-
   -- without a child a wait is refused
   pub wait_childless : has_child v ≡ false → wait c v ≡ refused c v
   unfolding wait ◌>>=◌ ◌>>◌ ◌when◌ ◌or◌
-  wait_childless none = when_refused (not (nat_eq c.a0 0) && not (writable v.image c.a0 4)) _ (ap (λ b. (refused c v when not b) >> ((touch (pages_at c.a0 (told_bytes c)) v or refused c v) >>= taking c v)) none)
+  wait_childless none = when_refused (not (nat_eq c.a0 0) && not (writable v.image c.a0 4)) _
+      (ap (λ b. (refused c v when not b) >> ((touch (pages_at c.a0 (told_bytes c)) v or refused c v) >>= taking c v)) none)
 
   -- and so is one whose status can't be stored
   pub wait_unwritable : (not (nat_eq c.a0 0) && not (writable v.image c.a0 4)) ≡ true → wait c v ≡ refused c v
@@ -651,41 +664,49 @@ module _ (c : Call) (v : View) where
   -- a pipe whose numbers can't be stored
   pub pipe_unwritable : writable v.image c.a0 8 ≡ false → make_pipe c v ≡ refused c v
   unfolding make_pipe ◌>>=◌ ◌>>◌ ◌when◌ ◌or◌
-  pipe_unwritable bad = ap (λ b. (refused c v when not b) >> ((lowest_free v.descriptors or refused c v) >>= (λ r. (lowest_free_above v.descriptors r or refused c v) >>= (λ w. (touch (pages_at c.a0 8) v or refused c v) >>= piping c v r w)))) bad
+  pipe_unwritable bad = ap (λ b. (refused c v when not b) >>
+      ((lowest_free v.descriptors or refused c v) >>= (λ r. (lowest_free_above v.descriptors r or refused c v) >>=
+      (λ w. (touch (pages_at c.a0 8) v or refused c v) >>= piping c v r w)))) bad
 
   module _ (i : Image) (free : ℕ) where
     pub wait_on : (not (nat_eq c.a0 0) && not (writable v.image c.a0 4)) ≡ false → has_child v ≡ true → touch (pages_at c.a0 (told_bytes c)) v ≡ Some (t i free) → wait c v ≡ wait c (t i free)
     unfolding wait
     wait_on room child comes =
         let ps = pages_at c.a0 (told_bytes c) in
-        past _ (refused c v) _ room ∙ past _ (refused c v) _ (ap not child) ∙ there-is (touch ps v) (t i free) (refused c v) _ comes
-        ∙ sym (past _ (refused c (t i free)) _ (room-where (not (nat_eq c.a0 0)) i ps c.a0 4 (touch-comes ps v (t i free) comes).image room) ∙ past _ (refused c (t i free)) _ (ap not child) ∙ there-is (touch ps (t i free)) (t i free) (refused c (t i free)) _ (touch-again ps v (t i free) comes))
+        passes _ (refused c v) _ room ∙ passes _ (refused c v) _ (ap not child) ∙ takes (touch ps v) (t i free) (refused c v) _ comes
+        ∙ sym (passes _ (refused c (t i free)) _ (room-where (not (nat_eq c.a0 0)) i ps c.a0 4 (touch-comes ps v (t i free) comes).image room)
+        ∙ passes _ (refused c (t i free)) _ (ap not child)
+        ∙ takes (touch ps (t i free)) (t i free) (refused c (t i free)) _ (touch-again ps v (t i free) comes))
 
-    pub pipe_on : (r w : ℕ) → writable v.image c.a0 8 ≡ true → lowest_free v.descriptors ≡ Some r → lowest_free_above v.descriptors r ≡ Some w → touch (pages_at c.a0 8) v ≡ Some (t i free) → nat_eq free 0 ≡ false
+    pub pipe_on : (r w : ℕ) → writable v.image c.a0 8 ≡ true → lowest_free v.descriptors ≡ Some r → lowest_free_above v.descriptors r ≡ Some w
+        → touch (pages_at c.a0 8) v ≡ Some (t i free) → nat_eq free 0 ≡ false
         → make_pipe c v ≡ make_pipe c (t i free)
     unfolding make_pipe
     pipe_on r w room least above comes some =
         let ps = pages_at c.a0 8 in
-        past _ (refused c v) _ (ap not room) ∙ there-is _ r (refused c v) _ least ∙ there-is _ w (refused c v) _ above ∙ there-is (touch ps v) (t i free) (refused c v) _ comes ∙ past _ (refused c v) _ some
-        ∙ sym (past _ (refused c (t i free)) _ (room-there i ps c.a0 8 (touch-comes ps v (t i free) comes).image (ap not room)) ∙ there-is _ r (refused c (t i free)) _ least ∙ there-is _ w (refused c (t i free)) _ above
-        ∙ there-is (touch ps (t i free)) (t i free) (refused c (t i free)) _ (touch-again ps v (t i free) comes) ∙ past _ (refused c (t i free)) _ some)
+        passes _ (refused c v) _ (ap not room) ∙ takes _ r (refused c v) _ least ∙ takes _ w (refused c v) _ above ∙ takes (touch ps v) (t i free) (refused c v) _ comes ∙ passes _ (refused c v) _ some
+        ∙ sym (passes _ (refused c (t i free)) _ (room-there i ps c.a0 8 (touch-comes ps v (t i free) comes).image (ap not room))
+        ∙ takes _ r (refused c (t i free)) _ least ∙ takes _ w (refused c (t i free)) _ above
+        ∙ takes (touch ps (t i free)) (t i free) (refused c (t i free)) _ (touch-again ps v (t i free) comes) ∙ passes _ (refused c (t i free)) _ some)
 
-    pub read_there : (fd n : ℕ) (d : Descriptor) → c_int c.a0 ≡ pos fd → v.descriptors fd ≡ Some d → d.read ≡ true → c_int c.a2 ≡ pos n → nat_eq n 0 ≡ false → writable v.image c.a1 n ≡ true → touch (pages_at c.a1 n) v ≡ Some (t i free)
+    pub read_there : (fd n : ℕ) (d : Descriptor) → c_int c.a0 ≡ pos fd → v.descriptors fd ≡ Some d → d.read ≡ true → c_int c.a2 ≡ pos n
+        → nat_eq n 0 ≡ false → writable v.image c.a1 n ≡ true → touch (pages_at c.a1 n) v ≡ Some (t i free)
         → read c v ≡ read c (t i free)
     unfolding read
     read_there fd n d number used reads count some room comes =
         let ps = pages_at c.a1 n in
-        there-is _ d (refused c v) _ (ap (in_use v) number ∙ used) ∙ past _ (refused c v) _ (ap not reads) ∙ there-is _ n (refused c v) _ (ap natural count)
-        ∙ past _ (done c (pos 0) v) _ some ∙ past _ (refused c v) _ (ap not room) ∙ there-is (touch ps v) (t i free) (refused c v) _ comes
-        ∙ sym (there-is _ d (refused c (t i free)) _ (ap (in_use (t i free)) number ∙ used) ∙ past _ (refused c (t i free)) _ (ap not reads) ∙ there-is _ n (refused c (t i free)) _ (ap natural count)
-        ∙ past _ (done c (pos 0) (t i free)) _ some ∙ past _ (refused c (t i free)) _ (room-there i ps c.a1 n (touch-comes ps v (t i free) comes).image (ap not room))
-        ∙ there-is (touch ps (t i free)) (t i free) (refused c (t i free)) _ (touch-again ps v (t i free) comes))
+        takes _ d (refused c v) _ (ap (in_use v) number ∙ used) ∙ passes _ (refused c v) _ (ap not reads) ∙ takes _ n (refused c v) _ (ap natural count)
+        ∙ passes _ (done c (pos 0) v) _ some ∙ passes _ (refused c v) _ (ap not room) ∙ takes (touch ps v) (t i free) (refused c v) _ comes
+        ∙ sym (takes _ d (refused c (t i free)) _ (ap (in_use (t i free)) number ∙ used) ∙ passes _ (refused c (t i free)) _ (ap not reads) ∙ takes _ n (refused c (t i free)) _ (ap natural count)
+        ∙ passes _ (done c (pos 0) (t i free)) _ some ∙ passes _ (refused c (t i free)) _ (room-there i ps c.a1 n (touch-comes ps v (t i free) comes).image (ap not room))
+        ∙ takes (touch ps (t i free)) (t i free) (refused c (t i free)) _ (touch-again ps v (t i free) comes))
 
   -- the same of the view that a touch leaves
   pub wait_ready : (u : View) → (not (nat_eq c.a0 0) && not (writable v.image c.a0 4)) ≡ false → has_child v ≡ true → touch (pages_at c.a0 (told_bytes c)) v ≡ Some u → wait c v ≡ wait c u
   wait_ready u room child comes = let is = (touch-comes _ v u comes).view in wait_on u.image u.free room child (comes ∙ ap Some is) ∙ ap (wait c) (sym is)
 
-  pub pipe_ready : (u : View) (r w : ℕ) → writable v.image c.a0 8 ≡ true → lowest_free v.descriptors ≡ Some r → lowest_free_above v.descriptors r ≡ Some w → touch (pages_at c.a0 8) v ≡ Some u → nat_eq u.free 0 ≡ false → make_pipe c v ≡ make_pipe c u
+  pub pipe_ready : (u : View) (r w : ℕ) → writable v.image c.a0 8 ≡ true → lowest_free v.descriptors ≡ Some r
+      → lowest_free_above v.descriptors r ≡ Some w → touch (pages_at c.a0 8) v ≡ Some u → nat_eq u.free 0 ≡ false → make_pipe c v ≡ make_pipe c u
   pipe_ready u r w room least above comes some = let is = (touch-comes _ v u comes).view in pipe_on u.image u.free r w room least above (comes ∙ ap Some is) some ∙ ap (make_pipe c) (sym is)
 
   -- no frame is left beside the buffer's pages
@@ -693,11 +714,13 @@ module _ (c : Call) (v : View) where
   unfolding make_pipe ◌>>=◌ ◌>>◌ ◌when◌ ◌or◌
   pipe_full u comes none =
       when_refused (not (writable v.image c.a0 8)) _ (or_refused (lowest_free v.descriptors) _ (λ r there. or_refused (lowest_free_above v.descriptors r) _ (λ w above.
-      there-is (touch (pages_at c.a0 8) v) u (refused c v) (piping c v r w) comes ∙ ap (λ n. (refused c v when nat_eq n 0) >> piped c u r (Some w)) none)))
+      takes (touch (pages_at c.a0 8) v) u (refused c v) (piping c v r w) comes ∙ ap (λ n. (refused c v when nat_eq n 0) >> piped c u r (Some w)) none)))
 
-  pub read_ready : (u : View) (fd n : ℕ) (d : Descriptor) → c_int c.a0 ≡ pos fd → v.descriptors fd ≡ Some d → d.read ≡ true → c_int c.a2 ≡ pos n → nat_eq n 0 ≡ false → writable v.image c.a1 n ≡ true → touch (pages_at c.a1 n) v ≡ Some u
+  pub read_ready : (u : View) (fd n : ℕ) (d : Descriptor) → c_int c.a0 ≡ pos fd → v.descriptors fd ≡ Some d → d.read ≡ true → c_int c.a2 ≡ pos n
+      → nat_eq n 0 ≡ false → writable v.image c.a1 n ≡ true → touch (pages_at c.a1 n) v ≡ Some u
       → read c v ≡ read c u
-  read_ready u fd n d number used reads count some room comes = let is = (touch-comes _ v u comes).view in read_there u.image u.free fd n d number used reads count some room (comes ∙ ap Some is) ∙ ap (read c) (sym is)
+  read_ready u fd n d number used reads count some room comes = let is = (touch-comes _ v u comes).view in
+      read_there u.image u.free fd n d number used reads count some room (comes ∙ ap Some is) ∙ ap (read c) (sym is)
 
   -- ---- a read that is refused, or moves nothing
 
@@ -716,12 +739,13 @@ module _ (c : Call) (v : View) where
   -- a pipe without a descriptor for each end
   pub pipe_no_read : lowest_free v.descriptors ≡ None → make_pipe c v ≡ refused c v
   unfolding make_pipe
-  pipe_no_read none = when_refused (not (writable v.image c.a0 8)) _ (or_refused (lowest_free v.descriptors) _ (λ r there. let w : Some r ≡ None = sym there ∙ none in let not-so : ⊥ = cc in absurd not-so))
+  pipe_no_read none = when_refused (not (writable v.image c.a0 8)) _
+      (or_refused (lowest_free v.descriptors) _ (λ r there. let w : Some r ≡ None = sym there ∙ none in let not-so : ⊥ = cc in absurd not-so))
 
   pub pipe_no_write : (r : ℕ) → lowest_free v.descriptors ≡ Some r → lowest_free_above v.descriptors r ≡ None → make_pipe c v ≡ refused c v
   unfolding make_pipe
   pipe_no_write r least none =
-      when_refused (not (writable v.image c.a0 8)) _ (there-is _ r (refused c v) _ least
+      when_refused (not (writable v.image c.a0 8)) _ (takes _ r (refused c v) _ least
       ∙ or_refused (lowest_free_above v.descriptors r) _ (λ w above. let e : Some w ≡ None = sym above ∙ none in let not-so : ⊥ = cc in absurd not-so))
 
   pub read_unused : in_use v (c_int c.a0) ≡ None → read c v ≡ refused c v
@@ -732,32 +756,32 @@ module _ (c : Call) (v : View) where
   module _ (fd : ℕ) (d : Descriptor) (number : c_int c.a0 ≡ pos fd) (used : v.descriptors fd ≡ Some d) where
     pub read_shut : d.read ≡ false → read c v ≡ refused c v
     unfolding read
-    read_shut shut = there-is _ d (refused c v) _ (ap (in_use v) number ∙ used) ∙ refuses _ _ (ap not shut)
+    read_shut shut = takes _ d (refused c v) _ (ap (in_use v) number ∙ used) ∙ refuses _ _ (ap not shut)
 
     module _ (reads : d.read ≡ true) where
       pub read_below : ((n : ℕ) → c_int c.a2 ≡ pos n → ⊥) → read c v ≡ refused c v
       unfolding read
       read_below none =
-          there-is _ d (refused c v) _ (ap (in_use v) number ∙ used) ∙ past _ (refused c v) _ (ap not reads)
+          takes _ d (refused c v) _ (ap (in_use v) number ∙ used) ∙ passes _ (refused c v) _ (ap not reads)
           ∙ or_refused (natural (c_int c.a2)) _ (λ n is. absurd (none n (number-is (c_int c.a2) n is)))
 
       pub read_nothing : c_int c.a2 ≡ pos 0 → read c v ≡ done c (pos 0) v
       unfolding read
       read_nothing count =
-          there-is _ d (refused c v) _ (ap (in_use v) number ∙ used) ∙ past _ (refused c v) _ (ap not reads)
-          ∙ there-is _ 0 (refused c v) _ (ap natural count) ∙ ends-at _ (done c (pos 0) v) _ refl
+          takes _ d (refused c v) _ (ap (in_use v) number ∙ used) ∙ passes _ (refused c v) _ (ap not reads)
+          ∙ takes _ 0 (refused c v) _ (ap natural count) ∙ ends-at _ (done c (pos 0) v) _ refl
 
       pub read_unwritable : (n : ℕ) → c_int c.a2 ≡ pos n → nat_eq n 0 ≡ false → writable v.image c.a1 n ≡ false → read c v ≡ refused c v
       unfolding read
       read_unwritable n count some bad =
-          there-is _ d (refused c v) _ (ap (in_use v) number ∙ used) ∙ past _ (refused c v) _ (ap not reads)
-          ∙ there-is _ n (refused c v) _ (ap natural count) ∙ past _ (done c (pos 0) v) _ some ∙ refuses _ _ (ap not bad)
+          takes _ d (refused c v) _ (ap (in_use v) number ∙ used) ∙ passes _ (refused c v) _ (ap not reads)
+          ∙ takes _ n (refused c v) _ (ap natural count) ∙ passes _ (done c (pos 0) v) _ some ∙ refuses _ _ (ap not bad)
 
       pub read_dear : (n : ℕ) → c_int c.a2 ≡ pos n → nat_eq n 0 ≡ false → touch (pages_at c.a1 n) v ≡ None → read c v ≡ refused c v
       unfolding read
       read_dear n count some dear =
-          there-is _ d (refused c v) _ (ap (in_use v) number ∙ used) ∙ past _ (refused c v) _ (ap not reads)
-          ∙ there-is _ n (refused c v) _ (ap natural count) ∙ past _ (done c (pos 0) v) _ some ∙ when_refused _ _ (none_refused (touch (pages_at c.a1 n) v) _ dear)
+          takes _ d (refused c v) _ (ap (in_use v) number ∙ used) ∙ passes _ (refused c v) _ (ap not reads)
+          ∙ takes _ n (refused c v) _ (ap natural count) ∙ passes _ (done c (pos 0) v) _ some ∙ when_refused _ _ (none_refused (touch (pages_at c.a1 n) v) _ dear)
 
   -- ---- a row, whatever its buffer
 
@@ -770,7 +794,9 @@ module _ (c : Call) (v : View) where
   as-it-is r none = inr (v, ([], refl), none, by_row c v r none, inl refl)
 
   -- by what the touch comes to
-  touched_row : (r : Row) → (touch (buffer_of c (Some r)) v ≡ None → row r c v ≡ refused c v) → ((i : Image) (free : ℕ) → touch (buffer_of c (Some r)) v ≡ Some (with_image v i free) → Either (row r c v) (row r c (with_image v i free))) → Performs (row r c v) (Some r)
+  touched_row : (r : Row) → (touch (buffer_of c (Some r)) v ≡ None → row r c v ≡ refused c v)
+      → ((i : Image) (free : ℕ) → touch (buffer_of c (Some r)) v ≡ Some (with_image v i free) → Either (row r c v) (row r c (with_image v i free)))
+      → Performs (row r c v) (Some r)
   touched_row r none some = by (touch (buffer_of c (Some r)) v) refl
     where
       by : (o : Option View) → touch (buffer_of c (Some r)) v ≡ o → Performs (row r c v) (Some r)
@@ -818,7 +844,8 @@ module _ (c : Call) (v : View) where
   performs = by_row_of (row_of c.number)
 
   -- the same where a page of its buffer is absent
-  pub performs_on : has_absent (buffer_of c (row_of c.number)) v.image ≡ true → (perform c v ≡ refused c v) ⊎ ((t : View) × IsBrought v t × IsSettled c t × (perform c v ≡ perform_parts c t) × Answers (perform c v))
+  pub performs_on : has_absent (buffer_of c (row_of c.number)) v.image ≡ true
+      → (perform c v ≡ refused c v) ⊎ ((t : View) × IsBrought v t × IsSettled c t × (perform c v ≡ perform_parts c t) × Answers (perform c v))
   performs_on absent = elim performs [
     | inl refuses ↦ inl refuses
     | inr x ↦ inr (
@@ -827,12 +854,8 @@ module _ (c : Call) (v : View) where
       x.2,
       x.3,
       elim x.4 [
-        | inl same ↦ absurd (no-both (has_absent (buffer_of c (row_of c.number)) v.image) absent (ap (λ (u : View). has_absent (buffer_of c (row_of c.number)) u.image) (sym same) ∙ x.2))
+        | inl same ↦ absurd (both_ways (has_absent (buffer_of c (row_of c.number)) v.image) (ap (λ (u : View). has_absent (buffer_of c (row_of c.number)) u.image) (sym same) ∙ x.2) absent)
         | inr answers ↦ answers
       ],
     )
   ]
-    where
-      no-both : (b : Bool) → b ≡ true → b ≡ false → ⊥
-      no-both true e f = cc
-      no-both false e f = cc

@@ -4,6 +4,7 @@ use Rattle.std.specs.Prelude.{Option, None, Some, option_map, slice_index}
 use Rattle.std.specs.FinMap.{get}
 use Rattle.std.proofs.lemmas.Bool.{cases_eq}
 use Rattle.std.proofs.lemmas.List.{get_or-set_same, get_or_append_left, get_or-append_right, length-take-le}
+use Rattle.std.proofs.lemmas.Option.{same_Some}
 use Rattle.xk_base.specs.Image.{Image, Page}
 use Rattle.xk_base.specs.Bytes.{byte_in, image_byte, put_in, put_byte, write_image}
 use Rattle.xk_base.specs.Gathered.{insert_some}
@@ -27,10 +28,7 @@ use Rattle.kernel_spec.proofs.rows.MayStore.{Allowed, store_in_page, parts_allow
 use Rattle.kernel_spec.proofs.rows.RowParts.{perform_parts, perform_row, wait_parts, pipe_parts, read_parts}
 use Rattle.kernel_spec.proofs.rows.Touched.{IsTouched, touched_view, whole_touched}
 use Rattle.kernel_spec.proofs.rows.ByTouch.{by_call, by_instruction}
-use Rattle.kernel_spec.proofs.steps.Maps.{get_same}
-
-same_view : (a b : View) → Some a ≡ Some b → a ≡ b
-same_view a b e = cc
+use Rattle.kernel_spec.proofs.steps.MapsAfterChange.{get_same}
 
 -- ---- a byte that is put, and bytes that are written
 
@@ -54,7 +52,8 @@ behind bytes i from a p at before =
     ∙ but.2 (a % 4096) (omega arith) (λ l. let low = l.0 in omega (arith, low, before))
     ∙ sym (ap (λ (o : Option Page). byte_in o (a % 4096)) at)
 
-pub written_there : (bytes : List ℕ) (i : Image) (from a : ℕ) (p : Page) → get i.pages (a / 4096) ≡ Some p → length p.bytes ≡ 4096 → from ≤ a → a < from + length bytes → image_byte (write_image i from bytes) a ≡ slice_index bytes (a - from)
+pub written_there : (bytes : List ℕ) (i : Image) (from a : ℕ) (p : Page) → get i.pages (a / 4096) ≡ Some p → length p.bytes ≡ 4096 → from ≤ a
+    → a < from + length bytes → image_byte (write_image i from bytes) a ≡ slice_index bytes (a - from)
 unfolding write_image
 written_there [] i from a p at long low high = absurd (omega (arith, low, high))
 written_there (b ∷ bs) i from a p at long low high = elim (cases_eq a from) [
@@ -79,7 +78,8 @@ inside xs bytes o k long low high =
     get_or-append_right (take o xs) (bytes ++ drop (length bytes) (drop o xs)) o k 0 (length-take-le o xs long) low
     ∙ get_or_append_left bytes (drop (length bytes) (drop o xs)) 0 (k - o) (omega (arith, low, high))
 
-store_there : (i : Image) (st : Store) (a : ℕ) (p : Page) → st.address % 4096 + length st.bytes ≤ 4096 → get i.pages (a / 4096) ≡ Some p → length p.bytes ≡ 4096 → st.address ≤ a → a < st.address + length st.bytes
+store_there : (i : Image) (st : Store) (a : ℕ) (p : Page) → st.address % 4096 + length st.bytes ≤ 4096 → get i.pages (a / 4096) ≡ Some p
+    → length p.bytes ≡ 4096 → st.address ≤ a → a < st.address + length st.bytes
     → image_byte (with_store i st) a ≡ slice_index st.bytes (a - st.address)
 unfolding write_pages
 store_there i st a p fits at long low high =
@@ -89,7 +89,8 @@ store_there i st a p fits at long low high =
     ∙ by (get i.pages (st.address / 4096)) (ap (get i.pages) (sym page) ∙ at)
     ∙ ap (slice_index st.bytes) place
   where
-    by : (q : Option Page) → q ≡ Some p → byte_in (get (insert_some i.pages (st.address / 4096) (written_page q (st.address % 4096) st.bytes)) (st.address / 4096)) (a % 4096) ≡ slice_index st.bytes (a % 4096 - st.address % 4096)
+    by : (q : Option Page) → q ≡ Some p → byte_in (get (insert_some i.pages (st.address / 4096) (written_page q (st.address % 4096) st.bytes))
+        (st.address / 4096)) (a % 4096) ≡ slice_index st.bytes (a % 4096 - st.address % 4096)
     by None e = let no : ⊥ = cc in absurd no
     by (Some q) e =
         let same : q ≡ p = cc in
@@ -177,7 +178,7 @@ perform_told c v = by_call (λ (o : Own). AllTold (stored_by_row c v (row_of c.n
 instruction_told : (v : View) (st : Step) → next_instruction v.regs v.image ≡ st → AllTold (stored_by_instruction v st (after_instruction v st).answer) v (after_instruction v st)
 instruction_told v (Next r None) made = none_told nothing_stored v (after_instruction v (Next r None)) nothing_empty
 instruction_told v (Next r (Some st)) made = all_told st v (after_instruction v (Next r (Some st))) (instruction_may v.regs v.image r st made) (λ n next a p lies at long.
-    ap (λ (w : View). image_byte w.image a) (sym (same_view (record v { regs = r; image = with_store v.image st }) n next))
+    ap (λ (w : View). image_byte w.image a) (sym (same_Some (record v { regs = r; image = with_store v.image st }) n next))
     ∙ store_there v.image st a p (store_in_page v.regs (user v.image) r st made) at long lies.0 lies.1)
 instruction_told v Ecall made = subst (λ (s : Store). AllTold s v (after_instruction v Ecall)) (same_begun v (perform (call_begun v) (begun v)).answer) (perform_told (call_begun v) (begun v))
 instruction_told v (Fault cause) made = none_told nothing_stored v (after_instruction v (Fault cause)) nothing_empty

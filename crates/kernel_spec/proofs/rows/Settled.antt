@@ -3,26 +3,21 @@ use Rattle.std.proofs.Common.{◌≡◌, ℕ, zero, suc, ◌+◌, ◌*◌, ◌/�
 use Rattle.std.specs.Prelude.{ℤ, pos, is_some, nat_lt, option_map}
 use Rattle.std.specs.List.{list_any, list_all, range_with_len}
 use Rattle.std.specs.FinMap.{get}
-use Rattle.std.proofs.lemmas.Bool.{cases_eq, cases_lt, lt-ltb, le-ltb, false≢true}
+use Rattle.std.proofs.lemmas.Bool.{cases_eq, cases_lt, lt-ltb, le-ltb, false≢true, not-false, or_right, and_right}
+use Rattle.std.proofs.lemmas.Option.{same_Some}
 use Rattle.xk_base.specs.Image.{Page, Image, price, with_page}
 use Rattle.xk_base.specs.declared.access.Access.{Access}
 use Rattle.xk_base.specs.declared.access.Access.TheVariants.{Store}
 use Rattle.addr_space.specs.Absent.{is_absent, pages_at, bring, brought}
 use Rattle.xk_base.specs.Access.{data_rights}
 use Rattle.addr_space.specs.Changes.{zeroed, perm_of_page}
+use Rattle.addr_space.proofs.Touching.{brought-size}
 use Rattle.user_copy.specs.Reach.{allows, may, reaches}
 use Rattle.kernel_spec.specs.rows.Buffers.{may_touching, reaches_touching, writable, writable_now}
 use Rattle.kernel_spec.specs.rows.Touches.{has_absent, at_price, touch}
 use Rattle.kernel_spec.specs.views.View.{View}
 use Rattle.kernel_spec.proofs.rows.RowParts.{length_of_int}
-use Rattle.kernel_spec.proofs.steps.Maps.{get_same, get_other}
-
-some-same : {X : Type 0} {a b : X} → Some a ≡ Some b → a ≡ b
-some-same {X} {a} {b} e = ap (λ (o : Option X). or a o) e
-  where
-    or : X → Option X → X
-    or d None = d
-    or d (Some y) = y
+use Rattle.kernel_spec.proofs.steps.MapsAfterChange.{get_same, get_other}
 
 -- ---- one page
 
@@ -37,11 +32,7 @@ absent-not-there i v e = by (nat_lt (4096 * v) i.size) (get i.pages v) refl e
 
 -- a page that is there isn't absent
 pub there-not-absent : (i : Image) (v : ℕ) (x : Page) → get i.pages v ≡ Some x → is_absent i v ≡ false
-there-not-absent i v x is = ap (λ o. nat_lt (4096 * v) i.size && not (is_some o)) is ∙ both (nat_lt (4096 * v) i.size)
-  where
-    both : (b : Bool) → (b && false) ≡ false
-    both true = refl
-    both false = refl
+there-not-absent i v x is = ap (λ o. nat_lt (4096 * v) i.size && not (is_some o)) is ∙ and_right (nat_lt (4096 * v) i.size) false refl
 
 -- page q after page v was brought, by whether v was absent
 brings : (v : ℕ) (i : Image) (b : Bool) → is_absent i v ≡ b → bring v i ≡ cond b (with_page i v (zeroed data_rights)) i
@@ -71,9 +62,10 @@ bring-new v i q x none is = by (is_absent i v) refl
     by true absent = elim (cases_eq q v) [
       | inl same ↦ (
         ap (is_absent i) same ∙ absent,
-        some-same (sym is ∙ ap (λ (j : Image). get j.pages q) (brings v i true absent) ∙ ap (get (with_page i v (zeroed data_rights)).pages) same ∙ get_same i.pages v (zeroed data_rights)),
+        same_Some _ _ (sym is ∙ ap (λ (j : Image). get j.pages q) (brings v i true absent) ∙ ap (get (with_page i v (zeroed data_rights)).pages) same ∙ get_same i.pages v (zeroed data_rights)),
       )
-      | inr apart ↦ let w : Some x ≡ None = sym is ∙ ap (λ (j : Image). get j.pages q) (brings v i true absent) ∙ get_other i.pages v (zeroed data_rights) q apart ∙ none in let no : ⊥ = cc in absurd no
+      | inr apart ↦ let w : Some x ≡ None = sym is ∙ ap (λ (j : Image). get j.pages q) (brings v i true absent)
+          ∙ get_other i.pages v (zeroed data_rights) q apart ∙ none in let no : ⊥ = cc in absurd no
     ]
     by false present = let w : Some x ≡ None = sym is ∙ ap (λ (j : Image). get j.pages q) (brings v i false present) ∙ none in let no : ⊥ = cc in absurd no
 
@@ -83,7 +75,8 @@ bring-keeps v i q present = by (get i.pages q) refl
   where
     by : (o : Option Page) → get i.pages q ≡ o → is_absent (bring v i) q ≡ false
     by (Some x) is = there-not-absent (bring v i) q x (bring-there v i q x is)
-    by None none = ap (λ n. nat_lt (4096 * q) n && not (is_some (get (bring v i).pages q))) (bring-size v i) ∙ past (nat_lt (4096 * q) i.size) (sym (ap (λ o. nat_lt (4096 * q) i.size && not (is_some o)) none) ∙ present)
+    by None none = ap (λ n. nat_lt (4096 * q) n && not (is_some (get (bring v i).pages q))) (bring-size v i)
+        ∙ past (nat_lt (4096 * q) i.size) (sym (ap (λ o. nat_lt (4096 * q) i.size && not (is_some o)) none) ∙ present)
       where
         past : (b : Bool) → (b && true) ≡ false → (b && not (is_some (get (bring v i).pages q))) ≡ false
         past true e = absurd (false≢true (sym e))
@@ -98,11 +91,6 @@ bring-comes v i = by (is_absent i v) refl
     by false present = bring-keeps v i v present
 
 -- ---- pages
-
-pub brought-size : (ps : List ℕ) (i : Image) → (brought ps i).size ≡ i.size
-unfolding brought
-brought-size [] i = refl
-brought-size (v ∷ vs) i = bring-size v (brought vs i) ∙ brought-size vs i
 
 -- a page that is there stays as it is
 pub brought-there : (ps : List ℕ) (i : Image) (q : ℕ) (x : Page) → get i.pages q ≡ Some x → get (brought ps i).pages q ≡ Some x
@@ -129,9 +117,10 @@ brought-new (v ∷ vs) i q x none is = by (λ y there. brought-new vs i q y none
         by-bool true e = e
         by-bool false e = absurd (false≢true (sym (brought-keeps vs i q e) ∙ absent))
 
-    by : ((y : Page) → get (brought vs i).pages q ≡ Some y → (is_absent i q ≡ true) × (y ≡ zeroed data_rights)) → (o : Option Page) → get (brought vs i).pages q ≡ o → (is_absent i q ≡ true) × (x ≡ zeroed data_rights)
+    by : ((y : Page) → get (brought vs i).pages q ≡ Some y → (is_absent i q ≡ true) × (y ≡ zeroed data_rights)) → (o : Option Page)
+        → get (brought vs i).pages q ≡ o → (is_absent i q ≡ true) × (x ≡ zeroed data_rights)
     by rest None none-yet = let came = bring-new v (brought vs i) q x none-yet is in (was came.0, came.1)
-    by rest (Some y) there = let came = rest y there in (came.0, some-same (sym is ∙ bring-there v (brought vs i) q y there) ∙ came.1)
+    by rest (Some y) there = let came = rest y there in (came.0, same_Some _ _ (sym is ∙ bring-there v (brought vs i) q y there) ∙ came.1)
 
 -- q is one of these
 abbrev In : ℕ → List ℕ → Type 0
@@ -168,10 +157,6 @@ brought-none (v ∷ vs) i none = by (brought-none vs i) (is_absent i v) refl non
 may-brought : (access : Access) (ps : List ℕ) (i : Image) (a : ℕ) → allows access (Some data_rights) ≡ true → may_touching access i a ≡ true → may_touching access (brought ps i) a ≡ true
 may-brought access ps i a free e = by (get i.pages (a / 4096)) (get (brought ps i).pages (a / 4096)) refl refl
   where
-    either : (b d : Bool) → d ≡ true → (b || d) ≡ true
-    either true d e = refl
-    either false d e = e
-
     none-in : (b : Bool) → is_absent i (a / 4096) ≡ b → get i.pages (a / 4096) ≡ None → (b || may access i a) ≡ true → is_absent i (a / 4096) ≡ true
     none-in true is none e = is
     none-in false is none e = absurd (false≢true (sym (ap (λ o. allows access (option_map perm_of_page o)) none) ∙ e))
@@ -184,7 +169,8 @@ may-brought access ps i a free e = by (get i.pages (a / 4096)) (get (brought ps 
         ∙ sym (ap (λ b. b || may access i a) (there-not-absent i (a / 4096) x is)) ∙ e
     by None (Some y) none there =
         let came = brought-new ps i (a / 4096) y none there in
-        either (is_absent (brought ps i) (a / 4096)) (may access (brought ps i) a) (ap (λ o. allows access (option_map perm_of_page o)) there ∙ ap (λ (z : Page). allows access (Some z.perm)) came.1 ∙ free)
+        or_right (is_absent (brought ps i) (a / 4096)) (may access (brought ps i) a)
+        (ap (λ o. allows access (option_map perm_of_page o)) there ∙ ap (λ (z : Page). allows access (Some z.perm)) came.1 ∙ free)
     by None None none gone =
         let absent = none-in (is_absent i (a / 4096)) refl none e in
         ap (λ b. b || may access (brought ps i) a)
@@ -196,7 +182,10 @@ unfolding reaches_touching
 store-brought ps i a zero e = refl
 store-brought ps i a (suc n) e = by (store-brought ps i (a + 1) n) (may_touching Store i a) refl e
   where
-    by : (list_all (may_touching Store i) (range_with_len (a + 1) n) ≡ true → list_all (may_touching Store (brought ps i)) (range_with_len (a + 1) n) ≡ true) → (b : Bool) → may_touching Store i a ≡ b → (b && list_all (may_touching Store i) (range_with_len (a + 1) n)) ≡ true → (may_touching Store (brought ps i) a && list_all (may_touching Store (brought ps i)) (range_with_len (a + 1) n)) ≡ true
+    by : (list_all (may_touching Store i) (range_with_len (a + 1) n) ≡ true
+        → list_all (may_touching Store (brought ps i)) (range_with_len (a + 1) n) ≡ true) → (b : Bool) → may_touching Store i a ≡ b
+        → (b && list_all (may_touching Store i) (range_with_len (a + 1) n)) ≡ true
+        → (may_touching Store (brought ps i) a && list_all (may_touching Store (brought ps i)) (range_with_len (a + 1) n)) ≡ true
     by more true is rest = ap (λ b. b && list_all (may_touching Store (brought ps i)) (range_with_len (a + 1) n)) (may-brought Store ps i a refl is) ∙ more rest
     by more false is fails = absurd (false≢true fails)
 
@@ -219,7 +208,7 @@ at-price i v t e = by (nat_lt v.free (price i - price v.image)) refl e
         → (t ≡ record v { image = i; free = v.free + price v.image - price i }) × (price i ≤ v.free + price v.image)
     by true is e = let no : ⊥ = cc in absurd no
     by false is e = (
-      sym (some-same e),
+      sym (same_Some _ _ e),
       elim (cases_lt v.free (price i - price v.image)) [
         | inl dear ↦ absurd (false≢true (sym is ∙ lt-ltb v.free (price i - price v.image) dear))
         | inr fits ↦ omega (arith, fits)
@@ -241,7 +230,7 @@ touch-comes ps v t e = by (has_absent ps v.image) refl e
           price = ap (λ n. n + price t.image) free ∙ ap (λ j. v.free + price v.image - price (brought ps v.image) + price j) image ∙ omega (arith, at.1);
         }
     by false is e =
-        let same : v ≡ t = some-same e in
+        let same : v ≡ t = same_Some _ _ e in
         record {
           view = sym same ∙ ap (λ (u : View). record v { image = u.image; free = u.free }) same;
           image = ap (λ (u : View). u.image) (sym same) ∙ sym (brought-none ps v.image is);
@@ -293,11 +282,7 @@ counted-settled i a n z is e = ap (λ z. has_absent (pages_at a (length_of_int z
 -- room for a status, where the address isn't 0
 pub told-ready : (i : Image) (a : ℕ) (b : Bool) → (not b && not (writable_now i a 4)) ≡ false → ((not b && not (writable i a 4)) ≡ false) × (has_absent (pages_at a (cond b 0 4)) i ≡ false)
 told-ready i a true e = (refl, refl)
-told-ready i a false e = let ready = there-ready i a 4 (not-not (writable_now i a 4) e) in (ap not ready.0, ready.1)
-  where
-    not-not : (b : Bool) → not b ≡ false → b ≡ true
-    not-not true e = refl
-    not-not false e = sym e
+told-ready i a false e = let ready = there-ready i a 4 (not-false (writable_now i a 4) e) in (ap not ready.0, ready.1)
 
 -- where the pages' frames are free, they come
 pub touch-view : (v : View) (ps : List ℕ) (n : ℕ) → price (brought ps v.image) ≤ price v.image + v.free → v.free + price v.image - price (brought ps v.image) ≡ n
@@ -306,7 +291,9 @@ unfolding touch
 touch-view v ps n fits is = by (has_absent ps v.image) refl
   where
     by : (b : Bool) → has_absent ps v.image ≡ b → cond b (at_price (brought ps v.image) v) (Some v) ≡ Some (record v { image = brought ps v.image; free = n })
-    by true absent = ap (λ b. cond b None (Some (record v { image = brought ps v.image; free = v.free + price v.image - price (brought ps v.image) }))) (le-ltb v.free (price (brought ps v.image) - price v.image) (omega (arith, fits)))
+    by true absent = ap (λ b. cond b None (Some (record v
+        { image = brought ps v.image; free = v.free + price v.image - price (brought ps v.image) })))
+        (le-ltb v.free (price (brought ps v.image) - price v.image) (omega (arith, fits)))
         ∙ (λ i. Some (record v { image = brought ps v.image; free = is i }))
     by false none =
         let same = brought-none ps v.image none in
@@ -319,7 +306,9 @@ unfolding touch
 touch-dear v ps dear = by (has_absent ps v.image) refl
   where
     by : (b : Bool) → has_absent ps v.image ≡ b → cond b (at_price (brought ps v.image) v) (Some v) ≡ None
-    by true absent = ap (λ b. cond b None (Some (record v { image = brought ps v.image; free = v.free + price v.image - price (brought ps v.image) }))) (lt-ltb v.free (price (brought ps v.image) - price v.image) (omega (arith, dear)))
+    by true absent = ap (λ b. cond b None (Some (record v
+        { image = brought ps v.image; free = v.free + price v.image - price (brought ps v.image) })))
+        (lt-ltb v.free (price (brought ps v.image) - price v.image) (omega (arith, dear)))
     by false none = absurd (omega (arith, dear, ap price (brought-none ps v.image none)))
 
 -- ---- and once its pages are touched, a buffer that may be written may be so as it stands
@@ -333,7 +322,8 @@ now-there j a zero e none = refl
 now-there j a (suc n) e none = by (now-there j (a + 1) n) (may_touching Store j a) (is_absent j (a / 4096)) refl refl e none
   where
     by : (list_all (may_touching Store j) (range_with_len (a + 1) n) ≡ true → has_absent (pages_at (a + 1) n) j ≡ false → list_all (may Store j) (range_with_len (a + 1) n) ≡ true)
-        → (b c : Bool) → may_touching Store j a ≡ b → is_absent j (a / 4096) ≡ c → (b && list_all (may_touching Store j) (range_with_len (a + 1) n)) ≡ true → (c || has_absent (pages_at (a + 1) n) j) ≡ false
+        → (b c : Bool) → may_touching Store j a ≡ b → is_absent j (a / 4096) ≡ c
+        → (b && list_all (may_touching Store j) (range_with_len (a + 1) n)) ≡ true → (c || has_absent (pages_at (a + 1) n) j) ≡ false
         → (may Store j a && list_all (may Store j) (range_with_len (a + 1) n)) ≡ true
     by rest true false is there all none = ap (λ b. b && list_all (may Store j) (range_with_len (a + 1) n)) (may-there j a is there) ∙ rest all none
     by rest true true is there all none = absurd (false≢true (sym none))

@@ -6,7 +6,7 @@ use Rattle.proc_table.specs.declared.process.Call.{Call}
 use Rattle.kernel_spec.specs.views.View.{View}
 use Rattle.kernel_spec.specs.rows.Touches.{has_absent}
 use Rattle.kernel_spec.specs.rows.Calls.{Row, Fork, Exit, Wait, Pipe_row, Read, Kill, Exec, Dup, Getpid, Sbrk, Sleep, Uptime, Open, Write, Close, Sbrklazy, row_of}
-use Rattle.kernel_spec.proofs.steps.Writes.{absent_written}
+use Rattle.kernel_spec.proofs.steps.WritesKeepRights.{absent_written}
 use Rattle.kernel_spec.proofs.rows.RowParts.{buffer_of, IsSettled}
 
 -- how much a call has moved changes nothing of its buffer

@@ -3,15 +3,17 @@ use Rattle.std.proofs.Common.{◌≡◌, ℕ, ◌*◌, false, true, not, ◌&&�
 use Rattle.std.specs.Prelude.{Option, None, Some, nat_lt, is_some}
 use Rattle.std.specs.FinMap.{get}
 use Rattle.std.proofs.lemmas.List.{length-replicate}
+use Rattle.std.proofs.lemmas.Option.{same_Some}
 use Rattle.phys_ram.specs.Ram.{zero_frame}
 use Rattle.xk_base.specs.Image.{Image, Page}
 use Rattle.addr_space.specs.Absent.{is_absent, brought}
 use Rattle.xk_base.specs.Access.{data_rights}
 use Rattle.addr_space.specs.Changes.{zeroed}
+use Rattle.addr_space.proofs.Touching.{brought-size}
 use Rattle.kernel_spec.specs.views.View.{View}
 use Rattle.kernel_spec.specs.laws.Worlds.{HasWholePages}
 use Rattle.kernel_spec.specs.rows.Touches.{touch}
-use Rattle.kernel_spec.proofs.rows.Settled.{absent-not-there, there-not-absent, brought-size, brought-there, brought-new, touch-comes}
+use Rattle.kernel_spec.proofs.rows.Settled.{absent-not-there, there-not-absent, brought-there, brought-new, touch-comes}
 
 -- the page that comes by a touch
 abbrev pub new_page : Page
@@ -22,9 +24,6 @@ pub record IsTouched (i j : Image) : Type 0 where
   pub size : j.size ≡ i.size
   pub kept : (page : ℕ) (x : Page) → get i.pages page ≡ Some x → get j.pages page ≡ Some x
   pub new : (page : ℕ) (x : Page) → get i.pages page ≡ None → get j.pages page ≡ Some x → (is_absent i page ≡ true) × (x ≡ new_page)
-
-some_page : (a b : Page) → Some a ≡ Some b → a ≡ b
-some_page a b e = cc
 
 pub touched_none : (i : Image) → IsTouched i i
 touched_none i = record { size = refl; kept = λ page x is. is; new = λ page x none is. let no : None ≡ Some x = sym none ∙ is in let bad : ⊥ = cc in absurd bad }
@@ -56,7 +55,7 @@ whole_touched i j t whole page x is = by (get i.pages page) refl
   where
     by : (o : Option Page) → get i.pages page ≡ o → length x.bytes ≡ 4096
     by None none = ap (λ (p : Page). length p.bytes) (t.new page x none is).1 ∙ new_whole
-    by (Some y) e = ap (λ (p : Page). length p.bytes) (some_page x y (sym is ∙ t.kept page y e)) ∙ whole page y e
+    by (Some y) e = ap (λ (p : Page). length p.bytes) (same_Some x y (sym is ∙ t.kept page y e)) ∙ whole page y e
 
 -- ---- a view
 

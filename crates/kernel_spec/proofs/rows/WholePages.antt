@@ -4,6 +4,7 @@ use Rattle.std.specs.Prelude.{ℤ, pos, negsuc, if◌then◌else◌, option_map,
 use Rattle.std.specs.FinMap.{get}
 use Rattle.std.proofs.lemmas.List.FromFn.{length-map-range_with_len}
 use Rattle.std.proofs.lemmas.Bool.Decides.{Decides-int_eq}
+use Rattle.std.proofs.lemmas.Option.{same_Some}
 use Rattle.xk_base.specs.Image.{Page, page_count}
 use Rattle.xk_base.specs.Loaded.{Loaded, loaded, page_by, addresses, end_after, page_perm, stack_over, segments_over, zeros, program_image, with_texts, stack_pointer, aligned, ◌>>=◌}
 use Rattle.xk_base.specs.ProgramFile.{page_up, header_of, segments_of}
@@ -21,9 +22,6 @@ use Rattle.kernel_spec.specs.steps.Step.{own, call_in}
 use Rattle.kernel_spec.specs.laws.Worlds.{IsExecDone, HasWholePages}
 use Rattle.kernel_spec.proofs.rows.NewPages.{no_old_byte, same_lengths}
 
-some_page : (a b : Page) → Some a ≡ Some b → a ≡ b
-some_page a b e = cc
-
 -- ---- a program in memory
 
 whole_page : (byte : ℕ → ℕ) (perm : Rights) (v : ℕ) → length (page_by byte v perm).bytes ≡ 4096
@@ -32,7 +30,8 @@ whole_page byte perm v = length-map-range_with_len byte (4096 * v) 4096
 
 whole_image : (file : List ℕ) (segments : List Segment) (texts : List (List ℕ)) → HasWholePages (program_image file segments texts)
 unfolding program_image
-whole_image file segments texts page x is = by (nat_lt page (page_count (s + 8192))) (page_perm segments s page) (sym (gathered-get (λ v. option_map (page_by bytes v) (page_perm segments s v)) (page_count (s + 8192)) page) ∙ is)
+whole_image file segments texts page x is = by (nat_lt page (page_count (s + 8192))) (page_perm segments s page)
+    (sym (gathered-get (λ v. option_map (page_by bytes v) (page_perm segments s v)) (page_count (s + 8192)) page) ∙ is)
   where
     s : ℕ
     s = page_up (end_after 0 segments)
@@ -41,11 +40,11 @@ whole_image file segments texts page x is = by (nat_lt page (page_count (s + 819
     bytes = stack_over (s + 8192) texts (segments_over file segments zeros)
 
     by : (b : Bool) (perm : Option Rights) → cond b (option_map (page_by bytes page) perm) None ≡ Some x → length x.bytes ≡ 4096
-    by true (Some perm) e = ap (λ (p : Page). length p.bytes) (sym (some_page (page_by bytes page perm) x e)) ∙ whole_page bytes perm page
+    by true (Some perm) e = ap (λ (p : Page). length p.bytes) (sym (same_Some (page_by bytes page perm) x e)) ∙ whole_page bytes perm page
     by true None e = let no : ⊥ = cc in absurd no
     by false perm e = let no : ⊥ = cc in absurd no
 
-bound : {A B : Type 0} (r : Result A ExecError) (f : A → Result B ExecError) (b : B) → (r >>= f) ≡ Ok b → (a : A) × (r ≡ Ok a) × (f a ≡ Ok b)
+pub bound : {A B : Type 0} (r : Result A ExecError) (f : A → Result B ExecError) (b : B) → (r >>= f) ≡ Ok b → (a : A) × (r ≡ Ok a) × (f a ≡ Ok b)
 bound (Ok a) f b e = (a, refl, e)
 bound (Err x) f b e = absurd (cc)
 

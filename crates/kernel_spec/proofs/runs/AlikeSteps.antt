@@ -18,15 +18,13 @@ use Rattle.kernel_spec.specs.views.WellFormed.{AreShown}
 use Rattle.kernel_spec.specs.runs.Run.{World, Outcome, Step_of, StepOf, StateAfter, TurnsAfter, IsNewbornOf}
 use Rattle.kernel_spec.specs.waking.Wakes.{WakesWhereDue}
 use Rattle.kernel_spec.specs.laws.Replays.{AreAlike, IsOrderly}
-use Rattle.kernel_spec.proofs.steps.Kept.{pid_is}
+use Rattle.kernel_spec.proofs.steps.OthersKeepTheRest.{pid_is}
 use Rattle.kernel_spec.proofs.rows.Pids.{own_sound}
 use Rattle.kernel_spec.proofs.turns.KeepsSlots.{is_listed, not_listed, was_or_new, new_slot}
 use Rattle.kernel_spec.proofs.runs.Shown.{shown_at, file_within, pipe_within}
-use Rattle.kernel_spec.proofs.runs.Sharing.{sharing_after, file_tracks, pipe_tracks, same_truth}
-
-view_there : (o : Option View) → IsSome o → (v : View) × (o ≡ Some v)
-view_there None h = let no : ⊥ = cc in absurd no
-view_there (Some v) h = (v, refl)
+use Rattle.kernel_spec.proofs.runs.Sharing.{sharing_after, file_tracks, pipe_tracks}
+use Rattle.kernel_spec.proofs.Common.{the_value}
+use Rattle.addr_space.proofs.Prices.{same_test}
 
 -- ---- who sleeps, where the same ones wake
 
@@ -37,7 +35,7 @@ module _ (v w t u : World) (o : Outcome) (one : WakesWhereDue v o t) (two : Wake
       by : (b : Bool) → contains u.turns.sleepers q ≡ b → contains u.turns.sleepers q ≡ true
       by true is = is
       by false is =
-          let y = view_there (view u.state q) lives in
+          let y = the_value (view u.state q) lives in
           let wakes : ¬ Sleeps u.turns q = λ h. let no : false ≡ true = sym is ∙ h in let bad : ⊥ = cc in bad in
           absurd ((one q y.0 before (same q ∙ y.1)).1 ((two q y.0 too y.1).0 wakes) asleep)
 
@@ -87,7 +85,9 @@ module _ (v w t u : World) (p : ℕ) (b : View) (alike : AreAlike v w) (orderly_
       ])
 
   -- a newborn, or nobody
-  new_view : (q : ℕ) → b.pid ≢ q → view v.state q ≡ None → view w.state q ≡ None → (c : Option View) → x.child ≡ c → MatchOption c (Unit {0}) (λ c. view t.state c.pid ≡ Some c) → MatchOption c (Unit {0}) (λ c. view u.state c.pid ≡ Some c) → view t.state q ≡ view u.state q
+  new_view : (q : ℕ) → b.pid ≢ q → view v.state q ≡ None → view w.state q ≡ None → (c : Option View) → x.child ≡ c
+      → MatchOption c (Unit {0}) (λ c. view t.state c.pid ≡ Some c) → MatchOption c (Unit {0}) (λ c. view u.state c.pid ≡ Some c)
+      → view t.state q ≡ view u.state q
   new_view q apart none_v none_w None is see_t see_u =
       let not : ¬ IsNewbornOf x q = λ born. subst (λ (c : Option View). MatchOption c ⊥ (λ c. q ≡ c.pid)) is born in
       nobody v.state t.state q state_v apart none_v not ∙ sym (nobody w.state u.state q state_w apart none_w not)
@@ -111,16 +111,20 @@ module _ (v w t u : World) (p : ℕ) (b : View) (alike : AreAlike v w) (orderly_
   -- ---- which descriptors meet
 
   within_files : (q d e : ℕ) → is_same (file_at t.state q d) (file_at t.state q e) ≡ is_same (file_at u.state q d) (file_at u.state q e)
-  within_files q d e = sym (file_within t.state shown_t q d e) ∙ ap (λ (o : Option View). is_same (file_name (shown_at o d)) (file_name (shown_at o e))) (same_views q) ∙ file_within u.state shown_u q d e
+  within_files q d e = sym (file_within t.state shown_t q d e)
+      ∙ ap (λ (o : Option View). is_same (file_name (shown_at o d)) (file_name (shown_at o e))) (same_views q) ∙ file_within u.state shown_u q d e
 
   within_pipes : (q d e : ℕ) → is_same (pipe_at t.state q d) (pipe_at t.state q e) ≡ is_same (pipe_at u.state q d) (pipe_at u.state q e)
-  within_pipes q d e = sym (pipe_within t.state shown_t q d e) ∙ ap (λ (o : Option View). is_same (pipe_name (shown_at o d)) (pipe_name (shown_at o e))) (same_views q) ∙ pipe_within u.state shown_u q d e
+  within_pipes q d e = sym (pipe_within t.state shown_t q d e)
+      ∙ ap (λ (o : Option View). is_same (pipe_name (shown_at o d)) (pipe_name (shown_at o e))) (same_views q) ∙ pipe_within u.state shown_u q d e
 
   same_files : (a d q e : ℕ) → is_same (file_at t.state a d) (file_at t.state q e) ≡ is_same (file_at u.state a d) (file_at u.state q e)
-  same_files = sharing_after file_at v.state w.state t.state u.state p x (file_tracks v.state t.state p b was_v state_v orderly_v.shown shown_t) (file_tracks w.state u.state p b was_w state_w orderly_w.shown shown_u) alike.files within_files
+  same_files = sharing_after file_at v.state w.state t.state u.state p x (file_tracks v.state t.state p b was_v state_v orderly_v.shown shown_t)
+      (file_tracks w.state u.state p b was_w state_w orderly_w.shown shown_u) alike.files within_files
 
   same_pipes : (a d q e : ℕ) → is_same (pipe_at t.state a d) (pipe_at t.state q e) ≡ is_same (pipe_at u.state a d) (pipe_at u.state q e)
-  same_pipes = sharing_after pipe_at v.state w.state t.state u.state p x (pipe_tracks v.state t.state p b was_v state_v orderly_v.shown shown_t) (pipe_tracks w.state u.state p b was_w state_w orderly_w.shown shown_u) alike.pipes within_pipes
+  same_pipes = sharing_after pipe_at v.state w.state t.state u.state p x (pipe_tracks v.state t.state p b was_v state_v orderly_v.shown shown_t)
+      (pipe_tracks w.state u.state p b was_w state_w orderly_w.shown shown_u) alike.pipes within_pipes
 
   -- ---- slots
 
@@ -173,7 +177,7 @@ module _ (v w t u : World) (p : ℕ) (b : View) (alike : AreAlike v w) (orderly_
   -- who slept before is live after
   sleeper_lives : (q : ℕ) → Sleeps v.turns q → IsSome (view t.state q)
   sleeper_lives q asleep =
-      let y = view_there (view v.state q) (orderly_v.sleepers q asleep) in
+      let y = the_value (view v.state q) (orderly_v.sleepers q asleep) in
       let apart : q ≢ b.pid = λ e. (orderly_v.slots.current p runs_v).1 (subst (λ (n : ℕ). Sleeps v.turns n) (e ∙ pid) asleep) in
       ap is_some (state_v.others q y.0 apart y.1)
 
@@ -192,7 +196,8 @@ module _ (v w t u : World) (p : ℕ) (b : View) (alike : AreAlike v w) (orderly_
   same_turns : t.turns ≡ u.turns
   same_turns =
       let slots = same_map nat_cmp_total nat_cmp-IsAntisymmetric t.turns.slots u.turns.slots same_slots in
-      let sleepers = same_set nat_cmp_total nat_cmp-IsAntisymmetric t.turns.sleepers u.turns.sleepers (λ q. same_truth (contains t.turns.sleepers q) (contains u.turns.sleepers q) (asleep_too q) (asleep_back q)) in
+      let sleepers = same_set nat_cmp_total nat_cmp-IsAntisymmetric t.turns.sleepers u.turns.sleepers
+      (λ q. same_test (contains t.turns.sleepers q) (contains u.turns.sleepers q) (asleep_too q) (asleep_back q)) in
       let last = turns_v.last ∙ ap (λ (turns : Turns). turns.last) alike.turns ∙ sym turns_w.last in
       let current = turns_v.current ∙ sym turns_w.current in
       let halted = turns_v.halted ∙ sym turns_w.halted in

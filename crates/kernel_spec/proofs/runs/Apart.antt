@@ -3,14 +3,21 @@ use Rattle.std.proofs.Common.{◌≡◌, ℕ, Bool, refl, ap}
 use Rattle.std.specs.Prelude.{Option, None, Some}
 use Rattle.kernel_spec.specs.views.View.{Descriptor, Shown, Shown_terminal, Shown_file, Shown_pipe}
 use Rattle.kernel_spec.specs.laws.Worlds.{bare, bare_shown, Part, Nothing_shared, Offset, Content, shared_part, shared, SharedIsApart}
-use Rattle.kernel_spec.proofs.steps.Rest.{together, filled, filled_shown}
+use Rattle.kernel_spec.proofs.steps.ViewIsSharedAndRest.{together, filled, filled_shown}
 
 abbrev some_shown : Option Descriptor → Shown
 some_shown None = Shown_terminal
 some_shown (Some d) = d.shown
 
 -- of a descriptor: what is shared is that of the one, and the rest that of the other
-part_is : (file : ℕ) (r w : Bool) (x y : Shown) → bare_shown x ≡ bare_shown y → shared_part (Some (record { file = file; read = r; write = w; shown = filled_shown x (shared_part (Some (record { file = file; read = r; write = w; shown = y }))) })) ≡ shared_part (Some (record { file = file; read = r; write = w; shown = y }))
+part_is : (file : ℕ) (r w : Bool) (x y : Shown) → bare_shown x ≡ bare_shown y
+    → shared_part (Some (record {
+      file = file;
+      read = r;
+      write = w;
+      shown = filled_shown x (shared_part (Some (record { file = file; read = r; write = w; shown = y })));
+    })) ≡ shared_part
+    (Some (record { file = file; read = r; write = w; shown = y }))
 part_is file r w Shown_terminal Shown_terminal e = refl
 part_is file r w (Shown_file p m) (Shown_file q n) e = refl
 part_is file r w (Shown_pipe i f a) (Shown_pipe j g b) e = refl
@@ -34,7 +41,9 @@ bare_filled : (o q : Option Descriptor) → bare (filled o (shared_part q)) ≡ 
 bare_filled None q = refl
 bare_filled (Some x) q = by x.file x.read x.write x.shown (shared_part q)
   where
-    by : (file : ℕ) (r w : Bool) (s : Shown) (part : Part) → bare (Some (record { file = file; read = r; write = w; shown = filled_shown s part })) ≡ bare (Some (record { file = file; read = r; write = w; shown = s }))
+    by : (file : ℕ) (r w : Bool) (s : Shown) (part : Part)
+        → bare (Some (record { file = file; read = r; write = w; shown = filled_shown s part })) ≡ bare
+        (Some (record { file = file; read = r; write = w; shown = s }))
     by file r w Shown_terminal part = refl
     by file r w (Shown_file program offset) Nothing_shared = refl
     by file r w (Shown_file program offset) (Offset n) = refl

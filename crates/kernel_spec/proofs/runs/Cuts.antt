@@ -5,32 +5,25 @@ use Rattle.std.specs.FinMap.{FinMap, get}
 use Rattle.std.specs.Ordering.{nat_cmp}
 use Rattle.std.proofs.lemmas.Bool.{eq-eqb, eqb-true}
 use Rattle.std.proofs.lemmas.Bool.Decides.{eqb_tells}
+use Rattle.std.proofs.lemmas.Option.{same_Some}
 use Rattle.proc_table.specs.declared.process.Call.{Call}
 use Rattle.kernel_spec.specs.views.Processes.{Process, Live}
 use Rattle.kernel_spec.specs.views.State.{ProgramFile, State, live, live_part}
 use Rattle.kernel_spec.specs.views.View.{View, view, view_of}
 use Rattle.kernel_spec.specs.steps.Step.{own, call_or_begun}
 use Rattle.kernel_spec.specs.others.Quiet.{seen}
-use Rattle.kernel_spec.specs.runs.Run.{World, Event, Run, Tick, Key, Send, Outcome, Step_of, Turn, Idle, Ticked, Typed, Sent, Halted, Happens, RunHappens, TickHappens, KeyHappens, TurnTaken, StepOf, IsRun, IsNewbornOf}
+use Rattle.kernel_spec.specs.runs.Run.{World, Event, Run, Tick, Key, Send, Outcome, Step_of, Turn, Idle, Ticked}
+use Rattle.kernel_spec.specs.runs.Run.{Typed, Sent, Halted, Happens, RunHappens, TickHappens, KeyHappens, TurnTaken, StepOf, IsRun, IsNewbornOf}
 use Rattle.kernel_spec.specs.laws.Worlds.{IsStepOf, Others, Moment, IsCut, is_step_of, steps_of, RunsAreCut, PidsAreGiven, OnlyWaitersAreInCalls}
 use Rattle.kernel_spec.specs.runs.First.{first}
 use Rattle.kernel_spec.specs.laws.StepLaws.{waiting_calls}
-use Rattle.kernel_spec.proofs.steps.Kept.{kept, pid_is}
+use Rattle.kernel_spec.proofs.steps.OthersKeepTheRest.{kept, pid_is}
 use Rattle.kernel_spec.proofs.turns.KeepsSlots.{process_seen}
 use Rattle.kernel_spec.proofs.runs.Two.{own_step}
 use Rattle.kernel_spec.proofs.rows.Outcomes.{own_numbered}
 use Rattle.kernel_spec.proofs.rows.AnswersTell.{in_call_where_blocked, blocked_is_in_call}
 use Rattle.kernel_spec.proofs.well.FirstWell.{first_well, first_idle}
-
-some_view : (a b : View) → Some a ≡ Some b → a ≡ b
-some_view a b e = cc
-
-none_some : {A : Type 0} (o : Option A) → o ≡ None → IsSome o → ⊥
-none_some o none some = let no : false ≡ true = sym (ap is_some none) ∙ some in let bad : ⊥ = cc in bad
-
-pub some_there : (o : Option View) → IsSome o → (v : View) × (o ≡ Some v)
-some_there None h = let no : ⊥ = cc in absurd no
-some_there (Some v) h = (v, refl)
+use Rattle.kernel_spec.proofs.Common.{is_some-view, none_has_no_value, the_value}
 
 -- ---- an event is a step, or leaves processes and pids
 
@@ -92,21 +85,13 @@ not_his p w t e o h apart is =
 same_live : (w t : World) → t.state.processes ≡ w.state.processes → (p : ℕ) → live t.state p ≡ live w.state p
 same_live w t same p = ap (λ (m : FinMap nat_cmp Process). live_part (get m p)) same
 
-seen_live : (s : State) (p : ℕ) (o : Option Live) → is_some (option_map (view_of s p) o) ≡ is_some o
-seen_live s p None = refl
-seen_live s p (Some l) = refl
-
 pub same_seen : (w t : World) → t.state.processes ≡ w.state.processes → (p : ℕ) → is_some (view t.state p) ≡ is_some (view w.state p)
-same_seen w t same p = seen_live t.state p (live t.state p) ∙ ap is_some (same_live w t same p) ∙ sym (seen_live w.state p (live w.state p))
-
-none_there : (o : Option View) → is_some o ≡ false → o ≡ None
-none_there None h = refl
-none_there (Some v) h = let no : ⊥ = cc in absurd no
+same_seen w t same p = is_some-view (live t.state p) t.state p ∙ ap is_some (same_live w t same p) ∙ sym (is_some-view (live w.state p) w.state p)
 
 next_pid_is : (s : State) (p : ℕ) (o : Option Live) (v : View) → option_map (view_of s p) o ≡ Some v → v.next_pid ≡ s.next_pid
 unfolding view_of
 next_pid_is s p None v e = let no : ⊥ = cc in absurd no
-next_pid_is s p (Some l) v e = sym (ap (λ (u : View). u.next_pid) (some_view (view_of s p l) v e))
+next_pid_is s p (Some l) v e = sym (ap (λ (u : View). u.next_pid) (same_Some (view_of s p l) v e))
 
 -- the next pid only grows, and a newborn has a pid that it passes
 numbers_up : (n m : ℕ) (child : Option View) → MatchOption child (m ≡ n) (λ c. (c.pid ≡ n) × (c.call ≡ None) × (m ≡ n + 1)) → n ≤ m
@@ -130,9 +115,9 @@ module _ (w t : World) (q : ℕ) (o : Outcome) (h : StepOf w q o t) where
   -- a pid that is given, and of which nobody is live, stays so
   step_dead : (p : ℕ) → view w.state p ≡ None → p < w.state.next_pid → IsSome (view t.state p) → ⊥
   step_dead p dead given lives = elim (h.state.no_more p lives) [
-    | inl his ↦ none_some (view w.state p) dead (ap (λ (k : ℕ). is_some (view w.state k)) (his ∙ his_pid) ∙ ap is_some h.was)
+    | inl his ↦ none_has_no_value (view w.state p) dead (ap (λ (k : ℕ). is_some (view w.state k)) (his ∙ his_pid) ∙ ap is_some h.was)
     | inr rest ↦ elim rest [
-      | inl before ↦ none_some (view w.state p) dead before
+      | inl before ↦ none_has_no_value (view w.state p) dead before
       | inr born ↦
           let is : p ≡ h.before.next_pid = (born_below h.before.next_pid (own h.before).left.next_pid p (own h.before).child (own_numbered h.before) born).0 in
           absurd (omega (arith, is, his_next, given))
@@ -153,7 +138,7 @@ module _ (p : ℕ) (w t : World) (e : Event) (o : Outcome) (h : Happens w e o t)
       by None is = is
       by (Some v) is = absurd (elim (kind w t e o h) [
         | inl step ↦ step_dead w t step.0 o step.2 p dead given (ap is_some is)
-        | inr outside ↦ none_some (view w.state p) dead (sym (same_seen w t outside.processes p) ∙ ap is_some is)
+        | inr outside ↦ none_has_no_value (view w.state p) dead (sym (same_seen w t outside.processes p) ∙ ap is_some is)
       ])
 
   -- an outcome that is a step of p's is of p's step
@@ -192,7 +177,7 @@ cut_dead p w t [] run dead given = (run, refl)
 cut_dead p w t (e ∷ es) (mid, h, more) dead given = by (is_step_of p e.1) refl (cut_dead p mid t es more (stays_dead p w mid e.0 e.1 h dead given) (stays_given p w mid e.0 e.1 h given))
   where
     by : (b : Bool) → is_step_of p e.1 ≡ b → Others p mid es t × (steps_of p es ≡ []) → Others p w (e ∷ es) t × (steps_of p (e ∷ es) ≡ [])
-    by true his rest = absurd (none_some (view w.state p) dead (ap is_some (his_step p w mid e.0 e.1 h his).1.was))
+    by true his rest = absurd (none_has_no_value (view w.state p) dead (ap is_some (his_step p w mid e.0 e.1 h his).1.was))
     by false apart rest = ((mid, h, not_his p w mid e.0 e.1 h apart, rest.0), no_step p e es apart ∙ rest.1)
 
 abbrev Cut : ℕ → World → List (Event × Outcome) → World → Type 0
@@ -210,14 +195,16 @@ module _ (p : ℕ) (w mid t : World) (e : Event × Outcome) (es : List (Event ×
       )
 
   -- a step of p, where it lives on and where it is gone
-  by_step : (IsSome (view mid.state p) → Cut p mid es t) → (view mid.state p ≡ None → Others p mid es t × (steps_of p es ≡ [])) → is_step_of p e.1 ≡ true → (x : Option View) → view mid.state p ≡ x → Cut p w (e ∷ es) t
+  by_step : (IsSome (view mid.state p) → Cut p mid es t) → (view mid.state p ≡ None → Others p mid es t × (steps_of p es ≡ []))
+      → is_step_of p e.1 ≡ true → (x : Option View) → view mid.state p ≡ x → Cut p w (e ∷ es) t
   by_step on over his None is = let rest = over is in with_step his [] (inr refl) (no_moment p mid t es rest.0) (sym rest.1)
   by_step on over his (Some v) is = let rest = on (ap is_some is) in with_step his rest.0 (inl (ap is_some is)) rest.1 rest.2
 
-  by_outcome : (IsSome (view mid.state p) → Cut p mid es t) → (view mid.state p ≡ None → Others p mid es t × (steps_of p es ≡ [])) → IsSome (view w.state p) → (b : Bool) → is_step_of p e.1 ≡ b → Cut p w (e ∷ es) t
+  by_outcome : (IsSome (view mid.state p) → Cut p mid es t) → (view mid.state p ≡ None → Others p mid es t × (steps_of p es ≡ []))
+      → IsSome (view w.state p) → (b : Bool) → is_step_of p e.1 ≡ b → Cut p w (e ∷ es) t
   by_outcome on over lives true his = by_step on over his (view mid.state p) refl
   by_outcome on over lives false apart =
-      let v = some_there (view w.state p) lives in
+      let v = the_value (view w.state p) lives in
       let stays : IsSome (view mid.state p) = ap is_some (kept p v.0 w mid e.0 e.1 h (not_his p w mid e.0 e.1 h apart) v.1).is in
       let rest = on stays in
       (rest.0, one_before p w mid t e es rest.0 h (not_his p w mid e.0 e.1 h apart) rest.1, rest.2 ∙ sym (no_step p e es apart))
@@ -240,7 +227,7 @@ Fine w = (p : ℕ) (v : View) → view w.state p ≡ Some v → (p < w.state.nex
 call_is : (s t : State) (p : ℕ) (o : Option Live) (u v : View) → option_map (view_of s p) o ≡ Some u → option_map (view_of t p) o ≡ Some v → u.call ≡ v.call
 unfolding view_of
 call_is s t p None u v a b = let no : ⊥ = cc in absurd no
-call_is s t p (Some l) u v a b = sym (ap (λ (x : View). x.call) (some_view (view_of s p l) u a)) ∙ ap (λ (x : View). x.call) (some_view (view_of t p l) v b)
+call_is s t p (Some l) u v a b = sym (ap (λ (x : View). x.call) (same_Some (view_of s p l) u a)) ∙ ap (λ (x : View). x.call) (same_Some (view_of t p l) v b)
 
 idle_waits : (v : View) → v.call ≡ None → Waits v
 idle_waits v idle c is = let no : ⊥ = cc in absurd no
@@ -249,10 +236,7 @@ next_waits : (v n : View) → (own v).next ≡ Some n → Waits n
 next_waits v n next c is =
     let blocked = (in_call_where_blocked v n next).1 (ap is_some is) in
     let told = blocked_is_in_call v n blocked.0 blocked.1 next in
-    subst (λ (z : ℤ). Contains waiting_calls z) (sym told.2 ∙ ap (λ (x : Call). x.number) (some_call (record (call_or_begun v v.call) { moved = told.0 }) c (sym told.1 ∙ is))) told.3
-  where
-    some_call : (a b : Call) → Some a ≡ Some b → a ≡ b
-    some_call a b e = cc
+    subst (λ (z : ℤ). Contains waiting_calls z) (sym told.2 ∙ ap (λ (x : Call). x.number) (same_Some (record (call_or_begun v v.call) { moved = told.0 }) c (sym told.1 ∙ is))) told.3
 
 module _ (w t : World) (fine : Fine w) where
   module _ (q : ℕ) (o : Outcome) (h : StepOf w q o t) where
@@ -270,7 +254,7 @@ module _ (w t : World) (fine : Fine w) where
     unfolding seen
     fine_other p v u see was apart =
         let is = h.state.others p u (λ e. apart (e ∙ his_pid w t q o h)) was in
-        let call : u.call ≡ v.call = ap (λ (x : View). x.call) (some_view (seen w.state h.before (own h.before) u) v (sym is ∙ see)) in
+        let call : u.call ≡ v.call = ap (λ (x : View). x.call) (same_Some (seen w.state h.before (own h.before) u) v (sym is ∙ see)) in
         (up p (fine p u was).0, λ c busy. (fine p u was).1 c (call ∙ busy))
 
     fine_born : (p : ℕ) (v : View) → view t.state p ≡ Some v → IsNewbornOf (own h.before) p → (p < t.state.next_pid) × Waits v
@@ -278,9 +262,10 @@ module _ (w t : World) (fine : Fine w) where
         let below = (born_below h.before.next_pid (own h.before).left.next_pid p (own h.before).child (own_numbered h.before) born).1 in
         (omega (arith, below, h.state.left.next_pid), idle_waits v (by h.before.next_pid (own h.before).left.next_pid (own h.before).child (own_numbered h.before) h.state.newborn born))
       where
-        by : (n m : ℕ) (child : Option View) → MatchOption child (m ≡ n) (λ c. (c.pid ≡ n) × (c.call ≡ None) × (m ≡ n + 1)) → MatchOption child (Unit {0}) (λ c. view t.state c.pid ≡ Some c) → MatchOption child ⊥ (λ c. p ≡ c.pid) → v.call ≡ None
+        by : (n m : ℕ) (child : Option View) → MatchOption child (m ≡ n) (λ c. (c.pid ≡ n) × (c.call ≡ None) × (m ≡ n + 1))
+            → MatchOption child (Unit {0}) (λ c. view t.state c.pid ≡ Some c) → MatchOption child ⊥ (λ c. p ≡ c.pid) → v.call ≡ None
         by n m None numbered sees is = absurd is
-        by n m (Some c) numbered sees is = ap (λ (x : View). x.call) (some_view v c (sym see ∙ ap (view t.state) is ∙ sees)) ∙ numbered.1
+        by n m (Some c) numbered sees is = ap (λ (x : View). x.call) (same_Some v c (sym see ∙ ap (view t.state) is ∙ sees)) ∙ numbered.1
 
     fine_step : Fine t
     fine_step p v see = elim (eqb_tells p q) [
@@ -288,7 +273,7 @@ module _ (w t : World) (fine : Fine w) where
       | inr apart ↦ elim (h.state.no_more p (ap is_some see)) [
         | inl his ↦ absurd (apart.1 (his ∙ his_pid w t q o h))
         | inr rest ↦ elim rest [
-          | inl before ↦ let u = some_there (view w.state p) before in fine_other p v u.0 see u.1 apart.1
+          | inl before ↦ let u = the_value (view w.state p) before in fine_other p v u.0 see u.1 apart.1
           | inr born ↦ fine_born p v see born
         ]
       ]
@@ -296,7 +281,7 @@ module _ (w t : World) (fine : Fine w) where
 
   fine_outside : (o : Outcome) → IsOutside w o t → Fine t
   fine_outside o h p v see =
-      let u = some_there (view w.state p) (sym (same_seen w t h.processes p) ∙ ap is_some see) in
+      let u = the_value (view w.state p) (sym (same_seen w t h.processes p) ∙ ap is_some see) in
       let call : u.0.call ≡ v.call = call_is w.state t.state p (live w.state p) u.0 v u.1 (ap (option_map (view_of t.state p)) (sym (same_live w t h.processes p)) ∙ see) in
       (omega (arith, (fine p u.0 u.1).0, h.next_pid), λ c busy. (fine p u.0 u.1).1 c (call ∙ busy))
 
@@ -315,7 +300,7 @@ fine_first frames trace programs w h p v see = (
 
 pub pids_are_given : PidsAreGiven
 pids_are_given frames trace programs es t p boot lives =
-    let v = some_there (view t.state p) lives in (fine_run boot.0 t es boot.2 (fine_first frames trace programs boot.0 boot.1) p v.0 v.1).0
+    let v = the_value (view t.state p) lives in (fine_run boot.0 t es boot.2 (fine_first frames trace programs boot.0 boot.1) p v.0 v.1).0
 
 pub only_waiters_are_in_calls : OnlyWaitersAreInCalls
 only_waiters_are_in_calls frames trace programs es t p v c boot see busy = (fine_run boot.0 t es boot.2 (fine_first frames trace programs boot.0 boot.1) p v see).1 c busy

@@ -5,6 +5,7 @@ use Rattle.std.proofs.lemmas.List.Folds.{list_any-append}
 use Rattle.std.specs.Prelude.{is_some}
 use Rattle.kernel_spec.specs.runs.Run.{Event, Outcome, Idle, halted_by}
 use Rattle.kernel_spec.specs.runs.Rounds.{round, events, halts, Planned, AreRounds, EndsInRound, RoundsThenPlan, StopsThenPlan, RoundsFollowRounds, PlanGoesByRounds, CutEndsInRound}
+use Rattle.kernel_spec.proofs.Common.{or_false, or_assoc}
 
 abbrev Played : Type 0
 Played = List (Event × Outcome)
@@ -13,10 +14,6 @@ Played = List (Event × Outcome)
 
 either_halts : (xs ys : Played) → halts (xs ++ ys) ≡ (halts xs || halts ys)
 either_halts xs ys = list_any-append (λ (e : Event × Outcome). is_some (halted_by e.1)) xs ys
-
-or_nothing : (b : Bool) → (b || false) ≡ b
-or_nothing true = refl
-or_nothing false = refl
 
 abbrev no_keys : List ℕ
 no_keys = []
@@ -36,24 +33,26 @@ suc_sum a b = omega arith
 zero_sum : (a : ℕ) → a ≡ 0 + a
 zero_sum a = omega arith
 
-or_assoc : (a b c : Bool) → ((a || b) || c) ≡ (a || (b || c))
-or_assoc true b c = refl
-or_assoc false b c = refl
-
 -- ---- rounds, and what comes behind them
 
 pub rounds_follow_rounds : RoundsFollowRounds
 rounds_follow_rounds zero further quantum keys halted list more are plan =
     subst (λ (n : ℕ). AreRounds n quantum keys halted (list ++ more)) (zero_sum further)
     (subst (λ (xs : Played). AreRounds further quantum keys halted (xs ++ more)) (sym are)
-    (subst (λ (b : Bool). AreRounds further quantum keys b more) (ap (λ (xs : Played). halted || halts xs) are ∙ or_nothing halted) plan))
+    (subst (λ (b : Bool). AreRounds further quantum keys b more) (ap (λ (xs : Played). halted || halts xs) are ∙ sym (or_false halted)) plan))
 rounds_follow_rounds (suc count) further quantum keys true list more are plan = absurd are
 rounds_follow_rounds (suc count) further quantum keys false list more are plan =
     let behind : AreRounds further quantum (drop count (drop 1 keys)) (halts are.0 || halts are.1) more =
     subst (λ (b : Bool). AreRounds further quantum (drop count (drop 1 keys)) b more) (ap halts are.2 ∙ either_halts are.0 are.1)
     (subst (λ (ks : List ℕ). AreRounds further quantum ks (halts list) more) (sym (drop_next count keys)) plan) in
-    subst (λ (n : ℕ). AreRounds n quantum keys false (list ++ more)) (suc_sum count further)
-    (are.0, are.1 ++ more, ap (λ (xs : Played). xs ++ more) are.2 ∙ append_assoc are.0 are.1 more, are.3, rounds_follow_rounds count further quantum (drop 1 keys) (halts are.0) are.1 more are.4 behind)
+    subst (λ (n : ℕ). AreRounds n quantum keys false (list ++ more)) (suc_sum count further) (
+      are.0,
+      are.1 ++ more,
+      ap (λ (xs : Played). xs ++ more) are.2
+          ∙ append_assoc are.0 are.1 more,
+      are.3,
+      rounds_follow_rounds count further quantum (drop 1 keys) (halts are.0) are.1 more are.4 behind,
+    )
 
 pub rounds_then_plan : RoundsThenPlan
 rounds_then_plan count rounds quantum keys halted list more are (further, within, behind, end) = (
@@ -91,11 +90,13 @@ none_halts list none over = let bad : halts [] ≡ true = ap halts (sym none) �
 not_none : (rounds : ℕ) → 0 ≡ suc rounds → ⊥
 not_none rounds h = omega (arith, h)
 
-first_round : (count rounds quantum : ℕ) (keys : List ℕ) (list : Played) → count ≤ suc rounds → AreRounds count quantum keys false list → (count ≡ suc rounds) ⊎ (halts list ≡ true) → OneThenPlan rounds quantum keys list
+first_round : (count rounds quantum : ℕ) (keys : List ℕ) (list : Played) → count ≤ suc rounds → AreRounds count quantum keys false list
+    → (count ≡ suc rounds) ⊎ (halts list ≡ true) → OneThenPlan rounds quantum keys list
 first_round zero rounds quantum keys list within are (inl all) = absurd (not_none rounds all)
 first_round zero rounds quantum keys list within are (inr over) = absurd (none_halts list are over)
 first_round (suc count) rounds quantum keys list within (now, later, is, played, are) (inl all) = (now, later, is, played, (count, omega (arith, within), are, inl (omega (arith, all))))
-first_round (suc count) rounds quantum keys list within (now, later, is, played, are) (inr over) = (now, later, is, played, (count, omega (arith, within), are, inr (sym (either_halts now later) ∙ ap halts (sym is) ∙ over)))
+first_round (suc count) rounds quantum keys list within (now, later, is, played, are) (inr over) =
+    (now, later, is, played, (count, omega (arith, within), are, inr (sym (either_halts now later) ∙ ap halts (sym is) ∙ over)))
 
 round_before : (rounds quantum : ℕ) (keys : List ℕ) (list : Played) → OneThenPlan rounds quantum keys list → Planned (suc rounds) quantum keys false list
 round_before rounds quantum keys list (now, later, is, played, (count, within, are, end)) = (
@@ -146,13 +147,16 @@ part_is_cut : (rounds quantum : ℕ) (keys : List ℕ) (halted : Bool) (list : P
 part_is_cut rounds quantum keys halted list last (count, before, part, rest, is, less, are, on, played) =
     let further = rest_after count rounds less in
     let now : Played = (part ++ last ∷ []) ++ idle rest in
-    let whole : events now ≡ round quantum (drop count keys) = map-append (λ (e : Event × Outcome). e.0) (part ++ last ∷ []) (idle rest) ∙ ap (λ (es : List Event). events (part ++ last ∷ []) ++ es) (events_idle rest) ∙ played in
+    let whole : events now ≡ round quantum (drop count keys) = map-append (λ (e : Event × Outcome). e.0) (part ++ last ∷ []) (idle rest)
+    ∙ ap (λ (es : List Event). events (part ++ last ∷ []) ++ es) (events_idle rest) ∙ played in
     let behind = some_plan further.0 quantum (drop 1 (drop count keys)) (halts now) in
     let plan : Planned (suc further.0) quantum (drop count keys) (halted || halts before) (now ++ behind.0) =
-    subst (λ (b : Bool). Planned (suc further.0) quantum (drop count keys) b (now ++ behind.0)) (sym on) (round_before further.0 quantum (drop count keys) (now ++ behind.0) (now, behind.0, refl, whole, behind.1)) in
+    subst (λ (b : Bool). Planned (suc further.0) quantum (drop count keys) b (now ++ behind.0)) (sym on)
+    (round_before further.0 quantum (drop count keys) (now ++ behind.0) (now, behind.0, refl, whole, behind.1)) in
     let all : Planned (count + suc further.0) quantum keys halted (before ++ (now ++ behind.0)) = rounds_then_plan count (suc further.0) quantum keys halted before (now ++ behind.0) are plan in
     let same : before ++ (now ++ behind.0) ≡ list ++ (idle rest ++ behind.0) =
-    ap (λ (xs : Played). before ++ xs) (append_assoc (part ++ last ∷ []) (idle rest) behind.0) ∙ sym (append_assoc before (part ++ last ∷ []) (idle rest ++ behind.0)) ∙ ap (λ (xs : Played). xs ++ (idle rest ++ behind.0)) (sym is) in (
+    ap (λ (xs : Played). before ++ xs) (append_assoc (part ++ last ∷ []) (idle rest) behind.0)
+    ∙ sym (append_assoc before (part ++ last ∷ []) (idle rest ++ behind.0)) ∙ ap (λ (xs : Played). xs ++ (idle rest ++ behind.0)) (sym is) in (
       before ++ part,
       idle rest ++ behind.0,
       is ∙ sym (append_assoc before part (last ∷ [])),
@@ -201,7 +205,8 @@ ends_in_round (suc rounds) quantum keys false before more last (now, later, is, 
   )
 ]
   where
-    behind : (h : (d : Played) × (before ≡ now ++ d) × (later ≡ d ++ last ∷ more)) → EndsInRound rounds quantum (drop 1 keys) (halts now) (h.0 ++ last ∷ []) last → EndsInRound (suc rounds) quantum keys false (before ++ last ∷ []) last
+    behind : (h : (d : Played) × (before ≡ now ++ d) × (later ≡ d ++ last ∷ more))
+        → EndsInRound rounds quantum (drop 1 keys) (halts now) (h.0 ++ last ∷ []) last → EndsInRound (suc rounds) quantum keys false (before ++ last ∷ []) last
     behind h (count, first, part, left, same, less, are, on, begun) = (
       suc count,
       now ++ first,
@@ -215,12 +220,14 @@ ends_in_round (suc rounds) quantum keys false before more last (now, later, is, 
     )
 
 -- more rounds may be allowed
-more_allowed : (count rounds quantum : ℕ) (keys : List ℕ) (halted : Bool) (list : Played) (last : Event × Outcome) → count ≤ rounds → EndsInRound count quantum keys halted list last → EndsInRound rounds quantum keys halted list last
+more_allowed : (count rounds quantum : ℕ) (keys : List ℕ) (halted : Bool) (list : Played) (last : Event × Outcome) → count ≤ rounds
+    → EndsInRound count quantum keys halted list last → EndsInRound rounds quantum keys halted list last
 more_allowed count rounds quantum keys halted list last within (some, before, part, rest, is, less, are, on, played) = (some, before, part, rest, is, omega (arith, within, less), are, on, played)
 
 pub cut_ends_in_round : CutEndsInRound
 cut_ends_in_round rounds quantum keys halted list last = (
   λ (before, more, is, (count, within, are, end)). more_allowed count rounds quantum keys halted list last within (subst (λ (xs : Played). EndsInRound count quantum keys halted xs last) (sym is)
-      (ends_in_round count quantum keys halted before more last (subst (λ (xs : Played). AreRounds count quantum keys halted xs) (ap (λ (xs : Played). xs ++ more) is ∙ append_assoc before (last ∷ []) more) are))),
+      (ends_in_round count quantum keys halted before more last
+      (subst (λ (xs : Played). AreRounds count quantum keys halted xs) (ap (λ (xs : Played). xs ++ more) is ∙ append_assoc before (last ∷ []) more) are))),
   part_is_cut rounds quantum keys halted list last,
 )

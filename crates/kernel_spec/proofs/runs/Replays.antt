@@ -1,10 +1,10 @@
 -- The same events, sent to two worlds that can't be told apart, give the same outcomes, and leave two worlds that can't be told apart.
-use Rattle.std.proofs.Common.{◌≡◌, ℕ, ◌+◌, ◌%◌, ◌≤◌, ◌<◌, List, [], ◌∷◌, refl, ap, sym, ◌∙◌, subst, arith}
-use Rattle.std.specs.Prelude.{Option, None, Some, IsSome, is_some, ℤ, Result, Ok, option_map}
-use Rattle.xk_base.specs.declared.errors.BootError.{BootError}
+use Rattle.std.proofs.Common.{◌≡◌, ℕ, ◌+◌, ◌%◌, ◌≤◌, ◌<◌, [], ◌∷◌, refl, ap, sym, ◌∙◌, subst, arith}
+use Rattle.std.specs.Prelude.{Option, None, Some, IsSome, is_some, ℤ, option_map}
 use Rattle.std.specs.Cmp.{nat_cmp_total}
 use Rattle.std.specs.FinMap.{get, nat_cmp-IsAntisymmetric}
 use Rattle.std.specs.FinSet.{contains, same_set}
+use Rattle.std.proofs.lemmas.Option.{same_Some}
 use Rattle.xk_base.specs.declared.limits.TheConstants.{NPROC}
 use Rattle.console_core.specs.Lists.{Console}
 use Rattle.console_core.specs.Keys.{line}
@@ -16,17 +16,17 @@ use Rattle.kernel_spec.specs.views.View.{View, view, view_of}
 use Rattle.kernel_spec.specs.steps.Step.{own}
 use Rattle.kernel_spec.specs.waking.Turns.{Turns, Sleeps, HasSlot}
 use Rattle.kernel_spec.specs.views.WellFormed.{AreShown, HasSlots}
-use Rattle.kernel_spec.specs.runs.Run.{World, Event, Run, Tick, Key, Send, Outcome, Turn, Idle, Step_of, Ticked, Typed, Sent, Halted, RunHappens, TickHappens, KeyHappens, SendHappens, HaltedRun, TurnTaken, StepOf, StateAfter, TurnsAfter, IsButWoken, first_sent, sent}
+use Rattle.kernel_spec.specs.runs.Run.{World, Event, Run, Tick, Key, Send, Outcome, Turn, Idle}
+use Rattle.kernel_spec.specs.runs.Run.{Step_of, Ticked, Typed, Sent, Halted, RunHappens, TickHappens, KeyHappens, SendHappens}
+use Rattle.kernel_spec.specs.runs.Run.{HaltedRun, TurnTaken, StepOf, StateAfter, TurnsAfter, IsButWoken, first_sent, sent}
 use Rattle.kernel_spec.specs.runs.Rounds.{events}
 use Rattle.kernel_spec.specs.waking.Wakes.{IsRunnable, IsNearest, TakesNearest, WakesWhereDue, Promised}
 use Rattle.kernel_spec.specs.laws.Replays.{AreAlike, IsOrderly, FirstIsOrderly, StaysOrderly, EventIsDetermined, RunIsDetermined, ReplayIsTheSame}
 use Rattle.kernel_spec.proofs.turns.KeepsSlots.{slots_stay}
 use Rattle.kernel_spec.proofs.well.FirstWell.{first_well, first_slots, nobody_sleeps}
-use Rattle.kernel_spec.proofs.runs.Sharing.{same_truth}
 use Rattle.kernel_spec.proofs.runs.AlikeSteps.{still_asleep, alike_step, sleepers_after}
-
-some_view : (a b : View) → Some a ≡ Some b → a ≡ b
-some_view a b e = cc
+use Rattle.kernel_spec.proofs.Common.{is_some-map, same_first, same_rest, same_Ok}
+use Rattle.addr_space.proofs.Prices.{same_test}
 
 -- ---- a clock or a console that changes
 
@@ -70,8 +70,10 @@ module _ (v w : World) (alike : AreAlike v w) (clock : ℕ) (console : Console) 
 
 -- ---- sleepers that wake
 
-module _ (v w t u : World) (o : Outcome) (current : Option ℕ) (alike : AreAlike v w) (live_v : (p : ℕ) → Sleeps v.turns p → IsSome (view v.state p)) (same : (q : ℕ) → view t.state q ≡ view u.state q) (lives : (q : ℕ) → is_some (view t.state q) ≡ is_some (view v.state q))
-    (wakes_v : WakesWhereDue v o t) (wakes_w : WakesWhereDue w o u) (woken_v : IsButWoken (record v.turns { current = current }) t.turns) (woken_w : IsButWoken (record w.turns { current = current }) u.turns) where
+module _ (v w t u : World) (o : Outcome) (current : Option ℕ) (alike : AreAlike v w) (live_v : (p : ℕ) → Sleeps v.turns p → IsSome (view v.state p))
+    (same : (q : ℕ) → view t.state q ≡ view u.state q) (lives : (q : ℕ) → is_some (view t.state q) ≡ is_some (view v.state q))
+    (wakes_v : WakesWhereDue v o t) (wakes_w : WakesWhereDue w o u) (woken_v : IsButWoken (record v.turns { current = current }) t.turns)
+    (woken_w : IsButWoken (record w.turns { current = current }) u.turns) where
   asleep_too : (q : ℕ) → Sleeps t.turns q → Sleeps u.turns q
   asleep_too q asleep =
       let before : Sleeps v.turns q = woken_v.1 q asleep in
@@ -85,29 +87,28 @@ module _ (v w t u : World) (o : Outcome) (current : Option ℕ) (alike : AreAlik
 
   woken_turns : t.turns ≡ u.turns
   woken_turns =
-      let sleepers = same_set nat_cmp_total nat_cmp-IsAntisymmetric t.turns.sleepers u.turns.sleepers (λ q. same_truth (contains t.turns.sleepers q) (contains u.turns.sleepers q) (asleep_too q) (asleep_back q)) in
+      let sleepers = same_set nat_cmp_total nat_cmp-IsAntisymmetric t.turns.sleepers u.turns.sleepers
+      (λ q. same_test (contains t.turns.sleepers q) (contains u.turns.sleepers q) (asleep_too q) (asleep_back q)) in
       woken_v.0 ∙ (λ i. record (alike.turns i) { current = current; sleepers = sleepers i }) ∙ sym woken_w.0
 
 -- ---- an event outside of steps that changes the clock or the console
 
 module _ (v w t u : World) (o : Outcome) (current : Option ℕ) (clock : ℕ) (console : Console) (alike : AreAlike v w) (orderly : IsOrderly v)
     (state_t : t.state ≡ timed v.state clock console) (state_u : u.state ≡ timed w.state clock console)
-    (wakes_v : WakesWhereDue v o t) (wakes_w : WakesWhereDue w o u) (woken_v : IsButWoken (record v.turns { current = current }) t.turns) (woken_w : IsButWoken (record w.turns { current = current }) u.turns) where
+    (wakes_v : WakesWhereDue v o t) (wakes_w : WakesWhereDue w o u) (woken_v : IsButWoken (record v.turns { current = current }) t.turns)
+    (woken_w : IsButWoken (record w.turns { current = current }) u.turns) where
   view_t : (q : ℕ) → view t.state q ≡ option_map (timed_as clock console) (view v.state q)
   view_t q = ap (λ (s : State). view s q) state_t ∙ timed_view v.state clock console q
 
   same_views : (q : ℕ) → view t.state q ≡ view u.state q
   same_views q = view_t q ∙ ap (option_map (timed_as clock console)) (alike.views q) ∙ sym (ap (λ (s : State). view s q) state_u ∙ timed_view w.state clock console q)
 
-  map_some : (f : View → View) (z : Option View) → is_some (option_map f z) ≡ is_some z
-  map_some f None = refl
-  map_some f (Some y) = refl
-
   lives : (q : ℕ) → is_some (view t.state q) ≡ is_some (view v.state q)
-  lives q = ap is_some (view_t q) ∙ map_some (timed_as clock console) (view v.state q)
+  lives q = ap is_some (view_t q) ∙ is_some-map (timed_as clock console) (view v.state q)
 
   timed_event : AreAlike t u
-  timed_event = timed_after v w alike clock console t.turns u.turns (woken_turns v w t u o current alike orderly.sleepers same_views lives wakes_v wakes_w woken_v woken_w) t.state u.state state_t state_u
+  timed_event = timed_after v w alike clock console t.turns u.turns
+      (woken_turns v w t u o current alike orderly.sleepers same_views lives wakes_v wakes_w woken_v woken_w) t.state u.state state_t state_u
 
   timed_sleepers : (q : ℕ) → Sleeps t.turns q → IsSome (view t.state q)
   timed_sleepers q asleep = lives q ∙ orderly.sleepers q (woken_v.1 q asleep)
@@ -178,16 +179,15 @@ module _ (v w t u : World) (alike : AreAlike v w) (slots : HasSlots v.state v.tu
   both_turns p r one two mine its =
       let back : HasSlot v.turns r two.0 = subst (λ (turns : Turns). HasSlot turns r two.0) (sym alike.turns) two.1 in
       let same : p ≡ r = one_nearest v w alike slots p r one.0 two.0 mine.0 (runnable_too w v (alike_back v w alike) slots_w r its.0) mine.1 (nearest_there v w r alike its.1) one.1 back in
-      let place : one.0 ≡ two.0 = some_slot one.0 two.0 (sym one.1 ∙ ap (get v.turns.slots) same ∙ back) in (
+      let place : one.0 ≡ two.0 = same_Some one.0 two.0 (sym one.1 ∙ ap (get v.turns.slots) same ∙ back) in (
         ap Turn same,
         subst (λ (x : World). AreAlike x u) (sym one.3) (subst (λ (x : World). AreAlike (record v { turns = record v.turns { current = Some p; last = one.0 } }) x) (sym two.3)
-            (with_turns v w alike (record v.turns { current = Some p; last = one.0 }) (record w.turns { current = Some r; last = two.0 }) (λ i. record (alike.turns i) { current = Some (same i); last = place i }))),
+            (with_turns v w alike (record v.turns { current = Some p; last = one.0 }) (record w.turns { current = Some r; last = two.0 })
+            (λ i. record (alike.turns i) { current = Some (same i); last = place i }))),
       )
-    where
-      some_slot : (a b : ℕ) → Some a ≡ Some b → a ≡ b
-      some_slot a b e = cc
 
-  by_turns : (o q : Outcome) → TurnTaken v o t → TurnTaken w q u → TakesNearest v Run o → TakesNearest w Run q → v.turns.halted ≡ None → v.turns.current ≡ None → w.turns.halted ≡ None → w.turns.current ≡ None → Same o q
+  by_turns : (o q : Outcome) → TurnTaken v o t → TurnTaken w q u → TakesNearest v Run o → TakesNearest w Run q → v.turns.halted ≡ None
+      → v.turns.current ≡ None → w.turns.halted ≡ None → w.turns.current ≡ None → Same o q
   by_turns (Turn p) (Turn r) one two near too a b c d = both_turns p r one two ((near refl a b).1 p refl) ((too refl c d).1 r refl)
   by_turns (Turn p) Idle one two near too a b c d = absurd ((too refl c d).0.0 refl p (runnable_too v w alike slots p ((near refl a b).1 p refl).0))
   by_turns Idle (Turn r) one two near too a b c d = absurd ((near refl a b).0.0 refl r (runnable_too w v (alike_back v w alike) slots_w r ((too refl c d).1 r refl).0))
@@ -211,9 +211,10 @@ module _ (v w t u : World) (alike : AreAlike v w) (slots : HasSlots v.state v.tu
 -- ---- a step
 
 module _ (v w t u : World) (alike : AreAlike v w) (orderly_v : IsOrderly v) (orderly_w : IsOrderly w) where
-  by_steps : (p : ℕ) (o q : Outcome) → v.turns.current ≡ Some p → w.turns.current ≡ Some p → StepOf v p o t → StepOf w p q u → WakesWhereDue v o t → WakesWhereDue w q u → AreShown t.state → AreShown u.state → (o ≡ q) × AreAlike t u
+  by_steps : (p : ℕ) (o q : Outcome) → v.turns.current ≡ Some p → w.turns.current ≡ Some p → StepOf v p o t → StepOf w p q u → WakesWhereDue v o t
+      → WakesWhereDue w q u → AreShown t.state → AreShown u.state → (o ≡ q) × AreAlike t u
   by_steps p o q runs_v runs_w one two wakes_v wakes_w shown_t shown_u =
-      let same : two.before ≡ one.before = some_view two.before one.before (sym two.was ∙ sym (alike.views p) ∙ one.was) in
+      let same : two.before ≡ one.before = same_Some two.before one.before (sym two.was ∙ sym (alike.views p) ∙ one.was) in
       let answer : q ≡ Step_of p (own one.before).answer = two.answer ∙ ap (λ (b : View). Step_of p (own b).answer) same in (
         one.answer ∙ sym answer,
         alike_step v w t u p one.before alike orderly_v orderly_w runs_v runs_w one.was (two.was ∙ ap Some same)
@@ -237,14 +238,16 @@ module _ (v w t u : World) (orderly_v : IsOrderly v) (orderly_w : IsOrderly w) (
   by_run o q None (Some p) a b one two pv pw =
       by_steps v w t u alike orderly_v orderly_w p o q b (sym (ap (λ (turns : Turns). turns.current) alike.turns) ∙ b) one two pv.1 pw.1 (pv.3 orderly_v.shown) (pw.3 orderly_w.shown)
   by_run o q None None a b one two pv pw =
-      by_turns v w t u alike orderly_v.slots orderly_w.slots o q one two pv.2 pw.2 a b (sym (ap (λ (turns : Turns). turns.halted) alike.turns) ∙ a) (sym (ap (λ (turns : Turns). turns.current) alike.turns) ∙ b)
+      by_turns v w t u alike orderly_v.slots orderly_w.slots o q one two pv.2 pw.2 a b (sym (ap (λ (turns : Turns). turns.halted) alike.turns) ∙ a)
+      (sym (ap (λ (turns : Turns). turns.current) alike.turns) ∙ b)
 
   by_tick : (o q : Outcome) (halted : Option ℤ) → TickHappens v halted o t → TickHappens w halted q u → Promised v Tick o t → Promised w Tick q u → Alike o q
   by_tick o q (Some status) one two pv pw = after_end o q one two
   by_tick o q None one two pv pw = (
     one.0 ∙ sym two.0,
     timed_event v w t u o None ((v.state.clock + 1) % CLOCK_ROUND) v.state.console alike orderly_v one.1
-        (two.1 ∙ (λ i. record w.state { clock = (sym alike.clock i + 1) % CLOCK_ROUND; console = sym alike.console i })) pv.1 (subst (λ (x : Outcome). WakesWhereDue w x u) (two.0 ∙ sym one.0) pw.1) one.2 two.2,
+        (two.1 ∙ (λ i. record w.state { clock = (sym alike.clock i + 1) % CLOCK_ROUND; console = sym alike.console i })) pv.1
+        (subst (λ (x : Outcome). WakesWhereDue w x u) (two.0 ∙ sym one.0) pw.1) one.2 two.2,
   )
 
   by_key : (o q : Outcome) (halted : Option ℤ) (b : ℕ) → KeyHappens v halted b o t → KeyHappens w halted b q u → Promised v (Key b) o t → Promised w (Key b) q u → Alike o q
@@ -293,7 +296,8 @@ module _ (w t : World) (orderly : IsOrderly w) where
   turn_sleepers (Sent byte) h = absurd h
   turn_sleepers Halted h = absurd h
 
-  run_sleepers : (o : Outcome) (halted : Option ℤ) (current : Option ℕ) → w.turns.current ≡ current → RunHappens w halted current o t → WakesWhereDue w o t → AreShown t.state → (p : ℕ) → Sleeps t.turns p → IsSome (view t.state p)
+  run_sleepers : (o : Outcome) (halted : Option ℤ) (current : Option ℕ) → w.turns.current ≡ current → RunHappens w halted current o t
+      → WakesWhereDue w o t → AreShown t.state → (p : ℕ) → Sleeps t.turns p → IsSome (view t.state p)
   run_sleepers o (Some status) current runs h due shown = same_sleepers h.1
   run_sleepers o None (Some p) runs h due shown =
       let wakes = subst (λ (x : Outcome). WakesWhereDue w x t) h.answer due in
@@ -330,28 +334,20 @@ first_is_orderly frames trace programs w boot = record {
 
 -- ---- runs
 
-head_event : (a b : Event) (xs ys : List Event) → a ∷ xs ≡ b ∷ ys → a ≡ b
-head_event a b xs ys e = cc
-
-rest_events : (a b : Event) (xs ys : List Event) → a ∷ xs ≡ b ∷ ys → xs ≡ ys
-rest_events a b xs ys e = cc
-
 pub run_is_determined : RunIsDetermined
 run_is_determined v w t u [] [] orderly_v orderly_w alike one two same = (refl, subst (λ (x : World). AreAlike x u) (sym one) (subst (λ (x : World). AreAlike v x) (sym two) alike))
 run_is_determined v w t u [] (f ∷ fs) orderly_v orderly_w alike one two same = let no : ⊥ = cc in absurd no
 run_is_determined v w t u (e ∷ es) [] orderly_v orderly_w alike one two same = let no : ⊥ = cc in absurd no
 run_is_determined v w t u (e ∷ es) (f ∷ fs) orderly_v orderly_w alike one two same =
-    let event : e.0 ≡ f.0 = head_event e.0 f.0 (events es) (events fs) same in
-    let later : events es ≡ events fs = rest_events e.0 f.0 (events es) (events fs) same in
+    let event : e.0 ≡ f.0 = same_first e.0 f.0 (events es) (events fs) same in
+    let later : events es ≡ events fs = same_rest e.0 f.0 (events es) (events fs) same in
     let there : Promised w e.0 f.1 two.0 = subst (λ (x : Event). Promised w x f.1 two.0) (sym event) two.1 in
     let now = event_is_determined v w one.0 two.0 e.0 e.1 f.1 orderly_v orderly_w alike one.1 there in
     let more = run_is_determined one.0 two.0 t u es fs (event_orderly v one.0 orderly_v e.0 e.1 one.1) (event_orderly w two.0 orderly_w e.0 f.1 there) now.1 one.2 two.2 later in
     (λ i. (event i, now.0 i) ∷ more.0 i, more.1)
 
-same_first : (v w : World) → ◌≡◌ {A = Result World BootError} (Ok v) (Ok w) → v ≡ w
-same_first v w e = cc
-
 pub replay_is_the_same : ReplayIsTheSame
 replay_is_the_same frames trace programs v w t u es fs boot again one two same =
-    let first_same : v ≡ w = same_first v w (sym boot ∙ again) in
-    run_is_determined v w t u es fs (first_is_orderly frames trace programs v boot) (first_is_orderly frames trace programs w again) (subst (λ (x : World). AreAlike v x) first_same (alike_self v)) one two same
+    let first_same : v ≡ w = same_Ok v w (sym boot ∙ again) in
+    run_is_determined v w t u es fs (first_is_orderly frames trace programs v boot) (first_is_orderly frames trace programs w again)
+    (subst (λ (x : World). AreAlike v x) first_same (alike_self v)) one two same

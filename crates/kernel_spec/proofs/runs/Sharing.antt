@@ -11,9 +11,11 @@ use Rattle.kernel_spec.specs.steps.Step.{own}
 use Rattle.kernel_spec.specs.others.Quiet.{file_at, pipe_at, pipe_of_file, is_same, seen, seen_descriptor, seen_shown, left_at, meets_on_file, meets_on_pipe}
 use Rattle.kernel_spec.specs.views.WellFormed.{AreShown}
 use Rattle.kernel_spec.specs.runs.Run.{StateAfter, FilesAfter, IsNewbornOf}
-use Rattle.kernel_spec.proofs.steps.Kept.{pid_is}
+use Rattle.kernel_spec.proofs.steps.OthersKeepTheRest.{pid_is}
 use Rattle.kernel_spec.proofs.runs.Uses.{Uses, is_end, own_uses}
-use Rattle.kernel_spec.proofs.runs.Shown.{shown_at, file_seen, pipe_seen, view_low}
+use Rattle.kernel_spec.proofs.runs.Shown.{shown_at, file_seen, pipe_seen}
+use Rattle.kernel_spec.proofs.Common.{none_from_is_some, the_value, view_low}
+use Rattle.addr_space.proofs.Prices.{same_test}
 
 -- ---- two numbers, each if it is there
 
@@ -31,15 +33,6 @@ same_some a b f x y = (λ i. is_same (x i) (y i)) ∙ eq-eqb f f refl
 
 same_swap : (a b : Option ℕ) → is_same a b ≡ true → is_same b a ≡ true
 same_swap a b e = let h = both_some a b e in same_some b a h.0 h.2 h.1
-
-number_there : (o : Option ℕ) → IsSome o → (n : ℕ) × (o ≡ Some n)
-number_there None h = let no : ⊥ = cc in absurd no
-number_there (Some n) h = (n, refl)
-
-pub same_truth : (a b : Bool) → (a ≡ true → b ≡ true) → (b ≡ true → a ≡ true) → a ≡ b
-same_truth true b f g = sym (f refl)
-same_truth false true f g = g refl
-same_truth false false f g = refl
 
 same_option : (a b : Option ℕ) → is_some a ≡ is_some b → ((f g : ℕ) → a ≡ Some f → b ≡ Some g → f ≡ g) → a ≡ b
 same_option None None e h = refl
@@ -75,27 +68,27 @@ module _ (F : State → ℕ → ℕ → Option ℕ) (v w t u : State) (p : ℕ) 
   -- two that were in use before
   old_pair : (a d b e f : ℕ) → F t a d ≡ Some f → F t b e ≡ Some f → IsSome (F v a d) → IsSome (F v b e) → is_same (F u a d) (F u b e) ≡ true
   old_pair a d b e f x y a_old b_old =
-      let fa = number_there (F v a d) a_old in
-      let fb = number_there (F v b e) b_old in
+      let fa = the_value (F v a d) a_old in
+      let fb = the_value (F v b e) b_old in
       let were : is_same (F v a d) (F v b e) ≡ true = same_some (F v a d) (F v b e) f (fa.1 ∙ ap Some (one.stay a d fa.0 f fa.1 x)) (fb.1 ∙ ap Some (one.stay b e fb.0 f fb.1 y)) in
       let g = both_some (F w a d) (F w b e) (sym (before a d b e) ∙ were) in
-      let ua = number_there (F u a d) (sym (used_after a d) ∙ ap is_some x) in
-      let ub = number_there (F u b e) (sym (used_after b e) ∙ ap is_some y) in
+      let ua = the_value (F u a d) (sym (used_after a d) ∙ ap is_some x) in
+      let ub = the_value (F u b e) (sym (used_after b e) ∙ ap is_some y) in
       same_some (F u a d) (F u b e) g.0 (ua.1 ∙ ap Some (sym (two.stay a d g.0 ua.0 g.1 ua.1))) (ub.1 ∙ ap Some (sym (two.stay b e g.0 ub.0 g.2 ub.1)))
 
   -- one that p comes to, and one of another
   module _ (d b e f : ℕ) (free : F v p d ≡ None) (x : F t p d ≡ Some f) (apart : b ≢ p) (old : IsSome (F v b e)) (y : F t b e ≡ Some f) where
     was : F v b e ≡ Some f
-    was = let fb = number_there (F v b e) old in fb.1 ∙ ap Some (one.stay b e fb.0 f fb.1 y)
+    was = let fb = the_value (F v b e) old in fb.1 ∙ ap Some (one.stay b e fb.0 f fb.1 y)
 
     -- p was on it, by another descriptor
     by_another : (k : ℕ) → F v p k ≡ Some f → is_same (F u p d) (F u b e) ≡ true
     by_another k named =
         let g = both_some (F w p k) (F w b e) (sym (before p k b e) ∙ same_some (F v p k) (F v b e) f named was) in
-        let tk = number_there (F t p k) (one.keeps d k free (ap is_some x) (ap is_some named)) in
+        let tk = the_value (F t p k) (one.keeps d k free (ap is_some x) (ap is_some named)) in
         let pair : is_same (F t p d) (F t p k) ≡ true = same_some (F t p d) (F t p k) f x (tk.1 ∙ ap Some (sym (one.stay p k f tk.0 named tk.1))) in
         let h = both_some (F u p d) (F u p k) (sym (within p d k) ∙ pair) in
-        let ub = number_there (F u b e) (sym (used_after b e) ∙ ap is_some y) in
+        let ub = the_value (F u b e) (sym (used_after b e) ∙ ap is_some y) in
         let same : ub.0 ≡ h.0 = sym (two.stay b e g.0 ub.0 g.2 ub.1) ∙ two.stay p k g.0 h.0 g.1 h.2 in
         same_some (F u p d) (F u b e) h.0 h.1 (ub.1 ∙ ap Some same)
 
@@ -151,17 +144,10 @@ module _ (F : State → ℕ → ℕ → Option ℕ) (v w t u : State) (p : ℕ) 
       (λ k. is_same (i.there d k) (j.there e k)) ∙ by_roots i.by d j.by e h.0 i.root j.root (sym (i.here d) ∙ h.1) (sym (j.here e) ∙ h.2)
 
 pub sharing_after : (F : State → ℕ → ℕ → Option ℕ) (v w t u : State) (p : ℕ) (o : Own) → Tracks F v p o t → Tracks F w p o u → Sharing F v w → Within F t u → Sharing F t u
-sharing_after F v w t u p o one two before within a d b e = same_truth (is_same (F t a d) (F t b e)) (is_same (F u a d) (F u b e)) (same_after F v w t u p o one two before within a d b e)
+sharing_after F v w t u p o one two before within a d b e = same_test (is_same (F t a d) (F t b e)) (is_same (F u a d) (F u b e)) (same_after F v w t u p o one two before within a d b e)
     (same_after F w v u t p o two one (λ p d q e. sym (before p d q e)) (λ p d e. sym (within p d e)) a d b e)
 
 -- ---- open files and pipes are so
-
-some_view : (a b : View) → Some a ≡ Some b → a ≡ b
-some_view a b e = cc
-
-view_there : (o : Option View) → IsSome o → (v : View) × (o ≡ Some v)
-view_there None h = let no : ⊥ = cc in absurd no
-view_there (Some v) h = (v, refl)
 
 module _ (s t : State) (p : ℕ) (b : View) (was : view s p ≡ Some b) (after : StateAfter s b (own b) t) (shown : AreShown s) (shown_then : AreShown t) where
   abbrev x : Own
@@ -209,7 +195,7 @@ module _ (s t : State) (p : ℕ) (b : View) (was : view s p ≡ Some b) (after :
       by : (c : Option View) → x.child ≡ c → MatchOption c ⊥ (λ c. q ≡ c.pid) → MatchOption c (Unit {0}) (λ c. (d : ℕ) → file_at t c.pid d ≡ file_at s p d) → file_at t q d ≡ file_at t p d
       by None e is same = absurd is
       by (Some c) e is same =
-          let n = view_there x.next (uses.parent (ap is_some e)) in
+          let n = the_value x.next (uses.parent (ap is_some e)) in
           let used : is_some (file_at s p d) ≡ is_some (file_at t p d) = sym (file_before d) ∙ sym (uses.bears n.0 n.1 (ap is_some e) d) ∙ file_then n.0 n.1 d in
           ap (λ (n : ℕ). file_at t n d) is ∙ same d ∙ same_option (file_at s p d) (file_at t p d) used (λ f g. files.same_file p d f g)
 
@@ -218,7 +204,7 @@ module _ (s t : State) (p : ℕ) (b : View) (was : view s p ≡ Some b) (after :
   -- it was live, and saw what it sees but for what the step left
   other_was : (q d : ℕ) → q ≢ p → ¬ IsNewbornOf x q → IsSome (shown_at (view t q) d) → (y : View) × (view s q ≡ Some y) × (view t q ≡ Some (seen s b x y))
   other_was q d apart not there =
-      let y = view_there (view s q) (elim (after.no_more q (alive (view t q) there)) [
+      let y = the_value (view s q) (elim (after.no_more q (alive (view t q) there)) [
         | inl his ↦ absurd (apart (his ∙ pid))
         | inr rest ↦ elim rest [ inl before ↦ before | inr born ↦ absurd (not born) ]
       ]) in
@@ -248,18 +234,16 @@ module _ (s t : State) (p : ℕ) (b : View) (was : view s p ≡ Some b) (after :
   other_file : (q d : ℕ) → q ≢ p → ¬ IsNewbornOf x q → IsSome (file_at t q d) → IsSome (file_at s q d)
   other_file q d apart not there =
       let h = other_was q d apart not (file_seen t shown_then q d ∙ there) in
-      sym (file_seen s shown q d) ∙ ap (λ (o : Option View). is_some (shown_at o d)) h.1 ∙ sym (seen_kept h.0 d).0 ∙ ap (λ (o : Option View). is_some (shown_at o d)) (sym h.2) ∙ file_seen t shown_then q d ∙ there
+      sym (file_seen s shown q d) ∙ ap (λ (o : Option View). is_some (shown_at o d)) h.1 ∙ sym (seen_kept h.0 d).0
+      ∙ ap (λ (o : Option View). is_some (shown_at o d)) (sym h.2) ∙ file_seen t shown_then q d ∙ there
 
   other_pipe : (q d : ℕ) → q ≢ p → ¬ IsNewbornOf x q → IsSome (pipe_at t q d) → IsSome (pipe_at s q d)
   other_pipe q d apart not there =
       let h = other_was q d apart not (end_shown (shown_at (view t q) d) (pipe_seen t shown_then q d ∙ there)) in
-      sym (pipe_seen s shown q d) ∙ ap (λ (o : Option View). is_end (shown_at o d)) h.1 ∙ sym (seen_kept h.0 d).1 ∙ ap (λ (o : Option View). is_end (shown_at o d)) (sym h.2) ∙ pipe_seen t shown_then q d ∙ there
+      sym (pipe_seen s shown q d) ∙ ap (λ (o : Option View). is_end (shown_at o d)) h.1 ∙ sym (seen_kept h.0 d).1
+      ∙ ap (λ (o : Option View). is_end (shown_at o d)) (sym h.2) ∙ pipe_seen t shown_then q d ∙ there
 
   -- ---- where p comes to one, it leaves none
-
-  none_is : {A : Type 0} (o : Option A) → is_some o ≡ false → o ≡ None
-  none_is None e = refl
-  none_is (Some a) e = let no : ⊥ = cc in absurd no
 
   pipe_file : (r : State) (q d : ℕ) → IsSome (pipe_at r q d) → IsSome (file_at r q d)
   pipe_file r q d there = by (file_at r q d) there
@@ -271,14 +255,14 @@ module _ (s t : State) (p : ℕ) (b : View) (was : view s p ≡ Some b) (after :
   keeps_file : (d k : ℕ) → file_at s p d ≡ None → IsSome (file_at t p d) → IsSome (file_at s p k) → IsSome (file_at t p k)
   keeps_file d k free there old =
       let n = goes_on d there in
-      sym (file_then n.0 n.1 k) ∙ uses.opens n.0 n.1 d k (none_is (b.descriptors d) (file_before d ∙ ap is_some free)) (file_then n.0 n.1 d ∙ there) (file_before k ∙ old)
+      sym (file_then n.0 n.1 k) ∙ uses.opens n.0 n.1 d k (none_from_is_some (b.descriptors d) (file_before d ∙ ap is_some free)) (file_then n.0 n.1 d ∙ there) (file_before k ∙ old)
 
   keeps_pipe : (d k : ℕ) → pipe_at s p d ≡ None → IsSome (pipe_at t p d) → IsSome (pipe_at s p k) → IsSome (pipe_at t p k)
   keeps_pipe d k free there old =
       let n = goes_on d (pipe_file t p d there) in
       let now : is_end (n.0.descriptors d) ≡ true = pipe_then n.0 n.1 d ∙ there in
       let before : is_end (b.descriptors d) ≡ false = pipe_before d ∙ ap is_some free in
-      let unused : b.descriptors d ≡ None = none_is (b.descriptors d) (by (is_some (b.descriptors d)) refl n now before) in
+      let unused : b.descriptors d ≡ None = none_from_is_some (b.descriptors d) (by (is_some (b.descriptors d)) refl n now before) in
       let k_end : is_end (b.descriptors k) ≡ true = pipe_before k ∙ old in
       let k_used : IsSome (n.0.descriptors k) = uses.opens n.0 n.1 d k unused (end_shown (n.0.descriptors d) now) (end_shown (b.descriptors k) k_end) in
       sym (pipe_then n.0 n.1 k) ∙ uses.kind n.0 n.1 k (end_shown (b.descriptors k) k_end) k_used ∙ k_end

@@ -1,5 +1,5 @@
 -- What the view of a process tells of its descriptors: which are in use, which are ends of pipes, and which are on the same open file and the same pipe.
-use Rattle.std.proofs.Common.{◌≡◌, ℕ, ◌<◌, Bool, true, false, cond, refl, ap, sym, ◌∙◌, lt-ltb}
+use Rattle.std.proofs.Common.{◌≡◌, ℕ, Bool, true, false, cond, refl, ap, sym, ◌∙◌, lt-ltb}
 use Rattle.std.specs.Prelude.{Option, None, Some, IsSome, is_some, option_map, nat_lt}
 use Rattle.std.specs.FinMap.{get}
 use Rattle.std.proofs.lemmas.Bool.{ltb-true}
@@ -12,8 +12,9 @@ use Rattle.kernel_spec.specs.views.State.{State, live}
 use Rattle.kernel_spec.specs.views.View.{View, Descriptors, Descriptor, view, view_of, named, numbered, descriptor_at, descriptor_on, show, rename, file_name, pipe_name, shown_pipe_name}
 use Rattle.kernel_spec.specs.others.Quiet.{file_of, file_at, pipe_at, pipe_of_file, pipe_of_open, pipe_of_target, is_same}
 use Rattle.kernel_spec.specs.views.WellFormed.{AreShown}
-use Rattle.kernel_spec.proofs.steps.Names.{alike_named}
+use Rattle.kernel_spec.proofs.steps.NamesAreChosenAgain.{alike_named}
 use Rattle.kernel_spec.proofs.runs.Uses.{is_end, named_same}
+use Rattle.kernel_spec.proofs.Common.{none_is_same}
 
 -- a descriptor of the view, if there is one
 abbrev pub shown_at : Option View → ℕ → Option Descriptor
@@ -37,10 +38,6 @@ pipe_number s l d = by (get l.descriptors d)
     by : (o : Option ℕ) → pipe_name (descriptor_at s o) ≡ pipe_of_file s o
     by None = refl
     by (Some f) = on f (get s.files f)
-
-same_none : (o : Option ℕ) → is_same o None ≡ false
-same_none None = refl
-same_none (Some n) = refl
 
 name_some : (o : Option Descriptor) → is_some (file_name o) ≡ is_some o
 name_some None = refl
@@ -91,15 +88,16 @@ module _ (s : State) (shown : AreShown s) (p : ℕ) (l : Live) (is : live s p �
   file_pair d e true true x y = (alike_named t).files d e (ltb-true d NOFILE x) (ltb-true e NOFILE y) ∙ (λ i. is_same (file_number d i) (file_number e i))
   file_pair d e false b x y = ap (λ (o : Option Descriptor). is_same (file_name o) (file_name (named t e))) (named_above t d x) ∙ sym (ap (λ (o : Option ℕ). is_same o (file e)) (file_above d x))
   file_pair d e true false x y =
-      ap (λ (o : Option Descriptor). is_same (file_name (named t d)) (file_name o)) (named_above t e y) ∙ same_none (file_name (named t d))
-      ∙ sym (ap (λ (o : Option ℕ). is_same (file d) o) (file_above e y) ∙ same_none (file d))
+      ap (λ (o : Option Descriptor). is_same (file_name (named t d)) (file_name o)) (named_above t e y) ∙ none_is_same (file_name (named t d))
+      ∙ sym (ap (λ (o : Option ℕ). is_same (file d) o) (file_above e y) ∙ none_is_same (file d))
 
   pipe_pair : (d e : ℕ) (a b : Bool) → nat_lt d NOFILE ≡ a → nat_lt e NOFILE ≡ b → is_same (pipe_name (named t d)) (pipe_name (named t e)) ≡ is_same (pipe_of_file s (file d)) (pipe_of_file s (file e))
   pipe_pair d e true true x y = (alike_named t).pipes d e (ltb-true d NOFILE x) (ltb-true e NOFILE y) ∙ (λ i. is_same (pipe_number s l d i) (pipe_number s l e i))
-  pipe_pair d e false b x y = ap (λ (o : Option Descriptor). is_same (pipe_name o) (pipe_name (named t e))) (named_above t d x) ∙ sym (ap (λ (o : Option ℕ). is_same (pipe_of_file s o) (pipe_of_file s (file e))) (file_above d x))
+  pipe_pair d e false b x y = ap (λ (o : Option Descriptor). is_same (pipe_name o) (pipe_name (named t e))) (named_above t d x)
+      ∙ sym (ap (λ (o : Option ℕ). is_same (pipe_of_file s o) (pipe_of_file s (file e))) (file_above d x))
   pipe_pair d e true false x y =
-      ap (λ (o : Option Descriptor). is_same (pipe_name (named t d)) (pipe_name o)) (named_above t e y) ∙ same_none (pipe_name (named t d))
-      ∙ sym (ap (λ (o : Option ℕ). is_same (pipe_of_file s (file d)) (pipe_of_file s o)) (file_above e y) ∙ same_none (pipe_of_file s (file d)))
+      ap (λ (o : Option Descriptor). is_same (pipe_name (named t d)) (pipe_name o)) (named_above t e y) ∙ none_is_same (pipe_name (named t d))
+      ∙ sym (ap (λ (o : Option ℕ). is_same (pipe_of_file s (file d)) (pipe_of_file s o)) (file_above e y) ∙ none_is_same (pipe_of_file s (file d)))
 
 -- ---- of any process
 
@@ -136,21 +134,7 @@ module _ (s : State) (shown : AreShown s) (p : ℕ) where
   unfolding view_of
   pipe_within d e = by (live s p) refl
     where
-      by : (o : Option Live) → live s p ≡ o → is_same (pipe_name (shown_at (option_map (view_of s p) o) d)) (pipe_name (shown_at (option_map (view_of s p) o) e)) ≡ is_same (pipe_of_file s (file_of o d)) (pipe_of_file s (file_of o e))
+      by : (o : Option Live) → live s p ≡ o → is_same (pipe_name (shown_at (option_map (view_of s p) o) d))
+          (pipe_name (shown_at (option_map (view_of s p) o) e)) ≡ is_same (pipe_of_file s (file_of o d)) (pipe_of_file s (file_of o e))
       by None x = refl
       by (Some l) x = pipe_pair s shown p l x d e (nat_lt d NOFILE) (nat_lt e NOFILE) refl refl
-
--- a view shows no descriptor above the last
-pub view_low : (s : State) (p : ℕ) (o : Option Live) (v : View) → option_map (view_of s p) o ≡ Some v → (d : ℕ) → IsSome (v.descriptors d) → d < NOFILE
-unfolding view_of
-view_low s p None v e d there = let no : ⊥ = cc in absurd no
-view_low s p (Some l) v e d there = by (nat_lt d NOFILE) refl
-  where
-    some_view : (a b : View) → Some a ≡ Some b → a ≡ b
-    some_view a b x = cc
-
-    by : (b : Bool) → nat_lt d NOFILE ≡ b → d < NOFILE
-    by true below = ltb-true d NOFILE below
-    by false above =
-        let no : false ≡ true = sym (ap is_some (named_above (numbered s l) d above)) ∙ ap (λ (x : View). is_some (x.descriptors d)) (some_view (view_of s p l) v e) ∙ there in
-        let bad : ⊥ = cc in absurd bad

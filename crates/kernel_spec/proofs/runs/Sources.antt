@@ -3,6 +3,7 @@ use Rattle.std.proofs.Common.{◌≡◌, ◌≢◌, ℕ, ◌+◌, ◌-◌, ◌*�
 use Rattle.std.specs.Prelude.{is_some, MatchOption, Ok, slice_index}
 use Rattle.std.specs.FinMap.{get}
 use Rattle.std.proofs.lemmas.Bool.Decides.{eqb_tells}
+use Rattle.std.proofs.lemmas.Option.{same_Some}
 use Rattle.xk_base.specs.Bytes.{byte_in}
 use Rattle.xk_base.specs.Image.{Image, Page}
 use Rattle.kernel_spec.specs.views.State.{ProgramFile, live}
@@ -13,17 +14,15 @@ use Rattle.kernel_spec.specs.runs.First.{first}
 use Rattle.kernel_spec.specs.laws.Worlds.{IsStepOf, HasWholePages}
 use Rattle.kernel_spec.specs.rows.Stores.{stored_by, IsStored}
 use Rattle.kernel_spec.specs.runs.Sources.{HasByte, Holds, IsPut, Passes, Stands, WasPut, EachByteHasItsSource}
-use Rattle.kernel_spec.proofs.steps.Kept.{kept, pid_is}
+use Rattle.kernel_spec.proofs.steps.OthersKeepTheRest.{kept, pid_is}
 use Rattle.kernel_spec.proofs.rows.NewPages.{no_old_byte}
 use Rattle.kernel_spec.proofs.rows.NewBytes.{no_old_child}
 use Rattle.kernel_spec.proofs.rows.SetBytes.{stores_these_bytes}
 use Rattle.kernel_spec.proofs.rows.OwnBytes.{each_byte_is_of_its_own}
 use Rattle.kernel_spec.proofs.rows.WholePages.{exec_or_not, own_whole, loaded_whole}
-use Rattle.kernel_spec.proofs.runs.Cuts.{kind, not_his, same_seen, some_there}
+use Rattle.kernel_spec.proofs.runs.Cuts.{kind, not_his, same_seen}
 use Rattle.kernel_spec.proofs.well.FirstWell.{first_image}
-
-some_view : (a b : View) → Some a ≡ Some b → a ≡ b
-some_view a b e = cc
+use Rattle.kernel_spec.proofs.Common.{the_value}
 
 -- ---- where the memory of a process is from, by one event
 
@@ -35,7 +34,7 @@ module _ (w t : World) (e : Event) (o : Outcome) (h : Happens w e o t) (q : ℕ)
   by_other : (v : View) → ¬ IsStepOf q w e → view w.state q ≡ Some v → Comes w e t q u
   by_other v apart was =
       let k = kept q v w t e o h apart was in
-      (q, v, was, inl (ap (λ (x : View). x.image) (some_view u k.after (sym see ∙ k.is)) ∙ ap (λ (x : View). x.image) k.same, inl refl))
+      (q, v, was, inl (ap (λ (x : View). x.image) (same_Some u k.after (sym see ∙ k.is)) ∙ ap (λ (x : View). x.image) k.same, inl refl))
 
   by_itself : (r : ℕ) → IsStepOf r w e → StepOf w r o t → q ≡ r → Comes w e t q u
   by_itself r is step same =
@@ -48,14 +47,11 @@ module _ (w t : World) (e : Event) (o : Outcome) (h : Happens w e o t) (q : ℕ)
       by : (child : Option View) → (own step.before).child ≡ child → MatchOption child ⊥ (λ c. q ≡ c.pid) → MatchOption child (Unit {0}) (λ c. view t.state c.pid ≡ Some c) → Comes w e t q u
       by None made born first = absurd born
       by (Some c) made born first =
-          let same : u ≡ c = some_view u c (sym see ∙ ap (view t.state) born ∙ first) in
+          let same : u ≡ c = same_Some u c (sym see ∙ ap (view t.state) born ∙ first) in
           (r, step.before, step.was, inl (ap (λ (x : View). x.image) same ∙ no_old_child w.state r step.before c step.was made, inr (is, none, ap is_some see)))
 
   by_step : (r : ℕ) → IsStepOf r w e → StepOf w r o t → q ≢ r → (x : Option View) → view w.state q ≡ x → Comes w e t q u
-  by_step r is step apart (Some v) was = by_other v (λ its. apart (let same : q ≡ r = some_pid q r (sym its.2 ∙ is.2) in same)) was
-    where
-      some_pid : (a b : ℕ) → Some a ≡ Some b → a ≡ b
-      some_pid a b x = cc
+  by_step r is step apart (Some v) was = by_other v (λ its. apart (let same : q ≡ r = same_Some q r (sym its.2 ∙ is.2) in same)) was
   by_step r is step apart None none = elim (step.state.no_more q (ap is_some see)) [
     | inl his ↦ absurd (apart (his ∙ pid_is w.state r (live w.state r) step.before step.was))
     | inr rest ↦ elim rest [
@@ -71,7 +67,7 @@ module _ (w t : World) (e : Event) (o : Outcome) (h : Happens w e o t) (q : ℕ)
       | inr apart ↦ by_step step.0 step.1 step.2 apart.1 (view w.state q) refl
     ]
     | inr outside ↦
-        let was = some_there (view w.state q) (sym (same_seen w t outside.processes q) ∙ ap is_some see) in
+        let was = the_value (view w.state q) (sym (same_seen w t outside.processes q) ∙ ap is_some see) in
         by_other was.0 (not_his q w t e o h (outside.outcome q)) was.1
   ]
 
@@ -114,7 +110,8 @@ module _ (w t : World) (e : Event) (o : Outcome) (h : Happens w e o t) (whole : 
   stored_so v was next stored =
       let at : (page * 4096 + i) / 4096 ≡ page = omega (arith, below) in
       let place : (page * 4096 + i) % 4096 ≡ i = omega (arith, below) in
-      sym (ap (λ (n : ℕ). byte_in (get u.image.pages n) ((page * 4096 + i) % 4096)) at ∙ ap (λ (o : Option Page). byte_in o ((page * 4096 + i) % 4096)) now.2.1 ∙ ap (slice_index now.2.0.bytes) place ∙ now.2.2)
+      sym (ap (λ (n : ℕ). byte_in (get u.image.pages n) ((page * 4096 + i) % 4096)) at
+      ∙ ap (λ (o : Option Page). byte_in o ((page * 4096 + i) % 4096)) now.2.1 ∙ ap (slice_index now.2.0.bytes) place ∙ now.2.2)
       ∙ stores_these_bytes v u (page * 4096 + i) (whole q v was) next stored
 
   by_step_put : (v : View) → view w.state q ≡ Some v → IsStepOf q w e → (own v).next ≡ Some u → Here

@@ -2,16 +2,15 @@
 use Rattle.std.proofs.Common.{◌≡◌, ℕ, List, [], ◌∷◌, refl, ap, sym, ◌∙◌, subst}
 use Rattle.std.specs.Prelude.{Option, None, Some, ℤ, IsSome, is_some, true, false, MatchOption}
 use Rattle.std.proofs.Common.{inl, inr, ◌⊎◌}
+use Rattle.std.proofs.lemmas.Option.{same_Some}
 use Rattle.kernel_spec.specs.views.View.{View, view}
 use Rattle.kernel_spec.specs.steps.Step.{own}
 use Rattle.kernel_spec.specs.runs.Run.{World, Event, Run, Outcome, Step_of, Happens, RunHappens, StepOf, StateAfter}
 use Rattle.kernel_spec.specs.laws.Worlds.{IsStepOf, Others, Moment, IsCut, AllBoth, TwoWorlds, SameStep, shared}
-use Rattle.kernel_spec.proofs.steps.Rest.{rest, same_view}
+use Rattle.kernel_spec.proofs.steps.ViewIsSharedAndRest.{rest, same_view}
 use Rattle.kernel_spec.specs.views.State.{live}
-use Rattle.kernel_spec.proofs.steps.Kept.{kept_others, pid_is}
-
-some_view : (a b : View) → Some a ≡ Some b → a ≡ b
-some_view a b e = cc
+use Rattle.kernel_spec.proofs.steps.OthersKeepTheRest.{kept_others, pid_is}
+use Rattle.kernel_spec.proofs.Common.{same_first, same_rest, the_value}
 
 pub own_step : (p : ℕ) (w t : World) (o : Outcome) (halted : Option ℤ) (current : Option ℕ) → RunHappens w halted current o t → halted ≡ None → current ≡ Some p → StepOf w p o t
 own_step p w t o (Some status) current h e f = absurd (let no : ⊥ = cc in no)
@@ -22,15 +21,14 @@ own_step p w t o None (Some q) h e f = let same : q ≡ p = cc in subst (λ (r :
 pub stepped : (p : ℕ) (w t : World) (o : Outcome) (v : View) → Happens w Run o t → IsStepOf p w Run → view w.state p ≡ Some v → (o ≡ Step_of p (own v).answer) × (view t.state p ≡ (own v).next)
 stepped p w t o v h is see =
     let step = own_step p w t o w.turns.halted w.turns.current h is.1 is.2 in
-    let same : step.before ≡ v = some_view step.before v (sym step.was ∙ see) in
-    (step.answer ∙ ap (λ (u : View). Step_of p (own u).answer) same, sym (ap (view t.state) (pid_is w.state p (live w.state p) step.before step.was)) ∙ step.state.next ∙ ap (λ (u : View). (own u).next) same)
+    let same : step.before ≡ v = same_Some step.before v (sym step.was ∙ see) in (
+      step.answer ∙ ap (λ (u : View). Step_of p (own u).answer) same,
+      sym (ap (view t.state) (pid_is w.state p (live w.state p) step.before step.was))
+          ∙ step.state.next ∙ ap (λ (u : View). (own u).next) same,
+    )
 
 same_moment : (m n : Moment) → m.before ≡ n.before → m.outcome ≡ n.outcome → m.after ≡ n.after → m ≡ n
 same_moment m n e f g = λ i. record { before = e i; outcome = f i; after = g i }
-
-some_there : (o : Option View) → IsSome o → (v : View) × (o ≡ Some v)
-some_there None h = absurd (let no : ⊥ = cc in no)
-some_there (Some v) h = (v, refl)
 
 -- ---- the first moment of a run that is cut at p's steps
 
@@ -47,12 +45,6 @@ record First (p : ℕ) (w t : World) (m : Moment) (ms : List Moment) : Type 0 wh
   after : view end.state p ≡ m.after
   last : IsSome m.after ⊎ (ms ≡ [])
   cut : IsCut p end later t ms
-
-first_is : (m n : Moment) (ms ns : List Moment) → m ∷ ms ≡ n ∷ ns → m ≡ n
-first_is m n ms ns e = cc
-
-rest_is : (m n : Moment) (ms ns : List Moment) → m ∷ ms ≡ n ∷ ns → ms ≡ ns
-rest_is m n ms ns e = cc
 
 first_of : (p : ℕ) (w t : World) (es : List (Event × Outcome)) (m : Moment) (ms : List Moment) → IsCut p w es t (m ∷ ms) → First p w t m ms
 first_of p w t [] m ms c = let none : m ∷ ms ≡ [] = c.1 in let no : ⊥ = cc in absurd no
@@ -72,8 +64,8 @@ first_of p w t (e ∷ es) m ms (mid, h, way) = elim way [
         cut = f.cut;
       }
   | inr (n, later, all, moment, last, cut) ↦
-      let first : n ≡ m = sym (first_is m n ms later all) in
-      let more : later ≡ ms = sym (rest_is m n ms later all) in
+      let first : n ≡ m = sym (same_first m n ms later all) in
+      let more : later ≡ ms = sym (same_rest m n ms later all) in
       record {
         start = w;
         end = mid;
@@ -97,8 +89,8 @@ module _ (p : ℕ) (v w x y : World) (m n : Moment) (ms ns : List Moment) (c : F
   first_moment u seev seew s =
       let keepv = kept_others p u v c.start c.passed c.others seev in
       let keepw = kept_others p u w d.start d.passed d.others seew in
-      let restv : rest m.before ≡ rest u = ap rest (some_view m.before keepv.after (sym c.see ∙ keepv.is)) ∙ keepv.same in
-      let restw : rest n.before ≡ rest u = ap rest (some_view n.before keepw.after (sym d.see ∙ keepw.is)) ∙ keepw.same in
+      let restv : rest m.before ≡ rest u = ap rest (same_Some m.before keepv.after (sym c.see ∙ keepv.is)) ∙ keepv.same in
+      let restw : rest n.before ≡ rest u = ap rest (same_Some n.before keepw.after (sym d.see ∙ keepw.is)) ∙ keepw.same in
       let same : m.before ≡ n.before = same_view m.before n.before (restv ∙ sym restw) s in
       let stepv = stepped p c.start c.end m.outcome m.before c.happens c.is c.see in
       let stepw = stepped p d.start d.end n.outcome n.before d.happens d.is d.see in
@@ -115,7 +107,7 @@ two_cuts : (p : ℕ) (v w x y : World) (es fs : List (Event × Outcome)) (ms ns 
 two_cuts p v w x y es fs [] ns live same c d s = tt
 two_cuts p v w x y es fs (m ∷ ms) [] live same c d s = tt
 two_cuts p v w x y es fs (m ∷ ms) (n ∷ ns) live same c d s =
-    let there = some_there (view v.state p) live in
+    let there = the_value (view v.state p) live in
     let f = first_of p v x es m ms c in
     let g = first_of p w y fs n ns d in
     let now : m ≡ n = first_moment p v w x y m n ms ns f g there.0 there.1 (sym same ∙ there.1) s.0 in (
@@ -141,19 +133,20 @@ module _ (v w t u : World) (a b : View) (same : a ≡ b) (here : StateAfter v.st
     ]
   ]
     where
-      by : (x y : Option View) → x ≡ y → MatchOption x ⊥ (λ child. c ≡ child.pid) → MatchOption x (Unit {0}) (λ child. view t.state child.pid ≡ Some child) → MatchOption y (Unit {0}) (λ child. view u.state child.pid ≡ Some child)
+      by : (x y : Option View) → x ≡ y → MatchOption x ⊥ (λ child. c ≡ child.pid)
+          → MatchOption x (Unit {0}) (λ child. view t.state child.pid ≡ Some child) → MatchOption y (Unit {0}) (λ child. view u.state child.pid ≡ Some child)
           → view u.state c ≡ view t.state c
       by None y e born seen other = absurd born
       by (Some x) None e born seen other = let no : ⊥ = cc in absurd no
       by (Some x) (Some y) e born seen other =
-          let one : x ≡ y = some_view x y e in
+          let one : x ≡ y = same_Some x y e in
           ap (view u.state) (born ∙ ap (λ (z : View). z.pid) one) ∙ other ∙ ap Some (sym one) ∙ sym seen ∙ ap (view t.state) (sym born)
 
 pub same_step : SameStep
 same_step p v w t u o q same isv isw hv hw =
     let a = own_step p v t o v.turns.halted v.turns.current hv isv.1 isv.2 in
     let b = own_step p w u q w.turns.halted w.turns.current hw isw.1 isw.2 in
-    let one : a.before ≡ b.before = some_view a.before b.before (sym a.was ∙ same ∙ b.was) in
+    let one : a.before ≡ b.before = same_Some a.before b.before (sym a.was ∙ same ∙ b.was) in
     let pid : a.before.pid ≡ p = pid_is v.state p (live v.state p) a.before a.was in (
       a.answer ∙ ap (λ (x : View). Step_of p (own x).answer) one ∙ sym b.answer,
       (stepped p v t o a.before hv isv a.was).1 ∙ ap (λ (x : View). (own x).next) one ∙ sym (stepped p w u q b.before hw isw b.was).1,

@@ -1,11 +1,11 @@
 -- What a step does with descriptors: none that stays in use changes between an end of a pipe and something else; a step that opens one closes none; and
 -- one that makes a process opens and closes none.
-use Rattle.std.proofs.Common.{◌≡◌, ℕ, suc, ◌<◌, ◌+◌, ◌-◌, ◌%◌, ◌++◌, Bool, true, false, cond, not, ◌&&◌, ◌||◌, List, length, refl, ap, sym, ◌∙◌, take, drop, inl, inr}
-use Rattle.std.specs.Prelude.{Option, None, Some, ℤ, pos, negsuc, nat_eq, nat_lt, nat_le, IsSome, is_some, is_none, option_map, slice_get, Result, Ok, Err}
+use Rattle.std.proofs.Common.{◌≡◌, ℕ, suc, ◌<◌, ◌+◌, ◌-◌, ◌++◌, Bool, true, false, cond, not, ◌&&◌, ◌||◌, List, length, refl, ap, sym, ◌∙◌, take, drop, inl, inr}
+use Rattle.std.specs.Prelude.{Option, None, Some, ℤ, pos, negsuc, nat_eq, nat_lt, nat_le, IsSome, is_some, is_none, slice_get, Result, Ok, Err}
 use Rattle.std.specs.List.{list_any}
 use Rattle.std.specs.Int.{cast_unsigned, w32}
 use Rattle.std.proofs.lemmas.Bool.Decides.{eqb_tells}
-use Rattle.std.proofs.lemmas.Bool.{ltb-true}
+use Rattle.std.proofs.lemmas.Option.{none-some, same_Some}
 use Rattle.xk_base.specs.declared.limits.TheConstants.{NOFILE, SIZE_LIMIT, MAXPATH, MAXARG, ARG_BYTES}
 use Rattle.xk_base.specs.declared.errors.ExecError.{ExecError}
 use Rattle.xk_base.specs.Words.{le_bytes}
@@ -19,7 +19,7 @@ use Rattle.console_core.specs.Reads.{Pulled, pulled}
 use Rattle.file_table.specs.declared.open_file.End.TheVariants.{Reading, Writing}
 use Rattle.proc_table.specs.declared.process.Call.{Call}
 use Rattle.kernel_spec.specs.steps.Instruction.{next_instruction}
-use Rattle.kernel_spec.specs.views.Words.{CLOCK_ROUND, c_int, minus_one, with_value}
+use Rattle.kernel_spec.specs.views.Words.{c_int, minus_one, with_value}
 use Rattle.kernel_spec.specs.rows.Buffers.{readable, writable, text_at, texts_at, no_slashes, grown, shrunk}
 use Rattle.kernel_spec.specs.views.PipeEnds.{there, fit, has_bytes}
 use Rattle.kernel_spec.specs.views.Programs.{program_bytes, program_named}
@@ -27,16 +27,24 @@ use Rattle.kernel_spec.specs.views.Processes.{child_status}
 use Rattle.kernel_spec.specs.views.State.{ProgramFile}
 use Rattle.kernel_spec.specs.views.View.{View, Descriptors, Descriptor, Shown, Shown_terminal, Shown_file, Shown_pipe, named, rename, pipe_name, shown_pipe_name, in_use}
 use Rattle.kernel_spec.specs.steps.Own.{Own, Exited, Faulted}
-use Rattle.kernel_spec.specs.rows.Tables.{lowest_free, lowest_free_above, without_descriptor, change_pipes, change_shown, changed, change_pipe, advance, advanced, advance_shown, one_more_on, one_less_on, pipes_given_up}
-use Rattle.kernel_spec.specs.rows.Calls.{Row, Fork, Exit, Wait, Pipe_row, Read, Kill, Exec, Dup, Getpid, Sbrk, Sleep, Uptime, Open, Write, Close, Sbrklazy, row_of, perform, answered, gone, done, refused, waits, least_zombie, has_child, done_at, next_bytes}
+use Rattle.kernel_spec.specs.rows.Tables.{lowest_free, lowest_free_above, without_descriptor, change_pipes, change_shown, changed, change_pipe}
+use Rattle.kernel_spec.specs.rows.Tables.{advance, advanced, advance_shown, one_more_on, one_less_on, pipes_given_up}
+use Rattle.kernel_spec.specs.rows.Calls.{Row, Fork, Exit, Wait, Pipe_row, Read, Kill, Exec, Dup, Getpid}
+use Rattle.kernel_spec.specs.rows.Calls.{Sbrk, Sleep, Uptime, Open, Write, Close, Sbrklazy, row_of, perform, answered}
+use Rattle.kernel_spec.specs.rows.Calls.{gone, done, refused, waits, least_zombie, has_child, done_at, next_bytes}
 use Rattle.kernel_spec.specs.steps.Step.{own, unless_killed, going_on, after_instruction, call_begun, begun, stored}
 use Rattle.kernel_spec.specs.rows.Terminal.{room_for}
 use Rattle.kernel_spec.specs.steps.Ticks.{ticks_since, has_passed}
-use Rattle.kernel_spec.proofs.steps.Least.{least_passes}
-use Rattle.kernel_spec.proofs.steps.Names.{named_at, pipe_renamed}
-use Rattle.kernel_spec.proofs.rows.RowParts.{perform_parts, perform_row, unless, unless_nothing, moving, length_of_int, reaped, without_child, piped, piped_from, with_pipe, read_on, read_from, write_on, write_to, kill_pid, killed_by, exec_program, exec_path, dup_at, dup_on, dup_number, close_at, close_on, close_number, sbrk_by, shrink_to, lazy_by, exec_loaded, running, sleep_for, open_at, open_path, opened_as, kind_named, fork_parts, forked, cannot_fork, with_child}
+use Rattle.kernel_spec.proofs.steps.LeastPasses.{least_passes}
+use Rattle.kernel_spec.proofs.steps.NamesAreChosenAgain.{named_at, pipe_renamed}
+use Rattle.kernel_spec.proofs.rows.RowParts.{perform_parts, perform_row, unless, unless_nothing, moving, length_of_int, reaped, piped}
+use Rattle.kernel_spec.proofs.rows.RowParts.{piped_from, with_pipe, read_on, read_from, write_on, write_to, killed_by, exec_program}
+use Rattle.kernel_spec.proofs.rows.RowParts.{exec_path, dup_at, dup_on, dup_number, close_at, sbrk_by, shrink_to, lazy_by}
+use Rattle.kernel_spec.proofs.rows.RowParts.{exec_loaded, sleep_for, open_at, open_path, opened_as, kind_named, forked, cannot_fork}
+use Rattle.kernel_spec.proofs.rows.RowParts.{with_child, close_number, close_on, fork_parts, kill_pid, running, without_child}
 use Rattle.kernel_spec.proofs.rows.Touched.{touched_view}
 use Rattle.kernel_spec.proofs.rows.ByTouch.{by_call, by_instruction_apart}
+use Rattle.kernel_spec.proofs.Common.{is_some-map, named_low, none_from_is_none}
 
 -- it is an end of a pipe
 abbrev pub is_end : Option Descriptor → Bool
@@ -93,7 +101,8 @@ advance_same file n t d = by (t d)
     shown (Shown_file program offset) = refl
     shown (Shown_pipe name end pipe) = refl
 
-    at : (x : Descriptor) (b : Bool) → (is_some (cond b (Some (record x { shown = advance_shown n x.shown })) (Some x)) ≡ true) × (is_end (cond b (Some (record x { shown = advance_shown n x.shown })) (Some x)) ≡ is_end (Some x))
+    at : (x : Descriptor) (b : Bool) → (is_some (cond b (Some (record x { shown = advance_shown n x.shown })) (Some x)) ≡ true)
+        × (is_end (cond b (Some (record x { shown = advance_shown n x.shown })) (Some x)) ≡ is_end (Some x))
     at x true = (refl, shown x.shown)
     at x false = (refl, refl)
 
@@ -111,24 +120,12 @@ less_same Shown_terminal t = same_table t
 less_same (Shown_file program offset) t = same_table t
 less_same (Shown_pipe name end pipe) t = change_same _ t
 
-map_some : {A B : Type 0} (f : A → B) (o : Option A) → is_some (option_map f o) ≡ is_some o
-map_some f None = refl
-map_some f (Some a) = refl
-
 -- names chosen anew
 pub named_same : (t : Descriptors) (d : ℕ) → d < NOFILE → (is_some (named t d) ≡ is_some (t d)) × (is_end (named t d) ≡ is_end (t d))
 named_same t d below = (
-  ap is_some (named_at t d below) ∙ map_some (rename t) (t d),
-  ap is_end (named_at t d below) ∙ ap is_some (pipe_renamed t (t d)) ∙ map_some _ (pipe_name (t d)),
+  ap is_some (named_at t d below) ∙ is_some-map (rename t) (t d),
+  ap is_end (named_at t d below) ∙ ap is_some (pipe_renamed t (t d)) ∙ is_some-map _ (pipe_name (t d)),
 )
-
-named_below : (t : Descriptors) (d : ℕ) → IsSome (named t d) → d < NOFILE
-unfolding named
-named_below t d there = by (nat_lt d NOFILE) refl there
-  where
-    by : (b : Bool) → nat_lt d NOFILE ≡ b → IsSome (cond b (option_map (rename t) (t d)) None) → d < NOFILE
-    by true e h = ltb-true d NOFILE e
-    by false e h = let no : ⊥ = cc in absurd no
 
 -- another descriptor at a number that is free
 value_adds : (t u : Descriptors) (k : ℕ) (o : Option Descriptor) → t k ≡ None → Adds t u → Adds t (with_value u k o)
@@ -150,7 +147,7 @@ value_closes t u k h d there = by (nat_eq d k) there
 
 closed_named : (t u : Descriptors) → Closes t u → Closes t (named u)
 closed_named t u h d there =
-    let same = named_same u d (named_below u d there) in
+    let same = named_same u d (named_low u d there) in
     let was = h d (sym same.0 ∙ there) in
     (was.0, same.1 ∙ was.1)
 
@@ -166,11 +163,7 @@ module _ (t : Descriptors) (low : (d : ℕ) → IsSome (t d) → d < NOFILE) whe
       (same.0 ∙ is.0, same.1 ∙ is.1)
 
   free_is : (k : ℕ) → is_none (t k) ≡ true → t k ≡ None
-  free_is k e = by (t k) e
-    where
-      by : (o : Option Descriptor) → is_none o ≡ true → o ≡ None
-      by None h = refl
-      by (Some x) h = let no : ⊥ = cc in absurd no
+  free_is k e = none_from_is_none (t k) e
 
   lowest_is_free : (k : ℕ) → lowest_free t ≡ Some k → t k ≡ None
   lowest_is_free k e = free_is k (least_passes NOFILE (λ d. is_none (t d)) k e).0
@@ -180,30 +173,28 @@ module _ (t : Descriptors) (low : (d : ℕ) → IsSome (t d) → d < NOFILE) whe
 
 -- ---- every row
 
-some_view : (a b : View) → Some a ≡ Some b → a ≡ b
-some_view a b e = cc
-
 uses_added : (t : Descriptors) (u : View) (o : Own) → o.next ≡ Some u → o.child ≡ None → Adds t u.descriptors → Uses t o
 uses_added t u o next none h = record {
-  kind = λ n e d before after. ap (λ (x : View). is_end (x.descriptors d)) (some_view n u (sym e ∙ next)) ∙ (h d before).1;
-  opens = λ n e d k new after before. ap (λ (x : View). is_some (x.descriptors k)) (some_view n u (sym e ∙ next)) ∙ (h k before).0;
+  kind = λ n e d before after. ap (λ (x : View). is_end (x.descriptors d)) (same_Some n u (sym e ∙ next)) ∙ (h d before).1;
+  opens = λ n e d k new after before. ap (λ (x : View). is_some (x.descriptors k)) (same_Some n u (sym e ∙ next)) ∙ (h k before).0;
   bears = λ n e born k. let no : false ≡ true = sym (ap is_some none) ∙ born in let bad : ⊥ = cc in absurd bad;
   parent = λ born. ap is_some next;
 }
 
 uses_same : (t : Descriptors) (u : View) (o : Own) → o.next ≡ Some u → Same t u.descriptors → Uses t o
 uses_same t u o next h = record {
-  kind = λ n e d before after. ap (λ (x : View). is_end (x.descriptors d)) (some_view n u (sym e ∙ next)) ∙ (h d).1;
-  opens = λ n e d k new after before. ap (λ (x : View). is_some (x.descriptors k)) (some_view n u (sym e ∙ next)) ∙ (h k).0 ∙ before;
-  bears = λ n e born k. ap (λ (x : View). is_some (x.descriptors k)) (some_view n u (sym e ∙ next)) ∙ (h k).0;
+  kind = λ n e d before after. ap (λ (x : View). is_end (x.descriptors d)) (same_Some n u (sym e ∙ next)) ∙ (h d).1;
+  opens = λ n e d k new after before. ap (λ (x : View). is_some (x.descriptors k)) (same_Some n u (sym e ∙ next)) ∙ (h k).0 ∙ before;
+  bears = λ n e born k. ap (λ (x : View). is_some (x.descriptors k)) (same_Some n u (sym e ∙ next)) ∙ (h k).0;
   parent = λ born. ap is_some next;
 }
 
 uses_closed : (t : Descriptors) (u : View) (o : Own) → o.next ≡ Some u → o.child ≡ None → Closes t u.descriptors → Uses t o
 uses_closed t u o next none h = record {
-  kind = λ n e d before after. ap (λ (x : View). is_end (x.descriptors d)) (some_view n u (sym e ∙ next)) ∙ (h d (ap (λ (x : View). is_some (x.descriptors d)) (some_view u n (sym next ∙ e)) ∙ after)).1;
+  kind = λ n e d before after. ap (λ (x : View). is_end (x.descriptors d)) (same_Some n u (sym e ∙ next))
+      ∙ (h d (ap (λ (x : View). is_some (x.descriptors d)) (same_Some u n (sym next ∙ e)) ∙ after)).1;
   opens = λ n e d k new after before.
-      let was : IsSome (t d) = (h d (ap (λ (x : View). is_some (x.descriptors d)) (some_view u n (sym next ∙ e)) ∙ after)).0 in
+      let was : IsSome (t d) = (h d (ap (λ (x : View). is_some (x.descriptors d)) (same_Some u n (sym next ∙ e)) ∙ after)).0 in
       let no : false ≡ true = sym (ap is_some new) ∙ was in let bad : ⊥ = cc in absurd bad;
   bears = λ n e born k. let no : false ≡ true = sym (ap is_some none) ∙ born in let bad : ⊥ = cc in absurd bad;
   parent = λ born. ap is_some next;
@@ -211,14 +202,11 @@ uses_closed t u o next none h = record {
 
 uses_gone : (t : Descriptors) (o : Own) → o.next ≡ None → o.child ≡ None → Uses t o
 uses_gone t o none childless = record {
-  kind = λ n e d before after. absurd (no n (sym none ∙ e));
-  opens = λ n e d k new after before. absurd (no n (sym none ∙ e));
-  bears = λ n e born k. absurd (no n (sym none ∙ e));
+  kind = λ n e d before after. absurd (none-some n (sym none ∙ e));
+  opens = λ n e d k new after before. absurd (none-some n (sym none ∙ e));
+  bears = λ n e born k. absurd (none-some n (sym none ∙ e));
   parent = λ born. let bad : false ≡ true = sym (ap is_some childless) ∙ born in let worse : ⊥ = cc in absurd worse;
 }
-  where
-    no : (n : View) → None ≡ Some n → ⊥
-    no n e = cc
 
 module _ (c : Call) (v : View) where
   abbrev Fine : Own → Type 0
@@ -257,14 +245,16 @@ module _ (c : Call) (v : View) where
   told_row false value u w h g = same_done value w g
 
   reaped_row : (o : Option ℕ) → Fine (reaped c v o)
-  reaped_row (Some q) = told_row (nat_eq c.a0 0) (pos q) (without_child q v) (record (without_child q v) { image = write_image v.image c.a0 (le_bytes 4 (cast_unsigned w32 (child_status (v.children q)))) }) plain plain
+  reaped_row (Some q) = told_row (nat_eq c.a0 0) (pos q) (without_child q v)
+      (record (without_child q v) { image = write_image v.image c.a0 (le_bytes 4 (cast_unsigned w32 (child_status (v.children q)))) }) plain plain
   reaped_row None = either (has_child v) (waits c 0 v) (refused c v) (same_waits 0 v plain) refusal
 
   read_from_row : (n file : ℕ) (x : Shown) → Fine (read_from c v n file x)
   read_from_row n file Shown_terminal =
       let p : Pulled = pulled (nat_eq c.moved 0) (n - c.moved) v.console.committed in
       let after : View = record v { image = write_image v.image (c.a1 + c.moved) p.taken; console = record v.console { committed = p.left } } in
-      either p.ended (done c (pos (c.moved + length p.taken)) after) (waits c (c.moved + length p.taken) after) (same_done (pos (c.moved + length p.taken)) after plain) (same_waits (c.moved + length p.taken) after plain)
+      either p.ended (done c (pos (c.moved + length p.taken)) after) (waits c (c.moved + length p.taken) after)
+      (same_done (pos (c.moved + length p.taken)) after plain) (same_waits (c.moved + length p.taken) after plain)
   read_from_row n file (Shown_file program offset) =
       let bytes : List ℕ = take n (drop offset (program_bytes (slice_get v.programs program))) in
       same_done (pos (length bytes)) (record v { image = write_image v.image c.a1 bytes; descriptors = advance file (length bytes) v.descriptors }) (advance_same file (length bytes) v.descriptors)
@@ -282,11 +272,13 @@ module _ (c : Call) (v : View) where
   done_at_row n moved u h = either (nat_le n moved) (done c (pos n) u) (waits c moved u) (same_done (pos n) u h) (same_waits moved u h)
 
   write_to_row : (n : ℕ) (x : Shown) → Fine (write_to c v n x)
-  write_to_row n Shown_terminal = done_at_row n (c.moved + room_for v.console (n - c.moved)) (record v { console = record v.console { to_send = v.console.to_send ++ next_bytes c v (room_for v.console (n - c.moved)) } }) plain
+  write_to_row n Shown_terminal = done_at_row n (c.moved + room_for v.console (n - c.moved))
+      (record v { console = record v.console { to_send = v.console.to_send ++ next_bytes c v (room_for v.console (n - c.moved)) } }) plain
   write_to_row n (Shown_file program offset) = refusal
   write_to_row n (Shown_pipe name end pipe) = fine_unless (nat_eq pipe.readers 0)
       (λ _. done_at c n (c.moved + fit pipe (n - c.moved)) (record v { descriptors = change_pipe name (with_more (next_bytes c v (fit pipe (n - c.moved))) pipe) v.descriptors }))
-      (done_at_row n (c.moved + fit pipe (n - c.moved)) (record v { descriptors = change_pipe name (with_more (next_bytes c v (fit pipe (n - c.moved))) pipe) v.descriptors }) (change_same _ v.descriptors))
+      (done_at_row n (c.moved + fit pipe (n - c.moved))
+      (record v { descriptors = change_pipe name (with_more (next_bytes c v (fit pipe (n - c.moved))) pipe) v.descriptors }) (change_same _ v.descriptors))
 
   write_on_row : (o : Option Descriptor) → Fine (write_on c v o)
   write_on_row None = refusal
@@ -297,7 +289,8 @@ module _ (c : Call) (v : View) where
   kill_row (negsuc k) = refusal
   kill_row (pos q) = fine_unless (nat_eq q 0) (λ _. killed_by c v q)
       (fine_unless (not (list_any (nat_eq q) v.pids)) (λ _. record (done c (pos 0) (record v { killed = v.killed || nat_eq q v.pid })) { marked = Some q })
-      (uses_same v.descriptors (answered (pos 0) (record v { killed = v.killed || nat_eq q v.pid })) (record (done c (pos 0) (record v { killed = v.killed || nat_eq q v.pid })) { marked = Some q }) refl plain))
+      (uses_same v.descriptors (answered (pos 0) (record v { killed = v.killed || nat_eq q v.pid }))
+      (record (done c (pos 0) (record v { killed = v.killed || nat_eq q v.pid })) { marked = Some q }) refl plain))
 
   loaded_row : (r : Result Loaded ExecError) → Fine (exec_loaded c v r)
   loaded_row (Err e) = refusal
@@ -344,8 +337,10 @@ module _ (c : Call) (v : View) where
   -- ---- the rows that use one descriptor more
 
   module _ (low : (d : ℕ) → IsSome (v.descriptors d) → d < NOFILE) where
-    added : (value : ℤ) (u : View) (t : Descriptors) (k : ℕ) (o : Option Descriptor) → Adds v.descriptors t → v.descriptors k ≡ None → Fine (done c value (record u { descriptors = named (with_value t k o) }))
-    added value u t k o h free = uses_added v.descriptors (answered value (record u { descriptors = named (with_value t k o) })) (done c value (record u { descriptors = named (with_value t k o) })) refl refl
+    added : (value : ℤ) (u : View) (t : Descriptors) (k : ℕ) (o : Option Descriptor) → Adds v.descriptors t → v.descriptors k ≡ None
+        → Fine (done c value (record u { descriptors = named (with_value t k o) }))
+    added value u t k o h free = uses_added v.descriptors (answered value (record u { descriptors = named (with_value t k o) }))
+        (done c value (record u { descriptors = named (with_value t k o) })) refl refl
         (added_named v.descriptors low (with_value t k o) (value_adds v.descriptors t k o free h))
 
     adds_none : Adds v.descriptors v.descriptors
@@ -364,7 +359,8 @@ module _ (c : Call) (v : View) where
     piped_row r free None e = refusal
     piped_row r free (Some w) e =
         let one : Descriptors = with_value v.descriptors r (Some (record { file = r; read = true; write = false; shown = Shown_pipe r Reading new_pipe })) in
-        added (pos 0) (record (with_pipe r w v) { image = write_image v.image c.a0 (le_bytes 4 r ++ le_bytes 4 w) }) (named one) w (Some (record { file = w; read = false; write = true; shown = Shown_pipe r Writing new_pipe }))
+        added (pos 0) (record (with_pipe r w v) { image = write_image v.image c.a0 (le_bytes 4 r ++ le_bytes 4 w) }) (named one) w
+        (Some (record { file = w; read = false; write = true; shown = Shown_pipe r Writing new_pipe }))
         (added_named v.descriptors low one (value_adds v.descriptors v.descriptors r (Some (record { file = r; read = true; write = false; shown = Shown_pipe r Reading new_pipe })) free adds_none))
         (next_is_free v.descriptors low r w e)
 
@@ -417,8 +413,10 @@ module _ (v : View) (low : (d : ℕ) → IsSome (v.descriptors d) → d < NOFILE
   perform_use c = by_call (Uses v.descriptors) c v (refusal c v) (λ image free touched settled. parts_use c (touched_view v image free) low)
 
   after_use : (image : Image) (free : ℕ) (st : Step) → (st ≡ Ecall → ⊥) → Uses v.descriptors (after_instruction (touched_view v image free) st)
-  after_use image free (Next r None) other = uses_same v.descriptors (stored (touched_view v image free) r None) (after_instruction (touched_view v image free) (Next r None)) refl (same_table v.descriptors)
-  after_use image free (Next r (Some st)) other = uses_same v.descriptors (stored (touched_view v image free) r (Some st)) (after_instruction (touched_view v image free) (Next r (Some st))) refl (same_table v.descriptors)
+  after_use image free (Next r None) other = uses_same v.descriptors (stored (touched_view v image free) r None)
+      (after_instruction (touched_view v image free) (Next r None)) refl (same_table v.descriptors)
+  after_use image free (Next r (Some st)) other = uses_same v.descriptors (stored (touched_view v image free) r (Some st))
+      (after_instruction (touched_view v image free) (Next r (Some st))) refl (same_table v.descriptors)
   after_use image free Ecall other = absurd (other refl)
   after_use image free (Fault cause) other = uses_gone v.descriptors (gone (Faulted cause) (touched_view v image free)) refl refl
 
@@ -429,7 +427,8 @@ module _ (v : View) (low : (d : ℕ) → IsSome (v.descriptors d) → d < NOFILE
   instruction_use (Fault cause) = uses_gone v.descriptors (gone (Faulted cause) v) refl refl
 
   going_use : (o : Option Call) → Uses v.descriptors (going_on v o)
-  going_use None = by_instruction_apart (λ st o. Uses v.descriptors o) v (instruction_use (next_instruction v.regs v.image)) (λ image free touched other. after_use v low image free (next_instruction v.regs image) other)
+  going_use None = by_instruction_apart (λ st o. Uses v.descriptors o) v (instruction_use (next_instruction v.regs v.image))
+      (λ image free touched other. after_use v low image free (next_instruction v.regs image) other)
   going_use (Some c) = perform_use v low c
 
   unless_use : (b : Bool) → Uses v.descriptors (unless_killed v b)

@@ -26,17 +26,20 @@ use Rattle.kernel_spec.specs.steps.Updates.{own_state, alone_state, with_answer,
 use Rattle.kernel_spec.specs.runs.Run.{StateAfter, FilesAfter}
 use Rattle.kernel_spec.specs.laws.RowLaws.{After, IsBetweenCalls, InstructionLaw, EcallLaw, ResumeLaw, EndLaw, AnswerLaw, WaitingLaw, TouchLaw, begun_live, begun_state}
 use Rattle.kernel_spec.specs.others.Quiet.{file_at, pipe_at, pipe_of_file}
-use Rattle.kernel_spec.proofs.steps.Begun.{with_call, state_begun, same_file_at, same_view_of, quiet_begun, ecall_own}
-use Rattle.kernel_spec.proofs.steps.Change.{alone, after_alone, view_alone, done_is, waits_is}
-use Rattle.kernel_spec.proofs.steps.Tell.{own_table_tells}
-use Rattle.kernel_spec.proofs.steps.AfterChange.{after_same_files}
-use Rattle.kernel_spec.proofs.rows.RowParts.{running}
+use Rattle.kernel_spec.proofs.steps.BegunIsAsBefore.{with_call, state_begun, same_file_at, same_view_of, quiet_begun, ecall_own}
+use Rattle.kernel_spec.proofs.steps.ChangeIsSeen.{alone, after_alone, view_alone, done_is, waits_is}
+use Rattle.kernel_spec.proofs.steps.TableTells.{own_table_tells}
+use Rattle.kernel_spec.proofs.steps.ChangeIsTold.{after_same_files}
 use Rattle.kernel_spec.proofs.rows.PartLaws.{ExecPart}
+use Rattle.kernel_spec.proofs.rows.RowParts.{running}
 
 module _ (s : State) (p : ℕ) (old : Live) (was : get s.processes p ≡ Some (Alive old)) (r : Registers) (i : Image) (c : Option Call) (k : Bool) (console : Console) (free : ℕ) where
-  pub alone_law : (a : Answer) → gone_with a ≡ None → StateAfter s (view_of s p old) (goes_on a (view_of (after_alone s p old was r i c k console free) p (alone s p old was r i c k console free))) (after_alone s p old was r i c k console free)
+  pub alone_law : (a : Answer) → gone_with a ≡ None → StateAfter s (view_of s p old)
+      (goes_on a (view_of (after_alone s p old was r i c k console free) p (alone s p old was r i c k console free)))
+      (after_alone s p old was r i c k console free)
   unfolding view_of
-  alone_law a stays = after_same_files s p old was r i c k s.files s.pipes console free (λ f. refl) a stays (named (numbered (after_alone s p old was r i c k console free) (alone s p old was r i c k console free)))
+  alone_law a stays = after_same_files s p old was r i c k s.files s.pipes console free (λ f. refl) a stays
+      (named (numbered (after_alone s p old was r i c k console free) (alone s p old was r i c k console free)))
       (own_table_tells s (after_alone s p old was r i c k console free) p old (ap live_part was) (λ f. refl))
       (record { file = λ f other h. refl; pipe = λ j other h. refl; kinds = λ f other. refl })
 
@@ -54,8 +57,10 @@ answer s p l c value image console free was =
 pub waiting : WaitingLaw
 unfolding view_of
 waiting s p l c moved image console free was =
-    by_own s (alone_state p (in_call (record c { moved = moved }) (record l { image = image })) console free s) (view_of s p l) (waits c moved (record (view_of s p l) { image = image; console = console; free = free }))
-    (goes_on (Blocked c.number) (view_of (alone_state p (in_call (record c { moved = moved }) (record l { image = image })) console free s) p (in_call (record c { moved = moved }) (record l { image = image }))))
+    by_own s (alone_state p (in_call (record c { moved = moved }) (record l { image = image })) console free s) (view_of s p l)
+    (waits c moved (record (view_of s p l) { image = image; console = console; free = free }))
+    (goes_on (Blocked c.number) (view_of (alone_state p (in_call (record c { moved = moved }) (record l { image = image })) console free s) p
+    (in_call (record c { moved = moved }) (record l { image = image }))))
     (waits_is s p l was c image console free moved)
     (alone_law s p l was l.regs image (Some (record c { moved = moved })) l.killed console free (Blocked c.number) refl)
 
@@ -63,17 +68,24 @@ pub exec : ExecPart
 unfolding view_of
 exec s p l c new was =
     by_own s (alone_state p (with_answer (pos new.argc) (started new l)) s.console (s.free + price l.image - price new.image) s) (view_of s p l) (done c (pos new.argc) (running new (view_of s p l)))
-    (goes_on (Called c.number (pos new.argc)) (view_of (alone_state p (with_answer (pos new.argc) (started new l)) s.console (s.free + price l.image - price new.image) s) p (with_answer (pos new.argc) (started new l))))
-    (ap (goes_on (Called c.number (pos new.argc))) (view_alone s p l was (with_a0 (with_pc (put (put l.regs SP new.sp) A1 new.sp) new.pc) (word (pos new.argc))) new.image None l.killed s.console (s.free + price l.image - price new.image)))
-    (alone_law s p l was (with_a0 (with_pc (put (put l.regs SP new.sp) A1 new.sp) new.pc) (word (pos new.argc))) new.image None l.killed s.console (s.free + price l.image - price new.image) (Called c.number (pos new.argc)) refl)
+    (goes_on (Called c.number (pos new.argc)) (view_of
+    (alone_state p (with_answer (pos new.argc) (started new l)) s.console (s.free + price l.image - price new.image) s) p
+    (with_answer (pos new.argc) (started new l))))
+    (ap (goes_on (Called c.number (pos new.argc))) (view_alone s p l was
+    (with_a0 (with_pc (put (put l.regs SP new.sp) A1 new.sp) new.pc) (word (pos new.argc))) new.image None l.killed s.console
+    (s.free + price l.image - price new.image)))
+    (alone_law s p l was (with_a0 (with_pc (put (put l.regs SP new.sp) A1 new.sp) new.pc) (word (pos new.argc))) new.image None l.killed s.console
+    (s.free + price l.image - price new.image) (Called c.number (pos new.argc)) refl)
 
 -- ---- what a step begins with
 
 -- where no page comes first
-pub begins : (s : State) (p : ℕ) (l : Live) → IsBetweenCalls l → before_instruction (view_of s p l) ≡ view_of s p l → (st : Step) → next_instruction l.regs l.image ≡ st → own (view_of s p l) ≡ after_instruction (view_of s p l) st
+pub begins : (s : State) (p : ℕ) (l : Live) → IsBetweenCalls l → before_instruction (view_of s p l) ≡ view_of s p l → (st : Step)
+    → next_instruction l.regs l.image ≡ st → own (view_of s p l) ≡ after_instruction (view_of s p l) st
 unfolding own view_of
 begins s p l runs there st is =
-    ap (unless_killed (view_of s p l)) runs.0 ∙ ap (going_on (view_of s p l)) runs.1 ∙ (λ i. after_instruction (there i) (next_instruction (there i).regs (there i).image)) ∙ ap (after_instruction (view_of s p l)) is
+    ap (unless_killed (view_of s p l)) runs.0 ∙ ap (going_on (view_of s p l)) runs.1
+    ∙ (λ i. after_instruction (there i) (next_instruction (there i).regs (there i).image)) ∙ ap (after_instruction (view_of s p l)) is
 
 pub before-next : (s : State) (p : ℕ) (l : Live) (r : Registers) (st : Option Store) → next_instruction l.regs l.image ≡ Next r st → before_instruction (view_of s p l) ≡ view_of s p l
 unfolding view_of
@@ -158,7 +170,9 @@ pub touched : TouchLaw
 unfolding view_of touch
 touched s p l pages was fits = (
   λ absent. ap (λ b. cond b (at_price (brought pages l.image) (view_of s p l)) (Some (view_of s p l))) absent
-      ∙ ap (λ b. cond b None (Some (record (view_of s p l) { image = brought pages l.image; free = s.free + price l.image - price (brought pages l.image) }))) (le-ltb s.free (price (brought pages l.image) - price l.image) (omega (arith, fits)))
+      ∙ ap (λ b. cond b None (Some (record (view_of s p l)
+      { image = brought pages l.image; free = s.free + price l.image - price (brought pages l.image) })))
+      (le-ltb s.free (price (brought pages l.image) - price l.image) (omega (arith, fits)))
       ∙ ap Some (view_alone s p l was l.regs (brought pages l.image) l.call l.killed s.console (s.free + price l.image - price (brought pages l.image))),
   λ o t h. mid_after s p l was l.regs (brought pages l.image) l.call (s.free + price l.image - price (brought pages l.image)) o t h,
 )

@@ -20,7 +20,7 @@ use Rattle.kernel_spec.specs.steps.Step.{own, unless_killed, going_on, after_ins
 use Rattle.kernel_spec.specs.others.Quiet.{Quiet, seen, seen_descriptor, seen_children, or_child, left_at, file_at, file_of, pipe_at, pipe_of_file, is_same}
 use Rattle.kernel_spec.specs.others.Quiet as quiet
 use Rattle.kernel_spec.specs.steps.Updates.{set_live, alone_state}
-use Rattle.kernel_spec.proofs.steps.SetLive.{view-set_live, same_child, live-set_live_here, live-set_live_there}
+use Rattle.kernel_spec.proofs.steps.ViewsAfterSetLive.{view-set_live, same_child, live-set_live_here, live-set_live_there}
 
 module _ (s : State) (p : ℕ) (old : Live) (was : get s.processes p ≡ Some (Alive old)) (r : Registers) (i : Image) (c : Option Call) (free : ℕ) where
   abbrev pub with_call : Live
@@ -31,7 +31,8 @@ module _ (s : State) (p : ℕ) (old : Live) (was : get s.processes p ≡ Some (A
 
   pub same_file_at : (q d : ℕ) → file_at state_begun q d ≡ file_at s q d
   same_file_at q d = elim (eqb_tells q p) [
-    | inl h ↦ ap (λ (n : ℕ). file_at state_begun n d) h.1 ∙ ap (λ (o : Option Live). file_of o d) (live-set_live_here s p old with_call was refl) ∙ sym (ap (λ (o : Option Live). file_of o d) (ap live_part was)) ∙ sym (ap (λ (n : ℕ). file_at s n d) h.1)
+    | inl h ↦ ap (λ (n : ℕ). file_at state_begun n d) h.1 ∙ ap (λ (o : Option Live). file_of o d) (live-set_live_here s p old with_call was refl)
+        ∙ sym (ap (λ (o : Option Live). file_of o d) (ap live_part was)) ∙ sym (ap (λ (n : ℕ). file_at s n d) h.1)
     | inr h ↦ ap (λ (o : Option Live). file_of o d) (live-set_live_there s p old with_call was refl q h.1)
   ]
 
@@ -41,7 +42,8 @@ module _ (s : State) (p : ℕ) (old : Live) (was : get s.processes p ≡ Some (A
   same_children : (g : Option ℤ) (w : View) → seen_children g (view_of state_begun p with_call) (record w { free = free }) ≡ seen_children g (view_of s p old) w
   unfolding view_of
   same_children None w = refl
-  same_children (Some status) w = λ i. λ x. or_child (cond (nat_eq x p) (quiet.same_child (w.children x) (Status status)) (w.children x)) (cond (nat_eq w.pid 1) (same_child s p old with_call was refl p x i) None)
+  same_children (Some status) w = λ i. λ x. or_child (cond (nat_eq x p) (quiet.same_child (w.children x) (Status status)) (w.children x))
+      (cond (nat_eq w.pid 1) (same_child s p old with_call was refl p x i) None)
 
   same_seen : (o : Own) (w : View) → seen state_begun (view_of state_begun p with_call) o (record w { free = free }) ≡ seen s (view_of s p old) o w
   unfolding seen view_of
@@ -82,9 +84,6 @@ module _ (s : State) (p : ℕ) (old : Live) (was : get s.processes p ≡ Some (A
   unfolding own view_of
   ecall_own idle is =
       ap (unless_killed (view_of s p old)) unmarked ∙ ap (going_on (view_of s p old)) idle
-      ∙ (λ i. after_instruction (before_ecall (view_of s p old) is i) (next_instruction (before_ecall (view_of s p old) is i).regs (before_ecall (view_of s p old) is i).image)) ∙ ap (after_instruction (view_of s p old)) is
+      ∙ (λ i. after_instruction (before_ecall (view_of s p old) is i)
+      (next_instruction (before_ecall (view_of s p old) is i).regs (before_ecall (view_of s p old) is i).image)) ∙ ap (after_instruction (view_of s p old)) is
       ∙ ap (perform the_call) (sym (view-set_live s p old began was refl p began))
-
-  pub resumed_own : (c : Call) → old.call ≡ Some c → own (view_of s p old) ≡ perform c (view_of s p old)
-  unfolding own view_of
-  resumed_own c busy = ap (unless_killed (view_of s p old)) unmarked ∙ ap (going_on (view_of s p old)) busy

@@ -1,11 +1,11 @@
 -- Steps that change the process itself, and open files, pipes, the console and free frames.
-use Rattle.std.proofs.Common.{◌≡◌, ◌≢◌, ℕ, Bool, false, ◌||◌, refl, ap, sym, ◌∙◌, subst}
+use Rattle.std.proofs.Common.{◌≡◌, ◌≢◌, ℕ, Bool, false, ◌||◌, refl, ap, sym, ◌∙◌}
 use Rattle.std.specs.Prelude.{Option, None, Some, ℤ, option_map}
 use Rattle.std.specs.FinMap.{FinMap, get}
 use Rattle.std.specs.Ordering.{nat_cmp}
 use Rattle.rv64i_core.specs.Registers.{Registers}
 use Rattle.xk_base.specs.Image.{Image}
-use Rattle.kernel_spec.specs.views.Words.{word, minus_one}
+use Rattle.kernel_spec.specs.views.Words.{word}
 use Rattle.pipe_core.specs.Pipe.{Pipe}
 use Rattle.console_core.specs.Lists.{Console}
 use Rattle.file_table.specs.declared.open_file.OpenFile.{OpenFile}
@@ -14,14 +14,14 @@ use Rattle.proc_table.specs.declared.process.Call.{Call}
 use Rattle.kernel_spec.specs.views.State.{State, live, live_part}
 use Rattle.kernel_spec.specs.views.View.{View, Descriptors, named, numbered, view, view_of}
 use Rattle.kernel_spec.specs.steps.Own.{Own, Answer, Called, Blocked, goes_on, gone_with, left_by}
-use Rattle.kernel_spec.specs.rows.Calls.{with_a0, done, refused, waits}
-use Rattle.kernel_spec.specs.others.Quiet.{Quiet, seen_children}
-use Rattle.kernel_spec.specs.steps.Updates.{changed_state, own_state}
-use Rattle.kernel_spec.proofs.steps.Maps.{get_same}
-use Rattle.kernel_spec.proofs.steps.SetLive.{same_child, same_keys, live-set_live_there}
-use Rattle.kernel_spec.proofs.steps.Frame.{Tells, Spares}
-use Rattle.kernel_spec.proofs.steps.Tell.{Leaves, quiet_from, own_table_tells}
-use Rattle.kernel_spec.proofs.steps.Steps.{or_false}
+use Rattle.kernel_spec.specs.rows.Calls.{with_a0, done, waits}
+use Rattle.kernel_spec.specs.others.Quiet.{seen_children}
+use Rattle.kernel_spec.specs.steps.Updates.{changed_state}
+use Rattle.kernel_spec.proofs.steps.MapsAfterChange.{get_same}
+use Rattle.kernel_spec.proofs.steps.ViewsAfterSetLive.{same_child, same_keys, live-set_live_there}
+use Rattle.kernel_spec.proofs.steps.OthersTableIsSeen.{Tells, Spares}
+use Rattle.kernel_spec.proofs.steps.TableTells.{Leaves}
+use Rattle.kernel_spec.proofs.Common.{or_false}
 
 -- an answer, a next view, and the descriptors as the step leaves them
 abbrev pub leaving : Answer → View → Descriptors → Own
@@ -36,7 +36,9 @@ module _ (s : State) (p : ℕ) (old : Live) (was : get s.processes p ≡ Some (A
   after = changed_state p new files pipes console free s
 
   -- p's next view
-  pub view_changed : (t : Descriptors) → t ≡ named (numbered after new) → ◌≡◌ {A = View} (record (view_of s p old) { regs = r; image = i; call = c; killed = k; descriptors = t; console = console; free = free }) (view_of after p new)
+  pub view_changed : (t : Descriptors) → t ≡ named (numbered after new)
+      → ◌≡◌ {A = View} (record (view_of s p old) { regs = r; image = i; call = c; killed = k; descriptors = t; console = console; free = free })
+      (view_of after p new)
   unfolding view_of
   view_changed t is = λ j. record (view_of after p new) { descriptors = is j; children = λ q. sym (same_child s p old new was refl p q) j; pids = sym (same_keys s p old new was refl) j }
 
@@ -74,16 +76,6 @@ module _ (s : State) (p : ℕ) (old : Live) (was : get s.processes p ≡ Some (A
   unfolding view_of
   view_alone = view_changed s p old was r i c k old.descriptors s.files s.pipes console free (named (numbered s old)) refl
 
-  pub leaves_alone : (a : Answer) → gone_with a ≡ None → Leaves s after_alone (view_of s p old) (goes_on a (view_of after_alone p alone))
-  unfolding view_of
-  leaves_alone a stays = leaves_changed s p old was r i c k old.descriptors s.files s.pipes console free a stays (named (numbered after_alone alone))
-      (own_table_tells s after_alone p old (ap live_part was) (λ f. refl))
-      (record { file = λ f other h. refl; pipe = λ j other h. refl; kinds = λ f other. refl })
-
-  -- the next view, and what every other process sees, of a step that comes to this
-  pub quiet_alone : (a : Answer) → gone_with a ≡ None → (o : Own) → o ≡ goes_on a (view_of after_alone p alone) → Quiet s (view_of s p old) o after_alone
-  quiet_alone a stays o is = subst (λ (x : Own). Quiet s (view_of s p old) x after_alone) (sym is) (quiet_from s after_alone (view_of s p old) (goes_on a (view_of after_alone p alone)) (leaves_alone a stays))
-
 -- ---- a call that answers, or waits, and changes at most the image, the console and the free frames
 
 module _ (s : State) (p : ℕ) (old : Live) (was : get s.processes p ≡ Some (Alive old)) (c : Call) (i : Image) (console : Console) (free : ℕ) where
@@ -100,22 +92,11 @@ module _ (s : State) (p : ℕ) (old : Live) (was : get s.processes p ≡ Some (A
   abbrev pub after_wait : ℕ → State
   after_wait moved = changed_state p (waiting_live moved) s.files s.pipes console free s
 
-  pub done_is : (value : ℤ) → done c value (record (view_of s p old) { image = i; console = console; free = free }) ≡ goes_on (Called c.number value) (view_of (after_done value) p (answered_live value))
+  pub done_is : (value : ℤ) → done c value (record (view_of s p old) { image = i; console = console; free = free }) ≡ goes_on (Called c.number value)
+      (view_of (after_done value) p (answered_live value))
   unfolding view_of
   done_is value = ap (goes_on (Called c.number value)) (view_alone s p old was (with_a0 old.regs (word value)) i None old.killed console free)
 
   pub waits_is : (moved : ℕ) → waits c moved (record (view_of s p old) { image = i; console = console; free = free }) ≡ goes_on (Blocked c.number) (view_of (after_wait moved) p (waiting_live moved))
   unfolding view_of
   waits_is moved = ap (goes_on (Blocked c.number)) (view_alone s p old was old.regs i (Some (record c { moved = moved })) old.killed console free)
-
-  pub done_quiet : (value : ℤ) (o : Own) → o ≡ goes_on (Called c.number value) (view_of (after_done value) p (answered_live value)) → Quiet s (view_of s p old) o (after_done value)
-  done_quiet value o is = quiet_alone s p old was (with_a0 old.regs (word value)) i None old.killed console free (Called c.number value) refl o is
-
-  pub waits_quiet : (moved : ℕ) (o : Own) → o ≡ goes_on (Blocked c.number) (view_of (after_wait moved) p (waiting_live moved)) → Quiet s (view_of s p old) o (after_wait moved)
-  waits_quiet moved o is = quiet_alone s p old was old.regs i (Some (record c { moved = moved })) old.killed console free (Blocked c.number) refl o is
-
--- ---- a refused call changes a0 alone, and ends
-
-pub refused_is : (s : State) (p : ℕ) (old : Live) (was : get s.processes p ≡ Some (Alive old)) (c : Call) → refused c (view_of s p old) ≡ goes_on (Called c.number minus_one) (view_of (own_state p (record old { regs = with_a0 old.regs (word minus_one); call = None }) s) p (record old { regs = with_a0 old.regs (word minus_one); call = None }))
-unfolding view_of
-refused_is s p old was c = done_is s p old was c old.image s.console s.free minus_one

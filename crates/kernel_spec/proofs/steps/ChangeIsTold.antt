@@ -1,38 +1,29 @@
 -- The state after a step that changes the process itself, open files, pipes, the console and free frames.
 use Rattle.std.proofs.Common.{◌≡◌, ◌≢◌, ℕ, ◌⊎◌, refl, ap, sym, ◌∙◌, inl, inr, Bool}
-use Rattle.std.specs.Prelude.{Option, None, Some, IsSome, option_map, is_some}
+use Rattle.std.specs.Prelude.{Option, None, Some, IsSome, is_some}
 use Rattle.std.specs.FinMap.{FinMap, get}
 use Rattle.std.specs.Ordering.{nat_cmp}
 use Rattle.std.proofs.lemmas.Bool.Decides.{eqb_tells}
+use Rattle.std.proofs.lemmas.Option.{same_Some}
 use Rattle.xk_base.specs.Image.{Image}
 use Rattle.rv64i_core.specs.Registers.{Registers}
 use Rattle.pipe_core.specs.Pipe.{Pipe}
 use Rattle.console_core.specs.Lists.{Console}
 use Rattle.file_table.specs.declared.open_file.OpenFile.{OpenFile}
-use Rattle.file_table.specs.declared.open_file.Target.{Target}
-use Rattle.file_table.specs.declared.open_file.Target.TheVariants.{Console as Terminal, Program as File, Pipe as Pipe_end}
 use Rattle.proc_table.specs.declared.process.Call.{Call}
 use Rattle.kernel_spec.specs.views.Processes.{Alive, Live}
 use Rattle.kernel_spec.specs.views.State.{State, live, live_part}
 use Rattle.kernel_spec.specs.views.View.{Descriptors, view, view_of}
 use Rattle.kernel_spec.specs.steps.Own.{Own, Answer, gone_with}
-use Rattle.kernel_spec.specs.others.Quiet.{file_at, file_of, pipe_of_open, pipe_of_target}
+use Rattle.kernel_spec.specs.others.Quiet.{file_at, file_of, pipe_of_open}
 use Rattle.kernel_spec.specs.steps.Updates.{changed_state}
 use Rattle.kernel_spec.specs.runs.Run.{StateAfter, IsNewbornOf}
-use Rattle.kernel_spec.proofs.steps.Maps.{get_same}
-use Rattle.kernel_spec.proofs.steps.SetLive.{live-set_live_there}
-use Rattle.kernel_spec.proofs.steps.Frame.{Tells, Spares, kind, start_target}
-use Rattle.kernel_spec.proofs.steps.Change.{leaving, leaves_changed, view_there}
-use Rattle.kernel_spec.proofs.steps.After.{OldOrNew, files_after, state_after}
-
-start_pipe : (x : Target) → pipe_of_target (start_target x) ≡ pipe_of_target x
-start_pipe Terminal = refl
-start_pipe (File program offset) = refl
-start_pipe (Pipe_end pipe end) = refl
-
-pub kind_pipe : (o : Option OpenFile) → pipe_of_open (kind o) ≡ pipe_of_open o
-kind_pipe None = refl
-kind_pipe (Some x) = start_pipe x.target
+use Rattle.kernel_spec.proofs.steps.MapsAfterChange.{get_same}
+use Rattle.kernel_spec.proofs.steps.ViewsAfterSetLive.{live-set_live_there}
+use Rattle.kernel_spec.proofs.steps.OthersTableIsSeen.{Tells, Spares, kind, kind_pipe}
+use Rattle.kernel_spec.proofs.steps.ChangeIsSeen.{leaving, leaves_changed, view_there}
+use Rattle.kernel_spec.proofs.steps.StateAfterIsTold.{OldOrNew, files_after, state_after}
+use Rattle.kernel_spec.proofs.Common.{is_some-view}
 
 module _ (s : State) (p : ℕ) (old : Live) (was : get s.processes p ≡ Some (Alive old)) (r : Registers) (i : Image) (c : Option Call) (k : Bool) (ds : FinMap nat_cmp ℕ)
     (files : FinMap nat_cmp OpenFile) (pipes : FinMap nat_cmp Pipe) (console : Console) (free : ℕ) where
@@ -51,14 +42,10 @@ module _ (s : State) (p : ℕ) (old : Live) (was : get s.processes p ≡ Some (A
   pub others_files : (q d g : ℕ) → q ≢ p → file_at after q d ≡ Some g → file_at s q d ≡ Some g
   others_files q d g apart h = sym (ap (λ (o : Option Live). file_of o d) (live-set_live_there s p old new was refl q apart)) ∙ h
 
-  view_some : (o : Option Live) (u : State) (q : ℕ) → is_some (option_map (view_of u q) o) ≡ is_some o
-  view_some None u q = refl
-  view_some (Some l) u q = refl
-
   pub nobody_more : (o : Own) (q : ℕ) → IsSome (view after q) → (q ≡ p) ⊎ IsSome (view s q) ⊎ IsNewbornOf o q
   nobody_more o q h = elim (eqb_tells q p) [
     | inl e ↦ inl e.1
-    | inr e ↦ inr (inl (view_some (live s q) s q ∙ sym (ap is_some (live-set_live_there s p old new was refl q e.1)) ∙ sym (view_some (live after q) after q) ∙ h))
+    | inr e ↦ inr (inl (is_some-view (live s q) s q ∙ sym (ap is_some (live-set_live_there s p old new was refl q e.1)) ∙ sym (is_some-view (live after q) after q) ∙ h))
   ]
 
   pub after_changed : (a : Answer) → gone_with a ≡ None → (left : Descriptors) → Tells s after p left → Spares s after p
@@ -79,15 +66,14 @@ module _ (s : State) (p : ℕ) (old : Live) (was : get s.processes p ≡ Some (A
 
 module _ (s : State) (p : ℕ) (old : Live) (was : get s.processes p ≡ Some (Alive old)) (r : Registers) (i : Image) (c : Option Call) (k : Bool)
     (files : FinMap nat_cmp OpenFile) (pipes : FinMap nat_cmp Pipe) (console : Console) (free : ℕ) (kinds : (f : ℕ) → kind (get files f) ≡ kind (get s.files f)) where
-  inside : (a b : ℕ) → Some a ≡ Some b → a ≡ b
-  inside a b e = cc
-
   pub after_same_files : (a : Answer) → gone_with a ≡ None → (left : Descriptors)
       → Tells s (changed_state p (record old { regs = r; image = i; call = c; killed = k }) files pipes console free s) p left
       → Spares s (changed_state p (record old { regs = r; image = i; call = c; killed = k }) files pipes console free s) p
-      → StateAfter s (view_of s p old) (leaving a (view_of (changed_state p (record old { regs = r; image = i; call = c; killed = k }) files pipes console free s) p (record old { regs = r; image = i; call = c; killed = k })) left)
+      → StateAfter s (view_of s p old) (leaving a (view_of
+      (changed_state p (record old { regs = r; image = i; call = c; killed = k }) files pipes console free s) p
+      (record old { regs = r; image = i; call = c; killed = k })) left)
       (changed_state p (record old { regs = r; image = i; call = c; killed = k }) files pipes console free s)
   after_same_files a stays left tells spares = after_changed s p old was r i c k old.descriptors files pipes console free a stays left tells spares
-      (λ d f g x y. inside f g (sym x ∙ y))
+      (λ d f g x y. same_Some f g (sym x ∙ y))
       (λ q d f j x y. sym (kind_pipe (get s.files f)) ∙ sym (ap pipe_of_open (kinds f)) ∙ kind_pipe (get files f) ∙ y)
       (λ d f h. inl (d, mine_before s p old was r i c k old.descriptors files pipes console free d ∙ h))

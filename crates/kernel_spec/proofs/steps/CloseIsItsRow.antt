@@ -1,5 +1,5 @@
--- Close.
-use Rattle.std.proofs.Common.{◌≡◌, ◌≢◌, ℕ, ◌<◌, ◌+◌, Bool, true, false, cond, refl, ap, sym, ◌∙◌, subst}
+-- Close: it is the step that its row tells.
+use Rattle.std.proofs.Common.{◌≡◌, ◌≢◌, ℕ, ◌<◌, ◌+◌, Bool, true, false, cond, refl, ap, sym, ◌∙◌}
 use Rattle.std.proofs.Math.Path.{fun_ext}
 use Rattle.std.specs.Prelude.{Option, None, Some, pos, nat_eq}
 use Rattle.std.specs.FinMap.{FinMap, get, remove}
@@ -11,19 +11,17 @@ use Rattle.pipe_core.specs.Pipe.{Pipe}
 use Rattle.file_table.specs.declared.open_file.OpenFile.{OpenFile}
 use Rattle.kernel_spec.specs.views.Processes.{Alive, Live}
 use Rattle.proc_table.specs.declared.process.Call.{Call}
-use Rattle.kernel_spec.specs.views.State.{State, live_part}
+use Rattle.kernel_spec.specs.views.State.{State}
 use Rattle.kernel_spec.specs.views.View.{View, Descriptors, Descriptor, named, numbered, descriptor_at, or_gone, view_of, file_name, pipe_name}
-use Rattle.kernel_spec.specs.steps.Own.{Own, Called}
+use Rattle.kernel_spec.specs.steps.Own.{Called}
 use Rattle.kernel_spec.specs.rows.Tables.{without_descriptor, one_less_on, change_pipes, pipes_given_up}
 use Rattle.kernel_spec.specs.rows.Calls.{with_a0}
-use Rattle.kernel_spec.specs.others.Quiet.{Quiet, pipe_at, pipe_of_file, is_same}
+use Rattle.kernel_spec.specs.others.Quiet.{pipe_of_file, is_same}
 use Rattle.kernel_spec.specs.steps.Updates.{changed_state}
-use Rattle.kernel_spec.proofs.steps.Maps.{get_without}
-use Rattle.kernel_spec.proofs.steps.Frame.{OtherNames, OtherHas}
-use Rattle.kernel_spec.proofs.steps.Tell.{quiet_from}
-use Rattle.kernel_spec.proofs.steps.Names.{Alike, alike_named, named_alike, bare}
-use Rattle.kernel_spec.proofs.steps.Became.{became, changed_tells, changed_spares}
-use Rattle.kernel_spec.proofs.steps.Change.{view_changed, leaves_changed, leaving}
+use Rattle.kernel_spec.proofs.steps.MapsAfterChange.{get_without}
+use Rattle.kernel_spec.proofs.steps.NamesAreChosenAgain.{Alike, alike_named, named_alike, bare}
+use Rattle.kernel_spec.proofs.steps.PipeChangeIsTold.{became}
+use Rattle.kernel_spec.proofs.steps.ChangeIsSeen.{view_changed, leaving}
 use Rattle.kernel_spec.proofs.rows.RowParts.{close_at}
 
 -- ---- a table without a place, named from names
@@ -85,17 +83,8 @@ module _ (s : State) (p : ℕ) (old : Live) (was : get s.processes p ≡ Some (A
     close_own =
         (λ i. let u : Descriptors = less i in
         leaving (Called c.number (pos 0)) (record (view_of s p old) { regs = with_a0 old.regs (word (pos 0)); call = None; descriptors = without_descriptor k u; free = s.free + pipes_given_up u }) u)
-        ∙ (λ i. leaving (Called c.number (pos 0)) (record (view_of s p old) { regs = with_a0 old.regs (word (pos 0)); call = None; descriptors = without_descriptor k (named left); free = s.free + frees i }) (named left))
+        ∙ (λ i. leaving (Called c.number (pos 0)) (record (view_of s p old)
+        { regs = with_a0 old.regs (word (pos 0)); call = None; descriptors = without_descriptor k (named left); free = s.free + frees i }) (named left))
         ∙ ap (λ (v : View). leaving (Called c.number (pos 0)) v (named left))
-        (view_changed s p old was (with_a0 old.regs (word (pos 0))) old.image None old.killed (remove old.descriptors k) files pipes s.console (s.free + freed) (without_descriptor k (named left)) (sym (ap (without_descriptor k) less) ∙ next_table))
-
-  module _ (other_files : (g : ℕ) → OtherNames s p g → get files g ≡ get s.files g)
-      (shared_pipes : (e j : ℕ) → OtherHas s p j → e < NOFILE → pipe_at s p e ≡ Some j → or_gone (get pipes j) ≡ f j (or_gone (get s.pipes j)))
-      (other_pipes : (j : ℕ) → OtherHas s p j → ((e : ℕ) → e < NOFILE → pipe_at s p e ≢ Some j) → get pipes j ≡ get s.pipes j) where
-    pub close_quiet : (o : Own) → o ≡ leaving (Called c.number (pos 0)) (view_of after p closed) (named left) → Quiet s (view_of s p old) o after
-    unfolding view_of
-    close_quiet o is = subst (λ (z : Own). Quiet s (view_of s p old) z after) (sym is)
-        (quiet_from s after (view_of s p old) (leaving (Called c.number (pos 0)) (view_of after p closed) (named left))
-        (leaves_changed s p old was (with_a0 old.regs (word (pos 0))) old.image None old.killed (remove old.descriptors k) files pipes s.console (s.free + freed) (Called c.number (pos 0)) refl (named left)
-        (changed_tells s after p old (ap live_part was) f other_files shared_pipes)
-        (changed_spares s after p old (ap live_part was) f other_files shared_pipes other_pipes)))
+        (view_changed s p old was (with_a0 old.regs (word (pos 0))) old.image None old.killed (remove old.descriptors k) files pipes s.console
+        (s.free + freed) (without_descriptor k (named left)) (sym (ap (without_descriptor k) less) ∙ next_table))

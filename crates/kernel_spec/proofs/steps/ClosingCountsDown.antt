@@ -4,10 +4,11 @@ use Rattle.std.specs.Prelude.{Option, None, Some, option_map, nat_eq}
 use Rattle.std.specs.FinMap.{FinMap, get, insert, remove, get-remove}
 use Rattle.std.specs.Ordering.{nat_cmp}
 use Rattle.std.specs.Cmp.{nat_cmp_total, unsigned_tied}
-use Rattle.std.proofs.lemmas.Bool.{eq-eqb, cases_lt}
+use Rattle.std.proofs.lemmas.Bool.{eq-eqb, cases_lt, and_left, and_right}
 use Rattle.std.proofs.lemmas.Bool.Decides.{eqb_tells}
 use Rattle.xk_base.specs.declared.limits.TheConstants.{NOFILE}
 use Rattle.xk_base.specs.Words.{count_below, least_below}
+use Rattle.xk_base.proofs.Least.{none_below}
 use Rattle.kernel_spec.specs.views.Words.{is_this}
 use Rattle.pipe_core.specs.Pipe.{Pipe}
 use Rattle.file_table.specs.declared.open_file.End.{End}
@@ -18,16 +19,18 @@ use Rattle.file_table.specs.declared.open_file.Target.{Target}
 use Rattle.file_table.specs.declared.open_file.Target.TheVariants.{Console as Terminal, Program as File, Pipe as Pipe_end}
 use Rattle.kernel_spec.specs.views.Processes.{Live}
 use Rattle.kernel_spec.specs.views.State.{State}
-use Rattle.kernel_spec.specs.views.View.{Descriptors, Descriptor, Shown, Shown_terminal, Shown_file, Shown_pipe, named, numbered, rename, descriptor_at, descriptor_on, show, or_gone, or_else, pipe_name, shown_pipe_name, least_on_pipe}
+use Rattle.kernel_spec.specs.views.View.{Descriptors, Descriptor, Shown, Shown_terminal, Shown_file, Shown_pipe, named, numbered, rename}
+use Rattle.kernel_spec.specs.views.View.{descriptor_at, descriptor_on, show, or_gone, or_else, pipe_name, shown_pipe_name, least_on_pipe}
 use Rattle.kernel_spec.specs.rows.Tables.{on_end, shown_on_end, is_end, ends, all_closed, changed, names_given_up, pipes_given_up}
 use Rattle.kernel_spec.specs.others.Quiet.{pipe_of_file, pipe_of_open, pipe_of_target, end_of, target_of_open}
 use Rattle.kernel_spec.specs.steps.Updates.{settled, fewer_at, fewer_on, freed_at, freed_on, fewer_on_all, freed_on_all}
-use Rattle.kernel_spec.proofs.steps.Maps.{get_at}
-use Rattle.kernel_spec.proofs.steps.Least.{least_passes, least_least, none_passes}
-use Rattle.kernel_spec.proofs.steps.Names.{named_at}
-use Rattle.kernel_spec.proofs.steps.Pipes.{pipe_name_kept}
-use Rattle.kernel_spec.proofs.steps.Ends.{named_all_closed}
-use Rattle.kernel_spec.proofs.steps.Counts.{hits, among, one, among_more}
+use Rattle.kernel_spec.proofs.steps.MapsAfterChange.{get_at}
+use Rattle.kernel_spec.proofs.steps.LeastPasses.{least_passes, least_least}
+use Rattle.kernel_spec.proofs.steps.NamesAreChosenAgain.{named_at}
+use Rattle.kernel_spec.proofs.steps.OnePipeChanges.{pipe_name_kept}
+use Rattle.kernel_spec.proofs.steps.ForkExitCountEnds.{named_all_closed}
+use Rattle.kernel_spec.proofs.steps.EndsAreCounted.{hits, among, one, among_more}
+use Rattle.kernel_spec.proofs.Common.{count_below-none}
 
 -- a pipe that is given up is there no more
 abbrev pub kept : Option Pipe → Option Pipe
@@ -49,19 +52,14 @@ abbrev pub rest : Pipe → (a b c d : ℕ) → Pipe
 rest x a b c d = record x { readers = x.readers - a + c; writers = x.writers - b + d }
 
 part_one : (x : Pipe) (e : End) (a b c d : ℕ) → parted (rest x a b (c + one (is_end Reading e)) (d + one (is_end Writing e))) e 1 ≡ rest x a b c d
-part_one x Reading a b c d = let r : x.readers - a + (c + 1) - 1 ≡ x.readers - a + c = omega arith in let w : x.writers - b + (d + 0) ≡ x.writers - b + d = omega arith in λ i. record x { readers = r i; writers = w i }
-part_one x Writing a b c d = let r : x.readers - a + (c + 0) ≡ x.readers - a + c = omega arith in let w : x.writers - b + (d + 1) - 1 ≡ x.writers - b + d = omega arith in λ i. record x { readers = r i; writers = w i }
-
-pub left : (a b : Bool) → a ≡ false → (a && b) ≡ false
-left a b h = ap (λ (x : Bool). x && b) h
-
-pub right : (a b : Bool) → b ≡ false → (a && b) ≡ false
-right true b h = h
-right false b h = refl
+part_one x Reading a b c d = let r : x.readers - a + (c + 1) - 1 ≡ x.readers - a + c = omega arith in
+    let w : x.writers - b + (d + 0) ≡ x.writers - b + d = omega arith in λ i. record x { readers = r i; writers = w i }
+part_one x Writing a b c d = let r : x.readers - a + (c + 0) ≡ x.readers - a + c = omega arith in
+    let w : x.writers - b + (d + 1) - 1 ≡ x.writers - b + d = omega arith in λ i. record x { readers = r i; writers = w i }
 
 held_one : (x : Pipe) (e : End) (a b c d : ℕ) → is_given_up (rest x a b (c + one (is_end Reading e)) (d + one (is_end Writing e))) ≡ false
-held_one x Reading a b c d = left (nat_eq (x.readers - a + (c + 1)) 0) (nat_eq (x.writers - b + (d + 0)) 0) (nonzero (x.readers - a + (c + 1)) (x.readers - a + c) (omega arith))
-held_one x Writing a b c d = right (nat_eq (x.readers - a + (c + 0)) 0) (nat_eq (x.writers - b + (d + 1)) 0) (nonzero (x.writers - b + (d + 1)) (x.writers - b + d) (omega arith))
+held_one x Reading a b c d = and_left (nat_eq (x.readers - a + (c + 1)) 0) (nat_eq (x.writers - b + (d + 0)) 0) (nonzero (x.readers - a + (c + 1)) (x.readers - a + c) (omega arith))
+held_one x Writing a b c d = and_right (nat_eq (x.readers - a + (c + 0)) 0) (nat_eq (x.writers - b + (d + 1)) 0) (nonzero (x.writers - b + (d + 1)) (x.writers - b + d) (omega arith))
 
 -- ---- a descriptor's ends
 
@@ -78,23 +76,19 @@ on_an_end i (Some d) h = on_some_end i d.shown h
 not_shown_on : (i : ℕ) (end : End) (x : Shown) → is_this i (shown_pipe_name x) ≡ false → shown_on_end i end x ≡ false
 not_shown_on i end Shown_terminal h = refl
 not_shown_on i end (Shown_file program offset) h = refl
-not_shown_on i end (Shown_pipe n e pipe) h = left (nat_eq n i) (is_end end e) h
+not_shown_on i end (Shown_pipe n e pipe) h = and_left (nat_eq n i) (is_end end e) h
 
 not_on : (i : ℕ) (end : End) (o : Option Descriptor) → is_this i (pipe_name o) ≡ false → on_end i end o ≡ false
 not_on i end None h = refl
 not_on i end (Some d) h = not_shown_on i end d.shown h
-
-count_none : (n : ℕ) (P : ℕ → Bool) → ((d : ℕ) → d < n → P d ≡ false) → count_below P n ≡ 0
-unfolding count_below
-count_none zero P h = refl
-count_none (suc n) P h = λ i. count_none n P (λ d below. h d (omega arith)) i + cond (h n (omega arith) i) 1 0
 
 pub count_some : (n : ℕ) (P : ℕ → Bool) (d : ℕ) → d < n → P d ≡ true → (k : ℕ) × (count_below P n ≡ k + 1)
 unfolding count_below
 count_some zero P d below h = absurd (omega arith)
 count_some (suc n) P d below h = elim (eqb_tells d n) [
   | inl e ↦ (count_below P n, λ i. count_below P n + one ((ap P (sym e.1) ∙ h) i))
-  | inr e ↦ let apart : d ≢ n = e.1 in let r = count_some n P d (omega arith) h in let k : ℕ = r.0 in let c : ℕ = count_below P n in let o : ℕ = one (P n) in let g : c ≡ k + 1 = r.1 in (k + o, omega arith)
+  | inr e ↦ let apart : d ≢ n = e.1 in let r = count_some n P d (omega arith) h in let k : ℕ = r.0 in let c : ℕ = count_below P n in
+      let o : ℕ = one (P n) in let g : c ≡ k + 1 = r.1 in (k + o, omega arith)
 ]
 
 module _ (s : State) (l : Live) where
@@ -108,10 +102,12 @@ module _ (s : State) (l : Live) where
   abbrev target : ℕ → Option Target
   target n = end_of s (get l.descriptors n)
 
-  left_more : (n j : ℕ) (x : Pipe) → left_with (suc n) j x ≡ rest x (all j Reading) (all j Writing) (among s l n j Reading + one (hits j Reading (target n))) (among s l n j Writing + one (hits j Writing (target n)))
+  left_more : (n j : ℕ) (x : Pipe) → left_with (suc n) j x ≡ rest x (all j Reading) (all j Writing)
+      (among s l n j Reading + one (hits j Reading (target n))) (among s l n j Writing + one (hits j Writing (target n)))
   left_more n j x = λ i. rest x (all j Reading) (all j Writing) (among_more s l n j Reading i) (among_more s l n j Writing i)
 
-  same_left : (n j : ℕ) (r w : Bool) → hits j Reading (target n) ≡ r → hits j Writing (target n) ≡ w → r ≡ false → w ≡ false → (o : Option Pipe) → option_map (left_with (suc n) j) o ≡ option_map (left_with n j) o
+  same_left : (n j : ℕ) (r w : Bool) → hits j Reading (target n) ≡ r → hits j Writing (target n) ≡ w → r ≡ false → w ≡ false → (o : Option Pipe)
+      → option_map (left_with (suc n) j) o ≡ option_map (left_with n j) o
   same_left n j r w hr hw er ew None = refl
   same_left n j r w hr hw er ew (Some x) =
       ap Some (left_more n j x
@@ -147,7 +143,7 @@ module _ (s : State) (l : Live) where
             | inl h ↦ ap (λ (b : Bool). cond b (kept (Some (left_with n i x))) (get m j)) h.0
                 ∙ sym (ap (λ (k : ℕ). kept (option_map (left_with n k) (get s.pipes k))) h.1 ∙ ap (λ (o : Option Pipe). kept (option_map (left_with n i) o)) there)
             | inr h ↦ ap (λ (b : Bool). cond b (kept (Some (left_with n i x))) (get m j)) h.0
-                ∙ no_change j (Some (Pipe_end i e)) eo (left (nat_eq i j) (is_end Reading e) (other j h.1)) (left (nat_eq i j) (is_end Writing e) (other j h.1))
+                ∙ no_change j (Some (Pipe_end i e)) eo (and_left (nat_eq i j) (is_end Reading e) (other j h.1)) (and_left (nat_eq i j) (is_end Writing e) (other j h.1))
           ]
         where
           other : (j : ℕ) → j ≢ i → nat_eq i j ≡ false
@@ -156,7 +152,8 @@ module _ (s : State) (l : Live) where
       freed_there : freed_at e (get m i) ≡ one (is_given_up (left_with n i x))
       freed_there = ap (freed_at e) pipe_now ∙ ap (λ (y : Pipe). one (is_given_up y)) pipe_next
 
-  fewer_pipe : (m : FinMap nat_cmp Pipe) (n : ℕ) (is : (j : ℕ) → get m j ≡ kept (option_map (left_with (suc n) j) (get s.pipes j))) (i : ℕ) (e : End) (eo : target n ≡ Some (Pipe_end i e)) (a : Option Pipe) → get s.pipes i ≡ a → (j : ℕ)
+  fewer_pipe : (m : FinMap nat_cmp Pipe) (n : ℕ) (is : (j : ℕ) → get m j ≡ kept (option_map (left_with (suc n) j) (get s.pipes j))) (i : ℕ) (e : End)
+      (eo : target n ≡ Some (Pipe_end i e)) (a : Option Pipe) → get s.pipes i ≡ a → (j : ℕ)
       → get (fewer_at i e m (get m i)) j ≡ kept (option_map (left_with n j) (get s.pipes j))
   fewer_pipe m n is i e eo (Some x) there j = fewer_there m n is i e eo x there j
   fewer_pipe m n is i e eo None there j =
@@ -165,7 +162,7 @@ module _ (s : State) (l : Live) where
         | inl h ↦
             let nothing : get s.pipes j ≡ None = ap (get s.pipes) (sym h.1) ∙ there in
             is j ∙ ap (λ (o : Option Pipe). kept (option_map (left_with (suc n) j) o)) nothing ∙ sym (ap (λ (o : Option Pipe). kept (option_map (left_with n j) o)) nothing)
-        | inr h ↦ no_change m n is j (Some (Pipe_end i e)) eo (left (nat_eq i j) (is_end Reading e) h.0) (left (nat_eq i j) (is_end Writing e) h.0)
+        | inr h ↦ no_change m n is j (Some (Pipe_end i e)) eo (and_left (nat_eq i j) (is_end Reading e) h.0) (and_left (nat_eq i j) (is_end Writing e) h.0)
       ]
 
   fewer_step : (m : FinMap nat_cmp Pipe) (n : ℕ) (is : (j : ℕ) → get m j ≡ kept (option_map (left_with (suc n) j) (get s.pipes j))) (o : Option Target) → target n ≡ o → (j : ℕ)
@@ -175,7 +172,8 @@ module _ (s : State) (l : Live) where
   fewer_step m n is (Some (File program offset)) eo j = no_change m n is j (Some (File program offset)) eo refl refl
   fewer_step m n is (Some (Pipe_end i e)) eo j = fewer_pipe m n is i e eo (get s.pipes i) refl j
 
-  get-fewer_down : (n : ℕ) (m : FinMap nat_cmp Pipe) → ((j : ℕ) → get m j ≡ kept (option_map (left_with n j) (get s.pipes j))) → (j : ℕ) → get (fewer_on_all s l n m) j ≡ kept (option_map (left_with 0 j) (get s.pipes j))
+  get-fewer_down : (n : ℕ) (m : FinMap nat_cmp Pipe) → ((j : ℕ) → get m j ≡ kept (option_map (left_with n j) (get s.pipes j))) → (j : ℕ)
+      → get (fewer_on_all s l n m) j ≡ kept (option_map (left_with 0 j) (get s.pipes j))
   unfolding fewer_on_all
   get-fewer_down zero m is j = is j
   get-fewer_down (suc n) m is j = get-fewer_down n (fewer_on (target n) m) (λ k. fewer_step m n is (target n) refl k) j
@@ -189,23 +187,27 @@ module _ (s : State) (l : Live) where
   fewer j x = parted (parted x Reading (ends T j Reading)) Writing (ends T j Writing)
 
   named_target : (n i : ℕ) (e : End) (g : ℕ) (r w : Bool) (y : Target) → Some y ≡ Some (Pipe_end i e)
-      → names_given_up n (option_map (rename (all_closed T)) (changed fewer (descriptor_on s g (Some (record { read = r; write = w; target = y }))))) ≡ (nat_eq (or_else (least_on_pipe (all_closed T) i) i) n && is_given_up (fewer i (or_gone (get s.pipes i))))
+      → names_given_up n (option_map (rename (all_closed T)) (changed fewer (descriptor_on s g (Some (record { read = r; write = w; target = y })))))
+      ≡ (nat_eq (or_else (least_on_pipe (all_closed T) i) i) n && is_given_up (fewer i (or_gone (get s.pipes i))))
   named_target n i e g r w Terminal h = let no : ⊥ = cc in absurd no
   named_target n i e g r w (File program offset) h = let no : ⊥ = cc in absurd no
   named_target n i e g r w (Pipe_end k f) h = let same : k ≡ i = cc in ap (λ (q : ℕ). nat_eq (or_else (least_on_pipe (all_closed T) q) q) n && is_given_up (fewer q (or_gone (get s.pipes q)))) same
 
   named_open : (n i : ℕ) (e : End) (g : ℕ) (o : Option OpenFile) → target_of_open o ≡ Some (Pipe_end i e)
-      → names_given_up n (option_map (rename (all_closed T)) (changed fewer (descriptor_on s g o))) ≡ (nat_eq (or_else (least_on_pipe (all_closed T) i) i) n && is_given_up (fewer i (or_gone (get s.pipes i))))
+      → names_given_up n (option_map (rename (all_closed T)) (changed fewer (descriptor_on s g o))) ≡
+      (nat_eq (or_else (least_on_pipe (all_closed T) i) i) n && is_given_up (fewer i (or_gone (get s.pipes i))))
   named_open n i e g None h = let no : ⊥ = cc in absurd no
   named_open n i e g (Some x) h = named_target n i e g x.read x.write x.target h
 
   named_place : (n i : ℕ) (e : End) (o : Option ℕ) → end_of s o ≡ Some (Pipe_end i e)
-      → names_given_up n (option_map (rename (all_closed T)) (changed fewer (descriptor_at s o))) ≡ (nat_eq (or_else (least_on_pipe (all_closed T) i) i) n && is_given_up (fewer i (or_gone (get s.pipes i))))
+      → names_given_up n (option_map (rename (all_closed T)) (changed fewer (descriptor_at s o))) ≡
+      (nat_eq (or_else (least_on_pipe (all_closed T) i) i) n && is_given_up (fewer i (or_gone (get s.pipes i))))
   named_place n i e None h = let no : ⊥ = cc in absurd no
   named_place n i e (Some g) h = named_open n i e g (get s.files g) h
 
   -- what isn't an end of a pipe names none
-  unnamed_target : (n g : ℕ) (r w : Bool) (y : Target) → pipe_of_target y ≡ None → names_given_up n (option_map (rename (all_closed T)) (changed fewer (descriptor_on s g (Some (record { read = r; write = w; target = y }))))) ≡ false
+  unnamed_target : (n g : ℕ) (r w : Bool) (y : Target) → pipe_of_target y ≡ None
+      → names_given_up n (option_map (rename (all_closed T)) (changed fewer (descriptor_on s g (Some (record { read = r; write = w; target = y }))))) ≡ false
   unnamed_target n g r w Terminal h = refl
   unnamed_target n g r w (File program offset) h = refl
   unnamed_target n g r w (Pipe_end k f) h = let no : ⊥ = cc in absurd no
@@ -251,12 +253,11 @@ module _ (s : State) (l : Live) where
     passes : P n ≡ true
     passes = ap (is_this i) (name_of_pipe (get l.descriptors n) ∙ on) ∙ eq-eqb i i refl
 
-    bare_counts : left_with n i x ≡ left_with n i x
-    bare_counts = refl
-
     first_here : ((d : ℕ) → d < n → P d ≡ false) → is_given_up (left_with n i x) ≡ is_given_up (fewer i x)
     first_here none_on =
-        (λ k. is_given_up (rest x (all i Reading) (all i Writing) (count_none n (λ d. on_end i Reading (T d)) (λ d b. not_on i Reading (T d) (none_on d b)) k) (count_none n (λ d. on_end i Writing (T d)) (λ d b. not_on i Writing (T d) (none_on d b)) k)))
+        (λ k. is_given_up (rest x (all i Reading) (all i Writing)
+        (count_below-none n (λ d. on_end i Reading (T d)) (λ d b. not_on i Reading (T d) (none_on d b)) k)
+        (count_below-none n (λ d. on_end i Writing (T d)) (λ d b. not_on i Writing (T d) (none_on d b)) k)))
         ∙ (let a : x.readers - all i Reading + 0 ≡ x.readers - all i Reading = omega arith in let b : x.writers - all i Writing + 0 ≡ x.writers - all i Writing = omega arith in
         λ k. nat_eq (a k) 0 && nat_eq (b k) 0)
 
@@ -264,23 +265,28 @@ module _ (s : State) (l : Live) where
     not_first d b h = elim (on_an_end i (T d) h) [
       | inl r ↦
           let c = count_some n (λ q. on_end i Reading (T q)) d b r in
-          left (nat_eq (x.readers - all i Reading + among s l n i Reading) 0) (nat_eq (x.writers - all i Writing + among s l n i Writing) 0)
+          and_left (nat_eq (x.readers - all i Reading + among s l n i Reading) 0) (nat_eq (x.writers - all i Writing + among s l n i Writing) 0)
           (ap (λ (q : ℕ). nat_eq (x.readers - all i Reading + q) 0) c.1 ∙ (let k : ℕ = c.0 in nonzero (x.readers - all i Reading + (k + 1)) (x.readers - all i Reading + k) (omega arith)))
       | inr w ↦
           let c = count_some n (λ q. on_end i Writing (T q)) d b w in
-          right (nat_eq (x.readers - all i Reading + among s l n i Reading) 0) (nat_eq (x.writers - all i Writing + among s l n i Writing) 0)
+          and_right (nat_eq (x.readers - all i Reading + among s l n i Reading) 0) (nat_eq (x.writers - all i Writing + among s l n i Writing) 0)
           (ap (λ (q : ℕ). nat_eq (x.writers - all i Writing + q) 0) c.1 ∙ (let k : ℕ = c.0 in nonzero (x.writers - all i Writing + (k + 1)) (x.writers - all i Writing + k) (omega arith)))
     ]
 
     by_least : (o : Option ℕ) → least_below P NOFILE ≡ o → is_given_up (left_with n i x) ≡ (nat_eq (or_else o i) n && is_given_up (fewer i x))
-    by_least None e = let f : P n ≡ false = none_passes NOFILE P e n below in let t : P n ≡ true = passes in let no : ⊥ = cc in absurd no
+    by_least None e = let f : P n ≡ false = none_below P NOFILE e n below in let t : P n ≡ true = passes in let no : ⊥ = cc in absurd no
     by_least (Some k) e = elim (eqb_tells k n) [
       | inl h ↦
           let same : k ≡ n = h.1 in
           first_here (λ d b. least_least NOFILE P k e d (omega arith)) ∙ ap (λ (b : Bool). b && is_given_up (fewer i x)) (sym h.0)
       | inr h ↦
           let apart : k ≢ n = h.1 in
-          let before : k < n = elim (cases_lt k n) [ inl b ↦ b | inr g ↦ (let ge : n ≤ k = g in let q : n < k = omega arith in let f : P n ≡ false = least_least NOFILE P k e n q in let t : P n ≡ true = passes in let no : ⊥ = cc in absurd no) ] in
+          let before : k < n = elim (cases_lt k n) [
+            | inl b ↦ b
+            | inr g ↦
+                (let ge : n ≤ k = g in let q : n < k = omega arith in let f : P n ≡ false = least_least NOFILE P k e n q in
+                let t : P n ≡ true = passes in let no : ⊥ = cc in absurd no)
+          ] in
           not_first k before ((least_passes NOFILE P k e).0) ∙ ap (λ (b : Bool). b && is_given_up (fewer i x)) (sym h.0)
     ]
 
@@ -297,8 +303,11 @@ module _ (s : State) (l : Live) where
     freed_step : (m : FinMap nat_cmp Pipe) (n : ℕ) → n < NOFILE → (is : (j : ℕ) → get m j ≡ kept (option_map (left_with (suc n) j) (get s.pipes j))) (o : Option Target) → target n ≡ o
         → freed_on o m ≡ one (names_given_up n (named (all_closed T) n))
     freed_step m n below is None eo = sym (ap one (ap (names_given_up n) (table_at n below) ∙ unnamed_place n (get l.descriptors n) (sym (same_pipe_of (get l.descriptors n)) ∙ ap pipe_of eo)))
-    freed_step m n below is (Some Terminal) eo = sym (ap one (ap (names_given_up n) (table_at n below) ∙ unnamed_place n (get l.descriptors n) (sym (same_pipe_of (get l.descriptors n)) ∙ ap pipe_of eo)))
-    freed_step m n below is (Some (File program offset)) eo = sym (ap one (ap (names_given_up n) (table_at n below) ∙ unnamed_place n (get l.descriptors n) (sym (same_pipe_of (get l.descriptors n)) ∙ ap pipe_of eo)))
+    freed_step m n below is (Some Terminal) eo = sym (ap one
+        (ap (names_given_up n) (table_at n below) ∙ unnamed_place n (get l.descriptors n) (sym (same_pipe_of (get l.descriptors n)) ∙ ap pipe_of eo)))
+    freed_step m n below is (Some (File program offset)) eo =
+        sym (ap one (ap (names_given_up n) (table_at n below)
+        ∙ unnamed_place n (get l.descriptors n) (sym (same_pipe_of (get l.descriptors n)) ∙ ap pipe_of eo)))
     freed_step m n below is (Some (Pipe_end i e)) eo =
         let on : pipe_of_file s (get l.descriptors n) ≡ Some i = sym (same_pipe_of (get l.descriptors n)) ∙ ap pipe_of eo in
         let x = there n i on in

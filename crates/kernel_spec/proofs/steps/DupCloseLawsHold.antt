@@ -4,8 +4,9 @@ use Rattle.std.proofs.Math.Path.{fun_ext}
 use Rattle.std.specs.Prelude.{Option, None, Some, pos, IsSome, option_map, nat_eq}
 use Rattle.std.specs.FinMap.{FinMap, get, insert, remove}
 use Rattle.std.specs.Ordering.{nat_cmp}
-use Rattle.std.proofs.lemmas.Bool.{eq-eqb}
+use Rattle.std.proofs.lemmas.Bool.{eq-eqb, and_right}
 use Rattle.std.proofs.lemmas.Bool.Decides.{eqb_tells}
+use Rattle.std.proofs.lemmas.Option.{same_Some}
 use Rattle.xk_base.specs.declared.limits.TheConstants.{NOFILE}
 use Rattle.xk_base.specs.Words.{count_below}
 use Rattle.pipe_core.specs.Pipe.{Pipe}
@@ -19,36 +20,32 @@ use Rattle.kernel_spec.specs.views.Words.{word, is_this}
 use Rattle.kernel_spec.specs.views.PipeEnds.{joined, parted, is_given_up}
 use Rattle.kernel_spec.specs.views.Processes.{Alive, Live}
 use Rattle.kernel_spec.specs.views.State.{State, live, live_part}
-use Rattle.kernel_spec.specs.views.View.{Descriptors, Descriptor, Shown, Shown_terminal, Shown_file, Shown_pipe, view_of, named, numbered, rename, rename_shown, descriptor_at, descriptor_on, show, or_gone, or_else, least_on_file}
+use Rattle.kernel_spec.specs.views.View.{Descriptors, Descriptor, Shown, Shown_terminal, Shown_file, Shown_pipe, view_of, named, numbered}
+use Rattle.kernel_spec.specs.views.View.{rename, rename_shown, descriptor_at, descriptor_on, show, or_gone, or_else, least_on_file}
 use Rattle.kernel_spec.specs.steps.Own.{Called, goes_on}
 use Rattle.kernel_spec.specs.rows.Calls.{with_a0}
 use Rattle.kernel_spec.specs.rows.Tables.{one_more_on, one_less_on, change_pipes, changed, change_shown, ends, on_end, is_end, names_given_up, pipes_given_up}
 use Rattle.kernel_spec.specs.others.Quiet.{file_at, pipe_at, file_of, pipe_of_file, pipe_of_open, pipe_of_target}
-use Rattle.kernel_spec.proofs.steps.Frame.{OtherNames, OtherHas}
+use Rattle.kernel_spec.proofs.steps.OthersTableIsSeen.{OtherNames, OtherHas}
 use Rattle.kernel_spec.specs.steps.Updates.{changed_state, with_answer, with_named, with_closed, settled}
 use Rattle.kernel_spec.specs.views.WellFormed.{WellFormed}
 use Rattle.kernel_spec.specs.laws.RowLaws.{After, OnPipe, FilesLeft, closed_state}
-use Rattle.kernel_spec.proofs.steps.Maps.{get_same, get_other, get_without}
-use Rattle.kernel_spec.proofs.steps.Names.{named_at}
-use Rattle.kernel_spec.proofs.steps.After.{OldOrNew}
-use Rattle.kernel_spec.proofs.steps.AfterChange.{after_changed, mine_before, mine_after}
-use Rattle.kernel_spec.proofs.steps.Alone.{by_own}
-use Rattle.kernel_spec.proofs.steps.Change.{leaving}
-use Rattle.kernel_spec.proofs.steps.PipeCalls.{the_descriptor}
-use Rattle.kernel_spec.proofs.steps.ClosePipe.{more_here, less_here, frees_here}
-use Rattle.kernel_spec.proofs.steps.Became.{changed_tells, changed_spares}
-use Rattle.kernel_spec.proofs.steps.Enough.{pipe_there, can_go}
-use Rattle.kernel_spec.proofs.steps.Closes.{count_some, on_an_end, name_of_pipe}
-use Rattle.kernel_spec.proofs.steps.Dup as dups
-use Rattle.kernel_spec.proofs.steps.Close as closes
+use Rattle.kernel_spec.proofs.steps.MapsAfterChange.{get_same, get_other, get_without}
+use Rattle.kernel_spec.proofs.steps.NamesAreChosenAgain.{named_at}
+use Rattle.kernel_spec.proofs.steps.StateAfterIsTold.{OldOrNew}
+use Rattle.kernel_spec.proofs.steps.ChangeIsTold.{after_changed, mine_before, mine_after}
+use Rattle.kernel_spec.proofs.steps.AloneLawsHold.{by_own}
+use Rattle.kernel_spec.proofs.steps.ChangeIsSeen.{leaving}
+use Rattle.kernel_spec.proofs.steps.PipeWriteIsItsRow.{the_descriptor}
+use Rattle.kernel_spec.proofs.steps.EndMoreOrLess.{more_here, less_here, frees_here}
+use Rattle.kernel_spec.proofs.steps.PipeChangeIsTold.{changed_tells, changed_spares}
+use Rattle.kernel_spec.proofs.steps.WellFormedIsEnough.{pipe_there, can_go}
+use Rattle.kernel_spec.proofs.steps.ClosingCountsDown.{count_some, on_an_end, name_of_pipe}
+use Rattle.kernel_spec.proofs.steps.DupIsItsRow as dups
+use Rattle.kernel_spec.proofs.steps.CloseIsItsRow as closes
 use Rattle.kernel_spec.proofs.rows.RowParts.{dup_at, close_at}
 use Rattle.kernel_spec.proofs.rows.PartLaws.{DupPart, DupPipePart, ClosePart, ClosePipePart}
-
-inside : (a b : ℕ) → Some a ≡ Some b → a ≡ b
-inside a b e = cc
-
-same_descriptor : (a b : Descriptor) → Some a ≡ Some b → a ≡ b
-same_descriptor a b e = cc
+use Rattle.kernel_spec.proofs.Common.{count_below-none}
 
 -- ---- a descriptor on what is no pipe
 
@@ -56,7 +53,8 @@ module _ (s : State) (p : ℕ) (l : Live) (j f : ℕ) (x : OpenFile) (d : Descri
     (seen : (view_of s p l).descriptors j ≡ Some d) where
   shown_is : d.shown ≡ rename_shown (numbered s l) (show s x.target)
   unfolding view_of
-  shown_is = ap (λ (y : Descriptor). y.shown) (same_descriptor d (rename (numbered s l) (record { file = f; read = x.read; write = x.write; shown = show s x.target })) (sym seen ∙ named_at (numbered s l) j below
+  shown_is = ap (λ (y : Descriptor). y.shown) (same_Some d
+      (rename (numbered s l) (record { file = f; read = x.read; write = x.write; shown = show s x.target })) (sym seen ∙ named_at (numbered s l) j below
       ∙ ap (λ (o : Option ℕ). option_map (rename (numbered s l)) (descriptor_at s o)) source ∙ ap (λ (o : Option OpenFile). option_map (rename (numbered s l)) (descriptor_on s f o)) opened))
 
   more_none : (y : Target) → pipe_of_target y ≡ None → (t : Descriptors) → one_more_on (rename_shown (numbered s l) (show s y)) t ≡ t
@@ -79,7 +77,7 @@ module _ (s : State) (p : ℕ) (l : Live) (c : Call) (j k f : ℕ) (d : Descript
   dup_keep : (e g h : ℕ) → get l.descriptors e ≡ Some g → get (insert l.descriptors k f) e ≡ Some h → g ≡ h
   dup_keep e g h a b = elim (eqb_tells e k) [
     | inl same ↦ let n : None ≡ Some g = sym unused ∙ ap (get l.descriptors) (sym same.1) ∙ a in let no : ⊥ = cc in absurd no
-    | inr other ↦ inside g h (sym a ∙ sym (get_other l.descriptors k f e other.1) ∙ b)
+    | inr other ↦ same_Some g h (sym a ∙ sym (get_other l.descriptors k f e other.1) ∙ b)
   ]
 
   mine : (e : ℕ) → file_at s p e ≡ get l.descriptors e
@@ -106,13 +104,20 @@ module _ (s : State) (p : ℕ) (l : Live) (c : Call) (j k f : ℕ) (d : Descript
 pub dup_law : DupPart
 dup_law s p l c j k f x d was below source unused opened no_pipe seen =
     dup_after s p l c j k f d s.pipes was below source unused seen
-    (ap (λ (y : Shown). one_more_on y (named (numbered s l))) (shown_is s p l j f x d below source opened seen) ∙ more_none s p l j f x d below source opened seen x.target no_pipe (named (numbered s l)))
+    (ap (λ (y : Shown). one_more_on y (named (numbered s l))) (shown_is s p l j f x d below source opened seen)
+    ∙ more_none s p l j f x d below source opened seen x.target no_pipe (named (numbered s l)))
     (λ i h. refl)
 
 pub dup_pipe_law : DupPipePart
 dup_pipe_law s p l c j k i n end x d on unused seen =
     dup_after s p l c j k on.file d (insert s.pipes i (joined x end 1)) on.was on.below on.named_file unused seen
-    (ap (λ (y : Descriptor). one_more_on y.shown (named (numbered s l))) (same_descriptor d (record { file = or_else (least_on_file (numbered s l) on.file) on.file; read = on.read; write = on.write; shown = Shown_pipe n end x }) (sym seen ∙ the_descriptor s p l j i n end x on)) ∙ more_here s l i n end x on.names)
+    (ap (λ (y : Descriptor). one_more_on y.shown (named (numbered s l)))
+    (same_Some d (record {
+      file = or_else (least_on_file (numbered s l) on.file) on.file;
+      read = on.read;
+      write = on.write;
+      shown = Shown_pipe n end x;
+    }) (sym seen ∙ the_descriptor s p l j i n end x on)) ∙ more_here s l i n end x on.names)
     (λ m h. get_other s.pipes i (joined x end 1) m (λ e. h j on.below (on_pipe ∙ sym (ap Some e))))
   where
     on_pipe : pipe_at s p j ≡ Some i
@@ -162,7 +167,7 @@ module _ (frames : ℕ) (s : State) (p : ℕ) (l : Live) (c : Call) (k : ℕ) (d
   close_keep : (e g h : ℕ) → get l.descriptors e ≡ Some g → get (remove l.descriptors k) e ≡ Some h → g ≡ h
   close_keep e g h a b = elim (eqb_tells e k) [
     | inl same ↦ let n : None ≡ Some h = sym removed_here ∙ ap (get (remove l.descriptors k)) (sym same.1) ∙ b in let no : ⊥ = cc in absurd no
-    | inr other ↦ inside g h (sym a ∙ sym (removed e other.1) ∙ b)
+    | inr other ↦ same_Some g h (sym a ∙ sym (removed e other.1) ∙ b)
   ]
 
   close_from : (e g : ℕ) → get (remove l.descriptors k) e ≡ Some g → OldOrNew s p shut g
@@ -196,27 +201,19 @@ module _ (frames : ℕ) (s : State) (well : WellFormed frames s) where
   none_given l n None = refl
   none_given l n (Some g) = on_open (get s.files g) (λ j h. held_pipe (Some g) j h)
     where
-      both : (a b : Bool) → b ≡ false → (a && b) ≡ false
-      both true b e = e
-      both false b e = refl
-
       on_target : (r w : Bool) (y : Target) → ((j : ℕ) → pipe_of_target y ≡ Some j → is_given_up (or_gone (get s.pipes j)) ≡ false)
           → names_given_up n (option_map (rename (numbered s l)) (descriptor_on s g (Some (record { read = r; write = w; target = y })))) ≡ false
       on_target r w Terminal h = refl
       on_target r w (File program offset) h = refl
-      on_target r w (Pipe_end j e) h = both _ (is_given_up (or_gone (get s.pipes j))) (h j refl)
+      on_target r w (Pipe_end j e) h = and_right _ (is_given_up (or_gone (get s.pipes j))) (h j refl)
 
-      on_open : (o : Option OpenFile) → ((j : ℕ) → pipe_of_open o ≡ Some j → is_given_up (or_gone (get s.pipes j)) ≡ false) → names_given_up n (option_map (rename (numbered s l)) (descriptor_on s g o)) ≡ false
+      on_open : (o : Option OpenFile) → ((j : ℕ) → pipe_of_open o ≡ Some j → is_given_up (or_gone (get s.pipes j)) ≡ false)
+          → names_given_up n (option_map (rename (numbered s l)) (descriptor_on s g o)) ≡ false
       on_open None h = refl
       on_open (Some y) h = on_target y.read y.write y.target h
 
-  count_none : (n : ℕ) (P : ℕ → Bool) → ((e : ℕ) → e < n → P e ≡ false) → count_below P n ≡ 0
-  unfolding count_below
-  count_none zero P h = refl
-  count_none (suc n) P h = λ i. count_none n P (λ e below. h e (omega arith)) i + cond (h n (omega arith) i) 1 0
-
   pub frees_none : (l : Live) → pipes_given_up (named (numbered s l)) ≡ 0
-  frees_none l = count_none NOFILE (λ e. names_given_up e (named (numbered s l) e)) (λ e below. ap (names_given_up e) (named_at (numbered s l) e below) ∙ none_given l e (get l.descriptors e))
+  frees_none l = count_below-none NOFILE (λ e. names_given_up e (named (numbered s l) e)) (λ e below. ap (names_given_up e) (named_at (numbered s l) e below) ∙ none_given l e (get l.descriptors e))
 
 same_table : (t : Descriptors) → t ≡ change_pipes (λ n y. y) t
 same_table t = fun_ext (λ e. by (t e))
@@ -233,7 +230,8 @@ same_table t = fun_ext (λ e. by (t e))
 pub close_law : ClosePart
 close_law frames s p l c k f x d files well was below source opened no_pipe seen left =
     close_after frames s p l c k d (λ n y. y) files s.pipes 0 well was left
-    (ap (λ (y : Shown). one_less_on y (named (numbered s l))) (shown_is s p l k f x d below source opened seen) ∙ less_none s p l k f x d below source opened seen x.target no_pipe (named (numbered s l)) ∙ ap named (same_table (numbered s l)))
+    (ap (λ (y : Shown). one_less_on y (named (numbered s l))) (shown_is s p l k f x d below source opened seen)
+    ∙ less_none s p l k f x d below source opened seen x.target no_pipe (named (numbered s l)) ∙ ap named (same_table (numbered s l)))
     (ap (λ (t : Descriptors). pipes_given_up (named t)) (sym (same_table (numbered s l))) ∙ frees_none frames s well l)
     (λ e j other h. refl) (λ e j other b h. refl) (λ j other h. refl)
 
@@ -275,21 +273,25 @@ one_of a b h = by (nat_eq a 0) (nat_eq b 0) refl refl h
 
 pub not_given : (a b : ℕ) → (0 < a) ⊎ (0 < b) → (nat_eq a 0 && nat_eq b 0) ≡ false
 not_given a b (inl h) = ap (λ (x : Bool). x && nat_eq b 0) (not_0 a h)
-not_given a b (inr h) = ap (λ (y : Bool). nat_eq a 0 && y) (not_0 b h) ∙ falls (nat_eq a 0)
-  where
-    falls : (x : Bool) → (x && false) ≡ false
-    falls true = refl
-    falls false = refl
+not_given a b (inr h) = ap (λ (y : Bool). nat_eq a 0 && y) (not_0 b h) ∙ and_right (nat_eq a 0) false refl
 
 -- so many descriptors of p are on the ends, one of them on this end; a pipe with more on it, or with two of p's own, isn't given up by one fewer
 still : (x : Pipe) (end : End) (reads writes : ℕ) → reads ≤ x.readers → writes ≤ x.writers → (end ≡ Reading → 0 < reads) → (end ≡ Writing → 0 < writes)
     → (0 < x.readers - reads) ⊎ (0 < x.writers - writes) → is_given_up (parted x end 1) ≡ false
 still x Reading reads writes a b c d h =
     let R : ℕ = x.readers in let W : ℕ = x.writers in let some : 0 < reads = c refl in
-    not_given (R - 1) W (elim h [ inl r ↦ let more : 0 < R - reads = r in inl (let goal : 0 < R - 1 = omega arith in goal) | inr w ↦ let more : 0 < W - writes = w in inr (let goal : 0 < W = omega arith in goal) ])
+    not_given (R - 1) W (elim h [
+      | inl r ↦ let more : 0 < R - reads = r in
+          inl (let goal : 0 < R - 1 = omega arith in goal)
+      | inr w ↦ let more : 0 < W - writes = w in inr (let goal : 0 < W = omega arith in goal)
+    ])
 still x Writing reads writes a b c d h =
     let R : ℕ = x.readers in let W : ℕ = x.writers in let some : 0 < writes = d refl in
-    not_given R (W - 1) (elim h [ inl r ↦ let more : 0 < R - reads = r in inl (let goal : 0 < R = omega arith in goal) | inr w ↦ let more : 0 < W - writes = w in inr (let goal : 0 < W - 1 = omega arith in goal) ])
+    not_given R (W - 1) (elim h [
+      | inl r ↦ let more : 0 < R - reads = r in
+          inl (let goal : 0 < R = omega arith in goal)
+      | inr w ↦ let more : 0 < W - writes = w in inr (let goal : 0 < W - 1 = omega arith in goal)
+    ])
 
 is_end_same : (e : End) → is_end e e ≡ true
 is_end_same Reading = refl
@@ -389,7 +391,13 @@ module _ (frames : ℕ) (s : State) (p : ℕ) (l : Live) (k i n : ℕ) (end : En
     close_pipe_after : After s p l (close_at c (view_of s p l) k d) (closed_state p l k files settled_pipes (cond (is_given_up fewer_pipe) 1 0) s)
     close_pipe_after =
         close_after frames s p l c k d now files settled_pipes (cond (is_given_up fewer_pipe) 1 0) well on.was left
-        (ap (λ (y : Descriptor). one_less_on y.shown (named (numbered s l))) (same_descriptor d (record { file = or_else (least_on_file (numbered s l) on.file) on.file; read = on.read; write = on.write; shown = Shown_pipe n end x }) (sym seen ∙ the_descriptor s p l k i n end x on)) ∙ less_here s l i n end x on.names)
+        (ap (λ (y : Descriptor). one_less_on y.shown (named (numbered s l)))
+        (same_Some d (record {
+          file = or_else (least_on_file (numbered s l) on.file) on.file;
+          read = on.read;
+          write = on.write;
+          shown = Shown_pipe n end x;
+        }) (sym seen ∙ the_descriptor s p l k i n end x on)) ∙ less_here s l i n end x on.names)
         (frees_here s l i n fewer_pipe on.names (λ e j h. held_pipe frames s well (get l.descriptors e) j h))
         (λ e j other h. became j (λ same. held_by_own e other (h ∙ ap Some same)))
         (λ e j other below h. became j (λ same. held_by_others (other.0, other.1, other.2, other.3 ∙ ap Some same)))

@@ -1,5 +1,5 @@
--- Dup.
-use Rattle.std.proofs.Common.{◌≡◌, ◌≢◌, ℕ, ◌<◌, Bool, true, false, cond, refl, ap, sym, ◌∙◌, subst}
+-- Dup: it is the step that its row tells.
+use Rattle.std.proofs.Common.{◌≡◌, ◌≢◌, ℕ, ◌<◌, Bool, true, false, cond, refl, ap, sym, ◌∙◌}
 use Rattle.std.proofs.Math.Path.{fun_ext}
 use Rattle.std.specs.Prelude.{Option, None, Some, pos, option_map, nat_eq}
 use Rattle.std.specs.FinMap.{FinMap, get, insert}
@@ -14,16 +14,15 @@ use Rattle.kernel_spec.specs.views.Processes.{Alive, Live}
 use Rattle.proc_table.specs.declared.process.Call.{Call}
 use Rattle.kernel_spec.specs.views.State.{State, live, live_part}
 use Rattle.kernel_spec.specs.views.View.{Descriptors, Descriptor, named, numbered, rename, descriptor_at, descriptor_on, show, or_gone, view_of}
-use Rattle.kernel_spec.specs.steps.Own.{Own, Called, goes_on}
+use Rattle.kernel_spec.specs.steps.Own.{Called, goes_on}
 use Rattle.kernel_spec.specs.rows.Tables.{with_copy, one_more_on}
 use Rattle.kernel_spec.specs.rows.Calls.{with_a0}
-use Rattle.kernel_spec.specs.others.Quiet.{Quiet, file_at, file_of, pipe_at, pipe_of_file, pipe_of_open, pipe_of_target, offset_left, pipe_left, shown_offset, shown_pipe}
+use Rattle.kernel_spec.specs.others.Quiet.{file_at, file_of, pipe_at, pipe_of_file, pipe_of_open, pipe_of_target, offset_left, pipe_left, shown_offset, shown_pipe}
 use Rattle.kernel_spec.specs.steps.Updates.{changed_state}
-use Rattle.kernel_spec.proofs.steps.Maps.{get_at, get_other}
-use Rattle.kernel_spec.proofs.steps.Frame.{Tells, Spares, OtherNames, open_offset, target_offset}
-use Rattle.kernel_spec.proofs.steps.Tell.{quiet_from}
-use Rattle.kernel_spec.proofs.steps.Names.{named_at, named_copy}
-use Rattle.kernel_spec.proofs.steps.Change.{view_changed, leaves_changed}
+use Rattle.kernel_spec.proofs.steps.MapsAfterChange.{get_at, get_other}
+use Rattle.kernel_spec.proofs.steps.OthersTableIsSeen.{Tells, Spares, OtherNames, open_offset, target_offset}
+use Rattle.kernel_spec.proofs.steps.NamesAreChosenAgain.{named_at, named_copy}
+use Rattle.kernel_spec.proofs.steps.ChangeIsSeen.{view_changed}
 use Rattle.kernel_spec.proofs.rows.RowParts.{dup_at}
 
 -- ---- a table with more descriptors tells what p's descriptors were on
@@ -45,7 +44,8 @@ module _ (s t : State) (p : ℕ) (l m : Live) (is : live s p ≡ Some l) (wider 
   offset_on g n None = refl
   offset_on g n (Some x) = offset_shown n x.target
 
-  pipe_shown : (j : ℕ) (x : Pipe) (y : Target) → pipe_of_target y ≡ Some j → shown_pipe x (rename table (record { file = 0; read = true; write = true; shown = show t y })).shown ≡ or_gone (get t.pipes j)
+  pipe_shown : (j : ℕ) (x : Pipe) (y : Target) → pipe_of_target y ≡ Some j
+      → shown_pipe x (rename table (record { file = 0; read = true; write = true; shown = show t y })).shown ≡ or_gone (get t.pipes j)
   pipe_shown j x Terminal e = let no : ⊥ = cc in absurd no
   pipe_shown j x (File program offset) e = let no : ⊥ = cc in absurd no
   pipe_shown j x (Pipe_end k end) e = let same : k ≡ j = cc in ap (λ (i : ℕ). or_gone (get t.pipes i)) same
@@ -54,7 +54,8 @@ module _ (s t : State) (p : ℕ) (l m : Live) (is : live s p ≡ Some l) (wider 
   pipe_on g j x None e = let no : ⊥ = cc in absurd no
   pipe_on g j x (Some y) e = pipe_shown j x y.target e
 
-  pipe_case : (e j : ℕ) (x : Pipe) (o : Option ℕ) → get l.descriptors e ≡ o → pipe_of_file s o ≡ Some j → pipe_left x (option_map (rename table) (descriptor_at t (get m.descriptors e))) ≡ or_gone (get t.pipes j)
+  pipe_case : (e j : ℕ) (x : Pipe) (o : Option ℕ) → get l.descriptors e ≡ o → pipe_of_file s o ≡ Some j
+      → pipe_left x (option_map (rename table) (descriptor_at t (get m.descriptors e))) ≡ or_gone (get t.pipes j)
   pipe_case e j x None is_o h = let no : ⊥ = cc in absurd no
   pipe_case e j x (Some g) is_o h =
       ap (λ (o : Option ℕ). pipe_left x (option_map (rename table) (descriptor_at t o))) (wider e g is_o)
@@ -97,7 +98,8 @@ module _ (s : State) (p : ℕ) (old : Live) (was : get s.processes p ≡ Some (A
 
     pub dup_own : dup_at c (view_of s p old) j x (Some k) ≡ goes_on (Called c.number (pos k)) (view_of after p duplicated)
     unfolding view_of
-    dup_own = ap (goes_on (Called c.number (pos k))) (view_changed s p old was (with_a0 old.regs (word (pos k))) old.image None old.killed (insert old.descriptors k f) s.files pipes s.console s.free (with_copy k j (one_more_on x.shown (named (numbered s old)))) next_table)
+    dup_own = ap (goes_on (Called c.number (pos k))) (view_changed s p old was (with_a0 old.regs (word (pos k))) old.image None old.killed
+        (insert old.descriptors k f) s.files pipes s.console s.free (with_copy k j (one_more_on x.shown (named (numbered s old)))) next_table)
 
   module _ (spared : (i : ℕ) → ((e : ℕ) → e < NOFILE → pipe_at s p e ≢ Some i) → get pipes i ≡ get s.pipes i) where
     apart : (d g : ℕ) → get old.descriptors d ≡ Some g → d ≢ k
@@ -108,11 +110,3 @@ module _ (s : State) (p : ℕ) (old : Live) (was : get s.processes p ≡ Some (A
 
     pub dup_spares : Spares s after p
     dup_spares = record { file = λ g other h. refl; pipe = λ i other h. spared i h; kinds = λ g other. refl }
-
-    pub dup_quiet : (o : Own) → o ≡ goes_on (Called c.number (pos k)) (view_of after p duplicated) → Quiet s (view_of s p old) o after
-    unfolding view_of
-    dup_quiet o is = subst (λ (z : Own). Quiet s (view_of s p old) z after) (sym is)
-        (quiet_from s after (view_of s p old) (goes_on (Called c.number (pos k)) (view_of after p duplicated))
-        (leaves_changed s p old was (with_a0 old.regs (word (pos k))) old.image None old.killed (insert old.descriptors k f) s.files pipes s.console s.free (Called c.number (pos k)) refl (named (numbered after duplicated))
-        (wider_tells s after p old duplicated (ap live_part was) (λ e g h. get_other old.descriptors k f e (apart e g h) ∙ h) (λ g other. refl) (λ e g h. refl))
-        (record { file = λ g other h. refl; pipe = λ i other h. spared i h; kinds = λ g other. refl })))

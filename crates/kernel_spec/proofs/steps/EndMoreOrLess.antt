@@ -18,11 +18,12 @@ use Rattle.kernel_spec.specs.views.State.{State}
 use Rattle.kernel_spec.specs.views.View.{Descriptors, Descriptor, Shown_pipe, named, numbered, rename, descriptor_at, descriptor_on, or_gone, or_else, pipe_name, least_on_pipe}
 use Rattle.kernel_spec.specs.rows.Tables.{one_more_on, one_less_on, change_pipe, changed, names_given_up, pipes_given_up}
 use Rattle.kernel_spec.specs.others.Quiet.{pipe_of_file, pipe_of_open, pipe_of_target}
-use Rattle.kernel_spec.proofs.steps.Least.{least_passes}
-use Rattle.kernel_spec.proofs.steps.Names.{choice, named_at, this_is}
-use Rattle.kernel_spec.proofs.steps.Pipes.{numbered_set, named_change}
+use Rattle.kernel_spec.proofs.steps.LeastPasses.{least_passes}
+use Rattle.kernel_spec.proofs.steps.NamesAreChosenAgain.{choice, named_at}
+use Rattle.kernel_spec.proofs.steps.OnePipeChanges.{numbered_set, named_change}
 use Rattle.kernel_spec.specs.steps.Updates.{set_pipe}
-use Rattle.kernel_spec.proofs.steps.Closes.{name_of_pipe}
+use Rattle.kernel_spec.proofs.steps.ClosingCountsDown.{name_of_pipe}
+use Rattle.kernel_spec.proofs.Common.{count_below-same, this_is}
 
 -- dup: the pipe has one descriptor more
 pub more_here : (s : State) (old : Live) (i k : ℕ) (end : End) (x : Pipe) → least_on_pipe (numbered s old) i ≡ Some k
@@ -52,11 +53,6 @@ count_one (suc n) k b h = elim (eqb_tells n k) [
   | inr e ↦ let apart : n ≢ k = e.1 in (λ i. count_one n k b (omega arith) i + cond (e.0 i && b) 1 0) ∙ (let z : ℕ = cond b 1 0 in let g : z + 0 ≡ z = omega arith in g)
 ]
 
-count_same : (n : ℕ) (P Q : ℕ → Bool) → ((d : ℕ) → d < n → P d ≡ Q d) → count_below P n ≡ count_below Q n
-unfolding count_below
-count_same zero P Q same = refl
-count_same (suc n) P Q same = λ i. count_same n P Q (λ d below. same d (omega arith)) i + cond (same n (omega arith) i) 1 0
-
 module _ (s : State) (old : Live) (i k : ℕ) (y : Pipe) (names : least_on_pipe (numbered s old) i ≡ Some k)
     (held : (d j : ℕ) → pipe_of_file s (get old.descriptors d) ≡ Some j → is_given_up (or_gone (get s.pipes j)) ≡ false) where
   abbrev T : Descriptors
@@ -82,7 +78,8 @@ module _ (s : State) (old : Live) (i k : ℕ) (y : Pipe) (names : least_on_pipe 
   part d None = false
   part d (Some j) = nat_eq (name j) d && is_given_up (now (name j) (or_gone (get s.pipes j)))
 
-  part_target : (d g : ℕ) (r w : Bool) (x : Target) → names_given_up d (changed now (option_map (rename T) (descriptor_on s g (Some (record { read = r; write = w; target = x }))))) ≡ part d (pipe_of_target x)
+  part_target : (d g : ℕ) (r w : Bool) (x : Target) → names_given_up d
+      (changed now (option_map (rename T) (descriptor_on s g (Some (record { read = r; write = w; target = x }))))) ≡ part d (pipe_of_target x)
   part_target d g r w Terminal = refl
   part_target d g r w (File program offset) = refl
   part_target d g r w (Pipe_end j end) = refl
@@ -127,6 +124,7 @@ module _ (s : State) (old : Live) (i k : ℕ) (y : Pipe) (names : least_on_pipe 
   pub frees_here : pipes_given_up (named (change_pipe i y (numbered s old))) ≡ cond (is_given_up y) 1 0
   frees_here =
       ap pipes_given_up (named_change (numbered s old) i k y names)
-      ∙ count_same NOFILE (λ d. names_given_up d (change_pipe k y (named T) d)) (λ d. nat_eq d k && is_given_up y)
-      (λ d below. ap (λ (o : Option Descriptor). names_given_up d (changed now o)) (named_at T d below) ∙ part_place d (get old.descriptors d) ∙ part_is d (pipe_of_file s (get old.descriptors d)) refl)
+      ∙ count_below-same NOFILE (λ d. names_given_up d (change_pipe k y (named T) d)) (λ d. nat_eq d k && is_given_up y)
+      (λ d below. ap (λ (o : Option Descriptor). names_given_up d (changed now o)) (named_at T d below) ∙ part_place d (get old.descriptors d)
+      ∙ part_is d (pipe_of_file s (get old.descriptors d)) refl)
       ∙ count_one NOFILE k (is_given_up y) k_below

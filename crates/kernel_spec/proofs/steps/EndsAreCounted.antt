@@ -20,7 +20,8 @@ use Rattle.kernel_spec.specs.views.View.{numbered, descriptor_at, descriptor_on}
 use Rattle.kernel_spec.specs.rows.Tables.{on_end, is_end}
 use Rattle.kernel_spec.specs.steps.Updates.{more_at, more_on, more_on_all}
 use Rattle.kernel_spec.specs.others.Quiet.{pipe_of_file, pipe_of_open, pipe_of_target, end_of, target_of_open}
-use Rattle.kernel_spec.proofs.steps.Maps.{get_at}
+use Rattle.kernel_spec.proofs.steps.MapsAfterChange.{get_at}
+use Rattle.kernel_spec.proofs.Common.{count_below-none}
 
 -- ---- whether a target is an end of pipe j
 
@@ -75,7 +76,8 @@ no_hit o e b h = option_plus_none o ∙ (λ i. option_map (λ x. plus x (one (sy
 more_pipe : (i : ℕ) (e : End) (m : FinMap nat_cmp Pipe) (j : ℕ) (a : Option Pipe) → get m i ≡ a
     → get (more_at i e m a) j ≡ option_map (λ x. plus x (one (nat_eq i j && is_end Reading e)) (one (nat_eq i j && is_end Writing e))) (get m j)
 more_pipe i e m j None is = elim (eqb_tells i j) [
-  | inl h ↦ let none : get m j ≡ None = ap (get m) (sym h.1) ∙ is in none ∙ ap (option_map (λ (x : Pipe). plus x (one (nat_eq i j && is_end Reading e)) (one (nat_eq i j && is_end Writing e)))) (sym none)
+  | inl h ↦ let none : get m j ≡ None = ap (get m) (sym h.1) ∙ is in
+      none ∙ ap (option_map (λ (x : Pipe). plus x (one (nat_eq i j && is_end Reading e)) (one (nat_eq i j && is_end Writing e)))) (sym none)
   | inr h ↦ no_hit (get m j) e (nat_eq i j) h.0
 ]
 more_pipe i e m j (Some x) is = elim (eqb_tells i j) [
@@ -131,13 +133,8 @@ pub misses : (s : State) (j : ℕ) (end : End) (o : Option ℕ) → pipe_of_file
 misses s j end None h = refl
 misses s j end (Some g) h = open_misses j end (get s.files g) h
 
-count_none : (n : ℕ) (P : ℕ → Bool) → ((d : ℕ) → d < n → P d ≡ false) → count_below P n ≡ 0
-unfolding count_below
-count_none zero P h = refl
-count_none (suc n) P h = λ i. count_none n P (λ d below. h d (omega arith)) i + cond (h n (omega arith) i) 1 0
-
 pub among_nobody : (s : State) (l : Live) (n j : ℕ) (end : End) → ((e : ℕ) → e < n → pipe_of_file s (get l.descriptors e) ≢ Some j) → among s l n j end ≡ 0
-among_nobody s l n j end h = count_none n (λ d. on_end j end (numbered s l d)) (λ d below. hits_at s j end (get l.descriptors d) ∙ misses s j end (get l.descriptors d) (h d below))
+among_nobody s l n j end h = count_below-none n (λ d. on_end j end (numbered s l d)) (λ d below. hits_at s j end (get l.descriptors d) ∙ misses s j end (get l.descriptors d) (h d below))
 
 pub more_on_none : (s : State) (l : Live) (j : ℕ) → ((e : ℕ) → e < NOFILE → pipe_of_file s (get l.descriptors e) ≢ Some j) → get (more_on_all s l NOFILE) j ≡ get s.pipes j
 more_on_none s l j h =

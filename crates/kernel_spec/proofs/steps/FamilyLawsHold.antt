@@ -5,6 +5,7 @@ use Rattle.std.specs.FinMap.{FinMap, get, insert, keys}
 use Rattle.std.specs.Ordering.{nat_cmp}
 use Rattle.std.specs.List.{list_any}
 use Rattle.std.proofs.lemmas.Bool.Decides.{eqb_tells}
+use Rattle.std.proofs.lemmas.Option.{same_Some}
 use Rattle.file_table.specs.declared.open_file.OpenFile.{OpenFile}
 use Rattle.proc_table.specs.declared.process.Call.{Call}
 use Rattle.kernel_spec.specs.views.Processes.{Process, Alive, Live, Zombie}
@@ -13,46 +14,30 @@ use Rattle.kernel_spec.specs.views.View.{View, view, view_of}
 use Rattle.kernel_spec.specs.steps.Own.{Own, Answer, Called, goes_on, gone_with}
 use Rattle.kernel_spec.specs.rows.Calls.{fork, gone, wait, least_zombie}
 use Rattle.kernel_spec.specs.others.Quiet.{file_at, pipe_at, file_of, pipe_of_file, pipe_of_open}
-use Rattle.kernel_spec.proofs.steps.Frame.{OtherNames}
+use Rattle.kernel_spec.proofs.steps.OthersTableIsSeen.{OtherNames}
 use Rattle.kernel_spec.specs.steps.Updates.{forking, forked_child, forked_state, gone_state, waited_state, waited, kill_state, killer, own_state, marked, orphan, orphans, given_to}
 use Rattle.kernel_spec.specs.views.Words.{is_this}
 use Rattle.kernel_spec.specs.rows.Buffers.{writable_now}
 use Rattle.kernel_spec.specs.views.WellFormed.{WellFormed}
-use Rattle.kernel_spec.specs.runs.Run.{StateAfter, FilesAfter, IsNewbornOf}
+use Rattle.kernel_spec.specs.runs.Run.{FilesAfter, IsNewbornOf}
 use Rattle.kernel_spec.specs.laws.RowLaws.{After, FilesLeft, GoneLaw, ReapLaw}
-use Rattle.kernel_spec.proofs.steps.Maps.{get_same, get_other, get_without}
-use Rattle.kernel_spec.proofs.steps.SetLive.{live-set_live_there}
-use Rattle.kernel_spec.proofs.steps.After.{files_after, state_after}
-use Rattle.kernel_spec.proofs.steps.Enough.{can_fork, can_go}
-use Rattle.kernel_spec.proofs.steps.Orphans.{get-orphans}
-use Rattle.kernel_spec.proofs.steps.Fork as forks
-use Rattle.kernel_spec.proofs.steps.Gone as goes
-use Rattle.kernel_spec.proofs.steps.Wait as reaps
-use Rattle.kernel_spec.proofs.steps.Kill as kills
+use Rattle.kernel_spec.proofs.steps.MapsAfterChange.{get_same, get_other, get_without}
+use Rattle.kernel_spec.proofs.steps.ViewsAfterSetLive.{live-set_live_there}
+use Rattle.kernel_spec.proofs.steps.StateAfterIsTold.{files_after, state_after}
+use Rattle.kernel_spec.proofs.steps.WellFormedIsEnough.{can_fork, can_go}
+use Rattle.kernel_spec.proofs.steps.OrphansKeepKeys.{get-orphans}
+use Rattle.kernel_spec.proofs.steps.ForkIsItsRow as forks
+use Rattle.kernel_spec.proofs.steps.GoneIsItsRow as goes
+use Rattle.kernel_spec.proofs.steps.WaitIsItsRow as reaps
+use Rattle.kernel_spec.proofs.steps.KillIsItsRow as kills
 use Rattle.kernel_spec.proofs.rows.RowParts.{killed_by, cannot_fork}
 use Rattle.kernel_spec.proofs.rows.PartLaws.{ForkPart, KillPart}
-
-by_own : (s t : State) (v : View) (o u : Own) → o ≡ u → StateAfter s v u t → StateAfter s v o t
-by_own s t v o u same h = subst (λ (x : Own). StateAfter s v x t) (sym same) h
-
-view_some : (o : Option Live) (u : State) (q : ℕ) → is_some (option_map (view_of u q) o) ≡ is_some o
-view_some None u q = refl
-view_some (Some l) u q = refl
-
-there_of : (o : Option Live) → IsSome o → (m : Live) × (o ≡ Some m)
-there_of None h = let no : ⊥ = cc in absurd no
-there_of (Some m) h = (m, refl)
+use Rattle.kernel_spec.proofs.Common.{is_some-view}
+use Rattle.kernel_spec.proofs.steps.AloneLawsHold.{by_own}
 
 no_file : (o : Option Live) (d f : ℕ) → o ≡ None → file_of o d ≡ Some f → ⊥
 no_file None d f e h = cc
 no_file (Some l) d f e h = cc
-
-some_live : (o : Option Live) (d f : ℕ) → file_of o d ≡ Some f → (m : Live) × (o ≡ Some m)
-some_live None d f h = let no : ⊥ = cc in absurd no
-some_live (Some m) d f h = (m, refl)
-
-inside : (a b : ℕ) → Some a ≡ Some b → a ≡ b
-inside a b e = cc
 
 -- ---- fork
 
@@ -61,7 +46,8 @@ module _ (frames : ℕ) (s : State) (p : ℕ) (l : Live) (c : Call) (well : Well
   born = forked_state p l s
 
   fork_there : (q : ℕ) → q ≢ s.next_pid → q ≢ p → live born q ≡ live s q
-  fork_there q new other = ap live_part (get_other (insert s.processes p (Alive (forking s l))) s.next_pid (Alive (forked_child s p l)) q new) ∙ live-set_live_there s p l (forking s l) was refl q other
+  fork_there q new other = ap live_part (get_other (insert s.processes p (Alive (forking s l))) s.next_pid (Alive (forked_child s p l)) q new)
+      ∙ live-set_live_there s p l (forking s l) was refl q other
 
   p_is_old : p ≢ s.next_pid
   p_is_old e = let b : p < s.next_pid = (well.pids p (ap is_some was)).1 in absurd (omega arith)
@@ -94,7 +80,7 @@ module _ (frames : ℕ) (s : State) (p : ℕ) (l : Live) (c : Call) (well : Well
   fork_files : (o : Own) → o.child ≡ Some (view_of born s.next_pid (forked_child s p l)) → FilesAfter s p o born
   unfolding view_of
   fork_files o child = record {
-    same_file = λ q d f g a b. inside f g (sym a ∙ sym (same q d f a) ∙ b);
+    same_file = λ q d f g a b. same_Some f g (sym a ∙ sym (same q d f a) ∙ b);
     same_pipe = λ q d i j a b. same_pipes q d i j (file_at s q d) refl a b;
     newborn = subst (λ (x : Option View). MatchOption x (Unit {0}) (λ x. (d : ℕ) → file_at born x.pid d ≡ file_at s p d)) (sym child)
         (λ d. ap (λ (o : Option Live). file_of o d) at_child ∙ sym (ap (λ (o : Option Live). file_of o d) (ap live_part was)));
@@ -104,7 +90,7 @@ module _ (frames : ℕ) (s : State) (p : ℕ) (l : Live) (c : Call) (well : Well
     where
       same_pipes : (q d i j : ℕ) (o : Option ℕ) → file_at s q d ≡ o → pipe_of_file s o ≡ Some i → pipe_at born q d ≡ Some j → i ≡ j
       same_pipes q d i j None e a b = let no : ⊥ = cc in absurd no
-      same_pipes q d i j (Some f) e a b = inside i j (sym a ∙ ap (pipe_of_file s) (sym (same q d f e ∙ e)) ∙ b)
+      same_pipes q d i j (Some f) e a b = same_Some i j (sym a ∙ ap (pipe_of_file s) (sym (same q d f e ∙ e)) ∙ b)
 
   fork_no_more : (o : Own) → o.child ≡ Some (view_of born s.next_pid (forked_child s p l)) → (q : ℕ) → IsSome (view born q) → (q ≡ p) ⊎ IsSome (view s q) ⊎ IsNewbornOf o q
   unfolding view_of
@@ -112,7 +98,7 @@ module _ (frames : ℕ) (s : State) (p : ℕ) (l : Live) (c : Call) (well : Well
     | inl me ↦ inl me.1
     | inr other ↦ elim (eqb_tells q s.next_pid) [
       | inl new ↦ inr (inr (subst (λ (x : Option View). MatchOption x ⊥ (λ x. q ≡ x.pid)) (sym child) new.1))
-      | inr old ↦ inr (inl (view_some (live s q) s q ∙ sym (ap is_some (fork_there q old.1 other.1)) ∙ sym (view_some (live born q) born q) ∙ h))
+      | inr old ↦ inr (inl (is_some-view (live s q) s q ∙ sym (ap is_some (fork_there q old.1 other.1)) ∙ sym (is_some-view (live born q) born q) ∙ h))
     ]
   ]
 
@@ -188,7 +174,9 @@ module _ (frames : ℕ) (s : State) (p : ℕ) (l : Live) (answer : Answer) (stat
   gone_no_more : (o : Own) (q : ℕ) → IsSome (view after q) → (q ≡ p) ⊎ IsSome (view s q) ⊎ IsNewbornOf o q
   gone_no_more o q h = elim (eqb_tells q p) [
     | inl me ↦ inl me.1
-    | inr other ↦ inr (inl (view_some (live s q) s q ∙ sym (ap (λ (x : Option Process). is_some (live_part x)) (gone_at q other.1) ∙ orphan_live (get s.processes q)) ∙ sym (view_some (live after q) after q) ∙ h))
+    | inr other ↦ inr (inl (is_some-view (live s q) s q
+        ∙ sym (ap (λ (x : Option Process). is_some (live_part x)) (gone_at q other.1) ∙ orphan_live (get s.processes q))
+        ∙ sym (is_some-view (live after q) after q) ∙ h))
   ]
 
   gone_after : After s p l (gone answer (view_of s p l)) after
@@ -244,7 +232,7 @@ module _ (s : State) (p q : ℕ) (l : Live) (c : Call) (status : ℤ) (was : get
   reap_no_more : (o : Own) (r : ℕ) → IsSome (view reaped r) → (r ≡ p) ⊎ IsSome (view s r) ⊎ IsNewbornOf o r
   reap_no_more o r h = elim (eqb_tells r p) [
     | inl me ↦ inl me.1
-    | inr other ↦ inr (inl (view_some (live s r) s r ∙ sym (ap is_some (reaped_live r other.1)) ∙ sym (view_some (live reaped r) reaped r) ∙ h))
+    | inr other ↦ inr (inl (is_some-view (live s r) s r ∙ sym (ap is_some (reaped_live r other.1)) ∙ sym (is_some-view (live reaped r) reaped r) ∙ h))
   ]
 
   module _ (room : (not (nat_eq c.a0 0) && not (writable_now l.image c.a0 4)) ≡ false) (least : least_zombie (view_of s p l) ≡ Some q) where
@@ -257,7 +245,7 @@ module _ (s : State) (p q : ℕ) (l : Live) (c : Call) (status : ℤ) (was : get
         (ap (option_map (view_of reaped p)) reaped_mine) tt (reap_no_more (goes_on (Called c.number (pos q)) (view_of reaped p (waited c q status l))))
         (files_after s reaped p (goes_on (Called c.number (pos q)) (view_of reaped p (waited c q status l))) refl
         (λ r d g other h. sym (ap (λ (o : Option Live). file_of o d) (reaped_live r other)) ∙ h)
-        (λ d f g a b. inside f g (sym a ∙ sym (mine_same d) ∙ b))
+        (λ d f g a b. same_Some f g (sym a ∙ sym (mine_same d) ∙ b))
         (λ r d f j a b. b)
         (λ d f h. inl (d, sym (mine_same d) ∙ h))))
 
@@ -294,7 +282,10 @@ module _ (s : State) (p q : ℕ) (l : Live) (c : Call) (was : get s.processes p 
   kill_no_more : (o : Own) (r : ℕ) → IsSome (view hurt r) → (r ≡ p) ⊎ IsSome (view s r) ⊎ IsNewbornOf o r
   kill_no_more o r h = elim (eqb_tells r p) [
     | inl me ↦ inl me.1
-    | inr other ↦ inr (inl (view_some (live s r) s r ∙ sym (ap (λ (x : Option Process). is_some (live_part x)) (kills.process_at s p q l was c r) ∙ marked_some (nat_eq r q) (get (own_state p (killer p q l) s).processes r) ∙ ap is_some (live-set_live_there s p l (killer p q l) was refl r other.1)) ∙ sym (view_some (live hurt r) hurt r) ∙ h))
+    | inr other ↦ inr (inl (is_some-view (live s r) s r
+        ∙ sym (ap (λ (x : Option Process). is_some (live_part x)) (kills.process_at s p q l was c r)
+        ∙ marked_some (nat_eq r q) (get (own_state p (killer p q l) s).processes r)
+        ∙ ap is_some (live-set_live_there s p l (killer p q l) was refl r other.1)) ∙ sym (is_some-view (live hurt r) hurt r) ∙ h))
   ]
 
   abbrev kill_own : Own
@@ -305,7 +296,8 @@ module _ (s : State) (p q : ℕ) (l : Live) (c : Call) (was : get s.processes p 
   kill_after =
       by_own s hurt (view_of s p l) (killed_by c (view_of s p l) q) kill_own (kills.kill_own s p q l was c known)
       (state_after s hurt (view_of s p l) kill_own (kills.kill_leaves s p q l was c) (kills.view_killer s p q l was c) tt (kill_no_more kill_own)
-      (files_after s hurt p kill_own refl (λ r d g other h. sym (hurt_other r d other) ∙ h) (λ d f g a b. inside f g (sym a ∙ sym (hurt_mine d) ∙ b)) (λ r d f j a b. b) (λ d f h. inl (d, sym (hurt_mine d) ∙ h))))
+      (files_after s hurt p kill_own refl (λ r d g other h. sym (hurt_other r d other) ∙ h)
+      (λ d f g a b. same_Some f g (sym a ∙ sym (hurt_mine d) ∙ b)) (λ r d f j a b. b) (λ d f h. inl (d, sym (hurt_mine d) ∙ h))))
 
 pub kill_law : KillPart
 kill_law s p q l c was known = kill_after s p q l c was known

@@ -4,6 +4,7 @@ use Rattle.std.specs.Prelude.{Option, None, Some, ℤ, pos}
 use Rattle.std.specs.FinMap.{FinMap, get, insert}
 use Rattle.std.specs.Ordering.{nat_cmp}
 use Rattle.std.proofs.lemmas.Bool.Decides.{eqb_tells}
+use Rattle.std.proofs.lemmas.Option.{same_Some}
 use Rattle.xk_base.specs.declared.limits.TheConstants.{NOFILE}
 use Rattle.xk_base.specs.Words.{le_bytes}
 use Rattle.xk_base.specs.Image.{Image}
@@ -28,15 +29,15 @@ use Rattle.kernel_spec.specs.rows.Tables.{change_pipe}
 use Rattle.kernel_spec.specs.others.Quiet.{file_at, pipe_of_file, pipe_of_open, pipe_of_target}
 use Rattle.kernel_spec.specs.steps.Updates.{changed_state, own_state, piped_state, filed_state, with_answer, in_call, with_named, with_bytes}
 use Rattle.kernel_spec.specs.laws.RowLaws.{After, OnPipe, IsBuffer, PipeReadLaw, now_moved, written, PipeWriteLaw, NobodyNames, NobodyHas}
-use Rattle.kernel_spec.proofs.steps.Names.{name_of_file}
-use Rattle.kernel_spec.proofs.steps.Maps.{get_same, get_other}
-use Rattle.kernel_spec.proofs.steps.Tell.{own_table_tells}
-use Rattle.kernel_spec.proofs.steps.After.{OldOrNew}
-use Rattle.kernel_spec.proofs.steps.AfterChange.{after_same_files, after_changed, mine_before}
-use Rattle.kernel_spec.proofs.steps.Alone.{answer, waiting, by_own}
-use Rattle.kernel_spec.proofs.steps.PipeCalls as pipes
-use Rattle.kernel_spec.proofs.steps.FileRead as files
-use Rattle.kernel_spec.proofs.steps.NewFiles as news
+use Rattle.kernel_spec.proofs.steps.NamesAreChosenAgain.{name_of_file}
+use Rattle.kernel_spec.proofs.steps.MapsAfterChange.{get_same, get_other}
+use Rattle.kernel_spec.proofs.steps.TableTells.{own_table_tells}
+use Rattle.kernel_spec.proofs.steps.StateAfterIsTold.{OldOrNew}
+use Rattle.kernel_spec.proofs.steps.ChangeIsTold.{after_same_files, after_changed, mine_before}
+use Rattle.kernel_spec.proofs.steps.AloneLawsHold.{answer, waiting, by_own}
+use Rattle.kernel_spec.proofs.steps.PipeWriteIsItsRow as pipes
+use Rattle.kernel_spec.proofs.steps.FileReadIsItsRow as files
+use Rattle.kernel_spec.proofs.steps.OpenPipeIsItsRow as news
 use Rattle.kernel_spec.proofs.rows.RowParts.{read_on, read_from, read_pipe, read_file, moving, unless, unless_nothing, length_of_int, open_at, piped}
 use Rattle.kernel_spec.proofs.rows.Settled.{now-writable, counted-settled}
 use Rattle.kernel_spec.proofs.rows.RowsByParts.{read_same}
@@ -49,7 +50,8 @@ module _ (s : State) (p : ℕ) (l : Live) (d i k : ℕ) (end : End) (x : Pipe) (
       → After s p l o (pipes.pipe_state s p l d i k end x on y r image c)
   unfolding view_of
   piped_after a stays o is =
-      by_own s (pipes.pipe_state s p l d i k end x on y r image c) (view_of s p l) o (goes_on a (view_of (pipes.pipe_state s p l d i k end x on y r image c) p (pipes.pipe_live s p l d i k end x on y r image c))) is
+      by_own s (pipes.pipe_state s p l d i k end x on y r image c) (view_of s p l) o
+      (goes_on a (view_of (pipes.pipe_state s p l d i k end x on y r image c) p (pipes.pipe_live s p l d i k end x on y r image c))) is
       (after_same_files s p l on.was r image c l.killed s.files (insert s.pipes i y) s.console s.free (λ f. refl) a stays
       (named (numbered (pipes.pipe_state s p l d i k end x on y r image c) (pipes.pipe_live s p l d i k end x on y r image c)))
       (own_table_tells s (pipes.pipe_state s p l d i k end x on y r image c) p l (ap live_part on.was) (λ f. refl))
@@ -57,27 +59,35 @@ module _ (s : State) (p : ℕ) (l : Live) (d i k : ℕ) (end : End) (x : Pipe) (
 
 -- ---- read
 
-module _ (s : State) (p : ℕ) (l : Live) (c : Call) (d i k n : ℕ) (end : End) (x : Pipe) (on : OnPipe s p l d i k end x) (reads : on.read ≡ true) (fd : c_int c.a0 ≡ pos d) (buffer : IsBuffer c (writable_now l.image c.a1) n) where
+module _ (s : State) (p : ℕ) (l : Live) (c : Call) (d i k n : ℕ) (end : End) (x : Pipe) (on : OnPipe s p l d i k end x) (reads : on.read ≡ true)
+    (fd : c_int c.a0 ≡ pos d) (buffer : IsBuffer c (writable_now l.image c.a1) n) where
   pub read_is : read c (view_of s p l) ≡ read_pipe c (view_of s p l) k x n
   unfolding view_of
   read_is =
       read_same c (view_of s p l) (counted-settled l.image c.a1 n (c_int c.a2) buffer.0 buffer.2)
       ∙ ap (λ (z : ℤ). read_on c (view_of s p l) (in_use (view_of s p l) z)) fd
       ∙ ap (read_on c (view_of s p l)) (pipes.the_descriptor s p l d i k end x on)
-      ∙ ap (λ (b : Bool). unless (not b) c (view_of s p l) (λ _. moving c (view_of s p l) (writable l.image c.a1 (length_of_int (c_int c.a2))) (c_int c.a2) (λ m. read_from c (view_of s p l) m (or_else (least_on_file (numbered s l) on.file) on.file) (Shown_pipe k end x)))) reads
-      ∙ ap (λ (z : ℤ). moving c (view_of s p l) (writable l.image c.a1 (length_of_int z)) z (λ m. read_from c (view_of s p l) m (or_else (least_on_file (numbered s l) on.file) on.file) (Shown_pipe k end x))) buffer.0
+      ∙ ap (λ (b : Bool). unless (not b) c (view_of s p l)
+      (λ _. moving c (view_of s p l) (writable l.image c.a1 (length_of_int (c_int c.a2))) (c_int c.a2)
+      (λ m. read_from c (view_of s p l) m (or_else (least_on_file (numbered s l) on.file) on.file) (Shown_pipe k end x)))) reads
+      ∙ ap (λ (z : ℤ). moving c (view_of s p l) (writable l.image c.a1 (length_of_int z)) z
+      (λ m. read_from c (view_of s p l) m (or_else (least_on_file (numbered s l) on.file) on.file) (Shown_pipe k end x))) buffer.0
       ∙ ap (λ (b : Bool). unless_nothing b c (view_of s p l) (λ _. unless (not (writable l.image c.a1 n)) c (view_of s p l) (λ _. read_pipe c (view_of s p l) k x n))) buffer.1
       ∙ ap (λ (b : Bool). unless (not b) c (view_of s p l) (λ _. read_pipe c (view_of s p l) k x n)) (now-writable l.image c.a1 n buffer.2)
 
   abbrev taken_view : View
   taken_view = record (view_of s p l) { image = write_image l.image c.a1 (take (there x n) x.bytes); descriptors = change_pipe k (without_first (there x n) x) (view_of s p l).descriptors }
 
-  pub read_takes : has_bytes x ≡ true → After s p l (read c (view_of s p l)) (piped_state p (with_answer (pos (there x n)) (with_bytes c.a1 (take (there x n) x.bytes) l)) i (without_first (there x n) x) s)
+  pub read_takes : has_bytes x ≡ true → After s p l (read c (view_of s p l))
+      (piped_state p (with_answer (pos (there x n)) (with_bytes c.a1 (take (there x n) x.bytes) l)) i (without_first (there x n) x) s)
   unfolding view_of
   read_takes bytes =
-      piped_after s p l d i k end x on (without_first (there x n) x) (with_a0 l.regs (word (pos (there x n)))) (write_image l.image c.a1 (take (there x n) x.bytes)) None (Called c.number (pos (there x n))) refl (read c (view_of s p l))
+      piped_after s p l d i k end x on (without_first (there x n) x) (with_a0 l.regs (word (pos (there x n))))
+      (write_image l.image c.a1 (take (there x n) x.bytes)) None (Called c.number (pos (there x n))) refl (read c (view_of s p l))
       (read_is ∙ ap (λ (b : Bool). cond (not b) (waits c 0 (view_of s p l)) (done c (pos (there x n)) taken_view)) bytes
-      ∙ ap (goes_on (Called c.number (pos (there x n)))) (pipes.piped_view s p l d i k end x on (without_first (there x n) x) (with_a0 l.regs (word (pos (there x n)))) (write_image l.image c.a1 (take (there x n) x.bytes)) None))
+      ∙ ap (goes_on (Called c.number (pos (there x n))))
+      (pipes.piped_view s p l d i k end x on (without_first (there x n) x) (with_a0 l.regs (word (pos (there x n))))
+      (write_image l.image c.a1 (take (there x n) x.bytes)) None))
 
   pub read_waits : has_bytes x ≡ false → After s p l (read c (view_of s p l)) (own_state p (in_call (record c { moved = 0 }) l) s)
   unfolding view_of
@@ -108,25 +118,26 @@ pub file_read : FileReadPart
 unfolding view_of
 file_read s p l c d f program offset r w bytes was below named_file opened =
     by_own s (files.after s p l was c d f program offset r w bytes below named_file opened) (view_of s p l) (read_file c (view_of s p l) (name_of_file s l f) bytes)
-    (goes_on (Called c.number (pos (length bytes))) (view_of (files.after s p l was c d f program offset r w bytes below named_file opened) p (files.read_live s p l was c d f program offset r w bytes below named_file opened)))
+    (goes_on (Called c.number (pos (length bytes))) (view_of (files.after s p l was c d f program offset r w bytes below named_file opened) p
+    (files.read_live s p l was c d f program offset r w bytes below named_file opened)))
     (files.file_read_own s p l was c d f program offset r w bytes below named_file opened)
-    (after_same_files s p l was (with_a0 l.regs (word (pos (length bytes)))) (write_image l.image c.a1 bytes) None l.killed (insert s.files f (files.file_after s p l was c d f program offset r w bytes below named_file opened)) s.pipes s.console s.free
+    (after_same_files s p l was (with_a0 l.regs (word (pos (length bytes)))) (write_image l.image c.a1 bytes) None l.killed
+    (insert s.files f (files.file_after s p l was c d f program offset r w bytes below named_file opened)) s.pipes s.console s.free
     (files.kinds_stay s p l was c d f program offset r w bytes below named_file opened) (Called c.number (pos (length bytes))) refl
     (named (numbered (files.after s p l was c d f program offset r w bytes below named_file opened) (files.read_live s p l was c d f program offset r w bytes below named_file opened)))
-    (own_table_tells s (files.after s p l was c d f program offset r w bytes below named_file opened) p l (ap live_part was) (files.kinds_stay s p l was c d f program offset r w bytes below named_file opened))
+    (own_table_tells s (files.after s p l was c d f program offset r w bytes below named_file opened) p l (ap live_part was)
+    (files.kinds_stay s p l was c d f program offset r w bytes below named_file opened))
     (files.spares s p l was c d f program offset r w bytes below named_file opened))
 
 -- ---- open
-
-inside : (a b : ℕ) → Some a ≡ Some b → a ≡ b
-inside a b e = cc
 
 shows_no_pipe : (s : State) (x : Target) → pipe_of_target x ≡ None → shown_pipe_name (show s x) ≡ None
 shows_no_pipe s Terminal h = refl
 shows_no_pipe s (File program offset) h = refl
 shows_no_pipe s (Pipe_end j e) h = let no : ⊥ = cc in absurd no
 
-module _ (s : State) (p : ℕ) (l : Live) (c : Call) (k f : ℕ) (reads writes : Bool) (target : Target) (was : get s.processes p ≡ Some (Alive l)) (below : k < NOFILE) (unused : get l.descriptors k ≡ None)
+module _ (s : State) (p : ℕ) (l : Live) (c : Call) (k f : ℕ) (reads writes : Bool) (target : Target) (was : get s.processes p ≡ Some (Alive l))
+    (below : k < NOFILE) (unused : get l.descriptors k ≡ None)
     (nobody : NobodyNames s f) (no_pipe : pipe_of_target target ≡ None) where
   abbrev file_opened : OpenFile
   file_opened = record { read = reads; write = writes; target = target }
@@ -137,7 +148,7 @@ module _ (s : State) (p : ℕ) (l : Live) (c : Call) (k f : ℕ) (reads writes :
   open_keep : (d g h : ℕ) → get l.descriptors d ≡ Some g → get (insert l.descriptors k f) d ≡ Some h → g ≡ h
   open_keep d g h a b = elim (eqb_tells d k) [
     | inl e ↦ let n : None ≡ Some g = sym unused ∙ ap (get l.descriptors) (sym e.1) ∙ a in let no : ⊥ = cc in absurd no
-    | inr e ↦ inside g h (sym a ∙ sym (get_other l.descriptors k f d e.1) ∙ b)
+    | inr e ↦ same_Some g h (sym a ∙ sym (get_other l.descriptors k f d e.1) ∙ b)
   ]
 
   open_targets : (q d g j : ℕ) → file_at s q d ≡ Some g → pipe_of_open (get (insert s.files f file_opened) g) ≡ Some j → pipe_of_open (get s.files g) ≡ Some j
@@ -149,7 +160,7 @@ module _ (s : State) (p : ℕ) (l : Live) (c : Call) (k f : ℕ) (reads writes :
   open_from : (d g : ℕ) → get (insert l.descriptors k f) d ≡ Some g → OldOrNew s p opens g
   open_from d g h = elim (eqb_tells d k) [
     | inl e ↦
-        let same : f ≡ g = inside f g (sym (get_same l.descriptors k f) ∙ ap (get (insert l.descriptors k f)) (sym e.1) ∙ h) in
+        let same : f ≡ g = same_Some f g (sym (get_same l.descriptors k f) ∙ ap (get (insert l.descriptors k f)) (sym e.1) ∙ h) in
         inr (subst (λ (n : ℕ). NobodyNames s n) same nobody, λ j x. absurd (new_there j (ap (λ (n : ℕ). pipe_of_file opens (Some n)) same ∙ x)))
     | inr e ↦ inl (d, mine_before s p l was l.regs l.image l.call l.killed l.descriptors s.files s.pipes s.console s.free d ∙ sym (get_other l.descriptors k f d e.1) ∙ h)
   ]
@@ -157,7 +168,8 @@ module _ (s : State) (p : ℕ) (l : Live) (c : Call) (k f : ℕ) (reads writes :
   open_after : After s p l (open_at c (view_of s p l) (Some k) (Some (reads, writes, show s target))) opens
   unfolding view_of
   open_after =
-      by_own s opens (view_of s p l) (open_at c (view_of s p l) (Some k) (Some (reads, writes, show s target))) (goes_on (Called c.number (pos k)) (view_of opens p (with_answer (pos k) (with_named k f l))))
+      by_own s opens (view_of s p l) (open_at c (view_of s p l) (Some k) (Some (reads, writes, show s target)))
+      (goes_on (Called c.number (pos k)) (view_of opens p (with_answer (pos k) (with_named k f l))))
       (news.open_own s p l was c k f below unused nobody reads writes target (shows_no_pipe s target no_pipe))
       (after_changed s p l was (with_a0 l.regs (word (pos k))) l.image None l.killed (insert l.descriptors k f) (insert s.files f file_opened) s.pipes s.console s.free (Called c.number (pos k)) refl
       (named (numbered opens (with_answer (pos k) (with_named k f l))))
@@ -209,23 +221,23 @@ module _ (s : State) (p : ℕ) (l : Live) (c : Call) (r w f g i : ℕ) (was : ge
   used_apart d e n free a same = let z : None ≡ Some n = sym free ∙ ap (get l.descriptors) (sym same) ∙ a in let no : ⊥ = cc in no
 
   pipe_keep : (d m n : ℕ) → get l.descriptors d ≡ Some m → get ds d ≡ Some n → m ≡ n
-  pipe_keep d m n a b = inside m n (sym a ∙ sym (elsewhere d (used_apart d r m unused_r a) (used_apart d w m unused_w a)) ∙ b)
+  pipe_keep d m n a b = same_Some m n (sym a ∙ sym (elsewhere d (used_apart d r m unused_r a) (used_apart d w m unused_w a)) ∙ b)
 
   pipe_targets : (q d n j : ℕ) → file_at s q d ≡ Some n → pipe_of_open (get two_more n) ≡ Some j → pipe_of_open (get s.files n) ≡ Some j
   pipe_targets q d n j a b =
       ap pipe_of_open (sym (get_other (insert s.files f reading) g writing n (λ e. nobody_g q d (a ∙ ap Some e)) ∙ get_other s.files f reading n (λ e. nobody_f q d (a ∙ ap Some e)))) ∙ b
 
   its_pipe : (n j : ℕ) (x : OpenFile) → get two_more n ≡ Some x → pipe_of_target x.target ≡ Some i → pipe_of_file piped_two (Some n) ≡ Some j → NobodyHas s j
-  its_pipe n j x is on h = subst (λ (z : ℕ). NobodyHas s z) (inside i j (sym on ∙ ap pipe_of_open (sym is) ∙ h)) nobody_i
+  its_pipe n j x is on h = subst (λ (z : ℕ). NobodyHas s z) (same_Some i j (sym on ∙ ap pipe_of_open (sym is) ∙ h)) nobody_i
 
   pipe_from : (d n : ℕ) → get ds d ≡ Some n → OldOrNew s p piped_two n
   pipe_from d n h = elim (eqb_tells d w) [
     | inl e ↦
-        let same : g ≡ n = inside g n (sym at_w ∙ ap (get ds) (sym e.1) ∙ h) in
+        let same : g ≡ n = same_Some g n (sym at_w ∙ ap (get ds) (sym e.1) ∙ h) in
         inr (subst (λ (z : ℕ). NobodyNames s z) same nobody_g, λ j x. its_pipe n j writing (ap (get two_more) (sym same) ∙ file_named_g) refl x)
     | inr a ↦ elim (eqb_tells d r) [
       | inl e ↦
-          let same : f ≡ n = inside f n (sym at_r ∙ ap (get ds) (sym e.1) ∙ h) in
+          let same : f ≡ n = same_Some f n (sym at_r ∙ ap (get ds) (sym e.1) ∙ h) in
           inr (subst (λ (z : ℕ). NobodyNames s z) same nobody_f, λ j x. its_pipe n j reading (ap (get two_more) (sym same) ∙ file_named_f) refl x)
       | inr b ↦ inl (d, mine_before s p l was l.regs l.image l.call l.killed l.descriptors s.files s.pipes s.console s.free d ∙ sym (elsewhere d b.1 a.1) ∙ h)
     ]
@@ -236,11 +248,13 @@ module _ (s : State) (p : ℕ) (l : Live) (c : Call) (r w f g i : ℕ) (was : ge
   pipe_after =
       by_own s piped_two (view_of s p l) (piped c (view_of s p l) r (Some w)) (goes_on (Called c.number (pos 0)) (view_of piped_two p maker))
       (news.pipe_own s p l was c r w f g i below_r below_w distinct distinct_files unused_r unused_w nobody_f nobody_g nobody_i)
-      (after_changed s p l was (with_a0 l.regs (word (pos 0))) (write_image l.image c.a0 (le_bytes 4 r ++ le_bytes 4 w)) None l.killed ds two_more (insert s.pipes i new_pipe) s.console (s.free - 1) (Called c.number (pos 0)) refl
+      (after_changed s p l was (with_a0 l.regs (word (pos 0))) (write_image l.image c.a0 (le_bytes 4 r ++ le_bytes 4 w)) None l.killed ds two_more
+      (insert s.pipes i new_pipe) s.console (s.free - 1) (Called c.number (pos 0)) refl
       (named (numbered piped_two maker))
       (news.pipe_tells s p l was c r w f g i below_r below_w distinct distinct_files unused_r unused_w nobody_f nobody_g nobody_i)
       (news.pipe_spares s p l was c r w f g i below_r below_w distinct distinct_files unused_r unused_w nobody_f nobody_g nobody_i)
       pipe_keep pipe_targets pipe_from)
 
 pub pipe_law : PipePart
-pipe_law s p l c r w f g i was below_r below_w distinct distinct_files unused_r unused_w nobody_f nobody_g nobody_i = pipe_after s p l c r w f g i was below_r below_w distinct distinct_files unused_r unused_w nobody_f nobody_g nobody_i
+pipe_law s p l c r w f g i was below_r below_w distinct distinct_files unused_r unused_w nobody_f nobody_g nobody_i =
+    pipe_after s p l c r w f g i was below_r below_w distinct distinct_files unused_r unused_w nobody_f nobody_g nobody_i

@@ -1,5 +1,5 @@
--- A read from a program's file.
-use Rattle.std.proofs.Common.{◌≡◌, ℕ, ◌<◌, ◌+◌, length, Bool, true, false, cond, List, refl, ap, sym, ◌∙◌, subst, inl, inr}
+-- A read from a program's file: it is the step that its row tells.
+use Rattle.std.proofs.Common.{◌≡◌, ℕ, ◌<◌, ◌+◌, length, Bool, true, false, cond, List, refl, ap, sym, ◌∙◌, inl, inr}
 use Rattle.std.proofs.Math.Path.{fun_ext}
 use Rattle.std.specs.Prelude.{Option, None, Some, pos, option_map, nat_eq, nat_lt}
 use Rattle.std.specs.FinMap.{get, insert}
@@ -14,17 +14,17 @@ use Rattle.file_table.specs.declared.open_file.Target.TheVariants.{Program as Fi
 use Rattle.kernel_spec.specs.views.Processes.{Alive, Live}
 use Rattle.proc_table.specs.declared.process.Call.{Call}
 use Rattle.kernel_spec.specs.views.State.{State, live_part}
-use Rattle.kernel_spec.specs.views.View.{View, Descriptors, Descriptor, Shown, Shown_terminal, Shown_file, Shown_pipe, named, numbered, rename, rename_shown, or_else, file_name, pipe_name, descriptor_at, descriptor_on, view_of, shown_pipe_name}
-use Rattle.kernel_spec.specs.steps.Own.{Own, Called, goes_on}
+use Rattle.kernel_spec.specs.views.View.{View, Descriptors, Descriptor, Shown, Shown_terminal, Shown_file, Shown_pipe, named, numbered}
+use Rattle.kernel_spec.specs.views.View.{rename, rename_shown, or_else, file_name, pipe_name, descriptor_at, descriptor_on, view_of, shown_pipe_name}
+use Rattle.kernel_spec.specs.steps.Own.{Called, goes_on}
 use Rattle.kernel_spec.specs.rows.Tables.{advance, advanced, advance_shown}
 use Rattle.kernel_spec.specs.rows.Calls.{with_a0}
-use Rattle.kernel_spec.specs.others.Quiet.{Quiet, file_at, file_of}
+use Rattle.kernel_spec.specs.others.Quiet.{file_at, file_of}
 use Rattle.kernel_spec.specs.steps.Updates.{changed_state}
-use Rattle.kernel_spec.proofs.steps.Maps.{get_at, get_other}
-use Rattle.kernel_spec.proofs.steps.Frame.{Spares, kind}
-use Rattle.kernel_spec.proofs.steps.Tell.{quiet_from, own_table_tells}
-use Rattle.kernel_spec.proofs.steps.Names.{choice, same_names}
-use Rattle.kernel_spec.proofs.steps.Change.{view_changed, leaves_changed}
+use Rattle.kernel_spec.proofs.steps.MapsAfterChange.{get_at, get_other}
+use Rattle.kernel_spec.proofs.steps.OthersTableIsSeen.{Spares, kind}
+use Rattle.kernel_spec.proofs.steps.NamesAreChosenAgain.{choice, same_names}
+use Rattle.kernel_spec.proofs.steps.ChangeIsSeen.{view_changed}
 use Rattle.kernel_spec.proofs.rows.RowParts.{read_file}
 
 file_stays : (f n : ℕ) (o : Option Descriptor) → file_name (advanced f n o) ≡ file_name o
@@ -75,7 +75,8 @@ module _ (t : Descriptors) (f d n : ℕ) (below : d < NOFILE) (on : file_name (t
   renamed : (x : Descriptor) → rename u x ≡ rename t x
   renamed x = λ i. record x { file = or_else (least_file x.file i) x.file; shown = renamed_shown x.shown i }
 
-  cases : (x : Descriptor) (b : Bool) → option_map (rename u) (cond b (Some (record x { shown = advance_shown n x.shown })) (Some x)) ≡ cond b (Some (record (rename t x) { shown = advance_shown n (rename t x).shown })) (Some (rename t x))
+  cases : (x : Descriptor) (b : Bool) → option_map (rename u) (cond b (Some (record x { shown = advance_shown n x.shown })) (Some x)) ≡ cond b
+      (Some (record (rename t x) { shown = advance_shown n (rename t x).shown })) (Some (rename t x))
   cases x true = ap Some (renamed (record x { shown = advance_shown n x.shown })) ∙ (λ i. Some (record (rename t x) { shown = advance_renamed x.shown i }))
   cases x false = ap Some (renamed x)
 
@@ -116,7 +117,8 @@ module _ (s : State) (p : ℕ) (old : Live) (was : get s.processes p ≡ Some (A
   descriptor_case g = elim (eqb_tells g f) [
     | inl h ↦
         ap (λ (b : Bool). descriptor_on after g (cond b (Some file_after) (get s.files g))) h.0
-        ∙ ap (λ (b : Bool). cond b (Some (record { file = g; read = r; write = w; shown = Shown_file program (offset + length bytes) })) (Some (record { file = g; read = r; write = w; shown = Shown_file program offset }))) (sym h.0)
+        ∙ ap (λ (b : Bool). cond b (Some (record { file = g; read = r; write = w; shown = Shown_file program (offset + length bytes) }))
+        (Some (record { file = g; read = r; write = w; shown = Shown_file program offset }))) (sym h.0)
         ∙ sym (ap (λ (o : Option OpenFile). advanced f (length bytes) (descriptor_on s g o)) (ap (get s.files) h.1 ∙ opened))
     | inr h ↦
         ap (λ (b : Bool). descriptor_on after g (cond b (Some file_after) (get s.files g))) h.0 ∙ untouched g h.0 (get s.files g)
@@ -124,7 +126,8 @@ module _ (s : State) (p : ℕ) (old : Live) (was : get s.processes p ≡ Some (A
     where
       untouched : (g : ℕ) → nat_eq g f ≡ false → (o : Option OpenFile) → descriptor_on s g o ≡ advanced f (length bytes) (descriptor_on s g o)
       untouched g e None = refl
-      untouched g e (Some y) = sym (ap (λ (b : Bool). cond b (Some (record { file = g; read = y.read; write = y.write; shown = advance_shown (length bytes) (shown_of y) })) (descriptor_on s g (Some y))) e)
+      untouched g e (Some y) = sym (ap (λ (b : Bool). cond b
+          (Some (record { file = g; read = y.read; write = y.write; shown = advance_shown (length bytes) (shown_of y) })) (descriptor_on s g (Some y))) e)
         where
           shown_of : OpenFile → Shown
           shown_of y = Rattle.kernel_spec.specs.views.View.show s y.target
@@ -139,7 +142,8 @@ module _ (s : State) (p : ℕ) (old : Live) (was : get s.processes p ≡ Some (A
   pub file_read_own : read_file c (view_of s p old) name bytes ≡ goes_on (Called c.number (pos (length bytes))) (view_of after p read_live)
   unfolding view_of
   file_read_own = ap (goes_on (Called c.number (pos (length bytes))))
-      (view_changed s p old was (with_a0 old.regs (word (pos (length bytes)))) (write_image old.image c.a1 bytes) None old.killed old.descriptors (insert s.files f file_after) s.pipes s.console s.free (advance name (length bytes) (named (numbered s old))) next_table)
+      (view_changed s p old was (with_a0 old.regs (word (pos (length bytes)))) (write_image old.image c.a1 bytes) None old.killed old.descriptors
+      (insert s.files f file_after) s.pipes s.console s.free (advance name (length bytes) (named (numbered s old))) next_table)
 
   on_file : file_at s p d ≡ Some f
   on_file = ap (λ (l : Option Live). file_of l d) (ap live_part was) ∙ named_file
@@ -156,10 +160,3 @@ module _ (s : State) (p : ℕ) (old : Live) (was : get s.processes p ≡ Some (A
     pipe = λ j other h. refl;
     kinds = λ g other. kinds_stay g;
   }
-
-  pub file_read_quiet : (o : Own) → o ≡ goes_on (Called c.number (pos (length bytes))) (view_of after p read_live) → Quiet s (view_of s p old) o after
-  unfolding view_of
-  file_read_quiet o is = subst (λ (z : Own). Quiet s (view_of s p old) z after) (sym is)
-      (quiet_from s after (view_of s p old) (goes_on (Called c.number (pos (length bytes))) (view_of after p read_live))
-      (leaves_changed s p old was (with_a0 old.regs (word (pos (length bytes)))) (write_image old.image c.a1 bytes) None old.killed old.descriptors (insert s.files f file_after) s.pipes s.console s.free (Called c.number (pos (length bytes))) refl (named (numbered after read_live))
-      (own_table_tells s after p old (ap live_part was) kinds_stay) spares))

@@ -1,19 +1,20 @@
 -- Fork and exit change every pipe that the process names, by the number of its descriptors on each end.
-use Rattle.std.proofs.Common.{◌≡◌, ℕ, zero, suc, ◌<◌, ◌+◌, Bool, true, false, cond, ◌&&◌, refl, ap, sym, ◌∙◌, arith}
+use Rattle.std.proofs.Common.{◌≡◌, ℕ, ◌<◌, Bool, true, false, cond, ◌&&◌, refl, ap, sym, ◌∙◌}
 use Rattle.std.proofs.Math.Path.{fun_ext}
 use Rattle.std.specs.Prelude.{Option, None, Some, option_map, nat_lt}
 use Rattle.std.proofs.lemmas.Bool.{ltb-true}
 use Rattle.xk_base.specs.declared.limits.TheConstants.{NOFILE}
 use Rattle.kernel_spec.specs.views.Words.{is_this}
-use Rattle.xk_base.specs.Words.{least_below, count_below}
+use Rattle.xk_base.specs.Words.{least_below}
 use Rattle.pipe_core.specs.Pipe.{Pipe}
 use Rattle.file_table.specs.declared.open_file.End.{End}
 use Rattle.file_table.specs.declared.open_file.End.TheVariants.{Reading, Writing}
 use Rattle.kernel_spec.specs.views.PipeEnds.{joined, parted}
 use Rattle.kernel_spec.specs.views.View.{Descriptors, Descriptor, Shown, Shown_terminal, Shown_file, Shown_pipe, named, rename, rename_shown, or_else, pipe_name, shown_pipe_name}
 use Rattle.kernel_spec.specs.rows.Tables.{change_pipes, changed, change_shown, ends, on_end, shown_on_end, is_end, doubled, all_closed}
-use Rattle.kernel_spec.proofs.steps.Pipes.{file_name_kept, pipe_name_kept}
-use Rattle.kernel_spec.proofs.steps.Names.{same_names, choice, named_at}
+use Rattle.kernel_spec.proofs.steps.OnePipeChanges.{file_name_kept, pipe_name_kept}
+use Rattle.kernel_spec.proofs.steps.NamesAreChosenAgain.{same_names, choice, named_at}
+use Rattle.kernel_spec.proofs.Common.{count_below-same}
 
 -- ---- names, and a change of every pipe
 
@@ -26,7 +27,8 @@ module _ (t : Descriptors) (f g : ℕ → Pipe → Pipe) (agree : (d j : ℕ) �
 
   place_changes : (d : ℕ) → d < NOFILE → (o : Option Descriptor) → t d ≡ o → option_map (rename (change_pipes f t)) (changed f o) ≡ changed g (option_map (rename t) o)
   place_changes d below None e = refl
-  place_changes d below (Some x) e = λ i. Some (record x { file = or_else (least_below (λ c. is_this x.file (file_name_kept f (t c) i)) NOFILE) x.file; shown = shown_changes d below x.shown (ap pipe_name e) i })
+  place_changes d below (Some x) e = λ i. Some (record x
+      { file = or_else (least_below (λ c. is_this x.file (file_name_kept f (t c) i)) NOFILE) x.file; shown = shown_changes d below x.shown (ap pipe_name e) i })
 
   range_changes : (d : ℕ) (b : Bool) → nat_lt d NOFILE ≡ b → cond b (option_map (rename (change_pipes f t)) (changed f (t d))) None ≡ changed g (cond b (option_map (rename t) (t d)) None)
   range_changes d true e = place_changes d (ltb-true d NOFILE e) (t d) refl
@@ -37,11 +39,6 @@ module _ (t : Descriptors) (f g : ℕ → Pipe → Pipe) (agree : (d j : ℕ) �
   named_changes = fun_ext (λ d. range_changes d (nat_lt d NOFILE) refl)
 
 -- ---- how many descriptors are on an end, by either name
-
-count_congr : (n : ℕ) (P Q : ℕ → Bool) → ((d : ℕ) → d < n → P d ≡ Q d) → count_below P n ≡ count_below Q n
-unfolding count_below
-count_congr zero P Q same = refl
-count_congr (suc n) P Q same = λ i. count_congr n P Q (λ d below. same d (omega arith)) i + cond (same n (omega arith) i) 1 0
 
 module _ (t : Descriptors) (d j : ℕ) (below : d < NOFILE) (on : pipe_name (t d) ≡ Some j) (end : End) where
   shown_either : (e : ℕ) → e < NOFILE → (x : Shown) → pipe_name (t e) ≡ shown_pipe_name x → shown_on_end (choice (λ c. pipe_name (t c)) j) end (rename_shown t x) ≡ shown_on_end j end x
@@ -54,7 +51,7 @@ module _ (t : Descriptors) (d j : ℕ) (below : d < NOFILE) (on : pipe_name (t d
   place_either e b (Some x) is = shown_either e b x.shown (ap pipe_name is)
 
   pub ends_either : ends t j end ≡ ends (named t) (choice (λ c. pipe_name (t c)) j) end
-  ends_either = sym (count_congr NOFILE (λ e. on_end (choice (λ c. pipe_name (t c)) j) end (named t e)) (λ e. on_end j end (t e))
+  ends_either = sym (count_below-same NOFILE (λ e. on_end (choice (λ c. pipe_name (t c)) j) end (named t e)) (λ e. on_end j end (t e))
       (λ e b. ap (on_end (choice (λ c. pipe_name (t c)) j) end) (named_at t e b) ∙ place_either e b (t e) refl))
 
 -- ---- fork, and exit

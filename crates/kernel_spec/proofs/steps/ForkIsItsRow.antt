@@ -1,12 +1,12 @@
--- Fork.
-use Rattle.std.proofs.Common.{◌≡◌, ◌≢◌, ℕ, ◌<◌, ◌++◌, ◌∷◌, [], Bool, true, false, cond, ◌||◌, refl, ap, sym, ◌∙◌, subst, inl, inr, arith}
+-- Fork: it is the step that its row tells.
+use Rattle.std.proofs.Common.{◌≡◌, ◌≢◌, ℕ, ◌<◌, ◌++◌, ◌∷◌, [], Bool, true, false, cond, ◌||◌, refl, ap, sym, ◌∙◌, inl, inr, arith}
 use Rattle.std.proofs.Math.Path.{fun_ext}
 use Rattle.std.specs.Prelude.{Option, None, Some, pos, option_map, is_some, nat_eq, IsSome}
 use Rattle.std.specs.FinMap.{get, keys, insert}
 use Rattle.std.proofs.lemmas.Bool.{eq-eqb}
 use Rattle.std.proofs.lemmas.Bool.Decides.{eqb_tells}
 use Rattle.xk_base.specs.declared.limits.TheConstants.{NOFILE}
-use Rattle.kernel_spec.specs.views.Words.{is_this, with_value}
+use Rattle.kernel_spec.specs.views.Words.{with_value}
 use Rattle.pipe_core.specs.Pipe.{Pipe}
 use Rattle.file_table.specs.declared.open_file.End.TheVariants.{Reading, Writing}
 use Rattle.kernel_spec.specs.views.PipeEnds.{joined}
@@ -17,17 +17,17 @@ use Rattle.kernel_spec.specs.views.View.{View, named, numbered, descriptor_at, v
 use Rattle.kernel_spec.specs.steps.Own.{Own, Called, goes_on}
 use Rattle.kernel_spec.specs.rows.Tables.{doubled, ends}
 use Rattle.kernel_spec.specs.rows.Calls.{fork}
-use Rattle.kernel_spec.specs.others.Quiet.{Quiet, pipe_at, pipe_of_file, file_of}
+use Rattle.kernel_spec.specs.others.Quiet.{pipe_at, pipe_of_file, file_of}
 use Rattle.kernel_spec.specs.steps.Updates.{forking, forked_child, forked_state}
-use Rattle.kernel_spec.proofs.steps.Maps.{get_at, get_same, get_other, keys_push}
-use Rattle.kernel_spec.proofs.steps.SetLive.{same_child, same_keys, live-set_live_there}
-use Rattle.kernel_spec.proofs.steps.Tell.{Leaves, quiet_from, own_table_tells}
-use Rattle.kernel_spec.proofs.steps.Steps.{or_false}
-use Rattle.kernel_spec.proofs.steps.Ends.{named_doubled}
-use Rattle.kernel_spec.proofs.steps.Became.{became}
-use Rattle.kernel_spec.proofs.steps.Counts.{plus, among, get-more_on_all, more_on_none}
+use Rattle.kernel_spec.proofs.steps.MapsAfterChange.{get_at, get_same, get_other, keys_push}
+use Rattle.kernel_spec.proofs.steps.ViewsAfterSetLive.{same_child, same_keys, live-set_live_there}
+use Rattle.kernel_spec.proofs.steps.TableTells.{Leaves, own_table_tells}
+use Rattle.kernel_spec.proofs.steps.ForkExitCountEnds.{named_doubled}
+use Rattle.kernel_spec.proofs.steps.PipeChangeIsTold.{became}
+use Rattle.kernel_spec.proofs.steps.EndsAreCounted.{plus, among, get-more_on_all, more_on_none}
 use Rattle.kernel_spec.proofs.rows.RowParts.{forked, cannot_fork, unless}
 use Rattle.kernel_spec.proofs.rows.RowsByParts.{fork_same}
+use Rattle.kernel_spec.proofs.Common.{or_false, this_is_not}
 
 -- what has to be known of a state for a process of it to fork
 pub record CanFork (s : State) (l : Live) : Type 0 where
@@ -45,14 +45,10 @@ child_cond : (q : ℕ) (b : Bool) (x y : Option Process) → child_of q (cond b 
 child_cond q true x y = refl
 child_cond q false x y = refl
 
-this_not : (n : ℕ) (o : Option ℕ) → o ≢ Some n → is_this n o ≡ false
-this_not n None h = refl
-this_not n (Some k) h = elim (eqb_tells k n) [ inl e ↦ absurd (h (ap Some e.1)) | inr e ↦ e.0 ]
-
 no_child : (q : ℕ) (o : Option Process) → ((x : Process) → o ≡ Some x → parent_of x ≢ Some q) → child_of q o ≡ None
 no_child q None h = refl
-no_child q (Some (Alive l)) h = ap (λ (b : Bool). cond b (Some Running) None) (this_not q l.parent (h (Alive l) refl))
-no_child q (Some (Zombie parent status)) h = ap (λ (b : Bool). cond b (Some (Status status)) None) (this_not q parent (h (Zombie parent status) refl))
+no_child q (Some (Alive l)) h = ap (λ (b : Bool). cond b (Some Running) None) (this_is_not q l.parent (h (Alive l) refl))
+no_child q (Some (Zombie parent status)) h = ap (λ (b : Bool). cond b (Some (Status status)) None) (this_is_not q parent (h (Zombie parent status) refl))
 
 pub live_some : (o : Option Process) (m : Live) → live_part o ≡ Some m → IsSome o
 live_some None m h = let no : ⊥ = cc in absurd no
@@ -102,7 +98,7 @@ module _ (s : State) (p : ℕ) (old : Live) (was : get s.processes p ≡ Some (A
       ∙ elim (eqb_tells r s.next_pid) [
         | inl h ↦
             ap (λ (b : Bool). cond b (child_of q (Some (Alive child))) (child_of q (get (insert s.processes p (Alive parent)) r))) h.0
-            ∙ ap (λ (b : Bool). cond b (Some Running) None) (this_not q (Some p) (λ e. other (sym (let f : p ≡ q = cc in f))))
+            ∙ ap (λ (b : Bool). cond b (Some Running) None) (this_is_not q (Some p) (λ e. other (sym (let f : p ≡ q = cc in f))))
             ∙ sym (ap (λ (k : ℕ). child_of q (get s.processes k)) h.1 ∙ ap (child_of q) fresh)
         | inr h ↦
             ap (λ (b : Bool). cond b (child_of q (Some (Alive child))) (child_of q (get (insert s.processes p (Alive parent)) r))) h.0
@@ -117,7 +113,7 @@ module _ (s : State) (p : ℕ) (old : Live) (was : get s.processes p ≡ Some (A
   newborns_children : (r : ℕ) → None ≡ child_of s.next_pid (get after.processes r)
   newborns_children r = sym (
       ap (child_of s.next_pid) (process_at r) ∙ child_cond s.next_pid (nat_eq r s.next_pid) (Some (Alive child)) (get (insert s.processes p (Alive parent)) r)
-      ∙ (λ i. cond (nat_eq r s.next_pid) (cond (this_not s.next_pid (Some p) (λ e. apart (let f : p ≡ s.next_pid = cc in f)) i) (Some Running) None)
+      ∙ (λ i. cond (nat_eq r s.next_pid) (cond (this_is_not s.next_pid (Some p) (λ e. apart (let f : p ≡ s.next_pid = cc in f)) i) (Some Running) None)
       ((same_child s p old parent was refl s.next_pid r ∙ no_child s.next_pid (get s.processes r) (can.unknown r)) i))
       ∙ both_none (nat_eq r s.next_pid))
     where
@@ -197,6 +193,3 @@ module _ (s : State) (p : ℕ) (old : Live) (was : get s.processes p ≡ Some (A
     clock = refl;
     programs = refl;
   }
-
-  pub fork_quiet : cannot_fork (view_of s p old) ≡ false → Quiet s (view_of s p old) (fork c (view_of s p old)) after
-  fork_quiet able = subst (λ (o : Own). Quiet s (view_of s p old) o after) (sym (fork_own able)) (quiet_from s after (view_of s p old) fork_answer fork_leaves)

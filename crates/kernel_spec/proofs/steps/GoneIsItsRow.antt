@@ -1,10 +1,10 @@
--- A process that is gone.
+-- A process that goes: it is the step that its row tells.
 use Rattle.std.proofs.Common.{◌≡◌, ◌≢◌, ℕ, ◌<◌, ◌≤◌, ◌+◌, ◌-◌, Bool, true, false, cond, ◌||◌, refl, ap, sym, ◌∙◌, subst, inl, inr, arith}
 use Rattle.std.specs.Prelude.{Option, None, Some, ℤ, option_map, is_some, nat_eq}
 use Rattle.std.specs.FinMap.{FinMap, get, keys}
 use Rattle.std.specs.Ordering.{nat_cmp}
 use Rattle.std.specs.Cmp.{nat_cmp_total}
-use Rattle.std.proofs.lemmas.Bool.{eq-eqb, eqb-true}
+use Rattle.std.proofs.lemmas.Bool.{eq-eqb}
 use Rattle.std.proofs.lemmas.Bool.Decides.{eqb_tells}
 use Rattle.xk_base.specs.declared.limits.TheConstants.{NOFILE}
 use Rattle.xk_base.specs.Image.{price}
@@ -19,17 +19,17 @@ use Rattle.kernel_spec.specs.views.View.{Descriptors, named, numbered, view, vie
 use Rattle.kernel_spec.specs.steps.Own.{Answer, gone_with}
 use Rattle.kernel_spec.specs.rows.Tables.{all_closed, ends}
 use Rattle.kernel_spec.specs.rows.Calls.{gone}
-use Rattle.kernel_spec.specs.others.Quiet.{Quiet, pipe_at, pipe_of_file, file_of, seen_children, or_child, same_child}
+use Rattle.kernel_spec.specs.others.Quiet.{pipe_at, pipe_of_file, file_of, seen_children, or_child, same_child}
 use Rattle.kernel_spec.specs.steps.Updates.{gone_state, orphans, orphan, given_to}
-use Rattle.kernel_spec.proofs.steps.Maps.{get_at, get_same, keys_insert}
-use Rattle.kernel_spec.proofs.steps.Frame.{Tells, OtherHas, OtherNames}
-use Rattle.kernel_spec.proofs.steps.Tell.{Leaves, quiet_from}
-use Rattle.kernel_spec.proofs.steps.Steps.{or_false}
-use Rattle.kernel_spec.proofs.steps.Ends.{named_all_closed}
-use Rattle.kernel_spec.proofs.steps.Became.{changed_tells, changed_spares}
-use Rattle.kernel_spec.proofs.steps.Counts.{among_nobody}
-use Rattle.kernel_spec.proofs.steps.Closes.{kept, fewer, get-fewer_on_all, freed_is}
-use Rattle.kernel_spec.proofs.steps.Orphans.{get-orphans, keys-orphans}
+use Rattle.kernel_spec.proofs.steps.MapsAfterChange.{get_at, get_same, keys_insert}
+use Rattle.kernel_spec.proofs.steps.OthersTableIsSeen.{Tells, OtherHas, OtherNames}
+use Rattle.kernel_spec.proofs.steps.TableTells.{Leaves}
+use Rattle.kernel_spec.proofs.steps.ForkExitCountEnds.{named_all_closed}
+use Rattle.kernel_spec.proofs.steps.PipeChangeIsTold.{changed_tells, changed_spares}
+use Rattle.kernel_spec.proofs.steps.EndsAreCounted.{among_nobody}
+use Rattle.kernel_spec.proofs.steps.ClosingCountsDown.{kept, fewer, get-fewer_on_all, freed_is}
+use Rattle.kernel_spec.proofs.steps.OrphansKeepKeys.{get-orphans, keys-orphans}
+use Rattle.kernel_spec.proofs.Common.{alive_part, or_false, this_is, this_is_not}
 
 -- what has to be known of a state for a process of it to go
 pub record CanGo (s : State) (p : ℕ) (l : Live) : Type 0 where
@@ -41,14 +41,6 @@ pub record CanGo (s : State) (p : ℕ) (l : Live) : Type 0 where
   pub held : (j : ℕ) (x : Pipe) → OtherHas s p j → get s.pipes j ≡ Some x → is_given_up (fewer s l j x) ≡ false
 
 -- ---- children
-
-this_is : (n : ℕ) (o : Option ℕ) → is_this n o ≡ true → o ≡ Some n
-this_is n None h = let no : ⊥ = cc in absurd no
-this_is n (Some k) h = ap Some (eqb-true k n h)
-
-this_not : (n : ℕ) (o : Option ℕ) → o ≢ Some n → is_this n o ≡ false
-this_not n None h = refl
-this_not n (Some k) h = elim (eqb_tells k n) [ inl e ↦ absurd (h (ap Some e.1)) | inr e ↦ e.0 ]
 
 pub turn : (a b : ℕ) → nat_eq a b ≡ nat_eq b a
 turn a b = elim (eqb_tells a b) [
@@ -84,13 +76,18 @@ orphan_child q p other true (Zombie parent status) e =
     given : (b : Bool) → cond b (Some (Status status)) None ≡ or_child None (cond b (Some (Status status)) None)
     given true = refl
     given false = refl
-orphan_child q p other false (Alive l) e = nothing_more (child_of q (Some (Alive l))) (nat_eq q 1) ∙ (λ i. or_child (child_of q (Some (Alive l))) (cond (nat_eq q 1) (cond (sym e i) (Some Running) None) None))
-orphan_child q p other false (Zombie parent status) e = nothing_more (child_of q (Some (Zombie parent status))) (nat_eq q 1) ∙ (λ i. or_child (child_of q (Some (Zombie parent status))) (cond (nat_eq q 1) (cond (sym e i) (Some (Status status)) None) None))
+orphan_child q p other false (Alive l) e = nothing_more (child_of q (Some (Alive l))) (nat_eq q 1)
+    ∙ (λ i. or_child (child_of q (Some (Alive l))) (cond (nat_eq q 1) (cond (sym e i) (Some Running) None) None))
+orphan_child q p other false (Zombie parent status) e = nothing_more (child_of q (Some (Zombie parent status))) (nat_eq q 1)
+    ∙ (λ i. or_child (child_of q (Some (Zombie parent status))) (cond (nat_eq q 1) (cond (sym e i) (Some (Status status)) None) None))
 
 -- the child that is gone itself
 gone_child : (q p : ℕ) (parent : Option ℕ) (status : ℤ) → parent ≢ Some p
-    → cond (is_this q parent) (Some (Status status)) None ≡ or_child (same_child (cond (is_this q parent) (Some Running) None) (Status status)) (cond (nat_eq q 1) (cond (is_this p parent) (Some Running) None) None)
-gone_child q p parent status own = by (is_this q parent) (nat_eq q 1) ∙ (λ i. or_child (same_child (cond (is_this q parent) (Some Running) None) (Status status)) (cond (nat_eq q 1) (cond (sym (this_not p parent own) i) (Some Running) None) None))
+    → cond (is_this q parent) (Some (Status status)) None ≡ or_child (same_child (cond (is_this q parent) (Some Running) None) (Status status))
+    (cond (nat_eq q 1) (cond (is_this p parent) (Some Running) None) None)
+gone_child q p parent status own = by (is_this q parent) (nat_eq q 1)
+    ∙ (λ i. or_child (same_child (cond (is_this q parent) (Some Running) None) (Status status))
+    (cond (nat_eq q 1) (cond (sym (this_is_not p parent own) i) (Some Running) None) None))
   where
     by : (a b : Bool) → cond a (Some (Status status)) None ≡ or_child (same_child (cond a (Some Running) None) (Status status)) (cond b (cond false (Some Running) None) None)
     by true b = refl
@@ -147,33 +144,31 @@ module _ (s : State) (p : ℕ) (old : Live) (was : get s.processes p ≡ Some (A
   other_child q r other (Some x) = orphan_child q p other (is_this p (parent_of x)) x refl
 
   children_after : (q r : ℕ) → q ≢ p
-      → child_of q (get after.processes r) ≡ or_child (cond (nat_eq r p) (same_child (child_of q (get s.processes r)) (Status status)) (child_of q (get s.processes r))) (cond (nat_eq q 1) (child_of p (get s.processes r)) None)
+      → child_of q (get after.processes r) ≡ or_child (cond (nat_eq r p) (same_child (child_of q (get s.processes r)) (Status status))
+      (child_of q (get s.processes r))) (cond (nat_eq q 1) (child_of p (get s.processes r)) None)
   children_after q r other = ap (child_of q) (process_at r) ∙ elim (eqb_tells r p) [
     | inl h ↦
         let at_p : get s.processes r ≡ Some (Alive old) = ap (get s.processes) h.1 ∙ was in
         ap (λ (b : Bool). child_of q (cond b (Some (Zombie old.parent status)) (option_map (orphan p) (get s.processes r)))) h.0
         ∙ gone_child q p old.parent status can.parent
-        ∙ sym (ap (λ (b : Bool). or_child (cond b (same_child (child_of q (get s.processes r)) (Status status)) (child_of q (get s.processes r))) (cond (nat_eq q 1) (child_of p (get s.processes r)) None)) h.0
+        ∙ sym (ap (λ (b : Bool). or_child (cond b (same_child (child_of q (get s.processes r)) (Status status)) (child_of q (get s.processes r)))
+        (cond (nat_eq q 1) (child_of p (get s.processes r)) None)) h.0
         ∙ ap (λ (o : Option Process). or_child (same_child (child_of q o) (Status status)) (cond (nat_eq q 1) (child_of p o) None)) at_p)
     | inr h ↦
         ap (λ (b : Bool). child_of q (cond b (Some (Zombie old.parent status)) (option_map (orphan p) (get s.processes r)))) h.0
         ∙ other_child q r other (get s.processes r)
-        ∙ sym (ap (λ (b : Bool). or_child (cond b (same_child (child_of q (get s.processes r)) (Status status)) (child_of q (get s.processes r))) (cond (nat_eq q 1) (child_of p (get s.processes r)) None)) h.0)
+        ∙ sym (ap (λ (b : Bool). or_child (cond b (same_child (child_of q (get s.processes r)) (Status status)) (child_of q (get s.processes r)))
+        (cond (nat_eq q 1) (child_of p (get s.processes r)) None)) h.0)
   ]
 
   orphan_live : (m : Live) (b : Bool) → live_part (Some (cond b (given_to 1 (Alive m)) (Alive m))) ≡ Some (record m { killed = m.killed || false; parent = cond b (Some 1) m.parent })
   orphan_live m true = λ i. Some (record m { parent = Some 1; killed = or_false m.killed i })
   orphan_live m false = λ i. Some (record m { killed = or_false m.killed i })
 
-  alive : (o : Option Process) (m : Live) → live_part o ≡ Some m → o ≡ Some (Alive m)
-  alive None m e = let no : ⊥ = cc in absurd no
-  alive (Some (Alive l)) m e = let same : l ≡ m = cc in ap (λ (x : Live). Some (Alive x)) same
-  alive (Some (Zombie parent status)) m e = let no : ⊥ = cc in absurd no
-
   process_there : (q : ℕ) (m : Live) → q ≢ p → live s q ≡ Some m → get after.processes q ≡ Some (orphan p (Alive m))
   process_there q m other is = process_at q ∙ elim (eqb_tells q p) [
     | inl h ↦ absurd (other h.1)
-    | inr h ↦ ap (λ (b : Bool). cond b (Some (Zombie old.parent status)) (option_map (orphan p) (get s.processes q))) h.0 ∙ ap (option_map (orphan p)) (alive (get s.processes q) m is)
+    | inr h ↦ ap (λ (b : Bool). cond b (Some (Zombie old.parent status)) (option_map (orphan p) (get s.processes q))) h.0 ∙ ap (option_map (orphan p)) (alive_part (get s.processes q) m is)
   ]
 
   keeps_after : (q : ℕ) (m : Live) → q ≢ p → live s q ≡ Some m → live after q ≡ Some (record m { killed = m.killed || false; parent = cond (is_this p m.parent) (Some 1) m.parent })
@@ -195,9 +190,6 @@ module _ (s : State) (p : ℕ) (old : Live) (was : get s.processes p ≡ Some (A
     clock = refl;
     programs = refl;
   }
-
-  pub gone_quiet : Quiet s (view_of s p old) (gone answer (view_of s p old)) after
-  gone_quiet = quiet_from s after (view_of s p old) (gone answer (view_of s p old)) gone_leaves
 
   pub view_gone : view after p ≡ None
   view_gone = ap (λ (o : Option Process). option_map (view_of after p) (live_part o)) (get_same (orphans p s).processes p (Zombie old.parent status))

@@ -1,33 +1,23 @@
--- Kill.
-use Rattle.std.proofs.Common.{◌≡◌, ℕ, Bool, true, false, cond, not, ◌||◌, refl, ap, sym, ◌∙◌, subst}
+-- Kill: it is the step that its row tells.
+use Rattle.std.proofs.Common.{◌≡◌, ℕ, Bool, true, false, cond, not, ◌||◌, refl, ap, sym, ◌∙◌}
 use Rattle.std.specs.Prelude.{Option, None, Some, pos, option_map, nat_eq}
 use Rattle.std.specs.List.{list_any}
 use Rattle.std.specs.FinMap.{get, keys}
 use Rattle.kernel_spec.specs.views.Words.{is_this, word}
-use Rattle.kernel_spec.specs.views.Processes.{Process, Alive, Live, Zombie}
+use Rattle.kernel_spec.specs.views.Processes.{Process, Alive, Live}
 use Rattle.proc_table.specs.declared.process.Call.{Call}
 use Rattle.kernel_spec.specs.views.State.{State, live, live_part}
 use Rattle.kernel_spec.specs.views.View.{view, view_of, child_of}
-use Rattle.kernel_spec.specs.steps.Own.{Own, Called, goes_on}
+use Rattle.kernel_spec.specs.steps.Own.{Called, goes_on}
 use Rattle.kernel_spec.specs.rows.Calls.{done, with_a0}
-use Rattle.kernel_spec.specs.others.Quiet.{Quiet}
 use Rattle.kernel_spec.specs.steps.Updates.{kill_state, own_state, marked}
-use Rattle.kernel_spec.proofs.steps.Maps.{get_same}
-use Rattle.kernel_spec.proofs.steps.SetLive.{same_child, same_keys, live-set_live_there}
-use Rattle.kernel_spec.proofs.steps.Tell.{Leaves, quiet_from, own_table_tells}
-use Rattle.kernel_spec.proofs.steps.Gone.{turn}
-use Rattle.kernel_spec.proofs.steps.Orphans.{get-change, keys-change}
+use Rattle.kernel_spec.proofs.steps.MapsAfterChange.{get_same}
+use Rattle.kernel_spec.proofs.steps.ViewsAfterSetLive.{same_child, same_keys, live-set_live_there}
+use Rattle.kernel_spec.proofs.steps.TableTells.{Leaves, own_table_tells}
+use Rattle.kernel_spec.proofs.steps.GoneIsItsRow.{turn}
+use Rattle.kernel_spec.proofs.steps.OrphansKeepKeys.{get-change, keys-change}
 use Rattle.kernel_spec.proofs.rows.RowParts.{killed_by, unless}
-
-marked_again : (x : Process) → marked (marked x) ≡ marked x
-marked_again (Alive l) = refl
-marked_again (Zombie parent status) = refl
-
-same_child_marked : (q : ℕ) (b : Bool) (o : Option Process) → child_of q (cond b (option_map marked o) o) ≡ child_of q o
-same_child_marked q true None = refl
-same_child_marked q true (Some (Alive l)) = refl
-same_child_marked q true (Some (Zombie parent status)) = refl
-same_child_marked q false o = refl
+use Rattle.kernel_spec.proofs.Common.{alive_part, marked_again, marked_child, or_false}
 
 module _ (s : State) (p q : ℕ) (old : Live) (was : get s.processes p ≡ Some (Alive old)) (c : Call) where
   abbrev pub killer : Live
@@ -43,7 +33,7 @@ module _ (s : State) (p q : ℕ) (old : Live) (was : get s.processes p ≡ Some 
   process_at r = get-change marked marked_again before.processes q r (get before.processes q) refl
 
   children_at : (m r : ℕ) → child_of m (get after.processes r) ≡ child_of m (get s.processes r)
-  children_at m r = ap (child_of m) (process_at r) ∙ same_child_marked m (nat_eq r q) (get before.processes r) ∙ same_child s p old killer was refl m r
+  children_at m r = ap (child_of m) (process_at r) ∙ marked_child m (nat_eq r q) (get before.processes r) ∙ same_child s p old killer was refl m r
 
   pids_after : keys after.processes ≡ keys s.processes
   pids_after = keys-change marked marked_again before.processes q (get before.processes q) refl ∙ same_keys s p old killer was refl
@@ -61,20 +51,11 @@ module _ (s : State) (p q : ℕ) (old : Live) (was : get s.processes p ≡ Some 
       or_true true = refl
       or_true false = refl
   marked_live m false = λ i. Some (record m { killed = or_false m.killed i })
-    where
-      or_false : (b : Bool) → b ≡ (b || false)
-      or_false true = refl
-      or_false false = refl
-
-  alive : (o : Option Process) (m : Live) → live_part o ≡ Some m → o ≡ Some (Alive m)
-  alive None m e = let no : ⊥ = cc in absurd no
-  alive (Some (Alive l)) m e = let same : l ≡ m = cc in ap (λ (x : Live). Some (Alive x)) same
-  alive (Some (Zombie parent status)) m e = let no : ⊥ = cc in absurd no
 
   pub live_after : (r : ℕ) (m : Live) → live before r ≡ Some m → live after r ≡ Some (record m { killed = m.killed || is_this r (Some q) })
   live_after r m is =
       ap live_part (process_at r)
-      ∙ ap (λ (o : Option Process). live_part (cond (nat_eq r q) (option_map marked o) o)) (alive (get before.processes r) m is)
+      ∙ ap (λ (o : Option Process). live_part (cond (nat_eq r q) (option_map marked o) o)) (alive_part (get before.processes r) m is)
       ∙ marked_live m (nat_eq r q)
       ∙ ap (λ (b : Bool). Some (record m { killed = m.killed || b })) (turn r q)
 
@@ -92,9 +73,6 @@ module _ (s : State) (p q : ℕ) (old : Live) (was : get s.processes p ≡ Some 
     clock = refl;
     programs = refl;
   }
-
-  pub kill_quiet : (o : Own) → o ≡ record (goes_on (Called c.number (pos 0)) (view_of after p killer)) { marked = Some q } → Quiet s (view_of s p old) o after
-  kill_quiet o is = subst (λ (x : Own). Quiet s (view_of s p old) x after) (sym is) (quiet_from s after (view_of s p old) (record (goes_on (Called c.number (pos 0)) (view_of after p killer)) { marked = Some q }) kill_leaves)
 
   twice : (b : Bool) → ((old.killed || b) || b) ≡ (old.killed || b)
   twice b = by old.killed b

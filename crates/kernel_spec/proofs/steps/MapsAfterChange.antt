@@ -1,4 +1,4 @@
--- A map's keys where a value is replaced.
+-- A map behind a change at one key: what stands in it, and its keys.
 use Rattle.std.proofs.Common.{◌≡◌, ◌≢◌, ℕ, Bool, true, false, cond, ◌&&◌, ◌<◌, ◌++◌, T, List, [], ◌∷◌, map, refl, ap, sym, ◌∙◌, subst}
 use Rattle.std.specs.Prelude.{Option, None, Some, is_some, filter, not}
 use Rattle.std.specs.Ordering.{nat_cmp, is_lt, is_eq, eq_by_cmp}
@@ -9,7 +9,8 @@ use Rattle.std.specs.declared.cmp.Ordering.TheVariants.{Less, Equal, Greater}
 use Rattle.std.proofs.Common.{inl, inr}
 use Rattle.std.proofs.lemmas.Bool.{cases_eq, eq-eqb}
 use Rattle.std.proofs.lemmas.Bool.Decides.{eqb_tells}
-use Rattle.std.specs.FinMap.{FinMap, get, insert, remove, from_sorted, keys, entries, entries_sorted, get-entries, entries-insert, get-insert, get-remove, get-from_sorted, entries-from_sorted, same_map, nat_cmp-IsAntisymmetric}
+use Rattle.std.specs.FinMap.{FinMap, get, insert, remove, from_sorted, keys, entries, entries_sorted}
+use Rattle.std.specs.FinMap.{get-entries, entries-insert, get-insert, get-remove, get-from_sorted, entries-from_sorted, same_map, nat_cmp-IsAntisymmetric}
 use Rattle.std.specs.FinMap.Entries.{find, put, is_sorted, below_all, by_order, where_key, is_sorted-where_key, find-where_key}
 
 pub first : (a b : Bool) → T (a && b) → T a
@@ -44,7 +45,8 @@ module _ {K X : Type 0} {R : K → K → Ordering} (o : IsTotalOrder R) where
   keys_put : (k : K) (v : X) (es : List (K × X)) → T (is_sorted R es) → is_some (find R k es) ≡ true → map (λ e. e.0) (put R k v es) ≡ map (λ e. e.0) es
   keys_put k v [] s h = cc
   keys_put k v (e ∷ es) s h =
-      elim (R k e.0) as (λ r. R k e.0 ≡ r → is_some (cond (is_eq r) (Some e.1) (find R k es)) ≡ true → map (λ e. e.0) (by_order r ((k, v) ∷ e ∷ es) ((e.0, v) ∷ es) (e ∷ put R k v es)) ≡ map (λ e. e.0) (e ∷ es)) [
+      elim (R k e.0) as (λ r. R k e.0 ≡ r → is_some (cond (is_eq r) (Some e.1) (find R k es)) ≡ true
+      → map (λ e. e.0) (by_order r ((k, v) ∷ e ∷ es) ((e.0, v) ∷ es) (e ∷ put R k v es)) ≡ map (λ e. e.0) (e ∷ es)) [
         | Less ↦ λ p g. absurd (not_none (find R k es) g (find_below k es (below_less k e.0 es p (first _ _ s))))
         | Equal ↦ λ p g. refl
         | Greater ↦ λ p g. ap (λ ks. e.0 ∷ ks) (keys_put k v es (second _ _ s) g)
@@ -87,9 +89,6 @@ keys_push m k v h = ap (map (λ e. e.0)) (entries-insert nat_cmp_total m k v) �
 -- ---- a key is removed
 
 module _ {X : Type 0} (m : FinMap nat_cmp X) (k : ℕ) where
-  others_alone : (ℕ × X) → Bool
-  others_alone e = not (eq_by_cmp nat_cmp k e.0)
-
   alike_key : (q x : ℕ) → nat_cmp q x ≡ Equal → not (eq_by_cmp nat_cmp k x) ≡ not (eq_by_cmp nat_cmp k q)
   alike_key q x e = ap (λ (n : ℕ). not (eq_by_cmp nat_cmp k n)) (sym (nat_cmp-IsAntisymmetric q x e))
 
@@ -122,7 +121,10 @@ module _ {X : Type 0} (m : FinMap nat_cmp X) (k : ℕ) where
   keys_where [] = refl
   keys_where (e ∷ es) = by (eq_by_cmp nat_cmp k e.0) ∙ (λ i. cond (not ((flipped e.0 ∙ unsigned_tied e.0 k) i)) (e.0 ∷ keys_where es i) (keys_where es i))
     where
-      by : (b : Bool) → map (λ e. e.0) (cond (not b) (e ∷ where_key nat_cmp (λ x. not (eq_by_cmp nat_cmp k x)) es) (where_key nat_cmp (λ x. not (eq_by_cmp nat_cmp k x)) es)) ≡ cond (not b) (e.0 ∷ map (λ e. e.0) (where_key nat_cmp (λ x. not (eq_by_cmp nat_cmp k x)) es)) (map (λ e. e.0) (where_key nat_cmp (λ x. not (eq_by_cmp nat_cmp k x)) es))
+      by : (b : Bool) → map (λ e. e.0) (cond (not b) (e ∷ where_key nat_cmp (λ x. not (eq_by_cmp nat_cmp k x)) es)
+          (where_key nat_cmp (λ x. not (eq_by_cmp nat_cmp k x)) es)) ≡ cond (not b)
+          (e.0 ∷ map (λ e. e.0) (where_key nat_cmp (λ x. not (eq_by_cmp nat_cmp k x)) es))
+          (map (λ e. e.0) (where_key nat_cmp (λ x. not (eq_by_cmp nat_cmp k x)) es))
       by true = refl
       by false = refl
 
@@ -137,4 +139,11 @@ pub insert-twice : {X : Type 0} (m : FinMap nat_cmp X) (k : ℕ) (x y : X) → i
 insert-twice m k x y = same_map nat_cmp_total nat_cmp-IsAntisymmetric (insert (insert m k x) k y) (insert m k y) (λ q. elim (cases_eq q k) [
   | inl e ↦ ap (get (insert (insert m k x) k y)) e ∙ get_same (insert m k x) k y ∙ sym (ap (get (insert m k y)) e ∙ get_same m k y)
   | inr apart ↦ get_other (insert m k x) k y q apart ∙ get_other m k x q apart ∙ sym (get_other m k y q apart)
+])
+
+-- what is put in where it stands changes nothing
+pub insert_again : {X : Type 0} (m : FinMap nat_cmp X) (k : ℕ) (x : X) → get m k ≡ Some x → insert m k x ≡ m
+insert_again m k x is = same_map nat_cmp_total nat_cmp-IsAntisymmetric (insert m k x) m (λ q. elim (cases_eq q k) [
+  | inl e ↦ ap (get (insert m k x)) e ∙ get_same m k x ∙ sym (ap (get m) e ∙ is)
+  | inr apart ↦ get_other m k x q apart
 ])

@@ -2,16 +2,19 @@
 use Rattle.std.proofs.Common.{◌≡◌, ℕ, ◌<◌, Bool, true, false, cond, refl, ap, sym, ◌∙◌, inl, inr, lt-ltb}
 use Rattle.std.proofs.Math.Path.{fun_ext}
 use Rattle.std.specs.Prelude.{Option, None, Some, option_map, nat_eq, nat_lt}
-use Rattle.std.proofs.lemmas.Bool.{eq-eqb, eqb-true, ltb-true}
+use Rattle.std.proofs.lemmas.Bool.{eq-eqb, ltb-true}
 use Rattle.std.proofs.lemmas.Bool.Decides.{eqb_tells}
 use Rattle.xk_base.specs.declared.limits.TheConstants.{NOFILE}
 use Rattle.kernel_spec.specs.views.Words.{is_this, with_value}
 use Rattle.xk_base.specs.Words.{least_below}
+use Rattle.xk_base.proofs.Least.{none_below}
 use Rattle.kernel_spec.specs.views.Processes.{Live}
 use Rattle.kernel_spec.specs.views.State.{State}
-use Rattle.kernel_spec.specs.views.View.{Descriptors, Descriptor, Shown, Shown_terminal, Shown_file, Shown_pipe, named, numbered, rename, rename_shown, or_else, least_on_file, file_name, pipe_name, shown_pipe_name}
+use Rattle.kernel_spec.specs.views.View.{Descriptors, Descriptor, Shown, Shown_terminal, Shown_file, Shown_pipe, named, numbered}
+use Rattle.kernel_spec.specs.views.View.{rename, rename_shown, or_else, least_on_file, file_name, pipe_name, shown_pipe_name}
 use Rattle.kernel_spec.specs.others.Quiet.{is_same}
-use Rattle.kernel_spec.proofs.steps.Least.{least_passes, none_passes, least_congr}
+use Rattle.kernel_spec.proofs.steps.LeastPasses.{least_passes, least_congr}
+use Rattle.kernel_spec.proofs.Common.{this_is}
 
 -- the name that a live process has for its open file f
 abbrev pub name_of_file : State → Live → ℕ → ℕ
@@ -53,14 +56,15 @@ same_choice : (name : Descriptors → ℕ → Option ℕ) (t u : Descriptors) �
     → or_else (least_below (λ e. is_this m (name t e)) NOFILE) m ≡ or_else (least_below (λ e. is_this n (name u e)) NOFILE) n
 same_choice name t u same d m n below isT isU =
     let one : least_below (λ e. is_this m (name t e)) NOFILE ≡ least_below (λ e. is_this n (name u e)) NOFILE =
-    least_congr NOFILE (λ e. is_this m (name t e)) (λ e. is_this n (name u e)) (λ e b. ap (λ (o : Option ℕ). is_same o (name t e)) (sym isT) ∙ same d e below b ∙ ap (λ (o : Option ℕ). is_same o (name u e)) isU) in
+    least_congr NOFILE (λ e. is_this m (name t e)) (λ e. is_this n (name u e))
+    (λ e b. ap (λ (o : Option ℕ). is_same o (name t e)) (sym isT) ∙ same d e below b ∙ ap (λ (o : Option ℕ). is_same o (name u e)) isU) in
     chosen (least_below (λ e. is_this m (name t e)) NOFILE) (least_below (λ e. is_this n (name u e)) NOFILE) refl one
   where
     chosen : (a b : Option ℕ) → least_below (λ e. is_this m (name t e)) NOFILE ≡ a → a ≡ b → or_else a m ≡ or_else b n
     chosen (Some a) (Some b) e f = cc
     chosen (Some a) None e f = let no : ⊥ = cc in absurd no
     chosen None b e f =
-        let fails : is_this m (name t d) ≡ false = none_passes NOFILE (λ e. is_this m (name t e)) e d below in
+        let fails : is_this m (name t d) ≡ false = none_below (λ e. is_this m (name t e)) NOFILE e d below in
         let passes : is_this m (name t d) ≡ true = ap (is_this m) isT ∙ eq-eqb m m refl in
         let no : ⊥ = cc in absurd no
 
@@ -103,13 +107,15 @@ module _ (t u : Descriptors) (alike : Alike t u) where
 -- ---- a table that is without a place, or has a copy of one
 
 module _ (t u : Descriptors) (alike : Alike t u) (k j : ℕ) (below : j < NOFILE) where
-  file_at_copy : (d e : ℕ) → d < NOFILE → e < NOFILE → (a b : Bool) → is_same (file_name (cond a (t j) (t d))) (file_name (cond b (t j) (t e))) ≡ is_same (file_name (cond a (u j) (u d))) (file_name (cond b (u j) (u e)))
+  file_at_copy : (d e : ℕ) → d < NOFILE → e < NOFILE → (a b : Bool)
+      → is_same (file_name (cond a (t j) (t d))) (file_name (cond b (t j) (t e))) ≡ is_same (file_name (cond a (u j) (u d))) (file_name (cond b (u j) (u e)))
   file_at_copy d e x y true true = alike.files j j below below
   file_at_copy d e x y true false = alike.files j e below y
   file_at_copy d e x y false true = alike.files d j x below
   file_at_copy d e x y false false = alike.files d e x y
 
-  pipe_at_copy : (d e : ℕ) → d < NOFILE → e < NOFILE → (a b : Bool) → is_same (pipe_name (cond a (t j) (t d))) (pipe_name (cond b (t j) (t e))) ≡ is_same (pipe_name (cond a (u j) (u d))) (pipe_name (cond b (u j) (u e)))
+  pipe_at_copy : (d e : ℕ) → d < NOFILE → e < NOFILE → (a b : Bool)
+      → is_same (pipe_name (cond a (t j) (t d))) (pipe_name (cond b (t j) (t e))) ≡ is_same (pipe_name (cond a (u j) (u d))) (pipe_name (cond b (u j) (u e)))
   pipe_at_copy d e x y true true = alike.pipes j j below below
   pipe_at_copy d e x y true false = alike.pipes j e below y
   pipe_at_copy d e x y false true = alike.pipes d j x below
@@ -131,14 +137,10 @@ module _ (t u : Descriptors) (alike : Alike t u) (k j : ℕ) (below : j < NOFILE
 abbrev pub choice : (ℕ → Option ℕ) → ℕ → ℕ
 choice name m = or_else (least_below (λ c. is_this m (name c)) NOFILE) m
 
-pub this_is : (n : ℕ) (o : Option ℕ) → is_this n o ≡ true → o ≡ Some n
-this_is n None h = let no : ⊥ = cc in absurd no
-this_is n (Some k) h = ap Some (eqb-true k n h)
-
 -- the place chosen for a name that some place has has the name
 pub choice_has : (name : ℕ → Option ℕ) (d m : ℕ) → d < NOFILE → name d ≡ Some m → (o : Option ℕ) → least_below (λ c. is_this m (name c)) NOFILE ≡ o → name (or_else o m) ≡ Some m
 choice_has name d m below is None e =
-    let fails : is_this m (name d) ≡ false = none_passes NOFILE (λ c. is_this m (name c)) e d below in
+    let fails : is_this m (name d) ≡ false = none_below (λ c. is_this m (name c)) NOFILE e d below in
     let passes : is_this m (name d) ≡ true = ap (is_this m) is ∙ eq-eqb m m refl in
     let no : ⊥ = cc in absurd no
 choice_has name d m below is (Some h) e = this_is m (name h) (least_passes NOFILE (λ c. is_this m (name c)) h e).0
@@ -189,8 +191,10 @@ named_at t d below = ap (λ (b : Bool). cond b (option_map (rename t) (t d)) Non
 
 pub alike_named : (t : Descriptors) → Alike (named t) t
 alike_named t = record {
-  files = λ d e x y. (λ i. is_same ((ap file_name (named_at t d x) ∙ file_renamed t (t d)) i) ((ap file_name (named_at t e y) ∙ file_renamed t (t e)) i)) ∙ same_names (λ c. file_name (t c)) d e x y (file_name (t d)) (file_name (t e)) refl refl;
-  pipes = λ d e x y. (λ i. is_same ((ap pipe_name (named_at t d x) ∙ pipe_renamed t (t d)) i) ((ap pipe_name (named_at t e y) ∙ pipe_renamed t (t e)) i)) ∙ same_names (λ c. pipe_name (t c)) d e x y (pipe_name (t d)) (pipe_name (t e)) refl refl;
+  files = λ d e x y. (λ i. is_same ((ap file_name (named_at t d x) ∙ file_renamed t (t d)) i)
+      ((ap file_name (named_at t e y) ∙ file_renamed t (t e)) i)) ∙ same_names (λ c. file_name (t c)) d e x y (file_name (t d)) (file_name (t e)) refl refl;
+  pipes = λ d e x y. (λ i. is_same ((ap pipe_name (named_at t d x) ∙ pipe_renamed t (t d)) i)
+      ((ap pipe_name (named_at t e y) ∙ pipe_renamed t (t e)) i)) ∙ same_names (λ c. pipe_name (t c)) d e x y (pipe_name (t d)) (pipe_name (t e)) refl refl;
   shape = λ d x. ap bare (named_at t d x) ∙ bare_renamed t (t d);
 }
 

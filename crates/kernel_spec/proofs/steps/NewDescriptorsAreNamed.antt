@@ -3,22 +3,21 @@ use Rattle.std.proofs.Common.{◌≡◌, ◌≢◌, ℕ, ◌<◌, Bool, true, fa
 use Rattle.std.specs.Prelude.{Option, None, Some, option_map, nat_eq}
 use Rattle.std.proofs.lemmas.Bool.{eq-eqb}
 use Rattle.std.proofs.lemmas.Bool.Decides.{eqb_tells}
+use Rattle.std.proofs.lemmas.Option.{same_Some}
 use Rattle.xk_base.specs.declared.limits.TheConstants.{NOFILE}
 use Rattle.kernel_spec.specs.views.Words.{with_value, is_this}
 use Rattle.xk_base.specs.Words.{least_below}
+use Rattle.xk_base.proofs.Least.{none_below}
 use Rattle.pipe_core.specs.Pipe.{Pipe}
 use Rattle.file_table.specs.declared.open_file.End.TheVariants.{Reading, Writing}
 use Rattle.kernel_spec.specs.views.View.{Descriptors, Descriptor, Shown, Shown_terminal, Shown_file, Shown_pipe, named, file_name, pipe_name, shown_pipe_name, or_else}
 use Rattle.kernel_spec.specs.rows.Tables.{with_descriptor}
 use Rattle.kernel_spec.specs.others.Quiet.{is_same}
-use Rattle.kernel_spec.proofs.steps.Least.{least_passes, none_passes}
-use Rattle.kernel_spec.proofs.steps.Names.{alike_named, named_alike, named_at, bare, choice, choice_has, file_renamed, pipe_renamed, same_names, this_is}
+use Rattle.kernel_spec.proofs.steps.LeastPasses.{least_passes}
+use Rattle.kernel_spec.proofs.steps.NamesAreChosenAgain.{alike_named, named_alike, named_at, bare, choice, choice_has, file_renamed, pipe_renamed, same_names}
+use Rattle.kernel_spec.proofs.Common.{none_is_same, this_is, this_is_not}
 
 -- ---- names that nothing has
-
-pub never : (n : ℕ) (o : Option ℕ) → o ≢ Some n → is_this n o ≡ false
-never n None h = refl
-never n (Some k) h = elim (eqb_tells k n) [ inl e ↦ absurd (h (ap Some e.1)) | inr e ↦ e.0 ]
 
 pub never_same : (n : ℕ) (o : Option ℕ) → o ≢ Some n → is_same o (Some n) ≡ false
 never_same n None h = refl
@@ -29,14 +28,11 @@ module _ (name : Option Descriptor → Option ℕ) (none : name None ≡ None) (
   not_chosen : (e : ℕ) → e < NOFILE → (o : Option ℕ) → name (t e) ≡ o → option_map (choice (λ c. name (t c))) o ≢ Some k
   not_chosen e below None is h = let no : ⊥ = cc in no
   not_chosen e below (Some m) is h =
-      let is_k : choice (λ c. name (t c)) m ≡ k = some_is (choice (λ c. name (t c)) m) k h in
+      let is_k : choice (λ c. name (t c)) m ≡ k = same_Some (choice (λ c. name (t c)) m) k h in
       let has : name (t (choice (λ c. name (t c)) m)) ≡ Some m = choice_has (λ c. name (t c)) e m below is (least_below (λ c. is_this m (name (t c))) NOFILE) refl in
       let at_k : name (t k) ≡ Some m = ap (λ (n : ℕ). name (t n)) (sym is_k) ∙ has in
       let nothing : name (t k) ≡ None = ap name free ∙ none in
       let no : ⊥ = cc in no
-    where
-      some_is : (a b : ℕ) → Some a ≡ Some b → a ≡ b
-      some_is a b e = cc
 
 pub file_not_chosen : (t : Descriptors) (k : ℕ) → t k ≡ None → (e : ℕ) → e < NOFILE → file_name (named t e) ≢ Some k
 file_not_chosen t k free e below h = not_chosen file_name refl t k free e below (file_name (t e)) refl (sym (ap file_name (named_at t e below) ∙ file_renamed t (t e)) ∙ h)
@@ -57,13 +53,15 @@ module _ (t : Descriptors) (k g : ℕ) (free : t k ≡ None) (fresh : (e : ℕ) 
   abbrev b : Option Descriptor
   b = Some (record { file = g; read = read; write = write; shown = y })
 
-  same_files : (d e : ℕ) → d < NOFILE → e < NOFILE → (m n : Bool) → is_same (file_name (cond m a (named t d))) (file_name (cond n a (named t e))) ≡ is_same (file_name (cond m b (t d))) (file_name (cond n b (t e)))
+  same_files : (d e : ℕ) → d < NOFILE → e < NOFILE → (m n : Bool)
+      → is_same (file_name (cond m a (named t d))) (file_name (cond n a (named t e))) ≡ is_same (file_name (cond m b (t d))) (file_name (cond n b (t e)))
   same_files d e v w true true = eq-eqb k k refl ∙ sym (eq-eqb g g refl)
-  same_files d e v w true false = never k (file_name (named t e)) (file_not_chosen t k free e w) ∙ sym (never g (file_name (t e)) (fresh e w))
+  same_files d e v w true false = this_is_not k (file_name (named t e)) (file_not_chosen t k free e w) ∙ sym (this_is_not g (file_name (t e)) (fresh e w))
   same_files d e v w false true = never_same k (file_name (named t d)) (file_not_chosen t k free d v) ∙ sym (never_same g (file_name (t d)) (fresh d v))
   same_files d e v w false false = (alike_named t).files d e v w
 
-  same_pipes : (d e : ℕ) → d < NOFILE → e < NOFILE → (m n : Bool) → is_same (pipe_name (cond m a (named t d))) (pipe_name (cond n a (named t e))) ≡ is_same (pipe_name (cond m b (t d))) (pipe_name (cond n b (t e)))
+  same_pipes : (d e : ℕ) → d < NOFILE → e < NOFILE → (m n : Bool)
+      → is_same (pipe_name (cond m a (named t d))) (pipe_name (cond n a (named t e))) ≡ is_same (pipe_name (cond m b (t d))) (pipe_name (cond n b (t e)))
   same_pipes d e v w true true = self
   same_pipes d e v w true false = pipes_left e w
   same_pipes d e v w false true = pipes_right d v
@@ -80,15 +78,14 @@ module _ (t : Descriptors) (k g : ℕ) (free : t k ≡ None) (fresh : (e : ℕ) 
     shape = λ d v. same_shape d v (nat_eq d k);
   })
 
--- a descriptor on no pipe
-same_none : (o : Option ℕ) → is_same o None ≡ false
-same_none None = refl
-same_none (Some n) = refl
-
 pub named_new_alone : (t : Descriptors) (k g : ℕ) → t k ≡ None → ((e : ℕ) → e < NOFILE → file_name (t e) ≢ Some g) → (read write : Bool) (x : Shown) → shown_pipe_name x ≡ None
     → with_descriptor k (record { file = k; read = read; write = write; shown = x }) (named t) ≡ named (with_value t k (Some (record { file = g; read = read; write = write; shown = x })))
-named_new_alone t k g free fresh read write Shown_terminal on = named_new t k g free fresh read write Shown_terminal Shown_terminal refl refl (λ e b. refl) (λ e b. same_none (pipe_name (named t e)) ∙ sym (same_none (pipe_name (t e))))
-named_new_alone t k g free fresh read write (Shown_file program n) on = named_new t k g free fresh read write (Shown_file program n) (Shown_file program n) refl refl (λ e b. refl) (λ e b. same_none (pipe_name (named t e)) ∙ sym (same_none (pipe_name (t e))))
+named_new_alone t k g free fresh read write Shown_terminal on =
+    named_new t k g free fresh read write Shown_terminal Shown_terminal refl refl (λ e b. refl)
+    (λ e b. none_is_same (pipe_name (named t e)) ∙ sym (none_is_same (pipe_name (t e))))
+named_new_alone t k g free fresh read write (Shown_file program n) on =
+    named_new t k g free fresh read write (Shown_file program n) (Shown_file program n) refl refl (λ e b. refl)
+    (λ e b. none_is_same (pipe_name (named t e)) ∙ sym (none_is_same (pipe_name (t e))))
 named_new_alone t k g free fresh read write (Shown_pipe n end pipe) on = let no : ⊥ = cc in absurd no
 
 -- ---- two descriptors more, on the ends of a pipe that nobody names
@@ -102,14 +99,18 @@ module _ (t : Descriptors) (r w g h i : ℕ) (below_r : r < NOFILE) (below_w : w
   named_first : with_descriptor r (record { file = r; read = true; write = false; shown = Shown_pipe r Reading x }) (named t) ≡ named first
   named_first = named_new t r g free_r fresh_g true false (Shown_pipe r Reading x) (Shown_pipe i Reading x) refl
       (eq-eqb r r refl ∙ sym (eq-eqb i i refl))
-      (λ e b. never r (pipe_name (named t e)) (pipe_not_chosen t r free_r e b) ∙ sym (never i (pipe_name (t e)) (fresh_i e b)))
+      (λ e b. this_is_not r (pipe_name (named t e)) (pipe_not_chosen t r free_r e b) ∙ sym (this_is_not i (pipe_name (t e)) (fresh_i e b)))
       (λ e b. never_same r (pipe_name (named t e)) (pipe_not_chosen t r free_r e b) ∙ sym (never_same i (pipe_name (t e)) (fresh_i e b)))
 
   at_r : first r ≡ Some (record { file = g; read = true; write = false; shown = Shown_pipe i Reading x })
   at_r = ap (λ (b : Bool). cond b (Some (record { file = g; read = true; write = false; shown = Shown_pipe i Reading x })) (t r)) (eq-eqb r r refl)
 
   at_other : (e : ℕ) → e ≢ r → first e ≡ t e
-  at_other e other = elim (eqb_tells e r) [ inl same ↦ absurd (other same.1) | inr q ↦ ap (λ (b : Bool). cond b (Some (record { file = g; read = true; write = false; shown = Shown_pipe i Reading x })) (t e)) q.0 ]
+  at_other e other = elim (eqb_tells e r) [
+    | inl same ↦ absurd (other same.1)
+    | inr q ↦ ap
+        (λ (b : Bool). cond b (Some (record { file = g; read = true; write = false; shown = Shown_pipe i Reading x })) (t e)) q.0
+  ]
 
   free_then : first w ≡ None
   free_then = at_other w (λ e. apart (sym e)) ∙ free_w
@@ -123,7 +124,7 @@ module _ (t : Descriptors) (r w g h i : ℕ) (below_r : r < NOFILE) (below_w : w
   -- the new pipe is named by its reading end
   new_name : (o : Option ℕ) → least_below (λ c. is_this i (pipe_name (first c))) NOFILE ≡ o → or_else o i ≡ r
   new_name None e =
-      let fails : is_this i (pipe_name (first r)) ≡ false = none_passes NOFILE (λ c. is_this i (pipe_name (first c))) e r below_r in
+      let fails : is_this i (pipe_name (first r)) ≡ false = none_below (λ c. is_this i (pipe_name (first c))) NOFILE e r below_r in
       let passes : is_this i (pipe_name (first r)) ≡ true = ap (λ (d : Option Descriptor). is_this i (pipe_name d)) at_r ∙ eq-eqb i i refl in
       let no : ⊥ = cc in absurd no
   new_name (Some k) e =
@@ -139,7 +140,9 @@ module _ (t : Descriptors) (r w g h i : ℕ) (below_r : r < NOFILE) (below_w : w
   name_then : (e : ℕ) → e < NOFILE → pipe_name (named first e) ≡ option_map (choice (λ c. pipe_name (first c))) (pipe_name (first e))
   name_then e b = ap pipe_name (named_at first e b) ∙ pipe_renamed first (first e)
 
-  pub named_pair : with_descriptor w (record { file = w; read = false; write = true; shown = Shown_pipe r Writing x }) (with_descriptor r (record { file = r; read = true; write = false; shown = Shown_pipe r Reading x }) (named t)) ≡ named (with_value first w (Some (record { file = h; read = false; write = true; shown = Shown_pipe i Writing x })))
+  pub named_pair : with_descriptor w (record { file = w; read = false; write = true; shown = Shown_pipe r Writing x })
+      (with_descriptor r (record { file = r; read = true; write = false; shown = Shown_pipe r Reading x }) (named t)) ≡ named
+      (with_value first w (Some (record { file = h; read = false; write = true; shown = Shown_pipe i Writing x })))
   named_pair = ap (with_descriptor w (record { file = w; read = false; write = true; shown = Shown_pipe r Writing x })) named_first
       ∙ named_new first w h free_then fresh_then false true (Shown_pipe r Writing x) (Shown_pipe i Writing x) refl
       (eq-eqb r r refl ∙ sym (eq-eqb i i refl))

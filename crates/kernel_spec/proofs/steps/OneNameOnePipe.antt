@@ -4,7 +4,9 @@ use Rattle.std.proofs.Math.Path.{fun_ext}
 use Rattle.std.specs.Prelude.{Option, None, Some, option_map, nat_eq, nat_lt}
 use Rattle.std.specs.FinMap.{get}
 use Rattle.std.proofs.lemmas.Bool.{eq-eqb, eqb-true, ltb-true}
+use Rattle.std.proofs.lemmas.Option.{same_Some}
 use Rattle.xk_base.specs.declared.limits.TheConstants.{NOFILE}
+use Rattle.xk_base.proofs.Least.{none_below}
 use Rattle.pipe_core.specs.Pipe.{Pipe}
 use Rattle.file_table.specs.declared.open_file.End.{End}
 use Rattle.file_table.specs.declared.open_file.OpenFile.{OpenFile}
@@ -13,19 +15,11 @@ use Rattle.file_table.specs.declared.open_file.Target.TheVariants.{Console as Te
 use Rattle.kernel_spec.specs.views.Words.{is_this}
 use Rattle.kernel_spec.specs.views.Processes.{Live}
 use Rattle.kernel_spec.specs.views.State.{State}
-use Rattle.kernel_spec.specs.views.View.{Descriptors, Descriptor, Shown, Shown_terminal, Shown_file, Shown_pipe, named, numbered, rename, or_else, or_gone, show, descriptor_at, descriptor_on, least_on_pipe, pipe_name, shown_pipe_name}
+use Rattle.kernel_spec.specs.views.View.{Descriptors, Descriptor, Shown, Shown_terminal, Shown_file, Shown_pipe, named, numbered, rename}
+use Rattle.kernel_spec.specs.views.View.{or_else, or_gone, show, descriptor_at, descriptor_on, least_on_pipe, pipe_name, shown_pipe_name}
 use Rattle.kernel_spec.specs.rows.Tables.{change_pipe, changed, change_shown}
-use Rattle.kernel_spec.proofs.steps.Least.{least_passes, none_passes}
-
-this_is : (i : ℕ) (o : Option ℕ) → is_this i o ≡ true → o ≡ Some i
-this_is i None e = let no : ⊥ = cc in absurd no
-this_is i (Some k) e = ap Some (eqb-true k i e)
-
-same_some : (a b : Shown) → Some a ≡ Some b → a ≡ b
-same_some a b e = cc
-
-same_number : (a b : ℕ) → Some a ≡ Some b → a ≡ b
-same_number a b e = cc
+use Rattle.kernel_spec.proofs.steps.LeastPasses.{least_passes}
+use Rattle.kernel_spec.proofs.Common.{this_is}
 
 abbrev name_in : Shown → ℕ
 name_in Shown_terminal = 0
@@ -48,7 +42,7 @@ module _ (s : State) (l : Live) where
   leads : (d i : ℕ) → d < NOFILE → pipe_name (T d) ≡ Some i → (o : Option ℕ) → least_on_pipe T i ≡ o → pipe_name (T (or_else o i)) ≡ Some i
   leads d i below on (Some k) is = this_is i (pipe_name (T k)) (least_passes NOFILE (λ e. is_this i (pipe_name (T e))) k is).0
   leads d i below on None is =
-      let fails : is_this i (pipe_name (T d)) ≡ false = none_passes NOFILE (λ e. is_this i (pipe_name (T e))) is d below in
+      let fails : is_this i (pipe_name (T d)) ≡ false = none_below (λ e. is_this i (pipe_name (T e))) NOFILE is d below in
       let passes : is_this i (pipe_name (T d)) ≡ true = ap (is_this i) on ∙ eq-eqb i i refl in
       let no : ⊥ = cc in absurd no
 
@@ -60,7 +54,7 @@ module _ (s : State) (l : Live) where
   on_target d g r w Terminal below on name end x is = let no : ⊥ = cc in absurd no
   on_target d g r w (File program offset) below on name end x is = let no : ⊥ = cc in absurd no
   on_target d g r w (Pipe_end i e) below on name end x is =
-      let same : Shown_pipe (or_else (least_on_pipe T i) i) e (or_gone (get s.pipes i)) ≡ Shown_pipe name end x = same_some _ _ is in
+      let same : Shown_pipe (or_else (least_on_pipe T i) i) e (or_gone (get s.pipes i)) ≡ Shown_pipe name end x = same_Some _ _ is in
       (i, subst (λ (k : ℕ). pipe_name (T k) ≡ Some i) (ap name_in same) (leads d i below on (least_on_pipe T i) refl), sym (ap pipe_in same))
 
   on_file : (d g : ℕ) (o : Option OpenFile) → d < NOFILE → pipe_name (T d) ≡ pipe_name (descriptor_on s g o) → Shows (option_map (rename T) (descriptor_on s g o))
@@ -83,7 +77,7 @@ module _ (s : State) (l : Live) where
   pub one_pipe : (d e name : ℕ) (end other : End) (x y : Pipe) → shown_of (named T d) ≡ Some (Shown_pipe name end x) → shown_of (named T e) ≡ Some (Shown_pipe name other y) → x ≡ y
   one_pipe d e name end other x y a b =
       let here = shows d name end x a in let there = shows e name other y b in
-      here.2 ∙ ap (λ (i : ℕ). or_gone (get s.pipes i)) (same_number here.0 there.0 (sym here.1 ∙ there.1)) ∙ sym there.2
+      here.2 ∙ ap (λ (i : ℕ). or_gone (get s.pipes i)) (same_Some here.0 there.0 (sym here.1 ∙ there.1)) ∙ sym there.2
 
   -- so nothing changes where that pipe is put in its place
   module _ (e name : ℕ) (end : End) (x : Pipe) (is : shown_of (named T e) ≡ Some (Shown_pipe name end x)) where

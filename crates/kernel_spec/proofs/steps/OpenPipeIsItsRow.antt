@@ -1,5 +1,5 @@
--- Open, and pipe.
-use Rattle.std.proofs.Common.{◌≡◌, ◌≢◌, ℕ, ◌<◌, ◌-◌, ◌++◌, Bool, true, false, cond, refl, ap, sym, ◌∙◌, subst}
+-- Open and pipe: they are the steps that their rows tell.
+use Rattle.std.proofs.Common.{◌≡◌, ◌≢◌, ℕ, ◌<◌, ◌-◌, ◌++◌, Bool, true, false, cond, refl, ap, sym, ◌∙◌}
 use Rattle.std.proofs.Math.Path.{fun_ext}
 use Rattle.std.specs.Prelude.{Option, None, Some, pos, nat_eq}
 use Rattle.std.specs.FinMap.{FinMap, get, insert}
@@ -18,17 +18,16 @@ use Rattle.kernel_spec.specs.views.Processes.{Alive, Live}
 use Rattle.proc_table.specs.declared.process.Call.{Call}
 use Rattle.kernel_spec.specs.views.State.{State, live_part}
 use Rattle.kernel_spec.specs.views.View.{Descriptors, Descriptor, Shown_pipe, named, numbered, descriptor_at, descriptor_on, show, or_gone, view_of, file_name, pipe_name, shown_pipe_name}
-use Rattle.kernel_spec.specs.steps.Own.{Own, Called, goes_on}
+use Rattle.kernel_spec.specs.steps.Own.{Called, goes_on}
 use Rattle.kernel_spec.specs.rows.Tables.{with_descriptor}
 use Rattle.kernel_spec.specs.rows.Calls.{with_a0}
-use Rattle.kernel_spec.specs.others.Quiet.{Quiet, file_at, file_of, pipe_at, pipe_of_file, pipe_of_open, pipe_of_target}
+use Rattle.kernel_spec.specs.others.Quiet.{file_at, file_of, pipe_at, pipe_of_file, pipe_of_open, pipe_of_target}
 use Rattle.kernel_spec.specs.steps.Updates.{changed_state}
-use Rattle.kernel_spec.proofs.steps.Maps.{get_at, get_same, get_other}
-use Rattle.kernel_spec.proofs.steps.Frame.{OtherNames, Tells, Spares, kind}
-use Rattle.kernel_spec.proofs.steps.Tell.{quiet_from}
-use Rattle.kernel_spec.proofs.steps.Dup.{wider_tells}
-use Rattle.kernel_spec.proofs.steps.Opens.{named_new_alone, named_pair}
-use Rattle.kernel_spec.proofs.steps.Change.{view_changed, leaves_changed}
+use Rattle.kernel_spec.proofs.steps.MapsAfterChange.{get_at, get_same, get_other}
+use Rattle.kernel_spec.proofs.steps.OthersTableIsSeen.{OtherNames, Tells, Spares, kind}
+use Rattle.kernel_spec.proofs.steps.DupIsItsRow.{wider_tells}
+use Rattle.kernel_spec.proofs.steps.NewDescriptorsAreNamed.{named_new_alone, named_pair}
+use Rattle.kernel_spec.proofs.steps.ChangeIsSeen.{view_changed}
 use Rattle.kernel_spec.proofs.rows.RowParts.{open_at, piped}
 
 -- no process names the open file
@@ -46,7 +45,8 @@ module _ (s t : State) where
   open_same g None h = refl
   open_same g (Some x) h = λ i. Some (record { file = g; read = x.read; write = x.write; shown = target_same x.target h i })
 
-  pub place_same : (o : Option ℕ) → ((g : ℕ) → o ≡ Some g → get t.files g ≡ get s.files g) → ((j : ℕ) → pipe_of_file s o ≡ Some j → or_gone (get t.pipes j) ≡ or_gone (get s.pipes j)) → descriptor_at t o ≡ descriptor_at s o
+  pub place_same : (o : Option ℕ) → ((g : ℕ) → o ≡ Some g → get t.files g ≡ get s.files g)
+      → ((j : ℕ) → pipe_of_file s o ≡ Some j → or_gone (get t.pipes j) ≡ or_gone (get s.pipes j)) → descriptor_at t o ≡ descriptor_at s o
   place_same None files pipes = refl
   place_same (Some g) files pipes = ap (descriptor_on t g) (files g refl) ∙ open_same g (get s.files g) pipes
 
@@ -80,7 +80,8 @@ module _ (s : State) (p : ℕ) (old : Live) (was : get s.processes p ≡ Some (A
   fresh : (e : ℕ) → e < NOFILE → file_name (numbered s old e) ≢ Some g
   fresh e b h = unnamed p e (mine e g (file_named s (get old.descriptors e) g h))
 
-  place_at : (d : ℕ) (b : Bool) → descriptor_at after (cond b (Some g) (get old.descriptors d)) ≡ cond b (Some (record { file = g; read = read; write = write; shown = show s target })) (numbered s old d)
+  place_at : (d : ℕ) (b : Bool) → descriptor_at after (cond b (Some g) (get old.descriptors d)) ≡ cond b
+      (Some (record { file = g; read = read; write = write; shown = show s target })) (numbered s old d)
   place_at d true = ap (descriptor_on after g) (get_same s.files g opened)
   place_at d false = place_same s after (get old.descriptors d) (λ f h. get_other s.files g opened f (not_new d f h)) (λ j h. refl)
 
@@ -106,17 +107,10 @@ module _ (s : State) (p : ℕ) (old : Live) (was : get s.processes p ≡ Some (A
   pub open_spares : Spares s after p
   open_spares = record { file = λ f other h. other_files f other; pipe = λ j other h. refl; kinds = λ f other. ap kind (other_files f other) }
 
-  pub open_quiet : (o : Own) → o ≡ goes_on (Called c.number (pos k)) (view_of after p opener) → Quiet s (view_of s p old) o after
-  unfolding view_of
-  open_quiet o is = subst (λ (z : Own). Quiet s (view_of s p old) z after) (sym is)
-      (quiet_from s after (view_of s p old) (goes_on (Called c.number (pos k)) (view_of after p opener))
-      (leaves_changed s p old was (with_a0 old.regs (word (pos k))) old.image None old.killed (insert old.descriptors k g) (insert s.files g opened) s.pipes s.console s.free (Called c.number (pos k)) refl (named (numbered after opener))
-      (wider_tells s after p old opener (ap live_part was) (λ e f h. get_other old.descriptors k g e (apart e f h) ∙ h) other_files (λ e f h. get_other s.files g opened f (not_new e f h)))
-      (record { file = λ f other h. other_files f other; pipe = λ j other h. refl; kinds = λ f other. ap kind (other_files f other) })))
-
 -- ---- pipe
 
-module _ (s : State) (p : ℕ) (old : Live) (was : get s.processes p ≡ Some (Alive old)) (c : Call) (r w g h i : ℕ) (below_r : r < NOFILE) (below_w : w < NOFILE) (distinct : r ≢ w) (distinct_files : g ≢ h)
+module _ (s : State) (p : ℕ) (old : Live) (was : get s.processes p ≡ Some (Alive old)) (c : Call) (r w g h i : ℕ) (below_r : r < NOFILE)
+    (below_w : w < NOFILE) (distinct : r ≢ w) (distinct_files : g ≢ h)
     (unused_r : get old.descriptors r ≡ None) (unused_w : get old.descriptors w ≡ None) (unnamed_g : Unnamed s g) (unnamed_h : Unnamed s h)
     (unnamed_i : (q d : ℕ) → pipe_at s q d ≢ Some i) where
   abbrev pub reader : OpenFile
@@ -165,7 +159,8 @@ module _ (s : State) (p : ℕ) (old : Live) (was : get s.processes p ≡ Some (A
   other_end = Some (record { file = h; read = false; write = true; shown = Shown_pipe i Writing new_pipe })
 
   pipe_place : (d : ℕ) (a b : Bool) → descriptor_at after_pipe (cond a (Some h) (cond b (Some g) (get old.descriptors d))) ≡ cond a other_end (cond b one_end (numbered s old d))
-  pipe_place d true b = ap (descriptor_on after_pipe h) (get_same (insert s.files g reader) h writer) ∙ (λ j. Some (record { file = h; read = false; write = true; shown = Shown_pipe i Writing (the_pipe j) }))
+  pipe_place d true b = ap (descriptor_on after_pipe h) (get_same (insert s.files g reader) h writer)
+      ∙ (λ j. Some (record { file = h; read = false; write = true; shown = Shown_pipe i Writing (the_pipe j) }))
   pipe_place d false true = ap (descriptor_on after_pipe g) reader_there ∙ (λ j. Some (record { file = g; read = true; write = false; shown = Shown_pipe i Reading (the_pipe j) }))
   pipe_place d false false = place_same s after_pipe (get old.descriptors d) (kept_file d) (kept_pipe d)
 
@@ -186,7 +181,8 @@ module _ (s : State) (p : ℕ) (old : Live) (was : get s.processes p ≡ Some (A
       of_open (Some x) = of_target x.target
 
   abbrev shown_table : Descriptors
-  shown_table = with_descriptor w (record { file = w; read = false; write = true; shown = Shown_pipe r Writing new_pipe }) (with_descriptor r (record { file = r; read = true; write = false; shown = Shown_pipe r Reading new_pipe }) (named (numbered s old)))
+  shown_table = with_descriptor w (record { file = w; read = false; write = true; shown = Shown_pipe r Writing new_pipe })
+      (with_descriptor r (record { file = r; read = true; write = false; shown = Shown_pipe r Reading new_pipe }) (named (numbered s old)))
 
   pipe_table : shown_table ≡ named (numbered after_pipe piper)
   pipe_table =
@@ -200,7 +196,8 @@ module _ (s : State) (p : ℕ) (old : Live) (was : get s.processes p ≡ Some (A
   pub pipe_own : piped c (view_of s p old) r (Some w) ≡ goes_on (Called c.number (pos 0)) (view_of after_pipe p piper)
   unfolding view_of
   pipe_own = ap (goes_on (Called c.number (pos 0)))
-      (view_changed s p old was (with_a0 old.regs (word (pos 0))) image_piped None old.killed (insert (insert old.descriptors r g) w h) files_piped (insert s.pipes i new_pipe) s.console (s.free - 1) shown_table pipe_table)
+      (view_changed s p old was (with_a0 old.regs (word (pos 0))) image_piped None old.killed (insert (insert old.descriptors r g) w h) files_piped
+      (insert s.pipes i new_pipe) s.console (s.free - 1) shown_table pipe_table)
 
   others_file : (f : ℕ) → OtherNames s p f → get after_pipe.files f ≡ get s.files f
   others_file f other = old_file f (λ e. unnamed_g other.0 other.1 (other.3 ∙ ap Some e)) (λ e. unnamed_h other.0 other.1 (other.3 ∙ ap Some e))
@@ -219,17 +216,3 @@ module _ (s : State) (p : ℕ) (old : Live) (was : get s.processes p ≡ Some (A
     pipe = λ j other q. get_other s.pipes i new_pipe j (λ e. unnamed_i other.0 other.1 (other.3 ∙ ap Some e));
     kinds = λ f other. ap kind (others_file f other);
   }
-
-  pub pipe_quiet : (o : Own) → o ≡ goes_on (Called c.number (pos 0)) (view_of after_pipe p piper) → Quiet s (view_of s p old) o after_pipe
-  unfolding view_of
-  pipe_quiet o is = subst (λ (z : Own). Quiet s (view_of s p old) z after_pipe) (sym is)
-      (quiet_from s after_pipe (view_of s p old) (goes_on (Called c.number (pos 0)) (view_of after_pipe p piper))
-      (leaves_changed s p old was (with_a0 old.regs (word (pos 0))) image_piped None old.killed (insert (insert old.descriptors r g) w h) files_piped (insert s.pipes i new_pipe) s.console (s.free - 1) (Called c.number (pos 0)) refl (named (numbered after_pipe piper))
-      (wider_tells s after_pipe p old piper (ap live_part was)
-      (λ e f q. get_other (insert old.descriptors r g) w h e (in_use_apart e f w unused_w q) ∙ get_other old.descriptors r g e (in_use_apart e f r unused_r q) ∙ q)
-      others_file (λ e f q. kept_file e f q))
-      (record {
-        file = λ f other q. others_file f other;
-        pipe = λ j other q. get_other s.pipes i new_pipe j (λ e. unnamed_i other.0 other.1 (other.3 ∙ ap Some e));
-        kinds = λ f other. ap kind (others_file f other);
-      })))

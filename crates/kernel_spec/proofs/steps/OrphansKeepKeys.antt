@@ -10,7 +10,7 @@ use Rattle.kernel_spec.specs.views.Words.{is_this}
 use Rattle.kernel_spec.specs.views.Processes.{Process, Alive, Zombie, parent_of}
 use Rattle.kernel_spec.specs.views.State.{State}
 use Rattle.kernel_spec.specs.steps.Updates.{change, orphan, orphans, given_to}
-use Rattle.kernel_spec.proofs.steps.Maps.{get_at, keys_insert}
+use Rattle.kernel_spec.proofs.steps.MapsAfterChange.{get_at, keys_insert}
 
 module _ (f : Process → Process) (again : (x : Process) → f (f x) ≡ f x) where
   pub get-change : (m : FinMap nat_cmp Process) (q r : ℕ) (o : Option Process) → get m q ≡ o → get (change f q m o) r ≡ cond (nat_eq r q) (option_map f (get m r)) (get m r)
@@ -51,10 +51,6 @@ module _ (f : Process → Process) (again : (x : Process) → f (f x) ≡ f x) w
 
   get-all : (m : FinMap nat_cmp Process) (r : ℕ) → get (fold (λ m q. change f q m (get m q)) m (keys m)) r ≡ option_map f (get m r)
   get-all m r = get-fold (keys m) m r ∙ ap (λ (b : Bool). cond b (option_map f (get m r)) (get m r)) (sym (contains_key-keys m r)) ∙ where_some (get m r)
-
-parent_given : (p : ℕ) (x : Process) → parent_of (given_to p x) ≡ Some p
-parent_given p (Alive l) = refl
-parent_given p (Zombie parent status) = refl
 
 given_again : (p : ℕ) (x : Process) → given_to p (given_to p x) ≡ given_to p x
 given_again p (Alive l) = refl

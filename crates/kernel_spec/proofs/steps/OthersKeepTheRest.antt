@@ -1,6 +1,7 @@
 -- An event that isn't a step of p leaves the rest of p's view.
 use Rattle.std.proofs.Common.{◌≡◌, ◌≢◌, ℕ, Bool, List, [], ◌∷◌, refl, ap, sym, ◌∙◌}
 use Rattle.std.specs.Prelude.{Option, None, Some, ℤ, option_map}
+use Rattle.std.proofs.lemmas.Option.{same_Some}
 use Rattle.console_core.specs.Lists.{Console}
 use Rattle.console_core.specs.Keys.{line}
 use Rattle.kernel_spec.specs.views.Processes.{Live}
@@ -9,11 +10,14 @@ use Rattle.kernel_spec.specs.views.State.{State, live}
 use Rattle.kernel_spec.specs.steps.Own.{Own}
 use Rattle.kernel_spec.specs.steps.Step.{own}
 use Rattle.kernel_spec.specs.others.Quiet.{seen, seen_descriptor, left_at, meets_on_file, meets_on_pipe}
-use Rattle.kernel_spec.specs.runs.Run.{World, Event, Run, Tick, Key, Send, Outcome, Turn, Idle, Step_of, Ticked, Typed, Sent, Halted, Happens, RunHappens, TickHappens, KeyHappens, TurnTaken, StepOf, sent}
+use Rattle.kernel_spec.specs.runs.Run.{World, Event, Run, Tick, Key, Send, Outcome, Turn, Idle, Step_of, Ticked}
+use Rattle.kernel_spec.specs.runs.Run.{Typed, Sent, Halted, Happens, RunHappens, TickHappens, KeyHappens, TurnTaken, StepOf, sent}
 use Rattle.kernel_spec.specs.laws.Worlds.{bare, IsStepOf, Others, OthersKeep}
-use Rattle.kernel_spec.proofs.steps.Rest.{rest}
+use Rattle.kernel_spec.proofs.steps.ViewIsSharedAndRest.{rest}
 
-bare_seen_shown : (f p : Option Descriptor) (file : ℕ) (read write : Bool) (x : Shown) → bare (seen_descriptor f p (Some (record { file = file; read = read; write = write; shown = x }))) ≡ bare (Some (record { file = file; read = read; write = write; shown = x }))
+bare_seen_shown : (f p : Option Descriptor) (file : ℕ) (read write : Bool) (x : Shown)
+    → bare (seen_descriptor f p (Some (record { file = file; read = read; write = write; shown = x }))) ≡ bare
+    (Some (record { file = file; read = read; write = write; shown = x }))
 bare_seen_shown f p file read write Shown_terminal = refl
 bare_seen_shown f p file read write (Shown_file program offset) = refl
 bare_seen_shown f p file read write (Shown_pipe name end pipe) = refl
@@ -24,27 +28,28 @@ bare_seen f p (Some d) = bare_seen_shown f p d.file d.read d.write d.shown
 
 pub rest-seen : (s : State) (v : View) (o : Own) (w : View) → rest (seen s v o w) ≡ rest w
 unfolding seen
-rest-seen s v o w = λ i. record (rest w) { descriptors = λ d. bare_seen (left_at o.left.descriptors (meets_on_file s v.pid w.pid d)) (left_at o.left.descriptors (meets_on_pipe s v.pid w.pid d)) (w.descriptors d) i }
+rest-seen s v o w = λ i. record (rest w) {
+  descriptors = λ d. bare_seen (left_at o.left.descriptors (meets_on_file s v.pid w.pid d))
+      (left_at o.left.descriptors (meets_on_pipe s v.pid w.pid d)) (w.descriptors d) i;
+}
 
 -- ---- a clock or a console that changes
-
-some_view : (a b : View) → Some a ≡ Some b → a ≡ b
-some_view a b e = cc
 
 pub clock_view : (s : State) (c p : ℕ) (o : Option Live) (v : View) → option_map (view_of s p) o ≡ Some v → option_map (view_of (record s { clock = c }) p) o ≡ Some (record v { clock = c })
 unfolding view_of
 clock_view s c p None v e = cc
-clock_view s c p (Some l) v e = ap (λ (u : View). Some (record u { clock = c })) (some_view (view_of s p l) v e)
+clock_view s c p (Some l) v e = ap (λ (u : View). Some (record u { clock = c })) (same_Some (view_of s p l) v e)
 
-pub console_view : (s : State) (c : Console) (p : ℕ) (o : Option Live) (v : View) → option_map (view_of s p) o ≡ Some v → option_map (view_of (record s { console = c }) p) o ≡ Some (record v { console = c })
+pub console_view : (s : State) (c : Console) (p : ℕ) (o : Option Live) (v : View) → option_map (view_of s p) o ≡ Some v
+    → option_map (view_of (record s { console = c }) p) o ≡ Some (record v { console = c })
 unfolding view_of
 console_view s c p None v e = cc
-console_view s c p (Some l) v e = ap (λ (u : View). Some (record u { console = c })) (some_view (view_of s p l) v e)
+console_view s c p (Some l) v e = ap (λ (u : View). Some (record u { console = c })) (same_Some (view_of s p l) v e)
 
 pub pid_is : (s : State) (p : ℕ) (o : Option Live) (v : View) → option_map (view_of s p) o ≡ Some v → v.pid ≡ p
 unfolding view_of
 pid_is s p None v e = cc
-pid_is s p (Some l) v e = sym (ap (λ (u : View). u.pid) (some_view (view_of s p l) v e))
+pid_is s p (Some l) v e = sym (ap (λ (u : View). u.pid) (same_Some (view_of s p l) v e))
 
 -- ---- one event
 
@@ -73,24 +78,36 @@ kept_turn p v w t (Typed echo) h is = absurd h
 kept_turn p v w t (Sent b) h is = absurd h
 kept_turn p v w t Halted h is = absurd h
 
-kept_run : (p : ℕ) (v : View) (w t : World) (o : Outcome) (halted : Option ℤ) (current : Option ℕ) → RunHappens w halted current o t → ¬ ((halted ≡ None) × (current ≡ Some p)) → view w.state p ≡ Some v → Keeps p v t.state
+kept_run : (p : ℕ) (v : View) (w t : World) (o : Outcome) (halted : Option ℤ) (current : Option ℕ) → RunHappens w halted current o t
+    → ¬ ((halted ≡ None) × (current ≡ Some p)) → view w.state p ≡ Some v → Keeps p v t.state
 kept_run p v w t o (Some status) current h apart is = unchanged p v w t h.1 is
 kept_run p v w t o None (Some r) h apart is = kept_step p v w t r o h (λ e. apart (refl, ap Some (sym e))) is
 kept_run p v w t o None None h apart is = kept_turn p v w t o h is
 
 kept_tick : (p : ℕ) (v : View) (w t : World) (o : Outcome) (halted : Option ℤ) → TickHappens w halted o t → view w.state p ≡ Some v → Keeps p v t.state
 kept_tick p v w t o (Some status) h is = unchanged p v w t h.1 is
-kept_tick p v w t o None h is = let after : State = t.state in record { after = record v { clock = _ }; is = ap (λ (s : State). view s p) h.1 ∙ clock_view w.state _ p (live w.state p) v is; same = refl }
+kept_tick p v w t o None h is = let after : State = t.state in
+    record { after = record v { clock = _ }; is = ap (λ (s : State). view s p) h.1 ∙ clock_view w.state _ p (live w.state p) v is; same = refl }
 
 kept_key : (p : ℕ) (v : View) (w t : World) (o : Outcome) (halted : Option ℤ) (b : ℕ) → KeyHappens w halted b o t → view w.state p ≡ Some v → Keeps p v t.state
 kept_key p v w t o (Some status) b h is = unchanged p v w t h.1 is
-kept_key p v w t o None b h is = record { after = record v { console = (line w.state.console b).0 }; is = ap (λ (s : State). view s p) h.1 ∙ console_view w.state ((line w.state.console b).0) p (live w.state p) v is; same = refl }
+kept_key p v w t o None b h is = record {
+  after = record v { console = (line w.state.console b).0 };
+  is = ap (λ (s : State). view s p) h.1
+      ∙ console_view w.state ((line w.state.console b).0) p (live w.state p) v is;
+  same = refl;
+}
 
 pub kept : (p : ℕ) (v : View) (w t : World) (e : Event) (o : Outcome) → Happens w e o t → ¬ IsStepOf p w e → view w.state p ≡ Some v → Keeps p v t.state
 kept p v w t Run o h apart is = kept_run p v w t o w.turns.halted w.turns.current h (λ x. apart (refl, x.0, x.1)) is
 kept p v w t Tick o h apart is = kept_tick p v w t o w.turns.halted h is
 kept p v w t (Key b) o h apart is = kept_key p v w t o w.turns.halted b h is
-kept p v w t Send o h apart is = record { after = record v { console = sent w.state.console }; is = ap (λ (s : State). view s p) h.1 ∙ console_view w.state (sent w.state.console) p (live w.state p) v is; same = refl }
+kept p v w t Send o h apart is = record {
+  after = record v { console = sent w.state.console };
+  is = ap (λ (s : State). view s p) h.1
+      ∙ console_view w.state (sent w.state.console) p (live w.state p) v is;
+  same = refl;
+}
 
 -- ---- a run without a step of p
 
@@ -105,5 +122,15 @@ kept_others p v w t (e ∷ es) h is =
 
 pub others_keep : OthersKeep
 others_keep p v w t e o h apart is =
-    let k = kept p v w t e o h apart is in
-    (k.after, k.is, (ap (λ (u : View). u.pid) k.same, ap (λ (u : View). u.regs) k.same, ap (λ (u : View). u.image) k.same, ap (λ (u : View). u.call) k.same, ap (λ (u : View). u.programs) k.same), λ d. ap (λ (u : View). u.descriptors d) k.same)
+    let k = kept p v w t e o h apart is in (
+      k.after,
+      k.is,
+      (
+        ap (λ (u : View). u.pid) k.same,
+        ap (λ (u : View). u.regs) k.same,
+        ap (λ (u : View). u.image) k.same,
+        ap (λ (u : View). u.call) k.same,
+        ap (λ (u : View). u.programs) k.same,
+      ),
+      λ d. ap (λ (u : View). u.descriptors d) k.same,
+    )

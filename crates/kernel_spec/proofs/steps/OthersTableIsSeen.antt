@@ -7,15 +7,18 @@ use Rattle.std.proofs.lemmas.Bool.{eqb-true, eq-eqb}
 use Rattle.xk_base.specs.declared.limits.TheConstants.{NOFILE}
 use Rattle.kernel_spec.specs.views.Words.{is_this}
 use Rattle.xk_base.specs.Words.{least_below}
+use Rattle.xk_base.proofs.Least.{none_below}
 use Rattle.pipe_core.specs.Pipe.{Pipe}
 use Rattle.file_table.specs.declared.open_file.OpenFile.{OpenFile}
 use Rattle.file_table.specs.declared.open_file.Target.{Target}
 use Rattle.file_table.specs.declared.open_file.Target.TheVariants.{Console as Terminal, Program as File, Pipe as Pipe_end}
 use Rattle.kernel_spec.specs.views.Processes.{Live}
 use Rattle.kernel_spec.specs.views.State.{State, live}
-use Rattle.kernel_spec.specs.views.View.{Descriptors, Descriptor, Shown_file, Shown_pipe, named, numbered, rename, rename_shown, descriptor_at, descriptor_on, show, or_gone, or_else, least_on_file, least_on_pipe, file_name, pipe_name}
-use Rattle.kernel_spec.specs.others.Quiet.{file_at, pipe_at, file_of, pipe_of_file, pipe_of_open, pipe_of_target, is_same, meets_on_file, meets_on_pipe, left_at, offset_left, pipe_left, seen_shown, seen_descriptor, seen_table}
-use Rattle.kernel_spec.proofs.steps.Least.{least_passes, none_passes}
+use Rattle.kernel_spec.specs.views.View.{Descriptors, Descriptor, Shown_file, Shown_pipe, named, numbered, rename, rename_shown, descriptor_at}
+use Rattle.kernel_spec.specs.views.View.{descriptor_on, show, or_gone, or_else, least_on_file, least_on_pipe, file_name, pipe_name}
+use Rattle.kernel_spec.specs.others.Quiet.{file_at, pipe_at, file_of, pipe_of_file, pipe_of_open, pipe_of_target, is_same, meets_on_file}
+use Rattle.kernel_spec.specs.others.Quiet.{meets_on_pipe, left_at, offset_left, pipe_left, seen_shown, seen_descriptor, seen_table}
+use Rattle.kernel_spec.proofs.steps.LeastPasses.{least_passes}
 
 -- another process than p names the open file, is on the pipe
 abbrev pub OtherNames : State → ℕ → ℕ → Type 0
@@ -42,6 +45,16 @@ start_target (Pipe_end pipe end) = Pipe_end pipe end
 abbrev pub kind : Option OpenFile → Option OpenFile
 kind None = None
 kind (Some f) = Some (record f { target = start_target f.target })
+
+-- it is on the same pipe
+pub kind_pipe : (o : Option OpenFile) → pipe_of_open (kind o) ≡ pipe_of_open o
+kind_pipe None = refl
+kind_pipe (Some f) = by f.target
+  where
+    by : (x : Target) → pipe_of_target (start_target x) ≡ pipe_of_target x
+    by Terminal = refl
+    by (File program offset) = refl
+    by (Pipe_end pipe end) = refl
 
 -- of what another process names too: the open files and pipes that p names are, after the step, as this table has them
 pub record Tells (s t : State) (p : ℕ) (left : Descriptors) : Type 0 where
@@ -121,14 +134,16 @@ module _ (s t : State) (p q : ℕ) (left : Descriptors) (told : Tells s t p left
       let found = least_passes NOFILE (λ e. is_same (file_at s q d) (file_at s p e)) e meets in
       told.offset e f n (q, d, apart, here) found.1 (same_is (file_at s q d) (file_at s p e) f found.0 here)
   offset_met d f n here None meets own =
-      own ∙ ap (open_offset n) (sym (spared.file f (q, d, apart, here) (λ e below. is_same_itself (file_at s q d) (file_at s p e) f (none_passes NOFILE (λ e. is_same (file_at s q d) (file_at s p e)) meets e below) here)))
+      own ∙ ap (open_offset n) (sym (spared.file f (q, d, apart, here)
+      (λ e below. is_same_itself (file_at s q d) (file_at s p e) f (none_below (λ e. is_same (file_at s q d) (file_at s p e)) NOFILE meets e below) here)))
 
   pipe_met : (d j : ℕ) (x : Pipe) → pipe_at s q d ≡ Some j → (k : Option ℕ) → meets_on_pipe s p q d ≡ k → x ≡ or_gone (get s.pipes j) → pipe_left x (left_at left k) ≡ or_gone (get t.pipes j)
   pipe_met d j x here (Some e) meets own =
       let found = least_passes NOFILE (λ e. is_same (pipe_at s q d) (pipe_at s p e)) e meets in
       told.pipe e j x (q, d, apart, here) found.1 (same_is (pipe_at s q d) (pipe_at s p e) j found.0 here)
   pipe_met d j x here None meets own =
-      own ∙ ap or_gone (sym (spared.pipe j (q, d, apart, here) (λ e below. is_same_itself (pipe_at s q d) (pipe_at s p e) j (none_passes NOFILE (λ e. is_same (pipe_at s q d) (pipe_at s p e)) meets e below) here)))
+      own ∙ ap or_gone (sym (spared.pipe j (q, d, apart, here)
+      (λ e below. is_same_itself (pipe_at s q d) (pipe_at s p e) j (none_below (λ e. is_same (pipe_at s q d) (pipe_at s p e)) NOFILE meets e below) here)))
 
   f_met : ℕ → Option Descriptor
   f_met d = left_at left (meets_on_file s p q d)
@@ -136,7 +151,9 @@ module _ (s t : State) (p q : ℕ) (left : Descriptors) (told : Tells s t p left
   p_met : ℕ → Option Descriptor
   p_met d = left_at left (meets_on_pipe s p q d)
 
-  shown_case : (d f : ℕ) (r w r' w' : Bool) (x y : Target) → file_at s q d ≡ Some f → get s.files f ≡ Some (record { read = r; write = w; target = x }) → get t.files f ≡ Some (record { read = r'; write = w'; target = y }) → start_target y ≡ start_target x
+  shown_case : (d f : ℕ) (r w r' w' : Bool) (x y : Target) → file_at s q d ≡ Some f
+      → get s.files f ≡ Some (record { read = r; write = w; target = x }) → get t.files f ≡ Some (record { read = r'; write = w'; target = y })
+      → start_target y ≡ start_target x
       → seen_shown (f_met d) (p_met d) (rename_shown (numbered s m) (show s x)) ≡ rename_shown (numbered t m) (show t y)
   unfolding f_met p_met
   shown_case d f r w r' w' Terminal Terminal here was becomes kind = refl
@@ -171,11 +188,13 @@ module _ (s t : State) (p q : ℕ) (left : Descriptors) (told : Tells s t p left
       let shows = shown_case d f a.read a.write b.read b.write a.target b.target here was becomes starts in
       λ i. Some (record { file = or_else (sym (same_least_file f) i) f; read = reads i; write = writes i; shown = shows i })
 
-  number_case : (d : ℕ) (o : Option ℕ) → get m.descriptors d ≡ o → seen_descriptor (f_met d) (p_met d) (option_map (rename (numbered s m)) (descriptor_at s o)) ≡ option_map (rename (numbered t m)) (descriptor_at t o)
+  number_case : (d : ℕ) (o : Option ℕ) → get m.descriptors d ≡ o
+      → seen_descriptor (f_met d) (p_met d) (option_map (rename (numbered s m)) (descriptor_at s o)) ≡ option_map (rename (numbered t m)) (descriptor_at t o)
   number_case d None e = refl
   number_case d (Some f) e = open_case d f (get s.files f) (get t.files f) (at_file d f e) refl refl (same_kind d f e)
 
-  range_case : (d : ℕ) (b : Bool) → seen_descriptor (f_met d) (p_met d) (cond b (option_map (rename (numbered s m)) (numbered s m d)) None) ≡ cond b (option_map (rename (numbered t m)) (numbered t m d)) None
+  range_case : (d : ℕ) (b : Bool) → seen_descriptor (f_met d) (p_met d) (cond b (option_map (rename (numbered s m)) (numbered s m d)) None) ≡ cond b
+      (option_map (rename (numbered t m)) (numbered t m d)) None
   range_case d true = number_case d (get m.descriptors d) refl
   range_case d false = refl
 

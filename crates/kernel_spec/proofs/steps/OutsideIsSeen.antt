@@ -1,6 +1,7 @@
 -- What every process sees of an event that is no step.
 use Rattle.std.proofs.Common.{◌≡◌, ℕ, ◌+◌, ◌%◌, refl, ap, sym, ◌∙◌, inl, inr, ◌⊎◌}
 use Rattle.std.specs.Prelude.{Option, None, Some, ℤ, IsSome, option_map}
+use Rattle.std.proofs.lemmas.Option.{same_Some}
 use Rattle.console_core.specs.Keys.{line}
 use Rattle.kernel_spec.specs.views.Words.{CLOCK_ROUND}
 use Rattle.kernel_spec.specs.views.Processes.{Live}
@@ -8,20 +9,17 @@ use Rattle.kernel_spec.specs.views.State.{State, live}
 use Rattle.kernel_spec.specs.views.View.{View, view, view_of}
 use Rattle.kernel_spec.specs.runs.Run.{World, Event, Run, Tick, Key, Send, Outcome, Turn, Idle, Step_of, Ticked, Typed, Sent, Halted, Happens, RunHappens, TickHappens, KeyHappens, TurnTaken, sent}
 use Rattle.kernel_spec.specs.laws.Worlds.{OutsideSteps, HaltedStays, seen_outside}
-use Rattle.kernel_spec.proofs.steps.Kept.{clock_view, console_view}
-
-some_view : (a b : View) → Some a ≡ Some b → a ≡ b
-some_view a b e = cc
+use Rattle.kernel_spec.proofs.steps.OthersKeepTheRest.{clock_view, console_view}
 
 clock_is : (s : State) (p : ℕ) (o : Option Live) (v : View) → option_map (view_of s p) o ≡ Some v → v.clock ≡ s.clock
 unfolding view_of
 clock_is s p None v e = cc
-clock_is s p (Some l) v e = sym (ap (λ (u : View). u.clock) (some_view (view_of s p l) v e))
+clock_is s p (Some l) v e = sym (ap (λ (u : View). u.clock) (same_Some (view_of s p l) v e))
 
 console_is : (s : State) (p : ℕ) (o : Option Live) (v : View) → option_map (view_of s p) o ≡ Some v → v.console ≡ s.console
 unfolding view_of
 console_is s p None v e = cc
-console_is s p (Some l) v e = sym (ap (λ (u : View). u.console) (some_view (view_of s p l) v e))
+console_is s p (Some l) v e = sym (ap (λ (u : View). u.console) (same_Some (view_of s p l) v e))
 
 module _ (p : ℕ) (v : View) (w t : World) (o : Outcome) (see : view w.state p ≡ Some v) where
   by_turn : (x : Outcome) → TurnTaken w x t → view t.state p ≡ Some v

@@ -12,8 +12,8 @@ use Rattle.kernel_spec.specs.views.State.{State, live}
 use Rattle.kernel_spec.specs.views.View.{Descriptors, Shown_pipe, named, numbered, rename, rename_shown, descriptor_at, descriptor_on, show, or_gone}
 use Rattle.kernel_spec.specs.rows.Tables.{change_pipes, changed, change_shown}
 use Rattle.kernel_spec.specs.others.Quiet.{file_at, pipe_at, file_of, pipe_of_file, pipe_of_open, pipe_of_target, offset_left, pipe_left, shown_offset, shown_pipe}
-use Rattle.kernel_spec.proofs.steps.Frame.{OtherNames, OtherHas, Tells, Spares, open_offset, target_offset, kind}
-use Rattle.kernel_spec.proofs.steps.Names.{named_at}
+use Rattle.kernel_spec.proofs.steps.OthersTableIsSeen.{OtherNames, OtherHas, Tells, Spares, open_offset, target_offset, kind}
+use Rattle.kernel_spec.proofs.steps.NamesAreChosenAgain.{named_at}
 
 -- ---- a descriptor, where its open file stays and its pipe is now f of what it was
 

@@ -1,5 +1,5 @@
 -- One pipe changes, and a write to a pipe.
-use Rattle.std.proofs.Common.{◌≡◌, ℕ, ◌+◌, ◌-◌, Bool, true, false, cond, not, refl, ap, sym, ◌∙◌, subst, lt-ltb}
+use Rattle.std.proofs.Common.{◌≡◌, ℕ, ◌+◌, ◌-◌, Bool, true, false, cond, not, refl, ap, sym, ◌∙◌, lt-ltb}
 use Rattle.std.specs.Prelude.{Option, None, Some, ℤ, pos, option_map, nat_eq, nat_le}
 use Rattle.std.specs.FinMap.{insert}
 use Rattle.xk_base.specs.declared.limits.TheConstants.{NOFILE}
@@ -15,17 +15,16 @@ use Rattle.kernel_spec.specs.views.Processes.{Live}
 use Rattle.proc_table.specs.declared.process.Call.{Call}
 use Rattle.kernel_spec.specs.views.State.{State, live_part}
 use Rattle.kernel_spec.specs.views.View.{View, Shown_pipe, named, numbered, rename, or_else, or_gone, descriptor_at, descriptor_on, least_on_file, view_of, in_use}
-use Rattle.kernel_spec.specs.steps.Own.{Own, Answer, Called, Blocked, goes_on, gone_with}
+use Rattle.kernel_spec.specs.steps.Own.{Called, Blocked, goes_on}
 use Rattle.kernel_spec.specs.rows.Tables.{change_pipe}
 use Rattle.kernel_spec.specs.rows.Calls.{write, done, waits, with_a0, done_at, next_bytes}
-use Rattle.kernel_spec.specs.others.Quiet.{Quiet, pipe_at, pipe_of_file, file_of, pipe_of_open}
+use Rattle.kernel_spec.specs.others.Quiet.{pipe_at, pipe_of_file, file_of, pipe_of_open}
 use Rattle.kernel_spec.specs.laws.RowLaws.{OnPipe}
 use Rattle.kernel_spec.specs.steps.Updates.{changed_state}
-use Rattle.kernel_spec.proofs.steps.Maps.{get_other}
-use Rattle.kernel_spec.proofs.steps.Frame.{Spares}
-use Rattle.kernel_spec.proofs.steps.Tell.{quiet_from, own_table_tells}
-use Rattle.kernel_spec.proofs.steps.Pipes.{numbered_set, named_change}
-use Rattle.kernel_spec.proofs.steps.Change.{view_changed, leaves_changed}
+use Rattle.kernel_spec.proofs.steps.MapsAfterChange.{get_other}
+use Rattle.kernel_spec.proofs.steps.OthersTableIsSeen.{Spares}
+use Rattle.kernel_spec.proofs.steps.OnePipeChanges.{numbered_set, named_change}
+use Rattle.kernel_spec.proofs.steps.ChangeIsSeen.{view_changed}
 use Rattle.kernel_spec.proofs.rows.RowParts.{write_on, write_to, write_pipe, unless_nothing, moving, unless, length_of_int}
 use Rattle.kernel_spec.proofs.rows.RowsByParts.{write_same}
 
@@ -37,7 +36,12 @@ module _ (s : State) (p : ℕ) (old : Live) (d i k : ℕ) (end : End) (x : Pipe)
       ap (λ (b : Bool). cond b (option_map (rename (numbered s old)) (numbered s old d)) None) (lt-ltb d NOFILE on.below)
       ∙ ap (λ (o : Option ℕ). option_map (rename (numbered s old)) (descriptor_at s o)) on.named_file
       ∙ ap (λ (o : Option OpenFile). option_map (rename (numbered s old)) (descriptor_on s on.file o)) on.opened
-      ∙ (λ j. Some (record { file = or_else (least_on_file (numbered s old) on.file) on.file; read = on.read; write = on.write; shown = Shown_pipe (or_else (on.names j) i) end (or_gone (on.pipe j)) }))
+      ∙ (λ j. Some (record {
+        file = or_else (least_on_file (numbered s old) on.file) on.file;
+        read = on.read;
+        write = on.write;
+        shown = Shown_pipe (or_else (on.names j) i) end (or_gone (on.pipe j));
+      }))
 
   on_pipe : pipe_at s p d ≡ Some i
   on_pipe = ap (λ (l : Option Live). pipe_of_file s (file_of l d)) (ap live_part on.was) ∙ ap (pipe_of_file s) on.named_file ∙ ap pipe_of_open on.opened
@@ -64,13 +68,6 @@ module _ (s : State) (p : ℕ) (old : Live) (d i k : ℕ) (end : End) (x : Pipe)
       kinds = λ g other. refl;
     }
 
-    pub piped_quiet : (a : Answer) → gone_with a ≡ None → (o : Own) → o ≡ goes_on a (view_of pipe_state p pipe_live) → Quiet s (view_of s p old) o pipe_state
-    unfolding view_of
-    piped_quiet a stays o is = subst (λ (z : Own). Quiet s (view_of s p old) z pipe_state) (sym is)
-        (quiet_from s pipe_state (view_of s p old) (goes_on a (view_of pipe_state p pipe_live))
-        (leaves_changed s p old on.was r image c old.killed old.descriptors s.files (insert s.pipes i y) s.console s.free a stays (named (numbered pipe_state pipe_live))
-        (own_table_tells s pipe_state p old (ap live_part on.was) (λ g. refl)) spares_others))
-
 -- ---- write
 
 module _ (s : State) (p : ℕ) (old : Live) (d i k : ℕ) (end : End) (x : Pipe) (on : OnPipe s p old d i k end x) (c : Call) (n : ℕ)
@@ -87,7 +84,9 @@ module _ (s : State) (p : ℕ) (old : Live) (d i k : ℕ) (end : End) (x : Pipe)
       write_same c (view_of s p old)
       ∙ ap (λ (z : ℤ). write_on c (view_of s p old) (in_use (view_of s p old) z)) fd
       ∙ ap (write_on c (view_of s p old)) (the_descriptor s p old d i k end x on)
-      ∙ ap (λ (b : Bool). unless (not b) c (view_of s p old) (λ _. moving c (view_of s p old) (readable old.image c.a1 (length_of_int (c_int c.a2))) (c_int c.a2) (λ m. write_to c (view_of s p old) m (Shown_pipe k end x)))) writes
+      ∙ ap (λ (b : Bool). unless (not b) c (view_of s p old)
+      (λ _. moving c (view_of s p old) (readable old.image c.a1 (length_of_int (c_int c.a2))) (c_int c.a2)
+      (λ m. write_to c (view_of s p old) m (Shown_pipe k end x)))) writes
       ∙ ap (λ (z : ℤ). moving c (view_of s p old) (readable old.image c.a1 (length_of_int z)) z (λ m. write_to c (view_of s p old) m (Shown_pipe k end x))) count
       ∙ ap (λ (b : Bool). unless_nothing b c (view_of s p old) (λ _. unless (not (readable old.image c.a1 n)) c (view_of s p old) (λ _. write_pipe c (view_of s p old) k x n))) some
       ∙ ap (λ (b : Bool). unless (not b) c (view_of s p old) (λ _. write_pipe c (view_of s p old) k x n)) room
@@ -112,14 +111,18 @@ module _ (s : State) (p : ℕ) (old : Live) (d i k : ℕ) (end : End) (x : Pipe)
       ∙ ap (λ (b : Bool). cond b (done c (pos n) table_written) (waits c moved table_written)) over
 
   pub write_done : nat_eq x.readers 0 ≡ false → nat_le n moved ≡ true
-      → write c (view_of s p old) ≡ goes_on (Called c.number (pos n)) (view_of (pipe_state s p old d i k end x on pipe_written (with_a0 old.regs (word (pos n))) old.image None) p (pipe_live s p old d i k end x on pipe_written (with_a0 old.regs (word (pos n))) old.image None))
+      → write c (view_of s p old) ≡ goes_on (Called c.number (pos n))
+      (view_of (pipe_state s p old d i k end x on pipe_written (with_a0 old.regs (word (pos n))) old.image None) p
+      (pipe_live s p old d i k end x on pipe_written (with_a0 old.regs (word (pos n))) old.image None))
   unfolding view_of
   write_done read over =
       write_ends read over
       ∙ ap (goes_on (Called c.number (pos n))) (piped_view s p old d i k end x on pipe_written (with_a0 old.regs (word (pos n))) old.image None)
 
   pub write_waits : nat_eq x.readers 0 ≡ false → nat_le n moved ≡ false
-      → write c (view_of s p old) ≡ goes_on (Blocked c.number) (view_of (pipe_state s p old d i k end x on pipe_written old.regs old.image (Some (record c { moved = moved }))) p (pipe_live s p old d i k end x on pipe_written old.regs old.image (Some (record c { moved = moved }))))
+      → write c (view_of s p old) ≡ goes_on (Blocked c.number)
+      (view_of (pipe_state s p old d i k end x on pipe_written old.regs old.image (Some (record c { moved = moved }))) p
+      (pipe_live s p old d i k end x on pipe_written old.regs old.image (Some (record c { moved = moved }))))
   unfolding view_of
   write_waits read over =
       write_goes_on read over

@@ -2,13 +2,14 @@
 use Rattle.std.proofs.Common.{◌≡◌, ◌≢◌, ℕ, ◌⊎◌, refl, ap, sym, ◌∙◌, subst, inl, inr}
 use Rattle.std.specs.Prelude.{Option, None, Some, IsSome, MatchOption}
 use Rattle.std.proofs.lemmas.Bool.Decides.{eqb_tells}
+use Rattle.std.proofs.lemmas.Option.{same_Some}
 use Rattle.kernel_spec.specs.views.State.{State}
 use Rattle.kernel_spec.specs.views.View.{View, view}
 use Rattle.kernel_spec.specs.steps.Own.{Own}
 use Rattle.kernel_spec.specs.others.Quiet.{file_at, pipe_at, pipe_of_file}
 use Rattle.kernel_spec.specs.runs.Run.{FilesAfter, StateAfter, IsNewbornOf}
 use Rattle.kernel_spec.specs.laws.RowLaws.{NobodyNames, NobodyHas}
-use Rattle.kernel_spec.proofs.steps.Tell.{Leaves, quiet_from}
+use Rattle.kernel_spec.proofs.steps.TableTells.{Leaves, quiet_from}
 
 -- process p names the open file already, or it is new, and so is its pipe, if it is an end of one
 abbrev pub OldOrNew : State → ℕ → State → ℕ → Type 0
@@ -18,9 +19,6 @@ some_file : (s : State) (o : Option ℕ) (j : ℕ) → pipe_of_file s o ≡ Some
 some_file s None j h = let no : ⊥ = cc in absurd no
 some_file s (Some f) j h = (f, refl)
 
-inside : (a b : ℕ) → Some a ≡ Some b → a ≡ b
-inside a b e = cc
-
 module _ (s t : State) (p : ℕ) (o : Own) (no_child : o.child ≡ None)
     (others : (q d g : ℕ) → q ≢ p → file_at t q d ≡ Some g → file_at s q d ≡ Some g)
     (keep : (d f g : ℕ) → file_at s p d ≡ Some f → file_at t p d ≡ Some g → f ≡ g)
@@ -29,7 +27,7 @@ module _ (s t : State) (p : ℕ) (o : Own) (no_child : o.child ≡ None)
   same_file : (q d f g : ℕ) → file_at s q d ≡ Some f → file_at t q d ≡ Some g → f ≡ g
   same_file q d f g a b = elim (eqb_tells q p) [
     | inl h ↦ keep d f g (ap (λ (n : ℕ). file_at s n d) (sym h.1) ∙ a) (ap (λ (n : ℕ). file_at t n d) (sym h.1) ∙ b)
-    | inr h ↦ inside f g (sym a ∙ others q d g h.1 b)
+    | inr h ↦ same_Some f g (sym a ∙ others q d g h.1 b)
   ]
 
   same_pipe : (q d i j : ℕ) → pipe_at s q d ≡ Some i → pipe_at t q d ≡ Some j → i ≡ j
@@ -38,7 +36,7 @@ module _ (s t : State) (p : ℕ) (o : Own) (no_child : o.child ≡ None)
       let y = some_file t (file_at t q d) j b in
       let same : x.0 ≡ y.0 = same_file q d x.0 y.0 x.1 y.1 in
       let after : pipe_of_file t (Some x.0) ≡ Some j = ap (λ (f : ℕ). pipe_of_file t (Some f)) same ∙ sym (ap (pipe_of_file t) y.1) ∙ b in
-      inside i j (sym a ∙ ap (pipe_of_file s) x.1 ∙ targets q d x.0 j x.1 after)
+      same_Some i j (sym a ∙ ap (pipe_of_file s) x.1 ∙ targets q d x.0 j x.1 after)
 
   new_file : (q d e f : ℕ) → file_at t p d ≡ Some f → ((k : ℕ) → file_at s p k ≢ Some f) → file_at t q e ≡ Some f → q ≡ p
   new_file q d e f a b c = elim (eqb_tells q p) [

@@ -3,6 +3,7 @@ use Rattle.std.proofs.Common.{◌≡◌, ◌≢◌, ℕ, ◌<◌, Bool, cond, �
 use Rattle.std.proofs.Common.{lt-ltb}
 use Rattle.std.specs.Prelude.{Option, None, Some, option_map}
 use Rattle.std.specs.FinMap.{get, keys}
+use Rattle.std.proofs.lemmas.Option.{same_Some}
 use Rattle.xk_base.specs.declared.limits.TheConstants.{NOFILE}
 use Rattle.kernel_spec.specs.views.Words.{is_this}
 use Rattle.pipe_core.specs.Pipe.{Pipe}
@@ -14,7 +15,7 @@ use Rattle.kernel_spec.specs.views.State.{State, live}
 use Rattle.kernel_spec.specs.steps.Own.{Own, gone_with}
 use Rattle.kernel_spec.specs.views.View.{View, Descriptors, named, numbered, rename, rename_shown, descriptor_at, descriptor_on, show, or_gone, view, view_of, child_of}
 use Rattle.kernel_spec.specs.others.Quiet.{file_at, file_of, pipe_of_file, pipe_of_open, pipe_of_target, offset_left, pipe_left, shown_offset, shown_pipe, seen, seen_children, Quiet}
-use Rattle.kernel_spec.proofs.steps.Frame.{open_offset, target_offset, start_target, kind, Tells, Spares, seen_table_is}
+use Rattle.kernel_spec.proofs.steps.OthersTableIsSeen.{open_offset, target_offset, kind, Tells, Spares, seen_table_is, kind_pipe}
 
 shown_offset_is : (t : State) (names : Descriptors) (n : ℕ) (x : Target) → shown_offset n (rename_shown names (show t x)) ≡ target_offset n x
 shown_offset_is t names n Terminal = refl
@@ -38,27 +39,19 @@ module _ (s t : State) (p : ℕ) (l : Live) (is : live s p ≡ Some l) (kinds : 
   pipe_on f j x None e = let no : ⊥ = cc in absurd no
   pipe_on f j x (Some y) e = shown_pipe_is t (numbered t l) x j y.target e
 
-  same_pipe_of : (o : Option OpenFile) → pipe_of_open (kind o) ≡ pipe_of_open o
-  same_pipe_of None = refl
-  same_pipe_of (Some x) = start_pipe x.target
-    where
-      start_pipe : (y : Target) → pipe_of_target (start_target y) ≡ pipe_of_target y
-      start_pipe Terminal = refl
-      start_pipe (File program offset) = refl
-      start_pipe (Pipe_end pipe end) = refl
-
   in_range : (e : ℕ) → e < NOFILE → named (numbered t l) e ≡ option_map (rename (numbered t l)) (numbered t l e)
   unfolding named
   in_range e below = ap (λ (b : Bool). cond b (option_map (rename (numbered t l)) (numbered t l e)) None) (lt-ltb e NOFILE below)
 
   pipe_case : (e j : ℕ) (x : Pipe) (o : Option ℕ) → pipe_of_file s o ≡ Some j → pipe_left x (option_map (rename (numbered t l)) (descriptor_at t o)) ≡ or_gone (get t.pipes j)
   pipe_case e j x None h = let no : ⊥ = cc in absurd no
-  pipe_case e j x (Some f) h = pipe_on f j x (get t.files f) (sym (same_pipe_of (get t.files f)) ∙ ap pipe_of_open (kinds f) ∙ same_pipe_of (get s.files f) ∙ h)
+  pipe_case e j x (Some f) h = pipe_on f j x (get t.files f) (sym (kind_pipe (get t.files f)) ∙ ap pipe_of_open (kinds f) ∙ kind_pipe (get s.files f) ∙ h)
 
   -- the table that p has in t tells what p's descriptors in s are on
   pub own_table_tells : Tells s t p (named (numbered t l))
   own_table_tells = record {
-    offset = λ e f n other below h. ap (offset_left n) (in_range e below ∙ ap (λ (o : Option ℕ). option_map (rename (numbered t l)) (descriptor_at t o)) (file_here e f h)) ∙ offset_on f n (get t.files f);
+    offset = λ e f n other below h. ap (offset_left n)
+        (in_range e below ∙ ap (λ (o : Option ℕ). option_map (rename (numbered t l)) (descriptor_at t o)) (file_here e f h)) ∙ offset_on f n (get t.files f);
     pipe = λ e j x other below h. ap (pipe_left x) (in_range e below) ∙ pipe_case e j x (get l.descriptors e) (sym (ap (λ (o : Option Live). pipe_of_file s (file_of o e)) is) ∙ h);
   }
 
@@ -77,11 +70,9 @@ pub record Leaves (s t : State) (v : View) (o : Own) : Type 0 where
   pub clock : t.clock ≡ s.clock
   pub programs : t.programs ≡ s.programs
 
-some_view : (a b : View) → Some a ≡ Some b → a ≡ b
-some_view a b e = cc
-
 module _ (s t : State) (v : View) (o : Own) (h : Leaves s t v o) where
-  sees : (q : ℕ) (m : Live) (apart : q ≢ v.pid) (is : live s q ≡ Some m) → view_of t q (record m { killed = m.killed || is_this q o.marked; parent = (h.keeps q m apart is).0 }) ≡ seen s v o (view_of s q m)
+  sees : (q : ℕ) (m : Live) (apart : q ≢ v.pid) (is : live s q ≡ Some m)
+      → view_of t q (record m { killed = m.killed || is_this q o.marked; parent = (h.keeps q m apart is).0 }) ≡ seen s v o (view_of s q m)
   unfolding view_of seen
   sees q m apart is = λ i. record {
     pid = q;
@@ -104,7 +95,7 @@ module _ (s t : State) (v : View) (o : Own) (h : Leaves s t v o) where
   quiet_at q w apart (Some m) is e =
       ap (option_map (view_of t q)) ((h.keeps q m apart is).1)
       ∙ ap Some (sees q m apart is)
-      ∙ ap (λ (u : View). Some (seen s v o u)) (some_view (view_of s q m) w e)
+      ∙ ap (λ (u : View). Some (seen s v o u)) (same_Some (view_of s q m) w e)
 
   pub quiet_from : Quiet s v o t
   quiet_from = λ q w apart is. quiet_at q w apart (live s q) refl is

@@ -39,7 +39,9 @@ together v s = record v {
   descriptors = λ d. filled (v.descriptors d) (s.parts d);
 }
 
-filled_bare_shown : (file : ℕ) (read write : Bool) (x : Shown) → filled (bare (Some (record { file = file; read = read; write = write; shown = x }))) (shared_part (Some (record { file = file; read = read; write = write; shown = x }))) ≡ Some (record { file = file; read = read; write = write; shown = x })
+filled_bare_shown : (file : ℕ) (read write : Bool) (x : Shown)
+    → filled (bare (Some (record { file = file; read = read; write = write; shown = x })))
+    (shared_part (Some (record { file = file; read = read; write = write; shown = x }))) ≡ Some (record { file = file; read = read; write = write; shown = x })
 filled_bare_shown file read write Shown_terminal = refl
 filled_bare_shown file read write (Shown_file program offset) = refl
 filled_bare_shown file read write (Shown_pipe name end pipe) = refl

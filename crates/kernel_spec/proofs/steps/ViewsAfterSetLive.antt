@@ -9,7 +9,7 @@ use Rattle.kernel_spec.specs.views.View.{view_of, child_of}
 use Rattle.kernel_spec.specs.steps.Updates.{set_live}
 use Rattle.std.proofs.lemmas.Bool.{eqb-true}
 use Rattle.kernel_spec.specs.views.Words.{is_this}
-use Rattle.kernel_spec.proofs.steps.Maps.{keys_insert, get_at, get_same, get_other}
+use Rattle.kernel_spec.proofs.steps.MapsAfterChange.{keys_insert, get_at, get_same, get_other}
 
 -- ---- a live process is replaced by one with the same parent
 

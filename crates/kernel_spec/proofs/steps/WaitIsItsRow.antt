@@ -1,5 +1,5 @@
--- Wait, where a child is gone.
-use Rattle.std.proofs.Common.{◌≡◌, ◌≢◌, ℕ, Bool, true, false, cond, not, ◌&&◌, ◌||◌, refl, ap, sym, ◌∙◌, subst, inl, inr}
+-- Wait for a child that is gone: it is the step that its row tells.
+use Rattle.std.proofs.Common.{◌≡◌, ◌≢◌, ℕ, Bool, true, false, cond, not, ◌&&◌, ◌||◌, refl, ap, sym, ◌∙◌, inl, inr}
 use Rattle.std.specs.Prelude.{Option, None, Some, ℤ, pos, nat_eq, filter}
 use Rattle.std.specs.FinMap.{get, keys, insert}
 use Rattle.std.specs.Int.{cast_unsigned, w32}
@@ -14,26 +14,21 @@ use Rattle.kernel_spec.specs.views.Processes.{Process, Alive, Live, Status, Zomb
 use Rattle.proc_table.specs.declared.process.Call.{Call}
 use Rattle.kernel_spec.specs.views.State.{State, live, live_part}
 use Rattle.kernel_spec.specs.views.View.{View, view_of, child_of}
-use Rattle.kernel_spec.specs.steps.Own.{Own, Called, goes_on}
+use Rattle.kernel_spec.specs.steps.Own.{Called, goes_on}
 use Rattle.kernel_spec.specs.rows.Calls.{wait, least_zombie, done, with_a0}
-use Rattle.kernel_spec.specs.others.Quiet.{Quiet}
 use Rattle.kernel_spec.specs.steps.Updates.{waited_state, told_image}
-use Rattle.kernel_spec.proofs.steps.Maps.{get_without, keys_remove}
-use Rattle.kernel_spec.proofs.steps.SetLive.{same_child, same_keys, live-set_live_there}
-use Rattle.kernel_spec.proofs.steps.Tell.{Leaves, quiet_from, own_table_tells}
-use Rattle.kernel_spec.proofs.steps.Steps.{or_false}
-use Rattle.kernel_spec.proofs.steps.Gone.{not_this}
-use Rattle.kernel_spec.proofs.rows.RowParts.{reaped, told, without_child, unless}
+use Rattle.kernel_spec.proofs.steps.MapsAfterChange.{get_without, keys_remove}
+use Rattle.kernel_spec.proofs.steps.ViewsAfterSetLive.{same_child, same_keys, live-set_live_there}
+use Rattle.kernel_spec.proofs.steps.TableTells.{Leaves, own_table_tells}
+use Rattle.kernel_spec.proofs.steps.GoneIsItsRow.{not_this}
+use Rattle.kernel_spec.proofs.rows.RowParts.{reaped, unless, told, without_child}
 use Rattle.kernel_spec.proofs.rows.Settled.{told-ready}
 use Rattle.kernel_spec.proofs.rows.RowsByParts.{wait_same}
+use Rattle.kernel_spec.proofs.Common.{gone_child, or_false}
 
 told_is : (b : Bool) (i : Image) (v : View) → cond b v (record v { image = i }) ≡ record v { image = cond b v.image i }
 told_is true i v = refl
 told_is false i v = refl
-
-gone_child_of : (q : ℕ) (b : Bool) (x : Option Process) → child_of q (cond b None x) ≡ cond b None (child_of q x)
-gone_child_of q true x = refl
-gone_child_of q false x = refl
 
 module _ (s : State) (p q : ℕ) (old : Live) (was : get s.processes p ≡ Some (Alive old)) (c : Call) (status : ℤ) (zombie : get s.processes q ≡ Some (Zombie (Some p) status)) where
   abbrev pub waited : Live
@@ -42,9 +37,6 @@ module _ (s : State) (p q : ℕ) (old : Live) (was : get s.processes p ≡ Some 
   abbrev pub after : State
   after = waited_state p waited q s
 
-  apart : p ≢ q
-  apart e = let no : ⊥ = cc in no
-
   process_at : (r : ℕ) → get after.processes r ≡ cond (nat_eq r q) None (get (insert s.processes p (Alive waited)) r)
   process_at r = get_without (insert s.processes p (Alive waited)) q r
 
@@ -52,7 +44,7 @@ module _ (s : State) (p q : ℕ) (old : Live) (was : get s.processes p ≡ Some 
   pids_after = keys_remove (insert s.processes p (Alive waited)) q ∙ ap (filter (λ r. not (nat_eq r q))) (same_keys s p old waited was refl)
 
   children_at : (m r : ℕ) → child_of m (get after.processes r) ≡ cond (nat_eq r q) None (child_of m (get s.processes r))
-  children_at m r = ap (child_of m) (process_at r) ∙ gone_child_of m (nat_eq r q) (get (insert s.processes p (Alive waited)) r) ∙ ap (cond (nat_eq r q) None) (same_child s p old waited was refl m r)
+  children_at m r = ap (child_of m) (process_at r) ∙ gone_child m (nat_eq r q) (get (insert s.processes p (Alive waited)) r) ∙ ap (cond (nat_eq r q) None) (same_child s p old waited was refl m r)
 
   others_children : (m r : ℕ) → m ≢ p → child_of m (get after.processes r) ≡ child_of m (get s.processes r)
   others_children m r other = children_at m r ∙ elim (eqb_tells r q) [
@@ -105,6 +97,3 @@ module _ (s : State) (p q : ℕ) (old : Live) (was : get s.processes p ≡ Some 
     clock = refl;
     programs = refl;
   }
-
-  pub wait_quiet : (o : Own) → o ≡ goes_on (Called c.number (pos q)) (view_of after p waited) → Quiet s (view_of s p old) o after
-  wait_quiet o is = subst (λ (x : Own). Quiet s (view_of s p old) x after) (sym is) (quiet_from s after (view_of s p old) (goes_on (Called c.number (pos q)) (view_of after p waited)) wait_leaves)

@@ -2,7 +2,7 @@
 use Rattle.std.proofs.Common.{◌≡◌, ◌≢◌, ℕ, ◌<◌, ◌≤◌, ◌+◌, ◌-◌, false, refl, ap, sym, ◌∙◌, arith, inl, inr}
 use Rattle.std.specs.Prelude.{Option, None, Some, is_some, nat_eq, IsSome}
 use Rattle.std.specs.FinMap.{get}
-use Rattle.std.proofs.lemmas.Bool.{eq-eqb}
+use Rattle.std.proofs.lemmas.Bool.{eq-eqb, and_left, and_right}
 use Rattle.xk_base.specs.declared.limits.TheConstants.{NOFILE}
 use Rattle.kernel_spec.specs.views.Words.{is_this}
 use Rattle.pipe_core.specs.Pipe.{Pipe}
@@ -12,26 +12,22 @@ use Rattle.kernel_spec.specs.views.PipeEnds.{is_given_up}
 use Rattle.file_table.specs.declared.open_file.OpenFile.{OpenFile}
 use Rattle.file_table.specs.declared.open_file.Target.{Target}
 use Rattle.file_table.specs.declared.open_file.Target.TheVariants.{Console as Terminal, Program as File, Pipe as Pipe_end}
-use Rattle.kernel_spec.specs.views.Processes.{Process, Alive, Live, Zombie, parent_of}
-use Rattle.kernel_spec.specs.views.State.{State, live, live_part}
+use Rattle.kernel_spec.specs.views.Processes.{Process, Alive, Live, parent_of}
+use Rattle.kernel_spec.specs.views.State.{State, live}
 use Rattle.kernel_spec.specs.views.View.{numbered}
 use Rattle.kernel_spec.specs.rows.Tables.{ends, on_end}
 use Rattle.kernel_spec.specs.others.Quiet.{file_of, pipe_at, pipe_of_file, pipe_of_open, pipe_of_target}
 use Rattle.kernel_spec.specs.views.WellFormed.{WellFormed, over_all, on}
-use Rattle.kernel_spec.proofs.steps.Frame.{OtherHas}
+use Rattle.kernel_spec.proofs.steps.OthersTableIsSeen.{OtherHas}
 use Rattle.kernel_spec.proofs.well.Sums.{sum_term, sum_terms}
-use Rattle.kernel_spec.proofs.steps.Closes.{fewer, count_some, on_an_end, name_of_pipe, nonzero, left, right}
-use Rattle.kernel_spec.proofs.steps.Fork.{CanFork}
-use Rattle.kernel_spec.proofs.steps.Gone.{CanGo}
+use Rattle.kernel_spec.proofs.steps.ClosingCountsDown.{fewer, count_some, on_an_end, name_of_pipe, nonzero}
+use Rattle.kernel_spec.proofs.steps.ForkIsItsRow.{CanFork}
+use Rattle.kernel_spec.proofs.steps.GoneIsItsRow.{CanGo}
+use Rattle.kernel_spec.proofs.Common.{alive_part, there_if_alive}
 
 some_of : (o : Option Pipe) → IsSome o → (x : Pipe) × (o ≡ Some x)
 some_of None h = let no : ⊥ = cc in absurd no
 some_of (Some x) h = (x, refl)
-
-pub alive_part : (o : Option Process) (m : Live) → live_part o ≡ Some m → o ≡ Some (Alive m)
-alive_part None m e = let no : ⊥ = cc in absurd no
-alive_part (Some (Alive l)) m e = let same : l ≡ m = cc in ap (λ (x : Live). Some (Alive x)) same
-alive_part (Some (Zombie parent status)) m e = let no : ⊥ = cc in absurd no
 
 module _ (frames : ℕ) (s : State) (h : WellFormed frames s) where
   target_there : (f j : ℕ) (x : OpenFile) (y : Target) → get s.files f ≡ Some x → x.target ≡ y → pipe_of_target y ≡ Some j → (z : Pipe) × (get s.pipes j ≡ Some z)
@@ -61,15 +57,11 @@ module _ (frames : ℕ) (s : State) (h : WellFormed frames s) where
         let same : Some q ≡ Some s.next_pid = sym has.is ∙ e in
         let is_next : q ≡ s.next_pid = cc in
         let below : q < s.next_pid = elim has.there [
-          | inl alive ↦ (h.pids q (there_if (get s.processes q) alive)).1
+          | inl alive ↦ (h.pids q (there_if_alive (get s.processes q) alive)).1
           | inr one ↦ let b : 1 < s.next_pid = (h.pids 1 (ap is_some (h.first p (ap is_some is)).1)).1 in let q1 : q ≡ 1 = one in omega arith
         ] in
         omega arith
   ]
-    where
-      there_if : (o : Option Process) → IsSome (live_part o) → IsSome o
-      there_if None a = a
-      there_if (Some y) a = refl
 
   -- ---- fork
 
@@ -97,7 +89,8 @@ module _ (frames : ℕ) (s : State) (h : WellFormed frames s) where
         let goal : a ≤ n = omega arith in goal
 
     -- and more where another process is on the end
-    more_than : (j : ℕ) (end : End) (n : ℕ) → n ≡ over_all s (on s j end) → (q : ℕ) → q ≢ p → (m : Live) → get s.processes q ≡ Some (Alive m) → (k : ℕ) → ends (numbered s m) j end ≡ k + 1 → (e : ℕ) × (n - ends (numbered s l) j end ≡ e + 1)
+    more_than : (j : ℕ) (end : End) (n : ℕ) → n ≡ over_all s (on s j end) → (q : ℕ) → q ≢ p → (m : Live) → get s.processes q ≡ Some (Alive m)
+        → (k : ℕ) → ends (numbered s m) j end ≡ k + 1 → (e : ℕ) × (n - ends (numbered s l) j end ≡ e + 1)
     more_than j end n e q other m is_q k some =
         let a : ℕ = ends (numbered s l) j end in let b : ℕ = ends (numbered s m) j end in let c : ℕ = over_all s (on s j end) in
         let fp : ℕ = on s j end (get s.processes p) in let fq : ℕ = on s j end (get s.processes q) in
@@ -119,11 +112,11 @@ module _ (frames : ℕ) (s : State) (h : WellFormed frames s) where
               | inl r ↦
                   let c = count_some NOFILE (λ g. on_end j Reading (numbered s m g)) d low r in
                   let n = more_than j Reading x.readers (h.readers j x is_x) q other m is_q c.0 c.1 in
-                  left (nat_eq (x.readers - ends (numbered s l) j Reading) 0) (nat_eq (x.writers - ends (numbered s l) j Writing) 0) (nonzero (x.readers - ends (numbered s l) j Reading) n.0 n.1)
+                  and_left (nat_eq (x.readers - ends (numbered s l) j Reading) 0) (nat_eq (x.writers - ends (numbered s l) j Writing) 0) (nonzero (x.readers - ends (numbered s l) j Reading) n.0 n.1)
               | inr w ↦
                   let c = count_some NOFILE (λ g. on_end j Writing (numbered s m g)) d low w in
                   let n = more_than j Writing x.writers (h.writers j x is_x) q other m is_q c.0 c.1 in
-                  right (nat_eq (x.readers - ends (numbered s l) j Reading) 0) (nat_eq (x.writers - ends (numbered s l) j Writing) 0) (nonzero (x.writers - ends (numbered s l) j Writing) n.0 n.1)
+                  and_right (nat_eq (x.readers - ends (numbered s l) j Reading) 0) (nat_eq (x.writers - ends (numbered s l) j Writing) 0) (nonzero (x.writers - ends (numbered s l) j Writing) n.0 n.1)
             ]
           where
             below_NOFILE : (m : Live) → live s q ≡ Some m → (o : Option ℕ) → get m.descriptors d ≡ o → pipe_of_file s o ≡ Some j → d < NOFILE

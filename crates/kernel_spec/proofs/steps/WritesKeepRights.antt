@@ -13,7 +13,7 @@ use Rattle.addr_space.specs.Changes.{perm_of_page}
 use Rattle.user_copy.specs.Reach.{allows, may}
 use Rattle.kernel_spec.specs.rows.Buffers.{may_touching, reaches_touching, writable}
 use Rattle.kernel_spec.specs.rows.Touches.{has_absent}
-use Rattle.kernel_spec.proofs.steps.Maps.{get_same, get_other}
+use Rattle.kernel_spec.proofs.steps.MapsAfterChange.{get_same, get_other}
 
 -- what a page allows, if it is there
 abbrev rights_of : Option Page → Option Rights

@@ -1,14 +1,15 @@
 -- Each process keeps a slot of its own.
 use Rattle.std.proofs.Common.{◌≡◌, ◌≢◌, ℕ, ◌<◌, Bool, true, false, List, refl, ap, sym, ◌∙◌, subst, inl, inr, ◌⊎◌}
 use Rattle.std.proofs.Math.Path.{fun_ext}
-use Rattle.std.specs.Prelude.{Option, None, Some, IsSome, is_some, MatchOption, ℤ, nat_eq, option_map, Contains}
+use Rattle.std.specs.Prelude.{Option, None, Some, IsSome, is_some, MatchOption, ℤ, option_map, Contains}
 use Rattle.std.specs.List.{list_any}
 use Rattle.std.specs.FinMap.{FinMap, get, keys, contains_key-keys}
 use Rattle.std.specs.Ordering.{nat_cmp}
-use Rattle.std.specs.Cmp.{IsEquivalence, unsigned_tied}
-use Rattle.std.proofs.lemmas.Bool.{eq-eqb, eqb-true}
-use Rattle.std.proofs.lemmas.Bool.Decides.{eqb_tells}
+use Rattle.std.specs.Cmp.{unsigned_tied}
+use Rattle.std.proofs.lemmas.Bool.{eqb-true}
 use Rattle.std.proofs.lemmas.Map.Views.{Contains-from_any, list_any-from_Contains}
+use Rattle.std.proofs.lemmas.Cmp.{nat_eq_equiv}
+use Rattle.std.proofs.lemmas.Option.{same_Some}
 use Rattle.xk_base.specs.declared.limits.TheConstants.{NPROC}
 use Rattle.kernel_spec.specs.views.Processes.{Process, Live}
 use Rattle.kernel_spec.specs.views.State.{State, live, live_part}
@@ -17,22 +18,14 @@ use Rattle.kernel_spec.specs.steps.Own.{Own, Answer, Stepped, Called, Blocked, E
 use Rattle.kernel_spec.specs.steps.Step.{own}
 use Rattle.kernel_spec.specs.waking.Turns.{Turns, Sleeps, HasSlot, IsLowestFree}
 use Rattle.kernel_spec.specs.views.WellFormed.{HasSlots}
-use Rattle.kernel_spec.specs.runs.Run.{World, Event, Run, Tick, Key, Send, Outcome, Turn, Idle, Step_of, Ticked, Typed, Sent, Halted, Happens, RunHappens, TickHappens, KeyHappens, TurnTaken, StepOf, IsNewbornOf, IsButWoken, stays_current}
+use Rattle.kernel_spec.specs.runs.Run.{World, Event, Run, Tick, Key, Send, Outcome, Turn, Idle, Step_of, Ticked, Typed}
+use Rattle.kernel_spec.specs.runs.Run.{Sent, Halted, Happens, RunHappens, TickHappens, KeyHappens, TurnTaken, StepOf, IsNewbornOf, IsButWoken, stays_current}
 use Rattle.kernel_spec.specs.waking.Wakes.{TakesNearest, IsRunnable, IsNearest, SlotsStay}
-use Rattle.kernel_spec.proofs.steps.Kept.{pid_is}
+use Rattle.kernel_spec.proofs.steps.OthersKeepTheRest.{pid_is}
 use Rattle.kernel_spec.proofs.rows.Pids.{has, own_sound}
+use Rattle.kernel_spec.proofs.Common.{view_pids}
 
 -- ---- pids as a list
-
-equal_numbers : IsEquivalence nat_eq
-equal_numbers = record {
-  refl = λ x. eq-eqb x x refl;
-  symm = λ x y. elim (eqb_tells x y) [ inl e ↦ (let same : x ≡ y = e.1 in (λ i. nat_eq (same i) (sym same i))) | inr e ↦ e.0 ∙ sym (apart x y e.1) ];
-  congr = λ x y z e. ap (λ (k : ℕ). nat_eq k z) (eqb-true x y e);
-}
-  where
-    apart : (x y : ℕ) → x ≢ y → nat_eq y x ≡ false
-    apart x y other = elim (eqb_tells y x) [ inl e ↦ absurd (other (sym e.1)) | inr e ↦ e.0 ]
 
 -- q is listed where it is in the map
 pub listed : {X : Type 0} (m : FinMap nat_cmp X) (q : ℕ) → has q (keys m) ≡ is_some (get m q)
@@ -42,17 +35,9 @@ pub is_listed : {X : Type 0} (m : FinMap nat_cmp X) (q : ℕ) → IsSome (get m 
 is_listed m q there = Contains-from_any (λ x y e. eqb-true x y e) q (keys m) (listed m q ∙ there)
 
 pub not_listed : {X : Type 0} (m : FinMap nat_cmp X) (q : ℕ) → get m q ≡ None → ¬ Contains (keys m) q
-not_listed m q none among = let no : true ≡ false = sym (list_any-from_Contains equal_numbers q (keys m) among) ∙ listed m q ∙ ap is_some none in let bad : ⊥ = cc in bad
+not_listed m q none among = let no : true ≡ false = sym (list_any-from_Contains nat_eq_equiv q (keys m) among) ∙ listed m q ∙ ap is_some none in let bad : ⊥ = cc in bad
 
 -- ---- views
-
-pids_are : (s : State) (p : ℕ) (o : Option Live) (v : View) → option_map (view_of s p) o ≡ Some v → v.pids ≡ keys s.processes
-unfolding view_of
-pids_are s p None v e = let no : ⊥ = cc in absurd no
-pids_are s p (Some l) v e = sym (ap (λ (u : View). u.pids) (some_view (view_of s p l) v e))
-  where
-    some_view : (a b : View) → Some a ≡ Some b → a ≡ b
-    some_view a b f = cc
 
 pub live_seen : (s : State) (p : ℕ) (o : Option Live) → IsSome (option_map (view_of s p) o) → IsSome o
 live_seen s p None h = let no : ⊥ = cc in absurd no
@@ -61,9 +46,6 @@ live_seen s p (Some l) h = refl
 pub process_seen : (s : State) (p : ℕ) (o : Option Process) → IsSome (option_map (view_of s p) (live_part o)) → IsSome o
 process_seen s p None h = let no : ⊥ = cc in absurd no
 process_seen s p (Some x) h = refl
-
-same_slot : (a b : ℕ) → Some a ≡ Some b → a ≡ b
-same_slot a b e = cc
 
 -- ---- a step
 
@@ -74,7 +56,7 @@ module _ (w t : World) (p : ℕ) (o : Outcome) (slots : HasSlots w.state w.turns
   -- who is there after the step was there before, or is new
   pub was_or_new : (q : ℕ) → IsSome (get t.state.processes q) → IsSome (get w.state.processes q) ⊎ IsNewbornOf x q
   was_or_new q there = elim ((own_sound h.before).pids q (sym (ap (has q) h.state.left.pids) ∙ listed t.state.processes q ∙ there)) [
-    | inl old ↦ inl (sym (listed w.state.processes q) ∙ sym (ap (has q) (pids_are w.state p (live w.state p) h.before h.was)) ∙ old)
+    | inl old ↦ inl (sym (listed w.state.processes q) ∙ sym (ap (has q) (view_pids w.state p (live w.state p) h.before h.was)) ∙ old)
     | inr new ↦ inr new
   ]
 
@@ -82,7 +64,8 @@ module _ (w t : World) (p : ℕ) (o : Outcome) (slots : HasSlots w.state w.turns
   pub kept_slot : (q : ℕ) → IsSome (get t.state.processes q) → IsSome (get w.state.processes q) → get t.turns.slots q ≡ get w.turns.slots q
   kept_slot q there old = h.turns.held q (subst (λ (pids : List ℕ). Contains pids q) h.state.left.pids (is_listed t.state.processes q there)) (slots.some q old)
 
-  pub new_slot : (q : ℕ) (c : Option View) → MatchOption c ⊥ (λ c. q ≡ c.pid) → MatchOption c (Unit {0}) (λ c. ((slot : ℕ) × HasSlot t.turns c.pid slot × IsLowestFree w.turns slot) × ¬ Sleeps t.turns c.pid)
+  pub new_slot : (q : ℕ) (c : Option View) → MatchOption c ⊥ (λ c. q ≡ c.pid)
+      → MatchOption c (Unit {0}) (λ c. ((slot : ℕ) × HasSlot t.turns c.pid slot × IsLowestFree w.turns slot) × ¬ Sleeps t.turns c.pid)
       → (slot : ℕ) × HasSlot t.turns q slot × IsLowestFree w.turns slot
   new_slot q None is born = absurd is
   new_slot q (Some c) is born = (born.0.0, ap (get t.turns.slots) is ∙ born.0.1, born.0.2)
@@ -108,7 +91,7 @@ module _ (w t : World) (p : ℕ) (o : Outcome) (slots : HasSlots w.state w.turns
         | inl old ↦ inl (sym (kept_slot q there old) ∙ holds)
         | inr new ↦
             let n = new_slot q x.child new h.turns.newborn in
-            inr (new, subst (λ (k : ℕ). IsLowestFree w.turns k) (same_slot n.0 slot (sym n.1 ∙ holds)) n.2)
+            inr (new, subst (λ (k : ℕ). IsLowestFree w.turns k) (same_Some n.0 slot (sym n.1 ∙ holds)) n.2)
       ]
 
   some_after : (q : ℕ) → IsSome (get t.state.processes q) → IsSome (get t.turns.slots q)
@@ -129,8 +112,9 @@ module _ (w t : World) (p : ℕ) (o : Outcome) (slots : HasSlots w.state w.turns
   -- p runs on where its step doesn't end in sleep, and it isn't gone
   runs_on : (q : ℕ) (a : Answer) → x.answer ≡ a → gone_with a ≡ None → ((number : ℤ) → a ≢ Blocked number) → Some p ≡ Some q → IsSome (live t.state q) × ¬ Sleeps t.turns q
   runs_on q a is stays awake same =
-      let e : p ≡ q = same_slot p q same in
-      let seen : IsSome (view t.state p) = ap (λ (k : ℕ). is_some (view t.state k)) (sym (pid_is w.state p (live w.state p) h.before h.was)) ∙ ap is_some h.state.next ∙ (own_sound h.before).left (ap gone_with is ∙ stays) in (
+      let e : p ≡ q = same_Some p q same in
+      let seen : IsSome (view t.state p) = ap (λ (k : ℕ). is_some (view t.state k)) (sym (pid_is w.state p (live w.state p) h.before h.was))
+      ∙ ap is_some h.state.next ∙ (own_sound h.before).left (ap gone_with is ∙ stays) in (
         subst (λ (k : ℕ). IsSome (live t.state k)) e (live_seen t.state p (live t.state p) seen),
         subst (λ (k : ℕ). ¬ Sleeps t.turns k) e (λ asleep. elim (h.turns.awake p asleep) [
           | inl before ↦ (slots.current p runs).1 before
@@ -158,7 +142,8 @@ module _ (w t : World) (p : ℕ) (o : Outcome) (slots : HasSlots w.state w.turns
 -- ---- the other events
 
 -- the same processes and slots, and no new sleeper; nobody runs, or who ran
-same_slots : (s u : State) (before after : Turns) → u.processes ≡ s.processes → (current : Option ℕ) → ((q : ℕ) → current ≡ Some q → before.current ≡ Some q) → IsButWoken (record before { current = current }) after → HasSlots s before → HasSlots u after
+same_slots : (s u : State) (before after : Turns) → u.processes ≡ s.processes → (current : Option ℕ)
+    → ((q : ℕ) → current ≡ Some q → before.current ≡ Some q) → IsButWoken (record before { current = current }) after → HasSlots s before → HasSlots u after
 same_slots s u before after same current runs woken slots =
     let slot : after.slots ≡ before.slots = ap (λ (t : Turns). t.slots) woken.0 in record {
       some = λ q there. ap (λ (m : FinMap nat_cmp ℕ). is_some (get m q)) slot ∙ slots.some q (sym (ap (λ (m : FinMap nat_cmp Process). is_some (get m q)) same) ∙ there);
@@ -182,7 +167,7 @@ module _ (w t : World) (slots : HasSlots w.state w.turns) where
     below = slots.below;
     last = slots.below q h.0 h.1;
     current = λ r is.
-        let e : q ≡ r = same_slot q r is in
+        let e : q ≡ r = same_Some q r is in
         let can = (nearest q refl).0 in
         (subst (λ (k : ℕ). IsSome (live w.state k)) e (live_seen w.state q (live w.state q) can.0), subst (λ (k : ℕ). ¬ Sleeps w.turns k) e can.1);
     apart = slots.apart;
@@ -194,7 +179,8 @@ module _ (w t : World) (slots : HasSlots w.state w.turns) where
   by_turn (Sent b) h nearest = absurd h
   by_turn Halted h nearest = absurd h
 
-  by_run : (o : Outcome) (halted : Option ℤ) (current : Option ℕ) → w.turns.halted ≡ halted → w.turns.current ≡ current → RunHappens w halted current o t → TakesNearest w Run o → HasSlots t.state t.turns
+  by_run : (o : Outcome) (halted : Option ℤ) (current : Option ℕ) → w.turns.halted ≡ halted → w.turns.current ≡ current
+      → RunHappens w halted current o t → TakesNearest w Run o → HasSlots t.state t.turns
   by_run o (Some status) current e f h takes = unchanged w t h.1 slots
   by_run o None (Some p) e f h takes = slots_after w t p o slots f h
   by_run o None None e f h takes = by_turn o h ((takes refl e f).1)

@@ -1,22 +1,22 @@
 -- The turn of a process that may run comes.
 use Rattle.std.proofs.Common.{◌≡◌, ◌≢◌, ℕ, ◌<◌, ◌≤◌, ◌+◌, ◌-◌, Bool, false, cond, List, [], ◌∷◌, inl, inr, refl, ap, sym, ◌∙◌, subst, arith}
-use Rattle.std.specs.Prelude.{Option, None, Some, IsSome, ℤ}
+use Rattle.std.specs.Prelude.{Option, None, Some, ℤ}
 use Rattle.std.specs.FinMap.{get}
+use Rattle.std.proofs.lemmas.Option.{same_Some}
 use Rattle.xk_base.specs.declared.limits.TheConstants.{NPROC}
 use Rattle.proc_table.specs.Turns.{distance}
 use Rattle.kernel_spec.specs.steps.Own.{Answer, Stepped, Called, Blocked, Exited, Faulted}
 use Rattle.kernel_spec.specs.steps.Step.{own}
 use Rattle.kernel_spec.specs.waking.Turns.{Turns, HasSlot}
 use Rattle.kernel_spec.specs.views.WellFormed.{HasSlots}
-use Rattle.kernel_spec.specs.runs.Run.{World, Event, Run, Tick, Key, Send, Outcome, Turn, Idle, Step_of, Ticked, Typed, Sent, Halted, Happens, RunHappens, TickHappens, KeyHappens, TurnTaken, StepOf, IsButWoken, stays_current}
+use Rattle.kernel_spec.specs.runs.Run.{World, Event, Run, Tick, Key, Send, Outcome, Turn, Idle, Step_of, Ticked}
+use Rattle.kernel_spec.specs.runs.Run.{Typed, Sent, Halted, Happens, RunHappens, TickHappens, KeyHappens, TurnTaken, StepOf, IsButWoken, stays_current}
 use Rattle.kernel_spec.specs.waking.Wakes.{TakesNearest, IsRunnable, IsPromised, is_turn, turns_taken, WaitsAtMost, TurnComes}
 use Rattle.kernel_spec.proofs.waking.NoLost.{stays_runnable, ready_may_run}
 use Rattle.kernel_spec.proofs.turns.Nearer.{comes_nearer, is_near}
 use Rattle.kernel_spec.proofs.well.FirstWell.{first_slots}
 use Rattle.kernel_spec.proofs.turns.KeepsSlots.{slots_stay, kept_slot, process_seen}
-
-same_number : (a b : ℕ) → Some a ≡ Some b → a ≡ b
-same_number a b e = cc
+use Rattle.kernel_spec.proofs.Common.{the_value}
 
 -- p waits for its turn still, in its slot, which is no further away, and nearer where another has had a turn
 record Still (w t : World) (o : Outcome) (p i : ℕ) : Type 0 where
@@ -29,8 +29,8 @@ no_nearer : (last now i : ℕ) → now ≡ last → 0 + distance now i ≤ dista
 no_nearer last now i e = subst (λ (k : ℕ). 0 + distance k i ≤ distance last i) (sym e) (let d : ℕ = distance last i in let goal : 0 + d ≤ d = omega arith in goal)
 
 by_number : (n : ℕ) (a : Answer) (p : ℕ) → n ≢ p → stays_current n a ≡ Some p → ⊥
-by_number n Stepped p apart e = apart (same_number n p e)
-by_number n (Called number value) p apart e = apart (same_number n p e)
+by_number n Stepped p apart e = apart (same_Some n p e)
+by_number n (Called number value) p apart e = apart (same_Some n p e)
 by_number n (Blocked number) p apart e = cc
 by_number n (Exited status) p apart e = cc
 by_number n (Faulted cause) p apart e = cc
@@ -65,7 +65,7 @@ by_turn w t (Turn q) p i slots can idle mine other halted current whole h takes 
     let less : distance t.turns.last i < distance w.turns.last i = comes_nearer w t p q i whole takes halted current slots can apart mine in
     let a : ℕ = distance t.turns.last i in let b : ℕ = distance w.turns.last i in let below : a < b = less in record {
       slot = ap (λ (u : World). get u.turns.slots p) h.3 ∙ mine;
-      current = λ is. apart (same_number q p (sym (ap (λ (u : World). u.turns.current) h.3) ∙ is));
+      current = λ is. apart (same_Some q p (sym (ap (λ (u : World). u.turns.current) h.3) ∙ is));
       nearer = let goal : 1 + a ≤ b = omega arith in goal;
     }
 by_turn w t Idle p i slots can idle mine other halted current whole h takes = unchanged w t Idle p i slots can idle mine other refl h
@@ -101,7 +101,9 @@ waits_at_most w t (e ∷ es) p i run slots can idle mine none =
     let mid : World = run.0 in
     let keeps = run.1 in
     let still = by_event w mid e.1 p i slots can idle mine none.0 e.0 keeps.0 keeps.2 in
-    let more : turns_taken es ≤ distance mid.turns.last i = waits_at_most mid t es p i run.2 (slots_stay w mid e.0 e.1 keeps.0 keeps.2 slots) (stays_runnable w mid e.0 e.1 p keeps.0 can idle) still.current still.slot none.1 in
+    let more : turns_taken es ≤ distance mid.turns.last i =
+    waits_at_most mid t es p i run.2 (slots_stay w mid e.0 e.1 keeps.0 keeps.2 slots)
+    (stays_runnable w mid e.0 e.1 p keeps.0 can idle) still.current still.slot none.1 in
     let one : ℕ = cond (is_turn e.1) 1 0 in let n : ℕ = turns_taken es in let a : ℕ = distance mid.turns.last i in let b : ℕ = distance w.turns.last i in
     let x : n ≤ a = more in let y : one + a ≤ b = still.nearer in
     let goal : one + n ≤ b = omega arith in goal
@@ -112,15 +114,11 @@ slots_along : (w t : World) (es : List (Event × Outcome)) → HasSlots w.state 
 slots_along w t [] slots run = subst (λ (u : World). HasSlots u.state u.turns) (sym run) slots
 slots_along w t (e ∷ es) slots run = slots_along run.0 t es (slots_stay w run.0 e.0 e.1 run.1.0 run.1.2 slots) run.2
 
-some_slot : (o : Option ℕ) → IsSome o → (slot : ℕ) × (o ≡ Some slot)
-some_slot None h = let no : ⊥ = cc in absurd no
-some_slot (Some slot) h = (slot, refl)
-
 pub turn_comes : TurnComes
 turn_comes frames trace programs w m t es fs p boot run more ready_or idle none =
     let can : IsRunnable m p = elim ready_or [ inl could ↦ ready_may_run frames trace programs w m es p boot run could | inr may ↦ may ] in
     let slots : HasSlots m.state m.turns = slots_along w m es (first_slots frames trace programs w boot) run in
-    let mine = some_slot (get m.turns.slots p) (slots.some p (process_seen m.state p (get m.state.processes p) can.0)) in
+    let mine = the_value (get m.turns.slots p) (slots.some p (process_seen m.state p (get m.state.processes p) can.0)) in
     let n : ℕ = turns_taken fs in let d : ℕ = distance m.turns.last mine.0 in
     let far : n ≤ d = waits_at_most m t fs p mine.0 more slots can idle mine.1 none in
     let near : d ≤ NPROC - 1 = is_near m.turns.last mine.0 in

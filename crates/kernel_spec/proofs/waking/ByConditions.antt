@@ -16,14 +16,16 @@ some_of : (o : Option Live) → IsSome o → (l : Live) × (o ≡ Some l)
 some_of None h = let no : ⊥ = cc in absurd no
 some_of (Some l) h = (l, refl)
 
-module _ (w t : World) (o : Outcome) (came : Condition → Bool) (before : NoReadySleeper w) (h : WakesByConditions w o t came) (q : ℕ) (l m : Live) (sleeps : Sleeps w.turns q) (was : live w.state q ≡ Some l) (now : live t.state q ≡ Some m) where
+module _ (w t : World) (o : Outcome) (came : Condition → Bool) (before : NoReadySleeper w) (h : WakesByConditions w o t came) (q : ℕ) (l m : Live)
+    (sleeps : Sleeps w.turns q) (was : live w.state q ≡ Some l) (now : live t.state q ≡ Some m) where
   unready : (l.killed ≡ false) × (is_open w.state (waits_for w.state q l) ≡ false)
   unready = or_parts l.killed (is_open w.state (waits_for w.state q l)) (sym (ready_is w.state q l) ∙ before q (view_of w.state q l) sleeps (ap (option_map (view_of w.state q)) was))
 
   -- who wakes is ready, or wakes anyway
   woken_due : ¬ Sleeps t.turns q → (ready (view_of t.state q m) ≡ true) ⊎ WakesAnyway q (view_of t.state q m) o
   woken_due awake = elim ((h.woken q l m sleeps was now).0 awake) [
-    | inl shows ↦ inl (ready_is t.state q m ∙ or_right m.killed (is_open t.state (waits_for t.state q m)) (ap (is_open t.state) (h.same q l m sleeps was now) ∙ h.open_now (waits_for w.state q l) shows))
+    | inl shows ↦ inl (ready_is t.state q m ∙ or_right m.killed (is_open t.state (waits_for t.state q m))
+        (ap (is_open t.state) (h.same q l m sleeps was now) ∙ h.open_now (waits_for w.state q l) shows))
     | inr more ↦ elim more [
       | inl newly ↦ inl (ready_is t.state q m ∙ or_left m.killed (is_open t.state (waits_for t.state q m)) newly.1)
       | inr anyway ↦ inr anyway
@@ -42,8 +44,11 @@ pub conditions_suffice : ConditionsSuffice
 conditions_suffice w t o came before h q v sleeps see =
     let m = view_is t.state q (live t.state q) v see in
     let l = some_of (live w.state q) (h.live_before q sleeps) in (
-      λ awake. subst (λ (u : View). (ready u ≡ true) ⊎ (IsInCall 13 u × (o ≡ Ticked)) ⊎ ((q ≡ 1) × IsInCall 3 u × IsEnd o)) m.2 (flat (view_of t.state q m.0) (woken_due w t o came before h q l.0 m.0 sleeps l.1 m.1 awake)),
-      λ due. due_woken w t o came before h q l.0 m.0 sleeps l.1 m.1 (nested (view_of t.state q m.0) (subst (λ (u : View). (ready u ≡ true) ⊎ (IsInCall 13 u × (o ≡ Ticked)) ⊎ ((q ≡ 1) × IsInCall 3 u × IsEnd o)) (sym m.2) due)),
+      λ awake. subst (λ (u : View). (ready u ≡ true) ⊎ (IsInCall 13 u × (o ≡ Ticked)) ⊎ ((q ≡ 1) × IsInCall 3 u × IsEnd o)) m.2
+          (flat (view_of t.state q m.0) (woken_due w t o came before h q l.0 m.0 sleeps l.1 m.1 awake)),
+      λ due. due_woken w t o came before h q l.0 m.0 sleeps l.1 m.1
+          (nested (view_of t.state q m.0) (subst (λ (u : View). (ready u ≡ true) ⊎ (IsInCall 13 u × (o ≡ Ticked))
+          ⊎ ((q ≡ 1) × IsInCall 3 u × IsEnd o)) (sym m.2) due)),
     )
   where
     flat : (u : View) → (ready u ≡ true) ⊎ WakesAnyway q u o → (ready u ≡ true) ⊎ (IsInCall 13 u × (o ≡ Ticked)) ⊎ ((q ≡ 1) × IsInCall 3 u × IsEnd o)

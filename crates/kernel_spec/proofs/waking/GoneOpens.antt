@@ -23,17 +23,18 @@ use Rattle.kernel_spec.specs.others.Quiet.{file_of, end_of, target_of_open}
 use Rattle.kernel_spec.specs.steps.Updates.{gone_state, given_to, orphan, orphans}
 use Rattle.kernel_spec.specs.views.WellFormed.{WellFormed}
 use Rattle.kernel_spec.specs.laws.RowLaws.{IsLive, FilesLeft}
-use Rattle.kernel_spec.specs.waking.Conditions.{Condition, Nothing, Child_of, Bytes, Room, Time, Keys, Sending, is_open, read_waits_for, write_waits_for, target_at, row_waits_for, call_waits_for, waits_for, MayOpenAtEnd}
+use Rattle.kernel_spec.specs.waking.Conditions.{Condition, Nothing, Child_of, Bytes, Room, Time, Keys, Sending}
+use Rattle.kernel_spec.specs.waking.Conditions.{is_open, read_waits_for, write_waits_for, target_at, row_waits_for, call_waits_for, waits_for, MayOpenAtEnd}
 use Rattle.kernel_spec.specs.waking.SleepsOn.{is_for}
-use Rattle.kernel_spec.proofs.steps.Maps.{get_same}
-use Rattle.kernel_spec.proofs.steps.Steps.{or_false}
-use Rattle.kernel_spec.proofs.steps.Closes.{kept, fewer}
-use Rattle.kernel_spec.proofs.steps.Enough.{can_go, alive_part}
-use Rattle.kernel_spec.proofs.steps.Gone as goes
-use Rattle.kernel_spec.proofs.steps.Family as family
+use Rattle.kernel_spec.proofs.steps.MapsAfterChange.{get_same}
+use Rattle.kernel_spec.proofs.steps.ClosingCountsDown.{kept, fewer}
+use Rattle.kernel_spec.proofs.steps.WellFormedIsEnough.{can_go}
+use Rattle.kernel_spec.proofs.steps.GoneIsItsRow as goes
+use Rattle.kernel_spec.proofs.steps.FamilyLawsHold as family
 use Rattle.kernel_spec.proofs.waking.Openings.{opens_gone}
 use Rattle.kernel_spec.specs.waking.SleepsOn.{last_closes, closes_wake}
 use Rattle.kernel_spec.specs.waking.SleepsOn.{end_wakes}
+use Rattle.kernel_spec.proofs.Common.{alive_part, or_false, this_is}
 
 -- ---- truth values
 
@@ -54,7 +55,8 @@ end_wakes_for parent m n _ = false
 
 pub wakes-for : (parent : Option ℕ) (m n : FinMap nat_cmp Pipe) (c : Condition) (channel : Channel) → is_for c channel ≡ true → end_wakes parent m n channel ≡ end_wakes_for parent m n c
 wakes-for parent m n (Child_of p) (on.Children q) e = ap (λ (k : ℕ). is_this k parent || nat_eq k 1) (sym (eqb-true p q e))
-wakes-for parent m n (Bytes i) (on.Bytes f) e = sym (or_false (closes_wake m n (on.Bytes f))) ∙ ap (λ (k : ℕ). last_closes (or_gone (get m k)).writers (or_gone (get n k)).writers) (sym (eqb-true i f e))
+wakes-for parent m n (Bytes i) (on.Bytes f) e = sym (or_false (closes_wake m n (on.Bytes f)))
+    ∙ ap (λ (k : ℕ). last_closes (or_gone (get m k)).writers (or_gone (get n k)).writers) (sym (eqb-true i f e))
 wakes-for parent m n (Room i) (on.Room f) e = sym (or_false (closes_wake m n (on.Room f))) ∙ ap (λ (k : ℕ). last_closes (or_gone (get m k)).readers (or_gone (get n k)).readers) (sym (eqb-true i f e))
 wakes-for parent m n (Time since ticks) on.Clock e = refl
 wakes-for parent m n Keys on.Keys e = refl
@@ -84,7 +86,8 @@ found_some test (q ∷ ks) k e f = by (λ later. found_some test ks k later f) (
         differ : {b : Bool} → b ≡ true → b ≡ false → ⊥
         differ t f = cc
 
-module _ (frames : ℕ) (s : State) (p : ℕ) (l : Live) (status : ℤ) (files : FinMap nat_cmp OpenFile) (well : WellFormed frames s) (was : IsLive s p l) (left : FilesLeft s (gone_state p l status files s)) where
+module _ (frames : ℕ) (s : State) (p : ℕ) (l : Live) (status : ℤ) (files : FinMap nat_cmp OpenFile) (well : WellFormed frames s) (was : IsLive s p l)
+    (left : FilesLeft s (gone_state p l status files s)) where
   abbrev dead : State
   dead = gone_state p l status files s
 
@@ -101,9 +104,6 @@ module _ (frames : ℕ) (s : State) (p : ℕ) (l : Live) (status : ℤ) (files :
   live-away q m other is =
       ap live_part (family.gone_at frames s p l (Exited status) status files well was refl left q other ∙ ap (option_map (orphan p)) (alive_part (get s.processes q) m is))
       ∙ orphan_live m (is_this p m.parent)
-
-  pub live-gone : live dead p ≡ None
-  live-gone = ap live_part (get_same (orphans p s).processes p (Zombie l.parent status))
 
   -- ---- they wait for what they waited for
 
@@ -147,7 +147,8 @@ module _ (frames : ℕ) (s : State) (p : ℕ) (l : Live) (status : ℤ) (files :
   pipe_dead : (i : ℕ) → get dead.pipes i ≡ kept (option_map (fewer s l i) (get s.pipes i))
   pipe_dead i = goes.pipe_after s p l was (can_go frames s well p l was) (Exited status) status refl files (family.spared frames s p l (Exited status) status files well was refl left) i
 
-  bytes_come : (i : ℕ) (o : Option Pipe) → has_bytes (or_gone o) ≡ false → has_bytes (or_gone (kept (option_map (fewer s l i) o))) ≡ true → last_closes (or_gone o).writers (or_gone (kept (option_map (fewer s l i) o))).writers ≡ true
+  bytes_come : (i : ℕ) (o : Option Pipe) → has_bytes (or_gone o) ≡ false → has_bytes (or_gone (kept (option_map (fewer s l i) o))) ≡ true
+      → last_closes (or_gone o).writers (or_gone (kept (option_map (fewer s l i) o))).writers ≡ true
   bytes_come i None e f = let no : ⊥ = cc in absurd no
   bytes_come i (Some x) e f = by (is_given_up (fewer s l i x)) f
     where
@@ -155,7 +156,8 @@ module _ (frames : ℕ) (s : State) (p : ℕ) (l : Live) (status : ℤ) (files :
       by true g = comes (nat_lt 0 (length x.bytes)) (nat_eq x.writers 0) true e (or_right (nat_lt 0 (length x.bytes)) true refl)
       by false g = comes (nat_lt 0 (length x.bytes)) (nat_eq x.writers 0) (nat_eq (fewer s l i x).writers 0) e g
 
-  room_comes : (i : ℕ) (o : Option Pipe) → has_room (or_gone o) ≡ false → has_room (or_gone (kept (option_map (fewer s l i) o))) ≡ true → last_closes (or_gone o).readers (or_gone (kept (option_map (fewer s l i) o))).readers ≡ true
+  room_comes : (i : ℕ) (o : Option Pipe) → has_room (or_gone o) ≡ false → has_room (or_gone (kept (option_map (fewer s l i) o))) ≡ true
+      → last_closes (or_gone o).readers (or_gone (kept (option_map (fewer s l i) o))).readers ≡ true
   room_comes i None e f = let no : ⊥ = cc in absurd no
   room_comes i (Some x) e f = by (is_given_up (fewer s l i x)) f
     where
@@ -170,10 +172,6 @@ module _ (frames : ℕ) (s : State) (p : ℕ) (l : Live) (status : ℤ) (files :
       let mine : is_this a l.parent ≡ true = ap (is_this a) parent ∙ eq-eqb a a refl in
       or_left _ _ (found_some (λ r. has_status (child_of a (get dead.processes r))) (keys dead.processes) p (sym (contains_key-keys dead.processes p) ∙ ap is_some here)
       (ap (λ (x : Option Process). has_status (child_of a x)) here ∙ ap (λ (b : Bool). has_status (cond b (Some (Status status)) None)) mine))
-
-  this_is : (n : ℕ) (o : Option ℕ) → is_this n o ≡ true → o ≡ Some n
-  this_is n None h = let no : ⊥ = cc in absurd no
-  this_is n (Some k) h = ap Some (eqb-true k n h)
 
   -- who is woken may go on, or is pid 1 that waits for a child
   pub wakes-due : (c : Condition) → end_wakes_for l.parent s.pipes dead.pipes c ≡ true → (is_open dead c ≡ true) ⊎ (c ≡ Child_of 1)
@@ -203,8 +201,10 @@ module _ (frames : ℕ) (s : State) (p : ℕ) (l : Live) (status : ℤ) (files :
             ]
           ]
       by (inr (j, e, of_pipe, has)) = let no : ⊥ = elim of_pipe [ inl b ↦ cc | inr r ↦ cc ] in absurd no
-  due-wakes (Bytes i) e f not_own = ap (λ (o : Option Pipe). last_closes (or_gone (get s.pipes i)).writers (or_gone o).writers) (pipe_dead i) ∙ bytes_come i (get s.pipes i) e (ap (λ (o : Option Pipe). has_bytes (or_gone o)) (sym (pipe_dead i)) ∙ f)
-  due-wakes (Room i) e f not_own = ap (λ (o : Option Pipe). last_closes (or_gone (get s.pipes i)).readers (or_gone o).readers) (pipe_dead i) ∙ room_comes i (get s.pipes i) e (ap (λ (o : Option Pipe). has_room (or_gone o)) (sym (pipe_dead i)) ∙ f)
+  due-wakes (Bytes i) e f not_own = ap (λ (o : Option Pipe). last_closes (or_gone (get s.pipes i)).writers (or_gone o).writers) (pipe_dead i)
+      ∙ bytes_come i (get s.pipes i) e (ap (λ (o : Option Pipe). has_bytes (or_gone o)) (sym (pipe_dead i)) ∙ f)
+  due-wakes (Room i) e f not_own = ap (λ (o : Option Pipe). last_closes (or_gone (get s.pipes i)).readers (or_gone o).readers) (pipe_dead i)
+      ∙ room_comes i (get s.pipes i) e (ap (λ (o : Option Pipe). has_room (or_gone o)) (sym (pipe_dead i)) ∙ f)
   due-wakes Nothing e f not_own = let no : ⊥ = cc in absurd no
   due-wakes (Time since ticks) e f not_own = let no : true ≡ false = sym f ∙ e in let nope : ⊥ = cc in absurd nope
   due-wakes Keys e f not_own = let no : true ≡ false = sym f ∙ e in let nope : ⊥ = cc in absurd nope

@@ -11,7 +11,8 @@ use Rattle.kernel_spec.specs.laws.Worlds.{IsStepOf}
 use Rattle.kernel_spec.specs.waking.Wakes.{NoReadySleeper, NoLostWakeUp, NeverLost, IsPromised, ReadyMayRun, FallsAsleepByItself, StaysRunnable}
 use Rattle.kernel_spec.proofs.rows.Asleep.{own_unready}
 use Rattle.kernel_spec.proofs.well.FirstWell.{nobody_sleeps}
-use Rattle.kernel_spec.proofs.steps.Kept.{kept, pid_is}
+use Rattle.kernel_spec.proofs.steps.OthersKeepTheRest.{kept, pid_is}
+use Rattle.kernel_spec.proofs.Common.{the_value}
 
 -- q slept before, or it was its own step, which answers that it waits, and it could not go on
 abbrev Reason : World → Event → Outcome → World → ℕ → Type 0
@@ -41,7 +42,8 @@ by_turn w t (Typed echo) q h asleep = absurd h
 by_turn w t (Sent b) q h asleep = absurd h
 by_turn w t Halted q h asleep = absurd h
 
-by_run : (w t : World) (o : Outcome) (halted : Option ℤ) (current : Option ℕ) (q : ℕ) → w.turns.halted ≡ halted → w.turns.current ≡ current → RunHappens w halted current o t → Sleeps t.turns q → Reason w Run o t q
+by_run : (w t : World) (o : Outcome) (halted : Option ℤ) (current : Option ℕ) (q : ℕ) → w.turns.halted ≡ halted → w.turns.current ≡ current
+    → RunHappens w halted current o t → Sleeps t.turns q → Reason w Run o t q
 by_run w t o (Some status) current q end is h asleep = unchanged w t Run o q h.1 asleep
 by_run w t o None (Some p) q end is h asleep = by_step w t p o q end is h asleep
 by_run w t o None None q end is h asleep = by_turn w t o q h asleep
@@ -76,13 +78,9 @@ no_lost_wake_up w t e o h due q v asleep see = elim (who_sleeps w t e o q h asle
 pub stays_runnable : StaysRunnable
 stays_runnable w t e o p h runs apart = (alive, λ asleep. elim (who_sleeps w t e o p h asleep) [ inl before ↦ runs.1 before | inr fell ↦ apart fell.0.2 ])
   where
-    some_view : (x : Option View) → IsSome x → (v : View) × (x ≡ Some v)
-    some_view None i = let no : ⊥ = cc in absurd no
-    some_view (Some v) i = (v, refl)
-
     alive : IsSome (view t.state p)
     alive =
-        let v = some_view (view w.state p) runs.0 in
+        let v = the_value (view w.state p) runs.0 in
         let k = kept p v.0 w t e o h (λ is. apart is.2) v.1 in
         ap is_some k.is
 

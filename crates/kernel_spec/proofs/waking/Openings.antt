@@ -12,27 +12,31 @@ use Rattle.kernel_spec.specs.views.Processes.{Process, Live, Alive, Zombie, Chil
 use Rattle.kernel_spec.specs.views.State.{State}
 use Rattle.kernel_spec.specs.views.View.{child_of, or_gone}
 use Rattle.kernel_spec.specs.steps.Updates.{changed_state, mark, marked, waited_state, forked_state, gone_state, orphan, orphans, given_to}
-use Rattle.kernel_spec.specs.waking.Conditions.{Nothing, Child_of, Bytes, Room, Time, Keys, Sending, is_open, OpensOnly, OpensAlone, OpensNothing, OpensPipe, OpensMarked, OpensReaped, OpensTick, OpensConsole, OpensForked, OpensGone, MayOpenAtEnd}
+use Rattle.kernel_spec.specs.waking.Conditions.{Nothing, Child_of, Bytes, Room, Time, Keys, Sending, is_open, OpensOnly, OpensAlone}
+use Rattle.kernel_spec.specs.waking.Conditions.{OpensNothing, OpensPipe, OpensMarked, OpensReaped, OpensTick, OpensConsole, OpensForked, OpensGone, MayOpenAtEnd}
 use Rattle.kernel_spec.specs.views.PipeEnds.{has_bytes, has_room}
-use Rattle.kernel_spec.proofs.steps.SetLive.{same_child, same_keys}
-use Rattle.kernel_spec.proofs.steps.Orphans.{get-change, keys-change}
-use Rattle.kernel_spec.proofs.steps.Maps.{keys_remove, get_without, get_same}
-use Rattle.std.proofs.lemmas.Bool.{eq-eqb, eqb-true}
+use Rattle.kernel_spec.proofs.steps.ViewsAfterSetLive.{same_child, same_keys}
+use Rattle.kernel_spec.proofs.steps.OrphansKeepKeys.{get-change, keys-change}
+use Rattle.kernel_spec.proofs.steps.MapsAfterChange.{keys_remove, get_without, get_same}
+use Rattle.std.proofs.lemmas.Bool.{eq-eqb, eqb-true, or_right}
+use Rattle.std.proofs.lemmas.Option.{same_Some}
 use Rattle.xk_base.specs.declared.limits.TheConstants.{NOFILE, PIPE_BYTES}
 use Rattle.file_table.specs.declared.open_file.End.TheVariants.{Reading, Writing}
 use Rattle.proc_table.specs.declared.process.Call.{Call}
 use Rattle.kernel_spec.specs.views.Words.{with_value, is_this}
 use Rattle.xk_base.specs.Words.{least_below}
+use Rattle.xk_base.proofs.Least.{none_below}
 use Rattle.kernel_spec.specs.steps.Own.{Exited}
 use Rattle.kernel_spec.specs.others.Quiet.{pipe_at}
 use Rattle.kernel_spec.specs.laws.RowLaws.{FilesLeft}
-use Rattle.kernel_spec.proofs.steps.Least.{least_passes, none_passes}
-use Rattle.kernel_spec.proofs.steps.Gone as goes
-use Rattle.kernel_spec.proofs.steps.Family as family_files
+use Rattle.kernel_spec.proofs.steps.LeastPasses.{least_passes}
+use Rattle.kernel_spec.proofs.steps.GoneIsItsRow as goes
+use Rattle.kernel_spec.proofs.steps.FamilyLawsHold as family_files
 use Rattle.kernel_spec.specs.views.WellFormed.{WellFormed}
-use Rattle.kernel_spec.proofs.steps.Counts.{plus, among, get-more_on_all}
-use Rattle.kernel_spec.proofs.steps.Enough.{can_fork, can_go}
-use Rattle.kernel_spec.proofs.steps.Fork as forks
+use Rattle.kernel_spec.proofs.steps.EndsAreCounted.{plus, among, get-more_on_all}
+use Rattle.kernel_spec.proofs.steps.WellFormedIsEnough.{can_fork, can_go}
+use Rattle.kernel_spec.proofs.steps.ForkIsItsRow as forks
+use Rattle.kernel_spec.proofs.Common.{gone_child, marked_again, marked_child, this_is, this_is_not}
 
 shut : {A : Type 0} (a b : Bool) → b ≡ a → a ≡ false → b ≡ true → A
 shut a b same e f = let no : ⊥ = cc in absurd no
@@ -42,7 +46,8 @@ module _ (s t : State) (same : (q r : ℕ) → child_of q (get t.processes r) �
   pub family_same : (q : ℕ) → is_open t (Child_of q) ≡ is_open s (Child_of q)
   family_same q = λ i. is_some (find (λ r. has_status (same q r i)) (pids i)) || not (list_any (λ r. is_some (same q r i)) (pids i))
 
-module _ (s : State) (p : ℕ) (l m : Live) (files : FinMap nat_cmp OpenFile) (pipes : FinMap nat_cmp Pipe) (console : Console) (free : ℕ) (was : get s.processes p ≡ Some (Alive l)) (parent : m.parent ≡ l.parent) where
+module _ (s : State) (p : ℕ) (l m : Live) (files : FinMap nat_cmp OpenFile) (pipes : FinMap nat_cmp Pipe) (console : Console) (free : ℕ)
+    (was : get s.processes p ≡ Some (Alive l)) (parent : m.parent ≡ l.parent) where
   abbrev t : State
   t = changed_state p m files pipes console free s
 
@@ -70,23 +75,15 @@ opens_nothing s p l m files free was parent Sending e f = shut _ _ refl e f
 pub opens_pipe : OpensPipe
 opens_pipe s p l m i files pipes free was parent others Nothing e f = shut true true refl e f
 opens_pipe s p l m i files pipes free was parent others (Child_of q) e f = shut _ _ (family s p l m files pipes s.console free was parent q) e f
-opens_pipe s p l m i files pipes free was parent others (Bytes j) e f = elim (eqb_tells j i) [ inl same ↦ inl (ap Bytes same.1) | inr other ↦ shut _ _ (ap (λ (o : Option Pipe). has_bytes (or_gone o)) (others j other.1)) e f ]
-opens_pipe s p l m i files pipes free was parent others (Room j) e f = elim (eqb_tells j i) [ inl same ↦ inr (ap Room same.1) | inr other ↦ shut _ _ (ap (λ (o : Option Pipe). has_room (or_gone o)) (others j other.1)) e f ]
+opens_pipe s p l m i files pipes free was parent others (Bytes j) e f =
+    elim (eqb_tells j i) [ inl same ↦ inl (ap Bytes same.1) | inr other ↦ shut _ _ (ap (λ (o : Option Pipe). has_bytes (or_gone o)) (others j other.1)) e f ]
+opens_pipe s p l m i files pipes free was parent others (Room j) e f =
+    elim (eqb_tells j i) [ inl same ↦ inr (ap Room same.1) | inr other ↦ shut _ _ (ap (λ (o : Option Pipe). has_room (or_gone o)) (others j other.1)) e f ]
 opens_pipe s p l m i files pipes free was parent others (Time since ticks) e f = shut _ _ refl e f
 opens_pipe s p l m i files pipes free was parent others Keys e f = shut _ _ refl e f
 opens_pipe s p l m i files pipes free was parent others Sending e f = shut _ _ refl e f
 
 -- ---- a mark
-
-marked_again : (x : Process) → marked (marked x) ≡ marked x
-marked_again (Alive l) = refl
-marked_again (Zombie parent status) = refl
-
-marked_child : (q : ℕ) (b : Bool) (o : Option Process) → child_of q (cond b (option_map marked o) o) ≡ child_of q o
-marked_child q true None = refl
-marked_child q true (Some (Alive l)) = refl
-marked_child q true (Some (Zombie parent status)) = refl
-marked_child q false o = refl
 
 family_marked : (s : State) (q p : ℕ) → is_open (mark q s) (Child_of p) ≡ is_open s (Child_of p)
 family_marked s q p = family_same s (mark q s)
@@ -136,7 +133,8 @@ found_without q test (k ∷ ks) no_q = elim (eqb_tells k q) [
       ∙ by (test k) (found_without q test ks no_q)
 ]
   where
-    by : (b : Bool) → is_some (find test (filter (λ r. not (nat_eq r q)) ks)) ≡ is_some (find test ks) → is_some (cond b (Some k) (find test (filter (λ r. not (nat_eq r q)) ks))) ≡ is_some (cond b (Some k) (find test ks))
+    by : (b : Bool) → is_some (find test (filter (λ r. not (nat_eq r q)) ks)) ≡ is_some (find test ks)
+        → is_some (cond b (Some k) (find test (filter (λ r. not (nat_eq r q)) ks))) ≡ is_some (cond b (Some k) (find test ks))
     by true h = refl
     by false h = h
 
@@ -159,10 +157,6 @@ module _ (s : State) (p q : ℕ) (l m : Live) (status : ℤ) (was : get s.proces
   pids_now : keys reaped.processes ≡ filter (λ r. not (nat_eq r q)) (keys s.processes)
   pids_now = keys_remove (insert s.processes p (Alive m)) q ∙ ap (filter (λ r. not (nat_eq r q))) (same_keys s p l m was parent)
 
-  gone_child : (a : ℕ) (b : Bool) (x : Option Process) → child_of a (cond b None x) ≡ cond b None (child_of a x)
-  gone_child a true x = refl
-  gone_child a false x = refl
-
   no_child : (a : ℕ) → a ≢ p → child_of a (get s.processes q) ≡ None
   no_child a other =
       let apart : nat_eq p a ≡ false = elim (eqb_tells p a) [ inl e ↦ absurd (other (sym e.1)) | inr e ↦ e.0 ] in
@@ -170,9 +164,11 @@ module _ (s : State) (p q : ℕ) (l m : Live) (status : ℤ) (was : get s.proces
 
   child_now : (a r : ℕ) → a ≢ p → child_of a (get reaped.processes r) ≡ child_of a (get s.processes r)
   child_now a r other =
-      ap (child_of a) (get_without (insert s.processes p (Alive m)) q r) ∙ gone_child a (nat_eq r q) (get (insert s.processes p (Alive m)) r) ∙ ap (cond (nat_eq r q) None) (same_child s p l m was parent a r)
+      ap (child_of a) (get_without (insert s.processes p (Alive m)) q r) ∙ gone_child a (nat_eq r q) (get (insert s.processes p (Alive m)) r)
+      ∙ ap (cond (nat_eq r q) None) (same_child s p l m was parent a r)
       ∙ elim (eqb_tells r q) [
-        | inl e ↦ let none : child_of a (get s.processes r) ≡ None = ap (λ (n : ℕ). child_of a (get s.processes n)) e.1 ∙ no_child a other in ap (cond (nat_eq r q) None) none ∙ both (nat_eq r q) ∙ sym none
+        | inl e ↦ let none : child_of a (get s.processes r) ≡ None = ap (λ (n : ℕ). child_of a (get s.processes n)) e.1 ∙ no_child a other in
+            ap (cond (nat_eq r q) None) none ∙ both (nat_eq r q) ∙ sym none
         | inr e ↦ ap (λ (b : Bool). cond b None (child_of a (get s.processes r))) e.0
       ]
     where
@@ -202,11 +198,7 @@ opens_reaped s p q l m status was parent zombie = reaps_only s p q l m status wa
 
 any_end : (test : ℕ → Bool) (ks : List ℕ) (n : ℕ) → test n ≡ true → list_any test (ks ++ n ∷ []) ≡ true
 any_end test [] n h = (λ i. h i || false)
-any_end test (k ∷ ks) n h = (λ i. test k || any_end test ks n h i) ∙ or_true (test k)
-  where
-    or_true : (b : Bool) → (b || true) ≡ true
-    or_true true = refl
-    or_true false = refl
+any_end test (k ∷ ks) n h = (λ i. test k || any_end test ks n h i) ∙ or_right (test k) true refl
 
 found_end : (test : ℕ → Bool) (ks : List ℕ) (n : ℕ) → test n ≡ false → is_some (find test (ks ++ n ∷ [])) ≡ is_some (find test ks)
 found_end test [] n h = λ i. is_some (cond (h i) (Some n) None)
@@ -258,11 +250,13 @@ module _ (frames : ℕ) (s : State) (p : ℕ) (l : Live) (well : WellFormed fram
   mine_shut e f =
       let found : is_some (find (λ r. has_status (child_of p (get born.processes r))) (keys born.processes)) ≡ is_some (find (λ r. has_status (child_of p (get s.processes r))) (keys s.processes)) =
       (λ i. is_some (find (λ r. has_status (mine_now r i)) (pids_born i)))
-      ∙ found_end (λ r. has_status (with_value (λ q. child_of p (get s.processes q)) s.next_pid (Some Running) r)) (keys s.processes) s.next_pid (ap (λ (b : Bool). has_status (cond b (Some Running) (child_of p (get s.processes s.next_pid)))) (eq-eqb s.next_pid s.next_pid refl))
+      ∙ found_end (λ r. has_status (with_value (λ q. child_of p (get s.processes q)) s.next_pid (Some Running) r)) (keys s.processes) s.next_pid
+      (ap (λ (b : Bool). has_status (cond b (Some Running) (child_of p (get s.processes s.next_pid)))) (eq-eqb s.next_pid s.next_pid refl))
       ∙ find_same (λ r. has_status (with_value (λ q. child_of p (get s.processes q)) s.next_pid (Some Running) r)) (λ r. has_status (child_of p (get s.processes r))) (keys s.processes) same_status in
       let some : list_any (λ r. is_some (child_of p (get born.processes r))) (keys born.processes) ≡ true =
       (λ i. list_any (λ r. is_some (mine_now r i)) (pids_born i))
-      ∙ any_end (λ r. is_some (with_value (λ q. child_of p (get s.processes q)) s.next_pid (Some Running) r)) (keys s.processes) s.next_pid (ap (λ (b : Bool). is_some (cond b (Some Running) (child_of p (get s.processes s.next_pid)))) (eq-eqb s.next_pid s.next_pid refl)) in
+      ∙ any_end (λ r. is_some (with_value (λ q. child_of p (get s.processes q)) s.next_pid (Some Running) r)) (keys s.processes) s.next_pid
+      (ap (λ (b : Bool). is_some (cond b (Some Running) (child_of p (get s.processes s.next_pid)))) (eq-eqb s.next_pid s.next_pid refl)) in
       contradicts _ _ _ _ found some e f
     where
       contradicts : (a b c d : Bool) → a ≡ b → c ≡ true → (b || not d) ≡ false → (a || not c) ≡ true → ⊥
@@ -273,7 +267,8 @@ module _ (frames : ℕ) (s : State) (p : ℕ) (l : Live) (well : WellFormed fram
 
       same_status : (r : ℕ) → has_status (with_value (λ q. child_of p (get s.processes q)) s.next_pid (Some Running) r) ≡ has_status (child_of p (get s.processes r))
       same_status r = elim (eqb_tells r s.next_pid) [
-        | inl same ↦ ap (λ (b : Bool). has_status (cond b (Some Running) (child_of p (get s.processes r)))) same.0 ∙ sym (ap has_status (ap (λ (n : ℕ). child_of p (get s.processes n)) same.1 ∙ new_is_none p))
+        | inl same ↦ ap (λ (b : Bool). has_status (cond b (Some Running) (child_of p (get s.processes r)))) same.0
+            ∙ sym (ap has_status (ap (λ (n : ℕ). child_of p (get s.processes n)) same.1 ∙ new_is_none p))
         | inr other ↦ ap (λ (b : Bool). has_status (cond b (Some Running) (child_of p (get s.processes r)))) other.0
       ]
 
@@ -300,8 +295,10 @@ module _ (frames : ℕ) (s : State) (p : ℕ) (l : Live) (well : WellFormed fram
     | inl me ↦ mine_shut (ap (λ (n : ℕ). is_open s (Child_of n)) (sym me.1) ∙ e) (ap (λ (n : ℕ). is_open born (Child_of n)) (sym me.1) ∙ f)
     | inr other ↦ shut _ _ (family_born q other.1) e f
   ]
-  opens_forked_by (Bytes j) e f = bytes_shut (among s l NOFILE j Reading) (among s l NOFILE j Writing) (get s.pipes j) e (ap (λ (o : Option Pipe). has_bytes (or_gone o)) (sym (get-more_on_all s l NOFILE j)) ∙ f)
-  opens_forked_by (Room j) e f = room_shut (among s l NOFILE j Reading) (among s l NOFILE j Writing) (get s.pipes j) e (ap (λ (o : Option Pipe). has_room (or_gone o)) (sym (get-more_on_all s l NOFILE j)) ∙ f)
+  opens_forked_by (Bytes j) e f = bytes_shut (among s l NOFILE j Reading) (among s l NOFILE j Writing) (get s.pipes j) e
+      (ap (λ (o : Option Pipe). has_bytes (or_gone o)) (sym (get-more_on_all s l NOFILE j)) ∙ f)
+  opens_forked_by (Room j) e f = room_shut (among s l NOFILE j Reading) (among s l NOFILE j Writing) (get s.pipes j) e
+      (ap (λ (o : Option Pipe). has_room (or_gone o)) (sym (get-more_on_all s l NOFILE j)) ∙ f)
   opens_forked_by (Time since ticks) e f = shut _ _ refl e f
   opens_forked_by Keys e f = shut _ _ refl e f
   opens_forked_by Sending e f = shut _ _ refl e f
@@ -311,14 +308,8 @@ opens_forked frames s p l well was = opens_forked_by frames s p l well was
 
 -- ---- the end of a process
 
-inside : (a b : ℕ) → Some a ≡ Some b → a ≡ b
-inside a b e = cc
-
-is_some_this : (n : ℕ) (o : Option ℕ) → is_this n o ≡ true → o ≡ Some n
-is_some_this n None h = let no : ⊥ = cc in absurd no
-is_some_this n (Some k) h = ap Some (eqb-true k n h)
-
-module _ (frames : ℕ) (s : State) (p : ℕ) (l : Live) (status : ℤ) (files : FinMap nat_cmp OpenFile) (well : WellFormed frames s) (was : get s.processes p ≡ Some (Alive l)) (left : FilesLeft s (gone_state p l status files s)) where
+module _ (frames : ℕ) (s : State) (p : ℕ) (l : Live) (status : ℤ) (files : FinMap nat_cmp OpenFile) (well : WellFormed frames s)
+    (was : get s.processes p ≡ Some (Alive l)) (left : FilesLeft s (gone_state p l status files s)) where
   abbrev dead : State
   dead = gone_state p l status files s
 
@@ -328,11 +319,8 @@ module _ (frames : ℕ) (s : State) (p : ℕ) (l : Live) (status : ℤ) (files :
   pipe_dead : (j : ℕ) → ((e : ℕ) → e < NOFILE → pipe_at s p e ≢ Some j) → get dead.pipes j ≡ get s.pipes j
   pipe_dead j nobody =
       goes.pipe_after s p l was (can_go frames s well p l was) (Exited status) status refl files (family_files.spared frames s p l (Exited status) status files well was refl left) j
-      ∙ goes.other_pipe s p l was (can_go frames s well p l was) (Exited status) status refl files (family_files.spared frames s p l (Exited status) status files well was refl left) j nobody (get s.pipes j) refl
-
-  not_this_one : (a : ℕ) (o : Option ℕ) → o ≢ Some a → is_this a o ≡ false
-  not_this_one a None h = refl
-  not_this_one a (Some k) h = elim (eqb_tells k a) [ inl e ↦ absurd (h (ap Some e.1)) | inr e ↦ e.0 ]
+      ∙ goes.other_pipe s p l was (can_go frames s well p l was) (Exited status) status refl files
+      (family_files.spared frames s p l (Exited status) status files well was refl left) j nobody (get s.pipes j) refl
 
   -- a child that goes to process 1 is no one else's
   moved_child : (a : ℕ) → a ≢ 1 → a ≢ p → (o : Option Process) → child_of a (option_map (orphan p) o) ≡ child_of a o
@@ -341,24 +329,28 @@ module _ (frames : ℕ) (s : State) (p : ℕ) (l : Live) (status : ℤ) (files :
     where
       by : (b : Bool) → is_this p m.parent ≡ b → child_of a (Some (cond b (given_to 1 (Alive m)) (Alive m))) ≡ child_of a (Some (Alive m))
       by false e = refl
-      by true e = ap (λ (x : Bool). cond x (Some Running) None) (not_this_one a (Some 1) (λ q. one (sym (inside 1 a q)))) ∙ ap (λ (x : Bool). cond x (Some Running) None) (sym (not_this_one a m.parent (λ q. other (sym (inside p a (sym (is_some_this p m.parent e) ∙ q))))))
+      by true e = ap (λ (x : Bool). cond x (Some Running) None) (this_is_not a (Some 1) (λ q. one (sym (same_Some 1 a q))))
+          ∙ ap (λ (x : Bool). cond x (Some Running) None) (sym (this_is_not a m.parent (λ q. other (sym (same_Some p a (sym (this_is p m.parent e) ∙ q))))))
   moved_child a one other (Some (Zombie parent status)) = by (is_this p parent) refl
     where
       by : (b : Bool) → is_this p parent ≡ b → child_of a (Some (cond b (given_to 1 (Zombie parent status)) (Zombie parent status))) ≡ child_of a (Some (Zombie parent status))
       by false e = refl
-      by true e = ap (λ (x : Bool). cond x (Some (Status status)) None) (not_this_one a (Some 1) (λ q. one (sym (inside 1 a q)))) ∙ ap (λ (x : Bool). cond x (Some (Status status)) None) (sym (not_this_one a parent (λ q. other (sym (inside p a (sym (is_some_this p parent e) ∙ q))))))
+      by true e = ap (λ (x : Bool). cond x (Some (Status status)) None) (this_is_not a (Some 1) (λ q. one (sym (same_Some 1 a q))))
+          ∙ ap (λ (x : Bool). cond x (Some (Status status)) None) (sym (this_is_not a parent (λ q. other (sym (same_Some p a (sym (this_is p parent e) ∙ q))))))
 
   child_dead : (a r : ℕ) → a ≢ 1 → a ≢ p → l.parent ≢ Some a → child_of a (get dead.processes r) ≡ child_of a (get s.processes r)
   child_dead a r one other apart = elim (eqb_tells r p) [
     | inl e ↦
-        let none : is_this a l.parent ≡ false = not_this_one a l.parent apart in
-        ap (λ (n : ℕ). child_of a (get dead.processes n)) e.1 ∙ ap (child_of a) (get_same (orphans p s).processes p (Zombie l.parent status)) ∙ ap (λ (x : Bool). cond x (Some (Status status)) None) none
+        let none : is_this a l.parent ≡ false = this_is_not a l.parent apart in
+        ap (λ (n : ℕ). child_of a (get dead.processes n)) e.1 ∙ ap (child_of a) (get_same (orphans p s).processes p (Zombie l.parent status))
+        ∙ ap (λ (x : Bool). cond x (Some (Status status)) None) none
         ∙ sym (ap (λ (n : ℕ). child_of a (get s.processes n)) e.1 ∙ ap (child_of a) was ∙ ap (λ (x : Bool). cond x (Some Running) None) none)
     | inr e ↦ ap (child_of a) (family_files.gone_at frames s p l (Exited status) status files well was refl left r e.1) ∙ moved_child a one other (get s.processes r)
   ]
 
   family_dead : (a : ℕ) → a ≢ 1 → a ≢ p → l.parent ≢ Some a → is_open dead (Child_of a) ≡ is_open s (Child_of a)
-  family_dead a one other apart = λ i. is_some (find (λ r. has_status (child_dead a r one other apart i)) (pids_dead i)) || not (list_any (λ r. is_some (child_dead a r one other apart i)) (pids_dead i))
+  family_dead a one other apart = λ i. is_some (find (λ r. has_status (child_dead a r one other apart i)) (pids_dead i)) || not
+      (list_any (λ r. is_some (child_dead a r one other apart i)) (pids_dead i))
 
   parents_child : (a : ℕ) → is_open s (Child_of a) ≡ false → is_open dead (Child_of a) ≡ true → MayOpenAtEnd s p l (Child_of a)
   parents_child a e f = elim (eqb_tells a 1) [
@@ -373,7 +365,7 @@ module _ (frames : ℕ) (s : State) (p : ℕ) (l : Live) (status : ℤ) (files :
       by one other None here = shut _ _ (family_dead a one other (λ q. let n : None ≡ Some a = sym here ∙ q in let no : ⊥ = cc in no)) e f
       by one other (Some k) here = elim (eqb_tells k a) [
         | inl same ↦ inl (a, refl, inl (here ∙ ap Some same.1))
-        | inr apart ↦ shut _ _ (family_dead a one other (λ q. apart.1 (inside k a (sym here ∙ q)))) e f
+        | inr apart ↦ shut _ _ (family_dead a one other (λ q. apart.1 (same_Some k a (sym here ∙ q)))) e f
       ]
 
   -- p was on the pipe, or the pipe is as it was
@@ -381,8 +373,9 @@ module _ (frames : ℕ) (s : State) (p : ℕ) (l : Live) (status : ℤ) (files :
   on_or_not j = by (least_below (λ e. is_this j (pipe_at s p e)) NOFILE) refl
     where
       by : (o : Option ℕ) → least_below (λ e. is_this j (pipe_at s p e)) NOFILE ≡ o → ((e : ℕ) × (pipe_at s p e ≡ Some j)) ⊎ (get dead.pipes j ≡ get s.pipes j)
-      by (Some e) is = inl (e, is_some_this j (pipe_at s p e) (least_passes NOFILE (λ e. is_this j (pipe_at s p e)) e is).0)
-      by None is = inr (pipe_dead j (λ e below on. let yes : is_this j (pipe_at s p e) ≡ true = ap (is_this j) on ∙ eq-eqb j j refl in let nope : is_this j (pipe_at s p e) ≡ false = none_passes NOFILE (λ e. is_this j (pipe_at s p e)) is e below in let no : ⊥ = cc in no))
+      by (Some e) is = inl (e, this_is j (pipe_at s p e) (least_passes NOFILE (λ e. is_this j (pipe_at s p e)) e is).0)
+      by None is = inr (pipe_dead j (λ e below on. let yes : is_this j (pipe_at s p e) ≡ true = ap (is_this j) on ∙ eq-eqb j j refl in
+          let nope : is_this j (pipe_at s p e) ≡ false = none_below (λ e. is_this j (pipe_at s p e)) NOFILE is e below in let no : ⊥ = cc in no))
 
   gone_opens : OpensOnly s dead (MayOpenAtEnd s p l)
   gone_opens Nothing e f = shut true true refl e f

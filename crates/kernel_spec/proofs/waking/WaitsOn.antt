@@ -11,7 +11,7 @@ use Rattle.file_table.specs.declared.open_file.Target.{Target}
 use Rattle.file_table.specs.declared.open_file.Target.TheVariants.{Console as Terminal, Program as File, Pipe as Pipe_end}
 use Rattle.proc_table.specs.declared.process.Call.{Call}
 use Rattle.kernel_spec.specs.views.Words.{c_int}
-use Rattle.kernel_spec.specs.views.Processes.{Process, Live, Alive, Zombie}
+use Rattle.kernel_spec.specs.views.Processes.{Process, Live, Alive}
 use Rattle.kernel_spec.specs.views.State.{State, live, live_part}
 use Rattle.kernel_spec.specs.others.Quiet.{file_of, end_of, target_of_open}
 use Rattle.kernel_spec.specs.rows.Calls.{Row, Fork, Exit, Wait, Pipe_row, Read, Kill, Exec, Dup, Getpid, Sbrk, Sleep, Uptime, Open, Write, Close, Sbrklazy, row_of}
@@ -19,11 +19,11 @@ use Rattle.kernel_spec.specs.steps.Updates.{marked, own_state, changed_state, ki
 use Rattle.kernel_spec.specs.views.WellFormed.{WellFormed}
 use Rattle.kernel_spec.specs.laws.RowLaws.{FilesLeft}
 use Rattle.kernel_spec.specs.waking.Conditions.{read_waits_for, write_waits_for, target_at, row_waits_for, call_waits_for, waits_for, OthersWaitOn, at_start, KeepsTargets, WaitsStay}
-use Rattle.kernel_spec.proofs.steps.Maps.{get_other, get_without}
-use Rattle.kernel_spec.proofs.steps.Orphans.{get-change}
-use Rattle.kernel_spec.proofs.steps.Enough.{alive_part}
-use Rattle.kernel_spec.proofs.steps.Fork.{live_some}
+use Rattle.kernel_spec.proofs.steps.MapsAfterChange.{get_other, get_without}
+use Rattle.kernel_spec.proofs.steps.OrphansKeepKeys.{get-change}
+use Rattle.kernel_spec.proofs.steps.ForkIsItsRow.{live_some}
 use Rattle.kernel_spec.proofs.waking.GoneOpens as gone
+use Rattle.kernel_spec.proofs.Common.{alive_part, marked_again}
 
 -- ---- how far a file was read is nothing that anybody waits for
 
@@ -45,7 +45,8 @@ start-cond false x y e = refl
 
 -- ---- one process: its call and its descriptors are the same, and its open files are on the same
 
-module _ (s t : State) (q : ℕ) (l m : Live) (calls : m.call ≡ l.call) (descriptors : m.descriptors ≡ l.descriptors) (targets : (d f : ℕ) → get l.descriptors d ≡ Some f → at_start (target_of_open (get t.files f)) ≡ at_start (target_of_open (get s.files f))) where
+module _ (s t : State) (q : ℕ) (l m : Live) (calls : m.call ≡ l.call) (descriptors : m.descriptors ≡ l.descriptors)
+    (targets : (d f : ℕ) → get l.descriptors d ≡ Some f → at_start (target_of_open (get t.files f)) ≡ at_start (target_of_open (get s.files f))) where
   same_end : (d : ℕ) (o : Option ℕ) → get l.descriptors d ≡ o → at_start (end_of t o) ≡ at_start (end_of s o)
   same_end d None e = refl
   same_end d (Some f) e = targets d f e
@@ -123,10 +124,6 @@ module _ (s : State) (p : ℕ) (m : Live) (files : FinMap nat_cmp OpenFile) (pip
   changed either = others s after p (kept either) (λ q l n other was is. spared-same l n (sym was ∙ sym (live-other q other) ∙ is))
 
 -- ---- p kills
-
-marked_again : (x : Process) → marked (marked x) ≡ marked x
-marked_again (Alive l) = refl
-marked_again (Zombie parent status) = refl
 
 spared-marked : (b : Bool) (l m : Live) → live_part (cond b (option_map marked (Some (Alive l))) (Some (Alive l))) ≡ Some m → Spared l m
 spared-marked true l m e = let same : m ≡ record l { killed = true } = cc in record {

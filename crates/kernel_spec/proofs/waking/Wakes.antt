@@ -1,8 +1,8 @@
 -- Whether a process is ready depends on its mark and on what it waits for.
-use Rattle.std.proofs.Common.{◌≡◌, ℕ, Bool, true, false, cond, ◌||◌, refl, ap, sym, ◌∙◌, inl, inr}
+use Rattle.std.proofs.Common.{◌≡◌, ℕ, Bool, true, false, cond, ◌||◌, refl, ap}
 use Rattle.std.specs.Prelude.{Option, None, Some, ℤ, pos, negsuc, option_map, nat_lt}
 use Rattle.std.specs.FinMap.{get}
-use Rattle.std.proofs.lemmas.Bool.{or_parts, false_from_ne_true}
+use Rattle.std.proofs.lemmas.Option.{same_Some}
 use Rattle.xk_base.specs.declared.limits.TheConstants.{NOFILE}
 use Rattle.kernel_spec.specs.views.Words.{c_int}
 use Rattle.file_table.specs.declared.open_file.OpenFile.{OpenFile}
@@ -10,14 +10,12 @@ use Rattle.file_table.specs.declared.open_file.Target.{Target}
 use Rattle.file_table.specs.declared.open_file.Target.TheVariants.{Console as Terminal, Program as File, Pipe as Pipe_end}
 use Rattle.kernel_spec.specs.views.Processes.{Live}
 use Rattle.proc_table.specs.declared.process.Call.{Call}
-use Rattle.kernel_spec.specs.views.State.{State, live}
+use Rattle.kernel_spec.specs.views.State.{State}
 use Rattle.kernel_spec.specs.views.View.{View, view_of, named, numbered, rename, descriptor_at, descriptor_on, in_use}
 use Rattle.kernel_spec.specs.rows.Calls.{Row, Fork, Exit, Wait, Pipe_row, Read, Kill, Exec, Dup, Getpid, Sbrk, Sleep, Uptime, Open, Write, Close, Sbrklazy, row_of}
 use Rattle.kernel_spec.specs.waking.Ready.{ready, call_ready, row_ready, on_shown, can_read, can_write}
-use Rattle.kernel_spec.specs.runs.Run.{World}
 use Rattle.kernel_spec.specs.others.Quiet.{end_of, target_of_open}
 use Rattle.kernel_spec.specs.waking.Conditions.{ReadyIsOpen, is_open, read_waits_for, write_waits_for, target_at, sleep_waits_for, row_waits_for, call_waits_for, waits_for}
-use Rattle.kernel_spec.specs.waking.Wakes.{NoReadySleeper}
 use Rattle.kernel_spec.specs.steps.Ticks.{ticks_since, has_passed}
 
 module _ (s : State) (p : ℕ) (l : Live) where
@@ -26,7 +24,8 @@ module _ (s : State) (p : ℕ) (l : Live) where
 
   -- ---- by the open file
 
-  read_target : (r w : Bool) (g : ℕ) (y : Target) → on_shown (can_read (view_of s p l)) (option_map (rename (numbered s l)) (descriptor_on s g (Some (record { read = r; write = w; target = y })))) ≡ is_open s (read_waits_for (Some y))
+  read_target : (r w : Bool) (g : ℕ) (y : Target) → on_shown (can_read (view_of s p l))
+      (option_map (rename (numbered s l)) (descriptor_on s g (Some (record { read = r; write = w; target = y })))) ≡ is_open s (read_waits_for (Some y))
   unfolding view_of
   read_target r w g Terminal = refl
   read_target r w g (File program offset) = refl
@@ -40,7 +39,8 @@ module _ (s : State) (p : ℕ) (l : Live) where
       by None = refl
       by (Some x) = read_target x.read x.write g x.target
 
-  write_target : (r w : Bool) (g : ℕ) (y : Target) → on_shown (can_write (view_of s p l)) (option_map (rename (numbered s l)) (descriptor_on s g (Some (record { read = r; write = w; target = y })))) ≡ is_open s (write_waits_for (Some y))
+  write_target : (r w : Bool) (g : ℕ) (y : Target) → on_shown (can_write (view_of s p l))
+      (option_map (rename (numbered s l)) (descriptor_on s g (Some (record { read = r; write = w; target = y })))) ≡ is_open s (write_waits_for (Some y))
   unfolding view_of
   write_target r w g Terminal = refl
   write_target r w g (File program offset) = refl
@@ -54,11 +54,13 @@ module _ (s : State) (p : ℕ) (l : Live) where
       by None = refl
       by (Some x) = write_target x.read x.write g x.target
 
-  read_in_range : (d : ℕ) (b : Bool) → on_shown (can_read (view_of s p l)) (cond b (option_map (rename (numbered s l)) (numbered s l d)) None) ≡ is_open s (read_waits_for (cond b (end_of s (get l.descriptors d)) None))
+  read_in_range : (d : ℕ) (b : Bool) → on_shown (can_read (view_of s p l)) (cond b (option_map (rename (numbered s l)) (numbered s l d)) None)
+      ≡ is_open s (read_waits_for (cond b (end_of s (get l.descriptors d)) None))
   read_in_range d true = read_place (get l.descriptors d)
   read_in_range d false = refl
 
-  write_in_range : (d : ℕ) (b : Bool) → on_shown (can_write (view_of s p l)) (cond b (option_map (rename (numbered s l)) (numbered s l d)) None) ≡ is_open s (write_waits_for (cond b (end_of s (get l.descriptors d)) None))
+  write_in_range : (d : ℕ) (b : Bool) → on_shown (can_write (view_of s p l)) (cond b (option_map (rename (numbered s l)) (numbered s l d)) None)
+      ≡ is_open s (write_waits_for (cond b (end_of s (get l.descriptors d)) None))
   write_in_range d true = write_place (get l.descriptors d)
   write_in_range d false = refl
 
@@ -108,13 +110,10 @@ module _ (s : State) (p : ℕ) (l : Live) where
 
 -- ---- who is seen
 
-some_view : (a b : View) → Some a ≡ Some b → a ≡ b
-some_view a b e = cc
-
 -- who is seen is live
 pub view_is : (s : State) (q : ℕ) (o : Option Live) (v : View) → option_map (view_of s q) o ≡ Some v → (m : Live) × (o ≡ Some m) × (view_of s q m ≡ v)
 view_is s q None v e = let no : ⊥ = cc in absurd no
-view_is s q (Some m) v e = (m, refl, some_view (view_of s q m) v e)
+view_is s q (Some m) v e = (m, refl, same_Some (view_of s q m) v e)
 
 pub ready_is_open : ReadyIsOpen
 ready_is_open s p l = ready_is s p l

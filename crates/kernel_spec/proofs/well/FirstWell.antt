@@ -1,12 +1,12 @@
 -- The state after boot is well-formed.
-use Rattle.std.proofs.Common.{◌≡◌, ◌≢◌, ℕ, ◌≤◌, ◌+◌, ◌-◌, Bool, true, false, cond, ◌||◌, List, [], ◌∷◌, refl, ap, sym, ◌∙◌, subst, arith, inl, inr, lt-ltb}
+use Rattle.std.proofs.Common.{◌≡◌, ◌≢◌, ℕ, ◌≤◌, ◌+◌, ◌-◌, Bool, true, false, cond, List, [], ◌∷◌, refl, ap, sym, ◌∙◌, subst, arith, inl, inr, lt-ltb}
 use Rattle.std.specs.Prelude.{Option, None, Some, IsSome, is_some, nat_eq, nat_lt, option_map, Result, Ok, Err}
 use Rattle.std.specs.FinMap.{get, empty, get-empty, len, len-empty}
 use Rattle.std.specs.Ordering.{nat_cmp}
 use Rattle.std.proofs.lemmas.Bool.Decides.{eqb_tells, leb_tells}
 use Rattle.xk_base.specs.declared.errors.ExecError.{ExecError}
 use Rattle.xk_base.specs.declared.errors.BootError.{BootError}
-use Rattle.xk_base.specs.declared.errors.BootError.TheVariants.{BadConfig, Init}
+use Rattle.xk_base.specs.declared.errors.BootError.TheVariants.{BadConfig}
 use Rattle.xk_base.specs.declared.errors.ExecError.TheVariants.{NoFrames}
 use Rattle.xk_base.specs.declared.limits.TheConstants.{TRACE_MAX}
 use Rattle.kernel_spec.specs.views.State.{ProgramFile, State, live_part}
@@ -23,16 +23,12 @@ use Rattle.kernel_spec.specs.runs.First.{first, unless_refused, within_frames, f
 use Rattle.kernel_spec.specs.views.NewKernel.{refusal}
 use Rattle.kernel_spec.specs.waking.Turns.{Sleeps, HasSlot}
 use Rattle.std.specs.FinSet.{contains, contains-empty}
-use Rattle.kernel_spec.proofs.steps.Maps.{get_at, get_same}
-
-some_same : (a b : ℕ) → Some a ≡ Some b → a ≡ b
-some_same a b e = cc
+use Rattle.std.proofs.lemmas.Option.{same_Some}
+use Rattle.kernel_spec.proofs.steps.MapsAfterChange.{get_at, get_same}
+use Rattle.kernel_spec.proofs.Common.{none_has_no_value, same_Ok}
 
 nothing_open : {X : Type 0} (i : ℕ) (x : X) → get (empty {X = X} {R = nat_cmp}) i ≡ Some x → ⊥
 nothing_open {X} i x e = let none : ◌≡◌ {A = Option X} None (Some x) = sym (get-empty nat_cmp i) ∙ e in let no : ⊥ = cc in no
-
-none_some : {X : Type 0} (o : Option X) → o ≡ None → IsSome o → ⊥
-none_some o e s = let no : false ≡ true = sym (ap is_some e) ∙ s in let bad : ⊥ = cc in bad
 
 module _ (frames : ℕ) (programs : List ProgramFile) (l : Loaded) (enough : price l.image + 1 ≤ frames) where
   abbrev s : State
@@ -51,7 +47,7 @@ module _ (frames : ℕ) (programs : List ProgramFile) (l : Loaded) (enough : pri
   here = get_same empty 1 (Alive first_live)
 
   only : (p : ℕ) → IsSome (get s.processes p) → p ≡ 1
-  only p there = elim (eqb_tells p 1) [ inl e ↦ e.1 | inr e ↦ absurd (none_some (get s.processes p) (elsewhere p e.1) there) ]
+  only p there = elim (eqb_tells p 1) [ inl e ↦ e.1 | inr e ↦ absurd (none_has_no_value (get s.processes p) (elsewhere p e.1) there) ]
 
   nothing_named : (p d f : ℕ) → file_at s p d ≡ Some f → ⊥
   nothing_named p d f h = elim (eqb_tells p 1) [
@@ -79,7 +75,7 @@ module _ (frames : ℕ) (programs : List ProgramFile) (l : Loaded) (enough : pri
     parents = λ p x is. inl (only p (ap is_some is));
     descriptors = λ p d f h. absurd (nothing_named p d f h);
     ends = λ f i x end is on. absurd (nothing_open f x is);
-    named = λ f there. absurd (none_some (get s.files f) (get-empty nat_cmp f) there);
+    named = λ f there. absurd (none_has_no_value (get s.files f) (get-empty nat_cmp f) there);
     readers = λ i x is. absurd (nothing_open i x is);
     writers = λ i x is. absurd (nothing_open i x is);
     held = λ i x is. absurd (nothing_open i x is);
@@ -97,18 +93,20 @@ IsLoaded l = (file : List ℕ) × (texts : List (List ℕ)) × (loaded file text
 abbrev IsFirst : ℕ → List ProgramFile → World → Type 0
 IsFirst frames programs w = (l : Loaded) × (price l.image + 1 ≤ frames) × (w ≡ record { state = first_state frames programs l; turns = first_turns }) × IsLoaded l
 
-some_world : (a b : World) → ◌≡◌ {A = Result World BootError} (Ok a) (Ok b) → a ≡ b
-some_world a b e = cc
-
 by_frames : (frames : ℕ) (programs : List ProgramFile) (l : Loaded) → IsLoaded l → (w : World) (b : Bool) → nat_lt frames (price l.image + 1) ≡ b
     → first_loaded frames programs (cond {A = Result Loaded ExecError} b (Err NoFrames) (Ok l)) ≡ Ok w → IsFirst frames programs w
 by_frames frames programs l made w true e h = let no : ⊥ = cc in absurd no
 by_frames frames programs l made w false e h =
-    let same : record { state = first_state frames programs l; turns = first_turns } ≡ w = some_world (record { state = first_state frames programs l; turns = first_turns }) w h in
-    let enough : price l.image + 1 ≤ frames = elim (leb_tells (price l.image + 1) frames) [ inl t ↦ t.1 | inr t ↦ absurd (let less : nat_lt frames (price l.image + 1) ≡ true = lt-ltb frames (price l.image + 1) t.1 in let no : true ≡ false = sym less ∙ e in let bad : ⊥ = cc in bad) ] in
+    let same : record { state = first_state frames programs l; turns = first_turns } ≡ w = same_Ok (record { state = first_state frames programs l; turns = first_turns }) w h in
+    let enough : price l.image + 1 ≤ frames = elim (leb_tells (price l.image + 1) frames) [
+      | inl t ↦ t.1
+      | inr t ↦ absurd (let less : nat_lt frames (price l.image + 1) ≡ true = lt-ltb frames (price l.image + 1) t.1 in
+          let no : true ≡ false = sym less ∙ e in let bad : ⊥ = cc in bad)
+    ] in
     (l, enough, sym same, made)
 
-by_loaded : (frames : ℕ) (programs : List ProgramFile) (r : Result Loaded ExecError) (file : List ℕ) (texts : List (List ℕ)) → loaded file texts ≡ r → (w : World) → first_loaded frames programs (within_frames frames r) ≡ Ok w → IsFirst frames programs w
+by_loaded : (frames : ℕ) (programs : List ProgramFile) (r : Result Loaded ExecError) (file : List ℕ) (texts : List (List ℕ)) → loaded file texts ≡ r
+    → (w : World) → first_loaded frames programs (within_frames frames r) ≡ Ok w → IsFirst frames programs w
 by_loaded frames programs (Err e) file texts made w h = let no : ⊥ = cc in absurd no
 by_loaded frames programs (Ok l) file texts made w h = by_frames frames programs l (file, texts, made) w (nat_lt frames (price l.image + 1)) refl h
 
@@ -120,7 +118,8 @@ by_refusal : (frames : ℕ) (programs : List ProgramFile) (o : Option BootError)
 by_refusal frames programs (Some e) w h = let no : ⊥ = cc in absurd no
 by_refusal frames programs None w h = by_init frames programs (init_of programs) w h
 
-by_trace : (frames : ℕ) (programs : List ProgramFile) (w : World) (b : Bool) → cond b (Err BadConfig) (unless_refused (refusal frames programs) (first_init frames programs (init_of programs))) ≡ Ok w → IsFirst frames programs w
+by_trace : (frames : ℕ) (programs : List ProgramFile) (w : World) (b : Bool)
+    → cond b (Err BadConfig) (unless_refused (refusal frames programs) (first_init frames programs (init_of programs))) ≡ Ok w → IsFirst frames programs w
 by_trace frames programs w true h = let no : ⊥ = cc in absurd no
 by_trace frames programs w false h = by_refusal frames programs (refusal frames programs) w h
 
@@ -141,7 +140,7 @@ nobody_sleeps frames trace programs w h p asleep =
 
 first_slot : (q slot : ℕ) → HasSlot first_turns q slot → (q ≡ 1) × (slot ≡ 0)
 first_slot q slot h = elim (eqb_tells q 1) [
-  | inl e ↦ (e.1, some_same slot 0 (sym h ∙ get_at empty 1 0 q ∙ ap (λ (b : Bool). cond b (Some 0) (get (empty {X = ℕ} {R = nat_cmp}) q)) e.0))
+  | inl e ↦ (e.1, same_Some slot 0 (sym h ∙ get_at empty 1 0 q ∙ ap (λ (b : Bool). cond b (Some 0) (get (empty {X = ℕ} {R = nat_cmp}) q)) e.0))
   | inr e ↦ absurd (nothing_open q slot (sym (get_at empty 1 0 q ∙ ap (λ (b : Bool). cond b (Some 0) (get (empty {X = ℕ} {R = nat_cmp}) q)) e.0) ∙ h))
 ]
 
@@ -162,13 +161,11 @@ first_slots frames trace programs w h = let f = is_first frames trace programs w
 
 idle_here : (frames : ℕ) (programs : List ProgramFile) (l : Loaded) → price l.image + 1 ≤ frames → (p : ℕ) (v : View) → view (first_state frames programs l) p ≡ Some v → v.call ≡ None
 unfolding view_of
-idle_here frames programs l enough p v see = by (nat_eq p 1) (sym (ap (λ (o : Option Process). option_map (view_of (s frames programs l enough) p) (live_part o)) (at frames programs l enough p)) ∙ see)
+idle_here frames programs l enough p v see = by (nat_eq p 1)
+    (sym (ap (λ (o : Option Process). option_map (view_of (s frames programs l enough) p) (live_part o)) (at frames programs l enough p)) ∙ see)
   where
-    some_view : (a b : View) → Some a ≡ Some b → a ≡ b
-    some_view a b e = cc
-
     by : (b : Bool) → option_map (view_of (s frames programs l enough) p) (live_part (cond b (Some (Alive (first_live frames programs l enough))) None)) ≡ Some v → v.call ≡ None
-    by true e = sym (ap (λ (x : View). x.call) (some_view (view_of (s frames programs l enough) p (first_live frames programs l enough)) v e))
+    by true e = sym (ap (λ (x : View). x.call) (same_Some (view_of (s frames programs l enough) p (first_live frames programs l enough)) v e))
     by false e = let no : ⊥ = cc in absurd no
 
 pub first_idle : (frames trace : ℕ) (programs : List ProgramFile) (w : World) → first frames trace programs ≡ Ok w → (p : ℕ) (v : View) → view w.state p ≡ Some v → v.call ≡ None
@@ -180,16 +177,15 @@ first_idle frames trace programs w h p v see =
 
 image_here : (frames : ℕ) (programs : List ProgramFile) (l : Loaded) → price l.image + 1 ≤ frames → (p : ℕ) (v : View) → view (first_state frames programs l) p ≡ Some v → v.image ≡ l.image
 unfolding view_of
-image_here frames programs l enough p v see = by (nat_eq p 1) (sym (ap (λ (o : Option Process). option_map (view_of (s frames programs l enough) p) (live_part o)) (at frames programs l enough p)) ∙ see)
+image_here frames programs l enough p v see = by (nat_eq p 1)
+    (sym (ap (λ (o : Option Process). option_map (view_of (s frames programs l enough) p) (live_part o)) (at frames programs l enough p)) ∙ see)
   where
-    some_view : (a b : View) → Some a ≡ Some b → a ≡ b
-    some_view a b e = cc
-
     by : (b : Bool) → option_map (view_of (s frames programs l enough) p) (live_part (cond b (Some (Alive (first_live frames programs l enough))) None)) ≡ Some v → v.image ≡ l.image
-    by true e = sym (ap (λ (x : View). x.image) (some_view (view_of (s frames programs l enough) p (first_live frames programs l enough)) v e))
+    by true e = sym (ap (λ (x : View). x.image) (same_Some (view_of (s frames programs l enough) p (first_live frames programs l enough)) v e))
     by false e = let no : ⊥ = cc in absurd no
 
-pub first_image : (frames trace : ℕ) (programs : List ProgramFile) (w : World) → first frames trace programs ≡ Ok w → (p : ℕ) (v : View) → view w.state p ≡ Some v → (l : Loaded) × (file : List ℕ) × (texts : List (List ℕ)) × (loaded file texts ≡ Ok l) × (v.image ≡ l.image)
+pub first_image : (frames trace : ℕ) (programs : List ProgramFile) (w : World) → first frames trace programs ≡ Ok w → (p : ℕ) (v : View)
+    → view w.state p ≡ Some v → (l : Loaded) × (file : List ℕ) × (texts : List (List ℕ)) × (loaded file texts ≡ Ok l) × (v.image ≡ l.image)
 first_image frames trace programs w h p v see =
     let f = is_first frames trace programs w h in
     (f.0, f.3.0, f.3.1, f.3.2, image_here frames programs f.0 f.1 p v (sym (ap (λ (x : World). view x.state p) f.2) ∙ see))
@@ -199,7 +195,8 @@ first_image frames trace programs w h p v see =
 alone_here : (frames : ℕ) (programs : List ProgramFile) (l : Loaded) → price l.image + 1 ≤ frames → (p : ℕ) (v : View) → view (first_state frames programs l) p ≡ Some v → p ≡ 1
 alone_here frames programs l enough p v see = only frames programs l enough p (by (get (first_state frames programs l).processes p) refl see)
   where
-    by : (o : Option Process) → get (first_state frames programs l).processes p ≡ o → option_map (view_of (first_state frames programs l) p) (live_part o) ≡ Some v → IsSome (get (first_state frames programs l).processes p)
+    by : (o : Option Process) → get (first_state frames programs l).processes p ≡ o
+        → option_map (view_of (first_state frames programs l) p) (live_part o) ≡ Some v → IsSome (get (first_state frames programs l).processes p)
     by None is e = let no : ⊥ = cc in absurd no
     by (Some x) is e = ap is_some is
 

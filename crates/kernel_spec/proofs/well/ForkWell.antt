@@ -5,6 +5,8 @@ use Rattle.std.specs.FinMap.{FinMap, get, insert, len, len-insert}
 use Rattle.std.specs.Ordering.{nat_cmp}
 use Rattle.std.specs.Cmp.{nat_cmp_total}
 use Rattle.std.proofs.lemmas.Bool.Decides.{eqb_tells}
+use Rattle.std.proofs.lemmas.Option.{same_Some}
+use Rattle.std.proofs.lemmas.Bool.{and_right}
 use Rattle.xk_base.specs.declared.limits.TheConstants.{NOFILE, PIPE_BYTES}
 use Rattle.xk_base.specs.Words.{count_below}
 use Rattle.xk_base.specs.Image.{price}
@@ -22,9 +24,10 @@ use Rattle.kernel_spec.specs.rows.Tables.{ends}
 use Rattle.kernel_spec.specs.others.Quiet.{file_at, file_of, end_of}
 use Rattle.kernel_spec.specs.steps.Updates.{forked_state, forking, forked_child, more_on_all, more_on, more_at}
 use Rattle.kernel_spec.specs.views.WellFormed.{WellFormed, HasParent, over_all, on, cost, sum_below}
-use Rattle.kernel_spec.proofs.steps.Maps.{get_same, get_other}
-use Rattle.kernel_spec.proofs.steps.Counts.{plus, hits, among, hits_at, get-more_on_all}
+use Rattle.kernel_spec.proofs.steps.MapsAfterChange.{get_same, get_other}
+use Rattle.kernel_spec.proofs.steps.EndsAreCounted.{plus, hits, among, hits_at, get-more_on_all}
 use Rattle.kernel_spec.proofs.well.Sums.{sum_same}
+use Rattle.kernel_spec.proofs.Common.{the_value, there_if_alive}
 
 -- ---- the number of pipes
 
@@ -63,9 +66,6 @@ module _ (frames : ℕ) (s : State) (h : WellFormed frames s) (p : ℕ) (old : L
   abbrev child : Live
   child = forked_child s p old
 
-  p_below : p < s.next_pid
-  p_below = (h.pids p (ap is_some was)).1
-
   child_there : get after.processes s.next_pid ≡ Some (Alive child)
   child_there = get_same (insert s.processes p (Alive parent)) s.next_pid (Alive child)
 
@@ -94,33 +94,19 @@ module _ (frames : ℕ) (s : State) (h : WellFormed frames s) (p : ℕ) (old : L
   file_child : (d : ℕ) → file_at after s.next_pid d ≡ file_at s p d
   file_child d = ap (λ (o : Option Process). file_of (live_part o) d) child_there ∙ sym (ap (λ (o : Option Process). file_of (live_part o) d) was)
 
-  some_of : {X : Type 0} (o : Option X) → IsSome o → (x : X) × (o ≡ Some x)
-  some_of None e = let no : ⊥ = cc in absurd no
-  some_of (Some x) e = (x, refl)
-
-  inside : (a b : Option ℕ) → Some a ≡ Some b → a ≡ b
-  inside a b e = cc
-
-  one_of : (a b : Process) → Some a ≡ Some b → a ≡ b
-  one_of a b e = cc
-
   before : (q : ℕ) (x : Process) → q ≢ s.next_pid → get after.processes q ≡ Some x → (y : Process) × (get s.processes q ≡ Some y) × (parent_of x ≡ parent_of y)
   before q x new is =
-      let y = some_of (get s.processes q) (sym (some_there q new) ∙ ap is_some is) in
+      let y = the_value (get s.processes q) (sym (some_there q new) ∙ ap is_some is) in
       let parents : Some (parent_of x) ≡ Some (parent_of y.0) = sym (ap (option_map parent_of) is) ∙ same_of (option_map parent_of) refl q new ∙ ap (option_map parent_of) y.1 in
-      (y.0, y.1, inside (parent_of x) (parent_of y.0) parents)
+      (y.0, y.1, same_Some (parent_of x) (parent_of y.0) parents)
 
   is_some_live : (q : ℕ) → IsSome (live s q) → IsSome (get s.processes q)
-  is_some_live q e = by (get s.processes q) e
-    where
-      by : (o : Option Process) → IsSome (live_part o) → IsSome o
-      by None e = e
-      by (Some x) e = refl
+  is_some_live q e = there_if_alive (get s.processes q) e
 
   parents_stay : (q : ℕ) (x : Process) → get after.processes q ≡ Some x → (q ≡ 1) ⊎ HasParent after q x
   parents_stay q x is = elim (eqb_tells q s.next_pid) [
     | inl new ↦
-        let same : x ≡ Alive child = one_of x (Alive child) (sym is ∙ ap (get after.processes) new.1 ∙ child_there) in
+        let same : x ≡ Alive child = same_Some x (Alive child) (sym is ∙ ap (get after.processes) new.1 ∙ child_there) in
         inr (record {
           parent = p;
           is = ap parent_of same;
@@ -147,9 +133,9 @@ module _ (frames : ℕ) (s : State) (h : WellFormed frames s) (p : ℕ) (old : L
   first_stays q alive =
       let f = first_is in
       let new : 1 ≢ s.next_pid = fresh 1 (ap is_some f.1) in
-      let x = some_of (get after.processes 1) (some_there 1 new ∙ ap is_some f.1) in
+      let x = the_value (get after.processes 1) (some_there 1 new ∙ ap is_some f.1) in
       let y = before 1 x.0 new x.1 in
-      (x.0, x.1, y.2 ∙ ap parent_of (one_of y.0 f.0 (sym y.1 ∙ f.1)) ∙ f.2)
+      (x.0, x.1, y.2 ∙ ap parent_of (same_Some y.0 f.0 (sym y.1 ∙ f.1)) ∙ f.2)
 
   pids_stay : (q : ℕ) → IsSome (get after.processes q) → (1 ≤ q) × (q < s.next_pid + 1)
   pids_stay q e = elim (eqb_tells q s.next_pid) [
@@ -179,12 +165,10 @@ module _ (frames : ℕ) (s : State) (h : WellFormed frames s) (p : ℕ) (old : L
   pipe_before : (j : ℕ) (y : Pipe) → get after.pipes j ≡ Some y → (x : Pipe) × (get s.pipes j ≡ Some x) × (y ≡ plus x (among s old NOFILE j Reading) (among s old NOFILE j Writing))
   pipe_before j y is = by (get s.pipes j) (sym (get-more_on_all s old NOFILE j) ∙ is)
     where
-      by : (o : Option Pipe) → option_map (λ x. plus x (among s old NOFILE j Reading) (among s old NOFILE j Writing)) o ≡ Some y → (x : Pipe) × (o ≡ Some x) × (y ≡ plus x (among s old NOFILE j Reading) (among s old NOFILE j Writing))
+      by : (o : Option Pipe) → option_map (λ x. plus x (among s old NOFILE j Reading) (among s old NOFILE j Writing)) o ≡ Some y
+          → (x : Pipe) × (o ≡ Some x) × (y ≡ plus x (among s old NOFILE j Reading) (among s old NOFILE j Writing))
       by None e = let no : ⊥ = cc in absurd no
-      by (Some x) e = (x, refl, inside_pipe y (plus x (among s old NOFILE j Reading) (among s old NOFILE j Writing)) (sym e))
-        where
-          inside_pipe : (a b : Pipe) → Some a ≡ Some b → a ≡ b
-          inside_pipe a b e = cc
+      by (Some x) e = (x, refl, same_Some y (plus x (among s old NOFILE j Reading) (among s old NOFILE j Writing)) (sym e))
 
   pipe_still : (j : ℕ) → IsSome (get s.pipes j) → IsSome (get after.pipes j)
   pipe_still j e = ap is_some (get-more_on_all s old NOFILE j) ∙ by (get s.pipes j) e
@@ -197,7 +181,7 @@ module _ (frames : ℕ) (s : State) (h : WellFormed frames s) (p : ℕ) (old : L
   held_still x a b e = elim (eqb_tells (x.readers + a) 0) [
     | inr q ↦ ap (λ (z : Bool). z && nat_eq (x.writers + b) 0) q.0
     | inl q ↦ elim (eqb_tells (x.writers + b) 0) [
-      | inr r ↦ both (nat_eq (x.readers + a) 0) (nat_eq (x.writers + b) 0) r.0
+      | inr r ↦ and_right (nat_eq (x.readers + a) 0) (nat_eq (x.writers + b) 0) r.0
       | inl r ↦
           let u : x.readers + a ≡ 0 = q.1 in let v : x.writers + b ≡ 0 = r.1 in
           let m : x.readers ≡ 0 = omega arith in let n : x.writers ≡ 0 = omega arith in
@@ -205,16 +189,13 @@ module _ (frames : ℕ) (s : State) (h : WellFormed frames s) (p : ℕ) (old : L
           let no : ⊥ = cc in absurd no
     ]
   ]
-    where
-      both : (c d : Bool) → d ≡ false → (c && d) ≡ false
-      both true d g = g
-      both false d g = refl
 
   frames_stay : (s.free - (price old.image + 1)) + over_all after cost + len after.pipes ≡ frames
   frames_stay =
       let a : ℕ = over_all s cost in let b : ℕ = over_all after cost in let n : ℕ = len s.pipes in let m : ℕ = len after.pipes in let x : ℕ = price old.image + 1 in
       let lens : m ≡ n = more_all_len s old NOFILE in
-      let sums : b ≡ a + x = sum_more s.next_pid (λ q. cost (get after.processes q)) ∙ (λ i. sum_same s.next_pid (λ q. cost (get after.processes q)) (λ q. cost (get s.processes q)) each i + ap cost child_there i) in
+      let sums : b ≡ a + x = sum_more s.next_pid (λ q. cost (get after.processes q))
+      ∙ (λ i. sum_same s.next_pid (λ q. cost (get after.processes q)) (λ q. cost (get s.processes q)) each i + ap cost child_there i) in
       let enough : x ≤ s.free = room in let total : s.free + a + n ≡ frames = h.counted in
       let goal : (s.free - x) + b + m ≡ frames = omega arith in goal
     where

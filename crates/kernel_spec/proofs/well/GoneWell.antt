@@ -5,6 +5,7 @@ use Rattle.std.specs.FinMap.{FinMap, get, insert, remove, len, len-insert, len-r
 use Rattle.std.specs.Ordering.{nat_cmp}
 use Rattle.std.specs.Cmp.{nat_cmp_total}
 use Rattle.std.proofs.lemmas.Bool.Decides.{eqb_tells}
+use Rattle.std.proofs.lemmas.Option.{same_Some}
 use Rattle.xk_base.specs.declared.limits.TheConstants.{NOFILE, PIPE_BYTES}
 use Rattle.xk_base.specs.Words.{count_below}
 use Rattle.kernel_spec.specs.views.Words.{is_this}
@@ -23,14 +24,15 @@ use Rattle.kernel_spec.specs.rows.Tables.{ends}
 use Rattle.kernel_spec.specs.others.Quiet.{file_at, file_of, pipe_at, pipe_of_file, pipe_of_open, pipe_of_target, end_of, target_of_open}
 use Rattle.kernel_spec.specs.steps.Updates.{gone_state, orphans, orphan, given_to, fewer_on_all, freed_on_all, fewer_on, freed_on, fewer_at, freed_at}
 use Rattle.kernel_spec.specs.views.WellFormed.{WellFormed, HasParent, over_all, on, cost}
-use Rattle.kernel_spec.proofs.steps.Maps.{get_same, get_other}
-use Rattle.kernel_spec.proofs.steps.Counts.{hits, hits_at}
-use Rattle.kernel_spec.proofs.steps.Closes.{kept, fewer, get-fewer_on_all}
-use Rattle.kernel_spec.proofs.steps.Orphans.{get-orphans}
-use Rattle.kernel_spec.proofs.steps.Frame.{OtherNames}
+use Rattle.kernel_spec.proofs.steps.MapsAfterChange.{get_same, get_other}
+use Rattle.kernel_spec.proofs.steps.EndsAreCounted.{hits, hits_at}
+use Rattle.kernel_spec.proofs.steps.ClosingCountsDown.{kept, fewer, get-fewer_on_all}
+use Rattle.kernel_spec.proofs.steps.OrphansKeepKeys.{get-orphans}
+use Rattle.kernel_spec.proofs.steps.OthersTableIsSeen.{OtherNames}
 use Rattle.kernel_spec.proofs.well.Sums.{sum_change}
-use Rattle.kernel_spec.proofs.steps.Enough.{can_go}
-use Rattle.kernel_spec.proofs.steps.Gone.{CanGo}
+use Rattle.kernel_spec.proofs.steps.WellFormedIsEnough.{can_go}
+use Rattle.kernel_spec.proofs.steps.GoneIsItsRow.{CanGo}
+use Rattle.kernel_spec.proofs.Common.{the_value}
 
 -- ---- each pipe that is given up frees one frame
 
@@ -155,13 +157,15 @@ module _ (frames : ℕ) (s : State) (h : WellFormed frames s) (p : ℕ) (old : L
   counts_fall j end n e =
       let a : ℕ = over_all s (on s j end) in let b : ℕ = over_all after (on after j end) in let x : ℕ = ends (numbered s old) j end in
       let changed : a + on after j end (get after.processes p) ≡ b + on s j end (get s.processes p) =
-      sum_change s.next_pid p (λ q. on s j end (get s.processes q)) (λ q. on after j end (get after.processes q)) p_below (λ q apart. sym (ap (on after j end) (there q apart) ∙ weigh q j end apart (get s.processes q) refl)) in
+      sum_change s.next_pid p (λ q. on s j end (get s.processes q)) (λ q. on after j end (get after.processes q)) p_below
+      (λ q apart. sym (ap (on after j end) (there q apart) ∙ weigh q j end apart (get s.processes q) refl)) in
       let sum : a + 0 ≡ b + x = (λ i. a + ap (on after j end) (sym here) i) ∙ changed ∙ (λ i. b + ap (on s j end) was i) in
       let ne : n ≡ a = e in let goal : n - x ≡ b = omega arith in goal
 
   frames_stay : (s.free + price old.image + 1 + freed_on_all s old NOFILE s.pipes) + over_all after cost + len after.pipes ≡ frames
   frames_stay =
-      let a : ℕ = over_all s cost in let b : ℕ = over_all after cost in let x : ℕ = price old.image in let f : ℕ = freed_on_all s old NOFILE s.pipes in let n : ℕ = len s.pipes in let m : ℕ = len after.pipes in
+      let a : ℕ = over_all s cost in let b : ℕ = over_all after cost in let x : ℕ = price old.image in
+      let f : ℕ = freed_on_all s old NOFILE s.pipes in let n : ℕ = len s.pipes in let m : ℕ = len after.pipes in
       let changed : a + cost (get after.processes p) ≡ b + cost (get s.processes p) =
       sum_change s.next_pid p (λ q. cost (get s.processes q)) (λ q. cost (get after.processes q)) p_below (λ q apart. sym (ap cost (there q apart) ∙ by_option cost cost_given (get s.processes q))) in
       let sum : a + 0 ≡ b + (x + 1) = (λ i. a + ap cost (sym here) i) ∙ changed ∙ (λ i. b + ap cost was i) in
@@ -173,41 +177,25 @@ module _ (frames : ℕ) (s : State) (h : WellFormed frames s) (p : ℕ) (old : L
   pipe_before : (j : ℕ) (y : Pipe) → get after.pipes j ≡ Some y → (x : Pipe) × (get s.pipes j ≡ Some x) × (y ≡ fewer s old j x) × (is_given_up y ≡ false)
   pipe_before j y is = by (get s.pipes j) (sym (get-fewer_on_all s old can.pipes can.counts j) ∙ is)
     where
-      inside : (a b : Pipe) → Some a ≡ Some b → a ≡ b
-      inside a b e = cc
-
-      settle : (x : Pipe) (b : Bool) → is_given_up (fewer s old j x) ≡ b → cond b None (Some (fewer s old j x)) ≡ Some y → (z : Pipe) × (Some x ≡ Some z) × (y ≡ fewer s old j z) × (is_given_up y ≡ false)
+      settle : (x : Pipe) (b : Bool) → is_given_up (fewer s old j x) ≡ b → cond b None (Some (fewer s old j x)) ≡ Some y
+          → (z : Pipe) × (Some x ≡ Some z) × (y ≡ fewer s old j z) × (is_given_up y ≡ false)
       settle x true g e = let no : ⊥ = cc in absurd no
-      settle x false g e = let same : y ≡ fewer s old j x = sym (inside (fewer s old j x) y e) in (x, refl, same, ap is_given_up same ∙ g)
+      settle x false g e = let same : y ≡ fewer s old j x = sym (same_Some (fewer s old j x) y e) in (x, refl, same, ap is_given_up same ∙ g)
 
       by : (o : Option Pipe) → kept (option_map (fewer s old j) o) ≡ Some y → (x : Pipe) × (o ≡ Some x) × (y ≡ fewer s old j x) × (is_given_up y ≡ false)
       by None e = let no : ⊥ = cc in absurd no
       by (Some x) e = settle x (is_given_up (fewer s old j x)) refl e
 
-  some_of : {X : Type 0} (o : Option X) → IsSome o → (x : X) × (o ≡ Some x)
-  some_of None e = let no : ⊥ = cc in absurd no
-  some_of (Some x) e = (x, refl)
-
   end_stays : (g j : ℕ) (x : OpenFile) (end : End) → get files g ≡ Some x → x.target ≡ Pipe_end j end → IsSome (get after.pipes j)
   end_stays g j x end is target =
       let other = named_by g (ap is_some is) in
       let before : get s.files g ≡ Some x = sym (spared g other) ∙ is in
-      let pipe = some_of (get s.pipes j) (h.ends g j x end before target) in
+      let pipe = the_value (get s.pipes j) (h.ends g j x end before target) in
       let has : pipe_at s other.0 other.1 ≡ Some j = ap (pipe_of_file s) other.3 ∙ ap pipe_of_open before ∙ ap pipe_of_target target in
       ap is_some (get-fewer_on_all s old can.pipes can.counts j ∙ ap (λ (o : Option Pipe). kept (option_map (fewer s old j) o)) pipe.1
       ∙ ap (λ (b : Bool). cond b None (Some (fewer s old j pipe.0))) (can.held j pipe.0 (other.0, other.1, other.2, has) pipe.1))
 
   -- ---- parents
-
-  inside_number : (a b : ℕ) → Some a ≡ Some b → a ≡ b
-  inside_number a b e = cc
-
-  one_of : (a b : Process) → Some a ≡ Some b → a ≡ b
-  one_of a b e = cc
-
-  this_one : (n : ℕ) (o : Option ℕ) → is_this n o ≡ true → o ≡ Some n
-  this_one n None e = let no : ⊥ = cc in absurd no
-  this_one n (Some k) e = elim (eqb_tells k n) [ inl q ↦ ap Some q.1 | inr q ↦ let f : nat_eq k n ≡ false = q.0 in let g : nat_eq k n ≡ true = e in let no : ⊥ = cc in absurd no ]
 
   parent_given : (x : Process) → parent_of (given_to 1 x) ≡ Some 1
   parent_given (Alive l) = refl
@@ -235,7 +223,7 @@ module _ (frames : ℕ) (s : State) (h : WellFormed frames s) (p : ℕ) (old : L
   parents_stay : (q : ℕ) (x : Process) → get after.processes q ≡ Some x → (q ≡ 1) ⊎ HasParent after q x
   parents_stay q x is = elim (eqb_tells q p) [
     | inl same ↦
-        let z : x ≡ zombie = one_of x zombie (sym is ∙ ap (get after.processes) same.1 ∙ here) in
+        let z : x ≡ zombie = same_Some x zombie (sym is ∙ ap (get after.processes) same.1 ∙ here) in
         elim (h.parents p (Alive old) was) [
           | inl one ↦ inl (same.1 ∙ one)
           | inr has ↦ inr (record {
@@ -246,8 +234,8 @@ module _ (frames : ℕ) (s : State) (h : WellFormed frames s) (p : ℕ) (old : L
           })
         ]
     | inr apart ↦
-        let y = some_of (get s.processes q) (sym (some_there_other q apart.1) ∙ ap is_some is) in
-        let is_orphan : x ≡ orphan p y.0 = one_of x (orphan p y.0) (sym is ∙ there q apart.1 ∙ ap (option_map (orphan p)) y.1) in
+        let y = the_value (get s.processes q) (sym (some_there_other q apart.1) ∙ ap is_some is) in
+        let is_orphan : x ≡ orphan p y.0 = same_Some x (orphan p y.0) (sym is ∙ there q apart.1 ∙ ap (option_map (orphan p)) y.1) in
         subst (λ (z : Process). (q ≡ 1) ⊎ HasParent after q z) (sym is_orphan) (orphan_parent q y.0 apart.1 (h.parents q y.0 y.1) (is_this p (parent_of y.0)) refl)
   ]
     where
@@ -256,7 +244,7 @@ module _ (frames : ℕ) (s : State) (h : WellFormed frames s) (p : ℕ) (old : L
 
   first_stays : (q : ℕ) → IsSome (get after.processes q) → (x : Process) × (get after.processes 1 ≡ Some x) × (parent_of x ≡ None)
   first_stays q alive = let f = h.first p (ap is_some was) in elim (eqb_tells 1 p) [
-    | inl e ↦ (zombie, ap (get after.processes) e.1 ∙ here, ap parent_of (one_of (Alive old) f.0 (sym was ∙ sym (ap (get s.processes) e.1) ∙ f.1)) ∙ f.2)
+    | inl e ↦ (zombie, ap (get after.processes) e.1 ∙ here, ap parent_of (same_Some (Alive old) f.0 (sym was ∙ sym (ap (get s.processes) e.1) ∙ f.1)) ∙ f.2)
     | inr e ↦
         let stays : orphan p f.0 ≡ f.0 = ap (λ (o : Option ℕ). cond (is_this p o) (given_to 1 f.0) f.0) f.2 in
         (f.0, there 1 e.1 ∙ ap (option_map (orphan p)) f.1 ∙ ap Some stays, f.2)

@@ -3,6 +3,7 @@ use Rattle.std.proofs.Common.{◌≡◌, ◌≢◌, ℕ, ◌≤◌, ◌+◌, Boo
 use Rattle.std.specs.Prelude.{Option, None, Some, option_map, is_some, IsSome}
 use Rattle.std.specs.FinMap.{get, len}
 use Rattle.std.proofs.lemmas.Bool.Decides.{eqb_tells}
+use Rattle.std.proofs.lemmas.Option.{same_Some}
 use Rattle.xk_base.specs.declared.limits.TheConstants.{CONSOLE_BYTES, SEND_BYTES}
 use Rattle.rv64i_core.specs.Registers.{Registers}
 use Rattle.xk_base.specs.Image.{Image, price}
@@ -15,10 +16,12 @@ use Rattle.kernel_spec.specs.views.State.{State, live, live_part}
 use Rattle.kernel_spec.specs.others.Quiet.{file_at, file_of}
 use Rattle.kernel_spec.specs.steps.Updates.{changed_state}
 use Rattle.kernel_spec.specs.views.WellFormed.{WellFormed, HasParent, over_all, on, cost}
-use Rattle.kernel_spec.proofs.steps.Maps.{get_same, get_other}
+use Rattle.kernel_spec.proofs.steps.MapsAfterChange.{get_same, get_other}
 use Rattle.kernel_spec.proofs.well.Sums.{sum_same, sum_change}
+use Rattle.kernel_spec.proofs.Common.{the_value}
 
-module _ (frames : ℕ) (s : State) (h : WellFormed frames s) (p : ℕ) (old : Live) (was : get s.processes p ≡ Some (Alive old)) (r : Registers) (i : Image) (c : Option Call) (k : Bool) (console : Console) (free : ℕ) where
+module _ (frames : ℕ) (s : State) (h : WellFormed frames s) (p : ℕ) (old : Live) (was : get s.processes p ≡ Some (Alive old)) (r : Registers)
+    (i : Image) (c : Option Call) (k : Bool) (console : Console) (free : ℕ) where
   abbrev new : Live
   new = record old { regs = r; image = i; call = c; killed = k }
 
@@ -51,19 +54,12 @@ module _ (frames : ℕ) (s : State) (h : WellFormed frames s) (p : ℕ) (old : L
   same_file : (q d : ℕ) → file_at after q d ≡ file_at s q d
   same_file q d = same_of (λ (o : Option Process). file_of (live_part o) d) refl q
 
-  some_of : (o : Option Process) → IsSome o → (x : Process) × (o ≡ Some x)
-  some_of None e = let no : ⊥ = cc in absurd no
-  some_of (Some x) e = (x, refl)
-
   -- the process of this pid before the step
   before : (q : ℕ) (x : Process) → get after.processes q ≡ Some x → (y : Process) × (get s.processes q ≡ Some y) × (parent_of x ≡ parent_of y)
   before q x is =
-      let y = some_of (get s.processes q) (sym (some_there q) ∙ ap is_some is) in
+      let y = the_value (get s.processes q) (sym (some_there q) ∙ ap is_some is) in
       let parents : Some (parent_of x) ≡ Some (parent_of y.0) = sym (ap parent_at is) ∙ same_of parent_at refl q ∙ ap parent_at y.1 in
-      (y.0, y.1, inside (parent_of x) (parent_of y.0) parents)
-    where
-      inside : (a b : Option ℕ) → Some a ≡ Some b → a ≡ b
-      inside a b e = cc
+      (y.0, y.1, same_Some (parent_of x) (parent_of y.0) parents)
 
   pub parents_stay : (q : ℕ) (x : Process) → get after.processes q ≡ Some x → (q ≡ 1) ⊎ HasParent after q x
   parents_stay q x is =
@@ -81,19 +77,17 @@ module _ (frames : ℕ) (s : State) (h : WellFormed frames s) (p : ℕ) (old : L
   first_stays : (q : ℕ) → IsSome (get after.processes q) → (x : Process) × (get after.processes 1 ≡ Some x) × (parent_of x ≡ None)
   first_stays q alive =
       let f = h.first p (ap is_some was) in
-      let x = some_of (get after.processes 1) (some_there 1 ∙ ap is_some f.1) in
+      let x = the_value (get after.processes 1) (some_there 1 ∙ ap is_some f.1) in
       let y = before 1 x.0 x.1 in
-      let same : y.0 ≡ f.0 = one_of y.0 f.0 (sym y.1 ∙ f.1) in
+      let same : y.0 ≡ f.0 = same_Some y.0 f.0 (sym y.1 ∙ f.1) in
       (x.0, x.1, y.2 ∙ ap parent_of same ∙ f.2)
-    where
-      one_of : (a b : Process) → Some a ≡ Some b → a ≡ b
-      one_of a b e = cc
 
   counts_stay : (j : ℕ) (end : End) → over_all after (on after j end) ≡ over_all s (on s j end)
   counts_stay j end = sum_same s.next_pid (λ q. on after j end (get after.processes q)) (λ q. on s j end (get s.processes q)) (λ q b. same_of (on s j end) refl q)
 
   -- the frames that the image takes come from the free ones
-  module _ (paid : free + (price i + 1) ≡ s.free + (price old.image + 1)) (keys : length console.committed + length console.uncommitted ≤ CONSOLE_BYTES) (to_send : length console.to_send ≤ SEND_BYTES) where
+  module _ (paid : free + (price i + 1) ≡ s.free + (price old.image + 1))
+      (keys : length console.committed + length console.uncommitted ≤ CONSOLE_BYTES) (to_send : length console.to_send ≤ SEND_BYTES) where
     frames_stay : free + over_all after cost + len s.pipes ≡ frames
     frames_stay =
         let a : ℕ = over_all s cost in let b : ℕ = over_all after cost in let n : ℕ = len s.pipes in

@@ -1,6 +1,6 @@
 -- A wait that takes a zombie leaves a well-formed state well-formed: first the process changes itself (`alone_well`), then the zombie goes.
 use Rattle.std.proofs.Common.{◌≡◌, ◌≢◌, ℕ, ◌+◌, Bool, cond, refl, ap, sym, ◌∙◌, inl, inr, ◌⊎◌}
-use Rattle.std.specs.Prelude.{Option, None, Some, ℤ, option_map, is_some, IsSome}
+use Rattle.std.specs.Prelude.{Option, None, Some, ℤ, option_map, is_some}
 use Rattle.std.specs.FinMap.{get, len}
 use Rattle.std.proofs.lemmas.Bool.{eq-eqb}
 use Rattle.std.proofs.lemmas.Bool.Decides.{eqb_tells}
@@ -11,8 +11,9 @@ use Rattle.kernel_spec.specs.views.State.{State, live, live_part}
 use Rattle.kernel_spec.specs.others.Quiet.{file_at, file_of}
 use Rattle.kernel_spec.specs.steps.Updates.{remove_zombie}
 use Rattle.kernel_spec.specs.views.WellFormed.{WellFormed, HasParent, over_all, on, cost}
-use Rattle.kernel_spec.proofs.steps.Maps.{get_without}
+use Rattle.kernel_spec.proofs.steps.MapsAfterChange.{get_without}
 use Rattle.kernel_spec.proofs.well.Sums.{sum_same}
+use Rattle.kernel_spec.proofs.Common.{the_value}
 
 module _ (frames : ℕ) (s : State) (h : WellFormed frames s) (q p : ℕ) (status : ℤ) (zombie : get s.processes q ≡ Some (Zombie (Some p) status)) where
   abbrev after : State
@@ -36,10 +37,6 @@ module _ (frames : ℕ) (s : State) (h : WellFormed frames s) (q p : ℕ) (statu
 
   before : (r : ℕ) (x : Process) → get after.processes r ≡ Some x → get s.processes r ≡ Some x
   before r x is = sym (there r (not_there r x is)) ∙ is
-
-  some_of : (o : Option Process) → IsSome o → (x : Process) × (o ≡ Some x)
-  some_of None e = let no : ⊥ = cc in absurd no
-  some_of (Some x) e = (x, refl)
 
   live_there : (r : ℕ) → is_some (live after r) ≡ is_some (live s r)
   live_there r = same_of (λ (o : Option Process). is_some (live_part o)) refl r
@@ -69,7 +66,7 @@ module _ (frames : ℕ) (s : State) (h : WellFormed frames s) (q p : ℕ) (statu
 
   pub reaped_well : WellFormed frames after
   reaped_well = record {
-    pids = λ r e. let x = some_of (get after.processes r) e in h.pids r (ap is_some (before r x.0 x.1));
+    pids = λ r e. let x = the_value (get after.processes r) e in h.pids r (ap is_some (before r x.0 x.1));
     first = λ r e. let f = h.first q (ap is_some zombie) in (f.0, there 1 one_stays ∙ f.1, f.2);
     parents = parents_stay;
     descriptors = λ r d f e. h.descriptors r d f (sym (same_file r d) ∙ e);

@@ -1,11 +1,12 @@
 -- Close and pipe keep a state well-formed.
-use Rattle.std.proofs.Common.{◌≡◌, ◌≢◌, ℕ, zero, suc, ◌<◌, ◌≤◌, ◌+◌, ◌-◌, Bool, true, false, cond, ◌&&◌, List, refl, ap, sym, ◌∙◌, subst, arith, inl, inr, ◌⊎◌, length}
+use Rattle.std.proofs.Common.{◌≡◌, ◌≢◌, ℕ, ◌<◌, ◌≤◌, ◌+◌, ◌-◌, Bool, true, false, cond, ◌&&◌, List, refl, ap, sym, ◌∙◌, subst, arith, inl, inr, ◌⊎◌, length}
 use Rattle.std.specs.Prelude.{Option, None, Some, is_some, nat_eq, IsSome}
 use Rattle.std.specs.FinMap.{FinMap, get, insert, remove, len, len-insert}
 use Rattle.std.specs.Ordering.{nat_cmp}
 use Rattle.std.specs.Cmp.{nat_cmp_total}
 use Rattle.std.proofs.lemmas.Bool.{eq-eqb}
 use Rattle.std.proofs.lemmas.Bool.Decides.{eqb_tells}
+use Rattle.std.proofs.lemmas.Option.{same_Some}
 use Rattle.xk_base.specs.declared.limits.TheConstants.{NOFILE, PIPE_BYTES}
 use Rattle.xk_base.specs.Words.{count_below}
 use Rattle.xk_base.specs.Image.{price}
@@ -20,14 +21,15 @@ use Rattle.kernel_spec.specs.views.State.{State, live_part}
 use Rattle.kernel_spec.specs.rows.Tables.{is_end}
 use Rattle.kernel_spec.specs.others.Quiet.{file_at, file_of, pipe_of_target, pipe_of_file, pipe_of_open, end_of, target_of_open}
 use Rattle.kernel_spec.specs.steps.Updates.{changed_state, settled}
-use Rattle.kernel_spec.specs.views.WellFormed.{WellFormed, over_all, on, sum_below}
+use Rattle.kernel_spec.specs.views.WellFormed.{WellFormed, over_all, on}
 use Rattle.kernel_spec.specs.laws.RowLaws.{HasTable, NobodyNames, NobodyHas, OnPipe, FilesLeft, WellClosed, WellClosedPipe, WellMadePipe}
-use Rattle.kernel_spec.proofs.steps.Maps.{get_same, get_other, get_without}
-use Rattle.kernel_spec.proofs.steps.Counts.{hits, one, among_nobody}
+use Rattle.kernel_spec.proofs.steps.MapsAfterChange.{get_same, get_other, get_without}
+use Rattle.kernel_spec.proofs.steps.EndsAreCounted.{hits, one, among_nobody}
 use Rattle.kernel_spec.proofs.well.WellTable.{hits_of, count_put, count_take, count_files, total, table_well}
-use Rattle.kernel_spec.proofs.well.WellOpens.{no_hit, now, others, mine_then, mine_now, still_named, used_apart, some_file, some_pipe}
+use Rattle.kernel_spec.proofs.well.WellOpens.{no_hit, now, others, mine_then, mine_now, still_named, used_apart}
 use Rattle.kernel_spec.proofs.well.GoneWell.{settled_len}
-use Rattle.kernel_spec.proofs.steps.Descriptors as descriptors
+use Rattle.kernel_spec.proofs.steps.DupCloseLawsHold as descriptors
+use Rattle.kernel_spec.proofs.Common.{sum_below-zero}
 
 module _ (frames : ℕ) (s : State) (p : ℕ) (l m : Live) (k f : ℕ) (x : OpenFile) (files : FinMap nat_cmp OpenFile) (pipes : FinMap nat_cmp Pipe) (freed : ℕ) (h : WellFormed frames s)
     (was : get s.processes p ≡ Some (Alive l)) (below : k < NOFILE) (used : get l.descriptors k ≡ Some f) (opened : get s.files f ≡ Some x) (table : HasTable l m (remove l.descriptors k))
@@ -66,12 +68,14 @@ module _ (frames : ℕ) (s : State) (p : ℕ) (l m : Live) (k f : ℕ) (x : Open
       let ww : w0 ≡ w = ap (λ (o : Option OpenFile). one (hits i end (target_of_open o))) opened in
       let c1 : x0 ≡ z0 = count_files s shut m.descriptors i end my_file ∙ ap (λ (ds : FinMap nat_cmp ℕ). count_below (hits_of s ds i end) NOFILE) table.2 in
       let c2 : z0 + w0 ≡ y0 = count_take s l.descriptors k f i end below used in
-      let e : a + w ≡ b + 0 = total frames s shut h p l m was (now s p l m was files pipes (s.free + freed)) (others s p l m was files pipes (s.free + freed)) table.0 refl other_file i end 0 w (let g : x0 + w ≡ y0 + 0 = omega arith in g) in
+      let e : a + w ≡ b + 0 = total frames s shut h p l m was (now s p l m was files pipes (s.free + freed))
+      (others s p l m was files pipes (s.free + freed)) table.0 refl other_file i end 0 w (let g : x0 + w ≡ y0 + 0 = omega arith in g) in
       let goal : a + w ≡ b = omega arith in goal
 
   module _ (ends_there : (g i : ℕ) (y : OpenFile) (end : End) → get files g ≡ Some y → y.target ≡ Pipe_end i end → IsSome (get pipes i))
       (many : len pipes + freed ≡ len s.pipes)
-      (readers : (i : ℕ) (z : Pipe) → get pipes i ≡ Some z → z.readers ≡ over_all shut (on shut i Reading)) (writers : (i : ℕ) (z : Pipe) → get pipes i ≡ Some z → z.writers ≡ over_all shut (on shut i Writing))
+      (readers : (i : ℕ) (z : Pipe) → get pipes i ≡ Some z → z.readers ≡ over_all shut (on shut i Reading))
+      (writers : (i : ℕ) (z : Pipe) → get pipes i ≡ Some z → z.writers ≡ over_all shut (on shut i Writing))
       (held : (i : ℕ) (z : Pipe) → get pipes i ≡ Some z → is_given_up z ≡ false) (bytes : (i : ℕ) (z : Pipe) → get pipes i ≡ Some z → length z.bytes ≤ PIPE_BYTES) where
     paid : s.free + freed + (price m.image + 1) + len pipes ≡ s.free + (price l.image + 1) + len s.pipes
     paid =
@@ -138,7 +142,7 @@ module _ (frames : ℕ) (s : State) (p : ℕ) (l m : Live) (k i n : ℕ) (end : 
       where
         by : (b : Bool) → is_given_up y ≡ b → get (cond b (remove s.pipes i) (insert s.pipes i y)) i ≡ Some z → (y ≡ z) × (is_given_up y ≡ false)
         by true g a = let none : None ≡ Some z = sym (get_without s.pipes i i ∙ ap (λ (b : Bool). cond b None (get s.pipes i)) (eq-eqb i i refl)) ∙ a in let no : ⊥ = cc in absurd no
-        by false g a = (some_pipe y z (sym (get_same s.pipes i y) ∙ a), g)
+        by false g a = (same_Some y z (sym (get_same s.pipes i y) ∙ a), g)
 
     which : (q : ℕ) (z : Pipe) → get fewer_pipes q ≡ Some z → ((q ≡ i) × (y ≡ z) × (is_given_up y ≡ false)) ⊎ ((q ≢ i) × (get s.pipes q ≡ Some z))
     which q z e = elim (eqb_tells q i) [
@@ -147,7 +151,9 @@ module _ (frames : ℕ) (s : State) (p : ℕ) (l m : Live) (k i n : ℕ) (end : 
     ]
 
     fewer_count : (q : ℕ) (e : End) → over_all t (on t q e) + one (nat_eq i q && is_end e end) ≡ over_all s (on s q e)
-    fewer_count q e = one_fewer frames s p l m k on_it.file (record { read = on_it.read; write = on_it.write; target = Pipe_end i end }) files fewer_pipes freed h on_it.was on_it.below on_it.named_file on_it.opened table left q e
+    fewer_count q e = one_fewer frames s p l m k on_it.file
+        (record { read = on_it.read; write = on_it.write; target = Pipe_end i end }) files fewer_pipes freed h on_it.was on_it.below on_it.named_file
+        on_it.opened table left q e
 
     other_count : (q : ℕ) (e : End) → q ≢ i → over_all s (on s q e) ≡ over_all t (on t q e)
     other_count q e ne =
@@ -202,18 +208,29 @@ module _ (frames : ℕ) (s : State) (p : ℕ) (l m : Live) (k i n : ℕ) (end : 
               let held : is_given_up y ≡ false = elim (eqb_tells who.0 p) [
                 | inl me ↦
                     let named : get m.descriptors who.1 ≡ Some g = sym (mine_now s p l m on_it.was files fewer_pipes (s.free + freed) who.1) ∙ ap (λ (r : ℕ). file_at t r who.1) (sym me.1) ∙ who.2 in
-                    let old : get l.descriptors who.1 ≡ Some g = mine_old frames s p l m k on_it.file (record { read = on_it.read; write = on_it.write; target = Pipe_end i end }) files fewer_pipes freed h on_it.was on_it.below on_it.named_file on_it.opened table left who.1 g named in
-                    descriptors.held_by_own frames s p l k i n end x on_it h who.1 (not_k frames s p l m k on_it.file (record { read = on_it.read; write = on_it.write; target = Pipe_end i end }) files fewer_pipes freed h on_it.was on_it.below on_it.named_file on_it.opened table left who.1 g named)
+                    let old : get l.descriptors who.1 ≡ Some g =
+                    mine_old frames s p l m k on_it.file (record { read = on_it.read; write = on_it.write; target = Pipe_end i end }) files
+                    fewer_pipes freed h on_it.was on_it.below on_it.named_file on_it.opened table left who.1 g named in
+                    descriptors.held_by_own frames s p l k i n end x on_it h who.1
+                    (not_k frames s p l m k on_it.file (record { read = on_it.read; write = on_it.write; target = Pipe_end i end }) files
+                    fewer_pipes freed h on_it.was on_it.below on_it.named_file on_it.opened table left who.1 g named)
                     (ap (pipe_of_file s) old ∙ on_q ∙ ap Some same.1)
-                | inr else ↦ descriptors.held_by_others frames s p l k i n end x on_it h
-                    (who.0, who.1, else.1, ap (pipe_of_file s) (sym (ap (λ (o : Option Live). file_of o who.1) (ap live_part (others s p l m on_it.was files fewer_pipes (s.free + freed) who.0 else.1))) ∙ who.2) ∙ on_q ∙ ap Some same.1)
+                | inr else ↦ descriptors.held_by_others frames s p l k i n end x on_it h (
+                  who.0,
+                  who.1,
+                  else.1,
+                  ap (pipe_of_file s) (sym
+                      (ap (λ (o : Option Live). file_of o who.1) (ap live_part
+                      (others s p l m on_it.was files fewer_pipes (s.free + freed) who.0 else.1))) ∙ who.2) ∙ on_q ∙ ap Some same.1,
+                )
               ] in
               ap is_some (ap (get fewer_pipes) same.1 ∙ here_pipe held)
         ]
 
     pub closed_pipe_well : WellFormed frames t
     closed_pipe_well =
-        shut_well frames s p l m k on_it.file (record { read = on_it.read; write = on_it.write; target = Pipe_end i end }) files fewer_pipes freed h on_it.was on_it.below on_it.named_file on_it.opened table left
+        shut_well frames s p l m k on_it.file (record { read = on_it.read; write = on_it.write; target = Pipe_end i end }) files fewer_pipes freed h
+        on_it.was on_it.below on_it.named_file on_it.opened table left
         its_end
         (settled_len i y x s.pipes on_it.pipe (is_given_up y))
         (λ q z e. elim (which q z e) [
@@ -225,27 +242,25 @@ module _ (frames : ℕ) (s : State) (p : ℕ) (l m : Live) (k i n : ℕ) (end : 
           | inr old ↦ h.writers q z old.1 ∙ other_count q Writing old.0
         ])
         (λ q z e. elim (which q z e) [ inl new ↦ ap is_given_up (sym new.1) ∙ new.2 | inr old ↦ h.held q z old.1 ])
-        (λ q z e. elim (which q z e) [ inl new ↦ subst (λ (w : Pipe). length w.bytes ≤ PIPE_BYTES) new.1 (subst (λ (b : List ℕ). length b ≤ PIPE_BYTES) (sym (parted_bytes end)) (h.pipe_bytes i x on_it.pipe)) | inr old ↦ h.pipe_bytes q z old.1 ])
+        (λ q z e. elim (which q z e) [
+          | inl new ↦ subst (λ (w : Pipe). length w.bytes ≤ PIPE_BYTES) new.1
+              (subst (λ (b : List ℕ). length b ≤ PIPE_BYTES) (sym (parted_bytes end)) (h.pipe_bytes i x on_it.pipe))
+          | inr old ↦ h.pipe_bytes q z old.1
+        ])
 
 pub well_closed_pipe : WellClosedPipe
 well_closed_pipe frames s p l m k i n end x files on_it h table left = closed_pipe_well frames s p l m k i n end x files on_it h table left
 
 -- ---- pipe
 
-sum_zero : (n : ℕ) (f : ℕ → ℕ) → ((q : ℕ) → q < n → f q ≡ 0) → sum_below n f ≡ 0
-unfolding sum_below
-sum_zero zero f z = refl
-sum_zero (suc n) f z =
-    let a : ℕ = sum_below n f in let b : ℕ = f n in
-    let x : a ≡ 0 = sum_zero n f (λ q low. z q (omega arith)) in let y : b ≡ 0 = z n (omega arith) in
-    let goal : a + b ≡ 0 = omega arith in goal
-
 new_pipe_is : (new_pipe.readers ≡ 1) × (new_pipe.writers ≡ 1) × (is_given_up new_pipe ≡ false) × (length new_pipe.bytes ≤ PIPE_BYTES)
 unfolding new_pipe
 new_pipe_is = (refl, refl, refl, (omega arith))
 
-module _ (frames : ℕ) (s : State) (p : ℕ) (l m : Live) (r w f g i : ℕ) (h : WellFormed frames s) (was : get s.processes p ≡ Some (Alive l)) (below_r : r < NOFILE) (below_w : w < NOFILE) (distinct : r ≢ w) (distinct_files : f ≢ g)
-    (unused_r : get l.descriptors r ≡ None) (unused_w : get l.descriptors w ≡ None) (nobody_f : NobodyNames s f) (nobody_g : NobodyNames s g) (nobody_i : NobodyHas s i) (absent : get s.pipes i ≡ None) (room : 0 < s.free)
+module _ (frames : ℕ) (s : State) (p : ℕ) (l m : Live) (r w f g i : ℕ) (h : WellFormed frames s) (was : get s.processes p ≡ Some (Alive l))
+    (below_r : r < NOFILE) (below_w : w < NOFILE) (distinct : r ≢ w) (distinct_files : f ≢ g)
+    (unused_r : get l.descriptors r ≡ None) (unused_w : get l.descriptors w ≡ None) (nobody_f : NobodyNames s f) (nobody_g : NobodyNames s g)
+    (nobody_i : NobodyHas s i) (absent : get s.pipes i ≡ None) (room : 0 < s.free)
     (table : HasTable l m (insert (insert l.descriptors r f) w g)) where
   abbrev reading : OpenFile
   reading = record { read = true; write = false; target = Pipe_end i Reading }
@@ -280,10 +295,12 @@ module _ (frames : ℕ) (s : State) (p : ℕ) (l m : Live) (r w f g i : ℕ) (h 
   kept_file : (q d n : ℕ) → file_at s q d ≡ Some n → get two_more n ≡ get s.files n
   kept_file q d n a = old_file n (λ e. nobody_f q d (a ∙ ap Some e)) (λ e. nobody_g q d (a ∙ ap Some e))
 
-  two_counted : (j : ℕ) (end : End) → count_below (hits_of made m.descriptors j end) NOFILE ≡ count_below (hits_of s l.descriptors j end) NOFILE + (one (nat_eq i j && is_end end Reading) + one (nat_eq i j && is_end end Writing))
+  two_counted : (j : ℕ) (end : End) → count_below (hits_of made m.descriptors j end) NOFILE ≡ count_below (hits_of s l.descriptors j end) NOFILE +
+      (one (nat_eq i j && is_end end Reading) + one (nat_eq i j && is_end end Writing))
   two_counted j end =
       let a : ℕ = count_below (hits_of made m.descriptors j end) NOFILE in let b : ℕ = count_below (hits_of s l.descriptors j end) NOFILE in
-      let a1 : ℕ = count_below (hits_of made (insert one_named w g) j end) NOFILE in let c : ℕ = count_below (hits_of made one_named j end) NOFILE in let d : ℕ = count_below (hits_of made l.descriptors j end) NOFILE in
+      let a1 : ℕ = count_below (hits_of made (insert one_named w g) j end) NOFILE in let c : ℕ = count_below (hits_of made one_named j end) NOFILE in
+      let d : ℕ = count_below (hits_of made l.descriptors j end) NOFILE in
       let x : ℕ = one (nat_eq i j && is_end end Reading) in let y : ℕ = one (nat_eq i j && is_end end Writing) in
       let x0 : ℕ = one (hits j end (end_of made (Some f))) in let y0 : ℕ = one (hits j end (end_of made (Some g))) in
       let e0 : a ≡ a1 = ap (λ (ds : FinMap nat_cmp ℕ). count_below (hits_of made ds j end) NOFILE) table.2 in
@@ -300,11 +317,13 @@ module _ (frames : ℕ) (s : State) (p : ℕ) (l m : Live) (r w f g i : ℕ) (h 
       let k : ℕ = one (nat_eq i j && is_end end Reading) + one (nat_eq i j && is_end end Writing) in
       let x0 : ℕ = count_below (hits_of made m.descriptors j end) NOFILE in let y0 : ℕ = count_below (hits_of s l.descriptors j end) NOFILE in
       let c : x0 ≡ y0 + k = two_counted j end in
-      let e : a + 0 ≡ b + k = total frames s made h p l m was (now s p l m was two_more pipes_more (s.free - 1)) (others s p l m was two_more pipes_more (s.free - 1)) table.0 refl (λ q d n apart z. kept_file q d n z) j end k 0 (let q : x0 + 0 ≡ y0 + k = omega arith in q) in
+      let e : a + 0 ≡ b + k = total frames s made h p l m was (now s p l m was two_more pipes_more (s.free - 1))
+      (others s p l m was two_more pipes_more (s.free - 1)) table.0 refl (λ q d n apart z. kept_file q d n z) j end k 0
+      (let q : x0 + 0 ≡ y0 + k = omega arith in q) in
       let goal : a ≡ b + k = omega arith in goal
 
   nobody_on : (end : End) → over_all s (on s i end) ≡ 0
-  nobody_on end = sum_zero s.next_pid (λ q. on s i end (get s.processes q)) (λ q low. by q (get s.processes q) refl)
+  nobody_on end = sum_below-zero s.next_pid (λ q. on s i end (get s.processes q)) (λ q low. by q (get s.processes q) refl)
     where
       by : (q : ℕ) (o : Option Process) → get s.processes q ≡ o → on s i end o ≡ 0
       by q None e = refl
@@ -334,7 +353,7 @@ module _ (frames : ℕ) (s : State) (p : ℕ) (l m : Live) (r w f g i : ℕ) (h 
 
   which_pipe : (j : ℕ) (z : Pipe) → get pipes_more j ≡ Some z → ((j ≡ i) × (new_pipe ≡ z)) ⊎ ((j ≢ i) × (get s.pipes j ≡ Some z))
   which_pipe j z e = elim (eqb_tells j i) [
-    | inl a ↦ inl (a.1, some_pipe new_pipe z (sym (get_same s.pipes i new_pipe) ∙ ap (get pipes_more) (sym a.1) ∙ e))
+    | inl a ↦ inl (a.1, same_Some new_pipe z (sym (get_same s.pipes i new_pipe) ∙ ap (get pipes_more) (sym a.1) ∙ e))
     | inr a ↦ inr (a.1, sym (get_other s.pipes i new_pipe j a.1) ∙ e)
   ]
 
@@ -352,15 +371,12 @@ module _ (frames : ℕ) (s : State) (p : ℕ) (l m : Live) (r w f g i : ℕ) (h 
 
   made_ends : (n j : ℕ) (z : OpenFile) (e : End) → get two_more n ≡ Some z → z.target ≡ Pipe_end j e → IsSome (get pipes_more j)
   made_ends n j z e a b = elim (eqb_tells n g) [
-    | inl q ↦ new_there j z e e writing (some_file writing z (sym file_g ∙ ap (get two_more) (sym q.1) ∙ a)) refl b
+    | inl q ↦ new_there j z e e writing (same_Some writing z (sym file_g ∙ ap (get two_more) (sym q.1) ∙ a)) refl b
     | inr q ↦ elim (eqb_tells n f) [
-      | inl t ↦ new_there j z e e reading (some_file reading z (sym file_f ∙ ap (get two_more) (sym t.1) ∙ a)) refl b
+      | inl t ↦ new_there j z e e reading (same_Some reading z (sym file_f ∙ ap (get two_more) (sym t.1) ∙ a)) refl b
       | inr t ↦ pipe_there_after j (h.ends n j z e (sym (old_file n t.1 q.1) ∙ a) b)
     ]
   ]
-
-  inside : (a b : ℕ) → Some a ≡ Some b → a ≡ b
-  inside a b e = cc
 
   at_w : get m.descriptors w ≡ Some g
   at_w = at_two w ∙ get_same one_named w g
@@ -373,9 +389,9 @@ module _ (frames : ℕ) (s : State) (p : ℕ) (l m : Live) (r w f g i : ℕ) (h 
 
   made_in : (d n : ℕ) → get m.descriptors d ≡ Some n → (d < NOFILE) × IsSome (get two_more n)
   made_in d n a = elim (eqb_tells d w) [
-    | inl e ↦ (subst (λ (z : ℕ). z < NOFILE) (sym e.1) below_w, ap is_some (ap (get two_more) (inside n g (sym a ∙ ap (get m.descriptors) e.1 ∙ at_w)) ∙ file_g))
+    | inl e ↦ (subst (λ (z : ℕ). z < NOFILE) (sym e.1) below_w, ap is_some (ap (get two_more) (same_Some n g (sym a ∙ ap (get m.descriptors) e.1 ∙ at_w)) ∙ file_g))
     | inr e ↦ elim (eqb_tells d r) [
-      | inl t ↦ (subst (λ (z : ℕ). z < NOFILE) (sym t.1) below_r, ap is_some (ap (get two_more) (inside n f (sym a ∙ ap (get m.descriptors) t.1 ∙ at_r)) ∙ file_f))
+      | inl t ↦ (subst (λ (z : ℕ). z < NOFILE) (sym t.1) below_r, ap is_some (ap (get two_more) (same_Some n f (sym a ∙ ap (get m.descriptors) t.1 ∙ at_r)) ∙ file_f))
       | inr t ↦
           let old : file_at s p d ≡ Some n = mine_then s p l m was two_more pipes_more (s.free - 1) d ∙ sym (elsewhere d t.1 e.1) ∙ a in
           let q = h.descriptors p d n old in (q.0, ap is_some (kept_file p d n old) ∙ q.1)
@@ -388,8 +404,12 @@ module _ (frames : ℕ) (s : State) (p : ℕ) (l m : Live) (r w f g i : ℕ) (h 
     | inr e ↦ elim (eqb_tells n f) [
       | inl t ↦ (p, r, mine_now s p l m was two_more pipes_more (s.free - 1) r ∙ at_r ∙ ap Some (sym t.1))
       | inr t ↦
-          let q = h.named n (ap is_some (sym (old_file n t.1 e.1)) ∙ there) in
-          (q.0, q.1, still_named s p l m was two_more pipes_more (s.free - 1) q.0 q.1 n q.2 (λ a. elsewhere q.1 (used_apart l.descriptors q.1 r n unused_r a) (used_apart l.descriptors q.1 w n unused_w a) ∙ a))
+          let q = h.named n (ap is_some (sym (old_file n t.1 e.1)) ∙ there) in (
+            q.0,
+            q.1,
+            still_named s p l m was two_more pipes_more (s.free - 1) q.0 q.1 n q.2
+                (λ a. elsewhere q.1 (used_apart l.descriptors q.1 r n unused_r a) (used_apart l.descriptors q.1 w n unused_w a) ∙ a),
+          )
     ]
   ]
 
@@ -400,7 +420,8 @@ module _ (frames : ℕ) (s : State) (p : ℕ) (l m : Live) (r w f g i : ℕ) (h 
       let goal : a - 1 + (b + 1) + d ≡ a + (c + 1) + e = omega arith in goal
 
   pub made_well : WellFormed frames made
-  made_well = table_well frames s made h p l m was (now s p l m was two_more pipes_more (s.free - 1)) (others s p l m was two_more pipes_more (s.free - 1)) table.0 refl (λ q d n apart z. kept_file q d n z)
+  made_well = table_well frames s made h p l m was (now s p l m was two_more pipes_more (s.free - 1))
+      (others s p l m was two_more pipes_more (s.free - 1)) table.0 refl (λ q d n apart z. kept_file q d n z)
       made_in made_ends made_named
       (λ j z e. elim (which_pipe j z e) [
         | inl new ↦ ap (λ (v : Pipe). v.readers) (sym new.1) ∙ new_pipe_is.0 ∙ new_count Reading ∙ ap (λ (c : ℕ). over_all made (on made c Reading)) (sym new.0)

@@ -13,7 +13,7 @@ use Rattle.file_table.specs.declared.open_file.OpenFile.{OpenFile}
 use Rattle.kernel_spec.specs.views.Processes.{Process, Alive, Live, Zombie}
 use Rattle.kernel_spec.specs.views.State.{State}
 use Rattle.kernel_spec.specs.others.Quiet.{file_at}
-use Rattle.kernel_spec.proofs.steps.Frame.{OtherNames}
+use Rattle.kernel_spec.proofs.steps.OthersTableIsSeen.{OtherNames}
 use Rattle.kernel_spec.specs.steps.Updates.{gone_state}
 use Rattle.kernel_spec.specs.views.WellFormed.{WellFormed, on}
 use Rattle.file_table.specs.declared.open_file.End.{End}
@@ -24,12 +24,12 @@ use Rattle.kernel_spec.specs.laws.RowLaws.{WellOutside, WellForked, WellGone, We
 use Rattle.xk_base.specs.Gathered.{insert_some}
 use Rattle.rv64i_core.specs.Memory.{written}
 use Rattle.rv64i_core.specs.UserImage.{with_store, written_page, write_pages}
-use Rattle.kernel_spec.proofs.steps.Maps.{get_same, get_other}
+use Rattle.kernel_spec.proofs.steps.MapsAfterChange.{get_same, get_other}
 use Rattle.kernel_spec.proofs.well.ForkWell as forks
 use Rattle.kernel_spec.proofs.well.GoneWell as goes
 use Rattle.kernel_spec.proofs.well.WaitWell as reaps
 use Rattle.kernel_spec.proofs.well.StaysWell as stays
-use Rattle.kernel_spec.proofs.steps.Family as family
+use Rattle.kernel_spec.proofs.steps.FamilyLawsHold as family
 
 pub forked : WellForked
 forked frames s p l well was room = forks.fork_well frames s well p l was room
@@ -40,7 +40,8 @@ reaped frames s p q status well zombie = reaps.reaped_well frames s well q p sta
 pub alone : WellAlone
 alone frames s p l r image c killed console free well was paid within = stays.alone_well frames s well p l was r image c killed console free paid within.typed within.sent_later
 
-module _ (frames : ℕ) (s : State) (p : ℕ) (l : Live) (status : ℤ) (files : FinMap nat_cmp OpenFile) (well : WellFormed frames s) (was : get s.processes p ≡ Some (Alive l)) (left : FilesLeft s (gone_state p l status files s)) where
+module _ (frames : ℕ) (s : State) (p : ℕ) (l : Live) (status : ℤ) (files : FinMap nat_cmp OpenFile) (well : WellFormed frames s)
+    (was : get s.processes p ≡ Some (Alive l)) (left : FilesLeft s (gone_state p l status files s)) where
   other_names : (g q d : ℕ) → file_at (gone_state p l status files s) q d ≡ Some g → OtherNames s p g
   other_names g q d h = elim (eqb_tells q p) [
     | inl me ↦ absurd (family.not_mine frames s p l (Exited status) status files well was refl left d g (ap (λ (n : ℕ). file_at (gone_state p l status files s) n d) (sym me.1) ∙ h))
@@ -66,13 +67,15 @@ priced i j same many = λ k. 1 + count_below (λ t. some_below (2 ^ 18) (λ n. s
 put_there : (i : Image) (v : ℕ) (p : Option Page) (o b : ℕ) → get i.pages v ≡ p → there (put_in i v p o b) ≡ there i
 put_there i v None o b is = refl
 put_there i v (Some page) o b is = fun_ext (λ q. elim (eqb_tells q v) [
-  | inl e ↦ ap is_some (ap (get (insert i.pages v (record { perm = page.perm; bytes = set page.bytes o b }))) e.1 ∙ get_same i.pages v (record { perm = page.perm; bytes = set page.bytes o b })) ∙ sym (ap is_some (ap (get i.pages) e.1 ∙ is))
+  | inl e ↦ ap is_some (ap (get (insert i.pages v (record { perm = page.perm; bytes = set page.bytes o b }))) e.1
+      ∙ get_same i.pages v (record { perm = page.perm; bytes = set page.bytes o b })) ∙ sym (ap is_some (ap (get i.pages) e.1 ∙ is))
   | inr e ↦ ap is_some (get_other i.pages v (record { perm = page.perm; bytes = set page.bytes o b }) q e.1)
 ])
 
 put_many : (i : Image) (v : ℕ) (p : Option Page) (o b : ℕ) → get i.pages v ≡ p → len (put_in i v p o b).pages ≡ len i.pages
 put_many i v None o b is = refl
-put_many i v (Some page) o b is = len-insert nat_cmp_total i.pages v (record { perm = page.perm; bytes = set page.bytes o b }) ∙ ap (λ (x : Bool). cond x (len i.pages) (len i.pages + 1)) (ap is_some is)
+put_many i v (Some page) o b is = len-insert nat_cmp_total i.pages v (record { perm = page.perm; bytes = set page.bytes o b })
+    ∙ ap (λ (x : Bool). cond x (len i.pages) (len i.pages + 1)) (ap is_some is)
 
 put_price : (i : Image) (a b : ℕ) → price (put_byte i a b) ≡ price i
 put_price i a b = priced (put_byte i a b) i (put_there i (a / 4096) (get i.pages (a / 4096)) (a % 4096) b refl) (put_many i (a / 4096) (get i.pages (a / 4096)) (a % 4096) b refl)
@@ -95,8 +98,10 @@ outside frames s clock console h within = record {
   descriptors = h.descriptors;
   ends = h.ends;
   named = h.named;
-  readers = λ i x is. h.readers i x is ∙ sum_same s.next_pid (λ p. on s i Reading (get s.processes p)) (λ p. on (record s { clock = clock; console = console }) i Reading (get s.processes p)) (λ p b. same i Reading (get s.processes p));
-  writers = λ i x is. h.writers i x is ∙ sum_same s.next_pid (λ p. on s i Writing (get s.processes p)) (λ p. on (record s { clock = clock; console = console }) i Writing (get s.processes p)) (λ p b. same i Writing (get s.processes p));
+  readers = λ i x is. h.readers i x is ∙ sum_same s.next_pid (λ p. on s i Reading (get s.processes p))
+      (λ p. on (record s { clock = clock; console = console }) i Reading (get s.processes p)) (λ p b. same i Reading (get s.processes p));
+  writers = λ i x is. h.writers i x is ∙ sum_same s.next_pid (λ p. on s i Writing (get s.processes p))
+      (λ p. on (record s { clock = clock; console = console }) i Writing (get s.processes p)) (λ p b. same i Writing (get s.processes p));
   held = h.held;
   counted = h.counted;
   pipe_bytes = h.pipe_bytes;
@@ -113,13 +118,15 @@ outside frames s clock console h within = record {
 stored_there : (i : Image) (v : ℕ) (p : Option Page) (o : ℕ) (bytes : List ℕ) → get i.pages v ≡ p → there (record i { pages = insert_some i.pages v (written_page p o bytes) }) ≡ there i
 stored_there i v None o bytes is = refl
 stored_there i v (Some page) o bytes is = fun_ext (λ q. elim (eqb_tells q v) [
-  | inl e ↦ ap is_some (ap (get (insert i.pages v (record page { bytes = written page.bytes o bytes }))) e.1 ∙ get_same i.pages v (record page { bytes = written page.bytes o bytes })) ∙ sym (ap is_some (ap (get i.pages) e.1 ∙ is))
+  | inl e ↦ ap is_some (ap (get (insert i.pages v (record page { bytes = written page.bytes o bytes }))) e.1
+      ∙ get_same i.pages v (record page { bytes = written page.bytes o bytes })) ∙ sym (ap is_some (ap (get i.pages) e.1 ∙ is))
   | inr e ↦ ap is_some (get_other i.pages v (record page { bytes = written page.bytes o bytes }) q e.1)
 ])
 
 stored_many : (i : Image) (v : ℕ) (p : Option Page) (o : ℕ) (bytes : List ℕ) → get i.pages v ≡ p → len (insert_some i.pages v (written_page p o bytes)) ≡ len i.pages
 stored_many i v None o bytes is = refl
-stored_many i v (Some page) o bytes is = len-insert nat_cmp_total i.pages v (record page { bytes = written page.bytes o bytes }) ∙ ap (λ (x : Bool). cond x (len i.pages) (len i.pages + 1)) (ap is_some is)
+stored_many i v (Some page) o bytes is = len-insert nat_cmp_total i.pages v (record page { bytes = written page.bytes o bytes })
+    ∙ ap (λ (x : Bool). cond x (len i.pages) (len i.pages + 1)) (ap is_some is)
 
 pub stores_take_nothing : StoresTakeNothing
 unfolding write_pages

@@ -6,6 +6,7 @@ use Rattle.std.specs.Ordering.{nat_cmp}
 use Rattle.std.specs.Cmp.{nat_cmp_total}
 use Rattle.std.proofs.lemmas.Bool.{eq-eqb}
 use Rattle.std.proofs.lemmas.Bool.Decides.{eqb_tells}
+use Rattle.std.proofs.lemmas.Option.{same_Some}
 use Rattle.xk_base.specs.declared.limits.TheConstants.{NOFILE, PIPE_BYTES}
 use Rattle.xk_base.specs.Words.{count_below}
 use Rattle.pipe_core.specs.Pipe.{Pipe}
@@ -22,16 +23,10 @@ use Rattle.kernel_spec.specs.others.Quiet.{file_at, file_of, pipe_of_target, end
 use Rattle.kernel_spec.specs.steps.Updates.{changed_state, own_state, piped_state, filed_state}
 use Rattle.kernel_spec.specs.views.WellFormed.{WellFormed, over_all, on}
 use Rattle.kernel_spec.specs.laws.RowLaws.{HasTable, NobodyNames, OnPipe, WellOpened, WellDup, WellDupPipe}
-use Rattle.kernel_spec.proofs.steps.Maps.{get_same, get_other}
-use Rattle.kernel_spec.proofs.steps.Counts.{hits, one}
+use Rattle.kernel_spec.proofs.steps.MapsAfterChange.{get_same, get_other}
+use Rattle.kernel_spec.proofs.steps.EndsAreCounted.{hits, one}
 use Rattle.kernel_spec.proofs.well.WellTable.{hits_of, count_put, count_files, total, table_well}
-use Rattle.kernel_spec.proofs.steps.Descriptors as descriptors
-
-pub some_file : (a b : OpenFile) → Some a ≡ Some b → a ≡ b
-some_file a b e = cc
-
-pub some_pipe : (a b : Pipe) → Some a ≡ Some b → a ≡ b
-some_pipe a b e = cc
+use Rattle.kernel_spec.proofs.steps.DupCloseLawsHold as descriptors
 
 pub no_hit : (j : ℕ) (end : End) (x : Target) → pipe_of_target x ≡ None → hits j end (Some x) ≡ false
 no_hit j end Terminal h = refl
@@ -68,7 +63,8 @@ used_apart ds d k g free used e = let n : None ≡ Some g = sym free ∙ ap (get
 
 -- ---- open
 
-module _ (frames : ℕ) (s : State) (p : ℕ) (l m : Live) (k f : ℕ) (x : OpenFile) (h : WellFormed frames s) (was : get s.processes p ≡ Some (Alive l)) (below : k < NOFILE) (unused : get l.descriptors k ≡ None)
+module _ (frames : ℕ) (s : State) (p : ℕ) (l m : Live) (k f : ℕ) (x : OpenFile) (h : WellFormed frames s) (was : get s.processes p ≡ Some (Alive l))
+    (below : k < NOFILE) (unused : get l.descriptors k ≡ None)
     (nobody : NobodyNames s f) (no_pipe : pipe_of_target x.target ≡ None) (table : HasTable l m (insert l.descriptors k f)) where
   abbrev opened : FinMap nat_cmp OpenFile
   opened = insert s.files f x
@@ -95,13 +91,14 @@ module _ (frames : ℕ) (s : State) (p : ℕ) (l m : Live) (k f : ℕ) (x : Open
       let a : ℕ = over_all u (on u j end) in let b : ℕ = over_all s (on s j end) in
       let x0 : ℕ = count_below (hits_of u m.descriptors j end) NOFILE in let y0 : ℕ = count_below (hits_of s l.descriptors j end) NOFILE in
       let c : x0 ≡ y0 = same_count j end in
-      let e : a + 0 ≡ b + 0 = total frames s u h p l m was (now s p l m was opened s.pipes s.free) (others s p l m was opened s.pipes s.free) table.0 refl (λ q d g apart a. old_file q d g a) j end 0 0 (let g : x0 + 0 ≡ y0 + 0 = omega arith in g) in
+      let e : a + 0 ≡ b + 0 = total frames s u h p l m was (now s p l m was opened s.pipes s.free)
+      (others s p l m was opened s.pipes s.free) table.0 refl (λ q d g apart a. old_file q d g a) j end 0 0 (let g : x0 + 0 ≡ y0 + 0 = omega arith in g) in
       let goal : b ≡ a = omega arith in goal
 
   its_end : (g i : ℕ) (y : OpenFile) (end : End) → get opened g ≡ Some y → y.target ≡ Pipe_end i end → IsSome (get s.pipes i)
   its_end g i y end a b = elim (eqb_tells g f) [
     | inl e ↦
-        let same : x ≡ y = some_file x y (sym (get_same s.files f x) ∙ ap (get opened) (sym e.1) ∙ a) in
+        let same : x ≡ y = same_Some x y (sym (get_same s.files f x) ∙ ap (get opened) (sym e.1) ∙ a) in
         let on_pipe : pipe_of_target x.target ≡ Some i = ap (λ (z : OpenFile). pipe_of_target z.target) same ∙ ap pipe_of_target b in
         let n : None ≡ Some i = sym no_pipe ∙ on_pipe in let no : ⊥ = cc in absurd no
     | inr e ↦ h.ends g i y end (sym (get_other s.files f x g e.1) ∙ a) b
@@ -152,7 +149,8 @@ module _ (frames : ℕ) (s : State) (p : ℕ) (l m : Live) (j k f : ℕ) (h : We
       let a : ℕ = over_all copied (on copied i end) in let b : ℕ = over_all s (on s i end) in
       let x0 : ℕ = count_below (hits_of copied m.descriptors i end) NOFILE in let y0 : ℕ = count_below (hits_of s l.descriptors i end) NOFILE in
       let c : x0 ≡ y0 + w = ap (λ (ds : FinMap nat_cmp ℕ). count_below (hits_of copied ds i end) NOFILE) table.2 ∙ count_put s l.descriptors k f i end below unused in
-      let e : a + 0 ≡ b + w = total frames s copied h p l m was (now s p l m was s.files pipes s.free) (others s p l m was s.files pipes s.free) table.0 refl (λ q d g apart x. refl) i end w 0 (let g : x0 + 0 ≡ y0 + w = omega arith in g) in
+      let e : a + 0 ≡ b + w = total frames s copied h p l m was (now s p l m was s.files pipes s.free)
+      (others s p l m was s.files pipes s.free) table.0 refl (λ q d g apart x. refl) i end w 0 (let g : x0 + 0 ≡ y0 + w = omega arith in g) in
       let goal : a ≡ b + w = omega arith in goal
 
   copy_in : (d g : ℕ) → get m.descriptors d ≡ Some g → (d < NOFILE) × IsSome (get s.files g)
@@ -171,7 +169,8 @@ module _ (frames : ℕ) (s : State) (p : ℕ) (l m : Live) (j k f : ℕ) (h : We
       (n.0, n.1, still_named s p l m was s.files pipes s.free n.0 n.1 g n.2 (λ a. at_copy n.1 ∙ get_other l.descriptors k f n.1 (used_apart l.descriptors n.1 k g unused a) ∙ a))
 
   module _ (ends_there : (i : ℕ) → IsSome (get s.pipes i) → IsSome (get pipes i)) (many : len pipes ≡ len s.pipes)
-      (readers : (i : ℕ) (z : Pipe) → get pipes i ≡ Some z → z.readers ≡ over_all copied (on copied i Reading)) (writers : (i : ℕ) (z : Pipe) → get pipes i ≡ Some z → z.writers ≡ over_all copied (on copied i Writing))
+      (readers : (i : ℕ) (z : Pipe) → get pipes i ≡ Some z → z.readers ≡ over_all copied (on copied i Reading))
+      (writers : (i : ℕ) (z : Pipe) → get pipes i ≡ Some z → z.writers ≡ over_all copied (on copied i Writing))
       (held : (i : ℕ) (z : Pipe) → get pipes i ≡ Some z → is_given_up z ≡ false) (bytes : (i : ℕ) (z : Pipe) → get pipes i ≡ Some z → length z.bytes ≤ PIPE_BYTES) where
     pub copied_well : WellFormed frames copied
     copied_well = table_well frames s copied h p l m was (now s p l m was s.files pipes s.free) (others s p l m was s.files pipes s.free) table.0 refl (λ q d g apart x. refl)
@@ -207,7 +206,8 @@ more_held : (x : Pipe) (end : End) → is_given_up (joined x end 1) ≡ false
 more_held x Reading = let n : ℕ = x.readers in descriptors.not_given (n + 1) x.writers (inl (let g : 0 < n + 1 = omega arith in g))
 more_held x Writing = let n : ℕ = x.writers in descriptors.not_given x.readers (n + 1) (inr (let g : 0 < n + 1 = omega arith in g))
 
-module _ (frames : ℕ) (s : State) (p : ℕ) (l m : Live) (j k i n : ℕ) (end : End) (x : Pipe) (on_it : OnPipe s p l j i n end x) (h : WellFormed frames s) (below : k < NOFILE) (unused : get l.descriptors k ≡ None)
+module _ (frames : ℕ) (s : State) (p : ℕ) (l m : Live) (j k i n : ℕ) (end : End) (x : Pipe) (on_it : OnPipe s p l j i n end x)
+    (h : WellFormed frames s) (below : k < NOFILE) (unused : get l.descriptors k ≡ None)
     (table : HasTable l m (insert l.descriptors k on_it.file)) where
   abbrev y : Pipe
   y = joined x end 1
@@ -223,7 +223,7 @@ module _ (frames : ℕ) (s : State) (p : ℕ) (l m : Live) (j k i n : ℕ) (end 
 
   which : (q : ℕ) (z : Pipe) → get more_pipes q ≡ Some z → ((q ≡ i) × (y ≡ z)) ⊎ ((q ≢ i) × (get s.pipes q ≡ Some z))
   which q z e = elim (eqb_tells q i) [
-    | inl a ↦ inl (a.1, some_pipe y z (sym (get_same s.pipes i y) ∙ ap (get more_pipes) (sym a.1) ∙ e))
+    | inl a ↦ inl (a.1, same_Some y z (sym (get_same s.pipes i y) ∙ ap (get more_pipes) (sym a.1) ∙ e))
     | inr a ↦ inr (a.1, sym (get_other s.pipes i y q a.1) ∙ e)
   ]
 
@@ -244,15 +244,23 @@ module _ (frames : ℕ) (s : State) (p : ℕ) (l m : Live) (j k i n : ℕ) (end 
       (λ q there. elim (eqb_tells q i) [ inl e ↦ ap is_some (ap (get more_pipes) e.1 ∙ get_same s.pipes i y) | inr e ↦ ap is_some (get_other s.pipes i y q e.1) ∙ there ])
       (len-insert nat_cmp_total s.pipes i y ∙ ap (λ (b : Bool). cond b (len s.pipes) (len s.pipes + 1)) (ap is_some on_it.pipe))
       (λ q z e. elim (which q z e) [
-        | inl new ↦ ap (λ (w : Pipe). w.readers) (sym new.1) ∙ joined_readers x end ∙ ap (λ (c : ℕ). c + one (is_end Reading end)) (h.readers i x on_it.pipe) ∙ own_count Reading ∙ ap (λ (c : ℕ). over_all v (on v c Reading)) (sym new.0)
+        | inl new ↦ ap (λ (w : Pipe). w.readers) (sym new.1) ∙ joined_readers x end
+            ∙ ap (λ (c : ℕ). c + one (is_end Reading end)) (h.readers i x on_it.pipe) ∙ own_count Reading
+            ∙ ap (λ (c : ℕ). over_all v (on v c Reading)) (sym new.0)
         | inr old ↦ h.readers q z old.1 ∙ other_count q Reading old.0
       ])
       (λ q z e. elim (which q z e) [
-        | inl new ↦ ap (λ (w : Pipe). w.writers) (sym new.1) ∙ joined_writers x end ∙ ap (λ (c : ℕ). c + one (is_end Writing end)) (h.writers i x on_it.pipe) ∙ own_count Writing ∙ ap (λ (c : ℕ). over_all v (on v c Writing)) (sym new.0)
+        | inl new ↦ ap (λ (w : Pipe). w.writers) (sym new.1) ∙ joined_writers x end
+            ∙ ap (λ (c : ℕ). c + one (is_end Writing end)) (h.writers i x on_it.pipe) ∙ own_count Writing
+            ∙ ap (λ (c : ℕ). over_all v (on v c Writing)) (sym new.0)
         | inr old ↦ h.writers q z old.1 ∙ other_count q Writing old.0
       ])
       (λ q z e. elim (which q z e) [ inl new ↦ ap is_given_up (sym new.1) ∙ more_held x end | inr old ↦ h.held q z old.1 ])
-      (λ q z e. elim (which q z e) [ inl new ↦ subst (λ (w : Pipe). length w.bytes ≤ PIPE_BYTES) new.1 (subst (λ (b : List ℕ). length b ≤ PIPE_BYTES) (sym (joined_bytes x end)) (h.pipe_bytes i x on_it.pipe)) | inr old ↦ h.pipe_bytes q z old.1 ])
+      (λ q z e. elim (which q z e) [
+        | inl new ↦ subst (λ (w : Pipe). length w.bytes ≤ PIPE_BYTES) new.1
+            (subst (λ (b : List ℕ). length b ≤ PIPE_BYTES) (sym (joined_bytes x end)) (h.pipe_bytes i x on_it.pipe))
+        | inr old ↦ h.pipe_bytes q z old.1
+      ])
 
 pub well_dup_pipe : WellDupPipe
 well_dup_pipe frames s p l m j k i n end x on_it h below unused table = dup_pipe_well frames s p l m j k i n end x on_it h below unused table

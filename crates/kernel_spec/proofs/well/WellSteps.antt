@@ -4,6 +4,7 @@ use Rattle.std.specs.Prelude.{Option, None, Some, option_map, is_some, nat_eq, I
 use Rattle.std.specs.FinMap.{get, insert, len, len-insert}
 use Rattle.std.specs.Cmp.{nat_cmp_total}
 use Rattle.std.proofs.lemmas.Bool.Decides.{eqb_tells}
+use Rattle.std.proofs.lemmas.Option.{same_Some}
 use Rattle.xk_base.specs.declared.limits.TheConstants.{NOFILE, PIPE_BYTES}
 use Rattle.xk_base.specs.Words.{count_below}
 use Rattle.pipe_core.specs.Pipe.{Pipe}
@@ -20,21 +21,17 @@ use Rattle.kernel_spec.specs.others.Quiet.{file_at, file_of, end_of, target_of_o
 use Rattle.kernel_spec.specs.steps.Updates.{set_pipe, set_file, mark, marked}
 use Rattle.kernel_spec.specs.views.WellFormed.{WellFormed, over_all, on, cost}
 use Rattle.kernel_spec.specs.laws.RowLaws.{WellPiped, WellMoved, WellMarked}
-use Rattle.kernel_spec.proofs.steps.Maps.{get_same, get_other}
-use Rattle.kernel_spec.proofs.steps.Counts.{hits, hits_at}
+use Rattle.kernel_spec.proofs.steps.MapsAfterChange.{get_same, get_other}
+use Rattle.kernel_spec.proofs.steps.EndsAreCounted.{hits, hits_at}
 use Rattle.kernel_spec.proofs.well.Sums.{sum_same}
 use Rattle.kernel_spec.proofs.well.ForkWell.{same_ends}
-use Rattle.kernel_spec.proofs.steps.Orphans.{get-change}
-
-some_pipe : (a b : Pipe) → Some a ≡ Some b → a ≡ b
-some_pipe a b e = cc
-
-some_file : (a b : OpenFile) → Some a ≡ Some b → a ≡ b
-some_file a b e = cc
+use Rattle.kernel_spec.proofs.steps.OrphansKeepKeys.{get-change}
+use Rattle.kernel_spec.proofs.Common.{marked_again, the_value}
 
 -- ---- a pipe with other bytes
 
-module _ (frames : ℕ) (s : State) (i : ℕ) (x y : Pipe) (h : WellFormed frames s) (is : get s.pipes i ≡ Some x) (same_readers : y.readers ≡ x.readers) (same_writers : y.writers ≡ x.writers) (room : length y.bytes ≤ PIPE_BYTES) where
+module _ (frames : ℕ) (s : State) (i : ℕ) (x y : Pipe) (h : WellFormed frames s) (is : get s.pipes i ≡ Some x) (same_readers : y.readers ≡ x.readers)
+    (same_writers : y.writers ≡ x.writers) (room : length y.bytes ≤ PIPE_BYTES) where
   abbrev piped : State
   piped = set_pipe i y s
 
@@ -49,7 +46,7 @@ module _ (frames : ℕ) (s : State) (i : ℕ) (x y : Pipe) (h : WellFormed frame
   -- each pipe is y, or one of before
   which : (j : ℕ) (z : Pipe) → get piped.pipes j ≡ Some z → ((j ≡ i) × (y ≡ z)) ⊎ (get s.pipes j ≡ Some z)
   which j z e = elim (eqb_tells j i) [
-    | inl q ↦ inl (q.1, some_pipe y z (sym (get_same s.pipes i y) ∙ ap (get (insert s.pipes i y)) (sym q.1) ∙ e))
+    | inl q ↦ inl (q.1, same_Some y z (sym (get_same s.pipes i y) ∙ ap (get (insert s.pipes i y)) (sym q.1) ∙ e))
     | inr q ↦ inr (sym (get_other s.pipes i y j q.1) ∙ e)
   ]
 
@@ -109,7 +106,8 @@ module _ (frames : ℕ) (s : State) (f program offset moved : ℕ) (r w : Bool) 
   same_hits : (j : ℕ) (end : End) (o : Option ℕ) → hits j end (end_of filed o) ≡ hits j end (end_of s o)
   same_hits j end None = refl
   same_hits j end (Some g) = elim (eqb_tells g f) [
-    | inl e ↦ ap (λ (o : Option OpenFile). hits j end (target_of_open o)) (ap (get filed.files) e.1 ∙ get_same s.files f there) ∙ sym (ap (λ (o : Option OpenFile). hits j end (target_of_open o)) (ap (get s.files) e.1 ∙ is))
+    | inl e ↦ ap (λ (o : Option OpenFile). hits j end (target_of_open o)) (ap (get filed.files) e.1 ∙ get_same s.files f there)
+        ∙ sym (ap (λ (o : Option OpenFile). hits j end (target_of_open o)) (ap (get s.files) e.1 ∙ is))
     | inr e ↦ ap (λ (o : Option OpenFile). hits j end (target_of_open o)) (get_other s.files f there g e.1)
   ]
 
@@ -143,7 +141,7 @@ module _ (frames : ℕ) (s : State) (f program offset moved : ℕ) (r w : Bool) 
     parents = λ p z e. elim (h.parents p z e) [ inl one ↦ inl one | inr has ↦ inr (record { parent = has.parent; is = has.is; other = has.other; there = has.there }) ];
     descriptors = λ p d g e. let q = h.descriptors p d g e in (q.0, file_there g ∙ q.1);
     ends = λ g j x end a b. elim (eqb_tells g f) [
-      | inl e ↦ absurd (no_pipe_end x j end (some_file there x (sym (get_same s.files f there) ∙ ap (get filed.files) (sym e.1) ∙ a)) b)
+      | inl e ↦ absurd (no_pipe_end x j end (same_Some there x (sym (get_same s.files f there) ∙ ap (get filed.files) (sym e.1) ∙ a)) b)
       | inr e ↦ h.ends g j x end (sym (get_other s.files f there g e.1) ∙ a) b
     ];
     named = λ g e. h.named g (sym (file_there g) ∙ e);
@@ -164,10 +162,6 @@ well_moved frames s f program offset moved r w h is = moved_well frames s f prog
 module _ (frames : ℕ) (s : State) (q : ℕ) (h : WellFormed frames s) where
   abbrev hurt : State
   hurt = mark q s
-
-  marked_again : (x : Process) → marked (marked x) ≡ marked x
-  marked_again (Alive l) = refl
-  marked_again (Zombie parent status) = refl
 
   at : (r : ℕ) → get hurt.processes r ≡ cond (nat_eq r q) (option_map marked (get s.processes r)) (get s.processes r)
   at r = get-change marked marked_again s.processes q r (get s.processes q) refl
@@ -219,23 +213,16 @@ module _ (frames : ℕ) (s : State) (q : ℕ) (h : WellFormed frames s) where
   parent_at : (r : ℕ) → option_map parent_of (get hurt.processes r) ≡ option_map parent_of (get s.processes r)
   parent_at r = same_of (λ (o : Option Process). option_map parent_of o) (λ x. ap Some (parents_of x)) r
 
-  some_of : (o : Option Process) → IsSome o → (x : Process) × (o ≡ Some x)
-  some_of None e = let no : ⊥ = cc in absurd no
-  some_of (Some x) e = (x, refl)
-
-  unwrap : (a b : Option ℕ) → Some a ≡ Some b → a ≡ b
-  unwrap a b e = cc
-
   before : (r : ℕ) (x : Process) → get hurt.processes r ≡ Some x → (y : Process) × (get s.processes r ≡ Some y) × (parent_of x ≡ parent_of y)
   before r x is =
-      let y = some_of (get s.processes r) (sym (kept_some r) ∙ ap is_some is) in
-      (y.0, y.1, unwrap (parent_of x) (parent_of y.0) (sym (ap (option_map parent_of) is) ∙ parent_at r ∙ ap (option_map parent_of) y.1))
+      let y = the_value (get s.processes r) (sym (kept_some r) ∙ ap is_some is) in
+      (y.0, y.1, same_Some (parent_of x) (parent_of y.0) (sym (ap (option_map parent_of) is) ∙ parent_at r ∙ ap (option_map parent_of) y.1))
 
   first_kept : (p : ℕ) → IsSome (get hurt.processes p) → (x : Process) × (get hurt.processes 1 ≡ Some x) × (parent_of x ≡ None)
   first_kept p there =
       let f = h.first p (sym (kept_some p) ∙ there) in
-      let x = some_of (get hurt.processes 1) (kept_some 1 ∙ ap is_some f.1) in
-      (x.0, x.1, unwrap (parent_of x.0) None (sym (ap (option_map parent_of) x.1) ∙ parent_at 1 ∙ ap (option_map parent_of) f.1 ∙ ap Some f.2))
+      let x = the_value (get hurt.processes 1) (kept_some 1 ∙ ap is_some f.1) in
+      (x.0, x.1, same_Some (parent_of x.0) None (sym (ap (option_map parent_of) x.1) ∙ parent_at 1 ∙ ap (option_map parent_of) f.1 ∙ ap Some f.2))
 
   total_kept : (j : ℕ) (end : End) → over_all hurt (on hurt j end) ≡ over_all s (on s j end)
   total_kept j end = sum_same s.next_pid (λ p. on hurt j end (get hurt.processes p)) (λ p. on s j end (get s.processes p)) (λ p b. same_here j end (get hurt.processes p) ∙ kept_on j end p)

@@ -5,6 +5,7 @@ use Rattle.std.specs.FinMap.{FinMap, get, insert, remove, len}
 use Rattle.std.specs.Ordering.{nat_cmp}
 use Rattle.std.proofs.lemmas.Bool.{eq-eqb}
 use Rattle.std.proofs.lemmas.Bool.Decides.{eqb_tells}
+use Rattle.std.proofs.lemmas.Option.{same_Some}
 use Rattle.xk_base.specs.declared.limits.TheConstants.{NOFILE, PIPE_BYTES, CONSOLE_BYTES, SEND_BYTES}
 use Rattle.xk_base.specs.Words.{count_below}
 use Rattle.xk_base.specs.Image.{price}
@@ -20,16 +21,12 @@ use Rattle.kernel_spec.specs.views.View.{numbered}
 use Rattle.kernel_spec.specs.rows.Tables.{ends}
 use Rattle.kernel_spec.specs.others.Quiet.{file_at, file_of, end_of, target_of_open}
 use Rattle.kernel_spec.specs.views.WellFormed.{WellFormed, over_all, on, cost, sum_below}
-use Rattle.kernel_spec.proofs.steps.Maps.{get_same, get_other, get_without}
-use Rattle.kernel_spec.proofs.steps.Counts.{hits, hits_at, one}
+use Rattle.kernel_spec.proofs.steps.MapsAfterChange.{get_same, get_other, get_without}
+use Rattle.kernel_spec.proofs.steps.EndsAreCounted.{hits, hits_at, one}
 use Rattle.kernel_spec.proofs.well.Sums.{sum_change}
+use Rattle.kernel_spec.proofs.Common.{count_below-same, the_value}
 
 -- ---- counts
-
-count_same : (n : ℕ) (P Q : ℕ → Bool) → ((d : ℕ) → d < n → P d ≡ Q d) → count_below P n ≡ count_below Q n
-unfolding count_below
-count_same zero P Q same = refl
-count_same (suc n) P Q same = λ i. count_same n P Q (λ d below. same d (omega arith)) i + cond (same n (omega arith) i) 1 0
 
 -- where the tests differ at k alone
 pub count_change : (n k : ℕ) (P Q : ℕ → Bool) → k < n → ((d : ℕ) → d ≢ k → P d ≡ Q d) → count_below P n + one (Q k) ≡ count_below Q n + one (P k)
@@ -40,7 +37,7 @@ count_change (suc n) k P Q below same =
     elim (eqb_tells k n) [
       | inl e ↦
           let is : k ≡ n = e.1 in
-          let rest : a ≡ b = count_same n P Q (λ d low. same d (λ r. let x : d ≡ k = r in omega arith)) in
+          let rest : a ≡ b = count_below-same n P Q (λ d low. same d (λ r. let x : d ≡ k = r in omega arith)) in
           let x : pk ≡ pn = ap (λ (m : ℕ). one (P m)) is in let y : qk ≡ qn = ap (λ (m : ℕ). one (Q m)) is in
           let goal : a + pn + qk ≡ b + qn + pk = omega arith in goal
       | inr e ↦
@@ -63,7 +60,8 @@ pub count_put : (s : State) (ds : FinMap nat_cmp ℕ) (k g j : ℕ) (end : End) 
 count_put s ds k g j end below free =
     let a : ℕ = count_below (hits_of s (insert ds k g) j end) NOFILE in let b : ℕ = count_below (hits_of s ds j end) NOFILE in
     let new : ℕ = one (hits_of s (insert ds k g) j end k) in let old : ℕ = one (hits_of s ds j end k) in let w : ℕ = one (hits j end (end_of s (Some g))) in
-    let changes : a + old ≡ b + new = count_change NOFILE k (hits_of s (insert ds k g) j end) (hits_of s ds j end) below (λ d apart. ap (λ (o : Option ℕ). hits j end (end_of s o)) (get_other ds k g d apart)) in
+    let changes : a + old ≡ b + new = count_change NOFILE k (hits_of s (insert ds k g) j end) (hits_of s ds j end) below
+    (λ d apart. ap (λ (o : Option ℕ). hits j end (end_of s o)) (get_other ds k g d apart)) in
     let x : new ≡ w = ap (λ (o : Option ℕ). one (hits j end (end_of s o))) (get_same ds k g) in
     let y : old ≡ 0 = ap (λ (o : Option ℕ). one (hits j end (end_of s o))) free in
     let goal : a ≡ b + w = omega arith in goal
@@ -73,7 +71,8 @@ pub count_take : (s : State) (ds : FinMap nat_cmp ℕ) (k g j : ℕ) (end : End)
 count_take s ds k g j end below used =
     let a : ℕ = count_below (hits_of s (remove ds k) j end) NOFILE in let b : ℕ = count_below (hits_of s ds j end) NOFILE in
     let new : ℕ = one (hits_of s (remove ds k) j end k) in let old : ℕ = one (hits_of s ds j end k) in let w : ℕ = one (hits j end (end_of s (Some g))) in
-    let changes : a + old ≡ b + new = count_change NOFILE k (hits_of s (remove ds k) j end) (hits_of s ds j end) below (λ d apart. ap (λ (o : Option ℕ). hits j end (end_of s o)) (elsewhere d apart)) in
+    let changes : a + old ≡ b + new = count_change NOFILE k (hits_of s (remove ds k) j end) (hits_of s ds j end) below
+    (λ d apart. ap (λ (o : Option ℕ). hits j end (end_of s o)) (elsewhere d apart)) in
     let x : old ≡ w = ap (λ (o : Option ℕ). one (hits j end (end_of s o))) used in
     let y : new ≡ 0 = ap (λ (o : Option ℕ). one (hits j end (end_of s o))) (get_without ds k k ∙ ap (λ (q : Bool). cond q None (get ds k)) (eq-eqb k k refl)) in
     let goal : a + w ≡ b = omega arith in goal
@@ -84,7 +83,7 @@ count_take s ds k g j end below used =
 -- the same targets give the same count
 pub count_files : (s t : State) (ds : FinMap nat_cmp ℕ) (j : ℕ) (end : End) → ((d g : ℕ) → get ds d ≡ Some g → get t.files g ≡ get s.files g)
     → count_below (hits_of t ds j end) NOFILE ≡ count_below (hits_of s ds j end) NOFILE
-count_files s t ds j end same = count_same NOFILE (hits_of t ds j end) (hits_of s ds j end) (λ d below. by d (get ds d) refl)
+count_files s t ds j end same = count_below-same NOFILE (hits_of t ds j end) (hits_of s ds j end) (λ d below. by d (get ds d) refl)
   where
     by : (d : ℕ) (o : Option ℕ) → get ds d ≡ o → hits j end (end_of t o) ≡ hits j end (end_of s o)
     by d None e = refl
@@ -98,7 +97,8 @@ module _ (frames : ℕ) (s t : State) (h : WellFormed frames s) (p : ℕ) (l m :
     where
       by : (o : Option Process) → get s.processes q ≡ o → on t j end o ≡ on s j end o
       by None e = refl
-      by (Some (Alive k)) e = ends_are t k j end ∙ count_files s t k.descriptors j end (λ d g x. files q d g apart (ap (λ (o : Option Process). file_of (live_part o) d) e ∙ x)) ∙ sym (ends_are s k j end)
+      by (Some (Alive k)) e = ends_are t k j end ∙ count_files s t k.descriptors j end
+          (λ d g x. files q d g apart (ap (λ (o : Option Process). file_of (live_part o) d) e ∙ x)) ∙ sym (ends_are s k j end)
       by (Some (Zombie a b)) e = refl
 
   -- all descriptors on an end, by p's own
@@ -134,23 +134,16 @@ module _ (frames : ℕ) (s t : State) (h : WellFormed frames s) (p : ℕ) (l m :
   parent_same : (q : ℕ) → option_map parent_of (get t.processes q) ≡ option_map parent_of (get s.processes q)
   parent_same q = same_of (λ (o : Option Process). option_map parent_of o) (ap Some parent) q
 
-  some_of : (o : Option Process) → IsSome o → (x : Process) × (o ≡ Some x)
-  some_of None e = let no : ⊥ = cc in absurd no
-  some_of (Some x) e = (x, refl)
-
-  unwrap : (a b : Option ℕ) → Some a ≡ Some b → a ≡ b
-  unwrap a b e = cc
-
   before : (q : ℕ) (x : Process) → get t.processes q ≡ Some x → (y : Process) × (get s.processes q ≡ Some y) × (parent_of x ≡ parent_of y)
   before q x is =
-      let y = some_of (get s.processes q) (sym (some_same q) ∙ ap is_some is) in
-      (y.0, y.1, unwrap (parent_of x) (parent_of y.0) (sym (ap (option_map parent_of) is) ∙ parent_same q ∙ ap (option_map parent_of) y.1))
+      let y = the_value (get s.processes q) (sym (some_same q) ∙ ap is_some is) in
+      (y.0, y.1, same_Some (parent_of x) (parent_of y.0) (sym (ap (option_map parent_of) is) ∙ parent_same q ∙ ap (option_map parent_of) y.1))
 
   first_same : (q : ℕ) → IsSome (get t.processes q) → (x : Process) × (get t.processes 1 ≡ Some x) × (parent_of x ≡ None)
   first_same q there =
       let f = h.first q (sym (some_same q) ∙ there) in
-      let x = some_of (get t.processes 1) (some_same 1 ∙ ap is_some f.1) in
-      (x.0, x.1, unwrap (parent_of x.0) None (sym (ap (option_map parent_of) x.1) ∙ parent_same 1 ∙ ap (option_map parent_of) f.1 ∙ ap Some f.2))
+      let x = the_value (get t.processes 1) (some_same 1 ∙ ap is_some f.1) in
+      (x.0, x.1, same_Some (parent_of x.0) None (sym (ap (option_map parent_of) x.1) ∙ parent_same 1 ∙ ap (option_map parent_of) f.1 ∙ ap Some f.2))
 
   other_file : (q d : ℕ) → q ≢ p → file_at t q d ≡ file_at s q d
   other_file q d apart = ap (λ (o : Option Process). file_of (live_part o) d) (others q apart)

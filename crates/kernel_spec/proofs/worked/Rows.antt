@@ -27,7 +27,8 @@ use Rattle.kernel_spec.specs.steps.Step.{own}
 use Rattle.kernel_spec.specs.waking.Ready.{ready}
 use Rattle.kernel_spec.specs.rows.Tables.{lowest_free}
 use Rattle.kernel_spec.specs.runs.Run.{Run, Tick, Key, Send, Step_of, Typed, Sent, out}
-use Rattle.kernel_spec.proofs.rows.RowParts.{perform_row, forked, cannot_fork, unless, moving, read_from, write_to, piped_from, reaped, running, exec_loaded, exec_program, exec_path, perform_parts, fork_parts}
+use Rattle.kernel_spec.proofs.rows.RowParts.{perform_row, forked, cannot_fork, unless, moving, read_from, write_to, piped_from}
+use Rattle.kernel_spec.proofs.rows.RowParts.{reaped, exec_loaded, exec_program, exec_path, perform_parts, fork_parts, running}
 use Rattle.kernel_spec.specs.rows.Lines.{◌>>=◌, ◌>>◌, ◌or◌, ◌when◌}
 use Rattle.kernel_spec.proofs.rows.RowsByParts.{by_parts}
 use Rattle.kernel_spec.specs.runs.Rounds.{round}
@@ -176,7 +177,8 @@ module _ (image : Image) where
     fork_leaves_6 : free_of (own (record (in_call image (call 1 0 0 0)) { free = 13 })).next ≡ 6
     unfolding own perform_parts perform_row row_of in_call free_of
     fork_leaves_6 = by_parts (λ (o : Own). free_of o.next) _ _ refl (
-        ap (λ (b : Bool). free_of (unless b (call 1 0 0 0) (record (in_call image (call 1 0 0 0)) { free = 13 }) (λ _. forked (call 1 0 0 0) (record (in_call image (call 1 0 0 0)) { free = 13 }))).next) (ap (λ (n : ℕ). nat_lt 13 (n + 1)) priced)
+        ap (λ (b : Bool). free_of (unless b (call 1 0 0 0) (record (in_call image (call 1 0 0 0)) { free = 13 })
+        (λ _. forked (call 1 0 0 0) (record (in_call image (call 1 0 0 0)) { free = 13 }))).next) (ap (λ (n : ℕ). nat_lt 13 (n + 1)) priced)
         ∙ ap (λ (n : ℕ). 13 - (n + 1)) priced)
 
   -- ---- pipes
@@ -193,16 +195,24 @@ module _ (image : Image) where
   module _ (there : readable image 0 too_many ≡ true) where
     blocks : (own writer).answer ≡ Blocked (pos 16)
     unfolding own perform_parts perform_row row_of in_call writer new_pipe
-    blocks = by_parts (λ (o : Own). o.answer) _ _ refl (ap (λ (b : Bool). (moving (call 16 1 0 too_many) writer b (pos too_many) (λ n. write_to (call 16 1 0 too_many) writer n (Shown_pipe 0 Writing new_pipe))).answer) there)
+    blocks = by_parts (λ (o : Own). o.answer) _ _ refl
+        (ap (λ (b : Bool). (moving (call 16 1 0 too_many) writer b (pos too_many)
+        (λ n. write_to (call 16 1 0 too_many) writer n (Shown_pipe 0 Writing new_pipe))).answer) there)
 
     moves_all_but_one : moved_of (own writer).next ≡ Some PIPE_BYTES
     unfolding own perform_parts perform_row row_of in_call writer new_pipe moved_of
-    moves_all_but_one = by_parts (λ (o : Own). moved_of o.next) _ _ refl (ap (λ (b : Bool). moved_of (moving (call 16 1 0 too_many) writer b (pos too_many) (λ n. write_to (call 16 1 0 too_many) writer n (Shown_pipe 0 Writing new_pipe))).next) there)
+    moves_all_but_one = by_parts (λ (o : Own). moved_of o.next) _ _ refl
+        (ap (λ (b : Bool). moved_of (moving (call 16 1 0 too_many) writer b (pos too_many)
+        (λ n. write_to (call 16 1 0 too_many) writer n (Shown_pipe 0 Writing new_pipe))).next) there)
 
     -- nobody reads any more
     broken : (own (record writer { descriptors = ends_of (record { bytes = []; readers = 0; writers = 1 }) })).answer ≡ Called (pos 16) (negsuc 0)
     unfolding own perform_parts perform_row row_of in_call writer
-    broken = by_parts (λ (o : Own). o.answer) _ _ refl (ap (λ (b : Bool). (moving (call 16 1 0 too_many) (record writer { descriptors = ends_of (record { bytes = []; readers = 0; writers = 1 }) }) b (pos too_many) (λ n. write_to (call 16 1 0 too_many) (record writer { descriptors = ends_of (record { bytes = []; readers = 0; writers = 1 }) }) n (Shown_pipe 0 Writing (record { bytes = []; readers = 0; writers = 1 })))).answer) there)
+    broken = by_parts (λ (o : Own). o.answer) _ _ refl
+        (ap (λ (b : Bool). (moving (call 16 1 0 too_many)
+        (record writer { descriptors = ends_of (record { bytes = []; readers = 0; writers = 1 }) }) b (pos too_many)
+        (λ n. write_to (call 16 1 0 too_many) (record writer { descriptors = ends_of (record { bytes = []; readers = 0; writers = 1 }) }) n
+        (Shown_pipe 0 Writing (record { bytes = []; readers = 0; writers = 1 })))).answer) there)
 
   -- n 0 is done at once, whatever the buffer
 
@@ -268,7 +278,8 @@ module _ (image : Image) where
 
   -- a pipe that is made
   making : ℕ → Bool → Own
-  making free there = unless (not there || nat_eq free 0) (call 4 0 0 0) (record (in_call image (call 4 0 0 0)) { free = free }) (λ _. piped_from (call 4 0 0 0) (record (in_call image (call 4 0 0 0)) { free = free }) (lowest_free (λ d. None)))
+  making free there = unless (not there || nat_eq free 0) (call 4 0 0 0) (record (in_call image (call 4 0 0 0)) { free = free })
+      (λ _. piped_from (call 4 0 0 0) (record (in_call image (call 4 0 0 0)) { free = free }) (lowest_free (λ d. None)))
 
   pipe_made : writable image 0 8 ≡ true → has_absent (pages_at 0 8) image ≡ false → (own (in_call image (call 4 0 0 0))).answer ≡ Called (pos 4) (pos 0)
   unfolding own perform_parts perform_row row_of in_call making least_below
@@ -315,7 +326,8 @@ module _ (image : Image) where
   }
 
   reading_line : ℕ → List ℕ → Bool → Own
-  reading_line moved committed there = moving (terminal_call 5 moved) (at_terminal 5 moved committed) there (pos 40) (λ n. read_from (terminal_call 5 moved) (at_terminal 5 moved committed) n 0 Shown_terminal)
+  reading_line moved committed there = moving (terminal_call 5 moved) (at_terminal 5 moved committed) there (pos 40)
+      (λ n. read_from (terminal_call 5 moved) (at_terminal 5 moved committed) n 0 Shown_terminal)
 
   writing_line : ℕ → Bool → Own
   writing_line moved there = moving (terminal_call 16 moved) (at_terminal 16 moved []) there (pos 40) (λ n. write_to (terminal_call 16 moved) (at_terminal 16 moved []) n Shown_terminal)
@@ -372,7 +384,8 @@ module _ (image : Image) where
   reader bytes writers = record (in_call image (call 5 0 8192 10)) { descriptors = ends_of (record { bytes = bytes; readers = 1; writers = writers }) }
 
   reading_pipe : List ℕ → ℕ → Bool → Own
-  reading_pipe bytes writers there = moving (call 5 0 8192 10) (reader bytes writers) there (pos 10) (λ n. read_from (call 5 0 8192 10) (reader bytes writers) n 0 (Shown_pipe 0 Reading (record { bytes = bytes; readers = 1; writers = writers })))
+  reading_pipe bytes writers there = moving (call 5 0 8192 10) (reader bytes writers) there (pos 10)
+      (λ n. read_from (call 5 0 8192 10) (reader bytes writers) n 0 (Shown_pipe 0 Reading (record { bytes = bytes; readers = 1; writers = writers })))
 
   module _ (there : writable image 8192 10 ≡ true) (present : has_absent (pages_at 8192 10) image ≡ false) where
     pipe_bytes : image_of (own (reader (codes "xy") 1)).next ≡ write_image image 8192 (codes "xy")
@@ -511,7 +524,8 @@ module _ (image : Image) where
     one_frame = ap (λ (n : ℕ). n - price (record image { size = 12288 })) new ∙ ap (λ (n : ℕ). 7 - n) old
 
     growing : ℕ → ℕ → Own
-    growing free n = unless (nat_lt SIZE_LIMIT 16384 || nat_lt free n) (call 12 4096 0 0) (sizing 4096 free) (λ _. done (call 12 4096 0 0) (pos 12288) (record (sizing 4096 free) { image = grown (record image { size = 12288 }) 16384; free = free - n }))
+    growing free n = unless (nat_lt SIZE_LIMIT 16384 || nat_lt free n) (call 12 4096 0 0) (sizing 4096 free)
+        (λ _. done (call 12 4096 0 0) (pos 12288) (record (sizing 4096 free) { image = grown (record image { size = 12288 }) 16384; free = free - n }))
 
     grows : (own (sizing 4096 9)).answer ≡ Called (pos 12) (pos 12288)
     unfolding own perform_parts perform_row row_of in_call growing

@@ -1,7 +1,9 @@
 -- Worked cases of boot: the limits by their values, configurations and programs at them, and the first state of a machine.
 use Rattle.std.proofs.Common.{length, ◌≡◌, ℕ, ◌^◌, ◌-◌, ◌+◌, ◌*◌, true, false, Bool, cond, List, [], ◌∷◌, refl, ap, replicate, map}
 use Rattle.std.specs.Prelude.{None, Some, Result, Ok, Err, nat_lt, codes}
-use Rattle.xk_base.specs.declared.limits.TheConstants.{MAXPATH, MAXARG, ARG_BYTES, NOFILE, OPEN_FILES, NPROC, PID_MAX, PIPE_BYTES, CONSOLE_BYTES, SEND_BYTES, SIZE_LIMIT, FRAMES_MIN, FRAMES_MAX, TRACE_MAX, PROGRAMS_MAX, NAME_MAX, PROGRAM_BYTES}
+use Rattle.xk_base.specs.declared.limits.TheConstants.{MAXPATH, MAXARG, ARG_BYTES, NOFILE, OPEN_FILES, NPROC}
+use Rattle.xk_base.specs.declared.limits.TheConstants.{PID_MAX, PIPE_BYTES, CONSOLE_BYTES, SEND_BYTES, SIZE_LIMIT, FRAMES_MIN}
+use Rattle.xk_base.specs.declared.limits.TheConstants.{FRAMES_MAX, TRACE_MAX, PROGRAMS_MAX, NAME_MAX, PROGRAM_BYTES}
 use Rattle.xk_base.specs.declared.errors.ExecError.{ExecError}
 use Rattle.xk_base.specs.declared.errors.ExecError.TheVariants.{NoFrames}
 use Rattle.xk_base.specs.declared.errors.BootError.{BootError}
@@ -170,6 +172,7 @@ other_regs_are_0 l = refl
 
 -- pid 2 is the next, the clock stands at 0, the console is empty, and the turn goes to slot 0 first
 first_is : (frames : ℕ) (programs : List ProgramFile) (l : Loaded)
-    → ((first_state frames programs l).next_pid ≡ 2) × ((first_state frames programs l).clock ≡ 0) × ((first_state frames programs l).console ≡ empty_console) × ((first_state frames programs l).programs ≡ programs)
+    → ((first_state frames programs l).next_pid ≡ 2) × ((first_state frames programs l).clock ≡ 0)
+    × ((first_state frames programs l).console ≡ empty_console) × ((first_state frames programs l).programs ≡ programs)
     × (first_turns.last ≡ 63) × (first_turns.current ≡ None) × (first_turns.halted ≡ None)
 first_is frames programs l = (refl, refl, refl, refl, refl, refl, refl)

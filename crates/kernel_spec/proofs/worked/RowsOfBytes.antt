@@ -37,7 +37,8 @@ module _ (image : Image) where
   four offset = λ d. cond (nat_lt d 2) (Some (on_program 0 0 offset)) (cond (nat_eq d 2) (Some (on_program 2 0 0)) (cond (nat_eq d 3) (Some (on_program 3 1 0)) None))
 
   file_view : (d n offset : ℕ) → View
-  file_view d n offset = record (in_call image (asked_for 5 d n 0)) { descriptors = four offset; programs = (record { name = codes "a"; bytes = codes "hello" }) ∷ (record { name = codes "b"; bytes = codes "hi" }) ∷ [] }
+  file_view d n offset = record (in_call image (asked_for 5 d n 0))
+      { descriptors = four offset; programs = (record { name = codes "a"; bytes = codes "hello" }) ∷ (record { name = codes "b"; bytes = codes "hi" }) ∷ [] }
 
   -- the read of n bytes at a place of a program, where it is known whether the buffer is there
   file_if : (d n offset file program at : ℕ) → Bool → Own
@@ -84,7 +85,8 @@ module _ (image : Image) where
   pipe_view c bytes = record (in_call image c) { descriptors = ends_of (pipe_of bytes) }
 
   reading_if : ℕ → List ℕ → Bool → Own
-  reading_if n bytes there = moving (asked_for 5 0 n 0) (pipe_view (asked_for 5 0 n 0) bytes) there (pos n) (λ k. read_from (asked_for 5 0 n 0) (pipe_view (asked_for 5 0 n 0) bytes) k 0 (Shown_pipe 0 Reading (pipe_of bytes)))
+  reading_if n bytes there = moving (asked_for 5 0 n 0) (pipe_view (asked_for 5 0 n 0) bytes) there (pos n)
+      (λ k. read_from (asked_for 5 0 n 0) (pipe_view (asked_for 5 0 n 0) bytes) k 0 (Shown_pipe 0 Reading (pipe_of bytes)))
 
   module _ (there : writable image 8192 1 ≡ true) (present : has_absent (pages_at 8192 1) image ≡ false) where
     -- one byte of two: the other is left
@@ -102,11 +104,13 @@ module _ (image : Image) where
     pipe_second_left = by_parts (λ (o : Own). at_place o.next 1) _ _ present (ap (λ (b : Bool). at_place (reading_if 1 (codes "xy") b).next 1) there)
 
   writing_if : (n moved : ℕ) → List ℕ → Bool → Own
-  writing_if n moved bytes there = moving (asked_for 16 1 n moved) (pipe_view (asked_for 16 1 n moved) bytes) there (pos n) (λ k. write_to (asked_for 16 1 n moved) (pipe_view (asked_for 16 1 n moved) bytes) k (Shown_pipe 0 Writing (pipe_of bytes)))
+  writing_if n moved bytes there = moving (asked_for 16 1 n moved) (pipe_view (asked_for 16 1 n moved) bytes) there (pos n)
+      (λ k. write_to (asked_for 16 1 n moved) (pipe_view (asked_for 16 1 n moved) bytes) k (Shown_pipe 0 Writing (pipe_of bytes)))
 
   -- two bytes behind those that are there
   module _ (there : readable image 8192 2 ≡ true) where
-    pipe_more : at_place (own (pipe_view (asked_for 16 1 2 0) (codes "xy"))).next 0 ≡ Some (record { file = 0; read = true; write = false; shown = Shown_pipe 0 Reading (pipe_of (codes "xy" ++ image_bytes image 8192 2)) })
+    pipe_more : at_place (own (pipe_view (asked_for 16 1 2 0) (codes "xy"))).next 0 ≡ Some
+        (record { file = 0; read = true; write = false; shown = Shown_pipe 0 Reading (pipe_of (codes "xy" ++ image_bytes image 8192 2)) })
     unfolding own perform_parts perform_row row_of in_call asked_for pipe_view writing_if at_place
     pipe_more = by_parts (λ (o : Own). at_place o.next 0) _ _ refl (ap (λ (b : Bool). at_place (writing_if 2 0 (codes "xy") b).next 0) there)
 
@@ -120,7 +124,8 @@ module _ (image : Image) where
     pipe_fits_1 = by_parts (λ (o : Own). moved_of o.next) _ _ refl (ap (λ (b : Bool). moved_of (writing_if 2 0 (replicate (PIPE_BYTES - 1) 0) b).next) there)
 
     -- which goes from behind it
-    pipe_goes_on : at_place (own (pipe_view (asked_for 16 1 2 1) (codes "x"))).next 1 ≡ Some (record { file = 1; read = false; write = true; shown = Shown_pipe 0 Writing (pipe_of (codes "x" ++ image_bytes image 8193 1)) })
+    pipe_goes_on : at_place (own (pipe_view (asked_for 16 1 2 1) (codes "x"))).next 1 ≡ Some
+        (record { file = 1; read = false; write = true; shown = Shown_pipe 0 Writing (pipe_of (codes "x" ++ image_bytes image 8193 1)) })
     unfolding own perform_parts perform_row row_of in_call asked_for pipe_view writing_if at_place
     pipe_goes_on = by_parts (λ (o : Own). at_place o.next 1) _ _ refl (ap (λ (b : Bool). at_place (writing_if 2 1 (codes "x") b).next 1) there)
 
@@ -142,7 +147,8 @@ module _ (image : Image) where
   two_pipes c = record (in_call image c) { descriptors = λ d. cond (nat_eq d 2) (Some other_end) (ends_of (pipe_of (codes "xy")) d) }
 
   reading_one : Bool → Own
-  reading_one there = moving (asked_for 5 0 1 0) (two_pipes (asked_for 5 0 1 0)) there (pos 1) (λ k. read_from (asked_for 5 0 1 0) (two_pipes (asked_for 5 0 1 0)) k 0 (Shown_pipe 0 Reading (pipe_of (codes "xy"))))
+  reading_one there = moving (asked_for 5 0 1 0) (two_pipes (asked_for 5 0 1 0)) there (pos 1)
+      (λ k. read_from (asked_for 5 0 1 0) (two_pipes (asked_for 5 0 1 0)) k 0 (Shown_pipe 0 Reading (pipe_of (codes "xy"))))
 
   other_stays : writable image 8192 1 ≡ true → has_absent (pages_at 8192 1) image ≡ false → at_place (own (two_pipes (asked_for 5 0 1 0))).next 2 ≡ Some other_end
   unfolding own perform_parts perform_row row_of in_call asked_for two_pipes reading_one at_place
@@ -200,7 +206,8 @@ module _ (image : Image) where
   sending bytes = record empty_console { to_send = bytes }
 
   sending_if : List ℕ → Bool → Own
-  sending_if bytes there = moving (asked_for 16 0 2 0) (console_view (asked_for 16 0 2 0) (sending bytes)) there (pos 2) (λ k. write_to (asked_for 16 0 2 0) (console_view (asked_for 16 0 2 0) (sending bytes)) k Shown_terminal)
+  sending_if bytes there = moving (asked_for 16 0 2 0) (console_view (asked_for 16 0 2 0) (sending bytes)) there (pos 2)
+      (λ k. write_to (asked_for 16 0 2 0) (console_view (asked_for 16 0 2 0) (sending bytes)) k Shown_terminal)
 
   module _ (there : readable image 8192 2 ≡ true) where
     -- behind what is to be sent already
@@ -244,7 +251,8 @@ keys_erase_none : line (with_lines (codes "c") []) 8 ∷ line (with_lines (codes
 keys_erase_none = refl
 
 -- Enter, byte 10 and byte 4 end the line; every other byte goes on
-keys_end : line line_ab 13 ∷ line line_ab 10 ∷ line line_ab 4 ∷ [] ≡ (with_lines (codes "cab\n") [], 10 ∷ []) ∷ (with_lines (codes "cab\n") [], 10 ∷ []) ∷ (with_lines (codes "cab" ++ 4 ∷ []) [], 4 ∷ []) ∷ []
+keys_end : line line_ab 13 ∷ line line_ab 10 ∷ line line_ab 4 ∷ [] ≡ (with_lines (codes "cab\n") [], 10 ∷ []) ∷
+    (with_lines (codes "cab\n") [], 10 ∷ []) ∷ (with_lines (codes "cab" ++ 4 ∷ []) [], 4 ∷ []) ∷ []
 keys_end = refl
 
 key_goes_on : line line_ab 255 ≡ (with_lines (codes "c") (codes "ab" ++ 255 ∷ []), 255 ∷ [])

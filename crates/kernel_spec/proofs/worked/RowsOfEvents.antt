@@ -5,6 +5,7 @@ use Rattle.std.specs.Prelude.{IsSome, MatchOption, Contains, Option, None, Some,
 use Rattle.std.specs.Ordering.{nat_cmp}
 use Rattle.std.specs.FinMap.{FinMap}
 use Rattle.std.specs.FinSet.{FinSet, contains}
+use Rattle.std.proofs.lemmas.Option.{none-some, same_Some}
 use Rattle.xk_base.specs.declared.access.Cause.TheVariants.{LoadPageFault}
 use Rattle.pipe_core.specs.Pipe.{Pipe}
 use Rattle.console_core.specs.Lists.{Console, empty_console}
@@ -23,7 +24,8 @@ use Rattle.kernel_spec.proofs.worked.WorkedViews.{call}
 
 -- ---- a world with these parts
 
-module _ (processes : FinMap nat_cmp Process) (files : FinMap nat_cmp OpenFile) (pipes : FinMap nat_cmp Pipe) (slots : FinMap nat_cmp ℕ) (asleep fewer : FinSet nat_cmp) (wakes : (p : ℕ) → contains fewer p ≡ true → contains asleep p ≡ true) where
+module _ (processes : FinMap nat_cmp Process) (files : FinMap nat_cmp OpenFile) (pipes : FinMap nat_cmp Pipe) (slots : FinMap nat_cmp ℕ)
+    (asleep fewer : FinSet nat_cmp) (wakes : (p : ℕ) → contains fewer p ≡ true → contains asleep p ≡ true) where
   stated : (clock : ℕ) → Console → State
   stated clock console = record { processes = processes; files = files; pipes = pipes; console = console; clock = clock; next_pid = 4; free = 9; programs = [] }
 
@@ -178,7 +180,8 @@ module _ (processes : FinMap nat_cmp Process) (files : FinMap nat_cmp OpenFile) 
 runs_on : map (stays_current 3) (Stepped ∷ Called (pos 1) (pos 0) ∷ Blocked (pos 3) ∷ Exited (pos 0) ∷ Faulted LoadPageFault ∷ []) ≡ Some 3 ∷ Some 3 ∷ None ∷ None ∷ None ∷ []
 runs_on = refl
 
-halting : map halted_by (Step_of 1 Stepped ∷ Step_of 1 (Blocked (pos 3)) ∷ Step_of 1 (Exited (pos 7)) ∷ Step_of 1 (Faulted LoadPageFault) ∷ Step_of 2 (Exited (pos 7)) ∷ Step_of 2 (Faulted LoadPageFault) ∷ Idle ∷ Halted ∷ [])
+halting : map halted_by (Step_of 1 Stepped ∷ Step_of 1 (Blocked (pos 3)) ∷ Step_of 1 (Exited (pos 7)) ∷ Step_of 1 (Faulted LoadPageFault) ∷ Step_of 2
+    (Exited (pos 7)) ∷ Step_of 2 (Faulted LoadPageFault) ∷ Idle ∷ Halted ∷ [])
     ≡ None ∷ None ∷ Some (pos 7) ∷ Some (negsuc 0) ∷ None ∷ None ∷ None ∷ None ∷ []
 halting = refl
 
@@ -196,9 +199,6 @@ module _ (t : Turns) (p q : ℕ) (first : HasSlot t p 0) (second : HasSlot t q 1
 
   lowest_is_only : (slot : ℕ) → IsLowestFree t slot → slot ≡ 2
   lowest_is_only slot (below, is, least) = let a : slot ≢ 0 = not_0 slot is in let b : slot ≢ 1 = not_1 slot is in let c : slot ≤ 2 = least 2 free in omega arith
-
-none_has : (slot : ℕ) → None ≡ Some slot → ⊥
-none_has slot e = cc
 
 -- with all 64 slots held there is none
 no_lowest : (t : Turns) → ((k : ℕ) → k < 64 → (p : ℕ) × HasSlot t p k) → (slot : ℕ) → IsLowestFree t slot → ⊥
@@ -234,7 +234,7 @@ module _ (before after : Turns) (r : ℕ) (o : Own) (h : TurnsAfter before r o a
   same_slot q there has = h.held q there (subst IsSome (sym has) refl) ∙ has
 
   slot_given_up : (q : ℕ) → ¬ Contains o.left.pids q → (slot : ℕ) → ¬ HasSlot after q slot
-  slot_given_up q gone slot has = none_has slot (sym (h.given_up q gone) ∙ has)
+  slot_given_up q gone slot has = none-some slot (sym (h.given_up q gone) ∙ has)
 
   nobody_else_sleeps : (q : ℕ) → q ≢ r → Sleeps after q → Sleeps before q
   nobody_else_sleeps q apart sleeps = elim (h.awake q sleeps) [ inl was ↦ was | inr own ↦ absurd (apart own.0) ]
@@ -255,9 +255,6 @@ past_the_last w p q last halted current p_may q_may p_has q_has takes =
 not_idle : (w : World) (p : ℕ) → w.turns.halted ≡ None → w.turns.current ≡ None → IsRunnable w p → TakesNearest w Run Idle → ⊥
 not_idle w p halted current may takes = let is = (takes refl halted current).0 in is.0 refl p may
 
-same_call : (a b : Call) → Some a ≡ Some b → a ≡ b
-same_call a b e = cc
-
 -- ---- who wakes
 
 module _ (w t : World) (o : Outcome) (due : WakesWhereDue w o t) (p : ℕ) (v : View) (asleep : Sleeps w.turns p) (sees : view t.state p ≡ Some v) where
@@ -277,13 +274,16 @@ module _ (w t : World) (o : Outcome) (due : WakesWhereDue w o t) (p : ℕ) (v : 
   other_sleeps two unready is woken = elim ((due p v asleep sees).0 woken) [
     | inl could ↦ let bad : false ≡ true = sym unready ∙ could in let contradiction : ⊥ = cc in contradiction
     | inr rest ↦ elim rest [
-      | inl counts ↦ let (c, call_is, number) = counts.0 in let same : pos 3 ≡ pos 13 = ap (λ (c : Call). c.number) (same_call (call 3 0 0 0) c (sym is ∙ call_is)) ∙ number in let contradiction : ⊥ = cc in contradiction
+      | inl counts ↦ let (c, call_is, number) = counts.0 in
+          let same : pos 3 ≡ pos 13 = ap (λ (c : Call). c.number) (same_Some (call 3 0 0 0) c (sym is ∙ call_is)) ∙ number in
+          let contradiction : ⊥ = cc in contradiction
       | inr first ↦ let numbers : ◌≡◌ {A = ℕ} 2 1 = sym two ∙ first.0 in let contradiction : ⊥ = cc in contradiction
     ]
   ]
 
 -- ---- what a run shows: echoes and bytes that were sent, byte 0 too
 
-shows : out ((Key 97, Typed (97 ∷ [])) ∷ (Send, Sent (Some 0)) ∷ (Run, Turn 2) ∷ (Send, Sent (Some 32)) ∷ (Send, Sent None) ∷ (Key 21, Typed (8 ∷ 32 ∷ 8 ∷ [])) ∷ (Tick, Ticked) ∷ (Run, Step_of 2 (Exited (pos 7))) ∷ (Run, Idle) ∷ (Run, Halted) ∷ [])
+shows : out ((Key 97, Typed (97 ∷ [])) ∷ (Send, Sent (Some 0)) ∷ (Run, Turn 2) ∷ (Send, Sent (Some 32)) ∷ (Send, Sent None) ∷
+    (Key 21, Typed (8 ∷ 32 ∷ 8 ∷ [])) ∷ (Tick, Ticked) ∷ (Run, Step_of 2 (Exited (pos 7))) ∷ (Run, Idle) ∷ (Run, Halted) ∷ [])
     ≡ 97 ∷ 0 ∷ 32 ∷ 8 ∷ 32 ∷ 8 ∷ []
 shows = refl

@@ -2,6 +2,7 @@
 use Rattle.std.proofs.Common.{◌≡◌, ◌≢◌, ℕ, Bool, true, ◌+◌, ◌*◌, List, [], ◌∷◌, None, Some, Option, inl, inr, refl, ap, sym, ◌∙◌, subst}
 use Rattle.std.specs.Prelude.{Ok, Err, Result, MatchOption, pos, negsuc, slice_index}
 use Rattle.std.specs.FinMap.{get, keys}
+use Rattle.std.proofs.lemmas.Option.{same_Some}
 use Rattle.xk_base.specs.declared.limits.TheConstants.{MAXPATH, MAXARG, ARG_BYTES}
 use Rattle.xk_base.specs.declared.errors.BootError.{BootError}
 use Rattle.xk_base.specs.declared.errors.BootError.TheVariants.{BadConfig}
@@ -58,15 +59,12 @@ module _ (s t : State) (o : Own) (after : FilesAfter s 1 o t) where
 -- if nothing changes it is so
 files_stay : (s : State) (o : Own) → o.child ≡ None → FilesAfter s 1 o s
 files_stay s o none = record {
-  same_file = λ q d f g a b. some_number f g (sym a ∙ b);
-  same_pipe = λ q d f g a b. some_number f g (sym a ∙ b);
+  same_file = λ q d f g a b. same_Some f g (sym a ∙ b);
+  same_pipe = λ q d f g a b. same_Some f g (sym a ∙ b);
   newborn = subst (λ (x : Option View). MatchOption x (Unit {0}) (λ c. (d : ℕ) → file_at s c.pid d ≡ file_at s 1 d)) (sym none) tt;
   new_file = λ q d e f mine new its. absurd (new d mine);
   new_pipe = λ q d e f mine new its. absurd (new d mine);
 }
-  where
-    some_number : (a b : ℕ) → Some a ≡ Some b → a ≡ b
-    some_number a b e = cc
 
 -- ---- what a step leaves to all
 
@@ -92,15 +90,16 @@ module _ (w a b : World) (tick : Happens w Tick Ticked a) (key : Happens a (Key 
 
   -- without a step there is no moment
   course_none : Course 2 w []
-  course_none = ((Tick, Ticked) ∷ (Key 97, Typed (97 ∷ [])) ∷ [], b, (a, tick, inl (outside w Tick (λ e. let no : ⊥ = cc in no), (b, key, inl (outside a (Key 97) (λ e. let no : ⊥ = cc in no), (refl, refl))))))
+  course_none = (
+    (Tick, Ticked) ∷ (Key 97, Typed (97 ∷ [])) ∷ [],
+    b,
+    (a, tick, inl (outside w Tick (λ e. let no : ⊥ = cc in no), (b, key, inl (outside a (Key 97) (λ e. let no : ⊥ = cc in no), (refl, refl))))),
+  )
 
 -- a step of process 3 is another's, and one of 2 isn't
 module _ (w t : World) (o : Outcome) (step : Happens w Run o t) (going : w.turns.halted ≡ None) where
-  same_pid : (a b : ℕ) → Some a ≡ Some b → a ≡ b
-  same_pid a b e = cc
-
   others_step : w.turns.current ≡ Some 3 → Others 2 w ((Run, o) ∷ []) t
-  others_step runs = (t, step, (λ is. let both : ◌≡◌ {A = ℕ} 3 2 = same_pid 3 2 (sym runs ∙ is.2) in let no : ⊥ = cc in no), refl)
+  others_step runs = (t, step, (λ is. let both : ◌≡◌ {A = ℕ} 3 2 = same_Some 3 2 (sym runs ∙ is.2) in let no : ⊥ = cc in no), refl)
 
   no_others_step : w.turns.current ≡ Some 2 → Others 2 w ((Run, o) ∷ []) t → ⊥
   no_others_step runs is = is.2 (refl, going, runs)
@@ -151,21 +150,12 @@ module _ (v : View) (o : Own) (path : List ℕ) (texts : List (List ℕ)) (p : P
   -- no other image comes of it
   one_image : (image : Image) → HasExeced v o image → image ≡ l.image
   one_image image (path_too, texts_too, p_too, l_too, row, named_too, there_too, given_too, loads_too, is, answer) =
-      let same_path : path ≡ path_too = some_path path path_too (sym named ∙ named_too) in
-      let same_texts : texts ≡ texts_too = some_texts texts texts_too (sym given ∙ given_too) in
-      let same_p : p ≡ p_too = some_program p p_too (sym there ∙ ap (λ (x : List ℕ). program_named (no_slashes x) v.programs) same_path ∙ there_too) in
+      let same_path : path ≡ path_too = same_Some path path_too (sym named ∙ named_too) in
+      let same_texts : texts ≡ texts_too = same_Some texts texts_too (sym given ∙ given_too) in
+      let same_p : p ≡ p_too = same_Some p p_too (sym there ∙ ap (λ (x : List ℕ). program_named (no_slashes x) v.programs) same_path ∙ there_too) in
       let same_l : l ≡ l_too = ok_loaded l l_too (sym loads ∙ (λ i. loaded (same_p i).bytes (same_texts i)) ∙ loads_too) in
       is ∙ ap (λ (x : Loaded). x.image) (sym same_l)
     where
-      some_path : (a b : List ℕ) → Some a ≡ Some b → a ≡ b
-      some_path a b e = cc
-
-      some_texts : (a b : List (List ℕ)) → Some a ≡ Some b → a ≡ b
-      some_texts a b e = cc
-
-      some_program : (a b : ProgramFile) → Some a ≡ Some b → a ≡ b
-      some_program a b e = cc
-
       ok_loaded : (a b : Loaded) → ◌≡◌ {A = Result Loaded ExecError} (Ok a) (Ok b) → a ≡ b
       ok_loaded a b e = cc
 
@@ -191,15 +181,12 @@ module _ (v : View) (unstored : ¬ IsStored v (2 * 4096 + 0)) where
     | inl stored ↦ unstored stored
     | inr rest ↦ elim rest [
       | inl was ↦
-          let same : x ≡ was.0 = some_page x was.0 (sym is ∙ was.1) in
+          let same : x ≡ was.0 = same_Some x was.0 (sym is ∙ was.1) in
           let both : ◌≡◌ {A = ℕ} 7 8 = sym byte ∙ ap (λ (p : Page). slice_index p.bytes 0) same ∙ was.2 in
           let no : ⊥ = cc in no
       | inr new ↦ let none : Some x ≡ None = sym is ∙ new.0 in let no : ⊥ = cc in no
     ]
   ]
-    where
-      some_page : (a b : Page) → Some a ≡ Some b → a ≡ b
-      some_page a b e = cc
 
   no_byte_in_a_new_page : get v.image.pages 2 ≡ None → IsOfItsOwn v 2 0 7 → ⊥
   no_byte_in_a_new_page none h = elim h [

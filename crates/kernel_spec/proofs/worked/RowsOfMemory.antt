@@ -40,7 +40,8 @@ text_of_page : (o : Option Page) (k : ℕ) (rest : Option (List ℕ)) → (if al
 text_of_page None k rest = refl
 text_of_page (Some page) k rest = by page.perm.user
   where
-    by : (u : Bool) → (if u && page.perm.read then text_from (byte_in (Some page) k) rest else None) ≡ cell_text (if u then Some (record { read = page.perm.read; write = page.perm.write; execute = page.perm.execute; byte = byte_in (Some page) k }) else None) rest
+    by : (u : Bool) → (if u && page.perm.read then text_from (byte_in (Some page) k) rest else None) ≡ cell_text
+        (if u then Some (record { read = page.perm.read; write = page.perm.write; execute = page.perm.execute; byte = byte_in (Some page) k }) else None) rest
     by true = refl
     by false = refl
 
@@ -219,7 +220,9 @@ module _ (i : Image) where
       ∙ ap (λ o. texts_from (Some (le (map (byte_in o) (range_with_len 0 8)))) (λ q. with_text (text_at 4096 i q) (texts_at 30 4096 i 4104))) (absent-not-there i 1 absent)
     where
       all_of : Bool → Bool
-      all_of b = (b || may Load i 4096) && ((b || may Load i 4097) && ((b || may Load i 4098) && ((b || may Load i 4099) && ((b || may Load i 4100) && ((b || may Load i 4101) && ((b || may Load i 4102) && ((b || may Load i 4103) && true)))))))
+      all_of b = (b || may Load i 4096) && ((b || may Load i 4097) &&
+          ((b || may Load i 4098) && ((b || may Load i 4099) &&
+          ((b || may Load i 4100) && ((b || may Load i 4101) && ((b || may Load i 4102) && ((b || may Load i 4103) && true)))))))
 
 -- ---- names without their leading slashes
 

@@ -102,11 +102,13 @@ module _ (image : Image) where
     -- both are on both ends of the parent's pipe
     fork_readers : readers_of (at_place (own (record (forking 7 2 (1 ∷ [])) { descriptors = ends_of new_pipe })).next 1) ≡ 2
     unfolding own perform_parts perform_row row_of in_call forking fork_if at_place readers_of new_pipe count_below
-    fork_readers = by_parts (λ (o : Own). readers_of (at_place o.next 1)) _ _ refl (forks (λ o. readers_of (at_place o.next 1)) (record (forking 7 2 (1 ∷ [])) { descriptors = ends_of new_pipe }) false (enough 7))
+    fork_readers = by_parts (λ (o : Own). readers_of (at_place o.next 1)) _ _ refl
+        (forks (λ o. readers_of (at_place o.next 1)) (record (forking 7 2 (1 ∷ [])) { descriptors = ends_of new_pipe }) false (enough 7))
 
     fork_writers : writers_of (at_place (own (record (forking 7 2 (1 ∷ [])) { descriptors = ends_of new_pipe })).child 0) ≡ 2
     unfolding own perform_parts perform_row row_of in_call forking fork_if at_place writers_of new_pipe count_below
-    fork_writers = by_parts (λ (o : Own). writers_of (at_place o.child 0)) _ _ refl (forks (λ o. writers_of (at_place o.child 0)) (record (forking 7 2 (1 ∷ [])) { descriptors = ends_of new_pipe }) false (enough 7))
+    fork_writers = by_parts (λ (o : Own). writers_of (at_place o.child 0)) _ _ refl
+        (forks (λ o. writers_of (at_place o.child 0)) (record (forking 7 2 (1 ∷ [])) { descriptors = ends_of new_pipe }) false (enough 7))
 
   -- ---- kill of a zombie: it stays as it is; a status of 5 is still there
 

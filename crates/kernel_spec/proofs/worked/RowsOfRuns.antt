@@ -1,6 +1,7 @@
 -- Worked cases of how a run is cut at a process's steps, and of what a step's answer tells.
 use Rattle.std.proofs.Common.{◌≡◌, zero, suc, ◌^◌, ◌+◌, ◌-◌, ◌<◌, List, [], ◌∷◌, None, Some, inl, inr, refl, arith, ℕ, true, false, Option, ap, sym, ◌∙◌}
 use Rattle.std.specs.Prelude.{pos, negsuc, Contains, is_some}
+use Rattle.std.proofs.lemmas.Option.{same_Some}
 use Rattle.xk_base.specs.declared.limits.TheConstants.{PIPE_BYTES}
 use Rattle.xk_base.specs.Image.{Image}
 use Rattle.rv64i_core.specs.Registers.{fresh, put}
@@ -19,7 +20,8 @@ use Rattle.kernel_spec.specs.rows.Lines.{◌>>=◌, ◌>>◌, ◌when◌, ◌or�
 
 -- ---- which outcomes are those of process 2
 
-outcomes_of_2 : steps_of 2 ((Run, Turn 2) ∷ (Run, Step_of 2 Stepped) ∷ (Run, Step_of 3 (Exited (pos 7))) ∷ (Tick, Ticked) ∷ (Run, Step_of 2 (Blocked (pos 3))) ∷ (Run, Step_of 22 Stepped) ∷ []) ≡ Step_of 2 Stepped ∷ Step_of 2 (Blocked (pos 3)) ∷ []
+outcomes_of_2 : steps_of 2 ((Run, Turn 2) ∷ (Run, Step_of 2 Stepped) ∷ (Run, Step_of 3 (Exited (pos 7))) ∷ (Tick, Ticked) ∷
+    (Run, Step_of 2 (Blocked (pos 3))) ∷ (Run, Step_of 22 Stepped) ∷ []) ≡ Step_of 2 Stepped ∷ Step_of 2 (Blocked (pos 3)) ∷ []
 outcomes_of_2 = refl
 
 -- ---- a tick, a step of process 2, a key
@@ -41,7 +43,8 @@ none_behind (e ∷ es) w t m n gone is = elim is.2 [
   ]
 ]
 
-module _ (w a b t : World) (u n : View) (tick : Happens w Tick Ticked a) (runs : IsStepOf 2 a Run) (before : view a.state 2 ≡ Some u) (step : Happens a Run (Step_of 2 Stepped) b) (after : view b.state 2 ≡ Some n) (key : Happens b (Key 97) (Typed (97 ∷ [])) t) where
+module _ (w a b t : World) (u n : View) (tick : Happens w Tick Ticked a) (runs : IsStepOf 2 a Run) (before : view a.state 2 ≡ Some u)
+    (step : Happens a Run (Step_of 2 Stepped) b) (after : view b.state 2 ≡ Some n) (key : Happens b (Key 97) (Typed (97 ∷ [])) t) where
   abbrev moment : Moment
   moment = record { before = u; outcome = Step_of 2 Stepped; after = Some n }
 
@@ -49,7 +52,25 @@ module _ (w a b t : World) (u n : View) (tick : Happens w Tick Ticked a) (runs :
   other_event v e apart is = apart is.0
 
   cut : IsCut 2 w ((Tick, Ticked) ∷ (Run, Step_of 2 Stepped) ∷ (Key 97, Typed (97 ∷ [])) ∷ []) t (moment ∷ [])
-  cut = (a, tick, inl (other_event w Tick (λ e. let no : ⊥ = cc in no), (b, step, inr (moment, [], refl, (runs, before, refl, after), inl refl, (t, key, inl (other_event b (Key 97) (λ e. let no : ⊥ = cc in no), (refl, refl)))))))
+  cut = (
+    a,
+    tick,
+    inl (
+      other_event w Tick (λ e. let no : ⊥ = cc in no),
+      (
+        b,
+        step,
+        inr (
+          moment,
+          [],
+          refl,
+          (runs, before, refl, after),
+          inl refl,
+          (t, key, inl (other_event b (Key 97) (λ e. let no : ⊥ = cc in no), (refl, refl))),
+        ),
+      ),
+    ),
+  )
 
   -- its moment tells what it saw, and no other outcome
   not_another_outcome : IsCut 2 a ((Run, Step_of 2 Stepped) ∷ []) b (record moment { outcome = Step_of 2 (Exited (pos 0)) } ∷ []) → ⊥
@@ -140,10 +161,25 @@ module _ (image : Image) where
 
   broken : IsBrokenWrite (with_readers 16 0)
   unfolding in_call
-  broken = (all_but_one 16, 1, record { file = 1; read = false; write = true; shown = Shown_pipe 0 Writing (record { bytes = []; readers = 0; writers = 1 }) }, 0, Writing, record { bytes = []; readers = 0; writers = 1 }, refl, refl, refl, refl, refl, refl)
-
-  one_call : (a b : Call) → Some a ≡ Some b → a ≡ b
-  one_call a b e = cc
+  broken = (
+    all_but_one 16,
+    1,
+    record {
+      file = 1;
+      read = false;
+      write = true;
+      shown = Shown_pipe 0 Writing (record { bytes = []; readers = 0; writers = 1 });
+    },
+    0,
+    Writing,
+    record { bytes = []; readers = 0; writers = 1 },
+    refl,
+    refl,
+    refl,
+    refl,
+    refl,
+    refl,
+  )
 
   same_number : (a b : ℕ) → pos a ≡ pos b → a ≡ b
   same_number a b e = cc
@@ -151,10 +187,11 @@ module _ (image : Image) where
   not_with_a_reader : IsBrokenWrite (with_readers 16 1) → ⊥
   unfolding in_call
   not_with_a_reader (c, d, x, name, end, pipe, busy, number, at, on, shown, none) =
-      let descriptor : 1 ≡ d = same_number 1 d (ap (λ (c : Call). c_int c.a0) (one_call (all_but_one 16) c busy) ∙ at) in
+      let descriptor : 1 ≡ d = same_number 1 d (ap (λ (c : Call). c_int c.a0) (same_Some (all_but_one 16) c busy) ∙ at) in
       let readers : ◌≡◌ {A = ℕ} 1 0 = ap (λ (k : ℕ). readers_at (ends_of (record { bytes = []; readers = 1; writers = 1 }) k)) descriptor ∙ ap readers_at on ∙ ap readers_shown shown ∙ none in
       let no : ⊥ = cc in no
 
   not_a_read : IsBrokenWrite (with_readers 5 0) → ⊥
   unfolding in_call
-  not_a_read (c, d, x, name, end, pipe, busy, number, at, on, shown, none) = let same : pos 5 ≡ pos 16 = ap (λ (c : Call). c.number) (one_call (all_but_one 5) c busy) ∙ number in let no : ⊥ = cc in no
+  not_a_read (c, d, x, name, end, pipe, busy, number, at, on, shown, none) = let same : pos 5 ≡ pos 16 =
+      ap (λ (c : Call). c.number) (same_Some (all_but_one 5) c busy) ∙ number in let no : ⊥ = cc in no

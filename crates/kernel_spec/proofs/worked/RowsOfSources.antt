@@ -2,6 +2,7 @@
 use Rattle.std.proofs.Common.{◌≡◌, ℕ, ◌*◌, ◌+◌, ◌<◌, length, [], Option, None, Some, inl, inr, refl, ap, sym, ◌∙◌, subst, arith}
 use Rattle.std.specs.Prelude.{pos, slice_index}
 use Rattle.std.specs.FinMap.{get}
+use Rattle.std.proofs.lemmas.Option.{same_Some}
 use Rattle.xk_base.specs.Image.{Page}
 use Rattle.kernel_spec.specs.views.View.{View, view}
 use Rattle.kernel_spec.specs.steps.Own.{Called, Stepped}
@@ -42,16 +43,10 @@ module _ (w t : World) where
 
   one_byte : Holds w 1 0 0 7 → Holds w 1 0 0 8 → ⊥
   one_byte a b =
-      let v : a.0 ≡ b.0 = same_view a.0 b.0 (sym a.1 ∙ b.1) in
-      let x : a.2.0 ≡ b.2.0 = same_page a.2.0 b.2.0 (sym a.2.1 ∙ ap (λ (u : View). get u.image.pages 0) v ∙ b.2.1) in
+      let v : a.0 ≡ b.0 = same_Some a.0 b.0 (sym a.1 ∙ b.1) in
+      let x : a.2.0 ≡ b.2.0 = same_Some a.2.0 b.2.0 (sym a.2.1 ∙ ap (λ (u : View). get u.image.pages 0) v ∙ b.2.1) in
       let e : ◌≡◌ {A = ℕ} 7 8 = sym a.2.2 ∙ ap (λ (p : Page). slice_index p.bytes 0) x ∙ b.2.2 in
       let no : ⊥ = cc in no
-    where
-      same_view : (a b : View) → Some a ≡ Some b → a ≡ b
-      same_view a b e = cc
-
-      same_page : (a b : Page) → Some a ≡ Some b → a ≡ b
-      same_page a b e = cc
 
 -- ---- a step that stores nothing, and is no exec, puts no byte into a page that was there
 

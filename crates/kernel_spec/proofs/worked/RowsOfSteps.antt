@@ -128,7 +128,8 @@ module _ (image : Image) where
   abbrev child_2 : Child → ℕ → Option Child
   child_2 c = λ q. cond (nat_eq q 2) (Some c) None
 
-  wait_ready : is_ready (call 3 0 0 0) no_table (child_2 Running) empty_console ∷ is_ready (call 3 0 0 0) no_table (child_2 (Status (pos 0))) empty_console ∷ is_ready (call 3 0 0 0) no_table no_child empty_console ∷ [] ≡ false ∷ true ∷ true ∷ []
+  wait_ready : is_ready (call 3 0 0 0) no_table (child_2 Running) empty_console ∷ is_ready (call 3 0 0 0) no_table
+      (child_2 (Status (pos 0))) empty_console ∷ is_ready (call 3 0 0 0) no_table no_child empty_console ∷ [] ≡ false ∷ true ∷ true ∷ []
   unfolding ready row_of in_call is_ready
   wait_ready = refl
 
@@ -152,7 +153,8 @@ module _ (image : Image) where
   at_console number console = is_ready (call number 0 0 1) (λ d. cond (nat_eq d 0) (Some (record { file = 0; read = true; write = true; shown = Shown_terminal })) None) no_child console
 
   -- a read of the console: no byte, a byte that isn't committed yet, one that is
-  console_read_ready : at_console 5 empty_console ∷ at_console 5 (record empty_console { uncommitted = 97 ∷ [] }) ∷ at_console 5 (record empty_console { committed = 4 ∷ [] }) ∷ [] ≡ false ∷ false ∷ true ∷ []
+  console_read_ready : at_console 5 empty_console ∷ at_console 5 (record empty_console { uncommitted = 97 ∷ [] }) ∷ at_console 5
+      (record empty_console { committed = 4 ∷ [] }) ∷ [] ≡ false ∷ false ∷ true ∷ []
   unfolding ready row_of in_call is_ready at_console
   console_read_ready = refl
 

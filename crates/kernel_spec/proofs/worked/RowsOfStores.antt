@@ -73,7 +73,8 @@ module _ (image : Image) where
   pipe_refused : stored_by_row (call 4 8192 0 0) v (Some Pipe_row) (Called (pos 4) (negsuc 0)) ≡ nothing_stored
   pipe_refused = refl
 
-  -- ---- read of 4 bytes: a line of 3; 2 bytes of the line behind those that came before, whether it ends or waits; a refusal; of a file from its offset on, and of a pipe, from the buffer's first byte on, whatever the call counts
+  -- ---- read of 4 bytes: a line of 3; 2 bytes of the line behind those that came before, whether it ends or waits; a
+  -- refusal; of a file from its offset on, and of a pipe, from the buffer's first byte on, whatever the call counts
 
   read_line : stored_by_row (call 5 0 8192 4) (typed (104 ∷ 105 ∷ 10 ∷ 33 ∷ []) (shows Shown_terminal v)) (Some Read) (Called (pos 5) (pos 3)) ≡ stored 8192 (104 ∷ 105 ∷ 10 ∷ [])
   unfolding in_call
@@ -98,7 +99,8 @@ module _ (image : Image) where
   unfolding in_call
   read_part = refl
 
-  read_pipe : stored_by_row (record (call 5 0 8192 4) { moved = 2 }) (shows (Shown_pipe 0 Reading (record new_pipe { bytes = 9 ∷ 8 ∷ [] })) v) (Some Read) (Called (pos 5) (pos 2)) ≡ stored 8192 (9 ∷ 8 ∷ [])
+  read_pipe : stored_by_row (record (call 5 0 8192 4) { moved = 2 }) (shows (Shown_pipe 0 Reading (record new_pipe { bytes = 9 ∷ 8 ∷ [] })) v)
+      (Some Read) (Called (pos 5) (pos 2)) ≡ stored 8192 (9 ∷ 8 ∷ [])
   unfolding in_call
   read_pipe = refl
 

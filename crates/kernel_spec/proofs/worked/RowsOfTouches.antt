@@ -21,7 +21,7 @@ use Rattle.kernel_spec.specs.steps.Own.{Called, Blocked}
 use Rattle.kernel_spec.specs.rows.Calls.{perform, row, row_of, make_pipe, open_file, read, sbrklazy, wait, write}
 use Rattle.kernel_spec.specs.steps.Step.{own}
 use Rattle.kernel_spec.specs.rows.Lines.{◌>>=◌, ◌>>◌, ◌when◌, ◌or◌}
-use Rattle.kernel_spec.proofs.steps.Maps.{get_same, get_other}
+use Rattle.kernel_spec.proofs.steps.MapsAfterChange.{get_same, get_other}
 use Rattle.kernel_spec.proofs.rows.Settled.{absent-not-there}
 use Rattle.kernel_spec.proofs.worked.RowsOfMemory.{text_absent}
 use Rattle.kernel_spec.proofs.worked.WorkedViews.{call, minus, in_call, ends_of, pids_of, free_of, at_place, image_of, console_of}
@@ -357,7 +357,8 @@ module _ (image : Image) where
     unfolding own in_call perform row row_of write free_of ◌>>=◌ ◌>>◌ ◌when◌ ◌or◌
     sends_for_nothing = rw there refl
 
-    pipes_zeros : at_place (own (sender (call 16 1 8192 2))).next 1 ≡ Some (record { file = 1; read = false; write = true; shown = Shown_pipe 0 Writing (record { bytes = 0 ∷ 0 ∷ []; readers = 1; writers = 1 }) })
+    pipes_zeros : at_place (own (sender (call 16 1 8192 2))).next 1 ≡ Some
+        (record { file = 1; read = false; write = true; shown = Shown_pipe 0 Writing (record { bytes = 0 ∷ 0 ∷ []; readers = 1; writers = 1 }) })
     unfolding own in_call new_pipe perform row row_of write at_place ◌>>=◌ ◌>>◌ ◌when◌ ◌or◌
     pipes_zeros = rw (there, absent-not-there image 2 absent) refl
 

@@ -1,6 +1,7 @@
 -- Worked cases of who has no turn in a run, of how many turns are given, and of who is ready.
 use Rattle.std.proofs.Common.{◌≡◌, ℕ, true, false, [], ◌∷◌, map, Some, refl, sym, ◌∙◌}
 use Rattle.std.specs.Prelude.{pos}
+use Rattle.std.proofs.lemmas.Option.{same_Some}
 use Rattle.kernel_spec.specs.views.View.{View, view}
 use Rattle.kernel_spec.specs.steps.Own.{Stepped, Blocked}
 use Rattle.kernel_spec.specs.waking.Ready.{ready}
@@ -28,7 +29,8 @@ its_turn_last h = h.1.0 refl
 
 -- ---- how many turns are given
 
-turns : map turns_taken ([] ∷ ((Run, Turn 3) ∷ (Run, Turn 2) ∷ []) ∷ ((Run, Turn 3) ∷ (Run, Idle) ∷ []) ∷ ((Tick, Ticked) ∷ (Run, Turn 3) ∷ []) ∷ ((Run, Step_of 2 (Blocked (pos 3))) ∷ (Run, Idle) ∷ []) ∷ []) ≡ 0 ∷ 2 ∷ 1 ∷ 1 ∷ 0 ∷ []
+turns : map turns_taken ([] ∷ ((Run, Turn 3) ∷ (Run, Turn 2) ∷ []) ∷ ((Run, Turn 3) ∷ (Run, Idle) ∷ []) ∷ ((Tick, Ticked) ∷ (Run, Turn 3) ∷ []) ∷
+    ((Run, Step_of 2 (Blocked (pos 3))) ∷ (Run, Idle) ∷ []) ∷ []) ≡ 0 ∷ 2 ∷ 1 ∷ 1 ∷ 0 ∷ []
 turns = refl
 
 are_turns : map is_turn (Turn 2 ∷ Idle ∷ Ticked ∷ Step_of 2 Stepped ∷ []) ≡ true ∷ false ∷ false ∷ false ∷ []
@@ -42,12 +44,9 @@ module _ (w : World) (v : View) (see : view w.state 2 ≡ Some v) where
 
   not_ready : ready v ≡ false → IsReady w 2 → ⊥
   not_ready unready (u, sees, could) =
-      let same : v ≡ u = some_view v u (sym see ∙ sees) in
+      let same : v ≡ u = same_Some v u (sym see ∙ sees) in
       let no : false ≡ true = sym unready ∙ (λ i. ready (same i)) ∙ could in
       let bad : ⊥ = cc in bad
-    where
-      some_view : (a b : View) → Some a ≡ Some b → a ≡ b
-      some_view a b e = cc
 
   -- a ready process that sleeps is what isn't to be, and one that isn't ready may sleep
   no_ready_sleeper : Sleeps w.turns 2 → ready v ≡ true → NoReadySleeper w → ⊥

@@ -1,5 +1,5 @@
 -- Worked cases of what a boot answers.
-use Rattle.std.proofs.Common.{◌≡◌, Some, None, Ok, Err, inl, inr, refl, arith}
+use Rattle.std.proofs.Common.{◌≡◌, Ok, Err, inl, inr, refl, arith}
 use Rattle.xk_base.specs.declared.errors.ExecError.TheVariants.{NoFrames, NotElf}
 use Rattle.xk_base.specs.declared.errors.BootError.TheVariants.{BadConfig, BadPrograms, NoInit, Memory, Init}
 use Rattle.kernel_spec.specs.runs.Run.{World}

@@ -69,7 +69,8 @@ module _ (plan : RunPlan) (source source_after : Source) (old new : Meaning) (si
     byte_too_many held b before after = more_bytes held (out d.list) b sink_after.held after (subst (λ (o : Option (List ℕ)). Appends o sink_after.held (out d.list)) before d.written.bytes)
 
     call_too_many : (calls : List Given) (g : Given) → sink.calls ≡ Some calls → sink_after.calls ≡ Some (calls ++ (calls_of d.list ++ g ∷ [])) → ⊥
-    call_too_many calls g before after = more_calls calls (calls_of d.list) g sink_after.calls after (subst (λ (o : Option (List Given)). Calls o sink_after.calls (calls_of d.list)) before d.written.calls)
+    call_too_many calls g before after = more_calls calls (calls_of d.list) g sink_after.calls after
+        (subst (λ (o : Option (List Given)). Calls o sink_after.calls (calls_of d.list)) before d.written.calls)
 
     -- the keys are those of the source, and not as many other ones
     other_keys : source.left ≡ Some (7 ∷ 8 ∷ []) → d.keys ≡ 7 ∷ 9 ∷ [] → ⊥
@@ -90,22 +91,28 @@ module _ (plan : RunPlan) (source source_after : Source) (old new : Meaning) (si
   -- a failed read ended it
   module _ (d : StoppedByRead plan source source_after old new sink sink_after) where
     byte_too_many_before_read : (held : List ℕ) (b : ℕ) → sink.held ≡ Some held → sink_after.held ≡ Some (held ++ (out d.list ++ b ∷ [])) → ⊥
-    byte_too_many_before_read held b before after = more_bytes held (out d.list) b sink_after.held after (subst (λ (o : Option (List ℕ)). Appends o sink_after.held (out d.list)) before d.written.bytes)
+    byte_too_many_before_read held b before after = more_bytes held (out d.list) b sink_after.held after
+        (subst (λ (o : Option (List ℕ)). Appends o sink_after.held (out d.list)) before d.written.bytes)
 
     call_too_many_before_read : (calls : List Given) (g : Given) → sink.calls ≡ Some calls → sink_after.calls ≡ Some (calls ++ (calls_of d.list ++ g ∷ [])) → ⊥
-    call_too_many_before_read calls g before after = more_calls calls (calls_of d.list) g sink_after.calls after (subst (λ (o : Option (List Given)). Calls o sink_after.calls (calls_of d.list)) before d.written.calls)
+    call_too_many_before_read calls g before after = more_calls calls (calls_of d.list) g sink_after.calls after
+        (subst (λ (o : Option (List Given)). Calls o sink_after.calls (calls_of d.list)) before d.written.calls)
 
     -- it was asked again behind the failure, or wasn't asked at all
     asked_again : source.asked ≡ Some 0 → d.rounds.0 ≡ 2 → source_after.asked ≡ Some 4 → ⊥
     asked_again before rounds after =
         let asked : Asked (Some 0) (Some 4) 3 =
-        subst (λ (n : ℕ). Asked (Some 0) (Some 4) (n + 1)) rounds (subst (λ (o : Option ℕ). Asked (Some 0) o (d.rounds.0 + 1)) after (subst (λ (o : Option ℕ). Asked o source_after.asked (d.rounds.0 + 1)) before d.asked)) in
+        subst (λ (n : ℕ). Asked (Some 0) (Some 4) (n + 1)) rounds
+        (subst (λ (o : Option ℕ). Asked (Some 0) o (d.rounds.0 + 1)) after
+        (subst (λ (o : Option ℕ). Asked o source_after.asked (d.rounds.0 + 1)) before d.asked)) in
         let bad : ⊥ = cc in bad
 
     failed_unasked : source.asked ≡ Some 0 → d.rounds.0 ≡ 2 → source_after.asked ≡ Some 2 → ⊥
     failed_unasked before rounds after =
         let asked : Asked (Some 0) (Some 2) 3 =
-        subst (λ (n : ℕ). Asked (Some 0) (Some 2) (n + 1)) rounds (subst (λ (o : Option ℕ). Asked (Some 0) o (d.rounds.0 + 1)) after (subst (λ (o : Option ℕ). Asked o source_after.asked (d.rounds.0 + 1)) before d.asked)) in
+        subst (λ (n : ℕ). Asked (Some 0) (Some 2) (n + 1)) rounds
+        (subst (λ (o : Option ℕ). Asked (Some 0) o (d.rounds.0 + 1)) after
+        (subst (λ (o : Option ℕ). Asked o source_after.asked (d.rounds.0 + 1)) before d.asked)) in
         let bad : ⊥ = cc in bad
 
   -- a failed write ended it
@@ -119,8 +126,11 @@ module _ (plan : RunPlan) (source source_after : Source) (old new : Meaning) (si
     -- a byte too many was given to the call that failed
     byte_too_many_in_failure : (b : ℕ) → d.before ≡ [] → sink.calls ≡ Some [] → sink_after.calls ≡ Some (failed (bytes_out d.last.1 ++ b ∷ []) ∷ []) → ⊥
     byte_too_many_in_failure b first before after =
-        let made : sink_after.calls ≡ Some (calls_of d.before ++ failed (bytes_out d.last.1) ∷ []) = subst (λ (o : Option (List Given)). Calls o sink_after.calls (calls_of d.before ++ failed (bytes_out d.last.1) ∷ [])) before d.calls in
-        let same : bytes_out d.last.1 ++ b ∷ [] ≡ bytes_out d.last.1 = inside (bytes_out d.last.1 ++ b ∷ []) (bytes_out d.last.1) (sym after ∙ made ∙ ap (λ (es : List (Event × Outcome)). Some (calls_of es ++ failed (bytes_out d.last.1) ∷ [])) first) in
+        let made : sink_after.calls ≡ Some (calls_of d.before ++ failed (bytes_out d.last.1) ∷ []) =
+        subst (λ (o : Option (List Given)). Calls o sink_after.calls (calls_of d.before ++ failed (bytes_out d.last.1) ∷ [])) before d.calls in
+        let same : bytes_out d.last.1 ++ b ∷ [] ≡ bytes_out d.last.1 =
+        inside (bytes_out d.last.1 ++ b ∷ []) (bytes_out d.last.1)
+        (sym after ∙ made ∙ ap (λ (es : List (Event × Outcome)). Some (calls_of es ++ failed (bytes_out d.last.1) ∷ [])) first) in
         omega (arith, ap length same, length-append (bytes_out d.last.1) (b ∷ []))
       where
         inside : (xs ys : List ℕ) → ◌≡◌ {A = Option (List Given)} (Some (failed xs ∷ [])) (Some (failed ys ∷ [])) → xs ≡ ys
@@ -143,5 +153,7 @@ module _ (source source_after : Source) (old new : Meaning) (sink sink_after : S
   nothing_written : sink.held ≡ Some [] → sink_after.held ≡ Some (104 ∷ []) → ⊥
   nothing_written before after =
       let written : Appends (Some []) (Some (104 ∷ [])) [] =
-      subst (λ (es : List (Event × Outcome)). Appends (Some []) (Some (104 ∷ [])) (out es)) no_event (subst (λ (o : Option (List ℕ)). Appends (Some []) o (out d.list)) after (subst (λ (o : Option (List ℕ)). Appends o sink_after.held (out d.list)) before d.written.bytes)) in
+      subst (λ (es : List (Event × Outcome)). Appends (Some []) (Some (104 ∷ [])) (out es)) no_event
+      (subst (λ (o : Option (List ℕ)). Appends (Some []) o (out d.list)) after
+      (subst (λ (o : Option (List ℕ)). Appends o sink_after.held (out d.list)) before d.written.bytes)) in
       let bad : ⊥ = cc in bad

@@ -14,11 +14,13 @@ use Rattle.xv_machine.specs.Reached.{IsEvent}
 
 -- ---- a note of each event, in order
 
-of_steps : notes_of ((Run, Step_of 3 answers.Stepped) ∷ (Run, Step_of 3 (answers.Called (pos 11) (pos 3))) ∷ (Run, Step_of 3 (answers.Blocked (pos 13))) ∷ (Run, Step_of 3 (answers.Exited (negsuc 0))) ∷ (Run, Step_of 4 (answers.Faulted LoadPageFault)) ∷ [])
+of_steps : notes_of ((Run, Step_of 3 answers.Stepped) ∷ (Run, Step_of 3 (answers.Called (pos 11) (pos 3))) ∷
+    (Run, Step_of 3 (answers.Blocked (pos 13))) ∷ (Run, Step_of 3 (answers.Exited (negsuc 0))) ∷ (Run, Step_of 4 (answers.Faulted LoadPageFault)) ∷ [])
     ≡ Stepped 3 ∷ Called 3 (pos 11) (pos 3) ∷ Blocked 3 (pos 13) ∷ Exited 3 (negsuc 0) ∷ Faulted 4 LoadPageFault ∷ []
 of_steps = refl
 
-of_others : notes_of ((Run, runs.Turn 3) ∷ (Run, runs.Idle) ∷ (Tick, runs.Ticked) ∷ (Key 8, runs.Typed (8 ∷ 32 ∷ 8 ∷ [])) ∷ (Send, runs.Sent (Some 104)) ∷ (Send, runs.Sent None) ∷ (Key 8, runs.Halted) ∷ [])
+of_others : notes_of ((Run, runs.Turn 3) ∷ (Run, runs.Idle) ∷ (Tick, runs.Ticked) ∷ (Key 8, runs.Typed (8 ∷ 32 ∷ 8 ∷ [])) ∷
+    (Send, runs.Sent (Some 104)) ∷ (Send, runs.Sent None) ∷ (Key 8, runs.Halted) ∷ [])
     ≡ Turn 3 ∷ Idle ∷ Ticked ∷ Typed 8 3 ∷ Sent (Some 104) ∷ Sent None ∷ Halted ∷ []
 of_others = refl
 

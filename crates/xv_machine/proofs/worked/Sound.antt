@@ -180,7 +180,8 @@ frame_without_page l o f h none there = let same : is_some (get o.pages 3) ≡ i
 
 -- a table more than the image costs
 table_too_many : (l : Live) (o : Owned) → HasFrames (Some l) (Some o) → 1 + len o.uppers + len o.lowers + len o.pages ≡ price l.image + 1 → ⊥
-table_too_many l o h more = let cost : price l.image ≡ 1 + len o.uppers + len o.lowers + len o.pages = h.cost in let n : ℕ = price l.image in let k : ℕ = 1 + len o.uppers + len o.lowers + len o.pages in omega (arith, cost, more)
+table_too_many l o h more = let cost : price l.image ≡ 1 + len o.uppers + len o.lowers + len o.pages = h.cost in let n : ℕ = price l.image in
+    let k : ℕ = 1 + len o.uppers + len o.lowers + len o.pages in omega (arith, cost, more)
 
 -- ---- the end
 

@@ -1,7 +1,7 @@
 use Rattle.kernel_spec.proofs.laws.isolated.Goals as goal
 use Rattle.kernel_spec.proofs.runs.Boot as in-boot
-use Rattle.kernel_spec.proofs.steps.Kept as in-kept
-use Rattle.kernel_spec.proofs.steps.Outside as in-outside
+use Rattle.kernel_spec.proofs.steps.OthersKeepTheRest as in-kept
+use Rattle.kernel_spec.proofs.steps.OutsideIsSeen as in-outside
 
 pub returns-clause-isolated : goal.returns-clause-isolated
 returns-clause-isolated c = in-boot.isolated

@@ -1,8 +1,8 @@
 use Rattle.kernel_spec.proofs.laws.rows.Goals as goal
-use Rattle.kernel_spec.proofs.steps.Alone as in-alone
+use Rattle.kernel_spec.proofs.steps.AloneLawsHold as in-alone
 use Rattle.kernel_spec.proofs.rows.RowLawsHold as hold
-use Rattle.kernel_spec.proofs.steps.Family as in-family
-use Rattle.kernel_spec.proofs.steps.OnFiles as in-on-files
+use Rattle.kernel_spec.proofs.steps.FamilyLawsHold as in-family
+use Rattle.kernel_spec.proofs.steps.FileLawsHold as in-on-files
 
 pub returns-clause-answer : goal.returns-clause-answer
 returns-clause-answer c = in-alone.answer

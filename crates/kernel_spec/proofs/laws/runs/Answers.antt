@@ -1,6 +1,6 @@
 use Rattle.kernel_spec.proofs.laws.runs.Goals as goal
 use Rattle.kernel_spec.proofs.runs.Boot as in-boot
-use Rattle.kernel_spec.proofs.steps.Outside as in-outside
+use Rattle.kernel_spec.proofs.steps.OutsideIsSeen as in-outside
 
 pub returns-clause-runs_join : goal.returns-clause-runs_join
 returns-clause-runs_join c = in-boot.runs_join

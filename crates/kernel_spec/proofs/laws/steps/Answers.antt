@@ -1,5 +1,5 @@
 use Rattle.kernel_spec.proofs.laws.steps.Goals as goal
-use Rattle.kernel_spec.proofs.steps.Alone as in-alone
+use Rattle.kernel_spec.proofs.steps.AloneLawsHold as in-alone
 
 pub returns-clause-instruction : goal.returns-clause-instruction
 returns-clause-instruction c = in-alone.instruction

@@ -13,19 +13,25 @@ returns-in-Some-clause-done g c =
 
 pub returns-in_default-take_key-clause-read : goal.returns-in_default-take_key-clause-read
 returns-in_default-take_key-clause-read g c =
-    read-stops c.args.plan c.loop-count.count c.loop-count.at_end _ (g.R.KeySource.source c.loop-count.keys) (g.R.KeySource.source c.take_key.new.keys) _ c.loop-count.machine _ _ (omega arith) c.loop-count.invariant.going
+    read-stops c.args.plan c.loop-count.count c.loop-count.at_end _ (g.R.KeySource.source c.loop-count.keys)
+    (g.R.KeySource.source c.take_key.new.keys) _ c.loop-count.machine _ _ (omega arith) c.loop-count.invariant.going
     (sym c.loop-count.invariant.halted ∙ c.in_default.is) c.in_default-take_key.ensures.reads c.in_default-take_key.ensures.call
 
 pub returns-in_default-round-clause-write : goal.returns-in_default-round-clause-write
 returns-in_default-round-clause-write g c =
     write-stops c.args.plan c.loop-count.count c.loop-count.at_end _ (g.R.KeySource.source c.loop-count.keys) (g.R.KeySource.source c.take_key.new.keys) c.in-Ok.key
-    _ c.loop-count.machine c.round.new.machine _ (g.W.ByteSink.sink c.loop-count.sink) (g.W.ByteSink.sink c.round.new.sink) (omega arith) c.loop-count.invariant.going (sym c.loop-count.invariant.halted ∙ c.in_default.is) c.in-Ok.ensures.key c.in-Ok.ensures.call c.in_default-round.ensures.plays
+    _ c.loop-count.machine c.round.new.machine _ (g.W.ByteSink.sink c.loop-count.sink) (g.W.ByteSink.sink c.round.new.sink)
+    (omega arith) c.loop-count.invariant.going (sym c.loop-count.invariant.halted ∙ c.in_default.is) c.in-Ok.ensures.key c.in-Ok.ensures.call
+    c.in_default-round.ensures.plays
 
 pub loop-count-preserved : goal.loop-count-preserved
 loop-count-preserved g c = record {
   going = rw (none-from-some _ _ c.is_none-at_end.ensures)
-      (one-more c.args.plan.quantum c.loop-count.count c.loop-count.at_end _ (g.R.KeySource.source c.loop-count.keys).left (g.R.KeySource.source c.take_key.new.keys).left c.in-Ok.key _ c.loop-count.machine _ (g.W.ByteSink.sink c.loop-count.sink)
-      _ (g.R.KeySource.source c.loop-count.keys).asked (g.R.KeySource.source c.take_key.new.keys).asked c.loop-count.invariant.going c.in-Ok.ensures.key c.in-Ok.ensures.call c.round.new.machine (g.W.ByteSink.sink c.round.new.sink) (sym c.loop-count.invariant.halted ∙ c.in_default.is) c.in-Ok-round.ensures.plays);
+      (one-more c.args.plan.quantum c.loop-count.count c.loop-count.at_end _ (g.R.KeySource.source c.loop-count.keys).left
+      (g.R.KeySource.source c.take_key.new.keys).left c.in-Ok.key _ c.loop-count.machine _ (g.W.ByteSink.sink c.loop-count.sink)
+      _ (g.R.KeySource.source c.loop-count.keys).asked (g.R.KeySource.source c.take_key.new.keys).asked c.loop-count.invariant.going
+      c.in-Ok.ensures.key c.in-Ok.ensures.call c.round.new.machine (g.W.ByteSink.sink c.round.new.sink)
+      (sym c.loop-count.invariant.halted ∙ c.in_default.is) c.in-Ok-round.ensures.plays);
   halted = c.halted-halted-in-loop-count.ensures.status;
   reads = search rules;
   writes = search rules;

@@ -9,5 +9,6 @@ returns-clause-plays g c =
     let e = event_of c.args.event in
     let o = outcome_of c.event-outcome.result in
     let promised = c.event-outcome.ensures.promised in
-    event-plays c.write_some.result e o s t _ _ c.shown.result.now (goes-one e o s t promised c.event-outcome.ensures.notes c.event-outcome.ensures.room c.event-outcome.ensures.frames c.event-outcome.ensures.sound)
+    event-plays c.write_some.result e o s t _ _ c.shown.result.now
+    (goes-one e o s t promised c.event-outcome.ensures.notes c.event-outcome.ensures.room c.event-outcome.ensures.frames c.event-outcome.ensures.sound)
     c.shown.ensures c.write_some.ensures.bytes c.write_some.ensures.call c.write_some.ensures.failed_call c.write_some.ensures.some

@@ -33,5 +33,6 @@ resume-end-requires-clause-in_call c =
 
 pub returns-clause-answer : goal.returns-clause-answer
 returns-clause-answer c =
-    resume-answer c.args.kernel.now c.args.hart.now c.args.pid c.in-Some.number c.resume-end.result (outcome_of c.call_outcome.result) (sym c.in-Some.is ∙ c.in_call.ensures c.args.hart.now) c.resume-end.ensures.answer
+    resume-answer c.args.kernel.now c.args.hart.now c.args.pid c.in-Some.number c.resume-end.result (outcome_of c.call_outcome.result)
+    (sym c.in-Some.is ∙ c.in_call.ensures c.args.hart.now) c.resume-end.ensures.answer
     (c.call_outcome.ensures ∙ ap (λ n. Step_of c.args.pid (answer_of n c.resume-end.result)) (to_z-of_z w32 c.in-Some.number (search rules)))

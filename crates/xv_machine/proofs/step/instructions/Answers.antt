@@ -8,4 +8,5 @@ pub steps-requires-clause-between_calls : goal.steps-requires-clause-between_cal
 steps-requires-clause-between_calls c = c.is_busy.ensures.free c.args.hart.now c.if-is_busy.false
 
 pub returns : goal.returns
-returns c = row-instructed c.args.kernel.now c.steps.new.self c.args.hart.now c.steps.new.hart c.args.most c.steps.result.made c.steps.result.stop c.steps.ensures c.requires.whole c.requires.running c.requires.first
+returns c = row-instructed c.args.kernel.now c.steps.new.self c.args.hart.now c.steps.new.hart c.args.most c.steps.result.made c.steps.result.stop
+    c.steps.ensures c.requires.whole c.requires.running c.requires.first

@@ -1,8 +1,9 @@
 use Rattle.std.proofs.Common.{inl, inr, ap, sym, ◌∙◌}
 use Rattle.std.specs.Prelude.{is_some}
 use Rattle.kcall_core.specs.Kernel.{live_now}
-use Rattle.xv_machine.proofs.Repeated.{number-some, none-of-some}
+use Rattle.xv_machine.proofs.Repeated.{number-some}
 use Rattle.xv_machine.proofs.step.is_busy.Goals as goal
+use Rattle.kernel_spec.proofs.Common.{none_from_is_some}
 
 pub returns-then-marked-clause-busy : goal.returns-then-marked-clause-busy
 returns-then-marked-clause-busy c hart e = inl (sym (c.marked.ensures hart) ∙ c.if-marked.true)
@@ -14,5 +15,5 @@ returns-clause-busy c hart e =
 pub returns-clause-free : goal.returns-clause-free
 returns-clause-free c hart e = (
   sym (c.marked.ensures hart) ∙ c.if-marked.false,
-  none-of-some (live_now c.args.kernel.now hart).call (sym (number-some (live_now c.args.kernel.now hart).call) ∙ sym (ap is_some (c.in_call.ensures hart)) ∙ sym c.is_some.ensures ∙ e),
+  none_from_is_some (live_now c.args.kernel.now hart).call (sym (number-some (live_now c.args.kernel.now hart).call) ∙ sym (ap is_some (c.in_call.ensures hart)) ∙ sym c.is_some.ensures ∙ e),
 )

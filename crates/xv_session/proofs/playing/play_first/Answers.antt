@@ -20,7 +20,8 @@ loop-place-preserved c =
     let left = c.args.most - length xs in
     let count : c.min-count.result ≡ min s.count left = c.min-count.ensures ∙ ap (min s.count) c.loop-place.invariant.0 in
     let more = first-more spans place c.args.most none c.loop-place-test.true in
-    let now : GoesBy (replicate (min s.count left) (event_of s.event)) c.loop-place.running c.play.new.running = subst (λ (n : ℕ). GoesBy (replicate n (event_of s.event)) c.loop-place.running c.play.new.running) count c.play.ensures.goes in (
+    let now : GoesBy (replicate (min s.count left) (event_of s.event)) c.loop-place.running c.play.new.running =
+    subst (λ (n : ℕ). GoesBy (replicate n (event_of s.event)) c.loop-place.running c.play.new.running) count c.play.ensures.goes in (
       (λ i. c.loop-place.invariant.0 i - count i) ∙ sym more.0,
       subst (λ (es : List Event). GoesBy es c.args.running.now c.play.new.running) (sym more.1)
           (goes-by-join (take c.args.most xs) (replicate (min s.count left) (event_of s.event)) c.args.running.now c.loop-place.running c.play.new.running c.loop-place.invariant.1 now),

@@ -1,6 +1,7 @@
 use Rattle.std.proofs.Common.{sym, ◌∙◌, subst, refl, IsSome}
-use Rattle.kcall_core.proofs.table.Observed.{slot-found, status-told, none-told, missing-live, ended-live}
+use Rattle.kcall_core.proofs.table.Observed.{slot-found, status-told, missing-live, ended-live}
 use Rattle.kcall_core.proofs.kernel.Kernel.find_live.Goals as goal
+use Rattle.kernel_spec.proofs.Common.{none_from_is_some}
 
 pub status-requires-clause-held : goal.status-requires-clause-held
 status-requires-clause-held c = subst (λ o. IsSome o) (sym (slot-found c.args.self.now.table c.args.pid c.in_ok-slot.slot (sym c.in_ok-slot.ensures.value)).1) refl
@@ -11,7 +12,7 @@ returns-then-is_some-clause-none c = λ hart. ended-live c.args.self.now hart c.
 pub returns-clause-found : goal.returns-clause-found
 returns-clause-found c =
     let f = slot-found c.args.self.now.table c.args.pid c.in_ok-slot.slot (sym c.in_ok-slot.ensures.value) in
-    (f.0, f.1, status-told c.args.self.now.table c.in_ok-slot.slot f.0 c.status.result f.1 c.status.ensures ∙ none-told c.status.result (sym c.is_some.ensures ∙ c.if-is_some.false), f.2)
+    (f.0, f.1, status-told c.args.self.now.table c.in_ok-slot.slot f.0 c.status.result f.1 c.status.ensures ∙ none_from_is_some c.status.result (sym c.is_some.ensures ∙ c.if-is_some.false), f.2)
 
 pub returns-in_err-slot-clause-none : goal.returns-in_err-slot-clause-none
 returns-in_err-slot-clause-none c = rw c.from_residual.ensures (λ hart. missing-live c.args.self.now hart c.requires c.args.pid (sym c.in_err-slot.ensures.value))

@@ -12,7 +12,7 @@ use Rattle.proc_table.specs.Slots.{each_changed, changed_at}
 use Rattle.kcall_core.proofs.table.Stops.{now-slot}
 use Rattle.kcall_core.proofs.turns.Chosen.{pid-told}
 use Rattle.kcall_core.proofs.turns.Turned.{live-is}
-use Rattle.kernel_spec.proofs.steps.Closed.{gone-closed, keeps-parent}
+use Rattle.kernel_spec.proofs.steps.ClosedProcessGoes.{gone-closed, keeps-parent}
 use Rattle.kcall_core.proofs.kernel.Kernel.go_closed.Goals as goal
 
 pub end-requires-clause-sound : goal.end-requires-clause-sound

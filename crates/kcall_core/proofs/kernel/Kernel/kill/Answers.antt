@@ -5,12 +5,12 @@ use Rattle.proc_table.specs.Processes.{killed}
 use Rattle.proc_table.specs.Slots.{Slots, slot_of, with_mark, changed_at}
 use Rattle.kernel_spec.specs.views.Words.{minus_one}
 use Rattle.kernel_spec.specs.steps.Own.{Own}
+use Rattle.kernel_spec.proofs.Common.{none_from_is_some, the_value}
 use Rattle.kcall_core.specs.Kernel.{IsSound}
 use Rattle.kcall_core.specs.Makes.{Makes, view_now, answer_of}
-use Rattle.kcall_core.proofs.table.Observed.{none-told}
 use Rattle.kcall_core.proofs.turns.Chosen.{noted}
 use Rattle.kcall_core.proofs.making.CallAnswers.{IsDone, done-at-once}
-use Rattle.kcall_core.proofs.processes.KillMakes.{none-row, pid-row, unknown-row, some-slot, marked-sound, kill-makes, killed-answer}
+use Rattle.kcall_core.proofs.processes.KillMakes.{none-row, pid-row, unknown-row, marked-sound, kill-makes, killed-answer}
 use Rattle.kcall_core.proofs.kernel.Kernel.kill.Goals as goal
 
 pub returns-in_default-clause-made : goal.returns-in_default-clause-made
@@ -34,7 +34,7 @@ pub done-requires-then-not-mark-clause-sound : goal.done-requires-then-not-mark-
 done-requires-then-not-mark-clause-sound c =
     let k = c.args.self.now in
     let h = c.args.hart.now in
-    let none = none-told (slot_of k.table c.in-Some.pid) (sym c.mark.ensures.found ∙ c.if-not-mark.true) in
+    let none = none_from_is_some (slot_of k.table c.in-Some.pid) (sym c.mark.ensures.found ∙ c.if-not-mark.true) in
     subst (λ (t : Slots). IsSound (noted k t) h) (sym (c.mark.ensures.after ∙ ap (λ (o : Option ℕ). with_mark o k.table) none)) c.requires.whole.sound
 
 pub returns-then-not-mark-clause-made : goal.returns-then-not-mark-clause-made
@@ -42,7 +42,7 @@ returns-then-not-mark-clause-made c =
     let k = c.args.self.now in
     let h = c.args.hart.now in
     let asked = to_z-of_z w32 c.c_int.result (record { sfits = c.c_int.type_inv }) ∙ c.c_int.ensures in
-    let none = none-told (slot_of k.table c.in-Some.pid) (sym c.mark.ensures.found ∙ c.if-not-mark.true) in
+    let none = none_from_is_some (slot_of k.table c.in-Some.pid) (sym c.mark.ensures.found ∙ c.if-not-mark.true) in
     let same : c.mark.new.self ≡ k.table = c.mark.ensures.after ∙ ap (λ (o : Option ℕ). with_mark o k.table) none in
     let row = pid-row c.args.call.now (view_now k h) _ asked c.in-Some.pid (sym c.asked_pid.ensures ∙ c.in-Some.is) ∙ unknown-row k h c.args.call.now c.in-Some.pid c.requires.whole.sound.table none in
     subst (λ (o : Own). Makes k h o c.done-then-not-mark.new.self c.done-then-not-mark.new.hart) (sym row)
@@ -55,7 +55,7 @@ returns-then-not-mark-clause-answer c =
     let k = c.args.self.now in
     let h = c.args.hart.now in
     let asked = to_z-of_z w32 c.c_int.result (record { sfits = c.c_int.type_inv }) ∙ c.c_int.ensures in
-    let none = none-told (slot_of k.table c.in-Some.pid) (sym c.mark.ensures.found ∙ c.if-not-mark.true) in
+    let none = none_from_is_some (slot_of k.table c.in-Some.pid) (sym c.mark.ensures.found ∙ c.if-not-mark.true) in
     let row = pid-row c.args.call.now (view_now k h) _ asked c.in-Some.pid (sym c.asked_pid.ensures ∙ c.in-Some.is) ∙ unknown-row k h c.args.call.now c.in-Some.pid c.requires.whole.sound.table none in
     ap (λ (o : Own). o.answer) row ∙ ap (answer_of c.args.call.now.number) (sym c.done-then-not-mark.ensures.end)
 
@@ -63,7 +63,7 @@ pub done-requires-2-clause-sound : goal.done-requires-2-clause-sound
 done-requires-2-clause-sound c =
     let k = c.args.self.now in
     let h = c.args.hart.now in
-    let slot = some-slot (slot_of k.table c.in-Some.pid) (sym c.mark.ensures.found ∙ c.if-not-mark.false) in
+    let slot = the_value (slot_of k.table c.in-Some.pid) (sym c.mark.ensures.found ∙ c.if-not-mark.false) in
     subst (λ (t : Slots). IsSound (noted k t) h) (sym (c.mark.ensures.after ∙ ap (λ (o : Option ℕ). with_mark o k.table) slot.1)) (marked-sound c.in-Some.pid slot.0 c.requires.whole.sound slot.1)
 
 pub returns-clause-made : goal.returns-clause-made
@@ -71,7 +71,7 @@ returns-clause-made c =
     let k = c.args.self.now in
     let h = c.args.hart.now in
     let asked = to_z-of_z w32 c.c_int.result (record { sfits = c.c_int.type_inv }) ∙ c.c_int.ensures in
-    let slot = some-slot (slot_of k.table c.in-Some.pid) (sym c.mark.ensures.found ∙ c.if-not-mark.false) in
+    let slot = the_value (slot_of k.table c.in-Some.pid) (sym c.mark.ensures.found ∙ c.if-not-mark.false) in
     let row = pid-row c.args.call.now (view_now k h) _ asked c.in-Some.pid (sym c.asked_pid.ensures ∙ c.in-Some.is) in
     let same : c.mark.new.self ≡ changed_at slot.0 killed k.table = c.mark.ensures.after ∙ ap (λ (o : Option ℕ). with_mark o k.table) slot.1 in
     subst (λ (o : Own). Makes k h o c.done-2.new.self c.done-2.new.hart) (sym row)
@@ -84,6 +84,6 @@ returns-clause-answer c =
     let k = c.args.self.now in
     let h = c.args.hart.now in
     let asked = to_z-of_z w32 c.c_int.result (record { sfits = c.c_int.type_inv }) ∙ c.c_int.ensures in
-    let slot = some-slot (slot_of k.table c.in-Some.pid) (sym c.mark.ensures.found ∙ c.if-not-mark.false) in
+    let slot = the_value (slot_of k.table c.in-Some.pid) (sym c.mark.ensures.found ∙ c.if-not-mark.false) in
     let row = pid-row c.args.call.now (view_now k h) _ asked c.in-Some.pid (sym c.asked_pid.ensures ∙ c.in-Some.is) in
     ap (λ (o : Own). o.answer) row ∙ killed-answer c.in-Some.pid slot.0 c.requires.whole c.requires.running slot.1 c.args.call.now ∙ ap (answer_of c.args.call.now.number) (sym c.done-2.ensures.end)

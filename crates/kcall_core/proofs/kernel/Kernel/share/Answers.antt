@@ -1,12 +1,11 @@
 use Rattle.std.proofs.Common.{◌≡◌, None, refl, sym, ap, ◌∙◌, subst}
+use Rattle.std.proofs.lemmas.Option.{none-some, same_Some}
 use Rattle.file_table.specs.declared.open_file.OpenFile.{OpenFile}
 use Rattle.file_table.specs.declared.open_file.Target.{Target}
 use Rattle.file_table.specs.declared.open_file.Target.TheVariants.{Console as Terminal, Program as File, Pipe as Pipe_end}
 use Rattle.kernel_spec.specs.others.Quiet.{pipe_of_target}
 use Rattle.kcall_core.specs.Sharings.{Joins}
 use Rattle.kcall_core.specs.declared.memories.Memories.{Memories}
-use Rattle.kcall_core.proofs.table.States.{none-some}
-use Rattle.kcall_core.proofs.turns.Turned.{same-some}
 use Rattle.kcall_core.proofs.kernel.Kernel.share.Goals as goal
 
 pub share-requires-clause-room : goal.share-requires-clause-room
@@ -29,11 +28,11 @@ joins-none (Pipe_end i end) m none = absurd (none-some i (sym none))
 pub returns-in_default-clause-memories : goal.returns-in_default-clause-memories
 returns-in_default-clause-memories c y is =
     let none = c.in_default.ensures.none in
-    let same : none.0 ≡ y = same-some none.0 y (sym none.1 ∙ is) in
+    let same : none.0 ≡ y = same_Some none.0 y (sym none.1 ∙ is) in
     joins-none y.target _ (ap (λ (z : OpenFile). pipe_of_target z.target) (sym same) ∙ none.2)
 
 pub returns-clause-memories : goal.returns-clause-memories
 returns-clause-memories c y is =
     let e = c.in-Some.ensures.found in
-    let same : e.0 ≡ y = same-some e.0 y (sym e.1 ∙ is) in
+    let same : e.0 ≡ y = same_Some e.0 y (sym e.1 ∙ is) in
     subst (λ (t : Target). Joins t c.args.self.now.memories c.join.new.self) (sym e.2 ∙ ap (λ (z : OpenFile). z.target) same) c.join.ensures

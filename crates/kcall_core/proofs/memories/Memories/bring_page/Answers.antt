@@ -12,8 +12,9 @@ use Rattle.kcall_core.proofs.memory.Changes.{there-below, there-some, stands, be
 use Rattle.kcall_core.proofs.memory.Lists.{set-twice, set-read}
 use Rattle.kcall_core.proofs.memory.Vectors.{vec-same}
 use Rattle.kcall_core.proofs.memory.Runs.{grown-runs}
-use Rattle.kcall_core.proofs.memory.Written.{absent-none, bring-seen, if-fine, if-refused}
+use Rattle.kcall_core.proofs.memory.Written.{bring-seen, if-fine, if-refused}
 use Rattle.kcall_core.proofs.memories.Memories.bring_page.Goals as goal
+use Rattle.kernel_spec.proofs.rows.Settled.{absent-not-there}
 
 pub index_mut-requires : goal.index_mut-requires
 index_mut-requires c = there-below _ _ c.requires.there
@@ -27,7 +28,7 @@ map_zeroed-came-requires-clause-belongs c = belongs-of (stands c.index_mut.resul
 pub map_zeroed-came-requires-clause-absent : goal.map_zeroed-came-requires-clause-absent
 map_zeroed-came-requires-clause-absent c =
     let s = stands c.index_mut.result.now c.in-Some.memory c.requires.sound c.requires.there c.index_mut.ensures.value (sym c.take.ensures.value ∙ c.in-Some.is) in
-    ap (λ (i : Image). get i.pages c.args.vpn) (sym (image-seen s)) ∙ absent-none (held_at (each_of c.args.self.now) c.args.slot).image c.args.vpn c.requires.absent
+    ap (λ (i : Image). get i.pages c.args.vpn) (sym (image-seen s)) ∙ absent-not-there (held_at (each_of c.args.self.now) c.args.slot).image c.args.vpn c.requires.absent
 
 pub index_mut-requires-2 : goal.index_mut-requires-2
 index_mut-requires-2 c = there-below _ _ c.requires.there

@@ -1,9 +1,10 @@
 use Rattle.std.proofs.Common.{rules, ◌≡◌, ℕ, List, Some, take, sym, ap, ◌∙◌}
+use Rattle.std.proofs.lemmas.Option.{same_Some}
 use Rattle.exec_core.specs.ArgTexts.{push_refusal}
 use Rattle.kernel_spec.specs.rows.Buffers.{text_at}
 use Rattle.kcall_core.specs.Holdings.{held_at}
 use Rattle.kcall_core.specs.Memories.{each_of}
-use Rattle.kcall_core.proofs.memory.Arguments.{text-longer, taken-if, refused-if, same-some}
+use Rattle.kcall_core.proofs.memory.Arguments.{text-longer, taken-if, refused-if}
 use Rattle.kcall_core.proofs.memories.Memories.fetch_arg.Goals as goal
 
 pub returns-in-Ok-clause-added : goal.returns-in-Ok-clause-added
@@ -18,6 +19,6 @@ returns-in-Ok-clause-refused c is text there =
     let image = (held_at (each_of c.args.self.now) c.args.slot).image in
     let read : List ℕ = take c.in-Ok.len c.fetch_text.new.text in
     let short : text_at 128 image c.args.address ≡ Some read = search rules in
-    let same : read ≡ text = same-some read text (sym (text-longer 128 3968 image c.args.address read short) ∙ there) in
+    let same : read ≡ text = same_Some read text (sym (text-longer 128 3968 image c.args.address read short) ∙ there) in
     let out = refused-if c.push.result (sym c.is_ok.ensures.value ∙ is) in
     (out.0, ap (push_refusal c.args.args.now) (sym same) ∙ sym c.push.ensures.refusal ∙ out.1)

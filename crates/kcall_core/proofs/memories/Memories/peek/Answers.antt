@@ -1,10 +1,11 @@
 use Rattle.std.proofs.Common.{◌≡◌, ◌/◌, Some, None, take, drop, sym, ap, ◌∙◌, arith}
 use Rattle.std.specs.FinMap.{get}
 use Rattle.addr_space.specs.Space.{image_of}
+use Rattle.addr_space.proofs.Grown.{perm-none}
 use Rattle.hart_core.proofs.Ends.{low-pages}
 use Rattle.kcall_core.specs.Holdings.{byte_of}
 use Rattle.kcall_core.proofs.memory.Changes.{image-seen}
-use Rattle.kcall_core.proofs.memory.Peeks.{byte-none, byte-some, no-page, some-page}
+use Rattle.kcall_core.proofs.memory.Peeks.{byte-none, byte-some, some-page}
 use Rattle.kcall_core.proofs.memories.Memories.peek.Goals as goal
 
 pub returns-then-address-ge-ADDRESS_END : goal.returns-then-address-ge-ADDRESS_END
@@ -22,7 +23,7 @@ pub returns-in_default : goal.returns-in_default
 returns-in_default c =
     let s = c.memory-memory.ensures in
     let pages = (image_of c.args.self.now.ram c.memory-memory.result.now.space).pages in
-    let none : get pages (c.args.address / 4096) ≡ None = ap (get pages) (sym c.of_address-vpn.ensures) ∙ no-page (get pages c.of_address-vpn.result) (sym c.perm.ensures ∙ c.in_default.is) in
+    let none : get pages (c.args.address / 4096) ≡ None = ap (get pages) (sym c.of_address-vpn.ensures) ∙ perm-none (get pages c.of_address-vpn.result) (sym c.perm.ensures ∙ c.in_default.is) in
     sym (ap (λ i. byte_of i c.args.address) (image-seen s) ∙ byte-none (image_of c.args.self.now.ram c.memory-memory.result.now.space) c.args.address none)
 
 pub read_page-requires-clause-whole : goal.read_page-requires-clause-whole

@@ -30,7 +30,8 @@ returns-in_default-clause-run c =
     let on = is-on i.kernel i.hart i.halted c.args.pid current c.self.invariant.halted in
     let a : Advanced i.kernel i.hart c.args.most made None k h = subst (λ (e : Option Outcome). Advanced i.kernel i.hart c.args.most made e k h) c.in_default.is c.advance-made.ensures in
     now-ran i.kernel i.hart i.halted i.trace c.args.self.now c.self.view_is (runs_made c.args.pid made None) (world_of k h i.halted) on
-    (subst (λ (s : Option ℤ). IsPromised (world_of i.kernel i.hart None) (runs_made c.args.pid made None) (world_of k h s)) (sym on) (none-run i.kernel i.hart i.halted c.args.pid current c.self.invariant.halted c.args.most made k h a))
+    (subst (λ (s : Option ℤ). IsPromised (world_of i.kernel i.hart None) (runs_made c.args.pid made None) (world_of k h s)) (sym on)
+    (none-run i.kernel i.hart i.halted c.args.pid current c.self.invariant.halted c.args.most made k h a))
 
 pub returns-in_default-clause-frames : goal.returns-in_default-clause-frames
 returns-in_default-clause-frames c =
@@ -53,7 +54,8 @@ invariant_of-self-2 c =
     let a : Advanced i.kernel i.hart c.args.most made (Some o) k h = subst (λ (e : Option Outcome). Advanced i.kernel i.hart c.args.most made e k h) c.in-Some.is c.advance-made.ensures in
     record {
       whole = some-whole i.kernel i.hart i.halted c.args.pid current c.self.invariant.halted c.args.most made k h o a;
-      halted = subst (λ (s : Option ℤ). IsHalted (state_of k h) (turns_of k s) s) (sym c.halted_by-self-inside.ensures) (some-halted i.kernel i.hart i.halted c.args.pid current c.self.invariant.halted c.args.most made k h o a);
+      halted = subst (λ (s : Option ℤ). IsHalted (state_of k h) (turns_of k s) s) (sym c.halted_by-self-inside.ensures)
+          (some-halted i.kernel i.hart i.halted c.args.pid current c.self.invariant.halted c.args.most made k h o a);
       kept = c.self.invariant.kept;
     }
 
@@ -68,7 +70,8 @@ returns-clause-run c =
     let on = is-on i.kernel i.hart i.halted c.args.pid current c.self.invariant.halted in
     let a : Advanced i.kernel i.hart c.args.most made (Some o) k h = subst (λ (e : Option Outcome). Advanced i.kernel i.hart c.args.most made e k h) c.in-Some.is c.advance-made.ensures in
     now-ran i.kernel i.hart i.halted i.trace c.args.self.now c.self.view_is (runs_made c.args.pid made (Some o)) (world_of k h c.halted_by-self-inside.result) on
-    (subst (λ (s : Option ℤ). IsPromised (world_of i.kernel i.hart None) (runs_made c.args.pid made (Some o)) (world_of k h s)) (sym c.halted_by-self-inside.ensures) (some-run i.kernel i.hart i.halted c.args.pid current c.self.invariant.halted c.args.most made k h o a))
+    (subst (λ (s : Option ℤ). IsPromised (world_of i.kernel i.hart None) (runs_made c.args.pid made (Some o)) (world_of k h s))
+    (sym c.halted_by-self-inside.ensures) (some-run i.kernel i.hart i.halted c.args.pid current c.self.invariant.halted c.args.most made k h o a))
 
 pub returns-clause-frames : goal.returns-clause-frames
 returns-clause-frames c =

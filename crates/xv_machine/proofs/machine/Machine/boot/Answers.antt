@@ -4,23 +4,26 @@ use Rattle.kernel_spec.specs.runs.First.{unless_refused, first_init}
 use Rattle.xk_base.specs.declared.errors.BootError.TheVariants.{BadConfig, BadPrograms}
 use Rattle.kernel_spec.specs.views.State.{named_file}
 use Rattle.kernel_spec.specs.views.Programs.{first_bad, init_of}
+use Rattle.kernel_spec.proofs.Common.{none_from_is_some}
 use Rattle.xv_machine.specs.Boots.{Boots}
-use Rattle.xv_machine.proofs.Starts.{first-bad, programs-same, boots-kernel, boots-no_kernel, boots-without_init, init-missing}
+use Rattle.xv_machine.proofs.Starts.{first-bad, programs-same, boots-kernel, boots-no_kernel, boots-without_init}
 use Rattle.xv_machine.proofs.machine.Machine.boot.Goals as goal
 
 pub returns-then-is_refused-clause-boots : goal.returns-then-is_refused-clause-boots
 returns-then-is_refused-clause-boots c =
-    subst (Boots c.args.config.frames (Err BadConfig)) (sym (first-bad c.args.config.frames c.args.config.trace (map named_file c.args.programs.items) (sym c.is_refused.ensures ∙ c.if-is_refused.true))) refl
+    subst (Boots c.args.config.frames (Err BadConfig))
+    (sym (first-bad c.args.config.frames c.args.config.trace (map named_file c.args.programs.items) (sym c.is_refused.ensures ∙ c.if-is_refused.true))) refl
 
 pub returns-then-not-has_init-clause-boots : goal.returns-then-not-has_init-clause-boots
 returns-then-not-has_init-clause-boots c =
-    let told = subst (λ qs. unless_refused (option_map BadPrograms (first_bad (map named_file qs))) (first_init c.args.config.frames (map named_file qs) (init_of (map named_file qs))) ≡ Err c.without_init.result)
+    let told = subst (λ qs. unless_refused (option_map BadPrograms (first_bad (map named_file qs)))
+    (first_init c.args.config.frames (map named_file qs) (init_of (map named_file qs))) ≡ Err c.without_init.result)
     c.deref-then-not-has_init.ensures.value (c.without_init.ensures c.args.config.frames) in
     boots-without_init c.args.config.frames c.args.config.trace (map named_file c.args.programs.items) c.without_init.result (sym c.is_refused.ensures ∙ c.if-is_refused.false) told
 
 pub without_init-requires : goal.without_init-requires
 without_init-requires c =
-    init-missing (init_of (map named_file c.deref-then-not-has_init.result.now))
+    none_from_is_some (init_of (map named_file c.deref-then-not-has_init.result.now))
     (ap (λ qs. is_some (init_of (map named_file qs))) (c.deref-then-not-has_init.ensures.value ∙ sym c.deref.ensures.value) ∙ sym c.has_init.ensures ∙ c.if-not-has_init.true)
 
 pub with_trace-requires-clause-program : goal.with_trace-requires-clause-program
@@ -30,7 +33,8 @@ with_trace-requires-clause-program c =
 
 pub returns-in-Ok-clause-boots : goal.returns-in-Ok-clause-boots
 returns-in-Ok-clause-boots c =
-    boots-kernel c.in-Ok.kernel c.args.config.frames c.args.config.trace (map named_file c.args.programs.items) c.with_trace.result (sym c.is_refused.ensures ∙ c.if-is_refused.false) c.in-Ok.ensures.made c.in-Ok.ensures.frames
+    boots-kernel c.in-Ok.kernel c.args.config.frames c.args.config.trace (map named_file c.args.programs.items) c.with_trace.result
+    (sym c.is_refused.ensures ∙ c.if-is_refused.false) c.in-Ok.ensures.made c.in-Ok.ensures.frames
     (programs-same c.in-Ok.kernel c.args.config.frames (map named_file c.args.programs.items) c.in-Ok.ensures.state) c.with_trace.ensures.boots
 
 pub returns-in-Err-clause-boots : goal.returns-in-Err-clause-boots

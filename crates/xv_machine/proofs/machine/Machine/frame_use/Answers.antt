@@ -1,4 +1,4 @@
-use Rattle.std.proofs.Common.{◌≡◌, ◌≤◌, ap, ◌∙◌, subst, Some, None}
+use Rattle.std.proofs.Common.{◌≡◌, ◌≤◌, subst, Some, None}
 use Rattle.std.specs.Prelude.{◌↔◌}
 use Rattle.xv_machine.specs.FrameUses.{IsUsed}
 use Rattle.xv_machine.specs.Meaning.{Meaning}

@@ -12,4 +12,5 @@ returns-then-capacity-eq0-clause-sound c =
 pub returns-clause-sound : goal.returns-clause-sound
 returns-clause-sound c =
     let i = c.self.inside in
-    sound-of i.kernel i.hart i.halted c.push_often.new.trace (pushed-often i.trace (replicate c.args.count c.args.note) c.push_often.new.trace c.push_often.ensures) c.self.invariant.whole c.self.invariant.halted
+    sound-of i.kernel i.hart i.halted c.push_often.new.trace
+    (pushed-often i.trace (replicate c.args.count c.args.note) c.push_often.new.trace c.push_often.ensures) c.self.invariant.whole c.self.invariant.halted

@@ -15,7 +15,8 @@ invariant_of-self c =
     let current = now-running i.kernel i.hart i.halted i.trace c.args.self.now c.args.pid c.self.view_is c.requires.current in
     record {
       whole = c.instructions.ensures.did.whole;
-      halted = did-halted i.kernel i.hart i.halted c.args.pid current c.self.invariant.halted c.args.most c.instructions.result c.instructions.new.kernel c.instructions.new.hart c.instructions.ensures;
+      halted = did-halted i.kernel i.hart i.halted c.args.pid current c.self.invariant.halted c.args.most c.instructions.result
+          c.instructions.new.kernel c.instructions.new.hart c.instructions.ensures;
       kept = c.self.invariant.kept;
     }
 
@@ -23,7 +24,8 @@ pub returns-clause-run : goal.returns-clause-run
 returns-clause-run c =
     let i = c.self.inside in
     let current = now-running i.kernel i.hart i.halted i.trace c.args.self.now c.args.pid c.self.view_is c.requires.current in
-    did-run i.kernel i.hart i.halted c.args.pid current c.self.invariant.halted c.args.most c.instructions.result c.instructions.new.kernel c.instructions.new.hart c.instructions.ensures i.trace c.args.self.now c.self.view_is
+    did-run i.kernel i.hart i.halted c.args.pid current c.self.invariant.halted c.args.most c.instructions.result c.instructions.new.kernel
+    c.instructions.new.hart c.instructions.ensures i.trace c.args.self.now c.self.view_is
 
 pub returns-clause-stops : goal.returns-clause-stops
 returns-clause-stops c =

@@ -19,8 +19,11 @@ invariant_of-self c =
     let i = c.self.inside in
     record {
       whole = c.step-outcome.ensures.made.whole;
-      halted = run-ends i.kernel c.step-outcome.new.kernel i.hart c.step-outcome.new.hart i.halted i.halted c.in-Some.pid c.step-outcome.result c.self.invariant.whole (sym (c.current.ensures None) ∙ c.in-Some.is) c.self.invariant.halted
-          c.step-outcome.ensures.made c.step-outcome.ensures.answer (stepped-keeps i.kernel i.hart i.halted c.in-Some.pid c.in-Stepped.done c.step-outcome.result c.in-Stepped.is (sym (c.current.ensures None) ∙ c.in-Some.is) c.self.invariant.halted);
+      halted = run-ends i.kernel c.step-outcome.new.kernel i.hart c.step-outcome.new.hart i.halted i.halted c.in-Some.pid c.step-outcome.result
+          c.self.invariant.whole (sym (c.current.ensures None) ∙ c.in-Some.is) c.self.invariant.halted
+          c.step-outcome.ensures.made c.step-outcome.ensures.answer
+          (stepped-keeps i.kernel i.hart i.halted c.in-Some.pid c.in-Stepped.done c.step-outcome.result c.in-Stepped.is
+          (sym (c.current.ensures None) ∙ c.in-Some.is) c.self.invariant.halted);
       kept = c.self.invariant.kept;
     }
 
@@ -30,19 +33,24 @@ returns-in-Stepped-clause-promised c =
     let current = sym (c.current.ensures None) ∙ c.in-Some.is in
     let now = current-pid i.kernel c.in-Some.pid current in
     subst (λ (o : Outcome). Promised c.args.self.now.world runs.Run (outcome_of o) (world_of c.step-outcome.new.kernel c.step-outcome.new.hart i.halted)) c.in-Stepped.is
-    (now-promised i.kernel i.hart i.halted i.trace c.args.self.now c.self.view_is runs.Run c.step-outcome.new.kernel c.step-outcome.new.hart (halted_by c.step-outcome.result) (outcome_of c.step-outcome.result) i.halted
-    (not-halted i.kernel i.hart i.halted c.self.invariant.halted now.0) (stepped-keeps i.kernel i.hart i.halted c.in-Some.pid c.in-Stepped.done c.step-outcome.result c.in-Stepped.is current c.self.invariant.halted)
-    (run-step i.kernel c.step-outcome.new.kernel i.hart c.step-outcome.new.hart c.in-Some.pid c.step-outcome.result c.self.invariant.whole now.0 now.1 c.step-outcome.ensures.made c.step-outcome.ensures.answer))
+    (now-promised i.kernel i.hart i.halted i.trace c.args.self.now c.self.view_is runs.Run c.step-outcome.new.kernel c.step-outcome.new.hart
+    (halted_by c.step-outcome.result) (outcome_of c.step-outcome.result) i.halted
+    (not-halted i.kernel i.hart i.halted c.self.invariant.halted now.0)
+    (stepped-keeps i.kernel i.hart i.halted c.in-Some.pid c.in-Stepped.done c.step-outcome.result c.in-Stepped.is current c.self.invariant.halted)
+    (run-step i.kernel c.step-outcome.new.kernel i.hart c.step-outcome.new.hart c.in-Some.pid c.step-outcome.result c.self.invariant.whole now.0
+    now.1 c.step-outcome.ensures.made c.step-outcome.ensures.answer))
 
 pub returns-in-Stepped-clause-frames : goal.returns-in-Stepped-clause-frames
-returns-in-Stepped-clause-frames c = count-is c.step-outcome.new.kernel ∙ c.step-outcome.ensures.made.frames ∙ now-frames c.self.inside.kernel c.self.inside.hart c.self.inside.halted c.self.inside.trace c.args.self.now c.self.view_is
+returns-in-Stepped-clause-frames c = count-is c.step-outcome.new.kernel ∙ c.step-outcome.ensures.made.frames
+    ∙ now-frames c.self.inside.kernel c.self.inside.hart c.self.inside.halted c.self.inside.trace c.args.self.now c.self.view_is
 
 pub invariant_of-self-2 : goal.invariant_of-self-2
 invariant_of-self-2 c =
     let i = c.self.inside in
     record {
       whole = c.step-outcome.ensures.made.whole;
-      halted = run-ends i.kernel c.step-outcome.new.kernel i.hart c.step-outcome.new.hart i.halted c.halted_by-self-inside.result c.in-Some.pid c.step-outcome.result c.self.invariant.whole (sym (c.current.ensures None) ∙ c.in-Some.is) c.self.invariant.halted
+      halted = run-ends i.kernel c.step-outcome.new.kernel i.hart c.step-outcome.new.hart i.halted c.halted_by-self-inside.result c.in-Some.pid
+          c.step-outcome.result c.self.invariant.whole (sym (c.current.ensures None) ∙ c.in-Some.is) c.self.invariant.halted
           c.step-outcome.ensures.made c.step-outcome.ensures.answer c.halted_by-self-inside.ensures;
       kept = c.self.invariant.kept;
     }
@@ -51,9 +59,12 @@ pub returns-clause-promised : goal.returns-clause-promised
 returns-clause-promised c =
     let i = c.self.inside in
     let now = current-pid i.kernel c.in-Some.pid (sym (c.current.ensures None) ∙ c.in-Some.is) in
-    now-promised i.kernel i.hart i.halted i.trace c.args.self.now c.self.view_is runs.Run c.step-outcome.new.kernel c.step-outcome.new.hart (halted_by c.step-outcome.result) (outcome_of c.step-outcome.result) c.halted_by-self-inside.result
+    now-promised i.kernel i.hart i.halted i.trace c.args.self.now c.self.view_is runs.Run c.step-outcome.new.kernel c.step-outcome.new.hart
+    (halted_by c.step-outcome.result) (outcome_of c.step-outcome.result) c.halted_by-self-inside.result
     (not-halted i.kernel i.hart i.halted c.self.invariant.halted now.0) c.halted_by-self-inside.ensures
-    (run-step i.kernel c.step-outcome.new.kernel i.hart c.step-outcome.new.hart c.in-Some.pid c.step-outcome.result c.self.invariant.whole now.0 now.1 c.step-outcome.ensures.made c.step-outcome.ensures.answer)
+    (run-step i.kernel c.step-outcome.new.kernel i.hart c.step-outcome.new.hart c.in-Some.pid c.step-outcome.result c.self.invariant.whole now.0
+    now.1 c.step-outcome.ensures.made c.step-outcome.ensures.answer)
 
 pub returns-clause-frames : goal.returns-clause-frames
-returns-clause-frames c = count-is c.step-outcome.new.kernel ∙ c.step-outcome.ensures.made.frames ∙ now-frames c.self.inside.kernel c.self.inside.hart c.self.inside.halted c.self.inside.trace c.args.self.now c.self.view_is
+returns-clause-frames c = count-is c.step-outcome.new.kernel ∙ c.step-outcome.ensures.made.frames
+    ∙ now-frames c.self.inside.kernel c.self.inside.hart c.self.inside.halted c.self.inside.trace c.args.self.now c.self.view_is

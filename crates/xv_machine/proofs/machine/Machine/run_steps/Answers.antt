@@ -15,7 +15,8 @@ returns-in_default-clause-ran c =
     let end : IsEnd c.args.most c.advance-made.result.made None = subst (λ (e : Option Outcome). IsEnd c.args.most c.advance-made.result.made e) c.in_default.is c.advance-made.ensures.end in
     let run : IsPromised old.world (runs_made c.args.pid c.advance-made.result.made None) mid.world =
     subst (λ (e : Option Outcome). IsPromised old.world (runs_made c.args.pid c.advance-made.result.made e) mid.world) c.in_default.is c.advance-made.ensures.run in
-    all-ran c.args.most c.advance-made.result.made c.args.pid old mid c.keep_often.new.self c.requires.current end run c.advance-made.ensures.frames c.advance-made.ensures.trace c.keep_often.ensures.kept c.keep_often.ensures.sound
+    all-ran c.args.most c.advance-made.result.made c.args.pid old mid c.keep_often.new.self c.requires.current end run c.advance-made.ensures.frames
+    c.advance-made.ensures.trace c.keep_often.ensures.kept c.keep_often.ensures.sound
 
 pub returns-clause-ran : goal.returns-clause-ran
 returns-clause-ran c =
@@ -27,5 +28,6 @@ returns-clause-ran c =
     let end : IsEnd c.args.most made (Some o) = subst (λ (e : Option Outcome). IsEnd c.args.most made e) c.in-Some.is c.advance-made.ensures.end in
     let run : IsPromised old.world (runs_made c.args.pid made (Some o)) mid.world =
     subst (λ (e : Option Outcome). IsPromised old.world (runs_made c.args.pid made e) mid.world) c.in-Some.is c.advance-made.ensures.run in
-    some-ran c.args.most made c.args.pid (outcome_of o) old mid kept c.keep.new.self c.requires.current end.0 (end.1 c.args.pid) end.2 end.3 run c.advance-made.ensures.frames c.advance-made.ensures.trace c.keep_often.ensures.kept
+    some-ran c.args.most made c.args.pid (outcome_of o) old mid kept c.keep.new.self c.requires.current end.0
+    (end.1 c.args.pid) end.2 end.3 run c.advance-made.ensures.frames c.advance-made.ensures.trace c.keep_often.ensures.kept
     (c.keep.ensures.kept ∙ ap (λ (n : Note). record kept { notes = keep_last kept.room (kept.notes ++ n ∷ []) }) c.of.ensures) c.keep.ensures.sound

@@ -26,8 +26,12 @@ invariant_of-result c = record {
 pub returns-in-Ok-clause-boots : goal.returns-in-Ok-clause-boots
 returns-in-Ok-clause-boots c =
     let s = state_of c.args.kernel c.new-hart.result in
-    boots-started (length c.args.kernel.memories.ram) (map named_file c.args.kernel.programs.items) s (kernel-free c.args.kernel c.new-hart.result c.requires.blank) (kernel-programs c.args.kernel c.new-hart.result) c.requires.program
-    (kernel-console c.args.kernel c.new-hart.result c.requires.blank) (kernel-clock c.args.kernel c.new-hart.result c.requires.blank) c.in-Ok.ensures.started.0 (meaning_of (record { kernel = c.start.new.self; hart = c.start.new.hart; halted = None; trace = c.args.trace })) c.in-Ok.ensures.started.1 c.in-Ok.ensures.started.2 c.in-Ok.ensures.started.3
+    boots-started (length c.args.kernel.memories.ram) (map named_file c.args.kernel.programs.items) s
+    (kernel-free c.args.kernel c.new-hart.result c.requires.blank) (kernel-programs c.args.kernel c.new-hart.result) c.requires.program
+    (kernel-console c.args.kernel c.new-hart.result c.requires.blank)
+    (kernel-clock c.args.kernel c.new-hart.result c.requires.blank) c.in-Ok.ensures.started.0
+    (meaning_of (record { kernel = c.start.new.self; hart = c.start.new.hart; halted = None; trace = c.args.trace })) c.in-Ok.ensures.started.1
+    c.in-Ok.ensures.started.2 c.in-Ok.ensures.started.3
     (count-is c.start.new.self ∙ c.start.ensures.frames)
 
 pub returns-in-Ok-clause-sound : goal.returns-in-Ok-clause-sound
@@ -38,5 +42,6 @@ returns-in-Ok-clause-sound c =
 pub returns-in-Err-clause-boots : goal.returns-in-Err-clause-boots
 returns-in-Err-clause-boots c =
     let s = state_of c.args.kernel c.new-hart.result in
-    boots-refused (length c.args.kernel.memories.ram) (map named_file c.args.kernel.programs.items) s (kernel-free c.args.kernel c.new-hart.result c.requires.blank) (kernel-programs c.args.kernel c.new-hart.result) c.requires.program
+    boots-refused (length c.args.kernel.memories.ram) (map named_file c.args.kernel.programs.items) s
+    (kernel-free c.args.kernel c.new-hart.result c.requires.blank) (kernel-programs c.args.kernel c.new-hart.result) c.requires.program
     c.in-Err.refusal c.in-Err.ensures.refused.0

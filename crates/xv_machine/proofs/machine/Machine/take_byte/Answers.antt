@@ -16,7 +16,8 @@ invariant_of-self c =
 pub returns-clause-promised : goal.returns-clause-promised
 returns-clause-promised c =
     let i = c.self.inside in
-    now-sent i.kernel i.hart i.halted i.trace c.args.self.now c.self.view_is c.send.new.self c.send.result (c.send.ensures.happens i.hart i.halted c.self.invariant.whole) (c.send.ensures.wakes i.hart i.halted c.self.invariant.whole)
+    now-sent i.kernel i.hart i.halted i.trace c.args.self.now c.self.view_is c.send.new.self c.send.result
+    (c.send.ensures.happens i.hart i.halted c.self.invariant.whole) (c.send.ensures.wakes i.hart i.halted c.self.invariant.whole)
 
 pub returns-clause-frames : goal.returns-clause-frames
 returns-clause-frames c = count-is c.send.new.self ∙ c.send.ensures.frames ∙ now-frames c.self.inside.kernel c.self.inside.hart c.self.inside.halted c.self.inside.trace c.args.self.now c.self.view_is

@@ -12,7 +12,8 @@ invariant_of-self c =
     let now = c.if-not-goes_on.self-inside in
     let small : i.count < 2 ^ 64 = omega arith in
     elim c.if-not-goes_on.branch [
-      | then-not-goes_on+else-more-eq0 w ↦ (puts-begun i now w.push_front.new.self c.args.note.now c.args.more c.from.result small (omega arith) (omega arith) c.self.invariant w.push_front.ensures.items w.self-inside-is c.from.ensures).sound
+      | then-not-goes_on+else-more-eq0 w ↦ (puts-begun i now w.push_front.new.self c.args.note.now c.args.more c.from.result small (omega arith)
+          (omega arith) c.self.invariant w.push_front.ensures.items w.self-inside-is c.from.ensures).sound
       | else-not-goes_on w ↦ (puts-longer i now c.args.note.now c.args.more c.from.result small c.self.invariant (c.goes_on.ensures w.if-not-goes_on.false) w.self-inside-is c.from.ensures).sound
     ]
 
@@ -22,6 +23,10 @@ returns c =
     let now = c.if-not-goes_on.self-inside in
     let small : i.count < 2 ^ 64 = omega arith in
     elim c.if-not-goes_on.branch [
-      | then-not-goes_on+else-more-eq0 w ↦ puts-view i _ c.args.self.now c.args.note.now c.args.more c.self.view_is (puts-begun i now w.push_front.new.self c.args.note.now c.args.more c.from.result small (omega arith) (omega arith) c.self.invariant w.push_front.ensures.items w.self-inside-is c.from.ensures)
-      | else-not-goes_on w ↦ puts-view i _ c.args.self.now c.args.note.now c.args.more c.self.view_is (puts-longer i now c.args.note.now c.args.more c.from.result small c.self.invariant (c.goes_on.ensures w.if-not-goes_on.false) w.self-inside-is c.from.ensures)
+      | then-not-goes_on+else-more-eq0 w ↦ puts-view i _ c.args.self.now c.args.note.now c.args.more c.self.view_is
+          (puts-begun i now w.push_front.new.self c.args.note.now c.args.more c.from.result small (omega arith)
+          (omega arith) c.self.invariant w.push_front.ensures.items w.self-inside-is c.from.ensures)
+      | else-not-goes_on w ↦ puts-view i _ c.args.self.now c.args.note.now c.args.more c.self.view_is
+          (puts-longer i now c.args.note.now c.args.more c.from.result small c.self.invariant
+          (c.goes_on.ensures w.if-not-goes_on.false) w.self-inside-is c.from.ensures)
     ]

@@ -11,7 +11,9 @@ returns-then-made-most-clause-made c =
 
 pub event-last-requires : goal.event-last-requires
 event-last-requires c = record {
-  sound = instructed-sound c.instructions-made.result (or_zero c.args.self.now.machine.world.turns.current) c.args.self.now.names c.args.self.now.machine c.instructions-made.new.self c.requires.sound c.instructions-made.ensures.goes;
+  sound = instructed-sound c.instructions-made.result
+      (or_zero c.args.self.now.machine.world.turns.current) c.args.self.now.names c.args.self.now.machine c.instructions-made.new.self
+      c.requires.sound c.instructions-made.ensures.goes;
 }
 
 pub returns-clause-made : goal.returns-clause-made
@@ -19,5 +21,6 @@ returns-clause-made c =
     let old = c.args.self.now in
     let current = old.machine.world.turns.current in
     let fewer : c.instructions-made.result < c.args.most = omega (arith, c.instructions-made.ensures.within, c.if-made-most.false) in
-    some-done c.args.most c.instructions-made.result (or_zero current) (outcome_of c.event-last.result) old.names old.machine c.instructions-made.new.self c.event-last.new.self c.requires.sound.machine
+    some-done c.args.most c.instructions-made.result (or_zero current)
+    (outcome_of c.event-last.result) old.names old.machine c.instructions-made.new.self c.event-last.new.self c.requires.sound.machine
     (there current c.requires.running) fewer c.instructions-made.ensures.goes (c.instructions-made.ensures.stops fewer) c.event-last.ensures

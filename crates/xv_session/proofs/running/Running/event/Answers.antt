@@ -1,5 +1,4 @@
-use Rattle.std.proofs.Common.{◌≡◌, length, ◌≤◌, ap, ◌∙◌, subst}
-use Rattle.xk_base.specs.declared.limits.TheConstants.{NPROC}
+use Rattle.std.proofs.Common.{ap, ◌∙◌}
 use Rattle.std.specs.Prelude.{Option, ℕ}
 use Rattle.xv_machine.specs.Events.{event_of, outcome_of}
 use Rattle.xv_session.specs.Names.{names_after}
@@ -8,7 +7,9 @@ use Rattle.xv_session.proofs.NamesLive.{event-fit}
 use Rattle.xv_session.proofs.running.Running.event.Goals as goal
 
 pub note-requires : goal.note-requires
-note-requires c = event-fit (event_of c.args.event) (outcome_of c.event-outcome.result) c.asked_for-asked.result c.args.self.now.machine c.event-outcome.new.self c.args.self.now.names c.requires.sound.names c.event-outcome.ensures
+note-requires c = event-fit (event_of c.args.event)
+    (outcome_of c.event-outcome.result) c.asked_for-asked.result c.args.self.now.machine c.event-outcome.new.self c.args.self.now.names
+    c.requires.sound.names c.event-outcome.ensures
 
 pub returns : goal.returns
 returns c = record {

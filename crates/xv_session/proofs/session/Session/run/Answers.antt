@@ -20,14 +20,28 @@ invariant_of-self-2 c =
     let s = c.self.inside in
     let r = c.run-runs.new.self in
     let sent = replicate c.run-runs.result.sent Run in
-    let all : c.add.new.self.events ≡ s.history.events ++ sent = ap (λ (k : Kept). k.events) c.add.ensures ∙ (λ i. c.in_ok-make_room.ensures.events i ++ replicate c.run-runs.result.sent (c.in_ok-make_room.ensures.next i)) in
-    recorded-on s.config.frames s.config.trace s.history.events sent c.add.new.self.events s.running r c.self.invariant (goes-by-runs c.args.most c.run-runs.result.sent (option_map outcome_of c.run-runs.result.last) s.running r c.run-runs.ensures.made) all
+    let all : c.add.new.self.events ≡ s.history.events ++ sent = ap (λ (k : Kept). k.events) c.add.ensures
+    ∙ (λ i. c.in_ok-make_room.ensures.events i ++ replicate c.run-runs.result.sent (c.in_ok-make_room.ensures.next i)) in
+    recorded-on s.config.frames s.config.trace s.history.events sent c.add.new.self.events s.running r c.self.invariant
+    (goes-by-runs c.args.most c.run-runs.result.sent (option_map outcome_of c.run-runs.result.last) s.running r c.run-runs.ensures.made) all
 
 pub returns-clause-sent : goal.returns-clause-sent
 returns-clause-sent c =
     let s = c.self.inside in
     let r = c.run-runs.new.self in
     let sent = replicate c.run-runs.result.sent Run in
-    let all : c.add.new.self.events ≡ s.history.events ++ sent = ap (λ (k : Kept). k.events) c.add.ensures ∙ (λ i. c.in_ok-make_room.ensures.events i ++ replicate c.run-runs.result.sent (c.in_ok-make_room.ensures.next i)) in
-    subst (λ (old : Recorded). RunsSent c.args.most c.run-runs.result.sent (option_map outcome_of c.run-runs.result.last) old (record { frames = s.config.frames; trace = s.config.trace; programs = r.machine.world.state.programs; events = c.add.new.self.events; machine = r.machine; names = r.names })) c.self.view_is
-    (c.run-runs.ensures.made, stands-on s.config.frames s.config.trace s.history.events sent c.add.new.self.events s.running r c.self.invariant (goes-by-runs c.args.most c.run-runs.result.sent (option_map outcome_of c.run-runs.result.last) s.running r c.run-runs.ensures.made) all)
+    let all : c.add.new.self.events ≡ s.history.events ++ sent = ap (λ (k : Kept). k.events) c.add.ensures
+    ∙ (λ i. c.in_ok-make_room.ensures.events i ++ replicate c.run-runs.result.sent (c.in_ok-make_room.ensures.next i)) in
+    subst (λ (old : Recorded). RunsSent c.args.most c.run-runs.result.sent (option_map outcome_of c.run-runs.result.last) old
+    (record {
+      frames = s.config.frames;
+      trace = s.config.trace;
+      programs = r.machine.world.state.programs;
+      events = c.add.new.self.events;
+      machine = r.machine;
+      names = r.names;
+    })) c.self.view_is (
+      c.run-runs.ensures.made,
+      stands-on s.config.frames s.config.trace s.history.events sent c.add.new.self.events s.running r c.self.invariant
+          (goes-by-runs c.args.most c.run-runs.result.sent (option_map outcome_of c.run-runs.result.last) s.running r c.run-runs.ensures.made) all,
+    )

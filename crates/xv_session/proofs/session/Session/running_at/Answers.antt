@@ -1,4 +1,4 @@
-use Rattle.std.proofs.Common.{◌≡◌, Ok, sym, ap, ◌∙◌, subst, take, map}
+use Rattle.std.proofs.Common.{Ok, sym, ap, ◌∙◌, subst, take, map}
 use Rattle.kernel_spec.specs.runs.First.{first}
 use Rattle.kernel_spec.specs.views.State.{named_file}
 use Rattle.xv_machine.specs.Boots.{Boots, HasEmptyTrace}

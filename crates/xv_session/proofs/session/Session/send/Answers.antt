@@ -19,7 +19,8 @@ invariant_of-self-2 c =
     let r = c.event-outcome.new.self in
     let e = event_of c.args.event in
     let all : c.add.new.self.events ≡ s.history.events ++ (e ∷ []) = ap (λ (k : Kept). k.events) c.add.ensures ∙ (λ i. c.in_ok-make_room.ensures.events i ++ (c.in_ok-make_room.ensures.next i ∷ [])) in
-    recorded-on s.config.frames s.config.trace s.history.events (e ∷ []) c.add.new.self.events s.running r c.self.invariant (goes-by-one e (outcome_of c.event-outcome.result) s.running r c.event-outcome.ensures) all
+    recorded-on s.config.frames s.config.trace s.history.events (e ∷ []) c.add.new.self.events s.running r c.self.invariant
+    (goes-by-one e (outcome_of c.event-outcome.result) s.running r c.event-outcome.ensures) all
 
 pub returns-clause-sent : goal.returns-clause-sent
 returns-clause-sent c =
@@ -27,5 +28,16 @@ returns-clause-sent c =
     let r = c.event-outcome.new.self in
     let e = event_of c.args.event in
     let all : c.add.new.self.events ≡ s.history.events ++ (e ∷ []) = ap (λ (k : Kept). k.events) c.add.ensures ∙ (λ i. c.in_ok-make_room.ensures.events i ++ (c.in_ok-make_room.ensures.next i ∷ [])) in
-    subst (λ (old : Recorded). Sent old e (outcome_of c.event-outcome.result) (record { frames = s.config.frames; trace = s.config.trace; programs = r.machine.world.state.programs; events = c.add.new.self.events; machine = r.machine; names = r.names })) c.self.view_is
-    (c.event-outcome.ensures, stands-on s.config.frames s.config.trace s.history.events (e ∷ []) c.add.new.self.events s.running r c.self.invariant (goes-by-one e (outcome_of c.event-outcome.result) s.running r c.event-outcome.ensures) all)
+    subst (λ (old : Recorded). Sent old e (outcome_of c.event-outcome.result)
+    (record {
+      frames = s.config.frames;
+      trace = s.config.trace;
+      programs = r.machine.world.state.programs;
+      events = c.add.new.self.events;
+      machine = r.machine;
+      names = r.names;
+    })) c.self.view_is (
+      c.event-outcome.ensures,
+      stands-on s.config.frames s.config.trace s.history.events (e ∷ []) c.add.new.self.events s.running r c.self.invariant
+          (goes-by-one e (outcome_of c.event-outcome.result) s.running r c.event-outcome.ensures) all,
+    )
