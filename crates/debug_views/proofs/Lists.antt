@@ -1,16 +1,13 @@
 -- The first elements of a list, one by one.
-use Rattle.std.proofs.Common.{◌≡◌, ℕ, zero, suc, All, ◌+◌, ◌<◌, ◌≤◌, inl, inr, List, [], ◌∷◌, ◌++◌, length, take, slice_get, get_or, Option, None, Some, sym, ◌∙◌, ap, subst, arith}
+use Rattle.std.proofs.Common.{◌≡◌, ℕ, zero, suc, All, ◌+◌, ◌<◌, ◌≤◌, inl, inr, List, [], ◌∷◌, ◌++◌, length, take, slice_get, get_or, None, Some, sym, ◌∙◌, ap, subst, arith}
 use Rattle.std.proofs.lemmas.Bool.{cases_lt}
 use Rattle.std.proofs.lemmas.List.{take_all, take_more}
-use Rattle.std.proofs.lemmas.Option.{slice_get_within, slice_get-get_or, get_or_from_slice_get}
-
-none-some : (Q : Type 0) (o : Option ℕ) (x : ℕ) → o ≡ None → o ≡ Some x → Q
-none-some Q o x none some = let bad : ⊥ = cc in absurd bad
+use Rattle.std.proofs.lemmas.Option.{slice_get_within, slice_get-get_or, get_or_from_slice_get, none-some}
 
 -- behind the last one there is no more
 pub take-past : (xs : List ℕ) (place n : ℕ) → slice_get xs place ≡ None → place ≤ n → take place xs ≡ take n xs
 take-past xs place n none within = elim (cases_lt place (length xs)) [
-  | inl less ↦ none-some (take place xs ≡ take n xs) (slice_get xs place) (get_or xs place 0) none (slice_get-get_or xs place 0 less)
+  | inl less ↦ absurd (none-some (get_or xs place 0) (sym none ∙ slice_get-get_or xs place 0 less))
   | inr more ↦ take_all place xs more ∙ sym (take_all n xs (omega (arith, more, within)))
 ]
 

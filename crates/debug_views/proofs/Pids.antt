@@ -1,12 +1,13 @@
 -- The least pid of a process.
 use Rattle.std.proofs.Common.{◌≡◌, ℕ, ◌<◌, ◌≤◌, Option, None, Some, IsSome, IfSome, IfNone, ◌+◌, sym, ◌∙◌, subst, ap, arith, refl}
 use Rattle.std.specs.FinMap.{get}
+use Rattle.std.proofs.lemmas.Option.{same_Some}
 use Rattle.xk_base.specs.declared.limits.TheConstants.{NPROC}
 use Rattle.kernel_spec.specs.runs.Run.{World}
 use Rattle.kernel_spec.specs.views.WellFormed.{HasSlots}
 use Rattle.kernel_spec.specs.waking.Turns.{HasSlot}
 use Rattle.debug_views.specs.Focus.{IsPid, IsLeastFrom, lesser}
-use Rattle.debug_views.proofs.Least.{IsLeast, IsBelow, IsUpTo, some-is, least-more}
+use Rattle.debug_views.proofs.Least.{IsLeast, IsBelow, IsUpTo, least-more}
 
 -- a slot has a process of this pid, which isn't below a number
 pub record IsIn (w : World) (from slot p : ℕ) : Type 0 where
@@ -40,15 +41,16 @@ least-of-all w from (Some p) slots l =
       λ q after is.
           let s = slotted w q slots is in
           let u = l.lower q s.slot s.below (record { has = s.has; from_on = after }) in
-          let same : p ≡ u.p = some-is p u.p u.is in omega (arith, same, u.within),
+          let same : p ≡ u.p = same_Some p u.p u.is in omega (arith, same, u.within),
     )
 
 -- the pids of one slot more
-pub pid-more : (w : World) (from slot : ℕ) (least found : Option ℕ) → HasSlots w.state w.turns → IsLeast (IsIn w from) slot least → IfSome found (λ pid. HasSlot w.turns pid slot × (from ≤ pid)) → IfNone found ((p : ℕ) → from ≤ p → ¬ HasSlot w.turns p slot)
+pub pid-more : (w : World) (from slot : ℕ) (least found : Option ℕ) → HasSlots w.state w.turns → IsLeast (IsIn w from) slot least
+    → IfSome found (λ pid. HasSlot w.turns pid slot × (from ≤ pid)) → IfNone found ((p : ℕ) → from ≤ p → ¬ HasSlot w.turns p slot)
     → IsLeast (IsIn w from) (slot + 1) (lesser least found)
 pid-more w from slot least None slots l some none = least-more (IsIn w from) slot least None l
     (λ p e. let bad : ⊥ = cc in absurd bad)
     (λ q has. absurd (none q has.from_on has.has))
 pid-more w from slot least (Some a) slots l some none = least-more (IsIn w from) slot least (Some a) l
-    (λ p e. record { has = subst (λ i. HasSlot w.turns i slot) (some-is a p e) some.0; from_on = subst (λ i. from ≤ i) (some-is a p e) some.1 })
+    (λ p e. record { has = subst (λ i. HasSlot w.turns i slot) (same_Some a p e) some.0; from_on = subst (λ i. from ≤ i) (same_Some a p e) some.1 })
     (λ q has. ap Some (slots.apart a q slot some.0 has.has))

@@ -1,11 +1,12 @@
 -- The events of a run, place by place.
-use Rattle.std.proofs.Common.{◌≡◌, ◌∙◌, ℕ, zero, suc, ◌+◌, ◌-◌, ◌*◌, ◌/◌, ◌%◌, ◌<◌, ◌≤◌, inl, inr, List, [], ◌∷◌, ◌++◌, refl, sym, ap, subst, arith, length, length-append, take, append_assoc, append-nil, min}
-use Rattle.std.specs.Prelude.{slice_index, replicate}
+use Rattle.std.proofs.Common.{◌≡◌, ◌∙◌, ℕ, zero, suc, ◌+◌, ◌-◌, ◌*◌, ◌/◌, ◌%◌, ◌<◌, ◌≤◌, inl, inr, List}
+use Rattle.std.proofs.Common.{[], ◌∷◌, ◌++◌, refl, sym, ap, subst, arith, length, length-append, take, append_assoc, append-nil, min}
+use Rattle.std.specs.Prelude.{replicate}
 use Rattle.std.proofs.lemmas.Bool.{cases_lt, lt-ltb, le-ltb, ne_eqb}
 use Rattle.std.proofs.Math.Nat.{mul-le-mul_right}
 use Rattle.std.proofs.lemmas.List.{take-append-le, take_all, replicate-append-replicate}
 use Rattle.std.proofs.lemmas.Nat.{div-mul-add, mod-mul-add, div-add-mod', le-div}
-use Rattle.kernel_spec.specs.runs.Run.{Event, Key}
+use Rattle.kernel_spec.specs.runs.Run.{Event}
 use Rattle.gdb_machine.specs.Rounds.{behind_key, event_at, first_events, FirstOfFirst, MoreOfOneKind}
 
 -- ---- the same round
@@ -27,10 +28,6 @@ in-keyed keys quantum place k early behind inside =
     let same = same-round place (quantum + 34) k inside in
     let within : place % (quantum + 34) + k - 1 ≡ place % (quantum + 34) - 1 + k = omega arith in
     rw (same.round, same.within, lt-ltb (place / (quantum + 34)) (length keys) early, ne_eqb (place % (quantum + 34) + k) 0 (λ e. absurd (omega arith))) (ap (behind_key quantum) within)
-
--- at a key
-pub at-key : (keys : List ℕ) (quantum place : ℕ) → place / (quantum + 34) < length keys → place % (quantum + 34) ≡ 0 → event_at keys quantum place ≡ Key (slice_index keys (place / (quantum + 34)))
-at-key keys quantum place early begins = rw (begins, lt-ltb (place / (quantum + 34)) (length keys) early) refl
 
 -- behind all keys
 pub keys-over : (keys : List ℕ) (quantum place : ℕ) → length keys ≤ place / (quantum + 34) → length keys * (quantum + 34) ≤ place
@@ -118,5 +115,8 @@ more-of-one-kind keys quantum place (suc n) e each =
     let last : event_at keys quantum (place + n) ≡ e = each n (omega arith) in
     let before : first_events keys quantum (place + n) ≡ first_events keys quantum place ++ replicate n e = more-of-one-kind keys quantum place n e (λ k h. each k (omega arith)) in
     let next : place + suc n ≡ suc (place + n) = omega arith in
-    ap (first_events keys quantum) next ∙ ap (λ (xs : List Event). xs ++ event_at keys quantum (place + n) ∷ []) before ∙ ap (λ (x : Event). (first_events keys quantum place ++ replicate n e) ++ x ∷ []) last
-    ∙ append_assoc (first_events keys quantum place) (replicate n e) (e ∷ []) ∙ ap (λ (xs : List Event). first_events keys quantum place ++ xs) (replicate-append-replicate n 1 e ∙ ap (λ (m : ℕ). replicate m e) (let one : n + 1 ≡ suc n = omega arith in one))
+    ap (first_events keys quantum) next ∙ ap (λ (xs : List Event). xs ++ event_at keys quantum (place + n) ∷ []) before
+    ∙ ap (λ (x : Event). (first_events keys quantum place ++ replicate n e) ++ x ∷ []) last
+    ∙ append_assoc (first_events keys quantum place) (replicate n e) (e ∷ [])
+    ∙ ap (λ (xs : List Event). first_events keys quantum place ++ xs)
+    (replicate-append-replicate n 1 e ∙ ap (λ (m : ℕ). replicate m e) (let one : n + 1 ≡ suc n = omega arith in one))

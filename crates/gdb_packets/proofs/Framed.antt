@@ -53,7 +53,8 @@ takes-all (b ∷ payload) q s h =
     let all = takes-all payload (q ++ b ∷ []) s1 small in
     let summed : (s1 + total (escaped payload)) % 256 ≡ (s + total (escape b ++ escaped payload)) % 256 = let sums = sum_by-append (λ (n : ℕ). n) (escape b) (escaped payload) in omega arith in
     record {
-      goes = fed_all-append (escape b) (escaped payload) (body q s) ∙ ap (fed_all (escaped payload)) one.goes ∙ all.goes ∙ ap (λ (l : List ℕ). body l ((s1 + total (escaped payload)) % 256)) (append_assoc q (b ∷ []) payload) ∙ ap (body (q ++ b ∷ payload)) summed;
+      goes = fed_all-append (escape b) (escaped payload) (body q s) ∙ ap (fed_all (escaped payload)) one.goes ∙ all.goes
+          ∙ ap (λ (l : List ℕ). body l ((s1 + total (escaped payload)) % 256)) (append_assoc q (b ∷ []) payload) ∙ ap (body (q ++ b ∷ payload)) summed;
       ends_nothing = pieces-append (escape b) (escaped payload) (body q s) ∙ rw (one.ends_nothing, one.goes) all.ends_nothing;
     }
 

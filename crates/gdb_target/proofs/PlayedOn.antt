@@ -22,9 +22,6 @@ module _ (keys : List ℕ) (quantum : ℕ) where
   abbrev first : ℕ → List Event
   first n = first_events keys quantum n
 
-  pub played_begin : (events : List Event) → events ≡ [] → events ≡ first_events keys quantum (length events)
-  played_begin events none = rw none refl
-
   pub played_still : (old new : List Event) → old ≡ first_events keys quantum (length old) → new ≡ old → new ≡ first_events keys quantum (length new)
   played_still old new played same = subst (λ (l : List Event). l ≡ first_events keys quantum (length l)) (sym same) played
 

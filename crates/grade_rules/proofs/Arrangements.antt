@@ -1,6 +1,6 @@
 -- Arrangements that are made step by step, and why no other has lower places.
-use Rattle.std.proofs.Common.{◌≡◌, ℕ, ◌+◌, ◌<◌, ◌≤◌, ◌⊎◌, inl, inr, List, [], ◌∷◌, ◌++◌, length, take, get_or, sym, ◌∙◌, arith, length-append}
-use Rattle.std.proofs.lemmas.List.{get_or_append_left, get_or_push, take-append-le, length-take-le, get_or-take}
+use Rattle.std.proofs.Common.{◌≡◌, ℕ, ◌+◌, ◌<◌, ◌≤◌, ◌⊎◌, inl, inr, List, [], ◌∷◌, ◌++◌, length, take, get_or, sym, ◌∙◌, arith}
+use Rattle.std.proofs.lemmas.List.{get_or_append_left, get_or_push, take-append-le, length-take-le, get_or-take, length_push}
 use Rattle.std.proofs.lemmas.Bool.{cases_lt}
 use Rattle.std.proofs.Math.Seq.{take-append_seam}
 use Rattle.grade_rules.specs.declared.note.Note.{Note}
@@ -21,13 +21,10 @@ same_before places place k within = get_or_append_left places (place ∷ []) 0 k
 at_end : (places : List ℕ) (place k : ℕ) → k ≡ length places → get_or (places ++ place ∷ []) k 0 ≡ place
 at_end places place k is = get_or_push places place 0 k (sym is)
 
-pub long : (places : List ℕ) (place : ℕ) → length (places ++ place ∷ []) ≡ length places + 1
-long places place = length-append places (place ∷ [])
-
 -- which place is meant, of one place more
 place_cases : (places : List ℕ) (place k : ℕ) → k < length (places ++ place ∷ []) → (k < length places) ⊎ (k ≡ length places)
 place_cases places place k within =
-    let count = long places place in
+    let count = length_push places place in
     elim (cases_lt k (length places)) [
       | inl less ↦ inl less
       | inr not_less ↦ inr (omega (arith, count, within, not_less))
@@ -39,7 +36,7 @@ pub step_more : (steps : List Pattern) (edges : List Edge) (notes : List Note) (
     → StandsAt (step_at steps (length places)) notes place → IsBehind edges places start → start ≤ place
     → IsArrangement steps edges notes (places ++ place ∷ [])
 step_more steps edges notes places start place here room stands behind more = record {
-  few = let count = long places place in omega (arith, count, room);
+  few = let count = length_push places place in omega (arith, count, room);
   stand = λ k within. elim (place_cases places place k within) [
     | inl less ↦ rw (same_before places place k less) (here.stand k less)
     | inr is ↦ rw (at_end places place k is) (rw is stands)
@@ -77,7 +74,7 @@ pub least_more : (steps : List Pattern) (edges : List Edge) (notes : List Note) 
     → (other : List ℕ) → IsArrangement steps edges notes other → length (places ++ place ∷ []) ≤ length other
     → (k : ℕ) → k < length (places ++ place ∷ []) → get_or (places ++ place ∷ []) k 0 ≤ get_or other k 0
 least_more steps edges notes places start place least lowest none other arranged long_other k within =
-    let count = long places place in
+    let count = length_push places place in
     let more : length places < length other = omega (arith, count, long_other) in
     let under : length places ≤ length other = omega (arith, more) in
     elim (place_cases places place k within) [

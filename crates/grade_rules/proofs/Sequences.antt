@@ -27,7 +27,8 @@ pub one_more : (wanted : List Pattern) (notes : List Note) (meant : Note → Boo
     → are_these (take done wanted) (filter meant (take place notes)) ≡ true → meant (note_at notes place) ≡ true → fits (step_at wanted done) (note_at notes place) ≡ true
     → are_these (take (done + 1) wanted) (filter meant (take (place + 1) notes)) ≡ true
 one_more wanted notes meant done place left within these is fit =
-    rw (take_more wanted done (Turn Any) left, filter_more meant notes place (note.Turn 0) within, is) (these_more (take done wanted) (filter meant (take place notes)) (step_at wanted done) (note_at notes place) these fit)
+    rw (take_more wanted done (Turn Any) left, filter_more meant notes place (note.Turn 0) within, is)
+    (these_more (take done wanted) (filter meant (take place notes)) (step_at wanted done) (note_at notes place) these fit)
 
 -- the next note isn't meant
 pub one_beside : (wanted : List Pattern) (notes : List Note) (meant : Note → Bool) (done place : ℕ) → place < length notes

@@ -1,6 +1,6 @@
 -- Runs of a machine that go on, with what is kept of them.
 use Rattle.std.proofs.Common.{◌≡◌, ℕ, ◌+◌, ◌*◌, ◌<◌, ◌≤◌, arith, List, [], ◌∷◌, ◌++◌, replicate, Option, refl, sym, ap, ◌∙◌, subst, append-nil, append_assoc}
-use Rattle.std.proofs.Math.Nat.{mul-le-mul, mul-le-mul_right}
+use Rattle.std.proofs.Math.Nat.{mul-le-mul_right}
 use Rattle.kernel_spec.specs.runs.Run.{Event, Outcome, out}
 use Rattle.kernel_spec.specs.runs.Rounds.{events}
 use Rattle.kernel_spec.specs.views.State.{ProgramFile}
@@ -24,7 +24,8 @@ plays-none p = record {
 pub plays-join : (a b c : Played) → PlaysOn a b → PlaysOn b c → PlaysOn a c
 plays-join a b c one two = record {
   list = one.list ++ two.list;
-  reaches = λ frames trace programs es here. subst (λ (xs : List (Event × Outcome)). IsReached frames trace programs xs c.session.machine) (append_assoc es one.list two.list) (two.reaches frames trace programs (es ++ one.list) (one.reaches frames trace programs es here));
+  reaches = λ frames trace programs es here. subst (λ (xs : List (Event × Outcome)). IsReached frames trace programs xs c.session.machine)
+      (append_assoc es one.list two.list) (two.reaches frames trace programs (es ++ one.list) (one.reaches frames trace programs es here));
   told = two.told ∙ ap (λ (t : Told). told_by t two.list) one.told ∙ sym (told-join (told_of a.kept) one.list two.list);
 }
 
@@ -65,7 +66,9 @@ booted-reached frames trace programs s (list, those, reached, named) new =
     let c : IsReached frames trace s.programs [] s.machine = subst (λ (n : ℕ). IsReached frames n s.programs [] s.machine) new.trace_is b in
     subst (λ (ps : List ProgramFile). IsReached frames trace ps [] s.machine) new.programs_are c
 
-pub run-of : (frames trace : ℕ) (programs : List ProgramFile) (most : ℕ) (booted p : Played) → IsReached frames trace programs [] booted.session.machine → told_of booted.kept ≡ nothing → PlaysOn booted p → p.kept.runs ≤ most → IsRunOf frames trace programs most p
+pub run-of : (frames trace : ℕ) (programs : List ProgramFile) (most : ℕ) (booted p : Played)
+    → IsReached frames trace programs [] booted.session.machine → told_of booted.kept ≡ nothing → PlaysOn booted p → p.kept.runs ≤ most
+    → IsRunOf frames trace programs most p
 run-of frames trace programs most booted p start empty plays few =
     let told : told_of p.kept ≡ told_by nothing plays.list = plays.told ∙ ap (λ (t : Told). told_by t plays.list) empty in
     record {
@@ -78,14 +81,6 @@ run-of frames trace programs most booted p start empty plays few =
     }
 
 -- ---- how many Runs
-
--- a round more finds room in 64 bits
-pub room-left : (round quantum runs : ℕ) → round < 4294967296 → quantum < 4294967296 → runs ≤ round * quantum → runs + quantum < 18446744073709551616
-room-left round quantum runs few small under =
-    let a : round ≤ 4294967295 = omega (arith, few) in
-    let b : quantum ≤ 4294967295 = omega (arith, small) in
-    let most : round * quantum ≤ 4294967295 * 4294967295 = mul-le-mul a b in
-    omega (arith, most, b, under)
 
 -- fewer rounds have fewer Runs
 pub within-plan : (round rounds quantum runs : ℕ) → round ≤ rounds → runs ≤ round * quantum → runs ≤ rounds * quantum

@@ -1,5 +1,6 @@
 -- What is told of events, one behind another.
-use Rattle.std.proofs.Common.{◌≡◌, ℕ, zero, suc, ◌+◌, ◌<◌, ◌≤◌, Bool, false, List, [], ◌∷◌, ◌++◌, length, replicate, Option, None, Some, inl, inr, refl, sym, ap, ◌∙◌, subst, arith, append-nil, append_assoc, length-append, ◌⊎◌}
+use Rattle.std.proofs.Common.{◌≡◌, ℕ, zero, suc, ◌+◌, ◌<◌, ◌≤◌, Bool, false, List, [], ◌∷◌, ◌++◌, length, replicate}
+use Rattle.std.proofs.Common.{Option, None, Some, inl, inr, refl, sym, ap, ◌∙◌, subst, arith, append-nil, append_assoc, length-append, ◌⊎◌}
 use Rattle.std.proofs.lemmas.List.{length-map, length-replicate}
 use Rattle.kernel_spec.specs.runs.Run.{Event, Run, Outcome, Step_of, Idle, Halted, out}
 use Rattle.kernel_spec.specs.runs.Rounds.{events}
@@ -15,9 +16,6 @@ idle_none before (suc n) o none = absurd (omega (arith, none))
 pub idle_some : (before : Bool) (sent : ℕ) (o : Outcome) → 0 < sent → idle_after before sent o ≡ is_idle o
 idle_some before zero o some = absurd (omega (arith, some))
 idle_some before (suc n) o some = refl
-
-pub told-equal : (a b : Told) → a.notes ≡ b.notes → a.shown ≡ b.shown → a.runs ≡ b.runs → a.last ≡ b.last → a.idle ≡ b.idle → a ≡ b
-told-equal a b n s r l d = λ i. record { notes = n i; shown = s i; runs = r i; last = l i; idle = d i }
 
 pub told-join : (t : Told) (xs ys : List (Event × Outcome)) → told_by t (xs ++ ys) ≡ told_by (told_by t xs) ys
 told-join t [] ys = refl
@@ -42,7 +40,8 @@ done-more : (n p : ℕ) (t : Told) → told_by t (replicate (suc n) (done_by p))
 done-more zero p t = done-one t p
 done-more (suc n) p t =
     let count : t.runs + 1 + suc n ≡ t.runs + suc (suc n) = omega arith in
-    ap (λ (u : Told). told_by u (replicate (suc n) (done_by p))) (done-one t p) ∙ done-more n p (told_runs t 1 None) ∙ ap (λ (k : ℕ). record { notes = t.notes; shown = t.shown; runs = k; last = t.last; idle = false }) count
+    ap (λ (u : Told). told_by u (replicate (suc n) (done_by p))) (done-one t p) ∙ done-more n p (told_runs t 1 None)
+    ∙ ap (λ (k : ℕ). record { notes = t.notes; shown = t.shown; runs = k; last = t.last; idle = false }) count
 
 -- the same again and again, which tells nothing new
 again : (n : ℕ) (o : Outcome) (t : Told) → (o ≡ Idle) ⊎ (o ≡ Halted) → told_by t (replicate (suc n) (Run, o)) ≡ told_with t (suc n) o
@@ -50,8 +49,10 @@ again zero o t is = refl
 again (suc n) o t is =
     let count : t.runs + 1 + suc n ≡ t.runs + suc (suc n) = omega arith in
     again n o (told_with t 1 o) is ∙ elim is [
-      | inl idle ↦ subst (λ (x : Outcome). told_with (told_with t 1 x) (suc n) x ≡ told_with t (suc (suc n)) x) (sym idle) (rw (append-nil t.notes, append-nil t.shown, append-nil t.notes, append-nil t.shown, count) refl)
-      | inr halted ↦ subst (λ (x : Outcome). told_with (told_with t 1 x) (suc n) x ≡ told_with t (suc (suc n)) x) (sym halted) (rw (append-nil t.notes, append-nil t.shown, append-nil t.notes, append-nil t.shown, count) refl)
+      | inl idle ↦ subst (λ (x : Outcome). told_with (told_with t 1 x) (suc n) x ≡ told_with t (suc (suc n)) x) (sym idle)
+          (rw (append-nil t.notes, append-nil t.shown, append-nil t.notes, append-nil t.shown, count) refl)
+      | inr halted ↦ subst (λ (x : Outcome). told_with (told_with t 1 x) (suc n) x ≡ told_with t (suc (suc n)) x) (sym halted)
+          (rw (append-nil t.notes, append-nil t.shown, append-nil t.notes, append-nil t.shown, count) refl)
     ]
 
 -- instructions, and then something else

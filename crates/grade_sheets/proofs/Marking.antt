@@ -1,8 +1,7 @@
 -- Marks that are given one by one.
-use Rattle.std.proofs.Common.{◌≡◌, ℕ, ◌+◌, ◌<◌, List, [], ◌∷◌, ◌++◌, length, take, get_or, sym, ap, subst, ◌∙◌, arith}
+use Rattle.std.proofs.Common.{◌≡◌, ℕ, ◌+◌, ◌<◌, List, [], ◌∷◌, ◌++◌, length, take, get_or, sym, ap, subst, ◌∙◌}
 use Rattle.std.proofs.lemmas.List.{take_more}
-use Rattle.std.proofs.lemmas.List.Sums.{sum_by_more}
-use Rattle.std.specs.Prelude.{Bool, false, if◌then◌else◌, min, sum_by, refl}
+use Rattle.std.specs.Prelude.{Bool, false, if◌then◌else◌, sum_by, refl}
 use Rattle.std.specs.List.{list_any}
 use Rattle.std.proofs.lemmas.Bool.{or_parts}
 use Rattle.grade_sheets.specs.declared.asked.Asked.{Asked}
@@ -12,14 +11,16 @@ use Rattle.grade_sheets.specs.Grades.{IsMarked, AreMarked}
 use Rattle.grade_sheets.specs.Points.{given_for}
 use Rattle.grade_sheets.specs.Standings.{has}
 
-one_more : (asked : List Asked) (seen : Seen) (marks : List Mark) (one : Asked) (mark : Mark) → AreMarked asked seen marks → IsMarked one seen mark → AreMarked (asked ++ one ∷ []) seen (marks ++ mark ∷ [])
+one_more : (asked : List Asked) (seen : Seen) (marks : List Mark) (one : Asked) (mark : Mark) → AreMarked asked seen marks → IsMarked one seen mark
+    → AreMarked (asked ++ one ∷ []) seen (marks ++ mark ∷ [])
 one_more [] seen [] one mark all here = (here, tt)
 one_more [] seen (other ∷ marks) one mark all here = absurd all
 one_more (other ∷ asked) seen [] one mark all here = absurd all
 one_more (other ∷ asked) seen (its ∷ marks) one mark all here = (all.0, one_more asked seen marks one mark all.1 here)
 
 -- the mark for what stands at a place, behind those for all before it
-pub marked_more : (asked : List Asked) (seen : Seen) (marks : List Mark) (place : ℕ) (one : Asked) (mark : Mark) → place < length asked → one ≡ get_or asked place one → AreMarked (take place asked) seen marks → IsMarked one seen mark
+pub marked_more : (asked : List Asked) (seen : Seen) (marks : List Mark) (place : ℕ) (one : Asked) (mark : Mark) → place < length asked
+    → one ≡ get_or asked place one → AreMarked (take place asked) seen marks → IsMarked one seen mark
     → AreMarked (take (place + 1) asked) seen (marks ++ mark ∷ [])
 marked_more asked seen marks place one mark within is all here =
     let is_that : take (place + 1) asked ≡ take place asked ++ one ∷ [] = take_more asked place one within ∙ ap (λ (a : Asked). take place asked ++ a ∷ []) (sym is) in
@@ -29,14 +30,6 @@ marked_more asked seen marks place one mark within is all here =
 
 abbrev pub most : ℕ
 most = 18446744073709551615
-
--- a sum with a further part, which may itself have stopped there
-pub more_points : {X : Type 0} (f : X → ℕ) (xs : List X) (place : ℕ) (x : X) (old part new : ℕ) → place < length xs → x ≡ get_or xs place x → old ≡ min (sum_by f (take place xs)) most → min part most ≡ min (f x) most → new ≡ min (old + part) most
-    → new ≡ min (sum_by f (take (place + 1) xs)) most
-more_points {X} f xs place x old part new within is before its after =
-    let more : sum_by f (take (place + 1) xs) ≡ sum_by f (take place xs) + f (get_or xs place x) = sum_by_more f xs place x within in
-    let that : f (get_or xs place x) ≡ f x = ap f (sym is) in
-    omega (arith, more, that, before, its, after)
 
 -- marks none of which is for what the run has bring no points
 pub none_given : (marks : List Mark) → list_any has marks ≡ false → sum_by given_for marks ≡ 0

@@ -275,7 +275,8 @@ in_range text low high k n r f = ap (λ t. cond t (Ok (f (low_bits k r.number)))
 read_three : (f : ℕ → ℕ → ℕ → Instr) (d s t : ℕ) → d < 32 → s < 32 → t < 32 → by_registers f (register d ∷ register s ∷ register t ∷ []) ≡ Ok (Code (f d s t ∷ []))
 read_three f d s t hd hs ht = ap (λ r. r >>= λ q. Ok (Code (f q.0 q.1 q.2 ∷ []))) (read_registers d s t hd hs ht)
 
-read_number : (f : ℕ → ℕ → ℕ → Instr) (d s n low high k : ℕ) (t : List ℕ) → d < 32 → s < 32 → Reads t low high k n → by_immediate low high k f (register d ∷ register s ∷ t ∷ []) ≡ Ok (Code (f d s n ∷ []))
+read_number : (f : ℕ → ℕ → ℕ → Instr) (d s n low high k : ℕ) (t : List ℕ) → d < 32 → s < 32 → Reads t low high k n
+    → by_immediate low high k f (register d ∷ register s ∷ t ∷ []) ≡ Ok (Code (f d s n ∷ []))
 read_number f d s n low high k t hd hs r =
     ap (λ q. q >>= λ p. ranged low high p.2 (Code (f p.0 p.1 (low_bits k p.2) ∷ []))) (read_immediate d s t r.number hd hs r.is_read)
     ∙ in_range t low high k n r (λ m. Code (f d s m ∷ []))

@@ -1,5 +1,7 @@
 -- The digits of a number: the last one stands behind those of the rest, and there are few of them.
-use Rattle.std.proofs.Common.{◌≡◌, ℕ, zero, suc, ◌+◌, ◌*◌, ◌/◌, ◌%◌, ◌^◌, ◌<◌, ◌≤◌, List, [], ◌∷◌, ◌++◌, length, cond, false, refl, sym, ap, ◌∙◌, ⊎_elim, append_assoc, arith, length-append, eq-eqb, ne_eqb, pow-suc, lt_of_lt_of_le, mod-eq_of_lt, div-le_self, one-mul, mul-le-mul_left, Bool, true, ◌&&◌, get_or, codes}
+use Rattle.std.proofs.Common.{◌≡◌, ℕ, zero, suc, ◌+◌, ◌*◌, ◌/◌, ◌%◌, ◌^◌, ◌<◌, ◌≤◌, List, []}
+use Rattle.std.proofs.Common.{◌∷◌, ◌++◌, length, cond, false, refl, sym, ap, ◌∙◌, ⊎_elim, append_assoc, arith, length-append}
+use Rattle.std.proofs.Common.{eq-eqb, ne_eqb, pow-suc, lt_of_lt_of_le, mod-eq_of_lt, div-le_self, one-mul, mul-le-mul_left, Bool, true, ◌&&◌, get_or, codes}
 use Rattle.std.proofs.lemmas.Bool.{cases_lt, and_parts}
 use Rattle.std.proofs.lemmas.Nat.{le-div, div_below}
 use Rattle.std.proofs.Math.Nat.{pow-le-pow_left, pow-zero, div-eq_of_lt}
@@ -27,7 +29,9 @@ onto_append : (base k n : ℕ) (acc : List ℕ) → 0 < base → onto base k n a
 onto_append base zero n acc pos = refl
 onto_append base (suc k) n acc pos = ⊎_elim
     (λ l. onto_last base k n acc l ∙ ap (λ x. x ++ acc) (sym (onto_last base k n [] l)))
-    (λ l. onto_next base k n acc pos l ∙ onto_append base k (n / base) (last base n ∷ acc) pos ∙ sym (append_assoc (onto base k (n / base) []) (last base n ∷ []) acc) ∙ ap (λ x. x ++ acc) (sym (onto_next base k n [] pos l ∙ onto_append base k (n / base) (last base n ∷ []) pos)))
+    (λ l. onto_next base k n acc pos l ∙ onto_append base k (n / base) (last base n ∷ acc) pos
+    ∙ sym (append_assoc (onto base k (n / base) []) (last base n ∷ []) acc)
+    ∙ ap (λ x. x ++ acc) (sym (onto_next base k n [] pos l ∙ onto_append base k (n / base) (last base n ∷ []) pos)))
     (cases_lt n base)
 
 -- the first power of the base
@@ -40,7 +44,9 @@ onto_enough base zero k n acc pos p q = let small = below_base base n p in onto_
 onto_enough base (suc j) zero n acc pos p q = let small = below_base base n q in onto_last base (suc j) n acc small ∙ sym (onto_last base zero n acc small)
 onto_enough base (suc j) (suc k) n acc pos p q = ⊎_elim
     (λ l. onto_last base (suc j) n acc l ∙ sym (onto_last base (suc k) n acc l))
-    (λ l. onto_next base (suc j) n acc pos l ∙ onto_enough base j k (n / base) (last base n ∷ acc) pos (div_below n base _ pos (omega (arith, pow-suc base (suc j)))) (div_below n base _ pos (omega (arith, pow-suc base (suc k)))) ∙ sym (onto_next base (suc k) n acc pos l))
+    (λ l. onto_next base (suc j) n acc pos l ∙ onto_enough base j k (n / base) (last base n ∷ acc) pos
+    (div_below n base _ pos (omega (arith, pow-suc base (suc j)))) (div_below n base _ pos (omega (arith, pow-suc base (suc k))))
+    ∙ sym (onto_next base (suc k) n acc pos l))
     (cases_lt n base)
 
 -- a number below the base has one digit
@@ -86,8 +92,10 @@ pub glyph_in : (i : ℕ) (x : List ℕ) → i < 16 → x ≡ get_or digit_table 
 glyph_in i x lt e = e ∙ glyph_at 0 digit_table i refl lt ∙ ap (λ k. digit_glyph false k ∷ []) {x = 0 + i} {y = i} (omega arith)
 
 -- the text of a number in a base, by its last digit
-pub then_last : (base n : ℕ) (old text : List ℕ) → 2 ≤ base → base ≤ n → n < 2 ^ 64 → text ≡ old ++ digits base false (n / base) → text ++ digit_glyph false (n % base) ∷ [] ≡ old ++ digits base false n
-then_last base n old text low h small e = ap (λ x. x ++ digit_glyph false (n % base) ∷ []) e ∙ append_assoc old (digits base false (n / base)) (digit_glyph false (n % base) ∷ []) ∙ ap (λ x. old ++ x) (sym (more_digits base n low h small))
+pub then_last : (base n : ℕ) (old text : List ℕ) → 2 ≤ base → base ≤ n → n < 2 ^ 64 → text ≡ old ++ digits base false (n / base)
+    → text ++ digit_glyph false (n % base) ∷ [] ≡ old ++ digits base false n
+then_last base n old text low h small e = ap (λ x. x ++ digit_glyph false (n % base) ∷ []) e
+    ∙ append_assoc old (digits base false (n / base)) (digit_glyph false (n % base) ∷ []) ∙ ap (λ x. old ++ x) (sym (more_digits base n low h small))
 
 -- the rest of a number is less
 pub rest_less : (base n : ℕ) → 2 ≤ base → base ≤ n → n / base < n

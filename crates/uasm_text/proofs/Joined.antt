@@ -15,14 +15,6 @@ so_far word first os = ((word ++ codes " ") ++ first) ++ flat_map sep os
 pub line_is : (word first : List ℕ) (os : List (List ℕ)) → line word (first ∷ os) ≡ so_far word first os
 line_is word first os = sym (append_assoc (word ++ codes " ") first (flat_map sep os))
 
--- there is room for the first operand
-pub room_first : (word first : List ℕ) (os : List (List ℕ)) (n : ℕ) → length (line word (first ∷ os)) ≤ n → length word + 1 + length first ≤ n
-room_first word first os n h =
-    let e = ap length (line_is word first os) ∙ length-append ((word ++ codes " ") ++ first) (flat_map sep os) in
-    let f = length-append (word ++ codes " ") first in
-    let g = length-append word (codes " ") in
-    omega (arith, h, e, f, g)
-
 -- and for each other
 pub room_next : (word first : List ℕ) (os : List (List ℕ)) (i n : ℕ) → i < length os → length (line word (first ∷ os)) ≤ n → length (so_far word first (take i os)) + 2 + length (get_or os i []) ≤ n
 room_next word first os i n lt h =
@@ -32,7 +24,8 @@ room_next word first os i n lt h =
     omega (arith, h, e, f, g)
 
 -- one operand more
-pub one_more : (word first : List ℕ) (os : List (List ℕ)) (i : ℕ) (text mid new o : List ℕ) → i < length os → text ≡ so_far word first (take i os) → mid ≡ text ++ codes ", " → new ≡ mid ++ o → o ≡ get_or os i [] → new ≡ so_far word first (take (i + 1) os)
+pub one_more : (word first : List ℕ) (os : List (List ℕ)) (i : ℕ) (text mid new o : List ℕ) → i < length os → text ≡ so_far word first (take i os)
+    → mid ≡ text ++ codes ", " → new ≡ mid ++ o → o ≡ get_or os i [] → new ≡ so_far word first (take (i + 1) os)
 one_more word first os i text mid new o lt e f g h =
     let front = (word ++ codes " ") ++ first in
     g ∙ ap (λ x. x ++ o) f ∙ append_assoc text (codes ", ") o ∙ ap (λ x. x ++ sep o) e ∙ flat_map_more sep front (take i os) o

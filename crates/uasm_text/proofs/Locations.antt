@@ -1,5 +1,6 @@
 -- A place in memory, number(register), and that the assembler reads its two parts.
-use Rattle.std.proofs.Common.{◌≡◌, ℕ, ◌+◌, ◌-◌, ◌<◌, true, cond, not, ◌&&◌, eqb, ltb, List, [], ◌∷◌, ◌++◌, length, take, drop, get_or, codes, Option, Some, None, refl, sym, ap, ◌∙◌, append_assoc, arith, lt-ltb, length-append}
+use Rattle.std.proofs.Common.{◌≡◌, ℕ, ◌+◌, ◌-◌, ◌<◌, true, cond, not, ◌&&◌, eqb, ltb, List, [], ◌∷◌, ◌++◌, length}
+use Rattle.std.proofs.Common.{take, drop, get_or, codes, Option, Some, None, refl, sym, ap, ◌∙◌, append_assoc, arith, lt-ltb, length-append}
 use Rattle.std.specs.List.{list_all, prefix_len}
 use Rattle.std.proofs.lemmas.Bool.{and_from}
 use Rattle.std.proofs.lemmas.List.Folds.{list_all-append}
@@ -32,7 +33,8 @@ last_byte : (n s : List ℕ) → get_or (bracketed n s) (length (bracketed n s) 
 last_byte n s =
     let whole : bracketed n s ≡ (n ++ (left_bracket ∷ s)) ++ right_bracket ∷ [] = sym (append_assoc n (left_bracket ∷ s) (right_bracket ∷ [])) in
     let front = n ++ (left_bracket ∷ s) in
-    ap (λ x. get_or x (length x - 1) 0) whole ∙ ap (λ k. get_or (front ++ right_bracket ∷ []) k 0) {x = length (front ++ right_bracket ∷ []) - 1} {y = length front + 0} (omega (arith, length-append front (right_bracket ∷ []))) ∙ get_or-append-add front (right_bracket ∷ []) 0 0
+    ap (λ x. get_or x (length x - 1) 0) whole ∙ ap (λ k. get_or (front ++ right_bracket ∷ []) k 0) {x = length (front ++ right_bracket ∷ []) - 1}
+    {y = length front + 0} (omega (arith, length-append front (right_bracket ∷ []))) ∙ get_or-append-add front (right_bracket ∷ []) 0 0
 
 -- what stands in the brackets
 inner_part : (n s : List ℕ) → take (length (drop (length n + 1) (bracketed n s)) - 1) (drop (length n + 1) (bracketed n s)) ≡ s
@@ -41,14 +43,16 @@ inner_part n s =
     ap (λ x. drop (length n + 1) x) (sym (append_assoc n (left_bracket ∷ []) (s ++ right_bracket ∷ [])))
     ∙ ap (λ k. drop k ((n ++ left_bracket ∷ []) ++ (s ++ right_bracket ∷ []))) {x = length n + 1} {y = length (n ++ left_bracket ∷ [])} (omega (arith, length-append n (left_bracket ∷ [])))
     ∙ drop-append_seam (n ++ left_bracket ∷ []) (s ++ right_bracket ∷ []) in
-    ap (λ x. take (length x - 1) x) behind ∙ ap (λ k. take k (s ++ right_bracket ∷ [])) {x = length (s ++ right_bracket ∷ []) - 1} {y = length s} (omega (arith, length-append s (right_bracket ∷ []))) ∙ take-append_seam s (right_bracket ∷ [])
+    ap (λ x. take (length x - 1) x) behind ∙ ap (λ k. take k (s ++ right_bracket ∷ [])) {x = length (s ++ right_bracket ∷ []) - 1} {y = length s}
+    (omega (arith, length-append s (right_bracket ∷ []))) ∙ take-append_seam s (right_bracket ∷ [])
 
 -- both parts are read
 bracketed_read : (n s : List ℕ) → list_all (λ b. not (eqb b left_bracket)) n ≡ true → is_operand n ≡ true → is_operand s ≡ true → place_of (bracketed n s) ≡ Some (n, s)
 bracketed_read n s h o o' =
     let all = bracketed n s in
     let e = number_end n s h in
-    let split : ℕ → Option (List ℕ × List ℕ) = λ k. cond (ltb (k + 1) (length all) && eqb (get_or all (length all - 1) 0) right_bracket) (Some (trimmed (take k all), trimmed (take (length (drop (k + 1) all) - 1) (drop (k + 1) all)))) None in
+    let split : ℕ → Option (List ℕ × List ℕ) = λ k. cond (ltb (k + 1) (length all) && eqb (get_or all (length all - 1) 0) right_bracket)
+    (Some (trimmed (take k all), trimmed (take (length (drop (k + 1) all) - 1) (drop (k + 1) all)))) None in
     let long : length n + 1 < length all = omega (arith, length-append n (left_bracket ∷ (s ++ right_bracket ∷ [])), length-append s (right_bracket ∷ [])) in
     let test : (ltb (length n + 1) (length all) && eqb (get_or all (length all - 1) 0) right_bracket) ≡ true = and_from _ _ (lt-ltb _ _ long) (ap (λ b. eqb b right_bracket) (last_byte n s)) in
     ap split e
@@ -58,5 +62,6 @@ bracketed_read n s h o o' =
 pub place_operand : (n s : ℕ) → is_operand (signed_number n) ≡ true → is_operand (register s) ≡ true → is_operand (place n s) ≡ true
 place_operand n s o o' = ap is_operand (bracketed_is (signed_number n) (register s)) ∙ bracketed_operand (signed_number n) (register s) o o'
 
-pub place_read : (n s : ℕ) → list_all (λ b. not (eqb b left_bracket)) (signed_number n) ≡ true → is_operand (signed_number n) ≡ true → is_operand (register s) ≡ true → place_of (place n s) ≡ Some (signed_number n, register s)
+pub place_read : (n s : ℕ) → list_all (λ b. not (eqb b left_bracket)) (signed_number n) ≡ true → is_operand (signed_number n) ≡ true
+    → is_operand (register s) ≡ true → place_of (place n s) ≡ Some (signed_number n, register s)
 place_read n s h o o' = ap place_of (bracketed_is (signed_number n) (register s)) ∙ bracketed_read (signed_number n) (register s) h o o'

@@ -1,5 +1,7 @@
 -- The texts of numbers, and that the assembler reads each as its number.
-use Rattle.std.proofs.Common.{◌≡◌, ℕ, ◌+◌, ◌-◌, ◌*◌, ◌^◌, ◌<◌, ◌≤◌, Bool, true, false, cond, not, ◌&&◌, eqb, ltb, min, List, [], ◌∷◌, ◌++◌, length, fold, decimal, codes, Some, None, option_map, nat_eq, refl, ap, ◌∙◌, arith, ne_eqb, lt-ltb, le-leb, ltb-true, ltb-false, lt_of_lt_of_le, mod-eq_of_lt}
+use Rattle.std.proofs.Common.{◌≡◌, ℕ, ◌+◌, ◌-◌, ◌*◌, ◌^◌, ◌<◌, ◌≤◌, Bool, true, false, cond, not, ◌&&◌}
+use Rattle.std.proofs.Common.{eqb, ltb, min, List, [], ◌∷◌, ◌++◌, length, fold, decimal, codes, Some, None, option_map}
+use Rattle.std.proofs.Common.{nat_eq, refl, ap, ◌∙◌, arith, ne_eqb, lt-ltb, le-leb, ltb-true, ltb-false, lt_of_lt_of_le, mod-eq_of_lt}
 use Rattle.std.specs.List.{list_all, starts_with}
 use Rattle.std.specs.Char.{digit_value, is_digit}
 use Rattle.std.specs.Fmt.{digits}
@@ -20,7 +22,14 @@ not_that : (c k : ℕ) → digit_value c < 16 → 16 ≤ digit_value k → eqb c
 not_that c k h h' = ne_eqb c k (λ e. let same : digit_value c ≡ digit_value k = ap digit_value e in omega (arith, same))
 
 digit_plain : (c : ℕ) → digit_value c < 16 → is_plain c ≡ true
-digit_plain c h = rw (not_that c 32 h (omega arith), not_that c 9 h (omega arith), not_that c 34 h (omega arith), not_that c 35 h (omega arith), not_that c 44 h (omega arith), not_that c 10 h (omega arith)) refl
+digit_plain c h = rw (
+  not_that c 32 h (omega arith),
+  not_that c 9 h (omega arith),
+  not_that c 34 h (omega arith),
+  not_that c 35 h (omega arith),
+  not_that c 44 h (omega arith),
+  not_that c 10 h (omega arith),
+) refl
 
 digits_plain : (base : ℕ) (ds : List ℕ) → base ≤ 16 → AllDigits base ds → list_all is_plain ds ≡ true
 digits_plain base [] high h = refl
@@ -58,7 +67,8 @@ digits_read base n low high small =
 no_hexadecimal : (ds : List ℕ) → IsNumeral 10 ds → starts_with nat_eq ds (codes "0x") ≡ false
 no_hexadecimal [] h = absurd (let p = h.0 in omega arith)
 no_hexadecimal (c ∷ []) h = and_right (eqb 48 c) _ refl
-no_hexadecimal (c ∷ d ∷ ds) h = and_right (eqb 48 c) _ (ap (λ t. t && true) (ne_eqb 120 d (λ e. let p = h.1.1.0 in let same : digit_value 120 ≡ digit_value d = ap digit_value e in omega (arith, p, same))))
+no_hexadecimal (c ∷ d ∷ ds) h = and_right (eqb 48 c) _
+    (ap (λ t. t && true) (ne_eqb 120 d (λ e. let p = h.1.1.0 in let same : digit_value 120 ≡ digit_value d = ap digit_value e in omega (arith, p, same))))
 
 -- nor with a minus sign
 no_sign : (ds : List ℕ) → IsNumeral 10 ds → has_sign ds ≡ false
@@ -111,7 +121,8 @@ signed_read n h = by (ltb n 2048) refl
   where
     by : (t : Bool) → ltb n 2048 ≡ t → Reads (cond t (decimal n) (codes "-" ++ decimal (4096 - n))) 2048 2047 12 n
     by true e = let lt = ltb-true n 2048 e in positive (decimal n) 2048 2047 12 n (decimal_read n (omega arith)) (omega arith) (omega arith)
-    by false e = let le = ltb-false n 2048 e in record { number = signed true (4096 - n); is_read = minus_read (4096 - n) (omega arith); within = le-leb (4096 - n) 2048 (omega arith); in_bits = omega arith }
+    by false e = let le = ltb-false n 2048 e in record
+        { number = signed true (4096 - n); is_read = minus_read (4096 - n) (omega arith); within = le-leb (4096 - n) 2048 (omega arith); in_bits = omega arith }
 
 -- Numbers as operands.
 

@@ -19,7 +19,14 @@ differs p b k h h' = ne_eqb b k (λ e. true≢false (sym h ∙ ap p e ∙ h'))
 
 -- a byte of a label is plain
 name_plain : (b : ℕ) → is_name_byte b ≡ true → is_plain b ≡ true
-name_plain b h = rw (differs is_name_byte b 32 h refl, differs is_name_byte b 9 h refl, differs is_name_byte b 34 h refl, differs is_name_byte b 35 h refl, differs is_name_byte b 44 h refl, differs is_name_byte b 10 h refl) refl
+name_plain b h = rw (
+  differs is_name_byte b 32 h refl,
+  differs is_name_byte b 9 h refl,
+  differs is_name_byte b 34 h refl,
+  differs is_name_byte b 35 h refl,
+  differs is_name_byte b 44 h refl,
+  differs is_name_byte b 10 h refl,
+) refl
 
 names_plain : (bs : List ℕ) → list_all is_name_byte bs ≡ true → list_all is_plain bs ≡ true
 names_plain [] h = refl

@@ -1,5 +1,7 @@
 -- How the assembler reads the parts of a line: the word, and behind it the operands that a comma and a space keep apart.
-use Rattle.std.proofs.Common.{◌≡◌, ℕ, zero, suc, ◌+◌, ◌-◌, ◌<◌, Bool, true, false, cond, not, ◌&&◌, List, [], ◌∷◌, ◌++◌, length, take, drop, get_or, map, flat_map, eqb, None, Some, reverse, codes, refl, sym, ap, ◌∙◌, ⊎_elim, true≢false, append_assoc, append-nil, arith, ne_eqb, length-take}
+use Rattle.std.proofs.Common.{◌≡◌, ℕ, zero, suc, ◌+◌, ◌-◌, ◌<◌, Bool, true, false, cond, not, ◌&&◌}
+use Rattle.std.proofs.Common.{List, [], ◌∷◌, ◌++◌, length, take, drop, get_or, map, flat_map, eqb, None, Some}
+use Rattle.std.proofs.Common.{reverse, codes, refl, sym, ap, ◌∙◌, ⊎_elim, true≢false, append_assoc, append-nil, arith, ne_eqb, length-take}
 use Rattle.std.specs.List.{prefix_len, suffix_len, list_all, slice_split}
 use Rattle.std.specs.Str.Lines.{lines, lines_of_parts}
 use Rattle.std.proofs.lemmas.List.Folds.{list_all-append}
@@ -9,7 +11,8 @@ use Rattle.std.proofs.lemmas.List.{get_or-append-add, get_or-reverse}
 use Rattle.uasm_text.specs.Text.{line}
 use Rattle.std.proofs.Math.Seq.{take-append_seam, drop-append_seam, take-length}
 use Rattle.uasm_core.specs.Kinds.{outside}
-use Rattle.uasm_core.specs.Line.{Parts, is_blank, is_letter, is_name_byte, is_word_byte, is_label, quote_mark, hash_mark, comma, line_feed, colon, space, code_from, pieces_from, onto_first, trimmed, without_front_blanks, operands_of, parts_by, label_end, parts_of}
+use Rattle.uasm_core.specs.Line.{Parts, is_blank, is_letter, is_name_byte, is_word_byte, is_label, quote_mark, hash_mark, comma, line_feed, colon}
+use Rattle.uasm_core.specs.Line.{space, code_from, pieces_from, onto_first, trimmed, without_front_blanks, operands_of, parts_by, label_end, parts_of}
 
 -- Bytes.
 
@@ -216,7 +219,8 @@ no_label w r h s c =
 abbrev pub parts_with : List ℕ → List (List ℕ) → Parts
 parts_with w os = record { label = None; word = w; operands = os }
 
-word_first : (w r : List ℕ) → is_word w ≡ true → code_from outside r ≡ r → stops is_word_byte r ≡ true → stops is_name_byte r ≡ true → eqb (get_or r 0 0) colon ≡ false → parts_of (w ++ r) ≡ parts_with w (operands_of r)
+word_first : (w r : List ℕ) → is_word w ≡ true → code_from outside r ≡ r → stops is_word_byte r ≡ true → stops is_name_byte r ≡ true
+    → eqb (get_or r 0 0) colon ≡ false → parts_of (w ++ r) ≡ parts_with w (operands_of r)
 word_first [] r h c s s' k = cc
 word_first (b ∷ bs) r h c s s' k =
     let w = b ∷ bs in
@@ -272,7 +276,8 @@ line_feeds : (w : List ℕ) (os : List (List ℕ)) → is_word w ≡ true → ar
 line_feeds w [] h h' = word_feed w h
 line_feeds w (o ∷ os) h h' =
     let p = and_parts (is_operand o) (are_operands os) h' in
-    let behind : list_all no_feed (o ++ flat_map behind_comma os) ≡ true = list_all-append no_feed o (flat_map behind_comma os) ∙ and_from _ _ (all_imply is_plain no_feed o plain_feed (operand_plain o p.0)) (operands_feed os p.1) in
+    let behind : list_all no_feed (o ++ flat_map behind_comma os) ≡ true = list_all-append no_feed o (flat_map behind_comma os)
+    ∙ and_from _ _ (all_imply is_plain no_feed o plain_feed (operand_plain o p.0)) (operands_feed os p.1) in
     ap (list_all no_feed) (append_assoc w (codes " ") (o ++ flat_map behind_comma os)) ∙ list_all-append no_feed w (space ∷ (o ++ flat_map behind_comma os)) ∙ and_from _ _ (word_feed w h) behind
 
 some_bytes : (w : List ℕ) (os : List (List ℕ)) → is_word w ≡ true → eqb (length (line w os)) 0 ≡ false

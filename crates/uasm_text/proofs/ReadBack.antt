@@ -1,7 +1,9 @@
 -- The text of an instruction is read back.
-use Rattle.std.proofs.Common.{◌≡◌, ℕ, ◌+◌, ◌-◌, ◌*◌, ◌%◌, ◌^◌, ◌<◌, Bool, true, false, cond, ltb, List, [], ◌∷◌, Some, None, Ok, Err, refl, sym, ap, ◌∙◌, arith, append-nil, le-leb, eq-eqb, ltb-true, ltb-false}
+use Rattle.std.proofs.Common.{◌≡◌, ℕ, ◌+◌, ◌-◌, ◌*◌, ◌%◌, ◌^◌, ◌<◌, Bool, true, false, cond, ltb, List, []}
+use Rattle.std.proofs.Common.{◌∷◌, Some, None, Ok, Err, refl, sym, ap, ◌∙◌, arith, append-nil, le-leb, eq-eqb, ltb-true, ltb-false}
 use Rattle.std.specs.Str.Lines.{lines}
 use Rattle.std.proofs.lemmas.Bool.{lt-leb}
+use Rattle.std.proofs.lemmas.Option.{same_Some}
 use Rattle.xk_base.specs.Words.{le_bytes}
 use Rattle.rv64i_core.specs.Registers.{add}
 use Rattle.rv64i_core.specs.Step.{extended}
@@ -98,9 +100,6 @@ labelled_is_read i label labels text_len at to h k text is_label stands leads =
 
 -- Targets.
 
-shown_ahead : (at n to : ℕ) → to < 2 ^ 64 → to ≡ at + n → (at + n) % 2 ^ 64 ≡ to
-shown_ahead at n to small e = omega arith
-
 branch_target : (at offset to : ℕ) → offset < 2 ^ 12 → at < 2 ^ 64 → to < 2 ^ 64 → Leads 12 at offset to → add at (extended 13 (offset * 2)) ≡ to
 branch_target at offset to h a small l = by (ltb (offset * 2) 4096) refl
   where
@@ -115,12 +114,9 @@ jump_target at offset to h a small l = by (ltb (offset * 2) 1048576) refl
     by true e = let lt = ltb-true (offset * 2) 1048576 e in let is : to ≡ at + 2 * offset = l.ahead (omega arith) in omega arith
     by false e = let ge = ltb-false (offset * 2) 1048576 e in let is : to + 2 * (1048576 - offset) ≡ at = l.back (omega arith) in omega arith
 
-some_same : (x y : ℕ) → Some x ≡ Some y → y ≡ x
-some_same x y e = cc
-
 pub target_is_shown : TargetIsShown
-target_is_shown (Jal d offset) at to target h a small l e = some_same _ _ e ∙ jump_target at offset to h.1 a small l
-target_is_shown (Branch op s t offset) at to target h a small l e = some_same _ _ e ∙ branch_target at offset to h.2 a small l
+target_is_shown (Jal d offset) at to target h a small l e = sym (same_Some _ _ e) ∙ jump_target at offset to h.1 a small l
+target_is_shown (Branch op s t offset) at to target h a small l e = sym (same_Some _ _ e) ∙ branch_target at offset to h.2 a small l
 target_is_shown (Lui d imm) at to target h a small l e = cc
 target_is_shown (Auipc d imm) at to target h a small l e = cc
 target_is_shown (Jalr d s imm) at to target h a small l e = cc
@@ -191,7 +187,8 @@ read_as_itself Ecall at k e = refl
 read_as_itself Ebreak at k e = refl
 
 -- a source of one line that asks for an instruction
-one_line : (source : List ℕ) (i : Instr) → lines source ≡ source ∷ [] → (parts_of source).label ≡ None → statement text_section (parts_of source) ≡ Ok (Code (i ∷ [])) → written source ≡ Ok (program_of_word (word i))
+one_line : (source : List ℕ) (i : Instr) → lines source ≡ source ∷ [] → (parts_of source).label ≡ None
+    → statement text_section (parts_of source) ≡ Ok (Code (i ∷ [])) → written source ≡ Ok (program_of_word (word i))
 one_line source i single no_label s = rw (single, no_label, s) (ap (λ b. Ok (record { text = b; data_bytes = []; entry = 0 })) (one_word i))
 
 pub shown_is_program : ShownIsProgram
@@ -200,5 +197,6 @@ shown_is_program i at h k e =
     let target = hexadecimal s.to in
     let operand = hexadecimal_operand s.to s.small in
     let parts = ap parts_of s.same ∙ parts_are i target h operand in
-    let single : lines (text_at at i) ≡ text_at at i ∷ [] = ap lines s.same ∙ line_is_one (name i) (operands target i) (each_word i) (each_operand i target h operand) ∙ ap (λ t. t ∷ []) (sym s.same) in
+    let single : lines (text_at at i) ≡ text_at at i ∷ [] = ap lines s.same
+    ∙ line_is_one (name i) (operands target i) (each_word i) (each_operand i target h operand) ∙ ap (λ t. t ∷ []) (sym s.same) in
     one_line (text_at at i) i single (ap (λ p. p.label) parts) (shown_is_read i at h ∙ read_as_itself i at k e)

@@ -12,7 +12,8 @@ one_more (other ∷ runs) [] run grade all here = absurd all
 one_more (other ∷ runs) (its ∷ grades) run grade all here = (all.0, one_more runs grades run grade all.1 here)
 
 -- the result of the run at a place, behind those of all before it
-pub result_more : (runs : List Run) (grades : List RunGrade) (place : ℕ) (run : Run) (grade : RunGrade) → place < length runs → run ≡ get_or runs place run → AreResultsOf (take place runs) grades → IsResultOf run grade
+pub result_more : (runs : List Run) (grades : List RunGrade) (place : ℕ) (run : Run) (grade : RunGrade) → place < length runs
+    → run ≡ get_or runs place run → AreResultsOf (take place runs) grades → IsResultOf run grade
     → AreResultsOf (take (place + 1) runs) (grades ++ grade ∷ [])
 result_more runs grades place run grade within is all here =
     let is_that : take (place + 1) runs ≡ take place runs ++ run ∷ [] = take_more runs place run within ∙ ap (λ (r : Run). take place runs ++ r ∷ []) (sym is) in

@@ -17,7 +17,8 @@ use Rattle.xv_grade.specs.declared.grading.TheConstants.{TRACE}
 use Rattle.xv_grade.specs.Results.{most_of, IsGradeOf, IsResultOf, AreResultsOf, IsWholeGrade, IsLineShown}
 
 -- a run that was made, of no more Runs than the exercise allows
-made_of : (run : Run) (programs : List ProgramFile) (runs : ℕ) (played : Played) (grade : RunGrade) → IsRunOf run.frames TRACE programs runs played → runs ≤ most_of run → IsGradeOf run played grade → IsResultOf run grade
+made_of : (run : Run) (programs : List ProgramFile) (runs : ℕ) (played : Played) (grade : RunGrade) → IsRunOf run.frames TRACE programs runs played
+    → runs ≤ most_of run → IsGradeOf run played grade → IsResultOf run grade
 made_of run programs runs played grade is_run within graded =
     inl (record {
       programs = programs;
@@ -26,12 +27,15 @@ made_of run programs runs played grade is_run within graded =
       graded = graded;
     })
 
-pub made : (run : Run) (programs : List ProgramFile) (runs : ℕ) (result : Result Played BootError) (played : Played) (grade : RunGrade) → result ≡ Ok played → IsGradeOf run played grade → runs ≤ most_of run → IsPlayed run.frames TRACE programs runs result → IsResultOf run grade
+pub made : (run : Run) (programs : List ProgramFile) (runs : ℕ) (result : Result Played BootError) (played : Played) (grade : RunGrade)
+    → result ≡ Ok played → IsGradeOf run played grade → runs ≤ most_of run → IsPlayed run.frames TRACE programs runs result → IsResultOf run grade
 made run programs runs result played grade is graded within told =
     made_of run programs runs played grade (subst (λ (r : Result Played BootError). IsPlayed run.frames TRACE programs runs r) is told) within graded
 
 -- a submission's grade, over the results of its runs
-pub whole : (exercise : Exercise) (results : List RunGrade) (grade : Grade) → AreResultsOf exercise.runs.items results → grade.runs.items ≡ results → grade.points ≡ min (points_of_runs results) (2 ^ 64 - 1) → grade.of ≡ min (points_of_exercise exercise.runs.items) (2 ^ 64 - 1) → grade.standing ≡ first_standing results
+pub whole : (exercise : Exercise) (results : List RunGrade) (grade : Grade) → AreResultsOf exercise.runs.items results → grade.runs.items ≡ results
+    → grade.points ≡ min (points_of_runs results) (2 ^ 64 - 1) → grade.of ≡ min (points_of_exercise exercise.runs.items) (2 ^ 64 - 1)
+    → grade.standing ≡ first_standing results
     → IsWholeGrade exercise grade
 whole exercise results grade all is points asked standing =
     record {
@@ -42,6 +46,7 @@ whole exercise results grade all is points asked standing =
     }
 
 -- its line, once it is written
-pub shown : (before after : Option (List ℕ)) (exercise : Exercise) (grade : Grade) (name line : List ℕ) → IsWholeGrade exercise grade → line ≡ line_of name grade → Appends before after line → IsLineShown before after
+pub shown : (before after : Option (List ℕ)) (exercise : Exercise) (grade : Grade) (name line : List ℕ) → IsWholeGrade exercise grade
+    → line ≡ line_of name grade → Appends before after line → IsLineShown before after
 shown before after exercise grade name line graded is written =
     record { exercise = exercise; grade = grade; name = name; graded = graded; line = subst (λ (bytes : List ℕ). Appends before after bytes) is written }

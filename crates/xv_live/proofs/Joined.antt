@@ -43,14 +43,6 @@ pub on-ok : {T E : Type 0} {P : Type 0} (r : Result T E) → P → OnOk r P
 on-ok (Ok x) p = p
 on-ok (Err e) p = tt
 
--- the screen is the same before
-pub shown-from : (s t : Recorded) (h k m : Option (List ℕ)) → k ≡ h → Shown s t k m → Shown s t h m
-shown-from s t h k m same p = subst (λ (x : Option (List ℕ)). Shown s t x m) same p
-
--- and nothing is sent
-pub shown-same : (s : Recorded) (h k : Option (List ℕ)) → k ≡ h → Shown s s h k
-shown-same s h k same = subst (λ (x : Option (List ℕ)). Shown s s x k) same (shown-none s k)
-
 -- a Run shows no byte
 pub runs-silent : (list : List (Event × Outcome)) (n : ℕ) (w v : World) → IsPromised w list v → events list ≡ replicate n Run → out list ≡ []
 runs-silent [] n w v goes those = refl

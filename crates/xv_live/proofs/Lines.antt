@@ -18,7 +18,8 @@ pub lines-more : (xs : List Line) (i : ℕ) (d : Line) → i < length xs → eve
 lines-more xs i d below = ap events_of_lines (take_more xs i d below) ∙ lines-push (take i xs) (get_or xs i d)
 
 -- one key more
-pub keys-push : (front : List Event) (xs : List Line) (made byte : ℕ) → events_of_lines xs ≡ front ++ replicate made (runs.Key byte) → events_of_lines (xs ++ Key byte ∷ []) ≡ front ++ replicate (made + 1) (runs.Key byte)
+pub keys-push : (front : List Event) (xs : List Line) (made byte : ℕ) → events_of_lines xs ≡ front ++ replicate made (runs.Key byte)
+    → events_of_lines (xs ++ Key byte ∷ []) ≡ front ++ replicate (made + 1) (runs.Key byte)
 keys-push front xs made byte so_far =
     lines-push xs (Key byte) ∙ (ap (λ (es : List Event). es ++ runs.Key byte ∷ []) so_far
     ∙ (append_assoc front (replicate made (runs.Key byte)) (runs.Key byte ∷ []) ∙ ap (λ (es : List Event). front ++ es) (replicate-append-replicate made 1 (runs.Key byte))))
@@ -33,7 +34,8 @@ equal-within list place count e within those =
     let n : min count (length list - place) ≡ count = sym (length-take count (drop place list) ∙ ap (min count) (length-drop place list)) ∙ (ap length those ∙ length-replicate count e) in
     omega (arith, n, within)
 
-pub equal-taken : (list : List Event) (place count : ℕ) (e : Event) (xs : List Event) → xs ≡ take place list → take count (drop place list) ≡ replicate count e → xs ++ replicate count e ≡ take (place + count) list
+pub equal-taken : (list : List Event) (place count : ℕ) (e : Event) (xs : List Event) → xs ≡ take place list
+    → take count (drop place list) ≡ replicate count e → xs ++ replicate count e ≡ take (place + count) list
 equal-taken list place count e xs front those =
     ap (λ (es : List Event). es ++ replicate count e) front ∙ (ap (λ (es : List Event). take place list ++ es) (sym those) ∙ take-take place count list)
 

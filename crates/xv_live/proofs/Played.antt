@@ -54,7 +54,8 @@ plays-begun count e s h =
     subst (λ n. Plays (replicate n e) s s h h) none (plays-none s h)
 
 -- some of so many equal events, and then more
-pub plays-more : (count left sent : ℕ) (e : Event) (s t u : Recorded) (h k m : Option (List ℕ)) → left ≤ count → sent ≤ left → Plays (replicate (count - left) e) s t h k → Plays (replicate sent e) t u k m → Plays (replicate (count - (left - sent)) e) s u h m
+pub plays-more : (count left sent : ℕ) (e : Event) (s t u : Recorded) (h k m : Option (List ℕ)) → left ≤ count → sent ≤ left
+    → Plays (replicate (count - left) e) s t h k → Plays (replicate sent e) t u k m → Plays (replicate (count - (left - sent)) e) s u h m
 plays-more count left sent e s t u h k m within few before now =
     subst (λ (es : List Event). Plays es s u h m) (replicate-append-replicate (count - left) sent e ∙ ap (λ n. replicate n e) (omega (arith, within, few)))
     (plays-join (replicate (count - left) e) (replicate sent e) s t u h k m before now)

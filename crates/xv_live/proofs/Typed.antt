@@ -48,10 +48,6 @@ types-join xs ys s t u h k m p q = record {
 pub first-none : (s : Recorded) (h : Option (List ℕ)) (w : List ℕ) → TypesFirst s s h h w w
 first-none s h w = record { keys = []; typed = types-none s h; first = refl }
 
--- the keys that wait are named otherwise
-pub first-same : (s t : Recorded) (h k : Option (List ℕ)) (w v x : List ℕ) → TypesFirst s t h k w v → v ≡ x → TypesFirst s t h k w x
-first-same s t h k w v x p same = subst (λ (ks : List ℕ). TypesFirst s t h k w ks) same p
-
 pub first-more : (key : ℕ) (s t u : Recorded) (h k m : Option (List ℕ)) (w v x : List ℕ) → TypesFirst s t h k w v → v ≡ key ∷ x → Plays (runs.Key key ∷ []) t u k m → TypesFirst s u h m w x
 first-more key s t u h k m w v x p front q = record {
   keys = p.keys ++ key ∷ [];
@@ -59,7 +55,8 @@ first-more key s t u h k m w v x p front q = record {
   first = p.first ∙ (ap (λ (ks : List ℕ). p.keys ++ ks) front ∙ sym (append_assoc p.keys (key ∷ []) x));
 }
 
-pub first-took : (o : Option ℕ) (key : ℕ) (s t u : Recorded) (h k m : Option (List ℕ)) (w v x : List ℕ) → TypesFirst s t h k w v → v ≡ option_to_list o ++ x → o ≡ Some key → Plays (runs.Key key ∷ []) t u k m → TypesFirst s u h m w x
+pub first-took : (o : Option ℕ) (key : ℕ) (s t u : Recorded) (h k m : Option (List ℕ)) (w v x : List ℕ) → TypesFirst s t h k w v
+    → v ≡ option_to_list o ++ x → o ≡ Some key → Plays (runs.Key key ∷ []) t u k m → TypesFirst s u h m w x
 first-took o key s t u h k m w v x p front is q = first-more key s t u h k m w v x p (front ∙ ap (λ (a : Option ℕ). option_to_list a ++ x) is) q
 
 -- and then events without keys
@@ -71,9 +68,6 @@ first-then s t u h k m w v p q = record {
 }
 
 -- ---- bytes that came
-
-pub looks-none : (c : Option (List ℕ)) (w : List ℕ) → Looks c c w w
-looks-none c w = record { bytes = []; came = Consumes-nil c; kept = sym (append-nil w) }
 
 pub looks-join : (c d e : Option (List ℕ)) (w v x : List ℕ) → Looks c d w v → Looks d e v x → Looks c e w x
 looks-join c d e w v x p q = record {

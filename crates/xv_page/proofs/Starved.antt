@@ -20,10 +20,12 @@ starved frames m (Err Memory) h = refl
 starved frames m (Err (Init e)) h = inr refl
 starved frames m (Ok w) h = inr refl
 
-pub boots-boxed : {Z : Type 0} (frames : ℕ) (s : Recorded) (r : Result (Box Recorded Z) BootError) (w : Result World BootError) → IsBoxed s r → Boots frames (Ok s.machine) w → Boots frames (machine_of (boxed r)) w
+pub boots-boxed : {Z : Type 0} (frames : ℕ) (s : Recorded) (r : Result (Box Recorded Z) BootError) (w : Result World BootError) → IsBoxed s r
+    → Boots frames (Ok s.machine) w → Boots frames (machine_of (boxed r)) w
 boots-boxed frames s (Ok b) w same h = let P : Recorded → Type 0 = λ t. Boots frames (Ok t.machine) w in subst P (sym same) h
 boots-boxed frames s (Err e) w same h = let P : BootError → Type 0 = λ x. Boots frames (Err x) w in subst P (sym same) (starved frames s.machine w h)
 
-pub new-boxed : {Z : Type 0} (frames trace : ℕ) (programs : List ProgramFile) (s : Recorded) (r : Result (Box Recorded Z) BootError) → IsBoxed s r → IsNew frames trace programs s → IfOk r (λ b. IsNew frames trace programs b.value)
+pub new-boxed : {Z : Type 0} (frames trace : ℕ) (programs : List ProgramFile) (s : Recorded) (r : Result (Box Recorded Z) BootError) → IsBoxed s r
+    → IsNew frames trace programs s → IfOk r (λ b. IsNew frames trace programs b.value)
 new-boxed frames trace programs s (Ok b) same h = subst (IsNew frames trace programs) (sym same) h
 new-boxed frames trace programs s (Err e) same h = tt

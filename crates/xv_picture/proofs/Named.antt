@@ -16,13 +16,17 @@ use Rattle.xv_picture.specs.Row.{named, AreNamed}
 pub all_found : (found : List ℕ) (notes : List Note) (i : ℕ) → length notes ≤ i → found ++ named (drop i notes) ≡ named notes → found ≡ named notes
 all_found found notes i all is = sym (append-nil found) ∙ sym (ap (λ (ns : List Note). found ++ named ns) (drop_all i notes all)) ∙ is
 
-pub are_named : (notes : List Note) (found sorted once : List ℕ) → found ≡ named notes → IsPermutation found sorted → IsSorted nat_cmp sorted → IsFiltered (DiffersFromLast eqb) [] sorted once → AreNamed notes once
+pub are_named : (notes : List Note) (found sorted once : List ℕ) → found ≡ named notes → IsPermutation found sorted → IsSorted nat_cmp sorted
+    → IsFiltered (DiffersFromLast eqb) [] sorted once → AreNamed notes once
 are_named notes found sorted once is permuted sorts filtered =
     let kept : once ≡ dedup eqb sorted = dedup_is eqb sorted once filtered in
     record {
       those = λ pid. (
-        λ here. subst (λ (xs : List ℕ). Contains xs pid) is (Contains-permutation sorted found pid (IsPermutation-sym found sorted permuted) (Contains-from_dedup eqb sorted pid (subst (λ (xs : List ℕ). Contains xs pid) kept here))),
-        λ there. subst (λ (xs : List ℕ). Contains xs pid) (sym kept) (Contains-dedup_nat sorted pid (Contains-permutation found sorted pid permuted (subst (λ (xs : List ℕ). Contains xs pid) (sym is) there))),
+        λ here. subst (λ (xs : List ℕ). Contains xs pid) is
+            (Contains-permutation sorted found pid (IsPermutation-sym found sorted permuted)
+            (Contains-from_dedup eqb sorted pid (subst (λ (xs : List ℕ). Contains xs pid) kept here))),
+        λ there. subst (λ (xs : List ℕ). Contains xs pid) (sym kept)
+            (Contains-dedup_nat sorted pid (Contains-permutation found sorted pid permuted (subst (λ (xs : List ℕ). Contains xs pid) (sym is) there))),
       );
       rising = subst IsStrictlyIncreasing (sym kept) (IsStrictlyIncreasing-dedup sorted sorts);
     }

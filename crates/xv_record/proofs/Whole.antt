@@ -54,8 +54,11 @@ same-program p q xs ys h k e =
     let behind = append_cancel_left word (encode_lower p.sum ++ 32 ∷ (decimal p.size ++ 32 ∷ (p.name ++ 10 ∷ xs))) (encode_lower q.sum ++ 32 ∷ (decimal q.size ++ 32 ∷ (q.name ++ 10 ∷ ys))) same in
     let sums : (p.sum ≡ q.sum) × (32 ∷ (decimal p.size ++ 32 ∷ (p.name ++ 10 ∷ xs)) ≡ 32 ∷ (decimal q.size ++ 32 ∷ (q.name ++ 10 ∷ ys))) =
     same-sum p.sum q.sum (32 ∷ (decimal p.size ++ 32 ∷ (p.name ++ 10 ∷ xs))) (32 ∷ (decimal q.size ++ 32 ∷ (q.name ++ 10 ∷ ys))) (h.sum ∙ sym k.sum) h.sum_bytes k.sum_bytes behind in
-    let sized : decimal p.size ++ 32 ∷ (p.name ++ 10 ∷ xs) ≡ decimal q.size ++ 32 ∷ (q.name ++ 10 ∷ ys) = append_cancel_left (32 ∷ []) (decimal p.size ++ 32 ∷ (p.name ++ 10 ∷ xs)) (decimal q.size ++ 32 ∷ (q.name ++ 10 ∷ ys)) sums.1 in
-    let sizes : (p.size ≡ q.size) × (p.name ++ 10 ∷ xs ≡ q.name ++ 10 ∷ ys) = same-decimal 32 p.size q.size (p.name ++ 10 ∷ xs) (q.name ++ 10 ∷ ys) h.size k.size (decimal-no_space p.size h.size) (decimal-no_space q.size k.size) sized in
+    let sized : decimal p.size ++ 32 ∷ (p.name ++ 10 ∷ xs) ≡ decimal q.size ++ 32 ∷ (q.name ++ 10 ∷ ys) =
+    append_cancel_left (32 ∷ []) (decimal p.size ++ 32 ∷ (p.name ++ 10 ∷ xs)) (decimal q.size ++ 32 ∷ (q.name ++ 10 ∷ ys)) sums.1 in
+    let sizes : (p.size ≡ q.size) × (p.name ++ 10 ∷ xs ≡ q.name ++ 10 ∷ ys) =
+    same-decimal 32 p.size q.size (p.name ++ 10 ∷ xs) (q.name ++ 10 ∷ ys) h.size k.size (decimal-no_space p.size h.size)
+    (decimal-no_space q.size k.size) sized in
     let names : (p.name ≡ q.name) × (xs ≡ ys) = same-part 10 p.name q.name xs ys (all-lack 10 p.name h.name) (all-lack 10 q.name k.name) sizes.1 in
     ((λ i. record { sum = sums.0 i; size = sizes.0 i; name = names.0 i }), names.1)
 

@@ -1,12 +1,10 @@
 -- The processes that could wake a sleeper, found slot by slot.
-use Rattle.std.proofs.Common.{◌≡◌, ℕ, zero, suc, ◌+◌, Bool, true, false, cond, List, [], ◌∷◌, ◌++◌, length, take, drop, Option, None, Some, inl, inr, refl, sym, ap, ◌∙◌, subst, arith, lit<}
+use Rattle.std.proofs.Common.{◌≡◌, ℕ, zero, suc, ◌+◌, Bool, true, false, cond, List, [], ◌++◌, length, take, drop, Option, None, Some, refl, sym, ap, ◌∙◌, arith}
 use Rattle.std.specs.Prelude.{IsSome, is_some, Contains}
 use Rattle.std.specs.FinMap.{get}
 use Rattle.std.specs.List.{refill}
 use Rattle.std.specs.List.Sorted.{IsPermutation, IsNonDecreasing}
 use Rattle.std.proofs.Math.Seq.{take-append_seam}
-use Rattle.std.proofs.lemmas.Bool.{cases_lt}
-use Rattle.std.proofs.lemmas.List.Elements.{Contains-append_left, Contains-append_right, Contains-append_cases}
 use Rattle.std.proofs.lemmas.List.Sorted.{Contains-permutation, IsPermutation-sym}
 use Rattle.xk_base.specs.Image.{some_below}
 use Rattle.xk_base.specs.declared.limits.TheConstants.{NOFILE, NPROC}
@@ -15,11 +13,11 @@ use Rattle.file_table.specs.declared.open_file.End.TheVariants.{Reading, Writing
 use Rattle.kernel_spec.specs.others.Quiet.{end_of, file_of}
 use Rattle.kernel_spec.specs.runs.Run.{World}
 use Rattle.kernel_spec.specs.views.Processes.{Process, Live, Alive, Zombie, Status}
-use Rattle.kernel_spec.specs.views.State.{State, live, live_part}
+use Rattle.kernel_spec.specs.views.State.{State, live}
 use Rattle.kernel_spec.specs.views.View.{child_of}
 use Rattle.kernel_spec.specs.views.WellFormed.{HasSlots}
 use Rattle.kernel_spec.specs.views.Words.{is_this}
-use Rattle.kernel_spec.specs.waking.Turns.{HasSlot, IsFreeSlot}
+use Rattle.kernel_spec.proofs.Common.{there_if_alive}
 use Rattle.kcall_core.specs.Observers.{if_live}
 use Rattle.xv_report.specs.Waits.{is_end, holds_end, is_running, could_wake}
 use Rattle.xv_report.specs.Wakers.{AreWakers, AreWakersBelow}
@@ -58,11 +56,6 @@ module _ (s : State) (p q : ℕ) where
   waker-live (Keys d) can = absurd (cc)
   waker-live (Sending d) can = absurd (cc)
 
--- a live process is a process
-some-of-live : (o : Option Process) → IsSome (live_part o) → IsSome o
-some-of-live None is = is
-some-of-live (Some x) is = refl
-
 -- what is put back into a vector that keeps its length is all of it
 pub put-back : (n : ℕ) (xs ws : List ℕ) → n ≡ length ws → refill n xs ws ≡ ws
 put-back n xs ws is = ap (λ k. take k (ws ++ drop (length ws) xs)) is ∙ take-append_seam ws (drop (length ws) xs)
@@ -76,49 +69,10 @@ module _ (w : World) (p : ℕ) (wait : Wait) where
   nothing-in : (q : ℕ) → Contains [] q → ⊥
   nothing-in q (k, less, is) = omega arith
 
-  in-one : (pid q : ℕ) → Contains (pid ∷ []) q → pid ≡ q
-  in-one pid q (zero, less, is) = is
-  in-one pid q (suc k, less, is) = absurd (omega arith)
-
   pub none-found : AreWakersBelow 0 w p wait []
   none-found = record {
     only = λ q among. absurd (nothing-in q among);
     all = λ slots q slot less has can. absurd (omega arith);
-  }
-
-  -- the next slot has no process that could wake it
-  pub passed : (n : ℕ) (pids : List ℕ) → AreWakersBelow n w p wait pids → (HasSlots w.state w.turns → (q : ℕ) → HasSlot w.turns q n → Can q → ⊥) → AreWakersBelow (n + 1) w p wait pids
-  passed n pids before none = record {
-    only = before.only;
-    all = λ slots q slot less has can. elim (cases_lt slot n) [
-      | inl below ↦ before.all slots q slot below has can
-      | inr above ↦ let same : slot ≡ n = omega arith in absurd (none slots q (subst (λ k. HasSlot w.turns q k) same has) can)
-    ];
-  }
-
-  pub passed-free : (n : ℕ) (pids : List ℕ) → AreWakersBelow n w p wait pids → IsFreeSlot w.turns n → AreWakersBelow (n + 1) w p wait pids
-  passed-free n pids before free = passed n pids before (λ slots q has can. free q has)
-
-  pub passed-other : (n pid : ℕ) (pids : List ℕ) → AreWakersBelow n w p wait pids → HasSlot w.turns pid n → could_wake w.state p wait pid ≡ false → AreWakersBelow (n + 1) w p wait pids
-  passed-other n pid pids before held not_it = passed n pids before (λ slots q has can.
-      let same : q ≡ pid = slots.apart q pid n has held in
-      let no_way : true ≡ false = sym can ∙ ap (could_wake w.state p wait) same ∙ not_it in
-      absurd (cc))
-
-  -- and one that could
-  pub found-one : (n pid : ℕ) (pids : List ℕ) → AreWakersBelow n w p wait pids → HasSlot w.turns pid n → Can pid → AreWakersBelow (n + 1) w p wait (pids ++ pid ∷ [])
-  found-one n pid pids before held it = record {
-    only = λ q among. elim (Contains-append_cases pids (pid ∷ []) q among) [
-      | inl old ↦ before.only q old
-      | inr new ↦ subst Can (in-one pid q new) it
-    ];
-    all = λ slots q slot less has can. elim (cases_lt slot n) [
-      | inl below ↦ Contains-append_left pids (pid ∷ []) q (before.all slots q slot below has can)
-      | inr above ↦
-          let at : slot ≡ n = omega arith in
-          let same : pid ≡ q = slots.apart pid q n held (subst (λ k. HasSlot w.turns q k) at has) in
-          Contains-append_right pids (pid ∷ []) q (0, lit< tt, same)
-    ];
   }
 
   -- all slots, sorted
@@ -130,7 +84,7 @@ module _ (w : World) (p : ℕ) (wait : Wait) where
   }
     where
       in-slot : HasSlots w.state w.turns → (q : ℕ) → Can q → Contains pids q
-      in-slot slots q can = by slots q can (get w.turns.slots q) refl (slots.some q (some-of-live (get w.state.processes q) (waker-live w.state p q wait can)))
+      in-slot slots q can = by slots q can (get w.turns.slots q) refl (slots.some q (there_if_alive (get w.state.processes q) (waker-live w.state p q wait can)))
         where
           by : HasSlots w.state w.turns → (q : ℕ) → Can q → (o : Option ℕ) → get w.turns.slots q ≡ o → IsSome (get w.turns.slots q) → Contains pids q
           by slots q can None is some = let no_way : false ≡ true = sym (ap is_some is) ∙ some in absurd (cc)

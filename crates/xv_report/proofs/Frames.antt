@@ -63,5 +63,6 @@ module _ (s : State) (p ra frame : ℕ) where
   pub by-frame : (regs : Registers) → ra ≡ reg regs RA → frame ≡ reg regs S0 → is_some (caller_at s p frame) ≡ true → frames_told s p regs ≡ callers_from CALLERS_MAX s p frame
   by-frame regs ra_is frame_is is = told-by regs ra_is frame_is ∙ led-by (caller_at s p frame) is
 
-  pub by-leaf : (regs : Registers) (o : Option ℕ) → ra ≡ reg regs RA → frame ≡ reg regs S0 → is_some (caller_at s p frame) ≡ false → above_leaf s p ra frame ≡ o → frames_told s p regs ≡ from_leaf s p ra o
+  pub by-leaf : (regs : Registers) (o : Option ℕ) → ra ≡ reg regs RA → frame ≡ reg regs S0 → is_some (caller_at s p frame) ≡ false
+      → above_leaf s p ra frame ≡ o → frames_told s p regs ≡ from_leaf s p ra o
   by-leaf regs o ra_is frame_is is leaf = told-by regs ra_is frame_is ∙ left-by (caller_at s p frame) is ∙ ap (from_leaf s p ra) leaf

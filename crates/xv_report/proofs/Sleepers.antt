@@ -11,14 +11,14 @@ use Rattle.proc_table.specs.declared.process.Call.{Call}
 use Rattle.kernel_spec.specs.others.Quiet.{file_of, file_at, end_of, target_of_open}
 use Rattle.kernel_spec.specs.rows.Calls.{Row, Fork, Exit, Wait as Wait_row, Pipe_row, Read, Kill, Exec, Dup, Getpid, Sbrk, Sleep, Uptime, Open, Write, Close, Sbrklazy, row_of}
 use Rattle.kernel_spec.specs.runs.Run.{World}
-use Rattle.kernel_spec.specs.views.Processes.{Process, Live, Alive, Zombie}
-use Rattle.kernel_spec.specs.views.State.{State, live, live_part}
+use Rattle.kernel_spec.specs.views.Processes.{Live}
+use Rattle.kernel_spec.specs.views.State.{State, live}
 use Rattle.kernel_spec.specs.views.Words.{c_int, or_zero}
-use Rattle.kernel_spec.specs.waking.Conditions.{Condition, Nothing, Child_of, target_at, read_waits_for, write_waits_for, sleep_waits_for, row_waits_for, call_waits_for}
-use Rattle.kcall_core.specs.Observers.{opened, told, process_at}
+use Rattle.kernel_spec.specs.waking.Conditions.{Condition, Nothing, Child_of, target_at, read_waits_for, write_waits_for, sleep_waits_for, row_waits_for}
+use Rattle.kcall_core.specs.Observers.{opened}
 use Rattle.kcall_core.specs.declared.kernel.observers.Descriptor.{Descriptor}
 use Rattle.kcall_core.specs.declared.kernel.observers.ProcessState.TheVariants as state
-use Rattle.xv_report.specs.Waits.{told_on, descriptor_in, descriptor_of_call, wait_in, wait_in_this, wait_of}
+use Rattle.xv_report.specs.Waits.{told_on, descriptor_in, descriptor_of_call, wait_in_this}
 
 -- ---- descriptors
 
@@ -191,54 +191,3 @@ module _ (w : World) (p : ℕ) where
     pub lives : live w.state p ≡ Some process
     pub call_is : process.call ≡ call
     pub asleep_is : contains w.turns.sleepers p ≡ asleep
-
-  told-by : (o : Option Process) → get w.state.processes p ≡ o → (parent : Option ℕ) (marked : Bool) (call : Option Call) (asleep : Bool)
-      → option_map (told (contains w.turns.sleepers p)) o ≡ Some (state.Live parent marked call asleep) → IsTold call asleep
-  told-by None is parent marked call asleep e = absurd (cc)
-  told-by (Some (Alive l)) is parent marked call asleep e = record { process = l; lives = ap live_part is; call_is = cc; asleep_is = cc }
-  told-by (Some (Zombie parent status)) is parent' marked call asleep e = absurd (cc)
-
-  pub is-told : (parent : Option ℕ) (marked : Bool) (call : Option Call) (asleep : Bool) → process_at w p ≡ Some (state.Live parent marked call asleep) → IsTold call asleep
-  is-told parent marked call asleep e = told-by (get w.state.processes p) refl parent marked call asleep e
-
-  dead-waits : live w.state p ≡ None → wait_of w p ≡ None
-  dead-waits dead = by (contains w.turns.sleepers p)
-    where
-      by : (b : Bool) → cond b (wait_in w.state p (live w.state p)) None ≡ None
-      by true = ap (wait_in w.state p) dead
-      by false = refl
-
-  none-by : (o : Option Process) → get w.state.processes p ≡ o → option_map (told (contains w.turns.sleepers p)) o ≡ None → live w.state p ≡ None
-  none-by None is e = ap live_part is
-  none-by (Some (Alive l)) is e = absurd (cc)
-  none-by (Some (Zombie parent status)) is e = absurd (cc)
-
-  zombie-by : (o : Option Process) → get w.state.processes p ≡ o → (parent : Option ℕ) (status : ℤ) → option_map (told (contains w.turns.sleepers p)) o ≡ Some (state.Zombie parent status) → live w.state p ≡ None
-  zombie-by None is parent status e = absurd (cc)
-  zombie-by (Some (Alive l)) is parent status e = absurd (cc)
-  zombie-by (Some (Zombie parent status)) is parent' status' e = ap live_part is
-
-  -- no process
-  pub none-waits : process_at w p ≡ None → wait_of w p ≡ None
-  none-waits e = dead-waits (none-by (get w.state.processes p) refl e)
-
-  pub zombie-waits : (parent : Option ℕ) (status : ℤ) → process_at w p ≡ Some (state.Zombie parent status) → wait_of w p ≡ None
-  zombie-waits parent status e = dead-waits (zombie-by (get w.state.processes p) refl parent status e)
-
-  -- one that doesn't sleep, and one that is in no call
-  pub awake-waits : (call : Option Call) → IsTold call false → wait_of w p ≡ None
-  awake-waits call t = ap (λ b. cond b (wait_in w.state p (live w.state p)) None) t.asleep_is
-
-  pub idle-waits : (asleep : Bool) → IsTold None asleep → wait_of w p ≡ None
-  idle-waits asleep t = by (contains w.turns.sleepers p)
-    where
-      by : (b : Bool) → cond b (wait_in w.state p (live w.state p)) None ≡ None
-      by true = ap (wait_in w.state p) t.lives ∙ ap (λ (k : Option Call). told_on (descriptor_of_call k) (call_waits_for w.state p t.process k)) t.call_is
-      by false = refl
-
-  -- one that sleeps in a call
-  pub sleeper-waits : (c : Call) → (t : IsTold (Some c) true) → wait_of w p ≡ wait_in_this w.state p t.process c
-  sleeper-waits c t =
-      ap (λ b. cond b (wait_in w.state p (live w.state p)) None) t.asleep_is
-      ∙ ap (wait_in w.state p) t.lives
-      ∙ ap (λ (k : Option Call). told_on (descriptor_of_call k) (call_waits_for w.state p t.process k)) t.call_is

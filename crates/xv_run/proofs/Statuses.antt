@@ -1,5 +1,5 @@
 -- The exit status tells how a run ended.
-use Rattle.std.proofs.Common.{◌≡◌, ◌≢◌, ◌⊎◌, ℕ, zero, suc, ℤ, pos, negsuc, List, None, Some, Result, Ok, Err, OnOk, IfOk, IfErr, arith, refl, inl, inr, rules}
+use Rattle.std.proofs.Common.{◌≡◌, ◌⊎◌, ℕ, zero, suc, ℤ, pos, negsuc, List, None, Some, Result, Ok, Err, OnOk, IfOk, IfErr, arith, refl, inl, inr, rules}
 use Rattle.kernel_spec.specs.runs.Run.{World}
 use Rattle.xk_base.specs.declared.errors.BootError.{BootError}
 use Rattle.xk_base.specs.declared.errors.BootError.TheVariants.{BadConfig, BadPrograms, NoInit, Memory, Init}
@@ -16,12 +16,6 @@ use Rattle.xv_machine.specs.declared.machine.Config.{Config}
 use Rattle.kernel_spec.specs.runs.First.{first}
 use Rattle.kernel_spec.specs.views.State.{ProgramFile}
 use Rattle.xv_run.specs.Runs.{Devices, Tells, Says, exit_status, status_of}
-
--- an exit with 0 is told as 0, and any other as 3
-pub other-status : (status : ℤ) → status ≢ pos 0 → exit_status status ≡ 3
-other-status (pos zero) other = absurd (other refl)
-other-status (pos (suc n)) other = refl
-other-status (negsuc n) other = refl
 
 -- a machine that has booted stands for the first world
 pub booted-first : (frames : ℕ) (result : Result Meaning BootError) (wanted : Result World BootError) (m : Meaning)
@@ -67,7 +61,8 @@ module _ (plan : RunPlan) (old new : Meaning) (before after : Devices) where
     no_other = inr (inr (inl refl));
   }
 
-  tells-failed : (OneFailed before.failed_reads after.failed_reads before.failed_writes after.failed_writes ⊎ OneFailed before.failed_writes after.failed_writes before.failed_reads after.failed_reads) → Tells 5 plan old before after
+  tells-failed : (OneFailed before.failed_reads after.failed_reads before.failed_writes after.failed_writes
+      ⊎ OneFailed before.failed_writes after.failed_writes before.failed_reads after.failed_reads) → Tells 5 plan old before after
   tells-failed failed = record {
     exited = λ e. absurd (omega arith);
     exited_otherwise = λ e. absurd (omega arith);

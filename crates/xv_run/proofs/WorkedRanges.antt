@@ -7,10 +7,22 @@ use Rattle.xv_run.specs.Ranges.{AreInRange}
 module _ (s : Settings) where
   -- the least and the greatest numbers
   least : s.frames ≡ 16 → s.rounds ≡ 0 → s.quantum ≡ 1 → s.trace ≡ 0 → vec_len s.files ≡ 1 → AreInRange s
-  least frames rounds quantum trace files = record { frames = (omega (arith, frames), omega (arith, frames)); rounds = omega (arith, rounds); quantum = (omega (arith, quantum), omega (arith, quantum)); trace = omega (arith, trace); files = omega (arith, files) }
+  least frames rounds quantum trace files = record {
+    frames = (omega (arith, frames), omega (arith, frames));
+    rounds = omega (arith, rounds);
+    quantum = (omega (arith, quantum), omega (arith, quantum));
+    trace = omega (arith, trace);
+    files = omega (arith, files);
+  }
 
   greatest : s.frames ≡ 32768 → s.rounds ≡ 1000000000 → s.quantum ≡ 1000000 → s.trace ≡ 65536 → vec_len s.files ≡ 9 → AreInRange s
-  greatest frames rounds quantum trace files = record { frames = (omega (arith, frames), omega (arith, frames)); rounds = omega (arith, rounds); quantum = (omega (arith, quantum), omega (arith, quantum)); trace = omega (arith, trace); files = omega (arith, files) }
+  greatest frames rounds quantum trace files = record {
+    frames = (omega (arith, frames), omega (arith, frames));
+    rounds = omega (arith, rounds);
+    quantum = (omega (arith, quantum), omega (arith, quantum));
+    trace = omega (arith, trace);
+    files = omega (arith, files);
+  }
 
   -- one less, one more, or no FILE
   too_few_frames : s.frames ≡ 15 → AreInRange s → ⊥

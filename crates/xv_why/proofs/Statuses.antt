@@ -58,7 +58,8 @@ module _ (plan : RunPlan) (old new : Meaning) (before after : Devices) where
     no_other = inr (inr (inr (inl refl)));
   }
 
-  tells-failed : (OneFailed before.failed_reads after.failed_reads before.failed_writes after.failed_writes ⊎ OneFailed before.failed_writes after.failed_writes before.failed_reads after.failed_reads) → Tells 5 plan old before after
+  tells-failed : (OneFailed before.failed_reads after.failed_reads before.failed_writes after.failed_writes
+      ⊎ OneFailed before.failed_writes after.failed_writes before.failed_reads after.failed_reads) → Tells 5 plan old before after
   tells-failed failed = record {
     exited = λ e. absurd (omega arith);
     exited_otherwise = λ e. absurd (omega arith);
@@ -78,13 +79,3 @@ module _ (plan : RunPlan) (old new : Meaning) (before after : Devices) where
   tells (Ok RoundsOver) done end read write = tells-over done end
   tells (Err Read) done end read write = tells-failed (inl read)
   tells (Err Write) done end read write = tells-failed (inr write)
-
--- where the host's memory ran out
-pub out-of-memory : (plan : RunPlan) (old : Meaning) (before after : Devices) → Tells 2 plan old before after
-out-of-memory plan old before after = record {
-  exited = λ e. absurd (omega arith);
-  exited_otherwise = λ e. absurd (omega arith);
-  rounds_over = λ e. absurd (omega arith);
-  device_failed = λ e. absurd (omega arith);
-  no_other = inr (inl refl);
-}

@@ -1,5 +1,5 @@
 -- Runs that a session sends are Runs that its machine is sent.
-use Rattle.std.proofs.Common.{◌≡◌, ◌∙◌, ℕ, ◌+◌, ◌<◌, ◌≤◌, inl, inr, sym, ap, arith, List, [], ◌∷◌, length, length-append, replicate, Option, None, Some, Result, Ok, Err, IfOk}
+use Rattle.std.proofs.Common.{◌≡◌, ◌∙◌, ℕ, ◌+◌, ◌<◌, ◌≤◌, inl, inr, sym, ap, arith, List, [], ◌∷◌, length, length-append, replicate, Option, None, Some, Result, Ok, Err}
 use Rattle.std.proofs.lemmas.List.{length-map, length-replicate}
 use Rattle.kernel_spec.specs.runs.Run.{Event, Run, Outcome}
 use Rattle.kernel_spec.specs.views.Words.{or_zero}
@@ -23,11 +23,6 @@ module _ {E : Type 0} (xs : List Event) (old new : Meaning) (h k : Sink) where
   pub broke-of : (r : Result (Unit {0}) E) (e : E) → r ≡ Err e → Plays r xs old new h k → BrokeOff xs old new h k
   broke-of (Ok x) e is plays = absurd (cc)
   broke-of (Err x) e is plays = plays
-
--- what follows of an answer, if there is one
-pub if-ok : {X E : Type 0} (r : Result X E) (P Q : X → Type 0) → ((x : X) → P x → Q x) → IfOk r P → IfOk r Q
-if-ok (Ok x) P Q f p = f x p
-if-ok (Err e) P Q f p = tt
 
 -- ---- Runs
 

@@ -8,7 +8,8 @@ pub loop-slot-preserved : goal.loop-slot-preserved
 loop-slot-preserved c =
     let w = c.args.machine.now.world in
     subst (λ (o : Option ℕ). IsLeast (IsIn w c.args.from) (c.loop-slot.slot + 1) o) (sym c.lesser-least.ensures)
-    (pid-more w c.args.from c.loop-slot.slot c.loop-slot.least c.pid_from-found.result c.current-running.ensures.sound.slots c.loop-slot.invariant c.pid_from-found.ensures.some c.pid_from-found.ensures.none)
+    (pid-more w c.args.from c.loop-slot.slot c.loop-slot.least c.pid_from-found.result c.current-running.ensures.sound.slots c.loop-slot.invariant
+    c.pid_from-found.ensures.some c.pid_from-found.ensures.none)
 
 pub returns : goal.returns
 returns c =

@@ -11,7 +11,8 @@ loop-frame-preserved c =
     let uses = c.args.uses.now in
     let k = c.loop-frame.frame in
     let u = c.index-uses-frame.result in
-    let told : c.lesser-least.result ≡ lesser c.loop-frame.least (lower_in c.args.owner c.args.from c.index-uses-frame.result) = c.lesser-least.ensures ∙ ap (lesser c.loop-frame.least) c.lower_in.ensures in
+    let told : c.lesser-least.result ≡ lesser c.loop-frame.least (lower_in c.args.owner c.args.from c.index-uses-frame.result) =
+    c.lesser-least.ensures ∙ ap (lesser c.loop-frame.least) c.lower_in.ensures in
     subst (λ (o : Option ℕ). IsLeast (IsLowerAt uses c.args.owner c.args.from) (k + 1) o) (sym told)
     (lower-more uses c.args.owner c.args.from k c.loop-frame.least u c.loop-frame.invariant (slice_get-get_or uses k u c.loop-frame-test.true ∙ ap Some (sym c.index-uses-frame.is)))
 

@@ -8,7 +8,8 @@ loop-i-init c = least_below-zero (is_covering c.args.file.now c.args.table.now c
 
 pub returns-then-covers : goal.returns-then-covers
 returns-then-covers c =
-    let passes : is_covering c.args.file.now c.args.table.now c.args.address c.loop-i.i ≡ true = ap (covers c.args.address) (sym c.symbol_at-symbol.ensures) ∙ sym c.covers.ensures ∙ c.if-covers.true in
+    let passes : is_covering c.args.file.now c.args.table.now c.args.address c.loop-i.i ≡ true =
+    ap (covers c.args.address) (sym c.symbol_at-symbol.ensures) ∙ sym c.covers.ensures ∙ c.if-covers.true in
     ap (λ s. Some s) c.symbol_at-symbol.ensures
     ∙ sym (ap (option_map (symbol c.args.file.now c.args.table.now)) (least_below-found _ _ c.loop-i.i c.loop-i.invariant passes c.loop-i-test.true))
 

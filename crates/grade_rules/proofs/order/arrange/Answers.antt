@@ -1,6 +1,7 @@
 use Rattle.std.proofs.Common.{◌≡◌, ◌∙◌, ◌+◌, ◌<◌, ◌≤◌, ℕ, length, sym, ap, arith, rules}
+use Rattle.std.proofs.lemmas.List.{length_push}
 use Rattle.grade_rules.specs.Rules.{StandsAt, IsBehind, step_at}
-use Rattle.grade_rules.proofs.Arrangements.{step_more, least_more, no_more, long}
+use Rattle.grade_rules.proofs.Arrangements.{step_more, least_more, no_more}
 use Rattle.grade_rules.proofs.order.arrange.Goals as goal
 
 -- no note is left for this step: the places before it are the lowest, and behind them none fits
@@ -38,6 +39,6 @@ loop-step-preserved c =
     let is = c.in_ok-push.ensures.items in
     record {
       here = rw is (step_more steps edges notes places start place c.loop-step.invariant.here room stands behind c.in-Some.ensures.0);
-      count = rw is (long places place ∙ ap (λ n. n + 1) count);
+      count = rw is (length_push places place ∙ ap (λ n. n + 1) count);
       least = rw is (least_more steps edges notes places start place c.loop-step.invariant.least lowest none);
     }

@@ -24,6 +24,7 @@ returns c =
     let programs = map named_file c.args.programs.items in
     let booted = c.begin-played.result in
     let start : IsReached frames trace programs [] booted.session.machine =
-    subst (λ (s : Recorded). IsReached frames trace programs [] s.machine) (sym c.begin-played.ensures.session) (booted-reached frames trace programs c.in-Ok.session c.begin-played.ensures.recorded c.in-Ok.ensures.fresh) in
+    subst (λ (s : Recorded). IsReached frames trace programs [] s.machine) (sym c.begin-played.ensures.session)
+    (booted-reached frames trace programs c.in-Ok.session c.begin-played.ensures.recorded c.in-Ok.ensures.fresh) in
     run-of frames trace programs (c.args.plan.rounds * c.args.plan.quantum) booted c.loop-round.played start c.begin-played.ensures.kept c.loop-round.invariant.plays
     (within-plan c.loop-round.round c.args.plan.rounds c.args.plan.quantum c.loop-round.played.kept.runs c.loop-round.auto.round-end c.loop-round.invariant.few)

@@ -25,5 +25,6 @@ loop-other-preserved c =
     let os = map (λ (o : Bor (List ℕ)). o.now) c.args.others.now in
     let lt : c.loop-other.other-index < length os = rw length-map (omega arith) in
     one_more c.args.word.now c.args.first.now os c.loop-other.other-index c.loop-other.text.bytes c.push_str-in-loop-other.new.self.bytes c.push_str-in-loop-other-2.new.self.bytes
-    (get_or c.args.others.now c.loop-other.other-index record { ref_ptr = (0, 0); now = [] }).now lt c.loop-other.invariant c.push_str-in-loop-other.ensures.bytes c.push_str-in-loop-other-2.ensures.bytes
+    (get_or c.args.others.now c.loop-other.other-index record { ref_ptr = (0, 0); now = [] }).now lt c.loop-other.invariant
+    c.push_str-in-loop-other.ensures.bytes c.push_str-in-loop-other-2.ensures.bytes
     (sym (get_or-map (λ (o : Bor (List ℕ)). o.now) c.args.others.now c.loop-other.other-index record { ref_ptr = (0, 0); now = [] } [] (omega arith)))

@@ -5,4 +5,5 @@ use Rattle.xv_picture.proofs.chart.pids.Goals as goal
 pub returns : goal.returns
 returns c =
     let found = all_found c.loop-note.pids.items c.args.notes.now c.loop-note.note-index (omega arith) c.loop-note.invariant in
-    are_named c.args.notes.now c.loop-note.pids.items c.sort_unstable.new.self.items c.dedup.new.self.items found c.sort_unstable.ensures.permutation c.sort_unstable.ensures.sorted c.dedup.ensures.filtered
+    are_named c.args.notes.now c.loop-note.pids.items c.sort_unstable.new.self.items c.dedup.new.self.items found c.sort_unstable.ensures.permutation
+    c.sort_unstable.ensures.sorted c.dedup.ensures.filtered

@@ -2,8 +2,9 @@ use Rattle.std.proofs.Common.{◌≡◌, ◌∙◌, ◌<◌, ℕ, Bool, true, fa
 use Rattle.xk_base.specs.declared.limits.TheConstants.{NOFILE}
 use Rattle.kernel_spec.specs.others.Quiet.{end_of, file_at}
 use Rattle.xv_report.specs.Waits.{is_end}
-use Rattle.xv_report.proofs.Ends.{some-none, some-more, some-here}
+use Rattle.xv_report.proofs.Ends.{some-none, some-more}
 use Rattle.xv_report.proofs.waits.holds_end.Goals as goal
+use Rattle.addr_space.proofs.Prices.{some-yes}
 
 pub loop-number-init : goal.loop-number-init
 loop-number-init c = some-none _
@@ -14,7 +15,7 @@ returns-then-is_on_end c =
     let test : ℕ → Bool = λ d. is_end c.args.pipe c.args.end (end_of s (file_at s c.args.pid d)) in
     let inside : c.loop-number.number < NOFILE = search rules in
     let here : test c.loop-number.number ≡ true = ap test (sym c.new.ensures) ∙ sym c.is_on_end.ensures ∙ c.if-is_on_end.true in
-    sym (some-here c.loop-number.number NOFILE test inside here)
+    sym (some-yes NOFILE test c.loop-number.number inside here)
 
 pub loop-number-preserved : goal.loop-number-preserved
 loop-number-preserved c =

@@ -13,7 +13,8 @@ overflow_sub-left g c =
 
 pub runs-smaller : goal.runs-smaller
 runs-smaller g c =
-    let more = some c.runs.left c.in_ok-made.made.sent (option_map outcome_of c.in_ok-made.made.last) (running_of c.runs.session) (running_of c.run.new.self) c.in_ok-made.ensures.sent.0 (omega arith) in
+    let more = some c.runs.left c.in_ok-made.made.sent (option_map outcome_of c.in_ok-made.made.last) (running_of c.runs.session)
+    (running_of c.run.new.self) c.in_ok-made.ensures.sent.0 (omega arith) in
     omega (arith, more)
 
 pub runs-preserved : goal.runs-preserved
@@ -24,6 +25,7 @@ runs-preserved g c =
     let few = within c.runs.left c.in_ok-made.made.sent last old new c.in_ok-made.ensures.sent.0 in
     record {
       within = omega (arith, few);
-      silent = quantum-more c.args.quantum c.runs.left c.in_ok-made.made.sent c.args.session.now.machine c.runs.session.machine c.run.new.self.machine c.runs.invariant.within few c.runs.invariant.silent
+      silent = quantum-more c.args.quantum c.runs.left c.in_ok-made.made.sent c.args.session.now.machine c.runs.session.machine
+          c.run.new.self.machine c.runs.invariant.within few c.runs.invariant.silent
           (ran c.runs.left c.in_ok-made.made.sent last old new c.in_ok-made.ensures.sent.0);
     }

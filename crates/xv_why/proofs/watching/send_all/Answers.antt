@@ -16,4 +16,5 @@ loop-sent-preserved g c = record {
 
 pub returns-in_default-clause-plays : goal.returns-in_default-clause-plays
 returns-in_default-clause-plays g c =
-    broke-within runs.Send c.loop-sent.sent SEND_BYTES _ _ _ _ _ _ (omega arith) c.loop-sent.invariant.played (broke-of (runs.Send ∷ []) _ _ _ _ c.in_ok-written.written _ c.in_default.is c.in_ok-written.ensures.plays)
+    broke-within runs.Send c.loop-sent.sent SEND_BYTES _ _ _ _ _ _ (omega arith) c.loop-sent.invariant.played
+    (broke-of (runs.Send ∷ []) _ _ _ _ c.in_ok-written.written _ c.in_default.is c.in_ok-written.ensures.plays)

@@ -19,20 +19,25 @@ returns-in-Some-clause-done g c =
 
 pub returns-in_default-take_key-clause-read : goal.returns-in_default-take_key-clause-read
 returns-in_default-take_key-clause-read g c =
-    read-stops c.args.plan c.loop-count.count c.loop-count.at_end _ (g.R.KeySource.source c.loop-count.keys) (g.R.KeySource.source c.take_key.new.keys) _ c.loop-count.session.machine _ _ (omega arith) c.loop-count.invariant.going
+    read-stops c.args.plan c.loop-count.count c.loop-count.at_end _ (g.R.KeySource.source c.loop-count.keys)
+    (g.R.KeySource.source c.take_key.new.keys) _ c.loop-count.session.machine _ _ (omega arith) c.loop-count.invariant.going
     (sym c.loop-count.invariant.halted ∙ c.in_default.is) c.in_default-take_key.ensures.reads c.in_default-take_key.ensures.call
 
 pub returns-in_default-written-clause-write : goal.returns-in_default-written-clause-write
 returns-in_default-written-clause-write g c =
     write-stops c.args.plan c.loop-count.count c.loop-count.at_end _ (g.R.KeySource.source c.loop-count.keys) (g.R.KeySource.source c.take_key.new.keys) c.in-Ok.key
-    _ c.loop-count.session.machine c.round.new.session.machine _ (g.W.ByteSink.sink c.loop-count.sink) (g.W.ByteSink.sink c.round.new.sink) (omega arith) c.loop-count.invariant.going (sym c.loop-count.invariant.halted ∙ c.in_default.is) c.in-Ok.ensures.key c.in-Ok.ensures.call
+    _ c.loop-count.session.machine c.round.new.session.machine _ (g.W.ByteSink.sink c.loop-count.sink) (g.W.ByteSink.sink c.round.new.sink)
+    (omega arith) c.loop-count.invariant.going (sym c.loop-count.invariant.halted ∙ c.in_default.is) c.in-Ok.ensures.key c.in-Ok.ensures.call
     (broke-of (round c.args.plan.quantum (option_to_list c.in-Ok.key)) _ _ _ _ c.in_ok-written.written _ c.in_default-written.is c.in_ok-written.ensures.plays)
 
 pub loop-count-preserved : goal.loop-count-preserved
 loop-count-preserved g c = record {
   going = rw (none-from-some _ _ c.is_none-at_end.ensures)
-      (one-more c.args.plan.quantum c.loop-count.count c.loop-count.at_end _ (g.R.KeySource.source c.loop-count.keys).left (g.R.KeySource.source c.take_key.new.keys).left c.in-Ok.key _ c.loop-count.session.machine _ (g.W.ByteSink.sink c.loop-count.sink)
-      _ (g.R.KeySource.source c.loop-count.keys).asked (g.R.KeySource.source c.take_key.new.keys).asked c.loop-count.invariant.going c.in-Ok.ensures.key c.in-Ok.ensures.call c.round.new.session.machine (g.W.ByteSink.sink c.round.new.sink) (sym c.loop-count.invariant.halted ∙ c.in_default.is)
+      (one-more c.args.plan.quantum c.loop-count.count c.loop-count.at_end _ (g.R.KeySource.source c.loop-count.keys).left
+      (g.R.KeySource.source c.take_key.new.keys).left c.in-Ok.key _ c.loop-count.session.machine _ (g.W.ByteSink.sink c.loop-count.sink)
+      _ (g.R.KeySource.source c.loop-count.keys).asked (g.R.KeySource.source c.take_key.new.keys).asked c.loop-count.invariant.going
+      c.in-Ok.ensures.key c.in-Ok.ensures.call c.round.new.session.machine (g.W.ByteSink.sink c.round.new.sink)
+      (sym c.loop-count.invariant.halted ∙ c.in_default.is)
       (played-of (round c.args.plan.quantum (option_to_list c.in-Ok.key)) _ _ _ _ c.in_ok-written.written _ c.in-Ok-written.is c.in_ok-written.ensures.plays));
   halted = c.halted_now-halted-in-loop-count.ensures.status;
   reads = search rules;

@@ -5,4 +5,5 @@ use Rattle.grade_runs.proofs.playing.Played.run.Goals as goal
 
 pub returns-clause-plays : goal.returns-clause-plays
 returns-clause-plays c =
-    (plays-runs c.args.most c.in_ok-runs.runs.sent (option_map outcome_of c.in_ok-runs.runs.last) c.args.self.now (record { session = c.run.new.self; kept = c.keep_runs.new.self }) c.requires.some c.in_ok-runs.ensures.sent c.in_ok-keep_runs.ensures).0
+    (plays-runs c.args.most c.in_ok-runs.runs.sent (option_map outcome_of c.in_ok-runs.runs.last) c.args.self.now
+    (record { session = c.run.new.self; kept = c.keep_runs.new.self }) c.requires.some c.in_ok-runs.ensures.sent c.in_ok-keep_runs.ensures).0

@@ -4,4 +4,5 @@ use Rattle.grade_runs.proofs.playing.Played.show.Goals as goal
 
 pub returns-clause-plays : goal.returns-clause-plays
 returns-clause-plays c =
-    plays-event (event_of c.args.event) (outcome_of c.in_ok-outcome.outcome) c.args.self.now (record { session = c.send.new.self; kept = c.keep.new.self }) c.requires.other c.in_ok-outcome.ensures.sent c.in_ok-keep.ensures
+    plays-event (event_of c.args.event) (outcome_of c.in_ok-outcome.outcome) c.args.self.now
+    (record { session = c.send.new.self; kept = c.keep.new.self }) c.requires.other c.in_ok-outcome.ensures.sent c.in_ok-keep.ensures
