@@ -29,7 +29,7 @@ has() {
 
 # Types lines at a terminal of their own: the command is the first word.
 at_terminal() {
-    (sleep 1; printf '%b' "$2"; sleep 2) | timeout 20 script -qec "$1" /dev/null
+    (sleep "${PATIENCE-2}"; printf '%b' "$2"; sleep "${PATIENCE-2}") | timeout 60 script -qec "$1" /dev/null
 }
 
 for tool in cc gcc clang rustc rt python3 parallel; do
@@ -53,14 +53,14 @@ for program in bin/*; do
 done
 has './xv --help' '^Usage: ./xv' ./xv --help
 
-has 'the shell at a terminal' '^1 1 6' at_terminal './xv programs/bin/*' 'echo hello | wc\nexit\n'
+has 'the shell at a terminal' '1 1 6' at_terminal './xv programs/bin/*' 'echo hello | wc\nexit\n'
 has 'Ctrl-C at a terminal, and why nobody goes on' 'only process 1 can write' at_terminal './xv programs/course/hang/init.s' '\003quit\n'
 has 'the shell by a pipe' '^1 2 12' sh -c 'printf "echo hello world | wc\nexit\n" | ./xv programs/bin/init programs/bin/sh programs/bin/echo programs/bin/wc'
-has 'why a process ended' 'store to 0x.*may not be written' sh -c 'echo null | ./xv --why checks/why/null.s programs/bin/init programs/bin/sh'
+has 'why a process ended' 'store to 0x.*may not be written' sh -c 'echo null | ./xv --why --rounds 2000 checks/why/null.s programs/bin/init programs/bin/sh'
 has 'a trace in words' 'fork answers 2' ./xv --explain --quantum 20 --rounds 40 programs/examples/fork/init.s
 has 'a picture' '</svg>' ./xv --picture --rounds 20 --quantum 50 programs/examples/pipeline/init.s
 has 'the debugger, forth and back' 'sleeps' sh -c 'printf "until call wait\nps\nback\nregs\n" | ./xv --debug programs/examples/fork/init.s'
-has 'GDB is answered' '^\+\$.*multiprocess' sh -c "printf '\$qSupported#37' | ./xv --gdb programs/examples/fork/init.s | tr -d '\000'"
+has 'GDB is answered' 'PacketSize=' sh -c "printf '\$qSupported#37' | ./xv --gdb programs/examples/fork/init.s | tr -d '\000'"
 programs/course/grade.sh programs/course/grading/children.toml programs/course/grading/submissions/* >graded.csv 2>graded.errors
 has 'grading: right' '^anna,6,6,right,$' cat graded.csv
 has 'grading: a fault with its line' '^chris,1,6,fault,.*line 14' cat graded.csv

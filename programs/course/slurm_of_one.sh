@@ -10,7 +10,7 @@ start() {
     mkdir -p "$folder/state" "$folder/spool" /run/munge
     [ -s /etc/munge/munge.key ] || /usr/sbin/mungekey --create
     chown -R munge: /etc/munge /run/munge
-    pgrep -x munged >/dev/null || runuser -u munge -- /usr/sbin/munged
+    pgrep -x munged >/dev/null || { runuser -u munge -- /usr/sbin/munged && : >"$folder/munged"; }
     cat >"$folder/slurm.conf" <<END
 ClusterName=one
 SlurmctldHost=$node
@@ -48,6 +48,7 @@ stop() {
     for it in slurmd slurmctld; do
         [ ! -e "$folder/$it.pid" ] || kill "$(cat "$folder/$it.pid")" || :
     done
+    [ ! -e "$folder/munged" ] || { kill "$(cat /run/munge/munged.pid)" && rm "$folder/munged"; }
 }
 
 case ${2-} in
