@@ -3,5 +3,6 @@
 # Firefox. It needs node and the browser (Debian's nodejs, chromium and firefox-esr).
 cd "$(dirname "$(readlink -f "$0")")" || exit 2
 browser=chromium; [ "${BROWSER-}" != firefox ] || browser=firefox-esr
-for it in node $browser; do command -v $it >/dev/null || { echo "look.sh: there is no $it" >&2; exit 2; }; done
+command -v node >/dev/null || { echo "look.sh: there is no node: apt-get install nodejs" >&2; exit 2; }
+command -v $browser >/dev/null || { echo "look.sh: there is no $browser: apt-get install $browser" >&2; exit 2; }
 exec node try/look.mjs "${2-nektavoly.html}" "${1:?a folder for the pictures}"

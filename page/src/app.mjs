@@ -27,9 +27,16 @@ export function ask(what, it = {}) {
   app.worker.postMessage({ do: what, ...it });
 }
 
-/** Says something to readers of the screen, and in the status line. */
+let hushes = 0;
+/** Says something, seen and read out, for some seconds. */
 export function say(text) {
+  clearTimeout(hushes);
   $("status").textContent = text;
+  hushes = setTimeout(hush, 4000 + 60 * text.length);
+}
+/** Takes away what was said. */
+export function hush() {
+  $("status").textContent = "";
 }
 
 export function element(name, attributes = {}, ...children) {

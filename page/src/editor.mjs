@@ -1,10 +1,10 @@
 // The editor of a source: lines with numbers, words coloured, the refused line marked, the line of the pc, and break points
 // beside the lines.
-import { $, app, ask, element, on, tell } from "./app.mjs";
+import { $, app, ask, element, on, say, tell } from "./app.mjs";
 import { layout_of, parts_of } from "./symbols.mjs";
 import { hint_of } from "./words.mjs";
 
-const state = { file: null, asked: 0, mistake: null, layout: null, pc: null, stops: new Set() };
+const state = { file: null, asked: 0, mistake: null, layout: null, pc: null, breaks: [], stops: new Set() };
 
 const escape = (text) => text.replace(/[&<>]/g, (it) => ({ "&": "&amp;", "<": "&lt;", ">": "&gt;" })[it]);
 const REGISTER = /\b(x[12]?\d|x3[01]|zero|ra|sp|gp|tp|t[0-6]|s\d|s1[01]|fp|a[0-7])\b|(-?\b(?:0x[0-9a-fA-F]+|\d+)\b)|("(?:[^"\\]|\\.)*"?)/g;
@@ -54,9 +54,27 @@ function said(text, kind) {
   it.className = kind;
 }
 
+/** Sets a break point at a line, or takes it away; false if the line has no instruction. */
+function toggle_break(line) {
+  const found = state.layout && state.layout.lines.find((it) => it.line === line);
+  if (found) tell("toggle break", { line, address: found.address, file: state.file });
+  return !!found;
+}
+
+function break_at_caret() {
+  const source = $("source"), line = source.value.slice(0, source.selectionStart).split("\n").length;
+  if (!toggle_break(line)) say(`Line ${line} has no instruction, so no break point`);
+  else say(state.stops.has(line) ? `A break point at line ${line}` : `No break point at line ${line} any more`);
+}
+
+function find_stops() {
+  state.stops = new Set(state.breaks.filter((it) => it.file && it.file === state.file).map((it) => it.line));
+}
+
 /** Shows a file. */
 export function open(file) {
   state.file = file;
+  find_stops();
   state.mistake = null;
   const is_text = file && file.text !== undefined;
   $("source").value = is_text ? file.text : file ? `${file.name}: a program file of ${file.bytes.length} bytes, built from C.\n\nIts instructions and functions are shown at the right when it runs.` : "";
@@ -85,10 +103,10 @@ export function start() {
   source.addEventListener("keydown", (event) => {
     if (event.key === "Enter" && (event.ctrlKey || event.metaKey)) { event.preventDefault(); $("boot").click(); }
     if (event.key === "Escape") $("boot").focus();
+    if (event.key === "F9") { event.preventDefault(); break_at_caret(); }
   });
   $("editor").querySelector(".gutter").addEventListener("click", (event) => {
-    const line = [...event.currentTarget.children].indexOf(event.target) + 1, found = state.layout && state.layout.lines.find((it) => it.line === line);
-    if (found) tell("toggle break", { line, address: found.address, file: state.file });
+    toggle_break([...event.currentTarget.children].indexOf(event.target) + 1);
   });
   on("assembled", (it) => {
     if (it.id !== state.asked) return;
@@ -119,7 +137,8 @@ export function start() {
     }
   });
   on("breaks", (list) => {
-    state.stops = new Set(list.filter((it) => it.file && it.file === state.file).map((it) => it.line));
+    state.breaks = list;
+    find_stops();
     draw();
   });
 }

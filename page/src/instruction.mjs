@@ -43,12 +43,13 @@ function draw_memory() {
   if (!bytes.length) { pre.textContent = `no page at ${hex(at)}`; return; }
   const data = new DataView(bytes.buffer, bytes.byteOffset, bytes.length), columns = as === "text" ? 32 : as === "bytes" && pre.clientWidth < 600 ? 8 : 16;
   for (let row = 0; row < bytes.length; row += columns) {
-    let text = hex(at + BigInt(row)).padEnd(10) + " ";
+    const is_next = next >= row && next < row + columns;
+    let text = hex(at + BigInt(row)).padEnd(10) + (is_next ? ">" : " ");
     const part = bytes.subarray(row, row + columns);
     if (as === "words") for (let k = 0; k + 8 <= part.length; k += 8) text += number(data.getBigUint64(row + k, true)).padStart(19);
     else if (as === "text") text += [...part].map((it) => (it > 31 && it < 127 ? String.fromCharCode(it) : it === 10 ? "↵" : it ? "·" : " ")).join("");
     else text += [...part].map((it, k) => (k === 8 ? " " : "") + it.toString(16).padStart(2, "0")).join(" ") + "  " + [...part].map((it) => (it > 31 && it < 127 ? String.fromCharCode(it) : "·")).join("");
-    lines.push(next >= row && next < row + columns ? element("i", {}, text) : text, "\n");
+    lines.push(is_next ? element("i", { title: "the next instruction loads from here, or stores to here" }, text) : text, "\n");
   }
   pre.replaceChildren(...lines);
 }
@@ -77,9 +78,21 @@ export function start() {
     $("address").setAttribute("aria-invalid", at === undefined ? "true" : "false");
     if (at !== undefined) ask("look", { memory: at });
   });
-  for (const it of document.querySelectorAll("[data-as]")) it.addEventListener("click", () => {
-    as = it.dataset.as;
-    for (const other of document.querySelectorAll("[data-as]")) other.setAttribute("aria-pressed", other === it);
+  const forms = [...document.querySelectorAll("[data-as]")];
+  const show_as = (chosen) => {
+    as = chosen.dataset.as;
+    for (const it of forms) { it.setAttribute("aria-checked", it === chosen); it.tabIndex = it === chosen ? 0 : -1; }
     if (app.view) draw_memory();
-  });
+  };
+  for (const it of forms) {
+    it.addEventListener("click", () => show_as(it));
+    it.addEventListener("keydown", (event) => {
+      const by = { ArrowRight: 1, ArrowDown: 1, ArrowLeft: -1, ArrowUp: -1 }[event.key];
+      if (!by) return;
+      event.preventDefault();
+      const next = forms[(forms.indexOf(it) + by + forms.length) % forms.length];
+      next.focus();
+      show_as(next);
+    });
+  }
 }

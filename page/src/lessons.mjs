@@ -1,5 +1,5 @@
 // Lessons: a text, a program, and questions. What is right is not written here: the machine runs the program, and tells.
-import { $, app, ask, element, on, say } from "./app.mjs";
+import { $, app, ask, element, on } from "./app.mjs";
 import { KIND } from "./machine.mjs";
 import * as programs from "./programs.mjs";
 
@@ -133,7 +133,7 @@ const LESSONS = [
   {
     name: "Memory that comes when it is touched", example: "lazy course", how: { rounds: true, quantum: 20, frames: 64 }, page: "machine.md#absent-pages",
     about: "A gigabyte is promised, five pages are touched.",
-    text: `<p><code>sbrklazy</code> (call 22) makes the memory grow, and takes no frame for it. A page comes when it is first touched, with the tables that are missing on the way to it.</p><p>The program is promised a gigabyte, touches five pages that lie far apart, and exits with 5. Step over each touch with <b>Page table</b> open: what is new is marked.</p>`,
+    text: `<p><code>sbrklazy</code> (call 22) makes the memory grow, and takes no frame for it. A page comes when it is first touched, with the tables that are missing on the way to it.</p><p>The program is promised a gigabyte, touches five pages that lie far apart, and exits with 5. Step over each touch with <b>Page table</b> open: what is new has the sign ✱.</p>`,
     questions: [
       { ask: "How many frames are in use before it grows?", judge: async (given) => { const [truth] = await frames_used(); return { right: is_number(truth)(given), words: `${truth}: three pages, three tables, the trapframe.` }; } },
       { ask: "What does each of the five touches cost, in frames? Five numbers:", judge: async (given) => { const used = await frames_used(), truth = []; for (let k = 1; k < used.length; k++) if (used[k] > used[k - 1]) truth.push(used[k] - used[k - 1]); return { right: is_list(truth)(given), words: `${truth.join(" ")}: the page, and each table that was not there.` }; } },
@@ -169,7 +169,6 @@ async function judge(lesson, question, given, told) {
     told.className = right ? "right" : "wrong";
     told.replaceChildren(right ? "Right. " : "Not so. ", words, place === undefined ? "" : " ");
     if (place !== undefined) told.append(element("button", { onclick: () => ask("go", { place }) }, "See it"));
-    say(right ? "Right" : "Not so");
     question.done = right || question.done;
   } catch (error) {
     told.className = "wrong";

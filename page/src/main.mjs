@@ -1,5 +1,5 @@
 // The page: begins the worker and the panels, and hands what the worker tells to them.
-import { $, app, ask, element, on, say, tell } from "./app.mjs";
+import { $, app, ask, element, hush, on, say, tell } from "./app.mjs";
 import { Timeline } from "./timeline.mjs";
 import * as terminal from "./terminal.mjs";
 import * as editor from "./editor.mjs";
@@ -142,11 +142,13 @@ function begin() {
   help();
   on("ready", async () => {
     look();
-    if (!(await programs.follow(location.hash))) programs.choose("shell");
+    if (!(await programs.follow(location.hash, "Here is the shell in its place."))) programs.choose("shell");
     await programs.boot();
     if (!matchMedia("(max-width: 820px)").matches) $("screen").focus({ preventScroll: true });
   });
-  addEventListener("hashchange", async () => { if (await programs.follow(location.hash)) programs.boot(); });
+  addEventListener("hashchange", async () => { if (await programs.follow(location.hash, "The programs stay as they are.")) programs.boot(); });
+  for (const action of ["keydown", "pointerdown"]) addEventListener(action, hush, true);
+  on("taken", () => show_tab($("tab-programs")));
   addEventListener("resize", redraw);
   ask("module", { bytes: base64.of(DATA.wasm) });
   on("view", () => { if (!globalThis.ready) { globalThis.ready = true; globalThis.took = { page: began, boot: app.booted?.took, shown: performance.now() }; } });

@@ -18,6 +18,9 @@ function use_of(rights) {
   return "";
 }
 
+/** The sign of what the last step changed, beside its colour. */
+const sign = () => element("span", { class: "changed", role: "img", "aria-label": "changed", title: "the last step changed it" }, "✱");
+
 /** The frame of a table: the root of a process, or that of a level with this place. */
 function table_frame(kind, pid, place) {
   const { frames } = app.view;
@@ -26,7 +29,7 @@ function table_frame(kind, pid, place) {
 }
 
 function branch(key, is_open, words, is_new, ...children) {
-  const made = element("details", { open: opened.has(key) ? opened.get(key) : is_open }, element("summary", { class: is_new ? "new" : "" }, ...words), ...children);
+  const made = element("details", { open: opened.has(key) ? opened.get(key) : is_open }, element("summary", { class: is_new ? "new" : "" }, is_new ? sign() : null, ...words), ...children);
   made.addEventListener("toggle", () => opened.set(key, made.open));
   return made;
 }
@@ -51,7 +54,7 @@ function draw_table() {
         if (it.page === touched) notes.push("next load or store");
         const use = use_of(it.rights);
         if (use) notes.push(use);
-        return element("div", { class: `leaf mono${new_pages.has(it.page) ? " new" : ""}${it.page === at ? " at" : ""}`, title: `page ${it.page}: entry ${it.page % 512} of its last table` }, element("span", { class: "dim" }, `entry ${it.page % 512}`), element("span", {}, hex(BigInt(it.page) * 4096n)), bits(it.rights), element("span", {}, it.frame === null ? "" : `frame ${it.frame}`, notes.length ? element("span", { class: "dim" }, ` ${notes.join(", ")}`) : ""));
+        return element("div", { class: `leaf mono${new_pages.has(it.page) ? " new" : ""}${it.page === at ? " at" : ""}`, title: `page ${it.page}: entry ${it.page % 512} of its last table` }, element("span", {}, new_pages.has(it.page) ? sign() : null, element("span", { class: "dim" }, `entry ${it.page % 512}`)), element("span", {}, hex(BigInt(it.page) * 4096n)), bits(it.rights), element("span", {}, it.frame === null ? "" : `frame ${it.frame}`, notes.length ? element("span", { class: "dim" }, ` ${notes.join(", ")}`) : ""));
       });
       if (list.length > 600) leaves.push(element("div", { class: "leaf dim" }, `and ${list.length - 600} more`));
       return branch(`${pid} ${two} ${one}`, true, [`entry ${one % 512}: last table`, element("span", { class: "dim" }, lower === null ? "" : ` in frame ${lower}, ${address_of(lower)}`), element("span", { class: "dim" }, ` · ${list.length} page${list.length > 1 ? "s" : ""} from ${hex(BigInt(one) * 512n * 4096n)}`)], lower !== null && changed.has(lower), ...leaves);
@@ -110,7 +113,7 @@ function draw_map() {
 function tell_point() {
   const { frames } = app.view, frame = Math.min(point, frames.count - 1), kind = frames.kinds[frame], pid = frames.pids[frame], place = frames.places[frame];
   const what = { 1: "free", 2: `the trapframe of process ${pid}`, 3: `the root table of process ${pid}`, 4: `a middle table of process ${pid}, entry ${place} of its root`, 5: `a last table of process ${pid}, for pages from ${hex(BigInt(place) * 512n * 4096n)}`, 6: `page ${hex(BigInt(place) * 4096n)} of process ${pid}`, 7: "a pipe" }[kind] || "no frame";
-  $("frame-told").textContent = `frame ${frame} at ${address_of(frame)}: ${what}`;
+  $("frame-told").textContent = `frame ${frame} at ${address_of(frame)}: ${what}${changed.has(frame) ? "; the last step changed it" : ""}`;
 }
 
 export function start() {

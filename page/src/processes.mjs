@@ -119,6 +119,35 @@ function draw_bars(draw, shown, { from, to, x_of, bar, top_of, ink, bad }) {
   for (const { row, x, kind } of marks) { draw.fillStyle = kind === KIND.FAULT ? bad : ink; draw.fillRect(x, tops[row] - 1, 2, bar + 2); }
 }
 
+/** The processes that ran one behind another up to a place, the last ones, so many at most. */
+function last_that_ran(at, most) {
+  const { line } = app, found = [];
+  let place = line.find(at - 1);
+  for (let looked = 0; place >= 0 && found.length < most && looked < 1000; place--, looked++) {
+    if (line.kind[place] <= KIND.FAULT && found[0] !== line.pid[place]) found.unshift(line.pid[place]);
+  }
+  return found;
+}
+
+/** A life of the picture in words. */
+function life_words({ pid, parent, from, to, reaped, by }) {
+  const name = program_name(app.names.get(pid)), words = [parent ? `forked by process ${parent} at event ${grouped(from)}` : "the first"];
+  if (to !== Infinity) words.push(`ended at event ${grouped(to)}`);
+  if (reaped !== Infinity) words.push(`the wait of process ${by} took it away at event ${grouped(reaped)}`);
+  return `process ${pid}${name ? ` (${name})` : ""}: ${words.join(", ")}`;
+}
+
+let told_at = 0;
+/** The picture in words, for readers of the screen; while the machine plays, once a second. */
+function tell_turns(lives_shown) {
+  const { view } = app, now = performance.now();
+  if (view.playing && now - told_at < 1000) return;
+  told_at = now;
+  const ran = last_that_ran(view.at, 12), { current } = view.facts;
+  const words = [current ? `process ${current} runs` : "nobody runs", ran.length ? `up to here ran, one behind another: ${ran.join(", ")}` : "no process has run"];
+  $("turns-told").replaceChildren(...[...words, ...lives_shown.map(life_words)].map((it) => element("li", {}, it)));
+}
+
 function draw_turns() {
   const canvas = $("turns"), { draw, width, height } = fresh(canvas), { view } = app, { from, to } = range();
   if (!view || width < 40) return;
@@ -152,6 +181,7 @@ function draw_turns() {
       draw.setLineDash([]);
     }
   }
+  tell_turns(shown);
   draw_bars(draw, shown, { from, to, x_of, bar, top_of: (pid) => row_of.get(pid), ink, bad });
   draw.fillStyle = ink;
   draw.fillRect(x_of(view.at) - 0.5, 0, 1, height - 10);

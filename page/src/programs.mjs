@@ -20,9 +20,23 @@ export function show_files() {
   const list = $("files"), opened = editor.opened();
   list.replaceChildren(...app.files.map((file) => element("button", { role: "option", "aria-selected": file === opened ? "true" : "false", class: file.text === undefined ? "plain" : "", title: file.text === undefined ? "a program file" : "a text", onclick: () => { editor.open(file); show_files(); tell("opened", file); } }, file.name + (file.changed ? " *" : ""))),
     element("button", { title: "A new source", "aria-label": "A new source", onclick: add_source }, "+"),
-    element("button", { title: "Take this file away", "aria-label": "Take this file away", onclick: remove_opened }, "−"));
+    element("button", { title: "Take this file away", "aria-label": "Take this file away", onclick: remove_opened }, "−"),
+    element("button", { title: "Program files, sources, texts, or the record of a run", onclick: ask_for_files }, "Open file.."));
   const order = $("order").value === "rounds" ? `in rounds of ${$("quantum").value} Runs` : "as a terminal";
   $("config-words").textContent = `${$("frames").value} frames, ${order}`;
+}
+
+/** Asks the host for files, which are taken as if they were dropped. */
+function ask_for_files() {
+  $("file").click();
+}
+
+async function take_asked() {
+  const list = [...$("file").files];
+  // The same file may be asked for again.
+  $("file").value = "";
+  if (list.length) await take(list);
+  if (document.activeElement === document.body) $("boot").focus();
 }
 
 function add_source() {
@@ -114,19 +128,18 @@ export async function link() {
   return location.href.split("#")[0] + "#run=" + base64.to(packed).replace(/\+/g, "-").replace(/\//g, "_").replace(/=+$/, "");
 }
 
-/** Follows a link: true if the address has one. */
-export async function follow(hash) {
+/** Follows a link: true if the address has a whole one. If it is damaged, that is said, and what comes in its place. */
+export async function follow(hash, in_its_place) {
   const example = /^#example=([\w-]+)$/.exec(hash);
   if (example && DATA.examples[example[1]]) { choose(example[1]); return true; }
-  const found = /^#run=([\w-]+)$/.exec(hash);
-  if (!found) return false;
+  if (!hash.startsWith("#run=")) return false;
   try {
-    const it = JSON.parse(new TextDecoder().decode(await pressed(base64.of(found[1].replace(/-/g, "+").replace(/_/g, "/")), new DecompressionStream("deflate-raw"))));
+    const it = JSON.parse(new TextDecoder().decode(await pressed(base64.of(hash.slice(5).replace(/-/g, "+").replace(/_/g, "/")), new DecompressionStream("deflate-raw"))));
     const files = it.files.map(([name, text, packed]) => (text !== undefined && text !== null ? { name, text } : packed ? { name, bytes: base64.of(packed) } : { name, bytes: base64.of(DATA.programs[name]), built_in: true }));
     set_files(files, it);
     return true;
-  } catch (error) {
-    say("The link is damaged: " + error.message);
+  } catch {
+    say(`The link is damaged: copy the whole of it once more. ${in_its_place}`);
     return false;
   }
 }
@@ -140,7 +153,7 @@ async function share() {
   body.replaceChildren(element("h2", {}, "Share"), element("p", {}, `This link has the programs, the machine and the keys (${text.value.length} characters). Who opens it has the same run.`), text,
     element("p", {}, element("button", { class: "main", onclick: () => { text.select(); navigator.clipboard?.writeText(text.value); } }, "Copy"), " ",
       element("button", { onclick: () => { app.on_record = async (record) => put(await recorded(record)); ask("record"); } }, "Save the run as a file")),
-    element("p", {}, "The file has each event of the run, and the sums of its programs. Drop it on the page to have the run again."));
+    element("p", {}, "The file has each event of the run, and the sums of its programs. Drop it on the page, or choose it by Open file.., to have the run again."));
   dialog.showModal();
   text.select();
 }
@@ -238,6 +251,8 @@ export function start() {
   chosen.addEventListener("change", () => { choose(chosen.value); boot(); });
   $("boot").addEventListener("click", () => boot());
   $("share").addEventListener("click", share);
+  $("open-file").addEventListener("click", ask_for_files);
+  $("file").addEventListener("change", take_asked);
   for (const it of ["frames", "order", "quantum", "keys"]) $(it).addEventListener("change", show_files);
   on("edited", show_files);
   on("assembled", (it) => { const done = waiting.get(it.id); if (done) { waiting.delete(it.id); done(it); } });

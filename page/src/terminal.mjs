@@ -1,15 +1,18 @@
 // The terminal: what the console shows, and keys for it.
-import { $, app, ask, on, tell, say } from "./app.mjs";
+import { $, app, ask, element, on, tell, say } from "./app.mjs";
 
-const MOST_LINES = 3000;
-const shown = { bytes: 0, lines: [""], row: [], column: 0 };
+const MOST_LINES = 3000, MOST_HEARD = 30;
+const shown = { bytes: 0, lines: [""], count: 0, row: [], column: 0 };
+let heard = 0; // how many whole lines were told to readers of the screen
 const decoder = new TextDecoder();
 
 function clear() {
   shown.bytes = 0;
   shown.lines = [];
+  shown.count = 0;
   shown.row = [];
   shown.column = 0;
+  shown.drawn = false;
 }
 
 /** Takes bytes as a terminal does: a backspace goes left, a carriage return to the front, a line feed down. */
@@ -17,6 +20,7 @@ function take(bytes) {
   for (const byte of bytes) {
     if (byte === 10) {
       shown.lines.push(decoder.decode(Uint8Array.from(shown.row)));
+      shown.count++;
       if (shown.lines.length > MOST_LINES) shown.lines.splice(0, 500);
       shown.row = [];
       shown.column = 0;
@@ -42,6 +46,18 @@ function draw() {
   pre.replaceChildren(document.createTextNode(shown.lines.slice(-1000).map((it) => it + "\n").join("") + left), caret, document.createTextNode(right));
   if (at_end) screen.scrollTop = screen.scrollHeight;
   shown.drawn = true;
+}
+
+/** Tells readers of the screen the whole lines that came, the last ones if they are many: when the machine waits, or stands. */
+function tell_lines() {
+  const { view } = app;
+  // Back in the run there are fewer.
+  heard = Math.min(heard, shown.count);
+  if (heard === shown.count || (view.playing && view.facts.current)) return;
+  const lines = shown.lines.slice(-Math.min(shown.count - heard, MOST_HEARD)), log = $("heard");
+  log.append(...lines.map((it) => element("div", {}, it)));
+  while (log.childElementCount > MOST_HEARD) log.firstElementChild.remove();
+  heard = shown.count;
 }
 
 /** Types bytes into the machine. */
@@ -98,6 +114,8 @@ export function start() {
     it.addEventListener("blur", () => screen.classList.remove("has-keys"));
   }
   screen.addEventListener("click", () => { if (!String(getSelection()) && matchMedia("(pointer: coarse)").matches) typed.focus(); });
-  on("view", draw);
-  on("boot", () => { clear(); shown.drawn = false; });
+  on("view", () => { draw(); tell_lines(); });
+  on("boot", clear);
+  // (A view of the machine before may come behind `boot`, and none behind `booted`.)
+  on("booted", () => { heard = 0; $("heard").replaceChildren(); });
 }

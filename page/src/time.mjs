@@ -148,7 +148,7 @@ function add_break() {
   if (!where) return;
   if (kind === "call") {
     const number = Object.entries(CALLS).find(([, name]) => name === where)?.[0] ?? where;
-    if (!/^\d+$/.test(number)) { say("No such call"); return; }
+    if (!/^\d+$/.test(number)) { say(`No such call: ${where}. Write its name, as write, or its number`); return; }
     breaks.push({ kind, number: Number(number), name: where, words: `call ${call_name(Number(number))}` });
   } else {
     let address = null, program = null, name = where;
@@ -157,7 +157,7 @@ function add_break() {
       const found = symbols.names.find((it) => it.name === where);
       if (found && address === null) { address = found.address; program = place; }
     });
-    if (address === null) { say("No such label"); return; }
+    if (address === null) { say(`No such label: ${where}. Write a label of a program, or an address, as 0x10`); return; }
     breaks.push({ kind, address, program: kind === "store" ? null : program, name, words: `${kind === "store" ? "store to" : "at"} ${name}${/^\d|^0x/.test(name) ? "" : " " + hex(address)}` });
   }
   $("break-where").value = "";

@@ -17,6 +17,7 @@ function resident(root) {
 export async function open(url, { width = 1400, height = 900, dark = false, mobile = false } = {}) {
   const folder = mkdtempSync(tmpdir() + "/look-");
   const chrome = spawn("chromium", ["--headless=new", "--no-sandbox", "--disable-gpu", "--hide-scrollbars", "--remote-debugging-pipe", `--user-data-dir=${folder}`, `--window-size=${width},${height}`], { stdio: ["ignore", "ignore", "ignore", "pipe", "pipe"] });
+  chrome.once("error", (error) => { console.error(error.code === "ENOENT" ? "there is no chromium: apt-get install chromium" : error.message); process.exit(2); });
   const [, , , input, output] = chrome.stdio, waiting = new Map(), logs = [], workers = [];
   let buffer = "", last = 0, session;
   output.on("data", (part) => {
@@ -61,7 +62,7 @@ export async function open(url, { width = 1400, height = 900, dark = false, mobi
       throw new Error(`not so after ${ms} ms: ${expression}`);
     },
     async key(key, { shift = false, control = false } = {}) {
-      const special = { Enter: 13, Backspace: 8, Escape: 27, Tab: 9, ArrowLeft: 37, ArrowUp: 38, ArrowRight: 39, ArrowDown: 40, Home: 36, " ": 32 };
+      const special = { Enter: 13, Backspace: 8, Escape: 27, Tab: 9, ArrowLeft: 37, ArrowUp: 38, ArrowRight: 39, ArrowDown: 40, Home: 36, F9: 120, " ": 32 };
       const modifiers = (control ? 2 : 0) + (shift ? 8 : 0), code = special[key] ?? key.toUpperCase().charCodeAt(0), text = control ? undefined : key === "Enter" ? "\r" : key.length === 1 ? key : undefined;
       await send("Input.dispatchKeyEvent", { type: text ? "keyDown" : "rawKeyDown", key, text, modifiers, windowsVirtualKeyCode: code });
       await send("Input.dispatchKeyEvent", { type: "keyUp", key, modifiers, windowsVirtualKeyCode: code });

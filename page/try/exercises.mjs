@@ -153,6 +153,8 @@ async function next_cost(page, before) {
   const here = await at(page);
   await page.click("#play");
   await page.until(`page.app.view.at > ${here} && !page.app.view.playing`);
+  // The view is there before it is drawn.
+  await page.until("document.getElementById('clock').textContent.startsWith(`event ${page.app.view.at.toLocaleString('en')} `)");
   const [, name] = /last: process \d+: (\w+) answers/.exec(await text(page, "clock"));
   return `${name} ${(await in_use(page)) - before}`;
 }

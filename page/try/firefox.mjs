@@ -5,7 +5,7 @@ import { connect } from "node:net";
 import { tmpdir } from "node:os";
 
 const sleep = (ms) => new Promise((done) => setTimeout(done, ms));
-const SPECIAL = { Enter: "\uE007", Backspace: "\uE003", Escape: "\uE00C", Tab: "\uE004", ArrowLeft: "\uE012", ArrowUp: "\uE013", ArrowRight: "\uE014", ArrowDown: "\uE015", Home: "\uE011" };
+const SPECIAL = { Enter: "\uE007", Backspace: "\uE003", Escape: "\uE00C", Tab: "\uE004", ArrowLeft: "\uE012", ArrowUp: "\uE013", ArrowRight: "\uE014", ArrowDown: "\uE015", Home: "\uE011", F9: "\uE039" };
 
 /** The connection to a browser's Marionette: packets are LENGTH:JSON. */
 async function marionette(folder) {
@@ -49,6 +49,7 @@ user_pref("datareporting.policy.dataSubmissionEnabled", false);
 user_pref("app.update.enabled", false);
 `);
   const firefox = spawn("firefox-esr", ["--headless", "--no-remote", "--marionette", "--profile", folder], { stdio: "ignore", env: { ...process.env, HOME: folder, MOZ_HEADLESS_WIDTH: String(width), MOZ_HEADLESS_HEIGHT: String(height) } });
+  firefox.once("error", (error) => { console.error(error.code === "ENOENT" ? "there is no firefox-esr: apt-get install firefox-esr" : error.message); process.exit(2); });
   const { send, end } = await marionette(folder);
   await send("WebDriver:NewSession", { capabilities: { alwaysMatch: { acceptInsecureCerts: true } } });
   await send("WebDriver:SetTimeouts", { script: 120000, pageLoad: 120000 });

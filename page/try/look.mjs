@@ -23,6 +23,9 @@ async function session(page) {
   await shows(page, "mended\n");
   for (const [typed, shown] of [["primes 20\n", "prime 19"], ["pingpong 3\n", "$"], ["crash 13\n", "$"], ["echo a ; echo b\n", "a\nb"], ["grep writer poem.txt\n", "writer"], ["(echo x ; echo y) | wc\n", "2 2 4"], ["lazy\n", "$"], ["sleep 2\n", "$"], ["wc < poem.txt\n", "$"], ["echo one &\n", "one"], ["wait\n", "$"], ["cat nothing\n", "nothing"], ["kill 99\n", "$"], ["echo last | cat | cat | wc\n", "1 1 5"], ["# a remark\n", "$"], ["head -2 poem.txt\n", "should first"]]) { await page.type(typed); await page.sleep(500); await shows(page, shown); }
   await page.picture(`${folder}/session.png`);
+  await page.until("document.getElementById('heard').textContent.includes('should first')").catch(() => {});
+  holds((await page.eval("[...document.getElementById('heard').children].some((it) => it.textContent.trim() === '1 1 5')")), "a reader of the screen is told the terminal's lines");
+  holds((await page.eval("document.getElementById('turns-told').textContent")).includes("forked by process 2 at event "), "a reader of the screen is told the picture of turns");
 }
 
 async function time(page) {
@@ -63,6 +66,62 @@ async function programs(page) {
   await page.until("document.getElementById('mistake').textContent.includes('UnknownWord')");
   holds((await page.eval("document.getElementById('mistake').textContent")).includes("beq a0, x0"), "a mistake is told with a hint");
   await page.picture(`${folder}/mistake.png`);
+}
+
+const message = (page) => page.eval("(() => { const it = document.getElementById('status'), box = it.getBoundingClientRect(); return box.height > 10 && box.left >= 0 && box.right <= innerWidth && box.top >= 0 && box.bottom <= innerHeight ? it.textContent : ''; })()");
+
+/** A file is asked for by a button, a message is seen and goes, a form of memory and a break point are chosen, all by keys. */
+async function keys(page) {
+  await page.eval("window.is_asked = 0; document.getElementById('file').addEventListener('click', (event) => { event.preventDefault(); window.is_asked++; })");
+  for (const button of ["#open-file", "#files button:last-child"]) { await page.eval(`document.querySelector('${button}').focus()`); await page.key("Enter"); }
+  holds(await page.eval("window.is_asked === 2"), "two buttons ask for files, by keys");
+  await page.eval("(() => { const data = new DataTransfer(), it = document.getElementById('file'); data.items.add(new File(['# none\\n  li a0, 5\\n  li a7, 2\\n  ecall\\n'], 'init.s')); it.files = data.files; it.dispatchEvent(new Event('change')); })()");
+  await page.until("page.app.files.some((it) => it.text?.includes('li a0, 5'))");
+  await page.click("#boot");
+  await page.until("page.app.view.facts.halted && page.app.view.facts.status === 5").catch(() => {});
+  holds(await page.eval("page.app.view.facts.status === 5"), "a source that was chosen runs");
+  await page.eval("document.getElementById('source').focus(); document.getElementById('source').setSelectionRange(9, 9)");
+  await page.key("F9");
+  holds((await message(page)) === "A break point at line 2" && (await page.eval("document.getElementById('break-list').childElementCount === 1 && document.querySelectorAll('.gutter .stop').length === 1")), "F9 sets a break point at a line");
+  await page.key("F9");
+  holds(await page.eval("document.getElementById('break-list').childElementCount === 0"), "F9 takes it away");
+  await page.eval("(() => { document.getElementById('breaks').open = true; const it = document.getElementById('break-where'); it.value = 'nowhere'; it.focus(); })()");
+  await page.key("Enter");
+  holds((await message(page)).startsWith("No such label: nowhere"), "a label that isn't there is told, and seen");
+  await page.picture(`${folder}/message.png`);
+  await page.key("x");
+  holds((await message(page)) === "", "a message goes at the next key");
+  await page.eval("document.getElementById('breaks').open = false; show_tab('instruction'); document.querySelector('[data-as=bytes]').focus()");
+  await page.key("ArrowRight");
+  holds(await page.eval("document.activeElement.dataset.as === 'words' && document.querySelectorAll('[data-as][aria-checked=true]').length === 1 && document.activeElement.getAttribute('aria-checked') === 'true'"), "memory as words, by an arrow");
+  await page.key("ArrowLeft");
+}
+
+const boots = (page, words) => page.eval(`${words}; page.programs.boot({ play: false })`).then(() => page.until("page.app.view.at === 0 && page.app.booted.files[0].from === page.app.files[0]"));
+
+/** Goes on by an event, and waits until it is drawn. */
+async function one(page) {
+  const drawn = await page.eval("page.drawn()");
+  await page.eval("page.ask('step', { what: 'one', back: false })");
+  await page.until(`page.drawn() > ${drawn}`);
+}
+
+/** What the last step changed, and the memory that is next, have signs beside their colour. */
+async function signs(page, name) {
+  await boots(page, "page.programs.choose('lazy course')");
+  await page.eval("show_tab('pages')");
+  await page.sleep(300);
+  for (let k = 0; k < 60 && !(await page.eval("!!document.querySelector('#table summary.new')")); k++) await one(page);
+  holds(await page.eval("(() => { const all = [...document.querySelectorAll('#table .new')]; return all.length > 0 && all.every((it) => it.querySelector('.changed')); })()"), `${name}: what the last step changed of the page table has a sign`);
+  await page.picture(`${folder}/${name}-sign-pages.png`, { full: true });
+  await page.eval("show_tab('instruction')");
+  await boots(page, "page.programs.set_files([{ name: 'init.s', text: '  li a0, 5\\n  sb a0, -8(sp)\\n' }])");
+  for (let k = 0; k < 9 && (await page.eval("page.app.view.next == null")); k++) await one(page);
+  await page.eval("page.ask('look', { memory: page.app.view.next & ~15n })");
+  await page.until("document.querySelector('#memory i')?.textContent.includes('>')").catch(() => {});
+  holds(await page.eval("!!document.querySelector('#memory i')?.textContent.includes('>')"), `${name}: the memory that is next has a sign`);
+  await page.picture(`${folder}/${name}-sign-memory.png`, { full: true });
+  await page.eval("page.ask('look', { memory: null })");
 }
 
 async function share(page) {
@@ -140,6 +199,8 @@ try {
   await panels(page, "shell");
   await time(page);
   await programs(page);
+  await keys(page);
+  await signs(page, "light");
   await lessons(page);
   const other = await open(await full(page, holds, folder));
   await other.until("page.app.view.facts.halted && page.app.view.facts.status === -1").catch(() => {});
@@ -155,13 +216,16 @@ try {
 holds(page.logs.length === 0, `no errors of the page: ${page.logs.join("; ")}`);
 await page.close();
 for (const [name, how] of [["dark", { width: 1400, height: 950, dark: true }], ["phone", { width: 420, height: 860, mobile: true }], ["phone-dark", { width: 420, height: 860, mobile: true, dark: true }]]) {
-  const other = await open(url, how);
+  const other = await open(`${url}#run=abc`, how);
   await shows(other, "$ ");
+  holds((await message(other)).startsWith("The link is damaged"), `${name}: a damaged link is told, and seen`);
+  await other.picture(`${folder}/${name}-message.png`);
   await other.eval("document.getElementById('screen').focus()");
   await other.type("primes 20\n");
   await shows(other, "prime 19");
   await other.picture(`${folder}/${name}.png`, { full: true });
   await panels(other, name);
+  await signs(other, name);
   holds((await other.eval("document.documentElement.scrollWidth <= innerWidth + 1")), `${name}: nothing stands beyond the right edge`);
   await other.close();
 }
