@@ -3,21 +3,19 @@ use Rattle.std.proofs.Common.{◌≡◌, ◌≤◌, ◌-◌, ℕ, zero, suc, Boo
 use Rattle.std.proofs.lemmas.List.{append-nil, map-append, replicate-append-replicate, take_more}
 use Rattle.std.proofs.lemmas.Grind.{flat_map-append}
 use Rattle.circular_buffer.specs.Buffer.{keep_last, buffer, Buffer}
-use Rattle.kernel_spec.specs.runs.Run.{Event, Run, Tick, Send, Key, Outcome, bytes_out, out}
-use Rattle.kernel_spec.specs.runs.Rounds.{events}
+use Rattle.kernel_spec.specs.runs.Run.{Event, Key, Outcome, bytes_out, out}
 use Rattle.xv_machine.specs.Meaning.{Meaning}
-use Rattle.xv_machine.specs.Reached.{AreEvents, IsEvent}
+use Rattle.xv_machine.specs.Reached.{AreEvents}
 use Rattle.xv_machine.proofs.Kept.{keep-more, keep-all}
-use Rattle.xv_session.specs.Answers.{stands, Sent}
+use Rattle.xv_session.specs.Answers.{Sent}
 use Rattle.xv_session.specs.Recorded.{Recorded}
 use Rattle.xv_session.specs.Until.{faults}
-use Rattle.debug_motion.specs.Effects.{Adds}
 use Rattle.debug_motion.specs.Sent.{Plays, Sends, last_outcome, any_fault}
 use Rattle.debug_motion.specs.Shown.{KeepsShown}
 use Rattle.debug_motion.specs.Rounds.{PlaysTelling, PlaysPart, events_of, rounds_of}
 use Rattle.debug_motion.specs.declared.output.Output.{Output}
 use Rattle.debug_motion.specs.declared.rounds.Round.{Round}
-use Rattle.debug_motion.proofs.Reached.{adds-none, adds-join, adds-still}
+use Rattle.debug_motion.proofs.Reached.{adds-none, adds-join}
 
 -- ---- lists of events and outcomes
 
@@ -28,7 +26,7 @@ pub events-go-on : (xs ys : Steps) (a b c : Meaning) → AreEvents a xs b → Ar
 events-go-on [] ys a b c same more = subst (λ (m : Meaning). AreEvents m ys c) same more
 events-go-on (x ∷ xs) ys a b c (mid, one, rest) more = (mid, one, events-go-on xs ys mid b c rest more)
 
-last-one : (xs : Steps) (e : Event) (o : Outcome) → last_outcome (xs ++ (e, o) ∷ []) ≡ Some o
+pub last-one : (xs : Steps) (e : Event) (o : Outcome) → last_outcome (xs ++ (e, o) ∷ []) ≡ Some o
 last-one [] e o = refl
 last-one (x ∷ []) e o = refl
 last-one (x ∷ y ∷ xs) e o = last-one (y ∷ xs) e o

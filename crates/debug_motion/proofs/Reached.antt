@@ -1,19 +1,16 @@
 -- Runs that are sent one by one, and where they stop.
-use Rattle.std.proofs.Common.{◌≡◌, ◌≢◌, ℕ, zero, suc, Bool, true, false, Option, None, Some, ◌+◌, ◌<◌, List, [], ◌∷◌, ◌++◌, replicate, sym, ap, ◌∙◌, subst, append_assoc, add-one, refl, arith}
+use Rattle.std.proofs.Common.{◌≡◌, ℕ, zero, suc, Bool, true, false, Option, None, Some, ◌+◌, List, [], ◌++◌, replicate, sym, ap, ◌∙◌, subst, append_assoc, add-one, refl, arith}
 use Rattle.std.proofs.lemmas.List.{append-nil, replicate-append-replicate}
 use Rattle.kernel_spec.specs.runs.Run.{Event, Run, Outcome}
 use Rattle.xv_machine.specs.Meaning.{Meaning}
-use Rattle.xv_session.specs.Answers.{stands, Sent, Found}
+use Rattle.xv_session.specs.Answers.{stands, Found}
 use Rattle.xv_session.specs.Recorded.{Recorded, running_of}
 use Rattle.xv_session.specs.Steps.{Advances}
-use Rattle.xv_session.specs.Until.{meets, Searched}
+use Rattle.xv_session.specs.Until.{meets}
 use Rattle.xv_session.specs.declared.running.Running.{Running}
 use Rattle.xv_session.specs.declared.until.Condition.{Condition}
 use Rattle.debug_motion.specs.Effects.{Adds, AddsRuns}
-use Rattle.debug_motion.specs.Reaching.{NoneMet, LastMet, Reaches, meets_aim}
-use Rattle.debug_motion.specs.declared.aiming.Aim.TheVariants.{Nothing}
-use Rattle.debug_motion.specs.declared.journey.Stop.{Stop}
-use Rattle.debug_motion.specs.declared.journey.Stop.TheVariants.{Met}
+use Rattle.debug_motion.specs.Reaching.{NoneMet, LastMet}
 
 -- ---- events that are added
 
@@ -44,13 +41,6 @@ last-met test n o before last old mid new none one met is = subst (λ k. LastMet
 
 pub none-still : (test : Meaning → Outcome → Meaning → Bool) (n : ℕ) (last : Option Outcome) (old mid new : Recorded) → NoneMet test n last (running_of old) (running_of mid) → new ≡ mid → NoneMet test n last (running_of old) (running_of new)
 none-still test n last old mid new none same = subst (λ (s : Recorded). NoneMet test n last (running_of old) (running_of s)) (sym same) none
-
--- where nothing is waited for, no Run is it
-pub never_met : (stop : Stop) (n : ℕ) (last : Option Outcome) (old new : Running) → Reaches (meets_aim Nothing) stop n last old new → stop ≢ Met
-never_met stop n last old new reaches is = impossible n last old new (subst (λ (s : Stop). Reaches (meets_aim Nothing) s n last old new) is reaches) where
-  impossible : (n : ℕ) (last : Option Outcome) (old new : Running) → LastMet (meets_aim Nothing) n last old new → ⊥
-  impossible zero last old new none = none
-  impossible (suc n) last old new (mid, o, before, none, one, met, is) = let bad : ⊥ = cc in bad
 
 -- ---- a search of one Run
 

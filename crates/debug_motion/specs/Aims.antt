@@ -12,7 +12,7 @@ use Rattle.kcall_core.specs.Observers.{registers_of}
 use Rattle.xv_session.specs.Looking.{next_step_of}
 use Rattle.xv_session.specs.declared.looking.NextStep.{NextStep}
 use Rattle.debug_motion.specs.declared.aiming.Aim.{Aim}
-use Rattle.debug_motion.specs.declared.aiming.Aim.TheVariants.{Nothing, Anything, Step, Answer as Answers, Return}
+use Rattle.debug_motion.specs.declared.aiming.Aim.TheVariants.{Anything, Step, Answer as Answers, Return}
 use Rattle.debug_motion.specs.declared.aiming.Leads.{Leads}
 use Rattle.debug_motion.specs.declared.aiming.Leads.TheVariants.{Kernel, Function, Other}
 
@@ -95,7 +95,6 @@ is_answer_to p _ = false
 
 -- an event of which this came, and which left this world, is what is waited for
 abbrev pub meets : Aim → Outcome → World → Bool
-meets Nothing o w = false
 meets Anything o w = true
 meets (Step pid) o w = is_step_of pid o
 meets (Answers pid) o w = is_answer_to pid o

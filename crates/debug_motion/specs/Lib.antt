@@ -1,5 +1,6 @@
 pub mod Aims
 pub mod Effects
+pub mod Ran
 pub mod Reaching
 pub mod Resting
 pub mod Rounds

@@ -1,5 +1,5 @@
 -- Events that are sent one by one, and what the console shows of them.
-use Rattle.std.specs.Prelude.{◌≡◌, ℕ, List, [], ◌∷◌, Bool, false, ◌||◌, Option, None, Some}
+use Rattle.std.specs.Prelude.{◌≡◌, List, [], ◌∷◌, Bool, false, ◌||◌, Option, None, Some}
 use Rattle.kernel_spec.specs.runs.Run.{Event, Outcome, out}
 use Rattle.kernel_spec.specs.runs.Rounds.{events}
 use Rattle.xv_machine.specs.Reached.{AreEvents}

@@ -20,8 +20,6 @@ const STACK_POINTER: u8 = 2;
 /// What Runs are sent for.
 #[derive(Clone, Copy)]
 pub enum Aim {
-    /// Nothing: no Run is what is waited for.
-    Nothing,
     /// Any event.
     Anything,
     /// The process's next step, which may be its end.
@@ -165,7 +163,6 @@ pub(crate) fn is_met(aim: &Aim, outcome: &Outcome, machine: &Machine) -> bool
     ensures { result ≡ meant.meets aim.now (outcome_of outcome.now) machine.now.world }
 {
     match *aim {
-        Aim::Nothing => false,
         Aim::Anything => true,
         Aim::Step(pid) => is_step(outcome, pid),
         Aim::Answer(pid) => is_answer(outcome, pid),

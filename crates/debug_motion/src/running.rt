@@ -5,25 +5,44 @@ ghost use Rattle.xv_session.specs.Recorded.{running_of};
 ghost use Rattle.xv_session.specs.Until.{meets};
 ghost use Rattle.debug_motion.specs.Aims.{aim_in};
 ghost use Rattle.debug_motion.specs.Effects.{AddsRuns};
+ghost use Rattle.debug_motion.specs.Ran.{Ran};
 ghost use Rattle.debug_motion.specs.Reaching.{Reaches, meets_aim};
 ghost use Rattle.debug_motion.specs.Resting.{RestsIf};
 
 use crate::aiming::{Aim, aim_in, is_met};
 use crate::journey::{Journey, Stop};
 use crate::resting::rest_of;
+use crate::stretches::send_stretch;
 use xv_machine::Event;
 use xv_session::{Condition, Session};
 
-/// Sends so many Runs, and none more where nobody may run.
-#[tactic(auto, using(crate::proofs::Reached::never_met))]
+/// Sends so many Runs, and none more if nobody may run. Instructions that follow one another are sent at once, since
+/// nothing is waited for among them.
+#[tactic(auto, using(crate::proofs::Stretched::rest_unmet))]
 pub fn step(session: &mut Session, count: u32) -> Journey
-    ensures added { AddsRuns result.sent session.old session.new }
+    ensures ran { Ran result.sent (option_map outcome_of result.last) session.old session.new }
     ensures within { result.sent ≤ count }
     ensures all { result.stop ≡ Stop.Done → result.sent ≡ count }
     ensures unmet { result.stop ≢ Stop.Met }
     ensures rests { RestsIf result.stop session.new.machine.world }
 {
-    run_to(session, count, &Aim::Nothing)
+    let mut sent: u32 = 0;
+    let mut last = None;
+    'runs: while sent < count {
+        if let Some(stop) = rest_of(session.machine()) {
+            return Journey::new(u64::from(sent), stop, last);
+        }
+        match send_stretch(session, count - sent) {
+            Ok(runs) => {
+                sent += runs.sent;
+                last = Some(runs.last);
+            }
+            Err(error) => {
+                return Journey::new(u64::from(sent), Stop::Refused(error), last);
+            }
+        }
+    }
+    Journey::new(u64::from(sent), Stop::Done, last)
 }
 
 /// Sends Runs, so many at most, up to the end of the instruction of the process that runs, and of the function or the

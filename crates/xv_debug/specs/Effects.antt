@@ -16,6 +16,7 @@ use Rattle.debug_words.specs.declared.vocabulary.Word.TheVariants.{Step, Next, B
 use Rattle.debug_words.specs.Ranges.{IsInRange}
 use Rattle.debug_motion.specs.Aims.{aim_in}
 use Rattle.debug_motion.specs.Effects.{AddsRuns}
+use Rattle.debug_motion.specs.Ran.{Ran}
 use Rattle.debug_motion.specs.Reaching.{Reaches, IsRefusal, meets_aim}
 use Rattle.debug_motion.specs.Resting.{RestsIf}
 use Rattle.debug_motion.specs.Rounds.{RoundsLeave}
@@ -42,11 +43,12 @@ IsConditionOf last Exit w answer = answer ≡ Some waits_for.Exit
 
 -- ---- what the words leave
 
--- So many Runs were sent, or fewer, where nobody may run or the session keeps no more events
+-- So many Runs were sent, or fewer, where nobody may run or the session keeps no more events; and it is known what came of the last
 pub record Steps (count : ℕ) (old new : Recorded) : Type 0 where
   pub stop : Stop
   pub sent : ℕ
-  pub added : AddsRuns sent old new
+  pub last : Option Outcome
+  pub ran : Ran sent last old new
   pub within : sent ≤ count
   pub all : stop ≡ Done → sent ≡ count
   pub unmet : stop ≢ Met

@@ -1,4 +1,4 @@
-use Rattle.std.proofs.Common.{◌≡◌, ◌≤◌, ◌+◌, ◌++◌, false, true, sym, subst, arith}
+use Rattle.std.proofs.Common.{◌≤◌, ◌+◌, ◌++◌, false, true, sym, subst, arith}
 use Rattle.debug_motion.specs.Rounds.{RoundsLeave, PlaysToFault, PlaysPart, events_of, rounds_of}
 use Rattle.debug_motion.specs.declared.journey.Stop.{Stop}
 use Rattle.debug_motion.proofs.Played.{plays-those, plays-join, telling-those, telling-join, telling-nothing, rounds-more, rounds-part, part-those, part-of-all}

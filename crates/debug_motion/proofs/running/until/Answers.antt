@@ -1,4 +1,4 @@
-use Rattle.std.proofs.Common.{◌≡◌, ◌+◌, ◌∙◌, true, false, Some, option_map, refl, sym, ap, subst}
+use Rattle.std.proofs.Common.{◌+◌, ◌∙◌, option_map, sym, subst}
 use Rattle.kernel_spec.specs.runs.Run.{Run}
 use Rattle.xv_machine.specs.Events.{outcome_of}
 use Rattle.xv_session.specs.Recorded.{running_of}

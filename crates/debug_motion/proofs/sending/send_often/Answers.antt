@@ -1,4 +1,4 @@
-use Rattle.std.proofs.Common.{◌≡◌, ℕ, List, [], ◌∷◌, ◌++◌, ◌+◌, ◌∙◌, Some, option_map, replicate, refl, sym, ap, subst, arith}
+use Rattle.std.proofs.Common.{◌≡◌, ℕ, List, [], ◌∷◌, ◌++◌, ◌+◌, Some, option_map, replicate, refl, sym, subst, arith}
 use Rattle.xv_machine.specs.Events.{event_of, outcome_of}
 use Rattle.debug_motion.specs.Sent.{Sends}
 use Rattle.debug_motion.specs.Shown.{KeepsShown}

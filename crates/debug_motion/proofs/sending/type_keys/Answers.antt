@@ -1,4 +1,4 @@
-use Rattle.std.proofs.Common.{◌≡◌, ℕ, List, [], ◌∷◌, ◌++◌, ◌+◌, ◌∙◌, Some, option_map, map, take, length, get_or, refl, sym, ap, subst, arith}
+use Rattle.std.proofs.Common.{◌≡◌, ℕ, List, [], ◌∷◌, ◌++◌, ◌+◌, Some, option_map, map, take, length, get_or, refl, sym, subst, arith}
 use Rattle.kernel_spec.specs.runs.Run.{Key}
 use Rattle.xv_machine.specs.Events.{outcome_of}
 use Rattle.debug_motion.specs.Sent.{Sends}
