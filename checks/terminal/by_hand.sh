@@ -86,11 +86,22 @@ find_machine() {
     exit 1
 }
 
-# Starts the machine with these words, and waits for the prompt of its shell, unless $2 is none.
-start() {
+# Clears the screen, and waits until the host's prompt stands there alone.
+clear_screen() {
     text 'clear'
     keys Enter
-    wait_for 50 '^host> *$'
+    left=$((50 * ${PATIENCE-1}))
+    while [ "$left" -gt 0 ]; do
+        [ "$(screen | sed 's/ *$//')" != 'host>' ] || return 0
+        sleep 0.1
+        left=$((left - 1))
+    done
+    complain "the screen isn't cleared"
+}
+
+# Starts the machine with these words, and waits for the prompt of its shell, unless $2 is none.
+start() {
+    clear_screen
     text "programs/host/terminal.sh $1; echo status \$?"
     keys Enter
     [ "${2-}" = none ] || wait_for 100 '^\$ *$'
@@ -171,6 +182,7 @@ line 'cat | wc' 50 'wc$'
 keys C-c
 wait_for 50 '^(xv) *$'
 line 'ps' 50 '^(xv) *$'
+line 'fds' 50 '^(xv) *$'
 line 'c' 50 'c$'
 line 'now it is typed' 50 'typed$'
 keys C-d
@@ -189,7 +201,22 @@ for _ in 1 2 3 4 5 6 7 8 9 10; do
 done
 keys C-c
 wait_for 50 '^(xv) *$'
+line 'where' 50 '^(xv) *$'
+line 'fds' 50 '^(xv) *$'
 shoot hang
+
+# Back to the boot, forth to the read, an instruction back, and on: it hangs again.
+line 'back 1000000' 50 '^(xv) *$'
+screen | tail -4 | grep -q '^at 0, 0 ticks: nobody runs' || complain "back doesn't lead to the boot"
+line 'until call read' 50 '^(xv) *$'
+line 'back' 50 '^(xv) *$'
+line 'step' 50 '^(xv) *$'
+shoot back
+line 'c' 50 'c$'
+sleep 1
+keys C-c
+wait_for 50 '^(xv) *$'
+screen | tail -4 | grep -q 'the reader itself' || complain "the machine doesn't go on"
 line 'quit' 50 '^status' 3
 ended 4
 

@@ -14,9 +14,11 @@
 #   == shows      what standard output must have, as `cat -v` writes it
 #   == errors     what standard error must have, as `cat -v` writes it; without this part it isn't looked at
 #   == status     the exit status that is wanted; without this part 0
+#   == again      what standard output must have if the record of the session is played, as `cat -v` writes it; without this
+#                 part the same bytes as in the session
 #
 # The last line of keys and of what is shown ends in \c where no line's end follows. A session with keys is recorded,
-# and its record is played: the same bytes must come out.
+# and its record is played.
 set -u
 here=$(cd "$(dirname "$0")" && pwd) || exit 2
 top=$here/../..
@@ -105,10 +107,14 @@ check() {
     is_part shows "$room/=out" || return 1
     is_part errors "$room/=err" || return 1
     [ -e "$room/=new" ] || return 0
-    "$program" --apart --replay "$room/=new" $(words) </dev/null >"$room/=again" 2>/dev/null
+    "$program" --apart --replay "$room/=new" $(words) </dev/null >"$room/=played" 2>/dev/null
     status=$?
     [ "$status" = "$wanted" ] || { echo "$name: played again its status is $status"; return 1; }
-    cmp -s "$room/=out" "$room/=again" || { echo "$name: played again it shows other bytes"; return 1; }
+    if [ -e "$room/=again" ]; then
+        is_part again "$room/=played"
+    else
+        cmp -s "$room/=out" "$room/=played" || { echo "$name: played again it shows other bytes"; return 1; }
+    fi
 }
 
 [ $# -gt 0 ] || set -- "$here"/*.txt

@@ -8,27 +8,7 @@ set -u
 root=$(dirname "$(readlink -f -- "$0")")/../..
 program=${XV_DEBUGGER:-$root/crates/xv_debugger/out/xv_debugger}
 
-# The words that are no option stay: the FILEs.
-files() {
-    before=
-    for word; do
-        case $before in
-            --frames | --trace) before= && continue ;;
-        esac
-        before=$word
-        case $word in
-            -*) ;;
-            *) printf '%s\n' "$word" ;;
-        esac
-    done
-}
-
-IFS='
-'
-set -f
-# A path may hold a blank, and no line's end.
-# shellcheck disable=SC2046
-table=$("$root/programs/host/lines.sh" $(files "$@"))
+table=$("$root/programs/host/lines.sh" "$@")
 [ ! -t 0 ] || set -- --prompt "$@"
 exec "$program" --lines /dev/fd/3 "$@" 3<<END
 $table

@@ -3,9 +3,9 @@
 # instructions are of a line, where PLACE is the FILE's, from 0 on, and both numbers are decimal. A row without a LINE ends
 # what is known.
 #
-#   programs/host/lines.sh FILE..
+#   programs/host/lines.sh [OPTION..] FILE..
 #
-# The lines of a C program come from FILE.debug or FILE by readelf (Debian: binutils); the lines and labels of an
+# The options are those of the programs that run FILEs: they are passed over. The lines of a C program come from FILE.debug or FILE by readelf (Debian: binutils); the lines and labels of an
 # assembler source from the source. A FILE that has neither gets no row.
 set -u
 functions=$(cat "$(dirname "$(readlink -f -- "$0")")/source.awk")
@@ -56,8 +56,17 @@ $2 ~ /^([0-9]+|-)$/ && $3 ~ /^(0x[0-9a-f]+|0)$/ {
 }'
 }
 
+# The words that are no option, and no value of one, are the FILEs.
 place=0
+before=
 for file; do
+    case $before in
+        --frames | --trace | --tick | --record | --replay) before= && continue ;;
+    esac
+    before=$file
+    case $file in
+        -*) continue ;;
+    esac
     case $file in
         *.s) of_source "$place" "$file" ;;
         *)

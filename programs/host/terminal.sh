@@ -3,8 +3,9 @@
 # them). Without words it runs the shell with all programs that stand in programs/bin.
 #
 # If standard input is a terminal, it hands over each key by itself while the machine runs, and a look at it answers at
-# once. It is as it was behind every end that the script can see, also one by a signal. XV_TERMINAL is the program, and
-# without it the one that is built. Status 125 says that it couldn't be started.
+# once. It is as it was behind every end that the script can see, also one by a signal. The lines of the sources, for the
+# prompt, come from lines.sh. XV_TERMINAL is the program, and without it the one that is built. Status 125 says that it
+# couldn't be started.
 set -u
 
 give_up() {
@@ -30,6 +31,7 @@ fi
 [ -t 0 ] || exec "$program" "$@"
 
 command -v stty >/dev/null || give_up "there is no stty on the PATH (Debian: coreutils), by which each key is handed over"
+table=$("$top/programs/host/lines.sh" "$@" 2>/dev/null)
 before=$(stty -g) || give_up "the terminal doesn't tell how it is set"
 machine=
 restore() {
@@ -50,7 +52,9 @@ trap 'stop 143' TERM
 # Keys one by one, none of them a signal's; a read answers with what is there, or with nothing.
 stty -icanon -echo -isig -iexten -ixon min 0 time 0 || { restore; give_up "the terminal can't be set"; }
 exec 3<&0
-"$program" --terminal "$@" <&3 3<&- &
+"$program" --terminal --lines /dev/fd/4 "$@" <&3 3<&- 4<<END &
+$table
+END
 machine=$!
 wait "$machine"
 status=$?

@@ -1,3 +1,4 @@
+pub mod Conversed
 pub mod PipeBytes
 pub mod Results
 pub mod Searching

@@ -1,3 +1,4 @@
+pub mod Conversations
 pub mod Effects
 pub mod Focus
 pub mod Instructions

@@ -72,7 +72,7 @@ pub(crate) struct Conversation {
 }
 
 impl Conversation {
-    ghost use Rattle.xv_debugger.specs.Conversations.{Converses, MovesByWord};
+    ghost use Rattle.xv_debug.specs.Conversations.{Converses, MovesByWord};
 
     /// Obeys a line, and writes its answer.
     fn obey<W: Write>(
@@ -115,7 +115,7 @@ impl Conversation {
     /// # Errors
     ///
     /// The input or the output failed, or the host has too little memory for an answer.
-    #[tactic(auto, using(crate::proofs::Lines::no_line, crate::proofs::Lines::one_more))]
+    #[tactic(auto, using(xv_debug::proofs::Conversed::no_line, xv_debug::proofs::Conversed::one_more))]
     pub(crate) fn converse<R: BufRead, W: Write>(
         &mut self,
         alloc: Global,

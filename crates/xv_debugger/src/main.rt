@@ -1,7 +1,7 @@
 //! The debugger as a program: it boots a machine of the programs that the command line names, reads words from
 //! standard input, a line each, and writes their answers to standard output.
 //!
-//! What a word does to the machine is promised by `xv_debug`, and that nothing else is done to it by
+//! What a word does to the machine is promised by `xv_debug`, and that nothing else is done to it by `Converses` of its
 //! `specs/Conversations.antt`. The answers' text is compared with stored sessions (`checks/debugger`).
 #![tactic(auto)]
 

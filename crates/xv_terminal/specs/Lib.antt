@@ -2,4 +2,5 @@ pub mod Lines
 pub mod Records
 pub mod Settings
 pub mod Statuses
+pub mod Stretches
 pub mod Tells

@@ -1,5 +1,5 @@
 -- The exit status of a session.
-use Rattle.std.specs.Prelude.{◌≡◌, ℕ, zero, suc, ℤ, pos, negsuc, Some, ⊤}
+use Rattle.std.specs.Prelude.{◌≡◌, ℕ, zero, suc, ℤ, pos, negsuc, None, Some}
 use Rattle.xv_session.specs.Recorded.{Recorded}
 use Rattle.xv_live.specs.Resting.{NothingHappens}
 use Rattle.xv_live.specs.declared.trouble.Trouble.{Trouble}
@@ -22,12 +22,12 @@ end_status ends.Asked = 4
 end_status ends.NoKeys = 4
 end_status ends.Played = 4
 
--- A session is said to have ended by the end of process 1 only if it did, with this status; and since no key will come only if nothing happens without one
+-- A session is said to have ended by the end of process 1 only if it did, with this status; since that was asked for, or since its record is over, only if process 1 isn't gone; and since no key will come only if nothing happens without one
 abbrev pub IsEndOf : Recorded → End → Type 0
 IsEndOf s (ends.Halted status) = s.machine.world.turns.halted ≡ Some status
-IsEndOf s ends.Asked = ⊤
+IsEndOf s ends.Asked = s.machine.world.turns.halted ≡ None
 IsEndOf s ends.NoKeys = NothingHappens s.machine.world
-IsEndOf s ends.Played = ⊤
+IsEndOf s ends.Played = s.machine.world.turns.halted ≡ None
 
 -- the exit status for a trouble
 abbrev pub trouble_status : Trouble → ℕ

@@ -1,85 +1,23 @@
 //! A session, from the files to its end.
-use crate::NAME;
-use crate::conversing::live;
+use crate::conversing::{live, replay};
 use crate::host::Desk;
 use crate::line::Settings;
 use crate::notes::{Notes, OpenLine};
 use crate::recording::write_record;
+use crate::refusal::Refusal;
+use crate::sources::sources;
 use crate::telling::PLAYED_AGAIN;
-use program_files::{FileRefusal, programs};
+use program_files::programs;
 use std::alloc::Global;
 use std::fs::{self, File};
 use std::io::{ErrorKind, Write};
 use std::time::Duration;
-use thiserror::Error;
 use xk_base::{BootError, Program};
+use xv_debug::Debugger;
 use xv_live::Screen;
-use xv_machine::{Config, Counted};
-use xv_record::{Record, RecordError, RecordRefusal, chosen, read_record};
+use xv_machine::{ByteSink, Config, Counted};
+use xv_record::{Record, RecordError, chosen, read_record};
 use xv_session::Session;
-
-/// Why no session begins.
-#[derive(Debug, Drop, Error)]
-enum Refusal<'a> {
-    /// A FILE is refused.
-    #[error("{0}")]
-    File(FileRefusal<'a>),
-    /// The record of this path can't be read.
-    #[error("{0}: cannot be read")]
-    Unread(&'a str),
-    /// The file of this path isn't a record.
-    #[error("{0}: {1}")]
-    NoRecord(&'a str, RecordError),
-    /// The record can't be played with these FILEs.
-    #[error("{0}")]
-    Record(RecordRefusal<'a>),
-    /// The file of this path, which is to have the record, can't be written.
-    #[error("{0}: cannot be written")]
-    Unwritten(&'a str),
-    /// The machine doesn't boot.
-    #[error("boot: {0}")]
-    Boot(BootError),
-    /// The host has too little memory.
-    #[error("out of memory")]
-    Memory,
-}
-
-impl Refusal<'_> {
-    // Tells why no session begins, and gives the exit status. A line that can't be written is left out.
-    fn close<E: Write>(&self, errors: &mut E) -> u8 {
-        let _ = writeln!(errors, "{NAME}: {self}");
-        match self {
-            Refusal::Unwritten(_) => 5,
-            Refusal::File(_)
-            | Refusal::Unread(_)
-            | Refusal::NoRecord(..)
-            | Refusal::Record(_)
-            | Refusal::Boot(_)
-            | Refusal::Memory => 2,
-        }
-    }
-}
-
-impl<'a> From<FileRefusal<'a>> for Refusal<'a> {
-    fn from(refusal: FileRefusal<'a>) -> Self {
-        Refusal::File(refusal)
-    }
-}
-
-impl<'a> From<RecordRefusal<'a>> for Refusal<'a> {
-    fn from(refusal: RecordRefusal<'a>) -> Self {
-        Refusal::Record(refusal)
-    }
-}
-
-impl From<BootError> for Refusal<'_> {
-    fn from(error: BootError) -> Self {
-        match error {
-            BootError::Memory => Refusal::Memory,
-            _ => Refusal::Boot(error),
-        }
-    }
-}
 
 // The record in the file of this path.
 fn record_in<'a>(rt: &HostRuntime, path: &'a str) -> Result<Record, Refusal<'a>> {
@@ -121,10 +59,24 @@ fn record_file<'a>(
     }
 }
 
-// A session that has booted, up to its end, which is told; then its record is written.
-fn attend_to<'a>(
+// Attends to a session at the keyboard up to its end, which is told.
+fn attend_to<W: ByteSink, E: Write>(
     rt: &HostRuntime,
     session: &mut Session,
+    debugger: &mut Debugger,
+    settings: &Settings,
+    screen: &mut Screen<W, Notes<E>>,
+) -> u8 {
+    let tick = Duration::from_millis(u64::from(settings.tick));
+    let mut desk = Desk::new(rt.stdin(), rt, settings.terminal, tick);
+    live(session, &mut desk, debugger, screen)
+}
+
+// A session that has booted, up to its end, which is told; then its record is written.
+fn go_through<'a>(
+    rt: &HostRuntime,
+    session: &mut Session,
+    debugger: &mut Debugger,
     settings: &'a Settings,
     record: Option<&Record>,
 ) -> Result<u8, Refusal<'a>> {
@@ -140,9 +92,10 @@ fn attend_to<'a>(
         sink: Counted::new(rt.stdout()),
         teller: notes,
     };
-    let tick = Duration::from_millis(u64::from(settings.tick));
-    let mut desk = Desk::new(rt.stdin(), rt, settings.terminal, tick);
-    let status = live(session, &mut desk, record, &mut screen);
+    let status = match record {
+        Some(record) => replay(session, record, &mut screen),
+        None => attend_to(rt, session, debugger, settings, &mut screen),
+    };
     let Some(mut file) = file else {
         return Ok(status);
     };
@@ -157,8 +110,9 @@ fn attend_to<'a>(
 fn begin<'a>(rt: &HostRuntime, settings: &'a Settings) -> Result<u8, Refusal<'a>> {
     let programs = programs(rt, settings.files.as_slice())?;
     let Some(path) = &settings.replay else {
+        let mut debugger = Debugger::with_sources(sources(rt, settings)?);
         let mut session = boot(rt.alloc(), settings.frames, settings.trace, programs)?;
-        return attend_to(rt, &mut session, settings, None);
+        return go_through(rt, &mut session, &mut debugger, settings, None);
     };
     let record = record_in(rt, path.as_str())?;
     begin_record(rt, settings, programs, &record)
@@ -176,7 +130,13 @@ fn begin_record<'a>(
         Err(refusal) => return Ok(Refusal::Record(refusal).close(&mut rt.stderr())),
     };
     let mut session = boot(rt.alloc(), record.frames, settings.trace, programs)?;
-    attend_to(rt, &mut session, settings, Some(record))
+    go_through(
+        rt,
+        &mut session,
+        &mut Debugger::new(),
+        settings,
+        Some(record),
+    )
 }
 
 /// Does what the settings ask for, and gives the exit status.

@@ -27,7 +27,7 @@ A FILE is named by the last part of its path. If that ends in .s, the file is as
 and is named without the .s. The program named init runs first.
 
 programs/host/terminal.sh prepares the terminal for it. Keys go to the machine, but for these:
-  Ctrl-C  stops the machine and opens a prompt, at which `c` goes on
+  Ctrl-C  stops the machine and opens the debugger's prompt: help lists its words, c goes on
   Ctrl-P  tells the processes
   Ctrl-\\  ends the machine
 What the machine sends goes to standard output, all else to standard error.
@@ -69,6 +69,11 @@ fn command<'a>(alloc: Global) -> Result<Command<'a>, clap::Error> {
             "Writes the session's record into this file",
         ))?
         .arg(path_option(alloc, "replay", "Plays the record of this file"))?
+        .arg(path_option(
+            alloc,
+            "lines",
+            "A file with rows PROGRAM ADDRESS LINE in decimal numbers, for the prompt",
+        ))?
         .arg(flag(
             alloc,
             "terminal",
@@ -108,6 +113,7 @@ pub fn settings<S: AsStr>(alloc: Global, words: &[S]) -> Result<Settings, WordsE
         tick,
         record: path(alloc, &matches, "record")?,
         replay: path(alloc, &matches, "replay")?,
+        lines: path(alloc, &matches, "lines")?,
         terminal: matches.get_flag("terminal"),
         apart: matches.get_flag("apart"),
         files,

@@ -13,6 +13,8 @@ pub struct Settings {
     pub record: Option<String>,
     /// The path of the record that is played.
     pub replay: Option<String>,
+    /// The path of a table of lines.
+    pub lines: Option<String>,
     /// Whether standard input is a terminal whose reads answer at once.
     pub terminal: bool,
     /// Whether standard error isn't the terminal.

@@ -1,8 +1,9 @@
 //! The machine for people at a terminal.
 //!
 //! Keys go in as they are typed, what the machine sends comes out at once, and the clock ticks by the host's clock.
-//! While a process may run the machine runs at full speed, and while all sleep it takes no time. Ctrl-C opens the
-//! prompt at which it is stopped, Ctrl-P tells the processes, and Ctrl-\ ends the machine. A session can be recorded and played again.
+//! While a process may run the machine runs at full speed, and while all sleep it takes no time. Ctrl-C stops it and
+//! opens the prompt of the debugger (`xv_debug`), Ctrl-P tells the processes, and Ctrl-\ ends the machine. A session can
+//! be recorded and played again.
 //!
 //! `programs/host/terminal.sh` prepares the terminal for it. Standard output has what the machine sends, and nothing
 //! else; all that is told about it goes to standard error.
@@ -17,17 +18,18 @@ mod line;
 mod line_editor;
 mod notes;
 mod recording;
+mod refusal;
+mod sources;
 mod stopping;
 mod telling;
 #[cfg(test)]
 mod tests;
 mod trouble;
-mod words;
 
 use crate::beginning::run;
 use crate::command_line::{not_text, settings};
 use crate::trouble::Failure;
-use program_files::words as words_of;
+use program_files::words;
 use std::io::ErrorKind;
 use std::process::ExitCode;
 use xv_live::Trouble;
@@ -37,7 +39,7 @@ const NAME: &str = "xv_terminal";
 
 // Does what the words ask for.
 fn obey(rt: &HostRuntime) -> u8 {
-    let asked = match words_of(rt) {
+    let asked = match words(rt) {
         Ok(words) => settings(rt.alloc(), words.as_slice()),
         Err(ErrorKind::InvalidData) => Err(not_text(rt.alloc())),
         Err(_) => return Failure::Trouble(Trouble::Memory).close(&mut rt.stderr()),

@@ -91,6 +91,12 @@ impl<E: Write> Notes<E> {
         let _ = writeln!(self.errors, "{text}");
     }
 
+    /// Writes a text as it is. What can't be written is left out.
+    pub fn write_text(&mut self, text: &str) {
+        let _ = self.errors.write_all(text.as_bytes());
+        let _ = self.errors.flush();
+    }
+
     /// Tells a note, a line or more, which doesn't tear what the screen shows. A note that can't be written is left
     /// out.
     pub fn note<T: Display + Drop>(&mut self, text: T) {

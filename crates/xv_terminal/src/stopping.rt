@@ -1,9 +1,11 @@
-//! The prompt at which the machine is stopped.
+//! The prompt at which the machine is stopped, and the debugger is asked.
+ghost use Rattle.xv_debug.specs.Conversations.{Converses, MovesByWord};
+
 use crate::line_editor::{Edit, LineEditor};
 use crate::notes::Notes;
 use crate::telling::tell_waits;
-use crate::words::{self, Next};
 use std::io::Write;
+use xv_debug::{Debugger, Next};
 use xv_live::{Host, Look, Trouble};
 use xv_session::Session;
 
@@ -69,47 +71,61 @@ fn read_line<H: Host, E: Write>(
 }
 
 // Obeys a line, and writes its answer.
-fn obey<E: Write>(session: &Session, line: &[u8], notes: &mut Notes<E>) -> Next {
+fn obey<E: Write>(
+    session: &mut Session,
+    line: &[u8],
+    debugger: &mut Debugger,
+    notes: &mut Notes<E>,
+) -> Result<Next, Trouble>
+    ensures { MovesByWord session.old session.new }
+{
     let Ok(line) = std::str::from_utf8(line) else {
-        return Next::Stays;
+        return Ok(Next::Stays);
     };
-    let next = words::obey(session, line, notes);
-    let _ = notes.errors.flush();
-    next
+    let mut answer = String::new(notes.alloc);
+    let next = debugger.obey(notes.alloc, session, line, &mut answer)?;
+    notes.write_text(answer.as_str());
+    Ok(next)
 }
 
 // A line at the prompt, and what comes behind it.
-fn converse<H: Host, E: Write>(
-    session: &Session,
+fn exchange<H: Host, E: Write>(
+    session: &mut Session,
     host: &mut H,
+    debugger: &mut Debugger,
     notes: &mut Notes<E>,
-) -> Result<Next, Trouble> {
-    let _ = notes.errors.write_all(PROMPT.as_bytes());
-    let _ = notes.errors.flush();
+) -> Result<Next, Trouble>
+    ensures { MovesByWord session.old session.new }
+{
+    notes.write_text(PROMPT);
     let mut editor = LineEditor::new();
     match read_line(host, &mut editor, &mut notes.errors)? {
-        Line::Typed => Ok(obey(session, editor.bytes(), notes)),
+        Line::Typed => obey(session, editor.bytes(), debugger, notes),
         Line::GoesOn => Ok(Next::Continues),
         Line::Ends => Ok(Next::Ends),
     }
 }
 
 /// Stops the machine at the prompt, up to a word that lets it go on or ends it. The first lines tell why each process
-/// doesn't go on.
+/// doesn't go on. The lines that are typed are the debugger's.
 ///
 /// # Errors
 ///
-/// The trouble that the keyboard has.
+/// The trouble that the keyboard has; [`Trouble::Memory`] if there is too little for an answer.
+#[tactic(auto, using(xv_debug::proofs::Conversed::no_line, xv_debug::proofs::Conversed::one_more))]
 pub fn stop<H: Host, E: Write>(
-    session: &Session,
+    session: &mut Session,
     host: &mut H,
+    debugger: &mut Debugger,
     notes: &mut Notes<E>,
-) -> Result<Next, Trouble> {
+) -> Result<Next, Trouble>
+    ensures { Converses session.old session.new }
+{
     notes.break_line();
     notes.write_note(WELCOME);
     tell_waits(session, notes);
-    for _ in 0..u64::MAX {
-        let next = converse(session, host, notes)?;
+    'lines: for _ in 0..u64::MAX {
+        let next = exchange(session, host, debugger, notes)?;
         if next != Next::Stays {
             notes.end_notes();
             return Ok(next);

@@ -1,4 +1,4 @@
-use Rattle.xv_debugger.specs.Conversations.{Converses}
+use Rattle.xv_debug.specs.Conversations.{Converses}
 use Rattle.xv_debugger.proofs.conversation.Conversation.converse.Given as goal
 
 abbrev pub invariant-loop : goal.invariant-loop

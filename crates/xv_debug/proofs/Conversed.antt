@@ -1,7 +1,7 @@
 -- Lines, one behind another.
 use Rattle.std.proofs.Common.{suc, refl}
 use Rattle.xv_session.specs.Recorded.{Recorded}
-use Rattle.xv_debugger.specs.Conversations.{Converses, MovesByWord}
+use Rattle.xv_debug.specs.Conversations.{Converses, MovesByWord}
 
 -- none yet
 pub no_line : (s : Recorded) → Converses s s

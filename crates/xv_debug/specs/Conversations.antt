@@ -1,4 +1,4 @@
--- What a conversation does to a session.
+-- What lines of words, one behind another, do to a session.
 use Rattle.std.specs.Prelude.{◌≡◌, ◌⊎◌, ℕ, zero, suc, Option}
 use Rattle.xv_session.specs.Recorded.{Recorded}
 use Rattle.xv_debug.specs.Effects.{DoesSome}
