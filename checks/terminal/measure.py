@@ -2,8 +2,8 @@
 """Measures xv_terminal, beside xv_run, in one run: checks/terminal/measure.py [XV_TERMINAL [XV_RUN]].
 
 speed  a program that computes, by both programs in turn: the ratio of the least processor times, which is to be 0.8 at least
-echo   how long a key takes to be echoed while a program computes, and while one forks: 20 milliseconds at most, if a
-       processor is free; and how much of that is processor time of xv_terminal's own
+echo   how long a key takes to be echoed while a program computes, and while one forks, the median and the worst of 100 keys:
+       20 milliseconds at most, if a processor is free; and how much of that is processor time of xv_terminal's own
 idle   the processor time that is taken while all sleep: 1 hundredth at most
 
 The programs are those that are built, unless they are given. The status is 0 if all are as they should be.
@@ -162,8 +162,10 @@ def echo(init, what):
     end(pid, fd)
     waits.sort()
     own.sort()
-    print(f"echo while it {what}: {1000 * waits[50]:.2f} ms in the middle, {1000 * waits[-1]:.2f} ms at most, of 100 keys")
-    print(f"    its own processor time: {1000 * own[50]:.2f} ms in the middle, {1000 * own[-1]:.2f} ms at most")
+    print(
+        f"echo while it {what}: median {1000 * waits[50]:.2f} ms, worst {1000 * waits[-1]:.2f} ms, of 100 keys;"
+        f" of that xv_terminal's own processor time: median {1000 * own[50]:.2f} ms, worst {1000 * own[-1]:.2f} ms"
+    )
     return waits[-1] <= 0.02
 
 
