@@ -224,8 +224,9 @@ N is 1 to 1000000.",
             Topic::Where => "\
 who runs, and the instructions from its pc on.
 Also: w.
-=> marks the instruction that is next. An instruction is told with the name of its function, if the
-program's file has a symbol table.",
+=> marks the instruction that is next. An instruction is told with its function and its line, if
+they are known: of a C program by NAME.debug beside its file, of an assembler source by its labels
+and lines. Of any other file its function is told, if it has a symbol table.",
             Topic::Registers => "\
 the registers, in hexadecimal.
 The pc, and x1 to x31 by their names in programs.",
@@ -273,7 +274,7 @@ one that made the last step.",
             Topic::Continue => "\
 leave the debugger, and let the machine go on.
 Also: continue.
-Without a terminal there is nothing to go on to: the debugger ends.",
+The machine goes on at the prompt that Ctrl-C opened. A debugger that was started alone ends.",
             Topic::Quit => "\
 end the debugger and the machine.
 Also: q.
