@@ -22,8 +22,6 @@ mod refusal;
 mod sources;
 mod stopping;
 mod telling;
-#[cfg(test)]
-mod tests;
 mod trouble;
 
 use crate::beginning::run;

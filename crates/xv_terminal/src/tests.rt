@@ -1,3 +1,0 @@
-//! What no clause says.
-mod keyboard;
-mod notes;
