@@ -1,14 +1,15 @@
 // What the panels share: the worker, the last view of the machine, the files, and who wants to hear of changes.
-import { Timeline } from "./timeline.mjs";
+import { Listed } from "./listed.mjs";
 
 export const $ = (id) => document.getElementById(id);
 
 export const app = {
   worker: null,
   view: null,
-  line: new Timeline(), // what came of the events so far, as the worker has it
+  line: new Listed(), // what came of the events so far, as the worker has it
   names: new Map(), // the program that each process of the run ran last, by its place among the files
   text: new Uint8Array(0), // the bytes that the console has shown
+  faults: [], // the faults of the run
   files: [], // {name, text} or {name, bytes}
   booted: null, // {files: [{name, bytes, text}], config}, of the machine that runs
   chosen: 0, // the process that is looked at; 0: the one that runs
@@ -50,19 +51,44 @@ export function element(name, attributes = {}, ...children) {
   return made;
 }
 
+/** Writes a text, if another one stands there: what stays as it is costs the browser nothing. */
+export function write(node, text) {
+  if (node.textContent !== text) node.textContent = text;
+}
+
 export const program_name = (place) => (place === null || place === undefined || !app.booted ? "" : app.booted.files[place]?.name ?? "");
+
+const root = document.documentElement;
+const styles = new Map(); // those of the theme that were asked for, by their name or number
+const style = (name, find) => styles.get(name) ?? styles.set(name, find()).get(name);
+export function set_theme(name) {
+  root.dataset.theme = name;
+  styles.clear();
+}
 
 const HUES = [145, 215, 28, 285, 185, 345, 60, 250, 100, 320];
 /** The colour of a process. */
 export function color_of(pid, light = 0) {
-  const dark = document.documentElement.dataset.theme === "dark";
-  return `hsl(${HUES[pid % HUES.length]} ${dark ? 48 : 55}% ${(dark ? 56 : 42) + light}%)`;
+  const hue = HUES[pid % HUES.length], dark = () => root.dataset.theme === "dark";
+  return style(1000 * light + hue, () => (dark() ? `hsl(${hue} 48% ${56 + light}%)` : `hsl(${hue} 55% ${42 + light}%)`));
 }
-export const style_of = (name) => getComputedStyle(document.documentElement).getPropertyValue(name).trim();
+export const style_of = (name) => style(name, () => getComputedStyle(root).getPropertyValue(name).trim());
+
+const sizes = new Map();
+const watch = new ResizeObserver((changes) => {
+  for (const { target } of changes) sizes.set(target, null);
+  requestAnimationFrame(() => tell("resized"));
+});
+/** The size of a canvas on the screen. It is asked for when it has changed alone: to tell it, the browser lays out the page. */
+function size_of(canvas) {
+  if (!sizes.has(canvas)) watch.observe(canvas);
+  if (!sizes.get(canvas)) sizes.set(canvas, { width: canvas.clientWidth, height: canvas.clientHeight });
+  return sizes.get(canvas);
+}
 
 /** A canvas of its size on the screen, cleared; its drawing is in CSS pixels. */
 export function fresh(canvas) {
-  const ratio = devicePixelRatio || 1, width = canvas.clientWidth, height = canvas.clientHeight;
+  const ratio = devicePixelRatio || 1, { width, height } = size_of(canvas);
   if (canvas.width !== Math.round(width * ratio) || canvas.height !== Math.round(height * ratio)) {
     canvas.width = Math.round(width * ratio);
     canvas.height = Math.round(height * ratio);

@@ -41,6 +41,16 @@ function draw() {
   $("source").style.height = "100%";
 }
 
+/** Marks the line of the pc, and no other. */
+function mark(pc) {
+  for (const of of [".ink", ".gutter"]) {
+    const lines = $("editor").querySelector(of).children;
+    lines[state.pc - 1]?.classList.remove("pc");
+    lines[pc - 1]?.classList.add("pc");
+  }
+  state.pc = pc;
+}
+
 function assemble() {
   const { file } = state;
   if (!file || !file.name.endsWith(".s")) { state.mistake = null; said("", ""); return; }
@@ -118,7 +128,7 @@ export function start() {
     }
     draw();
   });
-  on("view", () => {
+  on("panels", () => {
     const { view, booted } = app;
     let pc = null;
     if (view.registers && booted && state.file && state.layout) {
@@ -129,8 +139,7 @@ export function start() {
       }
     }
     if (pc === state.pc || (view.playing && pc === null)) return;
-    state.pc = pc;
-    draw();
+    mark(pc);
     if (pc !== null && !view.playing) {
       const row = $("editor").querySelectorAll(".ink .row")[pc - 1], box = $("editor");
       if (row && (row.offsetTop < box.scrollTop || row.offsetTop > box.scrollTop + box.clientHeight - 40)) box.scrollTop = row.offsetTop - box.clientHeight / 2;

@@ -1,5 +1,5 @@
 // The instruction that is next, with those round it, the registers, and memory.
-import { $, app, ask, element, on, program_name } from "./app.mjs";
+import { $, app, ask, element, on, program_name, write } from "./app.mjs";
 import { line_at, name_at } from "./symbols.mjs";
 import { CALLS, REGISTERS, hex, number } from "./words.mjs";
 
@@ -10,21 +10,41 @@ function symbols_of(pid) {
   return process ? app.symbols[process.program] : null;
 }
 
-function draw_code() {
-  const { view } = app, symbols = symbols_of(view.pid), pc = view.registers[0], found = [];
-  for (const it of view.code || []) {
-    const name = name_at(symbols, it.address), line = line_at(symbols, it.address);
-    if (name && !name.includes("+")) found.push(element("span", { class: "fn" }, name + ":"));
-    let note = line ? `${line.line}  ${line.text.replace(/^\w+:\s*/, "")}` : "";
-    if (it.word === 0x73 && it.address === pc) note = `call ${CALLS[Number(view.registers[17])] || view.registers[17]}`;
-    found.push(element("div", { role: "listitem", class: it.address === pc ? "pc" : "", "aria-current": it.address === pc ? "true" : null, title: `the word ${hex(BigInt(it.word >>> 0))}` }, element("span", { class: "dim" }, hex(it.address)), it.text || "no instruction", element("span", { class: "from" }, note)));
-  }
-  const box = $("code");
-  box.replaceChildren(...found);
-  const at = box.querySelector(".pc");
-  if (at) box.scrollTop = at.offsetTop - box.offsetTop - box.clientHeight / 2.6;
+/** The row of an instruction, and above it the name of what begins there. */
+function new_code_row() {
+  const name = element("span", { class: "fn" }), address = element("span", { class: "dim" }), text = document.createTextNode(""), note = element("span", { class: "from" });
+  return { name, address, text, note, row: element("div", { role: "listitem" }, address, text, note) };
 }
 
+let code_rows = [], scrolled = "";
+function draw_code() {
+  const { view } = app, symbols = symbols_of(view.pid), pc = view.registers[0], list = view.code, box = $("code");
+  if (code_rows.length !== list.length) {
+    code_rows = list.map((_, k) => code_rows[k] ?? new_code_row());
+    box.replaceChildren(...code_rows.flatMap((it) => [it.name, it.row]));
+  }
+  const heads = list.map((it) => name_at(symbols, it.address)).map((name) => (name && !name.includes("+") ? name + ":" : ""));
+  list.forEach((it, k) => {
+    const { name, address, text, note, row } = code_rows[k], line = line_at(symbols, it.address), is_next = it.address === pc;
+    let words = line ? `${line.line}  ${line.text.replace(/^\w+:\s*/, "")}` : "";
+    if (it.word === 0x73 && is_next) words = `call ${CALLS[Number(view.registers[17])] || view.registers[17]}`;
+    name.hidden = !heads[k];
+    write(name, heads[k]);
+    write(address, hex(it.address));
+    write(text, it.text || "no instruction");
+    write(note, words);
+    row.className = is_next ? "pc" : "";
+    if (is_next) row.setAttribute("aria-current", "true"); else row.removeAttribute("aria-current");
+    row.title = `the word ${hex(BigInt(it.word >>> 0))}`;
+  });
+  // While the machine plays, the pc's row stands where it stood, if there are as many rows before it.
+  const at = list.findIndex((it) => it.address === pc), above = `${at} ${heads.slice(0, at + 1).filter((it) => it).length} ${list.length}`;
+  if (at < 0 || (view.playing && above === scrolled)) return;
+  scrolled = above;
+  box.scrollTop = code_rows[at].row.offsetTop - box.offsetTop - box.clientHeight / 2.6;
+}
+
+let cells = [];
 function draw_registers() {
   const { view } = app, { registers } = view;
   // The last change stays coloured until the next event of this process.
@@ -32,16 +52,27 @@ function draw_registers() {
   if (!before || before.pid !== view.pid) changed = new Set();
   else if (before.key !== key) changed = new Set([...registers].flatMap((it, k) => (it !== before.registers[k] ? [k] : [])));
   before = { key, pid: view.pid, registers };
-  $("registers").replaceChildren(...[...registers].map((value, k) => element("div", { role: "listitem", title: `${k ? "x" + k : "pc"} = ${hex(value)} = ${BigInt.asIntN(64, value)}` }, element("b", {}, REGISTERS[k]), element("span", { class: changed.has(k) ? "new" : "" }, k < 3 ? hex(value) : number(value)))));
+  if (!cells.length) {
+    cells = REGISTERS.map((name) => ({ name, value: element("span"), told: null }));
+    $("registers").replaceChildren(...cells.map((it) => (it.row = element("div", { role: "listitem" }, element("b", {}, it.name), it.value))));
+  }
+  cells.forEach((it, k) => {
+    it.value.className = changed.has(k) ? "new" : "";
+    if (it.told === registers[k]) return;
+    it.told = registers[k];
+    it.row.title = `${k ? "x" + k : "pc"} = ${hex(it.told)} = ${BigInt.asIntN(64, it.told)}`;
+    it.value.textContent = k < 3 ? hex(it.told) : number(it.told);
+  });
 }
 
+let memory_told = "", is_narrow = null;
 function draw_memory() {
   const { view } = app, { memory } = view, lines = [];
   if (!memory) return;
   const { at, bytes } = memory, pre = $("memory");
   const next = view.next === null || view.next === undefined ? -1 : Number(view.next - at);
-  if (!bytes.length) { pre.textContent = `no page at ${hex(at)}`; return; }
-  const data = new DataView(bytes.buffer, bytes.byteOffset, bytes.length), columns = as === "text" ? 32 : as === "bytes" && pre.clientWidth < 600 ? 8 : 16;
+  is_narrow ??= pre.clientWidth < 600;
+  const data = new DataView(bytes.buffer, bytes.byteOffset, bytes.length), columns = as === "text" ? 32 : as === "bytes" && is_narrow ? 8 : 16;
   for (let row = 0; row < bytes.length; row += columns) {
     const is_next = next >= row && next < row + columns;
     let text = hex(at + BigInt(row)).padEnd(10) + (is_next ? ">" : " ");
@@ -49,9 +80,13 @@ function draw_memory() {
     if (as === "words") for (let k = 0; k + 8 <= part.length; k += 8) text += number(data.getBigUint64(row + k, true)).padStart(19);
     else if (as === "text") text += [...part].map((it) => (it > 31 && it < 127 ? String.fromCharCode(it) : it === 10 ? "↵" : it ? "·" : " ")).join("");
     else text += [...part].map((it, k) => (k === 8 ? " " : "") + it.toString(16).padStart(2, "0")).join(" ") + "  " + [...part].map((it) => (it > 31 && it < 127 ? String.fromCharCode(it) : "·")).join("");
-    lines.push(is_next ? element("i", { title: "the next instruction loads from here, or stores to here" }, text) : text, "\n");
+    lines.push({ is_next, text });
   }
-  pre.replaceChildren(...lines);
+  const told = JSON.stringify([hex(at), lines]);
+  if (told === memory_told) return;
+  memory_told = told;
+  if (!lines.length) pre.textContent = `no page at ${hex(at)}`;
+  else pre.replaceChildren(...lines.flatMap(({ is_next, text }) => [is_next ? element("i", { title: "the next instruction loads from here, or stores to here" }, text) : text, "\n"]));
 }
 
 /** The address that is meant: a number, a register, or a label. */
@@ -67,12 +102,13 @@ function meant(text) {
 export function start() {
   on("panels", () => {
     const { view } = app, process = view.processes.find((it) => it.pid === view.pid);
-    for (const it of document.querySelectorAll(".who")) it.textContent = process ? `${view.pid} (${program_name(process.program)})` : "";
+    for (const it of document.querySelectorAll(".who")) write(it, process ? `${view.pid} (${program_name(process.program)})` : "");
     if ($("instruction").hidden || !view.registers) return;
     if (view.code) draw_code();
     draw_registers();
     draw_memory();
   });
+  on("resized", () => { is_narrow = null; });
   $("address").addEventListener("change", () => {
     const at = meant($("address").value);
     $("address").setAttribute("aria-invalid", at === undefined ? "true" : "false");

@@ -14,7 +14,7 @@ const REFUSALS = ["", "BadConfig", "BadPrograms", "NoInit", "Memory", "Init"];
 const EXEC = ["", "NotElf", "TooManyArgs", "ArgsTooLong", "NoFrames", "BadSegment"];
 const MISTAKES = ["", "Memory", "UnknownWord", "BadOperand", "OutOfRange", "DuplicateLabel", "UnknownLabel", "NotText", "Memory"];
 const ROOM = 65536;
-const ECHO = 384;
+const ECHO = 384n;
 const FILE = 1048576 + 65536;
 
 /** A refusal to boot, as `xv_page_boot` tells it, in xv_run's words; null where there is a machine. */
@@ -35,6 +35,7 @@ export class Machine {
   /** A new instance has new memory: all that an earlier machine held is gone. */
   fresh() {
     this.calls = new WebAssembly.Instance(this.module, {}).exports;
+    this.bytes = NO_BYTES;
     const take = (bytes) => {
       const at = this.calls.page_take(BigInt(bytes));
       if (at === 0n) throw new Error(ANSWERS[2]);
@@ -47,15 +48,23 @@ export class Machine {
     this.view();
     for (const at of [this.session, this.programs]) this.bytes.fill(0, Number(at), Number(at) + 16);
     this.at = Number(this.told);
+    this.room_at = Number(this.room);
   }
 
-  /** The module's memory. Its buffer is another one once it has grown. */
+  /** A view of the module's memory. Once it has grown its buffer is another one, and that of before has no bytes. */
   view() {
-    if (!this.data || this.data.buffer !== this.calls.memory.buffer) {
-      this.data = new DataView(this.calls.memory.buffer);
-      this.bytes = new Uint8Array(this.calls.memory.buffer);
+    if (this.bytes.length === 0) {
+      const { buffer } = this.calls.memory;
+      this.data = new DataView(buffer);
+      this.bytes = new Uint8Array(buffer);
     }
     return this.data;
+  }
+
+  /** The bytes of the module's memory. */
+  memory() {
+    this.view();
+    return this.bytes;
   }
 
   put(bytes) {
@@ -91,14 +100,14 @@ export class Machine {
 
   outcome(at) {
     const d = this.data;
-    return { kind: d.getUint32(at, true), pid: d.getUint32(at + 4, true), number: d.getInt32(at + 8, true), shown: Number(d.getBigUint64(at + 16, true)), value: Number(d.getBigInt64(at + 24, true)) };
+    return { kind: d.getUint32(at, true), pid: d.getUint32(at + 4, true), number: d.getInt32(at + 8, true), shown: d.getUint32(at + 16, true), value: signed(d, at + 24) };
   }
 
   /** Sends an event, and tells what came of it, with the bytes that it shows. */
   event(kind, byte = 0) {
-    this.done(this.calls.xv_page_event(this.session, kind, byte, this.told, this.room, BigInt(ECHO)));
-    const told = this.outcome(this.at), room = Number(this.room);
-    told.bytes = told.shown ? this.bytes.slice(room, room + told.shown) : NO_BYTES;
+    this.done(this.calls.xv_page_event(this.session, kind, byte, this.told, this.room, ECHO));
+    const told = this.outcome(this.at);
+    told.bytes = told.shown ? this.bytes.slice(this.room_at, this.room_at + told.shown) : NO_BYTES;
     return told;
   }
 
@@ -129,6 +138,12 @@ export class Machine {
     const d = this.view(), at = this.at;
     return { at: Number(d.getBigUint64(at, true)), free: d.getUint32(at + 8, true), current: d.getUint32(at + 12, true), halted: d.getUint32(at + 16, true) === 1,
       status: d.getInt32(at + 20, true), clock: d.getUint32(at + 24, true), notes: Number(d.getBigUint64(at + 32, true)) };
+  }
+
+  /** The pid of the current process, or 0. */
+  current() {
+    this.calls.xv_page_facts(this.session, this.told);
+    return this.view().getUint32(this.at + 12, true);
   }
 
   /** The pids of all processes, live or not, by their slots. */
@@ -232,7 +247,7 @@ export class Machine {
   instruction(word, address) {
     const count = Number(this.calls.xv_page_instruction(word, BigInt(address), this.room, 64n));
     this.view();
-    return count ? String.fromCharCode(...this.bytes.subarray(Number(this.room), Number(this.room) + count)) : null;
+    return count ? String.fromCharCode(...this.bytes.subarray(this.room_at, this.room_at + count)) : null;
   }
 
   /** { file } or { line, kind }: what is wrong with the first line that is refused. */
@@ -248,15 +263,16 @@ export class Machine {
     return answer;
   }
 
-  /** A copy of the module's whole memory: the machine as it stands, to be put back later. */
-  copy() {
-    return new Uint8Array(this.calls.memory.buffer).slice();
-  }
-  /** Puts a copy back. What the memory has grown since is cleared. */
+  /** Puts a copy of the module's whole memory back: the machine as it stood. What the memory has grown since is cleared. */
   restore(copy) {
-    this.view();
-    this.bytes.set(copy);
-    this.bytes.fill(0, copy.length);
+    const memory = this.memory();
+    memory.set(copy);
+    memory.fill(0, copy.length);
   }
 }
 const NO_BYTES = new Uint8Array(0);
+
+/** The signed number of 8 bytes at a place, as near as a double comes. */
+function signed(data, at) {
+  return data.getInt32(at + 4, true) * 4294967296 + data.getUint32(at, true);
+}

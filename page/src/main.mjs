@@ -1,6 +1,6 @@
 // The page: begins the worker and the panels, and hands what the worker tells to them.
-import { $, app, ask, element, hush, on, say, tell } from "./app.mjs";
-import { Timeline } from "./timeline.mjs";
+import { $, app, ask, element, hush, on, say, set_theme, tell } from "./app.mjs";
+import { Listed } from "./listed.mjs";
 import * as terminal from "./terminal.mjs";
 import * as editor from "./editor.mjs";
 import * as programs from "./programs.mjs";
@@ -14,7 +14,6 @@ import * as lessons from "./lessons.mjs";
 import { base64 } from "./app.mjs";
 
 const DATA = globalThis.PAGE_DATA;
-const PANELS = ["code", "memory", "pages", "frames", "files"]; // what only a whole view has
 let text_room = new Uint8Array(65536), drawn = 0, waits = false, is_whole = false;
 
 function take_text({ from, bytes }) {
@@ -41,15 +40,15 @@ function take_names({ from, list }) {
 }
 
 function take_view(view) {
-  if (view.anew && view.line.from === 0) app.line = new Timeline();
+  if (view.anew) app.line = new Listed();
   app.line.take(view.line);
   take_names(view.names);
   take_text(view.text);
-  const faults = app.view && waits ? app.view.faults : undefined;
-  if (!view.is_whole) for (const name of PANELS) view[name] = app.view?.[name];
-  is_whole ||= view.is_whole;
-  app.view = view;
-  if (!view.faults && faults) view.faults = faults;
+  if (view.faults) app.faults = view.faults;
+  is_whole ||= view.whole !== undefined;
+  // What only a whole view has is that of the last one.
+  const whole = view.whole ?? app.view?.whole;
+  app.view = { ...whole, ...view, whole };
   if (waits) return;
   waits = true;
   // At most a drawing a frame, also where the page isn't seen.
@@ -122,7 +121,7 @@ function theme() {
   const root = document.documentElement;
   let kept = null;
   try { kept = localStorage.getItem("theme"); } catch { /* a file's page may have no storage */ }
-  const set = (name) => { root.dataset.theme = name; redraw(); };
+  const set = (name) => { set_theme(name); redraw(); };
   set(kept || (matchMedia("(prefers-color-scheme: dark)").matches ? "dark" : "light"));
   $("theme").addEventListener("click", () => {
     const name = root.dataset.theme === "dark" ? "light" : "dark";
@@ -149,7 +148,7 @@ function begin() {
   addEventListener("hashchange", async () => { if (await programs.follow(location.hash, "The programs stay as they are.")) programs.boot(); });
   for (const action of ["keydown", "pointerdown"]) addEventListener(action, hush, true);
   on("taken", () => show_tab($("tab-programs")));
-  addEventListener("resize", redraw);
+  on("resized", redraw);
   ask("module", { bytes: base64.of(DATA.wasm) });
   on("view", () => { if (!globalThis.ready) { globalThis.ready = true; globalThis.took = { page: began, boot: app.booted?.took, shown: performance.now() }; } });
   globalThis.page = { app, ask, on, time, programs, drawn: () => drawn };

@@ -15,9 +15,13 @@ function held(pipe, kind, list) {
 
 const LISTS = [["may be read", "typed, and committed by a line's end or Ctrl-D"], ["may be taken back", "typed, the line that is open"], ["waits to be sent", "written by programs"]];
 
+let drawn = "";
 function draw() {
   const { files, processes } = app.view;
   if (!files) return;
+  const told = JSON.stringify([files, processes.map(({ pid, lives, program }) => [pid, lives, program_name(program), color_of(pid)])]);
+  if (told === drawn) return;
+  drawn = told;
   const rows = [];
   for (const { pid, lives, program } of processes) {
     if (!lives) continue;

@@ -14,14 +14,19 @@ function state_of(process, current) {
 
 /** The processes by parents: each with how deep it stands. */
 export function tree_of(processes) {
-  const found = [], below = (parent, depth) => {
-    for (const it of processes.filter((it) => it.parent === parent && it.pid !== parent)) {
+  const found = [], pids = new Set(processes.map((it) => it.pid)), children = new Map();
+  // One whose parent is gone, or is none, stands at the top.
+  for (const it of processes) {
+    const parent = pids.has(it.parent) ? it.parent : 0;
+    children.set(parent, [...(children.get(parent) ?? []), it]);
+  }
+  const below = (parent, depth) => {
+    for (const it of children.get(parent) ?? []) {
       found.push({ process: it, depth });
       below(it.pid, depth + 1);
     }
   };
-  const pids = new Set(processes.map((it) => it.pid));
-  for (const it of processes.filter((it) => !pids.has(it.parent))) { found.push({ process: it, depth: 0 }); below(it.pid, 1); }
+  below(0, 0);
   return found;
 }
 
@@ -57,7 +62,7 @@ function show(held, told) {
 
 let rows = new Map(), order = "";
 function draw() {
-  const { view } = app, current = view.facts.current, made = tree_of(view.processes), now = made.map(({ process }) => process.pid).join(" ");
+  const { view } = app, { current } = view, made = tree_of(view.processes), now = made.map(({ process }) => process.pid).join(" ");
   if (now !== order) {
     order = now;
     rows = new Map(made.map(({ process: { pid } }) => [pid, rows.get(pid) || new_row(pid)]));
@@ -71,14 +76,14 @@ function draw() {
 
 // ---- the picture of turns
 
-/** The lives of all processes of the run: {pid, parent, from, to}, in the order of their birth. */
+/** The lives of all processes of the run: {pid, parent, from, to, end, reaped, by}, in the order of their birth. */
 function lives() {
   const { line } = app;
   if (lives.edits !== app.view.edits || lives.done > line.length) { lives.by = new Map([[1, { pid: 1, parent: 0, from: 0, to: Infinity, reaped: Infinity }]]); lives.done = 0; lives.edits = app.view.edits; }
   for (; lives.done < line.length; lives.done++) {
     const k = lives.done, kind = line.kind[k], pid = line.pid[k];
     if (kind === KIND.CALL && line.number[k] === 1 && line.value[k] > 0) lives.by.set(line.value[k], { pid: line.value[k], parent: pid, from: line.at[k], to: Infinity, reaped: Infinity });
-    else if (kind === KIND.EXIT || kind === KIND.FAULT) { const it = lives.by.get(pid); if (it) it.to = line.at[k]; }
+    else if (kind === KIND.EXIT || kind === KIND.FAULT) { const it = lives.by.get(pid); if (it) { it.to = line.at[k]; it.end = kind; } }
     else if (kind === KIND.CALL && line.number[k] === 3 && line.value[k] > 0) { const it = lives.by.get(line.value[k]); if (it) { it.reaped = line.at[k]; it.by = pid; } }
   }
   return [...lives.by.values()];
@@ -87,36 +92,38 @@ function lives() {
 /** So many of these lives at most: those that are nearest to a place of the run, first those that go on there. */
 function fitting(all, most, at) {
   if (all.length <= most) return all;
-  const distance = (it) => (it.from > at ? it.from - at : it.reaped < at ? at - it.reaped : 0), kept = new Set([...all].sort((a, b) => distance(a) - distance(b)).slice(0, most));
-  return all.filter((it) => kept.has(it));
+  const distance = (it) => (it.from > at ? it.from - at : it.reaped < at ? at - it.reaped : 0);
+  const limit = Float64Array.from(all, distance).sort()[most - 1];
+  let room = most - all.filter((it) => distance(it) < limit).length;
+  return all.filter((it) => distance(it) < limit || (distance(it) === limit && room-- > 0));
 }
 
-/** The bars of these lives. Stretches of one row that stand less than half a pixel apart are drawn as one, so a long run is drawn as fast as a short one. */
-function draw_bars(draw, shown, { from, to, x_of, bar, top_of, ink, bad }) {
-  const { line } = app, count = shown.length, tops = shown.map((it) => top_of(it.pid)), colors = shown.map((it) => color_of(it.pid));
-  const rows = new Int32Array(shown.reduce((most, it) => Math.max(most, it.pid), 0) + 1).fill(-1);
-  shown.forEach((it, row) => { rows[it.pid] = row; });
-  const begun = new Float64Array(count).fill(-1), ended = new Float64Array(count).fill(-1), asleep = new Float64Array(count).fill(-1), marks = [];
-  const close = (row) => { draw.fillStyle = colors[row]; draw.fillRect(begun[row], tops[row], Math.max(0.8, ended[row] - begun[row]), bar); };
-  const sleep = (row, x) => { if (x - asleep[row] > 0.5) { draw.fillStyle = "#6d8fce66"; draw.fillRect(asleep[row], tops[row] + bar / 2 - 1, x - asleep[row], 3); } asleep[row] = -1; };
-  const { at, kind: kinds, pid: pids, length } = line;
-  for (let k = Math.max(0, line.find(from)); k < length && at[k] < to; k++) {
-    const kind = kinds[k], row = kind <= KIND.TURN && pids[k] < rows.length ? rows[pids[k]] : -1;
-    if (row < 0) continue;
-    const x = x_of(at[k]), end = x_of(line.end_of(k));
-    if (asleep[row] >= 0) sleep(row, x);
-    if (kind === KIND.TURN) continue;
-    if (begun[row] >= 0 && x > ended[row] + 0.5) { close(row); begun[row] = -1; }
-    if (begun[row] < 0) begun[row] = x;
-    ended[row] = end;
-    if (kind === KIND.WAIT) asleep[row] = end;
-    if (kind === KIND.FAULT || kind === KIND.EXIT) marks.push({ row, x, kind });
+/** The last stretch of a bar that begins with a stretch of a process: the next one may begin so many events behind the one before. */
+function end_of_bar(own, first, apart) {
+  const { line } = app;
+  for (let last = first; ; ) {
+    const next = line.next(own, line.end_of(own[last]) + apart, last + 1);
+    // It goes on to the one before `next`, or to `next` itself, if that begins near enough too.
+    const is_near = next < own.length && line.at[own[next]] <= line.end_of(own[next - 1]) + apart;
+    const further = is_near ? next : next - 1;
+    if (further === last) return last;
+    last = further;
   }
-  for (let row = 0; row < count; row++) {
-    if (begun[row] >= 0) close(row);
-    if (asleep[row] >= 0) sleep(row, x_of(Math.min(to, line.end)));
+}
+
+/** The bars of a process, and lines while it sleeps. Stretches that stand less than a pixel apart are one bar: so a long run is drawn as fast as a short one. */
+function draw_bars(draw, pid, { from, to, scale, x_of, bar }, top) {
+  const { line } = app, own = line.work_of.get(pid) ?? [];
+  // The stretch before the first one tells whether it sleeps at the beginning of the part that is shown.
+  for (let k = Math.max(0, line.next(own, from) - 1); k < own.length && line.at[own[k]] < to; ) {
+    const last = end_of_bar(own, k, 1 / scale), x = x_of(line.at[own[k]]), end = x_of(line.end_of(own[last]));
+    draw.fillStyle = color_of(pid);
+    if (line.end_of(own[last]) > from) draw.fillRect(x, top, Math.max(0.8, end - x), bar);
+    k = last + 1;
+    if (line.kind[own[last]] !== KIND.WAIT) continue;
+    draw.fillStyle = "#6d8fce66";
+    draw.fillRect(end, top + bar / 2 - 1, x_of(k < own.length ? line.at[own[k]] : line.end) - end, 3);
   }
-  for (const { row, x, kind } of marks) { draw.fillStyle = kind === KIND.FAULT ? bad : ink; draw.fillRect(x, tops[row] - 1, 2, bar + 2); }
 }
 
 /** The processes that ran one behind another up to a place, the last ones, so many at most. */
@@ -148,44 +155,52 @@ function tell_turns(lives_shown) {
   $("turns-told").replaceChildren(...[...words, ...lives_shown.map(life_words)].map((it) => element("li", {}, it)));
 }
 
+/** The name of a life, its line, and the lines of its fork and of the wait for its end. */
+function draw_life(draw, it, { view, from, to, x_of, bar, high, top_of }) {
+  const y = top_of.get(it.pid), dim = style_of("--dim");
+  draw.fillStyle = it.pid === view.pid ? style_of("--ink") : dim;
+  draw.fillText(`${it.pid} ${program_name(app.names.get(it.pid))}`.slice(0, 11), 2, y + high / 2 + 2);
+  draw.fillStyle = style_of("--line");
+  draw.fillRect(x_of(it.from), y + bar / 2, Math.max(1, x_of(Math.min(it.to, to)) - x_of(it.from)), 1);
+  if (it.parent && top_of.has(it.parent) && it.from >= from && it.from <= to) {
+    // A fork: a line from the parent to the child.
+    draw.strokeStyle = color_of(it.pid);
+    draw.beginPath();
+    draw.moveTo(x_of(it.from) + 0.5, top_of.get(it.parent) + bar / 2);
+    draw.lineTo(x_of(it.from) + 0.5, y + bar / 2);
+    draw.stroke();
+  }
+  if (it.reaped !== Infinity && top_of.has(it.by) && it.reaped >= from && it.reaped <= to) {
+    // An end that a parent has waited for: a dotted line back.
+    draw.strokeStyle = dim;
+    draw.setLineDash([2, 2]);
+    draw.beginPath();
+    draw.moveTo(x_of(it.to), y + bar / 2);
+    draw.lineTo(x_of(it.reaped), top_of.get(it.by) + bar / 2);
+    draw.stroke();
+    draw.setLineDash([]);
+  }
+}
+
 function draw_turns() {
   const canvas = $("turns"), { draw, width, height } = fresh(canvas), { view } = app, { from, to } = range();
   if (!view || width < 40) return;
-  const all = lives().filter((it) => it.from <= to && Math.min(it.to, it.reaped === Infinity ? it.to : it.reaped) >= from), shown = fitting(all, Math.max(2, Math.floor((height - 14) / 7)), view.at);
-  const left = 74, high = Math.min(26, (height - 14) / Math.max(1, shown.length)), row_of = new Map(shown.map((it, k) => [it.pid, 4 + k * high]));
-  const scale = (width - left - 4) / (to - from), x_of = (at) => left + (Math.max(from, Math.min(to, at)) - from) * scale;
-  const ink = style_of("--ink"), dim = style_of("--dim"), faint = style_of("--line"), bad = style_of("--bad"), bar = Math.max(2, high - 6);
+  const all = lives().filter((it) => it.from <= to && it.to >= from), shown = fitting(all, Math.max(2, Math.floor((height - 14) / 7)), view.at);
+  const left = 74, scale = (width - left - 4) / (to - from), x_of = (at) => left + (Math.max(from, Math.min(to, at)) - from) * scale;
+  const high = Math.min(26, (height - 14) / Math.max(1, shown.length)), bar = Math.max(2, high - 6), top_of = new Map(shown.map((it, k) => [it.pid, 4 + k * high]));
+  const picture = { view, from, to, scale, x_of, bar, high, top_of };
   draw.font = `${Math.min(11, Math.max(7, high - 2))}px ui-monospace, monospace`;
+  for (const it of shown) draw_life(draw, it, picture);
+  for (const it of shown) draw_bars(draw, it.pid, picture, top_of.get(it.pid));
   for (const it of shown) {
-    const y = row_of.get(it.pid), name = program_name(app.names.get(it.pid));
-    draw.fillStyle = it.pid === view.pid ? ink : dim;
-    draw.fillText(`${it.pid} ${name}`.slice(0, 11), 2, y + high / 2 + 2);
-    draw.fillStyle = faint;
-    draw.fillRect(x_of(it.from), y + bar / 2, Math.max(1, x_of(Math.min(it.to, to)) - x_of(it.from)), 1);
-    if (it.parent && row_of.has(it.parent) && it.from >= from && it.from <= to) {
-      // A fork: a line from the parent to the child.
-      draw.strokeStyle = color_of(it.pid);
-      draw.beginPath();
-      draw.moveTo(x_of(it.from) + 0.5, row_of.get(it.parent) + bar / 2);
-      draw.lineTo(x_of(it.from) + 0.5, y + bar / 2);
-      draw.stroke();
-    }
-    if (it.reaped !== Infinity && row_of.has(it.by) && it.reaped >= from && it.reaped <= to) {
-      // An end that a parent has waited for: a dotted line back.
-      draw.strokeStyle = dim;
-      draw.setLineDash([2, 2]);
-      draw.beginPath();
-      draw.moveTo(x_of(it.to), y + bar / 2);
-      draw.lineTo(x_of(it.reaped), row_of.get(it.by) + bar / 2);
-      draw.stroke();
-      draw.setLineDash([]);
-    }
+    if (!it.end || it.to < from || it.to >= to) continue;
+    draw.fillStyle = style_of(it.end === KIND.FAULT ? "--bad" : "--ink");
+    draw.fillRect(x_of(it.to), top_of.get(it.pid) - 1, 2, bar + 2);
   }
   tell_turns(shown);
-  draw_bars(draw, shown, { from, to, x_of, bar, top_of: (pid) => row_of.get(pid), ink, bad });
-  draw.fillStyle = ink;
+  draw.fillStyle = style_of("--ink");
   draw.fillRect(x_of(view.at) - 0.5, 0, 1, height - 10);
-  draw.fillStyle = dim;
+  draw.fillStyle = style_of("--dim");
   draw.font = "10px system-ui";
   draw.fillText("solid: it runs · blue: it sleeps · lines: forks · dotted: an end is waited for", width < 480 ? 2 : left, height - 2);
 }

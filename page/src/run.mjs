@@ -1,15 +1,17 @@
 // A run: a machine, what came of each event since it was booted, and ways forward and back. The machine stands after
 // `at` events; the record may go on beyond, after a step back, and is cut there by the first event that differs.
 import { KIND, EVENT } from "./machine.mjs";
+import { Copies } from "./copies.mjs";
 import { Timeline } from "./timeline.mjs";
 
-const COPIES_BYTES = 256 * 1024 * 1024;
-const FIRST_SPACING = 400000;
-const PIECE = 200000;
+const STRETCH = 300; // instructions that take as long as a stretch takes to begin, by a replay: two microseconds
+const NEAR_EVENTS = 100000, NEAR_STRETCHES = 500; // a replay of so many takes a millisecond, less than to put a copy back
+const MOST_AT_ONCE = 1000000000; // Runs of one call of the module
 
 export class Run {
   constructor(machine) {
     this.machine = machine;
+    this.copies = new Copies(machine);
     this.booted = false;
   }
 
@@ -23,17 +25,18 @@ export class Run {
     this.at = 0;
     this.line = new Timeline();
     this.shown = { at: new Float64Array(4096), bytes: new Uint8Array(4096), length: 0 };
-    this.names = [{ at: 0, pid: 1, place: this.machine.program(1) }];
+    this.names = [];
+    this.names_of = new Map();
+    this.name(1);
     this.edits = 0;
-    this.spacing = FIRST_SPACING;
-    this.copies = [{ at: 0, bytes: this.machine.copy() }];
+    this.copies.begin();
     this.halted = false;
     return null;
   }
 
   get end() { return this.line.end; }
   get is_past() { return this.at < this.line.end; }
-  get current() { return this.machine.facts().current; }
+  get current() { return this.machine.current(); }
 
   // ---- the record
 
@@ -42,12 +45,19 @@ export class Run {
     this.at += count;
     if (told.kind === KIND.CALL && (told.number === 7 || told.number === 1)) {
       const pid = told.number === 1 ? told.value : told.pid;
-      if (told.value >= 0 && pid > 0) {
-        const place = this.machine.program(pid);
-        if (place !== null) this.names.push({ at: this.at, pid, place });
-      }
+      if (told.value >= 0 && pid > 0) this.name(pid);
     }
     if (told.kind === KIND.HALTED || (told.pid === 1 && (told.kind === KIND.EXIT || told.kind === KIND.FAULT))) this.halted = true;
+  }
+
+  /** Notes which program a process runs from here on. */
+  name(pid) {
+    const place = this.machine.program(pid);
+    if (place === null) return;
+    const name = { at: this.at, pid, place };
+    this.names.push(name);
+    if (!this.names_of.has(pid)) this.names_of.set(pid, []);
+    this.names_of.get(pid).push(name);
   }
 
   show(bytes) {
@@ -81,16 +91,15 @@ export class Run {
     if (!this.is_past) return;
     this.shown.length = this.shown_count();
     this.line.cut(this.at);
-    this.names = this.names.filter((it) => it.at <= this.at);
-    this.copies = this.copies.filter((it) => it.at <= this.at);
+    while (this.names.length && this.names.at(-1).at > this.at) this.names_of.get(this.names.pop().pid).pop();
+    this.copies.cut(this.at);
     this.edits++;
     this.halted = this.machine.facts().halted;
   }
 
   /** The program that a process runs at this place, by its place in the list of files; null where it isn't known. */
   program_of(pid) {
-    for (let k = this.names.length - 1; k >= 0; k--) if (this.names[k].pid === pid && this.names[k].at <= this.at) return this.names[k].place;
-    return null;
+    return this.names_of.get(pid)?.findLast((it) => it.at <= this.at)?.place ?? null;
   }
 
   // ---- forward
@@ -136,10 +145,7 @@ export class Run {
       } else {
         while (place + 1 < line.length && line.event[place + 1] === EVENT.RUN && stop < until) stop = line.end_of(++place);
         stop = Math.min(stop, until);
-        while (this.at < stop) {
-          this.at += machine.run(Math.min(stop - this.at, PIECE)).sent;
-          this.keep();
-        }
+        while (this.at < stop) this.at += machine.run(Math.min(stop - this.at, MOST_AT_ONCE)).sent;
         place++;
       }
     }
@@ -147,46 +153,40 @@ export class Run {
 
   // ---- copies of the machine, to come back fast
 
-  most_copies() {
-    return Math.max(4, Math.min(32, Math.floor(COPIES_BYTES / this.copies[this.copies.length - 1].bytes.length)));
-  }
-
-  /** Keeps a copy where the last one is far behind. */
+  /** Keeps a copy, if the last one is far behind. */
   keep() {
-    const { copies } = this;
-    let last = copies.length - 1;
-    if (this.at - copies[last].at < this.spacing) return;
-    copies.push({ at: this.at, bytes: this.machine.copy() });
-    if (copies.length > this.most_copies()) {
-      this.spacing *= 2;
-      this.copies = copies.filter((_, k) => k % 2 === 0);
-    }
+    this.copies.keep(this.at, this.at + STRETCH * this.line.length);
   }
 
-  /** Goes to a place of the record. */
+  restore(copy) {
+    this.machine.restore(copy.room.subarray(0, copy.length));
+    this.at = copy.at;
+  }
+
+  /** A place a little before another: the way from there to it is short. */
+  shortly_before(place) {
+    const stretch = this.line.find(place - 1) - NEAR_STRETCHES;
+    return Math.max(0, place - NEAR_EVENTS, stretch > 0 ? this.line.at[stretch] : 0);
+  }
+
+  /** Goes to a place of the record. On a long way a copy is kept a little before the place: steps back from there are short. */
   go(place) {
-    const to = Math.max(0, Math.min(place, this.line.end));
-    if (to < this.at) {
-      const copy = this.copies.findLast((it) => it.at <= to);
-      this.machine.restore(copy.bytes);
-      this.at = copy.at;
-    } else {
-      const copy = this.copies.findLast((it) => it.at <= to);
-      if (copy.at > this.at) {
-        this.machine.restore(copy.bytes);
-        this.at = copy.at;
-      }
+    const to = Math.max(0, Math.min(place, this.line.end)), copy = this.copies.before(to), near = this.shortly_before(to);
+    if (to < this.at || copy.at > this.at) this.restore(copy);
+    if (this.at < near) {
+      this.replay(near);
+      this.copies.keep_near(this.at);
     }
     this.replay(to);
   }
 
   /** Looks at the machine as it was at another place, and comes back. */
   look(place, at_it) {
-    const here = { at: this.at, bytes: this.machine.copy() };
+    const here = this.copies.copy(this.at, 0);
     this.go(place);
     const found = at_it();
-    this.machine.restore(here.bytes);
-    this.at = here.at;
+    this.restore(here);
+    this.copies.give_up(here);
     return found;
   }
 }

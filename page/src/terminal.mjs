@@ -1,8 +1,10 @@
 // The terminal: what the console shows, and keys for it.
-import { $, app, ask, element, on, tell, say } from "./app.mjs";
+import { $, app, ask, element, on, tell, say, write } from "./app.mjs";
 
 const MOST_LINES = 3000, MOST_HEARD = 30;
+const MOST_DRAWN = 1500, KEPT_DRAWN = 1000; // lines: so many may stand on the screen, and so many are left then
 const shown = { bytes: 0, lines: [""], count: 0, row: [], column: 0 };
+const drawn = { lines: document.createTextNode(""), left: document.createTextNode(""), caret: element("span", { class: "caret" }), right: document.createTextNode(""), from: 0, to: 0 };
 let heard = 0; // how many whole lines were told to readers of the screen
 const decoder = new TextDecoder();
 
@@ -13,6 +15,8 @@ function clear() {
   shown.row = [];
   shown.column = 0;
   shown.drawn = false;
+  drawn.lines.data = "";
+  drawn.from = drawn.to = 0;
 }
 
 /** Takes bytes as a terminal does: a backspace goes left, a carriage return to the front, a line feed down. */
@@ -31,6 +35,16 @@ function take(bytes) {
   shown.bytes += bytes.length;
 }
 
+/** Draws the whole lines that came: behind those that are there, which the browser needn't lay out anew. */
+function draw_lines() {
+  const text_from = (first) => shown.lines.slice(Math.max(0, shown.lines.length - (shown.count - first))).map((it) => it + "\n").join("");
+  if (shown.count - drawn.from > MOST_DRAWN) {
+    drawn.from = shown.count - KEPT_DRAWN;
+    drawn.lines.data = text_from(drawn.from);
+  } else if (shown.count > drawn.to) drawn.lines.appendData(text_from(drawn.to));
+  drawn.to = shown.count;
+}
+
 function draw() {
   const { text } = app;
   if (shown.bytes > text.length || shown.edits !== app.view.edits || shown.end > app.view.shown) clear();
@@ -40,10 +54,10 @@ function draw() {
   shown.end = app.view.shown;
   const screen = $("screen"), row = [...shown.row], left = decoder.decode(Uint8Array.from(row.slice(0, shown.column))), under = row[shown.column] === undefined ? " " : String.fromCharCode(row[shown.column]), right = decoder.decode(Uint8Array.from(row.slice(shown.column + 1)));
   const at_end = screen.scrollHeight - screen.scrollTop - screen.clientHeight < 60;
-  const pre = screen.firstElementChild, caret = document.createElement("span");
-  caret.className = "caret";
-  caret.textContent = under;
-  pre.replaceChildren(document.createTextNode(shown.lines.slice(-1000).map((it) => it + "\n").join("") + left), caret, document.createTextNode(right));
+  draw_lines();
+  write(drawn.left, left);
+  write(drawn.caret, under);
+  write(drawn.right, right);
   if (at_end) screen.scrollTop = screen.scrollHeight;
   shown.drawn = true;
 }
@@ -98,6 +112,7 @@ function key(event) {
 
 export function start() {
   const screen = $("screen"), typed = $("typed");
+  screen.firstElementChild.append(drawn.lines, drawn.left, drawn.caret, drawn.right);
   screen.addEventListener("keydown", key);
   typed.addEventListener("keydown", (event) => { if (event.key !== "Unidentified" && event.keyCode !== 229) key(event); });
   // (A phone's keyboard gives text, not keys.)

@@ -1,5 +1,5 @@
 // Time: play and pause, steps forward and back, the slider over the whole run, zoom, break points.
-import { $, app, ask, color_of, element, fresh, grouped, in_time, on, program_name, say, style_of, tell } from "./app.mjs";
+import { $, app, ask, color_of, element, fresh, grouped, in_time, on, program_name, say, style_of, tell, write } from "./app.mjs";
 import { KIND } from "./machine.mjs";
 import { CALLS, call_name, hex } from "./words.mjs";
 import { type } from "./terminal.mjs";
@@ -25,39 +25,76 @@ function zoom(factor) {
 
 // ---- the slider
 
-const MARK = { [KIND.CALL]: "--accent", [KIND.WAIT]: "--dim", [KIND.EXIT]: "--warm", [KIND.FAULT]: "--bad" };
+const BAND = 9, BELOW = 15; // pixels: how high the band of those that run is, and where it begins above the lower edge
+
+/** Draws a mark for each stretch of a list that stands more than so many pixels behind the last one that is drawn. */
+function draw_marks(list, { from, to, scale }, apart, mark) {
+  const { line } = app;
+  for (let k = line.next(list, from); k < list.length && line.at[list[k]] < to; ) {
+    const at = line.at[list[k]];
+    mark((at - from) * scale, list[k]);
+    k = line.next(list, at + apart / scale, k + 1);
+  }
+}
+
+/** Draws who runs: one stretch a pixel is enough. */
+function draw_band(draw, { from, to, scale }, top) {
+  const { line } = app, { work } = line;
+  let done = 0;
+  for (let k = line.next(work, from); k < work.length && line.at[work[k]] < to; ) {
+    const end = line.end_of(work[k]), x = Math.max(done, (line.at[work[k]] - from) * scale);
+    done = (end - from) * scale;
+    draw.fillStyle = color_of(line.pid[work[k]]);
+    draw.fillRect(x, top, Math.max(0.6, done - x), BAND);
+    k = line.next(work, end + 1 / scale, k + 1);
+  }
+}
+
+/** Draws the ticks, calls, ends, keys and faults of a part of the run, each kind above those before it. */
+function draw_all_marks(draw, part, top) {
+  const { line } = app, { tick, call, end, key, fault } = line.marks;
+  const accent = style_of("--accent"), dim = style_of("--dim");
+  draw.fillStyle = style_of("--line");
+  draw_marks(tick, part, 3, (x) => draw.fillRect(x, 0, 1, top - 2));
+  draw_marks(call, part, 1.5, (x, stretch) => {
+    draw.fillStyle = line.kind[stretch] === KIND.CALL ? accent : dim;
+    draw.fillRect(x, 10, 1, top - 12);
+  });
+  draw.fillStyle = style_of("--warm");
+  draw_marks(end, part, 3, (x) => draw.fillRect(x - 1, 5, 2.5, top - 7));
+  draw_marks(key, part, 4, (x) => triangle(draw, x, 8, -6));
+  draw.fillStyle = style_of("--bad");
+  draw_marks(fault, part, 1, (x) => {
+    draw.fillRect(x - 1.5, 0, 3.5, top);
+    draw.beginPath();
+    draw.arc(x, 4, 4, 0, 7);
+    draw.fill();
+  });
+}
+
+/** A triangle with its point at a place, and its base so far below it. */
+function triangle(draw, x, y, base) {
+  const half = Math.abs(base) / 2 + (base > 0 ? 1.5 : 0);
+  draw.beginPath();
+  draw.moveTo(x, y);
+  draw.lineTo(x - half, y + base);
+  draw.lineTo(x + half, y + base);
+  draw.fill();
+}
 
 function draw_slider() {
-  const { draw, width, height } = fresh($("slider")), { from, to } = range(), { line, view } = app;
+  const { draw, width, height } = fresh($("slider")), { from, to } = range(), { view } = app;
   if (!view || width < 10) return;
-  const scale = width / (to - from), x_of = (at) => (at - from) * scale;
-  const turns = height - 15;
-  let place = Math.max(0, line.find(from)), last = { tick: -9, call: -9, bad: -9, fault: -9, key: -9 }, done = -1;
-  const accent = style_of("--accent"), dim = style_of("--dim"), warm = style_of("--warm"), bad = style_of("--bad"), faint = style_of("--line");
-  draw.font = "10px system-ui";
-  for (; place < line.length && line.at[place] < to; place++) {
-    const kind = line.kind[place], x = x_of(line.at[place]), end = x_of(line.end_of(place));
-    if (kind <= KIND.FAULT) {
-      // One stretch a pixel is enough.
-      if (end > done + 0.5) { draw.fillStyle = color_of(line.pid[place]); draw.fillRect(Math.max(x, done), turns, Math.max(0.6, end - Math.max(x, done)), 9); done = end; }
-    }
-    if (kind === KIND.TICK && x - last.tick > 3) { draw.fillStyle = faint; draw.fillRect(x, 0, 1, turns - 2); last.tick = x; }
-    else if ((kind === KIND.CALL || kind === KIND.WAIT) && x - last.call > 1.5) { draw.fillStyle = kind === KIND.CALL ? accent : dim; draw.fillRect(x, 10, 1, turns - 12); last.call = x; }
-    else if (kind === KIND.EXIT && x - last.bad > 3) { draw.fillStyle = warm; draw.fillRect(x - 1, 5, 2.5, turns - 7); last.bad = x; }
-    else if (kind === KIND.FAULT && x - last.fault > 1) { draw.fillStyle = bad; draw.fillRect(x - 1.5, 0, 3.5, turns); draw.beginPath(); draw.arc(x, 4, 4, 0, 7); draw.fill(); last.bad = last.fault = x; }
-    else if (kind === KIND.KEY && x - last.key > 4) { draw.fillStyle = warm; draw.beginPath(); draw.moveTo(x, 8); draw.lineTo(x - 3, 2); draw.lineTo(x + 3, 2); draw.fill(); last.key = x; }
-  }
-  const x = Math.min(width - 1, Math.max(1, x_of(view.at)));
+  const part = { from, to, scale: width / (to - from) };
+  draw_band(draw, part, height - BELOW);
+  draw_all_marks(draw, part, height - BELOW);
+  const x = Math.min(width - 1, Math.max(1, (view.at - from) * part.scale));
   draw.fillStyle = style_of("--ink");
   draw.globalAlpha = 0.08;
   draw.fillRect(x, 0, width, height);
   draw.globalAlpha = 1;
   draw.fillRect(x - 1, 0, 2, height);
-  draw.beginPath();
-  draw.moveTo(x - 5, height);
-  draw.lineTo(x + 5, height);
-  draw.lineTo(x, height - 7);
-  draw.fill();
+  triangle(draw, x, height - 7, 7);
 }
 
 /** What came of the event at a place, in words. */
@@ -115,18 +152,24 @@ export function step(what, back) {
   if (app.booted) ask("step", { what, back });
 }
 
+const clock = { words: document.createTextNode(""), last: element("span"), between: document.createTextNode(""), stopped: element("b") };
+
 function told() {
   const { view } = app, { facts } = view;
-  $("play").textContent = view.playing ? "❚❚ Pause" : "▶ Play";
-  const past = view.at < view.end, state = facts.halted ? `ended with ${facts.status}` : facts.current ? `${program_name(view.processes.find((it) => it.pid === facts.current)?.program)} (${facts.current}) runs` : "nobody runs";
-  const clock = $("clock");
-  clock.replaceChildren(`event ${grouped(view.at)}${past ? ` of ${grouped(view.end)}` : ""} · tick ${grouped(facts.clock)} · ${state}`);
-  if (!view.playing && view.at > 0) clock.append(element("span", {}, ` · last: ${event_words(view.at - 1)}`));
-  if (view.stopped && !view.playing && view.stopped !== "paused") clock.append(" · ", element("b", {}, view.stopped));
-  const slider = $("slider");
-  slider.setAttribute("aria-valuemax", view.end);
-  slider.setAttribute("aria-valuenow", view.at);
-  slider.setAttribute("aria-valuetext", `event ${view.at} of ${view.end}`);
+  write($("play"), view.playing ? "❚❚ Pause" : "▶ Play");
+  const past = view.at < view.end, state = facts.halted ? `ended with ${facts.status}` : facts.current ? `${program_name(view.program)} (${facts.current}) runs` : "nobody runs";
+  write(clock.words, `event ${grouped(view.at)}${past ? ` of ${grouped(view.end)}` : ""} · tick ${grouped(facts.clock)} · ${state}`);
+  write(clock.last, !view.playing && view.at > 0 ? ` · last: ${event_words(view.at - 1)}` : "");
+  const stopped = !view.playing && view.stopped !== "paused" ? view.stopped : "";
+  write(clock.between, stopped ? " · " : "");
+  write(clock.stopped, stopped);
+}
+
+function tell_slider() {
+  const { at, end } = app.view, slider = $("slider");
+  slider.setAttribute("aria-valuemax", end);
+  slider.setAttribute("aria-valuenow", at);
+  slider.setAttribute("aria-valuetext", `event ${at} of ${end}`);
 }
 
 // ---- break points
@@ -176,6 +219,7 @@ function key(event) {
 }
 
 export function start() {
+  $("clock").append(...Object.values(clock));
   $("play").addEventListener("click", toggle);
   for (const it of document.querySelectorAll("[data-step]")) it.addEventListener("click", () => step(it.dataset.step, false));
   for (const it of document.querySelectorAll("[data-back]")) it.addEventListener("click", () => step(it.dataset.back, true));
@@ -213,6 +257,7 @@ export function start() {
     told();
     show_slider();
   });
+  on("panels", tell_slider);
   on("zoom", () => { if (app.view) show_slider(); });
   on("play", () => ask("play"));
   on("boot", () => { window_.whole = true; });

@@ -1,11 +1,11 @@
 // Why: each fault of the run in words, with its line and registers, and who sleeps on what and who could wake it.
-import { $, app, ask, element, on, program_name } from "./app.mjs";
+import { $, app, ask, element, on, program_name, write } from "./app.mjs";
 import { line_at, name_at } from "./symbols.mjs";
 import { REGISTERS, hex, waits_for } from "./words.mjs";
 
 // The order of xv6's trapframe.
 const ORDER = [1, 2, 3, 4, 5, 6, 7, 8, 9, 10, 11, 12, 13, 14, 15, 16, 17, 18, 19, 20, 21, 22, 23, 24, 25, 26, 27, 28, 29, 30, 31];
-let faults = [];
+let drawn = "";
 
 function fault_told(it) {
   const { told } = it, symbols = app.symbols[told.program], pc = told.registers ? told.registers[0] : 0n, line = told.registers ? line_at(symbols, pc) : null, name = told.registers ? name_at(symbols, pc) : "";
@@ -21,9 +21,12 @@ function fault_told(it) {
 
 function draw() {
   const { view } = app, sleepers = view.processes.filter((it) => it.lives && it.asleep);
-  const gone = faults.filter((it) => it.at < view.at).reverse();
+  const gone = app.faults.filter((it) => it.at < view.at).reverse().slice(0, 30);
+  const told = JSON.stringify([gone.map((it) => it.at), sleepers.map((it) => [it.pid, it.program, waits_for(it, view.processes, view.files || null)]), app.booted.files.map((it) => it.name)]);
+  if (told === drawn) return;
+  drawn = told;
   $("why-told").replaceChildren(
-    ...(gone.length ? gone.slice(0, 30).map(fault_told) : [element("p", { class: "dim" }, "No process has faulted up to here.")]),
+    ...(gone.length ? gone.map(fault_told) : [element("p", { class: "dim" }, "No process has faulted up to here.")]),
     element("h3", {}, "Who sleeps on what"),
     ...(sleepers.length ? sleepers.map((it) => {
       const { what, who } = waits_for(it, view.processes, view.files || null);
@@ -32,12 +35,10 @@ function draw() {
 }
 
 export function start() {
-  on("view", () => {
-    const { view } = app;
-    if (view.faults) faults = view.faults;
-    const count = faults.filter((it) => it.at < view.at).length;
-    $("why-count").textContent = count || "";
+  on("panels", () => {
+    const count = app.faults.filter((it) => it.at < app.view.at).length;
+    write($("why-count"), count ? String(count) : "");
+    if (!$("why").hidden) draw();
   });
-  on("panels", () => { if (!$("why").hidden) draw(); });
-  on("boot", () => { faults = []; });
+  on("boot", () => { app.faults = []; drawn = ""; });
 }

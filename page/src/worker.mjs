@@ -1,50 +1,36 @@
 // The worker: it has the machine, plays it, and tells the page how it stands. So the page stays alive at full speed.
 import { Machine, KIND, EVENT } from "./machine.mjs";
+import { Made } from "./made.mjs";
 import { Run, Plan } from "./run.mjs";
 import { describe_fault, store_width } from "./words.mjs";
 
-const SLICE = 9; // ms of play between two looks at the messages
-const WHOLE = 90; // ms between two views with all panels, while the machine plays
+const SLICE = 14; // ms of play between two looks at the messages: less than a frame of the page
+const WHOLE = 90; // ms between two views with the processes and what the panels show, while the machine plays
+const WHOLE_REST = 4; // and at least so many times as long as such a view takes to be made
 const TICK = 100; // ms: a tick of the terminal is a tenth of a second
 const MOST = 30000000; // Runs that a search makes before it gives up
 const PAGE = 4096;
 
 let machine = null, run = null, plan = null;
 let settings = { rounds: false, quantum: 1000, speed: 0 };
-let playing = false, timer = 0, next_tick = 0, owed = 0, slice_from = 0;
-let wanted = { pid: 1, panels: {}, memory: null, told: -1, named: 0, edits: -1 };
+let playing = false, timer = 0, turn = 0, next_tick = 0, owed = 0, slice_from = 0;
+let wanted = { pid: 1, panels: {}, memory: null, told: 0, named: 0, shown: 0, faults: -1, edits: -1 };
 let breaks = [];
-let told_whole = 0;
+let next_whole = 0;
 let stopped = "";
-let counts = { place: 0, by: new Map(), edits: 0 };
+let made = new Made();
 let faults = [];
 
 // ---- the view that is sent to the page
 
-/** Instructions that each process has made. */
-function instructions() {
-  const { line, at, edits } = run;
-  if (counts.edits !== edits || counts.at > at) counts = { place: 0, by: new Map(), edits, at: 0 };
-  let { place } = counts;
-  const add = (by, stretch, events) => {
-    if (line.kind[stretch] <= KIND.FAULT && line.kind[stretch] !== KIND.WAIT) by.set(line.pid[stretch], (by.get(line.pid[stretch]) || 0) + events);
-  };
-  for (; place + 1 < line.length && line.end_of(place) <= at; place++) add(counts.by, place, line.end_of(place) - line.at[place]);
-  counts.place = place;
-  counts.at = at;
-  const now = new Map(counts.by);
-  // The last stretch may go on: it is counted anew each time.
-  if (place < line.length && line.at[place] < at) add(now, place, at - line.at[place]);
-  return now;
-}
-
 function processes() {
-  const made = instructions();
+  if (made.edits !== run.edits) made = new Made(run.edits);
+  made.go(run.line, run.at);
   return machine.pids().map((pid) => {
     const process = machine.process(pid);
     process.program = run.program_of(pid);
     process.size = Number(machine.size(pid) ?? 0n);
-    process.made = made.get(pid) || 0;
+    process.made = made.of(pid);
     return process;
   });
 }
@@ -109,43 +95,59 @@ function files(list) {
   return { descriptors, pipes: [...pipes.values()], console: [0, 1, 2].map((list) => machine.console(list)) };
 }
 
-/** Tells how the machine stands. While it plays, what the panels show is told only so often that eyes can follow. */
-function view() {
-  if (!run || !run.booted) return;
-  const now = performance.now(), is_whole = !playing || now - told_whole >= WHOLE, panels = is_whole ? wanted.panels : {};
-  if (is_whole) told_whole = now;
-  const facts = machine.facts(), list = processes();
-  let pid = wanted.pid;
-  if (wanted.follow && facts.current) pid = facts.current;
-  if (!list.some((it) => it.pid === pid && it.lives)) pid = facts.current || (list.find((it) => it.lives) || { pid: 0 }).pid;
-  const told = { at: run.at, end: run.end, facts, processes: list, pid, is_whole, playing, stopped, edits: run.edits, shown: run.shown_count(), copies: run.copies.length, copies_bytes: run.copies.reduce((sum, it) => sum + it.bytes.length, 0), memory_bytes: machine.calls.memory.buffer.byteLength };
-  if (wanted.edits !== run.edits) { wanted.told = 0; wanted.edits = run.edits; told.anew = true; }
-  const from = Math.max(0, wanted.told - 1);
-  told.line = run.line.part(Math.min(from, run.line.length));
-  wanted.told = run.line.length;
-  const named_from = told.anew ? 0 : Math.min(wanted.named, run.names.length);
-  told.names = { from: named_from, list: run.names.slice(named_from) };
-  wanted.named = run.names.length;
-  const shown_from = Math.min(wanted.shown || 0, told.shown);
-  told.text = { from: told.anew || wanted.shown > told.shown ? 0 : shown_from };
-  told.text.bytes = run.shown.bytes.slice(told.text.from, told.shown);
-  wanted.shown = told.shown;
-  const regs = pid ? machine.registers(pid) : null;
-  if (regs) {
-    told.registers = regs;
-    told.next = machine.address(pid);
-    if (panels.instruction) {
-      told.code = code(pid, regs[0]);
-      const at = wanted.memory === null ? regs[2] & ~15n : wanted.memory;
-      told.memory = { at, bytes: machine.peek(pid, at, 256) };
-      if (told.memory.bytes.length === 0 && wanted.memory === null) told.memory = { at: 0n, bytes: machine.peek(pid, 0n, 256) };
-    }
-    if (panels.pages) told.pages = pages(pid);
+/** What came of the run since the last view: stretches, names of programs, and bytes that the console has shown. */
+function news() {
+  const { line, names } = run, anew = wanted.edits !== run.edits, shown = run.shown_count();
+  if (anew) Object.assign(wanted, { told: 0, named: 0, shown: 0, faults: -1, edits: run.edits });
+  // The last stretch that was told may have gone on.
+  const from = Math.max(0, wanted.told - 1), text_from = Math.min(wanted.shown, shown);
+  const told = { anew, shown, line: line.part(from), names: { from: wanted.named, list: names.slice(wanted.named) }, text: { from: text_from, bytes: run.shown.bytes.slice(text_from, shown) } };
+  Object.assign(wanted, { told: line.length, named: names.length, shown });
+  return told;
+}
+
+/** The process that is looked at: the one that is wanted, if it lives, or else one that does. */
+function looked_at(current, list) {
+  const pid = wanted.follow && current ? current : wanted.pid, live = list.filter((it) => it.lives);
+  return live.some((it) => it.pid === pid) ? pid : current || (live.length ? live[0].pid : 0);
+}
+
+/** What the panels show of a process. */
+function process_panels(pid, { instruction, pages: table }) {
+  const registers = machine.registers(pid);
+  if (registers === null) return {};
+  const told = { registers, next: machine.address(pid) };
+  if (instruction) {
+    told.code = code(pid, registers[0]);
+    const at = wanted.memory === null ? registers[2] & ~15n : wanted.memory;
+    told.memory = { at, bytes: machine.peek(pid, at, 256) };
+    if (told.memory.bytes.length === 0 && wanted.memory === null) told.memory = { at: 0n, bytes: machine.peek(pid, 0n, 256) };
   }
+  if (table) told.pages = pages(pid);
+  return told;
+}
+
+/** What a whole view has beside: the processes, and what the panels show. */
+function whole(current) {
+  const { panels } = wanted, list = processes(), pid = looked_at(current, list);
+  const told = { processes: list, current, pid, ...process_panels(pid, panels) };
   if (panels.pages) told.frames = frames();
   if (panels.files) told.files = files(list);
-  if (faults.length !== (wanted.faults ?? -1) || told.anew) told.faults = why_of_faults();
-  wanted.faults = faults.length;
+  return { ...told, copies: run.copies.along.length, copies_bytes: run.copies.bytes, memory_bytes: machine.memory().length };
+}
+
+/** Tells how the machine stands. While it plays, a whole view comes only so often that eyes can follow. */
+function view() {
+  if (!run || !run.booted) return;
+  const began = performance.now(), facts = machine.facts();
+  const told = { at: run.at, end: run.end, facts, program: run.program_of(facts.current), playing, stopped, edits: run.edits, ...news() };
+  if (!playing || told.anew || began >= next_whole) {
+    told.whole = whole(facts.current);
+    if (faults.length !== wanted.faults) told.faults = why_of_faults();
+    wanted.faults = faults.length;
+    const took = performance.now() - began;
+    next_whole = began + took + Math.max(WHOLE, WHOLE_REST * took);
+  }
   postMessage({ view: told });
 }
 
@@ -204,10 +206,26 @@ function stop_of_record(to) {
   return null;
 }
 
+// Between two slices of play the messages that wait are heard. A timer of 0 ms would wait for 4 ms.
+const slices = new MessageChannel();
+slices.port1.onmessage = ({ data }) => { if (data === turn) play(); };
+
+/** Plays on after so many milliseconds. */
+function play_on(ms) {
+  no_more();
+  if (ms > 0) timer = setTimeout(play, ms); else slices.port2.postMessage(turn);
+}
+
+/** Takes back that it is played on. */
+function no_more() {
+  clearTimeout(timer);
+  turn++;
+}
+
 function stop(why) {
   playing = false;
   stopped = why;
-  clearTimeout(timer);
+  no_more();
   view();
 }
 
@@ -259,8 +277,10 @@ function play() {
   }
   if (!playing) return;
   view();
-  const sleeps = is_terminal && plan.is_idle && !plan.keys.length;
-  timer = setTimeout(play, sleeps ? Math.max(0, Math.min(TICK, next_tick - performance.now())) : settings.speed ? 16 : 0);
+  if (is_terminal && plan.is_idle && !plan.keys.length) {
+    run.copies.prepare();
+    play_on(Math.min(TICK, next_tick - performance.now()));
+  } else play_on(settings.speed ? 16 : 0);
 }
 
 function begin_play() {
@@ -271,7 +291,7 @@ function begin_play() {
   next_tick = performance.now() + TICK;
   slice_from = performance.now();
   owed = 0;
-  clearTimeout(timer);
+  no_more();
   play();
 }
 
@@ -322,7 +342,7 @@ function backward(what) {
 
 function step(what, is_back) {
   playing = false;
-  clearTimeout(timer);
+  no_more();
   stopped = "";
   if (what === "one") { if (is_back) run.go(run.at - 1); else if (run.is_past) run.go(run.at + 1); else heard(plan.next(1)); }
   else if (is_back) backward(what);
@@ -333,7 +353,7 @@ function step(what, is_back) {
 /** Plays at once, until process 1 is gone or so many rounds are over: for a lesson. */
 function finish(rounds) {
   playing = false;
-  clearTimeout(timer);
+  no_more();
   run.go(run.end);
   plan.find();
   const ticks = machine.facts().clock + rounds;
@@ -355,10 +375,10 @@ const obey = {
   },
   boot({ config, files, how, play: plays, keys }) {
     playing = false;
-    clearTimeout(timer);
+    no_more();
     faults = [];
-    counts = { place: 0, by: new Map(), edits: -1, at: 0 };
-    Object.assign(wanted, { told: 0, shown: 0, named: 0, edits: -1, pid: 1, faults: -1 });
+    made = new Made();
+    Object.assign(wanted, { edits: -1, pid: 1 });
     const before = performance.now(), refusal = run.boot(config, files);
     if (refusal !== null) { postMessage({ refusal }); return; }
     if (how) settings = { ...settings, ...how };
@@ -372,16 +392,16 @@ const obey = {
   play: begin_play,
   pause() { if (playing) stop("paused"); },
   step({ what, back }) { step(what, back); },
-  go({ place }) { playing = false; clearTimeout(timer); stopped = ""; run.go(place); view(); },
+  go({ place }) { playing = false; no_more(); stopped = ""; run.go(place); view(); },
   finish({ rounds }) { finish(rounds); postMessage({ finished: true }); },
   keys({ bytes }) {
     if (!run || !run.booted) return;
     if (run.is_past) { run.cut(); plan.find(); }
     plan.keys.push(...bytes);
     plan.is_idle = false;
-    if (playing) { clearTimeout(timer); play(); }
+    if (playing) { no_more(); play(); }
   },
-  look(it) { Object.assign(wanted, it); if (!playing && run && run.booted) view(); },
+  look(it) { Object.assign(wanted, it); next_whole = 0; if (!playing) view(); },
   settings(it) {
     settings = { ...settings, ...it };
     if (plan) { const { keys } = plan; plan = new Plan(run, settings); plan.keys = keys; }
