@@ -4,9 +4,16 @@
 # It holds the programs, as `./xv` proved and built them, the page, the programs for the machine with their sources, and
 # the manual and the course as HTML and as text. Beside it comes nektavoly-VERSION-teacher.tar.gz, which isn't handed
 # out: the answers, and the exercises as files for grading. It is untarred over the other one.
-# The same commit gives the same bytes. It needs pandoc, Debian's package of that name.
+# The same commit, kit and pandoc give the same bytes, whoever makes it, when and in which folder. pandoc is Debian's
+# package of that name; 2.17 is that of Debian 12. BUILT in the archive names the kit.
 set -euo pipefail
 export LC_ALL=C TZ=UTC
+umask 022
+# What users may have set for themselves makes no difference: no words for tools, no ends of lines, no templates of pandoc.
+unset CDPATH GZIP TAR_OPTIONS POSIXLY_CORRECT
+git() {
+    command git -c core.autocrlf=false -c core.attributesFile=/dev/null -c log.showSignature=false "$@"
+}
 into=$(cd "${1-.}" && pwd)
 cd "$(dirname "$0")"
 
@@ -16,7 +23,7 @@ stop() {
 }
 
 command -v pandoc >/dev/null || stop "there is no pandoc: apt-get install pandoc"
-[ -z "$(git status --porcelain)" ] || stop "there are changes that no commit has"
+[ -z "$(git status --porcelain --untracked-files=all)" ] || stop "there are changes that no commit has"
 [ "$(./xv --status 2>&1 | head -n 1)" = "xv: proved and built of these sources" ] ||
     stop "the programs aren't built: ./xv"
 
@@ -31,14 +38,14 @@ mkdir -p "$RELEASE" "$TEACHER"
 # What the commit holds of it.
 git archive HEAD xv README.md LICENSE VERSION CHANGELOG.md docs programs page/nektavoly.html checks/sessions \
     checks/why checks/terminal checks/debugger checks/gdb checks/gdb.sh checks/grading | tar -x -C "$RELEASE"
-rm -r "$RELEASE/docs/html"
+mv "$RELEASE/docs/html" "$room/html"
 
 # A program's own file lies in libexec/, and bin/ has a script of its name, which knows --version.
 mkdir "$RELEASE/bin" "$RELEASE/libexec"
 for main in crates/*/src/main.rt; do
     program=$(basename "${main%/src/main.rt}")
     cp "crates/$program/out/$program" "$RELEASE/libexec/"
-    cp programs/host/launch.sh "$RELEASE/bin/$program"
+    cp "$RELEASE/programs/host/launch.sh" "$RELEASE/bin/$program"
 done
 { git log -1 --format='commit %H of %cs'; rt version; } >"$RELEASE/BUILT"
 
@@ -51,12 +58,12 @@ up_from() {
 as_html() {
     while read -r page; do
         title=$(sed -n 's/^# //p' "$RELEASE/$page" | head -n 1)
-        PAGE=$page pandoc -f gfm -t html5 -s --metadata pagetitle="$title" --lua-filter docs/html/links.lua \
-            --css "$(up_from "$page")/docs/style.css" -o "$RELEASE/${page%.md}.html" "$RELEASE/$page"
+        PAGE=$page pandoc --data-dir "$room/none" -f gfm -t html5 -s --metadata pagetitle="$title" \
+            --lua-filter "$room/html/links.lua" --css "$(up_from "$page")/docs/style.css" -o "$RELEASE/${page%.md}.html" "$RELEASE/$page"
     done
 }
 
-cp docs/html/style.css "$RELEASE/docs/style.css"
+cp "$room/html/style.css" "$RELEASE/docs/style.css"
 # The page in the browser leads to the manual's HTML, too.
 sed -i -E 's/([A-Za-z0-9-]+)\.md(\\?[#"`)])/\1.html\2/g' "$RELEASE/page/nektavoly.html"
 
@@ -72,8 +79,10 @@ find "$RELEASE" -name '*.md' -printf '%P\n' | sort | as_html
 # Packs the folder in $1 as the archive $2, with the sums of its files in the file $3.
 pack() {
     (cd "$1/$name" && find . -type f ! -name "$3" | sort | xargs -d '\n' sha256sum >"$3")
-    tar -c --sort=name --mtime="@$(git log -1 --format=%ct)" --owner=0 --group=0 --numeric-owner --mode=u=rwX,go=rX \
-        --format=gnu -C "$1" "$name" | gzip -n9 >"$into/$2"
+    # gzip reads a file and no pipe, so that it gets the same pieces each time.
+    tar -cf "$room/packed" --sort=name --mtime="@$(git log -1 --format=%ct)" --owner=0 --group=0 --numeric-owner \
+        --mode=u=rwX,go=rX,a-st --format=gnu -C "$1" "$name"
+    gzip -n9 <"$room/packed" >"$into/$2"
     echo "release.sh: $into/$2, $(stat -c %s "$into/$2") bytes"
 }
 

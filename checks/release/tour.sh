@@ -66,9 +66,31 @@ has 'grading: right' '^anna,6,6,right,$' cat graded.csv
 has 'grading: a fault with its line' '^chris,1,6,fault,.*line 14' cat graded.csv
 has 'grading: a name that no file has' '^gero,0,6,refused' cat graded.csv
 
+# The commands of the course, as they are written: 3 and 4 tell of init's status, and of rounds that are over.
+while IFS= read -r line; do
+    timeout 60 sh -c "$line" </dev/null >told 2>&1
+    status=$?
+    case $status in 0 | 3 | 4) ;; *) so 1 "status $status: $line" && tail -5 told ;; esac
+    lines=$((${lines-0} + 1))
+done < <(sed -n 's/^    \(\.\/xv .*\)/\1/p' docs/COURSE.md | grep -v mine/)
+so "$((${lines-0} < 10))" "${lines-0} commands of the course were run"
+
 for check in sessions why terminal debugger; do
     has "checks/$check/run.sh" '(are as they should be|0 of them differ)' "checks/$check/run.sh"
 done
+
+# As a teacher may have put it for all: in a folder with a blank in its name, and nobody may write there.
+mkdir "../for all" && tar xf "../$name.tar.gz" -C "../for all" && chmod -R a-w "../for all/$name"
+cd "../for all/$name" || exit 2
+has 'in a folder with a blank that cannot be written' '^hi$' sh -c './xv programs/examples/hello/init.s </dev/null'
+has 'the shell at a terminal there' '1 1 6' at_terminal './xv programs/bin/*' 'echo hello | wc\nexit\n'
+has 'the debugger there' 'init\.s:10' sh -c 'printf "until call fork\n" | ./xv --debug programs/examples/pipeline/init.s'
+has 'grading there' '^anna,6,6,right,$' programs/course/grade.sh --work ../work programs/course/grading/children.toml \
+    programs/course/grading/submissions/*
+has 'a picture there' '</svg>' ./xv --picture --rounds 20 --quantum 50 programs/examples/pipeline/init.s
+cd "../../$name" || exit 2
+chmod -R u+w "../for all" && rm -r "../for all"
+
 (cd .. && tar xf "$name-teacher.tar.gz")
 sha256sum --quiet -c SHA256SUMS-teacher
 so $? "all sums of the teacher's archive are as SHA256SUMS-teacher has them"
