@@ -161,11 +161,11 @@ elif command -v parallel >/dev/null; then
     set -- --will-cite --env XV_GRADE --env XV_PICTURE --env EXERCISE --env LC_ALL
     [ -z "$jobs" ] || set -- "$@" --jobs "$jobs"
     [ -z "$hosts" ] || set -- "$@" --sshlogin "$hosts"
-    parallel "$@" "$here/grade_one.sh" <"$work/todo" >&2
+    parallel "$@" --quote "$here/grade_one.sh" <"$work/todo" >&2
 elif [ -n "$hosts" ]; then
     give_up 2 '--sshlogin needs GNU parallel (Debian: apt-get install parallel)'
 else
-    xargs -P "${jobs:-$(nproc)}" -n 1 "$here/grade_one.sh" <"$work/todo" >&2
+    xargs -d '\n' -P "${jobs:-$(nproc)}" -n 1 "$here/grade_one.sh" <"$work/todo" >&2
 fi
 
 missing=0
