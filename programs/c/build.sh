@@ -3,7 +3,8 @@
 #
 #   programs/c/build.sh            all programs of src/ into ../bin; programs/c/build.sh NAME.. builds some
 #   programs/c/build.sh --check    builds them into a folder of its own, and tells which of ../bin are others
-#   programs/c/build.sh --debug NAME..    leaves the names and lines of programs of src/ in ../bin/NAME.debug, for debuggers
+#   programs/c/build.sh --debug [NAME..]  leaves programs of src/ in ../debug, each with its names and lines beside it in
+#                                         NAME.debug, for debuggers. The programs of ../bin stay alone, since ../bin/* are FILEs
 #   programs/c/build.sh my.c ..    programs of your own, from any folder: my.c gives the program my beside it, and
 #                                  my.debug for debuggers. What the compiler thinks strange is a warning, and no error
 #
@@ -30,16 +31,16 @@ build() {
         ${CFLAGS-} -I. $link -Wl,-s -o "$2" $library "../src/$1.c")
 }
 
-# Leaves the names and lines of program $1 of src/ beside the program, whose bytes stay.
+# Leaves program $1 of src/ in ../debug, with its names and lines beside it.
 build_debug() {
-    file=$(readlink -f -- "$here/../bin")/$1
+    mkdir -p "$here/../debug"
+    file=$(readlink -f -- "$here/../debug")/$1
     # shellcheck disable=SC2086
     (cd "$here/lib" && "${tools}gcc" $target $language -Os -g -ffreestanding $plain $warnings ${CFLAGS-} -I. $link \
-        -o "$file.whole" $library "../src/$1.c")
-    "${tools}objcopy" --only-keep-debug "$file.whole" "$file.debug"
-    "${tools}strip" -o "$file.stripped" "$file.whole"
-    cmp -s "$file.stripped" "$file" || echo "build.sh: $1 is another; build it anew" >&2
-    rm "$file.whole" "$file.stripped"
+        -o "$file" $library "../src/$1.c")
+    "${tools}objcopy" --only-keep-debug "$file" "$file.debug"
+    "${tools}strip" "$file"
+    cmp -s "$file" "$here/../bin/$1" || echo "build.sh: $1 of ../bin is another; $1 of ../debug goes with its NAME.debug" >&2
 }
 
 # Builds the program of file $1 beside it. Its main need not say return.
@@ -80,6 +81,8 @@ command -v "${tools}gcc" >/dev/null || {
 [ "$1" = --check ] && { check; exit; }
 if [ "$1" = --debug ]; then
     shift
+    # shellcheck disable=SC2046
+    [ $# -gt 0 ] || set -- $(names)
     for word; do
         build_debug "$word"
     done
