@@ -9,7 +9,7 @@ here=$(cd "$(dirname "$0")" && pwd) || exit 2
 top=$(cd "$here/../.." && pwd) || exit 2
 command -v tmux >/dev/null || { echo "by_hand.sh: there is no tmux: apt-get install tmux" >&2; exit 2; }
 screens=${1-$(mktemp -d)} || exit 2
-mkdir -p "$screens" || exit 2
+mkdir -p "$screens/unread" && screens=$(cd "$screens" && pwd) || exit 2
 socket=xv_by_hand_$$
 bad=0
 shots=0
@@ -193,7 +193,8 @@ ended 4
 shoot ended
 
 # A program that hangs, looked into by Ctrl-C.
-start 'programs/course/hang/init.s' none
+cp "$here/../why/unread.s" "$screens/unread/init.s"
+start "$screens/unread/init.s" none
 for _ in 1 2 3 4 5 6 7 8 9 10; do
     keys C-p
     sleep "${PATIENCE-1}"
@@ -202,7 +203,7 @@ done
 keys C-c
 wait_for 50 '^(xv) *$'
 line 'where' 50 '^(xv) *$'
-line 'fds' 50 '^(xv) *$'
+line 'fds of 2' 50 '^(xv) *$'
 shoot hang
 
 # Back to the boot, forth to the read, an instruction back, and on: it hangs again.

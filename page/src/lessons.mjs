@@ -74,8 +74,9 @@ const is_number = (truth) => (given) => numbers(given).length === 1 && numbers(g
 const is_list = (truth) => (given) => numbers(given).join(" ") === truth.join(" ");
 
 /**
- * A question's `judge` answers {right, words}: whether the answer is right, by what the machine did, and what to look at. It is
- * called after the lesson's program has run to its end, unless `alone`.
+ * A question's `judge` answers {right, words, tried, place}: whether the answer is right, by what the machine did; words that are told
+ * only if it is; what came of what was tried, for an answer that isn't; and the event to look at. It is called after the lesson's
+ * program has run to its end, unless `alone`.
  */
 const LESSONS = [
   {
@@ -97,17 +98,17 @@ const LESSONS = [
       { ask: "How many processes are there in all, with process 1?", judge: (given) => { const truth = forks().length + 1; return { right: is_number(truth)(given), words: `${truth}: each fork doubles those that go on.` }; } },
       { ask: "Who is the parent of process 8?", judge: (given) => { const found = forks().find(([, child]) => child === 8); return { right: found && is_number(found[0])(given), words: `Process ${found[0]}. The forks were ${forks().map(([a, b]) => `${a}→${b}`).join(", ")}.` }; } },
       { ask: "With which status does process 1 exit?", judge: (given) => { const it = ends(1); return { right: is_number(it.number)(given), words: `With ${it.number}: it counts all.`, place: it.from }; } },
-      { ask: "Now change the program so that it makes a chain of eight processes, each the parent of the next.", alone: true, run: true, judge: async () => { const refusal = await boot(); if (refusal) return { right: false, words: refusal }; await finish(200); const made = forks(), right = made.length === 7 && made.every(([parent, child], k) => parent === k + 1 && child === k + 2); return { right, words: right ? "A chain: 1→2, 2→3 up to 7→8." : `The forks of your program are ${made.map(([a, b]) => `${a}→${b}`).join(", ") || "none"}.` }; } },
+      { ask: "Now change the program so that it makes a chain of eight processes, each the parent of the next.", alone: true, run: true, judge: async () => { const refusal = await boot(); if (refusal) return { right: false, tried: refusal }; await finish(200); const made = forks(), right = made.length === 7 && made.every(([parent, child], k) => parent === k + 1 && child === k + 2); return { right, words: "A chain: 1→2, 2→3 up to 7→8.", tried: `The forks of your program are ${made.map(([a, b]) => `${a}→${b}`).join(", ") || "none"}.` }; } },
     ],
   },
   {
     name: "A pipe that hangs", example: "hang", how: { rounds: true, quantum: 1000 }, page: "pipes.md",
     about: "Why a reader waits for an end that never comes.",
-    text: `<p>A child writes three bytes into a pipe and ends. Its parent reads until the pipe's end, and then exits with the number of bytes. It never does.</p><p>Run it, look at <b>Descriptors</b> and <b>Why</b>: the end of a pipe comes when no descriptor is left on its write end.</p>`,
+    text: `<p>A child writes three bytes into a pipe and ends. Its parent reads until the pipe's end, and then exits with the number of bytes. It never does.</p><p>Run it, and look at <b>Descriptors</b> and <b>Why</b>.</p>`,
     questions: [
       { ask: "Which process still holds the write end when nobody runs any more?", judge: (given) => { const holders = [...new Set(app.view.files.descriptors.filter((it) => it.kind === 4).map((it) => it.pid))]; return { right: is_list(holders)(given), words: `Process ${holders.join(" and ")}: the reader itself, so nobody can wake it.` }; } },
       { ask: "In which call, by its number, does the parent sleep?", judge: (given) => { const it = app.view.processes.find((it) => it.pid === 1); return { right: is_number(it.call.number)(given), words: `In call ${it.call.number}, read.` }; } },
-      { ask: "Mend the program: the parent is to close its write end (call 21, its number lies at sp - 12) behind the fork. It then exits with 3.", alone: true, run: true, judge: async () => { const refusal = await boot(); if (refusal) return { right: false, words: refusal }; const view = await finish(100), right = view.facts.halted && view.facts.status === 3 && calls(21).some((it) => it.pid === 1 && it.value === 0); return { right, words: right ? "Process 1 closed its end, read three bytes and the end, and exited with 3." : view.facts.halted ? `It ended with ${view.facts.status}.` : "It still hangs: look at Why." }; } },
+      { ask: "Mend the program: it is to read up to the pipe's end, and to exit with the number of bytes that it has read.", alone: true, run: true, judge: async () => { const refusal = await boot(); if (refusal) return { right: false, tried: refusal }; const view = await finish(100), has_end = calls(5).some((it) => it.pid === 1 && it.value === 0), right = view.facts.halted && view.facts.status === 3 && has_end && calls(21).some((it) => it.pid === 1 && it.value === 0); return { right, words: "Process 1 closed its end, read three bytes and the end, and exited with 3.", tried: !view.facts.halted ? "It still hangs: look at Why." : `It ended with ${view.facts.status}${has_end ? "" : ", and never read the end"}.` }; } },
     ],
   },
   {
@@ -117,7 +118,7 @@ const LESSONS = [
     questions: [
       { ask: "How many pages does the process have, with guard and stack?", judge: async (given) => { const view = await with_frames(), truth = [...view.frames.kinds].filter((it) => it === 6).length; return { right: is_number(truth)(given), words: `${truth}: 1 of text, 48 of data, the guard page, the stack.` }; } },
       { ask: "How many frames of RAM are in use before the first instruction?", judge: async (given) => { const view = await at(0), truth = app.booted.config.frames - view.facts.free; return { right: is_number(truth)(given), words: `${truth}: the pages, three tables and the trapframe.` }; } },
-      { ask: "What is the least number of frames with which it boots? The machine tries your number, and one less.", alone: true, judge: async (given) => { const [wanted] = numbers(given); if (!(wanted >= 17 && wanted <= 32768)) return { right: false, words: "A machine has from 16 to 32,768 frames." }; const fits = await boot({ frames: wanted }), less = await boot({ frames: wanted - 1 }); await boot({ frames: 4096 }); return { right: fits === null && less !== null, words: `With ${wanted} frames: ${fits === null ? "it boots" : fits}. With ${wanted - 1}: ${less === null ? "it boots" : less}.` }; } },
+      { ask: "What is the least number of frames with which it boots? The machine tries your number, and one less.", alone: true, judge: async (given) => { const [wanted] = numbers(given); if (!(wanted >= 16 && wanted <= 32768)) return { right: false, tried: "A machine has from 16 to 32,768 frames." }; const fits = await boot({ frames: wanted }), less = wanted > 16 ? await boot({ frames: wanted - 1 }) : "no machine has so few"; await boot({ frames: 4096 }); const tried = `With ${wanted} frames: ${fits === null ? "it boots" : fits}. With ${wanted - 1}: ${less === null ? "it boots" : less}.`; return { right: fits === null && less !== null, words: tried, tried }; } },
     ],
   },
   {
@@ -127,7 +128,7 @@ const LESSONS = [
     questions: [
       { ask: "The pids of the first six turns, in order:", judge: (given) => { const truth = stretches().filter((it) => it.kind === KIND.TURN).slice(0, 6).map((it) => it.pid); return { right: is_list(truth)(given), words: `${truth.join(" ")}: round by slots.` }; } },
       { ask: "Which process ends first?", judge: (given) => { const it = stretches().find((it) => it.kind === KIND.EXIT); return { right: is_number(it.pid)(given), words: `Process ${it.pid}, at event ${it.from}.`, place: it.from }; } },
-      { ask: "With 3,000 Runs in a round, how many turns are there in all? (Set it, count in your head: each process needs some 2,000.)", alone: true, judge: async (given) => { await boot({ quantum: 3000 }); await finish(60); const truth = stretches().filter((it) => it.kind === KIND.TURN).length; return { right: is_number(truth)(given), words: `${truth}: ${stretches().filter((it) => it.kind === KIND.TURN).map((it) => it.pid).join(" ")}. Process 1 counts to its end and waits within the first round, and what is left of it goes to the next.` }; } },
+      { ask: "With 3,000 Runs in a round, how many turns are there in all? (Set it, count in your head: each process needs some 2,000.)", alone: true, judge: async (given) => { await boot({ quantum: 3000 }); await finish(60); const truth = stretches().filter((it) => it.kind === KIND.TURN).length; return { right: is_number(truth)(given), words: `${truth}: ${stretches().filter((it) => it.kind === KIND.TURN).map((it) => it.pid).join(" ")}. What happens within the first round?` }; } },
     ],
   },
   {
@@ -137,7 +138,7 @@ const LESSONS = [
     questions: [
       { ask: "How many frames are in use before it grows?", judge: async (given) => { const [truth] = await frames_used(); return { right: is_number(truth)(given), words: `${truth}: three pages, three tables, the trapframe.` }; } },
       { ask: "What does each of the five touches cost, in frames? Five numbers:", judge: async (given) => { const used = await frames_used(), truth = []; for (let k = 1; k < used.length; k++) if (used[k] > used[k - 1]) truth.push(used[k] - used[k - 1]); return { right: is_list(truth)(given), words: `${truth.join(" ")}: the page, and each table that was not there.` }; } },
-      { ask: "With how many frames at least does it exit with 5? The machine tries your number, and one less.", alone: true, judge: async (given) => { const [wanted] = numbers(given); if (!(wanted >= 17 && wanted <= 32768)) return { right: false, words: "A number from 17 on: the machine has 16 frames at least." }; const ends_with = async (frames) => { const refusal = await boot({ frames }); if (refusal) return refusal; const view = await finish(60); return view.facts.halted ? view.facts.status : "no end"; }; const fits = await ends_with(wanted), less = await ends_with(wanted - 1); return { right: fits === 5 && less !== 5, words: `With ${wanted} frames it ends with ${fits}, with ${wanted - 1} with ${less}.` }; } },
+      { ask: "With how many frames at least does it exit with 5? The machine tries your number, and one less.", alone: true, judge: async (given) => { const [wanted] = numbers(given); if (!(wanted >= 16 && wanted <= 32768)) return { right: false, tried: "A machine has from 16 to 32,768 frames." }; const ends_with = async (frames) => { const refusal = await boot({ frames }); if (refusal) return refusal; const view = await finish(60); return view.facts.halted ? view.facts.status : "no end"; }; const fits = await ends_with(wanted), less = wanted > 16 ? await ends_with(wanted - 1) : "nothing: no machine has so few", tried = `With ${wanted} frames it ends with ${fits}, with ${wanted - 1} with ${less}.`; return { right: fits === 5 && less !== 5, words: tried, tried }; } },
     ],
   },
 ];
@@ -165,9 +166,9 @@ async function judge(lesson, question, given, told) {
       if (refusal) throw new Error(refusal);
       await finish();
     }
-    const { right, words, place } = await question.judge(given);
+    const { right, words, tried, place } = await question.judge(given);
     told.className = right ? "right" : "wrong";
-    told.replaceChildren(right ? "Right. " : "Not so. ", words, place === undefined ? "" : " ");
+    told.replaceChildren(right ? "Right. " : "Not so. ", (right ? words : tried) || "", place === undefined ? "" : " ");
     if (place !== undefined) told.append(element("button", { onclick: () => ask("go", { place }) }, "See it"));
     question.done = right || question.done;
   } catch (error) {

@@ -150,7 +150,7 @@ async function share(page) {
 // What a student answers to each question; an edit of the source, where a program is to be mended; null where it is left out.
 const CLOSES = ["  li s0, 0\n", "  lw a0, -12(sp)\n  li a7, 21\n  ecall\n  li s0, 0\n"];
 const CHAIN = ["  ecall\n  ecall\n  ecall\n  li s0, 1\n", "  li s1, 7\nfork:\n  li a7, 1\n  ecall\n  bne a0, x0, parent\n  addi s1, s1, -1\n  bne s1, x0, fork\nparent:\n  li s0, 1\n"];
-const LESSONS = [["2", "-1", "its load faults", "10"], ["8", "5", "8", CHAIN], ["1", "5", CLOSES], ["51", "55", "55"], ["1 2 3 1 2 3", null, null], ["7", "1 3 2 2 2", "17"]];
+const LESSONS = [["2", "-1", "its load faults", "10"], ["8", "5", "8", CHAIN], ["1", "5", CLOSES], ["51", "55", "55"], ["1 2 3 1 2 3", null, null], ["7", "2 1 2 2 3", "17"]];
 const clicked = (page, k, given) => page.eval(`(() => { const it = document.querySelectorAll('#lessons .ask')[${k}], input = it.querySelector('input:not([type=radio])'); if (input) input.value = ${JSON.stringify(given)}; const radio = [...it.querySelectorAll('input[type=radio]')].find((one) => one.value === ${JSON.stringify(given)}); if (radio) radio.checked = true; it.querySelector('button.main').click(); })()`);
 const typed_over = (page, [from, to]) => page.eval(`(() => { const it = document.getElementById('source'); it.value = it.value.replace(${JSON.stringify(from)}, ${JSON.stringify(to)}); it.dispatchEvent(new Event('input')); })()`);
 
