@@ -65,6 +65,8 @@ programs/course/grade.sh programs/course/grading/children.toml programs/course/g
 has 'grading: right' '^anna,6,6,right,$' cat graded.csv
 has 'grading: a fault with its line' '^chris,1,6,fault,.*line 14' cat graded.csv
 has 'grading: a name that no file has' '^gero,0,6,refused' cat graded.csv
+has 'grading: a picture of a run that waits' 'process 1[^<]*asleep' sh -c \
+    'cat "$(dirname "$(grep -l "^edgar" grade-work/jobs/*/name)")"/out/picture-1.svg'
 
 # The commands of the course, as they are written: 3 and 4 tell of init's status, and of rounds that are over.
 while IFS= read -r line; do
