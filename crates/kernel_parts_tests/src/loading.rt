@@ -1,5 +1,5 @@
 //! Programs built in a RAM whose frames are full of old bytes, and what their memory shows.
-ghost use Rattle.std.specs.Prelude.{IfOk};
+ghost use Rattle.std.specs.Prelude.{◌<◌, ◌^◌, IfOk};
 ghost use Rattle.frame_list.specs.Pool.{Good};
 ghost use Rattle.addr_space.specs.Space.{IsSpace};
 
@@ -131,6 +131,14 @@ fn push_page(space: &Space, ram: &Ram, vpn: Vpn, bytes: &mut Vec<u8>) -> Result<
     }
 }
 
+/// The rights of a page, if it is there.
+fn perm(space: &Space, ram: &Ram, page: u32) -> Option<Perm>
+    requires space { IsSpace ram.now space.now }
+    requires page { page < 2 ^ 26 }
+{
+    space.perm(ram, Vpn::new(page))
+}
+
 fn what_shows(
     rt: HostRuntime,
     space: &Space,
@@ -149,12 +157,12 @@ fn what_shows(
         free,
         size: space.size(),
         rights: [
-            space.perm(ram, Vpn::new(0)),
-            space.perm(ram, Vpn::new(1)),
-            space.perm(ram, Vpn::new(2)),
-            space.perm(ram, Vpn::new(3)),
-            space.perm(ram, Vpn::new(4)),
-            space.perm(ram, Vpn::new(5)),
+            perm(space, ram, 0),
+            perm(space, ram, 1),
+            perm(space, ram, 2),
+            perm(space, ram, 3),
+            perm(space, ram, 4),
+            perm(space, ram, 5),
         ],
         bytes,
     })

@@ -8,8 +8,6 @@
 mod command_line;
 mod line;
 mod running;
-#[cfg(test)]
-mod tests;
 
 use crate::command_line::{not_text, settings};
 use crate::line::Settings;
