@@ -14,7 +14,7 @@ import * as lessons from "./lessons.mjs";
 import { base64 } from "./app.mjs";
 
 const DATA = globalThis.PAGE_DATA;
-const PANELS = ["code", "memory", "pages", "frames", "files"]; // what only a whole view has
+const PANELS = ["code", "memory", "pages", "frames", "files", "sleepers"]; // what only a whole view has
 let text_room = new Uint8Array(65536), drawn = 0, waits = false, is_whole = false;
 
 function take_text({ from, bytes }) {

@@ -1,13 +1,16 @@
 // The processes: a tree by parents, with what each does, and beside it the picture of turns.
 import { $, app, ask, bytes_words, color_of, element, fresh, grouped, in_time, on, program_name, style_of } from "./app.mjs";
 import { KIND } from "./machine.mjs";
-import { waits_for } from "./words.mjs";
+import { sleeper_parts } from "./words.mjs";
 import { range } from "./time.mjs";
 
 function state_of(process, current) {
   if (!process.lives) return ["zombie", `zombie, ended with ${process.status}`];
   const mark = process.marked ? ", to be killed" : "";
-  if (process.asleep) return ["sleeps", `sleeps ${waits_for(process, app.view.processes, app.view.files || null).what}${mark}`];
+  if (process.asleep) {
+    const told = app.view.sleepers?.find((it) => it.pid === process.pid)?.text;
+    return ["sleeps", `sleeps${told ? ` in ${sleeper_parts(told).what}` : ""}${mark}`];
+  }
   if (process.pid === current) return ["runs", "runs" + mark];
   return ["may", "may run" + mark];
 }

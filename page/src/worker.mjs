@@ -1,7 +1,7 @@
 // The worker: it has the machine, plays it, and tells the page how it stands. So the page stays alive at full speed.
 import { Machine, KIND, EVENT } from "./machine.mjs";
 import { Run, Plan } from "./run.mjs";
-import { describe_fault, store_width } from "./words.mjs";
+import { store_width } from "./words.mjs";
 
 const SLICE = 9; // ms of play between two looks at the messages
 const WHOLE = 90; // ms between two views with all panels, while the machine plays
@@ -144,12 +144,18 @@ function view() {
   }
   if (panels.pages) told.frames = frames();
   if (panels.files) told.files = files(list);
+  if (is_whole) told.sleepers = sleepers(list);
   if (faults.length !== (wanted.faults ?? -1) || told.anew) told.faults = why_of_faults();
   wanted.faults = faults.length;
   postMessage({ view: told });
 }
 
-/** The faults of the record, each with the machine as it was before. */
+/** Each process that sleeps: on what, and who could wake it. */
+function sleepers(list) {
+  return list.filter((it) => it.lives && it.asleep).map(({ pid }) => ({ pid, text: machine.sleeper(pid) }));
+}
+
+/** The faults of the record, each told by the machine as it was before. */
 function why_of_faults() {
   const { line } = run;
   faults = faults.filter((it) => {
@@ -158,11 +164,7 @@ function why_of_faults() {
   });
   for (const fault of faults) {
     if (fault.told) continue;
-    fault.told = run.look(fault.at, () => {
-      const regs = machine.registers(fault.pid), word = regs ? word_at(fault.pid, regs[0]) : null;
-      return { registers: regs, program: run.program_of(fault.pid), word, text: word === null ? null : machine.instruction(word, regs[0]), address: machine.address(fault.pid), cause: fault.cause,
-        words: describe_fault(fault.pid, fault.cause, regs, word, machine.address(fault.pid)), code: regs ? code(fault.pid, regs[0]) : [] };
-    });
+    fault.told = run.look(fault.at, () => ({ program: run.program_of(fault.pid), text: machine.fault(fault.pid, fault.cause) }));
   }
   return faults;
 }

@@ -4,3 +4,4 @@ pub mod Observed
 pub mod Booting
 pub mod Calls
 pub mod Texts
+pub mod Why

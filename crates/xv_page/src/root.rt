@@ -8,6 +8,7 @@ use crate::reading::{
 };
 use crate::texts::{Assembled, xv_page_assemble, xv_page_instruction};
 use crate::views::{Facts, descriptor_told, pipe_told, process_told, use_told, word_told};
+use crate::why::{xv_page_fault, xv_page_sleeper};
 use crate::writing::{xv_page_back, xv_page_event, xv_page_run, xv_page_until};
 use std::alloc::Global;
 use xk_base::Program;
@@ -30,7 +31,7 @@ fn change(alloc: Global, session: &mut Option<Box<Session>>, number: u32, bytes:
     };
     xv_page_add(alloc, &mut programs, b"init", b"");
     xv_page_boot(alloc, session, &mut programs, number, number, &mut boot);
-    xv_page_event(session, number, 7, &mut told, bytes);
+    xv_page_event(session, number, number, &mut told, bytes);
     xv_page_run(session, number, &mut runs);
     xv_page_until(session, number, number, number, 7, &mut runs);
     xv_page_back(alloc, session, 7);
@@ -42,14 +43,14 @@ fn look_at_process(session: &Option<Box<Session>>, number: u32) {
     let mut word = word_told(None);
     let mut descriptor = descriptor_told(None);
     let mut rights = 0;
-    xv_page_slot(session, 7, &mut word);
+    xv_page_slot(session, number, &mut word);
     xv_page_process(session, number, &mut process);
     xv_page_size(session, number, &mut word);
-    xv_page_register(session, number, 7, &mut word);
+    xv_page_register(session, number, number, &mut word);
     xv_page_byte(session, number, 7, &mut word);
     xv_page_rights(session, number, number, &mut rights);
     xv_page_frame(session, number, number, &mut word);
-    xv_page_descriptor(session, number, 7, &mut descriptor);
+    xv_page_descriptor(session, number, number, &mut descriptor);
     xv_page_address(session, number, &mut word);
     xv_page_program(session, number, &mut word);
 }
@@ -77,6 +78,13 @@ fn look(session: &Option<Box<Session>>, number: u32) {
     xv_page_use(session, number, &mut frame_use);
 }
 
+/// Makes each call that tells why a process ends or waits.
+fn ask(alloc: Global, session: &Option<Box<Session>>, number: u32, bytes: &mut [u8]) {
+    let mut count = 0;
+    xv_page_fault(alloc, session, number, number, &mut count, bytes);
+    xv_page_sleeper(alloc, session, number, &mut count, bytes);
+}
+
 /// Makes each call once: so the library has them all. The host calls them by themselves, and never this one.
 #[unsafe(no_mangle)]
 pub extern "C" fn xv_page_root(alloc: Global, block: &[u8], bytes: &mut [u8]) {
@@ -85,6 +93,7 @@ pub extern "C" fn xv_page_root(alloc: Global, block: &[u8], bytes: &mut [u8]) {
     change(alloc, &mut session, number, bytes);
     look_at_process(&session, number);
     look(&session, number);
+    ask(alloc, &session, number, bytes);
     xv_page_drop(&mut session);
     let mut answer = Assembled { kind: 0, count: 0 };
     xv_page_assemble(alloc, block, bytes, &mut answer);

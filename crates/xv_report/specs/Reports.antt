@@ -1,11 +1,13 @@
 -- What is told of a fault, with the calls that led to it.
 use Rattle.std.specs.Prelude.{◌≡◌, ℕ, Bool, true, false, Option, None, Some, IfSome, MatchOption, option_map, take, slice_get}
 use Rattle.kernel_spec.specs.runs.Run.{Event, Run, Tick, Key, Send}
+use Rattle.kernel_spec.specs.steps.Own.{Faulted}
 use Rattle.kernel_spec.specs.views.State.{State}
 use Rattle.kcall_core.specs.Observers.{registers_of}
+use Rattle.xk_base.specs.declared.access.Cause.{Cause}
 use Rattle.rv64i_core.specs.Registers.{Registers, reg}
 use Rattle.xv_machine.specs.Meaning.{Meaning}
-use Rattle.xv_session.specs.Looking.{FaultTold}
+use Rattle.xv_session.specs.Looking.{FaultTold, fault_by}
 use Rattle.xv_session.specs.Recorded.{Recorded, IsPlayed}
 use Rattle.xv_session.specs.declared.looking.Fault.{Fault}
 use Rattle.xv_report.specs.Callers.{RA, frames_told, return_in}
@@ -34,6 +36,11 @@ fault_in told = option_map (λ (r : FaultReport). r.fault) told
 pub record Reported (told : Option FaultReport) (old new : Meaning) : Type 0 where
   pub fault : FaultTold (fault_in told) old new
   pub callers : IfSome told (λ r. AreCallersWith old.world.state r.fault.step.pid r.fault.step.regs r.callers)
+
+-- This is the fault of process p, if its next step ends in one of this cause, with the calls that led to it; none where it isn't live
+pub record ReportsBefore (s : State) (p : ℕ) (cause : Cause) (told : Option FaultReport) : Type 0 where
+  pub fault : fault_in told ≡ fault_by s p (Faulted cause)
+  pub callers : IfSome told (λ r. AreCallersWith s p r.fault.step.regs r.callers)
 
 -- the event is a Run
 abbrev pub is_run : Option Event → Bool

@@ -1,12 +1,13 @@
 //! A step that a process could not make, with the calls that led to it.
 ghost use Rattle.std.specs.Prelude.{◌≡◌, IfOk, option_map};
 ghost use Rattle.xv_machine.specs.Events.{event_of};
-ghost use Rattle.xv_report.specs.Reports.{AreCallersNow, Reported, ReportedAt, is_run};
+ghost use Rattle.xv_report.specs.Reports.{AreCallersNow, Reported, ReportedAt, ReportsBefore, is_run};
 
 use crate::callers::{Callers, callers_of};
 use std::alloc::Global;
+use xk_base::{Cause, Pid};
 use xv_machine::{Event, Machine};
-use xv_session::{Fault, Session, SessionError, fault_of_run};
+use xv_session::{Fault, Session, SessionError, fault_of_run, next_step};
 
 /// A step that a process could not make, which ended it, and the calls that led to it.
 #[derive(Drop)]
@@ -34,6 +35,19 @@ pub fn report_of_run(machine: &mut Machine) -> Option<FaultReport>
     Some(FaultReport {
         fault,
         callers: callers?,
+    })
+}
+
+/// The report of the fault that ends a process, if its next step ends in a fault of this cause: what [`report_of_run`]
+/// tells of that step, without making it. `None` where no live process has this pid.
+pub fn report_before(machine: &Machine, pid: Pid, cause: Cause) -> Option<FaultReport>
+    ensures { ReportsBefore machine.now.world.state pid cause result }
+{
+    let step = next_step(machine, pid)?;
+    let callers = callers_of(machine, pid)?;
+    Some(FaultReport {
+        fault: Fault { step, cause },
+        callers,
     })
 }
 

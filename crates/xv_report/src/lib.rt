@@ -6,8 +6,8 @@
 //! lists all that could wake one (`specs/Wakers.antt`), [`callers_of`] follows a process's frames
 //! (`specs/Callers.antt`), and [`report_at`] tells a fault of the machine as it was before that step
 //! (`specs/Reports.antt`). [`program_name`] and [`call_name`] have the names that belong to these
-//! (`specs/Names.antt`). What is printed of them, by the `Display` of the types in [`text`], is compared with stored
-//! reports (`checks/why`).
+//! (`specs/Names.antt`). What is printed of a fault and of a sleeper, by the `Display` of the types in [`text`], is
+//! written in `specs/Texts.antt`, and all that is printed is compared with stored reports (`checks/why`).
 #![tactic(auto)]
 
 mod callers;
@@ -19,7 +19,7 @@ mod waits;
 mod waking;
 
 pub use callers::{CALLERS_MAX, Caller, Callers, callers_of};
-pub use fault::{FaultReport, report_at, report_of_run};
+pub use fault::{FaultReport, report_at, report_before, report_of_run};
 pub use jumps::jump_target;
 pub use names::{call_name, program_name};
 pub use waits::{EndsHeld, Wait, could_wake, ends_held, waits_for};
