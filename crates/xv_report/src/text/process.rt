@@ -103,7 +103,10 @@ impl<'a> fmt::Display for SleeperText<'a> {
     ghost output = { λ t. Some (meant.sleeper_text t.who.pid (option_map (λ n. n.now) t.who.program) t.wait.now t.wakers.now t.clock) };
 
     fn fmt<W: fmt::Write>(&self, f: &mut fmt::Formatter<W>) -> fmt::Result {
-        let who = self.who;
+        let who = Who {
+            pid: self.who.pid,
+            program: self.who.program,
+        };
         let asleep = Asleep(self.wait);
         let wakers = Wakers {
             own: self.who.pid,
