@@ -36,6 +36,32 @@ const HELLO_FILE: [u8; 240] = [
     0x73, 0x00, 0x00, 0x00, 0x63, 0x6F, 0x6E, 0x73, 0x6F, 0x6C, 0x65, 0x00, 0x68, 0x69, 0x0A, 0x00,
 ];
 
+/// A program of three instructions.
+const EXIT: &str = "li a7, 2\nli a0, 0\necall\n";
+
+/// Its file, worked by hand.
+#[rattlefmt::skip]
+const EXIT_FILE: [u8; 132] = [
+    // The file header: magic, 64 bits, little-endian, version 1, then padding;
+    0x7F, 0x45, 0x4C, 0x46, 2, 1, 1, 0, 0, 0, 0, 0, 0, 0, 0, 0,
+    // type 2 (executable), machine 243 (RISC-V), version 1, entry 0,
+    2, 0, 243, 0, 1, 0, 0, 0, 0, 0, 0, 0, 0, 0, 0, 0,
+    // program headers at 64, no section headers,
+    64, 0, 0, 0, 0, 0, 0, 0, 0, 0, 0, 0, 0, 0, 0, 0,
+    // no flags, headers of 64 and 56 bytes, one program header, no section header.
+    0, 0, 0, 0, 64, 0, 56, 0, 1, 0, 0, 0, 0, 0, 0, 0,
+    // The program header: type 1 (load), flags R and X, file offset 120,
+    1, 0, 0, 0, 5, 0, 0, 0, 120, 0, 0, 0, 0, 0, 0, 0,
+    // virtual and physical address 0,
+    0, 0, 0, 0, 0, 0, 0, 0, 0, 0, 0, 0, 0, 0, 0, 0,
+    // 12 bytes in the file and in memory,
+    12, 0, 0, 0, 0, 0, 0, 0, 12, 0, 0, 0, 0, 0, 0, 0,
+    // alignment 1.
+    1, 0, 0, 0, 0, 0, 0, 0,
+    // The instructions.
+    0x93, 0x08, 0x20, 0x00, 0x13, 0x05, 0x00, 0x00, 0x73, 0x00, 0x00, 0x00,
+];
+
 /// The first bytes of every file: identification, type, machine and version.
 const UP_TO_THE_ENTRY: [u8; 24] = [
     0x7F, 0x45, 0x4C, 0x46, 0x02, 0x01, 0x01, 0x00, 0x00, 0x00, 0x00, 0x00, 0x00, 0x00, 0x00, 0x00,
@@ -64,6 +90,13 @@ fn printed_text(alloc: Global, file: &[u8]) -> Result<String, AllocError> {
 fn a_whole_program_byte_for_byte(rt: HostRuntime) -> Result<(), Fail> {
     let file = assemble(rt.alloc(), HELLO)?;
     assert_eq!(rt; file.as_slice(), HELLO_FILE.as_slice());
+    Ok(())
+}
+
+#[test]
+fn the_assembler_makes_an_elf_file(rt: HostRuntime) -> Result<(), Fail> {
+    let file = assemble(rt.alloc(), EXIT)?;
+    assert_eq!(rt; file.as_slice(), EXIT_FILE.as_slice());
     Ok(())
 }
 

@@ -9,8 +9,6 @@ mod command_line;
 mod failure;
 mod line;
 mod running;
-#[cfg(test)]
-mod tests;
 
 use crate::command_line::{not_text, settings};
 use crate::failure::Failure;

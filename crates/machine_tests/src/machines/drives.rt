@@ -3,6 +3,7 @@ ghost use Rattle.std.specs.Prelude.{None};
 
 use super::scene::{Scene, first};
 use std::alloc::Global;
+use std::io::{self, ErrorKind, Write};
 use std::test::Fail;
 use xk_base::{BootError, Cause, Pid};
 use xv_machine::{
@@ -68,6 +69,20 @@ impl ByteSink for Broken {
     fn write_out(&mut self, _bytes: &[u8]) -> Result<(), DeviceFault> {
         self.failures = self.failures.saturating_add(1);
         Err(DeviceFault)
+    }
+}
+
+// A writer that takes all bytes, and can't be flushed.
+#[derive(Drop)]
+struct Unflushed;
+
+impl Write for Unflushed {
+    fn write(&mut self, bytes: &[u8]) -> io::Result<usize> {
+        Ok(bytes.len())
+    }
+
+    fn flush(&mut self) -> io::Result<()> {
+        Err(io::Error::from(ErrorKind::BrokenPipe))
     }
 }
 
@@ -139,6 +154,18 @@ fn a_failed_write_ends_a_drive_behind_its_event(rt: HostRuntime) -> Result<(), F
     );
     assert_eq!(rt; sink.failures, 1);
     assert_eq!(rt; scene.send(), Outcome::Sent(Some(b'i')));
+    Ok(())
+}
+
+#[test]
+fn a_failed_flush_is_a_failed_write(rt: HostRuntime) -> Result<(), Fail> {
+    let mut scene = scene_of(rt.alloc(), &HI)?;
+    let mut keys = Counted::new(b"".as_slice());
+    let mut sink = Counted::new(Unflushed);
+    assert_eq!(rt;
+        scene.drive(plan(5), &mut keys, &mut sink),
+        Err(DriveError::Write)
+    );
     Ok(())
 }
 
