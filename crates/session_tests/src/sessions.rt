@@ -1,5 +1,6 @@
 //! Sessions of small programs: that each call can succeed, and what a report of a fault says.
-use std::alloc::{AllocError, Global};
+use program_files::program;
+use std::alloc::Global;
 use std::process::Abort;
 use std::test::Fail;
 use xk_base::{BootError, Pid, Program};
@@ -8,44 +9,8 @@ use xv_session::{
     Condition, NextStep, Runs, Search, Session, SessionError, fault_of_run, next_step,
 };
 
-/// Where the file of a program has its code: behind the header and one program header (ELF-64 Object File Format).
-const CODE_AT: u64 = 64 + 56;
-
-/// Stores a byte to the address 0, where nothing may be written: `addi a7, x0, 2`, `addi a0, x0, 0`, `sb a0, 0(x0)`.
-const NULL_STORE: [u32; 3] = [0x0020_0893, 0x0000_0513, 0x00a0_0023];
-
-/// The file of a program whose code is these words, at the address 0, where it may be read and run.
-fn file_of(alloc: Global, code: &[u32]) -> Result<Vec<u8>, AllocError> {
-    let size = 4 * code.len() as u64;
-    let mut file = Vec::new(alloc);
-    // The identification: 64 bits, the lowest byte first, version 1.
-    file.extend_from_slice(b"\x7fELF\x02\x01\x01\0\0\0\0\0\0\0\0\0")?;
-    // An executable for RISC-V, version 1.
-    file.extend_from_slice(b"\x02\0\xf3\0\x01\0\0\0")?;
-    // The entry, the place of the program headers, and that of the section headers, of which there are none.
-    for number in [0u64, 64, 0] {
-        file.extend_from_slice(&number.to_le_bytes())?;
-    }
-    // The flags; the sizes of the header and of a program header, and how many of them; no section headers.
-    file.extend_from_slice(b"\0\0\0\0\x40\0\x38\0\x01\0\x40\0\0\0\0\0")?;
-    // To be loaded, to be read and run.
-    file.extend_from_slice(b"\x01\0\0\0\x05\0\0\0")?;
-    for number in [CODE_AT, 0, 0, size, size, 4096] {
-        file.extend_from_slice(&number.to_le_bytes())?;
-    }
-    for word in code.iter() {
-        file.extend_from_slice(&word.to_le_bytes())?;
-    }
-    Ok(file)
-}
-
-/// A program of this name and code.
-fn program(alloc: Global, name: &[u8], code: &[u32]) -> Result<Program, AllocError> {
-    Ok(Program {
-        name: name.to_vec(alloc)?,
-        bytes: file_of(alloc, code)?,
-    })
-}
+/// Stores a byte to the address 0, where nothing may be written.
+const NULL_STORE: &str = "li a7, 2\nli a0, 0\nsb a0, 0(x0)\n";
 
 /// A session of one program, which tests ask about process 1. No method has a contract: what a session promises
 /// stays out of the proofs of the tests.
@@ -119,7 +84,8 @@ fn first() -> Pid {
 
 /// A session of the null store.
 fn null_store(alloc: Global) -> Result<Scene, Fail> {
-    let init = program(alloc, b"init", &NULL_STORE)?;
+    let source = NULL_STORE.as_bytes();
+    let init = program(alloc, Ok(source), "init.s").map_err(|_| "it is a program")?;
     Ok(Scene::new(alloc, vec![in alloc; init]?)?)
 }
 
