@@ -88,6 +88,9 @@ def step_of(item, pace):
         return f"key {int(rest.split(' ')[0], 16)}"
     if word == "sent":
         return "send 1"
+    if word in ("runs", "instructions"):
+        count = rest.split(" ")[1]
+        return None if count == "0" else f"run {count}"
     if word in ("note", "free", "status", "current", "child", "register", "bytes", "zeros"):
         return None
     return "tick 1" if word == "tick" else "run 1" if pace == "events" else "call 1"
@@ -125,6 +128,8 @@ def stories(folder, wanted):
         definitions = {it[7:]: lines for it, lines in blocks(group) if it.startswith("define ")}
         for story in told:
             name, parts = story.partition("\n")[0], blocks(story.partition("\n")[2])
+            if any(it.startswith("refused ") for it, _ in parts):
+                continue  # no machine boots
             each = [re.match(r"each N from (\S+) to (\S+)", it) for it, _ in parts]
             first, last = next(((number(it[1]), number(it[2])) for it in each if it), (1, 1))
             for n in range(first, last + 1):

@@ -91,7 +91,8 @@ impl Draft {
         }
     }
 
-    fn add(&mut self, alloc: Global, name: &str, bytes: Vec<u8>) -> Option<()> {
+    /// Adds a program of this name and this file.
+    pub(super) fn add(&mut self, alloc: Global, name: &str, bytes: Vec<u8>) -> Option<()> {
         let name = Vec::from_slice(alloc, name.as_bytes()).ok()?;
         self.programs.push(Program { name, bytes }).ok()
     }

@@ -1,17 +1,18 @@
-//! What a machine prints, and how it boots and is driven. Programs are told event by event in the stories beside it,
-//! which have the assembler.
+//! What a machine prints, and what no story can tell: that a machine takes memory of the host at its boot alone, what
+//! frames are used for, drives, and a kernel without processes.
 mod drives;
 mod frames;
 mod kernels;
-mod refusals;
 mod scene;
 
-use self::scene::{Scene, first, plain, program};
-use std::alloc::{AllocError, Global};
+use self::scene::first;
+use super::draft::Draft;
+use super::scene::Scene;
 use std::process::Abort;
 use std::test::Fail;
-use xk_base::{BootError, Cause, Pid, Program};
-use xv_machine::{Config, Echo, Outcome};
+use uasm_core::{AsmError, assemble};
+use xk_base::{BootError, Cause, Pid};
+use xv_machine::{Echo, Note, Outcome};
 
 fn stepped() -> Outcome {
     Outcome::Stepped { pid: first() }
@@ -57,14 +58,6 @@ fn typed(echo: &[u8]) -> Outcome {
     Outcome::Typed(shown)
 }
 
-// The programs `init` and `two`.
-fn both(alloc: Global, init: &[u32], two: &[u32]) -> Result<Vec<Program>, AllocError> {
-    let mut programs = Vec::new(alloc);
-    programs.push(program(alloc, b"init", plain(alloc, init)?)?)?;
-    programs.push(program(alloc, b"two", plain(alloc, two)?)?)?;
-    Ok(programs)
-}
-
 #[test]
 fn outcomes_are_lines_of_a_trace(rt: HostRuntime) -> Result<(), Fail> {
     for (outcome, line) in [
@@ -92,40 +85,105 @@ fn outcomes_are_lines_of_a_trace(rt: HostRuntime) -> Result<(), Fail> {
     Ok(())
 }
 
-// Forks. The parent then sleeps for a tick, kills the child, waits for it and exits with its pid; the
-// child goes on with the program `two`.
-#[rattlefmt::skip]
-const PARENT: [u32; 18] = [
-    // `li a7, 1`, `ecall`, and `beq a0, x0`, 48 bytes on.
-    0x0010_0893, 0x0000_0073, 0x0205_0863,
-    // `li a7, 13`, `li a0, 1`, `ecall`; `li a7, 6`, `li a0, 2`, `ecall`.
-    0x00D0_0893, 0x0010_0513, 0x0000_0073, 0x0060_0893, 0x0020_0513, 0x0000_0073,
-    // `li a7, 3`, `li a0, 0`, `ecall`; `li a7, 2`, `ecall`.
-    0x0030_0893, 0x0000_0513, 0x0000_0073, 0x0020_0893, 0x0000_0073,
-    // `li a7, 7`, `li a0, 68`, `ecall`, and the text `two`.
-    0x0070_0893, 0x0440_0513, 0x0000_0073, 0x006F_7774,
-];
-
-// Grows by a page, asks for dup and close of a descriptor that is not in use, for its pid and for the
-// ticks, and loops.
-#[rattlefmt::skip]
-const CHILD: [u32; 12] = [
-    // `li a7, 12`, `lui a0, 1`, `ecall`; `li a7, 10`, `ecall`; `li a7, 21`, `ecall`.
-    0x00C0_0893, 0x0000_1537, 0x0000_0073, 0x00A0_0893, 0x0000_0073, 0x0150_0893, 0x0000_0073,
-    // `li a7, 11`, `ecall`; `li a7, 14`, `ecall`; `j` to itself.
-    0x00B0_0893, 0x0000_0073, 0x00E0_0893, 0x0000_0073, 0x0000_006F,
-];
-
-// A machine of these two programs.
-fn family(alloc: Global) -> Result<Scene, BootError> {
-    let config = Config {
-        frames: 32,
-        trace: 0,
-    };
-    match both(alloc, &PARENT, &CHILD) {
-        Ok(programs) => Scene::new(alloc, config, programs),
-        Err(_) => Err(BootError::Memory),
+#[test]
+fn notes_are_lines_of_a_trace(rt: HostRuntime) -> Result<(), Fail> {
+    let pid = first();
+    for (note, line) in [
+        (Note::Stepped { pid }, "step 1"),
+        (
+            Note::Called {
+                pid,
+                number: -2,
+                value: -1,
+            },
+            "call 1 -2 -1",
+        ),
+        (Note::Blocked { pid, number: 5 }, "block 1 5"),
+        (Note::Exited { pid, status: -7 }, "exit 1 -7"),
+        (
+            Note::Faulted {
+                pid,
+                cause: Cause::StorePageFault,
+            },
+            "fault 1 15",
+        ),
+        (
+            Note::Turn {
+                pid: Pid::new(2_147_483_647),
+            },
+            "turn 2147483647",
+        ),
+        (Note::Idle, "idle"),
+        (Note::Ticked, "tick"),
+        (Note::Typed { key: 127, echo: 3 }, "key 127 3"),
+        (Note::Sent(Some(10)), "sent 10"),
+        (Note::Sent(None), "sent none"),
+        (Note::Halted, "halted"),
+    ] {
+        assert_eq!(rt; format!(in rt.alloc(); "{note}")?.as_str(), line);
     }
+    Ok(())
+}
+
+// Forks. The parent then sleeps for a tick, kills the child, waits for it and exits with its pid; the child goes on
+// with the program `two`.
+const PARENT: &str = "
+    li a7, 1
+    ecall
+    beq a0, x0, child
+    li a7, 13
+    li a0, 1
+    ecall
+    li a7, 6
+    li a0, 2
+    ecall
+    li a7, 3
+    li a0, 0
+    ecall
+    li a7, 2
+    ecall
+child:
+    li a7, 7
+    la a0, name
+    ecall
+.data
+name: .asciz \"two\"
+";
+
+// Grows by a page, asks for dup and close of a descriptor that is not in use, for its pid and for the ticks, and loops.
+const CHILD: &str = "
+    li a7, 12
+    lui a0, 1
+    ecall
+    li a7, 10
+    ecall
+    li a7, 21
+    ecall
+    li a7, 11
+    ecall
+    li a7, 14
+    ecall
+again: j again
+";
+
+// Adds the program of this source, if there is memory for it.
+fn add<R: Abort + AllocGlobal>(rt: &R, draft: &mut Draft, name: &str, source: &str) -> Option<()> {
+    match assemble(rt.alloc(), source) {
+        Ok(file) => draft.add(rt.alloc(), name, file),
+        Err(error) => {
+            assert_eq!(rt; error, AsmError::Memory);
+            None
+        }
+    }
+}
+
+// A machine of these two programs that hasn't booted, if there is memory for them.
+fn family<R: Abort + AllocGlobal>(rt: &R) -> Option<Draft> {
+    let mut draft = Draft::new(rt.alloc());
+    draft.frames = 32;
+    add(rt, &mut draft, "init", PARENT)?;
+    add(rt, &mut draft, "two", CHILD)?;
+    Some(draft)
 }
 
 // What comes of each call: nothing of it takes memory of the host, and so none is refused.
@@ -150,9 +208,13 @@ fn live_and_die(rt: &impl Abort, mut scene: Scene) {
     assert_eq!(rt; scene.tick(), Outcome::Halted);
 }
 
+// checks/hostile/run.sh refuses each growth of this test in turn, until a run meets no refusal.
 #[test]
 fn a_growth_that_the_host_refuses_is_want_of_memory(rt: HostRuntime) {
-    match family(rt.alloc()) {
+    let Some(draft) = family(&rt) else {
+        return;
+    };
+    match Scene::new(rt.alloc(), draft) {
         Ok(scene) => live_and_die(&rt, scene),
         Err(error) => assert_eq!(rt; error, BootError::Memory),
     }

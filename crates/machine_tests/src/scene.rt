@@ -70,7 +70,7 @@ impl Pace {
 /// A machine. No method has a contract: what a machine promises stays out of the proofs of the tests.
 #[derive(Drop)]
 pub(super) struct Scene {
-    machine: Machine,
+    pub(super) machine: Machine,
 }
 
 impl Scene {
@@ -90,8 +90,8 @@ impl Scene {
         self.machine.event(Event::Run)
     }
 
-    // What comes of a Tick.
-    fn tick(&mut self) -> Outcome {
+    /// What comes of a Tick.
+    pub(super) fn tick(&mut self) -> Outcome {
         self.machine.event(Event::Tick)
     }
 
@@ -133,6 +133,22 @@ impl Scene {
     fn send(&mut self, alloc: Global) -> Option<String> {
         let outcome = self.machine.event(Event::Send);
         format!(in alloc; "{outcome}").ok()
+    }
+
+    // How many Runs are sent, of so many at most.
+    fn runs(&mut self, alloc: Global, rest: &str) -> Option<String> {
+        let (most, _) = first_word(rest);
+        let sent = self.machine.run(u32::try_from(number(most)?).ok()?);
+        format!(in alloc; "runs {most} {sent}").ok()
+    }
+
+    // How many instructions are done, of so many at most.
+    fn instructions(&mut self, alloc: Global, rest: &str) -> Option<String> {
+        let (most, _) = first_word(rest);
+        let done = self
+            .machine
+            .instructions(u32::try_from(number(most)?).ok()?);
+        format!(in alloc; "instructions {most} {done}").ok()
     }
 
     fn note(&self, alloc: Global, rest: &str) -> Option<String> {
@@ -239,6 +255,8 @@ impl Scene {
         match word {
             "key" => self.key(alloc, rest),
             "sent" => self.send(alloc),
+            "runs" => self.runs(alloc, rest),
+            "instructions" => self.instructions(alloc, rest),
             "note" => self.note(alloc, rest),
             "free" => self.free(alloc),
             "status" => self.status(alloc),

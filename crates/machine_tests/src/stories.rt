@@ -11,6 +11,8 @@ mod lazy;
 mod memory;
 mod pipes;
 mod processes;
+mod refusals;
+mod stretches;
 mod traces;
 mod waits;
 
@@ -69,6 +71,17 @@ fn stories_of_pipes(rt: HostRuntime) {
 #[test]
 fn stories_of_processes(rt: HostRuntime) {
     tell_all(&rt, processes::STORIES);
+}
+
+#[test]
+fn stories_of_refusals(rt: HostRuntime) {
+    tell_all(&rt, refusals::STORIES);
+    tell_all(&rt, refusals::A_NAME_WITH_A_ZERO_BYTE);
+}
+
+#[test]
+fn stories_of_stretches(rt: HostRuntime) {
+    tell_all(&rt, stretches::STORIES);
 }
 
 #[test]

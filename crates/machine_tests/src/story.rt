@@ -25,6 +25,8 @@
 //! - `key KEY echoes BYTES`: the console shows these bytes, or `none`, for the key of this byte. `key KEY ->
 //!   OUTCOME`: this comes of the key.
 //! - `sent BYTE`: the byte of this number is sent; `sent none`: no byte waits to be sent.
+//! - `runs MOST SENT`: of so many Runs at most that are asked for together, so many are sent; `instructions MOST DONE`:
+//!   so many are done instructions, behind which none is sent.
 //! - `note PLACE LINE`: the note at this place of the trace, from 0 on and the oldest first, is this line.
 //! - `free N`: so many frames are free.
 //! - `status N`: the machine has halted with this status; `status none`: it hasn't halted.

@@ -1,38 +1,19 @@
-//! What the frames of a machine are used for, and instructions up to a call.
-use super::scene::{Scene, first};
-use super::{called, stepped};
+//! What the frames of a machine are used for.
+use super::scene::{first, scene_of};
 use std::test::Fail;
 use xk_base::{Frame, Vpn};
-use xv_machine::{FrameUse, Outcome};
+use xv_machine::FrameUse;
 
-// Grows by a page, makes a pipe, whose descriptors go to the stack, and loops.
-#[rattlefmt::skip]
-const GROWS: [u32; 7] = [
-    // `li a7, 12`, `lui a0, 1`, `ecall`; `li a7, 4`, `lui a0, 2`, `ecall`; `j` to itself.
-    0x00C0_0893, 0x0000_1537, 0x0000_0073, 0x0040_0893, 0x0000_2537, 0x0000_0073, 0x0000_006F,
-];
-
-#[test]
-fn instructions_stop_before_a_call(rt: HostRuntime) -> Result<(), Fail> {
-    let mut scene = Scene::of_words(rt.alloc(), &GROWS)?;
-    assert_eq!(rt; scene.instructions(10), 0, "nobody runs");
-    assert_eq!(rt; scene.last(0), Outcome::Turn { pid: first() });
-    assert_eq!(rt; scene.instructions(0), 0);
-    assert_eq!(rt; scene.instructions(1), 1);
-    assert_eq!(rt; scene.instructions(10), 1);
-    assert_eq!(rt; scene.instructions(10), 0, "a call is next");
-    assert_eq!(rt; scene.last(0), called(12, 12_288));
-    assert_eq!(rt; scene.last(0), stepped());
-    assert_eq!(rt; scene.instructions(10), 1);
-    assert_eq!(rt; scene.last(0), called(4, 0));
-    assert_eq!(rt; scene.instructions(1_000), 1_000);
-    Ok(())
-}
+const GROWS: &str = "a process grows by a page, and makes a pipe, whose descriptors go to the stack
+program init
+    li a7, 12; lui a0, 1; ecall; li a7, 4; lui a0, 2; ecall; loop: j loop
+calls
+    turn 1, call 1 12 12288, call 1 4 0
+";
 
 #[test]
 fn each_frame_has_one_use(rt: HostRuntime) -> Result<(), Fail> {
-    let mut scene = Scene::of_words(rt.alloc(), &GROWS)?;
-    scene.calls(&rt, &[(1, 12, 12_288), (1, 4, 0)]);
+    let scene = scene_of(&rt, GROWS)?;
     let pid = first();
     assert_eq!(rt; scene.frames_of(&FrameUse::Free), 7);
     assert_eq!(rt; scene.frames_of(&FrameUse::Trapframe(pid)), 1);

@@ -15,6 +15,16 @@ events
     note 0 step 1, note 1 exit 1 0, note 2 none
     halted, note 0 exit 1 0, note 1 halted
 
+story a key on a halted machine is told in the trace
+trace 2
+program init
+    do exit
+events
+    turn 1, step 1, step 1, exit 1 0
+    note 0 step 1, note 1 exit 1 0, note 2 none
+    key 61 -> halted
+    note 0 exit 1 0, note 1 halted, note 2 none
+
 story a trace tells keys and sent bytes
 trace 3
 program init
@@ -27,7 +37,7 @@ story a trace of no notes keeps none
 program init
     do exit
 events
-    turn 1, step 1, note 0 none
+    turn 1, step 1, note 0 none, step 1, exit 1 0, note 0 none
 
 story a trace may keep 65536 notes
 trace 65536
