@@ -1,5 +1,5 @@
 //! Counts that are refused, and the bytes of words.
-ghost use Rattle.std.specs.Prelude.{◌<◌};
+ghost use Rattle.std.specs.Prelude.{◌≢◌, ◌+◌, ◌<◌, ◌≤◌};
 
 use phys_ram::Ram;
 use std::alloc::Global;
@@ -9,8 +9,8 @@ use xk_base::{BootError, Frame};
 
 /// RAM of 16 frames. What RAM promises of bytes stays out of the proofs of the tests.
 #[derive(Drop)]
-struct Scene {
-    ram: Ram,
+pub(super) struct Scene {
+    pub(super) ram: Ram,
 }
 
 impl Model for Scene {
@@ -24,10 +24,14 @@ impl Model for Scene {
 }
 
 impl Scene {
-    fn new(alloc: Global) -> Result<Scene, BootError> {
+    pub(super) fn new(alloc: Global) -> Result<Scene, BootError> {
         Ok(Scene {
             ram: Ram::new(alloc, 16)?,
         })
+    }
+
+    fn frames(&self) -> u32 {
+        self.ram.frames()
     }
 
     fn word(&self, frame: Frame, place: usize) -> u64
@@ -37,11 +41,18 @@ impl Scene {
         self.ram.read_u64(frame, place)
     }
 
-    fn write(&mut self, frame: Frame, place: usize, word: u64)
+    pub(super) fn write(&mut self, frame: Frame, place: usize, word: u64)
         requires frame { frame < 16 }
         requires place { place < 512 }
     {
         self.ram.write_u64(frame, place, word);
+    }
+
+    /// Whether a frame begins with these bytes.
+    pub(super) fn begins_with(&self, frame: Frame, bytes: &[u8]) -> bool
+        requires { frame < 16 }
+    {
+        self.ram.frame(frame).starts_with(bytes)
     }
 
     /// Whether a frame ends with these bytes.
@@ -65,6 +76,25 @@ impl Scene {
         self.ram.copy_frame(from, to);
         self.ram.zero_frame(from);
     }
+
+    /// Copies so many bytes of a frame, from one on, over those of another frame.
+    fn copy_part(&mut self, from: Frame, start: usize, to: Frame, at: usize, count: usize)
+        requires from { from < 16 }
+        requires to { to < 16 }
+        requires apart { from ≢ to }
+        requires start { start + count ≤ 4096 }
+        requires at { at + count ≤ 4096 }
+    {
+        self.ram.copy_part(from, start, to, at, count);
+    }
+
+    /// Clears so many bytes of a frame, from one on.
+    fn clear_part(&mut self, frame: Frame, at: usize, count: usize)
+        requires frame { frame < 16 }
+        requires at { at + count ≤ 4096 }
+    {
+        self.ram.clear_part(frame, at, count);
+    }
 }
 
 fn refusal(alloc: Global, frames: u32) -> Option<BootError> {
@@ -80,8 +110,7 @@ fn fifteen_frames_are_refused_and_sixteen_made(rt: HostRuntime) -> Result<(), Fa
             "of {n} frames"
         );
     }
-    let ram = Ram::new(rt.alloc(), 16)?;
-    assert_eq!(rt; ram.frames(), 16);
+    assert_eq!(rt; Scene::new(rt.alloc())?.frames(), 16);
     Ok(())
 }
 
@@ -110,22 +139,22 @@ fn a_frame_is_written_copied_and_cleared(rt: HostRuntime) -> Result<(), Fail> {
 
 #[test]
 fn a_part_goes_up_and_down_and_is_cleared(rt: HostRuntime) -> Result<(), Fail> {
-    let mut ram = Ram::new(rt.alloc(), 16)?;
+    let mut scene = Scene::new(rt.alloc())?;
     let (low, high) = (Frame::new(3), Frame::new(9));
-    ram.write_u64(low, 0, 0x0807_0605_0403_0201);
-    ram.copy_part(low, 2, high, 4092, 4);
-    assert_eq!(rt; &ram.frame(high)[4090..], [0, 0, 3, 4, 5, 6].as_slice());
-    ram.copy_part(high, 4093, low, 0, 3);
-    assert_eq!(rt; ram.read_u64(low, 0), 0x0807_0605_0406_0504);
-    ram.clear_part(low, 1, 2);
-    assert_eq!(rt; ram.read_u64(low, 0), 0x0807_0605_0400_0004);
+    scene.write(low, 0, 0x0807_0605_0403_0201);
+    scene.copy_part(low, 2, high, 4092, 4);
+    assert!(rt; scene.ends_with(high, &[0, 0, 3, 4, 5, 6]));
+    scene.copy_part(high, 4093, low, 0, 3);
+    assert_eq!(rt; scene.word(low, 0), 0x0807_0605_0406_0504);
+    scene.clear_part(low, 1, 2);
+    assert_eq!(rt; scene.word(low, 0), 0x0807_0605_0400_0004);
     Ok(())
 }
 
 #[test]
 fn a_growth_that_the_host_refuses_is_want_of_memory(rt: HostRuntime) {
-    match Ram::new(rt.alloc(), 16) {
-        Ok(ram) => assert_eq!(rt; ram.frames(), 16),
+    match Scene::new(rt.alloc()) {
+        Ok(scene) => assert_eq!(rt; scene.frames(), 16),
         Err(error) => assert_eq!(rt; error, BootError::Memory),
     }
 }
