@@ -9,32 +9,37 @@ const TEXT: [u8; 12] = [
     0x93, 0x08, 0x20, 0x00, 0x13, 0x05, 0x00, 0x00, 0x73, 0x00, 0x00, 0x00,
 ];
 
+/// Adds bytes. What a list promises of them stays out of the proofs of the next functions.
+fn push(file: &mut Vec<u8>, bytes: &[u8]) -> Result<(), AllocError> {
+    file.extend_from_slice(bytes)
+}
+
 /// A file header with its program headers at `phoff`.
 fn push_file_header(file: &mut Vec<u8>, phoff: u64, phnum: u16) -> Result<(), AllocError> {
-    file.extend_from_slice(&[0x7F, 0x45, 0x4C, 0x46, 2, 1, 1, 0])?;
-    file.extend_from_slice(&[0; 8])?;
-    file.extend_from_slice(&2_u16.to_le_bytes())?;
-    file.extend_from_slice(&243_u16.to_le_bytes())?;
-    file.extend_from_slice(&1_u32.to_le_bytes())?;
-    file.extend_from_slice(&0_u64.to_le_bytes())?;
-    file.extend_from_slice(&phoff.to_le_bytes())?;
-    file.extend_from_slice(&0_u64.to_le_bytes())?;
-    file.extend_from_slice(&0_u32.to_le_bytes())?;
-    file.extend_from_slice(&64_u16.to_le_bytes())?;
-    file.extend_from_slice(&56_u16.to_le_bytes())?;
-    file.extend_from_slice(&phnum.to_le_bytes())?;
-    file.extend_from_slice(&[0; 6])
+    push(file, &[0x7F, 0x45, 0x4C, 0x46, 2, 1, 1, 0])?;
+    push(file, &[0; 8])?;
+    push(file, &2_u16.to_le_bytes())?;
+    push(file, &243_u16.to_le_bytes())?;
+    push(file, &1_u32.to_le_bytes())?;
+    push(file, &0_u64.to_le_bytes())?;
+    push(file, &phoff.to_le_bytes())?;
+    push(file, &0_u64.to_le_bytes())?;
+    push(file, &0_u32.to_le_bytes())?;
+    push(file, &64_u16.to_le_bytes())?;
+    push(file, &56_u16.to_le_bytes())?;
+    push(file, &phnum.to_le_bytes())?;
+    push(file, &[0; 6])
 }
 
 fn push_program_header(file: &mut Vec<u8>, header: &ProgramHeader) -> Result<(), AllocError> {
-    file.extend_from_slice(&header.kind.to_le_bytes())?;
-    file.extend_from_slice(&header.flags.to_le_bytes())?;
-    file.extend_from_slice(&header.off.to_le_bytes())?;
-    file.extend_from_slice(&header.vaddr.to_le_bytes())?;
-    file.extend_from_slice(&header.vaddr.to_le_bytes())?;
-    file.extend_from_slice(&header.filesz.to_le_bytes())?;
-    file.extend_from_slice(&header.memsz.to_le_bytes())?;
-    file.extend_from_slice(&1_u64.to_le_bytes())
+    push(file, &header.kind.to_le_bytes())?;
+    push(file, &header.flags.to_le_bytes())?;
+    push(file, &header.off.to_le_bytes())?;
+    push(file, &header.vaddr.to_le_bytes())?;
+    push(file, &header.vaddr.to_le_bytes())?;
+    push(file, &header.filesz.to_le_bytes())?;
+    push(file, &header.memsz.to_le_bytes())?;
+    push(file, &1_u64.to_le_bytes())
 }
 
 /// A file of a file header, these program headers behind it, and a text behind them.
