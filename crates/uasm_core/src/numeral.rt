@@ -12,6 +12,15 @@ pub(crate) struct Number {
     pub magnitude: u128,
 }
 
+/// What 1 in the upper 20 bits of a word of 32 stands for: what lui and auipc give is a multiple of it.
+pub(crate) const UPPER_UNIT: u64 = 4096;
+
+/// Half of that. The low 12 bits are added with their sign: from here on they take one from the upper bits.
+pub(crate) const HALF_UPPER_UNIT: u64 = UPPER_UNIT / 2;
+
+/// How many numbers 20 bits tell apart.
+pub(crate) const UPPER_NUMBERS: u64 = 0x10_0000;
+
 /// Where the size of a number is not told apart any more: past each range.
 const CAP: u128 = 0x1_0000_0000_0000_0000;
 

@@ -12,7 +12,7 @@ ghost use Rattle.uasm_core.specs.Written.{spelled_line, put_in, all_spelled, add
 use crate::bytes::{put_u8, put_u32, put_u64};
 use crate::error::{AsmError, AsmErrorKind, Refusal};
 use crate::labels::{LabelPlaces, find};
-use crate::numeral::Number;
+use crate::numeral::{HALF_UPPER_UNIT, Number, UPPER_NUMBERS, UPPER_UNIT};
 use crate::placing::{Placed, at_line};
 use crate::statement::{Datum, Statement};
 use crate::words::Section;
@@ -195,7 +195,7 @@ fn put_address<'a>(
         out,
         &Instr::Auipc {
             rd,
-            imm: Imm20::new(((relative + 2048) / 4096 % 0x10_0000) as u32),
+            imm: Imm20::new(((relative + HALF_UPPER_UNIT) / UPPER_UNIT % UPPER_NUMBERS) as u32),
         },
     )?;
     put_code(
@@ -204,7 +204,7 @@ fn put_address<'a>(
             op: ImmOp::Addi,
             rd,
             rs1: rd,
-            imm: Imm12::new((relative % 4096) as u16),
+            imm: Imm12::new((relative % UPPER_UNIT) as u16),
         },
     )?;
     Ok(())

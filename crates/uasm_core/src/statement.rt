@@ -8,7 +8,7 @@ ghost use Rattle.uasm_core.specs.Views.{statement as seen, given as given_seen, 
 
 use crate::error::{AsmErrorKind, Refusal};
 use crate::name::Name;
-use crate::numeral::Number;
+use crate::numeral::{HALF_UPPER_UNIT, Number, UPPER_NUMBERS, UPPER_UNIT};
 use crate::operands::{
     immediate, indirect, label, number, one, register, register_label, register_number, registers,
     three, two,
@@ -21,6 +21,9 @@ use rv64i_core::{
 };
 use std::alloc::{AllocError, Global};
 use xk_base::Reg;
+
+/// The most bytes that a `.space` asks for.
+const SPACE_MAX: u64 = 65536;
 
 /// A value of data: a number of some width, or the address of a label.
 #[derive(Drop)]
@@ -317,7 +320,7 @@ fn space_statement<'a>(operands: &[&[u8]]) -> Result<Statement<'a>, Refusal>
     ensures { Answers seen result (statement_of form.Space (map (λ b. b.now) operands.now)) }
 {
     let count = number(one(operands)?)?;
-    if count.is_within(0, 65536) {
+    if count.is_within(0, SPACE_MAX) {
         Ok(Statement::Space(count.low_bits(17) as u32))
     } else {
         Err(Refusal::Kind(AsmErrorKind::OutOfRange))
@@ -329,8 +332,8 @@ fn li_code<'a>(rd: Reg, number: &Number) -> Statement<'a>
     ensures { seen result ≡ Code (li_code_in rd number.now) }
 {
     let word = number.low_bits(32);
-    let upper = Imm20::new(((word + 2048) / 4096 % 0x10_0000) as u32);
-    let lower = (word % 4096) as u16;
+    let upper = Imm20::new(((word + HALF_UPPER_UNIT) / UPPER_UNIT % UPPER_NUMBERS) as u32);
+    let lower = (word % UPPER_UNIT) as u16;
     if number.is_within(2048, 2047) {
         Statement::One(Instr::OpImm {
             op: ImmOp::Addi,
