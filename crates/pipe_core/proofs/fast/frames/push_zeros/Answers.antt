@@ -1,6 +1,6 @@
 use Rattle.pipe_core.proofs.Between.{zeros_pushed}
 use Rattle.std.proofs.Common.{refl}
-use Rattle.pipe_core.proofs.frames.push_zeros.Goals as goal
+use Rattle.pipe_core.proofs.fast.frames.push_zeros.Goals as goal
 
 pub returns : goal.returns
 returns c =

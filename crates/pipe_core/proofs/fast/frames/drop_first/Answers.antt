@@ -1,6 +1,6 @@
 use Rattle.std.proofs.Common.{arith}
 use Rattle.pipe_core.proofs.Changes.{pulls_to}
-use Rattle.pipe_core.proofs.frames.drop_first.Goals as goal
+use Rattle.pipe_core.proofs.fast.frames.drop_first.Goals as goal
 
 pub returns : goal.returns
 returns c =

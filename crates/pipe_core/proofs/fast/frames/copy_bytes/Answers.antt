@@ -1,6 +1,6 @@
 use Rattle.pipe_core.proofs.Between.{pieces_copied}
 use Rattle.std.proofs.Common.{refl}
-use Rattle.pipe_core.proofs.frames.copy_bytes.Goals as goal
+use Rattle.pipe_core.proofs.fast.frames.copy_bytes.Goals as goal
 
 pub returns-clause-copied : goal.returns-clause-copied
 returns-clause-copied c =

@@ -1,6 +1,6 @@
 use Rattle.pipe_core.proofs.Between.{part_pushed}
 use Rattle.std.proofs.Common.{refl}
-use Rattle.pipe_core.proofs.frames.push_part.Goals as goal
+use Rattle.pipe_core.proofs.fast.frames.push_part.Goals as goal
 
 pub returns-clause-pushed : goal.returns-clause-pushed
 returns-clause-pushed c =
