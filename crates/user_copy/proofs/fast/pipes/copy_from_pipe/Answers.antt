@@ -8,7 +8,7 @@ use Rattle.addr_space.proofs.Trades.{belongs-after}
 use Rattle.addr_space.proofs.Parts.{write-more}
 use Rattle.pipe_core.specs.Pipe.{pipe_in}
 use Rattle.user_copy.proofs.PipeParts.{pipe_still, pages_apart, bytes_same}
-use Rattle.user_copy.proofs.pipes.copy_from_pipe.Goals as goal
+use Rattle.user_copy.proofs.fast.pipes.copy_from_pipe.Goals as goal
 
 pub parts-init : goal.parts-init
 parts-init c = (

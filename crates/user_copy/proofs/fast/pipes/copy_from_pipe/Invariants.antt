@@ -4,7 +4,7 @@ use Rattle.frame_list.specs.declared.Pool.{Pool}
 use Rattle.addr_space.specs.Space.{image_of, Belongs, Changed}
 use Rattle.addr_space.specs.InPlace.{WrittenInPlace}
 use Rattle.pipe_core.specs.Pipe.{pipe_in}
-use Rattle.user_copy.proofs.pipes.copy_from_pipe.Given as goal
+use Rattle.user_copy.proofs.fast.pipes.copy_from_pipe.Given as goal
 
 abbrev pub invariant-parts : goal.invariant-parts
 invariant-parts l = (l.done ≤ l.size) × (image_of l.ram l.space ≡ write_image (image_of l.fn.ram l.space) l.address

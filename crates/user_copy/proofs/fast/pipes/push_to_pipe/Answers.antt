@@ -1,7 +1,7 @@
 use Rattle.std.proofs.Common.{rules, arith}
 use Rattle.pipe_core.proofs.Changes.{becomes-none}
 use Rattle.user_copy.proofs.PipeParts.{still_space, still_apart, room_left, more_pushed}
-use Rattle.user_copy.proofs.pipes.push_to_pipe.Goals as goal
+use Rattle.user_copy.proofs.fast.pipes.push_to_pipe.Goals as goal
 
 pub parts-init : goal.parts-init
 parts-init c = (omega arith, becomes-none c.args.ram.now c.args.pipe c.requires.pipe)

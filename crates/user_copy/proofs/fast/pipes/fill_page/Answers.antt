@@ -3,7 +3,7 @@ use Rattle.std.proofs.lemmas.List.{length-take-le, length-drop}
 use Rattle.addr_space.proofs.InPlace.{page-small}
 use Rattle.addr_space.proofs.FromFrames.{frame-written}
 use Rattle.pipe_core.specs.Pipe.{pipe_in}
-use Rattle.user_copy.proofs.pipes.fill_page.Goals as goal
+use Rattle.user_copy.proofs.fast.pipes.fill_page.Goals as goal
 
 pub returns-clause-image : goal.returns-clause-image
 returns-clause-image c =

@@ -3,7 +3,7 @@ use Rattle.std.specs.FinMap.{get}
 use Rattle.addr_space.specs.Space.{image_of}
 use Rattle.addr_space.proofs.Parts.{part-read, part-zeros}
 use Rattle.pipe_core.specs.Pipe.{Becomes, pipe_in, with_more}
-use Rattle.user_copy.proofs.pipes.push_page.Goals as goal
+use Rattle.user_copy.proofs.fast.pipes.push_page.Goals as goal
 
 pub returns-in-Some : goal.returns-in-Some
 returns-in-Some c =
