@@ -41,7 +41,7 @@ use sv39_core::{
 
 mod absent;
 mod across;
-mod permitting;
+mod fast;
 
 use xk_base::limits::VPN_END;
 use xk_base::{Frame, NoFrames, Perm, Rights, Vpn, page_count};
@@ -343,8 +343,8 @@ fn has_page(ram: &Ram, table: Frame, from: usize) -> bool
     ensures none { result ≡ false → (k : ℕ) → k < 512 → frame_of (entry_at ram.now table k) ≡ None }
     ensures some { result ≡ true → (k : ℕ) × (f : ℕ) × (k < 512) × (frame_of (entry_at ram.now table k) ≡ Some f) }
 {
-    for i in 0..TABLE_ENTRIES {
-        let entry = (from + (TABLE_ENTRIES + 1) - i) % TABLE_ENTRIES;
+    for back in 0..TABLE_ENTRIES {
+        let entry = (from + (TABLE_ENTRIES + 1) - back) % TABLE_ENTRIES;
         if let Entry::Leaf(..) = read_entry(ram, table, entry) {
             return true;
         }
@@ -359,8 +359,8 @@ fn has_table(ram: &Ram, table: Frame, from: usize) -> bool
     ensures none { result ≡ false → (k : ℕ) → k < 512 → table_of (entry_at ram.now table k) ≡ None }
     ensures some { result ≡ true → (k : ℕ) × (f : ℕ) × (k < 512) × (table_of (entry_at ram.now table k) ≡ Some f) }
 {
-    for i in 0..TABLE_ENTRIES {
-        let entry = (from + (TABLE_ENTRIES + 1) - i) % TABLE_ENTRIES;
+    for back in 0..TABLE_ENTRIES {
+        let entry = (from + (TABLE_ENTRIES + 1) - back) % TABLE_ENTRIES;
         if let Some(_) = read_table(ram, table, entry) {
             return true;
         }
@@ -437,9 +437,9 @@ fn next_leaf(ram: &Ram, table: Frame, from: usize) -> usize
     ensures none { (k : ℕ) → from ≤ k → k < result → frame_of (entry_at ram.now table k) ≡ None }
     ensures found { result < 512 → (f : ℕ) × (frame_of (entry_at ram.now table result) ≡ Some f) }
 {
-    for i in from..TABLE_ENTRIES {
-        if let Entry::Leaf(..) = read_entry(ram, table, i) {
-            return i;
+    for index in from..TABLE_ENTRIES {
+        if let Entry::Leaf(..) = read_entry(ram, table, index) {
+            return index;
         }
     }
     TABLE_ENTRIES

@@ -24,9 +24,9 @@ fn count_permitting(ram: &Ram, table: Frame, from: usize, access: Access, most: 
     ensures ends { result < most → (from + result ≡ 512) ⊎ (entry_permits access (entry_at ram.now table (from + result)) ≡ false) }
 {
     let count = most.min(TABLE_ENTRIES - from);
-    for i in 0..count {
-        if !entry_permits(ram, table, from + i, access) {
-            return i;
+    for passed in 0..count {
+        if !entry_permits(ram, table, from + passed, access) {
+            return passed;
         }
     }
     count
