@@ -179,7 +179,6 @@ fn hang(pool: &mut Pool, ram: &mut Ram, table: Frame, index: usize) -> Frame
         unreachable!();
     };
     ram.write_u64(table, index, Pte::table(frame).bits());
-    let _ = frame.number();
     frame
 }
 
@@ -211,7 +210,7 @@ fn lower_for(pool: &mut Pool, ram: &mut Ram, root: Frame, upper: Frame, number: 
     ensures found { table_at ram.new root 2 (number / 512) ≡ Some result }
     ensures left { length (free_in pool.old ram.old) ≤ length (free_in pool.new ram.new) + missing (table_at ram.old root 2 (number / 512)) }
 {
-    let _ = root.number();
+    let _ = root.number(); // contracts alone speak of the root
     if let Some(table) = read_lower_table(ram, upper, number) {
         return table;
     }
@@ -231,7 +230,7 @@ fn place(pool: &mut Pool, ram: &mut Ram, table: Frame, index: usize, perm: Perm)
         unreachable!();
     };
     ram.write_u64(table, index, Pte::leaf(frame, perm).bits());
-    let _ = (frame.number(), perm.rights());
+    let _ = perm.rights(); // it promises that the rights are sound, as the clause `allowed` says
 }
 
 /// How many frames a page would take.
@@ -716,7 +715,7 @@ impl Space {
         let Entry::Leaf(frame, perm, ..) = read_page_entry(ram, lower, number) else {
             unreachable!();
         };
-        let _ = frame.number();
+        let _ = frame.number(); // it promises the range, which no clause on the space or on RAM says
         let rights = perm.rights();
         let kept = Perm::new(Rights {
             read: rights.read,
