@@ -3,7 +3,7 @@ use crate::chart::{Chart, Row, newborn};
 use crate::label::{RowName, Text, names_room, wait_in, who_at};
 use crate::note::Note;
 use crate::remark::Remarks;
-use crate::row::{State, Stretch};
+use crate::row::{Phase, State};
 use std::fmt::{self, Display};
 use std::io::{self, Write};
 
@@ -174,19 +174,19 @@ struct Picture<'a> {
 }
 
 // A part of the bar of the row at this place, from the event `first` on; its text shows under the pointer.
-fn draw_stretch<W: Write>(
+fn draw_phase<W: Write>(
     picture: Picture<'_>,
     pid: u32,
     place: usize,
     first: usize,
-    stretch: &Stretch,
+    phase: &Phase,
     output: &mut W,
 ) -> io::Result<()> {
-    let behind = first.saturating_add(stretch.events);
-    if stretch.state == State::Absent || behind <= first {
+    let behind = first.saturating_add(phase.events);
+    if phase.state == State::Absent || behind <= first {
         return Ok(());
     }
-    let word = word(stretch.state);
+    let word = word(phase.state);
     let left = picture.axis.across(first);
     let width = Length(picture.axis.across(behind).0.saturating_sub(left.0));
     let top = row_top(place);
@@ -196,7 +196,7 @@ fn draw_stretch<W: Write>(
         output,
         "<rect class=\"{word}\" x=\"{left}\" y=\"{top}\" width=\"{width}\" height=\"{BAR}\"><title>{who}: {word}"
     )?;
-    if stretch.state == State::Asleep {
+    if phase.state == State::Asleep {
         if let Some(wait) = wait_in(picture.remarks, pid, first, behind) {
             let wait = Text(wait);
             write!(output, " in {wait}")?;
@@ -216,9 +216,9 @@ fn draw_row<W: Write>(
     let name = RowName(who_at(picture.remarks, row.pid, picture.axis.events));
     writeln!(output, "<text x=\"8\" y=\"{base}\">{name}</text>")?;
     let mut first: usize = 0;
-    for stretch in &row.stretches {
-        draw_stretch(picture, row.pid, place, first, stretch, output)?;
-        first = first.saturating_add(stretch.events);
+    for phase in &row.phases {
+        draw_phase(picture, row.pid, place, first, phase, output)?;
+        first = first.saturating_add(phase.events);
     }
     Ok(())
 }
