@@ -11,7 +11,6 @@ mod failure;
 mod letters;
 mod line;
 mod running;
-mod symbols;
 mod teller;
 mod watching;
 
@@ -19,8 +18,8 @@ use crate::command_line::{not_text, settings};
 use crate::failure::Failure;
 use crate::line::Settings;
 use crate::running::run_with;
-use crate::symbols::debug_files;
 use crate::teller::Teller;
+use debug_files::symbols_beside;
 use program_files::{programs, words};
 use std::io::ErrorKind;
 use std::process::ExitCode;
@@ -41,7 +40,7 @@ fn run(rt: &HostRuntime, settings: &Settings) -> u8 {
         Ok(programs) => programs,
         Err(refusal) => return Failure::File(refusal).close(&mut rt.stderr()),
     };
-    let Ok(symbols) = debug_files(rt, paths) else {
+    let Ok(symbols) = symbols_beside(rt, paths) else {
         return Failure::OutOfMemory.close(&mut rt.stderr());
     };
     let mut keys = Counted::new(rt.stdin());
