@@ -1,13 +1,17 @@
-//! What each program here that takes FILEs has in common: the words of its command line, and the programs that
-//! the FILEs hold.
+//! What programs here that take FILEs have in common: the words of a command line, the programs that the FILEs hold,
+//! why no machine runs them, and how a run of them ends.
 #![tactic(auto)]
 
 mod arguments;
+mod ending;
+mod failure;
 mod files;
 mod options;
 mod refusal;
 
 pub use arguments::{WordsError, refused, words};
+pub use ending::{close_run, show_trace, status_of_exit};
+pub use failure::Failure;
 pub use files::{program, programs};
 pub use options::{FRAMES, NumberOption, QUANTUM, ROUNDS, TRACE, file_argument, number, paths};
 pub use refusal::FileRefusal;

@@ -12,7 +12,8 @@ use Rattle.xv_machine.specs.declared.machine.Config.{Config}
 use Rattle.xv_machine.specs.Devices.{one_more}
 use Rattle.xv_machine.specs.Drives.{is_halted}
 use Rattle.xv_machine.specs.Meaning.{Meaning}
-use Rattle.xv_run.specs.Runs.{exit_status, status_of, Devices, Drove, Tells, Says}
+use Rattle.program_files.specs.Statuses.{exit_status, status_of, Devices, Drove, Tells}
+use Rattle.xv_run.specs.Runs.{Says}
 
 -- ---- the statuses
 

@@ -2,6 +2,7 @@
 ghost use Rattle.std.specs.Prelude.{◌≡◌, ◌≤◌, IfOk};
 ghost use Rattle.xv_run.specs.Ranges.{AreInRange};
 
+use crate::NAME;
 use crate::line::Settings;
 use clap::Command;
 use clap::error::ErrorKind;
@@ -36,7 +37,7 @@ Exit status:
   5  standard input or standard output failed";
 
 fn command<'a>(alloc: Global) -> Result<Command<'a>, clap::Error> {
-    let command = Command::new(alloc, "xv_run")
+    let command = Command::new(alloc, NAME)
         .about("Runs programs on a RISC-V machine that has the kernel of xv6")
         .after_help(MORE_HELP)
         .arg(FRAMES.argument(alloc))?

@@ -6,20 +6,21 @@
 #![tactic(auto)]
 
 mod command_line;
-mod failure;
 mod line;
 mod running;
 #[cfg(test)]
 mod tests;
 
 use crate::command_line::{not_text, settings};
-use crate::failure::Failure;
 use crate::line::Settings;
 use crate::running::run_with;
-use program_files::{programs, words};
+use program_files::{Failure, programs, words};
 use std::io::ErrorKind;
 use std::process::ExitCode;
 use xv_machine::{Config, Counted, RunPlan};
+
+/// The program's name.
+const NAME: &str = "xv_run";
 
 // Runs the programs that the settings name.
 fn run(rt: &HostRuntime, settings: &Settings) -> u8 {
@@ -45,7 +46,7 @@ fn run(rt: &HostRuntime, settings: &Settings) -> u8 {
                 &mut rt.stderr(),
             )
         }
-        Err(refusal) => Failure::File(refusal).close(&mut rt.stderr()),
+        Err(refusal) => Failure::File(refusal).close(NAME, &mut rt.stderr()),
     }
 }
 
@@ -54,11 +55,11 @@ fn obey(rt: &HostRuntime) -> u8 {
     let asked = match words(rt) {
         Ok(words) => settings(rt.alloc(), words.as_slice()),
         Err(ErrorKind::InvalidData) => Err(not_text(rt.alloc())),
-        Err(_) => return Failure::OutOfMemory.close(&mut rt.stderr()),
+        Err(_) => return Failure::OutOfMemory.close(NAME, &mut rt.stderr()),
     };
     match asked {
         Ok(settings) => run(rt, &settings),
-        Err(error) => error.close("xv_run", &mut rt.stdout(), &mut rt.stderr()),
+        Err(error) => error.close(NAME, &mut rt.stdout(), &mut rt.stderr()),
     }
 }
 

@@ -1,54 +1,15 @@
 //! A run: from boot to the closing line.
 ghost use Rattle.std.specs.Prelude.{◌≡◌, map};
 ghost use Rattle.kernel_spec.specs.views.State.{named_file};
-ghost use Rattle.xv_run.specs.Runs.{Devices, Says, Tells, exit_status, status_of};
+ghost use Rattle.program_files.specs.Statuses.{Tells};
+ghost use Rattle.xv_run.specs.Runs.{Says};
 
-use crate::failure::Failure;
+use crate::NAME;
+use program_files::{Failure, close_run, show_trace};
 use std::alloc::Global;
 use std::io::Write;
 use xk_base::Program;
-use xv_machine::{ByteSink, Config, DriveEnd, DriveError, KeySource, Machine, RunPlan, drive};
-
-// Writes the notes that the machine keeps, oldest first. Lines that can't be written are left out.
-fn show_trace<E: Write>(machine: &Machine, errors: &mut E) {
-    for place in 0..machine.trace_len() {
-        if let Some(note) = machine.trace(place) {
-            let _ = writeln!(errors, "{note}");
-        }
-    }
-}
-
-// The exit status of a run in which `init` went with this status; what isn't 0 is told.
-fn close_exit<E: Write>(status: i32, errors: &mut E) -> u8
-    ensures { result ≡ exit_status status }
-{
-    if status == 0 {
-        return 0;
-    }
-    let _ = writeln!(errors, "xv_run: init exited with {status}");
-    3
-}
-
-// Writes the closing line of a run that ended so, and gives the exit status.
-fn close<E: Write>(end: Result<DriveEnd, DriveError>, errors: &mut E) -> u8
-    ensures { result ≡ status_of end }
-{
-    match end {
-        Ok(DriveEnd::Halted(status)) => close_exit(status, errors),
-        Ok(DriveEnd::RoundsOver) => {
-            let _ = writeln!(errors, "xv_run: rounds over");
-            4
-        }
-        Err(DriveError::Read) => {
-            let _ = writeln!(errors, "xv_run: read fault");
-            5
-        }
-        Err(DriveError::Write) => {
-            let _ = writeln!(errors, "xv_run: write fault");
-            5
-        }
-    }
-}
+use xv_machine::{ByteSink, Config, KeySource, Machine, RunPlan, drive};
 
 // Drives a machine that has booted by the plan, shows its trace and the closing line, and gives the exit
 // status.
@@ -65,7 +26,7 @@ fn play<R: KeySource, W: ByteSink, E: Write>(
 {
     let end = drive(machine, plan, keys, sink);
     show_trace(machine, errors);
-    close(end, errors)
+    close_run(NAME, end, errors)
 }
 
 /// Boots a machine of these programs, and drives it by the plan: keys come from `keys`, and the console's
@@ -89,6 +50,6 @@ pub fn run_with<R: KeySource, W: ByteSink, E: Write>(
 {
     match Machine::boot(alloc, config, programs) {
         Ok(mut machine) => play(&mut machine, plan, keys, sink, errors),
-        Err(error) => Failure::from(error).close(errors),
+        Err(error) => Failure::from(error).close(NAME, errors),
     }
 }

@@ -1,2 +1,1 @@
-mod Statuses
 mod Stretches

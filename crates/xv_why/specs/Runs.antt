@@ -1,57 +1,18 @@
 -- What a run of the program comes to, by its exit status. It is what a run of `xv_run` comes to, but for the host's memory, which may run out.
-use Rattle.std.specs.Prelude.{◌≡◌, ◌≢◌, ◌⊎◌, ℕ, zero, suc, ℤ, pos, negsuc, List, Option, None, Some, Result, Ok, Err, MatchResult}
+use Rattle.std.specs.Prelude.{◌≡◌, ◌≢◌, ℕ, List, Result, Ok, MatchResult}
 use Rattle.kernel_spec.specs.runs.First.{first}
 use Rattle.kernel_spec.specs.views.State.{ProgramFile}
-use Rattle.xv_machine.specs.declared.driving.DriveEnd.{DriveEnd}
-use Rattle.xv_machine.specs.declared.driving.DriveEnd.TheVariants.{Halted, RoundsOver}
-use Rattle.xv_machine.specs.declared.driving.DriveError.{DriveError}
+use Rattle.program_files.specs.Statuses.{Devices, Tells}
 use Rattle.xv_machine.specs.declared.driving.RunPlan.{RunPlan}
 use Rattle.xv_machine.specs.declared.machine.Config.{Config}
-use Rattle.xv_machine.specs.Devices.{Source, Sink, OneFailed, one_more}
-use Rattle.xv_machine.specs.Drives.{Done}
+use Rattle.xv_machine.specs.Devices.{one_more}
 use Rattle.xv_machine.specs.Meaning.{Meaning}
-
--- ---- devices
-
--- what a source and a sink tell of themselves, and how many of their calls have failed
-pub record Devices : Type 0 where
-  pub source : Source
-  pub failed_reads : ℕ
-  pub sink : Sink
-  pub failed_writes : ℕ
 
 -- one more call failed, or none did
 abbrev pub FailsSo : {E : Type 0} → Result (Unit {0}) E → (before after : ℕ) → Type 0
 FailsSo written before after = MatchResult written (λ _. after ≡ before) (λ _. after ≡ one_more before)
 
--- ---- the exit status
-
--- where init went with this status
-abbrev pub exit_status : ℤ → ℕ
-exit_status (pos zero) = 0
-exit_status (pos (suc status)) = 3
-exit_status (negsuc status) = 3
-
--- where the drive ended so
-abbrev pub status_of : Result DriveEnd DriveError → ℕ
-status_of (Ok (Halted status)) = exit_status status
-status_of (Ok RoundsOver) = 4
-status_of (Err e) = 5
-
--- the machine was driven by the plan to its end, and process 1 has gone with this status, or is live
-abbrev pub Drove : RunPlan → Meaning → (before after : Devices) → (halted : Option ℤ) → Type 0
-Drove plan booted before after halted =
-    (ended : Meaning) × Done plan before.source after.source booted ended before.sink after.sink × (ended.world.turns.halted ≡ halted)
-
--- what the exit status says of a machine that has booted: 2 that the host's memory ran out
-pub record Tells (status : ℕ) (plan : RunPlan) (booted : Meaning) (before after : Devices) : Type 0 where
-  pub exited : status ≡ 0 → Drove plan booted before after (Some (pos 0))
-  pub exited_otherwise : status ≡ 3 → (code : ℤ) × (code ≢ pos 0) × Drove plan booted before after (Some code)
-  pub rounds_over : status ≡ 4 → Drove plan booted before after None
-  pub device_failed : status ≡ 5 → OneFailed before.failed_reads after.failed_reads before.failed_writes after.failed_writes ⊎ OneFailed before.failed_writes after.failed_writes before.failed_reads after.failed_reads
-  pub no_other : (status ≡ 0) ⊎ (status ≡ 2) ⊎ (status ≡ 3) ⊎ (status ≡ 4) ⊎ (status ≡ 5)
-
--- What the exit status says of these programs: any but 2 that a machine in their first world was driven, and what Tells says
+-- What the exit status says of these programs: any but 2 that a machine in their first world was driven, and what Tells says. 2 stands for a boot that is refused, and for a host that is out of memory
 abbrev pub Says : (status : ℕ) (config : Config) (plan : RunPlan) (programs : List ProgramFile) (before after : Devices) → Type 0
 Says status config plan programs before after =
     status ≢ 2 → (booted : Meaning) × (first config.frames config.trace programs ≡ Ok booted.world) × Tells status plan booted before after

@@ -2,6 +2,7 @@
 ghost use Rattle.std.specs.Prelude.{◌≡◌, ◌≤◌, IfOk};
 ghost use Rattle.xv_why.specs.Ranges.{AreInRange};
 
+use crate::NAME;
 use crate::line::{Settings, Telling};
 use clap::error::ErrorKind;
 use clap::{Arg, ArgAction, Command};
@@ -41,7 +42,7 @@ fn command<'a>(alloc: Global) -> Result<Command<'a>, clap::Error> {
         .long(NOTES)
         .action(ArgAction::SetTrue)
         .help("Tell each event as a line of a trace, with names, as it comes");
-    let command = Command::new(alloc, "xv_why")
+    let command = Command::new(alloc, NAME)
         .about("Runs programs as xv_run does, and tells why processes end or wait")
         .after_help(MORE_HELP)
         .arg(FRAMES.argument(alloc))?

@@ -7,7 +7,6 @@
 #![tactic(auto)]
 
 mod command_line;
-mod failure;
 mod letters;
 mod line;
 mod running;
@@ -15,15 +14,17 @@ mod teller;
 mod watching;
 
 use crate::command_line::{not_text, settings};
-use crate::failure::Failure;
 use crate::line::Settings;
 use crate::running::run_with;
 use crate::teller::Teller;
 use debug_files::symbols_beside;
-use program_files::{programs, words};
+use program_files::{Failure, programs, words};
 use std::io::ErrorKind;
 use std::process::ExitCode;
 use xv_machine::{Config, Counted, RunPlan};
+
+/// The program's name.
+const NAME: &str = "xv_why";
 
 // Runs the programs that the settings name.
 fn run(rt: &HostRuntime, settings: &Settings) -> u8 {
@@ -38,10 +39,10 @@ fn run(rt: &HostRuntime, settings: &Settings) -> u8 {
     let paths = settings.files.as_slice();
     let programs = match programs(rt, paths) {
         Ok(programs) => programs,
-        Err(refusal) => return Failure::File(refusal).close(&mut rt.stderr()),
+        Err(refusal) => return Failure::File(refusal).close(NAME, &mut rt.stderr()),
     };
     let Ok(symbols) = symbols_beside(rt, paths) else {
-        return Failure::OutOfMemory.close(&mut rt.stderr());
+        return Failure::OutOfMemory.close(NAME, &mut rt.stderr());
     };
     let mut keys = Counted::new(rt.stdin());
     let mut sink = Counted::new(rt.stdout());
@@ -62,11 +63,11 @@ fn obey(rt: &HostRuntime) -> u8 {
     let asked = match words(rt) {
         Ok(words) => settings(rt.alloc(), words.as_slice()),
         Err(ErrorKind::InvalidData) => Err(not_text(rt.alloc())),
-        Err(_) => return Failure::OutOfMemory.close(&mut rt.stderr()),
+        Err(_) => return Failure::OutOfMemory.close(NAME, &mut rt.stderr()),
     };
     match asked {
         Ok(settings) => run(rt, &settings),
-        Err(error) => error.close("xv_why", &mut rt.stdout(), &mut rt.stderr()),
+        Err(error) => error.close(NAME, &mut rt.stdout(), &mut rt.stderr()),
     }
 }
 

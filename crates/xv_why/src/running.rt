@@ -1,51 +1,20 @@
 //! A run: from boot to the closing line.
-ghost use Rattle.std.specs.Prelude.{◌≡◌, map};
+ghost use Rattle.std.specs.Prelude.{◌≡◌, ◌≢◌, map};
 ghost use Rattle.kernel_spec.specs.views.State.{named_file};
-ghost use Rattle.xv_why.specs.Runs.{Says, Tells, exit_status, status_of};
+ghost use Rattle.program_files.specs.Statuses.{Tells};
+ghost use Rattle.xv_why.specs.Runs.{Says};
 
-use crate::failure::Failure;
 use crate::teller::Teller;
 use crate::watching::watch;
+use program_files::Failure;
 use std::alloc::Global;
 use std::io::Write;
 use xk_base::Program;
-use xv_machine::{ByteSink, Config, DriveEnd, DriveError, KeySource, RunPlan};
+use xv_machine::{ByteSink, Config, KeySource, RunPlan};
 use xv_session::Session;
 
-// The exit status of a run in which `init` went with this status; what isn't 0 is told.
-fn close_exit<E: Write>(status: i32, teller: &mut Teller<E>) -> u8
-    ensures { result ≡ exit_status status }
-{
-    if status == 0 {
-        return 0;
-    }
-    teller.say_exit(status);
-    3
-}
-
-// Writes the closing line of a run that ended so, and gives the exit status.
-fn close<E: Write>(end: Result<DriveEnd, DriveError>, teller: &mut Teller<E>) -> u8
-    ensures { result ≡ status_of end }
-{
-    match end {
-        Ok(DriveEnd::Halted(status)) => close_exit(status, teller),
-        Ok(DriveEnd::RoundsOver) => {
-            teller.say("rounds over");
-            4
-        }
-        Err(DriveError::Read) => {
-            teller.say("read fault");
-            5
-        }
-        Err(DriveError::Write) => {
-            teller.say("write fault");
-            5
-        }
-    }
-}
-
 // Drives a session's machine that has booted by the plan, tells what is left to tell, shows its trace and the closing
-// line, and gives the exit status.
+// line, and gives the exit status: 2 if the host's memory ran out.
 fn play<R: KeySource, W: ByteSink, E: Write>(
     session: &mut Session,
     plan: RunPlan,
@@ -53,7 +22,7 @@ fn play<R: KeySource, W: ByteSink, E: Write>(
     sink: &mut W,
     teller: &mut Teller<E>,
 ) -> u8
-    ensures { Tells result plan session.old.machine
+    ensures { result ≢ 2 → Tells result plan session.old.machine
         (record { source = R.source keys.old; failed_reads = R.failures keys.old; sink = W.sink sink.old; failed_writes = W.failures sink.old })
         (record { source = R.source keys.new; failed_reads = R.failures keys.new; sink = W.sink sink.new; failed_writes = W.failures sink.new }) }
 {
@@ -62,7 +31,7 @@ fn play<R: KeySource, W: ByteSink, E: Write>(
     teller.show_trace(session);
     teller.tell_waits(session);
     match watched {
-        Ok(end) => close(end, teller),
+        Ok(end) => teller.say_end(end),
         Err(_) => {
             teller.say("out of memory");
             2

@@ -1,12 +1,16 @@
 //! What is told of a run while it goes on, and at its end.
-use crate::failure::Failure;
+ghost use Rattle.std.specs.Prelude.{◌≡◌};
+ghost use Rattle.program_files.specs.Statuses.{status_of};
+
+use crate::NAME;
 use crate::letters::{Key, Letter};
 use crate::line::Telling;
+use program_files::{Failure, close_run, show_trace};
 use std::alloc::Global;
 use std::io::Write;
 use xk_base::Pid;
 use xk_base::limits::NPROC;
-use xv_machine::{Event, Outcome, ProcessState};
+use xv_machine::{DriveEnd, DriveError, Event, Outcome, ProcessState};
 use xv_report::text::{Asleep, FaultText, Name, WaitLine, Who};
 use xv_report::{FaultReport, call_name, report_at, waits_for};
 use xv_session::{Named, Runs, Session};
@@ -390,12 +394,7 @@ impl<E: Write> Teller<E> {
 
     /// Writes the notes that the machine keeps, the oldest first.
     pub fn show_trace(&mut self, session: &Session) {
-        let machine = session.machine();
-        for place in 0..machine.trace_len() {
-            if let Some(note) = machine.trace(place) {
-                let _ = writeln!(self.errors, "{note}");
-            }
-        }
+        show_trace(session.machine(), &mut self.errors);
     }
 
     /// Tells of each process that has not ended why it doesn't go on; if the machine has halted, of none.
@@ -422,16 +421,18 @@ impl<E: Write> Teller<E> {
 
     /// Writes a closing line.
     pub fn say(&mut self, what: &str) {
-        let _ = writeln!(self.errors, "xv_why: {what}");
+        let _ = writeln!(self.errors, "{NAME}: {what}");
     }
 
-    /// Writes the closing line of a run in which `init` exited with this status.
-    pub fn say_exit(&mut self, status: i32) {
-        let _ = writeln!(self.errors, "xv_why: init exited with {status}");
+    /// Writes the closing line of a run that ended so, and gives the exit status.
+    pub fn say_end(&mut self, end: Result<DriveEnd, DriveError>) -> u8
+        ensures { result ≡ status_of end }
+    {
+        close_run(NAME, end, &mut self.errors)
     }
 
     /// Writes the closing line of a run that has not begun.
     pub fn say_failure(&mut self, failure: &Failure<'_>) {
-        let _ = failure.close(&mut self.errors);
+        let _ = failure.close(NAME, &mut self.errors);
     }
 }

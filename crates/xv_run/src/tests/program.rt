@@ -2,10 +2,10 @@
 ghost use Rattle.std.specs.Prelude.{◌≤◌, IfOk};
 
 use super::settings::Shut;
+use crate::NAME;
 use crate::command_line::settings;
-use crate::failure::Failure;
 use crate::running::run_with;
-use program_files::{FileRefusal, WordsError, program, programs};
+use program_files::{Failure, FileRefusal, WordsError, program, programs};
 use std::alloc::Global;
 use std::io::{self, ErrorKind, Read, Write};
 use std::process::Abort;
@@ -254,7 +254,7 @@ fn read<F: Read + Drop>(alloc: Global, file: io::Result<F>, path: &str) -> Resul
         }
         Err(refusal) => {
             let mut said = Vec::new(alloc);
-            let status = Failure::File(refusal).close(&mut said);
+            let status = Failure::File(refusal).close(NAME, &mut said);
             let line = std::str::from_utf8(said.as_slice()).map_err(|_| "text")?;
             Ok(format!(in alloc; "{status} {line}")?)
         }

@@ -1,8 +1,8 @@
-use Rattle.xv_run.proofs.Statuses.{tells}
+use Rattle.program_files.proofs.Statuses.{tells}
 use Rattle.xv_run.proofs.running.play.Goals as goal
 
 pub returns : goal.returns
-returns g c = rw c.close.ensures (tells c.args.plan c.args.machine.now c.drive-end.new.machine
+returns g c = rw c.close_run.ensures (tells c.args.plan c.args.machine.now c.drive-end.new.machine
     (record {
       source = g.R.KeySource.source c.args.keys.now;
       failed_reads = g.R.KeySource.failures c.args.keys.now;

@@ -1,6 +1,7 @@
 use Rattle.std.proofs.Common.{map}
 use Rattle.kernel_spec.specs.views.State.{named_file}
-use Rattle.xv_run.proofs.Statuses.{booted-first, says}
+use Rattle.program_files.proofs.Statuses.{booted-first}
+use Rattle.xv_run.proofs.Statuses.{says}
 use Rattle.xv_run.proofs.running.run_with.Goals as goal
 
 pub returns-in-Ok : goal.returns-in-Ok

@@ -1,8 +1,8 @@
-use Rattle.xv_why.proofs.Statuses.{tells}
+use Rattle.program_files.proofs.Statuses.{tells}
 use Rattle.xv_why.proofs.running.play.Goals as goal
 
 pub returns-in-Ok : goal.returns-in-Ok
-returns-in-Ok g c = rw c.close-in-Ok.ensures (tells c.args.plan c.args.session.now.machine c.watch-watched.new.session.machine
+returns-in-Ok g c = λ other. rw c.say_end.ensures (tells c.args.plan c.args.session.now.machine c.watch-watched.new.session.machine
     (record {
       source = g.R.KeySource.source c.args.keys.now;
       failed_reads = g.R.KeySource.failures c.args.keys.now;

@@ -1,7 +1,7 @@
 //! Why no machine runs.
 ghost use Rattle.std.specs.Prelude.{◌≡◌};
 
-use program_files::FileRefusal;
+use crate::refusal::FileRefusal;
 use std::io::Write;
 use thiserror::Error;
 use xk_base::BootError;
@@ -21,11 +21,12 @@ pub enum Failure<'a> {
 }
 
 impl Failure<'_> {
-    /// Writes the closing line, and gives the status 2. A line that can't be written is left out.
-    pub(crate) fn close<E: Write>(&self, errors: &mut E) -> u8
+    /// Writes the closing line, under the name of the program, and gives the exit status 2. A line that can't be
+    /// written is left out.
+    pub fn close<E: Write>(&self, name: &str, errors: &mut E) -> u8
         ensures { result ≡ 2 }
     {
-        let _ = writeln!(errors, "xv_why: {self}");
+        let _ = writeln!(errors, "{name}: {self}");
         2
     }
 }

@@ -12,7 +12,7 @@ use Rattle.xv_machine.specs.declared.driving.RunPlan.{RunPlan}
 use Rattle.xv_machine.specs.Devices.{OneFailed}
 use Rattle.xv_machine.specs.Drives.{Done, IsEndOf, OnRead, OnWrite}
 use Rattle.xv_machine.specs.Meaning.{Meaning}
-use Rattle.xv_why.specs.Runs.{Devices, Tells, exit_status, status_of}
+use Rattle.program_files.specs.Statuses.{Devices, Tells, exit_status, status_of}
 
 -- a machine that has booted stands for the first world
 pub booted-first : (frames : ℕ) (result : Result Meaning BootError) (wanted : Result World BootError) (m : Meaning)
@@ -39,14 +39,14 @@ module _ (plan : RunPlan) (old new : Meaning) (before after : Devices) where
     exited_otherwise = λ _. (pos (suc n), (λ e. search rules), (new, done, end));
     rounds_over = λ e. absurd (omega arith);
     device_failed = λ e. absurd (omega arith);
-    no_other = inr (inr (inl refl));
+    no_other = inr (inl refl);
   }
   tells-halted (negsuc n) done end = record {
     exited = λ e. absurd (omega arith);
     exited_otherwise = λ _. (negsuc n, (λ e. search rules), (new, done, end));
     rounds_over = λ e. absurd (omega arith);
     device_failed = λ e. absurd (omega arith);
-    no_other = inr (inr (inl refl));
+    no_other = inr (inl refl);
   }
 
   tells-over : Done plan before.source after.source old new before.sink after.sink → new.world.turns.halted ≡ None → Tells 4 plan old before after
@@ -55,7 +55,7 @@ module _ (plan : RunPlan) (old new : Meaning) (before after : Devices) where
     exited_otherwise = λ e. absurd (omega arith);
     rounds_over = λ _. (new, done, end);
     device_failed = λ e. absurd (omega arith);
-    no_other = inr (inr (inr (inl refl)));
+    no_other = inr (inr (inl refl));
   }
 
   tells-failed : (OneFailed before.failed_reads after.failed_reads before.failed_writes after.failed_writes
@@ -65,7 +65,7 @@ module _ (plan : RunPlan) (old new : Meaning) (before after : Devices) where
     exited_otherwise = λ e. absurd (omega arith);
     rounds_over = λ e. absurd (omega arith);
     device_failed = λ _. failed;
-    no_other = inr (inr (inr (inr refl)));
+    no_other = inr (inr (inr refl));
   }
 
   -- the status of a machine that was driven
