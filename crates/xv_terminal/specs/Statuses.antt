@@ -1,5 +1,6 @@
 -- The exit status of a session.
-use Rattle.std.specs.Prelude.{◌≡◌, ℕ, zero, suc, ℤ, pos, negsuc, None, Some}
+use Rattle.std.specs.Prelude.{◌≡◌, ℕ, None, Some}
+use Rattle.program_files.specs.Statuses.{exit_status}
 use Rattle.xv_session.specs.Recorded.{Recorded}
 use Rattle.xv_live.specs.Resting.{NothingHappens}
 use Rattle.xv_live.specs.declared.trouble.Trouble.{Trouble}
@@ -8,12 +9,6 @@ use Rattle.xv_terminal.specs.declared.ending.End.{End}
 use Rattle.xv_terminal.specs.declared.ending.End.TheVariants as ends
 use Rattle.xv_terminal.specs.declared.trouble.Failure.{Failure}
 use Rattle.xv_terminal.specs.declared.trouble.Failure.TheVariants as failures
-
--- the exit status where init went with this status
-abbrev pub exit_status : ℤ → ℕ
-exit_status (pos zero) = 0
-exit_status (pos (suc status)) = 3
-exit_status (negsuc status) = 3
 
 -- the exit status of a session that ended so
 abbrev pub end_status : End → ℕ

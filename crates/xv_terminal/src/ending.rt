@@ -1,12 +1,12 @@
 //! The end of a session.
 ghost use Rattle.std.specs.Prelude.{◌≡◌};
-ghost use Rattle.xv_terminal.specs.Statuses.{end_status, exit_status};
+ghost use Rattle.xv_terminal.specs.Statuses.{end_status};
 
 use crate::NAME;
 use crate::notes::Notes;
 use crate::telling::tell_waits;
+use program_files::{show_trace, status_of_exit};
 use std::io::Write;
-use xv_machine::Machine;
 use xv_session::Session;
 
 /// How a session ended.
@@ -22,13 +22,6 @@ pub enum End {
     Played,
 }
 
-// The exit status where process 1 went with this status.
-fn status_of_exit(status: i32) -> u8
-    ensures { result ≡ exit_status status }
-{
-    if status == 0 { 0 } else { 3 }
-}
-
 impl End {
     // The exit status of a session that ended so.
     fn status(&self) -> u8
@@ -37,15 +30,6 @@ impl End {
         match self {
             End::Halted(status) => status_of_exit(*status),
             End::Asked | End::NoKeys | End::Played => 4,
-        }
-    }
-}
-
-// Writes the notes that the machine keeps, oldest first.
-fn show_trace<E: Write>(machine: &Machine, errors: &mut E) {
-    for place in 0..machine.trace_len() {
-        if let Some(note) = machine.trace(place) {
-            let _ = writeln!(errors, "{note}");
         }
     }
 }
