@@ -281,7 +281,7 @@ pub goes-by-sound : (xs : List Event) (old new : Running) → IsSound old → Go
 goes-by-sound xs old new sound p = record { machine = p.goes.sound; names = run-live p.list old.machine.world new.machine.world old.names new.names p.named sound.names }
 
 -- what is led on from a boot
-pub led-is-sound : (frames trace : ℕ) (programs : List ProgramFile) (xs : List Event) (r : Running) → IsLed frames trace programs xs r → IsSound r
+led-is-sound : (frames trace : ℕ) (programs : List ProgramFile) (xs : List Event) (r : Running) → IsLed frames trace programs xs r → IsSound r
 led-is-sound frames trace programs xs r (list, those, reached, (booted, is, named)) = record {
   machine = led-sound frames trace programs xs r (list, those, reached, (booted, is, named));
   names =
@@ -292,9 +292,9 @@ led-is-sound frames trace programs xs r (list, those, reached, (booted, is, name
 }
 
 -- what was just booted
-pub anew-sound : (frames trace : ℕ) (programs : List ProgramFile) (r : Running) → Boots frames (Ok r.machine) (first frames trace programs)
-    → IsSoundMachine r.machine → HasEmptyTrace trace r.machine → r.names ≡ first_names r.machine.world.state.programs → IsSound r
-anew-sound frames trace programs r boots sound empty names = led-is-sound frames trace programs [] r (booted-led frames trace programs r boots sound empty names).0
+pub anew-sound : (frames trace : ℕ) (programs : List ProgramFile) (m : Meaning) (r : Running) → r.machine ≡ m → r.names ≡ first_names m.world.state.programs
+    → Boots frames (Ok m) (first frames trace programs) → IsSoundMachine m → HasEmptyTrace trace m → IsSound r
+anew-sound frames trace programs m r is names boots sound empty = led-is-sound frames trace programs [] r (booted-led frames trace programs m r is names boots sound empty).0
 
 -- instructions change no name
 pub instructed-sound : (made p : ℕ) (names : List Named) (a b : Meaning) → IsSound (record { machine = a; names = names })
@@ -315,6 +315,9 @@ place-live s p names all = by names (λ among. all.lives p among)
       | inr other ↦ subst (λ (b : Bool). IfSome (option_map (λ (m : Named). m.place) (cond b (Some n) (named_of p ns))) (λ _. IsSome (live s p))) (sym other.0) (by ns (λ among. lives (inr among)))
     ]
 
--- the named of a session are live
+-- the machine of a session is sound, and its named are live
+pub recorded-sound : (s : Recorded) → IsRecorded s → IsSound (running_of s)
+recorded-sound s led = led-is-sound s.frames s.trace s.programs s.events (running_of s) led
+
 pub recorded-live : (s : Recorded) → IsRecorded s → AreLive s.machine.world.state s.names
-recorded-live s led = (led-is-sound s.frames s.trace s.programs s.events (running_of s) led).names
+recorded-live s led = (recorded-sound s led).names

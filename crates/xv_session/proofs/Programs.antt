@@ -8,6 +8,7 @@ use Rattle.kernel_spec.specs.waking.Wakes.{IsPromised}
 use Rattle.kernel_spec.proofs.well.FirstWell.{has_its_programs}
 use Rattle.xv_machine.specs.Boots.{Boots, HasEmptyTrace}
 use Rattle.xv_machine.specs.Meaning.{Meaning}
+use Rattle.xv_machine.specs.Reached.{IsReached}
 use Rattle.xv_machine.specs.Sound.{IsSoundMachine}
 use Rattle.xv_machine.proofs.Reached.{boot_reaches}
 use Rattle.xv_session.specs.Names.{first_names}
@@ -64,14 +65,15 @@ played-programs frames trace programs xs m (list, those, (booted, is, count, sou
 pub led-programs : (frames trace : ℕ) (programs : List ProgramFile) (xs : List Event) (r : Running) → IsLed frames trace programs xs r → r.machine.world.state.programs ≡ programs
 led-programs frames trace programs xs r led = played-programs frames trace programs xs r.machine (led-played frames trace programs xs r led)
 
--- the machine that a boot made, and the first names
-pub booted-led : (frames trace : ℕ) (programs : List ProgramFile) (r : Running) → Boots frames (Ok r.machine) (first frames trace programs)
-    → IsSoundMachine r.machine → HasEmptyTrace trace r.machine → r.names ≡ first_names r.machine.world.state.programs
+-- the machine m that a boot made, and the first names
+pub booted-led : (frames trace : ℕ) (programs : List ProgramFile) (m : Meaning) (r : Running) → r.machine ≡ m → r.names ≡ first_names m.world.state.programs
+    → Boots frames (Ok m) (first frames trace programs) → IsSoundMachine m → HasEmptyTrace trace m
     → IsLed frames trace programs [] r × IsLed frames trace r.machine.world.state.programs [] r × (r.machine.world.state.programs ≡ programs)
-booted-led frames trace programs r boots sound empty names =
-    let reached = boot_reaches frames trace programs r.machine boots sound empty in
+booted-led frames trace programs m r is names boots sound empty =
+    let reached = subst (λ (x : Meaning). IsReached frames trace programs [] x) (sym is) (boot_reaches frames trace programs m boots sound empty) in
     let same : r.machine.world.state.programs ≡ programs = played-programs frames trace programs [] r.machine ([], refl, reached) in
-    let led : IsLed frames trace programs [] r = ([], refl, reached, (reached.0.world, reached.1, (reached.5.run, names ∙ ap first_names same))) in
+    let first_ones : r.names ≡ first_names programs = names ∙ ap (λ (x : Meaning). first_names x.world.state.programs) (sym is) ∙ ap first_names same in
+    let led : IsLed frames trace programs [] r = ([], refl, reached, (reached.0.world, reached.1, (reached.5.run, first_ones))) in
     (led, subst (λ (ps : List ProgramFile). IsLed frames trace ps [] r) (sym same) led, same)
 
 -- a machine that goes on, by the programs that it holds

@@ -1,10 +1,9 @@
-use Rattle.std.proofs.Common.{◌≡◌, Ok, refl, sym, ap, ◌∙◌, subst, map, List}
+use Rattle.std.proofs.Common.{Ok, refl, sym, ap, ◌∙◌, subst, map, List}
 use Rattle.kernel_spec.specs.runs.First.{first}
 use Rattle.kernel_spec.specs.runs.Run.{Event}
 use Rattle.kernel_spec.specs.views.State.{named_file}
-use Rattle.xv_machine.specs.Boots.{Boots, HasEmptyTrace}
+use Rattle.xv_machine.specs.Boots.{Boots}
 use Rattle.xv_machine.specs.Meaning.{Meaning}
-use Rattle.xv_machine.specs.Sound.{IsSoundMachine}
 use Rattle.xv_session.specs.Names.{first_names}
 use Rattle.xv_session.specs.Recorded.{IsLed}
 use Rattle.xv_session.proofs.Programs.{booted-led}
@@ -15,13 +14,9 @@ invariant_of-result c =
     let r = c.new.result in
     let f = c.args.config.frames in
     let t = c.args.config.trace in
-    let ps = map named_file c.args.programs.items in
-    let same = sym c.new.ensures.machine in
-    let boots : Boots f (Ok r.machine) (first f t ps) = subst (λ (m : Meaning). Boots f (Ok m) (first f t ps)) same c.in-Ok.ensures.boots in
-    let sound : IsSoundMachine r.machine = subst (λ (m : Meaning). IsSoundMachine m) same c.in-Ok.ensures.sound in
-    let empty : HasEmptyTrace t r.machine = subst (λ (m : Meaning). HasEmptyTrace t m) same c.in-Ok.ensures.trace in
-    let names : r.names ≡ first_names r.machine.world.state.programs = c.new.ensures.names ∙ ap (λ (m : Meaning). first_names m.world.state.programs) same in
-    subst (λ (es : List Event). IsLed f t r.machine.world.state.programs es r) (sym c.new-in-Ok.ensures) (booted-led f t ps r boots sound empty names).1
+    subst (λ (es : List Event). IsLed f t r.machine.world.state.programs es r) (sym c.new-in-Ok.ensures)
+    (booted-led f t (map named_file c.args.programs.items) c.in-Ok.machine r c.new.ensures.machine c.new.ensures.names
+    c.in-Ok.ensures.boots c.in-Ok.ensures.sound c.in-Ok.ensures.trace).1
 
 pub returns-in-Ok-clause-boots : goal.returns-in-Ok-clause-boots
 returns-in-Ok-clause-boots c =
@@ -32,14 +27,12 @@ returns-in-Ok-clause-boots c =
 
 pub returns-in-Ok-clause-fresh : goal.returns-in-Ok-clause-fresh
 returns-in-Ok-clause-fresh c =
-    let r = c.new.result in
-    let f = c.args.config.frames in
-    let t = c.args.config.trace in
-    let ps = map named_file c.args.programs.items in
-    let same = sym c.new.ensures.machine in
-    let boots : Boots f (Ok r.machine) (first f t ps) = subst (λ (m : Meaning). Boots f (Ok m) (first f t ps)) same c.in-Ok.ensures.boots in
-    let sound : IsSoundMachine r.machine = subst (λ (m : Meaning). IsSoundMachine m) same c.in-Ok.ensures.sound in
-    let empty : HasEmptyTrace t r.machine = subst (λ (m : Meaning). HasEmptyTrace t m) same c.in-Ok.ensures.trace in
-    let names : r.names ≡ first_names r.machine.world.state.programs = c.new.ensures.names ∙ ap (λ (m : Meaning). first_names m.world.state.programs) same in
-    let those : r.machine.world.state.programs ≡ ps = (booted-led f t ps r boots sound empty names).2 in
-    record { frames_are = refl; trace_is = refl; programs_are = those; events = c.new-in-Ok.ensures; names = names ∙ ap first_names those }
+    let those = (booted-led c.args.config.frames c.args.config.trace (map named_file c.args.programs.items) c.in-Ok.machine c.new.result c.new.ensures.machine c.new.ensures.names
+    c.in-Ok.ensures.boots c.in-Ok.ensures.sound c.in-Ok.ensures.trace).2 in
+    record {
+      frames_are = refl;
+      trace_is = refl;
+      programs_are = those;
+      events = c.new-in-Ok.ensures;
+      names = c.new.ensures.names ∙ ap (λ (m : Meaning). first_names m.world.state.programs) (sym c.new.ensures.machine) ∙ ap first_names those;
+    }

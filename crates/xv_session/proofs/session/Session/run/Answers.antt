@@ -1,47 +1,29 @@
-use Rattle.std.proofs.Common.{◌≡◌, ◌++◌, ◌∙◌, ap, subst, replicate}
 use Rattle.std.specs.Prelude.{option_map}
 use Rattle.kernel_spec.specs.runs.Run.{Run}
 use Rattle.xv_machine.specs.Events.{outcome_of}
-use Rattle.xv_session.specs.Answers.{RunsSent}
-use Rattle.xv_session.specs.Recorded.{Recorded}
-use Rattle.xv_session.specs.Spans.{Kept}
-use Rattle.xv_session.proofs.GoesOn.{recorded-on, stands-on}
+use Rattle.xv_session.specs.Inside.{recorded}
+use Rattle.xv_session.specs.Steps.{RunsMade}
+use Rattle.xv_session.proofs.GoesOn.{recorded-on, done-on}
 use Rattle.xv_session.proofs.Plays.{goes-by-runs}
-use Rattle.xv_session.proofs.NamesLive.{led-is-sound}
+use Rattle.xv_session.proofs.NamesLive.{recorded-sound}
 use Rattle.xv_session.proofs.session.Session.run.Goals as goal
 
 pub run-runs-requires : goal.run-runs-requires
-run-runs-requires c =
-    let s = c.self.inside in
-    record { sound = led-is-sound s.config.frames s.config.trace s.running.machine.world.state.programs s.history.events s.running c.self.invariant }
+run-runs-requires c = record { sound = recorded-sound (recorded c.self.inside) c.self.invariant }
 
 pub invariant_of-self-2 : goal.invariant_of-self-2
 invariant_of-self-2 c =
-    let s = c.self.inside in
+    let sent = c.run-runs.result.sent in
     let r = c.run-runs.new.self in
-    let sent = replicate c.run-runs.result.sent Run in
-    let all : c.add.new.self.events ≡ s.history.events ++ sent = ap (λ (k : Kept). k.events) c.add.ensures
-    ∙ (λ i. c.in_ok-make_room.ensures.events i ++ replicate c.run-runs.result.sent (c.in_ok-make_room.ensures.next i)) in
-    recorded-on s.config.frames s.config.trace s.history.events sent c.add.new.self.events s.running r c.self.invariant
-    (goes-by-runs c.args.most c.run-runs.result.sent (option_map outcome_of c.run-runs.result.last) s.running r c.run-runs.ensures.made) all
+    recorded-on c.self.inside c.self.invariant c.make_room.new.self c.add.new.self Run sent r
+    (goes-by-runs c.args.most sent (option_map outcome_of c.run-runs.result.last) c.self.inside.running r c.run-runs.ensures.made)
+    c.in_ok-make_room.ensures.events c.in_ok-make_room.ensures.next c.add.ensures
 
 pub returns-clause-sent : goal.returns-clause-sent
 returns-clause-sent c =
-    let s = c.self.inside in
+    let sent = c.run-runs.result.sent in
+    let last = option_map outcome_of c.run-runs.result.last in
     let r = c.run-runs.new.self in
-    let sent = replicate c.run-runs.result.sent Run in
-    let all : c.add.new.self.events ≡ s.history.events ++ sent = ap (λ (k : Kept). k.events) c.add.ensures
-    ∙ (λ i. c.in_ok-make_room.ensures.events i ++ replicate c.run-runs.result.sent (c.in_ok-make_room.ensures.next i)) in
-    subst (λ (old : Recorded). RunsSent c.args.most c.run-runs.result.sent (option_map outcome_of c.run-runs.result.last) old
-    (record {
-      frames = s.config.frames;
-      trace = s.config.trace;
-      programs = r.machine.world.state.programs;
-      events = c.add.new.self.events;
-      machine = r.machine;
-      names = r.names;
-    })) c.self.view_is (
-      c.run-runs.ensures.made,
-      stands-on s.config.frames s.config.trace s.history.events sent c.add.new.self.events s.running r c.self.invariant
-          (goes-by-runs c.args.most c.run-runs.result.sent (option_map outcome_of c.run-runs.result.last) s.running r c.run-runs.ensures.made) all,
-    )
+    done-on c.self.inside c.self.invariant c.make_room.new.self c.add.new.self Run sent r
+    (goes-by-runs c.args.most sent last c.self.inside.running r c.run-runs.ensures.made) c.in_ok-make_room.ensures.events c.in_ok-make_room.ensures.next c.add.ensures
+    c.args.self.now c.self.view_is (λ a b. RunsMade c.args.most sent last a b) c.run-runs.ensures.made

@@ -1,10 +1,5 @@
-use Rattle.std.proofs.Common.{Ok, sym, ap, ◌∙◌, subst, take, map}
-use Rattle.kernel_spec.specs.runs.First.{first}
+use Rattle.std.proofs.Common.{◌∙◌, subst, take, map}
 use Rattle.kernel_spec.specs.views.State.{named_file}
-use Rattle.xv_machine.specs.Boots.{Boots, HasEmptyTrace}
-use Rattle.xv_machine.specs.Meaning.{Meaning}
-use Rattle.xv_machine.specs.Sound.{IsSoundMachine}
-use Rattle.xv_session.specs.Names.{first_names}
 use Rattle.xv_session.specs.Recorded.{Recorded, IsLed}
 use Rattle.xv_session.proofs.GoesOn.{led-anew}
 use Rattle.xv_session.proofs.NamesLive.{anew-sound}
@@ -12,24 +7,14 @@ use Rattle.xv_session.proofs.session.Session.running_at.Goals as goal
 
 pub play-requires : goal.play-requires
 play-requires c =
-    let f = c.self.inside.config.frames in
-    let t = c.self.inside.config.trace in
-    let ps = map named_file c.in-Ok.programs.items in
-    let r = c.new-running.result in
-    let same = sym c.new-running.ensures.machine in
-    anew-sound f t ps r (subst (λ (m : Meaning). Boots f (Ok m) (first f t ps)) same c.in-Ok-boot.ensures.boots) (subst (λ (m : Meaning). IsSoundMachine m) same c.in-Ok-boot.ensures.sound)
-    (subst (λ (m : Meaning). HasEmptyTrace t m) same c.in-Ok-boot.ensures.trace) (c.new-running.ensures.names ∙ ap (λ (m : Meaning). first_names m.world.state.programs) same)
+    anew-sound c.self.inside.config.frames c.self.inside.config.trace (map named_file c.in-Ok.programs.items) c.in-Ok-boot.machine c.new-running.result
+    c.new-running.ensures.machine c.new-running.ensures.names c.in-Ok-boot.ensures.boots c.in-Ok-boot.ensures.sound c.in-Ok-boot.ensures.trace
 
 pub returns : goal.returns
 returns c =
     let s = c.self.inside in
     let n = c.play.new.running in
-    let f = s.config.frames in
-    let t = s.config.trace in
-    let ps = map named_file c.in-Ok.programs.items in
-    let r = c.new-running.result in
-    let same = sym c.new-running.ensures.machine in
     subst (λ (old : Recorded). IsLed old.frames old.trace old.programs (take c.args.place old.events) n) c.self.view_is
-    (led-anew f t c.args.place s.running.machine.world.state.programs ps s.history.events r n (c.in-Ok.ensures ∙ c.programs.ensures)
-    (subst (λ (m : Meaning). Boots f (Ok m) (first f t ps)) same c.in-Ok-boot.ensures.boots) (subst (λ (m : Meaning). IsSoundMachine m) same c.in-Ok-boot.ensures.sound)
-    (subst (λ (m : Meaning). HasEmptyTrace t m) same c.in-Ok-boot.ensures.trace) (c.new-running.ensures.names ∙ ap (λ (m : Meaning). first_names m.world.state.programs) same) c.play.ensures.goes)
+    (led-anew s.config.frames s.config.trace c.args.place s.running.machine.world.state.programs (map named_file c.in-Ok.programs.items) s.history.events
+    c.in-Ok-boot.machine c.new-running.result n (c.in-Ok.ensures ∙ c.programs.ensures) c.new-running.ensures.machine c.new-running.ensures.names
+    c.in-Ok-boot.ensures.boots c.in-Ok-boot.ensures.sound c.in-Ok-boot.ensures.trace c.play.ensures.goes)
