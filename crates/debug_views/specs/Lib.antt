@@ -1,5 +1,13 @@
 pub mod Bytes
+pub mod ConsoleText
+pub mod DescriptorText
+pub mod EventText
 pub mod Focus
 pub mod FrameLists
+pub mod FrameText
+pub mod MemoryText
 pub mod PageRuns
+pub mod PageText
+pub mod RegisterText
 pub mod Sharing
+pub mod Written

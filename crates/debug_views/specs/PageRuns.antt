@@ -1,6 +1,7 @@
 -- Pages of a process, one behind another, that are alike.
-use Rattle.std.specs.Prelude.{◌≡◌, ℕ, ◌+◌, ◌/◌, ◌<◌, ◌≤◌, List, Option, None, Some}
+use Rattle.std.specs.Prelude.{◌≡◌, ℕ, ◌+◌, ◌/◌, ◌<◌, ◌≤◌, All, List, [], ◌∷◌, Option, None, Some}
 use Rattle.xk_base.specs.declared.access.Rights.{Rights}
+use Rattle.xk_base.specs.declared.limits.TheConstants.{VPN_END}
 use Rattle.kcall_core.specs.Observers.{rights_at}
 use Rattle.kcall_core.specs.declared.kernel.observers.frame_uses.FrameUse.{FrameUse}
 use Rattle.kcall_core.specs.declared.kernel.observers.frame_uses.FrameUse.TheVariants.{Lower}
@@ -35,3 +36,17 @@ pub record IsRunFrom (s : State) (uses : List FrameUse) (p first end : ℕ) (run
   pub some : 0 < run.count
   pub within : first + run.count ≤ end
   pub alike : IsRun s uses p run
+
+-- Runs from one number on up to another, one behind another
+abbrev pub AreRuns : State → List FrameUse → (p from end : ℕ) → List PageRun → Type 0
+AreRuns s uses p from end [] = Unit {0}
+AreRuns s uses p from end (run ∷ runs) = IsRunFrom s uses p from end run × AreRuns s uses p (from + run.count) end runs
+
+-- where they end
+abbrev pub end_of : (from : ℕ) → List PageRun → ℕ
+end_of from [] = from
+end_of from (run ∷ runs) = end_of (from + run.count) runs
+
+-- no run goes on behind an address space
+abbrev pub AreWithin : List PageRun → Type 0
+AreWithin runs = All (λ (run : PageRun). run.first + run.count ≤ VPN_END) runs

@@ -1,29 +1,75 @@
 //! Who owns the frames of RAM.
+ghost use Rattle.std.specs.Prelude.{◌≡◌, ◌++◌, Some, OnOk, string_bytes};
+ghost use Rattle.kcall_core.specs.declared.kernel.observers.frame_uses.FrameUse.TheVariants.{Page};
+ghost use Rattle.debug_views.specs.FrameText.{AreShares, IsFrameText, IsFramesText, IsSharesText, letter, more_text, or_stroke, owner_text, rights_shown, share_text, shares_head, use_text};
+ghost use Rattle.debug_views.specs.Focus.{name_in};
+ghost use Rattle.debug_views.specs.Written.{Writes};
+
 use crate::focus::{least_from, program_name};
-use crate::frame_uses::{pages_in, pipes_in, tables_in, trapframes_in, uses_of};
-use crate::pages::RightsShown;
-use debug_words::texts::{Grouped, Many, Named, Plain};
+use crate::frame_uses::{frames_in, pages_in, pipes_in, tables_in, trapframes_in, uses_of};
+use debug_words::texts::{Grouped, Hexadecimal, Many, Named, Plain};
 use std::alloc::{AllocError, Global};
+use std::fmt;
 use xk_base::limits::PAGE_BYTES;
-use xk_base::{Frame, Pid};
+use xk_base::{Frame, Perm, Pid, Vpn};
 use xv_machine::FrameUse;
 use xv_session::Session;
 
 /// The most processes that are shown at once.
 const LINES_MOST: u32 = 16;
 
+/// What a page allows, as `rwxu`.
+#[derive(Clone, Copy)]
+pub(crate) struct RightsShown(pub Option<Perm>);
+
+/// A letter for what is allowed.
+fn letter(allowed: bool, name: &'static str) -> &'static str
+    ensures { result.now ≡ letter allowed name.now }
+{
+    if allowed { name } else { "-" }
+}
+
+impl fmt::Display for RightsShown {
+    ghost output = { λ r. Some (rights_shown r.0) };
+
+    fn fmt<W: fmt::Write>(&self, f: &mut fmt::Formatter<W>) -> fmt::Result {
+        let Some(perm) = self.0 else {
+            return f.write_str("----");
+        };
+        let rights = perm.rights();
+        f.write_str(letter(rights.read, "r"))?;
+        f.write_str(letter(rights.write, "w"))?;
+        f.write_str(letter(rights.execute, "x"))?;
+        f.write_str(letter(rights.user, "u"))
+    }
+}
+
 /// Writes a process, with the name of its program, and ends the line.
-fn show_owner(session: &Session, pid: Pid, answer: &mut String) -> Result<(), AllocError> {
+fn show_owner(session: &Session, pid: Pid, answer: &mut String) -> Result<(), AllocError>
+    ensures { OnOk result (string_bytes answer.new ≡ string_bytes answer.old ++ owner_text session.now pid) }
+{
     let number = pid.number();
     let name = Named(program_name(session, pid));
     writeln!(answer, "process {number}{name}")
 }
 
+/// Writes of a page where it is, what it allows, and whose it is.
+fn show_page(session: &Session, pid: Pid, vpn: Vpn, answer: &mut String) -> Result<(), AllocError>
+    ensures { OnOk result (string_bytes answer.new ≡ string_bytes answer.old ++ use_text session.now (Page pid vpn)) }
+{
+    let address = Hexadecimal(u64::from(vpn.number()) * PAGE_BYTES);
+    let rights = RightsShown(session.machine().perm(pid, vpn));
+    write!(answer, "the page at {address}, {rights}, of ")?;
+    show_owner(session, pid, answer)
+}
+
 /// Writes what a frame is used for.
-fn show_use(session: &Session, used: &FrameUse, answer: &mut String) -> Result<(), AllocError> {
+fn show_use(session: &Session, used: &FrameUse, answer: &mut String) -> Result<(), AllocError>
+    ensures { OnOk result (string_bytes answer.new ≡ string_bytes answer.old ++ use_text session.now used.now) }
+{
     match *used {
-        FrameUse::Free => writeln!(answer, "free"),
-        FrameUse::Pipe => writeln!(answer, "a pipe: pipe tells of it"),
+        FrameUse::Free => answer.push_str("free\n"),
+        FrameUse::Pipe => answer.push_str("a pipe: pipe tells of it\n"),
         FrameUse::Trapframe(pid) => {
             answer.push_str("the trapframe of ")?;
             show_owner(session, pid, answer)
@@ -40,85 +86,14 @@ fn show_use(session: &Session, used: &FrameUse, answer: &mut String) -> Result<(
             write!(answer, "lower table {place} of ")?;
             show_owner(session, pid, answer)
         }
-        FrameUse::Page { pid, vpn } => {
-            let address = u64::from(vpn.number()) * PAGE_BYTES;
-            let rights = RightsShown(session.machine().perm(pid, vpn));
-            write!(answer, "the page at {address:#x}, {rights}, of ")?;
-            show_owner(session, pid, answer)
-        }
+        FrameUse::Page { pid, vpn } => show_page(session, pid, vpn, answer),
     }
 }
 
-/// Writes the line of a process.
-fn show_share(
-    session: &Session,
-    uses: &[FrameUse],
-    pid: Pid,
-    answer: &mut String,
-) -> Result<(), AllocError> {
-    let number = pid.number();
-    let name = Plain(program_name(session, pid).unwrap_or(b"-"));
-    let pages = pages_in(uses, pid) as u64;
-    let tables = tables_in(uses, pid) as u64;
-    let trapframes = trapframes_in(uses, pid) as u64;
-    let all = Grouped(pages.saturating_add(tables).saturating_add(trapframes));
-    let pages = Grouped(pages);
-    let tables = Grouped(tables);
-    let trapframes = Grouped(trapframes);
-    writeln!(
-        answer,
-        "{number:>5} {name:<14} {pages:>7} {tables:>7} {trapframes:>10} {all:>7}"
-    )
-}
-
-/// Writes who owns how many frames.
-fn show_shares(alloc: Global, session: &Session, answer: &mut String) -> Result<(), AllocError> {
-    let machine = session.machine();
-    let uses = uses_of(alloc, machine)?;
-    let frames = Many(uses.len() as u64, "frame");
-    let free = Grouped(u64::from(machine.free_frames()));
-    let pipes = Grouped(pipes_in(&uses) as u64);
-    let bytes = Grouped(PAGE_BYTES);
-    writeln!(
-        answer,
-        "{frames} of {bytes} bytes: {free} are free, and pipes have {pipes}"
-    )?;
-    writeln!(
-        answer,
-        "  pid program          pages  tables  trapframe     all"
-    )?;
-    let mut next: u32 = 1;
-    for _ in 0..LINES_MOST {
-        let Some(pid) = least_from(machine, next) else {
-            return Ok(());
-        };
-        show_share(session, &uses, pid, answer)?;
-        next = pid.number().wrapping_add(1);
-    }
-    if let Some(pid) = least_from(machine, next) {
-        let number = pid.number();
-        writeln!(
-            answer,
-            "there are more, from process {number} on: ps lists them"
-        )?;
-    }
-    Ok(())
-}
-
-/// Writes who owns how many frames, or who owns this one.
-///
-/// # Errors
-///
-/// The host has too little memory.
-pub fn show_frames(
-    alloc: Global,
-    session: &Session,
-    frame: Option<Frame>,
-    answer: &mut String,
-) -> Result<(), AllocError> {
-    let Some(frame) = frame else {
-        return show_shares(alloc, session, answer);
-    };
+/// Writes what this frame is used for, if RAM has it.
+fn show_frame(session: &Session, frame: Frame, answer: &mut String) -> Result<(), AllocError>
+    ensures { OnOk result (Writes (string_bytes answer.old) (string_bytes answer.new) (IsFrameText session.now frame)) }
+{
     let number = frame.number();
     match session.machine().frame_use(frame) {
         Some(used) => {
@@ -129,5 +104,113 @@ pub fn show_frames(
             answer,
             "RAM has no frame {number}: frames tells how many there are"
         ),
+    }
+}
+
+/// The name of the program that a process runs, or a stroke if it runs none.
+fn name_or_stroke(session: &Session, pid: Pid) -> &[u8]
+    ensures { result.now ≡ or_stroke (name_in session.now pid) }
+{
+    match program_name(session, pid) {
+        Some(name) => name,
+        None => b"-".as_slice(),
+    }
+}
+
+/// Writes how many frames a process has.
+fn show_share(
+    session: &Session,
+    uses: &[FrameUse],
+    pid: Pid,
+    answer: &mut String,
+) -> Result<(), AllocError>
+    ensures { OnOk result (string_bytes answer.new ≡ string_bytes answer.old ++ share_text session.now uses.now pid) }
+{
+    let number = pid.number();
+    let name = Plain(name_or_stroke(session, pid));
+    let pages = Grouped(pages_in(uses, pid) as u64);
+    let tables = Grouped(tables_in(uses, pid) as u64);
+    let trapframes = Grouped(trapframes_in(uses, pid) as u64);
+    let all = Grouped(frames_in(uses, pid) as u64);
+    writeln!(
+        answer,
+        "{number:>5} {name:<14} {pages:>7} {tables:>7} {trapframes:>10} {all:>7}"
+    )
+}
+
+/// Writes which process is the next, if there are more.
+fn show_more(next: Option<Pid>, answer: &mut String) -> Result<(), AllocError>
+    ensures { OnOk result (string_bytes answer.new ≡ string_bytes answer.old ++ more_text next) }
+{
+    let Some(pid) = next else {
+        return Ok(());
+    };
+    let number = pid.number();
+    writeln!(
+        answer,
+        "there are more, from process {number} on: ps lists them"
+    )
+}
+
+/// Writes how many frames each process has, from a pid on, so many at most.
+fn show_from(
+    session: &Session,
+    uses: &[FrameUse],
+    lines: u32,
+    from: u32,
+    answer: &mut String,
+) -> Result<(), AllocError>
+    ensures { OnOk result (Writes (string_bytes answer.old) (string_bytes answer.new) (AreShares session.now uses.now lines from)) }
+{
+    let next = least_from(session.machine(), from);
+    if lines == 0 {
+        return show_more(next, answer);
+    }
+    let Some(pid) = next else {
+        return Ok(());
+    };
+    show_share(session, uses, pid, answer)?;
+    show_from(session, uses, lines - 1, pid.number() + 1, answer)
+}
+
+/// Writes how many frames there are, and what for.
+fn show_head(session: &Session, uses: &[FrameUse], answer: &mut String) -> Result<(), AllocError>
+    ensures { OnOk result (string_bytes answer.new ≡ string_bytes answer.old ++ shares_head session.now uses.now) }
+{
+    let frames = Many(uses.len() as u64, "frame");
+    let bytes = Grouped(PAGE_BYTES);
+    let free = Grouped(u64::from(session.machine().free_frames()));
+    let pipes = Grouped(pipes_in(uses) as u64);
+    writeln!(
+        answer,
+        "{frames} of {bytes} bytes: {free} are free, and pipes have {pipes}\n  pid program          pages  tables  trapframe     all"
+    )
+}
+
+/// Writes who owns how many frames.
+fn show_shares(alloc: Global, session: &Session, answer: &mut String) -> Result<(), AllocError>
+    ensures { OnOk result (Writes (string_bytes answer.old) (string_bytes answer.new) (IsSharesText session.now)) }
+{
+    let uses = uses_of(alloc, session.machine())?;
+    show_head(session, uses.as_slice(), answer)?;
+    show_from(session, uses.as_slice(), LINES_MOST, 1, answer)
+}
+
+/// Writes who owns how many frames, or what this one is used for.
+///
+/// # Errors
+///
+/// The host has too little memory.
+pub fn show_frames(
+    alloc: Global,
+    session: &Session,
+    frame: Option<Frame>,
+    answer: &mut String,
+) -> Result<(), AllocError>
+    ensures { OnOk result (Writes (string_bytes answer.old) (string_bytes answer.new) (IsFramesText session.now frame)) }
+{
+    match frame {
+        Some(frame) => show_frame(session, frame, answer),
+        None => show_shares(alloc, session, answer),
     }
 }

@@ -1,8 +1,8 @@
 //! Pages of a process, one behind another, that are alike.
-ghost use Rattle.std.specs.Prelude.{◌≡◌, ℕ, ◌+◌, ◌-◌, ◌<◌, ◌≤◌, ◌/◌, All};
+ghost use Rattle.std.specs.Prelude.{◌≡◌, ◌⊎◌, ℕ, ◌+◌, ◌-◌, ◌<◌, ◌≤◌, ◌/◌, length};
 ghost use Rattle.xk_base.specs.declared.limits.TheConstants.{VPN_END};
 ghost use Rattle.kcall_core.specs.Observers.{rights_at};
-ghost use Rattle.debug_views.specs.PageRuns.{kind_by, IsRun, IsRunFrom};
+ghost use Rattle.debug_views.specs.PageRuns.{AreRuns, IsRunFrom, end_of, kind_by};
 
 use crate::frame_uses::next_lower;
 use arrayvec::ArrayVec;
@@ -49,6 +49,13 @@ impl Default for PageRun {
 
 /// Pages one behind another.
 pub(crate) type PageRuns = ArrayVec<PageRun, RUNS_MOST>;
+
+/// Runs of pages one behind another, and the number of the page behind them.
+#[derive(Drop)]
+pub(crate) struct FoundRuns {
+    pub runs: PageRuns,
+    pub behind: u32,
+}
 
 /// The place of a page's lower table.
 pub(crate) fn lower_of(number: u32) -> u32
@@ -141,29 +148,29 @@ fn run_from(machine: &Machine, uses: &[FrameUse], pid: Pid, first: u32, end: u32
     }
 }
 
-/// The runs of pages from one number up to another, one behind another: as many as there is room for.
+/// The runs of pages from one number up to another, one behind another: all, or as many as there is room for.
 pub(crate) fn runs_of(
     machine: &Machine,
     uses: &[FrameUse],
     pid: Pid,
     from: u32,
     end: u32,
-) -> PageRuns
+) -> FoundRuns
     requires { end ≤ VPN_END }
-    ensures { All (IsRun machine.now.world.state uses.now pid) result.items }
+    ensures runs { AreRuns machine.now.world.state uses.now pid from end result.runs.items }
+    ensures behind { result.behind ≡ end_of from result.runs.items }
+    ensures whole { (end ≤ end_of from result.runs.items) ⊎ (length result.runs.items ≡ RUNS_MOST) }
 {
     let mut runs = PageRuns::new();
-    let mut first = from;
-    for _ in 0..RUNS_MOST {
-        if first >= end {
-            return runs;
+    let mut behind = from;
+    for _number in 0..RUNS_MOST {
+        if behind >= end {
+            return FoundRuns { runs, behind };
         }
-        let run = run_from(machine, uses, pid, first, end);
+        let run = run_from(machine, uses, pid, behind, end);
         let _kind: Kind = run.kind;
-        first += run.count;
-        let Ok(()) = runs.try_push(run) else {
-            return runs;
-        };
+        behind += run.count;
+        runs.push(run);
     }
-    runs
+    FoundRuns { runs, behind }
 }

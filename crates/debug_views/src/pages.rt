@@ -1,37 +1,26 @@
 //! The tables and pages of a process, as a tree (RISC-V Privileged ISA, "Sv39: Page-Based 39-bit Virtual-Memory
 //! System").
-ghost use Rattle.std.specs.Prelude.{◌<◌, length};
+ghost use Rattle.std.specs.Prelude.{◌≡◌, ◌++◌, ◌+◌, ◌<◌, ◌≤◌, [], OnOk, string_bytes};
+ghost use Rattle.xk_base.specs.declared.limits.TheConstants.{VPN_END};
+ghost use Rattle.debug_views.specs.Focus.{name_in};
+ghost use Rattle.debug_views.specs.PageRuns.{AreWithin};
+ghost use Rattle.debug_views.specs.declared.page_runs.Kind.TheVariants.{There};
+ghost use Rattle.debug_views.specs.PageText as meant;
+ghost use Rattle.debug_views.specs.Written.{Writes};
 
-use crate::focus::program_name;
-use crate::frame_uses::{frame_with, uses_of};
+use crate::focus::{program_name, show_none};
+use crate::frame_uses::{lower_at, root_in, upper_in, uses_of};
+use crate::frames::RightsShown;
 use crate::page_runs::{Kind, PageRun, lower_of, runs_of, upper_of};
-use debug_words::texts::{Many, Named};
+use debug_words::texts::{Hexadecimal, Many, Named};
 use std::alloc::{AllocError, Global};
-use std::fmt;
 use xk_base::limits::{PAGE_BYTES, VPN_END};
-use xk_base::{Perm, Pid, Vpn};
+use xk_base::{Frame, Perm, Pid, Vpn};
 use xv_machine::{FrameUse, Machine};
 use xv_session::Session;
 
 /// The most frames that a line names.
 const FRAMES_SHOWN: u32 = 4;
-
-/// What a page allows, as `rwxu`.
-#[derive(Clone, Copy)]
-pub(crate) struct RightsShown(pub Option<Perm>);
-
-impl fmt::Display for RightsShown {
-    fn fmt<W: fmt::Write>(&self, f: &mut fmt::Formatter<W>) -> fmt::Result {
-        let Some(perm) = self.0 else {
-            return f.write_str("----");
-        };
-        let rights = perm.rights();
-        f.write_str(if rights.read { "r" } else { "-" })?;
-        f.write_str(if rights.write { "w" } else { "-" })?;
-        f.write_str(if rights.execute { "x" } else { "-" })?;
-        f.write_str(if rights.user { "u" } else { "-" })
-    }
-}
 
 /// Where a run stands in the tree.
 #[derive(Clone, Copy)]
@@ -46,50 +35,90 @@ struct Branches {
 }
 
 /// Whether two runs are of one upper table.
-fn same_upper(one: &PageRun, other: &PageRun) -> bool {
+fn same_upper(one: &PageRun, other: &PageRun) -> bool
+    ensures { result ≡ meant.same_upper one.now other.now }
+{
     upper_of(one.first) == upper_of(other.first)
 }
 
 /// Whether two runs are of one lower table, or of the room of one.
-fn same_lower(one: &PageRun, other: &PageRun) -> bool {
+fn same_lower(one: &PageRun, other: &PageRun) -> bool
+    ensures { result ≡ meant.same_lower one.now other.now }
+{
     lower_of(one.first) == lower_of(other.first)
 }
 
-/// Where the run at a place stands in the tree.
-fn branches_of(runs: &[PageRun], place: usize) -> Branches
-    requires { place < length runs.now }
+/// Where a run stands between those before it and those behind it.
+fn branches_of(before: &[PageRun], run: &PageRun, behind: &[PageRun]) -> Branches
+    ensures { result ≡ meant.branches_of before.now run.now behind.now }
 {
-    let run = runs[place];
-    let mut branches = Branches {
-        begins_upper: true,
-        begins_lower: true,
-        last_upper: true,
-        last_lower: true,
-        last: true,
-    };
-    for other in 0..runs.len() {
-        let found = runs[other];
-        if other < place {
-            branches.begins_upper &= !same_upper(&found, &run);
-            branches.begins_lower &= !same_lower(&found, &run);
-        }
-        if other > place {
-            branches.last_upper &= same_upper(&found, &run);
-            branches.last_lower &= !same_upper(&found, &run) | same_lower(&found, &run);
-            branches.last &= !same_lower(&found, &run);
-        }
+    Branches {
+        begins_upper: before.iter().all(|other| !same_upper(other, run)),
+        begins_lower: before.iter().all(|other| !same_lower(other, run)),
+        last_upper: behind.iter().all(|other| same_upper(other, run)),
+        last_lower: behind
+            .iter()
+            .all(|other| !same_upper(other, run) || same_lower(other, run)),
+        last: behind.iter().all(|other| !same_lower(other, run)),
     }
-    branches
 }
 
-/// A branch of the tree, and what stands below it.
-fn branch(is_last: bool) -> &'static str {
+/// A branch of the tree.
+fn branch(is_last: bool) -> &'static str
+    ensures { result.now ≡ meant.branch is_last }
+{
     if is_last { "└─ " } else { "├─ " }
 }
 
 /// What stands before the branches below a branch.
-fn below(is_last: bool) -> &'static str {
+fn below(is_last: bool) -> &'static str
+    ensures { result.now ≡ meant.below is_last }
+{
     if is_last { "   " } else { "│  " }
+}
+
+/// Writes the frame of a page, if it has one, behind a blank.
+fn show_frame(frame: Option<Frame>, answer: &mut String) -> Result<(), AllocError>
+    ensures { OnOk result (string_bytes answer.new ≡ string_bytes answer.old ++ meant.frame_behind frame) }
+{
+    let Some(frame) = frame else {
+        return Ok(());
+    };
+    let frame = frame.number();
+    write!(answer, " {frame}")
+}
+
+/// Writes the frames of the first pages of a run, so many.
+fn show_first_frames(
+    machine: &Machine,
+    pid: Pid,
+    run: &PageRun,
+    count: u32,
+    answer: &mut String,
+) -> Result<(), AllocError>
+    requires within { run.now.first + run.now.count ≤ VPN_END }
+    requires first { count ≤ run.now.count }
+    ensures { OnOk result (string_bytes answer.new ≡ string_bytes answer.old ++ meant.first_frames machine.now.frames pid run.now count) }
+{
+    for place in 0..count {
+        let page = Vpn::new(run.first + place);
+        show_frame(machine.page_frame(pid, page), answer)?;
+    }
+    Ok(())
+}
+
+/// The word for so many frames.
+fn frames_word(count: u32) -> &'static str
+    ensures { result.now ≡ meant.frames_word count }
+{
+    if count == 1 { "frame" } else { "frames" }
+}
+
+/// What stands behind the frames that are named, if there are more.
+fn more_frames(count: u32) -> &'static str
+    ensures { result.now ≡ meant.more_frames count }
+{
+    if count > FRAMES_SHOWN { " .." } else { "" }
 }
 
 /// Writes the frames of the first pages of a run.
@@ -98,48 +127,73 @@ fn show_frames_of(
     pid: Pid,
     run: &PageRun,
     answer: &mut String,
-) -> Result<(), AllocError> {
-    answer.push_str(if run.count == 1 { "frame" } else { "frames" })?;
-    for place in 0..run.count.min(FRAMES_SHOWN) {
-        let number = run.first.saturating_add(place);
-        if number < VPN_END
-            && let Some(frame) = machine.page_frame(pid, Vpn::new(number))
-        {
-            let frame = frame.number();
-            write!(answer, " {frame}")?;
-        }
-    }
-    if run.count > FRAMES_SHOWN {
-        answer.push_str(" ..")?;
-    }
-    writeln!(answer)
+) -> Result<(), AllocError>
+    requires { run.now.first + run.now.count ≤ VPN_END }
+    ensures { OnOk result (string_bytes answer.new ≡ string_bytes answer.old ++ meant.frames_text machine.now.frames pid run.now) }
+{
+    answer.push_str(frames_word(run.count))?;
+    show_first_frames(machine, pid, run, run.count.min(FRAMES_SHOWN), answer)?;
+    let more = more_frames(run.count);
+    writeln!(answer, "{more}")
 }
 
-/// Writes what is known of the pages of a run, behind their first address.
+/// Writes what pages that are there allow, how many they are, and their frames.
+fn show_there(
+    machine: &Machine,
+    pid: Pid,
+    run: &PageRun,
+    perm: Perm,
+    answer: &mut String,
+) -> Result<(), AllocError>
+    requires { run.now.first + run.now.count ≤ VPN_END }
+    ensures { OnOk result (string_bytes answer.new ≡ string_bytes answer.old ++ meant.kind_text machine.now.frames pid run.now (There perm)) }
+{
+    let rights = RightsShown(Some(perm));
+    let count = Many(u64::from(run.count), "page");
+    write!(answer, "{rights}  {count}, ")?;
+    show_frames_of(machine, pid, run, answer)
+}
+
+/// Writes what is known of the pages of a run.
 fn show_kind(
     machine: &Machine,
     pid: Pid,
     run: &PageRun,
     answer: &mut String,
-) -> Result<(), AllocError> {
-    let address = u64::from(run.first) * PAGE_BYTES;
+) -> Result<(), AllocError>
+    requires { run.now.first + run.now.count ≤ VPN_END }
+    ensures { OnOk result (string_bytes answer.new ≡ string_bytes answer.old ++ meant.kind_text machine.now.frames pid run.now run.now.kind) }
+{
     let count = Many(u64::from(run.count), "page");
     match run.kind {
-        Kind::There(perm) => {
-            let rights = RightsShown(Some(perm));
-            write!(answer, "{address:#012x}  {rights}  {count}, ")?;
-            show_frames_of(machine, pid, run, answer)
-        }
-        Kind::Absent => writeln!(answer, "{address:#012x}  ----  {count}, absent"),
-        Kind::NoTable => writeln!(answer, "{address:#012x}  ----  {count}, without a table"),
+        Kind::There(perm) => show_there(machine, pid, run, perm, answer),
+        Kind::Absent => writeln!(answer, "----  {count}, absent"),
+        Kind::NoTable => writeln!(answer, "----  {count}, without a table"),
     }
 }
 
+/// Writes a run: its first address, and what is known of its pages.
+fn show_run(
+    machine: &Machine,
+    pid: Pid,
+    run: &PageRun,
+    answer: &mut String,
+) -> Result<(), AllocError>
+    requires { run.now.first + run.now.count ≤ VPN_END }
+    ensures { OnOk result (string_bytes answer.new ≡ string_bytes answer.old ++ meant.run_text machine.now.frames pid run.now) }
+{
+    let address = u64::from(run.first) * PAGE_BYTES;
+    write!(answer, "0x{address:010x}  ")?;
+    show_kind(machine, pid, run, answer)
+}
+
 /// Writes the frame of a table, behind its name.
-fn show_table(uses: &[FrameUse], table: &FrameUse, answer: &mut String) -> Result<(), AllocError> {
-    match frame_with(uses, table) {
+fn show_table(frame: Option<usize>, answer: &mut String) -> Result<(), AllocError>
+    ensures { OnOk result (string_bytes answer.new ≡ string_bytes answer.old ++ meant.table_text frame) }
+{
+    match frame {
         Some(frame) => writeln!(answer, "frame {frame}"),
-        None => writeln!(answer, "not there"),
+        None => answer.push_str("not there\n"),
     }
 }
 
@@ -150,11 +204,13 @@ fn show_upper(
     run: &PageRun,
     branches: &Branches,
     answer: &mut String,
-) -> Result<(), AllocError> {
+) -> Result<(), AllocError>
+    ensures { OnOk result (string_bytes answer.new ≡ string_bytes answer.old ++ meant.upper_text uses.now pid run.now branches.now) }
+{
     let place = upper_of(run.first);
     let before = branch(branches.last_upper);
     write!(answer, "{before}upper table {place}: ")?;
-    show_table(uses, &FrameUse::Upper { pid, place }, answer)
+    show_table(upper_in(uses, pid, place), answer)
 }
 
 /// Writes the line of the lower table of a run.
@@ -164,39 +220,166 @@ fn show_lower(
     run: &PageRun,
     branches: &Branches,
     answer: &mut String,
-) -> Result<(), AllocError> {
+) -> Result<(), AllocError>
+    ensures { OnOk result (string_bytes answer.new ≡ string_bytes answer.old ++ meant.lower_text uses.now pid run.now branches.now) }
+{
     let place = lower_of(run.first);
     let above = below(branches.last_upper);
     let before = branch(branches.last_lower);
     write!(answer, "{above}{before}lower table {place}: ")?;
-    show_table(uses, &FrameUse::Lower { pid, place }, answer)
+    show_table(lower_at(uses, pid, place), answer)
 }
 
-/// Writes the tables that begin with a run, and the run below them.
-fn show_run(
+/// Writes a run that has a lower table, behind that table if it begins with the run.
+fn show_in_lower(
     machine: &Machine,
     uses: &[FrameUse],
     pid: Pid,
     run: &PageRun,
     branches: &Branches,
     answer: &mut String,
-) -> Result<(), AllocError> {
-    if branches.begins_upper {
-        show_upper(uses, pid, run, branches, answer)?;
-    }
-    let above = below(branches.last_upper);
-    if run.kind == Kind::NoTable {
-        let before = branch(branches.last_lower);
-        write!(answer, "{above}{before}")?;
-        return show_kind(machine, pid, run, answer);
-    }
+) -> Result<(), AllocError>
+    requires { run.now.first + run.now.count ≤ VPN_END }
+    ensures { OnOk result (string_bytes answer.new ≡ string_bytes answer.old ++ meant.in_lower machine.now.frames uses.now pid run.now branches.now) }
+{
     if branches.begins_lower {
         show_lower(uses, pid, run, branches, answer)?;
     }
+    let above = below(branches.last_upper);
     let between = below(branches.last_lower);
     let before = branch(branches.last);
     write!(answer, "{above}{between}{before}")?;
-    show_kind(machine, pid, run, answer)
+    show_run(machine, pid, run, answer)
+}
+
+/// Writes a run below its upper table.
+fn show_in_upper(
+    machine: &Machine,
+    uses: &[FrameUse],
+    pid: Pid,
+    run: &PageRun,
+    branches: &Branches,
+    answer: &mut String,
+) -> Result<(), AllocError>
+    requires { run.now.first + run.now.count ≤ VPN_END }
+    ensures { OnOk result (string_bytes answer.new ≡ string_bytes answer.old ++ meant.in_upper machine.now.frames uses.now pid run.now branches.now run.now.kind) }
+{
+    match run.kind {
+        Kind::NoTable => {
+            let above = below(branches.last_upper);
+            let before = branch(branches.last_lower);
+            write!(answer, "{above}{before}")?;
+            show_run(machine, pid, run, answer)
+        }
+        Kind::There(_) | Kind::Absent => {
+            show_in_lower(machine, uses, pid, run, branches, answer)
+        }
+    }
+}
+
+/// Writes the tables that begin with a run, and the run below them.
+fn show_branch(
+    machine: &Machine,
+    uses: &[FrameUse],
+    pid: Pid,
+    run: &PageRun,
+    branches: &Branches,
+    answer: &mut String,
+) -> Result<(), AllocError>
+    requires { run.now.first + run.now.count ≤ VPN_END }
+    ensures { OnOk result (string_bytes answer.new ≡ string_bytes answer.old ++ meant.branch_text machine.now.frames uses.now pid run.now branches.now) }
+{
+    if branches.begins_upper {
+        show_upper(uses, pid, run, branches, answer)?;
+    }
+    show_in_upper(machine, uses, pid, run, branches, answer)
+}
+
+/// Writes the tree of a process's runs.
+fn show_tree(
+    machine: &Machine,
+    uses: &[FrameUse],
+    pid: Pid,
+    runs: &[PageRun],
+    answer: &mut String,
+) -> Result<(), AllocError>
+    requires { AreWithin runs.now }
+    ensures { OnOk result (string_bytes answer.new ≡ string_bytes answer.old ++ meant.tree_text machine.now.frames uses.now pid [] runs.now) }
+{
+    for place in 0..runs.len() {
+        let run = runs[place];
+        let branches = branches_of(&runs[..place], &run, &runs[place + 1..]);
+        show_branch(machine, uses, pid, &run, &branches, answer)?;
+    }
+    Ok(())
+}
+
+/// Writes the address from which on there are more pages, if there are.
+fn show_more(behind: u32, end: u32, answer: &mut String) -> Result<(), AllocError>
+    ensures { OnOk result (string_bytes answer.new ≡ string_bytes answer.old ++ meant.more_pages behind end) }
+{
+    if behind >= end {
+        return Ok(());
+    }
+    let address = Hexadecimal(u64::from(behind) * PAGE_BYTES);
+    writeln!(answer, "there are more: pages {address} goes on")
+}
+
+/// How many pages so many bytes have, as far as an address space goes.
+fn pages_in(size: u64) -> u32
+    ensures pages { result ≡ meant.pages_in size }
+    ensures within { result ≤ VPN_END }
+{
+    size.div_ceil(PAGE_BYTES).min(u64::from(VPN_END)) as u32
+}
+
+/// The first page that is shown, from an address on.
+fn first_page(size: u64, from: u64) -> u32
+    ensures { result ≡ meant.first_page size from }
+{
+    (from / PAGE_BYTES).min(u64::from(pages_in(size))) as u32
+}
+
+/// Writes how much memory a process has, and where its root table lies.
+fn show_head(
+    session: &Session,
+    uses: &[FrameUse],
+    pid: Pid,
+    size: u64,
+    answer: &mut String,
+) -> Result<(), AllocError>
+    ensures { OnOk result (string_bytes answer.new ≡ string_bytes answer.old ++ meant.memory_head pid (name_in session.now pid) size uses.now) }
+{
+    let owner = pid.number();
+    let name = Named(program_name(session, pid));
+    let bytes = Many(size, "byte");
+    let pages = Many(u64::from(pages_in(size)), "page");
+    write!(
+        answer,
+        "memory of process {owner}{name}: {bytes}, {pages}\nroot table: "
+    )?;
+    show_table(root_in(uses, pid), answer)
+}
+
+/// Writes the tables and pages of a process that has so many bytes, from an address on.
+fn show_memory_of(
+    alloc: Global,
+    session: &Session,
+    pid: Pid,
+    size: u64,
+    from: u64,
+    answer: &mut String,
+) -> Result<(), AllocError>
+    ensures { OnOk result (Writes (string_bytes answer.old) (string_bytes answer.new) (meant.IsTreeText session.now pid from size)) }
+{
+    let machine = session.machine();
+    let uses = uses_of(alloc, machine)?;
+    let uses = uses.as_slice();
+    let end = pages_in(size);
+    let found = runs_of(machine, uses, pid, first_page(size, from), end);
+    show_head(session, uses, pid, size, answer)?;
+    show_tree(machine, uses, pid, found.runs.as_slice(), answer)?;
+    show_more(found.behind, end, answer)
 }
 
 /// Writes the tables and pages of a process, from an address on.
@@ -210,44 +393,11 @@ pub fn show_pages(
     pid: Pid,
     from: u64,
     answer: &mut String,
-) -> Result<(), AllocError> {
-    let machine = session.machine();
-    let owner = pid.number();
-    let Some(size) = machine.size(pid) else {
-        return writeln!(answer, "no live process has the pid {owner}; ps lists them");
-    };
-    let name = Named(program_name(session, pid));
-    let bytes = Many(size, "byte");
-    let end = size.div_ceil(PAGE_BYTES).min(u64::from(VPN_END)) as u32;
-    let begin = (from / PAGE_BYTES).min(u64::from(end)) as u32;
-    let pages = Many(u64::from(end), "page");
-    writeln!(answer, "memory of process {owner}{name}: {bytes}, {pages}")?;
-    let uses = uses_of(alloc, machine)?;
-    answer.push_str("root table: ")?;
-    show_table(&uses, &FrameUse::Root(pid), answer)?;
-    let runs = runs_of(machine, &uses, pid, begin, end);
-    show_runs(machine, &uses, pid, runs.as_slice(), end, answer)
-}
-
-/// Writes the runs of a process's pages, and where they go on up to this page.
-fn show_runs(
-    machine: &Machine,
-    uses: &[FrameUse],
-    pid: Pid,
-    runs: &[PageRun],
-    end: u32,
-    answer: &mut String,
-) -> Result<(), AllocError> {
-    let mut behind = end;
-    for place in 0..runs.len() {
-        let run = runs[place];
-        let branches = branches_of(runs, place);
-        show_run(machine, uses, pid, &run, &branches, answer)?;
-        behind = run.first.saturating_add(run.count);
+) -> Result<(), AllocError>
+    ensures { OnOk result (Writes (string_bytes answer.old) (string_bytes answer.new) (meant.IsPagesText session.now pid from)) }
+{
+    match session.machine().size(pid) {
+        Some(size) => show_memory_of(alloc, session, pid, size, from, answer),
+        None => show_none(pid, answer),
     }
-    if behind < end {
-        let address = u64::from(behind) * PAGE_BYTES;
-        return writeln!(answer, "there are more: pages {address:#x} goes on");
-    }
-    Ok(())
 }

@@ -1,30 +1,59 @@
 //! The registers of a process.
-use crate::focus::program_name;
-use debug_words::texts::Named;
+ghost use Rattle.std.specs.Prelude.{◌≡◌, ◌++◌, ◌<◌, OnOk, string_bytes};
+ghost use Rattle.debug_views.specs.RegisterText.{first_registers, gap_before, register_text, registers_shown};
+
+use crate::focus::{program_name, show_none};
+use debug_words::texts::{Hexadecimal, Named};
+use rv64i_core::Regs;
 use std::alloc::AllocError;
 use uasm_text::register_name;
 use xk_base::{Pid, Reg};
 use xv_session::Session;
 
-/// Writes the registers of a process: the pc, then x1 to x31 in three columns, by columns.
-pub fn show_registers(session: &Session, pid: Pid, answer: &mut String) -> Result<(), AllocError> {
+/// What stands before a register: three stand in a row.
+fn gap_before(number: u8) -> &'static str
+    ensures { result.now ≡ gap_before number }
+{
+    if number % 3 == 1 { "\n" } else { "   " }
+}
+
+/// Writes a register, behind what stands before it.
+fn show_register(regs: &Regs, number: u8, answer: &mut String) -> Result<(), AllocError>
+    requires { number < 32 }
+    ensures { OnOk result (string_bytes answer.new ≡ string_bytes answer.old ++ register_text regs.now number) }
+{
+    let gap = gap_before(number);
+    let register = Reg::new(number);
+    let name = register_name(register);
+    let value = Hexadecimal(regs.read(register));
+    write!(answer, "{gap}{name:<3} {value:>18}")
+}
+
+/// Writes x1 to x31.
+fn show_all(regs: &Regs, answer: &mut String) -> Result<(), AllocError>
+    ensures { OnOk result (string_bytes answer.new ≡ string_bytes answer.old ++ first_registers regs.now 31) }
+{
+    for place in 0..31_u8 {
+        show_register(regs, place + 1, answer)?;
+    }
+    Ok(())
+}
+
+/// Writes the registers of a process: the pc, then x1 to x31 in three columns.
+///
+/// # Errors
+///
+/// The host has too little memory.
+pub fn show_registers(session: &Session, pid: Pid, answer: &mut String) -> Result<(), AllocError>
+    ensures { OnOk result (string_bytes answer.new ≡ string_bytes answer.old ++ registers_shown session.now pid) }
+{
     let number = pid.number();
     let Some(regs) = session.machine().registers(pid) else {
-        return writeln!(
-            answer,
-            "no live process has the pid {number}; ps lists them"
-        );
+        return show_none(pid, answer);
     };
     let name = Named(program_name(session, pid));
-    let pc = regs.pc();
-    writeln!(answer, "registers of process {number}{name}")?;
-    write!(answer, "pc  {pc:>#18x}")?;
-    for place in 1..32_u8 {
-        let end = if place % 3 == 1 { "\n" } else { "   " };
-        let register = Reg::new(place);
-        let name = register_name(register);
-        let value = regs.read(register);
-        write!(answer, "{end}{name:<3} {value:>#18x}")?;
-    }
+    let pc = Hexadecimal(regs.pc());
+    write!(answer, "registers of process {number}{name}\npc  {pc:>18}")?;
+    show_all(&regs, answer)?;
     writeln!(answer)
 }

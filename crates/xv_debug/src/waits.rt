@@ -1,4 +1,7 @@
 //! What a sleeper waits for, in a few words.
+ghost use Rattle.std.specs.Prelude.{Some};
+ghost use Rattle.xv_debug.specs.ProcessText.{wait_text};
+
 use std::fmt;
 use xv_report::Wait;
 
@@ -7,6 +10,8 @@ use xv_report::Wait;
 pub(crate) struct WaitShown<'a>(pub &'a Wait);
 
 impl<'a> fmt::Display for WaitShown<'a> {
+    ghost output = { λ w. Some (wait_text w.0.now) };
+
     fn fmt<W: fmt::Write>(&self, f: &mut fmt::Formatter<W>) -> fmt::Result {
         match *self.0 {
             Wait::Until { tick } => write!(f, "sleep, until tick {tick}"),

@@ -1,5 +1,6 @@
 //! Processes, and what they wait for.
-use crate::names::{call_name, program_name};
+use call_names::call_name;
+use crate::names::program_name;
 use crate::text::place::{Instruction, Name, Place, Who};
 use crate::waits::{Wait, waits_for};
 use crate::waking::wakers;
