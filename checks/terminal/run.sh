@@ -16,6 +16,8 @@
 #   == status     the exit status that is wanted; without this part 0
 #   == again      what standard output must have if the record of the session is played, as `cat -v` writes it; without this
 #                 part the same bytes as in the session
+#   == beside     what standard error must have if the record is played without --apart, so that notes are made as on a
+#                 terminal that shows both, as `cat -v` writes it; without this part it isn't played so
 #
 # The last line of keys and of what is shown ends in \c where no line's end follows. A session with keys is recorded,
 # and its record is played.
@@ -95,30 +97,43 @@ is_part() {
     }
 }
 
+# Plays the record $1 beside a screen, and compares its notes.
+beside() {
+    [ -e "$room/=beside" ] || return 0
+    "$program" --replay "$1" $(words) </dev/null >/dev/null 2>"$room/=notes"
+    status=$?
+    [ "$status" = "$wanted" ] || { echo "$name: played beside a screen its status is $status"; return 1; }
+    is_part beside "$room/=notes"
+}
+
 # Plays session $1.
 check() {
     name=${1##*/}
     name=${name%.txt}
     take_apart "$1" || return 1
     wanted=$(cat "$room/=status" 2>/dev/null || echo 0)
-    if [ -e "$room/=record" ]; then
-        "$program" --apart --replay "$room/=record" $(words) </dev/null >"$room/=out" 2>"$room/=err"
+    record=$room/=record
+    if [ -e "$record" ]; then
+        "$program" --apart --replay "$record" $(words) </dev/null >"$room/=out" 2>"$room/=err"
     else
-        keys | "$program" --apart --tick 60000 --record "$room/=new" $(words) >"$room/=out" 2>"$room/=err"
+        record=$room/=new
+        keys | "$program" --apart --tick 60000 --record "$record" $(words) >"$room/=out" 2>"$room/=err"
     fi
     status=$?
     [ "$status" = "$wanted" ] || { echo "$name: status $status, and $wanted is wanted"; return 1; }
     is_part shows "$room/=out" || return 1
     is_part errors "$room/=err" || return 1
-    [ -e "$room/=new" ] || return 0
-    "$program" --apart --replay "$room/=new" $(words) </dev/null >"$room/=played" 2>/dev/null
-    status=$?
-    [ "$status" = "$wanted" ] || { echo "$name: played again its status is $status"; return 1; }
-    if [ -e "$room/=again" ]; then
-        is_part again "$room/=played"
-    else
-        cmp -s "$room/=out" "$room/=played" || { echo "$name: played again it shows other bytes"; return 1; }
+    if [ -e "$room/=new" ]; then
+        "$program" --apart --replay "$record" $(words) </dev/null >"$room/=played" 2>/dev/null
+        status=$?
+        [ "$status" = "$wanted" ] || { echo "$name: played again its status is $status"; return 1; }
+        if [ -e "$room/=again" ]; then
+            is_part again "$room/=played" || return 1
+        else
+            cmp -s "$room/=out" "$room/=played" || { echo "$name: played again it shows other bytes"; return 1; }
+        fi
     fi
+    beside "$record"
 }
 
 [ $# -gt 0 ] || set -- "$here"/*.txt
