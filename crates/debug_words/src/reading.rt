@@ -2,13 +2,13 @@
 ghost use Rattle.std.specs.Prelude.{IfOk};
 ghost use Rattle.debug_words.specs.Ranges.{UpTo, IsInRange};
 
-use crate::calls::call_number;
 use crate::fault::{WordError, WordErrorKind};
 use crate::keys::keys_of;
 use crate::numbers::{number_in, number_of};
 use crate::tokens::Tokens;
 use crate::topics::Topic;
 use crate::vocabulary::{BYTES_MOST, EVENTS_MOST, Goal, NOTES_MOST, OFTEN_MOST, ROUNDS_MOST, Word};
+use call_names::call_number;
 use xk_base::limits::{FRAMES_MAX, PID_MAX};
 use xk_base::{Frame, Pid};
 

@@ -1,32 +1,10 @@
 //! Processes in words.
+use call_names::call_name;
 use kcall_core::ProcessState;
 use std::alloc::{AllocError, Global};
 use xk_base::Pid;
 use xv_machine::Machine;
 use xv_session::Session;
-
-/// The name of a kernel call (the xv6 book, "Operating system interfaces"; `kernel/syscall.h` of xv6).
-fn call_name(number: i32) -> &'static str {
-    match number {
-        1 => "fork",
-        2 => "exit",
-        3 => "wait",
-        4 => "pipe",
-        5 => "read",
-        6 => "kill",
-        7 => "exec",
-        10 => "dup",
-        11 => "getpid",
-        12 => "sbrk",
-        13 => "sleep",
-        14 => "uptime",
-        15 => "open",
-        16 => "write",
-        21 => "close",
-        22 => "sbrklazy",
-        _ => "a call",
-    }
-}
 
 /// What a process does that is what this says.
 fn state_in_words(
@@ -43,7 +21,7 @@ fn state_in_words(
             },
         ) => {
             let does = if *asleep { "sleeps in" } else { "goes on with" };
-            let name = call_name(call.number);
+            let name = call_name(call.number).unwrap_or("a call");
             format!(in alloc; "{does} {name}")
         }
         Some(ProcessState::Live { marked: true, .. }) => String::from_str(alloc, "is to be killed"),

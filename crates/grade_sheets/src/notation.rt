@@ -1,27 +1,13 @@
 //! Patterns as text: a line of a trace, with `*`, `!1`, `>=2`, `3..9` or `13|15` in place of a number.
+use call_names::{call_name, call_number};
 use grade_rules::{Note, Numbers, Pattern};
 use std::fmt;
 
 // The number of a kernel call, by its name or its number.
-fn call_number(word: &str) -> Option<i64> {
-    match word {
-        "fork" => Some(1),
-        "exit" => Some(2),
-        "wait" => Some(3),
-        "pipe" => Some(4),
-        "read" => Some(5),
-        "kill" => Some(6),
-        "exec" => Some(7),
-        "dup" => Some(10),
-        "getpid" => Some(11),
-        "sbrk" => Some(12),
-        "sleep" => Some(13),
-        "uptime" => Some(14),
-        "open" => Some(15),
-        "write" => Some(16),
-        "close" => Some(21),
-        "sbrklazy" => Some(22),
-        _ => word.parse().ok(),
+fn number_of(word: &str) -> Option<i64> {
+    match call_number(word) {
+        Some(number) => Some(i64::from(number)),
+        None => word.parse().ok(),
     }
 }
 
@@ -52,18 +38,18 @@ fn numbers(word: &str) -> Option<Numbers> {
         return Some(Numbers::Any);
     }
     if let Some(other) = word.strip_prefix("!") {
-        return Some(Numbers::Not(call_number(other)?));
+        return Some(Numbers::Not(number_of(other)?));
     }
     if let Some((least, most)) = word.split_once("..") {
         return Some(within(least.parse().ok()?, most.parse().ok()?));
     }
     if let Some((one, other)) = word.split_once("|") {
-        return Some(Numbers::Either(call_number(one)?, call_number(other)?));
+        return Some(Numbers::Either(number_of(one)?, number_of(other)?));
     }
     if word.starts_with(">") || word.starts_with("<") {
         return ordered(word);
     }
-    let number = call_number(word)?;
+    let number = number_of(word)?;
     Some(within(number, number))
 }
 
@@ -112,29 +98,6 @@ pub fn pattern(text: &str) -> Option<Pattern> {
         number: second,
         answer: numbers(third)?,
     })
-}
-
-// The name of the kernel call of a number, if it is one's.
-fn call_name(number: i32) -> Option<&'static str> {
-    match number {
-        1 => Some("fork"),
-        2 => Some("exit"),
-        3 => Some("wait"),
-        4 => Some("pipe"),
-        5 => Some("read"),
-        6 => Some("kill"),
-        7 => Some("exec"),
-        10 => Some("dup"),
-        11 => Some("getpid"),
-        12 => Some("sbrk"),
-        13 => Some("sleep"),
-        14 => Some("uptime"),
-        15 => Some("open"),
-        16 => Some("write"),
-        21 => Some("close"),
-        22 => Some("sbrklazy"),
-        _ => None,
-    }
 }
 
 // The name of a kernel call, or its number if it has none.

@@ -1,6 +1,6 @@
 //! Kernel calls by their names.
+use call_names::call_name;
 use std::fmt;
-use xv_report::call_name;
 
 /// The name of a kernel call, or its number.
 #[derive(Clone, Copy)]

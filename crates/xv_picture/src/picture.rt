@@ -4,6 +4,7 @@ use crate::label::{RowName, Text, names_room, wait_in, who_at};
 use crate::note::Note;
 use crate::remark::Remarks;
 use crate::row::{State, Stretch};
+use call_names::call_name;
 use std::fmt::{self, Display};
 use std::io::{self, Write};
 
@@ -75,26 +76,8 @@ fn word(state: State) -> &'static str {
 }
 
 // The name of a kernel call.
-fn call_name(number: i32) -> &'static str {
-    match number {
-        1 => "fork",
-        2 => "exit",
-        3 => "wait",
-        4 => "pipe",
-        5 => "read",
-        6 => "kill",
-        7 => "exec",
-        10 => "dup",
-        11 => "getpid",
-        12 => "sbrk",
-        13 => "sleep",
-        14 => "uptime",
-        15 => "open",
-        16 => "write",
-        21 => "close",
-        22 => "sbrklazy",
-        _ => "unknown",
-    }
+fn name_of(number: i32) -> &'static str {
+    call_name(number).unwrap_or("unknown")
 }
 
 // The head of the picture.
@@ -258,9 +241,9 @@ impl Display for Mark {
     fn fmt<W: fmt::Write>(&self, f: &mut fmt::Formatter<W>) -> fmt::Result {
         match *self {
             Mark::Answered(number, answer) => {
-                write!(f, "{} (call {number}) answers {answer}", call_name(number))
+                write!(f, "{} (call {number}) answers {answer}", name_of(number))
             }
-            Mark::Waits(number) => write!(f, "{} (call {number}) waits", call_name(number)),
+            Mark::Waits(number) => write!(f, "{} (call {number}) waits", name_of(number)),
             Mark::Exit(status) => write!(f, "exit with status {status}"),
             Mark::Fault(cause) => write!(f, "fault of cause {cause}"),
         }

@@ -5,9 +5,9 @@
 //! [`waits_for`] and [`could_wake`] tell of sleepers what `kernel_spec` says of them (`specs/Waits.antt`), [`wakers`]
 //! lists all that could wake one (`specs/Wakers.antt`), [`callers_of`] follows a process's frames
 //! (`specs/Callers.antt`), and [`report_at`] tells a fault of the machine as it was before that step
-//! (`specs/Reports.antt`). [`program_name`] and [`call_name`] have the names that belong to these
-//! (`specs/Names.antt`). What is printed of them, by the `Display` of the types in [`text`], is compared with stored
-//! reports (`checks/why`).
+//! (`specs/Reports.antt`). [`program_name`] has the names of programs that belong to these (`specs/Names.antt`), and
+//! `call_names` those of kernel calls. What is printed of them, by the `Display` of the types in [`text`], is compared
+//! with stored reports (`checks/why`).
 #![tactic(auto)]
 
 mod callers;
@@ -21,6 +21,6 @@ mod waking;
 pub use callers::{CALLERS_MAX, Caller, Callers, callers_of};
 pub use fault::{FaultReport, report_at, report_of_run};
 pub use jumps::jump_target;
-pub use names::{call_name, program_name};
+pub use names::program_name;
 pub use waits::{EndsHeld, Wait, could_wake, ends_held, waits_for};
 pub use waking::wakers;

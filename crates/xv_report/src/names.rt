@@ -1,8 +1,7 @@
-//! Names of programs and of kernel calls.
+//! Names of programs.
 ghost use Rattle.std.specs.Prelude.{◌≡◌, map, option_map};
-ghost use Rattle.kernel_spec.specs.rows.Calls.{row_of};
 ghost use Rattle.kernel_spec.specs.views.State.{named_file};
-ghost use Rattle.xv_report.specs.Names.{name_at, name_of, call_word};
+ghost use Rattle.xv_report.specs.Names.{name_at, name_of};
 
 use xk_base::{Pid, Program};
 use xv_session::Session;
@@ -22,32 +21,4 @@ pub fn program_name(session: &Session, pid: Pid) -> Option<&[u8]>
 {
     let place = session.program_of(pid)?;
     name_at(session.machine().programs(), place)
-}
-
-/// The name of the kernel call of a number (xv6's `syscall.h`; `sbrklazy` is this project's own); `None` for a number
-/// that no call has.
-#[tactic(auto, unfolding(kernel_spec::specs::rows::Calls::row_of))]
-pub fn call_name(number: i32) -> Option<&'static str>
-    ensures { option_map (λ n. n.now) result ≡ option_map call_word (row_of number) }
-{
-    let name = match number {
-        1 => "fork",
-        2 => "exit",
-        3 => "wait",
-        4 => "pipe",
-        5 => "read",
-        6 => "kill",
-        7 => "exec",
-        10 => "dup",
-        11 => "getpid",
-        12 => "sbrk",
-        13 => "sleep",
-        14 => "uptime",
-        15 => "open",
-        16 => "write",
-        21 => "close",
-        22 => "sbrklazy",
-        _ => return None,
-    };
-    Some(name)
 }

@@ -2,13 +2,14 @@
 use crate::failure::Failure;
 use crate::letters::{Key, Letter};
 use crate::line::Telling;
+use call_names::call_name;
 use std::alloc::Global;
 use std::io::Write;
 use xk_base::Pid;
 use xk_base::limits::NPROC;
 use xv_machine::{Event, Outcome, ProcessState};
 use xv_report::text::{Asleep, FaultText, Name, WaitLine, Who};
-use xv_report::{FaultReport, call_name, report_at, waits_for};
+use xv_report::{FaultReport, report_at, waits_for};
 use xv_session::{Named, Runs, Session};
 
 /// The process that runs, as it is before Runs are sent: behind them it may be gone.

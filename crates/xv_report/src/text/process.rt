@@ -1,8 +1,9 @@
 //! Processes, and what they wait for.
-use crate::names::{call_name, program_name};
+use crate::names::program_name;
 use crate::text::place::{Instruction, Name, Place, Who};
 use crate::waits::{Wait, waits_for};
 use crate::waking::wakers;
+use call_names::call_name;
 use std::fmt;
 use xk_base::{Fd, Pid};
 use xv_machine::{Machine, ProcessState};
