@@ -41,7 +41,7 @@ use sv39_core::{
 
 mod absent;
 mod across;
-mod permitting;
+mod fast;
 
 use xk_base::limits::VPN_END;
 use xk_base::{Frame, NoFrames, Perm, Rights, Vpn, page_count};
@@ -179,7 +179,6 @@ fn hang(pool: &mut Pool, ram: &mut Ram, table: Frame, index: usize) -> Frame
         unreachable!();
     };
     ram.write_u64(table, index, Pte::table(frame).bits());
-    let _ = frame.number();
     frame
 }
 
@@ -211,7 +210,7 @@ fn lower_for(pool: &mut Pool, ram: &mut Ram, root: Frame, upper: Frame, number: 
     ensures found { table_at ram.new root 2 (number / 512) ≡ Some result }
     ensures left { length (free_in pool.old ram.old) ≤ length (free_in pool.new ram.new) + missing (table_at ram.old root 2 (number / 512)) }
 {
-    let _ = root.number();
+    let _ = root.number(); // contracts alone speak of the root
     if let Some(table) = read_lower_table(ram, upper, number) {
         return table;
     }
@@ -231,7 +230,7 @@ fn place(pool: &mut Pool, ram: &mut Ram, table: Frame, index: usize, perm: Perm)
         unreachable!();
     };
     ram.write_u64(table, index, Pte::leaf(frame, perm).bits());
-    let _ = (frame.number(), perm.rights());
+    let _ = perm.rights(); // it promises that the rights are sound, as the clause `allowed` says
 }
 
 /// How many frames a page would take.
@@ -343,8 +342,8 @@ fn has_page(ram: &Ram, table: Frame, from: usize) -> bool
     ensures none { result ≡ false → (k : ℕ) → k < 512 → frame_of (entry_at ram.now table k) ≡ None }
     ensures some { result ≡ true → (k : ℕ) × (f : ℕ) × (k < 512) × (frame_of (entry_at ram.now table k) ≡ Some f) }
 {
-    for i in 0..TABLE_ENTRIES {
-        let entry = (from + (TABLE_ENTRIES + 1) - i) % TABLE_ENTRIES;
+    for back in 0..TABLE_ENTRIES {
+        let entry = (from + (TABLE_ENTRIES + 1) - back) % TABLE_ENTRIES;
         if let Entry::Leaf(..) = read_entry(ram, table, entry) {
             return true;
         }
@@ -359,8 +358,8 @@ fn has_table(ram: &Ram, table: Frame, from: usize) -> bool
     ensures none { result ≡ false → (k : ℕ) → k < 512 → table_of (entry_at ram.now table k) ≡ None }
     ensures some { result ≡ true → (k : ℕ) × (f : ℕ) × (k < 512) × (table_of (entry_at ram.now table k) ≡ Some f) }
 {
-    for i in 0..TABLE_ENTRIES {
-        let entry = (from + (TABLE_ENTRIES + 1) - i) % TABLE_ENTRIES;
+    for back in 0..TABLE_ENTRIES {
+        let entry = (from + (TABLE_ENTRIES + 1) - back) % TABLE_ENTRIES;
         if let Some(_) = read_table(ram, table, entry) {
             return true;
         }
@@ -437,9 +436,9 @@ fn next_leaf(ram: &Ram, table: Frame, from: usize) -> usize
     ensures none { (k : ℕ) → from ≤ k → k < result → frame_of (entry_at ram.now table k) ≡ None }
     ensures found { result < 512 → (f : ℕ) × (frame_of (entry_at ram.now table result) ≡ Some f) }
 {
-    for i in from..TABLE_ENTRIES {
-        if let Entry::Leaf(..) = read_entry(ram, table, i) {
-            return i;
+    for index in from..TABLE_ENTRIES {
+        if let Entry::Leaf(..) = read_entry(ram, table, index) {
+            return index;
         }
     }
     TABLE_ENTRIES
@@ -716,7 +715,7 @@ impl Space {
         let Entry::Leaf(frame, perm, ..) = read_page_entry(ram, lower, number) else {
             unreachable!();
         };
-        let _ = frame.number();
+        let _ = frame.number(); // it promises the range, which no clause on the space or on RAM says
         let rights = perm.rights();
         let kept = Perm::new(Rights {
             read: rights.read,

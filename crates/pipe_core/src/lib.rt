@@ -14,9 +14,9 @@ ghost use Rattle.xk_base.specs.declared.limits.TheConstants.{PIPE_BYTES};
 ghost use Rattle.pipe_core.specs.declared.TheConstants.{END_COUNT_MAX};
 ghost use Rattle.pipe_core.specs.Pipe.{Becomes, IsPipe, IsPlaced, new_pipe, pipe_in, ring_byte, values_below, with_more, with_readers, with_writers, without_first};
 
-mod frames;
+mod fast;
 
-pub use frames::{copy_bytes, drop_first, push_part, push_zeros};
+pub use fast::frames::{copy_bytes, drop_first, push_part, push_zeros};
 use phys_ram::Ram;
 use xk_base::limits::PIPE_BYTES;
 use xk_base::{Frame, FrameBytes};

@@ -5,32 +5,32 @@ ghost use Rattle.xk_base.specs.Words.{le_bytes};
 use byteorder::{ByteOrder, LittleEndian};
 use std::alloc::AllocError;
 
-pub(crate) fn put_u8(out: &mut Vec<u8>, n: u8) -> Result<(), AllocError>
-    ensures { OnOk result (out.new.items ≡ out.old.items ++ le_bytes 1 n) }
+pub(crate) fn put_u8(out: &mut Vec<u8>, number: u8) -> Result<(), AllocError>
+    ensures { OnOk result (out.new.items ≡ out.old.items ++ le_bytes 1 number) }
 {
-    out.extend_from_slice(&[n])
+    out.extend_from_slice(&[number])
 }
 
-pub(crate) fn put_u16(out: &mut Vec<u8>, n: u16) -> Result<(), AllocError>
-    ensures { OnOk result (out.new.items ≡ out.old.items ++ le_bytes 2 n) }
+pub(crate) fn put_u16(out: &mut Vec<u8>, number: u16) -> Result<(), AllocError>
+    ensures { OnOk result (out.new.items ≡ out.old.items ++ le_bytes 2 number) }
 {
     let mut bytes = [0; 2];
-    LittleEndian::write_u16(&mut bytes, n);
+    LittleEndian::write_u16(&mut bytes, number);
     out.extend_from_slice(&bytes)
 }
 
-pub(crate) fn put_u32(out: &mut Vec<u8>, n: u32) -> Result<(), AllocError>
-    ensures { OnOk result (out.new.items ≡ out.old.items ++ le_bytes 4 n) }
+pub(crate) fn put_u32(out: &mut Vec<u8>, number: u32) -> Result<(), AllocError>
+    ensures { OnOk result (out.new.items ≡ out.old.items ++ le_bytes 4 number) }
 {
     let mut bytes = [0; 4];
-    LittleEndian::write_u32(&mut bytes, n);
+    LittleEndian::write_u32(&mut bytes, number);
     out.extend_from_slice(&bytes)
 }
 
-pub(crate) fn put_u64(out: &mut Vec<u8>, n: u64) -> Result<(), AllocError>
-    ensures { OnOk result (out.new.items ≡ out.old.items ++ le_bytes 8 n) }
+pub(crate) fn put_u64(out: &mut Vec<u8>, number: u64) -> Result<(), AllocError>
+    ensures { OnOk result (out.new.items ≡ out.old.items ++ le_bytes 8 number) }
 {
     let mut bytes = [0; 8];
-    LittleEndian::write_u64(&mut bytes, n);
+    LittleEndian::write_u64(&mut bytes, number);
     out.extend_from_slice(&bytes)
 }

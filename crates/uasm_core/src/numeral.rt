@@ -12,18 +12,27 @@ pub(crate) struct Number {
     pub magnitude: u128,
 }
 
+/// What 1 in the upper 20 bits of a word of 32 stands for: what lui and auipc give is a multiple of it.
+pub(crate) const UPPER_UNIT: u64 = 4096;
+
+/// Half of that. The low 12 bits are added with their sign: from here on they take one from the upper bits.
+pub(crate) const HALF_UPPER_UNIT: u64 = UPPER_UNIT / 2;
+
+/// How many numbers 20 bits tell apart.
+pub(crate) const UPPER_NUMBERS: u64 = 0x10_0000;
+
 /// Where the size of a number is not told apart any more: past each range.
 const CAP: u128 = 0x1_0000_0000_0000_0000;
 
 /// The value of a digit or a letter, 36 for any other byte.
-fn digit(b: u8) -> u8
-    ensures value { result ≡ digit_value b }
+fn digit(byte: u8) -> u8
+    ensures value { result ≡ digit_value byte }
     ensures range { result ≤ 36 }
 {
-    match b {
-        b'0'..=b'9' => b - b'0',
-        b'A'..=b'Z' => b - b'A' + 10,
-        b'a'..=b'z' => b - b'a' + 10,
+    match byte {
+        b'0'..=b'9' => byte - b'0',
+        b'A'..=b'Z' => byte - b'A' + 10,
+        b'a'..=b'z' => byte - b'a' + 10,
         _ => 36,
     }
 }
@@ -31,7 +40,7 @@ fn digit(b: u8) -> u8
 fn has_digits_only(bytes: &[u8], base: u8) -> bool
     ensures { result ≡ list_all (λ b. is_digit b base) bytes.now }
 {
-    bytes.iter().all(|b| digit(*b) < base)
+    bytes.iter().all(|byte| digit(*byte) < base)
 }
 
 /// The number that digits write, or 2^64 where it is more.
@@ -39,13 +48,13 @@ fn value(bytes: &[u8], base: u8) -> u128
     requires { (1 ≤ base) × (base ≤ 16) }
     ensures { result ≡ min (number_in base bytes.now) (2 ^ 64) }
 {
-    let mut n: u128 = 0;
-    for b in bytes {
-        if n < CAP {
-            n = n * u128::from(base) + u128::from(digit(*b));
+    let mut number: u128 = 0;
+    for byte in bytes {
+        if number < CAP {
+            number = number * u128::from(base) + u128::from(digit(*byte));
         }
     }
-    n.min(CAP)
+    number.min(CAP)
 }
 
 /// The number that digits write, one or more of them.
@@ -101,13 +110,13 @@ impl Number {
         self.magnitude <= u128::from(if self.negative { low } else { high })
     }
 
-    /// The low `k` bits.
-    pub(crate) fn low_bits(&self, k: u32) -> u64
-        requires { k ≤ 64 }
-        ensures value { result ≡ low_bits_of k self.now }
-        ensures range { result < 2 ^ k }
+    /// The low `count` bits.
+    pub(crate) fn low_bits(&self, count: u32) -> u64
+        requires { count ≤ 64 }
+        ensures value { result ≡ low_bits_of count self.now }
+        ensures range { result < 2 ^ count }
     {
-        let part = 1u128 << k;
+        let part = 1u128 << count;
         let low = self.magnitude % part;
         (if self.negative {
             (part - low) % part

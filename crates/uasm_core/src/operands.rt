@@ -40,7 +40,7 @@ pub(crate) fn one<'a>(operands: &[&'a [u8]]) -> Result<&'a [u8], AsmErrorKind>
     ensures { Gives (λ r. r.now) result (one_of (map (λ b. b.now) operands.now)) }
 {
     match operands {
-        [a] => Ok(*a),
+        [only] => Ok(*only),
         _ => Err(AsmErrorKind::BadOperand),
     }
 }
@@ -50,7 +50,7 @@ pub(crate) fn two<'a>(operands: &[&'a [u8]]) -> Result<(&'a [u8], &'a [u8]), Asm
     ensures { Gives (λ r. (r.0.now, r.1.now)) result (two_of (map (λ b. b.now) operands.now)) }
 {
     match operands {
-        [a, b] => Ok((*a, *b)),
+        [first, second] => Ok((*first, *second)),
         _ => Err(AsmErrorKind::BadOperand),
     }
 }
@@ -62,7 +62,7 @@ pub(crate) fn three<'a>(
     ensures { Gives (λ r. (r.0.now, r.1.now, r.2.now)) result (three_of (map (λ b. b.now) operands.now)) }
 {
     match operands {
-        [a, b, c] => Ok((*a, *b, *c)),
+        [first, second, third] => Ok((*first, *second, *third)),
         _ => Err(AsmErrorKind::BadOperand),
     }
 }
@@ -71,41 +71,41 @@ pub(crate) fn three<'a>(
 pub(crate) fn registers(operands: &[&[u8]]) -> Result<(Reg, Reg, Reg), AsmErrorKind>
     ensures { result ≡ registers_in (map (λ b. b.now) operands.now) }
 {
-    let (d, s, t) = three(operands)?;
-    Ok((register(d)?, register(s)?, register(t)?))
+    let (rd, rs1, rs2) = three(operands)?;
+    Ok((register(rd)?, register(rs1)?, register(rs2)?))
 }
 
 /// Two registers and a number.
 pub(crate) fn immediate(operands: &[&[u8]]) -> Result<(Reg, Reg, Number), AsmErrorKind>
     ensures { result ≡ immediate_in (map (λ b. b.now) operands.now) }
 {
-    let (d, s, n) = three(operands)?;
-    Ok((register(d)?, register(s)?, number(n)?))
+    let (rd, rs1, imm) = three(operands)?;
+    Ok((register(rd)?, register(rs1)?, number(imm)?))
 }
 
 /// A register, and a number with a register in brackets.
 pub(crate) fn indirect(operands: &[&[u8]]) -> Result<(Reg, Reg, Number), AsmErrorKind>
     ensures { result ≡ indirect_in (map (λ b. b.now) operands.now) }
 {
-    let (d, place) = two(operands)?;
-    let d = register(d)?;
-    let (n, s) = place_parts(place)?;
-    let n = number(n)?;
-    Ok((d, register(s)?, n))
+    let (first, place) = two(operands)?;
+    let first = register(first)?;
+    let (offset, base) = place_parts(place)?;
+    let offset = number(offset)?;
+    Ok((first, register(base)?, offset))
 }
 
 /// A register and a number.
 pub(crate) fn register_number(operands: &[&[u8]]) -> Result<(Reg, Number), AsmErrorKind>
     ensures { result ≡ register_number_in (map (λ b. b.now) operands.now) }
 {
-    let (d, n) = two(operands)?;
-    Ok((register(d)?, number(n)?))
+    let (rd, imm) = two(operands)?;
+    Ok((register(rd)?, number(imm)?))
 }
 
 /// A register and a label.
 pub(crate) fn register_label<'a>(operands: &[&'a [u8]]) -> Result<(Reg, Name<'a>), AsmErrorKind>
     ensures { result ≡ register_label_in (map (λ b. b.now) operands.now) }
 {
-    let (d, l) = two(operands)?;
-    Ok((register(d)?, label(l)?))
+    let (rd, target) = two(operands)?;
+    Ok((register(rd)?, label(target)?))
 }

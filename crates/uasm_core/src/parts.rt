@@ -12,36 +12,36 @@ use crate::scan::Quote;
 use std::alloc::{AllocError, Global};
 
 /// A space or a tab.
-fn is_blank(b: u8) -> bool
-    ensures { result ≡ blank b }
+fn is_blank(byte: u8) -> bool
+    ensures { result ≡ blank byte }
 {
-    b == b' ' || b == b'\t'
+    byte == b' ' || byte == b'\t'
 }
 
-fn is_letter(b: u8) -> bool
-    ensures { result ≡ letter b }
+fn is_letter(byte: u8) -> bool
+    ensures { result ≡ letter byte }
 {
-    (b >= b'A' && b <= b'Z') || (b >= b'a' && b <= b'z') || b == b'_'
+    (byte >= b'A' && byte <= b'Z') || (byte >= b'a' && byte <= b'z') || byte == b'_'
 }
 
 /// A byte of a label.
-fn is_name_byte(b: u8) -> bool
-    ensures { result ≡ name_byte b }
+fn is_name_byte(byte: u8) -> bool
+    ensures { result ≡ name_byte byte }
 {
-    is_letter(b) || (b >= b'0' && b <= b'9')
+    is_letter(byte) || (byte >= b'0' && byte <= b'9')
 }
 
 /// A byte of a word.
-fn is_word_byte(b: u8) -> bool
-    ensures { result ≡ word_byte b }
+fn is_word_byte(byte: u8) -> bool
+    ensures { result ≡ word_byte byte }
 {
-    is_name_byte(b) || b == b'.'
+    is_name_byte(byte) || byte == b'.'
 }
 
 fn has_name_bytes_only(bytes: &[u8]) -> bool
     ensures { result ≡ list_all name_byte bytes.now }
 {
-    bytes.iter().all(|b| is_name_byte(*b))
+    bytes.iter().all(|byte| is_name_byte(*byte))
 }
 
 /// A letter or _, then letters, digits and _.
@@ -56,61 +56,65 @@ fn name_len(bytes: &[u8]) -> usize
     ensures value { result ≡ prefix_len name_byte bytes.now }
     ensures within { result ≤ length bytes.now }
 {
-    bytes.iter().take_while(|b| is_name_byte(**b)).count()
+    bytes.iter().take_while(|byte| is_name_byte(**byte)).count()
 }
 
 fn word_len(bytes: &[u8]) -> usize
     ensures value { result ≡ prefix_len word_byte bytes.now }
     ensures within { result ≤ length bytes.now }
 {
-    bytes.iter().take_while(|b| is_word_byte(**b)).count()
+    bytes.iter().take_while(|byte| is_word_byte(**byte)).count()
 }
 
 fn blank_len(bytes: &[u8]) -> usize
     ensures value { result ≡ prefix_len blank bytes.now }
     ensures within { result ≤ length bytes.now }
 {
-    bytes.iter().take_while(|b| is_blank(**b)).count()
+    bytes.iter().take_while(|byte| is_blank(**byte)).count()
 }
 
 fn last_blank_len(bytes: &[u8]) -> usize
     ensures value { result ≡ suffix_len blank bytes.now }
     ensures within { result ≤ length bytes.now }
 {
-    bytes.iter().rev().take_while(|b| is_blank(**b)).count()
+    bytes
+        .iter()
+        .rev()
+        .take_while(|byte| is_blank(**byte))
+        .count()
 }
 
 fn without_blanks(bytes: &[u8]) -> &[u8]
     ensures { result.now ≡ without_front_blanks bytes.now }
 {
-    let n = blank_len(bytes);
-    &bytes[n..]
+    let blanks = blank_len(bytes);
+    &bytes[blanks..]
 }
 
 fn trim(bytes: &[u8]) -> &[u8]
     ensures { result.now ≡ trimmed bytes.now }
 {
     let front = without_blanks(bytes);
-    let n = last_blank_len(front);
-    &front[..front.len() - n]
+    let blanks = last_blank_len(front);
+    &front[..front.len() - blanks]
 }
 
-/// Where the byte behind `b` stands, if `b` stands at `quote`.
-fn next_quote(quote: Quote, b: u8) -> Quote
-    ensures { result ≡ after quote b }
+/// Where the byte behind `byte` stands, if `byte` stands at `quote`.
+fn next_quote(quote: Quote, byte: u8) -> Quote
+    ensures { result ≡ after quote byte }
 {
     match quote {
         Quote::Outside => {
-            if b == b'"' {
+            if byte == b'"' {
                 Quote::Inside
             } else {
                 Quote::Outside
             }
         }
         Quote::Inside => {
-            if b == b'"' {
+            if byte == b'"' {
                 Quote::Outside
-            } else if b == b'\\' {
+            } else if byte == b'\\' {
                 Quote::Escaped
             } else {
                 Quote::Inside
@@ -125,20 +129,20 @@ fn code(line: &[u8]) -> &[u8]
     ensures { result.now ≡ code_from Outside line.now }
 {
     let mut quote = Quote::Outside;
-    for (i, b) in line.iter().enumerate() {
-        if matches!(quote, Quote::Outside) && *b == b'#' {
-            return &line[..i];
+    for (index, byte) in line.iter().enumerate() {
+        if matches!(quote, Quote::Outside) && *byte == b'#' {
+            return &line[..index];
         }
-        quote = next_quote(quote, *b);
+        quote = next_quote(quote, *byte);
     }
     line
 }
 
 /// A comma outside texts.
-fn separates(quote: Quote, b: u8) -> bool
-    ensures { result ≡ (is_outside quote && (b == 44)) }
+fn separates(quote: Quote, byte: u8) -> bool
+    ensures { result ≡ (is_outside quote && (byte == 44)) }
 {
-    matches!(quote, Quote::Outside) && b == b','
+    matches!(quote, Quote::Outside) && byte == b','
 }
 
 /// The parts round the commas that stand outside texts, without the blanks round them.
@@ -148,12 +152,12 @@ fn pieces<'a>(alloc: Global, bytes: &'a [u8]) -> Result<Vec<&'a [u8]>, AllocErro
     let mut found = Vec::new(alloc);
     let mut from = 0;
     let mut quote = Quote::Outside;
-    for (i, b) in bytes.iter().enumerate() {
-        if separates(quote, *b) {
-            found.push(trim(&bytes[from..i]))?;
-            from = i + 1;
+    for (index, byte) in bytes.iter().enumerate() {
+        if separates(quote, *byte) {
+            found.push(trim(&bytes[from..index]))?;
+            from = index + 1;
         } else {
-            quote = next_quote(quote, *b);
+            quote = next_quote(quote, *byte);
         }
     }
     found.push(trim(&bytes[from..]))?;
@@ -187,11 +191,11 @@ fn behind_label<'a>(
     ensures { IfOk result (λ p. parts p ≡ unlabelled (option_map (λ b. b.now) label.entry) bytes.now) }
 {
     let code = without_blanks(bytes);
-    let n = word_len(code);
+    let word_end = word_len(code);
     Ok(Parts {
         label,
-        word: &code[..n],
-        operands: operands(alloc, &code[n..])?,
+        word: &code[..word_end],
+        operands: operands(alloc, &code[word_end..])?,
     })
 }
 
@@ -201,9 +205,9 @@ fn label_len(code: &[u8]) -> Option<usize>
     ensures value { result ≡ label_end code.now }
     ensures within { IfSome result (λ n. n < length code.now) }
 {
-    let n = name_len(code);
-    if n < code.len() && is_label(&code[..n]) && code[n] == b':' {
-        Some(n)
+    let name_end = name_len(code);
+    if name_end < code.len() && is_label(&code[..name_end]) && code[name_end] == b':' {
+        Some(name_end)
     } else {
         None
     }
@@ -214,7 +218,7 @@ pub(crate) fn parts_of<'a>(alloc: Global, line: &'a [u8]) -> Result<Parts<'a>, A
 {
     let code = without_blanks(code(line));
     match label_len(code) {
-        Some(n) => behind_label(alloc, Some(&code[..n]), &code[n + 1..]),
+        Some(colon) => behind_label(alloc, Some(&code[..colon]), &code[colon + 1..]),
         None => behind_label(alloc, None, code),
     }
 }
@@ -223,17 +227,17 @@ fn behind_len(bytes: &[u8]) -> usize
     ensures value { result ≡ prefix_len (λ b. not (b == 40)) bytes.now }
     ensures within { result ≤ length bytes.now }
 {
-    bytes.iter().take_while(|b| **b != b'(').count()
+    bytes.iter().take_while(|byte| **byte != b'(').count()
 }
 
 /// The parts of number(register).
 pub(crate) fn place_parts<'a>(bytes: &'a [u8]) -> Result<(&'a [u8], &'a [u8]), AsmErrorKind>
     ensures { Gives (λ r. (r.0.now, r.1.now)) result (or_bad (place_of bytes.now)) }
 {
-    let n = behind_len(bytes);
-    if n + 1 < bytes.len() && bytes[bytes.len() - 1] == b')' {
-        let inner = &bytes[n + 1..];
-        Ok((trim(&bytes[..n]), trim(&inner[..inner.len() - 1])))
+    let bracket = behind_len(bytes);
+    if bracket + 1 < bytes.len() && bytes[bytes.len() - 1] == b')' {
+        let inner = &bytes[bracket + 1..];
+        Ok((trim(&bytes[..bracket]), trim(&inner[..inner.len() - 1])))
     } else {
         Err(AsmErrorKind::BadOperand)
     }

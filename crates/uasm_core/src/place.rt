@@ -20,11 +20,11 @@ pub(crate) struct Place {
     pub(crate) data_len: u32,
 }
 
-/// How many program headers a section of `n` bytes has.
-pub(crate) fn header_count(n: u64) -> u16
-    ensures { result ≡ headers_of n }
+/// How many program headers a section of `section_len` bytes has.
+pub(crate) fn header_count(section_len: u64) -> u16
+    ensures { result ≡ headers_of section_len }
 {
-    if n == 0 { 0 } else { 1 }
+    if section_len == 0 { 0 } else { 1 }
 }
 
 /// How many bytes the headers of a file have.

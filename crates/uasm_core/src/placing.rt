@@ -37,11 +37,11 @@ pub(crate) struct Listing<'a> {
     pub(crate) text_len: u32,
 }
 
-fn datum_len(d: &Datum<'_>) -> u64
-    ensures value { result ≡ datum_size (datum_seen d.now) }
+fn datum_len(datum: &Datum<'_>) -> u64
+    ensures value { result ≡ datum_size (datum_seen datum.now) }
     ensures range { (1 ≤ result) × (result ≤ 8) }
 {
-    match d {
+    match datum {
         Datum::Byte(_) => 1,
         Datum::Word(_) => 4,
         Datum::Dword(_) | Datum::Address(_) => 8,
@@ -57,11 +57,11 @@ fn values_len(values: &[Datum<'_>]) -> Option<u64>
     if values.len() > PROGRAM_BYTES {
         return None;
     }
-    let mut n = 0;
-    for d in values {
-        n += datum_len(d);
+    let mut total = 0;
+    for value in values {
+        total += datum_len(value);
     }
-    Some(n)
+    Some(total)
 }
 
 /// How many bytes a text has; none where they are more than a file may have.
@@ -86,7 +86,7 @@ fn size(statement: &Statement<'_>) -> Option<u64>
         Statement::Two(..) | Statement::LoadAddress(..) => Some(8),
         Statement::Values(values) => values_len(values),
         Statement::Text(text) => text_len(text),
-        Statement::Space(n) => Some(u64::from(*n)),
+        Statement::Space(count) => Some(u64::from(*count)),
     }
 }
 
@@ -115,7 +115,7 @@ fn is_known<'a>(labels: &LabelPlaces<'a>, label: Option<&'a [u8]>) -> bool
     ensures { result ≡ is_taken (option_map (λ b. b.now) label.entry) (places_of labels.now) }
 {
     match label {
-        Some(l) => find(labels, l).is_some(),
+        Some(name) => find(labels, name).is_some(),
         None => false,
     }
 }
@@ -130,7 +130,7 @@ fn enter<'a>(
     ensures memory { IfErr result (λ e. e ≡ error.Memory) }
 {
     match label {
-        Some(l) => Ok(add(labels, l, at)?),
+        Some(name) => Ok(add(labels, name, at)?),
         None => Ok(()),
     }
 }
@@ -159,8 +159,8 @@ fn place_line<'a>(
     }
     let place = end.place();
     let statement = match asked(alloc, place.section, &parts) {
-        Ok(s) => s,
-        Err(r) => return Err(at_line(line, r)),
+        Ok(statement) => statement,
+        Err(refusal) => return Err(at_line(line, refusal)),
     };
     let Some(next) = end_behind(end, &statement) else {
         return Err(AsmError::At {
@@ -188,8 +188,8 @@ pub(crate) fn place_all<'a>(alloc: Global, lines: &[&'a str]) -> Result<Listing<
     let mut found = Vec::new(alloc);
     let mut labels = no_labels(alloc);
     let mut end = ProgramEnd::start();
-    for (i, line) in lines.iter().enumerate() {
-        let one = place_line(alloc, &mut labels, i + 1, &end, line.as_bytes())?;
+    for (index, line) in lines.iter().enumerate() {
+        let one = place_line(alloc, &mut labels, index + 1, &end, line.as_bytes())?;
         end = one.next;
         found.push(one)?;
     }

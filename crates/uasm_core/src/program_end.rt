@@ -63,16 +63,16 @@ impl ProgramEnd {
         }
     }
 
-    /// The end behind `n` bytes more, if the file isn't longer than a program file may be then.
-    pub(crate) fn grown(&self, n: u64) -> Option<ProgramEnd>
-        requires { n < 2 ^ 32 }
-        ensures { result ≡ within_limit (grown_by self.now.section n self.now) }
+    /// The end behind `count` bytes more, if the file isn't longer than a program file may be then.
+    pub(crate) fn grown(&self, count: u64) -> Option<ProgramEnd>
+        requires { count < 2 ^ 32 }
+        ensures { result ≡ within_limit (grown_by self.now.section count self.now) }
     {
         let mut text_len = u64::from(self.place.text_len);
         let mut data_len = u64::from(self.place.data_len);
         match self.place.section {
-            Section::Text => text_len += n,
-            Section::Data => data_len += n,
+            Section::Text => text_len += count,
+            Section::Data => data_len += count,
         }
         if headers_len(text_len, data_len) + text_len + data_len > PROGRAM_BYTES as u64 {
             return None;

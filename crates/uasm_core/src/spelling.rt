@@ -12,7 +12,7 @@ ghost use Rattle.uasm_core.specs.Written.{spelled_line, put_in, all_spelled, add
 use crate::bytes::{put_u8, put_u32, put_u64};
 use crate::error::{AsmError, AsmErrorKind, Refusal};
 use crate::labels::{LabelPlaces, find};
-use crate::numeral::Number;
+use crate::numeral::{HALF_UPPER_UNIT, Number, UPPER_NUMBERS, UPPER_UNIT};
 use crate::placing::{Placed, at_line};
 use crate::statement::{Datum, Statement};
 use crate::words::Section;
@@ -54,31 +54,31 @@ fn from_to(from: u64, to: u64) -> Number
     }
 }
 
-/// The bits of a distance to jump, in half words.
-fn distance(k: u32, from: u64, to: u64) -> Result<u64, AsmErrorKind>
-    requires { k ≤ 32 }
-    ensures value { result ≡ distance_in k from to }
-    ensures range { IfOk result (λ d. d < 2 ^ k) }
+/// The `width` bits of a distance to jump, in half words.
+fn distance(width: u32, from: u64, to: u64) -> Result<u64, AsmErrorKind>
+    requires { width ≤ 32 }
+    ensures value { result ≡ distance_in width from to }
+    ensures range { IfOk result (λ d. d < 2 ^ width) }
 {
-    let d = from_to(from, to);
-    let most = 1u64 << k;
-    if d.low_bits(1) == 0 && d.is_within(most, most - 1) {
-        Ok(d.low_bits(k + 1) / 2)
+    let in_bytes = from_to(from, to);
+    let most = 1u64 << width;
+    if in_bytes.low_bits(1) == 0 && in_bytes.is_within(most, most - 1) {
+        Ok(in_bytes.low_bits(width + 1) / 2)
     } else {
         Err(AsmErrorKind::OutOfRange)
     }
 }
 
-fn put_code(out: &mut Vec<u8>, i: &Instr) -> Result<(), AllocError>
-    ensures { OnOk result (out.new.items ≡ out.old.items ++ le_bytes 4 (word i.now)) }
+fn put_code(out: &mut Vec<u8>, instruction: &Instr) -> Result<(), AllocError>
+    ensures { OnOk result (out.new.items ≡ out.old.items ++ le_bytes 4 (word instruction.now)) }
 {
-    put_u32(out, encode(i))
+    put_u32(out, encode(instruction))
 }
 
-fn put_zeros(out: &mut Vec<u8>, n: u32) -> Result<(), AllocError>
-    ensures { OnOk result (out.new.items ≡ out.old.items ++ replicate n 0) }
+fn put_zeros(out: &mut Vec<u8>, count: u32) -> Result<(), AllocError>
+    ensures { OnOk result (out.new.items ≡ out.old.items ++ replicate count 0) }
 {
-    for _ in 0..n {
+    for _ in 0..count {
         out.push(0)?;
     }
     Ok(())
@@ -88,18 +88,18 @@ fn put_datum<'a>(
     out: &mut Vec<u8>,
     labels: &LabelPlaces<'a>,
     text_len: u32,
-    d: &Datum<'a>,
+    datum: &Datum<'a>,
 ) -> Result<(), Refusal>
     ensures { Answers (λ _. out.new.items) result
         (put_behind out.old.items
-        (datum_bytes (addresses text_len (places_of labels.now)) (datum_seen d.now))) }
+        (datum_bytes (addresses text_len (places_of labels.now)) (datum_seen datum.now))) }
 {
-    match d {
-        Datum::Byte(n) => put_u8(out, *n)?,
-        Datum::Word(n) => put_u32(out, *n)?,
-        Datum::Dword(n) => put_u64(out, *n)?,
-        Datum::Address(l) => {
-            let to = target(labels, text_len, l.bytes())?;
+    match datum {
+        Datum::Byte(number) => put_u8(out, *number)?,
+        Datum::Word(number) => put_u32(out, *number)?,
+        Datum::Dword(number) => put_u64(out, *number)?,
+        Datum::Address(label) => {
+            let to = target(labels, text_len, label.bytes())?;
             put_u64(out, to)?;
         }
     }
@@ -117,8 +117,8 @@ fn put_values<'a>(
         (values_bytes (addresses text_len (places_of labels.now))
         (map datum_seen values.now))) }
 {
-    for d in values {
-        put_datum(out, labels, text_len, d)?;
+    for value in values {
+        put_datum(out, labels, text_len, value)?;
     }
     Ok(())
 }
@@ -139,14 +139,14 @@ fn put_branch<'a>(
         (BranchTo op rs1 rs2 name.now))) }
 {
     let to = target(labels, text_len, name)?;
-    let d = distance(12, at, to)?;
+    let offset = distance(12, at, to)?;
     put_code(
         out,
         &Instr::Branch {
             op,
             rs1,
             rs2,
-            offset: Imm12::new(d as u16),
+            offset: Imm12::new(offset as u16),
         },
     )?;
     Ok(())
@@ -165,12 +165,12 @@ fn put_jump<'a>(
         (spelled (addresses text_len (places_of labels.now)) at (JumpTo rd name.now))) }
 {
     let to = target(labels, text_len, name)?;
-    let d = distance(20, at, to)?;
+    let offset = distance(20, at, to)?;
     put_code(
         out,
         &Instr::Jal {
             rd,
-            offset: Imm20::new(d as u32),
+            offset: Imm20::new(offset as u32),
         },
     )?;
     Ok(())
@@ -190,12 +190,12 @@ fn put_address<'a>(
         (LoadAddress rd name.now))) }
 {
     let to = target(labels, text_len, name)?;
-    let m = from_to(at, to).low_bits(32);
+    let relative = from_to(at, to).low_bits(32);
     put_code(
         out,
         &Instr::Auipc {
             rd,
-            imm: Imm20::new(((m + 2048) / 4096 % 0x10_0000) as u32),
+            imm: Imm20::new(((relative + HALF_UPPER_UNIT) / UPPER_UNIT % UPPER_NUMBERS) as u32),
         },
     )?;
     put_code(
@@ -204,7 +204,7 @@ fn put_address<'a>(
             op: ImmOp::Addi,
             rd,
             rs1: rd,
-            imm: Imm12::new((m % 4096) as u16),
+            imm: Imm12::new((relative % UPPER_UNIT) as u16),
         },
     )?;
     Ok(())
@@ -225,26 +225,33 @@ fn put_statement<'a>(
 {
     match statement {
         Statement::Empty | Statement::Switch(_) => Ok(()),
-        Statement::One(i) => Ok(put_code(out, i)?),
-        Statement::Two(i, j) => {
-            put_code(out, i)?;
-            Ok(put_code(out, j)?)
+        Statement::One(instruction) => Ok(put_code(out, instruction)?),
+        Statement::Two(first, second) => {
+            put_code(out, first)?;
+            Ok(put_code(out, second)?)
         }
-        Statement::BranchTo(op, s, t, l) => put_branch(
+        Statement::BranchTo(op, rs1, rs2, label) => put_branch(
             out,
             labels,
             text_len,
             at,
             *op,
-            *s,
-            *t,
-            l.bytes(),
+            *rs1,
+            *rs2,
+            label.bytes(),
         ),
-        Statement::JumpTo(d, l) => put_jump(out, labels, text_len, at, *d, l.bytes()),
-        Statement::LoadAddress(d, l) => put_address(out, labels, text_len, at, *d, l.bytes()),
+        Statement::JumpTo(rd, label) => put_jump(out, labels, text_len, at, *rd, label.bytes()),
+        Statement::LoadAddress(rd, label) => put_address(
+            out,
+            labels,
+            text_len,
+            at,
+            *rd,
+            label.bytes(),
+        ),
         Statement::Values(values) => put_values(out, labels, text_len, values),
-        Statement::Text(t) => Ok(out.extend_from_slice(t)?),
-        Statement::Space(n) => Ok(put_zeros(out, *n)?),
+        Statement::Text(text) => Ok(out.extend_from_slice(text)?),
+        Statement::Space(count) => Ok(put_zeros(out, *count)?),
     }
 }
 
@@ -288,7 +295,7 @@ fn spell_line<'a>(
         &line.statement,
     ) {
         Ok(()) => Ok(()),
-        Err(r) => Err(at_line(line.line, r)),
+        Err(refusal) => Err(at_line(line.line, refusal)),
     }
 }
 

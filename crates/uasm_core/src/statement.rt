@@ -8,7 +8,7 @@ ghost use Rattle.uasm_core.specs.Views.{statement as seen, given as given_seen, 
 
 use crate::error::{AsmErrorKind, Refusal};
 use crate::name::Name;
-use crate::numeral::Number;
+use crate::numeral::{HALF_UPPER_UNIT, Number, UPPER_NUMBERS, UPPER_UNIT};
 use crate::operands::{
     immediate, indirect, label, number, one, register, register_label, register_number, registers,
     three, two,
@@ -21,6 +21,9 @@ use rv64i_core::{
 };
 use std::alloc::{AllocError, Global};
 use xk_base::Reg;
+
+/// The most bytes that a `.space` asks for.
+const SPACE_MAX: u64 = 65536;
 
 /// A value of data: a number of some width, or the address of a label.
 #[derive(Drop)]
@@ -54,44 +57,44 @@ pub(crate) fn lines(alloc: Global, source: &str) -> Result<Vec<&str>, AllocError
 }
 
 /// The number, where it fits twelve bits with its sign.
-fn twelve_bits(n: &Number) -> Result<Imm12, AsmErrorKind>
-    ensures { result ≡ ranged 2048 2047 n.now (low_bits 12 n.now) }
+fn twelve_bits(number: &Number) -> Result<Imm12, AsmErrorKind>
+    ensures { result ≡ ranged 2048 2047 number.now (low_bits 12 number.now) }
 {
-    if n.is_within(2048, 2047) {
-        Ok(Imm12::new(n.low_bits(12) as u16))
+    if number.is_within(2048, 2047) {
+        Ok(Imm12::new(number.low_bits(12) as u16))
     } else {
         Err(AsmErrorKind::OutOfRange)
     }
 }
 
 /// The number, where it fits twenty bits.
-fn twenty_bits(n: &Number) -> Result<Imm20, AsmErrorKind>
-    ensures { result ≡ ranged 0 0xFFFFF n.now (low_bits 20 n.now) }
+fn twenty_bits(number: &Number) -> Result<Imm20, AsmErrorKind>
+    ensures { result ≡ ranged 0 0xFFFFF number.now (low_bits 20 number.now) }
 {
-    if n.is_within(0, 0xFFFFF) {
-        Ok(Imm20::new(n.low_bits(20) as u32))
+    if number.is_within(0, 0xFFFFF) {
+        Ok(Imm20::new(number.low_bits(20) as u32))
     } else {
         Err(AsmErrorKind::OutOfRange)
     }
 }
 
 /// The number, where it is a shift of 64 bits.
-fn six_bits(n: &Number) -> Result<Shift6, AsmErrorKind>
-    ensures { result ≡ ranged 0 63 n.now (low_bits 6 n.now) }
+fn six_bits(number: &Number) -> Result<Shift6, AsmErrorKind>
+    ensures { result ≡ ranged 0 63 number.now (low_bits 6 number.now) }
 {
-    if n.is_within(0, 63) {
-        Ok(Shift6::new(n.low_bits(6) as u8))
+    if number.is_within(0, 63) {
+        Ok(Shift6::new(number.low_bits(6) as u8))
     } else {
         Err(AsmErrorKind::OutOfRange)
     }
 }
 
 /// The number, where it is a shift of 32 bits.
-fn five_bits(n: &Number) -> Result<Shift5, AsmErrorKind>
-    ensures { result ≡ ranged 0 31 n.now (low_bits 5 n.now) }
+fn five_bits(number: &Number) -> Result<Shift5, AsmErrorKind>
+    ensures { result ≡ ranged 0 31 number.now (low_bits 5 number.now) }
 {
-    if n.is_within(0, 31) {
-        Ok(Shift5::new(n.low_bits(5) as u8))
+    if number.is_within(0, 31) {
+        Ok(Shift5::new(number.low_bits(5) as u8))
     } else {
         Err(AsmErrorKind::OutOfRange)
     }
@@ -100,142 +103,132 @@ fn five_bits(n: &Number) -> Result<Shift5, AsmErrorKind>
 fn register_statement<'a>(op: RegOp, operands: &[&[u8]]) -> Result<Statement<'a>, Refusal>
     ensures { Answers seen result (statement_of (form.Register op) (map (λ b. b.now) operands.now)) }
 {
-    let (d, s, t) = registers(operands)?;
-    Ok(Statement::One(Instr::Op {
-        op,
-        rd: d,
-        rs1: s,
-        rs2: t,
-    }))
+    let (rd, rs1, rs2) = registers(operands)?;
+    Ok(Statement::One(Instr::Op { op, rd, rs1, rs2 }))
 }
 
 fn register_word_statement<'a>(op: WordOp, operands: &[&[u8]]) -> Result<Statement<'a>, Refusal>
     ensures { Answers seen result (statement_of (form.RegisterWord op) (map (λ b. b.now) operands.now)) }
 {
-    let (d, s, t) = registers(operands)?;
-    Ok(Statement::One(Instr::OpW {
-        op,
-        rd: d,
-        rs1: s,
-        rs2: t,
-    }))
+    let (rd, rs1, rs2) = registers(operands)?;
+    Ok(Statement::One(Instr::OpW { op, rd, rs1, rs2 }))
 }
 
 fn immediate_statement<'a>(op: ImmOp, operands: &[&[u8]]) -> Result<Statement<'a>, Refusal>
     ensures { Answers seen result (statement_of (form.Immediate op) (map (λ b. b.now) operands.now)) }
 {
-    let (d, s, n) = immediate(operands)?;
+    let (rd, rs1, number) = immediate(operands)?;
     Ok(Statement::One(Instr::OpImm {
         op,
-        rd: d,
-        rs1: s,
-        imm: twelve_bits(&n)?,
+        rd,
+        rs1,
+        imm: twelve_bits(&number)?,
     }))
 }
 
 fn add_word_statement<'a>(operands: &[&[u8]]) -> Result<Statement<'a>, Refusal>
     ensures { Answers seen result (statement_of form.AddImmediateWord (map (λ b. b.now) operands.now)) }
 {
-    let (d, s, n) = immediate(operands)?;
+    let (rd, rs1, number) = immediate(operands)?;
     Ok(Statement::One(Instr::AddImmW {
-        rd: d,
-        rs1: s,
-        imm: twelve_bits(&n)?,
+        rd,
+        rs1,
+        imm: twelve_bits(&number)?,
     }))
 }
 
 fn shift_statement<'a>(op: ShiftOp, operands: &[&[u8]]) -> Result<Statement<'a>, Refusal>
     ensures { Answers seen result (statement_of (form.Shift op) (map (λ b. b.now) operands.now)) }
 {
-    let (d, s, n) = immediate(operands)?;
+    let (rd, rs1, number) = immediate(operands)?;
     Ok(Statement::One(Instr::ShiftImm {
         op,
-        rd: d,
-        rs1: s,
-        places: six_bits(&n)?,
+        rd,
+        rs1,
+        places: six_bits(&number)?,
     }))
 }
 
 fn shift_word_statement<'a>(op: ShiftOp, operands: &[&[u8]]) -> Result<Statement<'a>, Refusal>
     ensures { Answers seen result (statement_of (form.ShiftWord op) (map (λ b. b.now) operands.now)) }
 {
-    let (d, s, n) = immediate(operands)?;
+    let (rd, rs1, number) = immediate(operands)?;
     Ok(Statement::One(Instr::ShiftImmW {
         op,
-        rd: d,
-        rs1: s,
-        places: five_bits(&n)?,
+        rd,
+        rs1,
+        places: five_bits(&number)?,
     }))
 }
 
 fn load_statement<'a>(op: LoadOp, operands: &[&[u8]]) -> Result<Statement<'a>, Refusal>
     ensures { Answers seen result (statement_of (form.Load op) (map (λ b. b.now) operands.now)) }
 {
-    let (d, s, n) = indirect(operands)?;
+    let (rd, rs1, number) = indirect(operands)?;
     Ok(Statement::One(Instr::Load {
         op,
-        rd: d,
-        rs1: s,
-        imm: twelve_bits(&n)?,
+        rd,
+        rs1,
+        imm: twelve_bits(&number)?,
     }))
 }
 
 fn store_statement<'a>(op: StoreOp, operands: &[&[u8]]) -> Result<Statement<'a>, Refusal>
     ensures { Answers seen result (statement_of (form.Store op) (map (λ b. b.now) operands.now)) }
 {
-    let (t, s, n) = indirect(operands)?;
+    let (rs2, rs1, number) = indirect(operands)?;
     Ok(Statement::One(Instr::Store {
         op,
-        rs1: s,
-        rs2: t,
-        imm: twelve_bits(&n)?,
+        rs1,
+        rs2,
+        imm: twelve_bits(&number)?,
     }))
 }
 
 fn jump_register_statement<'a>(operands: &[&[u8]]) -> Result<Statement<'a>, Refusal>
     ensures { Answers seen result (statement_of form.JumpRegister (map (λ b. b.now) operands.now)) }
 {
-    let (d, s, n) = indirect(operands)?;
+    let (rd, rs1, number) = indirect(operands)?;
     Ok(Statement::One(Instr::Jalr {
-        rd: d,
-        rs1: s,
-        imm: twelve_bits(&n)?,
+        rd,
+        rs1,
+        imm: twelve_bits(&number)?,
     }))
 }
 
 fn branch_statement<'a>(op: BranchOp, operands: &[&'a [u8]]) -> Result<Statement<'a>, Refusal>
     ensures { Answers seen result (statement_of (form.Branch op) (map (λ b. b.now) operands.now)) }
 {
-    let (s, t, l) = three(operands)?;
-    let s = register(s)?;
-    let t = register(t)?;
-    Ok(Statement::BranchTo(op, s, t, label(l)?))
+    let (rs1, rs2, target) = three(operands)?;
+    let rs1 = register(rs1)?;
+    let rs2 = register(rs2)?;
+    Ok(Statement::BranchTo(op, rs1, rs2, label(target)?))
 }
 
 fn jump_statement<'a>(operands: &[&'a [u8]]) -> Result<Statement<'a>, Refusal>
     ensures { Answers seen result (statement_of form.Jump (map (λ b. b.now) operands.now)) }
 {
-    let (d, l) = register_label(operands)?;
-    Ok(Statement::JumpTo(d, l))
+    let (rd, target) = register_label(operands)?;
+    Ok(Statement::JumpTo(rd, target))
 }
 
 fn load_upper_statement<'a>(operands: &[&[u8]]) -> Result<Statement<'a>, Refusal>
     ensures { Answers seen result (statement_of form.LoadUpper (map (λ b. b.now) operands.now)) }
 {
-    let (d, n) = register_number(operands)?;
+    let (rd, number) = register_number(operands)?;
     Ok(Statement::One(Instr::Lui {
-        rd: d,
-        imm: twenty_bits(&n)?,
+        rd,
+        imm: twenty_bits(&number)?,
     }))
 }
 
 fn add_upper_statement<'a>(operands: &[&[u8]]) -> Result<Statement<'a>, Refusal>
     ensures { Answers seen result (statement_of form.AddUpper (map (λ b. b.now) operands.now)) }
 {
-    let (d, n) = register_number(operands)?;
+    let (rd, number) = register_number(operands)?;
     Ok(Statement::One(Instr::Auipc {
-        rd: d,
-        imm: twenty_bits(&n)?,
+        rd,
+        imm: twenty_bits(&number)?,
     }))
 }
 
@@ -282,13 +275,13 @@ fn return_statement<'a>(operands: &[&[u8]]) -> Result<Statement<'a>, Refusal>
 fn move_statement<'a>(operands: &[&[u8]]) -> Result<Statement<'a>, Refusal>
     ensures { Answers seen result (statement_of form.Move (map (λ b. b.now) operands.now)) }
 {
-    let (d, s) = two(operands)?;
-    let d = register(d)?;
-    let s = register(s)?;
+    let (rd, rs1) = two(operands)?;
+    let rd = register(rd)?;
+    let rs1 = register(rs1)?;
     Ok(Statement::One(Instr::OpImm {
         op: ImmOp::Addi,
-        rd: d,
-        rs1: s,
+        rd,
+        rs1,
         imm: Imm12::new(0),
     }))
 }
@@ -296,22 +289,22 @@ fn move_statement<'a>(operands: &[&[u8]]) -> Result<Statement<'a>, Refusal>
 fn jump_always_statement<'a>(operands: &[&'a [u8]]) -> Result<Statement<'a>, Refusal>
     ensures { Answers seen result (statement_of form.JumpAlways (map (λ b. b.now) operands.now)) }
 {
-    let l = label(one(operands)?)?;
-    Ok(Statement::JumpTo(Reg::new(0), l))
+    let target = label(one(operands)?)?;
+    Ok(Statement::JumpTo(Reg::new(0), target))
 }
 
 fn call_statement<'a>(operands: &[&'a [u8]]) -> Result<Statement<'a>, Refusal>
     ensures { Answers seen result (statement_of form.Call (map (λ b. b.now) operands.now)) }
 {
-    let l = label(one(operands)?)?;
-    Ok(Statement::JumpTo(Reg::new(1), l))
+    let target = label(one(operands)?)?;
+    Ok(Statement::JumpTo(Reg::new(1), target))
 }
 
 fn load_address_statement<'a>(operands: &[&'a [u8]]) -> Result<Statement<'a>, Refusal>
     ensures { Answers seen result (statement_of form.LoadAddress (map (λ b. b.now) operands.now)) }
 {
-    let (d, l) = register_label(operands)?;
-    Ok(Statement::LoadAddress(d, l))
+    let (rd, target) = register_label(operands)?;
+    Ok(Statement::LoadAddress(rd, target))
 }
 
 fn switch_statement<'a>(op: Section, operands: &[&[u8]]) -> Result<Statement<'a>, Refusal>
@@ -326,36 +319,36 @@ fn switch_statement<'a>(op: Section, operands: &[&[u8]]) -> Result<Statement<'a>
 fn space_statement<'a>(operands: &[&[u8]]) -> Result<Statement<'a>, Refusal>
     ensures { Answers seen result (statement_of form.Space (map (λ b. b.now) operands.now)) }
 {
-    let n = number(one(operands)?)?;
-    if n.is_within(0, 65536) {
-        Ok(Statement::Space(n.low_bits(17) as u32))
+    let count = number(one(operands)?)?;
+    if count.is_within(0, SPACE_MAX) {
+        Ok(Statement::Space(count.low_bits(17) as u32))
     } else {
         Err(Refusal::Kind(AsmErrorKind::OutOfRange))
     }
 }
 
 /// Lui, and addiw where the low part isn't 0; or addi alone.
-fn li_code<'a>(d: Reg, n: &Number) -> Statement<'a>
-    ensures { seen result ≡ Code (li_code_in d n.now) }
+fn li_code<'a>(rd: Reg, number: &Number) -> Statement<'a>
+    ensures { seen result ≡ Code (li_code_in rd number.now) }
 {
-    let m = n.low_bits(32);
-    let upper = Imm20::new(((m + 2048) / 4096 % 0x10_0000) as u32);
-    let lower = (m % 4096) as u16;
-    if n.is_within(2048, 2047) {
+    let word = number.low_bits(32);
+    let upper = Imm20::new(((word + HALF_UPPER_UNIT) / UPPER_UNIT % UPPER_NUMBERS) as u32);
+    let lower = (word % UPPER_UNIT) as u16;
+    if number.is_within(2048, 2047) {
         Statement::One(Instr::OpImm {
             op: ImmOp::Addi,
-            rd: d,
+            rd,
             rs1: Reg::new(0),
-            imm: Imm12::new(n.low_bits(12) as u16),
+            imm: Imm12::new(number.low_bits(12) as u16),
         })
     } else if lower == 0 {
-        Statement::One(Instr::Lui { rd: d, imm: upper })
+        Statement::One(Instr::Lui { rd, imm: upper })
     } else {
         Statement::Two(
-            Instr::Lui { rd: d, imm: upper },
+            Instr::Lui { rd, imm: upper },
             Instr::AddImmW {
-                rd: d,
-                rs1: d,
+                rd,
+                rs1: rd,
                 imm: Imm12::new(lower),
             },
         )
@@ -365,9 +358,9 @@ fn li_code<'a>(d: Reg, n: &Number) -> Statement<'a>
 fn load_number_statement<'a>(operands: &[&[u8]]) -> Result<Statement<'a>, Refusal>
     ensures { Answers seen result (statement_of form.LoadNumber (map (λ b. b.now) operands.now)) }
 {
-    let (d, n) = register_number(operands)?;
-    if n.is_within(0x8000_0000, 0x7FFF_FFFF) {
-        Ok(li_code(d, &n))
+    let (rd, number) = register_number(operands)?;
+    if number.is_within(0x8000_0000, 0x7FFF_FFFF) {
+        Ok(li_code(rd, &number))
     } else {
         Err(Refusal::Kind(AsmErrorKind::OutOfRange))
     }
@@ -376,17 +369,17 @@ fn load_number_statement<'a>(operands: &[&[u8]]) -> Result<Statement<'a>, Refusa
 fn text_statement<'a>(alloc: Global, operands: &[&[u8]]) -> Result<Statement<'a>, Refusal>
     ensures { Answers seen result (statement_of form.Text (map (λ b. b.now) operands.now)) }
 {
-    let mut t = text(alloc, one(operands)?)?;
-    t.push(0)?;
-    Ok(Statement::Text(t))
+    let mut bytes = text(alloc, one(operands)?)?;
+    bytes.push(0)?;
+    Ok(Statement::Text(bytes))
 }
 
 /// An instruction without operands.
-fn alone<'a>(operands: &[&[u8]], i: Instr) -> Result<Statement<'a>, Refusal>
-    ensures { Answers seen result (alone_in (map (λ b. b.now) operands.now) i) }
+fn alone<'a>(operands: &[&[u8]], instruction: Instr) -> Result<Statement<'a>, Refusal>
+    ensures { Answers seen result (alone_in (map (λ b. b.now) operands.now) instruction) }
 {
     match operands {
-        [] => Ok(Statement::One(i)),
+        [] => Ok(Statement::One(instruction)),
         _ => Err(Refusal::Kind(AsmErrorKind::BadOperand)),
     }
 }
@@ -418,15 +411,15 @@ fn bits(width: Width) -> u32
     }
 }
 
-fn known<'a>(width: Width, n: &Number) -> Result<Datum<'a>, AsmErrorKind>
-    ensures { Gives datum_seen result (datum_in width (GivenNumber n.now)) }
+fn known<'a>(width: Width, number: &Number) -> Result<Datum<'a>, AsmErrorKind>
+    ensures { Gives datum_seen result (datum_in width (GivenNumber number.now)) }
 {
-    let k = bits(width);
-    let half = 1u64 << (k - 1);
-    if !n.is_within(half, half + (half - 1)) {
+    let count = bits(width);
+    let half = 1u64 << (count - 1);
+    if !number.is_within(half, half + (half - 1)) {
         return Err(AsmErrorKind::OutOfRange);
     }
-    let low = n.low_bits(k);
+    let low = number.low_bits(count);
     Ok(match width {
         Width::Byte => Datum::Byte(low as u8),
         Width::Word => Datum::Word(low as u32),
@@ -438,8 +431,8 @@ fn stored_value<'a>(width: Width, given: &Given<'a>) -> Result<Datum<'a>, AsmErr
     ensures { Gives datum_seen result (datum_in width (given_seen given.now)) }
 {
     match given {
-        Given::Number(n) => known(width, n),
-        Given::Label(l) => Ok(Datum::Address(Name::new(l.bytes()))),
+        Given::Number(number) => known(width, number),
+        Given::Label(label) => Ok(Datum::Address(Name::new(label.bytes()))),
     }
 }
 
@@ -452,8 +445,8 @@ fn all_given<'a>(
         (each (given_in width) (map (λ b. b.now) operands.now)) }
 {
     let mut found = Vec::new(alloc);
-    for o in operands {
-        found.push(read_value(width, *o)?)?;
+    for operand in operands {
+        found.push(read_value(width, *operand)?)?;
     }
     Ok(found)
 }
@@ -467,8 +460,8 @@ fn all_data<'a>(
         (each (datum_in width) (map given_seen values.now)) }
 {
     let mut found = Vec::new(alloc);
-    for g in values {
-        found.push(stored_value(width, g)?)?;
+    for value in values {
+        found.push(stored_value(width, value)?)?;
     }
     Ok(found)
 }

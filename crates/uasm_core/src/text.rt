@@ -11,10 +11,10 @@ use crate::scan::Quote;
 use std::alloc::Global;
 
 /// What stands for an escaped byte.
-fn escape(b: u8) -> Option<u8>
-    ensures { result ≡ escape_of b }
+fn escape(byte: u8) -> Option<u8>
+    ensures { result ≡ escape_of byte }
 {
-    match b {
+    match byte {
         b'n' => Some(b'\n'),
         b't' => Some(b'\t'),
         b'0' => Some(0),
@@ -25,26 +25,26 @@ fn escape(b: u8) -> Option<u8>
 }
 
 /// One byte of a text.
-fn read_byte(found: &mut Vec<u8>, quote: Quote, b: u8) -> Result<Quote, Refusal>
-    ensures { (bs : List ℕ) → Reads found.old.items found.new.items result (text_from quote (b ∷ bs)) bs }
+fn read_byte(found: &mut Vec<u8>, quote: Quote, byte: u8) -> Result<Quote, Refusal>
+    ensures { (rest : List ℕ) → Reads found.old.items found.new.items result (text_from quote (byte ∷ rest)) rest }
 {
     match quote {
         Quote::Outside => Err(Refusal::Kind(AsmErrorKind::BadOperand)),
         Quote::Inside => {
-            if b == b'"' {
+            if byte == b'"' {
                 Ok(Quote::Outside)
-            } else if b == b'\\' {
+            } else if byte == b'\\' {
                 Ok(Quote::Escaped)
             } else {
-                found.push(b)?;
+                found.push(byte)?;
                 Ok(Quote::Inside)
             }
         }
         Quote::Escaped => {
-            let Some(c) = escape(b) else {
+            let Some(escaped) = escape(byte) else {
                 return Err(Refusal::Kind(AsmErrorKind::BadOperand));
             };
-            found.push(c)?;
+            found.push(escaped)?;
             Ok(Quote::Inside)
         }
     }
@@ -56,8 +56,8 @@ fn text_behind(alloc: Global, bytes: &[u8]) -> Result<Vec<u8>, Refusal>
 {
     let mut found = Vec::new(alloc);
     let mut quote = Quote::Inside;
-    for b in bytes {
-        quote = read_byte(&mut found, quote, *b)?;
+    for byte in bytes {
+        quote = read_byte(&mut found, quote, *byte)?;
     }
     match quote {
         Quote::Outside => Ok(found),

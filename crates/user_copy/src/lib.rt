@@ -24,13 +24,13 @@ use phys_ram::Ram;
 use xk_base::limits::{ADDRESS_END, FRAME_BYTES};
 use xk_base::{Access, BadAddress, Perm, Vpn, page_offset};
 
+mod fast;
 mod lazily;
-mod pipes;
 
+pub use fast::pipes::{copy_from_pipe, push_to_pipe};
 pub use lazily::{
     check_range_lazily, copy_in_lazily, fetch_text_lazily, fetch_u64_lazily, law_of_present_pages,
 };
-pub use pipes::{copy_from_pipe, push_to_pipe};
 
 /// Where a byte lies: its page, and how far behind the page's first byte.
 #[derive(Clone, Copy)]

@@ -3,5 +3,5 @@ use Rattle.sv39_core.specs.Sv39.{entry_at}
 use Rattle.sv39_core.specs.Tree.{frame_of}
 use Rattle.addr_space.proofs.has_page.Given as goal
 
-abbrev pub invariant-loop-i : goal.invariant-loop-i
-invariant-loop-i l = (k : ℕ) → k < l.i → frame_of (entry_at l.ram l.table ((l.from + 513 - k) % 512)) ≡ None
+abbrev pub invariant-loop-back : goal.invariant-loop-back
+invariant-loop-back l = (k : ℕ) → k < l.back → frame_of (entry_at l.ram l.table ((l.from + 513 - k) % 512)) ≡ None

@@ -1,4 +1,4 @@
-use Rattle.std.proofs.Common.{◌≡◌, ◌∙◌, subst}
+use Rattle.std.proofs.Common.{◌≡◌, ◌∙◌, subst, arith}
 use Rattle.phys_ram.specs.Ram.{WordWritten}
 use Rattle.sv39_core.specs.Sv39.{leaf_word}
 use Rattle.addr_space.proofs.place.Goals as goal
@@ -11,6 +11,6 @@ returns-clause-placed c =
         mid = c.take.new.ram;
         taken = c.in-Some.ensures.taken;
         put = subst (λ v. WordWritten c.take.new.ram c.write_u64.new.self c.args.table c.args.index v) e c.write_u64.ensures;
-        small = c.number.ensures.range;
+        small = omega (arith, c.in-Some.ensures.taken.inside, c.in-Some.ensures.taken.traded.count, c.requires.good.small);
       },
     )

@@ -1,7 +1,7 @@
 //! Rows of instructions end as single ones do, in a program that writes into its own code.
 ghost use Rattle.std.specs.Prelude.{◌≡◌, ◌*◌, ◌%◌, ◌<◌};
 
-use super::{Running, machine_of};
+use super::{HartOverRam, machine_of};
 use crate::Series;
 use phys_ram::Ram;
 use rv64i_core::Stop;
@@ -89,7 +89,7 @@ fn some_text(numbers: &mut Numbers) -> [u64; 512] {
     text
 }
 
-impl Running {
+impl HartOverRam {
     // Instructions one after another, each by itself.
     fn single_steps(&mut self, most: u32) -> Series {
         for made in 0..most {
@@ -129,7 +129,7 @@ fn have_same_frames(a: &Ram, b: &Ram) -> bool {
 }
 
 // Whether registers, the last page fault and all frames are the same.
-fn are_same(a: &Running, b: &Running) -> bool {
+fn are_same(a: &HartOverRam, b: &HartOverRam) -> bool {
     let have_same_regs = a.hart.regs() == b.hart.regs();
     let have_same_fault = a.hart.fault_address() == b.hart.fault_address();
     have_same_regs & have_same_fault & have_same_frames(&a.ram, &b.ram)

@@ -14,7 +14,6 @@ use Rattle.addr_space.specs.declared.Space.{Space}
 use Rattle.hart_core.specs.Steps.{FitsHart}
 use Rattle.hart_core.specs.Translations.{Fits, FitsBut, but_not, nothing, Translations}
 use Rattle.hart_core.proofs.Caches.{fits_root, fits-none_gone}
-use Rattle.hart_core.specs.declared.translation_cache.Cache.{Cache}
 use Rattle.hart_core.specs.declared.hart.Hart.{Hart}
 use Rattle.kcall_core.specs.Memories.{RunsIn, is_between, Stands}
 use Rattle.kcall_core.specs.declared.memories.Memory.{Memory}
@@ -70,7 +69,7 @@ switched-runs {old} {i} {m} new space' s each hart root fits = record {
 -- ---- pages are gone, and forgotten
 
 -- the pages from `first` on are gone, and none stood behind `end`
-pub fits-shrunk : (ram ram' : List (List ℕ)) (root : ℕ) (cache : Cache) (first end : ℕ) → WalksStayBelow (4096 * first) ram ram' root
+pub fits-shrunk : (ram ram' : List (List ℕ)) (root : ℕ) (cache : Translations) (first end : ℕ) → WalksStayBelow (4096 * first) ram ram' root
     → ((va : ℕ) (access : Access) → 4096 * end ≤ va → walked ram root va access ≡ None) → Fits ram root cache
     → FitsBut ram' root cache (is_between first end)
 fits-shrunk ram ram' root cache first end below behind fits = record {
@@ -96,14 +95,14 @@ fits-shrunk ram ram' root cache first end below behind fits = record {
         false≢true (sym stays ∙ between)
 
 -- one page fewer is left to be forgotten
-pub but-next : (ram : List (List ℕ)) (root : ℕ) (cache : Cache) (v end : ℕ) → FitsBut ram root cache (but_not (is_between v end) v) → FitsBut ram root cache (is_between (v + 1) end)
+pub but-next : (ram : List (List ℕ)) (root : ℕ) (cache : Translations) (v end : ℕ) → FitsBut ram root cache (but_not (is_between v end) v) → FitsBut ram root cache (is_between (v + 1) end)
 but-next ram root cache v end fits = record { placed = fits.placed; each = λ i e. fits.each i (fewer (get_or cache.places i nothing).page e) }
   where
     fewer : (u : ℕ) → is_between (v + 1) end u ≡ false → but_not (is_between v end) v u ≡ false
     fewer u e = grind (arith, nat_tests)
 
 -- none is left
-pub but-none : (ram : List (List ℕ)) (root : ℕ) (cache : Cache) (v end : ℕ) → end ≤ v → FitsBut ram root cache (is_between v end) → Fits ram root cache
+pub but-none : (ram : List (List ℕ)) (root : ℕ) (cache : Translations) (v end : ℕ) → end ≤ v → FitsBut ram root cache (is_between v end) → Fits ram root cache
 but-none ram root cache v end past fits = fits-none_gone ram root cache (is_between v end) (λ u. grind (arith, nat_tests)) fits
 
 -- the hart that runs in a slot has its root

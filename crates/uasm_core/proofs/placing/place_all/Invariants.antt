@@ -5,10 +5,10 @@ use Rattle.uasm_core.specs.Written.{one_by_one, with_line, all_placed, label_pla
 use Rattle.uasm_core.specs.Places.{start}
 use Rattle.uasm_core.proofs.placing.place_all.Given as goal
 
-abbrev pub invariant-loop-i : goal.invariant-loop-i
-invariant-loop-i l = record {
-  lines : one_by_one with_line (map seen l.found.items) (map (λ b. b.now) (drop l.i l.lines)) ≡ all_placed (map (λ b. b.now) l.lines);
-  count : length l.found.items ≡ l.i;
+abbrev pub invariant-loop-index : goal.invariant-loop-index
+invariant-loop-index l = record {
+  lines : one_by_one with_line (map seen l.found.items) (map (λ b. b.now) (drop l.index l.lines)) ≡ all_placed (map (λ b. b.now) l.lines);
+  count : length l.found.items ≡ l.index;
   labels : places_of l.labels ≡ label_place (map seen l.found.items);
   ends : l.end ≡ end_of (map seen l.found.items) start;
 }

@@ -4,5 +4,5 @@ use Rattle.uasm_core.specs.Statement.{datum_size}
 use Rattle.uasm_core.specs.Views.{datum as datum_seen}
 use Rattle.uasm_core.proofs.placing.values_len.Given as goal
 
-abbrev pub invariant-loop-d : goal.invariant-loop-d
-invariant-loop-d l = (l.n ≡ sum_by datum_size (map datum_seen (take l.d-index l.values))) × (l.n ≤ 8 * l.d-index)
+abbrev pub invariant-loop-value : goal.invariant-loop-value
+invariant-loop-value l = (l.total ≡ sum_by datum_size (map datum_seen (take l.value-index l.values))) × (l.total ≤ 8 * l.value-index)

@@ -4,5 +4,5 @@ use Rattle.uasm_core.specs.Views.{given as given_seen}
 use Rattle.uasm_core.proofs.Each.{each_onto_nothing}
 use Rattle.uasm_core.proofs.statement.all_data.Goals as goal
 
-pub loop-g-init : goal.loop-g-init
-loop-g-init c = rw c.new-found.ensures.items (each_onto_nothing (datum_in c.args.width) (map given_seen c.args.values.now))
+pub loop-value-init : goal.loop-value-init
+loop-value-init c = rw c.new-found.ensures.items (each_onto_nothing (datum_in c.args.width) (map given_seen c.args.values.now))

@@ -4,5 +4,5 @@ use Rattle.uasm_core.specs.Views.{given as given_seen, datum as datum_seen}
 use Rattle.uasm_core.proofs.Each.{each_onto}
 use Rattle.uasm_core.proofs.statement.all_data.Given as goal
 
-abbrev pub invariant-loop-g : goal.invariant-loop-g
-invariant-loop-g l = each_onto (datum_in l.width) (map datum_seen l.found.items) (map given_seen (drop l.g-index l.values)) ≡ each (datum_in l.width) (map given_seen l.values)
+abbrev pub invariant-loop-value : goal.invariant-loop-value
+invariant-loop-value l = each_onto (datum_in l.width) (map datum_seen l.found.items) (map given_seen (drop l.value-index l.values)) ≡ each (datum_in l.width) (map given_seen l.values)

@@ -4,5 +4,5 @@ use Rattle.uasm_core.specs.Views.{text_behind}
 use Rattle.uasm_core.specs.declared.scan.Quote.TheVariants.{Inside}
 use Rattle.uasm_core.proofs.text.text_behind.Given as goal
 
-abbrev pub invariant-loop-b : goal.invariant-loop-b
-invariant-loop-b l = text_behind l.found.items (text_from l.quote (drop l.b-index l.bytes)) ≡ text_from Inside l.bytes
+abbrev pub invariant-loop-byte : goal.invariant-loop-byte
+invariant-loop-byte l = text_behind l.found.items (text_from l.quote (drop l.byte-index l.bytes)) ≡ text_from Inside l.bytes
