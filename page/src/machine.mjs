@@ -9,7 +9,8 @@ export const EVENT = { RUN: 0, TICK: 1, KEY: 2, SEND: 3 };
 /** What a search may wait for, by its number. */
 export const UNTIL = { STEP_OF: 0, CALL: 1, AT: 2, FAULT: 3, STORE: 4, EXIT: 5 };
 
-const ANSWERS = ["", "no machine is booted", "the page has too little memory", "the run is too long", "there is nothing of this number to wait for"];
+const ANSWERS = ["", "no machine is booted", "the page has too little memory", "the run is too long", "nothing is of this number"];
+const UNKNOWN = 4;
 const REFUSALS = ["", "BadConfig", "BadPrograms", "NoInit", "Memory", "Init"];
 const EXEC = ["", "NotElf", "TooManyArgs", "ArgsTooLong", "NoFrames", "BadSegment"];
 const MISTAKES = ["", "Memory", "UnknownWord", "BadOperand", "OutOfRange", "DuplicateLabel", "UnknownLabel", "NotText", "Memory"];
@@ -24,6 +25,12 @@ export function boot_refusal({ kind, cause, place }) {
   if (cause) words.push(EXEC[cause]);
   if (kind === 2 || cause === 5) words.push(place);
   return words.join(" ");
+}
+
+/** A number as the module takes it, 32 bits without a sign. WebAssembly would take any other one by its lowest 32 bits. */
+function whole(number) {
+  if (!Number.isInteger(number) || number < 0 || number > 0xffffffff) throw new Error(ANSWERS[UNKNOWN]);
+  return number;
 }
 
 export class Machine {
@@ -105,7 +112,7 @@ export class Machine {
 
   /** Sends an event, and tells what came of it, with the bytes that it shows. */
   event(kind, byte = 0) {
-    this.done(this.calls.xv_page_event(this.session, kind, byte, this.told, this.room, ECHO));
+    this.done(this.calls.xv_page_event(this.session, whole(kind), whole(byte), this.told, this.room, ECHO));
     const told = this.outcome(this.at);
     told.bytes = told.shown ? this.bytes.slice(this.room_at, this.room_at + told.shown) : NO_BYTES;
     return told;
@@ -124,7 +131,7 @@ export class Machine {
 
   /** Sends Run up to the first that is what is waited for: {sent, met, last}. */
   until(most, kind, pid = 0, number = 0n) {
-    this.done(this.calls.xv_page_until(this.session, most, kind, pid, BigInt(number), this.told));
+    this.done(this.calls.xv_page_until(this.session, most, whole(kind), whole(pid), BigInt(number), this.told));
     return this.runs();
   }
 
@@ -134,22 +141,22 @@ export class Machine {
   }
 
   facts() {
-    this.calls.xv_page_facts(this.session, this.told);
-    const d = this.view(), at = this.at;
+    this.done(this.calls.xv_page_facts(this.session, this.told));
+    const d = this.data, at = this.at;
     return { at: Number(d.getBigUint64(at, true)), free: d.getUint32(at + 8, true), current: d.getUint32(at + 12, true), halted: d.getUint32(at + 16, true) === 1,
       status: d.getInt32(at + 20, true), clock: d.getUint32(at + 24, true), notes: Number(d.getBigUint64(at + 32, true)) };
   }
 
   /** The pid of the current process, or 0. */
   current() {
-    this.calls.xv_page_facts(this.session, this.told);
-    return this.view().getUint32(this.at + 12, true);
+    this.done(this.calls.xv_page_facts(this.session, this.told));
+    return this.data.getUint32(this.at + 12, true);
   }
 
   /** The pids of all processes, live or not, by their slots. */
   pids() {
     const found = [];
-    for (let slot = 0n; slot < 64n; slot++) {
+    for (let slot = 0; slot < 64; slot++) {
       const pid = this.word(this.calls.xv_page_slot(this.session, slot, this.told));
       if (pid !== null) found.push(Number(pid));
     }
@@ -157,24 +164,26 @@ export class Machine {
   }
 
   process(pid) {
-    this.calls.xv_page_process(this.session, pid, this.told);
-    const d = this.view(), at = this.at, kind = d.getUint32(at, true);
+    this.done(this.calls.xv_page_process(this.session, whole(pid), this.told));
+    const d = this.data, at = this.at, kind = d.getUint32(at, true);
     if (kind === 0) return null;
     return { pid, lives: kind === 1, parent: d.getUint32(at + 4, true), marked: d.getUint32(at + 8, true) === 1, asleep: d.getUint32(at + 12, true) === 1,
       call: d.getUint32(at + 16, true) ? { number: d.getInt32(at + 20, true), words: [24, 32, 40].map((it) => d.getBigUint64(at + it, true)), moved: d.getUint32(at + 48, true), since: d.getUint32(at + 52, true) } : null,
       status: d.getInt32(at + 56, true) };
   }
 
+  /** A number, or null where there is none. */
   word(answer) {
-    const d = this.view();
-    return answer && d.getUint32(this.at, true) ? d.getBigUint64(this.at + 8, true) : null;
+    this.done(answer);
+    const d = this.data;
+    return d.getUint32(this.at, true) ? d.getBigUint64(this.at + 8, true) : null;
   }
-  size(pid) { return this.word(this.calls.xv_page_size(this.session, pid, this.told)); }
-  register(pid, number) { return this.word(this.calls.xv_page_register(this.session, pid, number, this.told)); }
-  byte(pid, address) { return this.word(this.calls.xv_page_byte(this.session, pid, BigInt.asUintN(64, address), this.told)); }
-  address(pid) { return this.word(this.calls.xv_page_address(this.session, pid, this.told)); }
-  program(pid) { const place = this.word(this.calls.xv_page_program(this.session, pid, this.told)); return place === null ? null : Number(place); }
-  frame(pid, page) { const frame = this.word(this.calls.xv_page_frame(this.session, pid, page, this.told)); return frame === null ? null : Number(frame); }
+  size(pid) { return this.word(this.calls.xv_page_size(this.session, whole(pid), this.told)); }
+  register(pid, number) { return this.word(this.calls.xv_page_register(this.session, whole(pid), whole(number), this.told)); }
+  byte(pid, address) { return this.word(this.calls.xv_page_byte(this.session, whole(pid), BigInt.asUintN(64, address), this.told)); }
+  address(pid) { return this.word(this.calls.xv_page_address(this.session, whole(pid), this.told)); }
+  program(pid) { const place = this.word(this.calls.xv_page_program(this.session, whole(pid), this.told)); return place === null ? null : Number(place); }
+  frame(pid, page) { const frame = this.word(this.calls.xv_page_frame(this.session, whole(pid), whole(page), this.told)); return frame === null ? null : Number(frame); }
 
   /** [pc, x1, .., x31] of a live process, or null. */
   registers(pid) {
@@ -200,27 +209,27 @@ export class Machine {
 
   /** What a page allows, by the bits of its entry: 1 V, 2 R, 4 W, 8 X, 16 U; 0 where it isn't there. */
   rights(pid, page) {
-    this.calls.xv_page_rights(this.session, pid, page, this.told);
-    return this.view().getUint32(this.at, true);
+    this.done(this.calls.xv_page_rights(this.session, whole(pid), whole(page), this.told));
+    return this.data.getUint32(this.at, true);
   }
 
   /** What a frame is used for: {kind, pid, place}. */
   use(frame) {
-    this.calls.xv_page_use(this.session, frame, this.told);
-    const d = this.view(), at = this.at;
+    this.done(this.calls.xv_page_use(this.session, whole(frame), this.told));
+    const d = this.data, at = this.at;
     return { kind: d.getUint32(at, true), pid: d.getUint32(at + 4, true), place: d.getUint32(at + 8, true) };
   }
 
   descriptor(pid, fd) {
-    this.calls.xv_page_descriptor(this.session, pid, fd, this.told);
-    const d = this.view(), at = this.at, kind = d.getUint32(at, true);
+    this.done(this.calls.xv_page_descriptor(this.session, whole(pid), whole(fd), this.told));
+    const d = this.data, at = this.at, kind = d.getUint32(at, true);
     if (kind === 0) return null;
     return { pid, fd, kind, read: d.getUint32(at + 4, true) === 1, write: d.getUint32(at + 8, true) === 1, frame: d.getUint32(at + 12, true), program: Number(d.getBigUint64(at + 16, true)), offset: Number(d.getBigUint64(at + 24, true)) };
   }
 
   pipe(frame) {
-    this.calls.xv_page_pipe(this.session, frame, this.told);
-    const d = this.view(), at = this.at;
+    this.done(this.calls.xv_page_pipe(this.session, whole(frame), this.told));
+    const d = this.data, at = this.at;
     if (!d.getUint32(at, true)) return null;
     return { frame, readers: Number(d.getBigUint64(at + 8, true)), writers: Number(d.getBigUint64(at + 16, true)), bytes: Number(d.getBigUint64(at + 24, true)) };
   }
@@ -234,13 +243,17 @@ export class Machine {
       found.push(Number(byte));
     }
   }
-  pipe_bytes(frame) { return this.listed((place) => this.calls.xv_page_pipe_byte(this.session, frame, place, this.told)); }
-  console(list) { return this.listed((place) => this.calls.xv_page_console(this.session, list, place, this.told)); }
+  pipe_bytes(frame) { return this.listed((place) => this.calls.xv_page_pipe_byte(this.session, whole(frame), place, this.told)); }
+  console(list) { return this.listed((place) => this.calls.xv_page_console(this.session, whole(list), place, this.told)); }
   /** Whether a byte waits to be sent. */
   has_output() { return this.word(this.calls.xv_page_console(this.session, 2, 0n, this.told)) !== null; }
 
+  /** The note at a place of the trace, or null where there is none. */
   note(place) {
-    return this.calls.xv_page_note(this.session, BigInt(place), this.told) ? (this.view(), this.outcome(this.at)) : null;
+    const answer = this.calls.xv_page_note(this.session, BigInt(place), this.told);
+    if ((answer & 255) === UNKNOWN) return null;
+    this.done(answer);
+    return this.outcome(this.at);
   }
 
   /** The text of an instruction, or null where the word is none. */

@@ -114,7 +114,7 @@ function looked_at(current, list) {
 
 /** What the panels show of a process. */
 function process_panels(pid, { instruction, pages: table }) {
-  const registers = machine.registers(pid);
+  const registers = pid === 0 ? null : machine.registers(pid);
   if (registers === null) return {};
   const told = { registers, next: machine.address(pid) };
   if (instruction) {

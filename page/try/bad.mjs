@@ -23,8 +23,9 @@ is(thrown(() => none.event(EVENT.RUN)), MISSING, "an event");
 is(thrown(() => none.run(5)), MISSING, "Runs");
 is(thrown(() => none.until(5, UNTIL.FAULT)), MISSING, "a search");
 is(thrown(() => none.back(5)), MISSING, "the way back");
-for (const [what, told] of [["size", none.size(1)], ["register", none.register(1, 0)], ["byte", none.byte(1, 0n)], ["address", none.address(1)], ["program", none.program(1)], ["frame", none.frame(1, 0)], ["note", none.note(0)]]) is(told, null, `${what} of no machine`);
-is(none.pids().length, 0, "the pids of no machine");
+for (const [what, call] of [["the facts", () => none.facts()], ["the pids", () => none.pids()], ["a process", () => none.process(1)], ["the size", () => none.size(1)], ["a register", () => none.register(1, 0)], ["a byte", () => none.byte(1, 0n)],
+  ["the rights of a page", () => none.rights(1, 0)], ["the frame of a page", () => none.frame(1, 0)], ["a descriptor", () => none.descriptor(1, 0)], ["a pipe", () => none.pipe(0)], ["a pipe's bytes", () => none.pipe_bytes(0)], ["the console", () => none.console(0)],
+  ["the next address", () => none.address(1)], ["the program", () => none.program(1)], ["the use of a frame", () => none.use(0)], ["a note", () => none.note(0)]]) is(thrown(call), MISSING, `${what} of no machine`);
 
 // What boot refuses.
 const machine = new Machine(compiled), config = { frames: 512, trace: 16 };
@@ -42,13 +43,48 @@ machine.calls.xv_page_boot(machine.session, machine.programs, 512, 0, machine.to
 is(machine.view().getUint32(machine.at, true), 3, "boot without programs");
 is(JSON.stringify(machine.facts()), before, "the machine behind it");
 
-// Numbers that name nothing.
-is(thrown(() => machine.until(5, UNTIL.STEP_OF, 0)), "there is nothing of this number to wait for", "a search for process 0");
-is(thrown(() => machine.until(5, UNTIL.CALL, 0, 2n ** 31n)), "there is nothing of this number to wait for", "a search for call 2^31");
-is(JSON.stringify(machine.facts()), before, "the machine behind the searches");
-for (const [what, told] of [["process 0", machine.process(0)], ["process 2^31", machine.process(2 ** 31)], ["register 32", machine.register(1, 32)], ["a byte at 2^63", machine.byte(1, 2n ** 63n)], ["page 2^26", machine.frame(1, 2 ** 26)], ["descriptor 32", machine.descriptor(1, 32)], ["the pipe of frame 32,768", machine.pipe(32768)], ["note 2^40", machine.note(2 ** 40)]]) is(told, null, what);
-is(machine.rights(1, 2 ** 26), 0, "the rights of page 2^26");
-is(machine.use(32768).kind, 0, "the use of frame 32,768");
+// Numbers that name nothing: of each kind the first behind the last that there is, and those that a byte or 32 bits would cut to one that there is.
+const NOTHING = "nothing is of this number";
+const calls = {
+  "event": (kind) => machine.event(kind),
+  "key": (byte) => machine.event(EVENT.KEY, byte),
+  "a search of kind": (kind) => machine.until(5, kind, 1),
+  "a step of process": (pid) => machine.until(5, UNTIL.STEP_OF, pid),
+  "an address of process": (pid) => machine.until(5, UNTIL.AT, pid, 0n),
+  "a call of number": (number) => machine.until(5, UNTIL.CALL, 0, number),
+  "process": (pid) => machine.process(pid),
+  "the size of process": (pid) => machine.size(pid),
+  "the pc of process": (pid) => machine.register(pid, 0),
+  "register": (number) => machine.register(1, number),
+  "a byte of process": (pid) => machine.byte(pid, 0n),
+  "the rights of page 0 of process": (pid) => machine.rights(pid, 0),
+  "the rights of page": (page) => machine.rights(1, page),
+  "the frame of page 0 of process": (pid) => machine.frame(pid, 0),
+  "the frame of page": (page) => machine.frame(1, page),
+  "descriptor 0 of process": (pid) => machine.descriptor(pid, 0),
+  "descriptor": (fd) => machine.descriptor(1, fd),
+  "the pipe of frame": (frame) => machine.pipe(frame),
+  "the pipe's bytes of frame": (frame) => machine.pipe_bytes(frame),
+  "the use of frame": (frame) => machine.use(frame),
+  "the console's list": (list) => machine.console(list),
+  "the next address of process": (pid) => machine.address(pid),
+  "the program of process": (pid) => machine.program(pid),
+};
+const PIDS = [0, 2 ** 31, 2 ** 32 - 1, 2 ** 32 + 1], PAGES = [2 ** 26, 2 ** 32], FRAMES = [32768, 2 ** 32];
+const WRONG = {
+  "event": [4, 5, 255, 256, 2 ** 32, undefined], "key": [256, 512, 2 ** 32], "a search of kind": [6, 7, 256, 2 ** 32, undefined],
+  "a call of number": [2n ** 31n, 2n ** 32n + 1n, 2n ** 64n - 1n], "register": [32, 33, 256, 2 ** 32], "the rights of page": PAGES, "the frame of page": PAGES, "descriptor": [32, 256, 288, 2 ** 32],
+  "the pipe of frame": FRAMES, "the pipe's bytes of frame": FRAMES, "the use of frame": FRAMES, "the console's list": [3, 4, 256, 2 ** 32, undefined],
+};
+for (const [what, call] of Object.entries(calls)) for (const number of WRONG[what] || PIDS) is(thrown(() => call(number)), NOTHING, `${what} ${number}`);
+// The module itself says so too, without the look that machine.mjs has at a number.
+for (const slot of [64, 65, 256, -1]) is(machine.calls.xv_page_slot(machine.session, slot, machine.told) & 255, 4, `slot ${slot}`);
+for (const kind of [4, 256, -1]) is(machine.calls.xv_page_event(machine.session, kind, 0, machine.told, machine.room, 384n) & 255, 4, `event ${kind} of the module`);
+is(JSON.stringify(machine.facts()), before, "the machine behind them");
+
+// What is of a number that there may be, but isn't there.
+for (const [what, told] of [["process 9", machine.process(9)], ["a register of process 9", machine.register(9, 1)], ["a byte at 2^63", machine.byte(1, 2n ** 63n)], ["the frame of page 2^26 - 1", machine.frame(1, 2 ** 26 - 1)], ["descriptor 31", machine.descriptor(1, 31)], ["the pipe of frame 0", machine.pipe(0)], ["note 2^40", machine.note(2 ** 40)]]) is(told, null, what);
+is(machine.rights(1, 2 ** 26 - 1), 0, "the rights of page 2^26 - 1");
 is(machine.use(512).kind, 0, "the use of frame 512 of 512");
 
 // Texts.

@@ -13,7 +13,7 @@ use Rattle.xv_machine.specs.Boots.{Boots}
 use Rattle.xv_session.specs.Answers.{machine_of, IsNew}
 use Rattle.xv_session.specs.Recorded.{Recorded}
 use Rattle.xv_page.specs.declared.answers.Answer.{Answer}
-use Rattle.xv_page.specs.declared.answers.Answer.TheVariants.{Done, NotBooted, Memory, Full, NoCondition}
+use Rattle.xv_page.specs.declared.answers.Answer.TheVariants.{Done, NotBooted, Memory, Full, Unknown}
 use Rattle.xv_page.specs.declared.booting.BootTold.{BootTold}
 
 module _ {Z : Type 0} where
@@ -68,7 +68,7 @@ AddedTo file Done old new = new ≡ old ++ file ∷ []
 AddedTo file Memory old new = new ≡ old
 AddedTo file NotBooted old new = ⊥
 AddedTo file Full old new = ⊥
-AddedTo file NoCondition old new = ⊥
+AddedTo file Unknown old new = ⊥
 
 -- the session that was just booted takes the place of the old one; which stays if it was refused
 abbrev pub Replaces : (frames trace : ℕ) → List ProgramFile → Result Recorded BootError → (old new : Option Recorded) → Type 0

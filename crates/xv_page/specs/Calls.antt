@@ -7,7 +7,7 @@ use Rattle.xv_session.specs.Recorded.{Recorded, IsRecorded}
 use Rattle.xv_session.specs.declared.until.Condition.{Condition}
 use Rattle.xv_page.specs.Told.{told_of, runs_told, laid}
 use Rattle.xv_page.specs.declared.answers.Answer.{Answer}
-use Rattle.xv_page.specs.declared.answers.Answer.TheVariants.{Done, NotBooted, Memory, Full, NoCondition}
+use Rattle.xv_page.specs.declared.answers.Answer.TheVariants.{Done, NotBooted, Memory, Full, Unknown}
 use Rattle.xv_page.specs.declared.outcomes.Told.{Told}
 use Rattle.xv_page.specs.declared.outcomes.RunsTold.{RunsTold}
 
@@ -21,19 +21,21 @@ OnSession untold P answer (Some s) (Some t) = P answer s t
 abbrev pub Unchanged : {A : Type 0} → (before told : A) → (old new : Recorded) → Type 0
 Unchanged before told old new = (new ≡ old) × (told ≡ before)
 
--- the event was sent: what came of it is what the machine promises; it is told, and the bytes that it shows are laid into the room
-pub record EventDone (e : runs.Event) (before after : Told × List ℕ) (old new : Recorded) : Type 0 where
+-- the event that the host means was sent: what came of it is what the machine promises; it is told, and the bytes that it shows are laid into the room
+pub record EventDone (wanted : Option runs.Event) (before after : Told × List ℕ) (old new : Recorded) : Type 0 where
+  pub event : runs.Event
+  pub is_wanted : wanted ≡ Some event
   pub outcome : runs.Outcome
-  pub sent : Sent old e outcome new
+  pub sent : Sent old event outcome new
   pub is_told : after.0 ≡ told_of outcome
   pub is_shown : after.1 ≡ laid (bytes_out outcome) before.1
 
-abbrev pub EventSent : runs.Event → (before after : Told × List ℕ) → Answer → (old new : Recorded) → Type 0
-EventSent e before after Done old new = EventDone e before after old new
-EventSent e before after Memory old new = Unchanged before after old new
-EventSent e before after Full old new = Unchanged before after old new
-EventSent e before after NotBooted old new = ⊥
-EventSent e before after NoCondition old new = ⊥
+abbrev pub EventSent : (wanted : Option runs.Event) → (before after : Told × List ℕ) → Answer → (old new : Recorded) → Type 0
+EventSent wanted before after Done old new = EventDone wanted before after old new
+EventSent wanted before after Unknown old new = (wanted ≡ None) × Unchanged before after old new
+EventSent wanted before after Memory old new = Unchanged before after old new
+EventSent wanted before after Full old new = Unchanged before after old new
+EventSent wanted before after NotBooted old new = ⊥
 
 -- so many Runs were sent as are told, and this came of the last
 pub record RunDone (most : ℕ) (told : RunsTold) (old new : Recorded) : Type 0 where
@@ -46,7 +48,7 @@ RunSent most before told Done old new = RunDone most told old new
 RunSent most before told Memory old new = Unchanged before told old new
 RunSent most before told Full old new = Unchanged before told old new
 RunSent most before told NotBooted old new = ⊥
-RunSent most before told NoCondition old new = ⊥
+RunSent most before told Unknown old new = ⊥
 
 -- so many Runs were sent as are told, up to the first that is what is waited for
 pub record SearchDone (most : ℕ) (wanted : Option Condition) (told : RunsTold) (old new : Recorded) : Type 0 where
@@ -59,7 +61,7 @@ pub record SearchDone (most : ℕ) (wanted : Option Condition) (told : RunsTold)
 
 abbrev pub Searched : (most : ℕ) → (wanted : Option Condition) → (before told : RunsTold) → Answer → (old new : Recorded) → Type 0
 Searched most wanted before told Done old new = SearchDone most wanted told old new
-Searched most wanted before told NoCondition old new = (wanted ≡ None) × Unchanged before told old new
+Searched most wanted before told Unknown old new = (wanted ≡ None) × Unchanged before told old new
 Searched most wanted before told Memory old new = Unchanged before told old new
 Searched most wanted before told Full old new = Unchanged before told old new
 Searched most wanted before told NotBooted old new = ⊥
@@ -70,4 +72,4 @@ IsBack place Done old new = WentBack place old new × IsRecorded new
 IsBack place Memory old new = new ≡ old
 IsBack place Full old new = new ≡ old
 IsBack place NotBooted old new = ⊥
-IsBack place NoCondition old new = ⊥
+IsBack place Unknown old new = ⊥

@@ -1,6 +1,6 @@
--- What the host's numbers name.
-use Rattle.std.specs.Prelude.{ℕ, ◌+◌, pos, Option, None, Some, nat_eq, nat_lt, nat_le, if◌then◌else◌}
-use Rattle.xk_base.specs.declared.limits.TheConstants.{PID_MAX, VPN_END, NOFILE, FRAMES_MAX}
+-- What the host's numbers name. A number that names nothing is none
+use Rattle.std.specs.Prelude.{ℕ, ◌+◌, pos, Option, None, Some, option_map, nat_eq, nat_lt, nat_le, if◌then◌else◌}
+use Rattle.xk_base.specs.declared.limits.TheConstants.{PID_MAX, VPN_END, NOFILE, NPROC, FRAMES_MAX}
 use Rattle.console_core.specs.declared.rings.ConsoleList.{ConsoleList}
 use Rattle.console_core.specs.declared.rings.ConsoleList.TheVariants.{Committed, Uncommitted, ToSend}
 use Rattle.kernel_spec.specs.runs.Run as runs
@@ -24,23 +24,31 @@ descriptor_named number = below NOFILE number
 abbrev pub frame_named : ℕ → Option ℕ
 frame_named number = below FRAMES_MAX number
 
--- what is found under a name, if the number is one
-abbrev pub of_one : {A : Type 0} → (ℕ → Option A) → Option ℕ → Option A
-of_one find None = None
-of_one find (Some name) = find name
+-- 0 is the pc, and 1 to 31 are x1 to x31
+abbrev pub register_named : ℕ → Option ℕ
+register_named number = below 32 number
 
--- the same under two names
-abbrev pub of_two : {A : Type 0} → (ℕ → ℕ → Option A) → Option ℕ → Option ℕ → Option A
-of_two find None second = None
-of_two find (Some first) second = of_one (find first) second
+-- a slot of the process table
+abbrev pub slot_named : ℕ → Option ℕ
+slot_named number = below NPROC number
 
--- 0 what was typed and may be read, 1 what may still be taken back, else what waits to be sent
-abbrev pub list_named : ℕ → ConsoleList
-list_named number = if nat_eq number 0 then Committed else (if nat_eq number 1 then Uncommitted else ToSend)
+-- two names, if both numbers are some
+abbrev pub both : {A B : Type 0} → Option A → Option B → Option (A × B)
+both (Some a) (Some b) = Some (a, b)
+both _ _ = None
 
--- 0 Run, 1 Tick, 2 the key of this byte, else Send
-abbrev pub event_named : (kind byte : ℕ) → runs.Event
-event_named kind byte = if nat_eq kind 0 then runs.Run else (if nat_eq kind 1 then runs.Tick else (if nat_eq kind 2 then runs.Key byte else runs.Send))
+-- 0 what was typed and may be read, 1 what may still be taken back, 2 what waits to be sent
+abbrev pub list_named : ℕ → Option ConsoleList
+list_named number = if nat_eq number 0 then Some Committed else (if nat_eq number 1 then Some Uncommitted else (if nat_eq number 2 then Some ToSend else None))
+
+-- the key of a byte
+abbrev pub key_named : ℕ → Option runs.Event
+key_named number = option_map runs.Key (below 256 number)
+
+-- 0 Run, 1 Tick, 2 the key of this byte, 3 Send
+abbrev pub event_named : (kind byte : ℕ) → Option runs.Event
+event_named kind byte =
+    if nat_eq kind 0 then Some runs.Run else (if nat_eq kind 1 then Some runs.Tick else (if nat_eq kind 2 then key_named byte else (if nat_eq kind 3 then Some runs.Send else None)))
 
 -- ---- what may be waited for
 
@@ -58,7 +66,8 @@ abbrev pub place_wanted : (pc : ℕ) → Option ℕ → Option Condition
 place_wanted pc None = None
 place_wanted pc (Some pid) = Some (conditions.At pid pc)
 
--- 0 a step of the process, 1 the call of this number, 2 the process at this address, 3 a fault, 4 a store to this address, else an exit
+-- 0 a step of the process, 1 the call of this number, 2 the process at this address, 3 a fault, 4 a store to this address, 5 an exit
 abbrev pub condition_named : (kind pid number : ℕ) → Option Condition
 condition_named kind pid number =
-    if nat_eq kind 0 then step_wanted (pid_named pid) else (if nat_eq kind 1 then call_named number else (if nat_eq kind 2 then place_wanted number (pid_named pid) else (if nat_eq kind 3 then Some conditions.Fault else (if nat_eq kind 4 then Some (conditions.StoreTo number) else Some conditions.Exit))))
+    if nat_eq kind 0 then step_wanted (pid_named pid) else (if nat_eq kind 1 then call_named number else (if nat_eq kind 2 then place_wanted number (pid_named pid)
+    else (if nat_eq kind 3 then Some conditions.Fault else (if nat_eq kind 4 then Some (conditions.StoreTo number) else (if nat_eq kind 5 then Some conditions.Exit else None)))))

@@ -1,19 +1,29 @@
--- What is told of a machine by a search in it: slots, frames, notes.
-use Rattle.std.specs.Prelude.{◌≡◌, ℕ, ◌≤◌, Bool, true, false, Option, None, Some, option_map, slice_get}
+-- What is told of a session that isn't changed.
+use Rattle.std.specs.Prelude.{◌≡◌, ℕ, ◌≤◌, Option, None, Some, slice_get}
 use Rattle.kernel_spec.specs.waking.Turns.{Turns, HasSlot, IsFreeSlot}
 use Rattle.kcall_core.specs.declared.kernel.observers.frame_uses.FrameUse.{FrameUse}
 use Rattle.xv_machine.specs.FrameUses.{IsUsed}
 use Rattle.xv_machine.specs.Meaning.{Meaning}
+use Rattle.xv_machine.specs.declared.trace.Note.{Note}
 use Rattle.xv_session.specs.Recorded.{Recorded}
-use Rattle.xv_page.specs.Told.{word_told, use_told, told_of_note}
+use Rattle.xv_page.specs.Told.{facts_of, word_told, use_told, told_of_note}
+use Rattle.xv_page.specs.declared.answers.Answer.{Answer}
+use Rattle.xv_page.specs.declared.answers.Answer.TheVariants.{Done, NotBooted, Unknown}
 use Rattle.xv_page.specs.declared.outcomes.Told.{Told}
+use Rattle.xv_page.specs.declared.views.Facts.{Facts}
 use Rattle.xv_page.specs.declared.views.Word.{Word}
 use Rattle.xv_page.specs.declared.views.UseTold.{UseTold}
 
--- said of a session, if there is one; else this holds
-abbrev pub OfSession : (Recorded → Type 0) → (none : Type 0) → Option Recorded → Type 0
-OfSession P none None = none
-OfSession P none (Some s) = P s
+-- What a call tells of a session that changes none: this, of what its numbers name. If they name nothing, or there is no session, the call says so, and what is told stays as it was
+abbrev pub Reads : {X A : Type 0} → (named : Option X) → (Recorded → X → A → Type 0) → Option Recorded → Answer → (before told : A) → Type 0
+Reads named P None answer before told = (answer ≡ NotBooted) × (told ≡ before)
+Reads None P (Some s) answer before told = (answer ≡ Unknown) × (told ≡ before)
+Reads (Some x) P (Some s) answer before told = (answer ≡ Done) × P s x told
+
+-- how the machine stands is told
+abbrev pub FactsTold : Option Recorded → Answer → (before told : Facts) → Type 0
+FactsTold None answer before told = (answer ≡ NotBooted) × (told ≡ before)
+FactsTold (Some s) answer before told = (answer ≡ Done) × (told ≡ facts_of s)
 
 -- this process is in the slot, or none is
 abbrev pub IsInSlot : Turns → (slot : ℕ) → Option ℕ → Type 0
@@ -33,21 +43,12 @@ IsUseOf m frame (Some used) = IsUsed m frame used
 abbrev pub IsUseTold : Meaning → (frame : ℕ) → UseTold → Type 0
 IsUseTold m frame told = (used : Option FrameUse) × IsUseOf m frame used × (told ≡ use_told used)
 
--- the same under a name, if the number is one
-abbrev pub IsUseNamed : Meaning → Option ℕ → UseTold → Type 0
-IsUseNamed m None told = told ≡ use_told None
-IsUseNamed m (Some frame) told = IsUseTold m frame told
-
--- there is no note at this place, or no session
-abbrev pub HasNoNote : (place : ℕ) → Option Recorded → Type 0
-HasNoNote place None = Unit {0}
-HasNoNote place (Some s) = slice_get s.machine.notes place ≡ None
-
-abbrev pub HasNote : (place : ℕ) → Told → Option Recorded → Type 0
-HasNote place told None = ⊥
-HasNote place told (Some s) = option_map told_of_note (slice_get s.machine.notes place) ≡ Some told
+-- a note is told, if there is one
+abbrev pub IsNoteTold : Option Note → (before told : Told) → Answer → Type 0
+IsNoteTold None before told answer = (answer ≡ Unknown) × (told ≡ before)
+IsNoteTold (Some note) before told answer = (answer ≡ Done) × (told ≡ told_of_note note)
 
 -- the note at a place of the trace is told, or there is none, and nothing is told
-abbrev pub NoteTold : (place : ℕ) → (before told : Told) → Bool → Option Recorded → Type 0
-NoteTold place before told true s = HasNote place told s
-NoteTold place before told false s = HasNoNote place s × (told ≡ before)
+abbrev pub NoteTold : (place : ℕ) → (before told : Told) → Answer → Option Recorded → Type 0
+NoteTold place before told answer None = (answer ≡ NotBooted) × (told ≡ before)
+NoteTold place before told answer (Some s) = IsNoteTold (slice_get s.machine.notes place) before told answer

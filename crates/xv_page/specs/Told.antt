@@ -33,11 +33,6 @@ use Rattle.xv_page.specs.declared.views.DescriptorTold.{DescriptorTold}
 use Rattle.xv_page.specs.declared.views.PipeTold.{PipeTold}
 use Rattle.xv_page.specs.declared.views.UseTold.{UseTold}
 
--- what a session tells; if there is none, what was told before
-abbrev pub told_in : {A : Type 0} → (Recorded → A) → Option Recorded → A → A
-told_in tell None before = before
-told_in tell (Some s) before = tell s
-
 -- ---- outcomes
 
 abbrev pub flag : Bool → ℕ

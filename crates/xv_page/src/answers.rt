@@ -15,8 +15,8 @@ pub enum Answer {
     Memory,
     /// The session keeps all the events that it can: nothing is changed.
     Full,
-    /// The numbers name nothing that can be waited for: nothing is changed.
-    NoCondition,
+    /// A number that the host passed names nothing: nothing is changed, and nothing told.
+    Unknown,
 }
 
 /// The answer for a session's error.

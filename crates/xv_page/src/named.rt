@@ -1,9 +1,9 @@
-//! Numbers of the host as names of the machine's parts.
-ghost use Rattle.std.specs.Prelude.{◌≡◌};
+//! Numbers of the host as names of the machine's parts. A number that names nothing is none, and never a default.
+ghost use Rattle.std.specs.Prelude.{◌≡◌, ◌<◌, IfSome, option_map};
 ghost use Rattle.xv_machine.specs.Events.{event_of};
-ghost use Rattle.xv_page.specs.Named.{pid_named, page_named, descriptor_named, frame_named, list_named, event_named, call_named, condition_named};
+ghost use Rattle.xv_page.specs.Named.{pid_named, page_named, descriptor_named, frame_named, register_named, slot_named, list_named, key_named, event_named, call_named, condition_named};
 
-use xk_base::limits::{FRAMES_MAX, NOFILE, PID_MAX, VPN_END};
+use xk_base::limits::{FRAMES_MAX, NOFILE, NPROC, PID_MAX, VPN_END};
 use xk_base::{Fd, Frame, Pid, Vpn};
 use xv_machine::{ConsoleList, Event};
 use xv_session::Condition;
@@ -30,11 +30,11 @@ pub(crate) fn page_named(number: u32) -> Option<Vpn>
 }
 
 /// The descriptor of this number, if there can be one.
-pub(crate) fn descriptor_named(number: u8) -> Option<Fd>
+pub(crate) fn descriptor_named(number: u32) -> Option<Fd>
     ensures { result ≡ descriptor_named number }
 {
-    if usize::from(number) < NOFILE {
-        Some(Fd::new(number))
+    if number < NOFILE as u32 {
+        Some(Fd::new(number as u8))
     } else {
         None
     }
@@ -51,27 +51,63 @@ pub(crate) fn frame_named(number: u32) -> Option<Frame>
     }
 }
 
-/// The list of the console that the host means: 0 what was typed and may be read, 1 what may still be taken back,
-/// and any other number what waits to be sent.
-pub(crate) fn list_named(number: u32) -> ConsoleList
-    ensures { result ≡ list_named number }
+/// The register of this number, 0 for the pc, if there is one.
+pub(crate) fn register_named(number: u32) -> Option<u8>
+    ensures named { result ≡ register_named number }
+    ensures range { IfSome result (λ register. register < 32) }
 {
-    match number {
-        0 => ConsoleList::Committed,
-        1 => ConsoleList::Uncommitted,
-        _ => ConsoleList::ToSend,
+    if number < 32 {
+        Some(number as u8)
+    } else {
+        None
     }
 }
 
-/// The event that the host means: 0 Run, 1 Tick, 2 the key of this byte, and any other number Send.
-pub(crate) fn event_named(kind: u32, byte: u8) -> Event
-    ensures { event_of result ≡ event_named kind byte }
+/// The slot of the process table of this number, if there is one.
+pub(crate) fn slot_named(number: u32) -> Option<usize>
+    ensures { result ≡ slot_named number }
+{
+    if (number as usize) < NPROC {
+        Some(number as usize)
+    } else {
+        None
+    }
+}
+
+/// The list of the console that the host means: 0 what was typed and may be read, 1 what may still be taken back, 2
+/// what waits to be sent.
+pub(crate) fn list_named(number: u32) -> Option<ConsoleList>
+    ensures { result ≡ list_named number }
+{
+    match number {
+        0 => Some(ConsoleList::Committed),
+        1 => Some(ConsoleList::Uncommitted),
+        2 => Some(ConsoleList::ToSend),
+        _ => None,
+    }
+}
+
+/// The key of this byte, if the number is a byte.
+fn key_named(number: u32) -> Option<Event>
+    ensures { option_map event_of result ≡ key_named number }
+{
+    if number < 256 {
+        Some(Event::Key(number as u8))
+    } else {
+        None
+    }
+}
+
+/// The event that the host means: 0 Run, 1 Tick, 2 the key of this byte, 3 Send.
+pub(crate) fn event_named(kind: u32, byte: u32) -> Option<Event>
+    ensures { option_map event_of result ≡ event_named kind byte }
 {
     match kind {
-        0 => Event::Run,
-        1 => Event::Tick,
-        2 => Event::Key(byte),
-        _ => Event::Send,
+        0 => Some(Event::Run),
+        1 => Some(Event::Tick),
+        2 => key_named(byte),
+        3 => Some(Event::Send),
+        _ => None,
     }
 }
 
@@ -89,8 +125,7 @@ fn call_named(number: u64) -> Option<Condition>
 }
 
 /// What the host waits for: 0 a step of the process, 1 the call of this number, 2 the process at this address, 3 a
-/// fault, 4 a store to this address, and any other number an exit. 0 and 2 need a pid, and 1 a number that a call
-/// can have.
+/// fault, 4 a store to this address, 5 an exit. 0 and 2 need a pid, and 1 a number that a call can have.
 pub(crate) fn condition_named(kind: u32, pid: u32, number: u64) -> Option<Condition>
     ensures { result ≡ condition_named kind pid number }
 {
@@ -103,6 +138,7 @@ pub(crate) fn condition_named(kind: u32, pid: u32, number: u64) -> Option<Condit
         }),
         3 => Some(Condition::Fault),
         4 => Some(Condition::StoreTo(number)),
-        _ => Some(Condition::Exit),
+        5 => Some(Condition::Exit),
+        _ => None,
     }
 }

@@ -30,7 +30,7 @@ fn change(alloc: Global, session: &mut Option<Box<Session>>, number: u32, bytes:
     };
     xv_page_add(alloc, &mut programs, b"init", b"");
     xv_page_boot(alloc, session, &mut programs, number, number, &mut boot);
-    xv_page_event(session, number, 7, &mut told, bytes);
+    xv_page_event(session, number, number, &mut told, bytes);
     xv_page_run(session, number, &mut runs);
     xv_page_until(session, number, number, number, 7, &mut runs);
     xv_page_back(alloc, session, 7);
@@ -42,14 +42,14 @@ fn look_at_process(session: &Option<Box<Session>>, number: u32) {
     let mut word = word_told(None);
     let mut descriptor = descriptor_told(None);
     let mut rights = 0;
-    xv_page_slot(session, 7, &mut word);
+    xv_page_slot(session, number, &mut word);
     xv_page_process(session, number, &mut process);
     xv_page_size(session, number, &mut word);
-    xv_page_register(session, number, 7, &mut word);
+    xv_page_register(session, number, number, &mut word);
     xv_page_byte(session, number, 7, &mut word);
     xv_page_rights(session, number, number, &mut rights);
     xv_page_frame(session, number, number, &mut word);
-    xv_page_descriptor(session, number, 7, &mut descriptor);
+    xv_page_descriptor(session, number, number, &mut descriptor);
     xv_page_address(session, number, &mut word);
     xv_page_program(session, number, &mut word);
 }

@@ -1,5 +1,5 @@
 //! What the host does to a session.
-ghost use Rattle.std.specs.Prelude.{◌≡◌};
+ghost use Rattle.std.specs.Prelude.{◌≡◌, option_map};
 ghost use Rattle.xv_machine.specs.Events.{event_of};
 ghost use Rattle.xv_page.specs.Booting.{held};
 ghost use Rattle.xv_page.specs.Calls.{OnSession, EventSent, RunSent, Searched, IsBack};
@@ -12,10 +12,13 @@ use std::alloc::Global;
 use xv_machine::Event;
 use xv_session::{Condition, Session};
 
-/// Sends an event.
-fn send(session: &mut Session, event: Event, told: &mut Told, room: &mut [u8]) -> Answer
-    ensures { EventSent (event_of event) (told.old, room.old) (told.new, room.new) result session.old session.new }
+/// Sends an event, if the host means one.
+fn send(session: &mut Session, wanted: Option<Event>, told: &mut Told, room: &mut [u8]) -> Answer
+    ensures { EventSent (option_map event_of wanted) (told.old, room.old) (told.new, room.new) result session.old session.new }
 {
+    let Some(event) = wanted else {
+        return Answer::Unknown;
+    };
     match session.send(event) {
         Ok(outcome) => {
             *told = told_of(&outcome);
@@ -26,13 +29,14 @@ fn send(session: &mut Session, event: Event, told: &mut Told, room: &mut [u8]) -
     }
 }
 
-/// Sends an event: 0 Run, 1 Tick, 2 the key of this byte, any other number Send. It tells what came of it, and lays
-/// the bytes that it shows into the room, if they fit: 384 are enough for each event.
+/// Sends an event: 0 Run, 1 Tick, 2 the key of this byte, 3 Send. It tells what came of it, and lays the bytes that it
+/// shows into the room, if they fit: 384 are enough for each event. `Unknown`: no event has this number, or the byte
+/// of a key is none.
 #[inline(never)]
 pub fn xv_page_event(
     session: &mut Option<Box<Session>>,
     kind: u32,
-    byte: u8,
+    byte: u32,
     told: &mut Told,
     room: &mut [u8],
 ) -> Answer
@@ -80,7 +84,7 @@ fn search(
     ensures { Searched most wanted told.old told.new result session.old session.new }
 {
     let Some(condition) = wanted else {
-        return Answer::NoCondition;
+        return Answer::Unknown;
     };
     match session.until(most, condition) {
         Ok(search) => {
@@ -93,7 +97,8 @@ fn search(
 
 /// Sends Run, one by one, up to the first that is what the host waits for, `most` times at most. The kinds are 0 a
 /// step of the process, 1 the call of this number, 2 the process at this address, 3 a fault, 4 a store to this
-/// address, and any other number an exit.
+/// address, 5 an exit. `Unknown`: nothing of this kind can be waited for, or the kind needs a process or a call, and
+/// the number is none.
 #[inline(never)]
 pub fn xv_page_until(
     session: &mut Option<Box<Session>>,
