@@ -101,15 +101,15 @@ export function fresh(canvas) {
 
 /**
  * Draws at once, unless the last drawing took long: then only after twice its time, so that the page stays smooth however long the
- * run is. The last call is always followed by a drawing.
+ * run is. `apart` tells how many milliseconds lie between two drawings at least. The last call is always followed by a drawing.
  */
-export function in_time(draw) {
+export function in_time(draw, apart = () => 0) {
   let next = 0, waits = 0;
   const now = () => {
     const began = performance.now();
     waits = 0;
     draw();
-    next = performance.now() + 2 * (performance.now() - began);
+    next = performance.now() + Math.max(apart(), 2 * (performance.now() - began));
   };
   return () => {
     if (waits) return;

@@ -13,7 +13,17 @@ function symbols_of(pid) {
 /** The row of an instruction, and above it the name of what begins there. */
 function new_code_row() {
   const name = element("span", { class: "fn" }), address = element("span", { class: "dim" }), text = document.createTextNode(""), note = element("span", { class: "from" });
-  return { name, address, text, note, row: element("div", { role: "listitem" }, address, text, note) };
+  return { name, address, text, note, row: element("div", { role: "listitem" }, address, text, note), word: null, is_next: null };
+}
+
+/** Notes the word of a row, and whether it is the next one, if these are others than before. */
+function mark_row(of, word, is_next) {
+  if (of.word !== word) of.row.title = `the word ${hex(BigInt(word >>> 0))}`;
+  if (of.is_next !== is_next) {
+    of.row.className = is_next ? "pc" : "";
+    if (is_next) of.row.setAttribute("aria-current", "true"); else of.row.removeAttribute("aria-current");
+  }
+  Object.assign(of, { word, is_next });
 }
 
 let code_rows = [], scrolled = "";
@@ -25,17 +35,15 @@ function draw_code() {
   }
   const heads = list.map((it) => name_at(symbols, it.address)).map((name) => (name && !name.includes("+") ? name + ":" : ""));
   list.forEach((it, k) => {
-    const { name, address, text, note, row } = code_rows[k], line = line_at(symbols, it.address), is_next = it.address === pc;
+    const { name, address, text, note } = code_rows[k], line = line_at(symbols, it.address), is_next = it.address === pc;
     let words = line ? `${line.line}  ${line.text.replace(/^\w+:\s*/, "")}` : "";
     if (it.word === 0x73 && is_next) words = `call ${CALLS[Number(view.registers[17])] || view.registers[17]}`;
-    name.hidden = !heads[k];
+    if (name.hidden !== !heads[k]) name.hidden = !heads[k];
     write(name, heads[k]);
     write(address, hex(it.address));
     write(text, it.text || "no instruction");
     write(note, words);
-    row.className = is_next ? "pc" : "";
-    if (is_next) row.setAttribute("aria-current", "true"); else row.removeAttribute("aria-current");
-    row.title = `the word ${hex(BigInt(it.word >>> 0))}`;
+    mark_row(code_rows[k], it.word, is_next);
   });
   // While the machine plays, the pc's row stands where it stood, if there are as many rows before it.
   const at = list.findIndex((it) => it.address === pc), above = `${at} ${heads.slice(0, at + 1).filter((it) => it).length} ${list.length}`;
@@ -53,11 +61,13 @@ function draw_registers() {
   else if (before.key !== key) changed = new Set([...registers].flatMap((it, k) => (it !== before.registers[k] ? [k] : [])));
   before = { key, pid: view.pid, registers };
   if (!cells.length) {
-    cells = REGISTERS.map((name) => ({ name, value: element("span"), told: null }));
+    cells = REGISTERS.map((name) => ({ name, value: element("span"), told: null, is_new: false }));
     $("registers").replaceChildren(...cells.map((it) => (it.row = element("div", { role: "listitem" }, element("b", {}, it.name), it.value))));
   }
   cells.forEach((it, k) => {
-    it.value.className = changed.has(k) ? "new" : "";
+    const is_new = changed.has(k);
+    if (it.is_new !== is_new) it.value.className = is_new ? "new" : "";
+    it.is_new = is_new;
     if (it.told === registers[k]) return;
     it.told = registers[k];
     it.row.title = `${k ? "x" + k : "pc"} = ${hex(it.told)} = ${BigInt.asIntN(64, it.told)}`;

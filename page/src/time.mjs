@@ -119,7 +119,8 @@ export function event_words(place) {
   }
 }
 
-const show_slider = in_time(draw_slider);
+// While the machine plays, a mark moves by less than a pixel from frame to frame: 20 drawings a second are enough.
+const show_slider = in_time(draw_slider, () => (app.view?.playing && !dragging ? 50 : 0));
 
 function go(place) {
   const to = Math.round(Math.max(0, Math.min(place, app.line.end)));

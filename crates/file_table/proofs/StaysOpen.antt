@@ -1,13 +1,12 @@
 -- Which files are open after a change of the table.
-use Rattle.std.proofs.Common.{◌≡◌, ℕ, List, length, get_or, set, Option, Some, None, inl, inr, false, refl, ap, sym, ◌∙◌}
+use Rattle.std.proofs.Common.{◌≡◌, ℕ, List, length, get_or, set, Option, Some, None, inl, inr, refl, ap, sym, ◌∙◌}
 use Rattle.std.specs.Prelude.{is_none, is_some, IsSome, option_map}
-use Rattle.std.specs.Option.{option_and_then}
 use Rattle.std.proofs.lemmas.List.{get_or-set_same, get_or-set_other, set_past}
 use Rattle.std.proofs.lemmas.List.Quantifiers.{position-Some}
 use Rattle.std.proofs.lemmas.Bool.{cases_lt, cases_eq}
 use Rattle.file_table.specs.declared.open_file.Entry.{Entry}
 use Rattle.file_table.specs.declared.open_file.OpenFile.{OpenFile}
-use Rattle.file_table.specs.OpenFiles.{IsOpen, entry_at, lowest_place, with_opened, with_sharer, with_offset, without_sharer, once_more, entry_moved, once_less, is_last}
+use Rattle.file_table.specs.OpenFiles.{IsOpen, lowest_place, with_opened, with_sharer, once_more}
 
 -- what is equal to something that is there is there
 along : (a b : Option Entry) → a ≡ b → IsSome a → IsSome b
@@ -35,16 +34,3 @@ opened_is_open old new file f low is = ap is_some (ap (λ xs. get_or xs file Non
 -- after one more descriptor names a file
 pub shared_stays_open : (old new : List (Option Entry)) (shared file : ℕ) → IsOpen old file → new ≡ with_sharer shared old → IsOpen new file
 shared_stays_open old new shared file is e = along _ _ (ap (λ xs. get_or xs file None) (sym e)) (set_keeps_open old shared file _ (mapped once_more _) is)
-
--- after an offset is moved
-pub moved_stays_open : (old new : List (Option Entry)) (moved offset file : ℕ) → IsOpen old file → new ≡ with_offset moved offset old → IsOpen new file
-moved_stays_open old new moved offset file is e = along _ _ (ap (λ xs. get_or xs file None) (sym e)) (set_keeps_open old moved file _ (mapped (entry_moved offset) _) is)
-
--- a file that others still name
-not_last : (o : Option Entry) → option_map is_last o ≡ Some false → IsSome (option_and_then once_less o)
-not_last None e = absurd (cc)
-not_last (Some x) e = let more : is_last x ≡ false = cc in rw more refl
-
--- after a close that was not the last
-pub shared_survives_close : (old new : List (Option Entry)) (closed file : ℕ) → IsOpen old file → option_map is_last (entry_at old closed) ≡ Some false → new ≡ without_sharer closed old → IsOpen new file
-shared_survives_close old new closed file is more e = along _ _ (ap (λ xs. get_or xs file None) (sym e)) (set_keeps_open old closed file _ (λ _. not_last _ more) is)
