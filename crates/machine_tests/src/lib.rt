@@ -1,16 +1,16 @@
 //! Tests of the machine: stories of processes, each a text that one small interpreter plays, and tests of what a story
-//! can't tell, as the drives, the notes and the kernel's own calls.
+//! can't tell: pairs of machines, and a drive whose writer fails.
 //!
-//! Nothing but tests is proved here, and nothing stands on this crate, as with `layer_tests` and `kernel_parts_tests`:
-//! a crate that has tests is proved twice by the gate.
+//! Nothing but tests is proved here, and nothing stands on this crate, as with `layer_tests`: a crate that has tests is
+//! proved twice by the gate.
 #![tactic(auto)]
 
 #[cfg(test)]
 mod draft;
 #[cfg(test)]
-mod isolation;
+mod drives;
 #[cfg(test)]
-mod machines;
+mod isolation;
 #[cfg(test)]
 mod scene;
 #[cfg(test)]

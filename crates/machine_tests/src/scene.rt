@@ -124,8 +124,11 @@ impl Scene {
 
     // What comes of a key.
     fn key(&mut self, alloc: Global, rest: &str) -> Option<String> {
-        let (key, _) = first_word(rest);
+        let (key, wanted) = first_word(rest);
         let outcome = self.machine.event(Event::Key(byte(key)?));
+        if wanted.starts_with("-> ") {
+            return format!(in alloc; "key {key} -> {outcome}").ok();
+        }
         typed(alloc, key, &outcome)
     }
 

@@ -18,78 +18,27 @@ mod waits;
 
 use super::telling::tell_all;
 
+// The first story that isn't as it was told is named by its message, and so is the line.
 #[test]
-fn stories_of_boots(rt: HostRuntime) {
-    tell_all(&rt, boots::STORIES);
-}
-
-#[test]
-fn stories_of_calls(rt: HostRuntime) {
-    tell_all(&rt, calls::STORIES);
-}
-
-#[test]
-fn stories_of_the_console(rt: HostRuntime) {
-    tell_all(&rt, console::STORIES);
-}
-
-#[test]
-fn stories_of_exec(rt: HostRuntime) {
-    tell_all(&rt, exec::STORIES);
-}
-
-#[test]
-fn stories_of_faults(rt: HostRuntime) {
-    tell_all(&rt, faults::STORIES);
-}
-
-#[test]
-fn stories_of_files(rt: HostRuntime) {
-    tell_all(&rt, files::STORIES);
-}
-
-#[test]
-fn stories_of_kills(rt: HostRuntime) {
-    tell_all(&rt, kills::STORIES);
-}
-
-#[test]
-fn stories_of_lazy_memory(rt: HostRuntime) {
-    tell_all(&rt, lazy::STORIES);
-}
-
-#[test]
-fn stories_of_memory(rt: HostRuntime) {
-    tell_all(&rt, memory::STORIES);
-}
-
-#[test]
-fn stories_of_pipes(rt: HostRuntime) {
-    tell_all(&rt, pipes::STORIES);
-}
-
-#[test]
-fn stories_of_processes(rt: HostRuntime) {
-    tell_all(&rt, processes::STORIES);
-}
-
-#[test]
-fn stories_of_refusals(rt: HostRuntime) {
-    tell_all(&rt, refusals::STORIES);
-    tell_all(&rt, refusals::A_NAME_WITH_A_ZERO_BYTE);
-}
-
-#[test]
-fn stories_of_stretches(rt: HostRuntime) {
-    tell_all(&rt, stretches::STORIES);
-}
-
-#[test]
-fn stories_of_traces(rt: HostRuntime) {
-    tell_all(&rt, traces::STORIES);
-}
-
-#[test]
-fn stories_of_waits(rt: HostRuntime) {
-    tell_all(&rt, waits::STORIES);
+fn stories_are_as_they_are_told(rt: HostRuntime) {
+    for stories in [
+        boots::STORIES,
+        calls::STORIES,
+        console::STORIES,
+        exec::STORIES,
+        faults::STORIES,
+        files::STORIES,
+        kills::STORIES,
+        lazy::STORIES,
+        memory::STORIES,
+        pipes::STORIES,
+        processes::STORIES,
+        refusals::STORIES,
+        refusals::A_NAME_WITH_A_ZERO_BYTE,
+        stretches::STORIES,
+        traces::STORIES,
+        waits::STORIES,
+    ] {
+        tell_all(&rt, stories);
+    }
 }

@@ -3,77 +3,77 @@
 /// The address of the first word.
 pub(super) const FIRST: u64 = 0x8000_1000;
 
-/// Words one behind another, and their texts as GNU objdump shows them (`-M no-aliases`), but that operands have a
-/// space behind the comma, targets a 0x, shifts are decimal, and the fence of the language has no operands.
-pub(super) const LINES: [(u32, &str); 70] = [
-    (0x0157_03B3, "add t2, a4, s5"),
-    (0x40A1_8E33, "sub t3, gp, a0"),
-    (0x01FC_18B3, "sll a7, s8, t6"),
-    (0x0146_A333, "slt t1, a3, s4"),
-    (0x0091_3DB3, "sltu s11, sp, s1"),
-    (0x01EB_C833, "xor a6, s7, t5"),
-    (0x0136_52B3, "srl t0, a2, s3"),
-    (0x4080_DD33, "sra s10, ra, s0"),
-    (0x01DB_67B3, "or a5, s6, t4"),
-    (0x0125_F233, "and tp, a1, s2"),
-    (0x0070_0CBB, "addw s9, zero, t2"),
-    (0x41CA_873B, "subw a4, s5, t3"),
-    (0x0115_11BB, "sllw gp, a0, a7"),
-    (0x006F_DC3B, "srlw s8, t6, t1"),
-    (0x41BA_56BB, "sraw a3, s4, s11"),
-    (0x8004_8113, "addi sp, s1, -2048"),
-    (0x7FFB_8813, "addi a6, s7, 2047"),
-    (0xFFF2_AF13, "slti t5, t0, -1"),
-    (0x0009_B613, "sltiu a2, s3, 0"),
-    (0x0010_CD13, "xori s10, ra, 1"),
-    (0xC007_E413, "ori s0, a5, -1024"),
-    (0x3E8E_FB13, "andi s6, t4, 1000"),
-    (0x8005_821B, "addiw tp, a1, -2048"),
-    (0x000C_9913, "slli s2, s9, 0"),
-    (0x03F3_9013, "slli zero, t2, 63"),
-    (0x009A_D713, "srli a4, s5, 9"),
-    (0x4201_DE13, "srai t3, gp, 32"),
-    (0x0008_951B, "slliw a0, a7, 0"),
-    (0x01FF_9C1B, "slliw s8, t6, 31"),
-    (0x00A6_D31B, "srliw t1, a3, 10"),
-    (0x41ED_DA1B, "sraiw s4, s11, 30"),
-    (0x8004_8103, "lb sp, -2048(s1)"),
-    (0xFFFB_9803, "lh a6, -1(s7)"),
-    (0x0002_AF03, "lw t5, 0(t0)"),
-    (0x0089_B603, "ld a2, 8(s3)"),
-    (0x0630_CD03, "lbu s10, 99(ra)"),
-    (0x0647_D403, "lhu s0, 100(a5)"),
-    (0x7FFE_EB03, "lwu s6, 2047(t4)"),
-    (0x80B2_0023, "sb a1, -2048(tp)"),
-    (0xFF99_1FA3, "sh s9, -1(s2)"),
-    (0x0070_2023, "sw t2, 0(zero)"),
-    (0x7F57_3FA3, "sd s5, 2047(a4)"),
-    (0xFFC1_8E67, "jalr t3, -4(gp)"),
-    (0x0000_0537, "lui a0, 0x0"),
-    (0x0000_F8B7, "lui a7, 0xf"),
-    (0x0001_0C37, "lui s8, 0x10"),
-    (0x1234_5FB7, "lui t6, 0x12345"),
-    (0xFFFF_F337, "lui t1, 0xfffff"),
-    (0x0000_0697, "auipc a3, 0x0"),
-    (0x0000_FA17, "auipc s4, 0xf"),
-    (0x0001_0D97, "auipc s11, 0x10"),
-    (0x1234_5117, "auipc sp, 0x12345"),
-    (0xFFFF_F497, "auipc s1, 0xfffff"),
-    (0x7F78_0FE3, "beq a6, s7, 0x800020d2"),
-    (0x805F_1063, "bne t5, t0, 0x800000d8"),
-    (0xFF36_4FE3, "blt a2, s3, 0x800010da"),
-    (0x001D_5163, "bge s10, ra, 0x800010e2"),
-    (0x00F4_6463, "bltu s0, a5, 0x800010ec"),
-    (0xFFDB_7CE3, "bgeu s6, t4, 0x800010e0"),
-    (0x7FFF_F26F, "jal tp, 0x801010ea"),
-    (0x8000_05EF, "jal a1, 0x7ff010f0"),
-    (0x0020_096F, "jal s2, 0x800010f6"),
-    (0xFFFF_FCEF, "jal s9, 0x800010f6"),
-    (0x0FF0_000F, "fence"),
-    (0x0330_000F, "fence rw, rw"),
-    (0x0120_000F, "fence w, r"),
-    (0x0210_000F, "fence r, w"),
-    (0x0F50_000F, "fence iorw, ow"),
-    (0x0000_0073, "ecall"),
-    (0x0010_0073, "ebreak"),
-];
+/// In each line a word, one behind another, and its text as GNU objdump shows it (`-M no-aliases`), but that operands have
+/// a space behind the comma, targets a 0x, shifts are decimal, and the fence of the language has no operands.
+pub(super) const LINES: &str = "
+015703b3 add t2, a4, s5
+40a18e33 sub t3, gp, a0
+01fc18b3 sll a7, s8, t6
+0146a333 slt t1, a3, s4
+00913db3 sltu s11, sp, s1
+01ebc833 xor a6, s7, t5
+013652b3 srl t0, a2, s3
+4080dd33 sra s10, ra, s0
+01db67b3 or a5, s6, t4
+0125f233 and tp, a1, s2
+00700cbb addw s9, zero, t2
+41ca873b subw a4, s5, t3
+011511bb sllw gp, a0, a7
+006fdc3b srlw s8, t6, t1
+41ba56bb sraw a3, s4, s11
+80048113 addi sp, s1, -2048
+7ffb8813 addi a6, s7, 2047
+fff2af13 slti t5, t0, -1
+0009b613 sltiu a2, s3, 0
+0010cd13 xori s10, ra, 1
+c007e413 ori s0, a5, -1024
+3e8efb13 andi s6, t4, 1000
+8005821b addiw tp, a1, -2048
+000c9913 slli s2, s9, 0
+03f39013 slli zero, t2, 63
+009ad713 srli a4, s5, 9
+4201de13 srai t3, gp, 32
+0008951b slliw a0, a7, 0
+01ff9c1b slliw s8, t6, 31
+00a6d31b srliw t1, a3, 10
+41edda1b sraiw s4, s11, 30
+80048103 lb sp, -2048(s1)
+fffb9803 lh a6, -1(s7)
+0002af03 lw t5, 0(t0)
+0089b603 ld a2, 8(s3)
+0630cd03 lbu s10, 99(ra)
+0647d403 lhu s0, 100(a5)
+7ffeeb03 lwu s6, 2047(t4)
+80b20023 sb a1, -2048(tp)
+ff991fa3 sh s9, -1(s2)
+00702023 sw t2, 0(zero)
+7f573fa3 sd s5, 2047(a4)
+ffc18e67 jalr t3, -4(gp)
+00000537 lui a0, 0x0
+0000f8b7 lui a7, 0xf
+00010c37 lui s8, 0x10
+12345fb7 lui t6, 0x12345
+fffff337 lui t1, 0xfffff
+00000697 auipc a3, 0x0
+0000fa17 auipc s4, 0xf
+00010d97 auipc s11, 0x10
+12345117 auipc sp, 0x12345
+fffff497 auipc s1, 0xfffff
+7f780fe3 beq a6, s7, 0x800020d2
+805f1063 bne t5, t0, 0x800000d8
+ff364fe3 blt a2, s3, 0x800010da
+001d5163 bge s10, ra, 0x800010e2
+00f46463 bltu s0, a5, 0x800010ec
+ffdb7ce3 bgeu s6, t4, 0x800010e0
+7ffff26f jal tp, 0x801010ea
+800005ef jal a1, 0x7ff010f0
+0020096f jal s2, 0x800010f6
+fffffcef jal s9, 0x800010f6
+0ff0000f fence
+0330000f fence rw, rw
+0120000f fence w, r
+0210000f fence r, w
+0f50000f fence iorw, ow
+00000073 ecall
+00100073 ebreak
+";

@@ -31,6 +31,8 @@ events
     key 61 echoes 61, key 7F echoes 08 20 08, key 7F echoes none
     key 61 echoes 61, key 62 echoes 62, key 15 echoes 08 20 08 08 20 08, key 15 echoes none
     key 0D echoes 0A, key 04 echoes 04, key 00 echoes none, key 10 echoes none
+    # What is told of a key is how many bytes the console shows for it.
+    key 61 -> typed 1, key 7F -> typed 3, key 7F -> typed 0
     sent none
 
 story a halted machine takes no keys

@@ -43,6 +43,16 @@ program init
 events
     turn 1, fault 1 0, status -1, halted
 
+story a jump to an odd place clears bit 0 alone
+# 0x200 has the second jump.
+program init
+    li ra, 0x201; jalr ra, 0(ra)
+    126 times: nop
+    li ra, 0x203; jalr ra, 0(ra)
+events
+    turn 1, step 1, step 1, register 1 ra 8, register 1 pc 0x200
+    step 1, fault 1 0, status -1, halted
+
 story a load from a misaligned address faults
 program init
     li a0, 0x2FE1; ld a0, 0(a0)

@@ -65,11 +65,13 @@ program init
     li a7, 12; li a0, 2084864; ecall
     li a0, 4096; ecall
     li a0, -4096; ecall
+    ebreak
 calls
     free 1017
     turn 1, call 1 12 12288, free 508
     call 1 12 2097152, free 506
     call 1 12 2101248, free 508
+    fault 1 3, free 1024
 
 story a refused growth changes nothing
 # Nine pages are free: ten are one too many. The last of nine can be written, and the next not.

@@ -1,5 +1,5 @@
 use Rattle.frame_list.proofs.Trades.{untouched-none, given-other}
-use Rattle.kernel_parts_tests.proofs.free_frames.Scene.give_both.Goals as goal
+use Rattle.layer_tests.proofs.free_frames.Scene.give_both.Goals as goal
 
 pub give-requires-clause-not_free : goal.give-requires-clause-not_free
 give-requires-clause-not_free c = let none = c.in-None.ensures.none in untouched-none _ _ _ _ none.0 none.1 c.args.first

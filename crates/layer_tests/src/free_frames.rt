@@ -34,20 +34,8 @@ impl Scene {
         Ok(Scene { ram, pool })
     }
 
-    fn free(&self) -> u32 {
-        self.pool.free()
-    }
-
     fn take(&mut self) -> Option<Frame> {
         self.pool.take(&mut self.ram)
-    }
-
-    /// Takes a frame: its last word.
-    fn take_and_read(&mut self) -> Option<u64> {
-        let Some(frame) = self.pool.take(&mut self.ram) else {
-            return None;
-        };
-        Some(self.ram.read_u64(frame, 511))
     }
 
     /// Gives back two frames, if none is free.
@@ -64,36 +52,34 @@ impl Scene {
         true
     }
 
-    fn first_word(&self, frame: Frame) -> u64
-        requires { frame < 16 }
-    {
-        self.ram.read_u64(frame, 0)
+    /// Takes frames, sixteen in all: whether there are so many.
+    fn takes_sixteen(&mut self) -> bool {
+        for _ in 0..16 {
+            if self.take().is_none() {
+                return false;
+            }
+        }
+        true
     }
 
-    fn begins_with(&self, frame: Frame, bytes: &[u8]) -> bool
+    /// Whether a frame's first eight bytes are this number.
+    fn links_to(&self, frame: Frame, number: u8) -> bool
         requires { frame < 16 }
     {
-        self.ram.frame(frame).starts_with(bytes)
+        self.ram
+            .frame(frame)
+            .starts_with(&[number, 0, 0, 0, 0, 0, 0, 0])
     }
 }
 
 #[test]
 fn sixteen_frames_are_taken_and_two_given_back(rt: HostRuntime) -> Result<(), Fail> {
     let mut scene = Scene::new(rt.alloc())?;
-    assert_eq!(rt; scene.free(), 16);
-    for taken in 0..16u32 {
-        assert_eq!(rt; scene.take_and_read(), Some(0), "behind {taken}");
-    }
-    assert_eq!(rt; scene.take(), None, "a seventeenth frame");
-    assert_eq!(rt; scene.free(), 0);
+    assert!(rt; scene.takes_sixteen() && scene.take().is_none());
     let (three, nine) = (Frame::new(3), Frame::new(9));
     assert!(rt; scene.give_both(three, nine));
-    assert_eq!(rt; scene.free(), 2);
-    assert!(rt; scene.begins_with(nine, &[4, 0, 0, 0, 0, 0, 0, 0]));
-    assert_eq!(rt; scene.first_word(three), 0);
-    assert_eq!(rt; scene.take(), Some(nine));
-    assert_eq!(rt; scene.take(), Some(three));
-    assert_eq!(rt; scene.first_word(nine), 0);
-    assert_eq!(rt; scene.first_word(three), 0);
+    assert!(rt; scene.links_to(nine, 4) && scene.links_to(three, 0));
+    assert!(rt; scene.take() == Some(nine) && scene.take() == Some(three));
+    assert!(rt; scene.links_to(nine, 0));
     Ok(())
 }

@@ -1,0 +1,112 @@
+//! A hart over the tables of a space: its trapframe, its `satp`, and the translations that it keeps.
+ghost use Rattle.std.specs.Prelude.{◌<◌, length, IsSome};
+ghost use Rattle.sv39_core.specs.Tree.{IsTree};
+ghost use Rattle.hart_core.specs.Steps.{root_of, FitsHart};
+
+use addr_space::Space;
+use frame_list::Pool;
+use hart_core::Hart;
+use phys_ram::Ram;
+use rv64i_core::Stop;
+use std::alloc::Global;
+use std::test::Fail;
+use xk_base::{Frame, Perm, Reg, Rights, Vpn};
+
+/// How much memory 68 pages have.
+const SIZE: u64 = 68 * 4096;
+
+/// A hart, and the RAM in which its tables lie.
+#[derive(Drop)]
+struct Scene {
+    hart: Hart,
+    ram: Ram,
+    ghost used: { IsSome hart.root },
+    ghost tree: { IsTree ram (root_of hart.root) },
+    ghost fits: { FitsHart ram hart.root hart.cache },
+}
+
+impl Scene {
+    /// Pages 0 to 67, of which page 0 begins with this word, and a hart that uses their tables.
+    fn new(alloc: Global, word: u32) -> Result<Scene, Fail> {
+        let mut ram = Ram::new(alloc, 128)?;
+        let mut pool = Pool::new(alloc, &mut ram)?;
+        let mut space = Space::empty(&mut pool, &mut ram)?;
+        let perm = Perm::new(Rights {
+            read: true,
+            write: true,
+            execute: true,
+            user: true,
+        });
+        space.grow(&mut pool, &mut ram, SIZE, perm)?;
+        space.write_page(&mut ram, Vpn::new(0), 0, &word.to_le_bytes());
+        let mut hart = Hart::new();
+        hart.switch(space.root());
+        Ok(Scene { hart, ram })
+    }
+
+    /// Makes the instruction at 0, with a number in a0.
+    fn step_with(&mut self, a0: u64) -> Stop {
+        let regs = self.hart.regs_mut();
+        regs.set_pc(0);
+        regs.write(Reg::new(10), a0);
+        self.hart.step(&mut self.ram)
+    }
+
+    fn keeps(&self, page: Vpn) -> bool {
+        self.hart.cached(page).is_some()
+    }
+
+    fn forget(&mut self, page: Vpn) {
+        self.hart.forget(page);
+    }
+}
+
+#[test]
+fn a_page_that_was_loaded_from_is_kept_until_another_takes_its_place(
+    rt: HostRuntime,
+) -> Result<(), Fail> {
+    // ld a1, 0(a0)
+    let mut scene = Scene::new(rt.alloc(), 0x0005_3583)?;
+    let (third, other) = (Vpn::new(3), Vpn::new(67));
+    assert!(rt; !scene.keeps(third));
+    assert_eq!(rt; scene.step_with(0x3000), Stop::Next);
+    assert!(rt; scene.keeps(third));
+    assert_eq!(rt; scene.step_with(0x43000), Stop::Next);
+    assert!(rt; scene.keeps(other) && !scene.keeps(third));
+    scene.forget(other);
+    assert!(rt; !scene.keeps(other) && scene.keeps(Vpn::new(0)));
+    Ok(())
+}
+
+#[test]
+fn satp_names_mode_8_and_the_page_of_the_root(rt: HostRuntime) {
+    let mut hart = Hart::new();
+    assert_eq!(rt; hart.satp(), 0);
+    hart.switch(Frame::new(1));
+    assert_eq!(rt; hart.satp(), 0x8000_0000_0008_0001);
+}
+
+/// Whether a trapframe has the pc at 0 and x5 at 40, and gives them back.
+fn is_saved(ram: &mut Ram) -> bool
+    requires { 3 < length ram.old }
+{
+    let trapframe = Frame::new(3);
+    let mut hart = Hart::new();
+    let regs = hart.regs_mut();
+    regs.set_pc(0x100);
+    regs.write(Reg::new(5), 7);
+    hart.save(ram, trapframe);
+    let bytes = ram.frame(trapframe);
+    let is_there = bytes[..8] == [0, 1, 0, 0, 0, 0, 0, 0]
+        && bytes[40..48] == [7, 0, 0, 0, 0, 0, 0, 0];
+    let mut other = Hart::new();
+    other.restore(ram, trapframe);
+    is_there && other.regs() == hart.regs()
+}
+
+#[test]
+fn a_trapframe_holds_the_pc_first_and_then_the_registers(rt: HostRuntime) -> Result<(), Fail> {
+    let mut ram = Ram::new(rt.alloc(), 16)?;
+    assert!(rt; is_saved(&mut ram));
+    Ok(())
+}
