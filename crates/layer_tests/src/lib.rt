@@ -8,8 +8,6 @@
 #[cfg(test)]
 mod assembler;
 #[cfg(test)]
-mod base;
-#[cfg(test)]
 mod constructors;
 #[cfg(test)]
 mod free_frames;

@@ -1,10 +1,9 @@
 -- Which slots are held, by what was told of them.
 use Rattle.std.proofs.Common.{◌≡◌, ℕ, true, false, Option, Some, None, get_or, refl, sym, subst}
-use Rattle.std.specs.Prelude.{IsTrue, IsSome, option_map}
+use Rattle.std.specs.Prelude.{IsSome}
 use Rattle.std.proofs.lemmas.List.Quantifiers.{position-Some}
 use Rattle.proc_table.specs.declared.process.Process.{Process}
-use Rattle.proc_table.specs.Processes.{status_of}
-use Rattle.proc_table.specs.Slots.{Slots, IsHeld, IsLiveAt, slot_of, place_at, place_has_pid, place_is_live, status_at}
+use Rattle.proc_table.specs.Slots.{Slots, IsHeld, slot_of, place_at, place_has_pid}
 
 -- only a process has a pid
 has_one : (pid : ℕ) (place : Option Process) → place_has_pid pid place ≡ true → IsSome place
@@ -22,12 +21,3 @@ no-place e = cc
 pub found_is_some : (t : Slots) (pid slot : ℕ) (place : Option Process) → slot_of t pid ≡ Some slot → place ≡ get_or t.places slot place → place ≡ None → ⊥
 found_is_some t pid slot None found read none = no-place (subst (λ o. IsSome o) (sym read) (found_is_held t pid slot found))
 found_is_some t pid slot (Some p) found read none = cc
-
--- a process without a status lives
-lives : (place : Option Process) → option_map status_of place ≡ Some None → IsTrue (place_is_live place)
-lives None h = absurd (cc)
-lives (Some p) h = let none : status_of p ≡ None = cc in rw none refl
-
--- a slot whose process is told to have no status holds a live one
-pub unended_is_live : (t : Slots) (slot : ℕ) → status_at t slot ≡ Some None → IsLiveAt t slot
-unended_is_live t slot told = lives (place_at t slot) told

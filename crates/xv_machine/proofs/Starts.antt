@@ -15,7 +15,7 @@ use Rattle.rv64i_core.specs.Registers.{fresh}
 use Rattle.hart_core.specs.Translations.{nothing_kept}
 use Rattle.hart_core.specs.declared.hart.Hart.{Hart}
 use Rattle.kernel_spec.specs.views.Processes.{Alive}
-use Rattle.kcall_core.specs.Kernel.{state_of, IsIdle, IsSound}
+use Rattle.kcall_core.specs.Kernel.{state_of}
 use Rattle.kcall_core.specs.declared.kernel.Kernel.{Kernel}
 use Rattle.kernel_spec.proofs.steps.MapsAfterChange.{get_same}
 use Rattle.kernel_spec.specs.views.State.{ProgramFile, State, named_file, live, live_part}
@@ -144,11 +144,6 @@ boots-without_init frames trace programs answer good told =
 
 any_hart : Hart
 any_hart = record { regs = fresh 0; root = None; cache = nothing_kept; decoded = tt; fault_address = 0 }
-
--- one that is sound beside each hart without tables is so beside some hart
-pub sound-beside : (k : Kernel) → ((hart : Hart) → IsIdle hart → IsSound k hart) → (hart : Hart) × IsSound k hart
-unfolding any_hart
-sound-beside k sound = (any_hart, sound any_hart (refl, refl))
 
 -- it has the programs that it was made of
 pub programs-same : (k : Kernel) (frames : ℕ) (programs : List ProgramFile) → ((hart : Hart) → state_of k hart ≡ empty_state frames programs) → map named_file k.programs.items ≡ programs
