@@ -1,7 +1,6 @@
 //! What takes memory of the host is made once.
 use console_core::Console;
 use file_table::Files;
-use frame_list::Pool;
 use phys_ram::Ram;
 use proc_table::Table;
 use rv64i_core::{FlatMemory, UserMemory, Width};
@@ -9,11 +8,9 @@ use std::alloc::Global;
 use std::test::Fail;
 use xk_base::{BootError, Cause, NoSlot, Pid};
 
-/// How many frames are free in a RAM of so many.
-fn free_of(alloc: Global, frames: u32) -> Result<u32, BootError> {
-    let mut ram = Ram::new(alloc, frames)?;
-    let pool = Pool::new(alloc, &mut ram)?;
-    Ok(pool.free())
+/// Why there is no RAM of so many frames.
+fn refusal(alloc: Global, frames: u32) -> Option<BootError> {
+    Ram::new(alloc, frames).err()
 }
 
 /// Whether a flat memory of 12 bytes ends with its last byte.
@@ -43,8 +40,8 @@ fn first_two(alloc: Global, pid: Pid) -> Result<(Pid, Result<(usize, Pid), NoSlo
 
 #[test]
 fn what_takes_memory_of_the_host_is_made(rt: HostRuntime) -> Result<(), Fail> {
-    assert_eq!(rt; free_of(rt.alloc(), 15), Err(BootError::BadConfig));
-    assert_eq!(rt; free_of(rt.alloc(), 16), Ok(16));
+    assert_eq!(rt; refusal(rt.alloc(), 15), Some(BootError::BadConfig));
+    assert_eq!(rt; refusal(rt.alloc(), 16), None);
     assert!(rt; has_12_bytes(rt.alloc())?);
     assert_eq!(rt; counts(rt.alloc())?, (0, 0, 32));
     let last = Pid::new(2_147_483_647);

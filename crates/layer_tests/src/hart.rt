@@ -1,53 +1,58 @@
 //! A hart over the tables of a space: its trapframe, its `satp`, and the translations that it keeps.
-ghost use Rattle.std.specs.Prelude.{◌<◌, length, IsSome};
+ghost use Rattle.std.specs.Prelude.{◌≡◌, ◌<◌, length, Some};
 ghost use Rattle.sv39_core.specs.Tree.{IsTree};
-ghost use Rattle.hart_core.specs.Steps.{root_of, FitsHart};
+ghost use Rattle.hart_core.specs.Translations.{Fits};
 
-use addr_space::Space;
-use frame_list::Pool;
+use super::spaces;
 use hart_core::Hart;
 use phys_ram::Ram;
 use rv64i_core::Stop;
 use std::alloc::Global;
 use std::test::Fail;
-use xk_base::{Frame, Perm, Reg, Rights, Vpn};
+use xk_base::{Frame, Reg, Vpn};
 
 /// How much memory 68 pages have.
 const SIZE: u64 = 68 * 4096;
+
+/// The first address of page 1.
+const TEXT: u64 = 4096;
 
 /// A hart, and the RAM in which its tables lie.
 #[derive(Drop)]
 struct Scene {
     hart: Hart,
     ram: Ram,
-    ghost used: { IsSome hart.root },
-    ghost tree: { IsTree ram (root_of hart.root) },
-    ghost fits: { FitsHart ram hart.root hart.cache },
+    root: Frame,
+    ghost used: { hart.root ≡ Some root },
+    ghost tree: { IsTree ram root },
+    ghost fits: { Fits ram root hart.cache },
 }
 
 impl Scene {
-    /// Pages 0 to 67, of which page 0 begins with this word, and a hart that uses their tables.
-    fn new(alloc: Global, word: u32) -> Result<Scene, Fail> {
-        let mut ram = Ram::new(alloc, 128)?;
-        let mut pool = Pool::new(alloc, &mut ram)?;
-        let mut space = Space::empty(&mut pool, &mut ram)?;
-        let perm = Perm::new(Rights {
-            read: true,
-            write: true,
-            execute: true,
-            user: true,
-        });
-        space.grow(&mut pool, &mut ram, SIZE, perm)?;
-        space.write_page(&mut ram, Vpn::new(0), 0, &word.to_le_bytes());
+    /// A hart that uses the tables below a root.
+    fn over(ram: Ram, root: Frame) -> Scene
+        requires { IsTree ram root }
+    {
         let mut hart = Hart::new();
-        hart.switch(space.root());
-        Ok(Scene { hart, ram })
+        hart.switch(root);
+        Scene { hart, ram, root }
     }
 
-    /// Makes the instruction at 0, with a number in a0.
+    /// Pages 0 to 67, of which page 1 begins with this word, and a hart that uses their tables.
+    fn new(alloc: Global, word: u32) -> Result<Scene, Fail> {
+        let mut space = spaces::Scene::new(alloc)?;
+        if !space.grow(SIZE) || !space.write(&word.to_le_bytes()) {
+            return Err(Fail::from("the pages fit"));
+        }
+        let (ram, root) = space.tables();
+        Ok(Scene::over(ram, root))
+    }
+
+    /// Makes the instruction at the begin of page 1, with a number in a0.
+    #[tactic(auto, using(hart_core::proofs::Caches::fits_hart, hart_core::proofs::Caches::fits_root))]
     fn step_with(&mut self, a0: u64) -> Stop {
         let regs = self.hart.regs_mut();
-        regs.set_pc(0);
+        regs.set_pc(TEXT);
         regs.write(Reg::new(10), a0);
         self.hart.step(&mut self.ram)
     }
@@ -74,7 +79,7 @@ fn a_page_that_was_loaded_from_is_kept_until_another_takes_its_place(
     assert_eq!(rt; scene.step_with(0x43000), Stop::Next);
     assert!(rt; scene.keeps(other) && !scene.keeps(third));
     scene.forget(other);
-    assert!(rt; !scene.keeps(other) && scene.keeps(Vpn::new(0)));
+    assert!(rt; !scene.keeps(other) && scene.keeps(Vpn::new(1)));
     Ok(())
 }
 

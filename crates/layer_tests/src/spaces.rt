@@ -1,4 +1,6 @@
 //! A process's memory, from its first frame to its last.
+ghost use Rattle.sv39_core.specs.Tree.{IsTree};
+
 use addr_space::Space;
 use frame_list::Pool;
 use phys_ram::Ram;
@@ -7,11 +9,11 @@ use std::marker::Model;
 use std::test::Fail;
 use user_copy::copy_in;
 use xk_base::limits::SIZE_LIMIT;
-use xk_base::{NoFrames, Perm, Rights, Vpn};
+use xk_base::{Frame, NoFrames, Perm, Rights, Vpn};
 
 /// A space, the RAM that it lies in, and the free frames. What a space promises stays out of the proofs of the tests.
 #[derive(Drop)]
-struct Scene {
+pub(super) struct Scene {
     ram: Ram,
     pool: Pool,
     space: Space,
@@ -28,9 +30,9 @@ impl Model for Scene {
 }
 
 impl Scene {
-    /// A space without a page, in a RAM of 64 frames.
-    fn new(alloc: Global) -> Result<Scene, Fail> {
-        let mut ram = Ram::new(alloc, 64)?;
+    /// A space without a page, in a RAM of 128 frames.
+    pub(super) fn new(alloc: Global) -> Result<Scene, Fail> {
+        let mut ram = Ram::new(alloc, 128)?;
         let mut pool = Pool::new(alloc, &mut ram)?;
         let space = Space::empty(&mut pool, &mut ram)?;
         Ok(Scene { ram, pool, space })
@@ -44,15 +46,15 @@ impl Scene {
         Some(self.space.price_to(&self.ram, size))
     }
 
-    /// Grows by pages that may be read and written: whether it can.
-    fn grow(&mut self, size: u64) -> bool {
+    /// Grows by pages that may be read, written and executed: whether it can.
+    pub(super) fn grow(&mut self, size: u64) -> bool {
         if size < self.space.size() || size > SIZE_LIMIT {
             return false;
         }
         let perm = Perm::new(Rights {
             read: true,
             write: true,
-            execute: false,
+            execute: true,
             user: true,
         });
         match self.space.grow(&mut self.pool, &mut self.ram, size, perm) {
@@ -61,18 +63,30 @@ impl Scene {
         }
     }
 
-    /// Writes over each byte of page 1: whether it is there.
-    fn fill(&mut self, byte: u8) -> bool {
+    /// Writes over the first bytes of page 1: whether it is there, and has room.
+    pub(super) fn write(&mut self, bytes: &[u8]) -> bool {
         let vpn = Vpn::new(1);
         let Some(_) = self.space.perm(&self.ram, vpn) else {
             return false;
         };
-        self.space.write_page(&mut self.ram, vpn, 0, &[byte; 4096]);
+        if bytes.len() > 4096 {
+            return false;
+        }
+        self.space.write_page(&mut self.ram, vpn, 0, bytes);
         true
     }
 
     fn read(&self, address: u64, bytes: &mut [u8]) -> bool {
         copy_in(&self.space, &self.ram, address, bytes).is_ok()
+    }
+
+    /// The RAM, and the root of its tables.
+    pub(super) fn tables(self) -> (Ram, Frame)
+        ensures { IsTree result.0 result.1 }
+    {
+        let Scene { ram, space, .. } = self;
+        let root = space.root();
+        (ram, root)
     }
 
     /// Gives back all frames: how many are free then.
@@ -88,15 +102,15 @@ impl Scene {
 }
 
 #[test]
-fn a_space_grows_is_filled_and_given_back(rt: HostRuntime) -> Result<(), Fail> {
+fn a_space_grows_is_written_to_and_given_back(rt: HostRuntime) -> Result<(), Fail> {
     let mut scene = Scene::new(rt.alloc())?;
     assert_eq!(rt; scene.price_to(12_288), Some(5));
-    assert!(rt; scene.grow(12_288) && scene.fill(7));
+    assert!(rt; scene.grow(12_288) && scene.write(&[7, 8, 9]));
     let mut bytes = [9; 4];
     assert!(rt; scene.read(0x0FFE, &mut bytes));
-    assert_eq!(rt; bytes, [0, 0, 7, 7]);
+    assert_eq!(rt; bytes, [0, 0, 7, 8]);
     assert!(rt; !scene.read(0x2FFE, &mut bytes));
-    assert_eq!(rt; bytes, [0, 0, 7, 7]);
-    assert_eq!(rt; scene.given_back(), 64);
+    assert_eq!(rt; bytes, [0, 0, 7, 8]);
+    assert_eq!(rt; scene.given_back(), 128);
     Ok(())
 }
