@@ -28,7 +28,7 @@ pub enum StopReason {
 }
 
 /// A stop: why, and of which thread.
-#[derive(Clone, Copy, Debug, PartialEq, Eq)]
+#[derive(Clone, Copy)]
 pub struct Stop {
     pub reason: StopReason,
     pub thread: u64,

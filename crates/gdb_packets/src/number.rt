@@ -6,7 +6,7 @@ ghost use Rattle.gdb_packets.specs.Digits as meant;
 use crate::digits::digit_value;
 
 /// Two numbers, as they stand in a text.
-#[derive(Clone, Copy, Debug, PartialEq, Eq)]
+#[derive(Clone, Copy)]
 pub(crate) struct Numbers {
     pub first: u64,
     pub second: u64,

@@ -6,7 +6,7 @@ use crate::command::{Command, parse_thread};
 use crate::number::{before, behind, two_numbers};
 
 /// A document that a part is read of (`qXfer`).
-#[derive(Clone, Copy, Debug, PartialEq, Eq)]
+#[derive(Clone, Copy, PartialEq, Eq)]
 pub enum Document {
     /// `features`, annex `target.xml`: the registers.
     Registers,

@@ -8,7 +8,7 @@ use crate::digits::digit_value;
 use std::alloc::{AllocError, Global};
 
 /// What the next byte is.
-#[derive(Clone, Copy, Debug, PartialEq, Eq)]
+#[derive(Clone, Copy)]
 pub enum Phase {
     /// It stands between packets.
     Between,
@@ -23,7 +23,7 @@ pub enum Phase {
 }
 
 /// What came to its end.
-#[derive(Clone, Copy, Debug, PartialEq, Eq)]
+#[derive(Clone, Copy)]
 pub enum Piece {
     /// The other side got a packet whole.
     Ack,

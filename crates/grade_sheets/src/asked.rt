@@ -6,7 +6,7 @@ use grade_rules::{Edge, Pattern, Rule};
 use std::alloc::Global;
 
 /// What a run has to have.
-#[derive(Debug, Drop)]
+#[derive(Drop)]
 pub enum Check {
     /// `init` exits with this status.
     Status(i32),
@@ -27,7 +27,7 @@ pub enum Check {
 }
 
 /// What is asked of a run, and what it gives.
-#[derive(Debug, Drop)]
+#[derive(Drop)]
 pub struct Asked {
     /// What it is called, in a student's words.
     pub name: String,
@@ -121,17 +121,24 @@ fn one(alloc: Global, text: &str) -> Result<Vec<String>, SheetError> {
     Ok(texts)
 }
 
-// The rule that counts notes: one at least if nothing is said.
+// How many notes are there at least: one if nothing is said.
+fn least_of(text: &RuleText) -> u32 {
+    match (text.at_least, text.at_most) {
+        (Some(least), _) => least,
+        (None, Some(_)) => 0,
+        (None, None) => 1,
+    }
+}
+
+// The rule that counts notes.
 fn counted(alloc: Global, text: &RuleText, note: &str) -> Result<Check, SheetError> {
-    let least = text
-        .at_least
-        .unwrap_or(if text.at_most.is_some() { 0 } else { 1 });
+    let pattern = pattern_of(alloc, note)?;
+    let texts = one(alloc, note)?;
     let rule = Rule::Count {
-        pattern: pattern_of(alloc, note)?,
-        least: least as usize,
+        pattern,
+        least: least_of(text) as usize,
         most: text.at_most.unwrap_or(u32::MAX) as usize,
     };
-    let texts = one(alloc, note)?;
     Ok(Check::Notes { rule, texts })
 }
 

@@ -29,7 +29,7 @@ fn quantum() -> u32 {
 }
 
 // An exercise, as its file says it.
-#[derive(Debug, Drop, Deserialize)]
+#[derive(Drop, Deserialize)]
 #[serde(deny_unknown_fields)]
 pub(crate) struct ExerciseText {
     pub title: String,
@@ -39,7 +39,7 @@ pub(crate) struct ExerciseText {
 }
 
 // A run, as the file says it.
-#[derive(Debug, Drop, Deserialize)]
+#[derive(Drop, Deserialize)]
 #[serde(deny_unknown_fields)]
 pub(crate) struct RunText {
     pub name: String,
@@ -61,7 +61,7 @@ pub(crate) struct RunText {
 }
 
 /// A file that programs may read.
-#[derive(Debug, Drop, Deserialize)]
+#[derive(Drop, Deserialize)]
 #[serde(deny_unknown_fields)]
 pub struct Text {
     pub name: String,
@@ -69,7 +69,7 @@ pub struct Text {
 }
 
 // What is asked of a run: one of the kinds that `read_rule` knows.
-#[derive(Debug, Drop, Deserialize)]
+#[derive(Drop, Deserialize)]
 #[serde(deny_unknown_fields)]
 pub(crate) struct RuleText {
     pub name: String,
@@ -94,7 +94,7 @@ pub(crate) struct RuleText {
 }
 
 /// An exercise.
-#[derive(Debug, Drop)]
+#[derive(Drop)]
 pub struct Exercise {
     /// What it is called.
     pub title: String,
@@ -103,7 +103,7 @@ pub struct Exercise {
 }
 
 /// A run of what was handed in.
-#[derive(Debug, Drop)]
+#[derive(Drop)]
 pub struct Run {
     /// What it is called.
     pub name: String,

@@ -222,12 +222,16 @@ pub fn ungraded(alloc: Global, asked: &[Asked], why: String) -> Result<RunGrade,
     })
 }
 
+// That a run doesn't have what is called so, and why.
+fn lack(alloc: Global, name: &str, why: &str) -> Result<String, AllocError> {
+    format!(in alloc; "{name}: {why}")
+}
+
 // The first thing that a run doesn't have, as text; empty if it has all.
 fn first_why(alloc: Global, run: &Run, grade: &RunGrade) -> Result<String, AllocError> {
     for (asked, mark) in run.asked.iter().zip(grade.marks.iter()) {
         if let Some(why) = &mark.why {
-            let (name, why) = (asked.name.as_str(), why.as_str());
-            return format!(in alloc; "{name}: {why}");
+            return lack(alloc, asked.name.as_str(), why.as_str());
         }
     }
     Ok(String::new(alloc))

@@ -83,6 +83,39 @@ fn text_at(texts: &[String], place: usize) -> &str {
     }
 }
 
+// Whether the step at a place has a note anywhere.
+fn is_somewhere(steps: &[Pattern], place: usize, notes: &[Note]) -> bool {
+    match steps.get(place) {
+        Some(pattern) => count(pattern, notes) > 0,
+        None => false,
+    }
+}
+
+// The step that has to stand before the one at a place, as text: that of the first edge.
+fn step_before<'a>(texts: &'a [String], edges: &[Edge], place: usize) -> Option<&'a str> {
+    let edge = edges.iter().find(|edge| edge.behind == place)?;
+    Some(text_at(texts, edge.before))
+}
+
+// The step that has to stand behind the one at a place, as text: that of the first edge.
+fn step_behind<'a>(texts: &'a [String], edges: &[Edge], place: usize) -> Option<&'a str> {
+    let edge = edges.iter().find(|edge| edge.before == place)?;
+    Some(text_at(texts, edge.behind))
+}
+
+// Adds where a step is missing, by another step.
+fn add_step(
+    alloc: Global,
+    text: &mut String,
+    word: &str,
+    step: Option<&str>,
+) -> Result<(), AllocError> {
+    if let Some(step) = step {
+        text.push_str(format!(in alloc; " {word} `{step}`")?.as_str())?;
+    }
+    Ok(())
+}
+
 // Why steps can't be arranged: this one is missing.
 fn missing(
     alloc: Global,
@@ -93,23 +126,21 @@ fn missing(
     notes: &[Note],
 ) -> Result<String, AllocError> {
     let own = text_at(texts, place);
-    let is_somewhere = match steps.get(place) {
-        Some(pattern) => count(pattern, notes) > 0,
-        None => false,
-    };
     let mut text = format!(in alloc; "`{own}` is missing")?;
-    if let Some(edge) = edges
-        .iter()
-        .find(|edge| edge.behind == place && is_somewhere)
-    {
-        let before = text_at(texts, edge.before);
-        text.push_str(format!(in alloc; " behind `{before}`")?.as_str())?;
+    if is_somewhere(steps, place, notes) {
+        add_step(alloc, &mut text, "behind", step_before(texts, edges, place))?;
     }
-    if let Some(edge) = edges.iter().find(|edge| edge.before == place) {
-        let behind = text_at(texts, edge.behind);
-        text.push_str(format!(in alloc; " before `{behind}`")?.as_str())?;
-    }
+    add_step(alloc, &mut text, "before", step_behind(texts, edges, place))?;
     Ok(text)
+}
+
+// How many of the notes before a place fit one of the patterns.
+fn fitting_before(of: &[Pattern], place: usize, notes: &[Note]) -> usize {
+    notes
+        .iter()
+        .take(place)
+        .filter(|note| fits_any(of, **note))
+        .count()
 }
 
 // A note that isn't the one that should stand there.
@@ -120,11 +151,7 @@ fn other_note(
     place: usize,
     notes: &[Note],
 ) -> Result<String, AllocError> {
-    let before = notes
-        .iter()
-        .take(place)
-        .filter(|note| fits_any(of, **note))
-        .count();
+    let before = fitting_before(of, place, notes);
     let number = before.saturating_add(1);
     let wanted = match text_at(texts, before) {
         "" => "no more",
@@ -163,6 +190,35 @@ fn how_often(alloc: Global, least: usize, most: usize) -> Result<String, AllocEr
     }
 }
 
+// That a note comes so often, which is too often or not often enough.
+fn counted_text(
+    alloc: Global,
+    note: &str,
+    least: usize,
+    most: usize,
+    found: usize,
+) -> Result<String, AllocError> {
+    let asked = how_often(alloc, least, most)?;
+    format!(in alloc; "`{note}`: {asked}, and {found} are there")
+}
+
+// That the note at a place may not come.
+fn unwanted_text(alloc: Global, notes: &[Note], place: usize) -> Result<String, AllocError> {
+    let note = note_text(alloc, notes, place)?;
+    format!(in alloc; "`{note}` may not come")
+}
+
+// That the note at a place has no note of this text before it.
+fn alone_text(
+    alloc: Global,
+    first: &str,
+    notes: &[Note],
+    place: usize,
+) -> Result<String, AllocError> {
+    let note = note_text(alloc, notes, place)?;
+    format!(in alloc; "`{first}` is missing before `{note}`")
+}
+
 // What shows that a rule doesn't hold, as text.
 fn shows(
     alloc: Global,
@@ -173,19 +229,10 @@ fn shows(
 ) -> Result<String, AllocError> {
     match (judgement, rule) {
         (Judgement::Counted(found), Rule::Count { least, most, .. }) => {
-            let note = text_at(texts, 0);
-            let asked = how_often(alloc, *least, *most)?;
-            format!(in alloc; "`{note}`: {asked}, and {found} are there")
+            counted_text(alloc, text_at(texts, 0), *least, *most, found)
         }
-        (Judgement::Unwanted(place), _) => {
-            let note = note_text(alloc, notes, place)?;
-            format!(in alloc; "`{note}` may not come")
-        }
-        (Judgement::Alone(place), _) => {
-            let first = text_at(texts, 0);
-            let note = note_text(alloc, notes, place)?;
-            format!(in alloc; "`{first}` is missing before `{note}`")
-        }
+        (Judgement::Unwanted(place), _) => unwanted_text(alloc, notes, place),
+        (Judgement::Alone(place), _) => alone_text(alloc, text_at(texts, 0), notes, place),
         (Judgement::Missing(place), Rule::InOrder { steps, edges }) => {
             missing(
                 alloc,

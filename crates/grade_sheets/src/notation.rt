@@ -46,6 +46,16 @@ fn ordered(word: &str) -> Option<Numbers> {
     Some(within(i64::MIN, above.checked_sub(1)?))
 }
 
+// The numbers from one to another, both words.
+fn interval(least: &str, most: &str) -> Option<Numbers> {
+    Some(within(least.parse().ok()?, most.parse().ok()?))
+}
+
+// The numbers of two words that each stand for one.
+fn either(one: &str, other: &str) -> Option<Numbers> {
+    Some(Numbers::Either(call_number(one)?, call_number(other)?))
+}
+
 // The numbers that a word stands for.
 fn numbers(word: &str) -> Option<Numbers> {
     if word == "*" {
@@ -55,10 +65,10 @@ fn numbers(word: &str) -> Option<Numbers> {
         return Some(Numbers::Not(call_number(other)?));
     }
     if let Some((least, most)) = word.split_once("..") {
-        return Some(within(least.parse().ok()?, most.parse().ok()?));
+        return interval(least, most);
     }
     if let Some((one, other)) = word.split_once("|") {
-        return Some(Numbers::Either(call_number(one)?, call_number(other)?));
+        return either(one, other);
     }
     if word.starts_with(">") || word.starts_with("<") {
         return ordered(word);

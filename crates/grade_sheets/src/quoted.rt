@@ -8,18 +8,23 @@ const LINE_BYTES: usize = 60;
 #[derive(Clone, Copy)]
 pub struct Quoted<'a>(pub &'a [u8]);
 
+// Writes a byte: what isn't printable ASCII as `\x1b`.
+fn write_byte<W: fmt::Write>(f: &mut fmt::Formatter<W>, byte: u8) -> fmt::Result {
+    match byte {
+        b'"' => f.write_str("\\\""),
+        b'\\' => f.write_str("\\\\"),
+        b'\n' => f.write_str("\\n"),
+        b'\t' => f.write_str("\\t"),
+        b' '..=b'~' => f.write_char(byte as char),
+        _ => write!(f, "\\x{byte:02x}"),
+    }
+}
+
 impl<'a> fmt::Display for Quoted<'a> {
     fn fmt<W: fmt::Write>(&self, f: &mut fmt::Formatter<W>) -> fmt::Result {
         f.write_char('"')?;
         for &byte in self.0.iter().take(LINE_BYTES) {
-            match byte {
-                b'"' => f.write_str("\\\"")?,
-                b'\\' => f.write_str("\\\\")?,
-                b'\n' => f.write_str("\\n")?,
-                b'\t' => f.write_str("\\t")?,
-                b' '..=b'~' => f.write_char(byte as char)?,
-                _ => write!(f, "\\x{byte:02x}")?,
-            }
+            write_byte(f, byte)?;
         }
         f.write_str(if self.0.len() > LINE_BYTES { ".." } else { "" })?;
         f.write_char('"')

@@ -96,33 +96,50 @@ fn escaped_name(alloc: Global, name: &[u8]) -> Result<String, SheetError> {
     Ok(text)
 }
 
-// Adds the test cases of a run, one for each rule, and tells how many fail.
+// How the test case of a rule begins, in a run whose name is escaped.
+fn case_head(alloc: Global, of: &str, rule: &str) -> Result<String, SheetError> {
+    let name = escaped(alloc, rule)?;
+    Ok(format!(in alloc; "  <testcase classname=\"{of}\" name=\"{name}\"")?)
+}
+
+// How the test case of a rule ends that a run doesn't keep. The cause is escaped.
+fn failure(alloc: Global, word: &str, why: &str, cause: &str) -> Result<String, SheetError> {
+    let why = escaped(alloc, why)?;
+    Ok(format!(in alloc;
+        "><failure type=\"{word}\" message=\"{why}\">{cause}</failure></testcase>\n"
+    )?)
+}
+
+// Adds the test cases of a run, one for each rule.
 fn add_cases(
     alloc: Global,
     text: &mut String,
     run: &Run,
     grade: &RunGrade,
-) -> Result<u64, SheetError> {
-    let mut failures: u64 = 0;
+) -> Result<(), SheetError> {
     let of = escaped(alloc, run.name.as_str())?;
     let cause = escaped(alloc, grade.cause.as_str())?;
+    let word = grade.standing.word();
     for (rule, mark) in run.asked.iter().zip(grade.marks.iter()) {
-        let name = escaped(alloc, rule.name.as_str())?;
-        let head = format!(in alloc; "  <testcase classname=\"{of}\" name=\"{name}\"")?;
-        text.push_str(head.as_str())?;
-        let Some(why) = &mark.why else {
-            text.push_str("/>\n")?;
-            continue;
-        };
-        failures = failures.saturating_add(1);
-        let word = grade.standing.word();
-        let why = escaped(alloc, why.as_str())?;
-        let failure = format!(in alloc;
-            "><failure type=\"{word}\" message=\"{why}\">{cause}</failure></testcase>\n"
-        )?;
-        text.push_str(failure.as_str())?;
+        text.push_str(case_head(alloc, of.as_str(), rule.name.as_str())?.as_str())?;
+        match &mark.why {
+            Some(why) => {
+                text.push_str(failure(alloc, word, why.as_str(), cause.as_str())?.as_str())?;
+            }
+            None => text.push_str("/>\n")?,
+        }
     }
-    Ok(failures)
+    Ok(())
+}
+
+// How many marks of a run are for what it doesn't have.
+fn failures_of(run: &Run, grade: &RunGrade) -> u64 {
+    grade
+        .marks
+        .iter()
+        .take(run.asked.len())
+        .filter(|mark| mark.why.is_some())
+        .count() as u64
 }
 
 /// The test suite of a submission of this name: a test case for each rule of each run.
@@ -140,8 +157,8 @@ pub fn xml_suite(
     let mut failures: u64 = 0;
     let mut tests: u64 = 0;
     for (run, run_grade) in exercise.runs.iter().zip(grade.runs.iter()) {
-        let failed = add_cases(alloc, &mut cases, run, run_grade)?;
-        failures = failures.saturating_add(failed);
+        add_cases(alloc, &mut cases, run, run_grade)?;
+        failures = failures.saturating_add(failures_of(run, run_grade));
         tests = tests.saturating_add(run_grade.marks.len() as u64);
     }
     let name = escaped_name(alloc, name)?;

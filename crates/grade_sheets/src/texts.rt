@@ -4,6 +4,20 @@ use crate::judging::Seen;
 use crate::quoted::Quoted;
 use grade_rules::{End, Note};
 use std::alloc::{AllocError, Global};
+use std::fmt;
+
+// A line in quotes, or that there is none.
+#[derive(Clone, Copy)]
+struct Line<'a>(Option<&'a [u8]>);
+
+impl<'a> fmt::Display for Line<'a> {
+    fn fmt<W: fmt::Write>(&self, f: &mut fmt::Formatter<W>) -> fmt::Result {
+        match self.0 {
+            Some(bytes) => Quoted(bytes).fmt(f),
+            None => f.write_str("no such line"),
+        }
+    }
+}
 
 // The line of this number, counted from 1, in which two texts differ.
 fn difference(
@@ -12,23 +26,11 @@ fn difference(
     expected: Option<&[u8]>,
     got: Option<&[u8]>,
 ) -> Result<String, AllocError> {
-    match (expected, got) {
-        (Some(expected), Some(got)) => {
-            let (expected, got) = (Quoted(expected), Quoted(got));
-            format!(in alloc; "first difference in line {number}: expected {expected}, got {got}")
-        }
-        (Some(expected), None) => {
-            let expected = Quoted(expected);
-            format!(in alloc;
-                "first difference in line {number}: expected {expected}, got no such line"
-            )
-        }
-        (None, Some(got)) => {
-            let got = Quoted(got);
-            format!(in alloc; "first difference in line {number}: expected no such line, got {got}")
-        }
-        (None, None) => format!(in alloc; "no line differs"),
+    if expected.is_none() && got.is_none() {
+        return String::from_str(alloc, "no line differs");
     }
+    let (expected, got) = (Line(expected), Line(got));
+    format!(in alloc; "first difference in line {number}: expected {expected}, got {got}")
 }
 
 /// The first line in which two texts differ.
@@ -136,6 +138,17 @@ fn predicted(alloc: Global, words: &[String], seen: &Seen<'_>) -> Result<String,
     Ok(lines)
 }
 
+// Bytes without carriage returns.
+fn without_returns(alloc: Global, bytes: &[u8]) -> Result<Vec<u8>, AllocError> {
+    let mut kept = Vec::new(alloc);
+    for &byte in bytes {
+        if byte != b'\r' {
+            kept.push(byte)?;
+        }
+    }
+    Ok(kept)
+}
+
 /// Why a text isn't what was to be predicted: its first line that differs. Blanks and empty lines at its end, and
 /// carriage returns, don't count.
 pub(crate) fn not_predicted(
@@ -145,12 +158,7 @@ pub(crate) fn not_predicted(
 ) -> Result<Option<String>, AllocError> {
     let wanted = predicted(alloc, words, seen)?;
     let wanted = wanted.as_str().as_bytes().trim_ascii_end();
-    let mut own = Vec::new(alloc);
-    for &byte in seen.handed_in {
-        if byte != b'\r' {
-            own.push(byte)?;
-        }
-    }
+    let own = without_returns(alloc, seen.handed_in)?;
     let own = own.as_slice().trim_ascii_end();
     if wanted == own {
         return Ok(None);
