@@ -2,7 +2,7 @@
 ghost use Rattle.std.specs.Prelude.{◌≡◌, IfSome, IfNone};
 ghost use Rattle.debug_views.specs.Sharing.{names_file, IsFirstOn};
 
-use crate::focus::{lives, program_name};
+use crate::focus::{lives, program_name, show_none};
 use debug_words::texts::{Grouped, Named, Plain};
 use std::alloc::AllocError;
 use std::fmt;
@@ -18,18 +18,26 @@ struct TargetShown<'a> {
     target: Target,
 }
 
+/// A program's file, and how far it was read.
+fn show_file<W: fmt::Write>(
+    machine: &Machine,
+    program: usize,
+    offset: u64,
+    f: &mut fmt::Formatter<W>,
+) -> fmt::Result {
+    let offset = Grouped(offset);
+    let name = match machine.programs().get(program) {
+        Some(program) => Plain(program.name.as_slice()),
+        None => Plain(b"?"),
+    };
+    write!(f, "file {name}, next byte {offset}")
+}
+
 impl<'a> fmt::Display for TargetShown<'a> {
     fn fmt<W: fmt::Write>(&self, f: &mut fmt::Formatter<W>) -> fmt::Result {
         match self.target {
             Target::Console => f.write_str("console"),
-            Target::Program { program, offset } => {
-                let offset = Grouped(offset);
-                let name = match self.machine.programs().get(program) {
-                    Some(program) => Plain(program.name.as_slice()),
-                    None => Plain(b"?"),
-                };
-                write!(f, "file {name}, next byte {offset}")
-            }
+            Target::Program { program, offset } => show_file(self.machine, program, offset, f),
             Target::Pipe { frame, end } => {
                 let frame = frame.number();
                 let end = match end {
@@ -106,16 +114,16 @@ pub fn show_descriptors(
     answer: &mut String,
 ) -> Result<(), AllocError> {
     let machine = session.machine();
-    let owner = pid.number();
     if !lives(machine, pid) {
-        return writeln!(answer, "no live process has the pid {owner}; ps lists them");
+        return show_none(pid, answer);
     }
+    let owner = pid.number();
     let name = Named(program_name(session, pid));
     writeln!(
         answer,
         "descriptors of process {owner}{name}; r: it may be read, w: written"
     )?;
-    writeln!(answer, "  fd  may  on")?;
+    answer.push_str("  fd  may  on\n")?;
     for number in 0..NOFILE {
         let fd = Fd::new(number as u8);
         if let Some(descriptor) = machine.descriptor(pid, fd) {

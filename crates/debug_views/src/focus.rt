@@ -5,6 +5,7 @@ ghost use Rattle.kernel_spec.specs.waking.Turns.{HasSlot};
 ghost use Rattle.xv_machine.specs.Sound.{IsSoundMachine};
 ghost use Rattle.debug_views.specs.Focus.{IsLeastFrom, lesser, program_in};
 
+use std::alloc::AllocError;
 use xk_base::limits::NPROC;
 use xk_base::{Pid, Program};
 use xv_machine::{Machine, ProcessState};
@@ -78,4 +79,13 @@ pub fn program_name(session: &Session, pid: Pid) -> Option<&[u8]>
 {
     let program = program_of(session, pid)?;
     Some(program.name.as_slice())
+}
+
+/// Writes that no live process has this pid.
+pub(crate) fn show_none(pid: Pid, answer: &mut String) -> Result<(), AllocError> {
+    let number = pid.number();
+    writeln!(
+        answer,
+        "no live process has the pid {number}; ps lists them"
+    )
 }

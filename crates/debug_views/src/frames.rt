@@ -5,8 +5,8 @@ use crate::pages::RightsShown;
 use debug_words::texts::{Grouped, Many, Named, Plain};
 use std::alloc::{AllocError, Global};
 use xk_base::limits::PAGE_BYTES;
-use xk_base::{Frame, Pid};
-use xv_machine::FrameUse;
+use xk_base::{Frame, Pid, Vpn};
+use xv_machine::{FrameUse, Machine};
 use xv_session::Session;
 
 /// The most processes that are shown at once.
@@ -19,11 +19,31 @@ fn show_owner(session: &Session, pid: Pid, answer: &mut String) -> Result<(), Al
     writeln!(answer, "process {number}{name}")
 }
 
+/// Writes a table of a process, at its place.
+fn show_table(
+    session: &Session,
+    level: &str,
+    place: u32,
+    pid: Pid,
+    answer: &mut String,
+) -> Result<(), AllocError> {
+    write!(answer, "{level} table {place} of ")?;
+    show_owner(session, pid, answer)
+}
+
+/// Writes a page of a process.
+fn show_page(session: &Session, pid: Pid, vpn: Vpn, answer: &mut String) -> Result<(), AllocError> {
+    let address = u64::from(vpn.number()) * PAGE_BYTES;
+    let rights = RightsShown(session.machine().perm(pid, vpn));
+    write!(answer, "the page at {address:#x}, {rights}, of ")?;
+    show_owner(session, pid, answer)
+}
+
 /// Writes what a frame is used for.
 fn show_use(session: &Session, used: &FrameUse, answer: &mut String) -> Result<(), AllocError> {
     match *used {
-        FrameUse::Free => writeln!(answer, "free"),
-        FrameUse::Pipe => writeln!(answer, "a pipe: pipe tells of it"),
+        FrameUse::Free => answer.push_str("free\n"),
+        FrameUse::Pipe => answer.push_str("a pipe: pipe tells of it\n"),
         FrameUse::Trapframe(pid) => {
             answer.push_str("the trapframe of ")?;
             show_owner(session, pid, answer)
@@ -32,20 +52,9 @@ fn show_use(session: &Session, used: &FrameUse, answer: &mut String) -> Result<(
             answer.push_str("the root table of ")?;
             show_owner(session, pid, answer)
         }
-        FrameUse::Upper { pid, place } => {
-            write!(answer, "upper table {place} of ")?;
-            show_owner(session, pid, answer)
-        }
-        FrameUse::Lower { pid, place } => {
-            write!(answer, "lower table {place} of ")?;
-            show_owner(session, pid, answer)
-        }
-        FrameUse::Page { pid, vpn } => {
-            let address = u64::from(vpn.number()) * PAGE_BYTES;
-            let rights = RightsShown(session.machine().perm(pid, vpn));
-            write!(answer, "the page at {address:#x}, {rights}, of ")?;
-            show_owner(session, pid, answer)
-        }
+        FrameUse::Upper { pid, place } => show_table(session, "upper", place, pid, answer),
+        FrameUse::Lower { pid, place } => show_table(session, "lower", place, pid, answer),
+        FrameUse::Page { pid, vpn } => show_page(session, pid, vpn, answer),
     }
 }
 
@@ -71,22 +80,36 @@ fn show_share(
     )
 }
 
-/// Writes who owns how many frames.
-fn show_shares(alloc: Global, session: &Session, answer: &mut String) -> Result<(), AllocError> {
-    let machine = session.machine();
-    let uses = uses_of(alloc, machine)?;
+/// Writes how many frames there are, how many of them no process has, and the head of the lines of processes.
+fn show_head(machine: &Machine, uses: &[FrameUse], answer: &mut String) -> Result<(), AllocError> {
     let frames = Many(uses.len() as u64, "frame");
     let free = Grouped(u64::from(machine.free_frames()));
-    let pipes = Grouped(pipes_in(&uses) as u64);
+    let pipes = Grouped(pipes_in(uses) as u64);
     let bytes = Grouped(PAGE_BYTES);
     writeln!(
         answer,
         "{frames} of {bytes} bytes: {free} are free, and pipes have {pipes}"
     )?;
+    answer.push_str("  pid program          pages  tables  trapframe     all\n")
+}
+
+/// Writes from which process on there are more, if there are.
+fn show_more(machine: &Machine, next: u32, answer: &mut String) -> Result<(), AllocError> {
+    let Some(pid) = least_from(machine, next) else {
+        return Ok(());
+    };
+    let number = pid.number();
     writeln!(
         answer,
-        "  pid program          pages  tables  trapframe     all"
-    )?;
+        "there are more, from process {number} on: ps lists them"
+    )
+}
+
+/// Writes who owns how many frames.
+fn show_shares(alloc: Global, session: &Session, answer: &mut String) -> Result<(), AllocError> {
+    let machine = session.machine();
+    let uses = uses_of(alloc, machine)?;
+    show_head(machine, &uses, answer)?;
     let mut next: u32 = 1;
     for _ in 0..LINES_MOST {
         let Some(pid) = least_from(machine, next) else {
@@ -95,14 +118,7 @@ fn show_shares(alloc: Global, session: &Session, answer: &mut String) -> Result<
         show_share(session, &uses, pid, answer)?;
         next = pid.number().wrapping_add(1);
     }
-    if let Some(pid) = least_from(machine, next) {
-        let number = pid.number();
-        writeln!(
-            answer,
-            "there are more, from process {number} on: ps lists them"
-        )?;
-    }
-    Ok(())
+    show_more(machine, next, answer)
 }
 
 /// Writes who owns how many frames, or who owns this one.

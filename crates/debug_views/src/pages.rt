@@ -2,7 +2,7 @@
 //! System").
 ghost use Rattle.std.specs.Prelude.{◌<◌, length};
 
-use crate::focus::program_name;
+use crate::focus::{program_name, show_none};
 use crate::frame_uses::{frame_with, uses_of};
 use crate::page_runs::{Kind, PageRun, lower_of, runs_of, upper_of};
 use debug_words::texts::{Many, Named};
@@ -115,6 +115,14 @@ fn show_frames_of(
     writeln!(answer)
 }
 
+/// What the pages of a run allow; `None` where they aren't there.
+fn rights_of(run: &PageRun) -> Option<Perm> {
+    match run.kind {
+        Kind::There(perm) => Some(perm),
+        Kind::Absent | Kind::NoTable => None,
+    }
+}
+
 /// Writes what is known of the pages of a run, behind their first address.
 fn show_kind(
     machine: &Machine,
@@ -124,14 +132,12 @@ fn show_kind(
 ) -> Result<(), AllocError> {
     let address = u64::from(run.first) * PAGE_BYTES;
     let count = Many(u64::from(run.count), "page");
+    let rights = RightsShown(rights_of(run));
+    write!(answer, "{address:#012x}  {rights}  {count}, ")?;
     match run.kind {
-        Kind::There(perm) => {
-            let rights = RightsShown(Some(perm));
-            write!(answer, "{address:#012x}  {rights}  {count}, ")?;
-            show_frames_of(machine, pid, run, answer)
-        }
-        Kind::Absent => writeln!(answer, "{address:#012x}  ----  {count}, absent"),
-        Kind::NoTable => writeln!(answer, "{address:#012x}  ----  {count}, without a table"),
+        Kind::There(_) => show_frames_of(machine, pid, run, answer),
+        Kind::Absent => answer.push_str("absent\n"),
+        Kind::NoTable => answer.push_str("without a table\n"),
     }
 }
 
@@ -186,17 +192,32 @@ fn show_run(
     }
     let above = below(branches.last_upper);
     if run.kind == Kind::NoTable {
-        let before = branch(branches.last_lower);
-        write!(answer, "{above}{before}")?;
+        answer.push_str(above)?;
+        answer.push_str(branch(branches.last_lower))?;
         return show_kind(machine, pid, run, answer);
     }
     if branches.begins_lower {
         show_lower(uses, pid, run, branches, answer)?;
     }
-    let between = below(branches.last_lower);
-    let before = branch(branches.last);
-    write!(answer, "{above}{between}{before}")?;
+    answer.push_str(above)?;
+    answer.push_str(below(branches.last_lower))?;
+    answer.push_str(branch(branches.last))?;
     show_kind(machine, pid, run, answer)
+}
+
+/// Writes how large the memory of a process is, which has so many pages.
+fn show_size(
+    session: &Session,
+    pid: Pid,
+    size: u64,
+    pages: u32,
+    answer: &mut String,
+) -> Result<(), AllocError> {
+    let owner = pid.number();
+    let name = Named(program_name(session, pid));
+    let bytes = Many(size, "byte");
+    let pages = Many(u64::from(pages), "page");
+    writeln!(answer, "memory of process {owner}{name}: {bytes}, {pages}")
 }
 
 /// Writes the tables and pages of a process, from an address on.
@@ -212,16 +233,12 @@ pub fn show_pages(
     answer: &mut String,
 ) -> Result<(), AllocError> {
     let machine = session.machine();
-    let owner = pid.number();
     let Some(size) = machine.size(pid) else {
-        return writeln!(answer, "no live process has the pid {owner}; ps lists them");
+        return show_none(pid, answer);
     };
-    let name = Named(program_name(session, pid));
-    let bytes = Many(size, "byte");
     let end = size.div_ceil(PAGE_BYTES).min(u64::from(VPN_END)) as u32;
     let begin = (from / PAGE_BYTES).min(u64::from(end)) as u32;
-    let pages = Many(u64::from(end), "page");
-    writeln!(answer, "memory of process {owner}{name}: {bytes}, {pages}")?;
+    show_size(session, pid, size, end, answer)?;
     let uses = uses_of(alloc, machine)?;
     answer.push_str("root table: ")?;
     show_table(&uses, &FrameUse::Root(pid), answer)?;

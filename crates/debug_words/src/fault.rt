@@ -38,26 +38,54 @@ pub struct WordError<'a> {
     pub topic: Option<Topic>,
 }
 
+impl<'a> WordErrorKind<'a> {
+    /// What is told of a text, before it and behind it.
+    fn around(self) -> (&'static str, &'static str) {
+        match self {
+            WordErrorKind::Unknown(_) => ("there is no word ", ""),
+            WordErrorKind::NotANumber(_) => ("", " is no number"),
+            WordErrorKind::TooMuch(_) => ("", " is too much"),
+            _ => ("", " stands for no key: \\n \\b \\t \\s \\\\ \\xHH do"),
+        }
+    }
+}
+
+/// Writes that a number isn't in its range.
+fn write_out_of_range<W: fmt::Write>(
+    text: &str,
+    least: u64,
+    most: u64,
+    f: &mut fmt::Formatter<W>,
+) -> fmt::Result {
+    write!(f, "{text} isn't in the range {least} to {most}")
+}
+
+/// Writes a text between quotes, and what is told of it.
+fn write_around<W: fmt::Write>(
+    text: &str,
+    around: (&str, &str),
+    f: &mut fmt::Formatter<W>,
+) -> fmt::Result {
+    let (before, behind) = around;
+    write!(f, "{before}\"{text}\"{behind}")
+}
+
 impl<'a> fmt::Display for WordErrorKind<'a> {
     fn fmt<W: fmt::Write>(&self, f: &mut fmt::Formatter<W>) -> fmt::Result {
-        match *self {
-            WordErrorKind::Unknown(text) => write!(f, "there is no word \"{text}\""),
-            WordErrorKind::NotANumber(text) => write!(f, "\"{text}\" is no number"),
+        let kind = *self;
+        match kind {
+            WordErrorKind::Unknown(text)
+            | WordErrorKind::NotANumber(text)
+            | WordErrorKind::TooMuch(text)
+            | WordErrorKind::BadEscape(text) => write_around(text, kind.around(), f),
             WordErrorKind::OutOfRange { text, least, most } => {
-                write!(f, "{text} isn't in the range {least} to {most}")
+                write_out_of_range(text, least, most, f)
             }
             WordErrorKind::Missing(what) => write!(f, "{what} is missing"),
-            WordErrorKind::TooMuch(text) => write!(f, "\"{text}\" is too much"),
             WordErrorKind::NotThis { text, wanted } => {
                 write!(f, "\"{text}\" stands where {wanted} is wanted")
             }
-            WordErrorKind::BadEscape(text) => {
-                write!(
-                    f,
-                    "\"{text}\" stands for no key: \\n \\b \\t \\s \\\\ \\xHH do"
-                )
-            }
-            WordErrorKind::TooManyKeys => write!(f, "more than 128 keys"),
+            WordErrorKind::TooManyKeys => f.write_str("more than 128 keys"),
         }
     }
 }
@@ -66,13 +94,17 @@ impl<'a> fmt::Display for WordErrorKind<'a> {
 impl<'a> fmt::Display for WordError<'a> {
     fn fmt<W: fmt::Write>(&self, f: &mut fmt::Formatter<W>) -> fmt::Result {
         let kind = self.kind;
+        write!(f, "{kind}")?;
         match self.topic {
-            None => write!(f, "{kind}: help lists the words"),
-            Some(topic) => {
-                let usage = topic.usage();
-                let name = topic.name();
-                write!(f, "{kind}\nit is: {usage}; help {name} tells more")
-            }
+            None => f.write_str(": help lists the words"),
+            Some(topic) => write_usage(topic, f),
         }
     }
+}
+
+/// Writes how a word is written.
+fn write_usage<W: fmt::Write>(topic: Topic, f: &mut fmt::Formatter<W>) -> fmt::Result {
+    let usage = topic.usage();
+    let name = topic.name();
+    write!(f, "\nit is: {usage}; help {name} tells more")
 }

@@ -144,12 +144,12 @@ fn goal<'a>(tokens: &Tokens<'a>) -> Result<Goal, WordErrorKind<'a>> {
     let Some(text) = tokens.get(1) else {
         return Err(WordErrorKind::Missing("call, pc, store, fault or exit"));
     };
-    match text.as_bytes() {
-        b"call" => goal_call(tokens),
-        b"pc" => goal_pc(tokens),
-        b"store" => goal_store(tokens),
-        b"fault" => goal_alone(tokens, Goal::Fault),
-        b"exit" => goal_alone(tokens, Goal::Exit),
+    match text {
+        "call" => goal_call(tokens),
+        "pc" => goal_pc(tokens),
+        "store" => goal_store(tokens),
+        "fault" => goal_alone(tokens, Goal::Fault),
+        "exit" => goal_alone(tokens, Goal::Exit),
         _ => Err(WordErrorKind::NotThis {
             text,
             wanted: "call, pc, store, fault or exit",

@@ -55,146 +55,106 @@ pub(crate) const TOPICS: [Topic; 23] = [
     Topic::Quit,
 ];
 
+/// What stands before a character of a text, and what stands behind it: all and nothing, where it isn't there.
+fn parted(text: &'static str, by: char) -> (&'static str, &'static str) {
+    match text.split_once(by) {
+        Some(parts) => parts,
+        None => (text, ""),
+    }
+}
+
 impl Topic {
     /// The topic of this name, long or short.
     pub fn named(name: &str) -> Option<Topic> {
-        let topic = match name.as_bytes() {
-            b"step" | b"s" => Topic::Step,
-            b"next" | b"n" => Topic::Next,
-            b"back" | b"b" => Topic::Back,
-            b"until" | b"u" => Topic::Until,
-            b"run" | b"r" => Topic::Run,
-            b"tick" => Topic::Tick,
-            b"key" | b"k" => Topic::Key,
-            b"send" => Topic::Send,
-            b"where" | b"w" => Topic::Where,
-            b"regs" => Topic::Registers,
-            b"mem" | b"m" => Topic::Memory,
-            b"pages" => Topic::Pages,
-            b"frames" => Topic::Frames,
-            b"ps" => Topic::Processes,
-            b"fds" => Topic::Descriptors,
-            b"pipe" => Topic::Pipe,
-            b"console" => Topic::Console,
-            b"at" => Topic::At,
-            b"events" => Topic::Events,
-            b"trace" => Topic::Trace,
-            b"help" | b"h" => Topic::Help,
-            b"c" | b"continue" => Topic::Continue,
-            b"quit" | b"q" => Topic::Quit,
-            _ => return None,
-        };
-        Some(topic)
+        for topic in TOPICS {
+            if topic.is_named(name) {
+                return Some(topic);
+            }
+        }
+        None
+    }
+
+    /// Whether this is one of its names.
+    fn is_named(self, name: &str) -> bool {
+        if self.name() == name {
+            return true;
+        }
+        match self.other_name() {
+            Some(other) => other == name,
+            None => false,
+        }
     }
 
     /// Its name.
     pub(crate) fn name(self) -> &'static str {
-        match self {
-            Topic::Step => "step",
-            Topic::Next => "next",
-            Topic::Back => "back",
-            Topic::Until => "until",
-            Topic::Run => "run",
-            Topic::Tick => "tick",
-            Topic::Key => "key",
-            Topic::Send => "send",
-            Topic::Where => "where",
-            Topic::Registers => "regs",
-            Topic::Memory => "mem",
-            Topic::Pages => "pages",
-            Topic::Frames => "frames",
-            Topic::Processes => "ps",
-            Topic::Descriptors => "fds",
-            Topic::Pipe => "pipe",
-            Topic::Console => "console",
-            Topic::At => "at",
-            Topic::Events => "events",
-            Topic::Trace => "trace",
-            Topic::Help => "help",
-            Topic::Continue => "c",
-            Topic::Quit => "quit",
-        }
+        parted(self.usage(), ' ').0
+    }
+
+    /// Its other name, if it has one.
+    fn other_name(self) -> Option<&'static str> {
+        let name = match self {
+            Topic::Step => "s",
+            Topic::Next => "n",
+            Topic::Back => "b",
+            Topic::Until => "u",
+            Topic::Run => "r",
+            Topic::Key => "k",
+            Topic::Where => "w",
+            Topic::Memory => "m",
+            Topic::Help => "h",
+            Topic::Continue => "continue",
+            Topic::Quit => "q",
+            _ => return None,
+        };
+        Some(name)
     }
 
     /// How it is written.
     pub(crate) fn usage(self) -> &'static str {
-        match self {
-            Topic::Step => "step [N]",
-            Topic::Next => "next",
-            Topic::Back => "back [N]",
-            Topic::Until => "until GOAL",
-            Topic::Run => "run [N]",
-            Topic::Tick => "tick [N]",
-            Topic::Key => "key TEXT",
-            Topic::Send => "send [N]",
-            Topic::Where => "where [of P]",
-            Topic::Registers => "regs [of P]",
-            Topic::Memory => "mem [ADDRESS [N]] [of P]",
-            Topic::Pages => "pages [ADDRESS] [of P]",
-            Topic::Frames => "frames [N]",
-            Topic::Processes => "ps [P]",
-            Topic::Descriptors => "fds [of P]",
-            Topic::Pipe => "pipe",
-            Topic::Console => "console",
-            Topic::At => "at",
-            Topic::Events => "events [PLACE]",
-            Topic::Trace => "trace [N]",
-            Topic::Help => "help [WORD]",
-            Topic::Continue => "c",
-            Topic::Quit => "quit",
-        }
+        parted(self.page(), '\n').0
     }
 
     /// What it does, in 52 characters at most.
     pub(crate) fn brief(self) -> &'static str {
-        match self {
-            Topic::Step => "send N Runs: N steps of whoever runs",
-            Topic::Next => "an instruction, over the call that it makes",
-            Topic::Back => "go back by N events",
-            Topic::Until => "send Runs up to a goal: help until lists them",
-            Topic::Run => "play N rounds of 1,000 Runs, a Tick, 32 Sends",
-            Topic::Tick => "send N Ticks: the clock counts N more",
-            Topic::Key => "type the bytes of TEXT; \\n is Enter",
-            Topic::Send => "send N Sends: the terminal takes N bytes",
-            Topic::Where => "who runs, and the instructions from its pc on",
-            Topic::Registers => "the registers",
-            Topic::Memory => "N bytes of memory from ADDRESS on",
-            Topic::Pages => "the tables and pages, as a tree",
-            Topic::Frames => "who owns how many frames of RAM; or frame N",
-            Topic::Processes => "the processes, from pid P on",
-            Topic::Descriptors => "the descriptors, and what they are on",
-            Topic::Pipe => "the pipes: their bytes, and who holds their ends",
-            Topic::Console => "the bytes that the console holds",
-            Topic::At => "how many events there were, the clock, who runs",
-            Topic::Events => "the events from PLACE on, equal ones in one line",
-            Topic::Trace => "the last N notes of the machine's trace",
-            Topic::Help => "all words; or what one of them does",
-            Topic::Continue => "leave the debugger, and let the machine go on",
-            Topic::Quit => "end the debugger and the machine",
-        }
+        let (_usage, told) = parted(self.page(), '\n');
+        parted(told, '\n').0
     }
 
     /// What it does, its shorter name, and what else there is to know; lines.
     pub(crate) fn text(self) -> &'static str {
+        let (_usage, told) = parted(self.page(), '\n');
+        parted(told, '\n').1
+    }
+
+    /// All that help tells of it: how it is written, what it does in a few words, and behind these two lines the text.
+    fn page(self) -> &'static str {
         match self {
             Topic::Step => "\
+step [N]
+send N Runs: N steps of whoever runs
 send N events Run: N steps, 1 if N is left out.
 Also: s.
 A Run is an instruction or a step of a call of the process that runs; where nobody runs,
 the next process has its turn. It stops early where all processes sleep.
 N is 1 to 100000000.",
             Topic::Next => "\
+next
+an instruction, over the call that it makes
 one instruction, over the whole function or kernel call that it calls.
 Also: n.
 A jump that keeps its return address in ra is a call of a function: it is over where the
 process is back behind the jump, with the stack pointer not below. An ecall is over where the kernel
 has answered. Other processes may run meanwhile. At most 100000000 events are sent.",
             Topic::Back => "\
+back [N]
+go back by N events
 go back by N events, of whatever kind; 1 if N is left out.
 Also: b.
 The session is then as it was, exactly. The events behind that place are forgotten.
 If there were fewer events, it goes back to the boot.",
             Topic::Until => "\
+until GOAL
+send Runs up to a goal: help until lists them
 send Runs up to the first that is the goal.
 Also: u.
 until call CALL         a step of this kernel call, by its name or number: until call write
@@ -204,78 +164,116 @@ until fault             a process is gone by a fault
 until exit              a process is gone, by a call, a kill or a fault
 One Run is sent at least, 100000000 at most. It stops early where all processes sleep.",
             Topic::Run => "\
+run [N]
+play N rounds of 1,000 Runs, a Tick, 32 Sends
 play N rounds of 1,000 Runs, a Tick and 32 Sends; 1 if N is left out.
 Also: r.
 These are the rounds of xv_run, without its keys. What the console shows is told.
 It stops early where a process faults, and where the machine halts. N is 1 to 90000.",
             Topic::Tick => "\
+tick [N]
+send N Ticks: the clock counts N more
 send N events Tick: the clock counts N more; 1 if N is left out.
 A tick ends the turn of the process that runs, and wakes those whose time has come.
 N is 1 to 1000000.",
             Topic::Key => "\
+key TEXT
+type the bytes of TEXT; \\n is Enter
 type the bytes of TEXT, each by an event Key.
 Also: k.
 TEXT is the rest of the line. \\n is Enter, \\b Backspace, \\t Tab, \\s a blank, \\\\ a backslash,
 \\xHH the byte of these two hexadecimal digits: \\x04 is Ctrl-D. It has 1 to 128 bytes.",
             Topic::Send => "\
+send [N]
+send N Sends: the terminal takes N bytes
 send N events Send: the terminal takes N bytes; 1 if N is left out.
 Bytes that programs write to the console wait for it: 32 at most, then the writers sleep.
 N is 1 to 1000000.",
             Topic::Where => "\
+where [of P]
+who runs, and the instructions from its pc on
 who runs, and the instructions from its pc on.
 Also: w.
 => marks the instruction that is next. An instruction is told with its function and its line, if
 they are known: of a C program by NAME.debug beside its file, of an assembler source by its labels
 and lines. Of any other file its function is told, if it has a symbol table.",
             Topic::Registers => "\
+regs [of P]
+the registers
 the registers, in hexadecimal.
 The pc, and x1 to x31 by their names in programs.",
             Topic::Memory => "\
+mem [ADDRESS [N]] [of P]
+N bytes of memory from ADDRESS on
 N bytes of a process's memory from ADDRESS on.
 Also: m.
 -- is a byte that isn't there. N is 1 to 256, and 64 if it is left out. Without ADDRESS
 it goes on behind the bytes that were shown last.",
             Topic::Pages => "\
+pages [ADDRESS] [of P]
+the tables and pages, as a tree
 the tables and pages of a process's memory from ADDRESS on, as a tree.
 Sv39 has three levels: a root table, upper tables for 1 GiB each, lower tables for
 2 MiB each, and in them pages of 4 KiB. r, w, x: the page may be read, written, executed;
 u: by the program itself. Pages one behind another that are alike take a line.",
             Topic::Frames => "\
+frames [N]
+who owns how many frames of RAM; or frame N
 who owns how many frames of RAM; or who owns frame N.
 A frame has 4,096 bytes. N is 0 to 32767.",
             Topic::Processes => "\
+ps [P]
+the processes, from pid P on
 the processes, from pid P on: parents, states, what they wait for.
 At most 20 are shown at once.",
             Topic::Descriptors => "\
+fds [of P]
+the descriptors, and what they are on
 a process's descriptors, and what they are on.
 Descriptors that share an open file share its offset.",
             Topic::Pipe => "\
+pipe
+the pipes: their bytes, and who holds their ends
 the pipes: their bytes, and who holds their ends.
 A pipe has room for 2,048 bytes, and lies in a frame.",
             Topic::Console => "\
+console
+the bytes that the console holds
 the console's lists: typed, committed, to be sent.
 Bytes of the line that is typed can still be taken back; a read takes committed ones.",
             Topic::At => "\
+at
+how many events there were, the clock, who runs
 how many events there were, the clock, and who runs.
 back N goes back by N of these events.",
             Topic::Events => "\
+events [PLACE]
+the events from PLACE on, equal ones in one line
 the events from PLACE on, equal ones in one line.
 PLACE counts from 0: the first event since the boot. Without it the last 1,033 are shown,
 as many as a round has. At most 20 lines are shown at once.",
             Topic::Trace => "\
+trace [N]
+the last N notes of the machine's trace
 the last N notes of the machine's trace; 20 if N is left out.
 The machine keeps as many notes as --trace says; none without it. N is 1 to 100.",
             Topic::Help => "\
+help [WORD]
+all words; or what one of them does
 all words; or what one of them does.
 Also: h.
 Numbers are decimal, or hexadecimal with 0x before them. of P names a process by its
 pid; without it, the words look at the process that runs, or, where nobody runs, at the
 one that made the last step.",
             Topic::Continue => "\
+c
+leave the debugger, and let the machine go on
 leave the debugger, and let the machine go on.
 Also: continue.
 The machine goes on at the prompt that Ctrl-C opened. A debugger that was started alone ends.",
             Topic::Quit => "\
+quit
+end the debugger and the machine
 end the debugger and the machine.
 Also: q.
 The end of the input ends it too.",

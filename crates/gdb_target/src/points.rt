@@ -6,7 +6,7 @@ use gdb_packets::Point;
 use std::alloc::{AllocError, Global};
 
 /// Bytes that are watched: so many from an address on.
-#[derive(Clone, Copy, Debug, PartialEq, Eq)]
+#[derive(Clone, Copy, PartialEq, Eq)]
 pub struct Watched {
     pub address: u64,
     pub length: u64,

@@ -22,7 +22,7 @@ const WINDOW_GROWTH: u64 = 16;
 const WINDOWS: u32 = 16;
 
 /// What is looked for, back in the run.
-#[derive(Clone, Copy, Debug, PartialEq, Eq)]
+#[derive(Clone, Copy)]
 pub enum Back {
     /// The last place before here at which the process was about to do an instruction.
     StepOf(Pid),

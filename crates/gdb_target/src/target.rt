@@ -17,7 +17,7 @@ use xv_session::SessionError;
 const SHOWN_MOST: usize = 512;
 
 /// A stop of a process, and why it stopped.
-#[derive(Clone, Copy, Debug, PartialEq, Eq)]
+#[derive(Clone, Copy)]
 pub struct Stopped {
     pub reason: StopReason,
     pub pid: Pid,
@@ -61,7 +61,7 @@ pub struct Target {
 }
 
 /// What ends a command that goes on, beside a point, a fault and the end.
-#[derive(Clone, Copy, Debug, PartialEq, Eq)]
+#[derive(Clone, Copy, PartialEq, Eq)]
 pub enum Until {
     /// Nothing.
     Point,
@@ -72,7 +72,7 @@ pub enum Until {
 }
 
 /// A command that goes on.
-#[derive(Clone, Copy, Debug, PartialEq, Eq)]
+#[derive(Clone, Copy)]
 pub struct Going {
     pub until: Until,
     /// The place of the run behind which it sends no event.
@@ -82,7 +82,7 @@ pub struct Going {
 }
 
 /// Why it pauses.
-#[derive(Clone, Copy, Debug, PartialEq, Eq)]
+#[derive(Clone, Copy)]
 pub enum Pause {
     /// The console shows bytes; then it goes on.
     Shows,

@@ -2,7 +2,7 @@
 use crate::calls::CallShown;
 use debug_words::texts::Quoted;
 use std::fmt;
-use xk_base::Cause;
+use xk_base::{Cause, Pid};
 use xv_machine::Outcome;
 
 /// Why an instruction can't be done.
@@ -23,38 +23,52 @@ fn cause_text(cause: Cause) -> &'static str {
 #[derive(Clone, Copy)]
 pub(crate) struct Happened<'a>(pub &'a Outcome);
 
-/// What came of an event of a process.
+/// The process whose event it is; `None` for an event of the devices, and where nobody runs.
+fn process_of(outcome: &Outcome) -> Option<Pid> {
+    match outcome {
+        Outcome::Stepped { pid }
+        | Outcome::Called { pid, .. }
+        | Outcome::Blocked { pid, .. }
+        | Outcome::Exited { pid, .. }
+        | Outcome::Faulted { pid, .. }
+        | Outcome::Turn { pid } => Some(*pid),
+        _ => None,
+    }
+}
+
+/// What a call answers, behind its process.
+fn show_answer<W: fmt::Write>(number: i32, value: i64, f: &mut fmt::Formatter<W>) -> fmt::Result {
+    let call = CallShown(number);
+    write!(f, ": {call} answers {value}")
+}
+
+/// What came of an event of a process, behind its pid.
 fn show_step<W: fmt::Write>(outcome: &Outcome, f: &mut fmt::Formatter<W>) -> fmt::Result {
     match outcome {
-        Outcome::Stepped { pid } => {
-            let pid = pid.number();
-            write!(f, "process {pid} did an instruction")
-        }
-        Outcome::Called { pid, number, value } => {
-            let pid = pid.number();
+        Outcome::Stepped { .. } => f.write_str(" did an instruction"),
+        Outcome::Called { number, value, .. } => show_answer(*number, *value, f),
+        Outcome::Blocked { number, .. } => {
             let call = CallShown(*number);
-            write!(f, "process {pid}: {call} answers {value}")
+            write!(f, " sleeps in {call}")
         }
-        Outcome::Blocked { pid, number } => {
-            let pid = pid.number();
-            let call = CallShown(*number);
-            write!(f, "process {pid} sleeps in {call}")
-        }
-        Outcome::Exited { pid, status } => {
-            let pid = pid.number();
-            write!(f, "process {pid} is gone, with status {status}")
-        }
-        Outcome::Faulted { pid, cause } => {
-            let pid = pid.number();
+        Outcome::Exited { status, .. } => write!(f, " is gone, with status {status}"),
+        Outcome::Faulted { cause, .. } => {
             let text = cause_text(*cause);
-            write!(f, "process {pid} is gone by a fault: {text}")
+            write!(f, " is gone by a fault: {text}")
         }
-        Outcome::Turn { pid } => {
-            let pid = pid.number();
-            write!(f, "process {pid} has its turn")
-        }
+        Outcome::Turn { .. } => f.write_str(" has its turn"),
         _ => Ok(()),
     }
+}
+
+/// What came of an event of a process.
+fn show_process<W: fmt::Write>(outcome: &Outcome, f: &mut fmt::Formatter<W>) -> fmt::Result {
+    let Some(pid) = process_of(outcome) else {
+        return Ok(());
+    };
+    let pid = pid.number();
+    write!(f, "process {pid}")?;
+    show_step(outcome, f)
 }
 
 impl<'a> fmt::Display for Happened<'a> {
@@ -73,7 +87,7 @@ impl<'a> fmt::Display for Happened<'a> {
                 write!(f, "the byte {shown} is sent")
             }
             Outcome::Halted => f.write_str("the machine has halted"),
-            other => show_step(other, f),
+            other => show_process(other, f),
         }
     }
 }

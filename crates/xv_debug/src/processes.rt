@@ -156,11 +156,7 @@ pub(crate) fn show_processes(
 ) -> Result<(), AllocError> {
     let machine = session.machine();
     let mut next = from;
-    writeln!(
-        answer,
-        "{:>5} {:>6} {:>9}  {:<14} {}",
-        "pid", "parent", "size/KiB", "program", "what it does"
-    )?;
+    answer.push_str("  pid parent  size/KiB  program        what it does\n")?;
     for _ in 0..LINES_MOST {
         let Some(pid) = least_from(machine, next) else {
             return Ok(());
@@ -168,9 +164,14 @@ pub(crate) fn show_processes(
         show_line(session, pid, answer)?;
         next = pid.number().wrapping_add(1);
     }
-    if let Some(pid) = least_from(machine, next) {
-        let number = pid.number();
-        writeln!(answer, "there are more: ps {number} goes on")?;
-    }
-    Ok(())
+    show_more(machine, next, answer)
+}
+
+/// Writes where the processes go on from this pid, if there are more.
+fn show_more(machine: &Machine, next: u32, answer: &mut String) -> Result<(), AllocError> {
+    let Some(pid) = least_from(machine, next) else {
+        return Ok(());
+    };
+    let number = pid.number();
+    writeln!(answer, "there are more: ps {number} goes on")
 }

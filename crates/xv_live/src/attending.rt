@@ -26,7 +26,7 @@ const CALLS_IN_STRETCH: u32 = 1_000;
 const KEYS_IN_TURN: usize = 64;
 
 /// What is asked for beside the machine.
-#[derive(Clone, Copy, Debug, PartialEq, Eq)]
+#[derive(Clone, Copy, PartialEq, Eq)]
 enum Asked {
     Nothing,
     Debugger,

@@ -6,7 +6,7 @@ ghost use Rattle.xv_live.specs.Keys.{bytes_in};
 use crate::trouble::Trouble;
 
 /// What a look at the keyboard comes to.
-#[derive(Clone, Copy, Debug, PartialEq, Eq)]
+#[derive(Clone, Copy)]
 pub enum Look {
     /// This byte was typed.
     Came(u8),

@@ -1,7 +1,7 @@
 //! Why a machine isn't attended to any more.
 
 /// Why a machine isn't attended to any more.
-#[derive(Clone, Copy, Debug, PartialEq, Eq)]
+#[derive(Clone, Copy)]
 pub enum Pause {
     /// Process 1 went with this status.
     Halted(i32),

@@ -8,7 +8,7 @@ use xv_machine::ByteSink;
 use xv_session::Session;
 
 /// A process that ended by a fault.
-#[derive(Clone, Copy, Debug, PartialEq, Eq)]
+#[derive(Clone, Copy)]
 pub struct FaultNote {
     pub pid: Pid,
     pub cause: Cause,

@@ -48,15 +48,20 @@ pub struct Who<'a> {
     pub program: Option<&'a str>,
 }
 
+// A program's name behind a pid.
+fn write_program<W: fmt::Write>(program: &str, f: &mut fmt::Formatter<W>) -> fmt::Result {
+    let program = Text(program);
+    write!(f, " ({program})")
+}
+
 impl<'a> Display for Who<'a> {
     fn fmt<W: fmt::Write>(&self, f: &mut fmt::Formatter<W>) -> fmt::Result {
         let pid = self.pid;
         write!(f, "process {pid}")?;
-        let Some(program) = self.program else {
-            return Ok(());
-        };
-        let program = Text(program);
-        write!(f, " ({program})")
+        match self.program {
+            Some(program) => write_program(program, f),
+            None => Ok(()),
+        }
     }
 }
 
@@ -64,10 +69,13 @@ impl<'a> Display for Who<'a> {
 #[derive(Clone, Copy)]
 pub struct RowName<'a>(pub Who<'a>);
 
-// The first letters of a program's name.
+// The first letters of a program's name, and an ellipsis for those that are left out.
 fn write_start<W: fmt::Write>(program: &str, f: &mut fmt::Formatter<W>) -> fmt::Result {
     for letter in program.chars().take(MOST_LETTERS) {
         write_letter(letter, f)?;
+    }
+    if program.chars().count() > MOST_LETTERS {
+        f.write_char('\u{2026}')?;
     }
     Ok(())
 }
@@ -80,11 +88,7 @@ impl<'a> Display for RowName<'a> {
         };
         let pid = who.pid;
         write!(f, "{pid} ")?;
-        write_start(program, f)?;
-        if program.chars().count() > MOST_LETTERS {
-            f.write_char('\u{2026}')?;
-        }
-        Ok(())
+        write_start(program, f)
     }
 }
 

@@ -7,7 +7,7 @@ use crate::remark::{Remark, Remarks};
 use std::alloc::{AllocError, Global};
 
 /// What a line tells.
-#[derive(Debug, PartialEq, Eq, Drop)]
+#[derive(Drop)]
 pub enum Line {
     /// An event.
     Event(Note),

@@ -1,6 +1,6 @@
 //! The lines of a trace, as far as a picture shows them.
 /// What a line of a trace tells. A process is named by its pid.
-#[derive(Clone, Copy, Debug, PartialEq, Eq)]
+#[derive(Clone, Copy)]
 pub enum Note {
     /// The process has its turn from now on.
     Turn(u32),
@@ -34,18 +34,23 @@ fn note_of_two(kind: &str, word: &str) -> Option<Note> {
     }
 }
 
-// The note of a line of three words.
-fn note_of_three(kind: &str, first: &str, second: &str) -> Option<Note> {
+// The note of a line of three words about a process.
+fn note_of_process(kind: &str, pid: u32, word: &str) -> Option<Note> {
     match kind {
-        "block" => Some(Note::Block(first.parse().ok()?, second.parse().ok()?)),
-        "exit" => Some(Note::Exit(first.parse().ok()?, second.parse().ok()?)),
-        "fault" => Some(Note::Fault(first.parse().ok()?, second.parse().ok()?)),
-        "key" => {
-            let _echo: u32 = second.parse().ok()?;
-            Some(Note::Key(first.parse().ok()?))
-        }
+        "block" => Some(Note::Block(pid, word.parse().ok()?)),
+        "exit" => Some(Note::Exit(pid, word.parse().ok()?)),
+        "fault" => Some(Note::Fault(pid, word.parse().ok()?)),
         _ => None,
     }
+}
+
+// The note of a line of three words.
+fn note_of_three(kind: &str, first: &str, second: &str) -> Option<Note> {
+    if kind == "key" {
+        let _echo: u32 = second.parse().ok()?;
+        return Some(Note::Key(first.parse().ok()?));
+    }
+    note_of_process(kind, first.parse().ok()?, second)
 }
 
 // The note of a line of four words.

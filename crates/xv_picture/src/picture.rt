@@ -22,6 +22,16 @@ const BAR: u64 = 12;
 /// How much room a letter of the console takes, in hundredths of a pixel.
 const LETTER: u64 = 700;
 
+/// The colours, by the words that the picture's parts have as their classes.
+const STYLE: &str = "\
+<style>
+.running { fill: #2563c9 } .ready { fill: #c4d7f5 }
+.asleep { fill: #f3c969 } .ended { fill: #b9b9b9 }
+.tick { stroke: #e4e4e4 } .birth { stroke: #2e8b57; stroke-width: 1.5 }
+.call { fill: #10294f } .gone { fill: #c0392b }
+</style>
+";
+
 /// With more ticks than these they aren't drawn.
 const MOST_TICKS: usize = 300;
 
@@ -103,63 +113,58 @@ fn draw_head<W: Write>(width: u64, height: u64, output: &mut W) -> io::Result<()
         output,
         "<svg xmlns=\"http://www.w3.org/2000/svg\" width=\"{width}\" height=\"{height}\" font-family=\"sans-serif\" font-size=\"11\">"
     )?;
-    writeln!(output, "<style>")?;
-    writeln!(
-        output,
-        ".running {{ fill: #2563c9 }} .ready {{ fill: #c4d7f5 }}"
-    )?;
-    writeln!(
-        output,
-        ".asleep {{ fill: #f3c969 }} .ended {{ fill: #b9b9b9 }}"
-    )?;
-    writeln!(
-        output,
-        ".tick {{ stroke: #e4e4e4 }} .birth {{ stroke: #2e8b57; stroke-width: 1.5 }}"
-    )?;
-    writeln!(
-        output,
-        ".call {{ fill: #10294f }} .gone {{ fill: #c0392b }}"
-    )?;
-    writeln!(output, "</style>")?;
+    output.write_all(STYLE.as_bytes())?;
     writeln!(
         output,
         "<rect width=\"{width}\" height=\"{height}\" fill=\"white\"/>"
+    )
+}
+
+// What a colour means, from this place on.
+fn draw_meaning<W: Write>(class: &str, left: u64, output: &mut W) -> io::Result<()> {
+    let text = left.saturating_add(16);
+    writeln!(
+        output,
+        "<rect class=\"{class}\" x=\"{left}\" y=\"10\" width=\"12\" height=\"12\"/>"
     )?;
-    Ok(())
+    writeln!(output, "<text x=\"{text}\" y=\"20\">{class}</text>")
 }
 
 // What the colours mean.
 fn draw_legend<W: Write>(axis: Axis, output: &mut W) -> io::Result<()> {
     let mut left = axis.left;
     for class in ["running", "ready", "asleep", "ended", "call", "gone"] {
-        let text = left.saturating_add(16);
-        writeln!(
-            output,
-            "<rect class=\"{class}\" x=\"{left}\" y=\"10\" width=\"12\" height=\"12\"/>"
-        )?;
-        writeln!(output, "<text x=\"{text}\" y=\"20\">{class}</text>")?;
+        draw_meaning(class, left, output)?;
         left = left.saturating_add(90);
     }
     Ok(())
 }
 
-// The ticks of the clock, as lines from the first row to the last.
-fn draw_ticks<W: Write>(chart: &Chart, axis: Axis, bottom: u64, output: &mut W) -> io::Result<()> {
-    let ticks = chart
+// How often the clock ticked.
+fn ticks(chart: &Chart) -> usize {
+    chart
         .notes
         .iter()
-        .filter(|&&note| note == Note::Tick)
-        .count();
-    if ticks > MOST_TICKS {
+        .filter(|note| matches!(note, Note::Tick))
+        .count()
+}
+
+// A tick of the clock, as a line from the first row to the last.
+fn draw_tick<W: Write>(x: Length, bottom: u64, output: &mut W) -> io::Result<()> {
+    writeln!(
+        output,
+        "<line class=\"tick\" x1=\"{x}\" y1=\"{TOP}\" x2=\"{x}\" y2=\"{bottom}\"/>"
+    )
+}
+
+// The ticks of the clock.
+fn draw_ticks<W: Write>(chart: &Chart, axis: Axis, bottom: u64, output: &mut W) -> io::Result<()> {
+    if ticks(chart) > MOST_TICKS {
         return Ok(());
     }
-    for (event, &note) in chart.notes.iter().enumerate() {
-        if note == Note::Tick {
-            let x = axis.across(event);
-            writeln!(
-                output,
-                "<line class=\"tick\" x1=\"{x}\" y1=\"{TOP}\" x2=\"{x}\" y2=\"{bottom}\"/>"
-            )?;
+    for (event, note) in chart.notes.iter().enumerate() {
+        if matches!(note, Note::Tick) {
+            draw_tick(axis.across(event), bottom, output)?;
         }
     }
     Ok(())
@@ -171,6 +176,39 @@ struct Picture<'a> {
     chart: &'a Chart,
     remarks: &'a Remarks,
     axis: Axis,
+}
+
+// The beginning of a part of the bar of the row at this place, from the event `first` on, up to its text.
+fn open_stretch<W: Write>(
+    axis: Axis,
+    place: usize,
+    first: usize,
+    behind: usize,
+    word: &str,
+    output: &mut W,
+) -> io::Result<()> {
+    let left = axis.across(first);
+    let width = Length(axis.across(behind).0.saturating_sub(left.0));
+    let top = row_top(place);
+    write!(
+        output,
+        "<rect class=\"{word}\" x=\"{left}\" y=\"{top}\" width=\"{width}\" height=\"{BAR}\"><title>"
+    )
+}
+
+// What a process waits for that sleeps from the event `first` on, where it is told.
+fn write_wait<W: Write>(
+    remarks: &Remarks,
+    pid: u32,
+    first: usize,
+    behind: usize,
+    output: &mut W,
+) -> io::Result<()> {
+    let Some(wait) = wait_in(remarks, pid, first, behind) else {
+        return Ok(());
+    };
+    let wait = Text(wait);
+    write!(output, " in {wait}")
 }
 
 // A part of the bar of the row at this place, from the event `first` on; its text shows under the pointer.
@@ -187,21 +225,13 @@ fn draw_stretch<W: Write>(
         return Ok(());
     }
     let word = word(stretch.state);
-    let left = picture.axis.across(first);
-    let width = Length(picture.axis.across(behind).0.saturating_sub(left.0));
-    let top = row_top(place);
-    let last = behind - 1;
+    open_stretch(picture.axis, place, first, behind, word, output)?;
     let who = who_at(picture.remarks, pid, behind);
-    write!(
-        output,
-        "<rect class=\"{word}\" x=\"{left}\" y=\"{top}\" width=\"{width}\" height=\"{BAR}\"><title>{who}: {word}"
-    )?;
+    write!(output, "{who}: {word}")?;
     if stretch.state == State::Asleep {
-        if let Some(wait) = wait_in(picture.remarks, pid, first, behind) {
-            let wait = Text(wait);
-            write!(output, " in {wait}")?;
-        }
+        write_wait(picture.remarks, pid, first, behind, output)?;
     }
+    let last = behind - 1;
     writeln!(output, ", events {first} to {last}</title></rect>")
 }
 
@@ -254,13 +284,23 @@ impl Mark {
     }
 }
 
+// The name of a kernel call, and its number.
+fn write_call<W: fmt::Write>(number: i32, f: &mut fmt::Formatter<W>) -> fmt::Result {
+    let name = call_name(number);
+    write!(f, "{name} (call {number})")
+}
+
 impl Display for Mark {
     fn fmt<W: fmt::Write>(&self, f: &mut fmt::Formatter<W>) -> fmt::Result {
         match *self {
             Mark::Answered(number, answer) => {
-                write!(f, "{} (call {number}) answers {answer}", call_name(number))
+                write_call(number, f)?;
+                write!(f, " answers {answer}")
             }
-            Mark::Waits(number) => write!(f, "{} (call {number}) waits", call_name(number)),
+            Mark::Waits(number) => {
+                write_call(number, f)?;
+                f.write_str(" waits")
+            }
             Mark::Exit(status) => write!(f, "exit with status {status}"),
             Mark::Fault(cause) => write!(f, "fault of cause {cause}"),
         }
@@ -334,6 +374,16 @@ fn draw_letter<W: Write>(byte: u8, output: &mut W) -> io::Result<()> {
     }
 }
 
+// A byte of the console, from this place on.
+fn draw_byte<W: Write>(x: Length, base: u64, byte: u8, output: &mut W) -> io::Result<()> {
+    write!(
+        output,
+        "<text x=\"{x}\" y=\"{base}\" font-family=\"monospace\">"
+    )?;
+    draw_letter(byte, output)?;
+    writeln!(output, "</text>")
+}
+
 // The byte that an event shows in the line of this name.
 fn byte_in(line: &str, note: Note) -> Option<u8> {
     match note {
@@ -361,12 +411,7 @@ fn draw_bytes<W: Write>(
         }
         if let Some(byte) = byte_in(line, note) {
             let x = Length(axis.across(event).0.max(free));
-            write!(
-                output,
-                "<text x=\"{x}\" y=\"{base}\" font-family=\"monospace\">"
-            )?;
-            draw_letter(byte, output)?;
-            writeln!(output, "</text>")?;
+            draw_byte(x, base, byte, output)?;
             free = x.0.saturating_add(LETTER);
         }
     }
@@ -400,6 +445,13 @@ fn draw_events<W: Write>(chart: &Chart, axis: Axis, output: &mut W) -> io::Resul
     Ok(())
 }
 
+// What stands below the bars: the bytes that were sent and typed, and the numbers of events.
+fn draw_below<W: Write>(chart: &Chart, axis: Axis, bottom: u64, output: &mut W) -> io::Result<()> {
+    draw_bytes("sent", chart, axis, bottom.saturating_add(16), output)?;
+    draw_bytes("typed", chart, axis, bottom.saturating_add(34), output)?;
+    draw_numbers(axis, bottom.saturating_add(54), output)
+}
+
 /// Writes the picture of a chart: a row for each process, in the order of their pids, with its bar and its
 /// marks; below them the bytes that were sent and typed, and the numbers of events. A row has the name of its
 /// process's last program, and a sleeper's bar what it waits for, where `remarks` tell them.
@@ -424,8 +476,6 @@ pub fn draw<W: Write>(chart: &Chart, remarks: &Remarks, output: &mut W) -> io::R
     draw_ticks(chart, axis, bottom, output)?;
     draw_rows(picture, output)?;
     draw_events(chart, axis, output)?;
-    draw_bytes("sent", chart, axis, bottom.saturating_add(16), output)?;
-    draw_bytes("typed", chart, axis, bottom.saturating_add(34), output)?;
-    draw_numbers(axis, bottom.saturating_add(54), output)?;
+    draw_below(chart, axis, bottom, output)?;
     writeln!(output, "</svg>")
 }

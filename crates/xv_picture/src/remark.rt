@@ -3,7 +3,7 @@ ghost use Rattle.std.specs.Prelude.{◌≡◌, option_map};
 ghost use Rattle.xv_picture.specs.Remarks.{last_told};
 
 /// What a line tells of a process, from its place among the events on.
-#[derive(Debug, PartialEq, Eq, Drop)]
+#[derive(Drop)]
 pub struct Remark {
     /// How many events the lines before it tell.
     pub place: usize,

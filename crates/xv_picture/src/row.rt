@@ -6,7 +6,7 @@ use crate::note::Note;
 use std::alloc::{AllocError, Global};
 
 /// What a process does.
-#[derive(Clone, Copy, Debug, PartialEq, Eq)]
+#[derive(Clone, Copy, PartialEq, Eq)]
 pub enum State {
     /// It isn't there, or nothing has told of it yet.
     Absent,
@@ -21,7 +21,7 @@ pub enum State {
 }
 
 /// So many events, one after another, in which a process was in one state.
-#[derive(Clone, Copy, Debug, PartialEq, Eq)]
+#[derive(Clone, Copy)]
 pub struct Stretch {
     pub state: State,
     pub events: usize,

@@ -23,7 +23,7 @@ const RETURN_ADDRESS: u8 = 1;
 const FRAME_POINTER: u8 = 8;
 
 /// What stands below the frame of a call.
-#[derive(Clone, Copy, Debug, PartialEq, Eq)]
+#[derive(Clone, Copy)]
 pub struct Caller {
     /// Where the call returns to.
     pub address: u64,

@@ -14,7 +14,7 @@ use xk_base::{Fd, Frame, Pid};
 use xv_machine::{Call, ChildState, End, Machine, ProcessState, Target};
 
 /// What a process that sleeps waits for.
-#[derive(Clone, Copy, Debug, PartialEq, Eq)]
+#[derive(Clone, Copy)]
 pub enum Wait {
     /// The clock, up to this tick, modulo 2^32.
     Until { tick: u32 },
@@ -144,7 +144,7 @@ pub fn waits_for(machine: &Machine, pid: Pid) -> Option<Wait>
 }
 
 /// Which ends of a pipe a process holds.
-#[derive(Clone, Copy, Debug, PartialEq, Eq)]
+#[derive(Clone, Copy)]
 pub struct EndsHeld {
     /// A descriptor of it is on the end that is read.
     pub reads: bool,

@@ -49,26 +49,33 @@ impl<'a> FaultText<'a> {
         }
     }
 
-    /// The calls that led to the fault. A call stands in the four bytes before its return address.
-    fn write_callers<W: fmt::Write>(&self, f: &mut fmt::Formatter<W>) -> fmt::Result {
+    /// The call that is told by the register ra, or that none is told.
+    fn write_last_call<W: fmt::Write>(&self, f: &mut fmt::Formatter<W>) -> fmt::Result {
         let callers = &self.report.callers;
-        let frames = callers.frames.as_slice();
+        let has_frames = !callers.frames.as_slice().is_empty();
         // Where no instruction may be fetched, the call that led there has made no frame yet.
         let has_no_frame = self.report.fault.cause == Cause::FetchPageFault;
         if let Some(address) = callers.ra {
             let call = self.place(address.wrapping_sub(4));
-            if frames.is_empty() {
-                write!(
+            if !has_frames {
+                return write!(
                     f,
                     "\n  called at {call}, by ra alone: it may be of an earlier call"
-                )?;
-            } else if has_no_frame {
-                write!(f, "\n  called at {call}, by ra")?;
+                );
             }
-        } else if frames.is_empty() {
-            f.write_str("\n  no call is told: s0 leads to no frame, and ra to no call")?;
+            if has_no_frame {
+                return write!(f, "\n  called at {call}, by ra");
+            }
+        } else if !has_frames {
+            return f.write_str("\n  no call is told: s0 leads to no frame, and ra to no call");
         }
-        for address in frames {
+        Ok(())
+    }
+
+    /// The calls that led to the fault. A call stands in the four bytes before its return address.
+    fn write_callers<W: fmt::Write>(&self, f: &mut fmt::Formatter<W>) -> fmt::Result {
+        self.write_last_call(f)?;
+        for address in self.report.callers.frames.as_slice() {
             let call = self.place(address.wrapping_sub(4));
             write!(f, "\n  called at {call}, by the frame pointers")?;
         }
@@ -101,29 +108,37 @@ impl fmt::Display for Address {
     }
 }
 
+/// An access, and why it may not be done.
+fn write_access<W: fmt::Write>(
+    access: &str,
+    address: Option<u64>,
+    why: &str,
+    f: &mut fmt::Formatter<W>,
+) -> fmt::Result {
+    let address = Address(address);
+    write!(f, "{access} {address}, which {why}")
+}
+
 /// What the instruction did, and why it may not be done.
 fn write_reason<W: fmt::Write>(fault: &Fault, f: &mut fmt::Formatter<W>) -> fmt::Result {
     let step = &fault.step;
-    let address = Address(step.address);
+    let address = step.address;
     match fault.cause {
         Cause::TargetMisaligned => {
-            let target = Address(jump_target(&step.regs, step.word));
-            write!(f, "jump to {target}, which is no multiple of 4")
+            let target = jump_target(&step.regs, step.word);
+            write_access("jump to", target, "is no multiple of 4", f)
         }
-        Cause::IllegalInstruction => {
-            let kind = kind_of(step.word.unwrap_or(0));
-            write!(f, "{kind}")
-        }
-        Cause::Breakpoint => write!(f, "ebreak, with which a program gives up"),
+        Cause::IllegalInstruction => f.write_str(kind_of(step.word.unwrap_or(0))),
+        Cause::Breakpoint => f.write_str("ebreak, with which a program gives up"),
         Cause::LoadMisaligned => {
-            write!(f, "load from {address}, which is no multiple of its size")
+            write_access("load from", address, "is no multiple of its size", f)
         }
         Cause::StoreMisaligned => {
-            write!(f, "store to {address}, which is no multiple of its size")
+            write_access("store to", address, "is no multiple of its size", f)
         }
-        Cause::FetchPageFault => write!(f, "no instruction may be fetched"),
-        Cause::LoadPageFault => write!(f, "load from {address}, which may not be read"),
-        Cause::StorePageFault => write!(f, "store to {address}, which may not be written"),
+        Cause::FetchPageFault => f.write_str("no instruction may be fetched"),
+        Cause::LoadPageFault => write_access("load from", address, "may not be read", f),
+        Cause::StorePageFault => write_access("store to", address, "may not be written", f),
     }
 }
 

@@ -5,7 +5,7 @@ use crate::waits::{Wait, waits_for};
 use crate::waking::wakers;
 use std::fmt;
 use xk_base::{Fd, Pid};
-use xv_machine::{Machine, ProcessState};
+use xv_machine::{Call, Machine, ProcessState};
 use xv_session::{Session, next_step};
 
 /// Processes by their numbers: `process 2`, `processes 1, 2 and 3`.
@@ -35,28 +35,26 @@ impl<'a> fmt::Display for Listed<'a> {
 #[derive(Clone, Copy)]
 pub struct Asleep<'a>(pub &'a Wait);
 
+/// A call on a descriptor, and what the descriptor is on.
+fn write_on<W: fmt::Write>(
+    call: &str,
+    fd: Fd,
+    target: &str,
+    f: &mut fmt::Formatter<W>,
+) -> fmt::Result {
+    let fd = fd.number();
+    write!(f, "{call} on descriptor {fd}, {target}")
+}
+
 impl<'a> fmt::Display for Asleep<'a> {
     fn fmt<W: fmt::Write>(&self, f: &mut fmt::Formatter<W>) -> fmt::Result {
-        let on = |fd: Fd| fd.number();
         match *self.0 {
             Wait::Until { tick } => write!(f, "sleep, until tick {tick}"),
-            Wait::Child => write!(f, "wait, for a child to end"),
-            Wait::PipeBytes { fd, .. } => {
-                let fd = on(fd);
-                write!(f, "read on descriptor {fd}, the read end of a pipe")
-            }
-            Wait::PipeRoom { fd, .. } => {
-                let fd = on(fd);
-                write!(f, "write on descriptor {fd}, the write end of a pipe")
-            }
-            Wait::Keys { fd } => {
-                let fd = on(fd);
-                write!(f, "read on descriptor {fd}, the console")
-            }
-            Wait::Sending { fd } => {
-                let fd = on(fd);
-                write!(f, "write on descriptor {fd}, the console")
-            }
+            Wait::Child => f.write_str("wait, for a child to end"),
+            Wait::PipeBytes { fd, .. } => write_on("read", fd, "the read end of a pipe", f),
+            Wait::PipeRoom { fd, .. } => write_on("write", fd, "the write end of a pipe", f),
+            Wait::Keys { fd } => write_on("read", fd, "the console", f),
+            Wait::Sending { fd } => write_on("write", fd, "the console", f),
         }
     }
 }
@@ -83,48 +81,54 @@ impl<'a> fmt::Display for ProcessLine<'a> {
     }
 }
 
+/// The call that a process is in, if it has a name.
+fn write_call<W: fmt::Write>(number: i32, f: &mut fmt::Formatter<W>) -> fmt::Result {
+    match call_name(number) {
+        Some(name) => write!(f, ", in {name}"),
+        None => Ok(()),
+    }
+}
+
+/// What a live process does that doesn't sleep.
+fn write_awake<W: fmt::Write>(
+    runs: bool,
+    marked: bool,
+    call: Option<Call>,
+    f: &mut fmt::Formatter<W>,
+) -> fmt::Result {
+    f.write_str(if runs { "runs" } else { "may run" })?;
+    if marked {
+        f.write_str(", and is to be killed")?;
+    }
+    match call {
+        Some(call) => write_call(call.number, f),
+        None => Ok(()),
+    }
+}
+
 /// What a process does.
 fn write_state<W: fmt::Write>(
     machine: &Machine,
     pid: Pid,
     f: &mut fmt::Formatter<W>,
 ) -> fmt::Result {
+    if let Some(wait) = waits_for(machine, pid) {
+        let asleep = Asleep(&wait);
+        return write!(f, "sleeps in {asleep}");
+    }
     match machine.process(pid) {
-        None => write!(f, "is no process"),
+        None => f.write_str("is no process"),
         Some(ProcessState::Zombie { status, .. }) => write!(
             f,
             "has ended with status {status}, and its parent has not waited for it"
         ),
-        Some(
-            ProcessState::Live {
-                marked,
-                call,
-                asleep,
-                ..
-            },
-        ) => {
-            if let Some(wait) = waits_for(machine, pid) {
-                let asleep = Asleep(&wait);
-                return write!(f, "sleeps in {asleep}");
-            }
-            if asleep {
-                return f.write_str("sleeps");
-            }
+        Some(ProcessState::Live { asleep: true, .. }) => f.write_str("sleeps"),
+        Some(ProcessState::Live { marked, call, .. }) => {
             let runs = match machine.current() {
                 Some(current) => current.number() == pid.number(),
                 None => false,
             };
-            f.write_str(if runs { "runs" } else { "may run" })?;
-            if marked {
-                f.write_str(", and is to be killed")?;
-            }
-            match call {
-                Some(call) => match call_name(call.number) {
-                    Some(name) => write!(f, ", in {name}"),
-                    None => Ok(()),
-                },
-                None => Ok(()),
-            }
+            write_awake(runs, marked, call, f)
         }
     }
 }
@@ -197,21 +201,36 @@ fn write_wakers<W: fmt::Write>(
             let clock = machine.clock();
             write!(f, "; the clock is at {clock}")
         }
-        Wait::Keys { .. } => write!(f, ": a line of keys wakes it"),
-        Wait::Sending { .. } => write!(f, ": a byte that is sent wakes it"),
-        Wait::Child if pids.is_empty() => write!(f, ": it has no child that lives"),
-        Wait::Child => {
-            let listed = Listed(pids);
-            let children = if pids.len() == 1 {
-                "is its child"
-            } else {
-                "are its children"
-            };
-            write!(f, ": {listed} {children}")
-        }
+        Wait::Keys { .. } => f.write_str(": a line of keys wakes it"),
+        Wait::Sending { .. } => f.write_str(": a byte that is sent wakes it"),
+        Wait::Child => write_children(pids, f),
         Wait::PipeBytes { .. } => write_holders(pids, sleeper, "write", "reader", f),
         Wait::PipeRoom { .. } => write_holders(pids, sleeper, "read", "writer", f),
     }
+}
+
+/// Which children that live a process has that waits for one.
+fn write_children<W: fmt::Write>(pids: &[u32], f: &mut fmt::Formatter<W>) -> fmt::Result {
+    if pids.is_empty() {
+        return f.write_str(": it has no child that lives");
+    }
+    let listed = Listed(pids);
+    let children = if pids.len() == 1 {
+        "is its child"
+    } else {
+        "are its children"
+    };
+    write!(f, ": {listed} {children}")
+}
+
+/// That only the sleeper itself holds the other end of its pipe.
+fn write_alone<W: fmt::Write>(
+    own: u32,
+    verb: &str,
+    role: &str,
+    f: &mut fmt::Formatter<W>,
+) -> fmt::Result {
+    write!(f, ": only process {own} can {verb}, the {role} itself")
 }
 
 /// Who holds the other end of the pipe on which a process sleeps.
@@ -228,7 +247,7 @@ fn write_holders<W: fmt::Write>(
     }
     if let [only] = pids {
         if *only == own {
-            return write!(f, ": only process {own} can {verb}, the {role} itself");
+            return write_alone(own, verb, role, f);
         }
     }
     let listed = Listed(pids);
