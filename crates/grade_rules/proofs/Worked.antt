@@ -1,5 +1,5 @@
 -- Worked cases of the definitions.
-use Rattle.std.specs.Prelude.{◌≡◌, ℤ, pos, negsuc, true, false, [], ◌∷◌, refl}
+use Rattle.std.specs.Prelude.{◌≡◌, pos, negsuc, true, false, [], ◌∷◌, refl}
 use Rattle.grade_rules.specs.declared.note.Note.TheVariants as note
 use Rattle.grade_rules.specs.declared.pattern.Numbers.TheVariants.{Any, Within, Either, Not}
 use Rattle.grade_rules.specs.declared.pattern.Pattern.TheVariants.{Called, Exited, Faulted}

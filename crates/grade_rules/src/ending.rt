@@ -1,7 +1,7 @@
 //! How a run ended.
 
 /// How a run ended.
-#[derive(Clone, Copy, Debug, PartialEq, Eq)]
+#[derive(Clone, Copy, PartialEq, Eq)]
 pub enum End {
     /// `init` is gone, with this status.
     Exited(i32),

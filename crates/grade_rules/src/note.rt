@@ -2,7 +2,7 @@
 use std::fmt;
 
 /// An event of a run, as far as rules speak of it. A process is named by its pid.
-#[derive(Clone, Copy, Debug, PartialEq, Eq)]
+#[derive(Clone, Copy)]
 pub enum Note {
     /// The process has its turn from now on.
     Turn { pid: u32 },

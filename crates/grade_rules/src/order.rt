@@ -9,14 +9,14 @@ use std::alloc::{AllocError, Global};
 
 /// That the note of one step stands before the note of another. The steps are named by their places, from 0 on, and
 /// the first must have the lower one: an edge that says otherwise says nothing.
-#[derive(Clone, Copy, Debug, PartialEq, Eq)]
+#[derive(Clone, Copy)]
 pub struct Edge {
     pub before: usize,
     pub behind: usize,
 }
 
 /// Whether steps stand in the notes.
-#[derive(Debug, PartialEq, Eq, Drop)]
+#[derive(Drop)]
 pub enum Order {
     /// They do: the place of each step's note.
     Arranged(Vec<usize>),

@@ -5,7 +5,7 @@ ghost use Rattle.grade_rules.specs.Patterns.{has, fits, fits_one_of};
 use crate::note::Note;
 
 /// Which numbers may stand in a place of a note.
-#[derive(Clone, Copy, Debug, PartialEq, Eq)]
+#[derive(Clone, Copy)]
 pub enum Numbers {
     /// Each number.
     Any,
@@ -18,7 +18,7 @@ pub enum Numbers {
 }
 
 /// Which notes are meant. All other notes are none of them.
-#[derive(Clone, Copy, Debug, PartialEq, Eq)]
+#[derive(Clone, Copy)]
 pub enum Pattern {
     /// A process has its turn.
     Turn {

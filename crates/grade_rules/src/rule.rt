@@ -10,7 +10,7 @@ use crate::sequence::first_other;
 use std::alloc::{AllocError, Global};
 
 /// What is asked of the notes of a run.
-#[derive(Debug, Drop)]
+#[derive(Drop)]
 pub enum Rule {
     /// The pattern fits at least and at most so many notes.
     Count {
@@ -40,7 +40,7 @@ pub enum Rule {
 }
 
 /// Whether a rule holds of notes, and what shows that it doesn't.
-#[derive(Clone, Copy, Debug, PartialEq, Eq)]
+#[derive(Clone, Copy)]
 pub enum Judgement {
     /// It holds.
     Holds,

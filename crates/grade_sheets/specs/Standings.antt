@@ -1,5 +1,5 @@
 -- What a run comes to, and what a submission does.
-use Rattle.std.specs.Prelude.{◌≡◌, ℕ, Bool, true, false, List, [], ◌∷◌, map, is_none}
+use Rattle.std.specs.Prelude.{◌≡◌, Bool, true, false, List, [], ◌∷◌, map, is_none}
 use Rattle.std.specs.List.{list_any, list_all}
 use Rattle.grade_rules.specs.declared.note.Note.{Note}
 use Rattle.grade_rules.specs.declared.note.Note.TheVariants as note

@@ -13,7 +13,7 @@ use grade_rules::{End, Note, Pattern, Rule};
 use std::alloc::{AllocError, Global};
 
 /// What a submission, or one of its runs, comes to.
-#[derive(Clone, Copy, Debug, PartialEq, Eq)]
+#[derive(Clone, Copy, PartialEq, Eq)]
 pub enum Standing {
     /// It has all that is asked for.
     Right,
