@@ -69,17 +69,6 @@ fn show_bytes(machine: &Machine, pipe: Frame, answer: &mut String) -> Result<(),
     writeln!(answer, "  the oldest: {quoted}")
 }
 
-/// Writes who holds an end of a pipe, by how many descriptors.
-fn show_end(
-    end: &str,
-    descriptors: u64,
-    holders: Holders<'_>,
-    answer: &mut String,
-) -> Result<(), AllocError> {
-    let descriptors = Many(descriptors, "descriptor");
-    writeln!(answer, "  {end} end: {descriptors}, of {holders}")
-}
-
 /// Writes what is known of a pipe.
 fn show_pipe(
     machine: &Machine,
@@ -89,6 +78,8 @@ fn show_pipe(
 ) -> Result<(), AllocError> {
     let number = pipe.number();
     let bytes = Many(counts.bytes as u64, "byte");
+    let readers = Many(counts.readers, "descriptor");
+    let writers = Many(counts.writers, "descriptor");
     writeln!(
         answer,
         "pipe {number}, named by its frame: {bytes} of {PIPE_BYTES}"
@@ -98,13 +89,13 @@ fn show_pipe(
         pipe,
         reads: true,
     };
-    show_end("read", counts.readers, reading, answer)?;
+    writeln!(answer, "  read end: {readers}, of {reading}")?;
     let writing = Holders {
         machine,
         pipe,
         reads: false,
     };
-    show_end("write", counts.writers, writing, answer)?;
+    writeln!(answer, "  write end: {writers}, of {writing}")?;
     show_bytes(machine, pipe, answer)
 }
 
