@@ -8,6 +8,8 @@
 #[cfg(test)]
 mod assembler;
 #[cfg(test)]
+mod base;
+#[cfg(test)]
 mod constructors;
 #[cfg(test)]
 mod free_frames;
