@@ -51,7 +51,8 @@ def function_at(crate, file, text, at):
         raise ValueError(f"line {at + 1} of {file} is in no function: a line 'turns:' must name one")
     if found[1]:  # the type's module may be another one than the file's
         impl = re.match(r"impl(?:<.*?>)? (?:(.*) for )?(\w+)", next(it for it in lines[top::-1] if it.startswith("impl")))
-        return "::".join([crate, impl[2] + "".join(re.findall(r"\w+", impl[1] or "")), found[2]])
+        trait = re.sub(r"\w+::", "", impl[1] or "")
+        return "::".join([crate, impl[2] + "".join(re.findall(r"\w+", trait)), found[2]])
     modules = [it for it in file.removesuffix(".rt").split("/")[1:] if it not in ("lib", "main")]
     return "::".join([crate, *modules, found[2]])
 
@@ -85,14 +86,16 @@ def open_goals(crate, function, sources, said):
     verdict = re.search(f"^fn {crate}::({module}{re.escape(rest)}): (.*)", said, re.M)
     if not verdict or verdict[2] in ("no holes", "proved"):
         return "STILL PROVED" if verdict else "NOT READ", set()
-    proofs = re.escape(f"Rattle.{crate}.proofs.{verdict[1].replace('::', '.')}.")
+    *around, last = verdict[1].split("::")
+    within = [re.escape(it) for it in around] + [r"\+?" + re.escape(last)]  # a `+` marks what calls itself
+    proofs = r"\.".join(["Rattle", crate, "proofs", *within, ""])
     goals = set(re.findall(f"`{proofs}\\w+\\.([^`]*)`", verdict[2]))
     goals.update(re.findall(r"`([^`\s]+)`", verdict[2].partition("did not prove ")[2].partition(";")[0]))
     for file, line, goal in re.findall(r"^note: (src/\S+?):(\d+):\S+ it is not proved .*?\(`(\S*)`", said, re.M):
         if function_at(crate, file, sources[file], int(line) - 1) == function:
             goals.add(goal)
     # a condition of a call, and an answer that names what the edit took away, say nothing of the contract
-    folder = re.escape(f"./proofs/{verdict[1].replace('::', '/')}/")
+    folder = "/".join([r"\./proofs", *within, ""])
     named = re.findall(f"^{folder}\\w+\\.antt:\\S+ error: `([^`]*)`: .*(?:has no field|is not in scope|has no `)", said, re.M)
     return f"REFUSED FOR ITS FORM ALONE ({verdict[2][:200]})", {it for it in goals if "-requires" not in it} - set(named)
 

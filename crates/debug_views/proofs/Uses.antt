@@ -1,15 +1,15 @@
 -- The uses of frames, as a list that is made one by one.
-use Rattle.std.proofs.Common.{◌≡◌, ◌≢◌, ℕ, ◌+◌, ◌≤◌, ◌↔◌, ◌&&◌, Bool, true, false, nat_eq, nat_le, if◌then◌else◌, min}
-use Rattle.std.proofs.Common.{List, length, slice_get, get_or, Option, None, Some, refl, sym, ◌∙◌, subst, ap, arith}
+use Rattle.std.proofs.Common.{◌≡◌, ℕ, ◌+◌, ◌≤◌, ◌&&◌, Bool, true, false, nat_eq, nat_le, if◌then◌else◌}
+use Rattle.std.proofs.Common.{List, length, slice_get, Option, None, Some, refl, sym, ◌∙◌, subst, ap, arith}
 use Rattle.std.proofs.lemmas.Bool.{eqb-true, eq-eqb, leb-true, le-leb, and_parts}
 use Rattle.std.proofs.lemmas.Option.{slice_get_within, same_Some, none-some}
 use Rattle.kcall_core.specs.declared.kernel.observers.frame_uses.FrameUse.{FrameUse}
 use Rattle.kcall_core.specs.declared.kernel.observers.frame_uses.FrameUse.TheVariants.{Free, Trapframe, Root, Upper, Lower, Page, Pipe}
 use Rattle.xv_machine.specs.Meaning.{Meaning}
 use Rattle.xv_machine.specs.FrameUses.{IsUsed}
-use Rattle.debug_views.specs.FrameLists.{IsAmong, IsLeastLower, lower_in}
+use Rattle.debug_views.specs.FrameLists.{IsLeastLower, lower_in}
 use Rattle.debug_views.specs.Focus.{lesser}
-use Rattle.debug_views.proofs.Least.{IsLeast, IsBelow, IsUpTo, least-more}
+use Rattle.debug_views.proofs.Least.{IsLeast, least-more}
 
 -- The uses of the first frames, so many, of a machine that has no fewer
 pub record UsesSoFar (m : Meaning) (n : ℕ) (uses : List FrameUse) : Type 0 where

@@ -1,5 +1,5 @@
 -- Processes by their pids, and the programs that they run.
-use Rattle.std.specs.Prelude.{◌≡◌, ℕ, ◌≤◌, min, slice_get, List, Option, None, Some, IsSome}
+use Rattle.std.specs.Prelude.{ℕ, ◌≤◌, min, slice_get, List, ◌++◌, codes, decimal, Option, None, Some, IsSome, option_map}
 use Rattle.std.specs.FinMap.{get}
 use Rattle.kernel_spec.specs.views.State.{State, ProgramFile}
 use Rattle.xv_session.specs.Names.{place_in}
@@ -27,3 +27,11 @@ nth_of programs (Some place) = slice_get programs place
 -- the program that a live process runs
 abbrev pub program_in : Recorded → ℕ → Option ProgramFile
 program_in s p = nth_of s.machine.world.state.programs (place_in p s.names)
+
+-- and its name
+abbrev pub name_in : Recorded → ℕ → Option (List ℕ)
+name_in s p = option_map (λ (f : ProgramFile). f.name) (program_in s p)
+
+-- what is written of a pid that no live process has
+abbrev pub no_process : ℕ → List ℕ
+no_process p = codes "no live process has the pid " ++ decimal p ++ codes "; ps lists them\n"

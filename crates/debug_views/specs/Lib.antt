@@ -1,5 +1,11 @@
 pub mod Bytes
+pub mod ConsoleText
+pub mod DescriptorText
+pub mod EventText
 pub mod Focus
 pub mod FrameLists
+pub mod MemoryText
 pub mod PageRuns
+pub mod RegisterText
 pub mod Sharing
+pub mod Written

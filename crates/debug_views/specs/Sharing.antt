@@ -1,6 +1,7 @@
 -- Descriptors that share an open file.
-use Rattle.std.specs.Prelude.{◌≡◌, ℕ, ◌<◌, Bool, true, false, nat_eq, Option, None, Some}
+use Rattle.std.specs.Prelude.{ℕ, Bool, false, nat_eq, Option, None, Some}
 use Rattle.xk_base.specs.declared.limits.TheConstants.{NOFILE}
+use Rattle.xk_base.specs.Words.{least_below}
 use Rattle.kernel_spec.specs.views.State.{State}
 use Rattle.kcall_core.specs.Observers.{descriptor_of}
 use Rattle.kcall_core.specs.declared.kernel.observers.Descriptor.{Descriptor}
@@ -14,6 +15,5 @@ abbrev pub names_file : State → (p file d : ℕ) → Bool
 names_file s p file d = is_on file (descriptor_of s p d)
 
 -- the first descriptor of process p that is on this open file; none where none is
-abbrev pub IsFirstOn : State → (p file : ℕ) → Option ℕ → Type 0
-IsFirstOn s p file None = (d : ℕ) → d < NOFILE → names_file s p file d ≡ false
-IsFirstOn s p file (Some d) = (names_file s p file d ≡ true) × ((e : ℕ) → e < d → names_file s p file e ≡ false)
+abbrev pub first_with : State → (p file : ℕ) → Option ℕ
+first_with s p file = least_below (names_file s p file) NOFILE

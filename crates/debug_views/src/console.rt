@@ -1,10 +1,11 @@
 //! The bytes that the console holds.
-ghost use Rattle.std.specs.Prelude.{◌≡◌, take};
+ghost use Rattle.std.specs.Prelude.{◌≡◌, ◌++◌, OnOk, string_bytes, take};
 ghost use Rattle.arrayvec.specs.ArrayVec.{array_vec_len};
 ghost use Rattle.console_core.specs.Lists.{list_of};
+ghost use Rattle.debug_views.specs.ConsoleText.{behind_number, console_text, list_text, room_text};
 
 use arrayvec::ArrayVec;
-use debug_words::texts::{Many, Quoted};
+use debug_words::texts::{Grouped, Many, Quoted};
 use std::alloc::AllocError;
 use xk_base::limits::{CONSOLE_BYTES, SEND_BYTES};
 use xv_machine::{ConsoleList, Machine};
@@ -27,25 +28,54 @@ fn bytes_of(machine: &Machine, list: ConsoleList) -> ArrayVec<u8, SHOWN_MOST>
     bytes
 }
 
+/// Writes bytes behind how many they are, if there are any.
+fn show_bytes(bytes: &[u8], answer: &mut String) -> Result<(), AllocError>
+    ensures { OnOk result (string_bytes answer.new ≡ string_bytes answer.old ++ behind_number bytes.now) }
+{
+    if bytes.is_empty() {
+        return Ok(());
+    }
+    let quoted = Quoted(bytes);
+    write!(answer, " {quoted}")
+}
+
 /// Writes one list of the console: what it is, how many bytes it has, and these.
+#[tactic(auto, unfolding(crate::specs::ConsoleText::list_text))]
 fn show_list(
     machine: &Machine,
     list: ConsoleList,
     what: &str,
     answer: &mut String,
-) -> Result<(), AllocError> {
+) -> Result<(), AllocError>
+    ensures { OnOk result (string_bytes answer.new ≡ string_bytes answer.old ++ list_text what.now (take SHOWN_MOST (list_of list machine.now.world.state.console))) }
+{
     let bytes = bytes_of(machine, list);
     let many = Many(bytes.len() as u64, "byte");
     write!(answer, "{what}: {many}")?;
-    if !bytes.is_empty() {
-        let quoted = Quoted(bytes.as_slice());
-        write!(answer, " {quoted}")?;
-    }
+    show_bytes(bytes.as_slice(), answer)?;
     writeln!(answer)
 }
 
+/// Writes for how many bytes there is room.
+fn show_room(answer: &mut String) -> Result<(), AllocError>
+    ensures { OnOk result (string_bytes answer.new ≡ string_bytes answer.old ++ room_text) }
+{
+    let typed = Grouped(CONSOLE_BYTES as u64);
+    let waiting = Grouped(SEND_BYTES as u64);
+    writeln!(
+        answer,
+        "There is room for {typed} typed bytes and {waiting} that wait."
+    )
+}
+
 /// Writes the console's lists.
-pub fn show_console(session: &Session, answer: &mut String) -> Result<(), AllocError> {
+///
+/// # Errors
+///
+/// The host has too little memory.
+pub fn show_console(session: &Session, answer: &mut String) -> Result<(), AllocError>
+    ensures { OnOk result (string_bytes answer.new ≡ string_bytes answer.old ++ console_text session.now.machine.world.state.console) }
+{
     let machine = session.machine();
     show_list(
         machine,
@@ -65,8 +95,5 @@ pub fn show_console(session: &Session, answer: &mut String) -> Result<(), AllocE
         "written, and wait to be sent",
         answer,
     )?;
-    writeln!(
-        answer,
-        "There is room for {CONSOLE_BYTES} typed bytes and {SEND_BYTES} that wait."
-    )
+    show_room(answer)
 }

@@ -1,6 +1,8 @@
 //! The descriptors of a process.
-ghost use Rattle.std.specs.Prelude.{◌≡◌, IfSome, IfNone};
-ghost use Rattle.debug_views.specs.Sharing.{names_file, IsFirstOn};
+ghost use Rattle.std.specs.Prelude.{◌≡◌, ◌++◌, Some, OnOk, string_bytes};
+ghost use Rattle.debug_views.specs.DescriptorText.{descriptor_text, descriptor_told, descriptors_shown, descriptors_text, end_name, file_name, first_descriptors, rights_text, sharing_text, target_text};
+ghost use Rattle.debug_views.specs.Sharing.{first_with, names_file};
+ghost use Rattle.kcall_core.specs.Observers.{descriptor_of};
 
 use crate::focus::{lives, program_name, show_none};
 use debug_words::texts::{Grouped, Named, Plain};
@@ -8,8 +10,28 @@ use std::alloc::AllocError;
 use std::fmt;
 use xk_base::limits::NOFILE;
 use xk_base::{Fd, Pid};
-use xv_machine::{Descriptor, End, FileId, Machine, Target};
+use xv_machine::{Descriptor, End, FileId, Machine, OpenFile, Target};
 use xv_session::Session;
+
+/// The name of a program's file, or a mark if there is none at its place.
+fn file_name(machine: &Machine, program: usize) -> &[u8]
+    ensures { result.now ≡ file_name machine.now.world.state.programs program }
+{
+    match machine.programs().get(program) {
+        Some(program) => program.name.as_slice(),
+        None => b"?".as_slice(),
+    }
+}
+
+/// The name of an end of a pipe.
+fn end_name(end: End) -> &'static str
+    ensures { result.now ≡ end_name end }
+{
+    match end {
+        End::Reading => "read",
+        End::Writing => "write",
+    }
+}
 
 /// What an open file is on.
 #[derive(Clone, Copy)]
@@ -18,32 +40,20 @@ struct TargetShown<'a> {
     target: Target,
 }
 
-/// A program's file, and how far it was read.
-fn show_file<W: fmt::Write>(
-    machine: &Machine,
-    program: usize,
-    offset: u64,
-    f: &mut fmt::Formatter<W>,
-) -> fmt::Result {
-    let offset = Grouped(offset);
-    let name = match machine.programs().get(program) {
-        Some(program) => Plain(program.name.as_slice()),
-        None => Plain(b"?"),
-    };
-    write!(f, "file {name}, next byte {offset}")
-}
-
 impl<'a> fmt::Display for TargetShown<'a> {
+    ghost output = { λ t. Some (target_text t.machine.now.world.state.programs t.target) };
+
     fn fmt<W: fmt::Write>(&self, f: &mut fmt::Formatter<W>) -> fmt::Result {
         match self.target {
             Target::Console => f.write_str("console"),
-            Target::Program { program, offset } => show_file(self.machine, program, offset, f),
+            Target::Program { program, offset } => {
+                let name = Plain(file_name(self.machine, program));
+                let offset = Grouped(offset);
+                write!(f, "file {name}, next byte {offset}")
+            }
             Target::Pipe { frame, end } => {
+                let end = end_name(end);
                 let frame = frame.number();
-                let end = match end {
-                    End::Reading => "read",
-                    End::Writing => "write",
-                };
                 write!(f, "{end} end of pipe {frame}")
             }
         }
@@ -51,8 +61,10 @@ impl<'a> fmt::Display for TargetShown<'a> {
 }
 
 /// What may be done with an open file.
-fn rights_of(descriptor: &Descriptor) -> &'static str {
-    match (descriptor.open_file.read, descriptor.open_file.write) {
+fn rights_of(open_file: &OpenFile) -> &'static str
+    ensures { result.now ≡ rights_text open_file.now }
+{
+    match (open_file.read, open_file.write) {
         (true, true) => "rw",
         (true, false) => "r-",
         (false, true) => "-w",
@@ -72,7 +84,7 @@ fn names(machine: &Machine, pid: Pid, fd: Fd, file: FileId) -> bool
 
 /// The first descriptor of a process on this open file.
 fn first_on(machine: &Machine, pid: Pid, file: FileId) -> Option<Fd>
-    ensures { IsFirstOn machine.now.world.state pid file result }
+    ensures { result ≡ first_with machine.now.world.state pid file }
 {
     for number in 0..NOFILE {
         let fd = Fd::new(number as u8);
@@ -83,6 +95,21 @@ fn first_on(machine: &Machine, pid: Pid, file: FileId) -> Option<Fd>
     None
 }
 
+/// Writes the first descriptor that shares an open file with this one, if it is another.
+fn show_sharing(fd: Fd, first: Option<Fd>, answer: &mut String) -> Result<(), AllocError>
+    ensures { OnOk result (string_bytes answer.new ≡ string_bytes answer.old ++ sharing_text fd first) }
+{
+    let Some(first) = first else {
+        return writeln!(answer);
+    };
+    let first = first.number();
+    if first < fd.number() {
+        writeln!(answer, "; the open file of fd {first}")
+    } else {
+        writeln!(answer)
+    }
+}
+
 /// Writes the line of a descriptor.
 fn show_descriptor(
     machine: &Machine,
@@ -90,45 +117,64 @@ fn show_descriptor(
     fd: Fd,
     descriptor: &Descriptor,
     answer: &mut String,
-) -> Result<(), AllocError> {
+) -> Result<(), AllocError>
+    ensures { OnOk result (string_bytes answer.new ≡ string_bytes answer.old ++ descriptor_text machine.now.world.state pid fd descriptor.now) }
+{
     let number = fd.number();
-    let rights = rights_of(descriptor);
+    let rights = rights_of(&descriptor.open_file);
     let target = TargetShown {
         machine,
         target: descriptor.open_file.target,
     };
     write!(answer, "{number:>4}  {rights}   {target}")?;
-    match first_on(machine, pid, descriptor.file) {
-        Some(first) if first.number() < number => {
-            let first = first.number();
-            writeln!(answer, "; the open file of fd {first}")
-        }
-        _ => writeln!(answer),
+    show_sharing(fd, first_on(machine, pid, descriptor.file), answer)
+}
+
+/// Writes the line of a descriptor, if it is in use.
+fn show_if_used(machine: &Machine, pid: Pid, fd: Fd, answer: &mut String) -> Result<(), AllocError>
+    ensures { OnOk result (string_bytes answer.new ≡ string_bytes answer.old ++ descriptor_told machine.now.world.state pid fd (descriptor_of machine.now.world.state pid fd)) }
+{
+    match machine.descriptor(pid, fd) {
+        Some(descriptor) => show_descriptor(machine, pid, fd, &descriptor, answer),
+        None => Ok(()),
     }
 }
 
-/// Writes the descriptors of a process that are in use.
-pub fn show_descriptors(
-    session: &Session,
-    pid: Pid,
-    answer: &mut String,
-) -> Result<(), AllocError> {
-    let machine = session.machine();
-    if !lives(machine, pid) {
-        return show_none(pid, answer);
+/// Writes the lines of all descriptors of a process.
+#[tactic(auto, unfolding(crate::specs::DescriptorText::first_descriptors))]
+fn show_all(machine: &Machine, pid: Pid, answer: &mut String) -> Result<(), AllocError>
+    ensures { OnOk result (string_bytes answer.new ≡ string_bytes answer.old ++ first_descriptors machine.now.world.state pid NOFILE) }
+{
+    for number in 0..NOFILE {
+        show_if_used(machine, pid, Fd::new(number as u8), answer)?;
     }
+    Ok(())
+}
+
+/// Writes the descriptors of a live process.
+fn show_known(session: &Session, pid: Pid, answer: &mut String) -> Result<(), AllocError>
+    ensures { OnOk result (string_bytes answer.new ≡ string_bytes answer.old ++ descriptors_text session.now pid) }
+{
     let owner = pid.number();
     let name = Named(program_name(session, pid));
     writeln!(
         answer,
-        "descriptors of process {owner}{name}; r: it may be read, w: written"
+        "descriptors of process {owner}{name}; r: it may be read, w: written\n  fd  may  on"
     )?;
-    answer.push_str("  fd  may  on\n")?;
-    for number in 0..NOFILE {
-        let fd = Fd::new(number as u8);
-        if let Some(descriptor) = machine.descriptor(pid, fd) {
-            show_descriptor(machine, pid, fd, &descriptor, answer)?;
-        }
+    show_all(session.machine(), pid, answer)
+}
+
+/// Writes the descriptors of a process that are in use.
+///
+/// # Errors
+///
+/// The host has too little memory.
+pub fn show_descriptors(session: &Session, pid: Pid, answer: &mut String) -> Result<(), AllocError>
+    ensures { OnOk result (string_bytes answer.new ≡ string_bytes answer.old ++ descriptors_shown session.now pid) }
+{
+    if lives(session.machine(), pid) {
+        show_known(session, pid, answer)
+    } else {
+        show_none(pid, answer)
     }
-    Ok(())
 }

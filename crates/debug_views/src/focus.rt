@@ -1,9 +1,9 @@
 //! Processes by their pids, and the programs that they run.
-ghost use Rattle.std.specs.Prelude.{◌≡◌, ℕ, ◌≤◌, IfSome, IfNone, is_some, option_map};
-ghost use Rattle.kernel_spec.specs.views.State.{ProgramFile, named_file, live};
+ghost use Rattle.std.specs.Prelude.{◌≡◌, ℕ, ◌≤◌, ◌++◌, IfSome, IfNone, OnOk, is_some, option_map, string_bytes};
+ghost use Rattle.kernel_spec.specs.views.State.{named_file, live};
 ghost use Rattle.kernel_spec.specs.waking.Turns.{HasSlot};
 ghost use Rattle.xv_machine.specs.Sound.{IsSoundMachine};
-ghost use Rattle.debug_views.specs.Focus.{IsLeastFrom, lesser, program_in};
+ghost use Rattle.debug_views.specs.Focus.{IsLeastFrom, lesser, name_in, no_process, program_in};
 
 use std::alloc::AllocError;
 use xk_base::limits::NPROC;
@@ -75,14 +75,16 @@ pub fn program_of(session: &Session, pid: Pid) -> Option<&Program>
 
 /// The name of the program that a live process runs.
 pub fn program_name(session: &Session, pid: Pid) -> Option<&[u8]>
-    ensures { option_map (λ name. name.now) result ≡ option_map (λ (p : ProgramFile). p.name) (program_in session.now pid) }
+    ensures { option_map (λ name. name.now) result ≡ name_in session.now pid }
 {
     let program = program_of(session, pid)?;
     Some(program.name.as_slice())
 }
 
 /// Writes that no live process has this pid.
-pub(crate) fn show_none(pid: Pid, answer: &mut String) -> Result<(), AllocError> {
+pub(crate) fn show_none(pid: Pid, answer: &mut String) -> Result<(), AllocError>
+    ensures { OnOk result (string_bytes answer.new ≡ string_bytes answer.old ++ no_process pid) }
+{
     let number = pid.number();
     writeln!(
         answer,

@@ -1,4 +1,11 @@
 //! The events that the machine got, and the notes that its trace keeps.
+ghost use Rattle.std.specs.Prelude.{◌≡◌, ◌++◌, [], Some, OnOk, length, option_map, string_bytes};
+ghost use Rattle.xv_machine.specs.Events.{event_of};
+ghost use Rattle.xv_session.specs.Answers.{AreEqualFrom};
+ghost use Rattle.debug_views.specs.declared.history.Equal.{Equal};
+ghost use Rattle.debug_views.specs.EventText.{AreEvents, IsEventsText, equal_text, event_text, first_place, more_events, no_notes};
+ghost use Rattle.debug_views.specs.Written.{Writes};
+
 use debug_words::texts::{Grouped, Many, Quoted};
 use std::alloc::AllocError;
 use std::fmt;
@@ -16,6 +23,8 @@ const ROUND_EVENTS: u64 = 1033;
 struct EventShown(Event);
 
 impl fmt::Display for EventShown {
+    ghost output = { λ e. Some (event_text (event_of e.0)) };
+
     fn fmt<W: fmt::Write>(&self, f: &mut fmt::Formatter<W>) -> fmt::Result {
         match self.0 {
             Event::Run => f.write_str("Run"),
@@ -30,44 +39,106 @@ impl fmt::Display for EventShown {
     }
 }
 
-/// Writes the line of events that are equal, and answers how many they are; none where no event is behind the place.
-fn show_equal(session: &Session, place: u64, answer: &mut String) -> Result<u64, AllocError> {
-    let Some((event, count)) = session.events_from(place) else {
-        return Ok(0);
-    };
+/// Equal events, one behind another.
+#[derive(Clone, Copy)]
+struct Equal {
+    event: Event,
+    count: u64,
+}
+
+/// The events from a place on that are equal to the one there, if there is one.
+fn equal_from(session: &Session, place: u64) -> Option<Equal>
+    ensures { AreEqualFrom session.now.events place (option_map (λ (e : Equal). (event_of e.event, e.count)) result) }
+{
+    match session.events_from(place) {
+        Some((event, count)) => Some(Equal { event, count }),
+        None => None,
+    }
+}
+
+/// Writes the line of events that are equal: the place of the first, how many they are, and which.
+fn show_equal(place: u64, equal: &Equal, answer: &mut String) -> Result<(), AllocError>
+    ensures { OnOk result (string_bytes answer.new ≡ string_bytes answer.old ++ equal_text place equal.now.count (event_of equal.now.event)) }
+{
     let begin = Grouped(place);
-    let shown = EventShown(event);
-    let times = Grouped(count);
-    writeln!(answer, "{begin:>15}  {times:>11} {shown}")?;
-    Ok(count)
+    let times = Grouped(equal.count);
+    let shown = EventShown(equal.event);
+    writeln!(answer, "{begin:>15}  {times:>11} {shown}")
+}
+
+/// Writes the place from which on there are more of all events, if there are.
+fn show_more(all: u64, place: u64, answer: &mut String) -> Result<(), AllocError>
+    ensures { OnOk result (string_bytes answer.new ≡ string_bytes answer.old ++ more_events all place) }
+{
+    if place >= all {
+        return Ok(());
+    }
+    writeln!(answer, "there are more: events {place} goes on")
+}
+
+/// Writes lines of events that are equal, from a place on, so many at most.
+fn show_from(
+    session: &Session,
+    lines: u32,
+    place: u64,
+    answer: &mut String,
+) -> Result<(), AllocError>
+    ensures { OnOk result (Writes (string_bytes answer.old) (string_bytes answer.new) (AreEvents session.now.events lines place)) }
+{
+    let all = session.at();
+    if lines == 0 {
+        return show_more(all, place, answer);
+    }
+    let Some(equal) = equal_from(session, place) else {
+        return Ok(());
+    };
+    show_equal(place, &equal, answer)?;
+    show_from(
+        session,
+        lines - 1,
+        place.saturating_add(equal.count),
+        answer,
+    )
+}
+
+/// The place that is asked for; without one, that from which on there are as many events as a round has.
+fn first_place(session: &Session, from: Option<u64>) -> u64
+    ensures { result ≡ first_place (length session.now.events) from }
+{
+    match from {
+        Some(place) => place,
+        None => session.at().saturating_sub(ROUND_EVENTS),
+    }
 }
 
 /// Writes the events from a place on; without one, those of the last round.
+///
+/// # Errors
+///
+/// The host has too little memory.
 pub fn show_events(
     session: &Session,
     from: Option<u64>,
     answer: &mut String,
-) -> Result<(), AllocError> {
-    let all = session.at();
-    let many = Many(all, "event");
-    writeln!(answer, "{many} since the boot; 0 is the place of the first")?;
-    writeln!(answer, "  from place on    so many")?;
-    let mut place = from.unwrap_or(all.saturating_sub(ROUND_EVENTS));
-    for _ in 0..LINES_MOST {
-        let count = show_equal(session, place, answer)?;
-        if count == 0 {
-            return Ok(());
-        }
-        place = place.saturating_add(count);
-    }
-    if place < all {
-        return writeln!(answer, "there are more: events {place} goes on");
-    }
-    Ok(())
+) -> Result<(), AllocError>
+    ensures { OnOk result (Writes (string_bytes answer.old) (string_bytes answer.new) (IsEventsText session.now from)) }
+{
+    let many = Many(session.at(), "event");
+    writeln!(
+        answer,
+        "{many} since the boot; 0 is the place of the first\n  from place on    so many"
+    )?;
+    show_from(session, LINES_MOST, first_place(session, from), answer)
 }
 
 /// Writes the last notes of the machine's trace, so many at most.
-pub fn show_trace(session: &Session, count: u32, answer: &mut String) -> Result<(), AllocError> {
+///
+/// # Errors
+///
+/// The host has too little memory.
+pub fn show_trace(session: &Session, count: u32, answer: &mut String) -> Result<(), AllocError>
+    ensures { session.now.machine.notes ≡ [] → OnOk result (string_bytes answer.new ≡ string_bytes answer.old ++ no_notes) }
+{
     let machine = session.machine();
     let kept = machine.trace_len();
     if kept == 0 {

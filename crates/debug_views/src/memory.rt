@@ -1,6 +1,7 @@
 //! Bytes of a process's memory.
-ghost use Rattle.std.specs.Prelude.{◌≡◌};
+ghost use Rattle.std.specs.Prelude.{◌≡◌, ◌++◌, ◌<◌, ◌≤◌, OnOk, string_bytes};
 ghost use Rattle.debug_views.specs.Bytes.{byte_behind};
+ghost use Rattle.debug_views.specs.MemoryText.{byte_in_line, character, characters_in_line, digits_in_line, digits_shown, gap_at, memory_line, memory_lines, memory_shown, memory_text};
 
 use crate::focus::{lives, program_name, show_none};
 use debug_words::texts::Named;
@@ -22,52 +23,95 @@ fn byte_behind(machine: &Machine, pid: Pid, address: u64, place: u32) -> Option<
     machine.peek(pid, address.checked_add(u64::from(place))?)
 }
 
-/// The bytes of a line, in hexadecimal: those from an address on, so many, which may be fewer than a line has room for.
+/// What stands before the byte at a place of a line.
+fn gap_at(place: u32) -> &'static str
+    ensures { result.now ≡ gap_at place }
+{
+    if place % 8 == 0 { "  " } else { " " }
+}
+
+/// Writes a byte in hexadecimal digits.
+fn show_digits(byte: Option<u8>, answer: &mut String) -> Result<(), AllocError>
+    ensures { OnOk result (string_bytes answer.new ≡ string_bytes answer.old ++ digits_shown byte) }
+{
+    match byte {
+        Some(byte) => write!(answer, "{byte:02x}"),
+        None => answer.push_str("--"),
+    }
+}
+
+/// Writes the byte at a place of a line that has so many, in hexadecimal digits.
+fn show_byte(
+    machine: &Machine,
+    pid: Pid,
+    address: u64,
+    count: u32,
+    place: u32,
+    answer: &mut String,
+) -> Result<(), AllocError>
+    ensures { OnOk result (string_bytes answer.new ≡ string_bytes answer.old ++ byte_in_line machine.now.world.state pid address count place) }
+{
+    answer.push_str(gap_at(place))?;
+    if place >= count {
+        return answer.push_str("  ");
+    }
+    show_digits(byte_behind(machine, pid, address, place), answer)
+}
+
+/// Writes the bytes of a line that has so many, in hexadecimal digits.
 fn show_bytes(
     machine: &Machine,
     pid: Pid,
     address: u64,
     count: u32,
     answer: &mut String,
-) -> Result<(), AllocError> {
+) -> Result<(), AllocError>
+    ensures { OnOk result (string_bytes answer.new ≡ string_bytes answer.old ++ digits_in_line machine.now.world.state pid address count 16) }
+{
     for place in 0..LINE_BYTES {
-        answer.push_str(if place % 8 == 0 { "  " } else { " " })?;
-        match byte_behind(machine, pid, address, place) {
-            _ if place >= count => answer.push_str("  ")?,
-            Some(byte) => write!(answer, "{byte:02x}")?,
-            None => answer.push_str("--")?,
-        }
+        show_byte(machine, pid, address, count, place, answer)?;
     }
     Ok(())
 }
 
-/// The same bytes as characters.
+/// A byte as a character: a dot if it is no visible one, a blank where no byte is.
+fn character(byte: Option<u8>) -> u8
+    ensures character { result ≡ character byte }
+    ensures ascii { result < 128 }
+{
+    let Some(byte) = byte else {
+        return b' ';
+    };
+    if byte >= 32 && byte < 127 { byte } else { b'.' }
+}
+
+/// Writes the bytes of a line as characters, so many.
 fn show_characters(
     machine: &Machine,
     pid: Pid,
     address: u64,
     count: u32,
     answer: &mut String,
-) -> Result<(), AllocError> {
+) -> Result<(), AllocError>
+    ensures { OnOk result (string_bytes answer.new ≡ string_bytes answer.old ++ characters_in_line machine.now.world.state pid address count) }
+{
     for place in 0..count {
-        let shown = match byte_behind(machine, pid, address, place) {
-            Some(byte) if byte >= 32 && byte < 127 => char::from(byte),
-            Some(_) => '.',
-            None => ' ',
-        };
-        answer.push(shown)?;
+        let shown = character(byte_behind(machine, pid, address, place));
+        answer.push(char::from(shown))?;
     }
     Ok(())
 }
 
-/// The line of the bytes from an address on, so many.
+/// Writes a line: the bytes from an address on, so many, which may be fewer than a line has room for.
 fn show_line(
     machine: &Machine,
     pid: Pid,
     address: u64,
     count: u32,
     answer: &mut String,
-) -> Result<(), AllocError> {
+) -> Result<(), AllocError>
+    ensures { OnOk result (string_bytes answer.new ≡ string_bytes answer.old ++ memory_line machine.now.world.state pid address count) }
+{
     write!(answer, "0x{address:010x} ")?;
     show_bytes(machine, pid, address, count, answer)?;
     answer.push_str("  |")?;
@@ -75,48 +119,64 @@ fn show_line(
     answer.push_str("|\n")
 }
 
-/// Writes the lines of so many bytes from an address on; those behind 2^64 are left out.
+/// Writes so many bytes from an address on, in so many lines at most; those behind 2^64 are left out.
 fn show_lines(
     machine: &Machine,
     pid: Pid,
-    from: u64,
+    lines: u32,
+    address: u64,
     count: u32,
     answer: &mut String,
-) -> Result<(), AllocError> {
-    let mut address = from;
-    let mut left = count;
-    for _ in 0..LINES_MOST {
-        let here = left.min(LINE_BYTES);
-        if here == 0 {
-            return Ok(());
-        }
-        show_line(machine, pid, address, here, answer)?;
-        left -= here;
-        let Some(next) = address.checked_add(u64::from(here)) else {
-            return Ok(());
-        };
-        address = next;
+) -> Result<(), AllocError>
+    ensures { OnOk result (string_bytes answer.new ≡ string_bytes answer.old ++ memory_lines machine.now.world.state pid lines address count) }
+{
+    if lines == 0 || count == 0 {
+        return Ok(());
     }
-    Ok(())
+    let here = count.min(LINE_BYTES);
+    show_line(machine, pid, address, here, answer)?;
+    match address.checked_add(u64::from(here)) {
+        Some(next) => show_lines(machine, pid, lines - 1, next, count - here, answer),
+        None => Ok(()),
+    }
 }
 
-/// Writes so many bytes of a process's memory from an address on; those behind 2^64 are left out.
-pub fn show_memory(
+/// Writes so many bytes of a live process's memory from an address on.
+fn show_known(
     session: &Session,
     pid: Pid,
     from: u64,
     count: u32,
     answer: &mut String,
-) -> Result<(), AllocError> {
-    let machine = session.machine();
-    if !lives(machine, pid) {
-        return show_none(pid, answer);
-    }
+) -> Result<(), AllocError>
+    ensures { OnOk result (string_bytes answer.new ≡ string_bytes answer.old ++ memory_text session.now pid from count) }
+{
     let number = pid.number();
     let name = Named(program_name(session, pid));
     writeln!(
         answer,
         "{count} bytes of process {number}{name}, in hexadecimal; -- isn't there"
     )?;
-    show_lines(machine, pid, from, count, answer)
+    show_lines(session.machine(), pid, LINES_MOST, from, count, answer)
+}
+
+/// Writes so many bytes of a process's memory from an address on, 256 at most; those behind 2^64 are left out.
+///
+/// # Errors
+///
+/// The host has too little memory.
+pub fn show_memory(
+    session: &Session,
+    pid: Pid,
+    from: u64,
+    count: u32,
+    answer: &mut String,
+) -> Result<(), AllocError>
+    ensures { OnOk result (string_bytes answer.new ≡ string_bytes answer.old ++ memory_shown session.now pid from count) }
+{
+    if lives(session.machine(), pid) {
+        show_known(session, pid, from, count, answer)
+    } else {
+        show_none(pid, answer)
+    }
 }

@@ -1,4 +1,4 @@
-use Rattle.std.proofs.Common.{◌≡◌, ◌≤◌, [], ◌∷◌, ◌++◌, ◌∙◌, None, Some, sym, ap, arith}
+use Rattle.std.proofs.Common.{◌≤◌, [], ◌∷◌, ◌++◌, ◌∙◌, sym, ap, arith}
 use Rattle.console_core.specs.Lists.{list_of}
 use Rattle.debug_views.specs.declared.console.TheConstants.{SHOWN_MOST}
 use Rattle.debug_views.proofs.Lists.{take-past, take-next}

@@ -1,0 +1,6 @@
+use Rattle.std.proofs.Common.{◌≡◌, ◌++◌, string_bytes}
+use Rattle.debug_views.specs.MemoryText.{characters_in_line}
+use Rattle.debug_views.proofs.memory.show_characters.Given as goal
+
+abbrev pub invariant-loop-place : goal.invariant-loop-place
+invariant-loop-place l = string_bytes l.answer ≡ string_bytes l.fn.answer ++ characters_in_line l.machine.world.state l.pid l.address l.place

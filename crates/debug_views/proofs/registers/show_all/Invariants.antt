@@ -1,0 +1,7 @@
+use Rattle.std.proofs.Common.{◌≡◌, ◌++◌, string_bytes, flat_map}
+use Rattle.std.specs.List.{range_with_len}
+use Rattle.debug_views.specs.RegisterText.{register_text}
+use Rattle.debug_views.proofs.registers.show_all.Given as goal
+
+abbrev pub invariant-loop-place : goal.invariant-loop-place
+invariant-loop-place l = string_bytes l.answer ≡ string_bytes l.fn.answer ++ flat_map (register_text l.regs) (range_with_len 1 l.place)
