@@ -118,6 +118,7 @@ export function start() {
     draw_registers();
     draw_memory();
   });
+  on("boot", () => { before = null; });
   on("resized", () => { is_narrow = null; });
   $("address").addEventListener("change", () => {
     const at = meant($("address").value);
