@@ -1,8 +1,9 @@
 #!/bin/sh
-# Gives the built program xv_run the words of the texts in this folder, and compares what it says with them:
-# checks/words/run.sh, or checks/words/run.sh NAME.. for some of them. A text that differs is shown with what differs, and
-# a verdict comes at the end; the status is 0 where all are as they should be. `checks/words/run.sh --store` writes the
-# texts anew: look at each line that changes. XV_RUN is the program, and without it the one that stands in this repository.
+# Gives the built programs xv_run and xv_terminal the words of the texts in this folder, and compares what they say with
+# them: checks/words/run.sh, or checks/words/run.sh NAME.. for some of them. A text that differs is shown with what
+# differs, and a verdict comes at the end; the status is 0 where all are as they should be. `checks/words/run.sh --store`
+# writes the texts anew: look at each line that changes. XV_RUN and XV_TERMINAL are the programs, and without them those
+# that stand in this repository.
 #
 # Of a text these lines count, and all others are for its reader:
 #
@@ -16,13 +17,20 @@
 set -u
 export LC_ALL=C
 here=$(cd "$(dirname "$0")" && pwd) || exit 2
-program=${XV_RUN-$here/../../crates/xv_run/out/xv_run}
-[ -x "$program" ] || { echo "there is no program $program: build it by ./xv" >&2; exit 2; }
+crates=$here/../../crates
 room=$(mktemp -d) || exit 2
 trap 'rm -rf "$room"' EXIT
 mkdir "$room/bin" || exit 2
-ln -s "$(readlink -f "$program")" "$room/bin/xv_run" || exit 2
 PATH=$room/bin:$PATH
+
+# Gives commands the program of the file $2 under the name $1.
+name_program() {
+    [ -x "$2" ] || { echo "there is no program $2: build it by ./xv" >&2; exit 2; }
+    ln -s "$(readlink -f "$2")" "$room/bin/$1" || exit 2
+}
+
+name_program xv_run "${XV_RUN-$crates/xv_run/out/xv_run}"
+name_program xv_terminal "${XV_TERMINAL-$crates/xv_terminal/out/xv_terminal}"
 
 first() {
     "$@" >"$room/first-out" 2>"$room/first-err"
