@@ -1,9 +1,9 @@
 #!/bin/sh
-# Gives the built programs xv_run and xv_terminal the words of the texts in this folder, and compares what they say with
-# them: checks/words/run.sh, or checks/words/run.sh NAME.. for some of them. A text that differs is shown with what
-# differs, and a verdict comes at the end; the status is 0 where all are as they should be. `checks/words/run.sh --store`
-# writes the texts anew: look at each line that changes. XV_RUN and XV_TERMINAL are the programs, and without them those
-# that stand in this repository.
+# Gives the built programs the words of the texts in this folder, and compares what they say with them:
+# checks/words/run.sh, or checks/words/run.sh NAME.. for some of them. A text that differs is shown with what differs, and
+# a verdict comes at the end; the status is 0 where all are as they should be. `checks/words/run.sh --store` writes the
+# texts anew: look at each line that changes. The programs are those that stand in this repository; XV_RUN is another
+# xv_run.
 #
 # Of a text these lines count, and all others are for its reader:
 #
@@ -17,20 +17,16 @@
 set -u
 export LC_ALL=C
 here=$(cd "$(dirname "$0")" && pwd) || exit 2
-crates=$here/../../crates
 room=$(mktemp -d) || exit 2
 trap 'rm -rf "$room"' EXIT
 mkdir "$room/bin" || exit 2
+for name in xv_run xv_why xv_gdb xv_terminal xv_debugger xv_grade; do
+    program=$here/../../crates/$name/out/$name
+    [ "$name" != xv_run ] || program=${XV_RUN-$program}
+    [ -x "$program" ] || { echo "there is no program $program: build it by ./xv" >&2; exit 2; }
+    ln -s "$(readlink -f "$program")" "$room/bin/$name" || exit 2
+done
 PATH=$room/bin:$PATH
-
-# Gives commands the program of the file $2 under the name $1.
-name_program() {
-    [ -x "$2" ] || { echo "there is no program $2: build it by ./xv" >&2; exit 2; }
-    ln -s "$(readlink -f "$2")" "$room/bin/$1" || exit 2
-}
-
-name_program xv_run "${XV_RUN-$crates/xv_run/out/xv_run}"
-name_program xv_terminal "${XV_TERMINAL-$crates/xv_terminal/out/xv_terminal}"
 
 first() {
     "$@" >"$room/first-out" 2>"$room/first-err"

@@ -1,6 +1,4 @@
 //! The words of a command line, and why they are refused.
-use clap::Command;
-use clap::error::ErrorKind as WordsErrorKind;
 use std::alloc::{AllocError, AllocFailed};
 use std::env;
 use std::io::{self, ErrorKind, Write};
@@ -11,14 +9,16 @@ use std::rt::Env;
 pub enum WordsError {
     /// The words themselves are refused, or ask for help. The text is for the user.
     Words(clap::Error),
-    /// The host has too little memory for the paths.
+    /// The host has too little memory for what the words give.
     Memory,
+    /// The host has too little memory for the words.
+    NoWords,
 }
 
 impl WordsError {
     /// Tells why the words of the program of this name are refused, or shows the help that they ask for, and
-    /// gives the status: 0 for help that was shown, 5 for help that `output` didn't take, and else 1. What
-    /// `errors` doesn't take is left out.
+    /// gives the status: 0 for help that was shown, 5 for help that `output` didn't take, 2 if the host has too little
+    /// memory for the words, and else 1. What `errors` doesn't take is left out.
     pub fn close<W: Write, E: Write>(&self, name: &str, output: &mut W, errors: &mut E) -> u8 {
         match self {
             WordsError::Words(text) if text.use_stderr() => {
@@ -35,6 +35,10 @@ impl WordsError {
             WordsError::Memory => {
                 let _ = writeln!(errors, "{name}: out of memory");
                 1
+            }
+            WordsError::NoWords => {
+                let _ = writeln!(errors, "{name}: out of memory");
+                2
             }
         }
     }
@@ -76,13 +80,5 @@ pub fn words<R: Env + AllocGlobal>(rt: &R) -> Result<Vec<String>, ErrorKind> {
             .collect(rt.alloc())
             .map_err(|_| ErrorKind::OutOfMemory),
         Err(error) => Err(error.kind()),
-    }
-}
-
-/// The refusal of a command line, in the form of those that `clap` makes.
-pub fn refused(command: &mut Command<'_>, kind: WordsErrorKind, message: &str) -> WordsError {
-    match command.error(kind, message) {
-        Ok(error) => WordsError::Words(error),
-        Err(error) => WordsError::Words(clap::Error::from(error)),
     }
 }

@@ -3,15 +3,19 @@
 #![tactic(auto)]
 
 mod arguments;
+mod command_line;
 mod ending;
 mod failure;
 mod files;
+mod given;
 mod options;
 mod refusal;
 
-pub use arguments::{WordsError, refused, words};
+pub use arguments::{WordsError, words};
+pub use command_line::{CommandLine, CommandWord};
 pub use ending::{close_run, show_trace, status_of_exit};
 pub use failure::Failure;
 pub use files::{program, programs};
-pub use options::{FRAMES, NumberOption, QUANTUM, ROUNDS, TRACE, file_argument, number, paths};
+pub use given::{Given, given_words, host_words};
+pub use options::{FRAMES, NumberOption, QUANTUM, ROUNDS, TRACE};
 pub use refusal::FileRefusal;

@@ -2,11 +2,9 @@
 ghost use Rattle.std.specs.Prelude.{IfOk};
 ghost use Rattle.xv_debugger.specs.Ranges.{AreInRange};
 
-use clap::error::ErrorKind;
-use clap::{Arg, ArgAction, ArgMatches, Command};
-use program_files::{FRAMES, TRACE, WordsError, file_argument, number, paths, refused};
-use std::alloc::{AllocError, Global};
-use std::convert::AsStr;
+use crate::NAME;
+use program_files::{CommandLine, CommandWord, FRAMES, TRACE, WordsError, given_words};
+use std::rt::Env;
 
 /// What the words ask for.
 #[derive(Drop)]
@@ -46,50 +44,41 @@ const PROMPT: &str = "prompt";
 
 const LINES: &str = "lines";
 
-fn command<'a>(alloc: Global) -> Result<Command<'a>, clap::Error> {
-    let prompt = Arg::new(alloc, PROMPT)
-        .long(PROMPT)
-        .action(ArgAction::SetTrue)
-        .help("Write a prompt before each line is read, and don't write the line again");
-    let lines = Arg::new(alloc, LINES).long(LINES).value_name("TABLE").help(
-        "A file with rows PROGRAM ADDRESS LINE in decimal numbers, as ./xv --debug makes it",
-    );
-    let command = Command::new(alloc, "xv_debugger")
-        .about("Looks into programs that run on a RISC-V machine that has the kernel of xv6")
-        .after_help(MORE_HELP)
-        .arg(FRAMES.argument(alloc))?
-        .arg(TRACE.argument(alloc))?
-        .arg(prompt)?
-        .arg(lines)?
-        .arg(file_argument(alloc))?;
-    Ok(command)
-}
+const COMMAND_LINE: CommandLine = CommandLine {
+    name: NAME,
+    about: "Looks into programs that run on a RISC-V machine that has the kernel of xv6",
+    more_help: MORE_HELP,
+    words: &[
+        CommandWord::Number(&FRAMES),
+        CommandWord::Number(&TRACE),
+        CommandWord::Flag {
+            name: PROMPT,
+            help: "Write a prompt before each line is read, and don't write the line again",
+        },
+        CommandWord::Text {
+            name: LINES,
+            value: "TABLE",
+            help: "A file with rows PROGRAM ADDRESS LINE in decimal numbers, as ./xv --debug makes it",
+        },
+        CommandWord::Files,
+    ],
+};
 
-/// The text of an option, if it is given.
-fn text(alloc: Global, matches: &ArgMatches<'_>, name: &str) -> Result<Option<String>, AllocError> {
-    match matches.get_str(name) {
-        Some(text) => Ok(Some(String::from_str(alloc, text)?)),
-        None => Ok(None),
-    }
-}
-
-/// Reads the words of a command line, the program's name first.
+/// What the words of the command line ask for.
 ///
 /// # Errors
 ///
-/// [`WordsError::Words`] if a word is neither an option nor a FILE, if a number isn't in its range, if no FILE is
-/// given, or if help is asked for: the error's text says which. [`WordsError::Memory`] if the host has too little
-/// memory.
-pub(crate) fn read_settings<S: AsStr>(alloc: Global, words: &[S]) -> Result<Settings, WordsError>
+/// Those of [`given_words`]: if a word is neither an option nor a FILE, if a number isn't in its range, if no FILE is
+/// given, if a word isn't text, if help is asked for, or if the host has too little memory.
+pub(crate) fn read_settings<R: Env + AllocGlobal>(rt: &R) -> Result<Settings, WordsError>
     ensures { IfOk result (λ s. AreInRange s) }
 {
-    let mut command = command(alloc)?;
-    let matches = command.try_get_matches_from_mut(words)?;
-    let frames = number(&matches, &mut command, &FRAMES)?;
-    let trace = number(&matches, &mut command, &TRACE)?;
-    let prompt = matches.get_flag(PROMPT);
-    let lines = text(alloc, &matches, LINES)?;
-    let files = paths(alloc, &matches, &mut command)?;
+    let given = given_words(rt, &COMMAND_LINE)?;
+    let frames = given.number(&FRAMES)?;
+    let trace = given.number(&TRACE)?;
+    let prompt = given.flag(PROMPT);
+    let lines = given.text(LINES)?;
+    let files = given.files()?;
     Ok(Settings {
         frames,
         trace,
@@ -97,12 +86,4 @@ pub(crate) fn read_settings<S: AsStr>(alloc: Global, words: &[S]) -> Result<Sett
         lines,
         files,
     })
-}
-
-/// The refusal of a command line of which a word isn't text.
-pub(crate) fn not_text(alloc: Global) -> WordsError {
-    match command(alloc) {
-        Ok(mut command) => refused(&mut command, ErrorKind::Format, "a word is not UTF-8 text"),
-        Err(error) => WordsError::Words(error),
-    }
 }

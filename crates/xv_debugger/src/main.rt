@@ -10,16 +10,19 @@ mod conversation;
 mod failure;
 mod sources;
 
-use crate::command_line::{Settings, not_text, read_settings};
+use crate::command_line::{Settings, read_settings};
 use crate::conversation::Conversation;
 use crate::failure::Failure;
 use crate::sources::sources;
-use program_files::{programs, words};
-use std::io::{ErrorKind, Input};
+use program_files::programs;
+use std::io::Input;
 use std::process::ExitCode;
 use xv_debug::Debugger;
 use xv_machine::Config;
 use xv_session::Session;
+
+/// The program's name.
+const NAME: &str = "xv_debugger";
 
 /// A conversation about a machine of the settings, which has got no event yet.
 fn begun<'a>(rt: &HostRuntime, settings: &'a Settings) -> Result<Conversation, Failure<'a>> {
@@ -53,14 +56,9 @@ fn debug(rt: &HostRuntime, settings: &Settings) -> u8 {
 
 /// Does what the words ask for, and gives the exit status.
 fn obey(rt: &HostRuntime) -> u8 {
-    let asked = match words(rt) {
-        Ok(words) => read_settings(rt.alloc(), words.as_slice()),
-        Err(ErrorKind::InvalidData) => Err(not_text(rt.alloc())),
-        Err(_) => return Failure::Memory.close(&mut rt.stderr()),
-    };
-    match asked {
+    match read_settings(rt) {
         Ok(settings) => debug(rt, &settings),
-        Err(error) => error.close("xv_debugger", &mut rt.stdout(), &mut rt.stderr()),
+        Err(error) => error.close(NAME, &mut rt.stdout(), &mut rt.stderr()),
     }
 }
 

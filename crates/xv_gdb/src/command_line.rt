@@ -2,13 +2,11 @@
 ghost use Rattle.std.specs.Prelude.{IfOk};
 ghost use Rattle.xv_gdb.specs.Ranges.{AreInRange};
 
-use clap::error::ErrorKind;
-use clap::{Arg, ArgMatches, Command};
+use crate::NAME;
 use program_files::{
-    FRAMES, NumberOption, QUANTUM, WordsError, file_argument, number, paths, refused,
+    CommandLine, CommandWord, FRAMES, NumberOption, QUANTUM, WordsError, given_words,
 };
-use std::alloc::{AllocError, Global};
-use std::convert::AsStr;
+use std::rt::Env;
 
 /// What the words ask for.
 #[derive(Drop)]
@@ -58,78 +56,50 @@ Exit status:
   2  a FILE or the boot is refused, or memory ran out
   5  standard input or standard output failed";
 
-/// An option that takes a text.
-fn text_option<'a>(
-    alloc: Global,
-    name: &'static str,
-    value: &'static str,
-    help: &'static str,
-) -> Arg<'a> {
-    Arg::new(alloc, name)
-        .long(name)
-        .value_name(value)
-        .help(help)
-}
+const COMMAND_LINE: CommandLine = CommandLine {
+    name: NAME,
+    about: "Runs programs on a RISC-V machine that has the kernel of xv6, for GDB",
+    more_help: MORE_HELP,
+    words: &[
+        CommandWord::Number(&FRAMES),
+        CommandWord::Number(&QUANTUM),
+        CommandWord::Number(&MOST),
+        CommandWord::Text {
+            name: "keys",
+            value: "FILE",
+            help: "A file whose bytes are typed, one a round",
+        },
+        CommandWord::Text {
+            name: "type",
+            value: "TEXT",
+            help: "A line that is typed, behind those bytes",
+        },
+        CommandWord::Text {
+            name: "file",
+            value: "NAME",
+            help: "The program that GDB has the symbols of",
+        },
+        CommandWord::Files,
+    ],
+};
 
-fn command<'a>(alloc: Global) -> Result<Command<'a>, clap::Error> {
-    let keys = text_option(
-        alloc,
-        "keys",
-        "FILE",
-        "A file whose bytes are typed, one a round",
-    );
-    let line = text_option(
-        alloc,
-        "type",
-        "TEXT",
-        "A line that is typed, behind those bytes",
-    );
-    let file = text_option(
-        alloc,
-        "file",
-        "NAME",
-        "The program that GDB has the symbols of",
-    );
-    let command = Command::new(alloc, "xv_gdb")
-        .about("Runs programs on a RISC-V machine that has the kernel of xv6, for GDB")
-        .after_help(MORE_HELP)
-        .arg(FRAMES.argument(alloc))?
-        .arg(QUANTUM.argument(alloc))?
-        .arg(MOST.argument(alloc))?
-        .arg(keys)?
-        .arg(line)?
-        .arg(file)?
-        .arg(file_argument(alloc))?;
-    Ok(command)
-}
-
-/// The text of an option, if it is given.
-fn text(alloc: Global, matches: &ArgMatches<'_>, name: &str) -> Result<Option<String>, AllocError> {
-    match matches.get_str(name) {
-        Some(text) => Ok(Some(String::from_str(alloc, text)?)),
-        None => Ok(None),
-    }
-}
-
-/// Reads the words of a command line, the program's name first.
+/// What the words of the command line ask for.
 ///
 /// # Errors
 ///
-/// [`WordsError::Words`] if a word is neither an option nor a FILE, if a number isn't in its range, if no FILE is
-/// given, or if help is asked for: the error's text says which. [`WordsError::Memory`] if the host has too little
-/// memory.
-pub(crate) fn read_settings<S: AsStr>(alloc: Global, words: &[S]) -> Result<Settings, WordsError>
+/// Those of [`given_words`]: if a word is neither an option nor a FILE, if a number isn't in its range, if no FILE is
+/// given, if a word isn't text, if help is asked for, or if the host has too little memory.
+pub(crate) fn read_settings<R: Env + AllocGlobal>(rt: &R) -> Result<Settings, WordsError>
     ensures { IfOk result (λ s. AreInRange s) }
 {
-    let mut command = command(alloc)?;
-    let matches = command.try_get_matches_from_mut(words)?;
-    let frames = number(&matches, &mut command, &FRAMES)?;
-    let quantum = number(&matches, &mut command, &QUANTUM)?;
-    let most = number(&matches, &mut command, &MOST)?;
-    let keys = text(alloc, &matches, "keys")?;
-    let line = text(alloc, &matches, "type")?;
-    let file = text(alloc, &matches, "file")?;
-    let files = paths(alloc, &matches, &mut command)?;
+    let given = given_words(rt, &COMMAND_LINE)?;
+    let frames = given.number(&FRAMES)?;
+    let quantum = given.number(&QUANTUM)?;
+    let most = given.number(&MOST)?;
+    let keys = given.text("keys")?;
+    let line = given.text("type")?;
+    let file = given.text("file")?;
+    let files = given.files()?;
     Ok(Settings {
         frames,
         quantum,
@@ -139,12 +109,4 @@ pub(crate) fn read_settings<S: AsStr>(alloc: Global, words: &[S]) -> Result<Sett
         file,
         files,
     })
-}
-
-/// The refusal of a command line of which a word isn't text.
-pub(crate) fn not_text(alloc: Global) -> WordsError {
-    match command(alloc) {
-        Ok(mut command) => refused(&mut command, ErrorKind::Format, "a word is not UTF-8 text"),
-        Err(error) => WordsError::from(error),
-    }
 }

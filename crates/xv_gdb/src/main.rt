@@ -12,17 +12,20 @@ mod failure;
 mod link;
 mod serving;
 
-use crate::command_line::{Settings, not_text, read_settings};
+use crate::command_line::{Settings, read_settings};
 use crate::failure::Failure;
 use crate::serving::Service;
 use gdb_machine::Rounds;
 use gdb_target::{Played, Target};
-use program_files::{programs, words};
+use program_files::programs;
 use std::fs;
 use std::io::ErrorKind;
 use std::process::ExitCode;
 use std::rt::Files;
 use xk_base::Program;
+
+/// The program's name.
+const NAME: &str = "xv_gdb";
 
 /// The place of the program that GDB has the symbols of: the one that was named, or else the first one behind
 /// `init`, or `init` where there is no other.
@@ -98,14 +101,9 @@ fn play(rt: &HostRuntime, settings: &Settings) -> u8 {
 
 /// Does what the words ask for, and gives the exit status.
 fn obey(rt: &HostRuntime) -> u8 {
-    let asked = match words(rt) {
-        Ok(words) => read_settings(rt.alloc(), words.as_slice()),
-        Err(ErrorKind::InvalidData) => Err(not_text(rt.alloc())),
-        Err(_) => return Failure::Memory.close(&mut rt.stderr()),
-    };
-    match asked {
+    match read_settings(rt) {
         Ok(settings) => play(rt, &settings),
-        Err(error) => error.close("xv_gdb", &mut rt.stdout(), &mut rt.stderr()),
+        Err(error) => error.close(NAME, &mut rt.stdout(), &mut rt.stderr()),
     }
 }
 

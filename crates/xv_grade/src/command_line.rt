@@ -1,6 +1,5 @@
 //! The words of the command line.
-use clap::{Arg, ArgAction, ArgMatches, Command};
-use program_files::WordsError;
+use program_files::{CommandLine, CommandWord, Given, WordsError};
 use std::alloc::Global;
 use std::convert::AsStr;
 
@@ -41,49 +40,44 @@ Exit status:
   2  the EXERCISE or one of its files is refused, or memory ran out
   5  a file or standard output can't be written";
 
-// An option that takes a path.
-fn path_option<'a>(alloc: Global, name: &'a str, help: &'a str) -> Arg<'a> {
-    Arg::new(alloc, name)
-        .long(name)
-        .value_name("PATH")
-        .help(help)
-}
+const COMMAND_LINE: CommandLine = CommandLine {
+    name: "xv_grade",
+    about: "Grades a program by a run on a RISC-V machine that has the kernel of xv6",
+    more_help: MORE_HELP,
+    words: &[
+        CommandWord::Text {
+            name: "name",
+            value: "PATH",
+            help: "A file whose bytes are the submission's name",
+        },
+        CommandWord::Text {
+            name: "refused",
+            value: "PATH",
+            help: "A file with lines NAME: WHY, for files that are not run",
+        },
+        CommandWord::Text {
+            name: "out",
+            value: "PATH",
+            help: "The folder for the results",
+        },
+        CommandWord::Flag {
+            name: "inputs",
+            help: "Shows the paths of the exercise's own files, and nothing else",
+        },
+        CommandWord::Needed {
+            name: "EXERCISE",
+            help: "A file of TOML",
+        },
+        CommandWord::Optional {
+            name: "SUBMISSION",
+            help: "The folder of what was handed in",
+        },
+    ],
+};
 
-fn command<'a>(alloc: Global) -> Result<Command<'a>, clap::Error> {
-    let exercise = Arg::new(alloc, "EXERCISE").required(true);
-    let submission = Arg::new(alloc, "SUBMISSION");
-    let name = "A file whose bytes are the submission's name";
-    let refused = "A file with lines NAME: WHY, for files that are not run";
-    let out = "The folder for the results";
-    let inputs = "Shows the paths of the exercise's own files, and nothing else";
-    let command = Command::new(alloc, "xv_grade")
-        .about("Grades a program by a run on a RISC-V machine that has the kernel of xv6")
-        .after_help(MORE_HELP)
-        .arg(path_option(alloc, "name", name))?
-        .arg(path_option(alloc, "refused", refused))?
-        .arg(path_option(alloc, "out", out))?
-        .arg(
-            Arg::new(alloc, "inputs")
-                .long("inputs")
-                .action(ArgAction::SetTrue)
-                .help(inputs),
-        )?
-        .arg(exercise.help("A file of TOML"))?
-        .arg(submission.help("The folder of what was handed in"))?;
-    Ok(command)
-}
-
-// The text of an option or an argument, if it is given.
-fn text(alloc: Global, matches: &ArgMatches<'_>, name: &str) -> Result<Option<String>, WordsError> {
-    match matches.get_strs(name).unwrap_or(&[]).first() {
-        Some(text) => Ok(Some(String::from_str(alloc, text)?)),
-        None => Ok(None),
-    }
-}
-
-// The text of an argument that `clap` asks for.
-fn needed(alloc: Global, matches: &ArgMatches<'_>, name: &str) -> Result<String, WordsError> {
-    match text(alloc, matches, name)? {
+// The text of a word that has to be given.
+fn needed(alloc: Global, given: &Given, name: &str) -> Result<String, WordsError> {
+    match given.text(name)? {
         Some(text) => Ok(text),
         None => Ok(String::new(alloc)),
     }
@@ -93,16 +87,15 @@ fn needed(alloc: Global, matches: &ArgMatches<'_>, name: &str) -> Result<String,
 ///
 /// # Errors
 ///
-/// [`WordsError::Words`] if `clap` refuses them or help is asked for, and [`WordsError::Memory`].
+/// Those of [`Given::read`].
 pub fn read_words<S: AsStr>(alloc: Global, words: &[S]) -> Result<Settings, WordsError> {
-    let mut command = command(alloc)?;
-    let matches = command.try_get_matches_from_mut(words)?;
+    let given = Given::read(alloc, &COMMAND_LINE, words)?;
     Ok(Settings {
-        exercise: needed(alloc, &matches, "EXERCISE")?,
-        submission: text(alloc, &matches, "SUBMISSION")?,
-        name: text(alloc, &matches, "name")?,
-        refused: text(alloc, &matches, "refused")?,
-        out: text(alloc, &matches, "out")?,
-        inputs: matches.get_flag("inputs"),
+        exercise: needed(alloc, &given, "EXERCISE")?,
+        submission: given.text("SUBMISSION")?,
+        name: given.text("name")?,
+        refused: given.text("refused")?,
+        out: given.text("out")?,
+        inputs: given.flag("inputs"),
     })
 }

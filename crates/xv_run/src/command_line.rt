@@ -4,11 +4,7 @@ ghost use Rattle.xv_run.specs.Ranges.{AreInRange};
 
 use crate::NAME;
 use crate::line::Settings;
-use clap::Command;
-use clap::error::ErrorKind;
-use program_files::{
-    FRAMES, QUANTUM, ROUNDS, TRACE, WordsError, file_argument, number, paths, refused,
-};
+use program_files::{CommandLine, CommandWord, FRAMES, Given, QUANTUM, ROUNDS, TRACE, WordsError};
 use std::alloc::Global;
 use std::convert::AsStr;
 
@@ -36,17 +32,19 @@ Exit status:
   4  all rounds were made, and init has not exited
   5  standard input or standard output failed";
 
-fn command<'a>(alloc: Global) -> Result<Command<'a>, clap::Error> {
-    let command = Command::new(alloc, NAME)
-        .about("Runs programs on a RISC-V machine that has the kernel of xv6")
-        .after_help(MORE_HELP)
-        .arg(FRAMES.argument(alloc))?
-        .arg(ROUNDS.argument(alloc))?
-        .arg(QUANTUM.argument(alloc))?
-        .arg(TRACE.argument(alloc))?
-        .arg(file_argument(alloc))?;
-    Ok(command)
-}
+/// The command line.
+pub(crate) const COMMAND_LINE: CommandLine = CommandLine {
+    name: NAME,
+    about: "Runs programs on a RISC-V machine that has the kernel of xv6",
+    more_help: MORE_HELP,
+    words: &[
+        CommandWord::Number(&FRAMES),
+        CommandWord::Number(&ROUNDS),
+        CommandWord::Number(&QUANTUM),
+        CommandWord::Number(&TRACE),
+        CommandWord::Files,
+    ],
+};
 
 /// Reads the words of a command line, the program's name first.
 ///
@@ -54,17 +52,16 @@ fn command<'a>(alloc: Global) -> Result<Command<'a>, clap::Error> {
 ///
 /// `Words` if a word is neither an option nor a FILE, if a number isn't in its range, if no FILE is given,
 /// if help is asked for, or if `clap` gets no memory: the error's text says which. `Memory` if there is no
-/// memory for the paths.
+/// memory for what the words give.
 pub fn settings<S: AsStr>(alloc: Global, words: &[S]) -> Result<Settings, WordsError>
     ensures { IfOk result (λ s. AreInRange s) }
 {
-    let mut command = command(alloc)?;
-    let matches = command.try_get_matches_from_mut(words)?;
-    let frames = number(&matches, &mut command, &FRAMES)?;
-    let rounds = number(&matches, &mut command, &ROUNDS)?;
-    let quantum = number(&matches, &mut command, &QUANTUM)?;
-    let trace = number(&matches, &mut command, &TRACE)?;
-    let files = paths(alloc, &matches, &mut command)?;
+    let given = Given::read(alloc, &COMMAND_LINE, words)?;
+    let frames = given.number(&FRAMES)?;
+    let rounds = given.number(&ROUNDS)?;
+    let quantum = given.number(&QUANTUM)?;
+    let trace = given.number(&TRACE)?;
+    let files = given.files()?;
     Ok(Settings {
         frames,
         rounds: u64::from(rounds),
@@ -72,12 +69,4 @@ pub fn settings<S: AsStr>(alloc: Global, words: &[S]) -> Result<Settings, WordsE
         trace,
         files,
     })
-}
-
-/// The refusal of a command line of which a word isn't text.
-pub(crate) fn not_text(alloc: Global) -> WordsError {
-    match command(alloc) {
-        Ok(mut command) => refused(&mut command, ErrorKind::Format, "a word is not UTF-8 text"),
-        Err(error) => WordsError::Words(error),
-    }
 }

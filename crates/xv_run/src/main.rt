@@ -9,11 +9,10 @@ mod command_line;
 mod line;
 mod running;
 
-use crate::command_line::{not_text, settings};
+use crate::command_line::{COMMAND_LINE, settings};
 use crate::line::Settings;
 use crate::running::run_with;
-use program_files::{Failure, programs, words};
-use std::io::ErrorKind;
+use program_files::{Failure, WordsError, host_words, programs};
 use std::process::ExitCode;
 use xv_machine::{Config, Counted, RunPlan};
 
@@ -48,14 +47,15 @@ fn run(rt: &HostRuntime, settings: &Settings) -> u8 {
     }
 }
 
+// What the words ask for.
+fn asked(rt: &HostRuntime) -> Result<Settings, WordsError> {
+    let words = host_words(rt, &COMMAND_LINE)?;
+    settings(rt.alloc(), words.as_slice())
+}
+
 // Does what the words ask for.
 fn obey(rt: &HostRuntime) -> u8 {
-    let asked = match words(rt) {
-        Ok(words) => settings(rt.alloc(), words.as_slice()),
-        Err(ErrorKind::InvalidData) => Err(not_text(rt.alloc())),
-        Err(_) => return Failure::OutOfMemory.close(NAME, &mut rt.stderr()),
-    };
-    match asked {
+    match asked(rt) {
         Ok(settings) => run(rt, &settings),
         Err(error) => error.close(NAME, &mut rt.stdout(), &mut rt.stderr()),
     }

@@ -4,13 +4,10 @@ ghost use Rattle.xv_terminal.specs.Settings.{AreInRange};
 
 use crate::NAME;
 use crate::line::Settings;
-use clap::error::ErrorKind;
-use clap::{Arg, ArgAction, ArgMatches, Command};
 use program_files::{
-    FRAMES, NumberOption, TRACE, WordsError, file_argument, number, paths, refused,
+    CommandLine, CommandWord, FRAMES, NumberOption, TRACE, WordsError, given_words,
 };
-use std::alloc::Global;
-use std::convert::AsStr;
+use std::rt::Env;
 
 /// `--tick`: the time of a tick.
 const TICK: NumberOption = NumberOption {
@@ -40,90 +37,64 @@ Exit status:
   4  it ended otherwise: by Ctrl-\\, or since no key would come any more
   5  standard input, standard output, the clock or the record's file failed";
 
-// An option that names a file.
-fn path_option<'a>(alloc: Global, name: &'a str, help: &'a str) -> Arg<'a> {
-    Arg::new(alloc, name)
-        .long(name)
-        .value_name("PATH")
-        .help(help)
-}
+const COMMAND_LINE: CommandLine = CommandLine {
+    name: NAME,
+    about: "Runs programs on a RISC-V machine that has the kernel of xv6, at a terminal",
+    more_help: MORE_HELP,
+    words: &[
+        CommandWord::Number(&FRAMES),
+        CommandWord::Number(&TRACE),
+        CommandWord::Number(&TICK),
+        CommandWord::Text {
+            name: "record",
+            value: "PATH",
+            help: "Writes the session's record into this file",
+        },
+        CommandWord::Text {
+            name: "replay",
+            value: "PATH",
+            help: "Plays the record of this file",
+        },
+        CommandWord::Text {
+            name: "lines",
+            value: "PATH",
+            help: "A file with rows PROGRAM ADDRESS LINE in decimal numbers, for the prompt",
+        },
+        CommandWord::Flag {
+            name: "terminal",
+            help: "Standard input answers at once: no byte is not its end",
+        },
+        CommandWord::Flag {
+            name: "apart",
+            help: "Standard error is not the terminal",
+        },
+        CommandWord::Files,
+    ],
+};
 
-// An option without a value.
-fn flag<'a>(alloc: Global, name: &'a str, help: &'a str) -> Arg<'a> {
-    Arg::new(alloc, name)
-        .long(name)
-        .action(ArgAction::SetTrue)
-        .help(help)
-}
-
-fn command<'a>(alloc: Global) -> Result<Command<'a>, clap::Error> {
-    let command = Command::new(alloc, NAME)
-        .about("Runs programs on a RISC-V machine that has the kernel of xv6, at a terminal")
-        .after_help(MORE_HELP)
-        .arg(FRAMES.argument(alloc))?
-        .arg(TRACE.argument(alloc))?
-        .arg(TICK.argument(alloc))?
-        .arg(path_option(
-            alloc,
-            "record",
-            "Writes the session's record into this file",
-        ))?
-        .arg(path_option(alloc, "replay", "Plays the record of this file"))?
-        .arg(path_option(
-            alloc,
-            "lines",
-            "A file with rows PROGRAM ADDRESS LINE in decimal numbers, for the prompt",
-        ))?
-        .arg(flag(
-            alloc,
-            "terminal",
-            "Standard input answers at once: no byte is not its end",
-        ))?
-        .arg(flag(alloc, "apart", "Standard error is not the terminal"))?
-        .arg(file_argument(alloc))?;
-    Ok(command)
-}
-
-// The path of an option, if it is given.
-fn path(alloc: Global, matches: &ArgMatches<'_>, name: &str) -> Result<Option<String>, WordsError> {
-    match matches.get_str(name) {
-        Some(path) => Ok(Some(String::from_str(alloc, path)?)),
-        None => Ok(None),
-    }
-}
-
-/// Reads the words of a command line, the program's name first.
+/// What the words of the command line ask for.
 ///
 /// # Errors
 ///
-/// `Words` if a word is neither an option nor a FILE, if a number isn't in its range, if no FILE is given, if help is
-/// asked for, or if `clap` gets no memory: the error's text says which. `Memory` if there is no memory for the paths.
-pub fn settings<S: AsStr>(alloc: Global, words: &[S]) -> Result<Settings, WordsError>
+/// Those of [`given_words`]: if a word is neither an option nor a FILE, if a number isn't in its range, if no FILE is
+/// given, if a word isn't text, if help is asked for, or if the host has too little memory.
+pub fn settings<R: Env + AllocGlobal>(rt: &R) -> Result<Settings, WordsError>
     ensures { IfOk result (λ s. AreInRange s) }
 {
-    let mut command = command(alloc)?;
-    let matches = command.try_get_matches_from_mut(words)?;
-    let frames = number(&matches, &mut command, &FRAMES)?;
-    let trace = number(&matches, &mut command, &TRACE)?;
-    let tick = number(&matches, &mut command, &TICK)?;
-    let files = paths(alloc, &matches, &mut command)?;
+    let given = given_words(rt, &COMMAND_LINE)?;
+    let frames = given.number(&FRAMES)?;
+    let trace = given.number(&TRACE)?;
+    let tick = given.number(&TICK)?;
+    let files = given.files()?;
     Ok(Settings {
         frames,
         trace,
         tick,
-        record: path(alloc, &matches, "record")?,
-        replay: path(alloc, &matches, "replay")?,
-        lines: path(alloc, &matches, "lines")?,
-        terminal: matches.get_flag("terminal"),
-        apart: matches.get_flag("apart"),
+        record: given.text("record")?,
+        replay: given.text("replay")?,
+        lines: given.text("lines")?,
+        terminal: given.flag("terminal"),
+        apart: given.flag("apart"),
         files,
     })
-}
-
-/// The refusal of a command line of which a word isn't text.
-pub fn not_text(alloc: Global) -> WordsError {
-    match command(alloc) {
-        Ok(mut command) => refused(&mut command, ErrorKind::Format, "a word is not UTF-8 text"),
-        Err(error) => WordsError::Words(error),
-    }
 }

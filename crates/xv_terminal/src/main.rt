@@ -25,24 +25,15 @@ mod telling;
 mod trouble;
 
 use crate::beginning::run;
-use crate::command_line::{not_text, settings};
-use crate::trouble::Failure;
-use program_files::words;
-use std::io::ErrorKind;
+use crate::command_line::settings;
 use std::process::ExitCode;
-use xv_live::Trouble;
 
 /// The name under which the program tells what is wrong.
 const NAME: &str = "xv_terminal";
 
 // Does what the words ask for.
 fn obey(rt: &HostRuntime) -> u8 {
-    let asked = match words(rt) {
-        Ok(words) => settings(rt.alloc(), words.as_slice()),
-        Err(ErrorKind::InvalidData) => Err(not_text(rt.alloc())),
-        Err(_) => return Failure::Trouble(Trouble::Memory).close(&mut rt.stderr()),
-    };
-    match asked {
+    match settings(rt) {
         Ok(settings) => run(rt, &settings),
         Err(error) => error.close(NAME, &mut rt.stdout(), &mut rt.stderr()),
     }

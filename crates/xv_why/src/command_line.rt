@@ -4,13 +4,10 @@ ghost use Rattle.xv_why.specs.Ranges.{AreInRange};
 
 use crate::NAME;
 use crate::line::{Settings, Telling};
-use clap::error::ErrorKind;
-use clap::{Arg, ArgAction, Command};
 use program_files::{
-    FRAMES, QUANTUM, ROUNDS, TRACE, WordsError, file_argument, number, paths, refused,
+    CommandLine, CommandWord, FRAMES, QUANTUM, ROUNDS, TRACE, WordsError, given_words,
 };
-use std::alloc::Global;
-use std::convert::AsStr;
+use std::rt::Env;
 
 /// The word that asks for each event in words.
 const EXPLAIN: &str = "explain";
@@ -33,27 +30,26 @@ from there on, and `waits 3 ..` what it sleeps on. xv_picture draws these lines.
 The function of an address comes from the symbol table of FILE.debug, if there is such a file, or
 else of FILE itself.";
 
-fn command<'a>(alloc: Global) -> Result<Command<'a>, clap::Error> {
-    let explain = Arg::new(alloc, EXPLAIN)
-        .long(EXPLAIN)
-        .action(ArgAction::SetTrue)
-        .help("Tell each event in words, as it comes");
-    let notes = Arg::new(alloc, NOTES)
-        .long(NOTES)
-        .action(ArgAction::SetTrue)
-        .help("Tell each event as a line of a trace, with names, as it comes");
-    let command = Command::new(alloc, NAME)
-        .about("Runs programs as xv_run does, and tells why processes end or wait")
-        .after_help(MORE_HELP)
-        .arg(FRAMES.argument(alloc))?
-        .arg(ROUNDS.argument(alloc))?
-        .arg(QUANTUM.argument(alloc))?
-        .arg(TRACE.argument(alloc))?
-        .arg(explain)?
-        .arg(notes)?
-        .arg(file_argument(alloc))?;
-    Ok(command)
-}
+const COMMAND_LINE: CommandLine = CommandLine {
+    name: NAME,
+    about: "Runs programs as xv_run does, and tells why processes end or wait",
+    more_help: MORE_HELP,
+    words: &[
+        CommandWord::Number(&FRAMES),
+        CommandWord::Number(&ROUNDS),
+        CommandWord::Number(&QUANTUM),
+        CommandWord::Number(&TRACE),
+        CommandWord::Flag {
+            name: EXPLAIN,
+            help: "Tell each event in words, as it comes",
+        },
+        CommandWord::Flag {
+            name: NOTES,
+            help: "Tell each event as a line of a trace, with names, as it comes",
+        },
+        CommandWord::Files,
+    ],
+};
 
 // What is told of events as they come, if they are to be told in words, or as lines of a trace, which goes before.
 fn telling(in_words: bool, as_notes: bool) -> Telling {
@@ -67,24 +63,22 @@ fn telling(in_words: bool, as_notes: bool) -> Telling {
     }
 }
 
-/// Reads the words of a command line, the program's name first.
+/// What the words of the command line ask for.
 ///
 /// # Errors
 ///
-/// `Words` if a word is neither an option nor a FILE, if a number isn't in its range, if no FILE is given,
-/// if help is asked for, or if `clap` gets no memory: the error's text says which. `Memory` if there is no
-/// memory for the paths.
-pub fn settings<S: AsStr>(alloc: Global, words: &[S]) -> Result<Settings, WordsError>
+/// Those of [`given_words`]: if a word is neither an option nor a FILE, if a number isn't in its range, if no FILE is
+/// given, if a word isn't text, if help is asked for, or if the host has too little memory.
+pub fn settings<R: Env + AllocGlobal>(rt: &R) -> Result<Settings, WordsError>
     ensures { IfOk result (λ s. AreInRange s) }
 {
-    let mut command = command(alloc)?;
-    let matches = command.try_get_matches_from_mut(words)?;
-    let frames = number(&matches, &mut command, &FRAMES)?;
-    let rounds = number(&matches, &mut command, &ROUNDS)?;
-    let quantum = number(&matches, &mut command, &QUANTUM)?;
-    let trace = number(&matches, &mut command, &TRACE)?;
-    let telling = telling(matches.get_flag(EXPLAIN), matches.get_flag(NOTES));
-    let files = paths(alloc, &matches, &mut command)?;
+    let given = given_words(rt, &COMMAND_LINE)?;
+    let frames = given.number(&FRAMES)?;
+    let rounds = given.number(&ROUNDS)?;
+    let quantum = given.number(&QUANTUM)?;
+    let trace = given.number(&TRACE)?;
+    let telling = telling(given.flag(EXPLAIN), given.flag(NOTES));
+    let files = given.files()?;
     Ok(Settings {
         frames,
         rounds: u64::from(rounds),
@@ -93,12 +87,4 @@ pub fn settings<S: AsStr>(alloc: Global, words: &[S]) -> Result<Settings, WordsE
         telling,
         files,
     })
-}
-
-/// The refusal of a command line of which a word isn't text.
-pub(crate) fn not_text(alloc: Global) -> WordsError {
-    match command(alloc) {
-        Ok(mut command) => refused(&mut command, ErrorKind::Format, "a word is not UTF-8 text"),
-        Err(error) => WordsError::Words(error),
-    }
 }

@@ -13,13 +13,12 @@ mod running;
 mod teller;
 mod watching;
 
-use crate::command_line::{not_text, settings};
+use crate::command_line::settings;
 use crate::line::Settings;
 use crate::running::run_with;
 use crate::teller::Teller;
 use debug_files::symbols_beside;
-use program_files::{Failure, programs, words};
-use std::io::ErrorKind;
+use program_files::{Failure, programs};
 use std::process::ExitCode;
 use xv_machine::{Config, Counted, RunPlan};
 
@@ -60,12 +59,7 @@ fn run(rt: &HostRuntime, settings: &Settings) -> u8 {
 
 // Does what the words ask for.
 fn obey(rt: &HostRuntime) -> u8 {
-    let asked = match words(rt) {
-        Ok(words) => settings(rt.alloc(), words.as_slice()),
-        Err(ErrorKind::InvalidData) => Err(not_text(rt.alloc())),
-        Err(_) => return Failure::OutOfMemory.close(NAME, &mut rt.stderr()),
-    };
-    match asked {
+    match settings(rt) {
         Ok(settings) => run(rt, &settings),
         Err(error) => error.close(NAME, &mut rt.stdout(), &mut rt.stderr()),
     }
