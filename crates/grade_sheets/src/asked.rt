@@ -1,9 +1,29 @@
 //! What is asked of a run: the rules of an exercise, read.
-use crate::exercise::RuleText;
+use crate::keys::{Keys, natural};
 use crate::notation::pattern;
-use crate::refusal::SheetError;
+use crate::refusal::{SheetError, refused};
 use grade_rules::{Edge, Pattern, Rule};
 use std::alloc::Global;
+use toml::Value;
+
+/// The largest number of points, and of notes.
+const COUNT_MAX: u64 = u32::MAX as u64;
+
+/// The most by which numbers can be asked to rise: the largest number of a file.
+const RISE_MAX: u64 = i64::MAX as u64;
+
+/// The keys that a rule may have, beside its name.
+const RULE_KEYS: [&str; 17] = [
+    "points", "status", "shown", "shows", "rise", "line", "predicts", "note", "at_least",
+    "at_most", "none_of", "first", "then", "steps", "order", "of", "notes",
+];
+
+/// Why a rule is refused that asks for nothing, for two things, or for half of one.
+const ONE_THING: &str = "a rule asks for one thing, first needs then, and of needs notes";
+
+/// Why an order is refused.
+const ORDER: &str =
+    "order takes pairs of steps, counted from 1, of which the first is the lower one";
 
 /// What a run has to have.
 #[derive(Drop)]
@@ -36,14 +56,6 @@ pub struct Asked {
     pub check: Check,
 }
 
-// A refusal of a rule's text.
-fn refused(alloc: Global, text: &str) -> SheetError {
-    match String::from_str(alloc, text) {
-        Ok(text) => SheetError::Text(text),
-        Err(_) => SheetError::Memory,
-    }
-}
-
 // The pattern of a text.
 fn pattern_of(alloc: Global, text: &str) -> Result<Pattern, SheetError> {
     match pattern(text) {
@@ -73,160 +85,145 @@ fn chain(alloc: Global, steps: usize) -> Result<Vec<Edge>, SheetError> {
     Ok(edges)
 }
 
+// The place of a step that is counted from 1, of so many.
+fn place_of(step: &Value, steps: usize) -> Option<usize> {
+    let place = usize::try_from(natural(step)?).ok()?.checked_sub(1)?;
+    if place < steps { Some(place) } else { None }
+}
+
 // The edge of two steps that are counted from 1, of so many.
-fn edge_of(alloc: Global, pair: &[u32], steps: usize) -> Result<Edge, SheetError> {
-    match pair {
-        [before, behind] if 0 < *before && before < behind && *behind as usize <= steps => Ok(
-            Edge {
-                before: *before as usize - 1,
-                behind: *behind as usize - 1,
-            },
-        ),
-        _ => Err(refused(
-            alloc,
-            "order takes pairs of steps, counted from 1, of which the first is the lower one",
-        )),
+fn edge_of(pair: &Value, steps: usize) -> Option<Edge> {
+    let [before, behind] = pair.as_array()?.as_slice() else {
+        return None;
+    };
+    let before = place_of(before, steps)?;
+    let behind = place_of(behind, steps)?;
+    if before < behind {
+        Some(Edge { before, behind })
+    } else {
+        None
     }
 }
 
-// The edges of an order of so many steps, or of a chain of them if none is given.
-fn edges_of(
-    alloc: Global,
-    order: &Option<Vec<Vec<u32>>>,
-    steps: usize,
-) -> Result<Vec<Edge>, SheetError> {
-    let Some(order) = order else {
+// The edges of the order of a rule of so many steps, or of a chain of them if it has none.
+fn edges_of(alloc: Global, rule: &Keys<'_>, steps: usize) -> Result<Vec<Edge>, SheetError> {
+    if !rule.has("order") {
         return chain(alloc, steps);
-    };
+    }
     let mut edges = Vec::new(alloc);
-    for pair in order {
-        edges.push(edge_of(alloc, pair.as_slice(), steps)?)?;
+    for pair in rule.list(alloc, "order")? {
+        let Some(edge) = edge_of(pair, steps) else {
+            return Err(refused(alloc, ORDER));
+        };
+        edges.push(edge)?;
     }
     Ok(edges)
 }
 
-// Copies of texts.
-pub(crate) fn copies(alloc: Global, texts: &[String]) -> Result<Vec<String>, SheetError> {
-    let mut copies = Vec::new(alloc);
-    for text in texts {
-        copies.push(String::from_str(alloc, text.as_str())?)?;
-    }
-    Ok(copies)
+// The pattern of a key's text.
+fn pattern_at(alloc: Global, rule: &Keys<'_>, key: &str) -> Result<Pattern, SheetError> {
+    let text = rule.text(alloc, key)?;
+    pattern_of(alloc, text.as_str())
 }
 
-// A list of one text.
-fn one(alloc: Global, text: &str) -> Result<Vec<String>, SheetError> {
+// A key's text alone, as a list.
+fn text_at(alloc: Global, rule: &Keys<'_>, key: &str) -> Result<Vec<String>, SheetError> {
     let mut texts = Vec::new(alloc);
-    texts.push(String::from_str(alloc, text)?)?;
+    texts.push(rule.text(alloc, key)?)?;
     Ok(texts)
 }
 
-// How many notes are there at least: one if nothing is said.
-fn least_of(text: &RuleText) -> u32 {
-    match (text.at_least, text.at_most) {
-        (Some(least), _) => least,
-        (None, Some(_)) => 0,
-        (None, None) => 1,
-    }
-}
-
-// The rule that counts notes.
-fn counted(alloc: Global, text: &RuleText, note: &str) -> Result<Check, SheetError> {
-    let pattern = pattern_of(alloc, note)?;
-    let texts = one(alloc, note)?;
+// The rule that counts notes: one at least if nothing is said.
+fn counted(alloc: Global, rule: &Keys<'_>) -> Result<Check, SheetError> {
+    let usual = if rule.has("at_most") { 0 } else { 1 };
+    let least = rule.number(alloc, "at_least", usual, 0, COUNT_MAX)? as usize;
+    let most = rule.number(alloc, "at_most", COUNT_MAX, 0, COUNT_MAX)? as usize;
+    let pattern = pattern_at(alloc, rule, "note")?;
+    let texts = text_at(alloc, rule, "note")?;
     let rule = Rule::Count {
         pattern,
-        least: least_of(text) as usize,
-        most: text.at_most.unwrap_or(u32::MAX) as usize,
+        least,
+        most,
     };
+    Ok(Check::Notes { rule, texts })
+}
+
+// The rule that no note is one of these.
+fn none_of(alloc: Global, rule: &Keys<'_>) -> Result<Check, SheetError> {
+    let texts = rule.texts(alloc, "none_of")?;
+    let patterns = patterns_of(alloc, texts.as_slice())?;
+    let rule = Rule::NoneOf { patterns };
     Ok(Check::Notes { rule, texts })
 }
 
 // The rule of a note before others.
-fn before(alloc: Global, first: &str, then: &str) -> Result<Check, SheetError> {
-    let rule = Rule::Before {
-        first: pattern_of(alloc, first)?,
-        next: pattern_of(alloc, then)?,
-    };
-    let texts = one(alloc, first)?;
+fn before(alloc: Global, rule: &Keys<'_>) -> Result<Check, SheetError> {
+    let first = pattern_at(alloc, rule, "first")?;
+    let next = pattern_at(alloc, rule, "then")?;
+    let texts = text_at(alloc, rule, "first")?;
+    let rule = Rule::Before { first, next };
     Ok(Check::Notes { rule, texts })
 }
 
-// The rule over the notes of a rule's text, and the texts of its patterns.
-fn notes_of(alloc: Global, text: &RuleText) -> Result<Check, SheetError> {
-    if let Some(note) = &text.note {
-        return counted(alloc, text, note.as_str());
-    }
-    if let Some(texts) = &text.none_of {
-        let patterns = patterns_of(alloc, texts.as_slice())?;
-        let rule = Rule::NoneOf { patterns };
-        let texts = copies(alloc, texts.as_slice())?;
-        return Ok(Check::Notes { rule, texts });
-    }
-    if let Some(texts) = &text.steps {
-        let steps = patterns_of(alloc, texts.as_slice())?;
-        let edges = edges_of(alloc, &text.order, steps.len())?;
-        let rule = Rule::InOrder { steps, edges };
-        let texts = copies(alloc, texts.as_slice())?;
-        return Ok(Check::Notes { rule, texts });
-    }
-    if let (Some(first), Some(then)) = (&text.first, &text.then) {
-        return before(alloc, first.as_str(), then.as_str());
-    }
-    let (Some(of), Some(texts)) = (&text.of, &text.notes) else {
-        return Err(refused(alloc, "first needs then, and of needs notes"));
-    };
-    let of = patterns_of(alloc, of.as_slice())?;
+// The rule of steps in an order.
+fn in_order(alloc: Global, rule: &Keys<'_>) -> Result<Check, SheetError> {
+    let texts = rule.texts(alloc, "steps")?;
+    let steps = patterns_of(alloc, texts.as_slice())?;
+    let edges = edges_of(alloc, rule, steps.len())?;
+    let rule = Rule::InOrder { steps, edges };
+    Ok(Check::Notes { rule, texts })
+}
+
+// The rule that of these notes there are those.
+fn exactly(alloc: Global, rule: &Keys<'_>) -> Result<Check, SheetError> {
+    let of = patterns_of(alloc, rule.texts(alloc, "of")?.as_slice())?;
+    let texts = rule.texts(alloc, "notes")?;
     let wanted = patterns_of(alloc, texts.as_slice())?;
     let rule = Rule::Exactly { of, wanted };
-    let texts = copies(alloc, texts.as_slice())?;
     Ok(Check::Notes { rule, texts })
 }
 
-// How many kinds of a rule a text names.
-fn kinds(text: &RuleText) -> usize {
-    [
-        text.status.is_some(),
-        text.shown.is_some(),
-        text.shows.is_some(),
-        text.rise.is_some(),
-        text.line.is_some(),
-        text.predicts.is_some(),
-        text.note.is_some(),
-        text.none_of.is_some(),
-        text.first.is_some() || text.then.is_some(),
-        text.steps.is_some(),
-        text.of.is_some() || text.notes.is_some(),
-    ]
-    .iter()
-    .filter(|is_there| **is_there)
-    .count()
+// What a rule asks of the notes.
+fn notes_of(alloc: Global, rule: &Keys<'_>) -> Result<Check, SheetError> {
+    if rule.are(&["note"], &["name", "points", "at_least", "at_most"]) {
+        return counted(alloc, rule);
+    }
+    if rule.are(&["none_of"], &["name", "points"]) {
+        return none_of(alloc, rule);
+    }
+    if rule.are(&["first", "then"], &["name", "points"]) {
+        return before(alloc, rule);
+    }
+    if rule.are(&["steps"], &["name", "points", "order"]) {
+        return in_order(alloc, rule);
+    }
+    if rule.are(&["of", "notes"], &["name", "points"]) {
+        return exactly(alloc, rule);
+    }
+    Err(refused(alloc, ONE_THING))
 }
 
-// What a rule's text asks for.
-fn check_of(alloc: Global, text: &RuleText) -> Result<Check, SheetError> {
-    if kinds(text) != 1 {
-        return Err(refused(alloc, "a rule asks for one thing"));
+// What a rule asks for.
+fn check_of(alloc: Global, rule: &Keys<'_>) -> Result<Check, SheetError> {
+    if rule.are(&["status"], &["name", "points"]) {
+        return rule.status(alloc, "status").map(Check::Status);
     }
-    if let Some(status) = text.status {
-        return Ok(Check::Status(status));
+    if rule.are(&["shown"], &["name", "points"]) {
+        return rule.text(alloc, "shown").map(Check::Shown);
     }
-    if let Some(shown) = &text.shown {
-        return Ok(Check::Shown(String::from_str(alloc, shown.as_str())?));
+    if rule.are(&["shows"], &["name", "points"]) {
+        return rule.text(alloc, "shows").map(Check::Shows);
     }
-    if let Some(shows) = &text.shows {
-        return Ok(Check::Shows(String::from_str(alloc, shows.as_str())?));
+    if rule.are(&["rise"], &["name", "points"]) {
+        return rule.number(alloc, "rise", 0, 0, RISE_MAX).map(Check::Rise);
     }
-    if let Some(rise) = text.rise {
-        return Ok(Check::Rise(rise));
+    if rule.are(&["line"], &["name", "points"]) {
+        return rule.text(alloc, "line").map(Check::Line);
     }
-    if let Some(line) = &text.line {
-        return Ok(Check::Line(String::from_str(alloc, line.as_str())?));
+    if rule.are(&["predicts"], &["name", "points"]) {
+        return rule.texts(alloc, "predicts").map(Check::Predicts);
     }
-    if let Some(words) = &text.predicts {
-        return Ok(Check::Predicts(copies(alloc, words.as_slice())?));
-    }
-    notes_of(alloc, text)
+    notes_of(alloc, rule)
 }
 
 // A refusal with the name of its rule.
@@ -237,17 +234,20 @@ fn named(alloc: Global, name: &str, why: &str) -> SheetError {
     }
 }
 
-// What a rule asks for: exactly one of `status`, `shown`, `shows`, `rise`, `line`, `predicts`, `note` (with `at_least`
+// What a rule of a run asks for: exactly one of `status`, `shown`, `shows`, `rise`, `line`, `predicts`, `note` (with `at_least`
 // and `at_most`), `none_of`, `first` and `then`, `steps` (with `order`), `of` and `notes`.
-pub(crate) fn read_rule(alloc: Global, text: &RuleText) -> Result<Asked, SheetError> {
-    let name = text.name.as_str();
-    match check_of(alloc, text) {
+pub(crate) fn read_rule(alloc: Global, run: &Keys<'_>, item: &Value) -> Result<Asked, SheetError> {
+    let rule = run.table(alloc, "rule", item, "[[run.rule]]")?;
+    rule.check(alloc, &["name"], &RULE_KEYS)?;
+    let name = rule.text(alloc, "name")?;
+    let points = rule.number(alloc, "points", 1, 0, COUNT_MAX)? as u32;
+    match check_of(alloc, &rule) {
         Ok(check) => Ok(Asked {
-            name: String::from_str(alloc, name)?,
-            points: text.points,
+            name,
+            points,
             check,
         }),
-        Err(SheetError::Text(why)) => Err(named(alloc, name, why.as_str())),
+        Err(SheetError::Text(why)) => Err(named(alloc, name.as_str(), why.as_str())),
         Err(SheetError::Memory) => Err(SheetError::Memory),
     }
 }

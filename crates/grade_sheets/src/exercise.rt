@@ -1,96 +1,46 @@
 //! The file of an exercise, in TOML 1.1.
-use crate::asked::{Asked, copies, read_rule};
-use crate::refusal::SheetError;
-use serde::Deserialize;
+use crate::asked::{Asked, read_rule};
+use crate::keys::Keys;
+use crate::refusal::{SheetError, refused};
 use std::alloc::Global;
+use toml::{Table, Value};
 use xk_base::limits::{FRAMES_MAX, FRAMES_MIN};
 
 /// The most Runs of a run.
 const RUNS_MAX: u64 = 1_000_000_000;
 
 /// The most Runs of a round.
-const QUANTUM_MAX: u32 = 1_000_000;
+const QUANTUM_MAX: u64 = 1_000_000;
 
-// A process that computes does some hundred million Runs a second: a second, at most, for a submission that loops.
-fn most_runs() -> u64 {
-    1_000_000
-}
+/// Why names of files are refused.
+const FILES: &str = "files: names without a slash, one at least";
 
-fn one() -> u32 {
-    1
-}
+/// The keys that a run may have, beside its name and its rules.
+const RUN_KEYS: [&str; 7] = [
+    "files",
+    "frames",
+    "quantum",
+    "most_runs",
+    "with",
+    "texts",
+    "keys",
+];
 
-fn frames() -> u32 {
-    4_096
-}
+/// The most Runs of a run that says nothing of them. A process that computes does some hundred million Runs a second: a
+/// second, at most, for a submission that loops.
+const RUNS: u64 = 1_000_000;
 
-fn quantum() -> u32 {
-    1_000
-}
+/// The frames of a run that says nothing of them.
+const FRAMES: u64 = 4_096;
 
-// An exercise, as its file says it.
-#[derive(Drop, Deserialize)]
-#[serde(deny_unknown_fields)]
-pub(crate) struct ExerciseText {
-    pub title: String,
-    #[serde(default)]
-    pub files: Vec<String>,
-    pub run: Vec<RunText>,
-}
-
-// A run, as the file says it.
-#[derive(Drop, Deserialize)]
-#[serde(deny_unknown_fields)]
-pub(crate) struct RunText {
-    pub name: String,
-    #[serde(default)]
-    pub files: Vec<String>,
-    #[serde(default = "frames")]
-    pub frames: u32,
-    #[serde(default = "quantum")]
-    pub quantum: u32,
-    #[serde(default = "most_runs")]
-    pub most_runs: u64,
-    #[serde(default)]
-    pub with: Vec<String>,
-    #[serde(default)]
-    pub texts: Vec<Text>,
-    #[serde(default)]
-    pub keys: String,
-    pub rule: Vec<RuleText>,
-}
+/// The Runs of a round of a run that says nothing of them.
+const QUANTUM: u64 = 1_000;
 
 /// A file that programs may read.
-#[derive(Drop, Deserialize)]
-#[serde(deny_unknown_fields)]
+#[derive(Drop)]
 pub struct Text {
     pub name: String,
     pub text: String,
-}
-
-// What is asked of a run: one of the kinds that `read_rule` knows.
-#[derive(Drop, Deserialize)]
-#[serde(deny_unknown_fields)]
-pub(crate) struct RuleText {
-    pub name: String,
-    #[serde(default = "one")]
-    pub points: u32,
-    pub status: Option<i32>,
-    pub shown: Option<String>,
-    pub shows: Option<String>,
-    pub rise: Option<u64>,
-    pub line: Option<String>,
-    pub predicts: Option<Vec<String>>,
-    pub note: Option<String>,
-    pub at_least: Option<u32>,
-    pub at_most: Option<u32>,
-    pub none_of: Option<Vec<String>>,
-    pub first: Option<String>,
-    pub then: Option<String>,
-    pub steps: Option<Vec<String>>,
-    pub order: Option<Vec<Vec<u32>>>,
-    pub of: Option<Vec<String>>,
-    pub notes: Option<Vec<String>>,
 }
 
 /// An exercise.
@@ -126,87 +76,104 @@ pub struct Run {
     pub asked: Vec<Asked>,
 }
 
-// A refusal with this text.
-fn refused(alloc: Global, why: &str) -> SheetError {
-    match String::from_str(alloc, why) {
-        Ok(text) => SheetError::Text(text),
-        Err(_) => SheetError::Memory,
-    }
-}
-
-// What is wrong with the numbers of a run, if something is.
-fn wrong_number(run: &RunText) -> Option<&'static str> {
-    if run.frames < FRAMES_MIN || run.frames > FRAMES_MAX {
-        return Some("frames: 16 to 32768");
-    }
-    if run.quantum < 1 || run.quantum > QUANTUM_MAX {
-        return Some("quantum: 1 to 1000000");
-    }
-    if run.most_runs < 1 || run.most_runs > RUNS_MAX {
-        return Some("most_runs: 1 to 1000000000");
-    }
-    None
-}
-
 // Whether a name can be that of a file in a folder, and of no other.
 fn is_plain_name(name: &str) -> bool {
     !name.is_empty() && !name.starts_with(".") && !name.contains('/') && !name.contains('\n')
 }
 
-// A copy of a text.
-fn copy(alloc: Global, text: &String) -> Result<String, SheetError> {
-    Ok(String::from_str(alloc, text.as_str())?)
+// Refuses names unless each can be that of a file in a folder.
+fn plain_names(alloc: Global, names: Vec<String>) -> Result<Vec<String>, SheetError> {
+    for name in &names {
+        if !is_plain_name(name.as_str()) {
+            return Err(refused(alloc, FILES));
+        }
+    }
+    Ok(names)
 }
 
-// Copies of files.
-fn files_of(alloc: Global, texts: &[Text]) -> Result<Vec<Text>, SheetError> {
-    let mut copies = Vec::new(alloc);
-    for text in texts {
-        copies.push(Text {
-            name: copy(alloc, &text.name)?,
-            text: copy(alloc, &text.text)?,
-        })?;
+// The names of the files that are handed in for a run: without any of its own, those of the exercise.
+fn names_of(alloc: Global, run: &Keys<'_>, file: &Keys<'_>) -> Result<Vec<String>, SheetError> {
+    if !run.list(alloc, "files")?.is_empty() {
+        return plain_names(alloc, run.texts(alloc, "files")?);
     }
-    Ok(copies)
+    if file.list(alloc, "files")?.is_empty() {
+        return Err(refused(alloc, FILES));
+    }
+    plain_names(alloc, file.texts(alloc, "files")?)
+}
+
+// The file of a text of a run.
+fn file_of(alloc: Global, run: &Keys<'_>, item: &Value) -> Result<Text, SheetError> {
+    let text = run.table(alloc, "texts", item, "texts")?;
+    text.check(alloc, &["name", "text"], &[])?;
+    Ok(Text {
+        name: text.text(alloc, "name")?,
+        text: text.text(alloc, "text")?,
+    })
+}
+
+// The files of a run's texts.
+fn files_of(alloc: Global, run: &Keys<'_>) -> Result<Vec<Text>, SheetError> {
+    let mut files = Vec::new(alloc);
+    for item in run.list(alloc, "texts")? {
+        files.push(file_of(alloc, run, item)?)?;
+    }
+    Ok(files)
 }
 
 // What the rules of a run ask for.
-fn all_asked(alloc: Global, rules: &[RuleText]) -> Result<Vec<Asked>, SheetError> {
+fn all_asked(alloc: Global, run: &Keys<'_>) -> Result<Vec<Asked>, SheetError> {
     let mut all = Vec::new(alloc);
-    for rule in rules {
-        all.push(read_rule(alloc, rule)?)?;
+    for item in run.list(alloc, "rule")? {
+        all.push(read_rule(alloc, run, item)?)?;
     }
     Ok(all)
 }
 
-// The names of the files that are handed in for a run: without any of its own, those of the exercise.
-fn names_of(alloc: Global, run: &RunText, files: &[String]) -> Result<Vec<String>, SheetError> {
-    let names = if run.files.is_empty() {
-        files
-    } else {
-        run.files.as_slice()
-    };
-    if names.is_empty() || !names.iter().all(|file| is_plain_name(file.as_str())) {
-        return Err(refused(alloc, "files: names without a slash, one at least"));
-    }
-    copies(alloc, names)
+// The run of an item of a file's list.
+fn run_of(alloc: Global, file: &Keys<'_>, item: &Value) -> Result<Run, SheetError> {
+    let run = file.table(alloc, "run", item, "[[run]]")?;
+    run.check(alloc, &["name", "rule"], &RUN_KEYS)?;
+    let (least, most) = (u64::from(FRAMES_MIN), u64::from(FRAMES_MAX));
+    let frames = run.number(alloc, "frames", FRAMES, least, most)? as u32;
+    let quantum = run.number(alloc, "quantum", QUANTUM, 1, QUANTUM_MAX)? as u32;
+    let most_runs = run.number(alloc, "most_runs", RUNS, 1, RUNS_MAX)?;
+    Ok(Run {
+        name: run.text(alloc, "name")?,
+        files: names_of(alloc, &run, file)?,
+        frames,
+        quantum,
+        most_runs,
+        with: run.texts(alloc, "with")?,
+        texts: files_of(alloc, &run)?,
+        keys: run.text(alloc, "keys")?,
+        asked: all_asked(alloc, &run)?,
+    })
 }
 
-// The run of a run's text.
-fn run_of(alloc: Global, run: &RunText, files: &[String]) -> Result<Run, SheetError> {
-    if let Some(why) = wrong_number(run) {
-        return Err(refused(alloc, why));
+// The runs of a file.
+fn all_runs(alloc: Global, file: &Keys<'_>) -> Result<Vec<Run>, SheetError> {
+    let mut runs = Vec::new(alloc);
+    for item in file.list(alloc, "run")? {
+        runs.push(run_of(alloc, file, item)?)?;
     }
-    Ok(Run {
-        name: copy(alloc, &run.name)?,
-        files: names_of(alloc, run, files)?,
-        frames: run.frames,
-        quantum: run.quantum,
-        most_runs: run.most_runs,
-        with: copies(alloc, run.with.as_slice())?,
-        texts: files_of(alloc, run.texts.as_slice())?,
-        keys: copy(alloc, &run.keys)?,
-        asked: all_asked(alloc, run.rule.as_slice())?,
+    Ok(runs)
+}
+
+// The table of a file.
+fn table_of(alloc: Global, text: &str) -> Result<Table, SheetError> {
+    match toml::table_from_str(alloc, text) {
+        Ok(table) => Ok(table),
+        Err(error) => Err(SheetError::Text(format!(in alloc; "{error}")?)),
+    }
+}
+
+// The exercise of a file's table.
+fn exercise_of(alloc: Global, file: &Keys<'_>) -> Result<Exercise, SheetError> {
+    file.check(alloc, &["title", "run"], &["files"])?;
+    Ok(Exercise {
+        title: file.text(alloc, "title")?,
+        runs: all_runs(alloc, file)?,
     })
 }
 
@@ -218,17 +185,11 @@ impl Exercise {
     /// [`SheetError::Text`] if it is no TOML, lacks a key or has one that isn't known, or has a number, a name or a
     /// rule that isn't right, and [`SheetError::Memory`].
     pub fn read(alloc: Global, text: &str) -> Result<Exercise, SheetError> {
-        let exercise: ExerciseText = match toml::from_str(alloc, text) {
-            Ok(exercise) => exercise,
-            Err(error) => return Err(SheetError::Text(format!(in alloc; "{error}")?)),
+        let table = table_of(alloc, text)?;
+        let file = Keys {
+            table: &table,
+            place: "the file",
         };
-        let mut runs = Vec::new(alloc);
-        for run in &exercise.run {
-            runs.push(run_of(alloc, run, exercise.files.as_slice())?)?;
-        }
-        Ok(Exercise {
-            title: copy(alloc, &exercise.title)?,
-            runs,
-        })
+        exercise_of(alloc, &file)
     }
 }

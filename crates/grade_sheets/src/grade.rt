@@ -71,10 +71,10 @@ pub struct Grade {
 }
 
 // Whether a note is a fault.
-fn is_fault(note: Note) -> bool
-    ensures { result ≡ is_fault note }
+fn is_fault(note: &Note) -> bool
+    ensures { result ≡ is_fault note.now }
 {
-    match note {
+    match *note {
         Note::Faulted { .. } => true,
         _ => false,
     }
@@ -94,7 +94,7 @@ fn is_on_faults(pattern: &Pattern) -> bool
 fn are_on_faults(patterns: &[Pattern]) -> bool
     ensures { result ≡ list_any is_on_faults patterns.now }
 {
-    patterns.iter().any(|pattern| is_on_faults(pattern))
+    patterns.iter().any(is_on_faults)
 }
 
 // Whether a rule asks for faults.
@@ -132,21 +132,21 @@ fn has(mark: &Mark) -> bool
 fn is_right(marks: &[Mark]) -> bool
     ensures { result ≡ list_all has marks.now }
 {
-    marks.iter().all(|mark| has(mark))
+    marks.iter().all(has)
 }
 
 // Whether a run may have faults that has all that is asked.
 fn any_may_fault(asked: &[Asked]) -> bool
     ensures { result ≡ list_any may_fault asked.now }
 {
-    asked.iter().any(|one| may_fault(one))
+    asked.iter().any(may_fault)
 }
 
 // Whether a note is there of a fault.
 fn has_faults(notes: &[Note]) -> bool
     ensures { result ≡ list_any is_fault notes.now }
 {
-    notes.iter().any(|note| is_fault(*note))
+    notes.iter().any(is_fault)
 }
 
 // What a run comes to that has all that is asked, or not.

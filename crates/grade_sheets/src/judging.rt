@@ -6,7 +6,7 @@ ghost use Rattle.grade_sheets.specs.Points.{given_for};
 
 use crate::asked::{Asked, Check};
 use crate::notation::Named;
-use crate::texts::{first_difference, no_rise, not_predicted, not_said, not_shown};
+use crate::texts::{no_rise, not_predicted, not_said, not_shown, other_text};
 use grade_rules::{Edge, End, Judgement, Note, Pattern, Rule, count, fits_any, judge};
 use std::alloc::{AllocError, Global};
 
@@ -65,16 +65,6 @@ fn other_end(alloc: Global, end: End, wanted: i32) -> Result<Option<String>, All
     Ok(Some(end_text(alloc, end, wanted)?))
 }
 
-// Why what was shown isn't exactly this.
-fn other_text(alloc: Global, wanted: &[u8], shown: &[u8]) -> Result<Option<String>, AllocError>
-    ensures { IfOk result (λ why. IsTrue (is_none why) ↔ (wanted.now ≡ shown.now)) }
-{
-    if wanted == shown {
-        return Ok(None);
-    }
-    Ok(Some(first_difference(alloc, wanted, shown)?))
-}
-
 // The text at a place; empty if there is none.
 fn text_at(texts: &[String], place: usize) -> &str {
     match texts.get(place) {
@@ -91,26 +81,29 @@ fn is_somewhere(steps: &[Pattern], place: usize, notes: &[Note]) -> bool {
     }
 }
 
-// The step that has to stand before the one at a place, as text: that of the first edge.
-fn step_before<'a>(texts: &'a [String], edges: &[Edge], place: usize) -> Option<&'a str> {
-    let edge = edges.iter().find(|edge| edge.behind == place)?;
-    Some(text_at(texts, edge.before))
+// The step that has to stand before the one at a place, as text: that of the first edge. Empty if there is none.
+fn step_before<'a>(texts: &'a [String], edges: &[Edge], place: usize) -> &'a str {
+    for edge in edges {
+        if edge.behind == place {
+            return text_at(texts, edge.before);
+        }
+    }
+    ""
 }
 
-// The step that has to stand behind the one at a place, as text: that of the first edge.
-fn step_behind<'a>(texts: &'a [String], edges: &[Edge], place: usize) -> Option<&'a str> {
-    let edge = edges.iter().find(|edge| edge.before == place)?;
-    Some(text_at(texts, edge.behind))
+// The step that has to stand behind the one at a place, as text: that of the first edge. Empty if there is none.
+fn step_behind<'a>(texts: &'a [String], edges: &[Edge], place: usize) -> &'a str {
+    for edge in edges {
+        if edge.before == place {
+            return text_at(texts, edge.behind);
+        }
+    }
+    ""
 }
 
-// Adds where a step is missing, by another step.
-fn add_step(
-    alloc: Global,
-    text: &mut String,
-    word: &str,
-    step: Option<&str>,
-) -> Result<(), AllocError> {
-    if let Some(step) = step {
+// Adds where a step is missing, by another step, if there is one.
+fn add_step(alloc: Global, text: &mut String, word: &str, step: &str) -> Result<(), AllocError> {
+    if !step.is_empty() {
         text.push_str(format!(in alloc; " {word} `{step}`")?.as_str())?;
     }
     Ok(())
@@ -136,11 +129,13 @@ fn missing(
 
 // How many of the notes before a place fit one of the patterns.
 fn fitting_before(of: &[Pattern], place: usize, notes: &[Note]) -> usize {
-    notes
-        .iter()
-        .take(place)
-        .filter(|note| fits_any(of, **note))
-        .count()
+    let mut fitting: usize = 0;
+    for note in notes.iter().take(place) {
+        if fits_any(of, *note) {
+            fitting = fitting.saturating_add(1);
+        }
+    }
+    fitting
 }
 
 // A note that isn't the one that should stand there.

@@ -10,6 +10,7 @@ mod asked;
 mod exercise;
 mod grade;
 mod judging;
+mod keys;
 mod notation;
 mod quoted;
 mod records;

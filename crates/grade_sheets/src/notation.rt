@@ -2,27 +2,37 @@
 use grade_rules::{Note, Numbers, Pattern};
 use std::fmt;
 
+// The name of the kernel call of a number, if it is one's.
+fn call_name(number: i32) -> Option<&'static str> {
+    match number {
+        1 => Some("fork"),
+        2 => Some("exit"),
+        3 => Some("wait"),
+        4 => Some("pipe"),
+        5 => Some("read"),
+        6 => Some("kill"),
+        7 => Some("exec"),
+        10 => Some("dup"),
+        11 => Some("getpid"),
+        12 => Some("sbrk"),
+        13 => Some("sleep"),
+        14 => Some("uptime"),
+        15 => Some("open"),
+        16 => Some("write"),
+        21 => Some("close"),
+        22 => Some("sbrklazy"),
+        _ => None,
+    }
+}
+
 // The number of a kernel call, by its name or its number.
 fn call_number(word: &str) -> Option<i64> {
-    match word {
-        "fork" => Some(1),
-        "exit" => Some(2),
-        "wait" => Some(3),
-        "pipe" => Some(4),
-        "read" => Some(5),
-        "kill" => Some(6),
-        "exec" => Some(7),
-        "dup" => Some(10),
-        "getpid" => Some(11),
-        "sbrk" => Some(12),
-        "sleep" => Some(13),
-        "uptime" => Some(14),
-        "open" => Some(15),
-        "write" => Some(16),
-        "close" => Some(21),
-        "sbrklazy" => Some(22),
-        _ => word.parse().ok(),
+    for number in 1..=22 {
+        if call_name(number) == Some(word) {
+            return Some(i64::from(number));
+        }
     }
+    word.parse().ok()
 }
 
 // From a number to another, both with them.
@@ -124,40 +134,12 @@ pub fn pattern(text: &str) -> Option<Pattern> {
     })
 }
 
-// The name of the kernel call of a number, if it is one's.
-fn call_name(number: i32) -> Option<&'static str> {
-    match number {
-        1 => Some("fork"),
-        2 => Some("exit"),
-        3 => Some("wait"),
-        4 => Some("pipe"),
-        5 => Some("read"),
-        6 => Some("kill"),
-        7 => Some("exec"),
-        10 => Some("dup"),
-        11 => Some("getpid"),
-        12 => Some("sbrk"),
-        13 => Some("sleep"),
-        14 => Some("uptime"),
-        15 => Some("open"),
-        16 => Some("write"),
-        21 => Some("close"),
-        22 => Some("sbrklazy"),
+// The name of the kernel call of a note, if it is one's.
+fn name_of(note: Note) -> Option<&'static str> {
+    match note {
+        Note::Called { number, .. } => call_name(number),
+        Note::Blocked { number, .. } => call_name(number),
         _ => None,
-    }
-}
-
-// The name of a kernel call, or its number if it has none.
-#[derive(Clone, Copy)]
-struct Call(i32);
-
-impl fmt::Display for Call {
-    fn fmt<W: fmt::Write>(&self, f: &mut fmt::Formatter<W>) -> fmt::Result {
-        let number = self.0;
-        match call_name(number) {
-            Some(name) => f.write_str(name),
-            None => write!(f, "{number}"),
-        }
     }
 }
 
@@ -167,16 +149,13 @@ pub struct Named(pub Note);
 
 impl fmt::Display for Named {
     fn fmt<W: fmt::Write>(&self, f: &mut fmt::Formatter<W>) -> fmt::Result {
+        let Some(name) = name_of(self.0) else {
+            return self.0.fmt(f);
+        };
         match self.0 {
-            Note::Called { pid, number, value } => {
-                let call = Call(number);
-                write!(f, "call {pid} {call} {value}")
-            }
-            Note::Blocked { pid, number } => {
-                let call = Call(number);
-                write!(f, "block {pid} {call}")
-            }
-            note => write!(f, "{note}"),
+            Note::Called { pid, value, .. } => write!(f, "call {pid} {name} {value}"),
+            Note::Blocked { pid, .. } => write!(f, "block {pid} {name}"),
+            note => note.fmt(f),
         }
     }
 }

@@ -20,14 +20,24 @@ fn write_byte<W: fmt::Write>(f: &mut fmt::Formatter<W>, byte: u8) -> fmt::Result
     }
 }
 
+// Writes the first sixty bytes.
+fn write_bytes<W: fmt::Write>(f: &mut fmt::Formatter<W>, bytes: &[u8]) -> fmt::Result {
+    for &byte in bytes.iter().take(LINE_BYTES) {
+        write_byte(f, byte)?;
+    }
+    Ok(())
+}
+
 impl<'a> fmt::Display for Quoted<'a> {
     fn fmt<W: fmt::Write>(&self, f: &mut fmt::Formatter<W>) -> fmt::Result {
+        let end = if self.0.len() > LINE_BYTES {
+            "..\""
+        } else {
+            "\""
+        };
         f.write_char('"')?;
-        for &byte in self.0.iter().take(LINE_BYTES) {
-            write_byte(f, byte)?;
-        }
-        f.write_str(if self.0.len() > LINE_BYTES { ".." } else { "" })?;
-        f.write_char('"')
+        write_bytes(f, self.0)?;
+        f.write_str(end)
     }
 }
 
@@ -35,20 +45,31 @@ impl<'a> fmt::Display for Quoted<'a> {
 #[derive(Clone, Copy)]
 pub struct Grouped(pub u64);
 
+// Writes numbers of three digits, each behind a comma.
+fn write_groups<W: fmt::Write>(f: &mut fmt::Formatter<W>, groups: &[u64]) -> fmt::Result {
+    for group in groups {
+        write!(f, ",{group:03}")?;
+    }
+    Ok(())
+}
+
 impl fmt::Display for Grouped {
     fn fmt<W: fmt::Write>(&self, f: &mut fmt::Formatter<W>) -> fmt::Result {
         let number = self.0;
         let (thousands, rest) = (number / 1_000, number % 1_000);
         let (millions, thousand) = (thousands / 1_000, thousands % 1_000);
         let (billions, million) = (millions / 1_000, millions % 1_000);
-        if billions > 0 {
-            write!(f, "{billions},{million:03},{thousand:03},{rest:03}")
+        let groups = [million, thousand, rest];
+        let (first, behind) = if billions > 0 {
+            (billions, &groups[..])
         } else if millions > 0 {
-            write!(f, "{million},{thousand:03},{rest:03}")
+            (million, &groups[1..])
         } else if thousands > 0 {
-            write!(f, "{thousand},{rest:03}")
+            (thousand, &groups[2..])
         } else {
-            write!(f, "{rest}")
-        }
+            (rest, &groups[3..])
+        };
+        write!(f, "{first}")?;
+        write_groups(f, behind)
     }
 }

@@ -1,14 +1,17 @@
 //! Grades as text: a line of CSV (RFC 4180), and a test suite of JUnit's XML.
-ghost use Rattle.std.specs.Prelude.{◌≡◌, IfOk};
+ghost use Rattle.std.specs.Prelude.{◌≡◌, ◌∷◌, [], IfOk};
 ghost use Rattle.csv.specs.Records.{fields_of};
 ghost use Rattle.csv.specs.Writing.{default_writer, row_text};
 ghost use Rattle.grade_sheets.specs.Records.{fields_of_line, line_of};
 
+use crate::asked::Asked;
 use crate::exercise::{Exercise, Run};
 use crate::grade::{Grade, RunGrade};
+use crate::judging::Mark;
 use crate::refusal::SheetError;
 use csv::{ByteRecord, WriterBuilder};
-use std::alloc::Global;
+use std::alloc::{AllocError, Global};
+use std::fmt;
 
 impl From<csv::Error> for SheetError {
     fn from(_error: csv::Error) -> Self {
@@ -16,18 +19,36 @@ impl From<csv::Error> for SheetError {
     }
 }
 
+// A row of five fields.
+fn row<'a>(
+    alloc: Global,
+    name: &'a [u8],
+    points: &'a [u8],
+    of: &'a [u8],
+    standing: &'a [u8],
+    reason: &'a [u8],
+) -> Result<ByteRecord, AllocError>
+    ensures { IfOk result (λ row. fields_of row ≡ name.now ∷ points.now ∷ of.now ∷ standing.now ∷ reason.now ∷ []) }
+{
+    ByteRecord::from_fields(alloc, &[name, points, of, standing, reason])
+}
+
 // The fields of a submission's line.
-fn fields(alloc: Global, name: &[u8], grade: &Grade) -> Result<ByteRecord, SheetError>
+fn fields<'a>(alloc: Global, name: &'a [u8], grade: &'a Grade) -> Result<ByteRecord, AllocError>
     ensures { IfOk result (λ row. fields_of row ≡ fields_of_line name.now grade.now) }
 {
     let (points, of) = (grade.points, grade.of);
-    let mut row = ByteRecord::new(alloc);
-    row.push_field(name)?;
-    row.push_field(format!(in alloc; "{points}")?.as_str().as_bytes())?;
-    row.push_field(format!(in alloc; "{of}")?.as_str().as_bytes())?;
-    row.push_field(grade.standing.word().as_bytes())?;
-    row.push_field(grade.reason.as_str().as_bytes())?;
-    Ok(row)
+    let points = format!(in alloc; "{points}")?;
+    let of = format!(in alloc; "{of}")?;
+    let word = grade.standing.word();
+    row(
+        alloc,
+        name,
+        points.as_str().as_bytes(),
+        of.as_str().as_bytes(),
+        word.as_bytes(),
+        grade.reason.as_str().as_bytes(),
+    )
 }
 
 // A row as a line.
@@ -55,59 +76,94 @@ pub fn csv_line(alloc: Global, name: &[u8], grade: &Grade) -> Result<Vec<u8>, Sh
     row_line(alloc, &row)
 }
 
-// Adds a character to a text of XML, as an entity if it has a meaning there.
-fn add_character(text: &mut String, character: char, alloc: Global) -> Result<(), SheetError> {
+// Writes a character of a text of XML, as an entity if it has a meaning there. What may not stand there is shown as `\x1b`.
+fn write_character<W: fmt::Write>(f: &mut fmt::Formatter<W>, character: char) -> fmt::Result {
     match character {
-        '&' => text.push_str("&amp;")?,
-        '<' => text.push_str("&lt;")?,
-        '>' => text.push_str("&gt;")?,
-        '"' => text.push_str("&quot;")?,
+        '&' => f.write_str("&amp;"),
+        '<' => f.write_str("&lt;"),
+        '>' => f.write_str("&gt;"),
+        '"' => f.write_str("&quot;"),
         '\u{0}'..='\u{1f}' | '\u{7f}' | '\u{fffe}' | '\u{ffff}' => {
             let code = character as u32;
-            text.push_str(format!(in alloc; "\\x{code:02x}")?.as_str())?;
+            write!(f, "\\x{code:02x}")
         }
-        other => text.push(other)?,
+        other => f.write_char(other),
     }
-    Ok(())
 }
 
-// A text as it stands in XML. What may not stand there is shown as `\x1b`.
-fn escaped(alloc: Global, text: &str) -> Result<String, SheetError> {
-    let mut escaped = String::new(alloc);
-    for character in text.chars() {
-        add_character(&mut escaped, character, alloc)?;
-    }
-    Ok(escaped)
-}
+// A text as it stands in XML.
+#[derive(Clone, Copy)]
+struct Escaped<'a>(&'a str);
 
-// A name of any bytes, as it stands in XML: bytes that aren't UTF-8 are shown as `\xff`.
-fn escaped_name(alloc: Global, name: &[u8]) -> Result<String, SheetError> {
-    if let Ok(text) = std::str::from_utf8(name) {
-        return escaped(alloc, text);
-    }
-    let mut text = String::new(alloc);
-    for &byte in name {
-        if byte < 128 {
-            add_character(&mut text, byte as char, alloc)?;
-        } else {
-            text.push_str(format!(in alloc; "\\x{byte:02x}")?.as_str())?;
+impl<'a> fmt::Display for Escaped<'a> {
+    fn fmt<W: fmt::Write>(&self, f: &mut fmt::Formatter<W>) -> fmt::Result {
+        for character in self.0.chars() {
+            write_character(f, character)?;
         }
+        Ok(())
     }
-    Ok(text)
 }
 
-// How the test case of a rule begins, in a run whose name is escaped.
-fn case_head(alloc: Global, of: &str, rule: &str) -> Result<String, SheetError> {
-    let name = escaped(alloc, rule)?;
-    Ok(format!(in alloc; "  <testcase classname=\"{of}\" name=\"{name}\"")?)
+// A byte of a name that isn't UTF-8: what isn't ASCII is shown as `\xff`.
+fn write_name_byte<W: fmt::Write>(f: &mut fmt::Formatter<W>, byte: u8) -> fmt::Result {
+    if byte < 128 {
+        write_character(f, byte as char)
+    } else {
+        write!(f, "\\x{byte:02x}")
+    }
 }
 
-// How the test case of a rule ends that a run doesn't keep. The cause is escaped.
-fn failure(alloc: Global, word: &str, why: &str, cause: &str) -> Result<String, SheetError> {
-    let why = escaped(alloc, why)?;
-    Ok(format!(in alloc;
+// A name of any bytes, as it stands in XML.
+#[derive(Clone, Copy)]
+struct Name<'a>(&'a [u8]);
+
+impl<'a> fmt::Display for Name<'a> {
+    fn fmt<W: fmt::Write>(&self, f: &mut fmt::Formatter<W>) -> fmt::Result {
+        if let Ok(text) = std::str::from_utf8(self.0) {
+            return Escaped(text).fmt(f);
+        }
+        for &byte in self.0 {
+            write_name_byte(f, byte)?;
+        }
+        Ok(())
+    }
+}
+
+// Writes how the test case of a rule ends that a run doesn't keep.
+fn write_failure<W: fmt::Write>(
+    f: &mut fmt::Formatter<W>,
+    grade: &RunGrade,
+    why: &str,
+) -> fmt::Result {
+    let (word, why) = (grade.standing.word(), Escaped(why));
+    let cause = Escaped(grade.cause.as_str());
+    write!(
+        f,
         "><failure type=\"{word}\" message=\"{why}\">{cause}</failure></testcase>\n"
-    )?)
+    )
+}
+
+// The test case of a rule.
+#[derive(Clone, Copy)]
+struct Case<'a> {
+    run: &'a Run,
+    grade: &'a RunGrade,
+    rule: &'a Asked,
+    mark: &'a Mark,
+}
+
+impl<'a> fmt::Display for Case<'a> {
+    fn fmt<W: fmt::Write>(&self, f: &mut fmt::Formatter<W>) -> fmt::Result {
+        let (of, name) = (
+            Escaped(self.run.name.as_str()),
+            Escaped(self.rule.name.as_str()),
+        );
+        write!(f, "  <testcase classname=\"{of}\" name=\"{name}\"")?;
+        match &self.mark.why {
+            Some(why) => write_failure(f, self.grade, why.as_str()),
+            None => f.write_str("/>\n"),
+        }
+    }
 }
 
 // Adds the test cases of a run, one for each rule.
@@ -116,30 +172,37 @@ fn add_cases(
     text: &mut String,
     run: &Run,
     grade: &RunGrade,
-) -> Result<(), SheetError> {
-    let of = escaped(alloc, run.name.as_str())?;
-    let cause = escaped(alloc, grade.cause.as_str())?;
-    let word = grade.standing.word();
+) -> Result<(), AllocError> {
     for (rule, mark) in run.asked.iter().zip(grade.marks.iter()) {
-        text.push_str(case_head(alloc, of.as_str(), rule.name.as_str())?.as_str())?;
-        match &mark.why {
-            Some(why) => {
-                text.push_str(failure(alloc, word, why.as_str(), cause.as_str())?.as_str())?;
-            }
-            None => text.push_str("/>\n")?,
-        }
+        let case = Case {
+            run,
+            grade,
+            rule,
+            mark,
+        };
+        text.push_str(format!(in alloc; "{case}")?.as_str())?;
     }
     Ok(())
 }
 
+// The test cases of all runs.
+fn all_cases(alloc: Global, runs: &[Run], grades: &[RunGrade]) -> Result<String, AllocError> {
+    let mut cases = String::new(alloc);
+    for (run, grade) in runs.iter().zip(grades.iter()) {
+        add_cases(alloc, &mut cases, run, grade)?;
+    }
+    Ok(cases)
+}
+
 // How many marks of a run are for what it doesn't have.
-fn failures_of(run: &Run, grade: &RunGrade) -> u64 {
-    grade
-        .marks
-        .iter()
-        .take(run.asked.len())
-        .filter(|mark| mark.why.is_some())
-        .count() as u64
+fn failures_of(marks: &[Mark]) -> u64 {
+    let mut failures: u64 = 0;
+    for mark in marks {
+        if mark.why.is_some() {
+            failures = failures.saturating_add(1);
+        }
+    }
+    failures
 }
 
 /// The test suite of a submission of this name: a test case for each rule of each run.
@@ -153,16 +216,14 @@ pub fn xml_suite(
     name: &[u8],
     grade: &Grade,
 ) -> Result<String, SheetError> {
-    let mut cases = String::new(alloc);
+    let cases = all_cases(alloc, exercise.runs.as_slice(), grade.runs.as_slice())?;
     let mut failures: u64 = 0;
     let mut tests: u64 = 0;
-    for (run, run_grade) in exercise.runs.iter().zip(grade.runs.iter()) {
-        add_cases(alloc, &mut cases, run, run_grade)?;
-        failures = failures.saturating_add(failures_of(run, run_grade));
-        tests = tests.saturating_add(run_grade.marks.len() as u64);
+    for run in &grade.runs {
+        failures = failures.saturating_add(failures_of(run.marks.as_slice()));
+        tests = tests.saturating_add(run.marks.len() as u64);
     }
-    let name = escaped_name(alloc, name)?;
-    let cases = cases.as_str();
+    let (name, cases) = (Name(name), cases.as_str());
     Ok(format!(in alloc;
         "<testsuite name=\"{name}\" tests=\"{tests}\" failures=\"{failures}\">\n{cases}</testsuite>\n"
     )?)

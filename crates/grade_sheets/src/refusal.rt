@@ -1,5 +1,5 @@
 //! Why an exercise isn't read.
-use std::alloc::{AllocError, AllocFailed};
+use std::alloc::{AllocError, AllocFailed, Global};
 use thiserror::Error;
 
 /// Why there is no exercise, or no result.
@@ -22,5 +22,13 @@ impl From<AllocError> for SheetError {
 impl<T: Drop> From<AllocFailed<T>> for SheetError {
     fn from(_error: AllocFailed<T>) -> Self {
         SheetError::Memory
+    }
+}
+
+// A refusal with this text.
+pub(crate) fn refused(alloc: Global, why: &str) -> SheetError {
+    match String::from_str(alloc, why) {
+        Ok(text) => SheetError::Text(text),
+        Err(_) => SheetError::Memory,
     }
 }

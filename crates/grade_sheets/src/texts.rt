@@ -1,5 +1,7 @@
 //! What is asked of texts: of what the console showed, and of what was handed in. Each function here tells why it isn't
 //! there, in a student's words; `None` if it is.
+ghost use Rattle.std.specs.Prelude.{◌≡◌, ◌↔◌, IsTrue, is_none, IfOk};
+
 use crate::judging::Seen;
 use crate::quoted::Quoted;
 use grade_rules::{End, Note};
@@ -33,22 +35,50 @@ fn difference(
     format!(in alloc; "first difference in line {number}: expected {expected}, got {got}")
 }
 
-/// The first line in which two texts differ.
-pub(crate) fn first_difference(
-    alloc: Global,
-    wanted: &[u8],
-    shown: &[u8],
-) -> Result<String, AllocError> {
-    let mut lines = shown.split(|byte| *byte == b'\n');
+// Whether a line ends with this byte.
+fn ends_line(byte: &u8) -> bool {
+    *byte == b'\n'
+}
+
+// The first line in which two texts differ.
+fn first_difference(alloc: Global, wanted: &[u8], shown: &[u8]) -> Result<String, AllocError> {
+    let mut lines = shown.split(ends_line);
     let mut number: usize = 1;
-    for expected in wanted.split(|byte| *byte == b'\n') {
+    for expected in wanted.split(ends_line) {
         let line = lines.next();
-        if !line.is_some_and(|line| line == expected) {
+        if line != Some(expected) {
             return difference(alloc, number, Some(expected), line);
         }
         number = number.saturating_add(1);
     }
     difference(alloc, number, None, lines.next())
+}
+
+/// Why what was shown isn't exactly this.
+pub(crate) fn other_text(
+    alloc: Global,
+    wanted: &[u8],
+    shown: &[u8],
+) -> Result<Option<String>, AllocError>
+    ensures { IfOk result (λ why. IsTrue (is_none why) ↔ (wanted.now ≡ shown.now)) }
+{
+    if wanted == shown {
+        return Ok(None);
+    }
+    Ok(Some(first_difference(alloc, wanted, shown)?))
+}
+
+// Whether bytes stand somewhere in others.
+fn stands_in(part: &[u8], shown: &[u8]) -> bool {
+    if part.is_empty() {
+        return true;
+    }
+    for window in shown.windows(part.len()) {
+        if window == part {
+            return true;
+        }
+    }
+    false
 }
 
 /// Why bytes don't stand somewhere in what was shown.
@@ -57,7 +87,7 @@ pub(crate) fn not_shown(
     part: &[u8],
     shown: &[u8],
 ) -> Result<Option<String>, AllocError> {
-    if part.is_empty() || shown.windows(part.len()).any(|window| window == part) {
+    if stands_in(part, shown) {
         return Ok(None);
     }
     let part = Quoted(part);
@@ -77,7 +107,7 @@ pub(crate) fn no_rise(
 ) -> Result<Option<String>, AllocError> {
     let mut before: Option<u64> = None;
     let mut found: usize = 0;
-    for line in shown.split(|byte| *byte == b'\n') {
+    for line in shown.split(ends_line) {
         let Some(number) = number_in(line) else {
             continue;
         };
@@ -101,15 +131,27 @@ pub(crate) fn no_rise(
 
 // Whether each of these words begins a note that is kept of the whole run.
 fn are_kept(words: &[String]) -> bool {
-    words.iter().all(|word| {
-        matches!(word.as_str(), "turn" | "call" | "block" | "exit" | "fault")
-    })
+    for word in words {
+        if !matches!(word.as_str(), "turn" | "call" | "block" | "exit" | "fault") {
+            return false;
+        }
+    }
+    true
+}
+
+// Whether a word is one of these.
+fn is_one_of(word: &str, words: &[String]) -> bool {
+    for other in words {
+        if other.as_str() == word {
+            return true;
+        }
+    }
+    false
 }
 
 // Adds a line, if its first word is one of these.
 fn add_line(lines: &mut String, words: &[String], line: &str) -> Result<(), AllocError> {
-    let first = line.split(' ').next().unwrap_or("");
-    if words.iter().any(|wanted| wanted.as_str() == first) {
+    if is_one_of(line.split(' ').next().unwrap_or(""), words) {
         lines.push_str(line)?;
         lines.push_str("\n")?;
     }
@@ -159,11 +201,7 @@ pub(crate) fn not_predicted(
     let wanted = predicted(alloc, words, seen)?;
     let wanted = wanted.as_str().as_bytes().trim_ascii_end();
     let own = without_returns(alloc, seen.handed_in)?;
-    let own = own.as_slice().trim_ascii_end();
-    if wanted == own {
-        return Ok(None);
-    }
-    Ok(Some(first_difference(alloc, wanted, own)?))
+    other_text(alloc, wanted, own.as_slice().trim_ascii_end())
 }
 
 // A line of an answer, with the status in its place.
@@ -174,6 +212,24 @@ fn answer(alloc: Global, line: &str, end: End) -> Result<String, AllocError> {
     format!(in alloc; "{before}{status}{behind}")
 }
 
+// Whether one of these lines is this one, but for blanks around it.
+fn has_line(lines: &[u8], wanted: &[u8]) -> bool {
+    for line in lines.split(ends_line) {
+        if line.trim_ascii() == wanted {
+            return true;
+        }
+    }
+    false
+}
+
+// What stands before the colon of an answer.
+fn question(line: &str) -> &str {
+    match line.split_once(':') {
+        Some((question, _)) => question,
+        None => line,
+    }
+}
+
 /// Why what was handed in hasn't a line that is asked for. What stands behind a colon isn't told.
 pub(crate) fn not_said(
     alloc: Global,
@@ -181,17 +237,9 @@ pub(crate) fn not_said(
     seen: &Seen<'_>,
 ) -> Result<Option<String>, AllocError> {
     let answer = answer(alloc, line, seen.end)?;
-    let wanted = answer.as_str().as_bytes().trim_ascii();
-    if seen
-        .handed_in
-        .split(|byte| *byte == b'\n')
-        .any(|line| line.trim_ascii() == wanted)
-    {
+    if has_line(seen.handed_in, answer.as_str().as_bytes().trim_ascii()) {
         return Ok(None);
     }
-    let question = match line.split_once(':') {
-        Some((question, _)) => question,
-        None => line,
-    };
+    let question = question(line);
     Ok(Some(format!(in alloc; "`{question}:` has another answer")?))
 }

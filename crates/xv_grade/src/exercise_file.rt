@@ -32,6 +32,28 @@ fn show_line<W: Write>(output: &mut W, line: &str) -> Result<(), Refusal> {
     }
 }
 
+// Shows lines.
+fn show_lines<W: Write>(output: &mut W, lines: &[String]) -> Result<(), Refusal> {
+    for line in lines {
+        show_line(output, line.as_str())?;
+    }
+    Ok(())
+}
+
+// Shows the paths of files in a folder, a line each.
+fn show_paths<W: Write>(
+    alloc: Global,
+    folder: &str,
+    files: &[String],
+    output: &mut W,
+) -> Result<(), Refusal> {
+    for file in files {
+        let path = format!(in alloc; "{folder}/{file}")?;
+        show_line(output, path.as_str())?;
+    }
+    Ok(())
+}
+
 // Shows the paths of an exercise's own files, a line each.
 fn show_inputs<W: Write>(
     alloc: Global,
@@ -42,10 +64,7 @@ fn show_inputs<W: Write>(
     let folder = folder_of(settings.exercise.as_str());
     show_line(output, settings.exercise.as_str())?;
     for run in &exercise.runs {
-        for file in &run.with {
-            let path = format!(in alloc; "{folder}/{file}")?;
-            show_line(output, path.as_str())?;
-        }
+        show_paths(alloc, folder, run.with.as_slice(), output)?;
     }
     Ok(())
 }
@@ -66,9 +85,7 @@ pub fn show_files<R: Files + AllocGlobal, W: Write>(
         return show_inputs(rt.alloc(), settings, &exercise, output);
     }
     for run in &exercise.runs {
-        for file in &run.files {
-            show_line(output, file.as_str())?;
-        }
+        show_lines(output, run.files.as_slice())?;
     }
     Ok(())
 }

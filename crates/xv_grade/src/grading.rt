@@ -12,7 +12,7 @@ use crate::results::{write_result, write_run};
 use crate::submission::{HandedIn, Submission, handed_in};
 use grade_runs::{Plan, Played, play};
 use grade_sheets::{Exercise, Grade, Run, RunGrade, Seen, csv_line, graded, ungraded, xml_suite};
-use std::alloc::Global;
+use std::alloc::{AllocError, Global};
 use std::io::Write;
 use std::rt::Files;
 use xv_machine::{Config, Note as Event};
@@ -40,15 +40,22 @@ fn refused_before<R: Files + AllocGlobal>(rt: &R, settings: &Settings) -> Result
     }
 }
 
-// The lines of the trace up to the end of `init`. That nothing was sent is no line.
-fn lines_to_the_end(alloc: Global, played: &Played) -> Result<String, Refusal> {
+// Adds the line of an event. That nothing was sent is no line.
+fn add_event(alloc: Global, lines: &mut String, event: Event) -> Result<(), AllocError> {
+    if !matches!(event, Event::Sent(None)) {
+        lines.push_str(format!(in alloc; "{event}\n")?.as_str())?;
+    }
+    Ok(())
+}
+
+// The lines of the trace up to the end of `init`.
+fn lines_to_the_end(alloc: Global, played: &Played) -> Result<String, AllocError> {
     let machine = played.session.machine();
     let mut lines = String::new(alloc);
     for place in 0..machine.trace_len() {
         match machine.trace(place) {
             None | Some(Event::Halted) => break,
-            Some(Event::Sent(None)) => {}
-            Some(note) => lines.push_str(format!(in alloc; "{note}\n")?.as_str())?,
+            Some(event) => add_event(alloc, &mut lines, event)?,
         }
     }
     Ok(lines)
@@ -183,6 +190,18 @@ fn show<W: Write>(output: &mut W, line: &[u8]) -> Result<(), Refusal>
     }
 }
 
+// Writes the test suite of a submission of this name.
+fn write_suite<R: Files + AllocGlobal>(
+    rt: &R,
+    settings: &Settings,
+    exercise: &Exercise,
+    name: &[u8],
+    grade: &Grade,
+) -> Result<(), Refusal> {
+    let suite = xml_suite(rt.alloc(), exercise, name, grade)?;
+    write_result(rt, settings, "result.xml", suite.as_str().as_bytes())
+}
+
 /// Grades a submission, writes its results, and shows its line of CSV.
 ///
 /// # Errors
@@ -197,13 +216,11 @@ pub fn grade_submission<R: Files + AllocGlobal, W: Write>(
 ) -> Result<(), Refusal>
     ensures { OnOk result (IsLineShown (W.contents output.old) (W.contents output.new)) }
 {
-    let alloc = rt.alloc();
     let exercise = read_exercise(rt, settings.exercise.as_str())?;
     let name = name_of(rt, settings, folder)?;
     let grade = whole_grade(rt, settings, &exercise, folder)?;
-    let line = csv_line(alloc, name.as_slice(), &grade)?;
-    let suite = xml_suite(alloc, &exercise, name.as_slice(), &grade)?;
-    write_result(rt, settings, "result.xml", suite.as_str().as_bytes())?;
+    let line = csv_line(rt.alloc(), name.as_slice(), &grade)?;
+    write_suite(rt, settings, &exercise, name.as_slice(), &grade)?;
     write_result(rt, settings, "result.csv", line.as_slice())?;
     show(output, line.as_slice())?;
     Ok(())

@@ -4,7 +4,7 @@ use crate::source::line_at;
 use crate::submission::Submission;
 use grade_runs::{NOTES_MAX, Played, SHOWN_MAX};
 use grade_sheets::{Grouped, Standing};
-use std::alloc::Global;
+use std::alloc::{AllocError, Global};
 use xk_base::Pid;
 use xv_report::text::{FaultText, WaitLine};
 use xv_report::{FaultReport, program_name, report_at};
@@ -19,38 +19,64 @@ fn runs_submission(submission: &Submission, played: &Played, pid: Pid) -> bool {
     name == file.strip_suffix(".s").unwrap_or(file).as_bytes()
 }
 
-// The line of what was handed in where a process stands, as a text to be put behind; empty if it isn't known.
+// The line of what was handed in where a process stands, if it is known.
+fn line_of(
+    alloc: Global,
+    submission: &Submission,
+    played: &Played,
+    pid: Pid,
+    pc: u64,
+) -> Option<usize> {
+    if !runs_submission(submission, played, pid) {
+        return None;
+    }
+    line_at(alloc, submission.source()?, pc)
+}
+
+// The same, as a text to be put behind; empty if it isn't known.
 fn line_text(
     alloc: Global,
     submission: &Submission,
     played: &Played,
     pid: Pid,
     pc: u64,
-) -> Result<String, Refusal> {
-    if !runs_submission(submission, played, pid) {
-        return Ok(String::new(alloc));
-    }
-    let Some(source) = submission.source() else {
-        return Ok(String::new(alloc));
-    };
-    match line_at(alloc, source, pc) {
-        Some(line) => Ok(format!(in alloc; ", line {line}")?),
+) -> Result<String, AllocError> {
+    match line_of(alloc, submission, played, pid, pc) {
+        Some(line) => format!(in alloc; ", line {line}"),
         None => Ok(String::new(alloc)),
     }
 }
 
+// Where a process stands.
+#[derive(Clone, Copy)]
+struct Place {
+    pid: Pid,
+    pc: u64,
+}
+
+// Where the process stands that had the last turn, if it goes on.
+fn last_place(played: &Played) -> Option<Place> {
+    let pid = played.kept.last?;
+    let step = next_step(played.session.machine(), pid)?;
+    Some(Place {
+        pid,
+        pc: step.regs.pc(),
+    })
+}
+
 // Where a run stands that still computes: the process that had the last turn, and its pc.
-fn loop_text(alloc: Global, submission: &Submission, played: &Played) -> Result<String, Refusal> {
+fn loop_text(
+    alloc: Global,
+    submission: &Submission,
+    played: &Played,
+) -> Result<String, AllocError> {
     let runs = Grouped(played.kept.runs);
-    let Some(pid) = played.kept.last else {
-        return Ok(format!(in alloc; "{runs} Runs, and init has not ended")?);
+    let Some(place) = last_place(played) else {
+        return format!(in alloc; "loops: {runs} Runs, and init has not ended");
     };
-    let Some(step) = next_step(played.session.machine(), pid) else {
-        return Ok(format!(in alloc; "{runs} Runs, and init has not ended")?);
-    };
-    let (number, pc) = (pid.number(), step.regs.pc());
-    let line = line_text(alloc, submission, played, pid, pc)?;
-    Ok(format!(in alloc; "{runs} Runs and process {number} still computes at pc {pc:#x}{line}")?)
+    let (number, pc) = (place.pid.number(), place.pc);
+    let line = line_text(alloc, submission, played, place.pid, pc)?;
+    format!(in alloc; "loops: {runs} Runs and process {number} still computes at pc {pc:#x}{line}")
 }
 
 // A fault, its registers and its callers, as text.
@@ -58,13 +84,13 @@ fn report_text<'x>(
     alloc: Global,
     report: &'x FaultReport,
     symbols: &'x [u8],
-) -> Result<String, Refusal> {
+) -> Result<String, AllocError> {
     let text = FaultText {
         report,
         program: None,
         symbols,
     };
-    Ok(format!(in alloc; "{text}")?)
+    format!(in alloc; "{text}")
 }
 
 // The first line of a text.
@@ -75,30 +101,50 @@ fn first_line(text: &str) -> &str {
     }
 }
 
-// The fault of a run, as it stood before that step.
-fn fault_text(alloc: Global, submission: &Submission, played: &Played) -> Result<String, Refusal> {
-    let Some(place) = played.kept.fault else {
-        return Ok(String::new(alloc));
-    };
-    let Some(report) = report_at(alloc, &played.session, place)? else {
-        return Ok(String::new(alloc));
-    };
+// What a run came to by this fault.
+fn told_fault(
+    alloc: Global,
+    submission: &Submission,
+    played: &Played,
+    report: &FaultReport,
+) -> Result<String, AllocError> {
     let step = &report.fault.step;
     let code = report.fault.cause.code();
     let line = line_text(alloc, submission, played, step.pid, step.regs.pc())?;
-    let text = report_text(alloc, &report, submission.bytes.as_slice())?;
+    let text = report_text(alloc, report, submission.bytes.as_slice())?;
     let first = first_line(text.as_str());
-    Ok(format!(in alloc; "{code}: {first}{line}")?)
+    format!(in alloc; "fault {code}: {first}{line}")
+}
+
+// The fault of a run, as it stood before that step.
+fn fault_text(alloc: Global, submission: &Submission, played: &Played) -> Result<String, Refusal> {
+    let Some(place) = played.kept.fault else {
+        return Ok(String::from_str(alloc, "fault ")?);
+    };
+    match report_at(alloc, &played.session, place)? {
+        Some(report) => Ok(told_fault(alloc, submission, played, &report)?),
+        None => Ok(String::from_str(alloc, "fault ")?),
+    }
 }
 
 // Why process 1 doesn't go on.
-fn wait_text(alloc: Global, submission: &Submission, played: &Played) -> Result<String, Refusal> {
+fn wait_text(
+    alloc: Global,
+    submission: &Submission,
+    played: &Played,
+) -> Result<String, AllocError> {
     let line = WaitLine {
         session: &played.session,
         pid: Pid::new(1),
         symbols: submission.bytes.as_slice(),
     };
-    Ok(format!(in alloc; "{line}")?)
+    format!(in alloc; "waits: {line}")
+}
+
+// That a run made more notes, or showed more bytes, than are kept.
+fn too_much_text(alloc: Global) -> Result<String, AllocError> {
+    let (notes, bytes) = (Grouped(NOTES_MAX as u64), Grouped(SHOWN_MAX as u64));
+    format!(in alloc; "too much: more than {notes} notes or {bytes} bytes")
 }
 
 /// What a run of this standing came to: its word, and what shows it; empty if it is right, or ended and is wrong.
@@ -113,22 +159,10 @@ pub fn cause(
     played: &Played,
 ) -> Result<String, Refusal> {
     match standing {
-        Standing::Loops => {
-            let text = loop_text(alloc, submission, played)?;
-            Ok(format!(in alloc; "loops: {text}")?)
-        }
-        Standing::Waits => {
-            let text = wait_text(alloc, submission, played)?;
-            Ok(format!(in alloc; "waits: {text}")?)
-        }
-        Standing::Fault => {
-            let text = fault_text(alloc, submission, played)?;
-            Ok(format!(in alloc; "fault {text}")?)
-        }
-        Standing::TooMuch => {
-            let (notes, bytes) = (Grouped(NOTES_MAX as u64), Grouped(SHOWN_MAX as u64));
-            Ok(format!(in alloc; "too much: more than {notes} notes or {bytes} bytes")?)
-        }
+        Standing::Loops => Ok(loop_text(alloc, submission, played)?),
+        Standing::Waits => Ok(wait_text(alloc, submission, played)?),
+        Standing::Fault => fault_text(alloc, submission, played),
+        Standing::TooMuch => Ok(too_much_text(alloc)?),
         Standing::Right | Standing::Wrong | Standing::Refused => Ok(String::new(alloc)),
     }
 }

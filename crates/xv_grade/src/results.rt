@@ -1,9 +1,11 @@
 //! The files of a submission's results.
+ghost use Rattle.std.specs.Prelude.{◌<◌, length};
+
 use crate::command_line::Settings;
 use crate::refusal::Refusal;
 use grade_rules::Note;
 use grade_runs::Played;
-use std::alloc::Global;
+use std::alloc::{AllocError, Global};
 use std::fs;
 use std::rt::Files;
 
@@ -33,31 +35,38 @@ pub fn write_result<R: Files + AllocGlobal>(
 }
 
 // Adds notes to a text, a line each.
-fn add_notes(alloc: Global, text: &mut String, notes: &[Note]) -> Result<(), Refusal> {
+fn add_notes(alloc: Global, text: &mut String, notes: &[Note]) -> Result<(), AllocError> {
     for note in notes {
         text.push_str(format!(in alloc; "{note}\n")?.as_str())?;
     }
     Ok(())
 }
 
+// Adds the first and the last ten thousand of more than twenty thousand notes, and how many are left out.
+fn add_ends(alloc: Global, text: &mut String, notes: &[Note]) -> Result<(), AllocError>
+    requires { 20000 < length notes.now }
+{
+    let (first, rest) = notes.split_at(NOTES_SHOWN);
+    let (left_out, last) = rest.split_at(rest.len() - NOTES_SHOWN);
+    let count = left_out.len();
+    add_notes(alloc, text, first)?;
+    text.push_str(format!(in alloc; "# {count} notes are left out\n")?.as_str())?;
+    add_notes(alloc, text, last)
+}
+
 // The notes of a run as text. Of more than twenty thousand those in the middle are left out.
-fn notes_text(alloc: Global, notes: &[Note]) -> Result<String, Refusal> {
+fn notes_text(alloc: Global, notes: &[Note]) -> Result<String, AllocError> {
     let mut text = String::new(alloc);
     if notes.len() <= 2 * NOTES_SHOWN {
         add_notes(alloc, &mut text, notes)?;
-        return Ok(text);
+    } else {
+        add_ends(alloc, &mut text, notes)?;
     }
-    let (first, rest) = notes.split_at(NOTES_SHOWN);
-    let (left_out, last) = rest.split_at(rest.len() - NOTES_SHOWN);
-    add_notes(alloc, &mut text, first)?;
-    let count = left_out.len();
-    text.push_str(format!(in alloc; "# {count} notes are left out\n")?.as_str())?;
-    add_notes(alloc, &mut text, last)?;
     Ok(text)
 }
 
 // The trace of a run as text.
-fn trace_text(alloc: Global, played: &Played) -> Result<String, Refusal> {
+fn trace_text(alloc: Global, played: &Played) -> Result<String, AllocError> {
     let machine = played.session.machine();
     let mut text = String::new(alloc);
     for place in 0..machine.trace_len() {
@@ -66,6 +75,18 @@ fn trace_text(alloc: Global, played: &Played) -> Result<String, Refusal> {
         }
     }
     Ok(text)
+}
+
+// Writes a part of what is to be seen of the run of this number.
+fn write_part<R: Files + AllocGlobal>(
+    rt: &R,
+    settings: &Settings,
+    part: &str,
+    number: usize,
+    bytes: &[u8],
+) -> Result<(), Refusal> {
+    let name = format!(in rt.alloc(); "{part}-{number}")?;
+    write_result(rt, settings, name.as_str(), bytes)
 }
 
 /// Writes what is to be seen of the run of this number: what it showed, its notes, and its last events.
@@ -79,13 +100,15 @@ pub fn write_run<R: Files + AllocGlobal>(
     number: usize,
     played: &Played,
 ) -> Result<(), Refusal> {
-    let alloc = rt.alloc();
-    let name = format!(in alloc; "console-{number}")?;
-    write_result(rt, settings, name.as_str(), played.kept.shown.as_slice())?;
-    let name = format!(in alloc; "notes-{number}")?;
-    let text = notes_text(alloc, played.kept.notes.as_slice())?;
-    write_result(rt, settings, name.as_str(), text.as_str().as_bytes())?;
-    let name = format!(in alloc; "trace-{number}")?;
-    let text = trace_text(alloc, played)?;
-    write_result(rt, settings, name.as_str(), text.as_str().as_bytes())
+    write_part(
+        rt,
+        settings,
+        "console",
+        number,
+        played.kept.shown.as_slice(),
+    )?;
+    let notes = notes_text(rt.alloc(), played.kept.notes.as_slice())?;
+    write_part(rt, settings, "notes", number, notes.as_str().as_bytes())?;
+    let trace = trace_text(rt.alloc(), played)?;
+    write_part(rt, settings, "trace", number, trace.as_str().as_bytes())
 }

@@ -1,4 +1,6 @@
 //! The line of a source that an address of its program comes from.
+ghost use Rattle.std.specs.Prelude.{◌<◌, IfSome, length};
+
 use std::alloc::Global;
 use uasm_core::assemble;
 
@@ -68,31 +70,53 @@ fn instruction_lines(alloc: Global, source: &str) -> Option<Vec<usize>> {
     Some(lines)
 }
 
-/// The line, counted from 1, whose instruction stands at an address of the program that the assembler makes of a
-/// source; `None` if none does, or if the source has the word by which it is looked for. The program's text lies at
-/// address 0.
-pub fn line_at(alloc: Global, source: &str, address: u64) -> Option<usize> {
-    let lines = instruction_lines(alloc, source)?;
-    let places = lines.as_slice();
-    let plain = assemble(alloc, source).ok()?;
-    if places.is_empty() || place_of(plain.as_slice(), &MARK_BYTES).is_some() {
+// The place in the list of lines of the last one that begins no later than an address.
+fn last_line(alloc: Global, source: &str, lines: &[usize], address: u64) -> Option<usize>
+    ensures { IfSome result (λ place. place < length lines.now) }
+{
+    if lines.is_empty() {
         return None;
     }
-    let first = bytes_before(alloc, source, places[0])? as u64;
+    let first = bytes_before(alloc, source, lines[0])?;
     let mut low: usize = 0;
-    let mut high = places.len();
+    let mut high = lines.len();
     'halves: while high - low > 1 {
         let middle = low + (high - low) / 2;
-        let before = bytes_before(alloc, source, places[middle])? as u64;
-        if before.saturating_sub(first) <= address {
+        let before = bytes_before(alloc, source, lines[middle])?;
+        if before.saturating_sub(first) as u64 <= address {
             low = middle;
         } else {
             high = middle;
         }
     }
-    let begins = (bytes_before(alloc, source, places[low])? as u64).saturating_sub(first);
+    Some(low)
+}
+
+// The address at which the instruction of a line stands, if the first one is of this line.
+fn address_of(alloc: Global, source: &str, line: usize, first: usize) -> Option<u64> {
+    let begins = bytes_before(alloc, source, line)?;
+    Some(begins.saturating_sub(bytes_before(alloc, source, first)?) as u64)
+}
+
+// Whether a source has the word by which its lines are looked for.
+fn has_mark(alloc: Global, source: &str) -> Option<bool> {
+    let plain = assemble(alloc, source).ok()?;
+    Some(place_of(plain.as_slice(), &MARK_BYTES).is_some())
+}
+
+/// The line, counted from 1, whose instruction stands at an address of the program that the assembler makes of a
+/// source; `None` if none does, or if the source has the word by which it is looked for. The program's text lies at
+/// address 0.
+pub fn line_at(alloc: Global, source: &str, address: u64) -> Option<usize> {
+    if has_mark(alloc, source)? {
+        return None;
+    }
+    let lines = instruction_lines(alloc, source)?;
+    let lines = lines.as_slice();
+    let place = last_line(alloc, source, lines, address)?;
+    let begins = address_of(alloc, source, lines[place], lines[0])?;
     if address < begins || address - begins >= LINE_BYTES {
         return None;
     }
-    Some(places[low].saturating_add(1))
+    Some(lines[place].saturating_add(1))
 }

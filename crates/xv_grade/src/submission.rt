@@ -1,8 +1,8 @@
 //! What was handed in.
 use crate::refusal::Refusal;
-use grade_sheets::Run;
+use grade_sheets::{Run, Text};
 use program_files::{FileRefusal, program};
-use std::alloc::Global;
+use std::alloc::{AllocError, Global};
 use std::fs;
 use std::rt::Files;
 use xk_base::Program;
@@ -32,9 +32,42 @@ fn told(alloc: Global, refusal: &FileRefusal<'_>) -> Result<String, Refusal> {
     }
 }
 
+// The refusal of a file of the exercise.
+fn refusal_of(alloc: Global, refusal: &FileRefusal<'_>) -> Refusal {
+    match told(alloc, refusal) {
+        Ok(why) => Refusal::File(why),
+        Err(refusal) => refusal,
+    }
+}
+
 // The path of a file in a folder.
-fn path_in(alloc: Global, folder: &str, file: &str) -> Result<String, Refusal> {
-    Ok(format!(in alloc; "{folder}/{file}")?)
+fn path_in(alloc: Global, folder: &str, file: &str) -> Result<String, AllocError> {
+    format!(in alloc; "{folder}/{file}")
+}
+
+// A file of this name that isn't run, and why.
+fn unfit(alloc: Global, file: &str, why: &str) -> Result<HandedIn, AllocError> {
+    Ok(HandedIn::Refused(format!(in alloc; "{file}: {why}")?))
+}
+
+// The file of this name, of these bytes.
+fn submission_of(alloc: Global, file: &str, bytes: Vec<u8>) -> Result<HandedIn, Refusal> {
+    let submission = Submission {
+        file: String::from_str(alloc, file)?,
+        bytes,
+    };
+    match submission.complaint(alloc)? {
+        Some(why) => Ok(HandedIn::Refused(why)),
+        None => Ok(HandedIn::File(submission)),
+    }
+}
+
+// The file of this name and path, if it can be read.
+fn file_at<R: Files + AllocGlobal>(rt: &R, path: &str, file: &str) -> Result<HandedIn, Refusal> {
+    match fs::read(rt, path) {
+        Ok(bytes) => submission_of(rt.alloc(), file, bytes),
+        Err(_) => Ok(unfit(rt.alloc(), file, "cannot be read")?),
+    }
 }
 
 // The file of this name in a folder: `None` if it isn't there. A link isn't followed, and a file is opened only if it
@@ -49,39 +82,47 @@ fn file_in<R: Files + AllocGlobal>(
         return Ok(None);
     };
     if !found.is_file() {
-        let why = format!(in rt.alloc(); "{file}: not a plain file")?;
-        return Ok(Some(HandedIn::Refused(why)));
+        return Ok(Some(unfit(rt.alloc(), file, "not a plain file")?));
     }
     if found.len() > PROGRAM_BYTES as u64 {
-        let why = format!(in rt.alloc(); "{file}: too long")?;
-        return Ok(Some(HandedIn::Refused(why)));
+        return Ok(Some(unfit(rt.alloc(), file, "too long")?));
     }
-    match fs::read(rt, path.as_str()) {
-        Ok(bytes) => Ok(Some(HandedIn::File(Submission {
-            file: String::from_str(rt.alloc(), file)?,
-            bytes,
-        }))),
-        Err(_) => {
-            let why = format!(in rt.alloc(); "{file}: cannot be read")?;
-            Ok(Some(HandedIn::Refused(why)))
-        }
-    }
+    Ok(Some(file_at(rt, path.as_str(), file)?))
 }
 
 // The line that says why a file of this name isn't run, if there is one.
 fn refused_line<'a>(refused: &'a str, file: &str) -> Option<&'a str> {
-    refused.lines().find(|line| match line.split_once(": ") {
-        Some((name, _)) => name == file,
-        None => false,
-    })
+    for line in refused.lines() {
+        if let Some((name, _)) = line.split_once(": ") {
+            if name == file {
+                return Some(line);
+            }
+        }
+    }
+    None
 }
 
-// A file that gives a program, or why it gives none.
-fn with_program(alloc: Global, submission: Submission) -> Result<HandedIn, Refusal> {
-    match submission.complaint(alloc)? {
-        Some(why) => Ok(HandedIn::Refused(why)),
-        None => Ok(HandedIn::File(submission)),
+// What was handed in under this name: `None` if nothing was.
+fn under_name<R: Files + AllocGlobal>(
+    rt: &R,
+    file: &str,
+    folder: &str,
+    refused: &str,
+) -> Result<Option<HandedIn>, Refusal> {
+    match refused_line(refused, file) {
+        Some(why) => Ok(Some(HandedIn::Refused(String::from_str(rt.alloc(), why)?))),
+        None => file_in(rt, folder, file),
     }
+}
+
+// That none of these files is there.
+fn no_file(alloc: Global, files: &[String]) -> Result<String, AllocError> {
+    let mut why = String::from_str(alloc, "no file")?;
+    for (place, file) in files.iter().enumerate() {
+        why.push_str(if place == 0 { " " } else { " or " })?;
+        why.push_str(file.as_str())?;
+    }
+    Ok(why)
 }
 
 /// What was handed in, in a folder: the first of these files that is there. It is refused if none is, and if that
@@ -98,21 +139,55 @@ pub fn handed_in<R: Files + AllocGlobal>(
     refused: &str,
 ) -> Result<HandedIn, Refusal> {
     for file in files {
-        if let Some(why) = refused_line(refused, file.as_str()) {
-            return Ok(HandedIn::Refused(String::from_str(rt.alloc(), why)?));
-        }
-        match file_in(rt, folder, file.as_str())? {
-            Some(HandedIn::File(submission)) => return with_program(rt.alloc(), submission),
-            Some(refused) => return Ok(refused),
-            None => {}
+        if let Some(found) = under_name(rt, file.as_str(), folder, refused)? {
+            return Ok(found);
         }
     }
-    let mut why = String::from_str(rt.alloc(), "no file")?;
-    for (place, file) in files.iter().enumerate() {
-        why.push_str(if place == 0 { " " } else { " or " })?;
-        why.push_str(file.as_str())?;
+    Ok(HandedIn::Refused(no_file(rt.alloc(), files)?))
+}
+
+// The program of a file of the exercise, whose path goes from this folder.
+fn program_of_file<R: Files + AllocGlobal>(
+    rt: &R,
+    folder: &str,
+    file: &str,
+) -> Result<Program, Refusal> {
+    let alloc = rt.alloc();
+    let path = path_in(alloc, folder, file)?;
+    let opened = fs::open(rt, path.as_str());
+    match program(alloc, opened, path.as_str()) {
+        Ok(program) => Ok(program),
+        Err(refusal) => Err(refusal_of(alloc, &refusal)),
     }
-    Ok(HandedIn::Refused(why))
+}
+
+// The programs of these files of the exercise.
+fn programs_of_files<R: Files + AllocGlobal>(
+    rt: &R,
+    folder: &str,
+    files: &[String],
+) -> Result<Vec<Program>, Refusal> {
+    let mut programs = Vec::new(rt.alloc());
+    for file in files {
+        programs.push(program_of_file(rt, folder, file.as_str())?)?;
+    }
+    Ok(programs)
+}
+
+// A text of the exercise, as a program.
+fn program_of_text(alloc: Global, text: &Text) -> Result<Program, AllocError> {
+    Ok(Program {
+        name: Vec::from_slice(alloc, text.name.as_str().as_bytes())?,
+        bytes: Vec::from_slice(alloc, text.text.as_str().as_bytes())?,
+    })
+}
+
+// Adds the texts of the exercise.
+fn add_texts(alloc: Global, programs: &mut Vec<Program>, texts: &[Text]) -> Result<(), Refusal> {
+    for text in texts {
+        programs.push(program_of_text(alloc, text)?)?;
+    }
+    Ok(())
 }
 
 impl Submission {
@@ -129,6 +204,14 @@ impl Submission {
         }
     }
 
+    // The program that was handed in, for a run.
+    fn own_program(&self, alloc: Global) -> Result<Program, Refusal> {
+        match self.program(alloc) {
+            Ok(program) => Ok(program),
+            Err(refusal) => Err(refusal_of(alloc, &refusal)),
+        }
+    }
+
     /// The programs of a run: those of the exercise, whose paths go from this folder, its texts, and what was handed
     /// in.
     ///
@@ -141,26 +224,9 @@ impl Submission {
         run: &Run,
         folder: &str,
     ) -> Result<Vec<Program>, Refusal> {
-        let alloc = rt.alloc();
-        let mut programs = Vec::new(alloc);
-        for file in &run.with {
-            let path = path_in(alloc, folder, file.as_str())?;
-            let opened = fs::open(rt, path.as_str());
-            match program(alloc, opened, path.as_str()) {
-                Ok(program) => programs.push(program)?,
-                Err(refusal) => return Err(Refusal::File(told(alloc, &refusal)?)),
-            }
-        }
-        for text in &run.texts {
-            programs.push(Program {
-                name: Vec::from_slice(alloc, text.name.as_str().as_bytes())?,
-                bytes: Vec::from_slice(alloc, text.text.as_str().as_bytes())?,
-            })?;
-        }
-        match self.program(alloc) {
-            Ok(program) => programs.push(program)?,
-            Err(refusal) => return Err(Refusal::File(told(alloc, &refusal)?)),
-        }
+        let mut programs = programs_of_files(rt, folder, run.with.as_slice())?;
+        add_texts(rt.alloc(), &mut programs, run.texts.as_slice())?;
+        programs.push(self.own_program(rt.alloc())?)?;
         Ok(programs)
     }
 

@@ -1,0 +1,163 @@
+//! The keys of a table of TOML, read one by one.
+ghost use Rattle.std.specs.Prelude.{◌≤◌, IfOk};
+
+use crate::refusal::SheetError;
+use std::alloc::Global;
+use toml::{Table, Value};
+
+/// A table of an exercise's file.
+#[derive(Clone, Copy)]
+pub(crate) struct Keys<'a> {
+    pub table: &'a Table,
+    /// What the file calls it.
+    pub place: &'a str,
+}
+
+// Whether a key is one of these.
+fn is_one_of(key: &str, keys: &[&str]) -> bool {
+    for other in keys {
+        if *other == key {
+            return true;
+        }
+    }
+    false
+}
+
+/// The number of a value, if it is a natural one.
+pub(crate) fn natural(value: &Value) -> Option<u64> {
+    u64::try_from(value.as_integer()?).ok()
+}
+
+impl<'a> Keys<'a> {
+    // What is wrong with a key of this table.
+    fn refused(&self, alloc: Global, what: &str, key: &str) -> SheetError {
+        let place = self.place;
+        match format!(in alloc; "{what} `{key}` in {place}") {
+            Ok(text) => SheetError::Text(text),
+            Err(_) => SheetError::Memory,
+        }
+    }
+
+    /// Whether a key is there.
+    pub fn has(&self, key: &str) -> bool {
+        self.table.get(key).is_some()
+    }
+
+    // The first of these keys that isn't there.
+    fn missing<'k>(&self, needed: &[&'k str]) -> Option<&'k str> {
+        for key in needed {
+            if !self.has(key) {
+                return Some(key);
+            }
+        }
+        None
+    }
+
+    // The first of its keys that is none of these.
+    fn unknown(&self, needed: &[&str], others: &[&str]) -> Option<&'a str> {
+        for key in self.table.keys() {
+            let key = key.as_str();
+            if !is_one_of(key, needed) && !is_one_of(key, others) {
+                return Some(key);
+            }
+        }
+        None
+    }
+
+    /// Whether the needed keys are there, and no others but these.
+    pub fn are(&self, needed: &[&str], others: &[&str]) -> bool {
+        self.missing(needed).is_none() && self.unknown(needed, others).is_none()
+    }
+
+    /// Refuses a table that lacks a needed key, or has one that is none of these.
+    pub fn check(&self, alloc: Global, needed: &[&str], others: &[&str]) -> Result<(), SheetError> {
+        if let Some(key) = self.missing(needed) {
+            return Err(self.refused(alloc, "missing key", key));
+        }
+        match self.unknown(needed, others) {
+            Some(key) => Err(self.refused(alloc, "unknown key", key)),
+            None => Ok(()),
+        }
+    }
+
+    /// A key's text; empty without the key.
+    pub fn text(&self, alloc: Global, key: &str) -> Result<String, SheetError> {
+        match self.table.get(key) {
+            Some(Value::String(text)) => Ok(String::from_str(alloc, text.as_str())?),
+            Some(_) => Err(self.refused(alloc, "no text:", key)),
+            None => Ok(String::new(alloc)),
+        }
+    }
+
+    /// A key's number, which goes from the least to the most; the usual one without the key.
+    pub fn number(
+        &self,
+        alloc: Global,
+        key: &str,
+        usual: u64,
+        least: u64,
+        most: u64,
+    ) -> Result<u64, SheetError>
+        requires { usual ≤ most }
+        ensures { IfOk result (λ n. n ≤ most) }
+    {
+        let Some(value) = self.table.get(key) else {
+            return Ok(usual);
+        };
+        match natural(value) {
+            Some(number) if least <= number && number <= most => Ok(number),
+            _ => {
+                let what = format!(in alloc; "no number from {least} to {most}:")?;
+                Err(self.refused(alloc, what.as_str(), key))
+            }
+        }
+    }
+
+    // A key's exit status, if it is one.
+    fn as_status(&self, key: &str) -> Option<i32> {
+        i32::try_from(self.table.get(key)?.as_integer()?).ok()
+    }
+
+    /// A key's exit status.
+    pub fn status(&self, alloc: Global, key: &str) -> Result<i32, SheetError> {
+        match self.as_status(key) {
+            Some(status) => Ok(status),
+            None => Err(self.refused(alloc, "no number of 32 bits:", key)),
+        }
+    }
+
+    /// A key's list; empty without the key.
+    pub fn list(&self, alloc: Global, key: &str) -> Result<&'a [Value], SheetError> {
+        match self.table.get(key) {
+            Some(Value::Array(values)) => Ok(values.as_slice()),
+            Some(_) => Err(self.refused(alloc, "no list:", key)),
+            None => Ok(&[]),
+        }
+    }
+
+    /// The table that an item of a key's list is, under this name in the file.
+    pub fn table(
+        &self,
+        alloc: Global,
+        key: &str,
+        item: &'a Value,
+        place: &'a str,
+    ) -> Result<Keys<'a>, SheetError> {
+        match item.as_table() {
+            Some(table) => Ok(Keys { table, place }),
+            None => Err(self.refused(alloc, "no list of tables:", key)),
+        }
+    }
+
+    /// A key's texts; none without the key.
+    pub fn texts(&self, alloc: Global, key: &str) -> Result<Vec<String>, SheetError> {
+        let mut texts = Vec::new(alloc);
+        for value in self.list(alloc, key)? {
+            let Some(text) = value.as_str() else {
+                return Err(self.refused(alloc, "no list of texts:", key));
+            };
+            texts.push(String::from_str(alloc, text)?)?;
+        }
+        Ok(texts)
+    }
+}
