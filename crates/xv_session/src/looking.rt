@@ -4,8 +4,7 @@ ghost use Rattle.rv64i_core.specs.Step.{extended, data_address};
 ghost use Rattle.xv_session.specs.Looking.{word_at, address_of, next_step_of, FaultTold};
 
 use rv64i_core::{Imm12, Instr, Regs, decode};
-use std::fmt;
-use xk_base::{Cause, Pid, Reg};
+use xk_base::{Cause, Pid};
 use xv_machine::{Event, Machine, Outcome};
 
 /// The step that a process is about to make, as it stands before it.
@@ -96,54 +95,4 @@ pub fn fault_of_run(machine: &mut Machine) -> Option<Fault>
         return None;
     };
     Some(Fault { step: step?, cause })
-}
-
-/// The names of the registers x1 to x31 (RISC-V Calling Conventions, "Integer Register Convention").
-const REGISTER_NAMES: [&str; 31] = [
-    "ra", "sp", "gp", "tp", "t0", "t1", "t2", "s0", "s1", "a0", "a1", "a2", "a3", "a4", "a5", "a6",
-    "a7", "s2", "s3", "s4", "s5", "s6", "s7", "s8", "s9", "s10", "s11", "t3", "t4", "t5", "t6",
-];
-
-impl Fault {
-    /// What the instruction did, and why it may not be done.
-    fn reason<W: fmt::Write>(&self, f: &mut fmt::Formatter<W>) -> fmt::Result {
-        let pc = self.step.regs.pc();
-        let address = self.step.address.unwrap_or(pc);
-        let word = self.step.word.unwrap_or(0);
-        match self.cause {
-            Cause::TargetMisaligned => write!(f, "jump to an address that is no multiple of 4"),
-            Cause::IllegalInstruction => write!(f, "the word {word:#x} is no instruction"),
-            Cause::Breakpoint => write!(f, "ebreak"),
-            Cause::LoadMisaligned => write!(
-                f,
-                "load from {address:#x}, which is no multiple of its size"
-            ),
-            Cause::StoreMisaligned => write!(
-                f,
-                "store to {address:#x}, which is no multiple of its size"
-            ),
-            Cause::FetchPageFault => write!(f, "no instruction may be fetched"),
-            Cause::LoadPageFault => write!(f, "load from {address:#x}, which may not be read"),
-            Cause::StorePageFault => write!(f, "store to {address:#x}, which may not be written"),
-        }
-    }
-}
-
-/// In one line the process, what it was about to do and why it could not, and the pc; then its registers, four in a
-/// line.
-impl fmt::Display for Fault {
-    fn fmt<W: fmt::Write>(&self, f: &mut fmt::Formatter<W>) -> fmt::Result {
-        let pid = self.step.pid.number();
-        let pc = self.step.regs.pc();
-        write!(f, "process {pid}: ")?;
-        self.reason(f)?;
-        write!(f, ", at pc {pc:#x}")?;
-        for place in 0..31 {
-            let end = if place % 4 == 0 { "\n" } else { "  " };
-            let name = REGISTER_NAMES[place];
-            let value = self.step.regs.read(Reg::new(place as u8 + 1));
-            write!(f, "{end}{name} {value:#x}")?;
-        }
-        Ok(())
-    }
 }
