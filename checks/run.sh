@@ -1,8 +1,8 @@
 #!/bin/sh
-# The checks beside the proofs: checks/run.sh gives xv_run and xv_terminal the words that are stored, plays the sessions,
-# also those at a terminal and of the debugger, the stored runs, the reports and the conversations with GDB by the programs
-# that are built, grades submissions, looks at the links of the pages, counts what the proofs can do without, and tells
-# whether page/nektavoly.html is of these sources, in some seconds. The gate does the same behind `rt ci`. `checks/run.sh
+# The checks beside the proofs: checks/run.sh gives the programs the words that are stored, plays the sessions, also those
+# at a terminal and of the debugger, the stored runs, the reports and the conversations with GDB by the programs that are
+# built, grades submissions, looks at the links of the pages, counts what the proofs can do without, and tells whether
+# page/nektavoly.html is of these sources, in some seconds. The gate does the same behind `rt ci`. `checks/run.sh
 # --others` tells which other checks there are, how each is called, and how long it takes.
 set -u
 cd "$(dirname "$0")/.." || exit 2

@@ -28,7 +28,7 @@ const DELETE: u8 = 127;
 pub type Echo = ArrayVec<u8, ECHO_BYTES>;
 
 // What a key means.
-#[derive(Clone, Copy, Debug, PartialEq, Eq)]
+#[derive(Clone, Copy)]
 pub(crate) enum Key {
     Ignored,
     // Takes back the last byte of the line.

@@ -15,7 +15,7 @@ use xk_base::BootError;
 use xk_base::limits::{CONSOLE_BYTES, SEND_BYTES};
 
 /// What a step of a read took.
-#[derive(Clone, Copy, Debug, PartialEq, Eq)]
+#[derive(Clone, Copy)]
 pub struct Pull {
     /// How many bytes it put into the buffer.
     pub taken: usize,
@@ -24,7 +24,7 @@ pub struct Pull {
 }
 
 /// One of a console's three lists of bytes, each from the oldest byte on.
-#[derive(Clone, Copy, Debug, PartialEq, Eq)]
+#[derive(Clone, Copy)]
 pub enum ConsoleList {
     /// Bytes typed that a read may take.
     Committed,

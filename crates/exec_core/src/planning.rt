@@ -12,7 +12,7 @@ use xk_base::limits::PAGE_BYTES;
 use xk_base::{ExecError, page_count};
 
 /// What a program starts with: its registers besides those that stay as they were.
-#[derive(Clone, Copy, Debug, PartialEq, Eq)]
+#[derive(Clone, Copy)]
 pub struct Entry {
     /// The address of the first instruction, a multiple of 4.
     pub pc: u64,

@@ -7,7 +7,7 @@ use std::marker::Model;
 /// Names an open file: its place in the table of open files.
 ///
 /// Two descriptors share an open file exactly where they hold equal names.
-#[derive(Clone, Copy, Debug, PartialEq, Eq)]
+#[derive(Clone, Copy, PartialEq, Eq)]
 pub struct FileId {
     place: u16,
 }

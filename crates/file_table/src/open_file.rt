@@ -8,14 +8,14 @@ use xk_base::Frame;
 pub const SHARERS_MAX: u16 = 4096;
 
 /// An end of a pipe.
-#[derive(Clone, Copy, Debug, PartialEq, Eq)]
+#[derive(Clone, Copy, PartialEq, Eq)]
 pub enum End {
     Reading,
     Writing,
 }
 
 /// What an open file stands for.
-#[derive(Clone, Copy, Debug, PartialEq, Eq)]
+#[derive(Clone, Copy)]
 pub enum Target {
     Console,
     /// A program's file, by its place in the program table, and the offset of the next byte.
@@ -25,7 +25,7 @@ pub enum Target {
 }
 
 /// An open file: what it stands for, and what may be done with it.
-#[derive(Clone, Copy, Debug, PartialEq, Eq)]
+#[derive(Clone, Copy)]
 pub struct OpenFile {
     pub target: Target,
     pub read: bool,
@@ -33,7 +33,7 @@ pub struct OpenFile {
 }
 
 /// An open file, and how many descriptors name it: from 1 to [`SHARERS_MAX`].
-#[derive(Clone, Copy, Debug, PartialEq, Eq)]
+#[derive(Clone, Copy)]
 pub(crate) struct Entry {
     pub(crate) file: OpenFile,
     pub(crate) count: u16,

@@ -20,7 +20,7 @@ pub struct Rounds {
 
 /// The event at a place of a run, and how many of its kind follow one another from it on in its round: more than
 /// one only of Runs.
-#[derive(Clone, Copy, Debug, PartialEq, Eq)]
+#[derive(Clone, Copy)]
 pub struct Next {
     pub event: Event,
     pub count: u32,

@@ -7,7 +7,7 @@ use crate::digits::{push_byte, push_number};
 use std::alloc::{AllocError, Global};
 
 /// Why the program stopped.
-#[derive(Clone, Copy, Debug, PartialEq, Eq)]
+#[derive(Clone, Copy)]
 pub enum StopReason {
     /// A step is done, or a breakpoint is reached.
     Trap,

@@ -21,7 +21,7 @@ pub const SHOWN_MAX: usize = 1_048_576;
 const SENDS: u32 = 32;
 
 /// How a run is driven.
-#[derive(Clone, Copy, Debug, PartialEq, Eq)]
+#[derive(Clone, Copy)]
 pub struct Plan {
     /// The most rounds.
     pub rounds: u32,

@@ -1,7 +1,7 @@
 //! How a step of a kernel call ends.
 
 /// How a step of a kernel call ends.
-#[derive(Clone, Copy, Debug, PartialEq, Eq)]
+#[derive(Clone, Copy)]
 pub enum CallEnd {
     /// The call is done, and a0 has this answer.
     Done(i64),

@@ -2,7 +2,7 @@
 use xk_base::{Frame, Pid};
 
 /// What a process sleeps on until it is woken (the xv6 book, "Sleep and wakeup").
-#[derive(Clone, Copy, Debug, PartialEq, Eq)]
+#[derive(Clone, Copy, PartialEq, Eq)]
 pub enum Channel {
     /// The end of a child of this process.
     Children(Pid),

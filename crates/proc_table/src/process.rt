@@ -7,7 +7,7 @@ use crate::channel::Channel;
 use xk_base::Pid;
 
 /// A kernel call that isn't over.
-#[derive(Clone, Copy, Debug, PartialEq, Eq)]
+#[derive(Clone, Copy)]
 pub struct Call {
     /// Its number.
     pub number: i32,
@@ -22,7 +22,7 @@ pub struct Call {
 }
 
 /// What a live process does.
-#[derive(Clone, Copy, Debug, PartialEq, Eq)]
+#[derive(Clone, Copy)]
 pub struct Life {
     /// Its kill mark.
     pub marked: bool,
@@ -33,7 +33,7 @@ pub struct Life {
 }
 
 /// Whether a process lives.
-#[derive(Clone, Copy, Debug, PartialEq, Eq)]
+#[derive(Clone, Copy)]
 pub enum State {
     /// It lives, and does this.
     Live(Life),
@@ -42,7 +42,7 @@ pub enum State {
 }
 
 /// A process in a slot.
-#[derive(Clone, Copy, Debug, PartialEq, Eq)]
+#[derive(Clone, Copy)]
 pub struct Process {
     /// Its number, which no other process of the table has.
     pub pid: Pid,

@@ -5,7 +5,7 @@ use std::io::{self, ErrorKind, Write};
 use std::rt::Env;
 
 /// Why the words of a command line are refused.
-#[derive(Debug, Drop)]
+#[derive(Drop)]
 pub enum WordsError {
     /// The words themselves are refused, or ask for help. The text is for the user.
     Words(clap::Error),

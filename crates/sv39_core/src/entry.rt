@@ -11,7 +11,7 @@ use xk_base::limits::{FRAMES_MAX, PAGE_BYTES, RAM_BASE};
 use xk_base::{Access, Frame, Perm, Rights};
 
 /// The bits of an entry below its page number.
-#[derive(Clone, Copy, PartialEq, Eq, Debug)]
+#[derive(Clone, Copy)]
 pub(crate) struct PteFlags(u64);
 
 bitflag_items! {
@@ -61,7 +61,7 @@ pub enum Entry {
 }
 
 /// The frame of a page, and the kinds of access by which user code reaches it.
-#[derive(Clone, Copy, Debug, PartialEq, Eq)]
+#[derive(Clone, Copy)]
 pub struct Reached {
     pub frame: Frame,
     pub fetch: bool,
@@ -70,7 +70,7 @@ pub struct Reached {
 }
 
 /// An entry of a page table, as its 64 bits.
-#[derive(Clone, Copy, Debug, PartialEq, Eq)]
+#[derive(Clone, Copy)]
 pub struct Pte {
     word: u64,
 }

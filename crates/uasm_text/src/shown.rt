@@ -8,7 +8,7 @@ use rv64i_core::Instr;
 use std::fmt;
 
 /// An instruction at an address: a branch or a jump shows its target's address, as in `beq a0, a1, 0x40`.
-#[derive(Clone, Copy, Debug, PartialEq, Eq)]
+#[derive(Clone, Copy)]
 pub struct Shown {
     pub instruction: Instr,
     pub address: u64,
@@ -24,7 +24,7 @@ impl fmt::Display for Shown {
 
 /// An instruction with a label for the target of a branch or a jump, as in `beq a0, a1, again`. Other instructions
 /// show no label.
-#[derive(Clone, Copy, Debug, PartialEq, Eq)]
+#[derive(Clone, Copy)]
 pub struct Labelled<'a> {
     pub instruction: Instr,
     pub label: &'a str,

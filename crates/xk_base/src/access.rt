@@ -5,7 +5,7 @@ ghost use Rattle.xk_base.specs.Access.{IsPerm, code_of, data_rights, right_for};
 use std::marker::Model;
 
 /// What an instruction does at an address.
-#[derive(Clone, Copy, Debug, PartialEq, Eq)]
+#[derive(Clone, Copy)]
 pub enum Access {
     Fetch,
     Load,
@@ -13,7 +13,7 @@ pub enum Access {
 }
 
 /// The rights R, W, X and U, each given or not.
-#[derive(Clone, Copy, Debug, PartialEq, Eq)]
+#[derive(Clone, Copy, PartialEq, Eq)]
 pub struct Rights {
     pub read: bool,
     pub write: bool,
@@ -38,7 +38,7 @@ impl Rights {
 
 /// The rights of a page: R or X is among them, and W only with R
 /// (RISC-V Privileged ISA, Sv39: the other combinations name no leaf, or are reserved).
-#[derive(Clone, Copy, Debug, PartialEq, Eq)]
+#[derive(Clone, Copy, PartialEq, Eq)]
 pub struct Perm {
     rights: Rights,
 }

@@ -5,7 +5,7 @@ ghost use Rattle.xk_base.specs.declared.limits.TheConstants.{NOFILE};
 use std::marker::Model;
 
 /// A descriptor of a process, from 0 up to, but not including, [`NOFILE`](crate::limits::NOFILE).
-#[derive(Clone, Copy, Debug, PartialEq, Eq, PartialOrd, Ord)]
+#[derive(Clone, Copy)]
 pub struct Fd {
     number: u8,
 }

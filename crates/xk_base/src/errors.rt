@@ -62,12 +62,12 @@ impl From<ExecError> for BootError {
 }
 
 /// Fewer frames are free than a change costs.
-#[derive(Clone, Copy, Debug, PartialEq, Eq, Error)]
+#[derive(Clone, Copy, Debug, Error)]
 #[error("NoFrames")]
 pub struct NoFrames;
 
 /// Bytes that the process may not reach so.
-#[derive(Clone, Copy, Debug, PartialEq, Eq, Error)]
+#[derive(Clone, Copy, Debug, Error)]
 #[error("BadAddress")]
 pub struct BadAddress;
 

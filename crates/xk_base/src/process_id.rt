@@ -5,7 +5,7 @@ ghost use Rattle.xk_base.specs.declared.limits.TheConstants.{PID_MAX};
 use std::marker::Model;
 
 /// The number of a process, from 1 to [`PID_MAX`](crate::limits::PID_MAX).
-#[derive(Clone, Copy, Debug, PartialEq, Eq, PartialOrd, Ord)]
+#[derive(Clone, Copy, Debug, PartialEq, Eq)]
 pub struct Pid {
     number: u32,
 }

@@ -2,7 +2,7 @@
 use crate::access::Perm;
 
 /// A program that a machine is given.
-#[derive(Debug, Drop)]
+#[derive(Drop)]
 pub struct Program {
     /// Its name, by which it is found.
     pub name: Vec<u8>,
@@ -11,7 +11,7 @@ pub struct Program {
 }
 
 /// What a loader needs of an ELF-64 file header.
-#[derive(Clone, Copy, Debug, PartialEq, Eq)]
+#[derive(Clone, Copy)]
 pub struct Header {
     /// The address of the first instruction.
     pub entry: u64,
@@ -22,7 +22,7 @@ pub struct Header {
 }
 
 /// A program header of an ELF-64 file: what a loader needs of it.
-#[derive(Clone, Copy, Debug, PartialEq, Eq)]
+#[derive(Clone, Copy)]
 pub struct ProgramHeader {
     /// Its type. 1 is a segment to be loaded, all others are passed over.
     pub kind: u32,
@@ -39,7 +39,7 @@ pub struct ProgramHeader {
 }
 
 /// Memory that a program header asks for, and the bytes of the file that go there.
-#[derive(Clone, Copy, Debug, PartialEq, Eq)]
+#[derive(Clone, Copy)]
 pub struct Segment {
     /// The address of its first byte.
     pub vaddr: u64,

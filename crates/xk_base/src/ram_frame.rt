@@ -5,7 +5,7 @@ ghost use Rattle.xk_base.specs.declared.limits.TheConstants.{FRAMES_MAX};
 use std::marker::Model;
 
 /// A frame of RAM, by its number: frame 0 begins at [`RAM_BASE`](crate::limits::RAM_BASE).
-#[derive(Clone, Copy, Debug, PartialEq, Eq, PartialOrd, Ord)]
+#[derive(Clone, Copy, PartialEq, Eq)]
 pub struct Frame {
     number: u32,
 }

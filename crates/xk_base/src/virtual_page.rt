@@ -6,7 +6,7 @@ use crate::limits::{ADDRESS_END, PAGE_BYTES};
 use std::marker::Model;
 
 /// A virtual page, by its number: the address of its first byte divided by [`PAGE_BYTES`].
-#[derive(Clone, Copy, Debug, PartialEq, Eq, PartialOrd, Ord)]
+#[derive(Clone, Copy, PartialEq, Eq)]
 pub struct Vpn {
     number: u32,
 }

@@ -7,8 +7,8 @@ use debug_views::{least_from, lives};
 use xk_base::Pid;
 use xv_machine::{Machine, Outcome};
 
-/// The process of which this came.
-fn process_of(outcome: &Outcome) -> Option<Pid>
+/// The process of which this came; `None` for an event of the devices, and where nobody runs.
+pub(crate) fn process_of(outcome: &Outcome) -> Option<Pid>
     ensures { result ≡ process_of (outcome_of outcome.now) }
 {
     match outcome {

@@ -1,8 +1,9 @@
 //! What came of an event, in words.
 use crate::calls::CallShown;
+use crate::focus::process_of;
 use debug_words::texts::Quoted;
 use std::fmt;
-use xk_base::{Cause, Pid};
+use xk_base::Cause;
 use xv_machine::Outcome;
 
 /// Why an instruction can't be done.
@@ -22,19 +23,6 @@ fn cause_text(cause: Cause) -> &'static str {
 /// What came of an event.
 #[derive(Clone, Copy)]
 pub(crate) struct Happened<'a>(pub &'a Outcome);
-
-/// The process whose event it is; `None` for an event of the devices, and where nobody runs.
-fn process_of(outcome: &Outcome) -> Option<Pid> {
-    match outcome {
-        Outcome::Stepped { pid }
-        | Outcome::Called { pid, .. }
-        | Outcome::Blocked { pid, .. }
-        | Outcome::Exited { pid, .. }
-        | Outcome::Faulted { pid, .. }
-        | Outcome::Turn { pid } => Some(*pid),
-        _ => None,
-    }
-}
 
 /// What a call answers, behind its process.
 fn show_answer<W: fmt::Write>(number: i32, value: i64, f: &mut fmt::Formatter<W>) -> fmt::Result {

@@ -12,7 +12,7 @@ use std::io::{ErrorKind, Read, Write};
 const READ_BYTES: usize = 512;
 
 /// Whether there is more to serve.
-#[derive(Clone, Copy, Debug, PartialEq, Eq)]
+#[derive(Clone, Copy, PartialEq, Eq)]
 enum After {
     GoesOn,
     Ends,

@@ -3,7 +3,7 @@ ghost use Rattle.std.specs.Prelude.{◌≡◌};
 ghost use Rattle.xv_live.specs.Keys.{key_of};
 
 /// What a key of the keyboard asks for.
-#[derive(Clone, Copy, Debug, PartialEq, Eq)]
+#[derive(Clone, Copy)]
 pub enum Key {
     /// The machine is to get it.
     Typed(u8),

@@ -4,7 +4,7 @@ use thiserror::Error;
 use xv_session::SessionError;
 
 /// Why a machine can't be attended to any more.
-#[derive(Clone, Copy, Debug, PartialEq, Eq, Error)]
+#[derive(Clone, Copy, Debug, Error)]
 pub enum Trouble {
     /// The keyboard can't be read.
     #[error("read fault")]

@@ -7,7 +7,7 @@ use std::io::{self, ErrorKind, Read, Write};
 use thiserror::Error;
 
 /// A device has failed.
-#[derive(Clone, Copy, Debug, PartialEq, Eq, Error)]
+#[derive(Clone, Copy, Debug, Error)]
 #[error("the device failed")]
 pub struct DeviceFault;
 

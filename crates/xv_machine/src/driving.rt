@@ -20,7 +20,7 @@ use thiserror::Error;
 use xk_base::limits::SEND_BYTES;
 
 /// How long a machine is driven.
-#[derive(Clone, Copy, Debug, PartialEq, Eq)]
+#[derive(Clone, Copy)]
 pub struct RunPlan {
     /// How many rounds are played, unless the machine halts before.
     pub rounds: u64,
@@ -29,7 +29,7 @@ pub struct RunPlan {
 }
 
 /// Why no further round began.
-#[derive(Clone, Copy, Debug, PartialEq, Eq)]
+#[derive(Clone, Copy, PartialEq, Eq)]
 pub enum DriveEnd {
     /// Process 1 went with this status.
     Halted(i32),

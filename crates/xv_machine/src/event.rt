@@ -9,7 +9,7 @@ use std::{fmt, slice};
 use xk_base::{Cause, Pid};
 
 /// Something that happens to a machine.
-#[derive(Clone, Copy, Debug, PartialEq, Eq)]
+#[derive(Clone, Copy, PartialEq, Eq)]
 pub enum Event {
     /// The current process makes one step; where there is none, the next process has its turn.
     Run,
@@ -24,7 +24,7 @@ pub enum Event {
 }
 
 /// What came of an event.
-#[derive(Debug, PartialEq, Eq, Drop)]
+#[derive(PartialEq, Eq, Drop)]
 pub enum Outcome {
     /// The process did one instruction.
     Stepped { pid: Pid },

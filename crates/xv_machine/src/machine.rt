@@ -24,7 +24,7 @@ use xk_base::limits::{FRAMES_MAX, FRAMES_MIN, TRACE_MAX};
 use xk_base::{BootError, Pid, Program};
 
 /// The numbers that a machine is made with.
-#[derive(Clone, Copy, Debug, PartialEq, Eq)]
+#[derive(Clone, Copy)]
 pub struct Config {
     /// Frames of RAM, 16 to 32,768.
     pub frames: u32,

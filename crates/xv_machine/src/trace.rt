@@ -8,7 +8,7 @@ use std::fmt;
 use xk_base::{Cause, Pid};
 
 /// What a trace keeps of an event.
-#[derive(Clone, Copy, Debug, PartialEq, Eq)]
+#[derive(Clone, Copy, PartialEq, Eq)]
 pub enum Note {
     /// The process did one instruction.
     Stepped { pid: Pid },

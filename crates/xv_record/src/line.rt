@@ -7,7 +7,7 @@ use std::alloc::AllocError;
 use std::fmt::Write;
 
 /// Events that come one behind another, as a line of a record has them.
-#[derive(Clone, Copy, Debug, PartialEq, Eq)]
+#[derive(Clone, Copy)]
 pub enum Line {
     /// So many Runs.
     Run(u64),

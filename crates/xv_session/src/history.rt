@@ -16,7 +16,7 @@ use xv_machine::Event;
 pub const EVENTS_MAX: u64 = 9_223_372_036_854_775_808;
 
 /// So many equal events, one behind another.
-#[derive(Clone, Copy, Debug, PartialEq, Eq)]
+#[derive(Clone, Copy)]
 pub(crate) struct Span {
     pub event: Event,
     pub count: u64,

@@ -8,7 +8,7 @@ use xk_base::{Cause, Pid};
 use xv_machine::{Event, Machine, Outcome};
 
 /// The step that a process is about to make, as it stands before it.
-#[derive(Clone, Copy, Debug, PartialEq, Eq)]
+#[derive(Clone, Copy)]
 pub struct NextStep {
     pub pid: Pid,
     /// Its registers, with the pc.
@@ -20,7 +20,7 @@ pub struct NextStep {
 }
 
 /// A step that a process could not make, which ended it.
-#[derive(Clone, Copy, Debug, PartialEq, Eq)]
+#[derive(Clone, Copy)]
 pub struct Fault {
     /// The step, as it stood before.
     pub step: NextStep,

@@ -14,7 +14,7 @@ use xk_base::{Pid, Program, Reg};
 use xv_machine::{Event, Machine, Outcome};
 
 /// A process, and the program that it runs, by its place among the programs of the machine.
-#[derive(Clone, Copy, Debug, PartialEq, Eq)]
+#[derive(Clone, Copy, PartialEq, Eq)]
 pub struct Named {
     pub pid: Pid,
     pub place: usize,

@@ -16,7 +16,7 @@ pub(crate) struct Running {
 }
 
 /// What came of Runs that were sent one after another.
-#[derive(Debug, PartialEq, Eq, Drop)]
+#[derive(Drop)]
 pub struct Runs {
     /// How many Runs were sent.
     pub sent: u32,

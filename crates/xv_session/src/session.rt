@@ -13,7 +13,7 @@ use xk_base::{BootError, Pid, Program};
 use xv_machine::{Config, Event, Machine, Outcome};
 
 /// Why a session didn't do what was asked for. It is as it was before.
-#[derive(Clone, Copy, Debug, PartialEq, Eq, Error)]
+#[derive(Clone, Copy, Debug, Error)]
 pub enum SessionError {
     /// The host has too little memory.
     #[error("Memory")]

@@ -13,7 +13,7 @@ use xk_base::Pid;
 use xv_machine::{Machine, Outcome};
 
 /// What a search among Runs waits for.
-#[derive(Clone, Copy, Debug, PartialEq, Eq)]
+#[derive(Clone, Copy)]
 pub enum Condition {
     /// The process of this pid makes a step.
     StepOf(Pid),
@@ -30,7 +30,7 @@ pub enum Condition {
 }
 
 /// What a search came to.
-#[derive(Debug, PartialEq, Eq, Drop)]
+#[derive(Drop)]
 pub struct Search {
     /// How many Runs were sent.
     pub sent: u32,

@@ -10,7 +10,7 @@ use std::io::Write;
 use xv_session::Session;
 
 /// How a session ended.
-#[derive(Clone, Copy, Debug, PartialEq, Eq)]
+#[derive(Clone, Copy, PartialEq, Eq)]
 pub enum End {
     /// Process 1 went with this status.
     Halted(i32),

@@ -21,7 +21,7 @@ const CTRL_C: u8 = 3;
 const CTRL_BACKSLASH: u8 = 28;
 
 /// What a key does to the line.
-#[derive(Clone, Copy, Debug, PartialEq, Eq)]
+#[derive(Clone, Copy)]
 pub enum Edit {
     /// The key is the last byte of the line.
     Adds(u8),

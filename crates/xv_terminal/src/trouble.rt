@@ -9,7 +9,7 @@ use thiserror::Error;
 use xv_live::Trouble;
 
 /// Why a session at the terminal can't go on, or can't be recorded.
-#[derive(Clone, Copy, Debug, PartialEq, Eq, Error)]
+#[derive(Clone, Copy, Debug, Error)]
 pub enum Failure {
     /// The machine can't be attended to any more.
     #[error("{0}")]

@@ -1,7 +1,7 @@
 //! What a command line asks for.
 
 /// What is told of events as they come.
-#[derive(Clone, Copy, Debug, PartialEq, Eq)]
+#[derive(Clone, Copy, PartialEq, Eq)]
 pub enum Telling {
     /// Faults alone.
     Faults,

@@ -26,7 +26,7 @@ use xk_base::limits::NPROC;
 use xk_base::{Fd, Frame, Perm, Pid, Program, Vpn};
 
 /// What a process is.
-#[derive(Clone, Copy, Debug, PartialEq, Eq)]
+#[derive(Clone, Copy)]
 pub enum ProcessState {
     /// It lives.
     Live {
@@ -47,7 +47,7 @@ pub enum ProcessState {
 }
 
 /// A descriptor in use.
-#[derive(Clone, Copy, Debug, PartialEq, Eq)]
+#[derive(Clone, Copy)]
 pub struct Descriptor {
     /// The open file that it names. Descriptors that name the same one share its offset.
     pub file: FileId,
@@ -56,7 +56,7 @@ pub struct Descriptor {
 }
 
 /// What a parent may know of a child.
-#[derive(Clone, Copy, Debug, PartialEq, Eq)]
+#[derive(Clone, Copy)]
 pub enum ChildState {
     /// It lives.
     Running,

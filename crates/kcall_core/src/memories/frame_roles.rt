@@ -20,7 +20,7 @@ use xk_base::limits::NPROC;
 use xk_base::{Frame, Vpn};
 
 /// What a process has a frame for.
-#[derive(Clone, Copy, Debug, PartialEq, Eq)]
+#[derive(Clone, Copy)]
 pub enum FrameRole {
     /// Its registers lie there while it doesn't run.
     Trapframe,

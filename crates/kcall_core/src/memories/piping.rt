@@ -19,7 +19,7 @@ use xk_base::Frame;
 use xk_base::limits::PIPE_BYTES;
 
 /// How many descriptors are on each end of a pipe, and how many bytes are in it.
-#[derive(Clone, Copy, Debug, PartialEq, Eq)]
+#[derive(Clone, Copy)]
 pub struct PipeCounts {
     pub readers: u64,
     pub writers: u64,

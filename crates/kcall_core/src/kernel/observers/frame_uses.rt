@@ -13,7 +13,7 @@ use xk_base::limits::NPROC;
 use xk_base::{Frame, Pid, Vpn};
 
 /// What a frame of RAM is used for, and by whom.
-#[derive(Clone, Copy, Debug, PartialEq, Eq)]
+#[derive(Clone, Copy, PartialEq, Eq)]
 pub enum FrameUse {
     /// Nobody has it.
     Free,
