@@ -1,19 +1,7 @@
-//! Grades what a student handed in: runs it on the machine, and asks of the run what the exercise asks.
+//! Grades what a student handed in, as the words of its command line say. What is done for them is `grade_submissions`.
 #![tactic(auto)]
 
-mod command_line;
-mod exercise_file;
-mod grading;
-mod host_files;
-mod reasons;
-mod refusal;
-mod results;
-mod source;
-mod submission;
-
-use crate::command_line::read_words;
-use crate::exercise_file::show_files;
-use crate::grading::grade_submission;
+use grade_submissions::{grade_submission, read_words, show_files};
 use program_files::words;
 use std::io::Write;
 use std::process::ExitCode;

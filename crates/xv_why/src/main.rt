@@ -1,61 +1,8 @@
-//! Runs programs as `xv_run` does, and tells why processes end or wait.
-//!
-//! The command line, the rounds, the keys, what goes to standard output and the exit status are those of `xv_run`. On
-//! standard error it tells each fault as it comes, with the calls that led there, and at the end what each process
-//! sleeps on that has not exited, and who could wake it; with `--explain` each event in words, with `--notes` each as a line
-//! for `xv_picture`.
+//! Runs programs as `xv_run` does, and tells why processes end or wait. What it does is `reported_run`.
 #![tactic(auto)]
 
-mod command_line;
-mod letters;
-mod line;
-mod running;
-mod teller;
-mod watching;
-
-use crate::command_line::settings;
-use crate::line::Settings;
-use crate::running::run_with;
-use crate::teller::Teller;
-use debug_files::symbols_beside;
-use program_files::{Failure, programs};
+use reported_run::{NAME, run, settings};
 use std::process::ExitCode;
-use xv_machine::{Config, Counted, RunPlan};
-
-/// The program's name.
-const NAME: &str = "xv_why";
-
-// Runs the programs that the settings name.
-fn run(rt: &HostRuntime, settings: &Settings) -> u8 {
-    let config = Config {
-        frames: settings.frames,
-        trace: settings.trace,
-    };
-    let plan = RunPlan {
-        rounds: settings.rounds,
-        quantum: settings.quantum,
-    };
-    let paths = settings.files.as_slice();
-    let programs = match programs(rt, paths) {
-        Ok(programs) => programs,
-        Err(refusal) => return Failure::File(refusal).close(NAME, &mut rt.stderr()),
-    };
-    let Ok(symbols) = symbols_beside(rt, paths) else {
-        return Failure::OutOfMemory.close(NAME, &mut rt.stderr());
-    };
-    let mut keys = Counted::new(rt.stdin());
-    let mut sink = Counted::new(rt.stdout());
-    let mut teller = Teller::new(rt.alloc(), rt.stderr(), symbols, settings.telling);
-    run_with(
-        rt.alloc(),
-        config,
-        plan,
-        programs,
-        &mut keys,
-        &mut sink,
-        &mut teller,
-    )
-}
 
 // Does what the words ask for.
 fn obey(rt: &HostRuntime) -> u8 {

@@ -1,0 +1,245 @@
+//! A submission, from its folder to its results.
+ghost use Rattle.std.specs.Prelude.{◌≤◌, ◌*◌, IfOk, OnOk};
+ghost use Rattle.std.specs.Io.KnownBytes.{Appends};
+ghost use Rattle.grade_submissions.specs.Results.{most_of, IsSeenOf, IsGradeOf, IsResultOf, AreResultsOf, IsWholeGrade, IsLineShown};
+
+use crate::command_line::Settings;
+use crate::exercise_file::read_exercise;
+use crate::host_files::{bytes_of, folder_of, last_part, text_of};
+use crate::reasons::cause;
+use crate::refusal::Refusal;
+use crate::results::{write_result, write_run};
+use crate::submission::{HandedIn, Submission, handed_in};
+use grade_runs::{Plan, Played, play};
+use grade_sheets::{Exercise, Grade, Run, RunGrade, Seen, csv_line, graded, ungraded, xml_suite};
+use std::alloc::{AllocError, Global};
+use std::io::Write;
+use std::rt::Files;
+use xk_base::BootError;
+use xv_machine::{Config, Note as Event};
+
+/// The most events that a trace keeps.
+const TRACE: u32 = 4_096;
+
+// The submission's name, which may be any bytes.
+fn name_of<R: Files + AllocGlobal>(
+    rt: &R,
+    settings: &Settings,
+    folder: &str,
+) -> Result<Vec<u8>, Refusal> {
+    match &settings.name {
+        Some(path) => bytes_of(rt, path.as_str()),
+        None => Ok(Vec::from_slice(rt.alloc(), last_part(folder).as_bytes())?),
+    }
+}
+
+// The lines that say why files aren't to be run.
+fn refused_before<R: Files + AllocGlobal>(rt: &R, settings: &Settings) -> Result<String, Refusal> {
+    match &settings.refused {
+        Some(path) => text_of(rt, path.as_str()),
+        None => Ok(String::new(rt.alloc())),
+    }
+}
+
+// Adds the line of an event. That nothing was sent is no line.
+fn add_event(alloc: Global, lines: &mut String, event: Event) -> Result<(), AllocError> {
+    if !matches!(event, Event::Sent(None)) {
+        lines.push_str(format!(in alloc; "{event}\n")?.as_str())?;
+    }
+    Ok(())
+}
+
+// The lines of the trace up to the end of `init`.
+fn lines_to_the_end(alloc: Global, played: &Played) -> Result<String, AllocError> {
+    let machine = played.session.machine();
+    let mut lines = String::new(alloc);
+    for place in 0..machine.trace_len() {
+        match machine.trace(place) {
+            None | Some(Event::Halted) => break,
+            Some(event) => add_event(alloc, &mut lines, event)?,
+        }
+    }
+    Ok(lines)
+}
+
+// What is known of a run that was made.
+fn seen_of<'a>(played: &'a Played, trace: &'a str, handed_in: &'a [u8]) -> Seen<'a>
+    ensures { IsSeenOf played.now result }
+{
+    Seen {
+        notes: played.kept.notes.as_slice(),
+        shown: played.kept.shown.as_slice(),
+        end: played.end(),
+        trace,
+        handed_in,
+    }
+}
+
+// The grade of a run that was made.
+fn run_grade(
+    alloc: Global,
+    run: &Run,
+    submission: &Submission,
+    played: &Played,
+) -> Result<RunGrade, Refusal>
+    ensures { IfOk result (IsGradeOf run.now played.now) }
+{
+    let trace = lines_to_the_end(alloc, played)?;
+    let seen = seen_of(played, trace.as_str(), submission.bytes.as_slice());
+    let mut grade = graded(alloc, run.asked.as_slice(), &seen)?;
+    grade.cause = cause(alloc, grade.standing, submission, played)?;
+    Ok(grade)
+}
+
+// How a run is driven: as many rounds as its most Runs take.
+fn plan_of(run: &Run) -> Plan
+    ensures { result.rounds * result.quantum ≤ most_of run.now }
+{
+    let quantum = u64::from(run.quantum.max(1));
+    let rounds = run.most_runs.div_ceil(quantum).min(u64::from(u32::MAX));
+    Plan {
+        rounds: rounds as u32,
+        quantum: run.quantum,
+    }
+}
+
+// Writes what a run showed, which has this number, and grades it.
+fn made_run<R: Files + AllocGlobal>(
+    rt: &R,
+    settings: &Settings,
+    submission: &Submission,
+    run: &Run,
+    number: usize,
+    played: &Played,
+) -> Result<RunGrade, Refusal>
+    ensures { IfOk result (IsGradeOf run.now played.now) }
+{
+    write_run(rt, settings, number, played)?;
+    run_grade(rt.alloc(), run, submission, played)
+}
+
+// The grade of a run whose machine didn't boot.
+fn refused_run(alloc: Global, run: &Run, error: &BootError) -> Result<RunGrade, Refusal>
+    ensures { IfOk result (IsResultOf run.now) }
+{
+    let why = format!(in alloc; "boot: {error}")?;
+    Ok(ungraded(alloc, run.asked.as_slice(), why)?)
+}
+
+// Runs a submission once, and grades the run, which has this number.
+fn one_run<R: Files + AllocGlobal>(
+    rt: &R,
+    settings: &Settings,
+    submission: &Submission,
+    run: &Run,
+    number: usize,
+) -> Result<RunGrade, Refusal>
+    ensures { IfOk result (IsResultOf run.now) }
+{
+    let alloc = rt.alloc();
+    let folder = folder_of(settings.exercise.as_str());
+    let programs = submission.programs(rt, run, folder)?;
+    let config = Config {
+        frames: run.frames,
+        trace: TRACE,
+    };
+    let keys = run.keys.as_str().as_bytes();
+    match play(alloc, config, plan_of(run), programs, keys)? {
+        Ok(played) => made_run(rt, settings, submission, run, number, &played),
+        Err(error) => refused_run(alloc, run, &error),
+    }
+}
+
+// What the run of this number gives, for what was handed in.
+fn run_result<R: Files + AllocGlobal>(
+    rt: &R,
+    settings: &Settings,
+    handed_in: HandedIn,
+    run: &Run,
+    number: usize,
+) -> Result<RunGrade, Refusal>
+    ensures { IfOk result (IsResultOf run.now) }
+{
+    match handed_in {
+        HandedIn::File(submission) => one_run(rt, settings, &submission, run, number),
+        HandedIn::Refused(why) => Ok(ungraded(rt.alloc(), run.asked.as_slice(), why)?),
+    }
+}
+
+// What each run gives.
+fn run_results<R: Files + AllocGlobal>(
+    rt: &R,
+    settings: &Settings,
+    runs: &[Run],
+    folder: &str,
+) -> Result<Vec<RunGrade>, Refusal>
+    ensures { IfOk result (λ grades. AreResultsOf runs.now grades.items) }
+{
+    let refused = refused_before(rt, settings)?;
+    let mut grades = Vec::new(rt.alloc());
+    for run in runs {
+        let number = grades.len().saturating_add(1);
+        let handed_in = handed_in(rt, run.files.as_slice(), folder, refused.as_str())?;
+        grades.push(run_result(rt, settings, handed_in, run, number)?)?;
+    }
+    Ok(grades)
+}
+
+// The grade of a submission's runs.
+fn whole_grade<R: Files + AllocGlobal>(
+    rt: &R,
+    settings: &Settings,
+    exercise: &Exercise,
+    folder: &str,
+) -> Result<Grade, Refusal>
+    ensures { IfOk result (IsWholeGrade exercise.now) }
+{
+    let runs = run_results(rt, settings, exercise.runs.as_slice(), folder)?;
+    Ok(Grade::of(rt.alloc(), exercise, runs)?)
+}
+
+// Shows a line.
+fn show<W: Write>(output: &mut W, line: &[u8]) -> Result<(), Refusal>
+    ensures { OnOk result (Appends (W.contents output.old) (W.contents output.new) line.now) }
+{
+    match output.write_all(line) {
+        Ok(()) => Ok(()),
+        Err(_) => Err(Refusal::Write),
+    }
+}
+
+// Writes the test suite of a submission of this name.
+fn write_suite<R: Files + AllocGlobal>(
+    rt: &R,
+    settings: &Settings,
+    exercise: &Exercise,
+    name: &[u8],
+    grade: &Grade,
+) -> Result<(), Refusal> {
+    let suite = xml_suite(rt.alloc(), exercise, name, grade)?;
+    write_result(rt, settings, "result.xml", suite.as_str().as_bytes())
+}
+
+/// Grades a submission, writes its results, and shows its line of CSV.
+///
+/// # Errors
+///
+/// [`Refusal::File`] for the exercise's files and those of the settings, [`Refusal::Memory`], and [`Refusal::Write`]
+/// for results that can't be written.
+pub fn grade_submission<R: Files + AllocGlobal, W: Write>(
+    rt: &R,
+    settings: &Settings,
+    folder: &str,
+    output: &mut W,
+) -> Result<(), Refusal>
+    ensures { OnOk result (IsLineShown (W.contents output.old) (W.contents output.new)) }
+{
+    let exercise = read_exercise(rt, settings.exercise.as_str())?;
+    let name = name_of(rt, settings, folder)?;
+    let grade = whole_grade(rt, settings, &exercise, folder)?;
+    let line = csv_line(rt.alloc(), name.as_slice(), &grade)?;
+    write_suite(rt, settings, &exercise, name.as_slice(), &grade)?;
+    write_result(rt, settings, "result.csv", line.as_slice())?;
+    show(output, line.as_slice())?;
+    Ok(())
+}

@@ -1,0 +1,18 @@
+use Rattle.program_files.proofs.Statuses.{tells}
+use Rattle.reported_run.proofs.running.play.Goals as goal
+
+pub returns-in-Ok : goal.returns-in-Ok
+returns-in-Ok g c = λ other. rw c.say_end.ensures (tells c.args.plan c.args.session.now.machine c.watch-watched.new.session.machine
+    (record {
+      source = g.R.KeySource.source c.args.keys.now;
+      failed_reads = g.R.KeySource.failures c.args.keys.now;
+      sink = g.W.ByteSink.sink c.args.sink.now;
+      failed_writes = g.W.ByteSink.failures c.args.sink.now;
+    })
+    (record {
+      source = g.R.KeySource.source c.watch-watched.new.keys;
+      failed_reads = g.R.KeySource.failures c.watch-watched.new.keys;
+      sink = g.W.ByteSink.sink c.watch-watched.new.sink;
+      failed_writes = g.W.ByteSink.failures c.watch-watched.new.sink;
+    })
+    c.in-Ok.end c.in-Ok.ensures.done c.in-Ok.ensures.end c.in-Ok.ensures.read_failed c.in-Ok.ensures.write_failed)

@@ -1,0 +1,5 @@
+use Rattle.xv_debug.specs.Conversations.{Converses}
+use Rattle.terminal_session.proofs.stopping.stop.Given as goal
+
+abbrev pub invariant-lines : goal.invariant-lines
+invariant-lines g l = Converses l.fn.session l.session

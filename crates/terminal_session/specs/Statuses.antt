@@ -1,0 +1,38 @@
+-- The exit status of a session.
+use Rattle.std.specs.Prelude.{◌≡◌, ℕ, None, Some}
+use Rattle.program_files.specs.Statuses.{exit_status}
+use Rattle.xv_session.specs.Recorded.{Recorded}
+use Rattle.xv_live.specs.Resting.{NothingHappens}
+use Rattle.xv_live.specs.declared.trouble.Trouble.{Trouble}
+use Rattle.xv_live.specs.declared.trouble.Trouble.TheVariants.{Keyboard, Screen, Clock, Memory, Events}
+use Rattle.terminal_session.specs.declared.ending.End.{End}
+use Rattle.terminal_session.specs.declared.ending.End.TheVariants as ends
+use Rattle.terminal_session.specs.declared.trouble.Failure.{Failure}
+use Rattle.terminal_session.specs.declared.trouble.Failure.TheVariants as failures
+
+-- the exit status of a session that ended so
+abbrev pub end_status : End → ℕ
+end_status (ends.Halted status) = exit_status status
+end_status ends.Asked = 4
+end_status ends.NoKeys = 4
+end_status ends.Played = 4
+
+-- A session is said to have ended by the end of process 1 only if it did, with this status; since that was asked for, or since its record is over, only if process 1 isn't gone; and since no key will come only if nothing happens without one
+abbrev pub IsEndOf : Recorded → End → Type 0
+IsEndOf s (ends.Halted status) = s.machine.world.turns.halted ≡ Some status
+IsEndOf s ends.Asked = s.machine.world.turns.halted ≡ None
+IsEndOf s ends.NoKeys = NothingHappens s.machine.world
+IsEndOf s ends.Played = s.machine.world.turns.halted ≡ None
+
+-- the exit status for a trouble
+abbrev pub trouble_status : Trouble → ℕ
+trouble_status Keyboard = 5
+trouble_status Screen = 5
+trouble_status Clock = 5
+trouble_status Memory = 2
+trouble_status Events = 2
+
+abbrev pub failure_status : Failure → ℕ
+failure_status (failures.Trouble trouble) = trouble_status trouble
+failure_status failures.Record = 5
+failure_status failures.Name = 5

@@ -1,0 +1,165 @@
+//! A session from its boot to its end: attended to, or played.
+ghost use Rattle.std.specs.Prelude.{◌≡◌, OnOk, IfOk, IfSome};
+ghost use Rattle.xv_debug.specs.Conversations.{Converses};
+ghost use Rattle.xv_live.specs.Pauses.{IsPauseOf};
+ghost use Rattle.xv_live.specs.Plays.{Plays, events_of_lines};
+ghost use Rattle.terminal_session.specs.Statuses.{IsEndOf};
+ghost use Rattle.terminal_session.specs.Stretches.{Lives, Stretch};
+ghost use Rattle.terminal_session.specs.Tells.{Tells, outcome_status};
+
+use crate::ending::{End, close};
+use crate::notes::Notes;
+use crate::stopping::stop;
+use crate::trouble::Failure;
+use std::io::Write;
+use xv_debug::{Debugger, Next};
+use xv_live::{Host, Pause, Pending, Screen, Trouble, attend, play};
+use xv_machine::ByteSink;
+use xv_record::Record;
+use xv_session::Session;
+
+// The end that was asked for: that of process 1, if it is gone.
+fn asked_end(session: &Session) -> End
+    ensures { IsEndOf session.now result }
+{
+    match session.machine().halted() {
+        Some(status) => End::Halted(status),
+        None => End::Asked,
+    }
+}
+
+// The end behind a prompt, if the machine isn't to go on.
+fn end_of_prompt(session: &Session, next: Next) -> Option<End>
+    ensures { IfSome result (λ e. IsEndOf session.now e) }
+{
+    match next {
+        Next::Ends => Some(asked_end(session)),
+        Next::Continues | Next::Stays => None,
+    }
+}
+
+// Stops the machine at the prompt, and tells the end that it leads to, if the machine isn't to go on.
+fn prompt<H: Host, E: Write>(
+    session: &mut Session,
+    host: &mut H,
+    debugger: &mut Debugger,
+    notes: &mut Notes<E>,
+) -> Result<Option<End>, Trouble>
+    ensures end { IfOk result (λ e. IfSome e (λ f. IsEndOf session.new f)) }
+    ensures lines { Converses session.old session.new }
+{
+    let next = stop(session, host, debugger, notes)?;
+    Ok(end_of_prompt(session, next))
+}
+
+// The end that a pause leads to. If the prompt was asked for, the machine is stopped there, and may go on.
+#[tactic(auto, using(xv_debug::proofs::Conversed::no_line))]
+fn end_behind<H: Host, E: Write>(
+    session: &mut Session,
+    host: &mut H,
+    pause: Pause,
+    debugger: &mut Debugger,
+    notes: &mut Notes<E>,
+) -> Result<Option<End>, Trouble>
+    requires { IsPauseOf session.old pause }
+    ensures end { IfOk result (λ e. IfSome e (λ f. IsEndOf session.new f)) }
+    ensures lines { Converses session.old session.new }
+{
+    match pause {
+        Pause::Halted(status) => Ok(Some(End::Halted(status))),
+        Pause::End => Ok(Some(asked_end(session))),
+        Pause::NoKeys => Ok(Some(End::NoKeys)),
+        Pause::Debugger => prompt(session, host, debugger, notes),
+    }
+}
+
+// Attends to the machine up to a pause, and then to the prompt, if that was asked for.
+fn turn<H: Host, W: ByteSink, E: Write>(
+    session: &mut Session,
+    host: &mut H,
+    pending: &mut Pending,
+    debugger: &mut Debugger,
+    screen: &mut Screen<W, Notes<E>>,
+) -> Result<Option<End>, Trouble>
+    ensures end { IfOk result (λ e. IfSome e (λ f. IsEndOf session.new f)) }
+    ensures stretch { OnOk result (Stretch session.old session.new (W.sink screen.old.sink).held (W.sink screen.new.sink).held) }
+{
+    host.restart()?;
+    let pause = attend(session, host, pending, screen)?;
+    end_behind(session, host, pause, debugger, &mut screen.teller)
+}
+
+// Attends to the machine and to the prompt up to the end.
+fn converse<H: Host, W: ByteSink, E: Write>(
+    session: &mut Session,
+    host: &mut H,
+    debugger: &mut Debugger,
+    screen: &mut Screen<W, Notes<E>>,
+) -> Result<End, Trouble>
+    ensures end { IfOk result (λ e. IsEndOf session.new e) }
+    ensures lives { OnOk result (Lives session.old session.new (W.sink screen.old.sink).held (W.sink screen.new.sink).held) }
+{
+    let mut pending = Pending::new(screen.teller.alloc);
+    'turns: for _ in 0..u64::MAX {
+        if let Some(end) = turn(session, host, &mut pending, debugger, screen)? {
+            return Ok(end);
+        }
+    }
+    Ok(asked_end(session))
+}
+
+// Plays a record.
+fn play_to_end<W: ByteSink, E: Write>(
+    session: &mut Session,
+    kept: &Record,
+    screen: &mut Screen<W, Notes<E>>,
+) -> Result<End, Trouble>
+    ensures end { IfOk result (λ e. IsEndOf session.new e) }
+    ensures shown { OnOk result (Plays (events_of_lines kept.now.events.items) session.old session.new (W.sink screen.old.sink).held (W.sink screen.new.sink).held) }
+{
+    play(session, kept.events.as_slice(), screen)?;
+    match session.machine().halted() {
+        Some(status) => Ok(End::Halted(status)),
+        None => Ok(End::Played),
+    }
+}
+
+// Tells what a session came to, and gives the exit status.
+fn tell_outcome<E: Write>(
+    session: &Session,
+    outcome: Result<End, Trouble>,
+    notes: &mut Notes<E>,
+) -> u8
+    ensures { result ≡ outcome_status outcome }
+{
+    match outcome {
+        Ok(end) => close(session, end, notes),
+        Err(trouble) => Failure::Trouble(trouble).close(&mut notes.errors),
+    }
+}
+
+/// Attends to the machine, and to the prompt of the debugger, up to the session's end; and tells that. It gives the exit
+/// status.
+pub fn live<H: Host, W: ByteSink, E: Write>(
+    session: &mut Session,
+    host: &mut H,
+    debugger: &mut Debugger,
+    screen: &mut Screen<W, Notes<E>>,
+) -> u8
+    ensures { Tells (Lives session.old session.new (W.sink screen.old.sink).held (W.sink screen.new.sink).held) result session.new }
+{
+    let outcome = converse(session, host, debugger, screen);
+    tell_outcome(session, outcome, &mut screen.teller)
+}
+
+/// Plays a record to its end, and tells that. It gives the exit status.
+pub fn replay<W: ByteSink, E: Write>(
+    session: &mut Session,
+    kept: &Record,
+    screen: &mut Screen<W, Notes<E>>,
+) -> u8
+    ensures { Tells (Plays (events_of_lines kept.now.events.items) session.old session.new (W.sink screen.old.sink).held (W.sink screen.new.sink).held) result session.new }
+{
+    let outcome = play_to_end(session, kept, screen);
+    tell_outcome(session, outcome, &mut screen.teller)
+}

@@ -1,0 +1,33 @@
+//! A session at a terminal, from the words of the command line to the exit status. The program that has it is
+//! `xv_terminal`.
+//!
+//! Keys go in as they are typed, what the machine sends comes out at once, and the clock ticks by the host's clock.
+//! While a process may run the machine runs at full speed, and while all sleep it takes no time. Ctrl-C stops it and
+//! opens the prompt of the debugger (`xv_debug`), Ctrl-P tells the processes, and Ctrl-\ ends the machine. A session can
+//! be recorded and played again.
+//!
+//! `programs/host/terminal.sh` prepares the terminal for it. Standard output has what the machine sends, and nothing
+//! else; all that is told about it goes to standard error.
+#![tactic(auto)]
+
+mod beginning;
+mod command_line;
+mod conversing;
+mod ending;
+mod host;
+mod line;
+mod line_editor;
+mod notes;
+mod recording;
+mod refusal;
+mod sources;
+mod stopping;
+mod telling;
+mod trouble;
+
+pub use beginning::run;
+pub use command_line::settings;
+pub use line::Settings;
+
+/// The name under which the program tells what is wrong.
+pub const NAME: &str = "xv_terminal";

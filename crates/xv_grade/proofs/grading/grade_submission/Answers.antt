@@ -1,6 +1,0 @@
-use Rattle.std.proofs.Common.{◌∙◌}
-use Rattle.xv_grade.proofs.Making.{shown}
-use Rattle.xv_grade.proofs.grading.grade_submission.Goals as goal
-
-pub returns : goal.returns
-returns g c = shown _ _ _ _ c.as_slice.result.now _ c.in_ok-grade.ensures (c.as_slice-4.ensures.value ∙ c.in_ok-line.ensures) c.in_ok-show.ensures

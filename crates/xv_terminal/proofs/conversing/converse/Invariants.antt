@@ -1,5 +1,0 @@
-use Rattle.xv_terminal.specs.Stretches.{Lives}
-use Rattle.xv_terminal.proofs.conversing.converse.Given as goal
-
-abbrev pub invariant-turns : goal.invariant-turns
-invariant-turns g l = Lives l.fn.session l.session (g.W.ByteSink.sink l.fn.screen.sink).held (g.W.ByteSink.sink l.screen.sink).held

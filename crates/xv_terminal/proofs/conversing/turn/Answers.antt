@@ -1,6 +1,0 @@
-use Rattle.xv_live.proofs.Joined.{on-ok}
-use Rattle.xv_terminal.proofs.Lived.{stretch-of}
-use Rattle.xv_terminal.proofs.conversing.turn.Goals as goal
-
-pub returns-clause-stretch : goal.returns-clause-stretch
-returns-clause-stretch g c = on-ok c.end_behind.result (stretch-of _ _ _ _ _ c.in_ok-pause.ensures.attends.shown c.end_behind.ensures.lines)

@@ -1,5 +1,0 @@
-use Rattle.xv_debug.specs.Conversations.{Converses}
-use Rattle.xv_terminal.proofs.stopping.stop.Given as goal
-
-abbrev pub invariant-lines : goal.invariant-lines
-invariant-lines g l = Converses l.fn.session l.session
