@@ -1,3 +1,3 @@
-mod Stretches
+mod Phases
 mod Named
 mod WorkedNames

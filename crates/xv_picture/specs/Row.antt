@@ -7,7 +7,7 @@ use Rattle.xv_picture.specs.declared.note.Note.{Note}
 use Rattle.xv_picture.specs.declared.note.Note.TheVariants.{Turn, Step, Call, Block, Exit, Fault, Idle, Tick, Key, Sent}
 use Rattle.xv_picture.specs.declared.row.State.{State}
 use Rattle.xv_picture.specs.declared.row.State.TheVariants.{Absent, Ready, Running, Asleep, Ended}
-use Rattle.xv_picture.specs.declared.row.Stretch.{Stretch}
+use Rattle.xv_picture.specs.declared.row.Phase.{Phase}
 use Rattle.xv_picture.specs.declared.chart.Row.{Row}
 
 -- who had its turn waits for the next
@@ -39,14 +39,14 @@ abbrev pub states : (pid : ℕ) → State → List Note → List State
 states pid was [] = []
 states pid was (note ∷ notes) = after pid was note ∷ states pid (after pid was note) notes
 
--- the states that a row of stretches shows, event by event
-abbrev pub shown : List Stretch → List State
+-- the states that a row of phases shows, event by event
+abbrev pub shown : List Phase → List State
 shown [] = []
-shown (stretch ∷ row) = replicate stretch.events stretch.state ++ shown row
+shown (phase ∷ row) = replicate phase.events phase.state ++ shown row
 
 -- a row shows what its process does behind each note, where nothing had told of it before the first
 abbrev pub IsRowOf : Row → List Note → Type 0
-IsRowOf row notes = shown row.stretches.items ≡ states row.pid Absent notes
+IsRowOf row notes = shown row.phases.items ≡ states row.pid Absent notes
 
 -- ---- which processes have a row
 

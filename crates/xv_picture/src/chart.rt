@@ -4,7 +4,7 @@ ghost use Rattle.std.specs.Option.{option_to_list};
 ghost use Rattle.xv_picture.specs.Row.{actor, answered_pid, newborn, AreNamed, IsRowOf, pids_of};
 
 use crate::note::Note;
-use crate::row::{FORK, Stretch, stretches};
+use crate::row::{FORK, Phase, phases};
 use std::alloc::{AllocError, Global};
 
 /// What one process did.
@@ -13,7 +13,7 @@ pub struct Row {
     /// The process.
     pub pid: u32,
     /// The states of the process, event by event of the whole trace.
-    pub stretches: Vec<Stretch>,
+    pub phases: Vec<Phase>,
 }
 
 /// What a trace tells, by processes.
@@ -87,7 +87,7 @@ fn row_of(alloc: Global, pid: u32, notes: &[Note]) -> Result<Row, AllocError>
 {
     Ok(Row {
         pid,
-        stretches: stretches(alloc, pid, notes)?,
+        phases: phases(alloc, pid, notes)?,
     })
 }
 

@@ -3,7 +3,7 @@ use crate::chart::{Chart, Row, newborn};
 use crate::label::{RowName, Text, names_room, wait_in, who_at};
 use crate::note::Note;
 use crate::remark::Remarks;
-use crate::row::{State, Stretch};
+use crate::row::{State, Phase};
 use std::fmt::{self, Display};
 use std::io::{self, Write};
 
@@ -179,7 +179,7 @@ struct Picture<'a> {
 }
 
 // The beginning of a part of the bar of the row at this place, from the event `first` on, up to its text.
-fn open_stretch<W: Write>(
+fn open_phase<W: Write>(
     axis: Axis,
     place: usize,
     first: usize,
@@ -212,23 +212,23 @@ fn write_wait<W: Write>(
 }
 
 // A part of the bar of the row at this place, from the event `first` on; its text shows under the pointer.
-fn draw_stretch<W: Write>(
+fn draw_phase<W: Write>(
     picture: Picture<'_>,
     pid: u32,
     place: usize,
     first: usize,
-    stretch: &Stretch,
+    phase: &Phase,
     output: &mut W,
 ) -> io::Result<()> {
-    let behind = first.saturating_add(stretch.events);
-    if stretch.state == State::Absent || behind <= first {
+    let behind = first.saturating_add(phase.events);
+    if phase.state == State::Absent || behind <= first {
         return Ok(());
     }
-    let word = word(stretch.state);
-    open_stretch(picture.axis, place, first, behind, word, output)?;
+    let word = word(phase.state);
+    open_phase(picture.axis, place, first, behind, word, output)?;
     let who = who_at(picture.remarks, pid, behind);
     write!(output, "{who}: {word}")?;
-    if stretch.state == State::Asleep {
+    if phase.state == State::Asleep {
         write_wait(picture.remarks, pid, first, behind, output)?;
     }
     let last = behind - 1;
@@ -246,9 +246,9 @@ fn draw_row<W: Write>(
     let name = RowName(who_at(picture.remarks, row.pid, picture.axis.events));
     writeln!(output, "<text x=\"8\" y=\"{base}\">{name}</text>")?;
     let mut first: usize = 0;
-    for stretch in &row.stretches {
-        draw_stretch(picture, row.pid, place, first, stretch, output)?;
-        first = first.saturating_add(stretch.events);
+    for phase in &row.phases {
+        draw_phase(picture, row.pid, place, first, phase, output)?;
+        first = first.saturating_add(phase.events);
     }
     Ok(())
 }

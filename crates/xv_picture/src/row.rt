@@ -22,7 +22,7 @@ pub enum State {
 
 /// So many events, one after another, in which a process was in one state.
 #[derive(Clone, Copy)]
-pub struct Stretch {
+pub struct Phase {
     pub state: State,
     pub events: usize,
 }
@@ -75,16 +75,16 @@ fn after(pid: u32, was: State, note: Note) -> State
     }
 }
 
-/// What the process of this pid does, note by note, as stretches of one state each.
+/// What the process of this pid does, note by note, as phases of one state each.
 ///
 /// # Errors
 ///
 /// [`AllocError`] where the host has too little memory.
-pub fn stretches(alloc: Global, pid: u32, notes: &[Note]) -> Result<Vec<Stretch>, AllocError>
+pub fn phases(alloc: Global, pid: u32, notes: &[Note]) -> Result<Vec<Phase>, AllocError>
     ensures { IfOk result (λ row. shown row.items ≡ states pid State.Absent notes.now) }
 {
     let mut row = Vec::new(alloc);
-    let mut last = Stretch {
+    let mut last = Phase {
         state: State::Absent,
         events: 0,
     };
@@ -94,7 +94,7 @@ pub fn stretches(alloc: Global, pid: u32, notes: &[Note]) -> Result<Vec<Stretch>
             last.events += 1;
         } else {
             row.push(last)?;
-            last = Stretch { state, events: 1 };
+            last = Phase { state, events: 1 };
         }
     }
     row.push(last)?;

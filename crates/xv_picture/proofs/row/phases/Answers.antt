@@ -4,11 +4,11 @@ use Rattle.xv_picture.specs.declared.note.Note.{Note}
 use Rattle.xv_picture.specs.declared.note.Note.TheVariants.{Turn}
 use Rattle.xv_picture.specs.declared.row.State.{State}
 use Rattle.xv_picture.specs.Row.{shown, states}
-use Rattle.xv_picture.proofs.Stretches.{goes_on, changes, shown_append}
-use Rattle.xv_picture.proofs.row.stretches.Goals as goal
-use Rattle.xv_picture.proofs.row.stretches.Goals.{then-eq, else-eq+in_ok-push}
+use Rattle.xv_picture.proofs.Phases.{goes_on, changes, shown_append}
+use Rattle.xv_picture.proofs.row.phases.Goals as goal
+use Rattle.xv_picture.proofs.row.phases.Goals.{then-eq, else-eq+in_ok-push}
 
--- a note goes to the last stretch, or begins one
+-- a note goes to the last phase, or begins one
 pub loop-note-preserved : goal.loop-note-preserved
 loop-note-preserved c =
     let row = c.loop-note.row.items in

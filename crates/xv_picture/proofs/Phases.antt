@@ -3,7 +3,7 @@ use Rattle.std.proofs.Common.{◌≡◌, ℕ, zero, suc, ◌+◌, List, [], ◌�
 use Rattle.xv_picture.specs.Row.{after, shown, states}
 use Rattle.xv_picture.specs.declared.note.Note.{Note}
 use Rattle.xv_picture.specs.declared.row.State.{State}
-use Rattle.xv_picture.specs.declared.row.Stretch.{Stretch}
+use Rattle.xv_picture.specs.declared.row.Phase.{Phase}
 
 -- one more event in the same state
 one_more : (k : ℕ) (s : State) (rest : List State) → replicate (k + 1) s ++ rest ≡ replicate k s ++ s ∷ rest
@@ -13,23 +13,23 @@ one_more k s rest = rw add-one (go k)
     go zero = refl
     go (suc k) = ap (λ (xs : List State). s ∷ xs) (go k)
 
--- a row shows its stretches one behind another
-pub shown_append : (row : List Stretch) (last : Stretch) → shown (row ++ last ∷ []) ≡ shown row ++ replicate last.events last.state
+-- a row shows its phases one behind another
+pub shown_append : (row : List Phase) (last : Phase) → shown (row ++ last ∷ []) ≡ shown row ++ replicate last.events last.state
 shown_append [] last = append-nil (replicate last.events last.state)
 shown_append (first ∷ row) last =
     ap (λ (xs : List State). replicate first.events first.state ++ xs) (shown_append row last)
     ∙ sym (append_assoc (replicate first.events first.state) (shown row) (replicate last.events last.state))
 
--- a note that leaves the state as it is makes the last stretch longer
-pub goes_on : (row : List Stretch) (k pid : ℕ) (s : State) (note : Note) (rest : List Note)
+-- a note that leaves the state as it is makes the last phase longer
+pub goes_on : (row : List Phase) (k pid : ℕ) (s : State) (note : Note) (rest : List Note)
     → after pid s note ≡ s
     → shown row ++ (replicate (k + 1) s ++ states pid s rest) ≡ shown row ++ (replicate k s ++ states pid s (note ∷ rest))
 goes_on row k pid s note rest same =
     ap (λ (xs : List State). shown row ++ xs)
     (one_more k s (states pid s rest) ∙ ap (λ (t : State). replicate k s ++ t ∷ states pid t rest) (sym same))
 
--- any other note begins a stretch of its own
-pub changes : (row : List Stretch) (last : Stretch) (pid : ℕ) (note : Note) (rest : List Note)
+-- any other note begins a phase of its own
+pub changes : (row : List Phase) (last : Phase) (pid : ℕ) (note : Note) (rest : List Note)
     → shown (row ++ last ∷ []) ++ (replicate 1 (after pid last.state note) ++ states pid (after pid last.state note) rest)
     ≡ shown row ++ (replicate last.events last.state ++ states pid last.state (note ∷ rest))
 changes row last pid note rest =

@@ -1,7 +1,7 @@
 use Rattle.std.proofs.Common.{◌≡◌, ◌++◌, ◌≤◌, drop, replicate}
 use Rattle.xv_picture.specs.Row.{shown, states}
 use Rattle.xv_picture.specs.declared.row.State.TheVariants.{Absent}
-use Rattle.xv_picture.proofs.row.stretches.Given as goal
+use Rattle.xv_picture.proofs.row.phases.Given as goal
 
 abbrev pub invariant-loop-note : goal.invariant-loop-note
 invariant-loop-note l = record {
