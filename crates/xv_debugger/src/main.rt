@@ -1,60 +1,10 @@
-//! The debugger as a program: it boots a machine of the programs that the command line names, reads words from
-//! standard input, a line each, and writes their answers to standard output.
-//!
-//! What a word does to the machine is promised by `xv_debug`, and that nothing else is done to it by `Converses` of its
-//! `specs/Conversations.antt`. The answers' text is compared with stored sessions (`checks/debugger`).
+//! The debugger as a program. What it does is `debug_conversation`.
 #![tactic(auto)]
 
-mod command_line;
-mod conversation;
-mod failure;
-mod sources;
-
-use crate::command_line::{Settings, read_settings};
-use crate::conversation::Conversation;
-use crate::failure::Failure;
-use crate::sources::sources;
-use program_files::programs;
-use std::io::Input;
+use debug_conversation::{NAME, debug, read_settings};
 use std::process::ExitCode;
-use xv_debug::Debugger;
-use xv_machine::Config;
-use xv_session::Session;
 
-/// The program's name.
-const NAME: &str = "xv_debugger";
-
-/// A conversation about a machine of the settings, which has got no event yet.
-fn begun<'a>(rt: &HostRuntime, settings: &'a Settings) -> Result<Conversation, Failure<'a>> {
-    let programs = programs(rt, settings.files.as_slice())?;
-    let sources = sources(rt, settings)?;
-    let config = Config {
-        frames: settings.frames,
-        trace: settings.trace,
-    };
-    let session = Session::boot(rt.alloc(), config, programs)?;
-    Ok(Conversation {
-        session,
-        debugger: Debugger::with_sources(sources),
-        prompt: settings.prompt,
-    })
-}
-
-/// Boots a machine of the settings, and obeys the words of standard input.
-fn run<'a>(rt: &HostRuntime, settings: &'a Settings) -> Result<(), Failure<'a>> {
-    let mut conversation = begun(rt, settings)?;
-    conversation.converse(rt.alloc(), &mut rt.stdin().reader(), &mut rt.stdout())
-}
-
-/// Does what the settings say, and gives the exit status.
-fn debug(rt: &HostRuntime, settings: &Settings) -> u8 {
-    match run(rt, settings) {
-        Ok(()) => 0,
-        Err(failure) => failure.close(&mut rt.stderr()),
-    }
-}
-
-/// Does what the words ask for, and gives the exit status.
+// Does what the words ask for, and gives the exit status.
 fn obey(rt: &HostRuntime) -> u8 {
     match read_settings(rt) {
         Ok(settings) => debug(rt, &settings),

@@ -1,0 +1,481 @@
+//! The picture of a chart, in SVG (Scalable Vector Graphics 1.1).
+use crate::chart::{Chart, Row, newborn};
+use crate::label::{RowName, Text, names_room, wait_in, who_at};
+use crate::note::Note;
+use crate::remark::Remarks;
+use crate::row::{Phase, State};
+use std::fmt::{self, Display};
+use std::io::{self, Write};
+
+/// How wide the bars of a whole trace are, in pixels.
+const WIDTH: u64 = 1_200;
+
+/// Where the first row begins, in pixels.
+const TOP: u64 = 44;
+
+/// How high a row is, in pixels.
+const ROW: u64 = 20;
+
+/// How high a bar is, in pixels.
+const BAR: u64 = 12;
+
+/// How much room a letter of the console takes, in hundredths of a pixel.
+const LETTER: u64 = 700;
+
+/// The colours, by the words that the picture's parts have as their classes.
+const STYLE: &str = "\
+<style>
+.running { fill: #2563c9 } .ready { fill: #c4d7f5 }
+.asleep { fill: #f3c969 } .ended { fill: #b9b9b9 }
+.tick { stroke: #e4e4e4 } .birth { stroke: #2e8b57; stroke-width: 1.5 }
+.call { fill: #10294f } .gone { fill: #c0392b }
+</style>
+";
+
+/// With more ticks than these they aren't drawn.
+const MOST_TICKS: usize = 300;
+
+// A length in hundredths of a pixel.
+#[derive(Clone, Copy)]
+struct Length(u64);
+
+impl Display for Length {
+    fn fmt<W: fmt::Write>(&self, f: &mut fmt::Formatter<W>) -> fmt::Result {
+        write!(f, "{}.{:02}", self.0 / 100, self.0 % 100)
+    }
+}
+
+// Where the events of a trace stand.
+#[derive(Clone, Copy)]
+struct Axis {
+    // Where the bars begin, in pixels.
+    left: u64,
+    // How many events there are.
+    events: usize,
+}
+
+impl Axis {
+    // Where the bars of the first `event` events end.
+    fn across(self, event: usize) -> Length {
+        let all = (self.events as u64).max(1);
+        let width = (event as u64).saturating_mul(WIDTH * 100) / all;
+        Length(width.saturating_add(self.left.saturating_mul(100)))
+    }
+}
+
+// The upper edge of the row at this place.
+fn row_top(place: usize) -> u64 {
+    ROW.saturating_mul(place as u64).saturating_add(TOP)
+}
+
+// The middle of the bar of the row at this place.
+fn row_middle(place: usize) -> u64 {
+    row_top(place).saturating_add(BAR / 2)
+}
+
+// The word for a state, which names its colour too.
+fn word(state: State) -> &'static str {
+    match state {
+        State::Absent => "absent",
+        State::Ready => "ready",
+        State::Running => "running",
+        State::Asleep => "asleep",
+        State::Ended => "ended",
+    }
+}
+
+// The name of a kernel call.
+fn call_name(number: i32) -> &'static str {
+    match number {
+        1 => "fork",
+        2 => "exit",
+        3 => "wait",
+        4 => "pipe",
+        5 => "read",
+        6 => "kill",
+        7 => "exec",
+        10 => "dup",
+        11 => "getpid",
+        12 => "sbrk",
+        13 => "sleep",
+        14 => "uptime",
+        15 => "open",
+        16 => "write",
+        21 => "close",
+        22 => "sbrklazy",
+        _ => "unknown",
+    }
+}
+
+// The head of the picture.
+fn draw_head<W: Write>(width: u64, height: u64, output: &mut W) -> io::Result<()> {
+    writeln!(
+        output,
+        "<svg xmlns=\"http://www.w3.org/2000/svg\" width=\"{width}\" height=\"{height}\" font-family=\"sans-serif\" font-size=\"11\">"
+    )?;
+    output.write_all(STYLE.as_bytes())?;
+    writeln!(
+        output,
+        "<rect width=\"{width}\" height=\"{height}\" fill=\"white\"/>"
+    )
+}
+
+// What a colour means, from this place on.
+fn draw_meaning<W: Write>(class: &str, left: u64, output: &mut W) -> io::Result<()> {
+    let text = left.saturating_add(16);
+    writeln!(
+        output,
+        "<rect class=\"{class}\" x=\"{left}\" y=\"10\" width=\"12\" height=\"12\"/>"
+    )?;
+    writeln!(output, "<text x=\"{text}\" y=\"20\">{class}</text>")
+}
+
+// What the colours mean.
+fn draw_legend<W: Write>(axis: Axis, output: &mut W) -> io::Result<()> {
+    let mut left = axis.left;
+    for class in ["running", "ready", "asleep", "ended", "call", "gone"] {
+        draw_meaning(class, left, output)?;
+        left = left.saturating_add(90);
+    }
+    Ok(())
+}
+
+// How often the clock ticked.
+fn ticks(chart: &Chart) -> usize {
+    chart
+        .notes
+        .iter()
+        .filter(|note| matches!(note, Note::Tick))
+        .count()
+}
+
+// A tick of the clock, as a line from the first row to the last.
+fn draw_tick<W: Write>(x: Length, bottom: u64, output: &mut W) -> io::Result<()> {
+    writeln!(
+        output,
+        "<line class=\"tick\" x1=\"{x}\" y1=\"{TOP}\" x2=\"{x}\" y2=\"{bottom}\"/>"
+    )
+}
+
+// The ticks of the clock.
+fn draw_ticks<W: Write>(chart: &Chart, axis: Axis, bottom: u64, output: &mut W) -> io::Result<()> {
+    if ticks(chart) > MOST_TICKS {
+        return Ok(());
+    }
+    for (event, note) in chart.notes.iter().enumerate() {
+        if matches!(note, Note::Tick) {
+            draw_tick(axis.across(event), bottom, output)?;
+        }
+    }
+    Ok(())
+}
+
+// What is drawn: a chart, what lines tell of its processes besides, and where its events stand.
+#[derive(Clone, Copy)]
+struct Picture<'a> {
+    chart: &'a Chart,
+    remarks: &'a Remarks,
+    axis: Axis,
+}
+
+// The beginning of a part of the bar of the row at this place, from the event `first` on, up to its text.
+fn open_phase<W: Write>(
+    axis: Axis,
+    place: usize,
+    first: usize,
+    behind: usize,
+    word: &str,
+    output: &mut W,
+) -> io::Result<()> {
+    let left = axis.across(first);
+    let width = Length(axis.across(behind).0.saturating_sub(left.0));
+    let top = row_top(place);
+    write!(
+        output,
+        "<rect class=\"{word}\" x=\"{left}\" y=\"{top}\" width=\"{width}\" height=\"{BAR}\"><title>"
+    )
+}
+
+// What a process waits for that sleeps from the event `first` on, where it is told.
+fn write_wait<W: Write>(
+    remarks: &Remarks,
+    pid: u32,
+    first: usize,
+    behind: usize,
+    output: &mut W,
+) -> io::Result<()> {
+    let Some(wait) = wait_in(remarks, pid, first, behind) else {
+        return Ok(());
+    };
+    let wait = Text(wait);
+    write!(output, " in {wait}")
+}
+
+// A part of the bar of the row at this place, from the event `first` on; its text shows under the pointer.
+fn draw_phase<W: Write>(
+    picture: Picture<'_>,
+    pid: u32,
+    place: usize,
+    first: usize,
+    phase: &Phase,
+    output: &mut W,
+) -> io::Result<()> {
+    let behind = first.saturating_add(phase.events);
+    if phase.state == State::Absent || behind <= first {
+        return Ok(());
+    }
+    let word = word(phase.state);
+    open_phase(picture.axis, place, first, behind, word, output)?;
+    let who = who_at(picture.remarks, pid, behind);
+    write!(output, "{who}: {word}")?;
+    if phase.state == State::Asleep {
+        write_wait(picture.remarks, pid, first, behind, output)?;
+    }
+    let last = behind - 1;
+    writeln!(output, ", events {first} to {last}</title></rect>")
+}
+
+// The name and the bar of a process.
+fn draw_row<W: Write>(
+    picture: Picture<'_>,
+    row: &Row,
+    place: usize,
+    output: &mut W,
+) -> io::Result<()> {
+    let base = row_top(place).saturating_add(10);
+    let name = RowName(who_at(picture.remarks, row.pid, picture.axis.events));
+    writeln!(output, "<text x=\"8\" y=\"{base}\">{name}</text>")?;
+    let mut first: usize = 0;
+    for phase in &row.phases {
+        draw_phase(picture, row.pid, place, first, phase, output)?;
+        first = first.saturating_add(phase.events);
+    }
+    Ok(())
+}
+
+// What a mark on a bar stands for.
+#[derive(Clone, Copy)]
+enum Mark {
+    // A call of this number that is done, with its answer.
+    Answered(i32, i64),
+    // A call of this number, in which the process sleeps.
+    Waits(i32),
+    // The process is gone, with this status.
+    Exit(i32),
+    // The process is gone, by a fault of this cause.
+    Fault(u32),
+}
+
+impl Mark {
+    // The word for the mark's colour.
+    fn class(self) -> &'static str {
+        match self {
+            Mark::Answered(_, _) | Mark::Waits(_) => "call",
+            Mark::Exit(_) | Mark::Fault(_) => "gone",
+        }
+    }
+
+    // How wide the mark is, in pixels.
+    fn width(self) -> u64 {
+        match self {
+            Mark::Answered(_, _) | Mark::Waits(_) => 1,
+            Mark::Exit(_) | Mark::Fault(_) => 4,
+        }
+    }
+}
+
+// The name of a kernel call, and its number.
+fn write_call<W: fmt::Write>(number: i32, f: &mut fmt::Formatter<W>) -> fmt::Result {
+    let name = call_name(number);
+    write!(f, "{name} (call {number})")
+}
+
+impl Display for Mark {
+    fn fmt<W: fmt::Write>(&self, f: &mut fmt::Formatter<W>) -> fmt::Result {
+        match *self {
+            Mark::Answered(number, answer) => {
+                write_call(number, f)?;
+                write!(f, " answers {answer}")
+            }
+            Mark::Waits(number) => {
+                write_call(number, f)?;
+                f.write_str(" waits")
+            }
+            Mark::Exit(status) => write!(f, "exit with status {status}"),
+            Mark::Fault(cause) => write!(f, "fault of cause {cause}"),
+        }
+    }
+}
+
+// The mark of an event, and the process on whose bar it stands.
+fn mark_of(note: Note) -> Option<(u32, Mark)> {
+    match note {
+        Note::Call(pid, number, answer) => Some((pid, Mark::Answered(number, answer))),
+        Note::Block(pid, number) => Some((pid, Mark::Waits(number))),
+        Note::Exit(pid, status) => Some((pid, Mark::Exit(status))),
+        Note::Fault(pid, cause) => Some((pid, Mark::Fault(cause))),
+        _ => None,
+    }
+}
+
+// A mark on the bar of the row at this place; its text shows under the pointer.
+fn draw_mark<W: Write>(x: Length, place: usize, mark: Mark, output: &mut W) -> io::Result<()> {
+    let class = mark.class();
+    let top = row_top(place);
+    let width = mark.width();
+    writeln!(
+        output,
+        "<rect class=\"{class}\" x=\"{x}\" y=\"{top}\" width=\"{width}\" height=\"{BAR}\"><title>{mark}</title></rect>"
+    )
+}
+
+// A line from a parent's bar to the bar of the child that it made.
+fn draw_birth<W: Write>(x: Length, parent: usize, child: usize, output: &mut W) -> io::Result<()> {
+    let from = row_middle(parent);
+    let to = row_middle(child);
+    writeln!(
+        output,
+        "<line class=\"birth\" x1=\"{x}\" y1=\"{from}\" x2=\"{x}\" y2=\"{to}\"/>"
+    )
+}
+
+// What stands on the bars for this event.
+fn draw_event<W: Write>(
+    chart: &Chart,
+    axis: Axis,
+    event: usize,
+    note: Note,
+    output: &mut W,
+) -> io::Result<()> {
+    let Some((pid, mark)) = mark_of(note) else {
+        return Ok(());
+    };
+    let Some(place) = chart.place_of(pid) else {
+        return Ok(());
+    };
+    let x = axis.across(event);
+    if let Some(child) = newborn(note) {
+        if let Some(child) = chart.place_of(child) {
+            draw_birth(x, place, child, output)?;
+        }
+    }
+    draw_mark(x, place, mark, output)
+}
+
+// A byte of the console, as a letter of the picture.
+fn draw_letter<W: Write>(byte: u8, output: &mut W) -> io::Result<()> {
+    match byte {
+        b'<' => write!(output, "&lt;"),
+        b'>' => write!(output, "&gt;"),
+        b'&' => write!(output, "&amp;"),
+        b'\n' => write!(output, "\u{23ce}"),
+        b' '..=b'~' => write!(output, "{}", byte as char),
+        _ => write!(output, "\u{b7}"),
+    }
+}
+
+// A byte of the console, from this place on.
+fn draw_byte<W: Write>(x: Length, base: u64, byte: u8, output: &mut W) -> io::Result<()> {
+    write!(
+        output,
+        "<text x=\"{x}\" y=\"{base}\" font-family=\"monospace\">"
+    )?;
+    draw_letter(byte, output)?;
+    writeln!(output, "</text>")
+}
+
+// The byte that an event shows in the line of this name.
+fn byte_in(line: &str, note: Note) -> Option<u8> {
+    match note {
+        Note::Key(byte) if line == "typed" => Some(byte),
+        Note::Sent(byte) if line == "sent" => Some(byte),
+        _ => None,
+    }
+}
+
+// A line of the bytes that were typed, or sent. Where there is no room for a letter, it is put behind the
+// one before it, and it is left out where that is behind the right edge.
+fn draw_bytes<W: Write>(
+    line: &str,
+    chart: &Chart,
+    axis: Axis,
+    base: u64,
+    output: &mut W,
+) -> io::Result<()> {
+    writeln!(output, "<text x=\"8\" y=\"{base}\">{line}</text>")?;
+    let right = axis.left.saturating_add(WIDTH).saturating_mul(100);
+    let mut free: u64 = 0;
+    for (event, &note) in chart.notes.iter().enumerate() {
+        if free > right {
+            break;
+        }
+        if let Some(byte) = byte_in(line, note) {
+            let x = Length(axis.across(event).0.max(free));
+            draw_byte(x, base, byte, output)?;
+            free = x.0.saturating_add(LETTER);
+        }
+    }
+    Ok(())
+}
+
+// The numbers of five events under the bars.
+fn draw_numbers<W: Write>(axis: Axis, base: u64, output: &mut W) -> io::Result<()> {
+    writeln!(output, "<text x=\"8\" y=\"{base}\">event</text>")?;
+    for quarter in 0..5usize {
+        let event = axis.events.saturating_mul(quarter) / 4;
+        let x = axis.across(event);
+        writeln!(output, "<text x=\"{x}\" y=\"{base}\">{event}</text>")?;
+    }
+    Ok(())
+}
+
+// The name and the bar of each process, from the first row on.
+fn draw_rows<W: Write>(picture: Picture<'_>, output: &mut W) -> io::Result<()> {
+    for (place, row) in picture.chart.rows.iter().enumerate() {
+        draw_row(picture, row, place, output)?;
+    }
+    Ok(())
+}
+
+// What stands on the bars, event by event.
+fn draw_events<W: Write>(chart: &Chart, axis: Axis, output: &mut W) -> io::Result<()> {
+    for (event, &note) in chart.notes.iter().enumerate() {
+        draw_event(chart, axis, event, note, output)?;
+    }
+    Ok(())
+}
+
+// What stands below the bars: the bytes that were sent and typed, and the numbers of events.
+fn draw_below<W: Write>(chart: &Chart, axis: Axis, bottom: u64, output: &mut W) -> io::Result<()> {
+    draw_bytes("sent", chart, axis, bottom.saturating_add(16), output)?;
+    draw_bytes("typed", chart, axis, bottom.saturating_add(34), output)?;
+    draw_numbers(axis, bottom.saturating_add(54), output)
+}
+
+/// Writes the picture of a chart: a row for each process, in the order of their pids, with its bar and its
+/// marks; below them the bytes that were sent and typed, and the numbers of events. A row has the name of its
+/// process's last program, and a sleeper's bar what it waits for, where `remarks` tell them.
+///
+/// # Errors
+///
+/// That of `output`, where it doesn't take all of the picture.
+pub fn draw<W: Write>(chart: &Chart, remarks: &Remarks, output: &mut W) -> io::Result<()> {
+    let axis = Axis {
+        left: names_room(chart, remarks),
+        events: chart.notes.len(),
+    };
+    let picture = Picture {
+        chart,
+        remarks,
+        axis,
+    };
+    let bottom = row_top(chart.rows.len());
+    let width = axis.left.saturating_add(WIDTH + 30);
+    draw_head(width, bottom.saturating_add(70), output)?;
+    draw_legend(axis, output)?;
+    draw_ticks(chart, axis, bottom, output)?;
+    draw_rows(picture, output)?;
+    draw_events(chart, axis, output)?;
+    draw_below(chart, axis, bottom, output)?;
+    writeln!(output, "</svg>")
+}
