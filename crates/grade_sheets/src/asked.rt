@@ -18,8 +18,77 @@ const RULE_KEYS: [&str; 17] = [
     "at_most", "none_of", "first", "then", "steps", "order", "of", "notes",
 ];
 
-/// Why a rule is refused that asks for nothing, for two things, or for half of one.
-const ONE_THING: &str = "a rule asks for one thing, first needs then, and of needs notes";
+/// A kind of rules.
+struct Kind {
+    /// What such a rule is called where it is refused.
+    place: &'static str,
+    /// The keys of what it asks for: it has each of them.
+    needed: &'static [&'static str],
+    /// The keys that it may have beside them.
+    others: &'static [&'static str],
+}
+
+/// The keys that every rule may have.
+const PLAIN: &[&str] = &["name", "points"];
+
+/// The kinds of rules.
+const KINDS: [Kind; 11] = [
+    Kind {
+        place: "a rule with `status`",
+        needed: &["status"],
+        others: PLAIN,
+    },
+    Kind {
+        place: "a rule with `shown`",
+        needed: &["shown"],
+        others: PLAIN,
+    },
+    Kind {
+        place: "a rule with `shows`",
+        needed: &["shows"],
+        others: PLAIN,
+    },
+    Kind {
+        place: "a rule with `rise`",
+        needed: &["rise"],
+        others: PLAIN,
+    },
+    Kind {
+        place: "a rule with `line`",
+        needed: &["line"],
+        others: PLAIN,
+    },
+    Kind {
+        place: "a rule with `predicts`",
+        needed: &["predicts"],
+        others: PLAIN,
+    },
+    Kind {
+        place: "a rule with `note`",
+        needed: &["note"],
+        others: &["name", "points", "at_least", "at_most"],
+    },
+    Kind {
+        place: "a rule with `none_of`",
+        needed: &["none_of"],
+        others: PLAIN,
+    },
+    Kind {
+        place: "a rule with `first` and `then`",
+        needed: &["first", "then"],
+        others: PLAIN,
+    },
+    Kind {
+        place: "a rule with `steps`",
+        needed: &["steps"],
+        others: &["name", "points", "order"],
+    },
+    Kind {
+        place: "a rule with `of` and `notes`",
+        needed: &["of", "notes"],
+        others: PLAIN,
+    },
+];
 
 /// Why an order is refused.
 const ORDER: &str =
@@ -183,47 +252,53 @@ fn exactly(alloc: Global, rule: &Keys<'_>) -> Result<Check, SheetError> {
     Ok(Check::Notes { rule, texts })
 }
 
-// What a rule asks of the notes.
+// Refuses a rule that asks for nothing, lacks a key of its kind, or has one that its kind doesn't have.
+fn check_kind(alloc: Global, rule: &Keys<'_>) -> Result<(), SheetError> {
+    for kind in &KINDS {
+        if rule.has_one_of(kind.needed) {
+            let keys = Keys {
+                table: rule.table,
+                place: kind.place,
+            };
+            return keys.check(alloc, kind.needed, kind.others);
+        }
+    }
+    Err(refused(alloc, "it asks for nothing"))
+}
+
+// What a rule whose keys are those of its kind asks of the notes.
 fn notes_of(alloc: Global, rule: &Keys<'_>) -> Result<Check, SheetError> {
-    if rule.are(&["note"], &["name", "points", "at_least", "at_most"]) {
-        return counted(alloc, rule);
+    if rule.has("note") {
+        counted(alloc, rule)
+    } else if rule.has("none_of") {
+        none_of(alloc, rule)
+    } else if rule.has("first") {
+        before(alloc, rule)
+    } else if rule.has("steps") {
+        in_order(alloc, rule)
+    } else {
+        exactly(alloc, rule)
     }
-    if rule.are(&["none_of"], &["name", "points"]) {
-        return none_of(alloc, rule);
-    }
-    if rule.are(&["first", "then"], &["name", "points"]) {
-        return before(alloc, rule);
-    }
-    if rule.are(&["steps"], &["name", "points", "order"]) {
-        return in_order(alloc, rule);
-    }
-    if rule.are(&["of", "notes"], &["name", "points"]) {
-        return exactly(alloc, rule);
-    }
-    Err(refused(alloc, ONE_THING))
 }
 
 // What a rule asks for.
 fn check_of(alloc: Global, rule: &Keys<'_>) -> Result<Check, SheetError> {
-    if rule.are(&["status"], &["name", "points"]) {
-        return rule.status(alloc, "status").map(Check::Status);
+    check_kind(alloc, rule)?;
+    if rule.has("status") {
+        rule.status(alloc, "status").map(Check::Status)
+    } else if rule.has("shown") {
+        rule.text(alloc, "shown").map(Check::Shown)
+    } else if rule.has("shows") {
+        rule.text(alloc, "shows").map(Check::Shows)
+    } else if rule.has("rise") {
+        rule.number(alloc, "rise", 0, 0, RISE_MAX).map(Check::Rise)
+    } else if rule.has("line") {
+        rule.text(alloc, "line").map(Check::Line)
+    } else if rule.has("predicts") {
+        rule.texts(alloc, "predicts").map(Check::Predicts)
+    } else {
+        notes_of(alloc, rule)
     }
-    if rule.are(&["shown"], &["name", "points"]) {
-        return rule.text(alloc, "shown").map(Check::Shown);
-    }
-    if rule.are(&["shows"], &["name", "points"]) {
-        return rule.text(alloc, "shows").map(Check::Shows);
-    }
-    if rule.are(&["rise"], &["name", "points"]) {
-        return rule.number(alloc, "rise", 0, 0, RISE_MAX).map(Check::Rise);
-    }
-    if rule.are(&["line"], &["name", "points"]) {
-        return rule.text(alloc, "line").map(Check::Line);
-    }
-    if rule.are(&["predicts"], &["name", "points"]) {
-        return rule.texts(alloc, "predicts").map(Check::Predicts);
-    }
-    notes_of(alloc, rule)
 }
 
 // A refusal with the name of its rule.
@@ -234,10 +309,18 @@ fn named(alloc: Global, name: &str, why: &str) -> SheetError {
     }
 }
 
-// What a rule of a run asks for: exactly one of `status`, `shown`, `shows`, `rise`, `line`, `predicts`, `note` (with `at_least`
-// and `at_most`), `none_of`, `first` and `then`, `steps` (with `order`), `of` and `notes`.
-pub(crate) fn read_rule(alloc: Global, run: &Keys<'_>, item: &Value) -> Result<Asked, SheetError> {
-    let rule = run.table(alloc, "rule", item, "[[run.rule]]")?;
+// What a rule of a run asks for, whose rules are counted from 1: exactly one of `status`, `shown`, `shows`, `rise`, `line`,
+// `predicts`, `note` (with `at_least` and `at_most`), `none_of`, `first` and `then`, `steps` (with `order`), `of` and
+// `notes`.
+pub(crate) fn read_rule(
+    alloc: Global,
+    run: &Keys<'_>,
+    number: usize,
+    item: &Value,
+) -> Result<Asked, SheetError> {
+    let of = run.place;
+    let place = format!(in alloc; "rule {number} of {of}")?;
+    let rule = run.table(alloc, "rule", item, place.as_str())?;
     rule.check(alloc, &["name"], &RULE_KEYS)?;
     let name = rule.text(alloc, "name")?;
     let points = rule.number(alloc, "points", 1, 0, COUNT_MAX)? as u32;

@@ -1,7 +1,7 @@
 //! The file of an exercise, in TOML 1.1.
 use crate::asked::{Asked, read_rule};
 use crate::keys::Keys;
-use crate::refusal::{SheetError, refused};
+use crate::refusal::SheetError;
 use std::alloc::Global;
 use toml::{Table, Value};
 use xk_base::limits::{FRAMES_MAX, FRAMES_MIN};
@@ -11,9 +11,6 @@ const RUNS_MAX: u64 = 1_000_000_000;
 
 /// The most Runs of a round.
 const QUANTUM_MAX: u64 = 1_000_000;
-
-/// Why names of files are refused.
-const FILES: &str = "files: names without a slash, one at least";
 
 /// The keys that a run may have, beside its name and its rules.
 const RUN_KEYS: [&str; 7] = [
@@ -81,11 +78,12 @@ fn is_plain_name(name: &str) -> bool {
     !name.is_empty() && !name.starts_with(".") && !name.contains('/') && !name.contains('\n')
 }
 
-// Refuses names unless each can be that of a file in a folder.
-fn plain_names(alloc: Global, names: Vec<String>) -> Result<Vec<String>, SheetError> {
+// The files of a table, of which each name can be that of a file in a folder.
+fn plain_names(alloc: Global, table: &Keys<'_>) -> Result<Vec<String>, SheetError> {
+    let names = table.texts(alloc, "files")?;
     for name in &names {
         if !is_plain_name(name.as_str()) {
-            return Err(refused(alloc, FILES));
+            return Err(table.refused(alloc, "no names without a slash:", "files"));
         }
     }
     Ok(names)
@@ -93,18 +91,22 @@ fn plain_names(alloc: Global, names: Vec<String>) -> Result<Vec<String>, SheetEr
 
 // The names of the files that are handed in for a run: without any of its own, those of the exercise.
 fn names_of(alloc: Global, run: &Keys<'_>, file: &Keys<'_>) -> Result<Vec<String>, SheetError> {
-    if !run.list(alloc, "files")?.is_empty() {
-        return plain_names(alloc, run.texts(alloc, "files")?);
+    let of_run = plain_names(alloc, run)?;
+    if !of_run.is_empty() {
+        return Ok(of_run);
     }
-    if file.list(alloc, "files")?.is_empty() {
-        return Err(refused(alloc, FILES));
+    let of_all = plain_names(alloc, file)?;
+    if of_all.is_empty() {
+        return Err(run.refused(alloc, "missing key", "files"));
     }
-    plain_names(alloc, file.texts(alloc, "files")?)
+    Ok(of_all)
 }
 
 // The file of a text of a run.
 fn file_of(alloc: Global, run: &Keys<'_>, item: &Value) -> Result<Text, SheetError> {
-    let text = run.table(alloc, "texts", item, "texts")?;
+    let place = run.place;
+    let place = format!(in alloc; "texts of {place}")?;
+    let text = run.table(alloc, "texts", item, place.as_str())?;
     text.check(alloc, &["name", "text"], &[])?;
     Ok(Text {
         name: text.text(alloc, "name")?,
@@ -124,15 +126,21 @@ fn files_of(alloc: Global, run: &Keys<'_>) -> Result<Vec<Text>, SheetError> {
 // What the rules of a run ask for.
 fn all_asked(alloc: Global, run: &Keys<'_>) -> Result<Vec<Asked>, SheetError> {
     let mut all = Vec::new(alloc);
-    for item in run.list(alloc, "rule")? {
-        all.push(read_rule(alloc, run, item)?)?;
+    for (index, item) in run.list(alloc, "rule")?.iter().enumerate() {
+        all.push(read_rule(alloc, run, index + 1, item)?)?;
     }
     Ok(all)
 }
 
-// The run of an item of a file's list.
-fn run_of(alloc: Global, file: &Keys<'_>, item: &Value) -> Result<Run, SheetError> {
-    let run = file.table(alloc, "run", item, "[[run]]")?;
+// The run of an item of a file's list, whose items are counted from 1.
+fn run_of(
+    alloc: Global,
+    file: &Keys<'_>,
+    number: usize,
+    item: &Value,
+) -> Result<Run, SheetError> {
+    let place = format!(in alloc; "run {number}")?;
+    let run = file.table(alloc, "run", item, place.as_str())?;
     run.check(alloc, &["name", "rule"], &RUN_KEYS)?;
     let (least, most) = (u64::from(FRAMES_MIN), u64::from(FRAMES_MAX));
     let frames = run.number(alloc, "frames", FRAMES, least, most)? as u32;
@@ -154,8 +162,8 @@ fn run_of(alloc: Global, file: &Keys<'_>, item: &Value) -> Result<Run, SheetErro
 // The runs of a file.
 fn all_runs(alloc: Global, file: &Keys<'_>) -> Result<Vec<Run>, SheetError> {
     let mut runs = Vec::new(alloc);
-    for item in file.list(alloc, "run")? {
-        runs.push(run_of(alloc, file, item)?)?;
+    for (index, item) in file.list(alloc, "run")?.iter().enumerate() {
+        runs.push(run_of(alloc, file, index + 1, item)?)?;
     }
     Ok(runs)
 }
@@ -183,7 +191,8 @@ impl Exercise {
     /// # Errors
     ///
     /// [`SheetError::Text`] if it is no TOML, lacks a key or has one that isn't known, or has a number, a name or a
-    /// rule that isn't right, and [`SheetError::Memory`].
+    /// rule that isn't right: the text tells the line, or the run and the rule, counted from 1. And
+    /// [`SheetError::Memory`].
     pub fn read(alloc: Global, text: &str) -> Result<Exercise, SheetError> {
         let table = table_of(alloc, text)?;
         let file = Keys {

@@ -29,8 +29,8 @@ pub(crate) fn natural(value: &Value) -> Option<u64> {
 }
 
 impl<'a> Keys<'a> {
-    // What is wrong with a key of this table.
-    fn refused(&self, alloc: Global, what: &str, key: &str) -> SheetError {
+    /// A refusal that tells what is wrong with a key of this table.
+    pub fn refused(&self, alloc: Global, what: &str, key: &str) -> SheetError {
         let place = self.place;
         match format!(in alloc; "{what} `{key}` in {place}") {
             Ok(text) => SheetError::Text(text),
@@ -64,9 +64,14 @@ impl<'a> Keys<'a> {
         None
     }
 
-    /// Whether the needed keys are there, and no others but these.
-    pub fn are(&self, needed: &[&str], others: &[&str]) -> bool {
-        self.missing(needed).is_none() && self.unknown(needed, others).is_none()
+    /// Whether one of these keys is there.
+    pub fn has_one_of(&self, keys: &[&str]) -> bool {
+        for key in keys {
+            if self.has(key) {
+                return true;
+            }
+        }
+        false
     }
 
     /// Refuses a table that lacks a needed key, or has one that is none of these.
@@ -136,13 +141,13 @@ impl<'a> Keys<'a> {
     }
 
     /// The table that an item of a key's list is, under this name in the file.
-    pub fn table(
+    pub fn table<'b>(
         &self,
         alloc: Global,
         key: &str,
-        item: &'a Value,
-        place: &'a str,
-    ) -> Result<Keys<'a>, SheetError> {
+        item: &'b Value,
+        place: &'b str,
+    ) -> Result<Keys<'b>, SheetError> {
         match item.as_table() {
             Some(table) => Ok(Keys { table, place }),
             None => Err(self.refused(alloc, "no list of tables:", key)),
