@@ -4,4 +4,5 @@ pub mod Pids
 pub mod Shown
 pub mod Texts
 pub mod Uses
+mod WorkedFrames
 mod WorkedTexts

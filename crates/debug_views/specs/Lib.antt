@@ -4,6 +4,7 @@ pub mod DescriptorText
 pub mod EventText
 pub mod Focus
 pub mod FrameLists
+pub mod FrameText
 pub mod MemoryText
 pub mod PageRuns
 pub mod RegisterText

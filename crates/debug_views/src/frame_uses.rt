@@ -1,7 +1,7 @@
 //! What each frame of RAM is used for.
 ghost use Rattle.std.specs.Prelude.{◌≡◌, IfOk, IfSome, IfNone, count_by, slice_get, Some};
 ghost use Rattle.debug_views.specs.Focus.{lesser};
-ghost use Rattle.debug_views.specs.FrameLists.{AreUses, IsAmong, IsLeastLower, is_page_of, is_table_of, is_trapframe_of, is_pipe, lower_in};
+ghost use Rattle.debug_views.specs.FrameLists.{AreUses, IsAmong, IsLeastLower, is_frame_of, is_page_of, is_table_of, is_trapframe_of, is_pipe, lower_in};
 
 use std::alloc::{AllocError, Global};
 use xk_base::limits::FRAMES_MAX;
@@ -95,6 +95,20 @@ pub(crate) fn pipes_in(uses: &[FrameUse]) -> usize
     ensures { result ≡ count_by is_pipe uses.now }
 {
     uses.iter().filter(|used| is_pipe(used)).count()
+}
+
+/// Whether it is a page, a table or the trapframe of the process.
+fn is_frame_of(used: &FrameUse, owner: Pid) -> bool
+    ensures { result ≡ is_frame_of owner used.now }
+{
+    is_page_of(used, owner) || is_table_of(used, owner) || is_trapframe_of(used, owner)
+}
+
+/// How many frames of these the process has.
+pub(crate) fn frames_in(uses: &[FrameUse], owner: Pid) -> usize
+    ensures { result ≡ count_by (is_frame_of owner) uses.now }
+{
+    uses.iter().filter(|used| is_frame_of(used, owner)).count()
 }
 
 /// The first frame of these that is used so; `None` where none is.

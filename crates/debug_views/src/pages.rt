@@ -1,6 +1,7 @@
 //! The tables and pages of a process, as a tree (RISC-V Privileged ISA, "Sv39: Page-Based 39-bit Virtual-Memory
 //! System").
-ghost use Rattle.std.specs.Prelude.{◌<◌, length};
+ghost use Rattle.std.specs.Prelude.{◌≡◌, ◌<◌, Some, length};
+ghost use Rattle.debug_views.specs.FrameText.{letter, rights_shown};
 
 use crate::focus::{program_name, show_none};
 use crate::frame_uses::{frame_with, uses_of};
@@ -20,16 +21,25 @@ const FRAMES_SHOWN: u32 = 4;
 #[derive(Clone, Copy)]
 pub(crate) struct RightsShown(pub Option<Perm>);
 
+/// A letter for what is allowed.
+fn letter(allowed: bool, name: &'static str) -> &'static str
+    ensures { result.now ≡ letter allowed name.now }
+{
+    if allowed { name } else { "-" }
+}
+
 impl fmt::Display for RightsShown {
+    ghost output = { λ r. Some (rights_shown r.0) };
+
     fn fmt<W: fmt::Write>(&self, f: &mut fmt::Formatter<W>) -> fmt::Result {
         let Some(perm) = self.0 else {
             return f.write_str("----");
         };
         let rights = perm.rights();
-        f.write_str(if rights.read { "r" } else { "-" })?;
-        f.write_str(if rights.write { "w" } else { "-" })?;
-        f.write_str(if rights.execute { "x" } else { "-" })?;
-        f.write_str(if rights.user { "u" } else { "-" })
+        f.write_str(letter(rights.read, "r"))?;
+        f.write_str(letter(rights.write, "w"))?;
+        f.write_str(letter(rights.execute, "x"))?;
+        f.write_str(letter(rights.user, "u"))
     }
 }
 
