@@ -29,6 +29,19 @@ is_trapframe_of p _ = false
 abbrev pub is_frame_of : ℕ → FrameUse → Bool
 is_frame_of p used = is_page_of p used || is_table_of p used || is_trapframe_of p used
 
+-- one table of a process: the root, and the upper or lower one at a place
+abbrev pub is_root_of : ℕ → FrameUse → Bool
+is_root_of p (Root pid) = nat_eq pid p
+is_root_of p _ = false
+
+abbrev pub is_upper_of : (p place : ℕ) → FrameUse → Bool
+is_upper_of p place (Upper pid at) = nat_eq pid p && nat_eq at place
+is_upper_of p place _ = false
+
+abbrev pub is_lower_of : (p place : ℕ) → FrameUse → Bool
+is_lower_of p place (Lower pid at) = nat_eq pid p && nat_eq at place
+is_lower_of p place _ = false
+
 abbrev pub is_pipe : FrameUse → Bool
 is_pipe Pipe = true
 is_pipe _ = false

@@ -7,6 +7,7 @@ pub mod FrameLists
 pub mod FrameText
 pub mod MemoryText
 pub mod PageRuns
+pub mod PagesText
 pub mod RegisterText
 pub mod Sharing
 pub mod Written

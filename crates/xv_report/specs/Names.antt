@@ -1,5 +1,5 @@
--- The names that are told of programs and of kernel calls.
-use Rattle.std.specs.Prelude.{ℕ, List, Option, None, Some, option_map, slice_get, codes}
+-- The names that are told of programs and of kernel calls, and how names are written.
+use Rattle.std.specs.Prelude.{ℕ, ◌&&◌, nat_le, if◌then◌else◌, List, map, Option, None, Some, option_map, slice_get, codes}
 use Rattle.kernel_spec.specs.rows.Calls.{Row, Fork, Exit, Wait, Pipe_row, Read, Kill, Exec, Dup, Getpid, Sbrk, Sleep, Uptime, Open, Write, Close, Sbrklazy}
 use Rattle.kernel_spec.specs.views.State.{ProgramFile}
 use Rattle.xv_session.specs.Names.{place_in}
@@ -35,3 +35,10 @@ call_word Open = codes "open"
 call_word Write = codes "write"
 call_word Close = codes "close"
 call_word Sbrklazy = codes "sbrklazy"
+
+-- a byte of a name as it is written: ? if it is no visible character
+abbrev pub byte_shown : ℕ → ℕ
+byte_shown b = if nat_le 33 b && nat_le b 126 then b else 63
+
+abbrev pub name_shown : List ℕ → List ℕ
+name_shown name = map byte_shown name

@@ -1,4 +1,8 @@
 //! Names, addresses and instructions.
+ghost use Rattle.std.specs.Prelude.{◌≡◌, ◌<◌, Some};
+ghost use Rattle.std.specs.Fmt.{WritesOnOk};
+ghost use Rattle.xv_report.specs.Names.{byte_shown, name_shown};
+
 use elf_symbols::{function_at, function_start};
 use rv64i_core::decode;
 use std::fmt;
@@ -9,15 +13,29 @@ use xk_base::Pid;
 #[derive(Clone, Copy)]
 pub struct Name<'a>(pub &'a [u8]);
 
+/// A byte of a name as it is shown.
+fn byte_shown(byte: u8) -> u8
+    ensures byte { result ≡ byte_shown byte }
+    ensures ascii { result < 128 }
+{
+    if byte >= b'!' && byte <= b'~' { byte } else { b'?' }
+}
+
+/// The bytes of a name as they are shown.
+fn show_name<W: fmt::Write>(name: &[u8], f: &mut fmt::Formatter<W>) -> fmt::Result
+    ensures { WritesOnOk W.write_str_gives f.old result (name_shown name.now) f.new }
+{
+    for byte in name {
+        f.write_char(char::from(byte_shown(*byte)))?;
+    }
+    Ok(())
+}
+
 impl<'a> fmt::Display for Name<'a> {
+    ghost output = { λ n. Some (name_shown n.0.now) };
+
     fn fmt<W: fmt::Write>(&self, f: &mut fmt::Formatter<W>) -> fmt::Result {
-        for &byte in self.0 {
-            match byte {
-                b'!'..=b'~' => f.write_char(byte as char)?,
-                _ => f.write_char('?')?,
-            }
-        }
-        Ok(())
+        show_name(self.0, f)
     }
 }
 
