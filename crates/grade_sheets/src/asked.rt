@@ -301,9 +301,9 @@ fn check_of(alloc: Global, rule: &Keys<'_>) -> Result<Check, SheetError> {
     }
 }
 
-// A refusal with the name of its rule.
-fn named(alloc: Global, name: &str, why: &str) -> SheetError {
-    match format!(in alloc; "rule \"{name}\": {why}") {
+// A refusal with the place and the name of its rule.
+fn named(alloc: Global, place: &str, name: &str, why: &str) -> SheetError {
+    match format!(in alloc; "{place}, \"{name}\": {why}") {
         Ok(text) => SheetError::Text(text),
         Err(_) => SheetError::Memory,
     }
@@ -330,7 +330,7 @@ pub(crate) fn read_rule(
             points,
             check,
         }),
-        Err(SheetError::Text(why)) => Err(named(alloc, name.as_str(), why.as_str())),
+        Err(SheetError::Text(why)) => Err(named(alloc, rule.place, name.as_str(), why.as_str())),
         Err(SheetError::Memory) => Err(SheetError::Memory),
     }
 }

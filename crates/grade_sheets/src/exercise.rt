@@ -12,6 +12,9 @@ const RUNS_MAX: u64 = 1_000_000_000;
 /// The most Runs of a round.
 const QUANTUM_MAX: u64 = 1_000_000;
 
+/// What is wrong with a name that can't be that of a file in a folder.
+const NO_NAME: &str = "a name that is empty, begins with a dot, or has a slash or a line's end:";
+
 /// The keys that a run may have, beside its name and its rules.
 const RUN_KEYS: [&str; 7] = [
     "files",
@@ -83,7 +86,7 @@ fn plain_names(alloc: Global, table: &Keys<'_>) -> Result<Vec<String>, SheetErro
     let names = table.texts(alloc, "files")?;
     for name in &names {
         if !is_plain_name(name.as_str()) {
-            return Err(table.refused(alloc, "no names without a slash:", "files"));
+            return Err(table.refused(alloc, NO_NAME, "files"));
         }
     }
     Ok(names)
