@@ -1,5 +1,5 @@
 -- The state that the kernel and its hart stand for, and when the two are sound.
-use Rattle.std.specs.Prelude.{◌≡◌, ℕ, ◌+◌, ◌<◌, ℤ, if◌then◌else◌, List, map, length, Option, Some, None, IsSome, get_or}
+use Rattle.std.specs.Prelude.{◌≡◌, ◌⊎◌, ℕ, ◌+◌, ◌<◌, ℤ, if◌then◌else◌, List, map, length, Option, Some, None, IsSome, get_or}
 use Rattle.std.specs.Ordering.{nat_cmp}
 use Rattle.std.specs.FinMap.{FinMap}
 use Rattle.xk_base.specs.Gathered.{gathered}
@@ -22,6 +22,7 @@ use Rattle.kcall_core.specs.Holdings.{Held, held_at, HasMemory}
 use Rattle.kcall_core.specs.Memories as memories
 use Rattle.kcall_core.specs.Memories.{each_of, pipes_of, free_of, RunsIn}
 use Rattle.kcall_core.specs.declared.kernel.Kernel.{Kernel}
+use Rattle.kcall_core.specs.declared.memories.Memories.{Memories}
 
 -- ---- a process
 
@@ -116,6 +117,10 @@ live_now k h = live_of (place_now k) (descriptors_at k.table (slot_now k)) (held
 abbrev pub IsIdle : Hart → Type 0
 IsIdle h = (h.root ≡ None) × (h.cache ≡ nothing_kept)
 
+-- the hart is parked: it uses the tables of the process in some slot, and what it keeps of them is true
+abbrev pub IsParked : Memories → Hart → Type 0
+IsParked m h = (slot : ℕ) × RunsIn m slot h
+
 -- the process in a slot is live, and the hart runs it
 pub record IsCurrent (k : Kernel) (h : Hart) (slot : ℕ) : Type 0 where
   pub process : Process
@@ -123,7 +128,7 @@ pub record IsCurrent (k : Kernel) (h : Hart) (slot : ℕ) : Type 0 where
   pub live : status_of process ≡ None
   pub runs : RunsIn k.memories slot h
 
--- each frame has one owner; the table is whole; a live process has a memory, and nothing else has; the hart runs the current process, and none where there is none
+-- each frame has one owner; the table is whole; a live process has a memory, and nothing else has; the hart runs the current process; if there is none, it is idle or parked
 pub record IsSound (k : Kernel) (h : Hart) : Type 0 where
   pub memories : memories.AreSound k.memories
   pub table : IsTable k.table
@@ -131,7 +136,7 @@ pub record IsSound (k : Kernel) (h : Hart) : Type 0 where
   pub ended : (slot : ℕ) (p : Process) (status : ℤ) → place_at k.table slot ≡ Some p → status_of p ≡ Some status → get_or (each_of k.memories) slot None ≡ None
   pub vacant : (slot : ℕ) → place_at k.table slot ≡ None → get_or (each_of k.memories) slot None ≡ None
   pub current : (slot : ℕ) → k.current ≡ Some slot → IsCurrent k h slot
-  pub idle : IsStopped k → IsIdle h
+  pub idle : IsStopped k → IsIdle h ⊎ IsParked k.memories h
 
 -- ---- growth
 

@@ -18,7 +18,7 @@ ghost use Rattle.kernel_spec.specs.laws.RowLaws as laws;
 ghost use Rattle.kernel_spec.specs.runs.Run.{Turn, TurnTaken};
 ghost use Rattle.kernel_spec.specs.waking.Wakes.{IsRunnable, IsNearest};
 ghost use Rattle.kcall_core.specs.Holdings.{HasMemory};
-ghost use Rattle.kcall_core.specs.Memories.{each_of};
+ghost use Rattle.kcall_core.specs.Memories.{each_of, RunsIn};
 ghost use Rattle.kcall_core.specs.Kernel.{frame_count, IsStopped, state_of, IsSound, IsRunning, slot_now, pid_now, live_now};
 ghost use Rattle.kcall_core.specs.Machine.{world_of};
 ghost use Rattle.kcall_core.specs.Starts.{HasNoProcess};
@@ -141,7 +141,23 @@ impl Kernel {
         slot
     }
 
-    /// The process that runs stops running, and its registers go into its trapframe: the state is the same.
+    /// The process that runs stops running, and its registers go into its trapframe: the state is the same. The
+    /// hart is parked: it stays with the process's tables, and forgets nothing of them.
+    fn park(&mut self, hart: &Hart)
+        requires sound { IsSound self.old hart.now }
+        requires running { IsRunning self.old }
+        ensures sound { IsSound self.new hart.now }
+        ensures stopped { IsStopped self.new }
+        ensures state { state_of self.new hart.now ≡ state_of self.old hart.now }
+        ensures rest { self.new ≡ record self.old { memories = self.new.memories; current = None } }
+        ensures frames { frame_count self.new ≡ frame_count self.old }
+    {
+        let slot = self.running_slot();
+        self.memories.save(slot, hart.regs());
+        self.current = None;
+    }
+
+    /// The process that runs stops running, as [`park`](Kernel::park) says, and the hart leaves its tables.
     fn suspend(&mut self, hart: &mut Hart)
         requires sound { IsSound self.old hart.old }
         requires running { IsRunning self.old }
@@ -151,13 +167,12 @@ impl Kernel {
         ensures rest { self.new ≡ record self.old { memories = self.new.memories; current = None } }
         ensures frames { frame_count self.new ≡ frame_count self.old }
     {
-        let slot = self.running_slot();
-        self.memories.save(slot, hart.regs());
+        self.park(hart);
         hart.leave();
-        self.current = None;
     }
 
-    /// The live process in a slot runs, and none did before: the state is the same.
+    /// The live process in a slot runs, and none did before: the state is the same. A hart that is parked there
+    /// forgets nothing.
     fn enter(&mut self, hart: &mut Hart, slot: usize)
         requires sound { IsSound self.old hart.old }
         requires stopped { IsStopped self.old }
@@ -165,6 +180,7 @@ impl Kernel {
         ensures sound { IsSound self.new hart.new }
         ensures runs { self.new ≡ record self.old { current = Some slot } }
         ensures state { state_of self.new hart.new ≡ state_of self.old hart.old }
+        ensures kept { RunsIn self.old.memories slot hart.old → hart.new.cache ≡ hart.old.cache }
     {
         self.memories.restore(slot, hart);
         self.current = Some(slot);
@@ -199,7 +215,8 @@ impl Kernel {
     }
 
     /// The turn: of the processes that may run, the one in the next slot after the slot that ran last,
-    /// cyclically, runs from now on. Its pid, or `None` if no process may run.
+    /// cyclically, runs from now on. Its pid, or `None` if no process may run. A hart that is parked at that process
+    /// forgets nothing.
     #[cold]
     #[inline(never)]
     pub fn turn(&mut self, hart: &mut Hart) -> Option<Pid>
@@ -212,6 +229,7 @@ impl Kernel {
         ensures stays { IfNone result (world_of self.new hart.new None ≡ world_of self.old hart.old None) }
         ensures nobody { HasNoProcess self.old → IfNone result (HasNoProcess self.new) }
         ensures frames { frame_count self.new ≡ frame_count self.old }
+        ensures kept { (slot : ℕ) → self.new.current ≡ Some slot → RunsIn self.old.memories slot hart.old → hart.new.cache ≡ hart.old.cache }
     {
         let slot = self.table.next_turn()?;
         self.enter(hart, slot);

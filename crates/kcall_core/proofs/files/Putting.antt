@@ -5,6 +5,7 @@ use Rattle.std.specs.FinMap.{get, insert}
 use Rattle.std.proofs.lemmas.Bool.{eq-eqb, lt-ltb}
 use Rattle.std.proofs.lemmas.Bool.Decides.{eqb_tells}
 use Rattle.std.proofs.lemmas.List.{get_or-set_same, get_or-set_other, length-set}
+use Rattle.std.proofs.lemmas.Option.{none-some}
 use Rattle.xk_base.specs.declared.limits.TheConstants.{NPROC, NOFILE, OPEN_FILES}
 use Rattle.xk_base.specs.Gathered.{gathered}
 use Rattle.sv39_core.proofs.Gathered.{same_pages}
@@ -85,7 +86,7 @@ module _ (k k1 : Kernel) (h : Hart) (slot d g : ℕ) (sound : IsSound k h) (is :
     current = λ j at.
         let c = sound.current j (sym current ∙ at) in
         record { process = c.process; is = put-place j ∙ c.is; live = c.live; runs = shares.runs j h c.runs };
-    idle = λ at. sound.idle (sym current ∙ at);
+    idle = λ at. absurd (none-some slot (sym at ∙ current ∙ is));
   }
 
   put-alone : Alone k k1 slot

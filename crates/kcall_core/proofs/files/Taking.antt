@@ -5,6 +5,7 @@ use Rattle.std.specs.FinMap.{get, insert, remove}
 use Rattle.std.proofs.lemmas.Bool.{eq-eqb}
 use Rattle.std.proofs.lemmas.Bool.Decides.{eqb_tells}
 use Rattle.std.proofs.lemmas.List.{get_or-set_same, get_or-set_other, length-set}
+use Rattle.std.proofs.lemmas.Option.{none-some}
 use Rattle.xk_base.specs.declared.limits.TheConstants.{NPROC, NOFILE, OPEN_FILES}
 use Rattle.xk_base.specs.Gathered.{gathered}
 use Rattle.sv39_core.proofs.Gathered.{same_pages}
@@ -95,7 +96,7 @@ module _ (k k1 : Kernel) (h : Hart) (slot d : ℕ) (sound : IsSound k h) (is : k
     current = λ j at.
         let c = sound.current j (sym current ∙ at) in
         record { process = c.process; is = taken-place j ∙ c.is; live = c.live; runs = shares.runs j h c.runs };
-    idle = λ at. sound.idle (sym current ∙ at);
+    idle = λ at. absurd (none-some slot (sym at ∙ current ∙ is));
   }
 
   taken-alone : Alone k k1 slot

@@ -255,7 +255,7 @@ module _ {k : Kernel} {h : Hart} (whole : IsWhole k h) (runs : IsRunning k) (chi
             let c = d.sound.current j (sym current3 ∙ at) in
             let ne : j ≢ child = λ e. away (same_Some slot child (sym now.current ∙ sym current2 ∙ sym current3 ∙ at ∙ ap Some e)) in
             record { process = c.process; is = place3 j ∙ c.is; live = c.live; runs = saved.runs j h2 ne c.runs };
-        idle = λ at. d.sound.idle (sym current3 ∙ at);
+        idle = λ at. absurd (none-some slot (sym at ∙ current3 ∙ current2 ∙ now.current));
       }
         where
           not-zombie : (q : Process) (status : ℤ) → Some first ≡ Some q → status_of q ≡ Some status → ⊥

@@ -183,7 +183,7 @@ module _ {k : Kernel} {h : Hart} (whole : IsWhole k h) (runs : IsRunning k) (chi
           let c = whole.sound.current j (sym current ∙ at) in
           let ne : j ≢ child = λ e. none-some c.process (sym new.vacant ∙ sym (ap (place_at k.table) e) ∙ c.is) in
           record { process = c.process; is = other j ne ∙ c.is; live = c.live; runs = b.memories.runs j h ne c.runs };
-      idle = λ at. whole.sound.idle (sym current ∙ at);
+      idle = λ at. absurd (none-some slot (sym at ∙ current ∙ now.current));
     }
 
     pub handed-none : IsHanded k h child 0 k1
@@ -321,7 +321,7 @@ module _ {k : Kernel} {h : Hart} (whole : IsWhole k h) (runs : IsRunning k) (chi
           current = λ j at.
               let c = x.sound.current j (sym current2 ∙ at) in
               record { process = c.process; is = put-place j ∙ c.is; live = c.live; runs = joins.shares.runs j h c.runs };
-          idle = λ at. x.sound.idle (sym current2 ∙ at);
+          idle = λ at. absurd (none-some slot (sym at ∙ current2 ∙ ap (λ (w : Kernel). w.current) x.rest ∙ now.current));
         }
 
         lives-there : place_is_live (place_at k1.table child) ≡ true

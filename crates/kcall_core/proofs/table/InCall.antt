@@ -91,7 +91,7 @@ module _ (k : Kernel) (h : Hart) (call : Option Call) (regs : Registers) (sound 
     current = λ j at.
         let slot : slot_now k ≡ j = same_Some (slot_now k) j (sym now.current ∙ at) in
         subst (IsCurrent (calling call k) (moved regs h)) slot (record { process = in_call call now.is.process; is = here; live = live-here; runs = runs-regs k.memories (slot_now k) h regs now.is.runs });
-    idle = sound.idle;
+    idle = λ at. absurd (none-some (slot_now k) (sym at ∙ now.current));
   }
     where
       not-over : (p q : Process) (status : ℤ) → Some p ≡ Some q → status_of p ≡ None → status_of q ≡ Some status → ⊥

@@ -1,5 +1,5 @@
 -- A kernel without processes: what it stands for, and that it is sound.
-use Rattle.std.proofs.Common.{◌≡◌, ℕ, zero, suc, map, replicate, get_or, subst, Option, None, refl, sym, ap, ◌∙◌, arith}
+use Rattle.std.proofs.Common.{◌≡◌, ℕ, zero, suc, map, replicate, get_or, subst, Option, None, inl, refl, sym, ap, ◌∙◌, arith}
 use Rattle.std.specs.Prelude.{option_map}
 use Rattle.std.proofs.lemmas.List.{length-replicate}
 use Rattle.std.specs.FinMap.{empty}
@@ -91,5 +91,5 @@ module _ (k : Kernel) (h : Hart) (table : k.table ≡ no_process 1) where
         ended = λ i p status at over. none i;
         vacant = λ i at. none i;
         current = λ i at. absurd (none-some i (sym stopped ∙ at));
-        idle = λ e. (root, cache);
+        idle = λ e. inl (root, cache);
       }

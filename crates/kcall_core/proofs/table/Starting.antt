@@ -28,10 +28,12 @@ use Rattle.kcall_core.specs.Holdings.{Held, or_nothing, held_at, HasMemory, IsVa
 use Rattle.kcall_core.specs.Memories as memories
 use Rattle.kcall_core.specs.Memories.{held_in, each_of, pipes_of, free_of, SlotChanges, Same}
 use Rattle.kcall_core.specs.declared.memories.Memories.{Memories}
+use Rattle.kcall_core.specs.declared.memories.Memory.{Memory}
 use Rattle.kcall_core.specs.Kernel.{process_of, descriptor_map, entry_of, entry_at, state_of, IsSound}
 use Rattle.kcall_core.specs.declared.kernel.Kernel.{Kernel}
 use Rattle.kcall_core.proofs.table.ByPid.{by_pid-insert}
 use Rattle.kcall_core.proofs.memory.Births.{get_or-same}
+use Rattle.kcall_core.proofs.memory.Changes.{each-at}
 use Rattle.kcall_core.proofs.memory.Lists.{set-twice}
 use Rattle.kcall_core.proofs.table.NoProcess.{no-process-state}
 use Rattle.kcall_core.proofs.table.Stops.{Rest}
@@ -104,6 +106,12 @@ module _ (k k' : Kernel) (h h' : Hart) (l : Loaded) (sound : IsSound k h) (blank
   not-zombie : (p : Process) (status : ℤ) → Some (newborn 1 None) ≡ Some p → status_of p ≡ Some status → ⊥
   not-zombie p status same over = let e : newborn 1 None ≡ p = cc in none-some status (ap status_of e ∙ over)
 
+  no-memory : (j : ℕ) (m : Memory) → get_or k.memories.each.items j None ≡ Some m → ⊥
+  no-memory j m is =
+      let held : get_or (each_of k.memories) j None ≡ held_in k.memories.ram (Some m) = each-at k.memories j ∙ ap (held_in k.memories.ram) is in
+      let none : None ≡ held_in k.memories.ram (Some m) = sym (vacant-slot sound blank j) ∙ held in
+      cc
+
   pub started-sound : h'.root ≡ h.root → h'.cache ≡ h.cache → IsSound k' h'
   started-sound root cache = record {
     memories = changes.sound;
@@ -121,7 +129,10 @@ module _ (k k' : Kernel) (h h' : Hart) (l : Loaded) (sound : IsSound k h) (blank
       | inr ne ↦ memory-other j ne
     ];
     current = λ j at. absurd (none-some j (sym stopped ∙ at));
-    idle = λ e. let idle = sound.idle blank.current in (root ∙ idle.0, cache ∙ idle.1);
+    idle = λ e. elim (sound.idle blank.current) [
+      | inl idle ↦ inl (root ∙ idle.0, cache ∙ idle.1)
+      | inr parked ↦ absurd (no-memory parked.0 parked.1.memory parked.1.is)
+    ];
   }
 
   no-descriptors : descriptors_at k'.table 0 ≡ none_named

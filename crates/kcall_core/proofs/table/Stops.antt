@@ -1,5 +1,5 @@
 -- The process that runs stops running, a process begins to run, and a process ends.
-use Rattle.std.proofs.Common.{◌≡◌, ◌≢◌, ℕ, zero, suc, ◌+◌, ◌<◌, cond, List, [], ◌∷◌, length, set, subst, get_or, Option, Some, None, IsSome, inl, inr, refl, sym, ap, ◌∙◌, arith}
+use Rattle.std.proofs.Common.{◌≡◌, ◌≢◌, ℕ, zero, suc, ◌+◌, ◌<◌, cond, List, [], ◌∷◌, length, set, subst, get_or, Option, Some, None, IsSome, inl, inr, ◌⊎◌, refl, sym, ap, ◌∙◌, arith}
 use Rattle.std.specs.Prelude.{map, ℤ, option_map, is_none, IsTrue}
 use Rattle.std.specs.FinMap.{insert}
 use Rattle.std.proofs.lemmas.Bool.{cases_eq, eq-eqb, false≢true}
@@ -9,8 +9,10 @@ use Rattle.xk_base.specs.Gathered.{gathered}
 use Rattle.xk_base.specs.Image.{price}
 use Rattle.xk_base.specs.declared.limits.TheConstants.{NPROC, OPEN_FILES}
 use Rattle.rv64i_core.specs.Registers.{Registers}
+use Rattle.hart_core.specs.Steps.{FitsHart}
 use Rattle.hart_core.specs.Translations.{nothing_kept}
 use Rattle.hart_core.specs.declared.hart.Hart.{Hart}
+use Rattle.hart_core.proofs.Caches.{fits_hart}
 use Rattle.file_table.specs.OpenFiles.{open_file_at}
 use Rattle.proc_table.specs.Processes.{status_of, ended}
 use Rattle.proc_table.specs.Slots.{Slots, place_at, descriptors_at, place_is_live, IsLiveAt, IsTable, changed_at}
@@ -23,8 +25,9 @@ use Rattle.kernel_spec.specs.views.ByPid.{by_pid}
 use Rattle.kernel_spec.specs.steps.Updates.{give_frames, end_process}
 use Rattle.kcall_core.specs.Holdings.{Held, or_nothing, held_at, HasMemory, with_saved, held_cost}
 use Rattle.kcall_core.specs.Memories.{each_of, pipes_of, free_of, SlotChanges}
-use Rattle.kcall_core.specs.Kernel.{process_of, regs_at, entry_of, entry_at, state_of, or_nobody, slot_now, place_now, pid_now, live_now, IsCurrent, IsSound}
+use Rattle.kcall_core.specs.Kernel.{process_of, regs_at, entry_of, entry_at, state_of, or_nobody, slot_now, place_now, pid_now, live_now, IsIdle, IsParked, IsCurrent, IsSound}
 use Rattle.kcall_core.specs.declared.kernel.Kernel.{Kernel}
+use Rattle.kcall_core.specs.declared.memories.Memories.{Memories}
 use Rattle.kcall_core.proofs.table.ByPid.{by_pid-same}
 use Rattle.kcall_core.proofs.memory.Changes.{some-inside}
 use Rattle.kcall_core.proofs.table.States.{Alone, alone-entries, slot-inside, slot-state, not-this}
@@ -98,8 +101,8 @@ suspended-state k k' h h' i sound is changes table stopped rest =
     }
 
 pub suspended-sound : (k k' : Kernel) (h h' : Hart) (i : ℕ) (x : Held) → IsSound k h → k.current ≡ Some i
-    → SlotChanges k.memories k'.memories i (Some x) → k'.table ≡ k.table → k'.current ≡ None → h'.root ≡ None → h'.cache ≡ nothing_kept → IsSound k' h'
-suspended-sound k k' h h' i x sound is changes table stopped root cache =
+    → SlotChanges k.memories k'.memories i (Some x) → k'.table ≡ k.table → k'.current ≡ None → IsIdle h' ⊎ IsParked k'.memories h' → IsSound k' h'
+suspended-sound k k' h h' i x sound is changes table stopped idle =
     let now = sound.current i is in
     let here : get_or (each_of k'.memories) i None ≡ Some x = ap (λ l. get_or l i None) changes.each ∙ get_or-set_same (each_of k.memories) i (Some x) None (now-inside i sound is) in
     let other : (j : ℕ) → j ≢ i → get_or (each_of k'.memories) j None ≡ get_or (each_of k.memories) j None =
@@ -121,13 +124,42 @@ suspended-sound k k' h h' i x sound is changes table stopped root cache =
         | inr ne ↦ other j ne ∙ sound.vacant j (sym (place j) ∙ at)
       ];
       current = λ j at. absurd (none-some j (sym stopped ∙ at));
-      idle = λ e. (root, cache);
+      idle = λ e. idle;
     }
   where
     not-over : (p q : Process) (status : ℤ) → Some p ≡ Some q → status_of q ≡ None → status_of p ≡ Some status → ⊥
     not-over p q status same live over = let e : p ≡ q = cc in none-some status (sym live ∙ sym (ap status_of e) ∙ over)
 
+-- if nobody runs, another hart does for the kernel as well, as long as it is idle
+pub left-sound : (k : Kernel) (h h' : Hart) → IsSound k h → k.current ≡ None → IsIdle h' → IsSound k h'
+left-sound k h h' sound stopped idle = record {
+  memories = sound.memories;
+  table = sound.table;
+  lives = sound.lives;
+  ended = sound.ended;
+  vacant = sound.vacant;
+  current = λ j at. absurd (none-some j (sym stopped ∙ at));
+  idle = λ e. inl idle;
+}
+
+pub left-state : (k : Kernel) (h h' : Hart) → k.current ≡ None → state_of k h' ≡ state_of k h
+unfolding state_of
+left-state k h h' stopped = λ t. record (state_of k h) { processes = by_pid-same (entry_at k h) (entry_at k h') NPROC (λ j. same j (place_at k.table j)) t }
+  where
+    same : (j : ℕ) (o : Option Process) → entry_of k h' j o ≡ entry_of k h j o
+    same j None = refl
+    same j (Some p) =
+        let files = descriptors_at k.table j in
+        let held = held_at (each_of k.memories) j in
+        ap (λ b. Some (p.pid, process_of p files held (cond b h'.regs held.saved))) (ap (is_this j) stopped)
+        ∙ sym (ap (λ b. Some (p.pid, process_of p files held (cond b h.regs held.saved))) (ap (is_this j) stopped))
+
 -- ---- entered
+
+-- what an idle or a parked hart keeps is true of the tables that it uses
+pub rests-fit : (m : Memories) (h : Hart) → IsIdle h ⊎ IsParked m h → FitsHart m.ram h.root h.cache
+rests-fit m h (inl idle) = subst (λ o. FitsHart m.ram o h.cache) (sym idle.0) idle.1
+rests-fit m h (inr (slot, runs)) = fits_hart m.ram h.root runs.memory.space.root h.cache runs.root runs.fits
 
 pub entered-state : (k k' : Kernel) (h h' : Hart) (i : ℕ) (p : Process) → IsSound k h → k.current ≡ None → place_at k.table i ≡ Some p
     → h'.regs ≡ (held_at (each_of k.memories) i).saved → k'.memories ≡ k.memories → k'.table ≡ k.table → k'.current ≡ Some i → Rest k k'
@@ -222,7 +254,7 @@ module _ {k : Kernel} (k' : Kernel) {h : Hart} (h' : Hart) {i : ℕ} (status : �
       | inr ne ↦ gone-memory j ne ∙ sound.vacant j (sym (gone-other j ne) ∙ at)
     ];
     current = λ j at. absurd (none-some j (sym stopped ∙ at));
-    idle = λ e. (root, cache);
+    idle = λ e. inl (root, cache);
   }
     where
       over-not : (p : Process) → Some (ended status (sound.current i is).process) ≡ Some p → status_of p ≡ None → ⊥

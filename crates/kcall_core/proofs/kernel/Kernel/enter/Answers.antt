@@ -1,6 +1,9 @@
 use Rattle.std.proofs.Common.{refl}
-use Rattle.kcall_core.proofs.table.Stops.{entered-state}
+use Rattle.kcall_core.proofs.table.Stops.{rests-fit, entered-state}
 use Rattle.kcall_core.proofs.kernel.Kernel.enter.Goals as goal
+
+pub restore-requires-clause-fits : goal.restore-requires-clause-fits
+restore-requires-clause-fits c = rests-fit c.args.self.now.memories c.args.hart.now (c.requires.sound.idle c.requires.stopped)
 
 pub returns-clause-state : goal.returns-clause-state
 returns-clause-state c =

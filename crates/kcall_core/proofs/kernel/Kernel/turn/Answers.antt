@@ -1,6 +1,8 @@
-use Rattle.std.proofs.Common.{◌≡◌, length, Some, refl, sym, ap, ◌∙◌, subst}
+use Rattle.std.proofs.Common.{◌≡◌, ℕ, length, Some, refl, sym, ap, ◌∙◌, subst}
 use Rattle.std.specs.Prelude.{IsSome}
+use Rattle.std.proofs.lemmas.Option.{same_Some, none-some}
 use Rattle.proc_table.specs.Slots.{Slots, place_at, pid_at}
+use Rattle.kcall_core.specs.Memories.{RunsIn}
 use Rattle.kcall_core.specs.declared.kernel.Kernel.{Kernel}
 use Rattle.kcall_core.proofs.turns.Chosen.{chosen, noted-sound, noted-state}
 use Rattle.kcall_core.proofs.turns.NextTurn.{runs-in, with_turn, nobody, turned-whole, turned-world, turned-nearest}
@@ -53,3 +55,11 @@ returns-clause-frames c =
 
 pub returns-in_err-slot-clause-idle : goal.returns-in_err-slot-clause-idle
 returns-in_err-slot-clause-idle c = rw c.from_residual.ensures (nobody c.args.self.now c.args.hart.now c.requires.whole.sound.table c.in_err-slot.ensures.nearest)
+
+pub returns-clause-kept : goal.returns-clause-kept
+returns-clause-kept c = λ slot current runs.
+    let same : slot ≡ c.in_ok-slot.slot = same_Some slot c.in_ok-slot.slot (sym current ∙ ap (λ (x : Kernel). x.current) c.enter.ensures.runs) in
+    c.enter.ensures.kept (subst (λ (n : ℕ). RunsIn c.args.self.now.memories n c.args.hart.now) same runs)
+
+pub returns-in_err-slot-clause-kept : goal.returns-in_err-slot-clause-kept
+returns-in_err-slot-clause-kept c = λ slot current runs. absurd (none-some slot (sym c.requires.stopped ∙ current))
