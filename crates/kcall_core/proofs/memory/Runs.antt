@@ -55,6 +55,16 @@ grown-runs {old} {i} {m} refusal new space' s (Ok u) changed stay refused each h
 grown-runs {old} {i} {m} refusal new space' s (Err e) changed stay refused each hart r =
     runs-on new space' s (ap (λ (x : Space). x.root) refused.1.same_space) (same-translations old.ram new.ram m.space.root refused.1.same_ram) each hart r
 
+-- a hart that uses the slot's tables, and what it keeps is true of the tables that it uses
+pub runs-there : {m : Memories} {i : ℕ} {memory : Memory} → Stands m i memory → (hart : Hart) → hart.root ≡ Some memory.space.root
+    → FitsHart m.ram hart.root hart.cache → RunsIn m i hart
+runs-there {m} {i} {memory} s hart root fits = record {
+  memory = memory;
+  is = s.is;
+  root = root;
+  fits = fits_root m.ram hart.root memory.space.root hart.cache root fits;
+}
+
 -- a hart that was switched to the slot's tables
 pub switched-runs : {old : Memories} {i : ℕ} {m : Memory} (new : Memories) (space' : Space) → Stands old i m
     → new.each.items ≡ set old.each.items i (Some (record { space = space'; trapframe = m.trapframe })) → (hart : Hart)

@@ -1,12 +1,11 @@
-use Rattle.std.proofs.Common.{◌≡◌, Some, sym, ap, ◌∙◌, subst}
+use Rattle.std.proofs.Common.{Some, sym, ap, ◌∙◌, subst}
 use Rattle.std.proofs.lemmas.Bool.{false≢true}
 use Rattle.hart_core.specs.Steps.{FitsHart}
 use Rattle.hart_core.specs.declared.hart.Hart.{Hart}
-use Rattle.hart_core.proofs.Caches.{fits_root}
 use Rattle.kcall_core.specs.Holdings.{Held}
 use Rattle.kcall_core.proofs.memory.Changes.{trapframe-inside, held-seen}
 use Rattle.kcall_core.proofs.memory.Registers.{aligned-saved}
-use Rattle.kcall_core.proofs.memory.Runs.{runs-root}
+use Rattle.kcall_core.proofs.memory.Runs.{runs-root, runs-there}
 use Rattle.kcall_core.proofs.memories.Memories.restore.Goals as goal
 
 pub restore-requires-clause-frame_in : goal.restore-requires-clause-frame_in
@@ -22,10 +21,9 @@ returns-then-uses_tables-clause-regs c = ap (λ (h : Hart). h.regs) c.restore.en
 
 pub returns-then-uses_tables-clause-runs : goal.returns-then-uses_tables-clause-runs
 returns-then-uses_tables-clause-runs c =
-    let s = c.memory-memory.ensures in
-    let root : c.restore.new.self.root ≡ Some c.memory-memory.result.now.space.root = c.uses_tables.ensures.same c.if-uses_tables.true ∙ ap Some c.root-root.ensures in
-    let fits : FitsHart c.args.self.now.ram c.restore.new.self.root c.restore.new.self.cache = subst (λ (h : Hart). FitsHart c.args.self.now.ram h.root h.cache) (sym c.restore.ensures) c.requires.fits in
-    record { memory = c.memory-memory.result.now; is = s.is; root = root; fits = fits_root c.args.self.now.ram c.restore.new.self.root c.memory-memory.result.now.space.root c.restore.new.self.cache root fits }
+    let root = c.uses_tables.ensures.same c.if-uses_tables.true ∙ ap Some c.root-root.ensures in
+    let fits = subst (λ (h : Hart). FitsHart c.args.self.now.ram h.root h.cache) (sym c.restore.ensures) c.requires.fits in
+    runs-there c.memory-memory.ensures c.restore.new.self root fits
 
 pub returns-then-uses_tables-clause-kept : goal.returns-then-uses_tables-clause-kept
 returns-then-uses_tables-clause-kept c = λ runs. ap (λ (h : Hart). h.cache) c.restore.ensures
@@ -37,9 +35,8 @@ returns-clause-regs c =
 
 pub returns-clause-runs : goal.returns-clause-runs
 returns-clause-runs c =
-    let s = c.memory-memory.ensures in
-    let root : c.switch.new.self.root ≡ Some c.memory-memory.result.now.space.root = ap (λ (h : Hart). h.root) c.switch.ensures.value ∙ ap Some c.root-root.ensures in
-    record { memory = c.memory-memory.result.now; is = s.is; root = root; fits = fits_root c.args.self.now.ram c.switch.new.self.root c.memory-memory.result.now.space.root c.switch.new.self.cache root (c.switch.ensures.fits c.args.self.now.ram) }
+    let root = ap (λ (h : Hart). h.root) c.switch.ensures.value ∙ ap Some c.root-root.ensures in
+    runs-there c.memory-memory.ensures c.switch.new.self root (c.switch.ensures.fits c.args.self.now.ram)
 
 pub returns-clause-kept : goal.returns-clause-kept
 returns-clause-kept c = λ runs.
