@@ -2,6 +2,7 @@
 pub mod AloneMakes
 pub mod Answered
 pub mod Blocked
+pub mod Buffers
 pub mod CallAnswers
 pub mod ConsoleMakes
 pub mod Filing

@@ -7,6 +7,7 @@ pub mod ObservedPipes
 pub mod Observers
 pub mod Opens
 pub mod Machine
+pub mod Buffers
 pub mod Whole
 pub mod Room
 pub mod Makes

@@ -20,6 +20,7 @@ use Rattle.kernel_spec.specs.waking.Wakes.{NoReadySleeper}
 use Rattle.kernel_spec.specs.waking.Conditions.{waits_for}
 use Rattle.kcall_core.specs.Kernel.{frame_count, state_of, IsSound}
 use Rattle.kcall_core.specs.Machine.{world_of}
+use Rattle.kcall_core.specs.Buffers.{KeepBuffers}
 use Rattle.kcall_core.specs.declared.kernel.Kernel.{Kernel}
 use Rattle.kernel_spec.specs.waking.SleepsOn.{is_for}
 
@@ -60,3 +61,5 @@ pub record IsWhole (k : Kernel) (h : Hart) : Type 0 where
   pub awake : (slot : ℕ) (p : Process) → k.current ≡ Some slot → Holds k.table slot p → channel_of p ≡ None
   -- no process sleeps that could go on
   pub unready : NoReadySleeper (world_of k h None)
+  -- a read or a write in progress that has moved bytes still has its whole buffer
+  pub buffers : KeepBuffers (state_of k h)

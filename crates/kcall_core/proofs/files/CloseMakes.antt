@@ -49,6 +49,7 @@ use Rattle.kernel_spec.proofs.steps.DupCloseLawsHold.{close_law, close_pipe_law}
 use Rattle.kernel_spec.proofs.rows.Decoding.{close_case}
 use Rattle.kcall_core.proofs.files.AllClosed.{same-pid}
 use Rattle.kcall_core.proofs.files.PipeOpens.{opens-on-pipes, fewer-wake}
+use Rattle.kcall_core.proofs.making.Buffers.{no-call-keeps}
 use Rattle.kcall_core.proofs.making.Filing.{Filed, filed-makes}
 use Rattle.kernel_spec.proofs.rows.RowParts.{close_at, close_number, close_on}
 use Rattle.kernel_spec.proofs.rows.RowsByParts.{close_same}
@@ -206,6 +207,7 @@ module _ (k : Kernel) (h : Hart) (c : Call) (d g : ℕ) (x : OpenFile) (whole : 
       others = λ j apart. its-place.others j apart ∙ place1 j;
       state = after-state;
       well = well-after;
+      buffer = no-call-keeps None l.image refl;
       targets = inr files-ok;
       opens = opens-on-pipes s p l (with_answer (pos 0) (with_closed d l)) left ends free wakes was refl (fewer-wake (Some x.target) s.pipes);
       waits = λ on is. absurd (none-some on is);

@@ -45,6 +45,7 @@ use Rattle.kernel_spec.proofs.steps.FileLawsHold.{read_is, read_takes, read_wait
 use Rattle.kcall_core.proofs.turns.StepSlots.{KeepsAll}
 use Rattle.kcall_core.proofs.making.CallAnswers.{IsDone}
 use Rattle.kcall_core.proofs.making.Prepared.{over}
+use Rattle.kcall_core.proofs.making.Buffers.{unmoved-keeps}
 use Rattle.kcall_core.proofs.making.Midway.{WakeOn, IsAsleep, midway-done, midway-sleeps}
 use Rattle.kcall_core.proofs.making.Moved.{still, moved-sound, moved-midway, sleeps-unready}
 
@@ -123,7 +124,7 @@ module _ {k : Kernel} {h : Hart} {c : Call} {f n : ℕ} (whole : IsWhole k h) (r
 
     pub read-waits : (k' : Kernel) (h' : Hart) → c.number ≡ pos 5 → l.killed ≡ false → l.call ≡ Some c → IsAsleep k h d (on.Bytes f) k' h' → Makes k h (read c v) k' h'
     read-waits k' h' number unmarked busy slept =
-        midway-sleeps whole runs (still whole runs) k' h' d (on.Bytes f) (read c v) c.number slept waits-answer waits-keeps waits-law (for-bytes number, unready number unmarked busy)
+        midway-sleeps whole runs (still whole runs) k' h' d (on.Bytes f) (read c v) c.number slept (unmoved-keeps d l.image refl) waits-answer waits-keeps waits-law (for-bytes number, unready number unmarked busy)
 
   -- ---- it takes what is there
 

@@ -48,6 +48,7 @@ use Rattle.kcall_core.proofs.memory.PipeRest.{next-read, rest-read}
 use Rattle.kcall_core.proofs.turns.StepSlots.{KeepsAll}
 use Rattle.kcall_core.proofs.making.CallAnswers.{IsDone}
 use Rattle.kcall_core.proofs.making.Prepared.{over}
+use Rattle.kcall_core.proofs.making.Buffers.{write-keeps}
 use Rattle.kcall_core.proofs.making.Midway.{WakeOn, Midway, IsAsleep, midway-done, midway-sleeps}
 use Rattle.kcall_core.proofs.making.Moved.{moved-sound, moved-midway, sleeps-unready}
 
@@ -261,5 +262,6 @@ module _ {k : Kernel} {h : Hart} {c : Call} {f n : ℕ} (whole : IsWhole k h) (r
               → IsAsleep k1 h (record c { moved = moved }) (on.Room f) k' h' → Makes k h (write c v) k' h'
           write-waits k' h' number unmarked busy slept =
               midway-sleeps whole runs mid k' h' d (on.Room f) (write c v) c.number
-              (subst (λ z. IsAsleep k1 h (record c { moved = z }) (on.Room f) k' h') same-moved slept) waits-answer waits-keeps waits-law
+              (subst (λ z. IsAsleep k1 h (record c { moved = z }) (on.Room f) k' h') same-moved slept)
+              (write-keeps c (now_moved c x.pipe n) l.image n number x.buffer) waits-answer waits-keeps waits-law
               (for-room number, unready number unmarked busy)

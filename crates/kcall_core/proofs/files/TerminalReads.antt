@@ -47,6 +47,7 @@ use Rattle.kernel_spec.proofs.well.WellLaws as well
 use Rattle.kcall_core.proofs.memory.PipeRest.{next-at, rest-reached}
 use Rattle.kcall_core.proofs.turns.StepSlots.{KeepsAll}
 use Rattle.kcall_core.proofs.making.CallAnswers.{IsDone}
+use Rattle.kcall_core.proofs.making.Buffers.{read-keeps}
 use Rattle.kcall_core.proofs.making.Midway.{WakeOn, IsAsleep, midway-done, midway-sleeps}
 use Rattle.kcall_core.proofs.making.Moved.{nobody, sleeps-unready}
 use Rattle.kcall_core.proofs.files.MovingRows.{shown-at, shown-there}
@@ -251,4 +252,4 @@ module _ {k : Kernel} {h : Hart} {c : Call} {n : ℕ} (whole : IsWhole k h) (run
         line-waits k' h' moved is number unmarked busy slept =
             midway-sleeps whole runs (moving-midway whole runs moving) k' h' d on.Keys (read c v) c.number
             (subst (λ (z : Kernel × ℕ). IsAsleep z.0 h (record c { moved = z.1 }) on.Keys k' h') (λ i. (kernel-is i, (is ∙ told-count) i)) slept)
-            waits-answer waits-keeps waits-law (for-keys number, unready number unmarked busy)
+            (read-keeps c count l.image n (c.a1 + c.moved) line.taken number x.on.buffer) waits-answer waits-keeps waits-law (for-keys number, unready number unmarked busy)

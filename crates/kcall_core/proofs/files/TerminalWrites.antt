@@ -41,6 +41,7 @@ use Rattle.kernel_spec.proofs.Common.{the_value}
 use Rattle.kcall_core.proofs.memory.PipeRest.{next-read, rest-read}
 use Rattle.kcall_core.proofs.turns.StepSlots.{KeepsAll}
 use Rattle.kcall_core.proofs.making.CallAnswers.{IsDone}
+use Rattle.kcall_core.proofs.making.Buffers.{write-keeps}
 use Rattle.kcall_core.proofs.making.Midway.{WakeOn, IsAsleep, midway-done, midway-sleeps}
 use Rattle.kcall_core.proofs.making.Moved.{nobody, sleeps-unready}
 use Rattle.kcall_core.proofs.files.MovingRows.{shown-at, shown-there}
@@ -226,4 +227,4 @@ module _ {k : Kernel} {h : Hart} {c : Call} {n : ℕ} (whole : IsWhole k h) (run
       send-waits k' h' moved is number unmarked busy slept =
           midway-sleeps whole runs (moving-midway whole runs moving) k' h' d on.Sending (write c v) c.number
           (subst (λ (z : Kernel × ℕ). IsAsleep z.0 h (record c { moved = z.1 }) on.Sending k' h') (λ i. (kernel-is i, (is ∙ told-moves) i)) slept)
-          waits-answer waits-keeps waits-law (for-sending number, unready number unmarked busy)
+          (write-keeps c moves l.image n number x.on.buffer) waits-answer waits-keeps waits-law (for-sending number, unready number unmarked busy)

@@ -30,6 +30,7 @@ use Rattle.kernel_spec.specs.laws.RowLaws.{After}
 use Rattle.kcall_core.specs.Kernel.{state_of, IsSound, IsRunning, or_nobody, slot_now, place_now, pid_now, live_now, frame_count}
 use Rattle.kcall_core.specs.Machine.{turns_of, world_of}
 use Rattle.kcall_core.specs.Whole.{IsWhole, AreCounted}
+use Rattle.kcall_core.specs.Buffers.{KeepsBuffer}
 use Rattle.kernel_spec.specs.waking.SleepsOn.{is_for}
 use Rattle.kcall_core.specs.declared.kernel.Kernel.{Kernel}
 use Rattle.kernel_spec.specs.views.Words.{word, or_zero}
@@ -45,6 +46,7 @@ use Rattle.kernel_spec.proofs.steps.AloneLawsHold.{alone_law, by_own, mid_after,
 use Rattle.kernel_spec.proofs.steps.ChangeIsSeen.{view_alone}
 use Rattle.kcall_core.proofs.turns.WhoRuns.{place-is, place-lives, now-is}
 use Rattle.kcall_core.proofs.turns.StepSlots.{KeepsAll, slots-kept}
+use Rattle.kcall_core.proofs.making.Buffers.{no-call-keeps, changed-buffers}
 use Rattle.kcall_core.proofs.making.Making.{Itself, Others, Leaves, leaves-whole, made}
 
 -- what the records below have in common: process `after` stands where the process that runs stood, and sleeps on this channel, if any
@@ -61,6 +63,7 @@ record ItsStep (k : Kernel) (h : Hart) (k' : Kernel) (h' : Hart) (after : Proces
   frames : frame_count k' ≡ frame_count k
   state : state_of k' h' ≡ alone_state (pid_now k) (record (live_now k h) { regs = regs; image = image; call = call }) (state_of k h).console free (state_of k h)
   paid : free + (price image + 1) ≡ (state_of k h).free + (price (live_now k h).image + 1)
+  buffer : KeepsBuffer call image
   waits : (c : Channel) → on ≡ Some c
       → (is_for (waits_for (state_of k' h') (pid_now k) (record (live_now k h) { regs = regs; image = image; call = call })) c ≡ true)
       × (ready (view_of (state_of k' h') (pid_now k) (record (live_now k h) { regs = regs; image = image; call = call })) ≡ false)
@@ -124,6 +127,7 @@ module _ {k : Kernel} {h : Hart} {k' : Kernel} {h' : Hart} {after : Process} {on
     files = subst files.IsTable (sym x.files) whole.files;
     counted = subst (λ f. AreCounted f k'.table) (sym x.files) (place-counted x.place whole.counted);
     frames = x.frames;
+    buffers = changed-buffers s t pid next (ap (λ (u : State). u.processes) x.state) x.buffer whole.buffers;
     itself = itself;
     others = others;
   }
@@ -154,6 +158,7 @@ pub record OnlyItself (k : Kernel) (h : Hart) (k' : Kernel) (h' : Hart) : Type 0
   pub frames : length k'.memories.ram ≡ length k.memories.ram
   pub state : state_of k' h' ≡ alone_state (pid_now k) (record (live_now k h) { regs = regs; image = image; call = call }) (state_of k h).console free (state_of k h)
   pub paid : free + (price image + 1) ≡ (state_of k h).free + (price (live_now k h).image + 1)
+  pub buffer : KeepsBuffer call image
 
 module _ {k : Kernel} {h : Hart} {k' : Kernel} {h' : Hart} (whole : IsWhole k h) (runs : IsRunning k) (x : OnlyItself k h k' h') where
   abbrev goes_on_so : Process
@@ -177,6 +182,7 @@ module _ {k : Kernel} {h : Hart} {k' : Kernel} {h' : Hart} (whole : IsWhole k h)
         frames = x.frames;
         state = x.state;
         paid = x.paid;
+        buffer = x.buffer;
         waits = λ c is. absurd (none-some c is);
       }
 
@@ -225,6 +231,7 @@ answered-only {k} {h} {k'} {h'} {value} {regs} {image} {free} x = record {
   frames = x.frames;
   state = x.state;
   paid = x.paid;
+  buffer = no-call-keeps None image refl;
 }
 
 -- with other registers, another image and other free frames before its answer
@@ -299,6 +306,7 @@ pub record IsWaiting (k : Kernel) (h : Hart) (k' : Kernel) (h' : Hart) (call : C
   pub frames : length k'.memories.ram ≡ length k.memories.ram
   pub state : state_of k' h' ≡ alone_state (pid_now k) (record (live_now k h) { image = image; call = Some call }) (state_of k h).console free (state_of k h)
   pub paid : free + (price image + 1) ≡ (state_of k h).free + (price (live_now k h).image + 1)
+  pub buffer : KeepsBuffer (Some call) image
   pub waits : is_for (waits_for (state_of k' h') (pid_now k) (record (live_now k h) { image = image; call = Some call })) channel ≡ true
   pub unready : ready (view_of (state_of k' h') (pid_now k) (record (live_now k h) { image = image; call = Some call })) ≡ false
 
@@ -338,6 +346,7 @@ module _ {k : Kernel} {h : Hart} {k' : Kernel} {h' : Hart} {call : Call} {image 
     frames = x.frames;
     state = x.state;
     paid = x.paid;
+    buffer = x.buffer;
     waits = λ c is.
         let l : Live = record (live_now k h) { image = image; call = Some call } in
         subst (λ (d : Channel). (is_for (waits_for (state_of k' h') (pid_now k) l) d ≡ true) × (ready (view_of (state_of k' h') (pid_now k) l) ≡ false)) (same_Some channel c is) (x.waits, x.unready);

@@ -22,6 +22,7 @@ use Rattle.kcall_core.specs.declared.call_end.CallEnd.{CallEnd}
 use Rattle.kernel_spec.proofs.steps.AloneLawsHold as law
 use Rattle.kcall_core.proofs.table.InCall.{calling, moved, is-in-call}
 use Rattle.kcall_core.proofs.turns.Turned.{live-is}
+use Rattle.kcall_core.proofs.making.Buffers.{unmoved-keeps}
 use Rattle.kcall_core.proofs.making.AloneMakes.{OnlyItself, only-pid, only-whole, answer-makes, mid-makes}
 
 -- ---- a call that is done at once
@@ -92,6 +93,7 @@ module _ {k : Kernel} {h : Hart} {c : Call} {k' : Kernel} {h' : Hart} (whole : I
     frames = ap (λ (y : Kernel). length y.memories.ram) x.kernel;
     state = x.state ∙ ap (λ (d : Call). own_state (pid_now k) (record (live_now k h) { regs = with_pc (live_now k h).regs (after (live_now k h).regs); call = Some d }) (state_of k h)) (sym x.call);
     paid = refl;
+    buffer = unmoved-keeps c (live_now k h).image (ap (λ (d : Call). d.moved) x.call);
   }
 
   pub begun-whole : IsWhole k' h'

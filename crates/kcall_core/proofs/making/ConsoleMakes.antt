@@ -28,6 +28,7 @@ use Rattle.kcall_core.specs.Starts.{HasNoProcess}
 use Rattle.kcall_core.specs.Kernel.{frame_count, state_of, IsSound, or_nobody, slot_now, pid_now}
 use Rattle.kcall_core.specs.Machine.{slots_of, sleepers_below, turns_of, world_of}
 use Rattle.kernel_spec.specs.views.Words.{or_zero}
+use Rattle.kcall_core.specs.Buffers.{KeepBuffers}
 use Rattle.kcall_core.specs.Whole.{IsWhole, AreCounted, namings}
 use Rattle.kernel_spec.specs.waking.SleepsOn.{is_for}
 use Rattle.kcall_core.specs.declared.kernel.Kernel.{Kernel}
@@ -192,6 +193,7 @@ module _ {k : Kernel} {console : Console} {wakes : Channel → Bool} {k' : Kerne
     channels = on-channels whole sound sleeping;
     awake = awake;
     unready = unready whole sound sleeping;
+    buffers = subst KeepBuffers (sym state) whole.buffers;
   }
 
   pub console-stirs : (halted : Option ℤ) → IsButWoken (turns_of k halted) (turns_of k' halted)

@@ -28,6 +28,7 @@ use Rattle.kernel_spec.specs.laws.RowLaws.{After, FilesLeft}
 use Rattle.kcall_core.specs.Kernel.{frame_count, state_of, IsSound, IsRunning, or_nobody, slot_now, pid_now, live_now}
 use Rattle.kcall_core.specs.Machine.{slots_of}
 use Rattle.kcall_core.specs.Whole.{IsWhole, AreCounted}
+use Rattle.kcall_core.specs.Buffers.{KeepsBuffer}
 use Rattle.kernel_spec.specs.waking.SleepsOn.{is_for}
 use Rattle.kcall_core.specs.Makes.{Makes}
 use Rattle.kcall_core.specs.declared.kernel.Kernel.{Kernel}
@@ -38,6 +39,7 @@ use Rattle.kernel_spec.proofs.waking.WaitsOn.{waits_stay}
 use Rattle.kcall_core.proofs.turns.StepSlots.{KeepsAll, same-pid, slots-kept}
 use Rattle.kcall_core.proofs.table.Woken.{woken-channel}
 use Rattle.kcall_core.proofs.making.Sleepers.{changed-stays, changed-slept}
+use Rattle.kcall_core.proofs.making.Buffers.{changed-buffers}
 use Rattle.kcall_core.proofs.making.Making.{Itself, Others, made}
 
 -- The state after it: process p is m, with these open files, pipes, console and free frames
@@ -58,6 +60,8 @@ pub record Filed (k : Kernel) (h : Hart) (k' : Kernel) (h' : Hart) (o : Own) (wa
   -- the state
   pub state : state_of k' h' ≡ changed_state (pid_now k) m left ends console free (state_of k h)
   pub well : WellFormed (frame_count k) (changed_state (pid_now k) m left ends console free (state_of k h))
+  -- if it is in a read or a write that has moved bytes, its buffer is there
+  pub buffer : KeepsBuffer m.call m.image
   pub targets : KeepsTargets (state_of k h) (pid_now k) left ⊎ FilesLeft (state_of k h) (changed_state (pid_now k) m left ends console free (state_of k h))
   -- who waits for something that was shut wakes exactly where it is open now
   pub opens : (c : Condition) (channel : Channel) → is_for c channel ≡ true → is_open (state_of k h) c ≡ false
@@ -130,6 +134,7 @@ module _ {k : Kernel} {h : Hart} {k' : Kernel} {h' : Hart} {o : Own} {wakes : Ch
       files = x.table;
       counted = x.counted;
       frames = x.frames;
+      buffers = changed-buffers s (state_of k' h') p m (ap (λ (u : State). u.processes) x.state) x.buffer whole.buffers;
       itself = itself;
       others = others;
     };

@@ -31,6 +31,7 @@ use Rattle.kcall_core.specs.Memories.{each_of, step_in, Steps}
 use Rattle.kcall_core.specs.Kernel.{state_of, live_of, IsSound, IsRunning, or_nobody, slot_now, place_now, pid_now, live_now}
 use Rattle.kcall_core.specs.Machine.{turns_of}
 use Rattle.kcall_core.specs.Whole.{IsWhole}
+use Rattle.kcall_core.specs.Buffers.{KeepBuffers}
 use Rattle.kernel_spec.specs.waking.SleepsOn.{is_for}
 use Rattle.kcall_core.specs.Makes.{Makes, Stays, view_now}
 use Rattle.kcall_core.specs.declared.kernel.Kernel.{Kernel}
@@ -44,6 +45,7 @@ use Rattle.kernel_spec.proofs.well.WellLaws.{stores_take_nothing}
 use Rattle.kernel_spec.proofs.steps.AloneLawsHold.{begins, before-next, instruction}
 use Rattle.kernel_spec.proofs.memory.OnAbsent.{next_of_stop}
 use Rattle.kcall_core.proofs.turns.StepSlots.{KeepsAll}
+use Rattle.kcall_core.proofs.making.Buffers.{no-call-keeps}
 use Rattle.kcall_core.proofs.making.AloneMakes.{OnlyItself, only-makes}
 
 -- the process after a step
@@ -80,6 +82,7 @@ module _ (k : Kernel) (m : Memories) (h h' : Hart) (whole : IsWhole k h) (frames
     channels = subst (SleepSo k.table) (sym same) whole.channels;
     awake = whole.awake;
     unready = λ q v asleep see. whole.unready q v asleep (sym (ap (λ (s : State). view s q) same) ∙ see);
+    buffers = subst KeepBuffers (sym same) whole.buffers;
   }
 
   pub stays-same : Stays k h (record k { memories = m }) h'
@@ -131,6 +134,7 @@ module _ (k : Kernel) (m : Memories) (h h' : Hart) (r : Registers) (st : Option 
         frames = frames;
         state = same;
         paid = ap (λ n. (state_of k h).free + (n + 1)) (takes-nothing (live_now k h).image r st);
+        buffer = no-call-keeps (live_now k h).call (state_after with_store (live_now k h).image (Next r st)) free.1;
       }
 
   comes : own (view_now k h) ≡ goes_on Stepped (stored (view_now k h) r st)

@@ -26,6 +26,7 @@ use Rattle.kernel_spec.specs.laws.RowLaws.{After}
 use Rattle.kcall_core.specs.Kernel.{frame_count, state_of, IsSound, IsRunning, or_nobody, slot_now, pid_now, live_now}
 use Rattle.kcall_core.specs.Machine.{sleepers_below, turns_of}
 use Rattle.kcall_core.specs.Whole.{IsWhole, AreCounted}
+use Rattle.kcall_core.specs.Buffers.{KeepBuffers}
 use Rattle.kernel_spec.specs.waking.SleepsOn.{is_for}
 use Rattle.kcall_core.specs.Makes.{Makes}
 use Rattle.kcall_core.specs.declared.kernel.Kernel.{Kernel}
@@ -61,6 +62,7 @@ pub record Leaves (k : Kernel) (h : Hart) (k' : Kernel) (h' : Hart) (wakes : ℕ
   pub files : files.IsTable k'.files
   pub counted : AreCounted k'.files k'.table
   pub frames : frame_count k' ≡ frame_count k
+  pub buffers : KeepBuffers (state_of k' h')
   pub itself : Itself k h k' h' on
   pub others : Others k h k' h' wakes
 
@@ -133,6 +135,7 @@ module _ {k : Kernel} {h : Hart} {k' : Kernel} {h' : Hart} {wakes : ℕ → Chan
     channels = on-channels whole x.sound (sleeping Stepped refl);
     awake = leaves-awake;
     unready = unready whole x.sound (sleeping Stepped refl);
+    buffers = x.buffers;
   }
 
 -- ---- so it makes the step

@@ -37,6 +37,7 @@ use Rattle.kernel_spec.specs.waking.Conditions.{Condition, Child_of, Bytes, Room
 use Rattle.kernel_spec.specs.views.PipeEnds.{has_bytes, has_room}
 use Rattle.kcall_core.specs.Kernel.{frame_count, state_of, IsSound, IsRunning, or_nobody, slot_now, place_now, pid_now, live_now}
 use Rattle.kcall_core.specs.Whole.{IsWhole, AreCounted}
+use Rattle.kcall_core.specs.Buffers.{KeepsBuffer}
 use Rattle.kernel_spec.specs.waking.SleepsOn.{is_for}
 use Rattle.kcall_core.specs.Makes.{Makes}
 use Rattle.kcall_core.specs.declared.kernel.Kernel.{Kernel}
@@ -51,6 +52,7 @@ use Rattle.kcall_core.proofs.making.CallAnswers.{IsDone}
 use Rattle.kcall_core.proofs.files.Namings.{files-left}
 use Rattle.kernel_spec.proofs.waking.Openings.{family}
 use Rattle.kernel_spec.proofs.well.WellLaws as well
+use Rattle.kcall_core.proofs.making.Buffers.{no-call-keeps}
 use Rattle.kcall_core.proofs.making.Filing.{filed-makes}
 
 -- ---- who wakes
@@ -178,10 +180,10 @@ module _ {k : Kernel} {h : Hart} {k1 : Kernel} {h1 : Hart} {wakes : Channel → 
       | inr kept ↦ inr (subst (FilesLeft s) state (files-left k k' h h' sound counted is-table (λ file y there. kept file y (sym (ap (λ f. files.open_file_at f file) kept-files) ∙ there))))
     ]
 
-    pub midway-makes : (o : Own) → After s p l o (changed_state p m left ends console free s) → KeepsAll s o → (IsBlocked o.answer → IsSome on) → (IsSome on → IsBlocked o.answer)
+    pub midway-makes : (o : Own) → KeepsBuffer m.call m.image → After s p l o (changed_state p m left ends console free s) → KeepsAll s o → (IsBlocked o.answer → IsSome on) → (IsSome on → IsBlocked o.answer)
         → ((c : Channel) → on ≡ Some c → let t = changed_state p m left ends console free s in (is_for (waits_for t p m) c ≡ true) × (ready (view_of t p m) ≡ false))
         → Makes k h o k' h'
-    midway-makes o law keeps blocked sleeps waits = filed-makes whole runs (record {
+    midway-makes o buffer law keeps blocked sleeps waits = filed-makes whole runs (record {
       sound = sound;
       table = is-table;
       counted = counted;
@@ -195,6 +197,7 @@ module _ {k : Kernel} {h : Hart} {k1 : Kernel} {h1 : Hart} {wakes : Channel → 
       others = λ j apart. place.others j apart ∙ x.places j;
       state = state;
       well = well-for k' h' m state regs call is-m;
+      buffer = buffer;
       targets = targets;
       opens = wakes-open s p l m left ends console free wakes was (ap (λ (y : Live). y.parent) is-m ∙ x.parent) x.wake;
       waits = waits;
@@ -214,7 +217,7 @@ module _ {k : Kernel} {h : Hart} {k1 : Kernel} {h1 : Hart} {wakes : Channel → 
       (called-place None k'.table (ap (λ (y : Kernel). y.table) done.kernel)) (in-call-channel None mid ∙ mid-awake)
       (ap (λ (y : Kernel). y.current) done.kernel ∙ x.current ∙ (running k h whole.sound runs).current)
       (done.state ∙ (λ i. own_state (midway-pid i) (with_answer value (midway-live i)) (x.state i)) ∙ changed-twice (with_answer value b))
-      o law keeps (λ is. absurd (not-blocked is)) (λ some. let no : ⊥ = cc in absurd no) (λ c is. absurd (none-some c is))
+      o (no-call-keeps None b.image refl) law keeps (λ is. absurd (not-blocked is)) (λ some. let no : ⊥ = cc in absurd no) (λ c is. absurd (none-some c is))
     where
       not-blocked : IsBlocked o.answer → ⊥
       not-blocked (n, is) = let e : Called number value ≡ Blocked n = sym answer ∙ is in cc
@@ -222,10 +225,10 @@ module _ {k : Kernel} {h : Hart} {k1 : Kernel} {h1 : Hart} {wakes : Channel → 
   -- ---- the process sleeps
 
   pub midway-sleeps : (k' : Kernel) (h' : Hart) (c : Call) (on : Channel) (o : Own) (number : ℤ) → IsAsleep k1 h1 c on k' h'
-      → o.answer ≡ Blocked number → KeepsAll s o → After s p l o (changed_state p (update.in_call c b) left ends console free s)
+      → KeepsBuffer (Some c) b.image → o.answer ≡ Blocked number → KeepsAll s o → After s p l o (changed_state p (update.in_call c b) left ends console free s)
       → (let t = changed_state p (update.in_call c b) left ends console free s in (is_for (waits_for t p (update.in_call c b)) on ≡ true) × (ready (view_of t p (update.in_call c b)) ≡ false))
       → Makes k h o k' h'
-  midway-sleeps k' h' c on o number slept answer keeps law waits =
+  midway-sleeps k' h' c on o number slept buffer answer keeps law waits =
       let between : Slots = changed_at (slot_now k1) (in_call (Some c)) k1.table in
       let called = called-place (Some c) between refl in
       let sleeper : ItsPlace between k'.table (slot_now k) (in_call (Some c) mid) (asleep on (in_call (Some c) mid)) =
@@ -236,6 +239,6 @@ module _ {k : Kernel} {h : Hart} {k1 : Kernel} {h1 : Hart} {wakes : Channel → 
       midway-makes k' h' (update.in_call c b) (asleep on (in_call (Some c) mid)) (Some on) b.regs (Some c) refl slept.sound slept.files slept.frames
       (place-join called sleeper) (asleep-channel on (in_call (Some c) mid) called.lives) slept.stopped
       (slept.state ∙ (λ i. own_state (midway-pid i) (update.in_call c (midway-live i)) (x.state i)) ∙ changed-twice (update.in_call c b))
-      o law keeps (λ is. refl) (λ some. (number, answer))
+      o buffer law keeps (λ is. refl) (λ some. (number, answer))
       (λ d is. subst (λ a. let t = changed_state p (update.in_call c b) left ends console free s in
       (is_for (waits_for t p (update.in_call c b)) a ≡ true) × (ready (view_of t p (update.in_call c b)) ≡ false)) (same_Some on d is) waits)

@@ -24,6 +24,7 @@ use Rattle.kernel_spec.specs.waking.Conditions.{is_open, waits_for}
 use Rattle.kcall_core.specs.Kernel.{frame_count, state_of, IsSound, pid_now}
 use Rattle.kcall_core.specs.Machine.{slots_of, sleepers_below, turns_of, world_of}
 use Rattle.kcall_core.specs.Whole.{IsWhole, AreCounted, namings}
+use Rattle.kcall_core.specs.Buffers.{KeepBuffers}
 use Rattle.kernel_spec.specs.waking.SleepsOn.{is_for}
 use Rattle.kcall_core.specs.declared.kernel.Kernel.{Kernel}
 use Rattle.kcall_core.proofs.turns.Turned.{slots-same}
@@ -104,6 +105,7 @@ module _ {k : Kernel} {h : Hart} {k' : Kernel} {h' : Hart} (whole : IsWhole k h)
     channels = on-channels whole x.sound sleeping;
     awake = λ j y is at. absurd (none-some j (sym x.stopped ∙ is));
     unready = unready whole x.sound sleeping;
+    buffers = subst KeepBuffers (sym x.state) whole.buffers;
   }
 
   pub tick-happens : TickHappens (world_of k h None) None Ticked (world_of k' h' None)

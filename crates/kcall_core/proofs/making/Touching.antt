@@ -10,6 +10,7 @@ use Rattle.hart_core.specs.declared.hart.Hart.{Hart}
 use Rattle.addr_space.specs.Absent.{is_absent, pages_at, brought}
 use Rattle.kernel_spec.specs.rows.Buffers.{writable, writable_now}
 use Rattle.kernel_spec.specs.rows.Touches.{touch}
+use Rattle.kernel_spec.specs.views.State.{live_part}
 use Rattle.kernel_spec.specs.views.Processes.{Live}
 use Rattle.kernel_spec.specs.views.View.{view_of}
 use Rattle.kcall_core.specs.Holdings.{held_at, with_image}
@@ -17,6 +18,7 @@ use Rattle.kcall_core.specs.Memories.{each_of, free_of, RunsIn, SlotChanges}
 use Rattle.kcall_core.specs.Kernel.{state_of, IsRunning, slot_now, place_now, pid_now, live_now, HasImage}
 use Rattle.kcall_core.specs.Whole.{IsWhole}
 use Rattle.kcall_core.specs.Makes.{view_now}
+use Rattle.kcall_core.specs.Buffers.{KeepsBuffer}
 use Rattle.kcall_core.specs.Touched.{IsTouched, IsReady, IsUnready}
 use Rattle.kcall_core.specs.declared.kernel.Kernel.{Kernel}
 use Rattle.kcall_core.specs.declared.memories.Memories.{Memories}
@@ -28,12 +30,13 @@ use Rattle.kcall_core.proofs.turns.Turned.{live-is}
 use Rattle.kcall_core.proofs.turns.WhoRuns.{place-is}
 use Rattle.kcall_core.proofs.making.Imaged.{image-changed, image-same}
 use Rattle.kcall_core.proofs.making.Instructions.{table-again}
+use Rattle.kcall_core.proofs.making.Buffers.{touched-keeps}
 use Rattle.kcall_core.proofs.making.AloneMakes.{OnlyItself, only-pid, only-whole, mid-makes}
 
 module _ {k : Kernel} {h : Hart} (whole : IsWhole k h) (runs : IsRunning k) where
   -- only its image is another, and it is paid from the free frames
-  pub image-itself : {image : Image} {k' : Kernel} → HasImage k h image k' h → OnlyItself k h k' h
-  image-itself {image} {k'} has =
+  image-itself : {image : Image} {k' : Kernel} → KeepsBuffer (live_now k h).call image → HasImage k h image k' h → OnlyItself k h k' h
+  image-itself {image} {k'} keeps has =
       let i = running k h whole.sound runs in
       let place = place-is k h whole.sound runs in
       record {
@@ -48,6 +51,7 @@ module _ {k : Kernel} {h : Hart} (whole : IsWhole k h) (runs : IsRunning k) wher
         frames = has.frames;
         state = has.state.state;
         paid = omega (arith, has.state.free);
+        buffer = keeps;
       }
 
   -- these pages came
@@ -56,7 +60,8 @@ module _ {k : Kernel} {h : Hart} (whole : IsWhole k h) (runs : IsRunning k) wher
   image-touched pages {k'} has =
       let s = state_of k h in
       let l = live_now k h in
-      let x = image-itself has in
+      let its = whole.buffers (pid_now k) l (ap live_part (live-is k h whole.sound runs)) in
+      let x = image-itself (touched-keeps pages l.image l.call its) has in
       let fits : price (brought pages l.image) ≤ price l.image + s.free = omega (arith, has.state.free) in
       let free : s.free + price l.image - price (brought pages l.image) ≡ (state_of k' h).free = omega (arith, has.state.free) in
       let seen : view_now k' h ≡ record (view_now k h) { image = brought pages l.image; free = (state_of k' h).free } =

@@ -41,6 +41,7 @@ use Rattle.kernel_spec.proofs.waking.WaitsOn.{waits_stay}
 use Rattle.kernel_spec.proofs.well.WellLaws as well
 use Rattle.kernel_spec.proofs.steps.FamilyLawsHold.{fork_law}
 use Rattle.kcall_core.proofs.turns.StepSlots.{SlotsAfter, no-slot}
+use Rattle.kcall_core.proofs.making.Buffers.{is_in_no_call, ended-buffers}
 use Rattle.kcall_core.proofs.making.Making.{Itself, Others, made}
 use Rattle.kernel_spec.proofs.rows.RowParts.{forked, cannot_fork, slots_are_full, unless}
 use Rattle.kernel_spec.proofs.rows.RowsByParts.{fork_same}
@@ -180,6 +181,9 @@ module _ {k : Kernel} {h : Hart} {k' : Kernel} {h' : Hart} {child : ℕ} (whole 
   unfolding view_of
   fork-answer = ap (λ (o : Own). o.answer) row
 
+  after : After s p l (fork c v) (state_of k' h')
+  after = subst (After s p l (fork c v)) (sym x.state) laws
+
   pub fork-makes : Makes k h (fork c v) k' h'
   unfolding turns_of
   fork-makes = made whole runs (record {
@@ -189,12 +193,13 @@ module _ {k : Kernel} {h : Hart} {k' : Kernel} {h' : Hart} {child : ℕ} (whole 
       files = x.files;
       counted = x.counted;
       frames = x.frames;
+      buffers = ended-buffers s p l (fork c v) (state_of k' h') after (ap (λ (o : Own). is_in_no_call o.next) row) (ap (λ (o : Own). is_in_no_call o.child) row) whole.buffers;
       itself = itself;
       others = others;
     };
     last = x.last;
     slots = slots;
-    after = subst (After s p l (fork c v)) (sym x.state) laws;
+    after = after;
     alive = ap (λ (o : Own). gone_with o.answer) row;
     blocked = λ b. absurd (not-blocked b);
     sleeps = λ some. let no : ⊥ = cc in absurd no;

@@ -33,6 +33,7 @@ use Rattle.kcall_core.proofs.turns.Turned.{live-is}
 use Rattle.kernel_spec.proofs.steps.FamilyLawsHold.{gone_law}
 use Rattle.kernel_spec.proofs.well.WellLaws as well
 use Rattle.kernel_spec.proofs.waking.Wakes.{ready_is}
+use Rattle.kcall_core.proofs.making.Buffers.{ended-buffers}
 use Rattle.kcall_core.proofs.making.Sleepers.{Sleeper, Sleeping, another, slept-before, wakes-due, on-channels, unready}
 use Rattle.kcall_core.proofs.processes.Departs.{Departs}
 use Rattle.kernel_spec.specs.waking.SleepsOn.{end_wakes}
@@ -154,6 +155,9 @@ module _ (k k' : Kernel) (h h' : Hart) (status : ℤ) (left : FinMap nat_cmp Ope
         let same : status ≡ z = cc in
         ap (λ (t : State). get t.processes p) d.state ∙ get_same (orphans p s).processes p (Zombie l.parent status) ∙ ap (λ n. Some (Zombie l.parent n)) same
 
+    after : After s p l (gone answer (view_now k h)) (state_of k' h')
+    after = subst (λ (t : State). After s p l (gone answer (view_now k h)) t) (sym d.state) (gone_law frames s p l answer status left whole.well was ends d.named)
+
     pub gone-makes : Makes k h (gone answer (view_now k h)) k' h'
     gone-makes = record {
       whole = record {
@@ -164,8 +168,9 @@ module _ (k k' : Kernel) (h h' : Hart) (status : ℤ) (left : FinMap nat_cmp Ope
         channels = on-channels whole d.sound sleeping;
         awake = λ slot x current. absurd (none-some slot (sym d.stopped ∙ current));
         unready = unready whole d.sound sleeping;
+        buffers = ended-buffers s p l (gone answer (view_now k h)) (state_of k' h') after refl refl whole.buffers;
       };
-      state = subst (λ (t : State). After s p l (gone answer (view_now k h)) t) (sym d.state) (gone_law frames s p l answer status left whole.well was ends d.named);
+      state = after;
       turns = turns.gone-turns k k' h h' status left wakes whole runs d answer ends slept-on;
       wakes = wakes-due whole d.sound sleeping (halts_with p answer);
       kept = λ z is. kept-status z (sym ends ∙ is);

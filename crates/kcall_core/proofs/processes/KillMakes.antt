@@ -65,6 +65,7 @@ use Rattle.kernel_spec.proofs.well.WellLaws as well
 use Rattle.kernel_spec.proofs.well.WellSteps as steps
 use Rattle.kcall_core.proofs.making.CallAnswers.{IsDone}
 use Rattle.kcall_core.proofs.making.Sleepers.{changed-stays, changed-slept}
+use Rattle.kcall_core.proofs.making.Buffers.{is_in_no_call, ended-buffers}
 use Rattle.kcall_core.proofs.making.Making.{Itself, Others, made}
 use Rattle.kernel_spec.proofs.rows.RowParts.{killed_by, unless, kill_pid}
 use Rattle.kernel_spec.proofs.rows.RowsByParts.{kill_same}
@@ -412,6 +413,9 @@ module _ {k : Kernel} {h : Hart} (q slot : ℕ) (whole : IsWhole k h) (runs : Is
     not-blocked : IsBlocked (killed_by c (view_now k h) q).answer → ⊥
     not-blocked (n, is) = let e : Called c.number (pos 0) ≡ Blocked n = sym killed-answer ∙ is in cc
 
+    after : After s p l (killed_by c (view_now k h) q) (state_of k' h')
+    after = subst (After s p l (killed_by c (view_now k h) q)) (sym state-after) law
+
     pub kill-makes : Makes k h (killed_by c (view_now k h) q) k' h'
     kill-makes = made whole runs (record {
       leaves = record {
@@ -420,12 +424,14 @@ module _ {k : Kernel} {h : Hart} (q slot : ℕ) (whole : IsWhole k h) (runs : Is
         files = subst files.IsTable (sym (ap (λ (y : Kernel). y.files) done.kernel)) whole.files;
         counted = subst (λ f. AreCounted f k'.table) (sym (ap (λ (y : Kernel). y.files) done.kernel)) (place-counted place counted1);
         frames = ap (λ (y : Kernel). length y.memories.ram) done.kernel;
+        buffers = ended-buffers s p l (killed_by c (view_now k h) q) (state_of k' h') after (ap (λ (o : Own). is_in_no_call o.next) killed-row)
+            (ap (λ (o : Own). is_in_no_call o.child) killed-row) whole.buffers;
         itself = itself;
         others = others;
       };
       last = place.last;
       slots = slots-kept k h k' (killed_by c (view_now k h) q) whole.sound.table keeps-slots keeps;
-      after = subst (After s p l (killed_by c (view_now k h) q)) (sym state-after) law;
+      after = after;
       alive = keeps.stays;
       blocked = λ is. absurd (not-blocked is);
       sleeps = λ some. let no : ⊥ = cc in absurd no;

@@ -21,6 +21,7 @@ use Rattle.kcall_core.specs.Whole.{IsWhole}
 use Rattle.kernel_spec.specs.waking.SleepsOn.{is_for}
 use Rattle.kcall_core.specs.Makes.{Makes, view_now}
 use Rattle.kcall_core.specs.declared.kernel.Kernel.{Kernel}
+use Rattle.kcall_core.proofs.making.Buffers.{unmoved-keeps}
 use Rattle.kcall_core.proofs.making.AloneMakes.{wait-makes}
 use Rattle.kernel_spec.proofs.rows.RowsByParts.{sleep_same}
 
@@ -88,6 +89,7 @@ sleep-makes k h k' h' c whole runs alive number early x =
       frames = x.frames;
       state = x.state;
       paid = refl;
+      buffer = unmoved-keeps d (live_now k h).image refl;
       waits = waits-ticks (state_of k' h') (pid_now k) m d refl number late;
       unready = sleeps-unready (state_of k' h') (pid_now k) m d refl number late alive;
     }) refl

@@ -58,6 +58,7 @@ use Rattle.kernel_spec.proofs.waking.ChildWaits.{waits-for-child}
 use Rattle.kernel_spec.proofs.waking.WaitsOn.{waits_stay}
 use Rattle.kernel_spec.proofs.well.WellLaws as well
 use Rattle.kcall_core.proofs.making.CallAnswers.{IsDone}
+use Rattle.kcall_core.proofs.making.Buffers.{is_in_no_call, ended-buffers}
 use Rattle.kcall_core.proofs.making.Making.{Itself, Others, made}
 use Rattle.kcall_core.proofs.table.Zombies.{zombie-is, least-is}
 
@@ -330,7 +331,11 @@ module _ {k : Kernel} {h : Hart} (q : ℕ) (status : ℤ) (whole : IsWhole k h) 
         not-blocked : IsBlocked (wait c (view_now k h)).answer → ⊥
         not-blocked (n, is) = let e : Called c.number (pos q) ≡ Blocked n = sym gone-answer ∙ is in cc
 
+        after : After s p l (wait c (view_now k h)) (state_of k' h')
+        after = subst (After s p l (wait c (view_now k h))) (sym state-after) its-law
+
         pub wait-makes : Makes k h (wait c (view_now k h)) k' h'
+        unfolding view_of
         wait-makes = made whole runs (record {
           leaves = record {
             sound = done.sound;
@@ -338,12 +343,13 @@ module _ {k : Kernel} {h : Hart} (q : ℕ) (status : ℤ) (whole : IsWhole k h) 
             files = subst files.IsTable (sym same-files) whole.files;
             counted = subst (λ f. AreCounted f k'.table) (sym same-files) (place-counted place counted1);
             frames = ap (λ (y : Kernel). length y.memories.ram) done.kernel ∙ has.frames;
+            buffers = ended-buffers s p l (wait c (view_now k h)) (state_of k' h') after (ap (λ (o : Own). is_in_no_call o.next) row) (ap (λ (o : Own). is_in_no_call o.child) row) whole.buffers;
             itself = itself;
             others = others;
           };
           last = place.last;
           slots = slots;
-          after = subst (After s p l (wait c (view_now k h))) (sym state-after) its-law;
+          after = after;
           alive = keeps.1;
           blocked = λ is. absurd (not-blocked is);
           sleeps = λ some. let no : ⊥ = cc in absurd no;

@@ -25,6 +25,7 @@ use Rattle.kcall_core.proofs.turns.Turned.{live-is}
 use Rattle.kernel_spec.proofs.steps.AloneLawsHold as law
 use Rattle.kernel_spec.proofs.rows.Decoding.{is_wait}
 use Rattle.kcall_core.proofs.turns.StepSlots.{KeepsAll}
+use Rattle.kcall_core.proofs.making.Buffers.{unmoved-keeps}
 use Rattle.kcall_core.proofs.making.Midway.{IsAsleep, midway-sleeps}
 use Rattle.kcall_core.proofs.making.Moved.{still, sleeps-unready}
 
@@ -71,4 +72,4 @@ module _ {k : Kernel} {h : Hart} (c : Call) (whole : IsWhole k h) (runs : IsRunn
 
   pub wait-waits : (k' : Kernel) (h' : Hart) → c.number ≡ pos 3 → l.killed ≡ false → l.call ≡ Some c → IsAsleep k h d (on.Children p) k' h' → Makes k h (wait c (view_now k h)) k' h'
   wait-waits k' h' number unmarked busy slept =
-      midway-sleeps whole runs (still whole runs) k' h' d (on.Children p) (wait c (view_now k h)) c.number slept waits-answer waits-keeps waits-law (for-child number, unready number unmarked busy)
+      midway-sleeps whole runs (still whole runs) k' h' d (on.Children p) (wait c (view_now k h)) c.number slept (unmoved-keeps d l.image refl) waits-answer waits-keeps waits-law (for-child number, unready number unmarked busy)

@@ -29,6 +29,7 @@ use Rattle.kcall_core.specs.Memories.{pipes_of, free_of}
 use Rattle.kcall_core.specs.Kernel.{frame_count, state_of, IsSound}
 use Rattle.kcall_core.specs.Machine.{sleeper_in, sleepers_below, turns_of, world_of}
 use Rattle.kcall_core.specs.Whole.{AreCounted, IsWhole}
+use Rattle.kcall_core.specs.Buffers.{KeepBuffers}
 use Rattle.kcall_core.specs.declared.kernel.Kernel.{Kernel}
 use Rattle.kcall_core.proofs.memory.Births.{get_or-same}
 use Rattle.kcall_core.proofs.table.FirstWhole.{none-asleep, none-counted, none-open-table}
@@ -97,15 +98,16 @@ module _ (k : Kernel) (nobody : HasNoProcess k) where
   none-waits h p v asleep seen = absurd (false≢true (sym (nobody-sleeps p) ∙ asleep))
 
   pub no-process-whole : (h : Hart) → IsSound k h → IsWithinLimits k.console → IsWhole k h
-  no-process-whole h sound within = record {
+  no-process-whole h sound within = let state = no-process-state k h nobody.table (frame_count k) nobody.files nobody.pipes nobody.free in record {
     sound = sound;
-    well = subst (WellFormed (frame_count k)) (sym (no-process-state k h nobody.table (frame_count k) nobody.files nobody.pipes nobody.free))
+    well = subst (WellFormed (frame_count k)) (sym state)
         (no-process-well (frame_count k) (map named_file k.programs.items) k.console k.clock within);
     files = subst files.IsTable (sym nobody.files) none-open-table;
     counted = subst (λ fs. AreCounted fs k.table) (sym nobody.files) (none-counted k.table shut);
     channels = λ j p m channel held is asleep. absurd (not-held j p held);
     awake = λ j p runs held. absurd (not-held j p held);
     unready = none-waits h;
+    buffers = subst KeepBuffers (sym state) (λ p m lives. absurd (none-some m (sym (ap live_part (get-empty nat_cmp p)) ∙ lives)));
   }
 
 -- an empty console is within its limits

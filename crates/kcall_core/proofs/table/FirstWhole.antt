@@ -1,7 +1,7 @@
 -- The kernel of the first process is whole, and stands for the first world.
 use Rattle.std.proofs.Common.{◌≡◌, ◌≢◌, ℕ, zero, suc, ◌+◌, ◌-◌, ◌≤◌, true, false, length, replicate, Some, None, inl, inr, refl, sym, ap, ◌∙◌, subst, arith}
 use Rattle.std.specs.Prelude.{List, Option, Ok, option_map, map, if◌then◌else◌}
-use Rattle.std.specs.FinMap.{insert, empty}
+use Rattle.std.specs.FinMap.{insert, empty, get-empty}
 use Rattle.std.specs.FinSet as set
 use Rattle.std.specs.FinSet.{contains, contains-empty}
 use Rattle.std.specs.Ordering.{nat_cmp}
@@ -23,8 +23,8 @@ use Rattle.proc_table.specs.Slots.{Slots, place_at, descriptors_at, no_process, 
 use Rattle.proc_table.specs.declared.process.Process.{Process}
 use Rattle.kernel_spec.specs.views.Words.{or_zero}
 use Rattle.kernel_spec.specs.views.Words.{is_this}
-use Rattle.kernel_spec.specs.views.State.{ProgramFile, named_file}
-use Rattle.kernel_spec.specs.runs.First.{first_state, first_turns}
+use Rattle.kernel_spec.specs.views.State.{State, ProgramFile, named_file, live_part}
+use Rattle.kernel_spec.specs.runs.First.{first_process, first_state, first_turns}
 use Rattle.kernel_spec.specs.views.WellFormed.{WellFormed, sum_below}
 use Rattle.kcall_core.specs.Machine.{slot_entry, slots_of, sleeper_in, with_sleeper, sleepers_below, turns_of, world_of}
 use Rattle.kernel_spec.specs.runs.Run.{World}
@@ -40,6 +40,7 @@ use Rattle.kernel_spec.proofs.well.FirstWell.{state_well}
 use Rattle.kernel_spec.proofs.well.WellLaws as well
 use Rattle.kcall_core.proofs.table.NoProcess.{none-by-pid}
 use Rattle.kcall_core.proofs.table.Starting.{Begins}
+use Rattle.kcall_core.proofs.making.Buffers.{no-call-keeps, changed-buffers}
 
 -- a place that nobody has, a descriptor that isn't in use, and a place without an open file
 abbrev no-one : Option Process
@@ -164,6 +165,8 @@ module _ (k : Kernel) (h : Hart) (l : Loaded) (frames : ℕ) (programs : List Pr
     channels = λ slot p m channel held is asleep. absurd (none-some channel (sym (all-awake k.table first slot p held) ∙ asleep));
     awake = λ slot p runs held. all-awake k.table first slot p held;
     unready = nobody-waits;
+    buffers = changed-buffers (record (state_of k h) { processes = empty }) (state_of k h) 1 (first_process l) (ap (λ (s : State). s.processes) state)
+        (no-call-keeps None l.image refl) (λ p m lives. absurd (none-some m (sym (ap live_part (get-empty nat_cmp p)) ∙ lives)));
   }
 
 -- ---- what the start leads to

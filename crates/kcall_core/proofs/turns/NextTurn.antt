@@ -26,6 +26,7 @@ use Rattle.kernel_spec.specs.waking.Wakes.{IsRunnable, IsNearest}
 use Rattle.kernel_spec.specs.waking.Conditions.{waits_for}
 use Rattle.kcall_core.specs.Kernel.{state_of, IsSound}
 use Rattle.kcall_core.specs.Machine.{slots_of, sleepers_below, turns_of, world_of}
+use Rattle.kcall_core.specs.Buffers.{KeepBuffers}
 use Rattle.kcall_core.specs.Whole.{IsWhole}
 use Rattle.kernel_spec.specs.waking.SleepsOn.{is_for}
 use Rattle.kcall_core.specs.declared.kernel.Kernel.{Kernel}
@@ -154,6 +155,7 @@ whole-then k h h' slot p whole r sound same = record {
       let e : p ≡ q = same_Some p q (sym r.is ∙ ap (place_at k.table) (same_Some slot i at) ∙ held) in
       sym (ap channel_of e) ∙ awake-state p.state r.may;
   unready = λ q v asleep see. whole.unready q v (subst (λ (s : FinSet nat_cmp). contains s q ≡ true) (same-sleepers k.table slot) asleep) (sym (ap (λ (s : states.State). view s q) same) ∙ see);
+  buffers = subst KeepBuffers (sym same) whole.buffers;
 }
 
 module _ (k k' : Kernel) (h h' : Hart) (slot : ℕ) (p : Process) (whole : IsWhole k h) (r : Runs k.table slot p) (is : k' ≡ with_turn k slot) (same : state_of k' h' ≡ state_of k h) where
