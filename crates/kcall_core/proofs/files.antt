@@ -21,6 +21,7 @@ pub mod Room
 pub mod Sharing
 pub mod Taking
 pub mod TerminalMoves
+pub mod KnownBuffers
 pub mod LineRoom
 pub mod TerminalReads
 pub mod TerminalWrites

@@ -124,7 +124,8 @@ module _ {k : Kernel} {h : Hart} {c : Call} {f n : ℕ} (whole : IsWhole k h) (r
 
     pub read-waits : (k' : Kernel) (h' : Hart) → c.number ≡ pos 5 → l.killed ≡ false → l.call ≡ Some c → IsAsleep k h d (on.Bytes f) k' h' → Makes k h (read c v) k' h'
     read-waits k' h' number unmarked busy slept =
-        midway-sleeps whole runs (still whole runs) k' h' d (on.Bytes f) (read c v) c.number slept (unmoved-keeps d l.image refl) waits-answer waits-keeps waits-law (for-bytes number, unready number unmarked busy)
+        midway-sleeps whole runs (still whole runs) k' h' d (on.Bytes f) (read c v) c.number slept
+        (unmoved-keeps d l.image refl) waits-answer waits-keeps waits-law (for-bytes number, unready number unmarked busy)
 
   -- ---- it takes what is there
 

@@ -12,8 +12,6 @@ use Rattle.addr_space.specs.Absent.{is_absent, pages_at, brought}
 use Rattle.addr_space.specs.Changes.{perm_of_page}
 use Rattle.addr_space.proofs.Touching.{brought-size}
 use Rattle.user_copy.specs.Reach.{allows, may}
-use Rattle.hart_core.specs.declared.hart.Hart.{Hart}
-use Rattle.proc_table.specs.Processes.{call_of}
 use Rattle.proc_table.specs.declared.process.Call.{Call}
 use Rattle.kernel_spec.specs.views.Words.{c_int}
 use Rattle.kernel_spec.specs.views.Processes.{Live, Alive}

@@ -180,7 +180,8 @@ module _ {k : Kernel} {h : Hart} {k1 : Kernel} {h1 : Hart} {wakes : Channel → 
       | inr kept ↦ inr (subst (FilesLeft s) state (files-left k k' h h' sound counted is-table (λ file y there. kept file y (sym (ap (λ f. files.open_file_at f file) kept-files) ∙ there))))
     ]
 
-    pub midway-makes : (o : Own) → KeepsBuffer m.call m.image → After s p l o (changed_state p m left ends console free s) → KeepsAll s o → (IsBlocked o.answer → IsSome on) → (IsSome on → IsBlocked o.answer)
+    pub midway-makes : (o : Own) → KeepsBuffer m.call m.image
+        → After s p l o (changed_state p m left ends console free s) → KeepsAll s o → (IsBlocked o.answer → IsSome on) → (IsSome on → IsBlocked o.answer)
         → ((c : Channel) → on ≡ Some c → let t = changed_state p m left ends console free s in (is_for (waits_for t p m) c ≡ true) × (ready (view_of t p m) ≡ false))
         → Makes k h o k' h'
     midway-makes o buffer law keeps blocked sleeps waits = filed-makes whole runs (record {

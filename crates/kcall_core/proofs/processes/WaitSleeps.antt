@@ -72,4 +72,5 @@ module _ {k : Kernel} {h : Hart} (c : Call) (whole : IsWhole k h) (runs : IsRunn
 
   pub wait-waits : (k' : Kernel) (h' : Hart) → c.number ≡ pos 3 → l.killed ≡ false → l.call ≡ Some c → IsAsleep k h d (on.Children p) k' h' → Makes k h (wait c (view_now k h)) k' h'
   wait-waits k' h' number unmarked busy slept =
-      midway-sleeps whole runs (still whole runs) k' h' d (on.Children p) (wait c (view_now k h)) c.number slept (unmoved-keeps d l.image refl) waits-answer waits-keeps waits-law (for-child number, unready number unmarked busy)
+      midway-sleeps whole runs (still whole runs) k' h' d (on.Children p) (wait c (view_now k h)) c.number slept
+      (unmoved-keeps d l.image refl) waits-answer waits-keeps waits-law (for-child number, unready number unmarked busy)

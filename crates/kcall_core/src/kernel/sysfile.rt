@@ -7,7 +7,12 @@ ghost use Rattle.file_table.specs.Named.{named_by};
 ghost use Rattle.proc_table.specs.Slots.{descriptors_at};
 ghost use Rattle.kernel_spec.specs.rows.Calls.{close, dup, read, write, refused};
 ghost use Rattle.hart_core.specs.declared.hart.Hart.{Hart};
-ghost use Rattle.kcall_core.specs.Kernel.{IsRunning, live_now};
+ghost use Rattle.kernel_spec.specs.views.Words.{c_int};
+ghost use Rattle.proc_table.specs.Processes.{call_of};
+ghost use Rattle.kcall_core.specs.Holdings.{held_at};
+ghost use Rattle.kcall_core.specs.Memories.{each_of};
+ghost use Rattle.kcall_core.specs.Kernel.{IsRunning, place_now, live_now};
+ghost use Rattle.kcall_core.specs.Touched.{IsReady, IsUnready};
 ghost use Rattle.kcall_core.specs.Whole.{IsWhole};
 ghost use Rattle.kcall_core.specs.Makes.{Makes, view_now, answer_of};
 ghost use Rattle.file_table.specs.declared.open_file.Target.TheVariants as on;
@@ -198,7 +203,23 @@ impl Kernel {
         }
     }
 
-    /// One step of the call write. If there are bytes to move, all of the buffer is tested.
+    /// Whether user code may read all `n` bytes of the buffer of a write. If the write has moved bytes, it is so: an
+    /// earlier step has tested it, and a process that waits keeps its pages.
+    fn source_is_there(&self, slot: usize, call: &Call, n: usize) -> bool
+        requires whole { (hart : Hart) × IsWhole self.now hart }
+        requires slot { self.now.current ≡ Some slot }
+        requires in_call { call_of (place_now self.now) ≡ Some call.now }
+        requires row { call.now.number ≡ pos 16 }
+        requires asked { c_int call.now.a2 ≡ pos n }
+        ensures { result ≡ readable (held_at (each_of self.now.memories) slot).image call.now.a1 n }
+    {
+        if call.moved > 0 {
+            return true;
+        }
+        self.memories.may_read(slot, call.a1, n)
+    }
+
+    /// One step of the call write. If there are bytes to move, the buffer is there, or the write is refused.
     pub(crate) fn write(&mut self, hart: &mut Hart, call: &Call) -> CallEnd
         requires whole { IsWhole self.old hart.old }
         requires running { IsRunning self.old }
@@ -215,7 +236,7 @@ impl Kernel {
         if asked.count == 0 {
             return self.done(hart, 0);
         }
-        if !self.memories.may_read(slot, call.a1, asked.count) {
+        if !self.source_is_there(slot, call, asked.count) {
             return self.refuse(hart);
         }
         self.write_to(hart, call, slot, &asked)
@@ -272,7 +293,25 @@ impl Kernel {
         }
     }
 
-    /// One step of the call read. If there are bytes to move, all of the buffer is tested, and its absent pages come.
+    /// Whether user code may write all `n` bytes of the buffer of a read, whose absent pages come. If the read has moved
+    /// bytes, it is so: an earlier step has tested it, and a process that waits keeps its pages.
+    fn room_is_there(&mut self, slot: usize, call: &Call, n: usize) -> bool
+        requires whole { (hart : Hart) × IsWhole self.old hart }
+        requires slot { self.old.current ≡ Some slot }
+        requires in_call { call_of (place_now self.old) ≡ Some call.now }
+        requires row { call.now.number ≡ pos 5 }
+        requires asked { c_int call.now.a2 ≡ pos n }
+        ensures ready { result ≡ true → (hart : Hart) → IsWhole self.old hart → IsReady call.now.a1 n 0 self.old hart self.new hart }
+        ensures stays { result ≡ false → self.new ≡ self.old }
+        ensures unready { result ≡ false → (hart : Hart) → IsWhole self.old hart → IsUnready call.now.a1 n 0 self.old hart }
+    {
+        if call.moved > 0 {
+            return true;
+        }
+        self.ready_buffer(slot, call.a1, n, 0)
+    }
+
+    /// One step of the call read. If there are bytes to move, the buffer is there, or the read is refused.
     pub(crate) fn read(&mut self, hart: &mut Hart, call: &Call) -> CallEnd
         requires whole { IsWhole self.old hart.old }
         requires running { IsRunning self.old }
@@ -289,7 +328,7 @@ impl Kernel {
         if asked.count == 0 {
             return self.done(hart, 0);
         }
-        if !self.ready_buffer(slot, call.a1, asked.count, 0) {
+        if !self.room_is_there(slot, call, asked.count) {
             return self.refuse(hart);
         }
         self.read_from(hart, call, slot, &asked)

@@ -35,50 +35,50 @@ returns-then-asked-eq0-clause-answer c =
     let row = read-nothing c.args.call.now c.requires.whole c.requires.running a.below a.number a.source c.in-Some.ensures.allowed (a.count ∙ ap pos c.if-asked-eq0.true) in
     ap (λ (o : Own). o.answer) row ∙ ap (answer_of c.args.call.now.number) (sym c.done.ensures.end)
 
-pub returns-then-not-ready_buffer-clause-made : goal.returns-then-not-ready_buffer-clause-made
-returns-then-not-ready_buffer-clause-made c =
+pub returns-then-not-room_is_there-clause-made : goal.returns-then-not-room_is_there-clause-made
+returns-then-not-room_is_there-clause-made c =
     let k = c.args.self.now in
     let h = c.args.hart.now in
     let a = c.in-Some.ensures.asked h c.requires.whole in
     let some = ne_eqb c.in-Some.asked.count 0 c.if-asked-eq0.false in
-    let row = read-unready c.args.call.now c.requires.whole c.requires.running a.below a.number a.source c.in-Some.ensures.allowed c.in-Some.asked.count a.count some (c.ready_buffer.ensures.unready c.if-not-ready_buffer.true h c.requires.whole) in
-    let self = c.refuse-then-not-ready_buffer.new.self in
-    let hart = c.refuse-then-not-ready_buffer.new.hart in
+    let row = read-unready c.args.call.now c.requires.whole c.requires.running a.below a.number a.source c.in-Some.ensures.allowed c.in-Some.asked.count a.count some (c.room_is_there.ensures.unready c.if-not-room_is_there.true h c.requires.whole) in
+    let self = c.refuse-then-not-room_is_there.new.self in
+    let hart = c.refuse-then-not-room_is_there.new.hart in
     subst (λ (o : Own). Makes k h o self hart) (sym row)
-    (subst (λ (x : Kernel). Makes x h (refused c.args.call.now (view_now x h)) self hart) (c.ready_buffer.ensures.stays c.if-not-ready_buffer.true) (c.refuse-then-not-ready_buffer.ensures.made c.args.call.now))
+    (subst (λ (x : Kernel). Makes x h (refused c.args.call.now (view_now x h)) self hart) (c.room_is_there.ensures.stays c.if-not-room_is_there.true) (c.refuse-then-not-room_is_there.ensures.made c.args.call.now))
 
-pub returns-then-not-ready_buffer-clause-answer : goal.returns-then-not-ready_buffer-clause-answer
-returns-then-not-ready_buffer-clause-answer c =
+pub returns-then-not-room_is_there-clause-answer : goal.returns-then-not-room_is_there-clause-answer
+returns-then-not-room_is_there-clause-answer c =
     let k = c.args.self.now in
     let h = c.args.hart.now in
     let a = c.in-Some.ensures.asked h c.requires.whole in
     let some = ne_eqb c.in-Some.asked.count 0 c.if-asked-eq0.false in
-    let row = read-unready c.args.call.now c.requires.whole c.requires.running a.below a.number a.source c.in-Some.ensures.allowed c.in-Some.asked.count a.count some (c.ready_buffer.ensures.unready c.if-not-ready_buffer.true h c.requires.whole) in
-    ap (λ (o : Own). o.answer) row ∙ ap (answer_of c.args.call.now.number) (sym c.refuse-then-not-ready_buffer.ensures.end)
+    let row = read-unready c.args.call.now c.requires.whole c.requires.running a.below a.number a.source c.in-Some.ensures.allowed c.in-Some.asked.count a.count some (c.room_is_there.ensures.unready c.if-not-room_is_there.true h c.requires.whole) in
+    ap (λ (o : Own). o.answer) row ∙ ap (answer_of c.args.call.now.number) (sym c.refuse-then-not-room_is_there.ensures.end)
 
 pub read_from-requires-clause-whole : goal.read_from-requires-clause-whole
 read_from-requires-clause-whole c =
-    let ready = c.ready_buffer.ensures.ready c.if-not-ready_buffer.false c.args.hart.now c.requires.whole in
+    let ready = c.room_is_there.ensures.ready c.if-not-room_is_there.false c.args.hart.now c.requires.whole in
     ready.touched.whole
 
 pub read_from-requires-clause-running : goal.read_from-requires-clause-running
 read_from-requires-clause-running c =
-    let ready = c.ready_buffer.ensures.ready c.if-not-ready_buffer.false c.args.hart.now c.requires.whole in
+    let ready = c.room_is_there.ensures.ready c.if-not-room_is_there.false c.args.hart.now c.requires.whole in
     ready.touched.running
 
 pub read_from-requires-clause-slot : goal.read_from-requires-clause-slot
 read_from-requires-clause-slot c =
-    let ready = c.ready_buffer.ensures.ready c.if-not-ready_buffer.false c.args.hart.now c.requires.whole in
+    let ready = c.room_is_there.ensures.ready c.if-not-room_is_there.false c.args.hart.now c.requires.whole in
     ap (λ (x : Kernel). x.current) ready.touched.kernel ∙ c.running_slot-slot.ensures.is
 
 pub read_from-requires-clause-unmarked : goal.read_from-requires-clause-unmarked
 read_from-requires-clause-unmarked c =
-    let ready = c.ready_buffer.ensures.ready c.if-not-ready_buffer.false c.args.hart.now c.requires.whole in
+    let ready = c.room_is_there.ensures.ready c.if-not-room_is_there.false c.args.hart.now c.requires.whole in
     ap (λ (l : Live). l.killed) ready.touched.live ∙ c.requires.unmarked
 
 pub read_from-requires-clause-in_call : goal.read_from-requires-clause-in_call
 read_from-requires-clause-in_call c =
-    let ready = c.ready_buffer.ensures.ready c.if-not-ready_buffer.false c.args.hart.now c.requires.whole in
+    let ready = c.room_is_there.ensures.ready c.if-not-room_is_there.false c.args.hart.now c.requires.whole in
     ap (λ (l : Live). l.call) ready.touched.live ∙ c.requires.in_call
 
 pub read_from-requires-clause-file : goal.read_from-requires-clause-file
@@ -87,7 +87,7 @@ read_from-requires-clause-file c =
     let h = c.args.hart.now in
     let a = c.in-Some.ensures.asked h c.requires.whole in
     let some = ne_eqb c.in-Some.asked.count 0 c.if-asked-eq0.false in
-    let ready = c.ready_buffer.ensures.ready c.if-not-ready_buffer.false c.args.hart.now c.requires.whole in
+    let ready = c.room_is_there.ensures.ready c.if-not-room_is_there.false c.args.hart.now c.requires.whole in
     record {
       fd = a.fd;
       below = a.below;
@@ -103,10 +103,10 @@ returns-clause-made c =
     let h = c.args.hart.now in
     let a = c.in-Some.ensures.asked h c.requires.whole in
     let some = ne_eqb c.in-Some.asked.count 0 c.if-asked-eq0.false in
-    let ready = c.ready_buffer.ensures.ready c.if-not-ready_buffer.false c.args.hart.now c.requires.whole in
+    let ready = c.room_is_there.ensures.ready c.if-not-room_is_there.false c.args.hart.now c.requires.whole in
     let row = read-ready c.args.call.now c.requires.whole c.requires.running a.below a.number a.source c.in-Some.ensures.allowed c.in-Some.asked.count a.count some ready in
     ready.touched.makes (read c.args.call.now (view_now k h)) c.read_from.new.self c.read_from.new.hart
-    (subst (λ (o : Own). Makes c.ready_buffer.new.self h o c.read_from.new.self c.read_from.new.hart) (sym row) c.read_from.ensures.made)
+    (subst (λ (o : Own). Makes c.room_is_there.new.self h o c.read_from.new.self c.read_from.new.hart) (sym row) c.read_from.ensures.made)
 
 pub returns-clause-answer : goal.returns-clause-answer
 returns-clause-answer c =
@@ -114,6 +114,6 @@ returns-clause-answer c =
     let h = c.args.hart.now in
     let a = c.in-Some.ensures.asked h c.requires.whole in
     let some = ne_eqb c.in-Some.asked.count 0 c.if-asked-eq0.false in
-    let ready = c.ready_buffer.ensures.ready c.if-not-ready_buffer.false c.args.hart.now c.requires.whole in
+    let ready = c.room_is_there.ensures.ready c.if-not-room_is_there.false c.args.hart.now c.requires.whole in
     let row = read-ready c.args.call.now c.requires.whole c.requires.running a.below a.number a.source c.in-Some.ensures.allowed c.in-Some.asked.count a.count some ready in
     ap (λ (o : Own). o.answer) row ∙ c.read_from.ensures.answer

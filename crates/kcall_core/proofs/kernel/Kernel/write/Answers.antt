@@ -34,25 +34,25 @@ returns-then-asked-eq0-clause-answer c =
     let row = write-nothing c.args.call.now c.requires.whole c.requires.running a.below a.number a.source c.in-Some.ensures.allowed (a.count ∙ ap pos c.if-asked-eq0.true) in
     ap (λ (o : Own). o.answer) row ∙ ap (answer_of c.args.call.now.number) (sym c.done.ensures.end)
 
-pub returns-then-not-may_read-clause-made : goal.returns-then-not-may_read-clause-made
-returns-then-not-may_read-clause-made c =
+pub returns-then-not-source_is_there-clause-made : goal.returns-then-not-source_is_there-clause-made
+returns-then-not-source_is_there-clause-made c =
     let k = c.args.self.now in
     let h = c.args.hart.now in
     let a = c.in-Some.ensures.asked h c.requires.whole in
     let slot = now-slot c.running_slot-slot.result c.requires.whole.sound c.running_slot-slot.ensures.is in
-    let at = ap (λ n. readable (held_at (each_of k.memories) n).image c.args.call.now.a1 c.in-Some.asked.count) (sym slot) ∙ sym c.may_read.ensures in
-    let row = write-absent c.args.call.now c.requires.whole c.requires.running a.below a.number a.source c.in-Some.ensures.allowed c.in-Some.asked.count a.count (ne_eqb c.in-Some.asked.count 0 c.if-asked-eq0.false) (at ∙ c.if-not-may_read.true) in
-    subst (λ (o : Own). Makes k h o c.refuse-then-not-may_read.new.self c.refuse-then-not-may_read.new.hart) (sym row) (c.refuse-then-not-may_read.ensures.made c.args.call.now)
+    let at = ap (λ n. readable (held_at (each_of k.memories) n).image c.args.call.now.a1 c.in-Some.asked.count) (sym slot) ∙ sym c.source_is_there.ensures in
+    let row = write-absent c.args.call.now c.requires.whole c.requires.running a.below a.number a.source c.in-Some.ensures.allowed c.in-Some.asked.count a.count (ne_eqb c.in-Some.asked.count 0 c.if-asked-eq0.false) (at ∙ c.if-not-source_is_there.true) in
+    subst (λ (o : Own). Makes k h o c.refuse-then-not-source_is_there.new.self c.refuse-then-not-source_is_there.new.hart) (sym row) (c.refuse-then-not-source_is_there.ensures.made c.args.call.now)
 
-pub returns-then-not-may_read-clause-answer : goal.returns-then-not-may_read-clause-answer
-returns-then-not-may_read-clause-answer c =
+pub returns-then-not-source_is_there-clause-answer : goal.returns-then-not-source_is_there-clause-answer
+returns-then-not-source_is_there-clause-answer c =
     let k = c.args.self.now in
     let h = c.args.hart.now in
     let a = c.in-Some.ensures.asked h c.requires.whole in
     let slot = now-slot c.running_slot-slot.result c.requires.whole.sound c.running_slot-slot.ensures.is in
-    let at = ap (λ n. readable (held_at (each_of k.memories) n).image c.args.call.now.a1 c.in-Some.asked.count) (sym slot) ∙ sym c.may_read.ensures in
-    let row = write-absent c.args.call.now c.requires.whole c.requires.running a.below a.number a.source c.in-Some.ensures.allowed c.in-Some.asked.count a.count (ne_eqb c.in-Some.asked.count 0 c.if-asked-eq0.false) (at ∙ c.if-not-may_read.true) in
-    ap (λ (o : Own). o.answer) row ∙ ap (answer_of c.args.call.now.number) (sym c.refuse-then-not-may_read.ensures.end)
+    let at = ap (λ n. readable (held_at (each_of k.memories) n).image c.args.call.now.a1 c.in-Some.asked.count) (sym slot) ∙ sym c.source_is_there.ensures in
+    let row = write-absent c.args.call.now c.requires.whole c.requires.running a.below a.number a.source c.in-Some.ensures.allowed c.in-Some.asked.count a.count (ne_eqb c.in-Some.asked.count 0 c.if-asked-eq0.false) (at ∙ c.if-not-source_is_there.true) in
+    ap (λ (o : Own). o.answer) row ∙ ap (answer_of c.args.call.now.number) (sym c.refuse-then-not-source_is_there.ensures.end)
 
 pub write_to-requires-clause-file : goal.write_to-requires-clause-file
 write_to-requires-clause-file c =
@@ -60,8 +60,8 @@ write_to-requires-clause-file c =
     let h = c.args.hart.now in
     let a = c.in-Some.ensures.asked h c.requires.whole in
     let slot = now-slot c.running_slot-slot.result c.requires.whole.sound c.running_slot-slot.ensures.is in
-    let at = ap (λ n. readable (held_at (each_of k.memories) n).image c.args.call.now.a1 c.in-Some.asked.count) (sym slot) ∙ sym c.may_read.ensures in
-    record { fd = a.fd; below = a.below; number = a.number; named_file = a.source.used; opened = a.source.opened; buffer = (a.count, ne_eqb c.in-Some.asked.count 0 c.if-asked-eq0.false, at ∙ c.if-not-may_read.false) }
+    let at = ap (λ n. readable (held_at (each_of k.memories) n).image c.args.call.now.a1 c.in-Some.asked.count) (sym slot) ∙ sym c.source_is_there.ensures in
+    record { fd = a.fd; below = a.below; number = a.number; named_file = a.source.used; opened = a.source.opened; buffer = (a.count, ne_eqb c.in-Some.asked.count 0 c.if-asked-eq0.false, at ∙ c.if-not-source_is_there.false) }
 
 pub returns-clause-made : goal.returns-clause-made
 returns-clause-made c = c.write_to.ensures.made
