@@ -27,6 +27,7 @@ pub use access_width::Width;
 pub use decoding::decode;
 pub use encoding::encode;
 pub use execution::{Stop, execute};
+pub use fast::action::Action;
 pub use fast::decode_cache::DecodeCache;
 pub use fast::performing::{Way, execute_cached, execute_kept};
 pub use flat_memory::FlatMemory;
