@@ -58,6 +58,7 @@ const OPEN: i32 = 15;
 const WRITE: i32 = 16;
 
 const CLOSE: i32 = 21;
+
 /// This project's own.
 const SBRKLAZY: i32 = 22;
 
