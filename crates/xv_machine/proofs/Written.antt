@@ -7,9 +7,9 @@ use Rattle.std.specs.Prelude.{slice_get}
 use Rattle.circular_buffer.specs.Buffer.{Buffer, buffer, keep_last}
 use Rattle.circular_buffer.proofs.Places.{slice_get-append_left, slice_get-append_right, slice_get-drop, slice_get-some}
 use Rattle.xv_machine.specs.declared.trace.Note.{Note}
-use Rattle.xv_machine.specs.declared.trace_runs.Run.{Run}
-use Rattle.xv_machine.specs.declared.trace_runs.Trace.TheInside.{Inside}
-use Rattle.xv_machine.specs.Written.{gap, written, IsRun, AreRuns, GoesOn, notes_of, IsTrace}
+use Rattle.xv_machine.specs.declared.fast.trace_runs.Run.{Run}
+use Rattle.xv_machine.specs.declared.fast.trace_runs.Trace.TheInside.{Inside}
+use Rattle.xv_machine.specs.fast.Written.{gap, written, IsRun, AreRuns, GoesOn, notes_of, IsTrace}
 use Rattle.xv_machine.proofs.Kept.{keep-more}
 
 -- ---- counts of 64 bits

@@ -12,4 +12,4 @@ pub mod Reached
 pub mod Sound
 pub mod Steps
 pub mod Stretches
-pub mod Written
+pub mod fast

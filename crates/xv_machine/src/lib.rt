@@ -10,11 +10,11 @@
 mod devices;
 mod driving;
 mod event;
+mod fast;
 pub mod laws;
 mod machine;
 mod step;
 mod trace;
-mod trace_runs;
 
 pub use devices::{ByteSink, Counted, DeviceFault, KeySource};
 pub use driving::{DriveEnd, DriveError, RunPlan, drive};

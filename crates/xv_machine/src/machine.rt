@@ -12,9 +12,9 @@ ghost use Rattle.xv_machine.specs.Events.{outcome_of, halted_by};
 mod observers;
 
 use crate::event::{Event, Outcome};
+use crate::fast::trace_runs::Trace;
 use crate::step::{Stretch, advance, instructions, step};
 use crate::trace::Note;
-use crate::trace_runs::Trace;
 use hart_core::Hart;
 use kcall_core::{ChildState, Kernel, first_refused};
 use rv64i_core::Regs;

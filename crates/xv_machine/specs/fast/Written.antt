@@ -2,8 +2,8 @@
 use Rattle.std.specs.Prelude.{◌≡◌, ℕ, ◌+◌, ◌-◌, ◌%◌, ◌^◌, ◌<◌, ◌≤◌, List, [], ◌∷◌, ◌++◌, length, replicate}
 use Rattle.circular_buffer.specs.Buffer.{Buffer, buffer, keep_last}
 use Rattle.xv_machine.specs.declared.trace.Note.{Note}
-use Rattle.xv_machine.specs.declared.trace_runs.Run.{Run}
-use Rattle.xv_machine.specs.declared.trace_runs.Trace.TheInside.{Inside}
+use Rattle.xv_machine.specs.declared.fast.trace_runs.Run.{Run}
+use Rattle.xv_machine.specs.declared.fast.trace_runs.Trace.TheInside.{Inside}
 
 -- how far it is from one count to a later one, where 64 bits count
 unfoldable pub gap : ℕ → ℕ → ℕ

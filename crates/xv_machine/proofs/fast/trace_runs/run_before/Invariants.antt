@@ -1,6 +1,6 @@
 use Rattle.std.proofs.Common.{◌-◌, ◌<◌, ◌≤◌, length, take}
-use Rattle.xv_machine.specs.Written.{written}
-use Rattle.xv_machine.proofs.trace_runs.run_before.Given as goal
+use Rattle.xv_machine.specs.fast.Written.{written}
+use Rattle.xv_machine.proofs.fast.trace_runs.run_before.Given as goal
 
 abbrev pub invariant-halves : goal.invariant-halves
 invariant-halves l = record {

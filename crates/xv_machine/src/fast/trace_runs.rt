@@ -5,7 +5,7 @@
 //! each note: contracts see the notes, and no run.
 ghost use Rattle.std.specs.Prelude.{◌≡◌, ◌+◌, ◌^◌, ◌<◌, ◌≤◌, [], ◌∷◌, ◌++◌, true, IfOk, length, replicate, slice_get, take};
 ghost use Rattle.circular_buffer.specs.Buffer.{buffer, keep_last};
-ghost use Rattle.xv_machine.specs.Written.{gap, written, AreRuns, GoesOn};
+ghost use Rattle.xv_machine.specs.fast.Written.{gap, written, AreRuns, GoesOn};
 
 use crate::trace::Note;
 use circular_buffer::HeapCircularBuffer;
@@ -45,7 +45,7 @@ impl Model for Trace {
 
     ghost coded = { buffer_code note_code };
 
-    ghost use Rattle.xv_machine.specs.Written.{notes_of, IsTrace};
+    ghost use Rattle.xv_machine.specs.fast.Written.{notes_of, IsTrace};
 
     ghost view = { notes_of };
 
@@ -54,7 +54,7 @@ impl Model for Trace {
 
 // How many notes lie between two counts, of which the first is the earlier one. The count may have begun again
 // at 0 in between.
-#[tactic(auto, unfolding(crate::specs::Written::gap))]
+#[tactic(auto, unfolding(crate::specs::fast::Written::gap))]
 fn gap(from: u64, to: u64) -> u64
     ensures { result ≡ gap from to }
 {

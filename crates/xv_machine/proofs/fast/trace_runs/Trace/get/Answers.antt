@@ -1,6 +1,6 @@
 use Rattle.std.proofs.Common.{sym}
 use Rattle.xv_machine.proofs.Written.{note-at}
-use Rattle.xv_machine.proofs.trace_runs.Trace.get.Goals as goal
+use Rattle.xv_machine.proofs.fast.trace_runs.Trace.get.Goals as goal
 
 pub returns-in-Some : goal.returns-in-Some
 returns-in-Some c =

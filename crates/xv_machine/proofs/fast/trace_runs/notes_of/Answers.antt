@@ -1,6 +1,6 @@
 use Rattle.std.proofs.Common.{◌≡◌, suc, ◌-◌, ◌∙◌, arith, sym}
 use Rattle.xv_machine.proofs.Written.{taken-at, not-past}
-use Rattle.xv_machine.proofs.trace_runs.notes_of.Goals as goal
+use Rattle.xv_machine.proofs.fast.trace_runs.notes_of.Goals as goal
 
 pub returns-in-Some : goal.returns-in-Some
 returns-in-Some c =
