@@ -64,11 +64,7 @@ fn write_some<W: ByteSink>(sink: &mut W, bytes: &[u8]) -> Result<(), DeviceFault
 }
 
 // Sends an event, and writes what it shows.
-fn perform<W: ByteSink>(
-    machine: &mut Machine,
-    event: Event,
-    sink: &mut W,
-) -> Result<(), DeviceFault>
+fn play<W: ByteSink>(machine: &mut Machine, event: Event, sink: &mut W) -> Result<(), DeviceFault>
     ensures plays { Plays result (event_of event ∷ []) machine.old machine.new (W.sink sink.old) (W.sink sink.new) }
     ensures ok { OnOk result (W.failures sink.new ≡ W.failures sink.old) }
     ensures err { OnErr result (W.failures sink.new ≡ one_more (W.failures sink.old)) }
@@ -90,7 +86,7 @@ fn type_key<W: ByteSink>(
     ensures err { OnErr result (W.failures sink.new ≡ one_more (W.failures sink.old)) }
 {
     match key {
-        Some(byte) => perform(machine, Event::Key(byte), sink),
+        Some(byte) => play(machine, Event::Key(byte), sink),
         None => Ok(()),
     }
 }

@@ -13,7 +13,7 @@ mod observers;
 
 use crate::event::{Event, Outcome};
 use crate::fast::trace_runs::Trace;
-use crate::step::{Stretch, advance, instructions, step};
+use crate::step::{StepsMade, advance, instructions, step};
 use crate::trace::Note;
 use hart_core::Hart;
 use kcall_core::{ChildState, Kernel, first_refused};
@@ -382,7 +382,7 @@ impl Machine {
         ensures within { result ≤ most }
         ensures sent { 0 < result }
     {
-        let Stretch { made, end } = self.advance(pid, most);
+        let StepsMade { made, end } = self.advance(pid, most);
         self.keep_often(Note::Stepped { pid }, made);
         let Some(outcome) = end else {
             return made;
@@ -393,7 +393,7 @@ impl Machine {
 
     // The process that runs makes these steps, of which the trace keeps no note yet.
     #[inline(always)]
-    fn advance(&mut self, pid: Pid, most: u32) -> Stretch
+    fn advance(&mut self, pid: Pid, most: u32) -> StepsMade
         requires current { self.old.world.turns.current ≡ Some pid }
         requires some { 0 < most }
         ensures run { IsPromised self.old.world (runs_made pid result.made result.end) self.new.world }
@@ -401,12 +401,12 @@ impl Machine {
         ensures frames { self.new.frames.count ≡ self.old.frames.count }
         ensures trace { SameTrace self.old self.new }
     {
-        let Stretch { made, end } = advance(&mut self.kernel, &mut self.hart, pid, most);
+        let StepsMade { made, end } = advance(&mut self.kernel, &mut self.hart, pid, most);
         let Some(last) = end else {
-            return Stretch { made, end: None };
+            return StepsMade { made, end: None };
         };
         self.halted = halted_by(&last);
-        Stretch {
+        StepsMade {
             made,
             end: Some(last),
         }

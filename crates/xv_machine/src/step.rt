@@ -130,14 +130,14 @@ pub(crate) fn step(kernel: &mut Kernel, hart: &mut Hart, pid: Pid) -> Outcome
 /// How many instructions were done, one after another, and the outcome of the step behind them, if it was
 /// something else.
 #[derive(Drop)]
-pub(crate) struct Stretch {
+pub(crate) struct StepsMade {
     pub(crate) made: u32,
     pub(crate) end: Option<Outcome>,
 }
 
 /// Steps of the process that runs, up to the first that is no done instruction, `most` at most.
 #[inline(always)]
-pub(crate) fn advance(kernel: &mut Kernel, hart: &mut Hart, pid: Pid, most: u32) -> Stretch
+pub(crate) fn advance(kernel: &mut Kernel, hart: &mut Hart, pid: Pid, most: u32) -> StepsMade
     requires whole { IsWhole kernel.old hart.old }
     requires running { IsRunning kernel.old }
     requires pid { pid ≡ pid_now kernel.old }
@@ -147,24 +147,24 @@ pub(crate) fn advance(kernel: &mut Kernel, hart: &mut Hart, pid: Pid, most: u32)
 {
     if is_busy(kernel) {
         let outcome = go_on(kernel, hart, pid);
-        return Stretch {
+        return StepsMade {
             made: 0,
             end: Some(outcome),
         };
     }
     let Series { made, stop } = kernel.steps(hart, most);
     match stop {
-        Stop::Next => Stretch { made, end: None },
+        Stop::Next => StepsMade { made, end: None },
         Stop::Ecall => {
             let outcome = trap(kernel, hart, pid, Stop::Ecall);
-            Stretch {
+            StepsMade {
                 made,
                 end: Some(outcome),
             }
         }
         Stop::Fault(cause) => {
             let outcome = trap(kernel, hart, pid, Stop::Fault(cause));
-            Stretch {
+            StepsMade {
                 made,
                 end: Some(outcome),
             }

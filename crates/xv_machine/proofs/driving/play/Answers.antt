@@ -1,6 +1,6 @@
 use Rattle.xv_machine.specs.Events.{event_of, outcome_of}
 use Rattle.xv_machine.proofs.Joins.{event-plays, goes-one}
-use Rattle.xv_machine.proofs.driving.perform.Goals as goal
+use Rattle.xv_machine.proofs.driving.play.Goals as goal
 
 pub returns-clause-plays : goal.returns-clause-plays
 returns-clause-plays g c =
