@@ -8,7 +8,7 @@ use Rattle.std.proofs.lemmas.List.{get_or-set_same, get_or-set_other, set_past}
 use Rattle.std.proofs.lemmas.Bool.{cases_lt, cases_eq}
 use Rattle.std.proofs.lemmas.Bool.Decides.{nat_tests}
 use Rattle.file_table.specs.declared.open_file.TheConstants.{SHARERS_MAX}
-use Rattle.file_table.specs.declared.open_file.Entry.{Entry}
+use Rattle.file_table.specs.declared.open_file.CountedFile.{CountedFile}
 use Rattle.file_table.specs.OpenFiles.{IsTable}
 
 -- ---- a table that isn't full has a free place
@@ -36,13 +36,13 @@ place_is_there xs h e = let lt : nat_lt (position_or_len is_none xs) (length xs)
 -- ---- a table stays in order
 
 -- an entry with a count in its range is put into one place
-pub table_set : (files : List (Option Entry)) (place : ℕ) (e : Entry) → IsTable files → 1 ≤ e.count → e.count ≤ SHARERS_MAX → IsTable (set files place (Some e))
+pub table_set : (files : List (Option CountedFile)) (place : ℕ) (e : CountedFile) → IsTable files → 1 ≤ e.count → e.count ≤ SHARERS_MAX → IsTable (set files place (Some e))
 table_set files place e is low high = record {
   places = length-set files place (Some e) ∙ is.places;
   counts = λ k x at. elim (cases_eq k place) [
     | inl same ↦ elim (cases_lt place (length files)) [
       | inl lt ↦ let there : Some e ≡ Some x = sym (get_or-set_same files place (Some e) None lt) ∙ ap (λ j. get_or (set files place (Some e)) j None) (sym same) ∙ at in
-          let one : e ≡ x = cc in (omega (arith, low, ap (λ (y : Entry). y.count) one), omega (arith, high, ap (λ (y : Entry). y.count) one))
+          let one : e ≡ x = cc in (omega (arith, low, ap (λ (y : CountedFile). y.count) one), omega (arith, high, ap (λ (y : CountedFile). y.count) one))
       | inr ge ↦ is.counts k x (ap (λ ys. get_or ys k None) (sym (set_past files place (Some e) ge)) ∙ at)
     ]
     | inr other ↦ is.counts k x (sym (get_or-set_other files place k (Some e) None other) ∙ at)

@@ -8,7 +8,7 @@ use Rattle.file_table.specs.declared.open_file.End.TheVariants.{Reading, Writing
 use Rattle.file_table.specs.declared.open_file.Target.{Target}
 use Rattle.file_table.specs.declared.open_file.Target.TheVariants.{Console, Program, Pipe}
 use Rattle.file_table.specs.declared.open_file.OpenFile.{OpenFile}
-use Rattle.file_table.specs.declared.open_file.Entry.{Entry}
+use Rattle.file_table.specs.declared.open_file.CountedFile.{CountedFile}
 
 -- ---- an open file
 
@@ -48,76 +48,76 @@ moved_to offset f = record f { target = target_moved offset f.target }
 -- ---- the table
 
 -- what stands in a place
-abbrev pub entry_at : List (Option Entry) → ℕ → Option Entry
+abbrev pub entry_at : List (Option CountedFile) → ℕ → Option CountedFile
 entry_at files file = get_or files file None
 
 -- the open file of this name is there
-abbrev pub IsOpen : List (Option Entry) → ℕ → Type 0
+abbrev pub IsOpen : List (Option CountedFile) → ℕ → Type 0
 IsOpen files file = IsSome (entry_at files file)
 
 -- an entry without its count
-abbrev pub entry_file : Entry → OpenFile
+abbrev pub entry_file : CountedFile → OpenFile
 entry_file e = e.file
 
 -- an entry without its open file
-abbrev pub entry_count : Entry → ℕ
+abbrev pub entry_count : CountedFile → ℕ
 entry_count e = e.count
 
 -- the open file of this name
-abbrev pub open_file_at : List (Option Entry) → ℕ → Option OpenFile
+abbrev pub open_file_at : List (Option CountedFile) → ℕ → Option OpenFile
 open_file_at files file = option_map entry_file (entry_at files file)
 
 -- how many descriptors name it
-abbrev pub count_at : List (Option Entry) → ℕ → Option ℕ
+abbrev pub count_at : List (Option CountedFile) → ℕ → Option ℕ
 count_at files file = option_map entry_count (entry_at files file)
 
 -- no file is open
-abbrev pub none_open : List (Option Entry)
+abbrev pub none_open : List (Option CountedFile)
 none_open = replicate OPEN_FILES None
 
 -- how many files are open
-abbrev pub open_count : List (Option Entry) → ℕ
+abbrev pub open_count : List (Option CountedFile) → ℕ
 open_count files = count_by is_some files
 
 -- what is true of every table: each open file is named by 1 to SHARERS_MAX descriptors
-pub record IsTable (files : List (Option Entry)) : Type 0 where
+pub record IsTable (files : List (Option CountedFile)) : Type 0 where
   pub places : length files ≡ OPEN_FILES
-  pub counts : (file : ℕ) (e : Entry) → entry_at files file ≡ Some e → (1 ≤ e.count) × (e.count ≤ SHARERS_MAX)
+  pub counts : (file : ℕ) (e : CountedFile) → entry_at files file ≡ Some e → (1 ≤ e.count) × (e.count ≤ SHARERS_MAX)
 
 -- ---- changes of the table
 
 -- the lowest place without an open file
-abbrev pub lowest_place : List (Option Entry) → Option ℕ
+abbrev pub lowest_place : List (Option CountedFile) → Option ℕ
 lowest_place files = position is_none files
 
 -- the file is open in this place, and one descriptor names it
-abbrev pub with_opened : ℕ → OpenFile → List (Option Entry) → List (Option Entry)
+abbrev pub with_opened : ℕ → OpenFile → List (Option CountedFile) → List (Option CountedFile)
 with_opened file f files = set files file (Some (record { file = f; count = 1 }))
 
 -- one descriptor more names it
-abbrev pub once_more : Entry → Entry
+abbrev pub once_more : CountedFile → CountedFile
 once_more e = record e { count = e.count + 1 }
 
 -- one descriptor more names the open file of this name
-abbrev pub with_sharer : ℕ → List (Option Entry) → List (Option Entry)
+abbrev pub with_sharer : ℕ → List (Option CountedFile) → List (Option CountedFile)
 with_sharer file files = set files file (option_map once_more (entry_at files file))
 
 -- its next byte is the one at the offset
-abbrev pub entry_moved : ℕ → Entry → Entry
+abbrev pub entry_moved : ℕ → CountedFile → CountedFile
 entry_moved offset e = record e { file = moved_to offset e.file }
 
 -- the open file of this name has its next byte at the offset
-abbrev pub with_offset : ℕ → ℕ → List (Option Entry) → List (Option Entry)
+abbrev pub with_offset : ℕ → ℕ → List (Option CountedFile) → List (Option CountedFile)
 with_offset file offset files = set files file (option_map (entry_moved offset) (entry_at files file))
 
 -- only one descriptor names it
-abbrev pub is_last : Entry → Bool
+abbrev pub is_last : CountedFile → Bool
 is_last e = nat_eq e.count 1
 
 -- one descriptor fewer names it; after the last one it is open no more
-abbrev pub once_less : Entry → Option Entry
+abbrev pub once_less : CountedFile → Option CountedFile
 once_less e = cond (is_last e) None (Some (record e { count = e.count - 1 }))
 
 -- one descriptor fewer names the open file of this name
-abbrev pub without_sharer : ℕ → List (Option Entry) → List (Option Entry)
+abbrev pub without_sharer : ℕ → List (Option CountedFile) → List (Option CountedFile)
 without_sharer file files = set files file (option_and_then once_less (entry_at files file))

@@ -34,7 +34,7 @@ pub struct OpenFile {
 
 /// An open file, and how many descriptors name it: from 1 to [`SHARERS_MAX`].
 #[derive(Clone, Copy)]
-pub(crate) struct Entry {
+pub(crate) struct CountedFile {
     pub(crate) file: OpenFile,
     pub(crate) count: u16,
 }

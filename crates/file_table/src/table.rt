@@ -6,7 +6,7 @@ ghost use Rattle.xk_base.specs.declared.errors.BootError.TheVariants.{Memory};
 ghost use Rattle.file_table.specs.declared.open_file.TheConstants.{SHARERS_MAX};
 
 use crate::file_id::FileId;
-use crate::open_file::{End, Entry, OpenFile, Target};
+use crate::open_file::{CountedFile, End, OpenFile, Target};
 use std::alloc::Global;
 use std::marker::Model;
 use xk_base::limits::OPEN_FILES;
@@ -17,14 +17,14 @@ use xk_base::{BootError, Frame};
 /// At most [`OPEN_FILES`](xk_base::limits::OPEN_FILES) are open.
 #[derive(Drop)]
 pub struct Files {
-    places: Vec<Option<Entry>>,
+    places: Vec<Option<CountedFile>>,
 }
 
 impl Model for Files {
     ghost use Rattle.std.specs.Prelude.{List, Option};
-    ghost use Rattle.file_table.specs.declared.open_file.Entry.{Entry};
+    ghost use Rattle.file_table.specs.declared.open_file.CountedFile.{CountedFile};
 
-    ghost Value = { List (Option Entry) };
+    ghost Value = { List (Option CountedFile) };
 
     ghost use Rattle.file_table.specs.OpenFiles.{IsTable};
 
@@ -34,7 +34,7 @@ impl Model for Files {
 }
 
 /// The lowest place without an open file.
-fn free_place(places: &[Option<Entry>]) -> Option<usize>
+fn free_place(places: &[Option<CountedFile>]) -> Option<usize>
     ensures value { result ≡ position is_none places.now }
     ensures within { IfSome result (λ place. place < length places.now) }
 {
@@ -140,7 +140,7 @@ impl Files {
         ensures { self.new ≡ with_offset file offset self.old }
     {
         let entry = self.entry(file);
-        self.places[file.index()] = Some(Entry {
+        self.places[file.index()] = Some(CountedFile {
             file: entry.file.moved_to(offset),
             ..entry
         });
@@ -153,7 +153,7 @@ impl Files {
         ensures { self.new ≡ with_sharer file self.old }
     {
         let entry = self.entry(file);
-        self.places[file.index()] = Some(Entry {
+        self.places[file.index()] = Some(CountedFile {
             count: entry.count + 1,
             ..entry
         });
@@ -171,7 +171,7 @@ impl Files {
             self.places[file.index()] = None;
             return true;
         }
-        self.places[file.index()] = Some(Entry {
+        self.places[file.index()] = Some(CountedFile {
             count: entry.count - 1,
             ..entry
         });
@@ -179,7 +179,7 @@ impl Files {
     }
 
     /// The open file with its count.
-    fn entry(&self, file: FileId) -> Entry
+    fn entry(&self, file: FileId) -> CountedFile
         requires { IsOpen self.now file }
         ensures value { entry_at self.now file ≡ Some result }
         ensures counted { (1 ≤ result.count) × (result.count ≤ SHARERS_MAX) }
@@ -199,7 +199,7 @@ impl Files {
         let Some(place) = free_place(self.places.as_slice()) else {
             unreachable!();
         };
-        self.places[place] = Some(Entry { file, count: 1 });
+        self.places[place] = Some(CountedFile { file, count: 1 });
         FileId::at(place)
     }
 }

@@ -6,7 +6,7 @@ use Rattle.hart_core.specs.declared.hart.Hart.{Hart}
 use Rattle.file_table.specs.Named.{named_by, none_named}
 use Rattle.file_table.specs.OpenFiles as files
 use Rattle.file_table.specs.OpenFiles.{count_at}
-use Rattle.file_table.specs.declared.open_file.Entry.{Entry}
+use Rattle.file_table.specs.declared.open_file.CountedFile.{CountedFile}
 use Rattle.proc_table.specs.Processes.{channel_of}
 use Rattle.proc_table.specs.Slots.{Slots, Holds, place_at, place_is_live, descriptors_at}
 use Rattle.proc_table.specs.declared.channel.Channel.{Channel}
@@ -35,7 +35,7 @@ abbrev pub namings : Slots → ℕ → ℕ
 namings t file = sum_below NPROC (λ slot. named_in (descriptors_at t slot) file)
 
 -- each open file counts the descriptors that name it, and only live processes have descriptors in use
-pub record AreCounted (files : List (Option Entry)) (t : Slots) : Type 0 where
+pub record AreCounted (files : List (Option CountedFile)) (t : Slots) : Type 0 where
   pub counts : (file : ℕ) → or_zero (count_at files file) ≡ namings t file
   pub lists : (slot : ℕ) → slot < NPROC → length (descriptors_at t slot) ≡ NOFILE
   pub closed : (slot : ℕ) → place_is_live (place_at t slot) ≡ false → descriptors_at t slot ≡ none_named

@@ -14,7 +14,7 @@ use Rattle.pipe_core.specs.Pipe.{Pipe}
 use Rattle.file_table.specs.Named.{named_by, with_named}
 use Rattle.file_table.specs.OpenFiles as files
 use Rattle.file_table.specs.OpenFiles.{entry_at, open_file_at, with_sharer}
-use Rattle.file_table.specs.declared.open_file.Entry.{Entry}
+use Rattle.file_table.specs.declared.open_file.CountedFile.{CountedFile}
 use Rattle.file_table.specs.declared.open_file.End.{End}
 use Rattle.file_table.specs.declared.open_file.End.TheVariants.{Reading, Writing}
 use Rattle.file_table.specs.declared.open_file.OpenFile.{OpenFile}
@@ -234,10 +234,10 @@ module _ (k : Kernel) (h : Hart) (c : Call) (slot j d g : ℕ) (x : OpenFile) (w
     pub shared-sound : IsSound k1 h
     shared-sound = put-sound k k1 h slot d g whole.sound is current1 its-memories.shares fits below table
 
-    its-entry : (e : Entry) × (entry_at k.files g ≡ Some e)
+    its-entry : (e : CountedFile) × (entry_at k.files g ≡ Some e)
     its-entry = by (entry_at k.files g) refl source.kind
       where
-        by : (o : Option Entry) → entry_at k.files g ≡ o → option_map files.entry_file o ≡ Some x → (e : Entry) × (entry_at k.files g ≡ Some e)
+        by : (o : Option CountedFile) → entry_at k.files g ≡ o → option_map files.entry_file o ≡ Some x → (e : CountedFile) × (entry_at k.files g ≡ Some e)
         by None at f = absurd (none-some x f)
         by (Some e) at f = (e, at)
 

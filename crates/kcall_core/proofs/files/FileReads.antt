@@ -14,7 +14,7 @@ use Rattle.hart_core.specs.declared.hart.Hart.{Hart}
 use Rattle.file_table.specs.OpenFiles as files
 use Rattle.file_table.specs.declared.open_file.TheConstants.{SHARERS_MAX}
 use Rattle.file_table.specs.OpenFiles.{entry_at, entry_file, entry_count, open_file_at, count_at, moved_to, entry_moved, target_moved, with_offset}
-use Rattle.file_table.specs.declared.open_file.Entry.{Entry}
+use Rattle.file_table.specs.declared.open_file.CountedFile.{CountedFile}
 use Rattle.file_table.specs.declared.open_file.OpenFile.{OpenFile}
 use Rattle.file_table.specs.declared.open_file.Target.{Target}
 use Rattle.file_table.specs.declared.open_file.Target.TheVariants.{Program as File}
@@ -60,11 +60,11 @@ use Rattle.kernel_spec.proofs.Common.{there_if_so}
 
 -- ---- the table of open files, with another offset
 
-entry-of : (o : Option Entry) (x : OpenFile) → option_map entry_file o ≡ Some x → (e : Entry) × (o ≡ Some e)
+entry-of : (o : Option CountedFile) (x : OpenFile) → option_map entry_file o ≡ Some x → (e : CountedFile) × (o ≡ Some e)
 entry-of None x e = let no : ⊥ = cc in absurd no
 entry-of (Some y) x e = (y, refl)
 
-module _ (xs : List (Option Entry)) (g to : ℕ) (e : Entry) (is : entry_at xs g ≡ Some e) (inside : g < length xs) where
+module _ (xs : List (Option CountedFile)) (g to : ℕ) (e : CountedFile) (is : entry_at xs g ≡ Some e) (inside : g < length xs) where
   offset-here : entry_at (with_offset g to xs) g ≡ Some (entry_moved to e)
   offset-here = get_or-set_same xs g (option_map (entry_moved to) (entry_at xs g)) None inside ∙ ap (option_map (entry_moved to)) is
 
@@ -83,7 +83,7 @@ module _ (xs : List (Option Entry)) (g to : ℕ) (e : Entry) (is : entry_at xs g
     counts = λ f y at. elim (cases_eq f g) [
       | inl same ↦
           let moved : entry_moved to e ≡ y = same_Some (entry_moved to e) y (sym offset-here ∙ sym (ap (entry_at (with_offset g to xs)) same) ∙ at) in
-          subst (λ (z : Entry). (1 ≤ z.count) × (z.count ≤ SHARERS_MAX)) moved (table.counts g e is)
+          subst (λ (z : CountedFile). (1 ≤ z.count) × (z.count ≤ SHARERS_MAX)) moved (table.counts g e is)
       | inr ne ↦ table.counts f y (sym (offset-other f ne) ∙ at)
     ];
   }
@@ -140,7 +140,7 @@ module _ {k : Kernel} {h : Hart} {c : Call} {file : ℕ} {x : OpenFile} {n : ℕ
   here : (ltb file OPEN_FILES ≡ true) × (open_file_at k.files file ≡ Some x)
   here = there_if_so (ltb file OPEN_FILES) (open_file_at k.files file) x (sym (files-seen k h file) ∙ on.opened)
 
-  entry : (e : Entry) × (entry_at k.files file ≡ Some e)
+  entry : (e : CountedFile) × (entry_at k.files file ≡ Some e)
   entry = entry-of (entry_at k.files file) x here.1
 
   pub is-open : files.IsOpen k.files file

@@ -14,7 +14,7 @@ use Rattle.sv39_core.proofs.Gathered.{gathered-get}
 use Rattle.hart_core.specs.declared.hart.Hart.{Hart}
 use Rattle.file_table.specs.Named.{named_by, none_named, with_named}
 use Rattle.file_table.specs.OpenFiles.{IsTable, open_file_at, count_at, entry_at, entry_file, entry_count, once_less, without_sharer}
-use Rattle.file_table.specs.declared.open_file.Entry.{Entry}
+use Rattle.file_table.specs.declared.open_file.CountedFile.{CountedFile}
 use Rattle.file_table.specs.declared.open_file.OpenFile.{OpenFile}
 use Rattle.proc_table.specs.Processes.{status_of}
 use Rattle.proc_table.specs.Slots.{Slots, place_at, place_is_live, descriptors_at, slot_of}
@@ -122,17 +122,17 @@ files-kept k k' h h' kept file x is =
     let r = there_if_so (ltb file OPEN_FILES) (open_file_at k'.files file) x (sym (files-seen k' h' file) ∙ is) in
     files-seen k h file ∙ ap (λ b. cond b (open_file_at k.files file) None) r.0 ∙ kept file x r.1
 
-pub file-inside : (files : List (Option Entry)) (file : ℕ) (x : OpenFile) → IsTable files → open_file_at files file ≡ Some x → file < OPEN_FILES
+pub file-inside : (files : List (Option CountedFile)) (file : ℕ) (x : OpenFile) → IsTable files → open_file_at files file ≡ Some x → file < OPEN_FILES
 file-inside files file x table is = elim (cases_lt file OPEN_FILES) [
   | inl lt ↦ lt
   | inr ge ↦ absurd (none-some x (sym (ap (option_map entry_file) (get_or_past files file None (omega (arith, ge, table.places)))) ∙ is))
 ]
 
 -- an open file that is counted is there
-pub counted-entry : (files : List (Option Entry)) (file : ℕ) → 1 ≤ or_zero (count_at files file) → (e : Entry) × (entry_at files file ≡ Some e)
+pub counted-entry : (files : List (Option CountedFile)) (file : ℕ) → 1 ≤ or_zero (count_at files file) → (e : CountedFile) × (entry_at files file ≡ Some e)
 counted-entry files file many = by (entry_at files file) refl
   where
-    by : (o : Option Entry) → entry_at files file ≡ o → (e : Entry) × (entry_at files file ≡ Some e)
+    by : (o : Option CountedFile) → entry_at files file ≡ o → (e : CountedFile) × (entry_at files file ≡ Some e)
     by None is = absurd (omega (arith, many, ap (λ o. or_zero (option_map entry_count o)) is))
     by (Some e) is = (e, is)
 
@@ -167,7 +167,8 @@ files-left k k' h h' sound counted table kept = record {
     live_by slot d g inside names below true is = let p = alive (place_at k'.table slot) is in (p.0.pid, d, slot-names k' h' sound slot d g p.0 p.1 p.2 below names)
     live_by slot d g inside names below false is = absurd (none-some g (sym (ap (λ ds. named_by ds d) (counted.closed slot is) ∙ get_or-replicate NOFILE d None None below) ∙ names))
 
-    by : (g : ℕ) (o : Option Entry) → entry_at k'.files g ≡ o → IsSome (cond (ltb g OPEN_FILES) (open_file_at k'.files g) None) → (q : ℕ) × (d : ℕ) × (quiet.file_at (state_of k' h') q d ≡ Some g)
+    by : (g : ℕ) (o : Option CountedFile) → entry_at k'.files g ≡ o → IsSome (cond (ltb g OPEN_FILES) (open_file_at k'.files g) None)
+        → (q : ℕ) × (d : ℕ) × (quiet.file_at (state_of k' h') q d ≡ Some g)
     by g None is there = absurd (cond-none (ltb g OPEN_FILES) (open_file_at k'.files g) (ap (option_map entry_file) is) there)
     by g (Some e) is there =
         let many : 1 ≤ namings k'.table g = omega (arith, counted.counts g, (table.counts g e is).0, ap (λ o. or_zero (option_map entry_count o)) is) in
@@ -205,7 +206,7 @@ module _ (t t' : Slots) (slot d g : ℕ) (inside : slot < 64) (below : d < NOFIL
       omega (arith, change, one-fewer-in file, ap (λ ds. named_in ds file) closed-here)
 
 -- the open file counts one fewer
-module _ (files : List (Option Entry)) (g : ℕ) (table : IsTable files) (e : Entry) (is : entry_at files g ≡ Some e) where
+module _ (files : List (Option CountedFile)) (g : ℕ) (table : IsTable files) (e : CountedFile) (is : entry_at files g ≡ Some e) where
   inside-files : g < length files
   inside-files = elim (cases_lt g (length files)) [ inl lt ↦ lt | inr ge ↦ absurd (none-some e (sym (get_or_past files g None ge) ∙ is)) ]
 
@@ -223,14 +224,14 @@ module _ (files : List (Option Entry)) (g : ℕ) (table : IsTable files) (e : En
       by true one = ap (λ b. or_zero (option_map entry_count (cond b None (Some (record e { count = e.count - 1 })))) + 1) one ∙ sym (eqb-true e.count 1 one)
       by false more = ap (λ b. or_zero (option_map entry_count (cond b None (Some (record e { count = e.count - 1 })))) + 1) more ∙ omega (arith, (table.counts g e is).0)
 
-  less-some : (x : Entry) → once_less e ≡ Some x → (x.file ≡ e.file) × (x.count + 1 ≡ e.count) × (e.count ≢ 1)
+  less-some : (x : CountedFile) → once_less e ≡ Some x → (x.file ≡ e.file) × (x.count + 1 ≡ e.count) × (e.count ≢ 1)
   less-some x is' = by (nat_eq e.count 1) refl is'
     where
       by : (b : Bool) → nat_eq e.count 1 ≡ b → cond b None (Some (record e { count = e.count - 1 })) ≡ Some x → (x.file ≡ e.file) × (x.count + 1 ≡ e.count) × (e.count ≢ 1)
       by true last never = absurd (none-some x never)
       by false more rest =
           let same : record e { count = e.count - 1 } ≡ x = cc in
-          (sym (ap (λ (y : Entry). y.file) same), omega (arith, ap (λ (y : Entry). y.count) same, (table.counts g e is).0), λ q. false≢true (sym more ∙ eq-eqb e.count 1 q))
+          (sym (ap (λ (y : CountedFile). y.file) same), omega (arith, ap (λ (y : CountedFile). y.count) same, (table.counts g e is).0), λ q. false≢true (sym more ∙ eq-eqb e.count 1 q))
 
   -- open files that are left are those that were
   pub fewer-kept : (f : ℕ) (x : OpenFile) → open_file_at (without_sharer g files) f ≡ Some x → open_file_at files f ≡ Some x
@@ -239,7 +240,7 @@ module _ (files : List (Option Entry)) (g : ℕ) (table : IsTable files) (e : En
     | inr ne ↦ sym (ap (option_map entry_file) (fewer-other f ne)) ∙ there
   ]
     where
-      here : f ≡ g → (o : Option Entry) → once_less e ≡ o → option_map entry_file o ≡ Some x → open_file_at files f ≡ Some x
+      here : f ≡ g → (o : Option CountedFile) → once_less e ≡ o → option_map entry_file o ≡ Some x → open_file_at files f ≡ Some x
       here same None at never = absurd (none-some x never)
       here same (Some y) at seen =
           let file : y.file ≡ x = cc in
@@ -276,7 +277,7 @@ module _ (files : List (Option Entry)) (g : ℕ) (table : IsTable files) (e : En
       )
 
 -- the counts are right again
-pub closed-counted : (files : List (Option Entry)) (t t' : Slots) (slot d g : ℕ) (e : Entry) → AreCounted files t → IsTable files
+pub closed-counted : (files : List (Option CountedFile)) (t t' : Slots) (slot d g : ℕ) (e : CountedFile) → AreCounted files t → IsTable files
     → entry_at files g ≡ Some e → slot < 64 → d < NOFILE → length t.descriptors ≡ 64 → named_by (descriptors_at t slot) d ≡ Some g
     → t'.descriptors ≡ set t.descriptors slot (with_named d None (descriptors_at t slot))
     → ((j : ℕ) → place_is_live (place_at t' j) ≡ place_is_live (place_at t j)) → place_is_live (place_at t slot) ≡ true → AreCounted (without_sharer g files) t'

@@ -11,7 +11,7 @@ use Rattle.hart_core.specs.declared.hart.Hart.{Hart}
 use Rattle.pipe_core.specs.Pipe.{Pipe}
 use Rattle.file_table.specs.Named.{named_by, with_named}
 use Rattle.file_table.specs.OpenFiles.{IsTable, IsOpen, open_file_at, entry_at, without_sharer}
-use Rattle.file_table.specs.declared.open_file.Entry.{Entry}
+use Rattle.file_table.specs.declared.open_file.CountedFile.{CountedFile}
 use Rattle.file_table.specs.declared.open_file.End.{End}
 use Rattle.file_table.specs.declared.open_file.End.TheVariants.{Reading, Writing}
 use Rattle.file_table.specs.declared.open_file.OpenFile.{OpenFile}
@@ -63,7 +63,7 @@ module _ {k : Kernel} {h : Hart} {slot d g : ℕ} (closing : IsClosing k h) (is 
   slot-below = let now = closing.sound.current slot is in slot-inside k h closing.sound slot now.process now.is
 
   -- it is open
-  pub used-entry : (e : Entry) × (entry_at k.files g ≡ Some e)
+  pub used-entry : (e : CountedFile) × (entry_at k.files g ≡ Some e)
   used-entry = counted-entry k.files g (omega (arith, closing.counted.counts g, named-counts k.table slot d g slot-below below used))
 
   pub used-open : IsOpen k.files g
@@ -130,7 +130,7 @@ module _ {k : Kernel} (k' : Kernel) {h : Hart} {slot d g : ℕ} {x : OpenFile} (
   abbrev middle : Kernel
   middle = record k' { table = record k.table { descriptors = set k.table.descriptors slot (with_named d None (descriptors_at k.table slot)) } }
 
-  entry : (e : Entry) × (entry_at k.files g ≡ Some e)
+  entry : (e : CountedFile) × (entry_at k.files g ≡ Some e)
   entry = used-entry closing is below used
 
   long : length (descriptors_at k.table slot) ≡ NOFILE

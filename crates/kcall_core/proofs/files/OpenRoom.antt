@@ -7,7 +7,7 @@ use Rattle.xk_base.specs.declared.limits.TheConstants.{NPROC, NOFILE, OPEN_FILES
 use Rattle.xk_base.specs.Words.{count_below}
 use Rattle.file_table.specs.Named.{named_by}
 use Rattle.file_table.specs.OpenFiles.{IsTable, entry_count, open_count}
-use Rattle.file_table.specs.declared.open_file.Entry.{Entry}
+use Rattle.file_table.specs.declared.open_file.CountedFile.{CountedFile}
 use Rattle.proc_table.specs.Slots.{Slots, descriptors_at}
 use Rattle.kernel_spec.specs.views.Words.{is_this, or_zero}
 use Rattle.hart_core.specs.declared.hart.Hart.{Hart}
@@ -165,7 +165,7 @@ namings-used n t =
 
 -- ---- each open file is named
 
-open-few : (xs : List (Option Entry)) → ((f : ℕ) (e : Entry) → get_or xs f None ≡ Some e → 1 ≤ e.count)
+open-few : (xs : List (Option CountedFile)) → ((f : ℕ) (e : CountedFile) → get_or xs f None ≡ Some e → 1 ≤ e.count)
     → count_by is_some xs ≤ sum_below (length xs) (λ f. or_zero (option_map entry_count (get_or xs f None)))
 unfolding sum_below
 open-few [] named = omega arith
@@ -178,27 +178,27 @@ open-few (x ∷ xs) named =
     let parts : all ≡ d + rest = sum-first (length xs) (λ f. or_zero (option_map entry_count (get_or (x ∷ xs) f None))) in
     let l : a ≤ rest = open-few xs (λ f e is. named (suc f) e is) in
     let r : c ≤ d = first x (λ e is. named 0 e is) in
-    let goal : count_by is_some (x ∷ xs) ≤ all = omega (arith, parts, l, r, sum_by-cons (λ (y : Option Entry). cond (is_some y) 1 0) x xs) in goal
+    let goal : count_by is_some (x ∷ xs) ≤ all = omega (arith, parts, l, r, sum_by-cons (λ (y : Option CountedFile). cond (is_some y) 1 0) x xs) in goal
   where
-    first : (x : Option Entry) → ((e : Entry) → x ≡ Some e → 1 ≤ e.count) → count (is_some x) ≤ or_zero (option_map entry_count x)
+    first : (x : Option CountedFile) → ((e : CountedFile) → x ≡ Some e → 1 ≤ e.count) → count (is_some x) ≤ or_zero (option_map entry_count x)
     first None named = omega arith
     first (Some e) named = named e refl
 
 -- no more files are open than descriptors are in use
-pub open-used : (files : List (Option Entry)) (t : Slots) → IsTable files → AreCounted files t → open_count files ≤ used t
+pub open-used : (files : List (Option CountedFile)) (t : Slots) → IsTable files → AreCounted files t → open_count files ≤ used t
 open-used files t table counted =
     let few : open_count files ≤ sum_below (length files) (λ f. or_zero (option_map entry_count (get_or files f None))) = open-few files (λ f e is. (table.counts f e is).0) in
     let same : sum_below (length files) (λ f. or_zero (option_map entry_count (get_or files f None))) ≡ sum_below (length files) (namings t) =
     sum_same (length files) (λ f. or_zero (option_map entry_count (get_or files f None))) (namings t) (λ f low. counted.counts f) in
     omega (arith, few, same, namings-used (length files) t)
 
-pub open-room : (files : List (Option Entry)) (t : Slots) (n : ℕ) → IsTable files → AreCounted files t → used t + n ≤ OPEN_FILES → open_count files + n ≤ OPEN_FILES
+pub open-room : (files : List (Option CountedFile)) (t : Slots) (n : ℕ) → IsTable files → AreCounted files t → used t + n ≤ OPEN_FILES → open_count files + n ≤ OPEN_FILES
 open-room files t n table counted room = omega (arith, room, open-used files t table counted)
 
 -- ---- where descriptors are free
 
 -- a free descriptor leaves room for an open file
-pub room-for-one : (files : List (Option Entry)) (t : Slots) (slot d : ℕ) → IsTable files → AreCounted files t → slot < NPROC → d < NOFILE
+pub room-for-one : (files : List (Option CountedFile)) (t : Slots) (slot d : ℕ) → IsTable files → AreCounted files t → slot < NPROC → d < NOFILE
     → named_by (descriptors_at t slot) d ≡ None → open_count files < OPEN_FILES
 room-for-one files t slot d table counted inside below free =
     let here : used_in (descriptors_at t slot) + 1 ≤ NOFILE = count-room NOFILE d (λ e. is_some (named_by (descriptors_at t slot) e)) below (ap is_some free) in
@@ -206,7 +206,7 @@ room-for-one files t slot d table counted inside below free =
     omega (arith, open-room files t 1 table counted all)
 
 -- and two leave room for two
-pub room-for-two : (files : List (Option Entry)) (t : Slots) (slot d e : ℕ) → IsTable files → AreCounted files t → slot < NPROC → d < NOFILE
+pub room-for-two : (files : List (Option CountedFile)) (t : Slots) (slot d e : ℕ) → IsTable files → AreCounted files t → slot < NPROC → d < NOFILE
     → e < NOFILE → d ≢ e → named_by (descriptors_at t slot) d ≡ None → named_by (descriptors_at t slot) e ≡ None → open_count files + 1 < OPEN_FILES
 room-for-two files t slot d e table counted inside below lower apart free empty =
     let here : used_in (descriptors_at t slot) + 2 ≤ NOFILE = count-room-two NOFILE d e (λ f. is_some (named_by (descriptors_at t slot) f)) below lower apart (ap is_some free) (ap is_some empty) in

@@ -13,7 +13,7 @@ use Rattle.hart_core.specs.declared.hart.Hart.{Hart}
 use Rattle.file_table.specs.Named.{named_by, with_named}
 use Rattle.file_table.specs.OpenFiles as files
 use Rattle.file_table.specs.OpenFiles.{entry_at, entry_file, entry_count, open_file_at, count_at, with_opened}
-use Rattle.file_table.specs.declared.open_file.Entry.{Entry}
+use Rattle.file_table.specs.declared.open_file.CountedFile.{CountedFile}
 use Rattle.file_table.specs.declared.open_file.OpenFile.{OpenFile}
 use Rattle.proc_table.specs.Slots.{Slots, place_at, place_is_live, descriptors_at}
 use Rattle.kernel_spec.specs.views.Words.{is_this, or_zero}
@@ -59,12 +59,12 @@ no-file = None
 -- ---- the table of open files
 
 -- the lowest place is free
-pub lowest-place-free : (xs : List (Option Entry)) (g : ℕ) → files.lowest_place xs ≡ Some g → (entry_at xs g ≡ None) × (g < length xs)
+pub lowest-place-free : (xs : List (Option CountedFile)) (g : ℕ) → files.lowest_place xs ≡ Some g → (entry_at xs g ≡ None) × (g < length xs)
 lowest-place-free xs g e =
     let found = least_passes (length xs) (λ d. is_none (get_or xs d None)) g (least-position xs (length xs) refl ∙ e) in
     (none_from_is_none (get_or xs g None) found.0, found.1)
 
-module _ (xs : List (Option Entry)) (g : ℕ) (y : OpenFile) (empty : entry_at xs g ≡ None) (inside : g < length xs) where
+module _ (xs : List (Option CountedFile)) (g : ℕ) (y : OpenFile) (empty : entry_at xs g ≡ None) (inside : g < length xs) where
   pub new-here : entry_at (with_opened g y xs) g ≡ Some (record { file = y; count = 1 })
   new-here = get_or-set_same xs g (Some (record { file = y; count = 1 })) None inside
 
@@ -77,7 +77,7 @@ module _ (xs : List (Option Entry)) (g : ℕ) (y : OpenFile) (empty : entry_at x
     counts = λ f e at. elim (cases_eq f g) [
       | inl same ↦
           let is : record { file = y; count = 1 } ≡ e = same_Some (record { file = y; count = 1 }) e (sym new-here ∙ sym (ap (entry_at (with_opened g y xs)) same) ∙ at) in
-          let count : 1 ≡ e.count = ap (λ (z : Entry). z.count) is in
+          let count : 1 ≡ e.count = ap (λ (z : CountedFile). z.count) is in
           (omega (arith, count), omega (arith, count))
       | inr ne ↦ table.counts f e (sym (new-other f ne) ∙ at)
     ];
@@ -100,7 +100,7 @@ module _ (xs : List (Option Entry)) (g : ℕ) (y : OpenFile) (empty : entry_at x
       not-this ne = elim (eqb_tells g f) [ inl h ↦ absurd (ne (sym h.1)) | inr h ↦ h.0 ]
 
 -- one descriptor names the new open file: the counts are right again
-pub opened-counted : (xs : List (Option Entry)) (t t' : Slots) (slot d g : ℕ) (y : OpenFile) → AreCounted xs t → entry_at xs g ≡ None → g < length xs
+pub opened-counted : (xs : List (Option CountedFile)) (t t' : Slots) (slot d g : ℕ) (y : OpenFile) → AreCounted xs t → entry_at xs g ≡ None → g < length xs
     → slot < 64 → d < NOFILE → length t.descriptors ≡ 64 → named_by (descriptors_at t slot) d ≡ None
     → t'.descriptors ≡ set t.descriptors slot (with_named d (Some g) (descriptors_at t slot))
     → ((j : ℕ) → place_is_live (place_at t' j) ≡ place_is_live (place_at t j)) → place_is_live (place_at t slot) ≡ true → AreCounted (with_opened g y xs) t'
@@ -119,7 +119,7 @@ opened-counted xs t t' slot d g y counted empty within inside below room free af
     }
 
 -- the open files of a state, with a new one
-pub opened-files : (xs : List (Option Entry)) (g : ℕ) (y : OpenFile) → entry_at xs g ≡ None → g < length xs → length xs ≡ OPEN_FILES
+pub opened-files : (xs : List (Option CountedFile)) (g : ℕ) (y : OpenFile) → entry_at xs g ≡ None → g < length xs → length xs ≡ OPEN_FILES
     → gathered (open_file_at (with_opened g y xs)) OPEN_FILES ≡ insert (gathered (open_file_at xs) OPEN_FILES) g y
 opened-files xs g y empty within places = same_pages (gathered (open_file_at (with_opened g y xs)) OPEN_FILES) (insert (gathered (open_file_at xs) OPEN_FILES) g y) (λ e. elim (eqb_tells e g) [
   | inl same ↦

@@ -9,7 +9,7 @@ use Rattle.xk_base.specs.Words.{count_below}
 use Rattle.hart_core.specs.declared.hart.Hart.{Hart}
 use Rattle.pipe_core.specs.Pipe.{Pipe}
 use Rattle.file_table.specs.OpenFiles.{count_at}
-use Rattle.file_table.specs.declared.open_file.Entry.{Entry}
+use Rattle.file_table.specs.declared.open_file.CountedFile.{CountedFile}
 use Rattle.file_table.specs.declared.open_file.End.{End}
 use Rattle.file_table.specs.declared.open_file.End.TheVariants.{Reading, Writing}
 use Rattle.file_table.specs.declared.open_file.TheConstants.{SHARERS_MAX}
@@ -54,7 +54,7 @@ sum-few (suc n) b f few = let a : ℕ = sum_below n f in let c : ℕ = f n in le
 pub namings-few : (t : Slots) (file : ℕ) → namings t file ≤ OPEN_FILES
 namings-few t file = sum-few NPROC NOFILE (λ slot. named_in (descriptors_at t slot) file) (λ slot. count-few _ NOFILE)
 
-pub file-room : (files : List (Option Entry)) (t : Slots) (file : ℕ) → AreCounted files t → (n : ℕ) → count_at files file ≡ Some n → n < SHARERS_MAX
+pub file-room : (files : List (Option CountedFile)) (t : Slots) (file : ℕ) → AreCounted files t → (n : ℕ) → count_at files file ≡ Some n → n < SHARERS_MAX
 file-room files t file counted n is = let counts : or_zero (count_at files file) ≡ n = ap or_zero is in omega (arith, counts, counted.counts file, namings-few t file)
 
 -- ---- over all processes: as many as slots, at most

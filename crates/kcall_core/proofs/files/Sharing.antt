@@ -9,7 +9,7 @@ use Rattle.xk_base.specs.declared.limits.TheConstants.{NOFILE}
 use Rattle.xk_base.specs.Words.{count_below}
 use Rattle.file_table.specs.Named.{named_by, none_named, with_named}
 use Rattle.file_table.specs.OpenFiles.{IsTable, entry_at, entry_file, entry_count, open_file_at, count_at, once_more, with_sharer}
-use Rattle.file_table.specs.declared.open_file.Entry.{Entry}
+use Rattle.file_table.specs.declared.open_file.CountedFile.{CountedFile}
 use Rattle.file_table.specs.declared.open_file.TheConstants.{SHARERS_MAX}
 use Rattle.proc_table.specs.Slots.{Slots, place_at, place_is_live, descriptors_at}
 use Rattle.kernel_spec.specs.views.Words.{is_this, or_zero}
@@ -45,7 +45,7 @@ module _ (t t' : Slots) (slot d g : ℕ) (inside : slot < 64) (below : d < NOFIL
       let change = sum_change 64 slot (λ j. named_in (descriptors_at t' j) file) (λ j. named_in (descriptors_at t j) file) inside (λ j ne. ap (λ ds. named_in ds file) (put-other j ne)) in
       omega (arith, change, one-more-in file, ap (λ ds. named_in ds file) put-here)
 
-module _ (files : List (Option Entry)) (g : ℕ) (table : IsTable files) (e : Entry) (is : entry_at files g ≡ Some e) where
+module _ (files : List (Option CountedFile)) (g : ℕ) (table : IsTable files) (e : CountedFile) (is : entry_at files g ≡ Some e) where
   inside-files : g < length files
   inside-files = elim (cases_lt g (length files)) [ inl lt ↦ lt | inr ge ↦ absurd (none-some e (sym (get_or_past files g None ge) ∙ is)) ]
 
@@ -69,7 +69,7 @@ module _ (files : List (Option Entry)) (g : ℕ) (table : IsTable files) (e : En
       | inl same ↦
           let here : Some (once_more e) ≡ Some x = sym more-here ∙ sym (ap (entry_at (with_sharer g files)) same) ∙ at in
           let one-up : once_more e ≡ x = cc in
-          (omega (arith, ap (λ (y : Entry). y.count) one-up), omega (arith, room, ap (λ (y : Entry). y.count) one-up))
+          (omega (arith, ap (λ (y : CountedFile). y.count) one-up), omega (arith, room, ap (λ (y : CountedFile). y.count) one-up))
       | inr ne ↦ table.counts f x (sym (more-other f ne) ∙ at)
     ];
   }
@@ -87,7 +87,7 @@ module _ (files : List (Option Entry)) (g : ℕ) (table : IsTable files) (e : En
       here = omega (arith, ap (λ o. or_zero (option_map entry_count o)) more-here, ap one (eq-eqb g g refl), ap (λ o. or_zero (option_map entry_count o)) is)
 
 -- the counts are right again
-pub shared-counted : (files : List (Option Entry)) (t t' : Slots) (slot d g : ℕ) (e : Entry) → AreCounted files t → IsTable files
+pub shared-counted : (files : List (Option CountedFile)) (t t' : Slots) (slot d g : ℕ) (e : CountedFile) → AreCounted files t → IsTable files
     → entry_at files g ≡ Some e → slot < 64 → d < NOFILE → length t.descriptors ≡ 64 → named_by (descriptors_at t slot) d ≡ None
     → t'.descriptors ≡ set t.descriptors slot (with_named d (Some g) (descriptors_at t slot))
     → ((j : ℕ) → place_is_live (place_at t' j) ≡ place_is_live (place_at t j)) → place_is_live (place_at t slot) ≡ true → AreCounted (with_sharer g files) t'

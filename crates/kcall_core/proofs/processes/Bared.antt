@@ -11,7 +11,7 @@ use Rattle.sv39_core.proofs.Gathered.{gathered-get}
 use Rattle.hart_core.specs.declared.hart.Hart.{Hart}
 use Rattle.file_table.specs.Named.{none_named}
 use Rattle.file_table.specs.OpenFiles as files
-use Rattle.file_table.specs.declared.open_file.Entry.{Entry}
+use Rattle.file_table.specs.declared.open_file.CountedFile.{CountedFile}
 use Rattle.proc_table.specs.Processes.{is_live, given, woken, state_woken, ended}
 use Rattle.proc_table.specs.Slots.{Slots, place_at, place_is_live, descriptors_at, each_changed, changed_at}
 use Rattle.proc_table.specs.declared.channel.Channel.{Channel}
@@ -123,7 +123,7 @@ module _ (slot pid : ℕ) (parent : Option ℕ) (status : ℤ) (t : Slots) where
       ∙ ap place_is_live (get_or-set_other adopted.places slot j (option_map (ended status) (place_at adopted slot)) None other)
       ∙ ap place_is_live (place-each (given pid 1) t j) ∙ live-given pid (place_at t j)
 
-  end-counted : (files : List (Option Entry)) → AreCounted files t → descriptors_at t slot ≡ none_named → AreCounted files (end_in slot pid parent status t)
+  end-counted : (files : List (Option CountedFile)) → AreCounted files t → descriptors_at t slot ≡ none_named → AreCounted files (end_in slot pid parent status t)
   end-counted files counted bare = record {
     counts = λ file. counted.counts file ∙ ap (λ (ds : List (List (Option ℕ))). namings (record t { descriptors = ds }) file) (sym end-descriptors);
     lists = λ j below. ap length (same j) ∙ counted.lists j below;
@@ -148,7 +148,7 @@ module _ (k k1 k' : Kernel) (h h' : Hart) (status : ℤ) (bared : IsBared k h k1
       let ds = descriptors_at k1.table (slot_now k1) in
       let r = running k1 h bared.sound bared.running in
       let bare : ds ≡ none_named = nothing-named ds (bared.counted.lists (slot_now k1) r.inside) bared.none in
-      subst (λ (fs : List (Option Entry)). AreCounted fs k'.table) (sym ends.files)
+      subst (λ (fs : List (Option CountedFile)). AreCounted fs k'.table) (sym ends.files)
       (subst (λ (t : Slots). AreCounted k1.files t) (sym ends.table) (end-counted (slot_now k1) (pid_now k1) (live_now k h).parent status k1.table k1.files bared.counted bare))
 
   bare-live : live_now k1 h ≡ record (live_now k h) { descriptors = (live_now k1 h).descriptors }

@@ -13,7 +13,7 @@ use Rattle.pipe_core.specs.declared.TheConstants.{END_COUNT_MAX}
 use Rattle.file_table.specs.Named.{named_by, with_named, none_named}
 use Rattle.file_table.specs.OpenFiles as files
 use Rattle.file_table.specs.OpenFiles.{entry_at, open_file_at}
-use Rattle.file_table.specs.declared.open_file.Entry.{Entry}
+use Rattle.file_table.specs.declared.open_file.CountedFile.{CountedFile}
 use Rattle.file_table.specs.declared.open_file.End.{End}
 use Rattle.file_table.specs.declared.open_file.End.TheVariants.{Reading, Writing}
 use Rattle.file_table.specs.declared.open_file.OpenFile.{OpenFile}
@@ -248,7 +248,7 @@ module _ {k : Kernel} {h : Hart} (whole : IsWhole k h) (runs : IsRunning k) (chi
         }
 
     module _ (g : ℕ) (used : named_by (descriptors_at k1.table slot) n ≡ Some g) where
-      its-entry : (e : Entry) × (entry_at k1.files g ≡ Some e)
+      its-entry : (e : CountedFile) × (entry_at k1.files g ≡ Some e)
       its-entry = counted-entry k1.files g (omega (arith, x.counted.counts g, named-counts k1.table slot n g now.inside below used))
 
       opened : (y : OpenFile) → open_file_at k1.files g ≡ Some y → get s.files g ≡ Some y

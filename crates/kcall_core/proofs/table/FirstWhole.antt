@@ -17,7 +17,7 @@ use Rattle.console_core.specs.Lists.{Console, IsWithinLimits}
 use Rattle.file_table.specs.Named.{named_by, none_named}
 use Rattle.file_table.specs.OpenFiles as files
 use Rattle.file_table.specs.OpenFiles.{none_open, entry_count}
-use Rattle.file_table.specs.declared.open_file.Entry.{Entry}
+use Rattle.file_table.specs.declared.open_file.CountedFile.{CountedFile}
 use Rattle.proc_table.specs.Processes.{channel_of, newborn}
 use Rattle.proc_table.specs.Slots.{Slots, place_at, descriptors_at, no_process, with_new}
 use Rattle.proc_table.specs.declared.process.Process.{Process}
@@ -49,7 +49,7 @@ no-one = None
 abbrev unused : Option ℕ
 unused = None
 
-abbrev no-entry : Option Entry
+abbrev no-entry : Option CountedFile
 no-entry = None
 
 -- nobody sleeps where no place has a sleeper

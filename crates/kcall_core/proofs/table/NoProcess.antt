@@ -11,7 +11,7 @@ use Rattle.hart_core.specs.declared.hart.Hart.{Hart}
 use Rattle.console_core.specs.Lists.{empty_console}
 use Rattle.file_table.specs.Named.{none_named}
 use Rattle.file_table.specs.OpenFiles.{none_open, open_file_at, entry_file}
-use Rattle.file_table.specs.declared.open_file.Entry.{Entry}
+use Rattle.file_table.specs.declared.open_file.CountedFile.{CountedFile}
 use Rattle.proc_table.specs.Slots.{Slots, place_at, no_process, IsTable}
 use Rattle.proc_table.specs.declared.process.Process.{Process}
 use Rattle.kernel_spec.specs.views.State.{named_file}
@@ -39,7 +39,7 @@ none-by-pid f (suc n) none = ap (put (by_pid f n)) (none n) ∙ none-by-pid f n 
 no-file : (i : ℕ) → open_file_at none_open i ≡ None
 no-file i = under (get_or none_open i None) (get_or-same None OPEN_FILES i)
   where
-    under : (o : Option Entry) → o ≡ None → option_map entry_file o ≡ None
+    under : (o : Option CountedFile) → o ≡ None → option_map entry_file o ≡ None
     under o e = ap (option_map entry_file) e
 
 no-table : IsTable (no_process 1)

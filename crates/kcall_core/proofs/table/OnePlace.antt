@@ -13,7 +13,7 @@ use Rattle.proc_table.specs.declared.process.Call.{Call}
 use Rattle.proc_table.specs.declared.process.Process.{Process}
 use Rattle.proc_table.specs.declared.process.State as table
 use Rattle.proc_table.specs.declared.process.State.TheVariants as table_state
-use Rattle.file_table.specs.declared.open_file.Entry.{Entry}
+use Rattle.file_table.specs.declared.open_file.CountedFile.{CountedFile}
 use Rattle.kernel_spec.specs.views.WellFormed.{sum_below}
 use Rattle.kcall_core.specs.Machine.{slots_of, sleeper_in, sleepers_below}
 use Rattle.kcall_core.specs.Whole.{AreCounted, named_in}
@@ -52,7 +52,7 @@ module _ {t u : Slots} {slot : ℕ} {before after : Process} (x : ItsPlace t u s
   place-live = alike-at place_is_live (ap is_none x.lives ∙ sym (ap is_none x.lived))
 
   -- open files are named as often as before
-  pub place-counted : {files : List (Option Entry)} → AreCounted files t → AreCounted files u
+  pub place-counted : {files : List (Option CountedFile)} → AreCounted files t → AreCounted files u
   place-counted {files} counted = record {
     counts = λ file. counted.counts file ∙ ap (λ d. sum_below NPROC (λ j. named_in (get_or d j none_named) file)) (sym x.descriptors);
     lists = λ j lt. ap length (place-files j) ∙ counted.lists j lt;
