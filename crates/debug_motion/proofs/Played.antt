@@ -73,14 +73,16 @@ shown-join xs ys a b c p q =
     }
 
 -- one byte more
-pub pushed-kept : (xs ys : List ℕ) (b : ℕ) (a m : Output) (last : Buffer ℕ) → ys ≡ xs ++ b ∷ [] → KeepsShown xs a m → last ≡ buffer (keep_last m.last.capacity (m.last.items ++ b ∷ [])) m.last.capacity → last ≡ buffer (keep_last a.last.capacity (a.last.items ++ ys)) a.last.capacity
+pub pushed-kept : (xs ys : List ℕ) (b : ℕ) (a m : Output) (last : Buffer ℕ) → ys ≡ xs ++ b ∷ [] → KeepsShown xs a m
+    → last ≡ buffer (keep_last m.last.capacity (m.last.items ++ b ∷ [])) m.last.capacity → last ≡ buffer (keep_last a.last.capacity (a.last.items ++ ys)) a.last.capacity
 pushed-kept xs ys b a m last all p kept =
     let cap : m.last.capacity ≡ a.last.capacity = ap (λ (l : Buffer ℕ). l.capacity) p.kept in
     let items : m.last.items ≡ keep_last a.last.capacity (a.last.items ++ xs) = ap (λ (l : Buffer ℕ). l.items) p.kept in
     kept ∙ ap₂ (λ (n : ℕ) (zs : List ℕ). buffer (keep_last n (zs ++ b ∷ [])) n) cap items
     ∙ ap (λ (zs : List ℕ). buffer zs a.last.capacity) (keep-more a.last.capacity (a.last.items ++ xs) (b ∷ []) ∙ ap (keep_last a.last.capacity) (append_assoc a.last.items xs (b ∷ []) ∙ ap (λ (zs : List ℕ). a.last.items ++ zs) (sym all)))
 
-pub pushed-counted : (xs ys : List ℕ) (b : ℕ) (a m : Output) (count : ℕ) → ys ≡ xs ++ b ∷ [] → KeepsShown xs a m → count ≡ min (m.count + 1) 18446744073709551615 → length ys ≤ 18446744073709551615 - a.count → count ≡ a.count + length ys
+pub pushed-counted : (xs ys : List ℕ) (b : ℕ) (a m : Output) (count : ℕ) → ys ≡ xs ++ b ∷ [] → KeepsShown xs a m → count ≡ min (m.count + 1) 18446744073709551615
+    → length ys ≤ 18446744073709551615 - a.count → count ≡ a.count + length ys
 pushed-counted xs ys b a m count all p counted room =
     let long : length ys ≡ length xs + 1 = ap (length {A = ℕ}) all ∙ length-append xs (b ∷ []) in
     let first : m.count ≡ a.count + length xs = p.counted (omega (arith, room, long)) in
@@ -127,7 +129,8 @@ pub sends-none : (s : Recorded) (o : Output) → length o.last.items ≤ o.last.
 unfolding plays-none
 sends-none s o fits = (plays-none s o fits, refl)
 
-pub sends-more : (xs : List Event) (e : Event) (o : Outcome) (last : Option Outcome) (old mid new : Recorded) (i j k : Output) → Plays xs old mid i j → Sent mid e o new → KeepsShown (bytes_out o) j k → last ≡ Some o
+pub sends-more : (xs : List Event) (e : Event) (o : Outcome) (last : Option Outcome) (old mid new : Recorded) (i j k : Output) → Plays xs old mid i j → Sent mid e o new
+    → KeepsShown (bytes_out o) j k → last ≡ Some o
     → Sends (xs ++ e ∷ []) last old new i k
 unfolding plays-join plays-one
 sends-more xs e o last old mid new i j k p one shown is = (plays-join xs (e ∷ []) old mid new i j k p (plays-one e o mid new j k one shown), is ∙ sym (last-one p.list e o))

@@ -33,13 +33,16 @@ adds-still xs old mid new one same = subst (λ (s : Recorded). Adds xs old s) (s
 pub none-met-yet : (test : Meaning → Outcome → Meaning → Bool) (r : Running) → NoneMet test 0 None r r
 none-met-yet test r = (refl, refl)
 
-pub none-more : (test : Meaning → Outcome → Meaning → Bool) (n : ℕ) (o : Outcome) (before last : Option Outcome) (old mid new : Running) → NoneMet test n before old mid → Advances mid Run o new → test mid.machine o new.machine ≡ false → last ≡ Some o → NoneMet test (n + 1) last old new
+pub none-more : (test : Meaning → Outcome → Meaning → Bool) (n : ℕ) (o : Outcome) (before last : Option Outcome) (old mid new : Running) → NoneMet test n before old mid
+    → Advances mid Run o new → test mid.machine o new.machine ≡ false → last ≡ Some o → NoneMet test (n + 1) last old new
 none-more test n o before last old mid new none one unmet is = subst (λ k. NoneMet test k last old new) (sym (add-one n)) (mid, o, before, none, one, unmet, is)
 
-pub last-met : (test : Meaning → Outcome → Meaning → Bool) (n : ℕ) (o : Outcome) (before last : Option Outcome) (old mid new : Running) → NoneMet test n before old mid → Advances mid Run o new → test mid.machine o new.machine ≡ true → last ≡ Some o → LastMet test (n + 1) last old new
+pub last-met : (test : Meaning → Outcome → Meaning → Bool) (n : ℕ) (o : Outcome) (before last : Option Outcome) (old mid new : Running) → NoneMet test n before old mid
+    → Advances mid Run o new → test mid.machine o new.machine ≡ true → last ≡ Some o → LastMet test (n + 1) last old new
 last-met test n o before last old mid new none one met is = subst (λ k. LastMet test k last old new) (sym (add-one n)) (mid, o, before, none, one, met, is)
 
-pub none-still : (test : Meaning → Outcome → Meaning → Bool) (n : ℕ) (last : Option Outcome) (old mid new : Recorded) → NoneMet test n last (running_of old) (running_of mid) → new ≡ mid → NoneMet test n last (running_of old) (running_of new)
+pub none-still : (test : Meaning → Outcome → Meaning → Bool) (n : ℕ) (last : Option Outcome) (old mid new : Recorded) → NoneMet test n last (running_of old) (running_of mid) → new ≡ mid
+    → NoneMet test n last (running_of old) (running_of new)
 none-still test n last old mid new none same = subst (λ (s : Recorded). NoneMet test n last (running_of old) (running_of s)) (sym same) none
 
 -- ---- a search of one Run

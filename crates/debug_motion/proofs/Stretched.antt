@@ -73,7 +73,8 @@ ran-one o old new (one, same) = record {
 }
 
 -- those of the process that runs
-pub ran-runs : (most sent p : ℕ) (told : Option Outcome) (old new : Recorded) → old.machine.world.turns.current ≡ Some p → 0 < most → RunsSent most sent told old new → Ran sent (Some (last_of p told)) old new
+pub ran-runs : (most sent p : ℕ) (told : Option Outcome) (old new : Recorded) → old.machine.world.turns.current ≡ Some p → 0 < most → RunsSent most sent told old new
+    → Ran sent (Some (last_of p told)) old new
 ran-runs most sent p told old new current some (made, kept) = record {
   added = kept;
   list = made.list;

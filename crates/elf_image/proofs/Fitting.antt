@@ -14,7 +14,8 @@ right_false true b h e = e
 right_false false b h e = absurd (false≢true h)
 
 -- a header that makes a segment and isn't bad fits behind the size
-fits_one : (len size : ℕ) (h : ProgramHeader) → is_bad len size h ≡ false → is_loaded h ≡ true → (page_up size ≤ h.vaddr) × (h.filesz ≤ h.memsz) × (h.off + h.filesz ≤ len) × (h.vaddr + h.memsz ≤ SIZE_LIMIT)
+fits_one : (len size : ℕ) (h : ProgramHeader) → is_bad len size h ≡ false → is_loaded h ≡ true
+    → (page_up size ≤ h.vaddr) × (h.filesz ≤ h.memsz) × (h.off + h.filesz ≤ len) × (h.vaddr + h.memsz ≤ SIZE_LIMIT)
 unfolding is_bad
 fits_one len size h good is =
     let parts = and_parts (is_load h) (ltb 0 h.memsz) is in

@@ -120,7 +120,8 @@ abbrev pub with_first : Pool → ℕ → Pool
 with_first pool f = record { first = Some f; count = pool.count + 1 }
 
 -- the frames that were free are, and the one put first
-pub first-put : (pool : Pool) (ram ram' : List (List ℕ)) (f w : ℕ) → WordWritten ram ram' f 0 w → link w ≡ pool.first → copies f (free_in pool ram) ≡ 0 → free_in (with_first pool f) ram' ≡ f ∷ free_in pool ram
+pub first-put : (pool : Pool) (ram ram' : List (List ℕ)) (f w : ℕ) → WordWritten ram ram' f 0 w → link w ≡ pool.first → copies f (free_in pool ram) ≡ 0
+    → free_in (with_first pool f) ram' ≡ f ∷ free_in pool ram
 unfolding free_in
 first-put pool ram ram' f w put leads apart =
     let after : next ram' f ≡ pool.first = ap link put.here ∙ leads in
@@ -128,7 +129,8 @@ first-put pool ram ram' f w put leads apart =
     ∙ ap (λ o. f ∷ chain ram' o pool.count) after
     ∙ ap (λ fs. f ∷ fs) (chain-kept ram ram' pool.first pool.count (λ g has. put.stay.words g 0 (λ e. omega (arith, has, apart, ap (λ y. copies y (free_in pool ram)) e))))
 
-pub Good-with_first : (pool : Pool) (ram ram' : List (List ℕ)) (f w : ℕ) → Good pool ram → f < length ram → WordWritten ram ram' f 0 w → link w ≡ pool.first → copies f (free_in pool ram) ≡ 0 → Good (with_first pool f) ram'
+pub Good-with_first : (pool : Pool) (ram ram' : List (List ℕ)) (f w : ℕ) → Good pool ram → f < length ram → WordWritten ram ram' f 0 w → link w ≡ pool.first → copies f (free_in pool ram) ≡ 0
+    → Good (with_first pool f) ram'
 Good-with_first pool ram ram' f w good inside put leads apart =
     let list = first-put pool ram ram' f w put leads apart in
     let after : next ram' f ≡ pool.first = ap link put.here ∙ leads in
@@ -162,7 +164,8 @@ Good-kept pool ram ram' good count same =
       small = omega (arith, good.small, count);
     }
 
-words-elsewhere : (pool : Pool) (ram ram' : List (List ℕ)) (f : ℕ) → OthersStay ram ram' f → copies f (free_in pool ram) ≡ 0 → (g : ℕ) → 1 ≤ copies g (free_in pool ram) → word_at ram' g 0 ≡ word_at ram g 0
+words-elsewhere : (pool : Pool) (ram ram' : List (List ℕ)) (f : ℕ) → OthersStay ram ram' f → copies f (free_in pool ram) ≡ 0 → (g : ℕ) → 1 ≤ copies g (free_in pool ram)
+    → word_at ram' g 0 ≡ word_at ram g 0
 words-elsewhere pool ram ram' f stay apart g has = stay.words g 0 (λ e. omega (arith, has, apart, ap (λ y. copies y (free_in pool ram)) e))
 
 -- a write to a frame that isn't free leaves the free frames

@@ -35,7 +35,8 @@ given-first pool pool' ram ram' f good' count same others = record {
 }
 
 -- the same, where the free frames are a list, and f alone may have changed
-pub taken-list : (pool pool' : Pool) (ram ram' : List (List ℕ)) (f : ℕ) → Good pool ram → Good pool' ram' → free_in pool ram ≡ f ∷ free_in pool' ram' → OthersStay ram ram' f → frame_at ram' f ≡ zero_frame → Taken pool ram pool' ram' f
+pub taken-list : (pool pool' : Pool) (ram ram' : List (List ℕ)) (f : ℕ) → Good pool ram → Good pool' ram' → free_in pool ram ≡ f ∷ free_in pool' ram' → OthersStay ram ram' f
+    → frame_at ram' f ≡ zero_frame → Taken pool ram pool' ram' f
 taken-list pool pool' ram ram' f good good' list stay zeros = taken-first pool pool' ram ram' f good good' stay.count (record { each = λ x. ap (copies x) list }) zeros stay.others
 
 pub given-list : (pool pool' : Pool) (ram ram' : List (List ℕ)) (f : ℕ) → Good pool' ram' → free_in pool' ram' ≡ f ∷ free_in pool ram → OthersStay ram ram' f → Given pool ram pool' ram' f
@@ -82,7 +83,8 @@ trade-more pool pool' ram ram' mine mine' more t = record {
 }
 
 -- only which frames are owned plays a part, not their order
-pub trade-same : (pool pool' : Pool) (ram ram' : List (List ℕ)) (mine mine' yours yours' : List ℕ) → SameFrames yours mine → SameFrames yours' mine' → Traded pool ram pool' ram' mine mine' → Traded pool ram pool' ram' yours yours'
+pub trade-same : (pool pool' : Pool) (ram ram' : List (List ℕ)) (mine mine' yours yours' : List ℕ) → SameFrames yours mine → SameFrames yours' mine' → Traded pool ram pool' ram' mine mine'
+    → Traded pool ram pool' ram' yours yours'
 trade-same pool pool' ram ram' mine mine' yours yours' before after t = record {
   good = t.good;
   count = t.count;
@@ -91,7 +93,8 @@ trade-same pool pool' ram ram' mine mine' yours yours' before after t = record {
 }
 
 -- no frame is lost
-pub trade-lengths : (pool pool' : Pool) (ram ram' : List (List ℕ)) (mine mine' : List ℕ) → Traded pool ram pool' ram' mine mine' → length (free_in pool' ram') + length mine' ≡ length (free_in pool ram) + length mine
+pub trade-lengths : (pool pool' : Pool) (ram ram' : List (List ℕ)) (mine mine' : List ℕ) → Traded pool ram pool' ram' mine mine'
+    → length (free_in pool' ram') + length mine' ≡ length (free_in pool ram) + length mine
 trade-lengths pool pool' ram ram' mine mine' t =
     let same : SameFrames (free_in pool' ram' ++ mine') (free_in pool ram ++ mine) = record { each = λ f. copies-append f (free_in pool' ram') mine' ∙ t.frames f ∙ sym (copies-append f (free_in pool ram) mine) } in
     sym (length-append (free_in pool' ram') mine') ∙ length-same (free_in pool' ram' ++ mine') (free_in pool ram ++ mine) same ∙ length-append (free_in pool ram) mine

@@ -85,7 +85,8 @@ ring_pieces frame from n b whole inside fits cut =
     ap (λ k. values_below k (ring_byte frame from)) sum ∙ values-add b (n - b) (ring_byte frame from) ∙ (λ k. first k ++ second k)
 
 -- the n bytes of a pipe from number skip on, in the ring
-bytes_from : (ram : List (List ℕ)) (f skip n : ℕ) → skip + n ≤ word_at ram f 3 → take n (drop skip (pipe_in ram f).bytes) ≡ values_below n (ring_byte (frame_at ram f) ((word_at ram f 2 + skip) % PIPE_BYTES))
+bytes_from : (ram : List (List ℕ)) (f skip n : ℕ) → skip + n ≤ word_at ram f 3
+    → take n (drop skip (pipe_in ram f).bytes) ≡ values_below n (ring_byte (frame_at ram f) ((word_at ram f 2 + skip) % PIPE_BYTES))
 unfolding pipe_in
 bytes_from ram f skip n le =
     let count = word_at ram f 3 in

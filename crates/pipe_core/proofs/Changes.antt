@@ -53,7 +53,8 @@ becomes-none ram f p = record {
 }
 
 -- bytes are added behind bytes
-pub becomes-more : (a b c : List (List ℕ)) (f : ℕ) (xs ys : List ℕ) → Becomes a b f (with_more xs (pipe_in a f)) → Becomes b c f (with_more ys (pipe_in b f)) → Becomes a c f (with_more (xs ++ ys) (pipe_in a f))
+pub becomes-more : (a b c : List (List ℕ)) (f : ℕ) (xs ys : List ℕ) → Becomes a b f (with_more xs (pipe_in a f)) → Becomes b c f (with_more ys (pipe_in b f))
+    → Becomes a c f (with_more (xs ++ ys) (pipe_in a f))
 becomes-more a b c f xs ys one two = record {
   good = two.good;
   is = two.is ∙ ap (with_more ys) one.is ∙ ap (λ zs. record (pipe_in a f) { bytes = zs }) (append_assoc (pipe_in a f).bytes xs ys);
@@ -79,7 +80,8 @@ pipe_kept old new g count frame p =
     )
 
 -- a word of the header changes, and the ring stays
-ring_kept : (old new : List (List ℕ)) (f i v : ℕ) → WordWritten old new f i v → i < 4 → (from n : ℕ) → values_below n (ring_byte (frame_at new f) from) ≡ values_below n (ring_byte (frame_at old f) from)
+ring_kept : (old new : List (List ℕ)) (f i v : ℕ) → WordWritten old new f i v → i < 4 → (from n : ℕ)
+    → values_below n (ring_byte (frame_at new f) from) ≡ values_below n (ring_byte (frame_at old f) from)
 ring_kept old new f i v w lt from n =
     values-same n _ _ (λ k _. w.after (32 + (from + k) % PIPE_BYTES) (omega (arith, lt)))
 
@@ -222,8 +224,10 @@ pulls old mid new f n p le v w =
 
 -- ---- the same, of numbers that were read
 
-pub pushes_to : (old mid new : List (List ℕ)) (f n first count from : ℕ) (frame0 frame bytes : List ℕ) → IsPipe old f → mid ≡ set old f frame → first ≡ word_at old f 2 → count ≡ length (pipe_in old f).bytes → n ≡ min (length bytes) (PIPE_BYTES - count)
-    → frame0 ≡ frame_at old f → from ≡ (first + count) % PIPE_BYTES → IsPlaced frame0 frame from (take n bytes) → WordWritten mid new f 3 (count + n) → Becomes old new f (with_more (take n bytes) (pipe_in old f))
+pub pushes_to : (old mid new : List (List ℕ)) (f n first count from : ℕ) (frame0 frame bytes : List ℕ) → IsPipe old f → mid ≡ set old f frame → first ≡ word_at old f 2
+    → count ≡ length (pipe_in old f).bytes → n ≡ min (length bytes) (PIPE_BYTES - count)
+    → frame0 ≡ frame_at old f → from ≡ (first + count) % PIPE_BYTES → IsPlaced frame0 frame from (take n bytes) → WordWritten mid new f 3 (count + n)
+    → Becomes old new f (with_more (take n bytes) (pipe_in old f))
 pushes_to old mid new f n first count from frame0 frame bytes p e one two room here place put w =
     let three : count ≡ word_at old f 3 = two ∙ length-bytes old f in
     let whole : length (take n bytes) ≡ n = length-take-le n bytes (omega (arith, room)) in
@@ -243,7 +247,8 @@ pulls_to old mid new f n first count p one two le v w =
     let w1 = rw three at w in
     pulls old mid new f n p (omega (arith, le, three)) v1 w1
 
-pub pulls_bytes : (ram : List (List ℕ)) (f n first count len : ℕ) (frame xs ys : List ℕ) → first ≡ word_at ram f 2 → count ≡ length (pipe_in ram f).bytes → n ≤ count → frame ≡ frame_at ram f → len ≡ n → xs ≡ values_below len (ring_byte frame first)
+pub pulls_bytes : (ram : List (List ℕ)) (f n first count len : ℕ) (frame xs ys : List ℕ) → first ≡ word_at ram f 2 → count ≡ length (pipe_in ram f).bytes → n ≤ count → frame ≡ frame_at ram f
+    → len ≡ n → xs ≡ values_below len (ring_byte frame first)
     → xs ++ ys ≡ take n (pipe_in ram f).bytes ++ ys
 unfolding pipe_in
 pulls_bytes ram f n first count len frame xs ys one two le at cut is =

@@ -33,7 +33,8 @@ least_later xs parent n (Some s) h not_so = (
 )
 
 -- of one that is, with a lesser pid
-pub least_first : (xs : List (Option Process)) (parent n : ℕ) (o : Option ℕ) → IsLeastEnded xs parent n o → place_has_ended parent (get_or xs n None) ≡ true → is_first xs n o ≡ true → IsLeastEnded xs parent (n + 1) (Some n)
+pub least_first : (xs : List (Option Process)) (parent n : ℕ) (o : Option ℕ) → IsLeastEnded xs parent n o → place_has_ended parent (get_or xs n None) ≡ true → is_first xs n o ≡ true
+    → IsLeastEnded xs parent (n + 1) (Some n)
 least_first xs parent n None h here is_so = (
   omega arith,
   here,

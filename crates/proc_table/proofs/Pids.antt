@@ -106,7 +106,8 @@ pids_none m n = record {
     empty m i = elim (cases_lt i m) [ inl lt ↦ get_or-replicate m i None None lt | inr ge ↦ get_or_past (replicate m None) i None (omega (arith, ge, length-replicate m nobody)) ]
 
 -- a table in which one process changed, but for its pid
-pub table_at : (t : Slots) (i : ℕ) (x : Option Process) (p q : Process) → IsTable t → i < 64 → x ≡ get_or t.places i x → x ≡ Some p → q.pid ≡ p.pid → IsTable (record t { places = set t.places i (Some q) })
+pub table_at : (t : Slots) (i : ℕ) (x : Option Process) (p q : Process) → IsTable t → i < 64 → x ≡ get_or t.places i x → x ≡ Some p → q.pid ≡ p.pid
+    → IsTable (record t { places = set t.places i (Some q) })
 table_at t i x p q is within read some same = record {
   places = length-set t.places i (Some q) ∙ is.places;
   descriptors = is.descriptors;
@@ -117,7 +118,8 @@ table_at t i x p q is within read some same = record {
 }
 
 -- a table in which all processes changed, but for their pids
-pub table_each : (t : Slots) (f : Process → Process) (ys : List (Option Process)) → IsTable t → ((p : Process) → (f p).pid ≡ p.pid) → ys ≡ map (option_map f) t.places → IsTable (record t { places = ys })
+pub table_each : (t : Slots) (f : Process → Process) (ys : List (Option Process)) → IsTable t → ((p : Process) → (f p).pid ≡ p.pid) → ys ≡ map (option_map f) t.places
+    → IsTable (record t { places = ys })
 table_each t f ys is keeps e = record {
   places = ap length e ∙ length-map t.places (option_map f) ∙ is.places;
   descriptors = is.descriptors;
@@ -128,7 +130,8 @@ table_each t f ys is keeps e = record {
 }
 
 -- a table with a new process of the next pid
-pub table_new : (t : Slots) (i : ℕ) (q : Process) (d : List (Option ℕ)) → IsTable t → q.pid ≡ t.next → t.next < 2 ^ 31 → IsTable (record t { places = set t.places i (Some q); descriptors = set t.descriptors i d; next = t.next + 1 })
+pub table_new : (t : Slots) (i : ℕ) (q : Process) (d : List (Option ℕ)) → IsTable t → q.pid ≡ t.next → t.next < 2 ^ 31
+    → IsTable (record t { places = set t.places i (Some q); descriptors = set t.descriptors i d; next = t.next + 1 })
 table_new t i q d is new room = record {
   places = length-set t.places i (Some q) ∙ is.places;
   descriptors = length-set t.descriptors i d ∙ is.descriptors;

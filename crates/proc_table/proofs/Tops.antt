@@ -18,7 +18,8 @@ top_new xs i top more q h below le within = record {
 }
 
 -- a process changes in its slot
-pub top_at : (xs : List (Option Process)) (i top : ℕ) (x : Option Process) (p q : Process) → HoldsNoneFrom xs top → length xs ≡ 64 → i < 64 → x ≡ get_or xs i x → x ≡ Some p → HoldsNoneFrom (set xs i (Some q)) top
+pub top_at : (xs : List (Option Process)) (i top : ℕ) (x : Option Process) (p q : Process) → HoldsNoneFrom xs top → length xs ≡ 64 → i < 64 → x ≡ get_or xs i x → x ≡ Some p
+    → HoldsNoneFrom (set xs i (Some q)) top
 top_at xs i top x p q h length lt read some = elim (cases_lt i top) [
   | inl below ↦ top_new xs i top top q h below (omega arith) h.within
   | inr past ↦ none_is p _ (sym (h.free i past) ∙ sym (get_or_read xs i x (omega (arith, length, lt)) read None) ∙ some)
@@ -34,7 +35,8 @@ nothing_changes f (x ∷ xs) free = by x (free 0) (nothing_changes f xs (λ k. f
     by (Some p) is rest = none_is p _ (sym is)
 
 -- the first places changed, and none behind them is held: all are changed
-pub all_changed : (f : Process → Process) (top : ℕ) (xs : List (Option Process)) → ((k : ℕ) → top ≤ k → get_or xs k None ≡ None) → map (option_map f) (take top xs) ++ drop top xs ≡ map (option_map f) xs
+pub all_changed : (f : Process → Process) (top : ℕ) (xs : List (Option Process)) → ((k : ℕ) → top ≤ k → get_or xs k None ≡ None)
+    → map (option_map f) (take top xs) ++ drop top xs ≡ map (option_map f) xs
 all_changed f zero xs free = nothing_changes f xs (λ k. free k (omega arith))
 all_changed f (suc n) [] free = refl
 all_changed f (suc n) (x ∷ xs) free = ap (λ ys. option_map f x ∷ ys) (all_changed f n xs (λ k le. free (suc k) (omega (arith, le))))

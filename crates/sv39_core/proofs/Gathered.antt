@@ -44,7 +44,8 @@ gathered-get f (suc n) v = gathered-step f n v (gathered f n) (gathered-get f n 
 pub same_pages : {X : Type 0} (m n : FinMap nat_cmp X) → ((v : ℕ) → get m v ≡ get n v) → m ≡ n
 same_pages m n h = same_map nat_cmp_total nat_cmp-IsAntisymmetric m n h
 
-pub get-insert_some : {X : Type 0} (m : FinMap nat_cmp X) (k : ℕ) (o : Option X) (v : ℕ) → (o ≡ None → get m k ≡ None) → (v ≡ k → get (insert_some m k o) v ≡ o) × (v ≢ k → get (insert_some m k o) v ≡ get m v)
+pub get-insert_some : {X : Type 0} (m : FinMap nat_cmp X) (k : ℕ) (o : Option X) (v : ℕ) → (o ≡ None → get m k ≡ None)
+    → (v ≡ k → get (insert_some m k o) v ≡ o) × (v ≢ k → get (insert_some m k o) v ≡ get m v)
 get-insert_some m k None v h = (λ e. ap (get m) e ∙ h refl, λ ne. refl)
 get-insert_some m k (Some p) v h = (
   λ e. get-insert nat_cmp_total m k p v ∙ ap (λ b. cond b (Some p) (get m v)) (tie-yes v k e),

@@ -68,7 +68,8 @@ hung-entries : (ram ram' : List (List ℕ)) (root f i g l0 p0 : ℕ) → Hung ra
 hung-entries ram ram' root f i g l0 p0 h j = entry-other ram ram' f i h.w h.put g j (λ is e. h.apart is)
 
 -- every other table stays
-pub hung-others : (ram ram' : List (List ℕ)) (root f i g l0 p0 : ℕ) → Hung ram ram' root f i g l0 p0 → (l p : ℕ) → l ≤ 2 → (l ≡ suc l0 → p ≡ 512 * p0 + i → ⊥) → table_at ram' root l p ≡ table_at ram root l p
+pub hung-others : (ram ram' : List (List ℕ)) (root f i g l0 p0 : ℕ) → Hung ram ram' root f i g l0 p0 → (l p : ℕ) → l ≤ 2 → (l ≡ suc l0 → p ≡ 512 * p0 + i → ⊥)
+    → table_at ram' root l p ≡ table_at ram root l p
 hung-others ram ram' root f i g l0 p0 h zero zero le away = refl
 hung-others ram ram' root f i g l0 p0 h zero (suc p) le away = refl
 hung-others ram ram' root f i g l0 p0 h (suc l) p le away =

@@ -242,7 +242,8 @@ table_of-entry_of n w = by_flags (flag w 0) (flag w 1) (flag w 2) (flag w 3) (eq
     by_flags true false false false t l u leaf f e = led (t && l && u) f
 
 -- an access reaches the frame of a usable entry whose bits permit it: it is a leaf then
-pub allowed-usable : (access : Access) (n w offset : ℕ) → allowed access (entry_of n w) offset ≡ cond (is_usable n w && permits access (given (rights_of w) (flag w 6) (flag w 7))) (Some (page_number w - 0x80000, offset)) None
+pub allowed-usable : (access : Access) (n w offset : ℕ)
+    → allowed access (entry_of n w) offset ≡ cond (is_usable n w && permits access (given (rights_of w) (flag w 6) (flag w 7))) (Some (page_number w - 0x80000, offset)) None
 unfolding entry_of
 allowed-usable access n w offset =
     by_flags access (flag w 0) (flag w 1) (flag w 2) (flag w 3) (flag w 4) (flag w 6) (flag w 7) (eqb (w / 2 ^ 54) 0) (leb 0x80000 (page_number w)) (ltb (page_number w - 0x80000) n) (page_number w - 0x80000) offset
@@ -331,7 +332,8 @@ allowed_outside access n w offset out =
     none false place = refl
 
 -- one of RAM's is reached by the accesses that the bits below its number permit
-pub allowed_inside : (access : Access) (n w offset f : ℕ) (b : Bool) → is_in_ram n w ≡ true → f ≡ page_number w - 0x80000 → b ≡ (flag w 0 && (not (flag w 2) || flag w 1) && permits access (given (rights_of w) (flag w 6) (flag w 7)))
+pub allowed_inside : (access : Access) (n w offset f : ℕ) (b : Bool) → is_in_ram n w ≡ true → f ≡ page_number w - 0x80000
+    → b ≡ (flag w 0 && (not (flag w 2) || flag w 1) && permits access (given (rights_of w) (flag w 6) (flag w 7)))
     → allowed access (entry_of n w) offset ≡ cond b (Some (f, offset)) None
 allowed_inside access n w offset f b inside frame open_to =
     allowed-entry_of access n w offset

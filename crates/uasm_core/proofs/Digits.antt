@@ -15,7 +15,8 @@ number_in_more : (base : ℕ) (bs : List ℕ) (i : ℕ) → i < length bs → nu
 number_in_more base bs i lt = fold_more (λ n d. n * base + digit_value d) 0 bs i 0 lt
 
 -- a number below 2^64 takes a digit exactly
-pub capped_below : (n base : ℕ) (bs : List ℕ) (i : ℕ) → i < length bs → n < 2 ^ 64 → IsCapped n (number_in base (take i bs)) → IsCapped (n * base + digit_value (get_or bs i 0)) (number_in base (take (i + 1) bs))
+pub capped_below : (n base : ℕ) (bs : List ℕ) (i : ℕ) → i < length bs → n < 2 ^ 64 → IsCapped n (number_in base (take i bs))
+    → IsCapped (n * base + digit_value (get_or bs i 0)) (number_in base (take (i + 1) bs))
 capped_below n base bs i lt small same =
     let e : n ≡ number_in base (take i bs) = omega (arith, same) in
     ap (λ m. min (m * base + digit_value (get_or bs i 0)) (2 ^ 64)) e ∙ ap (λ m. min m (2 ^ 64)) (sym (number_in_more base bs i lt))

@@ -26,7 +26,8 @@ by_number (Err k) f n bs len h = absurd (let no_way : ⊥ = cc in no_way)
 by_number (Ok a) f n bs len h = let e : f a ≡ bs = cc in sym (ap length e) ∙ len a
 
 -- the same for a number that another decides
-by_numbers : (r : Result ℕ AsmErrorKind) (g : ℕ → Result ℕ AsmErrorKind) (f : ℕ → List ℕ) (n : ℕ) (bs : List ℕ) → ((a : ℕ) → length (f a) ≡ n) → (r >>= λ to. g to >>= λ a. Ok (f a)) ≡ Ok bs → length bs ≡ n
+by_numbers : (r : Result ℕ AsmErrorKind) (g : ℕ → Result ℕ AsmErrorKind) (f : ℕ → List ℕ) (n : ℕ) (bs : List ℕ) → ((a : ℕ) → length (f a) ≡ n) → (r >>= λ to. g to >>= λ a. Ok (f a)) ≡ Ok bs
+    → length bs ≡ n
 by_numbers (Err k) g f n bs len h = absurd (let no_way : ⊥ = cc in no_way)
 by_numbers (Ok to) g f n bs len h = by_number (g to) f n bs len h
 
@@ -57,7 +58,8 @@ data_len labels (d ∷ ds) bss h =
     more ∙ sym (sum_by-cons datum_size d ds)
 
 -- their bytes, joined
-values_len : (labels : Labels) (ds : List Datum) (r : Result (List (List ℕ)) AsmErrorKind) (bs : List ℕ) → each (datum_bytes labels) ds ≡ r → (r >>= λ bss. Ok (joined bss)) ≡ Ok bs → length bs ≡ sum_by datum_size ds
+values_len : (labels : Labels) (ds : List Datum) (r : Result (List (List ℕ)) AsmErrorKind) (bs : List ℕ) → each (datum_bytes labels) ds ≡ r → (r >>= λ bss. Ok (joined bss)) ≡ Ok bs
+    → length bs ≡ sum_by datum_size ds
 values_len labels ds (Err k) bs e h = absurd (let no_way : ⊥ = cc in no_way)
 values_len labels ds (Ok bss) bs e h = let same : joined bss ≡ bs = cc in sym (ap length same) ∙ data_len labels ds bss e
 

@@ -81,7 +81,8 @@ has-write_image xs i a u (page, e) = some-perm (get (write_image i a xs).pages u
 
 -- ---- inside one page
 
-list-step : (xs : List ℕ) (b : ℕ) (bs : List ℕ) (at : ℕ) → at < length xs → take (at + 1) (set xs at b) ++ (bs ++ drop (at + 1 + length bs) (set xs at b)) ≡ take at xs ++ ((b ∷ bs) ++ drop (at + suc (length bs)) xs)
+list-step : (xs : List ℕ) (b : ℕ) (bs : List ℕ) (at : ℕ) → at < length xs
+    → take (at + 1) (set xs at b) ++ (bs ++ drop (at + 1 + length bs) (set xs at b)) ≡ take at xs ++ ((b ∷ bs) ++ drop (at + suc (length bs)) xs)
 list-step xs b bs at lt =
     let e : at + 1 + length bs ≡ at + suc (length bs) = omega arith in
     ap (λ ys. ys ++ (bs ++ drop (at + 1 + length bs) (set xs at b))) (take_more_set xs at b lt)

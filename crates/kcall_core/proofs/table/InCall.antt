@@ -136,7 +136,8 @@ pub record IsInCall (k : Kernel) (h : Hart) (call : Option Call) (regs : Registe
   pub live : live_now k' h' ≡ record (live_now k h) { regs = regs; call = call }
   pub state : state_of k' h' ≡ own_state (pid_now k) (record (live_now k h) { regs = regs; call = call }) (state_of k h)
 
-pub is-in-call : (k : Kernel) (h : Hart) (call : Option Call) (regs : Registers) (k' : Kernel) (h' : Hart) → IsSound k h → IsRunning k → k' ≡ calling call k → h' ≡ moved regs h → IsInCall k h call regs k' h'
+pub is-in-call : (k : Kernel) (h : Hart) (call : Option Call) (regs : Registers) (k' : Kernel) (h' : Hart) → IsSound k h → IsRunning k → k' ≡ calling call k → h' ≡ moved regs h
+    → IsInCall k h call regs k' h'
 is-in-call k h call regs k' h' sound runs kernel hart =
     subst (λ x. IsInCall k h call regs x h') (sym kernel) (subst (IsInCall k h call regs (calling call k)) (sym hart) (record {
       sound = calling-sound k h call regs sound runs;

@@ -60,7 +60,8 @@ module _ {t u : Slots} {slot : ℕ} {before after : Process} (x : ItsPlace t u s
   }
 
 -- the process in one slot is changed so that its pid is the same
-pub changed-place : (t u : Slots) (slot : ℕ) (p : Process) (f : Process → Process) → length t.places ≡ NPROC → slot < 64 → place_at t slot ≡ Some p → status_of p ≡ None → (f p).pid ≡ p.pid → status_of (f p) ≡ None → u ≡ changed_at slot f t
+pub changed-place : (t u : Slots) (slot : ℕ) (p : Process) (f : Process → Process) → length t.places ≡ NPROC → slot < 64 → place_at t slot ≡ Some p → status_of p ≡ None → (f p).pid ≡ p.pid
+    → status_of (f p) ≡ None → u ≡ changed_at slot f t
     → ItsPlace t u slot p (f p)
 changed-place t u slot p f places inside was lived pid lives e = record {
   was = was;

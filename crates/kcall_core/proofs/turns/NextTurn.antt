@@ -143,7 +143,8 @@ turned k slot pid told = λ t. record {
 abbrev SleepSo : Slots → states.State → Type 0
 SleepSo t s = (slot : ℕ) (p : Process) (l : meaning.Live) (channel : Channel) → Holds t slot p → live s p.pid ≡ Some l → channel_of p ≡ Some channel → is_for (waits_for s p.pid l) channel ≡ true
 
-whole-then : (k : Kernel) (h h' : Hart) (slot : ℕ) (p : Process) → IsWhole k h → Runs k.table slot p → IsSound (with_turn k slot) h' → state_of (with_turn k slot) h' ≡ state_of k h → IsWhole (with_turn k slot) h'
+whole-then : (k : Kernel) (h h' : Hart) (slot : ℕ) (p : Process) → IsWhole k h → Runs k.table slot p → IsSound (with_turn k slot) h' → state_of (with_turn k slot) h' ≡ state_of k h
+    → IsWhole (with_turn k slot) h'
 unfolding turns_of
 whole-then k h h' slot p whole r sound same = record {
   sound = sound;
