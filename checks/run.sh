@@ -1,9 +1,10 @@
 #!/bin/sh
 # The checks beside the proofs: checks/run.sh gives the programs the words that are stored, plays the sessions, also those
-# at a terminal and of the debugger, the stored runs, the reports and the conversations with GDB by the programs that are
-# built, grades submissions, looks at the links of the pages, counts what the proofs can do without, and tells whether
-# page/nektavoly.html is of these sources, in some seconds. The gate does the same behind `rt ci`. `checks/run.sh
-# --others` tells which other checks there are, how each is called, and how long it takes.
+# at a terminal and of the debugger, the stored runs, random programs in rows and by single events, the reports and the
+# conversations with GDB by the programs that are built, grades submissions, looks at the links of the pages, counts what
+# the proofs can do without, and tells whether page/nektavoly.html is of these sources, in some seconds. The gate does the
+# same behind `rt ci`. `checks/run.sh --others` tells which other checks there are, how each is called, and how long it
+# takes.
 set -u
 cd "$(dirname "$0")/.." || exit 2
 
@@ -18,6 +19,7 @@ tell_others() {
     tell wrong-bodies/run.sh 'wrong-bodies/run.sh --definitions [CRATE..]' 'a law, worked case or contract refuses turned definitions: 1 to 10 minutes each'
     tell hostile/run.sh 'hostile/run.sh' 'each refused growth of memory, read and write is answered: a minute'
     tell beside-qemu/run.sh 'beside-qemu/run.sh' '1,000 random programs do what they do under QEMU: some minutes; needs qemu-user'
+    tell rows/run.sh 'rows/run.sh --many 1000 [--seed N]' 'more random programs in rows and by single events: minutes'
     tell outside.sh 'outside.sh' "others' programs do what they do under QEMU: minutes, with \`torture\` an hour; needs packages, told by the script"
     tell back-to/run.sh 'back-to/run.sh [N]' 'the stored runs, played back to 20 places each: slow; needs rt'
     tell release.sh 'release.sh FOLDER' 'a release, tried in a bare Debian 12: two minutes; needs root, debootstrap and the network'
@@ -46,7 +48,7 @@ case "$*" in
 esac
 
 failed=
-for check in checks/words/run.sh checks/sessions/run.sh checks/stored-runs/run.sh checks/why/run.sh checks/gdb/run.sh checks/terminal/run.sh checks/debugger/run.sh checks/grading/run.sh 'python3 -B checks/links.py' 'python3 -B checks/lemmas.py' page/is_current.sh; do
+for check in checks/words/run.sh checks/sessions/run.sh checks/stored-runs/run.sh checks/rows/run.sh checks/why/run.sh checks/gdb/run.sh checks/terminal/run.sh checks/debugger/run.sh checks/grading/run.sh 'python3 -B checks/links.py' 'python3 -B checks/lemmas.py' page/is_current.sh; do
     $check || failed="$failed $check;"
 done
 [ -z "$failed" ] || {

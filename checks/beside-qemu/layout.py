@@ -126,14 +126,14 @@ def placed(program, kernel):
     return body, others, places.stop
 
 
-def elf(text, data_at, data):
-    """A file of two segments, the first of which may be written too."""
+def elf(text, data_at, data, room):
+    """A file of two segments, the first of which may be written too. Behind the data there is room for so many bytes."""
     identity = bytes([0x7F, 0x45, 0x4C, 0x46, 2, 1, 1]) + bytes(9)
     header = struct.pack("<HHIQQQIHHHHHH", 2, 243, 1, BASE, 64, 0, 0, 64, 56, 2, 0, 0, 0)
     off = PAGE + -(-len(text) // PAGE) * PAGE
-    segments = [(7, PAGE, BASE, len(text)), (6, off, data_at, len(data))]
-    for flags, at, vaddr, size in segments:
-        header += struct.pack("<IIQQQQQQ", 1, flags, at, vaddr, vaddr, size, size, PAGE)
+    segments = [(7, PAGE, BASE, len(text), 0), (6, off, data_at, len(data), room)]
+    for flags, at, vaddr, size, more in segments:
+        header += struct.pack("<IIQQQQQQ", 1, flags, at, vaddr, vaddr, size, size + more, PAGE)
     file = identity + header
     file += bytes(PAGE - len(file)) + text
     return file + bytes(off - len(file)) + data
@@ -150,4 +150,4 @@ def file(program, kernel, turn=None):
     text = struct.pack(f"<{len(words)}I", *words)
     values = program.values + program.scratch
     data = NAME + struct.pack(f"<{len(values)}Q", *values) + bytes(31 * 8)
-    return elf(text, program.data, data)
+    return elf(text, program.data, data, program.room)

@@ -65,6 +65,9 @@ def to(what):
 class Program:
     """A random program. Its groups are made one after another by the functions below."""
 
+    # Bytes that it has behind its data.
+    room = 0
+
     def __init__(self, seed, number):
         numbers = self.numbers = Numbers(seed, number)
         self.free = list(range(1, 32))
