@@ -1,12 +1,16 @@
 -- What is written of a machine, line by line.
-use Rattle.std.proofs.Common.{◌≡◌, ℕ, zero, suc, ◌+◌, ◌-◌, ◌^◌, ◌<◌, ◌≤◌, ◌⊎◌, inl, inr, min, List, [], ◌++◌, length, take, drop, Some, Result, OnOk, refl, sym, ◌∙◌, ap, subst}
+use Rattle.std.proofs.Common.{◌≡◌, ℕ, zero, suc, ◌+◌, ◌-◌, ◌^◌, ◌<◌, ◌≤◌, ◌⊎◌, inl, inr, min, List, [], ◌++◌, length, take, drop, Option, None, Some, Result, OnOk, refl, sym, ◌∙◌, ap, subst}
 use Rattle.std.proofs.Common.{arith, append-nil, eq-eqb, ne_eqb, lt-ltb, le-ltb, length-take, length-drop}
 use Rattle.std.proofs.lemmas.List.{length-replicate}
 use Rattle.std.proofs.lemmas.Result.{on_ok_weaker}
 use Rattle.kernel_spec.specs.runs.Run.{Event}
 use Rattle.kernel_spec.specs.views.State.{State}
+use Rattle.kcall_core.specs.declared.kernel.observers.frame_uses.FrameUse.{FrameUse}
+use Rattle.xv_session.specs.Recorded.{Recorded}
 use Rattle.xv_session.specs.Answers.{AreEqualFrom}
 use Rattle.debug_views.specs.EventText.{AreEvents, equal_text, more_events}
+use Rattle.debug_views.specs.Focus.{IsLeastFrom}
+use Rattle.debug_views.specs.FrameText.{AreShares, more_text, share_text}
 use Rattle.debug_views.specs.MemoryText.{memory_line, memory_lines}
 use Rattle.debug_views.specs.Written.{Writes}
 use Rattle.debug_views.proofs.Texts.{two_behind}
@@ -33,6 +37,13 @@ shows-behind r Rest Is old mid new front first whole wrote = on_ok_weaker r (λ 
 -- a text is written that is so, by a call that may fail
 pub shows-text : {T E : Type 0} (r : Result T E) (Is : List ℕ → Type 0) (old new text : List ℕ) → Is text → OnOk r (new ≡ old ++ text) → OnOk r (Writes old new Is)
 shows-text r Is old new text is wrote = on_ok_weaker r (writes-text Is old new text is) wrote
+
+-- what is so of a text is so by another word
+pub writes-same : (Was Is : List ℕ → Type 0) (old new : List ℕ) → ((text : List ℕ) → Was text → Is text) → Writes old new Was → Writes old new Is
+writes-same Was Is old new told (text, was, same) = (text, told text was, same)
+
+pub shows-same : {T E : Type 0} (r : Result T E) (Was Is : List ℕ → Type 0) (old new : List ℕ) → ((text : List ℕ) → Was text → Is text) → OnOk r (Writes old new Was) → OnOk r (Writes old new Is)
+shows-same r Was Is old new told wrote = on_ok_weaker r (writes-same Was Is old new told) wrote
 
 -- ---- memory
 
@@ -105,3 +116,23 @@ events-next list zero place count e rest some are more = absurd (omega (arith, s
 events-next list (suc lines) place count e rest some are more =
     let less : suc lines - 1 ≡ lines = omega arith in
     inr (e, count, rest, are, subst (λ n. AreEvents list n (place + count) rest) less more, refl)
+
+-- ---- shares of RAM
+
+-- so many lines were written
+pub no-shares-left : (s : Recorded) (uses : List FrameUse) (lines from : ℕ) (next : Option ℕ) → lines ≡ 0 → IsLeastFrom s.machine.world.state from next → AreShares s uses lines from (more_text next)
+no-shares-left s uses zero from next none least = (next, least, refl)
+no-shares-left s uses (suc lines) from next none least = absurd (omega (arith, none))
+
+-- no process is left
+pub no-shares : (s : Recorded) (uses : List FrameUse) (lines from : ℕ) → 0 < lines → IsLeastFrom s.machine.world.state from None → AreShares s uses lines from []
+no-shares s uses zero from some least = absurd (omega (arith, some))
+no-shares s uses (suc lines) from some least = inl (least, refl)
+
+-- the next one, and those behind it
+pub shares-next : (s : Recorded) (uses : List FrameUse) (lines from p : ℕ) (rest : List ℕ) → 0 < lines → IsLeastFrom s.machine.world.state from (Some p) → AreShares s uses (lines - 1) (p + 1) rest
+    → AreShares s uses lines from (share_text s uses p ++ rest)
+shares-next s uses zero from p rest some least more = absurd (omega (arith, some))
+shares-next s uses (suc lines) from p rest some least more =
+    let less : suc lines - 1 ≡ lines = omega arith in
+    inr (p, rest, least, subst (λ n. AreShares s uses n (p + 1) rest) less more, refl)

@@ -13,6 +13,10 @@ two_behind old mid new a b first second = second ∙ ap (λ t. t ++ b) first ∙
 pub shown_behind : {T E : Type 0} (r : Result T E) (old mid new a b : List ℕ) → mid ≡ old ++ a → OnOk r (new ≡ mid ++ b) → OnOk r (new ≡ old ++ (a ++ b))
 shown_behind r old mid new a b first second = on_ok_weaker r (two_behind old mid new a b first) second
 
+-- and of three texts
+pub three_shown : {T E : Type 0} (r : Result T E) (old mid next new a b d : List ℕ) → mid ≡ old ++ a → next ≡ mid ++ b → OnOk r (new ≡ next ++ d) → OnOk r (new ≡ old ++ (a ++ b ++ d))
+three_shown r old mid next new a b d first second third = shown_behind r old next new (a ++ b) d (two_behind old mid next a b first second) third
+
 -- and of four texts
 pub four_shown : {T E : Type 0} (r : Result T E) (old mid next last new a b d e : List ℕ) → mid ≡ old ++ a → next ≡ mid ++ b → last ≡ next ++ d
     → OnOk r (new ≡ last ++ e) → OnOk r (new ≡ old ++ (a ++ b ++ d ++ e))

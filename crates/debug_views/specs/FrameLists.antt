@@ -1,5 +1,5 @@
 -- What the frames of RAM are used for, as a list.
-use Rattle.std.specs.Prelude.{◌≡◌, ℕ, ◌≤◌, ◌&&◌, Bool, true, false, nat_eq, nat_le, min, if◌then◌else◌, List, length, slice_get, Option, None, Some}
+use Rattle.std.specs.Prelude.{◌≡◌, ℕ, ◌≤◌, ◌&&◌, ◌||◌, Bool, true, false, nat_eq, nat_le, min, if◌then◌else◌, List, length, slice_get, Option, None, Some}
 use Rattle.xk_base.specs.declared.limits.TheConstants.{FRAMES_MAX}
 use Rattle.kcall_core.specs.declared.kernel.observers.frame_uses.FrameUse.{FrameUse}
 use Rattle.kcall_core.specs.declared.kernel.observers.frame_uses.FrameUse.TheVariants.{Trapframe, Root, Upper, Lower, Page, Pipe}
@@ -24,6 +24,23 @@ is_table_of p _ = false
 abbrev pub is_trapframe_of : ℕ → FrameUse → Bool
 is_trapframe_of p (Trapframe pid) = nat_eq pid p
 is_trapframe_of p _ = false
+
+-- it is any of these
+abbrev pub is_frame_of : ℕ → FrameUse → Bool
+is_frame_of p used = is_page_of p used || is_table_of p used || is_trapframe_of p used
+
+-- one table of a process: the root, and the upper or lower one at a place
+abbrev pub is_root_of : ℕ → FrameUse → Bool
+is_root_of p (Root pid) = nat_eq pid p
+is_root_of p _ = false
+
+abbrev pub is_upper_of : (p place : ℕ) → FrameUse → Bool
+is_upper_of p place (Upper pid at) = nat_eq pid p && nat_eq at place
+is_upper_of p place _ = false
+
+abbrev pub is_lower_of : (p place : ℕ) → FrameUse → Bool
+is_lower_of p place (Lower pid at) = nat_eq pid p && nat_eq at place
+is_lower_of p place _ = false
 
 abbrev pub is_pipe : FrameUse → Bool
 is_pipe Pipe = true

@@ -4,8 +4,10 @@ pub mod DescriptorText
 pub mod EventText
 pub mod Focus
 pub mod FrameLists
+pub mod FrameText
 pub mod MemoryText
 pub mod PageRuns
+pub mod PagesText
 pub mod RegisterText
 pub mod Sharing
 pub mod Written

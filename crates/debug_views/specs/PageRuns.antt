@@ -1,5 +1,5 @@
 -- Pages of a process, one behind another, that are alike.
-use Rattle.std.specs.Prelude.{◌≡◌, ℕ, ◌+◌, ◌/◌, ◌<◌, ◌≤◌, List, Option, None, Some}
+use Rattle.std.specs.Prelude.{◌≡◌, ◌⊎◌, ℕ, ◌+◌, ◌-◌, ◌/◌, ◌<◌, ◌≤◌, List, [], ◌∷◌, ◌++◌, length, slice_get, Option, None, Some}
 use Rattle.xk_base.specs.declared.access.Rights.{Rights}
 use Rattle.kcall_core.specs.Observers.{rights_at}
 use Rattle.kcall_core.specs.declared.kernel.observers.frame_uses.FrameUse.{FrameUse}
@@ -35,3 +35,25 @@ pub record IsRunFrom (s : State) (uses : List FrameUse) (p first end : ℕ) (run
   pub some : 0 < run.count
   pub within : first + run.count ≤ end
   pub alike : IsRun s uses p run
+
+-- the page behind a run, and this one without any
+abbrev pub behind_run : (from : ℕ) → Option PageRun → ℕ
+behind_run from None = from
+behind_run from (Some run) = run.first + run.count
+
+-- the page behind the last of these runs
+abbrev pub behind_runs : (from : ℕ) → List PageRun → ℕ
+behind_runs from runs = behind_run from (slice_get runs (length runs - 1))
+
+-- The runs of pages from one on up to an end, one behind another, as many as there is room for
+abbrev pub AreRunsIn : State → List FrameUse → (p room from end : ℕ) → List PageRun → Type 0
+AreRunsIn s uses p room from end [] = (room ≡ 0) ⊎ (end ≤ from)
+AreRunsIn s uses p room from end (run ∷ runs) = (0 < room) × IsRunFrom s uses p from end run × AreRunsIn s uses p (room - 1) (run.first + run.count) end runs
+
+-- of those 14 at most are shown at once
+abbrev pub AreRuns : State → List FrameUse → (p from end : ℕ) → List PageRun → Type 0
+AreRuns s uses p from end runs = AreRunsIn s uses p 14 from end runs
+
+-- such runs were put behind others
+abbrev pub Adds : (old new : List PageRun) → (List PageRun → Type 0) → Type 0
+Adds old new Are = (added : List PageRun) × Are added × (new ≡ old ++ added)

@@ -1,7 +1,7 @@
 //! What each frame of RAM is used for.
-ghost use Rattle.std.specs.Prelude.{◌≡◌, IfOk, IfSome, IfNone, count_by, slice_get, Some};
+ghost use Rattle.std.specs.Prelude.{◌≡◌, IfOk, count_by, position};
 ghost use Rattle.debug_views.specs.Focus.{lesser};
-ghost use Rattle.debug_views.specs.FrameLists.{AreUses, IsAmong, IsLeastLower, is_page_of, is_table_of, is_trapframe_of, is_pipe, lower_in};
+ghost use Rattle.debug_views.specs.FrameLists.{AreUses, IsLeastLower, is_frame_of, is_lower_of, is_page_of, is_pipe, is_root_of, is_table_of, is_trapframe_of, is_upper_of, lower_in};
 
 use std::alloc::{AllocError, Global};
 use xk_base::limits::FRAMES_MAX;
@@ -97,17 +97,69 @@ pub(crate) fn pipes_in(uses: &[FrameUse]) -> usize
     uses.iter().filter(|used| is_pipe(used)).count()
 }
 
-/// The first frame of these that is used so; `None` where none is.
-pub(crate) fn frame_with(uses: &[FrameUse], wanted: &FrameUse) -> Option<usize>
-    ensures some { IfSome result (λ frame. slice_get uses.now frame ≡ Some wanted.now) }
-    ensures none { IfNone result (¬ IsAmong uses.now wanted.now) }
+/// Whether it is a page, a table or the trapframe of the process.
+fn is_frame_of(used: &FrameUse, owner: Pid) -> bool
+    ensures { result ≡ is_frame_of owner used.now }
 {
-    for frame in 0..uses.len() {
-        if uses[frame] == *wanted {
-            return Some(frame);
-        }
+    is_page_of(used, owner) || is_table_of(used, owner) || is_trapframe_of(used, owner)
+}
+
+/// How many frames of these the process has.
+pub(crate) fn frames_in(uses: &[FrameUse], owner: Pid) -> usize
+    ensures { result ≡ count_by (is_frame_of owner) uses.now }
+{
+    uses.iter().filter(|used| is_frame_of(used, owner)).count()
+}
+
+/// Whether it is the root table of the process.
+fn is_root_of(used: &FrameUse, owner: Pid) -> bool
+    ensures { result ≡ is_root_of owner used.now }
+{
+    match used {
+        FrameUse::Root(pid) => pid.number() == owner.number(),
+        _ => false,
     }
-    None
+}
+
+/// Whether it is the process's upper table at this place.
+fn is_upper_of(used: &FrameUse, owner: Pid, wanted: u32) -> bool
+    ensures { result ≡ is_upper_of owner wanted used.now }
+{
+    match used {
+        FrameUse::Upper { pid, place } => (pid.number() == owner.number()) & (*place == wanted),
+        _ => false,
+    }
+}
+
+/// Whether it is the process's lower table at this place.
+fn is_lower_of(used: &FrameUse, owner: Pid, wanted: u32) -> bool
+    ensures { result ≡ is_lower_of owner wanted used.now }
+{
+    match used {
+        FrameUse::Lower { pid, place } => (pid.number() == owner.number()) & (*place == wanted),
+        _ => false,
+    }
+}
+
+/// The frame of the root table of the process; `None` if it has none.
+pub(crate) fn root_frame(uses: &[FrameUse], owner: Pid) -> Option<usize>
+    ensures { result ≡ position (is_root_of owner) uses.now }
+{
+    uses.iter().position(|used| is_root_of(used, owner))
+}
+
+/// The frame of the process's upper table at this place; `None` if it has none.
+pub(crate) fn upper_frame(uses: &[FrameUse], owner: Pid, place: u32) -> Option<usize>
+    ensures { result ≡ position (is_upper_of owner place) uses.now }
+{
+    uses.iter().position(|used| is_upper_of(used, owner, place))
+}
+
+/// The frame of the process's lower table at this place; `None` if it has none.
+pub(crate) fn lower_frame(uses: &[FrameUse], owner: Pid, place: u32) -> Option<usize>
+    ensures { result ≡ position (is_lower_of owner place) uses.now }
+{
+    uses.iter().position(|used| is_lower_of(used, owner, place))
 }
 
 /// The place of the process's lower table that a frame has, if it is one from this place on.

@@ -1,19 +1,28 @@
 //! Who owns the frames of RAM.
+ghost use Rattle.std.specs.Prelude.{◌≡◌, ◌++◌, OnOk, string_bytes};
+ghost use Rattle.debug_views.specs.FrameText.{AreShares, IsFrameText, IsFramesText, IsSharesText, more_text, or_stroke, owner_text, page_head, share_text, shares_head, table_head, use_text};
+ghost use Rattle.kcall_core.specs.declared.kernel.observers.frame_uses.FrameUse.TheVariants.{Page};
+ghost use Rattle.debug_views.specs.Focus.{name_in};
+ghost use Rattle.debug_views.specs.Written.{Writes};
+
 use crate::focus::{least_from, program_name};
-use crate::frame_uses::{pages_in, pipes_in, tables_in, trapframes_in, uses_of};
+use crate::frame_uses::{frames_in, pages_in, pipes_in, tables_in, trapframes_in, uses_of};
 use crate::pages::RightsShown;
-use debug_words::texts::{Grouped, Many, Named, Plain};
+use debug_words::texts::{Grouped, Hexadecimal, Many, Named, Plain};
 use std::alloc::{AllocError, Global};
 use xk_base::limits::PAGE_BYTES;
 use xk_base::{Frame, Pid, Vpn};
-use xv_machine::{FrameUse, Machine};
+use xv_machine::FrameUse;
 use xv_session::Session;
 
 /// The most processes that are shown at once.
 const LINES_MOST: u32 = 16;
 
 /// Writes a process, with the name of its program, and ends the line.
-fn show_owner(session: &Session, pid: Pid, answer: &mut String) -> Result<(), AllocError> {
+#[tactic(auto, unfolding(crate::specs::FrameText::owner_text))]
+fn show_owner(session: &Session, pid: Pid, answer: &mut String) -> Result<(), AllocError>
+    ensures { OnOk result (string_bytes answer.new ≡ string_bytes answer.old ++ owner_text session.now pid) }
+{
     let number = pid.number();
     let name = Named(program_name(session, pid));
     writeln!(answer, "process {number}{name}")
@@ -26,21 +35,34 @@ fn show_table(
     place: u32,
     pid: Pid,
     answer: &mut String,
-) -> Result<(), AllocError> {
+) -> Result<(), AllocError>
+    ensures { OnOk result (string_bytes answer.new ≡ string_bytes answer.old ++ (table_head level.now place ++ owner_text session.now pid)) }
+{
     write!(answer, "{level} table {place} of ")?;
     show_owner(session, pid, answer)
 }
 
-/// Writes a page of a process.
-fn show_page(session: &Session, pid: Pid, vpn: Vpn, answer: &mut String) -> Result<(), AllocError> {
-    let address = u64::from(vpn.number()) * PAGE_BYTES;
+/// Writes where a page of a process is, and what it allows.
+fn show_place(session: &Session, pid: Pid, vpn: Vpn, answer: &mut String) -> Result<(), AllocError>
+    ensures { OnOk result (string_bytes answer.new ≡ string_bytes answer.old ++ page_head session.now pid vpn) }
+{
+    let address = Hexadecimal(u64::from(vpn.number()) * PAGE_BYTES);
     let rights = RightsShown(session.machine().perm(pid, vpn));
-    write!(answer, "the page at {address:#x}, {rights}, of ")?;
+    write!(answer, "the page at {address}, {rights}, of ")
+}
+
+/// Writes a page of a process.
+fn show_page(session: &Session, pid: Pid, vpn: Vpn, answer: &mut String) -> Result<(), AllocError>
+    ensures { OnOk result (string_bytes answer.new ≡ string_bytes answer.old ++ use_text session.now (Page pid vpn)) }
+{
+    show_place(session, pid, vpn, answer)?;
     show_owner(session, pid, answer)
 }
 
 /// Writes what a frame is used for.
-fn show_use(session: &Session, used: &FrameUse, answer: &mut String) -> Result<(), AllocError> {
+fn show_use(session: &Session, used: &FrameUse, answer: &mut String) -> Result<(), AllocError>
+    ensures { OnOk result (string_bytes answer.new ≡ string_bytes answer.old ++ use_text session.now used.now) }
+{
     match *used {
         FrameUse::Free => answer.push_str("free\n"),
         FrameUse::Pipe => answer.push_str("a pipe: pipe tells of it\n"),
@@ -58,83 +80,10 @@ fn show_use(session: &Session, used: &FrameUse, answer: &mut String) -> Result<(
     }
 }
 
-/// Writes the line of a process.
-fn show_share(
-    session: &Session,
-    uses: &[FrameUse],
-    pid: Pid,
-    answer: &mut String,
-) -> Result<(), AllocError> {
-    let number = pid.number();
-    let name = Plain(program_name(session, pid).unwrap_or(b"-"));
-    let pages = pages_in(uses, pid) as u64;
-    let tables = tables_in(uses, pid) as u64;
-    let trapframes = trapframes_in(uses, pid) as u64;
-    let all = Grouped(pages.saturating_add(tables).saturating_add(trapframes));
-    let pages = Grouped(pages);
-    let tables = Grouped(tables);
-    let trapframes = Grouped(trapframes);
-    writeln!(
-        answer,
-        "{number:>5} {name:<14} {pages:>7} {tables:>7} {trapframes:>10} {all:>7}"
-    )
-}
-
-/// Writes how many frames there are, how many of them no process has, and the head of the lines of processes.
-fn show_head(machine: &Machine, uses: &[FrameUse], answer: &mut String) -> Result<(), AllocError> {
-    let frames = Many(uses.len() as u64, "frame");
-    let free = Grouped(u64::from(machine.free_frames()));
-    let pipes = Grouped(pipes_in(uses) as u64);
-    let bytes = Grouped(PAGE_BYTES);
-    writeln!(
-        answer,
-        "{frames} of {bytes} bytes: {free} are free, and pipes have {pipes}"
-    )?;
-    answer.push_str("  pid program          pages  tables  trapframe     all\n")
-}
-
-/// Writes from which process on there are more, if there are.
-fn show_more(machine: &Machine, next: u32, answer: &mut String) -> Result<(), AllocError> {
-    let Some(pid) = least_from(machine, next) else {
-        return Ok(());
-    };
-    let number = pid.number();
-    writeln!(
-        answer,
-        "there are more, from process {number} on: ps lists them"
-    )
-}
-
-/// Writes who owns how many frames.
-fn show_shares(alloc: Global, session: &Session, answer: &mut String) -> Result<(), AllocError> {
-    let machine = session.machine();
-    let uses = uses_of(alloc, machine)?;
-    show_head(machine, &uses, answer)?;
-    let mut next: u32 = 1;
-    for _ in 0..LINES_MOST {
-        let Some(pid) = least_from(machine, next) else {
-            return Ok(());
-        };
-        show_share(session, &uses, pid, answer)?;
-        next = pid.number().wrapping_add(1);
-    }
-    show_more(machine, next, answer)
-}
-
-/// Writes who owns how many frames, or who owns this one.
-///
-/// # Errors
-///
-/// The host has too little memory.
-pub fn show_frames(
-    alloc: Global,
-    session: &Session,
-    frame: Option<Frame>,
-    answer: &mut String,
-) -> Result<(), AllocError> {
-    let Some(frame) = frame else {
-        return show_shares(alloc, session, answer);
-    };
+/// Writes what this frame is used for, if RAM has it.
+fn show_frame(session: &Session, frame: Frame, answer: &mut String) -> Result<(), AllocError>
+    ensures { OnOk result (Writes (string_bytes answer.old) (string_bytes answer.new) (IsFrameText session.now frame)) }
+{
     let number = frame.number();
     match session.machine().frame_use(frame) {
         Some(used) => {
@@ -145,5 +94,114 @@ pub fn show_frames(
             answer,
             "RAM has no frame {number}: frames tells how many there are"
         ),
+    }
+}
+
+/// The name of the program that a process runs, or a stroke if it runs none.
+fn name_or_stroke(session: &Session, pid: Pid) -> &[u8]
+    ensures { result.now ≡ or_stroke (name_in session.now pid) }
+{
+    match program_name(session, pid) {
+        Some(name) => name,
+        None => b"-".as_slice(),
+    }
+}
+
+/// Writes how many frames a process has.
+fn show_share(
+    session: &Session,
+    uses: &[FrameUse],
+    pid: Pid,
+    answer: &mut String,
+) -> Result<(), AllocError>
+    ensures { OnOk result (string_bytes answer.new ≡ string_bytes answer.old ++ share_text session.now uses.now pid) }
+{
+    let number = pid.number();
+    let name = Plain(name_or_stroke(session, pid));
+    let pages = Grouped(pages_in(uses, pid) as u64);
+    let tables = Grouped(tables_in(uses, pid) as u64);
+    let trapframes = Grouped(trapframes_in(uses, pid) as u64);
+    let all = Grouped(frames_in(uses, pid) as u64);
+    writeln!(
+        answer,
+        "{number:>5} {name:<14} {pages:>7} {tables:>7} {trapframes:>10} {all:>7}"
+    )
+}
+
+/// Writes which process is the next, if there are more.
+fn show_more(next: Option<Pid>, answer: &mut String) -> Result<(), AllocError>
+    ensures { OnOk result (string_bytes answer.new ≡ string_bytes answer.old ++ more_text next) }
+{
+    let Some(pid) = next else {
+        return Ok(());
+    };
+    let number = pid.number();
+    writeln!(
+        answer,
+        "there are more, from process {number} on: ps lists them"
+    )
+}
+
+/// Writes how many frames each process has, from a pid on, of so many at most.
+fn show_from(
+    session: &Session,
+    uses: &[FrameUse],
+    lines: u32,
+    from: u32,
+    answer: &mut String,
+) -> Result<(), AllocError>
+    ensures { OnOk result (Writes (string_bytes answer.old) (string_bytes answer.new) (AreShares session.now uses.now lines from)) }
+{
+    let next = least_from(session.machine(), from);
+    if lines == 0 {
+        return show_more(next, answer);
+    }
+    let Some(pid) = next else {
+        return Ok(());
+    };
+    show_share(session, uses, pid, answer)?;
+    show_from(session, uses, lines - 1, pid.number() + 1, answer)
+}
+
+/// Writes how many frames there are, how many of them no process has, and the head of the lines of processes.
+fn show_head(session: &Session, uses: &[FrameUse], answer: &mut String) -> Result<(), AllocError>
+    ensures { OnOk result (string_bytes answer.new ≡ string_bytes answer.old ++ shares_head session.now uses.now) }
+{
+    let frames = Many(uses.len() as u64, "frame");
+    let bytes = Grouped(PAGE_BYTES);
+    let free = Grouped(u64::from(session.machine().free_frames()));
+    let pipes = Grouped(pipes_in(uses) as u64);
+    writeln!(
+        answer,
+        "{frames} of {bytes} bytes: {free} are free, and pipes have {pipes}\n  pid program          pages  tables  trapframe     all"
+    )
+}
+
+/// Writes who owns how many frames.
+fn show_shares(alloc: Global, session: &Session, answer: &mut String) -> Result<(), AllocError>
+    ensures { OnOk result (Writes (string_bytes answer.old) (string_bytes answer.new) (IsSharesText session.now)) }
+{
+    let list = uses_of(alloc, session.machine())?;
+    let uses = list.as_slice();
+    show_head(session, uses, answer)?;
+    show_from(session, uses, LINES_MOST, 1, answer)
+}
+
+/// Writes who owns how many frames, or what this one is used for.
+///
+/// # Errors
+///
+/// The host has too little memory.
+pub fn show_frames(
+    alloc: Global,
+    session: &Session,
+    frame: Option<Frame>,
+    answer: &mut String,
+) -> Result<(), AllocError>
+    ensures { OnOk result (Writes (string_bytes answer.old) (string_bytes answer.new) (IsFramesText session.now frame)) }
+{
+    match frame {
+        Some(frame) => show_frame(session, frame, answer),
+        None => show_shares(alloc, session, answer),
     }
 }

@@ -4,7 +4,8 @@
 //! Each `show_` function writes one screen of text behind an answer. What it shows comes from calls of the machine,
 //! which are proved to tell what it holds, and from functions here whose contracts say what they make of these
 //! answers: the runs of pages that are alike (`specs/PageRuns.antt`), the uses of frames (`specs/FrameLists.antt`),
-//! bytes (`specs/Bytes.antt`), processes and their programs (`specs/Focus.antt`). The layout is tested.
+//! bytes (`specs/Bytes.antt`), processes and their programs (`specs/Focus.antt`). Which bytes are written stands in
+//! `specs/*Text.antt`; only how a note of the trace is written is tested.
 #![tactic(auto)]
 
 mod console;

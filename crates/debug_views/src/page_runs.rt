@@ -1,8 +1,8 @@
 //! Pages of a process, one behind another, that are alike.
-ghost use Rattle.std.specs.Prelude.{◌≡◌, ℕ, ◌+◌, ◌-◌, ◌<◌, ◌≤◌, ◌/◌, All};
+ghost use Rattle.std.specs.Prelude.{◌≡◌, ℕ, ◌+◌, ◌-◌, ◌<◌, ◌≤◌, ◌/◌, length};
 ghost use Rattle.xk_base.specs.declared.limits.TheConstants.{VPN_END};
 ghost use Rattle.kcall_core.specs.Observers.{rights_at};
-ghost use Rattle.debug_views.specs.PageRuns.{kind_by, IsRun, IsRunFrom};
+ghost use Rattle.debug_views.specs.PageRuns.{Adds, AreRuns, AreRunsIn, IsRunFrom, kind_by};
 
 use crate::frame_uses::next_lower;
 use arrayvec::ArrayVec;
@@ -141,6 +141,30 @@ fn run_from(machine: &Machine, uses: &[FrameUse], pid: Pid, first: u32, end: u32
     }
 }
 
+/// Adds the runs of pages from one number up to another, one behind another, as many as there is room for.
+fn add_runs(
+    machine: &Machine,
+    uses: &[FrameUse],
+    pid: Pid,
+    room: usize,
+    from: u32,
+    end: u32,
+    runs: &mut PageRuns,
+)
+    requires within { end ≤ VPN_END }
+    requires room { length runs.old.items + room ≤ 14 }
+    ensures { Adds runs.old.items runs.new.items (AreRunsIn machine.now.world.state uses.now pid room from end) }
+{
+    if room == 0 || from >= end {
+        return;
+    }
+    let run = run_from(machine, uses, pid, from, end);
+    let _kind: Kind = run.kind;
+    let behind = run.first + run.count;
+    runs.push(run);
+    add_runs(machine, uses, pid, room - 1, behind, end, runs);
+}
+
 /// The runs of pages from one number up to another, one behind another: as many as there is room for.
 pub(crate) fn runs_of(
     machine: &Machine,
@@ -150,20 +174,9 @@ pub(crate) fn runs_of(
     end: u32,
 ) -> PageRuns
     requires { end ≤ VPN_END }
-    ensures { All (IsRun machine.now.world.state uses.now pid) result.items }
+    ensures { AreRuns machine.now.world.state uses.now pid from end result.items }
 {
     let mut runs = PageRuns::new();
-    let mut first = from;
-    for _ in 0..RUNS_MOST {
-        if first >= end {
-            return runs;
-        }
-        let run = run_from(machine, uses, pid, first, end);
-        let _kind: Kind = run.kind;
-        first += run.count;
-        let Ok(()) = runs.try_push(run) else {
-            return runs;
-        };
-    }
+    add_runs(machine, uses, pid, RUNS_MOST, from, end, &mut runs);
     runs
 }

@@ -1,0 +1,13 @@
+use Rattle.std.proofs.Common.{◌≡◌, ◌∙◌, [], ◌∷◌, ◌++◌, ap, codes, length, string_bytes}
+use Rattle.std.proofs.lemmas.Result.{on_ok_weaker}
+use Rattle.std.specs.List.{concat}
+use Rattle.xv_machine.specs.Meaning.{Meaning}
+use Rattle.debug_words.specs.Texts.{grouped, many}
+use Rattle.debug_views.proofs.frames.show_head.Goals as goal
+
+pub returns : goal.returns
+returns c =
+    let free : c.from.result ≡ c.args.session.now.machine.world.state.free = c.from.ensures ∙ c.free_frames.ensures ∙ ap (λ (m : Meaning). m.world.state.free) c.machine.ensures.machine in
+    on_ok_weaker c.writeln.result (λ written. written ∙ (λ i. string_bytes c.args.answer.now ++ concat (
+    many (length c.args.uses.now) (codes "frame") ∷ codes " of " ∷ grouped 4096 ∷ codes " bytes: " ∷ grouped (free i) ∷ codes " are free, and pipes have " ∷ grouped (c.pipes_in.ensures i)
+    ∷ codes "\n  pid program          pages  tables  trapframe     all\n" ∷ []))) c.writeln.ensures.bytes

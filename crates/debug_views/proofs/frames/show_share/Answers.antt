@@ -1,0 +1,15 @@
+use Rattle.std.proofs.Common.{◌∙◌, [], ◌∷◌, ◌++◌, codes, string_bytes}
+use Rattle.std.proofs.lemmas.Result.{on_ok_weaker}
+use Rattle.std.specs.Fmt.{styled_decimal, styled_text}
+use Rattle.std.specs.List.{concat}
+use Rattle.debug_words.specs.Texts.{grouped, name_shown}
+use Rattle.debug_views.specs.FrameText.{share_text}
+use Rattle.debug_views.proofs.frames.show_share.Goals as goal
+
+pub returns : goal.returns
+unfolding share_text
+returns c = on_ok_weaker c.writeln.result (λ written. written ∙ (λ i. string_bytes c.args.answer.now ++ concat (
+    styled_decimal (c.laid_out.ensures i) (c.number-number.ensures.value i) ∷ codes " " ∷ styled_text (c.laid_out-2.ensures i) (name_shown (c.name_or_stroke.ensures i))
+    ∷ codes " " ∷ styled_text (c.laid_out-3.ensures i) (grouped (c.pages_in.ensures i)) ∷ codes " " ∷ styled_text (c.laid_out-4.ensures i) (grouped (c.tables_in.ensures i))
+    ∷ codes " " ∷ styled_text (c.laid_out-5.ensures i) (grouped (c.trapframes_in.ensures i))
+    ∷ codes " " ∷ styled_text (c.laid_out-6.ensures i) (grouped (c.frames_in.ensures i)) ∷ codes "\n" ∷ []))) c.writeln.ensures.bytes

@@ -1,0 +1,12 @@
+use Rattle.std.proofs.Common.{◌≡◌, ℕ, ◌++◌, Option, codes, position, string_bytes, OnOk, subst}
+use Rattle.debug_views.specs.FrameLists.{is_root_of}
+use Rattle.debug_views.specs.PagesText.{table_text}
+use Rattle.debug_views.proofs.Texts.{shown_behind}
+use Rattle.debug_views.proofs.pages.show_root.Goals as goal
+
+pub returns : goal.returns
+returns c =
+    let mid = string_bytes c.push_str.new.self in
+    let new = string_bytes c.show_table.new.answer in
+    shown_behind c.show_table.result (string_bytes c.args.answer.now) mid new (codes "root table: ") (table_text (position (is_root_of c.args.pid) c.args.uses.now)) c.in_ok-push_str.ensures.bytes
+    (subst (λ (f : Option ℕ). OnOk c.show_table.result (new ≡ mid ++ table_text f)) c.root_frame.ensures c.show_table.ensures)
