@@ -14,4 +14,3 @@ take-past xs place n none within = elim (cases_lt place (length xs)) [
 -- and the one at a place comes next
 pub take-next : (xs : List ℕ) (place x : ℕ) → slice_get xs place ≡ Some x → take place xs ++ x ∷ [] ≡ take (place + 1) xs
 take-next xs place x is = ap (λ (y : ℕ). take place xs ++ y ∷ []) (sym (get_or_from_slice_get xs place x 0 is)) ∙ sym (take_more xs place 0 (slice_get_within xs place x is))
-
