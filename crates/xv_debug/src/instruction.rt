@@ -1,9 +1,12 @@
 //! Instructions of a process, as text, with the functions and lines that they stand in.
-ghost use Rattle.std.specs.Prelude.{◌≡◌, ◌%◌, option_map};
+ghost use Rattle.std.specs.Prelude.{◌≡◌, ◌++◌, ◌%◌, OnOk, option_map, string_bytes};
 ghost use Rattle.xv_session.specs.Looking.{word_at};
+ghost use Rattle.debug_views.specs.Written.{Writes};
 ghost use Rattle.xv_debug.specs.Instructions.{instruction_text};
+ghost use Rattle.xv_debug.specs.ListingText.{AreInstructions, IsInstructionText, other_text, with_location, word_text};
 
-use crate::sources::{Sources, location_of};
+use crate::sources::{Location, Sources, location_of};
+use debug_words::texts::Hexadecimal;
 use rv64i_core::decode;
 use std::alloc::AllocError;
 use uasm_text::{InstructionText, text_at};
@@ -32,14 +35,42 @@ fn instruction_text(word: Option<u32>, address: u64) -> Option<InstructionText>
 }
 
 /// Writes what stands at an address in place of an instruction.
-fn show_other(word: Option<u32>, answer: &mut String) -> Result<(), AllocError> {
+fn show_other(word: Option<u32>, answer: &mut String) -> Result<(), AllocError>
+    ensures { OnOk result (string_bytes answer.new ≡ string_bytes answer.old ++ other_text word) }
+{
     match word {
-        Some(word) => writeln!(answer, "the word {word:#010x}"),
-        None => writeln!(answer, "nothing"),
+        Some(word) => writeln!(answer, "the word 0x{word:08x}"),
+        None => answer.push_str("nothing\n"),
     }
 }
 
-/// Writes the line of the instruction at an address of a process.
+/// Writes an instruction's text, with its function and its line, if they are known.
+fn show_text(text: &str, location: &Location<'_>, answer: &mut String) -> Result<(), AllocError>
+    ensures { OnOk result (string_bytes answer.new ≡ string_bytes answer.old ++ with_location text.now location.now.symbols.now location.now.address (option_map (λ line. line.now) location.now.line)) }
+{
+    if location.is_known() {
+        let location = *location;
+        writeln!(answer, "{text:<28}  {location}")
+    } else {
+        writeln!(answer, "{text}")
+    }
+}
+
+/// Writes the instruction of a word, or what stands there in its place.
+fn show_word(
+    word: Option<u32>,
+    location: &Location<'_>,
+    answer: &mut String,
+) -> Result<(), AllocError>
+    ensures { OnOk result (string_bytes answer.new ≡ string_bytes answer.old ++ word_text word (instruction_text location.now.address word) location.now.symbols.now location.now.address (option_map (λ line. line.now) location.now.line)) }
+{
+    match instruction_text(word, location.address) {
+        Some(text) => show_text(text.as_str(), location, answer),
+        None => show_other(word, answer),
+    }
+}
+
+/// Writes the line of the instruction at an address of a process, behind a mark.
 fn show_instruction(
     session: &Session,
     sources: Option<&Sources>,
@@ -49,41 +80,35 @@ fn show_instruction(
     answer: &mut String,
 ) -> Result<(), AllocError>
     requires { address % 4 ≡ 0 }
+    ensures { OnOk result (Writes (string_bytes answer.old) (string_bytes answer.new) (IsInstructionText (option_map (λ s. s.now) sources) session.now pid address mark.now)) }
 {
     let word = word_at(session.machine(), pid, address);
-    write!(answer, "{mark} {address:>#8x}  ")?;
-    let Some(text) = instruction_text(word, address) else {
-        return show_other(word, answer);
-    };
-    let text = text.as_str();
     let location = location_of(sources, session, pid, address);
-    if location.is_known() {
-        writeln!(answer, "{text:<28}  {location}")
-    } else {
-        writeln!(answer, "{text}")
-    }
+    let shown = Hexadecimal(address);
+    write!(answer, "{mark} {shown:>8}  ")?;
+    show_word(word, &location, answer)
 }
 
-/// Writes the lines of so many instructions of a process from an address on, of which the first is marked. Those behind
-/// 2^64 are left out.
+/// Writes the lines of so many instructions of a process from an address on, the first behind a mark. Those behind 2^64
+/// are left out.
 pub(crate) fn list(
     session: &Session,
     sources: Option<&Sources>,
     pid: Pid,
-    from: u64,
     count: u32,
+    address: u64,
+    mark: &str,
     answer: &mut String,
 ) -> Result<(), AllocError>
-    requires { from % 4 ≡ 0 }
+    requires { address % 4 ≡ 0 }
+    ensures { OnOk result (Writes (string_bytes answer.old) (string_bytes answer.new) (AreInstructions (option_map (λ s. s.now) sources) session.now pid count address mark.now)) }
 {
-    let mut address = from;
-    for place in 0..count {
-        let mark = if place == 0 { "=>" } else { "  " };
-        show_instruction(session, sources, pid, address, mark, answer)?;
-        let Some(next) = address.checked_add(4) else {
-            return Ok(());
-        };
-        address = next;
+    if count == 0 {
+        return Ok(());
     }
-    Ok(())
+    show_instruction(session, sources, pid, address, mark, answer)?;
+    match address.checked_add(4) {
+        Some(next) => list(session, sources, pid, count - 1, next, "  ", answer),
+        None => Ok(()),
+    }
 }

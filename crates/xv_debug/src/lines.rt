@@ -1,6 +1,7 @@
 //! The lines of sources, by a table of rows.
-ghost use Rattle.std.specs.Prelude.{◌≡◌, ◌+◌, ◌<◌, length};
+ghost use Rattle.std.specs.Prelude.{◌≡◌, ◌+◌, ◌<◌, Some, length, option_map};
 ghost use Rattle.xv_debug.specs.Lines.{IsNearest, IsNearestBelow, begins_before};
+ghost use Rattle.xv_debug.specs.ListingText.{IsLineIn, text_of_row, unless_empty};
 
 use std::alloc::{AllocError, Global};
 
@@ -86,6 +87,13 @@ fn nearest(rows: &[LineRow], program: u64, address: u64) -> Option<usize>
     nearest
 }
 
+/// A text, unless it is empty.
+fn unless_empty(text: &str) -> Option<&str>
+    ensures { option_map (λ text. text.now) result ≡ unless_empty text.now }
+{
+    if text.is_empty() { None } else { Some(text) }
+}
+
 impl Lines {
     /// A table that has no row.
     pub fn new(alloc: Global) -> Lines {
@@ -125,13 +133,17 @@ impl Lines {
     }
 
     /// What is told of the line of an address of the program at a place; `None` if no line is known.
-    pub(crate) fn text(&self, program: usize, address: u64) -> Option<&str> {
+    pub(crate) fn text(&self, program: usize, address: u64) -> Option<&str>
+        ensures { IsLineIn self.now program address (option_map (λ text. text.now) result) }
+    {
         let place = nearest(self.rows.as_slice(), program as u64, address)?;
-        let row = self.rows.get(place)?;
-        let text = self.texts.get(row.text)?;
-        if text.is_empty() {
-            return None;
-        }
-        Some(text.as_str())
+        self.text_of_row(self.rows.get(place)?)
+    }
+
+    /// What is told of the line of a row; `None` if no line is known from there on.
+    fn text_of_row(&self, row: &LineRow) -> Option<&str>
+        ensures { option_map (λ text. text.now) result ≡ text_of_row self.now (Some row.now) }
+    {
+        unless_empty(self.texts.get(row.text)?.as_str())
     }
 }
