@@ -1,7 +1,9 @@
 -- The exit status of a session.
-use Rattle.std.specs.Prelude.{◌≡◌, ℕ, None, Some}
+use Rattle.std.specs.Prelude.{◌≡◌, ℕ, ℤ, Option, None, Some}
 use Rattle.program_files.specs.Statuses.{exit_status}
 use Rattle.xv_session.specs.Recorded.{Recorded}
+use Rattle.xv_debug.specs.declared.debugger.Next.{Next}
+use Rattle.xv_debug.specs.declared.debugger.Next.TheVariants as behind
 use Rattle.xv_live.specs.Resting.{NothingHappens}
 use Rattle.xv_live.specs.declared.trouble.Trouble.{Trouble}
 use Rattle.xv_live.specs.declared.trouble.Trouble.TheVariants.{Keyboard, Screen, Clock, Memory, Events}
@@ -23,6 +25,17 @@ IsEndOf s (ends.Halted status) = s.machine.world.turns.halted ≡ Some status
 IsEndOf s ends.Asked = s.machine.world.turns.halted ≡ None
 IsEndOf s ends.NoKeys = NothingHappens s.machine.world
 IsEndOf s ends.Played = s.machine.world.turns.halted ≡ None
+
+-- the end that was asked for: that of process 1, if it is gone
+abbrev pub asked_end : (halted : Option ℤ) → End
+asked_end None = ends.Asked
+asked_end (Some status) = ends.Halted status
+
+-- the end behind a prompt; none if the machine is to go on
+abbrev pub end_behind_prompt : Next → (halted : Option ℤ) → Option End
+end_behind_prompt behind.Ends halted = Some (asked_end halted)
+end_behind_prompt behind.Continues halted = None
+end_behind_prompt behind.Stays halted = None
 
 -- the exit status for a trouble
 abbrev pub trouble_status : Trouble → ℕ

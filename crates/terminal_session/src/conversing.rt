@@ -3,7 +3,7 @@ ghost use Rattle.std.specs.Prelude.{◌≡◌, OnOk, IfOk, IfSome};
 ghost use Rattle.xv_debug.specs.Conversations.{Converses};
 ghost use Rattle.xv_live.specs.Pauses.{IsPauseOf};
 ghost use Rattle.xv_live.specs.Plays.{Plays, events_of_lines};
-ghost use Rattle.terminal_session.specs.Statuses.{IsEndOf};
+ghost use Rattle.terminal_session.specs.Statuses.{IsEndOf, asked_end, end_behind_prompt};
 ghost use Rattle.terminal_session.specs.Stretches.{Lives, Stretch};
 ghost use Rattle.terminal_session.specs.Tells.{Tells, outcome_status};
 
@@ -20,7 +20,8 @@ use xv_session::Session;
 
 // The end that was asked for: that of process 1, if it is gone.
 fn asked_end(session: &Session) -> End
-    ensures { IsEndOf session.now result }
+    ensures is { result ≡ asked_end session.now.machine.world.turns.halted }
+    ensures end { IsEndOf session.now result }
 {
     match session.machine().halted() {
         Some(status) => End::Halted(status),
@@ -30,11 +31,13 @@ fn asked_end(session: &Session) -> End
 
 // The end behind a prompt, if the machine isn't to go on.
 fn end_of_prompt(session: &Session, next: Next) -> Option<End>
-    ensures { IfSome result (λ e. IsEndOf session.now e) }
+    ensures is { result ≡ end_behind_prompt next session.now.machine.world.turns.halted }
+    ensures end { IfSome result (λ e. IsEndOf session.now e) }
 {
     match next {
         Next::Ends => Some(asked_end(session)),
-        Next::Continues | Next::Stays => None,
+        Next::Continues => None,
+        Next::Stays => None,
     }
 }
 

@@ -3,4 +3,10 @@ pub mod Effects
 pub mod Focus
 pub mod Instructions
 pub mod Lines
+pub mod LookText
+pub mod OutcomeText
+pub mod OutputText
+pub mod PipeText
 pub mod Pipes
+pub mod ProcessText
+pub mod StopText

@@ -1,6 +1,7 @@
 //! The debugger: a line goes in, its answer comes out.
-ghost use Rattle.std.specs.Prelude.{◌≡◌};
+ghost use Rattle.std.specs.Prelude.{◌≡◌, ◌++◌, OnOk, string_bytes};
 ghost use Rattle.xv_debug.specs.Effects.{next_of};
+ghost use Rattle.xv_debug.specs.LookText.{nobody};
 
 use crate::focus::{last_seen, running_or};
 use crate::pipes::show_pipes;
@@ -62,14 +63,26 @@ fn next_of(word: &Word) -> Next
     }
 }
 
+/// Writes that there is no process.
+fn show_nobody(answer: &mut String) -> Result<(), AllocError>
+    ensures { OnOk result (string_bytes answer.new ≡ string_bytes answer.old ++ nobody) }
+{
+    answer.push_str("there is no process\n")
+}
+
 impl Debugger {
-    ghost use Rattle.std.specs.Prelude.{◌≡◌, ◌⊎◌, IfOk, IfErr, length, map, option_map, replicate, take};
+    ghost use Rattle.std.specs.Prelude.{◌≡◌, ◌⊎◌, IfOk, IfErr, OnOk, length, map, option_map, replicate, string_bytes, take, unwrap_or};
     ghost use Rattle.kernel_spec.specs.runs.Run as runs;
     ghost use Rattle.xv_machine.specs.Events.{event_of, outcome_of};
     ghost use Rattle.debug_motion.specs.Aims.{aim_in};
     ghost use Rattle.debug_motion.specs.Reaching.{meets_aim};
+    ghost use Rattle.debug_views.specs.DescriptorText.{descriptors_shown};
+    ghost use Rattle.debug_views.specs.MemoryText.{memory_shown};
+    ghost use Rattle.debug_views.specs.RegisterText.{registers_shown};
+    ghost use Rattle.debug_views.specs.Written.{Writes};
     ghost use Rattle.xv_debug.specs.Effects.{Does, DoesOrStays, DoesSome, GoesBack, IsConditionOf, Obeys, Plays, Searches, SearchesFor, SearchesGoal, SendsFirst, Steps, next_of};
     ghost use Rattle.xv_debug.specs.Focus.{IsFocus, last_seen};
+    ghost use Rattle.xv_debug.specs.LookText.{IsOfFocus, Shows};
 
     /// A debugger that has seen nothing. The names of functions come from the programs' own symbols, and no line is
     /// known.
@@ -156,6 +169,7 @@ impl Debugger {
     ) -> Result<Next, AllocError>
         ensures done { IfOk result (λ _. Does self.old.last word.now session.old session.new) }
         ensures next { IfOk result (λ next. next ≡ next_of word.now) }
+        ensures shown { OnOk result (Shows self.old.last self.old.shown session.old word.now (string_bytes answer.old) (string_bytes answer.new)) }
         ensures failed { IfErr result (λ _. DoesOrStays self.old.last word.now session.old session.new) }
     {
         self.act(alloc, session, word, answer)?;
@@ -171,6 +185,7 @@ impl Debugger {
         answer: &mut String,
     ) -> Result<(), AllocError>
         ensures done { IfOk result (λ _. Does self.old.last word.now session.old session.new) }
+        ensures shown { OnOk result (Shows self.old.last self.old.shown session.old word.now (string_bytes answer.old) (string_bytes answer.new)) }
         ensures failed { IfErr result (λ _. DoesOrStays self.old.last word.now session.old session.new) }
     {
         match word {
@@ -295,7 +310,7 @@ impl Debugger {
         ensures { SearchesFor condition session.old session.new }
     {
         let Some(condition) = condition else {
-            return writeln!(answer, "there is no process");
+            return show_nobody(answer);
         };
         let journey = motion::until(session, EVENTS_MOST, &condition);
         self.tell(session, word, &journey, answer)
@@ -408,7 +423,9 @@ impl Debugger {
         session: &Session,
         word: &Word,
         answer: &mut String,
-    ) -> Result<(), AllocError> {
+    ) -> Result<(), AllocError>
+        ensures { OnOk result (Shows self.old.last self.old.shown session.now word.now (string_bytes answer.old) (string_bytes answer.new)) }
+    {
         match word {
             Word::Where { pid } => self.show_focus(session, *pid, INSTRUCTIONS, answer),
             Word::At => self.show_focus(session, None, 0, answer),
@@ -419,38 +436,80 @@ impl Debugger {
             Word::Events { from } => show_events(session, *from, answer),
             Word::Trace { count } => show_trace(session, *count, answer),
             Word::Help { topic } => show_help(*topic, answer),
-            _ => self.look_at(alloc, session, word, answer),
+            Word::Registers { pid } => self.show_registers_of(session, *pid, answer),
+            Word::Descriptors { pid } => self.show_descriptors_of(session, *pid, answer),
+            Word::Pages { from, pid } => self.show_pages_of(alloc, session, *pid, *from, answer),
+            Word::Memory {
+                address,
+                count,
+                pid,
+            } => self.show_memory_of(session, *pid, *address, *count, answer),
+            _ => Ok(()),
         }
     }
 
-    /// Writes what a word asks for that looks at a process.
-    fn look_at(
-        &mut self,
+    /// Writes the registers of the process that a word looks at.
+    fn show_registers_of(
+        &self,
+        session: &Session,
+        named: Option<Pid>,
+        answer: &mut String,
+    ) -> Result<(), AllocError>
+        ensures { OnOk result (Writes (string_bytes answer.old) (string_bytes answer.new) (IsOfFocus self.now.last session.now named (λ p text. text ≡ registers_shown session.now p))) }
+    {
+        match self.focus(session, named) {
+            Some(pid) => show_registers(session, pid, answer),
+            None => show_nobody(answer),
+        }
+    }
+
+    /// Writes the descriptors of the process that a word looks at.
+    fn show_descriptors_of(
+        &self,
+        session: &Session,
+        named: Option<Pid>,
+        answer: &mut String,
+    ) -> Result<(), AllocError>
+        ensures { OnOk result (Writes (string_bytes answer.old) (string_bytes answer.new) (IsOfFocus self.now.last session.now named (λ p text. text ≡ descriptors_shown session.now p))) }
+    {
+        match self.focus(session, named) {
+            Some(pid) => show_descriptors(session, pid, answer),
+            None => show_nobody(answer),
+        }
+    }
+
+    /// Writes the tables and pages of the process that a word looks at, from an address on.
+    fn show_pages_of(
+        &self,
         alloc: Global,
         session: &Session,
-        word: &Word,
+        named: Option<Pid>,
+        from: u64,
         answer: &mut String,
     ) -> Result<(), AllocError> {
-        let named = match word {
-            Word::Registers { pid }
-            | Word::Descriptors { pid }
-            | Word::Memory { pid, .. }
-            | Word::Pages { pid, .. } => *pid,
-            _ => return Ok(()),
-        };
-        let Some(pid) = self.focus(session, named) else {
-            return writeln!(answer, "there is no process");
-        };
-        match word {
-            Word::Registers { .. } => show_registers(session, pid, answer),
-            Word::Descriptors { .. } => show_descriptors(session, pid, answer),
-            Word::Pages { from, .. } => show_pages(alloc, session, pid, *from, answer),
-            Word::Memory { address, count, .. } => {
-                let from = address.unwrap_or(self.shown);
-                self.shown = from.wrapping_add(u64::from(*count));
-                show_memory(session, pid, from, *count, answer)
-            }
-            _ => Ok(()),
+        match self.focus(session, named) {
+            Some(pid) => show_pages(alloc, session, pid, from, answer),
+            None => show_nobody(answer),
         }
+    }
+
+    /// Writes so many bytes of the process that a word looks at, from this address on, or behind those that were shown
+    /// last.
+    fn show_memory_of(
+        &mut self,
+        session: &Session,
+        named: Option<Pid>,
+        address: Option<u64>,
+        count: u32,
+        answer: &mut String,
+    ) -> Result<(), AllocError>
+        ensures { OnOk result (Writes (string_bytes answer.old) (string_bytes answer.new) (IsOfFocus self.old.last session.now named (λ p text. text ≡ memory_shown session.now p (unwrap_or address self.old.shown) count))) }
+    {
+        let Some(pid) = self.focus(session, named) else {
+            return show_nobody(answer);
+        };
+        let from = address.unwrap_or(self.shown);
+        self.shown = from.wrapping_add(u64::from(count));
+        show_memory(session, pid, from, count, answer)
     }
 }
