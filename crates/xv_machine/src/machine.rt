@@ -452,7 +452,7 @@ impl Machine {
         if self.halted.is_some() {
             return Outcome::Halted;
         }
-        self.kernel.tick(&self.hart);
+        self.kernel.tick(&mut self.hart);
         Outcome::Ticked
     }
 

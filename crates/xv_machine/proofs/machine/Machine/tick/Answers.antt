@@ -15,7 +15,7 @@ invariant_of-self c =
     let i = c.self.inside in
     record {
       whole = c.tick.ensures.whole;
-      halted = lives-on-by i.kernel c.tick.new.self i.hart i.hart i.halted
+      halted = lives-on-by i.kernel c.tick.new.self i.hart c.tick.new.hart i.halted
           (none_from_is_some i.halted (sym c.is_some.ensures ∙ c.if-is_some.false))
           (ap (λ (s : State). s.processes) c.tick.ensures.happens.1) c.self.invariant.halted;
       kept = c.self.invariant.kept;
@@ -25,8 +25,8 @@ pub returns-clause-promised : goal.returns-clause-promised
 returns-clause-promised c =
     let i = c.self.inside in
     let none = none_from_is_some i.halted (sym c.is_some.ensures ∙ c.if-is_some.false) in
-    now-promised i.kernel i.hart i.halted i.trace c.args.self.now c.self.view_is runs.Tick c.tick.new.self i.hart None runs.Ticked i.halted none none
-    (run-tick i.kernel c.tick.new.self i.hart i.hart c.tick.ensures.happens c.tick.ensures.wakes)
+    now-promised i.kernel i.hart i.halted i.trace c.args.self.now c.self.view_is runs.Tick c.tick.new.self c.tick.new.hart None runs.Ticked i.halted none none
+    (run-tick i.kernel c.tick.new.self i.hart c.tick.new.hart c.tick.ensures.happens c.tick.ensures.wakes)
 
 pub returns-clause-frames : goal.returns-clause-frames
 returns-clause-frames c = count-is c.tick.new.self ∙ c.tick.ensures.frames ∙ now-frames c.self.inside.kernel c.self.inside.hart c.self.inside.halted c.self.inside.trace c.args.self.now c.self.view_is
