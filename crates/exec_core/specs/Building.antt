@@ -1,7 +1,7 @@
 -- An image, built step by step. Only this crate's private functions speak of it.
 use Rattle.std.specs.Prelude.{ℕ, ◌+◌, ◌*◌, ◌/◌, List, [], ◌∷◌, ◌++◌, length, Option, Some, None}
 use Rattle.std.specs.FinMap.{get}
-use Rattle.xk_base.specs.Image.{Page, Image, with_page, no_pages}
+use Rattle.xk_base.specs.Image.{Page, Image, with_page}
 use Rattle.xk_base.specs.Bytes.{write_image}
 use Rattle.xk_base.specs.declared.program.Segment.{Segment}
 use Rattle.xk_base.specs.Loaded.{file_bytes, down}

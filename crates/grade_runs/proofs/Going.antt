@@ -1,16 +1,15 @@
 -- Runs of a machine that go on, with what is kept of them.
-use Rattle.std.proofs.Common.{◌≡◌, ℕ, ◌+◌, ◌*◌, ◌<◌, ◌≤◌, arith, List, [], ◌∷◌, ◌++◌, replicate, Option, refl, sym, ap, ◌∙◌, subst, append-nil, append_assoc}
+use Rattle.std.proofs.Common.{◌≡◌, ℕ, ◌*◌, ◌<◌, ◌≤◌, arith, List, [], ◌∷◌, ◌++◌, Option, refl, sym, ap, ◌∙◌, subst, append-nil, append_assoc}
 use Rattle.std.proofs.Math.Nat.{mul-le-mul_right}
-use Rattle.kernel_spec.specs.runs.Run.{Event, Outcome, out}
+use Rattle.kernel_spec.specs.runs.Run.{Event, Outcome}
 use Rattle.kernel_spec.specs.runs.Rounds.{events}
 use Rattle.kernel_spec.specs.views.State.{ProgramFile}
-use Rattle.xv_machine.specs.Meaning.{Meaning}
 use Rattle.xv_machine.specs.Reached.{IsReached, IsEvent}
 use Rattle.xv_machine.proofs.Joins.{goes-one}
 use Rattle.xv_machine.proofs.Reached.{reaches_on}
 use Rattle.xv_session.specs.Answers.{IsNew, Sent, RunsSent}
 use Rattle.xv_session.specs.Recorded.{Recorded, IsRecorded}
-use Rattle.grade_runs.specs.Plays.{Told, nothing, notes_of, runs_in, told_of, told_with, told_by, told_runs, PlaysOn, IsRunOf}
+use Rattle.grade_runs.specs.Plays.{Told, nothing, runs_in, told_of, told_with, told_by, told_runs, PlaysOn, IsRunOf}
 use Rattle.grade_runs.specs.declared.playing.Played.{Played}
 use Rattle.grade_runs.proofs.Telling.{told-join, told-notes, told-shown, runs-told}
 

@@ -1,5 +1,5 @@
 -- Worked cases of steps one after another: a step adds a number.
-use Rattle.std.proofs.Common.{◌≡◌, ℕ, ◌+◌, List, refl, arith}
+use Rattle.std.proofs.Common.{◌≡◌, ℕ, ◌+◌, refl, arith}
 use Rattle.std.specs.Prelude.{[], ◌∷◌}
 use Rattle.xk_base.specs.Chains.{Leads}
 

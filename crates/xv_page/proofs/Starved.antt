@@ -1,5 +1,5 @@
 -- A session that is put into a box: where memory is short for the box, that is an answer of boot too.
-use Rattle.std.proofs.Common.{◌≡◌, ℕ, List, inr, refl, sym, subst}
+use Rattle.std.proofs.Common.{ℕ, List, inr, refl, sym, subst}
 use Rattle.std.specs.Prelude.{Result, Ok, Err, IfOk}
 use Rattle.std.specs.declared.boxed.Box.{Box}
 use Rattle.xk_base.specs.declared.errors.BootError.TheVariants.{BadConfig, BadPrograms, NoInit, Memory, Init}

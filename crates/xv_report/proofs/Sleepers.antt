@@ -17,7 +17,6 @@ use Rattle.kernel_spec.specs.views.Words.{c_int, or_zero}
 use Rattle.kernel_spec.specs.waking.Conditions.{Condition, Nothing, Child_of, target_at, read_waits_for, write_waits_for, sleep_waits_for, row_waits_for}
 use Rattle.kcall_core.specs.Observers.{opened}
 use Rattle.kcall_core.specs.declared.kernel.observers.Descriptor.{Descriptor}
-use Rattle.kcall_core.specs.declared.kernel.observers.ProcessState.TheVariants as state
 use Rattle.xv_report.specs.Waits.{told_on, descriptor_in, descriptor_of_call, wait_in_this}
 
 -- ---- descriptors

@@ -28,7 +28,7 @@ use Rattle.kernel_spec.specs.rows.Buffers.{readable, writable_now, text_at, no_s
 use Rattle.kernel_spec.specs.views.PipeEnds.{there, fit, joined, parted, is_given_up, has_bytes}
 use Rattle.kernel_spec.specs.views.Processes.{Live, Alive, Zombie}
 use Rattle.kernel_spec.specs.views.State.{State}
-use Rattle.kernel_spec.specs.views.View.{Descriptor, view_of, show, numbered, least_on_file, least_on_pipe, or_else}
+use Rattle.kernel_spec.specs.views.View.{Descriptor, view_of, show, numbered, least_on_pipe}
 use Rattle.kernel_spec.specs.rows.Touches.{has_absent, touch, before_instruction}
 use Rattle.addr_space.specs.Absent.{brought}
 use Rattle.kernel_spec.specs.steps.Own.{Own, Answer, Exited, Faulted, gone_with}

@@ -16,7 +16,7 @@ use Rattle.kernel_spec.specs.views.Processes.{Live, Alive, Zombie, has_status}
 use Rattle.console_core.specs.Lists.{Console}
 use Rattle.file_table.specs.declared.open_file.OpenFile.{OpenFile}
 use Rattle.kernel_spec.specs.views.State.{State, live}
-use Rattle.kernel_spec.specs.views.View.{View, view, view_of, child_of, or_gone}
+use Rattle.kernel_spec.specs.views.View.{View, view_of, child_of, or_gone}
 use Rattle.kernel_spec.specs.rows.Calls.{Row, Wait, Read, Write, Sleep, row_of}
 use Rattle.kernel_spec.specs.steps.Updates.{changed_state, alone_state, mark, waited_state, forked_state, gone_state, kill_state}
 use Rattle.kernel_spec.specs.others.Quiet.{file_at, pipe_at, end_of, target_of_open}
