@@ -2,8 +2,8 @@
 """Counts how often a program meets jumps that lie badly: jumps.py PROGRAM [WORDS].
 
 A jump lies badly where it crosses a multiple of 32 bytes or ends at one; a comparison or a sum that it is decoded
-together with counts as its begin. Intel's processors of 2015 to 2019 don't keep such a jump decoded (Intel, "Mitigations for
-Jump Conditional Code Erratum"). valgrind's callgrind counts, and objdump tells where each jump lies.
+together with counts as its begin. Intel's processors of 2015 to 2019 don't keep such a jump decoded. valgrind's callgrind
+counts, and objdump tells where each jump lies.
 
 It prints how many machine instructions, jumps and badly lying jumps were met, and the ten that were met most often.
 """
