@@ -40,12 +40,14 @@ git archive HEAD xv README.md LICENSE VERSION CHANGELOG.md docs programs page/ne
     checks/why checks/terminal checks/debugger checks/gdb checks/gdb.sh checks/grading | tar -x -C "$RELEASE"
 mv "$RELEASE/docs/html" "$room/html"
 
-# A program's own file lies in libexec/, and bin/ has a script of its name, which knows --version.
+# A program's own file lies in libexec/, under each name that it is called by, and bin/ has a script of that name, which
+# knows --version.
 mkdir "$RELEASE/bin" "$RELEASE/libexec"
-for main in crates/*/src/main.rt; do
-    program=$(basename "${main%/src/main.rt}")
-    cp "crates/$program/out/$program" "$RELEASE/libexec/"
-    cp "$RELEASE/programs/host/launch.sh" "$RELEASE/bin/$program"
+for link in bin/*; do
+    program=$(readlink -f "$link")
+    cp -u "$program" "$RELEASE/libexec/"
+    [ "${program##*/}" = "${link##*/}" ] || ln -s "${program##*/}" "$RELEASE/libexec/${link##*/}"
+    cp "$RELEASE/programs/host/launch.sh" "$RELEASE/$link"
 done
 { git log -1 --format='commit %H of %cs'; rt version; } >"$RELEASE/BUILT"
 
@@ -78,7 +80,7 @@ find "$RELEASE" -name '*.md' -printf '%P\n' | sort | as_html
 
 # Packs the folder in $1 as the archive $2, with the sums of its files in the file $3.
 pack() {
-    (cd "$1/$name" && find . -type f ! -name "$3" | sort | xargs -d '\n' sha256sum >"$3")
+    (cd "$1/$name" && find . \( -type f -o -type l \) ! -name "$3" | sort | xargs -d '\n' sha256sum >"$3")
     # gzip reads a file and no pipe, so that it gets the same pieces each time.
     tar -cf "$room/packed" --sort=name --mtime="@$(git log -1 --format=%ct)" --owner=0 --group=0 --numeric-owner \
         --mode=u=rwX,go=rX,a-st --format=gnu -C "$1" "$name"

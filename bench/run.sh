@@ -1,6 +1,6 @@
 #!/bin/bash
 # Measures one of the programs of this folder: bench/run.sh NAME [WORDS], or bench/run.sh --count NAME FEW MANY [WORDS].
-# It proves and builds NAME/program.txt over the crates that NAME/uses names, builds NAME/plain.rs, where
+# It proves and builds NAME/program.txt over the crates that NAME/uses names, builds NAME/plain.rs, if
 # there is one, by `rustc -O`, and runs both in turn, three times, with these words.
 # A folder that has a script of its own, measure.sh, is measured by that.
 # With --count it lets valgrind's callgrind count the machine instructions of each with FEW and with MANY as

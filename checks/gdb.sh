@@ -1,16 +1,14 @@
 #!/bin/sh
 # Finds the bug of gdb/game.c with GDB, by the commands of gdb/game.gdb, and compares what GDB says with
-# gdb/game.wanted: checks/gdb.sh [PROGRAM], where PROGRAM serves GDB, and is without a word the one that is proved and
-# built. `checks/gdb.sh --by-hand [PROGRAM]` leaves you in GDB at the start. It takes a few seconds.
+# gdb/game.wanted: checks/gdb.sh [PROGRAM], where PROGRAM serves GDB under its name, xv_gdb, and is without a word the
+# one that is proved and built. `checks/gdb.sh --by-hand [PROGRAM]` leaves you in GDB at the start. It takes a few seconds.
 #
 # It needs gdb-multiarch and a C compiler: apt-get install gdb-multiarch gcc-riscv64-unknown-elf.
 set -eu
 here=$(cd "$(dirname "$0")" && pwd)
 byhand=
 [ "${1-}" != --by-hand ] || { byhand=yes; shift; }
-built=$here/../crates/xv_gdb/out/xv_gdb
-[ ! -d "$here/../bin" ] || built=$here/../bin/xv_gdb
-program=$(readlink -f "${1-$built}")
+program=$(realpath -s "${1-$here/../bin/xv_gdb}")
 for tool in gdb-multiarch riscv64-unknown-elf-gcc; do
     command -v "$tool" >/dev/null || { echo "gdb.sh: there is no $tool; apt-get install gdb-multiarch gcc-riscv64-unknown-elf" >&2; exit 2; }
 done

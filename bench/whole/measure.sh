@@ -1,12 +1,12 @@
 #!/bin/bash
-# Measures the whole of xv_run, boot and reading of files included: it proves and builds xv_run, where it isn't built,
+# Measures the whole of xv_run, boot and reading of files included: it proves and builds xv_run, if it isn't built,
 # and runs each of these five times, in turn with what it is compared with. A line has the least user and system
-# time of the five, in seconds, and that of the other, where there is one, with its ratio to ours.
+# time of the five, in seconds, and that of the other, if there is one, with its ratio to ours.
 set -e
 here=$(cd "$(dirname "$0")" && pwd)
 root=$(cd "$here/../.." && pwd)
 "$root/xv" --frames 16 --rounds 1 "$root/programs/examples/hello/init.s" </dev/null >/dev/null || true
-xv=$root/crates/xv_run/out/xv_run
+xv=$root/bin/xv_run
 work=$(mktemp -d)
 trap 'rm -rf "$work"' EXIT
 

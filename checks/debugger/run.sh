@@ -4,7 +4,7 @@
 #
 #   checks/debugger/run.sh [PROGRAM [--store]]
 #
-# PROGRAM is the debugger: without it, the one that is proved and built. --store writes the outputs anew: look at each line
+# PROGRAM is the debugger under its name, xv_debugger: without it, the one that is proved and built. --store writes the outputs anew: look at each line
 # that changes.
 #
 # NAME.needs names a command of the host without which a session is left out, and the verdict says so: the lines of a
@@ -12,9 +12,7 @@
 # them (with CFLAGS='-g1', and prefix maps, so that no path of a host is in them).
 set -u
 cd "$(dirname "$0")/../.." || exit 2
-built=crates/xv_debugger/out/xv_debugger
-[ ! -d bin ] || built=bin/xv_debugger
-XV_DEBUGGER=$(readlink -f -- "${1-$built}")
+XV_DEBUGGER=$(realpath -s -- "${1-bin/xv_debugger}")
 export XV_DEBUGGER
 [ -x "$XV_DEBUGGER" ] || { echo "there is no program $XV_DEBUGGER: build it by ./xv" >&2; exit 2; }
 

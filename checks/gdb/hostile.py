@@ -15,7 +15,7 @@ import subprocess
 import sys
 import tempfile
 
-PROGRAM = os.path.join(os.path.dirname(os.path.abspath(__file__)), "..", "..", "crates", "xv_gdb", "out", "xv_gdb")
+PROGRAM = os.path.join(os.path.dirname(os.path.abspath(__file__)), "..", "..", "bin", "xv_gdb")
 SOURCE = """_start:
   li t0, 3
 loop:

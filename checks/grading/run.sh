@@ -3,7 +3,7 @@
 # ones, two or three of each kind, in some seconds; checks/grading/run.sh --all [PROGRAM] all 207 of them, twice, in two orders, on
 # one process and on four, with a kill and a second start in between; checks/grading/run.sh --many [PROGRAM] a thousand, made of these
 # under other names, by GNU parallel on two processes; checks/grading/run.sh --store [PROGRAM] stores anew.
-# PROGRAM is xv_grade, and without it the one that stands in this repository. The status is 0 if all is as stored.
+# PROGRAM is xv_grade, under that name, and without it the one that stands in this repository. The status is 0 if all is as stored.
 set -u
 export LC_ALL=C
 shopt -s dotglob nullglob
@@ -12,11 +12,11 @@ top=$PWD
 here=$top/checks/grading
 mode=quick
 case ${1-} in --all | --many | --store) mode=${1#--} && shift ;; esac
-built=$top/crates/xv_grade/out/xv_grade
+built=$top/bin/xv_grade
 [ ! -d "$top/libexec" ] || built=$top/libexec/xv_grade
 export XV_GRADE=${1-$built}
 [ -x "$XV_GRADE" ] || { echo "grading: there is no program $XV_GRADE" >&2; exit 2; }
-XV_GRADE=$(readlink -f "$XV_GRADE")
+XV_GRADE=$(realpath -s "$XV_GRADE")
 # Pictures are not compared, and so none are drawn.
 export XV_PICTURE=${XV_PICTURE-}
 room=$(mktemp -d) || exit 2

@@ -163,8 +163,8 @@ def other_answer(rows, singles):
 class Plays:
     """A case that is played in a folder, by the programs that are built in another."""
 
-    def __init__(self, crates, case, folder):
-        self.crates, self.case, self.folder = crates, case, folder
+    def __init__(self, bin, case, folder):
+        self.bin, self.case, self.folder = bin, case, folder
         for name, content in case.files.items():
             self.keep(name, content)
 
@@ -174,7 +174,7 @@ class Plays:
 
     def played(self, program, words, typed=""):
         """What a program writes to standard output and to standard error, and its status."""
-        path = os.path.abspath(os.path.join(self.crates, program, "out", program))
+        path = os.path.abspath(os.path.join(self.bin, program))
         run = subprocess.run([path, *words, *self.case.files], cwd=self.folder, input=typed.encode(), capture_output=True, timeout=PATIENCE)
         out, told = run.stdout.decode("latin-1"), run.stderr.decode("latin-1")
         if run.returncode not in (0, 3, 4):
@@ -230,7 +230,7 @@ def play(options, number):
         folder = options.keep or scratch
         os.makedirs(folder, exist_ok=True)
         try:
-            return compared(Plays(options.crates, Case(options.seed, number), folder))
+            return compared(Plays(options.bin, Case(options.seed, number), folder))
         except (ValueError, subprocess.TimeoutExpired) as error:
             return f"it isn't played: {error}", 0, 0
 
@@ -255,7 +255,7 @@ def main():
     parser.add_argument("--many", type=int, metavar="N", default=CASES, help=f"how many cases, of two programs each ({CASES})")
     parser.add_argument("--case", type=int, metavar="N", help="this case alone")
     parser.add_argument("--keep", metavar="FOLDER", help="with --case: put its programs, words and records there")
-    parser.add_argument("crates", help=argparse.SUPPRESS)
+    parser.add_argument("bin", help=argparse.SUPPRESS)
     options = parser.parse_args()
     if options.keep and options.case is None:
         parser.error("--keep wants --case")

@@ -1,6 +1,6 @@
 #!/bin/sh
 # Plays the sessions of this folder by the built program, and compares what comes out: checks/sessions/run.sh, or
-# checks/sessions/run.sh NAME.. for some of them. A line for each, and a verdict at the end; the status is 0 where all are as
+# checks/sessions/run.sh NAME.. for some of them. A line for each, and a verdict at the end; the status is 0 if all are as
 # they should be. XV_RUN is the program, and without it the one that stands in this repository. A session may take 60
 # seconds, or as many as PATIENCE says.
 #
@@ -15,12 +15,10 @@
 #   == errors          what standard error must have; without this part it isn't looked at
 #   == trace PATTERN   the lines of standard error that fit the pattern (of grep -E)
 #
-# The last line of keys and of what is shown ends in \c where no line's end follows.
+# The last line of keys and of what is shown ends in \c if no line's end follows.
 set -u
 top=$(dirname "$0")/../..
-built=$top/crates/xv_run/out/xv_run
-[ ! -d "$top/bin" ] || built=$top/bin/xv_run
-program=${XV_RUN-$built}
+program=${XV_RUN-$top/bin/xv_run}
 [ -x "$program" ] || { echo "there is no program $program: build it by ./xv" >&2; exit 2; }
 program=$(readlink -f "$program")
 cd "$(dirname "$0")" || exit 2

@@ -19,7 +19,7 @@ import termios
 import time
 
 TOP = os.path.dirname(os.path.dirname(os.path.dirname(os.path.abspath(__file__))))
-PLACE = TOP + ("/libexec/{0}" if os.path.isdir(TOP + "/libexec") else "/crates/{0}/out/{0}")
+PLACE = TOP + ("/libexec/{0}" if os.path.isdir(TOP + "/libexec") else "/bin/{0}")
 TERMINAL = sys.argv[1] if len(sys.argv) > 1 else PLACE.format("xv_terminal")
 RUN = sys.argv[2] if len(sys.argv) > 2 else PLACE.format("xv_run")
 

@@ -1,7 +1,7 @@
 #!/bin/sh
 # Plays the sessions of this folder by the built program xv_terminal, without a terminal, and compares what comes out:
 # checks/terminal/run.sh, or checks/terminal/run.sh NAME.. for some of them. A line for each that differs, and a verdict
-# at the end; the status is 0 where all are as they should be. XV_TERMINAL is the program, and without it the one that
+# at the end; the status is 0 if all are as they should be. XV_TERMINAL is the program, and without it the one that
 # stands in this repository.
 #
 # A session is a text. Its first line says what it shows; then come parts, each with a line `== NAME` at its head:
@@ -19,7 +19,7 @@
 #   == beside     what standard error must have if the record is played without --apart, so that notes are made as on a
 #                 terminal that shows both, as `cat -v` writes it; without this part it isn't played so
 #
-# The last line of keys and of what is shown ends in \c where no line's end follows. A session with keys is recorded,
+# The last line of keys and of what is shown ends in \c if no line's end follows. A session with keys is recorded,
 # and its record is played.
 set -u
 here=$(cd "$(dirname "$0")" && pwd) || exit 2
@@ -28,13 +28,11 @@ program=${1-}
 case $program in
 */*) shift ;;
 *)
-    program=$top/bin/xv_terminal
-    [ -x "$program" ] || program=$top/crates/xv_terminal/out/xv_terminal
-    program=${XV_TERMINAL-$program}
+    program=${XV_TERMINAL-$top/bin/xv_terminal}
     ;;
 esac
 [ -x "$program" ] || { echo "there is no program $program: build it by ./xv" >&2; exit 2; }
-program=$(readlink -f "$program")
+program=$(realpath -s "$program")
 room=$(mktemp -d) || exit 2
 trap 'rm -rf "$room"' EXIT
 

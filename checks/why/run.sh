@@ -23,11 +23,9 @@ case "$*" in
     exit 2
     ;;
 esac
-built=$root/crates/xv_why/out/xv_why
-[ ! -d "$root/bin" ] || built=$root/bin/xv_why
-program=${XV_WHY-$built}
+program=${XV_WHY-$root/bin/xv_why}
 [ -x "$program" ] || { echo "there is no program $program: build it by ./xv" >&2; exit 2; }
-XV_WHY=$(readlink -f -- "$program")
+XV_WHY=$(realpath -s -- "$program")
 export XV_WHY
 room=$(mktemp -d) || exit 2
 trap 'rm -rf "$room"' EXIT

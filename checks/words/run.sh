@@ -1,7 +1,7 @@
 #!/bin/sh
 # Gives the built programs the words of the texts in this folder, and compares what they say with them:
 # checks/words/run.sh, or checks/words/run.sh NAME.. for some of them. A text that differs is shown with what differs, and
-# a verdict comes at the end; the status is 0 where all are as they should be. `checks/words/run.sh --store` writes the
+# a verdict comes at the end; the status is 0 if all are as they should be. `checks/words/run.sh --store` writes the
 # texts anew: look at each line that changes. The programs are those that stand in this repository; XV_RUN is another
 # xv_run.
 #
@@ -20,12 +20,13 @@ here=$(cd "$(dirname "$0")" && pwd) || exit 2
 room=$(mktemp -d) || exit 2
 trap 'rm -rf "$room"' EXIT
 mkdir "$room/bin" || exit 2
-for name in xv_run xv_why xv_gdb xv_terminal xv_debugger xv_grade; do
-    program=$here/../../crates/$name/out/$name
+for name in xv_run xv_why xv_gdb xv_terminal xv_debugger xv_grade xv_picture; do
+    program=$here/../../bin/$name
     [ "$name" != xv_run ] || program=${XV_RUN-$program}
     [ -x "$program" ] || { echo "there is no program $program: build it by ./xv" >&2; exit 2; }
     ln -s "$(readlink -f "$program")" "$room/bin/$name" || exit 2
 done
+ln -s "$(readlink -f "$here/../../bin/xv_why")" "$room/bin/xv_tools" || exit 2
 PATH=$room/bin:$PATH
 
 first() {

@@ -26,7 +26,7 @@ path_of() {
     if [ -d "$here/../../libexec" ]; then
         printf '%s' "$here/../../libexec/$1"
     else
-        printf '%s' "$here/../../crates/$1/out/$1"
+        printf '%s' "$here/../../bin/$1"
     fi
 }
 

@@ -6,9 +6,7 @@
 # Lines come from lines.sh. XV_DEBUGGER is another program than the one that stands built, or came with a release.
 set -u
 root=$(dirname "$(readlink -f -- "$0")")/../..
-program=$root/bin/xv_debugger
-[ -x "$program" ] || program=$root/crates/xv_debugger/out/xv_debugger
-program=${XV_DEBUGGER:-$program}
+program=${XV_DEBUGGER:-$root/bin/xv_debugger}
 
 table=$("$root/programs/host/lines.sh" "$@")
 [ ! -t 0 ] || set -- --prompt "$@"

@@ -8,9 +8,7 @@
 # the run. XV_WHY and XV_PICTURE are other programs than those that stand built.
 set -u
 root=$(dirname "$(readlink -f -- "$0")")/../..
-picture=$root/bin/xv_picture
-[ -x "$picture" ] || picture=$root/crates/xv_picture/out/xv_picture
-picture=${XV_PICTURE:-$picture}
+picture=${XV_PICTURE:-$root/bin/xv_picture}
 
 # Hands on the lines of a trace; all others are for who runs it.
 lines_of_trace() {

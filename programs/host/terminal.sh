@@ -14,9 +14,7 @@ give_up() {
 }
 
 top=$(dirname "$(readlink -f -- "$0")")/../..
-program=$top/bin/xv_terminal
-[ -x "$program" ] || program=$top/crates/xv_terminal/out/xv_terminal
-program=${XV_TERMINAL-$program}
+program=${XV_TERMINAL-$top/bin/xv_terminal}
 [ -x "$program" ] || give_up "there is no program $program: ./xv builds it"
 
 if [ $# = 0 ]; then

@@ -9,9 +9,7 @@
 # the report stays as it is. XV_WHY is another program than the one that stands built.
 set -u
 root=$(dirname "$(readlink -f -- "$0")")/../..
-program=$root/bin/xv_why
-[ -x "$program" ] || program=$root/crates/xv_why/out/xv_why
-program=${XV_WHY:-$program}
+program=${XV_WHY:-$root/bin/xv_why}
 
 # The first of the host's tools that knows the lines of a program.
 tool=

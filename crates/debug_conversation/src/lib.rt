@@ -17,6 +17,7 @@ use crate::sources::sources;
 pub use command_line::{Settings, read_settings};
 use program_files::programs;
 use std::io::Input;
+use std::rt::Env;
 use xv_debug::Debugger;
 use xv_machine::Config;
 use xv_session::Session;
@@ -47,9 +48,17 @@ fn run<'a>(rt: &HostRuntime, settings: &'a Settings) -> Result<(), Failure<'a>> 
 }
 
 /// Does what the settings say, and gives the exit status.
-pub fn debug(rt: &HostRuntime, settings: &Settings) -> u8 {
+fn debug(rt: &HostRuntime, settings: &Settings) -> u8 {
     match run(rt, settings) {
         Ok(()) => 0,
         Err(failure) => failure.close(&mut rt.stderr()),
+    }
+}
+
+/// Does what the words of a command line ask for, and gives the exit status.
+pub fn obey<W: Env + AllocGlobal>(rt: &HostRuntime, words: &W) -> u8 {
+    match read_settings(words) {
+        Ok(settings) => debug(rt, &settings),
+        Err(error) => error.close(NAME, &mut rt.stdout(), &mut rt.stderr()),
     }
 }

@@ -22,7 +22,7 @@ use gdb_target::{Played, Target};
 use program_files::programs;
 use std::fs;
 use std::io::ErrorKind;
-use std::rt::Files;
+use std::rt::{Env, Files};
 use xk_base::Program;
 
 /// The program's name.
@@ -93,9 +93,17 @@ fn run<'a>(rt: &HostRuntime, settings: &'a Settings) -> Result<(), Failure<'a>> 
 }
 
 /// Does what the settings say, and gives the exit status.
-pub fn play(rt: &HostRuntime, settings: &Settings) -> u8 {
+fn play(rt: &HostRuntime, settings: &Settings) -> u8 {
     match run(rt, settings) {
         Ok(()) => 0,
         Err(failure) => failure.close(&mut rt.stderr()),
+    }
+}
+
+/// Does what the words of a command line ask for, and gives the exit status.
+pub fn obey<W: Env + AllocGlobal>(rt: &HostRuntime, words: &W) -> u8 {
+    match read_settings(words) {
+        Ok(settings) => play(rt, &settings),
+        Err(error) => error.close(NAME, &mut rt.stdout(), &mut rt.stderr()),
     }
 }

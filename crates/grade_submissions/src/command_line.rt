@@ -1,4 +1,5 @@
 //! The words of the command line.
+use crate::NAME;
 use program_files::{CommandLine, CommandWord, Given, WordsError};
 use std::alloc::Global;
 use std::convert::AsStr;
@@ -41,7 +42,7 @@ Exit status:
   5  a file or standard output can't be written";
 
 const COMMAND_LINE: CommandLine = CommandLine {
-    name: "xv_grade",
+    name: NAME,
     about: "Grades a program by a run on a RISC-V machine that has the kernel of xv6",
     more_help: MORE_HELP,
     words: &[

@@ -16,3 +16,35 @@ pub use command_line::{Settings, read_words};
 pub use exercise_file::show_files;
 pub use grading::grade_submission;
 pub use refusal::Refusal;
+use std::io::Write;
+use std::rt::Env;
+
+/// The program's name.
+pub const NAME: &str = "xv_grade";
+
+/// What the settings ask for: the results of a submission, or the names of an exercise's files.
+fn grade(rt: &HostRuntime, settings: &Settings) -> Result<(), Refusal> {
+    match &settings.submission {
+        Some(folder) => grade_submission(rt, settings, folder.as_str(), &mut rt.stdout()),
+        None => show_files(rt, settings, &mut rt.stdout()),
+    }
+}
+
+/// Does what the words of a command line ask for, and gives the exit status.
+pub fn obey<W: Env + AllocGlobal>(rt: &HostRuntime, words: &W) -> u8 {
+    let Ok(words) = program_files::words(words) else {
+        let _ = writeln!(rt.stderr(), "{NAME}: a word is not UTF-8 text");
+        return 1;
+    };
+    let settings = match read_words(rt.alloc(), words.as_slice()) {
+        Ok(settings) => settings,
+        Err(error) => return error.close(NAME, &mut rt.stdout(), &mut rt.stderr()),
+    };
+    match grade(rt, &settings) {
+        Ok(()) => 0,
+        Err(refusal) => {
+            let _ = writeln!(rt.stderr(), "{NAME}: {refusal}");
+            refusal.status()
+        }
+    }
+}

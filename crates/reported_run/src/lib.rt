@@ -20,13 +20,14 @@ pub use command_line::settings;
 use debug_files::symbols_beside;
 pub use line::Settings;
 use program_files::{Failure, programs};
+use std::rt::Env;
 use xv_machine::{Config, Counted, RunPlan};
 
 /// The program's name.
 pub const NAME: &str = "xv_why";
 
 /// Runs the programs that the settings name, and gives the exit status.
-pub fn run(rt: &HostRuntime, settings: &Settings) -> u8 {
+fn run(rt: &HostRuntime, settings: &Settings) -> u8 {
     let config = Config {
         frames: settings.frames,
         trace: settings.trace,
@@ -55,4 +56,12 @@ pub fn run(rt: &HostRuntime, settings: &Settings) -> u8 {
         &mut sink,
         &mut teller,
     )
+}
+
+/// Does what the words of a command line ask for, and gives the exit status.
+pub fn obey<W: Env + AllocGlobal>(rt: &HostRuntime, words: &W) -> u8 {
+    match settings(words) {
+        Ok(settings) => run(rt, &settings),
+        Err(error) => error.close(NAME, &mut rt.stdout(), &mut rt.stderr()),
+    }
 }

@@ -3,7 +3,7 @@ use Rattle.std.proofs.Common.{ℕ, suc, List, Option, refl}
 use Rattle.xv_session.specs.Recorded.{Recorded}
 use Rattle.xv_live.specs.Shown.{Shown}
 use Rattle.xv_debug.specs.Conversations.{Converses}
-use Rattle.terminal_session.specs.Stretches.{Stretch, Stretches, Lives}
+use Rattle.terminal_session.specs.Stretches.{Stretch, Lives}
 
 pub stretch-of : (s t u : Recorded) (h k : Option (List ℕ)) → Shown s t h k → Converses t u → Stretch s u h k
 stretch-of s t u h k shown lines = record { stopped = t; shown = shown; lines = lines }

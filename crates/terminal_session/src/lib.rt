@@ -28,6 +28,15 @@ mod trouble;
 pub use beginning::run;
 pub use command_line::settings;
 pub use line::Settings;
+use std::rt::Env;
 
 /// The name under which the program tells what is wrong.
 pub const NAME: &str = "xv_terminal";
+
+/// Does what the words of a command line ask for, and gives the exit status.
+pub fn obey<W: Env + AllocGlobal>(rt: &HostRuntime, words: &W) -> u8 {
+    match settings(words) {
+        Ok(settings) => run(rt, &settings),
+        Err(error) => error.close(NAME, &mut rt.stdout(), &mut rt.stderr()),
+    }
+}
