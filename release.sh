@@ -43,11 +43,13 @@ mv "$RELEASE/docs/html" "$room/html"
 # A program's own file lies in libexec/, under each name that it is called by, and bin/ has a script of that name, which
 # knows --version.
 mkdir "$RELEASE/bin" "$RELEASE/libexec"
-for link in bin/*; do
-    program=$(readlink -f "$link")
-    cp -u "$program" "$RELEASE/libexec/"
-    [ "${program##*/}" = "${link##*/}" ] || ln -s "${program##*/}" "$RELEASE/libexec/${link##*/}"
-    cp "$RELEASE/programs/host/launch.sh" "$RELEASE/$link"
+for main in crates/*/src/main.rt; do
+    program=$(basename "${main%/src/main.rt}")
+    cp "crates/$program/out/$program" "$RELEASE/libexec/"
+done
+for script in bin/*; do
+    [ -e "$RELEASE/libexec/${script#bin/}" ] || ln -s xv_tools "$RELEASE/libexec/${script#bin/}"
+    cp "$RELEASE/programs/host/launch.sh" "$RELEASE/$script"
 done
 { git log -1 --format='commit %H of %cs'; rt version; } >"$RELEASE/BUILT"
 

@@ -14,7 +14,7 @@ set -eu
 checks=$(dirname "$(readlink -f -- "$0")")
 top=$checks/..
 LEVELS=${LEVELS:--O0 -O2}
-XV_RUN=$(readlink -f -- "${XV_RUN:-$top/bin/xv_run}")
+XV_RUN=$(readlink -f -- "${XV_RUN:-$top/crates/xv_run/out/xv_run}")
 export LEVELS XV_RUN checks top
 
 . "$checks/outside/linking.sh"

@@ -20,7 +20,7 @@ else
 fi
 
 # The same loop by the program: 200 million instructions.
-program=../bin/xv_run
+program=../crates/xv_run/out/xv_run
 [ ! -d ../libexec ] || program=../libexec/xv_run
 if [ -x "$program" ]; then
     room=$(mktemp -d)

@@ -1,7 +1,7 @@
 #!/bin/bash
 # Compares random programs with QEMU: checks/beside-qemu/run.sh [--seed N] [--programs N] [--quantum N] [--turned]; see README.md.
 here=$(cd "$(dirname "$0")" && pwd)
-program="$here/../../bin/xv_run"
+program="$here/../../crates/xv_run/out/xv_run"
 if [ ! -x "$program" ]; then
     echo "xv_run isn't built yet: ./xv programs/examples/hello/init.s </dev/null builds it" >&2
     exit 2

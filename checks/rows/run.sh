@@ -3,7 +3,7 @@
 here=$(cd "$(dirname "$0")" && pwd)
 bin="$here/../../bin"
 for name in xv_debugger xv_terminal xv_run; do
-    if [ ! -x "$bin/$name" ]; then
+    if ! "$bin/$name" --help >/dev/null 2>&1; then
         echo "$name isn't built yet: ./xv programs/examples/hello/init.s </dev/null builds it" >&2
         exit 2
     fi

@@ -19,7 +19,7 @@
 set -u
 top=$(dirname "$0")/../..
 program=${XV_RUN-$top/bin/xv_run}
-[ -x "$program" ] || { echo "there is no program $program: build it by ./xv" >&2; exit 2; }
+"$program" --help >/dev/null 2>&1 || { echo "there is no program $program: build it by ./xv" >&2; exit 2; }
 program=$(readlink -f "$program")
 cd "$(dirname "$0")" || exit 2
 programs=$(cd ../../programs && pwd) || exit 2

@@ -1,7 +1,7 @@
 #!/bin/bash
 # Plays the stored runs: checks/stored-runs/run.sh [--store]; see README.md.
 here=$(cd "$(dirname "$0")" && pwd)
-program="$here/../../bin/xv_run"
+program="$here/../../crates/xv_run/out/xv_run"
 case "$*" in
 '' | --store) ;;
 *)

@@ -20,14 +20,14 @@ here=$(cd "$(dirname "$0")" && pwd) || exit 2
 room=$(mktemp -d) || exit 2
 trap 'rm -rf "$room"' EXIT
 mkdir "$room/bin" || exit 2
-for name in xv_run xv_why xv_gdb xv_terminal xv_debugger xv_grade xv_picture; do
-    program=$here/../../bin/$name
+top=$here/../..
+for name in xv_run xv_tools; do
+    program=$top/crates/$name/out/$name
     [ "$name" != xv_run ] || program=${XV_RUN-$program}
     [ -x "$program" ] || { echo "there is no program $program: build it by ./xv" >&2; exit 2; }
     ln -s "$(readlink -f "$program")" "$room/bin/$name" || exit 2
 done
-ln -s "$(readlink -f "$here/../../bin/xv_why")" "$room/bin/xv_tools" || exit 2
-PATH=$room/bin:$PATH
+PATH=$room/bin:$(readlink -f "$top/bin"):$PATH
 
 first() {
     "$@" >"$room/first-out" 2>"$room/first-err"

@@ -61,7 +61,7 @@ while [ $# -gt 0 ]; do
 done
 [ $# -ge 2 ] || give_up 1 'usage: grade.sh [OPTION..] EXERCISE SUBMISSION..; --help tells the options'
 case ${jobs:-1} in *[!0-9]* | 0) give_up 1 '--jobs takes a number from 1 on' ;; esac
-[ -x "$XV_GRADE" ] || give_up 2 "$XV_GRADE is not built; XV_GRADE tells where it is"
+"$XV_GRADE" --help >/dev/null 2>&1 || give_up 2 "$XV_GRADE is not built; XV_GRADE tells where it is"
 
 exercise=$1
 shift
@@ -74,6 +74,9 @@ export EXERCISE=$exercise
 # What the results depend on beside a submission: the program, the exercise, and the files beside it that it names.
 inputs=$("$XV_GRADE" --inputs "$exercise") || exit 2
 common=$(sha256sum <"$XV_GRADE") || exit 2
+# In a clone XV_GRADE only starts the program.
+program=$here/../../crates/xv_tools/out/xv_tools
+[ ! -r "$program" ] || common+=$(sha256sum <"$program") || exit 2
 while IFS= read -r file; do
     [ -r "$file" ] || give_up 2 "$file, which the exercise names, cannot be read"
     common+=$(sha256sum <"$file") || exit 2

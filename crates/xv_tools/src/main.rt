@@ -1,7 +1,7 @@
 //! The programs around the machine, in one file: `xv_debugger`, `xv_gdb`, `xv_grade`, `xv_picture`, `xv_terminal` and
 //! `xv_why`.
 //!
-//! It is the one by whose name it is called (`bin/` has a link of each name). Called by another name, as `xv_tools`, it
+//! It is the one by whose name it is called (as in a release). Called by another name, as `xv_tools`, it
 //! is the one that its first word names. What each of them does is a library's, which is proved once. To prove a program
 //! means to read all modules below it, so one program costs what each of the six would cost.
 #![tactic(auto)]
