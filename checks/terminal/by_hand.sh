@@ -86,6 +86,11 @@ find_machine() {
     exit 1
 }
 
+# Whether a process runs: one that has ended may still be listed, until its parent looks.
+lives() {
+    case $(ps -o stat= -p "$1") in '' | Z*) return 1 ;; esac
+}
+
 # Clears the screen, and waits until the host's prompt stands there alone.
 clear_screen() {
     text 'clear'
@@ -261,10 +266,10 @@ shoot signal
 start ''
 mux kill-server
 for _ in 1 2 3 4 5 6 7 8 9 10; do
-    [ -d "/proc/$machine" ] || [ -d "/proc/$script" ] || break
+    lives "$machine" || lives "$script" || break
     sleep "0.${PATIENCE-1}"
 done
-[ ! -d "/proc/$machine" ] && [ ! -d "/proc/$script" ] || {
+! lives "$machine" && ! lives "$script" || {
     echo "a process is there behind the end of the window"
     bad=$((bad + 1))
 }
