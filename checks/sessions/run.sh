@@ -18,8 +18,10 @@
 # The last line of keys and of what is shown ends in \c if no line's end follows.
 set -u
 top=$(dirname "$0")/../..
-program=${XV_RUN-$top/bin/xv_run}
-"$program" --help >/dev/null 2>&1 || { echo "there is no program $program: build it by ./xv" >&2; exit 2; }
+built=$top/crates/xv_run/out/xv_run
+[ ! -d "$top/libexec" ] || built=$top/libexec/xv_run
+program=${XV_RUN-$built}
+[ -x "$program" ] || { echo "there is no program $program: build it by ./xv" >&2; exit 2; }
 program=$(readlink -f "$program")
 cd "$(dirname "$0")" || exit 2
 programs=$(cd ../../programs && pwd) || exit 2
