@@ -12,7 +12,7 @@ program=$(realpath -s "${1-$here/../bin/xv_gdb}")
 for tool in gdb-multiarch riscv64-unknown-elf-gcc; do
     command -v "$tool" >/dev/null || { echo "gdb.sh: there is no $tool; apt-get install gdb-multiarch gcc-riscv64-unknown-elf" >&2; exit 2; }
 done
-"$program" --help >/dev/null 2>&1 || { echo "gdb.sh: there is no program $program: build it by ./xv" >&2; exit 2; }
+"$program" --help >/dev/null 2>&1 || { echo "gdb.sh: $program doesn't start: build it by ./xv" >&2; exit 2; }
 
 room=$(mktemp -d)
 trap 'rm -rf "$room"' EXIT

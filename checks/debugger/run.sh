@@ -14,7 +14,7 @@ set -u
 cd "$(dirname "$0")/../.." || exit 2
 XV_DEBUGGER=$(realpath -s -- "${1-bin/xv_debugger}")
 export XV_DEBUGGER
-"$XV_DEBUGGER" --help >/dev/null 2>&1 || { echo "there is no program $XV_DEBUGGER: build it by ./xv" >&2; exit 2; }
+"$XV_DEBUGGER" --help >/dev/null 2>&1 || { echo "$XV_DEBUGGER doesn't start: build it by ./xv" >&2; exit 2; }
 
 scratch=$(mktemp -d) || exit 2
 trap 'rm -rf "$scratch"' EXIT

@@ -5,5 +5,5 @@
 set -u
 here=$(cd "$(dirname "$0")" && pwd) || exit 2
 program=${1-$here/../../bin/xv_gdb}
-"$program" --help >/dev/null 2>&1 || { echo "there is no program $program: build it by ./xv" >&2; exit 2; }
+"$program" --help >/dev/null 2>&1 || { echo "$program doesn't start: build it by ./xv" >&2; exit 2; }
 exec python3 -B "$here/talk.py" "$program" "$here"/conversations/*

@@ -15,7 +15,7 @@ case ${1-} in --all | --many | --store) mode=${1#--} && shift ;; esac
 built=$top/bin/xv_grade
 [ ! -d "$top/libexec" ] || built=$top/libexec/xv_grade
 export XV_GRADE=${1-$built}
-"$XV_GRADE" --help >/dev/null 2>&1 || { echo "grading: there is no program $XV_GRADE" >&2; exit 2; }
+"$XV_GRADE" --help >/dev/null 2>&1 || { echo "grading: $XV_GRADE doesn't start: build it by ./xv" >&2; exit 2; }
 XV_GRADE=$(realpath -s "$XV_GRADE")
 # Pictures are not compared, and so none are drawn.
 export XV_PICTURE=${XV_PICTURE-}

@@ -31,7 +31,7 @@ case $program in
     program=${XV_TERMINAL-$top/bin/xv_terminal}
     ;;
 esac
-"$program" --help >/dev/null 2>&1 || { echo "there is no program $program: build it by ./xv" >&2; exit 2; }
+"$program" --help >/dev/null 2>&1 || { echo "$program doesn't start: build it by ./xv" >&2; exit 2; }
 program=$(realpath -s "$program")
 room=$(mktemp -d) || exit 2
 trap 'rm -rf "$room"' EXIT

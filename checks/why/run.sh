@@ -24,7 +24,7 @@ case "$*" in
     ;;
 esac
 program=${XV_WHY-$root/bin/xv_why}
-"$program" --help >/dev/null 2>&1 || { echo "there is no program $program: build it by ./xv" >&2; exit 2; }
+"$program" --help >/dev/null 2>&1 || { echo "$program doesn't start: build it by ./xv" >&2; exit 2; }
 XV_WHY=$(realpath -s -- "$program")
 export XV_WHY
 room=$(mktemp -d) || exit 2

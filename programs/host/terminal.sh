@@ -15,7 +15,7 @@ give_up() {
 
 top=$(dirname "$(readlink -f -- "$0")")/../..
 program=${XV_TERMINAL-$top/bin/xv_terminal}
-"$program" --help >/dev/null 2>&1 || give_up "there is no program $program: ./xv builds it"
+"$program" --help >/dev/null 2>&1 || give_up "$program doesn't start: ./xv builds it"
 
 if [ $# = 0 ]; then
     for file in "$top"/programs/bin/*; do
