@@ -2,6 +2,8 @@ pub mod Pieces
 pub mod Digits
 pub mod Table
 pub mod Each
+pub mod Walks
+pub mod Ranges
 pub mod OneMore
 pub mod Once
 pub mod Appended

@@ -134,6 +134,14 @@ indirect os = do
   s ← register p.1
   Ok (d, s, n)
 
+-- two registers and a number of twelve bits with its sign
+abbrev pub immediate_bits : List (List ℕ) → Result (ℕ × ℕ × ℕ) AsmErrorKind
+immediate_bits os = immediate os >>= λ r. ranged 2048 2047 r.2 (r.0, r.1, low_bits 12 r.2)
+
+-- a register, and number(register) with a number of twelve bits with its sign
+abbrev pub indirect_bits : List (List ℕ) → Result (ℕ × ℕ × ℕ) AsmErrorKind
+indirect_bits os = indirect os >>= λ r. ranged 2048 2047 r.2 (r.0, r.1, low_bits 12 r.2)
+
 -- a register and a number
 abbrev pub register_number : List (List ℕ) → Result (ℕ × Number) AsmErrorKind
 register_number os = do

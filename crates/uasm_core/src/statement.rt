@@ -2,7 +2,7 @@
 ghost use Rattle.std.specs.Prelude.{◌≡◌, map, IfOk};
 ghost use Rattle.std.specs.Str.Lines.{lines as lines_in};
 ghost use Rattle.uasm_core.specs.Views.{Gives, Answers, parts as parts_seen};
-ghost use Rattle.uasm_core.specs.Statement.{statement as statement_meant, statement_of, ranged, low_bits, alone as alone_in, li_code as li_code_in, Code, given as given_in, datum as datum_in, bit_count, GivenNumber, each, stands_in as stands};
+ghost use Rattle.uasm_core.specs.Statement.{statement as statement_meant, statement_of, ranged, low_bits, alone as alone_in, li_code as li_code_in, Code, given as given_in, datum as datum_in, bit_count, GivenNumber, each, stands_in as stands, immediate_bits as immediate_bits_in, indirect_bits as indirect_bits_in};
 ghost use Rattle.uasm_core.specs.declared.words.Form.TheVariants as form;
 ghost use Rattle.uasm_core.specs.Views.{statement as seen, given as given_seen, datum as datum_seen};
 
@@ -100,6 +100,22 @@ fn five_bits(number: &Number) -> Result<Shift5, AsmErrorKind>
     }
 }
 
+/// Two registers, and a number that fits twelve bits.
+fn immediate_bits(operands: &[&[u8]]) -> Result<(Reg, Reg, Imm12), AsmErrorKind>
+    ensures { result ≡ immediate_bits_in (map (λ b. b.now) operands.now) }
+{
+    let (rd, rs1, number) = immediate(operands)?;
+    Ok((rd, rs1, twelve_bits(&number)?))
+}
+
+/// A register, and a number that fits twelve bits with a register in brackets.
+fn indirect_bits(operands: &[&[u8]]) -> Result<(Reg, Reg, Imm12), AsmErrorKind>
+    ensures { result ≡ indirect_bits_in (map (λ b. b.now) operands.now) }
+{
+    let (first, base, offset) = indirect(operands)?;
+    Ok((first, base, twelve_bits(&offset)?))
+}
+
 fn register_statement<'a>(op: RegOp, operands: &[&[u8]]) -> Result<Statement<'a>, Refusal>
     ensures { Answers seen result (statement_of (form.Register op) (map (λ b. b.now) operands.now)) }
 {
@@ -117,23 +133,23 @@ fn register_word_statement<'a>(op: WordOp, operands: &[&[u8]]) -> Result<Stateme
 fn immediate_statement<'a>(op: ImmOp, operands: &[&[u8]]) -> Result<Statement<'a>, Refusal>
     ensures { Answers seen result (statement_of (form.Immediate op) (map (λ b. b.now) operands.now)) }
 {
-    let (rd, rs1, number) = immediate(operands)?;
+    let (rd, rs1, imm) = immediate_bits(operands)?;
     Ok(Statement::One(Instr::OpImm {
         op,
         rd,
         rs1,
-        imm: twelve_bits(&number)?,
+        imm,
     }))
 }
 
 fn add_word_statement<'a>(operands: &[&[u8]]) -> Result<Statement<'a>, Refusal>
     ensures { Answers seen result (statement_of form.AddImmediateWord (map (λ b. b.now) operands.now)) }
 {
-    let (rd, rs1, number) = immediate(operands)?;
+    let (rd, rs1, imm) = immediate_bits(operands)?;
     Ok(Statement::One(Instr::AddImmW {
         rd,
         rs1,
-        imm: twelve_bits(&number)?,
+        imm,
     }))
 }
 
@@ -164,35 +180,35 @@ fn shift_word_statement<'a>(op: ShiftOp, operands: &[&[u8]]) -> Result<Statement
 fn load_statement<'a>(op: LoadOp, operands: &[&[u8]]) -> Result<Statement<'a>, Refusal>
     ensures { Answers seen result (statement_of (form.Load op) (map (λ b. b.now) operands.now)) }
 {
-    let (rd, rs1, number) = indirect(operands)?;
+    let (rd, rs1, imm) = indirect_bits(operands)?;
     Ok(Statement::One(Instr::Load {
         op,
         rd,
         rs1,
-        imm: twelve_bits(&number)?,
+        imm,
     }))
 }
 
 fn store_statement<'a>(op: StoreOp, operands: &[&[u8]]) -> Result<Statement<'a>, Refusal>
     ensures { Answers seen result (statement_of (form.Store op) (map (λ b. b.now) operands.now)) }
 {
-    let (rs2, rs1, number) = indirect(operands)?;
+    let (rs2, rs1, imm) = indirect_bits(operands)?;
     Ok(Statement::One(Instr::Store {
         op,
         rs1,
         rs2,
-        imm: twelve_bits(&number)?,
+        imm,
     }))
 }
 
 fn jump_register_statement<'a>(operands: &[&[u8]]) -> Result<Statement<'a>, Refusal>
     ensures { Answers seen result (statement_of form.JumpRegister (map (λ b. b.now) operands.now)) }
 {
-    let (rd, rs1, number) = indirect(operands)?;
+    let (rd, rs1, imm) = indirect_bits(operands)?;
     Ok(Statement::One(Instr::Jalr {
         rd,
         rs1,
-        imm: twelve_bits(&number)?,
+        imm,
     }))
 }
 
