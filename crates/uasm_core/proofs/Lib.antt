@@ -3,6 +3,7 @@ pub mod Digits
 pub mod Table
 pub mod Each
 pub mod Walks
+pub mod LinePlaced
 pub mod Ranges
 pub mod OneMore
 pub mod Once

@@ -1,12 +1,10 @@
 //! The second pass: the bytes of each line.
-ghost use Rattle.std.specs.Prelude.{◌≡◌, ◌≤◌, ◌<◌, ◌^◌, ◌++◌, map, replicate, OnOk, IfOk};
-ghost use Rattle.xk_base.specs.Words.{le_bytes};
-ghost use Rattle.rv64i_core.specs.Table.{word};
+ghost use Rattle.std.specs.Prelude.{◌≡◌, ◌≤◌, ◌<◌, ◌^◌, ◌∷◌, [], ◌++◌, map, replicate, OnOk, IfOk, Ok};
 ghost use Rattle.uasm_core.specs.Views.{places_of};
 ghost use Rattle.uasm_core.specs.Views.{Answers};
 ghost use Rattle.uasm_core.specs.Views.{Stands, seen, bytes_in};
 ghost use Rattle.uasm_core.specs.Views.{statement as statement_seen, datum as datum_seen};
-ghost use Rattle.uasm_core.specs.Statement.{spelled, put_behind, datum_bytes, address_of, from_to as distance_between, distance as distance_in, values_bytes, BranchTo, JumpTo, LoadAddress};
+ghost use Rattle.uasm_core.specs.Statement.{spelled, code_bytes, put_behind, datum_bytes, address_of, from_to as distance_between, distance as distance_in, values_bytes, BranchTo, JumpTo, LoadAddress};
 ghost use Rattle.uasm_core.specs.Written.{spelled_line, put_in, all_spelled, addresses};
 
 use crate::bytes::{put_u8, put_u32, put_u64};
@@ -69,10 +67,22 @@ fn distance(width: u32, from: u64, to: u64) -> Result<u64, AsmErrorKind>
     }
 }
 
-fn put_code(out: &mut Vec<u8>, instruction: &Instr) -> Result<(), AllocError>
-    ensures { OnOk result (out.new.items ≡ out.old.items ++ le_bytes 4 (word instruction.now)) }
+/// The bytes of an instruction.
+fn put_code(out: &mut Vec<u8>, instruction: &Instr) -> Result<(), Refusal>
+    ensures { Answers (λ _. out.new.items) result
+        (put_behind out.old.items (Ok (code_bytes (instruction.now ∷ [])))) }
 {
-    put_u32(out, encode(instruction))
+    put_u32(out, encode(instruction))?;
+    Ok(())
+}
+
+/// The bytes of two instructions.
+fn put_codes(out: &mut Vec<u8>, first: &Instr, second: &Instr) -> Result<(), Refusal>
+    ensures { Answers (λ _. out.new.items) result
+        (put_behind out.old.items (Ok (code_bytes (first.now ∷ second.now ∷ [])))) }
+{
+    put_code(out, first)?;
+    put_code(out, second)
 }
 
 fn put_zeros(out: &mut Vec<u8>, count: u32) -> Result<(), AllocError>
@@ -148,8 +158,7 @@ fn put_branch<'a>(
             rs2,
             offset: Imm12::new(offset as u16),
         },
-    )?;
-    Ok(())
+    )
 }
 
 fn put_jump<'a>(
@@ -172,8 +181,7 @@ fn put_jump<'a>(
             rd,
             offset: Imm20::new(offset as u32),
         },
-    )?;
-    Ok(())
+    )
 }
 
 fn put_address<'a>(
@@ -191,23 +199,19 @@ fn put_address<'a>(
 {
     let to = target(labels, text_len, name)?;
     let relative = from_to(at, to).low_bits(32);
-    put_code(
+    put_codes(
         out,
         &Instr::Auipc {
             rd,
             imm: Imm20::new(((relative + HALF_UPPER_UNIT) / UPPER_UNIT % UPPER_NUMBERS) as u32),
         },
-    )?;
-    put_code(
-        out,
         &Instr::OpImm {
             op: ImmOp::Addi,
             rd,
             rs1: rd,
             imm: Imm12::new((relative % UPPER_UNIT) as u16),
         },
-    )?;
-    Ok(())
+    )
 }
 
 /// The bytes of a statement at an address.
@@ -225,11 +229,8 @@ fn put_statement<'a>(
 {
     match statement {
         Statement::Empty | Statement::Switch(_) => Ok(()),
-        Statement::One(instruction) => Ok(put_code(out, instruction)?),
-        Statement::Two(first, second) => {
-            put_code(out, first)?;
-            Ok(put_code(out, second)?)
-        }
+        Statement::One(instruction) => put_code(out, instruction),
+        Statement::Two(first, second) => put_codes(out, first, second),
         Statement::BranchTo(op, rs1, rs2, label) => put_branch(
             out,
             labels,
