@@ -1,5 +1,5 @@
 -- A loop that walks a list from its front, against a definition by recursion on the list.
-use Rattle.std.proofs.Common.{◌≡◌, ℕ, ◌+◌, ◌<◌, ◌≤◌, List, [], ◌∷◌, ◌++◌, length, map, drop, get_or, Option, Some, None, Result, Ok, Err, refl, sym, ap, ◌∙◌, add-one, drop-cons, append-nil}
+use Rattle.std.proofs.Common.{◌≡◌, ℕ, ◌+◌, ◌<◌, ◌≤◌, List, [], ◌∷◌, ◌++◌, length, map, drop, get_or, Option, None, Result, Ok, Err, refl, sym, ap, ◌∙◌, add-one, drop-cons, append-nil}
 use Rattle.std.proofs.lemmas.List.{at_drop_all}
 use Rattle.uasm_core.specs.declared.error.AsmErrorKind.{AsmErrorKind}
 use Rattle.uasm_core.specs.declared.error.AsmErrorKind.TheVariants.{BadOperand}

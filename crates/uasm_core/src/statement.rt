@@ -134,23 +134,14 @@ fn immediate_statement<'a>(op: ImmOp, operands: &[&[u8]]) -> Result<Statement<'a
     ensures { Answers seen result (statement_of (form.Immediate op) (map (λ b. b.now) operands.now)) }
 {
     let (rd, rs1, imm) = immediate_bits(operands)?;
-    Ok(Statement::One(Instr::OpImm {
-        op,
-        rd,
-        rs1,
-        imm,
-    }))
+    Ok(Statement::One(Instr::OpImm { op, rd, rs1, imm }))
 }
 
 fn add_word_statement<'a>(operands: &[&[u8]]) -> Result<Statement<'a>, Refusal>
     ensures { Answers seen result (statement_of form.AddImmediateWord (map (λ b. b.now) operands.now)) }
 {
     let (rd, rs1, imm) = immediate_bits(operands)?;
-    Ok(Statement::One(Instr::AddImmW {
-        rd,
-        rs1,
-        imm,
-    }))
+    Ok(Statement::One(Instr::AddImmW { rd, rs1, imm }))
 }
 
 fn shift_statement<'a>(op: ShiftOp, operands: &[&[u8]]) -> Result<Statement<'a>, Refusal>
@@ -181,35 +172,21 @@ fn load_statement<'a>(op: LoadOp, operands: &[&[u8]]) -> Result<Statement<'a>, R
     ensures { Answers seen result (statement_of (form.Load op) (map (λ b. b.now) operands.now)) }
 {
     let (rd, rs1, imm) = indirect_bits(operands)?;
-    Ok(Statement::One(Instr::Load {
-        op,
-        rd,
-        rs1,
-        imm,
-    }))
+    Ok(Statement::One(Instr::Load { op, rd, rs1, imm }))
 }
 
 fn store_statement<'a>(op: StoreOp, operands: &[&[u8]]) -> Result<Statement<'a>, Refusal>
     ensures { Answers seen result (statement_of (form.Store op) (map (λ b. b.now) operands.now)) }
 {
     let (rs2, rs1, imm) = indirect_bits(operands)?;
-    Ok(Statement::One(Instr::Store {
-        op,
-        rs1,
-        rs2,
-        imm,
-    }))
+    Ok(Statement::One(Instr::Store { op, rs1, rs2, imm }))
 }
 
 fn jump_register_statement<'a>(operands: &[&[u8]]) -> Result<Statement<'a>, Refusal>
     ensures { Answers seen result (statement_of form.JumpRegister (map (λ b. b.now) operands.now)) }
 {
     let (rd, rs1, imm) = indirect_bits(operands)?;
-    Ok(Statement::One(Instr::Jalr {
-        rd,
-        rs1,
-        imm,
-    }))
+    Ok(Statement::One(Instr::Jalr { rd, rs1, imm }))
 }
 
 fn branch_statement<'a>(op: BranchOp, operands: &[&'a [u8]]) -> Result<Statement<'a>, Refusal>

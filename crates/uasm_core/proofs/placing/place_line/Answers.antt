@@ -1,6 +1,6 @@
 use Rattle.std.proofs.Common.{sym, ap, ◌∙◌}
 use Rattle.std.proofs.lemmas.Result.{err_from_is_err_and}
-use Rattle.uasm_core.specs.Views.{parts, seen, places_of, with_label_of, statement}
+use Rattle.uasm_core.specs.Views.{parts, places_of, with_label_of, statement}
 use Rattle.uasm_core.proofs.LinePlaced.{is_duplicate, is_refused, is_too_long, is_placed, is_behind}
 use Rattle.uasm_core.proofs.placing.place_line.Goals as goal
 
@@ -11,10 +11,10 @@ returns-then-is_known-clause-value c =
 pub returns-in-Err-clause-value : goal.returns-in-Err-clause-value
 returns-in-Err-clause-value c =
     rw c.at_line.ensures
-        (is_refused c.in-Err.refusal c.args.line (places_of c.args.labels.now) c.args.end.now c.place-place.result c.args.source.now (parts c.in_ok-parts.parts) c.place-place.ensures
-        c.in_ok-parts.ensures
-        c.if-is_known.ensures
-        c.in-Err.ensures)
+    (is_refused c.in-Err.refusal c.args.line (places_of c.args.labels.now) c.args.end.now c.place-place.result c.args.source.now (parts c.in_ok-parts.parts) c.place-place.ensures
+    c.in_ok-parts.ensures
+    c.if-is_known.ensures
+    c.in-Err.ensures)
 
 pub returns-in_default-clause-value : goal.returns-in_default-clause-value
 returns-in_default-clause-value c =

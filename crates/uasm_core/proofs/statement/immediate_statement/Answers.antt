@@ -1,4 +1,4 @@
-use Rattle.std.proofs.Common.{◌∷◌, [], map, sym, ◌∙◌}
+use Rattle.std.proofs.Common.{◌∷◌, [], map, sym}
 use Rattle.std.proofs.lemmas.Result.{err_from_is_err_and}
 use Rattle.rv64i_core.specs.declared.instruction.Instr.TheVariants.{OpImm}
 use Rattle.uasm_core.specs.Statement.{immediate, Code}

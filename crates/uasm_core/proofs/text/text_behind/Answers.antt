@@ -1,4 +1,4 @@
-use Rattle.std.proofs.Common.{◌+◌, drop, arith}
+use Rattle.std.proofs.Common.{◌+◌, drop}
 use Rattle.std.proofs.lemmas.Result.{err_from_is_err_and}
 use Rattle.uasm_core.specs.Line.{text_from}
 use Rattle.uasm_core.specs.declared.scan.Quote.TheVariants.{Inside}
