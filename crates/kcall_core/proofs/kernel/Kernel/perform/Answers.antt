@@ -10,133 +10,145 @@ use Rattle.kernel_spec.proofs.rows.Decoding.{is_fork, is_exit, is_wait, is_pipe,
 use Rattle.kernel_spec.proofs.rows.NoRow.{IsOther, other-row}
 use Rattle.kcall_core.proofs.kernel.Kernel.perform.Goals as goal
 
-pub returns-in-1-clause-made : goal.returns-in-1-clause-made
-returns-in-1-clause-made c =
-    subst (λ o. Makes c.args.self.now c.args.hart.now o c.fork.new.self c.fork.new.hart) (sym (is_fork c.args.call.now (view_now c.args.self.now c.args.hart.now) (search rules))) (c.fork.ensures.made c.args.call.now)
+pub returns-in-1 : goal.returns-in-1
+returns-in-1 c =
+    let row = is_fork c.args.call.now (view_now c.args.self.now c.args.hart.now) (search rules) in
+    record {
+      made = subst (λ o. Makes c.args.self.now c.args.hart.now o c.fork.new.self c.fork.new.hart) (sym row) (c.fork.ensures.made c.args.call.now);
+      answer = ap (λ (o : Own). o.answer) row ∙ c.fork.ensures.answer c.args.call.now
+    }
 
-pub returns-in-1-clause-answer : goal.returns-in-1-clause-answer
-returns-in-1-clause-answer c = ap (λ (o : Own). o.answer) (is_fork c.args.call.now (view_now c.args.self.now c.args.hart.now) (search rules)) ∙ c.fork.ensures.answer c.args.call.now
+pub returns-in-2 : goal.returns-in-2
+returns-in-2 c =
+    let status = sym (to_z-of_z w32 c.c_int-status.result (record { sfits = c.c_int-status.type_inv }) ∙ c.c_int-status.ensures) in
+    let row = is_exit c.args.call.now (view_now c.args.self.now c.args.hart.now) (search rules) in
+    record {
+      made = subst (λ o. Makes c.args.self.now c.args.hart.now o c.exit.new.self c.exit.new.hart) (sym row) (c.exit.ensures.made (Exited (c_int c.args.call.now.a0)) (ap Some status));
+      answer = ap (λ (o : Own). o.answer) row ∙ ap Exited status
+    }
 
-pub returns-in-2-clause-made : goal.returns-in-2-clause-made
-returns-in-2-clause-made c =
-    subst (λ o. Makes c.args.self.now c.args.hart.now o c.exit.new.self c.exit.new.hart) (sym (is_exit c.args.call.now (view_now c.args.self.now c.args.hart.now) (search rules)))
-    (c.exit.ensures.made (Exited (c_int c.args.call.now.a0)) (ap Some (sym (to_z-of_z w32 c.c_int-status.result (record { sfits = c.c_int-status.type_inv }) ∙ c.c_int-status.ensures))))
+pub returns-in-3 : goal.returns-in-3
+returns-in-3 c =
+    let row = is_wait c.args.call.now (view_now c.args.self.now c.args.hart.now) (search rules) in
+    record {
+      made = subst (λ o. Makes c.args.self.now c.args.hart.now o c.wait.new.self c.wait.new.hart) (sym row) c.wait.ensures.made;
+      answer = ap (λ (o : Own). o.answer) row ∙ c.wait.ensures.answer
+    }
 
-pub returns-in-2-clause-answer : goal.returns-in-2-clause-answer
-returns-in-2-clause-answer c =
-    ap (λ (o : Own). o.answer) (is_exit c.args.call.now (view_now c.args.self.now c.args.hart.now) (search rules))
-    ∙ ap Exited (sym (to_z-of_z w32 c.c_int-status.result (record { sfits = c.c_int-status.type_inv }) ∙ c.c_int-status.ensures))
+pub returns-in-6 : goal.returns-in-6
+returns-in-6 c =
+    let row = is_kill c.args.call.now (view_now c.args.self.now c.args.hart.now) (search rules) in
+    record {
+      made = subst (λ o. Makes c.args.self.now c.args.hart.now o c.kill.new.self c.kill.new.hart) (sym row) c.kill.ensures.made;
+      answer = ap (λ (o : Own). o.answer) row ∙ c.kill.ensures.answer
+    }
 
-pub returns-in-3-clause-made : goal.returns-in-3-clause-made
-returns-in-3-clause-made c =
-    subst (λ o. Makes c.args.self.now c.args.hart.now o c.wait.new.self c.wait.new.hart) (sym (is_wait c.args.call.now (view_now c.args.self.now c.args.hart.now) (search rules))) c.wait.ensures.made
+pub returns-in-7 : goal.returns-in-7
+returns-in-7 c =
+    let row = is_exec c.args.call.now (view_now c.args.self.now c.args.hart.now) (search rules) in
+    record {
+      made = subst (λ o. Makes c.args.self.now c.args.hart.now o c.exec.new.self c.exec.new.hart) (sym row) c.exec.ensures.made;
+      answer = ap (λ (o : Own). o.answer) row ∙ c.exec.ensures.answer
+    }
 
-pub returns-in-3-clause-answer : goal.returns-in-3-clause-answer
-returns-in-3-clause-answer c = ap (λ (o : Own). o.answer) (is_wait c.args.call.now (view_now c.args.self.now c.args.hart.now) (search rules)) ∙ c.wait.ensures.answer
+pub returns-in-12 : goal.returns-in-12
+returns-in-12 c =
+    let row = is_sbrk c.args.call.now (view_now c.args.self.now c.args.hart.now) (search rules) in
+    record {
+      made = subst (λ o. Makes c.args.self.now c.args.hart.now o c.sbrk.new.self c.sbrk.new.hart) (sym row) c.sbrk.ensures.made;
+      answer = ap (λ (o : Own). o.answer) row ∙ c.sbrk.ensures.answer
+    }
 
-pub returns-in-6-clause-made : goal.returns-in-6-clause-made
-returns-in-6-clause-made c =
-    subst (λ o. Makes c.args.self.now c.args.hart.now o c.kill.new.self c.kill.new.hart) (sym (is_kill c.args.call.now (view_now c.args.self.now c.args.hart.now) (search rules))) c.kill.ensures.made
+pub returns-in-13 : goal.returns-in-13
+returns-in-13 c =
+    let row = is_sleep c.args.call.now (view_now c.args.self.now c.args.hart.now) (search rules) in
+    record {
+      made = subst (λ o. Makes c.args.self.now c.args.hart.now o c.sleep.new.self c.sleep.new.hart) (sym row) c.sleep.ensures.made;
+      answer = ap (λ (o : Own). o.answer) row ∙ c.sleep.ensures.answer
+    }
 
-pub returns-in-6-clause-answer : goal.returns-in-6-clause-answer
-returns-in-6-clause-answer c = ap (λ (o : Own). o.answer) (is_kill c.args.call.now (view_now c.args.self.now c.args.hart.now) (search rules)) ∙ c.kill.ensures.answer
-
-pub returns-in-7-clause-made : goal.returns-in-7-clause-made
-returns-in-7-clause-made c =
-    subst (λ o. Makes c.args.self.now c.args.hart.now o c.exec.new.self c.exec.new.hart) (sym (is_exec c.args.call.now (view_now c.args.self.now c.args.hart.now) (search rules))) c.exec.ensures.made
-
-pub returns-in-7-clause-answer : goal.returns-in-7-clause-answer
-returns-in-7-clause-answer c = ap (λ (o : Own). o.answer) (is_exec c.args.call.now (view_now c.args.self.now c.args.hart.now) (search rules)) ∙ c.exec.ensures.answer
-
-pub returns-in-12-clause-made : goal.returns-in-12-clause-made
-returns-in-12-clause-made c =
-    subst (λ o. Makes c.args.self.now c.args.hart.now o c.sbrk.new.self c.sbrk.new.hart) (sym (is_sbrk c.args.call.now (view_now c.args.self.now c.args.hart.now) (search rules))) c.sbrk.ensures.made
-
-pub returns-in-12-clause-answer : goal.returns-in-12-clause-answer
-returns-in-12-clause-answer c = ap (λ (o : Own). o.answer) (is_sbrk c.args.call.now (view_now c.args.self.now c.args.hart.now) (search rules)) ∙ c.sbrk.ensures.answer
-
-pub returns-in-13-clause-made : goal.returns-in-13-clause-made
-returns-in-13-clause-made c =
-    subst (λ o. Makes c.args.self.now c.args.hart.now o c.sleep.new.self c.sleep.new.hart) (sym (is_sleep c.args.call.now (view_now c.args.self.now c.args.hart.now) (search rules))) c.sleep.ensures.made
-
-pub returns-in-13-clause-answer : goal.returns-in-13-clause-answer
-returns-in-13-clause-answer c = ap (λ (o : Own). o.answer) (is_sleep c.args.call.now (view_now c.args.self.now c.args.hart.now) (search rules)) ∙ c.sleep.ensures.answer
-
-pub returns-in-14-clause-made : goal.returns-in-14-clause-made
-returns-in-14-clause-made c =
-    subst (λ o. Makes c.args.self.now c.args.hart.now o c.uptime.new.self c.uptime.new.hart) (sym (is_uptime c.args.call.now (view_now c.args.self.now c.args.hart.now) (search rules)))
-    (c.uptime.ensures.made c.args.call.now)
-
-pub returns-in-14-clause-answer : goal.returns-in-14-clause-answer
+pub returns-in-14 : goal.returns-in-14
 unfolding view_of state_of
-returns-in-14-clause-answer c =
-    ap (λ (o : Own). o.answer) (is_uptime c.args.call.now (view_now c.args.self.now c.args.hart.now) (search rules)) ∙ ap (answer_of c.args.call.now.number) (sym c.uptime.ensures.end)
+returns-in-14 c =
+    let row = is_uptime c.args.call.now (view_now c.args.self.now c.args.hart.now) (search rules) in
+    record {
+      made = subst (λ o. Makes c.args.self.now c.args.hart.now o c.uptime.new.self c.uptime.new.hart) (sym row) (c.uptime.ensures.made c.args.call.now);
+      answer = ap (λ (o : Own). o.answer) row ∙ ap (answer_of c.args.call.now.number) (sym c.uptime.ensures.end)
+    }
 
-pub returns-in-21-clause-made : goal.returns-in-21-clause-made
-returns-in-21-clause-made c =
-    subst (λ o. Makes c.args.self.now c.args.hart.now o c.close.new.self c.close.new.hart) (sym (is_close c.args.call.now (view_now c.args.self.now c.args.hart.now) (search rules))) c.close.ensures.made
+pub returns-in-21 : goal.returns-in-21
+returns-in-21 c =
+    let row = is_close c.args.call.now (view_now c.args.self.now c.args.hart.now) (search rules) in
+    record {
+      made = subst (λ o. Makes c.args.self.now c.args.hart.now o c.close.new.self c.close.new.hart) (sym row) c.close.ensures.made;
+      answer = ap (λ (o : Own). o.answer) row ∙ c.close.ensures.answer
+    }
 
-pub returns-in-21-clause-answer : goal.returns-in-21-clause-answer
-returns-in-21-clause-answer c = ap (λ (o : Own). o.answer) (is_close c.args.call.now (view_now c.args.self.now c.args.hart.now) (search rules)) ∙ c.close.ensures.answer
+pub returns-in-10 : goal.returns-in-10
+returns-in-10 c =
+    let row = is_dup c.args.call.now (view_now c.args.self.now c.args.hart.now) (search rules) in
+    record {
+      made = subst (λ o. Makes c.args.self.now c.args.hart.now o c.dup.new.self c.dup.new.hart) (sym row) c.dup.ensures.made;
+      answer = ap (λ (o : Own). o.answer) row ∙ c.dup.ensures.answer
+    }
 
-pub returns-in-10-clause-made : goal.returns-in-10-clause-made
-returns-in-10-clause-made c =
-    subst (λ o. Makes c.args.self.now c.args.hart.now o c.dup.new.self c.dup.new.hart) (sym (is_dup c.args.call.now (view_now c.args.self.now c.args.hart.now) (search rules))) c.dup.ensures.made
-
-pub returns-in-10-clause-answer : goal.returns-in-10-clause-answer
-returns-in-10-clause-answer c = ap (λ (o : Own). o.answer) (is_dup c.args.call.now (view_now c.args.self.now c.args.hart.now) (search rules)) ∙ c.dup.ensures.answer
-
-pub returns-in-11-clause-made : goal.returns-in-11-clause-made
-returns-in-11-clause-made c =
-    subst (λ o. Makes c.args.self.now c.args.hart.now o c.getpid.new.self c.getpid.new.hart) (sym (is_getpid c.args.call.now (view_now c.args.self.now c.args.hart.now) (search rules)))
-    (c.getpid.ensures.made c.args.call.now)
-
-pub returns-in-11-clause-answer : goal.returns-in-11-clause-answer
+pub returns-in-11 : goal.returns-in-11
 unfolding view_of
-returns-in-11-clause-answer c =
-    ap (λ (o : Own). o.answer) (is_getpid c.args.call.now (view_now c.args.self.now c.args.hart.now) (search rules)) ∙ ap (answer_of c.args.call.now.number) (sym c.getpid.ensures.end)
+returns-in-11 c =
+    let row = is_getpid c.args.call.now (view_now c.args.self.now c.args.hart.now) (search rules) in
+    record {
+      made = subst (λ o. Makes c.args.self.now c.args.hart.now o c.getpid.new.self c.getpid.new.hart) (sym row) (c.getpid.ensures.made c.args.call.now);
+      answer = ap (λ (o : Own). o.answer) row ∙ ap (answer_of c.args.call.now.number) (sym c.getpid.ensures.end)
+    }
 
-pub returns-in-4-clause-made : goal.returns-in-4-clause-made
-returns-in-4-clause-made c =
-    subst (λ o. Makes c.args.self.now c.args.hart.now o c.pipe.new.self c.pipe.new.hart) (sym (is_pipe c.args.call.now (view_now c.args.self.now c.args.hart.now) (search rules))) c.pipe.ensures.made
+pub returns-in-4 : goal.returns-in-4
+returns-in-4 c =
+    let row = is_pipe c.args.call.now (view_now c.args.self.now c.args.hart.now) (search rules) in
+    record {
+      made = subst (λ o. Makes c.args.self.now c.args.hart.now o c.pipe.new.self c.pipe.new.hart) (sym row) c.pipe.ensures.made;
+      answer = ap (λ (o : Own). o.answer) row ∙ c.pipe.ensures.answer
+    }
 
-pub returns-in-4-clause-answer : goal.returns-in-4-clause-answer
-returns-in-4-clause-answer c = ap (λ (o : Own). o.answer) (is_pipe c.args.call.now (view_now c.args.self.now c.args.hart.now) (search rules)) ∙ c.pipe.ensures.answer
+pub returns-in-5 : goal.returns-in-5
+returns-in-5 c =
+    let row = is_read c.args.call.now (view_now c.args.self.now c.args.hart.now) (search rules) in
+    record {
+      made = subst (λ o. Makes c.args.self.now c.args.hart.now o c.read.new.self c.read.new.hart) (sym row) c.read.ensures.made;
+      answer = ap (λ (o : Own). o.answer) row ∙ c.read.ensures.answer
+    }
 
-pub returns-in-5-clause-made : goal.returns-in-5-clause-made
-returns-in-5-clause-made c =
-    subst (λ o. Makes c.args.self.now c.args.hart.now o c.read.new.self c.read.new.hart) (sym (is_read c.args.call.now (view_now c.args.self.now c.args.hart.now) (search rules))) c.read.ensures.made
+pub returns-in-15 : goal.returns-in-15
+returns-in-15 c =
+    let row = is_open c.args.call.now (view_now c.args.self.now c.args.hart.now) (search rules) in
+    record {
+      made = subst (λ o. Makes c.args.self.now c.args.hart.now o c.open_file.new.self c.open_file.new.hart) (sym row) c.open_file.ensures.made;
+      answer = ap (λ (o : Own). o.answer) row ∙ c.open_file.ensures.answer
+    }
 
-pub returns-in-5-clause-answer : goal.returns-in-5-clause-answer
-returns-in-5-clause-answer c = ap (λ (o : Own). o.answer) (is_read c.args.call.now (view_now c.args.self.now c.args.hart.now) (search rules)) ∙ c.read.ensures.answer
+pub returns-in-16 : goal.returns-in-16
+returns-in-16 c =
+    let row = is_write c.args.call.now (view_now c.args.self.now c.args.hart.now) (search rules) in
+    record {
+      made = subst (λ o. Makes c.args.self.now c.args.hart.now o c.write.new.self c.write.new.hart) (sym row) c.write.ensures.made;
+      answer = ap (λ (o : Own). o.answer) row ∙ c.write.ensures.answer
+    }
 
-pub returns-in-15-clause-made : goal.returns-in-15-clause-made
-returns-in-15-clause-made c =
-    subst (λ o. Makes c.args.self.now c.args.hart.now o c.open_file.new.self c.open_file.new.hart) (sym (is_open c.args.call.now (view_now c.args.self.now c.args.hart.now) (search rules))) c.open_file.ensures.made
+pub returns-in-22 : goal.returns-in-22
+returns-in-22 c =
+    let row = is_sbrklazy c.args.call.now (view_now c.args.self.now c.args.hart.now) (search rules) in
+    record {
+      made = subst (λ o. Makes c.args.self.now c.args.hart.now o c.sbrklazy.new.self c.sbrklazy.new.hart) (sym row) c.sbrklazy.ensures.made;
+      answer = ap (λ (o : Own). o.answer) row ∙ c.sbrklazy.ensures.answer
+    }
 
-pub returns-in-15-clause-answer : goal.returns-in-15-clause-answer
-returns-in-15-clause-answer c = ap (λ (o : Own). o.answer) (is_open c.args.call.now (view_now c.args.self.now c.args.hart.now) (search rules)) ∙ c.open_file.ensures.answer
-
-pub returns-in-16-clause-made : goal.returns-in-16-clause-made
-returns-in-16-clause-made c =
-    subst (λ o. Makes c.args.self.now c.args.hart.now o c.write.new.self c.write.new.hart) (sym (is_write c.args.call.now (view_now c.args.self.now c.args.hart.now) (search rules))) c.write.ensures.made
-
-pub returns-in-16-clause-answer : goal.returns-in-16-clause-answer
-returns-in-16-clause-answer c = ap (λ (o : Own). o.answer) (is_write c.args.call.now (view_now c.args.self.now c.args.hart.now) (search rules)) ∙ c.write.ensures.answer
-
-pub returns-in-22-clause-made : goal.returns-in-22-clause-made
-returns-in-22-clause-made c =
-    subst (λ o. Makes c.args.self.now c.args.hart.now o c.sbrklazy.new.self c.sbrklazy.new.hart) (sym (is_sbrklazy c.args.call.now (view_now c.args.self.now c.args.hart.now) (search rules))) c.sbrklazy.ensures.made
-
-pub returns-in-22-clause-answer : goal.returns-in-22-clause-answer
-returns-in-22-clause-answer c = ap (λ (o : Own). o.answer) (is_sbrklazy c.args.call.now (view_now c.args.self.now c.args.hart.now) (search rules)) ∙ c.sbrklazy.ensures.answer
-
-pub returns-in_default-clause-made : goal.returns-in_default-clause-made
-returns-in_default-clause-made c =
-    let other : IsOther c.args.call.now.number = record { fork = search rules; exit = search rules; wait = search rules; pipe = search rules; read = search rules; kill = search rules; exec = search rules; dup = search rules; getpid = search rules; sbrk = search rules; sleep = search rules; uptime = search rules; opening = search rules; write = search rules; close = search rules; sbrklazy = search rules } in
-    subst (λ o. Makes c.args.self.now c.args.hart.now o c.refuse.new.self c.refuse.new.hart) (sym (other-row c.args.call.now (view_now c.args.self.now c.args.hart.now) other)) (c.refuse.ensures.made c.args.call.now)
-
-pub returns-in_default-clause-answer : goal.returns-in_default-clause-answer
-returns-in_default-clause-answer c =
-    let other : IsOther c.args.call.now.number = record { fork = search rules; exit = search rules; wait = search rules; pipe = search rules; read = search rules; kill = search rules; exec = search rules; dup = search rules; getpid = search rules; sbrk = search rules; sleep = search rules; uptime = search rules; opening = search rules; write = search rules; close = search rules; sbrklazy = search rules } in
-    ap (λ (o : Own). o.answer) (other-row c.args.call.now (view_now c.args.self.now c.args.hart.now) other) ∙ ap (answer_of c.args.call.now.number) (sym c.refuse.ensures.end)
+pub returns-in_default : goal.returns-in_default
+returns-in_default c =
+    let other : IsOther c.args.call.now.number = record {
+      fork = search rules; exit = search rules; wait = search rules; pipe = search rules; read = search rules; kill = search rules; exec = search rules; dup = search rules;
+      getpid = search rules; sbrk = search rules; sleep = search rules; uptime = search rules; opening = search rules; write = search rules; close = search rules; sbrklazy = search rules;
+    } in
+    let row = other-row c.args.call.now (view_now c.args.self.now c.args.hart.now) other in
+    record {
+      made = subst (λ o. Makes c.args.self.now c.args.hart.now o c.refuse.new.self c.refuse.new.hart) (sym row) (c.refuse.ensures.made c.args.call.now);
+      answer = ap (λ (o : Own). o.answer) row ∙ ap (answer_of c.args.call.now.number) (sym c.refuse.ensures.end)
+    }
