@@ -15,7 +15,7 @@ returns-in-1 c =
     let row = is_fork c.args.call.now (view_now c.args.self.now c.args.hart.now) (search rules) in
     record {
       made = subst (λ o. Makes c.args.self.now c.args.hart.now o c.fork.new.self c.fork.new.hart) (sym row) (c.fork.ensures.made c.args.call.now);
-      answer = ap (λ (o : Own). o.answer) row ∙ c.fork.ensures.answer c.args.call.now
+      answer = ap (λ (o : Own). o.answer) row ∙ c.fork.ensures.answer c.args.call.now;
     }
 
 pub returns-in-2 : goal.returns-in-2
@@ -24,7 +24,7 @@ returns-in-2 c =
     let row = is_exit c.args.call.now (view_now c.args.self.now c.args.hart.now) (search rules) in
     record {
       made = subst (λ o. Makes c.args.self.now c.args.hart.now o c.exit.new.self c.exit.new.hart) (sym row) (c.exit.ensures.made (Exited (c_int c.args.call.now.a0)) (ap Some status));
-      answer = ap (λ (o : Own). o.answer) row ∙ ap Exited status
+      answer = ap (λ (o : Own). o.answer) row ∙ ap Exited status;
     }
 
 pub returns-in-3 : goal.returns-in-3
@@ -32,7 +32,7 @@ returns-in-3 c =
     let row = is_wait c.args.call.now (view_now c.args.self.now c.args.hart.now) (search rules) in
     record {
       made = subst (λ o. Makes c.args.self.now c.args.hart.now o c.wait.new.self c.wait.new.hart) (sym row) c.wait.ensures.made;
-      answer = ap (λ (o : Own). o.answer) row ∙ c.wait.ensures.answer
+      answer = ap (λ (o : Own). o.answer) row ∙ c.wait.ensures.answer;
     }
 
 pub returns-in-6 : goal.returns-in-6
@@ -40,7 +40,7 @@ returns-in-6 c =
     let row = is_kill c.args.call.now (view_now c.args.self.now c.args.hart.now) (search rules) in
     record {
       made = subst (λ o. Makes c.args.self.now c.args.hart.now o c.kill.new.self c.kill.new.hart) (sym row) c.kill.ensures.made;
-      answer = ap (λ (o : Own). o.answer) row ∙ c.kill.ensures.answer
+      answer = ap (λ (o : Own). o.answer) row ∙ c.kill.ensures.answer;
     }
 
 pub returns-in-7 : goal.returns-in-7
@@ -48,7 +48,7 @@ returns-in-7 c =
     let row = is_exec c.args.call.now (view_now c.args.self.now c.args.hart.now) (search rules) in
     record {
       made = subst (λ o. Makes c.args.self.now c.args.hart.now o c.exec.new.self c.exec.new.hart) (sym row) c.exec.ensures.made;
-      answer = ap (λ (o : Own). o.answer) row ∙ c.exec.ensures.answer
+      answer = ap (λ (o : Own). o.answer) row ∙ c.exec.ensures.answer;
     }
 
 pub returns-in-12 : goal.returns-in-12
@@ -56,7 +56,7 @@ returns-in-12 c =
     let row = is_sbrk c.args.call.now (view_now c.args.self.now c.args.hart.now) (search rules) in
     record {
       made = subst (λ o. Makes c.args.self.now c.args.hart.now o c.sbrk.new.self c.sbrk.new.hart) (sym row) c.sbrk.ensures.made;
-      answer = ap (λ (o : Own). o.answer) row ∙ c.sbrk.ensures.answer
+      answer = ap (λ (o : Own). o.answer) row ∙ c.sbrk.ensures.answer;
     }
 
 pub returns-in-13 : goal.returns-in-13
@@ -64,7 +64,7 @@ returns-in-13 c =
     let row = is_sleep c.args.call.now (view_now c.args.self.now c.args.hart.now) (search rules) in
     record {
       made = subst (λ o. Makes c.args.self.now c.args.hart.now o c.sleep.new.self c.sleep.new.hart) (sym row) c.sleep.ensures.made;
-      answer = ap (λ (o : Own). o.answer) row ∙ c.sleep.ensures.answer
+      answer = ap (λ (o : Own). o.answer) row ∙ c.sleep.ensures.answer;
     }
 
 pub returns-in-14 : goal.returns-in-14
@@ -73,7 +73,7 @@ returns-in-14 c =
     let row = is_uptime c.args.call.now (view_now c.args.self.now c.args.hart.now) (search rules) in
     record {
       made = subst (λ o. Makes c.args.self.now c.args.hart.now o c.uptime.new.self c.uptime.new.hart) (sym row) (c.uptime.ensures.made c.args.call.now);
-      answer = ap (λ (o : Own). o.answer) row ∙ ap (answer_of c.args.call.now.number) (sym c.uptime.ensures.end)
+      answer = ap (λ (o : Own). o.answer) row ∙ ap (answer_of c.args.call.now.number) (sym c.uptime.ensures.end);
     }
 
 pub returns-in-21 : goal.returns-in-21
@@ -81,7 +81,7 @@ returns-in-21 c =
     let row = is_close c.args.call.now (view_now c.args.self.now c.args.hart.now) (search rules) in
     record {
       made = subst (λ o. Makes c.args.self.now c.args.hart.now o c.close.new.self c.close.new.hart) (sym row) c.close.ensures.made;
-      answer = ap (λ (o : Own). o.answer) row ∙ c.close.ensures.answer
+      answer = ap (λ (o : Own). o.answer) row ∙ c.close.ensures.answer;
     }
 
 pub returns-in-10 : goal.returns-in-10
@@ -89,7 +89,7 @@ returns-in-10 c =
     let row = is_dup c.args.call.now (view_now c.args.self.now c.args.hart.now) (search rules) in
     record {
       made = subst (λ o. Makes c.args.self.now c.args.hart.now o c.dup.new.self c.dup.new.hart) (sym row) c.dup.ensures.made;
-      answer = ap (λ (o : Own). o.answer) row ∙ c.dup.ensures.answer
+      answer = ap (λ (o : Own). o.answer) row ∙ c.dup.ensures.answer;
     }
 
 pub returns-in-11 : goal.returns-in-11
@@ -98,7 +98,7 @@ returns-in-11 c =
     let row = is_getpid c.args.call.now (view_now c.args.self.now c.args.hart.now) (search rules) in
     record {
       made = subst (λ o. Makes c.args.self.now c.args.hart.now o c.getpid.new.self c.getpid.new.hart) (sym row) (c.getpid.ensures.made c.args.call.now);
-      answer = ap (λ (o : Own). o.answer) row ∙ ap (answer_of c.args.call.now.number) (sym c.getpid.ensures.end)
+      answer = ap (λ (o : Own). o.answer) row ∙ ap (answer_of c.args.call.now.number) (sym c.getpid.ensures.end);
     }
 
 pub returns-in-4 : goal.returns-in-4
@@ -106,7 +106,7 @@ returns-in-4 c =
     let row = is_pipe c.args.call.now (view_now c.args.self.now c.args.hart.now) (search rules) in
     record {
       made = subst (λ o. Makes c.args.self.now c.args.hart.now o c.pipe.new.self c.pipe.new.hart) (sym row) c.pipe.ensures.made;
-      answer = ap (λ (o : Own). o.answer) row ∙ c.pipe.ensures.answer
+      answer = ap (λ (o : Own). o.answer) row ∙ c.pipe.ensures.answer;
     }
 
 pub returns-in-5 : goal.returns-in-5
@@ -114,7 +114,7 @@ returns-in-5 c =
     let row = is_read c.args.call.now (view_now c.args.self.now c.args.hart.now) (search rules) in
     record {
       made = subst (λ o. Makes c.args.self.now c.args.hart.now o c.read.new.self c.read.new.hart) (sym row) c.read.ensures.made;
-      answer = ap (λ (o : Own). o.answer) row ∙ c.read.ensures.answer
+      answer = ap (λ (o : Own). o.answer) row ∙ c.read.ensures.answer;
     }
 
 pub returns-in-15 : goal.returns-in-15
@@ -122,7 +122,7 @@ returns-in-15 c =
     let row = is_open c.args.call.now (view_now c.args.self.now c.args.hart.now) (search rules) in
     record {
       made = subst (λ o. Makes c.args.self.now c.args.hart.now o c.open_file.new.self c.open_file.new.hart) (sym row) c.open_file.ensures.made;
-      answer = ap (λ (o : Own). o.answer) row ∙ c.open_file.ensures.answer
+      answer = ap (λ (o : Own). o.answer) row ∙ c.open_file.ensures.answer;
     }
 
 pub returns-in-16 : goal.returns-in-16
@@ -130,7 +130,7 @@ returns-in-16 c =
     let row = is_write c.args.call.now (view_now c.args.self.now c.args.hart.now) (search rules) in
     record {
       made = subst (λ o. Makes c.args.self.now c.args.hart.now o c.write.new.self c.write.new.hart) (sym row) c.write.ensures.made;
-      answer = ap (λ (o : Own). o.answer) row ∙ c.write.ensures.answer
+      answer = ap (λ (o : Own). o.answer) row ∙ c.write.ensures.answer;
     }
 
 pub returns-in-22 : goal.returns-in-22
@@ -138,17 +138,31 @@ returns-in-22 c =
     let row = is_sbrklazy c.args.call.now (view_now c.args.self.now c.args.hart.now) (search rules) in
     record {
       made = subst (λ o. Makes c.args.self.now c.args.hart.now o c.sbrklazy.new.self c.sbrklazy.new.hart) (sym row) c.sbrklazy.ensures.made;
-      answer = ap (λ (o : Own). o.answer) row ∙ c.sbrklazy.ensures.answer
+      answer = ap (λ (o : Own). o.answer) row ∙ c.sbrklazy.ensures.answer;
     }
 
 pub returns-in_default : goal.returns-in_default
 returns-in_default c =
     let other : IsOther c.args.call.now.number = record {
-      fork = search rules; exit = search rules; wait = search rules; pipe = search rules; read = search rules; kill = search rules; exec = search rules; dup = search rules;
-      getpid = search rules; sbrk = search rules; sleep = search rules; uptime = search rules; opening = search rules; write = search rules; close = search rules; sbrklazy = search rules;
+      fork = search rules;
+      exit = search rules;
+      wait = search rules;
+      pipe = search rules;
+      read = search rules;
+      kill = search rules;
+      exec = search rules;
+      dup = search rules;
+      getpid = search rules;
+      sbrk = search rules;
+      sleep = search rules;
+      uptime = search rules;
+      opening = search rules;
+      write = search rules;
+      close = search rules;
+      sbrklazy = search rules;
     } in
     let row = other-row c.args.call.now (view_now c.args.self.now c.args.hart.now) other in
     record {
       made = subst (λ o. Makes c.args.self.now c.args.hart.now o c.refuse.new.self c.refuse.new.hart) (sym row) (c.refuse.ensures.made c.args.call.now);
-      answer = ap (λ (o : Own). o.answer) row ∙ ap (answer_of c.args.call.now.number) (sym c.refuse.ensures.end)
+      answer = ap (λ (o : Own). o.answer) row ∙ ap (answer_of c.args.call.now.number) (sym c.refuse.ensures.end);
     }
