@@ -6,10 +6,11 @@ mod gnu_words;
 mod refused;
 mod taken;
 
+use super::checking::check;
 use gnu_words::SPELLED;
 use refused::REFUSED;
-use std::alloc::{AllocError, Global};
-use std::test::Fail;
+use std::alloc::Global;
+use std::process::Abort;
 use taken::TAKEN;
 use uasm_core::{AsmError, AsmErrorKind, assemble};
 
@@ -68,26 +69,25 @@ fn parted<'a>(text: &'a str, separator: &str) -> (&'a str, &'a str) {
 }
 
 /// Adds a line of a source, or several equal ones.
-fn push_lines(source: &mut String, text: &str) -> Result<(), AllocError> {
+fn push_lines<R: Abort>(rt: &R, source: &mut String, text: &str) {
     let (count, line) = match text.split_once(" times: ") {
         Some((count, line)) => (count.parse::<u32>().unwrap_or(0), line),
         None => (1, text),
     };
     for _ in 0..count {
-        source.push_str(line)?;
-        source.push_str("\n")?;
+        source.push_str(line).expect(rt, "memory");
+        source.push_str("\n").expect(rt, "memory");
     }
-    Ok(())
 }
 
 /// The source of a row.
-fn source_of(alloc: Global, text: &str) -> Result<String, AllocError> {
-    let mut source = String::new(alloc);
+fn source_of<R: Abort + AllocGlobal>(rt: &R, text: &str) -> String {
+    let mut source = String::new(rt.alloc());
     for line in text.split("; ") {
-        push_lines(&mut source, line)?;
+        push_lines(rt, &mut source, line);
     }
     let _end = source.pop();
-    Ok(source)
+    source
 }
 
 /// What comes of a source. What that promises stays out of the proofs of the tests.
@@ -95,77 +95,113 @@ fn assembled(alloc: Global, source: &str) -> Result<Vec<u8>, AsmError> {
     assemble(alloc, source)
 }
 
+/// The hexadecimal digits of a file's bytes, from one of them on.
+fn digits_from<R: Abort + AllocGlobal>(rt: &R, file: &[u8], from: usize) -> String {
+    hex::encode(rt.alloc(), &file[from.min(file.len())..]).expect(rt, "memory")
+}
+
 /// Whether a source has a file of the length and with the last bytes that are wanted, in hexadecimal digits.
-fn is_taken(alloc: Global, wanted: &str, source: &str) -> Result<bool, Fail> {
+fn is_taken<R: Abort + AllocGlobal>(rt: &R, wanted: &str, source: &str) -> bool {
     let (length, bytes) = parted(wanted, " ");
-    let source = source_of(alloc, source)?;
-    let file = assembled(alloc, source.as_str())?;
-    let end = hex::encode(alloc, &file[file.len().saturating_sub(END)..])?;
-    Ok(length.parse::<usize>().ok() == Some(file.len()) && end.as_str().ends_with(bytes))
+    let source = source_of(rt, source);
+    let file = assembled(rt.alloc(), source.as_str()).expect(rt, wanted);
+    let end = digits_from(rt, file.as_slice(), file.len().saturating_sub(END));
+    length.parse::<usize>().ok() == Some(file.len()) && end.as_str().ends_with(bytes)
 }
 
 /// Whether a source is refused as it is wanted.
-fn is_refused(alloc: Global, wanted: &str, source: &str) -> Result<bool, Fail> {
-    let source = source_of(alloc, source)?;
-    match assembled(alloc, source.as_str()) {
-        Ok(_) => Ok(false),
-        Err(refusal) => Ok(format!(in alloc; "{refusal}")?.as_str() == wanted),
+fn is_refused<R: Abort + AllocGlobal>(rt: &R, wanted: &str, source: &str) -> bool {
+    let source = source_of(rt, source);
+    match assembled(rt.alloc(), source.as_str()) {
+        Ok(_) => false,
+        Err(refusal) => is_told(rt, &refusal, wanted),
+    }
+}
+
+/// Whether a refusal is told so.
+fn is_told<R: Abort + AllocGlobal>(rt: &R, refusal: &AsmError, wanted: &str) -> bool {
+    let told = format!(in rt.alloc(); "{refusal}").expect(rt, "memory");
+    told.as_str() == wanted
+}
+
+/// Adds the words of a line one behind another.
+fn push_words<R: Abort>(rt: &R, digits: &mut String, line: &str) {
+    for word in line.split_whitespace() {
+        digits.push_str(word).expect(rt, "memory");
     }
 }
 
 /// The words of a text one behind another, but for its lines that begin with `#`.
-fn digits_of(alloc: Global, text: &str) -> Result<String, AllocError> {
-    let mut digits = String::new(alloc);
+fn digits_of<R: Abort + AllocGlobal>(rt: &R, text: &str) -> String {
+    let mut digits = String::new(rt.alloc());
     for line in text.lines() {
         if !line.starts_with("#") {
-            for word in line.split_whitespace() {
-                digits.push_str(word)?;
-            }
+            push_words(rt, &mut digits, line);
         }
     }
-    Ok(digits)
+    digits
 }
 
 #[test]
-fn a_whole_program_byte_for_byte(rt: HostRuntime) -> Result<(), Fail> {
-    let file = assembled(rt.alloc(), HELLO)?;
-    let file = hex::encode(rt.alloc(), file.as_slice())?;
-    let wanted = digits_of(rt.alloc(), HELLO_FILE)?;
-    assert_eq!(rt; file.as_str(), wanted.as_str());
-    Ok(())
+fn a_whole_program_byte_for_byte(rt: HostRuntime) {
+    let file = assembled(rt.alloc(), HELLO).expect(&rt, "the file");
+    let digits = digits_from(&rt, file.as_slice(), 0);
+    let is_so = digits.as_str() == digits_of(&rt, HELLO_FILE).as_str();
+    assert!(rt; is_so, "{digits}");
 }
 
-#[test]
-fn sources_that_are_taken(rt: HostRuntime) -> Result<(), Fail> {
-    for table in [SPELLED, TAKEN] {
-        for row in table.split('\n') {
-            if let Some((wanted, source)) = row.split_once(" <- ") {
-                assert!(rt; is_taken(rt.alloc(), wanted, source)?, "{row}");
-            }
+/// Makes sure that the sources of a table have the files that are wanted.
+fn take_all<R: Abort + AllocGlobal>(rt: &R, table: &str) {
+    for row in table.split('\n') {
+        if let Some((wanted, source)) = row.split_once(" <- ") {
+            check(rt, is_taken(rt, wanted, source), row);
         }
     }
-    Ok(())
 }
 
 #[test]
-fn sources_that_are_refused(rt: HostRuntime) -> Result<(), Fail> {
+fn sources_that_are_taken(rt: HostRuntime) {
+    take_all(&rt, SPELLED);
+    take_all(&rt, TAKEN);
+}
+
+#[test]
+fn sources_that_are_refused(rt: HostRuntime) {
     for row in REFUSED.split('\n') {
         if let Some((wanted, source)) = row.split_once(" <- ") {
-            assert!(rt; is_refused(rt.alloc(), wanted, source)?, "{row}");
+            check(&rt, is_refused(&rt, wanted, source), row);
         }
     }
-    Ok(())
+}
+
+/// Whether want of memory comes of a source, or a file of this length.
+fn has_length(alloc: Global, source: &str, length: usize) -> bool {
+    match assembled(alloc, source) {
+        Ok(file) => file.len() == length,
+        Err(error) => error == AsmError::Memory,
+    }
+}
+
+/// Whether want of memory comes of a source, or this refusal.
+fn is_refused_as(alloc: Global, source: &str, refusal: AsmError) -> bool {
+    match assembled(alloc, source) {
+        Ok(_) => false,
+        Err(error) => error == AsmError::Memory || error == refusal,
+    }
 }
 
 // checks/hostile/run.sh refuses each growth of this test in turn, until a run meets no refusal.
 #[test]
 fn a_growth_that_the_host_refuses_is_want_of_memory(rt: HostRuntime) {
-    match assembled(rt.alloc(), HELLO) {
-        Ok(file) => assert_eq!(rt; file.len(), HELLO_LENGTH),
-        Err(error) => assert!(rt; error == AsmError::Memory),
-    }
-    match assembled(rt.alloc(), "x: nop\n.data\n.dword x, 1, nowhere") {
-        Ok(_) => assert!(rt; false, "the source has an unknown label"),
-        Err(error) => assert!(rt; error == AsmError::Memory || error == UNKNOWN_ON_LINE_3),
-    }
+    check(
+        &rt,
+        has_length(rt.alloc(), HELLO, HELLO_LENGTH),
+        "a program",
+    );
+    let unknown = "x: nop\n.data\n.dword x, 1, nowhere";
+    check(
+        &rt,
+        is_refused_as(rt.alloc(), unknown, UNKNOWN_ON_LINE_3),
+        "an unknown label",
+    );
 }

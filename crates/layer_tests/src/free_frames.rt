@@ -1,11 +1,11 @@
 //! All frames of a small RAM, taken and given back.
 ghost use Rattle.std.specs.Prelude.{◌<◌, ◌≢◌};
 
+use super::checking::check;
 use frame_list::Pool;
 use phys_ram::Ram;
 use std::alloc::Global;
 use std::marker::Model;
-use std::test::Fail;
 use xk_base::{BootError, Frame};
 
 /// The free frames of a RAM of 16. What they promise stays out of the proofs of the tests.
@@ -38,6 +38,14 @@ impl Scene {
         self.pool.take(&mut self.ram)
     }
 
+    /// Takes a frame: whether it is this one.
+    fn takes(&mut self, frame: Frame) -> bool {
+        match self.take() {
+            Some(taken) => taken == frame,
+            None => false,
+        }
+    }
+
     /// Gives back two frames, if none is free.
     fn give_both(&mut self, first: Frame, second: Frame) -> bool
         requires first { first < 16 }
@@ -52,14 +60,14 @@ impl Scene {
         true
     }
 
-    /// Takes frames, sixteen in all: whether there are so many.
+    /// Takes frames, sixteen in all: whether there are so many, and no more.
     fn takes_sixteen(&mut self) -> bool {
         for _ in 0..16 {
             if self.take().is_none() {
                 return false;
             }
         }
-        true
+        self.take().is_none()
     }
 
     /// Whether a frame's first eight bytes are this number.
@@ -73,13 +81,14 @@ impl Scene {
 }
 
 #[test]
-fn sixteen_frames_are_taken_and_two_given_back(rt: HostRuntime) -> Result<(), Fail> {
-    let mut scene = Scene::new(rt.alloc())?;
-    assert!(rt; scene.takes_sixteen() && scene.take().is_none());
+fn sixteen_frames_are_taken_and_two_given_back(rt: HostRuntime) {
+    let mut scene = Scene::new(rt.alloc()).expect(&rt, "memory");
+    check(&rt, scene.takes_sixteen(), "sixteen are free");
     let (three, nine) = (Frame::new(3), Frame::new(9));
-    assert!(rt; scene.give_both(three, nine));
-    assert!(rt; scene.links_to(nine, 4) && scene.links_to(three, 0));
-    assert!(rt; scene.take() == Some(nine) && scene.take() == Some(three));
-    assert!(rt; scene.links_to(nine, 0));
-    Ok(())
+    check(&rt, scene.give_both(three, nine), "none is free");
+    check(&rt, scene.links_to(nine, 4), "9 links to 3");
+    check(&rt, scene.links_to(three, 0), "3 links to none");
+    check(&rt, scene.takes(nine), "9 comes first");
+    check(&rt, scene.takes(three), "3 comes next");
+    check(&rt, scene.links_to(nine, 0), "9 is cleared");
 }

@@ -3,12 +3,12 @@ ghost use Rattle.std.specs.Prelude.{◌≡◌, ◌<◌, length, Some};
 ghost use Rattle.sv39_core.specs.Tree.{IsTree};
 ghost use Rattle.hart_core.specs.Translations.{Fits};
 
+use super::checking::check;
 use super::spaces;
 use hart_core::Hart;
 use phys_ram::Ram;
 use rv64i_core::Stop;
-use std::alloc::Global;
-use std::test::Fail;
+use std::process::Abort;
 use xk_base::{Frame, Reg, Vpn};
 
 /// How much memory 68 pages have.
@@ -39,22 +39,21 @@ impl Scene {
     }
 
     /// Pages 0 to 67, of which page 1 begins with this word, and a hart that uses their tables.
-    fn new(alloc: Global, word: u32) -> Result<Scene, Fail> {
-        let mut space = spaces::Scene::new(alloc)?;
-        if !space.grow(SIZE) || !space.write(&word.to_le_bytes()) {
-            return Err(Fail::from("the pages fit"));
-        }
+    fn new<R: Abort + AllocGlobal>(rt: &R, word: u32) -> Scene {
+        let mut space = spaces::Scene::new(rt.alloc()).expect(rt, "memory");
+        check(rt, space.grow(SIZE), "the pages fit");
+        check(rt, space.write(&word.to_le_bytes()), "page 1 is there");
         let (ram, root) = space.tables();
-        Ok(Scene::over(ram, root))
+        Scene::over(ram, root)
     }
 
-    /// Makes the instruction at the begin of page 1, with a number in a0.
+    /// Makes the instruction at the begin of page 1, with a number in a0: whether it is done.
     #[tactic(auto, using(hart_core::proofs::Caches::fits_hart, hart_core::proofs::Caches::fits_root))]
-    fn step_with(&mut self, a0: u64) -> Stop {
+    fn steps_with(&mut self, a0: u64) -> bool {
         let regs = self.hart.regs_mut();
         regs.set_pc(TEXT);
         regs.write(Reg::new(10), a0);
-        self.hart.step(&mut self.ram)
+        self.hart.step(&mut self.ram) == Stop::Next
     }
 
     fn keeps(&self, page: Vpn) -> bool {
@@ -67,28 +66,27 @@ impl Scene {
 }
 
 #[test]
-fn a_page_that_was_loaded_from_is_kept_until_another_takes_its_place(
-    rt: HostRuntime,
-) -> Result<(), Fail> {
+fn a_page_that_was_loaded_from_is_kept_until_another_takes_its_place(rt: HostRuntime) {
     // ld a1, 0(a0)
-    let mut scene = Scene::new(rt.alloc(), 0x0005_3583)?;
+    let mut scene = Scene::new(&rt, 0x0005_3583);
     let (third, other) = (Vpn::new(3), Vpn::new(67));
-    assert!(rt; !scene.keeps(third));
-    assert_eq!(rt; scene.step_with(0x3000), Stop::Next);
-    assert!(rt; scene.keeps(third));
-    assert_eq!(rt; scene.step_with(0x43000), Stop::Next);
-    assert!(rt; scene.keeps(other) && !scene.keeps(third));
+    check(&rt, !scene.keeps(third), "page 3 isn't kept yet");
+    check(&rt, scene.steps_with(0x3000), "a load of page 3");
+    check(&rt, scene.keeps(third), "page 3 is kept");
+    check(&rt, scene.steps_with(0x43000), "a load of page 67");
+    check(&rt, scene.keeps(other), "page 67 is kept");
+    check(&rt, !scene.keeps(third), "page 3 is no longer kept");
     scene.forget(other);
-    assert!(rt; !scene.keeps(other) && scene.keeps(Vpn::new(1)));
-    Ok(())
+    check(&rt, !scene.keeps(other), "page 67 is forgotten");
+    check(&rt, scene.keeps(Vpn::new(1)), "page 1 is kept");
 }
 
 #[test]
 fn satp_names_mode_8_and_the_page_of_the_root(rt: HostRuntime) {
     let mut hart = Hart::new();
-    assert_eq!(rt; hart.satp(), 0);
+    check(&rt, hart.satp() == 0, "no root");
     hart.switch(Frame::new(1));
-    assert_eq!(rt; hart.satp(), 0x8000_0000_0008_0001);
+    check(&rt, hart.satp() == 0x8000_0000_0008_0001, "frame 1");
 }
 
 /// Whether a trapframe has the pc at 0 and x5 at 40, and gives them back.
@@ -110,8 +108,7 @@ fn is_saved(ram: &mut Ram) -> bool
 }
 
 #[test]
-fn a_trapframe_holds_the_pc_first_and_then_the_registers(rt: HostRuntime) -> Result<(), Fail> {
-    let mut ram = Ram::new(rt.alloc(), 16)?;
-    assert!(rt; is_saved(&mut ram));
-    Ok(())
+fn a_trapframe_holds_the_pc_first_and_then_the_registers(rt: HostRuntime) {
+    let mut ram = Ram::new(rt.alloc(), 16).expect(&rt, "memory");
+    check(&rt, is_saved(&mut ram), "the trapframe");
 }

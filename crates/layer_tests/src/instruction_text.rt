@@ -1,10 +1,10 @@
 //! Instructions as text, beside what GNU objdump shows, and what the assembler makes of it.
 mod lines;
 
+use super::checking::check;
 use lines::{FIRST, LINES};
 use rv64i_core::{Instr, decode};
-use std::alloc::{AllocError, Global};
-use std::test::Fail;
+use std::process::Abort;
 use uasm_core::assemble;
 use uasm_text::{target, text_at};
 
@@ -43,27 +43,31 @@ fn has_line(word: u32) -> bool {
 }
 
 /// What the assembler makes of a line: the digits of its bytes, or a refusal.
-fn made(alloc: Global, line: &str) -> Result<String, AllocError> {
-    match assemble(alloc, line) {
-        Ok(file) => hex::encode(alloc, &file[HEADERS.min(file.len())..]),
-        Err(refusal) => format!(in alloc; "{refusal}"),
+fn made<R: Abort + AllocGlobal>(rt: &R, line: &str) -> String {
+    let made = match assemble(rt.alloc(), line) {
+        Ok(file) => hex::encode(rt.alloc(), &file[HEADERS.min(file.len())..]),
+        Err(refusal) => format!(in rt.alloc(); "{refusal}"),
+    };
+    made.expect(rt, "memory")
+}
+
+/// Whether the assembler makes a word of its text, or refuses it as it must.
+fn is_made<R: Abort + AllocGlobal>(rt: &R, word: u32, text: &str) -> bool {
+    let made = made(rt, text);
+    if !has_line(word) {
+        return made.as_str() == REFUSED;
     }
+    let bytes = format!(in rt.alloc(); "{:08x}", word.swap_bytes()).expect(rt, "memory");
+    made.as_str() == bytes.as_str()
 }
 
 #[test]
-fn texts_are_those_of_objdump_and_assemble_to_their_words(rt: HostRuntime) -> Result<(), Fail> {
+fn texts_are_those_of_objdump_and_assemble_to_their_words(rt: HostRuntime) {
     let mut address = FIRST;
     for line in LINES.trim().lines() {
         let (word, text) = row(line);
-        assert!(rt; is_shown(word, address, text), "{line}");
-        let made = made(rt.alloc(), text)?;
-        if has_line(word) {
-            let bytes = format!(in rt.alloc(); "{:08x}", word.swap_bytes())?;
-            assert_eq!(rt; made.as_str(), bytes.as_str(), "{line}");
-        } else {
-            assert_eq!(rt; made.as_str(), REFUSED, "{line}");
-        }
+        check(&rt, is_shown(word, address, text), line);
+        check(&rt, is_made(&rt, word, text), line);
         address = address.wrapping_add(4);
     }
-    Ok(())
 }

@@ -1,14 +1,15 @@
 //! Words and their fields, and what instructions leave, beside values from outside.
 ghost use Rattle.std.specs.Prelude.{◌<◌};
 
+use super::checking::check;
 use results::RESULTS;
 use rv64i_core::{
     BranchOp, FlatMemory, Imm12, Imm20, ImmOp, Instr, LoadOp, RegOp, Regs, ShiftOp, Stop, StoreOp,
     UserMemory, Width, WordOp, decode, encode, execute,
 };
 use std::alloc::Global;
+use std::process::Abort;
 use std::str::SplitWhitespace;
-use std::test::Fail;
 use words::{ILLEGAL, LEGAL};
 use xk_base::{BootError, Reg};
 
@@ -183,10 +184,10 @@ fn is_legal(line: &str) -> bool {
 fn legal_words_have_their_fields(rt: HostRuntime) {
     let mut rows: u32 = 0;
     for line in LEGAL.trim().lines() {
-        assert!(rt; is_legal(line), "{line}");
+        check(&rt, is_legal(line), line);
         rows = rows.wrapping_add(1);
     }
-    assert_eq!(rt; rows, 58);
+    check(&rt, rows == 58, "the number of words");
 }
 
 // Whether it is the number of a word that spells nothing.
@@ -201,14 +202,14 @@ fn is_illegal(text: &str) -> bool {
 fn other_words_spell_nothing(rt: HostRuntime) {
     let mut rows: u32 = 0;
     for text in ILLEGAL.split_whitespace() {
-        assert!(rt; is_illegal(text), "{text}");
+        check(&rt, is_illegal(text), text);
         rows = rows.wrapping_add(1);
     }
-    assert_eq!(rt; rows, 509);
+    check(&rt, rows == 509, "the number of words");
 }
 
 // A row of the table: a word, x1 and x2 before it, and behind it x3, the pc, and the eight bytes at 0x200.
-#[derive(Clone, Copy)]
+#[derive(Drop)]
 struct Row {
     word: u32,
     x1: u64,
@@ -255,23 +256,27 @@ fn leaves(row: &Row, memory: &mut FlatMemory) -> bool {
     is_done && is_written && memory.load(0x200, Width::DoubleWord) == Ok(row.eight)
 }
 
+// Whether an instruction leaves what a line of the table says.
+fn is_result<R: Abort + AllocGlobal>(rt: &R, line: &str) -> bool {
+    let row = row_of(line);
+    let mut memory = memory_with(rt.alloc(), row.word).expect(rt, "memory");
+    leaves(&row, &mut memory)
+}
+
 #[test]
-fn instructions_leave_the_manuals_results(rt: HostRuntime) -> Result<(), Fail> {
+fn instructions_leave_the_manuals_results(rt: HostRuntime) {
     let mut rows: u32 = 0;
     for line in RESULTS.trim().lines() {
-        let row = row_of(line);
-        let mut memory = memory_with(rt.alloc(), row.word)?;
-        assert!(rt; leaves(&row, &mut memory), "{line}");
+        check(&rt, is_result(&rt, line), line);
         rows = rows.wrapping_add(1);
     }
-    assert_eq!(rt; rows, 289);
-    Ok(())
+    check(&rt, rows == 289, "the number of rows");
 }
 
 // checks/hostile/run.sh refuses each growth of this test in turn, until a run meets no refusal.
 #[test]
 fn a_growth_that_the_host_refuses_is_want_of_memory(rt: HostRuntime) {
     if let Err(error) = memory_with(rt.alloc(), 0) {
-        assert!(rt; error == BootError::Memory);
+        check(&rt, error == BootError::Memory, "the error");
     }
 }

@@ -10,6 +10,8 @@ mod assembler;
 #[cfg(test)]
 mod base;
 #[cfg(test)]
+mod checking;
+#[cfg(test)]
 mod constructors;
 #[cfg(test)]
 mod free_frames;

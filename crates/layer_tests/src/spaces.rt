@@ -1,12 +1,12 @@
 //! A process's memory, from its first frame to its last.
 ghost use Rattle.sv39_core.specs.Tree.{IsTree};
 
+use super::checking::check;
 use addr_space::Space;
 use frame_list::Pool;
 use phys_ram::Ram;
 use std::alloc::Global;
 use std::marker::Model;
-use std::test::Fail;
 use user_copy::copy_in;
 use xk_base::limits::SIZE_LIMIT;
 use xk_base::{Frame, NoFrames, Perm, Rights, Vpn};
@@ -30,12 +30,12 @@ impl Model for Scene {
 }
 
 impl Scene {
-    /// A space without a page, in a RAM of 128 frames.
-    pub(super) fn new(alloc: Global) -> Result<Scene, Fail> {
-        let mut ram = Ram::new(alloc, 128)?;
-        let mut pool = Pool::new(alloc, &mut ram)?;
-        let space = Space::empty(&mut pool, &mut ram)?;
-        Ok(Scene { ram, pool, space })
+    /// A space without a page, in a RAM of 128 frames, if there is memory for it.
+    pub(super) fn new(alloc: Global) -> Option<Scene> {
+        let mut ram = Ram::new(alloc, 128).ok()?;
+        let mut pool = Pool::new(alloc, &mut ram).ok()?;
+        let space = Space::empty(&mut pool, &mut ram).ok()?;
+        Some(Scene { ram, pool, space })
     }
 
     /// How many frames a growth takes, if it is one.
@@ -76,8 +76,11 @@ impl Scene {
         true
     }
 
-    fn read(&self, address: u64, bytes: &mut [u8]) -> bool {
-        copy_in(&self.space, &self.ram, address, bytes).is_ok()
+    /// Reads four bytes over four nines: whether it can, and what is there then.
+    fn read(&self, address: u64) -> (bool, [u8; 4]) {
+        let mut bytes = [9; 4];
+        let is_read = copy_in(&self.space, &self.ram, address, &mut bytes).is_ok();
+        (is_read, bytes)
     }
 
     /// The RAM, and the root of its tables.
@@ -102,15 +105,24 @@ impl Scene {
 }
 
 #[test]
-fn a_space_grows_is_written_to_and_given_back(rt: HostRuntime) -> Result<(), Fail> {
-    let mut scene = Scene::new(rt.alloc())?;
-    assert_eq!(rt; scene.price_to(12_288), Some(5));
-    assert!(rt; scene.grow(12_288) && scene.write(&[7, 8, 9]));
-    let mut bytes = [9; 4];
-    assert!(rt; scene.read(0x0FFE, &mut bytes));
-    assert_eq!(rt; bytes, [0, 0, 7, 8]);
-    assert!(rt; !scene.read(0x2FFE, &mut bytes));
-    assert_eq!(rt; bytes, [0, 0, 7, 8]);
-    assert_eq!(rt; scene.given_back(), 128);
-    Ok(())
+fn a_space_grows_is_written_to_and_given_back(rt: HostRuntime) {
+    let mut scene = Scene::new(rt.alloc()).expect(&rt, "memory");
+    check(
+        &rt,
+        scene.price_to(12_288) == Some(5),
+        "the price of three pages",
+    );
+    check(&rt, scene.grow(12_288), "three pages fit");
+    check(&rt, scene.write(&[7, 8, 9]), "page 1 is there");
+    check(
+        &rt,
+        scene.read(0x0FFE) == (true, [0, 0, 7, 8]),
+        "bytes of two pages",
+    );
+    check(
+        &rt,
+        scene.read(0x2FFE) == (false, [9, 9, 9, 9]),
+        "bytes behind the end",
+    );
+    check(&rt, scene.given_back() == 128, "all frames are free");
 }

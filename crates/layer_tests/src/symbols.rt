@@ -1,6 +1,6 @@
 //! Names of functions, by the symbol table of a file made by hand (ELF-64 Object File Format) and read by GNU readelf.
+use super::checking::check;
 use elf_symbols::function_at;
-use std::test::Fail;
 
 /// In hexadecimal digits a file header, four symbols behind the empty one, their names, and four section headers, of which the third is that
 /// of the symbols (at 64, 120 bytes) and the fourth that of the names (at 184, 18 bytes).
@@ -28,20 +28,19 @@ fn is_named(file: &[u8], address: u64, name: &str) -> bool {
 }
 
 #[test]
-fn the_first_function_with_the_address_is_told(rt: HostRuntime) -> Result<(), Fail> {
-    let file = hex::decode(rt.alloc(), FILE)?;
-    for (address, name) in [
-        (0x0F, ""),
-        (0x10, "main"),
-        (0x2F, "main"),
-        (0x30, "helper"),
-        (0x37, "helper"),
-        (0x38, "main"),
-        (0x43, "main"),
-        (0x44, ""),
-        (u64::MAX, ""),
+fn the_first_function_with_the_address_is_told(rt: HostRuntime) {
+    let file = hex::decode(rt.alloc(), FILE).expect(&rt, "the digits");
+    for (case, address, name) in [
+        ("0F", 0x0F, ""),
+        ("10", 0x10, "main"),
+        ("2F", 0x2F, "main"),
+        ("30", 0x30, "helper"),
+        ("37", 0x37, "helper"),
+        ("38", 0x38, "main"),
+        ("43", 0x43, "main"),
+        ("44", 0x44, ""),
+        ("the last address", u64::MAX, ""),
     ] {
-        assert!(rt; is_named(file.as_slice(), address, name), "{address}");
+        check(&rt, is_named(file.as_slice(), address, name), case);
     }
-    Ok(())
 }
