@@ -4,9 +4,12 @@ use super::scene::Scene;
 use super::telling::{tell, told};
 use std::io::{self, ErrorKind, Write};
 use std::process::Abort;
-use xv_machine::{Counted, DriveEnd, DriveError, RunPlan, drive};
+use xv_machine::{Counted, DriveError, RunPlan, drive};
 
-const HI: &str = "a process opens the console, writes to it, and exits
+const NAME: &str = "a process opens the console, writes to it, and exits";
+
+const HI: &str = "
+story a process opens the console, writes to it, and exits
 program init
     la a0, name; li a1, 1; li a7, 15; ecall
     la a1, text; li a2, 3; li a7, 16; ecall
@@ -14,7 +17,7 @@ program init
     .data; name: .asciz \"console\"; text: .asciz \"hi.\"
 ";
 
-const NEXT_BYTE: &str = "the next byte is sent
+const NEXT_BYTE: &str = "
 events
     sent 105
 ";
@@ -33,23 +36,22 @@ impl Write for Unflushed {
     }
 }
 
-// Drives a machine for five rounds of four Runs: a turn and three instructions.
-fn driven(scene: &mut Scene) -> Result<DriveEnd, DriveError> {
+// Drives a machine for five rounds of four Runs: a turn and three instructions. A write fails.
+fn fail_to_flush(rt: &impl Abort, scene: &mut Scene) {
     let plan = RunPlan {
         rounds: 5,
         quantum: 4,
     };
     let mut keys = Counted::new(b"".as_slice());
     let mut sink = Counted::new(Unflushed);
-    drive(&mut scene.machine, plan, &mut keys, &mut sink)
+    let end = drive(&mut scene.machine, plan, &mut keys, &mut sink);
+    assert!(rt; end == Err(DriveError::Write));
 }
 
 // The first byte is taken, and not flushed.
 #[test]
 fn a_failed_write_ends_a_drive_behind_its_event(rt: HostRuntime) {
-    let Some(mut scene) = told(&rt, "", HI, 1) else {
-        return assert!(rt; false, "the machine boots");
-    };
-    assert!(rt; driven(&mut scene) == Err(DriveError::Write));
-    tell(&rt, &mut scene, NEXT_BYTE);
+    let mut scene = told(&rt, HI, NAME);
+    fail_to_flush(&rt, &mut scene);
+    tell(&rt, &mut scene, NAME, NEXT_BYTE);
 }

@@ -1,7 +1,7 @@
 //! Pairs of machines: what a process meets is the same, whatever another process does beside it.
 use super::scene::Scene;
 use super::stories::isolation::{GONE_ON, STORIES};
-use super::telling::{tell, told_as};
+use super::telling::{tell, told};
 use std::process::Abort;
 use xk_base::Pid;
 
@@ -28,16 +28,12 @@ fn same_runs(rt: &impl Abort, here: &mut Scene, there: &mut Scene) {
 
 // Process 2 goes on in the same way in the machines of these two stories.
 fn goes_on_alike<R: Abort + AllocGlobal>(rt: &R, one: &str, other: &str) {
-    let Some(mut here) = told_as(rt, STORIES, one) else {
-        return assert!(rt; false, "{one}: there is no machine");
-    };
-    let Some(mut there) = told_as(rt, STORIES, other) else {
-        return assert!(rt; false, "{other}: there is no machine");
-    };
+    let mut here = told(rt, STORIES, one);
+    let mut there = told(rt, STORIES, other);
     same_runs(rt, &mut here, &mut there);
     // All of its pages lie below 0x3000.
     same_bytes(rt, &here, &there, 0, 0x3001);
-    tell(rt, &mut there, GONE_ON);
+    tell(rt, &mut there, other, GONE_ON);
 }
 
 #[test]

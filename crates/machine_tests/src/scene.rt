@@ -1,18 +1,19 @@
 //! Machines that stories ask.
 use super::draft::Draft;
-use super::story::{byte, first_word, number};
-use std::alloc::Global;
+use super::story::{Item, Place, first_word};
+use std::fmt::Display;
+use std::process::Abort;
 use xk_base::limits::PID_MAX;
 use xk_base::{BootError, Pid, Reg};
 use xv_machine::{ChildState, Config, Event, Machine, Outcome};
 
-// The process of this number, where a process can have it.
-fn process(word: &str) -> Option<Pid> {
-    let number = u32::try_from(number(word)?).ok()?;
+// The process of this number.
+fn process<R: Abort>(rt: &R, place: &Place<'_>, word: &str) -> Pid {
+    let number = place.short_number(rt, word);
     if number == 0 || number > PID_MAX {
-        return None;
+        place.fail(rt, word);
     }
-    Some(Pid::new(number))
+    Pid::new(number)
 }
 
 #[rattlefmt::skip]
@@ -22,34 +23,54 @@ const REGISTERS: [&str; 32] = [
 ];
 
 // The register of this name.
-fn register(name: &str) -> Option<Reg> {
-    let index = REGISTERS.iter().position(|register| *register == name)?;
-    let index = u8::try_from(index).ok()?;
-    if index >= 32 {
-        return None;
+fn register<R: Abort>(rt: &R, place: &Place<'_>, name: &str) -> Reg {
+    for index in 0..32u8 {
+        if REGISTERS[usize::from(index)] == name {
+            return Reg::new(index);
+        }
     }
-    Some(Reg::new(index))
+    place.fail(rt, name)
 }
 
-// What came of a key, as an item.
-fn typed(alloc: Global, key: &str, outcome: &Outcome) -> Option<String> {
-    let Outcome::Typed(echo) = outcome else {
-        return format!(in alloc; "key {key} -> {outcome}").ok();
+// A value as a text.
+fn text<R: Abort + AllocGlobal, D: Display>(rt: &R, value: &D) -> String {
+    format!(in rt.alloc(); "{value}").expect(rt, "memory")
+}
+
+// A value as a text, or `none`.
+fn text_or_none<R: Abort + AllocGlobal, D: Display>(rt: &R, value: &Option<D>) -> String {
+    match value {
+        Some(value) => text(rt, value),
+        None => text(rt, &"none"),
+    }
+}
+
+// Adds two hexadecimal digits to a text, or `none`.
+fn push_byte<R: Abort + AllocGlobal>(rt: &R, told: &mut String, byte: Option<u8>) {
+    let digits = match byte {
+        Some(byte) => format!(in rt.alloc(); " {byte:02X}").expect(rt, "memory"),
+        None => text(rt, &" none"),
     };
-    let mut told = format!(in alloc; "key {key} echoes").ok()?;
-    if echo.is_empty() {
-        told.push_str(" none").ok()?;
+    told.push_str(digits.as_str()).expect(rt, "memory");
+}
+
+// The bytes that a key makes the console show.
+fn bytes_of<R: Abort + AllocGlobal>(rt: &R, bytes: &[u8]) -> String {
+    if bytes.is_empty() {
+        return text(rt, &"echoes none");
     }
-    for byte in echo.as_slice() {
-        told.push_str(format!(in alloc; " {byte:02X}").ok()?.as_str())
-            .ok()?;
+    let mut told = text(rt, &"echoes");
+    for byte in bytes {
+        push_byte(rt, &mut told, Some(*byte));
     }
-    Some(told)
+    told
 }
 
 /// Which outcomes a story tells.
-#[derive(Clone, Copy, PartialEq, Eq)]
+#[derive(Drop)]
 pub(super) enum Pace {
+    /// None.
+    Untold,
     /// All of them.
     Events,
     /// All but done instructions.
@@ -57,13 +78,18 @@ pub(super) enum Pace {
 }
 
 impl Pace {
-    /// How the items below this heading are told, where it has items below it.
-    pub(super) fn of(heading: &str) -> Option<Pace> {
+    /// How the items below this heading are told.
+    pub(super) fn of(heading: &str) -> Pace {
         match heading {
-            "events" => Some(Pace::Events),
-            "calls" => Some(Pace::Calls),
-            _ => None,
+            "events" => Pace::Events,
+            "calls" => Pace::Calls,
+            _ => Pace::Untold,
         }
+    }
+
+    /// Whether outcomes are told at all.
+    pub(super) fn is_told(&self) -> bool {
+        !matches!(self, Pace::Untold)
     }
 }
 
@@ -75,24 +101,19 @@ pub(super) struct Scene {
 
 impl Scene {
     /// The machine of a draft.
-    pub(super) fn new(alloc: Global, draft: Draft) -> Result<Scene, BootError> {
+    pub(super) fn new<R: AllocGlobal>(rt: &R, draft: Draft) -> Result<Scene, BootError> {
         let Draft {
             frames,
             trace,
             programs,
         } = draft;
-        let machine = Machine::boot(alloc, Config { frames, trace }, programs)?;
+        let machine = Machine::boot(rt.alloc(), Config { frames, trace }, programs)?;
         Ok(Scene { machine })
     }
 
     /// What comes of a Run.
     pub(super) fn run(&mut self) -> Outcome {
         self.machine.event(Event::Run)
-    }
-
-    /// What comes of a Tick.
-    pub(super) fn tick(&mut self) -> Outcome {
-        self.machine.event(Event::Tick)
     }
 
     // Lets the machine run to the next outcome that is no done instruction.
@@ -106,169 +127,121 @@ impl Scene {
         self.run()
     }
 
-    /// What comes of the event that an item is about, as an item.
-    fn outcome(&mut self, alloc: Global, item: &str, pace: Pace) -> Option<String> {
-        if item.starts_with("tick -> ") {
-            let outcome = self.tick();
-            return format!(in alloc; "tick -> {outcome}").ok();
-        }
-        let outcome = if item == "tick" {
-            self.tick()
-        } else if pace == Pace::Calls {
-            self.run_on()
-        } else {
-            self.run()
-        };
-        format!(in alloc; "{outcome}").ok()
+    // What comes of an event.
+    fn event<R: Abort + AllocGlobal>(&mut self, rt: &R, event: Event) -> String {
+        text(rt, &self.machine.event(event))
     }
 
-    // What comes of a key.
-    fn key(&mut self, alloc: Global, rest: &str) -> Option<String> {
-        let (key, wanted) = first_word(rest);
-        let outcome = self.machine.event(Event::Key(byte(key)?));
-        if wanted.starts_with("-> ") {
-            return format!(in alloc; "key {key} -> {outcome}").ok();
-        }
-        typed(alloc, key, &outcome)
-    }
-
-    // What comes of a Send.
-    fn send(&mut self, alloc: Global) -> Option<String> {
-        let outcome = self.machine.event(Event::Send);
-        format!(in alloc; "{outcome}").ok()
-    }
-
-    // How many Runs are sent, of so many at most.
-    fn runs(&mut self, alloc: Global, rest: &str) -> Option<String> {
-        let (most, _) = first_word(rest);
-        let sent = self.machine.run(u32::try_from(number(most)?).ok()?);
-        format!(in alloc; "runs {most} {sent}").ok()
-    }
-
-    // How many instructions are done, of so many at most.
-    fn instructions(&mut self, alloc: Global, rest: &str) -> Option<String> {
-        let (most, _) = first_word(rest);
-        let done = self
-            .machine
-            .instructions(u32::try_from(number(most)?).ok()?);
-        format!(in alloc; "instructions {most} {done}").ok()
-    }
-
-    fn note(&self, alloc: Global, rest: &str) -> Option<String> {
-        let (place, _) = first_word(rest);
-        match self.machine.trace(usize::try_from(number(place)?).ok()?) {
-            Some(note) => format!(in alloc; "note {place} {note}").ok(),
-            None => format!(in alloc; "note {place} none").ok(),
+    // What comes of the next Runs.
+    fn next<R: Abort + AllocGlobal>(&mut self, rt: &R, pace: &Pace) -> String {
+        match pace {
+            Pace::Calls => text(rt, &self.run_on()),
+            _ => self.event(rt, Event::Run),
         }
     }
 
-    fn free(&self, alloc: Global) -> Option<String> {
-        let free = self.machine.free_frames();
-        format!(in alloc; "free {free}").ok()
-    }
-
-    fn status(&self, alloc: Global) -> Option<String> {
-        match self.machine.halted() {
-            Some(status) => format!(in alloc; "status {status}").ok(),
-            None => format!(in alloc; "status none").ok(),
+    // What the console shows for a key, or what else comes of it.
+    fn echoes<R: Abort + AllocGlobal>(&mut self, rt: &R, key: u8) -> String {
+        match self.machine.event(Event::Key(key)) {
+            Outcome::Typed(echo) => bytes_of(rt, echo.as_slice()),
+            outcome => text(rt, &outcome),
         }
     }
 
-    fn current(&self, alloc: Global) -> Option<String> {
+    fn current(&self) -> Option<u32> {
         match self.machine.current() {
-            Some(pid) => {
-                let pid = pid.number();
-                format!(in alloc; "current {pid}").ok()
-            }
-            None => format!(in alloc; "current none").ok(),
+            Some(pid) => Some(pid.number()),
+            None => None,
         }
     }
 
-    fn child(&self, alloc: Global, rest: &str) -> Option<String> {
-        let (pid, rest) = first_word(rest);
-        let (child, _) = first_word(rest);
-        match self.machine.child_state(process(pid)?, process(child)?) {
-            Some(ChildState::Running) => format!(in alloc; "child {pid} {child} running").ok(),
-            Some(ChildState::Status(status)) => format!(in alloc;
-                "child {pid} {child} {status}"
-            ).ok(),
-            None => format!(in alloc; "child {pid} {child} none").ok(),
+    fn child<R: Abort + AllocGlobal>(&self, rt: &R, pid: Pid, child: Pid) -> String {
+        match self.machine.child_state(pid, child) {
+            Some(ChildState::Running) => text(rt, &"running"),
+            Some(ChildState::Status(status)) => text(rt, &status),
+            None => text(rt, &"none"),
         }
     }
 
     // What a register holds, or the pc.
-    fn value_of(&self, pid: &str, name: &str) -> Option<u64> {
-        let registers = self.machine.registers(process(pid)?)?;
-        match name {
-            "pc" => Some(registers.pc()),
-            _ => Some(registers.read(register(name)?)),
+    fn register<R: Abort>(&self, rt: &R, place: &Place<'_>, item: &Item<'_>) -> Option<u64> {
+        match self.machine.registers(process(rt, place, item.first)) {
+            Some(registers) if item.second == "pc" => Some(registers.pc()),
+            Some(registers) => Some(registers.read(register(rt, place, item.second))),
+            None => None,
         }
     }
 
-    // The value is spelled as the item spells it, where it is the same.
-    fn register(&self, alloc: Global, rest: &str) -> Option<String> {
-        let (pid, rest) = first_word(rest);
-        let (name, wanted) = first_word(rest);
-        let Some(value) = self.value_of(pid, name) else {
-            return format!(in alloc; "register {pid} {name} none").ok();
-        };
-        if number(wanted) == Some(value) {
-            return format!(in alloc; "register {pid} {name} {wanted}").ok();
-        }
-        format!(in alloc; "register {pid} {name} {value}").ok()
-    }
-
-    fn bytes(&self, alloc: Global, rest: &str) -> Option<String> {
-        let (pid, rest) = first_word(rest);
-        let (address, wanted) = first_word(rest);
-        let (process, mut at) = (process(pid)?, number(address)?);
-        let mut told = format!(in alloc; "bytes {pid} {address}").ok()?;
-        for _ in wanted.split(' ') {
-            let byte = match self.machine.peek(process, at) {
-                Some(byte) => format!(in alloc; " {byte:02X}").ok()?,
-                None => format!(in alloc; " none").ok()?,
-            };
-            told.push_str(byte.as_str()).ok()?;
+    // An address, and as many bytes from there on as an item has behind it.
+    fn bytes<R: Abort + AllocGlobal>(
+        &self,
+        rt: &R,
+        place: &Place<'_>,
+        pid: Pid,
+        wanted: &str,
+    ) -> String {
+        let (address, bytes) = first_word(wanted);
+        let mut at = place.number(rt, address);
+        let mut told = text(rt, &address);
+        for _ in bytes.split(' ') {
+            push_byte(rt, &mut told, self.machine.peek(pid, at));
             at = at.wrapping_add(1);
         }
-        Some(told)
+        told
     }
 
     // How many bytes from an address on are 0, up to so many.
-    fn zeros_from(&self, process: Pid, address: u64, most: u64) -> u64 {
+    fn zeros_from(&self, pid: Pid, address: u64, most: u64) -> u64 {
         for count in 0..most {
-            if self.machine.peek(process, address.wrapping_add(count)) != Some(0) {
+            if self.machine.peek(pid, address.wrapping_add(count)) != Some(0) {
                 return count;
             }
         }
         most
     }
 
-    fn zeros(&self, alloc: Global, rest: &str) -> Option<String> {
-        let (pid, rest) = first_word(rest);
-        let (address, most) = first_word(rest);
-        let count = self.zeros_from(process(pid)?, number(address)?, number(most)?);
-        format!(in alloc; "zeros {pid} {address} {count}").ok()
+    // The same, where an item asks for so many.
+    fn zeros<R: Abort>(&self, rt: &R, place: &Place<'_>, item: &Item<'_>) -> u64 {
+        let pid = process(rt, place, item.first);
+        let address = place.number(rt, item.second);
+        self.zeros_from(pid, address, place.number(rt, item.wanted))
     }
 
-    /// What is so, or what comes of an event, where an item wants something of it: as an item. None where
-    /// the item says nothing that can be asked.
-    pub(super) fn told(&mut self, alloc: Global, item: &str, pace: Pace) -> Option<String> {
-        let (word, rest) = first_word(item);
-        match word {
-            "key" => self.key(alloc, rest),
-            "sent" => self.send(alloc),
-            "runs" => self.runs(alloc, rest),
-            "instructions" => self.instructions(alloc, rest),
-            "note" => self.note(alloc, rest),
-            "free" => self.free(alloc),
-            "status" => self.status(alloc),
-            "current" => self.current(alloc),
-            "child" => self.child(alloc, rest),
-            "register" => self.register(alloc, rest),
-            "bytes" => self.bytes(alloc, rest),
-            "zeros" => self.zeros(alloc, rest),
-            _ => self.outcome(alloc, item, pace),
+    /// What is so, or what comes of an event, as an item wants to know.
+    pub(super) fn told<R: Abort + AllocGlobal>(
+        &mut self,
+        rt: &R,
+        place: &Place<'_>,
+        item: &Item<'_>,
+        pace: &Pace,
+    ) -> String {
+        let first = item.first;
+        match item.word {
+            "key" if item.second == "echoes" => self.echoes(rt, place.byte(rt, first)),
+            "key" => self.event(rt, Event::Key(place.byte(rt, first))),
+            "sent" => self.event(rt, Event::Send),
+            "tick" => self.event(rt, Event::Tick),
+            "runs" => text(rt, &self.machine.run(place.short_number(rt, first))),
+            "instructions" => text(
+                rt,
+                &self.machine.instructions(place.short_number(rt, first)),
+            ),
+            "note" => text_or_none(
+                rt,
+                &self.machine.trace(place.short_number(rt, first) as usize),
+            ),
+            "free" => text(rt, &self.machine.free_frames()),
+            "status" => text_or_none(rt, &self.machine.halted()),
+            "current" => text_or_none(rt, &self.current()),
+            "child" => self.child(
+                rt,
+                process(rt, place, first),
+                process(rt, place, item.second),
+            ),
+            "register" => text_or_none(rt, &self.register(rt, place, item)),
+            "bytes" => self.bytes(rt, place, process(rt, place, first), item.wanted),
+            "zeros" => text(rt, &self.zeros(rt, place, item)),
+            _ => self.next(rt, pace),
         }
     }
 

@@ -11,8 +11,8 @@
 //! - `file NAME TEXT`: a program of this name whose file is this text, or empty.
 //! - `patch OFFSET BYTES`: the file of the program before has these bytes from this offset on.
 //! - `cut LENGTH`: the file of the program before has so many bytes left. `length LENGTH`: it has so many.
-//! - `each N from FIRST to LAST`: the whole story is told for each of these numbers, which the word `N` in
-//!   its headings stands for.
+//! - `each N from FIRST to LAST`: the whole story is told for each of these numbers, which a word `N` at the end of a
+//!   heading stands for.
 //! - `refused WHY`: no machine boots, for this reason.
 //! - `events`: the machine boots, if it hasn't yet, and all of the items below come in turn.
 //! - `calls`: the same, but done instructions aren't told, and are passed over.
@@ -38,28 +38,92 @@
 //! - `zeros PID ADDRESS COUNT`: so many bytes from an address on are 0.
 //!
 //! `COUNT times: ` before items, or before assembler, stands for so many of them in turn; `N from FIRST to
-//! LAST: ` for one for each of these numbers, which the word `N` stands for. Numbers are decimal, or
+//! LAST: ` before items for them once for each of these numbers, which each `N` stands for. Numbers are decimal, or
 //! hexadecimal behind `0x`; bytes are hexadecimal.
-use std::alloc::Global;
+use std::process::Abort;
 
-/// The number that a word spells: a number below 0 stands for itself and 2^64.
+/// Where a story is read.
+#[derive(Drop)]
+pub(super) struct Place<'a> {
+    pub(super) story: &'a str,
+    pub(super) line: usize,
+}
+
+impl Place<'_> {
+    /// Fails, since something isn't as the story says, or isn't readable.
+    pub(super) fn fail<R: Abort>(&self, rt: &R, text: &str) -> ! {
+        let Place { story, line } = self;
+        panic!(rt; "{story}, line {line}: {text} can't be so")
+    }
+
+    /// The number that a word spells.
+    pub(super) fn number<R: Abort>(&self, rt: &R, word: &str) -> u64 {
+        match number(word) {
+            Some(number) => number,
+            None => self.fail(rt, word),
+        }
+    }
+
+    /// The number that a word spells, where it fits into 32 bits.
+    pub(super) fn short_number<R: Abort>(&self, rt: &R, word: &str) -> u32 {
+        match u32::try_from(self.number(rt, word)) {
+            Ok(number) => number,
+            Err(_) => self.fail(rt, word),
+        }
+    }
+
+    /// The byte that two hexadecimal digits spell.
+    pub(super) fn byte<R: Abort>(&self, rt: &R, word: &str) -> u8 {
+        match u8::from_str_radix(word, 16) {
+            Ok(byte) => byte,
+            Err(_) => self.fail(rt, word),
+        }
+    }
+
+    /// How often a line is told.
+    pub(super) fn repetition<'a, R: Abort>(&self, rt: &R, line: &'a str) -> Repeated<'a> {
+        if let Some(numbered) = line.strip_prefix("N from ") {
+            return self.numbered(rt, numbered);
+        }
+        match line.split_once(" times: ") {
+            Some((count, text)) => Repeated {
+                first: 1,
+                last: self.number(rt, count),
+                text,
+            },
+            None => Repeated {
+                first: 1,
+                last: 1,
+                text: line,
+            },
+        }
+    }
+
+    /// The numbers of `FIRST to LAST: TEXT`, and the text.
+    pub(super) fn numbered<'a, R: Abort>(&self, rt: &R, line: &'a str) -> Repeated<'a> {
+        let (range, text) = parted(line, ": ");
+        let (first, last) = parted(range, " to ");
+        Repeated {
+            first: self.number(rt, first),
+            last: self.number(rt, last),
+            text,
+        }
+    }
+}
+
+/// The number that a word spells, if it does: a number below 0 stands for itself and 2^64.
 pub(super) fn number(word: &str) -> Option<u64> {
     if let Some(digits) = word.strip_prefix("0x") {
         return u64::from_str_radix(digits, 16).ok();
     }
-    if let Some(digits) = word.strip_prefix("-") {
-        return Some(digits.parse::<u64>().ok()?.wrapping_neg());
+    match word.strip_prefix("-") {
+        Some(digits) => Some(digits.parse::<u64>().ok()?.wrapping_neg()),
+        None => word.parse::<u64>().ok(),
     }
-    word.parse::<u64>().ok()
 }
 
-/// The byte that two hexadecimal digits spell.
-pub(super) fn byte(word: &str) -> Option<u8> {
-    u8::from_str_radix(word, 16).ok()
-}
-
-// What stands before the first place of a separator, and what behind it.
-fn parted<'a>(text: &'a str, separator: &str) -> (&'a str, &'a str) {
+/// What stands before the first place of a separator, and what behind it.
+pub(super) fn parted<'a>(text: &'a str, separator: &str) -> (&'a str, &'a str) {
     match text.split_once(separator) {
         Some(parts) => parts,
         None => (text, ""),
@@ -71,76 +135,17 @@ pub(super) fn first_word(text: &str) -> (&str, &str) {
     parted(text, " ")
 }
 
-/// What stands before the first story of a group, and all stories from its name on.
-pub(super) fn group_of(stories: &str) -> (&str, &str) {
-    parted(stories, "\nstory ")
-}
-
-/// The name of a story, which is its first line.
-pub(super) fn name_of(story: &str) -> &str {
-    parted(story, "\n").0
+/// The first line of a text.
+pub(super) fn first_line(text: &str) -> &str {
+    parted(text, "\n").0
 }
 
 /// A text that is told once for each number from the first to the last.
-#[derive(Clone, Copy)]
+#[derive(Drop)]
 pub(super) struct Repeated<'a> {
     pub(super) first: u64,
     pub(super) last: u64,
     pub(super) text: &'a str,
-}
-
-// `COUNT times: TEXT`.
-fn counted(text: &str) -> Option<Repeated<'_>> {
-    let (count, text) = text.split_once(" times: ")?;
-    let last = number(count)?;
-    Some(Repeated {
-        first: 1,
-        last,
-        text,
-    })
-}
-
-// The first and the last number of `N from FIRST to LAST`.
-fn numbers(text: &str) -> Option<(u64, u64)> {
-    let (first, last) = text.strip_prefix("N from ")?.split_once(" to ")?;
-    Some((number(first)?, number(last)?))
-}
-
-// `N from FIRST to LAST: TEXT`.
-fn numbered(text: &str) -> Option<Repeated<'_>> {
-    let (range, text) = text.split_once(": ")?;
-    let (first, last) = numbers(range)?;
-    Some(Repeated { first, last, text })
-}
-
-/// How often a text is told.
-pub(super) fn repetition(text: &str) -> Repeated<'_> {
-    if let Some(counted) = counted(text) {
-        return counted;
-    }
-    match numbered(text) {
-        Some(numbered) => numbered,
-        None => Repeated {
-            first: 1,
-            last: 1,
-            text,
-        },
-    }
-}
-
-/// The text with this number for each word `N`.
-pub(super) fn with_number(alloc: Global, text: &str, n: u64) -> Option<String> {
-    let mut with = String::new(alloc);
-    for word in text.split(' ') {
-        if !with.is_empty() {
-            with.push_str(" ").ok()?;
-        }
-        match word {
-            "N" => with.push_str(format!(in alloc; "{n}").ok()?.as_str()).ok()?,
-            _ => with.push_str(word).ok()?,
-        }
-    }
-    Some(with)
 }
 
 /// Whether a line is a heading.
@@ -153,21 +158,94 @@ pub(super) fn is_silent(line: &str) -> bool {
     matches!(line.trim().as_bytes().first(), None | Some(b'#'))
 }
 
-/// The first heading of a story that begins with this word, behind the word.
+/// What stands behind the word of the first heading that begins with it, if there is one. The word stands between an
+/// end of a line and a space.
 pub(super) fn heading<'a>(story: &'a str, word: &str) -> Option<&'a str> {
-    for line in story.lines().skip(1) {
-        let (first, rest) = first_word(line);
-        if first == word {
-            return Some(rest);
-        }
+    match story.split_once(word) {
+        Some((_, behind)) => Some(first_line(behind)),
+        None => None,
     }
-    None
 }
 
-/// The numbers for each of which a story is told.
-pub(super) fn told_for(story: &str) -> Option<(u64, u64)> {
-    match heading(story, "each") {
-        Some(range) => numbers(range),
-        None => Some((1, 1)),
+// Words that ask: three behind which what they want stands at once, five behind which one word stands before it, and
+// three behind which two words stand before it.
+const ASKING: [&str; 11] = [
+    "free",
+    "status",
+    "current",
+    "key",
+    "runs",
+    "instructions",
+    "note",
+    "bytes",
+    "child",
+    "register",
+    "zeros",
+];
+
+// How many words stand before what an item wants to hear. Where the item itself is what it wants to hear, none does.
+fn words_before(word: &str, first: &str, second: &str) -> usize {
+    if first == "->" {
+        return 2;
+    }
+    if second == "->" {
+        return 3;
+    }
+    for index in 0..11usize {
+        if ASKING[index] == word {
+            return 1 + usize::from(index >= 3) + usize::from(index >= 8);
+        }
+    }
+    0
+}
+
+// What stands behind the first words of a text, three at most.
+fn behind_words(text: &str, count: usize) -> &str {
+    if count == 0 {
+        return text;
+    }
+    let (_, rest) = first_word(text);
+    if count == 1 {
+        return rest;
+    }
+    let (_, behind) = first_word(rest);
+    if count == 2 {
+        return behind;
+    }
+    first_word(behind).1
+}
+
+/// An item: its first three words, and what it wants to hear.
+#[derive(Drop)]
+pub(super) struct Item<'a> {
+    pub(super) word: &'a str,
+    pub(super) first: &'a str,
+    pub(super) second: &'a str,
+    pub(super) wanted: &'a str,
+}
+
+impl Item<'_> {
+    /// The item that a text is.
+    pub(super) fn of(item: &str) -> Item<'_> {
+        let (word, rest) = first_word(item);
+        let (first, behind) = first_word(rest);
+        let (second, _) = first_word(behind);
+        Item {
+            word,
+            first,
+            second,
+            wanted: behind_words(item, words_before(word, first, second)),
+        }
+    }
+
+    /// Whether it wants to hear this. Numbers may be spelled otherwise.
+    pub(super) fn wants(&self, told: &str) -> bool {
+        if told == self.wanted {
+            return true;
+        }
+        match number(told) {
+            Some(told) => number(self.wanted) == Some(told),
+            None => false,
+        }
     }
 }

@@ -1,148 +1,140 @@
 //! Stories are told: machines are asked, and the answers are compared.
 use super::draft::Draft;
 use super::scene::{Pace, Scene};
-use super::story::{
-    Repeated, group_of, heading, is_heading, is_silent, name_of, repetition, told_for, with_number,
-};
+use super::story::{Item, Place, Repeated, first_line, heading, is_heading, is_silent, parted};
 use std::process::Abort;
-
-// Where an item stands.
-#[derive(Clone, Copy)]
-struct Place<'a> {
-    story: &'a str,
-    line: usize,
-}
+use xk_base::BootError;
 
 // Compares what a machine tells with an item.
 fn meet<R: Abort + AllocGlobal>(
     rt: &R,
     scene: &mut Scene,
-    place: Place<'_>,
-    item: &str,
-    pace: Pace,
+    place: &Place<'_>,
+    text: &str,
+    pace: &Pace,
 ) {
-    let Place { story, line } = place;
-    match scene.told(rt.alloc(), item, pace) {
-        Some(told) => {
-            assert!(rt;
-                told.as_str() == item,
-                "{story}, line {line}: wanted {item}, came {told}"
-            );
-        }
-        None => assert!(rt; false, "{story}, line {line}: {item} can't be asked"),
+    let item = Item::of(text);
+    let told = scene.told(rt, place, &item, pace);
+    if !item.wants(told.as_str()) {
+        let Place { story, line } = place;
+        panic!(rt; "{story}, line {line}: wanted {text}, came {told}");
     }
+}
+
+// Compares items that stand with `, ` between them.
+fn meet_items<R: Abort + AllocGlobal>(
+    rt: &R,
+    scene: &mut Scene,
+    place: &Place<'_>,
+    items: &str,
+    pace: &Pace,
+) {
+    for item in items.split(", ") {
+        meet(rt, scene, place, item, pace);
+    }
+}
+
+// The text with a number for each `N` that stands before such an end.
+fn with_number<R: Abort + AllocGlobal>(rt: &R, text: &str, n: u64, end: &str) -> String {
+    let mark = format!(in rt.alloc(); "N{end}").expect(rt, "memory");
+    let number = format!(in rt.alloc(); "{n}{end}").expect(rt, "memory");
+    text.replace(rt.alloc(), mark.as_str(), number.as_str())
+        .expect(rt, "memory")
 }
 
 // Compares the items of a line.
 fn meet_line<R: Abort + AllocGlobal>(
     rt: &R,
     scene: &mut Scene,
-    place: Place<'_>,
+    place: &Place<'_>,
     line: &str,
-    pace: Pace,
+    pace: &Pace,
 ) {
-    let Repeated { first, last, text } = repetition(line);
+    let Repeated { first, last, text } = place.repetition(rt, line);
     for n in first..=last {
-        for item in text.split(", ") {
-            match with_number(rt.alloc(), item, n) {
-                Some(item) => meet(rt, scene, place, item.as_str(), pace),
-                None => assert!(rt; false, "out of memory"),
-            }
-        }
+        let items = with_number(rt, text, n, "");
+        meet_items(rt, scene, place, items.as_str(), pace);
     }
 }
 
-/// Tells what stands below the headings `events` and `calls` of a story.
-pub(super) fn tell<R: Abort + AllocGlobal>(rt: &R, scene: &mut Scene, story: &str) {
-    let name = name_of(story);
-    let mut pace = None;
-    for (line, text) in story.lines().enumerate().skip(1) {
+/// Tells what stands below the headings `events` and `calls` of the story of this name.
+pub(super) fn tell<R: Abort + AllocGlobal>(rt: &R, scene: &mut Scene, story: &str, text: &str) {
+    let mut pace = Pace::Untold;
+    for (line, text) in text.lines().enumerate() {
         if is_heading(text) {
             pace = Pace::of(text);
-        } else if let Some(pace) = pace
-            && !is_silent(text)
-        {
-            meet_line(rt, scene, Place { story: name, line }, text.trim(), pace);
+        } else if pace.is_told() && !is_silent(text) {
+            meet_line(rt, scene, &Place { story, line }, text.trim(), &pace);
         }
     }
 }
 
-// The machine of a story, where the word `N` of its headings stands for this number.
-fn draft<R: Abort + AllocGlobal>(rt: &R, group: &str, story: &str, n: u64) -> Draft {
-    let mut draft = Draft::new(rt.alloc());
-    let name = name_of(story);
-    for (line, text) in story.lines().enumerate().skip(1) {
-        if is_heading(text) {
-            let is_done = match with_number(rt.alloc(), text, n) {
-                Some(heading) => draft
-                    .heading(rt.alloc(), group, story, line, heading.as_str())
-                    .is_some(),
-                None => false,
-            };
-            assert!(rt; is_done, "{name}, line {line}: {text} can't be done");
+// The machine of the story of this name. The first line of its text says nothing.
+fn draft<R: Abort + AllocGlobal>(rt: &R, group: &str, story: &str, text: &str) -> Draft {
+    let mut draft = Draft {
+        frames: 16,
+        trace: 0,
+        programs: Vec::new(rt.alloc()),
+    };
+    for (line, heading) in text.lines().enumerate().skip(1) {
+        if is_heading(heading) {
+            draft.heading(rt, &Place { story, line }, group, text, heading);
         }
     }
     draft
 }
 
-/// Tells a story where the word `N` of its headings stands for this number, and answers its machine, where
-/// one boots.
-pub(super) fn told<R: Abort + AllocGlobal>(
-    rt: &R,
-    group: &str,
-    story: &str,
-    n: u64,
-) -> Option<Scene> {
-    let refused = heading(story, "refused");
-    let name = name_of(story);
-    match Scene::new(rt.alloc(), draft(rt, group, story, n)) {
+// Compares why no machine boots with what a story says.
+fn meet_refusal<R: Abort + AllocGlobal>(rt: &R, text: &str, error: BootError) {
+    let refusal = format!(in rt.alloc(); "{error}").expect(rt, "memory");
+    if heading(text, "\nrefused ") != Some(refusal.as_str()) {
+        panic!(rt; "{text}: the machine is refused, {refusal}");
+    }
+}
+
+// Tells a story.
+fn tell_story<R: Abort + AllocGlobal>(rt: &R, group: &str, text: &str) {
+    let story = first_line(text);
+    match Scene::new(rt, draft(rt, group, story, text)) {
         Ok(mut scene) => {
-            assert_eq!(rt; refused, None, "{name} boots, for {n}");
-            tell(rt, &mut scene, story);
-            Some(scene)
+            let is_wanted = heading(text, "\nrefused ").is_none();
+            assert!(rt; is_wanted, "{text}: the machine boots");
+            tell(rt, &mut scene, story, text);
         }
-        Err(error) => {
-            let told = format!(in rt.alloc(); "{error}").ok()?;
-            assert_eq!(rt;
-                told.as_str(),
-                refused.unwrap_or("boots"),
-                "{name}, for {n}"
-            );
-            None
-        }
+        Err(error) => meet_refusal(rt, text, error),
     }
 }
 
 // Tells a story for each of its numbers.
-fn tell_story<R: Abort + AllocGlobal>(rt: &R, group: &str, story: &str) {
-    match told_for(story) {
-        Some((first, last)) => {
-            for n in first..=last {
-                let _ = told(rt, group, story, n);
-            }
-        }
-        None => {
-            let name = name_of(story);
-            assert!(rt; false, "{name}: its numbers can't be read");
-        }
+fn tell_numbered<R: Abort + AllocGlobal>(rt: &R, group: &str, text: &str, range: &str) {
+    let place = Place {
+        story: first_line(text),
+        line: 1,
+    };
+    let Repeated { first, last, .. } = place.numbered(rt, range);
+    for n in first..=last {
+        let text = with_number(rt, text, n, "\n");
+        tell_story(rt, group, text.as_str());
     }
 }
 
 /// Tells all stories of a group, each on a machine of its own.
 pub(super) fn tell_all<R: Abort + AllocGlobal>(rt: &R, stories: &str) {
-    let (group, stories) = group_of(stories);
-    for story in stories.split("\nstory ") {
-        tell_story(rt, group, story);
+    let (group, stories) = parted(stories, "\nstory ");
+    for text in stories.split("\nstory ") {
+        match heading(text, "\neach N from ") {
+            Some(range) => tell_numbered(rt, group, text, range),
+            None => tell_story(rt, group, text),
+        }
     }
 }
 
-/// Tells the story of this name, and answers its machine.
-pub(super) fn told_as<R: Abort + AllocGlobal>(rt: &R, stories: &str, name: &str) -> Option<Scene> {
-    let (group, stories) = group_of(stories);
-    for story in stories.split("\nstory ") {
-        if name_of(story) == name {
-            return told(rt, group, story, 1);
-        }
-    }
-    None
+/// Tells the story of this name, and answers its machine. No other text of the stories has the name in it.
+pub(super) fn told<R: Abort + AllocGlobal>(rt: &R, stories: &str, name: &str) -> Scene {
+    let (group, _) = parted(stories, "\nstory ");
+    let (_, behind) = parted(stories, name);
+    let (text, _) = parted(behind, "\nstory ");
+    let mut scene = Scene::new(rt, draft(rt, group, name, text)).expect(rt, name);
+    tell(rt, &mut scene, name, text);
+    scene
 }
