@@ -19,34 +19,34 @@ const HELLO: &str =
     "_start:\n  la a0, name\n  li a1, 1\n  li a7, 15\n  ecall\n  la a1, msg\n  li a2, 3\n  li a7, 16\n  ecall\n  li a0, 0\n  li a7, 2\n  ecall\n.data\nname: .asciz \"console\"\nmsg: .asciz \"hi\\n\"\n";
 
 /// Its file in hexadecimal digits: headers worked by hand from the format, text and data made by GNU as, ld and objcopy.
-const HELLO_FILE: &str = "
-# The file header: magic, 64 bits, little-endian, version 1, then padding;
-7f454c46 02 01 01 000000000000000000
-# type 2 (executable), machine 243 (RISC-V), version 1, entry 0,
-0200 f300 01000000 0000000000000000
-# program headers at 64, no section headers,
-4000000000000000 0000000000000000
-# no flags, headers of 64 and 56 bytes, two program headers, no section header.
-00000000 4000 3800 0200 0000 0000 0000
-# The first program header: type 1 (load), flags R and X, file offset 176,
-01000000 05000000 b000000000000000
-# virtual and physical address 0,
-0000000000000000 0000000000000000
-# 52 bytes in the file and in memory, alignment 1.
-3400000000000000 3400000000000000 0100000000000000
-# The second one: type 1, flags R and W, file offset 228,
-01000000 06000000 e400000000000000
-# virtual and physical address 4096,
-0010000000000000 0010000000000000
-# 12 bytes in the file and in memory, alignment 1.
-0c00000000000000 0c00000000000000 0100000000000000
-# The instructions.
-17150000 13050500 93051000 9308f000
-73000000 97150000 938545ff 13063000 93080001
-73000000 13050000 93082000 73000000
-# The data.
-636f6e736f6c6500 68690a00
-";
+const HELLO_FILE: &str = concat!(
+    // The file header: magic, 64 bits, little-endian, version 1, then padding;
+    "7f454c46", "02", "01", "01", "000000000000000000",
+    // type 2 (executable), machine 243 (RISC-V), version 1, entry 0,
+    "0200", "f300", "01000000", "0000000000000000",
+    // program headers at 64, no section headers,
+    "4000000000000000", "0000000000000000",
+    // no flags, headers of 64 and 56 bytes, two program headers, no section header.
+    "00000000", "4000", "3800", "0200", "0000", "0000", "0000",
+    // The first program header: type 1 (load), flags R and X, file offset 176,
+    "01000000", "05000000", "b000000000000000",
+    // virtual and physical address 0,
+    "0000000000000000", "0000000000000000",
+    // 52 bytes in the file and in memory, alignment 1.
+    "3400000000000000", "3400000000000000", "0100000000000000",
+    // The second one: type 1, flags R and W, file offset 228,
+    "01000000", "06000000", "e400000000000000",
+    // virtual and physical address 4096,
+    "0010000000000000", "0010000000000000",
+    // 12 bytes in the file and in memory, alignment 1.
+    "0c00000000000000", "0c00000000000000", "0100000000000000",
+    // The instructions.
+    "17150000", "13050500", "93051000", "9308f000",
+    "73000000", "97150000", "938545ff", "13063000", "93080001",
+    "73000000", "13050000", "93082000", "73000000",
+    // The data.
+    "636f6e736f6c6500", "68690a00",
+);
 
 /// How many bytes its file has.
 const HELLO_LENGTH: usize = 240;
@@ -100,78 +100,53 @@ fn digits_from<R: Abort + AllocGlobal>(rt: &R, file: &[u8], from: usize) -> Stri
     hex::encode(rt.alloc(), &file[from.min(file.len())..]).expect(rt, "memory")
 }
 
-/// Whether a source has a file of the length and with the last bytes that are wanted, in hexadecimal digits.
-fn is_taken<R: Abort + AllocGlobal>(rt: &R, wanted: &str, source: &str) -> bool {
+/// Whether a file has the length and the last bytes that are wanted, in hexadecimal digits.
+fn is_file<R: Abort + AllocGlobal>(rt: &R, file: &[u8], wanted: &str) -> bool {
     let (length, bytes) = parted(wanted, " ");
-    let source = source_of(rt, source);
-    let file = assembled(rt.alloc(), source.as_str()).expect(rt, wanted);
-    let end = digits_from(rt, file.as_slice(), file.len().saturating_sub(END));
+    let end = digits_from(rt, file, file.len().saturating_sub(END));
     length.parse::<usize>().ok() == Some(file.len()) && end.as_str().ends_with(bytes)
 }
 
-/// Whether a source is refused as it is wanted.
-fn is_refused<R: Abort + AllocGlobal>(rt: &R, wanted: &str, source: &str) -> bool {
-    let source = source_of(rt, source);
-    match assembled(rt.alloc(), source.as_str()) {
-        Ok(_) => false,
-        Err(refusal) => is_told(rt, &refusal, wanted),
-    }
-}
-
-/// Whether a refusal is told so.
+/// Whether a refusal is told as it is wanted.
 fn is_told<R: Abort + AllocGlobal>(rt: &R, refusal: &AsmError, wanted: &str) -> bool {
     let told = format!(in rt.alloc(); "{refusal}").expect(rt, "memory");
     told.as_str() == wanted
 }
 
-/// Adds the words of a line one behind another.
-fn push_words<R: Abort>(rt: &R, digits: &mut String, line: &str) {
-    for word in line.split_whitespace() {
-        digits.push_str(word).expect(rt, "memory");
+/// Whether what comes of a source is what is wanted: a file, or a refusal.
+fn comes<R: Abort + AllocGlobal>(rt: &R, wanted: &str, source: &str) -> bool {
+    let source = source_of(rt, source);
+    match assembled(rt.alloc(), source.as_str()) {
+        Ok(file) => is_file(rt, file.as_slice(), wanted),
+        Err(refusal) => is_told(rt, &refusal, wanted),
     }
 }
 
-/// The words of a text one behind another, but for its lines that begin with `#`.
-fn digits_of<R: Abort + AllocGlobal>(rt: &R, text: &str) -> String {
-    let mut digits = String::new(rt.alloc());
-    for line in text.lines() {
-        if !line.starts_with("#") {
-            push_words(rt, &mut digits, line);
+/// Makes sure that of each source of a table comes what is wanted.
+fn meet_all<R: Abort + AllocGlobal>(rt: &R, table: &str) {
+    for row in table.split('\n') {
+        if let Some((wanted, source)) = row.split_once(" <- ") {
+            check(rt, comes(rt, wanted, source), row);
         }
     }
-    digits
 }
 
 #[test]
 fn a_whole_program_byte_for_byte(rt: HostRuntime) {
     let file = assembled(rt.alloc(), HELLO).expect(&rt, "the file");
     let digits = digits_from(&rt, file.as_slice(), 0);
-    let is_so = digits.as_str() == digits_of(&rt, HELLO_FILE).as_str();
-    assert!(rt; is_so, "{digits}");
-}
-
-/// Makes sure that the sources of a table have the files that are wanted.
-fn take_all<R: Abort + AllocGlobal>(rt: &R, table: &str) {
-    for row in table.split('\n') {
-        if let Some((wanted, source)) = row.split_once(" <- ") {
-            check(rt, is_taken(rt, wanted, source), row);
-        }
-    }
+    assert!(rt; digits.as_str() == HELLO_FILE, "{digits}");
 }
 
 #[test]
 fn sources_that_are_taken(rt: HostRuntime) {
-    take_all(&rt, SPELLED);
-    take_all(&rt, TAKEN);
+    meet_all(&rt, SPELLED);
+    meet_all(&rt, TAKEN);
 }
 
 #[test]
 fn sources_that_are_refused(rt: HostRuntime) {
-    for row in REFUSED.split('\n') {
-        if let Some((wanted, source)) = row.split_once(" <- ") {
-            check(&rt, is_refused(&rt, wanted, source), row);
-        }
-    }
+    meet_all(&rt, REFUSED);
 }
 
 /// Whether want of memory comes of a source, or a file of this length.
