@@ -81,41 +81,47 @@ impl Note {
     }
 }
 
+/// What happened to a process.
+fn write_process<W: fmt::Write>(f: &mut fmt::Formatter<W>, word: &str, pid: Pid) -> fmt::Result {
+    let pid = pid.number();
+    write!(f, "{word} {pid}")
+}
+
+/// What happened to a process, and the number of a call, a status or a cause.
+fn write_process_number<W: fmt::Write>(
+    f: &mut fmt::Formatter<W>,
+    word: &str,
+    pid: Pid,
+    number: i32,
+) -> fmt::Result {
+    let pid = pid.number();
+    write!(f, "{word} {pid} {number}")
+}
+
 /// The note as a line of a trace, without its end: a word, then plain decimal numbers.
 impl fmt::Display for Note {
     fn fmt<W: fmt::Write>(&self, f: &mut fmt::Formatter<W>) -> fmt::Result {
         match *self {
-            Note::Stepped { pid } => {
-                let pid = pid.number();
-                write!(f, "step {pid}")
-            }
+            Note::Stepped { pid } => write_process(f, "step", pid),
             Note::Called { pid, number, value } => {
                 let pid = pid.number();
                 write!(f, "call {pid} {number} {value}")
             }
-            Note::Blocked { pid, number } => {
-                let pid = pid.number();
-                write!(f, "block {pid} {number}")
-            }
-            Note::Exited { pid, status } => {
-                let pid = pid.number();
-                write!(f, "exit {pid} {status}")
-            }
-            Note::Faulted { pid, cause } => {
-                let pid = pid.number();
-                let code = cause.code();
-                write!(f, "fault {pid} {code}")
-            }
-            Note::Turn { pid } => {
-                let pid = pid.number();
-                write!(f, "turn {pid}")
-            }
-            Note::Idle => write!(f, "idle"),
-            Note::Ticked => write!(f, "tick"),
+            Note::Blocked { pid, number } => write_process_number(f, "block", pid, number),
+            Note::Exited { pid, status } => write_process_number(f, "exit", pid, status),
+            Note::Faulted { pid, cause } => write_process_number(
+                f,
+                "fault",
+                pid,
+                i32::from(cause.code()),
+            ),
+            Note::Turn { pid } => write_process(f, "turn", pid),
+            Note::Idle => f.write_str("idle"),
+            Note::Ticked => f.write_str("tick"),
             Note::Typed { key, echo } => write!(f, "key {key} {echo}"),
             Note::Sent(Some(byte)) => write!(f, "sent {byte}"),
-            Note::Sent(None) => write!(f, "sent none"),
-            Note::Halted => write!(f, "halted"),
+            Note::Sent(None) => f.write_str("sent none"),
+            Note::Halted => f.write_str("halted"),
         }
     }
 }
