@@ -84,6 +84,27 @@ impl Draft {
         assert!(rt; is_added, "memory");
     }
 
+    // Adds a program of this name, whose source stands below this place.
+    fn program<R: Abort + AllocGlobal>(
+        &mut self,
+        rt: &R,
+        place: &Place<'_>,
+        group: &str,
+        story: &str,
+        name: &str,
+    ) {
+        let source = source_below(rt, place, group, story);
+        let bytes = assemble(rt.alloc(), source.as_str()).expect(rt, place.story);
+        self.add(rt, name, bytes);
+    }
+
+    // Adds a program whose file is a text.
+    fn file<R: Abort + AllocGlobal>(&mut self, rt: &R, rest: &str) {
+        let (name, text) = first_word(rest);
+        let bytes = Vec::from_slice(rt.alloc(), text.as_bytes()).expect(rt, "memory");
+        self.add(rt, name, bytes);
+    }
+
     // Does with the file of the last program what a heading says.
     fn change<R: Abort>(&mut self, rt: &R, place: &Place<'_>, word: &str, rest: &str) {
         let Some(program) = self.programs.last_mut() else {
@@ -116,16 +137,8 @@ impl Draft {
         match word {
             "frames" => self.frames = place.short_number(rt, rest),
             "trace" => self.trace = place.short_number(rt, rest),
-            "program" => {
-                let source = source_below(rt, place, group, story);
-                let bytes = assemble(rt.alloc(), source.as_str()).expect(rt, place.story);
-                self.add(rt, rest, bytes);
-            }
-            "file" => {
-                let (name, text) = first_word(rest);
-                let bytes = Vec::from_slice(rt.alloc(), text.as_bytes()).expect(rt, "memory");
-                self.add(rt, name, bytes);
-            }
+            "program" => self.program(rt, place, group, story, rest),
+            "file" => self.file(rt, rest),
             "patch" | "cut" | "length" => self.change(rt, place, word, rest),
             "each" | "refused" | "events" | "calls" => {}
             _ => place.fail(rt, heading),

@@ -207,8 +207,37 @@ impl Scene {
         self.zeros_from(pid, address, place.number(rt, item.wanted))
     }
 
-    /// What is so, or what comes of an event, as an item wants to know.
-    pub(super) fn told<R: Abort + AllocGlobal>(
+    // What is so, where an item asks for that.
+    fn fact<R: Abort + AllocGlobal>(
+        &self,
+        rt: &R,
+        place: &Place<'_>,
+        item: &Item<'_>,
+    ) -> Option<String> {
+        let first = item.first;
+        let told = match item.word {
+            "note" => text_or_none(
+                rt,
+                &self.machine.trace(place.short_number(rt, first) as usize),
+            ),
+            "free" => text(rt, &self.machine.free_frames()),
+            "status" => text_or_none(rt, &self.machine.halted()),
+            "current" => text_or_none(rt, &self.current()),
+            "child" => self.child(
+                rt,
+                process(rt, place, first),
+                process(rt, place, item.second),
+            ),
+            "register" => text_or_none(rt, &self.register(rt, place, item)),
+            "bytes" => self.bytes(rt, place, process(rt, place, first), item.wanted),
+            "zeros" => text(rt, &self.zeros(rt, place, item)),
+            _ => return None,
+        };
+        Some(told)
+    }
+
+    // What comes of an event.
+    fn outcome<R: Abort + AllocGlobal>(
         &mut self,
         rt: &R,
         place: &Place<'_>,
@@ -226,22 +255,21 @@ impl Scene {
                 rt,
                 &self.machine.instructions(place.short_number(rt, first)),
             ),
-            "note" => text_or_none(
-                rt,
-                &self.machine.trace(place.short_number(rt, first) as usize),
-            ),
-            "free" => text(rt, &self.machine.free_frames()),
-            "status" => text_or_none(rt, &self.machine.halted()),
-            "current" => text_or_none(rt, &self.current()),
-            "child" => self.child(
-                rt,
-                process(rt, place, first),
-                process(rt, place, item.second),
-            ),
-            "register" => text_or_none(rt, &self.register(rt, place, item)),
-            "bytes" => self.bytes(rt, place, process(rt, place, first), item.wanted),
-            "zeros" => text(rt, &self.zeros(rt, place, item)),
             _ => self.next(rt, pace),
+        }
+    }
+
+    /// What is so, or what comes of an event, as an item wants to know.
+    pub(super) fn told<R: Abort + AllocGlobal>(
+        &mut self,
+        rt: &R,
+        place: &Place<'_>,
+        item: &Item<'_>,
+        pace: &Pace,
+    ) -> String {
+        match self.fact(rt, place, item) {
+            Some(told) => told,
+            None => self.outcome(rt, place, item, pace),
         }
     }
 

@@ -21,24 +21,20 @@ use super::telling::tell_all;
 // The first story that isn't as it was told is named by its message, and so is the line.
 #[test]
 fn stories_are_as_they_are_told(rt: HostRuntime) {
-    for stories in [
-        boots::STORIES,
-        calls::STORIES,
-        console::STORIES,
-        exec::STORIES,
-        faults::STORIES,
-        files::STORIES,
-        kills::STORIES,
-        lazy::STORIES,
-        memory::STORIES,
-        pipes::STORIES,
-        processes::STORIES,
-        refusals::STORIES,
-        refusals::A_NAME_WITH_A_ZERO_BYTE,
-        stretches::STORIES,
-        traces::STORIES,
-        waits::STORIES,
-    ] {
-        tell_all(&rt, stories);
-    }
+    tell_all(&rt, boots::STORIES);
+    tell_all(&rt, calls::STORIES);
+    tell_all(&rt, console::STORIES);
+    tell_all(&rt, exec::STORIES);
+    tell_all(&rt, faults::STORIES);
+    tell_all(&rt, files::STORIES);
+    tell_all(&rt, kills::STORIES);
+    tell_all(&rt, lazy::STORIES);
+    tell_all(&rt, memory::STORIES);
+    tell_all(&rt, pipes::STORIES);
+    tell_all(&rt, processes::STORIES);
+    tell_all(&rt, refusals::STORIES);
+    tell_all(&rt, refusals::A_NAME_WITH_A_ZERO_BYTE);
+    tell_all(&rt, stretches::STORIES);
+    tell_all(&rt, traces::STORIES);
+    tell_all(&rt, waits::STORIES);
 }

@@ -92,13 +92,19 @@ fn meet_refusal<R: Abort + AllocGlobal>(rt: &R, text: &str, error: BootError) {
     }
 }
 
+// Makes sure that a story wants a machine.
+fn meet_machine<R: Abort>(rt: &R, text: &str) {
+    if heading(text, "\nrefused ").is_some() {
+        panic!(rt; "{text}: the machine boots");
+    }
+}
+
 // Tells a story.
 fn tell_story<R: Abort + AllocGlobal>(rt: &R, group: &str, text: &str) {
     let story = first_line(text);
     match Scene::new(rt, draft(rt, group, story, text)) {
         Ok(mut scene) => {
-            let is_wanted = heading(text, "\nrefused ").is_none();
-            assert!(rt; is_wanted, "{text}: the machine boots");
+            meet_machine(rt, text);
             tell(rt, &mut scene, story, text);
         }
         Err(error) => meet_refusal(rt, text, error),
