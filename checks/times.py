@@ -13,8 +13,8 @@ import pathlib
 import sys
 
 TOP = pathlib.Path(__file__).resolve().parents[1]
-# Above so many seconds nothing was checked meanwhile: another run went on with what was there.
-PAUSE = 60
+# Above so many seconds nothing was checked meanwhile: another run went on with what was there. (One module has taken 100.)
+PAUSE = 300
 # The names that a function's modules end in.
 PARTS = {
     "Answers", "Carried", "Code", "Given", "Goals", "Invariants", "Key", "Kinds", "Layout", "Lts", "Met", "Mir", "Named",
