@@ -1,4 +1,4 @@
-use Rattle.std.proofs.Common.{◌≡◌, ◌+◌, ◌-◌, ◌<◌, sym, ap, ◌∙◌, subst, arith}
+use Rattle.std.proofs.Common.{◌≡◌, ◌+◌, ◌-◌, ◌<◌, sym, ap, ◌∙◌, subst, arith, rules}
 use Rattle.std.specs.FinMap.{get}
 use Rattle.sv39_core.specs.Tree.{pages_of}
 use Rattle.addr_space.specs.Changes.{zeroed, with_absent}
@@ -47,3 +47,6 @@ loop-number-preserved c =
 
 pub returns-clause-others : goal.returns-clause-others
 returns-clause-others c other s = spared _ _ _ _ _ _ other c.loop-number.invariant.changed.traded s
+
+pub returns-then-free-extra-clause-refused : goal.returns-then-free-extra-clause-refused
+returns-then-free-extra-clause-refused c = search rules

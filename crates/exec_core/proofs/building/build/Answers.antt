@@ -1,4 +1,4 @@
-use Rattle.std.proofs.Common.{◌≡◌, ◌+◌, ◌*◌, ◌≤◌, length, refl, sym, ap, ◌∙◌, subst, arith}
+use Rattle.std.proofs.Common.{◌≡◌, ◌+◌, ◌*◌, ◌≤◌, length, refl, sym, ap, ◌∙◌, subst, arith, rules}
 use Rattle.xk_base.specs.Image.{price}
 use Rattle.xk_base.specs.Loaded.{lowest, text_places}
 use Rattle.addr_space.specs.Space.{image_of}
@@ -133,3 +133,6 @@ lay_texts-requires-clause-room c =
     let i = c.plan.inside in
     let top = 4096 * (i.guard + 1 + 1) in
     subst (λ texts. 4096 * (i.guard + 1) ≤ lowest top (text_places top texts)) c.parts.ensures.texts (room-lowest i.file.now i.segments i.guard i.args.now i.start.sp c.plan.invariant)
+
+pub returns-clause-start : goal.returns-clause-start
+returns-clause-start c = search rules

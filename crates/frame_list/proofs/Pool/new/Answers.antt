@@ -1,4 +1,4 @@
-use Rattle.std.proofs.Common.{◌≡◌, inl, inr, sym, ap, ◌∙◌, arith}
+use Rattle.std.proofs.Common.{◌≡◌, inl, inr, sym, ap, ◌∙◌, arith, rules}
 use Rattle.std.proofs.lemmas.Bool.{cases_eq}
 use Rattle.xk_base.proofs.Frames.{at, at-same, at-other, copies-nil, copies-one}
 use Rattle.frame_list.specs.Pool.{free_in}
@@ -29,3 +29,9 @@ loop-number-preserved c =
       ];
       rest = λ f high. omega (arith, given.frames f, copies-nil f, copies-one f put, at-other f put (λ e. omega (arith, e, number, high)), was.rest f (omega (arith, high)));
     }
+
+pub returns-clause-good : goal.returns-clause-good
+returns-clause-good c = search rules
+
+pub returns-clause-all_free : goal.returns-clause-all_free
+returns-clause-all_free c = search rules

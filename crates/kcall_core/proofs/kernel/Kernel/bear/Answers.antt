@@ -1,4 +1,4 @@
-use Rattle.std.proofs.Common.{IsSome, refl, sym, subst, arith}
+use Rattle.std.proofs.Common.{IsSome, refl, sym, subst, arith, rules}
 use Rattle.std.proofs.lemmas.List.{length-map}
 use Rattle.kcall_core.specs.Memories.{each_of, held_in}
 use Rattle.kcall_core.proofs.table.States.{slot-inside}
@@ -24,3 +24,6 @@ fork_into-requires-clause-vacant c =
     let k = c.args.self.now in
     let free = slot-for k c.requires.sound.0 c.requires.sound.1 c.in_ok-place.place (sym c.in_ok-place.ensures.value) in
     (omega (arith, free.below, c.requires.sound.1.memories.slots, length-map k.memories.each.items (held_in k.memories.ram)), c.requires.sound.1.vacant c.in_ok-place.place free.vacant)
+
+pub returns-in_default-clause-refused : goal.returns-in_default-clause-refused
+returns-in_default-clause-refused c = search rules

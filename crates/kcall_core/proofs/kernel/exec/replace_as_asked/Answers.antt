@@ -35,3 +35,6 @@ returns-clause-started c =
       loaded_is = sym (ap (λ f. loaded f c.fetch_args.new.args) c.deref.ensures.value) ∙ sym c.plan.ensures ∙ c.in-Ok-plan.is;
     } in
     (l, a, c.in-Ok-replace.ensures.start, (loaded-fits a.program.bytes a.texts l a.loaded_is).0, c.in-Ok-replace.ensures.fits, c.in-Ok-replace.ensures.replaced, c.in-Ok-replace.ensures.runs)
+
+pub returns-in_default-replace-clause-refused : goal.returns-in_default-replace-clause-refused
+returns-in_default-replace-clause-refused c = search rules

@@ -1,4 +1,4 @@
-use Rattle.std.proofs.Common.{sym, ◌∙◌, None, subst}
+use Rattle.std.proofs.Common.{sym, ◌∙◌, None, subst, rules}
 use Rattle.kernel_spec.specs.runs.Run as runs
 use Rattle.kcall_core.specs.Machine.{world_of}
 use Rattle.kernel_spec.specs.waking.Wakes.{Promised}
@@ -68,3 +68,6 @@ returns-clause-promised c =
 pub returns-clause-frames : goal.returns-clause-frames
 returns-clause-frames c = count-is c.step-outcome.new.kernel ∙ c.step-outcome.ensures.made.frames
     ∙ now-frames c.self.inside.kernel c.self.inside.hart c.self.inside.halted c.self.inside.trace c.args.self.now c.self.view_is
+
+pub returns-in_default-clause-promised : goal.returns-in_default-clause-promised
+returns-in_default-clause-promised c = search rules

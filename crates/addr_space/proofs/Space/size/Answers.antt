@@ -1,0 +1,5 @@
+use Rattle.std.proofs.Common.{rules}
+use Rattle.addr_space.proofs.Space.size.Goals as goal
+
+pub returns : goal.returns
+returns c = search rules

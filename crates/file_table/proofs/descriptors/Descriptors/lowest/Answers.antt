@@ -1,0 +1,5 @@
+use Rattle.std.proofs.Common.{rules}
+use Rattle.file_table.proofs.descriptors.Descriptors.lowest.Goals as goal
+
+pub returns : goal.returns
+returns c = search rules

@@ -1,0 +1,5 @@
+use Rattle.std.proofs.Common.{rules}
+use Rattle.kcall_core.proofs.kernel.kill.asked_pid.Goals as goal
+
+pub returns : goal.returns
+returns c = search rules

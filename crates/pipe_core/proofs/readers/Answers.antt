@@ -1,0 +1,7 @@
+use Rattle.std.proofs.Common.{rules}
+use Rattle.pipe_core.specs.Pipe.{pipe_in}
+use Rattle.pipe_core.proofs.readers.Goals as goal
+
+pub returns-clause-value : goal.returns-clause-value
+unfolding pipe_in
+returns-clause-value c = search rules

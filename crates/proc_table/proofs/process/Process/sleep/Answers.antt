@@ -1,0 +1,5 @@
+use Rattle.std.proofs.Common.{rules}
+use Rattle.proc_table.proofs.process.Process.sleep.Goals as goal
+
+pub returns-in-Live : goal.returns-in-Live
+returns-in-Live c = search rules

@@ -1,0 +1,5 @@
+use Rattle.std.proofs.Common.{rules}
+use Rattle.proc_table.proofs.process.Process.wake.Goals as goal
+
+pub returns-then-sleeps_on : goal.returns-then-sleeps_on
+returns-then-sleeps_on c = search rules

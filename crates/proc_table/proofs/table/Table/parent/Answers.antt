@@ -1,0 +1,5 @@
+use Rattle.std.proofs.Common.{rules}
+use Rattle.proc_table.proofs.table.Table.parent.Goals as goal
+
+pub returns : goal.returns
+returns c = search rules

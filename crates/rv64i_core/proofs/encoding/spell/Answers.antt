@@ -1,0 +1,5 @@
+use Rattle.std.proofs.Common.{rules}
+use Rattle.rv64i_core.proofs.encoding.spell.Goals as goal
+
+pub returns-in-Ecall-clause-word : goal.returns-in-Ecall-clause-word
+returns-in-Ecall-clause-word c = search rules

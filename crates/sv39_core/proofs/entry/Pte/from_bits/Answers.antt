@@ -1,0 +1,5 @@
+use Rattle.std.proofs.Common.{rules}
+use Rattle.sv39_core.proofs.entry.Pte.from_bits.Goals as goal
+
+pub returns : goal.returns
+returns c = search rules

@@ -1,0 +1,5 @@
+use Rattle.std.proofs.Common.{rules}
+use Rattle.sv39_core.proofs.walking.walk.Goals as goal
+
+pub returns-clause-walked : goal.returns-clause-walked
+returns-clause-walked c = search rules

@@ -1,0 +1,5 @@
+use Rattle.std.proofs.Common.{rules}
+use Rattle.user_copy.proofs.rights_of.Goals as goal
+
+pub returns-in-Zeros : goal.returns-in-Zeros
+returns-in-Zeros c = search rules

@@ -1,0 +1,5 @@
+use Rattle.std.proofs.Common.{rules}
+use Rattle.xv_session.proofs.history.History.make_room.Goals as goal
+
+pub returns-clause-next : goal.returns-clause-next
+returns-clause-next c = search rules
