@@ -1,7 +1,7 @@
 //! What stands beside the FILEs for debuggers: symbols, and a table of lines.
 use crate::command_line::Settings;
 use crate::failure::Failure;
-use debug_files::symbols_beside;
+use program_files::symbols_beside;
 use std::fs;
 use std::io::ErrorKind;
 use std::rt::Files;

@@ -1,5 +1,6 @@
 //! What programs here that take FILEs have in common: the words of a command line, the programs that the FILEs hold,
-//! why no machine runs them, and how a run of them ends.
+//! why no machine runs them, and how a run of them ends. [`symbols_beside`] gives what stands beside the FILEs for
+//! debuggers: their symbols.
 #![tactic(auto)]
 
 mod arguments;
@@ -10,6 +11,7 @@ mod files;
 mod given;
 mod options;
 mod refusal;
+mod symbols;
 
 pub use arguments::{WordsError, words};
 pub use command_line::{CommandLine, CommandWord};
@@ -19,3 +21,4 @@ pub use files::{program, programs};
 pub use given::{Given, given_words, host_words};
 pub use options::{FRAMES, NumberOption, QUANTUM, ROUNDS, TRACE};
 pub use refusal::FileRefusal;
+pub use symbols::symbols_beside;

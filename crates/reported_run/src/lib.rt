@@ -17,9 +17,8 @@ mod watching;
 use crate::running::run_with;
 use crate::teller::Teller;
 pub use command_line::settings;
-use debug_files::symbols_beside;
 pub use line::Settings;
-use program_files::{Failure, programs};
+use program_files::{Failure, programs, symbols_beside};
 use std::rt::Env;
 use xv_machine::{Config, Counted, RunPlan};
 

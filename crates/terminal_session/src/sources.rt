@@ -1,7 +1,7 @@
 //! What stands beside the FILEs for debuggers: symbols, and a table of lines.
 use crate::line::Settings;
 use crate::refusal::Refusal;
-use debug_files::symbols_beside;
+use program_files::symbols_beside;
 use std::fs;
 use std::io::ErrorKind;
 use xv_debug::{Lines, Sources};

@@ -1,5 +1,5 @@
 use Rattle.std.proofs.Common.{◌≡◌, length}
-use Rattle.debug_files.proofs.symbols_beside.Given as goal
+use Rattle.program_files.proofs.symbols.symbols_beside.Given as goal
 
 -- one for each path so far
 abbrev pub invariant-loop-path : goal.invariant-loop-path

@@ -1,6 +1,4 @@
 //! What stands beside the files of programs for debuggers: their symbols.
-#![tactic(auto)]
-
 ghost use Rattle.std.specs.Prelude.{◌≡◌, IfOk, length};
 
 use std::alloc::{AllocError, Global};
