@@ -1,2 +1,4 @@
+pub mod Telling
+pub mod Going
 pub mod Making
 pub mod Collecting

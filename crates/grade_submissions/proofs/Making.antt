@@ -2,8 +2,6 @@
 use Rattle.std.proofs.Common.{◌≡◌, ◌∙◌, ℕ, ◌-◌, ◌^◌, ◌≤◌, List, Option, Result, Ok, inl, sym, ap, subst, arith}
 use Rattle.std.specs.Prelude.{min}
 use Rattle.std.specs.Io.KnownBytes.{Appends}
-use Rattle.grade_runs.specs.declared.playing.Played.{Played}
-use Rattle.grade_runs.specs.Plays.{IsRunOf, IsPlayed}
 use Rattle.grade_sheets.specs.declared.exercise.Exercise.{Exercise}
 use Rattle.grade_sheets.specs.declared.exercise.Run.{Run}
 use Rattle.grade_sheets.specs.declared.grade.Grade.{Grade}
@@ -13,6 +11,8 @@ use Rattle.grade_sheets.specs.Records.{line_of}
 use Rattle.grade_sheets.specs.Standings.{first_standing}
 use Rattle.kernel_spec.specs.views.State.{ProgramFile}
 use Rattle.xk_base.specs.declared.errors.BootError.{BootError}
+use Rattle.grade_submissions.specs.declared.playing.Played.{Played}
+use Rattle.grade_submissions.specs.Plays.{IsRunOf, IsPlayed}
 use Rattle.grade_submissions.specs.declared.grading.TheConstants.{TRACE}
 use Rattle.grade_submissions.specs.Results.{most_of, IsGradeOf, IsResultOf, AreResultsOf, IsWholeGrade, IsLineShown}
 

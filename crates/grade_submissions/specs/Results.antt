@@ -1,8 +1,6 @@
 -- What a submission gives, told of its runs on the machine.
 use Rattle.std.specs.Prelude.{◌≡◌, ◌⊎◌, ◌+◌, ℕ, List, [], ◌∷◌, ◌-◌, ◌^◌, min, Option}
 use Rattle.std.specs.Io.KnownBytes.{Appends}
-use Rattle.grade_runs.specs.declared.playing.Played.{Played}
-use Rattle.grade_runs.specs.Plays.{IsRunOf, told_of, end_of}
 use Rattle.grade_sheets.specs.declared.exercise.Exercise.{Exercise}
 use Rattle.grade_sheets.specs.declared.exercise.Run.{Run}
 use Rattle.grade_sheets.specs.declared.grade.Grade.{Grade}
@@ -12,6 +10,8 @@ use Rattle.grade_sheets.specs.Points.{points_of_runs, points_of_exercise}
 use Rattle.grade_sheets.specs.Records.{line_of}
 use Rattle.grade_sheets.specs.Standings.{IsGraded, IsUngraded, first_standing}
 use Rattle.kernel_spec.specs.views.State.{ProgramFile}
+use Rattle.grade_submissions.specs.declared.playing.Played.{Played}
+use Rattle.grade_submissions.specs.Plays.{IsRunOf, told_of, end_of}
 use Rattle.grade_submissions.specs.declared.grading.TheConstants.{TRACE}
 
 -- The most Runs of a run: a round that has begun is played to its end

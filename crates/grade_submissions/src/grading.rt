@@ -6,11 +6,11 @@ ghost use Rattle.grade_submissions.specs.Results.{most_of, IsSeenOf, IsGradeOf, 
 use crate::command_line::Settings;
 use crate::exercise_file::read_exercise;
 use crate::host_files::{bytes_of, folder_of, last_part, text_of};
+use crate::playing::{Plan, Played, play};
 use crate::reasons::cause;
 use crate::refusal::Refusal;
 use crate::results::{write_result, write_run};
 use crate::submission::{HandedIn, Submission, handed_in};
-use grade_runs::{Plan, Played, play};
 use grade_sheets::{Exercise, Grade, Run, RunGrade, Seen, csv_line, graded, ungraded, xml_suite};
 use std::alloc::{AllocError, Global};
 use std::io::Write;

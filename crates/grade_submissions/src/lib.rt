@@ -1,11 +1,16 @@
 //! Grades what a student handed in: runs it on the machine, and asks of the run what the exercise asks. The program that
 //! does it is `xv_grade`.
+//!
+//! `play` of `playing.rt` boots a machine and plays rounds of events up to a bound. It keeps a note of each turn, call,
+//! sleep, exit and fault, and the bytes that the console showed. That these are the notes and the bytes of just the
+//! events that the machine got, and how many Runs there are at most, is `IsRunOf` in `specs/Plays.antt`.
 #![tactic(auto)]
 
 mod command_line;
 mod exercise_file;
 mod grading;
 mod host_files;
+mod playing;
 mod reasons;
 mod refusal;
 mod results;

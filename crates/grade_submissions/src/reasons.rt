@@ -1,8 +1,8 @@
 //! What a run came to that isn't an exit, in a student's words.
+use crate::playing::{NOTES_MAX, Played, SHOWN_MAX};
 use crate::refusal::Refusal;
 use crate::source::line_at;
 use crate::submission::Submission;
-use grade_runs::{NOTES_MAX, Played, SHOWN_MAX};
 use grade_sheets::{Grouped, Standing};
 use std::alloc::{AllocError, Global};
 use xk_base::Pid;

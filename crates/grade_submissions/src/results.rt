@@ -2,9 +2,9 @@
 ghost use Rattle.std.specs.Prelude.{◌<◌, length};
 
 use crate::command_line::Settings;
+use crate::playing::Played;
 use crate::refusal::Refusal;
 use grade_rules::Note;
-use grade_runs::Played;
 use std::alloc::{AllocError, Global};
 use std::fs;
 use std::rt::Files;

@@ -1,5 +1,5 @@
-use Rattle.grade_runs.proofs.Going.{plays-join}
-use Rattle.grade_runs.proofs.playing.Played.play_round.Goals as goal
+use Rattle.grade_submissions.proofs.Going.{plays-join}
+use Rattle.grade_submissions.proofs.playing.Played.play_round.Goals as goal
 
 pub returns-clause-plays : goal.returns-clause-plays
 returns-clause-plays c =

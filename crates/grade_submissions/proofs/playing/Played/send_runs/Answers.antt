@@ -1,6 +1,6 @@
 use Rattle.std.proofs.Common.{arith}
-use Rattle.grade_runs.proofs.Going.{plays-none, plays-join}
-use Rattle.grade_runs.proofs.playing.Played.send_runs.Goals as goal
+use Rattle.grade_submissions.proofs.Going.{plays-none, plays-join}
+use Rattle.grade_submissions.proofs.playing.Played.send_runs.Goals as goal
 
 pub runs-init : goal.runs-init
 runs-init c = record { plays = plays-none c.args.self.now; few = omega arith }

@@ -1,6 +1,6 @@
 use Rattle.std.proofs.Common.{◌*◌, ◌≤◌}
-use Rattle.grade_runs.specs.Plays.{PlaysOn}
-use Rattle.grade_runs.proofs.playing.play.Given as goal
+use Rattle.grade_submissions.specs.Plays.{PlaysOn}
+use Rattle.grade_submissions.proofs.playing.play.Given as goal
 
 abbrev pub invariant-loop-round : goal.invariant-loop-round
 invariant-loop-round l = record {

@@ -2,9 +2,9 @@ use Rattle.std.proofs.Common.{◌≡◌, ◌*◌, [], map, sym, ap, subst, arith
 use Rattle.kernel_spec.specs.views.State.{named_file}
 use Rattle.xv_machine.specs.Reached.{IsReached}
 use Rattle.xv_session.specs.Recorded.{Recorded}
-use Rattle.grade_runs.specs.Plays.{Told}
-use Rattle.grade_runs.proofs.Going.{plays-none, plays-join, booted-reached, run-of, within-plan}
-use Rattle.grade_runs.proofs.playing.play.Goals as goal
+use Rattle.grade_submissions.specs.Plays.{Told}
+use Rattle.grade_submissions.proofs.Going.{plays-none, plays-join, booted-reached, run-of, within-plan}
+use Rattle.grade_submissions.proofs.playing.play.Goals as goal
 
 pub loop-round-init : goal.loop-round-init
 loop-round-init c =

@@ -11,9 +11,9 @@ use Rattle.kernel_spec.specs.views.State.{ProgramFile}
 use Rattle.xk_base.specs.Access.{code_of}
 use Rattle.xk_base.specs.declared.errors.BootError.{BootError}
 use Rattle.xv_machine.specs.Reached.{IsReached}
-use Rattle.grade_runs.specs.declared.playing.TheConstants.{NOTES_MAX, SHOWN_MAX}
-use Rattle.grade_runs.specs.declared.playing.Kept.{Kept}
-use Rattle.grade_runs.specs.declared.playing.Played.{Played}
+use Rattle.grade_submissions.specs.declared.playing.TheConstants.{NOTES_MAX, SHOWN_MAX}
+use Rattle.grade_submissions.specs.declared.playing.Kept.{Kept}
+use Rattle.grade_submissions.specs.declared.playing.Played.{Played}
 
 -- ---- notes
 

@@ -1,6 +1,6 @@
 use Rattle.std.proofs.Common.{refl, ◌∙◌}
-use Rattle.grade_runs.proofs.Going.{plays-none, plays-join}
-use Rattle.grade_runs.proofs.playing.Played.send_bytes.Goals as goal
+use Rattle.grade_submissions.proofs.Going.{plays-none, plays-join}
+use Rattle.grade_submissions.proofs.playing.Played.send_bytes.Goals as goal
 
 pub sends-init : goal.sends-init
 sends-init c = record { plays = plays-none c.args.self.now; same = refl }

@@ -1,6 +1,6 @@
 use Rattle.xv_machine.specs.Events.{event_of, outcome_of}
-use Rattle.grade_runs.proofs.Going.{plays-event}
-use Rattle.grade_runs.proofs.playing.Played.show.Goals as goal
+use Rattle.grade_submissions.proofs.Going.{plays-event}
+use Rattle.grade_submissions.proofs.playing.Played.show.Goals as goal
 
 pub returns-clause-plays : goal.returns-clause-plays
 returns-clause-plays c =

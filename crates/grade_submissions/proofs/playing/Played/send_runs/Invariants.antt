@@ -1,6 +1,6 @@
 use Rattle.std.proofs.Common.{◌+◌, ◌≤◌}
-use Rattle.grade_runs.specs.Plays.{PlaysOn}
-use Rattle.grade_runs.proofs.playing.Played.send_runs.Given as goal
+use Rattle.grade_submissions.specs.Plays.{PlaysOn}
+use Rattle.grade_submissions.proofs.playing.Played.send_runs.Given as goal
 
 abbrev pub invariant-runs : goal.invariant-runs
 invariant-runs l = record {

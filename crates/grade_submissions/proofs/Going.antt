@@ -9,9 +9,9 @@ use Rattle.xv_machine.proofs.Joins.{goes-one}
 use Rattle.xv_machine.proofs.Reached.{reaches_on}
 use Rattle.xv_session.specs.Answers.{IsNew, Sent, RunsSent}
 use Rattle.xv_session.specs.Recorded.{Recorded, IsRecorded}
-use Rattle.grade_runs.specs.Plays.{Told, nothing, runs_in, told_of, told_with, told_by, told_runs, PlaysOn, IsRunOf}
-use Rattle.grade_runs.specs.declared.playing.Played.{Played}
-use Rattle.grade_runs.proofs.Telling.{told-join, told-notes, told-shown, runs-told}
+use Rattle.grade_submissions.specs.Plays.{Told, nothing, runs_in, told_of, told_with, told_by, told_runs, PlaysOn, IsRunOf}
+use Rattle.grade_submissions.specs.declared.playing.Played.{Played}
+use Rattle.grade_submissions.proofs.Telling.{told-join, told-notes, told-shown, runs-told}
 
 pub plays-none : (p : Played) → PlaysOn p p
 plays-none p = record {

@@ -1,7 +1,7 @@
 use Rattle.std.specs.Prelude.{option_map}
 use Rattle.xv_machine.specs.Events.{outcome_of}
-use Rattle.grade_runs.proofs.Going.{plays-runs}
-use Rattle.grade_runs.proofs.playing.Played.run.Goals as goal
+use Rattle.grade_submissions.proofs.Going.{plays-runs}
+use Rattle.grade_submissions.proofs.playing.Played.run.Goals as goal
 
 pub returns-clause-plays : goal.returns-clause-plays
 returns-clause-plays c =

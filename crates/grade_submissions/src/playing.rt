@@ -3,7 +3,7 @@ ghost use Rattle.std.specs.Prelude.{◌≡◌, ◌+◌, ◌*◌, ◌<◌, ◌≤
 ghost use Rattle.kernel_spec.specs.views.State.{named_file};
 ghost use Rattle.xv_machine.specs.Events.{event_of, outcome_of};
 ghost use Rattle.xv_session.specs.Recorded.{IsRecorded};
-ghost use Rattle.grade_runs.specs.Plays.{note_of, all_of, nothing, runs_in, told_of, told_with, told_runs, last_after, idle_after, PlaysOn, IsPlayed, end_of};
+ghost use Rattle.grade_submissions.specs.Plays.{note_of, all_of, nothing, runs_in, told_of, told_with, told_runs, last_after, idle_after, PlaysOn, IsPlayed, end_of};
 
 use grade_rules::{End, Note};
 use std::alloc::Global;

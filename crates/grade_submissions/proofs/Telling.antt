@@ -7,7 +7,7 @@ use Rattle.kernel_spec.specs.runs.Rounds.{events}
 use Rattle.kernel_spec.specs.steps.Own.{Stepped}
 use Rattle.xv_machine.specs.Drives.{done_by}
 use Rattle.xv_session.specs.Steps.{AreRunsTo}
-use Rattle.grade_runs.specs.Plays.{Told, is_idle, idle_after, notes_of, told_with, told_by, told_runs}
+use Rattle.grade_submissions.specs.Plays.{Told, is_idle, idle_after, notes_of, told_with, told_by, told_runs}
 
 pub idle_none : (before : Bool) (sent : ℕ) (o : Outcome) → sent ≡ 0 → idle_after before sent o ≡ before
 idle_none before zero o none = refl
