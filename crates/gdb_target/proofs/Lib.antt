@@ -1,2 +1,4 @@
+pub mod Below
+pub mod Turning
 pub mod PlayedOn
 pub mod Sending

@@ -4,8 +4,8 @@ use Rattle.std.specs.Prelude.{replicate, Result, Ok, Err, IfOk, IfErr, true}
 use Rattle.std.proofs.lemmas.List.{length-replicate, length-take}
 use Rattle.kernel_spec.specs.runs.Run.{Event, Run, Tick, Key, Send}
 use Rattle.gdb_target.specs.PlayedBy.{is_run}
-use Rattle.gdb_machine.specs.Rounds.{event_at, first_events}
-use Rattle.gdb_machine.proofs.Turning.{first-of-first, more-of-one-kind}
+use Rattle.gdb_target.specs.Rounds.{event_at, first_events}
+use Rattle.gdb_target.proofs.Turning.{first-of-first, more-of-one-kind}
 
 -- what holds of each outcome holds
 pub after_result : {A E : Type 0} (r : Result A E) {P : A → Type 0} {Q : E → Type 0} (C : Type 0) → IfOk r P → IfErr r Q → ((a : A) → P a → C) → ((e : E) → Q e → C) → C

@@ -1,3 +1,5 @@
+pub mod Rounds
+pub mod Seen
 pub mod PlayedBy
 pub mod SameRun
 pub mod Standing

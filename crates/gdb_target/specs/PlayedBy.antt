@@ -2,8 +2,8 @@
 use Rattle.std.specs.Prelude.{◌≡◌, length, Bool, true, false}
 use Rattle.kernel_spec.specs.runs.Run.{Event, Run, Tick, Key, Send}
 use Rattle.xv_session.specs.Recorded.{Recorded}
-use Rattle.gdb_machine.specs.Rounds.{first_events}
-use Rattle.gdb_machine.specs.declared.rounds.Rounds.{Rounds}
+use Rattle.gdb_target.specs.Rounds.{first_events}
+use Rattle.gdb_target.specs.declared.rounds.Rounds.{Rounds}
 
 -- the session's machine has got the first events of the rounds: as many as it has got
 abbrev pub IsPlayedBy : Rounds → Recorded → Type 0

@@ -7,7 +7,7 @@ use Rattle.kcall_core.specs.Observers.{process_at, registers_of}
 use Rattle.kcall_core.specs.declared.kernel.observers.ProcessState.{ProcessState}
 use Rattle.kcall_core.specs.declared.kernel.observers.ProcessState.TheVariants.{Live, Zombie}
 use Rattle.xv_session.specs.Names.{place_in}
-use Rattle.gdb_machine.specs.Rounds.{event_at}
+use Rattle.gdb_target.specs.Rounds.{event_at}
 use Rattle.gdb_target.specs.declared.played.Played.{Played}
 
 -- a process that is what this says does an instruction when it runs: it lives, is in no kernel call, and isn't to be killed

@@ -12,7 +12,7 @@ use Rattle.gdb_packets.specs.declared.command.Command.TheVariants as on
 use Rattle.gdb_packets.specs.declared.command.Thread.{Thread}
 use Rattle.gdb_packets.specs.declared.command.Thread.TheVariants.{All, Any, One}
 use Rattle.gdb_packets.specs.declared.query.Document.TheVariants.{File}
-use Rattle.gdb_machine.specs.Seen.{held, bytes_below, AreTheBytes, AreLive, AreAllLive, IsNoThread}
+use Rattle.gdb_target.specs.Seen.{held, bytes_below, AreTheBytes, AreLive, AreAllLive, IsNoThread}
 use Rattle.gdb_target.specs.declared.target.Target.{Target}
 
 -- the state of the machine

@@ -5,10 +5,11 @@ ghost use Rattle.gdb_packets.specs.Answers.{refusal};
 ghost use Rattle.gdb_target.specs.Told as meant;
 
 use crate::documents::REGISTERS;
+use crate::memory::{memory_bytes, register, register_bytes};
 use crate::points::WATCHED_MOST;
 use crate::target::Target;
+use crate::threads::{is_live, live_process, processes};
 use crate::words::described;
-use gdb_machine::{is_live, live_process, memory_bytes, processes, register, register_bytes};
 use gdb_packets::{
     Command, Document, Point, Thread, current_thread, hex_bytes, part, refusal, stop_reply,
     thread_list,

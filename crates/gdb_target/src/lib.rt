@@ -4,19 +4,27 @@
 //! [`Target`] has such a run, and what GDB has chosen of it. [`Target::answer`] answers each command that leaves the
 //! machine where it is; [`Target::go`] goes on, and [`Target::go_back`] goes back. What an answer tells of the
 //! machine stands in `specs/Told.antt`, and which events the machine has got in `specs/PlayedBy.antt`.
+//!
+//! What is told of registers, memory and processes is read by `memory.rt` and `threads.rt`: it stands in
+//! `specs/Seen.antt`. The events of [`Rounds`], one at each place of a run, stand in `specs/Rounds.antt`.
 #![tactic(auto)]
 
 mod answers;
 mod documents;
+pub mod laws;
+mod memory;
 mod places;
 mod played;
 mod points;
 mod reverse;
+mod rounds;
 mod target;
+mod threads;
 mod words;
 
 pub use answers::{malformed, no_such_process};
 pub use played::Played;
 pub use points::{Points, Watched};
 pub use reverse::Back;
+pub use rounds::{Next, Rounds};
 pub use target::{Going, Pause, Stopped, Target, Until};

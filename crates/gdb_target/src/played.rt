@@ -2,10 +2,10 @@
 ghost use Rattle.std.specs.Prelude.{◌≡◌, ℕ, ◌+◌, ◌≤◌, ◌<◌, IfOk, IfErr, length, min};
 ghost use Rattle.kernel_spec.specs.runs.Run as runs;
 ghost use Rattle.xv_machine.specs.Events.{event_of};
-ghost use Rattle.gdb_machine.specs.Rounds.{event_at};
+ghost use Rattle.gdb_target.specs.Rounds.{event_at};
 ghost use Rattle.gdb_target.specs.PlayedBy.{IsPlayedBy, is_run};
 
-use gdb_machine::{Next, Rounds};
+use crate::rounds::{Next, Rounds};
 use std::alloc::Global;
 use xk_base::{BootError, Program};
 use xv_machine::{Config, Event, Machine, Outcome};

@@ -6,7 +6,7 @@ ghost use Rattle.gdb_target.specs.Standing.{NextIsRun};
 use crate::places::{at_breakpoint, changed, watched_now};
 use crate::played::{Played, is_run};
 use crate::points::Points;
-use gdb_machine::live_or_other;
+use crate::threads::live_or_other;
 use gdb_packets::{Stop, StopReason};
 use std::alloc::Global;
 use xk_base::{Cause, Pid};

@@ -1,5 +1,5 @@
 use Rattle.std.proofs.Common.{◌≡◌, ◌∙◌, ℕ, ◌+◌, length, sym, ap, arith}
-use Rattle.gdb_machine.specs.Rounds.{event_at}
+use Rattle.gdb_target.specs.Rounds.{event_at}
 use Rattle.gdb_target.proofs.played.Played.next.Goals as goal
 
 pub returns-clause-event : goal.returns-clause-event

@@ -1,6 +1,6 @@
 //! Registers and memory, as GDB asks for them.
 ghost use Rattle.std.specs.Prelude.{◌≡◌, ◌++◌, IfOk, OnOk};
-ghost use Rattle.gdb_machine.specs.Seen.{held, word_bytes, bytes_below, AreTheBytes};
+ghost use Rattle.gdb_target.specs.Seen.{held, word_bytes, bytes_below, AreTheBytes};
 
 use rv64i_core::Regs;
 use std::alloc::{AllocError, Global};
@@ -17,7 +17,7 @@ const PC: u64 = 32;
 const MEMORY_MOST: u64 = 1024;
 
 /// What the register of this number holds; `None` where there is no such register.
-pub fn register(regs: &Regs, number: u64) -> Option<u64>
+pub(crate) fn register(regs: &Regs, number: u64) -> Option<u64>
     ensures { result ≡ held regs.now number }
 {
     if number == PC {
@@ -45,7 +45,7 @@ fn push_register(bytes: &mut Vec<u8>, regs: &Regs, number: u64) -> Result<(), Al
 ///
 /// [`AllocError`] if the host has too little memory.
 #[tactic(auto, using(crate::proofs::Below::below_next))]
-pub fn register_bytes(alloc: Global, regs: &Regs) -> Result<Vec<u8>, AllocError>
+pub(crate) fn register_bytes(alloc: Global, regs: &Regs) -> Result<Vec<u8>, AllocError>
     ensures { IfOk result (λ bytes. bytes.items ≡ bytes_below regs.now 33) }
 {
     let mut bytes = Vec::new(alloc);
@@ -61,7 +61,7 @@ pub fn register_bytes(alloc: Global, regs: &Regs) -> Result<Vec<u8>, AllocError>
 /// # Errors
 ///
 /// [`AllocError`] if the host has too little memory.
-pub fn memory_bytes(
+pub(crate) fn memory_bytes(
     alloc: Global,
     machine: &Machine,
     pid: Pid,

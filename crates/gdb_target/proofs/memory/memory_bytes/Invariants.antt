@@ -1,6 +1,6 @@
 use Rattle.std.proofs.Common.{◌≡◌, ℕ, ◌+◌, ◌%◌, ◌^◌, ◌<◌, length, get_or, Some}
 use Rattle.kcall_core.specs.Observers.{byte_at}
-use Rattle.gdb_machine.proofs.memory.memory_bytes.Given as goal
+use Rattle.gdb_target.proofs.memory.memory_bytes.Given as goal
 
 abbrev pub invariant-loop-place : goal.invariant-loop-place
 invariant-loop-place l =

@@ -1,5 +1,5 @@
 //! What holds of the events of a run.
-ghost use Rattle.gdb_machine.specs.Rounds.{FirstOfFirst, MoreOfOneKind};
+ghost use Rattle.gdb_target.specs.Rounds.{FirstOfFirst, MoreOfOneKind};
 
 /// The first events of a run's first events are its first events.
 pub fn first_of_first()

@@ -7,7 +7,7 @@ use Rattle.std.proofs.Math.Nat.{mul-le-mul_right}
 use Rattle.std.proofs.lemmas.List.{take-append-le, take_all, replicate-append-replicate}
 use Rattle.std.proofs.lemmas.Nat.{div-mul-add, mod-mul-add, div-add-mod', le-div}
 use Rattle.kernel_spec.specs.runs.Run.{Event}
-use Rattle.gdb_machine.specs.Rounds.{behind_key, event_at, first_events, FirstOfFirst, MoreOfOneKind}
+use Rattle.gdb_target.specs.Rounds.{behind_key, event_at, first_events, FirstOfFirst, MoreOfOneKind}
 
 -- ---- the same round
 

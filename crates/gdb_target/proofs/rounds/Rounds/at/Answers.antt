@@ -1,7 +1,7 @@
 use Rattle.std.proofs.Common.{◌≡◌, length, arith}
 use Rattle.std.proofs.lemmas.Nat.{mod_below}
-use Rattle.gdb_machine.proofs.Turning.{unkeyed-goes, keyed-goes, inside-unkeyed, inside-keyed}
-use Rattle.gdb_machine.proofs.rounds.Rounds.at.Goals as goal
+use Rattle.gdb_target.proofs.Turning.{unkeyed-goes, keyed-goes, inside-unkeyed, inside-keyed}
+use Rattle.gdb_target.proofs.rounds.Rounds.at.Goals as goal
 
 pub returns-then-round-keys-clause-equal : goal.returns-then-round-keys-clause-equal
 returns-then-round-keys-clause-equal c = λ k h.

@@ -2,7 +2,7 @@
 ghost use Rattle.std.specs.Prelude.{◌≡◌, ◌+◌, Some, is_some, IsSome, IfOk, IfSome, IfNone, OnOk};
 ghost use Rattle.kernel_spec.specs.views.State.{live};
 ghost use Rattle.xv_machine.specs.Sound.{IsSoundMachine};
-ghost use Rattle.gdb_machine.specs.Seen.{AreLive, AreAllLive, AreLiveBelow, IsNoThread};
+ghost use Rattle.gdb_target.specs.Seen.{AreLive, AreAllLive, AreLiveBelow, IsNoThread};
 
 use std::alloc::{AllocError, Global};
 use xk_base::Pid;
@@ -10,14 +10,14 @@ use xk_base::limits::{NPROC, PID_MAX};
 use xv_machine::Machine;
 
 /// Whether a process of this pid lives.
-pub fn is_live(machine: &Machine, pid: Pid) -> bool
+pub(crate) fn is_live(machine: &Machine, pid: Pid) -> bool
     ensures { result ≡ is_some (live machine.now.world.state pid) }
 {
     machine.registers(pid).is_some()
 }
 
 /// The live process of a thread's number; `None` where no live process has it.
-pub fn live_process(machine: &Machine, thread: u64) -> Option<Pid>
+pub(crate) fn live_process(machine: &Machine, thread: u64) -> Option<Pid>
     ensures number { IfSome result (λ pid. pid ≡ thread) }
     ensures lives { IfSome result (λ pid. IsSome (live machine.now.world.state pid)) }
     ensures none { IfNone result (IsNoThread machine.now.world.state thread) }
@@ -44,7 +44,7 @@ fn live_in(machine: &Machine, slot: usize) -> Option<Pid>
 }
 
 /// This process, if it lives, or else one that does; `None` where none is found.
-pub fn live_or_other(machine: &Machine, pid: Pid) -> Option<Pid>
+pub(crate) fn live_or_other(machine: &Machine, pid: Pid) -> Option<Pid>
     ensures lives { IfSome result (λ found. IsSome (live machine.now.world.state found)) }
     ensures first { IsSome (live machine.now.world.state pid) → result ≡ Some pid }
 {
@@ -79,7 +79,7 @@ fn push_live(list: &mut Vec<u64>, machine: &Machine, slot: usize) -> Result<(), 
 /// # Errors
 ///
 /// [`AllocError`] if the host has too little memory.
-pub fn processes(alloc: Global, machine: &Machine) -> Result<Vec<u64>, AllocError>
+pub(crate) fn processes(alloc: Global, machine: &Machine) -> Result<Vec<u64>, AllocError>
     ensures live { IfOk result (λ list. AreLive machine.now.world.state list.items) }
     ensures all { IfOk result (λ list. AreAllLive machine.now.world.state list.items) }
 {

@@ -1,6 +1,6 @@
 //! Which events the machine gets.
 ghost use Rattle.std.specs.Prelude.{◌≡◌, ◌+◌, ◌<◌, ℕ};
-ghost use Rattle.gdb_machine.specs.Rounds.{behind_key, event_at};
+ghost use Rattle.gdb_target.specs.Rounds.{behind_key, event_at};
 ghost use Rattle.xv_machine.specs.Events.{event_of};
 
 use xv_machine::Event;
@@ -59,7 +59,7 @@ impl Rounds {
 
     /// What comes at a place of the run, 0 is the first event's, and how many equal events follow one another from
     /// there on.
-    pub fn at(&self, place: u64) -> Next
+    pub(crate) fn at(&self, place: u64) -> Next
         ensures equal { (k : ℕ) → k < result.count → event_at self.now.keys.items self.now.quantum (place + k) ≡ event_of result.event }
         ensures some { 0 < result.count }
     {

@@ -1,2 +1,0 @@
-pub mod Below
-pub mod Turning

@@ -1,5 +1,0 @@
-use Rattle.gdb_machine.proofs.Turning.{first-of-first}
-use Rattle.gdb_machine.proofs.laws.first_of_first.Goals as goal
-
-pub returns : goal.returns
-returns c = first-of-first

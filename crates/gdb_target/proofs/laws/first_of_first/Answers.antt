@@ -1,0 +1,5 @@
+use Rattle.gdb_target.proofs.Turning.{first-of-first}
+use Rattle.gdb_target.proofs.laws.first_of_first.Goals as goal
+
+pub returns : goal.returns
+returns c = first-of-first
