@@ -14,16 +14,16 @@ use Rattle.debug_words.specs.declared.vocabulary.Goal.TheVariants.{Call, Pc, Sto
 use Rattle.debug_words.specs.declared.vocabulary.Word as words
 use Rattle.debug_words.specs.declared.vocabulary.Word.TheVariants.{Step, Next, Back, Until, Run, Tick, Key, Send, Continue, Quit}
 use Rattle.debug_words.specs.Ranges.{IsInRange}
-use Rattle.debug_motion.specs.Aims.{aim_in}
-use Rattle.debug_motion.specs.Effects.{AddsRuns}
-use Rattle.debug_motion.specs.Ran.{Ran}
-use Rattle.debug_motion.specs.Reaching.{Reaches, IsRefusal, meets_aim}
-use Rattle.debug_motion.specs.Resting.{RestsIf}
-use Rattle.debug_motion.specs.Rounds.{RoundsLeave}
-use Rattle.debug_motion.specs.Sent.{Sends}
-use Rattle.debug_motion.specs.declared.journey.Stop.{Stop}
-use Rattle.debug_motion.specs.declared.journey.Stop.TheVariants.{Done, Met}
-use Rattle.debug_motion.specs.declared.output.Output.{Output}
+use Rattle.xv_debug.specs.motion.Aims.{aim_in}
+use Rattle.xv_debug.specs.motion.Effects.{AddsRuns}
+use Rattle.xv_debug.specs.motion.Ran.{Ran}
+use Rattle.xv_debug.specs.motion.Reaching.{Reaches, IsRefusal, meets_aim}
+use Rattle.xv_debug.specs.motion.Resting.{RestsIf}
+use Rattle.xv_debug.specs.motion.Rounds.{RoundsLeave}
+use Rattle.xv_debug.specs.motion.Sent.{Sends}
+use Rattle.xv_debug.specs.declared.motion.journey.Stop.{Stop}
+use Rattle.xv_debug.specs.declared.motion.journey.Stop.TheVariants.{Done, Met}
+use Rattle.xv_debug.specs.declared.motion.output.Output.{Output}
 use Rattle.xv_debug.specs.Focus.{IsFocus}
 use Rattle.xv_debug.specs.declared.debugger.Next as behind_words
 use Rattle.xv_debug.specs.declared.debugger.Next.TheVariants as ends

@@ -4,3 +4,4 @@ pub mod Focus
 pub mod Instructions
 pub mod Lines
 pub mod Pipes
+pub mod motion

@@ -3,12 +3,12 @@ ghost use Rattle.std.specs.Prelude.{◌≡◌};
 ghost use Rattle.xv_debug.specs.Effects.{next_of};
 
 use crate::focus::{last_seen, running_or};
+use crate::motion::{self, Journey, Output, Round};
 use crate::pipes::show_pipes;
 use crate::processes::{show_processes, show_where};
 use crate::shown_output::show_output;
 use crate::sources::Sources;
 use crate::stops::{show_refusal, show_sent};
-use debug_motion::{self as motion, Journey, Output, Round};
 use debug_views::{
     show_console, show_descriptors, show_events, show_frames, show_memory, show_pages,
     show_registers, show_trace,
@@ -66,8 +66,8 @@ impl Debugger {
     ghost use Rattle.std.specs.Prelude.{◌≡◌, ◌⊎◌, IfOk, IfErr, length, map, option_map, replicate, take};
     ghost use Rattle.kernel_spec.specs.runs.Run as runs;
     ghost use Rattle.xv_machine.specs.Events.{event_of, outcome_of};
-    ghost use Rattle.debug_motion.specs.Aims.{aim_in};
-    ghost use Rattle.debug_motion.specs.Reaching.{meets_aim};
+    ghost use Rattle.xv_debug.specs.motion.Aims.{aim_in};
+    ghost use Rattle.xv_debug.specs.motion.Reaching.{meets_aim};
     ghost use Rattle.xv_debug.specs.Effects.{Does, DoesOrStays, DoesSome, GoesBack, IsConditionOf, Obeys, Plays, Searches, SearchesFor, SearchesGoal, SendsFirst, Steps, next_of};
     ghost use Rattle.xv_debug.specs.Focus.{IsFocus, last_seen};
 

@@ -2,9 +2,9 @@
 //!
 //! A [`Debugger`] obeys lines of words (`debug_words` reads them). What a word does to the session is `Does` of
 //! `specs/Effects.antt`: words that look leave it as it was, and the others send events up to what they wait for, or
-//! go back (`debug_motion`). It reads and writes nothing of the host: the lines come from its caller, and the answers
-//! go to it. What it shows comes from calls that are proved to tell what the machine holds (`debug_views`,
-//! `xv_report`).
+//! go back. They do so by the functions of `motion.rt`, each of which promises by `specs/motion` which events it sends.
+//! A debugger reads and writes nothing of the host: the lines come from its caller, and the answers go to it. What it
+//! shows comes from calls that are proved to tell what the machine holds (`debug_views`, `xv_report`).
 #![tactic(auto)]
 
 mod calls;
@@ -13,6 +13,7 @@ mod focus;
 mod happened;
 mod instruction;
 mod lines;
+mod motion;
 mod pipes;
 mod processes;
 mod shown_output;

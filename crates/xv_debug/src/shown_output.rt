@@ -1,5 +1,5 @@
 //! What the console showed while a word was obeyed.
-use debug_motion::Output;
+use crate::motion::Output;
 use debug_words::texts::Many;
 use std::alloc::AllocError;
 

@@ -1,6 +1,6 @@
 //! What a word has sent, and why no more, in words.
 use crate::happened::Happened;
-use debug_motion::{Journey, Stop};
+use crate::motion::{Journey, Stop};
 use debug_words::texts::Many;
 use debug_words::{EVENTS_MOST, Word};
 use std::alloc::AllocError;

@@ -1,0 +1,6 @@
+use Rattle.std.proofs.Common.{take}
+use Rattle.xv_debug.specs.motion.Shown.{KeepsShown}
+use Rattle.xv_debug.proofs.motion.output.Output.add.Given as goal
+
+abbrev pub invariant-loop-place : goal.invariant-loop-place
+invariant-loop-place l = KeepsShown (take l.place l.shown) l.fn.self l.self

@@ -1,0 +1,8 @@
+use Rattle.std.proofs.Common.{map, take, option_map}
+use Rattle.kernel_spec.specs.runs.Run as runs
+use Rattle.xv_machine.specs.Events.{outcome_of}
+use Rattle.xv_debug.specs.motion.Sent.{Sends}
+use Rattle.xv_debug.proofs.motion.sending.type_keys.Given as goal
+
+abbrev pub invariant-loop-place : goal.invariant-loop-place
+invariant-loop-place l = Sends (map runs.Key (take l.place l.keys)) (option_map outcome_of l.last) l.fn.session l.session l.fn.output l.output

@@ -1,0 +1,22 @@
+//! The debugger's words that move a session: they send it events, or take it back.
+//!
+//! [`step`] sends so many Runs (`specs/motion/Ran.antt`), [`next`] and [`until`] send Runs up to the event that they say
+//! (`specs/motion/Reaching.antt`, `specs/motion/Aims.antt`), and none of them sends one where nobody may run
+//! (`specs/motion/Resting.antt`). [`send_often`], [`type_keys`] and [`play_rounds`] send the other events, and
+//! [`go_back`] takes the last ones back. Each promises which events the session has got then
+//! (`specs/motion/Effects.antt`): no event is sent that isn't kept, and the machine is what they lead to.
+
+mod aiming;
+mod journey;
+mod output;
+mod resting;
+mod rounds;
+mod running;
+mod sending;
+mod stretches;
+
+pub(crate) use journey::{Journey, Stop};
+pub(crate) use output::Output;
+pub(crate) use rounds::{Round, play_rounds};
+pub(crate) use running::{next, step, until};
+pub(crate) use sending::{go_back, send_often, type_keys};
