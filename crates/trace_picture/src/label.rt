@@ -19,7 +19,17 @@ const FREE: u64 = 16;
 #[derive(Clone, Copy)]
 pub struct Text<'a>(pub &'a str);
 
-// A letter of a text in XML.
+/// A letter of a text in XML.
+#[derive(Clone, Copy)]
+pub struct Letter(pub char);
+
+impl Display for Letter {
+    fn fmt<W: fmt::Write>(&self, f: &mut fmt::Formatter<W>) -> fmt::Result {
+        write_letter(self.0, f)
+    }
+}
+
+// Writes a letter of a text in XML.
 fn write_letter<W: fmt::Write>(letter: char, f: &mut fmt::Formatter<W>) -> fmt::Result {
     match letter {
         '<' => f.write_str("&lt;"),
@@ -32,12 +42,17 @@ fn write_letter<W: fmt::Write>(letter: char, f: &mut fmt::Formatter<W>) -> fmt::
     }
 }
 
+// The first letters of a text in XML, so many at most.
+fn write_letters<W: fmt::Write>(text: &str, most: usize, f: &mut fmt::Formatter<W>) -> fmt::Result {
+    for letter in text.chars().take(most) {
+        write_letter(letter, f)?;
+    }
+    Ok(())
+}
+
 impl<'a> Display for Text<'a> {
     fn fmt<W: fmt::Write>(&self, f: &mut fmt::Formatter<W>) -> fmt::Result {
-        for letter in self.0.chars() {
-            write_letter(letter, f)?;
-        }
-        Ok(())
+        write_letters(self.0, usize::MAX, f)
     }
 }
 
@@ -71,13 +86,11 @@ pub struct RowName<'a>(pub Who<'a>);
 
 // The first letters of a program's name, and an ellipsis for those that are left out.
 fn write_start<W: fmt::Write>(program: &str, f: &mut fmt::Formatter<W>) -> fmt::Result {
-    for letter in program.chars().take(MOST_LETTERS) {
-        write_letter(letter, f)?;
+    write_letters(program, MOST_LETTERS, f)?;
+    if program.chars().count() <= MOST_LETTERS {
+        return Ok(());
     }
-    if program.chars().count() > MOST_LETTERS {
-        f.write_char('\u{2026}')?;
-    }
-    Ok(())
+    f.write_char('\u{2026}')
 }
 
 impl<'a> Display for RowName<'a> {

@@ -16,8 +16,21 @@ mod row;
 use crate::chart::Chart;
 use crate::line::{Told, lines_of};
 use crate::picture::draw;
+use crate::remark::Remarks;
 use std::alloc::Global;
 use std::io::{self, BufWriter, Read, Write};
+
+// Writes the picture of a chart.
+fn write_picture<W: Write + Drop>(
+    alloc: Global,
+    chart: &Chart,
+    remarks: &Remarks,
+    output: W,
+) -> io::Result<()> {
+    let mut output = BufWriter::new(alloc, output)?;
+    draw(chart, remarks, &mut output)?;
+    output.flush()
+}
 
 /// Reads a trace, and writes a picture of it, in SVG.
 ///
@@ -32,7 +45,5 @@ pub fn draw_trace<R: Read + Drop, W: Write + Drop>(
     let text = io::read_to_string(alloc, trace)?;
     let Told { notes, remarks } = lines_of(alloc, text.as_str())?;
     let chart = Chart::of(alloc, notes)?;
-    let mut output = BufWriter::new(alloc, output)?;
-    draw(&chart, &remarks, &mut output)?;
-    output.flush()
+    write_picture(alloc, &chart, &remarks, output)
 }

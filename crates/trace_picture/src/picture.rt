@@ -1,6 +1,6 @@
 //! The picture of a chart, in SVG (Scalable Vector Graphics 1.1).
 use crate::chart::{Chart, Row, newborn};
-use crate::label::{RowName, Text, names_room, wait_in, who_at};
+use crate::label::{Letter, RowName, Text, names_room, wait_in, who_at};
 use crate::note::Note;
 use crate::remark::Remarks;
 use crate::row::{Phase, State};
@@ -22,15 +22,17 @@ const BAR: u64 = 12;
 /// How much room a letter of the console takes, in hundredths of a pixel.
 const LETTER: u64 = 700;
 
-/// The colours, by the words that the picture's parts have as their classes.
-const STYLE: &str = "\
+/// What stands between the size of the picture and that of its ground: the colours, by the words that the picture's
+/// parts have as their classes.
+const STYLE: &str = " \
+font-family=\"sans-serif\" font-size=\"11\">
 <style>
 .running { fill: #2563c9 } .ready { fill: #c4d7f5 }
 .asleep { fill: #f3c969 } .ended { fill: #b9b9b9 }
 .tick { stroke: #e4e4e4 } .birth { stroke: #2e8b57; stroke-width: 1.5 }
 .call { fill: #10294f } .gone { fill: #c0392b }
 </style>
-";
+<rect";
 
 /// With more ticks than these they aren't drawn.
 const MOST_TICKS: usize = 300;
@@ -107,27 +109,63 @@ fn call_name(number: i32) -> &'static str {
     }
 }
 
+// How large the picture is.
+fn write_size<W: Write>(width: u64, height: u64, output: &mut W) -> io::Result<()> {
+    write!(output, " width=\"{width}\" height=\"{height}\"")
+}
+
 // The head of the picture.
 fn draw_head<W: Write>(width: u64, height: u64, output: &mut W) -> io::Result<()> {
-    writeln!(
-        output,
-        "<svg xmlns=\"http://www.w3.org/2000/svg\" width=\"{width}\" height=\"{height}\" font-family=\"sans-serif\" font-size=\"11\">"
-    )?;
+    output.write_all(b"<svg xmlns=\"http://www.w3.org/2000/svg\"")?;
+    write_size(width, height, output)?;
     output.write_all(STYLE.as_bytes())?;
+    write_size(width, height, output)?;
+    output.write_all(b" fill=\"white\"/>\n")
+}
+
+// A text, from this place on.
+fn draw_text<X: Display + Drop, T: Display + Drop, W: Write>(
+    left: X,
+    base: u64,
+    text: T,
+    output: &mut W,
+) -> io::Result<()> {
+    writeln!(output, "<text x=\"{left}\" y=\"{base}\">{text}</text>")
+}
+
+// A bar of this colour, from this place on, up to what stands in it.
+fn open_bar<X: Display + Drop, L: Display + Drop, W: Write>(
+    class: &str,
+    left: X,
+    top: u64,
+    width: L,
+    output: &mut W,
+) -> io::Result<()> {
+    write!(
+        output,
+        "<rect class=\"{class}\" x=\"{left}\" y=\"{top}\" width=\"{width}\" height=\"{BAR}\""
+    )
+}
+
+// A line of this colour, from top to bottom.
+fn draw_line<W: Write>(
+    class: &str,
+    x: Length,
+    top: u64,
+    bottom: u64,
+    output: &mut W,
+) -> io::Result<()> {
     writeln!(
         output,
-        "<rect width=\"{width}\" height=\"{height}\" fill=\"white\"/>"
+        "<line class=\"{class}\" x1=\"{x}\" y1=\"{top}\" x2=\"{x}\" y2=\"{bottom}\"/>"
     )
 }
 
 // What a colour means, from this place on.
 fn draw_meaning<W: Write>(class: &str, left: u64, output: &mut W) -> io::Result<()> {
-    let text = left.saturating_add(16);
-    writeln!(
-        output,
-        "<rect class=\"{class}\" x=\"{left}\" y=\"10\" width=\"12\" height=\"12\"/>"
-    )?;
-    writeln!(output, "<text x=\"{text}\" y=\"20\">{class}</text>")
+    open_bar(class, left, 10, BAR, output)?;
+    output.write_all(b"/>\n")?;
+    draw_text(left.saturating_add(16), 20, class, output)
 }
 
 // What the colours mean.
@@ -149,22 +187,14 @@ fn ticks(chart: &Chart) -> usize {
         .count()
 }
 
-// A tick of the clock, as a line from the first row to the last.
-fn draw_tick<W: Write>(x: Length, bottom: u64, output: &mut W) -> io::Result<()> {
-    writeln!(
-        output,
-        "<line class=\"tick\" x1=\"{x}\" y1=\"{TOP}\" x2=\"{x}\" y2=\"{bottom}\"/>"
-    )
-}
-
-// The ticks of the clock.
+// The ticks of the clock, as lines from the first row to the last.
 fn draw_ticks<W: Write>(chart: &Chart, axis: Axis, bottom: u64, output: &mut W) -> io::Result<()> {
     if ticks(chart) > MOST_TICKS {
         return Ok(());
     }
     for (event, note) in chart.notes.iter().enumerate() {
         if matches!(note, Note::Tick) {
-            draw_tick(axis.across(event), bottom, output)?;
+            draw_line("tick", axis.across(event), TOP, bottom, output)?;
         }
     }
     Ok(())
@@ -178,37 +208,40 @@ struct Picture<'a> {
     axis: Axis,
 }
 
-// The beginning of a part of the bar of the row at this place, from the event `first` on, up to its text.
-fn open_phase<W: Write>(
-    axis: Axis,
-    place: usize,
-    first: usize,
-    behind: usize,
-    word: &str,
-    output: &mut W,
-) -> io::Result<()> {
-    let left = axis.across(first);
-    let width = Length(axis.across(behind).0.saturating_sub(left.0));
-    let top = row_top(place);
-    write!(
-        output,
-        "<rect class=\"{word}\" x=\"{left}\" y=\"{top}\" width=\"{width}\" height=\"{BAR}\"><title>"
-    )
+// What a process waits for that sleeps: ` in read on descriptor 0`; nothing where it isn't told.
+#[derive(Clone, Copy)]
+struct Wait<'a>(Option<&'a str>);
+
+impl<'a> Display for Wait<'a> {
+    fn fmt<W: fmt::Write>(&self, f: &mut fmt::Formatter<W>) -> fmt::Result {
+        let Some(wait) = self.0 else {
+            return Ok(());
+        };
+        let wait = Text(wait);
+        write!(f, " in {wait}")
+    }
 }
 
-// What a process waits for that sleeps from the event `first` on, where it is told.
-fn write_wait<W: Write>(
+// What a process did from the event `first` on, up to the first `behind` events: what shows under the pointer.
+fn write_title<W: Write>(
     remarks: &Remarks,
     pid: u32,
     first: usize,
     behind: usize,
+    state: State,
     output: &mut W,
 ) -> io::Result<()> {
-    let Some(wait) = wait_in(remarks, pid, first, behind) else {
-        return Ok(());
-    };
-    let wait = Text(wait);
-    write!(output, " in {wait}")
+    let who = who_at(remarks, pid, behind);
+    let word = word(state);
+    let wait = Wait(match state {
+        State::Asleep => wait_in(remarks, pid, first, behind),
+        _ => None,
+    });
+    let last = behind.saturating_sub(1);
+    writeln!(
+        output,
+        "><title>{who}: {word}{wait}, events {first} to {last}</title></rect>"
+    )
 }
 
 // A part of the bar of the row at this place, from the event `first` on; its text shows under the pointer.
@@ -224,15 +257,10 @@ fn draw_phase<W: Write>(
     if phase.state == State::Absent || behind <= first {
         return Ok(());
     }
-    let word = word(phase.state);
-    open_phase(picture.axis, place, first, behind, word, output)?;
-    let who = who_at(picture.remarks, pid, behind);
-    write!(output, "{who}: {word}")?;
-    if phase.state == State::Asleep {
-        write_wait(picture.remarks, pid, first, behind, output)?;
-    }
-    let last = behind - 1;
-    writeln!(output, ", events {first} to {last}</title></rect>")
+    let left = picture.axis.across(first);
+    let width = Length(picture.axis.across(behind).0.saturating_sub(left.0));
+    open_bar(word(phase.state), left, row_top(place), width, output)?;
+    write_title(picture.remarks, pid, first, behind, phase.state, output)
 }
 
 // The name and the bar of a process.
@@ -244,7 +272,7 @@ fn draw_row<W: Write>(
 ) -> io::Result<()> {
     let base = row_top(place).saturating_add(10);
     let name = RowName(who_at(picture.remarks, row.pid, picture.axis.events));
-    writeln!(output, "<text x=\"8\" y=\"{base}\">{name}</text>")?;
+    draw_text(8, base, name, output)?;
     let mut first: usize = 0;
     for phase in &row.phases {
         draw_phase(picture, row.pid, place, first, phase, output)?;
@@ -290,19 +318,24 @@ fn write_call<W: fmt::Write>(number: i32, f: &mut fmt::Formatter<W>) -> fmt::Res
     write!(f, "{name} (call {number})")
 }
 
+// A number, and what stands before it.
+fn write_number<W: fmt::Write>(text: &str, number: i64, f: &mut fmt::Formatter<W>) -> fmt::Result {
+    write!(f, "{text}{number}")
+}
+
 impl Display for Mark {
     fn fmt<W: fmt::Write>(&self, f: &mut fmt::Formatter<W>) -> fmt::Result {
         match *self {
             Mark::Answered(number, answer) => {
                 write_call(number, f)?;
-                write!(f, " answers {answer}")
+                write_number(" answers ", answer, f)
             }
             Mark::Waits(number) => {
                 write_call(number, f)?;
                 f.write_str(" waits")
             }
-            Mark::Exit(status) => write!(f, "exit with status {status}"),
-            Mark::Fault(cause) => write!(f, "fault of cause {cause}"),
+            Mark::Exit(status) => write_number("exit with status ", i64::from(status), f),
+            Mark::Fault(cause) => write_number("fault of cause ", i64::from(cause), f),
         }
     }
 }
@@ -320,23 +353,8 @@ fn mark_of(note: Note) -> Option<(u32, Mark)> {
 
 // A mark on the bar of the row at this place; its text shows under the pointer.
 fn draw_mark<W: Write>(x: Length, place: usize, mark: Mark, output: &mut W) -> io::Result<()> {
-    let class = mark.class();
-    let top = row_top(place);
-    let width = mark.width();
-    writeln!(
-        output,
-        "<rect class=\"{class}\" x=\"{x}\" y=\"{top}\" width=\"{width}\" height=\"{BAR}\"><title>{mark}</title></rect>"
-    )
-}
-
-// A line from a parent's bar to the bar of the child that it made.
-fn draw_birth<W: Write>(x: Length, parent: usize, child: usize, output: &mut W) -> io::Result<()> {
-    let from = row_middle(parent);
-    let to = row_middle(child);
-    writeln!(
-        output,
-        "<line class=\"birth\" x1=\"{x}\" y1=\"{from}\" x2=\"{x}\" y2=\"{to}\"/>"
-    )
+    open_bar(mark.class(), x, row_top(place), mark.width(), output)?;
+    writeln!(output, "><title>{mark}</title></rect>")
 }
 
 // What stands on the bars for this event.
@@ -354,34 +372,31 @@ fn draw_event<W: Write>(
         return Ok(());
     };
     let x = axis.across(event);
+    // a line from a parent's bar to the bar of the child that it made
     if let Some(child) = newborn(note) {
         if let Some(child) = chart.place_of(child) {
-            draw_birth(x, place, child, output)?;
+            draw_line("birth", x, row_middle(place), row_middle(child), output)?;
         }
     }
     draw_mark(x, place, mark, output)
 }
 
-// A byte of the console, as a letter of the picture.
-fn draw_letter<W: Write>(byte: u8, output: &mut W) -> io::Result<()> {
+// The letter that shows a byte of the console.
+fn letter_of(byte: u8) -> char {
     match byte {
-        b'<' => write!(output, "&lt;"),
-        b'>' => write!(output, "&gt;"),
-        b'&' => write!(output, "&amp;"),
-        b'\n' => write!(output, "\u{23ce}"),
-        b' '..=b'~' => write!(output, "{}", byte as char),
-        _ => write!(output, "\u{b7}"),
+        b'\n' => '\u{23ce}',
+        b' '..=b'~' => byte as char,
+        _ => '\u{b7}',
     }
 }
 
 // A byte of the console, from this place on.
 fn draw_byte<W: Write>(x: Length, base: u64, byte: u8, output: &mut W) -> io::Result<()> {
-    write!(
+    let letter = Letter(letter_of(byte));
+    writeln!(
         output,
-        "<text x=\"{x}\" y=\"{base}\" font-family=\"monospace\">"
-    )?;
-    draw_letter(byte, output)?;
-    writeln!(output, "</text>")
+        "<text x=\"{x}\" y=\"{base}\" font-family=\"monospace\">{letter}</text>"
+    )
 }
 
 // The byte that an event shows in the line of this name.
@@ -402,7 +417,7 @@ fn draw_bytes<W: Write>(
     base: u64,
     output: &mut W,
 ) -> io::Result<()> {
-    writeln!(output, "<text x=\"8\" y=\"{base}\">{line}</text>")?;
+    draw_text(8, base, line, output)?;
     let right = axis.left.saturating_add(WIDTH).saturating_mul(100);
     let mut free: u64 = 0;
     for (event, &note) in chart.notes.iter().enumerate() {
@@ -420,11 +435,10 @@ fn draw_bytes<W: Write>(
 
 // The numbers of five events under the bars.
 fn draw_numbers<W: Write>(axis: Axis, base: u64, output: &mut W) -> io::Result<()> {
-    writeln!(output, "<text x=\"8\" y=\"{base}\">event</text>")?;
+    draw_text(8, base, "event", output)?;
     for quarter in 0..5usize {
         let event = axis.events.saturating_mul(quarter) / 4;
-        let x = axis.across(event);
-        writeln!(output, "<text x=\"{x}\" y=\"{base}\">{event}</text>")?;
+        draw_text(axis.across(event), base, event, output)?;
     }
     Ok(())
 }
@@ -477,5 +491,5 @@ pub fn draw<W: Write>(chart: &Chart, remarks: &Remarks, output: &mut W) -> io::R
     draw_rows(picture, output)?;
     draw_events(chart, axis, output)?;
     draw_below(chart, axis, bottom, output)?;
-    writeln!(output, "</svg>")
+    output.write_all(b"</svg>\n")
 }
