@@ -1,4 +1,5 @@
 pub mod Fed
+pub mod Pieces
 pub mod SixteenDigits
 pub mod Framed
 pub mod NumbersBack

@@ -2,6 +2,7 @@
 ghost use Rattle.std.specs.Prelude.{◌≡◌, ◌∷◌, ◌++◌, IfOk, OnOk};
 ghost use Rattle.hex.specs.Hex.{encode_lower};
 ghost use Rattle.gdb_packets.specs.Answers as meant;
+ghost use Rattle.gdb_packets.specs.Digits.{byte_digits};
 
 use crate::digits::{push_byte, push_number};
 use std::alloc::{AllocError, Global};
@@ -46,6 +47,26 @@ pub fn hex_bytes(alloc: Global, bytes: &[u8]) -> Result<Vec<u8>, AllocError>
     Ok(text.into_bytes())
 }
 
+/// A letter, and bytes behind it.
+fn marked(alloc: Global, mark: u8, bytes: &[u8]) -> Result<Vec<u8>, AllocError>
+    ensures { IfOk result (λ text. text.items ≡ mark ∷ bytes.now) }
+{
+    let mut text = Vec::new(alloc);
+    text.push(mark)?;
+    text.extend_from_slice(bytes)?;
+    Ok(text)
+}
+
+/// A letter, and the two digits of a byte.
+fn marked_byte(alloc: Global, mark: u8, byte: u8) -> Result<Vec<u8>, AllocError>
+    ensures { IfOk result (λ text. text.items ≡ mark ∷ byte_digits byte) }
+{
+    let mut text = Vec::new(alloc);
+    text.push(mark)?;
+    push_byte(&mut text, byte)?;
+    Ok(text)
+}
+
 /// Bytes that the program's console shows: `O`, and the bytes in digits.
 ///
 /// # Errors
@@ -55,10 +76,7 @@ pub fn console(alloc: Global, bytes: &[u8]) -> Result<Vec<u8>, AllocError>
     ensures { IfOk result (λ text. text.items ≡ 79 ∷ encode_lower bytes.now) }
 {
     let digits = hex_bytes(alloc, bytes)?;
-    let mut text = Vec::new(alloc);
-    text.push(b'O')?;
-    text.extend_from_slice(digits.as_slice())?;
-    Ok(text)
+    marked(alloc, b'O', digits.as_slice())
 }
 
 /// A part of a document, so many bytes from an offset on at most: `m` before a part that more follow, `l` before the
@@ -72,15 +90,11 @@ pub fn part(alloc: Global, document: &[u8], offset: u64, length: u64) -> Result<
 {
     let begin = offset.min(document.len() as u64) as usize;
     let rest = &document[begin..];
-    let mut text = Vec::new(alloc);
     if length < rest.len() as u64 {
-        text.push(b'm')?;
-        text.extend_from_slice(&rest[..length as usize])?;
+        marked(alloc, b'm', &rest[..length as usize])
     } else {
-        text.push(b'l')?;
-        text.extend_from_slice(rest)?;
+        marked(alloc, b'l', rest)
     }
-    Ok(text)
 }
 
 /// The refusal of this number: `E` and two digits.
@@ -91,10 +105,7 @@ pub fn part(alloc: Global, document: &[u8], offset: u64, length: u64) -> Result<
 pub fn refusal(alloc: Global, number: u8) -> Result<Vec<u8>, AllocError>
     ensures { IfOk result (λ text. text.items ≡ meant.refusal number) }
 {
-    let mut text = Vec::new(alloc);
-    text.push(b'E')?;
-    push_byte(&mut text, number)?;
-    Ok(text)
+    marked_byte(alloc, b'E', number)
 }
 
 /// The current thread.
@@ -106,8 +117,7 @@ pub fn current_thread(alloc: Global, thread: u64) -> Result<Vec<u8>, AllocError>
     ensures { IfOk result (λ text. text.items ≡ meant.current_thread thread) }
 {
     let mut text = Vec::new(alloc);
-    text.push(b'Q')?;
-    text.push(b'C')?;
+    text.extend_from_slice(b"QC")?;
     push_number(&mut text, thread)?;
     Ok(text)
 }
@@ -200,8 +210,5 @@ pub fn stop_reply(alloc: Global, stop: Stop) -> Result<Vec<u8>, AllocError>
 pub fn exited(alloc: Global, status: u8) -> Result<Vec<u8>, AllocError>
     ensures { IfOk result (λ text. text.items ≡ meant.exited status) }
 {
-    let mut text = Vec::new(alloc);
-    text.push(b'W')?;
-    push_byte(&mut text, status)?;
-    Ok(text)
+    marked_byte(alloc, b'W', status)
 }

@@ -36,9 +36,7 @@ pub(crate) fn digit_value(byte: u8) -> Option<u8>
 pub(crate) fn push_byte(text: &mut Vec<u8>, byte: u8) -> Result<(), AllocError>
     ensures { OnOk result (text.new.items ≡ text.old.items ++ meant.byte_digits byte) }
 {
-    text.push(digit(byte / 16))?;
-    text.push(digit(byte % 16))?;
-    Ok(())
+    text.extend_from_slice(&[digit(byte / 16), digit(byte % 16)])
 }
 
 /// Adds the lowest digits of a number, so many at most.

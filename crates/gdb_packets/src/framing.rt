@@ -18,12 +18,9 @@ fn push_escaped(text: &mut Vec<u8>, byte: u8) -> Result<(), AllocError>
     ensures { OnOk result (text.new.items ≡ text.old.items ++ meant.escape byte) }
 {
     if is_escaped(byte) {
-        text.push(b'}')?;
-        text.push(byte ^ 0x20)?;
-        return Ok(());
+        return text.extend_from_slice(&[b'}', byte ^ 0x20]);
     }
-    text.push(byte)?;
-    Ok(())
+    text.extend_from_slice(&[byte])
 }
 
 /// The payload, as it stands in a packet.
