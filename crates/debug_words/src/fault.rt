@@ -1,6 +1,6 @@
 //! Why a line is no word.
 use crate::topics::Topic;
-use std::fmt;
+use std::fmt::{self, Display};
 
 /// What is wrong with a line.
 #[derive(Clone, Copy)]
@@ -39,13 +39,14 @@ pub struct WordError<'a> {
 }
 
 impl<'a> WordErrorKind<'a> {
-    /// What is told of a text, before it and behind it.
+    /// What is told of a text, before it and behind it, with the quotes around it.
     fn around(self) -> (&'static str, &'static str) {
         match self {
-            WordErrorKind::Unknown(_) => ("there is no word ", ""),
-            WordErrorKind::NotANumber(_) => ("", " is no number"),
-            WordErrorKind::TooMuch(_) => ("", " is too much"),
-            _ => ("", " stands for no key: \\n \\b \\t \\s \\\\ \\xHH do"),
+            WordErrorKind::Unknown(_) => ("there is no word \"", "\""),
+            WordErrorKind::NotANumber(_) => ("\"", "\" is no number"),
+            WordErrorKind::TooMuch(_) => ("\"", "\" is too much"),
+            WordErrorKind::Missing(_) => ("", " is missing"),
+            _ => ("\"", "\" stands for no key: \\n \\b \\t \\s \\\\ \\xHH do"),
         }
     }
 }
@@ -60,14 +61,23 @@ fn write_out_of_range<W: fmt::Write>(
     write!(f, "{text} isn't in the range {least} to {most}")
 }
 
-/// Writes a text between quotes, and what is told of it.
+/// Writes a text, and what is told of it.
 fn write_around<W: fmt::Write>(
     text: &str,
     around: (&str, &str),
     f: &mut fmt::Formatter<W>,
 ) -> fmt::Result {
     let (before, behind) = around;
-    write!(f, "{before}\"{text}\"{behind}")
+    write!(f, "{before}{text}{behind}")
+}
+
+/// Writes that a text stands where something else is wanted.
+fn write_not_this<W: fmt::Write>(
+    text: &str,
+    wanted: &str,
+    f: &mut fmt::Formatter<W>,
+) -> fmt::Result {
+    write!(f, "\"{text}\" stands where {wanted} is wanted")
 }
 
 impl<'a> fmt::Display for WordErrorKind<'a> {
@@ -77,14 +87,12 @@ impl<'a> fmt::Display for WordErrorKind<'a> {
             WordErrorKind::Unknown(text)
             | WordErrorKind::NotANumber(text)
             | WordErrorKind::TooMuch(text)
+            | WordErrorKind::Missing(text)
             | WordErrorKind::BadEscape(text) => write_around(text, kind.around(), f),
             WordErrorKind::OutOfRange { text, least, most } => {
                 write_out_of_range(text, least, most, f)
             }
-            WordErrorKind::Missing(what) => write!(f, "{what} is missing"),
-            WordErrorKind::NotThis { text, wanted } => {
-                write!(f, "\"{text}\" stands where {wanted} is wanted")
-            }
+            WordErrorKind::NotThis { text, wanted } => write_not_this(text, wanted, f),
             WordErrorKind::TooManyKeys => f.write_str("more than 128 keys"),
         }
     }
@@ -93,8 +101,7 @@ impl<'a> fmt::Display for WordErrorKind<'a> {
 /// What is wrong, and what is allowed.
 impl<'a> fmt::Display for WordError<'a> {
     fn fmt<W: fmt::Write>(&self, f: &mut fmt::Formatter<W>) -> fmt::Result {
-        let kind = self.kind;
-        write!(f, "{kind}")?;
+        self.kind.fmt(f)?;
         match self.topic {
             None => f.write_str(": help lists the words"),
             Some(topic) => write_usage(topic, f),

@@ -1,5 +1,6 @@
 //! Reading a line: what it asks for, or why it asks for nothing.
-ghost use Rattle.std.specs.Prelude.{IfOk};
+ghost use Rattle.std.specs.Prelude.{◌≡◌, IfOk};
+ghost use Rattle.debug_words.specs.Counted.{most_of};
 ghost use Rattle.debug_words.specs.Ranges.{UpTo, IsInRange};
 
 use crate::calls::call_number;
@@ -31,13 +32,13 @@ fn count<'a>(
     requires { UpTo most usual }
     ensures { IfOk result (λ n. UpTo most n) }
 {
-    match tokens.get(place) {
-        None => Ok(usual),
-        Some(text) => {
-            let number = count_of(text, most)?;
-            tokens.end(place.saturating_add(1))?;
-            Ok(number)
-        }
+    let Some(text) = tokens.get(place) else {
+        return Ok(usual);
+    };
+    let number = count_of(text, most)?;
+    match tokens.end(place.saturating_add(1)) {
+        Ok(()) => Ok(number),
+        Err(kind) => Err(kind),
     }
 }
 
@@ -113,8 +114,7 @@ fn goal_call<'a>(tokens: &Tokens<'a>) -> Result<Goal, WordErrorKind<'a>> {
         return Err(WordErrorKind::Missing("a call's name or number"));
     };
     let number = call_of(text)?;
-    tokens.end(3)?;
-    Ok(Goal::Call(number))
+    goal_ended(tokens, 3, Goal::Call(number))
 }
 
 /// `pc ADDRESS [of P]`.
@@ -129,14 +129,19 @@ fn goal_pc<'a>(tokens: &Tokens<'a>) -> Result<Goal, WordErrorKind<'a>> {
 /// `store ADDRESS`.
 fn goal_store<'a>(tokens: &Tokens<'a>) -> Result<Goal, WordErrorKind<'a>> {
     let address = address(tokens, 2)?;
-    tokens.end(3)?;
-    Ok(Goal::Store(address))
+    goal_ended(tokens, 3, Goal::Store(address))
 }
 
-/// A goal of one word.
-fn goal_alone<'a>(tokens: &Tokens<'a>, goal: Goal) -> Result<Goal, WordErrorKind<'a>> {
-    tokens.end(2)?;
-    Ok(goal)
+/// This goal, if nothing stands at a place.
+fn goal_ended<'a>(
+    tokens: &Tokens<'a>,
+    place: usize,
+    goal: Goal,
+) -> Result<Goal, WordErrorKind<'a>> {
+    match tokens.end(place) {
+        Ok(()) => Ok(goal),
+        Err(kind) => Err(kind),
+    }
 }
 
 /// What `until` waits for.
@@ -148,8 +153,8 @@ fn goal<'a>(tokens: &Tokens<'a>) -> Result<Goal, WordErrorKind<'a>> {
         "call" => goal_call(tokens),
         "pc" => goal_pc(tokens),
         "store" => goal_store(tokens),
-        "fault" => goal_alone(tokens, Goal::Fault),
-        "exit" => goal_alone(tokens, Goal::Exit),
+        "fault" => goal_ended(tokens, 2, Goal::Fault),
+        "exit" => goal_ended(tokens, 2, Goal::Exit),
         _ => Err(WordErrorKind::NotThis {
             text,
             wanted: "call, pc, store, fault or exit",
@@ -229,10 +234,8 @@ fn frames<'a>(tokens: &Tokens<'a>) -> Result<Word, WordErrorKind<'a>>
         return Ok(Word::Frames { frame: None });
     };
     let number = number_in(text, 0, u64::from(FRAMES_MAX) - 1)?;
-    tokens.end(2)?;
-    Ok(Word::Frames {
-        frame: Some(Frame::new(number as u32)),
-    })
+    let frame = Some(Frame::new(number as u32));
+    ended(tokens, 2, Word::Frames { frame })
 }
 
 /// What is asked of the events.
@@ -243,8 +246,7 @@ fn events<'a>(tokens: &Tokens<'a>) -> Result<Word, WordErrorKind<'a>>
         return Ok(Word::Events { from: None });
     };
     let from = number_of(text)?;
-    tokens.end(2)?;
-    Ok(Word::Events { from: Some(from) })
+    ended(tokens, 2, Word::Events { from: Some(from) })
 }
 
 /// What help is asked for.
@@ -257,8 +259,7 @@ fn help<'a>(tokens: &Tokens<'a>) -> Result<Word, WordErrorKind<'a>>
     let Some(topic) = Topic::named(text) else {
         return Err(WordErrorKind::Unknown(text));
     };
-    tokens.end(2)?;
-    Ok(Word::Help { topic: Some(topic) })
+    ended(tokens, 2, Word::Help { topic: Some(topic) })
 }
 
 /// A number of events to go back by, which may be left out.
@@ -269,16 +270,15 @@ fn back<'a>(tokens: &Tokens<'a>) -> Result<Word, WordErrorKind<'a>>
         return Ok(Word::Back { count: 1 });
     };
     let count = number_in(text, 1, u64::MAX)?;
-    tokens.end(2)?;
-    Ok(Word::Back { count })
+    ended(tokens, 2, Word::Back { count })
 }
 
-/// A word behind which nothing stands.
-fn alone<'a>(tokens: &Tokens<'a>, word: Word) -> Result<Word, WordErrorKind<'a>>
+/// This word, if nothing stands at a place.
+fn ended<'a>(tokens: &Tokens<'a>, place: usize, word: Word) -> Result<Word, WordErrorKind<'a>>
     requires { IsInRange word }
     ensures { IfOk result IsInRange }
 {
-    match tokens.end(1) {
+    match tokens.end(place) {
         Ok(()) => Ok(word),
         Err(kind) => Err(kind),
     }
@@ -294,35 +294,55 @@ fn until<'a>(tokens: &Tokens<'a>) -> Result<Word, WordErrorKind<'a>>
     }
 }
 
-/// What a word with a number behind it asks for.
-fn counted<'a>(topic: Topic, tokens: &Tokens<'a>) -> Result<Word, WordErrorKind<'a>>
+/// A word behind which a number may stand.
+#[derive(Clone, Copy)]
+enum Counted {
+    Step,
+    Run,
+    Tick,
+    Send,
+    Processes,
+    Trace,
+}
+
+impl Counted {
+    /// The greatest number that may stand there.
+    fn most(self) -> u32
+        ensures { result ≡ most_of self }
+    {
+        match self {
+            Counted::Step => EVENTS_MOST,
+            Counted::Run => ROUNDS_MOST,
+            Counted::Tick | Counted::Send => OFTEN_MOST,
+            Counted::Processes => PID_MAX,
+            Counted::Trace => NOTES_MOST,
+        }
+    }
+
+    /// What the word asks for with this number.
+    fn word(self, number: u32) -> Word
+        requires { UpTo (most_of self) number }
+        ensures { IsInRange result }
+    {
+        match self {
+            Counted::Step => Word::Step { count: number },
+            Counted::Run => Word::Run { rounds: number },
+            Counted::Tick => Word::Tick { count: number },
+            Counted::Send => Word::Send { count: number },
+            Counted::Processes => Word::Processes { from: number },
+            Counted::Trace => Word::Trace { count: number },
+        }
+    }
+}
+
+/// What such a word asks for; where no number is given, with the usual one.
+fn numbered<'a>(kind: Counted, usual: u32, tokens: &Tokens<'a>) -> Result<Word, WordErrorKind<'a>>
+    requires { UpTo (most_of kind) usual }
     ensures { IfOk result IsInRange }
 {
-    match topic {
-        Topic::Step => {
-            let count = count(tokens, 1, 1, EVENTS_MOST)?;
-            Ok(Word::Step { count })
-        }
-        Topic::Run => {
-            let rounds = count(tokens, 1, 1, ROUNDS_MOST)?;
-            Ok(Word::Run { rounds })
-        }
-        Topic::Tick => {
-            let count = count(tokens, 1, 1, OFTEN_MOST)?;
-            Ok(Word::Tick { count })
-        }
-        Topic::Send => {
-            let count = count(tokens, 1, 1, OFTEN_MOST)?;
-            Ok(Word::Send { count })
-        }
-        Topic::Processes => {
-            let from = count(tokens, 1, 1, PID_MAX)?;
-            Ok(Word::Processes { from })
-        }
-        _ => {
-            let count = count(tokens, 1, NOTES_USUAL, NOTES_MOST)?;
-            Ok(Word::Trace { count })
-        }
+    match count(tokens, 1, usual, kind.most()) {
+        Ok(number) => Ok(kind.word(number)),
+        Err(kind) => Err(kind),
     }
 }
 
@@ -352,8 +372,12 @@ fn asked<'a>(topic: Topic, tokens: &Tokens<'a>) -> Result<Word, WordErrorKind<'a
     ensures { IfOk result IsInRange }
 {
     match topic {
-        Topic::Step | Topic::Run | Topic::Tick | Topic::Send | Topic::Processes | Topic::Trace =>
-            counted(topic, tokens),
+        Topic::Step => numbered(Counted::Step, 1, tokens),
+        Topic::Run => numbered(Counted::Run, 1, tokens),
+        Topic::Tick => numbered(Counted::Tick, 1, tokens),
+        Topic::Send => numbered(Counted::Send, 1, tokens),
+        Topic::Processes => numbered(Counted::Processes, 1, tokens),
+        Topic::Trace => numbered(Counted::Trace, NOTES_USUAL, tokens),
         Topic::Where | Topic::Registers | Topic::Descriptors => owned(topic, tokens),
         Topic::Back => back(tokens),
         Topic::Until => until(tokens),
@@ -361,12 +385,12 @@ fn asked<'a>(topic: Topic, tokens: &Tokens<'a>) -> Result<Word, WordErrorKind<'a
         Topic::Pages => pages(tokens),
         Topic::Frames => frames(tokens),
         Topic::Events => events(tokens),
-        Topic::Next => alone(tokens, Word::Next),
-        Topic::Continue => alone(tokens, Word::Continue),
-        Topic::Quit => alone(tokens, Word::Quit),
-        Topic::Pipe => alone(tokens, Word::Pipe),
-        Topic::Console => alone(tokens, Word::Console),
-        Topic::At => alone(tokens, Word::At),
+        Topic::Next => ended(tokens, 1, Word::Next),
+        Topic::Continue => ended(tokens, 1, Word::Continue),
+        Topic::Quit => ended(tokens, 1, Word::Quit),
+        Topic::Pipe => ended(tokens, 1, Word::Pipe),
+        Topic::Console => ended(tokens, 1, Word::Console),
+        Topic::At => ended(tokens, 1, Word::At),
         Topic::Help | Topic::Key => help(tokens),
     }
 }

@@ -34,7 +34,7 @@ fn push_grouped(text: &mut CountText, thousands: u8, number: u64) -> fmt::Result
     ensures { OnOk result (text.new.bytes ≡ text.old.bytes ++ meant.grouped_by thousands number) }
 {
     if thousands == 0 || number < 1000 {
-        return append(text, format_args!("{number}"));
+        return append(text, number);
     }
     push_grouped(text, thousands - 1, number / 1000)?;
     let last = number % 1000;
