@@ -192,9 +192,7 @@ fn push_note(text: &mut Vec<u8>, reason: StopReason) -> Result<(), AllocError>
 pub fn stop_reply(alloc: Global, stop: Stop) -> Result<Vec<u8>, AllocError>
     ensures { IfOk result (λ text. text.items ≡ meant.stop_reply stop) }
 {
-    let mut text = Vec::new(alloc);
-    text.push(b'T')?;
-    push_byte(&mut text, signal_number(stop.reason))?;
+    let mut text = marked_byte(alloc, b'T', signal_number(stop.reason))?;
     push_note(&mut text, stop.reason)?;
     text.extend_from_slice(b"thread:")?;
     push_number(&mut text, stop.thread)?;

@@ -3,7 +3,7 @@ ghost use Rattle.std.specs.Prelude.{◌≡◌, true, false};
 ghost use Rattle.gdb_packets.specs.Commands as meant;
 ghost use Rattle.gdb_packets.specs.Digits as digits;
 
-use crate::number::{before, behind, number, two_numbers};
+use crate::number::{before, behind, is_text, number, two_numbers};
 use crate::query::{Document, query};
 
 /// Which threads are meant.
@@ -114,7 +114,7 @@ pub enum Command {
 pub(crate) fn parse_thread(text: &[u8]) -> Option<Thread>
     ensures { result ≡ meant.thread_of text.now }
 {
-    if text == b"-1".as_slice() {
+    if is_text(text, b"-1") {
         return Some(Thread::All);
     }
     let number = number(text)?;
@@ -234,7 +234,7 @@ fn action(text: &[u8]) -> Command
 fn long_named(text: &[u8]) -> Command
     ensures { result ≡ meant.long_named text.now }
 {
-    if text == b"Cont?".as_slice() {
+    if is_text(text, b"Cont?") {
         return Command::ResumeKinds;
     }
     match text.strip_prefix(b"Cont;".as_slice()) {
@@ -247,9 +247,9 @@ fn long_named(text: &[u8]) -> Command
 fn point_of(kind: &[u8]) -> Option<Point>
     ensures { result ≡ meant.point_of kind.now }
 {
-    if (kind == b"0".as_slice()) | (kind == b"1".as_slice()) {
+    if is_text(kind, b"0") | is_text(kind, b"1") {
         Some(Point::Breakpoint)
-    } else if kind == b"2".as_slice() {
+    } else if is_text(kind, b"2") {
         Some(Point::Watchpoint)
     } else {
         None
@@ -290,9 +290,9 @@ fn parse_point(text: &[u8], inserts: bool) -> Command
 fn backwards(text: &[u8]) -> Command
     ensures { result ≡ meant.backwards text.now }
 {
-    if text == b"s".as_slice() {
+    if is_text(text, b"s") {
         Command::ReverseStep
-    } else if text == b"c".as_slice() {
+    } else if is_text(text, b"c") {
         Command::ReverseContinue
     } else {
         Command::Unknown
@@ -303,7 +303,7 @@ fn backwards(text: &[u8]) -> Command
 fn setting(text: &[u8]) -> Command
     ensures { result ≡ meant.setting text.now }
 {
-    if text == b"StartNoAckMode".as_slice() {
+    if is_text(text, b"StartNoAckMode") {
         Command::NoAcks
     } else {
         Command::Unknown

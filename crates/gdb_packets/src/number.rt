@@ -1,4 +1,4 @@
-//! Numbers, and where a text is cut.
+//! Texts: numbers in them, whether they are others, and where they are cut.
 ghost use Rattle.std.specs.Prelude.{◌≡◌, ◌≤◌, length, option_map};
 ghost use Rattle.gdb_packets.specs.Commands as texts;
 ghost use Rattle.gdb_packets.specs.Digits as meant;
@@ -32,6 +32,13 @@ pub(crate) fn number(digits: &[u8]) -> Option<u64>
         number = with_digit(number, *byte)?;
     }
     Some(number)
+}
+
+/// Whether a text is this one.
+pub(crate) fn is_text(text: &[u8], wanted: &[u8]) -> bool
+    ensures { result ≡ texts.is_text text.now wanted.now }
+{
+    text == wanted
 }
 
 /// How many bytes stand before the first such byte of a text; all, if it has none.

@@ -3,7 +3,7 @@ ghost use Rattle.std.specs.Prelude.{◌≡◌};
 ghost use Rattle.gdb_packets.specs.Commands as meant;
 
 use crate::command::{Command, parse_thread};
-use crate::number::{before, behind, two_numbers};
+use crate::number::{before, behind, is_text, two_numbers};
 
 /// A document that a part is read of (`qXfer`).
 #[derive(Clone, Copy, PartialEq, Eq)]
@@ -69,17 +69,17 @@ pub(crate) fn query(text: &[u8]) -> Command
     ensures { result ≡ meant.query text.now }
 {
     let name = before(text, b':');
-    if name == b"Supported".as_slice() {
+    if is_text(name, b"Supported") {
         Command::Supported
-    } else if name == b"Attached".as_slice() {
+    } else if is_text(name, b"Attached") {
         Command::Attached
-    } else if name == b"C".as_slice() {
+    } else if is_text(name, b"C") {
         Command::CurrentThread
-    } else if name == b"fThreadInfo".as_slice() {
+    } else if is_text(name, b"fThreadInfo") {
         Command::FirstThreads
-    } else if name == b"sThreadInfo".as_slice() {
+    } else if is_text(name, b"sThreadInfo") {
         Command::MoreThreads
-    } else if name == b"Offsets".as_slice() {
+    } else if is_text(name, b"Offsets") {
         Command::Offsets
     } else {
         long_query(text)
