@@ -197,9 +197,7 @@ impl<'a> fmt::Display for Named<'a> {
             return Ok(());
         };
         let text = name_text(name);
-        f.write_str(" (")?;
-        f.write_str(text.as_str())?;
-        f.write_str(")")
+        write!(f, " ({text})")
     }
 }
 
