@@ -335,7 +335,7 @@ impl Counted {
     }
 }
 
-/// What such a word asks for; where no number is given, with the usual one.
+/// What such a word asks for: if no number is given, with the usual one.
 fn numbered<'a>(kind: Counted, usual: u32, tokens: &Tokens<'a>) -> Result<Word, WordErrorKind<'a>>
     requires { UpTo (most_of kind) usual }
     ensures { IfOk result IsInRange }

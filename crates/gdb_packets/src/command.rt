@@ -117,11 +117,11 @@ pub(crate) fn parse_thread(text: &[u8]) -> Option<Thread>
     if is_text(text, b"-1") {
         return Some(Thread::All);
     }
-    let number = number(text)?;
-    if number == 0 {
-        return Some(Thread::Any);
+    match number(text) {
+        Some(0) => Some(Thread::Any),
+        Some(number) => Some(Thread::One(number)),
+        None => None,
     }
-    Some(Thread::One(number))
 }
 
 /// What `p` asks for.

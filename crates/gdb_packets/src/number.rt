@@ -77,7 +77,8 @@ pub(crate) fn two_numbers(text: &[u8]) -> Option<Numbers>
     ensures { result ≡ texts.two_numbers text.now }
 {
     let rest = behind(text, b',')?;
-    let first = number(before(text, b','))?;
-    let second = number(rest)?;
-    Some(Numbers { first, second })
+    match (number(before(text, b',')), number(rest)) {
+        (Some(first), Some(second)) => Some(Numbers { first, second }),
+        _ => None,
+    }
 }
