@@ -135,26 +135,37 @@ fn all_asked(alloc: Global, run: &Keys<'_>) -> Result<Vec<Asked>, SheetError> {
     Ok(all)
 }
 
-// The run of an item of a file's list, whose items are counted from 1.
-fn run_of(alloc: Global, file: &Keys<'_>, number: usize, item: &Value) -> Result<Run, SheetError> {
-    let place = format!(in alloc; "run {number}")?;
-    let run = file.table(alloc, "run", item, place.as_str())?;
-    run.check(alloc, &["name", "rule"], &RUN_KEYS)?;
+// The frames of a run, its Runs in each round, and its Runs at most.
+fn limits_of(alloc: Global, run: &Keys<'_>) -> Result<(u32, u32, u64), SheetError> {
     let (least, most) = (u64::from(FRAMES_MIN), u64::from(FRAMES_MAX));
     let frames = run.number(alloc, "frames", FRAMES, least, most)? as u32;
     let quantum = run.number(alloc, "quantum", QUANTUM, 1, QUANTUM_MAX)? as u32;
     let most_runs = run.number(alloc, "most_runs", RUNS, 1, RUNS_MAX)?;
+    Ok((frames, quantum, most_runs))
+}
+
+// The run of a table of a file.
+fn read_run(alloc: Global, run: &Keys<'_>, file: &Keys<'_>) -> Result<Run, SheetError> {
+    run.check(alloc, &["name", "rule"], &RUN_KEYS)?;
+    let (frames, quantum, most_runs) = limits_of(alloc, run)?;
     Ok(Run {
         name: run.text(alloc, "name")?,
-        files: names_of(alloc, &run, file)?,
+        files: names_of(alloc, run, file)?,
         frames,
         quantum,
         most_runs,
         with: run.texts(alloc, "with")?,
-        texts: files_of(alloc, &run)?,
+        texts: files_of(alloc, run)?,
         keys: run.text(alloc, "keys")?,
-        asked: all_asked(alloc, &run)?,
+        asked: all_asked(alloc, run)?,
     })
+}
+
+// The run of an item of a file's list, whose items are counted from 1.
+fn run_of(alloc: Global, file: &Keys<'_>, number: usize, item: &Value) -> Result<Run, SheetError> {
+    let place = format!(in alloc; "run {number}")?;
+    let run = file.table(alloc, "run", item, place.as_str())?;
+    read_run(alloc, &run, file)
 }
 
 // The runs of a file.
