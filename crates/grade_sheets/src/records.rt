@@ -143,55 +143,44 @@ fn write_failure<W: fmt::Write>(
     )
 }
 
-// The test case of a rule.
-#[derive(Clone, Copy)]
-struct Case<'a> {
-    run: &'a Run,
-    grade: &'a RunGrade,
-    rule: &'a Asked,
-    mark: &'a Mark,
-}
-
-impl<'a> fmt::Display for Case<'a> {
-    fn fmt<W: fmt::Write>(&self, f: &mut fmt::Formatter<W>) -> fmt::Result {
-        let (of, name) = (
-            Escaped(self.run.name.as_str()),
-            Escaped(self.rule.name.as_str()),
-        );
-        write!(f, "  <testcase classname=\"{of}\" name=\"{name}\"")?;
-        match &self.mark.why {
-            Some(why) => write_failure(f, self.grade, why.as_str()),
-            None => f.write_str("/>\n"),
-        }
+// Writes the test case of a rule.
+fn write_case<W: fmt::Write>(
+    f: &mut fmt::Formatter<W>,
+    run: &Run,
+    grade: &RunGrade,
+    rule: &Asked,
+    mark: &Mark,
+) -> fmt::Result {
+    let (of, name) = (Escaped(run.name.as_str()), Escaped(rule.name.as_str()));
+    write!(f, "  <testcase classname=\"{of}\" name=\"{name}\"")?;
+    match &mark.why {
+        Some(why) => write_failure(f, grade, why.as_str()),
+        None => f.write_str("/>\n"),
     }
 }
 
-// Adds the test cases of a run, one for each rule.
-fn add_cases(
-    alloc: Global,
-    text: &mut String,
-    run: &Run,
-    grade: &RunGrade,
-) -> Result<(), AllocError> {
+// Writes the test cases of a run, one for each rule.
+fn write_run<W: fmt::Write>(f: &mut fmt::Formatter<W>, run: &Run, grade: &RunGrade) -> fmt::Result {
     for (rule, mark) in run.asked.iter().zip(grade.marks.iter()) {
-        let case = Case {
-            run,
-            grade,
-            rule,
-            mark,
-        };
-        text.push_str(format!(in alloc; "{case}")?.as_str())?;
+        write_case(f, run, grade, rule, mark)?;
     }
     Ok(())
 }
 
 // The test cases of all runs.
-fn all_cases(alloc: Global, runs: &[Run], grades: &[RunGrade]) -> Result<String, AllocError> {
-    let mut cases = String::new(alloc);
-    for (run, grade) in runs.iter().zip(grades.iter()) {
-        add_cases(alloc, &mut cases, run, grade)?;
+#[derive(Clone, Copy)]
+struct Cases<'a> {
+    runs: &'a [Run],
+    grades: &'a [RunGrade],
+}
+
+impl<'a> fmt::Display for Cases<'a> {
+    fn fmt<W: fmt::Write>(&self, f: &mut fmt::Formatter<W>) -> fmt::Result {
+        for (run, grade) in self.runs.iter().zip(self.grades.iter()) {
+            write_run(f, run, grade)?;
+        }
+        Ok(())
     }
-    Ok(cases)
 }
 
 // How many marks of a run are for what it doesn't have.
@@ -205,6 +194,17 @@ fn failures_of(marks: &[Mark]) -> u64 {
     failures
 }
 
+// How many marks there are of runs, and how many of them are for what a run doesn't have.
+fn counts(runs: &[RunGrade]) -> (u64, u64) {
+    let mut tests: u64 = 0;
+    let mut failures: u64 = 0;
+    for run in runs {
+        tests = tests.saturating_add(run.marks.len() as u64);
+        failures = failures.saturating_add(failures_of(run.marks.as_slice()));
+    }
+    (tests, failures)
+}
+
 /// The test suite of a submission of this name: a test case for each rule of each run.
 ///
 /// # Errors
@@ -216,14 +216,12 @@ pub fn xml_suite(
     name: &[u8],
     grade: &Grade,
 ) -> Result<String, SheetError> {
-    let cases = all_cases(alloc, exercise.runs.as_slice(), grade.runs.as_slice())?;
-    let mut failures: u64 = 0;
-    let mut tests: u64 = 0;
-    for run in &grade.runs {
-        failures = failures.saturating_add(failures_of(run.marks.as_slice()));
-        tests = tests.saturating_add(run.marks.len() as u64);
-    }
-    let (name, cases) = (Name(name), cases.as_str());
+    let (tests, failures) = counts(grade.runs.as_slice());
+    let name = Name(name);
+    let cases = Cases {
+        runs: exercise.runs.as_slice(),
+        grades: grade.runs.as_slice(),
+    };
     Ok(format!(in alloc;
         "<testsuite name=\"{name}\" tests=\"{tests}\" failures=\"{failures}\">\n{cases}</testsuite>\n"
     )?)
