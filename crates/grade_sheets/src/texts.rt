@@ -65,7 +65,7 @@ pub(crate) fn other_text(
     if wanted == shown {
         return Ok(None);
     }
-    Ok(Some(first_difference(alloc, wanted, shown)?))
+    first_difference(alloc, wanted, shown).map(Some)
 }
 
 // Whether bytes stand somewhere in others.
@@ -91,12 +91,24 @@ pub(crate) fn not_shown(
         return Ok(None);
     }
     let part = Quoted(part);
-    Ok(Some(format!(in alloc; "{part} isn't shown")?))
+    format!(in alloc; "{part} isn't shown").map(Some)
 }
 
 // The number that stands alone in a line.
 fn number_in(line: &[u8]) -> Option<u64> {
     std::str::from_utf8(line).ok()?.trim().parse().ok()
+}
+
+// That a number is too low behind an earlier one.
+fn too_low(alloc: Global, number: u64, earlier: u64, least: u64) -> Result<String, AllocError> {
+    format!(in alloc;
+        "the number {number} is shown behind {earlier}, and should be {least} above it at least"
+    )
+}
+
+// That there are too few lines with a number alone.
+fn too_few(alloc: Global, found: usize) -> Result<String, AllocError> {
+    format!(in alloc; "{found} lines with a number alone are shown, and not two at least")
 }
 
 /// Why the numbers that stand alone in lines don't rise by so much each time, or aren't two at least.
@@ -113,18 +125,14 @@ pub(crate) fn no_rise(
         };
         if let Some(earlier) = before {
             if number < earlier.saturating_add(least) {
-                return Ok(Some(format!(in alloc;
-                    "the number {number} is shown behind {earlier}, and should be {least} above it at least"
-                )?));
+                return too_low(alloc, number, earlier, least).map(Some);
             }
         }
         before = Some(number);
         found = found.saturating_add(1);
     }
     if found < 2 {
-        return Ok(Some(format!(in alloc;
-            "{found} lines with a number alone are shown, and not two at least"
-        )?));
+        return too_few(alloc, found).map(Some);
     }
     Ok(None)
 }
@@ -241,5 +249,5 @@ pub(crate) fn not_said(
         return Ok(None);
     }
     let question = question(line);
-    Ok(Some(format!(in alloc; "`{question}:` has another answer")?))
+    format!(in alloc; "`{question}:` has another answer").map(Some)
 }
