@@ -9,6 +9,7 @@ use crate::notation::Named;
 use crate::texts::{no_rise, not_predicted, not_said, not_shown, other_text};
 use grade_rules::{Edge, End, Judgement, Note, Pattern, Rule, count, fits_any, judge};
 use std::alloc::{AllocError, Global};
+use std::fmt;
 
 /// What is known of a run.
 #[derive(Clone, Copy)]
@@ -101,12 +102,21 @@ fn step_behind<'a>(texts: &'a [String], edges: &[Edge], place: usize) -> &'a str
     ""
 }
 
-// Adds where a step is missing, by another step, if there is one.
-fn add_step(alloc: Global, text: &mut String, word: &str, step: &str) -> Result<(), AllocError> {
-    if !step.is_empty() {
-        text.push_str(format!(in alloc; " {word} `{step}`")?.as_str())?;
+// Where a step is missing, by another step; empty if there is no other.
+#[derive(Clone, Copy)]
+struct Beside<'a> {
+    word: &'a str,
+    step: &'a str,
+}
+
+impl<'a> fmt::Display for Beside<'a> {
+    fn fmt<W: fmt::Write>(&self, f: &mut fmt::Formatter<W>) -> fmt::Result {
+        let (word, step) = (self.word, self.step);
+        if step.is_empty() {
+            return Ok(());
+        }
+        write!(f, " {word} `{step}`")
     }
-    Ok(())
 }
 
 // Why steps can't be arranged: this one is missing.
@@ -119,12 +129,20 @@ fn missing(
     notes: &[Note],
 ) -> Result<String, AllocError> {
     let own = text_at(texts, place);
-    let mut text = format!(in alloc; "`{own}` is missing")?;
-    if is_somewhere(steps, place, notes) {
-        add_step(alloc, &mut text, "behind", step_before(texts, edges, place))?;
-    }
-    add_step(alloc, &mut text, "before", step_behind(texts, edges, place))?;
-    Ok(text)
+    let earlier = if is_somewhere(steps, place, notes) {
+        step_before(texts, edges, place)
+    } else {
+        ""
+    };
+    let behind = Beside {
+        word: "behind",
+        step: earlier,
+    };
+    let before = Beside {
+        word: "before",
+        step: step_behind(texts, edges, place),
+    };
+    format!(in alloc; "`{own}` is missing{behind}{before}")
 }
 
 // How many of the notes before a place fit one of the patterns.
@@ -161,14 +179,16 @@ fn other_note(
     }
 }
 
-// The text of a note.
-fn note_text(alloc: Global, notes: &[Note], place: usize) -> Result<String, AllocError> {
-    match notes.get(place) {
-        Some(note) => {
-            let note = Named(*note);
-            format!(in alloc; "{note}")
+// The note at a place; empty if there is none.
+#[derive(Clone, Copy)]
+struct NoteAt(Option<Note>);
+
+impl fmt::Display for NoteAt {
+    fn fmt<W: fmt::Write>(&self, f: &mut fmt::Formatter<W>) -> fmt::Result {
+        match self.0 {
+            Some(note) => Named(note).fmt(f),
+            None => Ok(()),
         }
-        None => Ok(String::new(alloc)),
     }
 }
 
@@ -199,7 +219,7 @@ fn counted_text(
 
 // That the note at a place may not come.
 fn unwanted_text(alloc: Global, notes: &[Note], place: usize) -> Result<String, AllocError> {
-    let note = note_text(alloc, notes, place)?;
+    let note = NoteAt(notes.get(place).copied());
     format!(in alloc; "`{note}` may not come")
 }
 
@@ -210,7 +230,7 @@ fn alone_text(
     notes: &[Note],
     place: usize,
 ) -> Result<String, AllocError> {
-    let note = note_text(alloc, notes, place)?;
+    let note = NoteAt(notes.get(place).copied());
     format!(in alloc; "`{first}` is missing before `{note}`")
 }
 
