@@ -1,7 +1,7 @@
 //! What is asked of a run: the rules of an exercise, read.
 use crate::keys::{Keys, natural};
 use crate::notation::pattern;
-use crate::refusal::{SheetError, refused};
+use crate::refusal::{SheetError, refused, told};
 use grade_rules::{Edge, Pattern, Rule};
 use std::alloc::Global;
 use toml::Value;
@@ -129,7 +129,7 @@ pub struct Asked {
 fn pattern_of(alloc: Global, text: &str) -> Result<Pattern, SheetError> {
     match pattern(text) {
         Some(pattern) => Ok(pattern),
-        None => Err(SheetError::Text(format!(in alloc; "\"{text}\" is no pattern of a note")?)),
+        None => Err(told(format!(in alloc; "\"{text}\" is no pattern of a note"))),
     }
 }
 
@@ -303,10 +303,7 @@ fn check_of(alloc: Global, rule: &Keys<'_>) -> Result<Check, SheetError> {
 
 // A refusal with the place and the name of its rule.
 fn named(alloc: Global, place: &str, name: &str, why: &str) -> SheetError {
-    match format!(in alloc; "{place}, \"{name}\": {why}") {
-        Ok(text) => SheetError::Text(text),
-        Err(_) => SheetError::Memory,
-    }
+    told(format!(in alloc; "{place}, \"{name}\": {why}"))
 }
 
 // What a rule of a run asks for, whose rules are counted from 1: exactly one of `status`, `shown`, `shows`, `rise`, `line`,

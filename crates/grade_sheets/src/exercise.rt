@@ -1,7 +1,7 @@
 //! The file of an exercise, in TOML 1.1.
 use crate::asked::{Asked, read_rule};
 use crate::keys::Keys;
-use crate::refusal::SheetError;
+use crate::refusal::{SheetError, told};
 use std::alloc::Global;
 use toml::{Table, Value};
 use xk_base::limits::{FRAMES_MAX, FRAMES_MIN};
@@ -181,7 +181,7 @@ fn all_runs(alloc: Global, file: &Keys<'_>) -> Result<Vec<Run>, SheetError> {
 fn table_of(alloc: Global, text: &str) -> Result<Table, SheetError> {
     match toml::table_from_str(alloc, text) {
         Ok(table) => Ok(table),
-        Err(error) => Err(SheetError::Text(format!(in alloc; "{error}")?)),
+        Err(error) => Err(told(format!(in alloc; "{error}"))),
     }
 }
 

@@ -1,7 +1,7 @@
 //! The keys of a table of TOML, read one by one.
 ghost use Rattle.std.specs.Prelude.{◌≤◌, IfOk};
 
-use crate::refusal::SheetError;
+use crate::refusal::{SheetError, told};
 use std::alloc::Global;
 use toml::{Table, Value};
 
@@ -32,10 +32,7 @@ impl<'a> Keys<'a> {
     /// A refusal that tells what is wrong with a key of this table.
     pub fn refused(&self, alloc: Global, what: &str, key: &str) -> SheetError {
         let place = self.place;
-        match format!(in alloc; "{what} `{key}` in {place}") {
-            Ok(text) => SheetError::Text(text),
-            Err(_) => SheetError::Memory,
-        }
+        told(format!(in alloc; "{what} `{key}` in {place}"))
     }
 
     /// Whether a key is there.
@@ -112,8 +109,11 @@ impl<'a> Keys<'a> {
         match natural(value) {
             Some(number) if least <= number && number <= most => Ok(number),
             _ => {
-                let what = format!(in alloc; "no number from {least} to {most}:")?;
-                Err(self.refused(alloc, what.as_str(), key))
+                let place = self.place;
+                let text = format!(in alloc;
+                    "no number from {least} to {most}: `{key}` in {place}"
+                );
+                Err(told(text))
             }
         }
     }

@@ -25,10 +25,15 @@ impl<T: Drop> From<AllocFailed<T>> for SheetError {
     }
 }
 
-// A refusal with this text.
-pub(crate) fn refused(alloc: Global, why: &str) -> SheetError {
-    match String::from_str(alloc, why) {
+/// A refusal with a text, if there was memory for it.
+pub(crate) fn told(text: Result<String, AllocError>) -> SheetError {
+    match text {
         Ok(text) => SheetError::Text(text),
         Err(_) => SheetError::Memory,
     }
+}
+
+/// A refusal with this text.
+pub(crate) fn refused(alloc: Global, why: &str) -> SheetError {
+    told(String::from_str(alloc, why))
 }
