@@ -1,9 +1,10 @@
 -- Texts that are written one behind another.
-use Rattle.std.proofs.Common.{◌≡◌, ℕ, ◌+◌, List, [], ◌∷◌, ◌++◌, map, flat_map, refl, sym, ◌∙◌, ap, append_assoc, append-nil, map-id, arith, Result, OnOk}
+use Rattle.std.proofs.Common.{◌≡◌, ℕ, ◌+◌, List, [], ◌∷◌, ◌++◌, map, flat_map, refl, sym, ◌∙◌, ap, append_assoc, append-nil, map-id, arith, if◌then◌else◌, Result, Ok, Err, OnOk}
 use Rattle.std.proofs.lemmas.List.Concat.{flat_map-append}
 use Rattle.std.proofs.lemmas.Result.{on_ok_weaker}
 use Rattle.std.proofs.lemmas.List.FromFn.{map-range_with_len_more}
 use Rattle.std.specs.List.{range_with_len}
+use Rattle.std.specs.Result.{is_ok}
 
 -- a text behind an answer, and another behind it
 pub two_behind : (old mid new a b : List ℕ) → mid ≡ old ++ a → new ≡ mid ++ b → new ≡ old ++ (a ++ b)
@@ -12,6 +13,11 @@ two_behind old mid new a b first second = second ∙ ap (λ t. t ++ b) first ∙
 -- the same by a call that may fail
 pub shown_behind : {T E : Type 0} (r : Result T E) (old mid new a b : List ℕ) → mid ≡ old ++ a → OnOk r (new ≡ mid ++ b) → OnOk r (new ≡ old ++ (a ++ b))
 shown_behind r old mid new a b first second = on_ok_weaker r (two_behind old mid new a b first) second
+
+-- what was pushed, if there was room
+pub pushed : {T E : Type 0} (r : Result T E) (new whole old : List ℕ) → new ≡ (if is_ok r then whole else old) → OnOk r (new ≡ whole)
+pushed (Ok t) new whole old is = is
+pushed (Err e) new whole old is = tt
 
 -- and of three texts
 pub three_shown : {T E : Type 0} (r : Result T E) (old mid next new a b d : List ℕ) → mid ≡ old ++ a → next ≡ mid ++ b → OnOk r (new ≡ next ++ d) → OnOk r (new ≡ old ++ (a ++ b ++ d))

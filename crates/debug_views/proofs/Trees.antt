@@ -1,5 +1,8 @@
 -- Runs of pages, one behind another, and the tree that they are shown as.
-use Rattle.std.proofs.Common.{◌≡◌, ℕ, ◌+◌, ◌-◌, ◌<◌, ◌≤◌, ◌⊎◌, All, List, [], ◌∷◌, ◌++◌, length, take, drop, get_or, sym, ◌∙◌, ap, subst, arith, append_assoc, append-nil}
+use Rattle.std.proofs.Common.{◌≡◌, ℕ, ◌+◌, ◌-◌, ◌<◌, ◌≤◌, ◌⊎◌, ◌&&◌, ◌||◌, Bool, true, false, refl}
+use Rattle.std.proofs.Common.{All, List, [], ◌∷◌, ◌++◌, length, take, drop, get_or, sym, ◌∙◌, ap, subst, arith, append_assoc, append-nil}
+use Rattle.std.specs.Prelude.{not}
+use Rattle.std.specs.List.{list_all, list_any}
 use Rattle.std.proofs.lemmas.List.{take_more, drop_more}
 use Rattle.std.proofs.lemmas.List.Elements.{All-cons, All-nil}
 use Rattle.xk_base.specs.declared.limits.TheConstants.{VPN_END}
@@ -9,6 +12,15 @@ use Rattle.xv_machine.specs.Meaning.{Frames}
 use Rattle.debug_views.specs.PageRuns.{Adds, AreRunsIn, IsRunFrom}
 use Rattle.debug_views.specs.PagesText.{branches_among, run_text, runs_text}
 use Rattle.debug_views.specs.declared.page_runs.PageRun.{PageRun}
+
+-- none is other if all are so
+pub none-other : {X : Type 0} (p : X → Bool) (xs : List X) → not (list_any (λ x. not (p x)) xs) ≡ list_all p xs
+none-other p [] = refl
+none-other p (x ∷ xs) = by (p x) (none-other p xs)
+  where
+    by : (b : Bool) → not (list_any (λ x. not (p x)) xs) ≡ list_all p xs → not (not b || list_any (λ x. not (p x)) xs) ≡ (b && list_all p xs)
+    by true e = e
+    by false e = refl
 
 -- ---- runs that are found one by one
 

@@ -1,13 +1,16 @@
 -- The uses of frames, as a list that is made one by one.
-use Rattle.std.proofs.Common.{◌≡◌, ℕ, ◌+◌, ◌≤◌, ◌&&◌, Bool, true, false, nat_eq, nat_le, if◌then◌else◌}
-use Rattle.std.proofs.Common.{List, length, slice_get, Option, None, Some, refl, sym, ◌∙◌, subst, ap, arith}
-use Rattle.std.proofs.lemmas.Bool.{eqb-true, eq-eqb, leb-true, le-leb, and_parts}
+use Rattle.std.proofs.Common.{◌≡◌, ℕ, ◌+◌, ◌<◌, ◌≤◌, ◌⊎◌, inl, inr, min, ◌&&◌, Bool, true, false, nat_eq, nat_le, if◌then◌else◌}
+use Rattle.std.proofs.Common.{List, [], ◌∷◌, ◌++◌, length, length-append, slice_get, Option, None, Some, refl, sym, ◌∙◌, subst, ap, arith}
+use Rattle.std.proofs.lemmas.Bool.{eqb-true, eq-eqb, leb-true, le-leb, and_parts, cases_lt}
+use Rattle.std.proofs.lemmas.Bool.Decides.{eqb_tells}
 use Rattle.std.proofs.lemmas.Option.{slice_get_within, same_Some, none-some}
+use Rattle.circular_buffer.proofs.Places.{slice_get-last, slice_get-push}
+use Rattle.xk_base.specs.declared.limits.TheConstants.{FRAMES_MAX}
 use Rattle.kcall_core.specs.declared.kernel.observers.frame_uses.FrameUse.{FrameUse}
 use Rattle.kcall_core.specs.declared.kernel.observers.frame_uses.FrameUse.TheVariants.{Free, Trapframe, Root, Upper, Lower, Page, Pipe}
 use Rattle.xv_machine.specs.Meaning.{Meaning}
 use Rattle.xv_machine.specs.FrameUses.{IsUsed}
-use Rattle.debug_views.specs.FrameLists.{IsLeastLower, lower_in}
+use Rattle.debug_views.specs.FrameLists.{AreUses, IsLeastLower, lower_in}
 use Rattle.debug_views.specs.Focus.{lesser}
 use Rattle.debug_views.proofs.Least.{IsLeast, least-more}
 
@@ -16,6 +19,36 @@ pub record UsesSoFar (m : Meaning) (n : ℕ) (uses : List FrameUse) : Type 0 whe
   pub each : (f : ℕ) (used : FrameUse) → slice_get uses f ≡ Some used → IsUsed m f used
   pub long : length uses ≡ n
   pub few : n ≤ m.frames.count
+
+-- a frame that has a use is one of RAM's
+pub within-ram : (count f : ℕ) (o : Option FrameUse) (u : FrameUse) → (count ≤ f → o ≡ None) → o ≡ Some u → f < count
+within-ram count f o u none is = elim (cases_lt f count) [
+  | inl less ↦ less
+  | inr more ↦ absurd (none-some u (sym (none more) ∙ is))
+]
+
+-- the use of one frame more
+pub uses-more : (m : Meaning) (n : ℕ) (uses : List FrameUse) (u : FrameUse) → UsesSoFar m n uses → IsUsed m n u → n < m.frames.count → UsesSoFar m (n + 1) (uses ++ u ∷ [])
+uses-more m n uses u so_far is within = record {
+  each = λ f used at. elim (eqb_tells f n) [
+    | inl same ↦ (let last : slice_get (uses ++ u ∷ []) f ≡ Some u = slice_get-last uses u f (same.1 ∙ sym so_far.long) in
+        subst (λ k. IsUsed m k used) (sym same.1) (subst (IsUsed m n) (same_Some u used (sym last ∙ at)) is))
+    | inr other ↦ so_far.each f used (sym (slice_get-push uses u f (λ e. other.1 (e ∙ so_far.long))) ∙ at)
+  ];
+  long = length-append uses (u ∷ []) ∙ ap (λ k. k + 1) so_far.long;
+  few = omega (arith, within);
+}
+
+all-of-them : (n most count long : ℕ) → long ≡ n → n ≤ most → n ≤ count → min most count ≤ n → long ≡ min most count
+all-of-them n most count long is within few past = omega arith
+
+-- no frame is left
+pub uses-all : (m : Meaning) (n : ℕ) (uses : List FrameUse) → UsesSoFar m n uses → n ≤ FRAMES_MAX → (m.frames.count ≤ n) ⊎ (FRAMES_MAX ≤ n) → AreUses m uses
+uses-all m n uses so_far within past = record { each = so_far.each; all = all-of-them n FRAMES_MAX m.frames.count (length uses) so_far.long within so_far.few (least past) }
+  where
+    least : (m.frames.count ≤ n) ⊎ (FRAMES_MAX ≤ n) → min FRAMES_MAX m.frames.count ≤ n
+    least (inl few) = omega (arith, few)
+    least (inr all) = omega (arith, all)
 
 -- ---- lower tables
 

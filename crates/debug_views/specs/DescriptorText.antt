@@ -27,11 +27,18 @@ abbrev pub end_name : End → List ℕ
 end_name Reading = codes "read"
 end_name Writing = codes "write"
 
+-- a program's file, and an end of a pipe
+abbrev pub file_text : (name : List ℕ) → (offset : ℕ) → List ℕ
+file_text name offset = codes "file " ++ name_shown name ++ codes ", next byte " ++ grouped offset
+
+abbrev pub end_text : End → (frame : ℕ) → List ℕ
+end_text end frame = end_name end ++ codes " end of pipe " ++ decimal frame
+
 -- what an open file is on
 abbrev pub target_text : List ProgramFile → Target → List ℕ
 target_text programs Console = codes "console"
-target_text programs (Program place offset) = codes "file " ++ name_shown (file_name programs place) ++ codes ", next byte " ++ grouped offset
-target_text programs (Pipe frame end) = end_name end ++ codes " end of pipe " ++ decimal frame
+target_text programs (Program place offset) = file_text (file_name programs place) offset
+target_text programs (Pipe frame end) = end_text end frame
 
 -- what may be done with it
 abbrev pub rights_text : OpenFile → List ℕ

@@ -5,6 +5,10 @@ use Rattle.kcall_core.specs.declared.kernel.observers.frame_uses.FrameUse.{Frame
 use Rattle.kcall_core.specs.declared.kernel.observers.frame_uses.FrameUse.TheVariants.{Trapframe, Root, Upper, Lower, Page, Pipe}
 use Rattle.xv_machine.specs.Meaning.{Meaning}
 use Rattle.xv_machine.specs.FrameUses.{IsUsed}
+use Rattle.debug_views.specs.declared.frame_uses.Counted.{Counted}
+use Rattle.debug_views.specs.declared.frame_uses.Counted.TheVariants.{Pages, Tables, Trapframes, Frames, Pipes}
+use Rattle.debug_views.specs.declared.frame_uses.Table.{Table}
+use Rattle.debug_views.specs.declared.frame_uses.Table.TheVariants.{TheRoot, UpperAt, LowerAt}
 
 -- Each frame of the machine's RAM, with its use, from frame 0 on
 pub record AreUses (m : Meaning) (uses : List FrameUse) : Type 0 where
@@ -45,6 +49,20 @@ is_lower_of p place _ = false
 abbrev pub is_pipe : FrameUse → Bool
 is_pipe Pipe = true
 is_pipe _ = false
+
+-- those that are counted
+abbrev pub is_counted : Counted → FrameUse → Bool
+is_counted (Pages p) = is_page_of p
+is_counted (Tables p) = is_table_of p
+is_counted (Trapframes p) = is_trapframe_of p
+is_counted (Frames p) = is_frame_of p
+is_counted Pipes = is_pipe
+
+-- this table of process p
+abbrev pub is_this_table : (p : ℕ) → Table → FrameUse → Bool
+is_this_table p TheRoot = is_root_of p
+is_this_table p (UpperAt place) = is_upper_of p place
+is_this_table p (LowerAt place) = is_lower_of p place
 
 -- ---- lower tables
 

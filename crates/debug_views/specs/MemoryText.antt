@@ -32,10 +32,14 @@ digits_in_line s p address count places = flat_map (byte_in_line s p address cou
 abbrev pub characters_in_line : State → (p address places : ℕ) → List ℕ
 characters_in_line s p address places = map (λ place. character (byte_behind s p address place)) (range_with_len 0 places)
 
+-- these between two strokes
+abbrev pub characters_between : State → (p address places : ℕ) → List ℕ
+characters_between s p address places = codes "  |" ++ characters_in_line s p address places ++ codes "|\n"
+
 -- a line: its address, its bytes, and these as characters
 abbrev pub memory_line : State → (p address count : ℕ) → List ℕ
 memory_line s p address count =
-    codes "0x" ++ hexadecimal_places 10 address ++ codes " " ++ digits_in_line s p address count 16 ++ codes "  |" ++ characters_in_line s p address count ++ codes "|\n"
+    codes "0x" ++ hexadecimal_places 10 address ++ codes " " ++ digits_in_line s p address count 16 ++ characters_between s p address count
 
 -- so many bytes from an address on, in lines of 16, in so many at most; none from 2^64 on
 unfoldable pub memory_lines : State → (p lines address count : ℕ) → List ℕ

@@ -17,6 +17,8 @@ use Rattle.debug_views.specs.PageRuns.{AreRuns, behind_runs}
 use Rattle.debug_views.specs.declared.page_runs.Kind.{Kind}
 use Rattle.debug_views.specs.declared.page_runs.Kind.TheVariants.{There, Absent, NoTable}
 use Rattle.debug_views.specs.declared.page_runs.PageRun.{PageRun}
+use Rattle.debug_views.specs.declared.pages.Beside.{Beside}
+use Rattle.debug_views.specs.declared.pages.Beside.TheVariants.{OfUpper, OfLower, OfOtherUpper, OfOtherLower}
 use Rattle.debug_views.specs.declared.pages.Branches.{Branches}
 
 -- ---- where a run of pages stands in the tree
@@ -31,6 +33,13 @@ same_lower run other = nat_eq (other.first / 512) (run.first / 512)
 -- it is of the same lower table, or else of another upper one
 abbrev pub no_other_lower : (run other : PageRun) → Bool
 no_other_lower run other = not (same_upper run other) || same_lower run other
+
+-- the other lies so beside a run
+abbrev pub lies : (run : PageRun) → Beside → (other : PageRun) → Bool
+lies run OfUpper = same_upper run
+lies run OfLower = same_lower run
+lies run OfOtherUpper = λ other. not (same_upper run other)
+lies run OfOtherLower = λ other. not (no_other_lower run other)
 
 -- A run begins a table if none before it is of that table. A branch is the last one if no run behind it has another branch at the same place
 abbrev pub branches_among : (before behind : List PageRun) → (run : PageRun) → Branches

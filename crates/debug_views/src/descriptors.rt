@@ -1,15 +1,14 @@
 //! The descriptors of a process.
-ghost use Rattle.std.specs.Prelude.{◌≡◌, ◌++◌, Some, OnOk, string_bytes};
-ghost use Rattle.debug_views.specs.DescriptorText.{descriptor_text, descriptor_told, descriptors_shown, descriptors_text, end_name, file_name, first_descriptors, rights_text, sharing_text, target_text};
+ghost use Rattle.std.specs.Prelude.{◌≡◌, ◌++◌, OnOk, string_bytes};
+ghost use Rattle.debug_views.specs.DescriptorText.{descriptor_text, descriptor_told, descriptors_shown, descriptors_text, end_name, end_text, file_name, file_text, first_descriptors, rights_text, sharing_text, target_text};
 ghost use Rattle.debug_views.specs.Sharing.{first_with, names_file};
 ghost use Rattle.kcall_core.specs.Observers.{descriptor_of};
 
 use crate::focus::{lives, program_name, show_none};
 use debug_words::texts::{Grouped, Named, Plain};
 use std::alloc::AllocError;
-use std::fmt;
 use xk_base::limits::NOFILE;
-use xk_base::{Fd, Pid};
+use xk_base::{Fd, Frame, Pid};
 use xv_machine::{Descriptor, End, FileId, Machine, OpenFile, Target};
 use xv_session::Session;
 
@@ -33,30 +32,34 @@ fn end_name(end: End) -> &'static str
     }
 }
 
-/// What an open file is on.
-#[derive(Clone, Copy)]
-struct TargetShown<'a> {
-    machine: &'a Machine,
-    target: Target,
+/// Writes a program's file, and which of its bytes is the next.
+fn show_file(name: &[u8], offset: u64, answer: &mut String) -> Result<(), AllocError>
+    ensures { OnOk result (string_bytes answer.new ≡ string_bytes answer.old ++ file_text name.now offset) }
+{
+    let name = Plain(name);
+    let offset = Grouped(offset);
+    write!(answer, "file {name}, next byte {offset}")
 }
 
-impl<'a> fmt::Display for TargetShown<'a> {
-    ghost output = { λ t. Some (target_text t.machine.now.world.state.programs t.target) };
+/// Writes an end of a pipe, which lies in a frame.
+fn show_end(end: End, frame: Frame, answer: &mut String) -> Result<(), AllocError>
+    ensures { OnOk result (string_bytes answer.new ≡ string_bytes answer.old ++ end_text end frame) }
+{
+    let end = end_name(end);
+    let frame = frame.number();
+    write!(answer, "{end} end of pipe {frame}")
+}
 
-    fn fmt<W: fmt::Write>(&self, f: &mut fmt::Formatter<W>) -> fmt::Result {
-        match self.target {
-            Target::Console => f.write_str("console"),
-            Target::Program { program, offset } => {
-                let name = Plain(file_name(self.machine, program));
-                let offset = Grouped(offset);
-                write!(f, "file {name}, next byte {offset}")
-            }
-            Target::Pipe { frame, end } => {
-                let end = end_name(end);
-                let frame = frame.number();
-                write!(f, "{end} end of pipe {frame}")
-            }
+/// Writes what an open file is on.
+fn show_target(machine: &Machine, target: Target, answer: &mut String) -> Result<(), AllocError>
+    ensures { OnOk result (string_bytes answer.new ≡ string_bytes answer.old ++ target_text machine.now.world.state.programs target) }
+{
+    match target {
+        Target::Console => answer.push_str("console"),
+        Target::Program { program, offset } => {
+            show_file(file_name(machine, program), offset, answer)
         }
+        Target::Pipe { frame, end } => show_end(end, frame, answer),
     }
 }
 
@@ -100,13 +103,13 @@ fn show_sharing(fd: Fd, first: Option<Fd>, answer: &mut String) -> Result<(), Al
     ensures { OnOk result (string_bytes answer.new ≡ string_bytes answer.old ++ sharing_text fd first) }
 {
     let Some(first) = first else {
-        return writeln!(answer);
+        return answer.push_str("\n");
     };
     let first = first.number();
     if first < fd.number() {
         writeln!(answer, "; the open file of fd {first}")
     } else {
-        writeln!(answer)
+        answer.push_str("\n")
     }
 }
 
@@ -122,11 +125,8 @@ fn show_descriptor(
 {
     let number = fd.number();
     let rights = rights_of(&descriptor.open_file);
-    let target = TargetShown {
-        machine,
-        target: descriptor.open_file.target,
-    };
-    write!(answer, "{number:>4}  {rights}   {target}")?;
+    write!(answer, "{number:>4}  {rights}   ")?;
+    show_target(machine, descriptor.open_file.target, answer)?;
     show_sharing(fd, first_on(machine, pid, descriptor.file), answer)
 }
 

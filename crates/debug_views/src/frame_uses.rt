@@ -1,7 +1,7 @@
 //! What each frame of RAM is used for.
 ghost use Rattle.std.specs.Prelude.{◌≡◌, IfOk, count_by, position};
 ghost use Rattle.debug_views.specs.Focus.{lesser};
-ghost use Rattle.debug_views.specs.FrameLists.{AreUses, IsLeastLower, is_frame_of, is_lower_of, is_page_of, is_pipe, is_root_of, is_table_of, is_trapframe_of, is_upper_of, lower_in};
+ghost use Rattle.debug_views.specs.FrameLists.{AreUses, IsLeastLower, is_counted, is_frame_of, is_lower_of, is_page_of, is_pipe, is_root_of, is_table_of, is_this_table, is_trapframe_of, is_upper_of, lower_in};
 
 use std::alloc::{AllocError, Global};
 use xk_base::limits::FRAMES_MAX;
@@ -67,36 +67,6 @@ fn is_pipe(used: &FrameUse) -> bool
     }
 }
 
-/// How many frames of these are pages of the process.
-pub(crate) fn pages_in(uses: &[FrameUse], owner: Pid) -> usize
-    ensures { result ≡ count_by (is_page_of owner) uses.now }
-{
-    uses.iter().filter(|used| is_page_of(used, owner)).count()
-}
-
-/// How many frames of these are tables of the process.
-pub(crate) fn tables_in(uses: &[FrameUse], owner: Pid) -> usize
-    ensures { result ≡ count_by (is_table_of owner) uses.now }
-{
-    uses.iter().filter(|used| is_table_of(used, owner)).count()
-}
-
-/// How many frames of these are the trapframe of the process.
-pub(crate) fn trapframes_in(uses: &[FrameUse], owner: Pid) -> usize
-    ensures { result ≡ count_by (is_trapframe_of owner) uses.now }
-{
-    uses.iter()
-        .filter(|used| is_trapframe_of(used, owner))
-        .count()
-}
-
-/// How many frames of these are pipes.
-pub(crate) fn pipes_in(uses: &[FrameUse]) -> usize
-    ensures { result ≡ count_by is_pipe uses.now }
-{
-    uses.iter().filter(|used| is_pipe(used)).count()
-}
-
 /// Whether it is a page, a table or the trapframe of the process.
 fn is_frame_of(used: &FrameUse, owner: Pid) -> bool
     ensures { result ≡ is_frame_of owner used.now }
@@ -104,11 +74,39 @@ fn is_frame_of(used: &FrameUse, owner: Pid) -> bool
     is_page_of(used, owner) || is_table_of(used, owner) || is_trapframe_of(used, owner)
 }
 
-/// How many frames of these the process has.
-pub(crate) fn frames_in(uses: &[FrameUse], owner: Pid) -> usize
-    ensures { result ≡ count_by (is_frame_of owner) uses.now }
+/// Frames that are counted.
+#[derive(Clone, Copy)]
+pub(crate) enum Counted {
+    /// The pages of a process.
+    Pages(Pid),
+    /// Its tables.
+    Tables(Pid),
+    /// Its trapframe.
+    Trapframes(Pid),
+    /// All of these.
+    Frames(Pid),
+    /// The pipes.
+    Pipes,
+}
+
+/// Whether it is one of those that are counted.
+fn is_counted(used: &FrameUse, counted: Counted) -> bool
+    ensures { result ≡ is_counted counted used.now }
 {
-    uses.iter().filter(|used| is_frame_of(used, owner)).count()
+    match counted {
+        Counted::Pages(owner) => is_page_of(used, owner),
+        Counted::Tables(owner) => is_table_of(used, owner),
+        Counted::Trapframes(owner) => is_trapframe_of(used, owner),
+        Counted::Frames(owner) => is_frame_of(used, owner),
+        Counted::Pipes => is_pipe(used),
+    }
+}
+
+/// How many frames of these are counted.
+pub(crate) fn count_of(uses: &[FrameUse], counted: Counted) -> usize
+    ensures { result ≡ count_by (is_counted counted) uses.now }
+{
+    uses.iter().filter(|used| is_counted(used, counted)).count()
 }
 
 /// Whether it is the root table of the process.
@@ -141,25 +139,33 @@ fn is_lower_of(used: &FrameUse, owner: Pid, wanted: u32) -> bool
     }
 }
 
-/// The frame of the root table of the process; `None` if it has none.
-pub(crate) fn root_frame(uses: &[FrameUse], owner: Pid) -> Option<usize>
-    ensures { result ≡ position (is_root_of owner) uses.now }
-{
-    uses.iter().position(|used| is_root_of(used, owner))
+/// A table of a process.
+#[derive(Clone, Copy)]
+pub(crate) enum Table {
+    TheRoot,
+    /// The upper table at this place.
+    UpperAt(u32),
+    /// The lower table at this place.
+    LowerAt(u32),
 }
 
-/// The frame of the process's upper table at this place; `None` if it has none.
-pub(crate) fn upper_frame(uses: &[FrameUse], owner: Pid, place: u32) -> Option<usize>
-    ensures { result ≡ position (is_upper_of owner place) uses.now }
+/// Whether it is this table of the process.
+fn is_this_table(used: &FrameUse, owner: Pid, table: Table) -> bool
+    ensures { result ≡ is_this_table owner table used.now }
 {
-    uses.iter().position(|used| is_upper_of(used, owner, place))
+    match table {
+        Table::TheRoot => is_root_of(used, owner),
+        Table::UpperAt(place) => is_upper_of(used, owner, place),
+        Table::LowerAt(place) => is_lower_of(used, owner, place),
+    }
 }
 
-/// The frame of the process's lower table at this place; `None` if it has none.
-pub(crate) fn lower_frame(uses: &[FrameUse], owner: Pid, place: u32) -> Option<usize>
-    ensures { result ≡ position (is_lower_of owner place) uses.now }
+/// The frame of this table of the process; `None` if it has none.
+pub(crate) fn table_frame(uses: &[FrameUse], owner: Pid, table: Table) -> Option<usize>
+    ensures { result ≡ position (is_this_table owner table) uses.now }
 {
-    uses.iter().position(|used| is_lower_of(used, owner, place))
+    uses.iter()
+        .position(|used| is_this_table(used, owner, table))
 }
 
 /// The place of the process's lower table that a frame has, if it is one from this place on.

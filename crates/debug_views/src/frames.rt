@@ -6,7 +6,7 @@ ghost use Rattle.debug_views.specs.Focus.{name_in};
 ghost use Rattle.debug_views.specs.Written.{Writes};
 
 use crate::focus::{least_from, program_name};
-use crate::frame_uses::{frames_in, pages_in, pipes_in, tables_in, trapframes_in, uses_of};
+use crate::frame_uses::{Counted, count_of, uses_of};
 use crate::pages::RightsShown;
 use debug_words::texts::{Grouped, Hexadecimal, Many, Named, Plain};
 use std::alloc::{AllocError, Global};
@@ -118,10 +118,10 @@ fn show_share(
 {
     let number = pid.number();
     let name = Plain(name_or_stroke(session, pid));
-    let pages = Grouped(pages_in(uses, pid) as u64);
-    let tables = Grouped(tables_in(uses, pid) as u64);
-    let trapframes = Grouped(trapframes_in(uses, pid) as u64);
-    let all = Grouped(frames_in(uses, pid) as u64);
+    let pages = Grouped(count_of(uses, Counted::Pages(pid)) as u64);
+    let tables = Grouped(count_of(uses, Counted::Tables(pid)) as u64);
+    let trapframes = Grouped(count_of(uses, Counted::Trapframes(pid)) as u64);
+    let all = Grouped(count_of(uses, Counted::Frames(pid)) as u64);
     writeln!(
         answer,
         "{number:>5} {name:<14} {pages:>7} {tables:>7} {trapframes:>10} {all:>7}"
@@ -170,7 +170,7 @@ fn show_head(session: &Session, uses: &[FrameUse], answer: &mut String) -> Resul
     let frames = Many(uses.len() as u64, "frame");
     let bytes = Grouped(PAGE_BYTES);
     let free = Grouped(u64::from(session.machine().free_frames()));
-    let pipes = Grouped(pipes_in(uses) as u64);
+    let pipes = Grouped(count_of(uses, Counted::Pipes) as u64);
     writeln!(
         answer,
         "{frames} of {bytes} bytes: {free} are free, and pipes have {pipes}\n  pid program          pages  tables  trapframe     all"

@@ -142,10 +142,7 @@ pub fn show_trace(session: &Session, count: u32, answer: &mut String) -> Result<
     let machine = session.machine();
     let kept = machine.trace_len();
     if kept == 0 {
-        return writeln!(
-            answer,
-            "the trace has no notes: --trace N lets it keep the last N"
-        );
+        return answer.push_str("the trace has no notes: --trace N lets it keep the last N\n");
     }
     let first = kept.saturating_sub(count as usize);
     for place in first..kept {

@@ -1,7 +1,7 @@
 //! Bytes of a process's memory.
 ghost use Rattle.std.specs.Prelude.{◌≡◌, ◌++◌, ◌<◌, ◌≤◌, OnOk, string_bytes};
 ghost use Rattle.debug_views.specs.Bytes.{byte_behind};
-ghost use Rattle.debug_views.specs.MemoryText.{byte_in_line, character, characters_in_line, digits_in_line, digits_shown, gap_at, memory_line, memory_lines, memory_shown, memory_text};
+ghost use Rattle.debug_views.specs.MemoryText.{byte_in_line, character, characters_between, characters_in_line, digits_in_line, digits_shown, gap_at, memory_line, memory_lines, memory_shown, memory_text};
 
 use crate::focus::{lives, program_name, show_none};
 use debug_words::texts::Named;
@@ -102,6 +102,21 @@ fn show_characters(
     Ok(())
 }
 
+/// Writes the bytes of a line as characters between two strokes, so many.
+fn show_between_strokes(
+    machine: &Machine,
+    pid: Pid,
+    address: u64,
+    count: u32,
+    answer: &mut String,
+) -> Result<(), AllocError>
+    ensures { OnOk result (string_bytes answer.new ≡ string_bytes answer.old ++ characters_between machine.now.world.state pid address count) }
+{
+    answer.push_str("  |")?;
+    show_characters(machine, pid, address, count, answer)?;
+    answer.push_str("|\n")
+}
+
 /// Writes a line: the bytes from an address on, so many, which may be fewer than a line has room for.
 fn show_line(
     machine: &Machine,
@@ -114,9 +129,7 @@ fn show_line(
 {
     write!(answer, "0x{address:010x} ")?;
     show_bytes(machine, pid, address, count, answer)?;
-    answer.push_str("  |")?;
-    show_characters(machine, pid, address, count, answer)?;
-    answer.push_str("|\n")
+    show_between_strokes(machine, pid, address, count, answer)
 }
 
 /// Writes so many bytes from an address on, in so many lines at most; those behind 2^64 are left out.

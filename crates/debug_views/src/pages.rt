@@ -1,7 +1,7 @@
 //! The tables and pages of a process, as a tree (RISC-V Privileged ISA, "Sv39: Page-Based 39-bit Virtual-Memory
 //! System").
 ghost use Rattle.std.specs.Prelude.{◌≡◌, [], ◌++◌, ◌+◌, ◌/◌, ◌<◌, ◌≤◌, min, length, take, drop, All, OnOk, Some, string_bytes};
-ghost use Rattle.std.specs.List.{list_all, list_any};
+ghost use Rattle.std.specs.List.{list_any};
 ghost use Rattle.xk_base.specs.declared.limits.TheConstants.{VPN_END};
 ghost use Rattle.xv_machine.specs.FrameUses.{page_frame_at};
 ghost use Rattle.debug_views.specs.Focus.{name_in};
@@ -11,7 +11,7 @@ ghost use Rattle.debug_views.specs.PagesText as meant;
 ghost use Rattle.debug_views.specs.Written.{Writes};
 
 use crate::focus::{program_name, show_none};
-use crate::frame_uses::{lower_frame, root_frame, upper_frame, uses_of};
+use crate::frame_uses::{Table, table_frame, uses_of};
 use crate::page_runs::{Kind, PageRun, lower_of, runs_of, upper_of};
 use debug_words::texts::{Hexadecimal, Many, Named};
 use std::alloc::{AllocError, Global};
@@ -43,10 +43,11 @@ impl fmt::Display for RightsShown {
             return f.write_str("----");
         };
         let rights = perm.rights();
-        f.write_str(letter(rights.read, "r"))?;
-        f.write_str(letter(rights.write, "w"))?;
-        f.write_str(letter(rights.execute, "x"))?;
-        f.write_str(letter(rights.user, "u"))
+        let read = letter(rights.read, "r");
+        let write = letter(rights.write, "w");
+        let execute = letter(rights.execute, "x");
+        let user = letter(rights.user, "u");
+        write!(f, "{read}{write}{execute}{user}")
     }
 }
 
@@ -83,32 +84,34 @@ fn no_other_lower(run: &PageRun, other: &PageRun) -> bool
     !same_upper(run, other) | same_lower(run, other)
 }
 
-/// Whether one of the others is of the run's upper table.
-fn any_in_upper(run: &PageRun, others: &[PageRun]) -> bool
-    ensures { result ≡ list_any (meant.same_upper run.now) others.now }
-{
-    others.iter().any(|other| same_upper(run, other))
+/// A run beside another.
+#[derive(Clone, Copy)]
+enum Beside {
+    /// It is of the same upper table, or of the same lower one.
+    OfUpper,
+    OfLower,
+    /// It is of another upper table, or of another lower one of the same upper one.
+    OfOtherUpper,
+    OfOtherLower,
 }
 
-/// Whether one of the others is of the run's lower table.
-fn any_in_lower(run: &PageRun, others: &[PageRun]) -> bool
-    ensures { result ≡ list_any (meant.same_lower run.now) others.now }
+/// Whether the other lies so beside a run.
+fn lies(run: &PageRun, other: &PageRun, beside: Beside) -> bool
+    ensures { result ≡ meant.lies run.now beside other.now }
 {
-    others.iter().any(|other| same_lower(run, other))
+    match beside {
+        Beside::OfUpper => same_upper(run, other),
+        Beside::OfLower => same_lower(run, other),
+        Beside::OfOtherUpper => !same_upper(run, other),
+        Beside::OfOtherLower => !no_other_lower(run, other),
+    }
 }
 
-/// Whether all the others are of the run's upper table.
-fn all_in_upper(run: &PageRun, others: &[PageRun]) -> bool
-    ensures { result ≡ list_all (meant.same_upper run.now) others.now }
+/// Whether one of the others lies so beside a run.
+fn has_one(run: &PageRun, others: &[PageRun], beside: Beside) -> bool
+    ensures { result ≡ list_any (meant.lies run.now beside) others.now }
 {
-    others.iter().all(|other| same_upper(run, other))
-}
-
-/// Whether none of the others is of another lower table of the run's upper table.
-fn none_in_other_lower(run: &PageRun, others: &[PageRun]) -> bool
-    ensures { result ≡ list_all (meant.no_other_lower run.now) others.now }
-{
-    others.iter().all(|other| no_other_lower(run, other))
+    others.iter().any(|other| lies(run, other, beside))
 }
 
 /// Where a run stands in the tree, among those before it and those behind it.
@@ -116,11 +119,11 @@ fn branches_among(before: &[PageRun], behind: &[PageRun], run: &PageRun) -> Bran
     ensures { result ≡ meant.branches_among before.now behind.now run.now }
 {
     Branches {
-        begins_upper: !any_in_upper(run, before),
-        begins_lower: !any_in_lower(run, before),
-        last_upper: all_in_upper(run, behind),
-        last_lower: none_in_other_lower(run, behind),
-        last: !any_in_lower(run, behind),
+        begins_upper: !has_one(run, before, Beside::OfUpper),
+        begins_lower: !has_one(run, before, Beside::OfLower),
+        last_upper: !has_one(run, behind, Beside::OfOtherUpper),
+        last_lower: !has_one(run, behind, Beside::OfOtherLower),
+        last: !has_one(run, behind, Beside::OfLower),
     }
 }
 
@@ -280,7 +283,7 @@ fn show_root(uses: &[FrameUse], pid: Pid, answer: &mut String) -> Result<(), All
     ensures { OnOk result (string_bytes answer.new ≡ string_bytes answer.old ++ meant.root_text uses.now pid) }
 {
     answer.push_str("root table: ")?;
-    show_table(root_frame(uses, pid), answer)
+    show_table(table_frame(uses, pid, Table::TheRoot), answer)
 }
 
 /// Writes the line of the upper table at a place.
@@ -295,7 +298,7 @@ fn show_upper(
 {
     let before = branch(branches.last_upper);
     write!(answer, "{before}upper table {place}: ")?;
-    show_table(upper_frame(uses, pid, place), answer)
+    show_table(table_frame(uses, pid, Table::UpperAt(place)), answer)
 }
 
 /// Writes the line of the lower table at a place.
@@ -311,7 +314,7 @@ fn show_lower(
     let above = below(branches.last_upper);
     let before = branch(branches.last_lower);
     write!(answer, "{above}{before}lower table {place}: ")?;
-    show_table(lower_frame(uses, pid, place), answer)
+    show_table(table_frame(uses, pid, Table::LowerAt(place)), answer)
 }
 
 /// Writes the pages of a run that has no lower table: its branch is one of the upper table.

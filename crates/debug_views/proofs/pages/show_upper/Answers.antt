@@ -14,4 +14,4 @@ returns c =
     let first : mid ≡ old ++ upper_head c.args.branches.now c.args.place =
     c.in_ok-write.ensures.bytes ∙ (λ i. old ++ concat (c.branch-before.ensures i ∷ codes "upper table " ∷ decimal c.args.place ∷ codes ": " ∷ [])) in
     shown_behind c.show_table.result old mid new (upper_head c.args.branches.now c.args.place) (table_text (position (is_upper_of c.args.pid c.args.place) c.args.uses.now)) first
-    (subst (λ (f : Option ℕ). OnOk c.show_table.result (new ≡ mid ++ table_text f)) c.upper_frame.ensures c.show_table.ensures)
+    (subst (λ (f : Option ℕ). OnOk c.show_table.result (new ≡ mid ++ table_text f)) c.table_frame.ensures c.show_table.ensures)
