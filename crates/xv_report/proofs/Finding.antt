@@ -1,10 +1,12 @@
 -- The processes that could wake a sleeper, found slot by slot.
-use Rattle.std.proofs.Common.{◌≡◌, ℕ, zero, suc, Bool, true, false, cond, List, [], ◌++◌, length, take, drop, Option, None, Some, refl, sym, ap, ◌∙◌, arith}
+use Rattle.std.proofs.Common.{◌≡◌, ℕ, zero, suc, ◌+◌, inl, inr, Bool, true, false, cond, List, [], ◌∷◌, ◌++◌, length, take, drop, Option, None, Some, refl, sym, ap, subst, ◌∙◌, arith}
 use Rattle.std.specs.Prelude.{IsSome, is_some, Contains}
 use Rattle.std.specs.FinMap.{get}
 use Rattle.std.specs.List.{refill}
 use Rattle.std.specs.List.Sorted.{IsPermutation, IsNonDecreasing}
 use Rattle.std.proofs.Math.Seq.{take-append_seam}
+use Rattle.std.proofs.lemmas.Bool.{cases_lt}
+use Rattle.std.proofs.lemmas.List.Elements.{Contains-append_left, Contains-push, Contains-push_cases}
 use Rattle.std.proofs.lemmas.List.Sorted.{Contains-permutation, IsPermutation-sym}
 use Rattle.xk_base.specs.Image.{some_below}
 use Rattle.xk_base.specs.declared.limits.TheConstants.{NOFILE, NPROC}
@@ -17,6 +19,7 @@ use Rattle.kernel_spec.specs.views.State.{State, live}
 use Rattle.kernel_spec.specs.views.View.{child_of}
 use Rattle.kernel_spec.specs.views.WellFormed.{HasSlots}
 use Rattle.kernel_spec.specs.views.Words.{is_this}
+use Rattle.kernel_spec.specs.waking.Turns.{HasSlot, IsFreeSlot}
 use Rattle.kernel_spec.proofs.Common.{there_if_alive}
 use Rattle.kcall_core.specs.Observers.{if_live}
 use Rattle.xv_report.specs.Waits.{is_end, holds_end, is_running, could_wake}
@@ -73,6 +76,37 @@ module _ (w : World) (p : ℕ) (wait : Wait) where
   none-found = record {
     only = λ q among. absurd (nothing-in q among);
     all = λ slots q slot less has can. absurd (omega arith);
+  }
+
+  -- one slot more, in which is no process that can
+  next-idle : (slot : ℕ) (pids : List ℕ) → AreWakersBelow slot w p wait pids → (HasSlots w.state w.turns → (q : ℕ) → HasSlot w.turns q slot → Can q → ⊥) → AreWakersBelow (slot + 1) w p wait pids
+  next-idle slot pids found none = record {
+    only = found.only;
+    all = λ slots q k less has can. elim (cases_lt k slot) [
+      | inl before ↦ found.all slots q k before has can
+      | inr not_before ↦ (let same : k ≡ slot = omega (arith, less, not_before) in absurd (none slots q (subst (λ (n : ℕ). HasSlot w.turns q n) same has) can))
+    ];
+  }
+
+  pub next-free : (slot : ℕ) (pids : List ℕ) → AreWakersBelow slot w p wait pids → IsFreeSlot w.turns slot → AreWakersBelow (slot + 1) w p wait pids
+  next-free slot pids found free = next-idle slot pids found (λ slots q has can. free q has)
+
+  pub next-unable : (slot q : ℕ) (pids : List ℕ) → AreWakersBelow slot w p wait pids → HasSlot w.turns q slot → could_wake w.state p wait q ≡ false → AreWakersBelow (slot + 1) w p wait pids
+  next-unable slot q pids found holds cannot = next-idle slot pids found (λ slots r has can.
+      let no_way : true ≡ false = sym can ∙ ap (could_wake w.state p wait) (slots.apart r q slot has holds) ∙ cannot in absurd (cc))
+
+  -- one slot more, with a process that can
+  pub next-able : (slot q : ℕ) (pids : List ℕ) → AreWakersBelow slot w p wait pids → HasSlot w.turns q slot → Can q → AreWakersBelow (slot + 1) w p wait (pids ++ q ∷ [])
+  next-able slot q pids found holds able = record {
+    only = λ r among. elim (Contains-push_cases pids q r among) [
+      | inl before ↦ found.only r before
+      | inr same ↦ subst Can same able
+    ];
+    all = λ slots r k less has can. elim (cases_lt k slot) [
+      | inl before ↦ Contains-append_left pids (q ∷ []) r (found.all slots r k before has can)
+      | inr not_before ↦ (let same : k ≡ slot = omega (arith, less, not_before) in
+          subst (Contains (pids ++ q ∷ [])) (slots.apart q r slot holds (subst (λ (n : ℕ). HasSlot w.turns r n) same has)) (Contains-push pids q))
+    ];
   }
 
   -- all slots, sorted

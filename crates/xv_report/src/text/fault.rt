@@ -28,15 +28,14 @@ impl<'a> fmt::Display for FaultText<'a> {
             pid: step.pid,
             program: self.program,
         };
-        write!(f, "{who}: ")?;
-        write_reason(&self.report.fault, f)?;
+        let reason = Reason(&self.report.fault);
         let instruction = Instruction {
             place: self.place(step.regs.pc()),
             word: step.word,
         };
-        write!(f, ", at pc {instruction}")?;
-        write_registers(&step.regs, f)?;
-        self.write_callers(f)
+        let registers = Registers(&step.regs);
+        let calls = CallsText(self);
+        write!(f, "{who}: {reason}, at pc {instruction}{registers}{calls}")
     }
 }
 
@@ -49,50 +48,66 @@ impl<'a> FaultText<'a> {
         }
     }
 
+    /// A call, which stands in the four bytes before its return address, and by what it is told.
+    fn write_call<W: fmt::Write>(
+        &self,
+        address: u64,
+        by: &str,
+        f: &mut fmt::Formatter<W>,
+    ) -> fmt::Result {
+        let call = self.place(address.wrapping_sub(4));
+        write!(f, "\n  called at {call}, by {by}")
+    }
+
     /// The call that is told by the register ra, or that none is told.
     fn write_last_call<W: fmt::Write>(&self, f: &mut fmt::Formatter<W>) -> fmt::Result {
         let callers = &self.report.callers;
         let has_frames = !callers.frames.as_slice().is_empty();
         // Where no instruction may be fetched, the call that led there has made no frame yet.
         let has_no_frame = self.report.fault.cause == Cause::FetchPageFault;
-        if let Some(address) = callers.ra {
-            let call = self.place(address.wrapping_sub(4));
-            if !has_frames {
-                return write!(
-                    f,
-                    "\n  called at {call}, by ra alone: it may be of an earlier call"
-                );
+        match callers.ra {
+            Some(address) if !has_frames => {
+                self.write_call(address, "ra alone: it may be of an earlier call", f)
             }
-            if has_no_frame {
-                return write!(f, "\n  called at {call}, by ra");
+            Some(address) if has_no_frame => self.write_call(address, "ra", f),
+            None if !has_frames => {
+                f.write_str("\n  no call is told: s0 leads to no frame, and ra to no call")
             }
-        } else if !has_frames {
-            return f.write_str("\n  no call is told: s0 leads to no frame, and ra to no call");
+            _ => Ok(()),
         }
-        Ok(())
     }
+}
 
-    /// The calls that led to the fault. A call stands in the four bytes before its return address.
-    fn write_callers<W: fmt::Write>(&self, f: &mut fmt::Formatter<W>) -> fmt::Result {
-        self.write_last_call(f)?;
-        for address in self.report.callers.frames.as_slice() {
-            let call = self.place(address.wrapping_sub(4));
-            write!(f, "\n  called at {call}, by the frame pointers")?;
+/// The calls that led to a fault.
+#[derive(Clone, Copy)]
+struct CallsText<'a>(&'a FaultText<'a>);
+
+impl<'a> fmt::Display for CallsText<'a> {
+    fn fmt<W: fmt::Write>(&self, f: &mut fmt::Formatter<W>) -> fmt::Result {
+        let text = self.0;
+        text.write_last_call(f)?;
+        for &address in text.report.callers.frames.as_slice() {
+            text.write_call(address, "the frame pointers", f)?;
         }
         Ok(())
     }
 }
 
 /// The registers x1 to x31, four in a line.
-fn write_registers<W: fmt::Write>(regs: &Regs, f: &mut fmt::Formatter<W>) -> fmt::Result {
-    for number in 1..32u8 {
-        let end = if number % 4 == 1 { "\n  " } else { "  " };
-        let register = Reg::new(number);
-        let name = register_name(register);
-        let value = regs.read(register);
-        write!(f, "{end}{name} {value:#x}")?;
+#[derive(Clone, Copy)]
+struct Registers<'a>(&'a Regs);
+
+impl<'a> fmt::Display for Registers<'a> {
+    fn fmt<W: fmt::Write>(&self, f: &mut fmt::Formatter<W>) -> fmt::Result {
+        for number in 1..32u8 {
+            let end = if number % 4 == 1 { "\n  " } else { "  " };
+            let register = Reg::new(number);
+            let name = register_name(register);
+            let value = self.0.read(register);
+            write!(f, "{end}{name} {value:#x}")?;
+        }
+        Ok(())
     }
-    Ok(())
 }
 
 /// An address, where it is known.
@@ -120,25 +135,30 @@ fn write_access<W: fmt::Write>(
 }
 
 /// What the instruction did, and why it may not be done.
-fn write_reason<W: fmt::Write>(fault: &Fault, f: &mut fmt::Formatter<W>) -> fmt::Result {
-    let step = &fault.step;
-    let address = step.address;
-    match fault.cause {
-        Cause::TargetMisaligned => {
-            let target = jump_target(&step.regs, step.word);
-            write_access("jump to", target, "is no multiple of 4", f)
+#[derive(Clone, Copy)]
+struct Reason<'a>(&'a Fault);
+
+impl<'a> fmt::Display for Reason<'a> {
+    fn fmt<W: fmt::Write>(&self, f: &mut fmt::Formatter<W>) -> fmt::Result {
+        let step = &self.0.step;
+        let address = step.address;
+        match self.0.cause {
+            Cause::TargetMisaligned => {
+                let target = jump_target(&step.regs, step.word);
+                write_access("jump to", target, "is no multiple of 4", f)
+            }
+            Cause::IllegalInstruction => f.write_str(kind_of(step.word.unwrap_or(0))),
+            Cause::Breakpoint => f.write_str("ebreak, with which a program gives up"),
+            Cause::LoadMisaligned => {
+                write_access("load from", address, "is no multiple of its size", f)
+            }
+            Cause::StoreMisaligned => {
+                write_access("store to", address, "is no multiple of its size", f)
+            }
+            Cause::FetchPageFault => f.write_str("no instruction may be fetched"),
+            Cause::LoadPageFault => write_access("load from", address, "may not be read", f),
+            Cause::StorePageFault => write_access("store to", address, "may not be written", f),
         }
-        Cause::IllegalInstruction => f.write_str(kind_of(step.word.unwrap_or(0))),
-        Cause::Breakpoint => f.write_str("ebreak, with which a program gives up"),
-        Cause::LoadMisaligned => {
-            write_access("load from", address, "is no multiple of its size", f)
-        }
-        Cause::StoreMisaligned => {
-            write_access("store to", address, "is no multiple of its size", f)
-        }
-        Cause::FetchPageFault => f.write_str("no instruction may be fetched"),
-        Cause::LoadPageFault => write_access("load from", address, "may not be read", f),
-        Cause::StorePageFault => write_access("store to", address, "may not be written", f),
     }
 }
 

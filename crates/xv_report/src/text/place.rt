@@ -81,7 +81,7 @@ impl<'a> fmt::Display for Instruction<'a> {
         let place = self.place;
         write!(f, "{place}: ")?;
         let Some(word) = self.word else {
-            return write!(f, "nothing");
+            return f.write_str("nothing");
         };
         let Some(instruction) = decode(word) else {
             return write!(f, "the word {word:#010x}");
