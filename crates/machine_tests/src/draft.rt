@@ -1,5 +1,7 @@
 //! The machine that a story is about.
-use super::story::{Place, Repeated, first_word, is_heading, is_silent};
+use super::story::{
+    Place, Repeated, first_word, is_heading, is_silent, push, replaced, rest_behind,
+};
 use std::process::Abort;
 use uasm_core::assemble;
 use xk_base::Program;
@@ -15,10 +17,10 @@ pub(super) struct Draft {
 // Adds a line of assembler to a source, in which `; ` stands for its end.
 fn push_line<R: Abort + AllocGlobal>(rt: &R, place: &Place<'_>, source: &mut String, line: &str) {
     let Repeated { first, last, text } = place.repetition(rt, line);
-    let lines = text.replace(rt.alloc(), "; ", "\n").expect(rt, "memory");
+    let mut lines = replaced(rt, text, "; ", "\n");
+    push(rt, &mut lines, "\n");
     for _ in first..=last {
-        source.push_str(lines.as_str()).expect(rt, "memory");
-        source.push_str("\n").expect(rt, "memory");
+        push(rt, source, lines.as_str());
     }
 }
 
@@ -52,7 +54,7 @@ fn source_below<R: Abort + AllocGlobal>(
         if is_heading(line) {
             break;
         }
-        match line.trim().strip_prefix("do ") {
+        match rest_behind(line.trim(), "do ") {
             Some(name) => push_definition(rt, place, &mut source, group, name),
             None if is_silent(line) => {}
             None => push_line(rt, place, &mut source, line.trim()),
@@ -80,8 +82,10 @@ impl Draft {
     // Adds a program of this name and this file.
     fn add<R: Abort + AllocGlobal>(&mut self, rt: &R, name: &str, bytes: Vec<u8>) {
         let name = Vec::from_slice(rt.alloc(), name.as_bytes()).expect(rt, "memory");
-        let is_added = self.programs.push(Program { name, bytes }).is_ok();
-        assert!(rt; is_added, "memory");
+        self.programs
+            .push(Program { name, bytes })
+            .ok()
+            .expect(rt, "memory");
     }
 
     // Adds a program of this name, whose source stands below this place.

@@ -1,7 +1,7 @@
 //! Machines that stories ask.
 use super::draft::Draft;
-use super::story::{Item, Place, first_word};
-use std::fmt::Display;
+use super::story::{Asks, Item, Place, first_word, push};
+use std::fmt::{Display, Write};
 use std::process::Abort;
 use xk_base::limits::PID_MAX;
 use xk_base::{BootError, Pid, Reg};
@@ -32,34 +32,33 @@ fn register<R: Abort>(rt: &R, place: &Place<'_>, name: &str) -> Reg {
     place.fail(rt, name)
 }
 
-// A value as a text.
-fn text<R: Abort + AllocGlobal, D: Display>(rt: &R, value: &D) -> String {
+/// A value as a text.
+pub(super) fn as_text<R: Abort + AllocGlobal, D: Display>(rt: &R, value: &D) -> String {
     format!(in rt.alloc(); "{value}").expect(rt, "memory")
 }
 
 // A value as a text, or `none`.
 fn text_or_none<R: Abort + AllocGlobal, D: Display>(rt: &R, value: &Option<D>) -> String {
     match value {
-        Some(value) => text(rt, value),
-        None => text(rt, &"none"),
+        Some(value) => as_text(rt, value),
+        None => as_text(rt, &"none"),
     }
 }
 
 // Adds two hexadecimal digits to a text, or `none`.
 fn push_byte<R: Abort + AllocGlobal>(rt: &R, told: &mut String, byte: Option<u8>) {
-    let digits = match byte {
-        Some(byte) => format!(in rt.alloc(); " {byte:02X}").expect(rt, "memory"),
-        None => text(rt, &" none"),
-    };
-    told.push_str(digits.as_str()).expect(rt, "memory");
+    match byte {
+        Some(byte) => write!(told, " {byte:02X}").expect(rt, "memory"),
+        None => push(rt, told, " none"),
+    }
 }
 
 // The bytes that a key makes the console show.
 fn bytes_of<R: Abort + AllocGlobal>(rt: &R, bytes: &[u8]) -> String {
     if bytes.is_empty() {
-        return text(rt, &"echoes none");
+        return as_text(rt, &"echoes none");
     }
-    let mut told = text(rt, &"echoes");
+    let mut told = as_text(rt, &"echoes");
     for byte in bytes {
         push_byte(rt, &mut told, Some(*byte));
     }
@@ -94,9 +93,15 @@ impl Pace {
 }
 
 /// A machine. No method has a contract: what a machine promises stays out of the proofs of the tests.
-#[derive(Drop)]
 pub(super) struct Scene {
     pub(super) machine: Machine,
+}
+
+// By hand, so that the proof of a function that lets go of a machine has one step for that, and not one for each part.
+impl Drop for Scene {
+    fn drop(self) {
+        let Scene { machine: _ } = self;
+    }
 }
 
 impl Scene {
@@ -129,13 +134,13 @@ impl Scene {
 
     // What comes of an event.
     fn event<R: Abort + AllocGlobal>(&mut self, rt: &R, event: Event) -> String {
-        text(rt, &self.machine.event(event))
+        as_text(rt, &self.machine.event(event))
     }
 
     // What comes of the next Runs.
     fn next<R: Abort + AllocGlobal>(&mut self, rt: &R, pace: &Pace) -> String {
         match pace {
-            Pace::Calls => text(rt, &self.run_on()),
+            Pace::Calls => as_text(rt, &self.run_on()),
             _ => self.event(rt, Event::Run),
         }
     }
@@ -144,7 +149,7 @@ impl Scene {
     fn echoes<R: Abort + AllocGlobal>(&mut self, rt: &R, key: u8) -> String {
         match self.machine.event(Event::Key(key)) {
             Outcome::Typed(echo) => bytes_of(rt, echo.as_slice()),
-            outcome => text(rt, &outcome),
+            outcome => as_text(rt, &outcome),
         }
     }
 
@@ -157,9 +162,9 @@ impl Scene {
 
     fn child<R: Abort + AllocGlobal>(&self, rt: &R, pid: Pid, child: Pid) -> String {
         match self.machine.child_state(pid, child) {
-            Some(ChildState::Running) => text(rt, &"running"),
-            Some(ChildState::Status(status)) => text(rt, &status),
-            None => text(rt, &"none"),
+            Some(ChildState::Running) => as_text(rt, &"running"),
+            Some(ChildState::Status(status)) => as_text(rt, &status),
+            None => as_text(rt, &"none"),
         }
     }
 
@@ -182,7 +187,7 @@ impl Scene {
     ) -> String {
         let (address, bytes) = first_word(wanted);
         let mut at = place.number(rt, address);
-        let mut told = text(rt, &address);
+        let mut told = as_text(rt, &address);
         for _ in bytes.split(' ') {
             push_byte(rt, &mut told, self.machine.peek(pid, at));
             at = at.wrapping_add(1);
@@ -215,22 +220,22 @@ impl Scene {
         item: &Item<'_>,
     ) -> Option<String> {
         let first = item.first;
-        let told = match item.word {
-            "note" => text_or_none(
+        let told = match item.asks {
+            Asks::Note => text_or_none(
                 rt,
                 &self.machine.trace(place.short_number(rt, first) as usize),
             ),
-            "free" => text(rt, &self.machine.free_frames()),
-            "status" => text_or_none(rt, &self.machine.halted()),
-            "current" => text_or_none(rt, &self.current()),
-            "child" => self.child(
+            Asks::Free => as_text(rt, &self.machine.free_frames()),
+            Asks::Status => text_or_none(rt, &self.machine.halted()),
+            Asks::Current => text_or_none(rt, &self.current()),
+            Asks::Child => self.child(
                 rt,
                 process(rt, place, first),
                 process(rt, place, item.second),
             ),
-            "register" => text_or_none(rt, &self.register(rt, place, item)),
-            "bytes" => self.bytes(rt, place, process(rt, place, first), item.wanted),
-            "zeros" => text(rt, &self.zeros(rt, place, item)),
+            Asks::Register => text_or_none(rt, &self.register(rt, place, item)),
+            Asks::Bytes => self.bytes(rt, place, process(rt, place, first), item.wanted),
+            Asks::Zeros => as_text(rt, &self.zeros(rt, place, item)),
             _ => return None,
         };
         Some(told)
@@ -245,13 +250,13 @@ impl Scene {
         pace: &Pace,
     ) -> String {
         let first = item.first;
-        match item.word {
-            "key" if item.second == "echoes" => self.echoes(rt, place.byte(rt, first)),
-            "key" => self.event(rt, Event::Key(place.byte(rt, first))),
-            "sent" => self.event(rt, Event::Send),
-            "tick" => self.event(rt, Event::Tick),
-            "runs" => text(rt, &self.machine.run(place.short_number(rt, first))),
-            "instructions" => text(
+        match item.asks {
+            Asks::Key if item.second == "echoes" => self.echoes(rt, place.byte(rt, first)),
+            Asks::Key => self.event(rt, Event::Key(place.byte(rt, first))),
+            Asks::Sent => self.event(rt, Event::Send),
+            Asks::Tick => self.event(rt, Event::Tick),
+            Asks::Runs => as_text(rt, &self.machine.run(place.short_number(rt, first))),
+            Asks::Instructions => as_text(
                 rt,
                 &self.machine.instructions(place.short_number(rt, first)),
             ),

@@ -82,7 +82,7 @@ impl Place<'_> {
 
     /// How often a line is told.
     pub(super) fn repetition<'a, R: Abort>(&self, rt: &R, line: &'a str) -> Repeated<'a> {
-        if let Some(numbered) = line.strip_prefix("N from ") {
+        if let Some(numbered) = rest_behind(line, "N from ") {
             return self.numbered(rt, numbered);
         }
         match line.split_once(" times: ") {
@@ -113,13 +113,33 @@ impl Place<'_> {
 
 /// The number that a word spells, if it does: a number below 0 stands for itself and 2^64.
 pub(super) fn number(word: &str) -> Option<u64> {
-    if let Some(digits) = word.strip_prefix("0x") {
+    if let Some(digits) = rest_behind(word, "0x") {
         return u64::from_str_radix(digits, 16).ok();
     }
-    match word.strip_prefix("-") {
+    match rest_behind(word, "-") {
         Some(digits) => Some(digits.parse::<u64>().ok()?.wrapping_neg()),
         None => word.parse::<u64>().ok(),
     }
+}
+
+/// A text in which another text stands in each place of a mark.
+pub(super) fn replaced<R: Abort + AllocGlobal>(
+    rt: &R,
+    text: &str,
+    mark: &str,
+    other: &str,
+) -> String {
+    text.replace(rt.alloc(), mark, other).expect(rt, "memory")
+}
+
+/// Adds a text to another.
+pub(super) fn push<R: Abort>(rt: &R, text: &mut String, more: &str) {
+    text.push_str(more).expect(rt, "memory");
+}
+
+/// What stands behind the beginning of a text, if it begins so.
+pub(super) fn rest_behind<'a>(text: &'a str, beginning: &str) -> Option<&'a str> {
+    text.strip_prefix(beginning)
 }
 
 /// What stands before the first place of a separator, and what behind it.
@@ -167,9 +187,28 @@ pub(super) fn heading<'a>(story: &'a str, word: &str) -> Option<&'a str> {
     }
 }
 
-// Words that ask: three behind which what they want stands at once, five behind which one word stands before it, and
-// three behind which two words stand before it.
-const ASKING: [&str; 11] = [
+/// What an item asks for.
+#[derive(Clone, Copy)]
+pub(super) enum Asks {
+    Free,
+    Status,
+    Current,
+    Key,
+    Runs,
+    Instructions,
+    Note,
+    Bytes,
+    Child,
+    Register,
+    Zeros,
+    Sent,
+    Tick,
+    /// What comes of a Run.
+    Run,
+}
+
+// The words that ask.
+static WORDS: [&str; 13] = [
     "free",
     "status",
     "current",
@@ -181,22 +220,54 @@ const ASKING: [&str; 11] = [
     "child",
     "register",
     "zeros",
+    "sent",
+    "tick",
 ];
 
-// How many words stand before what an item wants to hear. Where the item itself is what it wants to hear, none does.
-fn words_before(word: &str, first: &str, second: &str) -> usize {
-    if first == "->" {
-        return 2;
+// What each of them asks for.
+static ASKS: [Asks; 13] = [
+    Asks::Free,
+    Asks::Status,
+    Asks::Current,
+    Asks::Key,
+    Asks::Runs,
+    Asks::Instructions,
+    Asks::Note,
+    Asks::Bytes,
+    Asks::Child,
+    Asks::Register,
+    Asks::Zeros,
+    Asks::Sent,
+    Asks::Tick,
+];
+
+impl Asks {
+    // What an item with this first word asks for.
+    fn of(word: &str) -> Asks {
+        for index in 0..13usize {
+            if WORDS[index] == word {
+                return ASKS[index];
+            }
+        }
+        Asks::Run
     }
-    if second == "->" {
-        return 3;
-    }
-    for index in 0..11usize {
-        if ASKING[index] == word {
-            return 1 + usize::from(index >= 3) + usize::from(index >= 8);
+
+    // How many words stand before what an item wants to hear. Where the item itself is what it wants to hear, none
+    // does.
+    fn words_before(self, first: &str, second: &str) -> usize {
+        if first == "->" {
+            return 2;
+        }
+        if second == "->" {
+            return 3;
+        }
+        match self {
+            Asks::Free | Asks::Status | Asks::Current => 1,
+            Asks::Key | Asks::Runs | Asks::Instructions | Asks::Note | Asks::Bytes => 2,
+            Asks::Child | Asks::Register | Asks::Zeros => 3,
+            Asks::Sent | Asks::Tick | Asks::Run => 0,
         }
     }
-    0
 }
 
 // What stands behind the first words of a text, three at most.
@@ -215,10 +286,10 @@ fn behind_words(text: &str, count: usize) -> &str {
     first_word(behind).1
 }
 
-/// An item: its first three words, and what it wants to hear.
+/// An item: what it asks for, the two words behind that, and what it wants to hear.
 #[derive(Drop)]
 pub(super) struct Item<'a> {
-    pub(super) word: &'a str,
+    pub(super) asks: Asks,
     pub(super) first: &'a str,
     pub(super) second: &'a str,
     pub(super) wanted: &'a str,
@@ -230,11 +301,12 @@ impl Item<'_> {
         let (word, rest) = first_word(item);
         let (first, behind) = first_word(rest);
         let (second, _) = first_word(behind);
+        let asks = Asks::of(word);
         Item {
-            word,
+            asks,
             first,
             second,
-            wanted: behind_words(item, words_before(word, first, second)),
+            wanted: behind_words(item, asks.words_before(first, second)),
         }
     }
 

@@ -1,7 +1,9 @@
 //! Stories are told: machines are asked, and the answers are compared.
 use super::draft::Draft;
-use super::scene::{Pace, Scene};
-use super::story::{Item, Place, Repeated, first_line, heading, is_heading, is_silent, parted};
+use super::scene::{Pace, Scene, as_text};
+use super::story::{
+    Item, Place, Repeated, first_line, heading, is_heading, is_silent, parted, push, replaced,
+};
 use std::process::Abort;
 use xk_base::BootError;
 
@@ -34,12 +36,11 @@ fn meet_items<R: Abort + AllocGlobal>(
     }
 }
 
-// The text with a number for each `N` that stands before such an end.
-fn with_number<R: Abort + AllocGlobal>(rt: &R, text: &str, n: u64, end: &str) -> String {
-    let mark = format!(in rt.alloc(); "N{end}").expect(rt, "memory");
-    let number = format!(in rt.alloc(); "{n}{end}").expect(rt, "memory");
-    text.replace(rt.alloc(), mark.as_str(), number.as_str())
-        .expect(rt, "memory")
+// The text with a number for the `N` of each such mark, which is `N` and what stands behind it.
+fn with_number<R: Abort + AllocGlobal>(rt: &R, text: &str, n: u64, mark: &str) -> String {
+    let mut number = as_text(rt, &n);
+    push(rt, &mut number, parted(mark, "N").1);
+    replaced(rt, text, mark, number.as_str())
 }
 
 // Compares the items of a line.
@@ -52,7 +53,7 @@ fn meet_line<R: Abort + AllocGlobal>(
 ) {
     let Repeated { first, last, text } = place.repetition(rt, line);
     for n in first..=last {
-        let items = with_number(rt, text, n, "");
+        let items = with_number(rt, text, n, "N");
         meet_items(rt, scene, place, items.as_str(), pace);
     }
 }
@@ -86,7 +87,7 @@ fn draft<R: Abort + AllocGlobal>(rt: &R, group: &str, story: &str, text: &str) -
 
 // Compares why no machine boots with what a story says.
 fn meet_refusal<R: Abort + AllocGlobal>(rt: &R, text: &str, error: BootError) {
-    let refusal = format!(in rt.alloc(); "{error}").expect(rt, "memory");
+    let refusal = as_text(rt, &error);
     if heading(text, "\nrefused ") != Some(refusal.as_str()) {
         panic!(rt; "{text}: the machine is refused, {refusal}");
     }
@@ -119,7 +120,7 @@ fn tell_numbered<R: Abort + AllocGlobal>(rt: &R, group: &str, text: &str, range:
     };
     let Repeated { first, last, .. } = place.numbered(rt, range);
     for n in first..=last {
-        let text = with_number(rt, text, n, "\n");
+        let text = with_number(rt, text, n, "N\n");
         tell_story(rt, group, text.as_str());
     }
 }
