@@ -24,7 +24,7 @@ if [ "${1-}" = --unproved ]; then
     export PAGE_LINK=--allow-undefined
 else
     (cd "$root/crates/xv_page" && rt lib) >"$work/log" 2>&1 || { tail -20 "$work/log"; exit 1; }
-    build/module.sh "$root/crates/xv_page" "$work/page.bc" >"$work/log" 2>&1 || { tail -20 "$work/log"; exit 1; }
+    ../anywhere/build/keep.sh "$root/crates/xv_page" "$work/page.bc" >"$work/log" 2>&1 || { tail -20 "$work/log"; exit 1; }
 fi
 build/wasm.sh "$work/page.bc" "$work/page64.wasm"
 build/lower.sh "$work/page64.wasm" "$work/page.wasm"
