@@ -1,9 +1,14 @@
 #!/bin/bash
-# What a new user of a release does, one thing after another, for release.sh: tour.sh NAME, where NAME.tar.gz and
-# NAME-teacher.tar.gz lie. A line for each; the status is 0 if all are as they should be.
+# What a new user of a release does, one thing after another, for release.sh: tour.sh NAME HOW, where NAME.tar.gz and
+# NAME-teacher.tar.gz lie. A line for each; the status is 0 if all are as they should be. HOW says on which host:
+#
+#   native   a host for which the programs were built, without Node
+#   node     a host for which they weren't, with Node: the files in libexec/ are made those of another processor
+#   alone    a host that has Node and no other command, not even a shell
 set -u
 export LC_ALL=C
 name=$1
+how=$2
 bad=0
 
 # Says what is so, or isn't.
@@ -32,41 +37,113 @@ at_terminal() {
     (sleep "${PATIENCE-2}"; printf '%b' "$2"; sleep "${PATIENCE-2}") | timeout 60 script -qec "$1" /dev/null
 }
 
-for tool in cc gcc clang rustc rt python3 parallel; do
+# Runs the machine in all ways that a student has.
+look_around() {
+    has 'the shell at a terminal' '1 1 6' at_terminal './xv programs/bin/*' 'echo hello | wc\nexit\n'
+    has 'Ctrl-C at a terminal, and why nobody goes on' 'only process 1 can write' at_terminal './xv programs/course/hang/init.s' '\003quit\n'
+    has 'the shell by a pipe' '^1 2 12' sh -c 'printf "echo hello world | wc\nexit\n" | ./xv programs/bin/init programs/bin/sh programs/bin/echo programs/bin/wc'
+    has 'why a process ended' 'store to 0x.*may not be written' sh -c 'echo null | ./xv --why --rounds 2000 checks/why/null.s programs/bin/init programs/bin/sh'
+    has 'a trace in words' 'fork answers 2' ./xv --explain --quantum 20 --rounds 40 programs/examples/fork/init.s
+    has 'a picture' '</svg>' ./xv --picture --rounds 20 --quantum 50 programs/examples/pipeline/init.s
+    has 'the debugger, forth and back' 'sleeps' sh -c 'printf "until call wait\nps\nback\nregs\n" | ./xv --debug programs/examples/fork/init.s'
+    has 'GDB is answered' 'PacketSize=' sh -c "printf '\$qSupported#37' | ./xv --gdb programs/examples/fork/init.s | tr -d '\000'"
+}
+
+# Grades the class of the manual by the command in the arguments.
+grade_class() {
+    rm -rf grade-work
+    "$@" programs/course/grading/children.toml programs/course/grading/submissions/* >graded.csv 2>graded.errors
+    has 'grading: right' '^anna,6,6,right,$' cat graded.csv
+    has 'grading: a fault with its line' '^chris,1,6,fault,.*line 14' cat graded.csv
+    has 'grading: a name that no file has' '^gero,0,6,refused' cat graded.csv
+    edgar=$(grep -l '^edgar' grade-work/jobs/*/name)
+    has 'grading: a picture of a run that waits' 'process 1[^<]*asleep' cat "${edgar%/name}/out/picture-1.svg"
+}
+
+# Each program in bin/ knows what it was built of.
+ask_versions() {
+    for program in bin/*; do
+        has "$program --version has the version, the commit and the kit" "^${program#bin/} of Nektavoly $(cat VERSION) commit [0-9a-f]{40} of [-0-9]{10} rattle-kit-.*logic" \
+            sh -c "$program --version | tr '\n' ' '"
+    done
+}
+
+says_hi() {
+    [ "$("$@" programs/examples/hello/init.s </dev/null)" = hi ]
+    so $? "from ${from_what-the archive} to 'hi' in $((($(date +%s%N) - from) / 1000000)) ms"
+}
+
+for tool in cc gcc clang rustc rt python3 parallel npm; do
     ! command -v "$tool" >/dev/null || so 1 "there is no $tool"
 done
+[ "$how" != native ] || ! command -v node >/dev/null || so 1 "there is no node"
 so 0 "there is no compiler, no kit, no python3"
+
+# On another host.
+if [ "$how" != native ]; then
+    has "there is Node: $(node --version)" '^v(1[89]|[2-9][0-9])' node --version
+    rm -rf "$name" && tar xf "$name.tar.gz" && cd "$name" || exit 2
+    # In the head of an ELF file stands for which processor it is: 183 is ARM64.
+    for program in xv_run xv_tools; do
+        printf '\267\000' | dd of="libexec/$program" bs=1 seek=18 conv=notrunc status=none
+    done
+    ! libexec/xv_run --help >/dev/null 2>&1
+    so $? "the programs in libexec/ don't start"
+fi
+case $how in
+    node)
+        from=$(date +%s%N)
+        from_what='the files' says_hi ./xv
+        has './xv --version has the version' "^Nektavoly $(cat VERSION)\$" ./xv --version
+        ask_versions
+        look_around
+        grade_class node anywhere/grade.mjs
+        for check in why debugger; do
+            has "checks/$check/run.sh" 'are as they should be' "checks/$check/run.sh"
+        done
+        rm -r libexec
+        has "without libexec/ all the same" '^hi$' sh -c './xv programs/examples/hello/init.s </dev/null'
+        # And without Node a line says what to do.
+        mkdir ../few && for tool in sh cat dirname readlink uname sed head awk; do ln -s "$(command -v "$tool")" "../few/$tool"; done
+        has "without Node ./xv names it" 'nodejs' env PATH="$PWD/../few" ./xv programs/examples/hello/init.s
+        has "without Node bin/xv_run names it" 'nodejs' env PATH="$PWD/../few" bin/xv_run programs/examples/hello/init.s
+        [ "$bad" = 0 ]
+        exit
+        ;;
+    alone)
+        mkdir ../alone && ln -s "$(command -v node)" ../alone/node
+        # This script has its own commands; what it starts by `alone` finds node only.
+        # shellcheck disable=SC2317
+        alone() {
+            env PATH="$PWD/../alone" "$PWD/../alone/node" xv.mjs "$@"
+        }
+        from=$(date +%s%N)
+        from_what='the files' says_hi alone
+        has 'the shell by a pipe' '^1 2 12' alone programs/bin/init programs/bin/sh programs/bin/echo programs/bin/wc < <(printf 'echo hello world | wc\nexit\n')
+        has 'why nobody goes on' 'only process 1 can write' alone --why --rounds 20 programs/course/hang/init.s
+        has 'a picture' '</svg>' alone --picture --rounds 20 --quantum 50 programs/examples/pipeline/init.s
+        has 'the debugger, forth and back' 'sleeps' alone --debug programs/examples/fork/init.s < <(printf 'until call wait\nps\nback\nregs\n')
+        [ "$bad" = 0 ]
+        exit
+        ;;
+    native) ;;
+    *)
+        echo 'usage: tour.sh NAME native|node|alone' >&2
+        exit 2
+        ;;
+esac
 
 from=$(date +%s%N)
 tar xf "$name.tar.gz" && cd "$name" || exit 2
-told=$(./xv programs/examples/hello/init.s </dev/null)
-[ "$told" = hi ]
-so $? "from the archive to 'hi' in $((($(date +%s%N) - from) / 1000000)) ms"
-
+says_hi ./xv
 sha256sum --quiet -c SHA256SUMS
 so $? "all sums are as SHA256SUMS has them"
 has './xv --status names the builds proved' '^xv: a release: its programs are proved builds$' ./xv --status
 has './xv --version has the version' "^Nektavoly $(cat VERSION)\$" ./xv --version
-for program in bin/*; do
-    has "$program --version has the version, the commit and the kit" "^${program#bin/} of Nektavoly $(cat VERSION) commit [0-9a-f]{40} of [-0-9]{10} rattle-kit-.*logic" \
-        sh -c "$program --version | tr '\n' ' '"
-done
+ask_versions
 has './xv --help' '^Usage: ./xv' ./xv --help
-
-has 'the shell at a terminal' '1 1 6' at_terminal './xv programs/bin/*' 'echo hello | wc\nexit\n'
-has 'Ctrl-C at a terminal, and why nobody goes on' 'only process 1 can write' at_terminal './xv programs/course/hang/init.s' '\003quit\n'
-has 'the shell by a pipe' '^1 2 12' sh -c 'printf "echo hello world | wc\nexit\n" | ./xv programs/bin/init programs/bin/sh programs/bin/echo programs/bin/wc'
-has 'why a process ended' 'store to 0x.*may not be written' sh -c 'echo null | ./xv --why --rounds 2000 checks/why/null.s programs/bin/init programs/bin/sh'
-has 'a trace in words' 'fork answers 2' ./xv --explain --quantum 20 --rounds 40 programs/examples/fork/init.s
-has 'a picture' '</svg>' ./xv --picture --rounds 20 --quantum 50 programs/examples/pipeline/init.s
-has 'the debugger, forth and back' 'sleeps' sh -c 'printf "until call wait\nps\nback\nregs\n" | ./xv --debug programs/examples/fork/init.s'
-has 'GDB is answered' 'PacketSize=' sh -c "printf '\$qSupported#37' | ./xv --gdb programs/examples/fork/init.s | tr -d '\000'"
-programs/course/grade.sh programs/course/grading/children.toml programs/course/grading/submissions/* >graded.csv 2>graded.errors
-has 'grading: right' '^anna,6,6,right,$' cat graded.csv
-has 'grading: a fault with its line' '^chris,1,6,fault,.*line 14' cat graded.csv
-has 'grading: a name that no file has' '^gero,0,6,refused' cat graded.csv
-has 'grading: a picture of a run that waits' 'process 1[^<]*asleep' sh -c \
-    'cat "$(dirname "$(grep -l "^edgar" grade-work/jobs/*/name)")"/out/picture-1.svg'
+look_around
+grade_class programs/course/grade.sh
 
 # The commands of the course, as they are written: 3 and 4 tell of init's status, and of rounds that are over.
 while IFS= read -r line; do
