@@ -2,7 +2,7 @@
 # wasm.sh (--program | --library PREFIX) CODE.bc OUT.wasm: makes a WebAssembly module of the LLVM code that `rattle build` made for
 # x86-64 (keep.sh), by the kit's clang and linker, with heap.c and, for a program, wasi.c in place of the C library on Linux. Of a
 # library the calls whose names begin with PREFIX are given to the host. The module has a memory of 64 bits; lower.sh makes it one
-# that each engine takes. LINK has further words for the linker.
+# that each engine takes. If UNDEFINED is set, what no file has may be asked of the host: so it is in a library that isn't proved.
 #
 # Both targets have 64-bit pointers, the same byte order, and the same sizes and alignments of i8 to i128; the code
 # writes each offset as a number of bytes. So only the names of the target and of its processor are replaced, and the
@@ -33,19 +33,21 @@ if grep -nE 'asm sideeffect|asm "|@llvm\.x86|thread_local|x86_fp80|"target-cpu"|
     exit 1
 fi
 # As the kit's own rattle-link has them for wasm64.
-flags="--target=$target -mcpu=lime1 -O3 -mllvm -trap-unreachable -mllvm -no-trap-after-noreturn -ffunction-sections -fdata-sections --no-default-config -fno-crash-diagnostics"
-"$clang" $flags -c -x ir "$work/wasm.ll" -o "$work/code.o"
+flags=("--target=$target" -mcpu=lime1 -O3 -mllvm -trap-unreachable -mllvm -no-trap-after-noreturn -ffunction-sections -fdata-sections)
+flags+=(--no-default-config -fno-crash-diagnostics)
+"$clang" "${flags[@]}" -c -x ir "$work/wasm.ll" -o "$work/code.o"
 of_c() {
-    "$clang" $flags -ffreestanding -fno-builtin -nostdinc -Wall -Wextra -Werror -c "$here/$1.c" -o "$work/$1.o"
+    "$clang" "${flags[@]}" -ffreestanding -fno-builtin -nostdinc -Wall -Wextra -Werror -c "$here/$1.c" -o "$work/$1.o"
 }
 of_c heap
 if [ -n "$prefix" ]; then
-    exports=$(sed -nE "s/^define [^@]*@(${prefix}[a-z_]+)\(.*/\1/p" "$work/wasm.ll" | sort -u | sed "/^${prefix}root\$/d; s/^/--export=/")
-    [ -n "$exports" ] || { echo "wasm.sh: the module exports nothing" >&2; exit 1; }
-    parts="--export=page_take --export=page_give $exports $work/code.o $work/heap.o" stack=1048576
+    mapfile -t exports < <(sed -nE "s/^define [^@]*@(${prefix}[a-z_]+)\(.*/\1/p" "$work/wasm.ll" | sort -u | sed "/^${prefix}root\$/d; s/^/--export=/")
+    [ "${#exports[@]}" -gt 0 ] || { echo "wasm.sh: the module exports nothing" >&2; exit 1; }
+    parts=(--export=page_take --export=page_give "${exports[@]}" "$work/code.o" "$work/heap.o") stack=1048576
 else
     of_c wasi
-    parts="--export=_start $work/code.o $work/heap.o $work/wasi.o" stack=4194304
+    parts=(--export=_start "$work/code.o" "$work/heap.o" "$work/wasi.o") stack=4194304
 fi
+[ -z "${UNDEFINED-}" ] || parts+=(--allow-undefined)
 "$kit/toolchain/bin/ld.lld" -flavor wasm -mwasm64 --no-entry --stack-first -z stack-size=$stack --gc-sections --threads=1 \
-    ${LINK:-} -o "$to" $parts
+    -o "$to" "${parts[@]}"

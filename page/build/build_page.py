@@ -1,15 +1,16 @@
 #!/usr/bin/env python3
-"""build_page.py MODULE.wasm REPOSITORY OUT.html [NOTE]: the page, one file with all that it needs inside.
+"""build_page.py MODULE.wasm SUM REPOSITORY OUT.html [NOTE]: the page, one file with all that it needs inside. SUM is that of the module
+before it was lowered, with a memory of 64 bits, which stands at the page's foot.
 
 The modules of page/src are joined, those that a module imports first, without their import and export words: each name stands
 once, which `node --check` and the browser tell. The programs, examples and the help (docs/manual/page.md, by its headings) are
 read from the repository. The same inputs give the same bytes."""
 import base64, html, json, os, re, sys
 
+module, sum_of_64_bits, root, out = sys.argv[1:5]
+note = "".join(sys.argv[5:])
+sys.path.append(os.path.join(root, "anywhere", "build"))
 import sources
-
-module, root, out = sys.argv[1:4]
-note = "".join(sys.argv[4:])
 here = os.path.join(root, "page", "src")
 
 
@@ -115,12 +116,12 @@ data = {
     "examples": examples(),
     "help": helps(),
 }
-sum_ = sources.sum_of(root)
+sum_ = sources.sum_of(root, "--page")
 parts = {
     "/*STYLE*/": text(os.path.join(here, "style.css")),
     "/*DATA*/": f"globalThis.PAGE_DATA = {packed(data)};",
     "/*SCRIPT*/": joined("main.mjs").replace("</", "<\\/"),
-    "/*BUILT*/": f"{note}Built of the sources with the sum <code>{sum_[:16]}</code>; the module has {len(read(module)):,} bytes.<!-- module {'unproved' if note else sources.sum_of(root, True)} --><!-- sources {sum_} -->",
+    "/*BUILT*/": f"{note}Built of the sources with the sum <code>{sum_[:16]}</code>; the module has {len(read(module)):,} bytes.<!-- module {'unproved' if note else sources.sum_of(root, "--module")} --><!-- module of 64 bits {sum_of_64_bits} --><!-- sources {sum_} -->",
 }
 for mark, value in parts.items():
     assert page.count(mark) == 1, mark

@@ -4,6 +4,9 @@
 # Sends that find no byte are left out. Lines that are none of a trace are handed on.
 #
 #   ./xv --quantum 20 --trace 100 programs/examples/fork/init.s </dev/null 2>&1 | ./xv --explain
+#
+# With words it runs programs, and tells each event as it comes: why.sh --explain.
+[ $# = 0 ] || exec "$(dirname "$(readlink -f -- "$0")")/why.sh" --explain "$@"
 exec awk '
 BEGIN {
     split("fork exit wait pipe read kill exec 8 9 dup getpid sbrk sleep uptime open write 17 18 19 20 close sbrklazy", name, " ")
