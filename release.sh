@@ -96,8 +96,7 @@ version=$(cat VERSION)
 name=nektavoly-$version
 command -v pandoc >/dev/null || stop "there is no pandoc: apt-get install pandoc"
 is_clean
-[ "$(./xv --status 2>&1 | head -n 1)" = "xv: proved and built of these sources" ] ||
-    stop "the programs aren't built: ./xv --build"
+programs/host/build.sh --is-current || stop "the native programs aren't proved and built of these sources: ./xv --build"
 page/is_current.sh >/dev/null 2>&1 || stop "page/nektavoly.html is of other sources: page/build.sh"
 anywhere/is_current.sh >/dev/null 2>&1 || stop "the modules for Node are of other sources: anywhere/build.sh"
 grep -q "\"version\": *\"$version\"" package.json || stop "package.json has another version than VERSION, $version"

@@ -3,7 +3,7 @@
 # untars it and goes through tour.sh
 #
 #   in a bare Debian 12, with no compiler, no kit, no python3 and no Node: by the native programs
-#   in the same with nodejs, after the native programs were made those of another processor: by the modules
+#   in the same with nodejs, after the native programs were changed so that they don't start: by the modules
 #   there with node as the only command, and an empty folder else as the PATH
 #
 # It makes the two systems by debootstrap, and follows all links of the HTML. It needs root, debootstrap, python3 and the

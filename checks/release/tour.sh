@@ -3,7 +3,7 @@
 # NAME-teacher.tar.gz lie. A line for each; the status is 0 if all are as they should be. HOW says on which host:
 #
 #   native   a host for which the programs were built, without Node
-#   node     a host for which they weren't, with Node: the files in libexec/ are made those of another processor
+#   node     a host for which they weren't, with Node: the programs in libexec/ don't start
 #   alone    a host that has Node and no other command, not even a shell
 set -u
 export LC_ALL=C
@@ -83,10 +83,8 @@ so 0 "there is no compiler, no kit, no python3"
 if [ "$how" != native ]; then
     has "there is Node: $(node --version)" '^v(1[89]|[2-9][0-9])' node --version
     rm -rf "$name" && tar xf "$name.tar.gz" && cd "$name" || exit 2
-    # In the head of an ELF file stands for which processor it is: 183 is ARM64.
-    for program in xv_run xv_tools; do
-        printf '\267\000' | dd of="libexec/$program" bs=1 seek=18 conv=notrunc status=none
-    done
+    # They ask for a loader that isn't there, as on a Linux with another C library.
+    sed -i 's|/lib64/ld-linux-x86-64|/lib64/ld-other-x86-64|' libexec/xv_run libexec/xv_tools
     ! libexec/xv_run --help >/dev/null 2>&1
     so $? "the programs in libexec/ don't start"
 fi
@@ -101,6 +99,10 @@ case $how in
         for check in why debugger; do
             has "checks/$check/run.sh" 'are as they should be' "checks/$check/run.sh"
         done
+        # A host of another processor, as far as a script sees.
+        mkdir ../other && printf '#!/bin/sh\necho Linux aarch64\n' >../other/uname && chmod +x ../other/uname
+        has './xv on ARM64' '^hi$' env PATH="$PWD/../other:$PATH" ./xv programs/examples/hello/init.s </dev/null
+        has 'bin/xv_run on ARM64' '^hi$' env PATH="$PWD/../other:$PATH" bin/xv_run programs/examples/hello/init.s </dev/null
         rm -r libexec
         has "without libexec/ all the same" '^hi$' sh -c './xv programs/examples/hello/init.s </dev/null'
         # And without Node a line says what to do.
