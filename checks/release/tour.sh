@@ -60,6 +60,13 @@ grade_class() {
     has 'grading: a picture of a run that waits' 'process 1[^<]*asleep' cat "${edgar%/name}/out/picture-1.svg"
 }
 
+# All that is printed is as it is stored.
+run_checks() {
+    for check in sessions why terminal debugger; do
+        has "checks/$check/run.sh" '(are as they should be|0 of them differ)' env PATIENCE=120 "checks/$check/run.sh"
+    done
+}
+
 # Each program in bin/ knows what it was built of.
 ask_versions() {
     for program in bin/*; do
@@ -96,9 +103,9 @@ case $how in
         ask_versions
         look_around
         grade_class node anywhere/grade.mjs
-        for check in why debugger; do
-            has "checks/$check/run.sh" 'are as they should be' "checks/$check/run.sh"
-        done
+        export XV_NODE=yes
+        run_checks
+        unset XV_NODE
         # A host of another processor, as far as a script sees.
         mkdir ../other && printf '#!/bin/sh\necho Linux aarch64\n' >../other/uname && chmod +x ../other/uname
         has './xv on ARM64' '^hi$' env PATH="$PWD/../other:$PATH" ./xv programs/examples/hello/init.s </dev/null
@@ -140,10 +147,10 @@ tar xf "$name.tar.gz" && cd "$name" || exit 2
 says_hi ./xv
 sha256sum --quiet -c SHA256SUMS
 so $? "all sums are as SHA256SUMS has them"
-has './xv --status names the builds proved' '^xv: a release: its programs are proved builds$' ./xv --status
+has './xv --status names the builds proved' '^xv: a release: .*proved builds$' ./xv --status
 has './xv --version has the version' "^Nektavoly $(cat VERSION)\$" ./xv --version
 ask_versions
-has './xv --help' '^Usage: ./xv' ./xv --help
+has './xv --help' '^Usage: xv' ./xv --help
 look_around
 grade_class programs/course/grade.sh
 
@@ -153,12 +160,10 @@ while IFS= read -r line; do
     status=$?
     case $status in 0 | 3 | 4) ;; *) so 1 "status $status: $line" && tail -5 told ;; esac
     lines=$((${lines-0} + 1))
-done < <(sed -n 's/^    \(\.\/xv .*\)/\1/p' docs/COURSE.md | grep -v mine/)
+done < <(sed -n 's/^    \(\.\/xv .*\)/\1/p' docs/COURSE.md | grep -v 'mine/\|--build')
 so "$((${lines-0} < 10))" "${lines-0} commands of the course were run"
 
-for check in sessions why terminal debugger; do
-    has "checks/$check/run.sh" '(are as they should be|0 of them differ)' "checks/$check/run.sh"
-done
+run_checks
 
 # As a teacher may have put it for all: in a folder with a blank in its name, and nobody may write there.
 mkdir "../for all" && tar xf "../$name.tar.gz" -C "../for all" && chmod -R a-w "../for all/$name"
@@ -176,7 +181,7 @@ chmod -R u+w "../for all" && rm -r "../for all"
 sha256sum --quiet -c SHA256SUMS-teacher
 so $? "all sums of the teacher's archive are as SHA256SUMS-teacher has them"
 for check in sessions debugger; do
-    told=$("checks/$check/run.sh" | tail -n 1)
+    told=$(PATIENCE=120 "checks/$check/run.sh" | tail -n 1)
     [[ $told == *"are as they should be"* ]]
     so $? "with the teacher's: $told"
 done
