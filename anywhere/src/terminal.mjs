@@ -1,6 +1,7 @@
 // The machine at a terminal. If standard input is one, this thread has it: the terminal hands over each key by itself, and the keys
 // go to the thread that runs the program xv_terminal (terminal_worker.mjs). After each end that a process can see, also one by
 // a signal, the terminal is as it was before.
+import { closeSync } from "node:fs";
 import { isatty } from "node:tty";
 import { Worker } from "node:worker_threads";
 import { Keys } from "./keys.mjs";
@@ -8,7 +9,8 @@ import { table_of } from "./lines.mjs";
 import { module_of, run } from "./program.mjs";
 
 const NAME = "xv_terminal";
-const SIGNALS = { SIGHUP: 129, SIGINT: 130, SIGQUIT: 131, SIGTERM: 143, SIGBREAK: 130 };
+const HANGUP = 129;
+const SIGNALS = process.platform === "win32" ? { SIGINT: 130, SIGBREAK: 130 } : { SIGINT: 130, SIGQUIT: 131, SIGTERM: 143 };
 const LINES = "dev/lines";
 const ENTER = 13, LINE_END = 10;
 // How long a machine may take to end, in milliseconds, if a signal asks for it.
@@ -36,11 +38,22 @@ function prepared(terminal) {
   } catch {
     throw new Error("the terminal can't be set");
   }
+  const streams = terminals();
   return () => {
     try {
       terminal.setRawMode(false);
     } catch { /* a terminal that is gone needs nothing */ }
+    let_go(streams);
   };
+}
+
+/** The streams of this process that are terminals. */
+const terminals = () => [0, 1, 2].filter((fd) => isatty(fd));
+
+/** Lets go of those terminals that are gone: Node would set them as it ends, and break. */
+function let_go(streams) {
+  if (process.platform === "win32") return;
+  for (const fd of streams) if (!isatty(fd)) closeSync(fd);
 }
 
 /** Ends the machine. One that waits for its terminal can't be ended alone: then all of this process ends. */
@@ -65,12 +78,14 @@ function attend(module, words, files) {
       ended(worker, restore).then(then);
     };
     const stop = (status) => end(() => give(status));
-    for (const [signal, status] of Object.entries(SIGNALS)) if (signal !== "SIGBREAK" || process.platform === "win32") process.on(signal, () => stop(status));
+    const hang_up = () => stop(HANGUP);
+    for (const [signal, status] of Object.entries(SIGNALS)) process.on(signal, () => stop(status));
+    process.on("SIGHUP", hang_up);
     worker.on("message", stop);
     worker.on("error", (error) => end(() => refuse(new Error(`${NAME} broke: ${error.message}`))));
     worker.on("exit", () => end(() => refuse(new Error(`${NAME} broke`))));
     // A terminal that is gone is a hangup.
-    for (const happening of ["end", "error", "close"]) terminal.on(happening, () => stop(SIGNALS.SIGHUP));
+    for (const happening of ["end", "error", "close"]) terminal.on(happening, hang_up);
     hand_over(terminal, keys);
   });
 }
