@@ -1,6 +1,6 @@
 // What xv does by its words: which program runs them, and how. The modes may stand anywhere before the word `--`.
 import { isatty } from "node:tty";
-import { help, refusal, status, tell_version } from "./about.mjs";
+import { help, status, tell_version } from "./about.mjs";
 import { explain } from "./explain.mjs";
 import { picture } from "./picture.mjs";
 import { module_of, run } from "./program.mjs";
@@ -32,10 +32,10 @@ function answered(first) {
       write_all(1, help());
       return 0;
     case "--status":
-      return say(status(), 0);
+      return say(status().text, 0);
     case "--version":
       tell_version("Nektavoly");
-      write_all(1, `${status()}\n`);
+      write_all(1, `${status().text}\n`);
       return 0;
     default:
       return undefined;
@@ -66,8 +66,8 @@ export function main() {
   const { modes, rest } = without_modes(words, MODES);
   const mode = one_of(modes);
   if (mode === null) return say(`${modes.find((it) => it !== modes[0])} doesn't go with ${modes[0]}`, REFUSED);
-  const refused = refusal();
-  if (refused) return say(refused, NOTHING_RUNS);
+  const known = status();
+  if (!known.runs) return say(known.text, NOTHING_RUNS);
   const taken = as_taken(rest);
   if (mode) return DOINGS[mode](taken);
   return are_for_terminal(taken) ? at_terminal(taken) : program("xv_run")(taken);

@@ -4,22 +4,34 @@
 import "./quiet.mjs";
 import { createRequire } from "node:module";
 import { existsSync, readFileSync } from "node:fs";
+import { join } from "node:path";
 import { fileURLToPath } from "node:url";
 import { with_held } from "./held.mjs";
 import { rest } from "./streams.mjs";
 
 // At this time, since an import would come before quiet.mjs.
 const { WASI } = createRequire(import.meta.url)("node:wasi");
-const FOLDER = fileURLToPath(new URL("../", import.meta.url));
+const FOLDER = fileURLToPath(new URL("..", import.meta.url));
 // Errors of WASI, by the names that Node gives them.
 const ERRORS = { EAGAIN: 6, EIO: 29, ENOSPC: 51, EPIPE: 64 };
 
-/** The module that has the program of this name: `xv_run`, or one of those around the machine, which are `xv_tools`. */
+/**
+ * The file of the module that has the program of this name: `xv_run`, or one of those around the machine, which are `xv_tools`.
+ * XV_MODULES is another folder of modules: checks run others than those that stand here.
+ */
+export function file_of(name) {
+  return join(process.env.XV_MODULES || FOLDER, name === "xv_run" ? "xv_run.wasm" : "xv_tools.wasm");
+}
+
+/** The module that has the program of this name. */
 export function module_of(name) {
-  // XV_MODULES is another folder of modules: checks run others than those that stand here.
-  const file = `${process.env.XV_MODULES || FOLDER}/${name === "xv_run" ? "xv_run" : "xv_tools"}.wasm`;
+  const file = file_of(name);
   if (!existsSync(file)) throw new Error(`there is no module ${file}: a release has it, and in a clone ./xv --build makes it`);
-  return new WebAssembly.Module(readFileSync(file));
+  try {
+    return new WebAssembly.Module(readFileSync(file));
+  } catch (error) {
+    throw new Error(`the module ${file} isn't whole: ${error.message}`);
+  }
 }
 
 /** A path of this host as a program takes it: on Windows with slashes. */
@@ -128,5 +140,10 @@ export function run(module, name, words, streams = {}) {
   };
   const instance = new WebAssembly.Instance(module, { wasi_snapshot_preview1: { ...system, ...own } });
   memory = instance.exports.memory;
-  return wasi.start(instance);
+  try {
+    return wasi.start(instance);
+  } catch (error) {
+    const is_its = error instanceof WebAssembly.RuntimeError || error instanceof RangeError;
+    throw is_its ? new Error(`${name} broke: ${error.message}`) : error;
+  }
 }

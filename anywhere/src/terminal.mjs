@@ -82,7 +82,7 @@ function attend(module, words, files) {
     for (const [signal, status] of Object.entries(SIGNALS)) process.on(signal, () => stop(status));
     process.on("SIGHUP", hang_up);
     worker.on("message", stop);
-    worker.on("error", (error) => end(() => refuse(new Error(`${NAME} broke: ${error.message}`))));
+    worker.on("error", (error) => end(() => refuse(error)));
     worker.on("exit", () => end(() => refuse(new Error(`${NAME} broke`))));
     // A terminal that is gone is a hangup.
     for (const happening of ["end", "error", "close"]) terminal.on(happening, hang_up);
