@@ -1,6 +1,5 @@
 // The words of a command line: their bytes, which of them are modes, options and FILEs, and what Windows leaves to programs.
 import { readFileSync, readdirSync } from "node:fs";
-import { path_of } from "./program.mjs";
 
 const NUMBERS = ["--frames", "--rounds", "--quantum", "--trace", "--tick", "--most"];
 const PATHS = ["--record", "--replay", "--lines", "--keys", "--file"];
@@ -80,8 +79,9 @@ export function as_taken(words, is_windows = process.platform === "win32") {
   if (!is_windows) return words;
   const kinds = kinds_of(words);
   return words.map(String).flatMap((word, place) => {
-    if (kinds[place] === "file") return expanded(word.replaceAll("\\", "/"));
-    const is_path = kinds[place] === "value" ? PATHS.includes(String(words[place - 1])) : PATHS.includes(word.split("=")[0]);
-    return is_path ? path_of(word) : word;
+    const with_slashes = word.replaceAll("\\", "/");
+    if (kinds[place] === "file") return expanded(with_slashes);
+    const option = kinds[place] === "value" ? String(words[place - 1]) : word.split("=")[0];
+    return PATHS.includes(option) ? with_slashes : word;
   });
 }
