@@ -117,7 +117,7 @@ git archive HEAD xv xv.mjs xv.cmd package.json anywhere README.md CONTRIBUTING.m
     tar -x -C "$RELEASE"
 mv "$RELEASE/docs/html" "$room/html"
 # What makes and tries the modules is of no use without the crates.
-rm -r "$RELEASE/anywhere/build" "$RELEASE"/anywhere/*.sh
+rm -rf "$RELEASE/anywhere/build" "$RELEASE/anywhere/try" "$RELEASE"/anywhere/*.sh
 
 # A program's own file lies in libexec/. Those that are other names of xv_tools are scripts there. bin/ has a script of each
 # name, which knows --version.
