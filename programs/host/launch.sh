@@ -2,7 +2,8 @@
 # A program of a release, under its own name in bin/: `--version` tells what it was built of, and all other words are
 # for the program itself. libexec/ has it as it was proved and built, for Linux on x86-64. If that doesn't start here, Node
 # runs the module in anywhere/, which was made of the same proved code. XV_NODE=yes takes the module in any case.
-top=$(dirname "$(readlink -f -- "$0")")/..
+self=$(readlink -f -- "$0" 2>/dev/null) || self=$0
+top=$(dirname -- "$self")/..
 name=${0##*/}
 case ${1-} in
     --version)
