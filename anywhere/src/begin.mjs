@@ -10,7 +10,9 @@ function is_new_enough() {
 /** Tells that nothing could run. */
 function give_up(name, error) {
   const is_write = error && error.syscall === "write";
-  process.stderr.write(name + ": " + (is_write ? "write fault" : (error && error.message) || error) + "\n");
+  try {
+    writeSync(2, name + ": " + (is_write ? "write fault" : (error && error.message) || error) + "\n");
+  } catch (unheard) { /* nobody can be told */ }
   process.exit(is_write ? 5 : 125);
 }
 

@@ -1,5 +1,8 @@
-// Files that a program opens by a path, and that no folder has for WASI: texts that the caller holds, and open streams of this
-// process, as /dev/fd/3, which a shell makes for a document of its own. They are read as a whole.
+// Files that a program opens by a path, and that no folder has for WASI: texts that the caller holds; open streams of this
+// process, as /dev/fd/3, which a shell makes for a document of its own; and files whose path leads up from a link. They are read as
+// a whole.
+import { readFileSync, realpathSync } from "node:fs";
+import { resolve } from "node:path";
 import { read_all } from "./streams.mjs";
 
 const GOOD = 0, BAD_STREAM = 8, IO = 29, NO_SEEK = 70;
@@ -13,14 +16,34 @@ function stream_at(path) {
   return found && read_all(found[2] ? 0 : Number(found[1]));
 }
 
+/** The file that a path leads to, or null. */
+function real(path) {
+  try {
+    return realpathSync.native(path);
+  } catch {
+    return null;
+  }
+}
+
 /**
- * The calls of WASI, with such files. `texts` has the bytes of a path, without the `/` at its head; `memory` gives the memory of
- * the program.
+ * WASI takes `a/../b` for `b`; a host goes up from the folder that `a` leads to, if `a` is a link. These are the words for which that
+ * makes a difference, by the paths that WASI is given for them.
  */
-export function with_held(system, texts, memory) {
+function up_from_links(words) {
+  const up = words.filter((word) => typeof word === "string" && word.includes("/..") && process.platform !== "win32");
+  const other = up.filter((word) => real(word) !== real(resolve(word)));
+  return new Map(other.map((word) => [resolve(word).slice(1), word]));
+}
+
+/**
+ * The calls of WASI, with such files. `texts` has the bytes of a path, without the `/` at its head; `words` are those of the
+ * program, and `memory` gives its memory.
+ */
+export function with_held(system, texts, words, memory) {
   const open = new Map();
   const view = () => new DataView(memory().buffer);
-  const bytes_of = (path) => texts[path] ?? stream_at(path);
+  const linked = up_from_links(words);
+  const bytes_of = (path) => texts[path] ?? (linked.has(path) ? readFileSync(linked.get(path)) : stream_at(path));
   return {
     path_open(folder, look, path, bytes, how, rights, inheriting, flags, opened) {
       const text = Buffer.from(memory().buffer, path, bytes).toString();

@@ -1,8 +1,7 @@
 // --picture: draws a run, or a trace that standard input has. xv_why runs the programs and notes each event, and xv_picture draws
 // what was noted. If nothing was noted, since words, a FILE or the boot were refused, nothing is drawn.
 import { module_of, run } from "./program.mjs";
-import { tell, tell_why } from "./reports.mjs";
-import { write_all } from "./streams.mjs";
+import { tell, tell_line, tell_why } from "./reports.mjs";
 
 const NOTE = /^(?:(?:turn|step|call|block|exit|fault|key|sent|name|waits) |(?:idle|tick|halted)$)/;
 const PART = 1 << 16;
@@ -41,8 +40,8 @@ export function picture(words) {
   const draw = module_of("xv_picture");
   if (words.length === 0) return run(draw, "xv_picture", []);
   const notes = new Notes();
-  const hand_on = (line) => (NOTE.test(line) ? notes.add(line) : tell(line));
-  const status = tell_why(["--notes", ...words], hand_on, { output: (bytes) => write_all(2, bytes) });
+  const hand_on = (line) => (NOTE.test(line) ? notes.add(line) : tell_line(line));
+  const status = tell_why(["--notes", ...words], hand_on, { output: tell });
   if (notes.is_empty()) return status;
   notes.close();
   run(draw, "xv_picture", [], { input: (most) => notes.take(most) });

@@ -94,7 +94,7 @@ export function run(module, name, words, streams = {}) {
   const view = () => new DataView(memory.buffer);
   const bytes = (at, size) => new Uint8Array(memory.buffer, at, size);
   const parts = (list, count) => Array.from({ length: count }, (_, k) => [view().getUint32(list + 8 * k, true), view().getUint32(list + 8 * k + 4, true)]);
-  const system = { ...wasi.wasiImport, ...with_held(wasi.wasiImport, streams.files ?? {}, () => memory) };
+  const system = { ...wasi.wasiImport, ...with_held(wasi.wasiImport, streams.files ?? {}, words, () => memory) };
   const own = {
     args_sizes_get(count, size) {
       view().setUint32(count, texts.length, true);

@@ -37,10 +37,14 @@ export function tell_why(words, hand_on, streams = {}) {
   return status;
 }
 
-/** A line for who runs the programs. */
-export function tell(line) {
-  write_all(2, Buffer.from(`${line}\n`, "latin1"));
+/** Tells who runs the programs something on standard error. If that takes nothing, nothing else changes. */
+export function tell(bytes) {
+  try {
+    write_all(2, bytes);
+  } catch { /* nobody hears it */ }
 }
 
+export const tell_line = (line) => tell(Buffer.from(`${line}\n`, "latin1"));
+
 /** Runs the words, and tells why on standard error. */
-export const why = (words) => tell_why(words, tell);
+export const why = (words) => tell_why(words, tell_line);
