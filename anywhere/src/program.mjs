@@ -8,10 +8,15 @@ import { readFileSync } from "node:fs";
 const { WASI } = createRequire(import.meta.url)("node:wasi");
 const FOLDER = new URL("../", import.meta.url);
 
-/** The module that has the program of this name: `xv_run`, or one of those around the machine, which are `xv_tools`. */
-export function module_of(name) {
+/** The file of the module that has the program of this name: `xv_run`, or one of those around the machine, `xv_tools`. */
+export function file_of(name) {
   const file = name === "xv_run" ? "xv_run.wasm" : "xv_tools.wasm";
-  return new WebAssembly.Module(readFileSync(process.env.XV_MODULES ? `${process.env.XV_MODULES}/${file}` : new URL(file, FOLDER)));
+  return process.env.XV_MODULES ? `${process.env.XV_MODULES}/${file}` : new URL(file, FOLDER);
+}
+
+/** The module that has the program of this name. */
+export function module_of(name) {
+  return new WebAssembly.Module(readFileSync(file_of(name)));
 }
 
 /** A path of this host as a program takes it: on Windows with slashes. */
