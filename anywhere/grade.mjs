@@ -21,7 +21,8 @@ import { inside } from "./src/grading/paths.mjs";
 import { grade_all } from "./src/grading/pool.mjs";
 import { show, write_results } from "./src/grading/results.mjs";
 import { has_result, named, stage } from "./src/grading/stage.mjs";
-import { Refusal, raw_words, read_words } from "./src/grading/words.mjs";
+import { Refusal, read_words } from "./src/grading/words.mjs";
+import { own_words } from "./src/words.mjs";
 
 /** The text at the head of this file. */
 function help() {
@@ -68,7 +69,7 @@ async function grade(options) {
 }
 
 try {
-  const options = read_words(raw_words());
+  const options = read_words(own_words());
   if (options.help) show(Buffer.from(help()));
   else await grade(options);
 } catch (error) {

@@ -12,7 +12,7 @@ function compiled(name) {
   try {
     return module_of(name);
   } catch (error) {
-    throw new Refusal(2, `${file_of(name)} is not there: anywhere/build.sh makes it, and a release has it (${error.code ?? error.message})`);
+    throw new Refusal(2, error.message);
   }
 }
 

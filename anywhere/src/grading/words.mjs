@@ -1,6 +1,5 @@
 // The words of the command line, as bytes.
-import { readFileSync, readdirSync } from "node:fs";
-import { inside } from "./paths.mjs";
+import { expanded } from "../words.mjs";
 
 /** What stops the whole: a text for standard error, and the exit status. */
 export class Refusal extends Error {
@@ -10,19 +9,9 @@ export class Refusal extends Error {
   }
 }
 
-/** The words behind the script's name. Node makes U+FFFD of bytes that are no text; Linux tells what they were. */
-export function raw_words() {
-  const words = process.argv.slice(2);
-  if (process.platform !== "linux" || !words.some((word) => word.includes("\ufffd"))) return words.map((word) => Buffer.from(word));
-  const all = readFileSync("/proc/self/cmdline").toString("latin1").split("\0").slice(0, -1);
-  return all.slice(-words.length).map((word) => Buffer.from(word, "latin1"));
-}
-
-/** On Windows no shell makes names of `FOLDER\*`: it stands for all in the folder whose name begins with no dot. */
-function expanded(word) {
-  if (process.platform !== "win32" || !/[\\/]\*$/.test(word.toString())) return [word];
-  const folder = word.subarray(0, -2);
-  return readdirSync(folder).filter((name) => !name.startsWith(".")).map((name) => inside(folder, name));
+/** What a shell makes of a word: on Windows no shell does, and `FOLDER\\*` stands for all that is in the folder. */
+function by_shell(word) {
+  return process.platform === "win32" ? expanded(word.toString().replaceAll("\\", "/")).map((path) => Buffer.from(path)) : [word];
 }
 
 const OTHERS = "it is one of programs/course/grade.sh, on Linux";
@@ -57,10 +46,10 @@ function read_option(words, options) {
   }
 }
 
-/** What the words ask for: options, the exercise and the paths of submissions. */
+/** What the words, texts or bytes, ask for: options, the exercise and the paths of submissions. */
 export function read_words(words) {
   const options = { work: Buffer.from("grade-work"), jobs: null, resume: false, help: false };
-  const left = [...words];
+  const left = words.map((word) => Buffer.from(word));
   while (left.length > 0 && !options.help && left[0][0] === 0x2d) {
     if (left[0].toString() === "--") {
       left.shift();
@@ -71,5 +60,5 @@ export function read_words(words) {
   if (!options.help && left.length < 2) {
     throw new Refusal(1, "usage: grade [OPTION..] EXERCISE SUBMISSION..; --help tells the options");
   }
-  return { ...options, exercise: left[0], submissions: left.slice(1).flatMap(expanded) };
+  return { ...options, exercise: left[0], submissions: left.slice(1).flatMap(by_shell) };
 }

@@ -1,0 +1,91 @@
+// The machine at a terminal. If standard input is one, this thread has it: the terminal hands over each key by itself, and the keys
+// go to the thread that runs the program xv_terminal (terminal_worker.mjs). After each end that a process can see, also one by
+// a signal, the terminal is as it was before.
+import { isatty } from "node:tty";
+import { Worker } from "node:worker_threads";
+import { Keys } from "./keys.mjs";
+import { table_of } from "./lines.mjs";
+import { module_of, run } from "./program.mjs";
+
+const NAME = "xv_terminal";
+const SIGNALS = { SIGHUP: 129, SIGINT: 130, SIGQUIT: 131, SIGTERM: 143, SIGBREAK: 130 };
+const LINES = "dev/lines";
+const ENTER = 13, LINE_END = 10;
+// How long a machine may take to end, in milliseconds, if a signal asks for it.
+const PATIENCE = 1000;
+
+/** Hands over the keys of the terminal, as far as there is room; the others wait, and the terminal with them. */
+function hand_over(terminal, keys) {
+  let left = Buffer.alloc(0);
+  const go_on = () => {
+    left = left.subarray(keys.put(left));
+    if (left.length === 0) return void terminal.resume();
+    terminal.pause();
+    setTimeout(go_on, 10);
+  };
+  terminal.on("data", (typed) => {
+    left = Buffer.concat([left, typed.map((key) => (key === ENTER ? LINE_END : key))]);
+    go_on();
+  });
+}
+
+/** Sets the terminal, and gives what puts it back. */
+function prepared(terminal) {
+  try {
+    terminal.setRawMode(true);
+  } catch {
+    throw new Error("the terminal can't be set");
+  }
+  return () => {
+    try {
+      terminal.setRawMode(false);
+    } catch { /* a terminal that is gone needs nothing */ }
+  };
+}
+
+/** Ends the machine. One that waits for its terminal can't be ended alone: then all of this process ends. */
+async function ended(worker, restore) {
+  const late = new Promise((tell) => setTimeout(tell, PATIENCE, true));
+  const is_late = await Promise.race([worker.terminate().then(() => false), late]);
+  restore();
+  if (is_late) process.kill(process.pid, "SIGKILL");
+}
+
+/** Runs the words in a thread, with the keys of the terminal. Gives the exit status. */
+function attend(module, words, files) {
+  const terminal = process.stdin;
+  const keys = new Keys();
+  const restore = prepared(terminal);
+  const worker = new Worker(new URL("./terminal_worker.mjs", import.meta.url), { workerData: { module, words, files, shared: keys.shared } });
+  return new Promise((give, refuse) => {
+    let has_ended = false;
+    const end = (then) => {
+      if (has_ended) return;
+      has_ended = true;
+      ended(worker, restore).then(then);
+    };
+    const stop = (status) => end(() => give(status));
+    for (const [signal, status] of Object.entries(SIGNALS)) if (signal !== "SIGBREAK" || process.platform === "win32") process.on(signal, () => stop(status));
+    worker.on("message", stop);
+    worker.on("error", (error) => end(() => refuse(new Error(`${NAME} broke: ${error.message}`))));
+    worker.on("exit", () => end(() => refuse(new Error(`${NAME} broke`))));
+    // A terminal that is gone is a hangup.
+    for (const happening of ["end", "error", "close"]) terminal.on(happening, () => stop(SIGNALS.SIGHUP));
+    hand_over(terminal, keys);
+  });
+}
+
+/** Runs the words at a terminal, and gives the exit status. Without one they are run as they are. */
+export function at_terminal(words) {
+  const module = module_of(NAME);
+  const apart = isatty(1) && isatty(2) ? [] : ["--apart"];
+  if (!isatty(0)) return run(module, NAME, [...apart, ...words]);
+  const files = { [LINES]: table_of(words) };
+  return attend(module, ["--terminal", "--lines", `/${LINES}`, ...apart, ...words], files);
+}
+
+/** Runs the debugger: with the lines of the sources, and with a prompt if a person types. */
+export function debug(words) {
+  const prompt = isatty(0) ? ["--prompt"] : [];
+  return run(module_of("xv_debugger"), "xv_debugger", ["--lines", `/${LINES}`, ...prompt, ...words], { files: { [LINES]: table_of(words) } });
+}
