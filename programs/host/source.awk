@@ -25,13 +25,25 @@ function bytes_of(word, rest,    value) {
     return value >= -2048 && value <= 2047 || value % 4096 == 0 ? 4 : 8
 }
 
+# A line up to its comment. A # in a text begins none.
+function without_comment(text,    i, letter, quoted) {
+    if (text !~ /"/) sub(/#.*/, "", text)
+    for (i = 1; i <= length(text) && text ~ /#/; i++) {
+        letter = substr(text, i, 1)
+        if (quoted && letter == "\\") i++
+        else if (letter == "\"") quoted = !quoted
+        else if (letter == "#" && !quoted) return substr(text, 1, i - 1)
+    }
+    return text
+}
+
 # Where the instructions and labels of an assembler source stand.
 function read_source(path,    text, row, at, word, i, size, in_text) {
     in_text = 1
     at = row = 0
     while ((getline text < path) > 0) {
         row++
-        if (text !~ /"/) sub(/#.*/, "", text)
+        text = without_comment(text)
         sub(/^[ \t]+/, "", text)
         if (match(text, /^[A-Za-z_][A-Za-z0-9_]*:/)) {
             if (in_text) label[path, at] = substr(text, 1, RLENGTH - 1)
