@@ -26,7 +26,7 @@ export function file_of(name) {
 /** The module that has the program of this name. */
 export function module_of(name) {
   const file = file_of(name);
-  if (!existsSync(file)) throw new Error(`there is no module ${file}: a release has it, and in a clone ./xv --build makes it`);
+  if (!existsSync(file)) throw new Error(`there is no module ${file}: a release has it, and in a clone anywhere/build.sh makes it`);
   try {
     return new WebAssembly.Module(readFileSync(file));
   } catch (error) {
