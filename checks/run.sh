@@ -2,8 +2,8 @@
 # The checks beside the proofs: checks/run.sh gives the programs the words that are stored, plays the sessions, also those
 # at a terminal and of the debugger, the stored runs, random programs in rows and by single events, the reports and the
 # conversations with GDB by the programs that are built, grades submissions, looks at the links of the pages, counts what
-# the proofs can do without, and tells whether page/nektavoly.html is of these sources, in some seconds. The gate does the
-# same behind `rt ci`. `checks/run.sh --others` tells which other checks there are, how each is called, and how long it
+# the proofs can do without, and tells whether the modules and page/nektavoly.html are of these sources, in some seconds. The gate does the
+# same after `rt ci`. `checks/run.sh --others` tells which other checks there are, how each is called, and how long it
 # takes.
 #
 # `checks/run.sh --node` plays all of that which needs a program by the modules of anywhere/, with Node in place of the native
@@ -57,7 +57,7 @@ do_all() {
     }
 }
 
-# Node and the modules are to be there. The programs that the checks start are then those of anywhere/bin.
+# Node and the modules are to be there. By XV_NODE=yes the scripts in bin/ take them.
 begin_node() {
     command -v node >/dev/null || {
         echo 'checks/run.sh --node: there is no node (18.17 or later; Debian: apt-get install nodejs)' >&2
@@ -66,7 +66,7 @@ begin_node() {
     unset XV_RUN XV_WHY XV_TERMINAL XV_DEBUGGER XV_GRADE
     export XV_NODE=yes PATIENCE="${PATIENCE-120}"
     for name in xv_run xv_why; do
-        anywhere/bin/$name --help >/dev/null || exit 2
+        bin/$name --help >/dev/null || exit 2
     done
 }
 
@@ -77,7 +77,7 @@ longer='checks/stored-runs/run.sh checks/rows/run.sh checks/why/run.sh checks/gd
 # shellcheck disable=SC2086
 case "$*" in
 '')
-    do_all $quick $longer 'python3 -B checks/links.py' 'python3 -B checks/lemmas.py' page/is_current.sh
+    do_all $quick $longer 'python3 -B checks/links.py' 'python3 -B checks/lemmas.py' anywhere/is_current.sh page/is_current.sh
     tell_others
     ;;
 --node)
