@@ -1,5 +1,6 @@
 // How each program here begins in Node: it tells a Node that is too old by name, and what goes wrong in one line. An old Node
 // reads this file too, so that it has nothing but old words, and imports all else late.
+import { writeSync } from "fs";
 
 /** Whether this Node has what is needed: WASI without a word for it. */
 function is_new_enough() {
