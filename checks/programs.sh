@@ -20,7 +20,7 @@ program_path() {
 needs_program() {
     "$1" --help >/dev/null 2>&1 && return
     if [ "${XV_NODE-}" = yes ]; then
-        echo "$1 doesn't start: it takes node (18 or later), and the modules of anywhere/build.sh" >&2
+        echo "$1 doesn't start: it takes node (18.17 or later), and the modules of anywhere/build.sh" >&2
     else
         echo "$1 doesn't start: build it by ./xv --build" >&2
     fi

@@ -15,7 +15,7 @@ if [ -z "${XV_NODE-}" ] && [ "$(uname -sm)" = 'Linux x86_64' ] && "$top/libexec/
     exec "$top/libexec/$name" "$@"
 fi
 command -v node >/dev/null || {
-    echo "$name: the program for Linux on x86-64 doesn't start here, and there is no node on the PATH (18 or later; Debian: nodejs)" >&2
+    echo "$name: the program for Linux on x86-64 doesn't start here, and there is no node on the PATH (18.17 or later; Debian: nodejs)" >&2
     echo "$name: page/nektavoly.html needs neither: it runs in a browser" >&2
     exit 125
 }
