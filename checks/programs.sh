@@ -3,14 +3,12 @@
 #   program_path ROOT NAME   tells the path of the program NAME of the repository or release ROOT
 #   needs_program PATH       ends the check, with status 2, if that program doesn't start
 #
-# With XV_NODE=yes, as checks/run.sh --node sets it, the programs are modules of WebAssembly, by Node (bin/ takes them then). Else they are those
-# that came with a release, or those that are built here.
+# With XV_NODE=yes, as checks/run.sh --node sets it, the programs are modules of WebAssembly, by Node: the scripts in bin/ start
+# them then. Else they are those that came with a release, or those that are built here.
 # shellcheck shell=sh
 
 program_path() {
-    if [ "${XV_NODE-}" = yes ]; then
-        printf '%s\n' "$1/bin/$2"
-    elif [ -d "$1/libexec" ]; then
+    if [ "${XV_NODE-}" != yes ] && [ -d "$1/libexec" ]; then
         printf '%s\n' "$1/libexec/$2"
     else
         printf '%s\n' "$1/bin/$2"

@@ -27,12 +27,13 @@ needs_program "$(program_path "$top" xv_why)"
 PATH=$room/bin:$(dirname "$(program_path "$top" xv_why)"):$PATH
 little=$room/little
 
-# What has no script in bin/: xv_tools, by this name, and another xv_run.
+# What has no script in bin/: xv_tools, by this name, and another xv_run. What isn't built is run by Node there.
+[ -x "$top/crates/xv_tools/out/xv_tools" ] || export XV_NODE=yes
 if [ "${XV_NODE-}" = yes ]; then
     printf '#!/bin/sh\nexec node "%s" "$@"\n' "$top/anywhere/try/xv_tools.mjs" >"$room/bin/xv_tools"
     chmod +x "$room/bin/xv_tools"
     node "$top/anywhere/try/little.mjs" "$little" || exit 2
-elif [ -d "$top/crates" ]; then
+else
     ln -s "$top/crates/xv_tools/out/xv_tools" "$room/bin/xv_tools" || exit 2
     ln -s "$(readlink -f "${XV_RUN-$top/crates/xv_run/out/xv_run}")" "$room/bin/xv_run" || exit 2
 fi
@@ -53,6 +54,8 @@ little() {
     if [ "${XV_NODE-}" = yes ]; then
         XV_MODULES=$little "$@"
     else
+        # dash and bash have it.
+        # shellcheck disable=SC3045
         (ulimit -v 65536 && "$@")
     fi
 }
