@@ -77,7 +77,7 @@ longer='checks/stored-runs/run.sh checks/rows/run.sh checks/why/run.sh checks/gd
 # shellcheck disable=SC2086
 case "$*" in
 '')
-    do_all $quick $longer 'python3 -B checks/links.py' 'python3 -B checks/lemmas.py' anywhere/is_current.sh page/is_current.sh
+    do_all $quick $longer 'python3 -B checks/links.py' 'python3 -B checks/lemmas.py' anywhere/is_current.sh page/is_current.sh checks/shell.sh
     tell_others
     ;;
 --node)

@@ -5,6 +5,8 @@
 # A test is built as GCC's own scripts do it, with a stack of 1 MB on which instructions may lie. What is built stands
 # in $GUESTS/torture, and is used again.
 set -u
+# $checks and $top are those of outside.sh.
+# shellcheck disable=SC2154
 . "$checks/outside/linking.sh"
 . "$top/programs/c/guests.sh"
 set +e
@@ -81,6 +83,7 @@ fetch_torture
 for level in $LEVELS; do
     begin=$(date +%s)
     told=$GUESTS/told$level
+    # shellcheck disable=SC2010
     (cd "$tests" && ls ./*.c ieee/*.c builtins/*.c | grep -v -- '-lib\.c$' | sed 's/^\.\///; s/\.c$//') |
         xargs -P "$JOBS" -I{} nice "$0" {} "$level" >"$told"
     count=$(wc -l <"$told")

@@ -96,7 +96,8 @@ is_part() {
     }
 }
 
-# Plays the record $1 beside a screen, and compares its notes.
+# Plays the record $1 beside a screen, and compares its notes. The words of a session are several.
+# shellcheck disable=SC2046
 beside() {
     [ -e "$room/=beside" ] || return 0
     "$program" --replay "$1" $(words) </dev/null >/dev/null 2>"$room/=notes"
@@ -106,6 +107,7 @@ beside() {
 }
 
 # Plays session $1, a name or a path.
+# shellcheck disable=SC2046
 check() {
     case $1 in */*) ;; *) set -- "$here/$1.txt" ;; esac
     name=${1##*/}

@@ -78,6 +78,8 @@ case $(riscv64-unknown-elf-gcc -dumpfullversion 2>/dev/null) in
 esac
 # Each event as a line (--notes) is the trace, with the names of programs and what sleepers wait for between its lines.
 run_pipeline() {
+    # Standard error alone goes on.
+    # shellcheck disable=SC2069
     echo 'echo a | wc' | "$XV_WHY" --rounds 60 --quantum 100 "$@" "$root/programs/bin/init" "$root/programs/bin/sh" \
         "$root/programs/bin/echo" "$root/programs/bin/wc" 2>&1 >/dev/null
 }

@@ -80,7 +80,7 @@ build() {
 build_lua() {
     fetch lua5.4
     cd "$GUESTS/sources/lua5.4/src"
-    # shellcheck disable=SC2046
+    # shellcheck disable=SC2046,SC2010
     build lua -O2 -std=gnu99 -- $(ls ./*.c | grep -v '/luac\.c$')
 }
 

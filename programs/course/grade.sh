@@ -38,7 +38,7 @@ give_up() {
     exit "$1"
 }
 
-work=grade-work resume=0 jobs= hosts= slurm=0
+work=grade-work resume=0 jobs='' hosts='' slurm=0
 while [ $# -gt 0 ]; do
     case $1 in
     --work) work=${2?} && shift ;;
