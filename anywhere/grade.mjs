@@ -13,7 +13,8 @@
 // followed, and nothing of a submission is run on the host. How long a run may take is said in events, so the results are the
 // same on any host, in any order and on any number of processors. With XV_PICTURE= no pictures are drawn.
 //
-// Status: 0 each submission has a result; 1 the words are refused; 2 the exercise is refused, or a submission has no result.
+// Status: 0 each submission has a result; 1 the words are refused; 2 the exercise is refused, a submission has no result, or there is no module;
+// 5 the results cannot be written; 125 Node is too old, or it met a fault of its own.
 import { begin } from "./src/begin.mjs";
 
 begin("grade", "./grading/grade.mjs");

@@ -21,6 +21,7 @@ WASI(fd_seek) int fd_seek(u32 fd, i64 offset, u32 whence, u32 at);
 WASI(fd_filestat_get) int fd_filestat_get(u32 fd, u32 stat);
 WASI(fd_prestat_get) int fd_prestat_get(u32 fd, u32 stat);
 WASI(fd_prestat_dir_name) int fd_prestat_dir_name(u32 fd, u32 name, u32 bytes);
+WASI(path_filestat_get) int path_filestat_get(u32 fd, u32 look, u32 path, u32 bytes, u32 stat);
 WASI(path_open) int path_open(u32 fd, u32 look, u32 path, u32 bytes, u32 how, u64 base, u64 inheriting, u32 flags, u32 opened);
 WASI(clock_time_get) int clock_time_get(u32 id, u64 precision, u32 time);
 WASI(poll_oneoff) int poll_oneoff(u32 wanted, u32 happened, u32 count, u32 told);
@@ -212,24 +213,36 @@ typedef struct {
     u32 at, bytes;
 } Part;
 
-int open(const u8 *path, int flags, ...) {
+// A path as WASI takes it: the folder that holds it, and its bytes from there.
+typedef struct {
+    u32 folder, bytes;
+    const u8 *rest;
+} Place;
+
+// Where a path leads. 0 if it is too long, or no folder holds it.
+static int find_place(Place *place, const u8 *path) {
     static Path whole;
-    const u8 *rest = 0;
     if (!make_whole(&whole, path)) {
         last_error = TOO_LONG;
-        return -1;
+        return 0;
     }
-    u32 folder = path[0] ? folder_of(&whole, &rest) : 0;
-    if (!folder) {
+    place->folder = path[0] ? folder_of(&whole, &place->rest) : 0;
+    if (!place->folder) {
         last_error = NO_ENTRY;
-        return -1;
+        return 0;
     }
-    u64 bytes = 0;
-    while (rest[bytes]) bytes++;
+    place->bytes = 0;
+    while (place->rest[place->bytes]) place->bytes++;
+    return 1;
+}
+
+int open(const u8 *path, int flags, ...) {
+    Place place = {0, 0, 0};
+    if (!find_place(&place, path)) return -1;
     u32 how = (flags & CREATE ? 1 : 0) | (flags & EXCLUSIVE ? 4 : 0) | (flags & TRUNCATE ? 8 : 0);
     u64 rights = TO_SEEK | TO_STAT | (flags & WRITE_ONLY ? TO_WRITE : flags & READ_WRITE ? TO_READ | TO_WRITE : TO_READ);
     u32 fd = 0;
-    int error = path_open(folder, 1, low(rest), (u32)bytes, how, rights, 0, flags & APPEND ? 1 : 0, low(&fd));
+    int error = path_open(place.folder, 1, low(place.rest), place.bytes, how, rights, 0, flags & APPEND ? 1 : 0, low(&fd));
     return (int)answer(error, fd);
 }
 
@@ -262,15 +275,24 @@ i64 lseek(int fd, i64 offset, int whence) {
 }
 
 // statx(2): what a file is, its length, and that its owner may read and write it.
+// With NO_FOLLOW it tells of a link itself, and opens nothing: so a pipe that nobody writes isn't waited for.
+enum { NO_FOLLOW = 0x100 };
 enum { LENGTH_AND_KIND = 0x7ff, OWNER_WRITES = 0644, STATX_BYTES = 256, KIND = 2, LENGTH = 4, MODE_AT = 28, LENGTH_AT = 40 };
 int statx(int folder, const u8 *path, int flags, u32 mask, u8 *to) {
     static const u16 kinds[] = {0, 0060000, 0020000, 0040000, 0100000, 0140000, 0140000, 0120000};
     u64 stat[8] = {0};
-    (void)flags, (void)mask;
-    int fd = path[0] ? open(path, 0) : folder;
-    if (fd < 0) return -1;
-    int error = fd_filestat_get((u32)fd, low(stat));
-    if (path[0]) close(fd);
+    Place place = {0, 0, 0};
+    int error;
+    (void)mask;
+    if (path[0] && flags & NO_FOLLOW) {
+        if (!find_place(&place, path)) return -1;
+        error = path_filestat_get(place.folder, 0, low(place.rest), place.bytes, low(stat));
+    } else {
+        int fd = path[0] ? open(path, 0) : folder;
+        if (fd < 0) return -1;
+        error = fd_filestat_get((u32)fd, low(stat));
+        if (path[0]) close(fd);
+    }
     if (error) return (int)answer(error, 0);
     for (int k = 0; k < STATX_BYTES; k++) to[k] = 0;
     u8 kind = (u8)stat[KIND];

@@ -60,6 +60,13 @@ function functions(opened, words, memory) {
   const bytes = (at, size) => new Uint8Array(memory().buffer, at, size);
   const put = (at, value) => view().setUint32(at, value, true);
   const file = (fd) => opened.list[fd];
+  const text = (at, size) => Buffer.from(bytes(at, size)).toString("latin1");
+  const tell = (stat, kind, size) => {
+    bytes(stat, 64).fill(0);
+    view().setUint8(stat + 16, kind);
+    view().setBigUint64(stat + 32, BigInt(size), true);
+    return OK;
+  };
   const part = (list) => bytes(view().getUint32(list, true), view().getUint32(list + 4, true));
   const parts = (list, count) => Array.from({ length: count }, (_, k) => part(list + 8 * k));
   return {
@@ -95,17 +102,17 @@ function functions(opened, words, memory) {
       return OK;
     },
     path_open(_folder, _look, path, size, how, _rights, _inherited, _flags, to) {
-      const fd = opened.open(Buffer.from(bytes(path, size)).toString("latin1"), how);
+      const fd = opened.open(text(path, size), how);
       if (fd < 0) return NO_ENTRY;
       put(to, fd);
       return OK;
     },
+    path_filestat_get(_folder, _look, path, size, stat) {
+      const found = opened.given.get(text(path, size));
+      return found ? tell(stat, PLAIN_FILE, found.size ?? found.bytes.length) : NO_ENTRY;
+    },
     fd_filestat_get(fd, stat) {
-      if (!file(fd)) return NO_DESCRIPTOR;
-      bytes(stat, 64).fill(0);
-      view().setUint8(stat + 16, file(fd).kind);
-      view().setBigUint64(stat + 32, BigInt(file(fd).size), true);
-      return OK;
+      return file(fd) ? tell(stat, file(fd).kind, file(fd).size) : NO_DESCRIPTOR;
     },
     fd_read(fd, list, count, got) {
       if (!file(fd)) return NO_DESCRIPTOR;
