@@ -3,6 +3,7 @@
 // no folder has (held.mjs) are done here.
 import "./quiet.mjs";
 import { createRequire } from "node:module";
+import { setFlagsFromString } from "node:v8";
 import { existsSync, readFileSync } from "node:fs";
 import { join } from "node:path";
 import { fileURLToPath } from "node:url";
@@ -12,6 +13,12 @@ import { rest } from "./streams.mjs";
 // At this time, since an import would come before quiet.mjs.
 const { WASI } = createRequire(import.meta.url)("node:wasi");
 const FOLDER = fileURLToPath(new URL("..", import.meta.url));
+
+// A function that has run for a while is compiled once more, for speed, and Node ends only after that. Up to Node 20 a while is
+// so short that the end of a short run would wait for it; this is about what later ones have.
+const [V8] = process.versions.v8.split(".").map(Number);
+if (V8 < 12) setFlagsFromString("--wasm-tiering-budget=10000000");
+
 // Errors of WASI, by the names that Node gives them.
 const ERRORS = { EAGAIN: 6, EIO: 29, ENOSPC: 51, EPIPE: 64 };
 
