@@ -5,7 +5,8 @@ use std::fmt;
 
 // The name of the kernel call of a number, if it is one's.
 fn call_name(number: i32) -> Option<&'static str> {
-    KernelCall::of_number(number).map(|call| call.name())
+    let call = KernelCall::of_number(number)?;
+    Some(call.name())
 }
 
 // The number of a kernel call, by its name or its number.
