@@ -5,7 +5,6 @@
 //! show them. Nothing here knows of a machine.
 #![tactic(auto)]
 
-mod calls;
 mod fault;
 mod help;
 mod keys;

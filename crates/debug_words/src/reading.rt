@@ -3,13 +3,13 @@ ghost use Rattle.std.specs.Prelude.{◌≡◌, IfOk};
 ghost use Rattle.debug_words.specs.Counted.{most_of};
 ghost use Rattle.debug_words.specs.Ranges.{UpTo, IsInRange};
 
-use crate::calls::call_number;
 use crate::fault::{WordError, WordErrorKind};
 use crate::keys::keys_of;
 use crate::numbers::{number_in, number_of};
 use crate::tokens::Tokens;
 use crate::topics::Topic;
 use crate::vocabulary::{BYTES_MOST, EVENTS_MOST, Goal, NOTES_MOST, OFTEN_MOST, ROUNDS_MOST, Word};
+use kernel_calls::KernelCall;
 use xk_base::limits::{FRAMES_MAX, PID_MAX};
 use xk_base::{Frame, Pid};
 
@@ -95,8 +95,8 @@ fn address<'a>(tokens: &Tokens<'a>, place: usize) -> Result<u64, WordErrorKind<'
 
 /// The call that a text names, by its name or its number.
 fn call_of<'a>(text: &'a str) -> Result<i32, WordErrorKind<'a>> {
-    if let Some(number) = call_number(text) {
-        return Ok(number);
+    if let Some(call) = KernelCall::of_name(text) {
+        return Ok(call.number());
     }
     match number_in(text, 0, CALLS_LAST) {
         Ok(number) => Ok(number as i32),

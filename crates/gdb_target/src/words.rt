@@ -1,30 +1,16 @@
 //! Processes in words.
 use kcall_core::ProcessState;
+use kernel_calls::KernelCall;
 use std::alloc::{AllocError, Global};
 use xk_base::Pid;
 use xv_machine::Machine;
 use xv_session::Session;
 
-/// The name of a kernel call (the xv6 book, "Operating system interfaces"; `kernel/syscall.h` of xv6).
+/// The name of a kernel call.
 fn call_name(number: i32) -> &'static str {
-    match number {
-        1 => "fork",
-        2 => "exit",
-        3 => "wait",
-        4 => "pipe",
-        5 => "read",
-        6 => "kill",
-        7 => "exec",
-        10 => "dup",
-        11 => "getpid",
-        12 => "sbrk",
-        13 => "sleep",
-        14 => "uptime",
-        15 => "open",
-        16 => "write",
-        21 => "close",
-        22 => "sbrklazy",
-        _ => "a call",
+    match KernelCall::of_number(number) {
+        Some(call) => call.name(),
+        None => "a call",
     }
 }
 

@@ -1,38 +1,20 @@
 //! Patterns as text: a line of a trace, with `*`, `!1`, `>=2`, `3..9` or `13|15` in place of a number.
 use grade_rules::{Note, Numbers, Pattern};
+use kernel_calls::KernelCall;
 use std::fmt;
 
 // The name of the kernel call of a number, if it is one's.
 fn call_name(number: i32) -> Option<&'static str> {
-    match number {
-        1 => Some("fork"),
-        2 => Some("exit"),
-        3 => Some("wait"),
-        4 => Some("pipe"),
-        5 => Some("read"),
-        6 => Some("kill"),
-        7 => Some("exec"),
-        10 => Some("dup"),
-        11 => Some("getpid"),
-        12 => Some("sbrk"),
-        13 => Some("sleep"),
-        14 => Some("uptime"),
-        15 => Some("open"),
-        16 => Some("write"),
-        21 => Some("close"),
-        22 => Some("sbrklazy"),
-        _ => None,
-    }
+    let call = KernelCall::of_number(number)?;
+    Some(call.name())
 }
 
 // The number of a kernel call, by its name or its number.
 fn call_number(word: &str) -> Option<i64> {
-    for number in 1..=22 {
-        if call_name(number) == Some(word) {
-            return Some(i64::from(number));
-        }
+    match KernelCall::of_name(word) {
+        Some(call) => Some(i64::from(call.number())),
+        None => word.parse().ok(),
     }
-    word.parse().ok()
 }
 
 // From a number to another, both with them.

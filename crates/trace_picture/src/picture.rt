@@ -4,6 +4,7 @@ use crate::label::{Letter, RowName, Text, names_room, wait_in, who_at};
 use crate::note::Note;
 use crate::remark::Remarks;
 use crate::row::{Phase, State};
+use kernel_calls::KernelCall;
 use std::fmt::{self, Display};
 use std::io::{self, Write};
 
@@ -88,24 +89,9 @@ fn word(state: State) -> &'static str {
 
 // The name of a kernel call.
 fn call_name(number: i32) -> &'static str {
-    match number {
-        1 => "fork",
-        2 => "exit",
-        3 => "wait",
-        4 => "pipe",
-        5 => "read",
-        6 => "kill",
-        7 => "exec",
-        10 => "dup",
-        11 => "getpid",
-        12 => "sbrk",
-        13 => "sleep",
-        14 => "uptime",
-        15 => "open",
-        16 => "write",
-        21 => "close",
-        22 => "sbrklazy",
-        _ => "unknown",
+    match KernelCall::of_number(number) {
+        Some(call) => call.name(),
+        None => "unknown",
     }
 }
 

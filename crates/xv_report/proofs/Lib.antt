@@ -3,3 +3,4 @@ pub mod Ends
 pub mod Frames
 pub mod Finding
 pub mod Faulting
+pub mod CallNames

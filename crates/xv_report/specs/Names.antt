@@ -1,6 +1,8 @@
 -- The names that are told of programs and of kernel calls.
-use Rattle.std.specs.Prelude.{ℕ, List, Option, None, Some, option_map, slice_get, codes}
-use Rattle.kernel_spec.specs.rows.Calls.{Row, Fork, Exit, Wait, Pipe_row, Read, Kill, Exec, Dup, Getpid, Sbrk, Sleep, Uptime, Open, Write, Close, Sbrklazy}
+use Rattle.std.specs.Prelude.{ℕ, List, Option, None, Some, option_map, slice_get}
+use Rattle.kernel_spec.specs.rows.Calls.{Row}
+use Rattle.kernel_calls.specs.Table.{entry_of}
+use Rattle.kernel_calls.specs.Rows.{call_by}
 use Rattle.kernel_spec.specs.views.State.{ProgramFile}
 use Rattle.xv_session.specs.Names.{place_in}
 use Rattle.xv_session.specs.Recorded.{Recorded}
@@ -17,21 +19,6 @@ name_by programs (Some place) = name_at programs place
 abbrev pub name_of : Recorded → ℕ → Option (List ℕ)
 name_of s p = name_by s.machine.world.state.programs (place_in p s.names)
 
--- the name of a kernel call
+-- the name of the kernel call of a row
 abbrev pub call_word : Row → List ℕ
-call_word Fork = codes "fork"
-call_word Exit = codes "exit"
-call_word Wait = codes "wait"
-call_word Pipe_row = codes "pipe"
-call_word Read = codes "read"
-call_word Kill = codes "kill"
-call_word Exec = codes "exec"
-call_word Dup = codes "dup"
-call_word Getpid = codes "getpid"
-call_word Sbrk = codes "sbrk"
-call_word Sleep = codes "sleep"
-call_word Uptime = codes "uptime"
-call_word Open = codes "open"
-call_word Write = codes "write"
-call_word Close = codes "close"
-call_word Sbrklazy = codes "sbrklazy"
+call_word row = (entry_of (call_by row)).name

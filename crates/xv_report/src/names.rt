@@ -4,6 +4,7 @@ ghost use Rattle.kernel_spec.specs.rows.Calls.{row_of};
 ghost use Rattle.kernel_spec.specs.views.State.{named_file};
 ghost use Rattle.xv_report.specs.Names.{name_at, name_of, call_word};
 
+use kernel_calls::KernelCall;
 use xk_base::{Pid, Program};
 use xv_session::Session;
 
@@ -26,28 +27,9 @@ pub fn program_name(session: &Session, pid: Pid) -> Option<&[u8]>
 
 /// The name of the kernel call of a number (xv6's `syscall.h`; `sbrklazy` is this project's own); `None` for a number
 /// that no call has.
-#[tactic(auto, unfolding(kernel_spec::specs::rows::Calls::row_of))]
 pub fn call_name(number: i32) -> Option<&'static str>
     ensures { option_map (λ n. n.now) result ≡ option_map call_word (row_of number) }
 {
-    let name = match number {
-        1 => "fork",
-        2 => "exit",
-        3 => "wait",
-        4 => "pipe",
-        5 => "read",
-        6 => "kill",
-        7 => "exec",
-        10 => "dup",
-        11 => "getpid",
-        12 => "sbrk",
-        13 => "sleep",
-        14 => "uptime",
-        15 => "open",
-        16 => "write",
-        21 => "close",
-        22 => "sbrklazy",
-        _ => return None,
-    };
-    Some(name)
+    let call = KernelCall::of_number(number)?;
+    Some(call.name())
 }

@@ -1,0 +1,4 @@
+pub mod Arguments
+pub mod Table
+pub mod Rows
+pub mod Laws
