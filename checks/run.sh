@@ -1,10 +1,10 @@
 #!/bin/sh
 # The checks beside the proofs: checks/run.sh gives the programs the words that are stored, plays the sessions, also those
 # at a terminal and of the debugger, the stored runs, random programs in rows and by single events, the reports and the
-# conversations with GDB by the programs that are built, grades submissions, looks at the links of the pages, counts what
-# the proofs can do without, and tells whether page/nektavoly.html is of these sources, in some seconds. The gate does the
-# same behind `rt ci`. `checks/run.sh --others` tells which other checks there are, how each is called, and how long it
-# takes.
+# conversations with GDB by the programs that are built, reads the lines of all sources a second time, grades submissions,
+# looks at the links of the pages, counts what the proofs can do without, and tells whether page/nektavoly.html is of
+# these sources, in some seconds. The gate does the same behind `rt ci`. `checks/run.sh --others` tells which other checks
+# there are, how each is called, and how long it takes.
 set -u
 cd "$(dirname "$0")/.." || exit 2
 
@@ -48,7 +48,7 @@ case "$*" in
 esac
 
 failed=
-for check in checks/words/run.sh checks/sessions/run.sh checks/stored-runs/run.sh checks/rows/run.sh checks/why/run.sh checks/gdb/run.sh checks/terminal/run.sh checks/debugger/run.sh checks/grading/run.sh 'python3 -B checks/links.py' 'python3 -B checks/lemmas.py' page/is_current.sh; do
+for check in checks/words/run.sh checks/sessions/run.sh checks/stored-runs/run.sh checks/rows/run.sh checks/why/run.sh checks/gdb/run.sh checks/terminal/run.sh checks/debugger/run.sh 'python3 -B checks/lines.py' checks/grading/run.sh 'python3 -B checks/links.py' 'python3 -B checks/lemmas.py' page/is_current.sh; do
     $check || failed="$failed $check;"
 done
 [ -z "$failed" ] || {

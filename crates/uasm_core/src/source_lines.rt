@@ -35,18 +35,18 @@ pub struct SourceLines {
     pub labels: Vec<LabelAddress>,
 }
 
-/// Adds a line that goes from one place to another, if it makes instructions.
+/// Adds the line of this number, which goes from one place to another, if it makes instructions.
 pub(crate) fn add_code(
     code: &mut Vec<CodeLine>,
-    line: usize,
+    number: usize,
     from: &Place,
     to: &Place,
 ) -> Result<(), AllocError>
-    ensures { OnOk result (code.new.items ≡ code.old.items ++ code_between line from.now to.now) }
+    ensures { OnOk result (code.new.items ≡ code.old.items ++ code_between number from.now to.now) }
 {
     if from.text_len < to.text_len {
         code.push(CodeLine {
-            line,
+            line: number,
             start: u64::from(from.text_len),
             end: u64::from(to.text_len),
         })?;

@@ -9,7 +9,8 @@ use Rattle.uasm_core.proofs.Walks.{drop_view}
 use Rattle.uasm_core.proofs.source_lines.label_addresses.Goals as goal
 
 -- the label of one line more
-one_more : (n : ℕ) (old new : List Label) (p : Placed) (others : List Placed) (whole : List Label) → new ≡ old ++ label_of n p → old ++ labels_of n (p ∷ others) ≡ whole → new ++ labels_of n others ≡ whole
+one_more : (n : ℕ) (old new : List Label) (p : Placed) (others : List Placed) (whole : List Label)
+    → new ≡ old ++ label_of n p → old ++ labels_of n (p ∷ others) ≡ whole → new ++ labels_of n others ≡ whole
 one_more n old new p others whole e w =
     ap (λ (x : List Label). x ++ labels_of n others) e ∙ append_assoc old (label_of n p) (labels_of n others) ∙ ap (λ (x : List Label). old ++ x) (sym (flat_map-cons (label_of n) p others)) ∙ w
 
