@@ -1,11 +1,25 @@
 #!/bin/bash
-# Makes nektavoly-VERSION.tar.gz of the last commit: release.sh [FOLDER], into FOLDER or where it is called.
+# Makes a release of the last commit, for all hosts: release.sh [FOLDER]. Three files come into FOLDER:
 #
-# It holds the programs, as `./xv` proved and built them, the page, the programs for the machine with their sources, and
-# the manual and the course as HTML and as text. Beside it comes nektavoly-VERSION-teacher.tar.gz, which isn't handed
-# out: the answers, and the exercises as files for grading. It is untarred over the other one.
+#   nektavoly-VERSION.tar.gz          what is handed out
+#   nektavoly-VERSION-teacher.tar.gz  what isn't: the answers, and the exercises as files for grading; it is untarred over the other
+#   nektavoly-VERSION.sha256          the sums of both
+#
+# FOLDER is made if it isn't there; without the word it is nektavoly-VERSION-release, beside the repository. A folder in the
+# repository is refused, unless git ignores it.
+#
+# The archive holds the programs twice: for Linux on x86-64, as `./xv --build` proved and built them (libexec/), and for
+# Node on every host (anywhere/). It holds the page, the programs for the machine with their sources, and the manual and the
+# course as HTML and as text. npm takes it as a package, since package.json stands in its one folder. There is no link in it:
+# npm leaves links out, and Windows makes them for some users alone. Windows has `tar`, so there is no .zip.
+#
 # The same commit, kit and pandoc give the same bytes, whoever makes it, when and in which folder. pandoc is Debian's
 # package of that name; 2.17 is that of Debian 12. BUILT in the archive names the kit.
+#
+#   release.sh --cut VERSION [--commit]
+#
+# cuts a version: what stands below [Unreleased] in CHANGELOG.md gets VERSION and today's date as its heading, and VERSION,
+# package.json and the names of archives in the pages follow. Nothing is committed without --commit.
 set -euo pipefail
 export LC_ALL=C TZ=UTC
 umask 022
@@ -14,42 +28,114 @@ unset CDPATH GZIP TAR_OPTIONS POSIXLY_CORRECT
 git() {
     command git -c core.autocrlf=false -c core.attributesFile=/dev/null -c log.showSignature=false "$@"
 }
-into=$(cd "${1-.}" && pwd)
-cd "$(dirname "$0")"
 
 stop() {
     echo "release.sh: $*" >&2
     exit 1
 }
 
-command -v pandoc >/dev/null || stop "there is no pandoc: apt-get install pandoc"
-[ -z "$(git status --porcelain --untracked-files=all)" ] || stop "there are changes that no commit has"
-[ "$(./xv --status 2>&1 | head -n 1)" = "xv: proved and built of these sources" ] ||
-    stop "the programs aren't built: ./xv"
+usage() {
+    echo 'usage: release.sh [FOLDER], or release.sh --cut VERSION [--commit]; the head of release.sh says more' >&2
+    exit 2
+}
+
+is_clean() {
+    [ -z "$(git status --porcelain --untracked-files=all)" ] || stop "there are changes that no commit has"
+}
+
+# Makes a version of what isn't released yet, in the working tree.
+cut_version() {
+    local next=$1 last head files
+    last=$(cat VERSION)
+    [[ $next =~ ^(0|[1-9][0-9]*)\.(0|[1-9][0-9]*)\.(0|[1-9][0-9]*)$ ]] || stop "a version has three numbers, as 1.0.0: $next"
+    [ "$next" != "$(printf '%s\n' "$last" "$next" | sort -V | head -n 1)" ] || stop "$next isn't above $last, which VERSION has"
+    is_clean
+    head="## [$next] - $(date +%F)"
+    awk '/^## / { is_in = $0 == "## [Unreleased]" } is_in && /^- / { found = 1 } END { exit !found }' CHANGELOG.md ||
+        stop "CHANGELOG.md has nothing below ## [Unreleased]"
+    sed -i "s/^## \[Unreleased\]\$/&\n\n$head/" CHANGELOG.md
+    echo "$next" >VERSION
+    [ ! -e package.json ] || sed -i -E "s/^( *\"version\": *\")[^\"]*\"/\1$next\"/" package.json
+    mapfile -t files < <(git grep -lF "nektavoly-$last" -- README.md CONTRIBUTING.md docs)
+    [ "${#files[@]}" = 0 ] || sed -i -E "s/nektavoly-${last//./\\.}([^0-9]|\$)/nektavoly-$next\1/g" "${files[@]}"
+    if [ "${2-}" = --commit ]; then
+        git commit -qam "Version $next"
+        echo "release.sh: version $next is committed; then: git tag v$next, ./release.sh"
+    else
+        echo "release.sh: this is version $next now. Look at it by git diff; then: git commit -am 'Version $next', git tag v$next, ./release.sh"
+    fi
+}
+
+# Makes the folder of the release, and tells its path.
+folder_for() {
+    local into top
+    top=$(pwd -P)
+    into=$(realpath -m -- "$1")
+    if [[ $into/ = "$top"/* ]] && { [ "$into" = "$top" ] || ! git check-ignore -q -- "$into"; }; then
+        stop "$into lies in the repository, and git doesn't ignore it: name a folder elsewhere"
+    fi
+    mkdir -p -- "$into" && echo "$into"
+}
+
+into=
+case ${1-} in
+    --cut)
+        case $#${3-} in 2 | 3--commit) ;; *) usage ;; esac
+        cd "$(dirname "$0")"
+        cut_version "$2" "${3-}"
+        exit
+        ;;
+    -*) usage ;;
+    '') ;;
+    *) into=$(realpath -m -- "$1") ;;
+esac
+[ $# -le 1 ] || usage
+cd "$(dirname "$0")"
 
 version=$(cat VERSION)
 name=nektavoly-$version
+command -v pandoc >/dev/null || stop "there is no pandoc: apt-get install pandoc"
+is_clean
+programs/host/build.sh --is-current || stop "the native programs aren't proved and built of these sources: ./xv --build"
+page/is_current.sh >/dev/null 2>&1 || stop "page/nektavoly.html is of other sources: page/build.sh"
+anywhere/is_current.sh >/dev/null 2>&1 || stop "the modules for Node are of other sources: anywhere/build.sh"
+grep -q "\"version\": *\"$version\"" package.json || stop "package.json has another version than VERSION, $version"
+grep -qF "## [$version]" CHANGELOG.md || stop "CHANGELOG.md doesn't know version $version: release.sh --cut"
+into=$(folder_for "${into:-../$name-release}")
+
 room=$(mktemp -d)
 trap 'rm -rf "$room"' EXIT
 export RELEASE=$room/$name
 TEACHER=$room/teacher/$name
 mkdir -p "$RELEASE" "$TEACHER"
 
-# What the commit holds of it.
-git archive HEAD xv README.md LICENSE VERSION CHANGELOG.md docs programs page/nektavoly.html checks/sessions \
-    checks/why checks/terminal checks/debugger checks/gdb checks/gdb.sh checks/grading | tar -x -C "$RELEASE"
+# What the commit holds of it, and of the page's own files those that the programs for Node share.
+mapfile -t shared < <(git grep -hoE 'page/src/[a-z_]+\.mjs' HEAD -- xv.mjs 'anywhere/*.mjs' | sort -u)
+git archive HEAD xv xv.mjs xv.cmd package.json anywhere README.md CONTRIBUTING.md LICENSE VERSION CHANGELOG.md docs programs \
+    page/nektavoly.html "${shared[@]}" checks/sessions checks/why checks/terminal checks/debugger checks/gdb checks/gdb.sh checks/grading \
+    checks/programs.sh |
+    tar -x -C "$RELEASE"
 mv "$RELEASE/docs/html" "$room/html"
+# What makes and tries the modules is of no use without the crates.
+rm -rf "$RELEASE/anywhere/build" "$RELEASE/anywhere/try" "$RELEASE"/anywhere/*.sh
 
-# A program's own file lies in libexec/, under each name that it is called by, and bin/ has a script of that name, which
-# knows --version.
+# A program's own file lies in libexec/. Those that are other names of xv_tools are scripts there. bin/ has a script of each
+# name, which knows --version.
 mkdir "$RELEASE/bin" "$RELEASE/libexec"
 for main in crates/*/src/main.rt; do
     program=$(basename "${main%/src/main.rt}")
     cp "crates/$program/out/$program" "$RELEASE/libexec/"
 done
 for script in bin/*; do
-    [ -e "$RELEASE/libexec/${script#bin/}" ] || ln -s xv_tools "$RELEASE/libexec/${script#bin/}"
+    program=${script#bin/}
     cp "$RELEASE/programs/host/launch.sh" "$RELEASE/$script"
+    [ ! -e "$RELEASE/libexec/$program" ] || continue
+    cat >"$RELEASE/libexec/$program" <<END
+#!/bin/sh
+# $program is one of the names of xv_tools.
+exec "\${0%/*}/xv_tools" $program "\$@"
+END
+    chmod +x "$RELEASE/libexec/$program"
 done
 { git log -1 --format='commit %H of %cs'; rt version; } >"$RELEASE/BUILT"
 
@@ -79,10 +165,11 @@ echo docs/COURSE-ANSWERS.md | as_html
     mv "$RELEASE/$its" "$TEACHER/$its"
 done
 find "$RELEASE" -name '*.md' -printf '%P\n' | sort | as_html
+[ -z "$(find "$RELEASE" "$TEACHER" -type l)" ] || stop "the repository has links, which npm and Windows don't take: $(find "$RELEASE" "$TEACHER" -type l -printf '%P ')"
 
 # Packs the folder in $1 as the archive $2, with the sums of its files in the file $3.
 pack() {
-    (cd "$1/$name" && find . \( -type f -o -type l \) ! -name "$3" | sort | xargs -d '\n' sha256sum >"$3")
+    (cd "$1/$name" && find . -type f | sort | xargs -d '\n' sha256sum) >"$room/sums" && cp "$room/sums" "$1/$name/$3"
     # gzip reads a file and no pipe, so that it gets the same pieces each time.
     tar -cf "$room/packed" --sort=name --mtime="@$(git log -1 --format=%ct)" --owner=0 --group=0 --numeric-owner \
         --mode=u=rwX,go=rX,a-st --format=gnu -C "$1" "$name"
@@ -92,3 +179,5 @@ pack() {
 
 pack "$room" "$name.tar.gz" SHA256SUMS
 pack "$room/teacher" "$name-teacher.tar.gz" SHA256SUMS-teacher
+(cd "$into" && sha256sum "$name.tar.gz" "$name-teacher.tar.gz" >"$name.sha256")
+echo "release.sh: $into/$name.sha256; then, as root: checks/release.sh $into"

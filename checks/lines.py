@@ -1,12 +1,14 @@
+#!/usr/bin/env python3
 """Compares where the debugger says that instructions stand, by label and line, with what a second reading of the sources says.
 
     checks/lines.py [PROGRAM]
 
 Each source of the repository is assembled with an end of its own: it goes to an address that the clock tells, so that each
 stretch of eight instructions can be looked at in turn. PROGRAM is the debugger under its name, xv_debugger: without it, the
-one that is proved and built. The reading here is written from docs/manual/assembler.md, "Lines" and "Instructions". Sources
+one that is proved and built, or by XV_NODE=yes the one of anywhere/. The reading here is written from docs/manual/assembler.md, "Lines" and "Instructions". Sources
 that are refused are left out.
 """
+import os
 import pathlib
 import re
 import subprocess
@@ -71,7 +73,8 @@ def shown(program, folder, source, count):
 
 
 def main():
-    program = sys.argv[1] if len(sys.argv) > 1 else TOP / "bin/xv_debugger"
+    folder = "anywhere/bin" if os.environ.get("XV_NODE") == "yes" else "bin"
+    program = sys.argv[1] if len(sys.argv) > 1 else TOP / folder / "xv_debugger"
     files = compared = others = 0
     with tempfile.TemporaryDirectory() as name:
         for path in sorted(TOP.glob("programs/**/*.s")) + sorted(TOP.glob("checks/**/*.s")):

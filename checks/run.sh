@@ -5,6 +5,14 @@
 # looks at the links of the pages, counts what the proofs can do without, and tells whether page/nektavoly.html is of
 # these sources, in some seconds. The gate does the same behind `rt ci`. `checks/run.sh --others` tells which other checks
 # there are, how each is called, and how long it takes.
+#
+# `checks/run.sh --node` plays all of that which needs a program by the modules of anywhere/, with Node in place of the native
+# programs, and compares it with the same texts; `checks/run.sh --node --quick` plays the words and the sessions alone. What
+# can't be the same by Node has a form of its own, which its check names: how a program gets little memory (checks/words), how
+# the debugger gets the lines of sources (checks/debugger), and xv.mjs and anywhere/grade.mjs in place of scripts (checks/why,
+# checks/debugger, checks/grading).
+#
+# PATIENCE is how many seconds one run of a program may take: 60 without it, and 120 with Node. A host that is busy needs more.
 set -u
 cd "$(dirname "$0")/.." || exit 2
 
@@ -15,6 +23,8 @@ tell() {
 
 tell_others() {
     echo 'Other checks, by hand; the head or the README.md of each says more:'
+    tell run.sh 'run.sh --node' 'the same by the modules, with Node in place of the native programs: two minutes; needs nodejs'
+    tell run.sh 'run.sh --node --quick' 'the words and sessions alone, by the modules: half a minute; needs nodejs'
     tell wrong-bodies/run.sh 'wrong-bodies/run.sh [CRATE..]' 'the prover refuses wrong bodies: minutes a crate, hours for all'
     tell wrong-bodies/run.sh 'wrong-bodies/run.sh --definitions [CRATE..]' 'a law, worked case or contract refuses turned definitions: 1 to 10 minutes each'
     tell hostile/run.sh 'hostile/run.sh' 'each refused growth of memory, read and write is answered: a minute'
@@ -22,7 +32,7 @@ tell_others() {
     tell rows/run.sh 'rows/run.sh --many 1000 [--seed N]' 'more random programs in rows and by single events: minutes'
     tell outside.sh 'outside.sh' "others' programs do what they do under QEMU: minutes, with \`torture\` an hour; needs packages, told by the script"
     tell back-to/run.sh 'back-to/run.sh [N]' 'the stored runs, played back to 20 places each: slow; needs rt'
-    tell release.sh 'release.sh FOLDER' 'a release, tried in a bare Debian 12: two minutes; needs root, debootstrap and the network'
+    tell release.sh 'release.sh FOLDER' 'a release, tried in a bare Debian 12, natively and by Node: some minutes; needs root, debootstrap and the network'
     tell html-links.py 'html-links.py FOLDER' 'the links of a release that was untarred'
     tell terminal/by_hand.sh 'terminal/by_hand.sh [FOLDER]' 'sessions at a real terminal, with their screens: a minute; needs tmux'
     tell terminal/measure.py 'terminal/measure.py' 'the terminal'"'"'s speed beside xv_run, its echo, and what it takes while all sleep: a minute'
@@ -35,24 +45,52 @@ tell_others() {
     echo 'After a failed `rt check`: checks/why.sh CRATE tells what is open, in the order in which to read it.'
 }
 
+# Does each check, a command without blanks in its words, and tells which of them failed.
+do_all() {
+    failed=
+    for check; do
+        $check || failed="$failed $check;"
+    done
+    [ -z "$failed" ] || {
+        echo "failed:$failed"
+        exit 1
+    }
+}
+
+# Node and the modules are to be there. The programs that the checks start are then those of anywhere/bin.
+begin_node() {
+    command -v node >/dev/null || {
+        echo 'checks/run.sh --node: there is no node (18.17 or later; Debian: apt-get install nodejs)' >&2
+        exit 2
+    }
+    unset XV_RUN XV_WHY XV_TERMINAL XV_DEBUGGER XV_GRADE
+    export XV_NODE=yes PATIENCE="${PATIENCE-120}"
+    for name in xv_run xv_why; do
+        anywhere/bin/$name --help >/dev/null || exit 2
+    done
+}
+
+# What needs a program: the quick ones first.
+quick='checks/words/run.sh checks/sessions/run.sh'
+longer='checks/stored-runs/run.sh checks/rows/run.sh checks/why/run.sh checks/gdb/run.sh checks/terminal/run.sh checks/debugger/run.sh checks/lines.py checks/grading/run.sh'
+
+# shellcheck disable=SC2086
 case "$*" in
-'') ;;
---others)
+'')
+    do_all $quick $longer 'python3 -B checks/links.py' 'python3 -B checks/lemmas.py' page/is_current.sh
     tell_others
-    exit
     ;;
+--node)
+    begin_node
+    do_all $quick $longer
+    ;;
+'--node --quick' | '--quick --node')
+    begin_node
+    do_all $quick
+    ;;
+--others) tell_others ;;
 *)
-    echo 'usage: checks/run.sh [--others]' >&2
+    echo 'usage: checks/run.sh [--node [--quick] | --others]' >&2
     exit 2
     ;;
 esac
-
-failed=
-for check in checks/words/run.sh checks/sessions/run.sh checks/stored-runs/run.sh checks/rows/run.sh checks/why/run.sh checks/gdb/run.sh checks/terminal/run.sh checks/debugger/run.sh 'python3 -B checks/lines.py' checks/grading/run.sh 'python3 -B checks/links.py' 'python3 -B checks/lemmas.py' page/is_current.sh; do
-    $check || failed="$failed $check;"
-done
-[ -z "$failed" ] || {
-    echo "failed:$failed"
-    exit 1
-}
-tell_others

@@ -130,63 +130,62 @@ i64 rattle_env(const u8 *name, u8 *to, u64 room) {
 }
 
 // Paths. WASI opens a path from a folder that the host gives under a name: `/`, or a drive as `C:`. So a path is made whole
-// by the variable PWD, without `.` and `..`; without PWD it begins at the folder `.`.
+// by the variable PWD, without `.` and `..`. If there is no PWD, a path that isn't whole begins at the folder `.`.
 enum { PATH_ROOM = 8192, FIRST_FOLDER = 3 };
+typedef struct {
+    int is_from_here;
+    i64 length;
+    u8 text[PATH_ROOM];
+} Path;
 
 static int is_whole(const u8 *path) {
     return path[0] == '/' || (path[0] && path[1] == ':');
 }
 
-// Adds the parts of a path behind those that are there, `length` bytes; 0 if there is no room.
-static u64 with_parts(u8 *to, u64 length, const u8 *path) {
-    while (*path) {
-        u64 bytes = 0;
-        while (*path == '/') path++;
-        while (path[bytes] && path[bytes] != '/') bytes++;
-        if (bytes == 2 && path[0] == '.' && path[1] == '.') {
-            while (length && to[length - 1] != '/') length--;
-            if (length) length--;
-        } else if (bytes && !(bytes == 1 && path[0] == '.')) {
-            if (length + bytes + 2 > PATH_ROOM) return 0;
-            to[length++] = '/';
-            for (u64 k = 0; k < bytes; k++) to[length++] = path[k];
+// Adds the parts of a text, each with a `/` before it; 0 if there is no room.
+static int add_parts(Path *to, const u8 *from) {
+    while (*from) {
+        i64 bytes = 0;
+        while (*from == '/') from++;
+        while (from[bytes] && from[bytes] != '/') bytes++;
+        if (bytes == 2 && from[0] == '.' && from[1] == '.') {
+            while (to->length && to->text[to->length - 1] != '/') to->length--;
+            if (to->length) to->length--;
+        } else if (bytes && !(bytes == 1 && from[0] == '.')) {
+            if (to->length + bytes + 2 > PATH_ROOM) return 0;
+            to->text[to->length++] = '/';
+            for (i64 k = 0; k < bytes; k++) to->text[to->length++] = from[k];
         }
-        path += bytes;
+        from += bytes;
     }
-    to[length] = 0;
-    return length;
+    to->text[to->length] = 0;
+    return 1;
 }
 
-// The whole path, which begins with `/`; a drive is its first part. 0 if there is no room.
-static int whole(u8 *to, const u8 *path) {
-    const u8 *folder = is_whole(path) ? 0 : variable("PWD");
-    u64 length = 0;
-    if (folder && !(length = with_parts(to, 0, folder)) && folder[0] && folder[1]) return 0;
-    u64 all = with_parts(to, length, path);
-    if (!all) {
-        to[0] = '/';
-        to[1] = 0;
-    }
-    return all || !length;
+static int make_whole(Path *to, const u8 *path) {
+    const u8 *folder = is_whole(path) ? (const u8 *)"" : variable("PWD");
+    to->length = 0;
+    to->is_from_here = !folder;
+    return (!folder || add_parts(to, folder)) && add_parts(to, path);
 }
 
-// How many bytes of a whole path the name of a folder stands for, or -1 if the folder doesn't hold the path. `/` and `.`
-// stand for none.
-static i64 held(const u8 *path, const u8 *name, u64 bytes) {
+// How many bytes of a path the name of a folder stands for, or -1 if the folder doesn't hold the path.
+static i64 held(const Path *path, const u8 *name, u32 bytes) {
     while (bytes && !name[bytes - 1]) bytes--;
+    if (bytes == 1 && name[0] == '.') return path->is_from_here ? 0 : -1;
+    if (path->is_from_here) return -1;
     while (bytes && name[bytes - 1] == '/') bytes--;
-    if (bytes == 0) return 0;
-    if (bytes == 1 && name[0] == '.') return variable("PWD") ? -1 : 0;
-    if (name[0] != '/') path++;
-    for (u64 k = 0; k < bytes; k++) {
-        if (path[k] != name[k]) return -1;
+    // A drive is the first part of a path, after its `/`.
+    u32 before = bytes && name[0] != '/';
+    for (u32 k = 0; k < bytes; k++) {
+        if (path->text[before + k] != name[k]) return -1;
     }
-    if (path[bytes] && path[bytes] != '/') return -1;
-    return (i64)bytes + (name[0] != '/');
+    u8 next = path->text[before + bytes];
+    return !next || next == '/' ? (i64)(before + bytes) : -1;
 }
 
-// The folder that holds the path, by the longest name, and the path from there.
-static u32 folder_of(const u8 *path, const u8 **rest) {
+// The folder that holds the path, by the longest name, and the path from there; 0 if there is none.
+static u32 folder_of(const Path *path, const u8 **rest) {
     static u8 name[PATH_ROOM];
     u32 found = 0;
     i64 longest = -1;
@@ -200,7 +199,7 @@ static u32 folder_of(const u8 *path, const u8 **rest) {
         if (bytes <= longest) continue;
         found = fd;
         longest = bytes;
-        *rest = path + bytes;
+        *rest = path->text + bytes;
         while (**rest == '/') (*rest)++;
         if (!**rest) *rest = (const u8 *)".";
     }
@@ -214,13 +213,13 @@ typedef struct {
 } Part;
 
 int open(const u8 *path, int flags, ...) {
-    static u8 text[PATH_ROOM];
+    static Path whole;
     const u8 *rest = 0;
-    if (!path[0] || !whole(text, path)) {
-        last_error = path[0] ? TOO_LONG : NO_ENTRY;
+    if (!make_whole(&whole, path)) {
+        last_error = TOO_LONG;
         return -1;
     }
-    u32 folder = folder_of(text, &rest);
+    u32 folder = path[0] ? folder_of(&whole, &rest) : 0;
     if (!folder) {
         last_error = NO_ENTRY;
         return -1;

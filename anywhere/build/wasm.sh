@@ -24,7 +24,7 @@ sed -E -e "s/^target datalayout = .*/target datalayout = \"$layout\"/" \
     -e 's/ "target-cpu"="[^"]*"| "probe-stack"="[^"]*"| "stack-probe-size"="[^"]*"| "frame-pointer"="[^"]*"| "target-features"="[^"]*"//g' \
     -e 's/^(attributes #[0-9]+ = \{) *\}/\1 nounwind }/' "$work/x86.ll" >"$work/wasm.ll"
 if [ -n "$prefix" ]; then
-    sed -i -E -e "s/@\"${prefix%_}::root::${prefix}root\"/@${prefix}root/g" \
+    sed -i -E -e "s/@\"${prefix%_}::root::${prefix}root\"/@root_of_the_library/g" \
         -e "s/@\"${prefix%_}::[a-z_]+::(${prefix}[a-z_]+)\"/@\1/g" \
         -e "s/^define internal ([^@]*@${prefix}[a-z_]+\()/define \1/" "$work/wasm.ll"
 fi

@@ -1,13 +1,13 @@
 #!/bin/bash
 # Measures programs in C: bench/run.sh programs [NAME..], or all of this folder. Each is built for the machine and, from the
 # same source, for Linux. Then ours (the whole of xv_run, in rounds of 1,000 Runs), the interpreter in plain Rust
-# (../pages/plain.rs) and a JIT (qemu-riscv64, if it is there) run it in turn, five times; the least user and system time of each
-# counts. With --count instead, valgrind's callgrind counts ours between 2,000 and 6,000 rounds, in which boot cancels.
+# (../pages/plain.rs), a JIT (qemu-riscv64, if it is there) and ours as a module (by node, if it is there) run it in turn, five
+# times; the least user and system time of each counts, of the module the least time from start to end, beside ours. With --count instead, valgrind's callgrind counts ours between 2,000 and 6,000 rounds, in which boot cancels.
 # It needs the C compiler that ../../programs/c/build.sh names.
 set -e
 here=$(cd "$(dirname "$0")" && pwd)
 root=$(cd "$here/../.." && pwd)
-"$root/xv" --frames 16 --rounds 1 "$root/programs/examples/hello/init.s" </dev/null >/dev/null || true
+"$root/xv" --build
 xv=$root/crates/xv_run/out/xv_run
 work=$(mktemp -d)
 trap 'rm -rf "$work"' EXIT
@@ -28,11 +28,18 @@ build() {
 ours() { "$xv" --rounds 100000000 --quantum 1000 "$work/$1/init"; }
 plain() { "$work/plain-interpreter" "$work/$1/init"; }
 jit() { qemu-riscv64 "$work/$1/linux"; }
+node_ours() { XV_NODE=yes "$root/bin/xv_run" --rounds 100000000 --quantum 1000 "$work/$1/init"; }
 
 # The seconds of the processor that a command takes, its output thrown away.
 seconds() {
     local TIMEFORMAT='%U %S'
     { time "$@" </dev/null >/dev/null 2>&1 || true; } 2>&1 | awk '{ print $1 + $2 }'
+}
+
+# The seconds from a command's start to its end.
+elapsed() {
+    local TIMEFORMAT='%R'
+    { time "$@" </dev/null >/dev/null 2>&1 || true; } 2>&1
 }
 
 least() {
@@ -57,11 +64,14 @@ measure() {
     are_equal "$name" "$told"
     for _ in 1 2 3 4 5; do
         for way in ours plain ${has_jit:+jit}; do seconds "$way" "$name" >>"$work/$name/$way"; done
+        [ -z "$has_node" ] || for way in ours node_ours; do elapsed "$way" "$name" >>"$work/$name/$way-elapsed"; done
     done
     awk -v name="$name" -v done="${told% *}" -v ours="$(least "$work/$name/ours")" -v plain="$(least "$work/$name/plain")" \
-        -v jit="$( [ -z "$has_jit" ] || least "$work/$name/jit")" 'BEGIN {
+        -v jit="$( [ -z "$has_jit" ] || least "$work/$name/jit")" \
+        -v here="$( [ -z "$has_node" ] || least "$work/$name/ours-elapsed")" -v node="$( [ -z "$has_node" ] || least "$work/$name/node_ours-elapsed")" 'BEGIN {
             printf "| `%s` | %.0f | %.0f | %.2f |", name, done / 1e6, done / 1e6 / ours, plain / ours
-            if (jit > 0) printf " %.1f |\n", ours / jit; else print " |" }'
+            if (jit > 0) printf " %.1f |", ours / jit; else printf " |"
+            if (node > 0) printf " %.2f |\n", here / node; else print " |" }'
 }
 
 # The machine instructions that so many rounds of a program take.
@@ -84,10 +94,11 @@ if [ "${1-}" = --count ]; then
 fi
 rustc --edition 2021 -O -o "$work/plain-interpreter" "$here/../pages/plain.rs"
 has_jit=$(command -v qemu-riscv64 || true)
+has_node=$(command -v node || true)
 [ $# -gt 0 ] || set -- "$here"/*.c
 if [ $does = measure ]; then
-    echo '| program | million instructions | million a second | plain Rust / ours | ours / JIT |'
-    echo '|---|---|---|---|---|'
+    echo '| program | million instructions | million a second | plain Rust / ours | ours / JIT | ours / module |'
+    echo '|---|---|---|---|---|---|'
 else
     echo '| program | machine instructions for one |'
     echo '|---|---|'

@@ -12,7 +12,7 @@ here=$(cd "$(dirname "$0")" && pwd)
 root=$(cd "$here/../.." && pwd)
 command -v valgrind >/dev/null || { echo "counts.sh: there is no valgrind: apt-get install valgrind" >&2; exit 2; }
 xv=${1-$root/crates/xv_run/out/xv_run}
-[ -x "$xv" ] || { echo "counts.sh: there is no $xv: ./xv builds it" >&2; exit 2; }
+[ -x "$xv" ] || { echo "counts.sh: there is no $xv: ./xv --build builds it" >&2; exit 2; }
 work=$(mktemp -d)
 trap 'rm -rf "$work"' EXIT
 

@@ -5,7 +5,7 @@
 set -e
 here=$(cd "$(dirname "$0")" && pwd)
 root=$(cd "$here/../.." && pwd)
-"$root/xv" --frames 16 --rounds 1 "$root/programs/examples/hello/init.s" </dev/null >/dev/null || true
+"$root/xv" --build
 xv=$root/crates/xv_run/out/xv_run
 work=$(mktemp -d)
 trap 'rm -rf "$work"' EXIT

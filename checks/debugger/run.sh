@@ -4,17 +4,27 @@
 #
 #   checks/debugger/run.sh [PROGRAM [--store]]
 #
-# PROGRAM is the debugger under its name, xv_debugger: without it, the one that is proved and built. --store writes the outputs anew: look at each line
-# that changes.
+# PROGRAM is the debugger under its name, xv_debugger: without it, the one that is proved and built, or by XV_NODE=yes the
+# one that `node xv.mjs --debug` starts: WASI opens no /dev/fd/N, so that gets the table of lines in another way than by
+# programs/host/debug.sh. --store writes the outputs anew: look at each line that changes.
 #
 # NAME.needs names a command of the host without which a session is left out, and the verdict says so: the lines of a
 # program in C come by readelf. data/letters has such a program, and its names and lines as programs/c/build.sh leaves
 # them (with CFLAGS='-g1', and prefix maps, so that no path of a host is in them).
 set -u
 cd "$(dirname "$0")/../.." || exit 2
-XV_DEBUGGER=$(realpath -s -- "${1-bin/xv_debugger}")
+. checks/programs.sh
+XV_DEBUGGER=$(realpath -s -- "${1-$(program_path . xv_debugger)}")
 export XV_DEBUGGER
-"$XV_DEBUGGER" --help >/dev/null 2>&1 || { echo "$XV_DEBUGGER doesn't start: build it by ./xv" >&2; exit 2; }
+needs_program "$XV_DEBUGGER"
+
+debug() {
+    if [ "${XV_NODE-}" = yes ]; then
+        node xv.mjs --debug "$@"
+    else
+        programs/host/debug.sh "$@"
+    fi
+}
 
 scratch=$(mktemp -d) || exit 2
 trap 'rm -rf "$scratch"' EXIT
@@ -29,7 +39,7 @@ for words in checks/debugger/*.words; do
     fi
     # The words of the file are the program's.
     # shellcheck disable=SC2046
-    programs/host/debug.sh $(cat "$name.args") <"$words" >"$scratch/out" 2>&1
+    debug $(cat "$name.args") <"$words" >"$scratch/out" 2>&1
     echo "status $?" >>"$scratch/out"
     count=$((count + 1))
     if [ "${2-}" = --store ]; then

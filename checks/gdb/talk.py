@@ -24,11 +24,14 @@ import shlex
 import subprocess
 import sys
 import tempfile
+from concurrent.futures import ThreadPoolExecutor
 
 REGISTERS = (
     "zero ra sp gp tp t0 t1 t2 s0 s1 a0 a1 a2 a3 a4 a5 a6 a7 "
     "s2 s3 s4 s5 s6 s7 s8 s9 s10 s11 t3 t4 t5 t6 pc"
 ).split()
+# Seconds that a conversation may take.
+PATIENCE = int(os.environ.get("PATIENCE", "120"))
 PROGRAMS = os.path.join(os.path.dirname(os.path.abspath(__file__)), "..", "..", "programs", "bin")
 
 
@@ -160,7 +163,7 @@ def play(program, path):
             if name in words and not os.path.exists(os.path.join(room, name)):
                 os.symlink(os.path.join(PROGRAMS, name), os.path.join(room, name))
         sent, wanted = plan(talk)
-        done = subprocess.run([program, *words], input=sent, capture_output=True, cwd=room, timeout=120)
+        done = subprocess.run([program, *words], input=sent, capture_output=True, cwd=room, timeout=PATIENCE)
     came = taken_apart(done.stdout)
     for (kind, text), piece in zip(wanted, came):
         if not fits(kind, text, piece):
@@ -173,17 +176,22 @@ def play(program, path):
     return None
 
 
+def tried(program, path):
+    """Plays a conversation; what is wrong of it, also if it can't be played, or None."""
+    try:
+        return play(program, path)
+    except (ValueError, subprocess.TimeoutExpired) as error:
+        return str(error)
+
+
 def main():
     program, paths = os.path.abspath(sys.argv[1]), sys.argv[2:]
-    wrong = 0
-    for path in paths:
-        try:
-            said = play(program, path)
-        except (ValueError, subprocess.TimeoutExpired) as error:
-            said = str(error)
+    with ThreadPoolExecutor(max_workers=os.cpu_count()) as pool:
+        told = list(pool.map(lambda path: tried(program, path), paths))
+    for path, said in zip(paths, told):
         if said:
-            wrong += 1
             print(f"{os.path.basename(path)}: {said}")
+    wrong = sum(said is not None for said in told)
     print(f"checks/gdb: {len(paths) - wrong} conversations are as they should be, {wrong} are not")
     return 1 if wrong else 0
 

@@ -3,7 +3,9 @@
 # ones, two or three of each kind, in some seconds; checks/grading/run.sh --all [PROGRAM] all 207 of them, twice, in two orders, on
 # one process and on four, with a kill and a second start in between; checks/grading/run.sh --many [PROGRAM] a thousand, made of these
 # under other names, by GNU parallel on two processes; checks/grading/run.sh --store [PROGRAM] stores anew.
-# PROGRAM is xv_grade, under that name, and without it the one that stands in this repository. The status is 0 if all is as stored.
+# PROGRAM is xv_grade, under that name, and without it the one that stands in this repository. With XV_NODE=yes it is
+# anywhere/grade.mjs in place of programs/course/grade.sh: --many is done by two of its workers, and some jobs fail by a trap or by
+# the death of their worker. The status is 0 if all is as stored.
 set -u
 export LC_ALL=C
 shopt -s dotglob nullglob
@@ -12,11 +14,13 @@ top=$PWD
 here=$top/checks/grading
 mode=quick
 case ${1-} in --all | --many | --store) mode=${1#--} && shift ;; esac
-built=$top/bin/xv_grade
-[ ! -d "$top/libexec" ] || built=$top/libexec/xv_grade
-export XV_GRADE=${1-$built}
-"$XV_GRADE" --help >/dev/null 2>&1 || { echo "grading: $XV_GRADE doesn't start: build it by ./xv" >&2; exit 2; }
+. "$top/checks/programs.sh"
+grader=("$top/programs/course/grade.sh")
+[ "${XV_NODE-}" != yes ] || grader=(node "$top/anywhere/grade.mjs")
+XV_GRADE=${1-$(program_path "$top" xv_grade)}
+needs_program "$XV_GRADE"
 XV_GRADE=$(realpath -s "$XV_GRADE")
+export XV_GRADE
 # Pictures are not compared, and so none are drawn.
 export XV_PICTURE=${XV_PICTURE-}
 room=$(mktemp -d) || exit 2
@@ -38,7 +42,7 @@ compare() {
 grade() {
     local work=$1
     shift
-    "$top/programs/course/grade.sh" --work "$room/$work" "$@"
+    "${grader[@]}" --work "$room/$work" "$@"
 }
 
 [ "$mode" != store ] || mkdir -p "$here/stored"
@@ -73,7 +77,7 @@ for row in wrong[:10]:
 sys.exit(1 if wrong or len(made) < 60 else 0)
 END
 elif [ "$mode" = many ]; then
-    command -v parallel >/dev/null || { echo 'grading: there is no GNU parallel' >&2; exit 2; }
+    [ "${XV_NODE-}" = yes ] || command -v parallel >/dev/null || { echo 'grading: there is no GNU parallel' >&2; exit 2; }
     python3 - "$room/made/all" "$room/many" "$here/stored/all.csv" "$room/wanted.csv" <<'END' || exit 2
 import csv, os, subprocess, sys
 made, many, stored, wanted = (os.fsencode(it) for it in sys.argv[1:])
@@ -96,7 +100,7 @@ wanted, made = (sorted(csv.reader(open(it, encoding="utf-8", errors="surrogatees
 wrong = [pair for pair in zip(wanted, made) if pair[0] != pair[1]]
 for row, got in wrong[:10]:
     print("grading: differs:", ascii(got), "wanted:", ascii(row), file=sys.stderr)
-print("grading:", len(made) - 1, "submissions by parallel")
+print("grading:", len(made) - 1, "submissions by two processes or workers")
 sys.exit(1 if wrong or len(made) != 1001 or len(wanted) != 1001 else 0)
 END
 else
@@ -107,9 +111,9 @@ else
     # The other way round, on one process, killed on the way, and started again.
     reversed=()
     for it in "$room"/made/all/*; do reversed=("$it" "${reversed[@]}"); done
-    setsid "$top/programs/course/grade.sh" --work "$room/second" --jobs 1 "$exercise" "${reversed[@]}" >"$room/killed.csv" 2>/dev/null &
+    setsid "${grader[@]}" --work "$room/second" --jobs 1 "$exercise" "${reversed[@]}" >"$room/killed.csv" 2>/dev/null &
     killed=$!
-    for ((k = 0; k < 3000; k++)); do
+    for ((k = 0; k < ${PATIENCE-300} * 10; k++)); do
         [ "$(find "$room/second/jobs" -path '*/out/result.csv' 2>/dev/null | wc -l)" -lt 40 ] || break
         sleep 0.1
     done
@@ -119,6 +123,11 @@ else
     grade second --resume --jobs 1 "$exercise" "${reversed[@]}" >"$room/again.csv" 2>"$room/errors" || { failed=$((failed + 1)); cat "$room/errors" >&2; }
     compare "$room/again.csv" all.csv
     echo "grading: killed after $before of ${#reversed[@]} results, and started again"
+fi
+
+# A job that fails by a trap, or by the death of its worker, is told so, and the next ones are done.
+if [ "${XV_NODE-}" = yes ]; then
+    node "$top/anywhere/try/grading.mjs" "$room/failing" || failed=$((failed + 1))
 fi
 
 # No submission has run on the host, and nothing of the host's is in a result.

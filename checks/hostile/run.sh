@@ -3,7 +3,7 @@
 here=$(cd "$(dirname "$0")" && pwd)
 program="$here/../../crates/xv_run/out/xv_run"
 if [ ! -x "$program" ] && [ $# = 0 ]; then
-    echo "xv_run isn't built yet: ./xv programs/examples/hello/init.s </dev/null builds it" >&2
+    echo "xv_run isn't built yet: ./xv --build builds it" >&2
     exit 2
 fi
 exec python3 -B "$here/run.py" "$program" "$@"

@@ -1,8 +1,8 @@
 #!/bin/sh
 # Plays the sessions of this folder by the built program, and compares what comes out: checks/sessions/run.sh, or
 # checks/sessions/run.sh NAME.. for some of them. A line for each, and a verdict at the end; the status is 0 if all are as
-# they should be. XV_RUN is the program, and without it the one that stands in this repository. A session may take 60
-# seconds, or as many as PATIENCE says.
+# they should be. XV_RUN is the program, and without it the one that stands in this repository, or by XV_NODE=yes the one
+# by Node. As many are played at once as there are processors. A session may take 60 seconds, or as many as PATIENCE says.
 #
 # A session is a text. Its first line says what it shows; then come parts, each with a line `== NAME` at its head:
 #
@@ -18,11 +18,9 @@
 # The last line of keys and of what is shown ends in \c if no line's end follows.
 set -u
 top=$(dirname "$0")/../..
-built=$top/crates/xv_run/out/xv_run
-[ ! -d "$top/libexec" ] || built=$top/libexec/xv_run
-program=${XV_RUN-$built}
-[ -x "$program" ] || { echo "there is no program $program: build it by ./xv" >&2; exit 2; }
-program=$(readlink -f "$program")
+. "$top/checks/programs.sh"
+program=$(readlink -f "${XV_RUN-$(program_path "$top" xv_run)}")
+needs_program "$program"
 cd "$(dirname "$0")" || exit 2
 programs=$(cd ../../programs && pwd) || exit 2
 room=$(mktemp -d) || exit 2
@@ -110,16 +108,15 @@ play() {
     return $well
 }
 
+# Plays the session of this name, and tells how it went.
+try_session() {
+    name=$1
+    play "$name.txt" && echo "ok     $name"
+}
+
 # shellcheck disable=SC2012,SC2046
 [ $# -gt 0 ] || set -- $(ls ./*.txt | sed 's/^\.\///; s/\.txt$//')
-failed=0
-for name; do
-    if play "$name.txt"; then
-        echo "ok     $name"
-    else
-        failed=$((failed + 1))
-    fi
-done
+side_by_side try_session "$@"
 if [ "$failed" = 0 ]; then
     echo "$# sessions are as they should be"
 else

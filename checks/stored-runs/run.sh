@@ -1,7 +1,8 @@
 #!/bin/bash
 # Plays the stored runs: checks/stored-runs/run.sh [--store]; see README.md.
 here=$(cd "$(dirname "$0")" && pwd)
-program="$here/../../crates/xv_run/out/xv_run"
+. "$here/../programs.sh"
+program=$(program_path "$here/../.." xv_run)
 case "$*" in
 '' | --store) ;;
 *)
@@ -9,8 +10,5 @@ case "$*" in
     exit 2
     ;;
 esac
-if [ ! -x "$program" ]; then
-    echo "xv_run isn't built yet: ./xv programs/examples/hello/init.s </dev/null builds it" >&2
-    exit 2
-fi
+needs_program "$program"
 exec python3 -B "$here/run.py" "$@" "$program"

@@ -2,7 +2,7 @@
 # Sessions at a real terminal, driven by tmux: checks/terminal/by_hand.sh [FOLDER]. It types what a student would type,
 # waits for what must come, and leaves the screens as texts in the folder (without one, in a new one). It needs tmux
 # (Debian: apt-get install tmux) and the built program (XV_TERMINAL, as in programs/host/terminal.sh). PATIENCE=3 waits three
-# times as long, for a slow build. The status is 0 if all came, and the terminal was restored, and no process and no file
+# times as long, for a slow build. START='node xv.mjs' starts the machine by that in place of programs/host/terminal.sh. The status is 0 if all came, and the terminal was restored, and no process and no file
 # was left behind, after each of the ends.
 set -u
 here=$(cd "$(dirname "$0")" && pwd) || exit 2
@@ -10,6 +10,7 @@ top=$(cd "$here/../.." && pwd) || exit 2
 command -v tmux >/dev/null || { echo "by_hand.sh: there is no tmux: apt-get install tmux" >&2; exit 2; }
 screens=${1-$(mktemp -d)} || exit 2
 mkdir -p "$screens/unread" && screens=$(cd "$screens" && pwd) || exit 2
+begin=${START-programs/host/terminal.sh}
 socket=xv_by_hand_$$
 bad=0
 shots=0
@@ -74,11 +75,13 @@ line() {
     wait_for "${2-50}" "${3-^\\$ *\$}" "${4-1}"
 }
 
-# The script and the machine that run in the window: they are the shell's child, and its child.
+# The script and the machine that run in the window: they are the shell's child, and its child; of another START they may be
+# one process.
 find_machine() {
     for _ in 1 2 3 4 5 6 7 8 9 10; do
         script=$(pgrep -P "$(mux display-message -p -t window '#{pane_pid}')" | head -1)
         machine=$(pgrep -P "${script:-0}" | head -1)
+        [ -z "${START-}" ] || machine=${machine:-$script}
         [ -z "$script" ] || [ -z "$machine" ] || return 0
         sleep 0.2
     done
@@ -107,7 +110,7 @@ clear_screen() {
 # Starts the machine with these words, and waits for the prompt of its shell, unless $2 is none.
 start() {
     clear_screen
-    text "programs/host/terminal.sh $1; echo status \$?"
+    text "$begin ${1:-programs/bin/*}; echo status \$?"
     keys Enter
     [ "${2-}" = none ] || wait_for 100 '^\$ *$'
     find_machine
@@ -124,13 +127,15 @@ ended() {
 
 open_window
 
-# Without stty it is told what is missing.
-mkdir "$room/tools"
-for tool in dirname readlink; do
-    ln -s "$(command -v "$tool")" "$room/tools/"
-done
-line "PATH=$room/tools /bin/sh programs/host/terminal.sh; echo status \$?" 30 '^status 125$' 3
-rm -r "$room/tools"
+# Without stty the script tells what is missing.
+if [ -z "${START-}" ]; then
+    mkdir "$room/tools"
+    for tool in dirname readlink; do
+        ln -s "$(command -v "$tool")" "$room/tools/"
+    done
+    line "PATH=$room/tools /bin/sh programs/host/terminal.sh; echo status \$?" 30 '^status 125$' 3
+    rm -r "$room/tools"
+fi
 
 # Twenty commands, with editing.
 start ''
@@ -251,7 +256,7 @@ start "--record $screens/record.txt programs/bin/*"
 line 'sleep 3; echo awake' 50
 line 'exit' 50 '^status' 3
 ended 0
-"$top/programs/host/terminal.sh" --replay "$screens/record.txt" "$top"/programs/bin/* </dev/null >"$screens/played.txt" 2>&1 ||
+(cd "$top" && $begin --replay "$screens/record.txt" programs/bin/* </dev/null) >"$screens/played.txt" 2>&1 ||
     complain "the record isn't played"
 grep -q awake "$screens/played.txt" || complain "played again it shows other bytes"
 

@@ -2,7 +2,7 @@
 # Plays the sessions of this folder by the built program xv_terminal, without a terminal, and compares what comes out:
 # checks/terminal/run.sh, or checks/terminal/run.sh NAME.. for some of them. A line for each that differs, and a verdict
 # at the end; the status is 0 if all are as they should be. XV_TERMINAL is the program, and without it the one that
-# stands in this repository.
+# stands in this repository, or by XV_NODE=yes the one by Node. As many are played at once as there are processors.
 #
 # A session is a text. Its first line says what it shows; then come parts, each with a line `== NAME` at its head:
 #
@@ -24,14 +24,15 @@
 set -u
 here=$(cd "$(dirname "$0")" && pwd) || exit 2
 top=$here/../..
+. "$top/checks/programs.sh"
 program=${1-}
 case $program in
 */*) shift ;;
 *)
-    program=${XV_TERMINAL-$top/bin/xv_terminal}
+    program=${XV_TERMINAL-$(program_path "$top" xv_terminal)}
     ;;
 esac
-"$program" --help >/dev/null 2>&1 || { echo "$program doesn't start: build it by ./xv" >&2; exit 2; }
+needs_program "$program"
 program=$(realpath -s "$program")
 room=$(mktemp -d) || exit 2
 trap 'rm -rf "$room"' EXIT
@@ -104,8 +105,9 @@ beside() {
     is_part beside "$room/=notes"
 }
 
-# Plays session $1.
+# Plays session $1, a name or a path.
 check() {
+    case $1 in */*) ;; *) set -- "$here/$1.txt" ;; esac
     name=${1##*/}
     name=${name%.txt}
     take_apart "$1" || return 1
@@ -135,12 +137,6 @@ check() {
 }
 
 [ $# -gt 0 ] || set -- "$here"/*.txt
-count=0
-bad=0
-for session; do
-    case $session in */*) ;; *) session=$here/$session.txt ;; esac
-    count=$((count + 1))
-    check "$session" || bad=$((bad + 1))
-done
-echo "checks/terminal: $count sessions, $bad of them differ"
-[ "$bad" = 0 ]
+side_by_side check "$@"
+echo "checks/terminal: $# sessions, $failed of them differ"
+[ "$failed" = 0 ]

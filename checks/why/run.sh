@@ -1,7 +1,8 @@
 #!/bin/sh
 # Runs the programs of this folder under the shell, as a student would, and compares what is told of why they end or
 # wait. A report that is another is shown with what differs, and a verdict comes at the end; the status is 0 if all are
-# as they should be. XV_WHY is the program, and without it the one that stands in this repository.
+# as they should be. XV_WHY is the program, and without it the one that stands in this repository. With XV_NODE=yes it is
+# `node xv.mjs --why` in place of programs/host/why.sh: that is what tells a report on a host without a shell.
 #
 #   checks/why/run.sh           compares
 #   checks/why/run.sh --store   keeps what is told now
@@ -23,8 +24,9 @@ case "$*" in
     exit 2
     ;;
 esac
-program=${XV_WHY-$root/bin/xv_why}
-"$program" --help >/dev/null 2>&1 || { echo "$program doesn't start: build it by ./xv" >&2; exit 2; }
+. "$root/checks/programs.sh"
+program=${XV_WHY-$(program_path "$root" xv_why)}
+needs_program "$program"
 XV_WHY=$(realpath -s -- "$program")
 export XV_WHY
 room=$(mktemp -d) || exit 2
@@ -32,10 +34,18 @@ trap 'rm -rf "$room"' EXIT
 count=0
 others=0
 
+tell_why() {
+    if [ "${XV_NODE-}" = yes ]; then
+        node "$root/xv.mjs" --why "$@"
+    else
+        "$root/programs/host/why.sh" "$@"
+    fi
+}
+
 # Runs the program of file $1, which is named $2, and compares what is told with the text $3.
 try() {
     printf '%s\n' "$2" |
-        "$root/programs/host/why.sh" --rounds 2000 "$root/programs/bin/init" "$root/programs/bin/sh" "$1" 2>"$room/told" >/dev/null
+        tell_why --rounds 2000 "$root/programs/bin/init" "$root/programs/bin/sh" "$1" 2>"$room/told" >/dev/null
     count=$((count + 1))
     if [ -n "$store" ]; then
         cp "$room/told" "$here/$3"

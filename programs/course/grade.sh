@@ -74,9 +74,10 @@ export EXERCISE=$exercise
 # What the results depend on beside a submission: the program, the exercise, and the files beside it that it names.
 inputs=$("$XV_GRADE" --inputs "$exercise") || exit 2
 common=$(sha256sum <"$XV_GRADE") || exit 2
-# In a clone XV_GRADE only starts the program.
-program=$here/../../crates/xv_tools/out/xv_tools
-[ ! -r "$program" ] || common+=$(sha256sum <"$program") || exit 2
+# XV_GRADE may be a script that only starts the program of a clone or of a release.
+for program in "$here/../../crates/xv_tools/out/xv_tools" "$here/../../libexec/xv_tools"; do
+    [ ! -r "$program" ] || common+=$(sha256sum <"$program") || exit 2
+done
 while IFS= read -r file; do
     [ -r "$file" ] || give_up 2 "$file, which the exercise names, cannot be read"
     common+=$(sha256sum <"$file") || exit 2

@@ -18,9 +18,15 @@ lines_of_trace() {
 { print | "cat >&5" }'
 }
 
+# Draws what is noted. If nothing is, since words, a FILE or the boot were refused, nothing is written.
+draw() {
+    IFS= read -r first || return 0
+    { printf '%s\n' "$first"; cat; } | "$picture"
+}
+
 exec 4>&1 5>&2
 status=$({
     { "$root/programs/host/why.sh" --notes "$@" 2>&1 >&5 3>&- 4>&-; echo $? >&3; } |
-        lines_of_trace 3>&- 4>&- | "$picture" >&4 3>&-
+        lines_of_trace 3>&- 4>&- | draw >&4 3>&-
 } 3>&1)
 exit "$status"

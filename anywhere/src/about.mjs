@@ -1,0 +1,43 @@
+// What xv tells of itself: help, the version, and which modules would run.
+import { spawnSync } from "node:child_process";
+import { existsSync, readFileSync } from "node:fs";
+import { file_of } from "./program.mjs";
+import { ROOT, state } from "./sources.mjs";
+import { write_all } from "./streams.mjs";
+
+const WAYS = "./xv --build proves and builds, ./xv --unproved builds without proofs";
+
+const text_of = (name) => readFileSync(ROOT + name, "utf8");
+
+export const help = () => text_of("programs/host/help.txt");
+
+const are_there = () => ["xv_run", "xv_tools"].every((name) => existsSync(file_of(name)));
+
+/** What is known of the modules, and whether they run: {runs, text}. If they don't, the text has the ways on. */
+export function status() {
+  const node = `Node ${process.versions.node}`;
+  const known = are_there() ? state() : "missing";
+  switch (known) {
+    case "release": return { runs: true, text: `${node} runs the modules of this release, which were made of proved builds` };
+    case "current": return { runs: true, text: `${node} runs the modules in anywhere/, which are of these sources` };
+    case "others": return { runs: true, text: `${node} runs the modules in ${process.env.XV_MODULES} (XV_MODULES): nobody knows of which sources they are` };
+    case "changed": return { runs: false, text: `the sources have changed since the modules in anywhere/ were made: ${WAYS}` };
+    case "unknown": return { runs: false, text: `nobody knows of which sources the modules in anywhere/ are: ${WAYS}` };
+    default: return { runs: false, text: `there is no module ${file_of("xv_run")}, or none beside it: a release has both; in a clone ${WAYS}` };
+  }
+}
+
+/** What was built of which commit. */
+function built() {
+  if (existsSync(`${ROOT}BUILT`)) return text_of("BUILT");
+  const { stdout } = spawnSync("git", ["-C", ROOT, "log", "-1", "--format=commit %H of %cs"], { stdio: ["ignore", "pipe", "ignore"] });
+  return stdout ? stdout.toString() : "";
+}
+
+/** Tells the version, as the program of this name. */
+export function tell_version(name) {
+  write_all(1, `${name} ${text_of("VERSION").trim()}\n${built()}`);
+}
+
+/** Whether this is a release, whose programs tell of what they were built. */
+export const is_release = () => existsSync(`${ROOT}BUILT`);

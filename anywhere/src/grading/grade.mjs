@@ -1,0 +1,68 @@
+// Grades a class: makes the jobs, has them graded, and puts the results together.
+import { mkdirSync, readFileSync, realpathSync, rmSync } from "node:fs";
+import * as os from "node:os";
+import { read_exercise } from "./exercise.mjs";
+import { inside } from "./paths.mjs";
+import { grade_all } from "./pool.mjs";
+import { show, write_results } from "./results.mjs";
+import { has_result, named, stage } from "./stage.mjs";
+import { Refusal, read_words } from "./words.mjs";
+import { own_words } from "../words.mjs";
+
+/** The text at the head of anywhere/grade.mjs. */
+function help() {
+  const lines = readFileSync(new URL("../../grade.mjs", import.meta.url), "utf8").split("\n").slice(1);
+  const head = lines.slice(0, lines.findIndex((line) => !line.startsWith("//")));
+  return head.map((line) => `${line.replace(/^\/\/ ?/, "")}\n`).join("");
+}
+
+/** The folder of the work, which is made if it isn't there. */
+function work_at(path) {
+  try {
+    mkdirSync(inside(path, "jobs"), { recursive: true });
+    return realpathSync(path, "buffer");
+  } catch (error) {
+    throw new Refusal(2, `the folder ${path} can't be made: ${error.code}`);
+  }
+}
+
+/** Makes the jobs of all submissions; those without a result that still stands are to be graded. */
+function stage_all(work, submissions, exercise, resume) {
+  const jobs = [];
+  const left = [];
+  for (const submission of submissions) {
+    const { job, stamp } = stage(work, submission, exercise.wanted, exercise.common);
+    jobs.push(job);
+    if (resume && has_result(job, stamp)) continue;
+    rmSync(inside(job, "out"), { recursive: true, force: true });
+    left.push(job);
+  }
+  return { jobs, left };
+}
+
+async function grade(options) {
+  const { module, ...exercise } = read_exercise(options.exercise);
+  const work = work_at(options.work);
+  const { jobs, left } = stage_all(work, named(options.submissions), exercise, options.resume);
+  const most = Number(options.jobs ?? os.availableParallelism?.() ?? os.cpus().length);
+  exercise.has_pictures = process.env.XV_PICTURE !== "";
+  await grade_all({ module, exercise }, left, Math.min(most, left.length));
+  const { csv, missing } = write_results(work, jobs);
+  show(csv);
+  if (missing === 0) return;
+  throw new Refusal(2, `${missing} submissions have no result; the files ${work}/jobs/*/failed say why. --resume tries them again`);
+}
+
+/** Does what the words of this process ask for, and gives the exit status. */
+export async function main(name) {
+  try {
+    const options = read_words(own_words());
+    if (options.help) show(Buffer.from(help()));
+    else await grade(options);
+    return 0;
+  } catch (error) {
+    if (!(error instanceof Refusal)) throw error;
+    if (error.message) process.stderr.write(`${name}: ${error.message}\n`);
+    return error.status;
+  }
+}

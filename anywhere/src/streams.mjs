@@ -1,0 +1,66 @@
+// The streams of this process, read and written at once. A stream may be one that doesn't wait, since another process has it
+// too; then this waits until it takes or gives something, so that nothing is lost.
+import { readSync, writeSync } from "node:fs";
+
+const nobody = new Int32Array(new SharedArrayBuffer(4));
+
+/** Lets this thread rest for some milliseconds. */
+export function rest(milliseconds) {
+  Atomics.wait(nobody, 0, 0, milliseconds);
+}
+
+/** What the call gives, which is done again as long as the stream isn't ready. */
+function patiently(call) {
+  for (;;) {
+    try {
+      return call();
+    } catch (error) {
+      if (error.code !== "EAGAIN") throw error;
+    }
+    rest(5);
+  }
+}
+
+/** Writes all bytes, or all of a text. */
+export function write_all(fd, what) {
+  const bytes = Buffer.from(what);
+  for (let at = 0; at < bytes.length; ) at += patiently(() => writeSync(fd, bytes, at));
+}
+
+/** Reads what is there, 65,536 bytes at most; none at the end. */
+export function read_some(fd) {
+  const bytes = Buffer.alloc(65536);
+  try {
+    return bytes.subarray(0, patiently(() => readSync(fd, bytes, 0, bytes.length, null)));
+  } catch (error) {
+    // So Windows tells the end of a pipe.
+    if (error.code === "EOF") return bytes.subarray(0, 0);
+    throw error;
+  }
+}
+
+/** Reads up to the end. */
+export function read_all(fd) {
+  const parts = [];
+  for (;;) {
+    const part = read_some(fd);
+    if (part.length === 0) return Buffer.concat(parts);
+    parts.push(part);
+  }
+}
+
+/** A function that takes bytes as they come, and hands on each line without its end, as a text of one letter a byte. */
+export function by_lines(hand_on) {
+  let begun = "";
+  const take = (bytes) => {
+    const lines = (begun + Buffer.from(bytes).toString("latin1")).split("\n");
+    begun = lines.pop();
+    lines.forEach(hand_on);
+  };
+  /** Hands on the last line, if no end came for it. */
+  const end = () => {
+    if (begun) hand_on(begun);
+    begun = "";
+  };
+  return { take, end };
+}

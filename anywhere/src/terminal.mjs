@@ -1,0 +1,106 @@
+// The machine at a terminal. If standard input is one, this thread has it: the terminal hands over each key by itself, and the keys
+// go to the thread that runs the program xv_terminal (terminal_worker.mjs). After each end that a process can see, also one by
+// a signal, the terminal is as it was before.
+import { closeSync } from "node:fs";
+import { isatty } from "node:tty";
+import { Worker } from "node:worker_threads";
+import { Keys } from "./keys.mjs";
+import { lines_of } from "./lines.mjs";
+import { module_of, run } from "./program.mjs";
+
+const NAME = "xv_terminal";
+const HANGUP = 129;
+const SIGNALS = process.platform === "win32" ? { SIGINT: 130, SIGBREAK: 130 } : { SIGINT: 130, SIGQUIT: 131, SIGTERM: 143 };
+const ENTER = 13, LINE_END = 10;
+// How long a machine may take to end, in milliseconds, if a signal asks for it.
+const PATIENCE = 1000;
+
+/** Hands over the keys of the terminal, as far as there is room; the others wait, and the terminal with them. */
+function hand_over(terminal, keys) {
+  let left = Buffer.alloc(0);
+  const go_on = () => {
+    left = left.subarray(keys.put(left));
+    if (left.length === 0) return void terminal.resume();
+    terminal.pause();
+    setTimeout(go_on, 10);
+  };
+  terminal.on("data", (typed) => {
+    left = Buffer.concat([left, typed.map((key) => (key === ENTER ? LINE_END : key))]);
+    go_on();
+  });
+}
+
+/** Sets the terminal, and gives what puts it back. */
+function prepared(terminal) {
+  try {
+    terminal.setRawMode(true);
+  } catch {
+    throw new Error("the terminal can't be set");
+  }
+  const streams = terminals();
+  return () => {
+    try {
+      terminal.setRawMode(false);
+    } catch { /* a terminal that is gone needs nothing */ }
+    let_go(streams);
+  };
+}
+
+/** The streams of this process that are terminals. */
+const terminals = () => [0, 1, 2].filter((fd) => isatty(fd));
+
+/** Lets go of those terminals that are gone: Node would set them as it ends, and break. */
+function let_go(streams) {
+  if (process.platform === "win32") return;
+  for (const fd of streams) if (!isatty(fd)) closeSync(fd);
+}
+
+/** Ends the machine. One that waits for its terminal can't be ended alone: then all of this process ends. */
+async function ended(worker, restore) {
+  const late = new Promise((tell) => setTimeout(tell, PATIENCE, true));
+  const is_late = await Promise.race([worker.terminate().then(() => false), late]);
+  restore();
+  if (is_late) process.kill(process.pid, "SIGKILL");
+}
+
+/** Runs the words in a thread, with the keys of the terminal. Gives the exit status. */
+function attend(module, words, files) {
+  const terminal = process.stdin;
+  const keys = new Keys();
+  const restore = prepared(terminal);
+  const worker = new Worker(new URL("./terminal_worker.mjs", import.meta.url), { workerData: { module, words, files, shared: keys.shared } });
+  return new Promise((give, refuse) => {
+    let has_ended = false;
+    const end = (then) => {
+      if (has_ended) return;
+      has_ended = true;
+      ended(worker, restore).then(then);
+    };
+    const stop = (status) => end(() => give(status));
+    const hang_up = () => stop(HANGUP);
+    for (const [signal, status] of Object.entries(SIGNALS)) process.on(signal, () => stop(status));
+    process.on("SIGHUP", hang_up);
+    worker.on("message", stop);
+    worker.on("error", (error) => end(() => refuse(error)));
+    worker.on("exit", () => end(() => refuse(new Error(`${NAME} broke`))));
+    // A terminal that is gone is a hangup.
+    for (const happening of ["end", "error", "close"]) terminal.on(happening, hang_up);
+    hand_over(terminal, keys);
+  });
+}
+
+/** Runs the words at a terminal, and gives the exit status. Without one they are run as they are. */
+export function at_terminal(words) {
+  const module = module_of(NAME);
+  const apart = isatty(1) && isatty(2) ? [] : ["--apart"];
+  if (!isatty(0)) return run(module, NAME, [...apart, ...words]);
+  const { option, files } = lines_of(words);
+  return attend(module, ["--terminal", ...option, ...apart, ...words], files);
+}
+
+/** Runs the debugger: with the lines of programs in C, and with a prompt if a person types. */
+export function debug(words) {
+  const prompt = isatty(0) ? ["--prompt"] : [];
+  const { option, files } = lines_of(words);
+  return run(module_of("xv_debugger"), "xv_debugger", [...option, ...prompt, ...words], { files });
+}
