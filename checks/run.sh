@@ -1,10 +1,10 @@
 #!/bin/sh
 # The checks beside the proofs: checks/run.sh gives the programs the words that are stored, plays the sessions, also those
 # at a terminal and of the debugger, the stored runs, random programs in rows and by single events, the reports and the
-# conversations with GDB by the programs that are built, grades submissions, looks at the links of the pages, counts what
-# the proofs can do without, and tells whether the modules and page/nektavoly.html are of these sources, in some seconds. The gate does the
-# same after `rt ci`. `checks/run.sh --others` tells which other checks there are, how each is called, and how long it
-# takes.
+# conversations with GDB by the programs that are built, reads the lines of all sources a second time, grades submissions,
+# looks at the links of the pages, counts what the proofs can do without, and tells whether the modules and
+# page/nektavoly.html are of these sources, in some seconds. The gate does the same after `rt ci`. `checks/run.sh --others`
+# tells which other checks there are, how each is called, and how long it takes.
 #
 # `checks/run.sh --node` plays all of that which needs a program by the modules of anywhere/, with Node in place of the native
 # programs, and compares it with the same texts; `checks/run.sh --node --quick` plays the words and the sessions alone. What
@@ -72,7 +72,7 @@ begin_node() {
 
 # What needs a program: the quick ones first.
 quick='checks/words/run.sh checks/sessions/run.sh'
-longer='checks/stored-runs/run.sh checks/rows/run.sh checks/why/run.sh checks/gdb/run.sh checks/terminal/run.sh checks/debugger/run.sh checks/grading/run.sh'
+longer='checks/stored-runs/run.sh checks/rows/run.sh checks/why/run.sh checks/gdb/run.sh checks/terminal/run.sh checks/debugger/run.sh checks/lines.py checks/grading/run.sh'
 
 # shellcheck disable=SC2086
 case "$*" in

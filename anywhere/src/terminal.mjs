@@ -5,13 +5,12 @@ import { closeSync } from "node:fs";
 import { isatty } from "node:tty";
 import { Worker } from "node:worker_threads";
 import { Keys } from "./keys.mjs";
-import { table_of } from "./lines.mjs";
+import { lines_of } from "./lines.mjs";
 import { module_of, run } from "./program.mjs";
 
 const NAME = "xv_terminal";
 const HANGUP = 129;
 const SIGNALS = process.platform === "win32" ? { SIGINT: 130, SIGBREAK: 130 } : { SIGINT: 130, SIGQUIT: 131, SIGTERM: 143 };
-const LINES = "dev/lines";
 const ENTER = 13, LINE_END = 10;
 // How long a machine may take to end, in milliseconds, if a signal asks for it.
 const PATIENCE = 1000;
@@ -95,12 +94,13 @@ export function at_terminal(words) {
   const module = module_of(NAME);
   const apart = isatty(1) && isatty(2) ? [] : ["--apart"];
   if (!isatty(0)) return run(module, NAME, [...apart, ...words]);
-  const files = { [LINES]: table_of(words) };
-  return attend(module, ["--terminal", "--lines", `/${LINES}`, ...apart, ...words], files);
+  const { option, files } = lines_of(words);
+  return attend(module, ["--terminal", ...option, ...apart, ...words], files);
 }
 
-/** Runs the debugger: with the lines of the sources, and with a prompt if a person types. */
+/** Runs the debugger: with the lines of programs in C, and with a prompt if a person types. */
 export function debug(words) {
   const prompt = isatty(0) ? ["--prompt"] : [];
-  return run(module_of("xv_debugger"), "xv_debugger", ["--lines", `/${LINES}`, ...prompt, ...words], { files: { [LINES]: table_of(words) } });
+  const { option, files } = lines_of(words);
+  return run(module_of("xv_debugger"), "xv_debugger", [...option, ...prompt, ...words], { files });
 }

@@ -10,12 +10,9 @@ use xk_base::BootError;
 /// Why the program ends, although the command line is right.
 #[derive(Debug, Drop, Error)]
 pub(crate) enum Failure<'a> {
-    /// A FILE gives no program.
+    /// A FILE gives no program, or the table no lines.
     #[error("{0}")]
-    Program(FileRefusal<'a>),
-    /// The table of lines can't be read.
-    #[error("{0}: cannot be read as a table of lines")]
-    Lines(&'a str),
+    File(FileRefusal<'a>),
     /// The machine doesn't boot.
     #[error("boot: {0}")]
     Boot(BootError),
@@ -52,7 +49,7 @@ impl Failure<'_> {
 
 impl<'a> From<FileRefusal<'a>> for Failure<'a> {
     fn from(refusal: FileRefusal<'a>) -> Self {
-        Failure::Program(refusal)
+        Failure::File(refusal)
     }
 }
 

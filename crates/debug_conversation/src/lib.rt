@@ -27,13 +27,13 @@ pub const NAME: &str = "xv_debugger";
 
 /// A conversation about a machine of the settings, which has got no event yet.
 fn begun<'a>(rt: &HostRuntime, settings: &'a Settings) -> Result<Conversation, Failure<'a>> {
-    let programs = programs(rt, settings.files.as_slice())?;
-    let sources = sources(rt, settings)?;
+    let made = programs(rt, settings.files.as_slice())?;
+    let sources = sources(rt, settings, made.lines)?;
     let config = Config {
         frames: settings.frames,
         trace: settings.trace,
     };
-    let session = Session::boot(rt.alloc(), config, programs)?;
+    let session = Session::boot(rt.alloc(), config, made.programs)?;
     Ok(Conversation {
         session,
         debugger: Debugger::with_sources(sources),

@@ -70,7 +70,7 @@ fn booted<'a, R: Files + AllocGlobal>(
     settings: &'a Settings,
 ) -> Result<Target, Failure<'a>> {
     let keys = keys(rt, settings)?;
-    let programs = programs(rt, settings.files.as_slice())?;
+    let programs = programs(rt, settings.files.as_slice())?.programs;
     let name = settings.file.as_ref().map(|name| name.as_str());
     let Some(file) = chosen(programs.as_slice(), name) else {
         return Err(Failure::File(name.unwrap_or("")));

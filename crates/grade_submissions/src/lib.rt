@@ -14,7 +14,6 @@ mod playing;
 mod reasons;
 mod refusal;
 mod results;
-mod source;
 mod submission;
 
 pub use command_line::{Settings, read_words};

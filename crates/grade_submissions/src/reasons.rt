@@ -1,13 +1,12 @@
 //! What a run came to that isn't an exit, in a student's words.
 use crate::playing::{NOTES_MAX, Played, SHOWN_MAX};
 use crate::refusal::Refusal;
-use crate::source::line_at;
 use crate::submission::Submission;
 use grade_sheets::{Grouped, Standing};
 use std::alloc::{AllocError, Global};
 use xk_base::Pid;
 use xv_report::text::{FaultText, WaitLine};
-use xv_report::{FaultReport, program_name, report_at};
+use xv_report::{FaultReport, ProgramLines, ProgramSource, program_name, report_at};
 use xv_session::next_step;
 
 // Whether a process runs what was handed in, as far as is known.
@@ -20,17 +19,14 @@ fn runs_submission(submission: &Submission, played: &Played, pid: Pid) -> bool {
 }
 
 // The line of what was handed in where a process stands, if it is known.
-fn line_of(
-    alloc: Global,
-    submission: &Submission,
-    played: &Played,
-    pid: Pid,
-    pc: u64,
-) -> Option<usize> {
+fn line_of(submission: &Submission, played: &Played, pid: Pid, pc: u64) -> Option<usize> {
     if !runs_submission(submission, played, pid) {
         return None;
     }
-    line_at(alloc, submission.source()?, pc)
+    match &submission.lines {
+        Some(lines) => lines.line_at(pc),
+        None => None,
+    }
 }
 
 // The same, as a text to be put behind; empty if it isn't known.
@@ -41,7 +37,7 @@ fn line_text(
     pid: Pid,
     pc: u64,
 ) -> Result<String, AllocError> {
-    match line_of(alloc, submission, played, pid, pc) {
+    match line_of(submission, played, pid, pc) {
         Some(line) => format!(in alloc; ", line {line}"),
         None => Ok(String::new(alloc)),
     }
@@ -79,6 +75,14 @@ fn loop_text(
     format!(in alloc; "loops: {runs} Runs and process {number} still computes at pc {pc:#x}{line}")
 }
 
+// What is told of the source of what was handed in: its functions. Its line is told in words of its own.
+fn functions_of(symbols: &[u8]) -> ProgramSource<'_> {
+    ProgramSource {
+        symbols,
+        lines: ProgramLines::Unknown,
+    }
+}
+
 // A fault, its registers and its callers, as text.
 fn report_text<'x>(
     alloc: Global,
@@ -88,7 +92,7 @@ fn report_text<'x>(
     let text = FaultText {
         report,
         program: None,
-        symbols,
+        source: functions_of(symbols),
     };
     format!(in alloc; "{text}")
 }
@@ -136,7 +140,7 @@ fn wait_text(
     let line = WaitLine {
         session: &played.session,
         pid: Pid::new(1),
-        symbols: submission.bytes.as_slice(),
+        source: functions_of(submission.bytes.as_slice()),
     };
     format!(in alloc; "waits: {line}")
 }

@@ -1,10 +1,11 @@
 //! What was handed in.
 use crate::refusal::Refusal;
 use grade_sheets::{Run, Text};
-use program_files::{FileRefusal, program};
+use program_files::{FileRefusal, SourcedProgram, program};
 use std::alloc::{AllocError, Global};
 use std::fs;
 use std::rt::Files;
+use uasm_core::SourceLines;
 use xk_base::Program;
 use xk_base::limits::PROGRAM_BYTES;
 
@@ -15,6 +16,10 @@ pub struct Submission {
     pub file: String,
     /// Its bytes.
     pub bytes: Vec<u8>,
+    /// Its program.
+    pub program: Program,
+    /// Where the lines of the source stand in the program, if it was assembled.
+    pub lines: Option<SourceLines>,
 }
 
 /// What was handed in, or why it isn't run, in a student's words.
@@ -52,14 +57,16 @@ fn unfit(alloc: Global, file: &str, why: &str) -> Result<HandedIn, AllocError> {
 
 // The file of this name, of these bytes.
 fn submission_of(alloc: Global, file: &str, bytes: Vec<u8>) -> Result<HandedIn, Refusal> {
-    let submission = Submission {
+    let made = match program(alloc, Ok(bytes.as_slice()), file) {
+        Ok(made) => made,
+        Err(refusal) => return Ok(HandedIn::Refused(told(alloc, &refusal)?)),
+    };
+    Ok(HandedIn::File(Submission {
         file: String::from_str(alloc, file)?,
         bytes,
-    };
-    match submission.complaint(alloc)? {
-        Some(why) => Ok(HandedIn::Refused(why)),
-        None => Ok(HandedIn::File(submission)),
-    }
+        program: made.program,
+        lines: made.lines,
+    }))
 }
 
 // The file of this name and path, if it can be read.
@@ -156,7 +163,7 @@ fn program_of_file<R: Files + AllocGlobal>(
     let path = path_in(alloc, folder, file)?;
     let opened = fs::open(rt, path.as_str());
     match program(alloc, opened, path.as_str()) {
-        Ok(program) => Ok(program),
+        Ok(SourcedProgram { program, .. }) => Ok(program),
         Err(refusal) => Err(refusal_of(alloc, &refusal)),
     }
 }
@@ -191,25 +198,12 @@ fn add_texts(alloc: Global, programs: &mut Vec<Program>, texts: &[Text]) -> Resu
 }
 
 impl Submission {
-    // The program that was handed in.
-    fn program(&self, alloc: Global) -> Result<Program, FileRefusal<'_>> {
-        program(alloc, Ok(self.bytes.as_slice()), self.file.as_str())
-    }
-
-    // Why it gives no program, in a student's words; `None` if it gives one.
-    fn complaint(&self, alloc: Global) -> Result<Option<String>, Refusal> {
-        match self.program(alloc) {
-            Ok(_program) => Ok(None),
-            Err(refusal) => Ok(Some(told(alloc, &refusal)?)),
-        }
-    }
-
     // The program that was handed in, for a run.
-    fn own_program(&self, alloc: Global) -> Result<Program, Refusal> {
-        match self.program(alloc) {
-            Ok(program) => Ok(program),
-            Err(refusal) => Err(refusal_of(alloc, &refusal)),
-        }
+    fn own_program(&self, alloc: Global) -> Result<Program, AllocError> {
+        Ok(Program {
+            name: Vec::from_slice(alloc, self.program.name.as_slice())?,
+            bytes: Vec::from_slice(alloc, self.program.bytes.as_slice())?,
+        })
     }
 
     /// The programs of a run: those of the exercise, whose paths go from this folder, its texts, and what was handed
@@ -228,13 +222,5 @@ impl Submission {
         add_texts(rt.alloc(), &mut programs, run.texts.as_slice())?;
         programs.push(self.own_program(rt.alloc())?)?;
         Ok(programs)
-    }
-
-    /// The text of a source, if what was handed in is one.
-    pub fn source(&self) -> Option<&str> {
-        if !self.file.as_str().ends_with(".s") {
-            return None;
-        }
-        std::str::from_utf8(self.bytes.as_slice()).ok()
     }
 }

@@ -1,10 +1,12 @@
-//! Programs from the host's files.
+//! Programs from the host's files, and the lines of those that are assembled.
+ghost use Rattle.std.specs.Prelude.{◌≡◌, IfOk, length};
+
 use crate::refusal::FileRefusal;
 use std::alloc::Global;
 use std::fs;
 use std::io::{self, ErrorKind, Read};
 use std::rt::Files;
-use uasm_core::{AsmError, assemble};
+use uasm_core::{AsmError, Assembled, SourceLines, assemble_with_lines};
 use xk_base::Program;
 use xk_base::limits::PROGRAM_BYTES;
 
@@ -30,13 +32,31 @@ fn read_file<'a, F: Read + Drop>(
     }
 }
 
-// The program file that the assembler makes of a source.
-fn assembled<'a>(alloc: Global, source: &[u8], path: &'a str) -> Result<Vec<u8>, FileRefusal<'a>> {
+/// A program, and where the lines of its source stand in it, if it was assembled.
+#[derive(Drop)]
+pub struct SourcedProgram {
+    pub program: Program,
+    pub lines: Option<SourceLines>,
+}
+
+/// Programs, and of each where the lines of its source stand in it, if it was assembled.
+#[derive(Drop)]
+pub struct SourcedPrograms {
+    pub programs: Vec<Program>,
+    pub lines: Vec<Option<SourceLines>>,
+}
+
+// What the assembler makes of a source.
+fn assembled<'a>(
+    alloc: Global,
+    source: &[u8],
+    path: &'a str,
+) -> Result<Assembled, FileRefusal<'a>> {
     let Ok(text) = std::str::from_utf8(source) else {
         return Err(FileRefusal::NotText(path));
     };
-    match assemble(alloc, text) {
-        Ok(file) => Ok(file),
+    match assemble_with_lines(alloc, text) {
+        Ok(assembled) => Ok(assembled),
         Err(AsmError::Memory) => Err(FileRefusal::OutOfMemory),
         Err(error) => Err(FileRefusal::Assembly(path, error)),
     }
@@ -50,24 +70,35 @@ fn last_part(path: &str) -> &str {
     }
 }
 
+// A program of this name.
+fn named<'a>(alloc: Global, name: &str, bytes: Vec<u8>) -> Result<Program, FileRefusal<'a>> {
+    Ok(Program {
+        name: Vec::from_slice(alloc, name.as_bytes())?,
+        bytes,
+    })
+}
+
 /// The program of a file that was opened under this path: it is named by the last part of the path. A
 /// file whose name ends in `.s` is assembled, and the program is named without the `.s`.
 pub fn program<'a, F: Read + Drop>(
     alloc: Global,
     file: io::Result<F>,
     path: &'a str,
-) -> Result<Program, FileRefusal<'a>> {
+) -> Result<SourcedProgram, FileRefusal<'a>> {
     let bytes = match file {
         Ok(file) => read_file(alloc, file, path)?,
         Err(error) => return Err(failed(&error, path)),
     };
-    let (name, bytes) = match last_part(path).strip_suffix(".s") {
-        Some(name) => (name, assembled(alloc, bytes.as_slice(), path)?),
-        None => (last_part(path), bytes),
+    let Some(name) = last_part(path).strip_suffix(".s") else {
+        return Ok(SourcedProgram {
+            program: named(alloc, last_part(path), bytes)?,
+            lines: None,
+        });
     };
-    Ok(Program {
-        name: Vec::from_slice(alloc, name.as_bytes())?,
-        bytes,
+    let made = assembled(alloc, bytes.as_slice(), path)?;
+    Ok(SourcedProgram {
+        program: named(alloc, name, made.file)?,
+        lines: Some(made.lines),
     })
 }
 
@@ -76,12 +107,18 @@ pub fn program<'a, F: Read + Drop>(
 pub fn programs<'a, R: Files + AllocGlobal>(
     rt: &R,
     paths: &'a [String],
-) -> Result<Vec<Program>, FileRefusal<'a>> {
+) -> Result<SourcedPrograms, FileRefusal<'a>>
+    ensures programs { IfOk result (λ made. length made.programs.items ≡ length paths.now) }
+    ensures lines { IfOk result (λ made. length made.lines.items ≡ length paths.now) }
+{
     let mut programs = Vec::new(rt.alloc());
+    let mut lines = Vec::new(rt.alloc());
     for path in paths {
         let path = path.as_str();
         let file = fs::open(rt, path);
-        programs.push(program(rt.alloc(), file, path)?)?;
+        let made = program(rt.alloc(), file, path)?;
+        programs.push(made.program)?;
+        lines.push(made.lines)?;
     }
-    Ok(programs)
+    Ok(SourcedPrograms { programs, lines })
 }

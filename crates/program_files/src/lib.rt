@@ -1,6 +1,6 @@
 //! What programs here that take FILEs have in common: the words of a command line, the programs that the FILEs hold,
-//! why no machine runs them, and how a run of them ends. [`symbols_beside`] gives what stands beside the FILEs for
-//! debuggers: their symbols.
+//! with the lines of those that are assembled, why no machine runs them, and how a run of them ends. [`symbols_beside`]
+//! and [`line_table`] give what stands beside the FILEs for debuggers: their symbols, and the lines of other programs.
 #![tactic(auto)]
 
 mod arguments;
@@ -17,8 +17,8 @@ pub use arguments::{WordsError, words};
 pub use command_line::{CommandLine, CommandWord};
 pub use ending::{close_run, show_trace, status_of_exit};
 pub use failure::Failure;
-pub use files::{program, programs};
+pub use files::{SourcedProgram, SourcedPrograms, program, programs};
 pub use given::{Given, given_words, host_words};
 pub use options::{FRAMES, NumberOption, QUANTUM, ROUNDS, TRACE};
 pub use refusal::FileRefusal;
-pub use symbols::symbols_beside;
+pub use symbols::{line_table, symbols_beside};

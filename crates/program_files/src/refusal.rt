@@ -1,9 +1,9 @@
-//! Why the programs of FILEs can't be had.
+//! Why the programs of FILEs can't be had, or their lines.
 use std::alloc::{AllocError, AllocFailed};
 use thiserror::Error;
 use uasm_core::AsmError;
 
-/// Why a FILE gives no program.
+/// Why a FILE gives no program, or a table no lines.
 #[derive(Debug, Drop, Error)]
 pub enum FileRefusal<'a> {
     /// The FILE of this path can't be read.
@@ -18,6 +18,9 @@ pub enum FileRefusal<'a> {
     /// The FILE of this path can't be assembled.
     #[error("{0}: {1}")]
     Assembly(&'a str, AsmError),
+    /// The file of this path can't be read as a table of lines.
+    #[error("{0}: cannot be read as a table of lines")]
+    NoTable(&'a str),
     /// The host has too little memory.
     #[error("out of memory")]
     OutOfMemory,

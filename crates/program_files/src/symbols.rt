@@ -1,9 +1,10 @@
-//! What stands beside the files of programs for debuggers: their symbols.
+//! What stands beside the files of programs for debuggers: their symbols, and a table of lines.
 ghost use Rattle.std.specs.Prelude.{◌≡◌, IfOk, length};
 
+use crate::refusal::FileRefusal;
 use std::alloc::{AllocError, Global};
 use std::fs;
-use std::io::Read;
+use std::io::{ErrorKind, Read};
 use std::rt::Files;
 
 /// The most bytes of a file for debuggers that are read: 64 MiB.
@@ -45,4 +46,24 @@ pub fn symbols_beside<R: Files + AllocGlobal>(
         symbols.push(beside(rt, path.as_str())?)?;
     }
     Ok(symbols)
+}
+
+/// The text of the table of lines in the file of this path; no text if there is no path.
+///
+/// # Errors
+///
+/// [`FileRefusal::NoTable`] if the file can't be read as text, and [`FileRefusal::OutOfMemory`] if the host has too
+/// little memory for it.
+pub fn line_table<'a, R: Files + AllocGlobal>(
+    rt: &R,
+    path: &'a Option<String>,
+) -> Result<String, FileRefusal<'a>> {
+    let Some(path) = path else {
+        return Ok(String::new(rt.alloc()));
+    };
+    match fs::read_to_string(rt, path.as_str()) {
+        Ok(table) => Ok(table),
+        Err(error) if error.kind() == ErrorKind::OutOfMemory => Err(FileRefusal::OutOfMemory),
+        Err(_) => Err(FileRefusal::NoTable(path.as_str())),
+    }
 }

@@ -15,6 +15,9 @@ const EXPLAIN: &str = "explain";
 /// The word that asks for each event as a line of a trace.
 const NOTES: &str = "notes";
 
+/// The word that names a table of lines.
+const LINES: &str = "lines";
+
 /// What stands below the list of options in the text of `--help`.
 const MORE_HELP: &str = "\
 It runs programs as xv_run does: the FILEs, the rounds, the keys from standard input, what goes to
@@ -28,7 +31,8 @@ With --notes each event is a line as in xv_run's trace; `name 3 wc` says which p
 from there on, and `waits 3 ..` what it sleeps on. xv_picture draws these lines.
 
 The function of an address comes from the symbol table of FILE.debug, if there is such a file, or
-else of FILE itself.";
+else of FILE itself; the label and the line of an address in assembler source from the source. The
+lines of other programs are those of the table of --lines.";
 
 const COMMAND_LINE: CommandLine = CommandLine {
     name: NAME,
@@ -46,6 +50,11 @@ const COMMAND_LINE: CommandLine = CommandLine {
         CommandWord::Flag {
             name: NOTES,
             help: "Tell each event as a line of a trace, with names, as it comes",
+        },
+        CommandWord::Text {
+            name: LINES,
+            value: "TABLE",
+            help: "A file with rows PROGRAM ADDRESS LINE in decimal numbers, as ./xv --why makes it",
         },
         CommandWord::Files,
     ],
@@ -78,6 +87,7 @@ pub fn settings<R: Env + AllocGlobal>(rt: &R) -> Result<Settings, WordsError>
     let quantum = given.number(&QUANTUM)?;
     let trace = given.number(&TRACE)?;
     let telling = telling(given.flag(EXPLAIN), given.flag(NOTES));
+    let lines = given.text(LINES)?;
     let files = given.files()?;
     Ok(Settings {
         frames,
@@ -85,6 +95,7 @@ pub fn settings<R: Env + AllocGlobal>(rt: &R) -> Result<Settings, WordsError>
         quantum,
         trace,
         telling,
+        lines,
         files,
     })
 }

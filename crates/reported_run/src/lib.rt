@@ -11,14 +11,16 @@ mod command_line;
 mod letters;
 mod line;
 mod running;
+mod sources;
 mod teller;
 mod watching;
 
 use crate::running::run_with;
+use crate::sources::sources;
 use crate::teller::Teller;
 pub use command_line::settings;
 pub use line::Settings;
-use program_files::{Failure, programs, symbols_beside};
+use program_files::{Failure, programs};
 use std::rt::Env;
 use xv_machine::{Config, Counted, RunPlan};
 
@@ -35,22 +37,22 @@ fn run(rt: &HostRuntime, settings: &Settings) -> u8 {
         rounds: settings.rounds,
         quantum: settings.quantum,
     };
-    let paths = settings.files.as_slice();
-    let programs = match programs(rt, paths) {
-        Ok(programs) => programs,
+    let made = match programs(rt, settings.files.as_slice()) {
+        Ok(made) => made,
         Err(refusal) => return Failure::File(refusal).close(NAME, &mut rt.stderr()),
     };
-    let Ok(symbols) = symbols_beside(rt, paths) else {
-        return Failure::OutOfMemory.close(NAME, &mut rt.stderr());
+    let sources = match sources(rt, settings, made.lines) {
+        Ok(sources) => sources,
+        Err(refusal) => return Failure::File(refusal).close(NAME, &mut rt.stderr()),
     };
     let mut keys = Counted::new(rt.stdin());
     let mut sink = Counted::new(rt.stdout());
-    let mut teller = Teller::new(rt.alloc(), rt.stderr(), symbols, settings.telling);
+    let mut teller = Teller::new(rt.alloc(), rt.stderr(), sources, settings.telling);
     run_with(
         rt.alloc(),
         config,
         plan,
-        programs,
+        made.programs,
         &mut keys,
         &mut sink,
         &mut teller,

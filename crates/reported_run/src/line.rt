@@ -24,6 +24,8 @@ pub struct Settings {
     pub trace: u32,
     /// What is told of events as they come.
     pub telling: Telling,
+    /// The path of a table of lines.
+    pub lines: Option<String>,
     /// The path of each FILE, in the order of the words: at least one.
     pub files: Vec<String>,
 }

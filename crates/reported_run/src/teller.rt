@@ -12,7 +12,7 @@ use xk_base::Pid;
 use xk_base::limits::NPROC;
 use xv_machine::{DriveEnd, DriveError, Event, Outcome, ProcessState};
 use xv_report::text::{Asleep, FaultText, Name, WaitLine, Who};
-use xv_report::{FaultReport, call_name, report_at, waits_for};
+use xv_report::{FaultReport, Sources, call_name, report_at, source_of, waits_for};
 use xv_session::{Named, Runs, Session};
 
 /// The process that runs, as it is before Runs are sent: behind them it may be gone.
@@ -29,8 +29,8 @@ pub(crate) struct Runner {
 pub(crate) struct Teller<E> {
     alloc: Global,
     errors: E,
-    /// What stands for debuggers beside each program.
-    symbols: Vec<Vec<u8>>,
+    /// What is known of the sources of the programs.
+    sources: Sources,
     /// What is told of events as they come.
     telling: Telling,
     /// Which program each process runs, as it was told last by lines of a trace.
@@ -66,34 +66,18 @@ fn who<'a>(session: &'a Session, pid: Pid, program: Option<usize>) -> Who<'a> {
     Who { pid, program: name }
 }
 
-/// The bytes of a file with the symbols of the program of this place: what stands for debuggers beside it, or itself.
-fn symbols_of<'a>(beside: &'a [Vec<u8>], session: &'a Session, program: Option<usize>) -> &'a [u8] {
-    let Some(place) = program else {
-        return &[];
-    };
-    if let Some(bytes) = beside.get(place) {
-        if !bytes.is_empty() {
-            return bytes.as_slice();
-        }
-    }
-    match session.machine().programs().get(place) {
-        Some(program) => program.bytes.as_slice(),
-        None => &[],
-    }
-}
-
 /// A fault, as text; `None` if there is no memory for it.
 fn fault_text<'a>(
     alloc: Global,
     report: &'a FaultReport,
-    beside: &'a [Vec<u8>],
+    sources: &'a Sources,
     session: &'a Session,
     program: Option<usize>,
 ) -> Option<String> {
     let text = FaultText {
         report,
         program: who(session, report.fault.step.pid, program).program,
-        symbols: symbols_of(beside, session, program),
+        source: source_of(Some(sources), session, program),
     };
     text.to_string(alloc).ok()
 }
@@ -101,25 +85,25 @@ fn fault_text<'a>(
 /// Why a live process doesn't go on, as text; `None` if there is no memory for it.
 fn wait_text<'a>(
     alloc: Global,
-    beside: &'a [Vec<u8>],
+    sources: &'a Sources,
     session: &'a Session,
     pid: Pid,
 ) -> Option<String> {
     let line = WaitLine {
         session,
         pid,
-        symbols: symbols_of(beside, session, session.program_of(pid)),
+        source: source_of(Some(sources), session, session.program_of(pid)),
     };
     line.to_string(alloc).ok()
 }
 
 impl<E: Write> Teller<E> {
     /// Nothing is told yet.
-    pub fn new(alloc: Global, errors: E, symbols: Vec<Vec<u8>>, telling: Telling) -> Teller<E> {
+    pub fn new(alloc: Global, errors: E, sources: Sources, telling: Telling) -> Teller<E> {
         Teller {
             alloc,
             errors,
-            symbols,
+            sources,
             telling,
             named: Vec::new(alloc),
             steps: 0,
@@ -148,8 +132,8 @@ impl<E: Write> Teller<E> {
     fn tell_fault(&mut self, session: &Session, pid: Pid, runner: &Runner) {
         let place = session.at().saturating_sub(1);
         if let Ok(Some(report)) = report_at(self.alloc, session, place) {
-            let beside = self.symbols.as_slice();
-            if let Some(text) = fault_text(self.alloc, &report, beside, session, runner.program) {
+            let text = fault_text(self.alloc, &report, &self.sources, session, runner.program);
+            if let Some(text) = text {
                 let _ = writeln!(self.errors, "{text}");
                 return;
             }
@@ -414,7 +398,7 @@ impl<E: Write> Teller<E> {
         let Some(ProcessState::Live { .. }) = session.machine().process(pid) else {
             return;
         };
-        if let Some(text) = wait_text(self.alloc, self.symbols.as_slice(), session, pid) {
+        if let Some(text) = wait_text(self.alloc, &self.sources, session, pid) {
             let _ = writeln!(self.errors, "{text}");
         }
     }

@@ -108,14 +108,14 @@ fn go_through<'a>(
 
 // Boots the machine that the settings ask for, and attends to it.
 fn begin<'a>(rt: &HostRuntime, settings: &'a Settings) -> Result<u8, Refusal<'a>> {
-    let programs = programs(rt, settings.files.as_slice())?;
+    let made = programs(rt, settings.files.as_slice())?;
     let Some(path) = &settings.replay else {
-        let mut debugger = Debugger::with_sources(sources(rt, settings)?);
-        let mut session = boot(rt.alloc(), settings.frames, settings.trace, programs)?;
+        let mut debugger = Debugger::with_sources(sources(rt, settings, made.lines)?);
+        let mut session = boot(rt.alloc(), settings.frames, settings.trace, made.programs)?;
         return go_through(rt, &mut session, &mut debugger, settings, None);
     };
     let record = record_in(rt, path.as_str())?;
-    begin_record(rt, settings, programs, &record)
+    begin_record(rt, settings, made.programs, &record)
 }
 
 // Boots the machine that was recorded, and plays its record.

@@ -10,7 +10,7 @@ use xv_record::{RecordError, RecordRefusal};
 /// Why no session begins.
 #[derive(Debug, Drop, Error)]
 pub enum Refusal<'a> {
-    /// A FILE is refused.
+    /// A FILE is refused, or the table of lines.
     #[error("{0}")]
     File(FileRefusal<'a>),
     /// The record of this path can't be read.
@@ -25,9 +25,6 @@ pub enum Refusal<'a> {
     /// The file of this path, which is to have the record, can't be written.
     #[error("{0}: cannot be written")]
     Unwritten(&'a str),
-    /// The file of this path can't be read as a table of lines.
-    #[error("{0}: cannot be read as a table of lines")]
-    NoLines(&'a str),
     /// The machine doesn't boot.
     #[error("boot: {0}")]
     Boot(BootError),
@@ -46,7 +43,6 @@ impl Refusal<'_> {
             | Refusal::Unread(_)
             | Refusal::NoRecord(..)
             | Refusal::Record(_)
-            | Refusal::NoLines(_)
             | Refusal::Boot(_)
             | Refusal::Memory => 2,
         }

@@ -7,8 +7,8 @@ use xk_base::limits::NPROC;
 use xk_base::{Cause, Pid};
 use xv_live::{FaultNote, Teller};
 use xv_machine::Machine;
-use xv_report::report_at;
 use xv_report::text::{FaultText, Name, ProcessLine, WaitLine};
+use xv_report::{report_at, source_of};
 use xv_session::Session;
 
 /// The most events of a session that are played again to tell its faults with their instructions: a second in all.
@@ -50,24 +50,13 @@ pub fn tell_waits<E: Write>(session: &Session, notes: &mut Notes<E>) {
         let Some(pid) = process_above(session.machine(), above) else {
             break;
         };
-        let symbols = symbols_of(session, pid);
+        let source = source_of(None, session, session.program_of(pid));
         notes.write_note(WaitLine {
             session,
             pid,
-            symbols,
+            source,
         });
         above = pid.number();
-    }
-}
-
-// The bytes of the program that a process runs, which may have symbols.
-fn symbols_of(session: &Session, pid: Pid) -> &[u8] {
-    let Some(place) = session.program_of(pid) else {
-        return &[];
-    };
-    match session.machine().programs().get(place) {
-        Some(program) => program.bytes.as_slice(),
-        None => &[],
     }
 }
 
@@ -130,7 +119,7 @@ fn long_line(
     let text = FaultText {
         report: &report,
         program: Some(program.name.as_slice()),
-        symbols: program.bytes.as_slice(),
+        source: source_of(None, session, place),
     };
     text.to_string(alloc).ok()
 }

@@ -19,3 +19,4 @@ pub mod Limit
 pub mod Started
 pub mod StartedRows
 mod WorkedSources
+mod WorkedLines

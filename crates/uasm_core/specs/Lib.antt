@@ -7,3 +7,4 @@ pub mod FileFormat
 pub mod Meaning
 pub mod Views
 pub mod Kinds
+pub mod LineTable

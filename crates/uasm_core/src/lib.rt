@@ -19,10 +19,12 @@ mod place;
 mod placing;
 mod program_end;
 mod scan;
+mod source_lines;
 mod spelling;
 mod statement;
 mod text;
 mod words;
 
-pub use assembly::assemble;
+pub use assembly::{Assembled, assemble, assemble_with_lines};
 pub use error::{AsmError, AsmErrorKind};
+pub use source_lines::{CodeLine, LabelAddress, SourceLines};

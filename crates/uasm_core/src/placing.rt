@@ -7,6 +7,8 @@ ghost use Rattle.uasm_core.specs.declared.error.AsmError.TheVariants as error;
 ghost use Rattle.uasm_core.specs.Statement.{size_of, datum_size};
 ghost use Rattle.uasm_core.specs.Views.{statement as statement_seen, datum as datum_seen};
 ghost use Rattle.uasm_core.specs.Written.{placed, all_placed, behind, end_of, label_place, is_taken};
+ghost use Rattle.std.specs.List.{flat_map};
+ghost use Rattle.uasm_core.specs.LineTable.{code_of};
 ghost use Rattle.uasm_core.specs.Places.{start, within_limit};
 ghost use Rattle.xk_base.specs.declared.limits.TheConstants.{PROGRAM_BYTES};
 
@@ -15,6 +17,7 @@ use crate::labels::{LabelPlaces, add, find, no_labels};
 use crate::parts::parts_of;
 use crate::place::Place;
 use crate::program_end::ProgramEnd;
+use crate::source_lines::{CodeLine, add_code};
 use crate::statement::{Datum, Statement, asked};
 use std::alloc::Global;
 use xk_base::limits::PROGRAM_BYTES;
@@ -35,6 +38,8 @@ pub(crate) struct Listing<'a> {
     pub(crate) lines: Vec<Placed<'a>>,
     pub(crate) labels: LabelPlaces<'a>,
     pub(crate) text_len: u32,
+    /// The lines that make instructions.
+    pub(crate) code: Vec<CodeLine>,
 }
 
 fn datum_len(datum: &Datum<'_>) -> u64
@@ -178,24 +183,28 @@ fn place_line<'a>(
     })
 }
 
-/// All lines with their places.
+/// All lines with their places, and the instructions that they make.
 pub(crate) fn place_all<'a>(alloc: Global, lines: &[&'a str]) -> Result<Listing<'a>, AsmError>
     ensures value { Stands (λ v. map seen v.lines.items) result
         (all_placed (map (λ l. l.now) lines.now)) }
     ensures labels { IfOk result (λ v. places_of v.labels ≡ label_place (map seen v.lines.items)) }
     ensures text_len { IfOk result (λ v. v.text_len ≡ (end_of (map seen v.lines.items) start).text_len) }
+    ensures code { IfOk result (λ v. v.code.items ≡ flat_map code_of (map seen v.lines.items)) }
 {
     let mut found = Vec::new(alloc);
+    let mut code = Vec::new(alloc);
     let mut labels = no_labels(alloc);
     let mut end = ProgramEnd::start();
     for (index, line) in lines.iter().enumerate() {
         let one = place_line(alloc, &mut labels, index + 1, &end, line.as_bytes())?;
         end = one.next;
+        add_code(&mut code, one.line, &one.place, &end.place())?;
         found.push(one)?;
     }
     Ok(Listing {
         lines: found,
         labels,
         text_len: end.place().text_len,
+        code,
     })
 }

@@ -7,7 +7,6 @@ use crate::motion::{self, Journey, Output, Round};
 use crate::pipes::show_pipes;
 use crate::processes::{show_processes, show_where};
 use crate::shown_output::show_output;
-use crate::sources::Sources;
 use crate::stops::{show_refusal, show_sent};
 use debug_views::{
     show_console, show_descriptors, show_events, show_frames, show_memory, show_pages,
@@ -18,6 +17,7 @@ use debug_words::{EVENTS_MOST, Goal, Keys, Word, show_help};
 use std::alloc::{AllocError, Global};
 use xk_base::Pid;
 use xv_machine::Event;
+use xv_report::Sources;
 use xv_session::{Condition, Session};
 
 /// The instructions that `where` lists.

@@ -3,12 +3,12 @@ ghost use Rattle.std.specs.Prelude.{◌≡◌, ◌%◌, option_map};
 ghost use Rattle.xv_session.specs.Looking.{word_at};
 ghost use Rattle.xv_debug.specs.Instructions.{instruction_text};
 
-use crate::sources::{Sources, location_of};
 use rv64i_core::decode;
 use std::alloc::AllocError;
 use uasm_text::{InstructionText, text_at};
 use xk_base::Pid;
 use xv_machine::Machine;
+use xv_report::{Sources, source_of};
 use xv_session::Session;
 
 /// The four bytes at an address, the first as the lowest; `None` where one of them isn't there.
@@ -56,7 +56,7 @@ fn show_instruction(
         return show_other(word, answer);
     };
     let text = text.as_str();
-    let location = location_of(sources, session, pid, address);
+    let location = source_of(sources, session, session.program_of(pid)).location(address);
     if location.is_known() {
         writeln!(answer, "{text:<28}  {location}")
     } else {

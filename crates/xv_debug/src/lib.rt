@@ -12,15 +12,11 @@ mod debugger;
 mod focus;
 mod happened;
 mod instruction;
-mod lines;
 mod motion;
 mod pipes;
 mod processes;
 mod shown_output;
-mod sources;
 mod stops;
 mod waits;
 
 pub use debugger::{Debugger, Next};
-pub use lines::Lines;
-pub use sources::Sources;

@@ -1,7 +1,6 @@
 //! The processes: who runs, who sleeps, and on what.
 use crate::calls::CallShown;
 use crate::instruction::list;
-use crate::sources::Sources;
 use crate::waits::WaitShown;
 use debug_views::{least_from, program_name};
 use debug_words::texts::{Grouped, Many, Named, Plain};
@@ -9,7 +8,7 @@ use std::alloc::AllocError;
 use std::fmt;
 use xk_base::Pid;
 use xv_machine::{Call, Machine, ProcessState};
-use xv_report::waits_for;
+use xv_report::{Sources, waits_for};
 use xv_session::Session;
 
 /// The most processes that are shown at once.

@@ -4,3 +4,4 @@ pub mod Names
 pub mod Jumps
 pub mod Callers
 pub mod Reports
+pub mod Lines

@@ -6,14 +6,17 @@
 //! lists all that could wake one (`specs/Wakers.antt`), [`callers_of`] follows a process's frames
 //! (`specs/Callers.antt`), and [`report_at`] tells a fault of the machine as it was before that step
 //! (`specs/Reports.antt`). [`program_name`] and [`call_name`] have the names that belong to these
-//! (`specs/Names.antt`). What is printed of them, by the `Display` of the types in [`text`], is compared with stored
-//! reports (`checks/why`).
+//! (`specs/Names.antt`). [`Sources`] is what is known of the sources of programs: symbols, the lines of those that were
+//! assembled, and a table of the lines of others, in which a line is found by `specs/Lines.antt`. What is printed
+//! of all this, by the `Display` of the types in [`text`], is compared with stored reports (`checks/why`).
 #![tactic(auto)]
 
 mod callers;
 mod fault;
 mod jumps;
+mod lines;
 mod names;
+mod sources;
 pub mod text;
 mod waits;
 mod waking;
@@ -21,6 +24,8 @@ mod waking;
 pub use callers::{CALLERS_MAX, Caller, Callers, callers_of};
 pub use fault::{FaultReport, report_at, report_of_run};
 pub use jumps::jump_target;
+pub use lines::Lines;
 pub use names::{call_name, program_name};
+pub use sources::{ProgramLines, ProgramSource, Sources, source_of};
 pub use waits::{EndsHeld, Wait, could_wake, ends_held, waits_for};
 pub use waking::wakers;

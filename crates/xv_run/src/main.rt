@@ -30,14 +30,14 @@ fn run(rt: &HostRuntime, settings: &Settings) -> u8 {
         quantum: settings.quantum,
     };
     match programs(rt, settings.files.as_slice()) {
-        Ok(programs) => {
+        Ok(made) => {
             let mut keys = Counted::new(rt.stdin());
             let mut sink = Counted::new(rt.stdout());
             run_with(
                 rt.alloc(),
                 config,
                 plan,
-                programs,
+                made.programs,
                 &mut keys,
                 &mut sink,
                 &mut rt.stderr(),

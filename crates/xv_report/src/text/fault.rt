@@ -1,6 +1,7 @@
 //! Faults.
 use crate::fault::FaultReport;
 use crate::jumps::jump_target;
+use crate::sources::ProgramSource;
 use crate::text::place::{Instruction, Place, Who};
 use rv64i_core::Regs;
 use std::fmt;
@@ -11,14 +12,14 @@ use xv_session::Fault;
 /// A fault: in one line the process, its program, what it was about to do and why it could not, and the instruction;
 /// then its registers in the order of xv6's trapframe, four in a line; then the calls that led to it, from the last on.
 ///
-/// `process 3 (null): store to 0x0, which may not be written, at pc 0xfa8 <main+0x10>: sd a5, 0(a4)`
+/// `process 3 (null): store to 0x0, which may not be written, at pc 0xfa8 <main+0x10>, null.c:5: sd a5, 0(a4)`
 #[derive(Clone, Copy)]
 pub struct FaultText<'a> {
     pub report: &'a FaultReport,
     /// The name of the process's program, where it is known.
     pub program: Option<&'a [u8]>,
-    /// The bytes of an ELF file with its symbols; none where there is no such file.
-    pub symbols: &'a [u8],
+    /// What is known of its source.
+    pub source: ProgramSource<'a>,
 }
 
 impl<'a> fmt::Display for FaultText<'a> {
@@ -44,7 +45,7 @@ impl<'a> FaultText<'a> {
     fn place(&self, address: u64) -> Place<'a> {
         Place {
             address,
-            symbols: self.symbols,
+            source: self.source,
         }
     }
 

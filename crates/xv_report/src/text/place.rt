@@ -1,5 +1,5 @@
 //! Names, addresses and instructions.
-use elf_symbols::{function_at, function_start};
+use crate::sources::ProgramSource;
 use rv64i_core::decode;
 use std::fmt;
 use uasm_text::Shown;
@@ -41,33 +41,31 @@ impl<'a> fmt::Display for Who<'a> {
     }
 }
 
-/// An address of a program: `0xfa8 <main+0x10>`. The function is that of the symbol table of an ELF file, which may be
-/// the program's own or one that was set aside with what is for debuggers; without a function, as in a file that isn't
-/// there (no bytes), it is the address alone.
+/// An address of a program, with what is known of where it stands in its source: `0xfa8 <main+0x10>, wc.c:12`.
 #[derive(Clone, Copy)]
 pub struct Place<'a> {
     pub address: u64,
-    /// The bytes of the file.
-    pub symbols: &'a [u8],
+    pub source: ProgramSource<'a>,
 }
 
 impl<'a> fmt::Display for Place<'a> {
     fn fmt<W: fmt::Write>(&self, f: &mut fmt::Formatter<W>) -> fmt::Result {
         let address = self.address;
         write!(f, "{address:#x}")?;
-        let Some(name) = function_at(self.symbols, address) else {
+        let location = self.source.location(address);
+        if !location.is_known() {
             return Ok(());
+        }
+        let between = if location.function.is_some() {
+            " "
+        } else {
+            ", "
         };
-        let Some(start) = function_start(self.symbols, address) else {
-            return Ok(());
-        };
-        let name = Name(name);
-        let offset = address.wrapping_sub(start);
-        write!(f, " <{name}+{offset:#x}>")
+        write!(f, "{between}{location}")
     }
 }
 
-/// An instruction where it stands: `0xfa8 <main+0x10>: sd a5, 0(a4)`. A word that is no instruction is shown as a
+/// An instruction where it stands: `0xfa8 <main+0x10>, wc.c:12: sd a5, 0(a4)`. A word that is no instruction is shown as a
 /// number, and one that isn't wholly there as `nothing`.
 #[derive(Clone, Copy)]
 pub struct Instruction<'a> {

@@ -1,5 +1,6 @@
 //! Processes, and what they wait for.
 use crate::names::{call_name, program_name};
+use crate::sources::ProgramSource;
 use crate::text::place::{Instruction, Name, Place, Who};
 use crate::waits::{Wait, waits_for};
 use crate::waking::wakers;
@@ -141,8 +142,8 @@ fn write_state<W: fmt::Write>(
 pub struct WaitLine<'a> {
     pub session: &'a Session,
     pub pid: Pid,
-    /// The bytes of an ELF file with the symbols of its program; none where there is no such file.
-    pub symbols: &'a [u8],
+    /// What is known of the source of its program.
+    pub source: ProgramSource<'a>,
 }
 
 impl<'a> fmt::Display for WaitLine<'a> {
@@ -161,7 +162,7 @@ impl<'a> fmt::Display for WaitLine<'a> {
             }
             None => {
                 write_state(machine, self.pid, f)?;
-                write_next(machine, self.pid, self.symbols, f)
+                write_next(machine, self.pid, self.source, f)
             }
         }
     }
@@ -171,7 +172,7 @@ impl<'a> fmt::Display for WaitLine<'a> {
 fn write_next<W: fmt::Write>(
     machine: &Machine,
     pid: Pid,
-    symbols: &[u8],
+    source: ProgramSource<'_>,
     f: &mut fmt::Formatter<W>,
 ) -> fmt::Result {
     let Some(step) = next_step(machine, pid) else {
@@ -180,7 +181,7 @@ fn write_next<W: fmt::Write>(
     let next = Instruction {
         place: Place {
             address: step.regs.pc(),
-            symbols,
+            source,
         },
         word: step.word,
     };

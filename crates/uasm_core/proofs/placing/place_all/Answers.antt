@@ -1,7 +1,10 @@
 use Rattle.std.proofs.Common.{◌≡◌, ◌+◌, ℕ, List, [], ◌∷◌, ◌++◌, map, drop, length, Option, false, refl, sym, ap, ◌∙◌, arith, length-append}
-use Rattle.std.proofs.lemmas.List.{map-append, length-map}
+use Rattle.std.specs.List.{flat_map}
+use Rattle.std.proofs.lemmas.List.{flat_map_more, map-append, length-map}
 use Rattle.std.proofs.lemmas.Result.{err_from_is_err_and}
 use Rattle.uasm_core.specs.declared.place.Place.{Place}
+use Rattle.uasm_core.specs.declared.source_lines.CodeLine.{CodeLine}
+use Rattle.uasm_core.specs.LineTable.{code_between, code_of}
 use Rattle.uasm_core.specs.Places.{start}
 use Rattle.uasm_core.specs.Views.{seen}
 use Rattle.uasm_core.specs.Views.{places_of}
@@ -12,7 +15,7 @@ use Rattle.uasm_core.proofs.OneMore.{with_more, end_more}
 use Rattle.uasm_core.proofs.placing.place_all.Goals as goal
 
 pub loop-index-init : goal.loop-index-init
-loop-index-init c = rw c.new-found.ensures.items (record { lines = refl; count = refl; labels = c.no_labels-labels.ensures; ends = c.start-end.ensures })
+loop-index-init c = rw (c.new-found.ensures.items, c.new-code.ensures.items) (record { lines = refl; count = refl; labels = c.no_labels-labels.ensures; ends = c.start-end.ensures; code = refl })
 
 pub loop-index-preserved : goal.loop-index-preserved
 loop-index-preserved c =
@@ -23,6 +26,8 @@ loop-index-preserved c =
     let items : map seen c.push.new.self.items ≡ ps ++ one ∷ [] = ap (map seen) c.in_ok-push.ensures.items ∙ map-append seen c.loop-index.found.items (c.in_ok-one.one ∷ []) in
     let fresh : meant.is_taken one.label (meant.label_place ps) ≡ false =
     ap (λ (f : List ℕ → Option Place). meant.is_taken one.label f) (sym c.loop-index.invariant.labels) ∙ c.in_ok-one.ensures.fresh in
+    let next : c.in_ok-one.one.next ≡ meant.behind one.statement one.place =
+    c.in_ok-one.ensures.next ∙ ap (λ (a : Place). meant.behind one.statement a) (sym c.in_ok-one.ensures.place) in
     rw items (record {
       lines = more ps c.loop-index.index _ c.loop-index.end c.as_bytes.result.now _ one _ count c.loop-index.invariant.labels c.loop-index.invariant.ends c.in_ok-one.ensures.value (ap (λ (ls : List (List ℕ)). meant.one_by_one meant.with_line ps ls) (sym here) ∙ c.loop-index.invariant.lines);
       count = omega (arith, ap length c.in_ok-push.ensures.items, length-append c.loop-index.found.items (c.in_ok-one.one ∷ []), c.loop-index.invariant.count);
@@ -31,7 +36,12 @@ loop-index-preserved c =
           ∙ ap (λ (a : Place). with_label_of one.label a (places_of c.loop-index.labels)) (sym c.in_ok-one.ensures.place)
           ∙ ap (λ (f : List ℕ → Option Place). with_label_of one.label one.place f) c.loop-index.invariant.labels
           ∙ with_more ps one fresh;
-      ends = c.in_ok-one.ensures.next ∙ ap (λ (a : Place). meant.behind one.statement a) (sym c.in_ok-one.ensures.place) ∙ sym (end_more ps one start);
+      ends = next ∙ sym (end_more ps one start);
+      code =
+          c.in_ok-add_code.ensures
+          ∙ ap (λ (rows : List CodeLine). rows ++ code_between one.line one.place c.place.result) c.loop-index.invariant.code
+          ∙ ap (λ (a : Place). flat_map code_of ps ++ code_between one.line one.place a) (c.place.ensures ∙ next)
+          ∙ flat_map_more code_of [] ps one;
     })
 
 pub returns-in_err-one-clause-value : goal.returns-in_err-one-clause-value

@@ -9,7 +9,7 @@ use Rattle.uasm_core.specs.Meaning.{Assembles}
 use Rattle.std.proofs.lemmas.Result.{err_from_is_err_and}
 use Rattle.uasm_core.proofs.Whole.{by_second, fails_second, known_second, lengths, assembles}
 use Rattle.uasm_core.proofs.Started.{started}
-use Rattle.uasm_core.proofs.assembly.assemble.Goals as goal
+use Rattle.uasm_core.proofs.assembly.assemble_with_lines.Goals as goal
 
 pub elf_file-requires : goal.elf_file-requires
 elf_file-requires c =
@@ -47,7 +47,7 @@ returns-clause-exact c =
     c.in_ok-listing.ensures.labels
     (ap (λ (ps : List meant.Placed). all_spelled (addresses text_len places) text_len ps) (ap (map seen) (sym c.deref-2.ensures.value)) ∙ c.in_ok-out.ensures)
     ∙ ap (λ (e : ℕ). let p : Program = record { text = c.in_ok-out.out.text.items; data_bytes = c.in_ok-out.out.data_bytes.items; entry = e } in let r : Result (List ℕ) Fault = Ok (elf_of p) in r) (sym c.entry-entry.ensures)
-    ∙ ap Ok (sym c.in_ok-elf_file.ensures)
+    ∙ ap Ok (sym c.in_ok-file.ensures)
 
 pub returns-clause-loads : goal.returns-clause-loads
 returns-clause-loads c =
@@ -60,8 +60,8 @@ returns-clause-loads c =
     ap (λ (ps : List meant.Placed). all_spelled (addresses text_len places) text_len ps) (ap (map seen) (sym c.deref-2.ensures.value)) ∙ c.in_ok-out.ensures in
     let entry : c.entry-entry.result ≡ entry_of (addresses text_len (label_place ps)) =
     c.entry-entry.ensures ∙ ap (λ (f : List ℕ → Option Place). entry_of (addresses text_len f)) c.in_ok-listing.ensures.labels in
-    let same : c.in_ok-elf_file.field-0.items ≡ elf_of (program_of text_len (label_place ps) (bytes_in c.in_ok-out.out)) =
-    c.in_ok-elf_file.ensures ∙ ap (λ (e : ℕ). let p : Program = record { text = c.in_ok-out.out.text.items; data_bytes = c.in_ok-out.out.data_bytes.items; entry = e } in elf_of p) entry in
+    let same : c.in_ok-file.file.items ≡ elf_of (program_of text_len (label_place ps) (bytes_in c.in_ok-out.out)) =
+    c.in_ok-file.ensures ∙ ap (λ (e : ℕ). let p : Program = record { text = c.in_ok-out.out.text.items; data_bytes = c.in_ok-out.out.data_bytes.items; entry = e } in elf_of p) entry in
     subst (λ (file : List ℕ). Assembles c.args.source.now file) (sym same)
     (assembles c.args.source.now ps (bytes_in c.in_ok-out.out) text_len c.entry-entry.result
     (known_second c.args.source.now ps text_len places (bytes_in c.in_ok-out.out) first c.in_ok-listing.ensures.text_len c.in_ok-listing.ensures.labels second)

@@ -1,6 +1,6 @@
 -- Lines of sources, by a table of rows: a row tells where the instructions of a line begin.
 use Rattle.std.specs.Prelude.{◌≡◌, ◌<◌, ◌≤◌, ℕ, ◌&&◌, Bool, true, false, nat_eq, nat_le, List, length, slice_get, Option, None, Some}
-use Rattle.xv_debug.specs.declared.lines.LineRow.{LineRow}
+use Rattle.xv_report.specs.declared.lines.LineRow.{LineRow}
 
 -- a row of the program that begins at the address or before it
 abbrev pub begins_before : (program address : ℕ) → LineRow → Bool

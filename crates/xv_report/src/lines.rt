@@ -1,6 +1,6 @@
 //! The lines of sources, by a table of rows.
 ghost use Rattle.std.specs.Prelude.{◌≡◌, ◌+◌, ◌<◌, length};
-ghost use Rattle.xv_debug.specs.Lines.{IsNearest, IsNearestBelow, begins_before};
+ghost use Rattle.xv_report.specs.Lines.{IsNearest, IsNearestBelow, begins_before};
 
 use std::alloc::{AllocError, Global};
 
