@@ -1,6 +1,6 @@
 //! The words of the command line.
 use crate::NAME;
-use program_files::{CommandLine, CommandWord, Given, WordsError};
+use program_files::{CommandLine, CommandWord, Given, SettingsError};
 use std::alloc::Global;
 use std::convert::AsStr;
 
@@ -77,7 +77,7 @@ const COMMAND_LINE: CommandLine = CommandLine {
 };
 
 // The text of a word that has to be given.
-fn needed(alloc: Global, given: &Given, name: &str) -> Result<String, WordsError> {
+fn needed(alloc: Global, given: &Given, name: &str) -> Result<String, SettingsError> {
     match given.text(name)? {
         Some(text) => Ok(text),
         None => Ok(String::new(alloc)),
@@ -89,7 +89,7 @@ fn needed(alloc: Global, given: &Given, name: &str) -> Result<String, WordsError
 /// # Errors
 ///
 /// Those of [`Given::read`].
-pub fn read_words<S: AsStr>(alloc: Global, words: &[S]) -> Result<Settings, WordsError> {
+pub fn read_words<S: AsStr>(alloc: Global, words: &[S]) -> Result<Settings, SettingsError> {
     let given = Given::read(alloc, &COMMAND_LINE, words)?;
     Ok(Settings {
         exercise: needed(alloc, &given, "EXERCISE")?,

@@ -4,38 +4,54 @@ use std::env;
 use std::io::{self, ErrorKind, Write};
 use std::rt::Env;
 
-/// Why the words of a command line are refused.
+/// Why words give no settings.
 #[derive(Drop)]
-pub enum WordsError {
-    /// The words themselves are refused, or ask for help. The text is for the user.
+pub enum SettingsError {
+    /// The words are refused, or ask for help. The text is for the user.
     Words(clap::Error),
     /// The host has too little memory for what the words give.
     Memory,
+}
+
+/// Why a program gets no settings of its host.
+#[derive(Drop)]
+pub enum WordsError {
+    /// The words give none.
+    Settings(SettingsError),
     /// The host has too little memory for the words.
     NoWords,
 }
 
-impl WordsError {
-    /// Tells why the words of the program of this name are refused, or shows the help that they ask for, and
-    /// gives the status: 0 for help that was shown, 5 for help that `output` didn't take, 2 if the host has too little
-    /// memory for the words, and else 1. What `errors` doesn't take is left out.
+impl SettingsError {
+    /// Tells why the words of the program of this name give no settings, or shows the help that they ask for, and gives
+    /// the status: 0 for help that was shown, 5 for help that `output` didn't take, and else 1. What `errors` doesn't
+    /// take is left out.
     pub fn close<W: Write, E: Write>(&self, name: &str, output: &mut W, errors: &mut E) -> u8 {
         match self {
-            WordsError::Words(text) if text.use_stderr() => {
+            SettingsError::Words(text) if text.use_stderr() => {
                 let _ = write!(errors, "{text}");
                 1
             }
-            WordsError::Words(text) => match show(text, output) {
+            SettingsError::Words(text) => match show(text, output) {
                 Ok(()) => 0,
                 Err(_) => {
                     let _ = writeln!(errors, "{name}: write fault");
                     5
                 }
             },
-            WordsError::Memory => {
+            SettingsError::Memory => {
                 let _ = writeln!(errors, "{name}: out of memory");
                 1
             }
+        }
+    }
+}
+
+impl WordsError {
+    /// The same of what the host's words give: the status is 2 if the host has too little memory for the words.
+    pub fn close<W: Write, E: Write>(&self, name: &str, output: &mut W, errors: &mut E) -> u8 {
+        match self {
+            WordsError::Settings(error) => error.close(name, output, errors),
             WordsError::NoWords => {
                 let _ = writeln!(errors, "{name}: out of memory");
                 2
@@ -51,21 +67,27 @@ fn show<W: Write>(text: &clap::Error, output: &mut W) -> io::Result<()> {
 }
 
 // Where `clap` itself gets no memory, it says so in an error of its own.
-impl From<clap::Error> for WordsError {
+impl From<clap::Error> for SettingsError {
     fn from(error: clap::Error) -> Self {
-        WordsError::Words(error)
+        SettingsError::Words(error)
     }
 }
 
-impl From<AllocError> for WordsError {
+impl From<AllocError> for SettingsError {
     fn from(_error: AllocError) -> Self {
-        WordsError::Memory
+        SettingsError::Memory
     }
 }
 
-impl<T: Drop> From<AllocFailed<T>> for WordsError {
+impl<T: Drop> From<AllocFailed<T>> for SettingsError {
     fn from(_error: AllocFailed<T>) -> Self {
-        WordsError::Memory
+        SettingsError::Memory
+    }
+}
+
+impl From<SettingsError> for WordsError {
+    fn from(error: SettingsError) -> Self {
+        WordsError::Settings(error)
     }
 }
 

@@ -1,5 +1,5 @@
 //! A program's command line, as data, and as `clap` is told of it.
-use crate::arguments::WordsError;
+use crate::arguments::SettingsError;
 use crate::options::NumberOption;
 use clap::error::ErrorKind;
 use clap::{Arg, ArgAction, Command};
@@ -116,14 +116,14 @@ impl CommandLine {
         alloc: Global,
         kind: ErrorKind,
         message: &str,
-    ) -> WordsError {
+    ) -> SettingsError {
         let mut command = match self.command(alloc) {
             Ok(command) => command,
-            Err(error) => return WordsError::Words(error),
+            Err(error) => return SettingsError::Words(error),
         };
         match command.error(kind, message) {
-            Ok(error) => WordsError::Words(error),
-            Err(error) => WordsError::Words(clap::Error::from(error)),
+            Ok(error) => SettingsError::Words(error),
+            Err(error) => SettingsError::Words(clap::Error::from(error)),
         }
     }
 }

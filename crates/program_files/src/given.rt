@@ -1,10 +1,10 @@
 //! What the words of a command line give.
 ghost use Rattle.std.specs.Prelude.{◌≡◌, ◌≤◌, ◌<◌, IfOk, vec_len};
 
-use crate::arguments::{WordsError, words};
+use crate::arguments::{SettingsError, WordsError, words};
 use crate::command_line::{CommandLine, FILE};
 use crate::options::NumberOption;
-use clap::error::ErrorKind as WordsErrorKind;
+use clap::error::ErrorKind as ClapErrorKind;
 use std::alloc::{AllocError, Global};
 use std::convert::AsStr;
 use std::io::ErrorKind;
@@ -39,14 +39,14 @@ impl Given {
     ///
     /// # Errors
     ///
-    /// [`WordsError::Words`] if a word has no place in the command line, if a number isn't in its range, if a word that
+    /// [`SettingsError::Words`] if a word has no place in the command line, if a number isn't in its range, if a word that
     /// has to be there is missing, if help is asked for, or if `clap` gets no memory: the error's text says which.
-    /// [`WordsError::Memory`] if the host has too little memory for what the words give.
+    /// [`SettingsError::Memory`] if the host has too little memory for what the words give.
     pub fn read<S: AsStr>(
         alloc: Global,
         line: &'static CommandLine,
         words: &[S],
-    ) -> Result<Given, WordsError> {
+    ) -> Result<Given, SettingsError> {
         let mut command = line.command(alloc)?;
         let matches = command.try_get_matches_from_mut(words)?;
         let mut given = Vec::new(alloc);
@@ -84,8 +84,8 @@ impl Given {
     ///
     /// # Errors
     ///
-    /// [`WordsError::Words`] if it doesn't, or if the option isn't one of the command line's.
-    pub fn number(&self, option: &NumberOption) -> Result<u32, WordsError>
+    /// [`SettingsError::Words`] if it doesn't, or if the option isn't one of the command line's.
+    pub fn number(&self, option: &NumberOption) -> Result<u32, SettingsError>
         ensures { IfOk result (λ n. (option.now.least ≤ n) × (n ≤ option.now.most)) }
     {
         let number = match self.first(option.name) {
@@ -97,7 +97,7 @@ impl Given {
             _ => Err(
                 self.line.refused(
                     self.alloc,
-                    WordsErrorKind::ValueValidation,
+                    ClapErrorKind::ValueValidation,
                     "the number is not in its range",
                 ),
             ),
@@ -108,8 +108,8 @@ impl Given {
     ///
     /// # Errors
     ///
-    /// [`WordsError::Memory`] if the host has too little memory for it.
-    pub fn text(&self, name: &str) -> Result<Option<String>, WordsError> {
+    /// [`SettingsError::Memory`] if the host has too little memory for it.
+    pub fn text(&self, name: &str) -> Result<Option<String>, SettingsError> {
         match self.first(name) {
             Some(text) => Ok(Some(String::from_str(self.alloc, text)?)),
             None => Ok(None),
@@ -128,9 +128,9 @@ impl Given {
     ///
     /// # Errors
     ///
-    /// [`WordsError::Words`] if there is none, and [`WordsError::Memory`] if the host has too little memory for the
+    /// [`SettingsError::Words`] if there is none, and [`SettingsError::Memory`] if the host has too little memory for the
     /// paths.
-    pub fn files(&self) -> Result<Vec<String>, WordsError>
+    pub fn files(&self) -> Result<Vec<String>, SettingsError>
         ensures { IfOk result (λ paths. 0 < vec_len paths) }
     {
         let paths = copies(self.alloc, self.texts(FILE))?;
@@ -138,7 +138,7 @@ impl Given {
             return Err(
                 self.line.refused(
                     self.alloc,
-                    WordsErrorKind::MissingRequiredArgument,
+                    ClapErrorKind::MissingRequiredArgument,
                     "no FILE is given",
                 ),
             );
@@ -151,7 +151,7 @@ impl Given {
 ///
 /// # Errors
 ///
-/// [`WordsError::Words`] if a word isn't UTF-8, and [`WordsError::NoWords`] if the host has too little memory for the
+/// [`SettingsError::Words`] if a word isn't UTF-8, and [`WordsError::NoWords`] if the host has too little memory for the
 /// words.
 pub fn host_words<R: Env + AllocGlobal>(
     rt: &R,
@@ -159,11 +159,14 @@ pub fn host_words<R: Env + AllocGlobal>(
 ) -> Result<Vec<String>, WordsError> {
     match words(rt) {
         Ok(words) => Ok(words),
-        Err(ErrorKind::InvalidData) => Err(line.refused(
-            rt.alloc(),
-            WordsErrorKind::Format,
-            "a word is not UTF-8 text",
-        )),
+        Err(ErrorKind::InvalidData) => {
+            let refusal = line.refused(
+                rt.alloc(),
+                ClapErrorKind::Format,
+                "a word is not UTF-8 text",
+            );
+            Err(WordsError::Settings(refusal))
+        }
         Err(_) => Err(WordsError::NoWords),
     }
 }
@@ -178,5 +181,5 @@ pub fn given_words<R: Env + AllocGlobal>(
     line: &'static CommandLine,
 ) -> Result<Given, WordsError> {
     let words = host_words(rt, line)?;
-    Given::read(rt.alloc(), line, words.as_slice())
+    Ok(Given::read(rt.alloc(), line, words.as_slice())?)
 }

@@ -13,7 +13,7 @@ mod options;
 mod refusal;
 mod symbols;
 
-pub use arguments::{WordsError, words};
+pub use arguments::{SettingsError, WordsError, words};
 pub use command_line::{CommandLine, CommandWord};
 pub use ending::{close_run, show_trace, status_of_exit};
 pub use failure::Failure;

@@ -4,7 +4,7 @@ ghost use Rattle.xv_run.specs.Ranges.{AreInRange};
 
 use crate::NAME;
 use crate::line::Settings;
-use program_files::{CommandLine, CommandWord, FRAMES, Given, QUANTUM, ROUNDS, TRACE, WordsError};
+use program_files::{CommandLine, CommandWord, FRAMES, Given, QUANTUM, ROUNDS, SettingsError, TRACE};
 use std::alloc::Global;
 use std::convert::AsStr;
 
@@ -53,7 +53,7 @@ pub(crate) const COMMAND_LINE: CommandLine = CommandLine {
 /// `Words` if a word is neither an option nor a FILE, if a number isn't in its range, if no FILE is given,
 /// if help is asked for, or if `clap` gets no memory: the error's text says which. `Memory` if there is no
 /// memory for what the words give.
-pub fn settings<S: AsStr>(alloc: Global, words: &[S]) -> Result<Settings, WordsError>
+pub fn settings<S: AsStr>(alloc: Global, words: &[S]) -> Result<Settings, SettingsError>
     ensures { IfOk result (λ s. AreInRange s) }
 {
     let given = Given::read(alloc, &COMMAND_LINE, words)?;

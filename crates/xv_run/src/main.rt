@@ -50,7 +50,7 @@ fn run(rt: &HostRuntime, settings: &Settings) -> u8 {
 // What the words ask for.
 fn asked(rt: &HostRuntime) -> Result<Settings, WordsError> {
     let words = host_words(rt, &COMMAND_LINE)?;
-    settings(rt.alloc(), words.as_slice())
+    Ok(settings(rt.alloc(), words.as_slice())?)
 }
 
 // Does what the words ask for.
