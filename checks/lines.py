@@ -61,7 +61,7 @@ def shown(program, folder, source, count):
     for place in range(-(-count // SHOWN)):
         asked += [f"tick {place}"] if place else []
         asked += [f"step {STEPS}", "where", f"back {STEPS + place}"]
-    told = subprocess.run([program, folder / "init.s"], input="\n".join(asked), capture_output=True, encoding="utf-8")
+    told = subprocess.run([program, "--frames", "512", folder / "init.s"], input="\n".join(asked), capture_output=True, encoding="utf-8")
     if told.returncode == 2:
         return None
     rows = {}
