@@ -55,7 +55,7 @@ def table(source):
 
 
 def shown(program, folder, source, count):
-    """What the debugger shows behind each of so many words; None if the source is refused."""
+    """What the debugger shows beside each of so many words of text; None if the source is refused."""
     (folder / "init.s").write_bytes(source.encode())
     asked = []
     for place in range(-(-count // SHOWN)):
