@@ -55,13 +55,13 @@ def table(source):
 
 
 def shown(program, folder, source, count):
-    """What the debugger shows behind each of so many words; None if the source is refused."""
+    """What the debugger shows beside each of so many words of text; None if the source is refused."""
     (folder / "init.s").write_bytes(source.encode())
     asked = []
     for place in range(-(-count // SHOWN)):
         asked += [f"tick {place}"] if place else []
         asked += [f"step {STEPS}", "where", f"back {STEPS + place}"]
-    told = subprocess.run([program, folder / "init.s"], input="\n".join(asked), capture_output=True, encoding="utf-8")
+    told = subprocess.run([program, "--frames", "512", folder / "init.s"], input="\n".join(asked), capture_output=True, encoding="utf-8")
     if told.returncode == 2:
         return None
     rows = {}
