@@ -4,7 +4,9 @@ ghost use Rattle.xv_run.specs.Ranges.{AreInRange};
 
 use crate::NAME;
 use crate::line::Settings;
-use program_files::{CommandLine, CommandWord, FRAMES, Given, QUANTUM, ROUNDS, SettingsError, TRACE};
+use program_files::{
+    CommandLine, CommandWord, FRAMES, Given, QUANTUM, ROUNDS, SettingsError, TRACE,
+};
 use std::alloc::Global;
 use std::convert::AsStr;
 
