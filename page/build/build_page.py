@@ -117,11 +117,12 @@ data = {
     "help": helps(),
 }
 sum_ = sources.sum_of(root, "--page")
+sum_of_module = "unproved" if note else sources.sum_of(root, "--module")
 parts = {
     "/*STYLE*/": text(os.path.join(here, "style.css")),
     "/*DATA*/": f"globalThis.PAGE_DATA = {packed(data)};",
     "/*SCRIPT*/": joined("main.mjs").replace("</", "<\\/"),
-    "/*BUILT*/": f"{note}Built of the sources with the sum <code>{sum_[:16]}</code>; the module has {len(read(module)):,} bytes.<!-- module {'unproved' if note else sources.sum_of(root, "--module")} --><!-- module of 64 bits {sum_of_64_bits} --><!-- sources {sum_} -->",
+    "/*BUILT*/": f"{note}Built of the sources with the sum <code>{sum_[:16]}</code>; the module has {len(read(module)):,} bytes.<!-- module {sum_of_module} --><!-- module of 64 bits {sum_of_64_bits} --><!-- sources {sum_} -->",
 }
 for mark, value in parts.items():
     assert page.count(mark) == 1, mark
