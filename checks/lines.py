@@ -5,10 +5,9 @@
 
 Each source of the repository is assembled with an end of its own: it goes to an address that the clock tells, so that each
 stretch of eight instructions can be looked at in turn. PROGRAM is the debugger under its name, xv_debugger: without it, the
-one that is proved and built, or by XV_NODE=yes the one of anywhere/. The reading here is written from docs/manual/assembler.md, "Lines" and "Instructions". Sources
+one that is proved and built, or by XV_NODE=yes the module in anywhere/. The reading here is written from docs/manual/assembler.md, "Lines" and "Instructions". Sources
 that are refused are left out.
 """
-import os
 import pathlib
 import re
 import subprocess
@@ -73,8 +72,7 @@ def shown(program, folder, source, count):
 
 
 def main():
-    folder = "anywhere/bin" if os.environ.get("XV_NODE") == "yes" else "bin"
-    program = sys.argv[1] if len(sys.argv) > 1 else TOP / folder / "xv_debugger"
+    program = sys.argv[1] if len(sys.argv) > 1 else TOP / "bin" / "xv_debugger"
     files = compared = others = 0
     with tempfile.TemporaryDirectory() as name:
         for path in sorted(TOP.glob("programs/**/*.s")) + sorted(TOP.glob("checks/**/*.s")):
