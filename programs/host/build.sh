@@ -5,6 +5,7 @@
 #   build.sh --unproved WORD..   runs xv_run as it is without proofs, which is built first if sources have changed
 #   build.sh --is-current        its status is 0 if the programs are proved and built of these sources
 #   build.sh --status            tells what is built
+#   build.sh --proved            notes that what stands built is proved of these sources: for the gate, which has just proved it
 #
 # It needs python3, and `rt`, of the Rattle kit, on the PATH. What is done stays done: --build can be stopped by Ctrl-C, and
 # goes on the next time. The status is 125 if something couldn't be built.
@@ -307,5 +308,6 @@ case ${1-} in
         ;;
     --is-current) is_current ;;
     --status) show_status ;;
-    *) give_up "build.sh takes --build, --unproved WORD.., --is-current or --status" ;;
+    --proved) are_built && built_sum >"$stamp" ;;
+    *) give_up "build.sh takes --build, --unproved WORD.., --is-current, --status or --proved" ;;
 esac
