@@ -1,8 +1,8 @@
 #!/bin/bash
 # keep.sh [--unproved] CRATE-FOLDER OUT.bc: builds a program or a static library as it is proved (for x86-64), and keeps the LLVM code
 # that clang is given. `rattle build` builds only what is proved. It runs the clang of the folder --toolchain: here that folder is
-# the kit's, but for a clang that keeps its input and then runs the kit's. The crates below are to be proved before (`rt ci`,
-# `rt all check`).
+# the kit's, but for a clang that keeps its input and then runs the kit's, without -O: nobody runs what comes of that. The crates below
+# are to be proved before (`rt ci`, `rt all check`).
 #
 # With --unproved nothing is proved: it is the code that `rt try` builds, with its own checks, larger and some five times slower,
 # for work on what stands around while proofs are open. `rt try` builds programs alone, so a library gets one that calls it.
@@ -23,7 +23,7 @@ tools() {
     cat >"$1/bin/clang" <<END
 #!/bin/sh
 for it in "\$@"; do case \$it in *.bc) cp "\$it" "$out" ;; esac; done
-exec "$kit/toolchain/bin/clang" "\$@"
+exec "$kit/toolchain/bin/clang" "\$@" -O0
 END
     chmod +x "$1/bin/clang"
 }
@@ -47,8 +47,8 @@ build_proved() {
     else
         words+=(src/lib.rt --crate-type staticlib -o "$work/lib$name.a")
     fi
-    cd "$crate" && nice "$kit/bin/rattle" build --crate-name "$name" "${words[@]}" --antt-project "$kit/rattle/logic/antt-project.json" \
-        --logic-built "$kit/logic_built" --links "$name=" --jobs 2 --incremental out/incremental --toolchain "$work/tools" --backend llvm
+    cd "$crate" && "$kit/bin/rattle" build --crate-name "$name" "${words[@]}" --antt-project "$kit/rattle/logic/antt-project.json" \
+        --logic-built "$kit/logic_built" --links "$name=" --jobs "$(nproc)" --incremental out/incremental --toolchain "$work/tools" --backend llvm
 }
 
 # A copy of the kit, whose `rt` finds the tools beside it.

@@ -1,7 +1,8 @@
 #!/bin/bash
 # modules.sh [--unproved] FOLDER NAME..: makes the WebAssembly modules of these crates, xv_run, xv_tools or xv_page, side by side: in FOLDER
 # NAME.64.wasm, with a memory of 64 bits, and, if Debian's binaryen is there, NAME.wasm, which each engine takes. The same sources
-# give the same bytes. The crates below are to be proved before; see keep.sh for --unproved.
+# give the same bytes. The largest, xv_tools, goes before the others, since it takes longest. The crates below are to be proved
+# before; see keep.sh for --unproved.
 set -eu
 here=$(dirname "$(readlink -f "$0")")
 root=$(readlink -f "$here/../..")
@@ -11,6 +12,7 @@ folder=$1 && shift
 mkdir -p "$folder"
 
 make() {
+    [ "$1" = xv_tools ] || renice -n 10 "$BASHPID" >/dev/null
     kind=(--program)
     if [ -e "$root/crates/$1/src/lib.rt" ]; then
         kind=(--library "$1_")
