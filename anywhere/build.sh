@@ -4,8 +4,8 @@
 # binaryen, version 108), and proves what isn't proved yet: up to an hour on 4 processors.
 #
 #   build.sh --compare          makes the modules, and that of the page, anew of what is proved (by `rt ci` or `./xv --build`), and
-#                               compares: so nobody has to believe who committed them. Without wasm-opt the modules are compared as
-#                               they are before it, by the sums that sources.txt and the page have.
+#                               compares: so nobody has to believe who committed them. Without wasm-opt, or by another version of
+#                               it, the modules are compared as they are before it, by the sums that sources.txt and the page have.
 #   build.sh --same-modules     only comments, contracts or proofs were changed: writes sources.txt anew. It needs python3 alone.
 #   build.sh --unproved FOLDER  makes modules in FOLDER of which nothing is proved, for work on what stands around them
 set -eu
@@ -30,12 +30,17 @@ modules() {
     done
 }
 
+# Whether wasm-opt is here, of the version whose bytes are stored.
+is_binaryen() {
+    [ "$(wasm-opt --version 2>/dev/null)" = 'wasm-opt version 108' ]
+}
+
 # Compares a module with the one that is stored: its name, the stored file, and the sum that is stored of the one of 64 bits.
 compare() {
     if [ "$(sum_of "$work/$1.64.wasm")" != "$3" ]; then
         echo "modules: the one of $1 is another than that of the proved sources"
-    elif [ -e "$work/$1.wasm" ] && ! cmp -s "$work/$1.wasm" "$2"; then
-        echo "modules: the one of $1 has other bytes: is wasm-opt of version 108? ($(wasm-opt --version))"
+    elif is_binaryen && ! cmp -s "$work/$1.wasm" "$2"; then
+        echo "modules: the one of $1 has other bytes after wasm-opt than those that are stored"
     else
         return 0
     fi
@@ -53,7 +58,7 @@ compare_all() {
     compare xv_page "$work/page.wasm" "$(sed -n 's/.*<!-- module of 64 bits \([0-9a-f]*\) -->.*/\1/p' ../page/nektavoly.html)" || failed=yes
     [ -z "$failed" ] || exit 1
     how='with their bytes'
-    command -v wasm-opt >/dev/null || how='as they are before wasm-opt, which is not here'
+    is_binaryen || how='as they are before wasm-opt, of which version 108 is not here'
     echo "modules: those of the programs and of the page are of the proved sources, $how"
 }
 
