@@ -5,8 +5,8 @@
 
 Each source of the repository is assembled with an end of its own: it goes to an address that the clock tells, so that each
 stretch of eight instructions can be looked at in turn. PROGRAM is the debugger under its name, xv_debugger: without it, the
-one that is proved and built, or by XV_NODE=yes the module in anywhere/. The reading here is written from docs/manual/assembler.md, "Lines" and "Instructions". Sources
-that are refused are left out.
+one that is proved and built, or by XV_NODE=yes the module in anywhere/. The reading here is
+written from docs/manual/assembler.md, "Lines" and "Instructions". Sources that are refused are left out.
 """
 import pathlib
 import re

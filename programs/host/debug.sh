@@ -1,5 +1,5 @@
 #!/bin/sh
-# Runs the debugger, xv_debugger, with the lines of the sources, and with a prompt if a person types.
+# Runs the debugger, xv_debugger, with the lines of programs in C, and with a prompt if a person types.
 #
 #   programs/host/debug.sh [--frames N] [--trace N] FILE..
 #

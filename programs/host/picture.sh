@@ -5,7 +5,8 @@
 #   programs/host/picture.sh [--frames N] [--rounds N] [--quantum N] FILE.. >run.svg
 #
 # What the programs write to the console goes to standard error, with the reports of why.sh. The exit status is that of
-# the run. Without words it draws the trace that standard input has. XV_WHY and XV_PICTURE are other programs than those that stand built.
+# the run. Without words it draws the trace that standard input has. XV_WHY and XV_PICTURE are other programs than those
+# that stand built.
 set -u
 root=$(dirname "$(readlink -f -- "$0")")/../..
 picture=${XV_PICTURE:-$root/bin/xv_picture}

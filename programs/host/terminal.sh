@@ -3,7 +3,7 @@
 # them). Without words it runs the shell with all programs that stand in programs/bin.
 #
 # If standard input is a terminal, it hands over each key by itself while the machine runs, and a look at it answers at
-# once. It is as it was behind every end that the script can see, also one by a signal. The lines of the sources, for the
+# once. It is as it was after every end that the script can see, also one by a signal. The lines of programs in C, for the
 # prompt, come from lines.sh. XV_TERMINAL is the program, and without it the one that is built. Status 125 says that it
 # couldn't be started.
 set -u
@@ -15,7 +15,7 @@ give_up() {
 
 top=$(dirname "$(readlink -f -- "$0")")/../..
 program=${XV_TERMINAL-$top/bin/xv_terminal}
-"$program" --help >/dev/null 2>&1 || give_up "$program doesn't start: ./xv builds it"
+"$program" --help >/dev/null 2>&1 || give_up "$program doesn't start: ./xv --build builds it"
 
 if [ $# = 0 ]; then
     for file in "$top"/programs/bin/*; do
@@ -35,7 +35,7 @@ machine=
 restore() {
     stty "$before" 2>/dev/null
 }
-# A signal ends the machine first, so that nobody changes the terminal behind it.
+# A signal ends the machine first, so that nobody changes the terminal after it.
 stop() {
     trap '' HUP INT QUIT TERM
     [ -z "$machine" ] || { kill "$machine" 2>/dev/null; wait "$machine" 2>/dev/null; }

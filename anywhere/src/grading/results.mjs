@@ -1,5 +1,6 @@
 // The results of all submissions in one file, as CSV and as JUnit's XML.
-import { readFileSync, renameSync, writeFileSync, writeSync } from "node:fs";
+import { readFileSync, renameSync, writeFileSync } from "node:fs";
+import { write_all } from "../streams.mjs";
 import { inside } from "./paths.mjs";
 
 /** The bytes of this result of a job, or null. */
@@ -29,13 +30,9 @@ export function write_results(work, jobs) {
 
 /** Writes all of it to standard output. A reader that goes away early is no fault. */
 export function show(bytes) {
-  for (let at = 0; at < bytes.length; ) {
-    try {
-      at += writeSync(1, bytes, at);
-    } catch (error) {
-      if (error.code === "EPIPE") return;
-      if (error.code !== "EAGAIN") throw error;
-      Atomics.wait(new Int32Array(new SharedArrayBuffer(4)), 0, 0, 5);
-    }
+  try {
+    write_all(1, bytes);
+  } catch (error) {
+    if (error.code !== "EPIPE") throw error;
   }
 }
