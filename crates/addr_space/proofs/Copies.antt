@@ -1,8 +1,8 @@
 -- A space is copied page by page.
-use Rattle.std.proofs.Common.{◌≡◌, ℕ, zero, suc, ◌+◌, ◌-◌, ◌*◌, ◌/◌, ◌%◌, ◌^◌, ◌<◌, ◌≤◌, Bool, true, cond, List, [], length, set, Option, Some, None, inl, inr, refl, sym, ap, ◌∙◌, subst, arith}
-use Rattle.std.proofs.lemmas.Bool.{cases_eq, le-ltb}
+use Rattle.std.proofs.Common.{◌≡◌, ℕ, zero, suc, ◌+◌, ◌-◌, ◌*◌, ◌/◌, ◌%◌, ◌^◌, ◌<◌, ◌≤◌, Bool, true, cond, List, [], length, set, Option, Some, None, refl, sym, ap, ◌∙◌, subst, arith}
+use Rattle.std.proofs.lemmas.Bool.{le-ltb}
 use Rattle.std.specs.Ordering.{nat_cmp}
-use Rattle.std.specs.FinMap.{FinMap, empty, insert, get, get-insert, same_map, nat_cmp-IsAntisymmetric}
+use Rattle.std.specs.FinMap.{FinMap, empty, insert, get, get-insert}
 use Rattle.std.specs.Cmp.{nat_cmp_total}
 use Rattle.std.proofs.lemmas.List.{get_or-set_same}
 use Rattle.xk_base.specs.Frames.{copies, Once}
@@ -25,7 +25,8 @@ use Rattle.addr_space.specs.Space.{image_of, frames_of, IsSpace, Belongs, Change
 use Rattle.sv39_core.proofs.Places.{page-owned}
 use Rattle.addr_space.proofs.Pages.{leaf-given, page-is, page-written}
 use Rattle.sv39_core.proofs.Owned.{Kept, kept-image, kept-tables, kept-pages, kept-owned}
-use Rattle.sv39_core.proofs.Gathered.{gathered-get, tie-yes, tie-no}
+use Rattle.xk_base.proofs.Gathered.{gathered-get, tie-yes}
+use Rattle.xk_base.proofs.Maps.{insert-twice}
 use Rattle.addr_space.proofs.Steps.{gathered-same}
 use Rattle.addr_space.proofs.Prices.{page-got, price-more, length-kinds}
 use Rattle.addr_space.proofs.Growing.{cost}
@@ -242,16 +243,6 @@ pub perm-is : (ram : List (List ℕ)) (f : ℕ) (p q : Rights) (a d : Bool) (byt
 unfolding perm_or
 perm-is ram f p q a d bytes e = ap (perm_or p) e
 
--- a page that is put twice
-pub put-twice : (m : FinMap nat_cmp Page) (v : ℕ) (p q : Page) → insert (insert m v p) v q ≡ insert m v q
-put-twice m v p q =
-    same_map nat_cmp_total nat_cmp-IsAntisymmetric (insert (insert m v p) v q) (insert m v q) (λ u.
-    get-insert nat_cmp_total (insert m v p) v q u ∙ (elim (cases_eq u v) [
-      | inl e ↦ ap (λ b. cond b (Some q) (get (insert m v p) u)) (tie-yes u v e) ∙ sym (ap (λ b. cond b (Some q) (get m u)) (tie-yes u v e))
-      | inr ne ↦ ap (λ b. cond b (Some q) (get (insert m v p) u)) (tie-no u v ne) ∙ get-insert nat_cmp_total m v p u
-          ∙ ap (λ b. cond b (Some p) (get m u)) (tie-no u v ne) ∙ sym (ap (λ b. cond b (Some q) (get m u)) (tie-no u v ne))
-    ]) ∙ sym (get-insert nat_cmp_total m v q u))
-
 pub set-stays : (ram ram' : List (List ℕ)) (f : ℕ) (bytes : List ℕ) → ram' ≡ set ram f bytes → OthersStay ram ram' f
 set-stays ram ram' f bytes e = subst (λ r. OthersStay ram r f) (sym e) (others_stay-set ram f bytes)
 
@@ -279,7 +270,7 @@ page-copied pool pool1 ram ram1 ram2 self child child1 v source target perm p a 
           let page_is : record { perm = p; bytes = frame_at ram2 target } ≡ page = ap (λ q. record { perm = q; bytes = frame_at ram2 target }) same
           ∙ ap (λ x. record { perm = perm; bytes = x }) new ∙ (cc) in
           w.image ∙ ap (λ i. with_page i v (record { perm = p; bytes = frame_at ram2 target })) image
-          ∙ ap (λ m. record { pages = m; size = child.size }) (put-twice (pages_of ram child.root) v (zeroed perm) (record { perm = p; bytes = frame_at ram2 target }))
+          ∙ ap (λ m. record { pages = m; size = child.size }) (insert-twice (pages_of ram child.root) v (zeroed perm) (record { perm = p; bytes = frame_at ram2 target }))
           ∙ ap (λ x. with_page (image_of ram child) v x) page_is,
     )
 

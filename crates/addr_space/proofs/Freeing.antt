@@ -20,7 +20,7 @@ use Rattle.sv39_core.specs.Tree.{page_of, page_at, pages_of, frame_of, uppers, l
 use Rattle.addr_space.specs.Space.{NoneEmpty, frames_of, Belongs, Changed, Usual}
 use Rattle.addr_space.specs.Steps.{Beside, Freed, Holds}
 use Rattle.sv39_core.proofs.Listings.{listed-same}
-use Rattle.sv39_core.proofs.Gathered.{gathered-get}
+use Rattle.xk_base.proofs.Gathered.{gathered-get}
 use Rattle.addr_space.proofs.Paths.{beside-join, beside-none, leaves-after}
 use Rattle.addr_space.proofs.Prices.{length-kinds, some-of-is}
 use Rattle.frame_list.proofs.Trades.{trade-join, given-free}

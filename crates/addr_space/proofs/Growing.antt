@@ -4,8 +4,10 @@ use Rattle.std.proofs.lemmas.Bool.{cases_lt, cases_eq}
 use Rattle.std.specs.Ordering.{nat_cmp}
 use Rattle.std.specs.FinMap.{FinMap, empty, insert, get}
 use Rattle.xk_base.specs.Image.{Page, some_below, price}
+use Rattle.xk_base.proofs.Maps.{get_other}
+use Rattle.xk_base.proofs.Options.{none_from_is_some}
 use Rattle.addr_space.specs.Changes.{add_absent, with_absent}
-use Rattle.addr_space.proofs.Prices.{price-more, some-yes, some-found, some_below-same, insert-here, insert-other, none-of-is}
+use Rattle.addr_space.proofs.Prices.{price-more, some-yes, some-found, some_below-same, insert-here}
 
 -- a page below t, of those that go into one table of each level
 abbrev pub low : FinMap nat_cmp Page → ℕ → Bool
@@ -31,7 +33,7 @@ absent-out pages first (suc n) page u out =
     let ne : u ≢ first + n = elim out [ inl lt ↦ (λ e. omega (arith, lt, e)) | inr ge ↦ (λ e. omega (arith, ge, e)) ] in
     elim (by_some (with_absent pages first n page) (first + n) page (is_some (get (with_absent pages first n page) (first + n))) refl) [
       | inl same ↦ ap (λ m. get m u) same.0 ∙ ih
-      | inr more ↦ ap (λ m. get m u) more.0 ∙ insert-other (with_absent pages first n page) (first + n) page u ne ∙ ih
+      | inr more ↦ ap (λ m. get m u) more.0 ∙ get_other (with_absent pages first n page) (first + n) page u ne ∙ ih
     ]
 
 -- among them all are there
@@ -46,7 +48,7 @@ absent-in pages first (suc n) page u ge lt =
       ]
       | inr more ↦ elim (cases_eq u (first + n)) [
         | inl e ↦ ap (λ m. is_some (get m u)) more.0 ∙ insert-here (with_absent pages first n page) (first + n) page u e
-        | inr ne ↦ ap (λ m. is_some (get m u)) more.0 ∙ ap is_some (insert-other (with_absent pages first n page) (first + n) page u ne) ∙ absent-in pages first n page u ge (omega (arith, ne))
+        | inr ne ↦ ap (λ m. is_some (get m u)) more.0 ∙ ap is_some (get_other (with_absent pages first n page) (first + n) page u ne) ∙ absent-in pages first n page u ge (omega (arith, ne))
       ]
     ]
 
@@ -118,7 +120,7 @@ next-more pages first n size page lt =
   where
     by : (b : Bool) → is_some (get pages (first + n)) ≡ b → cost (with_absent pages first n page) size ≤ cost (with_absent pages first (suc n) page) size
     by true e = omega (arith, ap (λ m. cost m size) (absent-there pages first n page e))
-    by false e = omega (arith, next-cost pages first n size page lt (none-of-is (get pages (first + n)) e))
+    by false e = omega (arith, next-cost pages first n size page lt (none_from_is_some (get pages (first + n)) e))
 
 pub later-more : (pages : FinMap nat_cmp Page) (first n k size : ℕ) (page : Page) → first + (n + k) ≤ 67108864
     → cost (with_absent pages first n page) size ≤ cost (with_absent pages first (n + k) page) size

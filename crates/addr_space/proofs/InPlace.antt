@@ -7,7 +7,7 @@ use Rattle.phys_ram.specs.Ram.{OthersStay}
 use Rattle.sv39_core.specs.declared.entry.Entry.TheVariants.{Leaf}
 use Rattle.sv39_core.specs.Sv39.{page_entry, is_canonical, allowed, walked}
 use Rattle.sv39_core.specs.Tree.{frame_of, owned, page_at, pages_of}
-use Rattle.sv39_core.proofs.Gathered.{gathered-get}
+use Rattle.xk_base.proofs.Gathered.{gathered-get}
 use Rattle.sv39_core.proofs.Places.{page-owned}
 use Rattle.std.proofs.lemmas.Bool.{cases_lt, le-ltb}
 use Rattle.std.proofs.Common.{inl, inr}

@@ -17,7 +17,7 @@ use Rattle.xk_base.specs.Image.{Page, with_page}
 use Rattle.sv39_core.specs.Tree.{page_of, page_at, pages_of, frame_of, uppers, lowers, page_frames, owned, IsTree}
 use Rattle.addr_space.specs.Space.{image_of, frames_of, IsSpace, Belongs, Changed, Usual}
 use Rattle.sv39_core.proofs.Listings.{listed-same}
-use Rattle.sv39_core.proofs.Places.{one-place, page-place, page-owned, page-apart, table-owned, copies-owned, spot-of}
+use Rattle.sv39_core.proofs.Places.{page-place, page-owned, page-apart, table-owned, spot-of, one-page}
 use Rattle.sv39_core.proofs.Owned.{page_of-same}
 use Rattle.addr_space.proofs.Steps.{gathered-insert, table-write-image}
 use Rattle.sv39_core.proofs.Tree.{leaf-tables, leaf-here, leaf-others}
@@ -99,12 +99,6 @@ changed-same pool ram ram' space g b s stay own =
       };
     }
 
--- two pages have two frames
-page-one : (ram : List (List ℕ)) (root u v f : ℕ) → IsTree ram root → frame_of (page_entry ram root u) ≡ Some f → frame_of (page_entry ram root v) ≡ Some f → u ≡ v
-unfolding page_frames
-page-one ram root u v f tree e d =
-    one-place (λ x. frame_of (page_entry ram root x)) (2 ^ 26) u v f (page-place ram root u f tree e) (page-place ram root v f tree d) e d (omega (arith, tree.once.once f, copies-owned f ram root))
-
 pub record Written (pool : Pool) (ram ram' : List (List ℕ)) (space : Space) (v : ℕ) (page : Page) : Type 0 where
   pub changed : Changed pool ram space pool ram' space
   pub image : image_of ram' space ≡ with_page (image_of ram space) v page
@@ -136,7 +130,7 @@ bytes-image ram ram' space v g perm a d is leaf stay =
     let here : page_at ram' root v ≡ Some (record { perm = perm; bytes = frame_at ram' g }) = ap (page_of ram') (entries v ∙ leaf)
     ∙ ap (λ p. Some (record { perm = p; bytes = frame_at ram' g })) (leaf-given ram space v g perm a d is leaf) in
     let others : (u : ℕ) → u ≢ v → page_at ram' root u ≡ page_at ram root u = λ u ne. ap (page_of ram') (entries u)
-    ∙ page_of-same ram ram' (page_entry ram root u) (λ f e. stay.others f (λ h. ne (page-one ram root u v g is.tree (e ∙ ap Some h) there))) in
+    ∙ page_of-same ram ram' (page_entry ram root u) (λ f e. stay.others f (λ h. ne (one-page ram root u v g is.tree (e ∙ ap Some h) there))) in
     ap (λ m. record { pages = m; size = space.size }) (gathered-insert (page_at ram root) (page_at ram' root) (2 ^ 26) v
     (record { perm = perm; bytes = frame_at ram' g }) (page-place ram root v g is.tree there) here others)
 

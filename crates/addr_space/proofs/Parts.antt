@@ -5,6 +5,7 @@ use Rattle.std.specs.FinMap.{get}
 use Rattle.std.proofs.Math.Seq.{take-add}
 use Rattle.std.proofs.lemmas.List.{length-replicate, length-take-le, length-drop, get_or-take, get_or-drop, append-nil, append_assoc}
 use Rattle.std.proofs.lemmas.List.FromFn.{fill_by_all, length-map-range_with_len, get_or-map-range_with_len, map-range_with_len_more}
+use Rattle.std.proofs.Math.Nat.{add-zero}
 use Rattle.xk_base.specs.Image.{Page, Image}
 use Rattle.xk_base.specs.Bytes.{byte_in, image_byte, image_bytes, write_image}
 use Rattle.xk_base.proofs.Bytes.{write_image-append}
@@ -48,10 +49,7 @@ suc-one m = omega arith
 
 -- bytes behind bytes
 pub image_bytes-append : (i : Image) (a d n : ℕ) → image_bytes i a (d + n) ≡ image_bytes i a d ++ image_bytes i (a + d) n
-image_bytes-append i a d zero = ap (image_bytes i a) (none d) ∙ sym (append-nil (image_bytes i a d))
-  where
-    none : (d : ℕ) → d + 0 ≡ d
-    none d = omega arith
+image_bytes-append i a d zero = ap (image_bytes i a) (add-zero d) ∙ sym (append-nil (image_bytes i a d))
 image_bytes-append i a d (suc m) =
     let f : ℕ → ℕ = image_byte i in
     ap (image_bytes i a) (plus-suc d m) ∙ map-range_with_len_more f a (d + m) (a + d + m) (omega arith)

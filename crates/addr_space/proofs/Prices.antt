@@ -15,7 +15,9 @@ use Rattle.xk_base.specs.Image.{Page, some_below, groups, price}
 use Rattle.sv39_core.specs.Tree.{page_of, page_at, pages_of, frame_of, uppers, lowers, page_frames, owned, IsTree}
 use Rattle.addr_space.specs.Steps.{missing, rise}
 use Rattle.addr_space.specs.Space.{NoneEmpty}
-use Rattle.sv39_core.proofs.Gathered.{gathered-get, tie-yes, tie-no}
+use Rattle.xk_base.proofs.Gathered.{gathered-get, tie-yes}
+use Rattle.xk_base.proofs.Maps.{get_other}
+use Rattle.xk_base.proofs.Options.{none_from_is_some}
 use Rattle.sv39_core.proofs.Places.{page-place, below-some}
 
 -- the count, with the bound first
@@ -180,10 +182,6 @@ pages-count ram root =
     ∙ how_many-same (2 ^ 26) (λ v. is_some (frame_of (page_entry ram root v))) (λ v. is_some (page_at ram root v))
     (λ v lt. sym (same-page ram (page_entry ram root v))) ∙ sym (len-gathered (page_at ram root) (2 ^ 26))
 
-pub none-of-is : {X : Type 0} (o : Option X) → is_some o ≡ false → o ≡ None
-none-of-is None e = refl
-none-of-is (Some f) e = absurd (false≢true (sym e))
-
 -- where all pages are counted below a place, none is left from there on
 pub page-end : (ram : List (List ℕ)) (root from : ℕ) → from ≤ 67108864
     → length (page_frames ram root) ≡ how_many from (λ v. is_some (frame_of (page_entry ram root v))) → (u : ℕ) → from ≤ u → u < 67108864
@@ -192,7 +190,7 @@ unfolding page_frames
 page-end ram root from inside all u ge lt =
     let end : from + (67108864 - from) ≡ 67108864 = omega (arith, inside) in
     let counted = length-listed (λ v. frame_of (page_entry ram root v)) (2 ^ 26) in
-    none-of-is (frame_of (page_entry ram root u))
+    none_from_is_some (frame_of (page_entry ram root u))
     (how_many-end from (67108864 - from) (λ v. is_some (frame_of (page_entry ram root v)))
     (ap (λ n. how_many n (λ v. is_some (frame_of (page_entry ram root v)))) end ∙ sym counted ∙ all) u ge (omega (arith, lt, end)))
 
@@ -253,9 +251,6 @@ some_below-same (suc n) p q h =
 pub insert-here : (pages : FinMap nat_cmp Page) (v : ℕ) (page : Page) (u : ℕ) → u ≡ v → is_some (get (insert pages v page) u) ≡ true
 insert-here pages v page u e = ap is_some (get-insert nat_cmp_total pages v page u ∙ ap (λ b. cond b (Some page) (get pages u)) (tie-yes u v e))
 
-pub insert-other : (pages : FinMap nat_cmp Page) (v : ℕ) (page : Page) (u : ℕ) → u ≢ v → get (insert pages v page) u ≡ get pages u
-insert-other pages v page u ne = get-insert nat_cmp_total pages v page u ∙ ap (λ b. cond b (Some page) (get pages u)) (tie-no u v ne)
-
 -- a page more, in a group of its own or in one that was there
 groups-more : (pages : FinMap nat_cmp Page) (n m v t0 k0 : ℕ) (page : Page) → t0 < n → k0 < m → m * t0 + k0 ≡ v → ((t k : ℕ) → k < m → m * t + k ≡ v → t ≡ t0)
     → groups (insert pages v page) n m ≡ groups pages n m + cond (some_below m (λ k. is_some (get pages (m * t0 + k)))) 0 1
@@ -263,7 +258,7 @@ groups-more pages n m v t0 k0 page lt klt at apart =
     how_many-more n (λ t. some_below m (λ k. is_some (get pages (m * t + k)))) (λ t. some_below m (λ k. is_some (get (insert pages v page) (m * t + k)))) t0 lt
     (some-yes m (λ k. is_some (get (insert pages v page) (m * t0 + k))) k0 klt (insert-here pages v page (m * t0 + k0) at))
     (λ t tlt ne. some_below-same m (λ k. is_some (get (insert pages v page) (m * t + k))) (λ k. is_some (get pages (m * t + k)))
-    (λ k h. ap is_some (insert-other pages v page (m * t + k) (λ is. ne (apart t k h is)))))
+    (λ k h. ap is_some (get_other pages v page (m * t + k) (λ is. ne (apart t k h is)))))
 
 -- what a page more costs
 pub price-more : (pages : FinMap nat_cmp Page) (size v : ℕ) (page : Page) → v < 67108864 → get pages v ≡ None

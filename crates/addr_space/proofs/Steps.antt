@@ -12,7 +12,7 @@ use Rattle.frame_list.specs.Traded.{Taken}
 use Rattle.frame_list.proofs.FreeList.{free_in-written, Good-written}
 use Rattle.frame_list.proofs.Trades.{taken-free}
 use Rattle.addr_space.proofs.Half.{Half, half-kept, half-written, not-root}
-use Rattle.sv39_core.proofs.Gathered.{gathered-get, tie-yes, tie-no}
+use Rattle.xk_base.proofs.Gathered.{gathered-get, tie-yes, tie-no}
 use Rattle.sv39_core.specs.declared.entry.Entry.{Entry}
 use Rattle.sv39_core.specs.declared.entry.Entry.TheVariants.{Invalid, Table, Leaf}
 use Rattle.sv39_core.specs.Sv39.{entry_of, table_of, table_at, page_entry, leaf_word, table_word}

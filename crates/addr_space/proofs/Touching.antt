@@ -14,13 +14,13 @@ use Rattle.phys_ram.specs.Ram.{zero_frame}
 use Rattle.xk_base.specs.declared.access.Rights.{Rights}
 use Rattle.xk_base.specs.Image.{Page, Image, with_page}
 use Rattle.sv39_core.specs.Tree.{pages_of, page_at}
-use Rattle.sv39_core.proofs.Gathered.{gathered-get, tie-yes}
+use Rattle.xk_base.proofs.Gathered.{gathered-get, tie-yes}
+use Rattle.xk_base.proofs.Maps.{get_other, get_same}
 use Rattle.addr_space.specs.declared.Space.{Space}
 use Rattle.addr_space.specs.Changes.{zeroed, with_absent, filled, perm_of_page}
 use Rattle.addr_space.specs.Absent.{is_absent, is_among, pages_at, bring, brought, all_pages, whole}
 use Rattle.addr_space.specs.Space.{image_of}
 use Rattle.addr_space.proofs.Growing.{absent-out}
-use Rattle.addr_space.proofs.Prices.{insert-other}
 
 -- a page that comes
 abbrev zeros : Page
@@ -82,7 +82,7 @@ kept-step : (pages m : FinMap nat_cmp Page) (v : ℕ) (page : Page) (u : ℕ) (b
 kept-step pages m v page u true e before there = ap (λ b. get (cond b m (insert m v page)) u) e ∙ before
 kept-step pages m v page u false e before there = ap (λ b. get (cond b m (insert m v page)) u) e ∙ elim (cases_eq u v) [
   | inl same ↦ absurd (false≢true (sym e ∙ ap (λ x. is_some (get m x)) (sym same) ∙ ap is_some before ∙ there))
-  | inr ne ↦ insert-other m v page u ne ∙ before
+  | inr ne ↦ get_other m v page u ne ∙ before
 ]
 
 -- a page that was there stays
@@ -94,7 +94,7 @@ kept pages first (suc n) page u there = kept-step pages (with_absent pages first
 
 came-step : (m : FinMap nat_cmp Page) (v : ℕ) (page : Page) (u : ℕ) (b : Bool) → is_some (get m v) ≡ b → u ≢ v → get m u ≡ Some page → get (cond (is_some (get m v)) m (insert m v page)) u ≡ Some page
 came-step m v page u true e ne before = ap (λ b. get (cond b m (insert m v page)) u) e ∙ before
-came-step m v page u false e ne before = ap (λ b. get (cond b m (insert m v page)) u) e ∙ insert-other m v page u ne ∙ before
+came-step m v page u false e ne before = ap (λ b. get (cond b m (insert m v page)) u) e ∙ get_other m v page u ne ∙ before
 
 came-here : (m : FinMap nat_cmp Page) (v : ℕ) (page : Page) (u : ℕ) → u ≡ v → get m v ≡ None → get (cond (is_some (get m v)) m (insert m v page)) u ≡ Some page
 came-here m v page u same none = ap (λ o. get (cond (is_some o) m (insert m v page)) u) none ∙ get-insert nat_cmp_total m v page u ∙ ap (λ b. cond b (Some page) (get m u)) (tie-yes u v same)
@@ -120,9 +120,6 @@ brought-size (p ∷ ps) i = by (is_absent (brought ps i) p) ∙ brought-size ps 
     by true = refl
     by false = refl
 
-put : (pages : FinMap nat_cmp Page) (v : ℕ) (page : Page) → get (insert pages v page) v ≡ Some page
-put pages v page = get-insert nat_cmp_total pages v page v ∙ ap (λ b. cond b (Some page) (get pages v)) (tie-yes v v refl)
-
 -- page u after page v was brought
 brings : (i : Image) (v u : ℕ) (b : Bool) → is_absent i v ≡ b → get (bring v i).pages u ≡ get (cond b (with_page i v zeros) i).pages u
 brings i v u b is = ap (λ b. get (cond b (with_page i v zeros) i).pages u) is
@@ -131,14 +128,14 @@ brings-other : (i : Image) (v u : ℕ) → u ≢ v → get (bring v i).pages u �
 brings-other i v u ne = by (is_absent i v) refl
   where
     by : (b : Bool) → is_absent i v ≡ b → get (bring v i).pages u ≡ get i.pages u
-    by true e = brings i v u true e ∙ insert-other i.pages v zeros u ne
+    by true e = brings i v u true e ∙ get_other i.pages v zeros u ne
     by false e = brings i v u false e
 
 brings-here : (i : Image) (v : ℕ) → get (bring v i).pages v ≡ cond (is_absent i v) (Some zeros) (get i.pages v)
 brings-here i v = by (is_absent i v) refl
   where
     by : (b : Bool) → is_absent i v ≡ b → get (bring v i).pages v ≡ cond (is_absent i v) (Some zeros) (get i.pages v)
-    by true e = brings i v v true e ∙ put i.pages v zeros ∙ sym (ap (λ b. cond b (Some zeros) (get i.pages v)) e)
+    by true e = brings i v v true e ∙ get_same i.pages v zeros ∙ sym (ap (λ b. cond b (Some zeros) (get i.pages v)) e)
     by false e = brings i v v false e ∙ sym (ap (λ b. cond b (Some zeros) (get i.pages v)) e)
 
 -- page v after a touch: zeros, where it is chosen and absent; else as it was

@@ -1,7 +1,8 @@
 -- Where accesses lead after a change of the tables: only the last entry on the way to a page tells.
-use Rattle.std.proofs.Common.{◌≡◌, ℕ, ◌-◌, ◌*◌, ◌/◌, ◌%◌, ◌^◌, ◌<◌, ◌≤◌, min, ◌⊎◌, eqb, Bool, true, false, cond, List, Option, Some, None, inl, inr, refl, sym, ap, ◌∙◌, subst, arith}
+use Rattle.std.proofs.Common.{◌≡◌, ℕ, ◌-◌, ◌*◌, ◌/◌, ◌%◌, ◌^◌, ◌<◌, ◌≤◌, min, ◌⊎◌, eqb, false, cond, List, Some, None, inl, inr, refl, sym, ap, ◌∙◌, subst, arith}
 use Rattle.std.proofs.lemmas.Bool.{cases_eq, cases_lt, ne_eqb}
 use Rattle.xk_base.specs.declared.access.Access.{Access}
+use Rattle.xk_base.proofs.Options.{none_either_way}
 use Rattle.sv39_core.specs.declared.entry.Entry.{Entry}
 use Rattle.sv39_core.specs.declared.entry.Entry.TheVariants.{Invalid, Table, Leaf}
 use Rattle.sv39_core.specs.Sv39.{is_canonical, allowed, page_entry, walked}
@@ -23,16 +24,12 @@ walk-same ram ram' root va access same = ap (λ e. cond (is_canonical va) (allow
 -- no access reaches a page that isn't there
 walk-none : (ram : List (List ℕ)) (root va : ℕ) (access : Access) → page_at ram root (va / 4096 % 134217728) ≡ None → walked ram root va access ≡ None
 unfolding walked
-walk-none ram root va access none = either (is_canonical va) (allowed access (page_entry ram root (va / 4096 % 134217728)) (va % 4096)) (by (page_entry ram root (va / 4096 % 134217728)) none)
+walk-none ram root va access none = none_either_way (is_canonical va) (allowed access (page_entry ram root (va / 4096 % 134217728)) (va % 4096)) (by (page_entry ram root (va / 4096 % 134217728)) none)
   where
     by : (e : Entry) → page_of ram e ≡ None → allowed access e (va % 4096) ≡ None
     by Invalid h = refl
     by (Table f) h = refl
     by (Leaf f p a d) h = absurd (cc)
-
-    either : (b : Bool) (o : Option (ℕ × ℕ)) → o ≡ None → cond b o None ≡ None
-    either true o e = e
-    either false o e = refl
 
 -- a page comes where there was none
 pub page-more-stays : (ram ram' : List (List ℕ)) (root v : ℕ) → page_at ram root v ≡ None → Beside ram ram' root v → TranslationsStay ram ram' root

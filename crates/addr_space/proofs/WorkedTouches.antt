@@ -6,7 +6,7 @@ use Rattle.std.specs.Cmp.{nat_cmp_total}
 use Rattle.std.specs.FinMap.{FinMap, empty, insert, get, get-empty, get-insert}
 use Rattle.xk_base.specs.Image.{Page, Image, with_page}
 use Rattle.phys_ram.specs.Ram.{zero_frame}
-use Rattle.sv39_core.proofs.Gathered.{tie-yes}
+use Rattle.xk_base.proofs.Gathered.{tie-yes}
 use Rattle.addr_space.specs.Absent.{is_absent, grown_lazily, pages_at, brought, whole}
 use Rattle.addr_space.proofs.Touching.{brought-size, brought-get, whole-get}
 

@@ -1,13 +1,14 @@
 -- The segments of a file that isn't refused fit one behind another.
-use Rattle.std.proofs.Common.{◌≡◌, ℕ, zero, suc, ◌+◌, ◌%◌, ◌<◌, ◌≤◌, Bool, true, false, not, ltb, eqb, ◌&&◌, ◌||◌, if◌then◌else◌, List, ◌∷◌, length, Option, Some, None, Ok, refl, subst, arith}
+use Rattle.std.proofs.Common.{◌≡◌, ℕ, zero, suc, ◌+◌, ◌%◌, ◌<◌, ◌≤◌, Bool, true, false, not, ltb, eqb, ◌&&◌, ◌||◌, if◌then◌else◌, List, ◌∷◌, length, None, refl, arith, Option, Some, Ok, subst}
 use Rattle.std.proofs.lemmas.Bool.{or_parts, and_parts, ltb-false, false≢true}
 use Rattle.xk_base.specs.declared.limits.TheConstants.{SIZE_LIMIT}
 use Rattle.xk_base.specs.declared.program.Header.{Header}
 use Rattle.xk_base.specs.declared.program.ProgramHeader.{ProgramHeader}
-use Rattle.xk_base.specs.declared.program.Segment.{Segment}
 use Rattle.xk_base.specs.Words.{least_below}
-use Rattle.xk_base.specs.ProgramFile.{page_up, is_bad, is_load, is_loaded, is_refused, is_refused_after, place, program_header_at, size_before, segment, segments_from, segments_of, unless_refused, Fit}
+use Rattle.xk_base.specs.ProgramFile.{page_up, is_bad, is_load, is_loaded, is_refused, is_refused_after, place, program_header_at, size_before, segment, segments_from, Fit, segments_of}
+use Rattle.xk_base.specs.ProgramFile.{unless_refused}
 use Rattle.xk_base.proofs.Least.{none_below}
+use Rattle.xk_base.specs.declared.program.Segment.{Segment}
 
 right_false : (a b : Bool) → a ≡ true → (a && b) ≡ false → b ≡ false
 right_false true b h e = e

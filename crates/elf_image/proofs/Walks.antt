@@ -3,15 +3,12 @@ use Rattle.std.proofs.Common.{◌≡◌, ℕ, suc, ◌+◌, ◌-◌, ◌<◌, Bo
 use Rattle.xk_base.specs.declared.program.Header.{Header}
 use Rattle.xk_base.specs.declared.program.ProgramHeader.{ProgramHeader}
 use Rattle.xk_base.specs.ProgramFile.{is_refused, is_refused_after, size_before, segments_from, program_header_at, is_loaded, segment}
-
--- where the segments before the next header end
-pub size_before-next : (file : List ℕ) (f : Header) (i : ℕ)
-    → size_before file f (i + 1) ≡ cond (is_loaded (program_header_at file f i)) ((program_header_at file f i).vaddr + (program_header_at file f i).memsz) (size_before file f i)
-size_before-next file f i = rw add-one refl
+use Rattle.xk_base.proofs.Options.{some_chosen}
 
 -- one header, and the others after it
 segments_from-step : (file : List ℕ) (f : Header) (i n : ℕ) → i < n
-    → segments_from file f i (n - i) ≡ cond (is_loaded (program_header_at file f i)) (segment (program_header_at file f i) ∷ segments_from file f (i + 1) (n - (i + 1))) (segments_from file f (i + 1) (n - (i + 1)))
+    → segments_from file f i (n - i) ≡ cond (is_loaded (program_header_at file f i))
+    (segment (program_header_at file f i) ∷ segments_from file f (i + 1) (n - (i + 1))) (segments_from file f (i + 1) (n - (i + 1)))
 segments_from-step file f i n lt =
     let e : n - i ≡ suc (n - (i + 1)) = omega arith in
     let a : i + 1 ≡ suc i = add-one i in
@@ -31,10 +28,6 @@ pub segments_from-skipped : (file : List ℕ) (f : Header) (i n : ℕ) (h : Prog
 segments_from-skipped file f i n h lt is skipped =
     segments_from-step file f i n lt
     ∙ ap (λ b. cond b (segment (program_header_at file f i) ∷ segments_from file f (i + 1) (n - (i + 1))) (segments_from file f (i + 1) (n - (i + 1)))) (ap is_loaded (sym is) ∙ skipped)
-
-some_chosen : {A : Type 0} (b : Bool) (x : A) → cond b None (Some x) ≡ None → b ≡ true
-some_chosen true x e = refl
-some_chosen false x e = cc
 
 other_chosen : {A : Type 0} (b : Bool) (x y : A) → cond b None (Some x) ≡ Some y → b ≡ false
 other_chosen true x y e = cc

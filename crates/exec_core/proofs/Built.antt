@@ -20,6 +20,7 @@ use Rattle.exec_core.specs.Building.{with_segment, with_segments, protected_in, 
 use Rattle.exec_core.proofs.Images.{cond-lt, cond-ge, get-image_by, image-same, perm_grown, grown-by, without_user, perm_protected, protected-by, over-above, written-by}
 use Rattle.exec_core.proofs.Prices.{price-by}
 use Rattle.xk_base.specs.Access.{data_rights}
+use Rattle.xk_base.proofs.Laid.{lowest-le}
 
 -- the image with the first stack
 abbrev pub with_first_stack : Image → ℕ → List (List ℕ) → Image
@@ -180,10 +181,6 @@ laid-stack image segments n v byte h is =
     (λ u lt. same-page segments n v u is (omega (arith, lt)))
 
 -- ---- the first stack
-
-pub lowest-le : (texts : List (List ℕ)) (top : ℕ) → lowest top (text_places top texts) ≤ top
-lowest-le [] top = omega arith
-lowest-le (text ∷ later) top = omega (arith, lowest-le later (down top (length text + 1)))
 
 pub laid-texts : (texts : List (List ℕ)) (image : Image) (n top : ℕ) (perm : ℕ → Option Rights) (byte : ℕ → ℕ) → Laid image n perm byte → top ≤ n → 0 < lowest top (text_places top texts)
     → Laid (with_texts image top texts) n perm (texts_over top texts byte)

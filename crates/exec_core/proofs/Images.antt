@@ -3,19 +3,20 @@ use Rattle.std.proofs.Common.{◌≡◌, ◌≢◌, ℕ, zero, suc, ◌+◌, ◌
 use Rattle.std.proofs.Common.{◌&&◌, List, [], ◌∷◌, length, map, replicate, set, get_or, Option, Some, None, inl, inr, refl, sym, ap, ◌∙◌, arith}
 use Rattle.std.specs.Option.{option_map}
 use Rattle.std.specs.List.{range_with_len}
-use Rattle.std.proofs.lemmas.Bool.{cases_lt, cases_eq, lt-leb, eq-eqb, le-leb, le-ltb, lt-ltb, ne_eqb}
+use Rattle.std.proofs.lemmas.Bool.{cases_lt, cases_eq, eq-eqb, le-ltb, lt-ltb, ne_eqb}
 use Rattle.std.specs.Ordering.{nat_cmp}
-use Rattle.std.specs.FinMap.{FinMap, insert, get, get-insert, same_map, nat_cmp-IsAntisymmetric}
+use Rattle.std.specs.FinMap.{FinMap, get, same_map, nat_cmp-IsAntisymmetric}
 use Rattle.std.specs.Cmp.{nat_cmp_total}
 use Rattle.xk_base.specs.declared.access.Rights.{Rights}
 use Rattle.xk_base.specs.Image.{Page, Image, with_page, page_count}
 use Rattle.xk_base.specs.Bytes.{put_in, put_byte, write_image}
 use Rattle.xk_base.specs.Loaded.{over, addresses, page_by, image_by}
 use Rattle.phys_ram.specs.Ram.{zero_frame}
-use Rattle.sv39_core.proofs.Gathered.{gathered-get, tie-yes}
+use Rattle.xk_base.proofs.Gathered.{gathered-get}
+use Rattle.xk_base.proofs.Laid.{over-in, over-below}
+use Rattle.xk_base.proofs.Maps.{get_other, get_here}
 use Rattle.addr_space.specs.Changes.{zeroed, with_absent, grown}
 use Rattle.addr_space.proofs.Growing.{absent-out, absent-new}
-use Rattle.addr_space.proofs.Prices.{insert-other}
 use Rattle.exec_core.specs.Building.{protected_in}
 
 pub cond-lt : {X : Type 0} (a b : ℕ) (x y : X) → a < b → cond (ltb a b) x y ≡ x
@@ -84,17 +85,14 @@ image-same perm perm' f g n rights bytes = same-image (image_by perm f n) (image
 
 -- ---- growth
 
-insert-here : (m : FinMap nat_cmp Page) (v : ℕ) (page : Page) (u : ℕ) → u ≡ v → get (insert m v page) u ≡ Some page
-insert-here m v page u e = get-insert nat_cmp_total m v page u ∙ ap (λ b. cond b (Some page) (get m u)) (tie-yes u v e)
-
 absent-value : (pages : FinMap nat_cmp Page) (first n : ℕ) (page : Page) (u : ℕ) → ((w : ℕ) → first ≤ w → get pages w ≡ None) → first ≤ u
     → u < first + n → get (with_absent pages first n page) u ≡ Some page
 absent-value pages first zero page u none lo hi = absurd (omega (arith, lo, hi))
 absent-value pages first (suc n) page u none lo hi =
     ap (λ m. get m u) (absent-new pages first n page (none (first + n) (omega arith)))
     ∙ (elim (cases_eq u (first + n)) [
-      | inl e ↦ insert-here (with_absent pages first n page) (first + n) page u e
-      | inr ne ↦ insert-other (with_absent pages first n page) (first + n) page u ne ∙ absent-value pages first n page u none lo (omega (arith, hi, ne))
+      | inl e ↦ get_here (with_absent pages first n page) (first + n) page u e
+      | inr ne ↦ get_other (with_absent pages first n page) (first + n) page u ne ∙ absent-value pages first n page u none lo (omega (arith, hi, ne))
     ])
 
 -- the rights after a growth: the first m pages stay, the others are new
@@ -143,11 +141,11 @@ protected-by perm byte n w p lt is =
     ap (protected_in i w) there
     ∙ same-image (with_page i w page) (image_by (perm_protected w perm) byte n) refl (λ v. (elim (cases_eq v w) [
       | inl e ↦
-          insert-here i.pages w page v e ∙ ap (λ u. Some (page_by byte u (without_user p))) (sym e)
+          get_here i.pages w page v e ∙ ap (λ u. Some (page_by byte u (without_user p))) (sym e)
           ∙ ap (option_map (page_by byte v)) (sym (ap (λ b. cond b (option_map without_user (perm v)) (perm v)) (eq-eqb v w e) ∙ ap (option_map without_user) (ap perm e ∙ is)))
           ∙ sym (cond-lt v (page_count n) (option_map (page_by byte v) (perm_protected w perm v)) None (omega (arith, e, lt)))
       | inr ne ↦
-          insert-other i.pages w page v ne ∙ get-image_by perm byte n v
+          get_other i.pages w page v ne ∙ get-image_by perm byte n v
           ∙ ap (λ o. cond (ltb v (page_count n)) (option_map (page_by byte v) o) None) (sym (ap (λ b. cond b (option_map without_user (perm v)) (perm v)) (ne_eqb v w ne)))
     ]) ∙ sym (get-image_by (perm_protected w perm) byte n v))
 
@@ -190,19 +188,12 @@ put-by perm byte n a b (Some p) lt is =
     ap (λ q. put_in i w q o b) there
     ∙ same-image (with_page i w page) (image_by perm (put_at a b byte) n) refl (λ v. (elim (cases_eq v w) [
       | inl e ↦
-          insert-here i.pages w page v e ∙ ap Some new ∙ ap (λ u. Some (page_by (put_at a b byte) u p)) (sym e)
+          get_here i.pages w page v e ∙ ap Some new ∙ ap (λ u. Some (page_by (put_at a b byte) u p)) (sym e)
           ∙ ap (option_map (page_by (put_at a b byte) v)) (sym (ap perm e ∙ is))
           ∙ sym (cond-lt v (page_count n) (option_map (page_by (put_at a b byte) v) (perm v)) None (omega (arith, e, lt)))
       | inr ne ↦
-          insert-other i.pages w page v ne ∙ get-image_by perm byte n v ∙ ap (λ q. cond (ltb v (page_count n)) q None) (page-other a b byte v (perm v) ne)
+          get_other i.pages w page v ne ∙ get-image_by perm byte n v ∙ ap (λ q. cond (ltb v (page_count n)) q None) (page-other a b byte v (perm v) ne)
     ]) ∙ sym (get-image_by perm (put_at a b byte) n v))
-
-over-in : (s : ℕ) (bytes : List ℕ) (byte : ℕ → ℕ) (a : ℕ) → s ≤ a → a < s + length bytes → over s bytes byte a ≡ get_or bytes (a - s) 0
-over-in s bytes byte a lo hi = ap (λ t. cond (t && ltb a (s + length bytes)) (get_or bytes (a - s) 0) (byte a)) (le-leb s a lo)
-    ∙ ap (λ t. cond (true && t) (get_or bytes (a - s) 0) (byte a)) (lt-ltb a (s + length bytes) hi)
-
-over-below : (s : ℕ) (bytes : List ℕ) (byte : ℕ → ℕ) (a : ℕ) → a < s → over s bytes byte a ≡ byte a
-over-below s bytes byte a lo = ap (λ t. cond (t && ltb a (s + length bytes)) (get_or bytes (a - s) 0) (byte a)) (lt-leb s a lo)
 
 pub over-above : (s : ℕ) (bytes : List ℕ) (byte : ℕ → ℕ) (a : ℕ) → s + length bytes ≤ a → over s bytes byte a ≡ byte a
 over-above s bytes byte a h = ap (λ t. cond (leb s a && t) (get_or bytes (a - s) 0) (byte a)) (le-ltb a (s + length bytes) h) ∙ no (leb s a)

@@ -10,7 +10,7 @@ use Rattle.xk_base.specs.Words.{count_below}
 use Rattle.xk_base.specs.Gathered.{gathered, insert_some}
 use Rattle.xk_base.specs.Image.{Page, some_below, groups, price, page_count}
 use Rattle.xk_base.specs.Loaded.{page_by, image_by}
-use Rattle.sv39_core.proofs.Gathered.{gathered-get}
+use Rattle.xk_base.proofs.Gathered.{gathered-get}
 use Rattle.exec_core.specs.Building.{price_first}
 use Rattle.exec_core.proofs.Images.{cond-lt, cond-ge, get-image_by}
 

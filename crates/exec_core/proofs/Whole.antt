@@ -17,9 +17,10 @@ use Rattle.addr_space.proofs.Trades.{space-price}
 use Rattle.exec_core.specs.ArgTexts.{texts_of, IsSplit, pointers_by}
 use Rattle.exec_core.specs.Building.{with_segments, with_stack, with_texts, price_first}
 use Rattle.exec_core.specs.Plans.{IsPlan}
-use Rattle.exec_core.proofs.Built.{laid-none, no-image, laid-grown, laid-price, laid-has, laid-texts, all-segments, all-stacked, lowest-le, built-is, built-price}
+use Rattle.exec_core.proofs.Built.{laid-none, no-image, laid-grown, laid-price, laid-has, laid-texts, all-segments, all-stacked, built-is, built-price}
 use Rattle.exec_core.proofs.Texts.{pointers-is}
 use Rattle.xk_base.specs.Access.{data_rights}
+use Rattle.xk_base.proofs.Laid.{lowest-le}
 
 -- the stack pointer lies in the stack page
 pub plan-some : (file : List ℕ) (segments : List Segment) (guard : ℕ) (texts : List (List ℕ)) (sp : ℕ) → IsPlan file segments guard texts sp → 0 < stack_pointer (4096 * (guard + 2)) texts

@@ -26,11 +26,6 @@ IsChain-kept ram ram' (Some f) (g ∷ gs) same is =
     let word : word_at ram' f 0 ≡ word_at ram f 0 = same f (omega (arith, copies-cons f g gs, at-same f, ap (at f) is.0)) in
     (is.0, subst (λ o. IsChain ram' o gs) (sym (ap link word)) (IsChain-kept ram ram' (next ram f) gs (λ h has. same h (omega (arith, copies-cons h g gs, has))) is.1))
 
-pub chain-none : (ram : List (List ℕ)) (first : Option ℕ) (n : ℕ) → first ≡ None → chain ram first n ≡ []
-chain-none ram first zero e = refl
-chain-none ram None (suc n) e = refl
-chain-none ram (Some f) (suc n) e = absurd (cc)
-
 -- a list's first frame, and the rest
 record Split (ram : List (List ℕ)) (first : Option ℕ) (n f : ℕ) : Type 0 where
   more : ℕ
@@ -82,10 +77,6 @@ next-small pool ram f good is = link-small (word_at ram f 0) FRAMES_MAX (λ g le
 pub first-inside : (pool : Pool) (ram : List (List ℕ)) (f : ℕ) → Good pool ram → pool.first ≡ Some f → f < length ram
 first-inside pool ram f good is = good.frames.inside f (omega (arith, first-in ram pool.first (free_in pool ram) f is good.whole))
 
-pub first-counted : (pool : Pool) (ram : List (List ℕ)) (f : ℕ) → Good pool ram → pool.first ≡ Some f → 1 ≤ pool.count
-unfolding free_in
-first-counted pool ram f good is = let s = split ram pool.first pool.count f is good.whole in omega (arith, s.count)
-
 -- the rest of the list stays, whatever happens to the first frame
 pub rest-kept : (pool : Pool) (ram ram' : List (List ℕ)) (f : ℕ) → Good pool ram → pool.first ≡ Some f → OthersStay ram ram' f → free_in pool ram ≡ f ∷ free_in (but_first pool (next ram f)) ram'
 unfolding free_in
@@ -134,10 +125,14 @@ pub Good-with_first : (pool : Pool) (ram ram' : List (List ℕ)) (f w : ℕ) →
 Good-with_first pool ram ram' f w good inside put leads apart =
     let list = first-put pool ram ram' f w put leads apart in
     let after : next ram' f ≡ pool.first = ap link put.here ∙ leads in
-    let old : IsChain ram' pool.first (free_in pool ram) = IsChain-kept ram ram' pool.first (free_in pool ram) (λ g has. put.stay.words g 0 (λ e. omega (arith, has, apart, ap (λ y. copies y (free_in pool ram)) e))) good.whole in
+    let old : IsChain ram' pool.first (free_in pool ram) =
+    IsChain-kept ram ram' pool.first (free_in pool ram)
+    (λ g has. put.stay.words g 0 (λ e. omega (arith, has, apart, ap (λ y. copies y (free_in pool ram)) e))) good.whole in
     let new : IsChain ram' (Some f) (f ∷ free_in pool ram) = (refl, subst (λ o. IsChain ram' o (free_in pool ram)) (sym after) old) in
     record {
-      frames = subst (λ n. Once n (free_in (with_first pool f) ram')) (sym put.stay.count) (Once-more (length ram) f (free_in (with_first pool f) ram') (free_in pool ram) (record { each = λ x. ap (copies x) list }) inside apart good.frames);
+      frames = subst (λ n. Once n (free_in (with_first pool f) ram')) (sym put.stay.count)
+          (Once-more (length ram) f (free_in (with_first pool f) ram') (free_in pool ram) (record { each = λ x. ap (copies x) list })
+          inside apart good.frames);
       whole = subst (λ fs. IsChain ram' (Some f) fs) (sym list) new;
       counted = omega (arith, good.counted, ap length list);
       small = omega (arith, good.small, put.stay.count);

@@ -73,36 +73,18 @@ trade-join pool0 pool1 pool2 ram0 ram1 ram2 a b c s t = record {
   others = λ f free own. t.others f (omega (arith, s.frames f, free, own)) (omega (arith, s.frames f, free, own)) ∙ s.others f free own;
 }
 
--- an owner has further frames, which stay with it
-pub trade-more : (pool pool' : Pool) (ram ram' : List (List ℕ)) (mine mine' more : List ℕ) → Traded pool ram pool' ram' mine mine' → Traded pool ram pool' ram' (mine ++ more) (mine' ++ more)
-trade-more pool pool' ram ram' mine mine' more t = record {
-  good = t.good;
-  count = t.count;
-  frames = λ f. omega (arith, t.frames f, copies-append f mine more, copies-append f mine' more);
-  others = λ f free own. t.others f free (omega (arith, own, copies-append f mine more));
-}
-
--- only which frames are owned plays a part, not their order
-pub trade-same : (pool pool' : Pool) (ram ram' : List (List ℕ)) (mine mine' yours yours' : List ℕ) → SameFrames yours mine → SameFrames yours' mine' → Traded pool ram pool' ram' mine mine'
-    → Traded pool ram pool' ram' yours yours'
-trade-same pool pool' ram ram' mine mine' yours yours' before after t = record {
-  good = t.good;
-  count = t.count;
-  frames = λ f. omega (arith, t.frames f, before.each f, after.each f);
-  others = λ f free own. t.others f free (omega (arith, own, before.each f));
-}
+-- a trade leaves the frames of every other owner, who shares none with the free ones or the first
+pub trade-beside : (pool pool' : Pool) (ram ram' : List (List ℕ)) (mine mine' : List ℕ) → Traded pool ram pool' ram' mine mine' → (f : ℕ) → copies f (free_in pool ram) + copies f mine ≡ 0
+    → (frame_at ram' f ≡ frame_at ram f) × (copies f (free_in pool' ram') + copies f mine' ≡ 0)
+trade-beside pool pool' ram ram' mine mine' t f none = (t.others f (omega (arith, none)) (omega (arith, none)), t.frames f ∙ none)
 
 -- no frame is lost
 pub trade-lengths : (pool pool' : Pool) (ram ram' : List (List ℕ)) (mine mine' : List ℕ) → Traded pool ram pool' ram' mine mine'
     → length (free_in pool' ram') + length mine' ≡ length (free_in pool ram) + length mine
 trade-lengths pool pool' ram ram' mine mine' t =
-    let same : SameFrames (free_in pool' ram' ++ mine') (free_in pool ram ++ mine) = record { each = λ f. copies-append f (free_in pool' ram') mine' ∙ t.frames f ∙ sym (copies-append f (free_in pool ram) mine) } in
+    let same : SameFrames (free_in pool' ram' ++ mine') (free_in pool ram ++ mine) =
+    record { each = λ f. copies-append f (free_in pool' ram') mine' ∙ t.frames f ∙ sym (copies-append f (free_in pool ram) mine) } in
     sym (length-append (free_in pool' ram') mine') ∙ length-same (free_in pool' ram' ++ mine') (free_in pool ram ++ mine) same ∙ length-append (free_in pool ram) mine
-
--- a trade leaves the frames of every other owner, who shares none with the free ones or the first
-pub trade-beside : (pool pool' : Pool) (ram ram' : List (List ℕ)) (mine mine' : List ℕ) → Traded pool ram pool' ram' mine mine' → (f : ℕ) → copies f (free_in pool ram) + copies f mine ≡ 0
-    → (frame_at ram' f ≡ frame_at ram f) × (copies f (free_in pool' ram') + copies f mine' ≡ 0)
-trade-beside pool pool' ram ram' mine mine' t f none = (t.others f (omega (arith, none)) (omega (arith, none)), t.frames f ∙ none)
 
 -- no more frames are free than RAM has
 pub free-few : (pool : Pool) (ram : List (List ℕ)) → Good pool ram → length (free_in pool ram) ≤ length ram

@@ -1,12 +1,13 @@
 -- What is told of events, one behind another.
 use Rattle.std.proofs.Common.{◌≡◌, ℕ, zero, suc, ◌+◌, ◌<◌, ◌≤◌, Bool, false, List, [], ◌∷◌, ◌++◌, length, replicate}
 use Rattle.std.proofs.Common.{Option, None, Some, inl, inr, refl, sym, ap, ◌∙◌, subst, arith, append-nil, append_assoc, length-append, ◌⊎◌}
-use Rattle.std.proofs.lemmas.List.{length-map, length-replicate}
+use Rattle.std.proofs.lemmas.List.{length-replicate}
 use Rattle.kernel_spec.specs.runs.Run.{Event, Run, Outcome, Step_of, Idle, Halted, out}
 use Rattle.kernel_spec.specs.runs.Rounds.{events}
 use Rattle.kernel_spec.specs.steps.Own.{Stepped}
 use Rattle.xv_machine.specs.Drives.{done_by}
 use Rattle.xv_session.specs.Steps.{AreRunsTo}
+use Rattle.xv_session.proofs.RunsCounted.{count-sent}
 use Rattle.grade_submissions.specs.Plays.{Told, is_idle, idle_after, notes_of, told_with, told_by, told_runs}
 
 pub idle_none : (before : Bool) (sent : ℕ) (o : Outcome) → sent ≡ 0 → idle_after before sent o ≡ before
@@ -65,10 +66,6 @@ then-other (suc n) p o t =
     ∙ ap (λ (u : Told). told_with u 1 o) (done-more n p t)
     ∙ rw (more) (ap (λ (k : ℕ). record (told_with t 1 o) { runs = k }) (omega arith))
 
--- how many were sent
-count-events : (list : List (Event × Outcome)) (sent : ℕ) → events list ≡ replicate sent Run → length list ≡ sent
-count-events list sent those = sym (length-map list (λ (e : Event × Outcome). e.0)) ∙ ap length those ∙ length-replicate sent Run
-
 some-of : (n : ℕ) (P : ℕ → Type 0) → 0 < n → ((k : ℕ) → P (suc k)) → P n
 some-of zero P some each = absurd (omega (arith, some))
 some-of (suc k) P some each = each k
@@ -76,15 +73,15 @@ some-of (suc k) P some each = each k
 pub runs-told : (most sent p : ℕ) (last : Option Outcome) (list : List (Event × Outcome)) (t : Told) → 0 < most → AreRunsTo most p last list → events list ≡ replicate sent Run
     → (told_by t list ≡ told_runs t sent last) × (0 < sent) × (sent ≤ most)
 runs-told most sent p None list t some are those =
-    let count : sent ≡ most = sym (count-events list sent those) ∙ ap length are ∙ length-replicate most (done_by p) in
+    let count : sent ≡ most = sym (count-sent list sent those) ∙ ap length are ∙ length-replicate most (done_by p) in
     let told : told_by t (replicate most (done_by p)) ≡ told_runs t most None = some-of most (λ n. told_by t (replicate n (done_by p)) ≡ told_runs t n None) some (λ k. done-more k p t) in
     (ap (told_by t) are ∙ told ∙ ap (λ (n : ℕ). told_runs t n None) (sym count), omega (arith, count, some), omega (arith, count))
 runs-told most sent p (Some o) list t some (inl made) those =
     let long : length list ≡ made.0 + 1 = ap length made.1 ∙ length-append (replicate made.0 (done_by p)) ((Run, o) ∷ []) ∙ ap (λ (n : ℕ). n + 1) (length-replicate made.0 (done_by p)) in
-    let count : sent ≡ made.0 + 1 = sym (count-events list sent those) ∙ long in
+    let count : sent ≡ made.0 + 1 = sym (count-sent list sent those) ∙ long in
     let under = made.2 in
     (ap (told_by t) made.1 ∙ then-other made.0 p o t ∙ ap (λ (n : ℕ). told_with t n o) (sym count), omega (arith, count), omega (arith, count, under))
 runs-told most sent p (Some o) list t some (inr same) those =
-    let count : sent ≡ most = sym (count-events list sent those) ∙ ap length same.0 ∙ length-replicate most (Run, o) in
+    let count : sent ≡ most = sym (count-sent list sent those) ∙ ap length same.0 ∙ length-replicate most (Run, o) in
     let told : told_by t (replicate most (Run, o)) ≡ told_with t most o = some-of most (λ n. told_by t (replicate n (Run, o)) ≡ told_with t n o) some (λ k. again k o t same.1) in
     (ap (told_by t) same.0 ∙ told ∙ ap (λ (n : ℕ). told_with t n o) (sym count), omega (arith, count, some), omega (arith, count))

@@ -1,11 +1,12 @@
 -- Small facts that several files need: of options, truth values, lists and counts, and of what is read off a process or a view.
-use Rattle.std.proofs.Common.{◌≡◌, ◌≢◌, ℕ, zero, suc, ◌+◌, ◌<◌, Bool, true, false, cond, ◌||◌, ◌&&◌, List, ◌∷◌, refl, ap, sym, ◌∙◌, arith, inl, inr}
-use Rattle.std.specs.Prelude.{Option, None, Some, IsSome, is_some, is_none, option_map, Result, Ok, nat_lt}
+use Rattle.std.proofs.Common.{◌≡◌, ◌≢◌, ℕ, zero, suc, ◌+◌, ◌<◌, Bool, true, false, cond, ◌||◌, ◌&&◌, List, ◌∷◌, refl, ap, sym, ◌∙◌, arith, inl, inr, [], length, ◌≤◌}
+use Rattle.std.specs.Prelude.{Option, None, Some, IsSome, is_some, option_map, Result, Ok, nat_lt}
 use Rattle.std.specs.FinMap.{keys}
-use Rattle.std.proofs.lemmas.Bool.{eqb-true, ltb-true, false≢true}
+use Rattle.std.proofs.lemmas.Bool.{eqb-true, ltb-true, false≢true, ltb-false}
 use Rattle.std.proofs.lemmas.Bool.Decides.{eqb_tells}
 use Rattle.std.proofs.lemmas.Option.{same_Some, none-some}
 use Rattle.xk_base.specs.declared.limits.TheConstants.{NOFILE}
+pub use Rattle.xk_base.proofs.Options.{none_from_is_some, none_from_is_none, none_either_way}
 use Rattle.xk_base.specs.Words.{count_below}
 use Rattle.kernel_spec.specs.views.Words.{is_this}
 use Rattle.kernel_spec.specs.views.Processes.{Process, Alive, Zombie, Live}
@@ -19,14 +20,6 @@ use Rattle.kernel_spec.specs.steps.Updates.{marked}
 
 -- ---- options
 
-pub none_from_is_some : {A : Type 0} (o : Option A) → is_some o ≡ false → o ≡ None
-none_from_is_some None e = refl
-none_from_is_some (Some x) e = let no : ⊥ = cc in absurd no
-
-pub none_from_is_none : {A : Type 0} (o : Option A) → is_none o ≡ true → o ≡ None
-none_from_is_none None e = refl
-none_from_is_none (Some x) e = let no : ⊥ = cc in absurd no
-
 pub the_value : {A : Type 0} (o : Option A) → IsSome o → (x : A) × (o ≡ Some x)
 the_value None some = let no : ⊥ = cc in absurd no
 the_value (Some x) some = (x, refl)
@@ -37,10 +30,6 @@ none_has_no_value o none some = false≢true (sym (ap is_some none) ∙ some)
 pub is_some-map : {A B : Type 0} (f : A → B) (o : Option A) → is_some (option_map f o) ≡ is_some o
 is_some-map f None = refl
 is_some-map f (Some x) = refl
-
-pub none_either_way : {A : Type 0} (b : Bool) (o : Option A) → o ≡ None → cond b o None ≡ None
-none_either_way true o none = none
-none_either_way false o none = refl
 
 pub there_if_so : {A : Type 0} (b : Bool) (o : Option A) (x : A) → cond b o None ≡ Some x → (b ≡ true) × (o ≡ Some x)
 there_if_so true o x e = (refl, e)
@@ -66,6 +55,10 @@ or_assoc true b c = refl
 or_assoc false b c = refl
 
 -- ---- lists
+
+pub no_bytes : (xs : List ℕ) → nat_lt 0 (length xs) ≡ false → xs ≡ []
+no_bytes [] e = refl
+no_bytes (x ∷ xs) e = let k : ℕ = length xs in let low : suc k ≤ 0 = ltb-false 0 (suc k) e in absurd (omega arith)
 
 pub same_first : {A : Type 0} (x y : A) (xs ys : List A) → x ∷ xs ≡ y ∷ ys → x ≡ y
 same_first x y xs ys e = cc

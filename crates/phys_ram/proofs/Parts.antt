@@ -22,7 +22,8 @@ module _ (items : List (List ℕ)) (len : ℕ) (whole : len ≡ length items) (t
       ends_as (low ++ set high 0 y) (ap (λ k. low ++ set high k y) (sym first) ∙ sym (set-append_right low high t t y cut (omega arith)) ∙ ap (λ xs. set xs t y) both)
 
   -- it lies in the lower part
-  pub set_in_lower : (low high : List (List ℕ)) (s : ℕ) → t < s → s ≤ length items → low ≡ take s items → high ≡ drop s items → take len ((set low t y ++ high) ++ drop (length (set low t y ++ high)) items) ≡ set items t y
+  pub set_in_lower : (low high : List (List ℕ)) (s : ℕ) → t < s → s ≤ length items → low ≡ take s items → high ≡ drop s items
+      → take len ((set low t y ++ high) ++ drop (length (set low t y ++ high)) items) ≡ set items t y
   set_in_lower low high s lt le is_low is_high =
       let cut : length low ≡ s = ap length is_low ∙ length-take-le s items le in
       let both : low ++ high ≡ items = (λ k. is_low k ++ is_high k) ∙ take-append-drop s items in

@@ -1,6 +1,7 @@
 -- What a write of eight bytes leaves of the words in a frame.
 use Rattle.std.proofs.Common.{◌≡◌, ◌≢◌, ℕ, zero, suc, ◌+◌, ◌*◌, ◌^◌, ◌<◌, ◌≤◌, List, [], ◌++◌, length, take, drop, set, get_or, replicate, ◌-◌, inl, inr, refl, sym, ap, ◌∙◌, arith}
-use Rattle.std.proofs.lemmas.List.{get_or-set_same, get_or-set_other, get_or-drop, get_or_append_left, get_or-append_right, get_or-take, length-append, length-take-le, length-take, length-drop, drop_at, drop_all, drop-drop, append-nil, length-set, same_lists, get_or-replicate, get_or_past, length-replicate}
+use Rattle.std.proofs.lemmas.List.{get_or-set_same, get_or-set_other, get_or-drop, get_or_append_left, get_or-append_right, get_or-take, length-append, length-take-le, length-take, length-drop}
+use Rattle.std.proofs.lemmas.List.{drop_at, drop_all, drop-drop, append-nil, length-set, same_lists, get_or-replicate, get_or_past, length-replicate}
 use Rattle.std.proofs.lemmas.Bool.{cases_lt}
 use Rattle.byteorder.specs.Endian.{little_from, little_number, little_bytes}
 use Rattle.byteorder.specs.Numbers.{little_number-reads_back, length-bytes_low_first}
@@ -44,7 +45,8 @@ replaced a bytes frame = take a frame ++ (bytes ++ drop (a + 8) frame)
 here : (i v : ℕ) (bytes frame : List ℕ) → bytes ≡ little_bytes 8 v → v < 256 ^ 8 → 8 * i ≤ length frame → little_number 8 (drop (8 * i) (replaced (8 * i) bytes frame)) ≡ v
 unfolding replaced
 here i v bytes frame e small fits =
-    let cut : drop (8 * i) (replaced (8 * i) bytes frame) ≡ bytes ++ drop (8 * i + 8) frame = drop_at (take (8 * i) frame) (bytes ++ drop (8 * i + 8) frame) (8 * i) (length-take-le (8 * i) frame fits) in
+    let cut : drop (8 * i) (replaced (8 * i) bytes frame) ≡ bytes ++ drop (8 * i + 8) frame =
+    drop_at (take (8 * i) frame) (bytes ++ drop (8 * i + 8) frame) (8 * i) (length-take-le (8 * i) frame fits) in
     rw (cut, e) (little_number-reads_back 8 v (drop (8 * i + 8) frame) small)
 
 below : (a k : ℕ) (bytes frame : List ℕ) → k < a → a ≤ length frame → get_or (replaced a bytes frame) k 0 ≡ get_or frame k 0
@@ -58,12 +60,21 @@ unfolding replaced
 above a k bytes frame eight h fits =
     let len = length-take-le a frame fits in
     let at : a + 8 + (k - a - 8) ≡ k = omega arith in
-    get_or-append_right (take a frame) (bytes ++ drop (a + 8) frame) a k 0 len (omega arith) ∙ get_or-append_right bytes (drop (a + 8) frame) 8 (k - a) 0 eight (omega arith) ∙ get_or-drop (a + 8) frame (k - a - 8) 0 ∙ ap (λ n. get_or frame n 0) at
+    get_or-append_right (take a frame) (bytes ++ drop (a + 8) frame) a k 0 len (omega arith) ∙ get_or-append_right bytes (drop (a + 8) frame) 8
+    (k - a) 0 eight (omega arith) ∙ get_or-drop (a + 8) frame (k - a - 8) 0 ∙ ap (λ n. get_or frame n 0) at
 
 length-replaced : (a : ℕ) (bytes frame : List ℕ) → length bytes ≡ 8 → a + 8 ≤ length frame → length (replaced a bytes frame) ≡ length frame
 unfolding replaced
 length-replaced a bytes frame eight fits =
-    omega (arith, length-append (take a frame) (bytes ++ drop (a + 8) frame), length-append bytes (drop (a + 8) frame), length-take-le a frame (omega (arith, fits)), length-drop (a + 8) frame, eight, fits)
+    omega (
+      arith,
+      length-append (take a frame) (bytes ++ drop (a + 8) frame),
+      length-append bytes (drop (a + 8) frame),
+      length-take-le a frame (omega (arith, fits)),
+      length-drop (a + 8) frame,
+      eight,
+      fits,
+    )
 
 beside : (i j : ℕ) (bytes frame : List ℕ) → length bytes ≡ 8 → 8 * i ≤ length frame → j ≢ i → little_number 8 (drop (8 * j) (replaced (8 * i) bytes frame)) ≡ little_number 8 (drop (8 * j) frame)
 beside i j bytes frame eight fits apart =

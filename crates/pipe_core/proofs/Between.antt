@@ -1,6 +1,7 @@
 -- Bytes between a pipe and other frames.
 use Rattle.std.proofs.Common.{◌≡◌, ◌≢◌, ℕ, ◌+◌, ◌-◌, ◌%◌, ◌<◌, ◌≤◌, List, [], ◌++◌, length, set, take, drop, get_or, replicate, min, sym, ap, ◌∙◌, subst, arith}
-use Rattle.std.proofs.lemmas.List.{get_or-set_same, get_or-set_other, set-set, length-take-le, length-drop, length-append, drop-drop, drop-take, take-take, append_assoc, take_at, drop_at, take-replicate, drop-replicate, length-replicate}
+use Rattle.std.proofs.lemmas.List.{get_or-set_same, get_or-set_other, set-set, length-take-le, length-drop, length-append, drop-drop, drop-take, take-take, append_assoc, take_at, drop_at}
+use Rattle.std.proofs.lemmas.List.{take-replicate, drop-replicate, length-replicate}
 use borrow.Rule.Slice.PartMut.{put_mid}
 use Rattle.xk_base.specs.declared.limits.TheConstants.{PIPE_BYTES}
 use Rattle.phys_ram.specs.Ram.{frame_at, word_at, with_bytes, WordWritten}
@@ -112,24 +113,30 @@ pieces_copied r0 r1 r2 f to first from skip at b n pipe inside apart whole targe
     let few : n ≤ PIPE_BYTES = omega (arith, room, length-bytes r0 f, pipe.count) in
     let long : length p ≡ b = length-take-le b (drop (32 + from) ring) (omega (arith, length-drop (32 + from) ring, whole, cut, low)) in
     let both : p ++ q ≡ take n (drop skip (pipe_in r0 f).bytes) =
-    sym (ring_pieces ring from n b whole low few cut) ∙ ap (λ a. values_below n (ring_byte ring a)) (place ∙ ap (λ a. (a + skip) % PIPE_BYTES) one) ∙ sym (bytes_from r0 f skip n (omega (arith, room, length-bytes r0 f))) in
+    sym (ring_pieces ring from n b whole low few cut) ∙ ap (λ a. values_below n (ring_byte ring a)) (place ∙ ap (λ a. (a + skip) % PIPE_BYTES) one)
+    ∙ sym (bytes_from r0 f skip n (omega (arith, room, length-bytes r0 f))) in
     twice.0
-    ∙ ap (set r0 to) ((λ k. with_bytes (at + b) (take (n - b) (drop 32 (stays k))) (twice.1 k)) ∙ ap (λ a. with_bytes (at + a) q (with_bytes at p old)) (sym long) ∙ with_bytes-append at p q old (omega (arith, target, fits)) ∙ ap (λ xs. with_bytes at xs old) both)
+    ∙ ap (set r0 to)
+    ((λ k. with_bytes (at + b) (take (n - b) (drop 32 (stays k))) (twice.1 k)) ∙ ap (λ a. with_bytes (at + a) q (with_bytes at p old)) (sym long)
+    ∙ with_bytes-append at p q old (omega (arith, target, fits)) ∙ ap (λ xs. with_bytes at xs old) both)
 
 -- ---- the same of numbers that were read
 
-module _ (r0 r1 r2 new : List (List ℕ)) (f first count from b n : ℕ) (pipe : IsPipe r0 f) (whole : length (frame_at r0 f) ≡ 4096) (one : first ≡ word_at r0 f 2) (two : count ≡ length (pipe_in r0 f).bytes) (place : from ≡ (first + count) % PIPE_BYTES)
+module _ (r0 r1 r2 new : List (List ℕ)) (f first count from b n : ℕ) (pipe : IsPipe r0 f) (whole : length (frame_at r0 f) ≡ 4096)
+    (one : first ≡ word_at r0 f 2) (two : count ≡ length (pipe_in r0 f).bytes) (place : from ≡ (first + count) % PIPE_BYTES)
     (room : length (pipe_in r0 f).bytes + n ≤ PIPE_BYTES) (cut : b ≡ min n (PIPE_BYTES - from)) where
   -- of another frame
   pub part_pushed : (source at : ℕ) → source ≢ f → length (frame_at r0 source) ≡ 4096 → at + n ≤ 4096
-      → r1 ≡ set r0 f (with_bytes (32 + from) (take b (drop at (frame_at r0 source))) (frame_at r0 f)) → r2 ≡ set r1 f (with_bytes 32 (take (n - b) (drop (at + b) (frame_at r1 source))) (frame_at r1 f)) → WordWritten r2 new f 3 (count + n)
+      → r1 ≡ set r0 f (with_bytes (32 + from) (take b (drop at (frame_at r0 source))) (frame_at r0 f))
+      → r2 ≡ set r1 f (with_bytes 32 (take (n - b) (drop (at + b) (frame_at r1 source))) (frame_at r1 f)) → WordWritten r2 new f 3 (count + n)
       → Becomes r0 new f (with_more (take n (drop at (frame_at r0 source))) (pipe_in r0 f))
   part_pushed source at apart full fits w1 w2 written =
       let xs = frame_at r0 source in
       let less : b ≤ n = omega (arith, cut) in
       let stays : frame_at r1 source ≡ xs = ap (λ r. frame_at r source) w1 ∙ get_or-set_other r0 f source (with_bytes (32 + from) (take b (drop at xs)) (frame_at r0 f)) [] apart in
       let long : length (take n (drop at xs)) ≡ n = length-take-le n (drop at xs) (omega (arith, length-drop at xs, full, fits)) in
-      pieces_pushed r0 r1 r2 new f first count from b n (take b (drop at xs)) (take (n - b) (drop (at + b) (frame_at r1 source))) (take n (drop at xs)) pipe whole one two place long (omega (arith, room, two)) cut
+      pieces_pushed r0 r1 r2 new f first count from b n (take b (drop at xs)) (take (n - b) (drop (at + b) (frame_at r1 source)))
+      (take n (drop at xs)) pipe whole one two place long (omega (arith, room, two)) cut
       (first_piece n b at xs less) (ap (λ ys. take (n - b) (drop (at + b) ys)) stays ∙ second_piece n b at xs less) w1 w2 written
 
   -- zeros

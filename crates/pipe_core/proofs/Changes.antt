@@ -1,5 +1,5 @@
 -- What writes to a frame make of its pipe.
-use Rattle.std.proofs.Common.{◌≡◌, ◌≢◌, ℕ, ◌+◌, ◌-◌, ◌*◌, ◌%◌, ◌<◌, ◌≤◌, List, [], ◌++◌, length, set, take, drop, get_or, min, refl, sym, ap, ◌∙◌, arith}
+use Rattle.std.proofs.Common.{◌≡◌, ℕ, ◌+◌, ◌-◌, ◌*◌, ◌%◌, ◌<◌, ◌≤◌, List, [], ◌++◌, length, set, take, drop, get_or, min, refl, sym, ap, ◌∙◌, arith, ◌≢◌}
 use Rattle.std.proofs.lemmas.List.{append-nil, append_assoc, get_or-drop, get_or-set_same, length-take-le, take_all}
 use Rattle.xk_base.specs.declared.limits.TheConstants.{PIPE_BYTES}
 use Rattle.phys_ram.proofs.Words.{little_from-same, others_stay-set, word_at-number, word_at-same}
@@ -12,18 +12,6 @@ use Rattle.pipe_core.proofs.Values.{front, length_values, values-add, values-sam
 pub length-bytes : (ram : List (List ℕ)) (f : ℕ) → length (pipe_in ram f).bytes ≡ word_at ram f 3
 unfolding pipe_in
 length-bytes ram f = length_values (word_at ram f 3) (ring_byte (frame_at ram f) (word_at ram f 2))
-
--- a pipe is within its limits
-pub bytes_fit : (ram : List (List ℕ)) (f : ℕ) → IsPipe ram f → length (pipe_in ram f).bytes ≤ PIPE_BYTES
-bytes_fit ram f p = omega (arith, length-bytes ram f, p.count)
-
--- two changes of one frame
-pub stay_on : (a b c : List (List ℕ)) (f : ℕ) → OthersStay a b f → OthersStay b c f → OthersStay a c f
-stay_on a b c f s t = record {
-  count = t.count ∙ s.count;
-  others = λ g ne. t.others g ne ∙ s.others g ne;
-  words = λ g i ne. t.words g i ne ∙ s.words g i ne;
-}
 
 -- a change of another frame keeps a pipe
 pub pipe_stays : (old new : List (List ℕ)) (f g : ℕ) → OthersStay old new f → g ≢ f → IsPipe old g → IsPipe new g × (pipe_in new g ≡ pipe_in old g)
@@ -43,6 +31,18 @@ pipe_stays old new f g stay ne p =
       },
       rw (none, one, two, three, frame) refl,
     )
+
+-- a pipe is within its limits
+pub bytes_fit : (ram : List (List ℕ)) (f : ℕ) → IsPipe ram f → length (pipe_in ram f).bytes ≤ PIPE_BYTES
+bytes_fit ram f p = omega (arith, length-bytes ram f, p.count)
+
+-- two changes of one frame
+pub stay_on : (a b c : List (List ℕ)) (f : ℕ) → OthersStay a b f → OthersStay b c f → OthersStay a c f
+stay_on a b c f s t = record {
+  count = t.count ∙ s.count;
+  others = λ g ne. t.others g ne ∙ s.others g ne;
+  words = λ g i ne. t.words g i ne ∙ s.words g i ne;
+}
 
 -- no bytes are added
 pub becomes-none : (ram : List (List ℕ)) (f : ℕ) → IsPipe ram f → Becomes ram ram f (with_more [] (pipe_in ram f))
@@ -175,7 +175,9 @@ pushes old mid new f frame bytes p e fits put w =
     values-same count _ _ (λ k lt. byte k ∙ put.kept (32 + (first + k) % PIPE_BYTES) (λ j below same. absurd (omega (arith, same, lt, below, fits)))) in
     let behind : values_below n (λ k. ring_byte (frame_at new f) first (count + k)) ≡ bytes =
     values-same n _ (λ k. get_or bytes k 0)
-    (λ k lt. byte (count + k) ∙ ap (λ m. get_or frame (32 + m) 0) (let same : (first + (count + k)) % PIPE_BYTES ≡ ((first + count) % PIPE_BYTES + k) % PIPE_BYTES = omega arith in same) ∙ put.placed k lt)
+    (λ k lt. byte (count + k)
+    ∙ ap (λ m. get_or frame (32 + m) 0)
+    (let same : (first + (count + k)) % PIPE_BYTES ≡ ((first + count) % PIPE_BYTES + k) % PIPE_BYTES = omega arith in same) ∙ put.placed k lt)
     ∙ values_take n bytes (omega arith) ∙ take_all n bytes (omega arith) in
     let stay = stay_on old mid new f (rw e (others_stay-set old f frame)) w.stay in
     record {
@@ -188,7 +190,8 @@ pushes old mid new f frame bytes p e fits put w =
       };
       is = rw (none, one, two, w.here) (
           ap (λ xs. record { bytes = xs; readers = word_at old f 0; writers = word_at old f 1 })
-          (values-add count n (ring_byte (frame_at new f) first) ∙ ap (λ xs. xs ++ values_below n (λ k. ring_byte (frame_at new f) first (count + k))) before ∙ ap (λ xs. values_below count (ring_byte (frame_at old f) first) ++ xs) behind)
+          (values-add count n (ring_byte (frame_at new f) first) ∙ ap (λ xs. xs ++ values_below n (λ k. ring_byte (frame_at new f) first (count + k)))
+          before ∙ ap (λ xs. values_below count (ring_byte (frame_at old f) first) ++ xs) behind)
           );
       stay = stay;
     }

@@ -1,7 +1,8 @@
 -- Which slots are held, by what was told of them.
-use Rattle.std.proofs.Common.{◌≡◌, ℕ, true, false, Option, Some, None, get_or, refl, sym, subst}
+use Rattle.std.proofs.Common.{◌≡◌, ℕ, true, Option, Some, None, get_or, refl, sym, subst}
 use Rattle.std.specs.Prelude.{IsSome}
 use Rattle.std.proofs.lemmas.List.Quantifiers.{position-Some}
+use Rattle.std.proofs.lemmas.Bool.{false≢true}
 use Rattle.proc_table.specs.declared.process.Process.{Process}
 use Rattle.proc_table.specs.Slots.{Slots, IsHeld, slot_of, place_at, place_has_pid}
 
@@ -14,10 +15,7 @@ has_one pid (Some p) h = refl
 pub found_is_held : (t : Slots) (pid slot : ℕ) → slot_of t pid ≡ Some slot → IsHeld t slot
 found_is_held t pid slot found = has_one pid (place_at t slot) (position-Some (place_has_pid pid) t.places slot None found).1
 
-no-place : false ≡ true → ⊥
-no-place e = cc
-
 -- so a place that is read there isn't empty
 pub found_is_some : (t : Slots) (pid slot : ℕ) (place : Option Process) → slot_of t pid ≡ Some slot → place ≡ get_or t.places slot place → place ≡ None → ⊥
-found_is_some t pid slot None found read none = no-place (subst (λ o. IsSome o) (sym read) (found_is_held t pid slot found))
+found_is_some t pid slot None found read none = false≢true (subst (λ o. IsSome o) (sym read) (found_is_held t pid slot found))
 found_is_some t pid slot (Some p) found read none = cc

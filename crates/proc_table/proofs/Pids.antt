@@ -1,8 +1,8 @@
 -- Pids through the changes of a table.
-use Rattle.std.proofs.Common.{◌≡◌, ℕ, ◌+◌, ◌<◌, ◌≤◌, List, length, set, map, get_or, replicate, Option, Some, None, inl, inr, refl, sym, ap, ◌∙◌, arith}
+use Rattle.std.proofs.Common.{◌≡◌, ℕ, ◌+◌, ◌<◌, ◌≤◌, List, length, set, map, get_or, Option, Some, None, inl, inr, refl, sym, ap, ◌∙◌, arith}
 use Rattle.std.specs.Prelude.{option_map}
 use Rattle.std.proofs.lemmas.Bool.{cases_lt, cases_eq}
-use Rattle.std.proofs.lemmas.List.{get_or-set_same, get_or-set_other, get_or_past, get_or-map, get_or-replicate, length-map, length-replicate, set_past}
+use Rattle.std.proofs.lemmas.List.{get_or-set_same, get_or-set_other, get_or_past, get_or-map, length-map, set_past}
 use Rattle.proc_table.specs.declared.process.Process.{Process}
 use Rattle.proc_table.specs.Slots.{Slots, ArePids, IsTable}
 use Rattle.std.proofs.Common.{length-set}
@@ -10,12 +10,8 @@ use Rattle.std.specs.Prelude.{◌^◌}
 use Rattle.std.proofs.lemmas.List.{get_or_read}
 
 -- nothing is no process
-none_is : (p : Process) (X : Type 0) → None ≡ Some p → X
+pub none_is : (p : Process) (X : Type 0) → None ≡ Some p → X
 none_is p X e = let no_way : ⊥ = cc in absurd no_way
-
--- no process, at its type
-abbrev nobody : Option Process
-nobody = None
 
 -- each process of the second list has the pid of the first list's process in its slot
 pub record Keeps (xs ys : List (Option Process)) : Type 0 where
@@ -94,16 +90,6 @@ pids_more xs n i q new a = record {
       where
         none_there : (j : ℕ) (p : Process) → j ≡ i → get_or (set xs i (Some q)) j None ≡ Some p → length xs ≤ i → get_or xs i None ≡ Some p
         none_there j p e at ge = ap (λ ys. get_or ys i None) (sym (set_past xs i (Some q) ge)) ∙ ap (λ k. get_or (set xs i (Some q)) k None) (sym e) ∙ at
-
--- no slot is held
-pub pids_none : (m n : ℕ) → ArePids (replicate m None) n
-pids_none m n = record {
-  apart = λ i j p q at bt e. none_is p _ (sym (empty m i) ∙ at);
-  below = λ i p at. none_is p _ (sym (empty m i) ∙ at);
-}
-  where
-    empty : (m i : ℕ) → get_or (replicate m None) i None ≡ nobody
-    empty m i = elim (cases_lt i m) [ inl lt ↦ get_or-replicate m i None None lt | inr ge ↦ get_or_past (replicate m None) i None (omega (arith, ge, length-replicate m nobody)) ]
 
 -- a table in which one process changed, but for its pid
 pub table_at : (t : Slots) (i : ℕ) (x : Option Process) (p q : Process) → IsTable t → i < 64 → x ≡ get_or t.places i x → x ≡ Some p → q.pid ≡ p.pid

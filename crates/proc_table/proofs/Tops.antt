@@ -5,10 +5,7 @@ use Rattle.std.proofs.lemmas.Bool.{cases_lt}
 use Rattle.std.proofs.lemmas.List.{get_or-set_other, get_or_read, get_or_past, get_or-map, length-map, take_all, drop_all, append-nil}
 use Rattle.proc_table.specs.declared.process.Process.{Process}
 use Rattle.proc_table.specs.Slots.{HoldsNoneFrom}
-
--- nothing is no process
-none_is : (p : Process) (X : Type 0) → None ≡ Some p → X
-none_is p X e = let no_way : ⊥ = cc in absurd no_way
+use Rattle.proc_table.proofs.Pids.{none_is}
 
 -- a process comes into a slot below the bound
 pub top_new : (xs : List (Option Process)) (i top more : ℕ) (q : Process) → HoldsNoneFrom xs top → i < more → top ≤ more → more ≤ 64 → HoldsNoneFrom (set xs i (Some q)) more

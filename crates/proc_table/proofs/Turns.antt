@@ -5,7 +5,3 @@ use Rattle.proc_table.specs.Turns.{distance}
 -- a turn of another brings a slot nearer
 pub nearer : (last a p : ℕ) → last < 64 → a < 64 → p < 64 → distance last a ≤ distance last p → a ≢ p → distance a p < distance last p
 nearer last a p l h k le ne = omega (arith, le, ne)
-
--- the greatest distance
-pub at_most : (last p : ℕ) → distance last p ≤ 63
-at_most last p = omega arith

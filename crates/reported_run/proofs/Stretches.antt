@@ -1,14 +1,14 @@
 -- Runs that a session sends are Runs that its machine is sent.
-use Rattle.std.proofs.Common.{◌≡◌, ◌∙◌, ℕ, ◌+◌, ◌<◌, ◌≤◌, inl, inr, sym, ap, arith, List, [], ◌∷◌, length, length-append, replicate, Option, None, Some, Result, Ok, Err}
-use Rattle.std.proofs.lemmas.List.{length-map, length-replicate}
-use Rattle.kernel_spec.specs.runs.Run.{Event, Run, Outcome}
+use Rattle.std.proofs.Common.{◌≡◌, ℕ, ◌<◌, ◌≤◌, inl, inr, arith, List, [], length, Option, None, Some, Result, Ok, Err}
+use Rattle.kernel_spec.specs.runs.Run.{Event, Outcome}
 use Rattle.kernel_spec.specs.views.Words.{or_zero}
 use Rattle.xv_machine.specs.Devices.{Sink}
-use Rattle.xv_machine.specs.Drives.{Ran, AreRuns, done_by}
+use Rattle.xv_machine.specs.Drives.{Ran, AreRuns}
 use Rattle.xv_machine.specs.Meaning.{Meaning}
 use Rattle.xv_machine.specs.Stretches.{Played, BrokeOff, Plays}
 use Rattle.xv_session.specs.Steps.{RunsMade, AreRunsTo}
 use Rattle.xv_session.specs.declared.running.Running.{Running}
+use Rattle.xv_session.proofs.RunsCounted.{count-sent, runs-count}
 
 abbrev Steps : Type 0
 Steps = List (Event × Outcome)
@@ -31,21 +31,9 @@ runs-are most p None list is = inl is
 runs-are most p (Some o) list (inl (made, is, less, step, idle, halted)) = inr (inl (made, o, is, less, step, idle, halted))
 runs-are most p (Some o) list (inr (is, why)) = inr (inr (o, is, why))
 
--- how many there are
-long : (most p : ℕ) (last : Option Outcome) (list : Steps) → AreRunsTo most p last list → (length list ≤ most) × (0 < most → 0 < length list)
-long most p None list is =
-    let all : length list ≡ most = ap length is ∙ length-replicate most (done_by p) in
-    (omega (arith, all), λ some. omega (arith, all))
-long most p (Some o) list (inl (made, is, less, step, idle, halted)) =
-    let all : length list ≡ made + 1 = ap length is ∙ length-append (replicate made (done_by p)) ((Run, o) ∷ []) ∙ ap (λ n. n + 1) (length-replicate made (done_by p)) in
-    (omega (arith, all), λ some. omega (arith, all))
-long most p (Some o) list (inr (is, why)) =
-    let all : length list ≡ most = ap length is ∙ length-replicate most (Run, o) in
-    (omega (arith, all), λ some. omega (arith, all))
-
 module _ (most sent : ℕ) (last : Option Outcome) (old new : Running) (made : RunsMade most sent last old new) where
   count : length made.list ≡ sent
-  count = sym (length-map made.list (λ (s : Event × Outcome). s.0)) ∙ ap length made.those ∙ length-replicate sent Run
+  count = count-sent made.list sent made.those
 
   pub ran : Ran most sent old.machine new.machine
   ran = record {
@@ -56,7 +44,7 @@ module _ (most sent : ℕ) (last : Option Outcome) (old new : Running) (made : R
   }
 
   pub within : sent ≤ most
-  within = let all = (long most (or_zero old.machine.world.turns.current) last made.list made.runs_are).0 in omega (arith, all, count)
+  within = let all = (runs-count most (or_zero old.machine.world.turns.current) last made.list made.runs_are).0 in omega (arith, all, count)
 
   pub some : 0 < most → 0 < sent
-  some more = let all = (long most (or_zero old.machine.world.turns.current) last made.list made.runs_are).1 more in omega (arith, all, count)
+  some more = let all = (runs-count most (or_zero old.machine.world.turns.current) last made.list made.runs_are).1 more in omega (arith, all, count)

@@ -1,4 +1,3 @@
-pub mod Gathered
 pub mod Listings
 pub mod Owned
 pub mod Places

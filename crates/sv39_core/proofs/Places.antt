@@ -1,10 +1,8 @@
 -- Each frame of a tree has one place in it.
-use Rattle.std.proofs.Common.{◌≡◌, ◌≢◌, ℕ, zero, suc, ◌+◌, ◌-◌, ◌/◌, ◌%◌, ◌^◌, ◌<◌, ◌≤◌, List, ◌++◌, length, Option, Some, None, inl, inr, refl, sym, ap, ◌∙◌, arith}
+use Rattle.std.proofs.Common.{◌≡◌, ℕ, zero, suc, ◌+◌, ◌-◌, ◌/◌, ◌%◌, ◌^◌, ◌<◌, ◌≤◌, List, ◌++◌, length, Option, Some, None, inl, inr, refl, sym, ap, ◌∙◌, arith}
 use Rattle.std.proofs.lemmas.Bool.{cases_lt, cases_eq}
 use Rattle.xk_base.specs.Frames.{copies}
 use Rattle.xk_base.proofs.Frames.{at, at-same, copies-cons, copies-append}
-use Rattle.sv39_core.specs.declared.entry.Entry.{Entry}
-use Rattle.sv39_core.specs.declared.entry.Entry.TheVariants.{Invalid, Table, Leaf}
 use Rattle.phys_ram.specs.Ram.{word_at}
 use Rattle.sv39_core.specs.Sv39.{entry_at, table_of, below, table_at, last, page_entry}
 use Rattle.sv39_core.specs.Listed.{listed}
@@ -16,7 +14,13 @@ use Rattle.sv39_core.proofs.Words.{entry_of-invalid}
 pub copies-owned : (x : ℕ) (ram : List (List ℕ)) (root : ℕ) → copies x (owned ram root) ≡ at x root + (copies x (uppers ram root) + (copies x (lowers ram root) + copies x (page_frames ram root)))
 unfolding owned
 copies-owned x ram root =
-    omega (arith, copies-cons x root (uppers ram root ++ (lowers ram root ++ page_frames ram root)), copies-append x (uppers ram root) (lowers ram root ++ page_frames ram root), copies-append x (lowers ram root) (page_frames ram root))
+    omega (
+      arith,
+      copies-cons x root (uppers ram root ++ (lowers ram root ++ page_frames ram root)),
+      copies-append x (uppers ram root)
+          (lowers ram root ++ page_frames ram root),
+      copies-append x (lowers ram root) (page_frames ram root),
+    )
 
 pub below-some : (ram : List (List ℕ)) (t : Option ℕ) (i f : ℕ) → below ram t i ≡ Some f → (h : ℕ) × (t ≡ Some h)
 below-some ram None i f e = absurd (cc)
@@ -121,11 +125,6 @@ spot-of ram root l p f tree le e = record {
       ];
 }
 
-leaf-frame : (e : Entry) (f : ℕ) → frame_of e ≡ Some f → e ≢ Invalid
-leaf-frame Invalid f h = absurd (cc)
-leaf-frame (Table g) f h = absurd (cc)
-leaf-frame (Leaf g p a d) f h = λ w. (cc)
-
 -- a page has an entry in a table, so its number is below 2^26
 pub page-place : (ram : List (List ℕ)) (root v f : ℕ) → IsTree ram root → frame_of (page_entry ram root v) ≡ Some f → v < 67108864
 page-place ram root v f tree e =
@@ -158,6 +157,13 @@ upper-entry ram root i h =
 
 pub root-inside : (ram : List (List ℕ)) (root : ℕ) → IsTree ram root → root < length ram
 root-inside ram root tree = tree.once.inside root (table-owned ram root 0 0 root tree (omega arith) refl)
+
+-- a frame is one page's
+pub one-page : (ram : List (List ℕ)) (root u v f : ℕ) → IsTree ram root → frame_of (page_entry ram root u) ≡ Some f → frame_of (page_entry ram root v) ≡ Some f → u ≡ v
+unfolding page_frames
+one-page ram root u v f tree a b =
+    one-place (λ w. frame_of (page_entry ram root w)) (2 ^ 26) u v f (page-place ram root u f tree a) (page-place ram root v f tree b) a b
+    (omega (arith, copies-owned f ram root, tree.once.once f))
 
 pub lower-entry : (ram : List (List ℕ)) (root v f : ℕ) → table_at ram root 1 (v / 262144) ≡ Some f → table_at ram root 2 (v / 512) ≡ table_of (entry_at ram f (v / 512 % 512))
 lower-entry ram root v f e =

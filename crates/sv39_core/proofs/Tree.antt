@@ -58,7 +58,8 @@ pub hung-here : (ram ram' : List (List ℕ)) (root f i g l0 p0 : ℕ) → Hung r
 hung-here ram ram' root f i g l0 p0 h =
     let quotient : (512 * p0 + i) / 512 ≡ p0 = omega (arith, h.entry_in) in
     let remainder : (512 * p0 + i) % 512 ≡ i = omega (arith, h.entry_in) in
-    let parent : table_at ram' root l0 ((512 * p0 + i) / 512) ≡ Some f = ap (table_at ram' root l0) quotient ∙ up ram ram' root f i h.w l0 p0 h.put h.spot (omega (arith, h.level)) l0 p0 (omega arith) ∙ h.spot.found in
+    let parent : table_at ram' root l0 ((512 * p0 + i) / 512) ≡ Some f =
+    ap (table_at ram' root l0) quotient ∙ up ram ram' root f i h.w l0 p0 h.put h.spot (omega (arith, h.level)) l0 p0 (omega arith) ∙ h.spot.found in
     ap (λ t. below ram' t ((512 * p0 + i) % 512)) parent
     ∙ ap (λ j. table_of (entry_at ram' f j)) remainder
     ∙ ap table_of (entry-here ram ram' f i h.w h.put ∙ h.entry)
@@ -96,7 +97,8 @@ hung-pages ram ram' root f i g l0 p0 h v =
       | inl both ↦
           let new : table_at ram' root 2 (v / 512) ≡ Some g = ap (λ m. table_at ram' root m (v / 512)) both.0 ∙ ap (table_at ram' root (suc l0)) both.1 ∙ hung-here ram ram' root f i g l0 p0 h in
           let old : table_at ram root 2 (v / 512) ≡ None = ap (λ m. table_at ram root m (v / 512)) both.0 ∙ ap (table_at ram root (suc l0)) both.1 ∙ h.free in
-          (ap (λ t. last ram' t (v % 512)) new ∙ hung-entries ram ram' root f i g l0 p0 h (v % 512) ∙ h.blank (omega (arith, both.0)) (v % 512) (omega arith)) ∙ sym (ap (λ t. last ram t (v % 512)) old)
+          (ap (λ t. last ram' t (v % 512)) new ∙ hung-entries ram ram' root f i g l0 p0 h (v % 512) ∙ h.blank (omega (arith, both.0)) (v % 512)
+          (omega arith)) ∙ sym (ap (λ t. last ram t (v % 512)) old)
       | inr not_new ↦
           let same = hung-others ram ram' root f i g l0 p0 h 2 (v / 512) (omega arith) not_new in
           ap (λ t. last ram' t (v % 512)) same

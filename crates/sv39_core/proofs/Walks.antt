@@ -51,4 +51,5 @@ pub walked-last : (ram : List (List ℕ)) (root va : ℕ) (access : Access) (f g
     → table_of (entry_at ram f (va / 2097152 % 512)) ≡ Some g
     → walked ram root va access ≡ allowed access (entry_at ram g (va / 4096 % 512)) (va % 4096)
 walked-last ram root va access f g c e d =
-    walked-entry ram root va access (entry_at ram g (va / 4096 % 512)) c (levels ram root va ∙ ap (λ t. last ram (below ram t (va / 2097152 % 512)) (va / 4096 % 512)) e ∙ ap (λ t. last ram t (va / 4096 % 512)) d)
+    walked-entry ram root va access (entry_at ram g (va / 4096 % 512)) c
+    (levels ram root va ∙ ap (λ t. last ram (below ram t (va / 2097152 % 512)) (va / 4096 % 512)) e ∙ ap (λ t. last ram t (va / 4096 % 512)) d)

@@ -1,11 +1,10 @@
 -- What the words that the kernel writes say.
-use Rattle.std.proofs.Common.{◌≡◌, ◌≢◌, ℕ, ◌+◌, ◌-◌, ◌*◌, ◌/◌, ◌%◌, ◌^◌, ◌<◌, ◌≤◌, ◌&&◌, ◌||◌, Bool, true, false, not, cond, eqb, leb, ltb, Option, Some, None, inl, inr, refl, sym, ap, ◌∙◌, arith}
+use Rattle.std.proofs.Common.{◌≡◌, ℕ, ◌+◌, ◌-◌, ◌*◌, ◌/◌, ◌%◌, ◌^◌, ◌<◌, ◌&&◌, ◌||◌, Bool, true, false, not, cond, eqb, leb, ltb, Option, Some, None, inl, inr, refl, sym, ap, ◌∙◌, arith}
 use Rattle.std.specs.Int.{bit_at}
 use Rattle.std.specs.Int.RustNames.{bit_and}
 use Rattle.std.proofs.Math.Nat.{mod-lt, one-le-pow}
 use Rattle.std.proofs.lemmas.Nat.Bits.{and_pow}
-use Rattle.std.proofs.lemmas.Bool.{cases_lt, cases_eq, false≢true}
-use Rattle.std.proofs.lemmas.Bool.Decides.{nat_tests}
+use Rattle.std.proofs.lemmas.Bool.{cases_lt, cases_eq, false≢true, eq-eqb, ne_eqb, le-leb, lt-ltb, le-ltb}
 use Rattle.xk_base.specs.declared.access.Rights.{Rights}
 use Rattle.xk_base.specs.declared.access.Access.{Access}
 use Rattle.xk_base.specs.declared.access.Access.TheVariants.{Fetch, Load, Store}
@@ -13,21 +12,6 @@ use Rattle.xk_base.specs.Access.{is_perm, right_for}
 use Rattle.sv39_core.specs.declared.entry.Entry.{Entry}
 use Rattle.sv39_core.specs.declared.entry.Entry.TheVariants.{Invalid, Table, Leaf}
 use Rattle.sv39_core.specs.Sv39.{allowed, flag, given, is_in_ram, page_number, permits, rights_of, is_usable, entry_of, entry_permits, table_of, bit_if, leaf_word, table_word}
-
-pub eqb-yes : (a b : ℕ) → a ≡ b → eqb a b ≡ true
-eqb-yes a b e = grind (arith, nat_tests)
-
-pub eqb-no : (a b : ℕ) → a ≢ b → eqb a b ≡ false
-eqb-no a b e = grind (arith, nat_tests)
-
-pub leb-yes : (a b : ℕ) → a ≤ b → leb a b ≡ true
-leb-yes a b e = grind (arith, nat_tests)
-
-pub ltb-yes : (a b : ℕ) → a < b → ltb a b ≡ true
-ltb-yes a b e = grind (arith, nat_tests)
-
-pub ltb-no : (a b : ℕ) → b ≤ a → ltb a b ≡ false
-ltb-no a b e = grind (arith, nat_tests)
 
 -- user code may make an access by U and the access's right
 pub permits_by_right : (access : Access) (r : Rights) → (r.user && right_for access r) ≡ permits access r
@@ -42,11 +26,11 @@ flag-has w k =
     let some = one-le-pow k 2 (omega arith) in
     let e = and_pow w k in
     elim (cases_eq (bit_at w k) 1) [
-      | inl one ↦ eqb-yes (bit_and w (2 ^ k)) (2 ^ k) (e ∙ ap (λ b. b * 2 ^ k) one ∙ omega arith) ∙ sym (eqb-yes (bit_at w k) 1 one)
+      | inl one ↦ eq-eqb (bit_and w (2 ^ k)) (2 ^ k) (e ∙ ap (λ b. b * 2 ^ k) one ∙ omega arith) ∙ sym (eq-eqb (bit_at w k) 1 one)
       | inr ne ↦
           let none : bit_at w k ≡ 0 = omega (arith, ne, small) in
           let both : bit_and w (2 ^ k) ≡ 0 = e ∙ ap (λ b. b * 2 ^ k) none ∙ omega arith in
-          eqb-no (bit_and w (2 ^ k)) (2 ^ k) (λ h. omega (arith, some, both, h)) ∙ sym (eqb-no (bit_at w k) 1 ne)
+          ne_eqb (bit_and w (2 ^ k)) (2 ^ k) (λ h. omega (arith, some, both, h)) ∙ sym (ne_eqb (bit_at w k) 1 ne)
     ]
 
 -- the low bits of a * 1024 + c
@@ -118,7 +102,7 @@ entry_by-known : (n f : ℕ) (b1 b2 b3 b4 : Bool) → f < n → (not b2 || b1) �
 unfolding entry_by
 entry_by-known n f b1 b2 b3 b4 inside fit =
     let from : 524288 + f - 524288 ≡ f = omega arith in
-    rw (fit, leb-yes 524288 (524288 + f) (omega arith), from, ltb-yes f n inside) refl
+    rw (fit, le-leb 524288 (524288 + f) (omega arith), from, lt-ltb f n inside) refl
 
 and_left : (x y : Bool) → x && y ≡ true → x ≡ true
 and_left true y e = refl
@@ -148,7 +132,7 @@ usable-inside n w e =
     let last = and_right (flag w 0 && (not (flag w 2) || flag w 1) && eqb (w / 2 ^ 54) 0 && leb 0x80000 (page_number w)) (ltb (page_number w - 0x80000) n) e in
     elim (cases_lt (page_number w - 0x80000) n) [
       | inl lt ↦ lt
-      | inr ge ↦ absurd (false≢true (sym (ltb-no (page_number w - 0x80000) n ge) ∙ last))
+      | inr ge ↦ absurd (false≢true (sym (le-ltb (page_number w - 0x80000) n ge) ∙ last))
     ]
 
 -- an entry that says something leads to a frame of the memory
@@ -169,7 +153,7 @@ pub entry_of-table_word : (n f : ℕ) → f < n → f < 32768 → entry_of n (ta
 unfolding table_word entry_by
 entry_of-table_word n f inside small =
     let from : 524288 + f - 524288 ≡ f = omega arith in
-    entry_by-bits n _ 1 f (bits f 1 small (omega arith)) ∙ rw (leb-yes 524288 (524288 + f) (omega arith), from, ltb-yes f n inside) refl
+    entry_by-bits n _ 1 f (bits f 1 small (omega arith)) ∙ rw (le-leb 524288 (524288 + f) (omega arith), from, lt-ltb f n inside) refl
 
 leaf_flags : (n f : ℕ) (b1 b2 b3 b4 : Bool) → f < n → f < 32768 → ((b1 || b3) && (not b2 || b1)) ≡ true
     → entry_of n ((524288 + f) * 1024 + (1 + bit_if b1 2 + bit_if b2 4 + bit_if b3 8 + bit_if b4 16 + 64 + 128)) ≡ Leaf f (record { read = b1; write = b2; execute = b3; user = b4 }) true true
@@ -197,11 +181,15 @@ entry_of-unusable n w e = rw e refl
 
 pub entry_of-as_leaf : (n w : ℕ) → is_usable n w ≡ true → (flag w 1 || flag w 3) ≡ true → entry_of n w ≡ Leaf (page_number w - 0x80000) (rights_of w) (flag w 6) (flag w 7)
 unfolding entry_of
-entry_of-as_leaf n w e l = ap (λ b. cond b (cond (flag w 1 || flag w 3) (Leaf (page_number w - 0x80000) (rights_of w) (flag w 6) (flag w 7)) (Table (page_number w - 0x80000))) Invalid) e ∙ ap (λ b. cond b (Leaf (page_number w - 0x80000) (rights_of w) (flag w 6) (flag w 7)) (Table (page_number w - 0x80000))) l
+entry_of-as_leaf n w e l =
+    ap (λ b. cond b (cond (flag w 1 || flag w 3) (Leaf (page_number w - 0x80000) (rights_of w) (flag w 6) (flag w 7)) (Table (page_number w - 0x80000)))
+    Invalid) e ∙ ap (λ b. cond b (Leaf (page_number w - 0x80000) (rights_of w) (flag w 6) (flag w 7)) (Table (page_number w - 0x80000))) l
 
 pub entry_of-as_table : (n w : ℕ) → is_usable n w ≡ true → (flag w 1 || flag w 3) ≡ false → entry_of n w ≡ Table (page_number w - 0x80000)
 unfolding entry_of
-entry_of-as_table n w e l = ap (λ b. cond b (cond (flag w 1 || flag w 3) (Leaf (page_number w - 0x80000) (rights_of w) (flag w 6) (flag w 7)) (Table (page_number w - 0x80000))) Invalid) e ∙ ap (λ b. cond b (Leaf (page_number w - 0x80000) (rights_of w) (flag w 6) (flag w 7)) (Table (page_number w - 0x80000))) l
+entry_of-as_table n w e l =
+    ap (λ b. cond b (cond (flag w 1 || flag w 3) (Leaf (page_number w - 0x80000) (rights_of w) (flag w 6) (flag w 7)) (Table (page_number w - 0x80000)))
+    Invalid) e ∙ ap (λ b. cond b (Leaf (page_number w - 0x80000) (rights_of w) (flag w 6) (flag w 7)) (Table (page_number w - 0x80000))) l
 
 -- an entry whose V is clear says nothing
 pub entry_of-invalid : (n w : ℕ) → flag w 0 ≡ false → entry_of n w ≡ Invalid
@@ -212,7 +200,9 @@ pub leaf-perm : (n w f : ℕ) (p : Rights) (a d : Bool) → entry_of n w ≡ Lea
 unfolding entry_of
 leaf-perm n w f p a d e = by_use (is_usable n w) (flag w 1 || flag w 3) refl refl e
   where
-    by_use : (b leaf : Bool) → is_usable n w ≡ b → (flag w 1 || flag w 3) ≡ leaf → cond b (cond leaf (Leaf (page_number w - 0x80000) (rights_of w) (flag w 6) (flag w 7)) (Table (page_number w - 0x80000))) Invalid ≡ Leaf f p a d → is_perm p ≡ true
+    by_use : (b leaf : Bool) → is_usable n w ≡ b → (flag w 1 || flag w 3) ≡ leaf
+        → cond b (cond leaf (Leaf (page_number w - 0x80000) (rights_of w) (flag w 6) (flag w 7)) (Table (page_number w - 0x80000))) Invalid
+        ≡ Leaf f p a d → is_perm p ≡ true
     by_use false leaf u l e = absurd (cc)
     by_use true false u l e = absurd (cc)
     by_use true true u l e =
@@ -222,7 +212,8 @@ leaf-perm n w f p a d e = by_use (is_usable n w) (flag w 1 || flag w 3) refl ref
 -- an entry leads to a table where V is set, R, W and X are clear, and its page is in RAM
 pub table_of-entry_of : (n w : ℕ) → table_of (entry_of n w) ≡ cond (flag w 0 && not (flag w 1) && not (flag w 2) && not (flag w 3) && is_in_ram n w) (Some (page_number w - 0x80000)) None
 unfolding entry_of
-table_of-entry_of n w = by_flags (flag w 0) (flag w 1) (flag w 2) (flag w 3) (eqb (w / 2 ^ 54) 0) (leb 0x80000 (page_number w)) (ltb (page_number w - 0x80000) n) (Leaf (page_number w - 0x80000) (rights_of w) (flag w 6) (flag w 7)) (page_number w - 0x80000) refl
+table_of-entry_of n w = by_flags (flag w 0) (flag w 1) (flag w 2) (flag w 3) (eqb (w / 2 ^ 54) 0) (leb 0x80000 (page_number w))
+    (ltb (page_number w - 0x80000) n) (Leaf (page_number w - 0x80000) (rights_of w) (flag w 6) (flag w 7)) (page_number w - 0x80000) refl
   where
     led : (b : Bool) (f : ℕ) → table_of (cond b (Table f) Invalid) ≡ cond b (Some f) None
     led true f = refl
@@ -246,9 +237,11 @@ pub allowed-usable : (access : Access) (n w offset : ℕ)
     → allowed access (entry_of n w) offset ≡ cond (is_usable n w && permits access (given (rights_of w) (flag w 6) (flag w 7))) (Some (page_number w - 0x80000, offset)) None
 unfolding entry_of
 allowed-usable access n w offset =
-    by_flags access (flag w 0) (flag w 1) (flag w 2) (flag w 3) (flag w 4) (flag w 6) (flag w 7) (eqb (w / 2 ^ 54) 0) (leb 0x80000 (page_number w)) (ltb (page_number w - 0x80000) n) (page_number w - 0x80000) offset
+    by_flags access (flag w 0) (flag w 1) (flag w 2) (flag w 3) (flag w 4) (flag w 6) (flag w 7) (eqb (w / 2 ^ 54) 0) (leb 0x80000 (page_number w))
+    (ltb (page_number w - 0x80000) n) (page_number w - 0x80000) offset
   where
-    let_in : (access : Access) (b : Bool) (f : ℕ) (p : Rights) (a d : Bool) (offset : ℕ) → allowed access (cond b (Leaf f p a d) Invalid) offset ≡ cond (b && permits access (given p a d)) (Some (f, offset)) None
+    let_in : (access : Access) (b : Bool) (f : ℕ) (p : Rights) (a d : Bool) (offset : ℕ) → allowed access (cond b (Leaf f p a d) Invalid) offset
+        ≡ cond (b && permits access (given p a d)) (Some (f, offset)) None
     let_in access true f p a d offset = refl
     let_in access false f p a d offset = refl
 
@@ -273,7 +266,11 @@ allowed-usable access n w offset =
     refused Store true true true = refl
 
     by_flags : (access : Access) (b0 b1 b2 b3 b4 b6 b7 t l u : Bool) (f offset : ℕ)
-        → allowed access (cond (b0 && (not b2 || b1) && t && l && u) (cond (b1 || b3) (Leaf f (record { read = b1; write = b2; execute = b3; user = b4 }) b6 b7) (Table f)) Invalid) offset ≡ cond (b0 && (not b2 || b1) && t && l && u && permits access (given (record { read = b1; write = b2; execute = b3; user = b4 }) b6 b7)) (Some (f, offset)) None
+        → allowed access
+        (cond (b0 && (not b2 || b1) && t && l && u)
+        (cond (b1 || b3) (Leaf f (record { read = b1; write = b2; execute = b3; user = b4 }) b6 b7) (Table f)) Invalid) offset
+        ≡ cond (b0 && (not b2 || b1) && t && l && u && permits access (given (record { read = b1; write = b2; execute = b3; user = b4 }) b6 b7))
+        (Some (f, offset)) None
     by_flags access false b1 b2 b3 b4 b6 b7 t l u f offset = refl
     by_flags access true true true b3 b4 b6 b7 t l u f offset = let_in access (t && l && u) f _ b6 b7 offset
     by_flags access true true false b3 b4 b6 b7 t l u f offset = let_in access (t && l && u) f _ b6 b7 offset
@@ -294,10 +291,13 @@ first false q p t l u = refl
 
 -- the bits below the page number may be asked first
 pub allowed-entry_of : (access : Access) (n w offset : ℕ)
-    → allowed access (entry_of n w) offset ≡ cond (flag w 0 && (not (flag w 2) || flag w 1) && permits access (given (rights_of w) (flag w 6) (flag w 7)) && is_in_ram n w) (Some (page_number w - 0x80000, offset)) None
+    → allowed access (entry_of n w) offset
+    ≡ cond (flag w 0 && (not (flag w 2) || flag w 1) && permits access (given (rights_of w) (flag w 6) (flag w 7)) && is_in_ram n w)
+    (Some (page_number w - 0x80000, offset)) None
 allowed-entry_of access n w offset =
     allowed-usable access n w offset
-    ∙ ap (λ b. cond b (Some (page_number w - 0x80000, offset)) None) (first (flag w 0) (not (flag w 2) || flag w 1) _ (eqb (w / 2 ^ 54) 0) (leb 0x80000 (page_number w)) (ltb (page_number w - 0x80000) n))
+    ∙ ap (λ b. cond b (Some (page_number w - 0x80000, offset)) None)
+    (first (flag w 0) (not (flag w 2) || flag w 1) _ (eqb (w / 2 ^ 54) 0) (leb 0x80000 (page_number w)) (ltb (page_number w - 0x80000) n))
 
 -- the same of a page's rights alone
 pub permits_entry_of : (access : Access) (n w : ℕ) → entry_permits access (entry_of n w) ≡ (flag w 0 && (not (flag w 2) || flag w 1) && permits access (rights_of w) && is_in_ram n w)
@@ -307,7 +307,8 @@ permits_entry_of access n w =
     ∙ first (flag w 0) (not (flag w 2) || flag w 1) (permits access (rights_of w)) (eqb (w / 2 ^ 54) 0) (leb 0x80000 (page_number w)) (ltb (page_number w - 0x80000) n)
   where
     by_flags : (access : Access) (usable r b2 x u a d : Bool) (f : ℕ) → (usable ≡ true → (not b2 || r) ≡ true)
-        → entry_permits access (cond usable (cond (r || x) (Leaf f (record { read = r; write = b2; execute = x; user = u }) a d) (Table f)) Invalid) ≡ (usable && permits access (record { read = r; write = b2; execute = x; user = u }))
+        → entry_permits access (cond usable (cond (r || x) (Leaf f (record { read = r; write = b2; execute = x; user = u }) a d) (Table f)) Invalid)
+        ≡ (usable && permits access (record { read = r; write = b2; execute = x; user = u }))
     by_flags access false r b2 x u a d f fit = refl
     by_flags access true true b2 x u a d f fit = refl
     by_flags access true false b2 true u a d f fit = refl

@@ -12,7 +12,8 @@ behind_all file a b c d e f g h = simp append_assoc
 pub with_header : (file : List ℕ) (flags off vaddr size : ℕ)
     → file ++ le_bytes 4 to_be_loaded ++ le_bytes 4 flags ++ le_bytes 8 off ++ le_bytes 8 vaddr ++ le_bytes 8 vaddr ++ le_bytes 8 size ++ le_bytes 8 size ++ le_bytes 8 1
     ≡ file ++ segment_header flags off vaddr size
-with_header file flags off vaddr size = behind_all file (le_bytes 4 to_be_loaded) (le_bytes 4 flags) (le_bytes 8 off) (le_bytes 8 vaddr) (le_bytes 8 vaddr) (le_bytes 8 size) (le_bytes 8 size) (le_bytes 8 1)
+with_header file flags off vaddr size = behind_all file (le_bytes 4 to_be_loaded) (le_bytes 4 flags) (le_bytes 8 off) (le_bytes 8 vaddr)
+    (le_bytes 8 vaddr) (le_bytes 8 size) (le_bytes 8 size) (le_bytes 8 1)
 
 -- the header of a segment that has bytes
 pub with_some : (file : List ℕ) (flags off vaddr size : ℕ) → (size ≡ 0 → ⊥)

@@ -90,8 +90,10 @@ ends labels len at (line ∷ others) (p ∷ ps) (bs ∷ bss) f s =
     let rest = ends labels len (behind p.statement at) others ps bss f.1 s.1 in
     let text = bytes_in Text (lines_of ps bss) in
     let data_bytes = bytes_in Data (lines_of ps bss) in (
-      ap (λ (a : Place). (end_of ps (behind p.statement a)).text_len) here ∙ rest.0 ∙ more_text p.statement at bs text size ∙ ap (λ (a : Place). at.text_len + length (or_skipped Text bs a.section text)) (sym here),
-      ap (λ (a : Place). (end_of ps (behind p.statement a)).data_len) here ∙ rest.1 ∙ more_data p.statement at bs data_bytes size ∙ ap (λ (a : Place). at.data_len + length (or_skipped Data bs a.section data_bytes)) (sym here),
+      ap (λ (a : Place). (end_of ps (behind p.statement a)).text_len) here ∙ rest.0 ∙ more_text p.statement at bs text size
+          ∙ ap (λ (a : Place). at.text_len + length (or_skipped Text bs a.section text)) (sym here),
+      ap (λ (a : Place). (end_of ps (behind p.statement a)).data_len) here ∙ rest.1 ∙ more_data p.statement at bs data_bytes size
+          ∙ ap (λ (a : Place). at.data_len + length (or_skipped Data bs a.section data_bytes)) (sym here),
     )
 
 -- the file isn't too long

@@ -1,5 +1,6 @@
 -- The file of a program loads as that program.
-use Rattle.std.proofs.Common.{◌≡◌, ℕ, zero, suc, ◌+◌, ◌*◌, ◌/◌, ◌%◌, ◌^◌, ◌<◌, ◌≤◌, Bool, true, false, cond, List, [], ◌∷◌, ◌++◌, length, take, Result, Ok, Err, refl, sym, ap, ◌∙◌, subst, arith, length-append, append-nil}
+use Rattle.std.proofs.Common.{◌≡◌, ℕ, zero, suc, ◌+◌, ◌*◌, ◌/◌, ◌%◌, ◌^◌, ◌<◌, ◌≤◌, Bool, true, false, cond, List, [], ◌∷◌, ◌++◌, length, take, Result, Ok, Err, refl, sym, ap, ◌∙◌, subst, arith}
+use Rattle.std.proofs.Common.{length-append, append-nil}
 use Rattle.std.specs.Prelude.{◌==◌, ◌&&◌, nat_lt, nat_eq}
 use Rattle.std.specs.List.{starts_with}
 use Rattle.std.proofs.Math.Dec.{eqb-suc-zero}
@@ -37,7 +38,8 @@ elf_by file long magic = rw (le-leb 64 (length file) long, magic) refl
 
 -- the header, where the test passes
 header_by : (file : List ℕ) (h : Header) → is_elf file ≡ true → elf.file_header file ≡ h → header_of file ≡ Ok h
-header_by file h is e = ap (λ (b : Bool). let r : Result Header ExecError = cond b (Ok (elf.file_header file)) (Err NotElf) in r) is ∙ ap (λ (x : Header). let r : Result Header ExecError = Ok x in r) e
+header_by file h is e = ap (λ (b : Bool). let r : Result Header ExecError = cond b (Ok (elf.file_header file)) (Err NotElf) in r) is
+    ∙ ap (λ (x : Header). let r : Result Header ExecError = Ok x in r) e
 
 -- a header of this project's files: the program headers stand behind it
 abbrev pub header_with : (entry phnum : ℕ) → Header

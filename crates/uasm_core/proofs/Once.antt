@@ -5,7 +5,8 @@ use Rattle.std.specs.Option.{is_some}
 use Rattle.uasm_core.specs.declared.place.Place.{Place}
 use Rattle.uasm_core.specs.Written.{Placed, label_place, is_label_of, is_taken}
 use Rattle.std.proofs.lemmas.Slice.Eq.{bytes_eq-Decides}
-use Rattle.uasm_core.proofs.OneMore.{or_else, label_more, none_of}
+use Rattle.xk_base.proofs.Options.{none_from_is_some}
+use Rattle.uasm_core.proofs.OneMore.{or_else, label_more}
 
 -- no line has the label of a line behind it
 abbrev pub Distinct : List Placed → Type 0
@@ -25,7 +26,9 @@ later : (q : Option (List ℕ)) (f : List ℕ → Option Place) (p : Option (Lis
     → ((l : List ℕ) → g l ≡ or_else (f l) (is_label_of p l) at)
     → is_taken q f ≡ false → ((l : List ℕ) → q ≡ Some l → is_label_of p l ≡ false) → is_taken q g ≡ false
 later None f p at g more h e = refl
-later (Some m) f p at g more h e = ap is_some (more m ∙ ap (λ (o : Option Place). or_else o (is_label_of p m) at) (none_of (f m) h) ∙ ap (λ (b : Bool). cond b (Some at) None) (e m refl)) ∙ nothing
+later (Some m) f p at g more h e =
+    ap is_some (more m ∙ ap (λ (o : Option Place). or_else o (is_label_of p m) at) (none_from_is_some (f m) h)
+    ∙ ap (λ (b : Bool). cond b (Some at) None) (e m refl)) ∙ nothing
   where
     nothing : is_some (or_else None false at) ≡ false
     nothing = refl
@@ -53,4 +56,4 @@ distinct_more (q ∷ ps) p d h =
 -- no place has the label of a line whose label isn't taken
 pub nowhere : (label : Option (List ℕ)) (f : List ℕ → Option Place) (name : List ℕ) → is_taken label f ≡ false → is_label_of label name ≡ true → f name ≡ None
 nowhere None f name free same = absurd (let no_way : ⊥ = cc in no_way)
-nowhere (Some m) f name free same = subst (λ (k : List ℕ). f k ≡ None) ((bytes_eq-Decides m name).0 same) (none_of (f m) free)
+nowhere (Some m) f name free same = subst (λ (k : List ℕ). f k ≡ None) ((bytes_eq-Decides m name).0 same) (none_from_is_some (f m) free)

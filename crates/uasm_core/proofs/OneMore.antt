@@ -4,6 +4,7 @@ use Rattle.std.specs.Str.{bytes_eq}
 use Rattle.std.specs.Option.{is_some}
 use Rattle.std.proofs.Math.Path.{fun_ext}
 use Rattle.std.proofs.lemmas.Slice.Eq.{bytes_eq-Decides}
+use Rattle.xk_base.proofs.Options.{none_from_is_some}
 use Rattle.uasm_core.specs.declared.place.Place.{Place}
 use Rattle.uasm_core.specs.Written.{is_label_of}
 use Rattle.uasm_core.specs.Views.{with_label_of}
@@ -23,11 +24,6 @@ label_more (q ∷ ps) p l =
       | false ↦ label_more ps p l
     ]
 
--- what isn't there is nothing
-pub none_of : (o : Option Place) → is_some o ≡ false → o ≡ None
-none_of (Some x) h = cc
-none_of None h = refl
-
 -- what was found stays
 kept : (o : Option Place) (at : Place) → o ≡ or_else o false at
 kept (Some x) at = refl
@@ -36,7 +32,7 @@ kept None at = refl
 -- a new label is found as a line behind all others
 with_by : (m : List ℕ) (at : Place) (f : List ℕ → Option Place) (l : List ℕ) → is_some (f m) ≡ false → (b : Bool) → bytes_eq m l ≡ b → cond b (Some at) (f l) ≡ or_else (f l) b at
 with_by m at f l h true e =
-    let nothing : f l ≡ None = subst (λ (k : List ℕ). f k ≡ None) ((bytes_eq-Decides m l).0 e) (none_of (f m) h) in
+    let nothing : f l ≡ None = subst (λ (k : List ℕ). f k ≡ None) ((bytes_eq-Decides m l).0 e) (none_from_is_some (f m) h) in
     subst (λ (o : Option Place). Some at ≡ or_else o true at) (sym nothing) refl
 with_by m at f l h false e = kept (f l) at
 

@@ -9,7 +9,8 @@ use Rattle.rv64i_core.specs.declared.instruction.Instr.TheVariants.{Branch, Jal,
 use Rattle.rv64i_core.specs.declared.instruction.ImmOp.TheVariants.{Addi}
 use Rattle.std.proofs.lemmas.List.Sums.{sum_by-cons}
 use Rattle.uasm_core.specs.declared.error.AsmErrorKind.{AsmErrorKind}
-use Rattle.uasm_core.specs.Statement.{Statement, Empty, Switch, Code, BranchTo, JumpTo, LoadAddress, Bytes, Datum, Known, Address, Labels, size_of, datum_size, spelled, datum_bytes, address_of, distance, code_bytes, joined, each, ◌>>=◌, low_bits, from_to, upper, lower}
+use Rattle.uasm_core.specs.Statement.{Statement, Empty, Switch, Code, BranchTo, JumpTo, LoadAddress, Bytes, Datum, Known, Address, Labels, size_of, datum_size, spelled, datum_bytes, address_of}
+use Rattle.uasm_core.specs.Statement.{distance, code_bytes, joined, each, ◌>>=◌, low_bits, from_to, upper, lower}
 
 -- four bytes for each instruction
 length-code_bytes : (is : List Instr) → length (code_bytes is) ≡ 4 * length is
@@ -54,7 +55,9 @@ one_more (Ok b) (Ok others) n m bss first rest h =
 data_len : (labels : Labels) (ds : List Datum) (bss : List (List ℕ)) → each (datum_bytes labels) ds ≡ Ok bss → length (joined bss) ≡ sum_by datum_size ds
 data_len labels [] bss h = let e : [] ≡ bss = cc in sym (ap (λ (ls : List (List ℕ)). length (joined ls)) e)
 data_len labels (d ∷ ds) bss h =
-    let more : length (joined bss) ≡ datum_size d + sum_by datum_size ds = one_more (datum_bytes labels d) (each (datum_bytes labels) ds) (datum_size d) (sum_by datum_size ds) bss (datum_len labels d) (data_len labels ds) h in
+    let more : length (joined bss) ≡ datum_size d + sum_by datum_size ds =
+    one_more (datum_bytes labels d) (each (datum_bytes labels) ds) (datum_size d) (sum_by datum_size ds) bss (datum_len labels d)
+    (data_len labels ds) h in
     more ∙ sym (sum_by-cons datum_size d ds)
 
 -- their bytes, joined
@@ -72,7 +75,11 @@ pub length-spelled : (labels : Labels) (at : ℕ) (s : Statement) (bs : List ℕ
 length-spelled labels at Empty bs h = let e : [] ≡ bs = cc in sym (ap length e)
 length-spelled labels at (Switch to) bs h = let e : [] ≡ bs = cc in sym (ap length e)
 length-spelled labels at (Code is) bs h = let e : code_bytes is ≡ bs = cc in sym (ap length e) ∙ length-code_bytes is
-length-spelled labels at (BranchTo op s t l) bs h = by_numbers (address_of labels l) (λ to. distance 12 at to) (λ d. code_bytes (Branch op s t d ∷ [])) 4 bs (λ d. length-code_bytes (Branch op s t d ∷ [])) h
+length-spelled labels at (BranchTo op s t l) bs h =
+    by_numbers (address_of labels l) (λ to. distance 12 at to) (λ d. code_bytes (Branch op s t d ∷ [])) 4 bs
+    (λ d. length-code_bytes (Branch op s t d ∷ [])) h
 length-spelled labels at (JumpTo rd l) bs h = by_numbers (address_of labels l) (λ to. distance 20 at to) (λ d. code_bytes (Jal rd d ∷ [])) 4 bs (λ d. length-code_bytes (Jal rd d ∷ [])) h
-length-spelled labels at (LoadAddress rd l) bs h = by_number (address_of labels l) (λ to. address_code rd (low_bits 32 (from_to at to))) 8 bs (λ to. length-code_bytes (Auipc rd (upper (low_bits 32 (from_to at to))) ∷ OpImm Addi rd rd (lower (low_bits 32 (from_to at to))) ∷ [])) h
+length-spelled labels at (LoadAddress rd l) bs h =
+    by_number (address_of labels l) (λ to. address_code rd (low_bits 32 (from_to at to))) 8 bs
+    (λ to. length-code_bytes (Auipc rd (upper (low_bits 32 (from_to at to))) ∷ OpImm Addi rd rd (lower (low_bits 32 (from_to at to))) ∷ [])) h
 length-spelled labels at (Bytes ds) bs h = values_len labels ds (each (datum_bytes labels) ds) bs refl h

@@ -1,24 +1,25 @@
 -- A file that loads as a program becomes that program in memory, with each list of texts that fits.
-use Rattle.std.proofs.Common.{◌≡◌, ◌≢◌, ℕ, zero, suc, ◌+◌, ◌-◌, ◌*◌, ◌/◌, ◌%◌, ◌<◌, ◌≤◌, Bool, true, cond, List, [], ◌∷◌, ◌++◌, length, map, Option, Some, None, Result, Ok, Err, inl, inr, refl, sym, ap, ◌∙◌, subst, arith}
+use Rattle.std.proofs.Common.{◌≡◌, ℕ, zero, suc, ◌+◌, ◌-◌, ◌*◌, ◌/◌, ◌%◌, ◌<◌, ◌≤◌, Bool, true, cond, List, [], ◌∷◌, ◌++◌, length, map, Option, Some, None, Result, Ok, Err, refl, sym, ap, ◌∙◌, subst}
+use Rattle.std.proofs.Common.{arith}
 use Rattle.std.specs.Prelude.{◌==◌, ◌&&◌, nat_lt, nat_le, if◌then◌else◌, slice_index, option_map}
 use Rattle.std.specs.List.{range_with_len}
-use Rattle.std.specs.Ordering.{nat_cmp}
-use Rattle.std.specs.FinMap.{FinMap, get, get-insert}
-use Rattle.std.specs.Cmp.{nat_cmp_total, unsigned_tied}
-use Rattle.std.proofs.lemmas.Bool.{cases_eq, eq-eqb, ne_eqb, lt-ltb, le-ltb, le-leb, lt-leb}
+use Rattle.std.specs.FinMap.{get}
+use Rattle.std.proofs.lemmas.Bool.{ne_eqb, lt-ltb, le-ltb}
 use Rattle.xk_base.specs.declared.access.Rights.{Rights}
 use Rattle.xk_base.specs.declared.errors.ExecError.{ExecError}
 use Rattle.xk_base.specs.declared.errors.ExecError.TheVariants.{ArgsTooLong}
 use Rattle.xk_base.specs.declared.program.Header.{Header}
 use Rattle.xk_base.specs.declared.program.Segment.{Segment}
 use Rattle.xk_base.specs.ProgramFile.{page_up, segments_of}
-use Rattle.xk_base.specs.Gathered.{gathered, insert_some}
 use Rattle.xk_base.specs.Image.{Page, page_count}
 use Rattle.xk_base.specs.Bytes.{byte_in, image_byte}
-use Rattle.xk_base.specs.Loaded.{over, zeros, addresses, page_by, end_after, perm_at, file_bytes, segments_over, down, text_places, lowest, stack_pointer, pointers, texts_over, stack_over, guard, page_perm, program_image, Loaded, aligned, with_texts, loaded, ◌>>=◌}
+use Rattle.xk_base.specs.Loaded.{over, zeros, addresses, page_by, end_after, perm_at, file_bytes, segments_over, down, text_places, lowest, stack_pointer, pointers, texts_over, stack_over, guard}
+use Rattle.xk_base.specs.Loaded.{page_perm, program_image, Loaded, aligned, with_texts, loaded, ◌>>=◌}
 use Rattle.uasm_core.specs.Written.{Program}
 use Rattle.uasm_core.specs.Meaning.{Stretch, stretch_of, text_rights, AllPut, LoadsAs, Assembles, guard_at, stack_of, TextsFit, Holds, Becomes, Starts}
 use Rattle.xk_base.specs.Access.{data_rights}
+use Rattle.xk_base.proofs.Laid.{over-in, over-below, lowest-le}
+use Rattle.xk_base.proofs.Gathered.{gathered-some}
 
 -- ---- lists by address
 
@@ -36,21 +37,7 @@ told f a (b ∷ bs) h =
     let later : map f (range_with_len (a + 1) (length bs)) ≡ bs = told f (a + 1) bs (λ k lt. let e : a + 1 + k ≡ a + suc k = omega arith in ap f e ∙ h (suc k) (omega (arith, lt))) in
     ap (λ x. x ∷ map f (range_with_len (a + 1) (length bs))) (ap f first ∙ h 0 (omega arith)) ∙ ap (λ xs. b ∷ xs) later
 
--- ---- bytes laid over a memory
-
-over-in : (s : ℕ) (bytes : List ℕ) (byte : ℕ → ℕ) (a : ℕ) → s ≤ a → a < s + length bytes → over s bytes byte a ≡ slice_index bytes (a - s)
-over-in s bytes byte a lo hi =
-    ap (λ t. cond (t && nat_lt a (s + length bytes)) (slice_index bytes (a - s)) (byte a)) (le-leb s a lo)
-    ∙ ap (λ t. cond (true && t) (slice_index bytes (a - s)) (byte a)) (lt-ltb a (s + length bytes) hi)
-
-over-below : (s : ℕ) (bytes : List ℕ) (byte : ℕ → ℕ) (a : ℕ) → a < s → over s bytes byte a ≡ byte a
-over-below s bytes byte a lo = ap (λ t. cond (t && nat_lt a (s + length bytes)) (slice_index bytes (a - s)) (byte a)) (lt-leb s a lo)
-
 -- ---- the stack lies above all that is below its stack pointer
-
-lowest-le : (texts : List (List ℕ)) (top : ℕ) → lowest top (text_places top texts) ≤ top
-lowest-le [] top = omega arith
-lowest-le (text ∷ later) top = let rest = lowest-le later (down top (length text + 1)) in omega (arith, rest)
 
 texts-above : (texts : List (List ℕ)) (top : ℕ) (byte : ℕ → ℕ) (a : ℕ) → a < lowest top (text_places top texts) → texts_over top texts byte a ≡ byte a
 texts-above [] top byte a lt = refl
@@ -64,22 +51,6 @@ stack-above texts top byte a lt =
     over-below (stack_pointer top texts) (pointers top texts) (texts_over top texts byte) a lt ∙ texts-above texts top byte a (omega (arith, lt))
 
 -- ---- pages of an image
-
--- a number that is gathered last leaves all others
-gathered-other : {X : Type 0} (m : FinMap nat_cmp X) (n v : ℕ) (o : Option X) → v ≢ n → get (insert_some m n o) v ≡ get m v
-gathered-other m n v None ne = refl
-gathered-other m n v (Some y) ne = get-insert nat_cmp_total m n y v ∙ ap (λ b. cond b (Some y) (get m v)) (unsigned_tied v n ∙ ne_eqb v n ne)
-
--- what a gathered map has at a number below its bound
-gathered-some : {X : Type 0} (f : ℕ → Option X) (n v : ℕ) (x : X) → v < n → f v ≡ Some x → get (gathered f n) v ≡ Some x
-unfolding gathered
-gathered-some f zero v x lt is = absurd (omega (arith, lt))
-gathered-some f (suc n) v x lt is = elim (cases_eq v n) [
-  | inl e ↦
-      ap (λ o. get (insert_some (gathered f n) n o) v) (ap f (sym e) ∙ is) ∙ get-insert nat_cmp_total (gathered f n) n x v
-      ∙ ap (λ b. cond b (Some x) (get (gathered f n) v)) (unsigned_tied v n ∙ eq-eqb v n e)
-  | inr ne ↦ gathered-other (gathered f n) n v (f n) ne ∙ gathered-some f n v x (omega (arith, lt, ne)) is
-]
 
 -- below the guard page the segments give the rights
 below-guard : (segments : List Segment) (s v : ℕ) → 4096 * v < s → page_perm segments s v ≡ perm_at segments v

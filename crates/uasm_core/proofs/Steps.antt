@@ -11,7 +11,9 @@ use Rattle.uasm_core.specs.Written.{Placed, Fault, ◌>>=◌, one_by_one, placed
 same : (ps : List Placed) (n : ℕ) (labels : List ℕ → Option Place) (at : Place) (source : List ℕ)
     → n ≡ length ps → labels ≡ label_place ps → at ≡ end_of ps start → placed (length ps + 1) (label_place ps) (end_of ps start) source ≡ placed (n + 1) labels at source
 same ps n labels at source e l a =
-    ap (λ (m : ℕ). placed (m + 1) (label_place ps) (end_of ps start) source) (sym e) ∙ ap (λ (f : List ℕ → Option Place). placed (n + 1) f (end_of ps start) source) (sym l) ∙ ap (λ (q : Place). placed (n + 1) labels q source) (sym a)
+    ap (λ (m : ℕ). placed (m + 1) (label_place ps) (end_of ps start) source) (sym e)
+    ∙ ap (λ (f : List ℕ → Option Place). placed (n + 1) f (end_of ps start) source) (sym l)
+    ∙ ap (λ (q : Place). placed (n + 1) labels q source) (sym a)
 
 -- a line that is taken
 pub more : (ps : List Placed) (n : ℕ) (labels : List ℕ → Option Place) (at : Place) (source : List ℕ) (others : List (List ℕ)) (p : Placed) (whole : Result (List Placed) Fault)

@@ -13,10 +13,6 @@ use Rattle.uasm_core.specs.Meaning.{Assembles}
 use Rattle.uasm_core.proofs.Lines.{Known, known}
 use Rattle.uasm_core.proofs.Loads.{whole_file}
 
--- what the first pass refuses
-pub refused_first : (source : List ℕ) (e : Fault) → all_placed (lines source) ≡ Err e → file_of source ≡ Err e
-refused_first source e h = ap (λ (x : Result (List Placed) Fault). (x >>= second_pass) >>= λ p. Ok (elf_of p)) h
-
 -- the file where the second pass gives this
 abbrev pub of_second : ℕ → (List ℕ → Option Place) → Result SectionBytes Fault → Result (List ℕ) Fault
 of_second text_len places x = (x >>= λ r. let w : Result Program Fault = Ok (program_of text_len places r) in w) >>= λ p. Ok (elf_of p)

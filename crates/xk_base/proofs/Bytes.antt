@@ -1,36 +1,13 @@
 -- Writes to an image: one behind another is one, and a write inside one page changes that page.
-use Rattle.std.proofs.Common.{◌≡◌, ◌≢◌, ℕ, suc, ◌+◌, ◌*◌, ◌/◌, ◌%◌, ◌<◌, ◌≤◌, cond, List, [], ◌∷◌, ◌++◌, length, take, drop, set, Option, Some, None, inl, inr, refl, sym, ap, ◌∙◌, arith}
-use Rattle.std.proofs.lemmas.Bool.{cases_eq, eq-eqb, ne_eqb}
+use Rattle.std.proofs.Common.{◌≡◌, ℕ, suc, ◌+◌, ◌*◌, ◌/◌, ◌%◌, ◌<◌, ◌≤◌, List, [], ◌∷◌, ◌++◌, length, take, drop, set, Option, Some, None, inl, inr, refl, sym, ap, ◌∙◌, arith}
+use Rattle.std.proofs.lemmas.Bool.{cases_eq}
 use Rattle.std.proofs.lemmas.List.{take-append-drop, take_more_set, drop-set-lt, append_assoc, length-set}
 use Rattle.std.specs.Option.{option_map}
-use Rattle.std.specs.Ordering.{nat_cmp}
-use Rattle.std.specs.FinMap.{FinMap, insert, get, get-insert, same_map, nat_cmp-IsAntisymmetric}
-use Rattle.std.specs.Cmp.{nat_cmp_total, unsigned_tied}
+use Rattle.std.specs.FinMap.{get}
 use Rattle.xk_base.specs.declared.access.Rights.{Rights}
 use Rattle.xk_base.specs.Image.{Page, Image, with_page}
 use Rattle.xk_base.specs.Bytes.{HasPage, put_in, put_byte, write_image}
-
--- ---- one page of a map
-
-get-here : (m : FinMap nat_cmp Page) (v u : ℕ) (page : Page) → u ≡ v → get (insert m v page) u ≡ Some page
-get-here m v u page e = get-insert nat_cmp_total m v page u ∙ ap (λ b. cond b (Some page) (get m u)) (unsigned_tied u v ∙ eq-eqb u v e)
-
-get-other : (m : FinMap nat_cmp Page) (v u : ℕ) (page : Page) → u ≢ v → get (insert m v page) u ≡ get m u
-get-other m v u page ne = get-insert nat_cmp_total m v page u ∙ ap (λ b. cond b (Some page) (get m u)) (unsigned_tied u v ∙ ne_eqb u v ne)
-
--- the last of two pages put at one number stays
-insert-twice : (m : FinMap nat_cmp Page) (v : ℕ) (page later : Page) → insert (insert m v page) v later ≡ insert m v later
-insert-twice m v page later = same_map nat_cmp_total nat_cmp-IsAntisymmetric (insert (insert m v page) v later) (insert m v later) (λ u. elim (cases_eq u v) [
-  | inl e ↦ get-here (insert m v page) v u later e ∙ sym (get-here m v u later e)
-  | inr ne ↦ get-other (insert m v page) v u later ne ∙ get-other m v u page ne ∙ sym (get-other m v u later ne)
-])
-
--- the page that is there is put again
-insert-again : (m : FinMap nat_cmp Page) (v : ℕ) (page : Page) → get m v ≡ Some page → insert m v page ≡ m
-insert-again m v page there = same_map nat_cmp_total nat_cmp-IsAntisymmetric (insert m v page) m (λ u. elim (cases_eq u v) [
-  | inl e ↦ get-here m v u page e ∙ sym there ∙ ap (get m) (sym e)
-  | inr ne ↦ get-other m v u page ne
-])
+use Rattle.xk_base.proofs.Maps.{get_here, get_other, insert-twice, insert_again}
 
 -- ---- one write behind another
 
@@ -47,23 +24,15 @@ write_image-nil i a = refl
 
 -- ---- what stays
 
-pub size-write_image : (xs : List ℕ) (i : Image) (a : ℕ) → (write_image i a xs).size ≡ i.size
-unfolding write_image
-size-write_image [] i a = refl
-size-write_image (x ∷ xs) i a = size-write_image xs (put_byte i a x) (a + 1) ∙ one (get i.pages (a / 4096))
-  where
-    one : (o : Option Page) → (put_in i (a / 4096) o (a % 4096) x).size ≡ i.size
-    one None = refl
-    one (Some page) = refl
-
 abbrev perm_of : Page → Rights
 perm_of page = page.perm
 
 perm-put : (i : Image) (v o b u : ℕ) (there : Option Page) → get i.pages v ≡ there → option_map perm_of (get (put_in i v there o b).pages u) ≡ option_map perm_of (get i.pages u)
 perm-put i v o b u None e = refl
 perm-put i v o b u (Some page) e = elim (cases_eq u v) [
-  | inl same ↦ ap (option_map perm_of) (get-here i.pages v u (record { perm = page.perm; bytes = set page.bytes o b }) same) ∙ sym (ap (λ w. option_map perm_of (get i.pages w)) same ∙ ap (option_map perm_of) e)
-  | inr other ↦ ap (option_map perm_of) (get-other i.pages v u (record { perm = page.perm; bytes = set page.bytes o b }) other)
+  | inl same ↦ ap (option_map perm_of) (get_here i.pages v (record { perm = page.perm; bytes = set page.bytes o b }) u same)
+      ∙ sym (ap (λ w. option_map perm_of (get i.pages w)) same ∙ ap (option_map perm_of) e)
+  | inr other ↦ ap (option_map perm_of) (get_other i.pages v (record { perm = page.perm; bytes = set page.bytes o b }) u other)
 ]
 
 -- a write changes no rights, and no page comes or goes
@@ -99,7 +68,7 @@ unfolding write_image
 write_image-page [] i v at page there long fits =
     let e : at + 0 ≡ at = omega arith in
     let same : page_with page at [] ≡ page = ap (λ b. record { perm = page.perm; bytes = b }) (ap (λ n. take at page.bytes ++ drop n page.bytes) e ∙ take-append-drop at page.bytes) in
-    sym (ap (λ p. with_page i v p) same ∙ ap (λ m. record { pages = m; size = i.size }) (insert-again i.pages v page there))
+    sym (ap (λ p. with_page i v p) same ∙ ap (λ m. record { pages = m; size = i.size }) (insert_again i.pages v page there))
 write_image-page (b ∷ bs) i v at page there long fits =
     let quotient : (4096 * v + at) / 4096 ≡ v = omega (arith, fits) in
     let remainder : (4096 * v + at) % 4096 ≡ at = omega (arith, fits) in
@@ -109,6 +78,6 @@ write_image-page (b ∷ bs) i v at page there long fits =
     ap (λ w. put_in i w (get i.pages w) ((4096 * v + at) % 4096) b) quotient ∙ ap (λ o. put_in i v (get i.pages v) o b) remainder ∙ ap (λ o. put_in i v o at b) there in
     ap (λ j. write_image j (4096 * v + at + 1) bs) put
     ∙ ap (λ a. write_image (with_page i v page') a bs) next
-    ∙ write_image-page bs (with_page i v page') v (at + 1) page' (get-here i.pages v v page' refl) (omega (arith, length-set page.bytes at b, long)) (omega (arith, fits))
+    ∙ write_image-page bs (with_page i v page') v (at + 1) page' (get_here i.pages v page' v refl) (omega (arith, length-set page.bytes at b, long)) (omega (arith, fits))
     ∙ ap (λ m. record { pages = m; size = i.size }) (insert-twice i.pages v page' (page_with page' (at + 1) bs))
     ∙ ap (λ ys. with_page i v (record { perm = page.perm; bytes = ys })) (list-step page.bytes b bs at (omega (arith, long)))

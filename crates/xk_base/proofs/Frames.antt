@@ -1,7 +1,6 @@
 -- How often a frame stands in a list.
-use Rattle.std.proofs.Common.{◌≡◌, ◌≢◌, ℕ, zero, suc, ◌+◌, ◌<◌, ◌≤◌, cond, eqb, List, [], ◌∷◌, ◌++◌, length, take, set, get_or, inl, inr, refl, sym, ap, ◌∙◌, arith, add-one}
-use Rattle.std.proofs.lemmas.List.{take_more, take_more_set}
-use Rattle.std.proofs.lemmas.Bool.{cases_lt, cases_eq}
+use Rattle.std.proofs.Common.{◌≡◌, ◌≢◌, ℕ, zero, suc, ◌+◌, ◌<◌, ◌≤◌, cond, eqb, List, [], ◌∷◌, ◌++◌, length, inl, inr, refl, sym, ap, ◌∙◌, arith}
+use Rattle.std.proofs.lemmas.Bool.{cases_eq}
 use Rattle.std.proofs.lemmas.Bool.Decides.{nat_tests}
 use Rattle.xk_base.specs.Frames.{copies, Once}
 
@@ -38,9 +37,6 @@ copies-one x y = omega (arith, copies-cons x y [], copies-nil x)
 pub copies-append : (x : ℕ) (xs ys : List ℕ) → copies x (xs ++ ys) ≡ copies x xs + copies x ys
 copies-append x [] ys = omega (arith, copies-nil x)
 copies-append x (z ∷ zs) ys = omega (arith, copies-cons x z (zs ++ ys), copies-cons x z zs, copies-append x zs ys)
-
-pub copies-push : (x : ℕ) (xs : List ℕ) (y : ℕ) → copies x (xs ++ y ∷ []) ≡ copies x xs + at x y
-copies-push x xs y = omega (arith, copies-append x xs (y ∷ []), copies-one x y)
 
 -- how many of a list are below n
 below : ℕ → List ℕ → ℕ
@@ -143,41 +139,6 @@ Once-more n f xs ys same inside apart o = record {
     | inl e ↦ omega (arith, same-cons x f xs ys same, at-le x f, ap (λ y. copies y ys) e)
     | inr ne ↦ omega (arith, same-cons x f xs ys same, at-other x f ne, o.once x)
   ];
-}
-
--- a list's next element, as its last one
-pub SameFrames-take : (xs : List ℕ) (n f : ℕ) → n < length xs → f ≡ get_or xs n 0 → SameFrames (take (n + 1) xs) (f ∷ take n xs)
-SameFrames-take xs n f inside is = record {
-  each = λ x.
-      let more : copies x (take (n + 1) xs) ≡ copies x (take n xs ++ get_or xs n 0 ∷ []) = ap (copies x) (take_more xs n 0 inside) in
-      omega (arith, more, copies-push x (take n xs) (get_or xs n 0), copies-cons x f (take n xs), ap (at x) is);
-}
-
-pub SameFrames-put : (xs : List ℕ) (n f : ℕ) → n < length xs → SameFrames (take (n + 1) (set xs n f)) (f ∷ take n xs)
-SameFrames-put xs n f inside = record {
-  each = λ x.
-      let more : copies x (take (n + 1) (set xs n f)) ≡ copies x (take n xs ++ f ∷ []) = ap (copies x) (take_more_set xs n f inside) in
-      omega (arith, more, copies-push x (take n xs) f, copies-cons x f (take n xs));
-}
-
--- the numbers from 0 up, each once
-pub copies-rising : (xs : List ℕ) (n : ℕ) → n ≤ length xs → ((k : ℕ) → k < n → get_or xs k 0 ≡ k) → (x : ℕ) → (x < n → copies x (take n xs) ≡ 1) × (n ≤ x → copies x (take n xs) ≡ 0)
-copies-rising xs zero long rises x = (λ h. absurd (omega arith), λ h. copies-nil x)
-copies-rising xs (suc n) long rises x =
-    let ih = copies-rising xs n (omega arith) (λ k h. rises k (omega arith)) x in
-    let more : copies x (take (suc n) xs) ≡ copies x (take n xs) + at x (get_or xs n 0) = ap (λ m. copies x (take m xs)) (sym (add-one n)) ∙ ap (copies x) (take_more xs n 0 (omega arith)) ∙ copies-push x (take n xs) (get_or xs n 0) in
-    let last : at x (get_or xs n 0) ≡ at x n = ap (at x) (rises n (omega arith)) in (
-      λ h. elim (cases_eq x n) [
-        | inl e ↦ omega (arith, more, last, ih.1 (omega arith), ap (λ m. at m n) e, at-same n)
-        | inr ne ↦ omega (arith, more, last, ih.0 (omega (arith, ne)), at-other x n ne)
-      ],
-      λ h. omega (arith, more, last, ih.1 (omega arith), at-other x n (λ e. omega arith)),
-    )
-
-pub Once-rising : (xs : List ℕ) (n : ℕ) → n ≤ length xs → ((k : ℕ) → k < n → get_or xs k 0 ≡ k) → Once n (take n xs)
-Once-rising xs n long rises = record {
-  inside = λ x p. elim (cases_lt x n) [ inl lt ↦ lt | inr ge ↦ absurd (omega (arith, (copies-rising xs n long rises x).1 ge, p)) ];
-  once = λ x. elim (cases_lt x n) [ inl lt ↦ omega (arith, (copies-rising xs n long rises x).0 lt) | inr ge ↦ omega (arith, (copies-rising xs n long rises x).1 ge) ];
 }
 
 -- a frame that isn't in the list leaves room for one more

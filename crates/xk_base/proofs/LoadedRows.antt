@@ -91,7 +91,8 @@ small-program : loaded small (init ∷ []) ≡ Ok (record { image = program_imag
 unfolding is_elf file_header program_header is_bad is_refused_after least_below program_image
 small-program = refl
 
-small-image : program_image small (text_segment ∷ []) (init ∷ []) ≡ image_by (page_perm (text_segment ∷ []) 0x1000) (stack_over 0x3000 (init ∷ []) (segments_over small (text_segment ∷ []) zeros)) 0x3000
+small-image : program_image small (text_segment ∷ []) (init ∷ []) ≡ image_by (page_perm (text_segment ∷ []) 0x1000)
+    (stack_over 0x3000 (init ∷ []) (segments_over small (text_segment ∷ []) zeros)) 0x3000
 unfolding program_image
 small-image = refl
 

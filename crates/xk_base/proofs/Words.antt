@@ -1,7 +1,7 @@
 -- Little-endian numbers: the words of the kit's crates are this crate's.
 use Rattle.std.proofs.Common.{◌≡◌, ℕ, zero, suc, ◌+◌, ◌*◌, ◌/◌, ◌%◌, ◌^◌, List, [], ◌∷◌, length, take, refl, sym, ap, ◌∙◌, arith}
 use Rattle.std.proofs.Math.Nat.{div-div-eq-div-mul, div-one, pow-suc}
-use Rattle.std.specs.Int.{byte_at, bytes_low_first, from_le_bytes, w8, w16, w32, w64}
+use Rattle.std.specs.Int.{byte_at, bytes_low_first}
 use Rattle.byteorder.specs.Endian.{little_from, little_number}
 use Rattle.byteorder.specs.Numbers.{little_from-cons}
 use Rattle.xk_base.specs.Words.{le, le_bytes}
@@ -29,19 +29,6 @@ bytes_from i (suc n) x =
 -- what `byteorder` and `to_le_bytes` write
 pub bytes_low_first-le : (n x : ℕ) → bytes_low_first 0 n x ≡ le_bytes n x
 bytes_low_first-le n x = bytes_from 0 n x ∙ ap (le_bytes n) (div-one x)
-
--- what `from_le_bytes` reads
-pub from_le_bytes-le_1 : (a : ℕ) → from_le_bytes w8 (a ∷ []) ≡ le (a ∷ [])
-from_le_bytes-le_1 a = omega arith
-
-pub from_le_bytes-le_2 : (a b : ℕ) → from_le_bytes w16 (a ∷ b ∷ []) ≡ le (a ∷ b ∷ [])
-from_le_bytes-le_2 a b = omega arith
-
-pub from_le_bytes-le_4 : (a b c d : ℕ) → from_le_bytes w32 (a ∷ b ∷ c ∷ d ∷ []) ≡ le (a ∷ b ∷ c ∷ d ∷ [])
-from_le_bytes-le_4 a b c d = omega arith
-
-pub from_le_bytes-le_8 : (a b c d e f g h : ℕ) → from_le_bytes w64 (a ∷ b ∷ c ∷ d ∷ e ∷ f ∷ g ∷ h ∷ []) ≡ le (a ∷ b ∷ c ∷ d ∷ e ∷ f ∷ g ∷ h ∷ [])
-from_le_bytes-le_8 a b c d e f g h = omega arith
 
 pub length-le_bytes : (n x : ℕ) → length (le_bytes n x) ≡ n
 length-le_bytes zero x = refl

@@ -1,5 +1,6 @@
 -- Events that are played one behind another, and what the console shows of them.
-use Rattle.std.proofs.Common.{◌≡◌, ◌≤◌, ◌-◌, ℕ, zero, suc, Bool, true, false, ◌||◌, Option, None, Some, ◌+◌, ◌<◌, List, [], ◌∷◌, ◌++◌, length, get_or, map, replicate, take, sym, ap, ap₂, ◌∙◌, subst, append_assoc, add-one, refl, arith, length-append, min, Result, Ok, Err, IfErr}
+use Rattle.std.proofs.Common.{◌≡◌, ◌≤◌, ◌-◌, ℕ, zero, suc, Bool, true, false, ◌||◌, Option, None, Some, ◌+◌, ◌<◌, List, [], ◌∷◌, ◌++◌, length, get_or, map, replicate, take, sym, ap, ap₂, ◌∙◌, subst}
+use Rattle.std.proofs.Common.{append_assoc, add-one, refl, arith, length-append, min, Result, Ok, Err, IfErr}
 use Rattle.std.proofs.lemmas.List.{append-nil, map-append, replicate-append-replicate, take_more}
 use Rattle.std.proofs.lemmas.Grind.{flat_map-append}
 use Rattle.circular_buffer.specs.Buffer.{keep_last, buffer, Buffer}
@@ -79,7 +80,9 @@ pushed-kept xs ys b a m last all p kept =
     let cap : m.last.capacity ≡ a.last.capacity = ap (λ (l : Buffer ℕ). l.capacity) p.kept in
     let items : m.last.items ≡ keep_last a.last.capacity (a.last.items ++ xs) = ap (λ (l : Buffer ℕ). l.items) p.kept in
     kept ∙ ap₂ (λ (n : ℕ) (zs : List ℕ). buffer (keep_last n (zs ++ b ∷ [])) n) cap items
-    ∙ ap (λ (zs : List ℕ). buffer zs a.last.capacity) (keep-more a.last.capacity (a.last.items ++ xs) (b ∷ []) ∙ ap (keep_last a.last.capacity) (append_assoc a.last.items xs (b ∷ []) ∙ ap (λ (zs : List ℕ). a.last.items ++ zs) (sym all)))
+    ∙ ap (λ (zs : List ℕ). buffer zs a.last.capacity)
+    (keep-more a.last.capacity (a.last.items ++ xs) (b ∷ [])
+    ∙ ap (keep_last a.last.capacity) (append_assoc a.last.items xs (b ∷ []) ∙ ap (λ (zs : List ℕ). a.last.items ++ zs) (sym all)))
 
 pub pushed-counted : (xs ys : List ℕ) (b : ℕ) (a m : Output) (count : ℕ) → ys ≡ xs ++ b ∷ [] → KeepsShown xs a m → count ≡ min (m.count + 1) 18446744073709551615
     → length ys ≤ 18446744073709551615 - a.count → count ≡ a.count + length ys
@@ -141,10 +144,6 @@ sends-those xs ys last old new had has same s = subst (λ (es : List Event). Sen
 pub sends-still : (xs : List Event) (last : Option Outcome) (old mid new : Recorded) (had has : Output) → Sends xs last old mid had has → new ≡ mid → Sends xs last old new had has
 sends-still xs last old mid new had has s same = subst (λ (t : Recorded). Sends xs last old t had has) (sym same) s
 
--- so many of one event, and one more
-pub often-more : (n : ℕ) (e : Event) → replicate n e ++ e ∷ [] ≡ replicate (n + 1) e
-often-more n e = replicate-append-replicate n 1 e
-
 -- the keys of the first bytes, and of the next
 pub keys-more : (bytes : List ℕ) (place : ℕ) → place < length bytes → map Key (take place bytes) ++ Key (get_or bytes place 0) ∷ [] ≡ map Key (take (place + 1) bytes)
 keys-more bytes place lt = sym (ap (map Key) (take_more bytes place 0 lt) ∙ map-append Key (take place bytes) (get_or bytes place 0 ∷ []))
@@ -178,10 +177,6 @@ part-often n all e old new had has within p = record {
   begins = (let same : n + (all - n) ≡ all = omega (arith, within) in replicate-append-replicate n (all - n) e ∙ ap (λ (k : ℕ). replicate k e) same);
   plays = p;
 }
-
-pub telling-none : (s : Recorded) (o : Output) → length o.last.items ≤ o.last.capacity → PlaysTelling [] false s s o o
-unfolding plays-none
-telling-none s o fits = record { plays = plays-none s o fits; told = λ (is : false ≡ true). is }
 
 pub telling-join : (xs ys : List Event) (f g : Bool) (a b c : Recorded) (i j k : Output) → PlaysTelling xs f a b i j → PlaysTelling ys g b c j k → PlaysTelling (xs ++ ys) (f || g) a c i k
 unfolding plays-join

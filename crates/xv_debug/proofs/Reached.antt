@@ -1,5 +1,5 @@
 -- Runs that are sent one by one, and where they stop.
-use Rattle.std.proofs.Common.{◌≡◌, ℕ, zero, suc, Bool, true, false, Option, None, Some, ◌+◌, List, [], ◌++◌, replicate, sym, ap, ◌∙◌, subst, append_assoc, add-one, refl, arith}
+use Rattle.std.proofs.Common.{◌≡◌, ℕ, zero, suc, Bool, true, false, Option, Some, ◌+◌, List, [], ◌++◌, replicate, sym, ap, ◌∙◌, subst, append_assoc, add-one, arith}
 use Rattle.std.proofs.lemmas.List.{append-nil, replicate-append-replicate}
 use Rattle.kernel_spec.specs.runs.Run.{Event, Run, Outcome}
 use Rattle.xv_machine.specs.Meaning.{Meaning}
@@ -25,13 +25,7 @@ pub adds-more : (count more : ℕ) (e : Event) (old mid new : Recorded) → Adds
 adds-more count more e old mid new one two =
     subst (λ (es : List Event). Adds es old new) (replicate-append-replicate count more e) (adds-join (replicate count e) (replicate more e) old mid new one two)
 
-pub adds-still : (xs : List Event) (old mid new : Recorded) → Adds xs old mid → new ≡ mid → Adds xs old new
-adds-still xs old mid new one same = subst (λ (s : Recorded). Adds xs old s) (sym same) one
-
 -- ---- Runs, one by one
-
-pub none-met-yet : (test : Meaning → Outcome → Meaning → Bool) (r : Running) → NoneMet test 0 None r r
-none-met-yet test r = (refl, refl)
 
 pub none-more : (test : Meaning → Outcome → Meaning → Bool) (n : ℕ) (o : Outcome) (before last : Option Outcome) (old mid new : Running) → NoneMet test n before old mid
     → Advances mid Run o new → test mid.machine o new.machine ≡ false → last ≡ Some o → NoneMet test (n + 1) last old new
@@ -40,10 +34,6 @@ none-more test n o before last old mid new none one unmet is = subst (λ k. None
 pub last-met : (test : Meaning → Outcome → Meaning → Bool) (n : ℕ) (o : Outcome) (before last : Option Outcome) (old mid new : Running) → NoneMet test n before old mid
     → Advances mid Run o new → test mid.machine o new.machine ≡ true → last ≡ Some o → LastMet test (n + 1) last old new
 last-met test n o before last old mid new none one met is = subst (λ k. LastMet test k last old new) (sym (add-one n)) (mid, o, before, none, one, met, is)
-
-pub none-still : (test : Meaning → Outcome → Meaning → Bool) (n : ℕ) (last : Option Outcome) (old mid new : Recorded) → NoneMet test n last (running_of old) (running_of mid) → new ≡ mid
-    → NoneMet test n last (running_of old) (running_of new)
-none-still test n last old mid new none same = subst (λ (s : Recorded). NoneMet test n last (running_of old) (running_of s)) (sym same) none
 
 -- ---- a search of one Run
 

@@ -1,14 +1,14 @@
 -- Runs that are sent at once, stretch by stretch.
-use Rattle.std.proofs.Common.{◌≡◌, ◌≢◌, ◌∙◌, ℕ, zero, suc, ◌+◌, ◌<◌, ◌≤◌, List, [], ◌∷◌, ◌++◌, length, Option, None, Some, inl, inr, refl, sym, ap, ap₂, subst, replicate, arith, length-append}
-use Rattle.std.proofs.lemmas.List.{replicate-append-replicate, length-replicate, length-map}
+use Rattle.std.proofs.Common.{◌≡◌, ◌≢◌, ◌∙◌, ℕ, zero, suc, ◌+◌, ◌<◌, ◌≤◌, List, [], ◌∷◌, ◌++◌, length, Option, None, Some, inl, inr, refl, sym, ap, ap₂, subst, replicate, arith}
+use Rattle.std.proofs.lemmas.List.{replicate-append-replicate}
 use Rattle.kernel_spec.specs.runs.Run.{Event, Run, Outcome, World}
-use Rattle.kernel_spec.specs.runs.Rounds.{events}
 use Rattle.kernel_spec.specs.views.Words.{or_zero}
 use Rattle.xv_machine.specs.Drives.{done_by}
 use Rattle.xv_machine.proofs.Joins.{goes-none, goes-one, goes-join, events-join}
 use Rattle.xv_session.specs.Answers.{Sent, RunsSent}
 use Rattle.xv_session.specs.Recorded.{Recorded}
 use Rattle.xv_session.specs.Steps.{AreRunsTo}
+use Rattle.xv_session.proofs.RunsCounted.{count-sent, runs-count}
 use Rattle.xv_debug.specs.motion.Ran.{Ran, last_of}
 use Rattle.xv_debug.specs.motion.Resting.{RestsBy}
 use Rattle.xv_debug.specs.motion.Sent.{last_outcome}
@@ -40,23 +40,11 @@ last-run most p (Some o) list some (inr h) =
 
 -- ---- how many they are
 
--- the events are so many
-list-long : (list : Steps) (n : ℕ) → events list ≡ replicate n Run → length list ≡ n
-list-long list n those = sym (length-map list (λ (e : Event × Outcome). e.0)) ∙ (ap length those ∙ length-replicate n Run)
-
-runs-count : (most p : ℕ) (told : Option Outcome) (list : Steps) → 0 < most → AreRunsTo most p told list → (length list ≤ most) × (0 < length list)
-runs-count most p None list some is = let n : length list ≡ most = ap length is ∙ length-replicate most (done_by p) in (omega (arith, n), omega (arith, n, some))
-runs-count most p (Some o) list some (inl h) =
-    let n : length list ≡ h.0 + 1 = ap length h.1 ∙ (length-append (replicate h.0 (done_by p)) ((Run, o) ∷ []) ∙ ap (λ k. k + 1) (length-replicate h.0 (done_by p))) in
-    (omega (arith, n, h.2), omega (arith, n))
-runs-count most p (Some o) list some (inr h) =
-    let one : Event × Outcome = (Run, o) in
-    let n : length list ≡ most = ap length h.0 ∙ length-replicate most one in (omega (arith, n), omega (arith, n, some))
-
 pub runs-within : (most sent : ℕ) (told : Option Outcome) (old new : Recorded) → 0 < most → RunsSent most sent told old new → (sent ≤ most) × (0 < sent)
 runs-within most sent told old new some runs =
     let made = runs.0 in
-    subst (λ n. (n ≤ most) × (0 < n)) (list-long made.list sent made.those) (runs-count most (or_zero old.machine.world.turns.current) told made.list some made.runs_are)
+    let counted = runs-count most (or_zero old.machine.world.turns.current) told made.list made.runs_are in
+    subst (λ n. (n ≤ most) × (0 < n)) (count-sent made.list sent made.those) (counted.0, counted.1 some)
 
 -- ---- Runs that were sent
 
@@ -86,7 +74,7 @@ ran-runs most sent p told old new current some (made, kept) = record {
 -- and more, one at least
 pub ran-more : (n m : ℕ) (before : Option Outcome) (o : Outcome) (old mid new : Recorded) → 0 < m → Ran n before old mid → Ran m (Some o) mid new → Ran (n + m) (Some o) old new
 ran-more n m before o old mid new some p q =
-    let long : length q.list ≡ m = list-long q.list m q.those in
+    let long : length q.list ≡ m = count-sent q.list m q.those in
     let more : 0 < length q.list = omega (arith, long, some) in record {
       added = adds-more n m Run old mid new p.added q.added;
       list = p.list ++ q.list;

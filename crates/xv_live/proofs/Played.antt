@@ -1,14 +1,13 @@
 -- Records that are played, event by event.
-use Rattle.std.proofs.Common.{◌≡◌, ◌∙◌, ℕ, ◌+◌, ◌-◌, ◌<◌, ◌≤◌, List, [], ◌∷◌, ◌++◌, length, Option, None, Some, inl, inr, refl, sym, ap, ap₂, subst, replicate, arith, length-append}
-use Rattle.std.proofs.lemmas.List.{replicate-append-replicate, length-replicate, length-map}
+use Rattle.std.proofs.Common.{◌≡◌, ◌∙◌, ℕ, ◌-◌, ◌<◌, ◌≤◌, List, [], ◌∷◌, ◌++◌, Option, refl, ap, ap₂, subst, replicate, arith}
+use Rattle.std.proofs.lemmas.List.{replicate-append-replicate}
 use Rattle.std.specs.Io.KnownBytes.{Appends}
 use Rattle.kernel_spec.specs.runs.Run.{Event, Run, Outcome, bytes_out}
 use Rattle.kernel_spec.specs.views.Words.{or_zero}
-use Rattle.xv_machine.specs.Drives.{done_by}
 use Rattle.xv_machine.proofs.Joins.{events-join}
 use Rattle.xv_session.specs.Answers.{Sent, RunsSent}
 use Rattle.xv_session.specs.Recorded.{Recorded}
-use Rattle.xv_session.specs.Steps.{AreRunsTo}
+use Rattle.xv_session.proofs.RunsCounted.{count-sent, runs-count}
 use Rattle.xv_live.specs.Plays.{Plays}
 use Rattle.xv_live.proofs.Joined.{shown-none, shown-one, shown-join, shown-runs}
 
@@ -31,21 +30,10 @@ plays-join xs ys s t u h k m p q = record {
   those = events-join p.shown.list q.shown.list ∙ ap₂ (λ (us vs : List Event). us ++ vs) p.those q.those;
 }
 
--- how many Runs were sent
-runs-count : (most p : ℕ) (last : Option Outcome) (list : List (Event × Outcome)) → AreRunsTo most p last list → (length list ≤ most) × (0 < most → 0 < length list)
-runs-count most p None list is = let n : length list ≡ most = ap length is ∙ length-replicate most (done_by p) in (omega (arith, n), λ some. omega (arith, n, some))
-runs-count most p (Some o) list (inl h) =
-    let n : length list ≡ h.0 + 1 = ap length h.1 ∙ (length-append (replicate h.0 (done_by p)) ((Run, o) ∷ []) ∙ ap (λ k. k + 1) (length-replicate h.0 (done_by p))) in
-    (omega (arith, n, h.2), λ some. omega (arith, n))
-runs-count most p (Some o) list (inr h) =
-    let one : Event × Outcome = (Run, o) in
-    let n : length list ≡ most = ap length h.0 ∙ length-replicate most one in (omega (arith, n), λ some. omega (arith, n, some))
-
 pub runs-within : (most sent : ℕ) (last : Option Outcome) (s t : Recorded) → RunsSent most sent last s t → (sent ≤ most) × (0 < most → 0 < sent)
 runs-within most sent last s t runs =
     let made = runs.0 in
-    let count : length made.list ≡ sent = sym (length-map made.list (λ (e : Event × Outcome). e.0)) ∙ (ap length made.those ∙ length-replicate sent Run) in
-    subst (λ n. (n ≤ most) × (0 < most → 0 < n)) count (runs-count most (or_zero s.machine.world.turns.current) last made.list made.runs_are)
+    subst (λ n. (n ≤ most) × (0 < most → 0 < n)) (count-sent made.list sent made.those) (runs-count most (or_zero s.machine.world.turns.current) last made.list made.runs_are)
 
 -- of so many equal events none was sent yet
 pub plays-begun : (count : ℕ) (e : Event) (s : Recorded) (h : Option (List ℕ)) → Plays (replicate (count - count) e) s s h h

@@ -1,9 +1,8 @@
 -- Steps of the process that runs, as the machine sees them.
 use Rattle.std.proofs.Common.{◌≡◌, ℕ, List, [], ◌∷◌, replicate, Option, Some, None, refl, sym, ap, ◌∙◌, subst}
-use Rattle.std.specs.Prelude.{ℤ, IsSome}
+use Rattle.std.specs.Prelude.{ℤ}
 use Rattle.hart_core.specs.declared.hart.Hart.{Hart}
 use Rattle.circular_buffer.specs.Buffer.{Buffer}
-use Rattle.kernel_spec.specs.views.State.{live}
 use Rattle.kernel_spec.specs.runs.Run as runs
 use Rattle.kernel_spec.specs.steps.Own.{Answer}
 use Rattle.kernel_spec.specs.runs.Run.{World, Run, Step_of, Idle, Halted}
@@ -21,7 +20,7 @@ use Rattle.xv_machine.specs.Machine.{meaning_of}
 use Rattle.xv_machine.specs.Meaning.{Meaning}
 use Rattle.xv_machine.specs.Sound.{IsHalted}
 use Rattle.xv_machine.specs.Steps.{Did, Advanced, runs_made, IsEnd}
-use Rattle.xv_machine.proofs.Runs.{current-pid, not-halted, first-lives, run-step, run-halts}
+use Rattle.xv_machine.proofs.Runs.{current-pid, not-halted, run-step, run-halts}
 
 abbrev Steps : Type 0
 Steps = List (runs.Event × runs.Outcome)
@@ -43,9 +42,6 @@ now-running k h halted trace now pid is current = ap (λ (m : Meaning). m.world.
 module _ (k : Kernel) (h : Hart) (halted : Option ℤ) (pid : ℕ) (current : (turns_of k None).current ≡ Some pid) (end : IsHalted (state_of k h) (turns_of k halted) halted) where
   pub is-on : halted ≡ None
   is-on = not-halted k h halted end (current-pid k pid current).0
-
-  pub first-there : IsSome (live (state_of k h) 1)
-  first-there = first-lives k h halted end is-on
 
   module _ (most made : ℕ) (k' : Kernel) (h' : Hart) where
     none-did : Advanced k h most made None k' h' → Did k h made k' h'

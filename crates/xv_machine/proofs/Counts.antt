@@ -12,7 +12,7 @@ use Rattle.std.proofs.lemmas.Bool.{le-ltb}
 use Rattle.xk_base.specs.Frames.{copies}
 use Rattle.xk_base.proofs.Frames.{at, copies-nil, copies-cons, length-same}
 use Rattle.sv39_core.specs.Listed.{push_some, listed, insert_some, gathered}
-use Rattle.sv39_core.proofs.Gathered.{gathered-get}
+use Rattle.xk_base.proofs.Gathered.{gathered-get}
 
 -- ---- one frame more
 

@@ -7,7 +7,7 @@ use Rattle.xk_base.specs.Gathered.{gathered}
 use Rattle.xk_base.specs.Image.{price}
 use Rattle.sv39_core.specs.Sv39.{table_at, page_entry}
 use Rattle.sv39_core.specs.Tree.{page_at, pages_of, frame_of, uppers, lowers, page_frames}
-use Rattle.sv39_core.proofs.Gathered.{gathered-get}
+use Rattle.xk_base.proofs.Gathered.{gathered-get}
 use Rattle.sv39_core.proofs.Places.{upper-place, lower-place}
 use Rattle.addr_space.specs.Space as space
 use Rattle.addr_space.proofs.Prices.{same-page, length-kinds, some-of-is, upper-test, lower-test}

@@ -12,7 +12,7 @@ use Rattle.xk_base.specs.declared.limits.TheConstants.{FRAMES_MAX}
 use Rattle.xk_base.proofs.Frames.{copies-nil, copies-cons, copies-append}
 use Rattle.sv39_core.specs.Sv39.{table_at, page_entry}
 use Rattle.sv39_core.specs.Tree.{frame_of, uppers, lowers, page_frames, owned}
-use Rattle.sv39_core.proofs.Gathered.{gathered-get}
+use Rattle.xk_base.proofs.Gathered.{gathered-get}
 use Rattle.sv39_core.proofs.Places.{copies-owned}
 use Rattle.frame_list.specs.Pool.{free_in}
 use Rattle.addr_space.specs.Space as space

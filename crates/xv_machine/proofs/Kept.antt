@@ -1,22 +1,21 @@
 -- The last items of a list.
 use Rattle.std.proofs.Common.{◌≡◌, ℕ, zero, suc, ◌+◌, ◌-◌, ◌≤◌, List, [], ◌∷◌, ◌++◌, length, drop, refl, sym, ap, ◌∙◌, subst, arith, append-nil, length-append}
 use Rattle.std.proofs.lemmas.List.{drop-append-le, length-drop}
+use Rattle.std.proofs.Math.Nat.{zero-add, suc-add}
 use Rattle.circular_buffer.specs.Buffer.{Buffer, buffer, keep_last}
 
+pub drop-none : {X : Type 0} (xs : List X) → drop 0 xs ≡ xs
+drop-none [] = refl
+drop-none (x ∷ xs) = refl
+
 drop-twice : {X : Type 0} (n m : ℕ) (xs : List X) → drop m (drop n xs) ≡ drop (n + m) xs
-drop-twice zero m xs = ap (λ k. drop k xs) (zero-sum m)
-  where
-    zero-sum : (k : ℕ) → k ≡ 0 + k
-    zero-sum k = omega arith
+drop-twice zero m xs = ap (λ k. drop k xs) (sym (zero-add m))
 drop-twice (suc n) m [] = nothing m ∙ sym (nothing (suc n + m))
   where
     nothing : {X : Type 0} (k : ℕ) → drop {A = X} k [] ≡ []
     nothing zero = refl
     nothing (suc k) = refl
-drop-twice (suc n) m (x ∷ xs) = drop-twice n m xs ∙ ap (λ k. drop k (x ∷ xs)) (suc-sum n m)
-  where
-    suc-sum : (a b : ℕ) → suc (a + b) ≡ suc a + b
-    suc-sum a b = omega arith
+drop-twice (suc n) m (x ∷ xs) = drop-twice n m xs ∙ ap (λ k. drop k (x ∷ xs)) (sym (suc-add n m))
 
 module _ {X : Type 0} where
   pub empty-kept : (b : Buffer X) → b.items ≡ [] → length b.items ≤ b.capacity
@@ -33,12 +32,8 @@ module _ {X : Type 0} where
       zero-is : length xs - n ≡ 0
       zero-is = omega (arith, fits)
 
-      first : (ys : List X) → drop 0 ys ≡ ys
-      first [] = refl
-      first (y ∷ ys) = refl
-
       none-dropped : keep_last n xs ≡ xs
-      none-dropped = ap (λ k. drop k xs) zero-is ∙ first xs
+      none-dropped = ap (λ k. drop k xs) zero-is ∙ drop-none xs
 
   -- of those that were kept, and more behind them
   pub keep-more : (n : ℕ) (xs ys : List X) → keep_last n (keep_last n xs ++ ys) ≡ keep_last n (xs ++ ys)

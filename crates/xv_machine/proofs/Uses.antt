@@ -2,14 +2,14 @@
 use Rattle.std.proofs.Common.{◌≡◌, ℕ, zero, suc, ◌^◌, ◌<◌, ◌≤◌, Bool, true, false, cond, ltb, List, [], ◌∷◌, length, get_or, Option, Some, None, inl, inr, refl, sym, ap, ◌∙◌, subst, arith}
 use Rattle.std.specs.Prelude.{ℤ, ◌↔◌, Contains}
 use Rattle.std.specs.FinMap.{get}
-use Rattle.std.proofs.lemmas.Bool.{cases_eq, lt-ltb}
+use Rattle.std.proofs.lemmas.Bool.{cases_eq}
 use Rattle.std.proofs.lemmas.Option.{none-some, same_Some}
 use Rattle.xk_base.specs.Frames.{copies}
 use Rattle.xk_base.specs.Gathered.{gathered}
 use Rattle.xk_base.proofs.Frames.{at, at-same, at-other, copies-nil, copies-cons}
 use Rattle.sv39_core.specs.Sv39.{table_at, page_entry}
 use Rattle.sv39_core.specs.Tree.{frame_of, IsTree}
-use Rattle.sv39_core.proofs.Gathered.{gathered-get}
+use Rattle.xk_base.proofs.Gathered.{gathered-get, gathered-some}
 use Rattle.sv39_core.proofs.Places.{upper-place, lower-place, page-place}
 use Rattle.frame_list.specs.Pool.{free_in}
 use Rattle.hart_core.specs.declared.hart.Hart.{Hart}
@@ -52,9 +52,6 @@ contains-copies x (y ∷ ys) (suc k) lt is = omega (arith, copies-cons x y ys, c
 
 -- ---- what is gathered
 
-gathered-has : (g : ℕ → Option ℕ) (n v f : ℕ) → v < n → g v ≡ Some f → get (gathered g n) v ≡ Some f
-gathered-has g n v f lt is = gathered-get g n v ∙ ap (λ b. cond b (g v) None) (lt-ltb v n lt) ∙ is
-
 gathered-from : (g : ℕ → Option ℕ) (n v f : ℕ) → get (gathered g n) v ≡ Some f → g v ≡ Some f
 gathered-from g n v f is = by (ltb v n) (sym (gathered-get g n v) ∙ is)
   where
@@ -75,9 +72,9 @@ module _ (ram : List (List ℕ)) (m : Memory) (f : ℕ) (tree : IsTree ram m.spa
   claim-is : (r : FrameRole) → IsUsedBy ram m f r → Claim r f (owned_by ram m)
   claim-is Trapframe e = e
   claim-is Root e = e
-  claim-is (Upper p) e = gathered-has (table_at ram m.space.root 1) 256 p f (upper-place ram m.space.root p f tree e) e
-  claim-is (Lower p) e = gathered-has (table_at ram m.space.root 2) (2 ^ 17) p f (lower-place ram m.space.root p f tree e) e
-  claim-is (Page v) e = gathered-has (λ u. frame_of (page_entry ram m.space.root u)) (2 ^ 26) v f (page-place ram m.space.root v f tree e) e
+  claim-is (Upper p) e = gathered-some (table_at ram m.space.root 1) 256 p f (upper-place ram m.space.root p f tree e) e
+  claim-is (Lower p) e = gathered-some (table_at ram m.space.root 2) (2 ^ 17) p f (lower-place ram m.space.root p f tree e) e
+  claim-is (Page v) e = gathered-some (λ u. frame_of (page_entry ram m.space.root u)) (2 ^ 26) v f (page-place ram m.space.root v f tree e) e
 
   claim-from : (r : FrameRole) → Claim r f (owned_by ram m) → IsUsedBy ram m f r
   claim-from Trapframe e = e

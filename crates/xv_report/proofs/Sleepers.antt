@@ -1,9 +1,8 @@
 -- What a sleeper waits for, by its call, its descriptor and what is told of it.
-use Rattle.std.proofs.Common.{◌≡◌, ◌≢◌, ℕ, Bool, true, false, cond, List, [], ◌∷◌, Option, None, Some, inl, inr, refl, sym, ap, ◌∙◌}
+use Rattle.std.proofs.Common.{◌≡◌, ◌≢◌, ℕ, Bool, true, false, cond, List, [], ◌∷◌, Option, None, Some, refl, sym, ap, ◌∙◌}
 use Rattle.std.specs.Prelude.{ℤ, pos, negsuc, option_map, find, nat_eq, nat_lt}
 use Rattle.std.specs.FinMap.{get}
 use Rattle.std.specs.FinSet.{contains}
-use Rattle.std.proofs.lemmas.Bool.Decides.{eqb_tells}
 use Rattle.xk_base.specs.declared.limits.TheConstants.{NOFILE}
 use Rattle.file_table.specs.declared.open_file.OpenFile.{OpenFile}
 use Rattle.file_table.specs.declared.open_file.Target.{Target}
@@ -15,6 +14,7 @@ use Rattle.kernel_spec.specs.views.Processes.{Live}
 use Rattle.kernel_spec.specs.views.State.{State, live}
 use Rattle.kernel_spec.specs.views.Words.{c_int, or_zero}
 use Rattle.kernel_spec.specs.waking.Conditions.{Condition, Nothing, Child_of, target_at, read_waits_for, write_waits_for, sleep_waits_for, row_waits_for}
+use Rattle.kernel_spec.proofs.rows.NoRow.{apart}
 use Rattle.kcall_core.specs.Observers.{opened}
 use Rattle.kcall_core.specs.declared.kernel.observers.Descriptor.{Descriptor}
 use Rattle.xv_report.specs.Waits.{told_on, descriptor_in, descriptor_of_call, wait_in_this}
@@ -147,9 +147,6 @@ module _ (s : State) (p : ℕ) (l : Live) (c : Call) where
       by : (b : Bool) → row_waits_for s p l c (option_map (λ x. x.1) (cond b (Some e) (find (λ x. nat_eq x.0 n) rows))) ≡ Nothing
       by true = sleepless
       by false = rest
-
-  apart : (m n : ℕ) → pos n ≢ pos m → nat_eq m n ≡ false
-  apart m n ne = elim (eqb_tells m n) [ inl h ↦ absurd (ne (ap pos (sym h.1))) | inr h ↦ h.0 ]
 
   rest-of : (number : ℤ) → number ≢ pos 3 → number ≢ pos 5 → number ≢ pos 13 → number ≢ pos 16 → row_waits_for s p l c (row_of number) ≡ Nothing
   unfolding row_of

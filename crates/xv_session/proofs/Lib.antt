@@ -6,6 +6,7 @@ pub mod NamesGo
 pub mod NamesLive
 pub mod Plays
 pub mod Programs
+pub mod RunsCounted
 pub mod RunsMade
 pub mod Searches
 pub mod Spans

@@ -25,8 +25,8 @@ use Rattle.xv_machine.specs.Sound.{IsSoundMachine}
 use Rattle.kernel_spec.specs.runs.Run.{World, Event, Run, Tick, Key, Send, Outcome, Step_of, Turn, Idle, Halted}
 use Rattle.kernel_spec.specs.runs.Run.{Ticked, Typed, Sent, TurnTaken, RunHappens, TickHappens, KeyHappens, Happens, StepOf, first_sent}
 use Rattle.kernel_spec.proofs.rows.Pids.{own_sound}
-use Rattle.kernel_spec.proofs.steps.OthersKeepTheRest.{pid_is}
 use Rattle.kernel_spec.proofs.Common.{same_Ok, the_value, there_if_alive}
+use Rattle.kernel_spec.proofs.runs.Cuts.{his_pid}
 use Rattle.xv_session.specs.Names.{NamesGo, Among, Apart, AreLive, first_names, names_after, after_step, after_call}
 use Rattle.xv_session.specs.Names.{asked_in, without, with_place, with_child, child_of, gone_on_with, place_in, named_of}
 use Rattle.xv_session.specs.declared.names.Named.{Named}
@@ -147,16 +147,13 @@ live-view : (s : State) (p : ℕ) → IsSome (live s p) → (v : View) × (view 
 live-view s p h = let l = the_value (live s p) h in (view_of s p l.0, ap (option_map (view_of s p)) l.1)
 
 module _ (w t : World) (p : ℕ) (o : Outcome) (h : StepOf w p o t) where
-  its-pid : h.before.pid ≡ p
-  its-pid = pid_is w.state p (live w.state p) h.before h.was
-
   others-live : (q : ℕ) → q ≢ p → IsSome (live w.state q) → IsSome (live t.state q)
   others-live q other lives =
       let v = live-view w.state q lives in
-      view-live t.state q (ap is_some (h.state.others q v.0 (λ same. other (same ∙ its-pid)) v.1))
+      view-live t.state q (ap is_some (h.state.others q v.0 (λ same. other (same ∙ (his_pid w t p o h))) v.1))
 
   itself-live : gone_with (own h.before).answer ≡ None → IsSome (live t.state p)
-  itself-live stays = view-live t.state p (subst (λ (q : ℕ). IsSome (view t.state q)) its-pid (ap is_some h.state.next ∙ (own_sound h.before).left stays))
+  itself-live stays = view-live t.state p (subst (λ (q : ℕ). IsSome (view t.state q)) (his_pid w t p o h) (ap is_some h.state.next ∙ (own_sound h.before).left stays))
 
   -- nobody goes
   all-live : (names : List Named) → gone_with (own h.before).answer ≡ None → AreLive w.state names → AreLive t.state names

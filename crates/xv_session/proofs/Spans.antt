@@ -8,6 +8,7 @@ use Rattle.std.proofs.lemmas.List.{take-append-le, append-nil, append_assoc, len
 use Rattle.std.proofs.Math.Seq.{take-append-add}
 use Rattle.kernel_spec.specs.runs.Run.{Event}
 use Rattle.xv_machine.specs.Events.{event_of}
+use Rattle.xv_machine.proofs.Kept.{drop-none}
 use Rattle.xv_session.specs.declared.history.Span.{Span}
 use Rattle.xv_session.specs.Answers.{events_in}
 use Rattle.xv_session.specs.Spans.{span_events, all_events, Kept, kept}
@@ -101,10 +102,6 @@ first-more spans place most d lt =
 drop-past : (xs zs : List Event) (b : ℕ) → drop (b + length xs) (xs ++ zs) ≡ drop b zs
 drop-past [] zs b = let same : b + 0 ≡ b = omega arith in ap (λ (k : ℕ). drop k zs) same
 drop-past (x ∷ xs) zs b = let more : b + suc (length xs) ≡ suc (b + length xs) = omega arith in ap (λ (k : ℕ). drop k (x ∷ (xs ++ zs))) more ∙ drop-past xs zs b
-
-drop-none : (zs : List Event) → drop 0 zs ≡ zs
-drop-none [] = refl
-drop-none (z ∷ zs) = refl
 
 drop-equal : (n b : ℕ) (e : Event) (ys : List Event) → b ≤ n → drop b (replicate n e ++ ys) ≡ replicate (n - b) e ++ ys
 drop-equal n zero e ys few = let same : n ≡ n - 0 = omega arith in drop-none (replicate n e ++ ys) ∙ ap (λ (k : ℕ). replicate k e ++ ys) same

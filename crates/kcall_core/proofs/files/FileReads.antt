@@ -9,7 +9,7 @@ use Rattle.std.proofs.lemmas.Option.{same_Some}
 use Rattle.xk_base.specs.declared.limits.TheConstants.{OPEN_FILES}
 use Rattle.xk_base.specs.Image.{Image}
 use Rattle.xk_base.specs.Bytes.{write_image}
-use Rattle.sv39_core.proofs.Gathered.{same_pages}
+use Rattle.xk_base.proofs.Gathered.{same_pages}
 use Rattle.hart_core.specs.declared.hart.Hart.{Hart}
 use Rattle.file_table.specs.OpenFiles as files
 use Rattle.file_table.specs.declared.open_file.TheConstants.{SHARERS_MAX}

@@ -10,7 +10,7 @@ use Rattle.std.proofs.lemmas.List.{get_or_past, get_or-set_same, get_or-set_othe
 use Rattle.std.proofs.lemmas.Option.{none-some}
 use Rattle.xk_base.specs.declared.limits.TheConstants.{NOFILE, OPEN_FILES}
 use Rattle.xk_base.specs.Words.{count_below}
-use Rattle.sv39_core.proofs.Gathered.{gathered-get}
+use Rattle.xk_base.proofs.Gathered.{gathered-get}
 use Rattle.hart_core.specs.declared.hart.Hart.{Hart}
 use Rattle.file_table.specs.Named.{named_by, none_named, with_named}
 use Rattle.file_table.specs.OpenFiles.{IsTable, open_file_at, count_at, entry_at, entry_file, entry_count, once_less, without_sharer}
@@ -207,7 +207,7 @@ module _ (t t' : Slots) (slot d g : ℕ) (inside : slot < 64) (below : d < NOFIL
 
 -- the open file counts one fewer
 module _ (files : List (Option CountedFile)) (g : ℕ) (table : IsTable files) (e : CountedFile) (is : entry_at files g ≡ Some e) where
-  inside-files : g < length files
+  pub inside-files : g < length files
   inside-files = elim (cases_lt g (length files)) [ inl lt ↦ lt | inr ge ↦ absurd (none-some e (sym (get_or_past files g None ge) ∙ is)) ]
 
   pub fewer-here : entry_at (without_sharer g files) g ≡ once_less e

@@ -20,7 +20,7 @@ use Rattle.kcall_core.specs.Opens.{asked_in, name_asked, asked, file_asked}
 use Rattle.kcall_core.specs.declared.kernel.opening.Asked.{Asked}
 use Rattle.kcall_core.specs.declared.kernel.opening.Asked.TheVariants.{Terminal, Program}
 use Rattle.kernel_spec.proofs.rows.RowParts.{Named, The_console, A_program, Nothing, program_place, kind_named, opened_as, open_at, open_path}
-use Rattle.kernel_spec.proofs.rows.RowsByParts.{open_same}
+use Rattle.kernel_spec.proofs.rows.RowsByParts.{open_same, none_opened}
 
 -- ---- which program
 
@@ -103,19 +103,15 @@ module _ (c : Call) (v : View) where
   abbrev opens : Option Asked → Own
   opens a = open_at c v (lowest_free v.descriptors) (option_map shown_asked a)
 
-  nothing-opened : (o : Option ℕ) → refused c v ≡ open_at c v o None
-  nothing-opened None = refl
-  nothing-opened (Some d) = refl
-
   by-path : (t : Option (List ℕ)) → open_path c v t ≡ opens (option_and_then (λ path. name_asked v.programs (c_int c.a1) (no_slashes path)) t)
-  by-path None = nothing-opened (lowest_free v.descriptors)
+  by-path None = none_opened c v (lowest_free v.descriptors)
   by-path (Some path) = ap (open_at c v (lowest_free v.descriptors)) (name-opened (no_slashes path))
 
   row : open_file c v ≡ opens (asked v.programs v.image c)
   row = open_same c v ∙ by-path (text_at MAXPATH v.image c.a0)
 
   pub open-nothing : asked v.programs v.image c ≡ None → open_file c v ≡ refused c v
-  open-nothing none = row ∙ ap opens none ∙ sym (nothing-opened (lowest_free v.descriptors))
+  open-nothing none = row ∙ ap opens none ∙ sym (none_opened c v (lowest_free v.descriptors))
 
   module _ (a : Asked) (asks : asked v.programs v.image c ≡ Some a) where
     pub open-full : lowest_free v.descriptors ≡ None → open_file c v ≡ refused c v

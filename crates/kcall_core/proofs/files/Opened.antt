@@ -8,7 +8,7 @@ use Rattle.std.proofs.lemmas.List.{length-set, get_or-set_same, get_or-set_other
 use Rattle.std.proofs.lemmas.Option.{same_Some}
 use Rattle.xk_base.specs.Gathered.{gathered}
 use Rattle.xk_base.specs.declared.limits.TheConstants.{NOFILE, OPEN_FILES}
-use Rattle.sv39_core.proofs.Gathered.{gathered-get, same_pages}
+use Rattle.xk_base.proofs.Gathered.{gathered-get, same_pages}
 use Rattle.hart_core.specs.declared.hart.Hart.{Hart}
 use Rattle.file_table.specs.Named.{named_by, with_named}
 use Rattle.file_table.specs.OpenFiles as files

@@ -5,7 +5,7 @@ use Rattle.std.specs.Ordering.{nat_cmp}
 use Rattle.std.specs.FinMap.{FinMap, get, insert, remove}
 use Rattle.std.proofs.lemmas.Bool.{eq-eqb, eqb-true, and_parts, and_right, true≢false}
 use Rattle.std.proofs.lemmas.Bool.Decides.{eqb_tells}
-use Rattle.sv39_core.proofs.Gathered.{same_pages}
+use Rattle.xk_base.proofs.Gathered.{same_pages}
 use Rattle.pipe_core.specs.Pipe.{Pipe}
 use Rattle.file_table.specs.declared.open_file.End.{End}
 use Rattle.file_table.specs.declared.open_file.End.TheVariants.{Reading, Writing}
@@ -20,6 +20,10 @@ use Rattle.kcall_core.specs.Closings.{across}
 use Rattle.kernel_spec.specs.waking.SleepsOn.{last_closes, closes_wake}
 use Rattle.kernel_spec.proofs.steps.MapsAfterChange.{get_at, get_without}
 use Rattle.kernel_spec.proofs.Common.{and_true}
+
+never-both : (b : Bool) → (not b && b) ≡ false
+never-both true = refl
+never-both false = refl
 
 -- what is left of a pipe
 abbrev pub remainder : Pipe → Option Pipe
@@ -107,11 +111,7 @@ module _ (m : FinMap nat_cmp Pipe) (i : ℕ) (end : End) (x : Pipe) (is : get m 
   -- ---- who wakes
 
   steady : (n : ℕ) → last_closes n n ≡ false
-  steady n = by (nat_eq n 0)
-    where
-      by : (b : Bool) → (not b && b) ≡ false
-      by true = refl
-      by false = refl
+  steady n = never-both (nat_eq n 0)
 
   some-not : (n : ℕ) → 1 ≤ n → nat_eq n 0 ≡ false
   some-not n some = elim (eqb_tells n 0) [ inl h ↦ absurd (omega (arith, some, h.1)) | inr h ↦ h.0 ]
@@ -184,13 +184,9 @@ module _ (m : FinMap nat_cmp Pipe) (i : ℕ) (end : End) (x : Pipe) (is : get m 
 pub same-wakes : (m : FinMap nat_cmp Pipe) (c : Channel) → closes_wake m m c ≡ false
 same-wakes m c = by c
   where
-    flat : (b : Bool) → (not b && b) ≡ false
-    flat true = refl
-    flat false = refl
-
     by : (c : Channel) → closes_wake m m c ≡ false
-    by (on.Bytes j) = flat (nat_eq (or_gone (get m j)).writers 0)
-    by (on.Room j) = flat (nat_eq (or_gone (get m j)).readers 0)
+    by (on.Bytes j) = never-both (nat_eq (or_gone (get m j)).writers 0)
+    by (on.Room j) = never-both (nat_eq (or_gone (get m j)).readers 0)
     by (on.Children p) = refl
     by on.Clock = refl
     by on.Keys = refl

@@ -30,7 +30,7 @@ use Rattle.kcall_core.specs.Touched.{IsReady, IsUnready}
 use Rattle.kernel_spec.proofs.rows.Settled.{touch-dear, touch-view}
 use Rattle.kernel_spec.specs.views.Processes.{Live, Alive}
 use Rattle.kernel_spec.specs.views.State.{State}
-use Rattle.kernel_spec.specs.views.View.{View, view_of, or_gone}
+use Rattle.kernel_spec.specs.views.View.{view_of, or_gone}
 use Rattle.kernel_spec.specs.steps.Own.{Own, Called}
 use Rattle.kernel_spec.specs.rows.Tables.{lowest_free, lowest_free_above}
 use Rattle.kernel_spec.specs.rows.Calls.{make_pipe, refused}
@@ -69,7 +69,7 @@ use Rattle.kcall_core.proofs.making.Prepared.{over}
 use Rattle.kcall_core.proofs.making.Midway.{WakeOn, Midway, midway-done}
 use Rattle.kcall_core.proofs.making.Moved.{nobody, still}
 use Rattle.kernel_spec.proofs.rows.RowParts.{piped}
-use Rattle.kernel_spec.proofs.rows.RowsByParts.{pipe_unwritable, pipe_none, pipe_full, pipe_ready, pipe_no_read, pipe_no_write}
+use Rattle.kernel_spec.proofs.rows.RowsByParts.{pipe_unwritable, pipe_none, pipe_full, pipe_ready}
 
 -- ---- the tests
 
@@ -98,13 +98,6 @@ module _ (k : Kernel) (h : Hart) (c : Call) where
     | inl zero ↦ absurd (omega (arith, ready.free, zero.1))
     | inr some ↦ some.0
   ])
-
-module _ (c : Call) (v : View) where
-  pub pipe-one : lowest_free v.descriptors ≡ None → make_pipe c v ≡ refused c v
-  pipe-one none = pipe_no_read c v none
-
-  pub pipe-other : (r : ℕ) → lowest_free v.descriptors ≡ Some r → lowest_free_above v.descriptors r ≡ None → make_pipe c v ≡ refused c v
-  pipe-other r least none = pipe_no_write c v r least none
 
 -- ---- nobody waits for a pipe that isn't there
 
@@ -292,16 +285,13 @@ module _ {k : Kernel} {h : Hart} {slot r w i a : ℕ} {bytes : List ℕ} {m : Me
       put-state (over k m) k1 h slot r f sound0 is current1 shares1 fits1 r-below first.table
       (ap (λ (n : Kernel). n.console) first.rest) (ap (λ (n : Kernel). n.programs.items) first.rest) (ap (λ (n : Kernel). n.clock) first.rest)
 
-  table1 : files.IsTable k1.files
-  table1 = subst files.IsTable (sym first.files) (new-table k.files f reader empty1.0 empty1.1 whole.files)
+  pub read-end-table : files.IsTable k1.files
+  read-end-table = subst files.IsTable (sym first.files) (new-table k.files f reader empty1.0 empty1.1 whole.files)
 
   pub read-end-counted : AreCounted k1.files k1.table
   read-end-counted = subst (λ fs. AreCounted fs k1.table) (sym first.files)
       (opened-counted k.files k.table k1.table slot r f reader whole.counted empty1.0 empty1.1 inside r-below whole.sound.table.descriptors r-free (ap (λ (t : Slots). t.descriptors) first.table)
       (λ j. ap place_is_live (place1 j)) lives)
-
-  pub read-end-table : files.IsTable k1.files
-  read-end-table = table1
 
   -- the write end is still free then
   pub write-end-free : named_by (descriptors_at k1.table slot) w ≡ None
@@ -354,7 +344,7 @@ module _ {k : Kernel} {h : Hart} {slot r w i a : ℕ} {bytes : List ℕ} {m : Me
         (λ j. ap (λ (t : Slots). place_is_live (place_at t j)) second.table) (ap place_is_live (place1 slot) ∙ lives))
 
     table2 : files.IsTable k2.files
-    table2 = subst files.IsTable (sym second.files) (new-table k1.files g writer empty2.0 empty2.1 table1)
+    table2 = subst files.IsTable (sym second.files) (new-table k1.files g writer empty2.0 empty2.1 read-end-table)
 
     -- ---- the state
 
@@ -364,7 +354,7 @@ module _ {k : Kernel} {h : Hart} {slot r w i a : ℕ} {bytes : List ℕ} {m : Me
     files-now : (state_of k2 h).files ≡ two-more
     unfolding state_of
     files-now =
-        ap (λ xs. gathered (open_file_at xs) OPEN_FILES) second.files ∙ opened-files k1.files g writer empty2.0 empty2.1 table1.places
+        ap (λ xs. gathered (open_file_at xs) OPEN_FILES) second.files ∙ opened-files k1.files g writer empty2.0 empty2.1 read-end-table.places
         ∙ ap (λ fs. insert fs g writer) (ap (λ xs. gathered (open_file_at xs) OPEN_FILES) first.files ∙ opened-files k.files f reader empty1.0 empty1.1 whole.files.places)
 
     pipes-now : pipes_of k2.memories ≡ insert st.pipes i new_pipe

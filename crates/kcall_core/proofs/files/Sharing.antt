@@ -1,10 +1,9 @@
 -- One descriptor more names an open file: the counts are right again.
 use Rattle.std.proofs.Common.{◌≡◌, ◌≢◌, ℕ, ◌+◌, ◌<◌, Bool, true, false, List, length, get_or, set, Option, Some, None, inl, inr, refl, sym, ap, ◌∙◌, arith}
 use Rattle.std.specs.Prelude.{option_map}
-use Rattle.std.proofs.lemmas.Bool.{cases_eq, cases_lt, eq-eqb, false≢true}
+use Rattle.std.proofs.lemmas.Bool.{cases_eq, eq-eqb, false≢true}
 use Rattle.std.proofs.lemmas.Bool.Decides.{eqb_tells}
-use Rattle.std.proofs.lemmas.List.{get_or_past, get_or-set_same, get_or-set_other, length-set}
-use Rattle.std.proofs.lemmas.Option.{none-some}
+use Rattle.std.proofs.lemmas.List.{get_or-set_same, get_or-set_other, length-set}
 use Rattle.xk_base.specs.declared.limits.TheConstants.{NOFILE}
 use Rattle.xk_base.specs.Words.{count_below}
 use Rattle.file_table.specs.Named.{named_by, none_named, with_named}
@@ -14,6 +13,7 @@ use Rattle.file_table.specs.declared.open_file.TheConstants.{SHARERS_MAX}
 use Rattle.proc_table.specs.Slots.{Slots, place_at, place_is_live, descriptors_at}
 use Rattle.kernel_spec.specs.views.Words.{is_this, or_zero}
 use Rattle.kcall_core.specs.Whole.{AreCounted, namings, named_in}
+use Rattle.kcall_core.proofs.files.Namings.{inside-files}
 use Rattle.kernel_spec.proofs.steps.EndsAreCounted.{one}
 use Rattle.kernel_spec.proofs.well.Sums.{sum_change}
 use Rattle.kernel_spec.proofs.well.WellTable.{count_change}
@@ -46,11 +46,8 @@ module _ (t t' : Slots) (slot d g : ℕ) (inside : slot < 64) (below : d < NOFIL
       omega (arith, change, one-more-in file, ap (λ ds. named_in ds file) put-here)
 
 module _ (files : List (Option CountedFile)) (g : ℕ) (table : IsTable files) (e : CountedFile) (is : entry_at files g ≡ Some e) where
-  inside-files : g < length files
-  inside-files = elim (cases_lt g (length files)) [ inl lt ↦ lt | inr ge ↦ absurd (none-some e (sym (get_or_past files g None ge) ∙ is)) ]
-
   more-here : entry_at (with_sharer g files) g ≡ Some (once_more e)
-  more-here = get_or-set_same files g (option_map once_more (entry_at files g)) None inside-files ∙ ap (option_map once_more) is
+  more-here = get_or-set_same files g (option_map once_more (entry_at files g)) None (inside-files files g table e is) ∙ ap (option_map once_more) is
 
   more-other : (f : ℕ) → f ≢ g → entry_at (with_sharer g files) f ≡ entry_at files f
   more-other f ne = get_or-set_other files g f (option_map once_more (entry_at files g)) None ne

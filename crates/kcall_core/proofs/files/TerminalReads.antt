@@ -1,5 +1,5 @@
 -- A read from the terminal, as the code goes through it.
-use Rattle.std.proofs.Common.{◌≡◌, ℕ, ◌+◌, ◌-◌, ◌%◌, ◌^◌, ◌≤◌, Bool, true, false, cond, List, [], ◌∷◌, length, subst, Some, None, inl, inr, refl, sym, ap, ◌∙◌, arith}
+use Rattle.std.proofs.Common.{◌≡◌, ℕ, ◌+◌, ◌-◌, ◌%◌, ◌^◌, ◌≤◌, Bool, true, false, cond, List, [], length, subst, Some, None, inl, inr, refl, sym, ap, ◌∙◌, arith}
 use Rattle.std.specs.Prelude.{ℤ, pos, nat_eq, nat_le, nat_lt, slice_get}
 use Rattle.std.specs.FinMap.{get}
 use Rattle.std.proofs.lemmas.Bool.{cases_lt, le-leb, lt-ltb}
@@ -44,6 +44,7 @@ use Rattle.kernel_spec.proofs.steps.AloneLawsHold as law
 use Rattle.kernel_spec.proofs.rows.Decoding.{is_read, read_case}
 use Rattle.kernel_spec.proofs.rows.RowParts.{read_from}
 use Rattle.kernel_spec.proofs.well.WellLaws as well
+use Rattle.kernel_spec.proofs.Common.{no_bytes}
 use Rattle.kcall_core.proofs.memory.PipeRest.{next-at, rest-reached}
 use Rattle.kcall_core.proofs.turns.StepSlots.{KeepsAll}
 use Rattle.kcall_core.proofs.making.CallAnswers.{IsDone}
@@ -68,10 +69,6 @@ none-taken : (first : Bool) (n : ℕ) (bytes : List ℕ) → n ≡ 0 → (pulled
 none-taken first n bytes e =
     ap (λ z. (pulled first z bytes).taken) e
     ∙ ap (λ b. (cond b (first_bytes 0 true bytes) (up_to first bytes (line_length bytes) (slice_get bytes (line_length bytes)))).taken) (le-leb 0 (line_length bytes) (omega arith))
-
-no-bytes : (xs : List ℕ) → nat_lt 0 (length xs) ≡ false → xs ≡ []
-no-bytes [] e = refl
-no-bytes (x ∷ xs) e = let more : nat_lt 0 (length (x ∷ xs)) ≡ true = lt-ltb 0 (length (x ∷ xs)) (omega arith) in let no : ⊥ = cc in absurd no
 
 module _ {k : Kernel} {h : Hart} {c : Call} {n : ℕ} (whole : IsWhole k h) (runs : IsRunning k) (x : ReadsTerminal k h c n) where
   abbrev s : State
@@ -130,7 +127,7 @@ module _ {k : Kernel} {h : Hart} {c : Call} {n : ℕ} (whole : IsWhole k h) (run
   wake = record {
     bytes = λ i shut. sym shut;
     room = λ i shut. sym shut;
-    keys = λ shut. sym (ap (λ xs. nat_lt 0 (length (pulled (nat_eq c.moved 0) left xs).left)) (no-bytes s.console.committed shut)
+    keys = λ shut. sym (ap (λ xs. nat_lt 0 (length (pulled (nat_eq c.moved 0) left xs).left)) (no_bytes s.console.committed shut)
         ∙ ap (λ xs. nat_lt 0 (length xs)) (none-left (nat_eq c.moved 0) left));
     sending = λ shut. sym shut;
     children = λ q. refl;

@@ -1,6 +1,6 @@
 -- The process that runs is to sleep: it is in its call and on a channel, and nothing else that the state tells is another.
 use Rattle.std.proofs.Common.{◌≡◌, ◌≢◌, ℕ, List, set, Option, Some, None, inl, inr, refl, sym, ap, ◌∙◌, subst, arith}
-use Rattle.std.specs.Prelude.{ℤ, option_map}
+use Rattle.std.specs.Prelude.{option_map}
 use Rattle.std.proofs.lemmas.Bool.{cases_eq}
 use Rattle.std.proofs.lemmas.List.{get_or-set_same, get_or-set_other}
 use Rattle.std.proofs.lemmas.Option.{none-some, same_Some}
@@ -24,7 +24,7 @@ use Rattle.kcall_core.specs.Memories.{each_of}
 use Rattle.kcall_core.specs.Kernel.{process_of, regs_at, entry_of, entry_at, state_of, IsSound, IsRunning, IsCurrent, slot_now, pid_now, live_now}
 use Rattle.kcall_core.specs.declared.kernel.Kernel.{Kernel}
 use Rattle.kcall_core.proofs.table.ByPid.{by_pid-same}
-use Rattle.kcall_core.proofs.table.States.{Alone, Running, running, alone-entries, not-this}
+use Rattle.kcall_core.proofs.table.States.{Alone, Running, running, alone-entries, not-this, not-over}
 use Rattle.kcall_core.proofs.table.Stops.{read-some, live-place}
 use Rattle.kcall_core.proofs.turns.Chosen.{noted}
 use Rattle.kcall_core.proofs.table.OnePlace.{asleep-lives}
@@ -47,7 +47,8 @@ module _ (k : Kernel) (h : Hart) (on : Channel) (sound : IsSound k h) (runs : Is
   now = running k h sound runs
 
   here : place_at (drowsing on k).table (slot_now k) ≡ Some (asleep on now.is.process)
-  here = get_or-set_same k.table.places (slot_now k) (option_map (asleep on) (place_at k.table (slot_now k))) None (omega (arith, now.inside, sound.table.places)) ∙ ap (option_map (asleep on)) now.is.is
+  here = get_or-set_same k.table.places (slot_now k) (option_map (asleep on) (place_at k.table (slot_now k))) None
+      (omega (arith, now.inside, sound.table.places)) ∙ ap (option_map (asleep on)) now.is.is
 
   there : (j : ℕ) → j ≢ slot_now k → place_at (drowsing on k).table j ≡ place_at k.table j
   there j ne = get_or-set_other k.table.places (slot_now k) j (option_map (asleep on) (place_at k.table (slot_now k))) None ne
@@ -83,9 +84,6 @@ module _ (k : Kernel) (h : Hart) (on : Channel) (sound : IsSound k h) (runs : Is
         subst (IsCurrent (drowsing on k) h) slot (record { process = asleep on now.is.process; is = here; live = lives-here; runs = now.is.runs });
     idle = sound.idle;
   }
-    where
-      not-over : (p q : Process) (status : ℤ) → Some p ≡ Some q → status_of p ≡ None → status_of q ≡ Some status → ⊥
-      not-over p q status same live over = let e : p ≡ q = cc in none-some status (sym live ∙ ap status_of e ∙ over)
 
   pub drowsing-state : state_of (drowsing on k) h ≡ state_of k h
   unfolding state_of
@@ -111,7 +109,8 @@ module _ (k : Kernel) (h : Hart) (on : Channel) (sound : IsSound k h) (runs : Is
 
 -- ---- in its call, and on the channel
 
-module _ (k : Kernel) (h : Hart) (slot : ℕ) (c : Call) (t : Slots) (sound : IsSound k h) (runs : IsRunning k) (is : k.current ≡ Some slot) (noted-call : t ≡ changed_at slot (in_call (Some c)) k.table) where
+module _ (k : Kernel) (h : Hart) (slot : ℕ) (c : Call) (t : Slots) (sound : IsSound k h) (runs : IsRunning k) (is : k.current ≡ Some slot)
+    (noted-call : t ≡ changed_at slot (in_call (Some c)) k.table) where
   same-slot : slot ≡ slot_now k
   same-slot = sym (ap or_zero is)
 

@@ -71,7 +71,8 @@ set-again s p l is = λ t. record s { processes = insert_again s.processes p (Al
 abbrev SleepSo : Slots → State → Type 0
 SleepSo t s = (slot : ℕ) (p : Process) (l : Live) (channel : Channel) → Holds t slot p → live s p.pid ≡ Some l → channel_of p ≡ Some channel → is_for (waits_for s p.pid l) channel ≡ true
 
-module _ (k : Kernel) (m : Memories) (h h' : Hart) (whole : IsWhole k h) (frames : length m.ram ≡ length k.memories.ram) (sound : IsSound (record k { memories = m }) h') (same : state_of (record k { memories = m }) h' ≡ state_of k h) where
+module _ (k : Kernel) (m : Memories) (h h' : Hart) (whole : IsWhole k h) (frames : length m.ram ≡ length k.memories.ram)
+    (sound : IsSound (record k { memories = m }) h') (same : state_of (record k { memories = m }) h' ≡ state_of k h) where
   whole-same : IsWhole (record k { memories = m }) h'
   unfolding turns_of
   whole-same = record {
@@ -116,8 +117,10 @@ same-pids : (v : View) (r : Registers) (st : Option Store) → (stored v r st).p
 same-pids v r None = refl
 same-pids v r (Some st) = refl
 
-module _ (k : Kernel) (m : Memories) (h h' : Hart) (r : Registers) (st : Option Store) (whole : IsWhole k h) (runs : IsRunning k) (free : laws.IsBetweenCalls (live_now k h)) (is : next_instruction (live_now k h).regs (live_now k h).image ≡ Next r st)
-    (frames : length m.ram ≡ length k.memories.ram) (sound : IsSound (record k { memories = m }) h') (same : state_of (record k { memories = m }) h' ≡ set_live (pid_now k) (after_step (Next r st) (live_now k h)) (state_of k h)) where
+module _ (k : Kernel) (m : Memories) (h h' : Hart) (r : Registers) (st : Option Store) (whole : IsWhole k h) (runs : IsRunning k)
+    (free : laws.IsBetweenCalls (live_now k h)) (is : next_instruction (live_now k h).regs (live_now k h).image ≡ Next r st)
+    (frames : length m.ram ≡ length k.memories.ram) (sound : IsSound (record k { memories = m }) h')
+    (same : state_of (record k { memories = m }) h' ≡ set_live (pid_now k) (after_step (Next r st) (live_now k h)) (state_of k h)) where
   itself : OnlyItself k h (record k { memories = m }) h'
   itself =
       let i = running k h whole.sound runs in
@@ -166,7 +169,8 @@ module _ (k : Kernel) (new : Memories) (h h' : Hart) (stop : Stop) (whole : IsWh
   unfolding state_of
   step-state =
       let held = held_at (each_of k.memories) (slot_now k) in
-      let here : held_at (each_of new) (slot_now k) ≡ with_image (state_after with_store held.image step) held = ap or_nothing (changed-here (record k { memories = new }) whole.sound runs refl refl s.changes) in
+      let here : held_at (each_of new) (slot_now k) ≡ with_image (state_after with_store held.image step) held =
+      ap or_nothing (changed-here (record k { memories = new }) whole.sound runs refl refl s.changes) in
       goes-state k (record k { memories = new }) h h' whole.sound runs (record { goes = goes; files = refl; pipes = s.changes.pipes; console = refl; programs = refl; clock = refl })
       ∙ (λ t. record (set_live (pid_now k) (live_of (place_now k) (descriptors_at k.table (slot_now k)) (here t) (s.regs t)) (state_of k h)) { free = s.free t })
 
@@ -178,4 +182,5 @@ module _ (k : Kernel) (new : Memories) (h h' : Hart) (stop : Stop) (whole : IsWh
   pub step-stays : stop ≢ stops.Next → Stays k h (record k { memories = new }) h'
   step-stays other =
       stays-same k new h h' whole s.changes.frames step-sound
-      (step-state ∙ ap (λ l. set_live (pid_now k) l (state_of k h)) (after-stop (live_now k h) step (λ e. other (s.ends ∙ e))) ∙ set-again (state_of k h) (pid_now k) (live_now k h) (live-is k h whole.sound runs))
+      (step-state ∙ ap (λ l. set_live (pid_now k) l (state_of k h)) (after-stop (live_now k h) step (λ e. other (s.ends ∙ e)))
+      ∙ set-again (state_of k h) (pid_now k) (live_now k h) (live-is k h whole.sound runs))

@@ -15,7 +15,7 @@ use Rattle.frame_list.specs.Pool.{free_in, Good}
 use Rattle.frame_list.specs.Traded.{Traded, Taken, Given}
 use Rattle.frame_list.proofs.FreeList.{free_in-written, Good-written}
 use Rattle.frame_list.proofs.Trades.{trade-lengths, trade-join}
-use Rattle.sv39_core.proofs.Gathered.{tie-yes, tie-no, gathered-get, same_pages}
+use Rattle.xk_base.proofs.Gathered.{tie-yes, tie-no, gathered-get, same_pages}
 use Rattle.pipe_core.specs.Pipe.{Pipe, IsPipe, Becomes, pipe_in}
 use Rattle.kernel_spec.specs.views.Words.{count_if}
 use Rattle.kcall_core.specs.Holdings.{pipe_cost, with_pipe, or_new, pipe_named}

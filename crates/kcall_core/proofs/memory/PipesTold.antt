@@ -5,7 +5,7 @@ use Rattle.std.proofs.lemmas.Bool.{cases_lt, le-ltb, false≢true, lt-ltb}
 use Rattle.std.specs.Ordering.{nat_cmp}
 use Rattle.std.specs.FinMap.{FinMap, get}
 use Rattle.xk_base.specs.declared.limits.TheConstants.{FRAMES_MAX}
-use Rattle.sv39_core.proofs.Gathered.{gathered-get}
+use Rattle.xk_base.proofs.Gathered.{gathered-get}
 use Rattle.pipe_core.specs.Pipe.{Pipe, pipe_in}
 use Rattle.kcall_core.specs.Holdings.{or_new, pipe_named}
 use Rattle.kcall_core.specs.Memories.{keeps_pipe, kept_pipe, pipes_of}

@@ -7,7 +7,7 @@ use Rattle.std.specs.FinMap.{get, get-empty, empty, same_map, nat_cmp-IsAntisymm
 use Rattle.std.proofs.lemmas.Bool.{cases_eq, lt-ltb}
 use Rattle.std.proofs.lemmas.List.{get_or-replicate, length-replicate, ext_get_or, get_or-set_other}
 use Rattle.xk_base.specs.declared.limits.TheConstants.{NOFILE}
-use Rattle.sv39_core.proofs.Gathered.{gathered-get}
+use Rattle.xk_base.proofs.Gathered.{gathered-get}
 use Rattle.hart_core.specs.declared.hart.Hart.{Hart}
 use Rattle.file_table.specs.Named.{none_named}
 use Rattle.file_table.specs.OpenFiles as files
@@ -71,7 +71,9 @@ pub record IsEndedIn (k1 : Kernel) (h : Hart) (parent : Option ℕ) (status : �
 -- ---- no descriptor is in use
 
 nothing-named : (ds : List (Option ℕ)) → length ds ≡ NOFILE → ((d : ℕ) → get (descriptor_map ds) d ≡ None) → ds ≡ none_named
-nothing-named ds long none = ext_get_or None ds none_named (long ∙ sym (length-replicate NOFILE nobody)) (λ d below. seen d (omega (arith, below, long)) ∙ sym (get_or-replicate NOFILE d nobody None (omega (arith, below, long))))
+nothing-named ds long none =
+    ext_get_or None ds none_named (long ∙ sym (length-replicate NOFILE nobody))
+    (λ d below. seen d (omega (arith, below, long)) ∙ sym (get_or-replicate NOFILE d nobody None (omega (arith, below, long))))
   where
     nobody : Option ℕ
     nobody = None
@@ -186,10 +188,17 @@ module _ (k k1 k' : Kernel) (h h' : Hart) (status : ℤ) (bared : IsBared k h k1
         files = subst files.IsTable (sym ends.files) bared.files;
         counted = ended-counted;
         last = ap (λ (t : Slots). t.last) ends.table ∙ end-last (slot_now k1) (pid_now k1) (live_now k h).parent status k1.table ∙ bared.last;
-        own = (own.0, ap (λ (t : Slots). place_at t (slot_now k)) ends.table ∙ ap (place_at (end_in (slot_now k1) (pid_now k1) (live_now k h).parent status k1.table)) (sym same-slot) ∙ own.1, own.2 ∙ pid, own.3);
+        own = (
+          own.0,
+          ap (λ (t : Slots). place_at t (slot_now k)) ends.table
+              ∙ ap (place_at (end_in (slot_now k1) (pid_now k1) (live_now k h).parent status k1.table)) (sym same-slot) ∙ own.1,
+          own.2 ∙ pid,
+          own.3,
+        );
         others = subst (λ (t : Slots). OthersWake (slot_now k) wakes k.table t) (sym ends.table)
             (subst (λ (i : ℕ). OthersWake (slot_now k) wakes k.table (end_in i (pid_now k1) (live_now k h).parent status k1.table)) (sym same-slot)
-            (others-join (closes_wake (state_of k h).pipes (state_of k1 h).pipes) (family_wakes (live_now k h).parent) k.table k1.table (end_in (slot_now k) (pid_now k1) (live_now k h).parent status k1.table) bared.others
+            (others-join (closes_wake (state_of k h).pipes (state_of k1 h).pipes) (family_wakes (live_now k h).parent) k.table k1.table
+            (end_in (slot_now k) (pid_now k1) (live_now k h).parent status k1.table) bared.others
             (others-end (slot_now k) (pid_now k1) (live_now k h).parent status k1.table)));
         exactly = λ channel. ap (λ m. end_wakes (live_now k h).parent (state_of k h).pipes m channel) same-pipes;
       }

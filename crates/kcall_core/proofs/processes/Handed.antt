@@ -11,7 +11,7 @@ use Rattle.std.proofs.lemmas.Option.{none-some, same_Some}
 use Rattle.xk_base.specs.declared.limits.TheConstants.{NPROC, NOFILE, OPEN_FILES, PID_MAX}
 use Rattle.xk_base.specs.Gathered.{gathered}
 use Rattle.xk_base.specs.Image.{price}
-use Rattle.sv39_core.proofs.Gathered.{same_pages}
+use Rattle.xk_base.proofs.Gathered.{same_pages}
 use Rattle.rv64i_core.specs.Registers.{fresh}
 use Rattle.hart_core.specs.declared.hart.Hart.{Hart}
 use Rattle.file_table.specs.Named.{named_by}

@@ -10,6 +10,7 @@ use Rattle.std.proofs.lemmas.Bool.Decides.{eqb_tells}
 use Rattle.std.proofs.lemmas.List.{get_or-set_same, get_or-set_other}
 use Rattle.std.proofs.lemmas.Option.{none-some, same_Some}
 use Rattle.xk_base.specs.declared.limits.TheConstants.{NPROC}
+use Rattle.xk_base.proofs.Options.{some_chosen}
 use Rattle.rv64i_core.specs.Registers.{Registers}
 use Rattle.hart_core.specs.declared.hart.Hart.{Hart}
 use Rattle.file_table.specs.OpenFiles as files
@@ -82,12 +83,8 @@ pub asked-is : (z : ℤ) (q : ℕ) → asked_pid z ≡ Some q → (z ≡ pos q) 
 asked-is (pos n) q e = let r = shut-at (nat_eq n 0) n q refl e in (ap pos r.0, ap (λ m. nat_eq m 0) (sym r.0) ∙ r.1)
 asked-is (negsuc k) q e = absurd (none-some q e)
 
-none-asked : (b : Bool) (n : ℕ) → cond b None (Some n) ≡ None → b ≡ true
-none-asked true n e = refl
-none-asked false n e = absurd (none-some n (sym e))
-
 by-number : (c : Call) (v : View) (z : ℤ) → asked_pid z ≡ None → kill_pid c v z ≡ refused c v
-by-number c v (pos n) e = ap (λ b. unless b c v (λ _. killed_by c v n)) (none-asked (nat_eq n 0) n e)
+by-number c v (pos n) e = ap (λ b. unless b c v (λ _. killed_by c v n)) (some_chosen (nat_eq n 0) n e)
 by-number c v (negsuc k) e = refl
 
 module _ (c : Call) (v : View) (z : ℤ) (asked : z ≡ c_int c.a0) where
@@ -109,7 +106,9 @@ in-use k h q (Some slot) is_table e =
 pub unknown-row : (k : Kernel) (h : Hart) (c : Call) (q : ℕ) → IsTable k.table → slot_of k.table q ≡ None → killed_by c (view_now k h) q ≡ refused c (view_now k h)
 unfolding view_of
 unknown-row k h c q is_table e =
-    ap (λ b. unless (not b) c (view_now k h) (λ _. record (done c (pos 0) (record (view_now k h) { killed = (view_now k h).killed || nat_eq q (view_now k h).pid })) { marked = Some q })) (in-use k h q None is_table e)
+    ap (λ b. unless (not b) c (view_now k h)
+    (λ _. record (done c (pos 0) (record (view_now k h) { killed = (view_now k h).killed || nat_eq q (view_now k h).pid })) { marked = Some q }))
+    (in-use k h q None is_table e)
 
 -- ---- a process that is killed
 
@@ -224,7 +223,15 @@ module _ {k : Kernel} {h : Hart} (q slot : ℕ) (sound : IsSound k h) (at : slot
     lives = λ j y is lives. let x = came-from j y is in sound.lives j x.0 x.1 (sym (marker-status q x.0) ∙ ap status_of x.2 ∙ lives);
     ended = λ j y status is over. let x = came-from j y is in sound.ended j x.0 status x.1 (sym (marker-status q x.0) ∙ ap status_of x.2 ∙ over);
     vacant = λ j is. sound.vacant j (vacant-before j is);
-    current = λ j is. let now = sound.current j is in record { process = marker q now.process; is = places j ∙ ap (option_map (marker q)) now.is; live = marker-status q now.process ∙ now.live; runs = now.runs };
+    current = λ j is. let now =
+        sound.current j is in
+        record {
+          process = marker q now.process;
+          is = places j ∙ ap (option_map (marker q)) now.is;
+          live = marker-status q now.process
+              ∙ now.live;
+          runs = now.runs;
+        };
     idle = sound.idle;
   }
 
@@ -263,7 +270,8 @@ or-after false false l e = λ i. Some (Alive (record l { killed = e i }))
 -- who marks q and is done is done and marks q
 either-order : (m : FinMap nat_cmp meaning.Process) (p q : ℕ) (l : Live) → (nat_eq q p ≡ true → l.killed ≡ true)
     → insert (change marked q m (get m q)) p (Alive l) ≡ change marked q (insert m p (Alive l)) (get (insert m p (Alive l)) q)
-either-order m p q l itself = same_map nat_cmp_total nat_cmp-IsAntisymmetric (insert (change marked q m (get m q)) p (Alive l)) (change marked q (insert m p (Alive l)) (get (insert m p (Alive l)) q)) (λ r.
+either-order m p q l itself = same_map nat_cmp_total nat_cmp-IsAntisymmetric (insert (change marked q m (get m q)) p (Alive l))
+    (change marked q (insert m p (Alive l)) (get (insert m p (Alive l)) q)) (λ r.
     get_at (change marked q m (get m q)) p (Alive l) r
     ∙ ap (cond (nat_eq r p) (Some (Alive l))) (get-change marked marked_again m q r (get m q) refl)
     ∙ by r (nat_eq r p) (nat_eq r q) (λ a b. itself (eq-eqb q p (sym (eqb-true r q b) ∙ eqb-true r p a)))
@@ -353,7 +361,9 @@ module _ {k : Kernel} {h : Hart} (q slot : ℕ) (whole : IsWhole k h) (runs : Is
   -- nothing else comes
   stays-shut : (r : ℕ) (a : Live) → is_open s (waits_for s r a) ≡ false → is_open t (waits_for s r a) ≡ false
   stays-shut r a shut =
-      let still : is_open (own_state p next s) (waits_for s r a) ≡ false = false_from_ne_true (is_open (own_state p next s) (waits_for s r a)) (λ yes. opens_nothing s p l next s.files s.free was refl (waits_for s r a) shut yes) in
+      let still : is_open (own_state p next s) (waits_for s r a) ≡ false =
+      false_from_ne_true (is_open (own_state p next s) (waits_for s r a))
+      (λ yes. opens_nothing s p l next s.files s.free was refl (waits_for s r a) shut yes) in
       false_from_ne_true (is_open t (waits_for s r a)) (λ yes. opens_marked (own_state p next s) q (waits_for s r a) still yes)
 
   module _ (k' : Kernel) (h' : Hart) (done : IsDone mid h (pos 0) k' h') where
@@ -365,7 +375,8 @@ module _ {k : Kernel} {h : Hart} (q slot : ℕ) (whole : IsWhole k h) (runs : Is
     place : ItsPlace mid.table k'.table (slot_now k) (marker q (place_now k)) (in_call None (marker q (place_now k)))
     place =
         let lives = marker-status q (place_now k) ∙ place-lives k h whole.sound runs in
-        changed-place mid.table k'.table (slot_now k) (marker q (place_now k)) (in_call None) sound1.table.places (running k h whole.sound runs).inside mid-is lives refl (in-call-lives None (marker q (place_now k)) lives)
+        changed-place mid.table k'.table (slot_now k) (marker q (place_now k)) (in_call None) sound1.table.places
+        (running k h whole.sound runs).inside mid-is lives refl (in-call-lives None (marker q (place_now k)) lives)
         (ap (λ (y : Kernel). y.table) done.kernel)
 
     counted1 : AreCounted mid.files mid.table

@@ -75,10 +75,12 @@ given-orphan p x files held regs = by x.parent refl (status_of x) refl
     by : (o : Option ℕ) → x.parent ≡ o → (s : Option ℤ) → status_of x ≡ s → process_of (given p 1 x) files held regs ≡ orphan p (process_of x files held regs)
     by o e s over =
         under (is_parent p x.parent) x.parent (status_of x)
-        ∙ ap (λ b. cond b (given_to 1 (by_status x.parent (l x.parent) (status_of x))) (by_status x.parent (l x.parent) (status_of x))) (same x.parent ∙ ap (is_this p) (sym (parent-of x.parent (status_of x))))
+        ∙ ap (λ b. cond b (given_to 1 (by_status x.parent (l x.parent) (status_of x))) (by_status x.parent (l x.parent) (status_of x)))
+        (same x.parent ∙ ap (is_this p) (sym (parent-of x.parent (status_of x))))
 
 -- every process of the table changes, but for its pid and its status, and nothing else
-module _ (k k' : Kernel) (f : Process → Process) (F : meaning.Process → meaning.Process) (table : k'.table ≡ each_changed f k.table) (rest : k' ≡ record k { table = k'.table }) (pids : (x : Process) → (f x).pid ≡ x.pid) (statuses : (x : Process) → status_of (f x) ≡ status_of x)
+module _ (k k' : Kernel) (f : Process → Process) (F : meaning.Process → meaning.Process) (table : k'.table ≡ each_changed f k.table)
+    (rest : k' ≡ record k { table = k'.table }) (pids : (x : Process) → (f x).pid ≡ x.pid) (statuses : (x : Process) → status_of (f x) ≡ status_of x)
     (means : (x : Process) (files : List (Option ℕ)) (held : Held) (regs : Registers) → process_of (f x) files held regs ≡ F (process_of x files held regs)) where
   place : (j : ℕ) → place_at k'.table j ≡ option_map f (place_at k.table j)
   place j = ap (λ (t : Slots). place_at t j) table ∙ elim (cases_lt j (length k.table.places)) [
@@ -101,7 +103,8 @@ module _ (k k' : Kernel) (f : Process → Process) (F : meaning.Process → mean
   all-changed : (h : Hart) (q : ℕ) → get (by_pid (entry_at k' h) NPROC) q ≡ option_map F (get (by_pid (entry_at k h) NPROC) q)
   all-changed h q = by_pid-each F (entry_at k h) (entry_at k' h) NPROC q (entry h)
 
-  pub changed-state : (h : Hart) (processes : FinMap nat_cmp meaning.Process) → ((q : ℕ) → option_map F (get (by_pid (entry_at k h) NPROC) q) ≡ get processes q) → state_of k' h ≡ record (state_of k h) { processes = processes }
+  pub changed-state : (h : Hart) (processes : FinMap nat_cmp meaning.Process)
+      → ((q : ℕ) → option_map F (get (by_pid (entry_at k h) NPROC) q) ≡ get processes q) → state_of k' h ≡ record (state_of k h) { processes = processes }
   unfolding state_of
   changed-state h processes are =
       let same : by_pid (entry_at k' h) NPROC ≡ processes = same_map nat_cmp_total nat_cmp-IsAntisymmetric (by_pid (entry_at k' h) NPROC) processes (λ q. all-changed h q ∙ are q) in
@@ -146,7 +149,8 @@ module _ (k k' : Kernel) (f : Process → Process) (F : meaning.Process → mean
 module _ (k k' : Kernel) (pid : ℕ) (table : k'.table ≡ each_changed (given pid 1) k.table) (rest : k' ≡ record k { table = k'.table }) where
   pub adopted-state : (h : Hart) → state_of k' h ≡ orphans pid (state_of k h)
   unfolding state_of
-  adopted-state h = changed-state k k' (given pid 1) (orphan pid) table rest (λ x. refl) (λ x. refl) (given-orphan pid) h (orphans pid (state_of k h)).processes (λ q. sym (get-orphans pid (state_of k h) q))
+  adopted-state h = changed-state k k' (given pid 1) (orphan pid) table rest (λ x. refl) (λ x. refl) (given-orphan pid) h
+      (orphans pid (state_of k h)).processes (λ q. sym (get-orphans pid (state_of k h) q))
 
   pub adopted-sound : (h : Hart) → IsSound k h → IsSound k' h
   adopted-sound h sound = changed-sound k k' (given pid 1) (orphan pid) table rest (λ x. refl) (λ x. refl) (given-orphan pid) h sound
@@ -181,7 +185,8 @@ woken-status on x = by x.state
 module _ (k k' : Kernel) (on : Channel) (table : k'.table ≡ each_changed (woken on) k.table) (rest : k' ≡ record k { table = k'.table }) where
   pub woken-state : (h : Hart) → state_of k' h ≡ state_of k h
   unfolding state_of
-  woken-state h = changed-state k k' (woken on) (λ x. x) table rest (λ x. refl) (woken-status on) (woken-means on) h (by_pid (entry_at k h) NPROC) (λ q. option_map_id (get (by_pid (entry_at k h) NPROC) q))
+  woken-state h = changed-state k k' (woken on) (λ x. x) table rest (λ x. refl) (woken-status on) (woken-means on) h (by_pid (entry_at k h) NPROC)
+      (λ q. option_map_id (get (by_pid (entry_at k h) NPROC) q))
 
   pub woken-sound : (h : Hart) → IsSound k h → IsSound k' h
   woken-sound h sound = changed-sound k k' (woken on) (λ x. x) table rest (λ x. refl) (woken-status on) (woken-means on) h sound

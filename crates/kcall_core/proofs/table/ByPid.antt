@@ -3,7 +3,7 @@ use Rattle.std.proofs.Common.{◌≡◌, ◌≢◌, ℕ, zero, suc, ◌<◌, con
 use Rattle.std.proofs.lemmas.Bool.{cases_eq}
 use Rattle.std.specs.Ordering.{nat_cmp}
 use Rattle.std.specs.FinMap.{FinMap, insert, remove, get, get-empty}
-use Rattle.sv39_core.proofs.Gathered.{same_pages}
+use Rattle.xk_base.proofs.Gathered.{same_pages}
 use Rattle.kernel_spec.specs.views.ByPid.{by_pid, put}
 use Rattle.std.proofs.lemmas.Bool.{eq-eqb}
 use Rattle.std.proofs.lemmas.Bool.Decides.{eqb_tells}

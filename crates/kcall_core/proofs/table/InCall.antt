@@ -1,6 +1,6 @@
 -- The process that runs is in another call from now on, or in none, and has other registers.
 use Rattle.std.proofs.Common.{◌≡◌, ◌≢◌, ℕ, Bool, cond, List, set, Option, Some, None, inl, inr, refl, sym, ap, ◌∙◌, subst, arith}
-use Rattle.std.specs.Prelude.{ℤ, option_map}
+use Rattle.std.specs.Prelude.{option_map}
 use Rattle.std.proofs.lemmas.Bool.{cases_eq, eq-eqb}
 use Rattle.std.proofs.lemmas.List.{get_or-set_same, get_or-set_other}
 use Rattle.std.proofs.lemmas.Option.{none-some, same_Some}
@@ -20,7 +20,7 @@ use Rattle.kcall_core.specs.Holdings.{Held, held_at}
 use Rattle.kcall_core.specs.Memories.{each_of}
 use Rattle.kcall_core.specs.Kernel.{live_of, by_status, process_of, entry_of, entry_at, state_of, IsSound, IsRunning, IsCurrent, or_nobody, slot_now, place_now, pid_now, live_now}
 use Rattle.kcall_core.specs.declared.kernel.Kernel.{Kernel}
-use Rattle.kcall_core.proofs.table.States.{Alone, Running, running, slot-state, not-this, runs-regs}
+use Rattle.kcall_core.proofs.table.States.{Alone, Running, running, slot-state, not-this, runs-regs, not-over}
 use Rattle.kcall_core.proofs.table.Stops.{read-some}
 use Rattle.kcall_core.proofs.turns.Chosen.{noted}
 
@@ -54,7 +54,8 @@ module _ (k : Kernel) (h : Hart) (call : Option Call) (regs : Registers) (sound 
   now = running k h sound runs
 
   here : place_at (calling call k).table (slot_now k) ≡ Some (in_call call now.is.process)
-  here = get_or-set_same k.table.places (slot_now k) (option_map (in_call call) (place_at k.table (slot_now k))) None (omega (arith, now.inside, sound.table.places)) ∙ ap (option_map (in_call call)) now.is.is
+  here = get_or-set_same k.table.places (slot_now k) (option_map (in_call call) (place_at k.table (slot_now k))) None
+      (omega (arith, now.inside, sound.table.places)) ∙ ap (option_map (in_call call)) now.is.is
 
   there : (j : ℕ) → j ≢ slot_now k → place_at (calling call k).table j ≡ place_at k.table j
   there j ne = get_or-set_other k.table.places (slot_now k) j (option_map (in_call call) (place_at k.table (slot_now k))) None ne
@@ -90,12 +91,10 @@ module _ (k : Kernel) (h : Hart) (call : Option Call) (regs : Registers) (sound 
     ];
     current = λ j at.
         let slot : slot_now k ≡ j = same_Some (slot_now k) j (sym now.current ∙ at) in
-        subst (IsCurrent (calling call k) (moved regs h)) slot (record { process = in_call call now.is.process; is = here; live = live-here; runs = runs-regs k.memories (slot_now k) h regs now.is.runs });
+        subst (IsCurrent (calling call k) (moved regs h)) slot
+        (record { process = in_call call now.is.process; is = here; live = live-here; runs = runs-regs k.memories (slot_now k) h regs now.is.runs });
     idle = λ at. absurd (none-some (slot_now k) (sym at ∙ now.current));
   }
-    where
-      not-over : (p q : Process) (status : ℤ) → Some p ≡ Some q → status_of p ≡ None → status_of q ≡ Some status → ⊥
-      not-over p q status same live over = let e : p ≡ q = cc in none-some status (sym live ∙ ap status_of e ∙ over)
 
   calling-live : live_now (calling call k) (moved regs h) ≡ record (live_now k h) { regs = regs; call = call }
   calling-live =

@@ -140,7 +140,8 @@ module _ (slot pid : ℕ) (parent : Option ℕ) (status : ℤ) where
       let roused : Slots = parent_woken parent zombie in
       let two = others-join nobody nobody t adopted zombie (others-given t) (others-ended adopted) in
       let three = others-join (λ c. false || false) (parent_wakes parent) t zombie roused two (others-parent parent zombie) in
-      let four = others-join (λ c. (false || false) || parent_wakes parent c) (λ c. same_channel c (on.Children 1)) t roused (end_in slot pid parent status t) three (others-woken (on.Children 1) roused) in
+      let four = others-join (λ c. (false || false) || parent_wakes parent c) (λ c. same_channel c (on.Children 1)) t roused
+      (end_in slot pid parent status t) three (others-woken (on.Children 1) roused) in
       others-alike (λ c. ((false || false) || parent_wakes parent c) || same_channel c (on.Children 1)) (family_wakes parent) t (end_in slot pid parent status t) (family parent) four
 
   -- ---- its own slot
@@ -169,5 +170,6 @@ module _ (slot pid : ℕ) (parent : Option ℕ) (status : ℤ) where
       let here : place_at adopted slot ≡ Some (given pid 1 p) = place-each (given pid 1) t slot ∙ ap (option_map (given pid 1)) at in
       let zombie : Slots = changed_at slot (ended status) adopted in
       let over : place_at zombie slot ≡ Some (ended status (given pid 1 p)) =
-      get_or-set_same adopted.places slot (option_map (ended status) (place_at adopted slot)) None (omega (arith, lt, length-map t.places (option_map (given pid 1)))) ∙ ap (option_map (ended status)) here in
+      get_or-set_same adopted.places slot (option_map (ended status) (place_at adopted slot)) None
+      (omega (arith, lt, length-map t.places (option_map (given pid 1)))) ∙ ap (option_map (ended status)) here in
       ended-woken p.pid (on.Children 1) (parent_woken parent zombie) (ended-parent p.pid parent zombie (ended status (given pid 1 p), over, refl, refl))

@@ -200,6 +200,10 @@ goes-state k k' h h' sound runs on =
       programs = map named_file (on.programs t);
     }
 
+-- a process that lives isn't one that has ended
+pub not-over : (p q : Process) (status : ℤ) → Some p ≡ Some q → status_of p ≡ None → status_of q ≡ Some status → ⊥
+not-over p q status same live over = let e : p ≡ q = cc in none-some status (sym live ∙ ap status_of e ∙ over)
+
 -- and the kernel is sound, as long as the hart runs on in the slot
 pub goes-sound : (k k' : Kernel) (h h' : Hart) → IsSound k h → IsRunning k → Goes k k' → memories.AreSound k'.memories
     → HasMemory (each_of k'.memories) (slot_now k) → RunsIn k'.memories (slot_now k) h' → IsSound k' h'
@@ -214,7 +218,7 @@ goes-sound k k' h h' sound runs goes sound' has runs' =
         | inr ne ↦ subst (λ o. IsSome o) (sym (goes.each i ne)) (sound.lives i p (sym (table i) ∙ at) live)
       ];
       ended = λ i p status at over. elim (cases_eq i (slot_now k)) [
-        | inl e ↦ absurd (not-over p r.is.process status (sym at ∙ table i ∙ ap (place_at k.table) e ∙ r.is.is) r.is.live over)
+        | inl e ↦ absurd (not-over r.is.process p status (sym (sym at ∙ table i ∙ ap (place_at k.table) e ∙ r.is.is)) r.is.live over)
         | inr ne ↦ goes.each i ne ∙ sound.ended i p status (sym (table i) ∙ at) over
       ];
       vacant = λ i at. elim (cases_eq i (slot_now k)) [
@@ -226,9 +230,6 @@ goes-sound k k' h h' sound runs goes sound' has runs' =
           subst (IsCurrent k' h') slot (record { process = r.is.process; is = table (slot_now k) ∙ r.is.is; live = r.is.live; runs = runs' });
       idle = λ is. absurd (none-some (slot_now k) (sym is ∙ goes.current ∙ r.current));
     }
-  where
-    not-over : (p q : Process) (status : ℤ) → Some p ≡ Some q → status_of q ≡ None → status_of p ≡ Some status → ⊥
-    not-over p q status same live over = let e : p ≡ q = cc in none-some status (sym live ∙ sym (ap status_of e) ∙ over)
 
 -- ---- what a hart keeps doesn't depend on its registers
 

@@ -30,7 +30,7 @@ use Rattle.kcall_core.specs.declared.kernel.Kernel.{Kernel}
 use Rattle.kcall_core.specs.declared.memories.Memories.{Memories}
 use Rattle.kcall_core.proofs.table.ByPid.{by_pid-same}
 use Rattle.kcall_core.proofs.memory.Changes.{some-inside}
-use Rattle.kcall_core.proofs.table.States.{Alone, alone-entries, slot-inside, slot-state, not-this}
+use Rattle.kcall_core.proofs.table.States.{Alone, alone-entries, slot-inside, slot-state, not-this, not-over}
 
 -- all of the kernel but the table, the memories and who runs
 pub record Rest (k k' : Kernel) : Type 0 where
@@ -116,7 +116,7 @@ suspended-sound k k' h h' i x sound is changes table stopped idle =
         | inr ne ↦ subst (λ o. IsSome o) (sym (other j ne)) (sound.lives j p (sym (place j) ∙ at) live)
       ];
       ended = λ j p status at over. elim (cases_eq j i) [
-        | inl e ↦ absurd (not-over p now.process status (sym at ∙ place j ∙ ap (place_at k.table) e ∙ now.is) now.live over)
+        | inl e ↦ absurd (not-over now.process p status (sym (sym at ∙ place j ∙ ap (place_at k.table) e ∙ now.is)) now.live over)
         | inr ne ↦ other j ne ∙ sound.ended j p status (sym (place j) ∙ at) over
       ];
       vacant = λ j at. elim (cases_eq j i) [
@@ -126,9 +126,6 @@ suspended-sound k k' h h' i x sound is changes table stopped idle =
       current = λ j at. absurd (none-some j (sym stopped ∙ at));
       idle = λ e. idle;
     }
-  where
-    not-over : (p q : Process) (status : ℤ) → Some p ≡ Some q → status_of q ≡ None → status_of p ≡ Some status → ⊥
-    not-over p q status same live over = let e : p ≡ q = cc in none-some status (sym live ∙ sym (ap status_of e) ∙ over)
 
 -- if nobody runs, another hart does for the kernel as well, as long as it is idle
 pub left-sound : (k : Kernel) (h h' : Hart) → IsSound k h → k.current ≡ None → IsIdle h' → IsSound k h'

@@ -127,7 +127,8 @@ option-twice f g u is (Some p) = ap Some (is p)
 module _ (k k' : Kernel) (wakes : Channel → Bool) (table : k'.table ≡ each_changed (woken_by wakes) k.table) (rest : k' ≡ record k { table = k'.table }) where
   pub stirred-state : (h : Hart) → state_of k' h ≡ state_of k h
   unfolding state_of
-  stirred-state h = changed-state k k' (woken_by wakes) (λ x. x) table rest (λ x. refl) (woken_by-status wakes) (woken_by-means wakes) h (by_pid (entry_at k h) NPROC) (λ q. option_map_id (get (by_pid (entry_at k h) NPROC) q))
+  stirred-state h = changed-state k k' (woken_by wakes) (λ x. x) table rest (λ x. refl) (woken_by-status wakes) (woken_by-means wakes) h
+      (by_pid (entry_at k h) NPROC) (λ q. option_map_id (get (by_pid (entry_at k h) NPROC) q))
 
   pub stirred-sound : (h : Hart) → IsSound k h → IsSound k' h
   stirred-sound h sound = changed-sound k k' (woken_by wakes) (λ x. x) table rest (λ x. refl) (woken_by-status wakes) (woken_by-means wakes) h sound

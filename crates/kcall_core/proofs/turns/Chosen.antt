@@ -14,7 +14,7 @@ use Rattle.proc_table.specs.Turns.{place_is_runnable}
 use Rattle.kcall_core.specs.Kernel.{or_nobody, slot_now, pid_now, state_of, IsSound}
 use Rattle.kcall_core.specs.declared.kernel.Kernel.{Kernel}
 
-live-state : (s : State) → state_runnable s ≡ true → state_status s ≡ None
+pub live-state : (s : State) → state_runnable s ≡ true → state_status s ≡ None
 live-state (Live life) e = refl
 live-state (Zombie status) e = absurd (false≢true e)
 

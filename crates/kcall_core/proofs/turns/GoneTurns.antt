@@ -91,7 +91,8 @@ module _ (k k' : Kernel) (h h' : Hart) (status : ℤ) (left : FinMap nat_cmp Ope
   -- ---- sleepers
 
   -- who slept in a slot sleeps on there, but where it wakes
-  pub stays : (j : ℕ) (x : Process) (c : Channel) → place_at k.table j ≡ Some x → channel_of x ≡ Some c → (y : Process) × (place_at k'.table j ≡ Some y) × (y.pid ≡ x.pid) × (channel_of y ≡ cond (wakes c) None (Some c))
+  pub stays : (j : ℕ) (x : Process) (c : Channel) → place_at k.table j ≡ Some x → channel_of x ≡ Some c
+      → (y : Process) × (place_at k'.table j ≡ Some y) × (y.pid ≡ x.pid) × (channel_of y ≡ cond (wakes c) None (Some c))
   stays j x c at on =
       let (y, is, (pid, became)) = place-after j (elsewhere whole runs j x c at on) x at in
       (y, is, pid, became ∙ ap (unless_woken wakes) on)
@@ -121,7 +122,9 @@ module _ (k k' : Kernel) (h h' : Hart) (status : ℤ) (left : FinMap nat_cmp Ope
   not-blocked : (answer : Answer) → gone_with answer ≡ Some status → IsBlocked answer → ⊥
   not-blocked answer e (number, is) = none-some status (sym (ap gone_with is) ∙ e)
 
-  pub gone-turns : (answer : Answer) → gone_with answer ≡ Some status → ((q : ℕ) → contains (sleepers_below k'.table NPROC) q ≡ true → contains (sleepers_below k.table NPROC) q ≡ true) → TurnsAfter (turns_of k None) (pid_now k) (gone answer (view_now k h)) (turns_of k' (halts_with (pid_now k) answer))
+  pub gone-turns : (answer : Answer) → gone_with answer ≡ Some status
+      → ((q : ℕ) → contains (sleepers_below k'.table NPROC) q ≡ true → contains (sleepers_below k.table NPROC) q ≡ true)
+      → TurnsAfter (turns_of k None) (pid_now k) (gone answer (view_now k h)) (turns_of k' (halts_with (pid_now k) answer))
   unfolding turns_of view_of
   gone-turns answer ends slept-on = record {
     last = d.last;

@@ -29,24 +29,17 @@ use Rattle.kcall_core.specs.Machine.{slots_of, sleepers_below, turns_of, world_o
 use Rattle.kcall_core.specs.Buffers.{KeepBuffers}
 use Rattle.kcall_core.specs.Whole.{IsWhole}
 use Rattle.kernel_spec.specs.waking.SleepsOn.{is_for}
+use Rattle.kernel_spec.proofs.Common.{none_from_is_none}
 use Rattle.kcall_core.specs.declared.kernel.Kernel.{Kernel}
-use Rattle.kcall_core.proofs.turns.Chosen.{pid-told}
+use Rattle.kcall_core.proofs.turns.Chosen.{pid-told, live-state}
 use Rattle.kcall_core.proofs.table.Observed.{slot-found, live-held, ended-held, missing-live}
 use Rattle.kcall_core.proofs.turns.Turned.{slot-is, slot-from, sleeps-is, awake-is, sleepers-same}
 
 -- ---- who may run
 
-no-channel : (o : Option Channel) → is_none o ≡ true → o ≡ None
-no-channel None e = refl
-no-channel (Some channel) e = absurd (true≢false (sym e))
-
 awake-state : (s : State) → state_runnable s ≡ true → state_channel s ≡ None
-awake-state (Live life) e = no-channel life.channel e
+awake-state (Live life) e = none_from_is_none life.channel e
 awake-state (Zombie status) e = absurd (true≢false (sym e))
-
-live-state : (s : State) → state_runnable s ≡ true → state_status s ≡ None
-live-state (Live life) e = refl
-live-state (Zombie status) e = absurd (true≢false (sym e))
 
 runnable-state : (s : State) → state_status s ≡ None → state_channel s ≡ None → state_runnable s ≡ true
 runnable-state (Live life) lives awake = ap is_none awake
@@ -103,7 +96,9 @@ module _ (k : Kernel) (h : Hart) (table : IsTable k.table) where
       true≢false (sym r.may ∙ sym (ap place_is_runnable s.2) ∙ none s.0 inside.3)
 
   -- the nearest slot is that of the nearest process
-  pub nearest-is : (slot : ℕ) (p : Process) → Runs k.table slot p → ((j : ℕ) → j < NPROC → place_is_runnable (place_at k.table j) ≡ true → distance k.table.last slot ≤ distance k.table.last j) → IsNearest (world_of k h None) p.pid
+  pub nearest-is : (slot : ℕ) (p : Process) → Runs k.table slot p
+      → ((j : ℕ) → j < NPROC → place_is_runnable (place_at k.table j) ≡ true → distance k.table.last slot ≤ distance k.table.last j)
+      → IsNearest (world_of k h None) p.pid
   unfolding turns_of
   nearest-is slot p r near q i j can mine its =
       let other = slot-from k.table table j q its in
@@ -175,7 +170,9 @@ module _ (k k' : Kernel) (h h' : Hart) (slot : ℕ) (p : Process) (whole : IsWho
         λ t. record { state = same t; turns = turns t },
       )
 
-  pub turned-nearest : (pid : ℕ) → pid_at k.table slot ≡ Some pid → ((j : ℕ) → j < NPROC → place_is_runnable (place_at k.table j) ≡ true → distance k.table.last slot ≤ distance k.table.last j) → IsRunnable (world_of k h None) pid × IsNearest (world_of k h None) pid
+  pub turned-nearest : (pid : ℕ) → pid_at k.table slot ≡ Some pid
+      → ((j : ℕ) → j < NPROC → place_is_runnable (place_at k.table j) ≡ true → distance k.table.last slot ≤ distance k.table.last j)
+      → IsRunnable (world_of k h None) pid × IsNearest (world_of k h None) pid
   turned-nearest pid told near =
       let named : p.pid ≡ pid = same_Some p.pid pid (sym (ap (option_map process_pid) r.is) ∙ told) in
       subst (λ (n : ℕ). IsRunnable (world_of k h None) n × IsNearest (world_of k h None) n) named (runnable-is k h whole.sound.table slot p r, nearest-is k h whole.sound.table slot p r near)

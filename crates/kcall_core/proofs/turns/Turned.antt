@@ -100,7 +100,8 @@ module _ (t : Slots) where
     | inr apart ↦ set-keeps (sleeper_in (place_at t n)) (sleepers_below t n) pid (below-is n slot pid (omega (arith, apart)) is)
   ]
 
-  below-last : (n pid : ℕ) → (sleeper_in (place_at t n) ≡ Some pid) ⊎ (contains (sleepers_below t n) pid ≡ true) → (contains (sleepers_below t n) pid ≡ true → (slot : ℕ) × (slot < n) × (sleeper_in (place_at t slot) ≡ Some pid))
+  below-last : (n pid : ℕ) → (sleeper_in (place_at t n) ≡ Some pid) ⊎ (contains (sleepers_below t n) pid ≡ true)
+      → (contains (sleepers_below t n) pid ≡ true → (slot : ℕ) × (slot < n) × (sleeper_in (place_at t slot) ≡ Some pid))
       → (slot : ℕ) × (slot < suc n) × (sleeper_in (place_at t slot) ≡ Some pid)
   below-last n pid (inl here) before = (n, omega arith, here)
   below-last n pid (inr lower) before = let r = before lower in (r.0, omega (arith, r.1), r.2)

@@ -1,10 +1,11 @@
 -- A process that waits, and isn't ready, waits again and changes nothing.
-use Rattle.std.proofs.Common.{◌≡◌, ℕ, suc, ◌<◌, ◌≤◌, ◌+◌, ◌-◌, ◌++◌, Bool, true, false, cond, not, ◌&&◌, ◌||◌, List, [], ◌∷◌, length, refl, ap, sym, ◌∙◌, subst, arith, inl, inr, lt-ltb}
+use Rattle.std.proofs.Common.{◌≡◌, ℕ, ◌<◌, ◌≤◌, ◌+◌, ◌-◌, ◌++◌, Bool, true, false, cond, not, ◌&&◌, ◌||◌, List, [], length, refl, ap, sym, ◌∙◌, subst, arith, inl, inr, lt-ltb}
 use Rattle.std.specs.Prelude.{Option, None, Some, ℤ, pos, negsuc, nat_eq, nat_lt, nat_le, is_some, min, slice_get, take, drop, option_map}
 use Rattle.std.proofs.lemmas.Bool.{ltb-true, or_parts, cond-false, cond-true, ltb-false, not-false}
 use Rattle.std.proofs.lemmas.Bool.Decides.{leb_tells}
 use Rattle.std.proofs.lemmas.List.{append-nil, length-take}
 use Rattle.std.proofs.lemmas.Option.{same_Some}
+use Rattle.std.proofs.Math.Nat.{add-zero}
 use Rattle.xk_base.specs.declared.limits.TheConstants.{PIPE_BYTES, SEND_BYTES}
 use Rattle.xk_base.specs.Image.{Image}
 use Rattle.xk_base.specs.Bytes.{write_image}
@@ -36,6 +37,7 @@ use Rattle.kernel_spec.proofs.rows.RowsByParts.{perform_same}
 use Rattle.kernel_spec.proofs.rows.SettledWaits.{still_settled, settled_written}
 use Rattle.kernel_spec.specs.steps.Ticks.{ticks_since, has_passed}
 use Rattle.kernel_spec.proofs.rows.BareDescriptors.{bare_alike, bare_changed, in_use_bare}
+use Rattle.kernel_spec.proofs.Common.{no_bytes}
 
 -- whoever is in such a view, and is not ready, waits again
 abbrev pub Again : View → ℤ → Type 0
@@ -117,9 +119,6 @@ module _ (c : Call) (v : View) (alive : v.killed ≡ false) (settled : IsSettled
 
 -- ---- numbers
 
-zero_more : (n : ℕ) → n + 0 ≡ n
-zero_more n = omega arith
-
 under : (a b : ℕ) → nat_le a b ≡ false → nat_lt b a ≡ true
 under a b e = elim (leb_tells a b) [ inl h ↦ let yes : nat_le a b ≡ true = h.0 in let no : ⊥ = cc in absurd no | inr h ↦ lt-ltb b a h.1 ]
 
@@ -162,7 +161,7 @@ pulled_none first n more = ap (λ (b : Bool). cond b (first_bytes n true []) not
 
 blank_line : (c : Call) (m : View) → m.console.committed ≡ [] → read_line c m nothing_pulled ≡ waits c c.moved m
 unfolding write_image
-blank_line c m none = λ i. waits c (zero_more c.moved i) (record m { console = record m.console { committed = sym none i } })
+blank_line c m none = λ i. waits c (add-zero c.moved i) (record m { console = record m.console { committed = sym none i } })
 
 line_waits : (c : Call) (m : View) (n : ℕ) → 0 < n - c.moved → m.console.committed ≡ [] → read_line c m (pulled (nat_eq c.moved 0) (n - c.moved) m.console.committed) ≡ waits c c.moved m
 line_waits c m n more none =
@@ -218,10 +217,6 @@ module _ (c : Call) (v : View) (settled : IsSettled c v) (row : row_of c.number 
       ∙ ap not (writable_written bytes v.image a c.a1 (length_of_int (c_int c.a2))) ∙ there in
       read_again now m e n Shown_terminal here.1 (ap not here.2 ∙ reads) size some still shown
       ∙ line_waits now m n more (no_bytes m.console.committed shuts)
-    where
-      no_bytes : (xs : List ℕ) → nat_lt 0 (length xs) ≡ false → xs ≡ []
-      no_bytes [] e = refl
-      no_bytes (x ∷ xs) e = let k : ℕ = length xs in let low : suc k ≤ 0 = ltb-false 0 (suc k) e in absurd (omega arith)
 
   abbrev taken_view : Pulled → View
   taken_view q = record v { image = write_image v.image (c.a1 + c.moved) q.taken; console = record v.console { committed = q.left } }
@@ -268,7 +263,7 @@ module _ (c : Call) (m : View) (n : ℕ) (more : nat_le n c.moved ≡ false) whe
   full_console : nat_lt (length m.console.to_send) SEND_BYTES ≡ false → write_terminal c m n ≡ waits c c.moved m
   full_console full =
       ap (λ (k : ℕ). done_at c n (c.moved + k) (sent_view (m.console.to_send ++ next_bytes c m k))) (no_room (n - c.moved) (length m.console.to_send) SEND_BYTES full)
-      ∙ (λ i. done_at c n (zero_more c.moved i) (sent_view (append-nil m.console.to_send i)))
+      ∙ (λ i. done_at c n (add-zero c.moved i) (sent_view (append-nil m.console.to_send i)))
       ∙ cond-false (nat_le n c.moved) (done c (pos n) m) (waits c c.moved m) more
 
   full_pipe : (name : ℕ) (pipe : Pipe) → (nat_lt (length pipe.bytes) PIPE_BYTES || nat_eq pipe.readers 0) ≡ false
@@ -279,7 +274,7 @@ module _ (c : Call) (m : View) (n : ℕ) (more : nat_le n c.moved ≡ false) whe
       (record m { descriptors = change_pipe name (with_more (next_bytes c m (fit pipe (n - c.moved))) pipe) m.descriptors }))) parts.1
       ∙ ap (λ (k : ℕ). done_at c n (c.moved + k) (record m { descriptors = change_pipe name (with_more (next_bytes c m k) pipe) m.descriptors }))
       (no_room (n - c.moved) (length pipe.bytes) PIPE_BYTES parts.0)
-      ∙ (λ i. done_at c n (zero_more c.moved i) (record m { descriptors = change_pipe name (record pipe { bytes = append-nil pipe.bytes i }) m.descriptors }))
+      ∙ (λ i. done_at c n (add-zero c.moved i) (record m { descriptors = change_pipe name (record pipe { bytes = append-nil pipe.bytes i }) m.descriptors }))
       ∙ (λ i. done_at c n c.moved (record m { descriptors = same i }))
       ∙ cond-false (nat_le n c.moved) (done c (pos n) m) (waits c c.moved m) more
 

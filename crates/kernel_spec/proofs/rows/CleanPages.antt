@@ -9,7 +9,7 @@ use Rattle.xk_base.specs.Image.{Image, Page, price, page_count}
 use Rattle.phys_ram.specs.Ram.{zero_frame}
 use Rattle.addr_space.specs.Absent.{grown_lazily}
 use Rattle.addr_space.specs.Changes.{zeroed, with_absent}
-use Rattle.sv39_core.proofs.Gathered.{gathered-get}
+use Rattle.xk_base.proofs.Gathered.{gathered-get}
 use Rattle.rv64i_core.specs.Memory.{Store}
 use Rattle.xk_base.specs.Loaded.{Loaded, loaded}
 use Rattle.xk_base.specs.declared.errors.ExecError.{ExecError}

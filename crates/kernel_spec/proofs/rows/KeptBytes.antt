@@ -5,15 +5,16 @@ use Rattle.std.specs.Prelude.{slice_index, Option, None, Some, ℤ, pos, negsuc,
 use Rattle.std.specs.FinMap.{FinMap, get, insert}
 use Rattle.std.specs.Ordering.{nat_cmp}
 use Rattle.std.proofs.lemmas.Bool.{cases_eq, cases_lt}
-use Rattle.std.proofs.lemmas.List.{get_or-set_other, get_or-take, get_or_append_left, get_or-append_right, get_or-drop, length-take-le, length-append, length-drop, length-set}
+use Rattle.std.proofs.lemmas.List.{get_or-set_other, get_or-take, get_or_append_left, get_or-append_right, get_or-drop, length-take-le, length-set}
 use Rattle.xk_base.specs.Image.{Image, Page, price, page_count}
 use Rattle.addr_space.specs.Absent.{grown_lazily}
 use Rattle.addr_space.specs.Changes.{zeroed, with_absent}
-use Rattle.sv39_core.proofs.Gathered.{gathered-get}
+use Rattle.xk_base.proofs.Gathered.{gathered-get}
 use Rattle.rv64i_core.specs.Memory.{Store, written}
 use Rattle.xk_base.specs.Loaded.{Loaded, loaded}
 use Rattle.xk_base.specs.declared.errors.ExecError.{ExecError}
 use Rattle.rv64i_core.specs.UserImage.{with_store, written_page, write_pages}
+use Rattle.rv64i_core.proofs.FlatBytes.{length-written}
 use Rattle.xk_base.specs.declared.limits.TheConstants.{SIZE_LIMIT, MAXARG, ARG_BYTES, MAXPATH}
 use Rattle.kernel_spec.specs.views.Words.{minus_one, c_int}
 use Rattle.kernel_spec.specs.rows.Buffers.{readable, text_at, texts_at, no_slashes, grown, shrunk}
@@ -135,18 +136,6 @@ right_of xs o k bytes long behind =
     ∙ get_or-drop o xs (length bytes + (k - o - length bytes)) 0
     ∙ ap (slice_index xs) there
 
--- putting bytes inside a list keeps its length
-as_long : (xs : List ℕ) (o : ℕ) (bytes : List ℕ) → o + length bytes ≤ length xs → length (written xs o bytes) ≡ length xs
-as_long xs o bytes inside = omega (
-  arith,
-  inside,
-  length-append (take o xs) (bytes ++ drop (length bytes) (drop o xs)),
-  length-append bytes (drop (length bytes) (drop o xs)),
-  length-take-le o xs (omega (arith, inside)),
-  length-drop (length bytes) (drop o xs),
-  length-drop o xs,
-)
-
 module _ (i : Image) (st : Store) (page : ℕ) (fits : st.address % 4096 + length st.bytes ≤ 4096) where
   abbrev at : ℕ
   at = st.address / 4096
@@ -180,7 +169,7 @@ module _ (i : Image) (st : Store) (page : ℕ) (fits : st.address % 4096 + lengt
         let long : o ≤ length p.bytes = omega (arith, full) in (
           ap (λ (z : Page). z.perm) (sym new) ∙ ap (λ (z : Page). z.perm) same_one,
           ap (λ (z : Page). length z.bytes) (sym new)
-              ∙ as_long p.bytes o st.bytes (omega (arith, fits, full))
+              ∙ length-written p.bytes o st.bytes (omega (arith, fits, full))
               ∙ ap (λ (z : Page). length z.bytes) same_one,
           λ k below apart. ap (λ (z : Page). slice_index z.bytes k) (sym new)
               ∙ outside p k long same apart ∙ ap (λ (z : Page). slice_index z.bytes k) same_one,

@@ -22,6 +22,7 @@ use Rattle.rv64i_core.specs.declared.access_width.Width.TheVariants.{Byte, HalfW
 use Rattle.rv64i_core.specs.declared.instruction.Instr.{Instr}
 use Rattle.rv64i_core.specs.declared.instruction.Instr.TheVariants as op
 use Rattle.rv64i_core.specs.UserImage.{user, cell_in}
+use Rattle.rv64i_core.proofs.Aligned.{within-page}
 use Rattle.user_copy.specs.Reach.{may, reaches, allows}
 use Rattle.user_copy.proofs.Ranges.{reaches-not}
 use Rattle.proc_table.specs.declared.process.Call.{Call}
@@ -240,13 +241,6 @@ no_wrap HalfWord address k small even lt = omega (arith, small, even, lt)
 no_wrap Word address k small even lt = omega (arith, small, even, lt)
 no_wrap DoubleWord address k small even lt = omega (arith, small, even, lt)
 
--- such a store lies in one page
-in_page : (w : Width) (address : ℕ) → address % bytes_of_width w ≡ 0 → address % 4096 + bytes_of_width w ≤ 4096
-in_page Byte address even = omega (arith, even)
-in_page HalfWord address even = omega (arith, even)
-in_page Word address even = omega (arith, even)
-in_page DoubleWord address even = omega (arith, even)
-
 -- a store that lies in one page, and whose bytes may be written
 abbrev WhereWritable : Memory → Store → Type 0
 WhereWritable memory s = (s.address % 4096 + length s.bytes ≤ 4096) × ((a : ℕ) → s.address ≤ a → a < s.address + length s.bytes → Writable memory a)
@@ -265,7 +259,7 @@ storing_writes memory address w value s small e = by (nat_eq (address % bytes_of
         → or_fault StorePageFault (λ _. record { address = address; bytes = le_bytes (bytes_of_width w) value }) o ≡ Ok s → WhereWritable memory s
     found None even is f = let no : ⊥ = cc in absurd no
     found (Some bytes) even is f = subst (WhereWritable memory) (same_store (record { address = address; bytes = le_bytes (bytes_of_width w) value }) s f) (
-      omega (arith, in_page w address even, length-le_bytes (bytes_of_width w) value),
+      omega (arith, within-page address w even, length-le_bytes (bytes_of_width w) value),
       λ a low high.
           let below : a - address < bytes_of_width w = omega (arith, low, high, length-le_bytes (bytes_of_width w) value) in
           let here : address + (a - address) ≡ a = omega (arith, low) in

@@ -39,7 +39,7 @@ pub record IsOther (number : ℤ) : Type 0 where
   pub close : number ≢ pos 21
   pub sbrklazy : number ≢ pos 22
 
-apart : (m n : ℕ) → pos n ≢ pos m → nat_eq m n ≡ false
+pub apart : (m n : ℕ) → pos n ≢ pos m → nat_eq m n ≡ false
 apart m n ne = elim (eqb_tells m n) [ inl h ↦ absurd (ne (ap pos (sym h.1))) | inr h ↦ h.0 ]
 
 none-other : (number : ℤ) → IsOther number → row_of number ≡ None

@@ -381,19 +381,15 @@ module _ (c : Call) (v : View) where
   abbrev opened : ℕ → Shown → ℕ → Own
   opened mode shown fd = done c (pos fd) (record v { descriptors = with_descriptor fd (record { file = fd; read = not (nat_eq mode 1); write = not (nat_eq mode 0); shown = shown }) v.descriptors })
 
-  module _ (o : Option ℕ) where
-    none_opened : refused c v ≡ open_at c v o None
-    unfolding ◌>>=◌ ◌>>◌ ◌when◌ ◌or◌
-    none_opened = by o
-      where
-        by : (o : Option ℕ) → refused c v ≡ open_at c v o None
-        by None = refl
-        by (Some k) = refl
+  pub none_opened : (o : Option ℕ) → refused c v ≡ open_at c v o None
+  none_opened None = refl
+  none_opened (Some k) = refl
 
+  module _ (o : Option ℕ) where
     at_mode : (b : Bool) (mode : ℕ) (shown : Shown)
         → ((refused c v when b) >> ((o or refused c v) >>= opened mode shown)) ≡ open_at c v o (cond {A = Option (Bool × Bool × Shown)} b None (Some (not (nat_eq mode 1), not (nat_eq mode 0), shown)))
     unfolding ◌>>=◌ ◌>>◌ ◌when◌ ◌or◌
-    at_mode true mode shown = none_opened
+    at_mode true mode shown = none_opened o
     at_mode false mode shown = or_same o (refused c v) (opened mode shown) (λ o. open_at c v o (Some (not (nat_eq mode 1), not (nat_eq mode 0), shown))) refl (λ k. refl)
 
     program_mode : (b : Bool) (mode place : ℕ) → (b ≡ true → mode ≡ 0)
@@ -406,10 +402,10 @@ module _ (c : Call) (v : View) where
         ((o or refused c v) >>= opened mode shown)))) ≡ open_at c v o (opened_as what z)
     unfolding ◌>>=◌ ◌>>◌ ◌when◌ ◌or◌
     by_name The_console (pos mode) = ap (λ b. (refused c v when b) >> ((o or refused c v) >>= opened mode Shown_terminal)) (above_2 mode) ∙ at_mode (nat_lt 2 mode) mode Shown_terminal
-    by_name The_console (negsuc k) = none_opened
+    by_name The_console (negsuc k) = none_opened o
     by_name (A_program place) (pos mode) = at_mode (not (nat_eq mode 0)) mode (Shown_file place 0) ∙ ap (open_at c v o) (program_mode (nat_eq mode 0) mode place (is_zero mode))
-    by_name (A_program place) (negsuc k) = none_opened
-    by_name Nothing z = none_opened
+    by_name (A_program place) (negsuc k) = none_opened o
+    by_name Nothing z = none_opened o
 
   pub open_same : open_file c v ≡ open_parts c v
   unfolding open_file

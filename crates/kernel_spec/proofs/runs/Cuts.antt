@@ -103,7 +103,7 @@ born_below n m q None h born = absurd born
 born_below n m q (Some c) h born = let is : q ≡ n = born ∙ h.0 in (is, omega (arith, is, h.2))
 
 module _ (w t : World) (q : ℕ) (o : Outcome) (h : StepOf w q o t) where
-  his_pid : h.before.pid ≡ q
+  pub his_pid : h.before.pid ≡ q
   his_pid = pid_is w.state q (live w.state q) h.before h.was
 
   his_next : h.before.next_pid ≡ w.state.next_pid

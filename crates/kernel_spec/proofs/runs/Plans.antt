@@ -3,6 +3,7 @@ use Rattle.std.proofs.Common.{◌≡◌, ℕ, zero, suc, ◌+◌, ◌-◌, ◌<�
 use Rattle.std.proofs.lemmas.List.{append_assoc, map-append}
 use Rattle.std.proofs.lemmas.List.Folds.{list_any-append}
 use Rattle.std.specs.Prelude.{is_some}
+use Rattle.std.proofs.Math.Nat.{zero-add, suc-add}
 use Rattle.kernel_spec.specs.runs.Run.{Event, Outcome, Idle, halted_by}
 use Rattle.kernel_spec.specs.runs.Rounds.{round, events, halts, Planned, AreRounds, EndsInRound, RoundsThenPlan, StopsThenPlan, RoundsFollowRounds, PlanGoesByRounds, CutEndsInRound}
 use Rattle.kernel_spec.proofs.Common.{or_false, or_assoc}
@@ -27,17 +28,11 @@ drop_next : (n : ℕ) (keys : List ℕ) → drop n (drop 1 keys) ≡ drop (suc n
 drop_next n [] = drop_nothing n
 drop_next n (k ∷ keys) = refl
 
-suc_sum : (a b : ℕ) → suc (a + b) ≡ suc a + b
-suc_sum a b = omega arith
-
-zero_sum : (a : ℕ) → a ≡ 0 + a
-zero_sum a = omega arith
-
 -- ---- rounds, and what comes behind them
 
 pub rounds_follow_rounds : RoundsFollowRounds
 rounds_follow_rounds zero further quantum keys halted list more are plan =
-    subst (λ (n : ℕ). AreRounds n quantum keys halted (list ++ more)) (zero_sum further)
+    subst (λ (n : ℕ). AreRounds n quantum keys halted (list ++ more)) (sym (zero-add further))
     (subst (λ (xs : Played). AreRounds further quantum keys halted (xs ++ more)) (sym are)
     (subst (λ (b : Bool). AreRounds further quantum keys b more) (ap (λ (xs : Played). halted || halts xs) are ∙ sym (or_false halted)) plan))
 rounds_follow_rounds (suc count) further quantum keys true list more are plan = absurd are
@@ -45,7 +40,7 @@ rounds_follow_rounds (suc count) further quantum keys false list more are plan =
     let behind : AreRounds further quantum (drop count (drop 1 keys)) (halts are.0 || halts are.1) more =
     subst (λ (b : Bool). AreRounds further quantum (drop count (drop 1 keys)) b more) (ap halts are.2 ∙ either_halts are.0 are.1)
     (subst (λ (ks : List ℕ). AreRounds further quantum ks (halts list) more) (sym (drop_next count keys)) plan) in
-    subst (λ (n : ℕ). AreRounds n quantum keys false (list ++ more)) (suc_sum count further) (
+    subst (λ (n : ℕ). AreRounds n quantum keys false (list ++ more)) (sym (suc-add count further)) (
       are.0,
       are.1 ++ more,
       ap (λ (xs : Played). xs ++ more) are.2

@@ -1,5 +1,5 @@
 -- A map behind a change at one key: what stands in it, and its keys.
-use Rattle.std.proofs.Common.{◌≡◌, ◌≢◌, ℕ, Bool, true, false, cond, ◌&&◌, ◌<◌, ◌++◌, T, List, [], ◌∷◌, map, refl, ap, sym, ◌∙◌, subst}
+use Rattle.std.proofs.Common.{◌≡◌, ℕ, Bool, true, false, cond, ◌&&◌, ◌<◌, ◌++◌, T, List, [], ◌∷◌, map, refl, ap, sym, ◌∙◌, subst}
 use Rattle.std.specs.Prelude.{Option, None, Some, is_some, filter, not}
 use Rattle.std.specs.Ordering.{nat_cmp, is_lt, is_eq, eq_by_cmp}
 use Rattle.std.specs.declared.cmp.Ordering.{Ordering}
@@ -7,10 +7,11 @@ use Rattle.std.specs.Cmp.{IsTotalOrder, nat_cmp_total, unsigned_tied, nat_cmp_is
 use Rattle.std.specs.Prelude.{nat_eq}
 use Rattle.std.specs.declared.cmp.Ordering.TheVariants.{Less, Equal, Greater}
 use Rattle.std.proofs.Common.{inl, inr}
-use Rattle.std.proofs.lemmas.Bool.{cases_eq, eq-eqb}
+use Rattle.std.proofs.lemmas.Bool.{eq-eqb}
 use Rattle.std.proofs.lemmas.Bool.Decides.{eqb_tells}
 use Rattle.std.specs.FinMap.{FinMap, get, insert, remove, from_sorted, keys, entries, entries_sorted}
-use Rattle.std.specs.FinMap.{get-entries, entries-insert, get-insert, get-remove, get-from_sorted, entries-from_sorted, same_map, nat_cmp-IsAntisymmetric}
+use Rattle.std.specs.FinMap.{get-entries, entries-insert, get-remove, get-from_sorted, entries-from_sorted, same_map, nat_cmp-IsAntisymmetric}
+pub use Rattle.xk_base.proofs.Maps.{get_at, get_same, get_other, insert-twice, insert_again}
 use Rattle.std.specs.FinMap.Entries.{find, put, is_sorted, below_all, by_order, where_key, is_sorted-where_key, find-where_key}
 
 pub first : (a b : Bool) → T (a && b) → T a
@@ -54,17 +55,6 @@ module _ {K X : Type 0} {R : K → K → Ordering} (o : IsTotalOrder R) where
 
   pub keys_insert : (m : FinMap R X) (k : K) (v : X) → is_some (get m k) ≡ true → keys (insert m k v) ≡ keys m
   keys_insert m k v h = ap (map (λ e. e.0)) (entries-insert o m k v) ∙ keys_put k v (entries m) (entries_sorted m) (ap is_some (sym (get-entries m k)) ∙ h)
-
--- ---- maps by numbers
-
-pub get_at : {X : Type 0} (m : FinMap nat_cmp X) (k : ℕ) (v : X) (q : ℕ) → get (insert m k v) q ≡ cond (nat_eq q k) (Some v) (get m q)
-get_at m k v q = get-insert nat_cmp_total m k v q ∙ ap (λ b. cond b (Some v) (get m q)) (unsigned_tied q k)
-
-pub get_same : {X : Type 0} (m : FinMap nat_cmp X) (k : ℕ) (v : X) → get (insert m k v) k ≡ Some v
-get_same m k v = get_at m k v k ∙ ap (λ b. cond b (Some v) (get m k)) (eq-eqb k k refl)
-
-pub get_other : {X : Type 0} (m : FinMap nat_cmp X) (k : ℕ) (v : X) (q : ℕ) → q ≢ k → get (insert m k v) q ≡ get m q
-get_other m k v q apart = get_at m k v q ∙ elim (eqb_tells q k) [ inl h ↦ absurd (apart h.1) | inr h ↦ ap (λ b. cond b (Some v) (get m q)) h.0 ]
 
 -- ---- a key above all others, and a key that goes
 
@@ -133,17 +123,3 @@ module _ {X : Type 0} (m : FinMap nat_cmp X) (k : ℕ) where
 
 pub get_without : {X : Type 0} (m : FinMap nat_cmp X) (k q : ℕ) → get (remove m k) q ≡ cond (nat_eq q k) None (get m q)
 get_without m k q = get-remove nat_cmp_total m k q ∙ ap (λ b. cond b None (get m q)) (unsigned_tied q k)
-
--- what is put in twice stands as it was put in last
-pub insert-twice : {X : Type 0} (m : FinMap nat_cmp X) (k : ℕ) (x y : X) → insert (insert m k x) k y ≡ insert m k y
-insert-twice m k x y = same_map nat_cmp_total nat_cmp-IsAntisymmetric (insert (insert m k x) k y) (insert m k y) (λ q. elim (cases_eq q k) [
-  | inl e ↦ ap (get (insert (insert m k x) k y)) e ∙ get_same (insert m k x) k y ∙ sym (ap (get (insert m k y)) e ∙ get_same m k y)
-  | inr apart ↦ get_other (insert m k x) k y q apart ∙ get_other m k x q apart ∙ sym (get_other m k y q apart)
-])
-
--- what is put in where it stands changes nothing
-pub insert_again : {X : Type 0} (m : FinMap nat_cmp X) (k : ℕ) (x : X) → get m k ≡ Some x → insert m k x ≡ m
-insert_again m k x is = same_map nat_cmp_total nat_cmp-IsAntisymmetric (insert m k x) m (λ q. elim (cases_eq q k) [
-  | inl e ↦ ap (get (insert m k x)) e ∙ get_same m k x ∙ sym (ap (get m) e ∙ is)
-  | inr apart ↦ get_other m k x q apart
-])

@@ -6,6 +6,7 @@ use Rattle.std.specs.FinMap.{FinMap, get, keys, contains_key-keys}
 use Rattle.std.specs.Ordering.{nat_cmp, eq_by_cmp}
 use Rattle.std.specs.Cmp.{unsigned_tied, nat_cmp_total}
 use Rattle.std.proofs.lemmas.Bool.Decides.{eqb_tells}
+use Rattle.xk_base.proofs.Options.{same_either_way}
 use Rattle.kernel_spec.specs.views.Words.{is_this}
 use Rattle.kernel_spec.specs.views.Processes.{Process, Alive, Zombie, parent_of}
 use Rattle.kernel_spec.specs.views.State.{State}
@@ -59,12 +60,8 @@ given_again p (Zombie parent status) = refl
 orphan_again : (p : ℕ) (x : Process) → orphan p (orphan p x) ≡ orphan p x
 orphan_again p x = by (is_this p (parent_of x)) refl
   where
-    same : (b : Bool) (y : Process) → cond b y y ≡ y
-    same true y = refl
-    same false y = refl
-
     by : (b : Bool) → is_this p (parent_of x) ≡ b → orphan p (cond b (given_to 1 x) x) ≡ cond b (given_to 1 x) x
-    by true e = ap (λ (y : Process). cond (is_this p (parent_of (given_to 1 x))) y (given_to 1 x)) (given_again 1 x) ∙ same (is_this p (parent_of (given_to 1 x))) (given_to 1 x)
+    by true e = ap (λ (y : Process). cond (is_this p (parent_of (given_to 1 x))) y (given_to 1 x)) (given_again 1 x) ∙ same_either_way (is_this p (parent_of (given_to 1 x))) (given_to 1 x)
     by false e = ap (λ (b : Bool). cond b (given_to 1 x) x) e
 
 pub get-orphans : (p : ℕ) (s : State) (r : ℕ) → get (orphans p s).processes r ≡ option_map (orphan p) (get s.processes r)

@@ -11,5 +11,7 @@ returns c =
     let pool = c.args.self.now in
     let ram = c.args.ram.now in
     let put = c.write_u64.ensures in
-    given-list pool (with_first pool c.args.f) ram c.write_u64.new.self c.args.f (Good-with_first pool ram c.write_u64.new.self c.args.f c.link_to.result c.requires.good c.requires.inside put c.link_to.ensures c.requires.not_free)
+    given-list pool (with_first pool c.args.f) ram c.write_u64.new.self c.args.f
+    (Good-with_first pool ram c.write_u64.new.self c.args.f c.link_to.result c.requires.good c.requires.inside put
+    c.link_to.ensures c.requires.not_free)
     (first-put pool ram c.write_u64.new.self c.args.f c.link_to.result put c.link_to.ensures c.requires.not_free) put.stay

@@ -25,4 +25,6 @@ returns-clause-taken c =
     let inside : f < length ram = first-inside pool ram f c.requires is in
     let after : c.linked-rest.result ≡ next ram f = c.linked-rest.ensures ∙ ap link c.read_u64.ensures in
     let stay = others_stay-set ram f zero_frame in
-    rw (after, c.zero_frame.ensures) (taken-list pool (but_first pool (next ram f)) ram _ f c.requires (Good-but_first pool ram _ f c.requires is stay) (rest-kept pool ram _ f c.requires is stay) stay (get_or-set_same ram f zero_frame [] inside))
+    rw (after, c.zero_frame.ensures)
+    (taken-list pool (but_first pool (next ram f)) ram _ f c.requires (Good-but_first pool ram _ f c.requires is stay)
+    (rest-kept pool ram _ f c.requires is stay) stay (get_or-set_same ram f zero_frame [] inside))

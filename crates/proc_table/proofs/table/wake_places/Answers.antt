@@ -9,8 +9,11 @@ pub loop-slot-preserved : goal.loop-slot-preserved
 loop-slot-preserved c =
     let within : c.loop-slot.slot < length c.args.places.now = omega (arith, c.requires.length, c.requires.top.within, c.loop-slot-test.true) in
     elim c.match-places-slot.branch [
-      | in-Some w ↦ changed_more (woken c.args.channel.now) c.args.places.now c.loop-slot.places c.match-places-slot.places c.loop-slot.slot c.index-places-slot.result w.in-Some.process w.wake.new.self within c.loop-slot.invariant c.index-places-slot.is (c.index-places-slot.is ∙ w.in-Some.is) w.wake.ensures w.places-is
-      | in_default w ↦ empty_more (woken c.args.channel.now) c.args.places.now c.loop-slot.places c.match-places-slot.places c.loop-slot.slot c.index-places-slot.result within c.loop-slot.invariant c.index-places-slot.is (c.index-places-slot.is ∙ w.in_default.is) w.places-is
+      | in-Some w ↦ changed_more (woken c.args.channel.now) c.args.places.now c.loop-slot.places c.match-places-slot.places c.loop-slot.slot
+          c.index-places-slot.result w.in-Some.process w.wake.new.self within c.loop-slot.invariant c.index-places-slot.is
+          (c.index-places-slot.is ∙ w.in-Some.is) w.wake.ensures w.places-is
+      | in_default w ↦ empty_more (woken c.args.channel.now) c.args.places.now c.loop-slot.places c.match-places-slot.places c.loop-slot.slot
+          c.index-places-slot.result within c.loop-slot.invariant c.index-places-slot.is (c.index-places-slot.is ∙ w.in_default.is) w.places-is
     ]
 
 pub returns : goal.returns

@@ -46,7 +46,8 @@ returns-clause-exact c =
     c.in_ok-listing.ensures.text_len
     c.in_ok-listing.ensures.labels
     (ap (λ (ps : List meant.Placed). all_spelled (addresses text_len places) text_len ps) (ap (map seen) (sym c.deref-2.ensures.value)) ∙ c.in_ok-out.ensures)
-    ∙ ap (λ (e : ℕ). let p : Program = record { text = c.in_ok-out.out.text.items; data_bytes = c.in_ok-out.out.data_bytes.items; entry = e } in let r : Result (List ℕ) Fault = Ok (elf_of p) in r) (sym c.entry-entry.ensures)
+    ∙ ap (λ (e : ℕ). let p : Program = record { text = c.in_ok-out.out.text.items; data_bytes = c.in_ok-out.out.data_bytes.items; entry = e } in
+    let r : Result (List ℕ) Fault = Ok (elf_of p) in r) (sym c.entry-entry.ensures)
     ∙ ap Ok (sym c.in_ok-file.ensures)
 
 pub returns-clause-loads : goal.returns-clause-loads

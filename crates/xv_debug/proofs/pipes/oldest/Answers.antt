@@ -16,4 +16,5 @@ pub loop-place-preserved : goal.loop-place-preserved
 loop-place-preserved c =
     let s = c.args.machine.now.world.state in
     let place = c.loop-place.place in
-    c.push.ensures.items ∙ ap (λ ys. ys ++ c.in-Some.byte ∷ []) c.loop-place.invariant ∙ take-next (pipe_bytes s c.args.pipe) place c.in-Some.byte (sym (byte-is s c.args.pipe place) ∙ sym c.pipe_byte.ensures ∙ c.in-Some.is)
+    c.push.ensures.items ∙ ap (λ ys. ys ++ c.in-Some.byte ∷ []) c.loop-place.invariant ∙ take-next (pipe_bytes s c.args.pipe) place c.in-Some.byte
+    (sym (byte-is s c.args.pipe place) ∙ sym c.pipe_byte.ensures ∙ c.in-Some.is)

@@ -15,7 +15,9 @@ pub returns-then-not-is_parent : goal.returns-then-not-is_parent
 returns-then-not-is_parent c = λ hart.
     let k = c.args.self.now in
     sym (child-told k hart c.requires.1.table c.args.pid c.in_ok-find_live.field-0 c.in_ok-find_live.ensures.found c.args.child
-    ∙ child-held k hart c.requires.1.table c.args.pid c.args.child c.in_ok-slot.slot c.parent.result (status_of (slot-found k.table c.args.child c.in_ok-slot.slot (sym c.in_ok-slot.ensures.value)).0) (sym c.in_ok-slot.ensures.value) c.parent.ensures (ap (option_map status_of) (slot-found k.table c.args.child c.in_ok-slot.slot (sym c.in_ok-slot.ensures.value)).1)
+    ∙ child-held k hart c.requires.1.table c.args.pid c.args.child c.in_ok-slot.slot c.parent.result
+    (status_of (slot-found k.table c.args.child c.in_ok-slot.slot (sym c.in_ok-slot.ensures.value)).0) (sym c.in_ok-slot.ensures.value)
+    c.parent.ensures (ap (option_map status_of) (slot-found k.table c.args.child c.in_ok-slot.slot (sym c.in_ok-slot.ensures.value)).1)
     ∙ ap (λ b. cond b (Some (child_seen (status_of (slot-found k.table c.args.child c.in_ok-slot.slot (sym c.in_ok-slot.ensures.value)).0))) None) (sym c.is_parent.ensures ∙ c.if-not-is_parent.true))
 
 pub returns : goal.returns
@@ -27,7 +29,13 @@ returns c = λ hart.
     ∙ ap (λ b. cond b (Some (child_seen c.status.result)) None) (sym c.is_parent.ensures ∙ c.if-not-is_parent.false))
 
 pub returns-in_err-slot : goal.returns-in_err-slot
-returns-in_err-slot c = rw c.from_residual-in_err-slot.ensures (λ hart. sym (child-told c.args.self.now hart c.requires.1.table c.args.pid c.in_ok-find_live.field-0 c.in_ok-find_live.ensures.found c.args.child ∙ child-missing c.args.self.now hart c.requires.1.table c.args.pid c.args.child (sym c.in_err-slot.ensures.value)))
+returns-in_err-slot c =
+    rw c.from_residual-in_err-slot.ensures
+    (λ hart. sym (child-told c.args.self.now hart c.requires.1.table c.args.pid c.in_ok-find_live.field-0 c.in_ok-find_live.ensures.found c.args.child
+    ∙ child-missing c.args.self.now hart c.requires.1.table c.args.pid c.args.child (sym c.in_err-slot.ensures.value)))
 
 pub returns-in_err-find_live : goal.returns-in_err-find_live
-returns-in_err-find_live c = rw c.from_residual.ensures (λ hart. sym (ap (λ o. if_live o (child_of c.args.pid (get (state_of c.args.self.now hart).processes c.args.child))) (c.in_err-find_live.ensures.none hart)))
+returns-in_err-find_live c =
+    rw c.from_residual.ensures
+    (λ hart. sym
+    (ap (λ o. if_live o (child_of c.args.pid (get (state_of c.args.self.now hart).processes c.args.child))) (c.in_err-find_live.ensures.none hart)))

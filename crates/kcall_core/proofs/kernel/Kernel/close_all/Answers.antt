@@ -21,7 +21,8 @@ loop-closed-preserved c = record {
       after.remains.current ∙ c.loop-closed.invariant.slot;
   closed = λ hart closing.
       let before = c.loop-closed.invariant.closed hart closing in
-      closes-on (NOFILE - c.loop-closed.closed) _ c.new.result (omega (arith, c.new.ensures, c.loop-closed-test.true)) (omega (arith, c.new.ensures, c.loop-closed-test.true)) closing before (c.close_if_used.ensures hart before.after);
+      closes-on (NOFILE - c.loop-closed.closed) _ c.new.result (omega (arith, c.new.ensures, c.loop-closed-test.true))
+      (omega (arith, c.new.ensures, c.loop-closed-test.true)) closing before (c.close_if_used.ensures hart before.after);
 }
 
 pub returns : goal.returns

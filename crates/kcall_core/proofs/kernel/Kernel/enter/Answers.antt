@@ -7,4 +7,5 @@ restore-requires-clause-fits c = rests-fit c.args.self.now.memories c.args.hart.
 
 pub returns-clause-state : goal.returns-clause-state
 returns-clause-state c =
-    entered-state c.args.self.now _ c.args.hart.now c.restore.new.hart c.args.slot c.requires.live.0 c.requires.sound c.requires.stopped c.requires.live.1 c.restore.ensures.regs refl refl refl (record { files = refl; console = refl; programs = refl; clock = refl })
+    entered-state c.args.self.now _ c.args.hart.now c.restore.new.hart c.args.slot c.requires.live.0 c.requires.sound c.requires.stopped
+    c.requires.live.1 c.restore.ensures.regs refl refl refl (record { files = refl; console = refl; programs = refl; clock = refl })

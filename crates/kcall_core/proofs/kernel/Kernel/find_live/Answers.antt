@@ -7,7 +7,8 @@ pub status-requires-clause-held : goal.status-requires-clause-held
 status-requires-clause-held c = subst (λ o. IsSome o) (sym (slot-found c.args.self.now.table c.args.pid c.in_ok-slot.slot (sym c.in_ok-slot.ensures.value)).1) refl
 
 pub returns-then-is_some-clause-none : goal.returns-then-is_some-clause-none
-returns-then-is_some-clause-none c = λ hart. ended-live c.args.self.now hart c.requires c.args.pid c.in_ok-slot.slot c.status.result (sym c.in_ok-slot.ensures.value) c.status.ensures (sym c.is_some.ensures ∙ c.if-is_some.true)
+returns-then-is_some-clause-none c = λ hart. ended-live c.args.self.now hart c.requires c.args.pid c.in_ok-slot.slot c.status.result
+    (sym c.in_ok-slot.ensures.value) c.status.ensures (sym c.is_some.ensures ∙ c.if-is_some.true)
 
 pub returns-clause-found : goal.returns-clause-found
 returns-clause-found c =

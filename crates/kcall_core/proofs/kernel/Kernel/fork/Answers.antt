@@ -21,7 +21,8 @@ done-requires-clause-sound c = (barren-has c.requires.whole c.requires.running c
 pub returns-in_default-clause-made : goal.returns-in_default-clause-made
 returns-in_default-clause-made c call =
     let b = c.in_default.ensures.refused in
-    image-makes c.args.self.now c.args.hart.now c.requires.whole c.requires.running (barren-has c.requires.whole c.requires.running c.bear.new.self b) c.done.new.self c.done.new.hart _ c.done.ensures.sound c.done.ensures.kernel c.done.ensures.state call _
+    image-makes c.args.self.now c.args.hart.now c.requires.whole c.requires.running (barren-has c.requires.whole c.requires.running c.bear.new.self b)
+    c.done.new.self c.done.new.hart _ c.done.ensures.sound c.done.ensures.kernel c.done.ensures.state call _
     (barren-row c.requires.whole c.requires.running c.bear.new.self b call)
 
 pub returns-in_default-clause-answer : goal.returns-in_default-clause-answer
@@ -47,8 +48,10 @@ pub loop-number-preserved : goal.loop-number-preserved
 loop-number-preserved c =
     let b = c.in-Some.ensures.born in
     let new = slot-for c.args.self.now c.args.hart.now c.requires.whole.sound c.in-Some.child.slot b.free in
-    handed-on c.requires.whole c.requires.running c.in-Some.child.slot new c.loop-number.number c.new.result c.running_slot-slot.result _ c.hand_down.new.self c.loop-number.invariant (omega (arith, c.loop-number-test.true))
-    (omega (arith, c.new.ensures, c.loop-number-test.true)) (now-slot c.running_slot-slot.result c.requires.whole.sound c.running_slot-slot.ensures.is) c.hand_down.ensures.kept c.hand_down.ensures.shared
+    handed-on c.requires.whole c.requires.running c.in-Some.child.slot new c.loop-number.number c.new.result c.running_slot-slot.result _
+    c.hand_down.new.self c.loop-number.invariant (omega (arith, c.loop-number-test.true))
+    (omega (arith, c.new.ensures, c.loop-number-test.true))
+    (now-slot c.running_slot-slot.result c.requires.whole.sound c.running_slot-slot.ensures.is) c.hand_down.ensures.kept c.hand_down.ensures.shared
 
 pub save_child-requires-clause-there : goal.save_child-requires-clause-there
 save_child-requires-clause-there c =
@@ -68,7 +71,8 @@ returns-clause-made c call =
     let x = subst (λ n. IsHanded c.args.self.now c.args.hart.now c.in-Some.child.slot n c.loop-number.self) all c.loop-number.invariant in
     let value = to_z-of_z w64 c.from.result (record { sfits = c.from.type_inv }) ∙ c.from.ensures ∙ ap pos (c.number.ensures.value ∙ b.named) in
     fork-makes c.requires.whole c.requires.running (handed-born c.requires.whole c.requires.running c.in-Some.child.slot new _ x _ value c.done-end.new.self c.done-end.new.hart
-    (record { sound = c.done-end.ensures.sound; kernel = c.done-end.ensures.kernel; state = c.done-end.ensures.state }) c.done-end.ensures.hart c.save_child.new.self c.save_child.ensures.saved c.save_child.ensures.rest) call
+    (record { sound = c.done-end.ensures.sound; kernel = c.done-end.ensures.kernel; state = c.done-end.ensures.state }) c.done-end.ensures.hart
+    c.save_child.new.self c.save_child.ensures.saved c.save_child.ensures.rest) call
 
 pub returns-clause-answer : goal.returns-clause-answer
 unfolding state_of
@@ -79,5 +83,6 @@ returns-clause-answer c call =
     let x = subst (λ n. IsHanded c.args.self.now c.args.hart.now c.in-Some.child.slot n c.loop-number.self) all c.loop-number.invariant in
     let value = to_z-of_z w64 c.from.result (record { sfits = c.from.type_inv }) ∙ c.from.ensures ∙ ap pos (c.number.ensures.value ∙ b.named) in
     fork-answer c.requires.whole c.requires.running (handed-born c.requires.whole c.requires.running c.in-Some.child.slot new _ x _ value c.done-end.new.self c.done-end.new.hart
-    (record { sound = c.done-end.ensures.sound; kernel = c.done-end.ensures.kernel; state = c.done-end.ensures.state }) c.done-end.ensures.hart c.save_child.new.self c.save_child.ensures.saved c.save_child.ensures.rest) call
+    (record { sound = c.done-end.ensures.sound; kernel = c.done-end.ensures.kernel; state = c.done-end.ensures.state }) c.done-end.ensures.hart
+    c.save_child.new.self c.save_child.ensures.saved c.save_child.ensures.rest) call
     ∙ ap (Called call.number) (sym value) ∙ ap (answer_of call.number) (sym c.done-end.ensures.end)

@@ -28,7 +28,9 @@ returns-clause-state c =
     let k1 = c.orphan.new.self in
     let s = state_of k h in
     let p = pid_now k in
-    let told : p ≡ c.pid-pid.result = pid-told k c.running_slot-slot.result c.pid-pid.result (sym (now-slot c.running_slot-slot.result c.requires.sound c.running_slot-slot.ensures.is)) c.pid-pid.ensures in
+    let told : p ≡ c.pid-pid.result =
+    pid-told k c.running_slot-slot.result c.pid-pid.result
+    (sym (now-slot c.running_slot-slot.result c.requires.sound c.running_slot-slot.ensures.is)) c.pid-pid.ensures in
     let sound1 : IsSound k1 h = c.orphan.ensures.sound h c.requires.sound in
     let runs1 : IsRunning k1 = subst (λ o. IsSome o) (sym c.orphan.ensures.current) c.requires.running in
     let state1 : state_of k1 h ≡ orphans p s = c.orphan.ensures.state h ∙ ap (λ n. orphans n s) (sym told) in
@@ -43,7 +45,9 @@ returns-clause-state c =
 pub returns-clause-table : goal.returns-clause-table
 returns-clause-table c =
     let k = c.args.self.now in
-    let told : pid_now k ≡ c.pid-pid.result = pid-told k c.running_slot-slot.result c.pid-pid.result (sym (now-slot c.running_slot-slot.result c.requires.sound c.running_slot-slot.ensures.is)) c.pid-pid.ensures in
+    let told : pid_now k ≡ c.pid-pid.result =
+    pid-told k c.running_slot-slot.result c.pid-pid.result
+    (sym (now-slot c.running_slot-slot.result c.requires.sound c.running_slot-slot.ensures.is)) c.pid-pid.ensures in
     c.end.ensures.table
     ∙ (λ i. changed_at (or_zero (c.orphan.ensures.current i)) (ended (to_z-of_z _ c.args.status c.ranges.status i)) (c.orphan.ensures.table i))
     ∙ ap (λ n. changed_at (slot_now k) (ended c.args.status) (each_changed (given n 1) k.table)) (sym told)

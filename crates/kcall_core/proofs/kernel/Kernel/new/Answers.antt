@@ -34,4 +34,5 @@ pub returns-clause-sound : goal.returns-clause-sound
 returns-clause-sound c = λ hart idle. new-sound _ hart (c.in-Ok-new.ensures.made ∙ ap no_process c.new-2.ensures) refl c.in-Ok.ensures.sound c.in-Ok.ensures.each idle.0 idle.1
 
 pub returns-clause-state : goal.returns-clause-state
-returns-clause-state c = λ hart. new-state _ hart (c.in-Ok-new.ensures.made ∙ ap no_process c.new-2.ensures) c.args.frames c.in-Ok-new-2.ensures.made c.in-Ok-new-3.ensures.ok refl c.in-Ok.ensures.pipes c.in-Ok.ensures.free
+returns-clause-state c = λ hart. new-state _ hart (c.in-Ok-new.ensures.made ∙ ap no_process c.new-2.ensures) c.args.frames c.in-Ok-new-2.ensures.made
+    c.in-Ok-new-3.ensures.ok refl c.in-Ok.ensures.pipes c.in-Ok.ensures.free

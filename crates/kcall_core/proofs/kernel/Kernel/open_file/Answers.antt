@@ -55,7 +55,8 @@ returns-in_default-lowest-clause-made c =
     let inside = c.running_slot-slot.ensures.within in
     let told = ap (position is_none) (sym c.descriptors.ensures) ∙ sym c.lowest.ensures ∙ c.in_default-lowest.is in
     let least = lowest-shown c.requires.whole c.requires.running c.running_slot-slot.ensures.is inside ∙ told in
-    subst (λ (o : Own). Makes k h o c.refuse-in_default-lowest.new.self c.refuse-in_default-lowest.new.hart) (sym (open-full c.args.call.now (view_now k h) c.in-Some.asked asks least)) (c.refuse-in_default-lowest.ensures.made c.args.call.now)
+    subst (λ (o : Own). Makes k h o c.refuse-in_default-lowest.new.self c.refuse-in_default-lowest.new.hart)
+    (sym (open-full c.args.call.now (view_now k h) c.in-Some.asked asks least)) (c.refuse-in_default-lowest.ensures.made c.args.call.now)
 
 pub returns-in_default-lowest-clause-answer : goal.returns-in_default-lowest-clause-answer
 unfolding view_of state_of
@@ -107,7 +108,9 @@ done-requires-clause-sound c =
     let told = ap (position is_none) (sym c.descriptors.ensures) ∙ sym c.lowest.ensures ∙ c.in-Some-lowest.is in
     let free = lowest-free c.requires.whole inside told in
     let empty = lowest-place-free k.files c.open_at.result c.open_at.ensures.place in
-    opened-sound k h slot c.in-Some-lowest.fd c.open_at.result (file_asked c.in-Some.asked) c.requires.whole c.requires.running c.running_slot-slot.ensures.is free.0 free.1 empty.0 empty.1 (asked-no-pipe c.in-Some.asked) c.open_at.new.self c.open_at.ensures.table c.open_at.ensures.files c.open_at.ensures.rest
+    opened-sound k h slot c.in-Some-lowest.fd c.open_at.result (file_asked c.in-Some.asked) c.requires.whole c.requires.running
+    c.running_slot-slot.ensures.is free.0 free.1 empty.0 empty.1 (asked-no-pipe c.in-Some.asked) c.open_at.new.self c.open_at.ensures.table
+    c.open_at.ensures.files c.open_at.ensures.rest
 
 pub returns-clause-made : goal.returns-clause-made
 unfolding view_of state_of
@@ -124,7 +127,9 @@ returns-clause-made c =
     let value = to_z-of_z w64 c.from.result (record { sfits = c.from.type_inv }) ∙ c.from.ensures ∙ ap pos c.number.ensures.value in
     let least = lowest-shown c.requires.whole c.requires.running c.running_slot-slot.ensures.is inside ∙ told in
     let row = open-opens c.args.call.now (view_now k h) c.in-Some.asked asks (state_of k h) c.in-Some-lowest.fd least in
-    opened-makes k h slot c.in-Some-lowest.fd c.open_at.result (file_asked c.in-Some.asked) c.requires.whole c.requires.running c.running_slot-slot.ensures.is free.0 free.1 empty.0 empty.1 (asked-no-pipe c.in-Some.asked) c.open_at.new.self c.open_at.ensures.table c.open_at.ensures.files c.open_at.ensures.rest
+    opened-makes k h slot c.in-Some-lowest.fd c.open_at.result (file_asked c.in-Some.asked) c.requires.whole c.requires.running
+    c.running_slot-slot.ensures.is free.0 free.1 empty.0 empty.1 (asked-no-pipe c.in-Some.asked) c.open_at.new.self c.open_at.ensures.table
+    c.open_at.ensures.files c.open_at.ensures.rest
     c.args.call.now _ row c.done.new.self c.done.new.hart
     (subst (λ z. IsDone c.open_at.new.self h z c.done.new.self c.done.new.hart) value (record { sound = c.done.ensures.sound; kernel = c.done.ensures.kernel; state = c.done.ensures.state }))
 

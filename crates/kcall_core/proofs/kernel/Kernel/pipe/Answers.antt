@@ -6,11 +6,12 @@ use Rattle.file_table.specs.Named.{named_by}
 use Rattle.proc_table.specs.Slots.{descriptors_at}
 use Rattle.kernel_spec.specs.rows.Calls.{make_pipe, refused}
 use Rattle.kernel_spec.specs.steps.Own.{Own}
+use Rattle.kernel_spec.proofs.rows.RowsByParts.{pipe_no_read, pipe_no_write}
 use Rattle.kcall_core.specs.Kernel.{state_of}
 use Rattle.kcall_core.specs.Makes.{Makes, view_now, answer_of}
 use Rattle.kcall_core.specs.declared.kernel.Kernel.{Kernel}
 use Rattle.kcall_core.proofs.files.Lowest.{lowest-shown, above-shown}
-use Rattle.kcall_core.proofs.files.PipeMakes.{pipe-one, pipe-other, pipe-unready, pipe-ready}
+use Rattle.kcall_core.proofs.files.PipeMakes.{pipe-unready, pipe-ready}
 use Rattle.kcall_core.proofs.kernel.Kernel.pipe.Goals as goal
 
 pub descriptors-requires : goal.descriptors-requires
@@ -28,7 +29,7 @@ returns-in_default-clause-made c =
     let slot = c.running_slot-slot.result in
     let inside = c.running_slot-slot.ensures.within in
     let told = ap (position is_none) (sym c.descriptors.ensures) ∙ sym c.lowest.ensures ∙ c.in_default.is in
-    let row = pipe-one c.args.call.now (view_now k h) (lowest-shown c.requires.whole c.requires.running c.running_slot-slot.ensures.is inside ∙ told) in
+    let row = pipe_no_read c.args.call.now (view_now k h) (lowest-shown c.requires.whole c.requires.running c.running_slot-slot.ensures.is inside ∙ told) in
     subst (λ (o : Own). Makes k h o c.refuse.new.self c.refuse.new.hart) (sym row) (c.refuse.ensures.made c.args.call.now)
 
 pub returns-in_default-clause-answer : goal.returns-in_default-clause-answer
@@ -38,7 +39,7 @@ returns-in_default-clause-answer c =
     let slot = c.running_slot-slot.result in
     let inside = c.running_slot-slot.ensures.within in
     let told = ap (position is_none) (sym c.descriptors.ensures) ∙ sym c.lowest.ensures ∙ c.in_default.is in
-    let row = pipe-one c.args.call.now (view_now k h) (lowest-shown c.requires.whole c.requires.running c.running_slot-slot.ensures.is inside ∙ told) in
+    let row = pipe_no_read c.args.call.now (view_now k h) (lowest-shown c.requires.whole c.requires.running c.running_slot-slot.ensures.is inside ∙ told) in
     ap (λ (o : Own). o.answer) row ∙ ap (answer_of c.args.call.now.number) (sym c.refuse.ensures.end)
 
 pub lowest_above-requires : goal.lowest_above-requires
@@ -57,7 +58,9 @@ returns-in_default-lowest_above-clause-made c =
     let inside = c.running_slot-slot.ensures.within in
     let told = ap (position is_none) (sym c.descriptors.ensures) ∙ sym c.lowest.ensures ∙ c.in-Some.is in
     let least = lowest-shown c.requires.whole c.requires.running c.running_slot-slot.ensures.is inside ∙ told in
-    let row = pipe-other c.args.call.now (view_now k h) c.in-Some.read least (above-shown c.requires.whole c.requires.running c.running_slot-slot.ensures.is c.in-Some.read ∙ sym c.lowest_above.ensures ∙ c.in_default-lowest_above.is) in
+    let row = pipe_no_write c.args.call.now (view_now k h) c.in-Some.read least
+    (above-shown c.requires.whole c.requires.running c.running_slot-slot.ensures.is c.in-Some.read ∙ sym c.lowest_above.ensures
+    ∙ c.in_default-lowest_above.is) in
     subst (λ (o : Own). Makes k h o c.refuse-in_default-lowest_above.new.self c.refuse-in_default-lowest_above.new.hart) (sym row) (c.refuse-in_default-lowest_above.ensures.made c.args.call.now)
 
 pub returns-in_default-lowest_above-clause-answer : goal.returns-in_default-lowest_above-clause-answer
@@ -68,7 +71,9 @@ returns-in_default-lowest_above-clause-answer c =
     let inside = c.running_slot-slot.ensures.within in
     let told = ap (position is_none) (sym c.descriptors.ensures) ∙ sym c.lowest.ensures ∙ c.in-Some.is in
     let least = lowest-shown c.requires.whole c.requires.running c.running_slot-slot.ensures.is inside ∙ told in
-    let row = pipe-other c.args.call.now (view_now k h) c.in-Some.read least (above-shown c.requires.whole c.requires.running c.running_slot-slot.ensures.is c.in-Some.read ∙ sym c.lowest_above.ensures ∙ c.in_default-lowest_above.is) in
+    let row = pipe_no_write c.args.call.now (view_now k h) c.in-Some.read least
+    (above-shown c.requires.whole c.requires.running c.running_slot-slot.ensures.is c.in-Some.read ∙ sym c.lowest_above.ensures
+    ∙ c.in_default-lowest_above.is) in
     ap (λ (o : Own). o.answer) row ∙ ap (answer_of c.args.call.now.number) (sym c.refuse-in_default-lowest_above.ensures.end)
 
 pub returns-then-not-ready_buffer-clause-made : goal.returns-then-not-ready_buffer-clause-made
@@ -94,17 +99,21 @@ pub pipe_ready-requires-clause-running : goal.pipe_ready-requires-clause-running
 pipe_ready-requires-clause-running c = (c.ready_buffer.ensures.ready c.if-not-ready_buffer.false c.args.hart.now c.requires.whole).touched.running
 
 pub pipe_ready-requires-clause-slot : goal.pipe_ready-requires-clause-slot
-pipe_ready-requires-clause-slot c = ap (λ (x : Kernel). x.current) (c.ready_buffer.ensures.ready c.if-not-ready_buffer.false c.args.hart.now c.requires.whole).touched.kernel ∙ c.running_slot-slot.ensures.is
+pipe_ready-requires-clause-slot c =
+    ap (λ (x : Kernel). x.current) (c.ready_buffer.ensures.ready c.if-not-ready_buffer.false c.args.hart.now c.requires.whole).touched.kernel
+    ∙ c.running_slot-slot.ensures.is
 
 pub pipe_ready-requires-clause-read : goal.pipe_ready-requires-clause-read
 pipe_ready-requires-clause-read c =
     let ready = c.ready_buffer.ensures.ready c.if-not-ready_buffer.false c.args.hart.now c.requires.whole in
-    ap (λ (x : Kernel). position is_none (descriptors_at x.table c.running_slot-slot.result)) ready.touched.kernel ∙ ap (position is_none) (sym c.descriptors.ensures) ∙ sym c.lowest.ensures ∙ c.in-Some.is
+    ap (λ (x : Kernel). position is_none (descriptors_at x.table c.running_slot-slot.result)) ready.touched.kernel
+    ∙ ap (position is_none) (sym c.descriptors.ensures) ∙ sym c.lowest.ensures ∙ c.in-Some.is
 
 pub pipe_ready-requires-clause-write : goal.pipe_ready-requires-clause-write
 pipe_ready-requires-clause-write c =
     let ready = c.ready_buffer.ensures.ready c.if-not-ready_buffer.false c.args.hart.now c.requires.whole in
-    ap (λ (x : Kernel). least_below (λ d. nat_lt c.in-Some.read d && is_none (named_by (descriptors_at x.table c.running_slot-slot.result) d)) NOFILE) ready.touched.kernel ∙ sym c.lowest_above.ensures ∙ c.in-Some-lowest_above.is
+    ap (λ (x : Kernel). least_below (λ d. nat_lt c.in-Some.read d && is_none (named_by (descriptors_at x.table c.running_slot-slot.result) d)) NOFILE)
+    ready.touched.kernel ∙ sym c.lowest_above.ensures ∙ c.in-Some-lowest_above.is
 
 pub pipe_ready-requires-clause-there : goal.pipe_ready-requires-clause-there
 pipe_ready-requires-clause-there c = (c.ready_buffer.ensures.ready c.if-not-ready_buffer.false c.args.hart.now c.requires.whole).there

@@ -53,7 +53,13 @@ open_pipe_at-requires-2-clause-free c =
     let write = above-free k.table slot (c.requires.write) in
     let apart : c.args.read ≢ c.args.write = λ e. omega (arith, e, write.2) in
     let equipped = equips c.in-Some.ensures.new c.in-Some.ensures.made c.write_tested.ensures.written c.write_tested.ensures.free c.write_tested.ensures.runs in
-    write-end-free c.requires.whole c.requires.running c.requires.slot read.0 read.1 write.0 write.1 apart c.in-Some.ensures.new equipped (record { place = c.open_pipe_at.ensures.place; table = c.open_pipe_at.ensures.table; files = c.open_pipe_at.ensures.files; rest = c.open_pipe_at.ensures.rest })
+    write-end-free c.requires.whole c.requires.running c.requires.slot read.0 read.1 write.0 write.1 apart c.in-Some.ensures.new equipped
+    (record {
+      place = c.open_pipe_at.ensures.place;
+      table = c.open_pipe_at.ensures.table;
+      files = c.open_pipe_at.ensures.files;
+      rest = c.open_pipe_at.ensures.rest;
+    })
 
 pub open_pipe_at-requires-2-clause-room : goal.open_pipe_at-requires-2-clause-room
 unfolding state_of
@@ -69,9 +75,28 @@ open_pipe_at-requires-2-clause-room c =
     let apart : c.args.read ≢ c.args.write = λ e. omega (arith, e, write.2) in
     let equipped = equips c.in-Some.ensures.new c.in-Some.ensures.made c.write_tested.ensures.written c.write_tested.ensures.free c.write_tested.ensures.runs in
     room-for-one c.open_pipe_at.new.self.files c.open_pipe_at.new.self.table slot c.args.write
-    (read-end-table c.requires.whole c.requires.running c.requires.slot read.0 read.1 write.0 write.1 apart c.in-Some.ensures.new equipped (record { place = c.open_pipe_at.ensures.place; table = c.open_pipe_at.ensures.table; files = c.open_pipe_at.ensures.files; rest = c.open_pipe_at.ensures.rest }))
-    (read-end-counted c.requires.whole c.requires.running c.requires.slot read.0 read.1 write.0 write.1 apart c.in-Some.ensures.new equipped (record { place = c.open_pipe_at.ensures.place; table = c.open_pipe_at.ensures.table; files = c.open_pipe_at.ensures.files; rest = c.open_pipe_at.ensures.rest }))
-    inside write.0 (write-end-free c.requires.whole c.requires.running c.requires.slot read.0 read.1 write.0 write.1 apart c.in-Some.ensures.new equipped (record { place = c.open_pipe_at.ensures.place; table = c.open_pipe_at.ensures.table; files = c.open_pipe_at.ensures.files; rest = c.open_pipe_at.ensures.rest }))
+    (read-end-table c.requires.whole c.requires.running c.requires.slot read.0 read.1 write.0 write.1 apart c.in-Some.ensures.new equipped
+    (record {
+      place = c.open_pipe_at.ensures.place;
+      table = c.open_pipe_at.ensures.table;
+      files = c.open_pipe_at.ensures.files;
+      rest = c.open_pipe_at.ensures.rest;
+    }))
+    (read-end-counted c.requires.whole c.requires.running c.requires.slot read.0 read.1 write.0 write.1 apart c.in-Some.ensures.new equipped
+    (record {
+      place = c.open_pipe_at.ensures.place;
+      table = c.open_pipe_at.ensures.table;
+      files = c.open_pipe_at.ensures.files;
+      rest = c.open_pipe_at.ensures.rest;
+    }))
+    inside write.0
+    (write-end-free c.requires.whole c.requires.running c.requires.slot read.0 read.1 write.0 write.1 apart c.in-Some.ensures.new equipped
+    (record {
+      place = c.open_pipe_at.ensures.place;
+      table = c.open_pipe_at.ensures.table;
+      files = c.open_pipe_at.ensures.files;
+      rest = c.open_pipe_at.ensures.rest;
+    }))
 
 pub done-requires-clause-sound : goal.done-requires-clause-sound
 unfolding state_of
@@ -86,7 +111,13 @@ done-requires-clause-sound c =
     let write = above-free k.table slot (c.requires.write) in
     let apart : c.args.read ≢ c.args.write = λ e. omega (arith, e, write.2) in
     let equipped = equips c.in-Some.ensures.new c.in-Some.ensures.made c.write_tested.ensures.written c.write_tested.ensures.free c.write_tested.ensures.runs in
-    ends-sound c.requires.whole c.requires.running c.requires.slot read.0 read.1 write.0 write.1 apart c.in-Some.ensures.new equipped (record { place = c.open_pipe_at.ensures.place; table = c.open_pipe_at.ensures.table; files = c.open_pipe_at.ensures.files; rest = c.open_pipe_at.ensures.rest })
+    ends-sound c.requires.whole c.requires.running c.requires.slot read.0 read.1 write.0 write.1 apart c.in-Some.ensures.new equipped
+    (record {
+      place = c.open_pipe_at.ensures.place;
+      table = c.open_pipe_at.ensures.table;
+      files = c.open_pipe_at.ensures.files;
+      rest = c.open_pipe_at.ensures.rest;
+    })
     (record { place = c.open_pipe_at-2.ensures.place; table = c.open_pipe_at-2.ensures.table; files = c.open_pipe_at-2.ensures.files; rest = c.open_pipe_at-2.ensures.rest })
 
 pub returns-clause-made : goal.returns-clause-made
@@ -106,9 +137,16 @@ returns-clause-made c =
     let frame = ne_eqb (free_of k.memories) 0 (λ e. omega (arith, e, c.requires.frame)) in
     let equipped = equips c.in-Some.ensures.new c.in-Some.ensures.made c.write_tested.ensures.written c.write_tested.ensures.free c.write_tested.ensures.runs in
     let above = above-shown c.requires.whole c.requires.running c.requires.slot c.args.read ∙ c.requires.write in
-    pipe-makes c.requires.whole c.requires.running c.requires.slot read.0 read.1 write.0 write.1 apart c.in-Some.ensures.new equipped (record { place = c.open_pipe_at.ensures.place; table = c.open_pipe_at.ensures.table; files = c.open_pipe_at.ensures.files; rest = c.open_pipe_at.ensures.rest })
+    pipe-makes c.requires.whole c.requires.running c.requires.slot read.0 read.1 write.0 write.1 apart c.in-Some.ensures.new equipped
+    (record {
+      place = c.open_pipe_at.ensures.place;
+      table = c.open_pipe_at.ensures.table;
+      files = c.open_pipe_at.ensures.files;
+      rest = c.open_pipe_at.ensures.rest;
+    })
     (record { place = c.open_pipe_at-2.ensures.place; table = c.open_pipe_at-2.ensures.table; files = c.open_pipe_at-2.ensures.files; rest = c.open_pipe_at-2.ensures.rest })
-    c.args.call.now refl c.two_numbers-numbers.ensures c.requires.there frame least above c.done.new.self c.done.new.hart (record { sound = c.done.ensures.sound; kernel = c.done.ensures.kernel; state = c.done.ensures.state })
+    c.args.call.now refl c.two_numbers-numbers.ensures c.requires.there frame least above c.done.new.self c.done.new.hart
+    (record { sound = c.done.ensures.sound; kernel = c.done.ensures.kernel; state = c.done.ensures.state })
 
 pub returns-clause-answer : goal.returns-clause-answer
 unfolding view_of state_of
@@ -127,7 +165,13 @@ returns-clause-answer c =
     let frame = ne_eqb (free_of k.memories) 0 (λ e. omega (arith, e, c.requires.frame)) in
     let equipped = equips c.in-Some.ensures.new c.in-Some.ensures.made c.write_tested.ensures.written c.write_tested.ensures.free c.write_tested.ensures.runs in
     let above = above-shown c.requires.whole c.requires.running c.requires.slot c.args.read ∙ c.requires.write in
-    pipe-answer c.requires.whole c.requires.running c.requires.slot read.0 read.1 write.0 write.1 apart c.in-Some.ensures.new equipped (record { place = c.open_pipe_at.ensures.place; table = c.open_pipe_at.ensures.table; files = c.open_pipe_at.ensures.files; rest = c.open_pipe_at.ensures.rest })
+    pipe-answer c.requires.whole c.requires.running c.requires.slot read.0 read.1 write.0 write.1 apart c.in-Some.ensures.new equipped
+    (record {
+      place = c.open_pipe_at.ensures.place;
+      table = c.open_pipe_at.ensures.table;
+      files = c.open_pipe_at.ensures.files;
+      rest = c.open_pipe_at.ensures.rest;
+    })
     (record { place = c.open_pipe_at-2.ensures.place; table = c.open_pipe_at-2.ensures.table; files = c.open_pipe_at-2.ensures.files; rest = c.open_pipe_at-2.ensures.rest })
     c.args.call.now refl c.two_numbers-numbers.ensures c.requires.there frame least above
     ∙ ap (answer_of c.args.call.now.number) (sym c.done.ensures.end)
@@ -138,4 +182,5 @@ write_tested-requires-clause-writable c =
     let at = now-slot c.args.slot c.requires.whole.sound c.requires.slot in
     let bytes : length c.two_numbers-numbers.result ≡ 8 = ap length c.two_numbers-numbers.ensures in
     ap (λ n. writable_now (held_at (each_of c.make_pipe.new.self) c.args.slot).image c.args.call.now.a0 n) bytes
-    ∙ ap (λ e. writable_now (held_at e c.args.slot).image c.args.call.now.a0 8) c.in-Some.ensures.made.each ∙ (λ i. writable_now (held_at (each_of k.memories) (at i)).image c.args.call.now.a0 8) ∙ c.requires.there
+    ∙ ap (λ e. writable_now (held_at e c.args.slot).image c.args.call.now.a0 8) c.in-Some.ensures.made.each
+    ∙ (λ i. writable_now (held_at (each_of k.memories) (at i)).image c.args.call.now.a0 8) ∙ c.requires.there

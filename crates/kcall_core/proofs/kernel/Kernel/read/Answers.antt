@@ -13,7 +13,8 @@ use Rattle.kcall_core.proofs.kernel.Kernel.read.Goals as goal
 
 pub returns-in_default-clause-made : goal.returns-in_default-clause-made
 returns-in_default-clause-made c =
-    subst (λ (o : Own). Makes c.args.self.now c.args.hart.now o c.refuse.new.self c.refuse.new.hart) (sym (c.in_default.ensures.refused c.args.hart.now c.requires.whole)) (c.refuse.ensures.made c.args.call.now)
+    subst (λ (o : Own). Makes c.args.self.now c.args.hart.now o c.refuse.new.self c.refuse.new.hart)
+    (sym (c.in_default.ensures.refused c.args.hart.now c.requires.whole)) (c.refuse.ensures.made c.args.call.now)
 
 pub returns-in_default-clause-answer : goal.returns-in_default-clause-answer
 returns-in_default-clause-answer c =
@@ -25,7 +26,9 @@ returns-then-asked-eq0-clause-made c =
     let h = c.args.hart.now in
     let a = c.in-Some.ensures.asked h c.requires.whole in
     let row = read-nothing c.args.call.now c.requires.whole c.requires.running a.below a.number a.source c.in-Some.ensures.allowed (a.count ∙ ap pos c.if-asked-eq0.true) in
-    subst (λ (o : Own). Makes k h o c.done.new.self c.done.new.hart) (sym row) (done-at-once c.args.call.now (pos 0) refl c.requires.whole c.requires.running (record { sound = c.done.ensures.sound; kernel = c.done.ensures.kernel; state = c.done.ensures.state }))
+    subst (λ (o : Own). Makes k h o c.done.new.self c.done.new.hart) (sym row)
+    (done-at-once c.args.call.now (pos 0) refl c.requires.whole c.requires.running
+    (record { sound = c.done.ensures.sound; kernel = c.done.ensures.kernel; state = c.done.ensures.state }))
 
 pub returns-then-asked-eq0-clause-answer : goal.returns-then-asked-eq0-clause-answer
 returns-then-asked-eq0-clause-answer c =
@@ -41,11 +44,13 @@ returns-then-not-room_is_there-clause-made c =
     let h = c.args.hart.now in
     let a = c.in-Some.ensures.asked h c.requires.whole in
     let some = ne_eqb c.in-Some.asked.count 0 c.if-asked-eq0.false in
-    let row = read-unready c.args.call.now c.requires.whole c.requires.running a.below a.number a.source c.in-Some.ensures.allowed c.in-Some.asked.count a.count some (c.room_is_there.ensures.unready c.if-not-room_is_there.true h c.requires.whole) in
+    let row = read-unready c.args.call.now c.requires.whole c.requires.running a.below a.number a.source c.in-Some.ensures.allowed
+    c.in-Some.asked.count a.count some (c.room_is_there.ensures.unready c.if-not-room_is_there.true h c.requires.whole) in
     let self = c.refuse-then-not-room_is_there.new.self in
     let hart = c.refuse-then-not-room_is_there.new.hart in
     subst (λ (o : Own). Makes k h o self hart) (sym row)
-    (subst (λ (x : Kernel). Makes x h (refused c.args.call.now (view_now x h)) self hart) (c.room_is_there.ensures.stays c.if-not-room_is_there.true) (c.refuse-then-not-room_is_there.ensures.made c.args.call.now))
+    (subst (λ (x : Kernel). Makes x h (refused c.args.call.now (view_now x h)) self hart) (c.room_is_there.ensures.stays c.if-not-room_is_there.true)
+    (c.refuse-then-not-room_is_there.ensures.made c.args.call.now))
 
 pub returns-then-not-room_is_there-clause-answer : goal.returns-then-not-room_is_there-clause-answer
 returns-then-not-room_is_there-clause-answer c =
@@ -53,7 +58,8 @@ returns-then-not-room_is_there-clause-answer c =
     let h = c.args.hart.now in
     let a = c.in-Some.ensures.asked h c.requires.whole in
     let some = ne_eqb c.in-Some.asked.count 0 c.if-asked-eq0.false in
-    let row = read-unready c.args.call.now c.requires.whole c.requires.running a.below a.number a.source c.in-Some.ensures.allowed c.in-Some.asked.count a.count some (c.room_is_there.ensures.unready c.if-not-room_is_there.true h c.requires.whole) in
+    let row = read-unready c.args.call.now c.requires.whole c.requires.running a.below a.number a.source c.in-Some.ensures.allowed
+    c.in-Some.asked.count a.count some (c.room_is_there.ensures.unready c.if-not-room_is_there.true h c.requires.whole) in
     ap (λ (o : Own). o.answer) row ∙ ap (answer_of c.args.call.now.number) (sym c.refuse-then-not-room_is_there.ensures.end)
 
 pub read_from-requires-clause-whole : goal.read_from-requires-clause-whole

@@ -24,7 +24,9 @@ write_tested-requires-clause-writable c =
     let are = c.file_rest-bytes.ensures.bytes ∙ ap (λ xs. take c.args.asked.now.count (drop c.args.offset (program_bytes (slice_get (map named_file xs) c.args.program)))) c.deref.ensures.value in
     let slot = now-slot c.args.slot c.requires.whole.sound c.requires.slot in
     ap (λ i. writable_now (held_at (each_of c.args.self.now.memories) i).image c.args.call.now.a1 (length c.file_rest-bytes.result.now)) slot
-    ∙ writable-fewer _ c.args.call.now.a1 c.args.asked.now.count (length c.file_rest-bytes.result.now) (few c.requires.whole c.requires.running c.requires.file c.requires.reads c.args.program c.args.offset c.requires.target c.file_rest-bytes.result.now are) c.requires.file.buffer.2
+    ∙ writable-fewer _ c.args.call.now.a1 c.args.asked.now.count (length c.file_rest-bytes.result.now)
+    (few c.requires.whole c.requires.running c.requires.file c.requires.reads c.args.program c.args.offset c.requires.target
+    c.file_rest-bytes.result.now are) c.requires.file.buffer.2
 
 pub move_to-requires : goal.move_to-requires
 unfolding state_of
@@ -38,7 +40,9 @@ done-requires-clause-sound c =
     let are = c.file_rest-bytes.ensures.bytes ∙ ap (λ xs. take c.args.asked.now.count (drop c.args.offset (program_bytes (slice_get (map named_file xs) c.args.program)))) c.deref.ensures.value in
     let slot = now-slot c.args.slot c.requires.whole.sound c.requires.slot in
     file-sound c.requires.whole c.requires.running c.requires.file c.requires.reads c.args.program c.args.offset c.requires.target c.file_rest-bytes.result.now are
-    c.write_tested.new.self _ ((λ i. write_image (held_at (each_of c.args.self.now.memories) (slot i)).image c.args.call.now.a1 c.file_rest-bytes.result.now)) c.args.slot slot c.write_tested.ensures.written c.write_tested.ensures.free c.write_tested.ensures.runs
+    c.write_tested.new.self _
+    ((λ i. write_image (held_at (each_of c.args.self.now.memories) (slot i)).image c.args.call.now.a1 c.file_rest-bytes.result.now)) c.args.slot slot
+    c.write_tested.ensures.written c.write_tested.ensures.free c.write_tested.ensures.runs
     _ (λ i. record c.args.self.now { memories = c.write_tested.new.self; files = c.move_to.ensures i })
 
 pub returns-clause-made : goal.returns-clause-made
@@ -47,9 +51,18 @@ returns-clause-made c =
     let are = c.file_rest-bytes.ensures.bytes ∙ ap (λ xs. take c.args.asked.now.count (drop c.args.offset (program_bytes (slice_get (map named_file xs) c.args.program)))) c.deref.ensures.value in
     let slot = now-slot c.args.slot c.requires.whole.sound c.requires.slot in
     file-done c.requires.whole c.requires.running c.requires.file c.requires.reads c.args.program c.args.offset c.requires.target c.file_rest-bytes.result.now are
-    c.write_tested.new.self _ ((λ i. write_image (held_at (each_of c.args.self.now.memories) (slot i)).image c.args.call.now.a1 c.file_rest-bytes.result.now)) c.args.slot slot c.write_tested.ensures.written c.write_tested.ensures.free c.write_tested.ensures.runs
+    c.write_tested.new.self _
+    ((λ i. write_image (held_at (each_of c.args.self.now.memories) (slot i)).image c.args.call.now.a1 c.file_rest-bytes.result.now)) c.args.slot slot
+    c.write_tested.ensures.written c.write_tested.ensures.free c.write_tested.ensures.runs
     _ (λ i. record c.args.self.now { memories = c.write_tested.new.self; files = c.move_to.ensures i })
-    c.done.new.self c.done.new.hart _ (to_z_pos w64 (length c.file_rest-bytes.result.now) (omega (arith, c.requires.size, few c.requires.whole c.requires.running c.requires.file c.requires.reads c.args.program c.args.offset c.requires.target c.file_rest-bytes.result.now are)))
+    c.done.new.self c.done.new.hart _
+    (to_z_pos w64 (length c.file_rest-bytes.result.now)
+    (omega (
+      arith,
+      c.requires.size,
+      few c.requires.whole c.requires.running c.requires.file c.requires.reads c.args.program c.args.offset
+          c.requires.target c.file_rest-bytes.result.now are,
+    )))
     (record { sound = c.done.ensures.sound; kernel = c.done.ensures.kernel; state = c.done.ensures.state })
 
 pub returns-clause-answer : goal.returns-clause-answer
@@ -57,5 +70,12 @@ unfolding state_of
 returns-clause-answer c =
     let are = c.file_rest-bytes.ensures.bytes ∙ ap (λ xs. take c.args.asked.now.count (drop c.args.offset (program_bytes (slice_get (map named_file xs) c.args.program)))) c.deref.ensures.value in
     file-answer c.requires.whole c.requires.running c.requires.file c.requires.reads c.args.program c.args.offset c.requires.target c.file_rest-bytes.result.now are
-    ∙ ap (Called c.args.call.now.number) (sym (to_z_pos w64 (length c.file_rest-bytes.result.now) (omega (arith, c.requires.size, few c.requires.whole c.requires.running c.requires.file c.requires.reads c.args.program c.args.offset c.requires.target c.file_rest-bytes.result.now are))))
+    ∙ ap (Called c.args.call.now.number)
+    (sym (to_z_pos w64 (length c.file_rest-bytes.result.now)
+    (omega (
+      arith,
+      c.requires.size,
+      few c.requires.whole c.requires.running c.requires.file c.requires.reads c.args.program c.args.offset
+          c.requires.target c.file_rest-bytes.result.now are,
+    ))))
     ∙ ap (answer_of c.args.call.now.number) (sym c.done.ensures.end)

@@ -9,12 +9,14 @@ pub returns-clause-made : goal.returns-clause-made
 returns-clause-made c =
     let k = c.args.self.now in
     let busy : (live_now k c.args.hart.now).call ≡ Some c.in-Some.call =
-    sym (call-told k c.running_slot-slot.result c.progress.result (sym (now-slot c.running_slot-slot.result c.requires.whole.sound c.running_slot-slot.ensures.is)) c.progress.ensures) ∙ c.in-Some.is in
+    sym (call-told k c.running_slot-slot.result c.progress.result
+    (sym (now-slot c.running_slot-slot.result c.requires.whole.sound c.running_slot-slot.ensures.is)) c.progress.ensures) ∙ c.in-Some.is in
     resumed-made k c.args.hart.now c.requires.unmarked busy c.perform.ensures.made
 
 pub returns-clause-answer : goal.returns-clause-answer
 returns-clause-answer c =
     let k = c.args.self.now in
     let busy : (live_now k c.args.hart.now).call ≡ Some c.in-Some.call =
-    sym (call-told k c.running_slot-slot.result c.progress.result (sym (now-slot c.running_slot-slot.result c.requires.whole.sound c.running_slot-slot.ensures.is)) c.progress.ensures) ∙ c.in-Some.is in
+    sym (call-told k c.running_slot-slot.result c.progress.result
+    (sym (now-slot c.running_slot-slot.result c.requires.whole.sound c.running_slot-slot.ensures.is)) c.progress.ensures) ∙ c.in-Some.is in
     resumed-answer k c.args.hart.now c.requires.unmarked busy c.perform.result c.perform.ensures.answer

@@ -37,7 +37,8 @@ pub returns-in_err-start-clause-whole : goal.returns-in_err-start-clause-whole
 returns-in_err-start-clause-whole c = subst (λ m. IsWhole (record c.args.self.now { memories = m }) c.args.hart.now) (sym c.in_err-start.ensures.refused.1) c.requires.whole
 
 pub save-requires-clause-there : goal.save-requires-clause-there
-save-requires-clause-there c = first-has c.load_first.new.memories c.in-Ok.slot _ c.requires.whole.sound c.in_ok-start.ensures.loaded.5 (slot-zero c.args.self.now c.in-Ok.slot c.requires.nobody c.in-Ok.ensures.slot.0)
+save-requires-clause-there c = first-has c.load_first.new.memories c.in-Ok.slot _ c.requires.whole.sound c.in_ok-start.ensures.loaded.5
+    (slot-zero c.args.self.now c.in-Ok.slot c.requires.nobody c.in-Ok.ensures.slot.0)
 
 pub returns-clause-stopped : goal.returns-clause-stopped
 returns-clause-stopped c =
@@ -45,7 +46,9 @@ returns-clause-stopped c =
     let k' = record c.args.self.now { memories = c.save.new.self; table = c.spawn.new.self } in
     let regs : c.first_regs-regs.result ≡ first_regs st.0 = c.first_regs-regs.ensures ∙ ap (λ (e : Entry). put (put (put (fresh e.pc) SP e.sp) A0 e.argc) A1 e.sp) st.2 in
     let b : Begins c.args.self.now c.args.hart.now k' (record c.args.hart.now { regs = c.first_regs-regs.result }) st.0 =
-    begins st.0 c.first_regs-regs.result c.requires.whole.sound c.requires.nobody st.5 c.save.ensures.saved (slot-zero c.args.self.now c.in-Ok.slot c.requires.nobody c.in-Ok.ensures.slot.0) regs c.in-Ok.ensures.made refl refl refl (record { files = refl; console = refl; programs = refl; clock = refl }) in
+    begins st.0 c.first_regs-regs.result c.requires.whole.sound c.requires.nobody st.5 c.save.ensures.saved
+    (slot-zero c.args.self.now c.in-Ok.slot c.requires.nobody c.in-Ok.ensures.slot.0) regs c.in-Ok.ensures.made refl refl refl
+    (record { files = refl; console = refl; programs = refl; clock = refl }) in
     b.current
 
 pub returns-clause-whole : goal.returns-clause-whole
@@ -54,7 +57,9 @@ returns-clause-whole c =
     let k' = record c.args.self.now { memories = c.save.new.self; table = c.spawn.new.self } in
     let regs : c.first_regs-regs.result ≡ first_regs st.0 = c.first_regs-regs.ensures ∙ ap (λ (e : Entry). put (put (put (fresh e.pc) SP e.sp) A0 e.argc) A1 e.sp) st.2 in
     let b : Begins c.args.self.now c.args.hart.now k' (record c.args.hart.now { regs = c.first_regs-regs.result }) st.0 =
-    begins st.0 c.first_regs-regs.result c.requires.whole.sound c.requires.nobody st.5 c.save.ensures.saved (slot-zero c.args.self.now c.in-Ok.slot c.requires.nobody c.in-Ok.ensures.slot.0) regs c.in-Ok.ensures.made refl refl refl (record { files = refl; console = refl; programs = refl; clock = refl }) in
+    begins st.0 c.first_regs-regs.result c.requires.whole.sound c.requires.nobody st.5 c.save.ensures.saved
+    (slot-zero c.args.self.now c.in-Ok.slot c.requires.nobody c.in-Ok.ensures.slot.0) regs c.in-Ok.ensures.made refl refl refl
+    (record { files = refl; console = refl; programs = refl; clock = refl }) in
     begun-whole b c.requires.nobody (console-within c.args.self.now c.args.hart.now c.requires.whole) st.4
 
 pub returns-clause-started : goal.returns-clause-started
@@ -64,7 +69,9 @@ returns-clause-started c =
     let k' = record c.args.self.now { memories = c.save.new.self; table = c.spawn.new.self } in
     let regs : c.first_regs-regs.result ≡ first_regs st.0 = c.first_regs-regs.ensures ∙ ap (λ (e : Entry). put (put (put (fresh e.pc) SP e.sp) A0 e.argc) A1 e.sp) st.2 in
     let b : Begins c.args.self.now c.args.hart.now k' (record c.args.hart.now { regs = c.first_regs-regs.result }) st.0 =
-    begins st.0 c.first_regs-regs.result c.requires.whole.sound c.requires.nobody st.5 c.save.ensures.saved (slot-zero c.args.self.now c.in-Ok.slot c.requires.nobody c.in-Ok.ensures.slot.0) regs c.in-Ok.ensures.made refl refl refl (record { files = refl; console = refl; programs = refl; clock = refl }) in
+    begins st.0 c.first_regs-regs.result c.requires.whole.sound c.requires.nobody st.5 c.save.ensures.saved
+    (slot-zero c.args.self.now c.in-Ok.slot c.requires.nobody c.in-Ok.ensures.slot.0) regs c.in-Ok.ensures.made refl refl refl
+    (record { files = refl; console = refl; programs = refl; clock = refl }) in
     begun-world b st.4 (subst (λ ps. loaded (program_bytes (init_of (map named_file ps))) (init_name ∷ []) ≡ Ok st.0) c.deref.ensures.value st.1)
 
 pub returns-clause-frames : goal.returns-clause-frames

@@ -10,7 +10,8 @@ returns-then-not-is_data_page_fault-clause-stop c =
 
 pub returns-then-not-touch_page-clause-stop : goal.returns-then-not-touch_page-clause-stop
 returns-then-not-touch_page-clause-stop c =
-    untouched-fault c.args.self.now c.args.hart.now c.args.cause c.requires.faulted c.fault_address.result c.fault_address.ensures (sym c.is_data_page_fault.ensures ∙ c.if-not-is_data_page_fault.false)
+    untouched-fault c.args.self.now c.args.hart.now c.args.cause c.requires.faulted c.fault_address.result c.fault_address.ensures
+    (sym c.is_data_page_fault.ensures ∙ c.if-not-is_data_page_fault.false)
     (c.touch_page.ensures.refused c.if-not-touch_page.true c.args.hart.now c.requires.whole)
 
 pub step_again-requires-clause-running : goal.step_again-requires-clause-running
@@ -50,6 +51,7 @@ pub returns-clause-stays : goal.returns-clause-stays
 returns-clause-stays c other =
     let touched = c.touch_page.ensures.touched c.if-not-touch_page.false c.args.hart.now c.requires.whole in
     let r = running c.touch_page.new.self c.args.hart.now touched.whole.sound touched.running in
-    absurd (other (touched-next c.args.self.now c.args.hart.now c.args.cause c.requires.faulted c.fault_address.result c.fault_address.ensures (sym c.is_data_page_fault.ensures ∙ c.if-not-is_data_page_fault.false)
+    absurd (other (touched-next c.args.self.now c.args.hart.now c.args.cause c.requires.faulted c.fault_address.result c.fault_address.ensures
+    (sym c.is_data_page_fault.ensures ∙ c.if-not-is_data_page_fault.false)
     c.touch_page.new.self touched (c.touch_page.ensures.absent c.if-not-touch_page.false c.args.hart.now c.requires.whole)
     c.step_again.new.self c.step_again.new.hart c.step_again.result (c.step_again.ensures (slot_now c.touch_page.new.self) r.is.runs)))

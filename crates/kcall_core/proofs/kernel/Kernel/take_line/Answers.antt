@@ -43,4 +43,5 @@ returns-clause-written c =
 pub returns-clause-rest : goal.returns-clause-rest
 returns-clause-rest c =
     ap (λ (x : Console). let k : Kernel = record c.args.self.now { memories = c.write_tested.new.self; console = x } in k)
-    (c.pull_line-pull.ensures.after ∙ ap (λ (p : Pulled). without_line p c.args.self.now.console) (line-pulled (nat_eq c.args.done 0) c.args.n c.min.result c.args.self.now.console.committed c.requires.keys c.min.ensures))
+    (c.pull_line-pull.ensures.after ∙ ap (λ (p : Pulled). without_line p c.args.self.now.console)
+    (line-pulled (nat_eq c.args.done 0) c.args.n c.min.result c.args.self.now.console.committed c.requires.keys c.min.ensures))

@@ -19,7 +19,8 @@ unfolding brought
 returns-clause-touched c e h whole =
     let held = held_at (each_of c.args.self.now.memories) c.running_slot-slot.result in
     page-came whole c.running_slot-slot.ensures.is c.args.address
-    (subst (λ v. SlotChanges c.args.self.now.memories c.bring_page.new.self c.running_slot-slot.result (Some (with_image (bring v held.image) held))) c.in-Some.ensures.absent.0 (c.bring_page.ensures.brought e))
+    (subst (λ v. SlotChanges c.args.self.now.memories c.bring_page.new.self c.running_slot-slot.result (Some (with_image (bring v held.image) held)))
+    c.in-Some.ensures.absent.0 (c.bring_page.ensures.brought e))
     c.bring_page.ensures.runs
 
 pub returns-clause-absent : goal.returns-clause-absent

@@ -19,7 +19,9 @@ enter-requires-clause-live c =
 pub pid-requires-clause-held : goal.pid-requires-clause-held
 pid-requires-clause-held c =
     let found = chosen (place_at c.args.self.now.table c.in_ok-slot.slot) c.in_ok-slot.ensures.nearest.1 in
-    subst (λ o. IsSome o) (sym (ap (λ (k : Kernel). place_at k.table c.in_ok-slot.slot) c.enter.ensures.runs ∙ ap (λ (t : Slots). place_at t c.in_ok-slot.slot) c.in_ok-slot.ensures.turn ∙ found.1)) refl
+    subst (λ o. IsSome o)
+    (sym (ap (λ (k : Kernel). place_at k.table c.in_ok-slot.slot) c.enter.ensures.runs ∙ ap (λ (t : Slots). place_at t c.in_ok-slot.slot)
+    c.in_ok-slot.ensures.turn ∙ found.1)) refl
 
 pub returns-clause-whole : goal.returns-clause-whole
 returns-clause-whole c =
@@ -27,7 +29,8 @@ returns-clause-whole c =
     let slot = c.in_ok-slot.slot in
     let r = runs-in k.table slot c.in_ok-slot.ensures.nearest.1 in
     let is : c.enter.new.self ≡ with_turn k slot = c.enter.ensures.runs ∙ ap (λ (t : Slots). record k { table = t; current = Some slot }) c.in_ok-slot.ensures.turn in
-    turned-whole k c.enter.new.self c.args.hart.now c.enter.new.hart slot r.0 c.requires.whole r.1 is (c.enter.ensures.state ∙ noted-state k c.args.hart.now slot c.next_turn.new.self c.in_ok-slot.ensures.turn) c.enter.ensures.sound
+    turned-whole k c.enter.new.self c.args.hart.now c.enter.new.hart slot r.0 c.requires.whole r.1 is
+    (c.enter.ensures.state ∙ noted-state k c.args.hart.now slot c.next_turn.new.self c.in_ok-slot.ensures.turn) c.enter.ensures.sound
 
 pub returns-clause-turn : goal.returns-clause-turn
 returns-clause-turn c =
@@ -36,7 +39,8 @@ returns-clause-turn c =
     let r = runs-in k.table slot c.in_ok-slot.ensures.nearest.1 in
     let is : c.enter.new.self ≡ with_turn k slot = c.enter.ensures.runs ∙ ap (λ (t : Slots). record k { table = t; current = Some slot }) c.in_ok-slot.ensures.turn in
     let told : pid_at k.table slot ≡ Some c.pid.result = sym (ap (λ (x : Kernel). pid_at x.table slot) is) ∙ c.pid.ensures in
-    turned-world k c.enter.new.self c.args.hart.now c.enter.new.hart slot r.0 c.requires.whole r.1 is (c.enter.ensures.state ∙ noted-state k c.args.hart.now slot c.next_turn.new.self c.in_ok-slot.ensures.turn) c.pid.result told
+    turned-world k c.enter.new.self c.args.hart.now c.enter.new.hart slot r.0 c.requires.whole r.1 is
+    (c.enter.ensures.state ∙ noted-state k c.args.hart.now slot c.next_turn.new.self c.in_ok-slot.ensures.turn) c.pid.result told
 
 pub returns-clause-nearest : goal.returns-clause-nearest
 returns-clause-nearest c =
@@ -45,7 +49,9 @@ returns-clause-nearest c =
     let r = runs-in k.table slot c.in_ok-slot.ensures.nearest.1 in
     let is : c.enter.new.self ≡ with_turn k slot = c.enter.ensures.runs ∙ ap (λ (t : Slots). record k { table = t; current = Some slot }) c.in_ok-slot.ensures.turn in
     let told : pid_at k.table slot ≡ Some c.pid.result = sym (ap (λ (x : Kernel). pid_at x.table slot) is) ∙ c.pid.ensures in
-    turned-nearest k c.enter.new.self c.args.hart.now c.enter.new.hart slot r.0 c.requires.whole r.1 is (c.enter.ensures.state ∙ noted-state k c.args.hart.now slot c.next_turn.new.self c.in_ok-slot.ensures.turn) c.pid.result told c.in_ok-slot.ensures.nearest.2
+    turned-nearest k c.enter.new.self c.args.hart.now c.enter.new.hart slot r.0 c.requires.whole r.1 is
+    (c.enter.ensures.state ∙ noted-state k c.args.hart.now slot c.next_turn.new.self c.in_ok-slot.ensures.turn) c.pid.result told
+    c.in_ok-slot.ensures.nearest.2
 
 pub returns-clause-frames : goal.returns-clause-frames
 returns-clause-frames c =

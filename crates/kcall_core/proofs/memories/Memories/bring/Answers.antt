@@ -14,7 +14,12 @@ pub unreachable-requires : goal.unreachable-requires
 unreachable-requires c = there-some _ _ c.index_mut.result.now c.requires.there c.index_mut.ensures.value (sym c.take.ensures.value ∙ c.in_default.is)
 
 pub touch-requires : goal.touch-requires
-touch-requires c = record { belongs = belongs-of (stands c.index_mut.result.now c.in-Some.memory c.requires.sound c.requires.there c.index_mut.ensures.value (sym c.take.ensures.value ∙ c.in-Some.is)) }
+touch-requires c =
+    record {
+      belongs =
+          belongs-of (stands c.index_mut.result.now c.in-Some.memory c.requires.sound c.requires.there c.index_mut.ensures.value
+          (sym c.take.ensures.value ∙ c.in-Some.is));
+    }
 
 pub unreachable-requires-in_default-touch : goal.unreachable-requires-in_default-touch
 unfolding free_of
@@ -34,4 +39,6 @@ returns-clause-touched c =
 pub returns-clause-runs : goal.returns-clause-runs
 returns-clause-runs c =
     let s = stands c.index_mut.result.now c.in-Some.memory c.requires.sound c.requires.there c.index_mut.ensures.value (sym c.take.ensures.value ∙ c.in-Some.is) in
-    runs-on _ c.touch.new.self s c.in-Ok.ensures.changed.root c.in-Ok.ensures.translations (set-twice c.args.self.now.each.items c.args.slot c.take.new.self (Some record { space = c.touch.new.self; trapframe = c.in-Some.memory.trapframe }))
+    runs-on _ c.touch.new.self s c.in-Ok.ensures.changed.root c.in-Ok.ensures.translations
+    (set-twice c.args.self.now.each.items c.args.slot c.take.new.self
+    (Some record { space = c.touch.new.self; trapframe = c.in-Some.memory.trapframe }))

@@ -23,7 +23,9 @@ pub unreachable-requires : goal.unreachable-requires
 unreachable-requires c = there-some _ _ c.index_mut.result.now c.requires.there c.index_mut.ensures.value (sym c.take.ensures.value ∙ c.in_default.is)
 
 pub map_zeroed-came-requires-clause-belongs : goal.map_zeroed-came-requires-clause-belongs
-map_zeroed-came-requires-clause-belongs c = belongs-of (stands c.index_mut.result.now c.in-Some.memory c.requires.sound c.requires.there c.index_mut.ensures.value (sym c.take.ensures.value ∙ c.in-Some.is))
+map_zeroed-came-requires-clause-belongs c =
+    belongs-of (stands c.index_mut.result.now c.in-Some.memory c.requires.sound c.requires.there c.index_mut.ensures.value
+    (sym c.take.ensures.value ∙ c.in-Some.is))
 
 pub map_zeroed-came-requires-clause-absent : goal.map_zeroed-came-requires-clause-absent
 map_zeroed-came-requires-clause-absent c =
@@ -39,7 +41,9 @@ returns-clause-brought c e =
     let came = c.map_zeroed-came.result in
     let fine = sym c.is_ok.ensures.value ∙ e in
     space-changes _ c.map_zeroed-came.new.self _ s (if-fine came fine c.map_zeroed-came.ensures.changed)
-    (if-fine came fine c.map_zeroed-came.ensures.image ∙ ap (λ p. with_page (image_of c.args.self.now.ram c.in-Some.memory.space) c.args.vpn (zeroed p)) c.data.ensures ∙ bring-seen s c.args.vpn c.requires.absent)
+    (if-fine came fine c.map_zeroed-came.ensures.image
+    ∙ ap (λ p. with_page (image_of c.args.self.now.ram c.in-Some.memory.space) c.args.vpn (zeroed p)) c.data.ensures
+    ∙ bring-seen s c.args.vpn c.requires.absent)
     (set-twice c.args.self.now.each.items c.args.slot c.take.new.self (Some record { space = c.map_zeroed-came.new.self; trapframe = c.in-Some.memory.trapframe })) refl
 
 pub returns-clause-runs : goal.returns-clause-runs
@@ -56,7 +60,11 @@ returns-clause-refused c e =
     let old = c.args.self.now in
     let items = old.each.items in
     let put : Space → List (Option Memory) = λ x. set items c.args.slot (Some record { space = x; trapframe = c.in-Some.memory.trapframe }) in
-    let back = set-twice items c.args.slot c.take.new.self (Some record { space = c.map_zeroed-came.new.self; trapframe = c.in-Some.memory.trapframe }) ∙ ap put h.1.same_space ∙ set-read items c.args.slot (Some c.in-Some.memory) None s.inside s.is in
+    let back = set-twice items c.args.slot c.take.new.self
+    (Some record { space = c.map_zeroed-came.new.self; trapframe = c.in-Some.memory.trapframe }) ∙ ap put h.1.same_space
+    ∙ set-read items c.args.slot (Some c.in-Some.memory) None s.inside s.is in
     let set_back = with_item (with_item old.each c.args.slot c.take.new.self) c.args.slot (Some record { space = c.map_zeroed-came.new.self; trapframe = c.in-Some.memory.trapframe }) in
-    let brought = ap (λ p. with_page (image_of old.ram c.in-Some.memory.space) c.args.vpn (zeroed p)) c.data.ensures ∙ bring-seen s c.args.vpn c.requires.absent in
-    (omega (arith, h.0, ap price (image-seen s), ap price brought), λ i. record { ram = h.1.same_ram i; pool = h.1.same_pool i; each = vec-same old.each set_back.items set_back.ok back i; pipes = old.pipes })
+    let brought = ap (λ p. with_page (image_of old.ram c.in-Some.memory.space) c.args.vpn (zeroed p)) c.data.ensures ∙ bring-seen s c.args.vpn c.requires.absent in (
+      omega (arith, h.0, ap price (image-seen s), ap price brought),
+      λ i. record { ram = h.1.same_ram i; pool = h.1.same_pool i; each = vec-same old.each set_back.items set_back.ok back i; pipes = old.pipes },
+    )

@@ -32,7 +32,12 @@ copy_from_pipe-requires-clause-there c =
     reached-mapped Store _ c.args.address c.args.count (ap (λ (i : Image). writable_now i c.args.address c.args.count) (sym (image-seen s)) ∙ c.requires.writable)
 
 pub copy_from_pipe-requires-clause-bytes : goal.copy_from_pipe-requires-clause-bytes
-copy_from_pipe-requires-clause-bytes c = omega (arith, c.requires.bytes, ap length (bytes-named c.args.self.now (pipe-below c.args.self.now c.args.frame c.requires.pipe) c.requires.sound c.requires.pipe))
+copy_from_pipe-requires-clause-bytes c =
+    omega (
+      arith,
+      c.requires.bytes,
+      ap length (bytes-named c.args.self.now (pipe-below c.args.self.now c.args.frame c.requires.pipe) c.requires.sound c.requires.pipe),
+    )
 
 pub returns-clause-written : goal.returns-clause-written
 returns-clause-written c =

@@ -31,7 +31,9 @@ pub returns-clause-free : goal.returns-clause-free
 unfolding free_of
 returns-clause-free c =
     let s = stood c.requires.sound c.requires.there c.memory_in-memory.ensures in
-    either c.copy_out.result (ok-both c.copy_out.result c.copy_out.ensures.in_place c.copy_out.ensures.changed (λ x place changed. free-stays c.copy_out.new.ram s place (changed c.args.self.now.pool (belongs-of s)))) c.copy_out.ensures.refused
+    either c.copy_out.result
+    (ok-both c.copy_out.result c.copy_out.ensures.in_place c.copy_out.ensures.changed
+    (λ x place changed. free-stays c.copy_out.new.ram s place (changed c.args.self.now.pool (belongs-of s)))) c.copy_out.ensures.refused
     (λ x is. is) (λ e r. ap (λ (m : List (List ℕ)). length (free_in c.args.self.now.pool m)) r.1)
 
 pub returns-clause-runs : goal.returns-clause-runs

@@ -14,4 +14,6 @@ drop_first-requires-clause-there c = omega (arith, c.requires.bytes, ap length (
 
 pub returns : goal.returns
 returns c =
-    pipe-becomes _ (without_first c.args.count) (pipe-below c.args.self.now c.args.frame c.requires.pipe) c.requires.sound (pipe-keeps c.args.self.now c.args.frame (pipe-below c.args.self.now c.args.frame c.requires.pipe) c.requires.pipe) c.drop_first.ensures refl refl refl
+    pipe-becomes _ (without_first c.args.count) (pipe-below c.args.self.now c.args.frame c.requires.pipe) c.requires.sound
+    (pipe-keeps c.args.self.now c.args.frame (pipe-below c.args.self.now c.args.frame c.requires.pipe) c.requires.pipe)
+    c.drop_first.ensures refl refl refl

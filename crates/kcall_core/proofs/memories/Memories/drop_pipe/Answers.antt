@@ -15,4 +15,5 @@ give-requires-clause-not_free c = pipe-taken c.args.self.now c.args.frame c.requ
 
 pub returns : goal.returns
 returns c =
-    pipe-dropped _ c.requires.sound (pipe-keeps c.args.self.now c.args.frame c.index.ensures.range c.requires.there) c.give.ensures refl (ap (λ n. set c.args.self.now.pipes.items n false) c.index.ensures.value)
+    pipe-dropped _ c.requires.sound (pipe-keeps c.args.self.now c.args.frame c.index.ensures.range c.requires.there) c.give.ensures refl
+    (ap (λ n. set c.args.self.now.pipes.items n false) c.index.ensures.value)

@@ -23,4 +23,10 @@ returns-clause-found c =
 pub returns-clause-refused : goal.returns-clause-refused
 returns-clause-refused c =
     let s = c.memory.ensures in
-    err-map c.fetch_text_lazily.result c.fetch_text_lazily.ensures.refused (λ e r. (ap (λ (i : Image). text_at (length c.args.text.now) i c.args.address) (image-seen s) ∙ text-none (image_of c.args.self.now.ram c.memory.result.now.space) (low-pages c.args.self.now.ram c.memory.result.now.space) (size-of s) c.args.address (length c.args.text.now) r.0, r.1))
+    err-map c.fetch_text_lazily.result c.fetch_text_lazily.ensures.refused
+    (λ e r. (
+      ap (λ (i : Image). text_at (length c.args.text.now) i c.args.address) (image-seen s)
+          ∙ text-none (image_of c.args.self.now.ram c.memory.result.now.space) (low-pages c.args.self.now.ram c.memory.result.now.space)
+          (size-of s) c.args.address (length c.args.text.now) r.0,
+      r.1,
+    ))

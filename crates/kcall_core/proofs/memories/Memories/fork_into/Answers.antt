@@ -26,7 +26,8 @@ copy-requires c =
 pub give-requires-clause-not_free : goal.give-requires-clause-not_free
 give-requires-clause-not_free c =
     let r = c.in_default-copy.ensures.refused in
-    ap (λ p. copies c.in-Some.trapframe (free_in p c.copy.new.ram)) r.1 ∙ ap (λ m. copies c.in-Some.trapframe (free_in c.take.new.self m)) r.2 ∙ taken-apart c.requires.sound.good c.in-Some.ensures.taken
+    ap (λ p. copies c.in-Some.trapframe (free_in p c.copy.new.ram)) r.1 ∙ ap (λ m. copies c.in-Some.trapframe (free_in c.take.new.self m)) r.2
+    ∙ taken-apart c.requires.sound.good c.in-Some.ensures.taken
 
 pub returns-in_default-copy-clause-refused : goal.returns-in_default-copy-clause-refused
 unfolding free_of
@@ -45,4 +46,5 @@ index_mut-requires c = vacant-below _ _ c.requires.vacant
 pub returns-clause-copied : goal.returns-clause-copied
 returns-clause-copied c =
     let s = stood c.requires.sound c.requires.there c.memory_in-memory.ensures in
-    born _ c.in-Some.trapframe c.in-Ok.space _ c.requires.sound c.requires.vacant c.in-Some.ensures.taken c.in-Ok.ensures.made (c.in-Ok.ensures.image ∙ beside-image s c.in-Some.ensures.taken ∙ sym (image-seen s)) refl refl
+    born _ c.in-Some.trapframe c.in-Ok.space _ c.requires.sound c.requires.vacant c.in-Some.ensures.taken c.in-Ok.ensures.made
+    (c.in-Ok.ensures.image ∙ beside-image s c.in-Some.ensures.taken ∙ sym (image-seen s)) refl refl

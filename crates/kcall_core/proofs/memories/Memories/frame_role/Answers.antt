@@ -3,7 +3,9 @@ use Rattle.kcall_core.proofs.memory.Roles.{map-none, slot-read, none-in-slot}
 use Rattle.kcall_core.proofs.memories.Memories.frame_role.Goals as goal
 
 pub role_in_space-requires : goal.role_in_space-requires
-role_in_space-requires c = (c.requires.sound.memories c.args.slot c.in-Some.memory (slot-read c.args.self.now c.args.slot c.index.result.now c.requires.sound c.requires.slot c.index.ensures ∙ c.in-Some.is)).space
+role_in_space-requires c =
+    (c.requires.sound.memories c.args.slot c.in-Some.memory
+    (slot-read c.args.self.now c.args.slot c.index.result.now c.requires.sound c.requires.slot c.index.ensures ∙ c.in-Some.is)).space
 
 pub returns-clause-none : goal.returns-clause-none
 returns-clause-none c =

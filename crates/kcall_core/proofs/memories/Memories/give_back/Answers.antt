@@ -13,7 +13,12 @@ pub unreachable-requires : goal.unreachable-requires
 unreachable-requires c = there-some _ _ c.index_mut.result.now c.requires.there c.index_mut.ensures.value (sym c.take.ensures.value ∙ c.in_default.is)
 
 pub drop_all-requires : goal.drop_all-requires
-drop_all-requires c = record { belongs = belongs-of (stands c.index_mut.result.now c.in-Some.memory c.requires.sound c.requires.there c.index_mut.ensures.value (sym c.take.ensures.value ∙ c.in-Some.is)) }
+drop_all-requires c =
+    record {
+      belongs =
+          belongs-of (stands c.index_mut.result.now c.in-Some.memory c.requires.sound c.requires.there c.index_mut.ensures.value
+          (sym c.take.ensures.value ∙ c.in-Some.is));
+    }
 
 pub give-requires-clause-inside : goal.give-requires-clause-inside
 give-requires-clause-inside c =

@@ -18,7 +18,9 @@ pub unreachable-requires : goal.unreachable-requires
 unreachable-requires c = there-some _ _ c.index_mut.result.now c.requires.there c.index_mut.ensures.value (sym c.take.ensures.value ∙ c.in_default.is)
 
 pub grow-answer-requires-clause-belongs : goal.grow-answer-requires-clause-belongs
-grow-answer-requires-clause-belongs c = belongs-of (stands c.index_mut.result.now c.in-Some.memory c.requires.sound c.requires.there c.index_mut.ensures.value (sym c.take.ensures.value ∙ c.in-Some.is))
+grow-answer-requires-clause-belongs c =
+    belongs-of (stands c.index_mut.result.now c.in-Some.memory c.requires.sound c.requires.there c.index_mut.ensures.value
+    (sym c.take.ensures.value ∙ c.in-Some.is))
 
 pub grow-answer-requires-clause-more : goal.grow-answer-requires-clause-more
 grow-answer-requires-clause-more c =
@@ -44,7 +46,8 @@ returns-clause-refused c =
     let put : Space → List (Option Memory) = λ x. set items c.args.slot (Some record { space = x; trapframe = c.in-Some.memory.trapframe }) in (
       subst (λ i. price i + length (free_in c.args.self.now.pool c.args.self.now.ram) < price (grown i c.args.size c.args.perm)) (sym (image-seen s)) h.0,
       same-if c.args.self.now _ c.requires.sound (untraded _ _ _ _ [] c.requires.sound.good h.1.same_pool h.1.same_ram)
-          (set-twice items c.args.slot c.take.new.self (Some record { space = c.grow-answer.new.self; trapframe = c.in-Some.memory.trapframe }) ∙ ap put h.1.same_space ∙ set-read items c.args.slot (Some c.in-Some.memory) None s.inside s.is) refl,
+          (set-twice items c.args.slot c.take.new.self (Some record { space = c.grow-answer.new.self; trapframe = c.in-Some.memory.trapframe })
+          ∙ ap put h.1.same_space ∙ set-read items c.args.slot (Some c.in-Some.memory) None s.inside s.is) refl,
     ))
 
 pub returns-clause-runs : goal.returns-clause-runs

@@ -15,7 +15,15 @@ unreachable-requires c =
 
 pub unreachable-requires-in_default-build : goal.unreachable-requires-in_default-build
 unreachable-requires-in_default-build c =
-    omega (arith, c.free.ensures c.args.self.now.ram c.requires.sound.good, c.from.ensures, c.price.ensures, c.if-from-price.false, c.in_default-build.ensures.refused.1, taken-length c.in-Some.ensures.taken)
+    omega (
+      arith,
+      c.free.ensures c.args.self.now.ram c.requires.sound.good,
+      c.from.ensures,
+      c.price.ensures,
+      c.if-from-price.false,
+      c.in_default-build.ensures.refused.1,
+      taken-length c.in-Some.ensures.taken,
+    )
 
 pub index_mut-requires : goal.index_mut-requires
 index_mut-requires c = vacant-below _ _ c.requires.vacant

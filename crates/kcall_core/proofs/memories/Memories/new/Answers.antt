@@ -8,7 +8,9 @@ use Rattle.kcall_core.proofs.memories.Memories.new.Goals as goal
 pub returns-clause-sound : goal.returns-clause-sound
 returns-clause-sound c =
     none-sound c.in-Ok.pool c.new-2.new.ram c.slots.each.items c.in-Ok-vec.pipes.items c.slots.counter c.args.frames c.in-Ok.ensures.good c.in-Ok.ensures.all_free
-    (omega (arith, c.slots-test.false, c.slots.auto.counter-end)) (sym (c.in-Ok.ensures.frames ∙ ap length c.in_ok-ram.ensures.zeros ∙ length-replicate c.args.frames zero_frame)) c.slots.invariant (c.in-Ok-vec.ensures.items_if_clones_equal (λ y h. h))
+    (omega (arith, c.slots-test.false, c.slots.auto.counter-end))
+    (sym (c.in-Ok.ensures.frames ∙ ap length c.in_ok-ram.ensures.zeros ∙ length-replicate c.args.frames zero_frame)) c.slots.invariant
+    (c.in-Ok-vec.ensures.items_if_clones_equal (λ y h. h))
 
 pub returns-clause-each : goal.returns-clause-each
 unfolding each_of

@@ -11,7 +11,8 @@ save_registers-requires c = trapframe-inside (stood c.requires.sound c.requires.
 
 pub returns-clause-saved : goal.returns-clause-saved
 returns-clause-saved c =
-    saved-changes _ (stood c.requires.sound c.requires.there c.memory_in-memory.ensures) c.save_registers.ensures.stay refl refl c.args.regs.now c.save_registers.ensures.saved c.save_registers.ensures.aligned refl
+    saved-changes _ (stood c.requires.sound c.requires.there c.memory_in-memory.ensures) c.save_registers.ensures.stay refl refl c.args.regs.now
+    c.save_registers.ensures.saved c.save_registers.ensures.aligned refl
 
 pub returns-clause-runs : goal.returns-clause-runs
 returns-clause-runs c other r =

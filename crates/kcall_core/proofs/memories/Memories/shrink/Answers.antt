@@ -54,7 +54,8 @@ returns-clause-runs c =
     let new = c.forget_from.new.hart.cache in
     forgot-runs _ c.shrink.new.self s c.shrink.ensures.changed.root
     (set-twice c.args.self.now.each.items c.args.slot c.take.new.self (Some record { space = c.shrink.new.self; trapframe = c.in-Some.memory.trapframe }))
-    first end (subst (λ n. WalksStayBelow (4096 * n) c.args.self.now.ram ram c.in-Some.memory.space.root) (sym c.page_count-first.ensures.value) c.shrink.ensures.walks) (λ va access far. c.end-end.ensures.unreached c.args.self.now.ram va access (belongs-of s).whole far)
+    first end (subst (λ n. WalksStayBelow (4096 * n) c.args.self.now.ram ram c.in-Some.memory.space.root) (sym c.page_count-first.ensures.value)
+    c.shrink.ensures.walks) (λ va access far. c.end-end.ensures.unreached c.args.self.now.ram va access (belongs-of s).whole far)
     c.args.hart.now c.forget_from.new.hart c.requires.running (c.forget_from.ensures.root ∙ ap Some c.root.ensures)
     (subst (λ (r : ℕ). FitsBut ram r old (is_between first end) → Fits ram r new) c.root.ensures (c.forget_from.ensures.fits ram))
 

@@ -14,4 +14,11 @@ step-requires-clause-tree c =
 pub returns : goal.returns
 returns c slot r =
     steps c.args.self.now _ slot c.args.hart.now c.step.new.self c.step.result r (runs-stands c.args.self.now slot c.args.hart.now c.requires.sound r (runs-inside r))
-    (record { ends = c.step.ensures.stop; regs = c.step.ensures.regs; stepped = c.step.ensures.stepped; root = c.step.ensures.root; fits = c.step.ensures.fits; fault = c.step.ensures.fault_address }) refl refl refl
+    (record {
+      ends = c.step.ensures.stop;
+      regs = c.step.ensures.regs;
+      stepped = c.step.ensures.stepped;
+      root = c.step.ensures.root;
+      fits = c.step.ensures.fits;
+      fault = c.step.ensures.fault_address;
+    }) refl refl refl

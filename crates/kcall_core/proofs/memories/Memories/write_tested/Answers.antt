@@ -23,7 +23,8 @@ write_across-requires-clause-there c =
 pub returns-clause-written : goal.returns-clause-written
 returns-clause-written c =
     let s = stood c.requires.sound c.requires.there c.memory_in-memory.ensures in
-    space-changes _ c.memory_in-memory.result.now.space _ s (c.write_across.ensures.changed c.args.self.now.pool (belongs-of s)) (c.write_across.ensures.image ∙ ap (λ (i : Image). write_image i c.args.address c.args.bytes.now) (sym (image-seen s)))
+    space-changes _ c.memory_in-memory.result.now.space _ s (c.write_across.ensures.changed c.args.self.now.pool (belongs-of s))
+    (c.write_across.ensures.image ∙ ap (λ (i : Image). write_image i c.args.address c.args.bytes.now) (sym (image-seen s)))
     (each-stays s) refl
 
 pub returns-clause-free : goal.returns-clause-free

@@ -6,7 +6,12 @@ use Rattle.std.proofs.lemmas.Grind.{common_steps}
 use Rattle.proc_table.proofs.table.Table.set_progress.Goals as goal
 
 pub invariant_of-self : goal.invariant_of-self
-invariant_of-self c = (table_at _ c.args.slot c.index_mut.result.now c.in-Some.process c.note.new.self c.self.invariant.0 c.requires.within c.index_mut.ensures.value c.in-Some.is (ap (λ (x : Process). x.pid) c.note.ensures), top_at _ c.args.slot _ c.index_mut.result.now c.in-Some.process c.note.new.self c.self.invariant.1 c.self.invariant.0.places c.requires.within c.index_mut.ensures.value c.in-Some.is)
+invariant_of-self c = (
+  table_at _ c.args.slot c.index_mut.result.now c.in-Some.process c.note.new.self c.self.invariant.0 c.requires.within c.index_mut.ensures.value
+      c.in-Some.is (ap (λ (x : Process). x.pid) c.note.ensures),
+  top_at _ c.args.slot _ c.index_mut.result.now c.in-Some.process c.note.new.self
+      c.self.invariant.1 c.self.invariant.0.places c.requires.within c.index_mut.ensures.value c.in-Some.is,
+)
 
 pub returns : goal.returns
 returns c = grind (arith, common_steps)

@@ -40,4 +40,6 @@ pub returns-in-Store : goal.returns-in-Store
 returns-in-Store c =
     let a = c.has.ensures ∙ flag-has c.args.self 6 in
     let d = c.has-in-Store.ensures ∙ flag-has c.args.self 7 in
-    rw (c.has_right.ensures, a, d, c.in-Store.is) (stored (flag c.args.self 0 && (not (flag c.args.self 2) || flag c.args.self 1)) (flag c.args.self 4) (flag c.args.self 2) (flag c.args.self 6) (flag c.args.self 7))
+    rw (c.has_right.ensures, a, d, c.in-Store.is)
+    (stored (flag c.args.self 0 && (not (flag c.args.self 2) || flag c.args.self 1)) (flag c.args.self 4) (flag c.args.self 2)
+    (flag c.args.self 6) (flag c.args.self 7))

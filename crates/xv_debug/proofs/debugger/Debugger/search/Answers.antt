@@ -7,4 +7,13 @@ pub returns : goal.returns
 returns c =
     let j = c.until-journey in
     searches-some c.args.condition c.in-Some.condition c.args.session.now j.new.session c.in-Some.is
-    (record { stop = j.result.stop; sent = j.result.sent; last = option_map outcome_of j.result.last; added = j.ensures.added; within = j.ensures.within; all = j.ensures.all; reaches = j.ensures.reaches; rests = j.ensures.rests })
+    (record {
+      stop = j.result.stop;
+      sent = j.result.sent;
+      last = option_map outcome_of j.result.last;
+      added = j.ensures.added;
+      within = j.ensures.within;
+      all = j.ensures.all;
+      reaches = j.ensures.reaches;
+      rests = j.ensures.rests;
+    })

@@ -7,11 +7,33 @@ use Rattle.xv_debug.proofs.debugger.Debugger.send_often.Goals as goal
 pub returns-clause-done : goal.returns-clause-done
 returns-clause-done c =
     let j = c.send_often-journey in
-    let p : SendsFirst (λ n. replicate n (event_of c.args.event)) c.args.count c.args.session.now j.new.session = record { sent = j.result.sent; stop = j.result.stop; last = option_map outcome_of j.result.last; had = c.in_ok-output.output; has = j.new.output; sends = j.ensures.sent; within = j.ensures.within; whole = j.ensures.all; refused = j.ensures.refused } in
+    let p : SendsFirst (λ n. replicate n (event_of c.args.event)) c.args.count c.args.session.now j.new.session =
+    record {
+      sent = j.result.sent;
+      stop = j.result.stop;
+      last = option_map outcome_of j.result.last;
+      had = c.in_ok-output.output;
+      has = j.new.output;
+      sends = j.ensures.sent;
+      within = j.ensures.within;
+      whole = j.ensures.all;
+      refused = j.ensures.refused;
+    } in
     if-ok c.tell_shown.result p
 
 pub returns-clause-failed : goal.returns-clause-failed
 returns-clause-failed c =
     let j = c.send_often-journey in
-    let p : SendsFirst (λ n. replicate n (event_of c.args.event)) c.args.count c.args.session.now j.new.session = record { sent = j.result.sent; stop = j.result.stop; last = option_map outcome_of j.result.last; had = c.in_ok-output.output; has = j.new.output; sends = j.ensures.sent; within = j.ensures.within; whole = j.ensures.all; refused = j.ensures.refused } in
+    let p : SendsFirst (λ n. replicate n (event_of c.args.event)) c.args.count c.args.session.now j.new.session =
+    record {
+      sent = j.result.sent;
+      stop = j.result.stop;
+      last = option_map outcome_of j.result.last;
+      had = c.in_ok-output.output;
+      has = j.new.output;
+      sends = j.ensures.sent;
+      within = j.ensures.within;
+      whole = j.ensures.all;
+      refused = j.ensures.refused;
+    } in
     if-err c.tell_shown.result (inr p)

@@ -17,7 +17,8 @@ returns-in-Ok-true-clause-played c =
       whole = n + 1;
       within = omega (arith, c.loop-count-test.true);
       tells = telling-those (rounds_of r n ++ events_of r) (rounds_of r (n + 1)) f true old new had has (rounds-more r n) c.in-Ok-true.field-0-test
-          (telling-join (rounds_of r n) (events_of r) false f old c.loop-count.session new had c.loop-count.output has (telling-nothing (rounds_of r n) old c.loop-count.session had c.loop-count.output c.loop-count.invariant) c.in-Ok-true.ensures.played);
+          (telling-join (rounds_of r n) (events_of r) false f old c.loop-count.session new had c.loop-count.output has
+          (telling-nothing (rounds_of r n) old c.loop-count.session had c.loop-count.output c.loop-count.invariant) c.in-Ok-true.ensures.played);
     } in
     subst (λ (s : Stop). RoundsLeave r c.args.most s old new had has) (sym c.arrived-in-Ok-true.ensures.stop) leaves
 
@@ -41,4 +42,5 @@ loop-count-preserved c =
     let r = c.args.round.now in
     let n = c.loop-count.count in
     plays-those (rounds_of r n ++ events_of r) (rounds_of r (n + 1)) c.args.session.now c.play_round.new.session c.args.output.now c.play_round.new.output (rounds-more r n)
-    (plays-join (rounds_of r n) (events_of r) c.args.session.now c.loop-count.session c.play_round.new.session c.args.output.now c.loop-count.output c.play_round.new.output c.loop-count.invariant c.in-Ok-false.ensures.played.plays)
+    (plays-join (rounds_of r n) (events_of r) c.args.session.now c.loop-count.session c.play_round.new.session c.args.output.now c.loop-count.output
+    c.play_round.new.output c.loop-count.invariant c.in-Ok-false.ensures.played.plays)

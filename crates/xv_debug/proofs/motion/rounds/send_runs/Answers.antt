@@ -1,9 +1,10 @@
 use Rattle.std.proofs.Common.{◌≡◌, ◌≤◌, ℕ, List, [], ◌∷◌, ◌++◌, ◌+◌, ◌||◌, Bool, replicate, refl, sym, ap, subst, arith}
+use Rattle.std.proofs.lemmas.List.{replicate_more}
 use Rattle.kernel_spec.specs.runs.Run.{Run}
 use Rattle.xv_machine.specs.Events.{outcome_of}
 use Rattle.xv_session.specs.Until.{faults}
 use Rattle.xv_debug.specs.motion.Shown.{KeepsShown}
-use Rattle.xv_debug.proofs.Played.{part-often, plays-still, often-more, telling-those, telling-join, telling-one}
+use Rattle.xv_debug.proofs.Played.{part-often, plays-still, telling-those, telling-join, telling-one}
 use Rattle.xv_debug.proofs.motion.rounds.send_runs.Goals as goal
 
 pub returns-in-Err-clause-part : goal.returns-in-Err-clause-part
@@ -19,7 +20,8 @@ loop-sent-preserved c =
     let f = c.loop-sent.faulted in
     let o = outcome_of c.in-Ok.outcome in
     let shown = subst (λ (bs : List ℕ). KeepsShown bs c.loop-sent.output c.add.new.self) c.shown.ensures c.add.ensures in
-    telling-those (replicate n Run ++ Run ∷ []) (replicate (n + 1) Run) (f || faults o) (f || c.is_fault-faulted.result) c.args.session.now c.send.new.self c.args.output.now c.add.new.self (often-more n Run) (ap (λ (b : Bool). f || b) (sym c.is_fault-faulted.ensures))
+    telling-those (replicate n Run ++ Run ∷ []) (replicate (n + 1) Run) (f || faults o) (f || c.is_fault-faulted.result) c.args.session.now
+    c.send.new.self c.args.output.now c.add.new.self (replicate_more n Run) (ap (λ (b : Bool). f || b) (sym c.is_fault-faulted.ensures))
     (telling-join (replicate n Run) (Run ∷ []) f (faults o) c.args.session.now c.loop-sent.session c.send.new.self c.args.output.now c.loop-sent.output c.add.new.self c.loop-sent.invariant
     (telling-one Run o c.loop-sent.session c.send.new.self c.loop-sent.output c.add.new.self c.in-Ok.ensures.sent shown))
 
@@ -27,4 +29,5 @@ pub returns-clause-ran : goal.returns-clause-ran
 returns-clause-ran c =
     let f = c.loop-sent.faulted in
     let same : c.loop-sent.sent ≡ c.args.count = omega (arith, c.loop-sent-test.false, c.loop-sent.auto.sent-end) in
-    telling-those (replicate c.loop-sent.sent Run) (replicate c.args.count Run) f f c.args.session.now c.loop-sent.session c.args.output.now c.loop-sent.output (ap (λ (n : ℕ). replicate n Run) same) refl c.loop-sent.invariant
+    telling-those (replicate c.loop-sent.sent Run) (replicate c.args.count Run) f f c.args.session.now c.loop-sent.session c.args.output.now
+    c.loop-sent.output (ap (λ (n : ℕ). replicate n Run) same) refl c.loop-sent.invariant

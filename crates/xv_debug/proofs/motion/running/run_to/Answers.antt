@@ -17,7 +17,9 @@ returns-then-met-clause-reaches c =
     let o = outcome_of c.in-Ok.outcome in
     let world : c.machine-in-Ok.result.now.world ≡ c.send.new.self.machine.world = ap (λ (m : Meaning). m.world) c.machine-in-Ok.ensures.machine in
     let met : meets c.args.aim.now o c.send.new.self.machine.world ≡ true = ap (meets c.args.aim.now o) (sym world) ∙ sym c.is_met-met.ensures ∙ c.if-met.true in
-    let reached : LastMet test (c.loop-sent.sent + 1) (Some o) old new = last-met test c.loop-sent.sent o (option_map outcome_of c.loop-sent.last) (Some o) old (running_of c.loop-sent.session) new c.loop-sent.invariant.1 c.in-Ok.ensures.sent.0 met refl in
+    let reached : LastMet test (c.loop-sent.sent + 1) (Some o) old new =
+    last-met test c.loop-sent.sent o (option_map outcome_of c.loop-sent.last) (Some o) old (running_of c.loop-sent.session) new
+    c.loop-sent.invariant.1 c.in-Ok.ensures.sent.0 met refl in
     subst (λ (j : Journey). Reaches test j.stop j.sent (option_map outcome_of j.last) old new) (sym c.new-then-met.ensures)
     (subst (λ k. LastMet test (k + 1) (Some o) old new) (sym c.from-then-met.ensures) reached)
 

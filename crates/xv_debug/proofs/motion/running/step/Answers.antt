@@ -10,5 +10,6 @@ pub runs-preserved : goal.runs-preserved
 runs-preserved c =
     let runs = c.in-Ok.runs in (
       omega (arith, c.runs.invariant.0, c.runs-test.true, c.in-Ok.ensures.within),
-      ran-more c.runs.sent runs.sent (option_map outcome_of c.runs.last) (outcome_of runs.last) c.args.session.now c.runs.session c.send_stretch.new.session c.in-Ok.ensures.forth c.runs.invariant.1 c.in-Ok.ensures.ran,
+      ran-more c.runs.sent runs.sent (option_map outcome_of c.runs.last) (outcome_of runs.last) c.args.session.now c.runs.session
+          c.send_stretch.new.session c.in-Ok.ensures.forth c.runs.invariant.1 c.in-Ok.ensures.ran,
     )

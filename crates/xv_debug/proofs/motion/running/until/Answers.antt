@@ -25,7 +25,9 @@ returns-then-met-clause-reaches c =
     let old = running_of c.args.session.now in
     let new = running_of c.until.new.self in
     let one = found-one c.args.condition.now s.sent s.met last c.loop-sent.session c.until.new.self c.in-Ok.ensures.found in
-    let reached : LastMet test (c.loop-sent.sent + 1) last old new = last-met test c.loop-sent.sent one.o (option_map outcome_of c.loop-sent.last) last old (running_of c.loop-sent.session) new c.loop-sent.invariant.1 one.one (one.is ∙ c.if-met.true) one.told in
+    let reached : LastMet test (c.loop-sent.sent + 1) last old new =
+    last-met test c.loop-sent.sent one.o (option_map outcome_of c.loop-sent.last) last old (running_of c.loop-sent.session) new
+    c.loop-sent.invariant.1 one.one (one.is ∙ c.if-met.true) one.told in
     subst (λ (j : Journey). Reaches test j.stop j.sent (option_map outcome_of j.last) old new) (sym c.new-then-met.ensures)
     (subst (λ k. LastMet test (k + 1) last old new) (sym c.from-then-met.ensures) reached)
 

@@ -1,9 +1,10 @@
 use Rattle.std.proofs.Common.{◌≡◌, ℕ, List, [], ◌∷◌, ◌++◌, ◌+◌, Some, option_map, replicate, refl, sym, subst, arith}
+use Rattle.std.proofs.lemmas.List.{replicate_more}
 use Rattle.xv_machine.specs.Events.{event_of, outcome_of}
 use Rattle.xv_debug.specs.motion.Sent.{Sends}
 use Rattle.xv_debug.specs.motion.Shown.{KeepsShown}
 use Rattle.xv_debug.specs.declared.motion.journey.Journey.{Journey}
-use Rattle.xv_debug.proofs.Played.{sends-none, sends-more, sends-those, sends-still, often-more}
+use Rattle.xv_debug.proofs.Played.{sends-none, sends-more, sends-those, sends-still}
 use Rattle.xv_debug.proofs.motion.sending.send_often.Goals as goal
 
 pub loop-sent-init : goal.loop-sent-init
@@ -27,8 +28,9 @@ loop-sent-preserved c =
     let n = c.loop-sent.sent in
     let o = outcome_of c.in-Ok.outcome in
     let shown = subst (λ (bs : List ℕ). KeepsShown bs c.loop-sent.output c.add.new.self) c.shown.ensures c.add.ensures in
-    sends-those (replicate n e ++ e ∷ []) (replicate (n + 1) e) (Some o) c.args.session.now c.send.new.self c.args.output.now c.add.new.self (often-more n e)
-    (sends-more (replicate n e) e o (Some o) c.args.session.now c.loop-sent.session c.send.new.self c.args.output.now c.loop-sent.output c.add.new.self c.loop-sent.invariant.0 c.in-Ok.ensures.sent shown refl)
+    sends-those (replicate n e ++ e ∷ []) (replicate (n + 1) e) (Some o) c.args.session.now c.send.new.self c.args.output.now c.add.new.self (replicate_more n e)
+    (sends-more (replicate n e) e o (Some o) c.args.session.now c.loop-sent.session c.send.new.self c.args.output.now c.loop-sent.output
+    c.add.new.self c.loop-sent.invariant.0 c.in-Ok.ensures.sent shown refl)
 
 pub returns-clause-sent : goal.returns-clause-sent
 returns-clause-sent c =

@@ -28,8 +28,10 @@ loop-place-preserved c =
     let e = Key (get_or keys place 0) in
     let o = outcome_of c.in-Ok.outcome in
     let shown = subst (λ (bs : List ℕ). KeepsShown bs c.loop-place.output c.add.new.self) c.shown.ensures c.add.ensures in
-    sends-those (map Key (take place keys) ++ e ∷ []) (map Key (take (place + 1) keys)) (Some o) c.args.session.now c.send.new.self c.args.output.now c.add.new.self (keys-more keys place c.loop-place-test.true)
-    (sends-more (map Key (take place keys)) e o (Some o) c.args.session.now c.loop-place.session c.send.new.self c.args.output.now c.loop-place.output c.add.new.self c.loop-place.invariant.0 c.in-Ok.ensures.sent shown refl)
+    sends-those (map Key (take place keys) ++ e ∷ []) (map Key (take (place + 1) keys)) (Some o) c.args.session.now c.send.new.self c.args.output.now
+    c.add.new.self (keys-more keys place c.loop-place-test.true)
+    (sends-more (map Key (take place keys)) e o (Some o) c.args.session.now c.loop-place.session c.send.new.self c.args.output.now c.loop-place.output
+    c.add.new.self c.loop-place.invariant.0 c.in-Ok.ensures.sent shown refl)
 
 pub returns-clause-sent : goal.returns-clause-sent
 returns-clause-sent c =
