@@ -18,7 +18,6 @@ use Rattle.kernel_spec.specs.views.Processes.{Live, Alive}
 use Rattle.kernel_spec.specs.views.State.{State}
 use Rattle.kernel_spec.specs.views.View.{view_of, numbered, least_on_pipe}
 use Rattle.kernel_spec.specs.steps.Own.{Own}
-use Rattle.kernel_spec.specs.rows.Calls.{read, write}
 use Rattle.kernel_spec.specs.steps.Step.{call_begun}
 use Rattle.kernel_spec.specs.steps.Updates.{changed_state, own_state, alone_state, with_closed, with_answer}
 use Rattle.kernel_spec.specs.others.Quiet.{file_at, pipe_at}
